@@ -1,0 +1,160 @@
+/* Times reading, writing, comparing and cloning over files of documents, one document a line.
+ *
+ *   harness FILE..               prints a line for each file and operation: the file, the operation, how many bytes, the
+ *                                nanoseconds of one pass over the file, and its instructions, or - where they can't be counted
+ *   harness --has-counter        succeeds where instructions can be counted here
+ *   harness --pass OP N FILE     makes one pass over the file with N rounds of the operation on each document, for a tool
+ *                                that counts from outside
+ *
+ * With NO_COUNTER set it opens no counter. PREFIX is what the names of the measured library's functions begin with. */
+#define _GNU_SOURCE
+#include <linux/perf_event.h>
+#include <malloc.h>
+#include <stdint.h>
+#include <stdio.h>
+#include <stdlib.h>
+#include <string.h>
+#include <sys/ioctl.h>
+#include <sys/syscall.h>
+#include <time.h>
+#include <unistd.h>
+
+#ifndef PREFIX
+#define PREFIX jsonb_bench
+#endif
+#define JOIN_(a, b) a##_##b
+#define JOIN(a, b) JOIN_(a, b)
+
+typedef size_t operation_t(const unsigned char *text, size_t len, size_t rounds);
+operation_t JOIN(PREFIX, read), JOIN(PREFIX, write), JOIN(PREFIX, compare), JOIN(PREFIX, clone);
+
+/* With no round at all, all but the first still read the text. So their cost is what more rounds cost than none. */
+static const struct { const char *name; operation_t *run; } operations[] = {
+  { "read", JOIN(PREFIX, read) },
+  { "write", JOIN(PREFIX, write) },
+  { "compare", JOIN(PREFIX, compare) },
+  { "clone", JOIN(PREFIX, clone) },
+};
+#define OPERATIONS (sizeof operations / sizeof *operations)
+
+struct document { const unsigned char *text; size_t len; };
+struct file { const char *name; size_t bytes, count; struct document *documents; };
+
+static struct file load(const char *path) {
+  FILE *in = fopen(path, "rb");
+  if (!in) { perror(path); exit(2); }
+  fseek(in, 0, SEEK_END);
+  size_t len = ftell(in);
+  rewind(in);
+  unsigned char *text = malloc(len);
+  if (!text || fread(text, 1, len, in) != len) { perror(path); exit(2); }
+  fclose(in);
+
+  struct file file = { path, 0, 0, NULL };
+  for (size_t i = 0; i < len; i++) file.count += text[i] == '\n';
+  file.documents = malloc(file.count * sizeof *file.documents);
+  unsigned char *at = text;
+  for (size_t i = 0; i < file.count; i++) {
+    unsigned char *end = memchr(at, '\n', text + len - at);
+    file.documents[i] = (struct document){ at, end - at };
+    file.bytes += end - at;
+    at = end + 1;
+  }
+  return file;
+}
+
+/* Does the operation on each document in turn. A refusal would make the figures worthless, so it ends the run. */
+static void pass(const struct file *file, operation_t *run, size_t rounds) {
+  for (size_t i = 0; i < file->count; i++)
+    if (run(file->documents[i].text, file->documents[i].len, rounds) != rounds) {
+      fprintf(stderr, "%s: document %zu went wrong\n", file->name, i);
+      exit(1);
+    }
+}
+
+static double now(void) {
+  struct timespec t;
+  clock_gettime(CLOCK_MONOTONIC, &t);
+  return t.tv_sec * 1e9 + t.tv_nsec;
+}
+
+/* The least time of several passes: other work on the machine only ever adds to it. */
+static double best(const struct file *file, operation_t *run, size_t rounds, double budget) {
+  double least = 1e300, start = now();
+  for (int n = 0; n < 3 || (n < 400 && now() - start < budget); n++) {
+    double from = now();
+    pass(file, run, rounds);
+    double took = now() - from;
+    if (took < least) least = took;
+  }
+  return least;
+}
+
+/* A counter of this process's own instructions outside the kernel, or -1 where the kernel or the machine has none. */
+static int open_counter(void) {
+  const char *refused = getenv("NO_COUNTER");
+  if (refused && *refused) return -1;
+  struct perf_event_attr attr;
+  memset(&attr, 0, sizeof attr);
+  attr.size = sizeof attr;
+  attr.type = PERF_TYPE_HARDWARE;
+  attr.config = PERF_COUNT_HW_INSTRUCTIONS;
+  attr.disabled = 1;
+  attr.exclude_kernel = 1;
+  attr.exclude_hv = 1;
+  return syscall(SYS_perf_event_open, &attr, 0, -1, -1, 0);
+}
+
+static double count(int counter, const struct file *file, operation_t *run, size_t rounds) {
+  uint64_t instructions = 0;
+  ioctl(counter, PERF_EVENT_IOC_RESET, 0);
+  ioctl(counter, PERF_EVENT_IOC_ENABLE, 0);
+  pass(file, run, rounds);
+  ioctl(counter, PERF_EVENT_IOC_DISABLE, 0);
+  if (read(counter, &instructions, sizeof instructions) != sizeof instructions) return -1;
+  return instructions;
+}
+
+static void measure(const struct file *file, size_t which, int counter, double budget) {
+  operation_t *run = operations[which].run;
+  int only_rounds = which == 0;
+  /* Many rounds, where reading is part of what is timed, so that its noise is a small part of the difference. */
+  size_t rounds = only_rounds ? 1 : 16;
+  double ns = best(file, run, rounds, budget);
+  if (!only_rounds) ns = (ns - best(file, run, 0, budget)) / rounds;
+  const char *slash = strrchr(file->name, '/');
+  printf("%s\t%s\t%zu\t%.0f\t", slash ? slash + 1 : file->name, operations[which].name, file->bytes, ns);
+  if (counter >= 0)
+    printf("%.0f\n", count(counter, file, run, 2) - count(counter, file, run, 1));
+  else
+    printf("-\n");
+  fflush(stdout);
+}
+
+int main(int argc, char **argv) {
+  /* Without this the C library gives memory back to the kernel after each round, and page faults drown the rest. */
+  mallopt(M_TRIM_THRESHOLD, 1 << 30);
+  mallopt(M_MMAP_THRESHOLD, 1 << 30);
+  mallopt(M_TOP_PAD, 64 << 20);
+
+  if (argc == 5 && !strcmp(argv[1], "--pass")) {
+    struct file file = load(argv[4]);
+    for (size_t i = 0; i < OPERATIONS; i++)
+      if (!strcmp(operations[i].name, argv[2])) {
+        pass(&file, operations[i].run, strtoul(argv[3], NULL, 10));
+        return 0;
+      }
+    return 2;
+  }
+
+  if (argc == 2 && !strcmp(argv[1], "--has-counter")) return open_counter() < 0;
+
+  const char *ms = getenv("BUDGET_MS");
+  double budget = (ms ? atof(ms) : 200) * 1e6;
+  int counter = open_counter();
+  for (int i = 1; i < argc; i++) {
+    struct file file = load(argv[i]);
+    for (size_t which = 0; which < OPERATIONS; which++) measure(&file, which, counter, budget);
+  }
+  return 0;
+}

@@ -1,0 +1,37 @@
+#!/usr/bin/env python3
+"""Prints the table of the benchmark: table.py NAME=MEASURES.. , a file of the harness's lines for each library."""
+import sys
+
+OPERATIONS = ["read", "write", "compare", "clone"]
+
+
+def per_byte(figure, size):
+    # A difference of two times may fall below nothing where the operation costs next to nothing.
+    return "-" if figure == "-" else "%.2f" % max(0.0, float(figure) / size)
+
+
+def rows(path):
+    """The measures of each document, by operation: the size, nanoseconds and instructions."""
+    documents = {}
+    with open(path) as file:
+        for line in file:
+            document, operation, size, ns, instructions = line.split()
+            documents.setdefault(document[:-len(".json")], {})[operation] = (int(size), ns, instructions)
+    return documents
+
+
+def main():
+    libraries = [(name, rows(path)) for name, path in (arg.split("=", 1) for arg in sys.argv[1:])]
+    print("Nanoseconds a byte, and instructions a byte (ins), of one operation over all documents of a file.")
+    print("%-13s %8s  %-10s" % ("document", "bytes", "library") + "".join("%9s %7s" % (it, "ins") for it in OPERATIONS))
+    for document in libraries[0][1]:
+        for name, documents in libraries:
+            if document not in documents:
+                continue
+            measures = documents[document]
+            size = measures["read"][0]
+            print("%-13s %8d  %-10s" % (document, size, name) + "".join(
+                "%9s %7s" % (per_byte(measures[it][1], size), per_byte(measures[it][2], size)) for it in OPERATIONS))
+
+
+main()

@@ -1,0 +1,278 @@
+-- What the refusals of the grammar need of scalars and keys: what their faults say, and that no spelling of a scalar goes past what is read.
+use Rattle.std.proofs.Common.{◌≡◌, ℕ, zero, suc, ◌+◌, ◌-◌, ◌<◌, ◌≤◌, Bool, true, false, true≢false, cond, ⊎_elim, inl, inr, List, [], ◌∷◌, ◌++◌, length, take, drop, codes, get_or, Option, Some, None, Result, Ok, Err, refl, sym, ap, subst, ◌∙◌, arith, eqb, length-append}
+use Rattle.std.specs.List.{flat_map}
+use Rattle.std.specs.Str.{is_utf8}
+use Rattle.std.specs.Bool.{nat_lt}
+use Rattle.std.proofs.lemmas.Bool.{cases_lt}
+use Rattle.jsonb_value.specs.Code.{Code}
+use Rattle.jsonb_value.specs.Code.Code.{expected_some_ident, expected_some_value, invalid_eof, number_not_carried}
+use Rattle.jsonb_value.specs.Mode.{Mode}
+use Rattle.jsonb_value.specs.Mode.Mode.{extended, standard}
+use Rattle.jsonb_value.specs.Scalar.{IsNumber, IsScalar, IsUncarried}
+use Rattle.jsonb_value.specs.Scalar.IsLiteral.{false_word, null_word, true_word}
+use Rattle.jsonb_value.specs.Scalar.IsScalar.{literal_value, number_value, string_value}
+use Rattle.jsonb_value.specs.StandardNumber.{IsStandardNumber}
+use Rattle.jsonb_value.specs.StringBody.{Item, escaped_byte, meaning, spelling}
+use Rattle.jsonb_value.specs.Tree.{Mark, Num, Tree}
+use Rattle.jsonb_value.specs.Tree.Tree.{boolean, null, number, string}
+use Rattle.jsonb.specs.Reading.{Fault, Read, begins, fault_at, refused, ◌>>=◌}
+use Rattle.jsonb.specs.Reading.Number.{standard_number_at}
+use Rattle.jsonb.specs.Reading.Scalar.{begins_number, false_at, key_at, letters_at, number_at, number_or_fault, quoted_at, scalar_at, true_or_false_at, word_at, words_at}
+use Rattle.jsonb.specs.Reading.String.{Body, body_of, checked_unit, closed, decoded, escape_at, item_at, items_within, known_escape, meaning_of, non_digit, onto, quote_end, string_at, then_items, unit_at}
+use Rattle.jsonb.specs.Refusals.{IsNumberSpelling}
+use Rattle.jsonb.proofs.Choices.{bind_ok, chosen, same_read}
+use Rattle.jsonb.proofs.Faults.{IsTold, bind_err, same_err, silent_fault, silent_refused}
+use Rattle.jsonb.proofs.Parts.{on_byte_cases}
+use Rattle.jsonb.proofs.Scalars.{IsNumberTree, scalar-number, scalar_complete}
+use Rattle.jsonb.proofs.StandardNumbers.{FaultRead, NoLongerText, UncarriedRead, number_faults, number_longest, number_starts, standard_is_text}
+use Rattle.jsonb.proofs.StandardNumbers.FaultRead.{no_number, not_carried}
+
+-- ---- words, strings and keys are silent
+
+letters_silent : (size : ℕ) (word bytes : List ℕ) (f : Fault) → letters_at size word bytes ≡ Err f → IsTold f.code → ⊥
+letters_silent size [] bytes f e told = absurd cc
+letters_silent size (c ∷ cs) bytes f e told =
+    elim (on_byte_cases c bytes (letters_at size cs) (refused size expected_some_ident 1 bytes) (Err f) e) [
+      | inl t ↦ letters_silent size cs t.0 f t.2 told
+      | inr g ↦ silent_refused {B = List ℕ} size expected_some_ident 1 bytes f g.1 (λ n. n) told
+    ]
+
+word_silent : (size : ℕ) (word : List ℕ) (t : Tree) (bytes : List ℕ) (f : Fault) → word_at size word t bytes ≡ Err f → IsTold f.code → ⊥
+word_silent size word t bytes f e told =
+    elim (bind_err (letters_at size word bytes) (λ (r : List ℕ). Ok (t, r)) f e) [
+      | inl h ↦ letters_silent size word bytes f h told
+      | inr h ↦ absurd (let never : ◌≡◌ {A = Read Tree} (Ok (t, h.0)) (Err f) = h.2 in cc)
+    ]
+
+body_err : {A : Type 0} (d f : Code × ℕ) → ◌≡◌ {A = Body A} (Err d) (Err f) → d ≡ f
+body_err {A} d f e = ap (λ (r : Body A). fault_or d r) e
+  where
+    fault_or : Code × ℕ → Body A → Code × ℕ
+    fault_or x (Ok y) = x
+    fault_or x (Err y) = y
+
+-- The codes of a body's faults are none of those that are told.
+IsSilentBody : {A : Type 0} → Body A → Type 0
+IsSilentBody (Ok x) = Unit {0}
+IsSilentBody (Err f) = IsTold f.0 → ⊥
+
+checked_silent : (braces : Bool) (digits : List ℕ) (found : Option ℕ) → IsSilentBody (checked_unit braces digits found)
+unfolding IsSilentBody
+checked_silent braces digits None = tt
+checked_silent braces digits (Some b) = λ n. n
+
+choice_silent : {A : Type 0} (b : Bool) (x y : Body A) → IsSilentBody x → IsSilentBody y → IsSilentBody (cond b x y)
+choice_silent true x y p q = p
+choice_silent false x y p q = q
+
+unit_silent : (bytes : List ℕ) → IsSilentBody (unit_at bytes)
+unfolding unit_at IsSilentBody
+unit_silent bytes =
+    choice_silent (nat_lt (length bytes) 4) _ _ (λ n. n)
+    (choice_silent (eqb (get_or bytes 0 0) 123) _ _ (choice_silent (eqb (get_or bytes 5 0) 125) _ _ (checked_silent true (take 4 (drop 1 bytes)) (non_digit (take 4 (drop 1 bytes)))) (λ n. n)) (checked_silent false (take 4 bytes) (non_digit (take 4 bytes))))
+
+known_silent : (letter : ℕ) (found : Option ℕ) → IsSilentBody (known_escape letter found)
+unfolding IsSilentBody
+known_silent letter None = λ n. n
+known_silent letter (Some byte) = tt
+
+escape_silent : (mode : Mode) (bytes : List ℕ) → IsSilentBody (escape_at mode bytes)
+unfolding escape_at IsSilentBody
+escape_silent mode [] = λ n. n
+escape_silent mode (letter ∷ bytes) = choice_silent (eqb letter 117) _ _ (unit_silent bytes) (known_silent letter (escaped_byte mode letter))
+
+item_silent : (mode : Mode) (byte : ℕ) (bytes : List ℕ) → IsSilentBody (item_at mode byte bytes)
+unfolding item_at IsSilentBody
+item_silent mode byte bytes = choice_silent (eqb byte 92) _ _ (escape_silent mode bytes) tt
+
+onto_silent : (x : Item) (r : Body (List Item)) → IsSilentBody r → IsSilentBody (onto x r)
+unfolding IsSilentBody
+onto_silent x (Ok items) p = tt
+onto_silent x (Err f) p = p
+
+items_silent : (n : ℕ) (mode : Mode) (bytes : List ℕ) → IsSilentBody (items_within n mode bytes)
+unfolding items_within IsSilentBody
+items_silent n mode [] = tt
+items_silent zero mode (b ∷ bytes) = tt
+items_silent (suc n) mode (b ∷ bytes) = then_silent (item_at mode b bytes) (item_silent mode b bytes) (λ x. items_silent n mode (drop (length (spelling x)) (b ∷ bytes)))
+  where
+    then_silent : (r : Body Item) → IsSilentBody r → ((x : Item) → IsSilentBody (items_within n mode (drop (length (spelling x)) (b ∷ bytes)))) → IsSilentBody (then_items r (λ item. items_within n mode (drop (length (spelling item)) (b ∷ bytes))))
+    then_silent (Ok x) p others = onto_silent x (items_within n mode (drop (length (spelling x)) (b ∷ bytes))) (others x)
+    then_silent (Err f) p others = p
+
+body_silent : (mode : Mode) (bytes : List ℕ) → IsSilentBody (body_of mode bytes)
+unfolding body_of IsSilentBody
+body_silent mode bytes = meant_silent (items_within (length bytes) mode bytes) (items_silent (length bytes) mode bytes)
+  where
+    meant_silent : (r : Body (List Item)) → IsSilentBody r → IsSilentBody (meaning_of bytes r)
+    meant_silent (Ok items) p = choice_silent (is_utf8 (meaning items)) _ _ tt (λ n. n)
+    meant_silent (Err f) p = p
+
+string_silent : (size : ℕ) (mode : Mode) (quote : ℕ) (bytes : List ℕ) (f : Fault) → string_at size mode quote bytes ≡ Err f → IsTold f.code → ⊥
+unfolding string_at IsSilentBody
+string_silent size mode quote bytes f e told = by_end (quote_end quote bytes) e
+  where
+    by_body : (end : ℕ) (r : Body (Mark × List ℕ)) → IsSilentBody r → decoded size bytes end r ≡ Err f → ⊥
+    by_body end (Ok x) p h = absurd (let never : ◌≡◌ {A = Read (Mark × List ℕ)} (Ok (x, drop (end + 1) bytes)) (Err f) = h in cc)
+    by_body end (Err g) p h = silent_fault {B = (Mark × List ℕ) × List ℕ} g.0 (size - length bytes + 1 + g.1) f h p told
+
+    by_end : (r : Result ℕ ℕ) → closed size mode bytes r ≡ Err f → ⊥
+    by_end (Ok end) h = by_body end (body_of mode (take end bytes)) (body_silent mode (take end bytes)) h
+    by_end (Err at) h = silent_fault {B = (Mark × List ℕ) × List ℕ} invalid_eof (size - length bytes + at) f h (λ n. n) told
+
+pub key_silent : (size : ℕ) (mode : Mode) (bytes : List ℕ) (f : Fault) → key_at size mode bytes ≡ Err f → IsTold f.code → ⊥
+unfolding key_at
+key_silent size mode bytes f e told =
+    elim (on_byte_cases 34 bytes (string_at size mode 34) (refused size expected_some_ident 1 bytes) (Err f) e) [
+      | inl q ↦ string_silent size mode 34 q.0 f q.2 told
+      | inr g ↦ silent_refused {B = (Mark × List ℕ) × List ℕ} size expected_some_ident 1 bytes f g.1 (λ n. n) told
+    ]
+
+-- ---- what a fault of a scalar says
+
+-- The bytes begin with one that begins no scalar.
+pub record NoScalar (mode : Mode) (size : ℕ) (bytes : List ℕ) (place : ℕ) : Type 0 where
+  pub byte : ℕ
+  pub others : List ℕ
+  pub whole : bytes ≡ byte ∷ others
+  pub at_byte : place ≡ size - length bytes + 1
+  pub begins_none : (rest : List ℕ) (t : Tree) → IsScalar mode (byte ∷ rest) t → ⊥
+
+-- The bytes begin with a number that no tree carries, and with no longer spelling of a number.
+pub record NotCarried (mode : Mode) (size : ℕ) (bytes : List ℕ) (place : ℕ) : Type 0 where
+  pub text : List ℕ
+  pub others : List ℕ
+  pub whole : bytes ≡ text ++ others
+  pub is_uncarried : IsUncarried mode text
+  pub longest : (longer rest : List ℕ) → text ++ others ≡ longer ++ rest → length text < length longer → IsNumberSpelling mode longer → ⊥
+  pub after_text : place ≡ size - length others
+
+-- what a fault of a scalar says of the bytes
+abbrev pub WrongScalar : Mode → ℕ → List ℕ → Code → ℕ → Type 0
+WrongScalar mode size bytes expected_some_value place = NoScalar mode size bytes place
+WrongScalar mode size bytes number_not_carried place = NotCarried mode size bytes place
+WrongScalar mode size bytes other place = ⊥
+
+-- how a scalar begins
+data FirstOf (mode : Mode) : List ℕ → Type 0 where
+  with_n : {rest : List ℕ} → FirstOf mode (110 ∷ rest)
+  with_t : {rest : List ℕ} → FirstOf mode (116 ∷ rest)
+  with_f : {rest : List ℕ} → FirstOf mode (102 ∷ rest)
+  with_quote : {bytes rest : List ℕ} → bytes ≡ 34 ∷ rest → FirstOf mode bytes
+  with_number : {bytes : List ℕ} → begins_number mode bytes ≡ true → FirstOf mode bytes
+
+number_begins : (mode : Mode) (bytes : List ℕ) (n : Num) → IsNumber mode bytes n → begins_number mode bytes ≡ true
+number_begins standard bytes n is = let s = number_starts bytes n is in ap (λ (u : List ℕ). begins_number standard u) s.whole ∙ s.start
+number_begins extended bytes n is = absurd is
+
+scalar_first : (mode : Mode) (bytes : List ℕ) (t : Tree) → IsScalar mode bytes t → FirstOf mode bytes
+scalar_first mode bytes t (literal_value null_word) = with_n
+scalar_first mode bytes t (literal_value true_word) = with_t
+scalar_first mode bytes t (literal_value false_word) = with_f
+scalar_first mode bytes t (string_value is q) = with_quote (q.spelled ∙ ap (λ (c : ℕ). c ∷ (flat_map spelling q.items ++ c ∷ [])) is)
+scalar_first mode bytes t (number_value {n = n} is) = with_number (number_begins mode bytes n is)
+
+begins_other : (mode : Mode) (b : ℕ) (rest more : List ℕ) → begins_number mode (b ∷ rest) ≡ begins_number mode (b ∷ more)
+begins_other standard b rest more = refl
+begins_other extended b rest more = refl
+
+not_first : (mode : Mode) (b : ℕ) (rest bytes others : List ℕ) → bytes ≡ b ∷ rest → begins 110 bytes ≡ false → begins 116 bytes ≡ false → begins 102 bytes ≡ false → begins 34 bytes ≡ false → begins_number mode (b ∷ others) ≡ false → FirstOf mode bytes → ⊥
+not_first mode b rest bytes others e n t f q m with_n = absurd cc
+not_first mode b rest bytes others e n t f q m with_t = absurd cc
+not_first mode b rest bytes others e n t f q m with_f = absurd cc
+not_first mode b rest bytes others e n t f q m (with_quote opened) = let found : begins 34 bytes ≡ true = ap (λ (u : List ℕ). begins 34 u) opened in true≢false (sym found ∙ q)
+not_first mode b rest bytes others e n t f q m (with_number begun) = true≢false (sym begun ∙ ap (λ (u : List ℕ). begins_number mode u) e ∙ begins_other mode b rest others ∙ m)
+
+-- the same first byte, whatever follows
+same_begin : (c b : ℕ) (rest more : List ℕ) → begins c (b ∷ rest) ≡ false → begins c (b ∷ more) ≡ false
+same_begin c b rest more e = e
+
+no_scalar : (mode : Mode) (size : ℕ) (bytes : List ℕ) (f : Fault) → begins 34 bytes ≡ false → begins 110 bytes ≡ false → begins 116 bytes ≡ false → begins 102 bytes ≡ false → begins_number mode bytes ≡ false
+    → ◌≡◌ {A = Read Tree} (refused size expected_some_value 1 bytes) (Err f) → IsTold f.code → WrongScalar mode size bytes f.code f.place
+no_scalar mode size [] f q n t g m e told = absurd (silent_fault {B = Tree × List ℕ} invalid_eof size f e (λ x. x) told)
+no_scalar mode size (b ∷ bytes) f q n t g m e told =
+    subst (λ (h : Fault). WrongScalar mode size (b ∷ bytes) h.code h.place) (same_err {B = Tree × List ℕ} (fault_at size expected_some_value 1 (b ∷ bytes)) f e)
+    (record { byte = b; others = bytes; whole = refl; at_byte = refl; begins_none = λ rest u s. not_first mode b rest (b ∷ rest) bytes refl n t g q m (scalar_first mode (b ∷ rest) u s) })
+
+-- a fault of a number
+number_wrong : (size : ℕ) (mode : Mode) (bytes : List ℕ) (f : Fault) → begins_number mode bytes ≡ true → number_at size mode bytes ≡ Err f → IsTold f.code → WrongScalar mode size bytes f.code f.place
+number_wrong size extended [] f begun e told = absurd (true≢false (sym begun))
+number_wrong size extended (b ∷ bytes) f begun e told = absurd (true≢false (sym begun))
+number_wrong size standard bytes f begun e told = by_fault (number_faults size bytes f e)
+  where
+    wrong : UncarriedRead size bytes f.place → NotCarried standard size bytes f.place
+    wrong u = record {
+      text = u.text;
+      others = u.rest;
+      whole = u.joined;
+      is_uncarried = u.uncarried;
+      longest = λ longer rest same more text. u.longest longer rest (u.joined ∙ same) (omega (arith, more, ap length same, length-append u.text u.rest, length-append longer rest)) text;
+      after_text = u.place_is;
+    }
+
+    by_fault : FaultRead size bytes f → WrongScalar standard size bytes f.code f.place
+    by_fault (not_carried is u) = subst (λ (c : Code). WrongScalar standard size bytes c f.place) (sym is) (wrong u)
+    by_fault (no_number is none) = absurd (subst IsTold is told)
+
+-- A fault of a scalar says what is wrong with the bytes, if it is told of.
+pub scalar_refused : (size : ℕ) (mode : Mode) (bytes : List ℕ) (f : Fault) → scalar_at size mode bytes ≡ Err f → IsTold f.code → WrongScalar mode size bytes f.code f.place
+unfolding scalar_at
+scalar_refused size mode bytes f e told =
+    elim (on_byte_cases 34 bytes (quoted_at size mode 34) (words_at size mode bytes) (Err f) e) [
+      | inl q ↦ elim (bind_err (string_at size mode 34 q.0) (λ (x : (Mark × List ℕ) × List ℕ). Ok (string x.0.0 x.0.1, x.1)) f q.2) [
+        | inl h ↦ absurd (string_silent size mode 34 q.0 f h told)
+        | inr h ↦ absurd (let never : ◌≡◌ {A = Read Tree} (Ok (string h.0.0.0 h.0.0.1, h.0.1)) (Err f) = h.2 in cc)
+      ]
+      | inr q ↦ elim (chosen (begins 110 bytes) (word_at size (codes "null") null bytes) (true_or_false_at size mode bytes) (Err f) q.1) [
+        | inl w ↦ absurd (word_silent size (codes "null") null bytes f w.1 told)
+        | inr n ↦ elim (chosen (begins 116 bytes) (word_at size (codes "true") (boolean true) bytes) (false_at size mode bytes) (Err f) n.1) [
+          | inl w ↦ absurd (word_silent size (codes "true") (boolean true) bytes f w.1 told)
+          | inr t ↦ elim (chosen (begins 102 bytes) (word_at size (codes "false") (boolean false) bytes) (number_or_fault size mode bytes) (Err f) t.1) [
+            | inl w ↦ absurd (word_silent size (codes "false") (boolean false) bytes f w.1 told)
+            | inr g ↦ elim (chosen (begins_number mode bytes) (number_at size mode bytes >>= λ (x : Num × List ℕ). Ok (number x.0, x.1)) (refused size expected_some_value 1 bytes) (Err f) g.1) [
+              | inl m ↦ elim (bind_err (number_at size mode bytes) (λ (x : Num × List ℕ). Ok (number x.0, x.1)) f m.1) [
+                | inl h ↦ number_wrong size mode bytes f m.0 h told
+                | inr h ↦ absurd (let never : ◌≡◌ {A = Read Tree} (Ok (number h.0.0, h.0.1)) (Err f) = h.2 in cc)
+              ]
+              | inr m ↦ no_scalar mode size bytes f q.0 n.0 t.0 g.0 m.0 m.1 told
+            ]
+          ]
+        ]
+      ]
+    ]
+
+-- ---- what is read is the longest
+
+-- No spelling of a scalar that is no number goes past what is read.
+other_longest : (size : ℕ) (mode : Mode) (core : List ℕ) (u : Tree) (rest : List ℕ) (t : Tree) (after : List ℕ) → IsScalar mode core u → (IsNumberTree u → ⊥) → scalar_at size mode (core ++ rest) ≡ Ok (t, after) → length after ≤ length rest
+other_longest size mode core u rest t after s other e =
+    let same = same_read u t rest after (sym (scalar_complete size mode core u rest s (λ n. absurd (other n))) ∙ e) in
+    omega (arith, ap length same.rest)
+
+number_past : (size : ℕ) (mode : Mode) (core : List ℕ) (n : Num) (rest : List ℕ) (t : Tree) (after : List ℕ) → IsNumber mode core n → scalar_at size mode (core ++ rest) ≡ Ok (t, after) → length after ≤ length rest
+number_past size extended core n rest t after is e = absurd is
+number_past size standard core n rest t after is e =
+    let s = number_starts core n is in
+    let opened : core ++ rest ≡ s.first ∷ (s.others ++ rest) = ap (λ (u : List ℕ). u ++ rest) s.whole in
+    let begun : begins_number standard (core ++ rest) ≡ true = ap (λ (u : List ℕ). begins_number standard u) opened ∙ s.start in
+    let read : number_or_fault size standard (core ++ rest) ≡ Ok (t, after) = sym (scalar-number size standard core n rest is) ∙ e in
+    elim (chosen (begins_number standard (core ++ rest)) (standard_number_at size (core ++ rest) >>= λ (x : Num × List ℕ). Ok (number x.0, x.1)) (refused size expected_some_value 1 (core ++ rest)) (Ok (t, after)) read) [
+      | inl m ↦
+          let b = bind_ok (standard_number_at size (core ++ rest)) (λ (x : Num × List ℕ). Ok (number x.0, x.1)) (t, after) m.1 in
+          let same = same_read (number b.0.0) t b.0.1 after b.2 in
+          by_length core n rest b.0.1 after is same.rest (number_longest size (core ++ rest) b.0.0 b.0.1 b.1)
+      | inr m ↦ absurd (true≢false (sym begun ∙ m.0))
+    ]
+  where
+    by_length : (c : List ℕ) (k : Num) (r middle a : List ℕ) → IsStandardNumber c k → middle ≡ a → NoLongerText (c ++ r) middle → length a ≤ length r
+    by_length c k r middle a is_number same none =
+        ⊎_elim (λ (longer : length r < length a). absurd (none c r refl (omega (arith, longer, ap length same)) (standard_is_text c k is_number)))
+        (λ (fits : length a ≤ length r). fits) (cases_lt (length r) (length a))
+
+-- No spelling of a scalar goes past what is read.
+pub scalar_longest : (size : ℕ) (mode : Mode) (core : List ℕ) (u : Tree) (rest : List ℕ) (t : Tree) (after : List ℕ) → IsScalar mode core u → scalar_at size mode (core ++ rest) ≡ Ok (t, after) → length after ≤ length rest
+scalar_longest size mode core u rest t after (literal_value null_word) e = other_longest size mode core u rest t after (literal_value null_word) (λ n. n) e
+scalar_longest size mode core u rest t after (literal_value true_word) e = other_longest size mode core u rest t after (literal_value true_word) (λ n. n) e
+scalar_longest size mode core u rest t after (literal_value false_word) e = other_longest size mode core u rest t after (literal_value false_word) (λ n. n) e
+scalar_longest size mode core u rest t after (string_value is q) e = other_longest size mode core u rest t after (string_value is q) (λ n. n) e
+scalar_longest size mode core u rest t after (number_value {n = n} is) e = number_past size mode core n rest t after is e

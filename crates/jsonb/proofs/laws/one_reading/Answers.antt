@@ -1,0 +1,12 @@
+use Rattle.jsonb.proofs.Documents.{derived_unique, document_unique}
+use Rattle.jsonb.proofs.Longer.{both_numbers}
+use Rattle.jsonb.proofs.laws.one_reading.Goals as goal
+
+pub returns-clause-tree : goal.returns-clause-tree
+returns-clause-tree c = document_unique
+
+pub returns-clause-numbers : goal.returns-clause-numbers
+returns-clause-numbers c = both_numbers
+
+pub returns-clause-same : goal.returns-clause-same
+returns-clause-same c = derived_unique

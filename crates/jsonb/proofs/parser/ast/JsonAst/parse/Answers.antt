@@ -1,0 +1,20 @@
+use Rattle.jsonb.specs.Parser.{mode_of}
+use Rattle.jsonb.specs.Reading.Document.{document_of}
+use Rattle.jsonb.proofs.Whole.{gives_document, gives_explained, gives_only, gives_refused}
+use Rattle.jsonb.proofs.parser.ast.JsonAst.parse.Goals as goal
+
+pub returns-clause-exact : goal.returns-clause-exact
+unfolding document_of
+returns-clause-exact c = c.parse_document.ensures.reads
+
+pub returns-clause-document : goal.returns-clause-document
+returns-clause-document c = gives_document (mode_of c.args.mode) c.args.buf.now c.parse_document.result (returns-clause-exact c)
+
+pub returns-clause-only : goal.returns-clause-only
+returns-clause-only c = gives_only (mode_of c.args.mode) c.args.buf.now c.parse_document.result (returns-clause-exact c)
+
+pub returns-clause-refused : goal.returns-clause-refused
+returns-clause-refused c = gives_refused (mode_of c.args.mode) c.args.buf.now c.parse_document.result (returns-clause-exact c)
+
+pub returns-clause-explained : goal.returns-clause-explained
+returns-clause-explained c = gives_explained (mode_of c.args.mode) c.args.buf.now c.parse_document.result (returns-clause-exact c)

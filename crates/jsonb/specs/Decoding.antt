@@ -1,0 +1,60 @@
+-- How the decoder goes on: what its private functions promise.
+use Rattle.std.specs.Prelude.{◌≡◌, ◌≢◌, ℕ, ◌+◌, ◌≤◌, ◌<◌, ◌^◌, Bool, true, false, List, ◌++◌, length, All, slice_index}
+use Rattle.std.specs.List.{flat_map, AllByRecursion}
+use Rattle.jsonb_value.specs.Mode.{Mode}
+use Rattle.jsonb_value.specs.Code.{Code}
+use Rattle.jsonb_value.specs.StringBody.{Item, after_u, spelling, IsItem, IsHexDigit, unit_value, meaning}
+use Rattle.jsonb_value.specs.StringFault.{BadUnit, IsCutShort}
+
+-- what follows `\u` is four bytes, in braces or not, and then the rest
+pub record SplitsUnit (bytes digits rest : List ℕ) : Type 0 where
+  pub braces : Bool
+  pub split : bytes ≡ after_u braces digits ++ rest
+  pub four : length digits ≡ 4
+  pub bare : braces ≡ false → slice_index digits 0 ≢ 123
+
+-- the same, where the four bytes are the digits of this value
+pub record ReadsUnit (bytes digits rest : List ℕ) (value : ℕ) : Type 0 where
+  pub splits : SplitsUnit bytes digits rest
+  pub each : All IsHexDigit digits
+  pub is : value ≡ unit_value digits
+  pub range : value < 2 ^ 16
+
+-- The bytes are items and then the rest, and these items add this text to the meaning, whatever items the rest is.
+pub record DecodesUpTo (mode : Mode) (bytes rest text : List ℕ) : Type 0 where
+  pub items : List Item
+  pub each : AllByRecursion (IsItem mode) items
+  pub spelled : bytes ≡ flat_map spelling items ++ rest
+  pub meant : (tail : List Item) → rest ≡ flat_map spelling tail → meaning (items ++ tail) ≡ text ++ meaning tail
+  pub short : length text + length rest ≤ length bytes
+
+-- new is old with the text that the items before the rest add
+pub record Adds (mode : Mode) (bytes rest old new : List ℕ) : Type 0 where
+  pub text : List ℕ
+  pub appended : new ≡ old ++ text
+  pub decodes : DecodesUpTo mode bytes rest text
+
+-- a bad unit, at which so many of the bytes are left
+pub record StopsInUnit (bytes : List ℕ) (code : Code) (left : ℕ) : Type 0 where
+  pub steps : ℕ
+  pub bad : BadUnit bytes code steps
+  pub count : left + steps ≡ length bytes
+
+-- items and a bad escape, at which so many of the bytes are left
+pub record Stops (mode : Mode) (bytes : List ℕ) (code : Code) (left : ℕ) : Type 0 where
+  pub read : ℕ
+  pub cut : IsCutShort mode bytes code read
+  pub count : left + read ≡ length bytes
+
+-- a backslash is among the first bytes
+abbrev pub SeesBackslash : List ℕ → ℕ → Type 0
+SeesBackslash bytes count = (k : ℕ) × (k < count) × (slice_index bytes k ≡ 92)
+
+-- no backslash is among the first bytes
+abbrev pub SeesNoBackslash : List ℕ → ℕ → Type 0
+SeesNoBackslash bytes count = (k : ℕ) → k < count → slice_index bytes k ≢ 92
+
+-- whether a backslash is among the first bytes
+abbrev pub TellsBackslash : List ℕ → ℕ → Bool → Type 0
+TellsBackslash bytes count true = SeesBackslash bytes count
+TellsBackslash bytes count false = SeesNoBackslash bytes count

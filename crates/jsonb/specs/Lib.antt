@@ -1,0 +1,10 @@
+pub mod AstView
+pub mod Decoding
+pub mod Parser
+pub mod QuotedString
+pub mod Reading
+pub mod Refusals
+pub mod Source
+pub mod SourceLaws
+pub mod Stack
+pub mod StringRefusal

@@ -1,0 +1,26 @@
+-- What the steps of the reader of quoted strings tell.
+use Rattle.std.specs.Prelude.{◌≡◌, ℕ, ◌+◌, ◌<◌, List, length, Result, Ok, Err}
+use Rattle.std.specs.Cow.{cow_str_bytes}
+use Rattle.std.specs.declared.alloc.Global.{Global}
+use Rattle.std.specs.declared.borrow.CowStr.{CowStr}
+use Rattle.jsonb_value.specs.Tree.{Mark}
+use Rattle.jsonb_value.specs.Code.{code_of}
+use Rattle.jsonb_value.specs.View.{mark_view}
+use Rattle.jsonb_value.specs.declared.error.Error.{Error}
+use Rattle.jsonb_value.specs.declared.error.Error.TheVariants.{Syntax, OutOfMemory}
+use Rattle.jsonb.specs.declared.parser.string.StringEnd.{StringEnd}
+use Rattle.jsonb.specs.declared.parser.string.StringEnd.TheVariants.{Closed, Unclosed}
+use Rattle.jsonb.specs.Decoding.{TellsBackslash}
+use Rattle.jsonb.specs.Reading.String.{Body, quote_end}
+
+-- the search ends where reading does; and whether a backslash was passed
+abbrev pub EndsString : ℕ → List ℕ → StringEnd → Type 0
+EndsString quote bytes (Closed end escaped) = (quote_end quote bytes ≡ Ok end) × TellsBackslash bytes end escaped
+EndsString quote bytes (Unclosed at) = (quote_end quote bytes ≡ Err at) × (at < length bytes + 8)
+
+-- The text and its mark are those that are read of the body, or the fault is, where the decoder counts from `idx`.
+abbrev pub ReadsBody : ℕ → Result (CowStr Global) Error → Body (Mark × List ℕ) → Type 0
+ReadsBody idx (Ok text) read = read ≡ Ok (mark_view text, cow_str_bytes text)
+ReadsBody idx (Err (Syntax code place)) read = (count : ℕ) × (read ≡ Err (code_of code, count)) × (place ≡ idx + count)
+ReadsBody idx (Err OutOfMemory) read = Unit {0}
+ReadsBody idx (Err other) read = ⊥

@@ -1,0 +1,46 @@
+-- Reading from left to right as a function on lists: what is read and the bytes after it, or the first fault that is met.
+-- This is the bridge between the code of the reader and the definition of its grammar.
+pub mod Blank
+pub mod Container
+pub mod Document
+pub mod Number
+pub mod Scalar
+pub mod String
+use Rattle.std.specs.Prelude.{ℕ, ◌+◌, ◌-◌, Bool, true, false, List, [], ◌∷◌, length, Result, Ok, Err, ◌==◌, if◌then◌else◌}
+use Rattle.jsonb_value.specs.Code.{Code, invalid_eof}
+
+-- A fault, and the place in the whole input that it names.
+pub record Fault : Type 0 where
+  pub code : Code
+  pub place : ℕ
+
+-- what is read and the bytes after it, or a fault
+abbrev pub Read : Type 0 → Type 0
+Read A = Result (A × List ℕ) Fault
+
+infixl 10 ◌>>=◌
+abbrev pub ◌>>=◌ : {A B : Type 0} → Result A Fault → (A → Result B Fault) → Result B Fault
+(Ok x) >>= f = f x
+(Err e) >>= f = Err e
+
+-- the one where the bytes begin with this byte, of the bytes after it, and else the other
+abbrev pub on_byte : {X : Type 0} → ℕ → List ℕ → (List ℕ → X) → X → X
+on_byte c [] found other = other
+on_byte c (b ∷ bytes) found other = if b == c then found bytes else other
+
+-- whether the bytes begin with this byte
+abbrev pub begins : ℕ → List ℕ → Bool
+begins c bytes = on_byte c bytes (λ rest. true) false
+
+-- ---- faults, in an input of this size
+
+abbrev pub fault : {A : Type 0} → Code → ℕ → Result A Fault
+fault code place = Err (record { code = code; place = place })
+
+-- the end of the input, or a byte that may not stand here, which is named by its index and a step
+abbrev pub fault_at : ℕ → Code → ℕ → List ℕ → Fault
+fault_at size code step [] = record { code = invalid_eof; place = size }
+fault_at size code step (b ∷ bytes) = record { code = code; place = size - length (b ∷ bytes) + step }
+
+abbrev pub refused : {A : Type 0} → ℕ → Code → ℕ → List ℕ → Result A Fault
+refused size code step bytes = Err (fault_at size code step bytes)

@@ -1,0 +1,144 @@
+-- Reading by the arrays and objects that are open: what is left to read once a value inside of them was read.
+use Rattle.std.specs.Cow.{cow_str_bytes}
+use Rattle.jsonb_value.specs.declared.error.Error.{Error}
+use Rattle.jsonb.specs.declared.parser.ast.JsonAst.{JsonAst}
+use Rattle.jsonb.specs.declared.parser.Parser.{Parser}
+use Rattle.jsonb.specs.declared.parser.container.Frame.{Frame}
+use Rattle.jsonb.specs.declared.parser.container.Frame.TheVariants as variants
+use Rattle.std.specs.Prelude.{◌≡◌, ℕ, zero, suc, ◌-◌, List, [], ◌∷◌, ◌++◌, length, Result, Ok, Err, Option, Some, None, map}
+use Rattle.jsonb_value.specs.Code.{Code}
+use Rattle.jsonb_value.specs.Code.Code.{expected_array_comma_or_end, expected_colon, expected_object_comma_or_end}
+use Rattle.jsonb_value.specs.Grammar.{max_depth}
+use Rattle.jsonb_value.specs.Mode.{Mode}
+use Rattle.jsonb_value.specs.Tree.{Mark, Tree, trees_of}
+use Rattle.jsonb_value.specs.Tree.Mark.{plain}
+use Rattle.jsonb_value.specs.Tree.Tree.{array, null}
+use Rattle.jsonb_value.specs.View.{mark_view}
+use Rattle.jsonb.specs.AstView.{ast_view, found_of}
+use Rattle.jsonb.specs.Parser.{Fails, mode_of, rest_of, size_of}
+use Rattle.jsonb.specs.Reading.{Read, on_byte, refused, ◌>>=◌}
+use Rattle.jsonb.specs.Reading.Blank.{skip_blanks}
+use Rattle.jsonb.specs.Reading.Container.{Found, array_at, element_at, first_repeat, joined_at, member_at, object_at, object_or_fault, spot_of}
+use Rattle.jsonb.specs.Reading.Document.{too_deep, value_at}
+use Rattle.jsonb.specs.Reading.Scalar.{key_at}
+
+-- An array or an object that is open: its parts so far, and in an object the key that waits for its value, with the place after it.
+pub data Open : Type 0 where
+  elements_so_far : List Tree → Open
+  members_so_far : List Found → Mark × List ℕ → ℕ → Open
+
+-- ---- parts joined by commas, after those that were read
+
+module _ {A : Type 0} (size : ℕ) (code : Code) (close : ℕ) (part : List ℕ → Read A) (finish : List A → List ℕ → Read Tree) where
+  -- from the beginning of a part on
+  abbrev pub parts_from : List A → List ℕ → Read Tree
+  parts_from front bytes = joined_at size code close part (suc (length bytes)) bytes >>= λ x. finish (front ++ x.0) x.1
+
+  -- from the end of a part on
+  abbrev pub parts_after : List A → List ℕ → Read Tree
+  parts_after front bytes = on_byte 44 bytes (parts_from front) (on_byte close bytes (finish front) (refused size code 0 bytes))
+
+abbrev pub array_end : List Tree → List ℕ → Read Tree
+array_end ts rest = Ok (array (trees_of ts), rest)
+
+abbrev pub object_end : List Found → List ℕ → Read Tree
+object_end fs rest = object_or_fault (first_repeat (map spot_of fs)) fs rest
+
+-- a key with its colon, the place after the key, and what comes after the blanks after the colon
+abbrev pub member_start : ℕ → Mode → List ℕ → Read ((Mark × List ℕ) × ℕ)
+member_start size mode bytes =
+    key_at size mode (skip_blanks bytes) >>= λ k. on_byte 58 (skip_blanks k.1) (λ rest. Ok ((k.0, size - length k.1), skip_blanks rest)) (refused size expected_colon 0 (skip_blanks k.1))
+
+-- the container with one more part; its key is used up
+abbrev pub add_part : Open → Tree → Open
+add_part (elements_so_far front) t = elements_so_far (front ++ t ∷ [])
+add_part (members_so_far front key place) t = members_so_far (front ++ record { mark = key.0; key = key.1; tree = t; place = place } ∷ []) (plain, []) place
+
+module _ (size : ℕ) (mode : Mode) (depth : ℕ) where
+  abbrev pub elements_from : List Tree → List ℕ → Read Tree
+  elements_from = parts_from size expected_array_comma_or_end 93 (element_at mode (value_at size mode depth)) array_end
+
+  abbrev pub members_from : List Found → List ℕ → Read Tree
+  members_from = parts_from size expected_object_comma_or_end 125 (member_at size mode (value_at size mode depth)) object_end
+
+  -- the rest of a container, from the end of a part on
+  abbrev pub rest_at : Open → List ℕ → Read Tree
+  rest_at (elements_so_far front) = parts_after size expected_array_comma_or_end 93 (element_at mode (value_at size mode depth)) array_end front
+  rest_at (members_so_far front key place) = parts_after size expected_object_comma_or_end 125 (member_at size mode (value_at size mode depth)) object_end front
+
+  -- the container, once the value that it waits for was read
+  abbrev pub finish_open : Open → Tree × List ℕ → Read Tree
+  finish_open c x = rest_at (add_part c x.0) (skip_blanks x.1)
+
+-- The outermost value, once the value that the innermost container waits for was read. The innermost container comes first, and the number is how deep what is in it may nest.
+unfoldable pub resume : ℕ → Mode → ℕ → List Open → Tree × List ℕ → Read Tree
+resume size mode depth [] x = Ok x
+resume size mode depth (c ∷ cs) x = finish_open size mode depth c x >>= resume size mode (suc depth) cs
+
+-- an array, from the byte after the bracket on, where arrays and objects may nest this deep
+abbrev pub array_within : ℕ → Mode → ℕ → List ℕ → Read Tree
+array_within size mode zero = too_deep size
+array_within size mode (suc depth) = array_at size mode (value_at size mode depth)
+
+-- an object, from the byte after the brace on
+abbrev pub object_within : ℕ → Mode → ℕ → List ℕ → Read Tree
+object_within size mode zero = too_deep size
+object_within size mode (suc depth) = object_at size mode (value_at size mode depth)
+
+-- ---- the reader's stack, whose last frame is the innermost
+
+abbrev pub open_of : Frame → Open
+open_of (variants.Array v) = elements_so_far (map ast_view v.items)
+open_of (variants.Object o) = members_so_far (map found_of o.members.items) (mark_view o.key, cow_str_bytes o.key) o.after
+
+abbrev pub stack_onto : List Open → List Frame → List Open
+stack_onto below [] = below
+stack_onto below (f ∷ fs) = stack_onto (open_of f ∷ below) fs
+
+abbrev pub stack_of : List Frame → List Open
+stack_of = stack_onto []
+
+-- how deep a value may nest inside of these
+abbrev pub depth_in : List Frame → ℕ
+depth_in frames = max_depth - length frames
+
+-- the outermost value, once this was read inside of the open containers
+abbrev pub resumed : Parser → List Frame → Read Tree → Read Tree
+resumed p frames read = read >>= resume (size_of p) (mode_of p.mode) (depth_in frames) (stack_of frames)
+
+-- What is read from here on where a value is due, and where this value was read.
+abbrev pub ahead : Parser → List Frame → Option JsonAst → Read Tree
+ahead p frames None = resumed p frames (value_at (size_of p) (mode_of p.mode) (depth_in frames) (rest_of p))
+ahead p frames (Some v) = resumed p frames (Ok (ast_view v, rest_of p))
+
+-- A step of the reader leaves what is read the same, or gives its fault.
+abbrev pub Continues : Read Tree → Result (Option JsonAst) Error → Parser → List Frame → Type 0
+Continues whole (Ok value) p frames = whole ≡ ahead p frames value
+Continues whole (Err e) p frames = Fails e whole
+
+-- the element that was left out, or the value that is due
+abbrev pub element_begun : ℕ → Mode → ℕ → Option JsonAst → List ℕ → Read Tree
+element_begun size mode depth None bytes = value_at size mode depth bytes
+element_begun size mode depth (Some v) bytes = Ok (ast_view v, bytes)
+
+-- an array with these elements, once an element was begun
+abbrev pub element_from : ℕ → Mode → ℕ → List Tree → Option JsonAst → List ℕ → Read Tree
+element_from size mode depth front begun bytes = element_begun size mode depth begun bytes >>= finish_open size mode depth (elements_so_far front)
+
+-- The rest of the innermost container from the end of a part on, and then of the others.
+abbrev pub rest_of_opens : ℕ → Mode → ℕ → List Open → List ℕ → Read Tree
+rest_of_opens size mode depth [] bytes = Ok (null, bytes)
+rest_of_opens size mode depth (c ∷ cs) bytes = rest_at size mode depth c bytes >>= resume size mode (suc depth) cs
+
+-- the same from the beginning of a part on
+abbrev pub next_part_at : ℕ → Mode → ℕ → Open → List ℕ → Read Tree
+next_part_at size mode depth (elements_so_far front) bytes = elements_from size mode depth front bytes
+next_part_at size mode depth (members_so_far front key place) bytes = members_from size mode depth front bytes
+
+-- What a step into a part leaves, or its fault.
+abbrev pub PartBegins : ℕ → Mode → ℕ → Read Tree → Result (Option JsonAst) Error → Open → List ℕ → Type 0
+PartBegins size mode depth whole (Ok begun) c bytes = whole ≡ (element_begun size mode depth begun bytes >>= finish_open size mode depth c)
+PartBegins size mode depth whole (Err e) c bytes = Fails e whole
+
+abbrev pub rest_from : Parser → List Frame → Read Tree
+rest_from p frames = rest_of_opens (size_of p) (mode_of p.mode) (depth_in frames) (stack_of frames) (rest_of p)

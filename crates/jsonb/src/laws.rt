@@ -1,0 +1,16 @@
+//! Laws of the grammar, which hold whatever is read. Each is the contract of a function that does nothing.
+
+ghost use Rattle.std.specs.Prelude.{◌≡◌, ◌≢◌, ◌++◌, ℕ, List, [], None};
+ghost use Rattle.jsonb_value.specs.Grammar.{Derives, IsDocument};
+ghost use Rattle.jsonb_value.specs.Mode.{Mode};
+ghost use Rattle.jsonb_value.specs.Parts.{as_number};
+ghost use Rattle.jsonb_value.specs.Tree.{Tree};
+
+/// A text is a document of at most one tree. Where one spelling of a value begins another, longer one, both are numbers.
+pub fn one_reading()
+    ensures tree { (mode : Mode) → (bytes : List ℕ) → (t u : Tree) → IsDocument mode bytes t → IsDocument mode bytes u → t ≡ u }
+    ensures numbers { (mode : Mode) → (m n : ℕ) → (bytes rest : List ℕ) → (t u : Tree) → Derives mode m bytes t
+        → Derives mode n (bytes ++ rest) u → rest ≢ [] → (as_number t ≢ None) × (as_number u ≢ None) }
+    ensures same { (mode : Mode) → (m n : ℕ) → (bytes : List ℕ) → (t u : Tree) → Derives mode m bytes t
+        → Derives mode n bytes u → t ≡ u }
+{}

@@ -1,0 +1,200 @@
+//! The reader of JSON texts: from left to right, with the first fault that it meets.
+
+ghost use Rattle.std.specs.Prelude.{◌≡◌, ◌≢◌, ℕ, ◌+◌, ◌<◌, ◌≤◌, [], ◌∷◌, length, drop, MatchOption, MatchBool, OnOk, IfOk, IfErr, Err};
+ghost use Rattle.jsonb_value.specs.Code.{code_of};
+ghost use Rattle.jsonb_value.specs.Grammar.{IsDocument, max_depth};
+ghost use Rattle.jsonb_value.specs.Mode.{standard};
+ghost use Rattle.jsonb_value.specs.Tree.{Tree};
+ghost use Rattle.jsonb_value.specs.View.{view};
+ghost use Rattle.jsonb.specs.AstView.{ast_view};
+ghost use Rattle.jsonb.specs.Parser.{rest_of, size_of, mode_of, Advances, IsFault, Gives, HoldsMarker};
+ghost use Rattle.jsonb.specs.Reading.{begins, fault_at};
+ghost use Rattle.jsonb.specs.Reading.Blank.{blank_length, skip_blanks};
+ghost use Rattle.jsonb.specs.Reading.Document.{document_from, document_of};
+ghost use Rattle.jsonb.specs.Refusals.{IsExplained};
+
+mod ast;
+mod container;
+mod number;
+mod scalar;
+mod string;
+#[cfg(test)]
+mod tests;
+
+pub use ast::JsonAst;
+use jsonb_value::error::{Error, ParseErrorCode, Result};
+use jsonb_value::value::Value;
+use std::alloc::Global;
+
+/// Which grammar a text is read by.
+#[derive(Clone, Copy, Debug, PartialEq, Eq)]
+pub enum Mode {
+    /// JSON as RFC 8259 has it, with a few more spellings of blanks.
+    Standard,
+}
+
+impl<'a> JsonAst<'a> {
+    /// Reads a whole text.
+    ///
+    /// # Errors
+    ///
+    /// `Syntax` with what is wrong and the index that is named, where the text is no document of the mode; the text is read from
+    /// the left, and the first fault that is met is told. `OutOfMemory` only where the text holds `[`, `{` or a backslash.
+    pub fn parse(alloc: Global, buf: &'a [u8], mode: Mode) -> Result<JsonAst<'a>>
+        // What is read is a document, and this is its one tree.
+        ensures document { IfOk result (λ v. IsDocument (mode_of mode) buf.now (ast_view v)) }
+        ensures only { IfOk result (λ v. (t : Tree) → IsDocument (mode_of mode) buf.now t → t ≡ ast_view v) }
+
+        // What is refused is no document, unless memory ran out.
+        ensures refused { IfErr result (λ e. e ≢ Error.OutOfMemory → (t : Tree) → IsDocument (mode_of mode) buf.now t → ⊥) }
+        ensures memory { result ≡ Err Error.OutOfMemory → HoldsMarker buf.now }
+
+        // Which fault it is, and where.
+        ensures exact { Gives ast_view result (document_of (mode_of mode) buf.now) }
+
+        // What stands at the place that is named, for the refusals that speak of a value, of what follows it, of depth, of a number
+        // and of a key.
+        ensures explained { IfErr result (IsExplained (mode_of mode) buf.now) }
+    {
+        let mut parser = Parser {
+            alloc,
+            mode,
+            buf,
+            idx: 0,
+        };
+        parser.parse_document()
+    }
+}
+
+/// Reads a whole text of standard JSON.
+///
+/// # Errors
+///
+/// Those of [`JsonAst::parse`].
+pub fn parse_value_standard_mode(alloc: Global, buf: &[u8]) -> Result<Value<'_>>
+    // What is read is a document, and this is its one tree.
+    ensures document { IfOk result (λ v. IsDocument standard buf.now (view v)) }
+    ensures only { IfOk result (λ v. (t : Tree) → IsDocument standard buf.now t → t ≡ view v) }
+
+    // What is refused is no document, unless memory ran out.
+    ensures refused { IfErr result (λ e. e ≢ Error.OutOfMemory → (t : Tree) → IsDocument standard buf.now t → ⊥) }
+    ensures memory { result ≡ Err Error.OutOfMemory → HoldsMarker buf.now }
+
+    // Which fault it is, and where.
+    ensures exact { Gives view result (document_of standard buf.now) }
+
+    // What stands at the place that is named.
+    ensures explained { IfErr result (IsExplained standard buf.now) }
+{
+    JsonAst::parse(alloc, buf, Mode::Standard)?.into_value(alloc)
+}
+
+// A reader that stands at the index `idx` of its input.
+#[derive(Drop)]
+struct Parser<'a> {
+    alloc: Global,
+    mode: Mode,
+    buf: &'a [u8],
+    idx: usize,
+}
+
+// How many bytes the blank takes that the bytes begin with, or 0 where they begin with none.
+fn blank_len(bytes: &[u8]) -> usize
+    ensures value { result ≡ blank_length bytes.now }
+    ensures within { result ≤ length bytes.now }
+{
+    match bytes {
+        [b' ' | b'\t' | b'\n' | 0x0C | b'\r', ..] => 1,
+        [b'\\', b'n' | b'r' | b't', ..] => 2,
+        [b'\\', b'x', b'0', b'C', ..] => 4,
+        _ => 0,
+    }
+}
+
+impl<'a> Parser<'a> {
+    // The next byte.
+    fn peek(&self) -> Option<u8>
+        ensures next { MatchOption result (rest_of self.now ≡ [])
+            (λ b. rest_of self.now ≡ b ∷ drop (self.now.idx + 1) self.now.buf.now) }
+        ensures within { MatchOption result (size_of self.now ≤ self.now.idx) (λ b. self.now.idx < size_of self.now) }
+    {
+        if self.idx < self.buf.len() {
+            Some(self.buf[self.idx])
+        } else {
+            None
+        }
+    }
+
+    // Whether this byte comes next.
+    fn next_is(&self, byte: u8) -> bool
+        ensures { result ≡ begins byte (rest_of self.now) }
+    {
+        matches!(self.peek(), Some(next) if next == byte)
+    }
+
+    // Passes this byte, where it comes next.
+    fn take_byte(&mut self, byte: u8) -> bool
+        ensures found { result ≡ begins byte (rest_of self.old) }
+        ensures rest { MatchBool result (rest_of self.old ≡ byte ∷ rest_of self.new) (self.new ≡ self.old) }
+        ensures inside { MatchBool result (self.old.idx < self.new.idx × self.new.idx ≤ size_of self.new) (self.new ≡ self.old) }
+        ensures advances { Advances self.old self.new }
+    {
+        let found = self.next_is(byte);
+        if found {
+            self.idx += 1;
+        }
+        found
+    }
+
+    // The bytes that are still to be read.
+    fn rest(&self) -> &'a [u8]
+        requires { self.now.idx ≤ size_of self.now }
+        ensures { result.now ≡ rest_of self.now }
+    {
+        &self.buf[self.idx..]
+    }
+
+    fn skip_blanks(&mut self)
+        ensures rest { rest_of self.new ≡ skip_blanks (rest_of self.old) }
+        ensures advances { Advances self.old self.new }
+    {
+        'blanks: while self.idx < self.buf.len() {
+            let n = blank_len(self.rest());
+            if n == 0 {
+                return;
+            }
+            self.idx += n;
+        }
+    }
+
+    // The fault at the next byte, named by its index and a step, or at the end of the text.
+    fn unexpected(&self, code: ParseErrorCode, step: usize) -> Error
+        requires { step ≤ 1 }
+        ensures { IsFault result (fault_at (size_of self.now) (code_of code) step (rest_of self.now)) }
+    {
+        if self.idx < self.buf.len() {
+            Error::Syntax(code, self.idx + step)
+        } else {
+            Error::Syntax(ParseErrorCode::InvalidEOF, self.buf.len())
+        }
+    }
+
+    // A value with blanks round it, up to the end of the text.
+    fn parse_document(&mut self) -> Result<JsonAst<'a>>
+        ensures reads { Gives ast_view result (document_from (size_of self.old) (mode_of self.old.mode) (skip_blanks (rest_of self.old))) }
+        ensures memory { result ≡ Err Error.OutOfMemory → HoldsMarker self.old.buf.now }
+    {
+        self.skip_blanks();
+        if self.idx >= self.buf.len() {
+            return match self.mode {
+                Mode::Standard => Err(Error::Syntax(ParseErrorCode::InvalidEOF, self.buf.len())),
+            };
+        }
+        let value = self.parse_value()?;
+        self.skip_blanks();
+        if self.idx < self.buf.len() {
+            return Err(Error::Syntax(ParseErrorCode::UnexpectedTrailingCharacters, self.idx + 1));
+        }
+        Ok(value)
+    }
+}

@@ -1,0 +1,39 @@
+use super::JsonAst;
+use jsonb_value::number::Number;
+use jsonb_value::value::Value;
+use std::alloc::Global;
+use std::borrow::CowStr;
+use std::test::Fail;
+
+fn integer<'a>(value: u64) -> JsonAst<'a> {
+    JsonAst::Number(Number::UInt64(value))
+}
+
+fn written<'a>(alloc: Global) -> Result<JsonAst<'a>, Fail> {
+    let items = JsonAst::Array(vec![in alloc; JsonAst::Null]?);
+    Ok(JsonAst::Object(vec![in alloc;
+        (CowStr::Borrowed("a"), integer(1), 4),
+        (CowStr::Borrowed("b"), items, 8),
+        (CowStr::Borrowed("a"), integer(2), 17),
+    ]?))
+}
+
+#[test]
+fn later_members_replace(rt: HostRuntime) -> Result<(), Fail> {
+    let alloc = rt.alloc();
+    let value = written(alloc)?.into_value(alloc)?;
+    let two = Value::Number(Number::UInt64(2));
+    assert_eq!(rt; value.get_by_name_ignore_case("a"), Some(&two));
+    let items = Value::Array(vec![in alloc; Value::Null]?);
+    assert_eq!(rt; value.get_by_name_ignore_case("b"), Some(&items));
+    assert_eq!(rt; value.as_object().map(|members| members.len()), Some(2));
+    Ok(())
+}
+
+#[test]
+fn clones_are_equal(rt: HostRuntime) -> Result<(), Fail> {
+    let ast = written(rt.alloc())?;
+    assert!(rt; ast.clone()? == ast);
+    assert!(rt; ast != JsonAst::default());
+    Ok(())
+}

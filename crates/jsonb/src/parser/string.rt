@@ -1,0 +1,116 @@
+//! Quoted strings.
+ghost use Rattle.std.specs.Prelude.{◌≡◌, ◌≢◌, ◌⊎◌, ℕ, ◌+◌, ◌<◌, ◌≤◌, ◌^◌, length, slice_index, Contains, Err, true};
+ghost use Rattle.std.specs.Cow.{cow_str_bytes};
+ghost use Rattle.jsonb_value.specs.Mode.{Mode};
+ghost use Rattle.jsonb_value.specs.StringStep.{escape_step};
+ghost use Rattle.jsonb_value.specs.View.{mark_view};
+ghost use Rattle.jsonb.specs.Decoding.{TellsBackslash};
+ghost use Rattle.jsonb.specs.Parser.{rest_of, size_of, mode_of, Advances, Gives};
+ghost use Rattle.jsonb.specs.QuotedString.{EndsString, ReadsBody};
+ghost use Rattle.jsonb.specs.Reading.String.{body_of, string_at};
+
+use super::Parser;
+use crate::util::unescape;
+use jsonb_value::error::{Error, ParseErrorCode, Result};
+use memchr::memchr2;
+use std::alloc::Global;
+use std::borrow::CowStr;
+
+// Where the search for the end of a string stops, counted from the byte after the opening quote.
+#[derive(Clone, Copy)]
+enum StringEnd {
+    // At the closing quote; and whether a backslash stands before it.
+    Closed { end: usize, escaped: bool },
+    // There is no closing quote. The index may pass the end of the bytes.
+    Unclosed { at: usize },
+}
+
+// The step over what follows a backslash, which looks at two bytes at most.
+fn step_after_backslash(bytes: &[u8]) -> usize
+    ensures value { result ≡ escape_step bytes.now }
+    ensures bound { result ≤ 7 }
+{
+    match bytes {
+        [] => 0,
+        [b'u'] => 1,
+        [b'u', b'{', ..] => 7,
+        [b'u', ..] => 5,
+        _ => 1,
+    }
+}
+
+// The index of the first quote or backslash from `at` on, or the length of the bytes.
+fn next_mark(bytes: &[u8], quote: u8, at: usize) -> usize
+    requires { at ≤ length bytes.now }
+    ensures bounds { (at ≤ result) × (result ≤ length bytes.now) }
+    ensures before { (k : ℕ) → at ≤ k → k < result → (slice_index bytes.now k ≢ quote) × (slice_index bytes.now k ≢ 92) }
+    ensures here { result < length bytes.now → (slice_index bytes.now result ≡ quote) ⊎ (slice_index bytes.now result ≡ 92) }
+{
+    match memchr2(quote, b'\\', &bytes[at..]) {
+        Some(count) => at + count,
+        None => bytes.len(),
+    }
+}
+
+// Looks for the quote that ends a string. An escape is stepped over by its first bytes, without a look at the others.
+fn find_end(bytes: &[u8], quote: u8) -> StringEnd
+    requires { quote ≢ 92 }
+    ensures { EndsString quote bytes.now result }
+{
+    let mut at = 0;
+    let mut escaped = false;
+    'items: while at < bytes.len() {
+        let stop = next_mark(bytes, quote, at);
+        if stop == bytes.len() {
+            return StringEnd::Unclosed { at: stop };
+        }
+        if bytes[stop] == quote {
+            return StringEnd::Closed { end: stop, escaped };
+        }
+        escaped = true;
+        at = stop + 1 + step_after_backslash(&bytes[stop + 1..]);
+    }
+    StringEnd::Unclosed { at }
+}
+
+// The text of a body, given whether it has a backslash. `idx` is the index after the opening quote and one more, from
+// which the decoder counts. Only a body with a backslash takes memory.
+fn read_body<'a>(alloc: Global, body: &'a [u8], escaped: bool, idx: usize) -> Result<CowStr<'a>>
+    requires escaped { TellsBackslash body.now (length body.now) escaped }
+    requires room { idx + length body.now < 2 ^ 64 }
+    ensures reads { (mode : Mode) → ReadsBody idx result (body_of mode body.now) }
+    ensures memory { result ≡ Err Error.OutOfMemory → escaped ≡ true }
+{
+    if escaped {
+        let mut idx = idx;
+        let text = unescape(alloc, body, &mut idx)?;
+        return Ok(CowStr::Owned(text));
+    }
+    match std::str::from_utf8(body) {
+        Ok(text) => Ok(CowStr::Borrowed(text)),
+        Err(_) => Err(Error::Syntax(ParseErrorCode::InvalidStringValue, idx + body.len())),
+    }
+}
+
+impl<'a> Parser<'a> {
+    // Reads a string from the byte after its opening quote on. It is borrowed where no backslash is in it.
+    pub(super) fn parse_quoted(&mut self, quote: u8) -> Result<CowStr<'a>>
+        requires no_backslash { quote ≢ 92 }
+        requires inside { self.old.idx ≤ size_of self.old }
+        ensures reads { Gives (λ s. ((mark_view s, cow_str_bytes s), rest_of self.new)) result (string_at (size_of self.old) (mode_of self.old.mode) quote (rest_of self.old)) }
+        ensures memory { result ≡ Err Error.OutOfMemory → Contains self.old.buf.now 92 }
+        ensures advances { Advances self.old self.new }
+    {
+        let rest = self.rest();
+        match find_end(rest, quote) {
+            StringEnd::Unclosed { at } => {
+                Err(Error::Syntax(ParseErrorCode::InvalidEOF, self.idx + at))
+            }
+            StringEnd::Closed { end, escaped } => {
+                let text = read_body(self.alloc, &rest[..end], escaped, self.idx + 1)?;
+                self.idx += end + 1;
+                Ok(text)
+            }
+        }
+    }
+}

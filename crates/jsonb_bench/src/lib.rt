@@ -1,0 +1,91 @@
+//! What the benchmark calls from C: each function does one operation on a text, over and over, so that the caller can time it.
+//!
+//! From C, `alloc` is passed as nothing, and a slice as a pointer and a length:
+//! `size_t jsonb_bench_read(const unsigned char *text, size_t text_len, size_t rounds)`.
+#![tactic(auto)]
+
+ghost use Rattle.std.specs.Prelude.{◌≡◌, ◌≤◌};
+ghost use Rattle.jsonb_value.specs.Grammar.{IsDocument};
+ghost use Rattle.jsonb_value.specs.Mode.{standard};
+ghost use Rattle.jsonb_value.specs.Tree.{Tree};
+
+use jsonb::parse_value_standard_mode;
+use std::alloc::Global;
+
+/// Reads the text as standard JSON `rounds` times, and drops each value. The answer is how many rounds went
+/// well before the first that did not, and so it is `rounds` where all did.
+#[unsafe(no_mangle)]
+pub extern "C" fn jsonb_bench_read(alloc: Global, text: &[u8], rounds: usize) -> usize
+    ensures most { result ≤ rounds }
+    // Nothing goes well with a text that is no document.
+    ensures refused { ((t : Tree) → IsDocument standard text.now t → ⊥) → result ≡ 0 }
+{
+    for round in 0..rounds {
+        if parse_value_standard_mode(alloc, text).is_err() {
+            return round;
+        }
+    }
+    rounds
+}
+
+/// Reads the text once, and writes the value's text `rounds` times into one buffer. The answer is how many
+/// rounds went well before the first that did not, and 0 where the text is refused.
+#[unsafe(no_mangle)]
+pub extern "C" fn jsonb_bench_write(alloc: Global, text: &[u8], rounds: usize) -> usize
+    ensures most { result ≤ rounds }
+    // Nothing goes well with a text that is no document.
+    ensures refused { ((t : Tree) → IsDocument standard text.now t → ⊥) → result ≡ 0 }
+{
+    let Ok(value) = parse_value_standard_mode(alloc, text) else {
+        return 0;
+    };
+    let mut written = Vec::new(alloc);
+    for round in 0..rounds {
+        written.clear();
+        if value.write_text(&mut written).is_err() {
+            return round;
+        }
+    }
+    rounds
+}
+
+/// Reads the text twice, and compares the two values with `==` `rounds` times. The answer is how many rounds
+/// found them equal before the first that did not, and 0 where the text is refused.
+#[unsafe(no_mangle)]
+pub extern "C" fn jsonb_bench_compare(alloc: Global, text: &[u8], rounds: usize) -> usize
+    ensures most { result ≤ rounds }
+    // Nothing goes well with a text that is no document.
+    ensures refused { ((t : Tree) → IsDocument standard text.now t → ⊥) → result ≡ 0 }
+{
+    let Ok(left) = parse_value_standard_mode(alloc, text) else {
+        return 0;
+    };
+    let Ok(right) = parse_value_standard_mode(alloc, text) else {
+        return 0;
+    };
+    for round in 0..rounds {
+        if left != right {
+            return round;
+        }
+    }
+    rounds
+}
+
+/// Reads the text once, and clones the value `rounds` times, dropping each clone. The answer is how many rounds
+/// went well before the first that did not, and 0 where the text is refused.
+#[unsafe(no_mangle)]
+pub extern "C" fn jsonb_bench_clone(alloc: Global, text: &[u8], rounds: usize) -> usize
+    ensures most { result ≤ rounds }
+    // Nothing goes well with a text that is no document.
+    ensures refused { ((t : Tree) → IsDocument standard text.now t → ⊥) → result ≡ 0 }
+{
+    let Ok(original) = parse_value_standard_mode(alloc, text) else {
+        return 0;
+    };
+    for round in 0..rounds {
+        if original.clone().is_err() {
+            return round;
+        }
+    }
+    rounds
+}

@@ -1,0 +1,2 @@
+pub mod BytesRead
+pub mod DocumentTexts

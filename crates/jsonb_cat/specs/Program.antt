@@ -1,0 +1,39 @@
+-- What the program does with its words and its streams.
+use Rattle.std.specs.Prelude.{◌≡◌, ℕ, List, [], ◌∷◌, ◌++◌, Option, Some, codes}
+use Rattle.std.specs.Io.KnownBytes.{Appends}
+use Rattle.jsonb_value.specs.Mode.{Mode, standard}
+use Rattle.jsonb_value.specs.Tree.{Tree}
+use Rattle.jsonb_value.specs.Grammar.{IsDocument}
+use Rattle.jsonb_value.specs.Text.{text_of}
+
+-- The words choose the mode: `--standard` alone chooses standard mode.
+pub data Chooses (words : List (List ℕ)) : Mode → Type 0 where
+  standard_word : words ≡ codes "--standard" ∷ [] → Chooses words standard
+
+-- no document has these bytes
+abbrev pub IsNoDocument : Mode → List ℕ → Type 0
+IsNoDocument mode input = (t : Tree) → IsDocument mode input t → ⊥
+
+-- The input is a document, and the line is its text and a line feed.
+pub record IsLineOf (mode : Mode) (input line : List ℕ) : Type 0 where
+  pub tree : Tree
+  pub document : IsDocument mode input tree
+  pub text : List ℕ
+  pub is_text : text_of tree ≡ Some text
+  pub ended : line ≡ text ++ 10 ∷ []
+
+-- The words choose a mode in which the input is a document.
+pub record IsAccepted (words : List (List ℕ)) (input : List ℕ) : Type 0 where
+  pub mode : Mode
+  pub chosen : Chooses words mode
+  pub tree : Tree
+  pub document : IsDocument mode input tree
+
+-- The words choose a mode in which the input is a document, and of a writer's bytes the new ones are the old ones
+-- with its line at their end.
+pub record IsAnswered (words : List (List ℕ)) (input : List ℕ) (old new : Option (List ℕ)) : Type 0 where
+  pub mode : Mode
+  pub chosen : Chooses words mode
+  pub line : List ℕ
+  pub line_of : IsLineOf mode input line
+  pub written : Appends old new line

@@ -1,0 +1,144 @@
+//! What the program does, over any streams.
+
+ghost use Rattle.std.specs.Prelude.{◌≡◌, ◌≢◌, ◌↔◌, ◌⊎◌, ℕ, ◌+◌, ◌≤◌, List, ◌++◌, take, map, vec_len, string_bytes, MatchOption, OnOk, OnErr, IfOk, IfErr, IfSome};
+ghost use Rattle.std.specs.Io.KnownBytes.{Appends, IsAtEnd};
+ghost use Rattle.jsonb_value.specs.Mode.{Mode as Grammar};
+ghost use Rattle.jsonb.specs.Parser.{mode_of};
+ghost use Rattle.jsonb_cat.specs.Program.{Chooses, IsNoDocument, IsLineOf, IsAccepted, IsAnswered};
+
+use jsonb::parser::Mode;
+use jsonb::{Error, Result};
+use std::alloc::Global;
+use std::io;
+use std::io::{Read, Write};
+
+const USAGE: &str = "usage: jsonb_cat [--standard]";
+
+// How often the input is read at most.
+const MAX_READS: u32 = 1 << 20;
+
+// How many bytes are free at least when the input is read.
+const MIN_ROOM: usize = 4096;
+
+/// The mode that the program's words choose, or `None` where they are none that it knows.
+pub fn choose_mode(words: &[String]) -> Option<Mode>
+    ensures { MatchOption result ((mode : Grammar) → Chooses (map string_bytes words.now) mode → ⊥)
+        (λ mode. Chooses (map string_bytes words.now) (mode_of mode)) }
+{
+    match words {
+        [word] if word.as_str() == "--standard" => Some(Mode::Standard),
+        _ => None,
+    }
+}
+
+/// Appends to `out` the text of the document that `input` is, and a line feed. After an error `out` holds what it held.
+#[tactic(auto, using(crate::proofs::DocumentTexts::document_has_text))]
+pub fn convert(alloc: Global, mode: Mode, input: &[u8], out: &mut Vec<u8>) -> Result<()>
+    ensures ok { OnOk result ((line : List ℕ) × IsLineOf (mode_of mode) input.now line
+        × (out.new.items ≡ out.old.items ++ line)) }
+    ensures refused { IfErr result (λ e. e ≢ Error.OutOfMemory → IsNoDocument (mode_of mode) input.now) }
+    ensures err { OnErr result (out.new.items ≡ out.old.items) }
+{
+    let value = match mode {
+        Mode::Standard => jsonb::parse_value_standard_mode(alloc, input)?,
+    };
+    let old_len = out.len();
+    value.write_text(out)?;
+    if out.push(b'\n').is_err() {
+        out.truncate(old_len);
+        return Err(Error::OutOfMemory);
+    }
+    Ok(())
+}
+
+// Grows the buffer where fewer bytes than `MIN_ROOM` stand in it after the first `filled`.
+fn make_room(buffer: &mut Vec<u8>, filled: usize) -> io::Result<()>
+    requires { filled ≤ vec_len buffer.old }
+    ensures room { OnOk result (filled + MIN_ROOM ≤ vec_len buffer.new) }
+    ensures filled { OnOk result (take filled buffer.new.items ≡ take filled buffer.old.items) }
+{
+    let len = buffer.len();
+    if len - filled < MIN_ROOM {
+        buffer.resize(len.saturating_mul(2).max(2 * MIN_ROOM), 0)?;
+        if buffer.len() - filled < MIN_ROOM {
+            return Err(io::Error::from(io::ErrorKind::OutOfMemory));
+        }
+    }
+    Ok(())
+}
+
+// All bytes of the input. A read that fails ends it, and so does an input that goes on after `MAX_READS` reads.
+fn read_input<R: Read>(alloc: Global, input: &mut R) -> Result<Vec<u8>>
+    ensures bytes { IfOk result (λ v. IfSome (R.remaining input.old) (λ bytes. v.items ≡ bytes)) }
+    ensures end { OnOk result (IsAtEnd (R.remaining input.new)) }
+    ensures err { IfErr result (λ e. e ≡ Error.InvalidUtf8) }
+{
+    let mut buffer = Vec::new(alloc);
+    let mut filled = 0;
+    'reads: for _ in 0..MAX_READS {
+        make_room(&mut buffer, filled)?;
+        let count = input.read(&mut buffer[filled..])?;
+        if count == 0 {
+            buffer.truncate(filled);
+            return Ok(buffer);
+        }
+        filled += count;
+    }
+    Err(Error::InvalidUtf8)
+}
+
+// What is written for the input: the text of its value, and a line feed.
+fn line_of<R: Read>(alloc: Global, mode: Mode, input: &mut R) -> Result<Vec<u8>>
+    ensures line { IfOk result (λ line. IfSome (R.remaining input.old)
+        (λ bytes. IsLineOf (mode_of mode) bytes line.items)) }
+    ensures end { OnOk result (IsAtEnd (R.remaining input.new)) }
+{
+    let bytes = read_input(alloc, input)?;
+    let mut line = Vec::new(alloc);
+    convert(alloc, mode, &bytes, &mut line)?;
+    Ok(line)
+}
+
+// Writes all the bytes, past any buffer of the writer.
+fn put<W: Write>(out: &mut W, bytes: &[u8]) -> io::Result<()>
+    ensures { OnOk result (Appends (W.contents out.old) (W.contents out.new) bytes.now) }
+{
+    out.write_all(bytes)?;
+    out.flush()
+}
+
+/// Runs the program with these words, its own name not among them, over these streams, and answers its exit status:
+/// 0 where the value's text was written, 1 where the input was refused or a stream failed, 2 where the words are wrong.
+pub fn run<R: Read, W: Write, E: Write>(
+    alloc: Global,
+    words: &[String],
+    input: &mut R,
+    out: &mut W,
+    err: &mut E,
+) -> u8
+    ensures status { result ≤ 2 }
+    ensures usage { result ≡ 2 ↔ ((mode : Grammar) → Chooses (map string_bytes words.now) mode → ⊥) }
+    ensures untouched { result ≡ 2 → (input.new ≡ input.old) × (out.new ≡ out.old) }
+    ensures answered { result ≡ 0 → IsAtEnd (R.remaining input.new) × IfSome (R.remaining input.old)
+        (λ bytes. IsAnswered (map string_bytes words.now) bytes (W.contents out.old) (W.contents out.new)) }
+    ensures failed { result ≡ 1 → (out.new ≡ out.old) ⊎ (IsAtEnd (R.remaining input.new)
+        × IfSome (R.remaining input.old) (λ bytes. IsAccepted (map string_bytes words.now) bytes)) }
+{
+    let Some(mode) = choose_mode(words) else {
+        let _ = writeln!(err, "{USAGE}");
+        return 2;
+    };
+    match line_of(alloc, mode, input) {
+        Ok(line) => match put(out, &line) {
+            Ok(()) => 0,
+            Err(_) => 1,
+        },
+        Err(e) => {
+            let _ = writeln!(err, "{e}");
+            1
+        }
+    }
+}
+
+#[cfg(test)]
+mod tests;

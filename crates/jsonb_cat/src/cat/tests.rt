@@ -1,0 +1,196 @@
+use super::*;
+use std::process::Abort;
+use std::test::Fail;
+
+// Gives these bytes one by one, and then fails.
+#[derive(Drop)]
+struct Failing<'a> {
+    bytes: &'a [u8],
+}
+
+impl Read for Failing<'_> {
+    fn read(&mut self, buf: &mut [u8]) -> io::Result<usize> {
+        match self.bytes.split_first() {
+            Some((byte, rest)) if !buf.is_empty() => {
+                buf[0] = *byte;
+                self.bytes = rest;
+                Ok(1)
+            }
+            _ => Err(io::Error::from(io::ErrorKind::Interrupted)),
+        }
+    }
+}
+
+// Gives one blank at each read, with no end, and notes how often it is read and into how few bytes.
+#[derive(Drop)]
+struct Endless {
+    reads: u64,
+    least_room: usize,
+}
+
+impl Read for Endless {
+    fn read(&mut self, buf: &mut [u8]) -> io::Result<usize> {
+        self.reads = self.reads.saturating_add(1);
+        self.least_room = self.least_room.min(buf.len());
+        if buf.is_empty() {
+            return Ok(0);
+        }
+        buf[0] = b' ';
+        Ok(1)
+    }
+}
+
+// Takes so many bytes, and then fails.
+#[derive(Drop)]
+struct Full {
+    left: usize,
+}
+
+impl Write for Full {
+    fn write(&mut self, buf: &[u8]) -> io::Result<usize> {
+        let count = buf.len().min(self.left);
+        if count == 0 {
+            return Err(io::Error::from(io::ErrorKind::StorageFull));
+        }
+        self.left -= count;
+        Ok(count)
+    }
+
+    fn flush(&mut self) -> io::Result<()> {
+        Ok(())
+    }
+}
+
+// The words of a line.
+fn words_of(alloc: Global, line: &str) -> Result<Vec<String>> {
+    let mut all = Vec::new(alloc);
+    for word in line.split_whitespace() {
+        all.push(String::from_str(alloc, word)?)?;
+    }
+    Ok(all)
+}
+
+// Runs the program over streams in memory, and compares its status and what it wrote.
+fn expect_run<R: Read>(
+    rt: &(impl AllocGlobal + Abort),
+    words: &str,
+    input: &mut R,
+    status: u8,
+    out: &str,
+    err: &str,
+) -> Result<()> {
+    let (mut got_out, mut got_err) = (Vec::new(rt.alloc()), Vec::new(rt.alloc()));
+    let words = words_of(rt.alloc(), words)?;
+    let got = run(rt.alloc(), &words, input, &mut got_out, &mut got_err);
+    assert_eq!(rt; got, status, "status for {words:?}");
+    assert_eq!(rt; got_out.as_slice(), out.as_bytes(), "output for {words:?}");
+    assert_eq!(rt; got_err.as_slice(), err.as_bytes(), "errors for {words:?}");
+    Ok(())
+}
+
+#[test]
+fn wrong_words_give_the_usage_line_before_reading(
+    rt: HostRuntime,
+) -> std::result::Result<(), Fail> {
+    let usage = "usage: jsonb_cat [--standard]\n";
+    for words in ["", "--x", "--Standard", "--standard --standard"] {
+        let mut input = Endless {
+            reads: 0,
+            least_room: usize::MAX,
+        };
+        expect_run(&rt, words, &mut input, 2, "", usage)?;
+        assert_eq!(rt; input.reads, 0);
+    }
+    Ok(())
+}
+
+#[test]
+fn a_reader_that_fails_refuses(rt: HostRuntime) -> std::result::Result<(), Fail> {
+    for bytes in ["", "n", "nu", "nul", "null"] {
+        let mut input = Failing {
+            bytes: bytes.as_bytes(),
+        };
+        expect_run(&rt, "--standard", &mut input, 1, "", "InvalidUtf8\n")?;
+    }
+    Ok(())
+}
+
+#[test]
+fn a_reader_without_an_end_is_left(rt: HostRuntime) -> std::result::Result<(), Fail> {
+    let mut input = Endless {
+        reads: 0,
+        least_room: usize::MAX,
+    };
+    expect_run(&rt, "--standard", &mut input, 1, "", "InvalidUtf8\n")?;
+    assert_eq!(rt; input.reads, 1 << 20);
+    assert!(rt; input.least_room >= 4096);
+    Ok(())
+}
+
+#[test]
+fn a_fault_in_telling_an_error_changes_no_status(rt: HostRuntime) -> std::result::Result<(), Fail> {
+    for (word, status) in [("--x", 2), ("--standard", 1)] {
+        for left in 0..4 {
+            let words = words_of(rt.alloc(), word)?;
+            let mut out = Vec::new(rt.alloc());
+            let mut err = Full { left };
+            let got = run(
+                rt.alloc(),
+                &words,
+                &mut Failing { bytes: b"" },
+                &mut out,
+                &mut err,
+            );
+            assert_eq!(rt; got, status);
+            assert!(rt; out.is_empty());
+        }
+    }
+    Ok(())
+}
+
+#[test]
+fn documents_are_written_as_lines(rt: HostRuntime) -> std::result::Result<(), Fail> {
+    for (input, status, out, err) in [
+        (" \"abc\" ", 0, "\"abc\"\n", ""),
+        ("-5", 0, "-5\n", ""),
+        ("-0", 0, "0\n", ""),
+        (" null\n", 0, "null\n", ""),
+        ("\"a\\u0001\\n\"", 0, "\"a\\u0001\\n\"\n", ""),
+        ("", 1, "", "EOF while parsing a value, pos 0\n"),
+        ("1 2", 1, "", "trailing characters, pos 3\n"),
+        ("1.5", 1, "", "number not carried, pos 3\n"),
+        ("\"\\'\"", 1, "", "invalid escaped '27', pos 4\n"),
+    ] {
+        expect_run(&rt, "--standard", &mut input.as_bytes(), status, out, err)?;
+    }
+    Ok(())
+}
+
+#[test]
+fn what_stands_in_the_output_stays(rt: HostRuntime) -> std::result::Result<(), Fail> {
+    let mut out = Vec::from_slice(rt.alloc(), b"x")?;
+    assert!(rt; convert(rt.alloc(), Mode::Standard, b"nul", &mut out).is_err());
+    assert_eq!(rt; out.as_slice(), b"x".as_slice());
+    convert(rt.alloc(), Mode::Standard, b"true", &mut out)?;
+    assert_eq!(rt; out.as_slice(), b"xtrue\n".as_slice());
+    Ok(())
+}
+
+#[test]
+fn a_writer_that_fails_ends_the_run(rt: HostRuntime) -> std::result::Result<(), Fail> {
+    let words = words_of(rt.alloc(), "--standard")?;
+    for left in 0..6 {
+        let mut err = Vec::new(rt.alloc());
+        let mut out = Full { left };
+        let got = run(
+            rt.alloc(),
+            &words,
+            &mut b"null".as_slice(),
+            &mut out,
+            &mut err,
+        );
+        assert_eq!(rt; got, if left < 5 { 1 } else { 0 }, "with room for {left}");
+        assert!(rt; err.is_empty());
+    }
+    Ok(())
+}

@@ -1,0 +1,42 @@
+-- Parts of a value beside those of its tree.
+use Rattle.std.proofs.Common.{◌≡◌, ℕ, suc, List, [], ◌∷◌, length, map, ◌↔◌, IsTrue, is_some, Option, Some, None, option_map, cond, Bool, true, false, bytes_eq, string_bytes, nat_cmp, String, Vec, BTreeMap, Global, refl, ap, ◌∙◌, rules}
+use Rattle.std.proofs.lemmas.Map.Text.{is_eq-slice_cmp}
+use Rattle.std.specs.BTreeMap.{is_at}
+use Rattle.std.specs.Cmp.Lexicographic.{slice_cmp}
+use Rattle.std.specs.Map.{keys_of, lookup}
+use Rattle.jsonb_value.specs.Parts.{trees_len, find_member, key_trees}
+use Rattle.jsonb_value.specs.Tree.{string, array, object, escaped, more_trees, trees_of}
+use Rattle.jsonb_value.specs.View.{view, trees_view, members_view}
+use Rattle.jsonb_value.specs.declared.value.Value.{Value, Array, Object, the_lemmas}
+use Rattle.jsonb_value.proofs.Members.{Entry}
+
+pub view-Array : (v : Vec Value Global) → view (Array v) ≡ array (trees_view v.items)
+view-Array v = search (rules, the_lemmas)
+
+pub view-Object : (m : BTreeMap (String Global) Value) → view (Object m) ≡ object (members_view m.entries)
+view-Object m = search (rules, the_lemmas)
+
+pub trees_len-trees_view : (vs : List Value) → trees_len (trees_view vs) ≡ length vs
+trees_len-trees_view [] = refl
+trees_len-trees_view (v ∷ vs) = ap suc (trees_len-trees_view vs)
+
+option_map-cond : (b : Bool) (v : Value) (o : Option Value) → option_map view (cond b (Some v) o) ≡ cond b (Some (view v)) (option_map view o)
+option_map-cond true v o = refl
+option_map-cond false v o = refl
+
+-- a look-up in the map finds the member's tree
+pub option_map-lookup : (name : List ℕ) (es : List Entry)
+    → option_map view (lookup (is_at (λ k. slice_cmp nat_cmp name (string_bytes k))) es) ≡ find_member (bytes_eq name) (members_view es)
+option_map-lookup name [] = refl
+option_map-lookup name (e ∷ es) =
+    option_map-cond (is_at (λ k. slice_cmp nat_cmp name (string_bytes k)) e.0) e.1 (lookup (is_at (λ k. slice_cmp nat_cmp name (string_bytes k))) es)
+    ∙ (λ i. cond (is_eq-slice_cmp name (string_bytes e.0) i) (Some (view e.1)) (option_map-lookup name es i))
+
+pub key_trees-members_view : (es : List Entry) → trees_of (map (λ k. string escaped (string_bytes k)) (keys_of es)) ≡ key_trees (members_view es)
+key_trees-members_view [] = refl
+key_trees-members_view (e ∷ es) = ap (more_trees (string escaped (string_bytes e.0))) (key_trees-members_view es)
+
+-- a value is there exactly when some number has what it says
+pub some_exactly : (o : Option ℕ) (P : ℕ → Type 0) → ((n : ℕ) → (o ≡ Some n) ↔ P n) → IsTrue (is_some o) ↔ ((n : ℕ) × P n)
+some_exactly (Some n) P h = (λ t. (n, (h n).0 refl), λ p. search rules)
+some_exactly None P h = (λ t. absurd (search rules), λ p. let missing : None ≡ Some p.0 = (h p.0).1 p.1 in cc)

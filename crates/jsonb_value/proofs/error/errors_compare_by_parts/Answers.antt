@@ -1,0 +1,67 @@
+-- Errors are equal where their views are: by cases on the variants, with equality of codes as a lemma.
+use Rattle.std.proofs.Common.{◌≡◌, ◌↔◌, ℕ, ◌==◌, ◌&&◌, Bool, IsTrue, rules}
+use Rattle.jsonb_value.specs.Code.{Code, code_of}
+use Rattle.jsonb_value.specs.ErrorView.{error_view, syntax}
+use Rattle.jsonb_value.specs.contracts.error.ErrorPartialEq.TheImpl as derived
+use Rattle.jsonb_value.specs.contracts.error.ParseErrorCodePartialEq.TheImpl as derived_code
+use Rattle.jsonb_value.specs.contracts.error.ErrorHash.TheImpl.Laws as hash_laws
+use Rattle.jsonb_value.specs.declared.error.Error.{Error}
+use Rattle.jsonb_value.specs.declared.error.Error.TheVariants as variants
+use Rattle.jsonb_value.specs.declared.error.ParseErrorCode.{ParseErrorCode}
+use Rattle.jsonb_value.proofs.error.errors_compare_by_parts.Goals as goal
+
+codes_equal : (a b : ParseErrorCode) → IsTrue (derived_code.ghosts.eq a b) ↔ (code_of a ≡ code_of b)
+codes_equal a b = search rules
+
+pair_equal : (t u : Code) (e : Bool) (p q : ℕ) → (IsTrue e ↔ t ≡ u) → IsTrue (e && (p == q)) ↔ (syntax t p ≡ syntax u q)
+pair_equal t u e p q h = search rules
+
+faults_equal : (code : ParseErrorCode) (place : ℕ) (r : Error) → IsTrue (derived.ghosts.eq (variants.Syntax code place) r) ↔ (error_view (variants.Syntax code place) ≡ error_view r)
+faults_equal code place variants.InvalidUtf8 = search rules
+faults_equal code place variants.InvalidEOF = search rules
+faults_equal code place variants.InvalidToken = search rules
+faults_equal code place variants.InvalidCast = search rules
+faults_equal code place variants.InvalidJson = search rules
+faults_equal code place variants.InvalidJsonb = search rules
+faults_equal code place variants.InvalidJsonbHeader = search rules
+faults_equal code place variants.InvalidJsonbJEntry = search rules
+faults_equal code place variants.InvalidJsonbNumber = search rules
+faults_equal code place variants.InvalidJsonbExtension = search rules
+faults_equal code place variants.InvalidJsonPath = search rules
+faults_equal code place variants.InvalidJsonPathPredicate = search rules
+faults_equal code place variants.InvalidKeyPath = search rules
+faults_equal code place variants.InvalidJsonType = search rules
+faults_equal code place variants.InvalidObject = search rules
+faults_equal code place variants.ObjectDuplicateKey = search rules
+faults_equal code place variants.UnexpectedType = search rules
+faults_equal code place (variants.Message m) = search rules
+faults_equal code place (variants.Syntax other q) = pair_equal (code_of code) (code_of other) (derived_code.ghosts.eq code other) place q (codes_equal code other)
+faults_equal code place variants.OutOfMemory = search rules
+
+errors_equal : (l r : Error) → IsTrue (derived.ghosts.eq l r) ↔ (error_view l ≡ error_view r)
+errors_equal variants.InvalidUtf8 r = search rules
+errors_equal variants.InvalidEOF r = search rules
+errors_equal variants.InvalidToken r = search rules
+errors_equal variants.InvalidCast r = search rules
+errors_equal variants.InvalidJson r = search rules
+errors_equal variants.InvalidJsonb r = search rules
+errors_equal variants.InvalidJsonbHeader r = search rules
+errors_equal variants.InvalidJsonbJEntry r = search rules
+errors_equal variants.InvalidJsonbNumber r = search rules
+errors_equal variants.InvalidJsonbExtension r = search rules
+errors_equal variants.InvalidJsonPath r = search rules
+errors_equal variants.InvalidJsonPathPredicate r = search rules
+errors_equal variants.InvalidKeyPath r = search rules
+errors_equal variants.InvalidJsonType r = search rules
+errors_equal variants.InvalidObject r = search rules
+errors_equal variants.ObjectDuplicateKey r = search rules
+errors_equal variants.UnexpectedType r = search rules
+errors_equal (variants.Message m) r = search rules
+errors_equal (variants.Syntax code place) r = faults_equal code place r
+errors_equal variants.OutOfMemory r = search rules
+
+pub returns-clause-equal : goal.returns-clause-equal
+returns-clause-equal c = errors_equal c.args.left.now c.args.right.now
+
+pub returns-clause-hash : goal.returns-clause-hash
+returns-clause-hash c = λ same. hash_laws.respects_eq-law c.args.left.now c.args.right.now ((errors_equal c.args.left.now c.args.right.now).1 same)

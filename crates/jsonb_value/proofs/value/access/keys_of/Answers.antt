@@ -1,0 +1,9 @@
+use Rattle.std.proofs.Common.{◌≡◌, [], sym, ap, ◌∙◌, append-nil, rules}
+use Rattle.jsonb_value.specs.Tree.{trees_of}
+use Rattle.jsonb_value.proofs.Parts.{key_trees-members_view}
+use Rattle.jsonb_value.proofs.value.access.keys_of.Goals as goal
+
+pub returns-clause-ok : goal.returns-clause-ok
+returns-clause-ok c =
+    let none : c.members.key-iterator ≡ [] = search rules in
+    ap trees_of (sym (append-nil _) ∙ (rw none at c.members.invariant)) ∙ key_trees-members_view c.args.members.now.entries

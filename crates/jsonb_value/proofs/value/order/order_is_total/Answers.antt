@@ -1,0 +1,6 @@
+use Rattle.jsonb_value.specs.OrderLaws.{trees_one_order}
+use Rattle.jsonb_value.proofs.ByContent.{by_content}
+use Rattle.jsonb_value.proofs.value.order.order_is_total.Goals as goal
+
+pub returns : goal.returns
+returns c = record { total = trees_one_order; by_content = by_content }

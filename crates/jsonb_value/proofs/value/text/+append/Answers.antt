@@ -1,0 +1,63 @@
+use Rattle.std.proofs.Common.{false, ◌+◌, [], ◌∷◌, ◌++◌, drop, refl, arith, rules, string_bytes}
+use Rattle.jsonb_value.specs.StringText.{quoted_text}
+use Rattle.jsonb_value.specs.Text.{item_texts, member_texts, tree_text}
+use Rattle.jsonb_value.specs.View.{view, trees_view, members_view}
+use Rattle.jsonb_value.proofs.Appended.{goes_on, fits, on_err}
+use Rattle.jsonb_value.proofs.Texts.{texts_left, comma_done, key_split, key_done, next_item, next_member}
+use Rattle.jsonb_value.proofs.value.text.+append.Goals as goal
+
+pub append_items-items-preserved : goal.append_items-items-preserved
+append_items-items-preserved t c =
+    let all = c.args.items.now.items in
+    let item = c.item-item.result in
+    let rest = texts_left false (item_texts (trees_view (drop (c.items.item-index + 1) all))) ++ 93 ∷ [] in
+    let next = next_item all c.items.item-index item (search rules) (search rules) in
+    let due = comma_done c.items.is_first _ _ _ _ (93 ∷ []) c.append_comma.new.buf.items _ _ next c.items.invariant.underway c.in_ok-append_comma.ensures.ok in
+    record {
+      underway = goes_on c.append.new.buf.items (tree_text (view item)) rest due refl c.in_ok-append.ensures.ok;
+      room = omega arith;
+    }
+
+pub append_items-returns-in_err-append-clause-full : goal.append_items-returns-in_err-append-clause-full
+append_items-returns-in_err-append-clause-full t c =
+    let all = c.args.items.now.items in
+    let item = c.item-item.result in
+    let rest = texts_left false (item_texts (trees_view (drop (c.items.item-index + 1) all))) ++ 93 ∷ [] in
+    let next = next_item all c.items.item-index item (search rules) (search rules) in
+    let due = comma_done c.items.is_first _ _ _ _ (93 ∷ []) c.append_comma.new.buf.items _ _ next c.items.invariant.underway c.in_ok-append_comma.ensures.ok in
+    let room = fits (tree_text (view item)) rest due refl in
+    on_err c.from_residual-in_err-append.result (omega (arith, room, c.in_err-append.ensures.full))
+
+pub append_members-members-preserved : goal.append_members-members-preserved
+append_members-members-preserved t c =
+    let key = string_bytes c.in-Some.key.now in
+    let value = tree_text (view c.in-Some.value.now) in
+    let rest = texts_left false (member_texts (members_view c.next.new.self)) ++ 125 ∷ [] in
+    let next = next_member c.members.key-iterator c.next.new.self (c.in-Some.key.now, c.in-Some.value.now) c.in-Some.ensures.steps in
+    let due = comma_done c.members.is_first _ _ _ _ (125 ∷ []) c.append_comma.new.buf.items _ _ next c.members.invariant.underway c.in_ok-append_comma.ensures.ok in
+    let due = key_done _ _ _ (quoted_text key) value rest c.append_key.new.buf.items due c.in_ok-append_key.ensures.ok in
+    record {
+      underway = goes_on c.append.new.buf.items value rest due refl c.in_ok-append.ensures.ok;
+      room = omega arith;
+    }
+
+pub append_members-returns-in_err-append_key-clause-full : goal.append_members-returns-in_err-append_key-clause-full
+append_members-returns-in_err-append_key-clause-full t c =
+    let key = string_bytes c.in-Some.key.now in
+    let value = tree_text (view c.in-Some.value.now) in
+    let rest = texts_left false (member_texts (members_view c.next.new.self)) ++ 125 ∷ [] in
+    let next = next_member c.members.key-iterator c.next.new.self (c.in-Some.key.now, c.in-Some.value.now) c.in-Some.ensures.steps in
+    let due = comma_done c.members.is_first _ _ _ _ (125 ∷ []) c.append_comma.new.buf.items _ _ next c.members.invariant.underway c.in_ok-append_comma.ensures.ok in
+    let room = fits (quoted_text key ++ 58 ∷ []) (value ++ rest) due (key_split (quoted_text key) value rest) in
+    on_err c.from_residual-in_err-append_key.result (omega (arith, room, c.in_err-append_key.ensures.full))
+
+pub append_members-returns-in_err-append-clause-full : goal.append_members-returns-in_err-append-clause-full
+append_members-returns-in_err-append-clause-full t c =
+    let key = string_bytes c.in-Some.key.now in
+    let value = tree_text (view c.in-Some.value.now) in
+    let rest = texts_left false (member_texts (members_view c.next.new.self)) ++ 125 ∷ [] in
+    let next = next_member c.members.key-iterator c.next.new.self (c.in-Some.key.now, c.in-Some.value.now) c.in-Some.ensures.steps in
+    let due = comma_done c.members.is_first _ _ _ _ (125 ∷ []) c.append_comma.new.buf.items _ _ next c.members.invariant.underway c.in_ok-append_comma.ensures.ok in
+    let due = key_done _ _ _ (quoted_text key) value rest c.append_key.new.buf.items due c.in_ok-append_key.ensures.ok in
+    let room = fits value rest due refl in
+    on_err c.from_residual-in_err-append.result (omega (arith, room, c.in_err-append.ensures.full))

@@ -1,0 +1,5 @@
+use Rattle.jsonb_value.proofs.Writing.{reads_back}
+use Rattle.jsonb_value.proofs.value.text.string_texts_read_back.Goals as goal
+
+pub returns : goal.returns
+returns c = reads_back

@@ -1,0 +1,26 @@
+//! Laws of numbers. Each is the contract of a function that does nothing.
+
+ghost use Rattle.std.specs.Prelude.{ℕ, ℤ, ◌<◌, ◌^◌, FitsSigned};
+ghost use Rattle.std.specs.Int.{w64};
+ghost use Rattle.jsonb_value.specs.Cast.{HasValue, HasNearest};
+ghost use Rattle.jsonb_value.specs.ReadsBack.{ReadsBack, ReadsBackAsDecimal, HasFewDigits};
+ghost use Rattle.jsonb_value.specs.Tree.{Num};
+ghost use Rattle.jsonb_value.specs.View.{number_view};
+ghost use Rattle.jsonb_value.specs.declared.number.Number.TheVariants.{Int64, UInt64};
+
+/// A whole number is the nearest whole number of itself.
+pub fn exact_casts_are_nearest()
+    ensures { (x : Num) → (n : ℤ) → HasValue x n → HasNearest x n }
+{}
+
+/// What `{}` writes of an integer is a standard number text, and its number has the same value.
+pub fn integer_texts_read_back()
+    ensures signed { (z : ℤ) → FitsSigned w64 z → ReadsBack (number_view (Int64 z)) }
+    ensures unsigned { (n : ℕ) → n < 2 ^ 64 → ReadsBack (number_view (UInt64 n)) }
+{}
+
+/// What `{}` writes of a number with at most 38 digits is an extended decimal text of the same
+/// scale and whole number.
+pub fn decimal_texts_read_back()
+    ensures { (x : Num) → HasFewDigits x → ReadsBackAsDecimal x }
+{}

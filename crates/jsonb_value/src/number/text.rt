@@ -1,0 +1,176 @@
+// The text of a number.
+ghost use Rattle.std.specs.Prelude.{◌≡◌, ◌+◌, ◌≤◌, ◌<◌, ◌++◌, ◌^◌, length, replicate, pos, Some, IsAscii, IsOk, OnOk, OnErr, vec_len};
+ghost use Rattle.std.specs.Vec.{vec_capacity};
+ghost use Rattle.std.specs.Fmt.{sign_text, WritesOnOk};
+ghost use Rattle.jsonb_value.specs.NumberText.{number_text, text_of_parts, with_point, zero_padded};
+ghost use Rattle.jsonb_value.specs.TextParts.{joined};
+ghost use Rattle.jsonb_value.specs.View.{number_view};
+
+use crate::number::Number;
+use itoa::Buffer;
+use std::alloc::AllocError;
+use std::fmt;
+
+// The pieces of the text, in their order.
+#[derive(Clone, Copy)]
+struct TextParts<'a> {
+    sign: &'a str,
+    front: &'a str,
+    point: &'a str,
+    zeros: usize,
+    back: &'a str,
+}
+
+impl<'a> TextParts<'a> {
+    // The text of a whole number, which has no point.
+    fn whole(digits: &'a str) -> TextParts<'a>
+        ensures { joined result ≡ digits.now }
+    {
+        TextParts {
+            sign: "",
+            front: digits,
+            point: "",
+            zeros: 0,
+            back: "",
+        }
+    }
+
+    fn len(&self) -> usize
+        requires { length (joined self.now) < 2 ^ 64 }
+        ensures { result ≡ length (joined self.now) }
+    {
+        self.sign.len() + self.front.len() + self.point.len() + self.zeros + self.back.len()
+    }
+
+    fn append_to(&self, buf: &mut Vec<u8>) -> Result<(), AllocError>
+        requires { vec_len buf.old + length (joined self.now) ≤ vec_capacity buf.old }
+        ensures succeeds { IsOk result }
+        ensures items { buf.new.items ≡ buf.old.items ++ joined self.now }
+        ensures capacity { vec_capacity buf.old ≤ vec_capacity buf.new }
+    {
+        buf.extend_from_slice(self.sign.as_bytes())?;
+        buf.extend_from_slice(self.front.as_bytes())?;
+        buf.extend_from_slice(self.point.as_bytes())?;
+        buf.resize(buf.len() + self.zeros, b'0')?;
+        buf.extend_from_slice(self.back.as_bytes())
+    }
+}
+
+fn sign_of(negative: bool) -> &'static str
+    ensures { result.now ≡ sign_text negative }
+{
+    if negative { "-" } else { "" }
+}
+
+fn signed_text(n: i64, buffer: &mut Buffer) -> &str
+    ensures text { result.now ≡ text_of_parts 0 n }
+    ensures short { length result.now ≤ 40 }
+{
+    buffer.format(n)
+}
+
+fn unsigned_text(n: u64, buffer: &mut Buffer) -> &str
+    ensures text { result.now ≡ text_of_parts 0 (pos n) }
+    ensures short { length result.now ≤ 40 }
+{
+    buffer.format(n)
+}
+
+// The pieces of a decimal, from its sign and the digits of its whole number.
+fn decimal_parts(scale: u8, negative: bool, digits: &str) -> TextParts<'_>
+    requires ascii { IsAscii digits.now }
+    requires some_digit { 0 < length digits.now }
+    requires few_digits { length digits.now ≤ 40 }
+    ensures text { joined result
+        ≡ sign_text negative ++ with_point scale (zero_padded (scale + 1) digits.now) }
+    ensures short { length (joined result) ≤ 258 }
+{
+    let sign = sign_of(negative);
+    let places = scale as usize;
+    if places == 0 {
+        return TextParts {
+            sign,
+            front: digits,
+            point: "",
+            zeros: 0,
+            back: "",
+        };
+    }
+    if places < digits.len() {
+        let (front, back) = digits.split_at(digits.len() - places);
+        return TextParts {
+            sign,
+            front,
+            point: ".",
+            zeros: 0,
+            back,
+        };
+    }
+    TextParts {
+        sign,
+        front: "0",
+        point: ".",
+        zeros: places - digits.len(),
+        back: digits,
+    }
+}
+
+impl Number {
+    fn text_parts<'a>(&self, buffer: &'a mut Buffer) -> TextParts<'a>
+        ensures text { joined result ≡ number_text (number_view self.now) }
+        ensures short { length (joined result) ≤ 258 }
+    {
+        match self {
+            Number::Int64(n) => TextParts::whole(signed_text(*n, buffer)),
+            Number::UInt64(n) => TextParts::whole(unsigned_text(*n, buffer)),
+            Number::Decimal64(_) | Number::Decimal128(_) => {
+                let (negative, magnitude) = self.sign_and_magnitude();
+                decimal_parts(self.scale(), negative, buffer.format(magnitude))
+            }
+        }
+    }
+
+    // Appends the text that `{}` writes. An integer takes one copy of its digits.
+    pub(crate) fn append_text(&self, buf: &mut Vec<u8>) -> Result<(), AllocError>
+        ensures ok { OnOk result (buf.new.items
+            ≡ buf.old.items ++ number_text (number_view self.now)) }
+        ensures err { OnErr result (buf.new.items ≡ buf.old.items) }
+        ensures full { OnErr result
+            (vec_capacity buf.old < vec_len buf.old + length (number_text (number_view self.now))) }
+        ensures capacity { vec_capacity buf.old ≤ vec_capacity buf.new }
+    {
+        let mut buffer = Buffer::new();
+        match self {
+            Number::Int64(n) => buf.extend_from_slice(signed_text(*n, &mut buffer).as_bytes()),
+            Number::UInt64(n) => buf.extend_from_slice(unsigned_text(*n, &mut buffer).as_bytes()),
+            Number::Decimal64(_) | Number::Decimal128(_) => {
+                let parts = self.text_parts(&mut buffer);
+                buf.reserve(parts.len())?;
+                parts.append_to(buf)
+            }
+        }
+    }
+}
+
+fn write_zeros<W: fmt::Write>(f: &mut fmt::Formatter<W>, count: usize) -> fmt::Result
+    ensures { WritesOnOk W.write_str_gives f.old result (replicate count 48) f.new }
+{
+    'zeros: for _ in 0..count {
+        f.write_str("0")?;
+    }
+    Ok(())
+}
+
+impl fmt::Display for Number {
+    ghost output = { λ n. Some (number_text (number_view n)) };
+
+    fn fmt<W: fmt::Write>(&self, f: &mut fmt::Formatter<W>) -> fmt::Result {
+        let mut buffer = Buffer::new();
+        let parts = self.text_parts(&mut buffer);
+        f.write_str(parts.sign)?;
+        f.write_str(parts.front)?;
+        f.write_str(parts.point)?;
+        write_zeros(f, parts.zeros)?;
+        f.write_str(parts.back)
+    }
+}

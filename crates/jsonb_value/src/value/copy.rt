@@ -1,0 +1,72 @@
+//! `clone` of a value, member by member. What is borrowed stays borrowed.
+ghost use Rattle.std.specs.Prelude.{◌≡◌, IfOk};
+ghost use Rattle.std.specs.Cow.{cow_str_bytes};
+ghost use Rattle.jsonb_value.specs.View.{view, trees_view, members_view, mark_view};
+
+use super::{Object, Value};
+use std::alloc::AllocError;
+use std::borrow::CowStr;
+use std::default::Emptied;
+
+impl<'a> Clone for Value<'a> {
+    ghost is_clone = { λ v w. view w ≡ view v };
+
+    fn clone(&self) -> Result<Value<'a>, AllocError> {
+        copy(self)
+    }
+}
+
+// Inlined into the loops, so that only containers are calls there.
+#[inline(always)]
+#[cycle(copy)]
+fn copy<'a>(value: &Value<'a>) -> Result<Value<'a>, AllocError>
+    ensures { IfOk result (λ v. view v ≡ view value.now) }
+{
+    match value {
+        Value::Null => Ok(Value::Null),
+        Value::Bool(b) => Ok(Value::Bool(*b)),
+        Value::String(text) => Ok(Value::String(copy_text(text)?)),
+        Value::Number(number) => Ok(Value::Number(number.clone()?)),
+        Value::Binary(bytes) => Ok(Value::Binary(*bytes)),
+        Value::Date(date) => Ok(Value::Date(date.clone()?)),
+        Value::Timestamp(time) => Ok(Value::Timestamp(time.clone()?)),
+        Value::TimestampTz(time) => Ok(Value::TimestampTz(time.clone()?)),
+        Value::Interval(interval) => Ok(Value::Interval(interval.clone()?)),
+        Value::Array(items) => Ok(Value::Array(copy_items(items)?)),
+        Value::Object(members) => Ok(Value::Object(copy_members(members)?)),
+    }
+}
+
+// `clone` of a `CowStr` says nothing of the variant.
+fn copy_text<'a>(text: &CowStr<'a>) -> Result<CowStr<'a>, AllocError>
+    ensures bytes { IfOk result (λ t. cow_str_bytes t ≡ cow_str_bytes text.now) }
+    ensures mark { IfOk result (λ t. mark_view t ≡ mark_view text.now) }
+{
+    match text {
+        CowStr::Borrowed(bytes) => Ok(CowStr::Borrowed(*bytes)),
+        CowStr::Owned(bytes) => Ok(CowStr::Owned(bytes.clone()?)),
+    }
+}
+
+#[cycle(copy)]
+fn copy_items<'a>(items: &Vec<Value<'a>>) -> Result<Vec<Value<'a>>, AllocError>
+    ensures { IfOk result (λ v. trees_view v.items ≡ trees_view items.now.items) }
+{
+    let mut copies = Vec::with_capacity(*items.allocator(), items.len())?;
+    'items: for item in items {
+        copies.push(copy(item)?)?;
+    }
+    Ok(copies)
+}
+
+#[cycle(copy)]
+fn copy_members<'a>(members: &Object<'a>) -> Result<Object<'a>, AllocError>
+    ensures { IfOk result (λ m. members_view m.entries ≡ members_view members.now.entries) }
+{
+    let mut copies = Object::emptied(members)?;
+    'members: for (key, value) in members.iter() {
+        let name = key.clone()?;
+        drop(copies.insert(name, copy(value)?)?);
+    }
+    Ok(copies)
+}

@@ -1,0 +1,142 @@
+//! The order of values: by kind, and then by what they hold.
+ghost use Rattle.std.specs.Prelude.{◌≡◌, refl};
+ghost use Rattle.std.specs.Cmp.{on_equiv, on_per, on_po, on_total, partial_equiv_from_equiv, eq_by_cmp_equiv, po};
+ghost use Rattle.std.specs.Ordering.{on, eq_by_cmp, as_partial_cmp};
+ghost use Rattle.jsonb_value.specs.Order.{rank, tree_cmp, trees_cmp, members_cmp, Below, Same, IsOneOrder};
+ghost use Rattle.jsonb_value.specs.OrderByContent.{IsByContent};
+ghost use Rattle.jsonb_value.specs.OrderLaws.{tree_cmp_total};
+ghost use Rattle.jsonb_value.specs.View.{view, trees_view, members_view};
+
+use super::{Object, Value};
+use std::cmp::Ordering;
+
+impl PartialEq for Value<'_> {
+    ghost eq = { on view (eq_by_cmp tree_cmp) };
+
+    ghost laws = { on_per view (partial_equiv_from_equiv (eq_by_cmp_equiv tree_cmp_total)) };
+
+    fn eq(&self, other: &Self) -> bool {
+        compare(self, other).is_eq()
+    }
+}
+
+impl Eq for Value<'_> {
+    ghost laws = { on_equiv view (eq_by_cmp_equiv tree_cmp_total) };
+}
+
+impl PartialOrd for Value<'_> {
+    ghost partial_cmp = { on view (as_partial_cmp tree_cmp) };
+
+    ghost laws = { on_po view (po tree_cmp_total (λ t u. refl)) };
+
+    fn partial_cmp(&self, other: &Self) -> Option<Ordering> {
+        Some(compare(self, other))
+    }
+}
+
+impl Ord for Value<'_> {
+    ghost cmp = { on view tree_cmp };
+
+    ghost total = { on_total view tree_cmp_total };
+
+    ghost matches_partial_cmp = { λ v w. refl };
+
+    ghost matches_eq = { λ v w. refl };
+
+    fn cmp(&self, other: &Self) -> Ordering {
+        compare(self, other)
+    }
+}
+
+/// The order of values is one total order, by kind and then by exact content.
+pub fn order_is_total()
+    ensures total { IsOneOrder Below Same }
+    ensures by_content { IsByContent Below Same }
+{}
+
+// Where the value's kind stands among the kinds.
+pub(super) fn rank(value: &Value) -> u8
+    ensures { result ≡ rank (view value.now) }
+{
+    match value {
+        Value::Binary(_) => 0,
+        Value::Date(_) => 1,
+        Value::Timestamp(_) => 2,
+        Value::TimestampTz(_) => 3,
+        Value::Interval(_) => 4,
+        Value::Bool(_) => 5,
+        Value::Number(_) => 6,
+        Value::String(_) => 7,
+        Value::Object(_) => 8,
+        Value::Array(_) => 9,
+        Value::Null => 10,
+    }
+}
+
+// Inlined into the loops, so that only containers are calls there.
+#[inline(always)]
+#[cycle(compare)]
+fn compare<'a>(left: &Value<'a>, right: &Value<'a>) -> Ordering
+    ensures { result ≡ tree_cmp (view left.now) (view right.now) }
+{
+    match (left, right) {
+        (Value::Binary(a), Value::Binary(b)) => a.cmp(b),
+        (Value::Date(a), Value::Date(b)) => a.cmp(b),
+        (Value::Timestamp(a), Value::Timestamp(b)) => a.cmp(b),
+        (Value::TimestampTz(a), Value::TimestampTz(b)) => a.cmp(b),
+        (Value::Interval(a), Value::Interval(b)) => a.cmp(b),
+        (Value::Bool(a), Value::Bool(b)) => a.cmp(b),
+        (Value::Number(a), Value::Number(b)) => a.cmp(b),
+        (Value::String(a), Value::String(b)) => a.cmp(b),
+        (Value::Object(a), Value::Object(b)) => compare_members(a, b),
+        (Value::Array(a), Value::Array(b)) => compare_items(a, b),
+        _ => rank(left).cmp(&rank(right)),
+    }
+}
+
+// The first two items that differ decide, and a front is below what goes on.
+#[cycle(compare)]
+fn compare_items<'a>(left: &Vec<Value<'a>>, right: &Vec<Value<'a>>) -> Ordering
+    ensures { result ≡ trees_cmp (trees_view left.now.items) (trees_view right.now.items) }
+{
+    'items: for (i, item) in left.iter().enumerate() {
+        if i >= right.len() {
+            return Ordering::Greater;
+        }
+        let order = compare(item, &right[i]);
+        if order.is_ne() {
+            return order;
+        }
+    }
+    if left.len() < right.len() {
+        Ordering::Less
+    } else {
+        Ordering::Equal
+    }
+}
+
+// The same of members, each by its key and then by its value.
+#[cycle(compare)]
+fn compare_members<'a>(left: &Object<'a>, right: &Object<'a>) -> Ordering
+    ensures { result ≡ members_cmp (members_view left.now.entries) (members_view right.now.entries) }
+{
+    let mut others = right.iter();
+    'members: for (key, value) in left.iter() {
+        let Some((other_key, other_value)) = others.next() else {
+            return Ordering::Greater;
+        };
+        let order = key.cmp(other_key);
+        if order.is_ne() {
+            return order;
+        }
+        let order = compare(value, other_value);
+        if order.is_ne() {
+            return order;
+        }
+    }
+    if others.next().is_some() {
+        Ordering::Less
+    } else {
+        Ordering::Equal
+    }
+}

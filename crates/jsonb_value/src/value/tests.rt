@@ -1,0 +1,214 @@
+use crate::error::{Error, ParseErrorCode};
+use crate::extension::{Date, Interval, Timestamp, TimestampTz};
+use crate::number::{Decimal64, Number};
+use crate::value::{Object, Value};
+use std::alloc::Global;
+use std::borrow::CowStr;
+use std::cmp::Ordering;
+use std::test::Fail;
+
+fn integer<'a>(value: u64) -> Value<'a> {
+    Value::Number(Number::UInt64(value))
+}
+
+fn object<'a>(alloc: Global, members: &[(&str, u64)]) -> Result<Value<'a>, Fail> {
+    let mut object = Object::new(alloc);
+    for (key, value) in members {
+        object.insert(String::from_str(alloc, key)?, integer(*value))?;
+    }
+    Ok(Value::Object(object))
+}
+
+fn phone<'a>(alloc: Global, kind: &'a str, number: u64) -> Result<Value<'a>, Fail> {
+    let mut phone = Object::new(alloc);
+    let kind = Value::String(CowStr::Borrowed(kind));
+    phone.insert(String::from_str(alloc, "type")?, kind)?;
+    phone.insert(String::from_str(alloc, "number")?, integer(number))?;
+    Ok(Value::Object(phone))
+}
+
+#[test]
+fn kinds_ascend(rt: HostRuntime) -> Result<(), Fail> {
+    let alloc = rt.alloc();
+    let kinds = vec![in alloc;
+        Value::Interval(Interval {
+            months: 0,
+            days: 0,
+            micros: 0
+        }),
+        Value::Bool(false),
+        Value::Bool(true),
+        integer(5),
+        Value::String(CowStr::Borrowed("a")),
+        object(alloc, &[])?,
+        Value::Array(Vec::new(alloc)),
+        Value::Null,
+    ]?;
+    for i in 0..kinds.len() {
+        for j in 0..kinds.len() {
+            assert_eq!(rt; kinds[i].cmp(&kinds[j]), i.cmp(&j), "{i}, {j}");
+        }
+    }
+    Ok(())
+}
+
+#[test]
+fn containers_compare_in_order(rt: HostRuntime) -> Result<(), Fail> {
+    let alloc = rt.alloc();
+    let front = object(alloc, &[("a", 1)])?;
+    assert_eq!(rt;
+        front.cmp(&object(alloc, &[("b", 0), ("a", 1)])?),
+        Ordering::Less
+    );
+    let key = object(alloc, &[("a", 2)])?;
+    assert_eq!(rt; key.cmp(&object(alloc, &[("b", 1)])?), Ordering::Less);
+    let whole = Value::Array(vec![in alloc; integer(1)]?);
+    let tenths = Number::Decimal64(Decimal64 {
+        scale: 1,
+        value: 10,
+    });
+    let decimal = Value::Array(vec![in alloc; Value::Number(tenths)]?);
+    assert!(rt; whole == decimal);
+    Ok(())
+}
+
+#[test]
+fn names_are_found_without_case(rt: HostRuntime) -> Result<(), Fail> {
+    let value = object(rt.alloc(), &[("AB", 1), ("aB", 2)])?;
+    let found = [
+        ("ab", Some(integer(1))),
+        ("aB", Some(integer(2))),
+        ("c", None),
+    ];
+    for (name, found) in &found {
+        assert_eq!(rt;
+            value.get_by_name_ignore_case(name),
+            found.as_ref(),
+            "{name}"
+        );
+    }
+    Ok(())
+}
+
+#[test]
+fn keys_of_objects_alone(rt: HostRuntime) -> Result<(), Fail> {
+    let alloc = rt.alloc();
+    let keys = vec![in alloc;
+        Value::String(CowStr::Borrowed("a")),
+        Value::String(CowStr::Borrowed("b")),
+    ]?;
+    let named = object(alloc, &[("b", 1), ("a", 2)])?;
+    assert_eq!(rt; named.object_keys(alloc)?, Some(Value::Array(keys)));
+    let items = Value::Array(vec![in alloc; integer(1)]?);
+    assert_eq!(rt; items.object_keys(alloc)?, None);
+    Ok(())
+}
+
+#[test]
+fn variants_are_those_of_values(rt: HostRuntime) {
+    assert!(rt; integer(1).eq_variant(&Value::Number(Number::Int64(2))));
+    assert!(rt; !integer(1).eq_variant(&Value::Null));
+}
+
+#[test]
+fn clones_are_equal(rt: HostRuntime) -> Result<(), Fail> {
+    let alloc = rt.alloc();
+    let phones = vec![in alloc;
+        phone(alloc, "home", 3720453)?,
+        phone(alloc, "work", 5062051)?,
+    ]?;
+    let mut person = Object::new(alloc);
+    let name = Value::String(CowStr::Borrowed("Fred"));
+    person.insert(String::from_str(alloc, "name")?, name)?;
+    person.insert(String::from_str(alloc, "phones")?, Value::Array(phones))?;
+    let person = Value::Object(person);
+    assert_eq!(rt; person.clone()?, person);
+
+    let key = ParseErrorCode::ObjectDuplicateKey(String::from_str(alloc, "a")?);
+    let refusal = Error::Syntax(key, 16);
+    assert_eq!(rt; refusal.clone()?, refusal);
+    Ok(())
+}
+
+#[test]
+fn texts_of_scalars(rt: HostRuntime) -> Result<(), Fail> {
+    let alloc = rt.alloc();
+    let nothing = Interval {
+        months: 0,
+        days: 0,
+        micros: 0,
+    };
+    let tenths = Number::Decimal64(Decimal64 {
+        scale: 1,
+        value: 10,
+    });
+    let rows = [
+        (Value::Null, "null"),
+        (Value::Bool(true), "true"),
+        (Value::Bool(false), "false"),
+        (Value::Number(Number::Int64(-5)), "-5"),
+        (Value::Number(tenths), "1.0"),
+        (Value::String(CowStr::Borrowed("\t")), r#""\t""#),
+        (
+            Value::String(CowStr::Borrowed("\\uD800\\u0041")),
+            r#""\\uD800\\u0041""#,
+        ),
+        (Value::Binary(b"\x00\xaf"), r#""00AF""#),
+        (Value::Interval(nothing), r#""00:00:00""#),
+    ];
+    for (value, text) in &rows {
+        let mut buf = Vec::from_slice(alloc, b"x")?;
+        value.write_text(&mut buf)?;
+        assert_eq!(rt; &buf[1..], text.as_bytes());
+    }
+    Ok(())
+}
+
+#[test]
+fn texts_of_containers(rt: HostRuntime) -> Result<(), Fail> {
+    let alloc = rt.alloc();
+    let mut escaped = Object::new(alloc);
+    let string = Value::String(CowStr::Borrowed("\u{1}\n"));
+    escaped.insert(String::from_str(alloc, "q\"")?, string)?;
+    let rows = vec![in alloc;
+        (Value::Object(escaped), r#"{"q\"":"\u0001\n"}"#),
+        (Value::Array(Vec::new(alloc)), "[]"),
+        (object(alloc, &[])?, "{}"),
+        (
+            Value::Array(vec![in alloc;
+                Value::Array(vec![in alloc; integer(1), Value::Null]?),
+                object(alloc, &[("b", 2), ("a", 1)])?,
+                Value::Array(Vec::new(alloc)),
+            ]?),
+            r#"[[1,null],{"a":1,"b":2},[]]"#,
+        ),
+    ]?;
+    for (value, text) in &rows {
+        let mut buf = Vec::new(alloc);
+        value.write_text(&mut buf)?;
+        assert_eq!(rt; buf.as_slice(), text.as_bytes());
+    }
+    Ok(())
+}
+
+#[test]
+fn values_with_dates_have_no_text(rt: HostRuntime) -> Result<(), Fail> {
+    let alloc = rt.alloc();
+    let mut members = Object::new(alloc);
+    let time = Value::Timestamp(Timestamp { value: 1 });
+    members.insert(String::from_str(alloc, "a")?, time)?;
+    let rows = vec![in alloc;
+        Value::Array(vec![in alloc; integer(1), Value::Date(Date { value: 1 })]?),
+        Value::Object(members),
+        Value::TimestampTz(TimestampTz {
+            offset: 0,
+            value: 1,
+        }),
+    ]?;
+    let mut buf = Vec::from_slice(alloc, b"x")?;
+    for value in &rows {
+        assert_eq!(rt; value.write_text(&mut buf), Err(Error::UnexpectedType));
+        assert_eq!(rt; buf.as_slice(), b"x".as_slice());
+    }
+    Ok(())
+}

@@ -1,0 +1,304 @@
+//! The text of a value: JSON with no blanks.
+ghost use Rattle.std.specs.Prelude.{ℕ, List, ◌≡◌, ◌≢◌, ◌↔◌, ◌⊎◌, ◌+◌, ◌<◌, ◌≤◌, ◌++◌, ◌∷◌, [], length, take, Some, None, IfErr, IfSome, IsErrOf, OnOk, OnErr, vec_len, string_bytes};
+ghost use Rattle.std.specs.Char.{digit_char};
+ghost use Rattle.std.specs.List.{flat_map};
+ghost use Rattle.std.specs.Str.{IsUtf8};
+ghost use Rattle.std.specs.Vec.{vec_capacity};
+ghost use Rattle.jsonb_value.specs.Appending.{Extends, comma_before};
+ghost use Rattle.jsonb_value.specs.BinaryText.{binary_text};
+ghost use Rattle.jsonb_value.specs.IntervalText.{interval_text};
+ghost use Rattle.jsonb_value.specs.Mode.{Mode};
+ghost use Rattle.jsonb_value.specs.ReadsBack.{StringReadsBack};
+ghost use Rattle.jsonb_value.specs.StringText.{byte_text, control_text, quoted_text};
+ghost use Rattle.jsonb_value.specs.Text.{has_text, items_have_texts, members_have_texts, in_quotes, tree_text, with_commas, item_texts, member_texts, text_of, Appends};
+ghost use Rattle.jsonb_value.specs.View.{view, trees_view, members_view};
+
+use super::{Object, Value};
+use crate::error::{Error, Result};
+use crate::extension::Interval;
+use crate::extension::text::append_binary;
+use std::alloc::AllocError;
+
+/// A law: what is written of a string reads back as the string, in each mode.
+pub fn string_texts_read_back()
+    ensures { (mode : Mode) → (text : List ℕ) → IsUtf8 text → StringReadsBack mode text }
+{}
+
+// What a function that appends answers. After a refusal the buffer may hold a part of the text.
+type Appended = std::result::Result<(), AllocError>;
+
+impl Value<'_> {
+    /// Appends the value's text: JSON with no blanks, members in the order of their keys, binary data
+    /// and intervals as strings. A value that holds a date or a time at any depth has no text, and is
+    /// refused with `UnexpectedType`. After a refusal `buf` has the same bytes as before.
+    pub fn write_text(&self, buf: &mut Vec<u8>) -> Result<()>
+        ensures ok { OnOk result (Appends (view self.now) buf.old.items buf.new.items) }
+        ensures err { OnErr result (buf.new.items ≡ buf.old.items) }
+        ensures unexpected { IsErrOf result Error.UnexpectedType ↔ (text_of (view self.now) ≡ None) }
+        ensures errors { IfErr result (λ e. (e ≡ Error.UnexpectedType) ⊎ (e ≡ Error.OutOfMemory)) }
+        ensures refused { IfErr result (λ e. e ≢ Error.OutOfMemory → text_of (view self.now) ≡ None) }
+        // Memory is refused only where the room for the whole text is missing.
+        ensures full { IsErrOf result Error.OutOfMemory → IfSome (text_of (view self.now))
+            (λ bytes. vec_capacity buf.old < vec_len buf.old + length bytes) }
+        ensures room { vec_capacity buf.old ≤ vec_capacity buf.new }
+    {
+        if !has_text(self) {
+            return Err(Error::UnexpectedType);
+        }
+        let old_len = buf.len();
+        if append(self, buf).is_err() {
+            buf.truncate(old_len);
+            return Err(Error::OutOfMemory);
+        }
+        Ok(())
+    }
+}
+
+// Whether no date and no time stands in the value. Inlined into the loops, so that only containers are calls there.
+#[inline(always)]
+#[cycle(has_text)]
+fn has_text<'a>(value: &Value<'a>) -> bool
+    ensures { result ≡ has_text (view value.now) }
+{
+    match value {
+        Value::Date(_) | Value::Timestamp(_) | Value::TimestampTz(_) => false,
+        Value::Array(items) => items_have_texts(items),
+        Value::Object(members) => members_have_texts(members),
+        Value::Null
+        | Value::Bool(_)
+        | Value::String(_)
+        | Value::Number(_)
+        | Value::Binary(_)
+        | Value::Interval(_) => true,
+    }
+}
+
+#[cycle(has_text)]
+fn items_have_texts<'a>(items: &Vec<Value<'a>>) -> bool
+    ensures { result ≡ items_have_texts (trees_view items.now.items) }
+{
+    'items: for item in items {
+        if !has_text(item) {
+            return false;
+        }
+    }
+    true
+}
+
+#[cycle(has_text)]
+fn members_have_texts<'a>(members: &Object<'a>) -> bool
+    ensures { result ≡ members_have_texts (members_view members.now.entries) }
+{
+    'members: for (_, value) in members.iter() {
+        if !has_text(value) {
+            return false;
+        }
+    }
+    true
+}
+
+// Inlined into the loops, so that only containers are calls there.
+#[inline(always)]
+#[cycle(append)]
+fn append<'a>(value: &Value<'a>, buf: &mut Vec<u8>) -> Appended
+    ensures ok { OnOk result (buf.new.items ≡ buf.old.items ++ tree_text (view value.now)) }
+    ensures kept { Extends buf.old.items buf.new.items }
+    ensures full { OnErr result
+        (vec_capacity buf.old < vec_len buf.old + length (tree_text (view value.now))) }
+    ensures room { vec_capacity buf.old ≤ vec_capacity buf.new }
+{
+    match value {
+        Value::Null => buf.extend_from_slice(b"null"),
+        Value::Bool(true) => buf.extend_from_slice(b"true"),
+        Value::Bool(false) => buf.extend_from_slice(b"false"),
+        Value::String(text) => append_string(text.as_str(), buf),
+        Value::Number(number) => number.append_text(buf),
+        Value::Binary(bytes) => append_quoted_binary(*bytes, buf),
+        Value::Interval(interval) => append_quoted_interval(interval, buf),
+        Value::Array(items) => append_items(items, buf),
+        Value::Object(members) => append_members(members, buf),
+        // These have no text, and are refused before.
+        Value::Date(_) | Value::Timestamp(_) | Value::TimestampTz(_) => Ok(()),
+    }
+}
+
+#[cycle(append)]
+fn append_items<'a>(items: &Vec<Value<'a>>, buf: &mut Vec<u8>) -> Appended
+    ensures ok { OnOk result (buf.new.items
+        ≡ buf.old.items ++ (91 ∷ with_commas (item_texts (trees_view items.now.items)) ++ 93 ∷ [])) }
+    ensures kept { Extends buf.old.items buf.new.items }
+    ensures full { OnErr result (vec_capacity buf.old < vec_len buf.old
+        + length (91 ∷ with_commas (item_texts (trees_view items.now.items)) ++ 93 ∷ [])) }
+    ensures room { vec_capacity buf.old ≤ vec_capacity buf.new }
+{
+    buf.extend_from_slice(b"[")?;
+    let mut is_first = true;
+    'items: for item in items {
+        append_comma(is_first, buf)?;
+        is_first = false;
+        append(item, buf)?;
+    }
+    buf.extend_from_slice(b"]")
+}
+
+#[cycle(append)]
+fn append_members<'a>(members: &Object<'a>, buf: &mut Vec<u8>) -> Appended
+    ensures ok { OnOk result (buf.new.items ≡ buf.old.items
+        ++ (123 ∷ with_commas (member_texts (members_view members.now.entries)) ++ 125 ∷ [])) }
+    ensures kept { Extends buf.old.items buf.new.items }
+    ensures full { OnErr result (vec_capacity buf.old < vec_len buf.old
+        + length (123 ∷ with_commas (member_texts (members_view members.now.entries)) ++ 125 ∷ [])) }
+    ensures room { vec_capacity buf.old ≤ vec_capacity buf.new }
+{
+    buf.extend_from_slice(b"{")?;
+    let mut is_first = true;
+    'members: for (key, value) in members.iter() {
+        append_comma(is_first, buf)?;
+        is_first = false;
+        append_key(key, buf)?;
+        append(value, buf)?;
+    }
+    buf.extend_from_slice(b"}")
+}
+
+// Appends the comma before an item or a member. The first has none.
+fn append_comma(is_first: bool, buf: &mut Vec<u8>) -> Appended
+    ensures ok { OnOk result (buf.new.items ≡ buf.old.items ++ comma_before is_first) }
+    ensures err { OnErr result (buf.new.items ≡ buf.old.items) }
+    ensures full { OnErr result
+        (vec_capacity buf.old < vec_len buf.old + length (comma_before is_first)) }
+    ensures room { vec_capacity buf.old ≤ vec_capacity buf.new }
+{
+    if is_first {
+        Ok(())
+    } else {
+        buf.extend_from_slice(b",")
+    }
+}
+
+// Appends a member's key and the colon after it.
+fn append_key(key: &String, buf: &mut Vec<u8>) -> Appended
+    ensures ok { OnOk result (buf.new.items
+        ≡ buf.old.items ++ (quoted_text (string_bytes key.now) ++ 58 ∷ [])) }
+    ensures kept { Extends buf.old.items buf.new.items }
+    ensures full { OnErr result (vec_capacity buf.old < vec_len buf.old
+        + length (quoted_text (string_bytes key.now) ++ 58 ∷ [])) }
+    ensures room { vec_capacity buf.old ≤ vec_capacity buf.new }
+{
+    append_string(key.as_str(), buf)?;
+    buf.extend_from_slice(b":")
+}
+
+fn append_quoted_binary(bytes: &[u8], buf: &mut Vec<u8>) -> Appended
+    ensures ok { OnOk result (buf.new.items ≡ buf.old.items ++ in_quotes (binary_text bytes.now)) }
+    ensures kept { Extends buf.old.items buf.new.items }
+    ensures full { OnErr result
+        (vec_capacity buf.old < vec_len buf.old + length (in_quotes (binary_text bytes.now))) }
+    ensures room { vec_capacity buf.old ≤ vec_capacity buf.new }
+{
+    buf.extend_from_slice(b"\"")?;
+    append_binary(bytes, buf)?;
+    buf.extend_from_slice(b"\"")
+}
+
+fn append_quoted_interval(interval: &Interval, buf: &mut Vec<u8>) -> Appended
+    ensures ok { OnOk result (buf.new.items ≡ buf.old.items
+        ++ in_quotes (interval_text interval.now.months interval.now.days interval.now.micros)) }
+    ensures kept { Extends buf.old.items buf.new.items }
+    ensures full { OnErr result (vec_capacity buf.old < vec_len buf.old + length
+        (in_quotes (interval_text interval.now.months interval.now.days interval.now.micros))) }
+    ensures room { vec_capacity buf.old ≤ vec_capacity buf.new }
+{
+    buf.extend_from_slice(b"\"")?;
+    interval.append_text(buf)?;
+    buf.extend_from_slice(b"\"")
+}
+
+fn append_string(text: &str, buf: &mut Vec<u8>) -> Appended
+    ensures ok { OnOk result (buf.new.items ≡ buf.old.items ++ quoted_text text.now) }
+    ensures kept { Extends buf.old.items buf.new.items }
+    ensures full { OnErr result
+        (vec_capacity buf.old < vec_len buf.old + length (quoted_text text.now)) }
+    ensures room { vec_capacity buf.old ≤ vec_capacity buf.new }
+{
+    buf.extend_from_slice(b"\"")?;
+    append_escaped(text.as_bytes(), buf)?;
+    buf.extend_from_slice(b"\"")
+}
+
+// Appends a string's bytes. Runs between escapes are copied whole.
+fn append_escaped(bytes: &[u8], buf: &mut Vec<u8>) -> Appended
+    ensures ok { OnOk result (buf.new.items ≡ buf.old.items ++ flat_map byte_text bytes.now) }
+    ensures kept { Extends buf.old.items buf.new.items }
+    ensures full { OnErr result
+        (vec_capacity buf.old < vec_len buf.old + length (flat_map byte_text bytes.now)) }
+    ensures room { vec_capacity buf.old ≤ vec_capacity buf.new }
+{
+    let mut rest = bytes;
+    'runs: loop {
+        let (run, others) = rest.split_at(run_len(rest));
+        buf.extend_from_slice(run)?;
+        let Some((byte, more)) = others.split_first() else {
+            return Ok(());
+        };
+        append_byte(*byte, buf)?;
+        rest = more;
+    }
+}
+
+// How many of the first bytes are written as they are.
+fn run_len(bytes: &[u8]) -> usize
+    ensures within { result ≤ length bytes.now }
+    ensures plain { flat_map byte_text (take result bytes.now) ≡ take result bytes.now }
+{
+    'bytes: for (i, byte) in bytes.iter().enumerate() {
+        if *byte < 0x20 || *byte == b'"' || *byte == b'\\' {
+            return i;
+        }
+    }
+    bytes.len()
+}
+
+// Appends a byte of a string, with an escape where it needs one.
+fn append_byte(byte: u8, buf: &mut Vec<u8>) -> Appended
+    ensures ok { OnOk result (buf.new.items ≡ buf.old.items ++ byte_text byte) }
+    ensures err { OnErr result (buf.new.items ≡ buf.old.items) }
+    ensures full { OnErr result (vec_capacity buf.old < vec_len buf.old + length (byte_text byte)) }
+    ensures room { vec_capacity buf.old ≤ vec_capacity buf.new }
+{
+    match byte {
+        b'"' => buf.extend_from_slice(b"\\\""),
+        b'\\' => buf.extend_from_slice(b"\\\\"),
+        b'\n' => buf.extend_from_slice(b"\\n"),
+        b'\r' => buf.extend_from_slice(b"\\r"),
+        b'\t' => buf.extend_from_slice(b"\\t"),
+        0..0x20 => buf.extend_from_slice(&control_text(byte)),
+        _ => buf.extend_from_slice(&[byte]),
+    }
+}
+
+// The escape of a control byte, by its number.
+fn control_text(byte: u8) -> [u8; 6]
+    ensures { result ≡ control_text byte }
+{
+    [
+        b'\\',
+        b'u',
+        b'0',
+        b'0',
+        hexadecimal_digit(byte / 16),
+        hexadecimal_digit(byte % 16),
+    ]
+}
+
+// The digit of a number below 16.
+fn hexadecimal_digit(value: u8) -> u8
+    requires { value < 16 }
+    ensures { result ≡ digit_char value }
+{
+    if value < 10 {
+        b'0' + value
+    } else {
+        b'a' + (value - 10)
+    }
+}
