@@ -6,6 +6,7 @@ pub mod Documents
 pub mod Faults
 pub mod Frames
 pub mod Laid
+pub mod Located
 pub mod Longer
 pub mod Markers
 pub mod NumberAutomaton

@@ -7,11 +7,13 @@ ghost use Rattle.jsonb_value.specs.Mode.{standard};
 ghost use Rattle.jsonb_value.specs.Tree.{Tree};
 ghost use Rattle.jsonb_value.specs.View.{view};
 ghost use Rattle.jsonb.specs.AstView.{ast_view};
+ghost use Rattle.jsonb.specs.Located.{IsLocated};
 ghost use Rattle.jsonb.specs.Parser.{rest_of, size_of, mode_of, Advances, IsFault, Gives, HoldsMarker};
 ghost use Rattle.jsonb.specs.Reading.{begins, fault_at};
 ghost use Rattle.jsonb.specs.Reading.Blank.{blank_length, skip_blanks};
 ghost use Rattle.jsonb.specs.Reading.Document.{document_from, document_of};
 ghost use Rattle.jsonb.specs.Refusals.{IsExplained};
+ghost use Rattle.jsonb.specs.Source.{source_view};
 
 mod ast;
 mod container;
@@ -55,6 +57,9 @@ impl<'a> JsonAst<'a> {
         // What stands at the place that is named, for the refusals that speak of a value, of what follows it, of depth, of a number
         // and of a key.
         ensures explained { IfErr result (IsExplained (mode_of mode) buf.now) }
+
+        // Each object's keys rise, and each key's spelling ends at the member's index.
+        ensures source { IfOk result (λ v. IsLocated (mode_of mode) buf.now (source_view v)) }
     {
         let mut parser = Parser {
             alloc,
@@ -183,6 +188,7 @@ impl<'a> Parser<'a> {
     fn parse_document(&mut self) -> Result<JsonAst<'a>>
         ensures reads { Gives ast_view result (document_from (size_of self.old) (mode_of self.old.mode) (skip_blanks (rest_of self.old))) }
         ensures memory { result ≡ Err Error.OutOfMemory → HoldsMarker self.old.buf.now }
+        ensures source { IfOk result (λ v. IsLocated (mode_of self.old.mode) self.old.buf.now (source_view v)) }
     {
         self.skip_blanks();
         if self.idx >= self.buf.len() {

@@ -2,13 +2,17 @@
 ghost use Rattle.std.specs.Prelude.{◌≡◌, ◌<◌, ◌≤◌, ◌⊎◌, length, MatchOption, OnOk, IfOk, MatchResult, Some, None, Err, false, map, ℕ, List, IsPermutation};
 ghost use Rattle.std.specs.Cow.{cow_str_bytes};
 ghost use Rattle.jsonb_value.specs.Grammar.{max_depth};
+ghost use Rattle.jsonb_value.specs.Mode as grammar;
 ghost use Rattle.jsonb_value.specs.Tree.{Tree};
 ghost use Rattle.jsonb_value.specs.View.{mark_view};
 ghost use Rattle.jsonb.specs.AstView.{ast_view, found_of};
+ghost use Rattle.jsonb.specs.Located.{IsLocated, KeyEndsAt, MembersAreLocated};
+ghost use Rattle.jsonb.specs.OpenSource.{AllIsLocated, FrameIsLocated, LastHasNoKey, PartIsLocated, PartsAreLocated, ReadIsLocated, StackIsLocated};
 ghost use Rattle.jsonb.specs.Parser.{rest_of, size_of, mode_of, Advances, Gives, HoldsMarker};
 ghost use Rattle.jsonb.specs.Reading.{begins};
 ghost use Rattle.jsonb.specs.Reading.Container.{is_left_out, first_repeat, spot_of, spot_cmp, object_or_fault, AreAscending};
 ghost use Rattle.jsonb.specs.Reading.Document.{value_at};
+ghost use Rattle.jsonb.specs.Source.{source_members_view, source_view};
 ghost use Rattle.jsonb.specs.Stack.{elements_from, element_from, member_start, array_within, object_within, open_of, add_part, next_part_at, PartBegins, depth_in, resumed, rest_from, ahead, Continues};
 
 use super::{JsonAst, Mode, Parser};
@@ -46,6 +50,7 @@ impl<'a> Parser<'a> {
         requires { self.old.idx ≤ size_of self.old }
         ensures reads { Gives (λ v. (ast_view v, rest_of self.new)) result (value_at (size_of self.old) (mode_of self.old.mode) max_depth (rest_of self.old)) }
         ensures memory { result ≡ Err Error.OutOfMemory → HoldsMarker self.old.buf.now }
+        ensures source { IfOk result (λ v. IsLocated (mode_of self.old.mode) self.old.buf.now (source_view v)) }
         ensures advances { Advances self.old self.new }
     {
         let mut stack = Vec::new(self.alloc);
@@ -67,6 +72,7 @@ impl<'a> Parser<'a> {
         ensures memory { result ≡ Err Error.OutOfMemory → HoldsMarker self.old.buf.now }
         ensures opened { OnOk result (length stack.old.items < length stack.new.items → HoldsMarker self.old.buf.now) }
         ensures onward { IfOk result (λ read. MatchOption read (length (rest_of self.new) < length (rest_of self.old)) (λ _. Unit {0})) }
+        ensures source { StackIsLocated (mode_of self.old.mode) self.old.buf.now stack.old.items → IfOk result (AllIsLocated (mode_of self.new.mode) self.new.buf.now stack.new.items) }
         ensures depth { OnOk result (length stack.new.items ≤ max_depth) }
         ensures advances { Advances self.old self.new }
     {
@@ -85,6 +91,7 @@ impl<'a> Parser<'a> {
         requires inside { self.old.idx ≤ size_of self.old }
         ensures reads { Continues (resumed self.old stack.old.items (array_within (size_of self.old) (mode_of self.old.mode) (depth_in stack.old.items) (rest_of self.old)))
             result self.new stack.new.items }
+        ensures source { StackIsLocated (mode_of self.old.mode) self.old.buf.now stack.old.items → IfOk result (AllIsLocated (mode_of self.new.mode) self.new.buf.now stack.new.items) }
         ensures depth { OnOk result (length stack.new.items ≤ max_depth) }
         ensures advances { Advances self.old self.new }
     {
@@ -104,6 +111,7 @@ impl<'a> Parser<'a> {
     fn begin_element(&mut self) -> Option<JsonAst<'a>>
         ensures reads { (depth : ℕ) → (front : List Tree) → elements_from (size_of self.old) (mode_of self.old.mode) depth front (rest_of self.old)
             ≡ element_from (size_of self.old) (mode_of self.old.mode) depth front result (rest_of self.new) }
+        ensures source { (mode : grammar.Mode) → (input : List ℕ) → ReadIsLocated mode input result }
         ensures advances { Advances self.old self.new }
     {
         self.skip_blanks();
@@ -129,6 +137,7 @@ impl<'a> Parser<'a> {
         requires inside { self.old.idx ≤ size_of self.old }
         ensures reads { Continues (resumed self.old stack.old.items (object_within (size_of self.old) (mode_of self.old.mode) (depth_in stack.old.items) (rest_of self.old)))
             result self.new stack.new.items }
+        ensures source { StackIsLocated (mode_of self.old.mode) self.old.buf.now stack.old.items → IfOk result (AllIsLocated (mode_of self.new.mode) self.new.buf.now stack.new.items) }
         ensures depth { OnOk result (length stack.new.items ≤ max_depth) }
         ensures advances { Advances self.old self.new }
     {
@@ -153,6 +162,7 @@ impl<'a> Parser<'a> {
     fn begin_member(&mut self) -> Result<(CowStr<'a>, usize)>
         requires { self.old.idx ≤ size_of self.old }
         ensures reads { Gives (λ k. (((mark_view k.0, cow_str_bytes k.0), k.1), rest_of self.new)) result (member_start (size_of self.old) (mode_of self.old.mode) (rest_of self.old)) }
+        ensures source { IfOk result (λ k. KeyEndsAt (mode_of self.new.mode) self.new.buf.now k.1 (mark_view k.0, cow_str_bytes k.0)) }
         ensures advances { Advances self.old self.new }
     {
         self.skip_blanks();
@@ -177,6 +187,8 @@ impl<'a> Parser<'a> {
         requires inside { self.old.idx ≤ size_of self.old }
         ensures reads { Continues (ahead self.old stack.old.items (Some value.entry)) result self.new stack.new.items }
         ensures onward { OnOk result (length (rest_of self.new) < length (rest_of self.old)) }
+        ensures source { StackIsLocated (mode_of self.old.mode) self.old.buf.now stack.old.items → IsLocated (mode_of self.old.mode) self.old.buf.now (source_view value.entry)
+            → IfOk result (AllIsLocated (mode_of self.new.mode) self.new.buf.now stack.new.items) }
         ensures depth { OnOk result (length stack.new.items ≤ max_depth) }
         ensures advances { Advances self.old self.new }
     {
@@ -196,6 +208,7 @@ impl<'a> Parser<'a> {
         requires { self.old.idx ≤ size_of self.old }
         ensures reads { (depth : ℕ) → PartBegins (size_of self.old) (mode_of self.old.mode) depth (next_part_at (size_of self.old) (mode_of self.old.mode) depth (open_of frame.old) (rest_of self.old))
             result (open_of frame.new) (rest_of self.new) }
+        ensures source { PartsAreLocated (mode_of self.old.mode) self.old.buf.now frame.old → IfOk result (PartIsLocated (mode_of self.new.mode) self.new.buf.now frame.new) }
         ensures advances { Advances self.old self.new }
     {
         match frame {
@@ -216,6 +229,7 @@ impl<'a> Parser<'a> {
         requires other { begins 44 (rest_of self.old) ≡ false }
         ensures reads { Continues (rest_from self.old stack.old.items) result self.new stack.new.items }
         ensures onward { OnOk result (length (rest_of self.new) < length (rest_of self.old)) }
+        ensures source { LastHasNoKey (mode_of self.old.mode) self.old.buf.now stack.old.items → IfOk result (AllIsLocated (mode_of self.new.mode) self.new.buf.now stack.new.items) }
         ensures depth { OnOk result (length stack.new.items < length stack.old.items) }
         ensures advances { Advances self.old self.new }
     {
@@ -240,7 +254,9 @@ impl<'a> Parser<'a> {
 impl<'a> Frame<'a> {
     // Puts in the value that the container waits for.
     fn add(&mut self, value: JsonAst<'a>) -> Result<()>
-        ensures { MatchResult result (λ _. open_of self.new ≡ add_part (open_of self.old) (ast_view value.entry)) (λ e. e ≡ Error.OutOfMemory) }
+        ensures reads { MatchResult result (λ _. open_of self.new ≡ add_part (open_of self.old) (ast_view value.entry)) (λ e. e ≡ Error.OutOfMemory) }
+        ensures source { (mode : grammar.Mode) → (input : List ℕ) → FrameIsLocated mode input self.old → IsLocated mode input (source_view value.entry)
+            → OnOk result (PartsAreLocated mode input self.new) }
     {
         match self {
             Frame::Array(items) => items.push(value)?,
@@ -272,8 +288,10 @@ fn sort_members(members: &mut Vec<Member>)
 
 // The object of the members, in the order of their keys, where no two have one key.
 fn object_of<'a>(alloc: Global, mut members: Vec<Member<'a>>) -> Result<JsonAst<'a>>
-    ensures { (rest : List ℕ) → Gives (λ v. (ast_view v, rest)) result
+    ensures reads { (rest : List ℕ) → Gives (λ v. (ast_view v, rest)) result
         (object_or_fault (first_repeat (map spot_of (map found_of members.entry.items))) (map found_of members.entry.items) rest) }
+    ensures source { (mode : grammar.Mode) → (input : List ℕ) → MembersAreLocated mode input (source_members_view members.entry.items)
+        → IfOk result (λ v. IsLocated mode input (source_view v)) }
 {
     sort_members(&mut members);
     for i in 1..members.len() {

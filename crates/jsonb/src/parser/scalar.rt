@@ -1,10 +1,12 @@
 //! Values that hold no others, and keys.
-ghost use Rattle.std.specs.Prelude.{◌≡◌, ◌≤◌, Contains, Err};
+ghost use Rattle.std.specs.Prelude.{◌≡◌, ◌≤◌, Contains, Err, IfOk, false};
 ghost use Rattle.std.specs.Cow.{cow_str_bytes};
 ghost use Rattle.jsonb_value.specs.View.{mark_view};
 ghost use Rattle.jsonb.specs.AstView.{ast_view};
+ghost use Rattle.jsonb.specs.OpenSource.{holds_others};
 ghost use Rattle.jsonb.specs.Parser.{rest_of, size_of, mode_of, Advances, Gives};
 ghost use Rattle.jsonb.specs.Reading.Scalar.{begins_number, letters_at, word_at, quoted_at, number_or_fault, scalar_at, key_at};
+ghost use Rattle.jsonb.specs.Source.{source_view};
 
 use super::{JsonAst, Mode, Parser};
 use jsonb_value::error::{Error, ParseErrorCode, Result};
@@ -15,6 +17,7 @@ impl<'a> Parser<'a> {
     pub(super) fn parse_scalar(&mut self) -> Result<JsonAst<'a>>
         requires { self.old.idx ≤ size_of self.old }
         ensures reads { Gives (λ v. (ast_view v, rest_of self.new)) result (scalar_at (size_of self.old) (mode_of self.old.mode) (rest_of self.old)) }
+        ensures alone { IfOk result (λ v. holds_others (source_view v) ≡ false) }
         ensures memory { result ≡ Err Error.OutOfMemory → Contains self.old.buf.now 92 }
         ensures advances { Advances self.old self.new }
     {
@@ -37,6 +40,7 @@ impl<'a> Parser<'a> {
     fn parse_string_value(&mut self) -> Result<JsonAst<'a>>
         requires { self.old.idx ≤ size_of self.old }
         ensures reads { Gives (λ v. (ast_view v, rest_of self.new)) result (quoted_at (size_of self.old) (mode_of self.old.mode) 34 (rest_of self.old)) }
+        ensures alone { IfOk result (λ v. holds_others (source_view v) ≡ false) }
         ensures memory { result ≡ Err Error.OutOfMemory → Contains self.old.buf.now 92 }
         ensures advances { Advances self.old self.new }
     {
@@ -57,6 +61,7 @@ impl<'a> Parser<'a> {
     fn parse_number_value(&mut self) -> Result<JsonAst<'a>>
         requires { self.old.idx ≤ size_of self.old }
         ensures reads { Gives (λ v. (ast_view v, rest_of self.new)) result (number_or_fault (size_of self.old) (mode_of self.old.mode) (rest_of self.old)) }
+        ensures alone { IfOk result (λ v. holds_others (source_view v) ≡ false) }
         ensures memory { result ≡ Err Error.OutOfMemory → Contains self.old.buf.now 92 }
         ensures advances { Advances self.old self.new }
     {
@@ -74,6 +79,7 @@ impl<'a> Parser<'a> {
     // The value, where the word comes next.
     fn parse_literal(&mut self, word: &[u8], value: JsonAst<'a>) -> Result<JsonAst<'a>>
         ensures reads { Gives (λ v. (ast_view v, rest_of self.new)) result (word_at (size_of self.old) word.now (ast_view value.entry) (rest_of self.old)) }
+        ensures same { IfOk result (λ v. v ≡ value.entry) }
         ensures memory { result ≡ Err Error.OutOfMemory → Contains self.old.buf.now 92 }
         ensures advances { Advances self.old self.new }
     {

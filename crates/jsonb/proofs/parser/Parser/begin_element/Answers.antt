@@ -8,6 +8,7 @@ use Rattle.jsonb.specs.Stack.Open.{elements_so_far}
 use Rattle.jsonb.proofs.Frames.{element-due, element-left_out}
 use Rattle.jsonb.proofs.Stacks.{same_left_out}
 use Rattle.jsonb.proofs.Views.{view-Null}
+use Rattle.jsonb.proofs.Located.{null_located}
 use Rattle.jsonb.proofs.parser.Parser.begin_element.Goals as goal
 
 pub returns-then-is_left_out-clause-reads : goal.returns-then-is_left_out-clause-reads
@@ -24,3 +25,6 @@ returns-else-is_left_out-clause-reads c depth front =
     let q = c.skip_blanks.new.self in
     element-due (size_of p) (mode_of p.mode) depth front (rest_of p) (same_left_out p q c.skip_blanks.ensures.rest c.skip_blanks.ensures.advances ∙ sym c.is_left_out.ensures ∙ c.if-is_left_out.false)
     ∙ ap (λ r. value_at (size_of p) (mode_of p.mode) depth r >>= finish_open (size_of p) (mode_of p.mode) depth (elements_so_far front)) (sym c.skip_blanks.ensures.rest)
+
+pub returns-then-is_left_out-clause-source : goal.returns-then-is_left_out-clause-source
+returns-then-is_left_out-clause-source c mode input = null_located mode input

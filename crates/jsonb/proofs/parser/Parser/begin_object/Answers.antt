@@ -1,9 +1,14 @@
-use Rattle.std.proofs.Common.{◌≡◌, ap, sym, ◌∙◌, arith}
+use Rattle.jsonb.specs.Source.{source_members_view}
+use Rattle.jsonb.specs.Located.{MembersAreLocated}
+use Rattle.std.proofs.Common.{◌≡◌, ap, sym, ◌∙◌, arith, subst}
 use Rattle.std.proofs.lemmas.Result.{err_from_is_err_and}
-use Rattle.jsonb.specs.Parser.{rest_of}
+use Rattle.jsonb.specs.Parser.{rest_of, mode_of}
 use Rattle.jsonb.specs.Reading.{begins}
 use Rattle.jsonb.proofs.Scans.{goes_on}
 use Rattle.jsonb.proofs.Stacks.{object_entered, object_fails}
+use Rattle.jsonb.specs.OpenSource.{StackIsLocated}
+use Rattle.jsonb.specs.declared.parser.container.Frame.TheVariants as variants
+use Rattle.jsonb.proofs.Located.{empty_object_located, frame_pushed, later}
 use Rattle.jsonb.proofs.parser.Parser.begin_object.Goals as goal
 
 pub returns-in_err-key-clause-reads : goal.returns-in_err-key-clause-reads
@@ -30,3 +35,26 @@ returns-clause-reads c =
     (ap (λ r. rest_of r) unmoved ∙ c.skip_blanks.ensures.rest)
     (ap (λ r. begins 125 (rest_of r)) unmoved ∙ sym c.if-take_byte.ensures.found)
     c.new-members.ensures.items c.in_ok-push.ensures.items (omega arith) c.in_ok-key.ensures.reads
+
+pub returns-then-take_byte-clause-source : goal.returns-then-take_byte-clause-source
+returns-then-take_byte-clause-source c = λ h.
+    let p = c.args.self.now in
+    let s = c.skip_blanks.new.self in
+    let o = c.take_byte.new.self in (
+      later p o (λ m i. StackIsLocated m i c.args.stack.now.items) (goes_on p s o c.skip_blanks.ensures.advances c.take_byte.ensures.advances) h,
+      empty_object_located (mode_of o.mode) o.buf.now c.new-members.result c.new-members.ensures.items,
+    )
+
+pub returns-clause-source : goal.returns-clause-source
+returns-clause-source c = λ h.
+    let p = c.args.self.now in
+    let s = c.skip_blanks.new.self in
+    let o = c.take_byte.new.self in
+    let q = c.begin_member.new.self in
+    let on = goes_on p o q (goes_on p s o c.skip_blanks.ensures.advances c.take_byte.ensures.advances) c.begin_member.ensures.advances in
+    let f = variants.Object (record { members = c.new-members.result; key = c.in_ok-key.key; after = c.in_ok-key.after }) in (
+      subst (λ fs. StackIsLocated (mode_of q.mode) q.buf.now fs) (sym c.in_ok-push.ensures.items)
+          (frame_pushed (mode_of q.mode) q.buf.now c.args.stack.now.items f (later p q (λ m i. StackIsLocated m i c.args.stack.now.items) on h)
+          (subst (λ ms. MembersAreLocated (mode_of q.mode) q.buf.now (source_members_view ms)) (sym c.new-members.ensures.items) tt, c.in_ok-key.ensures.source)),
+      tt,
+    )

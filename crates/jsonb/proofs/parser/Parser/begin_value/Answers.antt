@@ -8,6 +8,9 @@ use Rattle.jsonb.specs.Stack.{ahead, depth_in, resume, resumed, stack_of}
 use Rattle.jsonb.proofs.Scans.{goes_on, contains_next}
 use Rattle.jsonb.proofs.Outcomes.{fails_same, fails_through}
 use Rattle.jsonb.proofs.Stacks.{array_begins, continues_from, object_begins, resumed_same, scalar_begins}
+use Rattle.jsonb.specs.OpenSource.{StackIsLocated}
+use Rattle.jsonb.specs.Source.{source_view}
+use Rattle.jsonb.proofs.Located.{alone_located, later}
 use Rattle.jsonb.proofs.parser.Parser.begin_value.Goals as goal
 
 on_ok : {A E : Type 0} {P : Type 0} (r : Result A E) → P → OnOk r P
@@ -72,3 +75,23 @@ returns-then-take_byte-2-clause-opened c =
     let here = ap (λ r. rest_of r) (sym c.if-take_byte.ensures.rest) ∙ c.if-take_byte-2.ensures.rest in
     let there = contains_next c.args.self.now.buf.now c.args.self.now.idx 123 (rest_of c.take_byte-2.new.self) here in
     on_ok c.begin_object.result (λ more. inr (inl there))
+
+pub returns-then-take_byte-clause-source : goal.returns-then-take_byte-clause-source
+returns-then-take_byte-clause-source c = λ h.
+    c.begin_array.ensures.source (later c.args.self.now c.take_byte.new.self (λ m i. StackIsLocated m i c.args.stack.now.items) c.take_byte.ensures.advances h)
+
+pub returns-then-take_byte-2-clause-source : goal.returns-then-take_byte-2-clause-source
+returns-then-take_byte-2-clause-source c = λ h.
+    let p = c.args.self.now in
+    let q = c.take_byte-2.new.self in
+    c.begin_object.ensures.source (later p q (λ m i. StackIsLocated m i c.args.stack.now.items) (goes_on p c.take_byte.new.self q c.take_byte.ensures.advances c.take_byte-2.ensures.advances) h)
+
+pub returns-clause-source : goal.returns-clause-source
+returns-clause-source c = λ h.
+    let p = c.args.self.now in
+    let q = c.take_byte.new.self in
+    let o = c.take_byte-2.new.self in
+    let m = c.parse_scalar.new.self in (
+      later p m (λ k i. StackIsLocated k i c.args.stack.now.items) (goes_on p q m c.take_byte.ensures.advances (goes_on q o m c.take_byte-2.ensures.advances c.parse_scalar.ensures.advances)) h,
+      alone_located (mode_of m.mode) m.buf.now (source_view c.in_ok-parse_scalar.field-0) c.in_ok-parse_scalar.ensures.alone,
+    )

@@ -1,4 +1,4 @@
-use Rattle.std.proofs.Common.{◌≡◌, [], ◌∷◌, ◌++◌, Err, map, ap, sym, ◌∙◌}
+use Rattle.std.proofs.Common.{◌≡◌, [], ◌∷◌, ◌++◌, Err, map, ap, sym, ◌∙◌, subst}
 use Rattle.std.proofs.lemmas.Result.{err_from_is_err_and}
 use Rattle.jsonb_value.specs.Code.Code.{expected_array_comma_or_end, expected_object_comma_or_end}
 use Rattle.jsonb.specs.AstView.{found_of}
@@ -8,6 +8,9 @@ use Rattle.jsonb.specs.Stack.{depth_in, object_end, rest_from, resume, resumed, 
 use Rattle.jsonb.proofs.Outcomes.{fails_same, fails_through}
 use Rattle.jsonb.proofs.Scans.{fails}
 use Rattle.jsonb.proofs.Stacks.{array_closed, array_unclosed, object_closed, object_unclosed}
+use Rattle.jsonb.specs.OpenSource.{LastHasNoKey}
+use Rattle.jsonb.specs.declared.parser.container.Frame.TheVariants as variants
+use Rattle.jsonb.proofs.Located.{array_located, last_split, later}
 use Rattle.jsonb.proofs.parser.Parser.close.Goals as goal
 
 pub returns-then-not-take_byte-clause-reads : goal.returns-then-not-take_byte-clause-reads
@@ -42,7 +45,7 @@ returns-in_err-object_of-in-Some-Object-clause-reads c =
     let end = object_end (map found_of c.in-Some-Object.object.members.items) (rest_of q) in
     rw (r.1, r.2) (fails_same e (resumed q gs end) (rest_from p c.args.stack.now.items)
     (object_closed p q c.args.stack.now.items gs c.in-Some-Object.object c.take_byte-in-Some-Object.ensures.advances (c.in-Some-Object.ensures.items ∙ ap (λ f. c.pop.new.self.items ++ f ∷ []) c.in-Some-Object.field-0-is) c.requires.depth c.if-not-take_byte-2.ensures.rest)
-    (fails_through e end (resume (size_of q) (mode_of q.mode) (depth_in gs) (stack_of gs)) (c.in_err-object_of-in-Some-Object.ensures (rest_of q))))
+    (fails_through e end (resume (size_of q) (mode_of q.mode) (depth_in gs) (stack_of gs)) (c.in_err-object_of-in-Some-Object.ensures.reads (rest_of q))))
 
 pub returns-in_ok-object_of-in-Some-Object-clause-reads : goal.returns-in_ok-object_of-in-Some-Object-clause-reads
 returns-in_ok-object_of-in-Some-Object-clause-reads c =
@@ -50,4 +53,20 @@ returns-in_ok-object_of-in-Some-Object-clause-reads c =
     let q = c.take_byte-in-Some-Object.new.self in
     let gs = c.pop.new.self.items in
     object_closed p q c.args.stack.now.items gs c.in-Some-Object.object c.take_byte-in-Some-Object.ensures.advances (c.in-Some-Object.ensures.items ∙ ap (λ f. c.pop.new.self.items ++ f ∷ []) c.in-Some-Object.field-0-is) c.requires.depth c.if-not-take_byte-2.ensures.rest
-    ∙ ap (λ r. resumed q gs r) (c.in_ok-object_of-in-Some-Object.ensures (rest_of q))
+    ∙ ap (λ r. resumed q gs r) (c.in_ok-object_of-in-Some-Object.ensures.reads (rest_of q))
+
+pub returns-else-not-take_byte-clause-source : goal.returns-else-not-take_byte-clause-source
+returns-else-not-take_byte-clause-source c = λ h.
+    let q = c.take_byte.new.self in
+    let gs = c.pop.new.self.items in
+    let here = later c.args.self.now q (λ m i. LastHasNoKey m i c.args.stack.now.items) c.take_byte.ensures.advances h in
+    let apart = last_split (mode_of q.mode) q.buf.now gs (variants.Array c.in-Some-Array.items) (subst (λ fs. LastHasNoKey (mode_of q.mode) q.buf.now fs) (c.in-Some-Array.ensures.items ∙ ap (λ f. gs ++ f ∷ []) c.in-Some-Array.field-0-is) here) in
+    (apart.0, array_located (mode_of q.mode) q.buf.now c.in-Some-Array.items apart.1)
+
+pub returns-in_ok-object_of-in-Some-Object-clause-source : goal.returns-in_ok-object_of-in-Some-Object-clause-source
+returns-in_ok-object_of-in-Some-Object-clause-source c = λ h.
+    let q = c.take_byte-in-Some-Object.new.self in
+    let gs = c.pop.new.self.items in
+    let here = later c.args.self.now q (λ m i. LastHasNoKey m i c.args.stack.now.items) c.take_byte-in-Some-Object.ensures.advances h in
+    let apart = last_split (mode_of q.mode) q.buf.now gs (variants.Object c.in-Some-Object.object) (subst (λ fs. LastHasNoKey (mode_of q.mode) q.buf.now fs) (c.in-Some-Object.ensures.items ∙ ap (λ f. gs ++ f ∷ []) c.in-Some-Object.field-0-is) here) in
+    (apart.0, c.in_ok-object_of-in-Some-Object.ensures.source (mode_of q.mode) q.buf.now apart.1)

@@ -8,6 +8,9 @@ use Rattle.jsonb.specs.Reading.Blank.{skip_blanks}
 use Rattle.jsonb.specs.Reading.Document.{document_from, value_at}
 use Rattle.jsonb.proofs.Outcomes.{fails_same, fails_through}
 use Rattle.jsonb.proofs.Whole.{document_some, ended, ends_trailing, ends_well}
+use Rattle.jsonb.specs.Located.{IsLocated}
+use Rattle.jsonb.specs.Source.{source_view}
+use Rattle.jsonb.proofs.Located.{earlier}
 use Rattle.jsonb.proofs.parser.Parser.parse_document.Goals as goal
 
 pub returns-in_err-value-clause-reads : goal.returns-in_err-value-clause-reads
@@ -39,3 +42,6 @@ returns-clause-reads c =
     document_some p q c.skip_blanks.ensures.rest c.skip_blanks.ensures.advances c.if-self.false
     ∙ ap (λ r. r >>= ended (size_of q)) c.in_ok-value.ensures.reads
     ∙ ends_well (size_of q) m n (ast_view c.in_ok-value.value) c.skip_blanks-2.ensures.rest c.if-self-2.false
+
+pub returns-clause-source : goal.returns-clause-source
+returns-clause-source c = earlier c.args.self.now c.skip_blanks.new.self (λ m i. IsLocated m i (source_view c.in_ok-value.value)) c.skip_blanks.ensures.advances c.in_ok-value.ensures.source

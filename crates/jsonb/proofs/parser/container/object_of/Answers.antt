@@ -2,13 +2,14 @@ use Rattle.std.proofs.Common.{◌≡◌, ◌+◌, ◌-◌, ◌<◌, List, ℕ, l
 use Rattle.jsonb_value.specs.Code.Code.{object_duplicate_key}
 use Rattle.jsonb.specs.AstView.{found_of}
 use Rattle.jsonb.specs.Reading.Container.{Spot, adjacent_repeat, spot_of}
+use Rattle.jsonb.proofs.Located.{object_located}
 use Rattle.jsonb.proofs.Objects.{Parsed, no_more_left, not_repeated, repeated, spots}
 use Rattle.jsonb.proofs.Shuffles.{agree_if, differ_if, neighbours_agree, neighbours_differ}
 use Rattle.jsonb.proofs.Views.{fuse}
 use Rattle.jsonb.proofs.parser.container.object_of.Goals as goal
 
-pub returns-then-eq : goal.returns-then-eq
-returns-then-eq c rest =
+pub returns-then-eq-clause-reads : goal.returns-then-eq-clause-reads
+returns-then-eq-clause-reads c rest =
     let new = c.sort_members.new.members.items in
     let i = c.loop-i.i in
     let a = c.index-earlier.result.now in
@@ -34,8 +35,14 @@ loop-i-preserved c =
     let here = neighbours_differ (λ (x : Parsed). spot_of (found_of x)) new i (omega arith) within a b c.index-earlier.ensures c.index-later.ensures other in
     c.loop-i.invariant ∙ subst (λ (ss : List Spot). adjacent_repeat (drop (i - 1) ss) ≡ adjacent_repeat (drop (i + 1 - 1) ss)) (sym (fuse found_of spot_of new)) here
 
-pub returns : goal.returns
-returns c rest =
+pub returns-clause-reads : goal.returns-clause-reads
+returns-clause-reads c rest =
     let v = c.sort_members.new.members in
     not_repeated c.args.members.items v.items c.sort_members.ensures.permutation c.sort_members.ensures.ascending v rest refl
     (c.loop-i.invariant ∙ no_more_left v.items c.loop-i.i (omega arith) (omega arith))
+
+pub returns-clause-source : goal.returns-clause-source
+returns-clause-source c mode input h =
+    let v = c.sort_members.new.members in
+    object_located mode input c.args.members.items v c.sort_members.ensures.permutation c.sort_members.ensures.ascending
+    (c.loop-i.invariant ∙ no_more_left v.items c.loop-i.i (omega arith) (omega arith)) h
