@@ -2,7 +2,7 @@
 ghost use Rattle.std.specs.Prelude.{◌≡◌, ◌<◌, ◌≤◌, ◌⊎◌, length, MatchOption, OnOk, IfOk, MatchResult, Some, None, Err, false, map, ℕ, List, IsPermutation};
 ghost use Rattle.std.specs.Cow.{cow_str_bytes};
 ghost use Rattle.jsonb_value.specs.Grammar.{max_depth};
-ghost use Rattle.jsonb_value.specs.Mode as grammar;
+ghost use Rattle.jsonb_value.specs.Mode.{Mode as Grammar};
 ghost use Rattle.jsonb_value.specs.Tree.{Tree};
 ghost use Rattle.jsonb_value.specs.View.{mark_view};
 ghost use Rattle.jsonb.specs.AstView.{ast_view, found_of};
@@ -111,7 +111,7 @@ impl<'a> Parser<'a> {
     fn begin_element(&mut self) -> Option<JsonAst<'a>>
         ensures reads { (depth : ℕ) → (front : List Tree) → elements_from (size_of self.old) (mode_of self.old.mode) depth front (rest_of self.old)
             ≡ element_from (size_of self.old) (mode_of self.old.mode) depth front result (rest_of self.new) }
-        ensures source { (mode : grammar.Mode) → (input : List ℕ) → ReadIsLocated mode input result }
+        ensures source { (mode : Grammar) → (input : List ℕ) → ReadIsLocated mode input result }
         ensures advances { Advances self.old self.new }
     {
         self.skip_blanks();
@@ -255,7 +255,7 @@ impl<'a> Frame<'a> {
     // Puts in the value that the container waits for.
     fn add(&mut self, value: JsonAst<'a>) -> Result<()>
         ensures reads { MatchResult result (λ _. open_of self.new ≡ add_part (open_of self.old) (ast_view value.entry)) (λ e. e ≡ Error.OutOfMemory) }
-        ensures source { (mode : grammar.Mode) → (input : List ℕ) → FrameIsLocated mode input self.old → IsLocated mode input (source_view value.entry)
+        ensures source { (mode : Grammar) → (input : List ℕ) → FrameIsLocated mode input self.old → IsLocated mode input (source_view value.entry)
             → OnOk result (PartsAreLocated mode input self.new) }
     {
         match self {
@@ -290,7 +290,7 @@ fn sort_members(members: &mut Vec<Member>)
 fn object_of<'a>(alloc: Global, mut members: Vec<Member<'a>>) -> Result<JsonAst<'a>>
     ensures reads { (rest : List ℕ) → Gives (λ v. (ast_view v, rest)) result
         (object_or_fault (first_repeat (map spot_of (map found_of members.entry.items))) (map found_of members.entry.items) rest) }
-    ensures source { (mode : grammar.Mode) → (input : List ℕ) → MembersAreLocated mode input (source_members_view members.entry.items)
+    ensures source { (mode : Grammar) → (input : List ℕ) → MembersAreLocated mode input (source_members_view members.entry.items)
         → IfOk result (λ v. IsLocated mode input (source_view v)) }
 {
     sort_members(&mut members);
