@@ -1,5 +1,5 @@
 -- Passing over blanks.
-use Rattle.std.proofs.Common.{◌≡◌, ℕ, zero, suc, ◌-◌, ◌<◌, ◌≤◌, Bool, true, false, cond, ◌||◌, ◌&&◌, inl, inr, List, [], ◌∷◌, ◌++◌, length, drop, refl, sym, ap, subst, ◌∙◌, append_assoc, length-append, arith, eqb, eqb-true}
+use Rattle.std.proofs.Common.{◌≡◌, MatchBool, ne_eqb, ℕ, zero, suc, ◌-◌, ◌<◌, ◌≤◌, Bool, true, false, cond, ◌||◌, ◌&&◌, inl, inr, List, [], ◌∷◌, ◌++◌, length, drop, refl, sym, ap, subst, ◌∙◌, append_assoc, length-append, arith, eqb, eqb-true}
 use Rattle.jsonb_value.specs.Blanks.{IsBlank, IsBlanks}
 use Rattle.jsonb_value.specs.Blanks.IsBlank.{space, tab, line_feed, form_feed, carriage_return, written_line_feed, written_carriage_return, written_tab, written_form_feed}
 use Rattle.jsonb_value.specs.Blanks.IsBlanks.{no_blanks, more_blanks}
@@ -35,6 +35,21 @@ blank_length-none b bytes e =
 pub skip-stop : (b : ℕ) (bytes : List ℕ) → is_blank_start b ≡ false → skip_blanks (b ∷ bytes) ≡ b ∷ bytes
 unfolding skip_from
 skip-stop b bytes e = ap (λ (n : ℕ). skip_chosen n (b ∷ bytes) (skip_from (blank_length (b ∷ bytes) - 1) bytes)) (blank_length-none b bytes e)
+
+-- above a space only a backslash begins a blank
+skip-above : (b : ℕ) (bytes : List ℕ) → 32 < b → eqb b 92 ≡ false → skip_blanks (b ∷ bytes) ≡ b ∷ bytes
+skip-above b bytes above other = skip-stop b bytes (none_of (eqb b 32) (eqb b 9) (eqb b 10) (eqb b 12) (eqb b 13) (eqb b 92) (lower 32 above) (lower 9 (omega arith)) (lower 10 (omega arith)) (lower 12 (omega arith)) (lower 13 (omega arith)) other)
+  where
+    lower : (c : ℕ) → c < b → eqb b c ≡ false
+    lower c h = ne_eqb b c (λ same. absurd (omega (arith, h, same)))
+
+    none_of : (p q r s t u : Bool) → p ≡ false → q ≡ false → r ≡ false → s ≡ false → t ≡ false → u ≡ false → (p || q || r || s || t || u) ≡ false
+    none_of p q r s t u e f g h i j = λ k. e k || f k || g k || h k || i k || j k
+
+-- whether a byte above a space may begin a blank
+pub skip-by_backslash : (b : ℕ) (bytes rest : List ℕ) → rest ≡ b ∷ bytes → 32 < b → (is : Bool) → eqb b 92 ≡ is → MatchBool is (Unit {0}) (skip_blanks rest ≡ rest)
+skip-by_backslash b bytes rest whole above true e = tt
+skip-by_backslash b bytes rest whole above false e = ap skip_blanks whole ∙ skip-above b bytes above e ∙ sym whole
 
 pub skip-nil : skip_blanks [] ≡ []
 unfolding skip_from

@@ -159,7 +159,29 @@ impl<'a> Parser<'a> {
         &self.buf[self.idx..]
     }
 
+    // Whether the next byte may begin a blank. Few bytes may, so this is asked before the call.
+    #[inline(always)]
+    fn may_begin_blank(&self) -> bool
+        ensures { MatchBool result (Unit {0}) (skip_blanks (rest_of self.now) ≡ rest_of self.now) }
+    {
+        match self.peek() {
+            Some(byte) => byte <= b' ' || byte == b'\\',
+            None => false,
+        }
+    }
+
+    #[inline(always)]
     fn skip_blanks(&mut self)
+        ensures rest { rest_of self.new ≡ skip_blanks (rest_of self.old) }
+        ensures advances { Advances self.old self.new }
+    {
+        if self.may_begin_blank() {
+            self.skip_run_of_blanks();
+        }
+    }
+
+    #[inline(never)]
+    fn skip_run_of_blanks(&mut self)
         ensures rest { rest_of self.new ≡ skip_blanks (rest_of self.old) }
         ensures advances { Advances self.old self.new }
     {

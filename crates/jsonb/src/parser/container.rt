@@ -159,6 +159,7 @@ impl<'a> Parser<'a> {
     }
 
     // A key with its colon, up to where its value is due, and the index after the key.
+    #[inline(always)]
     fn begin_member(&mut self) -> Result<(CowStr<'a>, usize)>
         requires { self.old.idx ≤ size_of self.old }
         ensures reads { Gives (λ k. (((mark_view k.0, cow_str_bytes k.0), k.1), rest_of self.new)) result (member_start (size_of self.old) (mode_of self.old.mode) (rest_of self.old)) }

@@ -77,6 +77,7 @@ impl<'a> Parser<'a> {
     }
 
     // The value, where the word comes next.
+    #[inline(always)]
     fn parse_literal(&mut self, word: &[u8], value: JsonAst<'a>) -> Result<JsonAst<'a>>
         ensures reads { Gives (λ v. (ast_view v, rest_of self.new)) result (word_at (size_of self.old) word.now (ast_view value.entry) (rest_of self.old)) }
         ensures same { IfOk result (λ v. v ≡ value.entry) }

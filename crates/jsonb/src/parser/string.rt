@@ -94,6 +94,7 @@ fn read_body<'a>(alloc: Global, body: &'a [u8], escaped: bool, idx: usize) -> Re
 
 impl<'a> Parser<'a> {
     // Reads a string from the byte after its opening quote on. It is borrowed where no backslash is in it.
+    #[inline(always)]
     pub(super) fn parse_quoted(&mut self, quote: u8) -> Result<CowStr<'a>>
         requires no_backslash { quote ≢ 92 }
         requires inside { self.old.idx ≤ size_of self.old }

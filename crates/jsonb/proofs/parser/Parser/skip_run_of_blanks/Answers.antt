@@ -3,7 +3,7 @@ use Rattle.jsonb.specs.Reading.Blank.{blank_length, skip_blanks}
 use Rattle.jsonb.specs.Parser.{rest_of}
 use Rattle.jsonb.proofs.Skips.{skip-none, skip-step, skip-nil}
 use Rattle.jsonb.proofs.Cursors.{nothing_left}
-use Rattle.jsonb.proofs.parser.Parser.skip_blanks.Goals as goal
+use Rattle.jsonb.proofs.parser.Parser.skip_run_of_blanks.Goals as goal
 
 pub returns-then-n-eq0-clause-rest : goal.returns-then-n-eq0-clause-rest
 returns-then-n-eq0-clause-rest c =
