@@ -1,6 +1,7 @@
 -- A text is read exactly where it is a document, and it is a document of one tree.
-use Rattle.std.proofs.Common.{◌≡◌, ℕ, zero, suc, ◌+◌, arith, List, [], ◌∷◌, ◌++◌, length, Ok, Err, sym, ap, subst, ◌∙◌, append-nil}
-use Rattle.jsonb_value.specs.Blanks.{IsBlanks}
+use Rattle.std.proofs.Common.{◌≡◌, ℕ, zero, suc, ◌+◌, ◌-◌, arith, false, true, List, [], ◌∷◌, ◌++◌, length, Ok, Err, refl, sym, ap, subst, ◌∙◌, append-nil, append_assoc}
+use Rattle.jsonb_value.specs.Blanks.{AreLastBlanks, IsBlanks}
+use Rattle.jsonb_value.specs.Blanks.AreLastBlanks.{blanks_to_end, line_to_end}
 use Rattle.jsonb_value.specs.Blanks.IsBlanks.{more_blanks, no_blanks}
 use Rattle.jsonb_value.specs.Grammar.{Derives, IsDocument, IsElement, IsJoined, IsMember, IsPadded, IsValue, max_depth}
 use Rattle.jsonb_value.specs.Grammar.IsDocument.{blanks_alone, value_alone}
@@ -9,42 +10,65 @@ use Rattle.jsonb_value.specs.Grammar.IsJoined.{more_parts, one_part}
 use Rattle.jsonb_value.specs.Grammar.IsMember.{key_and_value}
 use Rattle.jsonb_value.specs.Grammar.IsPadded.{padded}
 use Rattle.jsonb_value.specs.Grammar.IsValue.{empty_array, empty_object, full_array, full_object, scalar}
+use Rattle.jsonb_value.specs.Code.Code.{unexpected_trailing_characters}
 use Rattle.jsonb_value.specs.Mode.{Mode}
+use Rattle.jsonb_value.specs.Mode.Mode.{extended}
 use Rattle.jsonb_value.specs.Tree.{Member, Tree}
-use Rattle.jsonb.specs.Reading.{Fault, Read, ◌>>=◌}
-use Rattle.jsonb.specs.Reading.Blank.{skip_blanks}
-use Rattle.jsonb.specs.Reading.Document.{at_end, document_from, document_of, nothing_at, value_at}
-use Rattle.jsonb.proofs.Choices.{same_ok, same_read}
-use Rattle.jsonb.proofs.Parts.{ends-blank, skip-starts, starts-append}
+use Rattle.jsonb_value.specs.Tree.Tree.{null}
+use Rattle.jsonb.specs.Reading.{Fault, Read, fault, ◌>>=◌}
+use Rattle.jsonb.specs.Reading.Blank.{is_blank_start, opens_comment, pass_blanks}
+use Rattle.jsonb.specs.Reading.Document.{at_end, comment_at, document_from, document_of, nothing_at, value_at, value_to_end}
+use Rattle.jsonb.proofs.Choices.{if-false, if-true, same_ok, same_read}
+use Rattle.jsonb.proofs.Parts.{Ends, ends-blank, ends_at, other}
 use Rattle.jsonb.proofs.Scalars.{Follows, IsNumberTree}
 use Rattle.jsonb.proofs.Scalars.Follows.{before, no_more}
-use Rattle.jsonb.proofs.Skips.{skip-blanks, skip-nil}
+use Rattle.jsonb.proofs.Skips.{EndsPassed, all_passed, line_left, ends_passed, opens-stop, pass-blanks, pass-stop}
 use Rattle.jsonb.proofs.Values.{value_is_complete}
 
-follows-blanks : {mode : Mode} {after : List ℕ} (b : IsBlanks mode after) → Follows after
-follows-blanks no_blanks = no_more
-follows-blanks (more_blanks {rest = others} b bs) = before (ends-blank b others)
+follows-blanks : {mode : Mode} {after : List ℕ} (b : AreLastBlanks mode after) → Follows after
+follows-blanks (blanks_to_end no_blanks) = no_more
+follows-blanks (blanks_to_end (more_blanks {rest = others} b bs)) = before (ends-blank b others)
+follows-blanks (line_to_end inside is no_blanks one) = before (ends_at 47 (47 ∷ inside) refl)
+follows-blanks (line_to_end inside is (more_blanks {blank = blank} {rest = others} b bs) one) = before (subst Ends (sym (append_assoc blank others (47 ∷ 47 ∷ inside))) (ends-blank b (others ++ 47 ∷ 47 ∷ inside)))
 
-skip-only : {mode : Mode} {after : List ℕ} (b : IsBlanks mode after) → skip_blanks after ≡ []
-skip-only {mode} {after} b = ap (λ (u : List ℕ). skip_blanks u) (sym (append-nil after)) ∙ skip-blanks b [] ∙ skip-nil
+-- a line comment that ends a text
+comment_line : (size : ℕ) (mode : Mode) (t : Tree) (line : List ℕ) → opens_comment mode (47 ∷ 47 ∷ line) ≡ true → at_end size mode t (47 ∷ 47 ∷ line) ≡ Ok t
+comment_line size mode t line opens = if-true (opens_comment mode (47 ∷ 47 ∷ line)) (comment_at size t (47 ∷ line)) (fault unexpected_trailing_characters (size - length (47 ∷ 47 ∷ line) + 1)) opens
 
-padded_read : (mode : Mode) {bytes : List ℕ} {t : Tree} (p : IsPadded mode (Derives mode max_depth) bytes t) (size : ℕ) → document_from size mode (skip_blanks bytes) ≡ Ok t
-padded_read mode (padded {before = front} {core = core} {after = after} {a = t} b s c) size =
+end_read : (size : ℕ) (mode : Mode) (t : Tree) {after : List ℕ} (b : AreLastBlanks mode after) → at_end size mode t (pass_blanks mode after) ≡ Ok t
+end_read size mode t {after} b = by_end (ends_passed b)
+  where
+    by_end : EndsPassed mode after → at_end size mode t (pass_blanks mode after) ≡ Ok t
+    by_end (all_passed e) = ap (at_end size mode t) e
+    by_end (line_left line opens e) = ap (at_end size mode t) e ∙ comment_line size mode t line opens
+
+-- a text with a value
+value_document : (mode : Mode) (size : ℕ) {front after : List ℕ} (core : List ℕ) (t : Tree) → IsBlanks mode front → Derives mode max_depth core t → AreLastBlanks mode after → document_from size mode (pass_blanks mode (front ++ (core ++ after))) ≡ Ok t
+value_document mode size {front} {after} core t b s c =
     let complete = value_is_complete size mode max_depth in
     let st = complete.starts core t s in
-    let skipped : skip_blanks (front ++ (core ++ after)) ≡ core ++ after = skip-blanks b (core ++ after) ∙ skip-starts (core ++ after) (starts-append core after st) in
+    let blank : is_blank_start st.first ≡ false = (other st.first st.is_start).blank in
     let opened : core ++ after ≡ st.first ∷ (st.others ++ after) = ap (λ (u : List ℕ). u ++ after) st.whole in
-    ap (λ (u : List ℕ). document_from size mode u) (skipped ∙ opened)
-    ∙ ap (λ (u : List ℕ). value_at size mode max_depth u >>= λ (x : Tree × List ℕ). at_end size x.0 (skip_blanks x.1)) (sym opened)
-    ∙ ap (λ (r : Read Tree). r >>= λ (x : Tree × List ℕ). at_end size x.0 (skip_blanks x.1)) (complete.reads core t after s (λ n. follows-blanks c))
-    ∙ ap (λ (u : List ℕ). at_end size t u) (skip-only c)
+    let passed : pass_blanks mode (front ++ (core ++ after)) ≡ st.first ∷ (st.others ++ after) =
+    pass-blanks b (core ++ after) ∙ ap (pass_blanks mode) opened ∙ pass-stop mode st.first (st.others ++ after) blank in
+    ap (document_from size mode) passed
+    ∙ if-false (opens_comment mode (st.first ∷ (st.others ++ after))) (comment_at size null (st.others ++ after)) (value_to_end size mode (st.first ∷ (st.others ++ after))) (opens-stop mode st.first (st.others ++ after) blank)
+    ∙ ap (value_to_end size mode) (sym opened)
+    ∙ ap (λ (r : Read Tree). r >>= λ (x : Tree × List ℕ). at_end size mode x.0 (pass_blanks mode x.1)) (complete.reads core t after s (λ n. follows-blanks c))
+    ∙ end_read size mode t c
+
+blank_document : (mode : Mode) (size : ℕ) {bytes : List ℕ} → mode ≡ extended → AreLastBlanks mode bytes → document_from size mode (pass_blanks mode bytes) ≡ Ok null
+blank_document mode size {bytes} is b = by_end (ends_passed b)
+  where
+    by_end : EndsPassed mode bytes → document_from size mode (pass_blanks mode bytes) ≡ Ok null
+    by_end (all_passed e) = ap (document_from size mode) e ∙ ap (λ (m : Mode). nothing_at size m) is
+    by_end (line_left line opens e) = ap (document_from size mode) e ∙ if-true (opens_comment mode (47 ∷ 47 ∷ line)) (comment_at size null (47 ∷ line)) (value_to_end size mode (47 ∷ 47 ∷ line)) opens
 
 -- each document is read, as its tree
 pub document_complete : (mode : Mode) (bytes : List ℕ) (t : Tree) → IsDocument mode bytes t → document_of mode bytes ≡ Ok t
 unfolding document_of
-document_complete mode bytes t (value_alone p) = padded_read mode p (length bytes)
-document_complete mode bytes t (blanks_alone is_extended b) =
-    ap (λ (u : List ℕ). document_from (length bytes) mode u) (skip-only b) ∙ ap (λ (m : Mode). nothing_at (length bytes) m) is_extended
+document_complete mode bytes t (value_alone {core = core} b d c) = value_document mode (length bytes) core t b d c
+document_complete mode bytes t (blanks_alone is b) = blank_document mode (length bytes) is b
 
 -- what is refused is no document
 pub refused_is_none : (mode : Mode) (bytes : List ℕ) (f : Fault) → document_of mode bytes ≡ Err f → (t : Tree) → IsDocument mode bytes t → ⊥

@@ -1,8 +1,8 @@
 -- Reading by the open containers, against reading from left to right, over lists alone.
-use Rattle.std.proofs.Common.{◌≡◌, ℕ, zero, suc, ◌-◌, ◌<◌, ◌≤◌, true, false, cond, List, [], ◌∷◌, ◌++◌, length, Result, Ok, Err, refl, sym, ap, ◌∙◌, append_assoc, length-append, arith, eqb}
+use Rattle.std.proofs.Common.{◌≡◌, ℕ, zero, suc, ◌-◌, ◌<◌, ◌≤◌, true, false, cond, List, [], ◌∷◌, ◌++◌, length, Result, Ok, Err, ⊎_elim, refl, sym, ap, ◌∙◌, append_assoc, length-append, arith, eqb}
 use Rattle.jsonb_value.specs.Code.{Code}
 use Rattle.jsonb_value.specs.Code.Code.{expected_array_comma_or_end, expected_colon, expected_object_comma_or_end}
-use Rattle.jsonb_value.specs.ExtendedNumber.{Spells}
+use Rattle.std.proofs.lemmas.Bool.{cases_lt}
 use Rattle.jsonb_value.specs.Grammar.{Derives, IsElement}
 use Rattle.jsonb_value.specs.Mode.{Mode}
 use Rattle.jsonb_value.specs.Tree.{Mark, Tree}
@@ -17,7 +17,7 @@ use Rattle.jsonb.specs.Reading.Scalar.{key_at, scalar_at}
 use Rattle.jsonb.specs.Stack.{Open, array_end, array_within, elements_from, finish_open, member_start, members_from, object_end, object_within, parts_after, parts_from, resume}
 use Rattle.jsonb.specs.Stack.Open.{elements_so_far, members_so_far}
 use Rattle.jsonb.proofs.Choices.{if-false, if-true}
-use Rattle.jsonb.proofs.Parts.{IsSound, on_byte-none, other}
+use Rattle.jsonb.proofs.Parts.{IsSoundBefore, on_byte-none, other}
 use Rattle.jsonb.proofs.Skips.{length-skip}
 use Rattle.jsonb.proofs.Values.{IsFound, element_sound, member_sound, value_sound}
 
@@ -99,10 +99,9 @@ module _ {A : Type 0} (size : ℕ) (code : Code) (close : ℕ) (part : List ℕ 
 
 -- ---- elements and members
 
-pub sound-shrinks : {A : Type 0} (Spells : List ℕ → A → Type 0) (part : List ℕ → Read A) → IsSound Spells part → Shrinks part
+pub sound-shrinks : {A : Type 0} (Spells : List ℕ → A → Type 0) (part : List ℕ → Read A) → IsSoundBefore Spells part → Shrinks part
 sound-shrinks Spells part sound bytes x e =
-    let s = sound bytes x.0 x.1 e in
-    omega (arith, ap length s.whole, length-append s.core x.1)
+    ⊎_elim (λ (some : 0 < length x.1). let s = sound bytes x.0 x.1 e some in omega (arith, ap length s.whole, length-append s.core x.1)) (λ (none : length x.1 ≤ 0). omega (arith, none)) (cases_lt 0 (length x.1))
 
 module _ (size : ℕ) (mode : Mode) (depth : ℕ) where
   element-shrinks : Shrinks (element_at mode (value_at size mode depth))
@@ -112,47 +111,47 @@ module _ (size : ℕ) (mode : Mode) (depth : ℕ) where
   member-shrinks = sound-shrinks (IsFound mode (Derives mode depth) (value_at size mode depth)) (member_at size mode (value_at size mode depth)) (member_sound mode (Derives mode depth) (value_at size mode depth) size (value_sound size mode depth))
 
   elements-turn : (front : List Tree) (bytes : List ℕ) → elements_from size mode depth front bytes
-      ≡ (value_or_null mode (value_at size mode depth) (skip_blanks bytes) >>= finish_open size mode depth (elements_so_far front))
+      ≡ (value_or_null mode (value_at size mode depth) (skip_blanks mode bytes) >>= finish_open size mode depth (elements_so_far front))
   elements-turn front bytes =
       parts-turn size expected_array_comma_or_end 93 (element_at mode (value_at size mode depth)) element-shrinks array_end front bytes
-      ∙ then-then (value_or_null mode (value_at size mode depth) (skip_blanks bytes)) (λ (x : Tree × List ℕ). Ok (x.0, skip_blanks x.1))
+      ∙ then-then (value_or_null mode (value_at size mode depth) (skip_blanks mode bytes)) (λ (x : Tree × List ℕ). Ok (x.0, skip_blanks mode x.1))
       (λ (x : Tree × List ℕ). parts_after size expected_array_comma_or_end 93 (element_at mode (value_at size mode depth)) array_end (front ++ x.0 ∷ []) x.1)
 
-  pub element-due : (front : List Tree) (bytes : List ℕ) → is_left_out mode (skip_blanks bytes) ≡ false
-      → elements_from size mode depth front bytes ≡ (value_at size mode depth (skip_blanks bytes) >>= finish_open size mode depth (elements_so_far front))
+  pub element-due : (front : List Tree) (bytes : List ℕ) → is_left_out mode (skip_blanks mode bytes) ≡ false
+      → elements_from size mode depth front bytes ≡ (value_at size mode depth (skip_blanks mode bytes) >>= finish_open size mode depth (elements_so_far front))
   element-due front bytes e =
       elements-turn front bytes
-      ∙ ap (λ (r : Read Tree). r >>= finish_open size mode depth (elements_so_far front)) (if-false (is_left_out mode (skip_blanks bytes)) (Ok (null, skip_blanks bytes)) (value_at size mode depth (skip_blanks bytes)) e)
+      ∙ ap (λ (r : Read Tree). r >>= finish_open size mode depth (elements_so_far front)) (if-false (is_left_out mode (skip_blanks mode bytes)) (Ok (null, skip_blanks mode bytes)) (value_at size mode depth (skip_blanks mode bytes)) e)
 
-  pub element-left_out : (front : List Tree) (bytes : List ℕ) → is_left_out mode (skip_blanks bytes) ≡ true
-      → elements_from size mode depth front bytes ≡ finish_open size mode depth (elements_so_far front) (null, skip_blanks bytes)
+  pub element-left_out : (front : List Tree) (bytes : List ℕ) → is_left_out mode (skip_blanks mode bytes) ≡ true
+      → elements_from size mode depth front bytes ≡ finish_open size mode depth (elements_so_far front) (null, skip_blanks mode bytes)
   element-left_out front bytes e =
       elements-turn front bytes
-      ∙ ap (λ (r : Read Tree). r >>= finish_open size mode depth (elements_so_far front)) (if-true (is_left_out mode (skip_blanks bytes)) (Ok (null, skip_blanks bytes)) (value_at size mode depth (skip_blanks bytes)) e)
+      ∙ ap (λ (r : Read Tree). r >>= finish_open size mode depth (elements_so_far front)) (if-true (is_left_out mode (skip_blanks mode bytes)) (Ok (null, skip_blanks mode bytes)) (value_at size mode depth (skip_blanks mode bytes)) e)
 
-  pub array-begun : (bytes : List ℕ) → begins 93 (skip_blanks bytes) ≡ false → array_at size mode (value_at size mode depth) bytes ≡ elements_from size mode depth [] (skip_blanks bytes)
+  pub array-begun : (bytes : List ℕ) → begins 93 (skip_blanks mode bytes) ≡ false → array_at size mode (value_at size mode depth) bytes ≡ elements_from size mode depth [] (skip_blanks mode bytes)
   array-begun bytes e =
-      let fits : length (skip_blanks bytes) ≤ length bytes = length-skip bytes in
-      on_byte-none 93 (skip_blanks bytes) (λ (r : List ℕ). Ok (array no_trees, r)) (elements_at size mode (value_at size mode depth) bytes) e
+      let fits : length (skip_blanks mode bytes) ≤ length bytes = length-skip mode bytes in
+      on_byte-none 93 (skip_blanks mode bytes) (λ (r : List ℕ). Ok (array no_trees, r)) (elements_at size mode (value_at size mode depth) bytes) e
       ∙ ap (λ (r : Read (List Tree)). r >>= λ (x : List Tree × List ℕ). array_end x.0 x.1)
-      (enough_turns size expected_array_comma_or_end 93 (element_at mode (value_at size mode depth)) element-shrinks (suc (length bytes)) (suc (length (skip_blanks bytes))) (skip_blanks bytes) (omega arith) (omega arith))
+      (enough_turns size expected_array_comma_or_end 93 (element_at mode (value_at size mode depth)) element-shrinks (suc (length bytes)) (suc (length (skip_blanks mode bytes))) (skip_blanks mode bytes) (omega arith) (omega arith))
 
-  pub object-begun : (bytes : List ℕ) → begins 125 (skip_blanks bytes) ≡ false → object_at size mode (value_at size mode depth) bytes ≡ members_from size mode depth [] (skip_blanks bytes)
+  pub object-begun : (bytes : List ℕ) → begins 125 (skip_blanks mode bytes) ≡ false → object_at size mode (value_at size mode depth) bytes ≡ members_from size mode depth [] (skip_blanks mode bytes)
   object-begun bytes e =
-      let fits : length (skip_blanks bytes) ≤ length bytes = length-skip bytes in
-      on_byte-none 125 (skip_blanks bytes) (λ (r : List ℕ). Ok (object no_members, r)) (members_at size mode (value_at size mode depth) bytes) e
+      let fits : length (skip_blanks mode bytes) ≤ length bytes = length-skip mode bytes in
+      on_byte-none 125 (skip_blanks mode bytes) (λ (r : List ℕ). Ok (object no_members, r)) (members_at size mode (value_at size mode depth) bytes) e
       ∙ ap (λ (r : Read (List Found)). r >>= λ (x : List Found × List ℕ). object_end x.0 x.1)
-      (enough_turns size expected_object_comma_or_end 125 (member_at size mode (value_at size mode depth)) member-shrinks (suc (length bytes)) (suc (length (skip_blanks bytes))) (skip_blanks bytes) (omega arith) (omega arith))
+      (enough_turns size expected_object_comma_or_end 125 (member_at size mode (value_at size mode depth)) member-shrinks (suc (length bytes)) (suc (length (skip_blanks mode bytes))) (skip_blanks mode bytes) (omega arith) (omega arith))
 
   -- the key, and then the value that it waits for
   pub members-turn : (front : List Found) (bytes : List ℕ) → members_from size mode depth front bytes
       ≡ (member_start size mode bytes >>= λ k. value_at size mode depth k.1 >>= finish_open size mode depth (members_so_far front k.0.0 k.0.1))
   members-turn front bytes =
       parts-turn size expected_object_comma_or_end 125 (member_at size mode (value_at size mode depth)) member-shrinks object_end front bytes
-      ∙ then-then (key_at size mode (skip_blanks bytes)) (λ (k : (Mark × List ℕ) × List ℕ). after_key size (value_at size mode depth) k.0 (size - length k.1) (skip_blanks k.1)) added
-      ∙ then-same (key_at size mode (skip_blanks bytes)) (λ (k : (Mark × List ℕ) × List ℕ). after_key size (value_at size mode depth) k.0 (size - length k.1) (skip_blanks k.1) >>= added)
+      ∙ then-then (key_at size mode (skip_blanks mode bytes)) (λ (k : (Mark × List ℕ) × List ℕ). after_key size mode (value_at size mode depth) k.0 (size - length k.1) (skip_blanks mode k.1)) added
+      ∙ then-same (key_at size mode (skip_blanks mode bytes)) (λ (k : (Mark × List ℕ) × List ℕ). after_key size mode (value_at size mode depth) k.0 (size - length k.1) (skip_blanks mode k.1) >>= added)
       (λ (k : (Mark × List ℕ) × List ℕ). colon k >>= waits) keyed
-      ∙ sym (then-then (key_at size mode (skip_blanks bytes)) colon waits)
+      ∙ sym (then-then (key_at size mode (skip_blanks mode bytes)) colon waits)
     where
       added : Found × List ℕ → Read Tree
       added x = parts_after size expected_object_comma_or_end 125 (member_at size mode (value_at size mode depth)) object_end (front ++ x.0 ∷ []) x.1
@@ -161,18 +160,18 @@ module _ (size : ℕ) (mode : Mode) (depth : ℕ) where
       waits k = value_at size mode depth k.1 >>= finish_open size mode depth (members_so_far front k.0.0 k.0.1)
 
       colon : (Mark × List ℕ) × List ℕ → Read ((Mark × List ℕ) × ℕ)
-      colon k = on_byte 58 (skip_blanks k.1) (λ rest. Ok ((k.0, size - length k.1), skip_blanks rest)) (refused size expected_colon 0 (skip_blanks k.1))
+      colon k = on_byte 58 (skip_blanks mode k.1) (λ rest. Ok ((k.0, size - length k.1), skip_blanks mode rest)) (refused size expected_colon 0 (skip_blanks mode k.1))
 
-      padded-found : (key : Mark × List ℕ) (place : ℕ) (r : Read Tree) → (r >>= (λ (x : Tree × List ℕ). Ok (x.0, skip_blanks x.1)) >>= found_at key place >>= added) ≡ (r >>= finish_open size mode depth (members_so_far front key place))
+      padded-found : (key : Mark × List ℕ) (place : ℕ) (r : Read Tree) → (r >>= (λ (x : Tree × List ℕ). Ok (x.0, skip_blanks mode x.1)) >>= found_at key place >>= added) ≡ (r >>= finish_open size mode depth (members_so_far front key place))
       padded-found key place (Ok x) = refl
       padded-found key place (Err f) = refl
 
-      keyed : (k : (Mark × List ℕ) × List ℕ) → (after_key size (value_at size mode depth) k.0 (size - length k.1) (skip_blanks k.1) >>= added) ≡ (colon k >>= waits)
+      keyed : (k : (Mark × List ℕ) × List ℕ) → (after_key size mode (value_at size mode depth) k.0 (size - length k.1) (skip_blanks mode k.1) >>= added) ≡ (colon k >>= waits)
       keyed k =
-          on_byte-then 58 (skip_blanks k.1) (λ (r : List ℕ). padded_at (value_at size mode depth) r >>= found_at k.0 (size - length k.1)) (refused size expected_colon 0 (skip_blanks k.1)) added
-          ∙ on_byte-same 58 (skip_blanks k.1) (λ (r : List ℕ). padded_at (value_at size mode depth) r >>= found_at k.0 (size - length k.1) >>= added) (λ (r : List ℕ). value_at size mode depth (skip_blanks r) >>= finish_open size mode depth (members_so_far front k.0 (size - length k.1)))
-          (refused size expected_colon 0 (skip_blanks k.1)) (refused size expected_colon 0 (skip_blanks k.1)) (λ r less. padded-found k.0 (size - length k.1) (value_at size mode depth (skip_blanks r))) refl
-          ∙ sym (on_byte-then 58 (skip_blanks k.1) (λ (rest : List ℕ). Ok ((k.0, size - length k.1), skip_blanks rest)) (refused size expected_colon 0 (skip_blanks k.1)) waits)
+          on_byte-then 58 (skip_blanks mode k.1) (λ (r : List ℕ). padded_at mode (value_at size mode depth) r >>= found_at k.0 (size - length k.1)) (refused size expected_colon 0 (skip_blanks mode k.1)) added
+          ∙ on_byte-same 58 (skip_blanks mode k.1) (λ (r : List ℕ). padded_at mode (value_at size mode depth) r >>= found_at k.0 (size - length k.1) >>= added) (λ (r : List ℕ). value_at size mode depth (skip_blanks mode r) >>= finish_open size mode depth (members_so_far front k.0 (size - length k.1)))
+          (refused size expected_colon 0 (skip_blanks mode k.1)) (refused size expected_colon 0 (skip_blanks mode k.1)) (λ r less. padded-found k.0 (size - length k.1) (value_at size mode depth (skip_blanks mode r))) refl
+          ∙ sym (on_byte-then 58 (skip_blanks mode k.1) (λ (rest : List ℕ). Ok ((k.0, size - length k.1), skip_blanks mode rest)) (refused size expected_colon 0 (skip_blanks mode k.1)) waits)
 
 -- ---- values
 

@@ -21,7 +21,7 @@ use Rattle.jsonb.proofs.Choices.{bind_ok, if-false, refused_fails, same_read}
 use Rattle.jsonb.proofs.Parts.{IsSound, on_byte_cases, padded_sound}
 use Rattle.jsonb.proofs.Scalars.{key_sound, key_starts}
 use Rattle.jsonb.proofs.SecondPlaces.{AreRising, IsSecond, alike, count, has, once_before, rising-weaken, second_found, stands_there}
-use Rattle.jsonb.proofs.Skips.{passes}
+use Rattle.jsonb.proofs.Skips.{skips}
 
 -- ---- one member
 
@@ -44,22 +44,22 @@ record MemberRead (mode : Mode) (size : ℕ) (bytes : List ℕ) (f : Found) (res
   pub key_at : KeyAt mode size rest core f
 
 module _ (mode : Mode) (size : ℕ) (read : List ℕ → Read Tree) (sound : IsSound (IsSpelling mode) read) where
-  member_read : (bytes : List ℕ) (f : Found) (rest : List ℕ) → member_at size mode read bytes ≡ Ok (f, rest) → MemberRead mode size bytes f rest
-  member_read bytes f rest e =
-      let b = bind_ok (key_at size mode (skip_blanks bytes)) (λ (x : (Mark × List ℕ) × List ℕ). after_key size read x.0 (size - length x.1) (skip_blanks x.1)) (f, rest) e in
+  member_read : (bytes : List ℕ) (f : Found) (rest : List ℕ) → member_at size mode read bytes ≡ Ok (f, rest) → 0 < length rest → MemberRead mode size bytes f rest
+  member_read bytes f rest e left =
+      let b = bind_ok (key_at size mode (skip_blanks mode bytes)) (λ (x : (Mark × List ℕ) × List ℕ). after_key size mode read x.0 (size - length x.1) (skip_blanks mode x.1)) (f, rest) e in
       let k : Mark × List ℕ = b.0.0 in
       let place : ℕ = size - length b.0.1 in
-      let colon : List ℕ = skip_blanks b.0.1 in
-      let front = passes mode bytes in
-      let back = passes mode b.0.1 in
-      let s = key_sound size mode (skip_blanks bytes) k b.0.1 b.1 in
+      let colon : List ℕ = skip_blanks mode b.0.1 in
+      let s = key_sound size mode (skip_blanks mode bytes) k b.0.1 b.1 in
       let st = key_starts mode s.core k s.spells in
-      elim (on_byte_cases 58 colon (λ (r : List ℕ). padded_at read r >>= λ (x : Tree × List ℕ). found_at k place x) (refused size expected_colon 0 colon) (Ok (f, rest)) b.2) [
+      elim (on_byte_cases 58 colon (λ (r : List ℕ). padded_at mode read r >>= λ (x : Tree × List ℕ). found_at k place x) (refused size expected_colon 0 colon) (Ok (f, rest)) b.2) [
         | inl t ↦
-            let v = bind_ok (padded_at read t.0) (λ (x : Tree × List ℕ). found_at k place x) (f, rest) t.2 in
-            let right = padded_sound mode (IsSpelling mode) read sound t.0 v.0.0 v.0.1 v.1 in
+            let v = bind_ok (padded_at mode read t.0) (λ (x : Tree × List ℕ). found_at k place x) (f, rest) t.2 in
             let g : Found = record { mark = k.0; key = k.1; tree = v.0.0; place = place } in
             let same = same_read g f v.0.1 rest v.2 in
+            let right = padded_sound mode (IsSpelling mode) read sound t.0 v.0.0 v.0.1 v.1 (omega (arith, left, ap length same.rest)) in
+            let back = skips mode b.0.1 (omega (arith, ap length t.1)) in
+            let front = skips mode bytes (omega (arith, ap length s.whole, length-append s.core b.0.1, ap length st.whole)) in
             let after : List ℕ = back.blanks ++ 58 ∷ right.core in
             let core : List ℕ = (front.blanks ++ (s.core ++ back.blanks)) ++ 58 ∷ right.core in
             let after-is : b.0.1 ≡ after ++ v.0.1 = back.whole ∙ ap (λ (u : List ℕ). back.blanks ++ u) (t.1 ∙ ap (λ (u : List ℕ). 58 ∷ u) right.whole) ∙ sym (append_assoc back.blanks (58 ∷ right.core) v.0.1) in
@@ -101,9 +101,9 @@ module _ (mode : Mode) (size : ℕ) (read : List ℕ → Read Tree) (sound : IsS
       let b = bind_ok (part bytes) (λ (x : Found × List ℕ). after_part size expected_object_comma_or_end 125 part (joined_at size expected_object_comma_or_end 125 part n) x.0 x.1) (fs, rest) e in
       let f : Found = b.0.0 in
       let middle : List ℕ = b.0.1 in
-      let m = member_read mode size read sound bytes f middle b.1 in
       elim (on_byte_cases 44 middle (λ (t : List ℕ). joined_at size expected_object_comma_or_end 125 part n t >>= λ (x : List Found × List ℕ). Ok (f ∷ x.0, x.1)) (on_byte 125 middle (λ (t : List ℕ). Ok (f ∷ [], t)) (refused size expected_object_comma_or_end 0 middle)) (Ok (fs, rest)) b.2) [
         | inl t ↦
+            let m = member_read mode size read sound bytes f middle b.1 (omega (arith, ap length t.1)) in
             let c = bind_ok (joined_at size expected_object_comma_or_end 125 part n t.0) (λ (x : List Found × List ℕ). Ok (f ∷ x.0, x.1)) (fs, rest) t.2 in
             let h = members_laid n t.0 c.0.0 c.0.1 c.1 in
             let same = same_read (f ∷ c.0.0) fs c.0.1 rest c.2 in
@@ -132,6 +132,7 @@ module _ (mode : Mode) (size : ℕ) (read : List ℕ → Read Tree) (sound : IsS
         | inr g ↦
             elim (on_byte_cases 125 middle (λ (t : List ℕ). Ok (f ∷ [], t)) (refused size expected_object_comma_or_end 0 middle) (Ok (fs, rest)) g.1) [
               | inl t ↦
+                  let m = member_read mode size read sound bytes f middle b.1 (omega (arith, ap length t.1)) in
                   let same = same_read (f ∷ []) fs t.0 rest t.2 in
                   let k_at : KeyAt mode size (125 ∷ t.0) m.core f = subst (λ (u : List ℕ). KeyAt mode size u m.core f) t.1 m.key_at in
                   (m.core, subst₂ (λ (gs : List Found) (r : List ℕ). AreLaid mode size (125 ∷ r) m.core gs) same.value same.rest (last_laid m.spells k_at), m.whole ∙ ap (λ (u : List ℕ). m.core ++ u) (t.1 ∙ ap (λ (u : List ℕ). 125 ∷ u) same.rest))

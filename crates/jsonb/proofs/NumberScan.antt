@@ -104,7 +104,7 @@ fraction_fault_is bs start place within at =
 mark_inside : (bs : List ℕ) (start : ℕ) → IsExponentMark (slice_index bs start) → start < length bs
 mark_inside bs start mark = inside_of bs start (⊎_elim (λ e. omega (arith, e)) (λ e. omega (arith, e)) mark)
 
-sign_end_within : (bs : List ℕ) (start : ℕ) → start ≤ length bs → sign_end bs start ≤ length bs
+pub sign_end_within : (bs : List ℕ) (start : ℕ) → start ≤ length bs → sign_end bs start ≤ length bs
 sign_end_within bs start within =
     ⊎_elim (λ sign. rw sign (omega (arith, inside_of bs start (signed (slice_index bs start) sign)))) (λ no_sign. rw no_sign within) (cases_Bool (slice_index bs start == 43 || slice_index bs start == 45))
   where

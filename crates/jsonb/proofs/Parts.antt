@@ -1,7 +1,7 @@
 -- Parts of a text: what stands between blanks, and parts joined by commas. A reader of the parts gives a reader of the whole.
-use Rattle.std.proofs.Common.{◌≡◌, ℕ, zero, suc, ◌≤◌, Bool, true, false, cond, ◌||◌, ◌⊎◌, inl, inr, List, [], ◌∷◌, ◌++◌, length, Ok, refl, sym, ap, ap₂, map, subst, ◌∙◌, append_assoc, length-append, arith, eqb, eqb-true}
+use Rattle.std.proofs.Common.{◌≡◌, ℕ, zero, suc, ◌<◌, ◌≤◌, Bool, true, false, cond, ◌||◌, ◌⊎◌, ⊎_elim, inl, inr, List, [], ◌∷◌, ◌++◌, length, Ok, refl, sym, ap, ap₂, map, subst, ◌∙◌, append_assoc, length-append, arith, eqb, eqb-true}
 use Rattle.jsonb_value.specs.Blanks.{IsBlank, IsBlanks}
-use Rattle.jsonb_value.specs.Blanks.IsBlank.{carriage_return, form_feed, line_feed, space, tab, written_carriage_return, written_form_feed, written_line_feed, written_tab}
+use Rattle.jsonb_value.specs.Blanks.IsBlank.{block_comment, carriage_return, form_feed, line_comment, line_feed, space, tab, written_carriage_return, written_form_feed, written_line_feed, written_tab}
 use Rattle.jsonb_value.specs.Blanks.IsBlanks.{more_blanks, no_blanks}
 use Rattle.jsonb_value.specs.Code.{Code}
 use Rattle.jsonb_value.specs.Grammar.{IsJoined, IsPadded}
@@ -11,8 +11,8 @@ use Rattle.jsonb_value.specs.Mode.{Mode}
 use Rattle.jsonb.specs.Reading.{Read, begins, on_byte, refused, ◌>>=◌}
 use Rattle.jsonb.specs.Reading.Blank.{is_blank_start, is_break, skip_blanks}
 use Rattle.jsonb.specs.Reading.Container.{after_part, joined_at, padded_at}
-use Rattle.jsonb.proofs.Choices.{bind_ok, chosen, eqb_self, if-false, if-true, or_false, refused_fails, same_read}
-use Rattle.jsonb.proofs.Skips.{passes, skip-blanks, skip-stop}
+use Rattle.jsonb.proofs.Choices.{bind_ok, chosen, eqb_self, if-false, if-true, or_false, or_true, refused_fails, same_read}
+use Rattle.jsonb.proofs.Skips.{skip-blanks, skip-stop, skips}
 
 -- ---- bytes that begin and that end something
 
@@ -46,6 +46,23 @@ other b e =
     let s = or_false (is_blank_start b) (eqb b 44) r.first in
     record { blank = s.first; comma = s.second; colon = r.second; bracket = q.second; brace = p.second }
 
+-- what holds of each byte that may follow a value
+pub break_is : (b : ℕ) → is_break b ≡ true → (P : ℕ → Type 0) → P 32 → P 9 → P 10 → P 12 → P 13 → P 92 → P 47 → P 44 → P 58 → P 93 → P 125 → P b
+break_is b e P p32 p9 p10 p12 p13 p92 p47 p44 p58 p93 p125 =
+    or (is_blank_start b || eqb b 44 || eqb b 58 || eqb b 93) 125 e p125 (λ f.
+    or (is_blank_start b || eqb b 44 || eqb b 58) 93 f p93 (λ g.
+    or (is_blank_start b || eqb b 44) 58 g p58 (λ h.
+    or (is_blank_start b) 44 h p44 (λ i.
+    or (eqb b 32 || eqb b 9 || eqb b 10 || eqb b 12 || eqb b 13 || eqb b 92) 47 i p47 (λ j.
+    or (eqb b 32 || eqb b 9 || eqb b 10 || eqb b 12 || eqb b 13) 92 j p92 (λ k.
+    or (eqb b 32 || eqb b 9 || eqb b 10 || eqb b 12) 13 k p13 (λ l.
+    or (eqb b 32 || eqb b 9 || eqb b 10) 12 l p12 (λ m.
+    or (eqb b 32 || eqb b 9) 10 m p10 (λ n.
+    or (eqb b 32) 9 n p9 (λ o. subst P (sym (eqb-true b 32 o)) p32))))))))))
+  where
+    or : (a : Bool) (c : ℕ) → (a || eqb b c) ≡ true → P c → (a ≡ true → P b) → P b
+    or a c h here other = ⊎_elim other (λ same. subst P (sym (eqb-true b c same)) here) (or_true a (eqb b c) h)
+
 pub ends_at : (b : ℕ) (bytes : List ℕ) → is_break b ≡ true → Ends (b ∷ bytes)
 ends_at b bytes e = record { first = b; others = bytes; whole = refl; is_end = e }
 
@@ -59,6 +76,8 @@ ends-blank written_line_feed rest = ends_at 92 (110 ∷ rest) refl
 ends-blank written_carriage_return rest = ends_at 92 (114 ∷ rest) refl
 ends-blank written_tab rest = ends_at 92 (116 ∷ rest) refl
 ends-blank written_form_feed rest = ends_at 92 (120 ∷ 48 ∷ 67 ∷ rest) refl
+ends-blank (block_comment inside is lacks) rest = ends_at 47 (42 ∷ ((inside ++ 42 ∷ 47 ∷ []) ++ rest)) refl
+ends-blank (line_comment inside last is one ends) rest = ends_at 47 (47 ∷ ((inside ++ last ∷ []) ++ rest)) refl
 
 pub ends-blanks : {mode : Mode} {before : List ℕ} (b : IsBlanks mode before) (rest : List ℕ) → Ends rest → Ends (before ++ rest)
 ends-blanks no_blanks rest h = h
@@ -75,6 +94,10 @@ pub record Spelled {A : Type 0} (Spells : List ℕ → A → Type 0) (bytes : Li
 abbrev pub IsSound : {A : Type 0} → (List ℕ → A → Type 0) → (List ℕ → Read A) → Type 0
 IsSound {A} Spells read = (bytes : List ℕ) (a : A) (rest : List ℕ) → read bytes ≡ Ok (a, rest) → Spelled Spells bytes a rest
 
+-- The same of a reader that passes what may be no blank at the end of the bytes, where some are left.
+abbrev pub IsSoundBefore : {A : Type 0} → (List ℕ → A → Type 0) → (List ℕ → Read A) → Type 0
+IsSoundBefore {A} Spells read = (bytes : List ℕ) (a : A) (rest : List ℕ) → read bytes ≡ Ok (a, rest) → 0 < length rest → Spelled Spells bytes a rest
+
 -- Each spelling is read, where a byte follows that may follow.
 pub record IsComplete {A : Type 0} (Spells : List ℕ → A → Type 0) (read : List ℕ → Read A) : Type 0 where
   pub starts : (core : List ℕ) (a : A) → Spells core a → Starts core
@@ -85,20 +108,20 @@ pub record IsComplete {A : Type 0} (Spells : List ℕ → A → Type 0) (read : 
 pub starts-append : (core rest : List ℕ) → Starts core → Starts (core ++ rest)
 starts-append core rest s = record { first = s.first; others = s.others ++ rest; whole = ap (λ (t : List ℕ). t ++ rest) s.whole; is_start = s.is_start }
 
-pub skip-starts : (bytes : List ℕ) → Starts bytes → skip_blanks bytes ≡ bytes
-skip-starts bytes s = ap (λ (t : List ℕ). skip_blanks t) s.whole ∙ skip-stop s.first s.others (other s.first s.is_start).blank ∙ sym s.whole
+pub skip-starts : (mode : Mode) (bytes : List ℕ) → Starts bytes → skip_blanks mode bytes ≡ bytes
+skip-starts mode bytes s = ap (λ (t : List ℕ). skip_blanks mode t) s.whole ∙ skip-stop mode s.first s.others (other s.first s.is_start).blank ∙ sym s.whole
 
 module _ {A : Type 0} (mode : Mode) (Spells : List ℕ → A → Type 0) (read : List ℕ → Read A) where
-  pub padded_sound : IsSound Spells read → IsSound (IsPadded mode Spells) (padded_at read)
-  padded_sound sound bytes a rest e =
-      let b = bind_ok (read (skip_blanks bytes)) (λ (x : A × List ℕ). Ok (x.0, skip_blanks x.1)) (a, rest) e in
-      let same = same_read b.0.0 a (skip_blanks b.0.1) rest b.2 in
-      let front = passes mode bytes in
-      let back = passes mode b.0.1 in
-      let s = sound (skip_blanks bytes) b.0.0 b.0.1 b.1 in
-      let regrouped : bytes ≡ (front.blanks ++ (s.core ++ back.blanks)) ++ skip_blanks b.0.1 =
-      front.whole ∙ ap (λ (t : List ℕ). front.blanks ++ t) (s.whole ∙ ap (λ (t : List ℕ). s.core ++ t) back.whole ∙ sym (append_assoc s.core back.blanks (skip_blanks b.0.1)))
-      ∙ sym (append_assoc front.blanks (s.core ++ back.blanks) (skip_blanks b.0.1)) in
+  pub padded_sound : IsSound Spells read → IsSoundBefore (IsPadded mode Spells) (padded_at mode read)
+  padded_sound sound bytes a rest e left =
+      let b = bind_ok (read (skip_blanks mode bytes)) (λ (x : A × List ℕ). Ok (x.0, skip_blanks mode x.1)) (a, rest) e in
+      let same = same_read b.0.0 a (skip_blanks mode b.0.1) rest b.2 in
+      let back = skips mode b.0.1 (omega (arith, left, ap length same.rest)) in
+      let s = sound (skip_blanks mode bytes) b.0.0 b.0.1 b.1 in
+      let front = skips mode bytes (omega (arith, left, ap length same.rest, ap length back.whole, ap length s.whole, length-append s.core b.0.1, length-append back.blanks (skip_blanks mode b.0.1))) in
+      let regrouped : bytes ≡ (front.blanks ++ (s.core ++ back.blanks)) ++ skip_blanks mode b.0.1 =
+      front.whole ∙ ap (λ (t : List ℕ). front.blanks ++ t) (s.whole ∙ ap (λ (t : List ℕ). s.core ++ t) back.whole ∙ sym (append_assoc s.core back.blanks (skip_blanks mode b.0.1)))
+      ∙ sym (append_assoc front.blanks (s.core ++ back.blanks) (skip_blanks mode b.0.1)) in
       record {
         core = front.blanks ++ (s.core ++ back.blanks);
         spells = subst (λ (v : A). IsPadded mode Spells (front.blanks ++ (s.core ++ back.blanks)) v) same.value (padded front.are_blanks s.spells back.are_blanks);
@@ -111,7 +134,7 @@ module _ {A : Type 0} (mode : Mode) (Spells : List ℕ → A → Type 0) (read :
     pub after : List ℕ
     pub spells : Spells core a
     pub are_blanks : IsBlanks mode after
-    pub skipped : skip_blanks (bytes ++ rest) ≡ core ++ (after ++ rest)
+    pub skipped : skip_blanks mode (bytes ++ rest) ≡ core ++ (after ++ rest)
 
   pub skip-padded : IsComplete Spells read → (bytes : List ℕ) (a : A) (rest : List ℕ) → IsPadded mode Spells bytes a → Padded bytes a rest
   skip-padded complete bytes a rest (padded {before = before} {core = core} {after = after} b s c) =
@@ -121,18 +144,18 @@ module _ {A : Type 0} (mode : Mode) (Spells : List ℕ → A → Type 0) (read :
         spells = s;
         are_blanks = c;
         skipped =
-            ap (λ (t : List ℕ). skip_blanks t) (append_assoc before (core ++ after) rest) ∙ skip-blanks b ((core ++ after) ++ rest)
-            ∙ ap (λ (t : List ℕ). skip_blanks t) (append_assoc core after rest) ∙ skip-starts (core ++ (after ++ rest)) (starts-append core (after ++ rest) (complete.starts core a s));
+            ap (λ (t : List ℕ). skip_blanks mode t) (append_assoc before (core ++ after) rest) ∙ skip-blanks b ((core ++ after) ++ rest)
+            ∙ ap (λ (t : List ℕ). skip_blanks mode t) (append_assoc core after rest) ∙ skip-starts mode (core ++ (after ++ rest)) (starts-append core (after ++ rest) (complete.starts core a s));
       }
 
   pub padded_complete : IsComplete Spells read → (bytes : List ℕ) (a : A) (c : ℕ) (rest : List ℕ) → IsPadded mode Spells bytes a → is_break c ≡ true → is_blank_start c ≡ false
-      → padded_at read (bytes ++ c ∷ rest) ≡ Ok (a, c ∷ rest)
+      → padded_at mode read (bytes ++ c ∷ rest) ≡ Ok (a, c ∷ rest)
   padded_complete complete bytes a c rest p is_end is_none =
       let s = skip-padded complete bytes a (c ∷ rest) p in
       let r = complete.reads s.core a (s.after ++ c ∷ rest) s.spells (ends-blanks s.are_blanks (c ∷ rest) (ends_at c rest is_end)) in
-      let k : skip_blanks (s.after ++ c ∷ rest) ≡ c ∷ rest = skip-blanks s.are_blanks (c ∷ rest) ∙ skip-stop c rest is_none in
-      ap (λ (t : List ℕ). read t >>= λ (x : A × List ℕ). Ok (x.0, skip_blanks x.1)) s.skipped
-      ∙ ap (λ (q : Read A). q >>= λ (x : A × List ℕ). Ok (x.0, skip_blanks x.1)) r
+      let k : skip_blanks mode (s.after ++ c ∷ rest) ≡ c ∷ rest = skip-blanks s.are_blanks (c ∷ rest) ∙ skip-stop mode c rest is_none in
+      ap (λ (t : List ℕ). read t >>= λ (x : A × List ℕ). Ok (x.0, skip_blanks mode x.1)) s.skipped
+      ∙ ap (λ (q : Read A). q >>= λ (x : A × List ℕ). Ok (x.0, skip_blanks mode x.1)) r
       ∙ ap (λ (t : List ℕ). Ok (a, t)) k
 
 -- ---- a byte at the front
@@ -201,7 +224,7 @@ module _ {A F : Type 0} (view : F → A) (size : ℕ) (code : Code) (close : ℕ
       )
 
 module _ {A : Type 0} (size : ℕ) (code : Code) (close : ℕ) (Spells : List ℕ → A → Type 0) (part : List ℕ → Read A) where
-  pub joined_sound : IsSound Spells part → (n : ℕ) (bytes : List ℕ) (parts : List A) (rest : List ℕ) → joined_at size code close part n bytes ≡ Ok (parts, rest)
+  pub joined_sound : IsSoundBefore Spells part → (n : ℕ) (bytes : List ℕ) (parts : List A) (rest : List ℕ) → joined_at size code close part n bytes ≡ Ok (parts, rest)
       → (body : List ℕ) × IsJoined Spells body parts × (bytes ≡ body ++ close ∷ rest)
   unfolding joined_at
   joined_sound sound zero bytes parts rest e = absurd cc
@@ -209,9 +232,9 @@ module _ {A : Type 0} (size : ℕ) (code : Code) (close : ℕ) (Spells : List �
       let b = bind_ok (part bytes) (λ (x : A × List ℕ). after_part size code close part (joined_at size code close part n) x.0 x.1) (parts, rest) e in
       let a : A = b.0.0 in
       let middle : List ℕ = b.0.1 in
-      let s = sound bytes a middle b.1 in
       elim (on_byte_cases 44 middle (λ (t : List ℕ). joined_at size code close part n t >>= λ (x : List A × List ℕ). Ok (a ∷ x.0, x.1)) (on_byte close middle (λ (t : List ℕ). Ok (a ∷ [], t)) (refused size code 0 middle)) (Ok (parts, rest)) b.2) [
         | inl t ↦
+            let s = sound bytes a middle b.1 (omega (arith, ap length t.1)) in
             let c = bind_ok (joined_at size code close part n t.0) (λ (x : List A × List ℕ). Ok (a ∷ x.0, x.1)) (parts, rest) t.2 in
             let h = joined_sound sound n t.0 c.0.0 c.0.1 c.1 in
             let same = same_read (a ∷ c.0.0) parts c.0.1 rest c.2 in (
@@ -222,6 +245,7 @@ module _ {A : Type 0} (size : ℕ) (code : Code) (close : ℕ) (Spells : List �
         | inr f ↦
             elim (on_byte_cases close middle (λ (t : List ℕ). Ok (a ∷ [], t)) (refused size code 0 middle) (Ok (parts, rest)) f.1) [
               | inl t ↦
+                  let s = sound bytes a middle b.1 (omega (arith, ap length t.1)) in
                   let same = same_read (a ∷ []) parts t.0 rest t.2 in
                   (s.core, subst (λ (ps : List A). IsJoined Spells s.core ps) same.value (one_part s.spells), s.whole ∙ ap (λ (u : List ℕ). s.core ++ u) (t.1 ∙ ap (λ (u : List ℕ). close ∷ u) same.rest))
               | inr g ↦ absurd (refused_fails size code 0 middle (parts, rest) g.1)
@@ -229,7 +253,7 @@ module _ {A : Type 0} (size : ℕ) (code : Code) (close : ℕ) (Spells : List �
       ]
 
   -- blanks before the first part are passed by its reader
-  pub joined-skip : ((bytes : List ℕ) → part (skip_blanks bytes) ≡ part bytes) → (n : ℕ) (bytes : List ℕ) → joined_at size code close part n (skip_blanks bytes) ≡ joined_at size code close part n bytes
+  pub joined-skip : (mode : Mode) → ((bytes : List ℕ) → part (skip_blanks mode bytes) ≡ part bytes) → (n : ℕ) (bytes : List ℕ) → joined_at size code close part n (skip_blanks mode bytes) ≡ joined_at size code close part n bytes
   unfolding joined_at
-  joined-skip same zero bytes = refl
-  joined-skip same (suc n) bytes = ap (λ (r : Read A). r >>= λ (x : A × List ℕ). after_part size code close part (joined_at size code close part n) x.0 x.1) (same bytes)
+  joined-skip mode same zero bytes = refl
+  joined-skip mode same (suc n) bytes = ap (λ (r : Read A). r >>= λ (x : A × List ℕ). after_part size code close part (joined_at size code close part n) x.0 x.1) (same bytes)

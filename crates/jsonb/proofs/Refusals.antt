@@ -1,5 +1,5 @@
 -- What the faults of a reader say of the bytes that it read.
-use Rattle.std.proofs.Common.{◌≡◌, ℕ, zero, suc, ◌+◌, ◌-◌, ◌≤◌, false, ◌⊎◌, inl, inr, List, [], ◌∷◌, ◌++◌, length, map, Option, Some, None, Ok, Err, refl, sym, ap, subst, ◌∙◌, append_assoc, length-append, arith}
+use Rattle.std.proofs.Common.{◌≡◌, ℕ, zero, suc, ◌+◌, ◌-◌, ◌<◌, ◌≤◌, false, ◌⊎◌, inl, inr, List, [], ◌∷◌, ◌++◌, length, map, Option, Some, None, Ok, Err, refl, sym, ap, subst, ◌∙◌, append_assoc, length-append, arith}
 use Rattle.jsonb_value.specs.Blanks.{IsBlanks}
 use Rattle.jsonb_value.specs.Blanks.IsBlanks.{more_blanks, no_blanks}
 use Rattle.jsonb_value.specs.Code.{Code}
@@ -23,10 +23,10 @@ use Rattle.jsonb.specs.Refusals.IsFront.{blanks_alone, in_array, in_object}
 use Rattle.jsonb.proofs.Choices.{chosen}
 use Rattle.jsonb.proofs.Faults.{IsTold, bind_err, same_err, silent_fault, silent_refused}
 use Rattle.jsonb.proofs.Laid.{laid_repeats, members_laid}
-use Rattle.jsonb.proofs.Parts.{IsSound, joined-skip, on_byte_cases, padded_sound}
-use Rattle.jsonb.proofs.ScalarRefusals.{NotCarried, WrongScalar, key_silent, scalar_refused}
+use Rattle.jsonb.proofs.Parts.{IsSound, IsSoundBefore, joined-skip, on_byte_cases, padded_sound}
+use Rattle.jsonb.proofs.ScalarRefusals.{NotCarried, WrongScalar, key_silent, scalar_refused, scalar_some}
 use Rattle.jsonb.proofs.Scalars.{key_sound}
-use Rattle.jsonb.proofs.Skips.{length-skip, passes, skip-skip}
+use Rattle.jsonb.proofs.Skips.{length-skip, skip-skip, skips}
 use Rattle.jsonb.proofs.Values.{element_sound, member_sound, value_sound}
 
 -- ---- fronts
@@ -52,7 +52,7 @@ pub record BeginsNone (mode : Mode) (size : ℕ) (rest : List ℕ) (place : ℕ)
   pub whole : rest ≡ byte ∷ others
   pub at_byte : place ≡ size - length rest + 1
   pub begins_none : (depth : ℕ) (more : List ℕ) (t : Tree) → Derives mode depth (byte ∷ more) t → ⊥
-  pub none_skipped : skip_blanks rest ≡ rest
+  pub none_skipped : skip_blanks mode rest ≡ rest
 
 -- An array or an object begins, and no more may be opened.
 pub record Opens (left size : ℕ) (rest : List ℕ) (place : ℕ) : Type 0 where
@@ -90,22 +90,23 @@ pub record Stops (mode : Mode) (depth size : ℕ) (bytes : List ℕ) (f : Fault)
   pub left : ℕ
   pub sum : count + left ≡ depth
   pub is_front : IsFront mode front count
+  pub some : 0 < length rest
   pub wrong : Wrong mode left size rest f.code f.place
 
 -- Each fault of the reader that is told of says what is wrong with the bytes, which are no more than the whole input and begin with no blank.
 abbrev pub Explains : Mode → ℕ → ℕ → (List ℕ → Read Tree) → Type 0
-Explains mode depth size read = (bytes : List ℕ) (f : Fault) → length bytes ≤ size → skip_blanks bytes ≡ bytes → read bytes ≡ Err f → IsTold f.code → Stops mode depth size bytes f
+Explains mode depth size read = (bytes : List ℕ) (f : Fault) → length bytes ≤ size → skip_blanks mode bytes ≡ bytes → read bytes ≡ Err f → IsTold f.code → Stops mode depth size bytes f
 
 -- what is wrong with the bytes at once
-stops_here : (mode : Mode) (depth size : ℕ) (bytes : List ℕ) (f : Fault) → Wrong mode depth size bytes f.code f.place → Stops mode depth size bytes f
-stops_here mode depth size bytes f w =
+stops_here : (mode : Mode) (depth size : ℕ) (bytes : List ℕ) (f : Fault) → 0 < length bytes → Wrong mode depth size bytes f.code f.place → Stops mode depth size bytes f
+stops_here mode depth size bytes f some w =
     let sum : 0 + depth ≡ depth = omega arith in
-    record { front = []; rest = bytes; whole = refl; count = 0; left = depth; sum = sum; is_front = blanks_alone no_blanks; wrong = w }
+    record { front = []; rest = bytes; whole = refl; count = 0; left = depth; sum = sum; is_front = blanks_alone no_blanks; some = some; wrong = w }
 
 -- what is wrong after the blanks
-pub stops_after_blanks : (mode : Mode) (depth size : ℕ) (bytes : List ℕ) (f : Fault) → Stops mode depth size (skip_blanks bytes) f → Stops mode depth size bytes f
+pub stops_after_blanks : (mode : Mode) (depth size : ℕ) (bytes : List ℕ) (f : Fault) → Stops mode depth size (skip_blanks mode bytes) f → Stops mode depth size bytes f
 stops_after_blanks mode depth size bytes f s =
-    let p = passes mode bytes in
+    let p = skips mode bytes (omega (arith, s.some, ap length s.whole, length-append s.front s.rest)) in
     record {
       front = p.blanks ++ s.front;
       rest = s.rest;
@@ -114,6 +115,7 @@ stops_after_blanks mode depth size bytes f s =
       left = s.left;
       sum = s.sum;
       is_front = blanks_front p.are_blanks s.is_front;
+      some = s.some;
       wrong = s.wrong;
     }
 
@@ -133,6 +135,7 @@ stops_in_array mode depth size bytes passed rest f are_passed whole s =
       left = s.left;
       sum = more;
       is_front = in_array no_blanks are_passed s.is_front;
+      some = s.some;
       wrong = s.wrong;
     }
 
@@ -150,6 +153,7 @@ stops_in_object mode depth size bytes passed middle left rest f are_passed whole
       left = s.left;
       sum = more;
       is_front = in_object no_blanks are_passed is_key s.is_front;
+      some = s.some;
       wrong = s.wrong;
     }
 
@@ -166,7 +170,7 @@ derived_alone mode zero bytes t d p q = d
 derived_alone mode (suc depth) bytes t d p q = scalar_alone mode (Derives mode depth) bytes t d p q
 
 -- what is wrong with a scalar is wrong with a value that is neither an array nor an object
-wrong_scalar : (mode : Mode) (left size : ℕ) (bytes : List ℕ) (code : Code) (place : ℕ) → skip_blanks bytes ≡ bytes → begins 91 bytes ≡ false → begins 123 bytes ≡ false → WrongScalar mode size bytes code place → Wrong mode left size bytes code place
+wrong_scalar : (mode : Mode) (left size : ℕ) (bytes : List ℕ) (code : Code) (place : ℕ) → skip_blanks mode bytes ≡ bytes → begins 91 bytes ≡ false → begins 123 bytes ≡ false → WrongScalar mode size bytes code place → Wrong mode left size bytes code place
 wrong_scalar mode left size bytes number_not_carried place none p q w = w
 wrong_scalar mode left size bytes expected_some_value place none p q w =
     let bracket : begins 91 (w.byte ∷ w.others) ≡ false = subst (λ (u : List ℕ). begins 91 u ≡ false) w.whole p in
@@ -174,8 +178,8 @@ wrong_scalar mode left size bytes expected_some_value place none p q w =
     record { byte = w.byte; others = w.others; whole = w.whole; at_byte = w.at_byte; begins_none = λ m more t d. w.begins_none more t (derived_alone mode m (w.byte ∷ more) t d bracket brace); none_skipped = none }
 wrong_scalar mode left size bytes other place none p q w = absurd w
 
-no_value : (mode : Mode) (depth size : ℕ) (bytes : List ℕ) (f : Fault) → skip_blanks bytes ≡ bytes → begins 91 bytes ≡ false → begins 123 bytes ≡ false → WrongScalar mode size bytes f.code f.place → Stops mode depth size bytes f
-no_value mode depth size bytes f none p q w = stops_here mode depth size bytes f (wrong_scalar mode depth size bytes f.code f.place none p q w)
+no_value : (mode : Mode) (depth size : ℕ) (bytes : List ℕ) (f : Fault) → 0 < length bytes → skip_blanks mode bytes ≡ bytes → begins 91 bytes ≡ false → begins 123 bytes ≡ false → WrongScalar mode size bytes f.code f.place → Stops mode depth size bytes f
+no_value mode depth size bytes f some none p q w = stops_here mode depth size bytes f some (wrong_scalar mode depth size bytes f.code f.place none p q w)
 
 -- ---- parts joined by commas
 
@@ -189,7 +193,7 @@ pub record StopsInPart {A : Type 0} (Spells : List ℕ → A → Type 0) (part :
   pub fails : part rest ≡ Err f
 
 module _ {A : Type 0} (size : ℕ) (code : Code) (close : ℕ) (Spells : List ℕ → A → Type 0) (part : List ℕ → Read A) where
-  pub joined_refused : IsSound Spells part → (IsTold code → ⊥) → (n : ℕ) (bytes : List ℕ) (f : Fault) → joined_at size code close part n bytes ≡ Err f → IsTold f.code → StopsInPart Spells part bytes f
+  pub joined_refused : IsSoundBefore Spells part → (IsTold code → ⊥) → (n : ℕ) (bytes : List ℕ) (f : Fault) → joined_at size code close part n bytes ≡ Err f → IsTold f.code → StopsInPart Spells part bytes f
   unfolding joined_at
   joined_refused sound silent zero bytes f e told = absurd (silent_fault {B = List A × List ℕ} invalid_eof size f e (λ m. m) told)
   joined_refused sound silent (suc n) bytes f e told =
@@ -198,10 +202,10 @@ module _ {A : Type 0} (size : ℕ) (code : Code) (close : ℕ) (Spells : List �
         | inr h ↦
             let a : A = h.0.0 in
             let middle : List ℕ = h.0.1 in
-            let s = sound bytes a middle h.1 in
             elim (on_byte_cases 44 middle (λ (t : List ℕ). joined_at size code close part n t >>= λ (x : List A × List ℕ). Ok (a ∷ x.0, x.1)) (on_byte close middle (λ (t : List ℕ). Ok (a ∷ [], t)) (refused size code 0 middle)) (Err f) h.2) [
               | inl t ↦ elim (bind_err (joined_at size code close part n t.0) (λ (x : List A × List ℕ). Ok (a ∷ x.0, x.1)) f t.2) [
                 | inl g ↦
+                    let s = sound bytes a middle h.1 (omega (arith, ap length t.1)) in
                     let r = joined_refused sound silent n t.0 f g told in
                     record {
                       passed = s.core ++ 44 ∷ r.passed;
@@ -224,26 +228,26 @@ module _ {A : Type 0} (size : ℕ) (code : Code) (close : ℕ) (Spells : List �
 
 module _ (mode : Mode) (depth size : ℕ) (read : List ℕ → Read Tree) (sound : IsSound (IsSpelling mode) read) (explains : Explains mode depth size read) where
   -- a value after blanks
-  value_refused : (bytes : List ℕ) (f : Fault) → length bytes ≤ size → read (skip_blanks bytes) ≡ Err f → IsTold f.code → Stops mode depth size bytes f
-  value_refused bytes f h e told = stops_after_blanks mode depth size bytes f (explains (skip_blanks bytes) f (omega (arith, h, length-skip bytes)) (skip-skip bytes) e told)
+  value_refused : (bytes : List ℕ) (f : Fault) → length bytes ≤ size → read (skip_blanks mode bytes) ≡ Err f → IsTold f.code → Stops mode depth size bytes f
+  value_refused bytes f h e told = stops_after_blanks mode depth size bytes f (explains (skip_blanks mode bytes) f (omega (arith, h, length-skip mode bytes)) (skip-skip mode bytes) e told)
 
   element_refused : (bytes : List ℕ) (f : Fault) → length bytes ≤ size → element_at mode read bytes ≡ Err f → IsTold f.code → Stops mode depth size bytes f
   element_refused bytes f h e told =
-      elim (bind_err (value_or_null mode read (skip_blanks bytes)) (λ (x : Tree × List ℕ). Ok (x.0, skip_blanks x.1)) f e) [
-        | inl g ↦ elim (chosen (is_left_out mode (skip_blanks bytes)) (Ok (null, skip_blanks bytes)) (read (skip_blanks bytes)) (Err f) g) [
-          | inl k ↦ absurd (let never : ◌≡◌ {A = Read Tree} (Ok (null, skip_blanks bytes)) (Err f) = k.1 in cc)
+      elim (bind_err (value_or_null mode read (skip_blanks mode bytes)) (λ (x : Tree × List ℕ). Ok (x.0, skip_blanks mode x.1)) f e) [
+        | inl g ↦ elim (chosen (is_left_out mode (skip_blanks mode bytes)) (Ok (null, skip_blanks mode bytes)) (read (skip_blanks mode bytes)) (Err f) g) [
+          | inl k ↦ absurd (let never : ◌≡◌ {A = Read Tree} (Ok (null, skip_blanks mode bytes)) (Err f) = k.1 in cc)
           | inr k ↦ value_refused bytes f h k.1 told
         ]
-        | inr g ↦ absurd (let never : ◌≡◌ {A = Read Tree} (Ok (g.0.0, skip_blanks g.0.1)) (Err f) = g.2 in cc)
+        | inr g ↦ absurd (let never : ◌≡◌ {A = Read Tree} (Ok (g.0.0, skip_blanks mode g.0.1)) (Err f) = g.2 in cc)
       ]
 
   array_refused : (bytes : List ℕ) (f : Fault) → length (91 ∷ bytes) ≤ size → array_at size mode read bytes ≡ Err f → IsTold f.code → Stops mode (suc depth) size (91 ∷ bytes) f
   array_refused bytes f h e told =
-      elim (on_byte_cases 93 (skip_blanks bytes) (λ (r : List ℕ). Ok (array no_trees, r)) (elements_at size mode read bytes) (Err f) e) [
+      elim (on_byte_cases 93 (skip_blanks mode bytes) (λ (r : List ℕ). Ok (array no_trees, r)) (elements_at size mode read bytes) (Err f) e) [
         | inl g ↦ absurd (let never : ◌≡◌ {A = Read Tree} (Ok (array no_trees, g.0)) (Err f) = g.2 in cc)
-        | inr g ↦ elim (bind_err (joined_at size expected_array_comma_or_end 93 (element_at mode read) (suc (length bytes)) (skip_blanks bytes)) (λ (x : List Tree × List ℕ). Ok (array (trees_of x.0), x.1)) f g.1) [
+        | inr g ↦ elim (bind_err (joined_at size expected_array_comma_or_end 93 (element_at mode read) (suc (length bytes)) (skip_blanks mode bytes)) (λ (x : List Tree × List ℕ). Ok (array (trees_of x.0), x.1)) f g.1) [
           | inl k ↦
-              let again = sym (joined-skip size expected_array_comma_or_end 93 (IsElement mode (IsSpelling mode)) (element_at mode read) (λ u. ap (λ (w : List ℕ). value_or_null mode read w >>= λ (x : Tree × List ℕ). Ok (x.0, skip_blanks x.1)) (skip-skip u)) (suc (length bytes)) bytes) ∙ k in
+              let again = sym (joined-skip size expected_array_comma_or_end 93 (IsElement mode (IsSpelling mode)) (element_at mode read) mode (λ u. ap (λ (w : List ℕ). value_or_null mode read w >>= λ (x : Tree × List ℕ). Ok (x.0, skip_blanks mode x.1)) (skip-skip mode u)) (suc (length bytes)) bytes) ∙ k in
               let p = joined_refused size expected_array_comma_or_end 93 (IsElement mode (IsSpelling mode)) (element_at mode read) (element_sound mode (IsSpelling mode) read sound) (λ n. n) (suc (length bytes)) bytes f again told in
               let within : length p.rest ≤ size = rest_within size bytes p.passed p.rest (omega (arith, h)) p.whole in
               stops_in_array mode depth size bytes p.passed p.rest f p.are_passed p.whole (element_refused p.rest f within p.fails told)
@@ -258,23 +262,24 @@ module _ (mode : Mode) (depth size : ℕ) (read : List ℕ → Read Tree) (sound
     pub rest : List ℕ
     pub is_key : IsPadded mode (IsKey mode) left key
     pub whole : bytes ≡ left ++ 58 ∷ rest
-    pub fails : read (skip_blanks rest) ≡ Err f
+    pub fails : read (skip_blanks mode rest) ≡ Err f
 
   member_refused : (bytes : List ℕ) (f : Fault) → member_at size mode read bytes ≡ Err f → IsTold f.code → StopsInMember bytes f
   member_refused bytes f e told =
-      elim (bind_err (key_at size mode (skip_blanks bytes)) (λ (x : (Mark × List ℕ) × List ℕ). after_key size read x.0 (size - length x.1) (skip_blanks x.1)) f e) [
-        | inl g ↦ absurd (key_silent size mode (skip_blanks bytes) f g told)
+      elim (bind_err (key_at size mode (skip_blanks mode bytes)) (λ (x : (Mark × List ℕ) × List ℕ). after_key size mode read x.0 (size - length x.1) (skip_blanks mode x.1)) f e) [
+        | inl g ↦ absurd (key_silent size mode (skip_blanks mode bytes) f g told)
         | inr g ↦
             let k : Mark × List ℕ = g.0.0 in
             let place : ℕ = size - length g.0.1 in
-            let colon : List ℕ = skip_blanks g.0.1 in
-            let key_read : padded_at (key_at size mode) bytes ≡ Ok (k, colon) = ap (λ (r : Read (Mark × List ℕ)). r >>= λ (x : (Mark × List ℕ) × List ℕ). Ok (x.0, skip_blanks x.1)) g.1 in
-            let s = padded_sound mode (IsKey mode) (key_at size mode) (key_sound size mode) bytes k colon key_read in
-            elim (on_byte_cases 58 colon (λ (r : List ℕ). padded_at read r >>= λ (x : Tree × List ℕ). found_at k place x) (refused size expected_colon 0 colon) (Err f) g.2) [
-              | inl t ↦ elim (bind_err (padded_at read t.0) (λ (x : Tree × List ℕ). found_at k place x) f t.2) [
-                | inl v ↦ elim (bind_err (read (skip_blanks t.0)) (λ (x : Tree × List ℕ). Ok (x.0, skip_blanks x.1)) f v) [
-                  | inl w ↦ record { left = s.core; key = k; rest = t.0; is_key = s.spells; whole = s.whole ∙ ap (λ (u : List ℕ). s.core ++ u) t.1; fails = w }
-                  | inr w ↦ absurd (let never : ◌≡◌ {A = Read Tree} (Ok (w.0.0, skip_blanks w.0.1)) (Err f) = w.2 in cc)
+            let colon : List ℕ = skip_blanks mode g.0.1 in
+            let key_read : padded_at mode (key_at size mode) bytes ≡ Ok (k, colon) = ap (λ (r : Read (Mark × List ℕ)). r >>= λ (x : (Mark × List ℕ) × List ℕ). Ok (x.0, skip_blanks mode x.1)) g.1 in
+            elim (on_byte_cases 58 colon (λ (r : List ℕ). padded_at mode read r >>= λ (x : Tree × List ℕ). found_at k place x) (refused size expected_colon 0 colon) (Err f) g.2) [
+              | inl t ↦ elim (bind_err (padded_at mode read t.0) (λ (x : Tree × List ℕ). found_at k place x) f t.2) [
+                | inl v ↦ elim (bind_err (read (skip_blanks mode t.0)) (λ (x : Tree × List ℕ). Ok (x.0, skip_blanks mode x.1)) f v) [
+                  | inl w ↦
+                      let s = padded_sound mode (IsKey mode) (key_at size mode) (key_sound size mode) bytes k colon key_read (omega (arith, ap length t.1)) in
+                      record { left = s.core; key = k; rest = t.0; is_key = s.spells; whole = s.whole ∙ ap (λ (u : List ℕ). s.core ++ u) t.1; fails = w }
+                  | inr w ↦ absurd (let never : ◌≡◌ {A = Read Tree} (Ok (w.0.0, skip_blanks mode w.0.1)) (Err f) = w.2 in cc)
                 ]
                 | inr v ↦ absurd (let never : found_at k place v.0 ≡ Err f = v.2 in cc)
               ]
@@ -294,16 +299,16 @@ module _ (mode : Mode) (depth size : ℕ) (read : List ℕ → Read Tree) (sound
       let some : 1 ≤ suc depth = omega arith in
       let after_key : s.place ≡ size - length (123 ∷ bytes) + 1 + r.0 = omega (arith, r.2, h, ap length l.2) in
       subst (λ (g : Fault). Stops mode (suc depth) size (123 ∷ bytes) g) is
-      (stops_here mode (suc depth) size (123 ∷ bytes) (record { code = object_duplicate_key s.key; place = s.place })
+      (stops_here mode (suc depth) size (123 ∷ bytes) (record { code = object_duplicate_key s.key; place = s.place }) (omega arith)
       (record { body = l.0; others = rest; whole = ap (λ (u : List ℕ). 123 ∷ u) l.2; some_left = some; length_upto = r.0; repeats = r.1; after_key = after_key }))
 
   object_refused : (bytes : List ℕ) (f : Fault) → length (123 ∷ bytes) ≤ size → object_at size mode read bytes ≡ Err f → IsTold f.code → Stops mode (suc depth) size (123 ∷ bytes) f
   object_refused bytes f h e told =
-      elim (on_byte_cases 125 (skip_blanks bytes) (λ (r : List ℕ). Ok (object no_members, r)) (members_at size mode read bytes) (Err f) e) [
+      elim (on_byte_cases 125 (skip_blanks mode bytes) (λ (r : List ℕ). Ok (object no_members, r)) (members_at size mode read bytes) (Err f) e) [
         | inl g ↦ absurd (let never : ◌≡◌ {A = Read Tree} (Ok (object no_members, g.0)) (Err f) = g.2 in cc)
-        | inr g ↦ elim (bind_err (joined_at size expected_object_comma_or_end 125 (member_at size mode read) (suc (length bytes)) (skip_blanks bytes)) (λ (x : List Found × List ℕ). object_or_fault (first_repeat (map spot_of x.0)) x.0 x.1) f g.1) [
+        | inr g ↦ elim (bind_err (joined_at size expected_object_comma_or_end 125 (member_at size mode read) (suc (length bytes)) (skip_blanks mode bytes)) (λ (x : List Found × List ℕ). object_or_fault (first_repeat (map spot_of x.0)) x.0 x.1) f g.1) [
           | inl k ↦
-              let again = sym (joined-skip size expected_object_comma_or_end 125 IsFound (member_at size mode read) member_skip (suc (length bytes)) bytes) ∙ k in
+              let again = sym (joined-skip size expected_object_comma_or_end 125 IsFound (member_at size mode read) mode member_skip (suc (length bytes)) bytes) ∙ k in
               let p = joined_refused size expected_object_comma_or_end 125 IsFound (member_at size mode read) (member_sound mode (IsSpelling mode) read size sound) (λ n. n) (suc (length bytes)) bytes f again told in
               let m = member_refused p.rest f p.fails told in
               let from_key : length p.rest ≤ size = rest_within size bytes p.passed p.rest (omega (arith, h)) p.whole in
@@ -311,7 +316,7 @@ module _ (mode : Mode) (depth size : ℕ) (read : List ℕ → Read Tree) (sound
               let within : length m.rest ≤ size = omega (arith, from_colon) in
               stops_in_object mode depth size bytes p.passed p.rest m.left m.rest f (passed_members p.are_passed) p.whole m.is_key m.whole (value_refused m.rest f within m.fails told)
           | inr k ↦
-              let again = sym (joined-skip size expected_object_comma_or_end 125 IsFound (member_at size mode read) member_skip (suc (length bytes)) bytes) ∙ k.1 in
+              let again = sym (joined-skip size expected_object_comma_or_end 125 IsFound (member_at size mode read) mode member_skip (suc (length bytes)) bytes) ∙ k.1 in
               repeat_refused (first_repeat (map spot_of k.0.0)) k.0.0 bytes k.0.1 f h refl again k.2
         ]
       ]
@@ -319,8 +324,8 @@ module _ (mode : Mode) (depth size : ℕ) (read : List ℕ → Read Tree) (sound
       IsFound : List ℕ → Found → Type 0
       IsFound u g = IsMember mode (IsSpelling mode) u (member_of g)
 
-      member_skip : (u : List ℕ) → member_at size mode read (skip_blanks u) ≡ member_at size mode read u
-      member_skip u = ap (λ (w : List ℕ). key_at size mode w >>= λ (x : (Mark × List ℕ) × List ℕ). after_key size read x.0 (size - length x.1) (skip_blanks x.1)) (skip-skip u)
+      member_skip : (u : List ℕ) → member_at size mode read (skip_blanks mode u) ≡ member_at size mode read u
+      member_skip u = ap (λ (w : List ℕ). key_at size mode w >>= λ (x : (Mark × List ℕ) × List ℕ). after_key size mode read x.0 (size - length x.1) (skip_blanks mode x.1)) (skip-skip mode u)
 
       passed_members : {u : List ℕ} {gs : List Found} (p : ArePassed IsFound u gs) → ArePassed (IsMember mode (IsSpelling mode)) u (map member_of gs)
       passed_members no_parts = no_parts
@@ -332,7 +337,7 @@ module _ (mode : Mode) (depth size : ℕ) (read : List ℕ → Read Tree) (sound
         | inl g ↦ subst (λ (u : List ℕ). Stops mode (suc depth) size u f) (sym g.1) (array_refused g.0 f (subst (λ (u : List ℕ). length u ≤ size) g.1 h) g.2 told)
         | inr g ↦ elim (on_byte_cases 123 bytes (object_at size mode read) (scalar_at size mode bytes) (Err f) g.1) [
           | inl k ↦ subst (λ (u : List ℕ). Stops mode (suc depth) size u f) (sym k.1) (object_refused k.0 f (subst (λ (u : List ℕ). length u ≤ size) k.1 h) k.2 told)
-          | inr k ↦ no_value mode (suc depth) size bytes f none g.0 k.0 (scalar_refused size mode bytes f k.1 told)
+          | inr k ↦ no_value mode (suc depth) size bytes f (scalar_some size mode bytes f k.1 told) none g.0 k.0 (scalar_refused size mode bytes f k.1 told)
         ]
       ]
 
@@ -342,7 +347,7 @@ too_deep_refused : (mode : Mode) (size b : ℕ) (rest : List ℕ) (f : Fault) �
 too_deep_refused mode size b rest f opens e =
     let is : record { code = depth_limit_exceeded; place = size - length rest } ≡ f = same_err {B = Tree × List ℕ} (record { code = depth_limit_exceeded; place = size - length rest }) f e in
     subst (λ (g : Fault). Stops mode 0 size (b ∷ rest) g) is
-    (stops_here mode 0 size (b ∷ rest) (record { code = depth_limit_exceeded; place = size - length rest }) (record { byte = b; others = rest; whole = refl; at_byte = refl; opens = opens; none_left = refl }))
+    (stops_here mode 0 size (b ∷ rest) (record { code = depth_limit_exceeded; place = size - length rest }) (omega arith) (record { byte = b; others = rest; whole = refl; at_byte = refl; opens = opens; none_left = refl }))
 
 none_left_refused : (size : ℕ) (mode : Mode) → Explains mode 0 size (value_with size mode (too_deep size) (too_deep size))
 none_left_refused size mode bytes f h none e told =
@@ -350,7 +355,7 @@ none_left_refused size mode bytes f h none e told =
       | inl g ↦ subst (λ (u : List ℕ). Stops mode 0 size u f) (sym g.1) (too_deep_refused mode size 91 g.0 f (inl refl) g.2)
       | inr g ↦ elim (on_byte_cases 123 bytes (too_deep size) (scalar_at size mode bytes) (Err f) g.1) [
         | inl k ↦ subst (λ (u : List ℕ). Stops mode 0 size u f) (sym k.1) (too_deep_refused mode size 123 k.0 f (inr refl) k.2)
-        | inr k ↦ no_value mode 0 size bytes f none g.0 k.0 (scalar_refused size mode bytes f k.1 told)
+        | inr k ↦ no_value mode 0 size bytes f (scalar_some size mode bytes f k.1 told) none g.0 k.0 (scalar_refused size mode bytes f k.1 told)
       ]
     ]
 

@@ -1,10 +1,12 @@
 -- Steps of the readers.
-use Rattle.std.proofs.Common.{◌≡◌, ℕ, ◌+◌, false, List, ◌∷◌, length, drop, Result, Err, Contains, get_or, refl, sym, ap, ◌∙◌, arith, length-drop}
+use Rattle.std.proofs.Common.{◌≡◌, ℕ, ◌+◌, true, false, true≢false, eqb, inl, inr, List, [], ◌∷◌, length, drop, Result, Err, Contains, get_or, refl, sym, ap, ◌∙◌, arith, length-drop}
 use Rattle.jsonb_value.specs.Code.Code.{expected_some_ident}
 use Rattle.jsonb.specs.Parser.{Advances, Fails, IsFault}
-use Rattle.jsonb.specs.Reading.{Fault, begins, fault_at, refused}
-use Rattle.jsonb.specs.Reading.Scalar.{letters_at}
-use Rattle.jsonb.proofs.Parts.{on_byte-found, on_byte-none, other}
+use Rattle.jsonb.specs.Reading.{Fault, fault_at, refused}
+use Rattle.jsonb.specs.Reading.Scalar.{begins_letter, begins_single_quote, folded, letters_at, on_letter, on_single_quote}
+use Rattle.jsonb_value.specs.Mode.{Mode, standard, extended}
+use Rattle.jsonb.proofs.Choices.{chosen, if-false, if-true}
+use Rattle.jsonb.proofs.Parts.{on_byte-none}
 use Rattle.std.proofs.lemmas.List.{get_or-drop}
 use Rattle.jsonb.specs.declared.parser.Parser.{Parser}
 use Rattle.jsonb_value.specs.declared.error.Error.{Error}
@@ -26,11 +28,42 @@ goes_on p q r a b = record { buf = b.buf ∙ a.buf; mode = b.mode ∙ a.mode; on
 
 -- ---- words
 
-pub letters-step : (size c : ℕ) (cs bytes more : List ℕ) → bytes ≡ c ∷ more → letters_at size (c ∷ cs) bytes ≡ letters_at size cs more
-letters-step size c cs bytes more e = ap (λ (b : List ℕ). letters_at size (c ∷ cs) b) e ∙ on_byte-found c more (letters_at size cs) (refused size expected_some_ident 1 (c ∷ more))
+pub on_letter-true : {X : Type 0} (mode : Mode) (c : ℕ) (bytes : List ℕ) (found : List ℕ → X) (other : X) → begins_letter mode c bytes ≡ true → on_letter mode c bytes found other ≡ found (drop 1 bytes)
+on_letter-true mode c [] found other e = absurd (true≢false (sym e))
+on_letter-true mode c (b ∷ bytes) found other e =
+    elim (chosen (eqb (folded mode b) c) true false true e) [
+      | inl t ↦ if-true (eqb (folded mode b) c) (found bytes) other t.0
+      | inr f ↦ absurd (true≢false (sym f.1))
+    ]
 
-pub letters-fail : (size c : ℕ) (cs bytes : List ℕ) → begins c bytes ≡ false → letters_at size (c ∷ cs) bytes ≡ Err (fault_at size expected_some_ident 1 bytes)
-letters-fail size c cs bytes e = on_byte-none c bytes (letters_at size cs) (refused size expected_some_ident 1 bytes) e
+pub on_letter-false : {X : Type 0} (mode : Mode) (c : ℕ) (bytes : List ℕ) (found : List ℕ → X) (other : X) → begins_letter mode c bytes ≡ false → on_letter mode c bytes found other ≡ other
+on_letter-false mode c [] found other e = refl
+on_letter-false mode c (b ∷ bytes) found other e =
+    elim (chosen (eqb (folded mode b) c) true false false e) [
+      | inl t ↦ absurd (true≢false t.1)
+      | inr f ↦ if-false (eqb (folded mode b) c) (found bytes) other f.0
+    ]
+
+pub letters-step : (size : ℕ) (mode : Mode) (c : ℕ) (cs bytes : List ℕ) → begins_letter mode c bytes ≡ true → letters_at size mode (c ∷ cs) bytes ≡ letters_at size mode cs (drop 1 bytes)
+letters-step size mode c cs bytes e = on_letter-true mode c bytes (letters_at size mode cs) (refused size expected_some_ident 1 bytes) e
+
+pub letters-fail : (size : ℕ) (mode : Mode) (c : ℕ) (cs bytes : List ℕ) → begins_letter mode c bytes ≡ false → letters_at size mode (c ∷ cs) bytes ≡ Err (fault_at size expected_some_ident 1 bytes)
+letters-fail size mode c cs bytes e = on_letter-false mode c bytes (letters_at size mode cs) (refused size expected_some_ident 1 bytes) e
+
+-- ---- single quotes
+
+pub single-true : {X : Type 0} (mode : Mode) (bytes : List ℕ) (found : List ℕ → X) (other : X) → begins_single_quote mode bytes ≡ true → on_single_quote mode bytes found other ≡ found (drop 1 bytes)
+single-true standard bytes found other e = absurd (true≢false (sym e))
+single-true extended [] found other e = absurd (true≢false (sym e))
+single-true extended (b ∷ bytes) found other e =
+    elim (chosen (eqb b 39) true false true e) [
+      | inl t ↦ if-true (eqb b 39) (found bytes) other t.0
+      | inr f ↦ absurd (true≢false (sym f.1))
+    ]
+
+pub single-false : {X : Type 0} (mode : Mode) (bytes : List ℕ) (found : List ℕ → X) (other : X) → begins_single_quote mode bytes ≡ false → on_single_quote mode bytes found other ≡ other
+single-false standard bytes found other e = refl
+single-false extended bytes found other e = on_byte-none 39 bytes found other e
 
 -- ---- the byte that comes next is in the input
 

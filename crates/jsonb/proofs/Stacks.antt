@@ -57,24 +57,24 @@ ahead_pushed p q fs gs f c begun a e is =
 
 -- ---- the beginning of an array
 
-pub same_left_out : (p q : Parser) → rest_of q ≡ skip_blanks (rest_of p) → Advances p q → is_left_out (mode_of p.mode) (skip_blanks (rest_of p)) ≡ is_left_out (mode_of q.mode) (rest_of q)
+pub same_left_out : (p q : Parser) → rest_of q ≡ skip_blanks (mode_of p.mode) (rest_of p) → Advances p q → is_left_out (mode_of p.mode) (skip_blanks (mode_of p.mode) (rest_of p)) ≡ is_left_out (mode_of q.mode) (rest_of q)
 same_left_out p q e a = sym (ap₂ (λ m r. is_left_out m r) (ap mode_of a.mode) e)
 
-array-open : (size : ℕ) (mode : Mode) (n m : ℕ) (cs : List Open) (bytes : List ℕ) (r : Read Tree) → n ≡ suc m → begins 93 (skip_blanks bytes) ≡ false
-    → elements_from size mode m [] (skip_blanks bytes) ≡ (r >>= finish_open size mode m (elements_so_far []))
+array-open : (size : ℕ) (mode : Mode) (n m : ℕ) (cs : List Open) (bytes : List ℕ) (r : Read Tree) → n ≡ suc m → begins 93 (skip_blanks mode bytes) ≡ false
+    → elements_from size mode m [] (skip_blanks mode bytes) ≡ (r >>= finish_open size mode m (elements_so_far []))
     → (array_within size mode n bytes >>= resume size mode n cs) ≡ (r >>= resume size mode m (elements_so_far [] ∷ cs))
 array-open size mode n m cs bytes r e b h =
     ap (λ k. array_within size mode k bytes >>= resume size mode k cs) e
     ∙ ap (λ q. q >>= resume size mode (suc m) cs) (array-begun size mode m bytes b ∙ h)
     ∙ resume-part size mode m (elements_so_far []) cs r
 
-pub array_entered : (p o q : Parser) (fs gs : List Frame) (v : Vec JsonAst Global) (begun : Option JsonAst) → Advances p o → Advances o q → rest_of o ≡ skip_blanks (rest_of p) → begins 93 (rest_of o) ≡ false
+pub array_entered : (p o q : Parser) (fs gs : List Frame) (v : Vec JsonAst Global) (begun : Option JsonAst) → Advances p o → Advances o q → rest_of o ≡ skip_blanks (mode_of p.mode) (rest_of p) → begins 93 (rest_of o) ≡ false
     → v.items ≡ [] → gs ≡ fs ++ variants.Array v ∷ [] → length gs ≤ max_depth
     → ((d : ℕ) (front : List Tree) → elements_from (size_of o) (mode_of o.mode) d front (rest_of o) ≡ element_from (size_of o) (mode_of o.mode) d front begun (rest_of q))
     → resumed p fs (array_within (size_of p) (mode_of p.mode) (depth_in fs) (rest_of p)) ≡ ahead q gs begun
 array_entered p o q fs gs v begun a b skipped opened none e fits reads =
     let m = depth_in gs in
-    let here : elements_from (size_of p) (mode_of p.mode) m [] (skip_blanks (rest_of p)) ≡ element_from (size_of p) (mode_of p.mode) m [] begun (rest_of q) =
+    let here : elements_from (size_of p) (mode_of p.mode) m [] (skip_blanks (mode_of p.mode) (rest_of p)) ≡ element_from (size_of p) (mode_of p.mode) m [] begun (rest_of q) =
     subst (λ r. elements_from (size_of p) (mode_of p.mode) m [] r ≡ element_from (size_of p) (mode_of p.mode) m [] begun (rest_of q)) skipped
     (subst₂ (λ n k. elements_from n k m [] (rest_of o) ≡ element_from n k m [] begun (rest_of q)) (same_size p o a) (ap mode_of a.mode) (reads m [])) in
     array-open (size_of p) (mode_of p.mode) (depth_in fs) m (stack_of fs) (rest_of p) (element_begun (size_of p) (mode_of p.mode) m begun (rest_of q)) (deeper fs gs (variants.Array v) e fits)
@@ -83,18 +83,18 @@ array_entered p o q fs gs v begun a b skipped opened none e fits reads =
 
 -- ---- the beginning of an open_object
 
-object-open : (size : ℕ) (mode : Mode) (n m : ℕ) (cs : List Open) (bytes : List ℕ) → n ≡ suc m → begins 125 (skip_blanks bytes) ≡ false
+object-open : (size : ℕ) (mode : Mode) (n m : ℕ) (cs : List Open) (bytes : List ℕ) → n ≡ suc m → begins 125 (skip_blanks mode bytes) ≡ false
     → (object_within size mode n bytes >>= resume size mode n cs)
-    ≡ (member_start size mode (skip_blanks bytes) >>= (λ k. value_at size mode m k.1 >>= finish_open size mode m (members_so_far [] k.0.0 k.0.1)) >>= resume size mode (suc m) cs)
+    ≡ (member_start size mode (skip_blanks mode bytes) >>= (λ k. value_at size mode m k.1 >>= finish_open size mode m (members_so_far [] k.0.0 k.0.1)) >>= resume size mode (suc m) cs)
 object-open size mode n m cs bytes e b =
     ap (λ k. object_within size mode k bytes >>= resume size mode k cs) e
-    ∙ ap (λ q. q >>= resume size mode (suc m) cs) (object-begun size mode m bytes b ∙ members-turn size mode m [] (skip_blanks bytes))
+    ∙ ap (λ q. q >>= resume size mode (suc m) cs) (object-begun size mode m bytes b ∙ members-turn size mode m [] (skip_blanks mode bytes))
 
-member_start_same : (p o : Parser) → Advances p o → rest_of o ≡ skip_blanks (rest_of p) → member_start (size_of p) (mode_of p.mode) (skip_blanks (rest_of p)) ≡ member_start (size_of o) (mode_of o.mode) (rest_of o)
+member_start_same : (p o : Parser) → Advances p o → rest_of o ≡ skip_blanks (mode_of p.mode) (rest_of p) → member_start (size_of p) (mode_of p.mode) (skip_blanks (mode_of p.mode) (rest_of p)) ≡ member_start (size_of o) (mode_of o.mode) (rest_of o)
 member_start_same p o a skipped =
     ap (λ r. member_start (size_of p) (mode_of p.mode) r) (sym skipped) ∙ sym (ap₂ (λ n k. member_start n k (rest_of o)) (same_size p o a) (ap mode_of a.mode))
 
-pub object_entered : (p o q : Parser) (fs gs : List Frame) (open_object : OpenObject) → Advances p o → Advances o q → rest_of o ≡ skip_blanks (rest_of p) → begins 125 (rest_of o) ≡ false
+pub object_entered : (p o q : Parser) (fs gs : List Frame) (open_object : OpenObject) → Advances p o → Advances o q → rest_of o ≡ skip_blanks (mode_of p.mode) (rest_of p) → begins 125 (rest_of o) ≡ false
     → open_object.members.items ≡ [] → gs ≡ fs ++ variants.Object open_object ∷ [] → length gs ≤ max_depth
     → member_start (size_of o) (mode_of o.mode) (rest_of o) ≡ Ok (((mark_view open_object.key, cow_str_bytes open_object.key), open_object.after), rest_of q)
     → resumed p fs (object_within (size_of p) (mode_of p.mode) (depth_in fs) (rest_of p)) ≡ ahead q gs None
@@ -106,12 +106,12 @@ object_entered p o q fs gs open_object a b skipped opened none e fits reads =
     ∙ resume-part (size_of p) (mode_of p.mode) m (members_so_far [] (mark_view open_object.key, cow_str_bytes open_object.key) open_object.after) (stack_of fs) (value_at (size_of p) (mode_of p.mode) m (rest_of q))
     ∙ sym (ahead_pushed p q fs gs (variants.Object open_object) (members_so_far [] (mark_view open_object.key, cow_str_bytes open_object.key) open_object.after) None (goes_on p o q a b) e (ap (λ xs. members_so_far (map found_of xs) (mark_view open_object.key, cow_str_bytes open_object.key) open_object.after) none))
 
-pub object_fails : (p o : Parser) (fs : List Frame) (e : Error) → Advances p o → rest_of o ≡ skip_blanks (rest_of p) → begins 125 (rest_of o) ≡ false → length fs < max_depth
+pub object_fails : (p o : Parser) (fs : List Frame) (e : Error) → Advances p o → rest_of o ≡ skip_blanks (mode_of p.mode) (rest_of p) → begins 125 (rest_of o) ≡ false → length fs < max_depth
     → Fails e (member_start (size_of o) (mode_of o.mode) (rest_of o)) → Fails e (resumed p fs (object_within (size_of p) (mode_of p.mode) (depth_in fs) (rest_of p)))
 object_fails p o fs e a skipped opened fits f =
     let m = depth_in fs - 1 in
     let deep : depth_in fs ≡ suc m = omega arith in
-    let start = member_start (size_of p) (mode_of p.mode) (skip_blanks (rest_of p)) in
+    let start = member_start (size_of p) (mode_of p.mode) (skip_blanks (mode_of p.mode) (rest_of p)) in
     let waits : ((Mark × List ℕ) × ℕ) × List ℕ → Read Tree = λ k. value_at (size_of p) (mode_of p.mode) m k.1 >>= finish_open (size_of p) (mode_of p.mode) m (members_so_far [] k.0.0 k.0.1) in
     fails_same e (start >>= waits >>= resume (size_of p) (mode_of p.mode) (suc m) (stack_of fs)) (resumed p fs (object_within (size_of p) (mode_of p.mode) (depth_in fs) (rest_of p)))
     (object-open (size_of p) (mode_of p.mode) (depth_in fs) m (stack_of fs) (rest_of p) deep (ap (λ r. begins 125 r) (sym skipped) ∙ opened))
@@ -203,14 +203,14 @@ object_unclosed p fs gs open_object e fits no_comma no_close =
     ∙ ap (λ r. resumed p gs r) (on_byte-none 44 (rest_of p) found (on_byte 125 (rest_of p) (object_end front) refusal) no_comma ∙ on_byte-none 125 (rest_of p) (object_end front) refusal no_close)
 
 -- a value was put into the innermost container
-pub value_added : (p q : Parser) (fs gs hs : List Frame) (f g : Frame) (v : JsonAst) → Advances p q → rest_of q ≡ skip_blanks (rest_of p) → fs ≡ hs ++ f ∷ [] → gs ≡ hs ++ g ∷ [] → length fs ≤ max_depth
+pub value_added : (p q : Parser) (fs gs hs : List Frame) (f g : Frame) (v : JsonAst) → Advances p q → rest_of q ≡ skip_blanks (mode_of p.mode) (rest_of p) → fs ≡ hs ++ f ∷ [] → gs ≡ hs ++ g ∷ [] → length fs ≤ max_depth
     → open_of g ≡ add_part (open_of f) (ast_view v) → ahead p fs (Some v) ≡ rest_from q gs
 unfolding resume
 value_added p q fs gs hs f g v a skipped e d fits added =
     let same : length gs ≡ length fs = omega (arith, ap length e, ap length d, length-append hs (f ∷ []), length-append hs (g ∷ [])) in
     let n = depth_in fs in
     ap (λ cs. resume (size_of p) (mode_of p.mode) n cs (ast_view v, rest_of p)) (ap (λ xs. stack_of xs) e ∙ stack-push [] hs f)
-    ∙ ap (λ c. rest_at (size_of p) (mode_of p.mode) n c (skip_blanks (rest_of p)) >>= resume (size_of p) (mode_of p.mode) (suc n) (stack_of hs)) (sym added)
+    ∙ ap (λ c. rest_at (size_of p) (mode_of p.mode) n c (skip_blanks (mode_of p.mode) (rest_of p)) >>= resume (size_of p) (mode_of p.mode) (suc n) (stack_of hs)) (sym added)
     ∙ ap (λ r. rest_at (size_of p) (mode_of p.mode) n (open_of g) r >>= resume (size_of p) (mode_of p.mode) (suc n) (stack_of hs)) (sym skipped)
     ∙ ap (λ cs. rest_of_opens (size_of p) (mode_of p.mode) n cs (rest_of q)) (sym (ap (λ xs. stack_of xs) d ∙ stack-push [] hs g))
     ∙ ap (λ k. rest_of_opens (size_of p) (mode_of p.mode) (max_depth - k) (stack_of gs) (rest_of q)) (sym same)

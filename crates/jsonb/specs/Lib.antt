@@ -6,6 +6,7 @@ pub mod Parser
 pub mod QuotedString
 pub mod Reading
 pub mod Refusals
+pub mod ScannedNumber
 pub mod Source
 pub mod SourceLaws
 pub mod Stack

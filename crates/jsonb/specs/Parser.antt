@@ -1,17 +1,18 @@
 -- What a reader has still to read, and what a call of it leaves.
 use Rattle.std.specs.Prelude.{◌≡◌, ◌⊎◌, ℕ, ◌≤◌, List, length, drop, Contains, Result, Ok, Err}
-use Rattle.jsonb_value.specs.Mode.{Mode, standard}
+use Rattle.jsonb_value.specs.Mode.{Mode, standard, extended}
 use Rattle.jsonb_value.specs.Code.{code_of}
 use Rattle.jsonb_value.specs.declared.error.Error.{Error}
 use Rattle.jsonb_value.specs.declared.error.Error.TheVariants.{Syntax, OutOfMemory}
 use Rattle.jsonb.specs.declared.parser.Parser.{Parser}
 use Rattle.jsonb.specs.declared.parser.Mode as parser
-use Rattle.jsonb.specs.declared.parser.Mode.TheVariants.{Standard}
+use Rattle.jsonb.specs.declared.parser.Mode.TheVariants.{Standard, Extended}
 use Rattle.jsonb.specs.Reading.{Fault}
 
 -- the grammar that a reader's mode stands for
 abbrev pub mode_of : parser.Mode → Mode
 mode_of Standard = standard
+mode_of Extended = extended
 
 -- the bytes from the index on
 abbrev pub rest_of : Parser → List ℕ

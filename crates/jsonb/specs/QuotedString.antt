@@ -10,7 +10,10 @@ use Rattle.jsonb_value.specs.declared.error.Error.{Error}
 use Rattle.jsonb_value.specs.declared.error.Error.TheVariants.{Syntax, OutOfMemory}
 use Rattle.jsonb.specs.declared.parser.string.StringEnd.{StringEnd}
 use Rattle.jsonb.specs.declared.parser.string.StringEnd.TheVariants.{Closed, Unclosed}
+use Rattle.jsonb.specs.declared.parser.bare_key.KeyEnd.{KeyEnd}
+use Rattle.jsonb.specs.declared.parser.bare_key.KeyEnd.TheVariants as key_ends
 use Rattle.jsonb.specs.Decoding.{TellsBackslash}
+use Rattle.jsonb.specs.Reading.BareKey.{key_end}
 use Rattle.jsonb.specs.Reading.String.{Body, quote_end}
 
 -- the search ends where reading does; and whether a backslash was passed
@@ -24,3 +27,8 @@ ReadsBody idx (Ok text) read = read ≡ Ok (mark_view text, cow_str_bytes text)
 ReadsBody idx (Err (Syntax code place)) read = (count : ℕ) × (read ≡ Err (code_of code, count)) × (place ≡ idx + count)
 ReadsBody idx (Err OutOfMemory) read = Unit {0}
 ReadsBody idx (Err other) read = ⊥
+
+-- the search for the end of a bare key ends where reading does
+abbrev pub EndsKey : List ℕ → KeyEnd → Type 0
+EndsKey bytes (key_ends.At end) = key_end bytes ≡ Ok end
+EndsKey bytes (key_ends.Past at) = (key_end bytes ≡ Err at) × (at < length bytes + 4)

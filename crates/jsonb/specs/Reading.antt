@@ -1,8 +1,10 @@
 -- Reading from left to right as a function on lists: what is read and the bytes after it, or the first fault that is met.
 -- This is the bridge between the code of the reader and the definition of its grammar.
+pub mod BareKey
 pub mod Blank
 pub mod Container
 pub mod Document
+pub mod ExtendedNumber
 pub mod Number
 pub mod Scalar
 pub mod String

@@ -12,13 +12,14 @@ use Rattle.jsonb_value.specs.Grammar.{Derives, IsDocument, IsElement, IsJoined, 
 use Rattle.jsonb_value.specs.Mode.{Mode}
 use Rattle.jsonb_value.specs.Mode.Mode.{extended, standard}
 use Rattle.jsonb_value.specs.Scalar.{IsKey, IsUncarried}
+use Rattle.jsonb_value.specs.ExtendedNumber.{IsExtendedText}
 use Rattle.jsonb_value.specs.StandardNumber.{IsNumberText}
 use Rattle.jsonb_value.specs.Tree.{Mark, Member, Tree}
 
 -- a text of a number, carried or not
 abbrev pub IsNumberSpelling : Mode → List ℕ → Type 0
 IsNumberSpelling standard bytes = IsNumberText bytes
-IsNumberSpelling extended bytes = ⊥
+IsNumberSpelling extended bytes = IsExtendedText bytes
 
 -- the bytes spell the tree, with arrays and objects nested however deep
 abbrev pub IsSpelling : Mode → List ℕ → Tree → Type 0

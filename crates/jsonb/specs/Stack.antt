@@ -47,7 +47,7 @@ object_end fs rest = object_or_fault (first_repeat (map spot_of fs)) fs rest
 -- a key with its colon, the place after the key, and what comes after the blanks after the colon
 abbrev pub member_start : ℕ → Mode → List ℕ → Read ((Mark × List ℕ) × ℕ)
 member_start size mode bytes =
-    key_at size mode (skip_blanks bytes) >>= λ k. on_byte 58 (skip_blanks k.1) (λ rest. Ok ((k.0, size - length k.1), skip_blanks rest)) (refused size expected_colon 0 (skip_blanks k.1))
+    key_at size mode (skip_blanks mode bytes) >>= λ k. on_byte 58 (skip_blanks mode k.1) (λ rest. Ok ((k.0, size - length k.1), skip_blanks mode rest)) (refused size expected_colon 0 (skip_blanks mode k.1))
 
 -- the container with one more part; its key is used up
 abbrev pub add_part : Open → Tree → Open
@@ -68,7 +68,7 @@ module _ (size : ℕ) (mode : Mode) (depth : ℕ) where
 
   -- the container, once the value that it waits for was read
   abbrev pub finish_open : Open → Tree × List ℕ → Read Tree
-  finish_open c x = rest_at (add_part c x.0) (skip_blanks x.1)
+  finish_open c x = rest_at (add_part c x.0) (skip_blanks mode x.1)
 
 -- The outermost value, once the value that the innermost container waits for was read. The innermost container comes first, and the number is how deep what is in it may nest.
 unfoldable pub resume : ℕ → Mode → ℕ → List Open → Tree × List ℕ → Read Tree

@@ -1,22 +1,25 @@
 //! The reader of JSON texts: from left to right, with the first fault that it meets.
 
-ghost use Rattle.std.specs.Prelude.{◌≡◌, ◌≢◌, ℕ, ◌+◌, ◌<◌, ◌≤◌, [], ◌∷◌, length, drop, MatchOption, MatchBool, OnOk, IfOk, IfErr, Err};
+ghost use Rattle.std.specs.Prelude.{◌≡◌, ◌≢◌, ◌+◌, ◌<◌, ◌≤◌, [], ◌∷◌, length, drop, MatchOption, MatchBool, OnOk, IfOk, IfErr, Err};
 ghost use Rattle.jsonb_value.specs.Code.{code_of};
 ghost use Rattle.jsonb_value.specs.Grammar.{IsDocument, max_depth};
-ghost use Rattle.jsonb_value.specs.Mode.{standard};
+ghost use Rattle.jsonb_value.specs.Mode.{standard, extended};
 ghost use Rattle.jsonb_value.specs.Tree.{Tree};
 ghost use Rattle.jsonb_value.specs.View.{view};
 ghost use Rattle.jsonb.specs.AstView.{ast_view};
 ghost use Rattle.jsonb.specs.Located.{IsLocated};
 ghost use Rattle.jsonb.specs.Parser.{rest_of, size_of, mode_of, Advances, IsFault, Gives, HoldsMarker};
 ghost use Rattle.jsonb.specs.Reading.{begins, fault_at};
-ghost use Rattle.jsonb.specs.Reading.Blank.{blank_length, skip_blanks};
-ghost use Rattle.jsonb.specs.Reading.Document.{document_from, document_of};
+ghost use Rattle.jsonb.specs.Reading.Blank.{pass_blanks};
+ghost use Rattle.jsonb.specs.Reading.Document.{at_end, comment_at, document_from, document_of};
 ghost use Rattle.jsonb.specs.Refusals.{IsExplained};
 ghost use Rattle.jsonb.specs.Source.{source_view};
 
 mod ast;
+mod bare_key;
+mod blank;
 mod container;
+mod extended_number;
 mod number;
 mod scalar;
 mod string;
@@ -33,6 +36,9 @@ use std::alloc::Global;
 pub enum Mode {
     /// JSON as RFC 8259 has it, with a few more spellings of blanks.
     Standard,
+    /// Words in either case, single quotes, keys without quotes, elements that are left out, texts of blanks alone,
+    /// decimals and hexadecimals, and comments.
+    Extended,
 }
 
 impl<'a> JsonAst<'a> {
@@ -94,6 +100,29 @@ pub fn parse_value_standard_mode(alloc: Global, buf: &[u8]) -> Result<Value<'_>>
     JsonAst::parse(alloc, buf, Mode::Standard)?.into_value(alloc)
 }
 
+/// Reads a whole text of extended JSON.
+///
+/// # Errors
+///
+/// Those of [`JsonAst::parse`].
+pub fn parse_value(alloc: Global, buf: &[u8]) -> Result<Value<'_>>
+    // What is read is a document, and this is its one tree.
+    ensures document { IfOk result (λ v. IsDocument extended buf.now (view v)) }
+    ensures only { IfOk result (λ v. (t : Tree) → IsDocument extended buf.now t → t ≡ view v) }
+
+    // What is refused is no document, unless memory ran out.
+    ensures refused { IfErr result (λ e. e ≢ Error.OutOfMemory → (t : Tree) → IsDocument extended buf.now t → ⊥) }
+    ensures memory { result ≡ Err Error.OutOfMemory → HoldsMarker buf.now }
+
+    // Which fault it is, and where.
+    ensures exact { Gives view result (document_of extended buf.now) }
+
+    // What stands at the place that is named.
+    ensures explained { IfErr result (IsExplained extended buf.now) }
+{
+    JsonAst::parse(alloc, buf, Mode::Extended)?.into_value(alloc)
+}
+
 // A reader that stands at the index `idx` of its input.
 #[derive(Drop)]
 struct Parser<'a> {
@@ -101,19 +130,6 @@ struct Parser<'a> {
     mode: Mode,
     buf: &'a [u8],
     idx: usize,
-}
-
-// How many bytes the blank takes that the bytes begin with, or 0 where they begin with none.
-fn blank_len(bytes: &[u8]) -> usize
-    ensures value { result ≡ blank_length bytes.now }
-    ensures within { result ≤ length bytes.now }
-{
-    match bytes {
-        [b' ' | b'\t' | b'\n' | 0x0C | b'\r', ..] => 1,
-        [b'\\', b'n' | b'r' | b't', ..] => 2,
-        [b'\\', b'x', b'0', b'C', ..] => 4,
-        _ => 0,
-    }
 }
 
 impl<'a> Parser<'a> {
@@ -159,41 +175,6 @@ impl<'a> Parser<'a> {
         &self.buf[self.idx..]
     }
 
-    // Whether the next byte may begin a blank. Few bytes may, so this is asked before the call.
-    #[inline(always)]
-    fn may_begin_blank(&self) -> bool
-        ensures { MatchBool result (Unit {0}) (skip_blanks (rest_of self.now) ≡ rest_of self.now) }
-    {
-        match self.peek() {
-            Some(byte) => byte <= b' ' || byte == b'\\',
-            None => false,
-        }
-    }
-
-    #[inline(always)]
-    fn skip_blanks(&mut self)
-        ensures rest { rest_of self.new ≡ skip_blanks (rest_of self.old) }
-        ensures advances { Advances self.old self.new }
-    {
-        if self.may_begin_blank() {
-            self.skip_run_of_blanks();
-        }
-    }
-
-    #[inline(never)]
-    fn skip_run_of_blanks(&mut self)
-        ensures rest { rest_of self.new ≡ skip_blanks (rest_of self.old) }
-        ensures advances { Advances self.old self.new }
-    {
-        'blanks: while self.idx < self.buf.len() {
-            let n = blank_len(self.rest());
-            if n == 0 {
-                return;
-            }
-            self.idx += n;
-        }
-    }
-
     // The fault at the next byte, named by its index and a step, or at the end of the text.
     fn unexpected(&self, code: ParseErrorCode, step: usize) -> Error
         requires { step ≤ 1 }
@@ -208,21 +189,54 @@ impl<'a> Parser<'a> {
 
     // A value with blanks round it, up to the end of the text.
     fn parse_document(&mut self) -> Result<JsonAst<'a>>
-        ensures reads { Gives ast_view result (document_from (size_of self.old) (mode_of self.old.mode) (skip_blanks (rest_of self.old))) }
+        requires { self.old.idx ≤ size_of self.old }
+        ensures reads { Gives ast_view result (document_from (size_of self.old) (mode_of self.old.mode) (pass_blanks (mode_of self.old.mode) (rest_of self.old))) }
         ensures memory { result ≡ Err Error.OutOfMemory → HoldsMarker self.old.buf.now }
         ensures source { IfOk result (λ v. IsLocated (mode_of self.old.mode) self.old.buf.now (source_view v)) }
     {
-        self.skip_blanks();
+        self.pass_blanks();
         if self.idx >= self.buf.len() {
             return match self.mode {
                 Mode::Standard => Err(Error::Syntax(ParseErrorCode::InvalidEOF, self.buf.len())),
+                Mode::Extended => Ok(JsonAst::Null),
             };
         }
-        let value = self.parse_value()?;
-        self.skip_blanks();
-        if self.idx < self.buf.len() {
-            return Err(Error::Syntax(ParseErrorCode::UnexpectedTrailingCharacters, self.idx + 1));
+        if self.opens_comment() {
+            self.end_in_comment()?;
+            return Ok(JsonAst::Null);
         }
+        let value = self.parse_value()?;
+        self.end_document()?;
         Ok(value)
+    }
+
+    // The end of a text, after its value.
+    fn end_document(&mut self) -> Result<()>
+        requires { self.old.idx ≤ size_of self.old }
+        ensures reads { (t : Tree) → Gives (λ _. t) result (at_end (size_of self.old) (mode_of self.old.mode) t (pass_blanks (mode_of self.old.mode) (rest_of self.old))) }
+        ensures named { result ≢ Err Error.OutOfMemory }
+    {
+        self.pass_blanks();
+        if self.idx >= self.buf.len() {
+            return Ok(());
+        }
+        if self.opens_comment() {
+            return self.end_in_comment();
+        }
+        Err(Error::Syntax(ParseErrorCode::UnexpectedTrailingCharacters, self.idx + 1))
+    }
+
+    // A text may end in a line comment without its end, and in no other comment.
+    fn end_in_comment(&self) -> Result<()>
+        requires { self.now.idx < size_of self.now }
+        ensures reads { (t : Tree) → Gives (λ _. t) result (comment_at (size_of self.now) t (drop 1 (rest_of self.now))) }
+        ensures named { result ≢ Err Error.OutOfMemory }
+    {
+        let next = self.idx + 1;
+        if next < self.buf.len() && self.buf[next] == b'/' {
+            Ok(())
+        } else {
+            Err(Error::Syntax(ParseErrorCode::InvalidEOF, self.buf.len()))
+        }
     }
 }

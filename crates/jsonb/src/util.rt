@@ -1,16 +1,18 @@
 //! The decoding of strings.
 ghost use Rattle.std.specs.Prelude.{List, ◌≡◌, ◌≢◌, ℕ, ◌+◌, ◌*◌, ◌^◌, ◌≤◌, ◌<◌, ◌++◌, ◌∷◌, [], length, take, drop, slice_index, vec_len, vec_capacity, All, Bool, ◌||◌, IfOk, IfErr, IfSome, IfNone, OnOk, Some, None, true, false, ◌⊎◌, string_bytes};
 ghost use Rattle.std.specs.Char.{digit_value, encode_utf8, InScalarRange};
-ghost use Rattle.jsonb_value.specs.Mode.{Mode, standard};
+ghost use Rattle.jsonb_value.specs.Mode.{Mode as Grammar, standard};
 ghost use Rattle.jsonb_value.specs.Code.{code_of};
 ghost use Rattle.jsonb_value.specs.StringBody.{IsHexDigit, unit_value, escaped_byte, is_high, is_low, kept, alone, together, Decodes};
 ghost use Rattle.jsonb_value.specs.StringFault.{IsUnitCut, IsFirstNonDigit};
+ghost use Rattle.jsonb.specs.Parser.{mode_of};
 ghost use Rattle.jsonb.specs.StringRefusal.{Refuses};
 ghost use Rattle.jsonb.specs.Decoding.{SeesNoBackslash, SplitsUnit, ReadsUnit, Adds, StopsInUnit, Stops};
 
 #[cfg(test)]
 mod tests;
 
+use crate::parser::Mode;
 use jsonb_value::error::{Error, ParseErrorCode, Result};
 use memchr::memchr;
 use std::alloc::Global;
@@ -238,10 +240,10 @@ fn after_next_mark<'a>(unit: &HexUnit<'a>) -> Option<&'a [u8]>
 // what follows.
 fn units<'a>(bytes: &'a [u8], text: &mut Vec<u8>) -> std::result::Result<&'a [u8], Fault>
     requires { vec_len text.old + 2 + length bytes.now ≤ vec_capacity text.old }
-    ensures ok { IfOk result (λ rest. (mode : Mode) → Adds mode (92 ∷ 117 ∷ bytes.now) rest.now text.old.items text.new.items) }
+    ensures ok { IfOk result (λ rest. (mode : Grammar) → Adds mode (92 ∷ 117 ∷ bytes.now) rest.now text.old.items text.new.items) }
     ensures shorter { IfOk result (λ rest. length rest.now ≤ length bytes.now) }
     ensures room { IfOk result (λ rest. vec_len text.new + length rest.now ≤ vec_len text.old + 2 + length bytes.now) }
-    ensures err { IfErr result (λ fault. (mode : Mode) → Stops mode (92 ∷ 117 ∷ bytes.now) (code_of fault.code) fault.left) }
+    ensures err { IfErr result (λ fault. (mode : Grammar) → Stops mode (92 ∷ 117 ∷ bytes.now) (code_of fault.code) fault.left) }
     ensures capacity { vec_capacity text.old ≤ vec_capacity text.new }
 {
     let first = read_unit(bytes)?;
@@ -255,8 +257,8 @@ fn units<'a>(bytes: &'a [u8], text: &mut Vec<u8>) -> std::result::Result<&'a [u8
 }
 
 // The byte that a backslash and this letter stand for.
-fn escaped(letter: u8) -> Option<u8>
-    ensures { (mode : Mode) → result ≡ escaped_byte mode letter }
+fn escaped(letter: u8, mode: Mode) -> Option<u8>
+    ensures { result ≡ escaped_byte (mode_of mode) letter }
 {
     match letter {
         b'"' | b'\\' | b'/' => Some(letter),
@@ -265,17 +267,25 @@ fn escaped(letter: u8) -> Option<u8>
         b'n' => Some(b'\n'),
         b'r' => Some(b'\r'),
         b't' => Some(b'\t'),
+        b'\'' => match mode {
+            Mode::Standard => None,
+            Mode::Extended => Some(letter),
+        },
         _ => None,
     }
 }
 
 // Decodes the escape whose backslash stands before the bytes, and returns what follows.
-fn escape<'a>(bytes: &'a [u8], text: &mut Vec<u8>) -> std::result::Result<&'a [u8], Fault>
+fn escape<'a>(
+    bytes: &'a [u8],
+    mode: Mode,
+    text: &mut Vec<u8>,
+) -> std::result::Result<&'a [u8], Fault>
     requires { vec_len text.old + 1 + length bytes.now ≤ vec_capacity text.old }
-    ensures ok { IfOk result (λ rest. (mode : Mode) → Adds mode (92 ∷ bytes.now) rest.now text.old.items text.new.items) }
+    ensures ok { IfOk result (λ rest. Adds (mode_of mode) (92 ∷ bytes.now) rest.now text.old.items text.new.items) }
     ensures shorter { IfOk result (λ rest. length rest.now ≤ length bytes.now) }
     ensures room { IfOk result (λ rest. vec_len text.new + length rest.now ≤ vec_len text.old + 1 + length bytes.now) }
-    ensures err { IfErr result (λ fault. (mode : Mode) → Stops mode (92 ∷ bytes.now) (code_of fault.code) fault.left) }
+    ensures err { IfErr result (λ fault. Stops (mode_of mode) (92 ∷ bytes.now) (code_of fault.code) fault.left) }
     ensures capacity { vec_capacity text.old ≤ vec_capacity text.new }
 {
     let Some((letter, rest)) = bytes.split_first() else {
@@ -287,7 +297,7 @@ fn escape<'a>(bytes: &'a [u8], text: &mut Vec<u8>) -> std::result::Result<&'a [u
     if *letter == b'u' {
         return units(rest, text);
     }
-    let Some(byte) = escaped(*letter) else {
+    let Some(byte) = escaped(*letter, mode) else {
         return Err(Fault {
             code: ParseErrorCode::InvalidEscaped(*letter),
             left: rest.len(),
@@ -309,35 +319,35 @@ fn split_run(bytes: &[u8]) -> (&[u8], &[u8])
 }
 
 // Decodes a whole body, to the end of the text.
-fn decode(bytes: &[u8], text: &mut Vec<u8>) -> std::result::Result<(), Fault>
+fn decode(bytes: &[u8], mode: Mode, text: &mut Vec<u8>) -> std::result::Result<(), Fault>
     requires { vec_len text.old + length bytes.now ≤ vec_capacity text.old }
-    ensures ok { OnOk result ((mode : Mode) → Adds mode bytes.now [] text.old.items text.new.items) }
-    ensures err { IfErr result (λ fault. (mode : Mode) → Stops mode bytes.now (code_of fault.code) fault.left) }
+    ensures ok { OnOk result (Adds (mode_of mode) bytes.now [] text.old.items text.new.items) }
+    ensures err { IfErr result (λ fault. Stops (mode_of mode) bytes.now (code_of fault.code) fault.left) }
 {
     let mut left = bytes;
     'items: while !left.is_empty() {
         let (run, rest) = split_run(left);
         extend_within(text, run);
         left = match rest.split_first() {
-            Some((_, rest)) => escape(rest, text)?,
+            Some((_, rest)) => escape(rest, mode, text)?,
             None => rest,
         };
     }
     Ok(())
 }
 
-/// Decodes a body, and moves the index past what was read of it. Both modes have the same bodies.
-pub(crate) fn unescape(alloc: Global, bytes: &[u8], idx: &mut usize) -> Result<String>
+/// Decodes a body of this mode, and moves the index past what was read of it.
+pub(crate) fn unescape(alloc: Global, bytes: &[u8], mode: Mode, idx: &mut usize) -> Result<String>
     requires { idx.old + length bytes.now < 2 ^ 64 }
-    ensures ok { IfOk result (λ text. (mode : Mode) → Decodes mode bytes.now (string_bytes text)) }
+    ensures ok { IfOk result (λ text. Decodes (mode_of mode) bytes.now (string_bytes text)) }
     ensures end { OnOk result (idx.new ≡ idx.old + length bytes.now) }
-    ensures err { IfErr result (λ e. (mode : Mode) → Refuses mode bytes.now idx.old idx.new e) }
+    ensures err { IfErr result (Refuses (mode_of mode) bytes.now idx.old idx.new) }
 {
     // The text is never longer than the bytes, so no other growth is asked for.
     let Ok(mut text) = Vec::with_capacity(alloc, bytes.len()) else {
         return Err(Error::OutOfMemory);
     };
-    if let Err(fault) = decode(bytes, &mut text) {
+    if let Err(fault) = decode(bytes, mode, &mut text) {
         *idx += bytes.len() - fault.left;
         return Err(Error::Syntax(fault.code, *idx));
     }
@@ -368,5 +378,5 @@ pub fn parse_string(alloc: Global, data: &[u8], len: usize, idx: &mut usize) -> 
 {
     // The room that is asked for is the length of the data, which is always enough.
     let _ = len;
-    unescape(alloc, data, idx)
+    unescape(alloc, data, Mode::Standard, idx)
 }

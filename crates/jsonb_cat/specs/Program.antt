@@ -1,13 +1,14 @@
 -- What the program does with its words and its streams.
 use Rattle.std.specs.Prelude.{◌≡◌, ℕ, List, [], ◌∷◌, ◌++◌, Option, Some, codes}
 use Rattle.std.specs.Io.KnownBytes.{Appends}
-use Rattle.jsonb_value.specs.Mode.{Mode, standard}
+use Rattle.jsonb_value.specs.Mode.{Mode, standard, extended}
 use Rattle.jsonb_value.specs.Tree.{Tree}
 use Rattle.jsonb_value.specs.Grammar.{IsDocument}
 use Rattle.jsonb_value.specs.Text.{text_of}
 
--- The words choose the mode: `--standard` alone chooses standard mode.
+-- The words choose the mode: none chooses extended mode, and `--standard` alone standard mode.
 pub data Chooses (words : List (List ℕ)) : Mode → Type 0 where
+  no_words : words ≡ [] → Chooses words extended
   standard_word : words ≡ codes "--standard" ∷ [] → Chooses words standard
 
 -- no document has these bytes

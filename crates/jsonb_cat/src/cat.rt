@@ -26,6 +26,7 @@ pub fn choose_mode(words: &[String]) -> Option<Mode>
         (λ mode. Chooses (map string_bytes words.now) (mode_of mode)) }
 {
     match words {
+        [] => Some(Mode::Extended),
         [word] if word.as_str() == "--standard" => Some(Mode::Standard),
         _ => None,
     }
@@ -41,6 +42,7 @@ pub fn convert(alloc: Global, mode: Mode, input: &[u8], out: &mut Vec<u8>) -> Re
 {
     let value = match mode {
         Mode::Standard => jsonb::parse_value_standard_mode(alloc, input)?,
+        Mode::Extended => jsonb::parse_value(alloc, input)?,
     };
     let old_len = out.len();
     value.write_text(out)?;

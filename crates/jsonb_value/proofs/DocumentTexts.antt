@@ -53,9 +53,9 @@ abbrev HaveTexts : (List ℕ → Tree → Type 0) → Type 0
 HaveTexts Spells = (bytes : List ℕ) (t : Tree) → Spells bytes t → has_text t ≡ true
 
 scalar_has_text : (mode : Mode) → HaveTexts (IsScalar mode)
-scalar_has_text mode bytes t (literal_value null_word) = refl
-scalar_has_text mode bytes t (literal_value true_word) = refl
-scalar_has_text mode bytes t (literal_value false_word) = refl
+scalar_has_text mode bytes t (literal_value (null_word w)) = refl
+scalar_has_text mode bytes t (literal_value (true_word w)) = refl
+scalar_has_text mode bytes t (literal_value (false_word w)) = refl
 scalar_has_text mode bytes t (string_value q s) = refl
 scalar_has_text mode bytes t (number_value n) = refl
 
@@ -87,6 +87,6 @@ text_of-has_text t h = ap (λ b. if b then Some (tree_text t) else None) h
 
 -- each tree of a document has a text
 pub document_has_text : (mode : Mode) (bytes : List ℕ) (t : Tree) → IsDocument mode bytes t → IsSome (text_of t)
-document_has_text mode bytes t (value_alone p) =
-    subst IsSome (sym (text_of-has_text t (padded_has_text mode (Derives mode max_depth) (derived_has_text mode max_depth) bytes t p))) refl
+document_has_text mode bytes t (value_alone {core = core} before d after) =
+    subst IsSome (sym (text_of-has_text t (derived_has_text mode max_depth core t d))) refl
 document_has_text mode bytes t (blanks_alone m _) = refl

@@ -2,7 +2,7 @@
 use Rattle.std.specs.Prelude.{◌≡◌, ◌≢◌, ℕ, zero, suc, List, [], ◌∷◌, ◌++◌, map}
 use Rattle.jsonb_value.specs.Mode.{Mode, extended}
 use Rattle.jsonb_value.specs.Tree.{Mark, Tree, null, array, object, no_members, trees_of, Member, put_all}
-use Rattle.jsonb_value.specs.Blanks.{IsBlanks}
+use Rattle.jsonb_value.specs.Blanks.{IsBlanks, AreLastBlanks}
 use Rattle.jsonb_value.specs.Scalar.{IsScalar, IsKey}
 
 -- `Spells bytes a` says that the bytes spell a. Blanks may stand before and after what is padded.
@@ -56,5 +56,5 @@ max_depth = 512
 
 -- A whole text: a value with blanks round it. In extended mode blanks alone stand for null.
 pub data IsDocument (mode : Mode) : List ℕ → Tree → Type 0 where
-  value_alone : {bytes : List ℕ} {t : Tree} → IsPadded mode (Derives mode max_depth) bytes t → IsDocument mode bytes t
-  blanks_alone : {bytes : List ℕ} → mode ≡ extended → IsBlanks mode bytes → IsDocument mode bytes null
+  value_alone : {before core after : List ℕ} {t : Tree} → IsBlanks mode before → Derives mode max_depth core t → AreLastBlanks mode after → IsDocument mode (before ++ (core ++ after)) t
+  blanks_alone : {bytes : List ℕ} → mode ≡ extended → AreLastBlanks mode bytes → IsDocument mode bytes null

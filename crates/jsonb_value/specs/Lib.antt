@@ -1,5 +1,6 @@
 pub mod Appending
 pub mod Arithmetic
+pub mod BareKey
 pub mod BinaryText
 pub mod Blanks
 pub mod Cast

@@ -26,13 +26,13 @@ spelling (escape letter byte) = 92 ∷ letter ∷ []
 spelling (unit braces digits) = 92 ∷ 117 ∷ after_u braces digits
 
 -- The letters that may follow a backslash, each with the byte that the two stand for: `"`, `\` and `/` themselves,
--- and b, f, n, r, t. Both modes have the same ones.
+-- and b, f, n, r, t. Extended mode has the single quote too.
 abbrev pub standard_escapes : List (ℕ × ℕ)
 standard_escapes = (34, 34) ∷ (92, 92) ∷ (47, 47) ∷ (98, 8) ∷ (102, 12) ∷ (110, 10) ∷ (114, 13) ∷ (116, 9) ∷ []
 
 abbrev pub escapes : Mode → List (ℕ × ℕ)
 escapes standard = standard_escapes
-escapes extended = standard_escapes
+escapes extended = (39, 39) ∷ standard_escapes
 
 -- the byte that stands beside a letter
 abbrev pub byte_beside : ℕ → List (ℕ × ℕ) → Option ℕ

@@ -23,8 +23,8 @@ module _ {A : Type 0} (size : ℕ) (code : Code) (close : ℕ) (part : List ℕ 
   joined_at (suc turns) bytes = part bytes >>= λ x. after_part (joined_at turns) x.0 x.1
 
 -- what is read, with the blanks round it passed
-abbrev pub padded_at : {A : Type 0} → (List ℕ → Read A) → List ℕ → Read A
-padded_at read bytes = read (skip_blanks bytes) >>= λ x. Ok (x.0, skip_blanks x.1)
+abbrev pub padded_at : {A : Type 0} → Mode → (List ℕ → Read A) → List ℕ → Read A
+padded_at mode read bytes = read (skip_blanks mode bytes) >>= λ x. Ok (x.0, skip_blanks mode x.1)
 
 -- ---- arrays
 
@@ -41,14 +41,14 @@ abbrev pub value_or_null : Mode → (List ℕ → Read Tree) → List ℕ → Re
 value_or_null mode value bytes = if is_left_out mode bytes then Ok (null, bytes) else value bytes
 
 abbrev pub element_at : Mode → (List ℕ → Read Tree) → List ℕ → Read Tree
-element_at mode value = padded_at (value_or_null mode value)
+element_at mode value = padded_at mode (value_or_null mode value)
 
 abbrev pub elements_at : ℕ → Mode → (List ℕ → Read Tree) → List ℕ → Read Tree
-elements_at size mode value bytes = joined_at size expected_array_comma_or_end 93 (element_at mode value) (suc (length bytes)) (skip_blanks bytes) >>= λ x. Ok (array (trees_of x.0), x.1)
+elements_at size mode value bytes = joined_at size expected_array_comma_or_end 93 (element_at mode value) (suc (length bytes)) (skip_blanks mode bytes) >>= λ x. Ok (array (trees_of x.0), x.1)
 
 -- an array, from the byte after the bracket on
 abbrev pub array_at : ℕ → Mode → (List ℕ → Read Tree) → List ℕ → Read Tree
-array_at size mode value bytes = on_byte 93 (skip_blanks bytes) (λ rest. Ok (array no_trees, rest)) (elements_at size mode value bytes)
+array_at size mode value bytes = on_byte 93 (skip_blanks mode bytes) (λ rest. Ok (array no_trees, rest)) (elements_at size mode value bytes)
 
 -- ---- objects
 
@@ -65,11 +65,11 @@ member_of f = (f.key, f.tree)
 abbrev pub found_at : Mark × List ℕ → ℕ → Tree × List ℕ → Read Found
 found_at key place x = Ok (record { mark = key.0; key = key.1; tree = x.0; place = place }, x.1)
 
-abbrev pub after_key : ℕ → (List ℕ → Read Tree) → Mark × List ℕ → ℕ → List ℕ → Read Found
-after_key size value key place bytes = on_byte 58 bytes (λ rest. padded_at value rest >>= found_at key place) (refused size expected_colon 0 bytes)
+abbrev pub after_key : ℕ → Mode → (List ℕ → Read Tree) → Mark × List ℕ → ℕ → List ℕ → Read Found
+after_key size mode value key place bytes = on_byte 58 bytes (λ rest. padded_at mode value rest >>= found_at key place) (refused size expected_colon 0 bytes)
 
 abbrev pub member_at : ℕ → Mode → (List ℕ → Read Tree) → List ℕ → Read Found
-member_at size mode value bytes = key_at size mode (skip_blanks bytes) >>= λ k. after_key size value k.0 (size - length k.1) (skip_blanks k.1)
+member_at size mode value bytes = key_at size mode (skip_blanks mode bytes) >>= λ k. after_key size mode value k.0 (size - length k.1) (skip_blanks mode k.1)
 
 -- A key, and the place after it.
 pub record Spot : Type 0 where
@@ -112,8 +112,8 @@ object_or_fault None fs rest = Ok (object (put_all (map member_of fs) no_members
 object_or_fault (Some s) fs rest = fault (object_duplicate_key s.key) s.place
 
 abbrev pub members_at : ℕ → Mode → (List ℕ → Read Tree) → List ℕ → Read Tree
-members_at size mode value bytes = joined_at size expected_object_comma_or_end 125 (member_at size mode value) (suc (length bytes)) (skip_blanks bytes) >>= λ x. object_or_fault (first_repeat (map spot_of x.0)) x.0 x.1
+members_at size mode value bytes = joined_at size expected_object_comma_or_end 125 (member_at size mode value) (suc (length bytes)) (skip_blanks mode bytes) >>= λ x. object_or_fault (first_repeat (map spot_of x.0)) x.0 x.1
 
 -- an object, from the byte after the brace on
 abbrev pub object_at : ℕ → Mode → (List ℕ → Read Tree) → List ℕ → Read Tree
-object_at size mode value bytes = on_byte 125 (skip_blanks bytes) (λ rest. Ok (object no_members, rest)) (members_at size mode value bytes)
+object_at size mode value bytes = on_byte 125 (skip_blanks mode bytes) (λ rest. Ok (object no_members, rest)) (members_at size mode value bytes)

@@ -128,6 +128,7 @@ impl<'a> Parser<'a> {
     {
         match self.mode {
             Mode::Standard => false,
+            Mode::Extended => matches!(self.peek(), Some(b',' | b']')),
         }
     }
 

@@ -16,7 +16,7 @@ use jsonb_value::error::{Error, ParseErrorCode, Result};
 use jsonb_value::number::Number;
 
 // 64 bits hold each number of so many digits.
-const SAFE_DIGITS: usize = 19;
+pub(super) const SAFE_DIGITS: usize = 19;
 
 // Digits: how many, and their number, where 64 bits hold it.
 #[derive(Clone, Copy)]
@@ -26,14 +26,14 @@ struct Digits {
 }
 
 // The byte at an index, or 0 past the end.
-fn byte_at(bytes: &[u8], index: usize) -> u8
+pub(super) fn byte_at(bytes: &[u8], index: usize) -> u8
     ensures { result ≡ slice_index bytes.now index }
 {
     if index < bytes.len() { bytes[index] } else { 0 }
 }
 
 // The index after the digits from `start` on.
-fn digits_end(bytes: &[u8], start: usize) -> usize
+pub(super) fn digits_end(bytes: &[u8], start: usize) -> usize
     requires { start ≤ length bytes.now }
     ensures end { result ≡ digits_from bytes.now start }
     ensures within { result ≤ length bytes.now }
@@ -156,7 +156,7 @@ fn fraction_end(bytes: &[u8], start: usize) -> std::result::Result<usize, usize>
 }
 
 // The index after a sign, if one is there.
-fn sign_end(bytes: &[u8], start: usize) -> usize
+pub(super) fn sign_end(bytes: &[u8], start: usize) -> usize
     requires { start ≤ length bytes.now }
     ensures end { result ≡ sign_end bytes.now start }
     ensures within { result ≤ length bytes.now }
@@ -168,7 +168,7 @@ fn sign_end(bytes: &[u8], start: usize) -> usize
 }
 
 // The index after an exponent, if one is there; else the place of the fault.
-fn exponent_end(bytes: &[u8], start: usize) -> std::result::Result<usize, usize>
+pub(super) fn exponent_end(bytes: &[u8], start: usize) -> std::result::Result<usize, usize>
     requires { start ≤ length bytes.now }
     ensures end { result ≡ exponent_from bytes.now start }
     ensures within { IfOk result (λ end. end ≤ length bytes.now) }

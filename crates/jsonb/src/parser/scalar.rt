@@ -1,16 +1,27 @@
 //! Values that hold no others, and keys.
-ghost use Rattle.std.specs.Prelude.{◌≡◌, ◌≤◌, Contains, Err, IfOk, false};
+ghost use Rattle.std.specs.Prelude.{◌≡◌, ◌≢◌, ◌<◌, ◌≤◌, ◌∷◌, Contains, MatchBool, Err, IfOk, false};
 ghost use Rattle.std.specs.Cow.{cow_str_bytes};
-ghost use Rattle.jsonb_value.specs.View.{mark_view};
+ghost use Rattle.jsonb_value.specs.View.{mark_view, number_view};
 ghost use Rattle.jsonb.specs.AstView.{ast_view};
 ghost use Rattle.jsonb.specs.OpenSource.{holds_others};
 ghost use Rattle.jsonb.specs.Parser.{rest_of, size_of, mode_of, Advances, Gives};
-ghost use Rattle.jsonb.specs.Reading.Scalar.{begins_number, letters_at, word_at, quoted_at, number_or_fault, scalar_at, key_at};
+ghost use Rattle.jsonb.specs.Reading.Scalar.{begins_letter, begins_number, begins_single_quote, folded, letters_at, null_at, number_at, word_at, quoted_at, number_or_fault, scalar_at, words_at, key_at};
 ghost use Rattle.jsonb.specs.Source.{source_view};
 
 use super::{JsonAst, Mode, Parser};
 use jsonb_value::error::{Error, ParseErrorCode, Result};
+use jsonb_value::number::Number;
 use std::borrow::CowStr;
+
+// A letter as words have it: in extended mode in lower case.
+fn fold(letter: u8, mode: Mode) -> u8
+    ensures { result ≡ folded (mode_of mode) letter }
+{
+    match mode {
+        Mode::Standard => letter,
+        Mode::Extended => letter.to_ascii_lowercase(),
+    }
+}
 
 impl<'a> Parser<'a> {
     // A value that holds no others.
@@ -22,29 +33,57 @@ impl<'a> Parser<'a> {
         ensures advances { Advances self.old self.new }
     {
         if self.take_byte(b'"') {
-            return self.parse_string_value();
+            return self.parse_string_value(b'"');
         }
-        if self.next_is(b'n') {
-            return self.parse_literal(b"null", JsonAst::Null);
+        if self.take_single_quote() {
+            return self.parse_string_value(b'\'');
         }
-        if self.next_is(b't') {
+        self.parse_word_or_number()
+    }
+
+    // A word or a number as a value.
+    fn parse_word_or_number(&mut self) -> Result<JsonAst<'a>>
+        requires { self.old.idx ≤ size_of self.old }
+        ensures reads { Gives (λ v. (ast_view v, rest_of self.new)) result (words_at (size_of self.old) (mode_of self.old.mode) (rest_of self.old)) }
+        ensures alone { IfOk result (λ v. holds_others (source_view v) ≡ false) }
+        ensures memory { result ≡ Err Error.OutOfMemory → Contains self.old.buf.now 92 }
+        ensures advances { Advances self.old self.new }
+    {
+        if self.next_is_letter(b'n') {
+            return self.parse_null();
+        }
+        if self.next_is_letter(b't') {
             return self.parse_literal(b"true", JsonAst::Bool(true));
         }
-        if self.next_is(b'f') {
+        if self.next_is_letter(b'f') {
             return self.parse_literal(b"false", JsonAst::Bool(false));
         }
         self.parse_number_value()
     }
 
+    // Passes a single quote, where one comes next that begins a string.
+    fn take_single_quote(&mut self) -> bool
+        ensures found { result ≡ begins_single_quote (mode_of self.old.mode) (rest_of self.old) }
+        ensures rest { MatchBool result (rest_of self.old ≡ 39 ∷ rest_of self.new) (self.new ≡ self.old) }
+        ensures inside { MatchBool result (self.new.idx ≤ size_of self.new) (self.new ≡ self.old) }
+        ensures advances { Advances self.old self.new }
+    {
+        match self.mode {
+            Mode::Standard => false,
+            Mode::Extended => self.take_byte(b'\''),
+        }
+    }
+
     // A string as a value, from the byte after the opening quote on.
-    fn parse_string_value(&mut self) -> Result<JsonAst<'a>>
-        requires { self.old.idx ≤ size_of self.old }
-        ensures reads { Gives (λ v. (ast_view v, rest_of self.new)) result (quoted_at (size_of self.old) (mode_of self.old.mode) 34 (rest_of self.old)) }
+    fn parse_string_value(&mut self, quote: u8) -> Result<JsonAst<'a>>
+        requires no_backslash { quote ≢ 92 }
+        requires inside { self.old.idx ≤ size_of self.old }
+        ensures reads { Gives (λ v. (ast_view v, rest_of self.new)) result (quoted_at (size_of self.old) (mode_of self.old.mode) quote (rest_of self.old)) }
         ensures alone { IfOk result (λ v. holds_others (source_view v) ≡ false) }
         ensures memory { result ≡ Err Error.OutOfMemory → Contains self.old.buf.now 92 }
         ensures advances { Advances self.old self.new }
     {
-        let text = self.parse_quoted(b'"')?;
+        let text = self.parse_quoted(quote)?;
         Ok(JsonAst::String(text))
     }
 
@@ -54,6 +93,12 @@ impl<'a> Parser<'a> {
     {
         match self.mode {
             Mode::Standard => matches!(self.peek(), Some(b'0'..=b'9' | b'-')),
+            Mode::Extended => {
+                matches!(
+                    self.peek(),
+                    Some(b'0'..=b'9' | b'-' | b'+' | b'.' | b'i' | b'I')
+                )
+            }
         }
     }
 
@@ -68,9 +113,40 @@ impl<'a> Parser<'a> {
         if !self.begins_number() {
             return Err(self.unexpected(ParseErrorCode::ExpectedSomeValue, 1));
         }
+        let number = self.parse_number()?;
+        Ok(JsonAst::Number(number))
+    }
+
+    // A number, or a word that names none.
+    fn parse_number(&mut self) -> Result<Number>
+        requires { self.old.idx ≤ size_of self.old }
+        ensures reads { Gives (λ n. (number_view n, rest_of self.new)) result (number_at (size_of self.old) (mode_of self.old.mode) (rest_of self.old)) }
+        ensures takes_no_memory { result ≢ Err Error.OutOfMemory }
+        ensures advances { Advances self.old self.new }
+    {
         match self.mode {
-            Mode::Standard => {
-                let number = self.parse_standard_number()?;
+            Mode::Standard => self.parse_standard_number(),
+            Mode::Extended => self.parse_extended_number(),
+        }
+    }
+
+    // `null`; where that fails, in extended mode a number's word may begin with the same letter.
+    fn parse_null(&mut self) -> Result<JsonAst<'a>>
+        requires { self.old.idx ≤ size_of self.old }
+        ensures reads { Gives (λ v. (ast_view v, rest_of self.new)) result (null_at (size_of self.old) (mode_of self.old.mode) (rest_of self.old)) }
+        ensures alone { IfOk result (λ v. holds_others (source_view v) ≡ false) }
+        ensures memory { result ≡ Err Error.OutOfMemory → Contains self.old.buf.now 92 }
+        ensures advances { Advances self.old self.new }
+    {
+        match self.mode {
+            Mode::Standard => self.parse_literal(b"null", JsonAst::Null),
+            Mode::Extended => {
+                let start = self.idx;
+                if self.parse_word(b"null").is_ok() {
+                    return Ok(JsonAst::Null);
+                }
+                self.idx = start;
+                let number = self.parse_number()?;
                 Ok(JsonAst::Number(number))
             }
         }
@@ -79,7 +155,7 @@ impl<'a> Parser<'a> {
     // The value, where the word comes next.
     #[inline(always)]
     fn parse_literal(&mut self, word: &[u8], value: JsonAst<'a>) -> Result<JsonAst<'a>>
-        ensures reads { Gives (λ v. (ast_view v, rest_of self.new)) result (word_at (size_of self.old) word.now (ast_view value.entry) (rest_of self.old)) }
+        ensures reads { Gives (λ v. (ast_view v, rest_of self.new)) result (word_at (size_of self.old) (mode_of self.old.mode) word.now (ast_view value.entry) (rest_of self.old)) }
         ensures same { IfOk result (λ v. v ≡ value.entry) }
         ensures memory { result ≡ Err Error.OutOfMemory → Contains self.old.buf.now 92 }
         ensures advances { Advances self.old self.new }
@@ -89,16 +165,25 @@ impl<'a> Parser<'a> {
     }
 
     fn parse_word(&mut self, word: &[u8]) -> Result<()>
-        ensures reads { Gives (λ _. rest_of self.new) result (letters_at (size_of self.old) word.now (rest_of self.old)) }
-        ensures memory { result ≡ Err Error.OutOfMemory → Contains self.old.buf.now 92 }
+        ensures reads { Gives (λ _. rest_of self.new) result (letters_at (size_of self.old) (mode_of self.old.mode) word.now (rest_of self.old)) }
+        ensures named { result ≢ Err Error.OutOfMemory }
         ensures advances { Advances self.old self.new }
     {
         'letters: for letter in word {
-            if !self.take_byte(*letter) {
+            if !self.next_is_letter(*letter) {
                 return Err(self.unexpected(ParseErrorCode::ExpectedSomeIdent, 1));
             }
+            self.idx += 1;
         }
         Ok(())
+    }
+
+    // Whether this letter comes next.
+    fn next_is_letter(&self, letter: u8) -> bool
+        ensures found { result ≡ begins_letter (mode_of self.now.mode) letter (rest_of self.now) }
+        ensures within { MatchBool result (self.now.idx < size_of self.now) (Unit {0}) }
+    {
+        matches!(self.peek(), Some(next) if fold(next, self.mode) == letter)
     }
 
     // A key.
@@ -108,9 +193,15 @@ impl<'a> Parser<'a> {
         ensures memory { result ≡ Err Error.OutOfMemory → Contains self.old.buf.now 92 }
         ensures advances { Advances self.old self.new }
     {
-        if !self.take_byte(b'"') {
-            return Err(self.unexpected(ParseErrorCode::ExpectedSomeIdent, 1));
+        if self.take_byte(b'"') {
+            return self.parse_quoted(b'"');
         }
-        self.parse_quoted(b'"')
+        if self.take_single_quote() {
+            return self.parse_quoted(b'\'');
+        }
+        match self.mode {
+            Mode::Standard => Err(self.unexpected(ParseErrorCode::ExpectedSomeIdent, 1)),
+            Mode::Extended => self.parse_bare_key(),
+        }
     }
 }

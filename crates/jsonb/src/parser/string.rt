@@ -1,7 +1,6 @@
 //! Quoted strings.
 ghost use Rattle.std.specs.Prelude.{◌≡◌, ◌≢◌, ◌⊎◌, ℕ, ◌+◌, ◌<◌, ◌≤◌, ◌^◌, length, slice_index, Contains, Err, true};
 ghost use Rattle.std.specs.Cow.{cow_str_bytes};
-ghost use Rattle.jsonb_value.specs.Mode.{Mode};
 ghost use Rattle.jsonb_value.specs.StringStep.{escape_step};
 ghost use Rattle.jsonb_value.specs.View.{mark_view};
 ghost use Rattle.jsonb.specs.Decoding.{TellsBackslash};
@@ -9,7 +8,7 @@ ghost use Rattle.jsonb.specs.Parser.{rest_of, size_of, mode_of, Advances, Gives}
 ghost use Rattle.jsonb.specs.QuotedString.{EndsString, ReadsBody};
 ghost use Rattle.jsonb.specs.Reading.String.{body_of, string_at};
 
-use super::Parser;
+use super::{Mode, Parser};
 use crate::util::unescape;
 use jsonb_value::error::{Error, ParseErrorCode, Result};
 use memchr::memchr2;
@@ -75,15 +74,21 @@ fn find_end(bytes: &[u8], quote: u8) -> StringEnd
 
 // The text of a body, given whether it has a backslash. `idx` is the index after the opening quote and one more, from
 // which the decoder counts. Only a body with a backslash takes memory.
-fn read_body<'a>(alloc: Global, body: &'a [u8], escaped: bool, idx: usize) -> Result<CowStr<'a>>
+fn read_body<'a>(
+    alloc: Global,
+    body: &'a [u8],
+    mode: Mode,
+    escaped: bool,
+    idx: usize,
+) -> Result<CowStr<'a>>
     requires escaped { TellsBackslash body.now (length body.now) escaped }
     requires room { idx + length body.now < 2 ^ 64 }
-    ensures reads { (mode : Mode) → ReadsBody idx result (body_of mode body.now) }
+    ensures reads { ReadsBody idx result (body_of (mode_of mode) body.now) }
     ensures memory { result ≡ Err Error.OutOfMemory → escaped ≡ true }
 {
     if escaped {
         let mut idx = idx;
-        let text = unescape(alloc, body, &mut idx)?;
+        let text = unescape(alloc, body, mode, &mut idx)?;
         return Ok(CowStr::Owned(text));
     }
     match std::str::from_utf8(body) {
@@ -108,7 +113,7 @@ impl<'a> Parser<'a> {
                 Err(Error::Syntax(ParseErrorCode::InvalidEOF, self.idx + at))
             }
             StringEnd::Closed { end, escaped } => {
-                let text = read_body(self.alloc, &rest[..end], escaped, self.idx + 1)?;
+                let text = read_body(self.alloc, &rest[..end], self.mode, escaped, self.idx + 1)?;
                 self.idx += end + 1;
                 Ok(text)
             }

@@ -1,5 +1,5 @@
 // Answers against worked examples, with ample memory.
-use super::{JsonAst, Mode, parse_value_standard_mode};
+use super::{JsonAst, Mode, parse_value, parse_value_standard_mode};
 use jsonb_value::error::{Error, ParseErrorCode};
 use jsonb_value::number::Number;
 use jsonb_value::value::Value;
@@ -248,5 +248,164 @@ fn members_are_sorted(rt: HostRuntime) -> Result<(), Fail> {
     assert!(rt; read == want);
     let refused = JsonAst::parse(alloc, b"[", Mode::Standard);
     assert!(rt; refused == Err(Error::Syntax(ParseErrorCode::InvalidEOF, 1)));
+    Ok(())
+}
+
+// The text of the document's value in extended mode, which is read again as the same text; or that of the refusal.
+fn extended(alloc: Global, input: &[u8]) -> Result<String, Fail> {
+    let text = match extended_text(alloc, input) {
+        Ok(text) => text,
+        Err(error) => return Ok(format!(in alloc; "{error}")?),
+    };
+    let again = extended_text(alloc, &text)?;
+    if again[..] != text[..] {
+        return Ok(String::from_str(alloc, "another value is read back")?);
+    }
+    Ok(String::from_utf8(text)?)
+}
+
+fn extended_text(alloc: Global, input: &[u8]) -> Result<Vec<u8>, Error> {
+    let value = parse_value(alloc, input)?;
+    let mut text = Vec::new(alloc);
+    value.write_text(&mut text)?;
+    Ok(text)
+}
+
+#[test]
+fn extended_words_and_strings(rt: HostRuntime) -> Result<(), Fail> {
+    for (input, want) in [
+        ("", "null"),
+        (" \\n", "null"),
+        ("NULL", "null"),
+        ("True", "true"),
+        ("fAlSe", "false"),
+        ("nUlX", "expected ident, pos 2"),
+        ("nu", "expected ident, pos 2"),
+        ("n", "EOF while parsing a value, pos 1"),
+        ("tru", "EOF while parsing a value, pos 3"),
+        ("nan", "number not carried, pos 3"),
+        ("'say \"x\"'", "\"say \\\"x\\\"\""),
+        ("\"it's\"", "\"it's\""),
+        ("'it\\'s'", "\"it's\""),
+        ("\"\\'\"", "\"'\""),
+        ("'a\\'", "EOF while parsing a value, pos 4"),
+        ("'a", "EOF while parsing a value, pos 2"),
+        ("a", "expected value, pos 1"),
+    ] {
+        assert_eq!(rt;
+            extended(rt.alloc(), input.as_bytes())?.as_str(),
+            want,
+            "of {input}"
+        );
+    }
+    Ok(())
+}
+
+#[test]
+fn extended_arrays_and_objects(rt: HostRuntime) -> Result<(), Fail> {
+    for (input, want) in [
+        ("[,]", "[null,null]"),
+        ("[ ,]", "[null,null]"),
+        ("[1,]", "[1,null]"),
+        ("[ ]", "[]"),
+        ("[a]", "expected value, pos 2"),
+        ("[1 2]", "expected `,` or `]`, pos 3"),
+        ("{a:1,'b':[],\"c\":{}}", "{\"a\":1,\"b\":[],\"c\":{}}"),
+        ("{$a_1\u{E9}:1}", "{\"$a_1\u{E9}\":1}"),
+        (
+            "{a:1,}",
+            "object attribute name cannot be invalid character, pos 5",
+        ),
+        (
+            "{:1}",
+            "object attribute name cannot be invalid character, pos 1",
+        ),
+        ("{1a:2}", "object attribute name cannot be a number, pos 2"),
+        ("{1", "object attribute name cannot be a number, pos 2"),
+        ("{a,b}", "expected `:`, pos 2"),
+        ("{a/", "expected `:`, pos 2"),
+        ("{a:}", "expected value, pos 4"),
+        ("{a", "EOF while parsing a value, pos 2"),
+        ("{", "EOF while parsing a value, pos 1"),
+        ("{a:1,a:2}", "duplicate object attribute \"a\", pos 6"),
+        ("{'a\\u", "EOF while parsing a value, pos 5"),
+    ] {
+        assert_eq!(rt;
+            extended(rt.alloc(), input.as_bytes())?.as_str(),
+            want,
+            "of {input}"
+        );
+    }
+    for (input, want) in [
+        (
+            &b"{\x80:1}"[..],
+            "object attribute name cannot be invalid character, pos 1",
+        ),
+        (
+            &b"{\xC3(\x80:1}"[..],
+            "object attribute name cannot be invalid character, pos 3",
+        ),
+        (&b"{\xC3"[..], "EOF while parsing a value, pos 3"),
+        (&b"{\xE4"[..], "EOF while parsing a value, pos 4"),
+        (&b"{\xFF"[..], "EOF while parsing a value, pos 5"),
+        (&b"{\xC3(:1}"[..], "invalid string, pos 3"),
+    ] {
+        assert_eq!(rt; extended(rt.alloc(), input)?.as_str(), want);
+    }
+    Ok(())
+}
+
+#[test]
+fn comments(rt: HostRuntime) -> Result<(), Fail> {
+    for (input, want) in [
+        ("// a\n1", "1"),
+        ("// a\r1", "1"),
+        ("// a\\n1", "null"),
+        ("{a/**/:/*,*/1//}\n}", "{\"a\":1}"),
+        ("/***/[/*a*/,/*b*/]", "[null,null]"),
+        ("[/*a*/]", "[]"),
+        ("1 // a", "1"),
+        ("1/**/", "1"),
+        ("\"a\"//", "\"a\""),
+        ("/*/", "EOF while parsing a value, pos 3"),
+        ("1/*", "EOF while parsing a value, pos 3"),
+        ("[1/*", "EOF while parsing a value, pos 4"),
+        ("[1//x", "EOF while parsing a value, pos 5"),
+        ("{/*", "EOF while parsing a value, pos 3"),
+        ("{a:1//", "EOF while parsing a value, pos 6"),
+        ("/", "expected value, pos 1"),
+        ("[/", "expected value, pos 2"),
+        ("1/", "trailing characters, pos 2"),
+        ("1 /x", "trailing characters, pos 3"),
+        ("[1/2]", "expected `,` or `]`, pos 2"),
+        ("-/**/1", "invalid number, pos 1"),
+    ] {
+        assert_eq!(rt;
+            extended(rt.alloc(), input.as_bytes())?.as_str(),
+            want,
+            "of {input}"
+        );
+    }
+    for input in ["// x", "/**/1"] {
+        assert_eq!(rt;
+            answer(rt.alloc(), input.as_bytes())?.as_str(),
+            "expected value, pos 1"
+        );
+    }
+    assert_eq!(rt; extended(rt.alloc(), b"// \xFF\n1")?.as_str(), "1");
+    Ok(())
+}
+
+#[test]
+fn extended_depth(rt: HostRuntime) -> Result<(), Fail> {
+    let alloc = rt.alloc();
+    let mut input = Vec::new(alloc);
+    for _ in 0..513 {
+        input.extend_from_slice(b"{a:")?;
+    }
+    assert_eq!(rt;
+        extended(alloc, &input)?.as_str(),
+        "depth limit exceeded, pos 1537"
+    );
     Ok(())
 }

@@ -93,7 +93,7 @@ fn wrong_words_give_the_usage_line_before_reading(
     rt: HostRuntime,
 ) -> std::result::Result<(), Fail> {
     let usage = "usage: jsonb_cat [--standard]\n";
-    for words in ["", "--x", "--Standard", "--standard --standard"] {
+    for words in ["--x", "--Standard", "--standard --standard"] {
         let mut input = Endless {
             reads: 0,
             least_room: usize::MAX,
@@ -162,6 +162,19 @@ fn documents_are_written_as_lines(rt: HostRuntime) -> std::result::Result<(), Fa
         ("\"\\'\"", 1, "", "invalid escaped '27', pos 4\n"),
     ] {
         expect_run(&rt, "--standard", &mut input.as_bytes(), status, out, err)?;
+    }
+    Ok(())
+}
+
+#[test]
+fn no_words_choose_extended_mode(rt: HostRuntime) -> std::result::Result<(), Fail> {
+    for (input, status, out, err) in [
+        ("", 0, "null\n", ""),
+        ("[,'a']", 0, "[null,\"a\"]\n", ""),
+        ("{a:1 /* b */}", 0, "{\"a\":1}\n", ""),
+        ("1 /*", 1, "", "EOF while parsing a value, pos 4\n"),
+    ] {
+        expect_run(&rt, "", &mut input.as_bytes(), status, out, err)?;
     }
     Ok(())
 }

@@ -1,11 +1,13 @@
-use Rattle.std.proofs.Common.{nat_eq, refl, sym, ap, ◌∙◌, arith}
+use Rattle.std.proofs.Common.{nat_eq, ne_eqb, sym, ap, ◌∙◌, ◌||◌}
 use Rattle.jsonb.specs.Reading.Blank.{skip_blanks}
-use Rattle.jsonb.specs.Parser.{rest_of}
-use Rattle.jsonb.proofs.Skips.{skip-by_backslash, skip-nil}
+use Rattle.jsonb.specs.Parser.{mode_of, rest_of}
+use Rattle.jsonb.proofs.Skips.{skip-by_slash, skip-nil}
 use Rattle.jsonb.proofs.parser.Parser.may_begin_blank.Goals as goal
 
-pub returns-else-byte-le32 : goal.returns-else-byte-le32
-returns-else-byte-le32 c = skip-by_backslash c.in-Some.byte _ (rest_of c.args.self.now) c.in-Some.ensures.next (omega arith) (nat_eq c.in-Some.byte 92) refl
+pub returns-else-byte-eq92 : goal.returns-else-byte-eq92
+returns-else-byte-eq92 c =
+    let byte = c.in-Some.byte in
+    skip-by_slash (mode_of c.args.self.now.mode) byte _ (rest_of c.args.self.now) c.in-Some.ensures.next c.if-byte-eq92.false.0 (nat_eq byte 47) (ap (λ t. t || nat_eq byte 47) (ne_eqb byte 92 c.if-byte-eq92.false.1))
 
 pub returns-in-None : goal.returns-in-None
-returns-in-None c = ap skip_blanks c.in-None.ensures.next ∙ skip-nil ∙ sym c.in-None.ensures.next
+returns-in-None c = let mode = mode_of c.args.self.now.mode in ap (skip_blanks mode) c.in-None.ensures.next ∙ skip-nil mode ∙ sym c.in-None.ensures.next

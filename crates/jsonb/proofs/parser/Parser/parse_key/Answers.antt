@@ -1,20 +1,32 @@
-use Rattle.std.proofs.Common.{◌≡◌, false, Err, ap, sym, ◌∙◌}
+use Rattle.std.proofs.Common.{ap, sym, ◌∙◌}
 use Rattle.jsonb_value.specs.Code.Code.{expected_some_ident}
 use Rattle.jsonb.specs.Parser.{mode_of, rest_of, size_of}
-use Rattle.jsonb.specs.Reading.{begins, fault_at}
-use Rattle.jsonb.specs.Reading.Scalar.{key_at}
-use Rattle.jsonb.proofs.Outcomes.{key_other, key_quoted}
+use Rattle.jsonb.specs.Reading.{fault_at}
+use Rattle.jsonb.specs.Reading.Scalar.{key_at, unquoted_at}
+use Rattle.jsonb.proofs.Outcomes.{key_bare, key_quoted, key_single}
 use Rattle.jsonb.proofs.Scans.{fails}
 use Rattle.jsonb.proofs.parser.Parser.parse_key.Goals as goal
 
-pub returns-then-not-take_byte-clause-reads : goal.returns-then-not-take_byte-clause-reads
-returns-then-not-take_byte-clause-reads c =
+pub returns-then-take_byte-clause-reads : goal.returns-then-take_byte-clause-reads
+returns-then-take_byte-clause-reads c = rw (key_quoted c.args.self.now c.take_byte.new.self c.take_byte.ensures.advances c.if-take_byte.ensures.rest) c.parse_quoted.ensures.reads
+
+pub returns-then-take_single_quote-clause-reads : goal.returns-then-take_single_quote-clause-reads
+returns-then-take_single_quote-clause-reads c =
+    rw (key_single c.args.self.now c.take_byte.new.self c.take_single_quote.new.self c.if-take_byte.ensures.rest (sym c.if-take_byte.ensures.found) c.take_single_quote.ensures.advances (sym c.if-take_single_quote.ensures.found) c.if-take_single_quote.ensures.rest)
+    c.parse_quoted-then-take_single_quote.ensures.reads
+
+pub returns-in-Standard-clause-reads : goal.returns-in-Standard-clause-reads
+returns-in-Standard-clause-reads c =
     let p = c.args.self.now in
     let q = c.take_byte.new.self in
-    let same : q ≡ p = c.if-not-take_byte.ensures.rest in
-    let none : begins 34 (rest_of p) ≡ false = sym c.if-not-take_byte.ensures.found in
-    fails c.unexpected.result (fault_at (size_of q) expected_some_ident 1 (rest_of q)) (key_at (size_of p) (mode_of p.mode) (rest_of p)) c.unexpected.ensures
-    (key_other p none ∙ ap (λ r. Err (fault_at (size_of r) expected_some_ident 1 (rest_of r))) (sym same))
+    let r = c.take_single_quote.new.self in
+    fails c.unexpected.result (fault_at (size_of r) expected_some_ident 1 (rest_of r)) (key_at (size_of p) (mode_of p.mode) (rest_of p)) c.unexpected.ensures
+    (key_bare p q r c.if-take_byte.ensures.rest (sym c.if-take_byte.ensures.found) c.if-take_single_quote.ensures.rest (sym c.if-take_single_quote.ensures.found) ∙ ap (λ m. unquoted_at (size_of r) (mode_of m) (rest_of r)) c.in-Standard.is)
 
-pub returns-clause-reads : goal.returns-clause-reads
-returns-clause-reads c = rw (key_quoted c.args.self.now c.take_byte.new.self c.take_byte.ensures.advances c.if-not-take_byte.ensures.rest) c.parse_quoted.ensures.reads
+pub returns-in-Extended-clause-reads : goal.returns-in-Extended-clause-reads
+returns-in-Extended-clause-reads c =
+    let p = c.args.self.now in
+    let q = c.take_byte.new.self in
+    let r = c.take_single_quote.new.self in
+    rw (key_bare p q r c.if-take_byte.ensures.rest (sym c.if-take_byte.ensures.found) c.if-take_single_quote.ensures.rest (sym c.if-take_single_quote.ensures.found) ∙ ap (λ m. unquoted_at (size_of r) (mode_of m) (rest_of r)) c.in-Extended.is)
+    c.parse_bare_key.ensures.reads

@@ -32,7 +32,7 @@ returns-in_err-text-in-Closed-clause-reads c =
     let r = err_from_is_err_and c.from_residual.result c.from_residual.ensures.1 in
     let mode = mode_of p.mode in
     let found = ap (quote_end c.args.quote) (sym rest-is) ∙ c.in-Closed.ensures.0 in
-    let body = subst (λ (u : List ℕ). ReadsBody (p.idx + 1) (Err e) (body_of mode (take end u))) rest-is (c.in_err-text-in-Closed.ensures.reads mode) in
+    let body = subst (λ (u : List ℕ). ReadsBody (p.idx + 1) (Err e) (body_of mode (take end u))) rest-is c.in_err-text-in-Closed.ensures.reads in
     rw (r.1, r.2) (body_fails (size_of p) mode c.args.quote (rest_of p) end p.idx e found (omega (arith, length-drop p.idx p.buf.now, c.requires.inside)) body)
 
 pub returns-in_err-text-in-Closed-clause-memory : goal.returns-in_err-text-in-Closed-clause-memory
@@ -73,7 +73,7 @@ returns-in_ok-text-in-Closed-clause-reads c =
     let end = c.in-Closed.end in
     let mode = mode_of p.mode in
     let found = ap (quote_end c.args.quote) (sym rest-is) ∙ c.in-Closed.ensures.0 in
-    let body = ap (λ (u : List ℕ). body_of mode (take end u)) (sym rest-is) ∙ c.in_ok-text-in-Closed.ensures.reads mode in
+    let body = ap (λ (u : List ℕ). body_of mode (take end u)) (sym rest-is) ∙ c.in_ok-text-in-Closed.ensures.reads in
     string-closed (size_of p) mode c.args.quote (rest_of p) end _ found body ∙ ap (λ (u : List ℕ). Ok ((mark_view c.in_ok-text-in-Closed.text, cow_str_bytes c.in_ok-text-in-Closed.text), u)) (drop-drop (end + 1) p.idx p.buf.now)
 
 pub returns-in_ok-text-in-Closed-clause-advances : goal.returns-in_ok-text-in-Closed-clause-advances

@@ -1,9 +1,9 @@
 use Rattle.std.proofs.Common.{◌≡◌, drop}
-use Rattle.jsonb.specs.Parser.{Advances, rest_of, size_of}
+use Rattle.jsonb.specs.Parser.{Advances, mode_of, rest_of, size_of}
 use Rattle.jsonb.specs.Reading.Scalar.{letters_at}
 use Rattle.jsonb.proofs.parser.Parser.parse_word.Given as goal
 
 abbrev pub invariant-letters : goal.invariant-letters
 invariant-letters l =
-    (letters_at (size_of l.initial.self) l.word (rest_of l.initial.self) ≡ letters_at (size_of l.initial.self) (drop l.letter-index l.word) (rest_of l.self))
+    (letters_at (size_of l.initial.self) (mode_of l.initial.self.mode) l.word (rest_of l.initial.self) ≡ letters_at (size_of l.initial.self) (mode_of l.initial.self.mode) (drop l.letter-index l.word) (rest_of l.self))
     × Advances l.initial.self l.self

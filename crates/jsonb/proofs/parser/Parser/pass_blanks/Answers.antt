@@ -1,0 +1,32 @@
+use Rattle.std.proofs.Common.{◌≡◌, ◌+◌, ◌<◌, [], drop, sym, ap, ap₂, ◌∙◌, arith, drop-drop, length, length-drop}
+use Rattle.jsonb.specs.Reading.Blank.{blank_length, pass_blanks}
+use Rattle.jsonb.specs.Parser.{mode_of, rest_of}
+use Rattle.jsonb.proofs.Skips.{pass-none, pass-step, pass-nil}
+use Rattle.jsonb.proofs.Cursors.{nothing_left}
+use Rattle.jsonb.proofs.parser.Parser.pass_blanks.Goals as goal
+
+pub returns-then-n-eq0-clause-rest : goal.returns-then-n-eq0-clause-rest
+returns-then-n-eq0-clause-rest c =
+    let mode = mode_of c.args.self.now.mode in
+    let none : blank_length mode (rest_of c.blanks.self) ≡ 0 = omega (arith, ap₂ (λ m u. blank_length m u) (ap mode_of (sym c.blanks.invariant.1.mode)) (sym c.rest.ensures), c.blank_len-n.ensures.value) in
+    sym (pass-none mode (rest_of c.blanks.self) none) ∙ c.blanks.invariant.0
+
+pub blanks-preserved : goal.blanks-preserved
+blanks-preserved c =
+    let p = c.blanks.self in
+    let mode = mode_of c.args.self.now.mode in
+    let n-is : c.blank_len-n.result ≡ blank_length mode (rest_of p) = c.blank_len-n.ensures.value ∙ ap₂ (λ m r. blank_length m r) (ap mode_of c.blanks.invariant.1.mode) c.rest.ensures in
+    let some : 0 < blank_length mode (rest_of p) = omega (arith, n-is) in
+    let passed : drop (blank_length mode (rest_of p)) (rest_of p) ≡ drop (p.idx + c.blank_len-n.result) p.buf.now =
+    ap (λ n. drop n (rest_of p)) (sym n-is) ∙ drop-drop c.blank_len-n.result p.idx p.buf.now in
+    let before = c.blanks.invariant in (
+      ap (λ r. pass_blanks mode r) (sym passed) ∙ sym (pass-step mode (rest_of p) some) ∙ before.0,
+      record { buf = before.1.buf; mode = before.1.mode; onward = omega (arith, before.1.onward); inside = λ h. omega (arith, c.blank_len-n.ensures.within, ap length c.rest.ensures, length-drop p.idx p.buf.now) },
+    )
+
+pub returns-clause-rest : goal.returns-clause-rest
+returns-clause-rest c =
+    let p = c.blanks.self in
+    let mode = mode_of c.args.self.now.mode in
+    let none : rest_of p ≡ [] = nothing_left p.buf.now p.idx c.blanks-test.false in
+    none ∙ sym (pass-nil mode) ∙ ap (λ r. pass_blanks mode r) (sym none) ∙ c.blanks.invariant.0

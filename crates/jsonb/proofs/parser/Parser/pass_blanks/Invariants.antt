@@ -1,0 +1,10 @@
+use Rattle.std.proofs.Common.{◌≡◌, ◌-◌, length}
+use Rattle.jsonb.specs.Reading.Blank.{pass_blanks}
+use Rattle.jsonb.specs.Parser.{mode_of, rest_of, Advances}
+use Rattle.jsonb.proofs.parser.Parser.pass_blanks.Given as goal
+
+abbrev pub invariant-blanks : goal.invariant-blanks
+invariant-blanks l = (pass_blanks (mode_of l.initial.self.mode) (rest_of l.self) ≡ pass_blanks (mode_of l.initial.self.mode) (rest_of l.initial.self)) × Advances l.initial.self l.self
+
+abbrev pub decreases-blanks : goal.decreases-blanks
+decreases-blanks l = length l.self.buf.now - l.self.idx

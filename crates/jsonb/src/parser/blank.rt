@@ -1,0 +1,127 @@
+//! Blanks between the parts of a text.
+ghost use Rattle.std.specs.Prelude.{◌≡◌, ◌≤◌, length, MatchBool, drop};
+ghost use Rattle.jsonb_value.specs.Mode.{extended};
+ghost use Rattle.jsonb.specs.Parser.{rest_of, size_of, mode_of, Advances};
+ghost use Rattle.jsonb.specs.Reading.Blank.{longer_by, block_length, line_length, comment_length, blank_length, opens_comment, pass_blanks, skip_blanks};
+
+use super::{Mode, Parser};
+use memchr::memchr2;
+
+// How many bytes there are up to and with the first star and slash, or 0 where there are none.
+fn block_len(bytes: &[u8]) -> usize
+    ensures value { result ≡ block_length bytes.now }
+    ensures within { result ≤ length bytes.now }
+{
+    let mut at = 0;
+    'bytes: while at + 1 < bytes.len() {
+        if bytes[at] == b'*' && bytes[at + 1] == b'/' {
+            return at + 2;
+        }
+        at += 1;
+    }
+    0
+}
+
+// How many bytes there are up to and with the first end of a line, or 0 where there is none.
+fn line_len(bytes: &[u8]) -> usize
+    ensures value { result ≡ line_length bytes.now }
+    ensures within { result ≤ length bytes.now }
+{
+    match memchr2(b'\n', b'\r', bytes) {
+        Some(count) => count + 1,
+        None => 0,
+    }
+}
+
+// How many bytes the comment takes whose first byte is a slash, or 0 where none begins or ends.
+fn comment_len(bytes: &[u8]) -> usize
+    ensures value { result ≡ comment_length (drop 1 bytes.now) }
+    ensures within { result ≤ length bytes.now }
+{
+    let len = match bytes {
+        [_, b'*', ..] => block_len(&bytes[2..]),
+        [_, b'/', ..] => line_len(&bytes[2..]),
+        _ => return 0,
+    };
+    if len == 0 { 0 } else { len + 2 }
+}
+
+// How many bytes the blank takes that the bytes begin with, or 0 where they begin with none.
+fn blank_len(bytes: &[u8], mode: Mode) -> usize
+    ensures value { result ≡ blank_length (mode_of mode) bytes.now }
+    ensures within { result ≤ length bytes.now }
+{
+    match bytes {
+        [b' ' | b'\t' | b'\n' | 0x0C | b'\r', ..] => 1,
+        [b'\\', b'n' | b'r' | b't', ..] => 2,
+        [b'\\', b'x', b'0', b'C', ..] => 4,
+        [b'/', ..] => match mode {
+            Mode::Standard => 0,
+            Mode::Extended => comment_len(bytes),
+        },
+        _ => 0,
+    }
+}
+
+impl Parser<'_> {
+    // Whether the next byte may begin a blank. Few bytes may, so this is asked before the call.
+    #[inline(always)]
+    fn may_begin_blank(&self) -> bool
+        ensures { MatchBool result (Unit {0}) (skip_blanks (mode_of self.now.mode) (rest_of self.now) ≡ rest_of self.now) }
+    {
+        match self.peek() {
+            Some(byte) => byte <= b' ' || byte == b'\\' || byte == b'/',
+            None => false,
+        }
+    }
+
+    // Passes blanks, and a comment that never ends.
+    #[inline(always)]
+    pub(super) fn skip_blanks(&mut self)
+        ensures rest { rest_of self.new ≡ skip_blanks (mode_of self.old.mode) (rest_of self.old) }
+        ensures advances { Advances self.old self.new }
+    {
+        if self.may_begin_blank() {
+            self.skip_run_of_blanks();
+        }
+    }
+
+    #[inline(never)]
+    fn skip_run_of_blanks(&mut self)
+        ensures rest { rest_of self.new ≡ skip_blanks (mode_of self.old.mode) (rest_of self.old) }
+        ensures advances { Advances self.old self.new }
+    {
+        self.pass_blanks();
+        if self.opens_comment() {
+            self.idx = self.buf.len();
+        }
+    }
+
+    // Passes blanks, up to a comment that never ends.
+    pub(super) fn pass_blanks(&mut self)
+        ensures rest { rest_of self.new ≡ pass_blanks (mode_of self.old.mode) (rest_of self.old) }
+        ensures advances { Advances self.old self.new }
+    {
+        'blanks: while self.idx < self.buf.len() {
+            let n = blank_len(self.rest(), self.mode);
+            if n == 0 {
+                return;
+            }
+            self.idx += n;
+        }
+    }
+
+    // Whether a comment begins here. After the blanks, this is one that never ends.
+    pub(super) fn opens_comment(&self) -> bool
+        ensures value { result ≡ opens_comment (mode_of self.now.mode) (rest_of self.now) }
+        ensures inside { MatchBool result (self.now.idx ≤ size_of self.now) (Unit {0}) }
+    {
+        if self.idx >= self.buf.len() {
+            return false;
+        }
+        match self.mode {
+            Mode::Standard => false,
+            Mode::Extended => matches!(self.rest(), [b'/', b'*' | b'/', ..]),
+        }
+    }
+}
