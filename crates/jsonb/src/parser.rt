@@ -4,6 +4,9 @@ ghost use Rattle.std.specs.Prelude.{◌≡◌, ◌≢◌, ◌+◌, ◌<◌, ◌�
 ghost use Rattle.jsonb_value.specs.Code.{code_of};
 ghost use Rattle.jsonb_value.specs.Grammar.{IsDocument, max_depth};
 ghost use Rattle.jsonb_value.specs.Mode.{standard, extended};
+ghost use Rattle.jsonb_value.specs.Order.{Same};
+ghost use Rattle.jsonb_value.specs.Proper.{IsProper};
+ghost use Rattle.jsonb_value.specs.Range.{IsInRange, IsIntegerRange};
 ghost use Rattle.jsonb_value.specs.Tree.{Tree};
 ghost use Rattle.jsonb_value.specs.View.{view};
 ghost use Rattle.jsonb.specs.AstView.{ast_view};
@@ -96,6 +99,13 @@ pub fn parse_value_standard_mode(alloc: Global, buf: &[u8]) -> Result<Value<'_>>
 
     // What stands at the place that is named.
     ensures explained { IfErr result (IsExplained standard buf.now) }
+
+    // What is read is in the range of integers, so that what is written of it reads back.
+    ensures in_range { IfOk result (λ v. IsIntegerRange (view v)) }
+    ensures proper { IfOk result (λ v. IsProper (view v)) }
+
+    // Each standard document is an extended one, of the same value.
+    ensures extended { IfOk result (λ v. (u : Tree) × IsDocument extended buf.now u × Same u (view v)) }
 {
     JsonAst::parse(alloc, buf, Mode::Standard)?.into_value(alloc)
 }
@@ -119,6 +129,10 @@ pub fn parse_value(alloc: Global, buf: &[u8]) -> Result<Value<'_>>
 
     // What stands at the place that is named.
     ensures explained { IfErr result (IsExplained extended buf.now) }
+
+    // What is read is in range, so that what is written of it reads back.
+    ensures in_range { IfOk result (λ v. IsInRange (view v)) }
+    ensures proper { IfOk result (λ v. IsProper (view v)) }
 {
     JsonAst::parse(alloc, buf, Mode::Extended)?.into_value(alloc)
 }

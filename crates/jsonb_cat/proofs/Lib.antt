@@ -1,2 +1,3 @@
 pub mod BytesRead
 pub mod DocumentTexts
+pub mod LinesAgain

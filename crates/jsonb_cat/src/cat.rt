@@ -1,6 +1,6 @@
 //! What the program does, over any streams.
 
-ghost use Rattle.std.specs.Prelude.{◌≡◌, ◌≢◌, ◌↔◌, ◌⊎◌, ℕ, ◌+◌, ◌≤◌, List, ◌++◌, take, map, vec_len, string_bytes, MatchOption, OnOk, OnErr, IfOk, IfErr, IfSome};
+ghost use Rattle.std.specs.Prelude.{◌≡◌, ◌≢◌, ◌↔◌, ◌⊎◌, ℕ, ◌+◌, ◌≤◌, List, [], ◌∷◌, ◌++◌, take, map, vec_len, string_bytes, MatchOption, OnOk, OnErr, IfOk, IfErr, IfSome};
 ghost use Rattle.std.specs.Io.KnownBytes.{Appends, IsAtEnd};
 ghost use Rattle.jsonb_value.specs.Mode.{Mode as Grammar};
 ghost use Rattle.jsonb.specs.Parser.{mode_of};
@@ -39,6 +39,9 @@ pub fn convert(alloc: Global, mode: Mode, input: &[u8], out: &mut Vec<u8>) -> Re
         × (out.new.items ≡ out.old.items ++ line)) }
     ensures refused { IfErr result (λ e. e ≢ Error.OutOfMemory → IsNoDocument (mode_of mode) input.now) }
     ensures err { OnErr result (out.new.items ≡ out.old.items) }
+    // Where the input is what was appended, without the line feed, the same is appended again.
+    ensures again { OnOk result ((text : List ℕ) → out.new.items ≡ out.old.items ++ (text ++ 10 ∷ [])
+        → (line : List ℕ) → IsLineOf (mode_of mode) text line ↔ (line ≡ text ++ 10 ∷ [])) }
 {
     let value = match mode {
         Mode::Standard => jsonb::parse_value_standard_mode(alloc, input)?,

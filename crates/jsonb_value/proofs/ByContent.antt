@@ -25,7 +25,7 @@ nat_decides = record {
   is_same = λ x y. (λ e. subst (λ r. MatchOrdering r (x < y) (x ≡ y) (y < x)) e (ranks x y), λ h. sym (nat_cmp_is x y Equal h));
 }
 
-both_tie : (r s : Ordering) → ordering_then r s ≡ Equal → (r ≡ Equal) × (s ≡ Equal)
+pub both_tie : (r s : Ordering) → ordering_then r s ≡ Equal → (r ≡ Equal) × (s ≡ Equal)
 both_tie Less s e = cc e
 both_tie Equal s e = (refl, e)
 both_tie Greater s e = cc e
@@ -98,7 +98,7 @@ all_places [] (y ∷ ys) h = absurd (h 0)
 all_places (x ∷ xs) [] h = absurd (h 0)
 all_places (x ∷ xs) (y ∷ ys) h = λ i. h 0 i ∷ all_places xs ys (λ i. h (suc i)) i
 
-same_bytes : (k l : List ℕ) → (bytes_cmp k l ≡ Equal) ↔ (k ≡ l)
+pub same_bytes : (k l : List ℕ) → (bytes_cmp k l ≡ Equal) ↔ (k ≡ l)
 same_bytes k l = (λ e. all_places k l ((bytes_decide.is_same k l).0 e), λ e. ap (bytes_cmp k) (sym e) ∙ tied_itself nat_list_cmp_total k)
 
 -- what a comparison of keys and then of trees says

@@ -18,12 +18,12 @@ use Rattle.jsonb_value.proofs.Nearest.{signed_parts}
 
 -- ---- digits
 
-digits-take : (k : ℕ) (ds : List ℕ) → AllDigits 10 ds → AllDigits 10 (take k ds)
+pub digits-take : (k : ℕ) (ds : List ℕ) → AllDigits 10 ds → AllDigits 10 (take k ds)
 digits-take zero ds h = tt
 digits-take (suc k) [] h = tt
 digits-take (suc k) (d ∷ ds) h = (h.0, digits-take k ds h.1)
 
-digits-drop : (k : ℕ) (ds : List ℕ) → AllDigits 10 ds → AllDigits 10 (drop k ds)
+pub digits-drop : (k : ℕ) (ds : List ℕ) → AllDigits 10 ds → AllDigits 10 (drop k ds)
 digits-drop zero ds h = h
 digits-drop (suc k) [] h = tt
 digits-drop (suc k) (d ∷ ds) h = digits-drop k ds h.1
@@ -149,7 +149,7 @@ body scale m few small =
     (λ inside. ⊎_elim (λ none. absurd (omega (arith, point, inside, ap length (ap decimal none ∙ decimal_digit 0 (omega arith))))) (λ some. body_inside scale m (omega arith) (omega arith) small inside) (cases_eq m 0))
     (λ behind. body_before scale m (omega arith) few small behind) (cases_lt scale (length (decimal m)))) (cases_eq scale 0)
 
-sign_is : (b : Bool) → IsSign (sign_text b) × ((slice_index (sign_text b) 0 == 45) ≡ b)
+pub sign_is : (b : Bool) → IsSign (sign_text b) × ((slice_index (sign_text b) 0 == 45) ≡ b)
 sign_is false = (inl refl, refl)
 sign_is true = (inr (inr refl), refl)
 

@@ -13,7 +13,7 @@ use Rattle.jsonb_value.specs.Text.{has_text, items_have_texts, members_have_text
 
 -- ---- items and members
 
-both : (x y : Bool) → x ≡ true → y ≡ true → (x && y) ≡ true
+pub both : (x y : Bool) → x ≡ true → y ≡ true → (x && y) ≡ true
 both x y h k = ap (λ b. b && y) h ∙ k
 
 each_of : (x y : Bool) → (x && y) ≡ true → (x ≡ true) × (y ≡ true)
@@ -42,7 +42,7 @@ members-put_all : (es : List Member) (ms : Members) → AllByRecursion (λ e. ha
 members-put_all [] ms all h = h
 members-put_all (e ∷ es) ms all h = members-put_all es (put e.0 e.1 ms) all.1 (members-put e.0 e.1 ms all.0 h)
 
-joined-all : {A : Type 0} (P : A → Type 0) (Spells : List ℕ → A → Type 0) → ((bytes : List ℕ) (a : A) → Spells bytes a → P a) → (bytes : List ℕ) (parts : List A) → IsJoined Spells bytes parts → AllByRecursion P parts
+pub joined-all : {A : Type 0} (P : A → Type 0) (Spells : List ℕ → A → Type 0) → ((bytes : List ℕ) (a : A) → Spells bytes a → P a) → (bytes : List ℕ) (parts : List A) → IsJoined Spells bytes parts → AllByRecursion P parts
 joined-all P Spells each bytes parts (one_part s) = (each _ _ s, tt)
 joined-all P Spells each bytes parts (more_parts s more) = (each _ _ s, joined-all P Spells each _ _ more)
 
@@ -90,3 +90,11 @@ pub document_has_text : (mode : Mode) (bytes : List ℕ) (t : Tree) → IsDocume
 document_has_text mode bytes t (value_alone {core = core} before d after) =
     subst IsSome (sym (text_of-has_text t (derived_has_text mode max_depth core t d))) refl
 document_has_text mode bytes t (blanks_alone m _) = refl
+
+-- a tree that has a text has this one
+pub some_text : (t : Tree) → IsSome (text_of t) → text_of t ≡ Some (tree_text t)
+some_text t = tested (has_text t)
+  where
+    tested : (b : Bool) → IsSome (if b then Some (tree_text t) else None) → (if b then Some (tree_text t) else None) ≡ Some (tree_text t)
+    tested true some = refl
+    tested false some = cc

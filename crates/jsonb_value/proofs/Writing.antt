@@ -17,11 +17,11 @@ use Rattle.jsonb_value.proofs.Units.{alone-character}
 use Rattle.jsonb_value.proofs.Meaning.{meaning-raw, meaning-escape, meaning-alone}
 
 -- the digits of a control byte
-abbrev control_digits : ℕ → List ℕ
+abbrev pub control_digits : ℕ → List ℕ
 control_digits byte = 48 ∷ 48 ∷ digit_char (byte / 16) ∷ digit_char (byte % 16) ∷ []
 
 -- the item that a byte is written as
-abbrev item_of : ℕ → Item
+abbrev pub item_of : ℕ → Item
 item_of byte =
     cond (eqb byte 34) (escape 34 34)
     (cond (eqb byte 92) (escape 92 92)
@@ -43,7 +43,7 @@ by_cases P byte quote backslash feed return tab control other =
     pick (P byte) (eqb byte 9) _ _ _ _ (at 9 _ _ tab) (λ no_tab.
     pick (P byte) (ltb byte 32) _ _ _ _ (λ low. control (ltb-true byte 32 low)) (λ high. other (eqb-false byte 34 no_quote) (eqb-false byte 92 no_backslash)))))))
 
-spelling-item_of : (byte : ℕ) → spelling (item_of byte) ≡ byte_text byte
+pub spelling-item_of : (byte : ℕ) → spelling (item_of byte) ≡ byte_text byte
 spelling-item_of byte = by_cases (λ b item text. spelling item ≡ text) byte refl refl refl refl refl (λ low. refl) (λ no_quote no_backslash. refl)
 
 escapes_as : (mode : Mode) → (escaped_byte mode 34 ≡ Some 34) × (escaped_byte mode 92 ≡ Some 92) × (escaped_byte mode 110 ≡ Some 10) × (escaped_byte mode 114 ≡ Some 13) × (escaped_byte mode 116 ≡ Some 9)
@@ -61,12 +61,12 @@ control_each byte low =
     let second : IsHexDigit (digit_char (byte % 16)) = subst (λ n. n < 16) (sym values.1) (omega arith) in
     All-from_recursion IsHexDigit (control_digits byte) (zero_digit, (zero_digit, (first, (second, tt))))
 
-item-item_of : (mode : Mode) (byte : ℕ) → IsItem mode (item_of byte)
+pub item-item_of : (mode : Mode) (byte : ℕ) → IsItem mode (item_of byte)
 item-item_of mode byte =
     let e = escapes_as mode in
     by_cases (λ b item text. IsItem mode item) byte e.0 e.1 e.2 e.3 e.4 (λ low. (refl, control_each byte low)) (λ no_quote no_backslash. no_backslash)
 
-inside-item_of : (byte : ℕ) → IsInside 34 (item_of byte)
+pub inside-item_of : (byte : ℕ) → IsInside 34 (item_of byte)
 inside-item_of byte = by_cases (λ b item text. IsInside 34 item) byte tt tt tt tt tt (λ low. tt) (λ no_quote no_backslash. no_quote)
 
 unit_value-control : (byte : ℕ) → byte < 32 → unit_value (control_digits byte) ≡ byte
@@ -85,7 +85,7 @@ alone-control byte low =
     ap (λ n. is_high n || is_low n) value ∙ ap (λ b. b || is_low byte) (not_high byte low) ∙ not_low byte low in
     alone-character (control_digits byte) whole ∙ ap encode_utf8 value ∙ encode_ascii byte (omega (arith, low))
 
-meaning-item_of : (byte : ℕ) (tail : List Item) → meaning (item_of byte ∷ tail) ≡ byte ∷ meaning tail
+pub meaning-item_of : (byte : ℕ) (tail : List Item) → meaning (item_of byte ∷ tail) ≡ byte ∷ meaning tail
 meaning-item_of byte tail =
     by_cases (λ b item text. meaning (item ∷ tail) ≡ b ∷ meaning tail) byte (meaning-escape 34 34 tail) (meaning-escape 92 92 tail) (meaning-escape 110 10 tail) (meaning-escape 114 13 tail) (meaning-escape 116 9 tail)
     (λ low. meaning-alone false (control_digits byte) tail (ap is_high (unit_value-control byte low) ∙ not_high byte low) ∙ ap (λ front. front ++ meaning tail) (alone-control byte low))
@@ -124,3 +124,10 @@ reads_back mode text utf8 = (
     marked = refl;
   },
 )
+
+-- the item that a byte is written as says the byte
+pub one_byte : (b c : ℕ) → item_of b ≡ item_of c → b ≡ c
+unfolding meaning
+one_byte b c e =
+    let bytes : b ∷ [] ≡ c ∷ [] = sym (meaning-item_of b []) ∙ ap (λ item. meaning (item ∷ [])) e ∙ meaning-item_of c [] in
+    cc

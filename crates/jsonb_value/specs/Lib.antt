@@ -19,7 +19,9 @@ pub mod Order
 pub mod OrderByContent
 pub mod OrderLaws
 pub mod Parts
+pub mod Proper
 pub mod Quoted
+pub mod Range
 pub mod ReadsBack
 pub mod Scalar
 pub mod Signed

@@ -1,8 +1,11 @@
--- A number's text is the text of an equal number, and a string's text that of an equal string.
-use Rattle.std.specs.Prelude.{◌≡◌, ℕ, ◌<◌, ◌≤◌, ◌^◌, List, ℤ, unsigned_abs, if◌then◌else◌}
+-- The texts of values are texts of equal values: of numbers, of strings, and of whole values.
+use Rattle.std.specs.Prelude.{◌≡◌, ℕ, ◌<◌, ◌≤◌, ◌^◌, List, Some, ℤ, unsigned_abs, if◌then◌else◌}
 use Rattle.std.specs.Int.{is_negative}
+use Rattle.jsonb_value.specs.Grammar.{IsDocument}
 use Rattle.jsonb_value.specs.Mode.{Mode}
-use Rattle.jsonb_value.specs.Tree.{int64, uint64, Num, Mark}
+use Rattle.jsonb_value.specs.Order.{Same}
+use Rattle.jsonb_value.specs.Text.{text_of}
+use Rattle.jsonb_value.specs.Tree.{int64, uint64, Num, Mark, Tree}
 use Rattle.jsonb_value.specs.NumberText.{number_text}
 use Rattle.jsonb_value.specs.Quoted.{Quoted}
 use Rattle.jsonb_value.specs.StringText.{quoted_text}
@@ -28,3 +31,10 @@ HasFewDigits x = (x.scale ≤ 38) × (unsigned_abs x.whole < 10 ^ 38)
 -- What is written of a text is a string in double quotes that means the text, in that mode.
 abbrev pub StringReadsBack : Mode → List ℕ → Type 0
 StringReadsBack mode text = (mark : Mark) × Quoted mode 34 (quoted_text text) text mark
+
+-- The bytes are a document of a tree that is the same as t, and its text is the bytes again.
+pub record ReadsBackAs (mode : Mode) (bytes : List ℕ) (t : Tree) : Type 0 where
+  pub tree : Tree
+  pub document : IsDocument mode bytes tree
+  pub same : Same tree t
+  pub text : text_of tree ≡ Some bytes

@@ -35,6 +35,7 @@ pub enum Number {
 impl Number {
     ghost use Rattle.std.specs.Prelude.{◌≡◌, ◌<◌, ◌≤◌, ◌^◌, false, unsigned_abs};
     ghost use Rattle.std.specs.Int.{is_negative};
+    ghost use Rattle.jsonb_value.specs.Proper.{FitsWhole};
     ghost use Rattle.jsonb_value.specs.View.{number_view};
 
     pub(crate) fn scale(&self) -> u8
@@ -53,6 +54,7 @@ impl Number {
         ensures magnitude { result.1 ≡ unsigned_abs (number_view self.now).whole }
         ensures bound { result.1 ≤ 2 ^ 127 }
         ensures positive_bound { result.0 ≡ false → result.1 < 2 ^ 127 }
+        ensures fits { FitsWhole (number_view self.now).form (number_view self.now).whole }
     {
         match self {
             Number::Int64(n) => (*n < 0, u128::from(n.unsigned_abs())),

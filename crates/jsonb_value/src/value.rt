@@ -1,6 +1,7 @@
 //! JSON values.
 mod access;
 mod copy;
+mod laws;
 mod order;
 #[cfg(test)]
 mod tests;
@@ -8,6 +9,7 @@ mod text;
 
 use crate::extension::{Date, Interval, Timestamp, TimestampTz};
 use crate::number::Number;
+pub use laws::{documents_are_in_range, value_texts_read_back};
 pub use order::order_is_total;
 use std::borrow::CowStr;
 use std::collections::BTreeMap;

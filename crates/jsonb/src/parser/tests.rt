@@ -1,7 +1,7 @@
 // Answers against worked examples, with ample memory.
 use super::{JsonAst, Mode, parse_value, parse_value_standard_mode};
 use jsonb_value::error::{Error, ParseErrorCode};
-use jsonb_value::number::Number;
+use jsonb_value::number::{Decimal64, Decimal128, Number};
 use jsonb_value::value::Value;
 use std::alloc::Global;
 use std::borrow::CowStr;
@@ -407,5 +407,113 @@ fn extended_depth(rt: HostRuntime) -> Result<(), Fail> {
         extended(alloc, &input)?.as_str(),
         "depth limit exceeded, pos 1537"
     );
+    Ok(())
+}
+
+fn decimal64<'a>(scale: u8, value: i64) -> Value<'a> {
+    Value::Number(Number::Decimal64(Decimal64 { scale, value }))
+}
+
+fn decimal128<'a>(scale: u8, value: i128) -> Value<'a> {
+    Value::Number(Number::Decimal128(Decimal128 { scale, value }))
+}
+
+// So many arrays, each in the next.
+fn nested<'a>(alloc: Global, depth: usize) -> Result<Value<'a>, Fail> {
+    let mut value = Value::Array(Vec::new(alloc));
+    for _ in 1..depth {
+        value = Value::Array(vec![in alloc; value]?);
+    }
+    Ok(value)
+}
+
+#[test]
+fn values_made_by_hand(rt: HostRuntime) -> Result<(), Fail> {
+    let alloc = rt.alloc();
+    let values = [
+        (decimal64(0, 5), "5", "5", "5"),
+        (
+            decimal128(2, 100),
+            "1.00",
+            "number not carried, pos 4",
+            "1.00",
+        ),
+        (
+            decimal64(1, i64::MAX),
+            "922337203685477580.7",
+            "number not carried, pos 20",
+            "922337203685477580.7",
+        ),
+        (
+            decimal64(39, 1),
+            "0.000000000000000000000000000000000000001",
+            "number not carried, pos 41",
+            "number not carried, pos 41",
+        ),
+        (
+            decimal128(0, 100_000_000_000_000_000_000_000_000_000_000_000_000),
+            "100000000000000000000000000000000000000",
+            "number not carried, pos 39",
+            "number not carried, pos 39",
+        ),
+        (
+            Value::Binary(b"\x00\xAF"),
+            "\"00AF\"",
+            "\"00AF\"",
+            "\"00AF\"",
+        ),
+    ];
+    for (value, text, standard, other) in &values {
+        let mut bytes = Vec::new(alloc);
+        value.write_text(&mut bytes)?;
+        assert!(rt; &bytes[..] == text.as_bytes(), "of {text}");
+        assert_eq!(rt; answer(alloc, &bytes)?.as_str(), *standard, "of {text}");
+        assert_eq!(rt; extended(alloc, &bytes)?.as_str(), *other, "of {text}");
+    }
+    Ok(())
+}
+
+#[test]
+fn numbers_that_are_read_back(rt: HostRuntime) -> Result<(), Fail> {
+    let alloc = rt.alloc();
+    let five = parse_value(alloc, b"5")?;
+    assert!(rt; matches!(five, Value::Number(Number::UInt64(5))));
+    let one = parse_value(alloc, b"1.00")?;
+    assert!(rt;
+        matches!(
+            one,
+            Value::Number(Number::Decimal64(Decimal64 {
+                scale: 2,
+                value: 100
+            }))
+        )
+    );
+    let large = parse_value(alloc, b"922337203685477580.7")?;
+    assert!(rt;
+        matches!(
+            large,
+            Value::Number(Number::Decimal128(Decimal128 {
+                scale: 1,
+                value: 9223372036854775807
+            }))
+        )
+    );
+    Ok(())
+}
+
+#[test]
+fn nested_values_made_by_hand(rt: HostRuntime) -> Result<(), Fail> {
+    let alloc = rt.alloc();
+    for (depth, is_read) in [(512, true), (513, false)] {
+        let value = nested(alloc, depth)?;
+        let mut text = Vec::new(alloc);
+        value.write_text(&mut text)?;
+        assert_eq!(rt; text.len(), 2 * depth);
+        for read in [answer(alloc, &text)?, extended(alloc, &text)?] {
+            assert_eq!(rt; read.as_bytes() == &text[..], is_read);
+            let is_refused = read.as_str() == "depth limit exceeded, pos 513";
+            assert_eq!(rt; is_refused, !is_read);
+        }
+    }
     Ok(())
 }

@@ -3,6 +3,7 @@ ghost use Rattle.std.specs.Prelude.{◌≡◌, ◌+◌, ◌≤◌, ◌<◌, ◌+
 ghost use Rattle.std.specs.Vec.{vec_capacity};
 ghost use Rattle.std.specs.Fmt.{sign_text, WritesOnOk};
 ghost use Rattle.jsonb_value.specs.NumberText.{number_text, text_of_parts, with_point, zero_padded};
+ghost use Rattle.jsonb_value.specs.Proper.{IsProperNumber};
 ghost use Rattle.jsonb_value.specs.TextParts.{joined};
 ghost use Rattle.jsonb_value.specs.View.{number_view};
 
@@ -119,6 +120,7 @@ impl Number {
     fn text_parts<'a>(&self, buffer: &'a mut Buffer) -> TextParts<'a>
         ensures text { joined result ≡ number_text (number_view self.now) }
         ensures short { length (joined result) ≤ 258 }
+        ensures proper { IsProperNumber (number_view self.now) }
     {
         match self {
             Number::Int64(n) => TextParts::whole(signed_text(*n, buffer)),
@@ -138,6 +140,7 @@ impl Number {
         ensures full { OnErr result
             (vec_capacity buf.old < vec_len buf.old + length (number_text (number_view self.now))) }
         ensures capacity { vec_capacity buf.old ≤ vec_capacity buf.new }
+        ensures proper { IsProperNumber (number_view self.now) }
     {
         let mut buffer = Buffer::new();
         match self {

@@ -7,10 +7,15 @@ ghost use Rattle.std.specs.Vec.{vec_capacity};
 ghost use Rattle.jsonb_value.specs.Appending.{Extends, comma_before};
 ghost use Rattle.jsonb_value.specs.BinaryText.{binary_text};
 ghost use Rattle.jsonb_value.specs.IntervalText.{interval_text};
+ghost use Rattle.jsonb_value.specs.Keys.{KeysAscend};
 ghost use Rattle.jsonb_value.specs.Mode.{Mode};
-ghost use Rattle.jsonb_value.specs.ReadsBack.{StringReadsBack};
+ghost use Rattle.jsonb_value.specs.Order.{Same};
+ghost use Rattle.jsonb_value.specs.Proper.{IsProper, AreProper, HaveProperParts};
+ghost use Rattle.jsonb_value.specs.Range.{IsIntegerRange, IsInRangeOf};
+ghost use Rattle.jsonb_value.specs.ReadsBack.{StringReadsBack, ReadsBackAs};
 ghost use Rattle.jsonb_value.specs.StringText.{byte_text, control_text, quoted_text};
 ghost use Rattle.jsonb_value.specs.Text.{has_text, items_have_texts, members_have_texts, in_quotes, tree_text, with_commas, item_texts, member_texts, text_of, Appends};
+ghost use Rattle.jsonb_value.specs.Tree.{Tree};
 ghost use Rattle.jsonb_value.specs.View.{view, trees_view, members_view};
 
 use super::{Object, Value};
@@ -41,6 +46,14 @@ impl Value<'_> {
         ensures full { IsErrOf result Error.OutOfMemory → IfSome (text_of (view self.now))
             (λ bytes. vec_capacity buf.old < vec_len buf.old + length bytes) }
         ensures room { vec_capacity buf.old ≤ vec_capacity buf.new }
+        ensures proper { OnOk result (IsProper (view self.now)) }
+        // What is written of a value in a mode's range is a document of the mode, of the same value, whose text it is again.
+        ensures reads_back { OnOk result ((mode : Mode) → IsInRangeOf mode (view self.now) → (bytes : List ℕ)
+            → buf.new.items ≡ buf.old.items ++ bytes → ReadsBackAs mode bytes (view self.now)) }
+        // Of values whose numbers are all integers those that are the same have this text, and no others.
+        ensures one_text { OnOk result (IsIntegerRange (view self.now) → (bytes : List ℕ)
+            → buf.new.items ≡ buf.old.items ++ bytes → (u : Tree) → IsProper u → IsIntegerRange u
+            → (text_of u ≡ Some bytes) ↔ Same u (view self.now)) }
     {
         if !has_text(self) {
             return Err(Error::UnexpectedType);
@@ -102,6 +115,7 @@ fn members_have_texts<'a>(members: &Object<'a>) -> bool
 #[cycle(append)]
 fn append<'a>(value: &Value<'a>, buf: &mut Vec<u8>) -> Appended
     ensures ok { OnOk result (buf.new.items ≡ buf.old.items ++ tree_text (view value.now)) }
+    ensures proper { OnOk result (IsProper (view value.now)) }
     ensures kept { Extends buf.old.items buf.new.items }
     ensures full { OnErr result
         (vec_capacity buf.old < vec_len buf.old + length (tree_text (view value.now))) }
@@ -126,6 +140,7 @@ fn append<'a>(value: &Value<'a>, buf: &mut Vec<u8>) -> Appended
 fn append_items<'a>(items: &Vec<Value<'a>>, buf: &mut Vec<u8>) -> Appended
     ensures ok { OnOk result (buf.new.items
         ≡ buf.old.items ++ (91 ∷ with_commas (item_texts (trees_view items.now.items)) ++ 93 ∷ [])) }
+    ensures proper { OnOk result (AreProper (trees_view items.now.items)) }
     ensures kept { Extends buf.old.items buf.new.items }
     ensures full { OnErr result (vec_capacity buf.old < vec_len buf.old
         + length (91 ∷ with_commas (item_texts (trees_view items.now.items)) ++ 93 ∷ [])) }
@@ -145,6 +160,8 @@ fn append_items<'a>(items: &Vec<Value<'a>>, buf: &mut Vec<u8>) -> Appended
 fn append_members<'a>(members: &Object<'a>, buf: &mut Vec<u8>) -> Appended
     ensures ok { OnOk result (buf.new.items ≡ buf.old.items
         ++ (123 ∷ with_commas (member_texts (members_view members.now.entries)) ++ 125 ∷ [])) }
+    ensures proper { OnOk result (KeysAscend (members_view members.now.entries)
+        × HaveProperParts (members_view members.now.entries)) }
     ensures kept { Extends buf.old.items buf.new.items }
     ensures full { OnErr result (vec_capacity buf.old < vec_len buf.old
         + length (123 ∷ with_commas (member_texts (members_view members.now.entries)) ++ 125 ∷ [])) }
@@ -180,6 +197,7 @@ fn append_comma(is_first: bool, buf: &mut Vec<u8>) -> Appended
 fn append_key(key: &String, buf: &mut Vec<u8>) -> Appended
     ensures ok { OnOk result (buf.new.items
         ≡ buf.old.items ++ (quoted_text (string_bytes key.now) ++ 58 ∷ [])) }
+    ensures utf8 { IsUtf8 (string_bytes key.now) }
     ensures kept { Extends buf.old.items buf.new.items }
     ensures full { OnErr result (vec_capacity buf.old < vec_len buf.old
         + length (quoted_text (string_bytes key.now) ++ 58 ∷ [])) }
@@ -216,6 +234,7 @@ fn append_quoted_interval(interval: &Interval, buf: &mut Vec<u8>) -> Appended
 
 fn append_string(text: &str, buf: &mut Vec<u8>) -> Appended
     ensures ok { OnOk result (buf.new.items ≡ buf.old.items ++ quoted_text text.now) }
+    ensures utf8 { IsUtf8 text.now }
     ensures kept { Extends buf.old.items buf.new.items }
     ensures full { OnErr result
         (vec_capacity buf.old < vec_len buf.old + length (quoted_text text.now)) }

@@ -1,9 +1,12 @@
-use Rattle.std.proofs.Common.{false, ◌+◌, [], ◌∷◌, ◌++◌, drop, refl, arith, rules, string_bytes}
+use Rattle.std.proofs.Common.{◌≡◌, List, false, ◌+◌, [], ◌∷◌, ◌++◌, drop, refl, sym, subst, ap, ◌∙◌, arith, rules, string_bytes}
+use Rattle.jsonb_value.specs.Proper.{HaveProperParts}
 use Rattle.jsonb_value.specs.StringText.{quoted_text}
-use Rattle.jsonb_value.specs.Text.{item_texts, member_texts, tree_text}
+use Rattle.jsonb_value.specs.Text.{with_commas, item_texts, member_texts, tree_text}
 use Rattle.jsonb_value.specs.View.{view, trees_view, members_view}
-use Rattle.jsonb_value.proofs.Appended.{goes_on, fits, on_err}
-use Rattle.jsonb_value.proofs.Texts.{texts_left, comma_done, key_split, key_done, next_item, next_member}
+use Rattle.jsonb_value.proofs.Appended.{begun, goes_on, fits, on_err}
+use Rattle.jsonb_value.proofs.Keys.{KeysAscend-members_view}
+use Rattle.jsonb_value.proofs.Members.{Entry}
+use Rattle.jsonb_value.proofs.Texts.{texts_left, comma_done, comma_fits, key_split, key_done, next_item, next_member, next_proper, next_proper_member}
 use Rattle.jsonb_value.proofs.value.text.+append.Goals as goal
 
 pub append_items-items-preserved : goal.append_items-items-preserved
@@ -15,6 +18,7 @@ append_items-items-preserved t c =
     let due = comma_done c.items.is_first _ _ _ _ (93 ∷ []) c.append_comma.new.buf.items _ _ next c.items.invariant.underway c.in_ok-append_comma.ensures.ok in
     record {
       underway = goes_on c.append.new.buf.items (tree_text (view item)) rest due refl c.in_ok-append.ensures.ok;
+      proper = λ others. c.items.invariant.proper (next_proper all c.items.item-index item (search rules) (search rules) c.in_ok-append.ensures.proper others);
       room = omega arith;
     }
 
@@ -38,6 +42,7 @@ append_members-members-preserved t c =
     let due = key_done _ _ _ (quoted_text key) value rest c.append_key.new.buf.items due c.in_ok-append_key.ensures.ok in
     record {
       underway = goes_on c.append.new.buf.items value rest due refl c.in_ok-append.ensures.ok;
+      proper = λ others. c.members.invariant.proper (next_proper_member c.members.key-iterator c.next.new.self (c.in-Some.key.now, c.in-Some.value.now) c.in-Some.ensures.steps c.in_ok-append_key.ensures.utf8 c.in_ok-append.ensures.proper others);
       room = omega arith;
     }
 
@@ -61,3 +66,21 @@ append_members-returns-in_err-append-clause-full t c =
     let due = key_done _ _ _ (quoted_text key) value rest c.append_key.new.buf.items due c.in_ok-append_key.ensures.ok in
     let room = fits value rest due refl in
     on_err c.from_residual-in_err-append.result (omega (arith, room, c.in_err-append.ensures.full))
+
+pub append_members-members-init : goal.append_members-members-init
+append_members-members-init t c =
+    let all = c.args.members.now.entries in
+    let whole : c.into_iter-key-iterator.result ≡ all = c.into_iter-key-iterator.ensures.into_iter_gives ∙ c.iter-key-items.ensures.rest in
+    let text = λ (es : List Entry). 123 ∷ with_commas (member_texts (members_view es)) ++ 125 ∷ [] in
+    let rest = with_commas (member_texts (members_view c.into_iter-key-iterator.result)) ++ 125 ∷ [] in
+    record {
+      underway = goes_on c.extend_from_slice.new.self.items (123 ∷ []) rest (begun c.args.buf.now.items (text all)) (ap text (sym whole)) c.in_ok-extend_from_slice.ensures.items;
+      proper = λ parts. (KeysAscend-members_view all c.iter-key-items.ensures.ordered, subst (λ es. HaveProperParts (members_view es)) whole parts);
+      room = omega (arith, c.in_ok-extend_from_slice.ensures.capacity);
+    }
+
+pub append_members-returns-in_err-append_comma-clause-full : goal.append_members-returns-in_err-append_comma-clause-full
+append_members-returns-in_err-append_comma-clause-full t c =
+    let next = next_member c.members.key-iterator c.next.new.self (c.in-Some.key.now, c.in-Some.value.now) c.in-Some.ensures.steps in
+    let room = comma_fits c.members.is_first _ _ _ _ (125 ∷ []) _ _ next c.members.invariant.underway in
+    on_err c.from_residual-in_err-append_comma.result (omega (arith, room, c.in_err-append_comma.ensures.full))
