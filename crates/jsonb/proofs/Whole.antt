@@ -12,7 +12,7 @@ use Rattle.jsonb_value.specs.Mode.{Mode}
 use Rattle.jsonb_value.specs.Tree.{Tree}
 use Rattle.jsonb_value.specs.Tree.Tree.{null}
 use Rattle.jsonb.specs.AstView.{ast_view}
-use Rattle.jsonb.specs.Parser.{Advances, Gives, mode_of, rest_of, size_of}
+use Rattle.jsonb.specs.Parser.{Advances, Gives, IsTextRefusal, mode_of, rest_of, size_of}
 use Rattle.jsonb.specs.Reading.{Fault, fault, ◌>>=◌}
 use Rattle.jsonb.proofs.Choices.{if-false, if-true}
 use Rattle.jsonb.specs.Reading.Blank.{opens_comment, pass_blanks}
@@ -130,3 +130,10 @@ gives_explained mode bytes (Ok v) g = tt
 gives_explained mode bytes (Err (Syntax code place)) g = document_stands mode bytes (record { code = code_of code; place = place }) g
 gives_explained mode bytes (Err OutOfMemory) g = tt
 gives_explained mode bytes (Err other) g = absurd g
+
+-- a text is refused by a fault or for want of memory
+pub gives_errors : {X Y : Type 0} (view : X → Y) (r : Result X Error) (read : Result Y Fault) → Gives view r read → IfErr r IsTextRefusal
+gives_errors view (Ok x) read g = tt
+gives_errors view (Err (Syntax code place)) read g = tt
+gives_errors view (Err OutOfMemory) read g = tt
+gives_errors view (Err other) read g = absurd g

@@ -45,6 +45,12 @@ abbrev pub Gives : {X Y : Type 0} → (X → Y) → Result X Error → Result Y 
 Gives view (Ok x) read = read ≡ Ok (view x)
 Gives view (Err e) read = Fails e read
 
+-- a fault of the text, or want of memory
+abbrev pub IsTextRefusal : Error → Type 0
+IsTextRefusal (Syntax code place) = Unit {0}
+IsTextRefusal OutOfMemory = Unit {0}
+IsTextRefusal other = ⊥
+
 -- The input holds a bracket or a brace that opens, or a backslash: a reader that asks for memory has met one.
 abbrev pub HoldsMarker : List ℕ → Type 0
 HoldsMarker input = Contains input 91 ⊎ (Contains input 123 ⊎ Contains input 92)

@@ -11,7 +11,7 @@ ghost use Rattle.jsonb_value.specs.Tree.{Tree};
 ghost use Rattle.jsonb_value.specs.View.{view};
 ghost use Rattle.jsonb.specs.AstView.{ast_view};
 ghost use Rattle.jsonb.specs.Located.{IsLocated};
-ghost use Rattle.jsonb.specs.Parser.{rest_of, size_of, mode_of, Advances, IsFault, Gives, HoldsMarker};
+ghost use Rattle.jsonb.specs.Parser.{rest_of, size_of, mode_of, Advances, IsFault, IsTextRefusal, Gives, HoldsMarker};
 ghost use Rattle.jsonb.specs.Reading.{begins, fault_at};
 ghost use Rattle.jsonb.specs.Reading.Blank.{pass_blanks};
 ghost use Rattle.jsonb.specs.Reading.Document.{at_end, comment_at, document_from, document_of};
@@ -60,6 +60,9 @@ impl<'a> JsonAst<'a> {
         ensures refused { IfErr result (λ e. e ≢ Error.OutOfMemory → (t : Tree) → IsDocument (mode_of mode) buf.now t → ⊥) }
         ensures memory { result ≡ Err Error.OutOfMemory → HoldsMarker buf.now }
 
+        // Nothing but these two refuses.
+        ensures errors { IfErr result IsTextRefusal }
+
         // Which fault it is, and where.
         ensures exact { Gives ast_view result (document_of (mode_of mode) buf.now) }
 
@@ -94,6 +97,9 @@ pub fn parse_value_standard_mode(alloc: Global, buf: &[u8]) -> Result<Value<'_>>
     ensures refused { IfErr result (λ e. e ≢ Error.OutOfMemory → (t : Tree) → IsDocument standard buf.now t → ⊥) }
     ensures memory { result ≡ Err Error.OutOfMemory → HoldsMarker buf.now }
 
+    // Nothing but these two refuses.
+    ensures errors { IfErr result IsTextRefusal }
+
     // Which fault it is, and where.
     ensures exact { Gives view result (document_of standard buf.now) }
 
@@ -123,6 +129,9 @@ pub fn parse_value(alloc: Global, buf: &[u8]) -> Result<Value<'_>>
     // What is refused is no document, unless memory ran out.
     ensures refused { IfErr result (λ e. e ≢ Error.OutOfMemory → (t : Tree) → IsDocument extended buf.now t → ⊥) }
     ensures memory { result ≡ Err Error.OutOfMemory → HoldsMarker buf.now }
+
+    // Nothing but these two refuses.
+    ensures errors { IfErr result IsTextRefusal }
 
     // Which fault it is, and where.
     ensures exact { Gives view result (document_of extended buf.now) }

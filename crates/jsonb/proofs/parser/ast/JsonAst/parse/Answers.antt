@@ -1,6 +1,7 @@
+use Rattle.jsonb.specs.AstView.{ast_view}
 use Rattle.jsonb.specs.Parser.{mode_of}
 use Rattle.jsonb.specs.Reading.Document.{document_of}
-use Rattle.jsonb.proofs.Whole.{gives_document, gives_explained, gives_only, gives_refused}
+use Rattle.jsonb.proofs.Whole.{gives_document, gives_errors, gives_explained, gives_only, gives_refused}
 use Rattle.jsonb.proofs.parser.ast.JsonAst.parse.Goals as goal
 
 pub returns-clause-exact : goal.returns-clause-exact
@@ -18,3 +19,6 @@ returns-clause-refused c = gives_refused (mode_of c.args.mode) c.args.buf.now c.
 
 pub returns-clause-explained : goal.returns-clause-explained
 returns-clause-explained c = gives_explained (mode_of c.args.mode) c.args.buf.now c.parse_document.result (returns-clause-exact c)
+
+pub returns-clause-errors : goal.returns-clause-errors
+returns-clause-errors c = gives_errors ast_view c.parse_document.result (document_of (mode_of c.args.mode) c.args.buf.now) (returns-clause-exact c)
