@@ -1,5 +1,5 @@
 -- Why a text is refused: the codes of the readers, apart from where their parts lie in memory.
-use Rattle.std.specs.Prelude.{ℕ, List, string_bytes}
+use Rattle.std.specs.Prelude.{ℕ, List, string_bytes, ⊤}
 use Rattle.jsonb_value.specs.declared.error.ParseErrorCode.{ParseErrorCode}
 use Rattle.jsonb_value.specs.declared.error.ParseErrorCode.TheVariants as variants
 
@@ -26,6 +26,11 @@ pub data Code : Type 0 where
   object_key_invalid_character : Code
   number_not_carried : Code
   depth_limit_exceeded : Code
+
+-- it names no key, so that a copy takes no memory
+abbrev pub NamesNoKey : Code → Type 0
+NamesNoKey (object_duplicate_key key) = ⊥
+NamesNoKey code = ⊤
 
 -- the code that a `ParseErrorCode` stands for
 abbrev pub code_of : ParseErrorCode → Code

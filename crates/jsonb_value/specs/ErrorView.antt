@@ -1,6 +1,6 @@
 -- Why a call is refused, apart from where its parts lie in memory.
-use Rattle.std.specs.Prelude.{ℕ, List, string_bytes}
-use Rattle.jsonb_value.specs.Code.{Code, code_of}
+use Rattle.std.specs.Prelude.{ℕ, List, string_bytes, ⊤}
+use Rattle.jsonb_value.specs.Code.{Code, code_of, NamesNoKey}
 use Rattle.jsonb_value.specs.declared.error.Error.{Error}
 use Rattle.jsonb_value.specs.declared.error.Error.TheVariants as variants
 
@@ -26,6 +26,12 @@ pub data ErrorView : Type 0 where
   message : List ℕ → ErrorView
   syntax : Code → ℕ → ErrorView
   out_of_memory : ErrorView
+
+-- it holds no text, so that a copy takes no memory
+abbrev pub HoldsNoText : ErrorView → Type 0
+HoldsNoText (message text) = ⊥
+HoldsNoText (syntax code place) = NamesNoKey code
+HoldsNoText error = ⊤
 
 -- what an `Error` stands for
 abbrev pub error_view : Error → ErrorView

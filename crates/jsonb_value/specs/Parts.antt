@@ -1,5 +1,5 @@
 -- What a tree holds, if it is of that kind.
-use Rattle.std.specs.Prelude.{ℕ, suc, ℤ, List, Bool, Some, None, if◌then◌else◌}
+use Rattle.std.specs.Prelude.{ℕ, suc, ℤ, List, Bool, Some, None, if◌then◌else◌, ⊤}
 use Rattle.std.specs.declared.option.Option.{Option}
 use Rattle.std.specs.Option.{option_or}
 use Rattle.std.specs.Str.{bytes_eq, str_eq_ignore_ascii_case}
@@ -80,6 +80,13 @@ find_member test (more_members k t ms) = if test k then Some t else find_member 
 abbrev pub get_ignore_case : List ℕ → Tree → Option Tree
 get_ignore_case name (object ms) = option_or (find_member (bytes_eq name) ms) (find_member (str_eq_ignore_ascii_case name) ms)
 get_ignore_case name t = None
+
+-- it holds no other tree and no text of its own, so that a copy takes no memory
+abbrev pub HoldsNoMemory : Tree → Type 0
+HoldsNoMemory (string escaped s) = ⊥
+HoldsNoMemory (array ts) = ⊥
+HoldsNoMemory (object ms) = ⊥
+HoldsNoMemory t = ⊤
 
 -- an object's keys, as strings that own their text
 abbrev pub key_trees : Members → Trees

@@ -1,13 +1,15 @@
 //! `clone` of errors. Want of memory for a text is all that it is refused for.
 ghost use Rattle.std.specs.Prelude.{◌≡◌};
-ghost use Rattle.jsonb_value.specs.Code.{code_of};
-ghost use Rattle.jsonb_value.specs.ErrorView.{error_view};
+ghost use Rattle.jsonb_value.specs.Code.{code_of, NamesNoKey};
+ghost use Rattle.jsonb_value.specs.ErrorView.{error_view, HoldsNoText};
 
 use super::{Error, ParseErrorCode};
 use std::alloc::AllocError;
 
 impl Clone for ParseErrorCode {
     ghost is_clone = { λ code copied. code_of copied ≡ code_of code };
+
+    ghost is_infallible = { λ code. NamesNoKey (code_of code) };
 
     fn clone(&self) -> Result<ParseErrorCode, AllocError> {
         use ParseErrorCode::*;
@@ -41,6 +43,8 @@ impl Clone for ParseErrorCode {
 
 impl Clone for Error {
     ghost is_clone = { λ error copied. error_view copied ≡ error_view error };
+
+    ghost is_infallible = { λ error. HoldsNoText (error_view error) };
 
     fn clone(&self) -> Result<Error, AllocError> {
         use Error::*;

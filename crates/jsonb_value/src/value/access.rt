@@ -272,7 +272,7 @@ impl<'a> Value<'a> {
     }
 
     /// Whether both have the same variant.
-    pub fn eq_variant(&self, other: &Value<'a>) -> bool
+    pub fn eq_variant(&self, other: &Value) -> bool
         ensures { result ≡ (rank (view self.now) == rank (view other.now)) }
     {
         rank(self) == rank(other)

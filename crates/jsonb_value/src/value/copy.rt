@@ -1,5 +1,7 @@
 //! `clone` of a value, member by member. What is borrowed stays borrowed.
-ghost use Rattle.std.specs.Prelude.{◌≡◌, IfOk};
+ghost use Rattle.std.specs.Prelude.{◌≡◌, IfOk, IfErr};
+ghost use Rattle.jsonb_value.specs.Parts.{HoldsNoMemory};
+ghost use Rattle.jsonb_value.specs.Tree.{escaped};
 ghost use Rattle.std.specs.Cow.{cow_str_bytes};
 ghost use Rattle.jsonb_value.specs.View.{view, trees_view, members_view, mark_view};
 
@@ -11,6 +13,8 @@ use std::default::Emptied;
 impl<'a> Clone for Value<'a> {
     ghost is_clone = { λ v w. view w ≡ view v };
 
+    ghost is_infallible = { λ v. HoldsNoMemory (view v) };
+
     fn clone(&self) -> Result<Value<'a>, AllocError> {
         copy(self)
     }
@@ -20,7 +24,8 @@ impl<'a> Clone for Value<'a> {
 #[inline(always)]
 #[cycle(copy)]
 fn copy<'a>(value: &Value<'a>) -> Result<Value<'a>, AllocError>
-    ensures { IfOk result (λ v. view v ≡ view value.now) }
+    ensures same { IfOk result (λ v. view v ≡ view value.now) }
+    ensures memory { IfErr result (λ _. ¬ (HoldsNoMemory (view value.now))) }
 {
     match value {
         Value::Null => Ok(Value::Null),
@@ -41,6 +46,7 @@ fn copy<'a>(value: &Value<'a>) -> Result<Value<'a>, AllocError>
 fn copy_text<'a>(text: &CowStr<'a>) -> Result<CowStr<'a>, AllocError>
     ensures bytes { IfOk result (λ t. cow_str_bytes t ≡ cow_str_bytes text.now) }
     ensures mark { IfOk result (λ t. mark_view t ≡ mark_view text.now) }
+    ensures memory { IfErr result (λ _. mark_view text.now ≡ escaped) }
 {
     match text {
         CowStr::Borrowed(bytes) => Ok(CowStr::Borrowed(*bytes)),
