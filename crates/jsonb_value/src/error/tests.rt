@@ -9,6 +9,7 @@ fn expect_texts(
     for (code, text) in codes {
         let alone = code.to_string(rt.alloc())?;
         assert_eq!(rt; alone.as_str(), text);
+        assert_eq!(rt; code.clone()?, code);
         let placed = Error::Syntax(code, 16).to_string(rt.alloc())?;
         let wanted = format!(in rt.alloc(); "{text}, pos 16")?;
         assert_eq!(rt; placed.as_str(), wanted.as_str());
@@ -109,6 +110,7 @@ fn other_errors_print_their_names(rt: HostRuntime) -> std::result::Result<(), Fa
         (Error::OutOfMemory, "OutOfMemory"),
     ]?;
     for (error, text) in errors {
+        assert_eq!(rt; error.clone()?, error);
         let shown = error.to_string(rt.alloc())?;
         assert_eq!(rt; shown.as_str(), text);
     }

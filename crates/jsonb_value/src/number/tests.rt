@@ -56,6 +56,26 @@ fn texts(rt: HostRuntime) -> Result<(), Fail> {
     Ok(())
 }
 
+// `{}` answers at every scale, and writes what is appended.
+#[test]
+fn every_scale_is_printed(rt: HostRuntime) -> Result<(), Fail> {
+    let alloc = rt.alloc();
+    for scale in 0..=255u8 {
+        for number in [
+            decimal64(scale, i64::MIN),
+            decimal64(scale, 0),
+            decimal128(scale, i128::MIN),
+            decimal128(scale, 7),
+        ] {
+            let mut buf = Vec::new(alloc);
+            number.append_text(&mut buf)?;
+            let text = format!(in alloc; "{number}")?;
+            assert_eq!(rt; text.as_str().as_bytes(), buf.as_slice());
+        }
+    }
+    Ok(())
+}
+
 #[test]
 fn exact_casts(rt: HostRuntime) {
     for (number, exact, signed, unsigned) in [

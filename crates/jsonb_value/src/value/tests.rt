@@ -130,6 +130,37 @@ fn clones_are_equal(rt: HostRuntime) -> Result<(), Fail> {
     Ok(())
 }
 
+// A clone of each kind answers.
+#[test]
+fn each_kind_is_cloned(rt: HostRuntime) -> Result<(), Fail> {
+    let alloc = rt.alloc();
+    let values = vec![in alloc;
+        Value::Null,
+        Value::Bool(true),
+        integer(1),
+        Value::String(CowStr::Borrowed("a")),
+        Value::String(CowStr::Owned(String::from_str(alloc, "a")?)),
+        Value::Binary(b"a"),
+        Value::Date(Date { value: 1 }),
+        Value::Timestamp(Timestamp { value: 1 }),
+        Value::TimestampTz(TimestampTz { offset: 1, value: 2 }),
+        Value::Interval(Interval {
+            months: 1,
+            days: 2,
+            micros: 3,
+        }),
+        object(alloc, &[("a", 1)])?,
+        Value::Array(Vec::new(alloc)),
+    ]?;
+    for value in &values {
+        assert_eq!(rt; value.clone()?, *value);
+        if let Some(keys) = value.object_keys(alloc)? {
+            assert_eq!(rt; keys.array_length(), Some(1));
+        }
+    }
+    Ok(())
+}
+
 #[test]
 fn texts_of_scalars(rt: HostRuntime) -> Result<(), Fail> {
     let alloc = rt.alloc();
