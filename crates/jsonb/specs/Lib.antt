@@ -11,3 +11,9 @@ pub mod Source
 pub mod SourceLaws
 pub mod Stack
 pub mod StringRefusal
+pub use Rattle.jsonb_value.specs.Code
+pub use Rattle.jsonb_value.specs.Grammar
+pub use Rattle.jsonb_value.specs.Mode
+pub use Rattle.jsonb_value.specs.Parts
+pub use Rattle.jsonb_value.specs.Tree
+pub use Rattle.jsonb_value.specs.View
