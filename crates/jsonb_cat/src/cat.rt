@@ -3,7 +3,9 @@
 ghost use Rattle.std.specs.Prelude.{◌≡◌, ◌≢◌, ◌↔◌, ◌⊎◌, ℕ, ◌+◌, ◌≤◌, List, [], ◌∷◌, ◌++◌, take, map, vec_len, string_bytes, MatchOption, OnOk, OnErr, IfOk, IfErr, IfSome};
 ghost use Rattle.std.specs.Io.KnownBytes.{Appends, IsAtEnd};
 ghost use Rattle.jsonb_value.specs.Mode.{Mode as Grammar};
-ghost use Rattle.jsonb.specs.Parser.{mode_of};
+ghost use Rattle.jsonb.specs.Parser.{mode_of, Fails};
+ghost use Rattle.jsonb.specs.Reading.Document.{document_of};
+ghost use Rattle.jsonb.specs.Refusals.{IsExplained};
 ghost use Rattle.jsonb_cat.specs.Program.{Chooses, IsNoDocument, IsLineOf, IsAccepted, IsAnswered};
 
 use jsonb::parser::Mode;
@@ -39,6 +41,9 @@ pub fn convert(alloc: Global, mode: Mode, input: &[u8], out: &mut Vec<u8>) -> Re
         × (out.new.items ≡ out.old.items ++ line)) }
     ensures refused { IfErr result (λ e. e ≢ Error.OutOfMemory → IsNoDocument (mode_of mode) input.now) }
     ensures err { OnErr result (out.new.items ≡ out.old.items) }
+    // Which fault it is, and where, and what stands at the place that is named.
+    ensures exact { IfErr result (λ e. Fails e (document_of (mode_of mode) input.now)) }
+    ensures explained { IfErr result (IsExplained (mode_of mode) input.now) }
     // Where the input is what was appended, without the line feed, the same is appended again.
     ensures again { OnOk result ((text : List ℕ) → out.new.items ≡ out.old.items ++ (text ++ 10 ∷ [])
         → (line : List ℕ) → IsLineOf (mode_of mode) text line ↔ (line ≡ text ++ 10 ∷ [])) }
