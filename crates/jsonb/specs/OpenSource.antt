@@ -1,13 +1,16 @@
 -- What a reader has of its text so far: the open containers and the value that was read last, as they stand in the text.
-use Rattle.std.specs.Prelude.{ℕ, Bool, true, false, List, [], ◌∷◌, Option, Some, None, ⊤}
+use Rattle.std.specs.Prelude.{ℕ, Bool, true, false, List, [], ◌∷◌, Option, Some, None, Result, IfOk, ⊤}
 use Rattle.std.specs.Cow.{cow_str_bytes}
 use Rattle.std.specs.List.{AllByRecursion}
 use Rattle.jsonb_value.specs.Mode.{Mode}
 use Rattle.jsonb_value.specs.View.{mark_view}
+use Rattle.jsonb_value.specs.declared.error.Error.{Error}
+use Rattle.jsonb.specs.declared.parser.Parser.{Parser}
 use Rattle.jsonb.specs.declared.parser.ast.JsonAst.{JsonAst}
 use Rattle.jsonb.specs.declared.parser.container.Frame.{Frame}
 use Rattle.jsonb.specs.declared.parser.container.Frame.TheVariants as variants
 use Rattle.jsonb.specs.Located.{AreLocated, IsLocated, KeyEndsAt, MembersAreLocated}
+use Rattle.jsonb.specs.Parser.{mode_of}
 use Rattle.jsonb.specs.Source.{Source, array_source, object_source, source_members_view, source_view, sources_view}
 
 -- whether it is an array or an object
@@ -50,3 +53,7 @@ AllIsLocated mode input frames read = StackIsLocated mode input frames × ReadIs
 -- the container that a step goes on with, and the value that was read
 abbrev pub PartIsLocated : Mode → List ℕ → Frame → Option JsonAst → Type 0
 PartIsLocated mode input frame read = FrameIsLocated mode input frame × ReadIsLocated mode input read
+
+-- Where the open containers stood in the text before a call, they and the value that it read stand there after it.
+abbrev pub KeepsPlaces : Parser → List Frame → Result (Option JsonAst) Error → Parser → List Frame → Type 0
+KeepsPlaces old before result new after = StackIsLocated (mode_of old.mode) old.buf.now before → IfOk result (AllIsLocated (mode_of new.mode) new.buf.now after)

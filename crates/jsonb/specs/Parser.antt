@@ -7,7 +7,7 @@ use Rattle.jsonb_value.specs.declared.error.Error.TheVariants.{Syntax, OutOfMemo
 use Rattle.jsonb.specs.declared.parser.Parser.{Parser}
 use Rattle.jsonb.specs.declared.parser.Mode as parser
 use Rattle.jsonb.specs.declared.parser.Mode.TheVariants.{Standard, Extended}
-use Rattle.jsonb.specs.Reading.{Fault}
+use Rattle.jsonb.specs.Reading.{Fault, Read}
 
 -- the grammar that a reader's mode stands for
 abbrev pub mode_of : parser.Mode → Mode
@@ -50,6 +50,10 @@ abbrev pub IsTextRefusal : Error → Type 0
 IsTextRefusal (Syntax code place) = Unit {0}
 IsTextRefusal OutOfMemory = Unit {0}
 IsTextRefusal other = ⊥
+
+-- What a call returned, seen by view, and the bytes that it left are what this function reads from the reader's index on.
+abbrev pub ReadsAs : {X Y : Type 0} → (X → Y) → (ℕ → Mode → List ℕ → Read Y) → Result X Error → Parser → Parser → Type 0
+ReadsAs view read result old new = Gives (λ x. (view x, rest_of new)) result (read (size_of old) (mode_of old.mode) (rest_of old))
 
 -- The input holds a bracket or a brace that opens, or a backslash: a reader that asks for memory has met one.
 abbrev pub HoldsMarker : List ℕ → Type 0

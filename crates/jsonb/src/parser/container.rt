@@ -7,8 +7,8 @@ ghost use Rattle.jsonb_value.specs.Tree.{Tree};
 ghost use Rattle.jsonb_value.specs.View.{mark_view};
 ghost use Rattle.jsonb.specs.AstView.{ast_view, found_of};
 ghost use Rattle.jsonb.specs.Located.{IsLocated, KeyEndsAt, MembersAreLocated};
-ghost use Rattle.jsonb.specs.OpenSource.{AllIsLocated, FrameIsLocated, LastHasNoKey, PartIsLocated, PartsAreLocated, ReadIsLocated, StackIsLocated};
-ghost use Rattle.jsonb.specs.Parser.{rest_of, size_of, mode_of, Advances, Gives, HoldsMarker};
+ghost use Rattle.jsonb.specs.OpenSource.{AllIsLocated, FrameIsLocated, KeepsPlaces, LastHasNoKey, PartIsLocated, PartsAreLocated, ReadIsLocated, StackIsLocated};
+ghost use Rattle.jsonb.specs.Parser.{rest_of, size_of, mode_of, Advances, Gives, ReadsAs, HoldsMarker};
 ghost use Rattle.jsonb.specs.Reading.{begins};
 ghost use Rattle.jsonb.specs.Reading.Container.{is_left_out, first_repeat, spot_of, spot_cmp, object_or_fault, AreAscending};
 ghost use Rattle.jsonb.specs.Reading.Document.{value_at};
@@ -48,7 +48,7 @@ impl<'a> Parser<'a> {
     // A value that begins here, by a loop over the arrays and objects that are open.
     pub(super) fn parse_value(&mut self) -> Result<JsonAst<'a>>
         requires { self.old.idx ≤ size_of self.old }
-        ensures reads { Gives (λ v. (ast_view v, rest_of self.new)) result (value_at (size_of self.old) (mode_of self.old.mode) max_depth (rest_of self.old)) }
+        ensures reads { ReadsAs ast_view (λ size mode. value_at size mode max_depth) result self.old self.new }
         ensures memory { result ≡ Err Error.OutOfMemory → HoldsMarker self.old.buf.now }
         ensures source { IfOk result (λ v. IsLocated (mode_of self.old.mode) self.old.buf.now (source_view v)) }
         ensures advances { Advances self.old self.new }
@@ -72,7 +72,7 @@ impl<'a> Parser<'a> {
         ensures memory { result ≡ Err Error.OutOfMemory → HoldsMarker self.old.buf.now }
         ensures opened { OnOk result (length stack.old.items < length stack.new.items → HoldsMarker self.old.buf.now) }
         ensures onward { IfOk result (λ read. MatchOption read (length (rest_of self.new) < length (rest_of self.old)) (λ _. Unit {0})) }
-        ensures source { StackIsLocated (mode_of self.old.mode) self.old.buf.now stack.old.items → IfOk result (AllIsLocated (mode_of self.new.mode) self.new.buf.now stack.new.items) }
+        ensures source { KeepsPlaces self.old stack.old.items result self.new stack.new.items }
         ensures depth { OnOk result (length stack.new.items ≤ max_depth) }
         ensures advances { Advances self.old self.new }
     {
@@ -91,7 +91,7 @@ impl<'a> Parser<'a> {
         requires inside { self.old.idx ≤ size_of self.old }
         ensures reads { Continues (resumed self.old stack.old.items (array_within (size_of self.old) (mode_of self.old.mode) (depth_in stack.old.items) (rest_of self.old)))
             result self.new stack.new.items }
-        ensures source { StackIsLocated (mode_of self.old.mode) self.old.buf.now stack.old.items → IfOk result (AllIsLocated (mode_of self.new.mode) self.new.buf.now stack.new.items) }
+        ensures source { KeepsPlaces self.old stack.old.items result self.new stack.new.items }
         ensures depth { OnOk result (length stack.new.items ≤ max_depth) }
         ensures advances { Advances self.old self.new }
     {
@@ -138,7 +138,7 @@ impl<'a> Parser<'a> {
         requires inside { self.old.idx ≤ size_of self.old }
         ensures reads { Continues (resumed self.old stack.old.items (object_within (size_of self.old) (mode_of self.old.mode) (depth_in stack.old.items) (rest_of self.old)))
             result self.new stack.new.items }
-        ensures source { StackIsLocated (mode_of self.old.mode) self.old.buf.now stack.old.items → IfOk result (AllIsLocated (mode_of self.new.mode) self.new.buf.now stack.new.items) }
+        ensures source { KeepsPlaces self.old stack.old.items result self.new stack.new.items }
         ensures depth { OnOk result (length stack.new.items ≤ max_depth) }
         ensures advances { Advances self.old self.new }
     {

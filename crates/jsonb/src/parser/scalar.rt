@@ -4,7 +4,7 @@ ghost use Rattle.std.specs.Cow.{cow_str_bytes};
 ghost use Rattle.jsonb_value.specs.View.{mark_view, number_view};
 ghost use Rattle.jsonb.specs.AstView.{ast_view};
 ghost use Rattle.jsonb.specs.OpenSource.{holds_others};
-ghost use Rattle.jsonb.specs.Parser.{rest_of, size_of, mode_of, Advances, Gives};
+ghost use Rattle.jsonb.specs.Parser.{rest_of, size_of, mode_of, Advances, Gives, ReadsAs};
 ghost use Rattle.jsonb.specs.Reading.Scalar.{begins_letter, begins_number, begins_single_quote, folded, letters_at, null_at, number_at, word_at, quoted_at, number_or_fault, scalar_at, words_at, key_at};
 ghost use Rattle.jsonb.specs.Source.{source_view};
 
@@ -27,7 +27,7 @@ impl<'a> Parser<'a> {
     // A value that holds no others.
     pub(super) fn parse_scalar(&mut self) -> Result<JsonAst<'a>>
         requires { self.old.idx ≤ size_of self.old }
-        ensures reads { Gives (λ v. (ast_view v, rest_of self.new)) result (scalar_at (size_of self.old) (mode_of self.old.mode) (rest_of self.old)) }
+        ensures reads { ReadsAs ast_view scalar_at result self.old self.new }
         ensures alone { IfOk result (λ v. holds_others (source_view v) ≡ false) }
         ensures memory { result ≡ Err Error.OutOfMemory → Contains self.old.buf.now 92 }
         ensures advances { Advances self.old self.new }
@@ -105,7 +105,7 @@ impl<'a> Parser<'a> {
     // A number as a value; a byte that begins no number begins no value.
     fn parse_number_value(&mut self) -> Result<JsonAst<'a>>
         requires { self.old.idx ≤ size_of self.old }
-        ensures reads { Gives (λ v. (ast_view v, rest_of self.new)) result (number_or_fault (size_of self.old) (mode_of self.old.mode) (rest_of self.old)) }
+        ensures reads { ReadsAs ast_view number_or_fault result self.old self.new }
         ensures alone { IfOk result (λ v. holds_others (source_view v) ≡ false) }
         ensures memory { result ≡ Err Error.OutOfMemory → Contains self.old.buf.now 92 }
         ensures advances { Advances self.old self.new }
@@ -189,7 +189,7 @@ impl<'a> Parser<'a> {
     // A key.
     pub(super) fn parse_key(&mut self) -> Result<CowStr<'a>>
         requires { self.old.idx ≤ size_of self.old }
-        ensures reads { Gives (λ s. ((mark_view s, cow_str_bytes s), rest_of self.new)) result (key_at (size_of self.old) (mode_of self.old.mode) (rest_of self.old)) }
+        ensures reads { ReadsAs (λ s. (mark_view s, cow_str_bytes s)) key_at result self.old self.new }
         ensures memory { result ≡ Err Error.OutOfMemory → Contains self.old.buf.now 92 }
         ensures advances { Advances self.old self.new }
     {
