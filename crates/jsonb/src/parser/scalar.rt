@@ -14,6 +14,7 @@ use jsonb_value::number::Number;
 use std::borrow::CowStr;
 
 // A letter as words have it: in extended mode in lower case.
+#[inline(always)]
 fn fold(letter: u8, mode: Mode) -> u8
     ensures { result ≡ folded (mode_of mode) letter }
 {
@@ -42,6 +43,7 @@ impl<'a> Parser<'a> {
     }
 
     // A word or a number as a value.
+    #[inline(always)]
     fn parse_word_or_number(&mut self) -> Result<JsonAst<'a>>
         requires { self.old.idx ≤ size_of self.old }
         ensures reads { Gives (λ v. (ast_view v, rest_of self.new)) result (words_at (size_of self.old) (mode_of self.old.mode) (rest_of self.old)) }
@@ -62,6 +64,7 @@ impl<'a> Parser<'a> {
     }
 
     // Passes a single quote, where one comes next that begins a string.
+    #[inline(always)]
     fn take_single_quote(&mut self) -> bool
         ensures found { result ≡ begins_single_quote (mode_of self.old.mode) (rest_of self.old) }
         ensures rest { MatchBool result (rest_of self.old ≡ 39 ∷ rest_of self.new) (self.new ≡ self.old) }
@@ -88,6 +91,7 @@ impl<'a> Parser<'a> {
     }
 
     // Whether a number begins here.
+    #[inline(always)]
     fn begins_number(&self) -> bool
         ensures { result ≡ begins_number (mode_of self.now.mode) (rest_of self.now) }
     {
@@ -103,6 +107,7 @@ impl<'a> Parser<'a> {
     }
 
     // A number as a value; a byte that begins no number begins no value.
+    #[inline(always)]
     fn parse_number_value(&mut self) -> Result<JsonAst<'a>>
         requires { self.old.idx ≤ size_of self.old }
         ensures reads { ReadsAs ast_view number_or_fault result self.old self.new }
@@ -118,6 +123,7 @@ impl<'a> Parser<'a> {
     }
 
     // A number, or a word that names none.
+    #[inline(always)]
     fn parse_number(&mut self) -> Result<Number>
         requires { self.old.idx ≤ size_of self.old }
         ensures reads { Gives (λ n. (number_view n, rest_of self.new)) result (number_at (size_of self.old) (mode_of self.old.mode) (rest_of self.old)) }
@@ -179,6 +185,7 @@ impl<'a> Parser<'a> {
     }
 
     // Whether this letter comes next.
+    #[inline(always)]
     fn next_is_letter(&self, letter: u8) -> bool
         ensures found { result ≡ begins_letter (mode_of self.now.mode) letter (rest_of self.now) }
         ensures within { MatchBool result (self.now.idx < size_of self.now) (Unit {0}) }

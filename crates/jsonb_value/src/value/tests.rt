@@ -143,7 +143,10 @@ fn each_kind_is_cloned(rt: HostRuntime) -> Result<(), Fail> {
         Value::Binary(b"a"),
         Value::Date(Date { value: 1 }),
         Value::Timestamp(Timestamp { value: 1 }),
-        Value::TimestampTz(TimestampTz { offset: 1, value: 2 }),
+        Value::TimestampTz(TimestampTz {
+            offset: 1,
+            value: 2
+        }),
         Value::Interval(Interval {
             months: 1,
             days: 2,
