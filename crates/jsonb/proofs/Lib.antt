@@ -20,6 +20,7 @@ pub mod Laid
 pub mod Located
 pub mod Longer
 pub mod Markers
+pub mod NearMarks
 pub mod NumberAutomaton
 pub mod NumberEnds
 pub mod NumberForms

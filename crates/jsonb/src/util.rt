@@ -64,6 +64,7 @@ fn digit(byte: u8) -> u32
     }
 }
 
+#[inline(always)]
 fn first_non_digit(bytes: &[u8]) -> Option<u8>
     ensures some { IfSome result (IsFirstNonDigit bytes.now) }
     ensures none { IfNone result (All IsHexDigit bytes.now) }
@@ -76,6 +77,7 @@ fn first_non_digit(bytes: &[u8]) -> Option<u8>
     None
 }
 
+#[inline(always)]
 fn value_of(digits: &[u8]) -> u32
     requires four { length digits.now ≡ 4 }
     requires each { All IsHexDigit digits.now }
@@ -86,6 +88,7 @@ fn value_of(digits: &[u8]) -> u32
 }
 
 // The four bytes after `\u`, in braces or not, and what follows them.
+#[inline(always)]
 fn split_unit(bytes: &[u8]) -> Option<(&[u8], &[u8])>
     ensures some { IfSome result (λ parts. SplitsUnit bytes.now parts.0.now parts.1.now) }
     ensures long { IfSome result (λ parts. length parts.1.now + 4 ≤ length bytes.now) }
@@ -104,6 +107,7 @@ fn split_unit(bytes: &[u8]) -> Option<(&[u8], &[u8])>
 }
 
 // The unit whose `\u` stands before the bytes.
+#[inline(always)]
 fn read_unit(bytes: &[u8]) -> std::result::Result<HexUnit<'_>, Fault>
     ensures ok { IfOk result (λ unit. ReadsUnit bytes.now unit.digits.now unit.rest.now unit.value) }
     ensures long { IfOk result (λ unit. length unit.rest.now + 4 ≤ length bytes.now) }
@@ -147,6 +151,7 @@ fn is_surrogate(value: u32) -> bool
     is_surrogate_high(value) || is_surrogate_low(value)
 }
 
+#[inline(always)]
 fn push_char(text: &mut Vec<u8>, value: u32)
     requires scalar { InScalarRange value }
     requires room { vec_len text.old + 4 ≤ vec_capacity text.old }
@@ -171,6 +176,7 @@ fn push_kept(text: &mut Vec<u8>, digits: &[u8])
 }
 
 // A unit that isn't taken together with the next one.
+#[inline(always)]
 fn push_alone(text: &mut Vec<u8>, digits: &[u8], value: u32)
     requires four { length digits.now ≡ 4 }
     requires value { value ≡ unit_value digits.now }
@@ -238,6 +244,7 @@ fn after_next_mark<'a>(unit: &HexUnit<'a>) -> Option<&'a [u8]>
 
 // Decodes the unit whose `\u` stands before the bytes, with the next one where the two are taken together. Returns
 // what follows.
+#[inline(always)]
 fn units<'a>(bytes: &'a [u8], text: &mut Vec<u8>) -> std::result::Result<&'a [u8], Fault>
     requires { vec_len text.old + 2 + length bytes.now ≤ vec_capacity text.old }
     ensures ok { IfOk result (λ rest. (mode : Grammar) → Adds mode (92 ∷ 117 ∷ bytes.now) rest.now text.old.items text.new.items) }
@@ -276,6 +283,7 @@ fn escaped(letter: u8, mode: Mode) -> Option<u8>
 }
 
 // Decodes the escape whose backslash stands before the bytes, and returns what follows.
+#[inline(always)]
 fn escape<'a>(
     bytes: &'a [u8],
     mode: Mode,

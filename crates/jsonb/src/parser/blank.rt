@@ -108,7 +108,17 @@ impl Parser<'_> {
                 return;
             }
             self.idx += n;
+            self.skip_spaces();
         }
+    }
+
+    // Most blanks are spaces in a row.
+    #[inline(always)]
+    fn skip_spaces(&mut self)
+        ensures rest { pass_blanks (mode_of self.old.mode) (rest_of self.new) ≡ pass_blanks (mode_of self.old.mode) (rest_of self.old) }
+        ensures advances { Advances self.old self.new }
+    {
+        'spaces: while self.take_byte(b' ') {}
     }
 
     // Whether a comment begins here. After the blanks, this is one that never ends.

@@ -198,6 +198,7 @@ fn number_end(bytes: &[u8], whole_end: usize) -> std::result::Result<usize, usiz
 
 impl Parser<'_> {
     // Reads the longest number text, and gives its number.
+    #[inline(always)]
     pub(super) fn parse_standard_number(&mut self) -> Result<Number>
         requires { self.old.idx ≤ size_of self.old }
         ensures reads { Gives (λ n. (number_view n, rest_of self.new)) result

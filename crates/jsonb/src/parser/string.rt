@@ -1,6 +1,8 @@
 //! Quoted strings.
-ghost use Rattle.std.specs.Prelude.{◌≡◌, ◌≢◌, ◌⊎◌, ℕ, ◌+◌, ◌<◌, ◌≤◌, ◌^◌, length, slice_index, Contains, Err, true};
+ghost use Rattle.std.specs.Prelude.{◌≡◌, ◌≢◌, ◌⊎◌, ◌↔◌, ◌==◌, if◌then◌else◌, bit_or, IfSome, IfNone, ℕ, ◌+◌, ◌<◌, ◌≤◌, ◌^◌, length, slice_index, Contains, Err, true};
 ghost use Rattle.std.specs.Cow.{cow_str_bytes};
+ghost use Rattle.std.specs.Int.{bit_at};
+ghost use Rattle.memchr.specs.Lanes.{HasLanes};
 ghost use Rattle.jsonb_value.specs.StringStep.{escape_step};
 ghost use Rattle.jsonb_value.specs.View.{mark_view};
 ghost use Rattle.jsonb.specs.Decoding.{TellsBackslash};
@@ -14,6 +16,7 @@ use jsonb_value::error::{Error, ParseErrorCode, Result};
 use memchr::memchr2;
 use std::alloc::Global;
 use std::borrow::CowStr;
+use std::simd::prelude::*;
 
 // Where the search for the end of a string stops, counted from the byte after the opening quote.
 #[derive(Clone, Copy)]
@@ -38,8 +41,26 @@ fn step_after_backslash(bytes: &[u8]) -> usize
     }
 }
 
-// The index of the first quote or backslash from `at` on, or the length of the bytes.
+// The index of the first quote or backslash from `at` on, or the length of the bytes. It is often near.
+#[inline(always)]
 fn next_mark(bytes: &[u8], quote: u8, at: usize) -> usize
+    requires { at ≤ length bytes.now }
+    ensures bounds { (at ≤ result) × (result ≤ length bytes.now) }
+    ensures before { (k : ℕ) → at ≤ k → k < result → (slice_index bytes.now k ≢ quote) × (slice_index bytes.now k ≢ 92) }
+    ensures here { result < length bytes.now → (slice_index bytes.now result ≡ quote) ⊎ (slice_index bytes.now result ≡ 92) }
+{
+    if bytes.len() - at < 32 {
+        return far_mark(bytes, quote, at);
+    }
+    if let Some(near) = near_mark(bytes, quote, at) {
+        return near;
+    }
+    far_mark(bytes, quote, at + 32)
+}
+
+// The same by a search of all that is left.
+#[inline(never)]
+fn far_mark(bytes: &[u8], quote: u8, at: usize) -> usize
     requires { at ≤ length bytes.now }
     ensures bounds { (at ≤ result) × (result ≤ length bytes.now) }
     ensures before { (k : ℕ) → at ≤ k → k < result → (slice_index bytes.now k ≢ quote) × (slice_index bytes.now k ≢ 92) }
@@ -49,6 +70,70 @@ fn next_mark(bytes: &[u8], quote: u8, at: usize) -> usize
         Some(count) => at + count,
         None => bytes.len(),
     }
+}
+
+// The index of the first quote or backslash among the next 32 bytes.
+#[inline(always)]
+fn near_mark(bytes: &[u8], quote: u8, at: usize) -> Option<usize>
+    requires { at + 32 ≤ length bytes.now }
+    ensures bounds { IfSome result (λ i. (at ≤ i) × (i < at + 32)) }
+    ensures before { IfSome result (λ i. (k : ℕ) → at ≤ k → k < i → (slice_index bytes.now k ≢ quote) × (slice_index bytes.now k ≢ 92)) }
+    ensures here { IfSome result (λ i. (slice_index bytes.now i ≡ quote) ⊎ (slice_index bytes.now i ≡ 92)) }
+    ensures none { IfNone result ((k : ℕ) → at ≤ k → k < at + 32 → (slice_index bytes.now k ≢ quote) × (slice_index bytes.now k ≢ 92)) }
+{
+    let lanes = load(bytes, at);
+    let quotes = equal_to(lanes, quote);
+    let backslashes = equal_to(lanes, b'\\');
+    let found = either(quotes, backslashes);
+    let marks = top_bits(found);
+    if marks == 0 {
+        return None;
+    }
+    Some(at + lowest(marks))
+}
+
+// The next 32 bytes.
+#[inline(always)]
+fn load(bytes: &[u8], at: usize) -> u8x32
+    requires { at + 32 ≤ length bytes.now }
+    ensures { HasLanes result (λ k. slice_index bytes.now (at + k)) }
+{
+    u8x32::from_slice(&bytes[at..])
+}
+
+// All bits of a lane, where it holds the byte.
+#[inline(always)]
+fn equal_to(lanes: u8x32, byte: u8) -> u8x32
+    ensures { HasLanes result (λ k. if slice_index lanes k == byte then 255 else 0) }
+{
+    lanes
+        .simd_eq(u8x32::splat(byte))
+        .select(u8x32::splat(255), u8x32::splat(0))
+}
+
+#[inline(always)]
+fn either(a: u8x32, b: u8x32) -> u8x32
+    ensures { HasLanes result (λ k. bit_or (slice_index a k) (slice_index b k)) }
+{
+    a | b
+}
+
+// Bit k is the top bit of lane k.
+#[inline(always)]
+fn top_bits(lanes: u8x32) -> u64
+    ensures { (k : ℕ) → (bit_at result k ≡ 1) ↔ (128 ≤ slice_index lanes k) }
+{
+    lanes.simd_ge(u8x32::splat(128)).to_bitmask()
+}
+
+#[inline(always)]
+fn lowest(bits: u64) -> usize
+    requires { bits ≢ 0 }
+    ensures bound { result < 64 }
+    ensures set { bit_at bits result ≡ 1 }
+    ensures below { (k : ℕ) → k < result → bit_at bits k ≡ 0 }
+{
+    bits.trailing_zeros() as usize
 }
 
 // Looks for the quote that ends a string. An escape is stepped over by its first bytes, without a look at the others.

@@ -25,6 +25,21 @@ impl Number {
     }
 }
 
+impl Number {
+    // The order, by the parts of both.
+    fn cmp_parts(&self, other: &Number) -> Ordering
+        ensures { result ≡ num_cmp (number_view self.now) (number_view other.now) }
+    {
+        let (a, a_scale) = self.parts();
+        let (b, b_scale) = other.parts();
+        if a_scale <= b_scale {
+            cmp_scaled(a, b_scale - a_scale, b)
+        } else {
+            cmp_scaled(b, a_scale - b_scale, a).reverse()
+        }
+    }
+}
+
 // `value * 10^digits`, where 128 bits hold it.
 fn scaled_up(value: i128, digits: u8) -> Option<i128>
     ensures { SomeIff result (FitsSigned w128 (value *ℤ pos (10 ^ digits)))
@@ -81,12 +96,11 @@ impl Ord for Number {
     ghost matches_eq = { λ m n. refl };
 
     fn cmp(&self, other: &Number) -> Ordering {
-        let (a, a_scale) = self.parts();
-        let (b, b_scale) = other.parts();
-        if a_scale <= b_scale {
-            cmp_scaled(a, b_scale - a_scale, b)
-        } else {
-            cmp_scaled(b, a_scale - b_scale, a).reverse()
+        // Two integers of one type, which most are, are compared as such.
+        match (self, other) {
+            (Number::UInt64(a), Number::UInt64(b)) => a.cmp(b),
+            (Number::Int64(a), Number::Int64(b)) => a.cmp(b),
+            _ => self.cmp_parts(other),
         }
     }
 }

@@ -1,7 +1,9 @@
 use Rattle.std.proofs.Common.{◌≡◌, ◌+◌, ◌<◌, [], drop, sym, ap, ap₂, ◌∙◌, arith, drop-drop, length, length-drop}
 use Rattle.jsonb.specs.Reading.Blank.{blank_length, pass_blanks}
-use Rattle.jsonb.specs.Parser.{mode_of, rest_of}
+use Rattle.jsonb.specs.Parser.{Advances, mode_of, rest_of}
 use Rattle.jsonb.proofs.Skips.{pass-none, pass-step, pass-nil}
+use Rattle.jsonb.specs.declared.parser.Parser.{Parser}
+use Rattle.jsonb.proofs.Scans.{goes_on}
 use Rattle.jsonb.proofs.Cursors.{nothing_left}
 use Rattle.jsonb.proofs.parser.Parser.pass_blanks.Goals as goal
 
@@ -19,9 +21,15 @@ blanks-preserved c =
     let some : 0 < blank_length mode (rest_of p) = omega (arith, n-is) in
     let passed : drop (blank_length mode (rest_of p)) (rest_of p) ≡ drop (p.idx + c.blank_len-n.result) p.buf.now =
     ap (λ n. drop n (rest_of p)) (sym n-is) ∙ drop-drop c.blank_len-n.result p.idx p.buf.now in
-    let before = c.blanks.invariant in (
-      ap (λ r. pass_blanks mode r) (sym passed) ∙ sym (pass-step mode (rest_of p) some) ∙ before.0,
-      record { buf = before.1.buf; mode = before.1.mode; onward = omega (arith, before.1.onward); inside = λ h. omega (arith, c.blank_len-n.ensures.within, ap length c.rest.ensures, length-drop p.idx p.buf.now) },
+    let before = c.blanks.invariant in
+    let past : Parser = record p { idx = p.idx + c.blank_len-n.result } in
+    let on : Advances c.args.self.now past =
+    record { buf = before.1.buf; mode = before.1.mode; onward = omega (arith, before.1.onward); inside = λ h. omega (arith, c.blank_len-n.ensures.within, ap length c.rest.ensures, length-drop p.idx p.buf.now) } in (
+      ap (λ k. pass_blanks (mode_of k) (rest_of c.skip_spaces.new.self)) (sym before.1.mode)
+          ∙ c.skip_spaces.ensures.rest
+          ∙ ap (λ k. pass_blanks (mode_of k) (rest_of past)) before.1.mode
+          ∙ ap (λ r. pass_blanks mode r) (sym passed) ∙ sym (pass-step mode (rest_of p) some) ∙ before.0,
+      goes_on c.args.self.now past c.skip_spaces.new.self on c.skip_spaces.ensures.advances,
     )
 
 pub returns-clause-rest : goal.returns-clause-rest

@@ -4,7 +4,7 @@ use Rattle.std.specs.Int.{w128}
 use Rattle.std.specs.Ordering.{ordering_reverse}
 use Rattle.jsonb_value.specs.Order.{decimal_cmp}
 use Rattle.jsonb_value.proofs.Scaling.{decimal_cmp-raised, decimal_cmp-lowered}
-use Rattle.jsonb_value.proofs.number.order.NumberOrd.cmp.Goals as goal
+use Rattle.jsonb_value.proofs.number.Number.cmp_parts.Goals as goal
 
 pub returns-then-a_scale-b_scale : goal.returns-then-a_scale-b_scale
 returns-then-a_scale-b_scale c =

@@ -1,0 +1,10 @@
+use Rattle.std.proofs.Common.{◌≡◌, ◌-◌, length}
+use Rattle.jsonb.specs.Reading.Blank.{pass_blanks}
+use Rattle.jsonb.specs.Parser.{mode_of, rest_of, Advances}
+use Rattle.jsonb.proofs.parser.Parser.skip_spaces.Given as goal
+
+abbrev pub invariant-spaces : goal.invariant-spaces
+invariant-spaces l = (pass_blanks (mode_of l.initial.self.mode) (rest_of l.self) ≡ pass_blanks (mode_of l.initial.self.mode) (rest_of l.initial.self)) × Advances l.initial.self l.self
+
+abbrev pub decreases-spaces : goal.decreases-spaces
+decreases-spaces l = length l.self.buf.now - l.self.idx
