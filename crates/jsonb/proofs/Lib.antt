@@ -12,6 +12,7 @@ pub mod ExtendedNumbers
 pub mod ExtendedParts
 pub mod ExtendedTexts
 pub mod Faults
+pub mod FirstBytes
 pub mod Frames
 pub mod HexadecimalReading
 pub mod HexadecimalTexts

@@ -80,28 +80,6 @@ scalar_quoted p q a e =
     ∙ on_byte-found 34 (rest_of q) (quoted_at (size_of p) (mode_of p.mode) 34) (on_single_quote (mode_of p.mode) (34 ∷ rest_of q) (quoted_at (size_of p) (mode_of p.mode) 39) (words_at (size_of p) (mode_of p.mode) (34 ∷ rest_of q)))
     ∙ sym (ap₂ (λ n m. quoted_at n m 34 (rest_of q)) (same_size p q a) (ap mode_of a.mode))
 
-scalar-single : (size : ℕ) (mode : Mode) (bytes : List ℕ) → begins 34 bytes ≡ false → begins_single_quote mode bytes ≡ true → scalar_at size mode bytes ≡ quoted_at size mode 39 (drop 1 bytes)
-unfolding scalar_at
-scalar-single size mode bytes none single =
-    on_byte-none 34 bytes (quoted_at size mode 34) (on_single_quote mode bytes (quoted_at size mode 39) (words_at size mode bytes)) none ∙ single-true mode bytes (quoted_at size mode 39) (words_at size mode bytes) single
-
-scalar-words : (size : ℕ) (mode : Mode) (bytes : List ℕ) → begins 34 bytes ≡ false → begins_single_quote mode bytes ≡ false → scalar_at size mode bytes ≡ words_at size mode bytes
-unfolding scalar_at
-scalar-words size mode bytes none single =
-    on_byte-none 34 bytes (quoted_at size mode 34) (on_single_quote mode bytes (quoted_at size mode 39) (words_at size mode bytes)) none ∙ single-false mode bytes (quoted_at size mode 39) (words_at size mode bytes) single
-
-pub scalar_single : (p q r : Parser) → q ≡ p → begins 34 (rest_of p) ≡ false → Advances q r → begins_single_quote (mode_of q.mode) (rest_of q) ≡ true → rest_of q ≡ 39 ∷ rest_of r
-    → scalar_at (size_of p) (mode_of p.mode) (rest_of p) ≡ quoted_at (size_of r) (mode_of r.mode) 39 (rest_of r)
-scalar_single p q r same none a single e =
-    scalar-single (size_of p) (mode_of p.mode) (rest_of p) none (unmoved p q same (λ o. begins_single_quote (mode_of o.mode) (rest_of o)) ∙ single)
-    ∙ unmoved p q same (λ o. quoted_at (size_of o) (mode_of o.mode) 39 (drop 1 (rest_of o))) ∙ read_past q r 39 (λ n m u. quoted_at n m 39 u) a e
-
-pub scalar_words : (p q r : Parser) → q ≡ p → begins 34 (rest_of p) ≡ false → r ≡ q → begins_single_quote (mode_of q.mode) (rest_of q) ≡ false
-    → scalar_at (size_of p) (mode_of p.mode) (rest_of p) ≡ words_at (size_of r) (mode_of r.mode) (rest_of r)
-scalar_words p q r same none still single =
-    scalar-words (size_of p) (mode_of p.mode) (rest_of p) none (unmoved p q same (λ o. begins_single_quote (mode_of o.mode) (rest_of o)) ∙ single)
-    ∙ unmoved p q same (λ o. words_at (size_of o) (mode_of o.mode) (rest_of o)) ∙ unmoved q r still (λ o. words_at (size_of o) (mode_of o.mode) (rest_of o))
-
 -- the words
 module _ (size : ℕ) (mode : Mode) (bytes : List ℕ) where
   pub words_null : begins_letter mode 110 bytes ≡ true → words_at size mode bytes ≡ null_at size mode bytes

@@ -318,7 +318,7 @@ opens_apart b (inr (inl minus)) = apart_from b (inl minus)
 opens_apart b (inr (inr (inl point))) = subst IsApart (sym point) (sign_or_point_apart 46 refl refl refl refl refl (omega arith))
 opens_apart b (inr (inr (inr digit))) = apart_from b (inr digit)
 
-number_start_apart : (b : ℕ) → is_number_start b ≡ true → IsApart b
+pub number_start_apart : (b : ℕ) → is_number_start b ≡ true → IsApart b
 number_start_apart b e =
     apart_from b (⊎_elim (λ (d : is_ascii_digit b ≡ true). inr (ascii_digit b d)) (λ (m : eqb b 45 ≡ true). inl (eqb-true b 45 m)) (or_true (is_ascii_digit b) (eqb b 45) e))
   where

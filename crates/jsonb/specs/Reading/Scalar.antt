@@ -92,9 +92,13 @@ null_at size extended bytes = or_else (word_at size extended (codes "null") null
 abbrev pub words_at : ℕ → Mode → List ℕ → Read Tree
 words_at size mode bytes = if begins_letter mode 110 bytes then null_at size mode bytes else true_or_false_at size mode bytes
 
+-- a string in single quotes, a word or a number
+abbrev pub other_scalar_at : ℕ → Mode → List ℕ → Read Tree
+other_scalar_at size mode bytes = on_single_quote mode bytes (quoted_at size mode 39) (words_at size mode bytes)
+
 -- a word, a string or a number
 unfoldable pub scalar_at : ℕ → Mode → List ℕ → Read Tree
-scalar_at size mode bytes = on_byte 34 bytes (quoted_at size mode 34) (on_single_quote mode bytes (quoted_at size mode 39) (words_at size mode bytes))
+scalar_at size mode bytes = on_byte 34 bytes (quoted_at size mode 34) (other_scalar_at size mode bytes)
 
 -- a key without quotes
 abbrev pub unquoted_at : ℕ → Mode → List ℕ → Read (Mark × List ℕ)

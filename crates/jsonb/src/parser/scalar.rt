@@ -1,11 +1,12 @@
 //! Values that hold no others, and keys.
 ghost use Rattle.std.specs.Prelude.{◌≡◌, ◌≢◌, ◌<◌, ◌≤◌, ◌∷◌, Contains, MatchBool, Err, IfOk, false};
 ghost use Rattle.std.specs.Cow.{cow_str_bytes};
+ghost use Rattle.jsonb_value.specs.Mode.{standard};
 ghost use Rattle.jsonb_value.specs.View.{mark_view, number_view};
 ghost use Rattle.jsonb.specs.AstView.{ast_view};
 ghost use Rattle.jsonb.specs.OpenSource.{holds_others};
 ghost use Rattle.jsonb.specs.Parser.{rest_of, size_of, mode_of, Advances, Gives, ReadsAs};
-ghost use Rattle.jsonb.specs.Reading.Scalar.{begins_letter, begins_number, begins_single_quote, folded, letters_at, null_at, number_at, word_at, quoted_at, number_or_fault, scalar_at, words_at, key_at};
+ghost use Rattle.jsonb.specs.Reading.Scalar.{begins_letter, begins_number, begins_single_quote, folded, letters_at, null_at, number_at, word_at, quoted_at, number_or_fault, scalar_at, other_scalar_at, words_at, key_at};
 ghost use Rattle.jsonb.specs.Source.{source_view};
 
 use super::{JsonAst, Mode, Parser};
@@ -36,6 +37,21 @@ impl<'a> Parser<'a> {
         if self.take_byte(b'"') {
             return self.parse_string_value(b'"');
         }
+        if self.begins_standard_number() {
+            return self.parse_number_value();
+        }
+        self.parse_other_scalar()
+    }
+
+    // A string in single quotes, a word or a number.
+    #[inline(always)]
+    fn parse_other_scalar(&mut self) -> Result<JsonAst<'a>>
+        requires { self.old.idx ≤ size_of self.old }
+        ensures reads { ReadsAs ast_view other_scalar_at result self.old self.new }
+        ensures alone { IfOk result (λ v. holds_others (source_view v) ≡ false) }
+        ensures memory { result ≡ Err Error.OutOfMemory → Contains self.old.buf.now 92 }
+        ensures advances { Advances self.old self.new }
+    {
         if self.take_single_quote() {
             return self.parse_string_value(b'\'');
         }
@@ -46,7 +62,7 @@ impl<'a> Parser<'a> {
     #[inline(always)]
     fn parse_word_or_number(&mut self) -> Result<JsonAst<'a>>
         requires { self.old.idx ≤ size_of self.old }
-        ensures reads { Gives (λ v. (ast_view v, rest_of self.new)) result (words_at (size_of self.old) (mode_of self.old.mode) (rest_of self.old)) }
+        ensures reads { ReadsAs ast_view words_at result self.old self.new }
         ensures alone { IfOk result (λ v. holds_others (source_view v) ≡ false) }
         ensures memory { result ≡ Err Error.OutOfMemory → Contains self.old.buf.now 92 }
         ensures advances { Advances self.old self.new }
@@ -90,13 +106,21 @@ impl<'a> Parser<'a> {
         Ok(JsonAst::String(text))
     }
 
+    // Whether a digit or a minus comes next, which begin a number in either mode.
+    #[inline(always)]
+    fn begins_standard_number(&self) -> bool
+        ensures { result ≡ begins_number standard (rest_of self.now) }
+    {
+        matches!(self.peek(), Some(b'0'..=b'9' | b'-'))
+    }
+
     // Whether a number begins here.
     #[inline(always)]
     fn begins_number(&self) -> bool
         ensures { result ≡ begins_number (mode_of self.now.mode) (rest_of self.now) }
     {
         match self.mode {
-            Mode::Standard => matches!(self.peek(), Some(b'0'..=b'9' | b'-')),
+            Mode::Standard => self.begins_standard_number(),
             Mode::Extended => {
                 matches!(
                     self.peek(),

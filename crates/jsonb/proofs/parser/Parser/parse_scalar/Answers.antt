@@ -1,16 +1,17 @@
-use Rattle.std.proofs.Common.{sym}
-use Rattle.jsonb.proofs.Outcomes.{scalar_quoted, scalar_single, scalar_words}
+use Rattle.std.proofs.Common.{sym, ◌∙◌}
+use Rattle.jsonb.specs.Parser.{mode_of, rest_of, size_of}
+use Rattle.jsonb.proofs.FirstBytes.{scalar_other, other_number}
+use Rattle.jsonb.proofs.Outcomes.{scalar_quoted}
 use Rattle.jsonb.proofs.parser.Parser.parse_scalar.Goals as goal
 
 pub returns-then-take_byte-clause-reads : goal.returns-then-take_byte-clause-reads
 returns-then-take_byte-clause-reads c = rw (scalar_quoted c.args.self.now c.take_byte.new.self c.take_byte.ensures.advances c.if-take_byte.ensures.rest) c.parse_string_value.ensures.reads
 
-pub returns-then-take_single_quote-clause-reads : goal.returns-then-take_single_quote-clause-reads
-returns-then-take_single_quote-clause-reads c =
-    rw (scalar_single c.args.self.now c.take_byte.new.self c.take_single_quote.new.self c.if-take_byte.ensures.rest (sym c.if-take_byte.ensures.found) c.take_single_quote.ensures.advances (sym c.if-take_single_quote.ensures.found) c.if-take_single_quote.ensures.rest)
-    c.parse_string_value-then-take_single_quote.ensures.reads
+pub returns-then-begins_standard_number-clause-reads : goal.returns-then-begins_standard_number-clause-reads
+returns-then-begins_standard_number-clause-reads c =
+    rw (scalar_other c.args.self.now c.take_byte.new.self c.if-take_byte.ensures.rest (sym c.if-take_byte.ensures.found)
+    ∙ other_number (size_of c.take_byte.new.self) (mode_of c.take_byte.new.self.mode) (rest_of c.take_byte.new.self) (sym c.if-begins_standard_number.ensures))
+    c.parse_number_value.ensures.reads
 
 pub returns-clause-reads : goal.returns-clause-reads
-returns-clause-reads c =
-    rw (scalar_words c.args.self.now c.take_byte.new.self c.take_single_quote.new.self c.if-take_byte.ensures.rest (sym c.if-take_byte.ensures.found) c.if-take_single_quote.ensures.rest (sym c.if-take_single_quote.ensures.found))
-    c.parse_word_or_number.ensures.reads
+returns-clause-reads c = rw (scalar_other c.args.self.now c.take_byte.new.self c.if-take_byte.ensures.rest (sym c.if-take_byte.ensures.found)) c.parse_other_scalar.ensures.reads
