@@ -1,11 +1,12 @@
 -- Values that hold no others, by their first byte.
-use Rattle.std.proofs.Common.{◌≡◌, ◌≤◌, ℕ, true, false, true≢false, List, [], ◌∷◌, refl, sym, ◌∙◌, arith}
+use Rattle.std.proofs.Common.{◌≡◌, ◌≤◌, ℕ, true, false, true≢false, List, [], ◌∷◌, refl, sym, ap, ◌∙◌, arith}
+use Rattle.jsonb_value.specs.Code.Code.{expected_some_value}
 use Rattle.jsonb_value.specs.Mode.{Mode, standard, extended}
 use Rattle.jsonb.specs.declared.parser.Parser.{Parser}
 use Rattle.jsonb.specs.Parser.{Advances, mode_of, rest_of, size_of}
-use Rattle.jsonb.specs.Reading.{begins}
-use Rattle.jsonb.specs.Reading.Scalar.{begins_letter, begins_number, begins_single_quote, number_or_fault, other_scalar_at, quoted_at, scalar_at, words_at}
-use Rattle.jsonb.proofs.Choices.{if-false}
+use Rattle.jsonb.specs.Reading.{begins, refused}
+use Rattle.jsonb.specs.Reading.Scalar.{begins_letter, begins_number, begins_single_quote, number_or_fault, number_value_at, other_scalar_at, quoted_at, scalar_at, words_at}
+use Rattle.jsonb.proofs.Choices.{if-false, if-true}
 use Rattle.jsonb.proofs.Outcomes.{read_past, unmoved, words_number}
 use Rattle.jsonb.proofs.Parts.{on_byte-none}
 use Rattle.jsonb.proofs.Scalars.{IsApart, number_start_apart}
@@ -39,9 +40,14 @@ single-apart extended b rest a = if-false _ true false a.no_single
 letter-apart : (mode : Mode) (c b : ℕ) (rest : List ℕ) → 97 ≤ c → IsApart b → begins_letter mode c (b ∷ rest) ≡ false
 letter-apart mode c b rest high a = if-false _ true false (a.no_letter mode c high)
 
-pub other_number : (size : ℕ) (mode : Mode) (bytes : List ℕ) → begins_number standard bytes ≡ true → other_scalar_at size mode bytes ≡ number_or_fault size mode bytes
+other_number : (size : ℕ) (mode : Mode) (bytes : List ℕ) → begins_number standard bytes ≡ true → other_scalar_at size mode bytes ≡ number_or_fault size mode bytes
 other_number size mode [] e = absurd (true≢false (sym e))
 other_number size mode (b ∷ rest) e =
     let a = number_start_apart b e in
     single-false mode (b ∷ rest) (quoted_at size mode 39) (words_at size mode (b ∷ rest)) (single-apart mode b rest a)
     ∙ words_number size mode (b ∷ rest) (letter-apart mode 110 b rest (omega arith) a) (letter-apart mode 116 b rest (omega arith) a) (letter-apart mode 102 b rest (omega arith) a)
+
+pub standard_number : (size : ℕ) (mode : Mode) (bytes : List ℕ) → mode ≡ standard → begins_number standard bytes ≡ true → other_scalar_at size mode bytes ≡ number_value_at size standard bytes
+standard_number size mode bytes is begun =
+    ap (λ m. other_scalar_at size m bytes) is ∙ other_number size standard bytes begun
+    ∙ if-true (begins_number standard bytes) (number_value_at size standard bytes) (refused size expected_some_value 1 bytes) begun

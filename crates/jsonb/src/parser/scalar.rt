@@ -1,12 +1,12 @@
 //! Values that hold no others, and keys.
-ghost use Rattle.std.specs.Prelude.{◌≡◌, ◌≢◌, ◌<◌, ◌≤◌, ◌∷◌, Contains, MatchBool, Err, IfOk, false};
+ghost use Rattle.std.specs.Prelude.{◌≡◌, ◌≢◌, ◌<◌, ◌≤◌, ◌∷◌, Contains, MatchBool, Err, IfOk, true, false};
 ghost use Rattle.std.specs.Cow.{cow_str_bytes};
 ghost use Rattle.jsonb_value.specs.Mode.{standard};
 ghost use Rattle.jsonb_value.specs.View.{mark_view, number_view};
 ghost use Rattle.jsonb.specs.AstView.{ast_view};
 ghost use Rattle.jsonb.specs.OpenSource.{holds_others};
 ghost use Rattle.jsonb.specs.Parser.{rest_of, size_of, mode_of, Advances, Gives, ReadsAs};
-ghost use Rattle.jsonb.specs.Reading.Scalar.{begins_letter, begins_number, begins_single_quote, folded, letters_at, null_at, number_at, word_at, quoted_at, number_or_fault, scalar_at, other_scalar_at, words_at, key_at};
+ghost use Rattle.jsonb.specs.Reading.Scalar.{begins_letter, begins_number, begins_single_quote, folded, letters_at, null_at, number_at, number_value_at, word_at, quoted_at, number_or_fault, scalar_at, other_scalar_at, words_at, key_at};
 ghost use Rattle.jsonb.specs.Source.{source_view};
 
 use super::{JsonAst, Mode, Parser};
@@ -38,13 +38,13 @@ impl<'a> Parser<'a> {
             return self.parse_string_value(b'"');
         }
         if self.begins_standard_number() {
-            return self.parse_number_value();
+            return self.parse_standard_number_value();
         }
         self.parse_other_scalar()
     }
 
     // A string in single quotes, a word or a number.
-    #[inline(always)]
+    #[inline(never)]
     fn parse_other_scalar(&mut self) -> Result<JsonAst<'a>>
         requires { self.old.idx ≤ size_of self.old }
         ensures reads { ReadsAs ast_view other_scalar_at result self.old self.new }
@@ -106,12 +106,29 @@ impl<'a> Parser<'a> {
         Ok(JsonAst::String(text))
     }
 
-    // Whether a digit or a minus comes next, which begin a number in either mode.
+    // Whether the text is a standard one, and a number begins here.
     #[inline(always)]
     fn begins_standard_number(&self) -> bool
-        ensures { result ≡ begins_number standard (rest_of self.now) }
+        ensures { MatchBool result ((mode_of self.now.mode ≡ standard) × (begins_number standard (rest_of self.now) ≡ true)) (Unit {0}) }
     {
-        matches!(self.peek(), Some(b'0'..=b'9' | b'-'))
+        match self.mode {
+            Mode::Standard => matches!(self.peek(), Some(b'0'..=b'9' | b'-')),
+            Mode::Extended => false,
+        }
+    }
+
+    // A number of a standard text as a value.
+    #[inline(always)]
+    fn parse_standard_number_value(&mut self) -> Result<JsonAst<'a>>
+        requires { self.old.idx ≤ size_of self.old }
+        ensures reads { Gives (λ v. (ast_view v, rest_of self.new)) result
+            (number_value_at (size_of self.old) standard (rest_of self.old)) }
+        ensures alone { IfOk result (λ v. holds_others (source_view v) ≡ false) }
+        ensures memory { result ≡ Err Error.OutOfMemory → Contains self.old.buf.now 92 }
+        ensures advances { Advances self.old self.new }
+    {
+        let number = self.parse_standard_number()?;
+        Ok(JsonAst::Number(number))
     }
 
     // Whether a number begins here.
@@ -120,7 +137,7 @@ impl<'a> Parser<'a> {
         ensures { result ≡ begins_number (mode_of self.now.mode) (rest_of self.now) }
     {
         match self.mode {
-            Mode::Standard => self.begins_standard_number(),
+            Mode::Standard => matches!(self.peek(), Some(b'0'..=b'9' | b'-')),
             Mode::Extended => {
                 matches!(
                     self.peek(),

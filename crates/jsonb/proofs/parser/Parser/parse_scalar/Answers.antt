@@ -1,6 +1,6 @@
 use Rattle.std.proofs.Common.{sym, ◌∙◌}
 use Rattle.jsonb.specs.Parser.{mode_of, rest_of, size_of}
-use Rattle.jsonb.proofs.FirstBytes.{scalar_other, other_number}
+use Rattle.jsonb.proofs.FirstBytes.{scalar_other, standard_number}
 use Rattle.jsonb.proofs.Outcomes.{scalar_quoted}
 use Rattle.jsonb.proofs.parser.Parser.parse_scalar.Goals as goal
 
@@ -10,8 +10,8 @@ returns-then-take_byte-clause-reads c = rw (scalar_quoted c.args.self.now c.take
 pub returns-then-begins_standard_number-clause-reads : goal.returns-then-begins_standard_number-clause-reads
 returns-then-begins_standard_number-clause-reads c =
     rw (scalar_other c.args.self.now c.take_byte.new.self c.if-take_byte.ensures.rest (sym c.if-take_byte.ensures.found)
-    ∙ other_number (size_of c.take_byte.new.self) (mode_of c.take_byte.new.self.mode) (rest_of c.take_byte.new.self) (sym c.if-begins_standard_number.ensures))
-    c.parse_number_value.ensures.reads
+    ∙ standard_number (size_of c.take_byte.new.self) (mode_of c.take_byte.new.self.mode) (rest_of c.take_byte.new.self) c.if-begins_standard_number.ensures.0 c.if-begins_standard_number.ensures.1)
+    c.parse_standard_number_value.ensures.reads
 
 pub returns-clause-reads : goal.returns-clause-reads
 returns-clause-reads c = rw (scalar_other c.args.self.now c.take_byte.new.self c.if-take_byte.ensures.rest (sym c.if-take_byte.ensures.found)) c.parse_other_scalar.ensures.reads
