@@ -82,6 +82,7 @@ fn many_digits(bytes: &[u8]) -> Digits
 }
 
 // The digits that the bytes begin with.
+#[inline(always)]
 fn leading_digits(bytes: &[u8]) -> Digits
     ensures len { result.len ≡ digits_length bytes.now }
     ensures within { result.len ≤ length bytes.now }

@@ -137,6 +137,7 @@ fn lowest(bits: u64) -> usize
 }
 
 // Looks for the quote that ends a string. An escape is stepped over by its first bytes, without a look at the others.
+#[inline(always)]
 fn find_end(bytes: &[u8], quote: u8) -> StringEnd
     requires { quote ≢ 92 }
     ensures { EndsString quote bytes.now result }
@@ -159,6 +160,7 @@ fn find_end(bytes: &[u8], quote: u8) -> StringEnd
 
 // The text of a body, given whether it has a backslash. `idx` is the index after the opening quote and one more, from
 // which the decoder counts. Only a body with a backslash takes memory.
+#[inline(always)]
 fn read_body<'a>(
     alloc: Global,
     body: &'a [u8],
