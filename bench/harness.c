@@ -1,4 +1,4 @@
-/* Times reading, writing, comparing and cloning over files of documents, one document a line.
+/* Times reading in both modes, writing, comparing and cloning over files of documents, one document a line.
  *
  *   harness FILE..               prints a line for each file and operation: the file, the operation, how many bytes, the
  *                                nanoseconds of one pass over the file, and its instructions, or - where they can't be counted
@@ -6,7 +6,10 @@
  *   harness --pass OP N FILE     makes one pass over the file with N rounds of the operation on each document, for a tool
  *                                that counts from outside
  *
- * With NO_COUNTER set it opens no counter. PREFIX is what the names of the measured library's functions begin with. */
+ * The documents of a file whose name ends in .json5 are of extended mode, and are only read.
+ *
+ * With NO_COUNTER set it opens no counter. PREFIX is what the names of the measured library's functions begin with, and
+ * WITH_EXTENDED is defined where the library reads extended mode. */
 #define _GNU_SOURCE
 #include <linux/perf_event.h>
 #include <malloc.h>
@@ -27,13 +30,20 @@
 
 typedef size_t operation_t(const unsigned char *text, size_t len, size_t rounds);
 operation_t JOIN(PREFIX, read), JOIN(PREFIX, write), JOIN(PREFIX, compare), JOIN(PREFIX, clone);
+#ifdef WITH_EXTENDED
+operation_t JOIN(PREFIX, read_extended);
+#endif
 
-/* With no round at all, all but the first still read the text. So their cost is what more rounds cost than none. */
-static const struct { const char *name; operation_t *run; } operations[] = {
-  { "read", JOIN(PREFIX, read) },
-  { "write", JOIN(PREFIX, write) },
-  { "compare", JOIN(PREFIX, compare) },
-  { "clone", JOIN(PREFIX, clone) },
+/* An operation that does not only read still reads the text where there is no round at all. So its cost is what more
+ * rounds cost than none. */
+static const struct operation { const char *name; operation_t *run; int only_reads, is_extended; } operations[] = {
+  { "read", JOIN(PREFIX, read), 1, 0 },
+#ifdef WITH_EXTENDED
+  { "extended", JOIN(PREFIX, read_extended), 1, 1 },
+#endif
+  { "write", JOIN(PREFIX, write), 0, 0 },
+  { "compare", JOIN(PREFIX, compare), 0, 0 },
+  { "clone", JOIN(PREFIX, clone), 0, 0 },
 };
 #define OPERATIONS (sizeof operations / sizeof *operations)
 
@@ -115,15 +125,20 @@ static double count(int counter, const struct file *file, operation_t *run, size
   return instructions;
 }
 
-static void measure(const struct file *file, size_t which, int counter, double budget) {
-  operation_t *run = operations[which].run;
-  int only_rounds = which == 0;
+static int is_extended(const struct file *file) {
+  const char *point = strrchr(file->name, '.');
+  return point && !strcmp(point, ".json5");
+}
+
+static void measure(const struct file *file, const struct operation *operation, int counter, double budget) {
+  operation_t *run = operation->run;
+  int only_rounds = operation->only_reads;
   /* Many rounds, where reading is part of what is timed, so that its noise is a small part of the difference. */
   size_t rounds = only_rounds ? 1 : 16;
   double ns = best(file, run, rounds, budget);
   if (!only_rounds) ns = (ns - best(file, run, 0, budget)) / rounds;
   const char *slash = strrchr(file->name, '/');
-  printf("%s\t%s\t%zu\t%.0f\t", slash ? slash + 1 : file->name, operations[which].name, file->bytes, ns);
+  printf("%s\t%s\t%zu\t%.0f\t", slash ? slash + 1 : file->name, operation->name, file->bytes, ns);
   if (counter >= 0)
     printf("%.0f\n", count(counter, file, run, 2) - count(counter, file, run, 1));
   else
@@ -154,7 +169,8 @@ int main(int argc, char **argv) {
   int counter = open_counter();
   for (int i = 1; i < argc; i++) {
     struct file file = load(argv[i]);
-    for (size_t which = 0; which < OPERATIONS; which++) measure(&file, which, counter, budget);
+    for (size_t which = 0; which < OPERATIONS; which++)
+      if (operations[which].is_extended || !is_extended(&file)) measure(&file, &operations[which], counter, budget);
   }
   return 0;
 }

@@ -1,8 +1,9 @@
 #!/usr/bin/env python3
 """Writes the documents of the benchmark into the folder that is named.
 
-Each line of a file is one document. No document has a blank, a fraction or an exponent. The numbers come from a fixed
-seed, so that every run has the same documents.
+Each line of a file is one document. Those of a .json file are standard JSON without a blank, a fraction or an exponent,
+those of a .json5 file extended JSON with keys without quotes, single quotes, comments, decimals and hexadecimals. The
+numbers come from a fixed seed, so that every run has the same documents.
 """
 import json
 import os
@@ -52,13 +53,41 @@ def documents():
     yield "small", [text_of({"id": i, "name": string_of(LETTERS, 3, 12), "tags": ["a", "b"], "ok": True}) for i in range(18000)]
 
 
+def decimal():
+    digits = random.randrange(1, 6)
+    return "%s%d.%0*d" % (random.choice(["", "-", "+"]), random.randrange(10000), digits, random.randrange(10**digits))
+
+
+def extended_number():
+    return random.choice([decimal, decimal, lambda: str(integer()), lambda: hex(random.randrange(2**32))])()
+
+
+def setting(i):
+    """An object as people write them by hand: a comment, keys without quotes, single quotes, decimals, a comma at the end."""
+    keys = random.sample(WORDS, 5)
+    return "/* %s %d */ { %s: %s, %s: '%s', '%s': [%s,], %s: %s, %s: \"%s\" }" % (
+        random.choice(WORDS), i, keys[0], extended_number(), keys[1], string_of(LETTERS + " ", 4, 30), keys[2],
+        ", ".join(decimal() for _ in range(3)), keys[3], random.choice(["TRUE", "false", "Null"]), keys[4], string_of(LETTERS, 3, 12))
+
+
+def extended_documents():
+    """The same of extended JSON."""
+    yield "extended", ["[ " + ", ".join(setting(i) for i in range(20)) + " ] // the end" for _ in range(400)]
+
+
+def write(path, texts):
+    with open(path, "w", encoding="utf-8") as file:
+        file.write("".join(text + "\n" for text in texts))
+
+
 def main():
     folder = sys.argv[1]
     os.makedirs(folder, exist_ok=True)
     random.seed(7)
     for name, texts in documents():
-        with open(os.path.join(folder, name + ".json"), "w", encoding="utf-8") as file:
-            file.write("".join(text + "\n" for text in texts))
+        write(os.path.join(folder, name + ".json"), texts)
+    for name, texts in extended_documents():
+        write(os.path.join(folder, name + ".json5"), texts)
 
 
 main()

@@ -2,7 +2,7 @@
 """Prints the table of the benchmark: table.py NAME=MEASURES.. , a file of the harness's lines for each library."""
 import sys
 
-OPERATIONS = ["read", "write", "compare", "clone"]
+OPERATIONS = ["read", "extended", "write", "compare", "clone"]
 
 
 def per_byte(figure, size):
@@ -16,7 +16,7 @@ def rows(path):
     with open(path) as file:
         for line in file:
             document, operation, size, ns, instructions = line.split()
-            documents.setdefault(document[:-len(".json")], {})[operation] = (int(size), ns, instructions)
+            documents.setdefault(document.rsplit(".", 1)[0], {})[operation] = (int(size), ns, instructions)
     return documents
 
 
@@ -29,9 +29,10 @@ def main():
             if document not in documents:
                 continue
             measures = documents[document]
-            size = measures["read"][0]
+            size = next(iter(measures.values()))[0]
+            figures = [measures.get(it, (size, "-", "-")) for it in OPERATIONS]
             print("%-13s %8d  %-10s" % (document, size, name) + "".join(
-                "%9s %7s" % (per_byte(measures[it][1], size), per_byte(measures[it][2], size)) for it in OPERATIONS))
+                "%9s %7s" % (per_byte(ns, size), per_byte(instructions, size)) for _, ns, instructions in figures))
 
 
 main()

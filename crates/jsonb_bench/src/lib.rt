@@ -1,4 +1,5 @@
-//! What the benchmark calls from C: each function does one operation on a text, over and over, so that the caller can time it.
+//! What the benchmark calls from C: each function does one operation on a text, over and over, so that the caller
+//! can time it.
 //!
 //! From C, `alloc` is passed as nothing, and a slice as a pointer and a length:
 //! `size_t jsonb_bench_read(const unsigned char *text, size_t text_len, size_t rounds)`.
@@ -6,10 +7,10 @@
 
 ghost use Rattle.std.specs.Prelude.{◌≡◌, ◌≤◌};
 ghost use Rattle.jsonb_value.specs.Grammar.{IsDocument};
-ghost use Rattle.jsonb_value.specs.Mode.{standard};
+ghost use Rattle.jsonb_value.specs.Mode.{standard, extended};
 ghost use Rattle.jsonb_value.specs.Tree.{Tree};
 
-use jsonb::parse_value_standard_mode;
+use jsonb::{parse_value, parse_value_standard_mode};
 use std::alloc::Global;
 
 /// Reads the text as standard JSON `rounds` times, and drops each value. The answer is how many rounds went
@@ -22,6 +23,22 @@ pub extern "C" fn jsonb_bench_read(alloc: Global, text: &[u8], rounds: usize) ->
 {
     for round in 0..rounds {
         if parse_value_standard_mode(alloc, text).is_err() {
+            return round;
+        }
+    }
+    rounds
+}
+
+/// Reads the text as extended JSON `rounds` times, and drops each value. The answer is how many rounds went well before
+/// the first that did not, and so it is `rounds` where all did.
+#[unsafe(no_mangle)]
+pub extern "C" fn jsonb_bench_read_extended(alloc: Global, text: &[u8], rounds: usize) -> usize
+    ensures most { result ≤ rounds }
+    // Nothing goes well with a text that is no document.
+    ensures refused { ((t : Tree) → IsDocument extended text.now t → ⊥) → result ≡ 0 }
+{
+    for round in 0..rounds {
+        if parse_value(alloc, text).is_err() {
             return round;
         }
     }
