@@ -33,6 +33,7 @@ fn faults(rt: HostRuntime) -> Result<(), Fail> {
         ("\\z", "invalid escaped '7A', pos 2"),
         ("\\u123", "unexpected end of hex escape, pos 2"),
         ("\\uGHIJ", "invalid hex '47', pos 6"),
+        ("\\'", "invalid escaped '27', pos 2"),
     ] {
         let mut idx = 0;
         let Err(error) = parse_string(alloc, data.as_bytes(), data.len(), &mut idx) else {
@@ -50,5 +51,14 @@ fn the_length_is_no_bound(rt: HostRuntime) -> Result<(), Fail> {
     let text = parse_string(rt.alloc(), b"\\u0041\\u0042\\u0043", usize::MAX, &mut idx)?;
     assert_eq!(rt; text.as_str(), "ABC");
     assert_eq!(rt; idx, 23);
+    Ok(())
+}
+
+#[test]
+fn the_index_reaches_the_greatest(rt: HostRuntime) -> Result<(), Fail> {
+    let mut idx = usize::MAX - 18;
+    let text = parse_string(rt.alloc(), b"\\u0041\\u0042\\u0043", 18, &mut idx)?;
+    assert_eq!(rt; text.as_str(), "ABC");
+    assert_eq!(rt; idx, usize::MAX);
     Ok(())
 }

@@ -180,6 +180,67 @@ fn no_words_choose_extended_mode(rt: HostRuntime) -> std::result::Result<(), Fai
 }
 
 #[test]
+fn the_mode_of_the_words_reads(rt: HostRuntime) -> std::result::Result<(), Fail> {
+    let input = b"[1,]";
+    expect_run(&rt, "", &mut input.as_slice(), 0, "[1,null]\n", "")?;
+    let refusal = "expected value, pos 4\n";
+    expect_run(&rt, "--standard", &mut input.as_slice(), 1, "", refusal)?;
+    let usage = "usage: jsonb_cat [--standard]\n";
+    expect_run(&rt, "--x", &mut input.as_slice(), 2, "", usage)?;
+    Ok(())
+}
+
+#[test]
+fn texts_that_are_cut_off_are_refused(rt: HostRuntime) -> std::result::Result<(), Fail> {
+    for (input, refusal) in [
+        ("\"\\", "EOF while parsing a value, pos 2\n"),
+        ("\"\\u", "EOF while parsing a value, pos 3\n"),
+        ("\"\\u{", "EOF while parsing a value, pos 9\n"),
+        ("\"\\u1", "EOF while parsing a value, pos 7\n"),
+    ] {
+        for words in ["", "--standard"] {
+            expect_run(&rt, words, &mut input.as_bytes(), 1, "", refusal)?;
+        }
+    }
+    for (input, refusal) in [
+        (&b"{\xE4"[..], "EOF while parsing a value, pos 4\n"),
+        (&b"{\xF0"[..], "EOF while parsing a value, pos 5\n"),
+        (&b"{'a\\u"[..], "EOF while parsing a value, pos 5\n"),
+    ] {
+        let mut bytes = input;
+        expect_run(&rt, "", &mut bytes, 1, "", refusal)?;
+    }
+    Ok(())
+}
+
+#[test]
+fn texts_that_are_too_deep_are_refused(rt: HostRuntime) -> std::result::Result<(), Fail> {
+    for (words, part, times, refusal) in [
+        ("", "[", 100_000, "depth limit exceeded, pos 513\n"),
+        (
+            "--standard",
+            "[",
+            100_000,
+            "depth limit exceeded, pos 513\n",
+        ),
+        ("", "{a:", 513, "depth limit exceeded, pos 1537\n"),
+        (
+            "--standard",
+            "{\"a\":",
+            513,
+            "depth limit exceeded, pos 2561\n",
+        ),
+    ] {
+        let mut input = Vec::new(rt.alloc());
+        for _ in 0..times {
+            input.extend_from_slice(part.as_bytes())?;
+        }
+        expect_run(&rt, words, &mut input.as_slice(), 1, "", refusal)?;
+    }
+    Ok(())
+}
+
+#[test]
 fn what_stands_in_the_output_stays(rt: HostRuntime) -> std::result::Result<(), Fail> {
     let mut out = Vec::from_slice(rt.alloc(), b"x")?;
     assert!(rt; convert(rt.alloc(), Mode::Standard, b"nul", &mut out).is_err());

@@ -31,6 +31,19 @@ fn later_members_replace(rt: HostRuntime) -> Result<(), Fail> {
 }
 
 #[test]
+fn equal_keys_alone_are_one_member(rt: HostRuntime) -> Result<(), Fail> {
+    let alloc = rt.alloc();
+    let tree = JsonAst::Object(vec![in alloc;
+        (CowStr::Borrowed("a"), integer(1), 0),
+        (CowStr::Borrowed("a"), integer(2), 0),
+    ]?);
+    let mut text = Vec::new(alloc);
+    tree.into_value(alloc)?.write_text(&mut text)?;
+    assert_eq!(rt; text.as_slice(), b"{\"a\":2}".as_slice());
+    Ok(())
+}
+
+#[test]
 fn clones_are_equal(rt: HostRuntime) -> Result<(), Fail> {
     let ast = written(rt.alloc())?;
     assert!(rt; ast.clone()? == ast);

@@ -1,0 +1,119 @@
+// Arrays and objects that both modes read alike.
+use super::{BOTH, JsonAst, Mode, answer_text, expect, read, repeated};
+use jsonb_value::error::{Error, ParseErrorCode};
+use jsonb_value::number::Number;
+use jsonb_value::value::Value;
+use std::borrow::CowStr;
+use std::test::Fail;
+
+#[test]
+fn arrays_and_objects(rt: HostRuntime) -> Result<(), Fail> {
+    let phones =
+        "{\"name\":\"Fred\",\"phones\":[{\"type\":\"home\",\"number\":3720453},{\"type\":\"work\",\"number\":5062051}]}";
+    let written =
+        "{\"name\":\"Fred\",\"phones\":[{\"number\":3720453,\"type\":\"home\"},{\"number\":5062051,\"type\":\"work\"}]}";
+    expect(
+        &rt,
+        &BOTH,
+        &[
+            (phones, written),
+            ("\\n[1]", "[1]"),
+            ("[ ]", "[]"),
+            (" [ 1 , [ ] , { } ] ", "[1,[],{}]"),
+            ("{\"b\" : 1 , \"a\" : [null]}", "{\"a\":[null],\"b\":1}"),
+            ("{\"\\n\\\"\":\"\\u0001\"}", "{\"\\n\\\"\":\"\\u0001\"}"),
+        ],
+    )
+}
+
+#[test]
+fn faults_of_arrays_and_objects(rt: HostRuntime) -> Result<(), Fail> {
+    expect(
+        &rt,
+        &BOTH,
+        &[
+            ("[1,", "EOF while parsing a value, pos 3"),
+            ("[1 2]", "expected `,` or `]`, pos 3"),
+            ("{\"a\" 1}", "expected `:`, pos 5"),
+            ("{\"a\":1;}", "expected `,` or `}`, pos 6"),
+            ("{\"a\":}", "expected value, pos 6"),
+            ("{", "EOF while parsing a value, pos 1"),
+            ("{} x", "trailing characters, pos 4"),
+        ],
+    )
+}
+
+#[test]
+fn repeated_keys(rt: HostRuntime) -> Result<(), Fail> {
+    expect(
+        &rt,
+        &BOTH,
+        &[
+            (
+                "{\"b\":1,\"a\":2,\"a\":3,\"b\":4}",
+                "duplicate object attribute \"a\", pos 16",
+            ),
+            (
+                "{\"\\u0061\":1,\"a\":2}",
+                "duplicate object attribute \"a\", pos 15",
+            ),
+            (
+                "{\"a\":{\"b\":1,\"b\":2},\"a\":3}",
+                "duplicate object attribute \"b\", pos 15",
+            ),
+            (
+                "[{\"a\":1,\"a\":2},",
+                "duplicate object attribute \"a\", pos 11",
+            ),
+            ("[{\"a\":1},{\"a\":2}]", "[{\"a\":1},{\"a\":2}]"),
+        ],
+    )
+}
+
+#[test]
+fn many_arrays(rt: HostRuntime) -> Result<(), Fail> {
+    let input = repeated(rt.alloc(), "[[]", ",[]", 599, "]")?;
+    for mode in BOTH {
+        let text = answer_text(&rt, mode, &input)?;
+        assert!(rt; text.as_bytes() == &input[..]);
+    }
+    Ok(())
+}
+
+#[test]
+fn an_array_of_one_integer(rt: HostRuntime) -> Result<(), Fail> {
+    for mode in BOTH {
+        let value = read(rt.alloc(), mode, b"\\n[1]")?;
+        assert_eq!(rt; value.array_length(), Some(1));
+        for item in value.as_array().into_iter().flatten() {
+            assert!(rt; matches!(item, Value::Number(Number::UInt64(1))));
+        }
+    }
+    Ok(())
+}
+
+#[test]
+fn members_are_sorted(rt: HostRuntime) -> Result<(), Fail> {
+    let alloc = rt.alloc();
+    for mode in BOTH {
+        let tree = JsonAst::parse(alloc, b"{\"b\":1,\"a\":2}", mode)?;
+        let want = JsonAst::Object(vec![in alloc;
+            (
+                CowStr::Borrowed("a"),
+                JsonAst::Number(Number::UInt64(2)),
+                10
+            ),
+            (CowStr::Borrowed("b"), JsonAst::Number(Number::UInt64(1)), 4),
+        ]?);
+        assert!(rt; tree == want);
+    }
+    Ok(())
+}
+
+#[test]
+fn refusals_of_trees(rt: HostRuntime) -> Result<(), Fail> {
+    let alloc = rt.alloc();
+    let refused = JsonAst::parse(alloc, b"[", Mode::Standard);
+    assert!(rt; refused == Err(Error::Syntax(ParseErrorCode::InvalidEOF, 1)));
+    Ok(())
+}
