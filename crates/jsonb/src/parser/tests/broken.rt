@@ -9,10 +9,10 @@ fn strings_and_keys_that_are_cut_off(rt: HostRuntime) -> Result<(), Fail> {
         &rt,
         &BOTH,
         &[
-            ("\"\\", "EOF while parsing a value, pos 2"),
-            ("\"\\u", "EOF while parsing a value, pos 3"),
-            ("\"\\u{", "EOF while parsing a value, pos 9"),
-            ("\"\\u1", "EOF while parsing a value, pos 7"),
+            (r#""\"#, "EOF while parsing a value, pos 2"),
+            (r#""\u"#, "EOF while parsing a value, pos 3"),
+            (r#""\u{"#, "EOF while parsing a value, pos 9"),
+            (r#""\u1"#, "EOF while parsing a value, pos 7"),
         ],
     )?;
     expect_bytes(
@@ -21,7 +21,7 @@ fn strings_and_keys_that_are_cut_off(rt: HostRuntime) -> Result<(), Fail> {
         &[
             (b"{\xE4", "EOF while parsing a value, pos 4"),
             (b"{\xF0", "EOF while parsing a value, pos 5"),
-            (b"{'a\\u", "EOF while parsing a value, pos 5"),
+            (br"{'a\u", "EOF while parsing a value, pos 5"),
         ],
     )
 }
@@ -37,7 +37,7 @@ fn beginnings_are_no_documents(rt: HostRuntime) -> Result<(), Fail> {
     expect(
         &rt,
         &EXTENDED,
-        &[("", "null"), ("{b:'x', a:+007}", "{\"a\":7,\"b\":\"x\"}")],
+        &[("", "null"), ("{b:'x', a:+007}", r#"{"a":7,"b":"x"}"#)],
     )
 }
 
@@ -70,7 +70,7 @@ fn bytes_of_comments_are_replaced(rt: HostRuntime) -> Result<(), Fail> {
 
 #[test]
 fn bytes_of_escapes_are_replaced(rt: HostRuntime) -> Result<(), Fail> {
-    let document = "\"\\uD834\\u{DD1E}\\n\\\\\"";
+    let document = r#""\uD834\u{DD1E}\n\\""#;
     expect(&rt, &BOTH, &[(document, "\"\u{1D11E}\\n\\\\\"")])?;
     replace_bytes(&rt, document.as_bytes())
 }
@@ -111,7 +111,7 @@ fn depth(rt: HostRuntime) -> Result<(), Fail> {
 fn depth_of_objects(rt: HostRuntime) -> Result<(), Fail> {
     for (modes, part, want) in [
         (&EXTENDED[..], "{a:", "depth limit exceeded, pos 1537"),
-        (&BOTH[..], "{\"a\":", "depth limit exceeded, pos 2561"),
+        (&BOTH[..], r#"{"a":"#, "depth limit exceeded, pos 2561"),
     ] {
         let input = repeated(rt.alloc(), "", part, 513, "")?;
         for mode in modes {

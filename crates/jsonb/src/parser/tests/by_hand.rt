@@ -37,9 +37,9 @@ fn scalars_made_by_hand(rt: HostRuntime) -> Result<(), Fail> {
         ),
         (
             Value::Binary(b"\x00\xAF"),
-            "\"00AF\"",
-            "\"00AF\"",
-            "\"00AF\"",
+            r#""00AF""#,
+            r#""00AF""#,
+            r#""00AF""#,
         ),
     ];
     for (value, text, standard, extended) in &values {

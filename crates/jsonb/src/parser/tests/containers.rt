@@ -9,19 +9,19 @@ use std::test::Fail;
 #[test]
 fn arrays_and_objects(rt: HostRuntime) -> Result<(), Fail> {
     let phones =
-        "{\"name\":\"Fred\",\"phones\":[{\"type\":\"home\",\"number\":3720453},{\"type\":\"work\",\"number\":5062051}]}";
+        r#"{"name":"Fred","phones":[{"type":"home","number":3720453},{"type":"work","number":5062051}]}"#;
     let written =
-        "{\"name\":\"Fred\",\"phones\":[{\"number\":3720453,\"type\":\"home\"},{\"number\":5062051,\"type\":\"work\"}]}";
+        r#"{"name":"Fred","phones":[{"number":3720453,"type":"home"},{"number":5062051,"type":"work"}]}"#;
     expect(
         &rt,
         &BOTH,
         &[
             (phones, written),
-            ("\\n[1]", "[1]"),
+            (r"\n[1]", "[1]"),
             ("[ ]", "[]"),
             (" [ 1 , [ ] , { } ] ", "[1,[],{}]"),
-            ("{\"b\" : 1 , \"a\" : [null]}", "{\"a\":[null],\"b\":1}"),
-            ("{\"\\n\\\"\":\"\\u0001\"}", "{\"\\n\\\"\":\"\\u0001\"}"),
+            (r#"{"b" : 1 , "a" : [null]}"#, r#"{"a":[null],"b":1}"#),
+            (r#"{"\n\"":"\u0001"}"#, r#"{"\n\"":"\u0001"}"#),
         ],
     )
 }
@@ -34,9 +34,9 @@ fn faults_of_arrays_and_objects(rt: HostRuntime) -> Result<(), Fail> {
         &[
             ("[1,", "EOF while parsing a value, pos 3"),
             ("[1 2]", "expected `,` or `]`, pos 3"),
-            ("{\"a\" 1}", "expected `:`, pos 5"),
-            ("{\"a\":1;}", "expected `,` or `}`, pos 6"),
-            ("{\"a\":}", "expected value, pos 6"),
+            (r#"{"a" 1}"#, "expected `:`, pos 5"),
+            (r#"{"a":1;}"#, "expected `,` or `}`, pos 6"),
+            (r#"{"a":}"#, "expected value, pos 6"),
             ("{", "EOF while parsing a value, pos 1"),
             ("{} x", "trailing characters, pos 4"),
         ],
@@ -50,22 +50,22 @@ fn repeated_keys(rt: HostRuntime) -> Result<(), Fail> {
         &BOTH,
         &[
             (
-                "{\"b\":1,\"a\":2,\"a\":3,\"b\":4}",
-                "duplicate object attribute \"a\", pos 16",
+                r#"{"b":1,"a":2,"a":3,"b":4}"#,
+                r#"duplicate object attribute "a", pos 16"#,
             ),
             (
-                "{\"\\u0061\":1,\"a\":2}",
-                "duplicate object attribute \"a\", pos 15",
+                r#"{"\u0061":1,"a":2}"#,
+                r#"duplicate object attribute "a", pos 15"#,
             ),
             (
-                "{\"a\":{\"b\":1,\"b\":2},\"a\":3}",
-                "duplicate object attribute \"b\", pos 15",
+                r#"{"a":{"b":1,"b":2},"a":3}"#,
+                r#"duplicate object attribute "b", pos 15"#,
             ),
             (
-                "[{\"a\":1,\"a\":2},",
-                "duplicate object attribute \"a\", pos 11",
+                r#"[{"a":1,"a":2},"#,
+                r#"duplicate object attribute "a", pos 11"#,
             ),
-            ("[{\"a\":1},{\"a\":2}]", "[{\"a\":1},{\"a\":2}]"),
+            (r#"[{"a":1},{"a":2}]"#, r#"[{"a":1},{"a":2}]"#),
         ],
     )
 }
@@ -83,7 +83,7 @@ fn many_arrays(rt: HostRuntime) -> Result<(), Fail> {
 #[test]
 fn an_array_of_one_integer(rt: HostRuntime) -> Result<(), Fail> {
     for mode in BOTH {
-        let value = read(rt.alloc(), mode, b"\\n[1]")?;
+        let value = read(rt.alloc(), mode, br"\n[1]")?;
         assert_eq!(rt; value.array_length(), Some(1));
         for item in value.as_array().into_iter().flatten() {
             assert!(rt; matches!(item, Value::Number(Number::UInt64(1))));
@@ -96,7 +96,7 @@ fn an_array_of_one_integer(rt: HostRuntime) -> Result<(), Fail> {
 fn members_are_sorted(rt: HostRuntime) -> Result<(), Fail> {
     let alloc = rt.alloc();
     for mode in BOTH {
-        let tree = JsonAst::parse(alloc, b"{\"b\":1,\"a\":2}", mode)?;
+        let tree = JsonAst::parse(alloc, br#"{"b":1,"a":2}"#, mode)?;
         let want = JsonAst::Object(vec![in alloc;
             (
                 CowStr::Borrowed("a"),

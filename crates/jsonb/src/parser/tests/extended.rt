@@ -17,7 +17,7 @@ fn words_in_either_case(rt: HostRuntime) -> Result<(), Fail> {
             ("True", "true"),
             ("fAlSe", "false"),
             ("", "null"),
-            (" \\n", "null"),
+            (r" \n", "null"),
         ],
     )
 }
@@ -60,10 +60,10 @@ fn keys_without_quotes(rt: HostRuntime) -> Result<(), Fail> {
         &rt,
         &EXTENDED,
         &[
-            ("{b:'x', a:+007}", "{\"a\":7,\"b\":\"x\"}"),
-            ("{a:1,'b':[],\"c\":{}}", "{\"a\":1,\"b\":[],\"c\":{}}"),
+            ("{b:'x', a:+007}", r#"{"a":7,"b":"x"}"#),
+            (r#"{a:1,'b':[],"c":{}}"#, r#"{"a":1,"b":[],"c":{}}"#),
             ("{$a_1\u{E9}:1}", "{\"$a_1\u{E9}\":1}"),
-            ("{a:1,a:2}", "duplicate object attribute \"a\", pos 6"),
+            ("{a:1,a:2}", r#"duplicate object attribute "a", pos 6"#),
             ("{a,b}", "expected `:`, pos 2"),
             ("{a/", "expected `:`, pos 2"),
             ("{a:}", "expected value, pos 4"),
@@ -86,6 +86,10 @@ fn faults_of_keys_without_quotes(rt: HostRuntime) -> Result<(), Fail> {
             (
                 "{a:1,}",
                 "object attribute name cannot be invalid character, pos 5",
+            ),
+            (
+                r#"{"a":1,}"#,
+                "object attribute name cannot be invalid character, pos 7",
             ),
         ],
     )?;

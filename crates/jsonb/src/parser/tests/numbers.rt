@@ -1,6 +1,7 @@
 // Numbers of both modes: their variants, scales and whole numbers, and where they are refused.
 use super::{
-    BOTH, EXTENDED, Mode, STANDARD, answer_text, decimal64, decimal128, expect, read, repeated,
+    BOTH, EXTENDED, Mode, STANDARD, answer_text, are_equal, decimal64, decimal128, expect, read,
+    repeated,
 };
 use jsonb_value::number::Number;
 use jsonb_value::value::Value;
@@ -240,5 +241,12 @@ fn long_numbers_that_are_refused(rt: HostRuntime) -> Result<(), Fail> {
             assert_eq!(rt; got.as_str(), want, "of {input:?}, {mode:?}");
         }
     }
+    Ok(())
+}
+
+#[test]
+fn integers_equal_decimals(rt: HostRuntime) -> Result<(), Fail> {
+    assert!(rt; are_equal(rt.alloc(), Mode::Extended, b"[1]", b"[1.0]")?);
+    assert!(rt; !are_equal(rt.alloc(), Mode::Extended, b"[1]", b"[1.1]")?);
     Ok(())
 }

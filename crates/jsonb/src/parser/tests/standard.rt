@@ -8,10 +8,10 @@ fn scalars(rt: HostRuntime) -> Result<(), Fail> {
         &rt,
         &BOTH,
         &[
-            (" \"abc\" ", "\"abc\""),
+            (r#" "abc" "#, r#""abc""#),
             ("null", "null"),
-            ("\\n true\\x0C", "true"),
-            ("\\r\\tfalse\\n", "false"),
+            (r"\n true\x0C", "true"),
+            (r"\r\tfalse\n", "false"),
             ("-5", "-5"),
             ("-0", "0"),
         ],
@@ -24,7 +24,7 @@ fn faults_of_scalars(rt: HostRuntime) -> Result<(), Fail> {
         &rt,
         &BOTH,
         &[
-            ("\"ab", "EOF while parsing a value, pos 3"),
+            (r#""ab"#, "EOF while parsing a value, pos 3"),
             ("tru", "EOF while parsing a value, pos 3"),
             ("a", "expected value, pos 1"),
             ("1 2", "trailing characters, pos 3"),
@@ -41,7 +41,7 @@ fn no_spellings_of_extended_mode(rt: HostRuntime) -> Result<(), Fail> {
         &STANDARD,
         &[
             ("", "EOF while parsing a value, pos 0"),
-            (" \\n", "EOF while parsing a value, pos 3"),
+            (r" \n", "EOF while parsing a value, pos 3"),
             ("nul", "EOF while parsing a value, pos 3"),
             ("nulL", "expected ident, pos 4"),
             ("Null", "expected value, pos 1"),
@@ -50,7 +50,7 @@ fn no_spellings_of_extended_mode(rt: HostRuntime) -> Result<(), Fail> {
             ("[1,]", "expected value, pos 4"),
             ("{a:1}", "expected ident, pos 2"),
             ("{'a':1}", "expected ident, pos 2"),
-            ("{\"a\":1,}", "expected ident, pos 8"),
+            (r#"{"a":1,}"#, "expected ident, pos 8"),
         ],
     )
 }

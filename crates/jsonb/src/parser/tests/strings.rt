@@ -1,7 +1,10 @@
 // Quoted strings, their escapes, and what of them is borrowed.
-use super::{BOTH, EXTENDED, JsonAst, Mode, STANDARD, expect, expect_bytes, read};
+use super::{BOTH, EXTENDED, JsonAst, Mode, STANDARD, answer, expect, expect_bytes, read};
+use jsonb_value::error::{Error, ParseErrorCode};
 use jsonb_value::value::Value;
+use std::alloc::Global;
 use std::borrow::CowStr;
+use std::process::Abort;
 use std::test::Fail;
 
 #[test]
@@ -10,16 +13,13 @@ fn escapes(rt: HostRuntime) -> Result<(), Fail> {
         &rt,
         &BOTH,
         &[
-            ("\"\t\"", "\"\\t\""),
-            ("\"a\\n\"", "\"a\\n\""),
-            (
-                "\"\\uD800\\uD834\\uDD1E\"",
-                "\"\\\\uD800\\\\uD834\\\\uDD1E\"",
-            ),
-            ("\"\\uD800\\n\"", "\"\\\\uD800\\n\""),
-            ("\"\\uD800\\u0041\"", "\"\\\\uD800\\\\u0041\""),
-            ("\"\\u{D834}\\u{DD1E}\"", "\"\u{1D11E}\""),
-            ("\"it's\"", "\"it's\""),
+            ("\"\t\"", r#""\t""#),
+            (r#""a\n""#, r#""a\n""#),
+            (r#""\uD800\uD834\uDD1E""#, r#""\\uD800\\uD834\\uDD1E""#),
+            (r#""\uD800\n""#, r#""\\uD800\n""#),
+            (r#""\uD800\u0041""#, r#""\\uD800\\u0041""#),
+            (r#""\u{D834}\u{DD1E}""#, "\"\u{1D11E}\""),
+            (r#""it's""#, r#""it's""#),
         ],
     )
 }
@@ -30,11 +30,11 @@ fn faults_of_escapes(rt: HostRuntime) -> Result<(), Fail> {
         &rt,
         &BOTH,
         &[
-            ("\"\\z\"", "invalid escaped '7A', pos 4"),
-            ("\"\\u\"a\"b\"", "invalid hex '22', pos 8"),
-            ("\"\\u1", "EOF while parsing a value, pos 7"),
-            ("\"\\u1\"", "EOF while parsing a value, pos 7"),
-            ("\"\\u{00}12\"", "unexpected end of hex escape, pos 4"),
+            (r#""\z""#, "invalid escaped '7A', pos 4"),
+            (r#""\u"a"b""#, "invalid hex '22', pos 8"),
+            (r#""\u1"#, "EOF while parsing a value, pos 7"),
+            (r#""\u1""#, "EOF while parsing a value, pos 7"),
+            (r#""\u{00}12""#, "unexpected end of hex escape, pos 4"),
         ],
     )
 }
@@ -58,19 +58,19 @@ fn single_quotes(rt: HostRuntime) -> Result<(), Fail> {
     expect(
         &rt,
         &STANDARD,
-        &[("\"\\'\"", "invalid escaped '27', pos 4")],
+        &[(r#""\'""#, "invalid escaped '27', pos 4")],
     )?;
     expect(
         &rt,
         &EXTENDED,
         &[
-            ("\"\\'\"", "\"'\""),
-            ("'it\\'s'", "\"it's\""),
-            ("{'\\'':1}", "{\"'\":1}"),
-            ("'say \"x\"'", "\"say \\\"x\\\"\""),
+            (r#""\'""#, r#""'""#),
+            (r"'it\'s'", r#""it's""#),
+            (r"{'\'':1}", r#"{"'":1}"#),
+            (r#"'say "x"'"#, r#""say \"x\"""#),
             ("'a", "EOF while parsing a value, pos 2"),
-            ("'a\"", "EOF while parsing a value, pos 3"),
-            ("'a\\'", "EOF while parsing a value, pos 4"),
+            (r#"'a""#, "EOF while parsing a value, pos 3"),
+            (r"'a\'", "EOF while parsing a value, pos 4"),
         ],
     )
 }
@@ -78,19 +78,19 @@ fn single_quotes(rt: HostRuntime) -> Result<(), Fail> {
 #[test]
 fn strings_without_escapes_are_borrowed(rt: HostRuntime) -> Result<(), Fail> {
     for (modes, input, is_borrowed, want) in [
-        (&BOTH[..], " \"abc\" ", true, "abc"),
-        (&BOTH[..], "\"\\u0061\"", false, "a"),
-        (&BOTH[..], "\"\\u{D834}\\u{DD1E}\"", false, "\u{1D11E}"),
-        (&BOTH[..], "\"\\uD800\\u0041\"", false, "\\uD800\\u0041"),
+        (&BOTH[..], r#" "abc" "#, true, "abc"),
+        (&BOTH[..], r#""\u0061""#, false, "a"),
+        (&BOTH[..], r#""\u{D834}\u{DD1E}""#, false, "\u{1D11E}"),
+        (&BOTH[..], r#""\uD800\u0041""#, false, r"\uD800\u0041"),
         (
             &BOTH[..],
-            "\"\\uD800\\uD834\\uDD1E\"",
+            r#""\uD800\uD834\uDD1E""#,
             false,
-            "\\uD800\\uD834\\uDD1E",
+            r"\uD800\uD834\uDD1E",
         ),
-        (&EXTENDED[..], "'say \"x\"'", true, "say \"x\""),
-        (&EXTENDED[..], "\"\\'\"", false, "'"),
-        (&EXTENDED[..], "'it\\'s'", false, "it's"),
+        (&EXTENDED[..], r#"'say "x"'"#, true, r#"say "x""#),
+        (&EXTENDED[..], r#""\'""#, false, "'"),
+        (&EXTENDED[..], r"'it\'s'", false, "it's"),
     ] {
         for mode in modes {
             let value = read(rt.alloc(), *mode, input.as_bytes())?;
@@ -108,12 +108,12 @@ fn strings_without_escapes_are_borrowed(rt: HostRuntime) -> Result<(), Fail> {
 #[test]
 fn keys_without_escapes_are_borrowed(rt: HostRuntime) -> Result<(), Fail> {
     for (mode, input, is_borrowed) in [
-        (Mode::Standard, "{\"a\":1}", true),
-        (Mode::Standard, "{\"\\u0061\":1}", false),
-        (Mode::Extended, "{\"a\":1}", true),
+        (Mode::Standard, r#"{"a":1}"#, true),
+        (Mode::Standard, r#"{"\u0061":1}"#, false),
+        (Mode::Extended, r#"{"a":1}"#, true),
         (Mode::Extended, "{'a':1}", true),
         (Mode::Extended, "{a:1}", true),
-        (Mode::Extended, "{'\\u0061':1}", false),
+        (Mode::Extended, r"{'\u0061':1}", false),
     ] {
         let tree = JsonAst::parse(rt.alloc(), input.as_bytes(), mode)?;
         let JsonAst::Object(members) = tree else {
@@ -124,6 +124,60 @@ fn keys_without_escapes_are_borrowed(rt: HostRuntime) -> Result<(), Fail> {
             assert_eq!(rt; got, is_borrowed, "of {input}");
         }
         assert_eq!(rt; members.len(), 1);
+    }
+    Ok(())
+}
+
+// An opening quote, so many letters, the escape, and so many letters.
+fn opened(
+    alloc: Global,
+    quote: u8,
+    before: usize,
+    escape: &str,
+    after: usize,
+) -> Result<Vec<u8>, Fail> {
+    let mut input = vec![in alloc; quote]?;
+    for _ in 0..before {
+        input.push(b'a')?;
+    }
+    input.extend_from_slice(escape.as_bytes())?;
+    for _ in 0..after {
+        input.push(b'a')?;
+    }
+    Ok(input)
+}
+
+// The string of letters is read in quotes of each kind, and refused without the closing quote.
+fn expect_letters(
+    rt: &(impl AllocGlobal + Abort),
+    before: usize,
+    escape: &str,
+    after: usize,
+) -> Result<(), Fail> {
+    let mut want = opened(rt.alloc(), b'"', before, escape, after)?;
+    want.push(b'"')?;
+    for (mode, quote) in [
+        (Mode::Standard, b'"'),
+        (Mode::Extended, b'"'),
+        (Mode::Extended, b'\''),
+    ] {
+        let mut input = opened(rt.alloc(), quote, before, escape, after)?;
+        let refusal = Error::Syntax(ParseErrorCode::InvalidEOF, input.len());
+        assert!(rt; answer(rt, mode, &input)? == Err(refusal), "of {input:?}");
+        input.push(quote)?;
+        let text = answer(rt, mode, &input)??;
+        assert!(rt; text == want, "of {input:?}");
+    }
+    Ok(())
+}
+
+#[test]
+fn ends_of_strings_are_found_at_each_length(rt: HostRuntime) -> Result<(), Fail> {
+    for length in 0..=70usize {
+        expect_letters(&rt, length, "", 0)?;
+        for before in 0..=length {
+            expect_letters(&rt, before, r"\n", length.saturating_sub(before))?;
+        }
     }
     Ok(())
 }
