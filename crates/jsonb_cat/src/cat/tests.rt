@@ -40,6 +40,23 @@ impl Read for Endless {
     }
 }
 
+// Gives so many blanks, one at each read, and then tells its end.
+#[derive(Drop)]
+struct Blanks {
+    left: u32,
+}
+
+impl Read for Blanks {
+    fn read(&mut self, buf: &mut [u8]) -> io::Result<usize> {
+        if self.left == 0 || buf.is_empty() {
+            return Ok(0);
+        }
+        self.left -= 1;
+        buf[0] = b' ';
+        Ok(1)
+    }
+}
+
 // Takes so many bytes, and then fails.
 #[derive(Drop)]
 struct Full {
@@ -128,6 +145,17 @@ fn a_reader_without_an_end_is_left(rt: HostRuntime) -> std::result::Result<(), F
 }
 
 #[test]
+fn the_last_read_may_tell_the_end(rt: HostRuntime) -> std::result::Result<(), Fail> {
+    let mut input = Blanks {
+        left: (1 << 20) - 1,
+    };
+    expect_run(&rt, "", &mut input, 0, "null\n", "")?;
+    let mut longer = Blanks { left: 1 << 20 };
+    expect_run(&rt, "", &mut longer, 1, "", "InvalidUtf8\n")?;
+    Ok(())
+}
+
+#[test]
 fn a_fault_in_telling_an_error_changes_no_status(rt: HostRuntime) -> std::result::Result<(), Fail> {
     for (word, status) in [("--x", 2), ("--standard", 1)] {
         for left in 0..4 {
@@ -193,10 +221,10 @@ fn the_mode_of_the_words_reads(rt: HostRuntime) -> std::result::Result<(), Fail>
 #[test]
 fn texts_that_are_cut_off_are_refused(rt: HostRuntime) -> std::result::Result<(), Fail> {
     for (input, refusal) in [
-        ("\"\\", "EOF while parsing a value, pos 2\n"),
-        ("\"\\u", "EOF while parsing a value, pos 3\n"),
-        ("\"\\u{", "EOF while parsing a value, pos 9\n"),
-        ("\"\\u1", "EOF while parsing a value, pos 7\n"),
+        (r#""\"#, "EOF while parsing a value, pos 2\n"),
+        (r#""\u"#, "EOF while parsing a value, pos 3\n"),
+        (r#""\u{"#, "EOF while parsing a value, pos 9\n"),
+        (r#""\u1"#, "EOF while parsing a value, pos 7\n"),
     ] {
         for words in ["", "--standard"] {
             expect_run(&rt, words, &mut input.as_bytes(), 1, "", refusal)?;
@@ -205,7 +233,7 @@ fn texts_that_are_cut_off_are_refused(rt: HostRuntime) -> std::result::Result<()
     for (input, refusal) in [
         (&b"{\xE4"[..], "EOF while parsing a value, pos 4\n"),
         (&b"{\xF0"[..], "EOF while parsing a value, pos 5\n"),
-        (&b"{'a\\u"[..], "EOF while parsing a value, pos 5\n"),
+        (&br"{'a\u"[..], "EOF while parsing a value, pos 5\n"),
     ] {
         let mut bytes = input;
         expect_run(&rt, "", &mut bytes, 1, "", refusal)?;
@@ -226,7 +254,7 @@ fn texts_that_are_too_deep_are_refused(rt: HostRuntime) -> std::result::Result<(
         ("", "{a:", 513, "depth limit exceeded, pos 1537\n"),
         (
             "--standard",
-            "{\"a\":",
+            r#"{"a":"#,
             513,
             "depth limit exceeded, pos 2561\n",
         ),
