@@ -28,16 +28,15 @@ fn strings_and_keys_that_are_cut_off(rt: HostRuntime) -> Result<(), Fail> {
 
 #[test]
 fn beginnings_are_no_documents(rt: HostRuntime) -> Result<(), Fail> {
-    let document = "{b:'x', a:+007}".as_bytes();
-    for length in 0..=document.len() {
-        let read = answer(&rt, Mode::Extended, &document[..length])?;
-        let is_read = length == 0 || length == 15;
-        assert_eq!(rt; read.is_ok(), is_read, "of {length} bytes");
+    let document = "{b:'x', a:+007}";
+    for length in 1..document.len() {
+        let read = answer(&rt, Mode::Extended, &document.as_bytes()[..length])?;
+        assert!(rt; read.is_err(), "of {length} bytes");
     }
     expect(
         &rt,
         &EXTENDED,
-        &[("", "null"), ("{b:'x', a:+007}", r#"{"a":7,"b":"x"}"#)],
+        &[("", "null"), (document, r#"{"a":7,"b":"x"}"#)],
     )
 }
 

@@ -137,13 +137,9 @@ fn opened(
     after: usize,
 ) -> Result<Vec<u8>, Fail> {
     let mut input = vec![in alloc; quote]?;
-    for _ in 0..before {
-        input.push(b'a')?;
-    }
+    input.resize(input.len().saturating_add(before), b'a')?;
     input.extend_from_slice(escape.as_bytes())?;
-    for _ in 0..after {
-        input.push(b'a')?;
-    }
+    input.resize(input.len().saturating_add(after), b'a')?;
     Ok(input)
 }
 
