@@ -1,11 +1,11 @@
 -- What a `JsonAst` says of its text: its variants and their parts, with an object's members in source order.
-use Rattle.std.specs.Prelude.{ℕ, List, [], ◌∷◌, map, Bool, true, false, ◌&&◌, ◌==◌, bytes_eq}
+use Rattle.std.specs.Prelude.{ℕ, List, [], ◌∷◌, map, Bool, true, false, ◌&&◌, ◌==◌, bytes_eq, ⊤}
 use Rattle.std.specs.Cow.{cow_str_bytes}
 use Rattle.std.specs.Ordering.{bool_cmp, eq_by_cmp}
 use Rattle.std.specs.declared.alloc.Global.{Global}
 use Rattle.std.specs.declared.borrow.CowStr.{CowStr}
 use Rattle.jsonb_value.specs.Order.{num_cmp}
-use Rattle.jsonb_value.specs.Tree.{Num, Mark}
+use Rattle.jsonb_value.specs.Tree.{Num, Mark, escaped}
 use Rattle.jsonb_value.specs.View.{number_view, mark_view}
 use Rattle.jsonb.specs.AstView.{Written}
 use Rattle.jsonb.specs.declared.parser.ast.JsonAst.{JsonAst, fold-JsonAst}
@@ -28,6 +28,13 @@ mutual
   pub data SourceMembers : Type 0 where
     no_source_members : SourceMembers
     more_source_members : Mark → List ℕ → Source → ℕ → SourceMembers → SourceMembers
+
+-- it holds no other source and no text of its own, so that a copy takes no memory
+abbrev pub TakesNoMemory : Source → Type 0
+TakesNoMemory (string_source escaped s) = ⊥
+TakesNoMemory (array_source ss) = ⊥
+TakesNoMemory (object_source ms) = ⊥
+TakesNoMemory s = ⊤
 
 abbrev pub sources_of : List Source → Sources
 sources_of [] = no_sources

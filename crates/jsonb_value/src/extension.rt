@@ -1,4 +1,5 @@
 //! Values beyond JSON: binary data, dates and intervals.
+mod laws;
 #[cfg(test)]
 mod tests;
 pub(crate) mod text;
@@ -10,6 +11,10 @@ ghost use Rattle.jsonb_value.specs.Order.{rank, tree_cmp};
 ghost use Rattle.jsonb_value.specs.OrderLaws.{tree_cmp_total};
 ghost use Rattle.jsonb_value.specs.View.{extension_view};
 
+pub use laws::{
+    dates_compare_by_fields, extension_clones_are_the_same, intervals_compare_by_fields,
+    timestamps_compare_by_fields, zoned_timestamps_compare_by_fields,
+};
 use std::cmp::Ordering;
 
 /// Days since the epoch.

@@ -7,7 +7,10 @@ mod order;
 mod tests;
 mod text;
 
-pub use laws::{decimal_texts_read_back, exact_casts_are_nearest, integer_texts_read_back};
+pub use laws::{
+    decimal_texts_read_back, exact_casts_are_nearest, integer_texts_read_back,
+    number_clones_are_the_same,
+};
 
 /// The number `value / 10^scale`, for every scale and value.
 #[derive(Clone, Debug, Drop)]

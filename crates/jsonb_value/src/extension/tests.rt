@@ -68,3 +68,39 @@ fn extensions_compare_by_kind_and_fields(rt: HostRuntime) {
     assert_eq!(rt; empty.partial_cmp(&day), Some(Ordering::Less));
     assert!(rt; empty != day);
 }
+
+#[test]
+fn fields_compare_in_order(rt: HostRuntime) {
+    let earlier = Timestamp { value: -1 };
+    let later = Timestamp { value: 0 };
+    assert_eq!(rt; earlier.cmp(&later), Ordering::Less);
+    assert_eq!(rt; later.partial_cmp(&earlier), Some(Ordering::Greater));
+    let day = Date { value: 1 };
+    assert_eq!(rt; day.cmp(&Date { value: 1 }), Ordering::Equal);
+    assert_eq!(rt; day.partial_cmp(&Date { value: 2 }), Some(Ordering::Less));
+    assert_eq!(rt;
+        interval(1, 2, 0).partial_cmp(&interval(1, 1, 5)),
+        Some(Ordering::Greater)
+    );
+    assert!(rt; interval(1, 2, 3) == interval(1, 2, 3));
+    assert!(rt; interval(1, 2, 3) != interval(1, 2, 4));
+}
+
+#[test]
+fn clones_are_equal(rt: HostRuntime) -> Result<(), Fail> {
+    let zoned = TimestampTz {
+        offset: 1,
+        value: 2,
+    };
+    assert_eq!(rt; zoned.clone()?, zoned);
+    for value in [
+        ExtensionValue::Binary(b"a"),
+        ExtensionValue::Date(Date { value: 1 }),
+        ExtensionValue::Timestamp(Timestamp { value: 1 }),
+        ExtensionValue::TimestampTz(zoned),
+        ExtensionValue::Interval(interval(1, 2, 3)),
+    ] {
+        assert_eq!(rt; value.clone()?, value);
+    }
+    Ok(())
+}

@@ -1,12 +1,17 @@
 //! Laws of numbers. Each is the contract of a function that does nothing.
 
-ghost use Rattle.std.specs.Prelude.{ℕ, ℤ, ◌<◌, ◌^◌, FitsSigned};
+ghost use Rattle.std.specs.Prelude.{ℕ, ℤ, ◌≡◌, ◌<◌, ◌^◌, FitsSigned};
 ghost use Rattle.std.specs.Int.{w64};
 ghost use Rattle.jsonb_value.specs.Cast.{HasValue, HasNearest};
 ghost use Rattle.jsonb_value.specs.ReadsBack.{ReadsBack, ReadsBackAsDecimal, HasFewDigits};
 ghost use Rattle.jsonb_value.specs.Tree.{Num};
 ghost use Rattle.jsonb_value.specs.View.{number_view};
+ghost use Rattle.jsonb_value.specs.declared.number.Decimal64.{Decimal64};
+ghost use Rattle.jsonb_value.specs.declared.number.Decimal128.{Decimal128};
+ghost use Rattle.jsonb_value.specs.declared.number.Number.{Number};
 ghost use Rattle.jsonb_value.specs.declared.number.Number.TheVariants.{Int64, UInt64};
+
+use super::{Decimal64, Decimal128, Number};
 
 /// A whole number is the nearest whole number of itself.
 pub fn exact_casts_are_nearest()
@@ -23,4 +28,13 @@ pub fn integer_texts_read_back()
 /// scale and whole number.
 pub fn decimal_texts_read_back()
     ensures { (x : Num) → HasFewDigits x → ReadsBackAsDecimal x }
+{}
+
+/// A clone is never refused, and it is the same number in the same form.
+pub fn number_clones_are_the_same()
+    ensures decimal64 { (a b : Decimal64) → ⟦<Decimal64 as Clone>⟧.is_infallible a
+        × (⟦<Decimal64 as Clone>⟧.is_clone a b → b ≡ a) }
+    ensures decimal128 { (a b : Decimal128) → ⟦<Decimal128 as Clone>⟧.is_infallible a
+        × (⟦<Decimal128 as Clone>⟧.is_clone a b → b ≡ a) }
+    ensures number { (a b : Number) → ⟦<Number as Clone>⟧.is_infallible a × (⟦<Number as Clone>⟧.is_clone a b → b ≡ a) }
 {}

@@ -264,3 +264,16 @@ fn negations(rt: HostRuntime) {
         )
     );
 }
+
+#[test]
+fn clones_are_equal(rt: HostRuntime) -> Result<(), Fail> {
+    for number in [
+        Number::Int64(-1),
+        Number::UInt64(1),
+        decimal64(2, -5),
+        decimal128(255, i128::MIN),
+    ] {
+        assert_eq!(rt; number.clone()?, number);
+    }
+    Ok(())
+}

@@ -1,8 +1,9 @@
 //! `clone` of a `JsonAst`, part by part. What is borrowed stays borrowed.
-ghost use Rattle.std.specs.Prelude.{◌≡◌, IfOk};
+ghost use Rattle.std.specs.Prelude.{◌≡◌, IfOk, IfErr};
 ghost use Rattle.std.specs.Cow.{cow_str_bytes};
+ghost use Rattle.jsonb_value.specs.Tree.{escaped};
 ghost use Rattle.jsonb_value.specs.View.{mark_view};
-ghost use Rattle.jsonb.specs.Source.{source_view, sources_view, source_members_view};
+ghost use Rattle.jsonb.specs.Source.{TakesNoMemory, source_view, sources_view, source_members_view};
 
 use super::JsonAst;
 use std::alloc::AllocError;
@@ -10,6 +11,8 @@ use std::borrow::CowStr;
 
 impl<'a> Clone for JsonAst<'a> {
     ghost is_clone = { λ a b. source_view b ≡ source_view a };
+
+    ghost is_infallible = { λ a. TakesNoMemory (source_view a) };
 
     fn clone(&self) -> Result<JsonAst<'a>, AllocError> {
         copy(self)
@@ -20,7 +23,8 @@ impl<'a> Clone for JsonAst<'a> {
 #[inline(always)]
 #[cycle(copy)]
 fn copy<'a>(ast: &JsonAst<'a>) -> Result<JsonAst<'a>, AllocError>
-    ensures { IfOk result (λ a. source_view a ≡ source_view ast.now) }
+    ensures same { IfOk result (λ a. source_view a ≡ source_view ast.now) }
+    ensures memory { IfErr result (λ _. ¬ (TakesNoMemory (source_view ast.now))) }
 {
     match ast {
         JsonAst::Null => Ok(JsonAst::Null),
@@ -36,6 +40,7 @@ fn copy<'a>(ast: &JsonAst<'a>) -> Result<JsonAst<'a>, AllocError>
 fn copy_text<'a>(text: &CowStr<'a>) -> Result<CowStr<'a>, AllocError>
     ensures bytes { IfOk result (λ t. cow_str_bytes t ≡ cow_str_bytes text.now) }
     ensures mark { IfOk result (λ t. mark_view t ≡ mark_view text.now) }
+    ensures memory { IfErr result (λ _. mark_view text.now ≡ escaped) }
 {
     match text {
         CowStr::Borrowed(bytes) => Ok(CowStr::Borrowed(*bytes)),

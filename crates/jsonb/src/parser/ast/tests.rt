@@ -50,3 +50,22 @@ fn clones_are_equal(rt: HostRuntime) -> Result<(), Fail> {
     assert!(rt; ast != JsonAst::default());
     Ok(())
 }
+
+// A clone of each kind answers.
+#[test]
+fn each_kind_is_cloned(rt: HostRuntime) -> Result<(), Fail> {
+    let alloc = rt.alloc();
+    let asts = vec![in alloc;
+        JsonAst::Null,
+        JsonAst::Bool(true),
+        integer(1),
+        JsonAst::String(CowStr::Borrowed("a")),
+        JsonAst::String(CowStr::Owned(String::from_str(alloc, "a")?)),
+        JsonAst::Array(vec![in alloc; JsonAst::Null]?),
+        written(alloc)?,
+    ]?;
+    for ast in &asts {
+        assert!(rt; ast.clone()? == *ast);
+    }
+    Ok(())
+}

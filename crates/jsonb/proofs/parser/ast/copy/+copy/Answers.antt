@@ -11,4 +11,4 @@ copy_members-members-preserved t c =
     let copied : Written = (text.field-0, c.in_ok-copy.field-0, m.2) in
     let within : c.members.member-index < length c.deref-member-items.result.now = grind (arith, common_steps) in
     source_members_view-more c.members.copies.items c.push.new.self.items c.deref-member-items.result.now c.members.member-index copied m
-    c.in_ok-push.ensures.items within c.member-item.is text.ensures.mark text.ensures.bytes c.in_ok-copy.ensures refl c.members.invariant
+    c.in_ok-push.ensures.items within c.member-item.is text.ensures.mark text.ensures.bytes c.in_ok-copy.ensures.same refl c.members.invariant
