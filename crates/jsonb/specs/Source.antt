@@ -30,11 +30,11 @@ mutual
     more_source_members : Mark → List ℕ → Source → ℕ → SourceMembers → SourceMembers
 
 -- it holds no other source and no text of its own, so that a copy takes no memory
-abbrev pub TakesNoMemory : Source → Type 0
-TakesNoMemory (string_source escaped s) = ⊥
-TakesNoMemory (array_source ss) = ⊥
-TakesNoMemory (object_source ms) = ⊥
-TakesNoMemory s = ⊤
+abbrev pub HoldsNoMemory : Source → Type 0
+HoldsNoMemory (string_source escaped s) = ⊥
+HoldsNoMemory (array_source ss) = ⊥
+HoldsNoMemory (object_source ms) = ⊥
+HoldsNoMemory s = ⊤
 
 abbrev pub sources_of : List Source → Sources
 sources_of [] = no_sources
