@@ -6,9 +6,11 @@ ghost use Rattle.jsonb_value.specs.Mode.{Mode};
 ghost use Rattle.jsonb_value.specs.Parts.{as_number};
 ghost use Rattle.jsonb_value.specs.Tree.{Tree};
 
-/// A text is a document of at most one tree. Where one spelling of a value begins another, longer one, both are numbers.
+/// A text is a document of at most one tree. Where one spelling of a value begins another, longer one, both are
+/// numbers.
 pub fn one_reading()
-    ensures tree { (mode : Mode) → (bytes : List ℕ) → (t u : Tree) → IsDocument mode bytes t → IsDocument mode bytes u → t ≡ u }
+    ensures tree { (mode : Mode) → (bytes : List ℕ) → (t u : Tree) → IsDocument mode bytes t
+        → IsDocument mode bytes u → t ≡ u }
     ensures numbers { (mode : Mode) → (m n : ℕ) → (bytes rest : List ℕ) → (t u : Tree) → Derives mode m bytes t
         → Derives mode n (bytes ++ rest) u → rest ≢ [] → (as_number t ≢ None) × (as_number u ≢ None) }
     ensures same { (mode : Mode) → (m n : ℕ) → (bytes : List ℕ) → (t u : Tree) → Derives mode m bytes t

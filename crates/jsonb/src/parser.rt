@@ -49,15 +49,17 @@ impl<'a> JsonAst<'a> {
     ///
     /// # Errors
     ///
-    /// `Syntax` with what is wrong and the index that is named, where the text is no document of the mode; the text is read from
-    /// the left, and the first fault that is met is told. `OutOfMemory` only where the text holds `[`, `{` or a backslash.
+    /// `Syntax` with what is wrong and the index that is named, where the text is no document of the mode; the text is
+    /// read from the left, and the first fault that is met is told. `OutOfMemory` only where the text holds `[`, `{` or
+    /// a backslash.
     pub fn parse(alloc: Global, buf: &'a [u8], mode: Mode) -> Result<JsonAst<'a>>
         // What is read is a document, and this is its one tree.
         ensures document { IfOk result (λ v. IsDocument (mode_of mode) buf.now (ast_view v)) }
         ensures only { IfOk result (λ v. (t : Tree) → IsDocument (mode_of mode) buf.now t → t ≡ ast_view v) }
 
         // What is refused is no document, unless memory ran out.
-        ensures refused { IfErr result (λ e. e ≢ Error.OutOfMemory → (t : Tree) → IsDocument (mode_of mode) buf.now t → ⊥) }
+        ensures refused { IfErr result (λ e. e ≢ Error.OutOfMemory → (t : Tree) → IsDocument (mode_of mode) buf.now t
+            → ⊥) }
         ensures memory { result ≡ Err Error.OutOfMemory → HoldsMarker buf.now }
 
         // Nothing but these two refuses.
@@ -66,8 +68,8 @@ impl<'a> JsonAst<'a> {
         // Which fault it is, and where.
         ensures exact { Gives ast_view result (document_of (mode_of mode) buf.now) }
 
-        // What stands at the place that is named, for the refusals that speak of a value, of what follows it, of depth, of a number
-        // and of a key.
+        // What stands at the place that is named, for the refusals that speak of a value, of what follows it, of depth,
+        // of a number and of a key.
         ensures explained { IfErr result (IsExplained (mode_of mode) buf.now) }
 
         // Each object's keys rise, and each key's spelling ends at the member's index.
@@ -180,7 +182,8 @@ impl<'a> Parser<'a> {
     fn take_byte(&mut self, byte: u8) -> bool
         ensures found { result ≡ begins byte (rest_of self.old) }
         ensures rest { MatchBool result (rest_of self.old ≡ byte ∷ rest_of self.new) (self.new ≡ self.old) }
-        ensures inside { MatchBool result (self.old.idx < self.new.idx × self.new.idx ≤ size_of self.new) (self.new ≡ self.old) }
+        ensures inside { MatchBool result (self.old.idx < self.new.idx × self.new.idx ≤ size_of self.new)
+            (self.new ≡ self.old) }
         ensures advances { Advances self.old self.new }
     {
         let found = self.next_is(byte);
@@ -213,7 +216,8 @@ impl<'a> Parser<'a> {
     // A value with blanks round it, up to the end of the text.
     fn parse_document(&mut self) -> Result<JsonAst<'a>>
         requires { self.old.idx ≤ size_of self.old }
-        ensures reads { Gives ast_view result (document_from (size_of self.old) (mode_of self.old.mode) (pass_blanks (mode_of self.old.mode) (rest_of self.old))) }
+        ensures reads { Gives ast_view result (document_from (size_of self.old) (mode_of self.old.mode)
+            (pass_blanks (mode_of self.old.mode) (rest_of self.old))) }
         ensures memory { result ≡ Err Error.OutOfMemory → HoldsMarker self.old.buf.now }
         ensures source { IfOk result (λ v. IsLocated (mode_of self.old.mode) self.old.buf.now (source_view v)) }
     {
@@ -236,7 +240,8 @@ impl<'a> Parser<'a> {
     // The end of a text, after its value.
     fn end_document(&mut self) -> Result<()>
         requires { self.old.idx ≤ size_of self.old }
-        ensures reads { (t : Tree) → Gives (λ _. t) result (at_end (size_of self.old) (mode_of self.old.mode) t (pass_blanks (mode_of self.old.mode) (rest_of self.old))) }
+        ensures reads { (t : Tree) → Gives (λ _. t) result (at_end (size_of self.old) (mode_of self.old.mode) t
+            (pass_blanks (mode_of self.old.mode) (rest_of self.old))) }
         ensures named { result ≢ Err Error.OutOfMemory }
     {
         self.pass_blanks();
@@ -252,7 +257,8 @@ impl<'a> Parser<'a> {
     // A text may end in a line comment without its end, and in no other comment.
     fn end_in_comment(&self) -> Result<()>
         requires { self.now.idx < size_of self.now }
-        ensures reads { (t : Tree) → Gives (λ _. t) result (comment_at (size_of self.now) t (drop 1 (rest_of self.now))) }
+        ensures reads { (t : Tree) → Gives (λ _. t) result (comment_at (size_of self.now) t
+            (drop 1 (rest_of self.now))) }
         ensures named { result ≢ Err Error.OutOfMemory }
     {
         let next = self.idx + 1;

@@ -196,7 +196,8 @@ fn push_alone(text: &mut Vec<u8>, digits: &[u8], value: u32)
 // A high unit and the unit right after it.
 fn push_together(text: &mut Vec<u8>, high: &HexUnit<'_>, next: &HexUnit<'_>)
     requires four { (length high.now.digits.now ≡ 4) × (length next.now.digits.now ≡ 4) }
-    requires value { (high.now.value ≡ unit_value high.now.digits.now) × (next.now.value ≡ unit_value next.now.digits.now) }
+    requires value { (high.now.value ≡ unit_value high.now.digits.now)
+        × (next.now.value ≡ unit_value next.now.digits.now) }
     requires is_high { is_high high.now.value ≡ true }
     requires room { vec_len text.old + 12 ≤ vec_capacity text.old }
     ensures items { text.new.items ≡ text.old.items ++ together high.now.digits.now next.now.digits.now }
@@ -233,7 +234,8 @@ fn after_unit_mark(bytes: &[u8]) -> Option<&[u8]>
 fn after_next_mark<'a>(unit: &HexUnit<'a>) -> Option<&'a [u8]>
     ensures some { IfSome result (λ rest. (is_high unit.now.value ≡ true) × (unit.now.rest.now ≡ 92 ∷ 117 ∷ rest.now)) }
     ensures len { IfSome result (λ rest. length rest.now + 2 ≡ length unit.now.rest.now) }
-    ensures none { IfNone result ((is_high unit.now.value ≡ false) ⊎ ((rest : List ℕ) → unit.now.rest.now ≢ 92 ∷ 117 ∷ rest)) }
+    ensures none { IfNone result ((is_high unit.now.value ≡ false)
+        ⊎ ((rest : List ℕ) → unit.now.rest.now ≢ 92 ∷ 117 ∷ rest)) }
 {
     if is_surrogate_high(unit.value) {
         after_unit_mark(unit.rest)
@@ -247,10 +249,12 @@ fn after_next_mark<'a>(unit: &HexUnit<'a>) -> Option<&'a [u8]>
 #[inline(always)]
 fn units<'a>(bytes: &'a [u8], text: &mut Vec<u8>) -> std::result::Result<&'a [u8], Fault>
     requires { vec_len text.old + 2 + length bytes.now ≤ vec_capacity text.old }
-    ensures ok { IfOk result (λ rest. (mode : Grammar) → Adds mode (92 ∷ 117 ∷ bytes.now) rest.now text.old.items text.new.items) }
+    ensures ok { IfOk result (λ rest. (mode : Grammar) → Adds mode
+        (92 ∷ 117 ∷ bytes.now) rest.now text.old.items text.new.items) }
     ensures shorter { IfOk result (λ rest. length rest.now ≤ length bytes.now) }
     ensures room { IfOk result (λ rest. vec_len text.new + length rest.now ≤ vec_len text.old + 2 + length bytes.now) }
-    ensures err { IfErr result (λ fault. (mode : Grammar) → Stops mode (92 ∷ 117 ∷ bytes.now) (code_of fault.code) fault.left) }
+    ensures err { IfErr result (λ fault. (mode : Grammar) → Stops mode (92 ∷ 117 ∷ bytes.now)
+        (code_of fault.code) fault.left) }
     ensures capacity { vec_capacity text.old ≤ vec_capacity text.new }
 {
     let first = read_unit(bytes)?;
@@ -366,18 +370,18 @@ pub(crate) fn unescape(alloc: Global, bytes: &[u8], mode: Mode, idx: &mut usize)
     }
 }
 
-/// Decodes the body of a JSON string: what stands between its quotes. An escape is one of `\"`, `\\`, `\/`, `\b`, `\f`,
-/// `\n`, `\r`, `\t`, `\u` and four hexadecimal digits, or the same with the digits in braces; a high surrogate and the low
-/// one right after it are one character, and a surrogate alone is kept as it is spelled. Every other byte stands for
-/// itself. `len` is a hint for the first growth, and no answer depends on it.
+/// Decodes the body of a JSON string: what stands between its quotes. An escape is one of `\"`, `\\`, `\/`, `\b`,
+/// `\f`, `\n`, `\r`, `\t`, `\u` and four hexadecimal digits, or the same with the digits in braces; a high surrogate
+/// and the low one right after it are one character, and a surrogate alone is kept as it is spelled. Every other byte
+/// stands for itself. `len` is a hint for the first growth, and no answer depends on it.
 ///
 /// `idx` is moved by the length of `data` on success, and past the fault on a refusal, whose position is the index that
 /// is left.
 ///
 /// # Errors
 ///
-/// `Syntax` with `InvalidEscaped`, `InvalidHex` or `UnexpectedEndOfHexEscape` for an escape that is none of these, and with
-/// `InvalidStringValue` where the decoded bytes are not UTF-8; `OutOfMemory`.
+/// `Syntax` with `InvalidEscaped`, `InvalidHex` or `UnexpectedEndOfHexEscape` for an escape that is none of these, and
+/// with `InvalidStringValue` where the decoded bytes are not UTF-8; `OutOfMemory`.
 pub fn parse_string(alloc: Global, data: &[u8], len: usize, idx: &mut usize) -> Result<String>
     requires { idx.old + length «data».now < 2 ^ 64 }
     ensures ok { IfOk result (λ text. Decodes standard «data».now (string_bytes text)) }

@@ -190,16 +190,20 @@ impl fmt::Display for Error {
 
 impl std::error::Error for Error {}
 
-/// A law: two codes are equal exactly where their variants and parts are, a key by its bytes, and equal ones hash alike.
+/// A law: two codes are equal exactly where their variants and parts are, a key by its bytes, and equal ones hash
+/// alike.
 pub fn codes_compare_by_parts(left: &ParseErrorCode, right: &ParseErrorCode)
-    ensures equal { IsTrue (⟦<ParseErrorCode as PartialEq>⟧.eq left.now right.now) ↔ (code_of left.now ≡ code_of right.now) }
+    ensures equal { IsTrue (⟦<ParseErrorCode as PartialEq>⟧.eq left.now right.now) ↔
+        (code_of left.now ≡ code_of right.now) }
     ensures hash { code_of left.now ≡ code_of right.now →
         ⟦<ParseErrorCode as Hash>⟧.hash_input left.now ≡ ⟦<ParseErrorCode as Hash>⟧.hash_input right.now }
 {}
 
-/// A law: two errors are equal exactly where their variants and parts are, a text by its bytes, and equal ones hash alike.
+/// A law: two errors are equal exactly where their variants and parts are, a text by its bytes, and equal ones hash
+/// alike.
 pub fn errors_compare_by_parts(left: &Error, right: &Error)
-    ensures equal { IsTrue (⟦<Error as PartialEq>⟧.eq left.now right.now) ↔ (error_view left.now ≡ error_view right.now) }
+    ensures equal { IsTrue (⟦<Error as PartialEq>⟧.eq left.now right.now) ↔
+        (error_view left.now ≡ error_view right.now) }
     ensures hash { error_view left.now ≡ error_view right.now →
         ⟦<Error as Hash>⟧.hash_input left.now ≡ ⟦<Error as Hash>⟧.hash_input right.now }
 {}

@@ -9,8 +9,8 @@ mod tests;
 use jsonb_value::number::Number;
 use std::borrow::CowStr;
 
-/// A text that was read: its value, with strings borrowed from it where they have no escapes. A reader gives an object's
-/// members in the order of their keys; each is its key, its value and the index after the key's spelling.
+/// A text that was read: its value, with strings borrowed from it where they have no escapes. A reader gives an
+/// object's members in the order of their keys; each is its key, its value and the index after the key's spelling.
 #[derive(Debug, Drop)]
 pub enum JsonAst<'a> {
     Null,

@@ -52,7 +52,8 @@ impl<'a> Parser<'a> {
     // Reads a key without quotes. It is borrowed.
     pub(super) fn parse_bare_key(&mut self) -> Result<CowStr<'a>>
         requires { self.old.idx ≤ size_of self.old }
-        ensures reads { Gives (λ s. ((mark_view s, cow_str_bytes s), rest_of self.new)) result (bare_key_at (size_of self.old) (rest_of self.old)) }
+        ensures reads { Gives (λ s. ((mark_view s, cow_str_bytes s), rest_of self.new)) result
+            (bare_key_at (size_of self.old) (rest_of self.old)) }
         ensures named { result ≢ Err Error.OutOfMemory }
         ensures advances { Advances self.old self.new }
     {

@@ -67,7 +67,8 @@ impl Parser<'_> {
     // Whether the next byte may begin a blank. Few bytes may, so this is asked before the call.
     #[inline(always)]
     fn may_begin_blank(&self) -> bool
-        ensures { MatchBool result (Unit {0}) (skip_blanks (mode_of self.now.mode) (rest_of self.now) ≡ rest_of self.now) }
+        ensures { MatchBool result (Unit {0}) (skip_blanks (mode_of self.now.mode) (rest_of self.now)
+            ≡ rest_of self.now) }
     {
         match self.peek() {
             Some(byte) => byte <= b' ' || byte == b'\\' || byte == b'/',
@@ -115,7 +116,8 @@ impl Parser<'_> {
     // Most blanks are spaces in a row.
     #[inline(always)]
     fn skip_spaces(&mut self)
-        ensures rest { pass_blanks (mode_of self.old.mode) (rest_of self.new) ≡ pass_blanks (mode_of self.old.mode) (rest_of self.old) }
+        ensures rest { pass_blanks (mode_of self.old.mode) (rest_of self.new) ≡ pass_blanks (mode_of self.old.mode)
+            (rest_of self.old) }
         ensures advances { Advances self.old self.new }
     {
         'spaces: while self.take_byte(b' ') {}

@@ -64,7 +64,8 @@ fn digits_behind(bytes: &[u8], before: FewDigits) -> Option<FewDigits>
     requires { before.len ≤ 19 × before.value < 10 ^ before.len }
     ensures len { IfSome result (λ all. all.len ≡ before.len + digits_length bytes.now) }
     ensures few { IfSome result (λ all. all.len ≤ 19) }
-    ensures value { IfSome result (λ all. all.value ≡ digits_value_after 10 before.value (take (digits_length bytes.now) bytes.now)) }
+    ensures value { IfSome result (λ all. all.value ≡ digits_value_after 10 before.value
+        (take (digits_length bytes.now) bytes.now)) }
     ensures small { IfSome result (λ all. all.value < 10 ^ all.len) }
 {
     let mut value = before.value;

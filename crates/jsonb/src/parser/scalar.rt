@@ -97,7 +97,8 @@ impl<'a> Parser<'a> {
     fn parse_string_value(&mut self, quote: u8) -> Result<JsonAst<'a>>
         requires no_backslash { quote ≢ 92 }
         requires inside { self.old.idx ≤ size_of self.old }
-        ensures reads { Gives (λ v. (ast_view v, rest_of self.new)) result (quoted_at (size_of self.old) (mode_of self.old.mode) quote (rest_of self.old)) }
+        ensures reads { Gives (λ v. (ast_view v, rest_of self.new)) result
+            (quoted_at (size_of self.old) (mode_of self.old.mode) quote (rest_of self.old)) }
         ensures alone { IfOk result (λ v. holds_others (source_view v) ≡ false) }
         ensures memory { result ≡ Err Error.OutOfMemory → Contains self.old.buf.now 92 }
         ensures advances { Advances self.old self.new }
@@ -109,7 +110,8 @@ impl<'a> Parser<'a> {
     // Whether the text is a standard one, and a number begins here.
     #[inline(always)]
     fn begins_standard_number(&self) -> bool
-        ensures { MatchBool result ((mode_of self.now.mode ≡ standard) × (begins_number standard (rest_of self.now) ≡ true)) (Unit {0}) }
+        ensures { MatchBool result ((mode_of self.now.mode ≡ standard)
+            × (begins_number standard (rest_of self.now) ≡ true)) (Unit {0}) }
     {
         match self.mode {
             Mode::Standard => matches!(self.peek(), Some(b'0'..=b'9' | b'-')),
@@ -167,7 +169,8 @@ impl<'a> Parser<'a> {
     #[inline(always)]
     fn parse_number(&mut self) -> Result<Number>
         requires { self.old.idx ≤ size_of self.old }
-        ensures reads { Gives (λ n. (number_view n, rest_of self.new)) result (number_at (size_of self.old) (mode_of self.old.mode) (rest_of self.old)) }
+        ensures reads { Gives (λ n. (number_view n, rest_of self.new)) result
+            (number_at (size_of self.old) (mode_of self.old.mode) (rest_of self.old)) }
         ensures takes_no_memory { result ≢ Err Error.OutOfMemory }
         ensures advances { Advances self.old self.new }
     {
@@ -180,7 +183,8 @@ impl<'a> Parser<'a> {
     // `null`; where that fails, in extended mode a number's word may begin with the same letter.
     fn parse_null(&mut self) -> Result<JsonAst<'a>>
         requires { self.old.idx ≤ size_of self.old }
-        ensures reads { Gives (λ v. (ast_view v, rest_of self.new)) result (null_at (size_of self.old) (mode_of self.old.mode) (rest_of self.old)) }
+        ensures reads { Gives (λ v. (ast_view v, rest_of self.new)) result
+            (null_at (size_of self.old) (mode_of self.old.mode) (rest_of self.old)) }
         ensures alone { IfOk result (λ v. holds_others (source_view v) ≡ false) }
         ensures memory { result ≡ Err Error.OutOfMemory → Contains self.old.buf.now 92 }
         ensures advances { Advances self.old self.new }
@@ -202,7 +206,8 @@ impl<'a> Parser<'a> {
     // The value, where the word comes next.
     #[inline(always)]
     fn parse_literal(&mut self, word: &[u8], value: JsonAst<'a>) -> Result<JsonAst<'a>>
-        ensures reads { Gives (λ v. (ast_view v, rest_of self.new)) result (word_at (size_of self.old) (mode_of self.old.mode) word.now (ast_view value.entry) (rest_of self.old)) }
+        ensures reads { Gives (λ v. (ast_view v, rest_of self.new)) result
+            (word_at (size_of self.old) (mode_of self.old.mode) word.now (ast_view value.entry) (rest_of self.old)) }
         ensures same { IfOk result (λ v. v ≡ value.entry) }
         ensures memory { result ≡ Err Error.OutOfMemory → Contains self.old.buf.now 92 }
         ensures advances { Advances self.old self.new }
@@ -212,7 +217,8 @@ impl<'a> Parser<'a> {
     }
 
     fn parse_word(&mut self, word: &[u8]) -> Result<()>
-        ensures reads { Gives (λ _. rest_of self.new) result (letters_at (size_of self.old) (mode_of self.old.mode) word.now (rest_of self.old)) }
+        ensures reads { Gives (λ _. rest_of self.new) result
+            (letters_at (size_of self.old) (mode_of self.old.mode) word.now (rest_of self.old)) }
         ensures named { result ≢ Err Error.OutOfMemory }
         ensures advances { Advances self.old self.new }
     {

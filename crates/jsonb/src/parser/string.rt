@@ -46,8 +46,10 @@ fn step_after_backslash(bytes: &[u8]) -> usize
 fn next_mark(bytes: &[u8], quote: u8, at: usize) -> usize
     requires { at ≤ length bytes.now }
     ensures bounds { (at ≤ result) × (result ≤ length bytes.now) }
-    ensures before { (k : ℕ) → at ≤ k → k < result → (slice_index bytes.now k ≢ quote) × (slice_index bytes.now k ≢ 92) }
-    ensures here { result < length bytes.now → (slice_index bytes.now result ≡ quote) ⊎ (slice_index bytes.now result ≡ 92) }
+    ensures before { (k : ℕ) → at ≤ k → k < result → (slice_index bytes.now k ≢ quote)
+        × (slice_index bytes.now k ≢ 92) }
+    ensures here { result < length bytes.now → (slice_index bytes.now result ≡ quote)
+        ⊎ (slice_index bytes.now result ≡ 92) }
 {
     if bytes.len() - at < 32 {
         return far_mark(bytes, quote, at);
@@ -63,8 +65,10 @@ fn next_mark(bytes: &[u8], quote: u8, at: usize) -> usize
 fn far_mark(bytes: &[u8], quote: u8, at: usize) -> usize
     requires { at ≤ length bytes.now }
     ensures bounds { (at ≤ result) × (result ≤ length bytes.now) }
-    ensures before { (k : ℕ) → at ≤ k → k < result → (slice_index bytes.now k ≢ quote) × (slice_index bytes.now k ≢ 92) }
-    ensures here { result < length bytes.now → (slice_index bytes.now result ≡ quote) ⊎ (slice_index bytes.now result ≡ 92) }
+    ensures before { (k : ℕ) → at ≤ k → k < result → (slice_index bytes.now k ≢ quote)
+        × (slice_index bytes.now k ≢ 92) }
+    ensures here { result < length bytes.now → (slice_index bytes.now result ≡ quote)
+        ⊎ (slice_index bytes.now result ≡ 92) }
 {
     match memchr2(quote, b'\\', &bytes[at..]) {
         Some(count) => at + count,
@@ -77,9 +81,11 @@ fn far_mark(bytes: &[u8], quote: u8, at: usize) -> usize
 fn near_mark(bytes: &[u8], quote: u8, at: usize) -> Option<usize>
     requires { at + 32 ≤ length bytes.now }
     ensures bounds { IfSome result (λ i. (at ≤ i) × (i < at + 32)) }
-    ensures before { IfSome result (λ i. (k : ℕ) → at ≤ k → k < i → (slice_index bytes.now k ≢ quote) × (slice_index bytes.now k ≢ 92)) }
+    ensures before { IfSome result (λ i. (k : ℕ) → at ≤ k → k < i → (slice_index bytes.now k ≢ quote)
+        × (slice_index bytes.now k ≢ 92)) }
     ensures here { IfSome result (λ i. (slice_index bytes.now i ≡ quote) ⊎ (slice_index bytes.now i ≡ 92)) }
-    ensures none { IfNone result ((k : ℕ) → at ≤ k → k < at + 32 → (slice_index bytes.now k ≢ quote) × (slice_index bytes.now k ≢ 92)) }
+    ensures none { IfNone result ((k : ℕ) → at ≤ k → k < at + 32 → (slice_index bytes.now k ≢ quote)
+        × (slice_index bytes.now k ≢ 92)) }
 {
     let lanes = load(bytes, at);
     let quotes = equal_to(lanes, quote);
@@ -190,7 +196,8 @@ impl<'a> Parser<'a> {
     pub(super) fn parse_quoted(&mut self, quote: u8) -> Result<CowStr<'a>>
         requires no_backslash { quote ≢ 92 }
         requires inside { self.old.idx ≤ size_of self.old }
-        ensures reads { Gives (λ s. ((mark_view s, cow_str_bytes s), rest_of self.new)) result (string_at (size_of self.old) (mode_of self.old.mode) quote (rest_of self.old)) }
+        ensures reads { Gives (λ s. ((mark_view s, cow_str_bytes s), rest_of self.new)) result
+            (string_at (size_of self.old) (mode_of self.old.mode) quote (rest_of self.old)) }
         ensures memory { result ≡ Err Error.OutOfMemory → Contains self.old.buf.now 92 }
         ensures advances { Advances self.old self.new }
     {

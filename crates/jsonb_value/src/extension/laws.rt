@@ -50,7 +50,8 @@ pub fn zoned_timestamps_compare_by_fields(left: &TimestampTz, right: &TimestampT
 
 /// Intervals compare by their months, then by their days, and then by their microseconds.
 pub fn intervals_compare_by_fields(left: &Interval, right: &Interval)
-    ensures order { ⟦<Interval as Ord>⟧.cmp left.now right.now ≡ ordering_then (int_cmp left.now.months right.now.months)
+    ensures order { ⟦<Interval as Ord>⟧.cmp left.now right.now ≡ ordering_then
+        (int_cmp left.now.months right.now.months)
         (ordering_then (int_cmp left.now.days right.now.days) (int_cmp left.now.micros right.now.micros)) }
     ensures partial_order { ⟦<Interval as PartialOrd>⟧.partial_cmp left.now right.now
         ≡ Some (ordering_then (int_cmp left.now.months right.now.months)

@@ -10,8 +10,8 @@ ghost use Rattle.jsonb_value.specs.ReadsBack.{ReadsBackAs};
 ghost use Rattle.jsonb_value.specs.Text.{text_of};
 ghost use Rattle.jsonb_value.specs.Tree.{Tree};
 
-/// What is written of a value in range reads back as the same value. Values in range with one text are the same, and of values
-/// whose numbers are all integers the same ones have one text.
+/// What is written of a value in range reads back as the same value. Values in range with one text are the same, and of
+/// values whose numbers are all integers the same ones have one text.
 pub fn value_texts_read_back()
     ensures reads_back { (mode : Mode) → (t : Tree) → IsProper t → IsInRangeOf mode t → (bytes : List ℕ)
         → text_of t ≡ Some bytes → ReadsBackAs mode bytes t }

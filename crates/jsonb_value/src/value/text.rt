@@ -47,7 +47,8 @@ impl Value<'_> {
             (λ bytes. vec_capacity buf.old < vec_len buf.old + length bytes) }
         ensures room { vec_capacity buf.old ≤ vec_capacity buf.new }
         ensures proper { OnOk result (IsProper (view self.now)) }
-        // What is written of a value in a mode's range is a document of the mode, of the same value, whose text it is again.
+        // What is written of a value in a mode's range is a document of the mode, of the same value, whose text it is
+        // again.
         ensures reads_back { OnOk result ((mode : Mode) → IsInRangeOf mode (view self.now) → (bytes : List ℕ)
             → buf.new.items ≡ buf.old.items ++ bytes → ReadsBackAs mode bytes (view self.now)) }
         // Of values whose numbers are all integers those that are the same have this text, and no others.
