@@ -17,7 +17,7 @@ pub mod HexadecimalReading
 pub mod HexadecimalTexts
 pub mod HexadecimalValues
 pub mod Laid
-pub mod Located
+pub mod Placed
 pub mod Longer
 pub mod Markers
 pub mod NearMarks

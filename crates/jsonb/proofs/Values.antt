@@ -66,7 +66,7 @@ object_of : (o : Option Spot) (fs : List Found) (r : List ℕ) (t : Tree) (rest 
 object_of None fs r t rest e = (refl, same_read (object (put_all (map member_of fs) no_members)) t r rest e)
 object_of (Some s) fs r t rest e = absurd cc
 
-is_extended_if : (mode : Mode) (bytes : List ℕ) → is_left_out mode bytes ≡ true → mode ≡ extended
+pub is_extended_if : (mode : Mode) (bytes : List ℕ) → is_left_out mode bytes ≡ true → mode ≡ extended
 is_extended_if standard bytes e = absurd cc
 is_extended_if extended bytes e = refl
 

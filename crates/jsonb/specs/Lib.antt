@@ -1,7 +1,7 @@
 pub mod AstView
 pub mod Decoding
-pub mod Located
-pub mod OpenSource
+pub mod Placed
+pub mod OpenPlaces
 pub mod Parser
 pub mod QuotedString
 pub mod Reading
