@@ -1,15 +1,17 @@
 -- Where a `JsonAst` stands in the text, from one step of the reader to the next.
-use Rattle.std.proofs.Common.{◌≡◌, ◌⊎◌, true≢false, if◌then◌else◌, inl, inr, ℕ, ◌+◌, ◌<◌, ◌≤◌, Bool, true, false, List, [], ◌∷◌, ◌++◌, length, take, drop, map, Vec, Global, Option, Some, None, Result, Ok, Err, IfOk, is_gt, is_eq, nat_cmp, Ordering, Less, Equal, Greater, IsPermutation, rules, refl, sym, ap, subst, subst₂, ◌∙◌, append_assoc, arith, length-append, length-drop}
+use Rattle.std.proofs.Common.{◌≡◌, ◌⊎◌, true≢false, if◌then◌else◌, inl, inr, ℕ, ◌+◌, ◌<◌, ◌≤◌, Bool, true, false, List, [], ◌∷◌, ◌++◌, length, take, drop, map, Vec, Global, Option, Some, None, Result, Ok, Err, IfOk, is_gt, is_eq, nat_cmp, Ordering, Less, Equal, Greater, IsPermutation, rules, refl, sym, ap, subst, subst₂, ◌∙◌, append-nil, append_assoc, arith, length-append, length-drop}
 use Rattle.std.proofs.Math.Seq.{drop-append_seam}
 use Rattle.std.specs.Cow.{cow_str_bytes}
 use Rattle.std.specs.Ordering.{ordering_then}
 use Rattle.std.specs.Cmp.Lexicographic.{slice_cmp}
 use Rattle.std.proofs.lemmas.List.{length-take-le, take-append-drop}
 use Rattle.std.proofs.lemmas.List.Sorted.{IsPermutation-map}
-use Rattle.jsonb_value.specs.Blanks.{IsBlanks}
+use Rattle.jsonb_value.specs.Blanks.{AreLastBlanks, IsBlanks}
 use Rattle.jsonb_value.specs.Mode.{Mode}
+use Rattle.jsonb_value.specs.Mode.Mode.{extended}
 use Rattle.jsonb_value.specs.Scalar.{IsKey, IsScalar}
-use Rattle.jsonb_value.specs.Tree.{Mark}
+use Rattle.jsonb_value.specs.Tree.{Mark, Tree}
+use Rattle.jsonb_value.specs.Tree.Tree.{null}
 use Rattle.jsonb_value.specs.View.{mark_view}
 use Rattle.jsonb.specs.AstView.{Written, ast_view, found_of}
 use Rattle.jsonb.specs.declared.parser.Parser.{Parser}
@@ -20,21 +22,26 @@ use Rattle.jsonb.specs.declared.parser.container.Frame.TheVariants as variants
 use Rattle.jsonb.specs.OpenPlaces.{AllIsPlaced, ArePartsBefore, ArrayIsOpen, FrameIsPlaced, FrameIsRead, IsLeftOut, LeftOut, MemberBegins, ObjectIsOpen, PartIsPlaced, PartIsRead, ReadIsPlaced, Skips, StackIsPlaced, StackIsRead, ValueIsRead, placed_of}
 use Rattle.jsonb.specs.OpenPlaces.ArePartsBefore.{no_parts, parts_and_comma}
 use Rattle.jsonb.specs.Parser.{Advances, mode_of, rest_of, size_of}
-use Rattle.jsonb.specs.Placed.{AreElementsAt, AreMembersAt, Has, HasBlanks, HasByte, HasKey, IsElementAt, IsMemberAt, IsValueAt, KeysRise, Placed, members_from, source_alone}
+use Rattle.jsonb.specs.Placed.{AreElementsAt, AreMembersAt, Has, HasBlanks, HasByte, HasKey, IsElementAt, IsMemberAt, IsPlaced, IsValueAt, KeysRise, Placed, members_from, source_alone}
 use Rattle.jsonb.specs.Placed.AreElementsAt.{more_elements, one_element}
 use Rattle.jsonb.specs.Placed.AreMembersAt.{more_members, one_member}
 use Rattle.jsonb.specs.Placed.IsElementAt.{empty_element, whole_element}
 use Rattle.jsonb.specs.Placed.IsMemberAt.{key_and_value}
+use Rattle.jsonb.specs.Placed.IsPlaced.{blanks_alone, value_alone}
 use Rattle.jsonb.specs.Placed.IsValueAt.{empty_array, empty_object, full_array, full_object, scalar}
 use Rattle.jsonb.specs.Reading.{begins}
-use Rattle.jsonb.specs.Reading.Blank.{skip_blanks}
+use Rattle.jsonb.specs.Reading.Blank.{opens_comment, pass_blanks, skip_blanks}
 use Rattle.jsonb.specs.Reading.Container.{AreAscending, Spot, adjacent_repeat, spot_of}
+use Rattle.jsonb.specs.Reading.Document.{at_end, comment_at}
 use Rattle.jsonb.specs.Reading.Scalar.{key_at, scalar_at}
 use Rattle.jsonb.specs.Source.{Source, array_source, null_source, object_source, source_members_view, source_view, sources_view, SourceMembers}
 use Rattle.jsonb.specs.Source.SourceMembers.{more_source_members}
+use Rattle.jsonb.proofs.Cursors.{nothing_left}
 use Rattle.jsonb.proofs.Objects.{spots}
 use Rattle.jsonb.proofs.Scalars.{key_sound, scalar_sound}
-use Rattle.jsonb.proofs.Skips.{skip-blanks, skip-skip, skip-stop, skips}
+use Rattle.jsonb.proofs.Scans.{goes_on}
+use Rattle.jsonb.proofs.Skips.{ends_all, opens-nil, passes, skip-blanks, skip-skip, skip-stop, skips}
+use Rattle.jsonb.proofs.Values.{comment_ends, ended}
 
 -- ---- the source of a `JsonAst`, level by level
 
@@ -295,3 +302,44 @@ module _ (mode : Mode) (input : List ℕ) where
   pub part_pushed : (fs : List Frame) (f : Frame) (start middle at : ℕ) (read : Option JsonAst) → StackIsPlaced mode input start fs middle → PartIsPlaced mode input middle f at read → AllIsPlaced mode input start (fs ++ f ∷ []) at read
   part_pushed fs f start middle at None h i = (i.0, frame_pushed fs f start middle i.0 h i.1, i.2)
   part_pushed fs f start middle at (Some v) h i = (i.0, frame_pushed fs f start middle i.0 h i.1, value_last fs f i.0 (source_view v) at i.2)
+
+  -- the outermost value
+  pub outermost_placed : (fs : List Frame) → length fs ≡ 0 → (start at : ℕ) (v : JsonAst) → AllIsPlaced mode input start fs at (Some v) → IsValueAt mode input start (source_view v) at
+  outermost_placed [] e start at v h = subst (λ (n : ℕ). IsValueAt mode input n (source_view v) at) (sym h.1) h.2
+  outermost_placed (f ∷ fs) e start at v h = absurd (omega arith)
+
+-- ---- whole texts
+
+-- a text of blanks alone
+pub blanks_placed : (p q : Parser) → p.idx ≡ 0 → rest_of q ≡ pass_blanks (mode_of p.mode) (rest_of p) → size_of q ≤ q.idx → mode_of p.mode ≡ extended → IsPlaced (mode_of p.mode) p.buf.now (source_view ast.Null)
+blanks_placed p q start e past is =
+    subst (λ (s : Source). IsPlaced (mode_of p.mode) p.buf.now s) (sym source-Null)
+    (blanks_alone is (subst (λ (n : ℕ). AreLastBlanks (mode_of p.mode) (drop n p.buf.now)) start (ends_all (mode_of p.mode) (rest_of p) (sym e ∙ nothing_left q.buf.now q.idx past))))
+
+comment_only : (mode : Mode) (size : ℕ) (bytes rest : List ℕ) (t u : Tree) → pass_blanks mode bytes ≡ rest → opens_comment mode rest ≡ true → comment_at size t (drop 1 rest) ≡ Ok u → (mode ≡ extended) × AreLastBlanks mode bytes
+comment_only mode size bytes [] t u passed opens e = absurd (true≢false (sym opens ∙ opens-nil mode))
+comment_only mode size bytes (b ∷ rest) t u passed opens e = let c = comment_ends mode size bytes b rest t u passed opens e in (c.0, c.1)
+
+-- a text of blanks and a line comment without its end
+pub comment_placed : (p q : Parser) → p.idx ≡ 0 → Advances p q → rest_of q ≡ pass_blanks (mode_of p.mode) (rest_of p) → opens_comment (mode_of q.mode) (rest_of q) ≡ true
+    → comment_at (size_of q) null (drop 1 (rest_of q)) ≡ Ok null → IsPlaced (mode_of p.mode) p.buf.now (source_view ast.Null)
+comment_placed p q start a e opens ends =
+    let m : Mode = mode_of p.mode in
+    let only = comment_only m (size_of q) (rest_of p) (rest_of q) null null (sym e) (ap (λ k. opens_comment (mode_of k) (rest_of q)) (sym a.mode) ∙ opens) ends in
+    subst (λ (s : Source). IsPlaced m p.buf.now s) (sym source-Null) (blanks_alone only.0 (subst (λ (n : ℕ). AreLastBlanks m (drop n p.buf.now)) start only.1))
+
+-- a text with a value
+pub value_placed : (p q r : Parser) (t u : Tree) (s : Source) → p.idx ≡ 0 → p.idx ≤ size_of p → Advances p q → rest_of q ≡ pass_blanks (mode_of p.mode) (rest_of p) → Advances q r → IsValueAt (mode_of q.mode) q.buf.now q.idx s r.idx
+    → at_end (size_of r) (mode_of r.mode) t (pass_blanks (mode_of r.mode) (rest_of r)) ≡ Ok u → IsPlaced (mode_of p.mode) p.buf.now s
+value_placed p q r t u s start inside a e b value ends =
+    let m : Mode = mode_of p.mode in
+    let input : List ℕ = p.buf.now in
+    let front = passes m (rest_of p) in
+    let before = read_has p q (λ bytes. IsBlanks m bytes) front.blanks a inside (front.whole ∙ ap (λ (v : List ℕ). front.blanks ++ v) (sym e)) front.are_blanks in
+    let within : r.idx ≤ length r.buf.now = b.inside (a.inside inside) in
+    let whole : rest_of r ≡ rest_of r ++ drop (length r.buf.now) r.buf.now = sym (ap (λ (v : List ℕ). rest_of r ++ v) (nothing_left r.buf.now (length r.buf.now) (omega arith)) ∙ append-nil (rest_of r)) in
+    let last = (ended (size_of r) (mode_of r.mode) t (rest_of r) (pass_blanks (mode_of r.mode) (rest_of r)) u refl ends).0 in
+    let after = has r.buf.now (λ bytes. AreLastBlanks (mode_of r.mode) bytes) r.idx (length r.buf.now) (rest_of r) whole within (omega arith) last in
+    let on = goes_on p q r a b in
+    value_alone (subst (λ (n : ℕ). HasBlanks m input n q.idx) start before) (earlier p q (λ k i. IsValueAt k i q.idx s r.idx) a value)
+    (earlier p r (λ k i. Has i (λ bytes. AreLastBlanks k bytes) r.idx (length i)) on after)
