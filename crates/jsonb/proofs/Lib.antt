@@ -17,7 +17,6 @@ pub mod HexadecimalReading
 pub mod HexadecimalTexts
 pub mod HexadecimalValues
 pub mod Laid
-pub mod Placed
 pub mod Longer
 pub mod Markers
 pub mod NearMarks
@@ -29,6 +28,7 @@ pub mod NumberScan
 pub mod Objects
 pub mod Outcomes
 pub mod Parts
+pub mod Placed
 pub mod ReadsHexadecimal
 pub mod ReadsWord
 pub mod Refusals

@@ -115,6 +115,6 @@ abbrev pub KeepsPlaces : Parser → List Frame → Option JsonAst → Result (Op
 KeepsPlaces old before read result new after = (start : ℕ) → AllIsPlaced (mode_of old.mode) old.buf.now start before old.idx read → IfOk result (AllIsPlaced (mode_of new.mode) new.buf.now start after new.idx)
 
 -- The same of a call after the byte that opens a container.
-abbrev pub OpensPlace : ℕ → Parser → List Frame → Result (Option JsonAst) Error → Parser → List Frame → Type 0
-OpensPlace byte old before result new after = (start from : ℕ) → StackIsPlaced (mode_of old.mode) old.buf.now start before from → HasByte old.buf.now byte from → old.idx ≡ from + 1
+abbrev pub OpensContainer : ℕ → Parser → List Frame → Result (Option JsonAst) Error → Parser → List Frame → Type 0
+OpensContainer byte old before result new after = (start from : ℕ) → StackIsPlaced (mode_of old.mode) old.buf.now start before from → HasByte old.buf.now byte from → old.idx ≡ from + 1
     → IfOk result (AllIsPlaced (mode_of new.mode) new.buf.now start after new.idx)

@@ -6,7 +6,7 @@ ghost use Rattle.jsonb_value.specs.Mode.{Mode as Grammar};
 ghost use Rattle.jsonb_value.specs.Tree.{Tree};
 ghost use Rattle.jsonb_value.specs.View.{mark_view};
 ghost use Rattle.jsonb.specs.AstView.{ast_view, found_of};
-ghost use Rattle.jsonb.specs.OpenPlaces.{AllIsPlaced, FrameIsPlaced, FrameIsRead, KeepsPlaces, LeftOut, MemberBegins, OpensPlace, PartIsPlaced, PartIsRead, Skips, StackIsRead, placed_of};
+ghost use Rattle.jsonb.specs.OpenPlaces.{AllIsPlaced, FrameIsPlaced, FrameIsRead, KeepsPlaces, LeftOut, MemberBegins, OpensContainer, PartIsPlaced, PartIsRead, Skips, StackIsRead, placed_of};
 ghost use Rattle.jsonb.specs.Parser.{rest_of, size_of, mode_of, Advances, Gives, ReadsAs, HoldsMarker};
 ghost use Rattle.jsonb.specs.Placed.{AreMembersAt, HasByte, IsValueAt};
 ghost use Rattle.jsonb.specs.Reading.{begins};
@@ -91,7 +91,7 @@ impl<'a> Parser<'a> {
         requires inside { self.old.idx ≤ size_of self.old }
         ensures reads { Continues (resumed self.old stack.old.items (array_within (size_of self.old) (mode_of self.old.mode) (depth_in stack.old.items) (rest_of self.old)))
             result self.new stack.new.items }
-        ensures source { OpensPlace 91 self.old stack.old.items result self.new stack.new.items }
+        ensures source { OpensContainer 91 self.old stack.old.items result self.new stack.new.items }
         ensures depth { OnOk result (length stack.new.items ≤ max_depth) }
         ensures advances { Advances self.old self.new }
     {
@@ -139,7 +139,7 @@ impl<'a> Parser<'a> {
         requires inside { self.old.idx ≤ size_of self.old }
         ensures reads { Continues (resumed self.old stack.old.items (object_within (size_of self.old) (mode_of self.old.mode) (depth_in stack.old.items) (rest_of self.old)))
             result self.new stack.new.items }
-        ensures source { OpensPlace 123 self.old stack.old.items result self.new stack.new.items }
+        ensures source { OpensContainer 123 self.old stack.old.items result self.new stack.new.items }
         ensures depth { OnOk result (length stack.new.items ≤ max_depth) }
         ensures advances { Advances self.old self.new }
     {

@@ -233,18 +233,28 @@ fn variants(rt: HostRuntime) -> Result<(), Fail> {
     Ok(())
 }
 
+// A member of an object, as it was written.
+fn member<'a>(key: &'a str, value: u64, index: usize) -> (CowStr<'a>, JsonAst<'a>, usize) {
+    let value = JsonAst::Number(Number::UInt64(value));
+    (CowStr::Borrowed(key), value, index)
+}
+
+#[test]
+fn each_member_has_its_own_index(rt: HostRuntime) -> Result<(), Fail> {
+    let alloc = rt.alloc();
+    let read = JsonAst::parse(alloc, b"[{\"a\":1},{\"b\":2,\"a\" :1}]", Mode::Standard)?;
+    let first = JsonAst::Object(vec![in alloc; member("a", 1, 5)]?);
+    let second = JsonAst::Object(vec![in alloc; member("a", 1, 19), member("b", 2, 13)]?);
+    let want = JsonAst::Array(vec![in alloc; first, second]?);
+    assert!(rt; read == want);
+    Ok(())
+}
+
 #[test]
 fn members_are_sorted(rt: HostRuntime) -> Result<(), Fail> {
     let alloc = rt.alloc();
     let read = JsonAst::parse(alloc, b"{\"b\":1,\"a\":2}", Mode::Standard)?;
-    let want = JsonAst::Object(vec![in alloc;
-        (
-            CowStr::Borrowed("a"),
-            JsonAst::Number(Number::UInt64(2)),
-            10
-        ),
-        (CowStr::Borrowed("b"), JsonAst::Number(Number::UInt64(1)), 4),
-    ]?);
+    let want = JsonAst::Object(vec![in alloc; member("a", 2, 10), member("b", 1, 4)]?);
     assert!(rt; read == want);
     let refused = JsonAst::parse(alloc, b"[", Mode::Standard);
     assert!(rt; refused == Err(Error::Syntax(ParseErrorCode::InvalidEOF, 1)));

@@ -39,7 +39,7 @@ returns-then-take_byte-clause-source c start from below opens after =
       below,
       value_any (mode_of p.mode) p.buf.now fs from (source_view (ast.Array v)) o.idx
           (empty_closed p s o from 93 after c.skip_blanks.ensures.advances c.skip_blanks.ensures.rest c.take_byte.ensures.advances c.if-take_byte.ensures.rest c.if-take_byte.ensures.inside
-              (IsValueAt (mode_of p.mode) p.buf.now from (source_view (ast.Array v))) (λ to blanks closes. empty_array_placed v c.new-items.ensures.items opens blanks closes)),
+          (IsValueAt (mode_of p.mode) p.buf.now from (source_view (ast.Array v))) (λ to blanks closes. empty_array_placed v c.new-items.ensures.items opens blanks closes)),
     )
 
 pub returns-clause-source : goal.returns-clause-source

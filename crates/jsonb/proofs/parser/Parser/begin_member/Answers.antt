@@ -1,5 +1,5 @@
 use Rattle.std.specs.Cow.{cow_str_bytes}
-use Rattle.std.proofs.Common.{◌≡◌, ℕ, List, arith, ap, ◌≤◌, ◌<◌, length, subst, sym}
+use Rattle.std.proofs.Common.{◌≡◌, ℕ, List, arith, ap, ◌<◌, length, subst}
 use Rattle.jsonb_value.specs.Tree.{Mark}
 use Rattle.jsonb_value.specs.View.{mark_view}
 use Rattle.jsonb.specs.OpenPlaces.{Skips}

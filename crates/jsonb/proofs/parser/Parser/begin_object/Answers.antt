@@ -54,7 +54,7 @@ returns-then-take_byte-clause-source c start from below opens after =
       below,
       value_any (mode_of p.mode) p.buf.now fs from (source_view (ast.Object v)) o.idx
           (empty_closed p s o from 125 after c.skip_blanks.ensures.advances c.skip_blanks.ensures.rest c.take_byte.ensures.advances c.if-take_byte.ensures.rest c.if-take_byte.ensures.inside
-              (IsValueAt (mode_of p.mode) p.buf.now from (source_view (ast.Object v))) (λ to blanks closes. empty_object_placed v c.new-members.ensures.items opens blanks closes)),
+          (IsValueAt (mode_of p.mode) p.buf.now from (source_view (ast.Object v))) (λ to blanks closes. empty_object_placed v c.new-members.ensures.items opens blanks closes)),
     )
 
 pub returns-clause-source : goal.returns-clause-source

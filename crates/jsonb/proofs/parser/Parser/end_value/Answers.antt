@@ -70,7 +70,7 @@ returns-then-take_byte-clause-source c start h =
     let comma = later s o (λ j i. HasByte i 44 s.idx) b (byte_has s o 44 b c.if-take_byte.ensures.rest inside.1 inside.0) in
     let below = later p q (λ j i. StackIsPlaced j i start front apart.0) (goes_on p o q on c.next_part.ensures.advances) apart.1 in
     if_ok c.next_part.result (λ next x.
-        subst (λ gs. AllIsPlaced (mode_of q.mode) q.buf.now start gs q.idx next) (sym (last-set fs n k last)) (part_pushed (mode_of q.mode) q.buf.now front k start apart.0 q.idx next below x))
+    subst (λ gs. AllIsPlaced (mode_of q.mode) q.buf.now start gs q.idx next) (sym (last-set fs n k last)) (part_pushed (mode_of q.mode) q.buf.now front k start apart.0 q.idx next below x))
     (c.next_part.ensures.source apart.0 s.idx (later p o (λ j i. FrameIsRead j i apart.0 c.add.new.self s.idx) on read) comma (next_index s o 44 b c.if-take_byte.ensures.rest inside.1 inside.0))
 
 pub returns-clause-source : goal.returns-clause-source
@@ -94,6 +94,6 @@ returns-clause-source c start h =
     let apart = frame_split m input front f start h.0 (subst (λ gs. StackIsPlaced m input start gs h.0) split h.1) in
     let value = last_value m input front f h.0 v p.idx (subst (λ gs. ValueIsRead m input gs h.0 v p.idx) split h.2) in
     c.close.ensures.source start (λ within.
-        let left : o.idx < length input = omega (arith, within, ap (λ r. length r.now) on.buf) in
-        let read = c.in_ok-add.ensures.source m input apart.0 h.0 p.idx o.idx apart.2 value skip left in
-        later p o (λ j i. StackIsRead j i start (set fs n g) o.idx) on (subst (λ gs. StackIsRead m input start gs o.idx) (sym (last-set fs n g last)) (last_added m input front g start apart.0 o.idx apart.1 read)))
+    let left : o.idx < length input = omega (arith, within, ap (λ r. length r.now) on.buf) in
+    let read = c.in_ok-add.ensures.source m input apart.0 h.0 p.idx o.idx apart.2 value skip left in
+    later p o (λ j i. StackIsRead j i start (set fs n g) o.idx) on (subst (λ gs. StackIsRead m input start gs o.idx) (sym (last-set fs n g last)) (last_added m input front g start apart.0 o.idx apart.1 read)))
