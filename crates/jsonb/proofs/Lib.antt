@@ -18,7 +18,6 @@ pub mod HexadecimalReading
 pub mod HexadecimalTexts
 pub mod HexadecimalValues
 pub mod Laid
-pub mod Located
 pub mod Longer
 pub mod Markers
 pub mod NearMarks
@@ -30,6 +29,7 @@ pub mod NumberScan
 pub mod Objects
 pub mod Outcomes
 pub mod Parts
+pub mod Placed
 pub mod ReadsHexadecimal
 pub mod ReadsWord
 pub mod Refusals

@@ -104,7 +104,7 @@ past-none mode bytes e = if-false (opens_comment mode bytes) [] bytes e
 pub skip-stop : (mode : Mode) (b : ℕ) (bytes : List ℕ) → is_blank_start b ≡ false → skip_blanks mode (b ∷ bytes) ≡ b ∷ bytes
 skip-stop mode b bytes e = ap (past_comment mode) (pass-stop mode b bytes e) ∙ past-none mode (b ∷ bytes) (opens-stop mode b bytes e)
 
-opens-nil : (mode : Mode) → opens_comment mode [] ≡ false
+pub opens-nil : (mode : Mode) → opens_comment mode [] ≡ false
 opens-nil standard = refl
 opens-nil extended = refl
 

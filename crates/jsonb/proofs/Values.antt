@@ -66,7 +66,7 @@ object_of : (o : Option Spot) (fs : List Found) (r : List ℕ) (t : Tree) (rest 
 object_of None fs r t rest e = (refl, same_read (object (put_all (map member_of fs) no_members)) t r rest e)
 object_of (Some s) fs r t rest e = absurd cc
 
-is_extended_if : (mode : Mode) (bytes : List ℕ) → is_left_out mode bytes ≡ true → mode ≡ extended
+pub is_extended_if : (mode : Mode) (bytes : List ℕ) → is_left_out mode bytes ≡ true → mode ≡ extended
 is_extended_if standard bytes e = absurd cc
 is_extended_if extended bytes e = refl
 
@@ -383,7 +383,7 @@ opens_is extended b rest e =
     ]
 
 -- a comment that ends a text is a line
-comment_ends : (mode : Mode) (size : ℕ) (bytes : List ℕ) (b : ℕ) (rest : List ℕ) (t u : Tree) → pass_blanks mode bytes ≡ b ∷ rest → opens_comment mode (b ∷ rest) ≡ true → comment_at size t rest ≡ Ok u → (mode ≡ extended) × AreLastBlanks mode bytes × (t ≡ u)
+pub comment_ends : (mode : Mode) (size : ℕ) (bytes : List ℕ) (b : ℕ) (rest : List ℕ) (t u : Tree) → pass_blanks mode bytes ≡ b ∷ rest → opens_comment mode (b ∷ rest) ≡ true → comment_at size t rest ≡ Ok u → (mode ≡ extended) × AreLastBlanks mode bytes × (t ≡ u)
 comment_ends mode size bytes b rest t u passed opens e =
     let is = opens_is mode b rest opens in
     elim (chosen (begins 47 rest) (Ok t) (fault invalid_eof size) (Ok u) e) [
@@ -401,7 +401,7 @@ comment_ends mode size bytes b rest t u passed opens e =
           | inr h ↦ absurd (true≢false (sym h.1))
         ]
 
-ended : (size : ℕ) (mode : Mode) (t : Tree) (bytes rest : List ℕ) (u : Tree) → pass_blanks mode bytes ≡ rest → at_end size mode t rest ≡ Ok u → AreLastBlanks mode bytes × (t ≡ u)
+pub ended : (size : ℕ) (mode : Mode) (t : Tree) (bytes rest : List ℕ) (u : Tree) → pass_blanks mode bytes ≡ rest → at_end size mode t rest ≡ Ok u → AreLastBlanks mode bytes × (t ≡ u)
 ended size mode t bytes [] u passed e = (ends_all mode bytes passed, same_ok t u e)
 ended size mode t bytes (b ∷ rest) u passed e =
     elim (chosen (opens_comment mode (b ∷ rest)) (comment_at size t rest) (fault unexpected_trailing_characters (size - length (b ∷ rest) + 1)) (Ok u) e) [

@@ -1,8 +1,8 @@
 pub mod AstView
 pub mod Decoding
-pub mod Located
-pub mod OpenSource
+pub mod OpenPlaces
 pub mod Parser
+pub mod Placed
 pub mod QuotedString
 pub mod Reading
 pub mod Refusals

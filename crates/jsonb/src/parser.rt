@@ -10,8 +10,8 @@ ghost use Rattle.jsonb_value.specs.Range.{IsInRange, IsIntegerRange};
 ghost use Rattle.jsonb_value.specs.Tree.{Tree};
 ghost use Rattle.jsonb_value.specs.View.{view};
 ghost use Rattle.jsonb.specs.AstView.{ast_view};
-ghost use Rattle.jsonb.specs.Located.{IsLocated};
 ghost use Rattle.jsonb.specs.Parser.{rest_of, size_of, mode_of, Advances, IsFault, IsTextRefusal, Gives, HoldsMarker};
+ghost use Rattle.jsonb.specs.Placed.{IsPlaced};
 ghost use Rattle.jsonb.specs.Reading.{begins, fault_at};
 ghost use Rattle.jsonb.specs.Reading.Blank.{pass_blanks};
 ghost use Rattle.jsonb.specs.Reading.Document.{at_end, comment_at, document_from, document_of};
@@ -72,8 +72,8 @@ impl<'a> JsonAst<'a> {
         // of a number and of a key.
         ensures explained { IfErr result (IsExplained (mode_of mode) buf.now) }
 
-        // Each object's keys rise, and each key's spelling ends at the member's index.
-        ensures source { IfOk result (λ v. IsLocated (mode_of mode) buf.now (source_view v)) }
+        // Each value stands in the text where it was read. Each object's keys rise, and each member's own key ends at its index.
+        ensures source { IfOk result (λ v. IsPlaced (mode_of mode) buf.now (source_view v)) }
     {
         let mut parser = Parser {
             alloc,
@@ -219,7 +219,7 @@ impl<'a> Parser<'a> {
         ensures reads { Gives ast_view result (document_from (size_of self.old) (mode_of self.old.mode)
             (pass_blanks (mode_of self.old.mode) (rest_of self.old))) }
         ensures memory { result ≡ Err Error.OutOfMemory → HoldsMarker self.old.buf.now }
-        ensures source { IfOk result (λ v. IsLocated (mode_of self.old.mode) self.old.buf.now (source_view v)) }
+        ensures source { self.old.idx ≡ 0 → IfOk result (λ v. IsPlaced (mode_of self.old.mode) self.old.buf.now (source_view v)) }
     {
         self.pass_blanks();
         if self.idx >= self.buf.len() {

@@ -1,18 +1,18 @@
 //! Arrays and objects, by a loop over those that are open.
-ghost use Rattle.std.specs.Prelude.{◌≡◌, ◌<◌, ◌≤◌, ◌⊎◌, length, MatchOption, OnOk, IfOk, MatchResult, Some, None, Err, false, map, ℕ, List, IsPermutation};
+ghost use Rattle.std.specs.Prelude.{◌≡◌, ◌+◌, ◌<◌, ◌≤◌, ◌⊎◌, length, MatchOption, OnOk, IfOk, MatchResult, Some, None, Err, false, map, ℕ, List, IsPermutation};
 ghost use Rattle.std.specs.Cow.{cow_str_bytes};
 ghost use Rattle.jsonb_value.specs.Grammar.{max_depth};
 ghost use Rattle.jsonb_value.specs.Mode.{Mode as Grammar};
 ghost use Rattle.jsonb_value.specs.Tree.{Tree};
 ghost use Rattle.jsonb_value.specs.View.{mark_view};
 ghost use Rattle.jsonb.specs.AstView.{ast_view, found_of};
-ghost use Rattle.jsonb.specs.Located.{IsLocated, KeyEndsAt, MembersAreLocated};
-ghost use Rattle.jsonb.specs.OpenSource.{AllIsLocated, FrameIsLocated, KeepsPlaces, LastHasNoKey, PartIsLocated, PartsAreLocated, ReadIsLocated, StackIsLocated};
+ghost use Rattle.jsonb.specs.OpenPlaces.{AllIsPlaced, FrameIsPlaced, FrameIsRead, KeepsPlaces, LeftOut, MemberBegins, OpensContainer, PartIsPlaced, PartIsRead, Skips, StackIsRead, placed_of};
 ghost use Rattle.jsonb.specs.Parser.{rest_of, size_of, mode_of, Advances, Gives, ReadsAs, HoldsMarker};
+ghost use Rattle.jsonb.specs.Placed.{AreMembersAt, HasByte, IsValueAt};
 ghost use Rattle.jsonb.specs.Reading.{begins};
 ghost use Rattle.jsonb.specs.Reading.Container.{is_left_out, first_repeat, spot_of, spot_cmp, object_or_fault, AreAscending};
 ghost use Rattle.jsonb.specs.Reading.Document.{value_at};
-ghost use Rattle.jsonb.specs.Source.{source_members_view, source_view};
+ghost use Rattle.jsonb.specs.Source.{source_view};
 ghost use Rattle.jsonb.specs.Stack.{elements_from, element_from, member_start, array_within, object_within, open_of, add_part, next_part_at, PartBegins, depth_in, resumed, rest_from, ahead, Continues};
 
 use super::{JsonAst, Mode, Parser};
@@ -50,7 +50,7 @@ impl<'a> Parser<'a> {
         requires { self.old.idx ≤ size_of self.old }
         ensures reads { ReadsAs ast_view (λ size mode. value_at size mode max_depth) result self.old self.new }
         ensures memory { result ≡ Err Error.OutOfMemory → HoldsMarker self.old.buf.now }
-        ensures source { IfOk result (λ v. IsLocated (mode_of self.old.mode) self.old.buf.now (source_view v)) }
+        ensures source { IfOk result (λ v. IsValueAt (mode_of self.old.mode) self.old.buf.now self.old.idx (source_view v) self.new.idx) }
         ensures advances { Advances self.old self.new }
     {
         let mut stack = Vec::new(self.alloc);
@@ -72,7 +72,7 @@ impl<'a> Parser<'a> {
         ensures memory { result ≡ Err Error.OutOfMemory → HoldsMarker self.old.buf.now }
         ensures opened { OnOk result (length stack.old.items < length stack.new.items → HoldsMarker self.old.buf.now) }
         ensures onward { IfOk result (λ read. MatchOption read (length (rest_of self.new) < length (rest_of self.old)) (λ _. Unit {0})) }
-        ensures source { KeepsPlaces self.old stack.old.items result self.new stack.new.items }
+        ensures source { KeepsPlaces self.old stack.old.items None result self.new stack.new.items }
         ensures depth { OnOk result (length stack.new.items ≤ max_depth) }
         ensures advances { Advances self.old self.new }
     {
@@ -91,7 +91,7 @@ impl<'a> Parser<'a> {
         requires inside { self.old.idx ≤ size_of self.old }
         ensures reads { Continues (resumed self.old stack.old.items (array_within (size_of self.old) (mode_of self.old.mode) (depth_in stack.old.items) (rest_of self.old)))
             result self.new stack.new.items }
-        ensures source { KeepsPlaces self.old stack.old.items result self.new stack.new.items }
+        ensures source { OpensContainer 91 self.old stack.old.items result self.new stack.new.items }
         ensures depth { OnOk result (length stack.new.items ≤ max_depth) }
         ensures advances { Advances self.old self.new }
     {
@@ -111,7 +111,8 @@ impl<'a> Parser<'a> {
     fn begin_element(&mut self) -> Option<JsonAst<'a>>
         ensures reads { (depth : ℕ) → (front : List Tree) → elements_from (size_of self.old) (mode_of self.old.mode) depth front (rest_of self.old)
             ≡ element_from (size_of self.old) (mode_of self.old.mode) depth front result (rest_of self.new) }
-        ensures source { (mode : Grammar) → (input : List ℕ) → ReadIsLocated mode input result }
+        ensures skips { Skips (mode_of self.old.mode) self.old.buf.now self.old.idx self.new.idx }
+        ensures source { LeftOut (mode_of self.old.mode) result }
         ensures advances { Advances self.old self.new }
     {
         self.skip_blanks();
@@ -138,7 +139,7 @@ impl<'a> Parser<'a> {
         requires inside { self.old.idx ≤ size_of self.old }
         ensures reads { Continues (resumed self.old stack.old.items (object_within (size_of self.old) (mode_of self.old.mode) (depth_in stack.old.items) (rest_of self.old)))
             result self.new stack.new.items }
-        ensures source { KeepsPlaces self.old stack.old.items result self.new stack.new.items }
+        ensures source { OpensContainer 123 self.old stack.old.items result self.new stack.new.items }
         ensures depth { OnOk result (length stack.new.items ≤ max_depth) }
         ensures advances { Advances self.old self.new }
     {
@@ -164,7 +165,7 @@ impl<'a> Parser<'a> {
     fn begin_member(&mut self) -> Result<(CowStr<'a>, usize)>
         requires { self.old.idx ≤ size_of self.old }
         ensures reads { Gives (λ k. (((mark_view k.0, cow_str_bytes k.0), k.1), rest_of self.new)) result (member_start (size_of self.old) (mode_of self.old.mode) (rest_of self.old)) }
-        ensures source { IfOk result (λ k. KeyEndsAt (mode_of self.new.mode) self.new.buf.now k.1 (mark_view k.0, cow_str_bytes k.0)) }
+        ensures source { IfOk result (λ k. MemberBegins (mode_of self.old.mode) self.old.buf.now self.old.idx (mark_view k.0, cow_str_bytes k.0) k.1 self.new.idx) }
         ensures advances { Advances self.old self.new }
     {
         self.skip_blanks();
@@ -189,8 +190,7 @@ impl<'a> Parser<'a> {
         requires inside { self.old.idx ≤ size_of self.old }
         ensures reads { Continues (ahead self.old stack.old.items (Some value.entry)) result self.new stack.new.items }
         ensures onward { OnOk result (length (rest_of self.new) < length (rest_of self.old)) }
-        ensures source { StackIsLocated (mode_of self.old.mode) self.old.buf.now stack.old.items → IsLocated (mode_of self.old.mode) self.old.buf.now (source_view value.entry)
-            → IfOk result (AllIsLocated (mode_of self.new.mode) self.new.buf.now stack.new.items) }
+        ensures source { KeepsPlaces self.old stack.old.items (Some value.entry) result self.new stack.new.items }
         ensures depth { OnOk result (length stack.new.items ≤ max_depth) }
         ensures advances { Advances self.old self.new }
     {
@@ -210,7 +210,8 @@ impl<'a> Parser<'a> {
         requires { self.old.idx ≤ size_of self.old }
         ensures reads { (depth : ℕ) → PartBegins (size_of self.old) (mode_of self.old.mode) depth (next_part_at (size_of self.old) (mode_of self.old.mode) depth (open_of frame.old) (rest_of self.old))
             result (open_of frame.new) (rest_of self.new) }
-        ensures source { PartsAreLocated (mode_of self.old.mode) self.old.buf.now frame.old → IfOk result (PartIsLocated (mode_of self.new.mode) self.new.buf.now frame.new) }
+        ensures source { (from comma : ℕ) → FrameIsRead (mode_of self.old.mode) self.old.buf.now from frame.old comma → HasByte self.old.buf.now 44 comma → self.old.idx ≡ comma + 1
+            → IfOk result (PartIsPlaced (mode_of self.new.mode) self.new.buf.now from frame.new self.new.idx) }
         ensures advances { Advances self.old self.new }
     {
         match frame {
@@ -231,7 +232,8 @@ impl<'a> Parser<'a> {
         requires other { begins 44 (rest_of self.old) ≡ false }
         ensures reads { Continues (rest_from self.old stack.old.items) result self.new stack.new.items }
         ensures onward { OnOk result (length (rest_of self.new) < length (rest_of self.old)) }
-        ensures source { LastHasNoKey (mode_of self.old.mode) self.old.buf.now stack.old.items → IfOk result (AllIsLocated (mode_of self.new.mode) self.new.buf.now stack.new.items) }
+        ensures source { (start : ℕ) → (self.old.idx < size_of self.old → StackIsRead (mode_of self.old.mode) self.old.buf.now start stack.old.items self.old.idx)
+            → IfOk result (AllIsPlaced (mode_of self.new.mode) self.new.buf.now start stack.new.items self.new.idx) }
         ensures depth { OnOk result (length stack.new.items < length stack.old.items) }
         ensures advances { Advances self.old self.new }
     {
@@ -257,8 +259,8 @@ impl<'a> Frame<'a> {
     // Puts in the value that the container waits for.
     fn add(&mut self, value: JsonAst<'a>) -> Result<()>
         ensures reads { MatchResult result (λ _. open_of self.new ≡ add_part (open_of self.old) (ast_view value.entry)) (λ e. e ≡ Error.OutOfMemory) }
-        ensures source { (mode : Grammar) → (input : List ℕ) → FrameIsLocated mode input self.old → IsLocated mode input (source_view value.entry)
-            → OnOk result (PartsAreLocated mode input self.new) }
+        ensures source { (mode : Grammar) → (input : List ℕ) → (from due end to : ℕ) → FrameIsPlaced mode input from self.old due → PartIsRead mode input self.old due (source_view value.entry) end
+            → Skips mode input end to → to < length input → OnOk result (FrameIsRead mode input from self.new to) }
     {
         match self {
             Frame::Array(items) => items.push(value)?,
@@ -292,8 +294,8 @@ fn sort_members(members: &mut Vec<Member>)
 fn object_of<'a>(alloc: Global, mut members: Vec<Member<'a>>) -> Result<JsonAst<'a>>
     ensures reads { (rest : List ℕ) → Gives (λ v. (ast_view v, rest)) result
         (object_or_fault (first_repeat (map spot_of (map found_of members.entry.items))) (map found_of members.entry.items) rest) }
-    ensures source { (mode : Grammar) → (input : List ℕ) → MembersAreLocated mode input (source_members_view members.entry.items)
-        → IfOk result (λ v. IsLocated mode input (source_view v)) }
+    ensures source { (mode : Grammar) → (input : List ℕ) → (from to : ℕ) → HasByte input 123 from → AreMembersAt mode input (from + 1) (map placed_of members.entry.items) to → HasByte input 125 to
+        → IfOk result (λ v. IsValueAt mode input from (source_view v) (to + 1)) }
 {
     sort_members(&mut members);
     for i in 1..members.len() {

@@ -1,11 +1,11 @@
 //! Values that hold no others, and keys.
-ghost use Rattle.std.specs.Prelude.{◌≡◌, ◌≢◌, ◌<◌, ◌≤◌, ◌∷◌, Contains, MatchBool, Err, IfOk, true, false};
+ghost use Rattle.std.specs.Prelude.{◌≡◌, ◌≢◌, ◌<◌, ◌≤◌, ◌∷◌, Contains, MatchBool, Err, IfOk, true};
 ghost use Rattle.std.specs.Cow.{cow_str_bytes};
 ghost use Rattle.jsonb_value.specs.Mode.{standard};
 ghost use Rattle.jsonb_value.specs.View.{mark_view, number_view};
 ghost use Rattle.jsonb.specs.AstView.{ast_view};
-ghost use Rattle.jsonb.specs.OpenSource.{holds_others};
 ghost use Rattle.jsonb.specs.Parser.{rest_of, size_of, mode_of, Advances, Gives, ReadsAs};
+ghost use Rattle.jsonb.specs.Placed.{source_alone};
 ghost use Rattle.jsonb.specs.Reading.Scalar.{begins_letter, begins_number, begins_single_quote, folded, letters_at, null_at, number_at, number_value_at, word_at, quoted_at, number_or_fault, scalar_at, other_scalar_at, words_at, key_at};
 ghost use Rattle.jsonb.specs.Source.{source_view};
 
@@ -30,7 +30,7 @@ impl<'a> Parser<'a> {
     pub(super) fn parse_scalar(&mut self) -> Result<JsonAst<'a>>
         requires { self.old.idx ≤ size_of self.old }
         ensures reads { ReadsAs ast_view scalar_at result self.old self.new }
-        ensures alone { IfOk result (λ v. holds_others (source_view v) ≡ false) }
+        ensures alone { IfOk result (λ v. source_view v ≡ source_alone (ast_view v)) }
         ensures memory { result ≡ Err Error.OutOfMemory → Contains self.old.buf.now 92 }
         ensures advances { Advances self.old self.new }
     {
@@ -48,7 +48,7 @@ impl<'a> Parser<'a> {
     fn parse_other_scalar(&mut self) -> Result<JsonAst<'a>>
         requires { self.old.idx ≤ size_of self.old }
         ensures reads { ReadsAs ast_view other_scalar_at result self.old self.new }
-        ensures alone { IfOk result (λ v. holds_others (source_view v) ≡ false) }
+        ensures alone { IfOk result (λ v. source_view v ≡ source_alone (ast_view v)) }
         ensures memory { result ≡ Err Error.OutOfMemory → Contains self.old.buf.now 92 }
         ensures advances { Advances self.old self.new }
     {
@@ -63,7 +63,7 @@ impl<'a> Parser<'a> {
     fn parse_word_or_number(&mut self) -> Result<JsonAst<'a>>
         requires { self.old.idx ≤ size_of self.old }
         ensures reads { ReadsAs ast_view words_at result self.old self.new }
-        ensures alone { IfOk result (λ v. holds_others (source_view v) ≡ false) }
+        ensures alone { IfOk result (λ v. source_view v ≡ source_alone (ast_view v)) }
         ensures memory { result ≡ Err Error.OutOfMemory → Contains self.old.buf.now 92 }
         ensures advances { Advances self.old self.new }
     {
@@ -99,7 +99,7 @@ impl<'a> Parser<'a> {
         requires inside { self.old.idx ≤ size_of self.old }
         ensures reads { Gives (λ v. (ast_view v, rest_of self.new)) result
             (quoted_at (size_of self.old) (mode_of self.old.mode) quote (rest_of self.old)) }
-        ensures alone { IfOk result (λ v. holds_others (source_view v) ≡ false) }
+        ensures alone { IfOk result (λ v. source_view v ≡ source_alone (ast_view v)) }
         ensures memory { result ≡ Err Error.OutOfMemory → Contains self.old.buf.now 92 }
         ensures advances { Advances self.old self.new }
     {
@@ -125,7 +125,7 @@ impl<'a> Parser<'a> {
         requires { self.old.idx ≤ size_of self.old }
         ensures reads { Gives (λ v. (ast_view v, rest_of self.new)) result
             (number_value_at (size_of self.old) standard (rest_of self.old)) }
-        ensures alone { IfOk result (λ v. holds_others (source_view v) ≡ false) }
+        ensures alone { IfOk result (λ v. source_view v ≡ source_alone (ast_view v)) }
         ensures memory { result ≡ Err Error.OutOfMemory → Contains self.old.buf.now 92 }
         ensures advances { Advances self.old self.new }
     {
@@ -154,7 +154,7 @@ impl<'a> Parser<'a> {
     fn parse_number_value(&mut self) -> Result<JsonAst<'a>>
         requires { self.old.idx ≤ size_of self.old }
         ensures reads { ReadsAs ast_view number_or_fault result self.old self.new }
-        ensures alone { IfOk result (λ v. holds_others (source_view v) ≡ false) }
+        ensures alone { IfOk result (λ v. source_view v ≡ source_alone (ast_view v)) }
         ensures memory { result ≡ Err Error.OutOfMemory → Contains self.old.buf.now 92 }
         ensures advances { Advances self.old self.new }
     {
@@ -185,7 +185,7 @@ impl<'a> Parser<'a> {
         requires { self.old.idx ≤ size_of self.old }
         ensures reads { Gives (λ v. (ast_view v, rest_of self.new)) result
             (null_at (size_of self.old) (mode_of self.old.mode) (rest_of self.old)) }
-        ensures alone { IfOk result (λ v. holds_others (source_view v) ≡ false) }
+        ensures alone { IfOk result (λ v. source_view v ≡ source_alone (ast_view v)) }
         ensures memory { result ≡ Err Error.OutOfMemory → Contains self.old.buf.now 92 }
         ensures advances { Advances self.old self.new }
     {

@@ -92,19 +92,31 @@ fn an_array_of_one_integer(rt: HostRuntime) -> Result<(), Fail> {
     Ok(())
 }
 
+// A member of an object, as it was written.
+fn member<'a>(key: &'a str, value: u64, index: usize) -> (CowStr<'a>, JsonAst<'a>, usize) {
+    let value = JsonAst::Number(Number::UInt64(value));
+    (CowStr::Borrowed(key), value, index)
+}
+
 #[test]
 fn members_are_sorted(rt: HostRuntime) -> Result<(), Fail> {
     let alloc = rt.alloc();
     for mode in BOTH {
         let tree = JsonAst::parse(alloc, br#"{"b":1,"a":2}"#, mode)?;
-        let want = JsonAst::Object(vec![in alloc;
-            (
-                CowStr::Borrowed("a"),
-                JsonAst::Number(Number::UInt64(2)),
-                10
-            ),
-            (CowStr::Borrowed("b"), JsonAst::Number(Number::UInt64(1)), 4),
-        ]?);
+        let want = JsonAst::Object(vec![in alloc; member("a", 2, 10), member("b", 1, 4)]?);
+        assert!(rt; tree == want);
+    }
+    Ok(())
+}
+
+#[test]
+fn each_member_has_its_own_index(rt: HostRuntime) -> Result<(), Fail> {
+    let alloc = rt.alloc();
+    for mode in BOTH {
+        let tree = JsonAst::parse(alloc, br#"[{"a":1},{"b":2,"a" :1}]"#, mode)?;
+        let first = JsonAst::Object(vec![in alloc; member("a", 1, 5)]?);
+        let second = JsonAst::Object(vec![in alloc; member("a", 1, 19), member("b", 2, 13)]?);
+        let want = JsonAst::Array(vec![in alloc; first, second]?);
         assert!(rt; tree == want);
     }
     Ok(())

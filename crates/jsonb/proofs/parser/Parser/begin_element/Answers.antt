@@ -7,8 +7,9 @@ use Rattle.jsonb.specs.Stack.{finish_open}
 use Rattle.jsonb.specs.Stack.Open.{elements_so_far}
 use Rattle.jsonb.proofs.Frames.{element-due, element-left_out}
 use Rattle.jsonb.proofs.Stacks.{same_left_out}
+use Rattle.jsonb.proofs.Values.{is_extended_if}
 use Rattle.jsonb.proofs.Views.{view-Null}
-use Rattle.jsonb.proofs.Located.{null_located}
+use Rattle.jsonb.proofs.Placed.{skip_made, source-Null}
 use Rattle.jsonb.proofs.parser.Parser.begin_element.Goals as goal
 
 pub returns-then-is_left_out-clause-reads : goal.returns-then-is_left_out-clause-reads
@@ -26,5 +27,13 @@ returns-else-is_left_out-clause-reads c depth front =
     element-due (size_of p) (mode_of p.mode) depth front (rest_of p) (same_left_out p q c.skip_blanks.ensures.rest c.skip_blanks.ensures.advances ∙ sym c.is_left_out.ensures ∙ c.if-is_left_out.false)
     ∙ ap (λ r. value_at (size_of p) (mode_of p.mode) depth r >>= finish_open (size_of p) (mode_of p.mode) depth (elements_so_far front)) (sym c.skip_blanks.ensures.rest)
 
+pub returns-then-is_left_out-clause-skips : goal.returns-then-is_left_out-clause-skips
+returns-then-is_left_out-clause-skips c = skip_made c.args.self.now c.skip_blanks.new.self c.skip_blanks.ensures.advances c.skip_blanks.ensures.rest
+
+pub returns-else-is_left_out-clause-skips : goal.returns-else-is_left_out-clause-skips
+returns-else-is_left_out-clause-skips c = skip_made c.args.self.now c.skip_blanks.new.self c.skip_blanks.ensures.advances c.skip_blanks.ensures.rest
+
 pub returns-then-is_left_out-clause-source : goal.returns-then-is_left_out-clause-source
-returns-then-is_left_out-clause-source c mode input = null_located mode input
+returns-then-is_left_out-clause-source c =
+    let q = c.skip_blanks.new.self in
+    (sym (ap mode_of c.skip_blanks.ensures.advances.mode) ∙ is_extended_if (mode_of q.mode) (rest_of q) (sym c.is_left_out.ensures ∙ c.if-is_left_out.true), source-Null)

@@ -1,4 +1,4 @@
-use Rattle.std.proofs.Common.{Result, OnOk, Err, inl, inr, ◌≡◌, ap, sym, ◌∙◌, None, Ok}
+use Rattle.std.proofs.Common.{Result, OnOk, Err, inl, inr, ◌≡◌, ◌<◌, ap, sym, ◌∙◌, subst, None, Some, Ok}
 use Rattle.std.proofs.lemmas.Result.{err_from_is_err_and}
 use Rattle.jsonb.specs.AstView.{ast_view}
 use Rattle.jsonb.specs.Parser.{mode_of, rest_of, size_of}
@@ -8,9 +8,10 @@ use Rattle.jsonb.specs.Stack.{ahead, depth_in, resume, resumed, stack_of}
 use Rattle.jsonb.proofs.Scans.{goes_on, contains_next}
 use Rattle.jsonb.proofs.Outcomes.{fails_same, fails_through}
 use Rattle.jsonb.proofs.Stacks.{array_begins, continues_from, object_begins, resumed_same, scalar_begins}
-use Rattle.jsonb.specs.OpenSource.{StackIsLocated}
+use Rattle.jsonb.specs.OpenPlaces.{AllIsPlaced, StackIsPlaced}
+use Rattle.jsonb.specs.Placed.{HasByte, IsValueAt}
 use Rattle.jsonb.specs.Source.{source_view}
-use Rattle.jsonb.proofs.Located.{alone_located, later}
+use Rattle.jsonb.proofs.Placed.{byte_has, earlier, later, next_index, scalar_has, value_any}
 use Rattle.jsonb.proofs.parser.Parser.begin_value.Goals as goal
 
 on_ok : {A E : Type 0} {P : Type 0} (r : Result A E) → P → OnOk r P
@@ -77,21 +78,40 @@ returns-then-take_byte-2-clause-opened c =
     on_ok c.begin_object.result (λ more. inr (inl there))
 
 pub returns-then-take_byte-clause-source : goal.returns-then-take_byte-clause-source
-returns-then-take_byte-clause-source c = λ h.
-    c.begin_array.ensures.source (later c.args.self.now c.take_byte.new.self (λ m i. StackIsLocated m i c.args.stack.now.items) c.take_byte.ensures.advances h)
+returns-then-take_byte-clause-source c start h =
+    let p = c.args.self.now in
+    let q = c.take_byte.new.self in
+    let fs = c.args.stack.now.items in
+    let a = c.take_byte.ensures.advances in
+    let there = byte_has p q 91 a c.if-take_byte.ensures.rest c.if-take_byte.ensures.inside.1 c.if-take_byte.ensures.inside.0 in
+    c.begin_array.ensures.source start p.idx (later p q (λ m i. StackIsPlaced m i start fs p.idx) a (subst (λ n. StackIsPlaced (mode_of p.mode) p.buf.now start fs n) h.2 h.1))
+    (later p q (λ m i. HasByte i 91 p.idx) a there) (next_index p q 91 a c.if-take_byte.ensures.rest c.if-take_byte.ensures.inside.1 c.if-take_byte.ensures.inside.0)
 
 pub returns-then-take_byte-2-clause-source : goal.returns-then-take_byte-2-clause-source
-returns-then-take_byte-2-clause-source c = λ h.
+returns-then-take_byte-2-clause-source c start h =
     let p = c.args.self.now in
+    let o = c.take_byte.new.self in
     let q = c.take_byte-2.new.self in
-    c.begin_object.ensures.source (later p q (λ m i. StackIsLocated m i c.args.stack.now.items) (goes_on p c.take_byte.new.self q c.take_byte.ensures.advances c.take_byte-2.ensures.advances) h)
+    let fs = c.args.stack.now.items in
+    let unmoved : o ≡ p = c.if-take_byte.ensures.rest in
+    let a = goes_on p o q c.take_byte.ensures.advances c.take_byte-2.ensures.advances in
+    let rest = ap (λ r. rest_of r) (sym unmoved) ∙ c.if-take_byte-2.ensures.rest in
+    let moved = subst (λ r. r.idx < q.idx) unmoved c.if-take_byte-2.ensures.inside.0 in
+    let there = byte_has p q 123 a rest c.if-take_byte-2.ensures.inside.1 moved in
+    c.begin_object.ensures.source start p.idx (later p q (λ m i. StackIsPlaced m i start fs p.idx) a (subst (λ n. StackIsPlaced (mode_of p.mode) p.buf.now start fs n) h.2 h.1))
+    (later p q (λ m i. HasByte i 123 p.idx) a there) (next_index p q 123 a rest c.if-take_byte-2.ensures.inside.1 moved)
 
 pub returns-clause-source : goal.returns-clause-source
-returns-clause-source c = λ h.
+returns-clause-source c start h =
     let p = c.args.self.now in
     let q = c.take_byte.new.self in
     let o = c.take_byte-2.new.self in
-    let m = c.parse_scalar.new.self in (
-      later p m (λ k i. StackIsLocated k i c.args.stack.now.items) (goes_on p q m c.take_byte.ensures.advances (goes_on q o m c.take_byte-2.ensures.advances c.parse_scalar.ensures.advances)) h,
-      alone_located (mode_of m.mode) m.buf.now (source_view c.in_ok-parse_scalar.field-0) c.in_ok-parse_scalar.ensures.alone,
-    )
+    let m = c.parse_scalar.new.self in
+    let fs = c.args.stack.now.items in
+    let v = c.in_ok-parse_scalar.field-0 in
+    let unmoved : o ≡ p = c.if-take_byte-2.ensures.rest ∙ c.if-take_byte.ensures.rest in
+    let to-o = goes_on p q o c.take_byte.ensures.advances c.take_byte-2.ensures.advances in
+    let a = c.parse_scalar.ensures.advances in
+    let here = earlier p o (λ k i. IsValueAt k i o.idx (source_view v) m.idx) to-o (scalar_has o m v a (to-o.inside c.requires.inside) c.in_ok-parse_scalar.ensures.reads c.in_ok-parse_scalar.ensures.alone) in
+    let value = subst (λ n. IsValueAt (mode_of p.mode) p.buf.now n (source_view v) m.idx) (ap (λ r. r.idx) unmoved ∙ sym h.2) here in
+    later p m (λ k i. AllIsPlaced k i start fs m.idx (Some v)) (goes_on p o m to-o a) (h.0, h.1, value_any (mode_of p.mode) p.buf.now fs h.0 (source_view v) m.idx value)

@@ -1,13 +1,15 @@
-use Rattle.jsonb.specs.Source.{source_members_view}
-use Rattle.jsonb.specs.Located.{MembersAreLocated}
-use Rattle.std.proofs.Common.{subst, sym}
+use Rattle.std.proofs.Common.{◌+◌, ℕ, List, None, map, refl, subst, sym}
 use Rattle.std.specs.Cow.{cow_str_bytes}
 use Rattle.jsonb_value.specs.View.{mark_view}
 use Rattle.std.proofs.lemmas.Result.{err_from_is_err_and}
 use Rattle.jsonb.specs.Parser.{rest_of, mode_of}
 use Rattle.jsonb.proofs.Stacks.{member_fails, member_next}
-use Rattle.jsonb.specs.OpenSource.{KeyIsLocated, PartsAreLocated}
-use Rattle.jsonb.proofs.Located.{later}
+use Rattle.jsonb_value.specs.Tree.{Mark}
+use Rattle.jsonb.specs.declared.parser.container.Frame.TheVariants as variants
+use Rattle.jsonb.specs.OpenPlaces.{ArrayIsOpen, FrameIsRead, MemberBegins, ObjectIsOpen, PartIsPlaced, Skips, placed_of}
+use Rattle.jsonb.specs.OpenPlaces.ArePartsBefore.{parts_and_comma}
+use Rattle.jsonb.specs.Source.{source_view}
+use Rattle.jsonb.proofs.Placed.{element_begun, later}
 use Rattle.jsonb.proofs.parser.Parser.next_part.Goals as goal
 
 pub returns-in_err-key-in-Object-clause-reads : goal.returns-in_err-key-in-Object-clause-reads
@@ -20,13 +22,40 @@ returns-in_ok-key-in-Object-clause-reads c depth =
     member_next c.args.self.now c.args.frame.now c.in-Object.object depth (mark_view c.in_ok-key-in-Object.key, cow_str_bytes c.in_ok-key-in-Object.key) c.in_ok-key-in-Object.after (rest_of c.begin_member.new.self) c.in-Object.is c.in_ok-key-in-Object.ensures.reads
 
 pub returns-in-Array-clause-source : goal.returns-in-Array-clause-source
-returns-in-Array-clause-source c = λ h.
+returns-in-Array-clause-source c from comma h b after =
     let p = c.args.self.now in
     let q = c.begin_element.new.self in
-    ((later p q (λ m i. PartsAreLocated m i c.args.frame.now) c.begin_element.ensures.advances h, subst (λ f. KeyIsLocated (mode_of q.mode) q.buf.now f) (sym c.in-Array.is) tt), c.begin_element.ensures.source (mode_of q.mode) q.buf.now)
+    let m = mode_of p.mode in
+    let input = p.buf.now in
+    let f = c.args.frame.now in
+    let v = c.in-Array.field-0 in
+    let read = c.begin_element.result in
+    let own = subst (λ g. FrameIsRead m input from g comma) c.in-Array.is h in
+    let opened : ArrayIsOpen m input from (map source_view v.items) q.idx = record {
+      next = comma + 1;
+      opens = own.0;
+      has_some = own.1;
+      elements = parts_and_comma own.2 b;
+      skips = subst (λ n. Skips m input n q.idx) after c.begin_element.ensures.skips;
+    } in
+    later p q (λ k i. PartIsPlaced k i from f q.idx read) c.begin_element.ensures.advances
+    (subst (λ g. PartIsPlaced m input from g q.idx read) (sym c.in-Array.is) (q.idx, opened, element_begun m input v q.idx read c.begin_element.ensures.source))
 
 pub returns-in_ok-key-in-Object-clause-source : goal.returns-in_ok-key-in-Object-clause-source
-returns-in_ok-key-in-Object-clause-source c = λ h.
+returns-in_ok-key-in-Object-clause-source c from comma h b after =
     let p = c.args.self.now in
     let q = c.begin_member.new.self in
-    ((later p q (λ m i. MembersAreLocated m i (source_members_view c.in-Object.object.members.items)) c.begin_member.ensures.advances (subst (λ f. PartsAreLocated (mode_of p.mode) p.buf.now f) c.in-Object.is h), c.in_ok-key-in-Object.ensures.source), tt)
+    let m = mode_of p.mode in
+    let input = p.buf.now in
+    let o = c.in-Object.object in
+    let index = c.in_ok-key-in-Object.after in
+    let key : Mark × List ℕ = (mark_view c.in_ok-key-in-Object.key, cow_str_bytes c.in_ok-key-in-Object.key) in
+    let g = variants.Object (record { members = o.members; key = c.in_ok-key-in-Object.key; after = index }) in
+    let own = subst (λ f. FrameIsRead m input from f comma) c.in-Object.is h in
+    let opened : ObjectIsOpen m input from (map placed_of o.members.items) key index q.idx = record {
+      next = comma + 1;
+      opens = own.0;
+      members = parts_and_comma own.1 b;
+      member = subst (λ n. MemberBegins m input n key index q.idx) after c.in_ok-key-in-Object.ensures.source;
+    } in
+    later p q (λ k i. PartIsPlaced k i from g q.idx None) c.begin_member.ensures.advances (q.idx, opened, refl)

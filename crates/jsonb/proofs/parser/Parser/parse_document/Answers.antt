@@ -9,9 +9,8 @@ use Rattle.jsonb.specs.Reading.Blank.{pass_blanks}
 use Rattle.jsonb.specs.Reading.Document.{at_end, document_from, value_at}
 use Rattle.jsonb.proofs.Outcomes.{fails_same, fails_through}
 use Rattle.jsonb.proofs.Whole.{document_comment, document_some, ended, ended_same}
-use Rattle.jsonb.specs.Located.{IsLocated}
 use Rattle.jsonb.specs.Source.{source_view}
-use Rattle.jsonb.proofs.Located.{earlier}
+use Rattle.jsonb.proofs.Placed.{blanks_placed, comment_placed, value_placed}
 use Rattle.jsonb.proofs.parser.Parser.parse_document.Goals as goal
 
 pub returns-in_err-end_in_comment-clause-reads : goal.returns-in_err-end_in_comment-clause-reads
@@ -55,5 +54,22 @@ returns-clause-reads c =
     document_some p q c.pass_blanks.ensures.rest c.pass_blanks.ensures.advances c.if-self.false (sym c.opens_comment.ensures.value ∙ c.if-opens_comment.false)
     ∙ ap (λ r. r >>= ended (size_of q) (mode_of q.mode)) c.in_ok-value.ensures.reads ∙ ended_same q m t c.in_ok-value.ensures.advances ∙ c.in_ok-end_document.ensures.reads t
 
+pub returns-in-Extended-clause-source : goal.returns-in-Extended-clause-source
+returns-in-Extended-clause-source c start =
+    let p = c.args.self.now in
+    let q = c.pass_blanks.new.self in
+    blanks_placed p q start c.pass_blanks.ensures.rest c.if-self.true (ap mode_of (sym c.pass_blanks.ensures.advances.mode ∙ c.in-Extended.is))
+
+pub returns-then-opens_comment-clause-source : goal.returns-then-opens_comment-clause-source
+returns-then-opens_comment-clause-source c start =
+    let p = c.args.self.now in
+    let q = c.pass_blanks.new.self in
+    comment_placed p q start c.pass_blanks.ensures.advances c.pass_blanks.ensures.rest (sym c.opens_comment.ensures.value ∙ c.if-opens_comment.true) (c.in_ok-end_in_comment.ensures.reads null)
+
 pub returns-clause-source : goal.returns-clause-source
-returns-clause-source c = earlier c.args.self.now c.pass_blanks.new.self (λ m i. IsLocated m i (source_view c.in_ok-value.value)) c.pass_blanks.ensures.advances c.in_ok-value.ensures.source
+returns-clause-source c start =
+    let p = c.args.self.now in
+    let q = c.pass_blanks.new.self in
+    let m = c.parse_value.new.self in
+    let v = c.in_ok-value.value in
+    value_placed p q m (ast_view v) (ast_view v) (source_view v) start c.requires c.pass_blanks.ensures.advances c.pass_blanks.ensures.rest c.in_ok-value.ensures.advances c.in_ok-value.ensures.source (c.in_ok-end_document.ensures.reads (ast_view v))

@@ -1,7 +1,7 @@
 use Rattle.std.proofs.Common.{◌≡◌, ◌+◌, ◌*◌, ◌≤◌, ◌<◌, ℕ, length, Option, Some, None}
 use Rattle.jsonb.specs.declared.parser.ast.JsonAst.{JsonAst}
 use Rattle.jsonb_value.specs.Grammar.{max_depth}
-use Rattle.jsonb.specs.OpenSource.{AllIsLocated}
+use Rattle.jsonb.specs.OpenPlaces.{AllIsPlaced}
 use Rattle.jsonb.specs.Parser.{Advances, HoldsMarker, mode_of, rest_of, size_of}
 use Rattle.jsonb.specs.Reading.Document.{value_at}
 use Rattle.jsonb.specs.Stack.{ahead}
@@ -18,7 +18,7 @@ invariant-turns l =
     × (length l.stack.items ≤ max_depth)
     × Advances p l.self
     × (0 < length l.stack.items → HoldsMarker p.buf.now)
-    × AllIsLocated (mode_of l.self.mode) l.self.buf.now l.stack.items l.read
+    × AllIsPlaced (mode_of l.self.mode) l.self.buf.now p.idx l.stack.items l.self.idx l.read
 
 abbrev pub decreases-turns : goal.decreases-turns
 decreases-turns l = 2 * length (rest_of l.self) + due l.read

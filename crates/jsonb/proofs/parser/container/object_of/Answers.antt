@@ -2,7 +2,7 @@ use Rattle.std.proofs.Common.{◌≡◌, ◌+◌, ◌-◌, ◌<◌, List, ℕ, l
 use Rattle.jsonb_value.specs.Code.Code.{object_duplicate_key}
 use Rattle.jsonb.specs.AstView.{found_of}
 use Rattle.jsonb.specs.Reading.Container.{Spot, adjacent_repeat, spot_of}
-use Rattle.jsonb.proofs.Located.{object_located}
+use Rattle.jsonb.proofs.Placed.{object_placed}
 use Rattle.jsonb.proofs.Objects.{Parsed, no_more_left, not_repeated, repeated, spots}
 use Rattle.jsonb.proofs.Shuffles.{agree_if, differ_if, neighbours_agree, neighbours_differ}
 use Rattle.jsonb.proofs.Views.{fuse}
@@ -42,7 +42,7 @@ returns-clause-reads c rest =
     (c.loop-i.invariant ∙ no_more_left v.items c.loop-i.i (omega arith) (omega arith))
 
 pub returns-clause-source : goal.returns-clause-source
-returns-clause-source c mode input h =
+returns-clause-source c mode input from to opens members closes =
     let v = c.sort_members.new.members in
-    object_located mode input c.args.members.items v c.sort_members.ensures.permutation c.sort_members.ensures.ascending
-    (c.loop-i.invariant ∙ no_more_left v.items c.loop-i.i (omega arith) (omega arith)) h
+    object_placed mode input from to c.args.members.items v c.sort_members.ensures.permutation c.sort_members.ensures.ascending
+    (c.loop-i.invariant ∙ no_more_left v.items c.loop-i.i (omega arith) (omega arith)) opens members closes

@@ -1,3 +1,4 @@
+use Rattle.std.proofs.Common.{refl}
 use Rattle.jsonb.specs.AstView.{ast_view}
 use Rattle.jsonb.specs.Parser.{mode_of}
 use Rattle.jsonb.specs.Reading.Document.{document_of}
@@ -22,3 +23,6 @@ returns-clause-explained c = gives_explained (mode_of c.args.mode) c.args.buf.no
 
 pub returns-clause-errors : goal.returns-clause-errors
 returns-clause-errors c = gives_errors ast_view c.parse_document.result (document_of (mode_of c.args.mode) c.args.buf.now) (returns-clause-exact c)
+
+pub returns-clause-source : goal.returns-clause-source
+returns-clause-source c = c.parse_document.ensures.source refl
