@@ -72,7 +72,8 @@ impl<'a> JsonAst<'a> {
         // of a number and of a key.
         ensures explained { IfErr result (IsExplained (mode_of mode) buf.now) }
 
-        // Each value stands in the text where it was read. Each object's keys rise, and each member's own key ends at its index.
+        // Each value stands in the text where it was read. Each object's keys rise, and each member's own key ends at its
+        // index.
         ensures source { IfOk result (λ v. IsPlaced (mode_of mode) buf.now (source_view v)) }
     {
         let mut parser = Parser {
@@ -219,7 +220,8 @@ impl<'a> Parser<'a> {
         ensures reads { Gives ast_view result (document_from (size_of self.old) (mode_of self.old.mode)
             (pass_blanks (mode_of self.old.mode) (rest_of self.old))) }
         ensures memory { result ≡ Err Error.OutOfMemory → HoldsMarker self.old.buf.now }
-        ensures source { self.old.idx ≡ 0 → IfOk result (λ v. IsPlaced (mode_of self.old.mode) self.old.buf.now (source_view v)) }
+        ensures source { self.old.idx ≡ 0 → IfOk result (λ v. IsPlaced (mode_of self.old.mode) self.old.buf.now
+            (source_view v)) }
     {
         self.pass_blanks();
         if self.idx >= self.buf.len() {

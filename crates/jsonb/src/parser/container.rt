@@ -50,7 +50,8 @@ impl<'a> Parser<'a> {
         requires { self.old.idx ≤ size_of self.old }
         ensures reads { ReadsAs ast_view (λ size mode. value_at size mode max_depth) result self.old self.new }
         ensures memory { result ≡ Err Error.OutOfMemory → HoldsMarker self.old.buf.now }
-        ensures source { IfOk result (λ v. IsValueAt (mode_of self.old.mode) self.old.buf.now self.old.idx (source_view v) self.new.idx) }
+        ensures source { IfOk result (λ v. IsValueAt (mode_of self.old.mode) self.old.buf.now self.old.idx
+            (source_view v) self.new.idx) }
         ensures advances { Advances self.old self.new }
     {
         let mut stack = Vec::new(self.alloc);
@@ -71,7 +72,8 @@ impl<'a> Parser<'a> {
         ensures reads { Continues (ahead self.old stack.old.items None) result self.new stack.new.items }
         ensures memory { result ≡ Err Error.OutOfMemory → HoldsMarker self.old.buf.now }
         ensures opened { OnOk result (length stack.old.items < length stack.new.items → HoldsMarker self.old.buf.now) }
-        ensures onward { IfOk result (λ read. MatchOption read (length (rest_of self.new) < length (rest_of self.old)) (λ _. Unit {0})) }
+        ensures onward { IfOk result (λ read. MatchOption read
+            (length (rest_of self.new) < length (rest_of self.old)) (λ _. Unit {0})) }
         ensures source { KeepsPlaces self.old stack.old.items None result self.new stack.new.items }
         ensures depth { OnOk result (length stack.new.items ≤ max_depth) }
         ensures advances { Advances self.old self.new }
@@ -89,7 +91,8 @@ impl<'a> Parser<'a> {
     fn begin_array(&mut self, stack: &mut Vec<Frame<'a>>) -> Result<Option<JsonAst<'a>>>
         requires depth { length stack.old.items ≤ max_depth }
         requires inside { self.old.idx ≤ size_of self.old }
-        ensures reads { Continues (resumed self.old stack.old.items (array_within (size_of self.old) (mode_of self.old.mode) (depth_in stack.old.items) (rest_of self.old)))
+        ensures reads { Continues (resumed self.old stack.old.items
+            (array_within (size_of self.old) (mode_of self.old.mode) (depth_in stack.old.items) (rest_of self.old)))
             result self.new stack.new.items }
         ensures source { OpensContainer 91 self.old stack.old.items result self.new stack.new.items }
         ensures depth { OnOk result (length stack.new.items ≤ max_depth) }
@@ -109,7 +112,8 @@ impl<'a> Parser<'a> {
 
     // An element that is left out, or nothing where a value is due.
     fn begin_element(&mut self) -> Option<JsonAst<'a>>
-        ensures reads { (depth : ℕ) → (front : List Tree) → elements_from (size_of self.old) (mode_of self.old.mode) depth front (rest_of self.old)
+        ensures reads { (depth : ℕ) → (front : List Tree) → elements_from (size_of self.old)
+            (mode_of self.old.mode) depth front (rest_of self.old)
             ≡ element_from (size_of self.old) (mode_of self.old.mode) depth front result (rest_of self.new) }
         ensures skips { Skips (mode_of self.old.mode) self.old.buf.now self.old.idx self.new.idx }
         ensures source { LeftOut (mode_of self.old.mode) result }
@@ -137,7 +141,8 @@ impl<'a> Parser<'a> {
     fn begin_object(&mut self, stack: &mut Vec<Frame<'a>>) -> Result<Option<JsonAst<'a>>>
         requires depth { length stack.old.items ≤ max_depth }
         requires inside { self.old.idx ≤ size_of self.old }
-        ensures reads { Continues (resumed self.old stack.old.items (object_within (size_of self.old) (mode_of self.old.mode) (depth_in stack.old.items) (rest_of self.old)))
+        ensures reads { Continues (resumed self.old stack.old.items
+            (object_within (size_of self.old) (mode_of self.old.mode) (depth_in stack.old.items) (rest_of self.old)))
             result self.new stack.new.items }
         ensures source { OpensContainer 123 self.old stack.old.items result self.new stack.new.items }
         ensures depth { OnOk result (length stack.new.items ≤ max_depth) }
@@ -164,8 +169,10 @@ impl<'a> Parser<'a> {
     #[inline(always)]
     fn begin_member(&mut self) -> Result<(CowStr<'a>, usize)>
         requires { self.old.idx ≤ size_of self.old }
-        ensures reads { Gives (λ k. (((mark_view k.0, cow_str_bytes k.0), k.1), rest_of self.new)) result (member_start (size_of self.old) (mode_of self.old.mode) (rest_of self.old)) }
-        ensures source { IfOk result (λ k. MemberBegins (mode_of self.old.mode) self.old.buf.now self.old.idx (mark_view k.0, cow_str_bytes k.0) k.1 self.new.idx) }
+        ensures reads { Gives (λ k. (((mark_view k.0, cow_str_bytes k.0), k.1), rest_of self.new)) result
+            (member_start (size_of self.old) (mode_of self.old.mode) (rest_of self.old)) }
+        ensures source { IfOk result (λ k. MemberBegins (mode_of self.old.mode) self.old.buf.now self.old.idx
+            (mark_view k.0, cow_str_bytes k.0) k.1 self.new.idx) }
         ensures advances { Advances self.old self.new }
     {
         self.skip_blanks();
@@ -208,9 +215,11 @@ impl<'a> Parser<'a> {
     // Goes on to the next part of a container, from the byte after the comma on.
     fn next_part(&mut self, frame: &mut Frame<'a>) -> Result<Option<JsonAst<'a>>>
         requires { self.old.idx ≤ size_of self.old }
-        ensures reads { (depth : ℕ) → PartBegins (size_of self.old) (mode_of self.old.mode) depth (next_part_at (size_of self.old) (mode_of self.old.mode) depth (open_of frame.old) (rest_of self.old))
+        ensures reads { (depth : ℕ) → PartBegins (size_of self.old) (mode_of self.old.mode) depth
+            (next_part_at (size_of self.old) (mode_of self.old.mode) depth (open_of frame.old) (rest_of self.old))
             result (open_of frame.new) (rest_of self.new) }
-        ensures source { (from comma : ℕ) → FrameIsRead (mode_of self.old.mode) self.old.buf.now from frame.old comma → HasByte self.old.buf.now 44 comma → self.old.idx ≡ comma + 1
+        ensures source { (from comma : ℕ) → FrameIsRead (mode_of self.old.mode) self.old.buf.now from frame.old comma
+            → HasByte self.old.buf.now 44 comma → self.old.idx ≡ comma + 1
             → IfOk result (PartIsPlaced (mode_of self.new.mode) self.new.buf.now from frame.new self.new.idx) }
         ensures advances { Advances self.old self.new }
     {
@@ -232,7 +241,8 @@ impl<'a> Parser<'a> {
         requires other { begins 44 (rest_of self.old) ≡ false }
         ensures reads { Continues (rest_from self.old stack.old.items) result self.new stack.new.items }
         ensures onward { OnOk result (length (rest_of self.new) < length (rest_of self.old)) }
-        ensures source { (start : ℕ) → (self.old.idx < size_of self.old → StackIsRead (mode_of self.old.mode) self.old.buf.now start stack.old.items self.old.idx)
+        ensures source { (start : ℕ) → (self.old.idx < size_of self.old
+            → StackIsRead (mode_of self.old.mode) self.old.buf.now start stack.old.items self.old.idx)
             → IfOk result (AllIsPlaced (mode_of self.new.mode) self.new.buf.now start stack.new.items self.new.idx) }
         ensures depth { OnOk result (length stack.new.items < length stack.old.items) }
         ensures advances { Advances self.old self.new }
@@ -258,8 +268,11 @@ impl<'a> Parser<'a> {
 impl<'a> Frame<'a> {
     // Puts in the value that the container waits for.
     fn add(&mut self, value: JsonAst<'a>) -> Result<()>
-        ensures reads { MatchResult result (λ _. open_of self.new ≡ add_part (open_of self.old) (ast_view value.entry)) (λ e. e ≡ Error.OutOfMemory) }
-        ensures source { (mode : Grammar) → (input : List ℕ) → (from due end to : ℕ) → FrameIsPlaced mode input from self.old due → PartIsRead mode input self.old due (source_view value.entry) end
+        ensures reads { MatchResult result (λ _. open_of self.new ≡ add_part (open_of self.old)
+            (ast_view value.entry)) (λ e. e ≡ Error.OutOfMemory) }
+        ensures source { (mode : Grammar) → (input : List ℕ) → (from due end to : ℕ)
+            → FrameIsPlaced mode input from self.old due → PartIsRead mode input self.old due
+            (source_view value.entry) end
             → Skips mode input end to → to < length input → OnOk result (FrameIsRead mode input from self.new to) }
     {
         match self {
@@ -293,8 +306,10 @@ fn sort_members(members: &mut Vec<Member>)
 // The object of the members, in the order of their keys, where no two have one key.
 fn object_of<'a>(alloc: Global, mut members: Vec<Member<'a>>) -> Result<JsonAst<'a>>
     ensures reads { (rest : List ℕ) → Gives (λ v. (ast_view v, rest)) result
-        (object_or_fault (first_repeat (map spot_of (map found_of members.entry.items))) (map found_of members.entry.items) rest) }
-    ensures source { (mode : Grammar) → (input : List ℕ) → (from to : ℕ) → HasByte input 123 from → AreMembersAt mode input (from + 1) (map placed_of members.entry.items) to → HasByte input 125 to
+        (object_or_fault (first_repeat (map spot_of (map found_of members.entry.items)))
+        (map found_of members.entry.items) rest) }
+    ensures source { (mode : Grammar) → (input : List ℕ) → (from to : ℕ) → HasByte input 123 from
+        → AreMembersAt mode input (from + 1) (map placed_of members.entry.items) to → HasByte input 125 to
         → IfOk result (λ v. IsValueAt mode input from (source_view v) (to + 1)) }
 {
     sort_members(&mut members);
