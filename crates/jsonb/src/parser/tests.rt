@@ -4,6 +4,8 @@ mod by_hand;
 mod comments;
 mod containers;
 mod extended;
+mod first_faults;
+mod long;
 mod numbers;
 mod standard;
 mod strings;

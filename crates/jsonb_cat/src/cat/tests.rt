@@ -21,6 +21,25 @@ impl Read for Failing<'_> {
     }
 }
 
+// Gives these bytes one by one, and then their end.
+#[derive(Drop)]
+struct Slow<'a> {
+    bytes: &'a [u8],
+}
+
+impl Read for Slow<'_> {
+    fn read(&mut self, buf: &mut [u8]) -> io::Result<usize> {
+        match self.bytes.split_first() {
+            Some((byte, rest)) if !buf.is_empty() => {
+                buf[0] = *byte;
+                self.bytes = rest;
+                Ok(1)
+            }
+            _ => Ok(0),
+        }
+    }
+}
+
 // Gives one blank at each read, with no end, and notes how often it is read and into how few bytes.
 #[derive(Drop)]
 struct Endless {
@@ -78,6 +97,23 @@ impl Write for Full {
     }
 }
 
+// Takes all bytes, and fails to pass them on.
+#[derive(Drop)]
+struct Unflushed {
+    written: usize,
+}
+
+impl Write for Unflushed {
+    fn write(&mut self, buf: &[u8]) -> io::Result<usize> {
+        self.written = self.written.saturating_add(buf.len());
+        Ok(buf.len())
+    }
+
+    fn flush(&mut self) -> io::Result<()> {
+        Err(io::Error::from(io::ErrorKind::BrokenPipe))
+    }
+}
+
 // The words of a line.
 fn words_of(alloc: Global, line: &str) -> Result<Vec<String>> {
     let mut all = Vec::new(alloc);
@@ -123,11 +159,24 @@ fn wrong_words_give_the_usage_line_before_reading(
 
 #[test]
 fn a_reader_that_fails_refuses(rt: HostRuntime) -> std::result::Result<(), Fail> {
-    for bytes in ["", "n", "nu", "nul", "null"] {
-        let mut input = Failing {
-            bytes: bytes.as_bytes(),
+    for bytes in ["", "[", "[1", "[1]"] {
+        for words in ["", "--standard"] {
+            let mut input = Failing {
+                bytes: bytes.as_bytes(),
+            };
+            expect_run(&rt, words, &mut input, 1, "", "InvalidUtf8\n")?;
+        }
+    }
+    Ok(())
+}
+
+#[test]
+fn a_reader_may_give_a_byte_at_each_read(rt: HostRuntime) -> std::result::Result<(), Fail> {
+    for words in ["", "--standard"] {
+        let mut input = Slow {
+            bytes: b"[1,{\"a\":\"\\n\"}]",
         };
-        expect_run(&rt, "--standard", &mut input, 1, "", "InvalidUtf8\n")?;
+        expect_run(&rt, words, &mut input, 0, "[1,{\"a\":\"\\n\"}]\n", "")?;
     }
     Ok(())
 }
@@ -280,19 +329,34 @@ fn what_stands_in_the_output_stays(rt: HostRuntime) -> std::result::Result<(), F
 
 #[test]
 fn a_writer_that_fails_ends_the_run(rt: HostRuntime) -> std::result::Result<(), Fail> {
-    let words = words_of(rt.alloc(), "--standard")?;
-    for left in 0..6 {
-        let mut err = Vec::new(rt.alloc());
-        let mut out = Full { left };
-        let got = run(
-            rt.alloc(),
-            &words,
-            &mut b"null".as_slice(),
-            &mut out,
-            &mut err,
-        );
-        assert_eq!(rt; got, if left < 5 { 1 } else { 0 }, "with room for {left}");
-        assert!(rt; err.is_empty());
+    for word in ["", "--standard"] {
+        let words = words_of(rt.alloc(), word)?;
+        for left in 0..6 {
+            let mut err = Vec::new(rt.alloc());
+            let mut out = Full { left };
+            let mut input = b"[1]".as_slice();
+            let got = run(rt.alloc(), &words, &mut input, &mut out, &mut err);
+            assert_eq!(rt; got, if left < 4 { 1 } else { 0 }, "with room for {left}");
+            assert!(rt; err.is_empty());
+        }
     }
+    Ok(())
+}
+
+#[test]
+fn a_writer_that_can_not_be_flushed_ends_the_run(rt: HostRuntime) -> std::result::Result<(), Fail> {
+    let words = words_of(rt.alloc(), "--standard")?;
+    let mut err = Vec::new(rt.alloc());
+    let mut out = Unflushed { written: 0 };
+    let got = run(
+        rt.alloc(),
+        &words,
+        &mut b"[1]".as_slice(),
+        &mut out,
+        &mut err,
+    );
+    assert_eq!(rt; got, 1);
+    assert_eq!(rt; out.written, 4);
+    assert!(rt; err.is_empty());
     Ok(())
 }

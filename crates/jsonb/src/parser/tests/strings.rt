@@ -177,3 +177,70 @@ fn ends_of_strings_are_found_at_each_length(rt: HostRuntime) -> Result<(), Fail>
     }
     Ok(())
 }
+
+// The search for a string's end byte by byte, from the byte after the opening quote on: the index of the closing quote,
+// or the index at which the search stands where there is none. A backslash takes the byte after it; after `\u` six bytes
+// from a brace on are passed, or else four.
+fn end_byte_by_byte(bytes: &[u8], quote: u8) -> std::result::Result<usize, usize> {
+    let mut passed = 0usize;
+    for (index, byte) in bytes.iter().enumerate() {
+        if passed > 0 {
+            passed -= 1;
+            continue;
+        }
+        if *byte == quote {
+            return Ok(index);
+        }
+        if *byte == b'\\' {
+            passed = match bytes.split_at(index).1 {
+                [_, b'u', b'{', ..] => 7,
+                [_, b'u', _, ..] => 5,
+                [_, _, ..] => 1,
+                _ => 0,
+            };
+        }
+    }
+    Err(bytes.len().saturating_add(passed))
+}
+
+// The string ends where the search byte by byte ends it: a byte after the closing quote is left over, and without one the
+// text ends where the search stands.
+fn expect_end(
+    rt: &(impl AllocGlobal + Abort),
+    mode: Mode,
+    quote: u8,
+    input: &[u8],
+) -> Result<(), Fail> {
+    let got = JsonAst::parse(rt.alloc(), input, mode);
+    let want = match end_byte_by_byte(input.split_at(1.min(input.len())).1, quote) {
+        Ok(end) => Error::Syntax(
+            ParseErrorCode::UnexpectedTrailingCharacters,
+            end.saturating_add(3),
+        ),
+        Err(at) => Error::Syntax(ParseErrorCode::InvalidEOF, at.saturating_add(1)),
+    };
+    assert!(rt; got == Err(want), "of {input:?}");
+    Ok(())
+}
+
+#[test]
+fn ends_of_strings_are_those_of_a_search_byte_by_byte(rt: HostRuntime) -> Result<(), Fail> {
+    for (mode, quote) in [
+        (Mode::Standard, b'"'),
+        (Mode::Extended, b'"'),
+        (Mode::Extended, b'\''),
+    ] {
+        for escape in ["", r"\n", r#"\""#, r"\\", r"\u0041", r"\u{0041}"] {
+            for length in 0..=70usize {
+                for before in 0..=length {
+                    let after = length.saturating_sub(before);
+                    let mut input = opened(rt.alloc(), quote, before, escape, after)?;
+                    expect_end(&rt, mode, quote, &input)?;
+                    input.extend_from_slice(&[quote, b'x'])?;
+                    expect_end(&rt, mode, quote, &input)?;
+                }
+            }
+        }
+    }
+    Ok(())
+}
