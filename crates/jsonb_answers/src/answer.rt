@@ -1,0 +1,104 @@
+//! The answer to one line. A line is a mode, `s` for standard or `e` for extended, and one or two texts in hexadecimal
+//! with one blank before each. (An empty text leaves its blank.)
+//!
+//! | line | answer |
+//! |---|---|
+//! | a text that is read | `ok`, its tree, its written text in hexadecimal, and `same` where the ways to the value agree and its text reads back; else `differs` |
+//! | a text that is refused | `no` and the refusal's printed text in hexadecimal |
+//! | two texts that are read | `less`, `equal` or `greater` |
+//! | any other line | `unknown` |
+
+use crate::tree;
+use jsonb::{Error, JsonAst, Mode, Value};
+use std::alloc::{AllocError, Global};
+use std::cmp::Ordering;
+
+/// The answer, without a line feed.
+pub fn answer(alloc: Global, line: &str) -> Result<String, AllocError> {
+    let Some((mode, texts)) = line.split_once(' ') else {
+        return String::from_str(alloc, "unknown");
+    };
+    let mode = match mode {
+        "s" => Mode::Standard,
+        "e" => Mode::Extended,
+        _ => return String::from_str(alloc, "unknown"),
+    };
+    match texts.split_once(' ') {
+        None => one_text(alloc, mode, texts),
+        Some((left, right)) => two_texts(alloc, mode, left, right),
+    }
+}
+
+fn one_text(alloc: Global, mode: Mode, text: &str) -> Result<String, AllocError> {
+    let Ok(text) = hex::decode(alloc, text) else {
+        return String::from_str(alloc, "unknown");
+    };
+    match described(alloc, mode, &text) {
+        Ok(answer) => Ok(answer),
+        Err(e) => {
+            let printed = format!(in alloc; "{e}")?;
+            let printed = hex::encode(alloc, printed.as_bytes())?;
+            format!(in alloc; "no {printed}")
+        }
+    }
+}
+
+fn two_texts(alloc: Global, mode: Mode, left: &str, right: &str) -> Result<String, AllocError> {
+    let (Ok(left), Ok(right)) = (hex::decode(alloc, left), hex::decode(alloc, right)) else {
+        return String::from_str(alloc, "unknown");
+    };
+    let word = match order(alloc, mode, &left, &right) {
+        Ok(Ordering::Less) => "less",
+        Ok(Ordering::Equal) => "equal",
+        Ok(Ordering::Greater) => "greater",
+        Err(_) => "unknown",
+    };
+    String::from_str(alloc, word)
+}
+
+fn read(alloc: Global, mode: Mode, text: &[u8]) -> jsonb::Result<Value<'_>> {
+    match mode {
+        Mode::Standard => jsonb::parse_value_standard_mode(alloc, text),
+        Mode::Extended => jsonb::parse_value(alloc, text),
+    }
+}
+
+fn order<'a>(
+    alloc: Global,
+    mode: Mode,
+    left: &'a [u8],
+    right: &'a [u8],
+) -> jsonb::Result<Ordering> {
+    let left = read(alloc, mode, left)?;
+    let right = read(alloc, mode, right)?;
+    Ok(left.cmp(&right))
+}
+
+// The answer to a text that is read.
+fn described(alloc: Global, mode: Mode, text: &[u8]) -> jsonb::Result<String> {
+    let tree = tree::described(alloc, &JsonAst::parse(alloc, text, mode)?)?;
+    let written = written(alloc, mode, text)?;
+    let word = if agree(alloc, mode, text, &written)? {
+        "same"
+    } else {
+        "differs"
+    };
+    let written = hex::encode(alloc, &written[..])?;
+    Ok(format!(in alloc; "ok {tree} {written} {word}")?)
+}
+
+fn written(alloc: Global, mode: Mode, text: &[u8]) -> jsonb::Result<Vec<u8>> {
+    let mut written = Vec::new(alloc);
+    read(alloc, mode, text)?.write_text(&mut written)?;
+    Ok(written)
+}
+
+// Whether the tree, the value and what its text reads back as are equal, and the text is written again.
+fn agree<'a>(alloc: Global, mode: Mode, text: &'a [u8], written: &'a [u8]) -> jsonb::Result<bool> {
+    let value = read(alloc, mode, text)?;
+    let again = read(alloc, mode, written)?;
+    let mut written_again = Vec::new(alloc);
+    again.write_text(&mut written_again)?;
+    let converted = JsonAst::parse(alloc, text, mode)?.into_value(alloc)?;
+    Ok(converted == value && again == value && &written_again[..] == written)
+}

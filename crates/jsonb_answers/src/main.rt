@@ -1,0 +1,18 @@
+//! Answers many JSON texts, a line for each: what `tests/compare` asks.
+#![tactic(auto)]
+
+mod answer;
+mod tree;
+
+use std::io;
+use std::io::{BufRead, BufReader, BufWriter, Write};
+
+fn main(rt: HostRuntime) -> io::Result<()> {
+    let alloc = rt.alloc();
+    let mut out = BufWriter::new(alloc, io::writer(&rt))?;
+    for line in BufReader::new(alloc, rt.reader())?.lines(alloc) {
+        let answer = answer::answer(alloc, line?.as_str())?;
+        writeln!(out, "{answer}")?;
+    }
+    out.flush()
+}
