@@ -1,12 +1,15 @@
-//! The answer to one line. A line is a mode, `s` for standard or `e` for extended, and one or two texts in hexadecimal
-//! with one blank before each. (An empty text leaves its blank.)
+//! The answer to one line. A line is a mode, `s` for standard or `e` for extended, and one or two texts in hexadecimal,
+//! with one blank before each text, also where it is empty.
 //!
 //! | line | answer |
 //! |---|---|
-//! | a text that is read | `ok`, its tree, its written text in hexadecimal, and `same` where the ways to the value agree and its text reads back; else `differs` |
-//! | a text that is refused | `no` and the refusal's printed text in hexadecimal |
-//! | two texts that are read | `less`, `equal` or `greater` |
-//! | any other line | `unknown` |
+//! | one text, which is read | `ok`, its tree, its written text in hexadecimal, and `same` or `differs` |
+//! | one text, which is refused | `no` and what is printed of the refusal, in hexadecimal |
+//! | two texts, which are read | `less`, `equal` or `greater` |
+//! | any other | `unknown` |
+//!
+//! It is `same` where the tree, the value and what its written text reads back as are equal, and that text is written
+//! again.
 
 use crate::tree;
 use jsonb::{Error, JsonAst, Mode, Value};

@@ -1,4 +1,5 @@
-//! Answers many JSON texts, a line for each: what `tests/compare` asks.
+//! Reads JSON texts, one or two on each line of standard input, and says of each line how they are read. `tests/compare`
+//! asks it.
 #![tactic(auto)]
 
 mod answer;

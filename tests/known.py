@@ -1,0 +1,232 @@
+"""Texts with answers that were worked out by hand from the rules. Run alone, it shows that the reference gives them.
+
+Each row is the modes (`s`, `e` or both), the text, and the answer: a tree in one word, or a code with its position and,
+where it has one, its argument.
+"""
+
+import sys
+
+import reference
+
+MODES = {"s": reference.STANDARD, "e": reference.EXTENDED}
+
+
+def plain(text):
+    return "plain:" + text.encode().hex()
+
+
+def escaped(text):
+    return "escaped:" + text.encode().hex()
+
+
+def eof(position):
+    return ("InvalidEOF", position)
+
+
+def number(position):
+    return ("InvalidNumberValue", position)
+
+
+def uncarried(position):
+    return ("NumberNotCarried", position)
+
+
+def a_value(position):
+    return ("ExpectedSomeValue", position)
+
+
+def ident(position):
+    return ("ExpectedSomeIdent", position)
+
+
+def trailing(position):
+    return ("UnexpectedTrailingCharacters", position)
+
+
+def colon(position):
+    return ("ExpectedColon", position)
+
+
+def key_character(position):
+    return ("ObjectKeyInvalidCharacter", position)
+
+
+def comma_or_end(position):
+    return ("ExpectedArrayCommaOrEnd", position)
+
+
+DEEP = ("DepthLimitExceeded", 513)
+
+DOCUMENTS = [
+    ("e", b"", "null"), ("s", b"", eof(0)), ("e", b" \\n\\x0C\t", "null"), ("s", b" \\n\\x0C\t", eof(8)),
+    ("se", b"1 2", trailing(3)), ("e", b"nul", ident(2)), ("s", b"nul", eof(3)), ("se", b"\\n[1]", "[UInt64(1)]"),
+    ("se", b"\\x0C\\r\\t\x0c1\\n", "UInt64(1)"), ("se", b"\\x0c1", a_value(1)), ("se", b"\\z", a_value(1)),
+    ("se", b"[\\z", a_value(2)), ("se", b"[1\\z", comma_or_end(2)), ("s", b"Null", a_value(1)),
+    ("s", b"nulL", ident(4)), ("e", b"nUll", "null"), ("e", b"TrUe", "true"), ("e", b"FALSE", "false"),
+    ("s", b"tru", eof(3)), ("s", b"falsy", ident(5)), ("e", b"nan", uncarried(3)), ("e", b"nu", ident(2)),
+    ("e", b"n", eof(1)), ("e", b"nanx", uncarried(3)), ("s", b"nan", ident(2)), ("e", b"Infinity", uncarried(8)),
+    ("e", b"inf", eof(3)), ("e", b"I", eof(1)), ("e", b"ix", ident(2)),
+]
+
+STANDARD_NUMBERS = [
+    ("s", b"-5", "Int64(-5)"), ("s", b"-0", "Int64(0)"), ("s", b"0", "UInt64(0)"), ("s", b"-", number(1)),
+    ("s", b"18446744073709551615", "UInt64(18446744073709551615)"), ("s", b"18446744073709551616", uncarried(20)),
+    ("s", b"-9223372036854775808", "Int64(-9223372036854775808)"), ("s", b"-9223372036854775809", uncarried(20)),
+    ("s", b"01", number(2)), ("s", b"-01", number(3)), ("s", b"1.", number(3)), ("s", b"1.x", number(3)),
+    ("s", b"1e", number(2)), ("s", b"1e5", uncarried(3)), ("s", b"1e+", number(3)), ("s", b"1.5e", number(4)),
+    ("s", b"1.5", uncarried(3)), ("s", b"1.5E-07 ", uncarried(7)), ("s", b"+1", a_value(1)),
+    ("s", b".5", a_value(1)), ("s", b"0x1", trailing(2)), ("s", b"-x", number(1)),
+]
+
+EXTENDED_NUMBERS = [
+    ("e", b"+.5", "Decimal64(1,5)"), ("e", b"-0.0", "Decimal64(1,0)"), ("e", b"0" * 40 + b"1", "UInt64(1)"),
+    ("e", b"18446744073709551616", "Decimal128(0,18446744073709551616)"), ("e", b"-0", "UInt64(0)"),
+    ("e", b"0.005", "Decimal64(3,5)"), ("e", b"0.1234567890123456789", "Decimal128(19,1234567890123456789)"),
+    ("e", b"-0.05", "Decimal64(2,-5)"), ("e", b"9" * 38, f"Decimal128(0,{10 ** 38 - 1})"),
+    ("e", b"9" * 39, uncarried(39)), ("e", b"0." + b"9" * 38, f"Decimal128(38,{10 ** 38 - 1})"),
+    ("e", b"0." + b"9" * 39, uncarried(41)), ("e", b"1e5", uncarried(3)), ("e", b"1e", number(2)),
+    ("e", b"1e+", number(3)), ("e", b"1e5.", uncarried(3)), ("e", b"1.5e5.", uncarried(5)),
+    ("e", b"+-1", number(1)), ("e", b"-.", number(2)), ("e", b".n", number(1)), ("e", b"-Infinity", uncarried(9)),
+    ("e", b"+nan", uncarried(4)), ("e", b"-in", eof(3)), ("e", b"-nan", number(4)), ("e", b"1.", "UInt64(1)"),
+    ("e", b"0.", "UInt64(0)"), ("e", b"1..", number(2)), ("e", b".", number(1)), ("e", b"..", number(1)),
+    ("e", b"+", number(1)), ("e", b"+nul", ident(3)), ("e", b"1." + b"0" * 74 + b".", number(76)),
+    ("e", b"1." + b"0" * 75 + b".", uncarried(77)), ("e", b"1" * 76 + b".5", uncarried(78)),
+    ("e", b"1" * 76 + b"..", uncarried(77)), ("e", b"0" * 80 + b"..", number(81)),
+    ("e", b"1" * 39 + b"..", number(40)), ("e", b"-9223372036854775809", "Decimal128(0,-9223372036854775809)"),
+    ("e", b"00x1", trailing(3)), ("e", b"1.0x1", trailing(4)),
+]
+
+HEXADECIMALS = [
+    ("e", b"0x8000000000000000", "UInt64(9223372036854775808)"),
+    ("e", b"-0x8000000000000000", f"Int64({-2 ** 63})"),
+    ("e", b"-0x8000000000000001", f"Decimal128(0,{-2 ** 63 - 1})"), ("e", b"-0x0", "Int64(0)"),
+    ("e", b"+0X0f", "UInt64(15)"), ("e", b"0xFFFFFFFFFFFFFFFF", f"UInt64({2 ** 64 - 1})"),
+    ("e", b"0x10000000000000000", f"Decimal128(0,{2 ** 64})"),
+    ("e", b"0x%x" % (10 ** 38 - 1), f"Decimal128(0,{10 ** 38 - 1})"), ("e", b"0x%x" % 10 ** 38, uncarried(34)),
+    ("e", b"-0x%x" % (10 ** 38 - 1), f"Decimal128(0,{1 - 10 ** 38})"), ("e", b"-0x%x" % 10 ** 38, uncarried(35)),
+    ("e", b"0x" + b"F" * 32, uncarried(34)), ("e", b"0x1" + b"0" * 32, number(35)), ("e", b"0xg", number(2)),
+    ("e", b"0x", number(2)), ("e", b"0x.8", number(2)), ("e", b"0x1.", number(4)), ("e", b"0x1.8", uncarried(5)),
+    ("e", b"0x1.8.", uncarried(5)), ("e", b"0x" + b"F" * 33 + b".", number(36)),
+    ("e", b"0x" + b"F" * 33 + b".8", number(37)), ("e", b"0x1." + b"F" * 33, number(37)),
+    ("e", b"0x1." + b"0" * 40 + b"1", uncarried(45)),
+]
+
+STRINGS = [
+    ("se", b' "abc" ', plain("abc")), ("se", b'"\t"', plain("\t")), ("se", b'"ab', eof(3)),
+    ("se", b'"\xff"', ("InvalidStringValue", 3)), ("se", b'"\\n\xff"', ("InvalidStringValue", 5)),
+    ("se", b'"\xff\\z"', ("InvalidEscaped", 5, 122)), ("s", b"'a'", a_value(1)),
+    ("e", b"'say \"x\"'", plain('say "x"')), ("s", b'"\\\'"', ("InvalidEscaped", 4, 39)),
+    ("e", b'"\\\'"', escaped("'")), ("e", b"'it\\'s'", escaped("it's")),
+    ("se", b'"\\"\\\\\\/\\b\\f\\n\\r\\t"', escaped('"\\/\b\f\n\r\t')),
+    ("se", b'"\\uD800\\u0041"', escaped("\\uD800\\u0041")), ("se", b'"\\u{D834}\\u{DD1E}"', escaped("\U0001d11e")),
+    ("se", b'"\\uD834\\u{dd1e}"', escaped("\U0001d11e")), ("se", b'"\\u{d834}"', escaped("\\ud834")),
+    ("se", b'"\\uD800\\uD834\\uDD1E"', escaped("\\uD800\\uD834\\uDD1E")), ("se", b'"\\uDD1E"', escaped("\\uDD1E")),
+    ("se", b'"\\uD800\\n"', escaped("\\uD800\n")), ("se", b'"\\uD7FF\\uE000"', escaped("\ud7ff\ue000")),
+    ("se", b'"\\u{0041}\\u007F"', escaped("A\x7f")), ("se", b'"\\u"a"b"', ("InvalidHex", 8, 34)),
+    ("se", b'"\\u{00}12"', ("UnexpectedEndOfHexEscape", 4)), ("se", b'"\\u{00G1}"', ("InvalidHex", 10, 71)),
+    ("se", b'"\\uD800\\uDC0"', eof(13)), ("se", b'"\\uD800\\uDC0"12"', ("InvalidHex", 14, 34)),
+    ("se", b'"\\z', eof(3)), ("se", b'"\\z"', ("InvalidEscaped", 4, 122)),
+    ("se", b'"a\\z"', ("InvalidEscaped", 5, 122)), ("se", b'"\\', eof(2)), ("se", b'"\\u', eof(3)),
+    ("se", b'"\\u{', eof(9)), ("se", b'"\\u1"', eof(7)), ("se", b'"\\u1', eof(7)), ("e", b"{'a\\u", eof(5)),
+    ("e", b"'\"", eof(2)),
+]
+
+CONTAINERS = [
+    ("e", b"[,]", "[null,null]"), ("s", b"[,]", a_value(2)), ("se", b"[1,", eof(3)), ("s", b"[1,]", a_value(4)),
+    ("e", b"[ ,]", "[null,null]"), ("e", b"[1,,3]", "[UInt64(1),null,UInt64(3)]"), ("se", b"[ ]", "[]"),
+    ("e", b"[1,2,]", "[UInt64(1),UInt64(2),null]"), ("e", b"[a]", a_value(2)), ("se", b"[1 2]", comma_or_end(3)),
+    ("se", b'{"a" 1}', colon(5)), ("se", b'{"a":1;}', ("ExpectedObjectCommaOrEnd", 6)),
+    ("s", b'{"a":1,}', ident(8)), ("se", b'{"a":}', a_value(6)), ("se", b"{", eof(1)), ("se", b"[", eof(1)),
+    ("se", b"[1", eof(2)), ("se", b'{"a', eof(3)), ("se", b'{"a"', eof(4)), ("se", b'{"a":', eof(5)),
+    ("se", b'{"a":1', eof(6)), ("se", b'{"a":1,', eof(7)), ("se", b"{ }", "{}"), ("s", b"{,}", ident(2)),
+    ("s", b"{a:1}", ident(2)), ("s", b"{'a':1}", ident(2)),
+    ("se", b'{"\\u0061":1,"a":2}', ("ObjectDuplicateKey", 15, b"a")),
+    ("se", b'{"a":{"b":1,"b":2},"a":3}', ("ObjectDuplicateKey", 15, b"b")),
+    ("se", b'{"b":1,"a":2,"a":3,"b":4}', ("ObjectDuplicateKey", 16, b"a")),
+    ("se", b'{"a":1,"a":2,"a":3}', ("ObjectDuplicateKey", 10, b"a")), ("se", b'{"a":1,"a":2', eof(12)),
+    ("se", b"[" * 512 + b"]" * 512, "[" * 512 + "]" * 512), ("se", b"[" * 513 + b"]" * 513, DEEP),
+    ("se", b"[" * 512 + b"{", DEEP), ("se", b"[" * 10000, DEEP), ("e", b"{a:" * 513, ("DepthLimitExceeded", 1537)),
+    ("s", b'{"a":' * 513, ("DepthLimitExceeded", 2561)),
+    ("se", b"[" + b"[]," * 599 + b"[]]", "[" + "[]," * 599 + "[]]"),
+]
+
+KEYS = [
+    ("e", b"{b:'x', a:+007}", "{plain:61@9=UInt64(7),plain:62@2=plain:78}"), ("e", b"{a:1,}", key_character(5)),
+    ("e", b"{:1}", key_character(1)), ("e", b"{,}", key_character(1)),
+    ("e", b"{1a:2}", ("ObjectKeyInvalidNumber", 2)), ("e", b"{1", ("ObjectKeyInvalidNumber", 2)),
+    ("e", b"{\x80:1}", key_character(1)), ("e", b"{a\x80:1}", key_character(2)), ("e", b"{a,b}", colon(2)),
+    ("e", b"{a:}", a_value(4)), ("e", b"{a", eof(2)), ("e", b"{a-b:1}", colon(2)),
+    ("e", b"{\xe4:1}", ("InvalidStringValue", 4)), ("e", b"{\xe4", eof(4)), ("e", b"{\xf0", eof(5)),
+    ("e", b"{\xc3", eof(3)), ("e", b"{\xff", eof(5)), ("e", b"{\xc3(\x80:1}", key_character(3)),
+    ("e", b"{a ", eof(3)), ("e", b"{\xc3\xa9$_1 :1}", "{plain:c3a9245f31@6=UInt64(1)}"),
+    ("e", b"{'a\"':1}", "{plain:6122@5=UInt64(1)}"), ("e", b"{'\\'':1}", "{escaped:27@5=UInt64(1)}"),
+    ("se", b'{"":1}', "{plain:@3=UInt64(1)}"),
+]
+
+COMMENTS = [
+    ("e", b"[/*a*/]", "[]"), ("e", b"[/*a*/,1]", "[null,UInt64(1)]"), ("e", b"// x", "null"), ("e", b"/*", eof(2)),
+    ("s", b"[/*a*/]", a_value(2)), ("e", b"// a\n1", "UInt64(1)"), ("e", b"// a\r1", "UInt64(1)"),
+    ("e", b"// a\\n1", "null"), ("e", b"{a/**/:/*,*/1//}\n}", "{plain:61@2=UInt64(1)}"),
+    ("e", b"/***/[/*a*/,/*b*/]", "[null,null]"), ("e", b"/*/", eof(3)), ("e", b"[1/*", eof(4)),
+    ("e", b"[1//x", eof(5)), ("e", b"1//x", "UInt64(1)"), ("e", b"1/*", eof(3)), ("e", b"/", a_value(1)),
+    ("e", b"1 /x", trailing(3)), ("e", b"[1/2]", comma_or_end(2)), ("e", b"-/**/1", number(1)),
+    ("s", b"// x", a_value(1)), ("e", b"[/", a_value(2)), ("e", b"{a/", colon(2)), ("e", b"1/", trailing(2)),
+    ("e", b"/*\xff*/1", "UInt64(1)"), ("e", b"/* /* */1", "UInt64(1)"), ("e", b"//\xff\n//", "null"),
+    ("e", b"{//", eof(3)), ("e", b"{a//", eof(4)), ("e", b"{a:/*", eof(5)), ("e", b"[,//", eof(4)),
+    ("e", b"[/*a*/", eof(6)),
+]
+
+ROWS = DOCUMENTS + STANDARD_NUMBERS + EXTENDED_NUMBERS + HEXADECIMALS + STRINGS + CONTAINERS + KEYS + COMMENTS
+
+# The written text of some values, in extended mode.
+WRITTEN = [
+    (b"'say \"x\"'", b'"say \\"x\\""'), (b'"\\uD800\\n"', b'"\\\\uD800\\n"'),
+    (b'"\\u0001\\u001F\\u007f\\b"', b'"\\u0001\\u001f\x7f\\u0008"'), (b"-0.05", b"-0.05"), (b"-0.0", b"0.0"),
+    (b"+007", b"7"), (b".5", b"0.5"), (b"1.00", b"1.00"), (b"-12.5", b"-12.5"),
+    (b"[,/**/{'b\"':1,a:tRUE}]", b'[null,{"a":true,"b\\"":1}]'), (b"'/'", b'"/"'), (b'"\xc3\xa9"', b'"\xc3\xa9"'),
+]
+
+# Values upwards, in extended mode; those of one line are equal.
+UPWARDS = [
+    [b"false"], [b"true"], [b"-0x8000000000000001"], [b"-1.5"], [b"-1", b"-1.0"], [b"-0.1"],
+    [b"0", b"-0", b"-0x0", b"0.00"],
+    [b"0." + b"0" * 37 + b"1"], [b"5", b"5.", b"0x5", b"+05.0"], [b"12", b"12.0"], [b"12.1"], [b"12.34", b"12.340"],
+    [b"0xFFFFFFFFFFFFFFFF"], [b"0x10000000000000000"], [b"''"], [b"'a'", b'"\\u0061"'], [b"'a\\u0000'"], [b"'b'"],
+    [b"'\xc3\xa9'"],
+    [b"{}"], [b"{'':1}"], [b"{a:1}", b"{'a':1.0}"], [b"{a:1,b:0}", b"{b:0,a:1}"], [b"{a:2}"], [b"{a:[]}"], [b"{b:1}"],
+    [b"[]", b"[/**/]"], [b"[1]", b"[1.0]"], [b"[1,0]"], [b"[2]"], [b"[,]"], [b"null", b"", b"//"],
+]
+
+
+def answer_of(text, mode):
+    try:
+        return reference.described(reference.read(text, mode))
+    except reference.Refusal as refusal:
+        argument = () if refusal.argument is None else (refusal.argument,)
+        return (refusal.code, refusal.position, *argument)
+
+
+def faults():
+    """What the reference answers in another way."""
+    for modes, text, wanted in ROWS:
+        for mode in modes:
+            found = answer_of(text, MODES[mode])
+            if found != wanted:
+                yield f"{MODES[mode]} {text[:80]!r}: {found}, and not {wanted}"
+    for text, wanted in WRITTEN:
+        found = reference.written(reference.read(text, reference.EXTENDED))
+        if found != wanted:
+            yield f"{text!r} is written {found}, and not {wanted}"
+    for i, left in enumerate(UPWARDS):
+        for j, right in enumerate(UPWARDS):
+            wanted = "equal" if i == j else "less" if i < j else "greater"
+            for a in left:
+                for b in right:
+                    if reference.answer_pair(a, b, reference.EXTENDED) != wanted:
+                        yield f"{a!r} and {b!r}: not {wanted}"
+
+
+if __name__ == "__main__":
+    found = list(faults())
+    print("\n".join(found) or f"{len(ROWS)} rows, {len(WRITTEN)} texts and {len(UPWARDS)} places in the order hold")
+    sys.exit(1 if found else 0)

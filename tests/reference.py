@@ -1,0 +1,704 @@
+"""A second reading of JSON texts, in both modes, to compare the reader with.
+
+It is written from the rules in docs/GRAMMAR.md and docs/VALUES.md, and not from the code of the crates. It is to be
+plain, not fast. Run alone, it answers the lines that it reads from standard input as the program `jsonb_answers` does.
+
+A tree is a tuple whose first part is its kind:
+
+    ("null",)   ("bool", truth)   ("number", variant, scale, whole)   ("string", mark, bytes)
+    ("array", items)   ("object", members), each member (mark, key, index, tree), in the order of the keys
+
+The mark of a string is "plain" where it has no backslash in the text, else "escaped". The index of a member is the one
+after its key's spelling.
+"""
+
+import sys
+
+STANDARD = "standard"
+EXTENDED = "extended"
+
+MAX_DEPTH = 512
+MAX_PRECISION = 38
+DIGITS_UNTIL_A_POINT_ENDS = 76
+
+DIGITS = b"0123456789"
+HEX_DIGITS = b"0123456789abcdefABCDEF"
+SIMPLE_ESCAPES = {
+    0x5C: b"\\", 0x22: b'"', 0x2F: b"/", 0x62: b"\x08", 0x66: b"\x0C", 0x6E: b"\n", 0x72: b"\r", 0x74: b"\t",
+}
+BLANK_BYTES = b" \t\n\x0C\r"
+WRITTEN_BLANKS = (b"\\n", b"\\r", b"\\t", b"\\x0C")
+
+CODE_TEXTS = {
+    "InvalidEOF": b"EOF while parsing a value",
+    "InvalidNumberValue": b"invalid number",
+    "InvalidStringValue": b"invalid string",
+    "ExpectedSomeIdent": b"expected ident",
+    "ExpectedSomeValue": b"expected value",
+    "ExpectedColon": b"expected `:`",
+    "ExpectedArrayCommaOrEnd": b"expected `,` or `]`",
+    "ExpectedObjectCommaOrEnd": b"expected `,` or `}`",
+    "UnexpectedTrailingCharacters": b"trailing characters",
+    "InvalidEscaped": b"invalid escaped '%X'",
+    "InvalidHex": b"invalid hex '%X'",
+    "UnexpectedEndOfHexEscape": b"unexpected end of hex escape",
+    "ObjectDuplicateKey": b'duplicate object attribute "%b"',
+    "ObjectKeyInvalidNumber": b"object attribute name cannot be a number",
+    "ObjectKeyInvalidCharacter": b"object attribute name cannot be invalid character",
+    "NumberNotCarried": b"number not carried",
+    "DepthLimitExceeded": b"depth limit exceeded",
+}
+
+# Arrays in arrays are read, compared and written by calls in calls.
+sys.setrecursionlimit(20000)
+
+
+class Refusal(Exception):
+    """Why a text is refused: a code, its argument (a byte or a key) or None, and a position."""
+
+    def __init__(self, code, position, argument=None):
+        super().__init__(code, position, argument)
+        self.code = code
+        self.position = position
+        self.argument = argument
+
+    def printed(self):
+        text = CODE_TEXTS[self.code]
+        if self.argument is not None:
+            text = text % self.argument
+        return text + b", pos %d" % self.position
+
+
+def is_utf8(data):
+    try:
+        data.decode("utf-8")
+    except UnicodeDecodeError:
+        return False
+    return True
+
+
+class Unit:
+    """Four hexadecimal digits of an escape."""
+
+    def __init__(self, digits):
+        self.digits = digits
+        self.value = int(digits, 16)
+        self.is_high = 0xD800 <= self.value <= 0xDBFF
+        self.is_low = 0xDC00 <= self.value <= 0xDFFF
+
+    def kept(self):
+        return b"\\u" + self.digits
+
+
+class Body:
+    """Decodes what stands between quotes. `idx` counts what has been gone past, from a given start."""
+
+    def __init__(self, data, idx, mode):
+        self.data = data
+        self.at = 0
+        self.idx = idx
+        self.mode = mode
+
+    def refuse(self, code, argument=None):
+        raise Refusal(code, self.idx, argument)
+
+    def go(self, count):
+        self.at += count
+        self.idx += count
+
+    def decoded(self):
+        out = bytearray()
+        while self.at < len(self.data):
+            byte = self.data[self.at]
+            self.go(1)
+            if byte == 0x5C:
+                out += self.escape()
+            else:
+                out.append(byte)
+        if not is_utf8(out):
+            self.refuse("InvalidStringValue")
+        return bytes(out)
+
+    def escape(self):
+        """The meaning of an escape whose backslash was passed."""
+        if self.at == len(self.data):
+            self.refuse("UnexpectedEndOfHexEscape")
+        letter = self.data[self.at]
+        self.go(1)
+        if letter in SIMPLE_ESCAPES:
+            return SIMPLE_ESCAPES[letter]
+        if letter == 0x27 and self.mode == EXTENDED:
+            return b"'"
+        if letter != 0x75:
+            self.refuse("InvalidEscaped", letter)
+        return self.units(self.unit())
+
+    def units(self, first):
+        """The meaning of a unit, with the one right after it where the first is a high one."""
+        if first.is_low:
+            return first.kept()
+        if not first.is_high:
+            return chr(first.value).encode("utf-8")
+        if self.data[self.at:self.at + 2] != b"\\u":
+            return first.kept()
+        self.go(2)
+        second = self.unit()
+        if not second.is_low:
+            return first.kept() + second.kept()
+        return chr(0x10000 + (first.value - 0xD800) * 0x400 + (second.value - 0xDC00)).encode("utf-8")
+
+    def unit(self):
+        """The unit whose backslash and letter were passed."""
+        rest = self.data[self.at:self.at + 6]
+        if rest[:1] == b"{":
+            if len(rest) < 6 or rest[5:6] != b"}":
+                self.refuse("UnexpectedEndOfHexEscape")
+            digits = rest[1:5]
+            self.go(6)
+        else:
+            digits = rest[:4]
+            if len(digits) < 4:
+                self.refuse("UnexpectedEndOfHexEscape")
+            self.go(4)
+        for byte in digits:
+            if byte not in HEX_DIGITS:
+                self.refuse("InvalidHex", byte)
+        return Unit(digits)
+
+
+class Reader:
+    """Reads a text from the left; `at` is where it stands."""
+
+    def __init__(self, data, mode):
+        self.data = data
+        self.end = len(data)
+        self.mode = mode
+        self.extended = mode == EXTENDED
+        self.at = 0
+        self.depth = 0
+
+    # The byte at which the reader stands as bytes of length 1, and none at the end.
+    def here(self):
+        return self.data[self.at:self.at + 1]
+
+    def is_here(self, choices):
+        return self.at < self.end and self.data[self.at] in choices
+
+    def refuse_end(self):
+        raise Refusal("InvalidEOF", self.end)
+
+    def document(self):
+        self.blanks()
+        if self.at == self.end and self.extended:
+            return ("null",)
+        tree = self.value()
+        self.blanks()
+        if self.at < self.end:
+            raise Refusal("UnexpectedTrailingCharacters", self.at + 1)
+        return tree
+
+    # Blanks and comments.
+
+    def blanks(self):
+        while self.blank():
+            pass
+
+    def blank(self):
+        if self.is_here(BLANK_BYTES):
+            self.at += 1
+            return True
+        for written in WRITTEN_BLANKS:
+            if self.data.startswith(written, self.at):
+                self.at += len(written)
+                return True
+        return self.extended and (self.block_comment() or self.line_comment())
+
+    def block_comment(self):
+        if not self.data.startswith(b"/*", self.at):
+            return False
+        close = self.data.find(b"*/", self.at + 2)
+        if close < 0:
+            self.refuse_end()
+        self.at = close + 2
+        return True
+
+    # A line that the text's end cuts is passed to that end. In an array or an object the end is then refused.
+    def line_comment(self):
+        if not self.data.startswith(b"//", self.at):
+            return False
+        self.at += 2
+        while self.at < self.end and self.data[self.at] not in b"\n\r":
+            self.at += 1
+        if self.at < self.end:
+            self.at += 1
+        return True
+
+    # Values.
+
+    def value(self):
+        first = self.here()
+        if first == b"":
+            self.refuse_end()
+        if first == b"[":
+            return self.array()
+        if first == b"{":
+            return self.object()
+        if first == b'"' or (self.extended and first == b"'"):
+            mark, text = self.quoted()
+            return ("string", mark, text)
+        if first in (b"n", b"t", b"f"):
+            return self.literal(first)
+        if first in b"0123456789-":
+            return self.extended_number() if self.extended else self.standard_number()
+        if self.extended:
+            if first in (b"N", b"T", b"F"):
+                return self.literal(first)
+            if first in b"+.":
+                return self.extended_number()
+            if first in b"iI":
+                self.word(b"infinity")
+                raise Refusal("NumberNotCarried", self.at)
+        raise Refusal("ExpectedSomeValue", self.at + 1)
+
+    def literal(self, first):
+        kind = first.lower()
+        if kind == b"t":
+            self.word(b"true")
+            return ("bool", True)
+        if kind == b"f":
+            self.word(b"false")
+            return ("bool", False)
+        start = self.at
+        try:
+            self.word(b"null")
+        except Refusal:
+            if not self.extended:
+                raise
+            self.at = start
+            self.word(b"nan")
+            raise Refusal("NumberNotCarried", self.at) from None
+        return ("null",)
+
+    def word(self, letters):
+        for letter in letters:
+            if self.at == self.end:
+                self.refuse_end()
+            byte = self.here().lower() if self.extended else self.here()
+            if byte != bytes((letter,)):
+                raise Refusal("ExpectedSomeIdent", self.at + 1)
+            self.at += 1
+
+    # Numbers.
+
+    def run(self, digits):
+        """The longest run of these digits."""
+        start = self.at
+        while self.is_here(digits):
+            self.at += 1
+        return self.data[start:self.at]
+
+    def refuse_number(self, step=0):
+        raise Refusal("InvalidNumberValue", self.at + step)
+
+    def exponent(self):
+        """Whether an exponent stands here, which is passed."""
+        if not self.is_here(b"eE"):
+            return False
+        self.at += 1
+        if self.is_here(b"+-"):
+            self.at += 1
+        if not self.run(DIGITS):
+            self.refuse_number()
+        return True
+
+    def standard_number(self):
+        negative = self.here() == b"-"
+        if negative:
+            self.at += 1
+        if self.here() == b"0":
+            whole = self.here()
+            self.at += 1
+            if self.is_here(DIGITS):
+                self.refuse_number(1)
+        else:
+            whole = self.run(DIGITS)
+            if not whole:
+                self.refuse_number()
+        fraction = self.here() == b"."
+        if fraction:
+            self.at += 1
+            if not self.run(DIGITS):
+                self.refuse_number(1)
+        exponent = self.exponent()
+        number = int(whole)
+        if not (fraction or exponent):
+            if negative and number <= 2 ** 63:
+                return ("number", "Int64", 0, -number)
+            if not negative and number < 2 ** 64:
+                return ("number", "UInt64", 0, number)
+        raise Refusal("NumberNotCarried", self.at)
+
+    def extended_number(self):
+        sign = b""
+        if self.is_here(b"+-"):
+            sign = self.here()
+            self.at += 1
+            if self.is_here(b"nNiI"):
+                self.word(b"nan" if self.is_here(b"nN") else b"infinity")
+                word = self.data[self.at - 3:self.at].lower()
+                if sign == b"-" and word == b"nan":
+                    self.refuse_number()
+                raise Refusal("NumberNotCarried", self.at)
+        if self.data[self.at:self.at + 2].lower() == b"0x":
+            return self.hexadecimal(sign == b"-")
+        return self.decimal(sign == b"-")
+
+    def hexadecimal(self, negative):
+        self.at += 2
+        digits = self.run(HEX_DIGITS)
+        if not digits:
+            self.refuse_number()
+        number = int(digits, 16)
+        if self.here() == b".":
+            self.at += 1
+            fraction = self.run(HEX_DIGITS)
+            if not fraction:
+                self.refuse_number()
+            if number >= 2 ** 128 or int(fraction, 16) >= 2 ** 128:
+                self.refuse_number()
+            raise Refusal("NumberNotCarried", self.at)
+        if number >= 2 ** 128:
+            self.refuse_number()
+        if negative and number <= 2 ** 63:
+            return ("number", "Int64", 0, -number)
+        if not negative and number < 2 ** 64:
+            return ("number", "UInt64", 0, number)
+        if number < 10 ** 38:
+            return ("number", "Decimal128", 0, -number if negative else number)
+        raise Refusal("NumberNotCarried", self.at)
+
+    def decimal(self, negative):
+        zeros = self.run(b"0")
+        whole = self.run(DIGITS)
+        fraction = b""
+        if self.here() == b".":
+            self.at += 1
+            fraction = self.run(DIGITS)
+            if not (zeros or whole or fraction):
+                self.refuse_number()
+            if self.here() == b".":
+                if len(whole) + len(fraction) < DIGITS_UNTIL_A_POINT_ENDS:
+                    self.refuse_number()
+                raise Refusal("NumberNotCarried", self.at)
+        if not (zeros or whole or fraction):
+            self.refuse_number()
+        exponent = self.exponent()
+        precision = len(whole) + len(fraction)
+        if exponent or precision > MAX_PRECISION:
+            raise Refusal("NumberNotCarried", self.at)
+        number = int(whole + fraction or b"0")
+        if negative:
+            number = -number
+        return ("number", *carried(number, len(fraction), precision))
+
+    # Strings and keys.
+
+    def quoted(self):
+        """The mark and the text of the quoted string here."""
+        start = self.at + 1
+        self.at = self.closing_quote()
+        body = self.data[start:self.at]
+        self.at += 1
+        if b"\\" in body:
+            return ("escaped", Body(body, start + 1, self.mode).decoded())
+        if not is_utf8(body):
+            raise Refusal("InvalidStringValue", self.at)
+        return ("plain", body)
+
+    def closing_quote(self):
+        """The index of the quote that ends the string here. Escapes are stepped over, and not looked at."""
+        quote = self.data[self.at]
+        at = self.at + 1
+        while at < self.end:
+            byte = self.data[at]
+            if byte == quote:
+                return at
+            at += 1
+            if byte != 0x5C:
+                continue
+            if at >= self.end:
+                break
+            letter = self.data[at]
+            at += 1
+            if letter == 0x75:
+                if at >= self.end:
+                    break
+                at += 6 if self.data[at] == 0x7B else 4
+        raise Refusal("InvalidEOF", at)
+
+    def key(self):
+        first = self.here()
+        if first == b"":
+            self.refuse_end()
+        if first == b'"' or (self.extended and first == b"'"):
+            return self.quoted()
+        if not self.extended:
+            raise Refusal("ExpectedSomeIdent", self.at + 1)
+        return ("plain", self.bare_key())
+
+    def bare_key(self):
+        start = self.at
+        if self.is_here(DIGITS):
+            raise Refusal("ObjectKeyInvalidNumber", self.at + 1)
+        while True:
+            if self.at >= self.end:
+                raise Refusal("InvalidEOF", self.at)
+            byte = self.data[self.at]
+            if byte < 0x80:
+                if not (chr(byte).isalnum() or byte in b"_$"):
+                    break
+                self.at += 1
+            elif byte < 0xC0:
+                raise Refusal("ObjectKeyInvalidCharacter", self.at)
+            else:
+                self.at += 2 if byte < 0xE0 else 3 if byte < 0xF0 else 4
+        if self.at == start:
+            raise Refusal("ObjectKeyInvalidCharacter", start)
+        key = self.data[start:self.at]
+        if not is_utf8(key):
+            raise Refusal("InvalidStringValue", self.at)
+        return key
+
+    # Arrays and objects.
+
+    def go_in(self):
+        if self.depth == MAX_DEPTH:
+            raise Refusal("DepthLimitExceeded", self.at + 1)
+        self.depth += 1
+        self.at += 1
+        self.blanks()
+
+    def go_out(self):
+        self.depth -= 1
+        self.at += 1
+
+    def array(self):
+        self.go_in()
+        items = []
+        if self.here() == b"]":
+            self.go_out()
+            return ("array", items)
+        while True:
+            self.blanks()
+            if self.extended and self.is_here(b",]"):
+                items.append(("null",))
+            else:
+                items.append(self.value())
+                self.blanks()
+            if self.at == self.end:
+                self.refuse_end()
+            if self.here() == b"]":
+                self.go_out()
+                return ("array", items)
+            if self.here() != b",":
+                raise Refusal("ExpectedArrayCommaOrEnd", self.at)
+            self.at += 1
+
+    def object(self):
+        self.go_in()
+        members = []
+        if self.here() == b"}":
+            self.go_out()
+            return ("object", members)
+        while True:
+            self.blanks()
+            members.append(self.member())
+            self.blanks()
+            if self.at == self.end:
+                self.refuse_end()
+            if self.here() == b"}":
+                self.go_out()
+                return ("object", in_order(members))
+            if self.here() != b",":
+                raise Refusal("ExpectedObjectCommaOrEnd", self.at)
+            self.at += 1
+
+    def member(self):
+        mark, key = self.key()
+        index = self.at
+        self.blanks()
+        if self.at == self.end:
+            self.refuse_end()
+        if self.here() != b":":
+            raise Refusal("ExpectedColon", self.at)
+        self.at += 1
+        self.blanks()
+        return (mark, key, index, self.value())
+
+
+def carried(number, scale, precision):
+    """The variant, scale and whole number of an extended decimal."""
+    if scale == 0 and 0 <= number < 2 ** 64:
+        return ("UInt64", scale, number)
+    if scale == 0 and -(2 ** 63) <= number < 2 ** 63:
+        return ("Int64", scale, number)
+    return ("Decimal64" if precision <= 18 else "Decimal128", scale, number)
+
+
+def in_order(members):
+    """The members in the order of their keys; the least key that is repeated is refused, at its second spelling."""
+    seen = set()
+    second = {}
+    for _, key, index, _ in members:
+        if key in seen:
+            second.setdefault(key, index)
+        seen.add(key)
+    if second:
+        least = min(second)
+        raise Refusal("ObjectDuplicateKey", second[least], least)
+    return sorted(members, key=lambda member: member[1])
+
+
+def read(data, mode):
+    """The tree of a text. Raises `Refusal`."""
+    return Reader(bytes(data), mode).document()
+
+
+# What is written.
+
+def number_text(scale, whole):
+    sign = b"-" if whole < 0 else b""
+    digits = b"%d" % abs(whole)
+    if scale == 0:
+        return sign + digits
+    digits = digits.rjust(scale + 1, b"0")
+    return sign + digits[:-scale] + b"." + digits[-scale:]
+
+
+def string_text(text):
+    named = {0x22: b'\\"', 0x5C: b"\\\\", 0x0A: b"\\n", 0x0D: b"\\r", 0x09: b"\\t"}
+    out = bytearray(b'"')
+    for byte in text:
+        if byte in named:
+            out += named[byte]
+        elif byte < 0x20:
+            out += b"\\u%04x" % byte
+        else:
+            out.append(byte)
+    return bytes(out + b'"')
+
+
+def written(tree):
+    """The text of a tree."""
+    kind = tree[0]
+    if kind == "null":
+        return b"null"
+    if kind == "bool":
+        return b"true" if tree[1] else b"false"
+    if kind == "number":
+        return number_text(tree[2], tree[3])
+    if kind == "string":
+        return string_text(tree[2])
+    if kind == "array":
+        return b"[" + b",".join(written(item) for item in tree[1]) + b"]"
+    return b"{" + b",".join(string_text(key) + b":" + written(item) for _, key, _, item in tree[1]) + b"}"
+
+
+# The order.
+
+KINDS = ("bool", "number", "string", "object", "array", "null")
+
+
+def sign_of(left, right):
+    return (left > right) - (left < right)
+
+
+def order(left, right):
+    """-1, 0 or 1, where the left tree is below the right one, equal to it, or above it."""
+    if left[0] != right[0]:
+        return sign_of(KINDS.index(left[0]), KINDS.index(right[0]))
+    kind = left[0]
+    if kind == "null":
+        return 0
+    if kind == "bool":
+        return sign_of(left[1], right[1])
+    if kind == "number":
+        return sign_of(left[3] * 10 ** right[2], right[3] * 10 ** left[2])
+    if kind == "string":
+        return sign_of(left[2], right[2])
+    if kind == "array":
+        return order_of_lists(left[1], right[1], order)
+    return order_of_lists(left[1], right[1], lambda a, b: sign_of(a[1], b[1]) or order(a[3], b[3]))
+
+
+def order_of_lists(left, right, order_of_items):
+    for a, b in zip(left, right):
+        sign = order_of_items(a, b)
+        if sign:
+            return sign
+    return sign_of(len(left), len(right))
+
+
+# The answers of the program `jsonb_answers`.
+
+def described(tree):
+    """The tree in one word."""
+    kind = tree[0]
+    if kind == "null":
+        return "null"
+    if kind == "bool":
+        return "true" if tree[1] else "false"
+    if kind == "number":
+        _, variant, scale, whole = tree
+        return f"{variant}({scale},{whole})" if variant.startswith("Decimal") else f"{variant}({whole})"
+    if kind == "string":
+        return f"{tree[1]}:{tree[2].hex()}"
+    if kind == "array":
+        return "[" + ",".join(described(item) for item in tree[1]) + "]"
+    return "{" + ",".join(f"{mark}:{key.hex()}@{index}={described(item)}" for mark, key, index, item in tree[1]) + "}"
+
+
+def reads_back(tree, text, mode):
+    try:
+        again = read(text, mode)
+    except Refusal:
+        return False
+    return order(again, tree) == 0 and written(again) == text
+
+
+def answer_text(data, mode):
+    try:
+        tree = read(data, mode)
+    except Refusal as refusal:
+        return f"no {refusal.printed().hex()}"
+    text = written(tree)
+    return f"ok {described(tree)} {text.hex()} {'same' if reads_back(tree, text, mode) else 'differs'}"
+
+
+def answer_pair(left, right, mode):
+    try:
+        return ("less", "equal", "greater")[order(read(left, mode), read(right, mode)) + 1]
+    except Refusal:
+        return "unknown"
+
+
+def answer(line):
+    """The answer to a line: a mode, `s` or `e`, and one or two texts in hexadecimal."""
+    words = line.split(" ")
+    mode = {"s": STANDARD, "e": EXTENDED}.get(words[0])
+    if mode is None or len(words) not in (2, 3):
+        return "unknown"
+    try:
+        texts = [bytes.fromhex(word) for word in words[1:]]
+    except ValueError:
+        return "unknown"
+    return answer_text(texts[0], mode) if len(texts) == 1 else answer_pair(*texts, mode)
+
+
+def main():
+    for line in sys.stdin:
+        print(answer(line.rstrip("\n")))
+
+
+if __name__ == "__main__":
+    main()
