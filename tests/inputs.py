@@ -2,7 +2,7 @@
 
 import random
 
-from reference import EXTENDED, STANDARD
+from reference import EXTENDED, STANDARD, Refusal, read
 
 # Places where the rules change: variants, what is carried, what a hexadecimal holds, what is looked at.
 LIMITS = (0, 1, 10 ** 18, 10 ** 19, 2 ** 63, 2 ** 64, 10 ** 37, 10 ** 38, 2 ** 127, 2 ** 128, 10 ** 39)
@@ -90,6 +90,8 @@ class Maker:
         return self.pick((b"e", b"E")) + self.pick((b"", b"+", b"-")) + self.digits(self.count(least, 3))
 
     def decimal(self):
+        if self.chance(0.05):
+            return self.long_decimal()
         sign = self.pick((b"", b"", b"+", b"-"))
         zeros = b"0" * self.pick((0, 0, 0, 1, 2, 40, 80))
         way = self.random.random()
@@ -108,11 +110,20 @@ class Maker:
             whole += self.pick((b".", b"..", b".5"))
         return sign + zeros + whole
 
+    # A decimal of about as many digits as are looked at, and what may come after them.
+    def long_decimal(self):
+        zeros = b"0" * self.pick((0, 0, 1, 80))
+        digits = b"1" + self.digits(self.count(73, 77))
+        place = self.count(0, len(digits))
+        end = self.pick((b"", b".", b"..", b".5", b"e", b"e5", b"x"))
+        return zeros + digits[:place] + b"." + digits[place:] + end
+
     def hexadecimal(self):
         number = self.near_limit() if self.chance(0.7) else self.random.getrandbits(self.pick((4, 60, 64, 126, 130)))
         digits = self.in_either_case("0" * self.pick((0, 0, 1, 30)) + "%x" % number)
-        if self.chance(0.1):
-            digits += b"." + self.digits(self.pick((0, 1, 8, 31, 32, 33)), "0123456789abcdefABCDEF")
+        if self.chance(0.15):
+            fraction = self.digits(self.pick((0, 1, 8, 31, 32, 33)), "0123456789abcdefABCDEF")
+            digits += b"." + self.pick((fraction, b"%x" % self.near_limit(), b"%x" % (2 ** 128 - self.count(0, 1))))
         return self.pick((b"", b"+", b"-")) + self.pick((b"0x", b"0X")) + digits
 
     # Strings and keys.
@@ -220,6 +231,8 @@ class Maker:
 
     def opener(self, mode):
         blanks = self.blanks(mode) if self.chance(0.05) else b""
+        if self.chance(0.02):
+            return b"[" + blanks + self.pick((b"[],", b"{},", b"[[]],")), b"]"
         if self.chance(0.6):
             return b"[" + blanks, b"]"
         return b"{" + blanks + (b"a:" if mode == EXTENDED and self.chance(0.7) else b'"a":'), b"}"
@@ -227,9 +240,29 @@ class Maker:
     def nested(self, mode):
         openers = [self.opener(mode) for _ in range(512 + self.count(-2, 2))]
         closers = [closer for _, closer in reversed(openers)]
-        core = b"" if openers[-1][1] == b"]" and self.chance(0.5) else self.scalar(mode)
+        core = b"" if openers[-1] == (b"[", b"]") and self.chance(0.5) else self.scalar(mode)
         text = b"".join(opener for opener, _ in openers) + core + b"".join(closers)
         return self.broken_once(text) if self.chance(0.3) else text
+
+    # An object whose few keys are spelled in many ways, so that most have some repeated.
+    def repeating(self, mode):
+        spellings = [b'"a"', b'"b"', b'"c"', b'"\\u0061"', b'"\\u{0062}"', b'"\xc3\xa9"', b'"\\u00e9"']
+        if mode == EXTENDED:
+            spellings += [b"a", b"b", b"c", b"'a'", b"'\\u0062'", b"\xc3\xa9"]
+        members = [self.blanks(mode) + self.pick(spellings) + self.blanks(mode) + b":" + self.scalar(mode)
+                   for _ in range(self.count(2, 5))]
+        text = b"{" + b",".join(members) + self.blanks(mode) + b"}"
+        return self.pick((text, b"[" + text + b"]", b'{"b":' + text + b',"b":0}'))
+
+    # An object with one key of bytes that keys without quotes may or may not hold.
+    def odd_key(self):
+        parts = TOKENS + [character.encode() for character in KEY_CHARACTERS + "Z09@[`{"] + [b"\x80", b"\xbf"]
+        key = b"".join(self.random.choices(parts, k=self.count(0, 3)))
+        return b"{" + key + self.pick((b":1}", b":1}", b" :1}", b"/**/:1}", b"", b":"))
+
+    # More arrays and objects than may be open at once, each in the one array.
+    def wide(self):
+        return b"[" + b",".join(self.pick((b"[]", b"{}", b"[1]")) for _ in range(self.count(500, 600))) + b"]"
 
     # One short document, and the texts that it is cut to, or that have another byte at one place.
     def family(self, mode):
@@ -251,10 +284,16 @@ class Maker:
             return [self.string(mode)]
         if way < 0.85:
             return [self.broken(self.document(mode))]
-        if way < 0.985:
+        if way < 0.95:
             return [self.raw()]
-        if way < 0.99:
+        if way < 0.965:
+            return [self.odd_key()]
+        if way < 0.985:
+            return [self.repeating(mode)]
+        if way < 0.989:
             return [self.nested(mode)]
+        if way < 0.99:
+            return [self.wide()]
         return self.family(mode)
 
     # A number that is likely to be carried, and to be near another one.
@@ -293,8 +332,20 @@ def texts(seed, count):
             yield text
 
 
+def is_read(text, mode):
+    try:
+        read(text, mode)
+    except Refusal:
+        return False
+    return True
+
+
 def pairs(seed, count):
-    """So many pairs of texts, each with a mode."""
+    """So many pairs of texts, each with a mode, in which both are read; but about one in twenty has one that isn't."""
     maker = Maker(f"pairs {seed}")
-    for _ in range(count):
-        yield maker.pair()
+    made = 0
+    while made < count:
+        mode, left, right = maker.pair()
+        if maker.chance(0.05) or (is_read(left, mode) and is_read(right, mode)):
+            made += 1
+            yield mode, left, right
