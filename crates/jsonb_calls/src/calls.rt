@@ -1,0 +1,123 @@
+//! The calls on a text. A line of the input is a letter, `s` for standard or `e` for extended mode, a blank, and the text
+//! in hexadecimal. Each call has a line of its own: its name, a blank, and the text of its answer or what is printed of
+//! the refusal.
+
+use jsonb::{Error, JsonAst, Mode, Result, Value};
+use std::alloc::Global;
+use std::borrow::CowStr;
+use std::io;
+use std::io::Write;
+
+/// Writes a line with what a call answered.
+pub fn say<W: Write>(out: &mut W, name: &str, answer: &Result<Vec<u8>>) -> io::Result<()> {
+    write!(out, "{name} ")?;
+    match answer {
+        Ok(text) => out.write_all(text)?,
+        Err(e) => write!(out, "{e}")?,
+    }
+    out.write_all(b"\n")
+}
+
+/// Writes a line for each call on the text that the line holds.
+pub fn report<W: Write>(alloc: Global, line: &str, out: &mut W) -> io::Result<()> {
+    let (mode, text) = match line.split_once(' ') {
+        Some(("s", text)) => (Mode::Standard, text),
+        Some(("e", text)) => (Mode::Extended, text),
+        _ => return out.write_all(b"unknown\n"),
+    };
+    let Ok(text) = hex::decode(alloc, text) else {
+        return out.write_all(b"unknown\n");
+    };
+    say(out, "reads", &reads(alloc, mode, &text))?;
+    say(out, "value", &value(alloc, mode, &text))?;
+    say(out, "tree", &tree(alloc, mode, &text))?;
+    say(out, "clone", &clone(alloc, mode, &text))?;
+    say(out, "tree_clone", &tree_clone(alloc, mode, &text))?;
+    say(out, "keys", &keys(alloc, mode, &text))?;
+    say(out, "without_room", &without_room(alloc, mode, &text))?;
+    say(out, "with_room", &with_room(alloc, mode, &text))?;
+    say(out, "body", &body(alloc, &text))
+}
+
+fn read(alloc: Global, mode: Mode, text: &[u8]) -> Result<Value<'_>> {
+    match mode {
+        Mode::Standard => jsonb::parse_value_standard_mode(alloc, text),
+        Mode::Extended => jsonb::parse_value(alloc, text),
+    }
+}
+
+fn written(alloc: Global, value: &Value) -> Result<Vec<u8>> {
+    let mut text = Vec::new(alloc);
+    value.write_text(&mut text)?;
+    Ok(text)
+}
+
+// Nothing but reading.
+fn reads(alloc: Global, mode: Mode, text: &[u8]) -> Result<Vec<u8>> {
+    read(alloc, mode, text)?;
+    Ok(Vec::new(alloc))
+}
+
+fn value(alloc: Global, mode: Mode, text: &[u8]) -> Result<Vec<u8>> {
+    written(alloc, &read(alloc, mode, text)?)
+}
+
+fn tree(alloc: Global, mode: Mode, text: &[u8]) -> Result<Vec<u8>> {
+    written(
+        alloc,
+        &JsonAst::parse(alloc, text, mode)?.into_value(alloc)?,
+    )
+}
+
+fn clone(alloc: Global, mode: Mode, text: &[u8]) -> Result<Vec<u8>> {
+    written(alloc, &read(alloc, mode, text)?.clone()?)
+}
+
+fn tree_clone(alloc: Global, mode: Mode, text: &[u8]) -> Result<Vec<u8>> {
+    let tree = JsonAst::parse(alloc, text, mode)?.clone()?;
+    written(alloc, &tree.into_value(alloc)?)
+}
+
+fn keys(alloc: Global, mode: Mode, text: &[u8]) -> Result<Vec<u8>> {
+    match read(alloc, mode, text)?.object_keys(alloc)? {
+        Some(keys) => written(alloc, &keys),
+        None => Ok(Vec::from_slice(alloc, b"no object")?),
+    }
+}
+
+// The buffer holds what it held, where the text found no room.
+fn without_room(alloc: Global, mode: Mode, text: &[u8]) -> Result<Vec<u8>> {
+    let value = read(alloc, mode, text)?;
+    let mut buffer = Vec::from_slice(alloc, b"x")?;
+    match value.write_text(&mut buffer) {
+        Err(_) if &buffer[..] != b"x".as_slice() => Ok(Vec::from_slice(
+            alloc,
+            b"the buffer has changed",
+        )?),
+        Err(e) => Err(e),
+        Ok(()) => Ok(buffer),
+    }
+}
+
+// Where there is room, no memory is asked for.
+fn with_room(alloc: Global, mode: Mode, text: &[u8]) -> Result<Vec<u8>> {
+    let value = read(alloc, mode, text)?;
+    let length = written(alloc, &value)?.len();
+    let mut buffer = Vec::with_capacity(alloc, length)?;
+    match value.write_text(&mut buffer) {
+        Ok(()) => Ok(buffer),
+        Err(_) => Ok(Vec::from_slice(alloc, b"refused where there is room")?),
+    }
+}
+
+// The text as the body of a string. The index is left where memory is wanting.
+fn body(alloc: Global, text: &[u8]) -> Result<Vec<u8>> {
+    let mut idx = 0;
+    match jsonb::parse_string(alloc, text, text.len(), &mut idx) {
+        Ok(decoded) => written(alloc, &Value::String(CowStr::Owned(decoded))),
+        Err(Error::OutOfMemory) if idx != 0 => {
+            Ok(Vec::from_slice(alloc, b"the index has moved")?)
+        }
+        Err(e) => Err(e),
+    }
+}

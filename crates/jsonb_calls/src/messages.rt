@@ -1,0 +1,87 @@
+//! The calls that answer a message, and clones of errors.
+
+use crate::calls::say;
+use jsonb::{Decimal64, Decimal128, Error, Interval, Number, ParseErrorCode, Result, Value};
+use std::alloc::Global;
+use std::io;
+use std::io::Write;
+
+/// Writes a line for each message of arithmetic, for clones of errors, and for the text of an interval.
+pub fn report<W: Write>(alloc: Global, out: &mut W) -> io::Result<()> {
+    let least = Number::Int64(i64::MIN);
+    let greatest = Number::UInt64(u64::MAX);
+    say(
+        out,
+        "add",
+        &printed(alloc, greatest.add(alloc, Number::UInt64(1))),
+    )?;
+    say(
+        out,
+        "sub",
+        &printed(alloc, greatest.sub(alloc, Number::UInt64(0))),
+    )?;
+    say(
+        out,
+        "mul",
+        &printed(alloc, least.mul(alloc, Number::Int64(2))),
+    )?;
+    say(
+        out,
+        "rem",
+        &printed(alloc, least.rem(alloc, Number::Int64(-1))),
+    )?;
+    say(
+        out,
+        "rem_zero",
+        &printed(alloc, greatest.rem(alloc, Number::UInt64(0))),
+    )?;
+    say(out, "neg", &printed(alloc, least.neg(alloc)))?;
+    let short = Number::Decimal64(Decimal64 {
+        scale: 1,
+        value: i64::MIN,
+    });
+    say(out, "neg_decimal64", &printed(alloc, short.neg(alloc)))?;
+    let long = Number::Decimal128(Decimal128 {
+        scale: 1,
+        value: i128::MIN,
+    });
+    say(out, "neg_decimal128", &printed(alloc, long.neg(alloc)))?;
+    say(out, "code_clone", &code_clone(alloc))?;
+    say(out, "message_clone", &message_clone(alloc))?;
+    say(out, "interval", &interval(alloc))
+}
+
+// A number as its text.
+fn printed(alloc: Global, answer: Result<Number>) -> Result<Vec<u8>> {
+    let mut text = Vec::new(alloc);
+    Value::Number(answer?).write_text(&mut text)?;
+    Ok(text)
+}
+
+// What is printed of an error.
+fn shown(alloc: Global, error: &Error) -> Result<Vec<u8>> {
+    let text = format!(in alloc; "{error}")?;
+    Ok(Vec::from_slice(alloc, text.as_bytes())?)
+}
+
+fn code_clone(alloc: Global) -> Result<Vec<u8>> {
+    let key = String::from_str(alloc, "key")?;
+    let code = ParseErrorCode::ObjectDuplicateKey(key);
+    shown(alloc, &Error::Syntax(code.clone()?, 7))
+}
+
+fn message_clone(alloc: Global) -> Result<Vec<u8>> {
+    let error = Error::Message(String::from_str(alloc, "message")?);
+    shown(alloc, &error.clone()?)
+}
+
+fn interval(alloc: Global) -> Result<Vec<u8>> {
+    let interval = Interval {
+        months: 14,
+        days: -1,
+        micros: 3_661_000_001,
+    };
+    let mut text = Vec::new(alloc);
+    Value::Interval(interval).write_text(&mut text)?;
+    Ok(text)
+}
