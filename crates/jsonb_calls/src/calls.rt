@@ -19,14 +19,18 @@ pub fn say<W: Write>(out: &mut W, name: &str, answer: &Result<Vec<u8>>) -> io::R
 }
 
 /// Writes a line for each call on the text that the line holds.
+///
+/// # Errors
+///
+/// A line of another form is `InvalidInput`, and so is one for which there is no memory.
 pub fn report<W: Write>(alloc: Global, line: &str, out: &mut W) -> io::Result<()> {
     let (mode, text) = match line.split_once(' ') {
         Some(("s", text)) => (Mode::Standard, text),
         Some(("e", text)) => (Mode::Extended, text),
-        _ => return out.write_all(b"unknown\n"),
+        _ => return Err(io::Error::from(io::ErrorKind::InvalidInput)),
     };
     let Ok(text) = hex::decode(alloc, text) else {
-        return out.write_all(b"unknown\n");
+        return Err(io::Error::from(io::ErrorKind::InvalidInput));
     };
     say(out, "reads", &reads(alloc, mode, &text))?;
     say(out, "value", &value(alloc, mode, &text))?;
