@@ -15,7 +15,7 @@ COMMON_KEYS = ("a", "b", "aa", "A", "é", "$", "_1")
 # What a text is broken with, and what raw texts are made of.
 TOKENS = [bytes((byte,)) for byte in b'[]{}:,"\'\\/*0123456789.+-eExXuUnNtTfFiIaAbBdDrRsSlLyY_$']
 TOKENS += [bytes((byte,)) for byte in b" \t\n\r\x0c\x00\x01\x1f\x7f"]
-TOKENS += [bytes((byte,)) for byte in (0x80, 0xBF, 0xC0, 0xC3, 0xA9, 0xE4, 0xB8, 0xAD, 0xED, 0xF0, 0xF4, 0xFF)]
+TOKENS += [bytes((byte,)) for byte in b"\x80\xa9\xad\xb8\xbf\xc0\xc3\xdf\xe0\xe4\xed\xef\xf0\xf4\xff"]
 LONG_TOKENS = [
     b"null", b"true", b"false", b"nan", b"infinity", b"\\n", b"\\r", b"\\t", b"\\x0C", b"\\u", b"\\u{", b"\\uD834",
     b"\\uDD1E", b"\\u{D834}", b"\\'", b'\\"', b"//", b"/*", b"*/", b"0x", b"-0x", b"1e5", b".5", b"1.", b"\xe4\xb8\xad",
@@ -322,6 +322,12 @@ class Maker:
         return mode, left, self.alike(left, mode)
 
 
+    def body(self):
+        """What stands between quotes, or nearly."""
+        text = b"".join(self.item(STANDARD, '"') for _ in range(self.count(0, 6)))
+        return self.broken_once(text) if self.chance(0.5) else text
+
+
 def texts(seed, count):
     """So many texts."""
     maker = Maker(seed)
@@ -349,3 +355,10 @@ def pairs(seed, count):
         if maker.chance(0.05) or (is_read(left, mode) and is_read(right, mode)):
             made += 1
             yield mode, left, right
+
+
+def bodies(seed, count):
+    """So many bodies of strings."""
+    maker = Maker(f"bodies {seed}")
+    for _ in range(count):
+        yield maker.body()

@@ -4,6 +4,7 @@ Each row is the modes (`s`, `e` or both), the text, and the answer: a tree in on
 where it has one, its argument.
 """
 
+import itertools
 import sys
 
 import reference
@@ -178,6 +179,19 @@ COMMENTS = [
 
 ROWS = DOCUMENTS + STANDARD_NUMBERS + EXTENDED_NUMBERS + HEXADECIMALS + STRINGS + CONTAINERS + KEYS + COMMENTS
 
+# Bodies of strings, with their texts or refusals and the indexes that are left.
+BODIES = [
+    (b"hello\\nworld", "hello\nworld", 12), (b'\\"\\\\\\b\\f\\n\\r\\t', '"\\\b\f\n\r\t', 14),
+    (b"forward\\/slash", "forward/slash", 14), (b"Unicode: \\u{00A9} \\u{00AE}", "Unicode: \xa9 \xae", 26),
+    (b"\\u007F", "\x7f", 6), (b"\\u0000", "\0", 6), (b"\\u0041\\u0042\\u0043", "ABC", 18),
+    (b"CJK: \\u4E2D\\u6587", "CJK: \u4e2d\u6587", 17), (b'a"b', 'a"b', 3), (b"", "", 0),
+    (b"\\u{00}", ("UnexpectedEndOfHexEscape", 2), 2), (b"\\u{0041x", ("UnexpectedEndOfHexEscape", 2), 2),
+    (b"\\u{00G1}", ("InvalidHex", 8, 71), 8), (b"\\uD800\\uDC0", ("UnexpectedEndOfHexEscape", 8), 8),
+    (b"\\z", ("InvalidEscaped", 2, 122), 2), (b"\\u123", ("UnexpectedEndOfHexEscape", 2), 2),
+    (b"\\uGHIJ", ("InvalidHex", 6, 71), 6), (b"\\'", ("InvalidEscaped", 2, 39), 2),
+    (b"ab\\", ("UnexpectedEndOfHexEscape", 3), 3), (b"\xff\\n", ("InvalidStringValue", 3), 3),
+]
+
 # The written text of some values, in extended mode.
 WRITTEN = [
     (b"'say \"x\"'", b'"say \\"x\\""'), (b'"\\uD800\\n"', b'"\\\\uD800\\n"'),
@@ -198,35 +212,60 @@ UPWARDS = [
 ]
 
 
+def parts_of(refusal):
+    argument = () if refusal.argument is None else (refusal.argument,)
+    return (refusal.code, refusal.position, *argument)
+
+
 def answer_of(text, mode):
     try:
         return reference.described(reference.read(text, mode))
     except reference.Refusal as refusal:
-        argument = () if refusal.argument is None else (refusal.argument,)
-        return (refusal.code, refusal.position, *argument)
+        return parts_of(refusal)
 
 
-def faults():
-    """What the reference answers in another way."""
+def answer_of_body(data):
+    body = reference.Body(data, 0, reference.STANDARD)
+    try:
+        return body.decoded().decode(), body.idx
+    except reference.Refusal as refusal:
+        return parts_of(refusal), body.idx
+
+
+def faults_of_reading():
     for modes, text, wanted in ROWS:
         for mode in modes:
             found = answer_of(text, MODES[mode])
             if found != wanted:
                 yield f"{MODES[mode]} {text[:80]!r}: {found}, and not {wanted}"
+    for body, *wanted in BODIES:
+        found = answer_of_body(body)
+        if found != tuple(wanted):
+            yield f"body {body!r}: {found}, and not {wanted}"
+
+
+def faults_of_writing():
     for text, wanted in WRITTEN:
         found = reference.written(reference.read(text, reference.EXTENDED))
         if found != wanted:
             yield f"{text!r} is written {found}, and not {wanted}"
-    for i, left in enumerate(UPWARDS):
-        for j, right in enumerate(UPWARDS):
-            wanted = "equal" if i == j else "less" if i < j else "greater"
-            for a in left:
-                for b in right:
-                    if reference.answer_pair(a, b, reference.EXTENDED) != wanted:
-                        yield f"{a!r} and {b!r}: not {wanted}"
+
+
+def faults_of_order():
+    places = [(place, text) for place, equal in enumerate(UPWARDS) for text in equal]
+    for (i, left), (j, right) in itertools.product(places, places):
+        wanted = "equal" if i == j else "less" if i < j else "greater"
+        if reference.answer_pair(left, right, reference.EXTENDED) != wanted:
+            yield f"{left!r} and {right!r}: not {wanted}"
+
+
+def main():
+    """Prints what the reference answers in another way."""
+    faults = [*faults_of_reading(), *faults_of_writing(), *faults_of_order()]
+    rows = f"{len(ROWS)} texts, {len(BODIES)} bodies, {len(WRITTEN)} written texts and {len(UPWARDS)} places in the order"
+    print("\n".join(faults) or f"the reference gives what is known of {rows}")
+    sys.exit(1 if faults else 0)
 
 
 if __name__ == "__main__":
-    found = list(faults())
-    print("\n".join(found) or f"{len(ROWS)} rows, {len(WRITTEN)} texts and {len(UPWARDS)} places in the order hold")
-    sys.exit(1 if found else 0)
+    main()

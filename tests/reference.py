@@ -682,17 +682,29 @@ def answer_pair(left, right, mode):
         return "unknown"
 
 
-def answer(line):
-    """The answer to a line: a mode, `s` or `e`, and one or two texts in hexadecimal."""
-    words = line.split(" ")
-    mode = {"s": STANDARD, "e": EXTENDED}.get(words[0])
-    if mode is None or len(words) not in (2, 3):
-        return "unknown"
+def answer_body(data):
+    body = Body(data, 0, STANDARD)
     try:
-        texts = [bytes.fromhex(word) for word in words[1:]]
+        return f"ok {body.decoded().hex()} {body.idx}"
+    except Refusal as refusal:
+        return f"no {refusal.printed().hex()} {body.idx}"
+
+
+def answer(line):
+    """The answer to a line: a letter, and one or two texts in hexadecimal."""
+    letter, *words = line.split(" ")
+    try:
+        texts = [bytes.fromhex(word) for word in words]
     except ValueError:
         return "unknown"
-    return answer_text(texts[0], mode) if len(texts) == 1 else answer_pair(*texts, mode)
+    if letter == "b" and len(texts) == 1:
+        return answer_body(texts[0])
+    mode = {"s": STANDARD, "e": EXTENDED}.get(letter)
+    if mode is not None and len(texts) == 1:
+        return answer_text(texts[0], mode)
+    if mode is not None and len(texts) == 2:
+        return answer_pair(*texts, mode)
+    return "unknown"
 
 
 def main():

@@ -1,11 +1,12 @@
-//! The answer to one line. A line is a mode, `s` for standard or `e` for extended, and one or two texts in hexadecimal,
-//! with one blank before each text, also where it is empty.
+//! The answer to one line: a letter, and what it is asked of in hexadecimal, with one blank before each part, also where
+//! that part is empty. The letter is `s` for standard or `e` for extended mode, or `b` for a string's body.
 //!
 //! | line | answer |
 //! |---|---|
 //! | one text, which is read | `ok`, its tree, its written text in hexadecimal, and `same` or `differs` |
 //! | one text, which is refused | `no` and what is printed of the refusal, in hexadecimal |
 //! | two texts, which are read | `less`, `equal` or `greater` |
+//! | a body | `ok` and its text in hexadecimal, or `no` as above; and the index that `parse_string` leaves |
 //! | any other | `unknown` |
 //!
 //! It is `same` where the tree, the value and what its written text reads back as are equal, and that text is written
@@ -18,37 +19,59 @@ use std::cmp::Ordering;
 
 /// The answer, without a line feed.
 pub fn answer(alloc: Global, line: &str) -> Result<String, AllocError> {
-    let Some((mode, texts)) = line.split_once(' ') else {
-        return String::from_str(alloc, "unknown");
-    };
-    let mode = match mode {
-        "s" => Mode::Standard,
-        "e" => Mode::Extended,
-        _ => return String::from_str(alloc, "unknown"),
-    };
+    match line.split_once(' ') {
+        Some(("s", texts)) => of_texts(alloc, Mode::Standard, texts),
+        Some(("e", texts)) => of_texts(alloc, Mode::Extended, texts),
+        Some(("b", body)) => of_body(alloc, body),
+        _ => unknown(alloc),
+    }
+}
+
+fn unknown(alloc: Global) -> Result<String, AllocError> {
+    String::from_str(alloc, "unknown")
+}
+
+fn of_texts(alloc: Global, mode: Mode, texts: &str) -> Result<String, AllocError> {
     match texts.split_once(' ') {
         None => one_text(alloc, mode, texts),
         Some((left, right)) => two_texts(alloc, mode, left, right),
     }
 }
 
+fn of_body(alloc: Global, body: &str) -> Result<String, AllocError> {
+    let Ok(body) = hex::decode(alloc, body) else {
+        return unknown(alloc);
+    };
+    let mut idx = 0;
+    let answer = match jsonb::parse_string(alloc, &body, body.len(), &mut idx) {
+        Ok(text) => {
+            let text = hex::encode(alloc, text.as_bytes())?;
+            format!(in alloc; "ok {text}")?
+        }
+        Err(e) => refused(alloc, &e)?,
+    };
+    format!(in alloc; "{answer} {idx}")
+}
+
+fn refused(alloc: Global, e: &Error) -> Result<String, AllocError> {
+    let printed = format!(in alloc; "{e}")?;
+    let printed = hex::encode(alloc, printed.as_bytes())?;
+    format!(in alloc; "no {printed}")
+}
+
 fn one_text(alloc: Global, mode: Mode, text: &str) -> Result<String, AllocError> {
     let Ok(text) = hex::decode(alloc, text) else {
-        return String::from_str(alloc, "unknown");
+        return unknown(alloc);
     };
     match described(alloc, mode, &text) {
         Ok(answer) => Ok(answer),
-        Err(e) => {
-            let printed = format!(in alloc; "{e}")?;
-            let printed = hex::encode(alloc, printed.as_bytes())?;
-            format!(in alloc; "no {printed}")
-        }
+        Err(e) => refused(alloc, &e),
     }
 }
 
 fn two_texts(alloc: Global, mode: Mode, left: &str, right: &str) -> Result<String, AllocError> {
     let (Ok(left), Ok(right)) = (hex::decode(alloc, left), hex::decode(alloc, right)) else {
-        return String::from_str(alloc, "unknown");
+        return unknown(alloc);
     };
     let word = match order(alloc, mode, &left, &right) {
         Ok(Ordering::Less) => "less",
