@@ -262,8 +262,8 @@ def faults_of_order():
 def main():
     """Prints what the reference answers in another way."""
     faults = [*faults_of_reading(), *faults_of_writing(), *faults_of_order()]
-    known = f"{len(ROWS)} texts, {len(BODIES)} bodies, {len(WRITTEN)} writings, {len(UPWARDS)} places in the order"
-    print("\n".join(faults) or f"{known}: the reference gives what is known of them")
+    counts = f"{len(ROWS)} texts, {len(BODIES)} bodies, {len(WRITTEN)} written texts, {len(UPWARDS)} places"
+    print("\n".join(faults) or f"the reference gives what is known: {counts} in the order")
     sys.exit(1 if faults else 0)
 
 
