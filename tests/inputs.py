@@ -1,5 +1,6 @@
 """Makes JSON texts, and texts that nearly are, from a seed."""
 
+import itertools
 import random
 
 from reference import EXTENDED, STANDARD, Refusal, read
@@ -20,6 +21,10 @@ LONG_TOKENS = [
     b"null", b"true", b"false", b"nan", b"infinity", b"\\n", b"\\r", b"\\t", b"\\x0C", b"\\u", b"\\u{", b"\\uD834",
     b"\\uDD1E", b"\\u{D834}", b"\\'", b'\\"', b"//", b"/*", b"*/", b"0x", b"-0x", b"1e5", b".5", b"1.", b"\xe4\xb8\xad",
 ]
+
+
+# What all short texts are made of.
+SHORT_BYTES = b"[]{}:,\"'\\/*01x.-e+\nuna\xc3"
 
 
 class Maker:
@@ -362,3 +367,10 @@ def bodies(seed, count):
     maker = Maker(f"bodies {seed}")
     for _ in range(count):
         yield maker.body()
+
+
+def short(most):
+    """Every text of at most so many of a few bytes."""
+    for length in range(most + 1):
+        for text in itertools.product(SHORT_BYTES, repeat=length):
+            yield bytes(text)
