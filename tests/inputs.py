@@ -155,6 +155,14 @@ class Maker:
         digits = self.pick(UNITS) if self.chance(0.8) else self.digits(4, "0123456789abcdefABCDEF").decode()
         return ("\\u{" + digits + "}" if self.chance(0.3) else "\\u" + digits).encode()
 
+    # Long runs, with something that a search may stop at between them, and perhaps no end.
+    def long_string(self, mode):
+        quote = self.pick((b'"', b"'")) if mode == EXTENDED else b'"'
+        runs = [self.pick((b"a", b"\xc3\xa9", b"\x00")) * self.count(0, 70) for _ in range(self.count(1, 4))]
+        escapes = (b"\\n", b"\\\\", b"\\" + quote, b"\\u0041", b"\\u{D834}\\uDD1E", b"\\u")
+        between = self.pick(escapes + (b'"', b"'", b"\xff"))
+        return quote + between.join(runs) + self.pick((quote, quote, quote, b"", b"\\"))
+
     def key(self, mode):
         if self.chance(0.5):
             text = self.pick(COMMON_KEYS)
@@ -265,6 +273,14 @@ class Maker:
         key = b"".join(self.random.choices(parts, k=self.count(0, 3)))
         return b"{" + key + self.pick((b":1}", b":1}", b" :1}", b"/**/:1}", b"", b":"))
 
+    # An object with many keys in no order, of which one may be repeated, or many digits.
+    def large(self, mode):
+        if self.chance(0.3):
+            return self.pick((b"", b"-", b"0.", b"0x")) + self.digits(self.count(100, 6000), "0123456789")
+        numbers = [self.count(0, 10000) for _ in range(self.count(20, 150))]
+        key = b"k%d" if mode == EXTENDED else b'"k%d"'
+        return b"{" + b",".join((key + b":%d") % (number, i) for i, number in enumerate(numbers)) + b"}"
+
     # More arrays and objects than may be open at once, each in the one array.
     def wide(self):
         return b"[" + b",".join(self.pick((b"[]", b"{}", b"[1]")) for _ in range(self.count(500, 600))) + b"]"
@@ -280,26 +296,22 @@ class Maker:
     def some(self):
         """One or more texts."""
         mode = self.pick((STANDARD, EXTENDED, EXTENDED))
-        way = self.random.random()
-        if way < 0.35:
-            return [self.document(mode)]
-        if way < 0.45:
-            return [self.blanks(mode) + self.number(mode) + self.blanks(mode)]
-        if way < 0.55:
-            return [self.string(mode)]
-        if way < 0.85:
-            return [self.broken(self.document(mode))]
-        if way < 0.95:
-            return [self.raw()]
-        if way < 0.965:
-            return [self.odd_key()]
-        if way < 0.985:
-            return [self.repeating(mode)]
-        if way < 0.989:
-            return [self.nested(mode)]
-        if way < 0.99:
-            return [self.wide()]
-        return self.family(mode)
+        ways = (
+            (350, lambda: [self.document(mode)]),
+            (300, lambda: [self.broken(self.document(mode))]),
+            (100, lambda: [self.raw()]),
+            (100, lambda: [self.blanks(mode) + self.number(mode) + self.blanks(mode)]),
+            (80, lambda: [self.string(mode)]),
+            (20, lambda: [self.long_string(mode)]),
+            (20, lambda: [self.repeating(mode)]),
+            (15, lambda: [self.odd_key()]),
+            (8, lambda: self.family(mode)),
+            (4, lambda: [self.nested(mode)]),
+            (2, lambda: [self.large(mode)]),
+            (1, lambda: [self.wide()]),
+        )
+        weights, makers = zip(*ways)
+        return self.random.choices(makers, weights)[0]()
 
     # A number that is likely to be carried, and to be near another one.
     def small_number(self, mode):

@@ -330,8 +330,9 @@ class Reader:
             if not self.run(DIGITS):
                 self.refuse_number(1)
         exponent = self.exponent()
-        number = int(whole)
-        if not (fraction or exponent):
+        # No number of 64 bits has more digits than 20.
+        if not (fraction or exponent) and len(whole) <= 20:
+            number = int(whole)
             if negative and number <= 2 ** 63:
                 return ("number", "Int64", 0, -number)
             if not negative and number < 2 ** 64:
