@@ -21,7 +21,9 @@ def path(name):
 def newest_source(name):
     files = [TOP / "crates.txt"]
     for crate in ("jsonb_value", "jsonb", name):
-        files += [file for file in (CRATES / crate).rglob("*") if file.suffix in (".rt", ".antt") and "out" not in file.parts]
+        for file in (CRATES / crate).rglob("*"):
+            if file.suffix in (".rt", ".antt") and "out" not in file.parts:
+                files.append(file)
     return max(file.stat().st_mtime for file in files)
 
 
