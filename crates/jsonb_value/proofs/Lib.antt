@@ -1,5 +1,6 @@
 pub mod Appended
 pub mod BinaryTexts
+pub mod Built
 pub mod ByContent
 pub mod Comparing
 pub mod DecimalTexts
@@ -19,6 +20,7 @@ pub mod NumberTexts
 pub mod NumbersInRange
 pub mod OneText
 pub mod Parts
+pub mod PlainRuns
 pub mod Pointed
 pub mod Quotients
 pub mod RangeTexts

@@ -142,16 +142,34 @@ impl Number {
         ensures capacity { vec_capacity buf.old ≤ vec_capacity buf.new }
         ensures proper { IsProperNumber (number_view self.now) }
     {
-        let mut buffer = Buffer::new();
         match self {
-            Number::Int64(n) => buf.extend_from_slice(signed_text(*n, &mut buffer).as_bytes()),
-            Number::UInt64(n) => buf.extend_from_slice(unsigned_text(*n, &mut buffer).as_bytes()),
-            Number::Decimal64(_) | Number::Decimal128(_) => {
-                let parts = self.text_parts(&mut buffer);
-                buf.reserve(parts.len())?;
-                parts.append_to(buf)
+            Number::Int64(n) => {
+                let mut buffer = Buffer::new();
+                buf.extend_from_slice(signed_text(*n, &mut buffer).as_bytes())
             }
+            Number::UInt64(n) => {
+                let mut buffer = Buffer::new();
+                buf.extend_from_slice(unsigned_text(*n, &mut buffer).as_bytes())
+            }
+            Number::Decimal64(_) | Number::Decimal128(_) => self.append_pieces(buf),
         }
+    }
+
+    // The same by the pieces of the text, apart from the shorter way of integers.
+    #[inline(never)]
+    fn append_pieces(&self, buf: &mut Vec<u8>) -> Result<(), AllocError>
+        ensures ok { OnOk result (buf.new.items
+            ≡ buf.old.items ++ number_text (number_view self.now)) }
+        ensures err { OnErr result (buf.new.items ≡ buf.old.items) }
+        ensures full { OnErr result
+            (vec_capacity buf.old < vec_len buf.old + length (number_text (number_view self.now))) }
+        ensures capacity { vec_capacity buf.old ≤ vec_capacity buf.new }
+        ensures proper { IsProperNumber (number_view self.now) }
+    {
+        let mut buffer = Buffer::new();
+        let parts = self.text_parts(&mut buffer);
+        buf.reserve(parts.len())?;
+        parts.append_to(buf)
     }
 }
 

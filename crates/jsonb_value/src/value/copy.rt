@@ -3,6 +3,7 @@ ghost use Rattle.std.specs.Prelude.{◌≡◌, IfOk, IfErr};
 ghost use Rattle.jsonb_value.specs.Parts.{HoldsNoMemory};
 ghost use Rattle.jsonb_value.specs.Tree.{escaped};
 ghost use Rattle.std.specs.Cow.{cow_str_bytes};
+ghost use Rattle.jsonb_value.specs.Keys.{KeysAscend};
 ghost use Rattle.jsonb_value.specs.View.{view, trees_view, members_view, mark_view};
 
 use super::{Object, Value};
@@ -65,14 +66,36 @@ fn copy_items<'a>(items: &Vec<Value<'a>>) -> Result<Vec<Value<'a>>, AllocError>
     Ok(copies)
 }
 
+// Up to so many members, which one node holds, are inserted one by one. More are built into a map at once.
+const FEW: usize = 15;
+
 #[cycle(copy)]
 fn copy_members<'a>(members: &Object<'a>) -> Result<Object<'a>, AllocError>
     ensures { IfOk result (λ m. members_view m.entries ≡ members_view members.now.entries) }
 {
+    if members.len() > FEW {
+        if let Some((first, _)) = members.first_key_value() {
+            let mut pairs = Vec::with_capacity(*first.allocator(), members.len())?;
+            'pairs: for (key, value) in members.iter() {
+                let name = key.clone()?;
+                pairs.push((name, copy(value)?))?;
+            }
+            return build(pairs);
+        }
+    }
     let mut copies = Object::emptied(members)?;
     'members: for (key, value) in members.iter() {
         let name = key.clone()?;
         drop(copies.insert(name, copy(value)?)?);
     }
     Ok(copies)
+}
+
+// The object of pairs whose keys ascend.
+fn build<'a>(pairs: Vec<(String, Value<'a>)>) -> Result<Object<'a>, AllocError>
+    ensures { KeysAscend (members_view pairs.entry.items)
+        → IfOk result (λ m. members_view m.entries ≡ members_view pairs.entry.items) }
+{
+    let alloc = *pairs.allocator();
+    pairs.into_iter().collect(alloc)
 }

@@ -1,6 +1,7 @@
 //! The text of a value: JSON with no blanks.
-ghost use Rattle.std.specs.Prelude.{ℕ, List, ◌≡◌, ◌≢◌, ◌↔◌, ◌⊎◌, ◌+◌, ◌<◌, ◌≤◌, ◌++◌, ◌∷◌, [], length, take, Some, None, IfErr, IfSome, IsErrOf, OnOk, OnErr, vec_len, string_bytes};
+ghost use Rattle.std.specs.Prelude.{ℕ, List, ◌≡◌, ◌≢◌, ◌↔◌, ◌⊎◌, ◌+◌, ◌<◌, ◌≤◌, ◌++◌, ◌∷◌, [], ◌==◌, if◌then◌else◌, length, take, Some, None, IfErr, IfSome, IsErrOf, OnOk, OnErr, vec_len, string_bytes};
 ghost use Rattle.std.specs.Char.{digit_char};
+ghost use Rattle.std.specs.Int.{w64, trailing_zeros};
 ghost use Rattle.std.specs.List.{flat_map};
 ghost use Rattle.std.specs.Str.{IsUtf8};
 ghost use Rattle.std.specs.Vec.{vec_capacity};
@@ -23,6 +24,7 @@ use crate::error::{Error, Result};
 use crate::extension::Interval;
 use crate::extension::text::append_binary;
 use std::alloc::AllocError;
+use std::simd::prelude::*;
 
 /// A law: what is written of a string reads back as the string, in each mode.
 pub fn string_texts_read_back()
@@ -246,8 +248,24 @@ fn append_string(text: &str, buf: &mut Vec<u8>) -> Appended
     buf.extend_from_slice(b"\"")
 }
 
-// Appends a string's bytes. Runs between escapes are copied whole.
+// Appends a string's bytes, which mostly need no escape.
+#[inline(always)]
 fn append_escaped(bytes: &[u8], buf: &mut Vec<u8>) -> Appended
+    ensures ok { OnOk result (buf.new.items ≡ buf.old.items ++ flat_map byte_text bytes.now) }
+    ensures kept { Extends buf.old.items buf.new.items }
+    ensures full { OnErr result
+        (vec_capacity buf.old < vec_len buf.old + length (flat_map byte_text bytes.now)) }
+    ensures room { vec_capacity buf.old ≤ vec_capacity buf.new }
+{
+    if run_len(bytes) < bytes.len() {
+        return append_runs(bytes, buf);
+    }
+    buf.extend_from_slice(bytes)
+}
+
+// The same of bytes with escapes. Runs between escapes are copied whole.
+#[inline(never)]
+fn append_runs(bytes: &[u8], buf: &mut Vec<u8>) -> Appended
     ensures ok { OnOk result (buf.new.items ≡ buf.old.items ++ flat_map byte_text bytes.now) }
     ensures kept { Extends buf.old.items buf.new.items }
     ensures full { OnErr result
@@ -267,16 +285,92 @@ fn append_escaped(bytes: &[u8], buf: &mut Vec<u8>) -> Appended
 }
 
 // How many of the first bytes are written as they are.
+#[inline(always)]
 fn run_len(bytes: &[u8]) -> usize
     ensures within { result ≤ length bytes.now }
     ensures plain { flat_map byte_text (take result bytes.now) ≡ take result bytes.now }
 {
+    let mut len = 0;
+    'vectors: while bytes.len() - len >= 16 {
+        let run = run_of_sixteen(&bytes[len..]);
+        len += run;
+        if run < 16 {
+            return len;
+        }
+    }
+    len + run_of_few(&bytes[len..])
+}
+
+// The same of bytes that are mostly fewer than 16.
+#[inline(always)]
+fn run_of_few(bytes: &[u8]) -> usize
+    ensures within { result ≤ length bytes.now }
+    ensures plain { flat_map byte_text (take result bytes.now) ≡ take result bytes.now }
+{
+    if bytes.len() < 8 {
+        return run_by_bytes(bytes);
+    }
+    let run = run_of_eight(bytes);
+    if run < 8 {
+        return run;
+    }
+    8 + run_by_bytes(&bytes[8..])
+}
+
+// The same, byte by byte.
+#[inline(always)]
+fn run_by_bytes(bytes: &[u8]) -> usize
+    ensures within { result ≤ length bytes.now }
+    ensures plain { flat_map byte_text (take result bytes.now) ≡ take result bytes.now }
+{
     'bytes: for (i, byte) in bytes.iter().enumerate() {
+        // Most letters are past all that have an escape.
+        if *byte > b'\\' {
+            continue;
+        }
         if *byte < 0x20 || *byte == b'"' || *byte == b'\\' {
             return i;
         }
     }
     bytes.len()
+}
+
+// How many of the first 16 bytes, up to the first that is not, are written as they are.
+#[inline(always)]
+fn run_of_sixteen(bytes: &[u8]) -> usize
+    requires { 16 ≤ length bytes.now }
+    ensures within { result ≤ 16 }
+    ensures plain { flat_map byte_text (take result bytes.now) ≡ take result bytes.now }
+{
+    let lanes = u8x16::from_slice(bytes);
+    let below = lanes.simd_lt(u8x16::splat(b' '));
+    let marks = below | lanes.simd_eq(u8x16::splat(b'"')) | lanes.simd_eq(u8x16::splat(b'\\'));
+    first_set(marks.to_bitmask(), 16)
+}
+
+// The same of the first 8 bytes.
+#[inline(always)]
+fn run_of_eight(bytes: &[u8]) -> usize
+    requires { 8 ≤ length bytes.now }
+    ensures within { result ≤ 8 }
+    ensures plain { flat_map byte_text (take result bytes.now) ≡ take result bytes.now }
+{
+    let lanes = u8x8::from_slice(bytes);
+    let below = lanes.simd_lt(u8x8::splat(b' '));
+    let marks = below | lanes.simd_eq(u8x8::splat(b'"')) | lanes.simd_eq(u8x8::splat(b'\\'));
+    first_set(marks.to_bitmask(), 8)
+}
+
+// The index of the lowest bit that is set, or the number of lanes where none is.
+#[inline(always)]
+fn first_set(mask: u64, lanes: usize) -> usize
+    ensures { result ≡ (if mask == 0 then lanes else trailing_zeros w64 mask) }
+{
+    if mask == 0 {
+        lanes
+    } else {
+        mask.trailing_zeros() as usize
+    }
 }
 
 // Appends a byte of a string, with an escape where it needs one.
