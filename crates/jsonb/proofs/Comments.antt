@@ -1,6 +1,6 @@
 -- Where comments end.
 use Rattle.std.proofs.Common.{◌≡◌, ℕ, zero, suc, ◌+◌, ◌<◌, ◌≤◌, ◌≢◌, Bool, true, false, true≢false, cond, ◌||◌, ◌&&◌, ◌⊎◌, ⊎_elim, inl, inr, List, [], ◌∷◌, ◌++◌, length, drop, get_or, refl, sym, ap, ap₂, ◌∙◌, arith, eqb, eqb-true, ne_eqb, eq-eqb}
-use Rattle.std.proofs.lemmas.Bool.{cases_Bool}
+use Rattle.std.proofs.lemmas.Bool.{cases_Bool, cases_eq}
 use Rattle.std.proofs.lemmas.List.{drop_more, length-drop}
 use Rattle.memchr.specs.Find.{is_byte2}
 use Rattle.jsonb_value.specs.Blanks.{EndsLine, IsOneLine, LacksCommentEnd}
@@ -232,6 +232,23 @@ block_none bytes at past = short (drop at bytes) (omega (arith, past, length-dro
         and_no true = refl
         and_no false = refl
     short (b ∷ c ∷ u) h = absurd (omega (arith, h))
+
+-- past bytes at which no comment ends
+pub block_far : (bytes : List ℕ) (at count : ℕ) → at + count < length bytes → ((k : ℕ) → k < count → get_or bytes (at + k) 0 ≡ 42 → get_or bytes (at + 1 + k) 0 ≢ 47) → block_length (drop at bytes) ≡ longer_by count (block_length (drop (at + count) bytes))
+block_far bytes at zero within none = sym (longer-zero (block_length (drop (at + 0) bytes)) ∙ ap (λ n. block_length (drop n bytes)) (let same : at + 0 ≡ at = omega arith in same))
+block_far bytes at (suc count) within none =
+    let here : at + 0 ≡ at = omega arith in
+    let next : at + 1 + 0 ≡ at + 1 = omega arith in
+    let other : (get_or bytes at 0 ≢ 42) ⊎ (get_or bytes (at + 1) 0 ≢ 47) = elim (cases_eq (get_or bytes at 0) 42) [
+      | inl star ↦ inr (λ slash. none 0 (omega arith) (ap (λ n. get_or bytes n 0) here ∙ star) (ap (λ n. get_or bytes n 0) next ∙ slash))
+      | inr no_star ↦ inl no_star
+    ] in
+    let later = block_far bytes (at + 1) count (omega (arith, within)) (λ k low star slash.
+    let one : at + suc k ≡ at + 1 + k = omega arith in
+    let two : at + 1 + suc k ≡ at + 1 + 1 + k = omega arith in
+    none (suc k) (omega (arith, low)) (ap (λ n. get_or bytes n 0) one ∙ star) (ap (λ n. get_or bytes n 0) two ∙ slash)) in
+    block_past bytes at (omega (arith, within)) other ∙ ap (longer_by 1) later ∙ longer-longer 1 count (block_length (drop (at + 1 + count) bytes))
+    ∙ ap₂ (λ m n. longer_by m (block_length (drop n bytes))) (let one : 1 + count ≡ suc count = omega arith in one) (let same : at + 1 + count ≡ at + suc count = omega arith in same)
 
 pub line_at : (bytes : List ℕ) (n : ℕ) → n < length bytes → is_byte2 10 13 (get_or bytes n 0) ≡ true → ((k : ℕ) → k < n → ¬ (is_byte2 10 13 (get_or bytes k 0) ≡ true)) → line_length bytes ≡ n + 1
 unfolding line_length

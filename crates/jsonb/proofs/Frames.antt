@@ -110,7 +110,7 @@ module _ (size : ℕ) (mode : Mode) (depth : ℕ) where
   member-shrinks : Shrinks (member_at size mode (value_at size mode depth))
   member-shrinks = sound-shrinks (IsFound mode (Derives mode depth) (value_at size mode depth)) (member_at size mode (value_at size mode depth)) (member_sound mode (Derives mode depth) (value_at size mode depth) size (value_sound size mode depth))
 
-  elements-turn : (front : List Tree) (bytes : List ℕ) → elements_from size mode depth front bytes
+  pub elements-turn : (front : List Tree) (bytes : List ℕ) → elements_from size mode depth front bytes
       ≡ (value_or_null mode (value_at size mode depth) (skip_blanks mode bytes) >>= finish_open size mode depth (elements_so_far front))
   elements-turn front bytes =
       parts-turn size expected_array_comma_or_end 93 (element_at mode (value_at size mode depth)) element-shrinks array_end front bytes

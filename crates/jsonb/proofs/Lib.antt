@@ -7,6 +7,7 @@ pub mod DecimalScanText
 pub mod DecimalStates
 pub mod Decoded
 pub mod DigitValues
+pub mod Direct
 pub mod Documents
 pub mod ExtendedNumbers
 pub mod ExtendedParts
@@ -20,6 +21,7 @@ pub mod HexadecimalValues
 pub mod Laid
 pub mod Longer
 pub mod Markers
+pub mod ByteMasks
 pub mod NearMarks
 pub mod NumberAutomaton
 pub mod NumberEnds

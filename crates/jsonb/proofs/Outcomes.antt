@@ -42,7 +42,7 @@ read_past p q c read a e = ap (λ (u : List ℕ). read (size_of p) (mode_of p.mo
 
 -- ---- keys
 
-pub key_quoted : (p q : Parser) → Advances p q → rest_of p ≡ 34 ∷ rest_of q → key_at (size_of p) (mode_of p.mode) (rest_of p) ≡ string_at (size_of q) (mode_of q.mode) 34 (rest_of q)
+pub key_quoted : (p q : Parser) {bytes : List ℕ} → Advances p q → bytes ≡ 34 ∷ rest_of q → key_at (size_of p) (mode_of p.mode) bytes ≡ string_at (size_of q) (mode_of q.mode) 34 (rest_of q)
 unfolding key_at
 key_quoted p q a e =
     ap (λ (u : List ℕ). key_at (size_of p) (mode_of p.mode) u) e

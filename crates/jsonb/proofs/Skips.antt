@@ -1,5 +1,5 @@
 -- Passing over blanks.
-use Rattle.std.proofs.Common.{◌≡◌, MatchBool, ne_eqb, ℕ, zero, suc, ◌+◌, ◌-◌, ◌<◌, ◌≤◌, Bool, true, false, cond, ◌||◌, ◌&&◌, ◌⊎◌, inl, inr, List, [], ◌∷◌, ◌++◌, length, drop, refl, sym, ap, subst, ◌∙◌, append_assoc, append-nil, length-append, arith, eqb, eqb-true}
+use Rattle.std.proofs.Common.{◌≡◌, MatchBool, ne_eqb, ℕ, zero, suc, ◌+◌, ◌-◌, ◌<◌, ◌≤◌, Bool, true, false, cond, ◌||◌, ◌&&◌, ◌⊎◌, inl, inr, List, [], ◌∷◌, ◌++◌, length, get_or, drop, refl, sym, ap, subst, ◌∙◌, append_assoc, append-nil, length-append, arith, eqb, eqb-true}
 use Rattle.std.proofs.lemmas.List.{drop_at, length-drop}
 use Rattle.jsonb_value.specs.Blanks.{AreLastBlanks, EndsLine, IsBlank, IsBlanks, IsOneLine, LacksCommentEnd}
 use Rattle.jsonb_value.specs.Blanks.AreLastBlanks.{blanks_to_end, line_to_end}
@@ -77,6 +77,15 @@ skip-blank {mode} b rest = ap (past_comment mode) (pass-blank b rest)
 
 pub skip-blanks : {mode : Mode} {blanks : List ℕ} (b : IsBlanks mode blanks) (rest : List ℕ) → skip_blanks mode (blanks ++ rest) ≡ skip_blanks mode rest
 skip-blanks {mode} b rest = ap (past_comment mode) (pass-blanks b rest)
+
+-- so many spaces
+pub pass-spaces : (mode : Mode) (count : ℕ) (bytes : List ℕ) → count ≤ length bytes → ((k : ℕ) → k < count → get_or bytes k 0 ≡ 32) → pass_blanks mode (drop count bytes) ≡ pass_blanks mode bytes
+pass-spaces mode zero bytes within are = refl
+pass-spaces mode (suc count) [] within are = absurd (omega (arith, within))
+pass-spaces mode (suc count) (b ∷ bytes) within are =
+    let some : 0 < 1 = omega arith in
+    pass-spaces mode count bytes (omega (arith, within)) (λ k low. are (suc k) (omega (arith, low)))
+    ∙ sym (ap (λ (c : ℕ). pass_blanks mode (c ∷ bytes)) (are 0 (omega arith)) ∙ pass-step mode (32 ∷ bytes) some)
 
 -- ---- where no blank begins nothing is passed
 

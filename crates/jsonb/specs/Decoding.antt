@@ -54,6 +54,14 @@ SeesBackslash bytes count = (k : ℕ) × (k < count) × (slice_index bytes k ≡
 abbrev pub SeesNoBackslash : List ℕ → ℕ → Type 0
 SeesNoBackslash bytes count = (k : ℕ) → k < count → slice_index bytes k ≢ 92
 
+-- new is old with the bytes before the first backslash, and the rest begins with it or is empty
+pub record CopiesRun (bytes rest old new : List ℕ) : Type 0 where
+  pub run : List ℕ
+  pub split : bytes ≡ run ++ rest
+  pub clear : SeesNoBackslash run (length run)
+  pub appended : new ≡ old ++ run
+  pub begins : 0 < length rest → slice_index rest 0 ≡ 92
+
 -- whether a backslash is among the first bytes
 abbrev pub TellsBackslash : List ℕ → ℕ → Bool → Type 0
 TellsBackslash bytes count true = SeesBackslash bytes count

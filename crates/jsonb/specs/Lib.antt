@@ -1,5 +1,6 @@
 pub mod AstView
 pub mod Decoding
+pub mod Direct
 pub mod OpenPlaces
 pub mod Parser
 pub mod Placed

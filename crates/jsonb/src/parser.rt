@@ -22,6 +22,7 @@ mod ast;
 mod bare_key;
 mod blank;
 mod container;
+mod direct;
 mod extended_number;
 mod number;
 mod scalar;
@@ -30,6 +31,7 @@ mod string;
 mod tests;
 
 pub use ast::JsonAst;
+use direct::read_directly;
 use jsonb_value::error::{Error, ParseErrorCode, Result};
 use jsonb_value::value::Value;
 use std::alloc::Global;
@@ -116,6 +118,9 @@ pub fn parse_value_standard_mode(alloc: Global, buf: &[u8]) -> Result<Value<'_>>
     // Each standard document is an extended one, of the same value.
     ensures extended { IfOk result (λ v. (u : Tree) × IsDocument extended buf.now u × Same u (view v)) }
 {
+    if let Some(value) = read_directly(alloc, buf, Mode::Standard) {
+        return Ok(value);
+    }
     JsonAst::parse(alloc, buf, Mode::Standard)?.into_value(alloc)
 }
 
@@ -146,6 +151,9 @@ pub fn parse_value(alloc: Global, buf: &[u8]) -> Result<Value<'_>>
     ensures in_range { IfOk result (λ v. IsInRange (view v)) }
     ensures proper { IfOk result (λ v. IsProper (view v)) }
 {
+    if let Some(value) = read_directly(alloc, buf, Mode::Extended) {
+        return Ok(value);
+    }
     JsonAst::parse(alloc, buf, Mode::Extended)?.into_value(alloc)
 }
 

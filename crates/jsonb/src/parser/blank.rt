@@ -1,14 +1,49 @@
 //! Blanks between the parts of a text.
-ghost use Rattle.std.specs.Prelude.{◌≡◌, ◌≤◌, length, MatchBool, drop};
+ghost use Rattle.std.specs.Prelude.{◌≡◌, ◌↔◌, ℕ, ◌+◌, ◌<◌, ◌≤◌, ◌^◌, length, slice_index, MatchBool, drop};
+ghost use Rattle.std.specs.Int.{bit_at};
 ghost use Rattle.jsonb_value.specs.Mode.{extended};
 ghost use Rattle.jsonb.specs.Parser.{rest_of, size_of, mode_of, Advances};
 ghost use Rattle.jsonb.specs.Reading.Blank.{longer_by, block_length, line_length, comment_length, blank_length, opens_comment, pass_blanks, skip_blanks};
 
+use super::string::{both, equal_to, load, lowest, top_bits};
 use super::{Mode, Parser};
 use memchr::memchr2;
+use std::simd::prelude::*;
+
+// Bit k is set where a star and a slash stand from byte `at + k` on, among the next 32 bytes.
+#[inline(always)]
+fn block_ends(bytes: &[u8], at: usize) -> u64
+    requires { at + 33 ≤ length bytes.now }
+    ensures { (k : ℕ) → (bit_at result k ≡ 1) ↔ ((k < 32) × (slice_index bytes.now (at + k) ≡ 42)
+        × (slice_index bytes.now (at + 1 + k) ≡ 47)) }
+{
+    let here = load(bytes, at);
+    let stars = equal_to(here, b'*');
+    let next = load(bytes, at + 1);
+    let slashes = equal_to(next, b'/');
+    let ends = both(stars, slashes);
+    top_bits(ends)
+}
 
 // How many bytes there are up to and with the first star and slash, or 0 where there are none.
 fn block_len(bytes: &[u8]) -> usize
+    ensures value { result ≡ block_length bytes.now }
+    ensures within { result ≤ length bytes.now }
+{
+    let mut at = 0;
+    'vectors: while bytes.len() - at > 32 {
+        let ends = block_ends(bytes, at);
+        if ends != 0 {
+            return at + lowest(ends) + 2;
+        }
+        at += 32;
+    }
+    let len = short_block_len(&bytes[at..]);
+    if len == 0 { 0 } else { at + len }
+}
+
+// The same byte by byte.
+fn short_block_len(bytes: &[u8]) -> usize
     ensures value { result ≡ block_length bytes.now }
     ensures within { result ≤ length bytes.now }
 {
@@ -63,6 +98,30 @@ fn blank_len(bytes: &[u8], mode: Mode) -> usize
     }
 }
 
+// Bit k is set where byte k is a space, among the first 16.
+#[inline(always)]
+fn space_bits(bytes: &[u8]) -> u64
+    requires { 16 ≤ length bytes.now }
+    ensures spaces { (k : ℕ) → bit_at result k ≡ 1 → slice_index bytes.now k ≡ 32 }
+    ensures bound { result < 2 ^ 16 }
+{
+    u8x16::from_slice(bytes)
+        .simd_eq(u8x16::splat(b' '))
+        .to_bitmask()
+}
+
+// How many of the first 16 bytes are spaces before any other byte. Where there are fewer bytes, none is looked at.
+#[inline(always)]
+fn near_spaces(bytes: &[u8]) -> usize
+    ensures within { result ≤ length bytes.now }
+    ensures spaces { (k : ℕ) → k < result → slice_index bytes.now k ≡ 32 }
+{
+    if bytes.len() < 16 {
+        return 0;
+    }
+    space_bits(bytes).trailing_ones() as usize
+}
+
 impl Parser<'_> {
     // Whether the next byte may begin a blank. Few bytes may, so this is asked before the call.
     #[inline(always)]
@@ -87,8 +146,23 @@ impl Parser<'_> {
         }
     }
 
+    // The same. Most blanks are ends of lines and the spaces after them.
     #[inline(never)]
     fn skip_run_of_blanks(&mut self)
+        ensures rest { rest_of self.new ≡ skip_blanks (mode_of self.old.mode) (rest_of self.old) }
+        ensures advances { Advances self.old self.new }
+    {
+        'lines: while self.take_plain_blank() {
+            self.skip_spaces();
+        }
+        if self.may_begin_blank() {
+            self.skip_other_blanks();
+        }
+    }
+
+    // The same of every other blank.
+    #[inline(never)]
+    fn skip_other_blanks(&mut self)
         ensures rest { rest_of self.new ≡ skip_blanks (mode_of self.old.mode) (rest_of self.old) }
         ensures advances { Advances self.old self.new }
     {
@@ -113,13 +187,39 @@ impl Parser<'_> {
         }
     }
 
+    // Passes a space, a tab or an end of a line, where one comes next.
+    #[inline(always)]
+    fn take_plain_blank(&mut self) -> bool
+        ensures rest { pass_blanks (mode_of self.old.mode) (rest_of self.new) ≡ pass_blanks (mode_of self.old.mode)
+            (rest_of self.old) }
+        ensures onward { MatchBool result ((self.old.idx < self.new.idx) × (self.new.idx ≤ size_of self.new))
+            (self.new ≡ self.old) }
+        ensures advances { Advances self.old self.new }
+    {
+        if self.take_byte(b' ') {
+            return true;
+        }
+        if self.take_byte(b'\n') {
+            return true;
+        }
+        if self.take_byte(b'\t') {
+            return true;
+        }
+        if self.take_byte(b'\r') {
+            return true;
+        }
+        false
+    }
+
     // Most blanks are spaces in a row.
     #[inline(always)]
     fn skip_spaces(&mut self)
+        requires { self.old.idx ≤ size_of self.old }
         ensures rest { pass_blanks (mode_of self.old.mode) (rest_of self.new) ≡ pass_blanks (mode_of self.old.mode)
             (rest_of self.old) }
         ensures advances { Advances self.old self.new }
     {
+        self.idx += near_spaces(self.rest());
         'spaces: while self.take_byte(b' ') {}
     }
 

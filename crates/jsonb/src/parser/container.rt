@@ -23,7 +23,7 @@ use std::cmp::Ordering;
 use std::mem;
 
 // How many arrays and objects may be open at once.
-const MAX_DEPTH: usize = 512;
+pub(super) const MAX_DEPTH: usize = 512;
 
 // A key, its value, and the index after the key.
 type Member<'a> = (CowStr<'a>, JsonAst<'a>, usize);
@@ -128,7 +128,7 @@ impl<'a> Parser<'a> {
     }
 
     // Whether an element is left out here.
-    fn is_left_out(&self) -> bool
+    pub(super) fn is_left_out(&self) -> bool
         ensures { result ≡ is_left_out (mode_of self.now.mode) (rest_of self.now) }
     {
         match self.mode {

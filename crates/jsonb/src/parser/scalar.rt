@@ -81,7 +81,7 @@ impl<'a> Parser<'a> {
 
     // Passes a single quote, where one comes next that begins a string.
     #[inline(always)]
-    fn take_single_quote(&mut self) -> bool
+    pub(super) fn take_single_quote(&mut self) -> bool
         ensures found { result ≡ begins_single_quote (mode_of self.old.mode) (rest_of self.old) }
         ensures rest { MatchBool result (rest_of self.old ≡ 39 ∷ rest_of self.new) (self.new ≡ self.old) }
         ensures inside { MatchBool result (self.new.idx ≤ size_of self.new) (self.new ≡ self.old) }
@@ -109,7 +109,7 @@ impl<'a> Parser<'a> {
 
     // Whether the text is a standard one, and a number begins here.
     #[inline(always)]
-    fn begins_standard_number(&self) -> bool
+    pub(super) fn begins_standard_number(&self) -> bool
         ensures { MatchBool result ((mode_of self.now.mode ≡ standard)
             × (begins_number standard (rest_of self.now) ≡ true)) (Unit {0}) }
     {
@@ -135,7 +135,7 @@ impl<'a> Parser<'a> {
 
     // Whether a number begins here.
     #[inline(always)]
-    fn begins_number(&self) -> bool
+    pub(super) fn begins_number(&self) -> bool
         ensures { result ≡ begins_number (mode_of self.now.mode) (rest_of self.now) }
     {
         match self.mode {
@@ -167,7 +167,7 @@ impl<'a> Parser<'a> {
 
     // A number, or a word that names none.
     #[inline(always)]
-    fn parse_number(&mut self) -> Result<Number>
+    pub(super) fn parse_number(&mut self) -> Result<Number>
         requires { self.old.idx ≤ size_of self.old }
         ensures reads { Gives (λ n. (number_view n, rest_of self.new)) result
             (number_at (size_of self.old) (mode_of self.old.mode) (rest_of self.old)) }
@@ -216,7 +216,7 @@ impl<'a> Parser<'a> {
         Ok(value)
     }
 
-    fn parse_word(&mut self, word: &[u8]) -> Result<()>
+    pub(super) fn parse_word(&mut self, word: &[u8]) -> Result<()>
         ensures reads { Gives (λ _. rest_of self.new) result
             (letters_at (size_of self.old) (mode_of self.old.mode) word.now (rest_of self.old)) }
         ensures named { result ≢ Err Error.OutOfMemory }
@@ -233,7 +233,7 @@ impl<'a> Parser<'a> {
 
     // Whether this letter comes next.
     #[inline(always)]
-    fn next_is_letter(&self, letter: u8) -> bool
+    pub(super) fn next_is_letter(&self, letter: u8) -> bool
         ensures found { result ≡ begins_letter (mode_of self.now.mode) letter (rest_of self.now) }
         ensures within { MatchBool result (self.now.idx < size_of self.now) (Unit {0}) }
     {

@@ -1,5 +1,5 @@
 //! Quoted strings.
-ghost use Rattle.std.specs.Prelude.{◌≡◌, ◌≢◌, ◌⊎◌, ◌↔◌, ◌==◌, if◌then◌else◌, bit_or, IfSome, IfNone, ℕ, ◌+◌, ◌<◌, ◌≤◌, ◌^◌, length, slice_index, Contains, Err, true};
+ghost use Rattle.std.specs.Prelude.{◌≡◌, ◌≢◌, ◌⊎◌, ◌↔◌, ◌==◌, if◌then◌else◌, bit_and, bit_or, IfSome, IfNone, ℕ, ◌+◌, ◌<◌, ◌≤◌, ◌^◌, length, slice_index, Contains, Err, true};
 ghost use Rattle.std.specs.Cow.{cow_str_bytes};
 ghost use Rattle.std.specs.Int.{bit_at};
 ghost use Rattle.memchr.specs.Lanes.{HasLanes};
@@ -7,7 +7,7 @@ ghost use Rattle.jsonb_value.specs.StringStep.{escape_step};
 ghost use Rattle.jsonb_value.specs.View.{mark_view};
 ghost use Rattle.jsonb.specs.Decoding.{TellsBackslash};
 ghost use Rattle.jsonb.specs.Parser.{rest_of, size_of, mode_of, Advances, Gives};
-ghost use Rattle.jsonb.specs.QuotedString.{EndsString, ReadsBody};
+ghost use Rattle.jsonb.specs.QuotedString.{EndsString, KnowsMarks, ReadsBody, TellsMarks};
 ghost use Rattle.jsonb.specs.Reading.String.{body_of, string_at};
 
 use super::{Mode, Parser};
@@ -43,7 +43,7 @@ fn step_after_backslash(bytes: &[u8]) -> usize
 
 // The index of the first quote or backslash from `at` on, or the length of the bytes. It is often near.
 #[inline(always)]
-fn next_mark(bytes: &[u8], quote: u8, at: usize) -> usize
+pub(super) fn next_mark(bytes: &[u8], quote: u8, at: usize) -> usize
     requires { at ≤ length bytes.now }
     ensures bounds { (at ≤ result) × (result ≤ length bytes.now) }
     ensures before { (k : ℕ) → at ≤ k → k < result → (slice_index bytes.now k ≢ quote)
@@ -52,12 +52,28 @@ fn next_mark(bytes: &[u8], quote: u8, at: usize) -> usize
         ⊎ (slice_index bytes.now result ≡ 92) }
 {
     if bytes.len() - at < 32 {
-        return far_mark(bytes, quote, at);
+        return last_mark(bytes, quote, at);
     }
     if let Some(near) = near_mark(bytes, quote, at) {
         return near;
     }
     far_mark(bytes, quote, at + 32)
+}
+
+// The same byte by byte, as few are left.
+fn last_mark(bytes: &[u8], quote: u8, at: usize) -> usize
+    requires { at ≤ length bytes.now }
+    ensures bounds { (at ≤ result) × (result ≤ length bytes.now) }
+    ensures before { (k : ℕ) → at ≤ k → k < result → (slice_index bytes.now k ≢ quote)
+        × (slice_index bytes.now k ≢ 92) }
+    ensures here { result < length bytes.now → (slice_index bytes.now result ≡ quote)
+        ⊎ (slice_index bytes.now result ≡ 92) }
+{
+    let mut end = at;
+    'bytes: while end < bytes.len() && bytes[end] != quote && bytes[end] != b'\\' {
+        end += 1;
+    }
+    end
 }
 
 // The same by a search of all that is left.
@@ -87,20 +103,29 @@ fn near_mark(bytes: &[u8], quote: u8, at: usize) -> Option<usize>
     ensures none { IfNone result ((k : ℕ) → at ≤ k → k < at + 32 → (slice_index bytes.now k ≢ quote)
         × (slice_index bytes.now k ≢ 92)) }
 {
-    let lanes = load(bytes, at);
-    let quotes = equal_to(lanes, quote);
-    let backslashes = equal_to(lanes, b'\\');
-    let found = either(quotes, backslashes);
-    let marks = top_bits(found);
+    let marks = load_marks(bytes, quote, at);
     if marks == 0 {
         return None;
     }
     Some(at + lowest(marks))
 }
 
+// Bit k is set where byte `at + k` is a quote or a backslash, among the next 32 bytes.
+#[inline(always)]
+fn load_marks(bytes: &[u8], quote: u8, at: usize) -> u64
+    requires { at + 32 ≤ length bytes.now }
+    ensures { TellsMarks quote bytes.now at (at + 32) result }
+{
+    let lanes = load(bytes, at);
+    let quotes = equal_to(lanes, quote);
+    let backslashes = equal_to(lanes, b'\\');
+    let found = either(quotes, backslashes);
+    top_bits(found)
+}
+
 // The next 32 bytes.
 #[inline(always)]
-fn load(bytes: &[u8], at: usize) -> u8x32
+pub(super) fn load(bytes: &[u8], at: usize) -> u8x32
     requires { at + 32 ≤ length bytes.now }
     ensures { HasLanes result (λ k. slice_index bytes.now (at + k)) }
 {
@@ -109,12 +134,19 @@ fn load(bytes: &[u8], at: usize) -> u8x32
 
 // All bits of a lane, where it holds the byte.
 #[inline(always)]
-fn equal_to(lanes: u8x32, byte: u8) -> u8x32
+pub(super) fn equal_to(lanes: u8x32, byte: u8) -> u8x32
     ensures { HasLanes result (λ k. if slice_index lanes k == byte then 255 else 0) }
 {
     lanes
         .simd_eq(u8x32::splat(byte))
         .select(u8x32::splat(255), u8x32::splat(0))
+}
+
+#[inline(always)]
+pub(super) fn both(a: u8x32, b: u8x32) -> u8x32
+    ensures { HasLanes result (λ k. bit_and (slice_index a k) (slice_index b k)) }
+{
+    a & b
 }
 
 #[inline(always)]
@@ -126,20 +158,70 @@ fn either(a: u8x32, b: u8x32) -> u8x32
 
 // Bit k is the top bit of lane k.
 #[inline(always)]
-fn top_bits(lanes: u8x32) -> u64
+pub(super) fn top_bits(lanes: u8x32) -> u64
     ensures { (k : ℕ) → (bit_at result k ≡ 1) ↔ (128 ≤ slice_index lanes k) }
 {
     lanes.simd_ge(u8x32::splat(128)).to_bitmask()
 }
 
 #[inline(always)]
-fn lowest(bits: u64) -> usize
+pub(super) fn lowest(bits: u64) -> usize
     requires { bits ≢ 0 }
     ensures bound { result < 64 }
     ensures set { bit_at bits result ≡ 1 }
     ensures below { (k : ℕ) → k < result → bit_at bits k ≡ 0 }
 {
     bits.trailing_zeros() as usize
+}
+
+#[inline(always)]
+fn shifted_down(bits: u64, by: usize) -> u64
+    requires { by < 64 }
+    ensures { (k : ℕ) → bit_at result k ≡ bit_at bits (by + k) }
+{
+    bits >> by
+}
+
+// The index of the first quote or backslash from `at` on, or the length of the bytes, and the marks from there on, given
+// those from `at` on.
+#[inline(always)]
+fn first_mark(bytes: &[u8], quote: u8, at: usize, marks: u64) -> (usize, u64)
+    requires inside { at ≤ length bytes.now }
+    requires known { KnowsMarks quote bytes.now at marks }
+    ensures bounds { (at ≤ result.0) × (result.0 ≤ length bytes.now) }
+    ensures before { (k : ℕ) → at ≤ k → k < result.0 → (slice_index bytes.now k ≢ quote)
+        × (slice_index bytes.now k ≢ 92) }
+    ensures here { result.0 < length bytes.now → (slice_index bytes.now result.0 ≡ quote)
+        ⊎ (slice_index bytes.now result.0 ≡ 92) }
+    ensures known { KnowsMarks quote bytes.now result.0 result.1 }
+{
+    if marks == 0 {
+        return later_mark(bytes, quote, at);
+    }
+    let count = lowest(marks);
+    (at + count, shifted_down(marks, count))
+}
+
+// The same, where no mark is known.
+#[inline(always)]
+fn later_mark(bytes: &[u8], quote: u8, at: usize) -> (usize, u64)
+    requires { at ≤ length bytes.now }
+    ensures bounds { (at ≤ result.0) × (result.0 ≤ length bytes.now) }
+    ensures before { (k : ℕ) → at ≤ k → k < result.0 → (slice_index bytes.now k ≢ quote)
+        × (slice_index bytes.now k ≢ 92) }
+    ensures here { result.0 < length bytes.now → (slice_index bytes.now result.0 ≡ quote)
+        ⊎ (slice_index bytes.now result.0 ≡ 92) }
+    ensures known { KnowsMarks quote bytes.now result.0 result.1 }
+{
+    if bytes.len() - at < 32 {
+        return (far_mark(bytes, quote, at), 0);
+    }
+    let marks = load_marks(bytes, quote, at);
+    if marks == 0 {
+        return (far_mark(bytes, quote, at), 0);
+    }
+    let count = lowest(marks);
+    (at + count, shifted_down(marks, count))
 }
 
 // Looks for the quote that ends a string. An escape is stepped over by its first bytes, without a look at the others.
@@ -150,8 +232,9 @@ fn find_end(bytes: &[u8], quote: u8) -> StringEnd
 {
     let mut at = 0;
     let mut escaped = false;
+    let mut marks = 0;
     'items: while at < bytes.len() {
-        let stop = next_mark(bytes, quote, at);
+        let (stop, known) = first_mark(bytes, quote, at, marks);
         if stop == bytes.len() {
             return StringEnd::Unclosed { at: stop };
         }
@@ -159,7 +242,9 @@ fn find_end(bytes: &[u8], quote: u8) -> StringEnd
             return StringEnd::Closed { end: stop, escaped };
         }
         escaped = true;
-        at = stop + 1 + step_after_backslash(&bytes[stop + 1..]);
+        let step = 1 + step_after_backslash(&bytes[stop + 1..]);
+        marks = shifted_down(known, step);
+        at = stop + step;
     }
     StringEnd::Unclosed { at }
 }

@@ -9,7 +9,9 @@ use Rattle.jsonb_value.specs.declared.error.Error.{Error}
 use Rattle.jsonb_value.specs.declared.error.Error.TheVariants.{OutOfMemory}
 use Rattle.jsonb_value.proofs.DocumentsInRange.{extended_in_range}
 use Rattle.jsonb.specs.AstView.{ast_view}
+use Rattle.jsonb.proofs.Documents.{document_unique}
 use Rattle.jsonb.proofs.Markers.{document_opened}
+use Rattle.jsonb.proofs.Values.{document_sound}
 use Rattle.jsonb.proofs.parser.parse_value.Goals as goal
 
 refused_container : {A : Type 0} (Q : Type 0) (r : Result A Error) → IfErr r (λ e. (e ≡ OutOfMemory) × Q) → r ≡ Err OutOfMemory → Q
@@ -29,3 +31,16 @@ returns-clause-proper c = held IsProper (ast_view c.in_ok-parse.field-0) c.into_
 
 pub returns-clause-memory : goal.returns-clause-memory
 returns-clause-memory c = λ is. document_opened extended c.args.buf.now _ c.in_ok-parse.ensures.document (refused_container _ c.into_value.result c.into_value.ensures.memory is)
+
+pub returns-in-Some-clause-document : goal.returns-in-Some-clause-document
+returns-in-Some-clause-document c = document_sound extended c.args.buf.now (view c.in-Some.value) c.in-Some.ensures
+
+pub returns-in-Some-clause-only : goal.returns-in-Some-clause-only
+returns-in-Some-clause-only c = λ t d.
+    document_unique extended c.args.buf.now t (view c.in-Some.value) d (returns-in-Some-clause-document c)
+
+pub returns-in-Some-clause-in_range : goal.returns-in-Some-clause-in_range
+returns-in-Some-clause-in_range c = (extended_in_range c.args.buf.now (view c.in-Some.value) (returns-in-Some-clause-document c)).0
+
+pub returns-in-Some-clause-proper : goal.returns-in-Some-clause-proper
+returns-in-Some-clause-proper c = (extended_in_range c.args.buf.now (view c.in-Some.value) (returns-in-Some-clause-document c)).1

@@ -1,9 +1,20 @@
-use Rattle.std.proofs.Common.{◌<◌, ◌∷◌, ap, sym, ◌∙◌, arith}
+use Rattle.std.proofs.Common.{◌≡◌, ℕ, ◌<◌, ◌≤◌, ◌∷◌, refl, ap, sym, ◌∙◌, arith, drop-drop, get_or, length, length-drop}
 use Rattle.jsonb.specs.Reading.Blank.{pass_blanks}
 use Rattle.jsonb.specs.Parser.{mode_of, rest_of}
 use Rattle.jsonb.proofs.Scans.{goes_on}
-use Rattle.jsonb.proofs.Skips.{pass-step}
+use Rattle.jsonb.proofs.Skips.{pass-spaces, pass-step}
 use Rattle.jsonb.proofs.parser.Parser.skip_spaces.Goals as goal
+
+pub spaces-init : goal.spaces-init
+spaces-init c =
+    let p = c.args.self.now in
+    let mode = mode_of p.mode in
+    let count = c.near_spaces.result in
+    let within : count ≤ length (rest_of p) = omega (arith, c.near_spaces.ensures.within, ap length c.rest.ensures) in
+    let are : (k : ℕ) → k < count → get_or (rest_of p) k 0 ≡ 32 = λ k low. sym (ap (λ u. get_or u k 0) c.rest.ensures) ∙ c.near_spaces.ensures.spaces k low in (
+      sym (ap (pass_blanks mode) (drop-drop count p.idx p.buf.now)) ∙ pass-spaces mode count (rest_of p) within are,
+      record { buf = refl; mode = refl; onward = omega arith; inside = λ h. omega (arith, within, length-drop p.idx p.buf.now) },
+    )
 
 pub spaces-preserved : goal.spaces-preserved
 spaces-preserved c =

@@ -4,7 +4,7 @@ use Rattle.jsonb.specs.Parser.{mode_of, rest_of, Advances}
 use Rattle.jsonb.proofs.parser.Parser.skip_spaces.Given as goal
 
 abbrev pub invariant-spaces : goal.invariant-spaces
-invariant-spaces l = (pass_blanks (mode_of l.initial.self.mode) (rest_of l.self) ≡ pass_blanks (mode_of l.initial.self.mode) (rest_of l.initial.self)) × Advances l.initial.self l.self
+invariant-spaces l = (pass_blanks (mode_of l.fn.self.mode) (rest_of l.self) ≡ pass_blanks (mode_of l.fn.self.mode) (rest_of l.fn.self)) × Advances l.fn.self l.self
 
 abbrev pub decreases-spaces : goal.decreases-spaces
 decreases-spaces l = length l.self.buf.now - l.self.idx

@@ -1,23 +1,29 @@
-use Rattle.std.proofs.Common.{◌≡◌, ◌+◌, ◌<◌, drop, length, inl, inr, sym, ap, ◌∙◌, arith}
+use Rattle.std.proofs.Common.{◌≡◌, ◌+◌, ◌<◌, drop, get_or, sym, ap, subst, ◌∙◌, arith}
+use Rattle.std.specs.Int.{bit_at}
 use Rattle.jsonb.specs.Reading.Blank.{block_length, longer_by}
-use Rattle.jsonb.proofs.Comments.{block_at, block_none, block_past, longer-longer}
+use Rattle.jsonb.proofs.Comments.{block_at, block_far, longer-longer}
+use Rattle.jsonb.proofs.NearMarks.{no_bits}
 use Rattle.jsonb.proofs.parser.blank.block_len.Goals as goal
-use Rattle.jsonb.proofs.parser.blank.block_len.Goals.{else-bytes-at-eq42-via-then-bytes-at-eq42+else-bytes-at-eq47, else-bytes-at-eq42-via-else-bytes-at-eq42}
 
-pub returns-then-bytes-at-eq47-clause-value : goal.returns-then-bytes-at-eq47-clause-value
-returns-then-bytes-at-eq47-clause-value c =
-    sym (c.bytes.invariant.0 ∙ ap (longer_by c.bytes.at) (block_at c.args.bytes.now c.bytes.at (omega arith) c.if-bytes-at-eq42.true c.if-bytes-at-eq47.true))
-
-pub bytes-preserved : goal.bytes-preserved
-bytes-preserved c =
+pub vectors-preserved : goal.vectors-preserved
+vectors-preserved c =
     let bytes = c.args.bytes.now in
-    let at = c.bytes.at in
-    let within : at + 1 < length bytes = omega arith in
-    let past : block_length (drop at bytes) ≡ longer_by 1 (block_length (drop (at + 1) bytes)) = elim c.else-bytes-at-eq42.branch [
-      | else-bytes-at-eq42-via-then-bytes-at-eq42+else-bytes-at-eq47 w ↦ block_past bytes at within (inr w.if-bytes-at-eq47.false)
-      | else-bytes-at-eq42-via-else-bytes-at-eq42 w ↦ block_past bytes at within (inl w.if-bytes-at-eq42.false)
-    ] in
-    (c.bytes.invariant.0 ∙ ap (longer_by at) past ∙ longer-longer at 1 (block_length (drop (at + 1) bytes)), omega arith)
+    let at = c.vectors.at in
+    let none : c.block_ends-ends.result ≡ 0 = omega (arith, c.if-ends-ne0.false) in
+    let far = block_far bytes at 32 (omega arith) (λ k low star slash.
+    let bit = (c.block_ends-ends.ensures k).1 (low, star, slash) in
+    absurd (omega (arith, subst (λ m. bit_at m k ≡ 1) none bit, no_bits k))) in
+    (c.vectors.invariant.0 ∙ ap (longer_by at) far ∙ longer-longer at 32 (block_length (drop (at + 32) bytes)), omega arith)
 
-pub returns-clause-value : goal.returns-clause-value
-returns-clause-value c = sym (c.bytes.invariant.0 ∙ ap (longer_by c.bytes.at) (block_none c.args.bytes.now c.bytes.at (omega arith)))
+pub returns-then-ends-ne0-clause-value : goal.returns-then-ends-ne0-clause-value
+returns-then-ends-ne0-clause-value c =
+    let bytes = c.args.bytes.now in
+    let at = c.vectors.at in
+    let count = c.lowest.result in
+    let told = (c.block_ends-ends.ensures count).0 c.lowest.ensures.set in
+    let few : count < 32 = told.0 in
+    let far = block_far bytes at count (omega (arith, few)) (λ k low star slash.
+    let bit = (c.block_ends-ends.ensures k).1 (omega (arith, few, low), star, slash) in
+    absurd (omega (arith, bit, c.lowest.ensures.below k low))) in
+    let slash : get_or bytes (at + count + 1) 0 ≡ 47 = ap (λ n. get_or bytes n 0) (let same : at + count + 1 ≡ at + 1 + count = omega arith in same) ∙ told.2 in
+    sym (c.vectors.invariant.0 ∙ ap (longer_by at) (far ∙ ap (longer_by count) (block_at bytes (at + count) (omega (arith, few)) told.1 slash)) ∙ longer-longer at count 2)

@@ -1,0 +1,19 @@
+use Rattle.std.proofs.Common.{◌-◌, ◌≤◌, length}
+use Rattle.jsonb_value.specs.Grammar.{max_depth}
+use Rattle.jsonb.specs.Direct.{IsAhead}
+use Rattle.jsonb.specs.Parser.{Advances, mode_of, rest_of, size_of}
+use Rattle.jsonb.specs.Reading.Document.{value_at}
+use Rattle.jsonb.proofs.parser.Parser.direct_container.Given as goal
+
+-- what is read of the whole is what is left to read inside of the open containers
+abbrev pub invariant-turns : goal.invariant-turns
+invariant-turns l =
+    let p = l.fn.self in record {
+      inside : l.self.idx ≤ size_of l.self;
+      depth : length l.stack.items ≤ max_depth;
+      advances : Advances p l.self;
+      ahead : IsAhead (value_at (size_of p) (mode_of p.mode) max_depth (rest_of p)) l.self l.stack.items l.closed;
+    }
+
+abbrev pub decreases-turns : goal.decreases-turns
+decreases-turns l = size_of l.self - l.self.idx

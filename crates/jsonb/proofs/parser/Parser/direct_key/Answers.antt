@@ -1,0 +1,29 @@
+use Rattle.std.proofs.Common.{ℕ, ◌-◌, List, ◌∷◌, Ok, length, string_bytes, ap, sym, ◌∙◌}
+use Rattle.jsonb_value.specs.Code.Code.{expected_colon}
+use Rattle.jsonb_value.specs.Tree.{Mark}
+use Rattle.jsonb.specs.Parser.{mode_of, rest_of, size_of}
+use Rattle.jsonb.specs.Reading.{Read, on_byte, refused, ◌>>=◌}
+use Rattle.jsonb.specs.Reading.Blank.{skip_blanks}
+use Rattle.jsonb.proofs.Parts.{on_byte-found}
+use Rattle.jsonb.proofs.Scans.{goes_on}
+use Rattle.jsonb.proofs.parser.Parser.direct_key.Goals as goal
+
+pub returns-clause-reads : goal.returns-clause-reads
+returns-clause-reads c =
+    let p = c.args.self.now in
+    let r = c.direct_name.new.self in
+    let u = c.take_after_blanks.new.self in
+    let n = size_of p in
+    let m = mode_of p.mode in
+    let on_r = c.direct_name.ensures.advances in
+    let on_u = goes_on p r u on_r c.take_after_blanks.ensures.advances in
+    let mark : Mark = c.in_ok-name.ensures.reads.0 in
+    let name : List ℕ = string_bytes c.in_ok-name.name in
+    let place : ℕ = n - length (rest_of r) in (
+      mark,
+      place,
+      ap (λ (x : Read (Mark × List ℕ)). x >>= λ (k : (Mark × List ℕ) × List ℕ). on_byte 58 (skip_blanks m k.1) (λ rest. Ok ((k.0, n - length k.1), skip_blanks m rest)) (refused n expected_colon 0 (skip_blanks m k.1))) c.in_ok-name.ensures.reads.1
+          ∙ ap (λ (v : List ℕ). on_byte 58 v (λ rest. Ok (((mark, name), place), skip_blanks m rest)) (refused n expected_colon 0 v)) (ap (λ k. skip_blanks (mode_of k) (rest_of r)) (sym on_r.mode) ∙ c.if-not-take_after_blanks.ensures.rest)
+          ∙ on_byte-found 58 (rest_of u) (λ rest. Ok (((mark, name), place), skip_blanks m rest)) (refused n expected_colon 0 (58 ∷ rest_of u))
+          ∙ ap (λ (v : List ℕ). Ok (((mark, name), place), v)) (ap (λ k. skip_blanks (mode_of k) (rest_of u)) (sym on_u.mode) ∙ sym c.skip_blanks.ensures.rest),
+    )

@@ -1,0 +1,29 @@
+use Rattle.std.proofs.Common.{◌≡◌, ℕ, ◌+◌, ◌-◌, ◌<◌, List, Ok, false, length, take, drop, ap, sym, subst, ◌∙◌, arith, drop-drop}
+use Rattle.std.specs.Str.{IsUtf8}
+use Rattle.jsonb_value.specs.Tree.Mark.{plain}
+use Rattle.jsonb.specs.Decoding.{TellsBackslash}
+use Rattle.jsonb.specs.Parser.{mode_of, size_of}
+use Rattle.jsonb.specs.Reading.String.{quote_end, string_at}
+use Rattle.jsonb.proofs.StringBodies.{body-raw, found_end, search_start, search_to, string-closed, tells_taken}
+use Rattle.jsonb.proofs.parser.Parser.direct_plain.Goals as goal
+
+pub returns-clause-reads : goal.returns-clause-reads
+returns-clause-reads c =
+    let p = c.args.self.now in
+    let quote : ℕ = c.args.quote in
+    let rest-is = c.rest-rest.ensures in
+    let rest : List ℕ = c.rest-rest.result.now in
+    let mark = c.next_mark-end.ensures in
+    let end : ℕ = c.next_mark-end.result in
+    let mode = mode_of p.mode in
+    let within : end < length rest = omega arith in
+    let found : quote_end quote rest ≡ Ok end = found_end quote rest end within c.if-rest-end.false (search_to quote rest 0 end mark.bounds.0 mark.bounds.1 mark.before (search_start quote rest)) in
+    let clear : TellsBackslash (take end rest) (length (take end rest)) false = tells_taken rest end false mark.bounds.1 (λ k high. (mark.before k (omega arith) high).1) in
+    let count : p.idx + end - p.idx ≡ end = omega arith in
+    let cut : c.in_ok-body.body.now ≡ take end rest =
+    c.in_ok-body.ensures.cases.0 ∙ ap (λ (n : ℕ). take n (drop p.idx c.args.text.now)) count ∙ ap (λ (u : List ℕ). take end (drop p.idx u)) c.requires.same ∙ ap (λ (u : List ℕ). take end u) (sym rest-is) in
+    let is_text : IsUtf8 (take end rest) = subst IsUtf8 (c.as_bytes-bytes.ensures.value ∙ cut) c.as_bytes-bytes.ensures.utf8 in
+    ap (λ (u : List ℕ). string_at (size_of p) mode quote u) (sym rest-is)
+    ∙ string-closed (size_of p) mode quote rest end (plain, take end rest) found (body-raw mode (take end rest) clear is_text)
+    ∙ ap (λ (s : List ℕ). Ok ((plain, s), drop (end + 1) rest)) (sym cut)
+    ∙ ap (λ (u : List ℕ). Ok ((plain, c.in_ok-body.body.now), u)) (ap (λ (u : List ℕ). drop (end + 1) u) rest-is ∙ drop-drop (end + 1) p.idx p.buf.now)

@@ -1,0 +1,14 @@
+use Rattle.std.proofs.Common.{◌≡◌, Ok, sym, subst}
+use Rattle.std.specs.Option.{IfSome}
+use Rattle.jsonb_value.specs.Grammar.{max_depth}
+use Rattle.jsonb_value.specs.View.{view}
+use Rattle.jsonb.specs.Parser.{mode_of, rest_of, size_of}
+use Rattle.jsonb.proofs.Frames.{value_plain}
+use Rattle.jsonb.proofs.parser.Parser.direct_value.Goals as goal
+
+pub returns-clause-reads : goal.returns-clause-reads
+returns-clause-reads c =
+    let p = c.args.self.now in
+    subst (λ x. IfSome c.direct_scalar.result (λ v. x ≡ Ok (view v, rest_of c.direct_scalar.new.self)))
+    (sym (value_plain (size_of p) (mode_of p.mode) max_depth (rest_of p) c.if-begins_container.ensures.0 c.if-begins_container.ensures.1))
+    c.direct_scalar.ensures.reads

@@ -1,0 +1,27 @@
+use Rattle.std.proofs.Common.{sym, ◌∙◌}
+use Rattle.jsonb_value.specs.declared.value.Value as value
+use Rattle.jsonb.proofs.Direct.{if_some, number_of_standard, scalar_string}
+use Rattle.jsonb.proofs.FirstBytes.{scalar_other}
+use Rattle.jsonb.proofs.parser.Parser.insert_scalar.Goals as goal
+
+pub returns-then-take_byte-clause-reads : goal.returns-then-take_byte-clause-reads
+returns-then-take_byte-clause-reads c = (
+  value.String c.in_ok-string.string,
+  c.in_ok-insert_new.ensures.entries,
+  c.in_ok-insert_new.ensures.missing,
+  scalar_string c.args.self.now c.take_byte.new.self c.in_ok-string.string _ c.take_byte.ensures.advances c.if-take_byte.ensures.rest c.in_ok-string.ensures.reads,
+)
+
+pub returns-then-begins_standard_number-clause-reads : goal.returns-then-begins_standard_number-clause-reads
+returns-then-begins_standard_number-clause-reads c = (
+  value.Number c.in-Ok.number,
+  c.in_ok-insert_new-2.ensures.entries,
+  c.in_ok-insert_new-2.ensures.missing,
+  scalar_other c.args.self.now c.take_byte.new.self c.if-take_byte.ensures.rest (sym c.if-take_byte.ensures.found)
+      ∙ number_of_standard c.take_byte.new.self c.in-Ok.number _ c.if-begins_standard_number.ensures.0 c.if-begins_standard_number.ensures.1 c.in-Ok.ensures.reads,
+)
+
+pub returns-clause-reads : goal.returns-clause-reads
+returns-clause-reads c =
+    let other = scalar_other c.args.self.now c.take_byte.new.self c.if-take_byte.ensures.rest (sym c.if-take_byte.ensures.found) in
+    if_some c.insert_other_scalar.result (λ done put. (put.0, put.1, put.2, other ∙ put.3)) c.insert_other_scalar.ensures.reads

@@ -1,0 +1,17 @@
+use Rattle.std.proofs.Common.{◌≡◌, ℕ, ◌-◌, ◌≤◌, map}
+use Rattle.jsonb_value.specs.View.{view}
+use Rattle.jsonb.specs.Parser.{Advances, mode_of, rest_of, size_of}
+use Rattle.jsonb.specs.Stack.{elements_from}
+use Rattle.jsonb.proofs.parser.Parser.read_elements.Given as goal
+
+-- what is read of the elements is what is left to read after those so far
+abbrev pub invariant-elements : goal.invariant-elements
+invariant-elements l =
+    let p = l.fn.self in record {
+      inside : l.self.idx ≤ size_of l.self;
+      advances : Advances p l.self;
+      reads : (depth : ℕ) → elements_from (size_of p) (mode_of p.mode) depth (map view l.fn.items.items) (rest_of p) ≡ elements_from (size_of p) (mode_of p.mode) depth (map view l.items.items) (rest_of l.self);
+    }
+
+abbrev pub decreases-elements : goal.decreases-elements
+decreases-elements l = size_of l.self - l.self.idx

@@ -1,0 +1,10 @@
+use Rattle.std.proofs.Common.{ap, ◌∙◌}
+use Rattle.jsonb.specs.Parser.{mode_of, rest_of}
+use Rattle.jsonb.specs.Reading.Blank.{skip_blanks}
+use Rattle.jsonb.proofs.Skips.{skip-stop}
+use Rattle.jsonb.proofs.parser.Parser.take_after_blanks.Goals as goal
+
+pub returns-then-take_byte-clause-rest : goal.returns-then-take_byte-clause-rest
+returns-then-take_byte-clause-rest c =
+    let mode = mode_of c.args.self.now.mode in
+    ap (skip_blanks mode) c.if-take_byte.ensures.rest ∙ skip-stop mode c.args.byte (rest_of c.take_byte.new.self) c.requires.stop

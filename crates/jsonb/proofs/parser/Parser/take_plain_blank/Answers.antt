@@ -1,0 +1,24 @@
+use Rattle.std.proofs.Common.{◌≡◌, ℕ, [], ◌∷◌, refl, sym, ap, ◌∙◌}
+use Rattle.jsonb_value.specs.Blanks.{IsBlank}
+use Rattle.jsonb_value.specs.Blanks.IsBlank.{space, tab, line_feed, carriage_return}
+use Rattle.jsonb.specs.Parser.{mode_of, rest_of}
+use Rattle.jsonb.specs.Reading.Blank.{pass_blanks}
+use Rattle.jsonb.specs.declared.parser.Parser.{Parser}
+use Rattle.jsonb.proofs.Skips.{pass-blank}
+use Rattle.jsonb.proofs.parser.Parser.take_plain_blank.Goals as goal
+
+-- one byte that is a blank was passed
+passed : (p q r : Parser) (byte : ℕ) → q ≡ p → rest_of q ≡ byte ∷ rest_of r → IsBlank (mode_of p.mode) (byte ∷ []) → pass_blanks (mode_of p.mode) (rest_of r) ≡ pass_blanks (mode_of p.mode) (rest_of p)
+passed p q r byte same rest blank = sym (ap (λ s. pass_blanks (mode_of p.mode) (rest_of s)) (sym same) ∙ ap (pass_blanks (mode_of p.mode)) rest ∙ pass-blank blank (rest_of r))
+
+pub returns-then-take_byte-clause-rest : goal.returns-then-take_byte-clause-rest
+returns-then-take_byte-clause-rest c = passed c.args.self.now c.args.self.now c.take_byte.new.self 32 refl c.if-take_byte.ensures.rest space
+
+pub returns-then-take_byte-2-clause-rest : goal.returns-then-take_byte-2-clause-rest
+returns-then-take_byte-2-clause-rest c = passed c.args.self.now c.take_byte.new.self c.take_byte-2.new.self 10 c.if-take_byte.ensures.rest c.if-take_byte-2.ensures.rest line_feed
+
+pub returns-then-take_byte-3-clause-rest : goal.returns-then-take_byte-3-clause-rest
+returns-then-take_byte-3-clause-rest c = passed c.args.self.now c.take_byte-2.new.self c.take_byte-3.new.self 9 (c.if-take_byte-2.ensures.rest ∙ c.if-take_byte.ensures.rest) c.if-take_byte-3.ensures.rest tab
+
+pub returns-then-take_byte-4-clause-rest : goal.returns-then-take_byte-4-clause-rest
+returns-then-take_byte-4-clause-rest c = passed c.args.self.now c.take_byte-3.new.self c.take_byte-4.new.self 13 (c.if-take_byte-3.ensures.rest ∙ c.if-take_byte-2.ensures.rest ∙ c.if-take_byte.ensures.rest) c.if-take_byte-4.ensures.rest carriage_return

@@ -1,0 +1,354 @@
+//! A second reader of whole texts, which makes the value with no `JsonAst` between and without a word of what is wrong.
+//! Where it answers nothing, the text may still be a document, and the reader that tells faults is asked.
+ghost use Rattle.std.specs.Prelude.{◌≡◌, ◌<◌, ◌≤◌, ℕ, false, length, map, List, MatchBool, IfSome, Ok, None, string_bytes, [], ◌∷◌, if◌then◌else◌};
+ghost use Rattle.std.specs.BTreeMap.{insert_entry, is_at};
+ghost use Rattle.std.specs.Map.{lookup};
+ghost use Rattle.std.specs.String.{string_cmp};
+ghost use Rattle.jsonb_value.specs.Grammar.{max_depth};
+ghost use Rattle.jsonb_value.specs.Tree.{Tree};
+ghost use Rattle.jsonb_value.specs.View.{view};
+ghost use Rattle.jsonb.specs.declared.parser.direct.OpenValue.TheVariants.{Array, Object};
+ghost use Rattle.jsonb.specs.Direct.{IsPutIn, IsHeld, Pushes, Stops, IsDue, WasRead, IsAhead, tree_of};
+ghost use Rattle.jsonb.specs.Parser.{rest_of, size_of, mode_of, Advances};
+ghost use Rattle.jsonb.specs.Reading.{Read, begins};
+ghost use Rattle.jsonb.specs.Reading.Blank.{is_blank_start, skip_blanks};
+ghost use Rattle.jsonb.specs.Reading.Container.{Found, is_left_out, value_or_null};
+ghost use Rattle.jsonb.specs.Reading.Document.{document_of, value_at};
+ghost use Rattle.jsonb.specs.Reading.Scalar.{scalar_at};
+ghost use Rattle.jsonb.specs.Stack.{Open, elements_from, members_from, next_part_at};
+
+mod scalar;
+
+use super::container::MAX_DEPTH;
+use super::{Mode, Parser};
+use jsonb_value::value::{Object, Value};
+use std::alloc::Global;
+use std::mem;
+
+// An array or an object that is open, with what was read of it.
+#[derive(Drop)]
+enum OpenValue<'a> {
+    // The elements so far.
+    Array(Vec<Value<'a>>),
+    Object(OpenMembers<'a>),
+}
+
+// The members so far of an object that is open, and the key that waits for its value while a container inside is open.
+#[derive(Drop)]
+struct OpenMembers<'a> {
+    members: Object<'a>,
+    key: String,
+}
+
+// The value of a whole text, or nothing where the text is refused, holds no value, or asks for more memory than there
+// is.
+pub(super) fn read_directly(alloc: Global, buf: &[u8], mode: Mode) -> Option<Value<'_>>
+    ensures { IfSome result (λ v. document_of (mode_of mode) buf.now ≡ Ok (view v)) }
+{
+    // Strings without escapes are cut out of the text, which is tested once.
+    let Ok(text) = std::str::from_utf8(buf) else {
+        return None;
+    };
+    let mut parser = Parser {
+        alloc,
+        mode,
+        buf,
+        idx: 0,
+    };
+    parser.pass_blanks();
+    if parser.idx >= parser.buf.len() {
+        return None;
+    }
+    if parser.opens_comment() {
+        return None;
+    }
+    let value = parser.direct_value(text)?;
+    let Ok(()) = parser.end_document() else {
+        return None;
+    };
+    Some(value)
+}
+
+impl<'a> Parser<'a> {
+    // A value that begins here.
+    fn direct_value(&mut self, text: &'a str) -> Option<Value<'a>>
+        requires inside { self.old.idx ≤ size_of self.old }
+        requires same { text.now ≡ self.old.buf.now }
+        ensures reads { IfSome result (λ v. value_at (size_of self.old) (mode_of self.old.mode) max_depth
+            (rest_of self.old) ≡ Ok (view v, rest_of self.new)) }
+        ensures advances { Advances self.old self.new }
+    {
+        if self.begins_container() {
+            return self.direct_container(text);
+        }
+        self.direct_scalar(text)
+    }
+
+    // Whether an array or an object begins here.
+    #[inline(always)]
+    fn begins_container(&self) -> bool
+        ensures { MatchBool result (is_left_out (mode_of self.now.mode) (rest_of self.now) ≡ false)
+            ((begins 91 (rest_of self.now) ≡ false) × (begins 123 (rest_of self.now) ≡ false)) }
+    {
+        matches!(self.peek(), Some(b'[' | b'{'))
+    }
+
+    // An array or an object that begins here, by a loop over those that are open.
+    fn direct_container(&mut self, text: &'a str) -> Option<Value<'a>>
+        requires inside { self.old.idx ≤ size_of self.old }
+        requires same { text.now ≡ self.old.buf.now }
+        ensures reads { IfSome result (λ v. value_at (size_of self.old) (mode_of self.old.mode) max_depth
+            (rest_of self.old) ≡ Ok (view v, rest_of self.new)) }
+        ensures advances { Advances self.old self.new }
+    {
+        let mut stack = Vec::new(self.alloc);
+        let mut closed = self.open_container(&mut stack)?;
+        'turns: loop {
+            if closed {
+                let inner = stack.pop()?;
+                if stack.is_empty() {
+                    return Some(inner.into_value());
+                }
+                closed = self.close_container(&mut stack, inner)?;
+            } else {
+                closed = self.read_parts(&mut stack, text)?;
+            }
+        }
+    }
+
+    // Opens an array or an object, up to its first part. True where it has none, and it is read to its end.
+    fn open_container(&mut self, stack: &mut Vec<OpenValue<'a>>) -> Option<bool>
+        requires depth { length stack.old.items ≤ max_depth }
+        requires inside { self.old.idx ≤ size_of self.old }
+        ensures reads { (whole : Read Tree) → IsDue whole self.old stack.old.items
+            → IfSome result (IsAhead whole self.new stack.new.items) }
+        ensures onward { IfSome result (λ closed. self.old.idx < self.new.idx) }
+        ensures depth { IfSome result (λ closed. length stack.new.items ≤ max_depth) }
+        ensures advances { Advances self.old self.new }
+    {
+        if stack.len() == MAX_DEPTH {
+            return None;
+        }
+        if self.take_byte(b'[') {
+            let Ok(()) = stack.push(OpenValue::Array(Vec::new(self.alloc))) else {
+                return None;
+            };
+            self.skip_blanks();
+            return Some(self.take_byte(b']'));
+        }
+        if !self.take_byte(b'{') {
+            return None;
+        }
+        let Ok(()) = stack.push(OpenValue::Object(OpenMembers::new(self.alloc))) else {
+            return None;
+        };
+        self.skip_blanks();
+        Some(self.take_byte(b'}'))
+    }
+
+    // Reads parts of the innermost container, up to its end, or up to a part that is a container and opens that one.
+    // True where a container was read to its end.
+    fn read_parts(&mut self, stack: &mut Vec<OpenValue<'a>>, text: &'a str) -> Option<bool>
+        requires depth { length stack.old.items ≤ max_depth }
+        requires inside { self.old.idx ≤ size_of self.old }
+        requires same { text.now ≡ self.old.buf.now }
+        ensures reads { (whole : Read Tree) → IsAhead whole self.old stack.old.items false
+            → IfSome result (IsAhead whole self.new stack.new.items) }
+        ensures onward { IfSome result (λ closed. self.old.idx < self.new.idx) }
+        ensures depth { IfSome result (λ closed. length stack.new.items ≤ max_depth) }
+        ensures advances { Advances self.old self.new }
+    {
+        let frame = stack.last_mut()?;
+        if self.fill(frame, text)? {
+            return Some(true);
+        }
+        self.open_container(stack)
+    }
+
+    // Reads parts of a container, up to one that is a container, or up to its end. True at the end.
+    #[inline(always)]
+    fn fill(&mut self, frame: &mut OpenValue<'a>, text: &'a str) -> Option<bool>
+        requires inside { self.old.idx ≤ size_of self.old }
+        requires same { text.now ≡ self.old.buf.now }
+        ensures reads { IfSome result (λ closed. (depth : ℕ) → (c : Open) → IsHeld frame.old c
+            → Stops (size_of self.old) (mode_of self.old.mode) depth
+            (next_part_at (size_of self.old) (mode_of self.old.mode) depth c (rest_of self.old))
+            closed frame.new (rest_of self.new)) }
+        ensures onward { IfSome result (λ closed. MatchBool closed (self.old.idx < self.new.idx) (Unit {0})) }
+        ensures advances { Advances self.old self.new }
+    {
+        match frame {
+            OpenValue::Array(items) => self.read_elements(items, text),
+            OpenValue::Object(object) => self.read_members(object, text),
+        }
+    }
+
+    // The same of an array.
+    fn read_elements(&mut self, items: &mut Vec<Value<'a>>, text: &'a str) -> Option<bool>
+        requires inside { self.old.idx ≤ size_of self.old }
+        requires same { text.now ≡ self.old.buf.now }
+        ensures reads { IfSome result (λ closed. (depth : ℕ) → Stops (size_of self.old) (mode_of self.old.mode) depth
+            (elements_from (size_of self.old) (mode_of self.old.mode) depth (map view items.old.items)
+            (rest_of self.old)) closed (Array items.new) (rest_of self.new)) }
+        ensures onward { IfSome result (λ closed. MatchBool closed (self.old.idx < self.new.idx) (Unit {0})) }
+        ensures advances { Advances self.old self.new }
+    {
+        'elements: loop {
+            self.skip_blanks();
+            if self.begins_container() {
+                return Some(false);
+            }
+            self.push_element(items, text)?;
+            if self.end_part(b']')? {
+                return Some(true);
+            }
+        }
+    }
+
+    // Pushes an element that is no container: a value, or null where it is left out.
+    #[inline(always)]
+    fn push_element(&mut self, items: &mut Vec<Value<'a>>, text: &'a str) -> Option<()>
+        requires inside { self.old.idx ≤ size_of self.old }
+        requires same { text.now ≡ self.old.buf.now }
+        ensures reads { IfSome result (λ _. Pushes items.old.items
+            (value_or_null (mode_of self.old.mode) (scalar_at (size_of self.old) (mode_of self.old.mode))
+            (rest_of self.old)) items.new.items (rest_of self.new)) }
+        ensures advances { Advances self.old self.new }
+    {
+        if !self.is_left_out() {
+            return self.push_scalar(items, text);
+        }
+        let Ok(()) = items.push(Value::Null) else {
+            return None;
+        };
+        Some(())
+    }
+
+    // The same of an object. The key of the part that is a container is kept.
+    fn read_members(&mut self, object: &mut OpenMembers<'a>, text: &'a str) -> Option<bool>
+        requires inside { self.old.idx ≤ size_of self.old }
+        requires same { text.now ≡ self.old.buf.now }
+        ensures reads { IfSome result (λ closed. (depth : ℕ) → (front : List Found)
+            → IsPutIn front object.old.members.entries → Stops (size_of self.old) (mode_of self.old.mode) depth
+            (members_from (size_of self.old) (mode_of self.old.mode) depth front (rest_of self.old))
+            closed (Object object.new) (rest_of self.new)) }
+        ensures onward { IfSome result (λ closed. MatchBool closed (self.old.idx < self.new.idx) (Unit {0})) }
+        ensures advances { Advances self.old self.new }
+    {
+        'members: loop {
+            let key = self.direct_key(text)?;
+            if self.begins_container() {
+                object.key = key;
+                return Some(false);
+            }
+            self.insert_scalar(&mut object.members, key, text)?;
+            if self.end_part(b'}')? {
+                return Some(true);
+            }
+        }
+    }
+
+    // Passes the comma or the closing byte after a part. True where it is the closing byte.
+    #[inline(always)]
+    fn end_part(&mut self, close: u8) -> Option<bool>
+        requires { self.old.idx ≤ size_of self.old }
+        ensures reads { IfSome result (λ closed. skip_blanks (mode_of self.old.mode) (rest_of self.old)
+            ≡ (if closed then close else 44) ∷ rest_of self.new) }
+        ensures onward { IfSome result (λ closed. self.old.idx < self.new.idx) }
+        ensures advances { Advances self.old self.new }
+    {
+        if self.take_after_blanks(b',') {
+            return Some(false);
+        }
+        if self.take_byte(close) {
+            return Some(true);
+        }
+        None
+    }
+
+    // Passes blanks and this byte, where it comes next; else the blanks alone. Most often there are none.
+    #[inline(always)]
+    fn take_after_blanks(&mut self, byte: u8) -> bool
+        requires stop { is_blank_start byte ≡ false }
+        requires inside { self.old.idx ≤ size_of self.old }
+        ensures rest { skip_blanks (mode_of self.old.mode) (rest_of self.old) ≡ (if result then byte ∷ rest_of self.new else rest_of self.new) }
+        ensures onward { MatchBool result (self.old.idx < self.new.idx) (Unit {0}) }
+        ensures advances { Advances self.old self.new }
+    {
+        if self.take_byte(byte) {
+            return true;
+        }
+        self.skip_blanks();
+        self.take_byte(byte)
+    }
+
+    // Puts a container that was read into the one around it, up to the next part of that one. True where that one ends
+    // there.
+    fn close_container(
+        &mut self,
+        stack: &mut Vec<OpenValue<'a>>,
+        inner: OpenValue<'a>,
+    ) -> Option<bool>
+        requires depth { length stack.old.items ≤ max_depth }
+        requires inside { self.old.idx ≤ size_of self.old }
+        ensures reads { (whole : Read Tree) → WasRead whole self.old stack.old.items (tree_of inner.entry)
+            → IfSome result (IsAhead whole self.new stack.new.items) }
+        ensures onward { IfSome result (λ closed. self.old.idx < self.new.idx) }
+        ensures depth { IfSome result (λ closed. length stack.new.items ≤ max_depth) }
+        ensures advances { Advances self.old self.new }
+    {
+        match stack.last_mut()? {
+            OpenValue::Array(items) => {
+                let Ok(()) = items.push(inner.into_value()) else {
+                    return None;
+                };
+                self.end_part(b']')
+            }
+            OpenValue::Object(object) => {
+                let key = mem::replace(&mut object.key, String::new(self.alloc));
+                insert_new(&mut object.members, key, inner.into_value())?;
+                self.end_part(b'}')
+            }
+        }
+    }
+}
+
+impl<'a> OpenValue<'a> {
+    // The value of a container that was read.
+    #[inline(always)]
+    fn into_value(self) -> Value<'a>
+        ensures { view result ≡ tree_of self.entry }
+    {
+        match self {
+            OpenValue::Array(items) => Value::Array(items),
+            OpenValue::Object(object) => Value::Object(object.members),
+        }
+    }
+}
+
+impl OpenMembers<'_> {
+    fn new(alloc: Global) -> Self
+        ensures { (result.members.entries ≡ []) × (string_bytes result.key ≡ []) }
+    {
+        OpenMembers {
+            members: Object::new(alloc),
+            key: String::new(alloc),
+        }
+    }
+}
+
+// Puts in a member, where no other has its key.
+#[inline(always)]
+fn insert_new<'a>(members: &mut Object<'a>, key: String, value: Value<'a>) -> Option<()>
+    ensures entries { IfSome result (λ _. members.new.entries
+        ≡ insert_entry string_cmp members.old.entries key value.entry) }
+    ensures missing { IfSome result (λ _. lookup (is_at (string_cmp key)) members.old.entries ≡ None) }
+{
+    let Ok(old) = members.insert(key, value) else {
+        return None;
+    };
+    if old.is_some() {
+        return None;
+    }
+    Some(())
+}
