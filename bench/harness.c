@@ -1,15 +1,18 @@
-/* Times reading in both modes, writing, comparing and cloning over files of documents, one document a line.
+/* Times reading in both modes and into trees, writing, comparing and cloning over files of documents, one document a line.
  *
  *   harness FILE..               prints a line for each file and operation: the file, the operation, how many bytes, the
  *                                nanoseconds of one pass over the file, and its instructions, or - where they can't be counted
  *   harness --has-counter        succeeds where instructions can be counted here
  *   harness --pass OP N FILE     makes one pass over the file with N rounds of the operation on each document, for a tool
  *                                that counts from outside
+ *   harness --peak FILE..        prints a line for each file: the file, the word peak, how many bytes, the bytes of heap that
+ *                                live at most while a document is read, its value among them, added up over the file, and -
  *
  * The documents of a file whose name ends in .json5 are of extended mode, and are only read.
  *
- * With NO_COUNTER set it opens no counter. PREFIX is what the names of the measured library's functions begin with, and
- * WITH_EXTENDED is defined where the library reads extended mode. */
+ * With NO_COUNTER set it opens no counter. PREFIX is what the names of the measured library's functions begin with.
+ * WITH_EXTENDED is defined where the library reads extended mode, WITH_AST where it reads into trees, and WITH_MEMORY where
+ * memory.c is linked, as --peak needs it and as the times must not have it. */
 #define _GNU_SOURCE
 #include <linux/perf_event.h>
 #include <malloc.h>
@@ -33,6 +36,9 @@ operation_t JOIN(PREFIX, read), JOIN(PREFIX, write), JOIN(PREFIX, compare), JOIN
 #ifdef WITH_EXTENDED
 operation_t JOIN(PREFIX, read_extended);
 #endif
+#ifdef WITH_AST
+operation_t JOIN(PREFIX, read_ast);
+#endif
 
 /* An operation that does not only read still reads the text where there is no round at all. So its cost is what more
  * rounds cost than none. */
@@ -40,6 +46,9 @@ static const struct operation { const char *name; operation_t *run; int only_rea
   { "read", JOIN(PREFIX, read), 1, 0 },
 #ifdef WITH_EXTENDED
   { "extended", JOIN(PREFIX, read_extended), 1, 1 },
+#endif
+#ifdef WITH_AST
+  { "read_ast", JOIN(PREFIX, read_ast), 1, 0 },
 #endif
   { "write", JOIN(PREFIX, write), 0, 0 },
   { "compare", JOIN(PREFIX, compare), 0, 0 },
@@ -130,6 +139,11 @@ static int is_extended(const struct file *file) {
   return point && !strcmp(point, ".json5");
 }
 
+static const char *last_part(const char *path) {
+  const char *slash = strrchr(path, '/');
+  return slash ? slash + 1 : path;
+}
+
 static void measure(const struct file *file, const struct operation *operation, int counter, double budget) {
   operation_t *run = operation->run;
   int only_rounds = operation->only_reads;
@@ -137,14 +151,37 @@ static void measure(const struct file *file, const struct operation *operation, 
   size_t rounds = only_rounds ? 1 : 16;
   double ns = best(file, run, rounds, budget);
   if (!only_rounds) ns = (ns - best(file, run, 0, budget)) / rounds;
-  const char *slash = strrchr(file->name, '/');
-  printf("%s\t%s\t%zu\t%.0f\t", slash ? slash + 1 : file->name, operation->name, file->bytes, ns);
+  printf("%s\t%s\t%zu\t%.0f\t", last_part(file->name), operation->name, file->bytes, ns);
   if (counter >= 0)
     printf("%.0f\n", count(counter, file, run, 2) - count(counter, file, run, 1));
   else
     printf("-\n");
   fflush(stdout);
 }
+
+#ifdef WITH_MEMORY
+extern size_t memory_live, memory_peak;
+
+/* What reads the file's documents into values: the first operation of their mode. */
+static operation_t *reader_of(const struct file *file) {
+  for (size_t i = 0; i < OPERATIONS; i++)
+    if (operations[i].is_extended == is_extended(file)) return operations[i].run;
+  fprintf(stderr, "%s: the library does not read this mode\n", file->name);
+  exit(2);
+}
+
+static void measure_peak(const struct file *file) {
+  operation_t *reader = reader_of(file);
+  size_t sum = 0;
+  for (size_t i = 0; i < file->count; i++) {
+    struct file one = { file->name, file->documents[i].len, 1, &file->documents[i] };
+    size_t before = memory_peak = memory_live;
+    pass(&one, reader, 1);
+    sum += memory_peak - before;
+  }
+  printf("%s\tpeak\t%zu\t%zu\t-\n", last_part(file->name), file->bytes, sum);
+}
+#endif
 
 int main(int argc, char **argv) {
   /* Without this the C library gives memory back to the kernel after each round, and page faults drown the rest. */
@@ -163,6 +200,16 @@ int main(int argc, char **argv) {
   }
 
   if (argc == 2 && !strcmp(argv[1], "--has-counter")) return open_counter() < 0;
+
+#ifdef WITH_MEMORY
+  if (argc > 1 && !strcmp(argv[1], "--peak")) {
+    for (int i = 2; i < argc; i++) {
+      struct file file = load(argv[i]);
+      measure_peak(&file);
+    }
+    return 0;
+  }
+#endif
 
   const char *ms = getenv("BUDGET_MS");
   double budget = (ms ? atof(ms) : 200) * 1e6;

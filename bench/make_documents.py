@@ -1,9 +1,10 @@
 #!/usr/bin/env python3
 """Writes the documents of the benchmark into the folder that is named.
 
-Each line of a file is one document. Those of a .json file are standard JSON without a blank, a fraction or an exponent,
-those of a .json5 file extended JSON with keys without quotes, single quotes, comments, decimals and hexadecimals. The
-numbers come from a fixed seed, so that every run has the same documents.
+Each line of a file is one document. Those of a .json file are standard JSON without a fraction or an exponent, and only
+the catalog has blanks between its tokens, as it is indented. Those of a .json5 file are extended JSON with keys without
+quotes, single quotes, comments, decimals and hexadecimals. The numbers come from a fixed seed, so that every run has
+the same documents.
 """
 import json
 import os
@@ -75,6 +76,141 @@ def extended_documents():
     yield "extended", ["[ " + ", ".join(setting(i) for i in range(20)) + " ] // the end" for _ in range(400)]
 
 
+def identity():
+    return random.randrange(10**17, 10**18)
+
+
+def name():
+    return string_of(LETTERS, 4, 16)
+
+
+def address():
+    return "https://%s.example.com/%s/%s.png" % (string_of(LETTERS, 3, 6), name(), name())
+
+
+def date():
+    return "%s Aug %02d %02d:%02d:%02d +0000 2014" % (
+        random.choice("Sun Mon Tue Wed Thu Fri Sat".split()), random.randrange(1, 32), *random.choices(range(24), k=3))
+
+
+def words(least, most, breaks=(" ",)):
+    """Words, some of them not ASCII, with breaks between them: so many letters in all."""
+    length, text = random.randrange(least, most), ""
+    while len(text) < length:
+        text += string_of(random.choice([LETTERS] * 5 + ["éüñжш東京都の駅"]), 2, 12) + random.choice(breaks)
+    return text[:length]
+
+
+def message(least, most):
+    """Words with a double quote or a line feed here and there."""
+    return words(least, most, [" "] * 18 + ["\n", '" '])
+
+
+def flags(keys):
+    return {key: random.choice([True, False, False]) for key in keys.split()}
+
+
+def some(most, **members):
+    """As many objects as chance has it, each with the members that are made and its place in a text."""
+    return [{**{key: make() for key, make in members.items()}, "indices": [i * 20, i * 20 + random.randrange(3, 20)]}
+            for i in range(random.randrange(most + 1))]
+
+
+def links():
+    return some(2, url=address, expanded_url=address, display_url=name)
+
+
+def user():
+    """A user of 40 members: names and texts, counts, truths, colours and addresses."""
+    number = random.randrange(10**6, 10**10)
+    return {
+        "id": number, "id_str": str(number), "name": words(4, 20), "screen_name": name(), "location": words(0, 20),
+        "description": message(0, 160), "url": random.choice([None, address()]), "created_at": date(),
+        "entities": {"url": {"urls": links()}, "description": {"urls": []}},
+        **{it + "_count": random.randrange(50000) for it in "followers friends listed favourites statuses".split()},
+        "utc_offset": random.choice([None, 32400, -18000]), "time_zone": random.choice([None, "Tokyo", "Irkutsk"]),
+        "lang": random.choice(["ja", "en", "fr"]),
+        **flags("protected verified geo_enabled contributors_enabled is_translator is_translation_enabled"),
+        **{"profile_%s_color" % it: "%06X" % random.randrange(2**24)
+           for it in "background link sidebar_border sidebar_fill text".split()},
+        **{"profile_%s_url" % it: address()
+           for it in "image image_https background_image background_image_https banner".split()},
+        **flags("profile_background_tile profile_use_background_image default_profile default_profile_image"),
+        **flags("following follow_request_sent notifications")}
+
+
+def status():
+    """A status of 23 members, and of 25 where it has a picture that may offend."""
+    number, answered = identity(), random.choice([None, identity()])
+    return {
+        "metadata": {"result_type": "recent", "iso_language_code": "ja"}, "created_at": date(), "id": number,
+        "id_str": str(number), "text": message(60, 141), "truncated": False,
+        "source": '<a href="%s" rel="nofollow">%s</a>' % (address(), name()),
+        "in_reply_to_status_id": answered, "in_reply_to_status_id_str": answered and str(answered),
+        **dict.fromkeys("in_reply_to_user_id in_reply_to_user_id_str in_reply_to_screen_name".split()), "user": user(),
+        **dict.fromkeys("geo coordinates place contributors".split()), "retweet_count": random.randrange(1000),
+        "favorite_count": random.randrange(1000), "entities": {
+            "hashtags": some(2, text=lambda: words(3, 15)), "symbols": [], "urls": links(), "user_mentions": some(
+                2, screen_name=name, name=lambda: words(4, 20), id=identity, id_str=lambda: str(identity()))},
+        **flags("favorited retweeted"), "lang": random.choice(["ja", "en", "fr"]),
+        **random.choice([{}, {"possibly_sensitive": False, "media_url": address()}])}
+
+
+def answer(statuses):
+    """What a social network answers to a search. It escapes each slash, as some writers do."""
+    return text_of({"statuses": [status() for _ in range(statuses)], "search_metadata": {
+        "completed_in": random.randrange(100), "max_id": identity(), "next_results": address(), "query": "東京",
+        "refresh_url": address(), "count": statuses, "since_id": 0}}).replace("/", "\\/")
+
+
+def numbers(many):
+    return [random.randrange(10**8, 4 * 10**8) for _ in range(many)]
+
+
+def by_number(keys, make):
+    """An object whose keys are numbers' texts, as a store has them that finds things by their number."""
+    return {str(key): make(key) for key in keys}
+
+
+def event(number):
+    return {"description": None, "id": number, "logo": random.choice([None, "/images/%d.gif" % number]),
+            "name": words(10, 40), "subTopicIds": numbers(random.randrange(5)), "subjectCode": None, "subtitle": None,
+            "topicIds": numbers(random.randrange(4))}
+
+
+def performance(events, categories):
+    """One evening of an event, with its prices and the areas of its seats."""
+    offered = random.sample(categories, random.randrange(1, 5))
+    return {
+        "eventId": random.choice(events), "id": numbers(1)[0], "logo": None, "name": None,
+        "prices": [{"amount": random.randrange(10000, 200000), "audienceSubCategoryId": 337100890, "seatCategoryId": it}
+                   for it in offered],
+        "seatCategories": [{"areas": [{"areaId": area, "blockIds": []} for area in numbers(random.randrange(1, 9))],
+                            "seatCategoryId": it} for it in offered],
+        "seatMapImage": None, "start": random.randrange(1372701600000, 1404230400000),
+        "venueCode": random.choice(WORDS).upper()}
+
+
+def catalog(many):
+    """A catalogue of events, indented. As a document is one line, a blank stands for each line feed."""
+    events, categories, topics = numbers(many), numbers(60), numbers(20)
+    return json.dumps({
+        "areaNames": by_number(numbers(20), lambda _: words(10, 30)), "blockNames": {},
+        "events": by_number(events, event),
+        "performances": [performance(events, categories) for _ in range(many)],
+        "seatCategoryNames": by_number(categories, lambda _: words(10, 30)),
+        "topicNames": by_number(topics, lambda _: words(10, 30)),
+        "topicSubTopics": by_number(topics, lambda _: numbers(random.randrange(1, 9))),
+        "venueNames": {it.upper(): words(10, 30) for it in WORDS}}, indent=2, ensure_ascii=False).replace("\n", " ")
+
+
+def shaped_documents():
+    """Standard documents as services answer with them, 600 KB and 1 MB, and 1 MB of short strings."""
+    yield "tweets", [answer(100) for _ in range(2)]
+    yield "catalog", [catalog(460)]
+    yield "short_strings", [text_of([string_of(LETTERS, 2, 13) for _ in range(1000)]) for _ in range(100)]
+
+
 def write(path, texts):
     with open(path, "w", encoding="utf-8") as file:
         file.write("".join(text + "\n" for text in texts))
@@ -88,6 +224,8 @@ def main():
         write(os.path.join(folder, name + ".json"), texts)
     for name, texts in extended_documents():
         write(os.path.join(folder, name + ".json5"), texts)
+    for name, texts in shaped_documents():
+        write(os.path.join(folder, name + ".json"), texts)
 
 
 main()

@@ -2,7 +2,7 @@
 """Prints the table of the benchmark: table.py NAME=MEASURES.. , a file of the harness's lines for each library."""
 import sys
 
-OPERATIONS = ["read", "extended", "write", "compare", "clone"]
+OPERATIONS = ["read", "extended", "read_ast", "write", "compare", "clone"]
 
 
 def per_byte(figure, size):
@@ -11,7 +11,7 @@ def per_byte(figure, size):
 
 
 def rows(path):
-    """The measures of each document, by operation: the size, nanoseconds and instructions."""
+    """The measures of each document, by operation: the size, nanoseconds (bytes, for peak) and instructions."""
     documents = {}
     with open(path) as file:
         for line in file:
@@ -23,7 +23,9 @@ def rows(path):
 def main():
     libraries = [(name, rows(path)) for name, path in (arg.split("=", 1) for arg in sys.argv[1:])]
     print("Nanoseconds a byte, and instructions a byte (ins), of one operation over all documents of a file.")
-    print("%-13s %8s  %-10s" % ("document", "bytes", "library") + "".join("%9s %7s" % (it, "ins") for it in OPERATIONS))
+    print("The peak is the bytes of heap, for a byte of text, that live at most while a document is read.")
+    print("%-13s %8s  %-10s" % ("document", "bytes", "library")
+          + "".join("%9s %7s" % (it, "ins") for it in OPERATIONS) + "   peak")
     for document in libraries[0][1]:
         for name, documents in libraries:
             if document not in documents:
@@ -31,8 +33,10 @@ def main():
             measures = documents[document]
             size = next(iter(measures.values()))[0]
             figures = [measures.get(it, (size, "-", "-")) for it in OPERATIONS]
+            peak = measures["peak"][1]
             print("%-13s %8d  %-10s" % (document, size, name) + "".join(
-                "%9s %7s" % (per_byte(ns, size), per_byte(instructions, size)) for _, ns, instructions in figures))
+                "%9s %7s" % (per_byte(ns, size), per_byte(instructions, size)) for _, ns, instructions in figures)
+                + "%7s" % per_byte(peak, size))
 
 
 main()

@@ -10,7 +10,7 @@ ghost use Rattle.jsonb_value.specs.Grammar.{IsDocument};
 ghost use Rattle.jsonb_value.specs.Mode.{standard, extended};
 ghost use Rattle.jsonb_value.specs.Tree.{Tree};
 
-use jsonb::{parse_value, parse_value_standard_mode};
+use jsonb::{JsonAst, Mode, parse_value, parse_value_standard_mode};
 use std::alloc::Global;
 
 /// Reads the text as standard JSON `rounds` times, and drops each value. The answer is how many rounds went
@@ -39,6 +39,22 @@ pub extern "C" fn jsonb_bench_read_extended(alloc: Global, text: &[u8], rounds: 
 {
     for round in 0..rounds {
         if parse_value(alloc, text).is_err() {
+            return round;
+        }
+    }
+    rounds
+}
+
+/// Reads the text as standard JSON into a [`JsonAst`] `rounds` times, and drops each, with no value made of it. The answer
+/// is how many rounds went well before the first that did not, and so it is `rounds` where all did.
+#[unsafe(no_mangle)]
+pub extern "C" fn jsonb_bench_read_ast(alloc: Global, text: &[u8], rounds: usize) -> usize
+    ensures most { result ≤ rounds }
+    // Nothing goes well with a text that is no document.
+    ensures refused { ((t : Tree) → IsDocument standard text.now t → ⊥) → result ≡ 0 }
+{
+    for round in 0..rounds {
+        if JsonAst::parse(alloc, text, Mode::Standard).is_err() {
             return round;
         }
     }
