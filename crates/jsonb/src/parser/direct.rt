@@ -271,7 +271,8 @@ impl<'a> Parser<'a> {
     fn take_after_blanks(&mut self, byte: u8) -> bool
         requires stop { is_blank_start byte ≡ false }
         requires inside { self.old.idx ≤ size_of self.old }
-        ensures rest { skip_blanks (mode_of self.old.mode) (rest_of self.old) ≡ (if result then byte ∷ rest_of self.new else rest_of self.new) }
+        ensures rest { skip_blanks (mode_of self.old.mode) (rest_of self.old)
+            ≡ (if result then byte ∷ rest_of self.new else rest_of self.new) }
         ensures onward { MatchBool result (self.old.idx < self.new.idx) (Unit {0}) }
         ensures advances { Advances self.old self.new }
     {

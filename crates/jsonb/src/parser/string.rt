@@ -182,8 +182,8 @@ fn shifted_down(bits: u64, by: usize) -> u64
     bits >> by
 }
 
-// The index of the first quote or backslash from `at` on, or the length of the bytes, and the marks from there on, given
-// those from `at` on.
+// The index of the first quote or backslash from `at` on, or the length of the bytes, and the marks from there on,
+// given those from `at` on.
 #[inline(always)]
 fn first_mark(bytes: &[u8], quote: u8, at: usize, marks: u64) -> (usize, u64)
     requires inside { at ≤ length bytes.now }

@@ -3,10 +3,12 @@ mod broken;
 mod by_hand;
 mod comments;
 mod containers;
+mod direct;
 mod extended;
 mod first_faults;
 mod long;
 mod numbers;
+mod same;
 mod standard;
 mod strings;
 
@@ -14,6 +16,7 @@ use super::{JsonAst, Mode, parse_value, parse_value_standard_mode};
 use jsonb_value::error::Error;
 use jsonb_value::number::{Decimal64, Decimal128, Number};
 use jsonb_value::value::Value;
+use same::are_same_answers;
 use std::alloc::Global;
 use std::process::Abort;
 use std::test::Fail;
@@ -24,7 +27,8 @@ const EXTENDED: [Mode; 1] = [Mode::Extended];
 
 const BOTH: [Mode; 2] = [Mode::Standard, Mode::Extended];
 
-fn read(alloc: Global, mode: Mode, input: &[u8]) -> Result<Value<'_>, Error> {
+// What the reader of the mode gives.
+fn read_as_value(alloc: Global, mode: Mode, input: &[u8]) -> Result<Value<'_>, Error> {
     match mode {
         Mode::Standard => parse_value_standard_mode(alloc, input),
         Mode::Extended => parse_value(alloc, input),
@@ -36,33 +40,58 @@ fn read_by_tree(alloc: Global, mode: Mode, input: &[u8]) -> Result<Value<'_>, Er
     JsonAst::parse(alloc, input, mode)?.into_value(alloc)
 }
 
-// The text of the document's value.
-fn written(alloc: Global, mode: Mode, input: &[u8]) -> Result<Vec<u8>, Error> {
-    let value = read(alloc, mode, input)?;
+// The document's value, or the refusal; the tree gives the same, down to what is borrowed and to each number's variant.
+fn read<'a>(
+    rt: &(impl AllocGlobal + Abort),
+    mode: Mode,
+    input: &'a [u8],
+) -> Result<Result<Value<'a>, Error>, Fail> {
+    let value = read_as_value(rt.alloc(), mode, input);
+    let by_tree = read_by_tree(rt.alloc(), mode, input);
+    assert!(rt;
+        are_same_answers(&value, &by_tree),
+        "tree of {input:?}, {mode:?}"
+    );
+    Ok(value)
+}
+
+// The value's text.
+fn written(alloc: Global, value: &Value) -> Result<Vec<u8>, Error> {
     let mut text = Vec::new(alloc);
     value.write_text(&mut text)?;
     Ok(text)
 }
 
-// Whether the two are documents of equal values.
-fn are_equal<'a>(alloc: Global, mode: Mode, left: &'a [u8], right: &'a [u8]) -> Result<bool, Fail> {
-    Ok(read(alloc, mode, left)? == read(alloc, mode, right)?)
+// The text of the document's value, or the refusal.
+fn text_of(
+    rt: &(impl AllocGlobal + Abort),
+    mode: Mode,
+    input: &[u8],
+) -> Result<Result<Vec<u8>, Error>, Fail> {
+    match read(rt, mode, input)? {
+        Ok(value) => Ok(Ok(written(rt.alloc(), &value)?)),
+        Err(error) => Ok(Err(error)),
+    }
 }
 
-// The text of the document's value, or the refusal; the tree gives the same. What is written is read again as an equal
-// value and written the same.
+// Whether the two are documents of equal values.
+fn are_equal<'a>(alloc: Global, mode: Mode, left: &'a [u8], right: &'a [u8]) -> Result<bool, Fail> {
+    Ok(read_as_value(alloc, mode, left)? == read_as_value(alloc, mode, right)?)
+}
+
+// The same. What is written is read again as an equal value and written the same.
 fn answer(
     rt: &(impl AllocGlobal + Abort),
     mode: Mode,
     input: &[u8],
 ) -> Result<Result<Vec<u8>, Error>, Fail> {
-    let alloc = rt.alloc();
-    let by_tree = read_by_tree(alloc, mode, input);
-    assert!(rt; read(alloc, mode, input) == by_tree, "tree of {input:?}");
-    let answer = written(alloc, mode, input);
+    let answer = text_of(rt, mode, input)?;
     if let Ok(text) = &answer {
-        assert!(rt; are_equal(alloc, mode, input, text)?, "value of {input:?}");
-        assert!(rt; written(alloc, mode, text)? == *text, "text of {input:?}");
+        assert!(rt;
+            are_equal(rt.alloc(), mode, input, text)?,
+            "value of {input:?}"
+        );
+        assert!(rt; text_of(rt, mode, text)?? == *text, "text of {input:?}");
     }
     Ok(answer)
 }

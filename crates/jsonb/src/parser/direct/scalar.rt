@@ -65,7 +65,8 @@ impl<'a> Parser<'a> {
         Some(())
     }
 
-    // Puts in a member whose value holds no others, where no other has its key. Values are put in where they are made, too.
+    // Puts in a member whose value holds no others, where no other has its key. Here too a value is put in where it is
+    // made.
     #[inline(always)]
     pub(super) fn insert_scalar(
         &mut self,

@@ -29,7 +29,7 @@ fn comments_are_blanks(rt: HostRuntime) -> Result<(), Fail> {
 #[test]
 fn a_comment_before_an_integer(rt: HostRuntime) -> Result<(), Fail> {
     for input in ["// a\n1", "// a\r1"] {
-        let value = read(rt.alloc(), Mode::Extended, input.as_bytes())?;
+        let value = read(&rt, Mode::Extended, input.as_bytes())??;
         assert!(rt;
             matches!(value, Value::Number(Number::UInt64(1))),
             "of {input}"

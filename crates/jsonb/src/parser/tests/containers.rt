@@ -83,7 +83,7 @@ fn many_arrays(rt: HostRuntime) -> Result<(), Fail> {
 #[test]
 fn an_array_of_one_integer(rt: HostRuntime) -> Result<(), Fail> {
     for mode in BOTH {
-        let value = read(rt.alloc(), mode, br"\n[1]")?;
+        let value = read(&rt, mode, br"\n[1]")??;
         assert_eq!(rt; value.array_length(), Some(1));
         for item in value.as_array().into_iter().flatten() {
             assert!(rt; matches!(item, Value::Number(Number::UInt64(1))));

@@ -126,7 +126,7 @@ fn members_of_bare_keys(rt: HostRuntime) -> Result<(), Fail> {
         ),
     ]?);
     assert!(rt; tree == want);
-    let value = read(alloc, Mode::Extended, input)?;
+    let value = read(&rt, Mode::Extended, input)??;
     let seven = value.get_by_name_ignore_case("a");
     assert!(rt; matches!(seven, Some(Value::Number(Number::UInt64(7)))));
     let letter = value.get_by_name_ignore_case("b");

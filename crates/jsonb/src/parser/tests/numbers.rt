@@ -1,7 +1,7 @@
 // Numbers of both modes: their variants, scales and whole numbers, and where they are refused.
+use super::same::are_same_numbers;
 use super::{
-    BOTH, EXTENDED, Mode, STANDARD, answer_text, are_equal, decimal64, decimal128, expect, read,
-    repeated,
+    BOTH, EXTENDED, Mode, STANDARD, answer_text, decimal64, decimal128, expect, read, repeated,
 };
 use jsonb_value::number::Number;
 use jsonb_value::value::Value;
@@ -11,17 +11,6 @@ use std::test::Fail;
 // 38 digits 9.
 const NINES: i128 = 99_999_999_999_999_999_999_999_999_999_999_999_999;
 
-// Whether the two are one variant, with one scale and whole number.
-fn are_same(left: &Number, right: &Number) -> bool {
-    match (left, right) {
-        (Number::Int64(m), Number::Int64(n)) => m == n,
-        (Number::UInt64(m), Number::UInt64(n)) => m == n,
-        (Number::Decimal64(m), Number::Decimal64(n)) => m.scale == n.scale && m.value == n.value,
-        (Number::Decimal128(m), Number::Decimal128(n)) => m.scale == n.scale && m.value == n.value,
-        _ => false,
-    }
-}
-
 // The input is read as this number, and is written as this text.
 fn expect_number(
     rt: &(impl AllocGlobal + Abort),
@@ -30,8 +19,8 @@ fn expect_number(
     want: &Number,
     text: &[u8],
 ) -> Result<(), Fail> {
-    let value = read(rt.alloc(), mode, input)?;
-    let is_read = matches!(&value, Value::Number(number) if are_same(number, want));
+    let value = read(rt, mode, input)??;
+    let is_read = matches!(&value, Value::Number(number) if are_same_numbers(number, want));
     assert!(rt; is_read, "number of {input:?}, {mode:?}");
     let got = answer_text(rt, mode, input)?;
     assert!(rt; got.as_bytes() == text, "text of {input:?}, {mode:?}");
@@ -246,7 +235,9 @@ fn long_numbers_that_are_refused(rt: HostRuntime) -> Result<(), Fail> {
 
 #[test]
 fn integers_equal_decimals(rt: HostRuntime) -> Result<(), Fail> {
-    assert!(rt; are_equal(rt.alloc(), Mode::Extended, b"[1]", b"[1.0]")?);
-    assert!(rt; !are_equal(rt.alloc(), Mode::Extended, b"[1]", b"[1.1]")?);
+    let mode = Mode::Extended;
+    let integer = read(&rt, mode, b"[1]")??;
+    assert!(rt; integer == read(&rt, mode, b"[1.0]")??);
+    assert!(rt; integer != read(&rt, mode, b"[1.1]")??);
     Ok(())
 }

@@ -93,7 +93,7 @@ fn strings_without_escapes_are_borrowed(rt: HostRuntime) -> Result<(), Fail> {
         (&EXTENDED[..], r"'it\'s'", false, "it's"),
     ] {
         for mode in modes {
-            let value = read(rt.alloc(), *mode, input.as_bytes())?;
+            let value = read(&rt, *mode, input.as_bytes())??;
             let got = matches!(value, Value::String(CowStr::Borrowed(_)));
             assert_eq!(rt; got, is_borrowed, "of {input}");
             assert!(rt;
@@ -211,7 +211,7 @@ fn expect_end(
     quote: u8,
     input: &[u8],
 ) -> Result<(), Fail> {
-    let got = JsonAst::parse(rt.alloc(), input, mode);
+    let got = read(rt, mode, input)?;
     let want = match end_byte_by_byte(input.split_at(1.min(input.len())).1, quote) {
         Ok(end) => Error::Syntax(
             ParseErrorCode::UnexpectedTrailingCharacters,
