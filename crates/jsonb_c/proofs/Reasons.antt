@@ -1,0 +1,83 @@
+-- What a reason says of an answer.
+use Rattle.std.proofs.Common.{◌≡◌, ◌≢◌, ℕ, ◌≤◌, List, refl, subst, sym, ◌∙◌, arith}
+use Rattle.jsonb_value.specs.Code.{code_of}
+use Rattle.jsonb_value.specs.Grammar.{IsDocument}
+use Rattle.jsonb_value.specs.Mode.{Mode}
+use Rattle.jsonb_value.specs.Tree.{Tree}
+use Rattle.jsonb_value.specs.declared.error.Error.{Error}
+use Rattle.jsonb_value.specs.declared.error.Error.TheVariants as errors
+use Rattle.jsonb.specs.Parser.{Fails}
+use Rattle.jsonb.specs.Reading.Document.{document_of}
+use Rattle.jsonb.specs.Refusals.{IsExplained}
+use Rattle.jsonb_c.specs.declared.Refusal.{Refusal}
+use Rattle.jsonb_c.specs.declared.Refused.{Refused}
+use Rattle.jsonb_c.specs.declared.Refused.TheVariants.{Text, OutOfMemory, UnknownMode}
+use Rattle.jsonb_c.specs.Interface.{Chooses, standard_mode, extended_mode, status_of, IsAccepted, IsOneRefused, first_refused, second_refused, IsReason, IsRefused, SaysError}
+
+-- ---- modes
+
+pub within : {number : ℕ} {mode : Mode} → Chooses number mode → number ≤ 1
+within (standard_mode e) = omega (arith, e)
+within (extended_mode e) = omega (arith, e)
+
+-- a number chooses one mode
+pub one_mode : {number : ℕ} {mode other : Mode} → Chooses number mode → Chooses number other → mode ≡ other
+one_mode (standard_mode e) (standard_mode f) = refl
+one_mode (standard_mode e) (extended_mode f) = absurd (omega (arith, e, f))
+one_mode (extended_mode e) (standard_mode f) = absurd (omega (arith, e, f))
+one_mode (extended_mode e) (extended_mode f) = refl
+
+-- ---- from errors to reasons
+
+-- a fault of the text that a reader told, in other words
+refused_text : (number : ℕ) (mode : Mode) (text : List ℕ) (count : ℕ) (e : Error) (refusal : Refusal) → Chooses number mode
+    → (e ≢ errors.OutOfMemory → (t : Tree) → IsDocument mode text t → ⊥) → Fails e (document_of mode text) → IsExplained mode text e → SaysError count e (Text refusal) → IsRefused number text count refusal
+refused_text number mode text count e refusal chosen none fails explained says =
+    let code = says.0 in
+    let is : e ≡ errors.Syntax code refusal.position = says.1 in
+    record {
+      mode = mode;
+      chosen = chosen;
+      no_document = none (λ same. let f : errors.Syntax code refusal.position ≡ errors.OutOfMemory = sym is ∙ same in cc);
+      counted = says.3;
+      code = code_of code;
+      numbered = says.2;
+      exact = subst (λ x. Fails x (document_of mode text)) is fails;
+      explained = subst (IsExplained mode text) is explained;
+    }
+
+pub reason_says : (number : ℕ) (mode : Mode) (text : List ℕ) (count : ℕ) (e : Error) (reason : Refused) → Chooses number mode
+    → (e ≢ errors.OutOfMemory → (t : Tree) → IsDocument mode text t → ⊥) → Fails e (document_of mode text) → IsExplained mode text e → SaysError count e reason
+    → IsReason number (IsRefused number text count) reason
+reason_says number mode text count e (Text refusal) chosen none fails explained says = (within chosen, refused_text number mode text count e refusal chosen none fails explained says)
+reason_says number mode text count e OutOfMemory chosen none fails explained says = within chosen
+reason_says number mode text count e UnknownMode chosen none fails explained says = absurd says
+
+-- ---- what is accepted
+
+-- a text that is refused isn't accepted
+pub denied : (number : ℕ) (text : List ℕ) (count : ℕ) (refusal : Refusal) → IsRefused number text count refusal → IsAccepted number text → ⊥
+denied number text count refusal w a = w.no_document a.tree (subst (λ mode. IsDocument mode text a.tree) (one_mode a.read.chosen w.chosen) a.read.document)
+
+-- nor are both of two texts of which one is refused
+pub one_denied : (number : ℕ) (left right : List ℕ) (refusal : Refusal) → IsOneRefused number left right refusal → IsAccepted number left → IsAccepted number right → ⊥
+one_denied number left right refusal (first_refused w) a b = denied number left 1 refusal w a
+one_denied number left right refusal (second_refused first w) a b = denied number right 2 refusal w b
+
+-- where a text is accepted, memory ran out
+pub memory_wanting : (number : ℕ) (text : List ℕ) (reason : Refused) → IsReason number (IsRefused number text 1) reason → IsAccepted number text → status_of reason ≡ 2
+memory_wanting number text (Text refusal) w a = absurd (denied number text 1 refusal w.1 a)
+memory_wanting number text OutOfMemory w a = refl
+memory_wanting number text UnknownMode w a = absurd (omega (arith, w, within a.read.chosen))
+
+-- the same of two texts
+pub memory_wanting_of_two : (number : ℕ) (left right : List ℕ) (reason : Refused) → IsReason number (IsOneRefused number left right) reason → IsAccepted number left → IsAccepted number right → status_of reason ≡ 2
+memory_wanting_of_two number left right (Text refusal) w a b = absurd (one_denied number left right refusal w.1 a b)
+memory_wanting_of_two number left right OutOfMemory w a b = refl
+memory_wanting_of_two number left right UnknownMode w a b = absurd (omega (arith, w, within a.read.chosen))
+
+-- the status of want of memory is of no other reason
+pub memory_alone : (reason : Refused) → status_of reason ≡ 2 → reason ≡ OutOfMemory
+memory_alone (Text refusal) e = absurd (omega (arith, e))
+memory_alone OutOfMemory e = refl
+memory_alone UnknownMode e = absurd (omega (arith, e))

@@ -1,0 +1,143 @@
+-- What the functions for C tell of texts.
+use Rattle.std.specs.Prelude.{◌≡◌, ℕ, ◌<◌, ◌≤◌, ℤ, pos, negsuc, List, ◌++◌, length, drop, Some, Ok, Err}
+use Rattle.std.specs.declared.cmp.Ordering.{Ordering}
+use Rattle.std.specs.declared.cmp.Ordering.TheVariants.{Less, Equal, Greater}
+use Rattle.jsonb_value.specs.declared.error.Error.{Error}
+use Rattle.jsonb_value.specs.declared.error.Error.TheVariants as errors
+use Rattle.jsonb_value.specs.declared.error.ParseErrorCode.{ParseErrorCode}
+use Rattle.jsonb_value.specs.Code.{Code, code_of}
+use Rattle.jsonb_value.specs.Code.Code.{control_character_while_parsing_string, depth_limit_exceeded, expected_array_comma_or_end, expected_colon, expected_object_comma_or_end, expected_some_ident, expected_some_value, invalid_eof, invalid_escaped, invalid_hex, invalid_lone_leading_surrogate_in_hex_escape, invalid_number_value, invalid_string_value, invalid_surrogate_in_hex_escape, key_must_be_a_string, number_not_carried, object_duplicate_key, object_key_invalid_character, object_key_invalid_number, unexpected_end_of_hex_escape, unexpected_trailing_characters}
+use Rattle.jsonb_value.specs.Grammar.{IsDocument}
+use Rattle.jsonb_value.specs.Mode.{Mode, standard, extended}
+use Rattle.jsonb_value.specs.Order.{tree_cmp}
+use Rattle.jsonb_value.specs.ReadsBack.{ReadsBackAs}
+use Rattle.jsonb_value.specs.Text.{text_of}
+use Rattle.jsonb_value.specs.Tree.{Tree}
+use Rattle.jsonb.specs.Reading.Document.{document_of}
+use Rattle.jsonb.specs.Refusals.{Stands}
+use Rattle.jsonb_c.specs.declared.Refusal.{Refusal}
+use Rattle.jsonb_c.specs.declared.Refused.{Refused}
+use Rattle.jsonb_c.specs.declared.Refused.TheVariants.{Text, OutOfMemory, UnknownMode}
+
+-- Which number chooses which mode.
+pub data Chooses (number : ℕ) : Mode → Type 0 where
+  standard_mode : number ≡ 0 → Chooses number standard
+  extended_mode : number ≡ 1 → Chooses number extended
+
+-- the number of a code: from 1 on, in the order of `ParseErrorCode`
+abbrev pub code_number : Code → ℕ
+code_number invalid_eof = 1
+code_number invalid_number_value = 2
+code_number invalid_string_value = 3
+code_number expected_some_ident = 4
+code_number expected_some_value = 5
+code_number expected_colon = 6
+code_number expected_array_comma_or_end = 7
+code_number expected_object_comma_or_end = 8
+code_number unexpected_trailing_characters = 9
+code_number key_must_be_a_string = 10
+code_number control_character_while_parsing_string = 11
+code_number (invalid_escaped byte) = 12
+code_number (invalid_hex byte) = 13
+code_number (invalid_lone_leading_surrogate_in_hex_escape unit) = 14
+code_number (invalid_surrogate_in_hex_escape unit) = 15
+code_number unexpected_end_of_hex_escape = 16
+code_number (object_duplicate_key key) = 17
+code_number object_key_invalid_number = 18
+code_number object_key_invalid_character = 19
+code_number number_not_carried = 20
+code_number depth_limit_exceeded = 21
+
+-- what is told where no text is refused
+abbrev pub nothing : Refusal
+nothing = record { code = 0; which = 0; position = 0 }
+
+-- the number of an order
+abbrev pub sign : Ordering → ℤ
+sign Less = negsuc 0
+sign Equal = pos 0
+sign Greater = pos 1
+
+-- The number chooses a mode in which the text is a document of this tree and of no other, and the tree is what reading
+-- gives.
+pub record IsReadAs (number : ℕ) (text : List ℕ) (tree : Tree) : Type 0 where
+  pub mode : Mode
+  pub chosen : Chooses number mode
+  pub document : IsDocument mode text tree
+  pub only : (t : Tree) → IsDocument mode text t → t ≡ tree
+  pub exact : document_of mode text ≡ Ok tree
+
+-- The number chooses a mode in which the text is a document.
+pub record IsAccepted (number : ℕ) (text : List ℕ) : Type 0 where
+  pub tree : Tree
+  pub read : IsReadAs number text tree
+
+-- The number chooses a mode in which the text is no document. What is told is the fault that reading meets, and which of
+-- the texts it is.
+pub record IsRefused (number : ℕ) (text : List ℕ) (count : ℕ) (refusal : Refusal) : Type 0 where
+  pub mode : Mode
+  pub chosen : Chooses number mode
+  pub no_document : (t : Tree) → IsDocument mode text t → ⊥
+  pub counted : refusal.which ≡ count
+  pub code : Code
+  pub numbered : refusal.code ≡ code_number code
+  pub exact : document_of mode text ≡ Err (record { code = code; place = refusal.position })
+  pub explained : Stands mode text code refusal.position
+
+-- One of two texts is refused, the first that is no document.
+pub data IsOneRefused (number : ℕ) (left right : List ℕ) (refusal : Refusal) : Type 0 where
+  first_refused : IsRefused number left 1 refusal → IsOneRefused number left right refusal
+  second_refused : IsAccepted number left → IsRefused number right 2 refusal → IsOneRefused number left right refusal
+
+-- The bytes are the text of the tree of the text, and they read back as a document of the same tree with this text.
+pub record IsTextOf (number : ℕ) (text bytes : List ℕ) : Type 0 where
+  pub tree : Tree
+  pub read : IsReadAs number text tree
+  pub is_text : text_of tree ≡ Some bytes
+  pub reads_back : ReadsBackAs read.mode bytes tree
+
+-- The text of the text's tree stands at the front of the buffer, whose other bytes are as before.
+pub record IsWritten (number : ℕ) (text : List ℕ) (size : ℕ) (old new : List ℕ) : Type 0 where
+  pub bytes : List ℕ
+  pub is_text : IsTextOf number text bytes
+  pub sized : size ≡ length bytes
+  pub put : new ≡ bytes ++ drop size old
+
+-- The text of the text's tree has this size, and the buffer is shorter.
+pub record NeedsRoom (number : ℕ) (text : List ℕ) (size : ℕ) (old : List ℕ) : Type 0 where
+  pub bytes : List ℕ
+  pub is_text : IsTextOf number text bytes
+  pub sized : size ≡ length bytes
+  pub too_short : length old < size
+
+-- The number is that of the order of the two texts' trees.
+pub record IsOrdered (number : ℕ) (left right : List ℕ) (order : ℤ) : Type 0 where
+  pub first : Tree
+  pub first_read : IsReadAs number left first
+  pub second : Tree
+  pub second_read : IsReadAs number right second
+  pub ordered : order ≡ sign (tree_cmp first second)
+
+-- Why there is no answer: a text is refused, of which this is told; memory ran out; or the number chooses no mode.
+abbrev pub IsReason : ℕ → (Refusal → Type 0) → Refused → Type 0
+IsReason number IsTold (Text refusal) = (number ≤ 1) × IsTold refusal
+IsReason number IsTold OutOfMemory = number ≤ 1
+IsReason number IsTold UnknownMode = 1 < number
+
+-- The reason says what the error of a reader does: the fault is told, of this one of the texts, or memory ran out.
+abbrev pub SaysError : ℕ → Error → Refused → Type 0
+SaysError count error (Text refusal) = (code : ParseErrorCode) × (error ≡ errors.Syntax code refusal.position) × (refusal.code ≡ code_number (code_of code)) × (refusal.which ≡ count)
+SaysError count error OutOfMemory = error ≡ errors.OutOfMemory
+SaysError count error UnknownMode = ⊥
+
+-- the status of a reason
+abbrev pub status_of : Refused → ℕ
+status_of (Text refusal) = 1
+status_of OutOfMemory = 2
+status_of UnknownMode = 3
+
+-- what is told of a reason
+abbrev pub told : Refused → Refusal
+told (Text refusal) = refusal
+told OutOfMemory = nothing
+told UnknownMode = nothing

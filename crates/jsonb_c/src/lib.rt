@@ -1,0 +1,326 @@
+//! The library for C: it checks a text, writes the text of its value, and compares two texts. `include/vizhoniku.h`
+//! declares it.
+//!
+//! From C, `alloc` is passed as nothing, and a slice as a pointer and a length. No pointer may be null, and what a
+//! `&mut` points to lies apart from all else that is passed. Each call writes to each `&mut` but the buffer.
+#![tactic(auto)]
+
+ghost use Rattle.std.specs.Prelude.{◌≡◌, ◌≢◌, ◌↔◌, ◌⊎◌, ◌<◌, ◌≤◌, ◌++◌, length, drop, pos, MatchOption, IfOk, IfErr, Err};
+ghost use Rattle.jsonb_value.specs.Code.{code_of};
+ghost use Rattle.jsonb_value.specs.Grammar.{IsDocument};
+ghost use Rattle.jsonb_value.specs.Tree.{Tree};
+ghost use Rattle.jsonb_value.specs.View.{view};
+ghost use Rattle.jsonb.specs.Parser.{mode_of, Gives, HoldsMarker, IsTextRefusal};
+ghost use Rattle.jsonb.specs.Reading.Document.{document_of};
+ghost use Rattle.jsonb.specs.Refusals.{IsExplained};
+ghost use Rattle.jsonb_c.specs.Interface.{Chooses, code_number, nothing, sign, status_of, told, IsAccepted, IsOneRefused, IsOrdered, IsReadAs, IsReason, IsRefused, IsTextOf, IsWritten, NeedsRoom, SaysError};
+
+use jsonb::{Error, Mode, ParseErrorCode, Value, parse_value, parse_value_standard_mode};
+use std::alloc::Global;
+use std::cmp::Ordering;
+
+/// Everything went well.
+pub const ACCEPTED: u32 = 0;
+
+/// A text is no document of the mode.
+pub const REFUSED: u32 = 1;
+
+/// Memory ran out.
+pub const OUT_OF_MEMORY: u32 = 2;
+
+/// The number that was passed as mode chooses none.
+pub const UNKNOWN_MODE: u32 = 3;
+
+/// The buffer is shorter than the text.
+pub const TOO_SHORT: u32 = 4;
+
+/// What is told of a text that is refused: the number of the code, which of the texts it is, from 1 on, and the
+/// position. All are 0 where no text is refused.
+#[repr(C)]
+#[derive(Clone, Copy)]
+pub struct Refusal {
+    pub code: u32,
+    pub which: u32,
+    pub position: usize,
+}
+
+const NOTHING: Refusal = Refusal {
+    code: 0,
+    which: 0,
+    position: 0,
+};
+
+// Why a call has no answer.
+#[derive(Clone, Copy)]
+enum Refused {
+    Text(Refusal),
+    OutOfMemory,
+    UnknownMode,
+}
+
+/// Tells whether the text is a document of the mode, 0 for standard or 1 for extended. What is wrong with a text that
+/// is none is told in `refusal`.
+#[unsafe(no_mangle)]
+pub extern "C" fn vizhoniku_check(
+    alloc: Global,
+    mode: u32,
+    text: &[u8],
+    refusal: &mut Refusal,
+) -> u32
+    ensures status { result ≤ UNKNOWN_MODE }
+    ensures mode { result ≡ UNKNOWN_MODE ↔ (1 < mode) }
+
+    // A document is accepted, and nothing else, unless memory ran out.
+    ensures document { result ≡ ACCEPTED → IsAccepted mode text.now }
+    ensures accepted { IsAccepted mode text.now → (result ≡ ACCEPTED) ⊎ (result ≡ OUT_OF_MEMORY) }
+    ensures memory { result ≡ OUT_OF_MEMORY → HoldsMarker text.now }
+
+    // Which fault it is, and where.
+    ensures refused { result ≡ REFUSED → IsRefused mode text.now 1 refusal.new }
+    ensures nothing { result ≢ REFUSED → refusal.new ≡ nothing }
+{
+    match value_of(alloc, mode, text, 1) {
+        Ok(_) => {
+            *refusal = NOTHING;
+            ACCEPTED
+        }
+        Err(refused) => tell(refused, refusal),
+    }
+}
+
+/// Writes the text of the text's value to the front of `out`, and its size to `size`. Where `out` is too short, it
+/// stays as it is, and `size` is what is needed.
+#[unsafe(no_mangle)]
+pub extern "C" fn vizhoniku_text(
+    alloc: Global,
+    mode: u32,
+    text: &[u8],
+    out: &mut [u8],
+    size: &mut usize,
+    refusal: &mut Refusal,
+) -> u32
+    ensures status { result ≤ TOO_SHORT }
+    ensures mode { result ≡ UNKNOWN_MODE ↔ (1 < mode) }
+
+    // What is written is the text of the document's tree, and no other byte of the buffer changes.
+    ensures written { result ≡ ACCEPTED → IsWritten mode text.now size.new out.old out.new }
+    ensures short { result ≡ TOO_SHORT → NeedsRoom mode text.now size.new out.old }
+    ensures untouched { result ≢ ACCEPTED → out.new ≡ out.old }
+    ensures no_size { result ≢ ACCEPTED → result ≢ TOO_SHORT → size.new ≡ 0 }
+
+    // A document is accepted, unless memory ran out.
+    ensures accepted { IsAccepted mode text.now
+        → (result ≡ ACCEPTED) ⊎ (result ≡ TOO_SHORT) ⊎ (result ≡ OUT_OF_MEMORY) }
+
+    // Which fault it is, and where.
+    ensures refused { result ≡ REFUSED → IsRefused mode text.now 1 refusal.new }
+    ensures nothing { result ≢ REFUSED → refusal.new ≡ nothing }
+{
+    match text_of(alloc, mode, text) {
+        Ok(bytes) => {
+            *refusal = NOTHING;
+            *size = bytes.len();
+            put(&bytes, out)
+        }
+        Err(refused) => {
+            *size = 0;
+            tell(refused, refusal)
+        }
+    }
+}
+
+/// Compares the values of two texts of one mode. The order is -1 where the first is below the second, 0 where they are
+/// the same, and 1 where it is above.
+#[unsafe(no_mangle)]
+pub extern "C" fn vizhoniku_compare(
+    alloc: Global,
+    mode: u32,
+    left: &[u8],
+    right: &[u8],
+    order: &mut i32,
+    refusal: &mut Refusal,
+) -> u32
+    ensures status { result ≤ UNKNOWN_MODE }
+    ensures mode { result ≡ UNKNOWN_MODE ↔ (1 < mode) }
+
+    // The order is that of the trees of two documents.
+    ensures ordered { result ≡ ACCEPTED → IsOrdered mode left.now right.now order.new }
+    ensures no_order { result ≢ ACCEPTED → order.new ≡ pos 0 }
+
+    // Two documents are accepted, unless memory ran out.
+    ensures accepted { IsAccepted mode left.now → IsAccepted mode right.now
+        → (result ≡ ACCEPTED) ⊎ (result ≡ OUT_OF_MEMORY) }
+    ensures memory { result ≡ OUT_OF_MEMORY → HoldsMarker left.now ⊎ HoldsMarker right.now }
+
+    // Which of the two it is that is refused, which fault, and where.
+    ensures refused { result ≡ REFUSED → IsOneRefused mode left.now right.now refusal.new }
+    ensures nothing { result ≢ REFUSED → refusal.new ≡ nothing }
+{
+    match order_of(alloc, mode, left, right) {
+        Ok(is) => {
+            *refusal = NOTHING;
+            *order = sign(is);
+            ACCEPTED
+        }
+        Err(refused) => {
+            *order = 0;
+            tell(refused, refusal)
+        }
+    }
+}
+
+// Tells why a call has no answer, and gives the status of that.
+fn tell(refused: Refused, refusal: &mut Refusal) -> u32
+    ensures status { result ≡ status_of refused }
+    ensures told { refusal.new ≡ told refused }
+{
+    match refused {
+        Refused::Text(told) => {
+            *refusal = told;
+            REFUSED
+        }
+        Refused::OutOfMemory => {
+            *refusal = NOTHING;
+            OUT_OF_MEMORY
+        }
+        Refused::UnknownMode => {
+            *refusal = NOTHING;
+            UNKNOWN_MODE
+        }
+    }
+}
+
+// The order of the values of two texts.
+fn order_of(alloc: Global, mode: u32, left: &[u8], right: &[u8]) -> Result<Ordering, Refused>
+    ensures ordered { IfOk result (λ order. IsOrdered mode left.now right.now (sign order)) }
+    ensures reason { IfErr result (IsReason mode (IsOneRefused mode left.now right.now)) }
+    ensures memory { result ≡ Err Refused.OutOfMemory → HoldsMarker left.now ⊎ HoldsMarker right.now }
+{
+    let first = value_of(alloc, mode, left, 1)?;
+    let second = value_of(alloc, mode, right, 2)?;
+    Ok(first.cmp(&second))
+}
+
+// The number of an order.
+fn sign(order: Ordering) -> i32
+    ensures { result ≡ sign order }
+{
+    match order {
+        Ordering::Less => -1,
+        Ordering::Equal => 0,
+        Ordering::Greater => 1,
+    }
+}
+
+// Puts the bytes at the front of the buffer, where it has room for all of them.
+fn put(bytes: &[u8], out: &mut [u8]) -> u32
+    ensures status { (result ≡ ACCEPTED) ⊎ (result ≡ TOO_SHORT) }
+    ensures written { result ≡ ACCEPTED → out.new ≡ bytes.now ++ drop (length bytes.now) out.old }
+    ensures short { result ≡ TOO_SHORT → (length out.old < length bytes.now) × (out.new ≡ out.old) }
+{
+    if out.len() < bytes.len() {
+        return TOO_SHORT;
+    }
+    out[..bytes.len()].copy_from_slice(bytes);
+    ACCEPTED
+}
+
+// The text of the value of a text.
+fn text_of(alloc: Global, mode: u32, text: &[u8]) -> Result<Vec<u8>, Refused>
+    ensures text { IfOk result (λ bytes. IsTextOf mode text.now bytes.items) }
+    ensures reason { IfErr result (IsReason mode (IsRefused mode text.now 1)) }
+{
+    let value = value_of(alloc, mode, text, 1)?;
+    let mut bytes = Vec::new(alloc);
+    if value.write_text(&mut bytes).is_err() {
+        return Err(Refused::OutOfMemory);
+    }
+    Ok(bytes)
+}
+
+// The value of a text, which is the first or the second of those that a call is given.
+fn value_of<'a>(alloc: Global, mode: u32, text: &'a [u8], which: u32) -> Result<Value<'a>, Refused>
+    ensures read { IfOk result (λ value. IsReadAs mode text.now (view value)) }
+    ensures reason { IfErr result (IsReason mode (IsRefused mode text.now which)) }
+    ensures memory { result ≡ Err Refused.OutOfMemory → HoldsMarker text.now }
+{
+    let Some(mode) = choose_mode(mode) else {
+        return Err(Refused::UnknownMode);
+    };
+    match read(alloc, mode, text) {
+        Ok(value) => Ok(value),
+        Err(error) => Err(reason_of(&error, which)),
+    }
+}
+
+// The mode that a number chooses.
+fn choose_mode(number: u32) -> Option<Mode>
+    ensures { MatchOption result (1 < number) (λ mode. Chooses number (mode_of mode)) }
+{
+    match number {
+        0 => Some(Mode::Standard),
+        1 => Some(Mode::Extended),
+        _ => None,
+    }
+}
+
+// The value of a text, by the reader of the mode.
+fn read<'a>(alloc: Global, mode: Mode, text: &'a [u8]) -> jsonb::Result<Value<'a>>
+    ensures document { IfOk result (λ v. IsDocument (mode_of mode) text.now (view v)) }
+    ensures only { IfOk result (λ v. (t : Tree) → IsDocument (mode_of mode) text.now t → t ≡ view v) }
+    ensures refused { IfErr result (λ e. e ≢ Error.OutOfMemory
+        → (t : Tree) → IsDocument (mode_of mode) text.now t → ⊥) }
+    ensures memory { result ≡ Err Error.OutOfMemory → HoldsMarker text.now }
+    ensures errors { IfErr result IsTextRefusal }
+    ensures exact { Gives view result (document_of (mode_of mode) text.now) }
+    ensures explained { IfErr result (IsExplained (mode_of mode) text.now) }
+{
+    match mode {
+        Mode::Standard => parse_value_standard_mode(alloc, text),
+        Mode::Extended => parse_value(alloc, text),
+    }
+}
+
+// What is told of an error of a reader.
+fn reason_of(error: &Error, which: u32) -> Refused
+    requires { IsTextRefusal error.now }
+    ensures { SaysError which error.now result }
+{
+    match error {
+        Error::Syntax(code, position) => Refused::Text(Refusal {
+            code: code_number(code),
+            which,
+            position: *position,
+        }),
+        _ => Refused::OutOfMemory,
+    }
+}
+
+// The number of a code: from 1 on, in the order of the codes.
+fn code_number(code: &ParseErrorCode) -> u32
+    ensures { result ≡ code_number (code_of code.now) }
+{
+    match code {
+        ParseErrorCode::InvalidEOF => 1,
+        ParseErrorCode::InvalidNumberValue => 2,
+        ParseErrorCode::InvalidStringValue => 3,
+        ParseErrorCode::ExpectedSomeIdent => 4,
+        ParseErrorCode::ExpectedSomeValue => 5,
+        ParseErrorCode::ExpectedColon => 6,
+        ParseErrorCode::ExpectedArrayCommaOrEnd => 7,
+        ParseErrorCode::ExpectedObjectCommaOrEnd => 8,
+        ParseErrorCode::UnexpectedTrailingCharacters => 9,
+        ParseErrorCode::KeyMustBeAString => 10,
+        ParseErrorCode::ControlCharacterWhileParsingString => 11,
+        ParseErrorCode::InvalidEscaped(_) => 12,
+        ParseErrorCode::InvalidHex(_) => 13,
+        ParseErrorCode::InvalidLoneLeadingSurrogateInHexEscape(_) => 14,
+        ParseErrorCode::InvalidSurrogateInHexEscape(_) => 15,
+        ParseErrorCode::UnexpectedEndOfHexEscape => 16,
+        ParseErrorCode::ObjectDuplicateKey(_) => 17,
+        ParseErrorCode::ObjectKeyInvalidNumber => 18,
+        ParseErrorCode::ObjectKeyInvalidCharacter => 19,
+        ParseErrorCode::NumberNotCarried => 20,
+        ParseErrorCode::DepthLimitExceeded => 21,
+    }
+}

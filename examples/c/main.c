@@ -1,0 +1,111 @@
+/* Prints the text of the value that a JSON text on standard input stands for, or compares two texts:
+ *
+ *   main [--extended] < FILE           prints the text of the value, or says on standard error where the text is wrong
+ *   main [--extended] LEFT RIGHT       prints <, = or >
+ *
+ * The status is 0, or 1 where a text is refused, or 2 where the words are wrong or anything else fails. */
+#include <stdio.h>
+#include <stdlib.h>
+#include <string.h>
+
+#include "vizhoniku.h"
+
+/* The line and the column of a position, both counted from 1: those of the byte before it. */
+static void print_place(const unsigned char *text, size_t text_size, size_t position) {
+  size_t end = position < text_size ? position : text_size, line = 1, start = 0;
+  for (size_t i = 0; i + 1 < end; i++)
+    if (text[i] == '\n') {
+      line++;
+      start = i + 1;
+    }
+  fprintf(stderr, "line %zu, column %zu", line, end - start);
+}
+
+static int print_failure(uint32_t status, const struct vizhoniku_refusal *refusal, const unsigned char *text,
+                         size_t text_size) {
+  if (status != VIZHONIKU_REFUSED) {
+    fprintf(stderr, "status %u\n", (unsigned)status);
+    return 2;
+  }
+  fprintf(stderr, "code %u at ", (unsigned)refusal->code);
+  print_place(text, text_size, refusal->position);
+  fputc('\n', stderr);
+  return 1;
+}
+
+/* All bytes of a file, in memory that the caller frees, or a null pointer where that fails. */
+static unsigned char *read_all(FILE *in, size_t *size) {
+  size_t room = 4096;
+  unsigned char *bytes = malloc(room);
+  *size = 0;
+  while (bytes) {
+    *size += fread(bytes + *size, 1, room - *size, in);
+    if (*size < room) break;
+    unsigned char *longer = room <= SIZE_MAX / 2 ? realloc(bytes, room *= 2) : NULL;
+    if (!longer) free(bytes);
+    bytes = longer;
+  }
+  if (bytes && ferror(in)) {
+    free(bytes);
+    return NULL;
+  }
+  return bytes;
+}
+
+/* Asks with a small buffer first, and again with one of the size that is needed. */
+static int print_text(uint32_t mode, const unsigned char *text, size_t text_size) {
+  unsigned char small[256], *buffer = small;
+  size_t size;
+  struct vizhoniku_refusal refusal;
+  uint32_t status = vizhoniku_text(mode, text, text_size, buffer, sizeof small, &size, &refusal);
+  if (status == VIZHONIKU_TOO_SHORT) {
+    buffer = malloc(size);
+    if (!buffer) return 2;
+    status = vizhoniku_text(mode, text, text_size, buffer, size, &size, &refusal);
+  }
+  int answer = 0;
+  if (status != VIZHONIKU_ACCEPTED)
+    answer = print_failure(status, &refusal, text, text_size);
+  else if (fwrite(buffer, 1, size, stdout) != size || putchar('\n') == EOF)
+    answer = 2;
+  if (buffer != small) free(buffer);
+  return answer;
+}
+
+static int print_input(uint32_t mode) {
+  size_t text_size;
+  unsigned char *text = read_all(stdin, &text_size);
+  if (!text) return 2;
+  struct vizhoniku_refusal refusal;
+  uint32_t status = vizhoniku_check(mode, text, text_size, &refusal);
+  int answer = status == VIZHONIKU_ACCEPTED ? print_text(mode, text, text_size)
+                                            : print_failure(status, &refusal, text, text_size);
+  free(text);
+  return answer;
+}
+
+static int print_order(uint32_t mode, const char *left, const char *right) {
+  int32_t order;
+  struct vizhoniku_refusal refusal;
+  const char *texts[] = {left, right};
+  uint32_t status = vizhoniku_compare(mode, (const unsigned char *)left, strlen(left), (const unsigned char *)right,
+                                      strlen(right), &order, &refusal);
+  if (status == VIZHONIKU_ACCEPTED) return puts(order < 0 ? "<" : order > 0 ? ">" : "=") == EOF ? 2 : 0;
+  if (status != VIZHONIKU_REFUSED) return print_failure(status, &refusal, NULL, 0);
+  const char *text = texts[refusal.which - 1];
+  fprintf(stderr, "text %u: ", (unsigned)refusal.which);
+  return print_failure(status, &refusal, (const unsigned char *)text, strlen(text));
+}
+
+int main(int argc, char **argv) {
+  uint32_t mode = VIZHONIKU_STANDARD;
+  if (argc > 1 && !strcmp(argv[1], "--extended")) {
+    mode = VIZHONIKU_EXTENDED;
+    argc--;
+    argv++;
+  }
+  if (argc == 1) return print_input(mode);
+  if (argc == 3) return print_order(mode, argv[1], argv[2]);
+  fputs("usage: main [--extended] [LEFT RIGHT]\n", stderr);
+  return 2;
+}

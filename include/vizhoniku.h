@@ -1,0 +1,96 @@
+/* Vizhoniku for C: check JSON texts, write the texts of their values, compare their values.
+ *
+ * A text is any bytes, with its size; it needs no zero byte at its end. A call keeps nothing: there is no state, all
+ * memory that a call takes it frees, and it writes only to what its caller passes. So calls in different threads need
+ * no lock, as long as none writes to what another uses.
+ *
+ * What a caller owes:
+ *  - No pointer is null, not even that of an empty text or buffer.
+ *  - What a call writes to (buffer, size, order, refusal) lies apart from all else that the call is given.
+ *  - No text and no buffer is longer than PTRDIFF_MAX bytes.
+ *  - No call comes from a signal handler, or from the child that a process with threads forked.
+ *
+ * docs/C.md says how to build and link the library, and what is proved. */
+#ifndef VIZHONIKU_H
+#define VIZHONIKU_H
+
+#include <stddef.h>
+#include <stdint.h>
+
+#ifdef __cplusplus
+extern "C" {
+#endif
+
+/* Which grammar a text is read by. docs/GRAMMAR.md has both. Any other number is answered by VIZHONIKU_UNKNOWN_MODE. */
+enum vizhoniku_mode {
+  VIZHONIKU_STANDARD = 0, /* JSON as RFC 8259 has it, with a few more spellings of blanks */
+  VIZHONIKU_EXTENDED = 1, /* comments, single quotes, keys without quotes, decimals, hexadecimals and more */
+};
+
+/* What a call answers. */
+enum vizhoniku_status {
+  VIZHONIKU_ACCEPTED = 0,      /* each text is a document, and all went well */
+  VIZHONIKU_REFUSED = 1,       /* a text is no document of the mode: the refusal says why */
+  VIZHONIKU_OUT_OF_MEMORY = 2, /* memory ran out: nothing is known of the text */
+  VIZHONIKU_UNKNOWN_MODE = 3,  /* no mode has this number */
+  VIZHONIKU_TOO_SHORT = 4,     /* the buffer is shorter than the text: the size says what is needed */
+};
+
+/* What is wrong with a text. docs/GRAMMAR.md says when, and where the position is. */
+enum vizhoniku_code {
+  VIZHONIKU_NO_CODE = 0,
+  VIZHONIKU_INVALID_EOF = 1, /* the text ends too early */
+  VIZHONIKU_INVALID_NUMBER_VALUE = 2,
+  VIZHONIKU_INVALID_STRING_VALUE = 3,
+  VIZHONIKU_EXPECTED_SOME_IDENT = 4,
+  VIZHONIKU_EXPECTED_SOME_VALUE = 5, /* a value is due, and the byte begins none */
+  VIZHONIKU_EXPECTED_COLON = 6,
+  VIZHONIKU_EXPECTED_ARRAY_COMMA_OR_END = 7,
+  VIZHONIKU_EXPECTED_OBJECT_COMMA_OR_END = 8,
+  VIZHONIKU_UNEXPECTED_TRAILING_CHARACTERS = 9, /* a document ends before the byte */
+  VIZHONIKU_KEY_MUST_BE_A_STRING = 10,
+  VIZHONIKU_CONTROL_CHARACTER_WHILE_PARSING_STRING = 11,
+  VIZHONIKU_INVALID_ESCAPED = 12,
+  VIZHONIKU_INVALID_HEX = 13,
+  VIZHONIKU_INVALID_LONE_LEADING_SURROGATE_IN_HEX_ESCAPE = 14,
+  VIZHONIKU_INVALID_SURROGATE_IN_HEX_ESCAPE = 15,
+  VIZHONIKU_UNEXPECTED_END_OF_HEX_ESCAPE = 16,
+  VIZHONIKU_OBJECT_DUPLICATE_KEY = 17, /* a key comes twice in an object; the position is after the second */
+  VIZHONIKU_OBJECT_KEY_INVALID_NUMBER = 18,
+  VIZHONIKU_OBJECT_KEY_INVALID_CHARACTER = 19,
+  VIZHONIKU_NUMBER_NOT_CARRIED = 20,   /* a number that no value holds exactly; the position is after it */
+  VIZHONIKU_DEPTH_LIMIT_EXCEEDED = 21, /* more than 512 arrays and objects are open at once */
+};
+
+/* Which text was refused, and why. All three are 0 where the status is not VIZHONIKU_REFUSED. */
+struct vizhoniku_refusal {
+  uint32_t code;   /* of enum vizhoniku_code */
+  uint32_t which;  /* 1 for the only or the first text, 2 for the second */
+  size_t position; /* how many bytes stand before the place that is named, mostly with the byte that is wrong; with some
+                      codes it may pass the text's end */
+};
+
+/* Tells whether the text is a document of the mode. The status is never VIZHONIKU_TOO_SHORT. */
+uint32_t vizhoniku_check(uint32_t mode, const unsigned char *text, size_t text_size, struct vizhoniku_refusal *refusal);
+
+/* Writes the text of the text's value to the front of the buffer: with no blanks, and the members of objects in the
+ * order of their keys' bytes. What was written is a document of the same value, and is written as itself.
+ *
+ *  - VIZHONIKU_ACCEPTED: *size bytes were written, with no zero byte after them. The rest of the buffer is as before.
+ *  - VIZHONIKU_TOO_SHORT: *size bytes are needed, and nothing was written.
+ *  - any other status: *size is 0, and nothing was written. */
+uint32_t vizhoniku_text(uint32_t mode, const unsigned char *text, size_t text_size, unsigned char *buffer,
+                        size_t buffer_size, size_t *size, struct vizhoniku_refusal *refusal);
+
+/* Compares the values of two texts of one mode: *order is -1 where the first is below the second, 0 where they are the
+ * same, and 1 where it is above. It is one total order; docs/VALUES.md has it. Where the status is not
+ * VIZHONIKU_ACCEPTED, *order is 0. Where both texts are refused, the first is told. The status is never
+ * VIZHONIKU_TOO_SHORT. */
+uint32_t vizhoniku_compare(uint32_t mode, const unsigned char *left, size_t left_size, const unsigned char *right,
+                           size_t right_size, int32_t *order, struct vizhoniku_refusal *refusal);
+
+#ifdef __cplusplus
+}
+#endif
+
+#endif
