@@ -66,8 +66,7 @@ enum vizhoniku_code {
 struct vizhoniku_refusal {
   uint32_t code;   /* of enum vizhoniku_code */
   uint32_t which;  /* 1 for the only or the first text, 2 for the second */
-  size_t position; /* how many bytes stand before the place that is named, mostly with the byte that is wrong; with some
-                      codes it may pass the text's end */
+  size_t position; /* a byte index, mostly that after the byte that is wrong; with some codes it may pass the end */
 };
 
 /* Tells whether the text is a document of the mode. The status is never VIZHONIKU_TOO_SHORT. */

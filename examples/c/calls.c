@@ -1,4 +1,4 @@
-/* Makes calls whose answers main.c doesn't show: an unknown mode, and buffers of several sizes. Prints a line for each. */
+/* Makes calls whose answers main.c doesn't show: an unknown mode, and buffers of several sizes. Each prints a line. */
 #include <stdio.h>
 #include <string.h>
 
