@@ -61,7 +61,11 @@ pub enum Error {
     ObjectDuplicateKey,
     UnexpectedType,
     Message(String),
-    /// What is wrong with a text, and the index of the byte that is named.
+    /// What is wrong with a text, and a position, counted in bytes from its start. `ExpectedSomeValue`,
+    /// `ExpectedSomeIdent`, `UnexpectedTrailingCharacters`, `ObjectKeyInvalidNumber` and `DepthLimitExceeded` name a
+    /// byte by its index plus 1. `ExpectedColon`, `ExpectedArrayCommaOrEnd`, `ExpectedObjectCommaOrEnd` and
+    /// `ObjectKeyInvalidCharacter` name one by its index. The others name the place after what they speak of, or
+    /// where the reader stands, which can pass the end of the text. `docs/GRAMMAR.md` has an example of each.
     Syntax(ParseErrorCode, usize),
     OutOfMemory,
 }

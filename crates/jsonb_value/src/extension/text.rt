@@ -183,8 +183,13 @@ pub(crate) fn append_binary(bytes: &[u8], buf: &mut Vec<u8>) -> std::result::Res
 }
 
 impl ExtensionValue<'_> {
-    /// Appends the text of binary data or of an interval, without quotes. A date or a time has no
-    /// text, and is refused with `UnexpectedType`. After a refusal `buf` has the same bytes as before.
+    /// Appends the text of binary data or of an interval, without quotes. After a refusal `buf` has the same bytes as
+    /// before.
+    ///
+    /// # Errors
+    ///
+    /// `UnexpectedType` for a date or a time, which has no text. `OutOfMemory` only where `buf` has no room for the
+    /// whole text.
     pub fn write_text(&self, buf: &mut Vec<u8>) -> Result<()>
         ensures ok { OnOk result
             (AppendsExtension (extension_view self.now) buf.old.items buf.new.items) }

@@ -118,7 +118,7 @@ impl Number {
     ///
     /// # Errors
     /// `UnexpectedType` for a decimal; the message `Int64 overflow` or `UInt64 overflow`, by the
-    /// type of the sum.
+    /// type of the sum; `OutOfMemory` where a message finds no memory.
     pub fn add(&self, alloc: Global, other: Number) -> Result<Number>
         ensures { IsSum self.now other result }
     {
@@ -132,7 +132,7 @@ impl Number {
     ///
     /// # Errors
     /// `UnexpectedType` for a decimal; the message `UInt64 overflow` for two `UInt64`s, and
-    /// `Int64 overflow` for others.
+    /// `Int64 overflow` for others; `OutOfMemory` where a message finds no memory.
     pub fn sub(&self, alloc: Global, other: Number) -> Result<Number>
         ensures { IsDifference self.now other result }
     {
@@ -145,7 +145,7 @@ impl Number {
     /// The exact product of two integers, of the type of their sum.
     ///
     /// # Errors
-    /// As for the sum.
+    /// As for the sum, `OutOfMemory` among them.
     pub fn mul(&self, alloc: Global, other: Number) -> Result<Number>
         ensures { IsProduct self.now other result }
     {
@@ -159,7 +159,7 @@ impl Number {
     ///
     /// # Errors
     /// `UnexpectedType` for a decimal; the message `Division by zero`; `Int64 overflow` for the
-    /// least `Int64` by -1.
+    /// least `Int64` by -1; `OutOfMemory` where a message finds no memory.
     pub fn rem(&self, alloc: Global, other: Number) -> Result<Number>
         ensures { IsRest self.now other result }
     {
@@ -172,7 +172,8 @@ impl Number {
     /// The opposite number: an `Int64` of an integer, and of a decimal the same type and scale.
     ///
     /// # Errors
-    /// The message `Int64 overflow`, `Decimal64 overflow` or `Decimal128 overflow`.
+    /// The message `Int64 overflow`, `Decimal64 overflow` or `Decimal128 overflow`; `OutOfMemory` where a message finds
+    /// no memory.
     pub fn neg(&self, alloc: Global) -> Result<Number>
         ensures { IsNegation self.now result }
     {

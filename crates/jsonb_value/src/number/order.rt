@@ -95,6 +95,7 @@ impl Ord for Number {
 
     ghost matches_eq = { λ m n. refl };
 
+    /// By value, exactly, whatever the variants and the scales are.
     fn cmp(&self, other: &Number) -> Ordering {
         // Two integers of one type, which most are, are compared as such.
         match (self, other) {

@@ -36,8 +36,12 @@ type Appended = std::result::Result<(), AllocError>;
 
 impl Value<'_> {
     /// Appends the value's text: JSON with no blanks, members in the order of their keys, binary data
-    /// and intervals as strings. A value that holds a date or a time at any depth has no text, and is
-    /// refused with `UnexpectedType`. After a refusal `buf` has the same bytes as before.
+    /// and intervals as strings. After a refusal `buf` has the same bytes as before.
+    ///
+    /// # Errors
+    ///
+    /// `UnexpectedType` where a date or a time stands in the value at any depth: it has no text then, and that is
+    /// tested first. `OutOfMemory` only where `buf` has no room for the whole text.
     pub fn write_text(&self, buf: &mut Vec<u8>) -> Result<()>
         ensures ok { OnOk result (Appends (view self.now) buf.old.items buf.new.items) }
         ensures err { OnErr result (buf.new.items ≡ buf.old.items) }

@@ -1,0 +1,28 @@
+//! Keeping values beside the texts that they were read from.
+
+use jsonb::{Result, Value};
+use std::alloc::Global;
+use std::collections::BTreeMap;
+
+/// Values by name. Each may borrow from a text that lives as long as `'a`.
+pub type Index<'a> = BTreeMap<String, Value<'a>>;
+
+/// Reads each text, which stands beside its name, into one index.
+pub fn index_of<'a>(alloc: Global, texts: &'a [(String, Vec<u8>)]) -> Result<Index<'a>> {
+    let mut index = Index::new(alloc);
+    for (name, text) in texts {
+        let value = jsonb::parse_value(alloc, text)?;
+        drop(index.insert(name.clone()?, value)?);
+    }
+    Ok(index)
+}
+
+/// The first name whose value equals this one.
+pub fn name_of<'i, 'a>(index: &'i Index<'a>, value: &Value<'a>) -> Option<&'i str> {
+    for (name, kept) in index.iter() {
+        if kept == value {
+            return Some(name.as_str());
+        }
+    }
+    None
+}

@@ -1,0 +1,33 @@
+//! Writing a value's text.
+
+ghost use Rattle.std.specs.Prelude.{◌≡◌, Some, IfOk, OnErr};
+ghost use Rattle.jsonb.specs.Grammar.{IsDocument};
+ghost use Rattle.jsonb.specs.Mode.{extended};
+ghost use Rattle.jsonb.specs.Text.{text_of};
+ghost use Rattle.jsonb.specs.Tree.{Tree};
+
+use jsonb::{Error, Result, Value};
+use std::alloc::Global;
+
+/// The text without blanks and comments, its members in the order of their keys.
+pub fn tidied(alloc: Global, text: &[u8]) -> Result<Vec<u8>>
+    ensures { IfOk result (λ out. (t : Tree) × IsDocument extended text.now t × (text_of t ≡ Some out.items)) }
+{
+    let value = jsonb::parse_value(alloc, text)?;
+    let mut out = Vec::new(alloc);
+    value.write_text(&mut out)?;
+    Ok(out)
+}
+
+/// Appends the value's text and a line feed. After a refusal the buffer holds what it held.
+pub fn append_line(value: &Value, out: &mut Vec<u8>) -> Result<()>
+    ensures { OnErr result (out.new.items ≡ out.old.items) }
+{
+    let old_len = out.len();
+    value.write_text(out)?;
+    if out.push(b'\n').is_err() {
+        out.truncate(old_len);
+        return Err(Error::OutOfMemory);
+    }
+    Ok(())
+}
