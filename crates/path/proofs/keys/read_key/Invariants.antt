@@ -1,0 +1,9 @@
+use Rattle.std.proofs.Common.{◌≡◌, ◌++◌, ◌≤◌, length}
+use Rattle.path.specs.Path.{spelled_key}
+use Rattle.path.proofs.keys.read_key.Given as goal
+
+abbrev pub invariant-bytes : goal.invariant-bytes
+invariant-bytes l = (l.text ≡ spelled_key l.key.items ++ l.rest) × (length l.rest ≤ length l.text)
+
+abbrev pub decreases-bytes : goal.decreases-bytes
+decreases-bytes l = length l.rest

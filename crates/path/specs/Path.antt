@@ -1,0 +1,85 @@
+-- Paths, their spelling (RFC 6901, sections 3 and 4), and the part of a tree at a path.
+use Rattle.std.specs.Prelude.{◌≡◌, ◌≢◌, ℕ, zero, suc, ◌<◌, List, [], ◌∷◌, ◌++◌, length, slice_index, codes, Option, Some, None, if◌then◌else◌, ◌==◌, ⊤, IsUtf8}
+use Rattle.std.specs.List.{AllByRecursion}
+use Rattle.std.specs.Str.{bytes_eq}
+use Rattle.std.specs.Str.Parse.{IsNumeral, digits_value}
+use Rattle.jsonb.specs.Grammar.{IsDocument}
+use Rattle.jsonb.specs.Mode.{extended}
+use Rattle.jsonb.specs.Parser.{Fails}
+use Rattle.jsonb.specs.Parts.{find_member}
+use Rattle.jsonb.specs.Reading.Document.{document_of}
+use Rattle.jsonb.specs.Tree.{Tree, array, object, Trees, no_trees, more_trees}
+use Rattle.jsonb_value.specs.Text.{text_of}
+use Rattle.jsonb_value.specs.declared.error.Error.TheVariants.{OutOfMemory}
+use Rattle.path.specs.declared.part.Refusal.{Refusal}
+use Rattle.path.specs.declared.part.Refusal.TheVariants.{NoPath, NoDocument, NoMemory}
+
+-- how a byte of a key is spelled: `~0` is `~`, and `~1` is `/`
+abbrev pub spelled_byte : ℕ → List ℕ
+spelled_byte byte = if byte == 126 then codes "~0" else if byte == 47 then codes "~1" else byte ∷ []
+
+-- how a key is spelled
+abbrev pub spelled_key : List ℕ → List ℕ
+spelled_key [] = []
+spelled_key (byte ∷ bytes) = spelled_byte byte ++ spelled_key bytes
+
+-- how a path is spelled: a slash before each key
+abbrev pub spelled_keys : List (List ℕ) → List ℕ
+spelled_keys [] = []
+spelled_keys (key ∷ keys) = 47 ∷ (spelled_key key ++ spelled_keys keys)
+
+-- The bytes spell the path of these keys, each of which is a text.
+pub record IsPath (bytes : List ℕ) (keys : List (List ℕ)) : Type 0 where
+  pub texts : AllByRecursion IsUtf8 keys
+  pub spelled : bytes ≡ spelled_keys keys
+
+-- The key is the index in decimal digits, without leading zeros.
+pub record IsIndex (key : List ℕ) (index : ℕ) : Type 0 where
+  pub digits : IsNumeral 10 key
+  pub no_zero : 1 < length key → slice_index key 0 ≢ 48
+  pub value : index ≡ digits_value 10 key
+
+-- the item of that index
+abbrev pub item_at : Trees → ℕ → Option Tree
+item_at no_trees index = None
+item_at (more_trees t ts) zero = Some t
+item_at (more_trees t ts) (suc index) = item_at ts index
+
+-- t is the item whose index the key is
+abbrev pub IsItem : Trees → List ℕ → Tree → Type 0
+IsItem ts key t = (index : ℕ) × IsIndex key index × (item_at ts index ≡ Some t)
+
+-- The second tree is the member of that key, or the item of that index.
+abbrev pub IsChild : Tree → List ℕ → Tree → Type 0
+IsChild (object ms) key t = find_member (bytes_eq key) ms ≡ Some t
+IsChild (array ts) key t = IsItem ts key t
+IsChild other key t = ⊥
+
+-- The second tree is the part of the first at the path of these keys.
+abbrev pub IsAt : Tree → List (List ℕ) → Tree → Type 0
+IsAt t [] part = t ≡ part
+IsAt t (key ∷ keys) part = (u : Tree) × IsChild t key u × IsAt u keys part
+
+-- The bytes are the text of the document's part at the path.
+pub record IsPartText (path document bytes : List ℕ) : Type 0 where
+  pub keys : List (List ℕ)
+  pub is_path : IsPath path keys
+  pub tree : Tree
+  pub is_document : IsDocument extended document tree
+  pub part : Tree
+  pub at : IsAt tree keys part
+  pub text : text_of part ≡ Some bytes
+
+-- The document has no part at the path.
+pub record HasNoPart (path document : List ℕ) : Type 0 where
+  pub keys : List (List ℕ)
+  pub is_path : IsPath path keys
+  pub tree : Tree
+  pub is_document : IsDocument extended document tree
+  pub none : (part : Tree) → IsAt tree keys part → ⊥
+
+-- The path is none, the document is none, or memory ran out. A document's fault is as reading tells it.
+abbrev pub Refuses : List ℕ → List ℕ → Refusal → Type 0
+Refuses path document NoPath = (keys : List (List ℕ)) → IsPath path keys → ⊥
+Refuses path document (NoDocument error) = (error ≢ OutOfMemory → (t : Tree) → IsDocument extended document t → ⊥) × Fails error (document_of extended document)
+Refuses path document NoMemory = ⊤

@@ -1,0 +1,18 @@
+-- Paths read from the left.
+use Rattle.std.specs.Prelude.{◌≡◌, ℕ, List, [], ◌∷◌, ◌++◌, Option, Some, None, if◌then◌else◌, ◌==◌}
+use Rattle.path.specs.Path.{spelled_keys}
+
+-- the byte that an escape stands for by what follows its `~`, and what is left
+abbrev pub escape_of : List ℕ → Option (ℕ × List ℕ)
+escape_of [] = None
+escape_of (letter ∷ rest) = if letter == 48 then Some (126, rest) else if letter == 49 then Some (47, rest) else None
+
+-- the byte of a key whose spelling the bytes begin with, and what is left
+abbrev pub byte_of : List ℕ → Option (ℕ × List ℕ)
+byte_of [] = None
+byte_of (byte ∷ rest) = if byte == 47 then None else if byte == 126 then escape_of rest else Some (byte, rest)
+
+-- The bytes begin with the spelling of these keys, and each path that the bytes spell begins with these keys and goes on with what the rest spells.
+pub record Reads (bytes : List ℕ) (keys : List (List ℕ)) (rest : List ℕ) : Type 0 where
+  pub spelled : bytes ≡ spelled_keys keys ++ rest
+  pub only : (others : List (List ℕ)) → bytes ≡ spelled_keys others → (more : List (List ℕ)) × (others ≡ keys ++ more) × (rest ≡ spelled_keys more)

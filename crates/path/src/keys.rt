@@ -1,0 +1,74 @@
+//! The keys of a path (RFC 6901): each stands after a slash, with `~0` for `~` and `~1` for `/`.
+
+ghost use Rattle.std.specs.Prelude.{◌≡◌, ◌<◌, ◌≤◌, ℕ, List, ◌++◌, length, map, string_bytes, option_map, None, IfOk, IfSome, IfNone};
+ghost use Rattle.path.specs.Path.{spelled_key, IsPath};
+ghost use Rattle.path.specs.Spelling.{escape_of, byte_of};
+
+use std::alloc::{AllocError, Global};
+
+#[cfg(test)]
+mod tests;
+
+/// The keys that the path spells, or `None` where it is no path.
+pub fn read_keys(alloc: Global, path: &[u8]) -> Result<Option<Vec<String>>, AllocError>
+    ensures some { IfOk result (λ answer. IfSome answer (λ keys. IsPath path.now (map string_bytes keys.items))) }
+    ensures only { IfOk result (λ answer. IfSome answer (λ keys. (others : List (List ℕ)) → IsPath path.now others
+        → others ≡ map string_bytes keys.items)) }
+    ensures none { IfOk result (λ answer. IfNone answer ((others : List (List ℕ)) → IsPath path.now others → ⊥)) }
+{
+    let mut keys = Vec::new(alloc);
+    let mut rest = path;
+    'parts: while let Some((slash, more)) = rest.split_first() {
+        if *slash != b'/' {
+            return Ok(None);
+        }
+        let (key, more) = read_key(alloc, more)?;
+        let Ok(key) = String::from_utf8(key) else {
+            return Ok(None);
+        };
+        keys.push(key)?;
+        rest = more;
+    }
+    Ok(Some(keys))
+}
+
+// The key whose spelling the text begins with, up to what spells no byte of a key, and what is left.
+fn read_key(alloc: Global, text: &[u8]) -> Result<(Vec<u8>, &[u8]), AllocError>
+    ensures key { IfOk result (λ r. text.now ≡ spelled_key r.0.items ++ r.1.now) }
+    ensures whole { IfOk result (λ r. byte_of r.1.now ≡ None) }
+    ensures within { IfOk result (λ r. length r.1.now ≤ length text.now) }
+{
+    let mut key = Vec::new(alloc);
+    let mut rest = text;
+    'bytes: while let Some((byte, more)) = read_byte(rest) {
+        key.push(byte)?;
+        rest = more;
+    }
+    Ok((key, rest))
+}
+
+// The byte of a key whose spelling the text begins with, and what is left.
+fn read_byte(text: &[u8]) -> Option<(u8, &[u8])>
+    ensures byte { option_map (λ r. (r.0, r.1.now)) result ≡ byte_of text.now }
+    ensures shorter { IfSome result (λ r. length r.1.now < length text.now) }
+{
+    let (byte, rest) = text.split_first()?;
+    match *byte {
+        b'/' => None,
+        b'~' => read_escape(rest),
+        byte => Some((byte, rest)),
+    }
+}
+
+// The byte that an escape stands for by what follows its `~`, and what is left.
+fn read_escape(text: &[u8]) -> Option<(u8, &[u8])>
+    ensures byte { option_map (λ r. (r.0, r.1.now)) result ≡ escape_of text.now }
+    ensures shorter { IfSome result (λ r. length r.1.now < length text.now) }
+{
+    let (letter, rest) = text.split_first()?;
+    match *letter {
+        b'0' => Some((b'~', rest)),
+        b'1' => Some((b'/', rest)),
+        _ => None,
+    }
+}

@@ -1,0 +1,143 @@
+//! The part of a document at a path.
+
+ghost use Rattle.std.specs.Prelude.{◌≡◌, ◌<◌, ◌^◌, ℕ, List, map, string_bytes, option_map, IfOk, IfErr, IfSome, IfNone, MatchOption};
+ghost use Rattle.std.specs.Str.{bytes_eq};
+ghost use Rattle.jsonb.specs.Parts.{find_member};
+ghost use Rattle.jsonb.specs.Tree.{Tree};
+ghost use Rattle.jsonb.specs.View.{view, trees_view, members_view};
+ghost use Rattle.path.specs.Path.{IsIndex, IsItem, IsChild, IsAt, IsPartText, HasNoPart, Refuses};
+
+use crate::keys::read_keys;
+use jsonb::{Error, Object, Value};
+use std::alloc::{AllocError, Global};
+use std::fmt;
+
+/// Why a path and a document have no answer.
+#[derive(Debug, Drop)]
+pub enum Refusal {
+    /// The path is none.
+    NoPath,
+    /// The document is refused.
+    NoDocument(Error),
+    /// Memory ran out.
+    NoMemory,
+}
+
+impl fmt::Display for Refusal {
+    fn fmt<W: fmt::Write>(&self, f: &mut fmt::Formatter<W>) -> fmt::Result {
+        match self {
+            Refusal::NoPath => write!(f, "no path"),
+            Refusal::NoDocument(error) => write!(f, "{error}"),
+            Refusal::NoMemory => write!(f, "out of memory"),
+        }
+    }
+}
+
+impl From<AllocError> for Refusal {
+    ghost use Rattle.std.specs.Prelude.{◌≡◌};
+    ghost use Rattle.path.specs.declared.part.Refusal.TheVariants.{NoMemory};
+
+    ghost from_gives = { λ _ e. e ≡ NoMemory };
+
+    fn from(_: AllocError) -> Refusal {
+        Refusal::NoMemory
+    }
+}
+
+/// The text of the document's part at the path, or `None` where there is none.
+///
+/// # Errors
+///
+/// `NoPath` and `NoDocument` where one of the two isn't what it should be, and `NoMemory`.
+pub fn part_text(alloc: Global, path: &[u8], document: &[u8]) -> Result<Option<Vec<u8>>, Refusal>
+    ensures ok { IfOk result (λ answer. MatchOption answer (HasNoPart path.now document.now)
+        (λ text. IsPartText path.now document.now text.items)) }
+    ensures refused { IfErr result (Refuses path.now document.now) }
+{
+    let Some(keys) = read_keys(alloc, path)? else {
+        return Err(Refusal::NoPath);
+    };
+    let value = match jsonb::parse_value(alloc, document) {
+        Ok(value) => value,
+        Err(error) => return Err(Refusal::NoDocument(error)),
+    };
+    let Some(part) = part_at(&value, &keys) else {
+        return Ok(None);
+    };
+    let mut text = Vec::new(alloc);
+    let Ok(()) = part.write_text(&mut text) else {
+        return Err(Refusal::NoMemory);
+    };
+    Ok(Some(text))
+}
+
+/// The part of the value at the path of these keys.
+pub fn part_at<'v, 'a>(value: &'v Value<'a>, keys: &[String]) -> Option<&'v Value<'a>>
+    ensures some { IfSome result (λ part. IsAt (view value.now) (map string_bytes keys.now) (view part.now)) }
+    ensures only { IfSome result (λ part. (t : Tree) → IsAt (view value.now) (map string_bytes keys.now) t
+        → t ≡ view part.now) }
+    ensures none { IfNone result ((t : Tree) → IsAt (view value.now) (map string_bytes keys.now) t → ⊥) }
+{
+    let Some((key, rest)) = keys.split_first() else {
+        return Some(value);
+    };
+    let Some(part) = child(value, key.as_str()) else {
+        return None;
+    };
+    part_at(part, rest)
+}
+
+// The member of that key, or the item of that index.
+fn child<'v, 'a>(value: &'v Value<'a>, key: &str) -> Option<&'v Value<'a>>
+    ensures some { IfSome result (λ part. IsChild (view value.now) key.now (view part.now)) }
+    ensures none { IfNone result ((t : Tree) → IsChild (view value.now) key.now t → ⊥) }
+{
+    if let Some(members) = value.as_object() {
+        return member(members, key);
+    }
+    if let Some(items) = value.as_array() {
+        return item(items, key);
+    }
+    None
+}
+
+// The member of that key.
+fn member<'v, 'a>(members: &'v Object<'a>, key: &str) -> Option<&'v Value<'a>>
+    ensures { option_map (λ v. view v.now) result
+        ≡ find_member (bytes_eq key.now) (members_view members.now.entries) }
+{
+    members.get(key)
+}
+
+// The item of that index.
+fn item<'v, 'a>(items: &'v Vec<Value<'a>>, key: &str) -> Option<&'v Value<'a>>
+    ensures some { IfSome result (λ item. IsItem (trees_view items.now.items) key.now (view item.now)) }
+    ensures none { IfNone result ((t : Tree) → IsItem (trees_view items.now.items) key.now t → ⊥) }
+{
+    let len = items.len();
+    let Some(index) = index_of(key) else {
+        return None;
+    };
+    if index >= len {
+        return None;
+    }
+    Some(&items[index])
+}
+
+// The index that the key spells: decimal digits without leading zeros.
+fn index_of(key: &str) -> Option<usize>
+    ensures some { IfSome result (λ index. IsIndex key.now index) }
+    ensures none { IfNone result ((index : ℕ) → index < 2 ^ 64 → IsIndex key.now index → ⊥) }
+{
+    let bytes = key.as_bytes();
+    if bytes.is_empty() || bytes[0] == b'+' {
+        return None;
+    }
+    if bytes.len() > 1 && bytes[0] == b'0' {
+        return None;
+    }
+    key.parse().ok()
+}
+
+#[cfg(test)]
+mod tests;

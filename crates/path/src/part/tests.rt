@@ -1,0 +1,80 @@
+use super::*;
+use std::process::Abort;
+use std::test::Fail;
+
+// Compares what stands at the path of the document, or `none`, or what is printed of the refusal.
+fn expect(
+    rt: &(impl AllocGlobal + Abort),
+    path: &[u8],
+    document: &str,
+    told: &str,
+) -> Result<(), AllocError> {
+    let got = match part_text(rt.alloc(), path, document.as_bytes()) {
+        Ok(Some(text)) => text,
+        Ok(None) => Vec::from_slice(rt.alloc(), b"none")?,
+        Err(refusal) => {
+            let printed = format!(in rt.alloc(); "{refusal}")?;
+            Vec::from_slice(rt.alloc(), printed.as_bytes())?
+        }
+    };
+    assert_eq!(rt; got.as_slice(), told.as_bytes(), "{path:?} of {document}");
+    Ok(())
+}
+
+#[test]
+fn the_examples_of_rfc_6901_are_found(rt: HostRuntime) -> Result<(), Fail> {
+    let document =
+        "{\"foo\":[\"bar\",\"baz\"],\"\":0,\"a/b\":1,\"c%d\":2,\"e^f\":3,\"g|h\":4,\"i\\\\j\":5,\"k\\\"l\":6,\" \":7,\"m~n\":8}";
+    for (path, told) in [
+        ("/foo", "[\"bar\",\"baz\"]"),
+        ("/foo/0", "\"bar\""),
+        ("/", "0"),
+        ("/a~1b", "1"),
+        ("/c%d", "2"),
+        ("/e^f", "3"),
+        ("/g|h", "4"),
+        ("/i\\j", "5"),
+        ("/k\"l", "6"),
+        ("/ ", "7"),
+        ("/m~0n", "8"),
+    ] {
+        expect(&rt, path.as_bytes(), document, told)?;
+    }
+    Ok(())
+}
+
+#[test]
+fn an_index_has_no_leading_zero_and_no_sign(rt: HostRuntime) -> Result<(), Fail> {
+    let document = "[1,[2,3],{0:4,'01':5}]";
+    for (path, told) in [
+        ("", "[1,[2,3],{\"0\":4,\"01\":5}]"),
+        ("/0", "1"),
+        ("/1/1", "3"),
+        ("/00", "none"),
+        ("/01", "none"),
+        ("/+1", "none"),
+        ("/-", "none"),
+        ("/", "none"),
+        ("/3", "none"),
+        ("/18446744073709551616", "none"),
+        ("/2/0", "4"),
+        ("/2/01", "5"),
+        ("/0/0", "none"),
+    ] {
+        expect(&rt, path.as_bytes(), document, told)?;
+    }
+    Ok(())
+}
+
+#[test]
+fn what_is_no_path_and_no_document_is_told(rt: HostRuntime) -> Result<(), Fail> {
+    for (path, document, told) in [
+        ("a", "1", "no path"),
+        ("/~", "1", "no path"),
+        ("", "[1", "EOF while parsing a value, pos 2"),
+    ] {
+        expect(&rt, path.as_bytes(), document, told)?;
+    }
+    expect(&rt, b"/\xff", "1", "no path")?;
+    Ok(())
+}

@@ -1,0 +1,47 @@
+-- Documents read one after the other.
+use Rattle.std.proofs.Common.{◌≡◌, ◌≢◌, ℕ, ◌+◌, ◌<◌, List, [], ◌∷◌, ◌++◌, length, map, take, drop, get_or, Vec, Global, sym, subst, ap, ◌∙◌, add-one, drop-cons, take-suc, take-append-drop, length-take-le, arith}
+use Rattle.std.proofs.lemmas.List.{map-append, length-map}
+use Rattle.jsonb.specs.Grammar.{IsDocument}
+use Rattle.jsonb.specs.Mode.{extended}
+use Rattle.jsonb.specs.Parser.{Fails}
+use Rattle.jsonb.specs.Reading.Document.{document_of}
+use Rattle.jsonb.specs.Tree.{Tree}
+use Rattle.jsonb.specs.View.{view}
+use Rattle.jsonb_value.specs.declared.error.Error.{Error}
+use Rattle.jsonb_value.specs.declared.error.Error.TheVariants.{OutOfMemory}
+use Rattle.jsonb_value.specs.declared.value.Value.{Value}
+use Rattle.sorted_index.specs.Index.{contents, AreDocuments, no_documents, more_documents, IsFirstFault}
+
+documents_push : {lines : List (List ℕ)} {values : List Value} (line : List ℕ) (v : Value) → AreDocuments lines values → IsDocument extended line (view v) → AreDocuments (lines ++ line ∷ []) (values ++ v ∷ [])
+documents_push line v no_documents document = more_documents document no_documents
+documents_push line v (more_documents first others) document = more_documents first (documents_push line v others document)
+
+contents-append : (xs ys : List (Vec ℕ Global)) → contents (xs ++ ys) ≡ contents xs ++ contents ys
+contents-append xs ys = map-append (λ (line : Vec ℕ Global). line.items) xs ys
+
+-- one more line that is a document
+pub next_document : (lines : List (Vec ℕ Global)) (i : ℕ) (line : Vec ℕ Global) (values : List Value) (v : Value) → i < length lines → line ≡ get_or lines i line
+    → AreDocuments (contents (take i lines)) values → IsDocument extended line.items (view v) → AreDocuments (contents (take (i + 1) lines)) (values ++ v ∷ [])
+next_document lines i line values v within is so_far document =
+    let grown : take (i + 1) lines ≡ take i lines ++ line ∷ [] = rw add-one (take-suc lines i line within) ∙ ap (λ x. take i lines ++ x ∷ []) (sym is) in
+    subst (λ ls. AreDocuments ls (values ++ v ∷ [])) (sym (ap contents grown ∙ contents-append (take i lines) (line ∷ []))) (documents_push line.items v so_far document)
+
+-- the first line that is refused
+pub first_fault : (lines : List (Vec ℕ Global)) (i : ℕ) (line : Vec ℕ Global) (values : List Value) (e : Error) → i < length lines → line ≡ get_or lines i line
+    → AreDocuments (contents (take i lines)) values → (e ≢ OutOfMemory → (t : Tree) → IsDocument extended line.items t → ⊥) → Fails e (document_of extended line.items)
+    → IsFirstFault (contents lines) (i + 1) e
+first_fault lines i line values e within is so_far refused fault =
+    let rest : drop i lines ≡ line ∷ drop (i + 1) lines = rw add-one (drop-cons lines i line within) ∙ ap (λ x. x ∷ drop (i + 1) lines) (sym is) in
+    let whole : lines ≡ take i lines ++ line ∷ drop (i + 1) lines = sym (take-append-drop i lines) ∙ ap (λ ls. take i lines ++ ls) rest in
+    let count : length (contents (take i lines)) ≡ i = length-map (take i lines) _ ∙ length-take-le i lines (omega arith) in
+    record {
+      before = contents (take i lines);
+      line = line.items;
+      after = contents (drop (i + 1) lines);
+      split = ap contents whole ∙ contents-append (take i lines) (line ∷ drop (i + 1) lines);
+      counted = omega (arith, count);
+      given = values;
+      documents = so_far;
+      no_document = refused;
+      fault = fault;
+    }

@@ -1,0 +1,23 @@
+use Rattle.std.proofs.Common.{◌+◌, [], take, sym, subst, arith}
+use Rattle.jsonb.specs.Grammar.{IsDocument}
+use Rattle.jsonb.specs.Mode.{extended}
+use Rattle.jsonb.specs.View.{view}
+use Rattle.sorted_index.specs.Index.{contents, AreDocuments, no_documents}
+use Rattle.sorted_index.proofs.Documents.{next_document, first_fault}
+use Rattle.sorted_index.proofs.index.read_values.Goals as goal
+
+pub lines-init : goal.lines-init
+lines-init c = subst (λ values. AreDocuments [] values) (sym c.in_ok-values.ensures.items) no_documents
+
+pub returns-in-Err-clause-refused : goal.returns-in-Err-clause-refused
+returns-in-Err-clause-refused c =
+    let line = c.index-lines-index.result in
+    let refused = rw c.deref.ensures.value at c.in-Err.ensures.refused in
+    let fault = rw c.deref.ensures.value at c.in-Err.ensures.exact in
+    first_fault c.args.lines.now c.lines.index line c.lines.values.items c.in-Err.error (omega arith) c.index-lines-index.is c.lines.invariant refused fault
+
+pub lines-preserved : goal.lines-preserved
+lines-preserved c =
+    let line = c.index-lines-index.result in
+    let document = subst (λ bytes. IsDocument extended bytes (view c.in-Ok.value)) c.deref.ensures.value c.in-Ok.ensures.document in
+    subst (λ values. AreDocuments (contents (take (c.lines.index + 1) c.args.lines.now)) values) (sym c.in-Ok-push.ensures.items) (next_document c.args.lines.now c.lines.index line c.lines.values.items c.in-Ok.value (omega arith) c.index-lines-index.is c.lines.invariant document)
