@@ -45,7 +45,7 @@ fn the_examples_of_rfc_6901_are_found(rt: HostRuntime) -> Result<(), Fail> {
 
 #[test]
 fn an_index_has_no_leading_zero_and_no_sign(rt: HostRuntime) -> Result<(), Fail> {
-    let document = "[1,[2,3],{0:4,'01':5}]";
+    let document = "[1,[2,3],{'0':4,'01':5}]";
     for (path, told) in [
         ("", "[1,[2,3],{\"0\":4,\"01\":5}]"),
         ("/0", "1"),
