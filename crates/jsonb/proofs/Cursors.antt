@@ -1,6 +1,6 @@
 -- The bytes of an input from an index on.
 use Rattle.std.proofs.Common.{◌≡◌, ℕ, ◌+◌, ◌-◌, ◌<◌, ◌≤◌, List, [], ◌∷◌, length, drop, refl, ap, arith, length-drop}
-use Rattle.jsonb_value.specs.Code.{Code, invalid_eof}
+use Rattle.jsonb_value.specs.Code.{Code}
 use Rattle.jsonb.specs.Reading.{fault_at}
 
 fault-here : (size : ℕ) (code : Code) (step i : ℕ) (bytes : List ℕ) → length bytes + i ≡ size → 0 < length bytes → fault_at size code step bytes ≡ record { code = code; place = i + step }
@@ -10,14 +10,6 @@ fault-here size code step i (b ∷ bytes) e h = let place : size - length (b ∷
 -- the fault at an index inside of the input
 pub fault_at-inside : (buf : List ℕ) (i : ℕ) (code : Code) (step : ℕ) → i < length buf → fault_at (length buf) code step (drop i buf) ≡ record { code = code; place = i + step }
 fault_at-inside buf i code step h = fault-here (length buf) code step i (drop i buf) (omega (arith, length-drop i buf)) (omega (arith, length-drop i buf))
-
-fault-nil : (size : ℕ) (code : Code) (step : ℕ) (bytes : List ℕ) → length bytes ≡ 0 → fault_at size code step bytes ≡ record { code = invalid_eof; place = size }
-fault-nil size code step [] e = refl
-fault-nil size code step (b ∷ bytes) e = absurd (omega arith)
-
--- the fault at its end
-pub fault_at-end : (buf : List ℕ) (i : ℕ) (code : Code) (step : ℕ) → length buf ≤ i → fault_at (length buf) code step (drop i buf) ≡ record { code = invalid_eof; place = length buf }
-fault_at-end buf i code step h = fault-nil (length buf) code step (drop i buf) (omega (arith, length-drop i buf))
 
 empty : {A : Type 0} (ys : List A) → length ys ≡ 0 → ys ≡ []
 empty [] e = refl

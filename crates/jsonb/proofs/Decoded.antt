@@ -15,9 +15,6 @@ use Rattle.jsonb_value.proofs.Meaning.{each-append, meaning-raw, meaning-escape,
 
 -- ---- steps
 
-pub decoded_none : (mode : Mode) (bytes : List ℕ) → DecodesUpTo mode bytes bytes []
-decoded_none mode bytes = record { items = []; each = tt; spelled = refl; meant = λ tail h. refl; short = omega arith }
-
 pub decoded_then : (mode : Mode) (a b c t u : List ℕ) → DecodesUpTo mode a b t → DecodesUpTo mode b c u → DecodesUpTo mode a c (t ++ u)
 decoded_then mode a b c t u p q = record {
   items = p.items ++ q.items;
@@ -30,9 +27,6 @@ decoded_then mode a b c t u p q = record {
       ∙ ap (λ rest. t ++ rest) (q.meant tail h) ∙ sym (append_assoc t u (meaning tail));
   short = omega (arith, p.short, q.short, length-append t u);
 }
-
-pub decoded_raw : (mode : Mode) (byte : ℕ) (rest : List ℕ) → byte ≢ 92 → DecodesUpTo mode (byte ∷ rest) rest (byte ∷ [])
-decoded_raw mode byte rest other = record { items = raw byte ∷ []; each = (other, tt); spelled = refl; meant = λ tail h. meaning-raw byte tail; short = omega arith }
 
 pub decoded_escape : (mode : Mode) (letter byte : ℕ) (rest : List ℕ) → escaped_byte mode letter ≡ Some byte → DecodesUpTo mode (92 ∷ letter ∷ rest) rest (byte ∷ [])
 decoded_escape mode letter byte rest is = record { items = escape letter byte ∷ []; each = (is, tt); spelled = refl; meant = λ tail h. meaning-escape letter byte tail; short = omega arith }
@@ -93,9 +87,6 @@ decoded_together mode bytes first between next rest value other r high q =
       meant = λ tail h. meaning-together s.braces t.braces first next tail (ap is_high (sym r.is) ∙ high);
       short = omega (arith, longer_unit s.braces bytes first _ s.split s.four, longer_unit t.braces between next rest t.split t.four, length-together first next s.four t.four);
     }
-
-pub adds_none : (mode : Mode) (bytes old : List ℕ) → Adds mode bytes bytes old old
-adds_none mode bytes old = record { text = []; appended = sym (append-nil old); decodes = decoded_none mode bytes }
 
 pub adds_then : (mode : Mode) (a b c old middle new : List ℕ) → Adds mode a b old middle → Adds mode b c middle new → Adds mode a c old new
 adds_then mode a b c old middle new p q = record {

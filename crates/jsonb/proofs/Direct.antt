@@ -1,5 +1,5 @@
 -- Reading with no JsonAst between, step by step, against reading by the open containers.
-use Rattle.std.proofs.Common.{◌≡◌, ◌≢◌, ℕ, zero, suc, ◌+◌, ◌-◌, ◌≤◌, Bool, true, false, cond, List, [], ◌∷◌, ◌++◌, length, take, get_or, set, map, String, Vec, Global, rules, Option, Some, None, Ok, Less, Equal, Greater, is_eq, is_some, string_bytes, string_cmp, nat_cmp, refl, sym, ap, ap₂, subst, ◌∙◌, arith, length-append}
+use Rattle.std.proofs.Common.{◌≡◌, ◌≢◌, ℕ, zero, suc, ◌+◌, ◌-◌, ◌≤◌, Bool, true, false, cond, List, [], ◌∷◌, ◌++◌, length, take, get_or, set, map, String, Vec, Global, rules, Option, Some, None, Ok, Less, Equal, Greater, is_eq, string_bytes, string_cmp, nat_cmp, refl, sym, ap, ap₂, subst, ◌∙◌, arith, length-append}
 use Rattle.std.proofs.lemmas.Cmp.{nat_list_cmp_total, tied_itself}
 use Rattle.std.specs.BTreeMap.{insert_entry, is_at}
 use Rattle.std.specs.Cmp.Lexicographic.{slice_cmp}
@@ -10,7 +10,7 @@ use Rattle.std.specs.Ordering.{match_ordering}
 use Rattle.std.specs.declared.borrow.CowStr.{CowStr}
 use Rattle.jsonb_value.specs.Code.Code.{expected_array_comma_or_end, expected_object_comma_or_end}
 use Rattle.jsonb_value.specs.Grammar.{AreDistinct, IsNew, max_depth}
-use Rattle.jsonb_value.specs.Mode.{Mode, standard, extended}
+use Rattle.jsonb_value.specs.Mode.{Mode, standard}
 use Rattle.jsonb_value.specs.Tree.{Mark, Member, Members, Num, Tree, put, put_all, trees_of}
 use Rattle.jsonb_value.specs.Tree.Mark.{plain}
 use Rattle.jsonb_value.specs.Tree.Members.{no_members}
@@ -115,14 +115,7 @@ pub if_some : {A : Type 0} {P Q : A → Type 0} (o : Option A) → ((x : A) → 
 if_some None f h = tt
 if_some (Some x) f h = f x h
 
-pub none_if : {A : Type 0} (o : Option A) → is_some o ≡ false → o ≡ None
-none_if None e = refl
-none_if (Some x) e = absurd cc
-
 -- ---- values
-
-pub null_seen : view value.Null ≡ null
-null_seen = search (rules, the_lemmas)
 
 pub string_seen : (s : CowStr Global) → view (value.String s) ≡ string (mark_view s) (cow_str_bytes s)
 string_seen s = search (rules, the_lemmas)
@@ -448,11 +441,6 @@ member_turn p l s q r depth front k place t closed a b d start no_array no_objec
     member_stops p l s depth front k place a start
     ∙ ap (λ x. x >>= finish_open (size_of p) (mode_of p.mode) depth (members_so_far front k place)) (value_alone p s depth on no_array no_object ∙ read)
     ∙ member_joins (size_of p) (mode_of p.mode) depth front k place t (rest_of q) (rest_of r) closed (skip_same p q (rest_of q) (goes_on p s q on d) ∙ next)
-
--- a byte that ends no element comes next
-pub no_end : (mode : Mode) (bytes more : List ℕ) (b : ℕ) → bytes ≡ b ∷ more → is_left_out extended (b ∷ more) ≡ false → is_left_out mode bytes ≡ false
-no_end standard bytes more b e h = refl
-no_end extended bytes more b e h = ap (λ u. is_left_out extended u) e ∙ h
 
 -- ---- the stack
 

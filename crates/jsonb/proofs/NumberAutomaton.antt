@@ -91,9 +91,6 @@ is_accepting Digits = true
 is_accepting BarePoint = false
 is_accepting Dead = false
 
-abbrev pub IsDead : State → Type 0
-IsDead s = s ≡ Dead
-
 pub run-append : (s : State) (a b : List ℕ) → run s (a ++ b) ≡ run (run s a) b
 run-append s [] b = refl
 run-append s (x ∷ a) b = run-append (next s x) a b

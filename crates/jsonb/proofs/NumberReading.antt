@@ -158,11 +158,6 @@ read_integer size bs at =
     let same : (whole_end bs == whole_end bs) ≡ true = grind (arith, nat_tests) in
     ap (number_to size bs) at ∙ rw same refl
 
-pub read_uncarried : (size : ℕ) (bs : List ℕ) (end : ℕ) → standard_end bs ≡ Ok end → whole_end bs ≢ end → standard_number_at size bs ≡ fault number_not_carried (size - length (drop end bs))
-unfolding standard_number_at integer_at
-read_uncarried size bs end at other =
-    ap (number_to size bs) at ∙ rw (differs (whole_end bs) end other) refl
-
 -- ---- one step of a loop over digits
 
 pub digits_go_on : (bs : List ℕ) (i total : ℕ) → is_ascii_digit (slice_index bs i) ≡ true → total ≡ i + digits_length (drop i bs) → total ≡ i + 1 + digits_length (drop (i + 1) bs)
@@ -247,10 +242,6 @@ fraction_at_point bs start end point at =
     (λ none. absurd (ok_no_err at (fraction_bare bs start (digits_from bs (start + 1)) point refl (omega (arith, none)))))
     (λ some. omega (arith, ok_same at (fraction_some bs start (digits_from bs (start + 1)) point refl (omega (arith, some)))))
     (by_digits (digits_length (drop (start + 1) bs)))
-
-pub fraction_ge : (bs : List ℕ) (start end : ℕ) → fraction_from bs start ≡ Ok end → start ≤ end
-fraction_ge bs start end at =
-    ⊎_elim (λ point. omega (arith, fraction_at_point bs start end point at)) (λ other. omega (arith, ok_same at (no_fraction bs start other))) (cases_eq (slice_index bs start) 46)
 
 exponent_at_mark : (bs : List ℕ) (start end : ℕ) → IsExponentMark (slice_index bs start) → exponent_from bs start ≡ Ok end → start < end
 exponent_at_mark bs start end mark at =

@@ -1,22 +1,17 @@
 -- What a step of the reader gives, from what the steps inside of it give.
-use Rattle.std.proofs.Common.{◌≡◌, ℕ, true, false, List, ◌∷◌, length, drop, codes, Result, Ok, Err, sym, ap, ap₂, subst, ◌∙◌}
+use Rattle.std.proofs.Common.{◌≡◌, ℕ, true, false, List, ◌∷◌, length, drop, codes, Result, sym, ap, ap₂, subst, ◌∙◌}
 use Rattle.jsonb.specs.declared.parser.Parser.{Parser}
-use Rattle.jsonb.specs.declared.parser.ast.JsonAst as ast
 use Rattle.jsonb_value.specs.declared.error.Error.{Error}
 use Rattle.jsonb_value.specs.declared.error.Error.TheVariants.{Syntax, OutOfMemory}
-use Rattle.jsonb_value.specs.Code.Code.{expected_some_value}
 use Rattle.jsonb_value.specs.Mode.{Mode}
-use Rattle.jsonb_value.specs.Tree.{Num, Tree}
-use Rattle.jsonb_value.specs.Tree.Tree.{boolean, number}
-use Rattle.jsonb.specs.AstView.{ast_view}
+use Rattle.jsonb_value.specs.Tree.Tree.{boolean}
 use Rattle.jsonb.specs.Parser.{Advances, Fails, mode_of, rest_of, size_of}
-use Rattle.jsonb.specs.Reading.{Fault, Read, begins, fault_at, refused, ◌>>=◌}
-use Rattle.jsonb.specs.Reading.Scalar.{begins_letter, begins_number, begins_single_quote, false_at, key_at, null_at, number_at, number_or_fault, number_value_at, on_single_quote, quoted_at, scalar_at, true_or_false_at, unquoted_at, word_at, words_at}
+use Rattle.jsonb.specs.Reading.{Fault, begins, ◌>>=◌}
+use Rattle.jsonb.specs.Reading.Scalar.{begins_letter, begins_single_quote, false_at, key_at, null_at, number_or_fault, on_single_quote, quoted_at, scalar_at, true_or_false_at, unquoted_at, word_at, words_at}
 use Rattle.jsonb.specs.Reading.String.{string_at}
-use Rattle.jsonb.proofs.Choices.{if-false, if-true}
+use Rattle.jsonb.proofs.Choices.{if-false}
 use Rattle.jsonb.proofs.Parts.{on_byte-found, on_byte-none}
 use Rattle.jsonb.proofs.Scans.{single-false, single-true}
-use Rattle.jsonb.proofs.Views.{view-Bool}
 
 -- a fault of the first step is one of the whole
 pub fails_through : {A B : Type 0} (e : Error) (r : Result A Fault) (f : A → Result B Fault) → Fails e r → Fails e (r >>= f)
@@ -80,42 +75,10 @@ scalar_quoted p q a e =
     ∙ on_byte-found 34 (rest_of q) (quoted_at (size_of p) (mode_of p.mode) 34) (on_single_quote (mode_of p.mode) (34 ∷ rest_of q) (quoted_at (size_of p) (mode_of p.mode) 39) (words_at (size_of p) (mode_of p.mode) (34 ∷ rest_of q)))
     ∙ sym (ap₂ (λ n m. quoted_at n m 34 (rest_of q)) (same_size p q a) (ap mode_of a.mode))
 
--- the words
+-- where no word begins
 module _ (size : ℕ) (mode : Mode) (bytes : List ℕ) where
-  pub words_null : begins_letter mode 110 bytes ≡ true → words_at size mode bytes ≡ null_at size mode bytes
-  words_null n = if-true (begins_letter mode 110 bytes) (null_at size mode bytes) (true_or_false_at size mode bytes) n
-
-  pub words_true : begins_letter mode 110 bytes ≡ false → begins_letter mode 116 bytes ≡ true → words_at size mode bytes ≡ word_at size mode (codes "true") (ast_view (ast.Bool true)) bytes
-  words_true n t =
-      if-false (begins_letter mode 110 bytes) (null_at size mode bytes) (true_or_false_at size mode bytes) n
-      ∙ if-true (begins_letter mode 116 bytes) (word_at size mode (codes "true") (boolean true) bytes) (false_at size mode bytes) t
-      ∙ ap (λ (t : Tree). word_at size mode (codes "true") t bytes) (sym (view-Bool true))
-
-  pub words_false : begins_letter mode 110 bytes ≡ false → begins_letter mode 116 bytes ≡ false → begins_letter mode 102 bytes ≡ true → words_at size mode bytes ≡ word_at size mode (codes "false") (ast_view (ast.Bool false)) bytes
-  words_false n t f =
-      if-false (begins_letter mode 110 bytes) (null_at size mode bytes) (true_or_false_at size mode bytes) n
-      ∙ if-false (begins_letter mode 116 bytes) (word_at size mode (codes "true") (boolean true) bytes) (false_at size mode bytes) t
-      ∙ if-true (begins_letter mode 102 bytes) (word_at size mode (codes "false") (boolean false) bytes) (number_or_fault size mode bytes) f
-      ∙ ap (λ (t : Tree). word_at size mode (codes "false") t bytes) (sym (view-Bool false))
-
   pub words_number : begins_letter mode 110 bytes ≡ false → begins_letter mode 116 bytes ≡ false → begins_letter mode 102 bytes ≡ false → words_at size mode bytes ≡ number_or_fault size mode bytes
   words_number n t f =
       if-false (begins_letter mode 110 bytes) (null_at size mode bytes) (true_or_false_at size mode bytes) n
       ∙ if-false (begins_letter mode 116 bytes) (word_at size mode (codes "true") (boolean true) bytes) (false_at size mode bytes) t
       ∙ if-false (begins_letter mode 102 bytes) (word_at size mode (codes "false") (boolean false) bytes) (number_or_fault size mode bytes) f
-
--- ---- strings and numbers as values
-
-pub number_read : (size : ℕ) (mode : Mode) (bytes : List ℕ) (n : Num) (t : Tree) (rest : List ℕ) → begins_number mode bytes ≡ true → number_at size mode bytes ≡ Ok (n, rest) → t ≡ number n → number_or_fault size mode bytes ≡ Ok (t, rest)
-number_read size mode bytes n t rest begun read is =
-    if-true (begins_number mode bytes) (number_value_at size mode bytes) (refused size expected_some_value 1 bytes) begun
-    ∙ ap (λ (r : Read Num). r >>= λ (x : Num × List ℕ). Ok (number x.0, x.1)) read ∙ ap (λ (u : Tree). Ok (u, rest)) (sym is)
-
-pub number_fails : (size : ℕ) (mode : Mode) (bytes : List ℕ) (e : Error) → begins_number mode bytes ≡ true → Fails e (number_at size mode bytes) → Fails e (number_or_fault size mode bytes)
-number_fails size mode bytes e begun f =
-    fails_same e (number_value_at size mode bytes) (number_or_fault size mode bytes)
-    (if-true (begins_number mode bytes) (number_value_at size mode bytes) (refused size expected_some_value 1 bytes) begun)
-    (fails_through e (number_at size mode bytes) (λ (x : Num × List ℕ). Ok (number x.0, x.1)) f)
-
-pub number_refused : (size : ℕ) (mode : Mode) (bytes : List ℕ) → begins_number mode bytes ≡ false → number_or_fault size mode bytes ≡ Err (fault_at size expected_some_value 1 bytes)
-number_refused size mode bytes none = if-false (begins_number mode bytes) (number_value_at size mode bytes) (refused size expected_some_value 1 bytes) none

@@ -160,10 +160,6 @@ module _ {A : Type 0} (mode : Mode) (Spells : List ℕ → A → Type 0) (read :
 
 -- ---- a byte at the front
 
-pub record Front (c : ℕ) (bytes : List ℕ) : Type 0 where
-  pub rest : List ℕ
-  pub whole : bytes ≡ c ∷ rest
-
 pub on_byte-found : {X : Type 0} (c : ℕ) (rest : List ℕ) (found : List ℕ → X) (other : X) → on_byte c (c ∷ rest) found other ≡ found rest
 on_byte-found c rest found other = if-true (eqb c c) (found rest) other (eqb_self c)
 

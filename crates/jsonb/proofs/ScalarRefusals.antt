@@ -47,13 +47,6 @@ word_silent size mode word t bytes f e told =
       | inr h ↦ absurd (let never : ◌≡◌ {A = Read Tree} (Ok (t, h.0)) (Err f) = h.2 in cc)
     ]
 
-body_err : {A : Type 0} (d f : Code × ℕ) → ◌≡◌ {A = Body A} (Err d) (Err f) → d ≡ f
-body_err {A} d f e = ap (λ (r : Body A). fault_or d r) e
-  where
-    fault_or : Code × ℕ → Body A → Code × ℕ
-    fault_or x (Ok y) = x
-    fault_or x (Err y) = y
-
 -- The codes of a body's faults are none of those that are told.
 IsSilentBody : {A : Type 0} → Body A → Type 0
 IsSilentBody (Ok x) = Unit {0}

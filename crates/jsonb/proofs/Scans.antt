@@ -2,10 +2,10 @@
 use Rattle.std.proofs.Common.{◌≡◌, ℕ, ◌+◌, true, false, true≢false, eqb, inl, inr, List, [], ◌∷◌, length, drop, Result, Err, Contains, get_or, refl, sym, ap, ◌∙◌, arith, length-drop}
 use Rattle.jsonb_value.specs.Code.Code.{expected_some_ident}
 use Rattle.jsonb.specs.Parser.{Advances, Fails, IsFault}
-use Rattle.jsonb.specs.Reading.{Fault, fault_at, refused}
+use Rattle.jsonb.specs.Reading.{Fault, refused}
 use Rattle.jsonb.specs.Reading.Scalar.{begins_letter, begins_single_quote, folded, letters_at, on_letter, on_single_quote}
 use Rattle.jsonb_value.specs.Mode.{Mode, standard, extended}
-use Rattle.jsonb.proofs.Choices.{chosen, if-false, if-true}
+use Rattle.jsonb.proofs.Choices.{chosen, if-true}
 use Rattle.jsonb.proofs.Parts.{on_byte-none}
 use Rattle.std.proofs.lemmas.List.{get_or-drop}
 use Rattle.jsonb.specs.declared.parser.Parser.{Parser}
@@ -36,19 +36,8 @@ on_letter-true mode c (b ∷ bytes) found other e =
       | inr f ↦ absurd (true≢false (sym f.1))
     ]
 
-pub on_letter-false : {X : Type 0} (mode : Mode) (c : ℕ) (bytes : List ℕ) (found : List ℕ → X) (other : X) → begins_letter mode c bytes ≡ false → on_letter mode c bytes found other ≡ other
-on_letter-false mode c [] found other e = refl
-on_letter-false mode c (b ∷ bytes) found other e =
-    elim (chosen (eqb (folded mode b) c) true false false e) [
-      | inl t ↦ absurd (true≢false t.1)
-      | inr f ↦ if-false (eqb (folded mode b) c) (found bytes) other f.0
-    ]
-
 pub letters-step : (size : ℕ) (mode : Mode) (c : ℕ) (cs bytes : List ℕ) → begins_letter mode c bytes ≡ true → letters_at size mode (c ∷ cs) bytes ≡ letters_at size mode cs (drop 1 bytes)
 letters-step size mode c cs bytes e = on_letter-true mode c bytes (letters_at size mode cs) (refused size expected_some_ident 1 bytes) e
-
-pub letters-fail : (size : ℕ) (mode : Mode) (c : ℕ) (cs bytes : List ℕ) → begins_letter mode c bytes ≡ false → letters_at size mode (c ∷ cs) bytes ≡ Err (fault_at size expected_some_ident 1 bytes)
-letters-fail size mode c cs bytes e = on_letter-false mode c bytes (letters_at size mode cs) (refused size expected_some_ident 1 bytes) e
 
 -- ---- single quotes
 

@@ -347,17 +347,6 @@ skips mode bytes left =
       | inr some ↦ subst (λ (u : List ℕ). Passes mode bytes u) (sym some.1) (passes mode bytes)
     ]
 
-pub skips_to : (mode : Mode) (bytes : List ℕ) (b : ℕ) (rest : List ℕ) → skip_blanks mode bytes ≡ b ∷ rest → Passes mode bytes (b ∷ rest)
-skips_to mode bytes b rest e = subst (λ (u : List ℕ). Passes mode bytes u) e (skips mode bytes (omega (arith, ap length e)))
-
--- where bytes are left, these are those after the blanks, and no comment begins there
-pub skip-left : (mode : Mode) (bytes : List ℕ) (b : ℕ) (rest : List ℕ) → skip_blanks mode bytes ≡ b ∷ rest → (pass_blanks mode bytes ≡ b ∷ rest) × (opens_comment mode (b ∷ rest) ≡ false)
-skip-left mode bytes b rest e =
-    elim (skipped mode bytes) [
-      | inl none ↦ absurd (omega (arith, ap length none, ap length e))
-      | inr some ↦ let same : pass_blanks mode bytes ≡ b ∷ rest = sym some.1 ∙ e in (same, ap (opens_comment mode) (sym same) ∙ some.0)
-    ]
-
 pub skip-passed : (mode : Mode) (bytes : List ℕ) (b : ℕ) (rest : List ℕ) → pass_blanks mode bytes ≡ b ∷ rest → opens_comment mode (b ∷ rest) ≡ false → skip_blanks mode bytes ≡ b ∷ rest
 skip-passed mode bytes b rest e none = ap (past_comment mode) e ∙ past-none mode (b ∷ rest) none
 

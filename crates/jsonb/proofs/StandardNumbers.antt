@@ -4,15 +4,12 @@ use Rattle.std.specs.Prelude.{slice_index, MatchOption}
 use Rattle.std.specs.Int.{IsInRange}
 use Rattle.std.specs.Str.Parse.{AllDigits, digits_value}
 use Rattle.std.proofs.lemmas.Str.Parse.{digit_from_value}
-use Rattle.std.proofs.lemmas.Bool.{false≢true}
-use Rattle.std.proofs.lemmas.Bool.Decides.{nat_tests}
 use Rattle.std.proofs.lemmas.List.{take-append-drop, length-append, length-drop, append-nil}
 use Rattle.std.proofs.Math.Seq.{take-append_seam, drop-append_seam}
 use Rattle.jsonb_value.specs.Code.{invalid_number_value, number_not_carried}
 use Rattle.jsonb_value.specs.Tree.{Num}
 use Rattle.jsonb_value.specs.StandardNumber.{IsWhole, IsFraction, IsExponent, HasParts, IsNumberText, IsInteger, IsStandardNumber, IsStandardUncarried}
 use Rattle.jsonb.specs.Reading.{Fault, Read, fault}
-use Rattle.jsonb.specs.Reading.Blank.{is_break}
 use Rattle.jsonb.specs.Reading.Number.{FollowsWhole, GoesOn, EndsNumber, is_number_start, End, standard_end, integer_at, carried_at, number_to, standard_number_at}
 use Rattle.jsonb.proofs.NumberReading.{is_digit}
 use Rattle.jsonb.proofs.NumberAutomaton.{NoneEnds, IsLongest}
@@ -46,14 +43,8 @@ text_starts core (false, whole, fraction, exponent, parts) =
 pub standard_is_text : (core : List ℕ) (n : Num) → IsStandardNumber core n → IsNumberText core
 standard_is_text core n (negative, whole, parts, is_integer) = (negative, whole, [], [], parts)
 
-pub uncarried_is_text : (core : List ℕ) → IsStandardUncarried core → IsNumberText core
-uncarried_is_text core (negative, whole, fraction, exponent, parts, why) = (negative, whole, fraction, exponent, parts)
-
 pub number_starts : (core : List ℕ) (n : Num) → IsStandardNumber core n → NumberStart core
 number_starts core n number = text_starts core (standard_is_text core n number)
-
-pub uncarried_starts : (core : List ℕ) → IsStandardUncarried core → NumberStart core
-uncarried_starts core uncarried = text_starts core (uncarried_is_text core uncarried)
 
 -- ---- a text has its parts in one way
 
@@ -243,20 +234,6 @@ number_longest size bytes n rest at = (number_sound size bytes n rest at).longes
 pub number_faults : (size : ℕ) (bytes : List ℕ) (f : Fault) → standard_number_at size bytes ≡ Err f → FaultRead size bytes f
 number_faults size bytes f at = answer_is size bytes (Err f) at
 
-pub number_uncarried : (size : ℕ) (bytes : List ℕ) (f : Fault) → standard_number_at size bytes ≡ Err f → f.code ≡ number_not_carried → UncarriedRead size bytes f.place
-number_uncarried size bytes f at code = by_fault (number_faults size bytes f at)
-  where
-    by_fault : FaultRead size bytes f → UncarriedRead size bytes f.place
-    by_fault (not_carried is read) = read
-    by_fault (no_number is none) = absurd (cc)
-
-pub number_invalid : (size : ℕ) (bytes : List ℕ) (f : Fault) → standard_number_at size bytes ≡ Err f → f.code ≡ invalid_number_value → NoNumberEnds bytes
-number_invalid size bytes f at code = by_fault (number_faults size bytes f at)
-  where
-    by_fault : FaultRead size bytes f → NoNumberEnds bytes
-    by_fault (not_carried is read) = absurd (cc)
-    by_fault (no_number is none) = none
-
 -- A number text that nothing goes on with is read so.
 pub number_complete : (size : ℕ) (core rest : List ℕ) (n : Num) → IsStandardNumber core n → EndsNumber rest → standard_number_at size (core ++ rest) ≡ Ok (n, rest)
 number_complete size core rest n number ends = by_end (standard_end (core ++ rest)) refl
@@ -282,10 +259,3 @@ number_complete size core rest n number ends = by_end (standard_end (core ++ res
         let same : length core ≡ end = ⊎_elim (λ e. e) (λ before. absurd (stops_after core rest ends before.1)) (read.longest (length core) within text) in
         read.answer ∙ is_read end (integer_at (core ++ rest) end) same read.number
     by_end (Err place) at = absurd (stops_after core rest ends (none_ends (core ++ rest) place at (length core) within text))
-
--- a blank, a comma, a colon and a closing bracket or brace go on with no number
-pub break_ends : (b : ℕ) → is_break b ≡ true → ¬ GoesOn b
-break_ends b broken (inl digit) = grind (arith, nat_tests)
-break_ends b broken (inr (inl point)) = absurd (false≢true (subst (λ c. is_break c ≡ true) point broken))
-break_ends b broken (inr (inr (inl small))) = absurd (false≢true (subst (λ c. is_break c ≡ true) small broken))
-break_ends b broken (inr (inr (inr great))) = absurd (false≢true (subst (λ c. is_break c ≡ true) great broken))

@@ -1,28 +1,16 @@
 -- The tree of a `JsonAst`, level by level.
-use Rattle.std.proofs.Common.{◌≡◌, ℕ, Bool, List, [], ◌∷◌, map, Vec, Global, rules, refl, ap, ◌∙◌}
-use Rattle.std.specs.Cow.{cow_str_bytes}
+use Rattle.std.proofs.Common.{◌≡◌, ℕ, List, [], ◌∷◌, map, Vec, Global, rules, refl, ap, ◌∙◌}
 use Rattle.std.specs.declared.borrow.CowStr.{CowStr}
-use Rattle.jsonb_value.specs.declared.number.Number.{Number}
 use Rattle.jsonb.specs.declared.parser.ast.JsonAst.{JsonAst, the_lemmas}
 use Rattle.jsonb.specs.declared.parser.ast.JsonAst as ast
 use Rattle.jsonb_value.specs.Tree.{Tree, put_all, trees_of}
 use Rattle.jsonb_value.specs.Tree.Members.{no_members}
-use Rattle.jsonb_value.specs.Tree.Tree.{array, boolean, null, number, object, string}
-use Rattle.jsonb_value.specs.View.{mark_view, number_view}
+use Rattle.jsonb_value.specs.Tree.Tree.{array, null, object}
 use Rattle.jsonb.specs.AstView.{ast_view, found_from, found_of}
 use Rattle.jsonb.specs.Reading.Container.{member_of}
 
 pub view-Null : ast_view ast.Null ≡ null
 view-Null = search (rules, the_lemmas)
-
-pub view-Bool : (b : Bool) → ast_view (ast.Bool b) ≡ boolean b
-view-Bool b = search (rules, the_lemmas)
-
-pub view-String : (s : CowStr Global) → ast_view (ast.String s) ≡ string (mark_view s) (cow_str_bytes s)
-view-String s = search (rules, the_lemmas)
-
-pub view-Number : (n : Number) → ast_view (ast.Number n) ≡ number (number_view n)
-view-Number n = search (rules, the_lemmas)
 
 pub view-Array : (v : Vec JsonAst Global) → ast_view (ast.Array v) ≡ array (trees_of (map ast_view v.items))
 view-Array v = search (rules, the_lemmas)

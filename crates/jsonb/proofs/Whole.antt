@@ -16,7 +16,7 @@ use Rattle.jsonb.specs.Parser.{Advances, Gives, IsTextRefusal, mode_of, rest_of,
 use Rattle.jsonb.specs.Reading.{Fault, fault, ◌>>=◌}
 use Rattle.jsonb.proofs.Choices.{if-false, if-true}
 use Rattle.jsonb.specs.Reading.Blank.{opens_comment, pass_blanks}
-use Rattle.jsonb.specs.Reading.Document.{at_end, comment_at, document_from, document_of, nothing_at, value_at, value_to_end}
+use Rattle.jsonb.specs.Reading.Document.{at_end, comment_at, document_from, document_of, value_at, value_to_end}
 use Rattle.jsonb.specs.Refusals.{IsExplained}
 use Rattle.jsonb.proofs.Cursors.{nothing_left}
 use Rattle.jsonb.proofs.Documents.{document_unique, refused_is_none}
@@ -52,10 +52,6 @@ document_some p q e a within closed = document_same p q e a ∙ from_some (size_
 pub document_comment : (p q : Parser) → rest_of q ≡ pass_blanks (mode_of p.mode) (rest_of p) → Advances p q → q.idx < size_of q → opens_comment (mode_of q.mode) (rest_of q) ≡ true
     → document_from (size_of p) (mode_of p.mode) (pass_blanks (mode_of p.mode) (rest_of p)) ≡ comment_at (size_of q) null (drop 1 (rest_of q))
 document_comment p q e a within opens = document_same p q e a ∙ from_comment (size_of q) (mode_of q.mode) (rest_of q) (omega (arith, length-drop q.idx q.buf.now)) opens
-
-pub document_none : (p q : Parser) → rest_of q ≡ pass_blanks (mode_of p.mode) (rest_of p) → Advances p q → size_of q ≤ q.idx
-    → document_from (size_of p) (mode_of p.mode) (pass_blanks (mode_of p.mode) (rest_of p)) ≡ nothing_at (size_of q) (mode_of q.mode)
-document_none p q e a past = document_same p q e a ∙ ap (document_from (size_of q) (mode_of q.mode)) (nothing_left q.buf.now q.idx past)
 
 -- ---- after the value
 

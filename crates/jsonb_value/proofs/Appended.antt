@@ -1,7 +1,5 @@
 -- A text that is appended to a buffer piece by piece.
-use Rattle.std.proofs.Common.{◌≡◌, ℕ, ◌+◌, ◌≤◌, List, [], ◌++◌, length, take, refl, sym, ap, ◌∙◌, append_assoc, append-nil, length-append, arith, Result, Ok, Err, OnErr}
-use Rattle.std.proofs.Math.Seq.{take-append_seam}
-use Rattle.jsonb_value.specs.Appending.{Extends}
+use Rattle.std.proofs.Common.{◌≡◌, ℕ, ◌+◌, ◌≤◌, List, [], ◌++◌, length, refl, sym, ap, ◌∙◌, append_assoc, append-nil, length-append, arith, Result, Ok, Err, OnErr}
 
 -- old became now by a front of the text, of which the rest is left
 pub record IsUnderway (old now text left : List ℕ) : Type 0 where
@@ -19,21 +17,6 @@ goes_on {old = old} new piece rest u split more = record {
   whole = u.whole ∙ ap (λ left. u.front ++ left) split ∙ sym (append_assoc u.front piece rest);
 }
 
-pub ended : {old now text left : List ℕ} (new : List ℕ) → IsUnderway old now text left → new ≡ now ++ left → new ≡ old ++ text
-ended {old = old} {left = left} new u more = more ∙ ap (λ now. now ++ left) u.appended ∙ append_assoc old u.front left ∙ ap (λ text. old ++ text) (sym u.whole)
-
-pub stays : (old : List ℕ) → Extends old old
-stays old = record { more = []; extended = sym (append-nil old) }
-
-pub extends : (old new more : List ℕ) → new ≡ old ++ more → Extends old new
-extends old new more e = record { more = more; extended = e }
-
-pub extends_on : {old now text left : List ℕ} (new : List ℕ) → IsUnderway old now text left → Extends now new → Extends old new
-extends_on {old = old} new u e = record {
-  more = u.front ++ e.more;
-  extended = e.extended ∙ ap (λ now. now ++ e.more) u.appended ∙ append_assoc old u.front e.more;
-}
-
 -- what is left has no more bytes than the whole text without its front
 pub fits : {old now text left : List ℕ} (piece rest : List ℕ) → IsUnderway old now text left → left ≡ piece ++ rest → length now + length piece ≤ length old + length text
 fits {old = old} {now = now} {text = text} {left = left} piece rest u split =
@@ -46,10 +29,6 @@ fits {old = old} {now = now} {text = text} {left = left} piece rest u split =
       ap length split,
       length-append piece rest,
     )
-
--- cut to its old length, a buffer is what it was
-pub cut_back : (old new : List ℕ) → Extends old new → take (length old) new ≡ old
-cut_back old new e = ap (take (length old)) e.extended ∙ take-append_seam old e.more
 
 -- what holds, holds after a refusal
 pub on_err : {T E P : Type 0} (r : Result T E) → P → OnErr r P

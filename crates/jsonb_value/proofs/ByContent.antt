@@ -88,9 +88,6 @@ module _ {X : Type 0} (R : X → X → Ordering) (below same : X → X → Type 
 bytes_decide : Decides bytes_cmp BelowBytes (SameByPlaces ◌≡◌)
 bytes_decide = lists_decide nat_cmp ◌<◌ ◌≡◌ nat_decides
 
-fields_decide : Decides (slice_cmp int_cmp) (BelowByPlaces ◌<ℤ◌ ◌≡◌) (SameByPlaces ◌≡◌)
-fields_decide = lists_decide int_cmp ◌<ℤ◌ ◌≡◌ int_decides
-
 -- bytes that agree at each place are the same bytes
 all_places : (xs ys : List ℕ) → SameByPlaces ◌≡◌ xs ys → xs ≡ ys
 all_places [] [] h = refl

@@ -2,7 +2,7 @@
 use Rattle.std.proofs.Common.{◌≡◌, ◌↔◌, ℕ, ◌+◌, ◌-◌, ◌*◌, ◌^◌, ◌<◌, ◌≤◌, zero, suc, Some, refl, sym, subst, ap, ◌∙◌, arith, Bool, true, false, ℤ, pos, negsuc, ◌*ℤ◌, ◌-ℤ◌, ◌+ℤ◌, ◌≤ℤ◌, ◌<ℤ◌}
 use Rattle.std.specs.Prelude.{unsigned_abs}
 use Rattle.std.specs.Int.{is_negative}
-use Rattle.std.proofs.lemmas.Int.{ints, unsigned_abs-mul, by_lt_z}
+use Rattle.std.proofs.lemmas.Int.{ints, by_lt_z}
 use Rattle.std.proofs.Math.Nat.{mul-le-mul_right, zero-mul, suc-mul, le-mul_of_pos_right}
 use Rattle.jsonb_value.specs.Cast.{IsExactly, IsNearest, IsRounded}
 use Rattle.jsonb_value.specs.Signed.{signed_by}
@@ -53,16 +53,6 @@ pub multiple_injective : (n l : ℤ) (p : ℕ) → 0 < p → n *ℤ pos p ≡ l 
 multiple_injective n l p some same =
     by_lt_z n l (λ less. absurd (omega (arith, ints, multiple_rises n l p less, same)))
     (λ least. by_lt_z l n (λ less. absurd (omega (arith, ints, multiple_rises l n p less, same))) (λ most. omega (arith, ints)))
-
-pub exact_abs : (whole n : ℤ) (scale : ℕ) → IsExactly scale whole n → unsigned_abs whole ≡ unsigned_abs n * 10 ^ scale
-exact_abs whole n scale exact = ap unsigned_abs exact ∙ unsigned_abs-mul n (pos (10 ^ scale))
-
-pub exact_some : (whole : ℤ) (k scale : ℕ) → unsigned_abs whole ≡ k * 10 ^ scale → (n : ℤ) → (Some (signed_by (is_negative whole) k) ≡ Some n) ↔ IsExactly scale whole n
-exact_some whole k scale exact n =
-    let parts : whole ≡ signed_by (is_negative whole) k *ℤ pos (10 ^ scale) = sym (signed_parts whole) ∙ (ap (signed_by (is_negative whole)) exact ∙ sym (signed_multiple (is_negative whole) k (10 ^ scale))) in (
-      λ same. let factor : signed_by (is_negative whole) k ≡ n = cc in parts ∙ ap (λ f. f *ℤ pos (10 ^ scale)) factor,
-      λ other. ap Some (multiple_injective (signed_by (is_negative whole) k) n (10 ^ scale) (ten_positive scale) (sym parts ∙ other)),
-    )
 
 -- a quotient is no greater than what is divided
 pub exact_le : (m k scale : ℕ) → m ≡ k * 10 ^ scale → k ≤ m

@@ -5,7 +5,7 @@ use Rattle.std.specs.Int.{w64, is_negative}
 use Rattle.std.specs.Fmt.{decimal, signed_decimal, sign_text}
 use Rattle.std.proofs.lemmas.Fmt.{decimal_is_IsNumeral_wide}
 use Rattle.std.proofs.lemmas.Bool.Decides.{nat_tests}
-use Rattle.std.proofs.lemmas.List.{append-nil, length-append, length-replicate, length-take, length-drop}
+use Rattle.std.proofs.lemmas.List.{append-nil, length-append, length-replicate}
 use Rattle.jsonb_value.specs.NumberText.{zero_padded, with_point, text_of_parts}
 use Rattle.jsonb_value.specs.declared.number.text.TextParts.{TextParts}
 use Rattle.jsonb_value.specs.TextParts.{joined}
@@ -49,12 +49,6 @@ joined_inside scale ds front back some inside first last =
 
 pub joined_before : (scale : ℕ) (ds : List ℕ) → scale ≢ 0 → length ds ≤ scale → (48 ∷ []) ++ ((46 ∷ []) ++ (replicate (scale - length ds) 48 ++ ds)) ≡ with_point scale (zero_padded (scale + 1) ds)
 joined_before scale ds some behind = sym (pointed_before scale ds (omega arith) behind)
-
--- the text is as long as the digits and the point, or as scale and two more
-pub length-pointed : (scale : ℕ) (ds : List ℕ) → scale < 256 → length ds ≤ 40 → length (with_point scale (zero_padded (scale + 1) ds)) ≤ 257
-unfolding with_point zero_padded
-length-pointed scale ds small few =
-    grind (arith, nat_tests, length-append {A = ℕ}, length-replicate {A = ℕ}, length-take {A = ℕ}, length-drop {A = ℕ})
 
 pub length-joined : (p : TextParts) → length (joined p) ≡ length p.sign.now + length p.front.now + length p.point.now + p.zeros + length p.back.now
 length-joined p = simp (length-append, length-replicate) (omega arith)

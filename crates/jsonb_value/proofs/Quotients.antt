@@ -2,7 +2,7 @@
 use Rattle.std.proofs.Common.{◌≡◌, ◌↔◌, ℕ, ◌+◌, ◌-◌, ◌*◌, ◌/◌, ◌%◌, ◌^◌, ◌<◌, ◌≤◌, Option, Some, None, ap, arith, ⊎_elim}
 use Rattle.std.proofs.lemmas.Bool.{cases_lt}
 use Rattle.std.proofs.lemmas.Nat.{div-add-mod', mod_below}
-use Rattle.std.proofs.Math.Nat.{one-le-pow, pow-le-pow_right, mul-div_cancel, mul-le-mul_right, le-mul_of_pos_right}
+use Rattle.std.proofs.Math.Nat.{one-le-pow, pow-le-pow_right, mul-div_cancel}
 use Rattle.std.specs.Option.{SomeIff, IfSome, IfNone}
 use Rattle.std.specs.Int.{from_bool}
 use Rattle.std.specs.Prelude.{nat_le}
@@ -47,12 +47,6 @@ rounded_up m p scale e over =
     let below : m % p < p = mod_below m p (rw e (ten_positive scale)) in
     let product : m / p * p ≡ m / p * 10 ^ scale = ap (λ x. m / p * x) e in
     record { low = omega arith; high = omega arith }
-
--- a rounded quotient is no greater than its magnitude
-pub rounded_le : (m scale k : ℕ) → IsRounded scale m k → k ≤ m
-rounded_le m scale k r =
-    ⊎_elim (λ under. omega arith)
-    (λ over. absurd (omega (arith, r.high, mul-le-mul_right (10 ^ scale) over, ten_positive scale, le-mul_of_pos_right (2 * m + 1) (ten_positive scale)))) (cases_lt k (m + 1))
 
 pub rounded_by : (m p scale b : ℕ) → p ≡ 10 ^ scale → m % p < p → b ≡ from_bool (nat_le (p - m % p) (m % p)) → IsRounded scale m (m / p + b)
 rounded_by m p scale b e below tested =

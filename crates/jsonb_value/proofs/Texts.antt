@@ -21,10 +21,6 @@ pub texts_left-comma : (is_first : Bool) (text : List ℕ) (texts : List (List �
 texts_left-comma true text texts = refl
 texts_left-comma false text texts = refl
 
-pub texts_left-none : (is_first : Bool) → texts_left is_first [] ≡ []
-texts_left-none true = refl
-texts_left-none false = refl
-
 -- the comma before a part is written
 pub comma_done : (is_first : Bool) (old now text part close new : List ℕ) (parts others : List (List ℕ)) → parts ≡ part ∷ others → IsUnderway old now text (texts_left is_first parts ++ close)
     → new ≡ now ++ comma_before is_first → IsUnderway old new text (part ++ (texts_left false others ++ close))

@@ -98,10 +98,6 @@ ended : (keys : List (List ℕ)) → byte_of (spelled_keys keys) ≡ None
 ended [] = refl
 ended (key ∷ keys) = refl
 
--- before anything is read
-pub at_start : (bytes : List ℕ) → Reads bytes [] bytes
-at_start bytes = record { spelled = refl; only = λ others same. (others, refl, same) }
-
 -- after one more key
 pub after_key : (bytes : List ℕ) (keys : List (List ℕ)) (text key rest : List ℕ) → Reads bytes keys (47 ∷ text) → text ≡ spelled_key key ++ rest → byte_of rest ≡ None → Reads bytes (keys ++ key ∷ []) rest
 after_key bytes keys text key rest so_far is whole = record {

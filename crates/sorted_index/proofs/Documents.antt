@@ -1,5 +1,5 @@
 -- Documents read one after the other.
-use Rattle.std.proofs.Common.{◌≡◌, ◌≢◌, ℕ, ◌+◌, ◌<◌, List, [], ◌∷◌, ◌++◌, length, map, take, drop, get_or, Vec, Global, sym, subst, ap, ◌∙◌, add-one, drop-cons, take-suc, take-append-drop, length-take-le, arith}
+use Rattle.std.proofs.Common.{◌≡◌, ◌≢◌, ℕ, ◌+◌, ◌<◌, List, [], ◌∷◌, ◌++◌, length, take, drop, get_or, Vec, Global, sym, subst, ap, ◌∙◌, add-one, drop-cons, take-suc, take-append-drop, length-take-le, arith}
 use Rattle.std.proofs.lemmas.List.{map-append, length-map}
 use Rattle.jsonb.specs.Grammar.{IsDocument}
 use Rattle.jsonb.specs.Mode.{extended}

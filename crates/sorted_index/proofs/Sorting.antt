@@ -1,6 +1,5 @@
 -- What sorting and keeping one of the equal ones leave.
-use Rattle.std.proofs.Common.{◌≡◌, true, List, Contains, IsPermutation, IsSorted, Any, Ordering, Less, Equal, Greater, is_eq, Bool, refl, sym, subst}
-use Rattle.std.proofs.lemmas.List.Filters.{dedup_is}
+use Rattle.std.proofs.Common.{◌≡◌, true, List, IsPermutation, IsSorted, Any, Ordering, Less, Equal, Greater, is_eq, Bool, refl, sym, subst}
 use Rattle.std.proofs.lemmas.List.Kept.{Any-dedup, Contains-from_dedup, IsStrictlySortedBy-dedup}
 use Rattle.std.proofs.lemmas.List.Sorted.{Contains-permutation, IsPermutation-sym}
 use Rattle.std.specs.Cmp.{on_total, on_equiv, eq_by_cmp_equiv}
