@@ -17,7 +17,7 @@ use Rattle.jsonb.specs.Reading.Scalar.{key_at, scalar_at}
 use Rattle.jsonb.specs.Stack.{Open, array_end, array_within, elements_from, finish_open, member_start, members_from, object_end, object_within, parts_after, parts_from, resume}
 use Rattle.jsonb.specs.Stack.Open.{elements_so_far, members_so_far}
 use Rattle.jsonb.proofs.Choices.{if-false, if-true}
-use Rattle.jsonb.proofs.Parts.{IsSoundBefore, on_byte-none, other}
+use Rattle.jsonb.proofs.Parts.{IsSoundBefore, on_byte-none}
 use Rattle.jsonb.proofs.Skips.{length-skip}
 use Rattle.jsonb.proofs.Values.{IsFound, element_sound, member_sound, value_sound}
 

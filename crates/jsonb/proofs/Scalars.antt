@@ -25,7 +25,7 @@ use Rattle.jsonb.specs.Reading.String.{string_at}
 use Rattle.jsonb.proofs.BareKeys.{bare_complete, bare_sound, bare_starts, break_stops}
 use Rattle.jsonb.proofs.Choices.{bind_ok, chosen, if-false, if-true, refused_fails, same_read}
 use Rattle.jsonb.proofs.ExtendedNumbers.{OpensNumber, extended_complete, extended_sound, extended_starts, opens_extended}
-use Rattle.jsonb.proofs.Parts.{Ends, IsComplete, IsSound, Spelled, Starts, break_is, on_byte-found, on_byte-other, on_byte_cases, other}
+use Rattle.jsonb.proofs.Parts.{Ends, IsComplete, IsSound, Spelled, Starts, break_is, on_byte-found, on_byte-other, on_byte_cases}
 use Rattle.jsonb.proofs.StandardNumbers.{number_complete, number_sound, number_starts}
 use Rattle.jsonb.proofs.StringEnds.{string_complete, string_sound}
 

@@ -25,8 +25,7 @@ use Rattle.jsonb.specs.Stack.Open.{elements_so_far, members_so_far}
 use Rattle.jsonb.proofs.Frames.{array-begun, array-value, members-turn, object-begun, object-value, resume-none, resume-part, value_plain}
 use Rattle.jsonb.proofs.Scans.{goes_on}
 use Rattle.jsonb.proofs.Outcomes.{fails_same, fails_through, same_size}
-use Rattle.jsonb.proofs.Parts.{on_byte-none, other}
-use Rattle.jsonb.proofs.Scans.{fails}
+use Rattle.jsonb.proofs.Parts.{on_byte-none}
 use Rattle.jsonb.proofs.Views.{view-Array}
 
 -- ---- frames
