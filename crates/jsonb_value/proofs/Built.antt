@@ -30,11 +30,11 @@ keys_sorted [] h = tt
 keys_sorted (e ∷ es) h = (above_key (string_bytes e.0) es h.0, keys_sorted es h.1)
 
 -- the members that pairs are
-abbrev members_from : List Member → Members
+abbrev pub members_from : List Member → Members
 members_from [] = no_members
 members_from (m ∷ ms) = more_members m.0 m.1 (members_from ms)
 
-members_view-pairs_view : (es : List Entry) → members_view es ≡ members_from (pairs_view es)
+pub members_view-pairs_view : (es : List Entry) → members_view es ≡ members_from (pairs_view es)
 members_view-pairs_view [] = refl
 members_view-pairs_view (e ∷ es) = ap (more_members (string_bytes e.0) (view e.1)) (members_view-pairs_view es)
 

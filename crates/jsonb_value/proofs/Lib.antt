@@ -19,6 +19,7 @@ pub mod Nearest
 pub mod NumberTexts
 pub mod NumbersInRange
 pub mod OneText
+pub mod OwnedCopies
 pub mod Parts
 pub mod PlainRuns
 pub mod Pointed

@@ -1,10 +1,11 @@
 -- Parts of a value beside those of its tree.
-use Rattle.std.proofs.Common.{◌≡◌, ℕ, suc, List, [], ◌∷◌, length, map, ◌↔◌, IsTrue, is_some, Option, Some, None, option_map, cond, Bool, true, false, bytes_eq, string_bytes, nat_cmp, String, Vec, BTreeMap, Global, refl, ap, ◌∙◌, rules}
+use Rattle.std.proofs.Common.{◌≡◌, ℕ, zero, suc, ◌<◌, ◌≤◌, List, [], ◌∷◌, length, get_or, map, ◌↔◌, IsTrue, is_some, Option, Some, None, option_map, option_copied, Bor, cond, Bool, true, false, bytes_eq, string_bytes, nat_cmp, String, Vec, BTreeMap, Global, arith, refl, sym, ap, ◌∙◌, rules}
 use Rattle.std.proofs.lemmas.Map.Text.{is_eq-slice_cmp}
 use Rattle.std.specs.BTreeMap.{is_at}
 use Rattle.std.specs.Cmp.Lexicographic.{slice_cmp}
 use Rattle.std.specs.Map.{keys_of, lookup}
-use Rattle.jsonb_value.specs.Parts.{trees_len, find_member, key_trees}
+use Rattle.std.specs.Slice.{IsItemAt}
+use Rattle.jsonb_value.specs.Parts.{trees_len, find_member, item_at, key_trees}
 use Rattle.jsonb_value.specs.Tree.{string, array, object, escaped, more_trees, trees_of}
 use Rattle.jsonb_value.specs.View.{view, trees_view, members_view}
 use Rattle.jsonb_value.specs.declared.value.Value.{Value, Array, Object, the_lemmas}
@@ -19,6 +20,26 @@ view-Object m = search (rules, the_lemmas)
 pub trees_len-trees_view : (vs : List Value) → trees_len (trees_view vs) ≡ length vs
 trees_len-trees_view [] = refl
 trees_len-trees_view (v ∷ vs) = ap suc (trees_len-trees_view vs)
+
+-- a value that is borrowed is seen as it is
+pub seen : (r : Option (Bor Value)) → option_map (λ v. view v.now) r ≡ option_map view (option_copied r)
+seen None = refl
+seen (Some v) = refl
+
+item_past : (vs : List Value) (i : ℕ) → length vs ≤ i → item_at (trees_view vs) i ≡ None
+item_past [] i past = refl
+item_past (v ∷ vs) zero past = absurd (omega (arith, past))
+item_past (v ∷ vs) (suc i) past = item_past vs i (omega (arith, past))
+
+item_within : (vs : List Value) (i : ℕ) (v : Value) → i < length vs → item_at (trees_view vs) i ≡ Some (view (get_or vs i v))
+item_within [] i v within = absurd (omega (arith, within))
+item_within (w ∷ vs) zero v within = refl
+item_within (w ∷ vs) (suc i) v within = item_within vs i v (omega (arith, within))
+
+-- what is lent of an array's place is the item there
+pub item_lent : (vs : List Value) (i : ℕ) (r : Option (Bor Value)) → IsItemAt vs i r → option_map (λ v. view v.now) r ≡ item_at (trees_view vs) i
+item_lent vs i None h = sym (item_past vs i h.3)
+item_lent vs i (Some v) h = ap (λ w. Some (view w)) h.1 ∙ sym (item_within vs i v.now h.3.0)
 
 option_map-cond : (b : Bool) (v : Value) (o : Option Value) → option_map view (cond b (Some v) o) ≡ cond b (Some (view v)) (option_map view o)
 option_map-cond true v o = refl

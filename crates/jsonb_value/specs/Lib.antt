@@ -18,6 +18,7 @@ pub mod NumberText
 pub mod Order
 pub mod OrderByContent
 pub mod OrderLaws
+pub mod Owned
 pub mod Parts
 pub mod Proper
 pub mod Quoted

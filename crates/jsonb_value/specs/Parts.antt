@@ -1,5 +1,5 @@
 -- What a tree holds, if it is of that kind.
-use Rattle.std.specs.Prelude.{ℕ, suc, ℤ, List, Bool, Some, None, if◌then◌else◌, ⊤}
+use Rattle.std.specs.Prelude.{ℕ, zero, suc, ℤ, List, Bool, Some, None, if◌then◌else◌, ⊤}
 use Rattle.std.specs.declared.option.Option.{Option}
 use Rattle.std.specs.Option.{option_or}
 use Rattle.std.specs.Str.{bytes_eq, str_eq_ignore_ascii_case}
@@ -75,6 +75,22 @@ IsWholeNumber t n = ⊥
 abbrev pub find_member : (List ℕ → Bool) → Members → Option Tree
 find_member test no_members = None
 find_member test (more_members k t ms) = if test k then Some t else find_member test ms
+
+-- the tree of that key
+abbrev pub get_by_name : List ℕ → Tree → Option Tree
+get_by_name name (object ms) = find_member (bytes_eq name) ms
+get_by_name name t = None
+
+-- the item at that place, counted from 0
+abbrev pub item_at : Trees → ℕ → Option Tree
+item_at no_trees index = None
+item_at (more_trees t ts) zero = Some t
+item_at (more_trees t ts) (suc index) = item_at ts index
+
+-- the item of an array at that place
+abbrev pub get_by_index : ℕ → Tree → Option Tree
+get_by_index index (array ts) = item_at ts index
+get_by_index index t = None
 
 -- the tree of that key, or else of the first key that differs from it in case alone
 abbrev pub get_ignore_case : List ℕ → Tree → Option Tree

@@ -1,8 +1,10 @@
 //! JSON values.
 mod access;
+mod convert;
 mod copy;
 mod laws;
 mod order;
+mod owned;
 #[cfg(test)]
 mod tests;
 mod text;

@@ -4,7 +4,7 @@ ghost use Rattle.std.specs.Str.{str_eq_ignore_ascii_case};
 ghost use Rattle.std.specs.Cow.{cow_str_bytes};
 ghost use Rattle.jsonb_value.specs.Order.{rank};
 ghost use Rattle.std.specs.Int.{w64};
-ghost use Rattle.jsonb_value.specs.Parts.{IsWholeNumber, as_null, as_boolean, as_number, as_string, as_array, as_object, as_binary, as_date, as_timestamp, as_timestamp_tz, as_interval, trees_len, find_member, get_ignore_case, key_trees};
+ghost use Rattle.jsonb_value.specs.Parts.{IsWholeNumber, as_null, as_boolean, as_number, as_string, as_array, as_object, as_binary, as_date, as_timestamp, as_timestamp_tz, as_interval, trees_len, find_member, get_by_name, get_by_index, get_ignore_case, key_trees};
 ghost use Rattle.jsonb_value.specs.Tree.{array};
 ghost use Rattle.jsonb_value.specs.View.{view, trees_view, members_view, number_view, mark_view};
 
@@ -243,6 +243,26 @@ impl<'a> Value<'a> {
     {
         match self {
             Value::Interval(interval) => Some(interval),
+            _ => None,
+        }
+    }
+
+    /// In an object the value of the key `name`. Any other value has none.
+    pub fn get_by_name(&self, name: &str) -> Option<&Value<'a>>
+        ensures { option_map (λ v. view v.now) result ≡ get_by_name name.now (view self.now) }
+    {
+        match self {
+            Value::Object(members) => members.get(name),
+            _ => None,
+        }
+    }
+
+    /// In an array the item at the index, counted from 0. Any other value has none.
+    pub fn get_by_index(&self, index: usize) -> Option<&Value<'a>>
+        ensures { option_map (λ v. view v.now) result ≡ get_by_index index (view self.now) }
+    {
+        match self {
+            Value::Array(items) => items.get(index),
             _ => None,
         }
     }

@@ -92,7 +92,7 @@ fn copy_members<'a>(members: &Object<'a>) -> Result<Object<'a>, AllocError>
 }
 
 // The object of pairs whose keys ascend.
-fn build<'a>(pairs: Vec<(String, Value<'a>)>) -> Result<Object<'a>, AllocError>
+pub(super) fn build<'a>(pairs: Vec<(String, Value<'a>)>) -> Result<Object<'a>, AllocError>
     ensures { KeysAscend (members_view pairs.entry.items)
         → IfOk result (λ m. members_view m.entries ≡ members_view pairs.entry.items) }
 {

@@ -73,6 +73,49 @@ fn containers_compare_in_order(rt: HostRuntime) -> Result<(), Fail> {
 }
 
 #[test]
+fn parts_are_found(rt: HostRuntime) -> Result<(), Fail> {
+    let alloc = rt.alloc();
+    let named = object(alloc, &[("b", 1), ("a", 2)])?;
+    assert_eq!(rt; named.get_by_name("a"), Some(&integer(2)));
+    assert_eq!(rt; named.get_by_name("A"), None);
+    assert_eq!(rt; named.get_by_index(0), None);
+    let items = Value::Array(vec![in alloc; integer(1), Value::Null]?);
+    assert_eq!(rt; items.get_by_index(0), Some(&integer(1)));
+    assert_eq!(rt; items.get_by_index(1), Some(&Value::Null));
+    assert_eq!(rt; items.get_by_index(2), None);
+    assert_eq!(rt; items.get_by_name("a"), None);
+    Ok(())
+}
+
+#[test]
+fn values_of_other_types(rt: HostRuntime) {
+    assert_eq!(rt; Value::from(true), Value::Bool(true));
+    assert_eq!(rt; Value::from(-5i64), Value::Number(Number::Int64(-5)));
+    assert_eq!(rt; Value::from(u64::MAX), integer(u64::MAX));
+    assert_eq!(rt; Value::from("a"), Value::String(CowStr::Borrowed("a")));
+}
+
+// A value that was made of a text which is gone by the time that it is answered.
+fn kept(alloc: Global) -> Result<Value<'static>, Fail> {
+    let text = String::from_str(alloc, "home")?;
+    let items = vec![in alloc; phone(alloc, text.as_str(), 3720453)?, Value::Bool(true)]?;
+    Ok(Value::Array(items).to_owned_value(alloc)?)
+}
+
+#[test]
+fn owned_values_outlive_their_text(rt: HostRuntime) -> Result<(), Fail> {
+    let alloc = rt.alloc();
+    let items = vec![in alloc; phone(alloc, "home", 3720453)?, Value::Bool(true)]?;
+    assert_eq!(rt; kept(alloc)?, Value::Array(items));
+    for value in &[Value::Null, integer(1), Value::String(CowStr::Borrowed(""))] {
+        assert_eq!(rt; value.to_owned_value(alloc)?, *value);
+    }
+    let bytes = Value::Array(vec![in alloc; Value::Null, Value::Binary(b"a")]?);
+    assert_eq!(rt; bytes.to_owned_value(alloc), Err(Error::UnexpectedType));
+    Ok(())
+}
+
+#[test]
 fn names_are_found_without_case(rt: HostRuntime) -> Result<(), Fail> {
     let value = object(rt.alloc(), &[("AB", 1), ("aB", 2)])?;
     let found = [

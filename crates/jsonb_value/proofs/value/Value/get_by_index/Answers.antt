@@ -1,0 +1,12 @@
+use Rattle.std.proofs.Common.{option_map, sym, subst, ap, ◌∙◌}
+use Rattle.std.specs.Slice.{IsItemAt}
+use Rattle.jsonb_value.specs.Parts.{get_by_index}
+use Rattle.jsonb_value.specs.View.{view}
+use Rattle.jsonb_value.proofs.Parts.{view-Array, item_lent}
+use Rattle.jsonb_value.proofs.value.Value.get_by_index.Goals as goal
+
+pub returns-in-Array : goal.returns-in-Array
+returns-in-Array c =
+    let items = c.in-Array.items in
+    item_lent items.items c.args.index c.get.result (subst (λ vs. IsItemAt vs c.args.index c.get.result) c.deref.ensures.value c.get.ensures.lookup)
+    ∙ sym (ap (get_by_index c.args.index) (ap view c.in-Array.is ∙ view-Array items))
