@@ -19,6 +19,7 @@ pub mod HexadecimalReading
 pub mod HexadecimalTexts
 pub mod HexadecimalValues
 pub mod Laid
+pub mod Lines
 pub mod Longer
 pub mod Markers
 pub mod ByteMasks

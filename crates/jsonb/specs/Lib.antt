@@ -1,6 +1,7 @@
 pub mod AstView
 pub mod Decoding
 pub mod Direct
+pub mod Line
 pub mod OpenPlaces
 pub mod Parser
 pub mod Placed
@@ -29,6 +30,7 @@ pub use Rattle.jsonb_value.specs.Mode
 pub use Rattle.jsonb_value.specs.NumberText
 pub use Rattle.jsonb_value.specs.Order
 pub use Rattle.jsonb_value.specs.OrderByContent
+pub use Rattle.jsonb_value.specs.Owned
 pub use Rattle.jsonb_value.specs.Parts
 pub use Rattle.jsonb_value.specs.Proper
 pub use Rattle.jsonb_value.specs.Quoted
