@@ -6,7 +6,6 @@ ghost use Rattle.jsonb.specs.View.{view};
 
 use jsonb::{Decimal64, Number, Object, Result, Value};
 use std::alloc::Global;
-use std::borrow::CowStr;
 
 /// The array of two numbers.
 pub fn pair<'a>(alloc: Global, left: u64, right: u64) -> Result<Value<'a>>
@@ -15,8 +14,8 @@ pub fn pair<'a>(alloc: Global, left: u64, right: u64) -> Result<Value<'a>>
         ∷ number (record { form = uint64; scale = 0; whole = pos right }) ∷ []))) }
 {
     let mut items = Vec::with_capacity(alloc, 2)?;
-    items.push(Value::Number(Number::UInt64(left)))?;
-    items.push(Value::Number(Number::UInt64(right)))?;
+    items.push(Value::from(left))?;
+    items.push(Value::from(right))?;
     Ok(Value::Array(items))
 }
 
@@ -30,6 +29,6 @@ pub fn item<'a>(alloc: Global, name: &'a str, cents: i64) -> Result<Value<'a>> {
     let price_key = String::from_str(alloc, "price")?;
     drop(members.insert(price_key, Value::Number(price))?);
     let name_key = String::from_str(alloc, "name")?;
-    drop(members.insert(name_key, Value::String(CowStr::Borrowed(name)))?);
+    drop(members.insert(name_key, Value::from(name))?);
     Ok(Value::Object(members))
 }

@@ -1,8 +1,23 @@
-//! Keeping values beside the texts that they were read from.
+//! Keeping values, beside the texts that they were read from or without them.
+
+ghost use Rattle.std.specs.Prelude.{◌≡◌, IfOk};
+ghost use Rattle.jsonb.specs.Grammar.{IsDocument};
+ghost use Rattle.jsonb.specs.Mode.{extended};
+ghost use Rattle.jsonb.specs.Owned.{owned};
+ghost use Rattle.jsonb.specs.Tree.{Tree};
+ghost use Rattle.jsonb.specs.View.{view};
 
 use jsonb::{Result, Value};
 use std::alloc::Global;
 use std::collections::BTreeMap;
+
+/// The value of a text that may be let go: its strings are its own.
+pub fn read_owned<'a>(alloc: Global, text: &[u8]) -> Result<Value<'a>>
+    ensures { IfOk result (λ v. (t : Tree) × IsDocument extended text.now t × (view v ≡ owned t)) }
+{
+    let value = jsonb::parse_value(alloc, text)?;
+    value.to_owned_value(alloc)
+}
 
 /// Values by name. Each may borrow from a text that lives as long as `'a`.
 pub type Index<'a> = BTreeMap<String, Value<'a>>;

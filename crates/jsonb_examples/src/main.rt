@@ -8,7 +8,7 @@ mod reading;
 mod walking;
 mod writing;
 
-use jsonb::{Mode, Result, Value};
+use jsonb::{Error, Mode, Result, Value};
 use std::alloc::Global;
 
 const SETTINGS: &[u8] = b"{name: 'web', /* the usual one */ port: 8080, hosts: ['a', \"b\"]}";
@@ -38,6 +38,11 @@ fn show_reading(rt: &impl Print, alloc: Global) -> Result<()> {
                 println!(rt; "{told}")?;
             }
         }
+    }
+    let lines = b"{\n  \"a\": [1,]\n}";
+    if let Err(Error::Syntax(code, position)) = reading::read(alloc, Mode::Standard, lines) {
+        let (line, column) = reading::place_of(lines, &code, position);
+        println!(rt; "line {line}, column {column}: {code}")?;
     }
     let is_standard = reading::is_standard(alloc, SETTINGS)?;
     println!(rt; "{is_standard}")?;
@@ -83,7 +88,7 @@ fn show_keeping(rt: &impl Print, alloc: Global) -> Result<()> {
         Some(name) => println!(rt; "{name}")?,
         None => println!(rt; "no name")?,
     }
-    Ok(())
+    show(rt, alloc, &keeping::read_owned(alloc, b"['a', {b: 'c'}]")?)
 }
 
 // Prints the value's text on a line of its own.

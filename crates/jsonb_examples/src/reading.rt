@@ -49,3 +49,16 @@ pub fn told(alloc: Global, refusal: &Error) -> Result<String> {
     };
     Ok(text)
 }
+
+/// The line and the column of the byte or the place that a refusal of the text names.
+pub fn place_of(text: &[u8], code: &ParseErrorCode, position: usize) -> (usize, usize) {
+    let index = match code {
+        ParseErrorCode::ExpectedSomeValue
+        | ParseErrorCode::ExpectedSomeIdent
+        | ParseErrorCode::UnexpectedTrailingCharacters
+        | ParseErrorCode::ObjectKeyInvalidNumber
+        | ParseErrorCode::DepthLimitExceeded => position.saturating_sub(1),
+        _ => position,
+    };
+    jsonb::line_and_column(text, index)
+}

@@ -5,7 +5,7 @@ use std::alloc::Global;
 
 /// The port in settings such as `{"port":8080}`, if there is one.
 pub fn port(settings: &Value) -> Option<u16> {
-    let number = settings.as_object()?.get("port")?.as_u64()?;
+    let number = settings.get_by_name("port")?.as_u64()?;
     u16::try_from(number).ok()
 }
 
