@@ -1,0 +1,3 @@
+pub mod Encoded
+pub mod Frames
+pub mod Lines

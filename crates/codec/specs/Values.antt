@@ -1,0 +1,73 @@
+-- Values in frames.
+use Rattle.std.specs.Prelude.{◌≡◌, ◌≢◌, ◌⊎◌, ℕ, ◌<◌, ◌≤◌, ◌^◌, List, [], ◌∷◌, ◌++◌, length, map, Some, None, Vec}
+use Rattle.std.specs.declared.alloc.Global.{Global}
+use Rattle.jsonb.specs.Grammar.{IsDocument}
+use Rattle.jsonb.specs.Mode.{extended}
+use Rattle.jsonb.specs.Parser.{Fails}
+use Rattle.jsonb.specs.Reading.Document.{document_of}
+use Rattle.jsonb.specs.Tree.{Tree}
+use Rattle.jsonb_value.specs.Order.{Same}
+use Rattle.jsonb_value.specs.Text.{text_of}
+use Rattle.jsonb_value.specs.declared.error.Error.TheVariants as error
+use Rattle.codec.specs.Frame.{frame_of, BeginsWith}
+use Rattle.codec.specs.declared.values.Refusal.{Refusal}
+use Rattle.codec.specs.declared.values.Refusal.TheVariants.{TooLong, CutShort, Refused}
+
+-- The bytes begin with the frame of a text that is a document of the tree, and the rest follows the frame.
+pub record IsFrame (bytes : List ℕ) (t : Tree) (rest : List ℕ) : Type 0 where
+  pub text : List ℕ
+  pub begins : BeginsWith bytes text rest
+  pub document : IsDocument extended text t
+
+-- new is old with the frame of the tree's text at its end
+pub record AppendsFrame (t : Tree) (old new : List ℕ) : Type 0 where
+  pub text : List ℕ
+  pub is_text : text_of t ≡ Some text
+  pub fits : length text < 2 ^ 32
+  pub appended : new ≡ old ++ frame_of text
+
+-- The bytes begin with the frame of a tree that is the same as t and has the same text, and the rest follows the frame.
+pub record DecodesAs (bytes : List ℕ) (t : Tree) (rest : List ℕ) : Type 0 where
+  pub tree : Tree
+  pub frame : IsFrame bytes tree rest
+  pub same : Same tree t
+  pub text : text_of tree ≡ text_of t
+
+-- The text is too long for a frame, or there is no text, or memory ran out.
+abbrev pub EncodeRefuses : Tree → Refusal → Type 0
+EncodeRefuses t TooLong = (text : List ℕ) × (text_of t ≡ Some text) × (2 ^ 32 ≤ length text)
+EncodeRefuses t CutShort = ⊥
+EncodeRefuses t (Refused e) = ((e ≡ error.UnexpectedType) × (text_of t ≡ None)) ⊎ (e ≡ error.OutOfMemory)
+
+-- The bytes begin with no frame, or with the frame of a text that is no document, or memory ran out. The fault of the text is as reading tells it.
+abbrev pub DecodeRefuses : List ℕ → Refusal → Type 0
+DecodeRefuses bytes TooLong = ⊥
+DecodeRefuses bytes CutShort = (text rest : List ℕ) → BeginsWith bytes text rest → ⊥
+DecodeRefuses bytes (Refused e) =
+    (text : List ℕ) × (rest : List ℕ) × BeginsWith bytes text rest × (e ≢ error.OutOfMemory → (t : Tree) → IsDocument extended text t → ⊥) × Fails e (document_of extended text)
+
+-- the bytes of each line
+abbrev pub contents : List (Vec ℕ Global) → List (List ℕ)
+contents lines = map (λ line. line.items) lines
+
+-- Each line is a document, and the bytes are frames of the same trees with the same texts, one after the other.
+pub data AreEncoded : List (List ℕ) → List ℕ → Type 0 where
+  no_lines : AreEncoded [] []
+  more_lines : {line bytes rest : List ℕ} {t : Tree} {lines : List (List ℕ)} → IsDocument extended line t → DecodesAs bytes t rest → AreEncoded lines rest → AreEncoded (line ∷ lines) bytes
+
+-- new is old with the tree's text and a line feed at its end
+pub record AppendsLine (t : Tree) (old new : List ℕ) : Type 0 where
+  pub text : List ℕ
+  pub is_text : text_of t ≡ Some text
+  pub appended : new ≡ old ++ (text ++ 10 ∷ [])
+
+-- The bytes begin with a frame that the rest follows, and new is old with the line of the frame's tree at its end.
+pub record DecodesLine (bytes rest old new : List ℕ) : Type 0 where
+  pub tree : Tree
+  pub frame : IsFrame bytes tree rest
+  pub line : AppendsLine tree old new
+
+-- The bytes are frames, and the text has a line for each: the text of its tree and a line feed.
+pub data AreDecoded : List ℕ → List ℕ → Type 0 where
+  no_frames : AreDecoded [] []
+  more_frames : {bytes rest line others : List ℕ} → DecodesLine bytes rest [] line → AreDecoded rest others → AreDecoded bytes (line ++ others)
