@@ -1,0 +1,2 @@
+pub mod KeyEnds
+pub mod Settings

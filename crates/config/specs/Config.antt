@@ -1,0 +1,108 @@
+-- The settings that a tree gives.
+use Rattle.std.specs.Prelude.{◌≡◌, ◌≢◌, ◌⊎◌, ℕ, ◌<◌, ◌^◌, List, take, Bool, false, Option, Some, None, codes, string_bytes, pos, ⊤}
+use Rattle.std.specs.Str.{bytes_eq}
+use Rattle.jsonb.specs.Grammar.{IsDocument}
+use Rattle.jsonb.specs.Mode.{extended}
+use Rattle.jsonb.specs.Parser.{Fails}
+use Rattle.jsonb.specs.Parts.{as_boolean, as_object, as_string, find_member, IsWholeNumber}
+use Rattle.jsonb.specs.Placed.{IsPlaced}
+use Rattle.jsonb.specs.Reading.Document.{document_of}
+use Rattle.jsonb.specs.Source.{object_source, SourceMembers, no_source_members, more_source_members}
+use Rattle.jsonb.specs.Tree.{Mark, Tree, Members}
+use Rattle.jsonb_value.specs.declared.error.Error.{Error}
+use Rattle.jsonb_value.specs.declared.error.Error.TheVariants as error
+use Rattle.config.specs.Place.{place_after}
+use Rattle.config.specs.declared.config.Config.{Config}
+use Rattle.config.specs.declared.config.Setting.{Setting}
+use Rattle.config.specs.declared.config.Setting.TheVariants.{Host, Port, Workers, Verbose}
+use Rattle.config.specs.declared.config.Fault.{Fault}
+use Rattle.config.specs.declared.config.Fault.TheVariants as fault
+use Rattle.config.specs.declared.config.Refusal.{Refusal}
+use Rattle.config.specs.declared.config.Refusal.TheVariants as refusal
+
+-- the key of a setting
+abbrev pub key_of : Setting → List ℕ
+key_of Host = codes "host"
+key_of Port = codes "port"
+key_of Workers = codes "workers"
+key_of Verbose = codes "verbose"
+
+-- the tree at the setting's key
+abbrev pub setting_of : Setting → Members → Option Tree
+setting_of setting ms = find_member (bytes_eq (key_of setting)) ms
+
+-- the bytes of the text, `localhost` where there is none
+abbrev pub IsHost : Option Tree → List ℕ → Type 0
+IsHost None host = host ≡ codes "localhost"
+IsHost (Some t) host = (mark : Mark) × (as_string t ≡ Some (mark, host))
+
+-- the whole number below 2^16, 8080 where there is none
+abbrev pub IsPort : Option Tree → ℕ → Type 0
+IsPort None port = port ≡ 8080
+IsPort (Some t) port = IsWholeNumber t (pos port) × (port < 2 ^ 16)
+
+-- the whole number below 2^64, 4 where there is none
+abbrev pub IsWorkers : Option Tree → ℕ → Type 0
+IsWorkers None workers = workers ≡ 4
+IsWorkers (Some t) workers = IsWholeNumber t (pos workers) × (workers < 2 ^ 64)
+
+-- the truth value, false where there is none
+abbrev pub IsVerbose : Option Tree → Bool → Type 0
+IsVerbose None verbose = verbose ≡ false
+IsVerbose (Some t) verbose = as_boolean t ≡ Some verbose
+
+-- the settings of an object with these members
+pub record IsConfig (ms : Members) (c : Config) : Type 0 where
+  pub host : IsHost (setting_of Host ms) (string_bytes c.host)
+  pub port : IsPort (setting_of Port ms) c.port
+  pub workers : IsWorkers (setting_of Workers ms) c.workers
+  pub verbose : IsVerbose (setting_of Verbose ms) c.verbose
+
+-- the tree is an object, and these are its settings
+abbrev pub IsConfigOf : Tree → Config → Type 0
+IsConfigOf t c = (ms : Members) × (as_object t ≡ Some ms) × IsConfig ms c
+
+-- what stands at the setting's key, or nothing, gives no such setting
+abbrev pub IsWrong : Setting → Option Tree → Type 0
+IsWrong Host t = (host : List ℕ) → IsHost t host → ⊥
+IsWrong Port t = (port : ℕ) → IsPort t port → ⊥
+IsWrong Workers t = (workers : ℕ) → IsWorkers t workers → ⊥
+IsWrong Verbose t = (verbose : Bool) → IsVerbose t verbose → ⊥
+
+-- a setting of the members is wrong, or memory ran out
+abbrev pub IsFaultOf : Members → Fault → Type 0
+IsFaultOf ms (fault.Wrong setting) = IsWrong setting (setting_of setting ms)
+IsFaultOf ms fault.NoMemory = ⊤
+
+-- the position of a fault of the text
+abbrev pub fault_position : Error → ℕ
+fault_position (error.Syntax code position) = position
+fault_position other = 0
+
+-- one of the members has this key, whose spelling ends at the index
+abbrev pub HasKeyEnd : SourceMembers → List ℕ → ℕ → Type 0
+HasKeyEnd no_source_members key index = ⊥
+HasKeyEnd (more_source_members mark k s i ms) key index = ((k ≡ key) × (i ≡ index)) ⊎ HasKeyEnd ms key index
+
+-- The text stands for an object with the setting's key, whose spelling ends at this line and column.
+pub record EndsKey (text : List ℕ) (setting : Setting) (line column : ℕ) : Type 0 where
+  pub members : SourceMembers
+  pub placed : IsPlaced extended text (object_source members)
+  pub index : ℕ
+  pub ends : HasKeyEnd members (key_of setting) index
+  pub place : (line, column) ≡ place_after (take index text)
+
+-- The refusal names the setting and where its key ends, or memory ran out.
+abbrev pub NamesPlace : List ℕ → Setting → Refusal → Type 0
+NamesPlace text setting (refusal.Wrong wrong line column) = (wrong ≡ setting) × EndsKey text setting line column
+NamesPlace text setting refusal.NoMemory = ⊤
+NamesPlace text setting other = ⊥
+
+-- The text is no document, or one of no object, or a setting of its object is wrong, or memory ran out.
+abbrev pub Refuses : List ℕ → Refusal → Type 0
+Refuses text (refusal.NoDocument e line column) =
+    (e ≢ error.OutOfMemory → (t : Tree) → IsDocument extended text t → ⊥) × Fails e (document_of extended text) × ((line, column) ≡ place_after (take (fault_position e) text))
+Refuses text refusal.NoObject = (t : Tree) × IsDocument extended text t × (as_object t ≡ None)
+Refuses text (refusal.Wrong setting line column) =
+    (t : Tree) × IsDocument extended text t × (ms : Members) × (as_object t ≡ Some ms) × IsWrong setting (setting_of setting ms) × EndsKey text setting line column
+Refuses text refusal.NoMemory = ⊤

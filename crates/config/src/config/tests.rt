@@ -1,0 +1,60 @@
+use super::*;
+use std::process::Abort;
+use std::test::Fail;
+
+// Compares the settings, or what is printed of the refusal.
+fn expect(rt: &(impl AllocGlobal + Abort), text: &str, told: &str) -> Result<(), AllocError> {
+    let got = match read_config(rt.alloc(), text.as_bytes()) {
+        Ok(config) => {
+            let host = config.host.as_str();
+            let port = config.port;
+            let workers = config.workers;
+            let verbose = config.verbose;
+            format!(in rt.alloc(); "{host} {port} {workers} {verbose}")?
+        }
+        Err(refusal) => format!(in rt.alloc(); "{refusal}")?,
+    };
+    assert_eq!(rt; got.as_str(), told, "settings of {text:?}");
+    Ok(())
+}
+
+#[test]
+fn missing_settings_have_their_defaults(rt: HostRuntime) -> Result<(), Fail> {
+    for (text, told) in [
+        ("{}", "localhost 8080 4 false"),
+        ("{port: 0x50, host: 'a.example'}", "a.example 80 4 false"),
+        (
+            "{verbose: true, workers: 16.0, other: []}",
+            "localhost 8080 16 true",
+        ),
+        ("{port: 65535}", "localhost 65535 4 false"),
+    ] {
+        expect(&rt, text, told)?;
+    }
+    Ok(())
+}
+
+#[test]
+fn refusals_name_the_place_and_the_key(rt: HostRuntime) -> Result<(), Fail> {
+    for (text, told) in [
+        (
+            "{\n  host: 'a',\n  port: 65536\n}",
+            "line 3, column 7: wrong value of port",
+        ),
+        ("{port: -1}", "line 1, column 6: wrong value of port"),
+        (
+            "{\n'workers': 1.5}",
+            "line 2, column 10: wrong value of workers",
+        ),
+        ("{verbose: 1}", "line 1, column 9: wrong value of verbose"),
+        (
+            "// a\n\n{host: null}",
+            "line 3, column 6: wrong value of host",
+        ),
+        ("[]", "no object"),
+        ("{\n\n  a 1}", "line 3, column 5: expected `:`, pos 7"),
+    ] {
+        expect(&rt, text, told)?;
+    }
+    Ok(())
+}
