@@ -32,6 +32,7 @@ impl<'a> Value<'a> {
     }
 }
 
+// The copy, or a refusal.
 #[cycle(own)]
 fn own<'a, 'b>(alloc: Global, value: &Value<'a>) -> Result<Value<'b>>
     ensures ok { IfOk result (λ v. view v ≡ owned (view value.now)) }
@@ -55,6 +56,7 @@ fn own<'a, 'b>(alloc: Global, value: &Value<'a>) -> Result<Value<'b>>
     }
 }
 
+// A copy of a string's text.
 fn own_text<'a, 'b>(alloc: Global, text: &CowStr<'a>) -> std::result::Result<CowStr<'b>, AllocError>
     ensures bytes { IfOk result (λ t. cow_str_bytes t ≡ cow_str_bytes text.now) }
     ensures mark { IfOk result (λ t. mark_view t ≡ escaped) }
@@ -62,6 +64,7 @@ fn own_text<'a, 'b>(alloc: Global, text: &CowStr<'a>) -> std::result::Result<Cow
     Ok(CowStr::Owned(String::from_str(alloc, text.as_str())?))
 }
 
+// The copies of an array's items.
 #[cycle(own)]
 fn own_items<'a, 'b>(alloc: Global, items: &Vec<Value<'a>>) -> Result<Vec<Value<'b>>>
     ensures ok { IfOk result (λ v. trees_view v.items ≡ owned_items (trees_view items.now.items)) }
@@ -77,6 +80,7 @@ fn own_items<'a, 'b>(alloc: Global, items: &Vec<Value<'a>>) -> Result<Vec<Value<
     Ok(copies)
 }
 
+// The copies of an object's members.
 #[cycle(own)]
 fn own_members<'a, 'b>(alloc: Global, members: &Object<'a>) -> Result<Object<'b>>
     ensures ok { IfOk result (λ m. members_view m.entries ≡ owned_members (members_view members.now.entries)) }

@@ -1,4 +1,4 @@
-use Rattle.std.proofs.Common.{option_map, sym, subst, ap, ◌∙◌}
+use Rattle.std.proofs.Common.{sym, subst, ap, ◌∙◌}
 use Rattle.std.specs.Slice.{IsItemAt}
 use Rattle.jsonb_value.specs.Parts.{get_by_index}
 use Rattle.jsonb_value.specs.View.{view}
