@@ -1,5 +1,5 @@
 //! Positions in a text as lines and columns.
-ghost use Rattle.std.specs.Prelude.{◌≡◌, ◌≤◌, length, not, take};
+ghost use Rattle.std.specs.Prelude.{◌≡◌, ◌≤◌, length, not};
 ghost use Rattle.std.specs.List.{count_by, suffix_len};
 ghost use Rattle.jsonb.specs.Line.{is_line_feed, line_at, column_at};
 
