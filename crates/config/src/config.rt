@@ -194,7 +194,8 @@ fn value_of<'v, 'a>(members: &'v Object<'a>, setting: Setting) -> Option<&'v Val
 fn host_of(alloc: Global, value: Option<&Value>) -> Result<Option<String>, AllocError>
     ensures some { IfOk result (λ found. IfSome found (λ host. IsHost (option_map (λ v. view v.now) value.entry)
         (string_bytes host))) }
-    ensures none { IfOk result (λ found. IfNone found (IsWrong Setting.Host (option_map (λ v. view v.now) value.entry))) }
+    ensures none { IfOk result (λ found. IfNone found (IsWrong Setting.Host
+        (option_map (λ v. view v.now) value.entry))) }
 {
     let Some(value) = value else {
         return Ok(Some(String::from_str(alloc, "localhost")?));

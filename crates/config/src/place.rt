@@ -3,8 +3,8 @@
 ghost use Rattle.std.specs.Prelude.{◌≡◌, take};
 ghost use Rattle.config.specs.Place.{place_after};
 
-/// The line and the column of the byte at the position. Lines are counted from 1 by the line feeds before it, and columns
-/// in bytes from 1. A position past the end is taken for the end.
+/// The line and the column of the byte at the position. Lines are counted from 1 by the line feeds before it, and
+/// columns in bytes from 1. A position past the end is taken for the end.
 pub fn line_and_column(text: &[u8], position: usize) -> (usize, usize)
     ensures place { result ≡ place_after (take position text.now) }
 {
