@@ -191,6 +191,7 @@ fn value_of<'v, 'a>(members: &'v Object<'a>, setting: Setting) -> Option<&'v Val
     members.get(setting.key())
 }
 
+// The text of the host. `Ok(None)` where the value is no text.
 fn host_of(alloc: Global, value: Option<&Value>) -> Result<Option<String>, AllocError>
     ensures some { IfOk result (λ found. IfSome found (λ host. IsHost (option_map (λ v. view v.now) value.entry)
         (string_bytes host))) }
@@ -206,6 +207,7 @@ fn host_of(alloc: Global, value: Option<&Value>) -> Result<Option<String>, Alloc
     Ok(Some(String::from_str(alloc, text.as_str())?))
 }
 
+// The number of the port. `None` where the value is no such number.
 fn port_of(value: Option<&Value>) -> Option<u16>
     ensures some { IfSome result (IsPort (option_map (λ v. view v.now) value.entry)) }
     ensures none { IfNone result (IsWrong Setting.Port (option_map (λ v. view v.now) value.entry)) }
@@ -216,6 +218,7 @@ fn port_of(value: Option<&Value>) -> Option<u16>
     u16::try_from(value.as_u64()?).ok()
 }
 
+// The number of workers. `None` where the value is no such number.
 fn workers_of(value: Option<&Value>) -> Option<u64>
     ensures some { IfSome result (IsWorkers (option_map (λ v. view v.now) value.entry)) }
     ensures none { IfNone result (IsWrong Setting.Workers (option_map (λ v. view v.now) value.entry)) }
@@ -226,6 +229,7 @@ fn workers_of(value: Option<&Value>) -> Option<u64>
     value.as_u64()
 }
 
+// Whether more is told. `None` where the value is no truth value.
 fn verbose_of(value: Option<&Value>) -> Option<bool>
     ensures some { IfSome result (IsVerbose (option_map (λ v. view v.now) value.entry)) }
     ensures none { IfNone result (IsWrong Setting.Verbose (option_map (λ v. view v.now) value.entry)) }
