@@ -4,7 +4,7 @@ use Rattle.std.proofs.lemmas.List.{append_cancel_left}
 use Rattle.jsonb.specs.Grammar.{IsDocument}
 use Rattle.jsonb.specs.Mode.{extended}
 use Rattle.jsonb.specs.Tree.{Tree}
-use Rattle.jsonb_value.specs.ReadsBack.{ReadsBackAs}
+use Rattle.jsonb_value.specs.Text.ReadsBack.{ReadsBackAs}
 use Rattle.jsonb_value.specs.Text.{text_of}
 use Rattle.codec.specs.Frame.{frame_of}
 use Rattle.codec.specs.Values.{AppendsFrame, DecodesAs}

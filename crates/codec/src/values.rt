@@ -3,7 +3,7 @@
 ghost use Rattle.std.specs.Prelude.{◌≡◌, ◌≢◌, ◌++◌, ℕ, List, OnOk, OnErr, IfOk, IfErr};
 ghost use Rattle.jsonb.specs.Tree.{Tree};
 ghost use Rattle.jsonb.specs.View.{view};
-ghost use Rattle.jsonb_value.specs.Range.{IsInRange};
+ghost use Rattle.jsonb_value.specs.Text.Range.{IsInRange};
 ghost use Rattle.codec.specs.Values.{contents, IsFrame, AppendsFrame, DecodesAs, AreEncoded, AppendsLine, DecodesLine, AreDecoded, EncodeRefuses, DecodeRefuses};
 
 use crate::frame::{SIZE_LEN, close_frame, split_frame};

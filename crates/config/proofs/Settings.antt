@@ -3,7 +3,7 @@ use Rattle.std.proofs.Common.{◌≡◌, ◌↔◌, ℕ, ◌<◌, ◌≤◌, ◌
 use Rattle.std.specs.Str.{bytes_eq}
 use Rattle.jsonb.specs.Parts.{find_member, IsWholeNumber}
 use Rattle.jsonb.specs.View.{view, members_view}
-use Rattle.jsonb_value.proofs.Members.{Entry}
+use Rattle.jsonb_value.proofs.Values.Members.{Entry}
 use Rattle.jsonb_value.specs.declared.value.Value.{Value}
 use Rattle.config.specs.Config.{key_of, setting_of, IsPort, IsWorkers}
 use Rattle.config.specs.declared.config.Setting.{Setting}

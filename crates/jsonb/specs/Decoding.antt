@@ -3,8 +3,8 @@ use Rattle.std.specs.Prelude.{◌≡◌, ◌≢◌, ℕ, ◌+◌, ◌≤◌, ◌
 use Rattle.std.specs.List.{flat_map, AllByRecursion}
 use Rattle.jsonb_value.specs.Mode.{Mode}
 use Rattle.jsonb_value.specs.Code.{Code}
-use Rattle.jsonb_value.specs.StringBody.{Item, after_u, spelling, IsItem, IsHexDigit, unit_value, meaning}
-use Rattle.jsonb_value.specs.StringFault.{BadUnit, IsCutShort}
+use Rattle.jsonb_value.specs.Grammar.StringBody.{Item, after_u, spelling, IsItem, IsHexDigit, unit_value, meaning}
+use Rattle.jsonb_value.specs.Grammar.StringFault.{BadUnit, IsCutShort}
 
 -- what follows `\u` is four bytes, in braces or not, and then the rest
 pub record SplitsUnit (bytes digits rest : List ℕ) : Type 0 where

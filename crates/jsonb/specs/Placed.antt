@@ -3,9 +3,9 @@ use Rattle.std.specs.Prelude.{◌≡◌, ℕ, ◌+◌, List, [], ◌∷◌, ◌+
 use Rattle.std.specs.Ordering.{nat_cmp}
 use Rattle.std.specs.Cmp.Lexicographic.{slice_cmp}
 use Rattle.std.specs.declared.cmp.Ordering.TheVariants.{Less}
-use Rattle.jsonb_value.specs.Blanks.{AreLastBlanks, IsBlanks}
+use Rattle.jsonb_value.specs.Grammar.Blanks.{AreLastBlanks, IsBlanks}
 use Rattle.jsonb_value.specs.Mode.{Mode, extended}
-use Rattle.jsonb_value.specs.Scalar.{IsKey, IsScalar}
+use Rattle.jsonb_value.specs.Grammar.Scalar.{IsKey, IsScalar}
 use Rattle.jsonb_value.specs.Tree.{Mark, Tree, boolean, string, number}
 use Rattle.jsonb.specs.Source.{Source, null_source, boolean_source, string_source, number_source, array_source, object_source, sources_of, SourceMembers, no_source_members, more_source_members}
 

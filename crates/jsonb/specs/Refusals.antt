@@ -5,15 +5,15 @@ use Rattle.std.specs.Ordering.{nat_cmp, is_eq}
 use Rattle.std.specs.Cmp.Lexicographic.{slice_cmp}
 use Rattle.jsonb_value.specs.declared.error.Error.{Error}
 use Rattle.jsonb_value.specs.declared.error.Error.TheVariants.{Syntax}
-use Rattle.jsonb_value.specs.Blanks.{IsBlank, IsBlanks}
+use Rattle.jsonb_value.specs.Grammar.Blanks.{IsBlank, IsBlanks}
 use Rattle.jsonb_value.specs.Code.{Code, code_of}
 use Rattle.jsonb_value.specs.Code.Code.{depth_limit_exceeded, expected_some_value, number_not_carried, object_duplicate_key, unexpected_trailing_characters}
 use Rattle.jsonb_value.specs.Grammar.{Derives, IsDocument, IsElement, IsJoined, IsMember, IsPadded, max_depth}
 use Rattle.jsonb_value.specs.Mode.{Mode}
 use Rattle.jsonb_value.specs.Mode.Mode.{extended, standard}
-use Rattle.jsonb_value.specs.Scalar.{IsKey, IsUncarried}
-use Rattle.jsonb_value.specs.ExtendedNumber.{IsExtendedText}
-use Rattle.jsonb_value.specs.StandardNumber.{IsNumberText}
+use Rattle.jsonb_value.specs.Grammar.Scalar.{IsKey, IsUncarried}
+use Rattle.jsonb_value.specs.Grammar.ExtendedNumber.{IsExtendedText}
+use Rattle.jsonb_value.specs.Grammar.StandardNumber.{IsNumberText}
 use Rattle.jsonb_value.specs.Tree.{Mark, Member, Tree}
 
 -- a text of a number, carried or not

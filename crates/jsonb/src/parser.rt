@@ -6,7 +6,7 @@ ghost use Rattle.jsonb_value.specs.Grammar.{IsDocument, max_depth};
 ghost use Rattle.jsonb_value.specs.Mode.{standard, extended};
 ghost use Rattle.jsonb_value.specs.Order.{Same};
 ghost use Rattle.jsonb_value.specs.Proper.{IsProper};
-ghost use Rattle.jsonb_value.specs.Range.{IsInRange, IsIntegerRange};
+ghost use Rattle.jsonb_value.specs.Text.Range.{IsInRange, IsIntegerRange};
 ghost use Rattle.jsonb_value.specs.Tree.{Tree};
 ghost use Rattle.jsonb_value.specs.View.{view};
 ghost use Rattle.jsonb.specs.AstView.{ast_view};

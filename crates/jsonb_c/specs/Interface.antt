@@ -10,7 +10,7 @@ use Rattle.jsonb_value.specs.Code.Code.{control_character_while_parsing_string, 
 use Rattle.jsonb_value.specs.Grammar.{IsDocument}
 use Rattle.jsonb_value.specs.Mode.{Mode, standard, extended}
 use Rattle.jsonb_value.specs.Order.{tree_cmp}
-use Rattle.jsonb_value.specs.ReadsBack.{ReadsBackAs}
+use Rattle.jsonb_value.specs.Text.ReadsBack.{ReadsBackAs}
 use Rattle.jsonb_value.specs.Text.{text_of}
 use Rattle.jsonb_value.specs.Tree.{Tree}
 use Rattle.jsonb.specs.Reading.Document.{document_of}

@@ -1,9 +1,18 @@
 -- The texts of values and documents, and what they stand for (RFC 8259, sections 2, 4 and 5, for the standard ones).
+pub mod BareKey
+pub mod Blanks
+pub mod ExtendedNumber
+pub mod Quoted
+pub mod Scalar
+pub mod StandardNumber
+pub mod StringBody
+pub mod StringFault
+pub mod StringStep
 use Rattle.std.specs.Prelude.{◌≡◌, ◌≢◌, ℕ, zero, suc, List, [], ◌∷◌, ◌++◌, map}
 use Rattle.jsonb_value.specs.Mode.{Mode, extended}
 use Rattle.jsonb_value.specs.Tree.{Mark, Tree, null, array, object, no_members, trees_of, Member, put_all}
-use Rattle.jsonb_value.specs.Blanks.{IsBlanks, AreLastBlanks}
-use Rattle.jsonb_value.specs.Scalar.{IsScalar, IsKey}
+use Rattle.jsonb_value.specs.Grammar.Blanks.{IsBlanks, AreLastBlanks}
+use Rattle.jsonb_value.specs.Grammar.Scalar.{IsScalar, IsKey}
 
 -- `Spells bytes a` says that the bytes spell a. Blanks may stand before and after what is padded.
 pub data IsPadded {A : Type 0} (mode : Mode) (Spells : List ℕ → A → Type 0) : List ℕ → A → Type 0 where

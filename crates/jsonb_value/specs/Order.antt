@@ -1,4 +1,7 @@
 -- The order of numbers and of trees: `Less` is below, `Equal` is the same. Marks and a number's form do not count.
+pub mod ByContent
+pub mod Laws
+pub mod NumberLaws
 use Rattle.std.specs.Prelude.{◌≡◌, ◌⊎◌, ℕ, ◌^◌, ℤ, pos, ◌*ℤ◌, List}
 use Rattle.std.specs.Ordering.{nat_cmp, int_cmp, bool_cmp, ordering_then}
 use Rattle.std.specs.declared.cmp.Ordering.{Ordering}

@@ -3,7 +3,7 @@ use Rattle.std.specs.Prelude.{ℕ, zero, suc, ℤ, List, Bool, Some, None, if◌
 use Rattle.std.specs.declared.option.Option.{Option}
 use Rattle.std.specs.Option.{option_or}
 use Rattle.std.specs.Str.{bytes_eq, str_eq_ignore_ascii_case}
-use Rattle.jsonb_value.specs.Cast.{HasValue}
+use Rattle.jsonb_value.specs.Number.Cast.{HasValue}
 use Rattle.jsonb_value.specs.Tree.{Num, Mark, escaped, Tree, null, boolean, number, string, array, object, binary, date, timestamp, timestamp_tz, interval, Trees, no_trees, more_trees, Members, no_members, more_members}
 
 -- whether it is null

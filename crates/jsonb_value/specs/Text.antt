@@ -1,11 +1,20 @@
 -- The text of a value, as it is written: JSON with no blanks (RFC 8259, sections 2 to 7).
+pub mod Appending
+pub mod BinaryText
+pub mod ExtensionText
+pub mod IntervalText
+pub mod NumberText
+pub mod Range
+pub mod ReadsBack
+pub mod StringText
+pub mod TextParts
 use Rattle.std.specs.Prelude.{◌≡◌, ℕ, Bool, true, false, ◌&&◌, if◌then◌else◌, List, [], ◌∷◌, ◌++◌, codes, Option, Some, None}
 use Rattle.std.specs.List.{flat_map}
 use Rattle.jsonb_value.specs.Tree.{Tree, null, boolean, string, number, array, object, binary, date, timestamp, timestamp_tz, interval, Trees, no_trees, more_trees, Members, no_members, more_members}
-use Rattle.jsonb_value.specs.StringText.{quoted_text}
-use Rattle.jsonb_value.specs.NumberText.{number_text}
-use Rattle.jsonb_value.specs.BinaryText.{binary_text}
-use Rattle.jsonb_value.specs.IntervalText.{interval_text}
+use Rattle.jsonb_value.specs.Text.StringText.{quoted_text}
+use Rattle.jsonb_value.specs.Text.NumberText.{number_text}
+use Rattle.jsonb_value.specs.Text.BinaryText.{binary_text}
+use Rattle.jsonb_value.specs.Text.IntervalText.{interval_text}
 
 abbrev mutual
   -- Dates and times have no text, and what holds one of them, at any depth, has none.

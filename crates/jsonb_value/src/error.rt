@@ -2,7 +2,7 @@
 
 ghost use Rattle.std.specs.Prelude.{◌≡◌, ◌↔◌, IsTrue};
 ghost use Rattle.jsonb_value.specs.Code.{code_of};
-ghost use Rattle.jsonb_value.specs.ErrorView.{error_view};
+ghost use Rattle.jsonb_value.specs.Error.ErrorView.{error_view};
 
 mod copy;
 
@@ -117,7 +117,7 @@ impl From<Utf8Error> for Error {
 impl fmt::Display for ParseErrorCode {
     ghost use Rattle.std.specs.Prelude.{Some};
     ghost use Rattle.jsonb_value.specs.Code.{code_of};
-    ghost use Rattle.jsonb_value.specs.ErrorText.{code_text};
+    ghost use Rattle.jsonb_value.specs.Error.ErrorText.{code_text};
 
     ghost output = { λ code. Some (code_text (code_of code)) };
 
@@ -162,7 +162,7 @@ impl fmt::Display for ParseErrorCode {
 
 impl fmt::Display for Error {
     ghost use Rattle.std.specs.Prelude.{Some};
-    ghost use Rattle.jsonb_value.specs.ErrorText.{error_text};
+    ghost use Rattle.jsonb_value.specs.Error.ErrorText.{error_text};
 
     ghost output = { λ e. Some (error_text e) };
 

@@ -7,7 +7,7 @@ use Rattle.std.specs.List.{dedup}
 use Rattle.std.specs.Ordering.{on, eq_by_cmp}
 use Rattle.jsonb.specs.View.{view}
 use Rattle.jsonb_value.specs.Order.{tree_cmp}
-use Rattle.jsonb_value.specs.OrderLaws.{tree_cmp_total}
+use Rattle.jsonb_value.specs.Order.Laws.{tree_cmp_total}
 use Rattle.jsonb_value.specs.declared.value.Value.{Value}
 use Rattle.sorted_index.specs.Index.{IsIndexOf, value_cmp}
 

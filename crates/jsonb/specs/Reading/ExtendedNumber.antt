@@ -3,8 +3,8 @@ use Rattle.std.specs.Prelude.{◌≡◌, ⊤, ◌⊎◌, ℕ, ◌+◌, ◌-◌, 
 use Rattle.std.specs.Char.{digit_value, to_ascii_lowercase}
 use Rattle.std.specs.Str.Parse.{digits_value}
 use Rattle.jsonb_value.specs.Code.{Code, invalid_eof, invalid_number_value, expected_some_ident}
-use Rattle.jsonb_value.specs.ExtendedNumber.{is_minus, decimal_number, hexadecimal_number}
-use Rattle.jsonb_value.specs.Signed.{signed_by}
+use Rattle.jsonb_value.specs.Grammar.ExtendedNumber.{is_minus, decimal_number, hexadecimal_number}
+use Rattle.jsonb_value.specs.Number.Signed.{signed_by}
 use Rattle.jsonb_value.specs.Tree.{Num}
 use Rattle.jsonb.specs.Reading.{Read, fault}
 use Rattle.jsonb.specs.Reading.Number.{End, FollowsWhole, sign_end, digits_from, exponent_from, carried_at, is_number_start}

@@ -4,7 +4,7 @@ use Rattle.std.specs.Char.{is_ascii_digit}
 use Rattle.std.specs.Int.{IsInRange, from_bool}
 use Rattle.std.specs.Str.Parse.{digits_value}
 use Rattle.jsonb_value.specs.Code.{invalid_number_value, number_not_carried}
-use Rattle.jsonb_value.specs.StandardNumber.{IsExponentMark}
+use Rattle.jsonb_value.specs.Grammar.StandardNumber.{IsExponentMark}
 use Rattle.jsonb_value.specs.Tree.{int64, uint64, Num}
 use Rattle.jsonb.specs.Reading.{Read, fault}
 

@@ -5,9 +5,9 @@ use Rattle.std.specs.Char.{digit_value}
 use Rattle.jsonb_value.specs.Mode.{Mode}
 use Rattle.jsonb_value.specs.Tree.{Mark}
 use Rattle.jsonb_value.specs.Code.{Code, invalid_eof, invalid_string_value, invalid_escaped, invalid_hex, unexpected_end_of_hex_escape}
-use Rattle.jsonb_value.specs.StringBody.{Item, raw, escape, unit, after_u, spelling, escaped_byte, meaning}
-use Rattle.jsonb_value.specs.StringStep.{item_step}
-use Rattle.jsonb_value.specs.Quoted.{mark_of}
+use Rattle.jsonb_value.specs.Grammar.StringBody.{Item, raw, escape, unit, after_u, spelling, escaped_byte, meaning}
+use Rattle.jsonb_value.specs.Grammar.StringStep.{item_step}
+use Rattle.jsonb_value.specs.Grammar.Quoted.{mark_of}
 use Rattle.jsonb.specs.Reading.{Read, fault}
 
 -- ---- the body

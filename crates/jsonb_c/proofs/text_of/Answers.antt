@@ -3,7 +3,7 @@ use Rattle.std.specs.Result.{is_err}
 use Rattle.jsonb_value.specs.Text.{text_of, Appends}
 use Rattle.jsonb_value.specs.Tree.{Tree}
 use Rattle.jsonb_value.specs.View.{view}
-use Rattle.jsonb_value.proofs.RangeTexts.{document_text_reads_back}
+use Rattle.jsonb_value.proofs.Trees.RangeTexts.{document_text_reads_back}
 use Rattle.jsonb_c.specs.Interface.{IsReadAs, IsTextOf}
 use Rattle.jsonb_c.proofs.text_of.Goals as goal
 

@@ -1,7 +1,7 @@
 //! `clone` of errors. Want of memory for a text is all that it is refused for.
 ghost use Rattle.std.specs.Prelude.{◌≡◌};
 ghost use Rattle.jsonb_value.specs.Code.{code_of, NamesNoKey};
-ghost use Rattle.jsonb_value.specs.ErrorView.{error_view, HoldsNoText};
+ghost use Rattle.jsonb_value.specs.Error.ErrorView.{error_view, HoldsNoText};
 
 use super::{Error, ParseErrorCode};
 use std::alloc::AllocError;

@@ -3,10 +3,10 @@ ghost use Rattle.std.specs.Prelude.{◌≡◌, ◌↔◌, ◌⊎◌, ◌+◌, �
 ghost use Rattle.std.specs.Fmt.{decimal, sign_text};
 ghost use Rattle.std.specs.Fmt.InlineText.{inline_text};
 ghost use Rattle.std.specs.Vec.{vec_capacity};
-ghost use Rattle.jsonb_value.specs.BinaryText.{hexadecimal_pair, binary_text};
-ghost use Rattle.jsonb_value.specs.ExtensionText.{extension_text, AppendsExtension};
-ghost use Rattle.jsonb_value.specs.IntervalText.{amount_text, fraction_text, clock_text, time_text, with_blank, beside, interval_text};
-ghost use Rattle.jsonb_value.specs.NumberText.{zero_padded};
+ghost use Rattle.jsonb_value.specs.Text.BinaryText.{hexadecimal_pair, binary_text};
+ghost use Rattle.jsonb_value.specs.Text.ExtensionText.{extension_text, AppendsExtension};
+ghost use Rattle.jsonb_value.specs.Text.IntervalText.{amount_text, fraction_text, clock_text, time_text, with_blank, beside, interval_text};
+ghost use Rattle.jsonb_value.specs.Text.NumberText.{zero_padded};
 ghost use Rattle.jsonb_value.specs.View.{extension_view};
 
 use super::{ExtensionValue, Interval};

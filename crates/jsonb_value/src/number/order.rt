@@ -3,7 +3,7 @@ ghost use Rattle.std.specs.Prelude.{◌≡◌, ℤ, pos, ◌*ℤ◌, ◌^◌, So
 ghost use Rattle.std.specs.Cmp.{on_equiv, on_per, on_po, on_total, partial_equiv_from_equiv, eq_by_cmp_equiv, po};
 ghost use Rattle.std.specs.Int.{w128};
 ghost use Rattle.std.specs.Ordering.{int_cmp, on, eq_by_cmp, as_partial_cmp};
-ghost use Rattle.jsonb_value.specs.NumberLaws.{num_cmp_total};
+ghost use Rattle.jsonb_value.specs.Order.NumberLaws.{num_cmp_total};
 ghost use Rattle.jsonb_value.specs.Order.{num_cmp};
 ghost use Rattle.jsonb_value.specs.View.{number_view};
 

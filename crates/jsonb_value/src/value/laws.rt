@@ -5,8 +5,8 @@ ghost use Rattle.jsonb_value.specs.Grammar.{IsDocument};
 ghost use Rattle.jsonb_value.specs.Mode.{Mode, standard, extended};
 ghost use Rattle.jsonb_value.specs.Order.{Same};
 ghost use Rattle.jsonb_value.specs.Proper.{IsProper};
-ghost use Rattle.jsonb_value.specs.Range.{IsInRange, IsIntegerRange, IsInRangeOf};
-ghost use Rattle.jsonb_value.specs.ReadsBack.{ReadsBackAs};
+ghost use Rattle.jsonb_value.specs.Text.Range.{IsInRange, IsIntegerRange, IsInRangeOf};
+ghost use Rattle.jsonb_value.specs.Text.ReadsBack.{ReadsBackAs};
 ghost use Rattle.jsonb_value.specs.Text.{text_of};
 ghost use Rattle.jsonb_value.specs.Tree.{Tree};
 

@@ -3,8 +3,8 @@ ghost use Rattle.std.specs.Prelude.{◌≡◌, refl};
 ghost use Rattle.std.specs.Cmp.{on_equiv, on_per, on_po, on_total, partial_equiv_from_equiv, eq_by_cmp_equiv, po};
 ghost use Rattle.std.specs.Ordering.{on, eq_by_cmp, as_partial_cmp};
 ghost use Rattle.jsonb_value.specs.Order.{rank, tree_cmp, trees_cmp, members_cmp, Below, Same, IsOneOrder};
-ghost use Rattle.jsonb_value.specs.OrderByContent.{IsByContent};
-ghost use Rattle.jsonb_value.specs.OrderLaws.{tree_cmp_total};
+ghost use Rattle.jsonb_value.specs.Order.ByContent.{IsByContent};
+ghost use Rattle.jsonb_value.specs.Order.Laws.{tree_cmp_total};
 ghost use Rattle.jsonb_value.specs.View.{view, trees_view, members_view};
 
 use super::{Object, Value};

@@ -1,6 +1,6 @@
 use Rattle.std.proofs.Common.{◌≡◌, ◌-◌, ◌+◌, length, sym, ◌∙◌, arith}
 use Rattle.jsonb.specs.Line.{is_line_feed}
-use Rattle.jsonb.proofs.Lines.{behind_none, behind_last}
+use Rattle.jsonb.proofs.Places.Lines.{behind_none, behind_last}
 use Rattle.jsonb.proofs.line.last_line_len.Goals as goal
 
 pub returns-in-Some-clause-value : goal.returns-in-Some-clause-value

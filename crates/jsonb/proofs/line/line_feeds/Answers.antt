@@ -1,6 +1,6 @@
 use Rattle.std.proofs.Common.{length, ap, ◌∙◌}
 use Rattle.jsonb.specs.Line.{is_line_feed}
-use Rattle.jsonb.proofs.Lines.{length-places}
+use Rattle.jsonb.proofs.Places.Lines.{length-places}
 use Rattle.jsonb.proofs.line.line_feeds.Goals as goal
 
 pub returns : goal.returns

@@ -3,18 +3,18 @@ use Rattle.jsonb_value.specs.Grammar.{IsDocument}
 use Rattle.jsonb_value.specs.Mode.{standard, extended}
 use Rattle.jsonb_value.specs.Order.{Same}
 use Rattle.jsonb_value.specs.Proper.{IsProper}
-use Rattle.jsonb_value.specs.Range.{IsIntegerRange}
+use Rattle.jsonb_value.specs.Text.Range.{IsIntegerRange}
 use Rattle.jsonb_value.specs.Tree.{Tree}
 use Rattle.jsonb_value.specs.View.{view}
 use Rattle.jsonb_value.specs.declared.value.Value.{Value}
 use Rattle.jsonb_value.specs.declared.error.Error.{Error}
 use Rattle.jsonb_value.specs.declared.error.Error.TheVariants.{OutOfMemory}
-use Rattle.jsonb_value.proofs.DocumentsInRange.{standard_in_range}
-use Rattle.jsonb_value.proofs.StandardInExtended.{standard_is_extended}
+use Rattle.jsonb_value.proofs.Trees.DocumentsInRange.{standard_in_range}
+use Rattle.jsonb_value.proofs.Trees.StandardInExtended.{standard_is_extended}
 use Rattle.jsonb.specs.AstView.{ast_view}
-use Rattle.jsonb.proofs.Documents.{document_unique}
-use Rattle.jsonb.proofs.Markers.{document_opened}
-use Rattle.jsonb.proofs.Values.{document_sound}
+use Rattle.jsonb.proofs.Documents.Spellings.{document_unique}
+use Rattle.jsonb.proofs.Documents.Markers.{document_opened}
+use Rattle.jsonb.proofs.Containers.Values.{document_sound}
 use Rattle.jsonb.proofs.parser.parse_value_standard_mode.Goals as goal
 
 refused_container : {A : Type 0} (Q : Type 0) (r : Result A Error) → IfErr r (λ e. (e ≡ OutOfMemory) × Q) → r ≡ Err OutOfMemory → Q

@@ -1,7 +1,7 @@
 use Rattle.std.proofs.Common.{eqb, take, arith, w8}
 use Rattle.std.proofs.lemmas.List.{length-take-le}
 use Rattle.std.proofs.lemmas.Simd.{bitmask_splat}
-use Rattle.jsonb.proofs.ByteMasks.{told}
+use Rattle.jsonb.proofs.Strings.ByteMasks.{told}
 use Rattle.jsonb.proofs.util.backslashes.Goals as goal
 
 pub returns : goal.returns

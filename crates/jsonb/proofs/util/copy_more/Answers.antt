@@ -1,7 +1,7 @@
 use Rattle.std.proofs.Common.{subst}
 use Rattle.std.proofs.lemmas.List.{take_rest}
 use Rattle.jsonb.specs.Decoding.{CopiesRun}
-use Rattle.jsonb.proofs.ByteMasks.{copies_more}
+use Rattle.jsonb.proofs.Strings.ByteMasks.{copies_more}
 use Rattle.jsonb.proofs.util.copy_more.Goals as goal
 
 pub returns-clause-copies : goal.returns-clause-copies

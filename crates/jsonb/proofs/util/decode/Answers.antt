@@ -2,7 +2,7 @@ use Rattle.std.proofs.Common.{◌≡◌, ◌∷◌, ◌<◌, length, sym, subst,
 use Rattle.std.proofs.lemmas.Result.{err_from_is_err_and}
 use Rattle.jsonb.specs.Parser.{mode_of}
 use Rattle.jsonb.specs.Decoding.{Adds}
-use Rattle.jsonb.proofs.Decoded.{adds_run, adds_then, first_byte, stops_after}
+use Rattle.jsonb.proofs.Strings.Decoding.{adds_run, adds_then, first_byte, stops_after}
 use Rattle.jsonb.proofs.util.decode.Goals as goal
 
 pub returns-in_err-left-in-Some-clause-err : goal.returns-in_err-left-in-Some-clause-err

@@ -2,7 +2,7 @@ use Rattle.std.proofs.Common.{◌∷◌, [], sym, subst}
 use Rattle.std.proofs.lemmas.List.{nil_from_length}
 use Rattle.jsonb.specs.Decoding.{DecodesUpTo}
 use Rattle.jsonb.specs.Parser.{mode_of}
-use Rattle.jsonb.proofs.Decoded.{decoded_escape, stops_cut, stops_unknown}
+use Rattle.jsonb.proofs.Strings.Decoding.{decoded_escape, stops_cut, stops_unknown}
 use Rattle.jsonb.proofs.util.escape.Goals as goal
 
 pub returns-in_default-clause-err : goal.returns-in_default-clause-err

@@ -1,5 +1,5 @@
 use Rattle.std.proofs.Common.{take, ap₂, ◌∙◌, arith}
-use Rattle.jsonb.proofs.ByteMasks.{cut_back}
+use Rattle.jsonb.proofs.Strings.ByteMasks.{cut_back}
 use Rattle.jsonb.proofs.util.extend_by_few.Goals as goal
 
 pub returns-clause-items : goal.returns-clause-items

@@ -1,5 +1,5 @@
 use Rattle.std.proofs.Common.{arith}
-use Rattle.jsonb_value.proofs.Units.{first_non_digit_at}
+use Rattle.jsonb_value.proofs.Strings.Units.{first_non_digit_at}
 use Rattle.jsonb.proofs.util.first_non_digit.Goals as goal
 
 pub returns-then-digit-ge16-clause-some : goal.returns-then-digit-ge16-clause-some

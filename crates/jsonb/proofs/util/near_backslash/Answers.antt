@@ -1,7 +1,7 @@
 use Rattle.std.proofs.Common.{◌≡◌, subst, arith, w64}
 use Rattle.std.proofs.lemmas.Nat.Bits.{bit_at-trailing_zeros}
 use Rattle.std.specs.Int.{bit_at}
-use Rattle.jsonb.proofs.NearMarks.{no_bits}
+use Rattle.jsonb.proofs.Strings.NearMarks.{no_bits}
 use Rattle.jsonb.proofs.util.near_backslash.Goals as goal
 
 pub returns-clause-within : goal.returns-clause-within

@@ -1,7 +1,7 @@
 use Rattle.std.proofs.Common.{◌≡◌, true, false, sym, ap, ◌∙◌, ◌++◌, ◌||◌}
 use Rattle.std.specs.Char.{encode_utf8}
-use Rattle.jsonb_value.specs.StringBody.{is_high, is_low, unit_value}
-use Rattle.jsonb_value.proofs.Units.{alone-kept, alone-character}
+use Rattle.jsonb_value.specs.Grammar.StringBody.{is_high, is_low, unit_value}
+use Rattle.jsonb_value.proofs.Strings.Units.{alone-kept, alone-character}
 use Rattle.jsonb.proofs.util.push_alone.Goals as goal
 
 pub returns-then-is_surrogate-clause-items : goal.returns-then-is_surrogate-clause-items

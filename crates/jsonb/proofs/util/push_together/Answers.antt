@@ -1,8 +1,8 @@
 use Rattle.std.proofs.Common.{◌≡◌, true, false, sym, ap, ◌∙◌, ◌++◌}
 use Rattle.std.proofs.lemmas.List.{append_assoc}
 use Rattle.std.specs.Char.{encode_utf8}
-use Rattle.jsonb_value.specs.StringBody.{is_low, unit_value, paired, kept}
-use Rattle.jsonb_value.proofs.Units.{together-kept, together-character}
+use Rattle.jsonb_value.specs.Grammar.StringBody.{is_low, unit_value, paired, kept}
+use Rattle.jsonb_value.proofs.Strings.Units.{together-kept, together-character}
 use Rattle.jsonb.proofs.util.push_together.Goals as goal
 
 pub returns-then-is_surrogate_low-clause-items : goal.returns-then-is_surrogate_low-clause-items

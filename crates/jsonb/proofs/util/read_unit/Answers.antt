@@ -1,4 +1,4 @@
-use Rattle.jsonb.proofs.Decoded.{stops_at_digit}
+use Rattle.jsonb.proofs.Strings.Decoding.{stops_at_digit}
 use Rattle.jsonb.proofs.util.read_unit.Goals as goal
 
 pub returns-in-Some-first_non_digit-clause-err : goal.returns-in-Some-first_non_digit-clause-err

@@ -3,7 +3,7 @@ use Rattle.std.proofs.lemmas.Str.{IsUtf8-string_bytes}
 use Rattle.std.proofs.lemmas.Bool.{false≢true}
 use Rattle.jsonb.specs.Parser.{mode_of}
 use Rattle.jsonb.specs.Decoding.{DecodesUpTo}
-use Rattle.jsonb.proofs.Decoded.{decoded_from_empty, decodes_all, fault_no_text}
+use Rattle.jsonb.proofs.Strings.Decoding.{decoded_from_empty, decodes_all, fault_no_text}
 use Rattle.jsonb.proofs.util.unescape.Goals as goal
 
 pub overflow_sub-idx : goal.overflow_sub-idx

@@ -1,7 +1,7 @@
 use Rattle.std.proofs.Common.{subst}
 use Rattle.std.proofs.lemmas.Result.{err_from_is_err_and}
 use Rattle.jsonb.specs.Decoding.{ReadsUnit}
-use Rattle.jsonb.proofs.Decoded.{decoded_alone, decoded_together, stops_first, stops_next}
+use Rattle.jsonb.proofs.Strings.Decoding.{decoded_alone, decoded_together, stops_first, stops_next}
 use Rattle.jsonb.proofs.util.units.Goals as goal
 
 pub returns-in_err-first-clause-err : goal.returns-in_err-first-clause-err

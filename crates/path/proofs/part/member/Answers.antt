@@ -1,6 +1,6 @@
 use Rattle.std.proofs.Common.{option_map, ap, ◌∙◌}
 use Rattle.jsonb.specs.View.{view}
-use Rattle.jsonb_value.proofs.Parts.{option_map-lookup}
+use Rattle.jsonb_value.proofs.Values.Parts.{option_map-lookup}
 use Rattle.path.proofs.Parts.{seen}
 use Rattle.path.proofs.part.member.Goals as goal
 

@@ -1,8 +1,8 @@
 use Rattle.std.proofs.Common.{◌≡◌, ◌+◌, false, [], ◌∷◌, ◌++◌, Some, drop, map, ap, sym, ◌∙◌, arith, subst}
 use Rattle.jsonb.specs.Parser.{rest_of, mode_of}
 use Rattle.jsonb.specs.Reading.{begins}
-use Rattle.jsonb.proofs.Scans.{goes_on}
-use Rattle.jsonb.proofs.Stacks.{array_entered}
+use Rattle.jsonb.proofs.Steps.Advancing.{goes_on}
+use Rattle.jsonb.proofs.Containers.OpenOfReader.{array_entered}
 use Rattle.jsonb.specs.declared.parser.ast.JsonAst as ast
 use Rattle.jsonb.specs.declared.parser.container.Frame.TheVariants as variants
 use Rattle.jsonb.specs.OpenPlaces.{AllIsPlaced, ArePartsBefore, ArrayIsOpen, LeftOut, Skips}
@@ -10,7 +10,7 @@ use Rattle.jsonb.specs.OpenPlaces.ArePartsBefore.{no_parts}
 use Rattle.jsonb.specs.Placed.{AreElementsAt, IsValueAt}
 use Rattle.jsonb.specs.Reading.Blank.{skip_blanks}
 use Rattle.jsonb.specs.Source.{source_view}
-use Rattle.jsonb.proofs.Placed.{earlier, element_begun, empty_array_placed, empty_closed, later, part_pushed, skip_made, skip_twice, value_any}
+use Rattle.jsonb.proofs.Places.Placed.{earlier, element_begun, empty_array_placed, empty_closed, later, part_pushed, skip_made, skip_twice, value_any}
 use Rattle.jsonb.proofs.parser.Parser.begin_array.Goals as goal
 
 pub returns-clause-reads : goal.returns-clause-reads

@@ -5,11 +5,11 @@ use Rattle.jsonb.specs.Reading.{◌>>=◌}
 use Rattle.jsonb.specs.Reading.Document.{value_at}
 use Rattle.jsonb.specs.Stack.{finish_open}
 use Rattle.jsonb.specs.Stack.Open.{elements_so_far}
-use Rattle.jsonb.proofs.Frames.{element-due, element-left_out}
-use Rattle.jsonb.proofs.Stacks.{same_left_out}
-use Rattle.jsonb.proofs.Values.{is_extended_if}
-use Rattle.jsonb.proofs.Views.{view-Null}
-use Rattle.jsonb.proofs.Placed.{skip_made, source-Null}
+use Rattle.jsonb.proofs.Containers.OpenOnLists.{element-due, element-left_out}
+use Rattle.jsonb.proofs.Containers.OpenOfReader.{same_left_out}
+use Rattle.jsonb.proofs.Containers.Values.{is_extended_if}
+use Rattle.jsonb.proofs.Places.Views.{view-Null}
+use Rattle.jsonb.proofs.Places.Placed.{skip_made, source-Null}
 use Rattle.jsonb.proofs.parser.Parser.begin_element.Goals as goal
 
 pub returns-then-is_left_out-clause-reads : goal.returns-then-is_left_out-clause-reads

@@ -5,8 +5,8 @@ use Rattle.jsonb_value.specs.View.{mark_view}
 use Rattle.jsonb.specs.OpenPlaces.{Skips}
 use Rattle.jsonb.specs.Parser.{mode_of, size_of}
 use Rattle.jsonb.specs.Placed.{HasByte, HasKey}
-use Rattle.jsonb.proofs.Placed.{byte_has, earlier, key_has, next_index, skip_made, skipped}
-use Rattle.jsonb.proofs.Scans.{goes_on}
+use Rattle.jsonb.proofs.Places.Placed.{byte_has, earlier, key_has, next_index, skip_made, skipped}
+use Rattle.jsonb.proofs.Steps.Advancing.{goes_on}
 use Rattle.jsonb.proofs.parser.Parser.begin_member.Goals as goal
 
 pub returns-clause-source : goal.returns-clause-source

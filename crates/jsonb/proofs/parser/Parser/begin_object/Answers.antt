@@ -2,8 +2,8 @@ use Rattle.std.proofs.Common.{◌≡◌, ◌+◌, ℕ, List, [], ◌∷◌, ◌+
 use Rattle.std.proofs.lemmas.Result.{err_from_is_err_and}
 use Rattle.jsonb.specs.Parser.{rest_of, mode_of}
 use Rattle.jsonb.specs.Reading.{begins}
-use Rattle.jsonb.proofs.Scans.{goes_on}
-use Rattle.jsonb.proofs.Stacks.{object_entered, object_fails}
+use Rattle.jsonb.proofs.Steps.Advancing.{goes_on}
+use Rattle.jsonb.proofs.Containers.OpenOfReader.{object_entered, object_fails}
 use Rattle.std.specs.Cow.{cow_str_bytes}
 use Rattle.jsonb_value.specs.Tree.{Mark}
 use Rattle.jsonb_value.specs.View.{mark_view}
@@ -13,7 +13,7 @@ use Rattle.jsonb.specs.OpenPlaces.{AllIsPlaced, ArePartsBefore, MemberBegins, Ob
 use Rattle.jsonb.specs.OpenPlaces.ArePartsBefore.{no_parts}
 use Rattle.jsonb.specs.Placed.{AreMembersAt, IsValueAt}
 use Rattle.jsonb.specs.Source.{source_view}
-use Rattle.jsonb.proofs.Placed.{earlier, empty_closed, empty_object_placed, later, member_later, part_pushed, skip_made, value_any}
+use Rattle.jsonb.proofs.Places.Placed.{earlier, empty_closed, empty_object_placed, later, member_later, part_pushed, skip_made, value_any}
 use Rattle.jsonb.proofs.parser.Parser.begin_object.Goals as goal
 
 pub returns-in_err-key-clause-reads : goal.returns-in_err-key-clause-reads

@@ -5,13 +5,13 @@ use Rattle.jsonb.specs.Parser.{mode_of, rest_of, size_of}
 use Rattle.jsonb.specs.Reading.{begins}
 use Rattle.jsonb.specs.Reading.Scalar.{scalar_at}
 use Rattle.jsonb.specs.Stack.{ahead, depth_in, resume, resumed, stack_of}
-use Rattle.jsonb.proofs.Scans.{goes_on, contains_next}
-use Rattle.jsonb.proofs.Outcomes.{fails_same, fails_through}
-use Rattle.jsonb.proofs.Stacks.{array_begins, continues_from, object_begins, resumed_same, scalar_begins}
+use Rattle.jsonb.proofs.Steps.Advancing.{goes_on, contains_next}
+use Rattle.jsonb.proofs.Steps.Outcomes.{fails_same, fails_through}
+use Rattle.jsonb.proofs.Containers.OpenOfReader.{array_begins, continues_from, object_begins, resumed_same, scalar_begins}
 use Rattle.jsonb.specs.OpenPlaces.{AllIsPlaced, StackIsPlaced}
 use Rattle.jsonb.specs.Placed.{HasByte, IsValueAt}
 use Rattle.jsonb.specs.Source.{source_view}
-use Rattle.jsonb.proofs.Placed.{byte_has, earlier, later, next_index, scalar_has, value_any}
+use Rattle.jsonb.proofs.Places.Placed.{byte_has, earlier, later, next_index, scalar_has, value_any}
 use Rattle.jsonb.proofs.parser.Parser.begin_value.Goals as goal
 
 on_ok : {A E : Type 0} {P : Type 0} (r : Result A E) → P → OnOk r P

@@ -5,15 +5,15 @@ use Rattle.jsonb.specs.AstView.{found_of}
 use Rattle.jsonb.specs.Parser.{mode_of, rest_of, size_of}
 use Rattle.jsonb.specs.Reading.{fault_at}
 use Rattle.jsonb.specs.Stack.{depth_in, object_end, rest_from, resume, resumed, stack_of}
-use Rattle.jsonb.proofs.Outcomes.{fails_same, fails_through}
-use Rattle.jsonb.proofs.Scans.{fails}
-use Rattle.jsonb.proofs.Stacks.{array_closed, array_unclosed, object_closed, object_unclosed}
+use Rattle.jsonb.proofs.Steps.Outcomes.{fails_same, fails_through}
+use Rattle.jsonb.proofs.Steps.Advancing.{fails}
+use Rattle.jsonb.proofs.Containers.OpenOfReader.{array_closed, array_unclosed, object_closed, object_unclosed}
 use Rattle.jsonb.specs.declared.parser.ast.JsonAst as ast
 use Rattle.jsonb.specs.OpenPlaces.{AllIsPlaced, StackIsRead}
 use Rattle.jsonb.specs.Placed.{IsValueAt}
 use Rattle.jsonb.specs.Source.{source_view}
 use Rattle.jsonb.specs.declared.parser.container.Frame.TheVariants as variants
-use Rattle.jsonb.proofs.Placed.{array_placed, byte_has, last_split, later, next_index, value_any}
+use Rattle.jsonb.proofs.Places.Placed.{array_placed, byte_has, last_split, later, next_index, value_any}
 use Rattle.jsonb.proofs.parser.Parser.close.Goals as goal
 
 pub returns-then-not-take_byte-clause-reads : goal.returns-then-not-take_byte-clause-reads

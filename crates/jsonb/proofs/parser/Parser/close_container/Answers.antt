@@ -5,7 +5,7 @@ use Rattle.std.specs.Vec.{vec_len}
 use Rattle.jsonb.specs.Direct.{WasRead}
 use Rattle.jsonb.specs.declared.parser.direct.OpenValue.TheVariants as variants
 use Rattle.jsonb.specs.declared.parser.direct.OpenMembers.{OpenMembers}
-use Rattle.jsonb.proofs.Direct.{array_joined, if_some, last-is, last-set, object_joined}
+use Rattle.jsonb.proofs.Containers.OpenOfDirect.{array_joined, if_some, last-is, last-set, object_joined}
 use Rattle.jsonb.proofs.parser.Parser.close_container.Goals as goal
 
 pub returns-in-Ok-clause-reads : goal.returns-in-Ok-clause-reads

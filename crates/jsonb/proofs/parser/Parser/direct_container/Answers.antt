@@ -4,8 +4,8 @@ use Rattle.jsonb_value.specs.Grammar.{max_depth}
 use Rattle.jsonb.specs.Direct.{IsAhead}
 use Rattle.jsonb.specs.Parser.{mode_of, rest_of, size_of}
 use Rattle.jsonb.specs.Reading.Document.{value_at}
-use Rattle.jsonb.proofs.Direct.{ended, outermost, outermost_due}
-use Rattle.jsonb.proofs.Scans.{goes_on}
+use Rattle.jsonb.proofs.Containers.OpenOfDirect.{ended, outermost, outermost_due}
+use Rattle.jsonb.proofs.Steps.Advancing.{goes_on}
 use Rattle.jsonb.proofs.parser.Parser.direct_container.Goals as goal
 
 pub turns-init : goal.turns-init

@@ -4,8 +4,8 @@ use Rattle.jsonb_value.specs.Tree.{Mark}
 use Rattle.jsonb.specs.Parser.{mode_of, rest_of, size_of}
 use Rattle.jsonb.specs.Reading.{Read, on_byte, refused, ◌>>=◌}
 use Rattle.jsonb.specs.Reading.Blank.{skip_blanks}
-use Rattle.jsonb.proofs.Parts.{on_byte-found}
-use Rattle.jsonb.proofs.Scans.{goes_on}
+use Rattle.jsonb.proofs.Containers.JoinedParts.{on_byte-found}
+use Rattle.jsonb.proofs.Steps.Advancing.{goes_on}
 use Rattle.jsonb.proofs.parser.Parser.direct_key.Goals as goal
 
 pub returns-clause-reads : goal.returns-clause-reads

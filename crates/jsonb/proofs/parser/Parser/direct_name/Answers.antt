@@ -4,8 +4,8 @@ use Rattle.jsonb.specs.Parser.{Advances, mode_of, rest_of, size_of}
 use Rattle.jsonb.specs.Reading.Blank.{skip_blanks}
 use Rattle.jsonb.specs.Reading.Scalar.{key_at}
 use Rattle.jsonb.specs.Reading.String.{string_at}
-use Rattle.jsonb.proofs.Direct.{if_some}
-use Rattle.jsonb.proofs.Outcomes.{key_quoted, same_size}
+use Rattle.jsonb.proofs.Containers.OpenOfDirect.{if_some}
+use Rattle.jsonb.proofs.Steps.Outcomes.{key_quoted, same_size}
 use Rattle.jsonb.proofs.parser.Parser.direct_name.Goals as goal
 
 pub returns-then-not-take_after_blanks-clause-reads : goal.returns-then-not-take_after_blanks-clause-reads

@@ -4,7 +4,7 @@ use Rattle.jsonb_value.specs.Tree.Mark.{plain}
 use Rattle.jsonb.specs.Decoding.{TellsBackslash}
 use Rattle.jsonb.specs.Parser.{mode_of, size_of}
 use Rattle.jsonb.specs.Reading.String.{quote_end, string_at}
-use Rattle.jsonb.proofs.StringBodies.{body-raw, found_end, search_start, search_to, string-closed, tells_taken}
+use Rattle.jsonb.proofs.Strings.Bodies.{body-raw, found_end, search_start, search_to, string-closed, tells_taken}
 use Rattle.jsonb.proofs.parser.Parser.direct_plain.Goals as goal
 
 pub returns-clause-reads : goal.returns-clause-reads

@@ -2,8 +2,8 @@ use Rattle.std.proofs.Common.{◌≡◌, Ok, sym, subst, ◌∙◌}
 use Rattle.std.specs.Option.{IfSome}
 use Rattle.jsonb_value.specs.View.{view}
 use Rattle.jsonb.specs.Parser.{rest_of}
-use Rattle.jsonb.proofs.Direct.{number_of_standard, scalar_string}
-use Rattle.jsonb.proofs.FirstBytes.{scalar_other}
+use Rattle.jsonb.proofs.Containers.OpenOfDirect.{number_of_standard, scalar_string}
+use Rattle.jsonb.proofs.Scalars.FirstBytes.{scalar_other}
 use Rattle.jsonb.proofs.parser.Parser.direct_scalar.Goals as goal
 
 pub returns-then-take_byte-clause-reads : goal.returns-then-take_byte-clause-reads

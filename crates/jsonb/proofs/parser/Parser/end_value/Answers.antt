@@ -1,13 +1,13 @@
 use Rattle.std.proofs.Common.{◌≡◌, ◌+◌, ◌-◌, ◌<◌, ◌≤◌, [], ◌∷◌, ◌++◌, length, length-append, set, take, ap, refl, ◌∙◌, arith, subst, sym}
 use Rattle.jsonb_value.specs.Grammar.{max_depth}
 use Rattle.jsonb.specs.Parser.{rest_of, mode_of}
-use Rattle.jsonb.proofs.Scans.{goes_on}
-use Rattle.jsonb.proofs.Stacks.{continues_from, last-is, last-set, part_begun, value_added}
+use Rattle.jsonb.proofs.Steps.Advancing.{goes_on}
+use Rattle.jsonb.proofs.Containers.OpenOfReader.{continues_from, last-is, last-set, part_begun, value_added}
 use Rattle.std.specs.Vec.{vec_len}
 use Rattle.jsonb.specs.OpenPlaces.{AllIsPlaced, FrameIsRead, StackIsPlaced, StackIsRead, ValueIsRead}
 use Rattle.jsonb.specs.Placed.{HasByte}
 use Rattle.jsonb.specs.Source.{source_view}
-use Rattle.jsonb.proofs.Placed.{byte_has, frame_split, if_ok, last_added, last_value, later, next_index, part_pushed, skip_made}
+use Rattle.jsonb.proofs.Places.Placed.{byte_has, frame_split, if_ok, last_added, last_value, later, next_index, part_pushed, skip_made}
 use Rattle.jsonb.proofs.parser.Parser.end_value.Goals as goal
 
 pub returns-then-take_byte-clause-reads : goal.returns-then-take_byte-clause-reads

@@ -1,7 +1,7 @@
 use Rattle.std.proofs.Common.{sym, ◌∙◌}
 use Rattle.jsonb_value.specs.declared.value.Value as value
-use Rattle.jsonb.proofs.Direct.{if_some, number_of_standard, scalar_string}
-use Rattle.jsonb.proofs.FirstBytes.{scalar_other}
+use Rattle.jsonb.proofs.Containers.OpenOfDirect.{if_some, number_of_standard, scalar_string}
+use Rattle.jsonb.proofs.Scalars.FirstBytes.{scalar_other}
 use Rattle.jsonb.proofs.parser.Parser.insert_scalar.Goals as goal
 
 pub returns-then-take_byte-clause-reads : goal.returns-then-take_byte-clause-reads

@@ -1,7 +1,7 @@
 use Rattle.std.proofs.Common.{nat_eq, ne_eqb, sym, ap, ◌∙◌, ◌||◌}
 use Rattle.jsonb.specs.Reading.Blank.{skip_blanks}
 use Rattle.jsonb.specs.Parser.{mode_of, rest_of}
-use Rattle.jsonb.proofs.Skips.{skip-by_slash, skip-nil}
+use Rattle.jsonb.proofs.Text.Blanks.{skip-by_slash, skip-nil}
 use Rattle.jsonb.proofs.parser.Parser.may_begin_blank.Goals as goal
 
 pub returns-else-byte-eq92 : goal.returns-else-byte-eq92

@@ -3,13 +3,13 @@ use Rattle.std.specs.Cow.{cow_str_bytes}
 use Rattle.jsonb_value.specs.View.{mark_view}
 use Rattle.std.proofs.lemmas.Result.{err_from_is_err_and}
 use Rattle.jsonb.specs.Parser.{rest_of, mode_of}
-use Rattle.jsonb.proofs.Stacks.{member_fails, member_next}
+use Rattle.jsonb.proofs.Containers.OpenOfReader.{member_fails, member_next}
 use Rattle.jsonb_value.specs.Tree.{Mark}
 use Rattle.jsonb.specs.declared.parser.container.Frame.TheVariants as variants
 use Rattle.jsonb.specs.OpenPlaces.{ArrayIsOpen, FrameIsRead, MemberBegins, ObjectIsOpen, PartIsPlaced, Skips, placed_of}
 use Rattle.jsonb.specs.OpenPlaces.ArePartsBefore.{parts_and_comma}
 use Rattle.jsonb.specs.Source.{source_view}
-use Rattle.jsonb.proofs.Placed.{element_begun, later}
+use Rattle.jsonb.proofs.Places.Placed.{element_begun, later}
 use Rattle.jsonb.proofs.parser.Parser.next_part.Goals as goal
 
 pub returns-in_err-key-in-Object-clause-reads : goal.returns-in_err-key-in-Object-clause-reads

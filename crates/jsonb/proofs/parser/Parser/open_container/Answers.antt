@@ -1,7 +1,7 @@
 use Rattle.std.proofs.Common.{ap, sym, ◌∙◌, arith}
 use Rattle.jsonb.specs.Parser.{rest_of}
-use Rattle.jsonb.proofs.Direct.{array_opened, object_opened}
-use Rattle.jsonb.proofs.Scans.{goes_on}
+use Rattle.jsonb.proofs.Containers.OpenOfDirect.{array_opened, object_opened}
+use Rattle.jsonb.proofs.Steps.Advancing.{goes_on}
 use Rattle.jsonb.proofs.parser.Parser.open_container.Goals as goal
 
 pub returns-then-take_byte-clause-reads : goal.returns-then-take_byte-clause-reads

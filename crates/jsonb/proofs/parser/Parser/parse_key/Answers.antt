@@ -3,8 +3,8 @@ use Rattle.jsonb_value.specs.Code.Code.{expected_some_ident}
 use Rattle.jsonb.specs.Parser.{mode_of, rest_of, size_of}
 use Rattle.jsonb.specs.Reading.{fault_at}
 use Rattle.jsonb.specs.Reading.Scalar.{key_at, unquoted_at}
-use Rattle.jsonb.proofs.Outcomes.{key_bare, key_quoted, key_single}
-use Rattle.jsonb.proofs.Scans.{fails}
+use Rattle.jsonb.proofs.Steps.Outcomes.{key_bare, key_quoted, key_single}
+use Rattle.jsonb.proofs.Steps.Advancing.{fails}
 use Rattle.jsonb.proofs.parser.Parser.parse_key.Goals as goal
 
 pub returns-then-take_byte-clause-reads : goal.returns-then-take_byte-clause-reads

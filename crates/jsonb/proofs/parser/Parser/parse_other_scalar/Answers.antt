@@ -1,5 +1,5 @@
 use Rattle.std.proofs.Common.{sym}
-use Rattle.jsonb.proofs.FirstBytes.{other_single, other_word}
+use Rattle.jsonb.proofs.Scalars.FirstBytes.{other_single, other_word}
 use Rattle.jsonb.proofs.parser.Parser.parse_other_scalar.Goals as goal
 
 pub returns-then-take_single_quote-clause-reads : goal.returns-then-take_single_quote-clause-reads

@@ -11,8 +11,8 @@ use Rattle.jsonb.specs.Parser.{rest_of, size_of, mode_of}
 use Rattle.jsonb.specs.QuotedString.{ReadsBody}
 use Rattle.jsonb.specs.Reading.{fault}
 use Rattle.jsonb.specs.Reading.String.{body_of, quote_end}
-use Rattle.jsonb.proofs.StringEnds.{quote_within}
-use Rattle.jsonb.proofs.StringBodies.{string-closed, string-unclosed, body_fails, contains_after}
+use Rattle.jsonb.proofs.Strings.Ends.{quote_within}
+use Rattle.jsonb.proofs.Strings.Bodies.{string-closed, string-unclosed, body_fails, contains_after}
 use Rattle.jsonb.proofs.parser.Parser.parse_quoted.Goals as goal
 
 same_error : {A : Type 0} (r : Result A Error) (x y : Error) → r ≡ Err x → r ≡ Err OutOfMemory → x ≡ y → y ≡ OutOfMemory

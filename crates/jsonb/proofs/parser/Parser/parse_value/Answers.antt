@@ -3,12 +3,12 @@ use Rattle.std.proofs.Common.{◌≡◌, rules, ◌<◌, ◌≤◌, ⊎_elim, ap
 use Rattle.std.proofs.lemmas.Grind.{common_steps}
 use Rattle.std.proofs.lemmas.Bool.{cases_lt}
 use Rattle.jsonb.specs.Stack.{ahead}
-use Rattle.jsonb.proofs.Scans.{goes_on, stays}
-use Rattle.jsonb.proofs.Stacks.{outermost_due, outermost_read}
+use Rattle.jsonb.proofs.Steps.Advancing.{goes_on, stays}
+use Rattle.jsonb.proofs.Containers.OpenOfReader.{outermost_due, outermost_read}
 use Rattle.jsonb.specs.OpenPlaces.{AllIsPlaced, StackIsPlaced}
 use Rattle.jsonb.specs.Placed.{IsValueAt}
 use Rattle.jsonb.specs.Source.{source_view}
-use Rattle.jsonb.proofs.Placed.{earlier, outermost_placed}
+use Rattle.jsonb.proofs.Places.Placed.{earlier, outermost_placed}
 use Rattle.jsonb.proofs.parser.Parser.parse_value.Goals as goal
 
 pub turns-init : goal.turns-init

@@ -1,10 +1,10 @@
 use Rattle.std.proofs.Common.{◌≡◌, ◌+◌, ◌<◌, [], drop, sym, ap, ap₂, ◌∙◌, arith, drop-drop, length, length-drop}
 use Rattle.jsonb.specs.Reading.Blank.{blank_length, pass_blanks}
 use Rattle.jsonb.specs.Parser.{Advances, mode_of, rest_of}
-use Rattle.jsonb.proofs.Skips.{pass-none, pass-step, pass-nil}
+use Rattle.jsonb.proofs.Text.Blanks.{pass-none, pass-step, pass-nil}
 use Rattle.jsonb.specs.declared.parser.Parser.{Parser}
-use Rattle.jsonb.proofs.Scans.{goes_on}
-use Rattle.jsonb.proofs.Cursors.{nothing_left}
+use Rattle.jsonb.proofs.Steps.Advancing.{goes_on}
+use Rattle.jsonb.proofs.Steps.Cursors.{nothing_left}
 use Rattle.jsonb.proofs.parser.Parser.pass_blanks.Goals as goal
 
 pub returns-then-n-eq0-clause-rest : goal.returns-then-n-eq0-clause-rest

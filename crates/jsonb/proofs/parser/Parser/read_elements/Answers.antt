@@ -3,8 +3,8 @@ use Rattle.jsonb_value.specs.View.{view}
 use Rattle.jsonb.specs.Parser.{mode_of, rest_of, size_of}
 use Rattle.jsonb.specs.Direct.{part_at}
 use Rattle.jsonb.specs.Stack.Open.{elements_so_far}
-use Rattle.jsonb.proofs.Direct.{element_stops, element_turn, trees-snoc}
-use Rattle.jsonb.proofs.Scans.{goes_on}
+use Rattle.jsonb.proofs.Containers.OpenOfDirect.{element_stops, element_turn, trees-snoc}
+use Rattle.jsonb.proofs.Steps.Advancing.{goes_on}
 use Rattle.jsonb.proofs.parser.Parser.read_elements.Goals as goal
 
 pub returns-then-begins_container-clause-reads : goal.returns-then-begins_container-clause-reads

@@ -5,8 +5,8 @@ use Rattle.jsonb_value.specs.View.{view}
 use Rattle.jsonb.specs.Direct.{part_at}
 use Rattle.jsonb.specs.Parser.{mode_of, rest_of, size_of}
 use Rattle.jsonb.specs.Stack.Open.{members_so_far}
-use Rattle.jsonb.proofs.Direct.{found, member_stops, member_turn, put-more}
-use Rattle.jsonb.proofs.Scans.{goes_on}
+use Rattle.jsonb.proofs.Containers.OpenOfDirect.{found, member_stops, member_turn, put-more}
+use Rattle.jsonb.proofs.Steps.Advancing.{goes_on}
 use Rattle.jsonb.proofs.parser.Parser.read_members.Goals as goal
 
 pub returns-then-begins_container-clause-reads : goal.returns-then-begins_container-clause-reads

@@ -3,7 +3,7 @@ use Rattle.std.specs.Vec.{vec_len}
 use Rattle.jsonb.specs.Direct.{Stops}
 use Rattle.jsonb.specs.Parser.{mode_of, rest_of, size_of}
 use Rattle.jsonb.specs.Stack.{next_part_at}
-use Rattle.jsonb.proofs.Direct.{filled, last-is, last-set, stopped_due}
+use Rattle.jsonb.proofs.Containers.OpenOfDirect.{filled, last-is, last-set, stopped_due}
 use Rattle.jsonb.proofs.parser.Parser.read_parts.Goals as goal
 
 pub returns-then-branch-clause-reads : goal.returns-then-branch-clause-reads

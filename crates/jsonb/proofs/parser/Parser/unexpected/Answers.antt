@@ -1,5 +1,5 @@
 use Rattle.jsonb_value.specs.Code.{code_of}
-use Rattle.jsonb.proofs.Cursors.{fault_at-inside}
+use Rattle.jsonb.proofs.Steps.Cursors.{fault_at-inside}
 use Rattle.jsonb.proofs.parser.Parser.unexpected.Goals as goal
 
 pub returns-then-self : goal.returns-then-self

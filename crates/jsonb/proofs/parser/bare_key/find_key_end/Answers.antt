@@ -1,5 +1,5 @@
 use Rattle.std.proofs.Common.{sym, ◌∙◌, arith}
-use Rattle.jsonb.proofs.BareKeys.{key_goes_past, key_onward, key_start, key_stops}
+use Rattle.jsonb.proofs.Strings.BareKeys.{key_goes_past, key_onward, key_start, key_stops}
 use Rattle.jsonb.proofs.parser.bare_key.find_key_end.Goals as goal
 
 pub characters-init : goal.characters-init

@@ -1,5 +1,5 @@
 use Rattle.std.proofs.Common.{◌+◌, ◌-◌, ◌<◌, length}
-use Rattle.jsonb.proofs.BareKeys.{KeyFrom}
+use Rattle.jsonb.proofs.Strings.BareKeys.{KeyFrom}
 use Rattle.jsonb.proofs.parser.bare_key.find_key_end.Given as goal
 
 abbrev pub invariant-characters : goal.invariant-characters

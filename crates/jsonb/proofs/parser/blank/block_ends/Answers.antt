@@ -1,4 +1,4 @@
-use Rattle.jsonb.proofs.NearMarks.{ends_told}
+use Rattle.jsonb.proofs.Strings.NearMarks.{ends_told}
 use Rattle.jsonb.proofs.parser.blank.block_ends.Goals as goal
 
 pub returns : goal.returns

@@ -1,8 +1,8 @@
 use Rattle.std.proofs.Common.{◌≡◌, ◌+◌, ◌<◌, drop, get_or, sym, ap, subst, ◌∙◌, arith}
 use Rattle.std.specs.Int.{bit_at}
 use Rattle.jsonb.specs.Reading.Blank.{block_length, longer_by}
-use Rattle.jsonb.proofs.Comments.{block_at, block_far, longer-longer}
-use Rattle.jsonb.proofs.NearMarks.{no_bits}
+use Rattle.jsonb.proofs.Text.Comments.{block_at, block_far, longer-longer}
+use Rattle.jsonb.proofs.Strings.NearMarks.{no_bits}
 use Rattle.jsonb.proofs.parser.blank.block_len.Goals as goal
 
 pub vectors-preserved : goal.vectors-preserved

@@ -1,5 +1,5 @@
 use Rattle.std.proofs.Common.{sym, arith}
-use Rattle.jsonb.proofs.Comments.{line_at, line_nowhere}
+use Rattle.jsonb.proofs.Text.Comments.{line_at, line_nowhere}
 use Rattle.jsonb.proofs.parser.blank.line_len.Goals as goal
 
 pub returns-in-Some-clause-value : goal.returns-in-Some-clause-value

@@ -1,7 +1,7 @@
 use Rattle.std.proofs.Common.{◌≤◌, length, arith, w64}
 use Rattle.std.proofs.lemmas.Nat.Bits.{bit_at-trailing_ones}
 use Rattle.std.specs.Int.{trailing_ones}
-use Rattle.jsonb.proofs.ByteMasks.{all_within}
+use Rattle.jsonb.proofs.Strings.ByteMasks.{all_within}
 use Rattle.jsonb.proofs.parser.blank.near_spaces.Goals as goal
 
 pub returns-clause-within : goal.returns-clause-within

@@ -1,6 +1,6 @@
 use Rattle.std.proofs.Common.{◌≡◌, ◌+◌, ◌<◌, drop, length, inl, inr, sym, ap, ◌∙◌, arith}
 use Rattle.jsonb.specs.Reading.Blank.{block_length, longer_by}
-use Rattle.jsonb.proofs.Comments.{block_at, block_none, block_past, longer-longer}
+use Rattle.jsonb.proofs.Text.Comments.{block_at, block_none, block_past, longer-longer}
 use Rattle.jsonb.proofs.parser.blank.short_block_len.Goals as goal
 use Rattle.jsonb.proofs.parser.blank.short_block_len.Goals.{else-bytes-at-eq42-via-then-bytes-at-eq42+else-bytes-at-eq47, else-bytes-at-eq42-via-else-bytes-at-eq42}
 

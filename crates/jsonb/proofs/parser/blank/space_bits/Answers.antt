@@ -1,7 +1,7 @@
 use Rattle.std.proofs.Common.{eqb, take, arith, w8}
 use Rattle.std.proofs.lemmas.List.{length-take-le}
 use Rattle.std.proofs.lemmas.Simd.{bitmask_splat}
-use Rattle.jsonb.proofs.ByteMasks.{mask_bound, told}
+use Rattle.jsonb.proofs.Strings.ByteMasks.{mask_bound, told}
 use Rattle.jsonb.proofs.parser.blank.space_bits.Goals as goal
 
 pub returns-clause-spaces : goal.returns-clause-spaces

@@ -2,10 +2,10 @@ use Rattle.std.proofs.Common.{◌≡◌, ◌+◌, ◌-◌, ◌<◌, List, ℕ, l
 use Rattle.jsonb_value.specs.Code.Code.{object_duplicate_key}
 use Rattle.jsonb.specs.AstView.{found_of}
 use Rattle.jsonb.specs.Reading.Container.{Spot, adjacent_repeat, spot_of}
-use Rattle.jsonb.proofs.Placed.{object_placed}
-use Rattle.jsonb.proofs.Objects.{Parsed, no_more_left, not_repeated, repeated, spots}
-use Rattle.jsonb.proofs.Shuffles.{agree_if, differ_if, neighbours_agree, neighbours_differ}
-use Rattle.jsonb.proofs.Views.{fuse}
+use Rattle.jsonb.proofs.Places.Placed.{object_placed}
+use Rattle.jsonb.proofs.Containers.Members.{Parsed, no_more_left, not_repeated, repeated, spots}
+use Rattle.jsonb.proofs.Containers.Shuffles.{agree_if, differ_if, neighbours_agree, neighbours_differ}
+use Rattle.jsonb.proofs.Places.Views.{fuse}
 use Rattle.jsonb.proofs.parser.container.object_of.Goals as goal
 
 pub returns-then-eq-clause-reads : goal.returns-then-eq-clause-reads

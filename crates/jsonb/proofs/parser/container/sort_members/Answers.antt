@@ -2,9 +2,9 @@ use Rattle.std.proofs.Common.{◌≡◌, is_lt, ap, rules}
 use Rattle.std.proofs.lemmas.List.Sorted.{ranks_by, answers_always}
 use Rattle.jsonb.specs.AstView.{found_of}
 use Rattle.jsonb.specs.Reading.Container.{spot_cmp, spot_of}
-use Rattle.jsonb.proofs.Repeats.{spot_cmp_total}
-use Rattle.jsonb.proofs.Shuffles.{ascending_from_sorted}
-use Rattle.jsonb.proofs.Views.{fuse}
+use Rattle.jsonb.proofs.Containers.Repeats.{spot_cmp_total}
+use Rattle.jsonb.proofs.Containers.Shuffles.{ascending_from_sorted}
+use Rattle.jsonb.proofs.Places.Views.{fuse}
 use Rattle.jsonb.proofs.parser.container.sort_members.Goals as goal
 
 pub returns-clause-ascending : goal.returns-clause-ascending

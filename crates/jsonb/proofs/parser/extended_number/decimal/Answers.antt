@@ -2,9 +2,9 @@ use Rattle.std.proofs.Common.{arith, ap, ◌∙◌, rules}
 use Rattle.std.specs.Prelude.{FitsSigned}
 use Rattle.std.specs.Int.{w128}
 use Rattle.std.proofs.lemmas.Int.{to_z-of_z}
-use Rattle.jsonb_value.specs.Signed.{signed_by}
+use Rattle.jsonb_value.specs.Number.Signed.{signed_by}
 use Rattle.jsonb_value.specs.Tree.{decimal128}
-use Rattle.jsonb.proofs.NumberForms.{below_power, form_scaled_wide}
+use Rattle.jsonb.proofs.Numbers.Forms.{below_power, form_scaled_wide}
 use Rattle.jsonb.proofs.parser.extended_number.decimal.Goals as goal
 
 pub integer-requires : goal.integer-requires

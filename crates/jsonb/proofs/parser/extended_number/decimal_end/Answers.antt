@@ -1,5 +1,5 @@
 use Rattle.std.proofs.Common.{sym, ◌∙◌, inl, inr}
-use Rattle.jsonb.proofs.ScannedNumbers.{NoSecondPoint, no_digits_end, second_point_end, exponent_due}
+use Rattle.jsonb.proofs.Numbers.Scanned.{NoSecondPoint, no_digits_end, second_point_end, exponent_due}
 use Rattle.jsonb.proofs.parser.extended_number.decimal_end.Goals as goal
 use Rattle.jsonb.proofs.parser.extended_number.decimal_end.Goals.{else-ends-via-then-ends+then-ends-scale-lt-DIGITS_BEFORE_POINT+else-byte_at-eq46, else-ends-via-then-ends+else-ends-scale-lt-DIGITS_BEFORE_POINT, else-ends-via-else-ends}
 

@@ -1,4 +1,4 @@
-use Rattle.jsonb.proofs.ScannedNumbers.{ends_without_point, ends_with_point}
+use Rattle.jsonb.proofs.Numbers.Scanned.{ends_without_point, ends_with_point}
 use Rattle.jsonb.proofs.parser.extended_number.decimal_ends.Goals as goal
 
 pub returns-then-byte_at-ne46 : goal.returns-then-byte_at-ne46

@@ -1,4 +1,4 @@
-use Rattle.jsonb.proofs.ScannedNumbers.{front_is, back_is, front_room, back_room, small_number, not_carried, carried}
+use Rattle.jsonb.proofs.Numbers.Scanned.{front_is, back_is, front_room, back_room, small_number, not_carried, carried}
 use Rattle.std.proofs.Common.{inl, inr, ⊎_elim}
 use Rattle.jsonb.proofs.parser.extended_number.decimal_number.Goals as goal
 

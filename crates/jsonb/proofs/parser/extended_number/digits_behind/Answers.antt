@@ -1,8 +1,8 @@
 use Rattle.std.proofs.Common.{arith, ◌≡◌, ap, refl, sym, ◌∙◌, take}
 use Rattle.std.specs.Str.Parse.{digits_value_after}
 use Rattle.jsonb.specs.Reading.Number.{digits_length}
-use Rattle.jsonb.proofs.DigitValues.{adds_behind}
-use Rattle.jsonb.proofs.NumberReading.{digits_go_on, digits_end_here, digits_end_past}
+use Rattle.jsonb.proofs.Numbers.DigitValues.{adds_behind}
+use Rattle.jsonb.proofs.Numbers.Steps.{digits_go_on, digits_end_here, digits_end_past}
 use Rattle.jsonb.proofs.parser.extended_number.digits_behind.Goals as goal
 use Rattle.jsonb.proofs.parser.extended_number.digits_behind.Goals.{then-digits-test+else-is_ascii_digit, else-digits-test}
 

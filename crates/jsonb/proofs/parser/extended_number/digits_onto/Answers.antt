@@ -3,7 +3,7 @@ use Rattle.std.specs.Str.Parse.{digits_value_after}
 use Rattle.std.proofs.lemmas.Str.{digit_value_digit}
 use Rattle.std.proofs.lemmas.Str.Parse.{digit_at}
 use Rattle.std.proofs.lemmas.List.{take_all}
-use Rattle.jsonb.proofs.DigitValues.{value_after_step, value_after_more, value_after_lt}
+use Rattle.jsonb.proofs.Numbers.DigitValues.{value_after_step, value_after_more, value_after_lt}
 use Rattle.jsonb.proofs.parser.extended_number.digits_onto.Goals as goal
 
 pub overflow_mul-all : goal.overflow_mul-all

@@ -2,7 +2,7 @@ use Rattle.std.proofs.Common.{arith, ap, ◌<◌, drop, add-one}
 use Rattle.std.specs.Prelude.{slice_index}
 use Rattle.std.specs.Char.{digit_value}
 use Rattle.jsonb.specs.Reading.ExtendedNumber.{hexadecimal_length}
-use Rattle.jsonb.proofs.HexadecimalValues.{length_more, length_stop}
+use Rattle.jsonb.proofs.Numbers.HexadecimalValues.{length_more, length_stop}
 use Rattle.jsonb.proofs.parser.extended_number.hexadecimal_length.Goals as goal
 
 pub digits-preserved : goal.digits-preserved

@@ -1,6 +1,6 @@
 use Rattle.std.proofs.Common.{arith}
 use Rattle.std.proofs.lemmas.Int.Digits.{digits_value_more}
-use Rattle.jsonb.proofs.HexadecimalValues.{digit_below, hexadecimal_none, hexadecimal_all}
+use Rattle.jsonb.proofs.Numbers.HexadecimalValues.{digit_below, hexadecimal_none, hexadecimal_all}
 use Rattle.jsonb.proofs.parser.extended_number.hexadecimal_value.Goals as goal
 
 pub appended-requires : goal.appended-requires

@@ -3,7 +3,7 @@ use Rattle.std.specs.Prelude.{FitsSigned}
 use Rattle.std.specs.Int.{w128}
 use Rattle.std.proofs.lemmas.Int.{to_z-of_z}
 use Rattle.jsonb_value.specs.Tree.{decimal128}
-use Rattle.jsonb.proofs.NumberForms.{form_wide_signed}
+use Rattle.jsonb.proofs.Numbers.Forms.{form_wide_signed}
 use Rattle.jsonb.proofs.parser.extended_number.integer.Goals as goal
 
 pub returns-in-Err : goal.returns-in-Err

@@ -1,5 +1,5 @@
 use Rattle.std.proofs.Common.{◌∙◌, ◌≡◌, ◌⊎◌, ap, inl, inr, true, false, None, not}
-use Rattle.jsonb.proofs.HexadecimalReading.{digits_of_length, fraction_without_digits, fraction_refused, fraction_without_number, no_value, some_value}
+use Rattle.jsonb.proofs.Numbers.HexadecimalAnswers.{digits_of_length, fraction_without_digits, fraction_refused, fraction_without_number, no_value, some_value}
 use Rattle.jsonb.proofs.parser.extended_number.scan_fraction.Goals as goal
 use Rattle.jsonb.proofs.parser.extended_number.scan_fraction.Goals.{then-not-whole_fits-via-then-not-whole_fits, then-not-whole_fits-via-else-not-whole_fits+then-is_none}
 

@@ -2,7 +2,7 @@ use Rattle.std.proofs.Common.{sym, ap, ◌∙◌, take, ◌+◌}
 use Rattle.std.proofs.lemmas.List.{take_rest}
 use Rattle.jsonb.specs.Reading.ExtendedNumber.{fraction_scan}
 use Rattle.jsonb.specs.ScannedNumber.{number_views}
-use Rattle.jsonb.proofs.HexadecimalReading.{digits_of_length, fits_is, hexadecimal_without_digits, hexadecimal_with_point, hexadecimal_past, hexadecimal_whole_at}
+use Rattle.jsonb.proofs.Numbers.HexadecimalAnswers.{digits_of_length, fits_is, hexadecimal_without_digits, hexadecimal_with_point, hexadecimal_past, hexadecimal_whole_at}
 use Rattle.jsonb.proofs.parser.extended_number.scan_hexadecimal.Goals as goal
 
 pub returns-then-len-eq0-clause-scan : goal.returns-then-len-eq0-clause-scan

@@ -1,6 +1,6 @@
 use Rattle.std.proofs.Common.{sym, ◌+◌}
 use Rattle.std.proofs.lemmas.List.{take_rest}
-use Rattle.jsonb.proofs.ExtendedNumbers.{found_word, found_hexadecimal, found_decimal}
+use Rattle.jsonb.proofs.Numbers.Extended.{found_word, found_hexadecimal, found_decimal}
 use Rattle.jsonb.proofs.parser.extended_number.scan_number.Goals as goal
 
 pub returns-then-begins_word-clause-scan : goal.returns-then-begins_word-clause-scan

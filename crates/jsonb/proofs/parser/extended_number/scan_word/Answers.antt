@@ -3,7 +3,7 @@ use Rattle.std.specs.Prelude.{slice_index}
 use Rattle.std.specs.Char.{to_ascii_lowercase}
 use Rattle.std.proofs.lemmas.Result.{err_from_is_err_and}
 use Rattle.jsonb.specs.Reading.ExtendedNumber.{uncarried_word, invalid_word}
-use Rattle.jsonb.proofs.WordLetters.{words_misspelled, words_nan_minus, words_nan_plus, words_infinity}
+use Rattle.jsonb.proofs.Scalars.WordLetters.{words_misspelled, words_nan_minus, words_nan_plus, words_infinity}
 use Rattle.jsonb.proofs.parser.extended_number.scan_word.Goals as goal
 
 pub returns-in_err-end-clause-scan : goal.returns-in_err-end-clause-scan

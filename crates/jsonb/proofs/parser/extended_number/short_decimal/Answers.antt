@@ -2,9 +2,9 @@ use Rattle.std.proofs.Common.{arith, sym, ap, ◌∙◌, subst, rules}
 use Rattle.std.specs.Prelude.{FitsSigned}
 use Rattle.std.specs.Int.{w64, w128, cast_signed, cast_unsigned}
 use Rattle.std.proofs.lemmas.Int.{to_z-of_z}
-use Rattle.jsonb_value.specs.Signed.{signed_by}
+use Rattle.jsonb_value.specs.Number.Signed.{signed_by}
 use Rattle.jsonb_value.specs.Tree.{decimal64}
-use Rattle.jsonb.proofs.NumberForms.{form_scaled, signed_fits}
+use Rattle.jsonb.proofs.Numbers.Forms.{form_scaled, signed_fits}
 use Rattle.jsonb.proofs.parser.extended_number.short_decimal.Goals as goal
 
 pub overflow_cast-result : goal.overflow_cast-result

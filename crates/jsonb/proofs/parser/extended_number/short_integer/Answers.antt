@@ -2,10 +2,10 @@ use Rattle.std.proofs.Common.{true, arith, sym, ap, ◌∙◌, subst, rules, ⊎
 use Rattle.std.specs.Prelude.{FitsSigned, pos}
 use Rattle.std.specs.Int.{w64, w128}
 use Rattle.std.proofs.lemmas.Int.{to_z-of_z}
-use Rattle.jsonb_value.specs.Signed.{signed_by}
-use Rattle.jsonb_value.specs.ExtendedNumber.{decimal_number}
+use Rattle.jsonb_value.specs.Number.Signed.{signed_by}
+use Rattle.jsonb_value.specs.Grammar.ExtendedNumber.{decimal_number}
 use Rattle.jsonb_value.specs.Tree.{int64, decimal128}
-use Rattle.jsonb.proofs.NumberForms.{form_unsigned, form_signed, form_wide, negated_large, negated_small}
+use Rattle.jsonb.proofs.Numbers.Forms.{form_unsigned, form_signed, form_wide, negated_large, negated_small}
 use Rattle.jsonb.proofs.parser.extended_number.short_integer.Goals as goal
 
 pub returns-then-not-negative : goal.returns-then-not-negative

@@ -1,7 +1,7 @@
 use Rattle.std.proofs.Common.{arith, ◌+◌}
 use Rattle.std.proofs.lemmas.List.{take_rest}
-use Rattle.jsonb.proofs.NumberForms.{below_power}
-use Rattle.jsonb.proofs.ShortNumbers.{front_read, short_whole, whole_within, behind_read, short_behind, behind_within}
+use Rattle.jsonb.proofs.Numbers.Forms.{below_power}
+use Rattle.jsonb.proofs.Numbers.Short.{front_read, short_whole, whole_within, behind_read, short_behind, behind_within}
 use Rattle.jsonb.proofs.parser.extended_number.short_number.Goals as goal
 
 pub short_decimal-requires : goal.short_decimal-requires

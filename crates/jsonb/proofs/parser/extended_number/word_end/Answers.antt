@@ -1,6 +1,6 @@
 use Rattle.std.proofs.Common.{arith, sym, ap, ◌≡◌, ◌+◌, ◌∙◌, drop}
 use Rattle.jsonb.specs.Reading.ExtendedNumber.{spelled_from}
-use Rattle.jsonb.proofs.WordLetters.{word_more, word_other, word_ended, word_done}
+use Rattle.jsonb.proofs.Scalars.WordLetters.{word_more, word_other, word_ended, word_done}
 use Rattle.jsonb.proofs.parser.extended_number.word_end.Goals as goal
 
 pub returns-then-index-bytes-clause-scan : goal.returns-then-index-bytes-clause-scan

@@ -1,7 +1,7 @@
 use Rattle.std.proofs.Common.{arith}
 use Rattle.std.proofs.lemmas.List.{get_or_past}
 use Rattle.jsonb.specs.Reading.ExtendedNumber.{zeros_from}
-use Rattle.jsonb.proofs.DecimalScan.{zeros_go_on, zeros_end_here}
+use Rattle.jsonb.proofs.Numbers.DecimalScan.{zeros_go_on, zeros_end_here}
 use Rattle.jsonb.proofs.parser.extended_number.zeros_end.Goals as goal
 
 pub zeros-preserved : goal.zeros-preserved

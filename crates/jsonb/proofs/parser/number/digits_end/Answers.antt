@@ -1,6 +1,6 @@
 use Rattle.std.proofs.Common.{arith, sym, ◌∙◌}
 use Rattle.jsonb.specs.Reading.Number.{digits_from}
-use Rattle.jsonb.proofs.NumberReading.{digits_go_on, digits_end_here, digits_end_past}
+use Rattle.jsonb.proofs.Numbers.Steps.{digits_go_on, digits_end_here, digits_end_past}
 use Rattle.jsonb.proofs.parser.number.digits_end.Goals as goal
 
 pub digits-preserved : goal.digits-preserved

@@ -1,7 +1,7 @@
 use Rattle.std.proofs.Common.{arith}
 use Rattle.std.proofs.lemmas.Str.Parse.{digit_at}
 use Rattle.std.proofs.lemmas.Int.Digits.{digits_value_more}
-use Rattle.jsonb.proofs.DigitValues.{appended_none, all_digits_value}
+use Rattle.jsonb.proofs.Numbers.DigitValues.{appended_none, all_digits_value}
 use Rattle.jsonb.proofs.parser.number.digits_number.Goals as goal
 
 pub appended-requires : goal.appended-requires

@@ -1,5 +1,5 @@
 use Rattle.std.proofs.Common.{sym, ◌∙◌, ⊎_elim, inl, inr}
-use Rattle.jsonb.proofs.NumberReading.{no_exponent, exponent_bare, exponent_some}
+use Rattle.jsonb.proofs.Numbers.Steps.{no_exponent, exponent_bare, exponent_some}
 use Rattle.jsonb.proofs.parser.number.exponent_end.Goals as goal
 
 pub returns-then-mark-ne69-clause-end : goal.returns-then-mark-ne69-clause-end

@@ -1,5 +1,5 @@
 use Rattle.std.proofs.Common.{sym, ◌∙◌}
-use Rattle.jsonb.proofs.NumberReading.{no_fraction, fraction_bare, fraction_some}
+use Rattle.jsonb.proofs.Numbers.Steps.{no_fraction, fraction_bare, fraction_some}
 use Rattle.jsonb.proofs.parser.number.fraction_end.Goals as goal
 
 pub returns-then-byte_at-ne46-clause-end : goal.returns-then-byte_at-ne46-clause-end

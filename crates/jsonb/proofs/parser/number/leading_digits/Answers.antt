@@ -1,6 +1,6 @@
 use Rattle.std.proofs.Common.{arith, refl, sym, ◌∙◌}
 use Rattle.jsonb.specs.Reading.Number.{digits_length}
-use Rattle.jsonb.proofs.NumberReading.{digits_go_on, digits_end_here, digits_end_past, adds_digit, value_fits}
+use Rattle.jsonb.proofs.Numbers.Steps.{digits_go_on, digits_end_here, digits_end_past, adds_digit, value_fits}
 use Rattle.jsonb.proofs.parser.number.leading_digits.Goals as goal
 
 pub overflow_mul-value : goal.overflow_mul-value

@@ -1,7 +1,7 @@
 use Rattle.std.proofs.Common.{arith, ◌≡◌, subst, sym, take}
 use Rattle.std.specs.Str.Parse.{AllDigits}
 use Rattle.jsonb.specs.Reading.Number.{digits_length}
-use Rattle.jsonb.proofs.NumberReading.{all_digits}
+use Rattle.jsonb.proofs.Numbers.Steps.{all_digits}
 use Rattle.jsonb.proofs.parser.number.many_digits.Goals as goal
 
 pub digits_number-requires : goal.digits_number-requires

@@ -1,7 +1,7 @@
 use Rattle.std.proofs.Common.{◌+◌, length, Some, None, subst, arith}
 use Rattle.std.proofs.lemmas.List.{length-drop, take_rest}
 use Rattle.memchr.specs.Find.{IsFirstByte, is_byte2}
-use Rattle.jsonb.proofs.StringBodies.{clear_from}
+use Rattle.jsonb.proofs.Strings.Bodies.{clear_from}
 use Rattle.jsonb.proofs.parser.string.far_mark.Goals as goal
 
 pub returns-in-Some-clause-before : goal.returns-in-Some-clause-before

@@ -1,8 +1,8 @@
 use Rattle.std.proofs.Common.{◌≡◌, ◌+◌, ◌<◌, length, get_or, ⊎_elim, ap, ◌∙◌, arith}
 use Rattle.std.proofs.lemmas.List.{take_rest}
-use Rattle.jsonb_value.specs.StringStep.{escape_step}
-use Rattle.jsonb.proofs.NearMarks.{knows_later, knows_none}
-use Rattle.jsonb.proofs.StringBodies.{search_start, search_escape, search_to, found_end, no_end, tells_run}
+use Rattle.jsonb_value.specs.Grammar.StringStep.{escape_step}
+use Rattle.jsonb.proofs.Strings.NearMarks.{knows_later, knows_none}
+use Rattle.jsonb.proofs.Strings.Bodies.{search_start, search_escape, search_to, found_end, no_end, tells_run}
 use Rattle.jsonb.proofs.parser.string.find_end.Goals as goal
 
 pub items-init : goal.items-init

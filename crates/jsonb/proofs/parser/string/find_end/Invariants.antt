@@ -1,7 +1,7 @@
 use Rattle.std.proofs.Common.{◌+◌, ◌-◌, ◌<◌, length}
 use Rattle.jsonb.specs.Decoding.{TellsBackslash}
 use Rattle.jsonb.specs.QuotedString.{KnowsMarks}
-use Rattle.jsonb.proofs.StringBodies.{SearchFrom}
+use Rattle.jsonb.proofs.Strings.Bodies.{SearchFrom}
 use Rattle.jsonb.proofs.parser.string.find_end.Given as goal
 
 abbrev pub invariant-items : goal.invariant-items

@@ -1,5 +1,5 @@
 use Rattle.std.proofs.Common.{◌+◌, refl}
-use Rattle.jsonb.proofs.NearMarks.{clear_before, knows_later}
+use Rattle.jsonb.proofs.Strings.NearMarks.{clear_before, knows_later}
 use Rattle.jsonb.proofs.parser.string.first_mark.Goals as goal
 
 pub returns-clause-before : goal.returns-clause-before

@@ -1,4 +1,4 @@
-use Rattle.jsonb.proofs.NearMarks.{tells}
+use Rattle.jsonb.proofs.Strings.NearMarks.{tells}
 use Rattle.jsonb.proofs.parser.string.load_marks.Goals as goal
 
 pub returns : goal.returns

@@ -1,5 +1,5 @@
 use Rattle.std.proofs.Common.{◌+◌, arith}
-use Rattle.jsonb.proofs.NearMarks.{clear_all, clear_before}
+use Rattle.jsonb.proofs.Strings.NearMarks.{clear_all, clear_before}
 use Rattle.jsonb.proofs.parser.string.near_mark.Goals as goal
 
 pub returns-clause-bounds : goal.returns-clause-bounds

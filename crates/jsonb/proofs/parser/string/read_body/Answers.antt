@@ -3,7 +3,7 @@ use Rattle.std.proofs.lemmas.Result.{err_from_is_err_and}
 use Rattle.jsonb_value.specs.Tree.{plain}
 use Rattle.jsonb.specs.Parser.{mode_of}
 use Rattle.jsonb.specs.Decoding.{TellsBackslash}
-use Rattle.jsonb.proofs.StringBodies.{body-raw, body-raw_fault, body-decoded, reads_refused}
+use Rattle.jsonb.proofs.Strings.Bodies.{body-raw, body-raw_fault, body-decoded, reads_refused}
 use Rattle.jsonb.proofs.parser.string.read_body.Goals as goal
 
 pub returns-in_err-text-clause-reads : goal.returns-in_err-text-clause-reads

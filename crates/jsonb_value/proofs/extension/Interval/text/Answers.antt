@@ -1,6 +1,6 @@
 use Rattle.std.proofs.Common.{◌≡◌, ◌++◌, unsigned_abs, ap, sym, ◌∙◌, codes, FitsSigned, w32, w64, arith, rules}
 use Rattle.std.proofs.lemmas.Int.{ints, to_z-of_z}
-use Rattle.jsonb_value.proofs.IntervalTexts.{interval_text-none, interval_text-joined, years_fit, months_fit}
+use Rattle.jsonb_value.proofs.Appending.IntervalTexts.{interval_text-none, interval_text-joined, years_fit, months_fit}
 use Rattle.jsonb_value.proofs.extension.Interval.text.Goals as goal
 use Rattle.jsonb_value.proofs.extension.Interval.text.Goals.{else-self-eq0-via-then-self-eq0+then-self-eq0-2+else-self-eq0-3, else-self-eq0-via-then-self-eq0+else-self-eq0-2, else-self-eq0-via-else-self-eq0}
 

@@ -1,4 +1,4 @@
-use Rattle.jsonb_value.proofs.IntervalTexts.{appended_whole}
+use Rattle.jsonb_value.proofs.Appending.IntervalTexts.{appended_whole}
 use Rattle.jsonb_value.proofs.extension.text.and.Goals as goal
 
 pub returns : goal.returns

@@ -1,7 +1,7 @@
 use Rattle.std.proofs.Common.{◌≡◌, ◌≢◌, ℕ, length, unsigned_abs, ap, sym, ◌∙◌, length-append, append-nil, arith}
 use Rattle.std.proofs.lemmas.Int.{ints, to_z-of_z}
 use Rattle.std.specs.Fmt.InlineText.{inline_text}
-use Rattle.jsonb_value.proofs.IntervalTexts.{length-with_blank, beside_no_amount, beside_amount, one_ends, more_end}
+use Rattle.jsonb_value.proofs.Appending.IntervalTexts.{length-with_blank, beside_no_amount, beside_amount, one_ends, more_end}
 use Rattle.jsonb_value.proofs.extension.text.and_amount.Goals as goal
 
 pub returns-then-amount-eq0-clause-text : goal.returns-then-amount-eq0-clause-text

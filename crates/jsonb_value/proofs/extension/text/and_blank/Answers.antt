@@ -1,7 +1,7 @@
 use Rattle.std.proofs.Common.{◌≡◌, ◌≢◌, length, ◌∙◌, arith}
 use Rattle.std.proofs.lemmas.Bool.Decides.{nat_tests}
 use Rattle.std.specs.Fmt.InlineText.{inline_text}
-use Rattle.jsonb_value.proofs.IntervalTexts.{with_blank-none, with_blank-some}
+use Rattle.jsonb_value.proofs.Appending.IntervalTexts.{with_blank-none, with_blank-some}
 use Rattle.jsonb_value.proofs.extension.text.and_blank.Goals as goal
 
 pub returns-then-is_empty : goal.returns-then-is_empty

@@ -1,5 +1,5 @@
 use Rattle.std.specs.Fmt.InlineText.{inline_text}
-use Rattle.jsonb_value.proofs.IntervalTexts.{clock_joined}
+use Rattle.jsonb_value.proofs.Appending.IntervalTexts.{clock_joined}
 use Rattle.jsonb_value.proofs.extension.text.and_clock.Goals as goal
 
 pub returns : goal.returns

@@ -1,7 +1,7 @@
 use Rattle.std.proofs.Common.{◌≡◌, ◌≢◌, length, unsigned_abs, ap, length-append, arith}
 use Rattle.std.proofs.lemmas.Int.{ints, to_z-of_z}
 use Rattle.std.specs.Fmt.InlineText.{inline_text}
-use Rattle.jsonb_value.proofs.IntervalTexts.{length-with_blank, length-sign_text, beside_no_time, beside_time}
+use Rattle.jsonb_value.proofs.Appending.IntervalTexts.{length-with_blank, length-sign_text, beside_no_time, beside_time}
 use Rattle.jsonb_value.proofs.extension.text.and_time.Goals as goal
 
 pub returns-then-micros-eq0 : goal.returns-then-micros-eq0

@@ -1,6 +1,6 @@
 use Rattle.std.proofs.Common.{◌≡◌, ◌+◌, length, take, length-append, length-take, ap, ◌∙◌, arith}
-use Rattle.jsonb_value.specs.BinaryText.{binary_text}
-use Rattle.jsonb_value.proofs.BinaryTexts.{length-binary_text}
+use Rattle.jsonb_value.specs.Text.BinaryText.{binary_text}
+use Rattle.jsonb_value.proofs.Appending.BinaryTexts.{length-binary_text}
 use Rattle.jsonb_value.proofs.extension.text.append_binary.Goals as goal
 
 pub returns-in_err-reserve-clause-full : goal.returns-in_err-reserve-clause-full

@@ -1,5 +1,5 @@
 use Rattle.std.proofs.Common.{arith, refl}
-use Rattle.jsonb_value.proofs.Nearest.{exact_le}
+use Rattle.jsonb_value.proofs.Numbers.Nearest.{exact_le}
 use Rattle.jsonb_value.proofs.number.Number.as_i128.Goals as goal
 
 pub with_sign-requires-clause-at_most : goal.with_sign-requires-clause-at_most

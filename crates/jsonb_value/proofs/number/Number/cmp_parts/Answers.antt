@@ -3,7 +3,7 @@ use Rattle.std.proofs.lemmas.Int.{to_z-of_z}
 use Rattle.std.specs.Int.{w128}
 use Rattle.std.specs.Ordering.{ordering_reverse}
 use Rattle.jsonb_value.specs.Order.{decimal_cmp}
-use Rattle.jsonb_value.proofs.Scaling.{decimal_cmp-raised, decimal_cmp-lowered}
+use Rattle.jsonb_value.proofs.Numbers.Scaling.{decimal_cmp-raised, decimal_cmp-lowered}
 use Rattle.jsonb_value.proofs.number.Number.cmp_parts.Goals as goal
 
 pub returns-then-a_scale-b_scale : goal.returns-then-a_scale-b_scale

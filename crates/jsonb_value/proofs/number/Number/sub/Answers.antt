@@ -1,6 +1,6 @@
 use Rattle.std.proofs.Common.{rules, arith, ◌-ℤ◌}
 use Rattle.std.proofs.lemmas.Int.{ints}
-use Rattle.jsonb_value.proofs.Integers.{IsDifference-from}
+use Rattle.jsonb_value.proofs.Numbers.Integers.{IsDifference-from}
 use Rattle.jsonb_value.proofs.number.Number.sub.Goals as goal
 
 pub returns : goal.returns

@@ -2,7 +2,7 @@ use Rattle.std.proofs.Common.{rules}
 use Rattle.std.specs.Int.{w128}
 use Rattle.std.specs.Prelude.{FitsSigned}
 use Rattle.std.proofs.lemmas.Int.{to_z-of_z}
-use Rattle.jsonb_value.proofs.Nearest.{nearest_answer}
+use Rattle.jsonb_value.proofs.Numbers.Nearest.{nearest_answer}
 use Rattle.jsonb_value.proofs.number.Number.to_i128.Goals as goal
 
 pub returns-clause-nearest : goal.returns-clause-nearest

@@ -3,8 +3,8 @@ use Rattle.std.specs.Int.{w128}
 use Rattle.std.specs.Prelude.{FitsSigned}
 use Rattle.std.proofs.lemmas.Int.{to_z-of_z}
 use Rattle.jsonb_value.specs.View.{number_view}
-use Rattle.jsonb_value.specs.Cast.{HasNearest}
-use Rattle.jsonb_value.proofs.Narrowed.{unsigned_none, unsigned_some}
+use Rattle.jsonb_value.specs.Number.Cast.{HasNearest}
+use Rattle.jsonb_value.proofs.Numbers.Narrowed.{unsigned_none, unsigned_some}
 use Rattle.jsonb_value.proofs.number.Number.to_u64.Goals as goal
 
 pub returns-in_err-to_i128 : goal.returns-in_err-to_i128

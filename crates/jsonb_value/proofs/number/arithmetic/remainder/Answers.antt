@@ -1,7 +1,7 @@
 use Rattle.std.proofs.Common.{rules, ap, ◌∙◌, sym, ⊎_elim}
 use Rattle.std.specs.Int.{w128, cast_unsigned}
 use Rattle.std.specs.Prelude.{int_rem}
-use Rattle.jsonb_value.proofs.Integers.{int_rem_is, int_rem_fits, int_rem_passed}
+use Rattle.jsonb_value.proofs.Numbers.Integers.{int_rem_is, int_rem_fits, int_rem_passed}
 use Rattle.jsonb_value.proofs.number.arithmetic.remainder.Goals as goal
 
 pub returns : goal.returns

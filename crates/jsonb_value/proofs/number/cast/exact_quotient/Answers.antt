@@ -1,4 +1,4 @@
-use Rattle.jsonb_value.proofs.Quotients.{some_quotient}
+use Rattle.jsonb_value.proofs.Numbers.Quotients.{some_quotient}
 use Rattle.jsonb_value.proofs.number.cast.exact_quotient.Goals as goal
 
 pub returns-in-Some : goal.returns-in-Some

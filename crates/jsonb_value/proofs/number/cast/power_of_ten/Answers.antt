@@ -1,4 +1,4 @@
-use Rattle.jsonb_value.proofs.Quotients.{ten_none, ten_some}
+use Rattle.jsonb_value.proofs.Numbers.Quotients.{ten_none, ten_some}
 use Rattle.jsonb_value.proofs.number.cast.power_of_ten.Goals as goal
 
 pub returns-clause-none : goal.returns-clause-none

@@ -1,5 +1,5 @@
 use Rattle.std.proofs.Common.{arith}
-use Rattle.jsonb_value.proofs.Quotients.{rounded_by}
+use Rattle.jsonb_value.proofs.Numbers.Quotients.{rounded_by}
 use Rattle.jsonb_value.proofs.number.cast.rounded_quotient.Goals as goal
 
 pub returns-in-Some : goal.returns-in-Some

@@ -1,4 +1,4 @@
-use Rattle.jsonb_value.proofs.ReadingBack.{signed_reads_back, unsigned_reads_back}
+use Rattle.jsonb_value.proofs.Numbers.IntegersReadBack.{signed_reads_back, unsigned_reads_back}
 use Rattle.jsonb_value.proofs.number.laws.integer_texts_read_back.Goals as goal
 
 pub returns-clause-signed : goal.returns-clause-signed

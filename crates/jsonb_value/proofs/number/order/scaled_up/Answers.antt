@@ -1,7 +1,7 @@
 use Rattle.std.proofs.Common.{◌∙◌, rules, arith, FitsSigned}
 use Rattle.std.proofs.lemmas.Int.{to_z-of_z}
 use Rattle.std.specs.Int.{w128}
-use Rattle.jsonb_value.proofs.Scaling.{scaled_more, too_large_more}
+use Rattle.jsonb_value.proofs.Numbers.Scaling.{scaled_more, too_large_more}
 use Rattle.jsonb_value.proofs.number.order.scaled_up.Goals as goal
 
 pub returns-in_err-scaled : goal.returns-in_err-scaled

@@ -1,4 +1,4 @@
-use Rattle.jsonb_value.proofs.Pointed.{joined_whole, joined_inside, joined_before}
+use Rattle.jsonb_value.proofs.Numbers.Pointed.{joined_whole, joined_inside, joined_before}
 use Rattle.jsonb_value.proofs.number.text.decimal_parts.Goals as goal
 
 pub returns-then-places-eq0-clause-text : goal.returns-then-places-eq0-clause-text

@@ -3,7 +3,7 @@ use Rattle.std.specs.Prelude.{FitsSigned}
 use Rattle.std.specs.Int.{w64}
 use Rattle.std.specs.Fmt.{signed_decimal}
 use Rattle.std.proofs.lemmas.Int.{to_z-of_z}
-use Rattle.jsonb_value.proofs.Pointed.{signed_is_text}
+use Rattle.jsonb_value.proofs.Numbers.Pointed.{signed_is_text}
 use Rattle.jsonb_value.proofs.number.text.signed_text.Goals as goal
 
 pub returns-clause-text : goal.returns-clause-text

@@ -1,5 +1,5 @@
 use Rattle.std.proofs.Common.{rules, ◌∙◌}
-use Rattle.jsonb_value.proofs.Pointed.{unsigned_is_text}
+use Rattle.jsonb_value.proofs.Numbers.Pointed.{unsigned_is_text}
 use Rattle.jsonb_value.proofs.number.text.unsigned_text.Goals as goal
 
 pub returns-clause-text : goal.returns-clause-text

@@ -2,7 +2,7 @@ use Rattle.std.proofs.Common.{string_cmp, ◌∙◌}
 use Rattle.std.proofs.lemmas.Iterator.Adapters.{fact_from_collect, YieldsList-from_vec}
 use Rattle.std.proofs.lemmas.Result.{IfOk-weaker}
 use Rattle.std.specs.BTreeMap.{IsFromIterResult}
-use Rattle.jsonb_value.proofs.Built.{members_view-built}
+use Rattle.jsonb_value.proofs.Values.Built.{members_view-built}
 use Rattle.jsonb_value.proofs.value.copy.build.Goals as goal
 
 pub returns : goal.returns

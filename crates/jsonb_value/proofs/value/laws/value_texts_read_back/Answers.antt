@@ -1,4 +1,4 @@
-use Rattle.jsonb_value.proofs.RangeTexts.{range_reads_back, one_text_in_range, one_text_of_integers}
+use Rattle.jsonb_value.proofs.Trees.RangeTexts.{range_reads_back, one_text_in_range, one_text_of_integers}
 use Rattle.jsonb_value.proofs.value.laws.value_texts_read_back.Goals as goal
 
 pub returns-clause-reads_back : goal.returns-clause-reads_back

@@ -4,8 +4,8 @@ use Rattle.jsonb_value.specs.Keys.{KeysAscend}
 use Rattle.jsonb_value.specs.Owned.{owned}
 use Rattle.jsonb_value.specs.Tree.{trees_of}
 use Rattle.jsonb_value.specs.View.{view, members_view}
-use Rattle.jsonb_value.proofs.Keys.{KeysAscend-members_view}
-use Rattle.jsonb_value.proofs.OwnedCopies.{owned_items-trees_view, members_view-owned, KeysAscend-owned}
+use Rattle.jsonb_value.proofs.Values.Keys.{KeysAscend-members_view}
+use Rattle.jsonb_value.proofs.Values.OwnedCopies.{owned_items-trees_view, members_view-owned, KeysAscend-owned}
 use Rattle.jsonb_value.proofs.value.owned.+own.Goals as goal
 
 pub own_items-returns-clause-ok : goal.own_items-returns-clause-ok

@@ -1,7 +1,7 @@
 use Rattle.std.proofs.Common.{◌≡◌, ◌++◌, take, drop, map}
 use Rattle.jsonb_value.specs.Owned.{owned, items_hold_binary, members_hold_binary}
 use Rattle.jsonb_value.specs.View.{view, trees_view, members_view, pairs_view}
-use Rattle.jsonb_value.proofs.OwnedCopies.{owned_pairs}
+use Rattle.jsonb_value.proofs.Values.OwnedCopies.{owned_pairs}
 use Rattle.jsonb_value.proofs.value.owned.+own.Given as goal
 
 -- the copies own what was passed, and binary data stands in what is left where it stands in the whole

@@ -1,12 +1,12 @@
 use Rattle.std.proofs.Common.{◌≡◌, List, false, ◌+◌, [], ◌∷◌, ◌++◌, drop, refl, sym, subst, ap, ◌∙◌, arith, rules, string_bytes}
 use Rattle.jsonb_value.specs.Proper.{HaveProperParts}
-use Rattle.jsonb_value.specs.StringText.{quoted_text}
+use Rattle.jsonb_value.specs.Text.StringText.{quoted_text}
 use Rattle.jsonb_value.specs.Text.{with_commas, item_texts, member_texts, tree_text}
 use Rattle.jsonb_value.specs.View.{view, trees_view, members_view}
-use Rattle.jsonb_value.proofs.Appended.{begun, goes_on, fits, on_err}
-use Rattle.jsonb_value.proofs.Keys.{KeysAscend-members_view}
-use Rattle.jsonb_value.proofs.Members.{Entry}
-use Rattle.jsonb_value.proofs.Texts.{texts_left, comma_done, comma_fits, key_split, key_done, next_item, next_member, next_proper, next_proper_member}
+use Rattle.jsonb_value.proofs.Appending.Appended.{begun, goes_on, fits, on_err}
+use Rattle.jsonb_value.proofs.Values.Keys.{KeysAscend-members_view}
+use Rattle.jsonb_value.proofs.Values.Members.{Entry}
+use Rattle.jsonb_value.proofs.Appending.Pieces.{texts_left, comma_done, comma_fits, key_split, key_done, next_item, next_member, next_proper, next_proper_member}
 use Rattle.jsonb_value.proofs.value.text.+append.Goals as goal
 
 pub append_items-items-preserved : goal.append_items-items-preserved

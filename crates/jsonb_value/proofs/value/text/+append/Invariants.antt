@@ -4,8 +4,8 @@ use Rattle.jsonb_value.specs.Keys.{KeysAscend}
 use Rattle.jsonb_value.specs.Proper.{AreProper, HaveProperParts}
 use Rattle.jsonb_value.specs.Text.{with_commas, item_texts, member_texts}
 use Rattle.jsonb_value.specs.View.{trees_view, members_view}
-use Rattle.jsonb_value.proofs.Appended.{IsUnderway}
-use Rattle.jsonb_value.proofs.Texts.{texts_left}
+use Rattle.jsonb_value.proofs.Appending.Appended.{IsUnderway}
+use Rattle.jsonb_value.proofs.Appending.Pieces.{texts_left}
 use Rattle.jsonb_value.proofs.value.text.+append.Given as goal
 
 -- what is left to write is the rest of the items and the bracket, and if those left are proper, all are

@@ -1,8 +1,8 @@
 use Rattle.std.proofs.Common.{◌≤◌, length}
 use Rattle.std.specs.List.{flat_map}
 use Rattle.std.specs.Vec.{vec_capacity}
-use Rattle.jsonb_value.specs.StringText.{byte_text}
-use Rattle.jsonb_value.proofs.Appended.{IsUnderway}
+use Rattle.jsonb_value.specs.Text.StringText.{byte_text}
+use Rattle.jsonb_value.proofs.Appending.Appended.{IsUnderway}
 use Rattle.jsonb_value.proofs.value.text.append_runs.Given as goal
 
 -- what is left to write is the text of the rest

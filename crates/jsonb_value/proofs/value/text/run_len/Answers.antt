@@ -1,6 +1,6 @@
 use Rattle.std.proofs.Common.{arith}
 use Rattle.std.proofs.lemmas.List.{take_rest}
-use Rattle.jsonb_value.proofs.PlainRuns.{plain_on}
+use Rattle.jsonb_value.proofs.Strings.PlainRuns.{plain_on}
 use Rattle.jsonb_value.proofs.value.text.run_len.Goals as goal
 
 pub returns-then-run-lt16-clause-plain : goal.returns-then-run-lt16-clause-plain

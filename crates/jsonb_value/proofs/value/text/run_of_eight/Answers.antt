@@ -1,7 +1,7 @@
 use Rattle.std.proofs.Common.{refl, arith}
 use Rattle.std.proofs.lemmas.Simd.{zip2_splat, zip2_of_maps, length-chunk}
 use Rattle.std.specs.Simd.Lanes.{chunk}
-use Rattle.jsonb_value.proofs.PlainRuns.{marks_within, marks_plain}
+use Rattle.jsonb_value.proofs.Strings.PlainRuns.{marks_within, marks_plain}
 use Rattle.jsonb_value.proofs.value.text.run_of_eight.Goals as goal
 
 pub returns-clause-within : goal.returns-clause-within

@@ -6,7 +6,7 @@ use Rattle.jsonb.specs.AstView.{Written}
 use Rattle.jsonb.specs.OpenPlaces.{FrameIsPlaced, FrameIsRead, ObjectIsOpen, PartIsRead, placed_of}
 use Rattle.jsonb.specs.Placed.{AreElementsAt, AreMembersAt}
 use Rattle.jsonb.specs.Source.{source_view}
-use Rattle.jsonb.proofs.Placed.{element_added, member_added}
+use Rattle.jsonb.proofs.Places.Placed.{element_added, member_added}
 use Rattle.jsonb.proofs.parser.container.Frame.add.Goals.{in-Array+in_ok-push-in-Array, in-Object+in_ok-push-in-Object}
 use Rattle.jsonb.proofs.parser.container.Frame.add.Goals as goal
 

@@ -1,5 +1,5 @@
 use Rattle.std.proofs.Common.{arith}
-use Rattle.jsonb_value.proofs.Pointed.{length-joined}
+use Rattle.jsonb_value.proofs.Numbers.Pointed.{length-joined}
 use Rattle.jsonb_value.proofs.number.text.TextParts.len.Goals as goal
 
 pub overflow_add-result-2 : goal.overflow_add-result-2

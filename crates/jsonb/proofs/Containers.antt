@@ -1,0 +1,12 @@
+-- Arrays and objects, and the containers that are open.
+pub mod JoinedParts
+pub mod KeyPlaces
+pub mod LongerSpellings
+pub mod Members
+pub mod OpenOfDirect
+pub mod OpenOfReader
+pub mod OpenOnLists
+pub mod Repeats
+pub mod SecondPlaces
+pub mod Shuffles
+pub mod Values

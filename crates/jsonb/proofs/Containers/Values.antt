@@ -1,0 +1,434 @@
+-- A reader of the values inside of arrays and objects gives a reader of these.
+use Rattle.std.proofs.Common.{◌≡◌, ℕ, zero, suc, ◌+◌, ◌-◌, ◌≤◌, Bool, true, false, true≢false, ◌||◌, ◌⊎◌, inl, inr, List, [], ◌∷◌, ◌++◌, length, map, map-id, Option, Some, None, Result, Ok, refl, sym, ap, subst, subst₂, ◌∙◌, append_assoc, length-append, arith, eqb, eqb-true}
+use Rattle.jsonb_value.specs.Grammar.Blanks.{AreLastBlanks, IsBlanks}
+use Rattle.jsonb_value.specs.Code.Code.{expected_array_comma_or_end, expected_colon, expected_object_comma_or_end, invalid_eof, unexpected_trailing_characters}
+use Rattle.jsonb_value.specs.Grammar.{AreDistinct, Derives, HaveDistinctKeys, IsDocument, IsElement, IsJoined, IsMember, IsPadded, IsValue, max_depth}
+use Rattle.jsonb_value.specs.Grammar.IsDocument.{blanks_alone, value_alone}
+use Rattle.jsonb_value.specs.Grammar.IsElement.{empty_element, whole_element}
+use Rattle.jsonb_value.specs.Grammar.IsJoined.{more_parts, one_part}
+use Rattle.jsonb_value.specs.Grammar.IsMember.{key_and_value}
+use Rattle.jsonb_value.specs.Grammar.IsValue.{empty_array, empty_object, full_array, full_object, scalar}
+use Rattle.jsonb_value.specs.Mode.{Mode}
+use Rattle.jsonb_value.specs.Mode.Mode.{extended, standard}
+use Rattle.jsonb_value.specs.Grammar.Scalar.{IsKey, IsScalar}
+use Rattle.jsonb_value.specs.Tree.{Mark, Member, Tree, put_all, trees_of}
+use Rattle.jsonb_value.specs.Tree.Members.{no_members}
+use Rattle.jsonb_value.specs.Tree.Tree.{array, null, object}
+use Rattle.jsonb_value.specs.Tree.Trees.{no_trees}
+use Rattle.jsonb.specs.Reading.{Fault, Read, begins, fault, on_byte, refused, ◌>>=◌}
+use Rattle.jsonb.specs.Reading.Blank.{is_blank_start, is_break, opens_comment, pass_blanks, skip_blanks}
+use Rattle.jsonb.specs.Reading.Container.{Found, Spot, after_key, array_at, element_at, elements_at, first_repeat, found_at, is_left_out, joined_at, member_at, member_of, members_at, object_at, object_or_fault, padded_at, spot_of, value_or_null}
+use Rattle.jsonb.specs.Reading.Document.{at_end, comment_at, document_from, document_of, nothing_at, too_deep, value_at, value_to_end, value_with}
+use Rattle.jsonb.specs.Reading.Scalar.{key_at, scalar_at}
+use Rattle.jsonb.proofs.Steps.Tests.{SameRead, bind_ok, chosen, if-false, if-true, refused_fails, same_ok, same_read}
+use Rattle.jsonb.proofs.Containers.JoinedParts.{IsComplete, IsOther, IsPartComplete, IsSound, IsSoundBefore, Spelled, Starts, ends-blanks, ends_at, joined-skip, joined_complete, joined_sound, length-joined, on_byte-none, on_byte-other, on_byte_cases, other, padded_complete, padded_sound, skip-padded}
+use Rattle.jsonb.proofs.Containers.Repeats.{distinct, no_repeat}
+use Rattle.jsonb.proofs.Scalars.Spellings.{Follows, IsNumberTree, key_complete, key_sound, scalar_complete, scalar_sound, scalar_starts}
+use Rattle.jsonb.proofs.Scalars.Spellings.Follows.{before}
+use Rattle.jsonb.proofs.Text.Blanks.{Passes, ends_all, ends_line, passes, skip-blanks, skip-skip, skip-stop, skips}
+
+-- Each value is read, at the end of the text or where a byte follows that may follow.
+pub record IsValueComplete (Value : List ℕ → Tree → Type 0) (read : List ℕ → Read Tree) : Type 0 where
+  pub starts : (core : List ℕ) (t : Tree) → Value core t → Starts core
+  pub reads : (core : List ℕ) (t : Tree) (rest : List ℕ) → Value core t → (IsNumberTree t → Follows rest) → read (core ++ rest) ≡ Ok (t, rest)
+
+-- ---- scalars
+
+scalar_reads : (size : ℕ) (mode : Mode) (arrays objects : List ℕ → Read Tree) (core : List ℕ) (t : Tree) (rest : List ℕ) → IsScalar mode core t → (IsNumberTree t → Follows rest) → value_with size mode arrays objects (core ++ rest) ≡ Ok (t, rest)
+scalar_reads size mode arrays objects core t rest s f =
+    let st = scalar_starts mode core t s in
+    let opened : core ++ rest ≡ st.first ∷ (st.others ++ rest) = ap (λ (u : List ℕ). u ++ rest) st.whole in
+    ap (λ (u : List ℕ). on_byte 91 u arrays (on_byte 123 u objects (scalar_at size mode (core ++ rest)))) opened
+    ∙ on_byte-other 91 st.first (st.others ++ rest) arrays (on_byte 123 (st.first ∷ (st.others ++ rest)) objects (scalar_at size mode (core ++ rest))) st.bracket
+    ∙ on_byte-other 123 st.first (st.others ++ rest) objects (scalar_at size mode (core ++ rest)) st.brace
+    ∙ scalar_complete size mode core t rest s f
+
+-- ---- elements
+
+left_out-none : (mode : Mode) (b : ℕ) (rest : List ℕ) → IsOther b → is_left_out mode (b ∷ rest) ≡ false
+left_out-none standard b rest o = refl
+left_out-none extended b rest o = if-false-or (eqb b 44) (eqb b 93) o.comma o.bracket
+  where
+    if-false-or : (x y : Bool) → x ≡ false → y ≡ false → (x || y) ≡ false
+    if-false-or true y p q = p
+    if-false-or false y p q = q
+
+-- the bytes from the opening to the closing byte
+close_up : (open_byte close : ℕ) (bytes body rest : List ℕ) → bytes ≡ body ++ close ∷ rest → open_byte ∷ bytes ≡ (open_byte ∷ (body ++ close ∷ [])) ++ rest
+close_up open_byte close bytes body rest e = ap (λ (u : List ℕ). open_byte ∷ u) (e ∙ sym (append_assoc body (close ∷ []) rest))
+
+pub same_keys : (fs : List Found) → map (λ s. s.key) (map spot_of fs) ≡ map (λ m. m.0) (map member_of fs)
+same_keys [] = refl
+same_keys (f ∷ fs) = ap (λ (ks : List (List ℕ)). f.key ∷ ks) (same_keys fs)
+
+-- an object that was read has no repeat
+object_of : (o : Option Spot) (fs : List Found) (r : List ℕ) (t : Tree) (rest : List ℕ) → object_or_fault o fs r ≡ Ok (t, rest) → (o ≡ None) × SameRead (object (put_all (map member_of fs) no_members)) t r rest
+object_of None fs r t rest e = (refl, same_read (object (put_all (map member_of fs) no_members)) t r rest e)
+object_of (Some s) fs r t rest e = absurd cc
+
+pub is_extended_if : (mode : Mode) (bytes : List ℕ) → is_left_out mode bytes ≡ true → mode ≡ extended
+is_extended_if standard bytes e = absurd cc
+is_extended_if extended bytes e = refl
+
+module _ (mode : Mode) (Value : List ℕ → Tree → Type 0) (read : List ℕ → Read Tree) where
+  value_or_null-reads : (bytes : List ℕ) → Starts bytes → value_or_null mode read bytes ≡ read bytes
+  value_or_null-reads bytes s =
+      if-false (is_left_out mode bytes) (Ok (null, bytes)) (read bytes)
+      (ap (λ (u : List ℕ). is_left_out mode u) s.whole ∙ left_out-none mode s.first s.others (other s.first s.is_start))
+
+  value_complete : IsValueComplete Value read → IsComplete Value read
+  value_complete c = record { starts = c.starts; reads = λ core t rest s e. c.reads core t rest s (λ n. before e) }
+
+  value_or_null_complete : IsValueComplete Value read → IsComplete Value (value_or_null mode read)
+  value_or_null_complete c =
+      record {
+        starts = c.starts;
+        reads = λ core t rest s e.
+            let st = c.starts core t s in
+            value_or_null-reads (core ++ rest) (record { first = st.first; others = st.others ++ rest; whole = ap (λ (u : List ℕ). u ++ rest) st.whole; is_start = st.is_start })
+            ∙ c.reads core t rest s (λ n. before e);
+      }
+
+  element_reads : IsValueComplete Value read → (bytes : List ℕ) (t : Tree) (c : ℕ) (rest : List ℕ) → IsElement mode Value bytes t
+      → (eqb c 44 || eqb c 93) ≡ true → is_break c ≡ true → is_blank_start c ≡ false → element_at mode read (bytes ++ c ∷ rest) ≡ Ok (t, c ∷ rest)
+  element_reads complete bytes t c rest (whole_element p) ends is_end is_none = padded_complete mode Value (value_or_null mode read) (value_or_null_complete complete) bytes t c rest p is_end is_none
+  element_reads complete bytes t c rest (empty_element is_extended b) ends is_end is_none =
+      let k : skip_blanks mode (c ∷ rest) ≡ c ∷ rest = skip-stop mode c rest is_none in
+      let left_out : is_left_out mode (c ∷ rest) ≡ true = ap (λ (m : Mode). is_left_out m (c ∷ rest)) is_extended ∙ ends in
+      ap (λ (u : List ℕ). value_or_null mode read u >>= λ (x : Tree × List ℕ). Ok (x.0, skip_blanks mode x.1)) (skip-blanks b (c ∷ rest) ∙ k)
+      ∙ ap (λ (r : Read Tree). r >>= λ (x : Tree × List ℕ). Ok (x.0, skip_blanks mode x.1)) (if-true (is_left_out mode (c ∷ rest)) (Ok (null, c ∷ rest)) (read (c ∷ rest)) left_out)
+      ∙ ap (λ (u : List ℕ). Ok (null, u)) k
+
+  elements_complete : IsValueComplete Value read → IsPartComplete (λ (t : Tree). t) 93 (IsElement mode Value) (element_at mode read)
+  elements_complete complete =
+      record {
+        comma = λ bytes t rest s. (t, refl, element_reads complete bytes t 44 rest s refl refl refl);
+        last = λ bytes t rest s. (t, refl, element_reads complete bytes t 93 rest s refl refl refl);
+        apart = refl;
+      }
+
+  pub element_sound : IsSound Value read → IsSoundBefore (IsElement mode Value) (element_at mode read)
+  element_sound sound bytes t rest e left =
+      let b = bind_ok (value_or_null mode read (skip_blanks mode bytes)) (λ (x : Tree × List ℕ). Ok (x.0, skip_blanks mode x.1)) (t, rest) e in
+      elim (chosen (is_left_out mode (skip_blanks mode bytes)) (Ok (null, skip_blanks mode bytes)) (read (skip_blanks mode bytes)) (Ok b.0) b.1) [
+        | inl h ↦
+            let same = same_read null b.0.0 (skip_blanks mode bytes) b.0.1 h.1 in
+            let out = same_read b.0.0 t (skip_blanks mode b.0.1) rest b.2 in
+            let rest-is : skip_blanks mode bytes ≡ rest = sym (skip-skip mode bytes) ∙ ap (λ (u : List ℕ). skip_blanks mode u) same.rest ∙ out.rest in
+            let front = skips mode bytes (omega (arith, left, ap length rest-is)) in
+            record {
+              core = front.blanks;
+              spells = subst (λ (v : Tree). IsElement mode Value front.blanks v) (same.value ∙ out.value) (empty_element (is_extended_if mode (skip_blanks mode bytes) h.0) front.are_blanks);
+              whole = front.whole ∙ ap (λ (u : List ℕ). front.blanks ++ u) rest-is;
+            }
+        | inr h ↦
+            let again : padded_at mode read bytes ≡ Ok (t, rest) = ap (λ (r : Read Tree). r >>= λ (x : Tree × List ℕ). Ok (x.0, skip_blanks mode x.1)) h.1 ∙ b.2 in
+            let s = padded_sound mode Value read sound bytes t rest again left in
+            record { core = s.core; spells = whole_element s.spells; whole = s.whole }
+      ]
+
+  -- ---- members
+
+  member_reads : (size : ℕ) → IsValueComplete Value read → (bytes : List ℕ) (m : Member) (c : ℕ) (rest : List ℕ) → IsMember mode Value bytes m
+      → is_break c ≡ true → is_blank_start c ≡ false → (f : Found) × (member_of f ≡ m) × (member_at size mode read (bytes ++ c ∷ rest) ≡ Ok (f, c ∷ rest))
+  member_reads size complete bytes m c rest (key_and_value {left = left} {right = right} {key = k} {t = t} kp vp) is_end is_none =
+      let colon : List ℕ = 58 ∷ (right ++ c ∷ rest) in
+      let s = skip-padded mode (IsKey mode) (key_at size mode) (key_complete size mode) left k colon kp in
+      let place : ℕ = size - length (s.after ++ colon) in
+      let key_read : key_at size mode (s.core ++ (s.after ++ colon)) ≡ Ok (k, s.after ++ colon) =
+      (key_complete size mode).reads s.core k (s.after ++ colon) s.spells (ends-blanks s.are_blanks colon (ends_at 58 (right ++ c ∷ rest) refl)) in
+      let skipped : skip_blanks mode (s.after ++ colon) ≡ colon = skip-blanks s.are_blanks colon ∙ skip-stop mode 58 (right ++ c ∷ rest) refl in
+      let value_read : padded_at mode read (right ++ c ∷ rest) ≡ Ok (t, c ∷ rest) = padded_complete mode Value read (value_complete complete) right t c rest vp is_end is_none in (
+        record { mark = k.0; key = k.1; tree = t; place = place },
+        refl,
+        ap (λ (u : List ℕ). member_at size mode read u) (append_assoc left (58 ∷ right) (c ∷ rest))
+            ∙ ap (λ (u : List ℕ). key_at size mode u >>= λ (x : (Mark × List ℕ) × List ℕ). after_key size mode read x.0 (size - length x.1) (skip_blanks mode x.1)) s.skipped
+            ∙ ap (λ (r : Read (Mark × List ℕ)). r >>= λ (x : (Mark × List ℕ) × List ℕ). after_key size mode read x.0 (size - length x.1) (skip_blanks mode x.1)) key_read
+            ∙ ap (λ (u : List ℕ). after_key size mode read k place u) skipped
+            ∙ ap (λ (r : Read Tree). r >>= λ (x : Tree × List ℕ). found_at k place x) value_read,
+      )
+
+  members_complete : (size : ℕ) → IsValueComplete Value read → IsPartComplete member_of 125 (IsMember mode Value) (member_at size mode read)
+  members_complete size complete =
+      record {
+        comma = λ bytes m rest s. member_reads size complete bytes m 44 rest s refl refl;
+        last = λ bytes m rest s. member_reads size complete bytes m 125 rest s refl refl;
+        apart = refl;
+      }
+
+  abbrev pub IsFound : List ℕ → Found → Type 0
+  IsFound bytes f = IsMember mode Value bytes (member_of f)
+
+  pub member_sound : (size : ℕ) → IsSound Value read → IsSoundBefore IsFound (member_at size mode read)
+  member_sound size sound bytes f rest e left_over =
+      let b = bind_ok (key_at size mode (skip_blanks mode bytes)) (λ (x : (Mark × List ℕ) × List ℕ). after_key size mode read x.0 (size - length x.1) (skip_blanks mode x.1)) (f, rest) e in
+      let k : Mark × List ℕ = b.0.0 in
+      let place : ℕ = size - length b.0.1 in
+      let colon : List ℕ = skip_blanks mode b.0.1 in
+      let key_read : padded_at mode (key_at size mode) bytes ≡ Ok (k, colon) = ap (λ (r : Read (Mark × List ℕ)). r >>= λ (x : (Mark × List ℕ) × List ℕ). Ok (x.0, skip_blanks mode x.1)) b.1 in
+      elim (on_byte_cases 58 colon (λ (r : List ℕ). padded_at mode read r >>= λ (x : Tree × List ℕ). found_at k place x) (refused size expected_colon 0 colon) (Ok (f, rest)) b.2) [
+        | inl t ↦
+            let v = bind_ok (padded_at mode read t.0) (λ (x : Tree × List ℕ). found_at k place x) (f, rest) t.2 in
+            let left = padded_sound mode (IsKey mode) (key_at size mode) (key_sound size mode) bytes k colon key_read (omega (arith, ap length t.1)) in
+            let same = same_read (record { mark = k.0; key = k.1; tree = v.0.0; place = place }) f v.0.1 rest v.2 in
+            let right = padded_sound mode Value read sound t.0 v.0.0 v.0.1 v.1 (omega (arith, left_over, ap length same.rest)) in
+            record {
+              core = left.core ++ 58 ∷ right.core;
+              spells = subst (λ (g : Found). IsFound (left.core ++ 58 ∷ right.core) g) same.value (key_and_value left.spells right.spells);
+              whole =
+                  left.whole ∙ ap (λ (u : List ℕ). left.core ++ u) (t.1 ∙ ap (λ (u : List ℕ). 58 ∷ u) (right.whole ∙ ap (λ (u : List ℕ). right.core ++ u) same.rest))
+                  ∙ sym (append_assoc left.core (58 ∷ right.core) rest);
+            }
+        | inr g ↦ absurd (refused_fails size expected_colon 0 colon (f, rest) g.1)
+      ]
+
+  -- ---- how arrays and objects that are not empty begin
+
+  begins-padded : {A : Type 0} (Spells : List ℕ → A → Type 0) (part : List ℕ → Read A) → IsComplete Spells part → (bytes : List ℕ) (a : A) (rest : List ℕ) (c : ℕ) → IsPadded mode Spells bytes a
+      → ((b : ℕ) → IsOther b → eqb b c ≡ false) → begins c (skip_blanks mode (bytes ++ rest)) ≡ false
+  begins-padded Spells part complete bytes a rest c p apart =
+      let s = skip-padded mode Spells part complete bytes a rest p in
+      let st = complete.starts s.core a s.spells in
+      ap (λ (u : List ℕ). begins c u) (s.skipped ∙ ap (λ (u : List ℕ). u ++ (s.after ++ rest)) st.whole)
+      ∙ if-false (eqb st.first c) true false (apart st.first (other st.first st.is_start))
+
+  element_begins : IsValueComplete Value read → (bytes : List ℕ) (t : Tree) (rest : List ℕ) → IsElement mode Value bytes t → (begins 93 (skip_blanks mode (bytes ++ rest)) ≡ false) ⊎ IsBlanks mode bytes
+  element_begins complete bytes t rest (whole_element p) = inl (begins-padded Value read (value_complete complete) bytes t rest 93 p (λ b o. o.bracket))
+  element_begins complete bytes t rest (empty_element is_extended b) = inr b
+
+  elements_begin : IsValueComplete Value read → {body : List ℕ} {ts : List Tree} (j : IsJoined (IsElement mode Value) body ts) (rest : List ℕ) → (IsBlanks mode body → ⊥) → begins 93 (skip_blanks mode (body ++ 93 ∷ rest)) ≡ false
+  elements_begin complete (one_part {bytes = bytes} {a = t} s) rest not_blank =
+      elim (element_begins complete bytes t (93 ∷ rest) s) [ inl h ↦ h | inr b ↦ absurd (not_blank b) ]
+  elements_begin complete (more_parts {first = first} {rest = others} {a = t} s j) rest not_blank =
+      ap (λ (u : List ℕ). begins 93 (skip_blanks mode u)) (append_assoc first (44 ∷ others) (93 ∷ rest))
+      ∙ elim (element_begins complete first t (44 ∷ (others ++ 93 ∷ rest)) s) [
+        | inl h ↦ h
+        | inr b ↦ ap (λ (u : List ℕ). begins 93 u) (skip-blanks b (44 ∷ (others ++ 93 ∷ rest)) ∙ skip-stop mode 44 (others ++ 93 ∷ rest) refl)
+      ]
+
+  member_begins : (bytes : List ℕ) (m : Member) (rest : List ℕ) → IsMember mode Value bytes m → begins 125 (skip_blanks mode (bytes ++ rest)) ≡ false
+  member_begins bytes m rest (key_and_value {left = left} {right = right} {key = k} kp vp) =
+      ap (λ (u : List ℕ). begins 125 (skip_blanks mode u)) (append_assoc left (58 ∷ right) rest)
+      ∙ begins-padded (IsKey mode) (key_at 0 mode) (key_complete 0 mode) left k (58 ∷ (right ++ rest)) 125 kp (λ b o. o.brace)
+
+  members_begin : {body : List ℕ} {ms : List Member} (j : IsJoined (IsMember mode Value) body ms) (rest : List ℕ) → begins 125 (skip_blanks mode (body ++ rest)) ≡ false
+  members_begin (one_part {bytes = bytes} {a = m} s) rest = member_begins bytes m rest s
+  members_begin (more_parts {first = first} {rest = others} {a = m} s j) rest =
+      ap (λ (u : List ℕ). begins 125 (skip_blanks mode u)) (append_assoc first (44 ∷ others) rest) ∙ member_begins first m (44 ∷ (others ++ rest)) s
+
+  -- ---- arrays
+
+  array_sound : (size : ℕ) → IsSound Value read → (bytes : List ℕ) (t : Tree) (rest : List ℕ) → array_at size mode read bytes ≡ Ok (t, rest) → Spelled (IsValue mode Value) (91 ∷ bytes) t rest
+  array_sound size sound bytes t rest e =
+      elim (on_byte_cases 93 (skip_blanks mode bytes) (λ (r : List ℕ). Ok (array no_trees, r)) (elements_at size mode read bytes) (Ok (t, rest)) e) [
+        | inl h ↦
+            let front = skips mode bytes (omega (arith, ap length h.1)) in
+            let same = same_read (array no_trees) t h.0 rest h.2 in
+            record {
+              core = 91 ∷ (front.blanks ++ 93 ∷ []);
+              spells = subst (λ (v : Tree). IsValue mode Value (91 ∷ (front.blanks ++ 93 ∷ [])) v) same.value (empty_array front.are_blanks);
+              whole = close_up 91 93 bytes front.blanks rest (front.whole ∙ ap (λ (u : List ℕ). front.blanks ++ u) (h.1 ∙ ap (λ (u : List ℕ). 93 ∷ u) same.rest));
+            }
+        | inr h ↦
+            let b = bind_ok (joined_at size expected_array_comma_or_end 93 (element_at mode read) (suc (length bytes)) (skip_blanks mode bytes)) (λ (x : List Tree × List ℕ). Ok (array (trees_of x.0), x.1)) (t, rest) h.1 in
+            let again = sym (joined-skip size expected_array_comma_or_end 93 (IsElement mode Value) (element_at mode read) mode (λ u. ap (λ (w : List ℕ). value_or_null mode read w >>= λ (x : Tree × List ℕ). Ok (x.0, skip_blanks mode x.1)) (skip-skip mode u)) (suc (length bytes)) bytes) ∙ b.1 in
+            let j = joined_sound size expected_array_comma_or_end 93 (IsElement mode Value) (element_at mode read) (element_sound sound) (suc (length bytes)) bytes b.0.0 b.0.1 again in
+            let same = same_read (array (trees_of b.0.0)) t b.0.1 rest b.2 in
+            let whole : bytes ≡ j.0 ++ 93 ∷ rest = j.2 ∙ ap (λ (u : List ℕ). j.0 ++ 93 ∷ u) same.rest in
+            let not_blank : IsBlanks mode j.0 → ⊥ = λ k.
+            let found : begins 93 (skip_blanks mode bytes) ≡ true = ap (λ (u : List ℕ). begins 93 (skip_blanks mode u)) whole ∙ ap (λ (u : List ℕ). begins 93 u) (skip-blanks k (93 ∷ rest) ∙ skip-stop mode 93 rest refl) in
+            true≢false (sym found ∙ h.0) in
+            record {
+              core = 91 ∷ (j.0 ++ 93 ∷ []);
+              spells = subst (λ (v : Tree). IsValue mode Value (91 ∷ (j.0 ++ 93 ∷ [])) v) same.value (full_array j.1 not_blank);
+              whole = close_up 91 93 bytes j.0 rest whole;
+            }
+      ]
+
+  array_complete : (size : ℕ) → IsValueComplete Value read → (body : List ℕ) (ts : List Tree) (rest : List ℕ) → IsJoined (IsElement mode Value) body ts → (IsBlanks mode body → ⊥)
+      → array_at size mode read (body ++ 93 ∷ rest) ≡ Ok (array (trees_of ts), rest)
+  array_complete size complete body ts rest j not_blank =
+      let bytes : List ℕ = body ++ 93 ∷ rest in
+      let enough : length ts ≤ suc (length bytes) = omega (arith, length-joined j, length-append body (93 ∷ rest)) in
+      let c = joined_complete (λ (t : Tree). t) size expected_array_comma_or_end 93 (IsElement mode Value) (element_at mode read) (elements_complete complete) j (suc (length bytes)) rest enough in
+      let same : c.0 ≡ ts = sym (map-id c.0) ∙ c.1 in
+      on_byte-none 93 (skip_blanks mode bytes) (λ (r : List ℕ). Ok (array no_trees, r)) (elements_at size mode read bytes) (elements_begin complete j rest not_blank)
+      ∙ ap (λ (r : Read (List Tree)). r >>= λ (x : List Tree × List ℕ). Ok (array (trees_of x.0), x.1))
+      (joined-skip size expected_array_comma_or_end 93 (IsElement mode Value) (element_at mode read) mode (λ u. ap (λ (w : List ℕ). value_or_null mode read w >>= λ (x : Tree × List ℕ). Ok (x.0, skip_blanks mode x.1)) (skip-skip mode u)) (suc (length bytes)) bytes ∙ c.2)
+      ∙ ap (λ (us : List Tree). Ok (array (trees_of us), rest)) same
+
+  empty_array_complete : (size : ℕ) {before : List ℕ} (b : IsBlanks mode before) (rest : List ℕ) → array_at size mode read (before ++ 93 ∷ rest) ≡ Ok (array no_trees, rest)
+  empty_array_complete size {before} b rest =
+      ap (λ (u : List ℕ). on_byte 93 u (λ (r : List ℕ). Ok (array no_trees, r)) (elements_at size mode read (before ++ 93 ∷ rest))) (skip-blanks b (93 ∷ rest) ∙ skip-stop mode 93 rest refl)
+
+  -- ---- objects
+
+  joined_members : {body : List ℕ} {fs : List Found} (j : IsJoined IsFound body fs) → IsJoined (IsMember mode Value) body (map member_of fs)
+  joined_members (one_part s) = one_part s
+  joined_members (more_parts s j) = more_parts s (joined_members j)
+
+  object_sound : (size : ℕ) → IsSound Value read → (bytes : List ℕ) (t : Tree) (rest : List ℕ) → object_at size mode read bytes ≡ Ok (t, rest) → Spelled (IsValue mode Value) (123 ∷ bytes) t rest
+  object_sound size sound bytes t rest e =
+      elim (on_byte_cases 125 (skip_blanks mode bytes) (λ (r : List ℕ). Ok (object no_members, r)) (members_at size mode read bytes) (Ok (t, rest)) e) [
+        | inl h ↦
+            let front = skips mode bytes (omega (arith, ap length h.1)) in
+            let same = same_read (object no_members) t h.0 rest h.2 in
+            record {
+              core = 123 ∷ (front.blanks ++ 125 ∷ []);
+              spells = subst (λ (v : Tree). IsValue mode Value (123 ∷ (front.blanks ++ 125 ∷ [])) v) same.value (empty_object front.are_blanks);
+              whole = close_up 123 125 bytes front.blanks rest (front.whole ∙ ap (λ (u : List ℕ). front.blanks ++ u) (h.1 ∙ ap (λ (u : List ℕ). 125 ∷ u) same.rest));
+            }
+        | inr h ↦
+            let b = bind_ok (joined_at size expected_object_comma_or_end 125 (member_at size mode read) (suc (length bytes)) (skip_blanks mode bytes)) (λ (x : List Found × List ℕ). object_or_fault (first_repeat (map spot_of x.0)) x.0 x.1) (t, rest) h.1 in
+            let again = sym (joined-skip size expected_object_comma_or_end 125 IsFound (member_at size mode read) mode (member_skip size) (suc (length bytes)) bytes) ∙ b.1 in
+            let j = joined_sound size expected_object_comma_or_end 125 IsFound (member_at size mode read) (member_sound size sound) (suc (length bytes)) bytes b.0.0 b.0.1 again in
+            let o = object_of (first_repeat (map spot_of b.0.0)) b.0.0 b.0.1 t rest b.2 in
+            let whole : bytes ≡ j.0 ++ 125 ∷ rest = j.2 ∙ ap (λ (u : List ℕ). j.0 ++ 125 ∷ u) o.1.rest in
+            let keys : HaveDistinctKeys (map member_of b.0.0) = subst AreDistinct (same_keys b.0.0) (distinct (map spot_of b.0.0) o.0) in
+            record {
+              core = 123 ∷ (j.0 ++ 125 ∷ []);
+              spells = subst (λ (v : Tree). IsValue mode Value (123 ∷ (j.0 ++ 125 ∷ [])) v) o.1.value (full_object (joined_members j.1) keys);
+              whole = close_up 123 125 bytes j.0 rest whole;
+            }
+      ]
+    where
+      member_skip : (size : ℕ) (u : List ℕ) → member_at size mode read (skip_blanks mode u) ≡ member_at size mode read u
+      member_skip size u = ap (λ (w : List ℕ). key_at size mode w >>= λ (x : (Mark × List ℕ) × List ℕ). after_key size mode read x.0 (size - length x.1) (skip_blanks mode x.1)) (skip-skip mode u)
+
+  object_complete : (size : ℕ) → IsValueComplete Value read → (body : List ℕ) (ms : List Member) (rest : List ℕ) → IsJoined (IsMember mode Value) body ms → HaveDistinctKeys ms
+      → object_at size mode read (body ++ 125 ∷ rest) ≡ Ok (object (put_all ms no_members), rest)
+  object_complete size complete body ms rest j keys =
+      let bytes : List ℕ = body ++ 125 ∷ rest in
+      let enough : length ms ≤ suc (length bytes) = omega (arith, length-joined j, length-append body (125 ∷ rest)) in
+      let c = joined_complete member_of size expected_object_comma_or_end 125 (IsMember mode Value) (member_at size mode read) (members_complete size complete) j (suc (length bytes)) rest enough in
+      let spots_distinct : AreDistinct (map (λ s. s.key) (map spot_of c.0)) = subst AreDistinct (sym (same_keys c.0)) (subst HaveDistinctKeys (sym c.1) keys) in
+      on_byte-none 125 (skip_blanks mode bytes) (λ (r : List ℕ). Ok (object no_members, r)) (members_at size mode read bytes) (members_begin j (125 ∷ rest))
+      ∙ ap (λ (r : Read (List Found)). r >>= λ (x : List Found × List ℕ). object_or_fault (first_repeat (map spot_of x.0)) x.0 x.1)
+      (joined-skip size expected_object_comma_or_end 125 IsFound (member_at size mode read) mode (member_skip size) (suc (length bytes)) bytes ∙ c.2)
+      ∙ ap (λ (o : Option Spot). object_or_fault o c.0 rest) (no_repeat (map spot_of c.0) spots_distinct)
+      ∙ ap (λ (ns : List Member). Ok (object (put_all ns no_members), rest)) c.1
+    where
+      member_skip : (size : ℕ) (u : List ℕ) → member_at size mode read (skip_blanks mode u) ≡ member_at size mode read u
+      member_skip size u = ap (λ (w : List ℕ). key_at size mode w >>= λ (x : (Mark × List ℕ) × List ℕ). after_key size mode read x.0 (size - length x.1) (skip_blanks mode x.1)) (skip-skip mode u)
+
+  empty_object_complete : (size : ℕ) {before : List ℕ} (b : IsBlanks mode before) (rest : List ℕ) → object_at size mode read (before ++ 125 ∷ rest) ≡ Ok (object no_members, rest)
+  empty_object_complete size {before} b rest =
+      ap (λ (u : List ℕ). on_byte 125 u (λ (r : List ℕ). Ok (object no_members, r)) (members_at size mode read (before ++ 125 ∷ rest))) (skip-blanks b (125 ∷ rest) ∙ skip-stop mode 125 rest refl)
+
+  -- ---- values
+
+  pub containers_sound : (size : ℕ) → IsSound Value read → IsSound (IsValue mode Value) (value_with size mode (array_at size mode read) (object_at size mode read))
+  containers_sound size sound bytes t rest e =
+      elim (on_byte_cases 91 bytes (array_at size mode read) (on_byte 123 bytes (object_at size mode read) (scalar_at size mode bytes)) (Ok (t, rest)) e) [
+        | inl h ↦ subst (λ (u : List ℕ). Spelled (IsValue mode Value) u t rest) (sym h.1) (array_sound size sound h.0 t rest h.2)
+        | inr h ↦ elim (on_byte_cases 123 bytes (object_at size mode read) (scalar_at size mode bytes) (Ok (t, rest)) h.1) [
+          | inl k ↦ subst (λ (u : List ℕ). Spelled (IsValue mode Value) u t rest) (sym k.1) (object_sound size sound k.0 t rest k.2)
+          | inr k ↦ let s = scalar_sound size mode bytes t rest k.1 in record { core = s.core; spells = scalar s.spells; whole = s.whole }
+        ]
+      ]
+
+  value_starts : (core : List ℕ) (t : Tree) → IsValue mode Value core t → Starts core
+  value_starts core t (scalar s) = let st = scalar_starts mode core t s in record { first = st.first; others = st.others; whole = st.whole; is_start = st.is_start }
+  value_starts core t (empty_array {blanks = bs} b) = record { first = 91; others = bs ++ 93 ∷ []; whole = refl; is_start = refl }
+  value_starts core t (full_array {body = body} j n) = record { first = 91; others = body ++ 93 ∷ []; whole = refl; is_start = refl }
+  value_starts core t (empty_object {blanks = bs} b) = record { first = 123; others = bs ++ 125 ∷ []; whole = refl; is_start = refl }
+  value_starts core t (full_object {body = body} j d) = record { first = 123; others = body ++ 125 ∷ []; whole = refl; is_start = refl }
+
+  value_reads : (size : ℕ) → IsValueComplete Value read → (core : List ℕ) (t : Tree) (rest : List ℕ) → IsValue mode Value core t → (IsNumberTree t → Follows rest)
+      → value_with size mode (array_at size mode read) (object_at size mode read) (core ++ rest) ≡ Ok (t, rest)
+  value_reads size complete core t rest (scalar s) f = scalar_reads size mode (array_at size mode read) (object_at size mode read) core t rest s f
+  value_reads size complete core t rest (empty_array {blanks = bs} b) f = ap (λ (u : List ℕ). array_at size mode read u) (append_assoc bs (93 ∷ []) rest) ∙ empty_array_complete size b rest
+  value_reads size complete core t rest (full_array {body = body} {ts = ts} j n) f = ap (λ (u : List ℕ). array_at size mode read u) (append_assoc body (93 ∷ []) rest) ∙ array_complete size complete body ts rest j n
+  value_reads size complete core t rest (empty_object {blanks = bs} b) f = ap (λ (u : List ℕ). object_at size mode read u) (append_assoc bs (125 ∷ []) rest) ∙ empty_object_complete size b rest
+  value_reads size complete core t rest (full_object {body = body} {ms = ms} j d) f = ap (λ (u : List ℕ). object_at size mode read u) (append_assoc body (125 ∷ []) rest) ∙ object_complete size complete body ms rest j d
+
+  pub containers_complete : (size : ℕ) → IsValueComplete Value read → IsValueComplete (IsValue mode Value) (value_with size mode (array_at size mode read) (object_at size mode read))
+  containers_complete size complete = record { starts = value_starts; reads = value_reads size complete }
+
+-- ---- values of any depth
+
+too_deep_sound : (size : ℕ) (mode : Mode) → IsSound (IsScalar mode) (value_with size mode (too_deep size) (too_deep size))
+too_deep_sound size mode bytes t rest e =
+    elim (on_byte_cases 91 bytes (too_deep size) (on_byte 123 bytes (too_deep size) (scalar_at size mode bytes)) (Ok (t, rest)) e) [
+      | inl h ↦ absurd (let never : too_deep size h.0 ≡ Ok (t, rest) = h.2 in cc)
+      | inr h ↦ elim (on_byte_cases 123 bytes (too_deep size) (scalar_at size mode bytes) (Ok (t, rest)) h.1) [
+        | inl k ↦ absurd (let never : too_deep size k.0 ≡ Ok (t, rest) = k.2 in cc)
+        | inr k ↦ scalar_sound size mode bytes t rest k.1
+      ]
+    ]
+
+pub value_sound : (size : ℕ) (mode : Mode) (depth : ℕ) → IsSound (Derives mode depth) (value_at size mode depth)
+unfolding value_at
+value_sound size mode zero = too_deep_sound size mode
+value_sound size mode (suc depth) = containers_sound mode (Derives mode depth) (value_at size mode depth) size (value_sound size mode depth)
+
+pub value_is_complete : (size : ℕ) (mode : Mode) (depth : ℕ) → IsValueComplete (Derives mode depth) (value_at size mode depth)
+unfolding value_at
+value_is_complete size mode zero =
+    record {
+      starts = λ core t s. let st = scalar_starts mode core t s in record { first = st.first; others = st.others; whole = st.whole; is_start = st.is_start };
+      reads = λ core t rest s f. scalar_reads size mode (too_deep size) (too_deep size) core t rest s f;
+    }
+value_is_complete size mode (suc depth) = containers_complete mode (Derives mode depth) (value_at size mode depth) size (value_is_complete size mode depth)
+
+-- ---- whole texts
+
+-- where a comment begins
+opens_is : (mode : Mode) (b : ℕ) (rest : List ℕ) → opens_comment mode (b ∷ rest) ≡ true → (mode ≡ extended) × (b ≡ 47)
+opens_is standard b rest e = absurd (true≢false (sym e))
+opens_is extended b rest e =
+    elim (chosen (eqb b 47) (begins 42 rest || begins 47 rest) false true e) [
+      | inl t ↦ (refl, eqb-true b 47 t.0)
+      | inr f ↦ absurd (true≢false (sym f.1))
+    ]
+
+-- a comment that ends a text is a line
+pub comment_ends : (mode : Mode) (size : ℕ) (bytes : List ℕ) (b : ℕ) (rest : List ℕ) (t u : Tree) → pass_blanks mode bytes ≡ b ∷ rest → opens_comment mode (b ∷ rest) ≡ true → comment_at size t rest ≡ Ok u → (mode ≡ extended) × AreLastBlanks mode bytes × (t ≡ u)
+comment_ends mode size bytes b rest t u passed opens e =
+    let is = opens_is mode b rest opens in
+    elim (chosen (begins 47 rest) (Ok t) (fault invalid_eof size) (Ok u) e) [
+      | inl h ↦
+          let line = line_begins rest h.0 in
+          let left : pass_blanks mode bytes ≡ 47 ∷ 47 ∷ line.0 = passed ∙ ap (λ (c : ℕ). c ∷ rest) is.1 ∙ ap (λ (v : List ℕ). 47 ∷ v) line.1 in
+          (is.0, ends_line mode bytes line.0 is.0 left, same_ok t u h.1)
+      | inr h ↦ absurd (let never : ◌≡◌ {A = Result Tree Fault} (fault invalid_eof size) (Ok u) = h.1 in cc)
+    ]
+  where
+    line_begins : (v : List ℕ) → begins 47 v ≡ true → (r : List ℕ) × (v ≡ 47 ∷ r)
+    line_begins v found =
+        elim (on_byte_cases 47 v (λ (r : List ℕ). true) false true found) [
+          | inl h ↦ (h.0, h.1)
+          | inr h ↦ absurd (true≢false (sym h.1))
+        ]
+
+pub ended : (size : ℕ) (mode : Mode) (t : Tree) (bytes rest : List ℕ) (u : Tree) → pass_blanks mode bytes ≡ rest → at_end size mode t rest ≡ Ok u → AreLastBlanks mode bytes × (t ≡ u)
+ended size mode t bytes [] u passed e = (ends_all mode bytes passed, same_ok t u e)
+ended size mode t bytes (b ∷ rest) u passed e =
+    elim (chosen (opens_comment mode (b ∷ rest)) (comment_at size t rest) (fault unexpected_trailing_characters (size - length (b ∷ rest) + 1)) (Ok u) e) [
+      | inl h ↦ let c = comment_ends mode size bytes b rest t u passed h.0 h.1 in (c.1, c.2)
+      | inr h ↦ absurd (let never : ◌≡◌ {A = Result Tree Fault} (fault unexpected_trailing_characters (size - length (b ∷ rest) + 1)) (Ok u) = h.1 in cc)
+    ]
+
+nothing_read : (mode : Mode) (bytes : List ℕ) (t : Tree) (size : ℕ) → AreLastBlanks mode bytes → nothing_at size mode ≡ Ok t → IsDocument mode bytes t
+nothing_read standard bytes t size b e = absurd cc
+nothing_read extended bytes t size b e = subst (λ (u : Tree). IsDocument extended bytes u) (same_ok null t e) (blanks_alone refl b)
+
+pub document_sound : (mode : Mode) (bytes : List ℕ) (t : Tree) → document_of mode bytes ≡ Ok t → IsDocument mode bytes t
+unfolding document_of
+document_sound mode bytes t e = go (pass_blanks mode bytes) refl e
+  where
+    value_read : (b : ℕ) (rest : List ℕ) → Passes mode bytes (b ∷ rest) → value_to_end (length bytes) mode (b ∷ rest) ≡ Ok t → IsDocument mode bytes t
+    value_read b rest front e =
+        let r = bind_ok (value_at (length bytes) mode max_depth (b ∷ rest)) (λ (x : Tree × List ℕ). at_end (length bytes) mode x.0 (pass_blanks mode x.1)) t e in
+        let s = value_sound (length bytes) mode max_depth (b ∷ rest) r.0.0 r.0.1 r.1 in
+        let end = ended (length bytes) mode r.0.0 r.0.1 (pass_blanks mode r.0.1) t refl r.2 in
+        let regrouped : front.blanks ++ (s.core ++ r.0.1) ≡ bytes = sym (front.whole ∙ ap (λ (u : List ℕ). front.blanks ++ u) s.whole) in
+        subst₂ (λ (u : List ℕ) (v : Tree). IsDocument mode u v) regrouped end.1 (value_alone front.are_blanks s.spells end.0)
+
+    go : (rest : List ℕ) → pass_blanks mode bytes ≡ rest → document_from (length bytes) mode rest ≡ Ok t → IsDocument mode bytes t
+    go [] passed e = nothing_read mode bytes t (length bytes) (ends_all mode bytes passed) e
+    go (b ∷ rest) passed e =
+        elim (chosen (opens_comment mode (b ∷ rest)) (comment_at (length bytes) null rest) (value_to_end (length bytes) mode (b ∷ rest)) (Ok t) e) [
+          | inl h ↦ let c = comment_ends mode (length bytes) bytes b rest null t passed h.0 h.1 in subst (λ (u : Tree). IsDocument mode bytes u) c.2 (blanks_alone c.0 c.1)
+          | inr h ↦ value_read b rest (subst (λ (u : List ℕ). Passes mode bytes u) passed (passes mode bytes)) h.1
+        ]

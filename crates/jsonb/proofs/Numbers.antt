@@ -1,0 +1,22 @@
+-- Numbers: where their texts end, and which number a text is.
+pub mod Automaton
+pub mod DecimalScan
+pub mod DecimalScanText
+pub mod DecimalStates
+pub mod DigitValues
+pub mod Ends
+pub mod Extended
+pub mod ExtendedParts
+pub mod ExtendedTexts
+pub mod Forms
+pub mod HexadecimalAnswers
+pub mod HexadecimalMeaning
+pub mod HexadecimalTexts
+pub mod HexadecimalValues
+pub mod Scan
+pub mod ScanStates
+pub mod ScanText
+pub mod Scanned
+pub mod Short
+pub mod Standard
+pub mod Steps

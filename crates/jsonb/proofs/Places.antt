@@ -1,0 +1,4 @@
+-- Where a `JsonAst` stands in the text; lines and columns.
+pub mod Lines
+pub mod Placed
+pub mod Views

@@ -1,0 +1,276 @@
+-- What the fault of a whole text says of it.
+use Rattle.std.proofs.Common.{◌≡◌, ℕ, zero, suc, ◌+◌, ◌-◌, ◌<◌, ◌≤◌, false, true≢false, ◌⊎◌, inl, inr, List, [], ◌∷◌, ◌++◌, length, Result, Ok, Err, refl, sym, ap, subst, ◌∙◌, append_assoc, length-append, arith}
+use Rattle.jsonb_value.specs.Grammar.Blanks.{AreLastBlanks, IsBlank, IsBlanks}
+use Rattle.jsonb_value.specs.Grammar.Blanks.AreLastBlanks.{blanks_to_end, line_to_end}
+use Rattle.jsonb_value.specs.Grammar.Blanks.IsBlanks.{more_blanks, no_blanks}
+use Rattle.jsonb_value.specs.Code.{Code}
+use Rattle.jsonb_value.specs.Code.Code.{depth_limit_exceeded, expected_some_value, invalid_eof, number_not_carried, object_duplicate_key, unexpected_trailing_characters}
+use Rattle.jsonb_value.specs.Grammar.{Derives, IsDocument, IsValue, max_depth}
+use Rattle.jsonb_value.specs.Grammar.IsDocument.{blanks_alone, value_alone}
+use Rattle.jsonb_value.specs.Grammar.IsValue.{empty_array, empty_object, full_array, full_object, scalar}
+use Rattle.jsonb_value.specs.Mode.{Mode}
+use Rattle.jsonb_value.specs.Mode.Mode.{extended, standard}
+use Rattle.jsonb_value.specs.Grammar.Scalar.{IsScalar}
+use Rattle.jsonb_value.specs.Tree.{Tree}
+use Rattle.jsonb_value.specs.Tree.Tree.{null}
+use Rattle.jsonb.specs.Reading.{Fault, Read, begins, fault, on_byte}
+use Rattle.jsonb.specs.Reading.Blank.{opens_comment, pass_blanks, skip_blanks}
+use Rattle.jsonb.specs.Reading.Container.{array_at, object_at}
+use Rattle.jsonb.specs.Reading.Document.{at_end, comment_at, document_from, document_of, nothing_at, too_deep, value_at, value_to_end, value_with}
+use Rattle.jsonb.specs.Reading.Scalar.{scalar_at}
+use Rattle.jsonb.specs.Refusals.{IsFront, Stands, Trails}
+use Rattle.jsonb.proofs.Steps.Tests.{chosen, if-true, same_read}
+use Rattle.jsonb.proofs.Refusals.Codes.{IsTold, bind_err, same_err, silent_fault}
+use Rattle.jsonb.proofs.Containers.JoinedParts.{Ends, Starts, ends-blank, ends_at, on_byte-other, skip-starts, starts-append}
+use Rattle.jsonb.proofs.Refusals.Explained.{Wrong, stops_after_blanks, value_explains}
+use Rattle.jsonb.proofs.Refusals.OfScalars.{scalar_longest}
+use Rattle.jsonb.proofs.Scalars.Spellings.{Follows, IsNumberTree, scalar_starts}
+use Rattle.jsonb.proofs.Scalars.Spellings.Follows.{before}
+use Rattle.jsonb.proofs.Text.Blanks.{last_within, length-pass, length-past, length-skip, pass-pass, passes, skip-blank, skip-blanks, skip-nil, skip-passed, skip-skip, skips}
+use Rattle.jsonb.proofs.Containers.Values.{value_is_complete, value_sound}
+
+-- ---- where a value is due
+
+-- where no blanks are passed none begins
+no_blank_at : {mode : Mode} (bytes : List ℕ) → skip_blanks mode bytes ≡ bytes → (blank rest : List ℕ) → IsBlank mode blank → bytes ≡ blank ++ rest → ⊥
+no_blank_at {mode} bytes none blank rest b whole =
+    let one = ends-blank b [] in
+    let skipped : bytes ≡ skip_blanks mode rest = sym none ∙ ap (λ (w : List ℕ). skip_blanks mode w) whole ∙ skip-blank b rest in
+    omega (arith, ap length skipped, length-skip mode rest, ap length whole, length-append blank rest, ap length one.whole, length-append blank [])
+
+-- what is wrong where a reader stops, in the whole text
+stands_at : (mode : Mode) (input front rest : List ℕ) (count left : ℕ) (code : Code) (place : ℕ) → input ≡ front ++ rest → count + left ≡ max_depth → IsFront mode front count
+    → Wrong mode left (length input) rest code place → Stands mode input code place
+stands_at mode input front rest count left number_not_carried place whole sum h w =
+    let after_text : place ≡ length front + length w.text = omega (arith, w.after_text, ap length whole, length-append front rest, ap length w.whole, length-append w.text w.others) in
+    let within : count ≤ max_depth = omega (arith, sum) in
+    record {
+      front = front;
+      text = w.text;
+      others = w.others;
+      whole = whole ∙ ap (λ (u : List ℕ). front ++ u) w.whole;
+      count = count;
+      within = within;
+      is_front = h;
+      is_uncarried = w.is_uncarried;
+      longest = w.longest;
+      after_text = after_text;
+    }
+stands_at mode input front rest count left (object_duplicate_key k) place whole sum h w =
+    let after_key : place ≡ length front + 1 + w.length_upto = omega (arith, w.after_key, ap length whole, length-append front rest) in
+    let within : count < max_depth = omega (arith, sum, w.some_left) in
+    record {
+      front = front;
+      body = w.body;
+      others = w.others;
+      whole = whole ∙ ap (λ (u : List ℕ). front ++ u) w.whole;
+      count = count;
+      within = within;
+      is_front = h;
+      length_upto = w.length_upto;
+      repeats = w.repeats;
+      after_key = after_key;
+    }
+stands_at mode input front rest count left expected_some_value place whole sum h w =
+    let at_byte : place ≡ length front + 1 = omega (arith, w.at_byte, ap length whole, length-append front rest, ap length w.whole) in
+    let within : count ≤ max_depth = omega (arith, sum) in
+    record {
+      front = front;
+      byte = w.byte;
+      others = w.others;
+      whole = whole ∙ ap (λ (u : List ℕ). front ++ u) w.whole;
+      at_byte = at_byte;
+      count = count;
+      within = within;
+      is_front = h;
+      begins_none = w.begins_none;
+      no_blank = no_blank_at (w.byte ∷ w.others) (ap (λ (u : List ℕ). skip_blanks mode u) (sym w.whole) ∙ w.none_skipped ∙ w.whole);
+    }
+stands_at mode input front rest count left depth_limit_exceeded place whole sum h w =
+    let at_byte : place ≡ length front + 1 = omega (arith, w.at_byte, ap length whole, length-append front rest, ap length w.whole) in
+    let all : count ≡ max_depth = omega (arith, sum, w.none_left) in
+    record {
+      front = front;
+      byte = w.byte;
+      others = w.others;
+      whole = whole ∙ ap (λ (u : List ℕ). front ++ u) w.whole;
+      at_byte = at_byte;
+      is_front = subst (λ (n : ℕ). IsFront mode front n) all h;
+      opens = w.opens;
+    }
+stands_at mode input front rest count left other place whole sum h w = absurd w
+
+-- ---- after the value
+
+scalar_route : (size : ℕ) (mode : Mode) (arrays objects : List ℕ → Read Tree) (core rest : List ℕ) (t : Tree) → IsScalar mode core t → value_with size mode arrays objects (core ++ rest) ≡ scalar_at size mode (core ++ rest)
+scalar_route size mode arrays objects core rest t s =
+    let st = scalar_starts mode core t s in
+    let opened : core ++ rest ≡ st.first ∷ (st.others ++ rest) = ap (λ (u : List ℕ). u ++ rest) st.whole in
+    ap (λ (u : List ℕ). on_byte 91 u arrays (on_byte 123 u objects (scalar_at size mode (core ++ rest)))) opened
+    ∙ on_byte-other 91 st.first (st.others ++ rest) arrays (on_byte 123 (st.first ∷ (st.others ++ rest)) objects (scalar_at size mode (core ++ rest))) st.bracket
+    ∙ on_byte-other 123 st.first (st.others ++ rest) objects (scalar_at size mode (core ++ rest)) st.brace
+
+scalar_within : (size : ℕ) (mode : Mode) (arrays objects : List ℕ → Read Tree) (core : List ℕ) (u : Tree) (rest : List ℕ) (t : Tree) (after : List ℕ) → IsScalar mode core u
+    → value_with size mode arrays objects (core ++ rest) ≡ Ok (t, after) → length after ≤ length rest
+scalar_within size mode arrays objects core u rest t after s e = scalar_longest size mode core u rest t after s (sym (scalar_route size mode arrays objects core rest u s) ∙ e)
+
+-- No spelling of a value goes past what is read.
+value_longest : (size : ℕ) (mode : Mode) (depth : ℕ) (core : List ℕ) (u : Tree) (rest : List ℕ) (t : Tree) (after : List ℕ) → Derives mode depth core u
+    → value_at size mode depth (core ++ rest) ≡ Ok (t, after) → length after ≤ length rest
+unfolding value_at
+value_longest size mode zero core u rest t after d e = scalar_within size mode (too_deep size) (too_deep size) core u rest t after d e
+value_longest size mode (suc depth) core u rest t after d e = by_kind core u d e (value_is_complete size mode (suc depth)).reads
+  where
+    by_kind : (core : List ℕ) (u : Tree) → IsValue mode (Derives mode depth) core u → value_with size mode (array_at size mode (value_at size mode depth)) (object_at size mode (value_at size mode depth)) (core ++ rest) ≡ Ok (t, after)
+        → ((bytes : List ℕ) (v : Tree) (others : List ℕ) → IsValue mode (Derives mode depth) bytes v → (IsNumberTree v → Follows others) → value_at size mode (suc depth) (bytes ++ others) ≡ Ok (v, others)) → length after ≤ length rest
+    by_kind core u (scalar s) e complete = scalar_within size mode (array_at size mode (value_at size mode depth)) (object_at size mode (value_at size mode depth)) core u rest t after s e
+    by_kind core u (empty_array b) e complete = let same = same_read u t rest after (sym (complete core u rest (empty_array b) (λ n. absurd n)) ∙ e) in omega (arith, ap length same.rest)
+    by_kind core u (full_array j n) e complete = let same = same_read u t rest after (sym (complete core u rest (full_array j n) (λ n. absurd n)) ∙ e) in omega (arith, ap length same.rest)
+    by_kind core u (empty_object b) e complete = let same = same_read u t rest after (sym (complete core u rest (empty_object b) (λ n. absurd n)) ∙ e) in omega (arith, ap length same.rest)
+    by_kind core u (full_object j k) e complete = let same = same_read u t rest after (sym (complete core u rest (full_object j k) (λ n. absurd n)) ∙ e) in omega (arith, ap length same.rest)
+
+-- a document's value, or what follows it
+follows_last : {mode : Mode} {last : List ℕ} (b : AreLastBlanks mode last) (rest : List ℕ) → (last ≡ []) ⊎ Ends (last ++ rest)
+follows_last (blanks_to_end no_blanks) rest = inl refl
+follows_last (blanks_to_end (more_blanks {blank = blank} {rest = others} b bs)) rest = inr (subst Ends (sym (append_assoc blank others rest)) (ends-blank b (others ++ rest)))
+follows_last (line_to_end inside is no_blanks one) rest = inr (ends_at 47 (47 ∷ (inside ++ rest)) refl)
+follows_last (line_to_end inside is (more_blanks {blank = blank} {rest = others} b bs) one) rest =
+    inr (subst Ends (sym (ap (λ (w : List ℕ). w ++ rest) (append_assoc blank others (47 ∷ 47 ∷ inside)) ∙ append_assoc blank (others ++ 47 ∷ 47 ∷ inside) rest)) (ends-blank b ((others ++ 47 ∷ 47 ∷ inside) ++ rest)))
+
+-- Nor does one with blanks after it go past the blanks after what is read.
+blanks_within : (size : ℕ) (mode : Mode) (depth : ℕ) (core : List ℕ) (u : Tree) (rest : List ℕ) (t : Tree) (after : List ℕ) {last : List ℕ} → AreLastBlanks mode last → Derives mode depth core u
+    → value_at size mode depth (core ++ (last ++ rest)) ≡ Ok (t, after) → opens_comment mode (pass_blanks mode after) ≡ false → length (pass_blanks mode after) ≤ length rest
+blanks_within size mode depth core u rest t after {last} b d e closed =
+    elim (follows_last b rest) [
+      | inl none ↦
+          let longest : length after ≤ length (last ++ rest) = value_longest size mode depth core u (last ++ rest) t after d e in
+          omega (arith, length-pass mode after, longest, length-append last rest, ap length none)
+      | inr ends ↦
+          let same = same_read u t (last ++ rest) after (sym ((value_is_complete size mode depth).reads core u (last ++ rest) d (λ n. before ends)) ∙ e) in
+          elim (last_within b rest) [
+            | inl within ↦ omega (arith, within, ap length (ap (λ (w : List ℕ). pass_blanks mode w) same.rest))
+            | inr opens ↦ absurd (true≢false (sym opens ∙ ap (λ (w : List ℕ). opens_comment mode (pass_blanks mode w)) same.rest ∙ closed))
+          ]
+    ]
+
+-- a document's value without the blanks before it
+skip-front : (mode : Mode) {front : List ℕ} (core last rest : List ℕ) → IsBlanks mode front → Starts core → skip_blanks mode ((front ++ (core ++ last)) ++ rest) ≡ core ++ (last ++ rest)
+skip-front mode {front} core last rest b s =
+    ap (λ (w : List ℕ). skip_blanks mode w) (append_assoc front (core ++ last) rest) ∙ skip-blanks b ((core ++ last) ++ rest)
+    ∙ ap (λ (w : List ℕ). skip_blanks mode w) (append_assoc core last rest) ∙ skip-starts mode (core ++ (last ++ rest)) (starts-append core (last ++ rest) s)
+
+value_within : (size : ℕ) (mode : Mode) (depth : ℕ) {front last : List ℕ} (core : List ℕ) (u : Tree) (rest : List ℕ) (t : Tree) (after : List ℕ) → IsBlanks mode front → Derives mode depth core u → AreLastBlanks mode last
+    → value_at size mode depth (skip_blanks mode ((front ++ (core ++ last)) ++ rest)) ≡ Ok (t, after) → opens_comment mode (pass_blanks mode after) ≡ false → length (pass_blanks mode after) ≤ length rest
+value_within size mode depth {front} {last} core u rest t after b d c e closed =
+    let skipped = skip-front mode core last rest b ((value_is_complete size mode depth).starts core u d) in
+    blanks_within size mode depth core u rest t after c d (subst (λ (w : List ℕ). value_at size mode depth w ≡ Ok (t, after)) skipped e) closed
+
+-- a document with a value is more than blanks
+value_some : (mode : Mode) (depth : ℕ) {front : List ℕ} (core last : List ℕ) (u : Tree) (rest : List ℕ) → IsBlanks mode front → Derives mode depth core u → length rest < length (skip_blanks mode ((front ++ (core ++ last)) ++ rest))
+value_some mode depth core last u rest b d =
+    let st = (value_is_complete 0 mode depth).starts core u d in
+    omega (arith, ap length (skip-front mode core last rest b st), length-append core (last ++ rest), length-append last rest, ap length st.whole)
+
+-- blanks at the end of a text, and more bytes, skip to no more than these
+last_skipped : (mode : Mode) {last : List ℕ} (b : AreLastBlanks mode last) (more : List ℕ) → length (skip_blanks mode (last ++ more)) ≤ length more
+last_skipped mode {last} b more =
+    elim (last_within b more) [
+      | inl within ↦ omega (arith, within, length-past mode (pass_blanks mode (last ++ more)))
+      | inr opens ↦ omega (arith, ap length (if-true (opens_comment mode (pass_blanks mode (last ++ more))) [] (pass_blanks mode (last ++ more)) opens))
+    ]
+
+document_within : (mode : Mode) (input first rest longer more : List ℕ) (t u : Tree) (after : List ℕ) → input ≡ first ++ rest → length rest < length (skip_blanks mode input) → pass_blanks mode after ≡ rest → opens_comment mode rest ≡ false
+    → value_at (length input) mode max_depth (skip_blanks mode input) ≡ Ok (t, after) → input ≡ longer ++ more → length first < length longer → IsDocument mode longer u → ⊥
+document_within mode input first rest longer more t u after whole some end closed e split long (value_alone {core = core} b d c) =
+    let least : length (pass_blanks mode after) ≤ length more =
+    value_within (length input) mode max_depth core u more t after b d c (subst (λ (w : List ℕ). value_at (length input) mode max_depth (skip_blanks mode w) ≡ Ok (t, after)) split e) (ap (opens_comment mode) end ∙ closed) in
+    omega (arith, least, long, ap length end, ap length whole, ap length split, length-append first rest, length-append longer more)
+document_within mode input first rest longer more t u after whole some end closed e split long (blanks_alone is b) =
+    omega (arith, some, long, ap length (ap (λ (w : List ℕ). skip_blanks mode w) split), last_skipped mode b more, ap length whole, ap length split, length-append first rest, length-append longer more)
+
+trails : (mode : Mode) (input : List ℕ) (t : Tree) (after : List ℕ) (c : ℕ) (others : List ℕ) → value_at (length input) mode max_depth (skip_blanks mode input) ≡ Ok (t, after) → 0 < length (skip_blanks mode input) → pass_blanks mode after ≡ c ∷ others → opens_comment mode (c ∷ others) ≡ false
+    → Trails mode input (length input - length (c ∷ others) + 1)
+trails mode input t after c others e left end closed =
+    let front = skips mode input left in
+    let back = passes mode after in
+    let s = value_sound (length input) mode max_depth (skip_blanks mode input) t after e in
+    let first : List ℕ = front.blanks ++ (s.core ++ back.blanks) in
+    let whole : input ≡ first ++ c ∷ others =
+    front.whole ∙ ap (λ (w : List ℕ). front.blanks ++ w) (s.whole ∙ ap (λ (w : List ℕ). s.core ++ w) (back.whole ∙ ap (λ (w : List ℕ). back.blanks ++ w) end) ∙ sym (append_assoc s.core back.blanks (c ∷ others)))
+    ∙ sym (append_assoc front.blanks (s.core ++ back.blanks) (c ∷ others)) in
+    let at_byte : length input - length (c ∷ others) + 1 ≡ length first + 1 = omega (arith, ap length whole, length-append first (c ∷ others)) in
+    let more : length (c ∷ others) < length (skip_blanks mode input) =
+    subst (λ (w : List ℕ). length (c ∷ others) < length (skip_blanks mode w)) (sym whole) (value_some mode max_depth s.core back.blanks t (c ∷ others) front.are_blanks s.spells) in
+    let stays : skip_blanks mode (c ∷ others) ≡ c ∷ others = skip-passed mode (c ∷ others) c others (ap (pass_blanks mode) (sym end) ∙ pass-pass mode after ∙ end) closed in
+    record {
+      before = first;
+      byte = c;
+      others = others;
+      whole = whole;
+      at_byte = at_byte;
+      tree = t;
+      document = value_alone front.are_blanks s.spells (blanks_to_end back.are_blanks);
+      not_blank = λ b. let some : 0 < length (skip_blanks mode (first ++ [])) = value_some mode max_depth s.core back.blanks t [] front.are_blanks s.spells in omega (arith, some, ap length (skip-blanks b []), ap length (skip-nil mode));
+      no_blank = no_blank_at (c ∷ others) stays;
+      longest = λ longer rest u split long d. document_within mode input first (c ∷ others) longer rest t u after whole more end closed e split long d;
+    }
+
+-- ---- whole texts
+
+-- a comment that never ends is not told of
+comment_silent : (size : ℕ) (t : Tree) (bytes : List ℕ) (f : Fault) → comment_at size t bytes ≡ Err f → IsTold f.code → ⊥
+comment_silent size t bytes f e told =
+    elim (chosen (begins 47 bytes) (Ok t) (fault invalid_eof size) (Err f) e) [
+      | inl h ↦ let never : ◌≡◌ {A = Result Tree Fault} (Ok t) (Err f) = h.1 in cc
+      | inr h ↦ silent_fault {B = Tree} invalid_eof size f h.1 (λ n. n) told
+    ]
+
+stands_after : (mode : Mode) (input : List ℕ) (t : Tree) (after rest : List ℕ) (f : Fault) → value_at (length input) mode max_depth (skip_blanks mode input) ≡ Ok (t, after) → 0 < length (skip_blanks mode input) → pass_blanks mode after ≡ rest
+    → at_end (length input) mode t rest ≡ Err f → IsTold f.code → Stands mode input f.code f.place
+stands_after mode input t after [] f e left end g told = absurd cc
+stands_after mode input t after (c ∷ others) f e left end g told =
+    elim (chosen (opens_comment mode (c ∷ others)) (comment_at (length input) t others) (fault unexpected_trailing_characters (length input - length (c ∷ others) + 1)) (Err f) g) [
+      | inl h ↦ absurd (comment_silent (length input) t others f h.1 told)
+      | inr h ↦
+          let is : record { code = unexpected_trailing_characters; place = length input - length (c ∷ others) + 1 } ≡ f = same_err {B = Tree} (record { code = unexpected_trailing_characters; place = length input - length (c ∷ others) + 1 }) f h.1 in
+          subst (λ (d : Fault). Stands mode input d.code d.place) is (trails mode input t after c others e left end h.0)
+    ]
+
+nothing_silent : (mode : Mode) (size : ℕ) (f : Fault) → nothing_at size mode ≡ Err f → IsTold f.code → ⊥
+nothing_silent standard size f e told = silent_fault {B = Tree} invalid_eof size f e (λ n. n) told
+nothing_silent extended size f e told = absurd (let never : ◌≡◌ {A = Result Tree Fault} (Ok null) (Err f) = e in cc)
+
+value_told : (mode : Mode) (input : List ℕ) (b : ℕ) (rest : List ℕ) (f : Fault) → skip_blanks mode input ≡ b ∷ rest → value_to_end (length input) mode (b ∷ rest) ≡ Err f → IsTold f.code → Stands mode input f.code f.place
+value_told mode input b rest f skipped e told =
+    elim (bind_err (value_at (length input) mode max_depth (b ∷ rest)) (λ (x : Tree × List ℕ). at_end (length input) mode x.0 (pass_blanks mode x.1)) f e) [
+      | inl h ↦
+          let within : length (skip_blanks mode input) ≤ length input = length-skip mode input in
+          let s = stops_after_blanks mode max_depth (length input) input f
+          (value_explains (length input) mode max_depth (skip_blanks mode input) f within (skip-skip mode input) (ap (λ (w : List ℕ). value_at (length input) mode max_depth w) skipped ∙ h) told) in
+          stands_at mode input s.front s.rest s.count s.left f.code f.place s.whole s.sum s.is_front s.wrong
+      | inr h ↦
+          let left : 0 < length (skip_blanks mode input) = omega (arith, ap length skipped) in
+          stands_after mode input h.0.0 h.0.1 (pass_blanks mode h.0.1) f (ap (λ (w : List ℕ). value_at (length input) mode max_depth w) skipped ∙ h.1) left refl h.2 told
+    ]
+
+document_told : (mode : Mode) (input rest : List ℕ) (f : Fault) → pass_blanks mode input ≡ rest → document_from (length input) mode rest ≡ Err f → IsTold f.code → Stands mode input f.code f.place
+document_told mode input [] f passed e told = absurd (nothing_silent mode (length input) f e told)
+document_told mode input (b ∷ rest) f passed e told =
+    elim (chosen (opens_comment mode (b ∷ rest)) (comment_at (length input) null rest) (value_to_end (length input) mode (b ∷ rest)) (Err f) e) [
+      | inl h ↦ absurd (comment_silent (length input) null rest f h.1 told)
+      | inr h ↦ value_told mode input b rest f (skip-passed mode input b rest passed h.0) h.1 told
+    ]
+
+-- of other codes nothing is said
+untold : (mode : Mode) (input : List ℕ) (code : Code) (place : ℕ) → (IsTold code → Stands mode input code place) → Stands mode input code place
+untold mode input unexpected_trailing_characters place h = h tt
+untold mode input number_not_carried place h = h tt
+untold mode input (object_duplicate_key k) place h = h tt
+untold mode input expected_some_value place h = h tt
+untold mode input depth_limit_exceeded place h = h tt
+untold mode input other place h = tt
+
+-- What the fault of a text says of it.
+pub document_stands : (mode : Mode) (input : List ℕ) (f : Fault) → document_of mode input ≡ Err f → Stands mode input f.code f.place
+unfolding document_of
+document_stands mode input f e = untold mode input f.code f.place (λ told. document_told mode input (pass_blanks mode input) f refl e told)

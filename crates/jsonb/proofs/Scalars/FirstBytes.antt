@@ -1,0 +1,53 @@
+-- Values that hold no others, by their first byte.
+use Rattle.std.proofs.Common.{◌≡◌, ◌≤◌, ℕ, true, false, true≢false, List, [], ◌∷◌, refl, sym, ap, ◌∙◌, arith}
+use Rattle.jsonb_value.specs.Code.Code.{expected_some_value}
+use Rattle.jsonb_value.specs.Mode.{Mode, standard, extended}
+use Rattle.jsonb.specs.declared.parser.Parser.{Parser}
+use Rattle.jsonb.specs.Parser.{Advances, mode_of, rest_of, size_of}
+use Rattle.jsonb.specs.Reading.{begins, refused}
+use Rattle.jsonb.specs.Reading.Scalar.{begins_letter, begins_number, begins_single_quote, number_or_fault, number_value_at, other_scalar_at, quoted_at, scalar_at, words_at}
+use Rattle.jsonb.proofs.Steps.Tests.{if-false, if-true}
+use Rattle.jsonb.proofs.Steps.Outcomes.{read_past, unmoved, words_number}
+use Rattle.jsonb.proofs.Containers.JoinedParts.{on_byte-none}
+use Rattle.jsonb.proofs.Scalars.Spellings.{IsApart, number_start_apart}
+use Rattle.jsonb.proofs.Steps.Advancing.{single-false, single-true}
+
+-- no double quote comes next
+pub scalar_other : (p q : Parser) → q ≡ p → begins 34 (rest_of p) ≡ false → scalar_at (size_of p) (mode_of p.mode) (rest_of p) ≡ other_scalar_at (size_of q) (mode_of q.mode) (rest_of q)
+unfolding scalar_at
+scalar_other p q same none =
+    on_byte-none 34 (rest_of p) (quoted_at (size_of p) (mode_of p.mode) 34) (other_scalar_at (size_of p) (mode_of p.mode) (rest_of p)) none
+    ∙ unmoved p q same (λ o. other_scalar_at (size_of o) (mode_of o.mode) (rest_of o))
+
+-- a single quote comes next that begins a string
+pub other_single : (p q : Parser) → Advances p q → begins_single_quote (mode_of p.mode) (rest_of p) ≡ true → rest_of p ≡ 39 ∷ rest_of q → other_scalar_at (size_of p) (mode_of p.mode) (rest_of p) ≡ quoted_at (size_of q) (mode_of q.mode) 39 (rest_of q)
+other_single p q a single e =
+    single-true (mode_of p.mode) (rest_of p) (quoted_at (size_of p) (mode_of p.mode) 39) (words_at (size_of p) (mode_of p.mode) (rest_of p)) single
+    ∙ read_past p q 39 (λ n m u. quoted_at n m 39 u) a e
+
+-- and none does
+pub other_word : (p q : Parser) → q ≡ p → begins_single_quote (mode_of p.mode) (rest_of p) ≡ false → other_scalar_at (size_of p) (mode_of p.mode) (rest_of p) ≡ words_at (size_of q) (mode_of q.mode) (rest_of q)
+other_word p q same single =
+    single-false (mode_of p.mode) (rest_of p) (quoted_at (size_of p) (mode_of p.mode) 39) (words_at (size_of p) (mode_of p.mode) (rest_of p)) single
+    ∙ unmoved p q same (λ o. words_at (size_of o) (mode_of o.mode) (rest_of o))
+
+-- ---- a digit or a minus comes next
+
+single-apart : (mode : Mode) (b : ℕ) (rest : List ℕ) → IsApart b → begins_single_quote mode (b ∷ rest) ≡ false
+single-apart standard b rest a = refl
+single-apart extended b rest a = if-false _ true false a.no_single
+
+letter-apart : (mode : Mode) (c b : ℕ) (rest : List ℕ) → 97 ≤ c → IsApart b → begins_letter mode c (b ∷ rest) ≡ false
+letter-apart mode c b rest high a = if-false _ true false (a.no_letter mode c high)
+
+other_number : (size : ℕ) (mode : Mode) (bytes : List ℕ) → begins_number standard bytes ≡ true → other_scalar_at size mode bytes ≡ number_or_fault size mode bytes
+other_number size mode [] e = absurd (true≢false (sym e))
+other_number size mode (b ∷ rest) e =
+    let a = number_start_apart b e in
+    single-false mode (b ∷ rest) (quoted_at size mode 39) (words_at size mode (b ∷ rest)) (single-apart mode b rest a)
+    ∙ words_number size mode (b ∷ rest) (letter-apart mode 110 b rest (omega arith) a) (letter-apart mode 116 b rest (omega arith) a) (letter-apart mode 102 b rest (omega arith) a)
+
+pub standard_number : (size : ℕ) (mode : Mode) (bytes : List ℕ) → mode ≡ standard → begins_number standard bytes ≡ true → other_scalar_at size mode bytes ≡ number_value_at size standard bytes
+standard_number size mode bytes is begun =
+    ap (λ m. other_scalar_at size m bytes) is ∙ other_number size standard bytes begun
+    ∙ if-true (begins_number standard bytes) (number_value_at size standard bytes) (refused size expected_some_value 1 bytes) begun

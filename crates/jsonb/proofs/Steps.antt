@@ -1,0 +1,6 @@
+-- Small steps that all layers take.
+pub mod Advancing
+pub mod Cursors
+pub mod Outcomes
+pub mod Rows
+pub mod Tests

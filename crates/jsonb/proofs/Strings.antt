@@ -1,0 +1,8 @@
+-- Strings: their items, their ends, the decoder, keys without quotes.
+pub mod BareKeys
+pub mod Bodies
+pub mod ByteMasks
+pub mod Decoding
+pub mod Ends
+pub mod Items
+pub mod NearMarks

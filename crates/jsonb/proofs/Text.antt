@@ -1,0 +1,3 @@
+-- Blanks and comments.
+pub mod Blanks
+pub mod Comments

@@ -1,0 +1,11 @@
+-- Numbers: arithmetic, casts and their texts.
+pub mod DecimalTexts
+pub mod InRange
+pub mod Integers
+pub mod IntegersReadBack
+pub mod Narrowed
+pub mod Nearest
+pub mod Pointed
+pub mod Quotients
+pub mod Scaling
+pub mod Texts

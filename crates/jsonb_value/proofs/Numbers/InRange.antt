@@ -1,0 +1,189 @@
+-- The texts of numbers in range read back, and what number texts give is in range.
+use Rattle.std.proofs.Common.{◌≡◌, ℕ, zero, suc, ◌<◌, ◌≤◌, ◌^◌, List, [], ◌∷◌, ◌++◌, length, length-append, Bool, true, false, ◌&&◌, Some, None, refl, sym, subst, arith, inl, inr, ltb-true, eqb-true, ℤ, pos, negsuc, neg_ℤ}
+use Rattle.std.specs.Prelude.{unsigned_abs, FitsSigned, ◌==◌, nat_lt, nat_le, if◌then◌else◌}
+use Rattle.std.specs.Int.{w64, w128}
+use Rattle.std.specs.Str.Parse.{AllDigits, digits_value}
+use Rattle.std.proofs.lemmas.Bool.{leb-true}
+use Rattle.std.proofs.lemmas.Str.Parse.{IsNumeralModel, numerals_by_value, tells_digits, digits_value_short}
+use Rattle.jsonb_value.specs.Grammar.ExtendedNumber.{is_minus, fraction_digits, precision_of, fits_u64, fits_i64, decimal_form, decimal_number, IsDecimalNumber, hexadecimal_number, IsExtendedNumber}
+use Rattle.jsonb_value.specs.Mode.{standard, extended}
+use Rattle.jsonb_value.specs.Text.NumberText.{text_of_parts, number_text}
+use Rattle.jsonb_value.specs.Proper.{FitsUnsigned, FitsScale, FitsWhole, IsProperNumber}
+use Rattle.jsonb_value.specs.Text.Range.{FitsText, IsInTexts, IsIntegerForm, IsIntegral}
+use Rattle.jsonb_value.specs.Text.ReadsBack.{integer_number, HasFewDigits}
+use Rattle.jsonb_value.specs.Grammar.StandardNumber.{IsInteger, IsStandardNumber}
+use Rattle.jsonb_value.specs.Number.Signed.{signed_by}
+use Rattle.jsonb_value.specs.Tree.{Form, int64, uint64, decimal64, decimal128, Num}
+use Rattle.jsonb_value.proofs.Numbers.DecimalTexts.{reads_back_as_decimal}
+use Rattle.jsonb_value.proofs.Numbers.Nearest.{unsigned_abs-signed}
+use Rattle.jsonb_value.proofs.Trees.OneText.{IsShort}
+use Rattle.jsonb_value.proofs.Numbers.IntegersReadBack.{signed_reads_back, unsigned_reads_back}
+use Rattle.jsonb_value.proofs.Trees.TextsReadBack.{IsReadAs}
+
+signed_short : (z : ℤ) → FitsSigned w64 z → unsigned_abs z < 10 ^ 38
+signed_short (pos n) fits = omega (arith, fits.sfits)
+signed_short (negsuc n) fits = omega (arith, fits.sfits)
+
+unsigned_short : (z : ℤ) → FitsUnsigned 64 z → unsigned_abs z < 10 ^ 38
+unsigned_short (pos n) fits = omega (arith, fits)
+unsigned_short (negsuc n) fits = absurd fits
+
+few_digits : (form : Form) (scale : ℕ) (whole : ℤ) → FitsScale form scale × FitsWhole form whole → FitsText form scale (unsigned_abs whole) → (scale ≤ 38) × (unsigned_abs whole < 10 ^ 38)
+few_digits int64 scale whole p w = (omega (arith, p.0), signed_short whole p.1)
+few_digits uint64 scale whole p w = (omega (arith, p.0), unsigned_short whole p.1)
+few_digits decimal64 scale whole p w = w
+few_digits decimal128 scale whole p w = w
+
+-- a number in range has at most 38 digits
+pub in_texts_few : (n : Num) → IsProperNumber n → IsInTexts n → HasFewDigits n
+in_texts_few n p w = few_digits n.form n.scale n.whole p w
+
+pub in_texts_short : (n : Num) → IsProperNumber n → IsInTexts n → IsShort n
+in_texts_short n p w = (in_texts_few n p w).1
+
+integer_in_text : (form : Form) (scale : ℕ) (magnitude : ℕ) → IsIntegerForm form → FitsText form scale magnitude
+integer_in_text int64 scale magnitude w = tt
+integer_in_text uint64 scale magnitude w = tt
+integer_in_text decimal64 scale magnitude w = absurd w
+integer_in_text decimal128 scale magnitude w = absurd w
+
+pub integral_in_texts : (n : Num) → IsProperNumber n → IsIntegral n → IsInTexts n
+integral_in_texts n p w = integer_in_text n.form n.scale (unsigned_abs n.whole) w
+
+pub integral_short : (n : Num) → IsProperNumber n → IsIntegral n → IsShort n
+integral_short n p w = in_texts_short n p (integral_in_texts n p w)
+
+unscaled : (form : Form) (scale : ℕ) (whole : ℤ) → FitsScale form scale × FitsWhole form whole → IsIntegerForm form → scale ≡ 0
+unscaled int64 scale whole p w = p.0
+unscaled uint64 scale whole p w = p.0
+unscaled decimal64 scale whole p w = absurd w
+unscaled decimal128 scale whole p w = absurd w
+
+-- an integer has no digits behind a point
+pub integral_unscaled : (n : Num) → IsProperNumber n → IsIntegral n → n.scale ≡ 0
+integral_unscaled n p w = unscaled n.form n.scale n.whole p w
+
+-- ---- standard texts
+
+unsigned_text : (whole : ℤ) → FitsUnsigned 64 whole → IsStandardNumber (text_of_parts 0 whole) (integer_number whole)
+unsigned_text (pos n) fits = unsigned_reads_back n fits
+unsigned_text (negsuc n) fits = absurd fits
+
+standard_text : (form : Form) (scale : ℕ) (whole : ℤ) → FitsScale form scale × FitsWhole form whole → IsIntegerForm form → IsStandardNumber (text_of_parts 0 whole) (integer_number whole)
+standard_text int64 scale whole p w = signed_reads_back whole p.1
+standard_text uint64 scale whole p w = unsigned_text whole p.1
+standard_text decimal64 scale whole p w = absurd w
+standard_text decimal128 scale whole p w = absurd w
+
+pub integer_reads_back : (n : Num) → IsProperNumber n → IsIntegral n → IsReadAs standard (number_text n) n
+integer_reads_back n p w =
+    let none = integral_unscaled n p w in
+    record {
+      read = integer_number n.whole;
+      is_number = subst (λ scale. IsStandardNumber (text_of_parts scale n.whole) (integer_number n.whole)) (sym none) (standard_text n.form n.scale n.whole p w);
+      scales = sym none;
+      wholes = refl;
+    }
+
+pub extended_reads_back : (n : Num) → IsProperNumber n → IsInTexts n → IsReadAs extended (number_text n) n
+extended_reads_back n p w =
+    let r = reads_back_as_decimal n (in_texts_few n p w) in
+    record { read = r.0; is_number = inl r.1; scales = r.2; wholes = r.3 }
+
+-- ---- what number texts give
+
+integer_is : (negative : Bool) (value : ℕ) (n : Num) → IsInteger negative value n → IsIntegral n × IsProperNumber n
+integer_is false value n is = subst (λ m. IsIntegral m × IsProperNumber m) (sym is.1) (tt, (refl, is.0))
+integer_is true value n is = subst (λ m. IsIntegral m × IsProperNumber m) (sym is.1) (tt, (refl, is.0))
+
+pub standard_number : (bytes : List ℕ) (n : Num) → IsStandardNumber bytes n → IsIntegral n × IsProperNumber n
+standard_number bytes n is = integer_is is.0 (digits_value 10 is.1) n is.3
+
+-- a number in range
+abbrev IsRanged : Num → Type 0
+IsRanged n = IsInTexts n × IsProperNumber n
+
+digits-append : (ds es : List ℕ) → AllDigits 10 ds → AllDigits 10 es → AllDigits 10 (ds ++ es)
+digits-append [] es h k = k
+digits-append (d ∷ ds) es h k = (h.0, digits-append ds es h.1 k)
+
+pub decimals : IsNumeralModel (AllDigits 10) (digits_value 10)
+decimals = numerals_by_value (AllDigits 10) tells_digits
+
+small_signed : (b : Bool) (m : ℕ) → m < 10 ^ 18 → FitsSigned w64 (signed_by b m)
+small_signed false m h = record { sfits = omega arith }
+small_signed true zero h = record { sfits = omega arith }
+small_signed true (suc m) h = record { sfits = omega arith }
+
+wide_signed : (b : Bool) (m : ℕ) → m < 10 ^ 38 → FitsSigned w128 (signed_by b m)
+wide_signed false m h = record { sfits = omega arith }
+wide_signed true zero h = record { sfits = omega arith }
+wide_signed true (suc m) h = record { sfits = omega arith }
+
+unsigned_fits : (z : ℤ) → fits_u64 z ≡ true → FitsUnsigned 64 z
+unsigned_fits (pos n) h = ltb-true n (2 ^ 64) h
+unsigned_fits (negsuc n) h = cc
+
+signed_fits : (z : ℤ) → fits_i64 z ≡ true → FitsSigned w64 z
+signed_fits (pos n) h = let small = ltb-true n (2 ^ 63) h in record { sfits = omega (arith, small) }
+signed_fits (negsuc n) h = let small = ltb-true n (2 ^ 63) h in record { sfits = omega (arith, small) }
+
+and_parts : (x y : Bool) → (x && y) ≡ true → (x ≡ true) × (y ≡ true)
+and_parts true y h = (refl, h)
+and_parts false y h = cc
+
+-- the number where the tests' answers are known
+picked : (a b c : Bool) (scale : ℕ) (value : ℤ) (P : Num → Type 0) → (a ≡ true → P (record { form = uint64; scale = scale; whole = value })) → (b ≡ true → P (record { form = int64; scale = scale; whole = value }))
+    → (c ≡ true → P (record { form = decimal64; scale = scale; whole = value })) → P (record { form = decimal128; scale = scale; whole = value })
+    → P (record { form = if a then uint64 else (if b then int64 else (if c then decimal64 else decimal128)); scale = scale; whole = value })
+picked true b c scale value P p q r s = p refl
+picked false true c scale value P p q r s = q refl
+picked false false true scale value P p q r s = r refl
+picked false false false scale value P p q r s = s
+
+-- a decimal text's number: its digits, of which at most 38 count
+decimal_ranged : (b : Bool) (m scale precision : ℕ) → ((k : ℕ) → precision ≤ k → m < 10 ^ k) → scale ≤ precision → precision ≤ 38 → IsRanged (decimal_number scale precision (signed_by b m))
+unfolding decimal_form
+decimal_ranged b m scale precision small inside few =
+    let value = signed_by b m in
+    let short : m < 10 ^ 38 = small 38 few in
+    let magnitude : unsigned_abs value < 10 ^ 38 = subst (λ k. k < 10 ^ 38) (sym (unsigned_abs-signed b m)) short in
+    let few_digits : (scale ≤ 38) × (unsigned_abs value < 10 ^ 38) = (omega (arith, inside, few), magnitude) in
+    picked ((scale == 0) && fits_u64 value) ((scale == 0) && fits_i64 value) (nat_le precision 18) scale value IsRanged
+    (λ h. let tests = and_parts (scale == 0) (fits_u64 value) h in (tt, (eqb-true scale 0 tests.0, unsigned_fits value tests.1)))
+    (λ h. let tests = and_parts (scale == 0) (fits_i64 value) h in (tt, (eqb-true scale 0 tests.0, signed_fits value tests.1)))
+    (λ h. (few_digits, (omega (arith, inside, few), small_signed b m (small 18 (leb-true precision 18 h)))))
+    (few_digits, (omega (arith, inside, few), wide_signed b m short))
+
+decimal_text : (bytes : List ℕ) (n : Num) → IsDecimalNumber bytes n → IsRanged n
+decimal_text bytes n (sign, zeros, whole, fraction, parts, precise, is) =
+    let digits : List ℕ = whole ++ fraction_digits fraction in
+    let many : length digits ≡ precision_of whole fraction = length-append whole (fraction_digits fraction) in
+    let small = λ (k : ℕ) (few : precision_of whole fraction ≤ k). digits_value_short decimals digits k (digits-append whole (fraction_digits fraction) parts.whole_digits parts.digits_behind) (omega (arith, many, few)) in
+    subst IsRanged (sym is) (decimal_ranged (is_minus sign) (digits_value 10 digits) (length (fraction_digits fraction)) (precision_of whole fraction) small (omega arith) precise)
+
+some_number : (m n : Num) → Some m ≡ Some n → m ≡ n
+some_number m n e = cc
+
+hexadecimal_ranged : (b : Bool) (m : ℕ) (n : Num) → hexadecimal_number b m ≡ Some n → IsRanged n
+unfolding hexadecimal_number
+hexadecimal_ranged false m n is = unsigned (nat_lt m (2 ^ 64)) (nat_lt m (10 ^ 38)) (ltb-true m (2 ^ 64)) (ltb-true m (10 ^ 38)) is
+  where
+    unsigned : (x y : Bool) → (x ≡ true → m < 2 ^ 64) → (y ≡ true → m < 10 ^ 38) → (if x then Some (record { form = uint64; scale = 0; whole = pos m }) else (if y then Some (record { form = decimal128; scale = 0; whole = pos m }) else None)) ≡ Some n → IsRanged n
+    unsigned true y p q e = subst IsRanged (some_number (record { form = uint64; scale = 0; whole = pos m }) n e) (tt, (refl, p refl))
+    unsigned false true p q e = subst IsRanged (some_number (record { form = decimal128; scale = 0; whole = pos m }) n e) ((omega arith, q refl), (omega arith, wide_signed false m (q refl)))
+    unsigned false false p q e = cc
+hexadecimal_ranged true m n is = signed (nat_le m (2 ^ 63)) (nat_lt m (10 ^ 38)) (leb-true m (2 ^ 63)) (ltb-true m (10 ^ 38)) is
+  where
+    least : (k : ℕ) → k ≤ 2 ^ 63 → FitsSigned w64 (neg_ℤ (pos k))
+    least zero h = record { sfits = omega arith }
+    least (suc k) h = record { sfits = omega arith }
+
+    signed : (x y : Bool) → (x ≡ true → m ≤ 2 ^ 63) → (y ≡ true → m < 10 ^ 38) → (if x then Some (record { form = int64; scale = 0; whole = neg_ℤ (pos m) }) else (if y then Some (record { form = decimal128; scale = 0; whole = neg_ℤ (pos m) }) else None)) ≡ Some n → IsRanged n
+    signed true y p q e = subst IsRanged (some_number (record { form = int64; scale = 0; whole = neg_ℤ (pos m) }) n e) (tt, (refl, least m (p refl)))
+    signed false true p q e = subst IsRanged (some_number (record { form = decimal128; scale = 0; whole = neg_ℤ (pos m) }) n e) ((omega arith, subst (λ k. k < 10 ^ 38) (sym (unsigned_abs-signed true m)) (q refl)), (omega arith, wide_signed true m (q refl)))
+    signed false false p q e = cc
+
+pub extended_number : (bytes : List ℕ) (n : Num) → IsExtendedNumber bytes n → IsInTexts n × IsProperNumber n
+extended_number bytes n (inl d) = decimal_text bytes n d
+extended_number bytes n (inr (sign, mark, whole, parts, is)) = hexadecimal_ranged (is_minus sign) (digits_value 16 whole) n is

@@ -1,0 +1,3 @@
+-- The order of values.
+pub mod ByContent
+pub mod Comparing

@@ -1,0 +1,7 @@
+-- The bodies of strings: one list of items, one meaning, or a fault.
+pub mod Exclusion
+pub mod Meaning
+pub mod PlainRuns
+pub mod Spelling
+pub mod Units
+pub mod Writing

@@ -1,0 +1,3 @@
+-- Errors: their texts, and their parts.
+pub mod ErrorText
+pub mod ErrorView
