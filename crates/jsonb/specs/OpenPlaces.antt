@@ -7,8 +7,8 @@ use Rattle.jsonb_value.specs.View.{mark_view}
 use Rattle.jsonb_value.specs.declared.error.Error.{Error}
 use Rattle.jsonb.specs.declared.parser.Parser.{Parser}
 use Rattle.jsonb.specs.declared.parser.ast.JsonAst.{JsonAst}
-use Rattle.jsonb.specs.declared.parser.container.Frame.{Frame}
-use Rattle.jsonb.specs.declared.parser.container.Frame.TheVariants as variants
+use Rattle.jsonb.specs.declared.parser.value.Frame.{Frame}
+use Rattle.jsonb.specs.declared.parser.value.Frame.TheVariants as variants
 use Rattle.jsonb.specs.AstView.{Written}
 use Rattle.jsonb.specs.Parser.{mode_of}
 use Rattle.jsonb.specs.Placed.{AreElementsAt, AreMembersAt, HasBlanks, HasByte, HasKey, IsValueAt, Placed}

@@ -11,8 +11,8 @@ use Rattle.jsonb_value.specs.declared.error.Error.{Error}
 use Rattle.jsonb_value.specs.declared.error.Error.TheVariants.{Syntax, OutOfMemory}
 use Rattle.jsonb.specs.declared.parser.string.StringEnd.{StringEnd}
 use Rattle.jsonb.specs.declared.parser.string.StringEnd.TheVariants.{Closed, Unclosed}
-use Rattle.jsonb.specs.declared.parser.bare_key.KeyEnd.{KeyEnd}
-use Rattle.jsonb.specs.declared.parser.bare_key.KeyEnd.TheVariants as key_ends
+use Rattle.jsonb.specs.declared.parser.key.KeyEnd.{KeyEnd}
+use Rattle.jsonb.specs.declared.parser.key.KeyEnd.TheVariants as key_ends
 use Rattle.jsonb.specs.Decoding.{TellsBackslash}
 use Rattle.jsonb.specs.Reading.BareKey.{key_end}
 use Rattle.jsonb.specs.Reading.String.{Body, quote_end}

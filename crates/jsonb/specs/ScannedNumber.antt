@@ -4,7 +4,7 @@ use Rattle.jsonb_value.specs.Code.{Code, code_of}
 use Rattle.jsonb_value.specs.Tree.{Num}
 use Rattle.jsonb_value.specs.View.{number_view}
 use Rattle.jsonb_value.specs.declared.number.Number.{Number}
-use Rattle.jsonb.specs.declared.parser.extended_number.DecimalEnds.{DecimalEnds}
+use Rattle.jsonb.specs.declared.parser.extended_number.decimal.DecimalEnds.{DecimalEnds}
 use Rattle.jsonb.specs.declared.parser.extended_number.NumberFault.{NumberFault}
 use Rattle.jsonb.specs.declared.parser.extended_number.NumberText.{NumberText}
 use Rattle.jsonb.specs.Reading.ExtendedNumber.{Scanned, core_start, zeros_end, front_end, point_end, behind_end}

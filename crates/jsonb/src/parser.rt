@@ -1,8 +1,8 @@
 //! The reader of JSON texts: from left to right, with the first fault that it meets.
 
-ghost use Rattle.std.specs.Prelude.{◌≡◌, ◌≢◌, ◌+◌, ◌<◌, ◌≤◌, [], ◌∷◌, length, drop, MatchOption, MatchBool, OnOk, IfOk, IfErr, Err};
+ghost use Rattle.std.specs.Prelude.{◌≡◌, ◌≢◌, ◌+◌, ◌<◌, ◌≤◌, [], ◌∷◌, drop, MatchOption, MatchBool, IfOk, IfErr, Err};
 ghost use Rattle.jsonb_value.specs.Code.{code_of};
-ghost use Rattle.jsonb_value.specs.Grammar.{IsDocument, max_depth};
+ghost use Rattle.jsonb_value.specs.Grammar.{IsDocument};
 ghost use Rattle.jsonb_value.specs.Mode.{standard, extended};
 ghost use Rattle.jsonb_value.specs.Order.{Same};
 ghost use Rattle.jsonb_value.specs.Proper.{IsProper};
@@ -19,14 +19,16 @@ ghost use Rattle.jsonb.specs.Refusals.{IsExplained};
 ghost use Rattle.jsonb.specs.Source.{source_view};
 
 mod ast;
-mod bare_key;
 mod blank;
-mod container;
 mod direct;
 mod extended_number;
+mod key;
+mod members;
 mod number;
 mod scalar;
 mod string;
+mod value;
+mod vector;
 #[cfg(test)]
 mod tests;
 
@@ -44,48 +46,6 @@ pub enum Mode {
     /// Words in either case, single quotes, keys without quotes, elements that are left out, texts of blanks alone,
     /// decimals and hexadecimals, and comments.
     Extended,
-}
-
-impl<'a> JsonAst<'a> {
-    /// Reads a whole text.
-    ///
-    /// # Errors
-    ///
-    /// `Syntax` with what is wrong and the index that is named, where the text is no document of the mode; the text is
-    /// read from the left, and the first fault that is met is told. `OutOfMemory` only where the text holds `[`, `{` or
-    /// a backslash.
-    pub fn parse(alloc: Global, buf: &'a [u8], mode: Mode) -> Result<JsonAst<'a>>
-        // What is read is a document, and this is its one tree.
-        ensures document { IfOk result (λ v. IsDocument (mode_of mode) buf.now (ast_view v)) }
-        ensures only { IfOk result (λ v. (t : Tree) → IsDocument (mode_of mode) buf.now t → t ≡ ast_view v) }
-
-        // What is refused is no document, unless memory ran out.
-        ensures refused { IfErr result (λ e. e ≢ Error.OutOfMemory → (t : Tree) → IsDocument (mode_of mode) buf.now t
-            → ⊥) }
-        ensures memory { result ≡ Err Error.OutOfMemory → HoldsMarker buf.now }
-
-        // Nothing but these two refuses.
-        ensures errors { IfErr result IsTextRefusal }
-
-        // Which fault it is, and where.
-        ensures exact { Gives ast_view result (document_of (mode_of mode) buf.now) }
-
-        // What stands at the place that is named, for the refusals that speak of a value, of what follows it, of depth,
-        // of a number and of a key.
-        ensures explained { IfErr result (IsExplained (mode_of mode) buf.now) }
-
-        // Each value stands in the text where it was read. Each object's keys rise, and each member's own key ends at its
-        // index.
-        ensures source { IfOk result (λ v. IsPlaced (mode_of mode) buf.now (source_view v)) }
-    {
-        let mut parser = Parser {
-            alloc,
-            mode,
-            buf,
-            idx: 0,
-        };
-        parser.parse_document()
-    }
 }
 
 /// Reads a whole text of standard JSON.

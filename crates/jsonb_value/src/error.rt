@@ -4,7 +4,7 @@ ghost use Rattle.std.specs.Prelude.{◌≡◌, ◌↔◌, IsTrue};
 ghost use Rattle.jsonb_value.specs.Code.{code_of};
 ghost use Rattle.jsonb_value.specs.Error.ErrorView.{error_view};
 
-mod copy;
+mod clone;
 
 use std::alloc::{AllocError, AllocFailed};
 use std::hash::Hash;

@@ -1,7 +1,7 @@
 //! JSON values.
 mod access;
 mod convert;
-mod copy;
+mod clone;
 mod laws;
 mod order;
 mod owned;

@@ -2,9 +2,9 @@
 use Rattle.std.specs.Cow.{cow_str_bytes}
 use Rattle.std.proofs.Common.{◌≡◌, ℕ, zero, suc, ◌+◌, ◌-◌, ◌<◌, ◌≤◌, false, List, [], ◌∷◌, ◌++◌, length, take, get_or, set, map, Vec, Global, Option, Some, None, Result, Ok, Err, refl, sym, ap, ap₂, subst, subst₂, ◌∙◌, arith, length-append}
 use Rattle.jsonb.specs.declared.parser.Parser.{Parser}
-use Rattle.jsonb.specs.declared.parser.container.Frame.{Frame}
-use Rattle.jsonb.specs.declared.parser.container.Frame.TheVariants as variants
-use Rattle.jsonb.specs.declared.parser.container.OpenObject.{OpenObject}
+use Rattle.jsonb.specs.declared.parser.value.Frame.{Frame}
+use Rattle.jsonb.specs.declared.parser.value.Frame.TheVariants as variants
+use Rattle.jsonb.specs.declared.parser.value.OpenObject.{OpenObject}
 use Rattle.jsonb_value.specs.declared.error.Error.{Error}
 use Rattle.jsonb.specs.declared.parser.ast.JsonAst.{JsonAst}
 use Rattle.jsonb.specs.declared.parser.ast.JsonAst as ast

@@ -15,7 +15,7 @@ use Rattle.jsonb.specs.Reading.{fault}
 use Rattle.jsonb.specs.Reading.Number.{End, digits_from, exponent_from, sign_end}
 use Rattle.jsonb.specs.Reading.ExtendedNumber.{zeros_from, core_start, zeros_end, front_end, point_end, behind_end, scale_at, precision_at, lacks_digits, has_second_point, decimal_end, all_digits, decimal_at, scanned_to, extended_scan, extended_number_at}
 use Rattle.jsonb.specs.ScannedNumber.{AreEnds}
-use Rattle.jsonb.specs.declared.parser.extended_number.DecimalEnds.{DecimalEnds}
+use Rattle.jsonb.specs.declared.parser.extended_number.decimal.DecimalEnds.{DecimalEnds}
 use Rattle.jsonb.proofs.Steps.Tests.{if-false, if-true}
 use Rattle.jsonb.proofs.Numbers.DecimalScan.{core_digits, counted_digits, point_here, point_ordered}
 use Rattle.jsonb.proofs.Numbers.DecimalScanText.{behind_digits, digits_value_same}

@@ -17,8 +17,8 @@ use Rattle.jsonb.specs.AstView.{Written, ast_view, found_of}
 use Rattle.jsonb.specs.declared.parser.Parser.{Parser}
 use Rattle.jsonb.specs.declared.parser.ast.JsonAst.{JsonAst, the_lemmas}
 use Rattle.jsonb.specs.declared.parser.ast.JsonAst as ast
-use Rattle.jsonb.specs.declared.parser.container.Frame.{Frame}
-use Rattle.jsonb.specs.declared.parser.container.Frame.TheVariants as variants
+use Rattle.jsonb.specs.declared.parser.value.Frame.{Frame}
+use Rattle.jsonb.specs.declared.parser.value.Frame.TheVariants as variants
 use Rattle.jsonb.specs.OpenPlaces.{AllIsPlaced, ArePartsBefore, ArrayIsOpen, FrameIsPlaced, FrameIsRead, IsLeftOut, LeftOut, MemberBegins, ObjectIsOpen, PartIsPlaced, PartIsRead, ReadIsPlaced, Skips, StackIsPlaced, StackIsRead, ValueIsRead, placed_of}
 use Rattle.jsonb.specs.OpenPlaces.ArePartsBefore.{no_parts, parts_and_comma}
 use Rattle.jsonb.specs.Parser.{Advances, mode_of, rest_of, size_of}

@@ -1,12 +1,24 @@
 //! JSON values as they were written.
+ghost use Rattle.std.specs.Prelude.{◌≡◌, ◌≢◌, ◌<◌, IfOk, IfErr, Err};
+ghost use Rattle.jsonb_value.specs.Grammar.{IsDocument};
+ghost use Rattle.jsonb_value.specs.Tree.{Tree};
+ghost use Rattle.jsonb.specs.AstView.{ast_view};
+ghost use Rattle.jsonb.specs.Parser.{mode_of, IsTextRefusal, Gives, HoldsMarker};
+ghost use Rattle.jsonb.specs.Placed.{IsPlaced};
+ghost use Rattle.jsonb.specs.Reading.Document.{document_of};
+ghost use Rattle.jsonb.specs.Refusals.{IsExplained};
+ghost use Rattle.jsonb.specs.Source.{source_view};
 
-mod build;
-mod copy;
-mod same;
+mod clone;
+mod equality;
+mod into_value;
 #[cfg(test)]
 mod tests;
 
+use super::{Mode, Parser};
+use jsonb_value::error::{Error, Result};
 use jsonb_value::number::Number;
+use std::alloc::Global;
 use std::borrow::CowStr;
 
 /// A text that was read: its value, with strings borrowed from it where they have no escapes. A reader gives an
@@ -19,6 +31,48 @@ pub enum JsonAst<'a> {
     Number(Number),
     Array(Vec<JsonAst<'a>>),
     Object(Vec<(CowStr<'a>, JsonAst<'a>, usize)>),
+}
+
+impl<'a> JsonAst<'a> {
+    /// Reads a whole text.
+    ///
+    /// # Errors
+    ///
+    /// `Syntax` with what is wrong and the index that is named, where the text is no document of the mode; the text is
+    /// read from the left, and the first fault that is met is told. `OutOfMemory` only where the text holds `[`, `{` or
+    /// a backslash.
+    pub fn parse(alloc: Global, buf: &'a [u8], mode: Mode) -> Result<JsonAst<'a>>
+        // What is read is a document, and this is its one tree.
+        ensures document { IfOk result (λ v. IsDocument (mode_of mode) buf.now (ast_view v)) }
+        ensures only { IfOk result (λ v. (t : Tree) → IsDocument (mode_of mode) buf.now t → t ≡ ast_view v) }
+
+        // What is refused is no document, unless memory ran out.
+        ensures refused { IfErr result (λ e. e ≢ Error.OutOfMemory → (t : Tree) → IsDocument (mode_of mode) buf.now t
+            → ⊥) }
+        ensures memory { result ≡ Err Error.OutOfMemory → HoldsMarker buf.now }
+
+        // Nothing but these two refuses.
+        ensures errors { IfErr result IsTextRefusal }
+
+        // Which fault it is, and where.
+        ensures exact { Gives ast_view result (document_of (mode_of mode) buf.now) }
+
+        // What stands at the place that is named, for the refusals that speak of a value, of what follows it, of depth,
+        // of a number and of a key.
+        ensures explained { IfErr result (IsExplained (mode_of mode) buf.now) }
+
+        // Each value stands in the text where it was read. Each object's keys rise, and each member's own key ends at its
+        // index.
+        ensures source { IfOk result (λ v. IsPlaced (mode_of mode) buf.now (source_view v)) }
+    {
+        let mut parser = Parser {
+            alloc,
+            mode,
+            buf,
+            idx: 0,
+        };
+        parser.parse_document()
+    }
 }
 
 impl Default for JsonAst<'_> {

@@ -5,7 +5,7 @@ ghost use Rattle.jsonb_value.specs.Mode.{extended};
 ghost use Rattle.jsonb.specs.Parser.{rest_of, size_of, mode_of, Advances};
 ghost use Rattle.jsonb.specs.Reading.Blank.{longer_by, block_length, line_length, comment_length, blank_length, opens_comment, pass_blanks, skip_blanks};
 
-use super::string::{both, equal_to, load, lowest, top_bits};
+use super::vector::{both, equal_to, load, lowest, top_bits};
 use super::{Mode, Parser};
 use memchr::memchr2;
 use std::simd::prelude::*;

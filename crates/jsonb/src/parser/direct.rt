@@ -19,7 +19,7 @@ ghost use Rattle.jsonb.specs.Stack.{Open, elements_from, members_from, next_part
 
 mod scalar;
 
-use super::container::MAX_DEPTH;
+use super::value::MAX_DEPTH;
 use super::{Mode, Parser};
 use jsonb_value::value::{Object, Value};
 use std::alloc::Global;

@@ -1,12 +1,11 @@
-//! Values that hold no others, and keys.
+//! Values that hold no others.
 ghost use Rattle.std.specs.Prelude.{◌≡◌, ◌≢◌, ◌<◌, ◌≤◌, ◌∷◌, Contains, MatchBool, Err, IfOk, true};
-ghost use Rattle.std.specs.Cow.{cow_str_bytes};
 ghost use Rattle.jsonb_value.specs.Mode.{standard};
-ghost use Rattle.jsonb_value.specs.View.{mark_view, number_view};
+ghost use Rattle.jsonb_value.specs.View.{number_view};
 ghost use Rattle.jsonb.specs.AstView.{ast_view};
 ghost use Rattle.jsonb.specs.Parser.{rest_of, size_of, mode_of, Advances, Gives, ReadsAs};
 ghost use Rattle.jsonb.specs.Placed.{source_alone};
-ghost use Rattle.jsonb.specs.Reading.Scalar.{begins_letter, begins_number, begins_single_quote, folded, letters_at, null_at, number_at, number_value_at, word_at, quoted_at, number_or_fault, scalar_at, other_scalar_at, words_at, key_at};
+ghost use Rattle.jsonb.specs.Reading.Scalar.{begins_letter, begins_number, begins_single_quote, folded, letters_at, null_at, number_at, number_value_at, word_at, quoted_at, number_or_fault, scalar_at, other_scalar_at, words_at};
 ghost use Rattle.jsonb.specs.Source.{source_view};
 
 use super::{JsonAst, Mode, Parser};
@@ -240,22 +239,4 @@ impl<'a> Parser<'a> {
         matches!(self.peek(), Some(next) if fold(next, self.mode) == letter)
     }
 
-    // A key.
-    pub(super) fn parse_key(&mut self) -> Result<CowStr<'a>>
-        requires { self.old.idx ≤ size_of self.old }
-        ensures reads { ReadsAs (λ s. (mark_view s, cow_str_bytes s)) key_at result self.old self.new }
-        ensures memory { result ≡ Err Error.OutOfMemory → Contains self.old.buf.now 92 }
-        ensures advances { Advances self.old self.new }
-    {
-        if self.take_byte(b'"') {
-            return self.parse_quoted(b'"');
-        }
-        if self.take_single_quote() {
-            return self.parse_quoted(b'\'');
-        }
-        match self.mode {
-            Mode::Standard => Err(self.unexpected(ParseErrorCode::ExpectedSomeIdent, 1)),
-            Mode::Extended => self.parse_bare_key(),
-        }
-    }
 }

@@ -7,7 +7,7 @@ ghost use Rattle.jsonb_value.specs.Parts.{HoldsNoMemory};
 ghost use Rattle.jsonb_value.specs.Tree.{escaped};
 ghost use Rattle.jsonb_value.specs.View.{view, trees_view, members_view, mark_view};
 
-use super::copy::build;
+use super::clone::build;
 use super::{Object, Value};
 use crate::error::{Error, Result};
 use std::alloc::{AllocError, Global};

@@ -4,7 +4,7 @@ use Rattle.jsonb.specs.Reading.{begins}
 use Rattle.jsonb.proofs.Steps.Advancing.{goes_on}
 use Rattle.jsonb.proofs.Containers.OpenOfReader.{array_entered}
 use Rattle.jsonb.specs.declared.parser.ast.JsonAst as ast
-use Rattle.jsonb.specs.declared.parser.container.Frame.TheVariants as variants
+use Rattle.jsonb.specs.declared.parser.value.Frame.TheVariants as variants
 use Rattle.jsonb.specs.OpenPlaces.{AllIsPlaced, ArePartsBefore, ArrayIsOpen, LeftOut, Skips}
 use Rattle.jsonb.specs.OpenPlaces.ArePartsBefore.{no_parts}
 use Rattle.jsonb.specs.Placed.{AreElementsAt, IsValueAt}

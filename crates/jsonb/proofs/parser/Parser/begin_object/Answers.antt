@@ -8,7 +8,7 @@ use Rattle.std.specs.Cow.{cow_str_bytes}
 use Rattle.jsonb_value.specs.Tree.{Mark}
 use Rattle.jsonb_value.specs.View.{mark_view}
 use Rattle.jsonb.specs.declared.parser.ast.JsonAst as ast
-use Rattle.jsonb.specs.declared.parser.container.Frame.TheVariants as variants
+use Rattle.jsonb.specs.declared.parser.value.Frame.TheVariants as variants
 use Rattle.jsonb.specs.OpenPlaces.{AllIsPlaced, ArePartsBefore, MemberBegins, ObjectIsOpen, Skips, placed_of}
 use Rattle.jsonb.specs.OpenPlaces.ArePartsBefore.{no_parts}
 use Rattle.jsonb.specs.Placed.{AreMembersAt, IsValueAt}

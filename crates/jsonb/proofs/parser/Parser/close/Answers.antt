@@ -12,7 +12,7 @@ use Rattle.jsonb.specs.declared.parser.ast.JsonAst as ast
 use Rattle.jsonb.specs.OpenPlaces.{AllIsPlaced, StackIsRead}
 use Rattle.jsonb.specs.Placed.{IsValueAt}
 use Rattle.jsonb.specs.Source.{source_view}
-use Rattle.jsonb.specs.declared.parser.container.Frame.TheVariants as variants
+use Rattle.jsonb.specs.declared.parser.value.Frame.TheVariants as variants
 use Rattle.jsonb.proofs.Places.Placed.{array_placed, byte_has, last_split, later, next_index, value_any}
 use Rattle.jsonb.proofs.parser.Parser.close.Goals as goal
 

@@ -5,7 +5,7 @@ use Rattle.std.proofs.lemmas.Result.{err_from_is_err_and}
 use Rattle.jsonb.specs.Parser.{rest_of, mode_of}
 use Rattle.jsonb.proofs.Containers.OpenOfReader.{member_fails, member_next}
 use Rattle.jsonb_value.specs.Tree.{Mark}
-use Rattle.jsonb.specs.declared.parser.container.Frame.TheVariants as variants
+use Rattle.jsonb.specs.declared.parser.value.Frame.TheVariants as variants
 use Rattle.jsonb.specs.OpenPlaces.{ArrayIsOpen, FrameIsRead, MemberBegins, ObjectIsOpen, PartIsPlaced, Skips, placed_of}
 use Rattle.jsonb.specs.OpenPlaces.ArePartsBefore.{parts_and_comma}
 use Rattle.jsonb.specs.Source.{source_view}

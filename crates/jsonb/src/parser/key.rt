@@ -1,0 +1,104 @@
+//! Keys, in quotes and without.
+ghost use Rattle.std.specs.Prelude.{◌≡◌, ◌≢◌, ◌<◌, ◌≤◌, Contains, Err, ◌+◌, Ok};
+ghost use Rattle.std.specs.Cow.{cow_str_bytes};
+ghost use Rattle.jsonb_value.specs.View.{mark_view};
+ghost use Rattle.jsonb.specs.Parser.{rest_of, size_of, Advances, Gives, ReadsAs};
+ghost use Rattle.jsonb.specs.Reading.Scalar.{key_at};
+ghost use Rattle.jsonb.specs.QuotedString.{EndsKey};
+ghost use Rattle.jsonb.specs.Reading.BareKey.{key_step, bare_key_at};
+
+use super::{Mode, Parser};
+use jsonb_value::error::{Error, ParseErrorCode, Result};
+use std::borrow::CowStr;
+
+// Where the search for the end of a key stops.
+#[derive(Clone, Copy)]
+enum KeyEnd {
+    // At a byte that begins no character of a key.
+    At(usize),
+    // There is none. The index may pass the end of the bytes.
+    Past(usize),
+}
+
+// How many bytes a character of a key takes whose first byte is this, or 0 where no key has one.
+fn character_len(byte: u8) -> usize
+    ensures value { result ≡ key_step byte }
+    ensures bound { result ≤ 4 }
+{
+    match byte {
+        b'a'..=b'z' | b'A'..=b'Z' | b'0'..=b'9' | b'_' | b'$' => 1,
+        0xC0..=0xDF => 2,
+        0xE0..=0xEF => 3,
+        0xF0..=0xFF => 4,
+        _ => 0,
+    }
+}
+
+// Looks for the end of a key. A character is stepped over by its first byte, without a look at the others.
+fn find_key_end(bytes: &[u8]) -> KeyEnd
+    ensures { EndsKey bytes.now result }
+{
+    let mut at = 0;
+    'characters: while at < bytes.len() {
+        let len = character_len(bytes[at]);
+        if len == 0 {
+            return KeyEnd::At(at);
+        }
+        at += len;
+    }
+    KeyEnd::Past(at)
+}
+
+impl<'a> Parser<'a> {
+    // A key.
+    pub(super) fn parse_key(&mut self) -> Result<CowStr<'a>>
+        requires { self.old.idx ≤ size_of self.old }
+        ensures reads { ReadsAs (λ s. (mark_view s, cow_str_bytes s)) key_at result self.old self.new }
+        ensures memory { result ≡ Err Error.OutOfMemory → Contains self.old.buf.now 92 }
+        ensures advances { Advances self.old self.new }
+    {
+        if self.take_byte(b'"') {
+            return self.parse_quoted(b'"');
+        }
+        if self.take_single_quote() {
+            return self.parse_quoted(b'\'');
+        }
+        match self.mode {
+            Mode::Standard => Err(self.unexpected(ParseErrorCode::ExpectedSomeIdent, 1)),
+            Mode::Extended => self.parse_bare_key(),
+        }
+    }
+
+    // Reads a key without quotes. It is borrowed.
+    fn parse_bare_key(&mut self) -> Result<CowStr<'a>>
+        requires { self.old.idx ≤ size_of self.old }
+        ensures reads { Gives (λ s. ((mark_view s, cow_str_bytes s), rest_of self.new)) result
+            (bare_key_at (size_of self.old) (rest_of self.old)) }
+        ensures named { result ≢ Err Error.OutOfMemory }
+        ensures advances { Advances self.old self.new }
+    {
+        let Some(byte) = self.peek() else {
+            return Err(Error::Syntax(ParseErrorCode::InvalidEOF, self.buf.len()));
+        };
+        if byte.is_ascii_digit() {
+            return Err(Error::Syntax(ParseErrorCode::ObjectKeyInvalidNumber, self.idx + 1));
+        }
+        let rest = self.rest();
+        match find_key_end(rest) {
+            KeyEnd::Past(at) => Err(Error::Syntax(ParseErrorCode::InvalidEOF, self.idx + at)),
+            KeyEnd::At(end) => {
+                let after = self.idx + end;
+                if end == 0 || rest[end] >= 0x80 {
+                    return Err(Error::Syntax(ParseErrorCode::ObjectKeyInvalidCharacter, after));
+                }
+                match std::str::from_utf8(&rest[..end]) {
+                    Ok(text) => {
+                        self.idx = after;
+                        Ok(CowStr::Borrowed(text))
+                    }
+                    Err(_) => Err(Error::Syntax(ParseErrorCode::InvalidStringValue, after)),
+                }
+            }
+        }
+    }
+}

@@ -1,0 +1,56 @@
+//! The members of an object: their order, and the key that comes twice.
+ghost use Rattle.std.specs.Prelude.{◌≡◌, ◌+◌, ◌<◌, IfOk, Err, map, ℕ, List, IsPermutation};
+ghost use Rattle.jsonb_value.specs.Mode.{Mode as Grammar};
+ghost use Rattle.jsonb.specs.AstView.{ast_view, found_of};
+ghost use Rattle.jsonb.specs.OpenPlaces.{placed_of};
+ghost use Rattle.jsonb.specs.Parser.{Gives};
+ghost use Rattle.jsonb.specs.Placed.{AreMembersAt, HasByte, IsValueAt};
+ghost use Rattle.jsonb.specs.Reading.Container.{first_repeat, spot_of, spot_cmp, object_or_fault, AreAscending};
+ghost use Rattle.jsonb.specs.Source.{source_view};
+
+use super::JsonAst;
+use jsonb_value::error::{Error, ParseErrorCode, Result};
+use std::alloc::Global;
+use std::borrow::CowStr;
+use std::cmp::Ordering;
+
+// A key, its value, and the index after the key.
+pub(super) type Member<'a> = (CowStr<'a>, JsonAst<'a>, usize);
+
+// By the key's bytes, and then by the index after the key.
+fn member_cmp(a: &Member, b: &Member) -> Ordering
+    ensures { result ≡ spot_cmp (spot_of (found_of a.now)) (spot_of (found_of b.now)) }
+{
+    a.0.as_str()
+        .as_bytes()
+        .cmp(b.0.as_str().as_bytes())
+        .then(a.2.cmp(&b.2))
+}
+
+fn sort_members(members: &mut Vec<Member>)
+    ensures permutation { IsPermutation members.old.items members.new.items }
+    ensures ascending { AreAscending (map spot_of (map found_of members.new.items)) }
+{
+    members.sort_unstable_by(member_cmp);
+}
+
+// The object of the members, in the order of their keys, where no two have one key.
+pub(super) fn object_of<'a>(alloc: Global, mut members: Vec<Member<'a>>) -> Result<JsonAst<'a>>
+    ensures reads { (rest : List ℕ) → Gives (λ v. (ast_view v, rest)) result
+        (object_or_fault (first_repeat (map spot_of (map found_of members.entry.items)))
+        (map found_of members.entry.items) rest) }
+    ensures source { (mode : Grammar) → (input : List ℕ) → (from to : ℕ) → HasByte input 123 from
+        → AreMembersAt mode input (from + 1) (map placed_of members.entry.items) to → HasByte input 125 to
+        → IfOk result (λ v. IsValueAt mode input from (source_view v) (to + 1)) }
+{
+    sort_members(&mut members);
+    for i in 1..members.len() {
+        let earlier = &members[i - 1];
+        let later = &members[i];
+        if earlier.0.as_str().as_bytes() == later.0.as_str().as_bytes() {
+            let key = String::from_str(alloc, later.0.as_str())?;
+            return Err(Error::Syntax(ParseErrorCode::ObjectDuplicateKey(key), later.2));
+        }
+    }
+    Ok(JsonAst::Object(members))
+}

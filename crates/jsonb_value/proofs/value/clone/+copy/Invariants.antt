@@ -1,0 +1,15 @@
+use Rattle.std.proofs.Common.{◌≡◌, ◌++◌, take, map}
+use Rattle.jsonb_value.specs.Tree.{put_all}
+use Rattle.jsonb_value.specs.View.{view, members_view, pairs_view}
+use Rattle.jsonb_value.proofs.value.clone.+copy.Given as goal
+
+abbrev pub invariant-copy_items-items : goal.invariant-copy_items-items
+invariant-copy_items-items l = map view l.copies.items ≡ map view (take l.item-index l.item-items)
+
+-- what is left completes the copies to the whole
+abbrev pub invariant-copy_members-members : goal.invariant-copy_members-members
+invariant-copy_members-members l = put_all (pairs_view l.key-iterator) (members_view l.copies.entries) ≡ members_view l.members.entries
+
+-- what is left completes the pairs to the whole
+abbrev pub invariant-copy_members-pairs : goal.invariant-copy_members-pairs
+invariant-copy_members-pairs l = pairs_view l.pairs.items ++ pairs_view l.key-iterator ≡ pairs_view l.members.entries
