@@ -1,7 +1,7 @@
 -- Values in frames.
 use Rattle.std.specs.Prelude.{◌≡◌, ◌≢◌, ◌⊎◌, ℕ, ◌<◌, ◌≤◌, ◌^◌, List, [], ◌∷◌, ◌++◌, length, map, Some, None, Vec}
 use Rattle.std.specs.declared.alloc.Global.{Global}
-use Rattle.jsonb.specs.Grammar.{IsDocument}
+use Rattle.jsonb.specs.Grammar.{IsDocument, IsNoDocument}
 use Rattle.jsonb.specs.Mode.{extended}
 use Rattle.jsonb.specs.Parser.{Fails}
 use Rattle.jsonb.specs.Reading.Document.{document_of}
@@ -44,7 +44,7 @@ abbrev pub DecodeRefuses : List ℕ → Refusal → Type 0
 DecodeRefuses bytes TooLong = ⊥
 DecodeRefuses bytes CutShort = (text rest : List ℕ) → BeginsWith bytes text rest → ⊥
 DecodeRefuses bytes (Refused e) =
-    (text : List ℕ) × (rest : List ℕ) × BeginsWith bytes text rest × (e ≢ error.OutOfMemory → (t : Tree) → IsDocument extended text t → ⊥) × Fails e (document_of extended text)
+    (text : List ℕ) × (rest : List ℕ) × BeginsWith bytes text rest × (e ≢ error.OutOfMemory → IsNoDocument extended text) × Fails e (document_of extended text)
 
 -- the bytes of each line
 abbrev pub contents : List (Vec ℕ Global) → List (List ℕ)

@@ -1,7 +1,7 @@
 -- Settings and members.
 use Rattle.std.proofs.Common.{◌≡◌, ◌↔◌, ℕ, ◌<◌, ◌≤◌, ◌^◌, pos, List, Option, IfNone, Some, None, option_map, option_copied, Bor, refl, sym, subst, ap, ◌∙◌, arith}
 use Rattle.std.specs.Str.{bytes_eq}
-use Rattle.jsonb.specs.Parts.{find_member, IsWholeNumber}
+use Rattle.jsonb.specs.Accessors.{find_member, IsWholeNumber}
 use Rattle.jsonb.specs.View.{view, members_view}
 use Rattle.jsonb_value.proofs.Values.Members.{Entry}
 use Rattle.jsonb_value.specs.declared.value.Value.{Value}

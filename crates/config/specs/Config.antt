@@ -1,10 +1,10 @@
 -- The settings that a tree gives.
 use Rattle.std.specs.Prelude.{◌≡◌, ◌≢◌, ◌⊎◌, ℕ, ◌<◌, ◌^◌, List, take, Bool, false, Option, Some, None, codes, string_bytes, pos, ⊤}
 use Rattle.std.specs.Str.{bytes_eq}
-use Rattle.jsonb.specs.Grammar.{IsDocument}
+use Rattle.jsonb.specs.Grammar.{IsDocument, IsNoDocument}
 use Rattle.jsonb.specs.Mode.{extended}
 use Rattle.jsonb.specs.Parser.{Fails}
-use Rattle.jsonb.specs.Parts.{as_boolean, as_object, as_string, find_member, IsWholeNumber}
+use Rattle.jsonb.specs.Accessors.{as_boolean, as_object, as_string, find_member, IsWholeNumber}
 use Rattle.jsonb.specs.Placed.{IsPlaced}
 use Rattle.jsonb.specs.Reading.Document.{document_of}
 use Rattle.jsonb.specs.Source.{object_source, SourceMembers, no_source_members, more_source_members}
@@ -101,7 +101,7 @@ NamesPlace text setting other = ⊥
 -- The text is no document, or one of no object, or a setting of its object is wrong, or memory ran out.
 abbrev pub Refuses : List ℕ → Refusal → Type 0
 Refuses text (refusal.NoDocument e line column) =
-    (e ≢ error.OutOfMemory → (t : Tree) → IsDocument extended text t → ⊥) × Fails e (document_of extended text) × ((line, column) ≡ place_after (take (fault_position e) text))
+    (e ≢ error.OutOfMemory → IsNoDocument extended text) × Fails e (document_of extended text) × ((line, column) ≡ place_after (take (fault_position e) text))
 Refuses text refusal.NoObject = (t : Tree) × IsDocument extended text t × (as_object t ≡ None)
 Refuses text (refusal.Wrong setting line column) =
     (t : Tree) × IsDocument extended text t × (ms : Members) × (as_object t ≡ Some ms) × IsWrong setting (setting_of setting ms) × EndsKey text setting line column

@@ -41,7 +41,7 @@ pub record StopsInUnit (bytes : List ℕ) (code : Code) (left : ℕ) : Type 0 wh
   pub count : left + steps ≡ length bytes
 
 -- items and a bad escape, at which so many of the bytes are left
-pub record Stops (mode : Mode) (bytes : List ℕ) (code : Code) (left : ℕ) : Type 0 where
+pub record StopsAtEscape (mode : Mode) (bytes : List ℕ) (code : Code) (left : ℕ) : Type 0 where
   pub read : ℕ
   pub cut : IsCutShort mode bytes code read
   pub count : left + read ≡ length bytes

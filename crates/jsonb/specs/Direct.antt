@@ -93,7 +93,7 @@ abbrev pub PutsIn : List (String Global × Value) → String Global → Read Tre
 PutsIn before key whole after rest = (v : Value) × (after ≡ insert_entry string_cmp before key v) × (lookup (is_at (string_cmp key)) before ≡ None) × (whole ≡ Ok (view v, rest))
 
 -- Parts were read, up to the end of the container or up to a part that is a container itself.
-pub record Stops (size : ℕ) (mode : Mode) (depth : ℕ) (whole : Read Tree) (closed : Bool) (frame : OpenValue) (rest : List ℕ) : Type 0 where
+pub record ReadsParts (size : ℕ) (mode : Mode) (depth : ℕ) (whole : Read Tree) (closed : Bool) (frame : OpenValue) (rest : List ℕ) : Type 0 where
   pub so_far : Open
   pub held : IsHeld frame so_far
   pub reads : whole ≡ stopped_at size mode depth closed so_far rest
@@ -105,8 +105,8 @@ pub record Leaves (whole : Read Tree) (frames : List OpenValue) (left : List Ope
   pub reads : whole ≡ left opens
 
 -- A value is due.
-abbrev pub IsDue : Read Tree → Parser → List OpenValue → Type 0
-IsDue whole p frames = Leaves whole frames (λ cs. value_at (size_of p) (mode_of p.mode) (depth_within frames) (rest_of p) >>= resume (size_of p) (mode_of p.mode) (depth_within frames) cs)
+abbrev pub ValueIsDue : Read Tree → Parser → List OpenValue → Type 0
+ValueIsDue whole p frames = Leaves whole frames (λ cs. value_at (size_of p) (mode_of p.mode) (depth_within frames) (rest_of p) >>= resume (size_of p) (mode_of p.mode) (depth_within frames) cs)
 
 -- This was read inside of the containers.
 abbrev pub WasRead : Read Tree → Parser → List OpenValue → Tree → Type 0

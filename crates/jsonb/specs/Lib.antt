@@ -31,7 +31,7 @@ pub use Rattle.jsonb_value.specs.Text.NumberText
 pub use Rattle.jsonb_value.specs.Order
 pub use Rattle.jsonb_value.specs.Order.ByContent
 pub use Rattle.jsonb_value.specs.Owned
-pub use Rattle.jsonb_value.specs.Parts
+pub use Rattle.jsonb_value.specs.Accessors
 pub use Rattle.jsonb_value.specs.Proper
 pub use Rattle.jsonb_value.specs.Grammar.Quoted
 pub use Rattle.jsonb_value.specs.Text.Range

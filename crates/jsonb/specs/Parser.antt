@@ -30,9 +30,9 @@ pub record Advances (old new : Parser) : Type 0 where
   pub inside : old.idx ≤ size_of old → new.idx ≤ size_of new
 
 -- the error names this fault
-abbrev pub IsFault : Error → Fault → Type 0
-IsFault (Syntax code place) f = f ≡ record { code = code_of code; place = place }
-IsFault other f = ⊥
+abbrev pub NamesFault : Error → Fault → Type 0
+NamesFault (Syntax code place) f = f ≡ record { code = code_of code; place = place }
+NamesFault other f = ⊥
 
 -- The error is the fault that reading gives, or want of memory.
 abbrev pub Fails : {Y : Type 0} → Error → Result Y Fault → Type 0

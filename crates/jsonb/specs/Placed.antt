@@ -40,15 +40,15 @@ source_alone other = null_source
 abbrev pub Placed : Type 0
 Placed = (Mark × List ℕ) × Source × ℕ
 
-abbrev pub members_from : List Placed → SourceMembers
-members_from [] = no_source_members
-members_from (m ∷ ms) = more_source_members m.0.0 m.0.1 m.1 m.2 (members_from ms)
+abbrev pub source_members_of : List Placed → SourceMembers
+source_members_of [] = no_source_members
+source_members_of (m ∷ ms) = more_source_members m.0.0 m.0.1 m.1 m.2 (source_members_of ms)
 
 -- each key is below the next one, by bytes
-abbrev pub KeysRise : SourceMembers → Type 0
-KeysRise no_source_members = ⊤
-KeysRise (more_source_members a k s i no_source_members) = ⊤
-KeysRise (more_source_members a k s i (more_source_members b l t j ms)) = (slice_cmp nat_cmp k l ≡ Less) × KeysRise (more_source_members b l t j ms)
+abbrev pub SourceKeysAscend : SourceMembers → Type 0
+SourceKeysAscend no_source_members = ⊤
+SourceKeysAscend (more_source_members a k s i no_source_members) = ⊤
+SourceKeysAscend (more_source_members a k s i (more_source_members b l t j ms)) = (slice_cmp nat_cmp k l ≡ Less) × SourceKeysAscend (more_source_members b l t j ms)
 
 mutual
   -- From one place to the other the value is spelled. An object has its members in the order of their keys.
@@ -57,9 +57,9 @@ mutual
     empty_array : {from to : ℕ} → HasByte input 91 from → HasBlanks mode input (from + 1) to → HasByte input 93 to → IsValueAt mode input from (array_source (sources_of [])) (to + 1)
     full_array : {from to : ℕ} {ss : List Source} → HasByte input 91 from → AreElementsAt mode input (from + 1) ss to → (HasBlanks mode input (from + 1) to → ⊥) → HasByte input 93 to
         → IsValueAt mode input from (array_source (sources_of ss)) (to + 1)
-    empty_object : {from to : ℕ} → HasByte input 123 from → HasBlanks mode input (from + 1) to → HasByte input 125 to → IsValueAt mode input from (object_source (members_from [])) (to + 1)
+    empty_object : {from to : ℕ} → HasByte input 123 from → HasBlanks mode input (from + 1) to → HasByte input 125 to → IsValueAt mode input from (object_source (source_members_of [])) (to + 1)
     full_object : {from to : ℕ} {written sorted : List Placed} → HasByte input 123 from → AreMembersAt mode input (from + 1) written to → HasByte input 125 to
-        → IsPermutation written sorted → KeysRise (members_from sorted) → IsValueAt mode input from (object_source (members_from sorted)) (to + 1)
+        → IsPermutation written sorted → SourceKeysAscend (source_members_of sorted) → IsValueAt mode input from (object_source (source_members_of sorted)) (to + 1)
 
   -- elements with commas between
   pub data AreElementsAt (mode : Mode) (input : List ℕ) : ℕ → List Source → ℕ → Type 0 where

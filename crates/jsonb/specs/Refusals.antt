@@ -33,7 +33,7 @@ pub data ArePassed {A : Type 0} (Spells : List ℕ → A → Type 0) : List ℕ 
 -- The bytes up to where a value is due, with this many arrays and objects open: blanks, and then for each of these its opening byte,
 -- what is passed of it, and blanks. Of an array elements are passed, and of an object members and then a key and a colon.
 pub data IsFront (mode : Mode) : List ℕ → ℕ → Type 0 where
-  blanks_alone : {bytes : List ℕ} → IsBlanks mode bytes → IsFront mode bytes 0
+  front_of_blanks : {bytes : List ℕ} → IsBlanks mode bytes → IsFront mode bytes 0
   in_array : {before elements rest : List ℕ} {ts : List Tree} {count : ℕ} → IsBlanks mode before → ArePassed (IsElement mode (IsSpelling mode)) elements ts → IsFront mode rest count
       → IsFront mode (before ++ 91 ∷ (elements ++ rest)) (suc count)
   in_object : {before members left rest : List ℕ} {key : Mark × List ℕ} {ms : List Member} {count : ℕ} → IsBlanks mode before → ArePassed (IsMember mode (IsSpelling mode)) members ms → IsPadded mode (IsKey mode) left key → IsFront mode rest count

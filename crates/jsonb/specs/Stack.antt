@@ -58,8 +58,8 @@ module _ (size : ℕ) (mode : Mode) (depth : ℕ) where
   abbrev pub elements_from : List Tree → List ℕ → Read Tree
   elements_from = parts_from size expected_array_comma_or_end 93 (element_at mode (value_at size mode depth)) array_end
 
-  abbrev pub members_from : List Found → List ℕ → Read Tree
-  members_from = parts_from size expected_object_comma_or_end 125 (member_at size mode (value_at size mode depth)) object_end
+  abbrev pub read_members_from : List Found → List ℕ → Read Tree
+  read_members_from = parts_from size expected_object_comma_or_end 125 (member_at size mode (value_at size mode depth)) object_end
 
   -- the rest of a container, from the end of a part on
   abbrev pub rest_at : Open → List ℕ → Read Tree
@@ -133,7 +133,7 @@ rest_of_opens size mode depth (c ∷ cs) bytes = rest_at size mode depth c bytes
 -- the same from the beginning of a part on
 abbrev pub next_part_at : ℕ → Mode → ℕ → Open → List ℕ → Read Tree
 next_part_at size mode depth (elements_so_far front) bytes = elements_from size mode depth front bytes
-next_part_at size mode depth (members_so_far front key place) bytes = members_from size mode depth front bytes
+next_part_at size mode depth (members_so_far front key place) bytes = read_members_from size mode depth front bytes
 
 -- What a step into a part leaves, or its fault.
 abbrev pub PartBegins : ℕ → Mode → ℕ → Read Tree → Result (Option JsonAst) Error → Open → List ℕ → Type 0

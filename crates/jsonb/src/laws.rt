@@ -3,7 +3,7 @@
 ghost use Rattle.std.specs.Prelude.{◌≡◌, ◌≢◌, ◌++◌, ℕ, List, [], None};
 ghost use Rattle.jsonb_value.specs.Grammar.{Derives, IsDocument};
 ghost use Rattle.jsonb_value.specs.Mode.{Mode};
-ghost use Rattle.jsonb_value.specs.Parts.{as_number};
+ghost use Rattle.jsonb_value.specs.Accessors.{as_number};
 ghost use Rattle.jsonb_value.specs.Tree.{Tree};
 
 /// A text is a document of at most one tree. Where one spelling of a value begins another, longer one, both are

@@ -2,7 +2,7 @@
 
 ghost use Rattle.std.specs.Prelude.{◌≡◌, ◌≢◌, ◌+◌, ◌<◌, ◌≤◌, [], ◌∷◌, drop, MatchOption, MatchBool, IfOk, IfErr, Err};
 ghost use Rattle.jsonb_value.specs.Code.{code_of};
-ghost use Rattle.jsonb_value.specs.Grammar.{IsDocument};
+ghost use Rattle.jsonb_value.specs.Grammar.{IsDocument, IsNoDocument};
 ghost use Rattle.jsonb_value.specs.Mode.{standard, extended};
 ghost use Rattle.jsonb_value.specs.Order.{Same};
 ghost use Rattle.jsonb_value.specs.Proper.{IsProper};
@@ -10,7 +10,7 @@ ghost use Rattle.jsonb_value.specs.Text.Range.{IsInRange, IsIntegerRange};
 ghost use Rattle.jsonb_value.specs.Tree.{Tree};
 ghost use Rattle.jsonb_value.specs.View.{view};
 ghost use Rattle.jsonb.specs.AstView.{ast_view};
-ghost use Rattle.jsonb.specs.Parser.{rest_of, size_of, mode_of, Advances, IsFault, IsTextRefusal, Gives, HoldsMarker};
+ghost use Rattle.jsonb.specs.Parser.{rest_of, size_of, mode_of, Advances, NamesFault, IsTextRefusal, Gives, HoldsMarker};
 ghost use Rattle.jsonb.specs.Placed.{IsPlaced};
 ghost use Rattle.jsonb.specs.Reading.{begins, fault_at};
 ghost use Rattle.jsonb.specs.Reading.Blank.{pass_blanks};
@@ -59,7 +59,7 @@ pub fn parse_value_standard_mode(alloc: Global, buf: &[u8]) -> Result<Value<'_>>
     ensures only { IfOk result (λ v. (t : Tree) → IsDocument standard buf.now t → t ≡ view v) }
 
     // What is refused is no document, unless memory ran out.
-    ensures refused { IfErr result (λ e. e ≢ Error.OutOfMemory → (t : Tree) → IsDocument standard buf.now t → ⊥) }
+    ensures refused { IfErr result (λ e. e ≢ Error.OutOfMemory → IsNoDocument standard buf.now) }
     ensures memory { result ≡ Err Error.OutOfMemory → HoldsMarker buf.now }
 
     // Nothing but these two refuses.
@@ -95,7 +95,7 @@ pub fn parse_value(alloc: Global, buf: &[u8]) -> Result<Value<'_>>
     ensures only { IfOk result (λ v. (t : Tree) → IsDocument extended buf.now t → t ≡ view v) }
 
     // What is refused is no document, unless memory ran out.
-    ensures refused { IfErr result (λ e. e ≢ Error.OutOfMemory → (t : Tree) → IsDocument extended buf.now t → ⊥) }
+    ensures refused { IfErr result (λ e. e ≢ Error.OutOfMemory → IsNoDocument extended buf.now) }
     ensures memory { result ≡ Err Error.OutOfMemory → HoldsMarker buf.now }
 
     // Nothing but these two refuses.
@@ -173,7 +173,7 @@ impl<'a> Parser<'a> {
     // The fault at the next byte, named by its index and a step, or at the end of the text.
     fn unexpected(&self, code: ParseErrorCode, step: usize) -> Error
         requires { step ≤ 1 }
-        ensures { IsFault result (fault_at (size_of self.now) (code_of code) step (rest_of self.now)) }
+        ensures { NamesFault result (fault_at (size_of self.now) (code_of code) step (rest_of self.now)) }
     {
         if self.idx < self.buf.len() {
             Error::Syntax(code, self.idx + step)

@@ -6,7 +6,7 @@
 #![tactic(auto)]
 
 ghost use Rattle.std.specs.Prelude.{◌≡◌, ◌≤◌};
-ghost use Rattle.jsonb_value.specs.Grammar.{IsDocument};
+ghost use Rattle.jsonb_value.specs.Grammar.{IsDocument, IsNoDocument};
 ghost use Rattle.jsonb_value.specs.Mode.{standard, extended};
 ghost use Rattle.jsonb_value.specs.Tree.{Tree};
 
@@ -19,7 +19,7 @@ use std::alloc::Global;
 pub extern "C" fn jsonb_bench_read(alloc: Global, text: &[u8], rounds: usize) -> usize
     ensures most { result ≤ rounds }
     // Nothing goes well with a text that is no document.
-    ensures refused { ((t : Tree) → IsDocument standard text.now t → ⊥) → result ≡ 0 }
+    ensures refused { IsNoDocument standard text.now → result ≡ 0 }
 {
     for round in 0..rounds {
         if parse_value_standard_mode(alloc, text).is_err() {
@@ -35,7 +35,7 @@ pub extern "C" fn jsonb_bench_read(alloc: Global, text: &[u8], rounds: usize) ->
 pub extern "C" fn jsonb_bench_read_extended(alloc: Global, text: &[u8], rounds: usize) -> usize
     ensures most { result ≤ rounds }
     // Nothing goes well with a text that is no document.
-    ensures refused { ((t : Tree) → IsDocument extended text.now t → ⊥) → result ≡ 0 }
+    ensures refused { IsNoDocument extended text.now → result ≡ 0 }
 {
     for round in 0..rounds {
         if parse_value(alloc, text).is_err() {
@@ -51,7 +51,7 @@ pub extern "C" fn jsonb_bench_read_extended(alloc: Global, text: &[u8], rounds: 
 pub extern "C" fn jsonb_bench_read_ast(alloc: Global, text: &[u8], rounds: usize) -> usize
     ensures most { result ≤ rounds }
     // Nothing goes well with a text that is no document.
-    ensures refused { ((t : Tree) → IsDocument standard text.now t → ⊥) → result ≡ 0 }
+    ensures refused { IsNoDocument standard text.now → result ≡ 0 }
 {
     for round in 0..rounds {
         if JsonAst::parse(alloc, text, Mode::Standard).is_err() {
@@ -67,7 +67,7 @@ pub extern "C" fn jsonb_bench_read_ast(alloc: Global, text: &[u8], rounds: usize
 pub extern "C" fn jsonb_bench_write(alloc: Global, text: &[u8], rounds: usize) -> usize
     ensures most { result ≤ rounds }
     // Nothing goes well with a text that is no document.
-    ensures refused { ((t : Tree) → IsDocument standard text.now t → ⊥) → result ≡ 0 }
+    ensures refused { IsNoDocument standard text.now → result ≡ 0 }
 {
     let Ok(value) = parse_value_standard_mode(alloc, text) else {
         return 0;
@@ -88,7 +88,7 @@ pub extern "C" fn jsonb_bench_write(alloc: Global, text: &[u8], rounds: usize) -
 pub extern "C" fn jsonb_bench_compare(alloc: Global, text: &[u8], rounds: usize) -> usize
     ensures most { result ≤ rounds }
     // Nothing goes well with a text that is no document.
-    ensures refused { ((t : Tree) → IsDocument standard text.now t → ⊥) → result ≡ 0 }
+    ensures refused { IsNoDocument standard text.now → result ≡ 0 }
 {
     let Ok(left) = parse_value_standard_mode(alloc, text) else {
         return 0;
@@ -110,7 +110,7 @@ pub extern "C" fn jsonb_bench_compare(alloc: Global, text: &[u8], rounds: usize)
 pub extern "C" fn jsonb_bench_clone(alloc: Global, text: &[u8], rounds: usize) -> usize
     ensures most { result ≤ rounds }
     // Nothing goes well with a text that is no document.
-    ensures refused { ((t : Tree) → IsDocument standard text.now t → ⊥) → result ≡ 0 }
+    ensures refused { IsNoDocument standard text.now → result ≡ 0 }
 {
     let Ok(original) = parse_value_standard_mode(alloc, text) else {
         return 0;

@@ -1,7 +1,7 @@
 -- What a reason says of an answer.
 use Rattle.std.proofs.Common.{◌≡◌, ◌≢◌, ℕ, ◌≤◌, List, refl, subst, sym, ◌∙◌, arith}
 use Rattle.jsonb_value.specs.Code.{code_of}
-use Rattle.jsonb_value.specs.Grammar.{IsDocument}
+use Rattle.jsonb_value.specs.Grammar.{IsDocument, IsNoDocument}
 use Rattle.jsonb_value.specs.Mode.{Mode}
 use Rattle.jsonb_value.specs.Tree.{Tree}
 use Rattle.jsonb_value.specs.declared.error.Error.{Error}
@@ -12,16 +12,16 @@ use Rattle.jsonb.specs.Refusals.{IsExplained}
 use Rattle.jsonb_c.specs.declared.Refusal.{Refusal}
 use Rattle.jsonb_c.specs.declared.Refused.{Refused}
 use Rattle.jsonb_c.specs.declared.Refused.TheVariants.{Text, OutOfMemory, UnknownMode}
-use Rattle.jsonb_c.specs.Interface.{Chooses, standard_mode, extended_mode, status_of, IsAccepted, IsOneRefused, first_refused, second_refused, IsReason, IsRefused, SaysError}
+use Rattle.jsonb_c.specs.Interface.{NumberChooses, standard_mode, extended_mode, status_of, IsAccepted, IsOneRefused, first_refused, second_refused, IsReason, IsRefused, SaysError}
 
 -- ---- modes
 
-pub within : {number : ℕ} {mode : Mode} → Chooses number mode → number ≤ 1
+pub within : {number : ℕ} {mode : Mode} → NumberChooses number mode → number ≤ 1
 within (standard_mode e) = omega (arith, e)
 within (extended_mode e) = omega (arith, e)
 
 -- a number chooses one mode
-pub one_mode : {number : ℕ} {mode other : Mode} → Chooses number mode → Chooses number other → mode ≡ other
+pub one_mode : {number : ℕ} {mode other : Mode} → NumberChooses number mode → NumberChooses number other → mode ≡ other
 one_mode (standard_mode e) (standard_mode f) = refl
 one_mode (standard_mode e) (extended_mode f) = absurd (omega (arith, e, f))
 one_mode (extended_mode e) (standard_mode f) = absurd (omega (arith, e, f))
@@ -30,8 +30,8 @@ one_mode (extended_mode e) (extended_mode f) = refl
 -- ---- from errors to reasons
 
 -- a fault of the text that a reader told, in other words
-refused_text : (number : ℕ) (mode : Mode) (text : List ℕ) (count : ℕ) (e : Error) (refusal : Refusal) → Chooses number mode
-    → (e ≢ errors.OutOfMemory → (t : Tree) → IsDocument mode text t → ⊥) → Fails e (document_of mode text) → IsExplained mode text e → SaysError count e (Text refusal) → IsRefused number text count refusal
+refused_text : (number : ℕ) (mode : Mode) (text : List ℕ) (count : ℕ) (e : Error) (refusal : Refusal) → NumberChooses number mode
+    → (e ≢ errors.OutOfMemory → IsNoDocument mode text) → Fails e (document_of mode text) → IsExplained mode text e → SaysError count e (Text refusal) → IsRefused number text count refusal
 refused_text number mode text count e refusal chosen none fails explained says =
     let code = says.0 in
     let is : e ≡ errors.Syntax code refusal.position = says.1 in
@@ -46,8 +46,8 @@ refused_text number mode text count e refusal chosen none fails explained says =
       explained = subst (IsExplained mode text) is explained;
     }
 
-pub reason_says : (number : ℕ) (mode : Mode) (text : List ℕ) (count : ℕ) (e : Error) (reason : Refused) → Chooses number mode
-    → (e ≢ errors.OutOfMemory → (t : Tree) → IsDocument mode text t → ⊥) → Fails e (document_of mode text) → IsExplained mode text e → SaysError count e reason
+pub reason_says : (number : ℕ) (mode : Mode) (text : List ℕ) (count : ℕ) (e : Error) (reason : Refused) → NumberChooses number mode
+    → (e ≢ errors.OutOfMemory → IsNoDocument mode text) → Fails e (document_of mode text) → IsExplained mode text e → SaysError count e reason
     → IsReason number (IsRefused number text count) reason
 reason_says number mode text count e (Text refusal) chosen none fails explained says = (within chosen, refused_text number mode text count e refusal chosen none fails explained says)
 reason_says number mode text count e OutOfMemory chosen none fails explained says = within chosen

@@ -7,7 +7,7 @@ use Rattle.jsonb_value.specs.declared.error.Error.TheVariants as errors
 use Rattle.jsonb_value.specs.declared.error.ParseErrorCode.{ParseErrorCode}
 use Rattle.jsonb_value.specs.Code.{Code, code_of}
 use Rattle.jsonb_value.specs.Code.Code.{control_character_while_parsing_string, depth_limit_exceeded, expected_array_comma_or_end, expected_colon, expected_object_comma_or_end, expected_some_ident, expected_some_value, invalid_eof, invalid_escaped, invalid_hex, invalid_lone_leading_surrogate_in_hex_escape, invalid_number_value, invalid_string_value, invalid_surrogate_in_hex_escape, key_must_be_a_string, number_not_carried, object_duplicate_key, object_key_invalid_character, object_key_invalid_number, unexpected_end_of_hex_escape, unexpected_trailing_characters}
-use Rattle.jsonb_value.specs.Grammar.{IsDocument}
+use Rattle.jsonb_value.specs.Grammar.{IsDocument, IsNoDocument}
 use Rattle.jsonb_value.specs.Mode.{Mode, standard, extended}
 use Rattle.jsonb_value.specs.Order.{tree_cmp}
 use Rattle.jsonb_value.specs.Text.ReadsBack.{ReadsBackAs}
@@ -20,9 +20,9 @@ use Rattle.jsonb_c.specs.declared.Refused.{Refused}
 use Rattle.jsonb_c.specs.declared.Refused.TheVariants.{Text, OutOfMemory, UnknownMode}
 
 -- Which number chooses which mode.
-pub data Chooses (number : ℕ) : Mode → Type 0 where
-  standard_mode : number ≡ 0 → Chooses number standard
-  extended_mode : number ≡ 1 → Chooses number extended
+pub data NumberChooses (number : ℕ) : Mode → Type 0 where
+  standard_mode : number ≡ 0 → NumberChooses number standard
+  extended_mode : number ≡ 1 → NumberChooses number extended
 
 -- the number of a code: from 1 on, in the order of `ParseErrorCode`
 abbrev pub code_number : Code → ℕ
@@ -60,9 +60,9 @@ sign Greater = pos 1
 
 -- The number chooses a mode in which the text is a document of this tree and of no other, and the tree is what reading
 -- gives.
-pub record IsReadAs (number : ℕ) (text : List ℕ) (tree : Tree) : Type 0 where
+pub record IsDocumentOf (number : ℕ) (text : List ℕ) (tree : Tree) : Type 0 where
   pub mode : Mode
-  pub chosen : Chooses number mode
+  pub chosen : NumberChooses number mode
   pub document : IsDocument mode text tree
   pub only : (t : Tree) → IsDocument mode text t → t ≡ tree
   pub exact : document_of mode text ≡ Ok tree
@@ -70,14 +70,14 @@ pub record IsReadAs (number : ℕ) (text : List ℕ) (tree : Tree) : Type 0 wher
 -- The number chooses a mode in which the text is a document.
 pub record IsAccepted (number : ℕ) (text : List ℕ) : Type 0 where
   pub tree : Tree
-  pub read : IsReadAs number text tree
+  pub read : IsDocumentOf number text tree
 
 -- The number chooses a mode in which the text is no document. What is told is the fault that reading meets, and which of
 -- the texts it is.
 pub record IsRefused (number : ℕ) (text : List ℕ) (count : ℕ) (refusal : Refusal) : Type 0 where
   pub mode : Mode
-  pub chosen : Chooses number mode
-  pub no_document : (t : Tree) → IsDocument mode text t → ⊥
+  pub chosen : NumberChooses number mode
+  pub no_document : IsNoDocument mode text
   pub counted : refusal.which ≡ count
   pub code : Code
   pub numbered : refusal.code ≡ code_number code
@@ -92,7 +92,7 @@ pub data IsOneRefused (number : ℕ) (left right : List ℕ) (refusal : Refusal)
 -- The bytes are the text of the tree of the text, and they read back as a document of the same tree with this text.
 pub record IsTextOf (number : ℕ) (text bytes : List ℕ) : Type 0 where
   pub tree : Tree
-  pub read : IsReadAs number text tree
+  pub read : IsDocumentOf number text tree
   pub is_text : text_of tree ≡ Some bytes
   pub reads_back : ReadsBackAs read.mode bytes tree
 
@@ -113,9 +113,9 @@ pub record NeedsRoom (number : ℕ) (text : List ℕ) (size : ℕ) (old : List �
 -- The number is that of the order of the two texts' trees.
 pub record IsOrdered (number : ℕ) (left right : List ℕ) (order : ℤ) : Type 0 where
   pub first : Tree
-  pub first_read : IsReadAs number left first
+  pub first_read : IsDocumentOf number left first
   pub second : Tree
-  pub second_read : IsReadAs number right second
+  pub second_read : IsDocumentOf number right second
   pub ordered : order ≡ sign (tree_cmp first second)
 
 -- Why there is no answer: a text is refused, of which this is told; memory ran out; or the number chooses no mode.

@@ -7,13 +7,13 @@
 
 ghost use Rattle.std.specs.Prelude.{◌≡◌, ◌≢◌, ◌↔◌, ◌⊎◌, ◌<◌, ◌≤◌, ◌++◌, length, drop, pos, MatchOption, IfOk, IfErr, Err};
 ghost use Rattle.jsonb_value.specs.Code.{code_of};
-ghost use Rattle.jsonb_value.specs.Grammar.{IsDocument};
+ghost use Rattle.jsonb_value.specs.Grammar.{IsDocument, IsNoDocument};
 ghost use Rattle.jsonb_value.specs.Tree.{Tree};
 ghost use Rattle.jsonb_value.specs.View.{view};
 ghost use Rattle.jsonb.specs.Parser.{mode_of, Gives, HoldsMarker, IsTextRefusal};
 ghost use Rattle.jsonb.specs.Reading.Document.{document_of};
 ghost use Rattle.jsonb.specs.Refusals.{IsExplained};
-ghost use Rattle.jsonb_c.specs.Interface.{Chooses, code_number, nothing, sign, status_of, told, IsAccepted, IsOneRefused, IsOrdered, IsReadAs, IsReason, IsRefused, IsTextOf, IsWritten, NeedsRoom, SaysError};
+ghost use Rattle.jsonb_c.specs.Interface.{NumberChooses, code_number, nothing, sign, status_of, told, IsAccepted, IsOneRefused, IsOrdered, IsDocumentOf, IsReason, IsRefused, IsTextOf, IsWritten, NeedsRoom, SaysError};
 
 use jsonb::{Error, Mode, ParseErrorCode, Value, parse_value, parse_value_standard_mode};
 use std::alloc::Global;
@@ -240,7 +240,7 @@ fn text_of(alloc: Global, mode: u32, text: &[u8]) -> Result<Vec<u8>, Refused>
 
 // The value of a text, which is the first or the second of those that a call is given.
 fn value_of<'a>(alloc: Global, mode: u32, text: &'a [u8], which: u32) -> Result<Value<'a>, Refused>
-    ensures read { IfOk result (λ value. IsReadAs mode text.now (view value)) }
+    ensures read { IfOk result (λ value. IsDocumentOf mode text.now (view value)) }
     ensures reason { IfErr result (IsReason mode (IsRefused mode text.now which)) }
     ensures memory { result ≡ Err Refused.OutOfMemory → HoldsMarker text.now }
 {
@@ -255,7 +255,7 @@ fn value_of<'a>(alloc: Global, mode: u32, text: &'a [u8], which: u32) -> Result<
 
 // The mode that a number chooses.
 fn choose_mode(number: u32) -> Option<Mode>
-    ensures { MatchOption result (1 < number) (λ mode. Chooses number (mode_of mode)) }
+    ensures { MatchOption result (1 < number) (λ mode. NumberChooses number (mode_of mode)) }
 {
     match number {
         0 => Some(Mode::Standard),
@@ -269,7 +269,7 @@ fn read<'a>(alloc: Global, mode: Mode, text: &'a [u8]) -> jsonb::Result<Value<'a
     ensures document { IfOk result (λ v. IsDocument (mode_of mode) text.now (view v)) }
     ensures only { IfOk result (λ v. (t : Tree) → IsDocument (mode_of mode) text.now t → t ≡ view v) }
     ensures refused { IfErr result (λ e. e ≢ Error.OutOfMemory
-        → (t : Tree) → IsDocument (mode_of mode) text.now t → ⊥) }
+        → IsNoDocument (mode_of mode) text.now) }
     ensures memory { result ≡ Err Error.OutOfMemory → HoldsMarker text.now }
     ensures errors { IfErr result IsTextRefusal }
     ensures exact { Gives view result (document_of (mode_of mode) text.now) }

@@ -1,3 +1,3 @@
 pub mod BytesRead
-pub mod DocumentTexts
+pub mod TextOfDocument
 pub mod LinesAgain

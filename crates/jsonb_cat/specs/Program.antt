@@ -7,13 +7,9 @@ use Rattle.jsonb_value.specs.Grammar.{IsDocument}
 use Rattle.jsonb_value.specs.Text.{text_of}
 
 -- The words choose the mode: none chooses extended mode, and `--standard` alone standard mode.
-pub data Chooses (words : List (List ℕ)) : Mode → Type 0 where
-  no_words : words ≡ [] → Chooses words extended
-  standard_word : words ≡ codes "--standard" ∷ [] → Chooses words standard
-
--- no document has these bytes
-abbrev pub IsNoDocument : Mode → List ℕ → Type 0
-IsNoDocument mode input = (t : Tree) → IsDocument mode input t → ⊥
+pub data WordsChoose (words : List (List ℕ)) : Mode → Type 0 where
+  no_words : words ≡ [] → WordsChoose words extended
+  standard_word : words ≡ codes "--standard" ∷ [] → WordsChoose words standard
 
 -- The input is a document, and the line is its text and a line feed.
 pub record IsLineOf (mode : Mode) (input line : List ℕ) : Type 0 where
@@ -26,7 +22,7 @@ pub record IsLineOf (mode : Mode) (input line : List ℕ) : Type 0 where
 -- The words choose a mode in which the input is a document.
 pub record IsAccepted (words : List (List ℕ)) (input : List ℕ) : Type 0 where
   pub mode : Mode
-  pub chosen : Chooses words mode
+  pub chosen : WordsChoose words mode
   pub tree : Tree
   pub document : IsDocument mode input tree
 
@@ -34,7 +30,7 @@ pub record IsAccepted (words : List (List ℕ)) (input : List ℕ) : Type 0 wher
 -- with its line at their end.
 pub record IsAnswered (words : List (List ℕ)) (input : List ℕ) (old new : Option (List ℕ)) : Type 0 where
   pub mode : Mode
-  pub chosen : Chooses words mode
+  pub chosen : WordsChoose words mode
   pub line : List ℕ
   pub line_of : IsLineOf mode input line
   pub written : Appends old new line

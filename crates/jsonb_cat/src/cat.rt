@@ -2,11 +2,12 @@
 
 ghost use Rattle.std.specs.Prelude.{◌≡◌, ◌≢◌, ◌↔◌, ◌⊎◌, ℕ, ◌+◌, ◌≤◌, List, [], ◌∷◌, ◌++◌, take, map, vec_len, string_bytes, MatchOption, OnOk, OnErr, IfOk, IfErr, IfSome};
 ghost use Rattle.std.specs.Io.KnownBytes.{Appends, IsAtEnd};
-ghost use Rattle.jsonb_value.specs.Mode.{Mode as Grammar};
+ghost use Rattle.jsonb_value.specs.Grammar.{IsNoDocument};
+ghost use Rattle.jsonb_value.specs.Mode.{Mode as GrammarMode};
 ghost use Rattle.jsonb.specs.Parser.{mode_of, Fails};
 ghost use Rattle.jsonb.specs.Reading.Document.{document_of};
 ghost use Rattle.jsonb.specs.Refusals.{IsExplained};
-ghost use Rattle.jsonb_cat.specs.Program.{Chooses, IsNoDocument, IsLineOf, IsAccepted, IsAnswered};
+ghost use Rattle.jsonb_cat.specs.Program.{WordsChoose, IsLineOf, IsAccepted, IsAnswered};
 
 use jsonb::parser::Mode;
 use jsonb::{Error, Result};
@@ -24,8 +25,8 @@ const MIN_ROOM: usize = 4096;
 
 /// The mode that the program's words choose, or `None` where they are none that it knows.
 pub fn choose_mode(words: &[String]) -> Option<Mode>
-    ensures { MatchOption result ((mode : Grammar) → Chooses (map string_bytes words.now) mode → ⊥)
-        (λ mode. Chooses (map string_bytes words.now) (mode_of mode)) }
+    ensures { MatchOption result ((mode : GrammarMode) → WordsChoose (map string_bytes words.now) mode → ⊥)
+        (λ mode. WordsChoose (map string_bytes words.now) (mode_of mode)) }
 {
     match words {
         [] => Some(Mode::Extended),
@@ -35,7 +36,7 @@ pub fn choose_mode(words: &[String]) -> Option<Mode>
 }
 
 /// Appends to `out` the text of the document that `input` is, and a line feed. After an error `out` holds what it held.
-#[tactic(auto, using(crate::proofs::DocumentTexts::document_has_text))]
+#[tactic(auto, using(crate::proofs::TextOfDocument::document_has_text))]
 pub fn convert(alloc: Global, mode: Mode, input: &[u8], out: &mut Vec<u8>) -> Result<()>
     ensures ok { OnOk result ((line : List ℕ) × IsLineOf (mode_of mode) input.now line
         × (out.new.items ≡ out.old.items ++ line)) }
@@ -127,7 +128,7 @@ pub fn run<R: Read, W: Write, E: Write>(
     err: &mut E,
 ) -> u8
     ensures status { result ≤ 2 }
-    ensures usage { result ≡ 2 ↔ ((mode : Grammar) → Chooses (map string_bytes words.now) mode → ⊥) }
+    ensures usage { result ≡ 2 ↔ ((mode : GrammarMode) → WordsChoose (map string_bytes words.now) mode → ⊥) }
     ensures untouched { result ≡ 2 → (input.new ≡ input.old) × (out.new ≡ out.old) }
     ensures answered { result ≡ 0 → IsAtEnd (R.remaining input.new) × IfSome (R.remaining input.old)
         (λ bytes. IsAnswered (map string_bytes words.now) bytes (W.contents out.old) (W.contents out.new)) }

@@ -1,7 +1,7 @@
 //! Reading a text, and telling why it is refused.
 
 ghost use Rattle.std.specs.Prelude.{◌≡◌, ◌≢◌, false, true, IfOk, IfErr};
-ghost use Rattle.jsonb.specs.Grammar.{IsDocument};
+ghost use Rattle.jsonb.specs.Grammar.{IsDocument, IsNoDocument};
 ghost use Rattle.jsonb.specs.Mode.{standard};
 ghost use Rattle.jsonb.specs.Parser.{mode_of};
 ghost use Rattle.jsonb.specs.Tree.{Tree};
@@ -14,8 +14,7 @@ use std::alloc::Global;
 pub fn read(alloc: Global, mode: Mode, text: &[u8]) -> Result<Value<'_>>
     ensures document { IfOk result (λ v. IsDocument (mode_of mode) text.now (view v)) }
     ensures only { IfOk result (λ v. (t : Tree) → IsDocument (mode_of mode) text.now t → t ≡ view v) }
-    ensures refused { IfErr result (λ e. e ≢ Error.OutOfMemory → (t : Tree) → IsDocument (mode_of mode) text.now t
-        → ⊥) }
+    ensures refused { IfErr result (λ e. e ≢ Error.OutOfMemory → IsNoDocument (mode_of mode) text.now) }
 {
     match mode {
         Mode::Standard => jsonb::parse_value_standard_mode(alloc, text),
@@ -26,7 +25,7 @@ pub fn read(alloc: Global, mode: Mode, text: &[u8]) -> Result<Value<'_>>
 /// Whether the text is standard JSON. The only refusal is want of memory.
 pub fn is_standard(alloc: Global, text: &[u8]) -> Result<bool>
     ensures yes { IfOk result (λ b. b ≡ true → (t : Tree) × IsDocument standard text.now t) }
-    ensures no { IfOk result (λ b. b ≡ false → (t : Tree) → IsDocument standard text.now t → ⊥) }
+    ensures no { IfOk result (λ b. b ≡ false → IsNoDocument standard text.now) }
 {
     match jsonb::parse_value_standard_mode(alloc, text) {
         Ok(_) => Ok(true),

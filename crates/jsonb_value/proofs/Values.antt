@@ -3,4 +3,4 @@ pub mod Built
 pub mod Keys
 pub mod Members
 pub mod OwnedCopies
-pub mod Parts
+pub mod Accessors

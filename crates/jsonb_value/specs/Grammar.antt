@@ -67,3 +67,7 @@ max_depth = 512
 pub data IsDocument (mode : Mode) : List ℕ → Tree → Type 0 where
   value_alone : {before core after : List ℕ} {t : Tree} → IsBlanks mode before → Derives mode max_depth core t → AreLastBlanks mode after → IsDocument mode (before ++ (core ++ after)) t
   blanks_alone : {bytes : List ℕ} → mode ≡ extended → AreLastBlanks mode bytes → IsDocument mode bytes null
+
+-- the text is a document of no tree
+abbrev pub IsNoDocument : Mode → List ℕ → Type 0
+IsNoDocument mode bytes = (t : Tree) → IsDocument mode bytes t → ⊥

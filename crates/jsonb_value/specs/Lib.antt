@@ -6,7 +6,7 @@ pub mod Mode
 pub mod Number
 pub mod Order
 pub mod Owned
-pub mod Parts
+pub mod Accessors
 pub mod Proper
 pub mod Text
 pub mod Tree

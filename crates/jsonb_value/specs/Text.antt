@@ -74,7 +74,7 @@ abbrev pub text_of : Tree → Option (List ℕ)
 text_of t = if has_text t then Some (tree_text t) else None
 
 -- new is old with the tree's text at its end
-pub record Appends (t : Tree) (old new : List ℕ) : Type 0 where
+pub record AppendsText (t : Tree) (old new : List ℕ) : Type 0 where
   pub bytes : List ℕ
   pub is_text : text_of t ≡ Some bytes
   pub appended : new ≡ old ++ bytes

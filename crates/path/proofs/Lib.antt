@@ -1,2 +1,2 @@
-pub mod Parts
-pub mod Spelling
+pub mod PathParts
+pub mod KeySpelling

@@ -3,10 +3,10 @@ use Rattle.std.specs.Prelude.{◌≡◌, ◌≢◌, ℕ, zero, suc, ◌<◌, Lis
 use Rattle.std.specs.List.{AllByRecursion}
 use Rattle.std.specs.Str.{bytes_eq}
 use Rattle.std.specs.Str.Parse.{IsNumeral, digits_value}
-use Rattle.jsonb.specs.Grammar.{IsDocument}
+use Rattle.jsonb.specs.Grammar.{IsDocument, IsNoDocument}
 use Rattle.jsonb.specs.Mode.{extended}
 use Rattle.jsonb.specs.Parser.{Fails}
-use Rattle.jsonb.specs.Parts.{find_member}
+use Rattle.jsonb.specs.Accessors.{find_member}
 use Rattle.jsonb.specs.Reading.Document.{document_of}
 use Rattle.jsonb.specs.Tree.{Tree, array, object, Trees, no_trees, more_trees}
 use Rattle.jsonb_value.specs.Text.{text_of}
@@ -40,19 +40,19 @@ pub record IsIndex (key : List ℕ) (index : ℕ) : Type 0 where
   pub value : index ≡ digits_value 10 key
 
 -- the item of that index
-abbrev pub item_at : Trees → ℕ → Option Tree
-item_at no_trees index = None
-item_at (more_trees t ts) zero = Some t
-item_at (more_trees t ts) (suc index) = item_at ts index
+abbrev pub array_item : Trees → ℕ → Option Tree
+array_item no_trees index = None
+array_item (more_trees t ts) zero = Some t
+array_item (more_trees t ts) (suc index) = array_item ts index
 
 -- t is the item whose index the key is
-abbrev pub IsItem : Trees → List ℕ → Tree → Type 0
-IsItem ts key t = (index : ℕ) × IsIndex key index × (item_at ts index ≡ Some t)
+abbrev pub IsArrayItem : Trees → List ℕ → Tree → Type 0
+IsArrayItem ts key t = (index : ℕ) × IsIndex key index × (array_item ts index ≡ Some t)
 
 -- The second tree is the member of that key, or the item of that index.
 abbrev pub IsChild : Tree → List ℕ → Tree → Type 0
 IsChild (object ms) key t = find_member (bytes_eq key) ms ≡ Some t
-IsChild (array ts) key t = IsItem ts key t
+IsChild (array ts) key t = IsArrayItem ts key t
 IsChild other key t = ⊥
 
 -- The second tree is the part of the first at the path of these keys.
@@ -79,7 +79,7 @@ pub record HasNoPart (path document : List ℕ) : Type 0 where
   pub none : (part : Tree) → IsAt tree keys part → ⊥
 
 -- The path is none, the document is none, or memory ran out. A document's fault is as reading tells it.
-abbrev pub Refuses : List ℕ → List ℕ → Refusal → Type 0
-Refuses path document NoPath = (keys : List (List ℕ)) → IsPath path keys → ⊥
-Refuses path document (NoDocument error) = (error ≢ OutOfMemory → (t : Tree) → IsDocument extended document t → ⊥) × Fails error (document_of extended document)
-Refuses path document NoMemory = ⊤
+abbrev pub IsPathRefusal : List ℕ → List ℕ → Refusal → Type 0
+IsPathRefusal path document NoPath = (keys : List (List ℕ)) → IsPath path keys → ⊥
+IsPathRefusal path document (NoDocument error) = (error ≢ OutOfMemory → IsNoDocument extended document) × Fails error (document_of extended document)
+IsPathRefusal path document NoMemory = ⊤

@@ -2,7 +2,7 @@
 
 ghost use Rattle.std.specs.Prelude.{◌≡◌, ◌<◌, ◌≤◌, ℕ, List, ◌++◌, length, map, string_bytes, option_map, None, IfOk, IfSome, IfNone};
 ghost use Rattle.path.specs.Path.{spelled_key, IsPath};
-ghost use Rattle.path.specs.Spelling.{escape_of, byte_of};
+ghost use Rattle.path.specs.KeySpelling.{escape_of, byte_of};
 
 use std::alloc::{AllocError, Global};
 

@@ -2,10 +2,10 @@
 
 ghost use Rattle.std.specs.Prelude.{◌≡◌, ◌<◌, ◌^◌, ℕ, List, map, string_bytes, option_map, IfOk, IfErr, IfSome, IfNone, MatchOption};
 ghost use Rattle.std.specs.Str.{bytes_eq};
-ghost use Rattle.jsonb.specs.Parts.{find_member};
+ghost use Rattle.jsonb.specs.Accessors.{find_member};
 ghost use Rattle.jsonb.specs.Tree.{Tree};
 ghost use Rattle.jsonb.specs.View.{view, trees_view, members_view};
-ghost use Rattle.path.specs.Path.{IsIndex, IsItem, IsChild, IsAt, IsPartText, HasNoPart, Refuses};
+ghost use Rattle.path.specs.Path.{IsIndex, IsArrayItem, IsChild, IsAt, IsPartText, HasNoPart, IsPathRefusal};
 
 use crate::keys::read_keys;
 use jsonb::{Error, Object, Value};
@@ -52,7 +52,7 @@ impl From<AllocError> for Refusal {
 pub fn part_text(alloc: Global, path: &[u8], document: &[u8]) -> Result<Option<Vec<u8>>, Refusal>
     ensures ok { IfOk result (λ answer. MatchOption answer (HasNoPart path.now document.now)
         (λ text. IsPartText path.now document.now text.items)) }
-    ensures refused { IfErr result (Refuses path.now document.now) }
+    ensures refused { IfErr result (IsPathRefusal path.now document.now) }
 {
     let Some(keys) = read_keys(alloc, path)? else {
         return Err(Refusal::NoPath);
@@ -111,8 +111,8 @@ fn member<'v, 'a>(members: &'v Object<'a>, key: &str) -> Option<&'v Value<'a>>
 
 // The item of that index.
 fn item<'v, 'a>(items: &'v Vec<Value<'a>>, key: &str) -> Option<&'v Value<'a>>
-    ensures some { IfSome result (λ item. IsItem (trees_view items.now.items) key.now (view item.now)) }
-    ensures none { IfNone result ((t : Tree) → IsItem (trees_view items.now.items) key.now t → ⊥) }
+    ensures some { IfSome result (λ item. IsArrayItem (trees_view items.now.items) key.now (view item.now)) }
+    ensures none { IfNone result ((t : Tree) → IsArrayItem (trees_view items.now.items) key.now t → ⊥) }
 {
     let len = items.len();
     let Some(index) = index_of(key) else {

@@ -1,3 +1,3 @@
-pub mod Documents
+pub mod LinesRead
 pub mod Sorting
-pub mod Texts
+pub mod IndexTexts

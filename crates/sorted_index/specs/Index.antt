@@ -5,7 +5,7 @@ use Rattle.std.specs.List.Sorted.{IsStrictlySortedBy}
 use Rattle.std.specs.declared.alloc.Global.{Global}
 use Rattle.std.specs.declared.cmp.Ordering.{Ordering}
 use Rattle.std.specs.declared.cmp.Ordering.TheVariants.{Equal}
-use Rattle.jsonb.specs.Grammar.{IsDocument}
+use Rattle.jsonb.specs.Grammar.{IsDocument, IsNoDocument}
 use Rattle.jsonb.specs.Mode.{extended}
 use Rattle.jsonb.specs.Parser.{Fails}
 use Rattle.jsonb.specs.Reading.Document.{document_of}
@@ -60,10 +60,10 @@ pub record IsFirstFault (lines : List (List ℕ)) (number : ℕ) (error : Error)
   pub counted : number ≡ length before + 1
   pub given : List Value
   pub documents : AreDocuments before given
-  pub no_document : error ≢ OutOfMemory → (t : Tree) → IsDocument extended line t → ⊥
+  pub no_document : error ≢ OutOfMemory → IsNoDocument extended line
   pub fault : Fails error (document_of extended line)
 
 -- A line is refused, or memory ran out.
-abbrev pub Refuses : List (List ℕ) → Refusal → Type 0
-Refuses lines (Line number error) = IsFirstFault lines number error
-Refuses lines NoMemory = ⊤
+abbrev pub IsLineRefusal : List (List ℕ) → Refusal → Type 0
+IsLineRefusal lines (Line number error) = IsFirstFault lines number error
+IsLineRefusal lines NoMemory = ⊤

@@ -1,7 +1,7 @@
 //! The index of the documents that stand on lines: their values in order, equal ones once.
 
 ghost use Rattle.std.specs.Prelude.{OnOk, OnErr, IfOk, IfErr, ◌≡◌};
-ghost use Rattle.sorted_index.specs.Index.{contents, AreDocuments, IsIndexOf, AreTexts, IsIndexText, Refuses};
+ghost use Rattle.sorted_index.specs.Index.{contents, AreDocuments, IsIndexOf, AreTexts, IsIndexText, IsLineRefusal};
 
 use jsonb::{Error, Value};
 use std::alloc::{AllocError, Global};
@@ -54,7 +54,7 @@ pub fn sort_values(values: &mut Vec<Value>) -> Result<(), AllocError>
 /// `Line` with the number of the first line that is no document, and its fault, and `NoMemory`.
 pub fn index_text(alloc: Global, lines: &[Vec<u8>]) -> Result<Vec<u8>, Refusal>
     ensures ok { IfOk result (λ text. IsIndexText (contents lines.now) text.items) }
-    ensures refused { IfErr result (Refuses (contents lines.now)) }
+    ensures refused { IfErr result (IsLineRefusal (contents lines.now)) }
 {
     let mut values = read_values(alloc, lines)?;
     sort_values(&mut values)?;
@@ -64,7 +64,7 @@ pub fn index_text(alloc: Global, lines: &[Vec<u8>]) -> Result<Vec<u8>, Refusal>
 // The values of the documents that the lines are.
 fn read_values<'a>(alloc: Global, lines: &'a [Vec<u8>]) -> Result<Vec<Value<'a>>, Refusal>
     ensures ok { IfOk result (λ values. AreDocuments (contents lines.now) values.items) }
-    ensures refused { IfErr result (Refuses (contents lines.now)) }
+    ensures refused { IfErr result (IsLineRefusal (contents lines.now)) }
 {
     let mut values = Vec::with_capacity(alloc, lines.len())?;
     'lines: for (index, line) in lines.iter().enumerate() {

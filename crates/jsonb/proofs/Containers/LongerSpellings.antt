@@ -4,7 +4,7 @@ use Rattle.jsonb_value.specs.Grammar.{Derives, IsValue}
 use Rattle.jsonb_value.specs.Grammar.IsValue.{empty_array, empty_object, full_array, full_object, scalar}
 use Rattle.jsonb_value.specs.Mode.{Mode}
 use Rattle.jsonb_value.specs.Mode.Mode.{extended}
-use Rattle.jsonb_value.specs.Parts.{as_number}
+use Rattle.jsonb_value.specs.Accessors.{as_number}
 use Rattle.jsonb_value.specs.Grammar.Scalar.{IsQuote, IsScalar}
 use Rattle.jsonb_value.specs.Grammar.Scalar.IsLiteral.{false_word, null_word, true_word}
 use Rattle.jsonb_value.specs.Grammar.Scalar.IsScalar.{literal_value, number_value, string_value}

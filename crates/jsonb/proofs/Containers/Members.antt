@@ -7,7 +7,7 @@ use Rattle.jsonb_value.specs.Tree.{put_all}
 use Rattle.jsonb_value.specs.Tree.Members.{no_members}
 use Rattle.jsonb_value.specs.Tree.Tree.{object}
 use Rattle.jsonb.specs.AstView.{ast_view, found_of}
-use Rattle.jsonb.specs.Reading.Container.{AreAscending, Spot, adjacent_repeat, first_repeat, member_of, object_or_fault, spot_of}
+use Rattle.jsonb.specs.Reading.Container.{SpotsAreSorted, Spot, adjacent_repeat, first_repeat, member_of, object_or_fault, spot_of}
 use Rattle.jsonb.proofs.Containers.Repeats.{distinct}
 use Rattle.jsonb.proofs.Containers.Shuffles.{IsShuffle, first_repeat-sorted, none_left, put_all-shuffle, shuffle-map, shuffled}
 use Rattle.jsonb.proofs.Containers.Values.{same_keys}
@@ -25,7 +25,7 @@ length-map : {X Y : Type 0} (f : X → Y) (xs : List X) → length (map f xs) �
 length-map f [] = refl
 length-map f (x ∷ xs) = let h = length-map f xs in omega (arith, h)
 
-module _ (old new : List Parsed) (p : IsPermutation old new) (up : AreAscending (spots new)) where
+module _ (old new : List Parsed) (p : IsPermutation old new) (up : SpotsAreSorted (spots new)) where
   first_is : first_repeat (spots old) ≡ adjacent_repeat (spots new)
   first_is = first_repeat-sorted (spots old) (spots new) (shuffle-map spot_of (shuffle-map found_of (shuffled old new p))) up
 

@@ -25,7 +25,7 @@ use Rattle.jsonb.specs.declared.parser.Parser.{Parser}
 use Rattle.jsonb.specs.declared.parser.direct.OpenMembers.{OpenMembers}
 use Rattle.jsonb.specs.declared.parser.direct.OpenValue.{OpenValue}
 use Rattle.jsonb.specs.declared.parser.direct.OpenValue.TheVariants as variants
-use Rattle.jsonb.specs.Direct.{AreHeld, AreHeldOnto, IsAhead, IsDue, IsHeld, IsPutIn, Stops, WasRead, depth_within, end_of, found_keys, names, outer_at, part_at, stopped_at, tree_of}
+use Rattle.jsonb.specs.Direct.{AreHeld, AreHeldOnto, IsAhead, ValueIsDue, IsHeld, IsPutIn, ReadsParts, WasRead, depth_within, end_of, found_keys, names, outer_at, part_at, stopped_at, tree_of}
 use Rattle.jsonb.specs.Parser.{Advances, mode_of, rest_of, size_of}
 use Rattle.jsonb.specs.Reading.{Read, begins, on_byte, refused, ◌>>=◌}
 use Rattle.jsonb.specs.Reading.Blank.{skip_blanks}
@@ -34,7 +34,7 @@ use Rattle.jsonb.specs.Reading.Document.{value_at}
 use Rattle.jsonb.specs.Reading.Number.{standard_number_at}
 use Rattle.jsonb.specs.Reading.Scalar.{begins_number, other_scalar_at, scalar_at}
 use Rattle.jsonb.specs.Reading.String.{string_at}
-use Rattle.jsonb.specs.Stack.{Open, array_end, elements_from, finish_open, member_start, members_from, next_part_at, object_end, rest_at, resume}
+use Rattle.jsonb.specs.Stack.{Open, array_end, elements_from, finish_open, member_start, read_members_from, next_part_at, object_end, rest_at, resume}
 use Rattle.jsonb.specs.Stack.Open.{elements_so_far, members_so_far}
 use Rattle.jsonb.proofs.Scalars.FirstBytes.{standard_number}
 use Rattle.jsonb.proofs.Containers.OpenOnLists.{array-begun, array-value, element-due, elements-turn, members-turn, object-begun, object-value, resume-none, resume-part, value_plain}
@@ -169,16 +169,16 @@ module _ (size : ℕ) (mode : Mode) (depth : ℕ) where
   member_joins front k place t bytes u true e =
       let more = front ++ found k t place ∷ [] in
       ap (λ (r : List ℕ). rest_at size mode depth (members_so_far more (plain, []) place) r) e
-      ∙ on_byte-other 44 125 u (members_from size mode depth more) (on_byte 125 (125 ∷ u) (object_end more) (refused size expected_object_comma_or_end 0 (125 ∷ u))) refl
+      ∙ on_byte-other 44 125 u (read_members_from size mode depth more) (on_byte 125 (125 ∷ u) (object_end more) (refused size expected_object_comma_or_end 0 (125 ∷ u))) refl
       ∙ on_byte-found 125 u (object_end more) (refused size expected_object_comma_or_end 0 (125 ∷ u))
   member_joins front k place t bytes u false e =
       let more = front ++ found k t place ∷ [] in
       ap (λ (r : List ℕ). rest_at size mode depth (members_so_far more (plain, []) place) r) e
-      ∙ on_byte-found 44 u (members_from size mode depth more) (on_byte 125 (44 ∷ u) (object_end more) (refused size expected_object_comma_or_end 0 (44 ∷ u)))
+      ∙ on_byte-found 44 u (read_members_from size mode depth more) (on_byte 125 (44 ∷ u) (object_end more) (refused size expected_object_comma_or_end 0 (44 ∷ u)))
 
   -- a key was read
   pub member_due : (front : List Found) (bytes : List ℕ) (k : Mark × List ℕ) (place : ℕ) (b : List ℕ) → member_start size mode bytes ≡ Ok ((k, place), b)
-      → members_from size mode depth front bytes ≡ (value_at size mode depth b >>= finish_open size mode depth (members_so_far front k place))
+      → read_members_from size mode depth front bytes ≡ (value_at size mode depth b >>= finish_open size mode depth (members_so_far front k place))
   member_due front bytes k place b start =
       members-turn size mode depth front bytes
       ∙ ap (λ (q : Read ((Mark × List ℕ) × ℕ)). q >>= λ x. value_at size mode depth x.1 >>= finish_open size mode depth (members_so_far front x.0.0 x.0.1)) start
@@ -238,12 +238,12 @@ module _ (size : ℕ) (mode : Mode) (depth : ℕ) (bytes rest : List ℕ) where
       ap (λ (u : List ℕ). on_byte 125 u (λ (r : List ℕ). Ok (object no_members, r)) (members_at size mode (value_at size mode depth) bytes)) e
       ∙ on_byte-found 125 rest (λ (r : List ℕ). Ok (object no_members, r)) (members_at size mode (value_at size mode depth) bytes)
       ∙ sym (put-end [] [] rest put-none)
-  object-starts key place false e = object-begun size mode depth bytes e.0 ∙ ap (λ (u : List ℕ). members_from size mode depth [] u) e.1
+  object-starts key place false e = object-begun size mode depth bytes e.0 ∙ ap (λ (u : List ℕ). read_members_from size mode depth [] u) e.1
 
 -- a container was pushed that is read from here on
 opened : (p q : Parser) (fs gs : List OpenValue) (f : OpenValue) (c : Open) (closed : Bool) (whole : Read Tree) → Advances p q → gs ≡ fs ++ f ∷ [] → IsHeld f c → length gs ≤ max_depth
     → ((depth : ℕ) → value_at (size_of p) (mode_of p.mode) (suc depth) (rest_of p) ≡ part_at (size_of p) (mode_of p.mode) depth closed c (rest_of q))
-    → IsDue whole p fs → IsAhead whole q gs closed
+    → ValueIsDue whole p fs → IsAhead whole q gs closed
 opened p q fs gs f c closed whole a e held fits reads due =
     let deep : depth_within fs ≡ suc (depth_within gs) = omega (arith, ap length e, length-append fs (f ∷ [])) in
     record {
@@ -257,7 +257,7 @@ opened p q fs gs f c closed whole a e held fits reads due =
     }
 
 pub array_opened : (p o s q : Parser) (fs gs : List OpenValue) (v : Vec Value Global) (closed : Bool) (whole : Read Tree) → Advances p o → Advances p q → rest_of p ≡ 91 ∷ rest_of o → rest_of s ≡ skip_blanks (mode_of o.mode) (rest_of o)
-    → closed ≡ begins 93 (rest_of s) → cond closed (rest_of s ≡ 93 ∷ rest_of q) (q ≡ s) → v.items ≡ [] → gs ≡ fs ++ variants.Array v ∷ [] → length gs ≤ max_depth → IsDue whole p fs → IsAhead whole q gs closed
+    → closed ≡ begins 93 (rest_of s) → cond closed (rest_of s ≡ 93 ∷ rest_of q) (q ≡ s) → v.items ≡ [] → gs ≡ fs ++ variants.Array v ∷ [] → length gs ≤ max_depth → ValueIsDue whole p fs → IsAhead whole q gs closed
 array_opened p o s q fs gs v closed whole a b bracket skipped found closes none e fits due =
     opened p q fs gs (variants.Array v) (elements_so_far []) closed whole b e (ap (λ (vs : List Value). map view vs) none) fits
     (λ depth.
@@ -267,7 +267,7 @@ array_opened p o s q fs gs v closed whole a b bracket skipped found closes none 
     due
 
 pub object_opened : (p o s q : Parser) (fs gs : List OpenValue) (m : OpenMembers) (closed : Bool) (whole : Read Tree) → Advances p o → Advances p q → rest_of p ≡ 123 ∷ rest_of o → rest_of s ≡ skip_blanks (mode_of o.mode) (rest_of o)
-    → closed ≡ begins 125 (rest_of s) → cond closed (rest_of s ≡ 125 ∷ rest_of q) (q ≡ s) → m.members.entries ≡ [] → gs ≡ fs ++ variants.Object m ∷ [] → length gs ≤ max_depth → IsDue whole p fs → IsAhead whole q gs closed
+    → closed ≡ begins 125 (rest_of s) → cond closed (rest_of s ≡ 125 ∷ rest_of q) (q ≡ s) → m.members.entries ≡ [] → gs ≡ fs ++ variants.Object m ∷ [] → length gs ≤ max_depth → ValueIsDue whole p fs → IsAhead whole q gs closed
 object_opened p o s q fs gs m closed whole a b brace skipped found closes none e fits due =
     let key : Mark × List ℕ = (plain, string_bytes m.key) in
     opened p q fs gs (variants.Object m) (members_so_far [] key 0) closed whole b e (subst (λ es. IsPutIn [] es) (sym none) put-none, refl) fits
@@ -283,7 +283,7 @@ module _ (p q : Parser) (fs gs hs : List OpenValue) (f g : OpenValue) (whole : R
   same_depth : depth_within gs ≡ depth_within fs
   same_depth = ap (λ n. max_depth - n) (let same : length gs ≡ length fs = omega (arith, ap length e, ap length d, length-append hs (f ∷ []), length-append hs (g ∷ [])) in same)
 
-  stopped : (closed : Bool) (ahead : IsAhead whole p fs false) (i : Innermost [] hs f ahead.opens) (s : Stops (size_of p) (mode_of p.mode) (depth_within fs) (next_part_at (size_of p) (mode_of p.mode) (depth_within fs) i.inner (rest_of p)) closed g (rest_of q))
+  stopped : (closed : Bool) (ahead : IsAhead whole p fs false) (i : Innermost [] hs f ahead.opens) (s : ReadsParts (size_of p) (mode_of p.mode) (depth_within fs) (next_part_at (size_of p) (mode_of p.mode) (depth_within fs) i.inner (rest_of p)) closed g (rest_of q))
       → whole ≡ (stopped_at (size_of p) (mode_of p.mode) (depth_within fs) closed s.so_far (rest_of q) >>= resume (size_of p) (mode_of p.mode) (suc (depth_within fs)) i.others)
   stopped closed ahead i s =
       ahead.reads
@@ -291,7 +291,7 @@ module _ (p q : Parser) (fs gs hs : List OpenValue) (f g : OpenValue) (whole : R
       ∙ ap (λ (r : Read Tree). r >>= resume (size_of p) (mode_of p.mode) (suc (depth_within fs)) i.others) s.reads
 
   -- up to the end of the container
-  pub filled : ((depth : ℕ) (c : Open) → IsHeld f c → Stops (size_of p) (mode_of p.mode) depth (next_part_at (size_of p) (mode_of p.mode) depth c (rest_of p)) true g (rest_of q))
+  pub filled : ((depth : ℕ) (c : Open) → IsHeld f c → ReadsParts (size_of p) (mode_of p.mode) depth (next_part_at (size_of p) (mode_of p.mode) depth c (rest_of p)) true g (rest_of q))
       → IsAhead whole p fs false → IsAhead whole q gs true
   filled stops ahead =
       let i = innermost_of hs fs f ahead.opens e ahead.held in
@@ -306,8 +306,8 @@ module _ (p q : Parser) (fs gs hs : List OpenValue) (f g : OpenValue) (whole : R
       }
 
   -- up to a part that is a container
-  pub stopped_due : ((depth : ℕ) (c : Open) → IsHeld f c → Stops (size_of p) (mode_of p.mode) depth (next_part_at (size_of p) (mode_of p.mode) depth c (rest_of p)) false g (rest_of q))
-      → IsAhead whole p fs false → IsDue whole q gs
+  pub stopped_due : ((depth : ℕ) (c : Open) → IsHeld f c → ReadsParts (size_of p) (mode_of p.mode) depth (next_part_at (size_of p) (mode_of p.mode) depth c (rest_of p)) false g (rest_of q))
+      → IsAhead whole p fs false → ValueIsDue whole q gs
   stopped_due stops ahead =
       let i = innermost_of hs fs f ahead.opens e ahead.held in
       let s = stops (depth_within fs) i.inner i.held in
@@ -429,13 +429,13 @@ element_turn p l s q r depth front t closed a b d skipped no_array no_object rea
 
 -- a member's value is due
 pub member_stops : (p l s : Parser) (depth : ℕ) (front : List Found) (k : Mark × List ℕ) (place : ℕ) → Advances p l → member_start (size_of l) (mode_of l.mode) (rest_of l) ≡ Ok ((k, place), rest_of s)
-    → members_from (size_of p) (mode_of p.mode) depth front (rest_of l) ≡ (value_at (size_of p) (mode_of p.mode) depth (rest_of s) >>= finish_open (size_of p) (mode_of p.mode) depth (members_so_far front k place))
+    → read_members_from (size_of p) (mode_of p.mode) depth front (rest_of l) ≡ (value_at (size_of p) (mode_of p.mode) depth (rest_of s) >>= finish_open (size_of p) (mode_of p.mode) depth (members_so_far front k place))
 member_stops p l s depth front k place a start =
     member_due (size_of p) (mode_of p.mode) depth front (rest_of l) k place (rest_of s) (sym (ap₂ (λ n m. member_start n m (rest_of l)) (same_size p l a) (ap mode_of a.mode)) ∙ start)
 
 pub member_turn : (p l s q r : Parser) (depth : ℕ) (front : List Found) (k : Mark × List ℕ) (place : ℕ) (t : Tree) (closed : Bool) → Advances p l → Advances l s → Advances s q → member_start (size_of l) (mode_of l.mode) (rest_of l) ≡ Ok ((k, place), rest_of s)
     → begins 91 (rest_of s) ≡ false → begins 123 (rest_of s) ≡ false → scalar_at (size_of s) (mode_of s.mode) (rest_of s) ≡ Ok (t, rest_of q) → skip_blanks (mode_of q.mode) (rest_of q) ≡ cond closed 125 44 ∷ rest_of r
-    → members_from (size_of p) (mode_of p.mode) depth front (rest_of l) ≡ part_at (size_of p) (mode_of p.mode) depth closed (members_so_far (front ++ found k t place ∷ []) (plain, []) place) (rest_of r)
+    → read_members_from (size_of p) (mode_of p.mode) depth front (rest_of l) ≡ part_at (size_of p) (mode_of p.mode) depth closed (members_so_far (front ++ found k t place ∷ []) (plain, []) place) (rest_of r)
 member_turn p l s q r depth front k place t closed a b d start no_array no_object read next =
     let on = goes_on p l s a b in
     member_stops p l s depth front k place a start
@@ -445,9 +445,9 @@ member_turn p l s q r depth front k place t closed a b d start no_array no_objec
 -- ---- the stack
 
 -- no container is open yet
-pub outermost_due : (p : Parser) (fs : List OpenValue) → fs ≡ [] → IsDue (value_at (size_of p) (mode_of p.mode) max_depth (rest_of p)) p fs
+pub outermost_due : (p : Parser) (fs : List OpenValue) → fs ≡ [] → ValueIsDue (value_at (size_of p) (mode_of p.mode) max_depth (rest_of p)) p fs
 outermost_due p fs e =
-    subst (λ gs. IsDue (value_at (size_of p) (mode_of p.mode) max_depth (rest_of p)) p gs) (sym e)
+    subst (λ gs. ValueIsDue (value_at (size_of p) (mode_of p.mode) max_depth (rest_of p)) p gs) (sym e)
     (record { opens = []; held = refl; reads = sym (resume-none (size_of p) (mode_of p.mode) max_depth (value_at (size_of p) (mode_of p.mode) max_depth (rest_of p))) })
 
 pub last-is : (fs : List OpenValue) (n : ℕ) (f : OpenValue) → n + 1 ≡ length fs → f ≡ get_or fs n f → fs ≡ take n fs ++ f ∷ []

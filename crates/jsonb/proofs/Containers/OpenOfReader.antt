@@ -20,7 +20,7 @@ use Rattle.jsonb.specs.Reading.Blank.{skip_blanks}
 use Rattle.jsonb.specs.Reading.Container.{is_left_out}
 use Rattle.jsonb.specs.Reading.Document.{value_at}
 use Rattle.jsonb.specs.Reading.Scalar.{scalar_at}
-use Rattle.jsonb.specs.Stack.{Continues, Open, PartBegins, add_part, ahead, array_end, array_within, depth_in, element_begun, element_from, elements_from, finish_open, member_start, members_from, next_part_at, object_end, object_within, open_of, rest_at, rest_from, rest_of_opens, resume, resumed, stack_of, stack_onto}
+use Rattle.jsonb.specs.Stack.{Continues, Open, PartBegins, add_part, ahead, array_end, array_within, depth_in, element_begun, element_from, elements_from, finish_open, member_start, read_members_from, next_part_at, object_end, object_within, open_of, rest_at, rest_from, rest_of_opens, resume, resumed, stack_of, stack_onto}
 use Rattle.jsonb.specs.Stack.Open.{elements_so_far, members_so_far}
 use Rattle.jsonb.proofs.Containers.OpenOnLists.{array-begun, array-value, members-turn, object-begun, object-value, resume-none, resume-part, value_plain}
 use Rattle.jsonb.proofs.Steps.Advancing.{goes_on}
@@ -196,7 +196,7 @@ pub object_unclosed : (p : Parser) (fs gs : List Frame) (open_object : OpenObjec
     → rest_from p fs ≡ Err (fault_at (size_of p) expected_object_comma_or_end 0 (rest_of p))
 object_unclosed p fs gs open_object e fits no_comma no_close =
     let front = map found_of open_object.members.items in
-    let found = members_from (size_of p) (mode_of p.mode) (depth_in fs) front in
+    let found = read_members_from (size_of p) (mode_of p.mode) (depth_in fs) front in
     let refusal = refused (size_of p) expected_object_comma_or_end 0 (rest_of p) in
     rest_popped p fs gs (variants.Object open_object) e fits
     ∙ ap (λ r. resumed p gs r) (on_byte-none 44 (rest_of p) found (on_byte 125 (rest_of p) (object_end front) refusal) no_comma ∙ on_byte-none 125 (rest_of p) (object_end front) refusal no_close)

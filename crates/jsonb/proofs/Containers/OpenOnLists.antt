@@ -14,7 +14,7 @@ use Rattle.jsonb.specs.Reading.Blank.{skip_blanks}
 use Rattle.jsonb.specs.Reading.Container.{Found, after_key, after_part, array_at, element_at, elements_at, found_at, is_left_out, joined_at, member_at, members_at, object_at, padded_at, value_or_null}
 use Rattle.jsonb.specs.Reading.Document.{too_deep, value_at, value_with}
 use Rattle.jsonb.specs.Reading.Scalar.{key_at, scalar_at}
-use Rattle.jsonb.specs.Stack.{Open, array_end, array_within, elements_from, finish_open, member_start, members_from, object_end, object_within, parts_after, parts_from, resume}
+use Rattle.jsonb.specs.Stack.{Open, array_end, array_within, elements_from, finish_open, member_start, read_members_from, object_end, object_within, parts_after, parts_from, resume}
 use Rattle.jsonb.specs.Stack.Open.{elements_so_far, members_so_far}
 use Rattle.jsonb.proofs.Steps.Tests.{if-false, if-true}
 use Rattle.jsonb.proofs.Containers.JoinedParts.{IsSoundBefore, on_byte-none}
@@ -136,7 +136,7 @@ module _ (size : ℕ) (mode : Mode) (depth : ℕ) where
       ∙ ap (λ (r : Read (List Tree)). r >>= λ (x : List Tree × List ℕ). array_end x.0 x.1)
       (enough_turns size expected_array_comma_or_end 93 (element_at mode (value_at size mode depth)) element-shrinks (suc (length bytes)) (suc (length (skip_blanks mode bytes))) (skip_blanks mode bytes) (omega arith) (omega arith))
 
-  pub object-begun : (bytes : List ℕ) → begins 125 (skip_blanks mode bytes) ≡ false → object_at size mode (value_at size mode depth) bytes ≡ members_from size mode depth [] (skip_blanks mode bytes)
+  pub object-begun : (bytes : List ℕ) → begins 125 (skip_blanks mode bytes) ≡ false → object_at size mode (value_at size mode depth) bytes ≡ read_members_from size mode depth [] (skip_blanks mode bytes)
   object-begun bytes e =
       let fits : length (skip_blanks mode bytes) ≤ length bytes = length-skip mode bytes in
       on_byte-none 125 (skip_blanks mode bytes) (λ (r : List ℕ). Ok (object no_members, r)) (members_at size mode (value_at size mode depth) bytes) e
@@ -144,7 +144,7 @@ module _ (size : ℕ) (mode : Mode) (depth : ℕ) where
       (enough_turns size expected_object_comma_or_end 125 (member_at size mode (value_at size mode depth)) member-shrinks (suc (length bytes)) (suc (length (skip_blanks mode bytes))) (skip_blanks mode bytes) (omega arith) (omega arith))
 
   -- the key, and then the value that it waits for
-  pub members-turn : (front : List Found) (bytes : List ℕ) → members_from size mode depth front bytes
+  pub members-turn : (front : List Found) (bytes : List ℕ) → read_members_from size mode depth front bytes
       ≡ (member_start size mode bytes >>= λ k. value_at size mode depth k.1 >>= finish_open size mode depth (members_so_far front k.0.0 k.0.1))
   members-turn front bytes =
       parts-turn size expected_object_comma_or_end 125 (member_at size mode (value_at size mode depth)) member-shrinks object_end front bytes

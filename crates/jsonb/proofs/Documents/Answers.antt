@@ -7,7 +7,7 @@ use Rattle.jsonb_value.specs.declared.error.Error.TheVariants.{Syntax, OutOfMemo
 use Rattle.jsonb.specs.declared.parser.ast.JsonAst.{JsonAst}
 use Rattle.jsonb_value.specs.Code.{code_of}
 use Rattle.jsonb_value.specs.Code.Code.{invalid_eof, unexpected_trailing_characters}
-use Rattle.jsonb_value.specs.Grammar.{IsDocument, max_depth}
+use Rattle.jsonb_value.specs.Grammar.{IsDocument, max_depth, IsNoDocument}
 use Rattle.jsonb_value.specs.Mode.{Mode}
 use Rattle.jsonb_value.specs.Tree.{Tree}
 use Rattle.jsonb_value.specs.Tree.Tree.{null}
@@ -115,7 +115,7 @@ pub gives_only : (mode : Mode) (bytes : List ℕ) (r : Result JsonAst Error) →
 gives_only mode bytes (Ok v) g = λ t d. document_unique mode bytes t (ast_view v) d (document_sound mode bytes (ast_view v) g)
 gives_only mode bytes (Err e) g = tt
 
-pub gives_refused : (mode : Mode) (bytes : List ℕ) (r : Result JsonAst Error) → Gives ast_view r (document_of mode bytes) → IfErr r (λ e. e ≢ OutOfMemory → (t : Tree) → IsDocument mode bytes t → ⊥)
+pub gives_refused : (mode : Mode) (bytes : List ℕ) (r : Result JsonAst Error) → Gives ast_view r (document_of mode bytes) → IfErr r (λ e. e ≢ OutOfMemory → IsNoDocument mode bytes)
 gives_refused mode bytes (Ok v) g = tt
 gives_refused mode bytes (Err (Syntax code place)) g = λ n t d. refused_is_none mode bytes (record { code = code_of code; place = place }) g t d
 gives_refused mode bytes (Err OutOfMemory) g = λ n. absurd (n refl)

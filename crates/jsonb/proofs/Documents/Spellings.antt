@@ -3,7 +3,7 @@ use Rattle.std.proofs.Common.{◌≡◌, ℕ, zero, suc, ◌+◌, ◌-◌, arith
 use Rattle.jsonb_value.specs.Grammar.Blanks.{AreLastBlanks, IsBlanks}
 use Rattle.jsonb_value.specs.Grammar.Blanks.AreLastBlanks.{blanks_to_end, line_to_end}
 use Rattle.jsonb_value.specs.Grammar.Blanks.IsBlanks.{more_blanks, no_blanks}
-use Rattle.jsonb_value.specs.Grammar.{Derives, IsDocument, IsElement, IsJoined, IsMember, IsPadded, IsValue, max_depth}
+use Rattle.jsonb_value.specs.Grammar.{Derives, IsDocument, IsElement, IsJoined, IsMember, IsPadded, IsValue, max_depth, IsNoDocument}
 use Rattle.jsonb_value.specs.Grammar.IsDocument.{blanks_alone, value_alone}
 use Rattle.jsonb_value.specs.Grammar.IsElement.{empty_element, whole_element}
 use Rattle.jsonb_value.specs.Grammar.IsJoined.{more_parts, one_part}
@@ -71,7 +71,7 @@ document_complete mode bytes t (value_alone {core = core} b d c) = value_documen
 document_complete mode bytes t (blanks_alone is b) = blank_document mode (length bytes) is b
 
 -- what is refused is no document
-pub refused_is_none : (mode : Mode) (bytes : List ℕ) (f : Fault) → document_of mode bytes ≡ Err f → (t : Tree) → IsDocument mode bytes t → ⊥
+pub refused_is_none : (mode : Mode) (bytes : List ℕ) (f : Fault) → document_of mode bytes ≡ Err f → IsNoDocument mode bytes
 refused_is_none mode bytes f e t d = let read : document_of mode bytes ≡ Ok t = document_complete mode bytes t d in cc
 
 -- a text is a document of at most one tree

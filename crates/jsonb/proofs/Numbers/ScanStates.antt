@@ -15,11 +15,11 @@ abbrev pub BeforeWhole : State → Type 0
 BeforeWhole s = (s ≡ Start) ⊎ (s ≡ Minus)
 
 -- where a whole part is due, and what its first byte leads to
-pub record IsDue (bytes : List ℕ) (start : ℕ) : Type 0 where
+pub record WholePartIsDue (bytes : List ℕ) (start : ℕ) : Type 0 where
   pub before : BeforeWhole (state_at Start bytes start)
   pub first : next (state_at Start bytes start) (slice_index bytes start) ≡ from_first (slice_index bytes start)
 
-pub due : (bytes : List ℕ) (start : ℕ) → start ≡ from_bool (slice_index bytes 0 == 45) → start ≤ length bytes → IsDue bytes start
+pub due : (bytes : List ℕ) (start : ℕ) → start ≡ from_bool (slice_index bytes 0 == 45) → start ≤ length bytes → WholePartIsDue bytes start
 unfolding next
 due bytes start at within =
     ⊎_elim
@@ -59,7 +59,7 @@ pub alive_by : (s t : State) → s ≡ t → number_of t < 13 → s ≢ Dead
 alive_by s t e small dead = omega (arith, ap number_of e, ap number_of dead)
 
 -- no digit where the whole part is due
-pub fault_no_digit : (bytes : List ℕ) (start : ℕ) → IsDue bytes start → start ≤ length bytes → ¬ IsInRange 48 57 (slice_index bytes start) → NoneEnds bytes
+pub fault_no_digit : (bytes : List ℕ) (start : ℕ) → WholePartIsDue bytes start → start ≤ length bytes → ¬ IsInRange 48 57 (slice_index bytes start) → NoneEnds bytes
 fault_no_digit bytes start is_due within none =
     NoneEnds-from_stop bytes start (state_at Start bytes start) (record {
       within = within;
@@ -68,7 +68,7 @@ fault_no_digit bytes start is_due within none =
       stops = is_due.first ∙ no_digit_first (slice_index bytes start) none;
     }) (before_rejects (state_at Start bytes start) is_due.before)
 
-after_first : (bytes : List ℕ) (start : ℕ) → IsDue bytes start → start < length bytes → state_at Start bytes (start + 1) ≡ from_first (slice_index bytes start)
+after_first : (bytes : List ℕ) (start : ℕ) → WholePartIsDue bytes start → start < length bytes → state_at Start bytes (start + 1) ≡ from_first (slice_index bytes start)
 after_first bytes start is_due inside = state_at-next Start bytes start inside ∙ is_due.first
 
 digit_stops_zero : (b : ℕ) → IsInRange 48 57 b → next Zero b ≡ Dead
@@ -78,7 +78,7 @@ digit_stops_zero b h =
     rw (point, is_no_mark b (⊎_elim (λ e. omega (arith, h)) (λ e. omega (arith, h)))) refl
 
 -- a digit after a zero in front
-pub fault_needless_zero : (bytes : List ℕ) (start end : ℕ) → IsDue bytes start → IsDigitRun bytes start end → slice_index bytes start ≡ 48 → start + 1 < end → NoneEnds bytes
+pub fault_needless_zero : (bytes : List ℕ) (start end : ℕ) → WholePartIsDue bytes start → IsDigitRun bytes start end → slice_index bytes start ≡ 48 → start + 1 < end → NoneEnds bytes
 fault_needless_zero bytes start end is_due digits zero_byte more k within text =
     let there : state_at Start bytes (start + 1) ≡ Zero = after_first bytes start is_due (omega (arith, digits.within)) ∙ zero_first (slice_index bytes start) zero_byte in
     let digit = digits.digits (start + 1) (omega arith) more in
@@ -86,7 +86,7 @@ fault_needless_zero bytes start end is_due digits zero_byte more k within text =
     ⊎_elim (λ at. subst (λ i. GoesOn (slice_index bytes i)) (sym at.0) (inl digit)) (λ before. before.1) (ends_at bytes (start + 1) Zero stop k within text)
 
 -- the whole part ends in a state of its own
-pub whole_state : (bytes : List ℕ) (start end : ℕ) → IsDue bytes start → IsDigitRun bytes start end → start < end → (slice_index bytes start ≡ 48 → end ≡ start + 1) → EndsWhole (state_at Start bytes end)
+pub whole_state : (bytes : List ℕ) (start end : ℕ) → WholePartIsDue bytes start → IsDigitRun bytes start end → start < end → (slice_index bytes start ≡ 48 → end ≡ start + 1) → EndsWhole (state_at Start bytes end)
 whole_state bytes start end is_due digits some no_zero =
     let there = after_first bytes start is_due (omega (arith, digits.within)) in
     ⊎_elim

@@ -22,7 +22,7 @@ use Rattle.jsonb.specs.declared.parser.value.Frame.TheVariants as variants
 use Rattle.jsonb.specs.OpenPlaces.{AllIsPlaced, ArePartsBefore, ArrayIsOpen, FrameIsPlaced, FrameIsRead, IsLeftOut, LeftOut, MemberBegins, ObjectIsOpen, PartIsPlaced, PartIsRead, ReadIsPlaced, Skips, StackIsPlaced, StackIsRead, ValueIsRead, placed_of}
 use Rattle.jsonb.specs.OpenPlaces.ArePartsBefore.{no_parts, parts_and_comma}
 use Rattle.jsonb.specs.Parser.{Advances, mode_of, rest_of, size_of}
-use Rattle.jsonb.specs.Placed.{AreElementsAt, AreMembersAt, Has, HasBlanks, HasByte, HasKey, IsElementAt, IsMemberAt, IsPlaced, IsValueAt, KeysRise, Placed, members_from, source_alone}
+use Rattle.jsonb.specs.Placed.{AreElementsAt, AreMembersAt, Has, HasBlanks, HasByte, HasKey, IsElementAt, IsMemberAt, IsPlaced, IsValueAt, SourceKeysAscend, Placed, source_members_of, source_alone}
 use Rattle.jsonb.specs.Placed.AreElementsAt.{more_elements, one_element}
 use Rattle.jsonb.specs.Placed.AreMembersAt.{more_members, one_member}
 use Rattle.jsonb.specs.Placed.IsElementAt.{empty_element, whole_element}
@@ -31,7 +31,7 @@ use Rattle.jsonb.specs.Placed.IsPlaced.{blanks_alone, value_alone}
 use Rattle.jsonb.specs.Placed.IsValueAt.{empty_array, empty_object, full_array, full_object, scalar}
 use Rattle.jsonb.specs.Reading.{begins}
 use Rattle.jsonb.specs.Reading.Blank.{opens_comment, pass_blanks, skip_blanks}
-use Rattle.jsonb.specs.Reading.Container.{AreAscending, Spot, adjacent_repeat, spot_of}
+use Rattle.jsonb.specs.Reading.Container.{SpotsAreSorted, Spot, adjacent_repeat, spot_of}
 use Rattle.jsonb.specs.Reading.Document.{at_end, comment_at}
 use Rattle.jsonb.specs.Reading.Scalar.{key_at, scalar_at}
 use Rattle.jsonb.specs.Source.{Source, array_source, null_source, object_source, source_members_view, source_view, sources_view, SourceMembers}
@@ -54,7 +54,7 @@ source-Array v = search (rules, the_lemmas)
 source-Object : (v : Vec Written Global) → source_view (ast.Object v) ≡ object_source (source_members_view v.items)
 source-Object v = search (rules, the_lemmas)
 
-members_same : (ms : List Written) → members_from (map placed_of ms) ≡ source_members_view ms
+members_same : (ms : List Written) → source_members_of (map placed_of ms) ≡ source_members_view ms
 members_same [] = refl
 members_same (m ∷ ms) = ap (more_source_members (mark_view m.0) (cow_str_bytes m.0) (source_view m.1) m.2) (members_same ms)
 
@@ -239,7 +239,7 @@ no_repeat : (b : Bool) (t : Spot) (o : Option Spot) → (if b then Some t else o
 no_repeat true t o e = absurd cc
 no_repeat false t o e = (refl, e)
 
-keys_rise : (ms : List Written) → AreAscending (spots ms) → adjacent_repeat (spots ms) ≡ None → KeysRise (members_from (map placed_of ms))
+keys_rise : (ms : List Written) → SpotsAreSorted (spots ms) → adjacent_repeat (spots ms) ≡ None → SourceKeysAscend (source_members_of (map placed_of ms))
 keys_rise [] up e = tt
 keys_rise (m ∷ []) up e = tt
 keys_rise (m ∷ n ∷ ms) up e =
@@ -251,7 +251,7 @@ keys_rise (m ∷ n ∷ ms) up e =
     )
 
 -- an object whose members were put in the order of their keys
-pub object_placed : (mode : Mode) (input : List ℕ) (from to : ℕ) (old : List Written) (v : Vec Written Global) → IsPermutation old v.items → AreAscending (spots v.items) → adjacent_repeat (spots v.items) ≡ None
+pub object_placed : (mode : Mode) (input : List ℕ) (from to : ℕ) (old : List Written) (v : Vec Written Global) → IsPermutation old v.items → SpotsAreSorted (spots v.items) → adjacent_repeat (spots v.items) ≡ None
     → HasByte input 123 from → AreMembersAt mode input (from + 1) (map placed_of old) to → HasByte input 125 to → IsValueAt mode input from (source_view (ast.Object v)) (to + 1)
 object_placed mode input from to old v p up e b ms c =
     subst (λ (s : Source). IsValueAt mode input from s (to + 1)) (sym (source-Object v ∙ ap (λ (us : SourceMembers). object_source us) (sym (members_same v.items))))

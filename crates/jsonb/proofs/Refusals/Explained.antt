@@ -19,7 +19,7 @@ use Rattle.jsonb.specs.Reading.Document.{too_deep, value_at, value_with}
 use Rattle.jsonb.specs.Reading.Scalar.{key_at, scalar_at}
 use Rattle.jsonb.specs.Refusals.{ArePassed, IsFront, IsSpelling, Repeats}
 use Rattle.jsonb.specs.Refusals.ArePassed.{no_parts, part_passed}
-use Rattle.jsonb.specs.Refusals.IsFront.{blanks_alone, in_array, in_object}
+use Rattle.jsonb.specs.Refusals.IsFront.{front_of_blanks, in_array, in_object}
 use Rattle.jsonb.proofs.Steps.Tests.{chosen}
 use Rattle.jsonb.proofs.Refusals.Codes.{IsTold, bind_err, same_err, silent_fault, silent_refused}
 use Rattle.jsonb.proofs.Containers.KeyPlaces.{laid_repeats, members_laid}
@@ -37,7 +37,7 @@ blanks_append {mode} (more_blanks {blank = blank} {rest = rest} b bs) {second} c
 
 -- blanks before a front belong to it
 pub blanks_front : {mode : Mode} {first : List ℕ} (b : IsBlanks mode first) {rest : List ℕ} {count : ℕ} (h : IsFront mode rest count) → IsFront mode (first ++ rest) count
-blanks_front b (blanks_alone c) = blanks_alone (blanks_append b c)
+blanks_front b (front_of_blanks c) = front_of_blanks (blanks_append b c)
 blanks_front {mode} {first} b (in_array {before = before} {elements = elements} {rest = rest} {count = count} c p h) =
     subst (λ (u : List ℕ). IsFront mode u (suc count)) (append_assoc first before (91 ∷ (elements ++ rest))) (in_array (blanks_append b c) p h)
 blanks_front {mode} {first} b (in_object {before = before} {members = members} {left = left} {rest = rest} {count = count} c p k h) =
@@ -82,7 +82,7 @@ Wrong mode left size rest (object_duplicate_key k) place = RepeatsHere mode left
 Wrong mode left size rest other place = ⊥
 
 -- The bytes are a front and a rest, and with the rest that is wrong which the fault names.
-pub record Stops (mode : Mode) (depth size : ℕ) (bytes : List ℕ) (f : Fault) : Type 0 where
+pub record IsRefusedAt (mode : Mode) (depth size : ℕ) (bytes : List ℕ) (f : Fault) : Type 0 where
   pub front : List ℕ
   pub rest : List ℕ
   pub whole : bytes ≡ front ++ rest
@@ -95,16 +95,16 @@ pub record Stops (mode : Mode) (depth size : ℕ) (bytes : List ℕ) (f : Fault)
 
 -- Each fault of the reader that is told of says what is wrong with the bytes, which are no more than the whole input and begin with no blank.
 abbrev pub Explains : Mode → ℕ → ℕ → (List ℕ → Read Tree) → Type 0
-Explains mode depth size read = (bytes : List ℕ) (f : Fault) → length bytes ≤ size → skip_blanks mode bytes ≡ bytes → read bytes ≡ Err f → IsTold f.code → Stops mode depth size bytes f
+Explains mode depth size read = (bytes : List ℕ) (f : Fault) → length bytes ≤ size → skip_blanks mode bytes ≡ bytes → read bytes ≡ Err f → IsTold f.code → IsRefusedAt mode depth size bytes f
 
 -- what is wrong with the bytes at once
-stops_here : (mode : Mode) (depth size : ℕ) (bytes : List ℕ) (f : Fault) → 0 < length bytes → Wrong mode depth size bytes f.code f.place → Stops mode depth size bytes f
+stops_here : (mode : Mode) (depth size : ℕ) (bytes : List ℕ) (f : Fault) → 0 < length bytes → Wrong mode depth size bytes f.code f.place → IsRefusedAt mode depth size bytes f
 stops_here mode depth size bytes f some w =
     let sum : 0 + depth ≡ depth = omega arith in
-    record { front = []; rest = bytes; whole = refl; count = 0; left = depth; sum = sum; is_front = blanks_alone no_blanks; some = some; wrong = w }
+    record { front = []; rest = bytes; whole = refl; count = 0; left = depth; sum = sum; is_front = front_of_blanks no_blanks; some = some; wrong = w }
 
 -- what is wrong after the blanks
-pub stops_after_blanks : (mode : Mode) (depth size : ℕ) (bytes : List ℕ) (f : Fault) → Stops mode depth size (skip_blanks mode bytes) f → Stops mode depth size bytes f
+pub stops_after_blanks : (mode : Mode) (depth size : ℕ) (bytes : List ℕ) (f : Fault) → IsRefusedAt mode depth size (skip_blanks mode bytes) f → IsRefusedAt mode depth size bytes f
 stops_after_blanks mode depth size bytes f s =
     let p = skips mode bytes (omega (arith, s.some, ap length s.whole, length-append s.front s.rest)) in
     record {
@@ -124,7 +124,7 @@ rest_within size bytes first rest h whole = omega (arith, h, ap length whole, le
 
 -- what is wrong in an array, after the elements that are passed
 stops_in_array : (mode : Mode) (depth size : ℕ) (bytes passed rest : List ℕ) {ts : List Tree} (f : Fault) → ArePassed (IsElement mode (IsSpelling mode)) passed ts → bytes ≡ passed ++ rest
-    → Stops mode depth size rest f → Stops mode (suc depth) size (91 ∷ bytes) f
+    → IsRefusedAt mode depth size rest f → IsRefusedAt mode (suc depth) size (91 ∷ bytes) f
 stops_in_array mode depth size bytes passed rest f are_passed whole s =
     let more : suc s.count + s.left ≡ suc depth = omega (arith, s.sum) in
     record {
@@ -141,7 +141,7 @@ stops_in_array mode depth size bytes passed rest f are_passed whole s =
 
 -- what is wrong in an object, after the members that are passed, a key and a colon
 stops_in_object : (mode : Mode) (depth size : ℕ) (bytes passed middle left rest : List ℕ) {key : Mark × List ℕ} {ms : List Member} (f : Fault) → ArePassed (IsMember mode (IsSpelling mode)) passed ms → bytes ≡ passed ++ middle
-    → IsPadded mode (IsKey mode) left key → middle ≡ left ++ 58 ∷ rest → Stops mode depth size rest f → Stops mode (suc depth) size (123 ∷ bytes) f
+    → IsPadded mode (IsKey mode) left key → middle ≡ left ++ 58 ∷ rest → IsRefusedAt mode depth size rest f → IsRefusedAt mode (suc depth) size (123 ∷ bytes) f
 stops_in_object mode depth size bytes passed middle left rest f are_passed whole is_key colon s =
     let more : suc s.count + s.left ≡ suc depth = omega (arith, s.sum) in
     let from_key : middle ≡ (left ++ 58 ∷ s.front) ++ s.rest = colon ∙ ap (λ (u : List ℕ). left ++ 58 ∷ u) s.whole ∙ sym (append_assoc left (58 ∷ s.front) s.rest) in
@@ -178,7 +178,7 @@ wrong_scalar mode left size bytes expected_some_value place none p q w =
     record { byte = w.byte; others = w.others; whole = w.whole; at_byte = w.at_byte; begins_none = λ m more t d. w.begins_none more t (derived_alone mode m (w.byte ∷ more) t d bracket brace); none_skipped = none }
 wrong_scalar mode left size bytes other place none p q w = absurd w
 
-no_value : (mode : Mode) (depth size : ℕ) (bytes : List ℕ) (f : Fault) → 0 < length bytes → skip_blanks mode bytes ≡ bytes → begins 91 bytes ≡ false → begins 123 bytes ≡ false → WrongScalar mode size bytes f.code f.place → Stops mode depth size bytes f
+no_value : (mode : Mode) (depth size : ℕ) (bytes : List ℕ) (f : Fault) → 0 < length bytes → skip_blanks mode bytes ≡ bytes → begins 91 bytes ≡ false → begins 123 bytes ≡ false → WrongScalar mode size bytes f.code f.place → IsRefusedAt mode depth size bytes f
 no_value mode depth size bytes f some none p q w = stops_here mode depth size bytes f some (wrong_scalar mode depth size bytes f.code f.place none p q w)
 
 -- ---- parts joined by commas
@@ -228,10 +228,10 @@ module _ {A : Type 0} (size : ℕ) (code : Code) (close : ℕ) (Spells : List �
 
 module _ (mode : Mode) (depth size : ℕ) (read : List ℕ → Read Tree) (sound : IsSound (IsSpelling mode) read) (explains : Explains mode depth size read) where
   -- a value after blanks
-  value_refused : (bytes : List ℕ) (f : Fault) → length bytes ≤ size → read (skip_blanks mode bytes) ≡ Err f → IsTold f.code → Stops mode depth size bytes f
+  value_refused : (bytes : List ℕ) (f : Fault) → length bytes ≤ size → read (skip_blanks mode bytes) ≡ Err f → IsTold f.code → IsRefusedAt mode depth size bytes f
   value_refused bytes f h e told = stops_after_blanks mode depth size bytes f (explains (skip_blanks mode bytes) f (omega (arith, h, length-skip mode bytes)) (skip-skip mode bytes) e told)
 
-  element_refused : (bytes : List ℕ) (f : Fault) → length bytes ≤ size → element_at mode read bytes ≡ Err f → IsTold f.code → Stops mode depth size bytes f
+  element_refused : (bytes : List ℕ) (f : Fault) → length bytes ≤ size → element_at mode read bytes ≡ Err f → IsTold f.code → IsRefusedAt mode depth size bytes f
   element_refused bytes f h e told =
       elim (bind_err (value_or_null mode read (skip_blanks mode bytes)) (λ (x : Tree × List ℕ). Ok (x.0, skip_blanks mode x.1)) f e) [
         | inl g ↦ elim (chosen (is_left_out mode (skip_blanks mode bytes)) (Ok (null, skip_blanks mode bytes)) (read (skip_blanks mode bytes)) (Err f) g) [
@@ -241,7 +241,7 @@ module _ (mode : Mode) (depth size : ℕ) (read : List ℕ → Read Tree) (sound
         | inr g ↦ absurd (let never : ◌≡◌ {A = Read Tree} (Ok (g.0.0, skip_blanks mode g.0.1)) (Err f) = g.2 in cc)
       ]
 
-  array_refused : (bytes : List ℕ) (f : Fault) → length (91 ∷ bytes) ≤ size → array_at size mode read bytes ≡ Err f → IsTold f.code → Stops mode (suc depth) size (91 ∷ bytes) f
+  array_refused : (bytes : List ℕ) (f : Fault) → length (91 ∷ bytes) ≤ size → array_at size mode read bytes ≡ Err f → IsTold f.code → IsRefusedAt mode (suc depth) size (91 ∷ bytes) f
   array_refused bytes f h e told =
       elim (on_byte_cases 93 (skip_blanks mode bytes) (λ (r : List ℕ). Ok (array no_trees, r)) (elements_at size mode read bytes) (Err f) e) [
         | inl g ↦ absurd (let never : ◌≡◌ {A = Read Tree} (Ok (array no_trees, g.0)) (Err f) = g.2 in cc)
@@ -289,7 +289,7 @@ module _ (mode : Mode) (depth size : ℕ) (read : List ℕ → Read Tree) (sound
 
   -- the members have a key that comes twice
   repeat_refused : (o : Option Spot) (fs : List Found) (bytes rest : List ℕ) (f : Fault) → length (123 ∷ bytes) ≤ size → first_repeat (map spot_of fs) ≡ o
-      → joined_at size expected_object_comma_or_end 125 (member_at size mode read) (suc (length bytes)) bytes ≡ Ok (fs, rest) → object_or_fault o fs rest ≡ Err f → Stops mode (suc depth) size (123 ∷ bytes) f
+      → joined_at size expected_object_comma_or_end 125 (member_at size mode read) (suc (length bytes)) bytes ≡ Ok (fs, rest) → object_or_fault o fs rest ≡ Err f → IsRefusedAt mode (suc depth) size (123 ∷ bytes) f
   repeat_refused None fs bytes rest f h found j e = absurd (let never : ◌≡◌ {A = Read Tree} (Ok (object (put_all (map member_of fs) no_members), rest)) (Err f) = e in cc)
   repeat_refused (Some s) fs bytes rest f h found j e =
       let is : record { code = object_duplicate_key s.key; place = s.place } ≡ f = same_err {B = Tree × List ℕ} (record { code = object_duplicate_key s.key; place = s.place }) f e in
@@ -298,11 +298,11 @@ module _ (mode : Mode) (depth size : ℕ) (read : List ℕ → Read Tree) (sound
       let r = laid_repeats mode size l.1 s found within in
       let some : 1 ≤ suc depth = omega arith in
       let after_key : s.place ≡ size - length (123 ∷ bytes) + 1 + r.0 = omega (arith, r.2, h, ap length l.2) in
-      subst (λ (g : Fault). Stops mode (suc depth) size (123 ∷ bytes) g) is
+      subst (λ (g : Fault). IsRefusedAt mode (suc depth) size (123 ∷ bytes) g) is
       (stops_here mode (suc depth) size (123 ∷ bytes) (record { code = object_duplicate_key s.key; place = s.place }) (omega arith)
       (record { body = l.0; others = rest; whole = ap (λ (u : List ℕ). 123 ∷ u) l.2; some_left = some; length_upto = r.0; repeats = r.1; after_key = after_key }))
 
-  object_refused : (bytes : List ℕ) (f : Fault) → length (123 ∷ bytes) ≤ size → object_at size mode read bytes ≡ Err f → IsTold f.code → Stops mode (suc depth) size (123 ∷ bytes) f
+  object_refused : (bytes : List ℕ) (f : Fault) → length (123 ∷ bytes) ≤ size → object_at size mode read bytes ≡ Err f → IsTold f.code → IsRefusedAt mode (suc depth) size (123 ∷ bytes) f
   object_refused bytes f h e told =
       elim (on_byte_cases 125 (skip_blanks mode bytes) (λ (r : List ℕ). Ok (object no_members, r)) (members_at size mode read bytes) (Err f) e) [
         | inl g ↦ absurd (let never : ◌≡◌ {A = Read Tree} (Ok (object no_members, g.0)) (Err f) = g.2 in cc)
@@ -334,27 +334,27 @@ module _ (mode : Mode) (depth size : ℕ) (read : List ℕ → Read Tree) (sound
   pub containers_refused : Explains mode (suc depth) size (value_with size mode (array_at size mode read) (object_at size mode read))
   containers_refused bytes f h none e told =
       elim (on_byte_cases 91 bytes (array_at size mode read) (on_byte 123 bytes (object_at size mode read) (scalar_at size mode bytes)) (Err f) e) [
-        | inl g ↦ subst (λ (u : List ℕ). Stops mode (suc depth) size u f) (sym g.1) (array_refused g.0 f (subst (λ (u : List ℕ). length u ≤ size) g.1 h) g.2 told)
+        | inl g ↦ subst (λ (u : List ℕ). IsRefusedAt mode (suc depth) size u f) (sym g.1) (array_refused g.0 f (subst (λ (u : List ℕ). length u ≤ size) g.1 h) g.2 told)
         | inr g ↦ elim (on_byte_cases 123 bytes (object_at size mode read) (scalar_at size mode bytes) (Err f) g.1) [
-          | inl k ↦ subst (λ (u : List ℕ). Stops mode (suc depth) size u f) (sym k.1) (object_refused k.0 f (subst (λ (u : List ℕ). length u ≤ size) k.1 h) k.2 told)
+          | inl k ↦ subst (λ (u : List ℕ). IsRefusedAt mode (suc depth) size u f) (sym k.1) (object_refused k.0 f (subst (λ (u : List ℕ). length u ≤ size) k.1 h) k.2 told)
           | inr k ↦ no_value mode (suc depth) size bytes f (scalar_some size mode bytes f k.1 told) none g.0 k.0 (scalar_refused size mode bytes f k.1 told)
         ]
       ]
 
 -- ---- values of any depth
 
-too_deep_refused : (mode : Mode) (size b : ℕ) (rest : List ℕ) (f : Fault) → (b ≡ 91) ⊎ (b ≡ 123) → too_deep size rest ≡ Err f → Stops mode 0 size (b ∷ rest) f
+too_deep_refused : (mode : Mode) (size b : ℕ) (rest : List ℕ) (f : Fault) → (b ≡ 91) ⊎ (b ≡ 123) → too_deep size rest ≡ Err f → IsRefusedAt mode 0 size (b ∷ rest) f
 too_deep_refused mode size b rest f opens e =
     let is : record { code = depth_limit_exceeded; place = size - length rest } ≡ f = same_err {B = Tree × List ℕ} (record { code = depth_limit_exceeded; place = size - length rest }) f e in
-    subst (λ (g : Fault). Stops mode 0 size (b ∷ rest) g) is
+    subst (λ (g : Fault). IsRefusedAt mode 0 size (b ∷ rest) g) is
     (stops_here mode 0 size (b ∷ rest) (record { code = depth_limit_exceeded; place = size - length rest }) (omega arith) (record { byte = b; others = rest; whole = refl; at_byte = refl; opens = opens; none_left = refl }))
 
 none_left_refused : (size : ℕ) (mode : Mode) → Explains mode 0 size (value_with size mode (too_deep size) (too_deep size))
 none_left_refused size mode bytes f h none e told =
     elim (on_byte_cases 91 bytes (too_deep size) (on_byte 123 bytes (too_deep size) (scalar_at size mode bytes)) (Err f) e) [
-      | inl g ↦ subst (λ (u : List ℕ). Stops mode 0 size u f) (sym g.1) (too_deep_refused mode size 91 g.0 f (inl refl) g.2)
+      | inl g ↦ subst (λ (u : List ℕ). IsRefusedAt mode 0 size u f) (sym g.1) (too_deep_refused mode size 91 g.0 f (inl refl) g.2)
       | inr g ↦ elim (on_byte_cases 123 bytes (too_deep size) (scalar_at size mode bytes) (Err f) g.1) [
-        | inl k ↦ subst (λ (u : List ℕ). Stops mode 0 size u f) (sym k.1) (too_deep_refused mode size 123 k.0 f (inr refl) k.2)
+        | inl k ↦ subst (λ (u : List ℕ). IsRefusedAt mode 0 size u f) (sym k.1) (too_deep_refused mode size 123 k.0 f (inr refl) k.2)
         | inr k ↦ no_value mode 0 size bytes f (scalar_some size mode bytes f k.1 told) none g.0 k.0 (scalar_refused size mode bytes f k.1 told)
       ]
     ]

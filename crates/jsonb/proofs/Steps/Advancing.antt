@@ -1,7 +1,7 @@
 -- Steps of the readers.
 use Rattle.std.proofs.Common.{◌≡◌, ℕ, ◌+◌, true, false, true≢false, eqb, inl, inr, List, [], ◌∷◌, length, drop, Result, Err, Contains, get_or, refl, sym, ap, ◌∙◌, arith, length-drop}
 use Rattle.jsonb_value.specs.Code.Code.{expected_some_ident}
-use Rattle.jsonb.specs.Parser.{Advances, Fails, IsFault}
+use Rattle.jsonb.specs.Parser.{Advances, Fails, NamesFault}
 use Rattle.jsonb.specs.Reading.{Fault, refused}
 use Rattle.jsonb.specs.Reading.Scalar.{begins_letter, begins_single_quote, folded, letters_at, on_letter, on_single_quote}
 use Rattle.jsonb_value.specs.Mode.{Mode, standard, extended}
@@ -14,7 +14,7 @@ use Rattle.jsonb_value.specs.declared.error.Error.TheVariants.{Syntax}
 
 -- ---- faults
 
-pub fails : {Y : Type 0} (e : Error) (f : Fault) (read : Result Y Fault) → IsFault e f → read ≡ Err f → Fails e read
+pub fails : {Y : Type 0} (e : Error) (f : Fault) (read : Result Y Fault) → NamesFault e f → read ≡ Err f → Fails e read
 fails (Syntax code place) f read is r = r ∙ ap (λ (g : Fault). Err g) is
 fails other f read is r = absurd is
 

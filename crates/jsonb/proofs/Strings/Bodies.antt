@@ -14,7 +14,7 @@ use Rattle.jsonb_value.specs.Grammar.Quoted.{mark_of}
 use Rattle.jsonb.specs.Decoding.{SeesBackslash, SeesNoBackslash, TellsBackslash}
 use Rattle.jsonb_value.specs.declared.error.Error.{Error}
 use Rattle.jsonb_value.specs.declared.error.Error.TheVariants.{Syntax, OutOfMemory}
-use Rattle.jsonb.specs.StringRefusal.{Refuses}
+use Rattle.jsonb.specs.StringRefusal.{IsDecodingError}
 use Rattle.jsonb.specs.QuotedString.{ReadsBody}
 use Rattle.jsonb.specs.Parser.{Fails}
 use Rattle.jsonb.specs.Reading.{fault}
@@ -174,7 +174,7 @@ unfolding string_at
 string-unclosed size mode quote bytes at none = ap (closed size mode bytes) none
 
 -- what a decoder refuses is what reading the body refuses
-pub reads_refused : (mode : Mode) (bytes : List ℕ) (before after : ℕ) (e : Error) → Refuses mode bytes before after e → ReadsBody before (Err e) (body_of mode bytes)
+pub reads_refused : (mode : Mode) (bytes : List ℕ) (before after : ℕ) (e : Error) → IsDecodingError mode bytes before after e → ReadsBody before (Err e) (body_of mode bytes)
 reads_refused mode bytes before after (Syntax code place) r = (r.0, body_faulty mode bytes (code_of code) r.0 r.1, r.3 ∙ r.2)
 reads_refused mode bytes before after OutOfMemory r = tt
 reads_refused mode bytes before after other r = r

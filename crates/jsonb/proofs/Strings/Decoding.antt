@@ -7,9 +7,9 @@ use Rattle.jsonb_value.specs.Mode.{Mode}
 use Rattle.jsonb_value.specs.Code.{Code}
 use Rattle.jsonb_value.specs.Code.{invalid_hex, invalid_escaped, invalid_string_value, unexpected_end_of_hex_escape}
 use Rattle.jsonb_value.specs.Grammar.StringBody.{Item, raw, escape, unit, after_u, spelling, IsItem, IsBody, Decodes, escaped_byte, is_high, alone, together, meaning}
-use Rattle.jsonb_value.specs.Grammar.StringFault.{IsFirstNonDigit, bad_digit, cut_escape, unknown_escape, bad_unit, Fault}
+use Rattle.jsonb_value.specs.Grammar.StringFault.{IsFirstNonDigit, bad_digit, cut_escape, unknown_escape, bad_unit, IsFaultyBody}
 use Rattle.jsonb.specs.Decoding.{SeesNoBackslash}
-use Rattle.jsonb.specs.Decoding.{SplitsUnit, ReadsUnit, DecodesUpTo, Adds, StopsInUnit, Stops}
+use Rattle.jsonb.specs.Decoding.{SplitsUnit, ReadsUnit, DecodesUpTo, Adds, StopsInUnit, StopsAtEscape}
 use Rattle.jsonb_value.proofs.Strings.Units.{length-alone, length-together, length-after_u}
 use Rattle.jsonb_value.proofs.Strings.Meaning.{each-append, meaning-raw, meaning-escape, meaning-together, meaning-alone, meaning-last}
 
@@ -107,28 +107,28 @@ first_byte bytes rest byte first split is = split ∙ ap (λ b. b ∷ rest) (sym
 
 -- ---- faults
 
-pub stops_cut : (mode : Mode) (bytes : List ℕ) → bytes ≡ [] → Stops mode (92 ∷ bytes) unexpected_end_of_hex_escape 0
+pub stops_cut : (mode : Mode) (bytes : List ℕ) → bytes ≡ [] → StopsAtEscape mode (92 ∷ bytes) unexpected_end_of_hex_escape 0
 stops_cut mode bytes none = record {
   read = 1;
   cut = record { items = []; each = tt; rest = 92 ∷ bytes; spelled = refl; steps = 1; bad = cut_escape (ap (λ more. 92 ∷ more) none) refl refl; count = refl };
   count = omega (arith, ap length none);
 }
 
-pub stops_unknown : (mode : Mode) (letter : ℕ) (bytes rest : List ℕ) → bytes ≡ letter ∷ rest → letter ≢ 117 → escaped_byte mode letter ≡ None → Stops mode (92 ∷ bytes) (invalid_escaped letter) (length rest)
+pub stops_unknown : (mode : Mode) (letter : ℕ) (bytes rest : List ℕ) → bytes ≡ letter ∷ rest → letter ≢ 117 → escaped_byte mode letter ≡ None → StopsAtEscape mode (92 ∷ bytes) (invalid_escaped letter) (length rest)
 stops_unknown mode letter bytes rest is other none = record {
   read = 2;
   cut = record { items = []; each = tt; rest = 92 ∷ bytes; spelled = refl; steps = 2; bad = unknown_escape letter rest (ap (λ more. 92 ∷ more) is) other none refl refl; count = refl };
   count = omega (arith, ap length is);
 }
 
-pub stops_first : (mode : Mode) (bytes : List ℕ) (code : Code) (left : ℕ) → StopsInUnit bytes code left → Stops mode (92 ∷ 117 ∷ bytes) code left
+pub stops_first : (mode : Mode) (bytes : List ℕ) (code : Code) (left : ℕ) → StopsInUnit bytes code left → StopsAtEscape mode (92 ∷ 117 ∷ bytes) code left
 stops_first mode bytes code left stop = record {
   read = 2 + stop.steps;
   cut = record { items = []; each = tt; rest = 92 ∷ 117 ∷ bytes; spelled = refl; steps = 2 + stop.steps; bad = bad_unit bytes stop.steps refl stop.bad refl; count = omega arith };
   count = omega (arith, stop.count);
 }
 
-pub stops_next : (mode : Mode) (bytes first between : List ℕ) (value : ℕ) (code : Code) (left : ℕ) → ReadsUnit bytes first (92 ∷ 117 ∷ between) value → StopsInUnit between code left → Stops mode (92 ∷ 117 ∷ bytes) code left
+pub stops_next : (mode : Mode) (bytes first between : List ℕ) (value : ℕ) (code : Code) (left : ℕ) → ReadsUnit bytes first (92 ∷ 117 ∷ between) value → StopsInUnit between code left → StopsAtEscape mode (92 ∷ 117 ∷ bytes) code left
 stops_next mode bytes first between value code left r stop =
     let s = r.splits in
     let items = unit s.braces first ∷ [] in
@@ -138,7 +138,7 @@ stops_next mode bytes first between value code left r stop =
       count = omega (arith, stop.count, ap length spelled, length-append (flat_map spelling items) (92 ∷ 117 ∷ between));
     }
 
-pub stops_after : (mode : Mode) (a b t : List ℕ) (code : Code) (left : ℕ) → DecodesUpTo mode a b t → Stops mode b code left → Stops mode a code left
+pub stops_after : (mode : Mode) (a b t : List ℕ) (code : Code) (left : ℕ) → DecodesUpTo mode a b t → StopsAtEscape mode b code left → StopsAtEscape mode a code left
 stops_after mode a b t code left p stop =
     let q = stop.cut in
     let spelled : a ≡ flat_map spelling (p.items ++ q.items) ++ q.rest =
@@ -168,7 +168,7 @@ whole mode bytes text p = record { spelled = p.spelled ∙ append-nil (flat_map 
 pub decodes_all : (mode : Mode) (bytes text : List ℕ) → DecodesUpTo mode bytes [] text → IsUtf8 text → Decodes mode bytes text
 decodes_all mode bytes text p utf8 = record { items = p.items; body = whole mode bytes text p; meant = meaning-all mode bytes text p; utf8 = utf8 }
 
-pub fault_no_text : (mode : Mode) (bytes text : List ℕ) → DecodesUpTo mode bytes [] text → ¬ (IsUtf8 text) → Fault mode bytes invalid_string_value (length bytes)
+pub fault_no_text : (mode : Mode) (bytes text : List ℕ) → DecodesUpTo mode bytes [] text → ¬ (IsUtf8 text) → IsFaultyBody mode bytes invalid_string_value (length bytes)
 fault_no_text mode bytes text p none = inr (record {
   items = p.items;
   body = whole mode bytes text p;

@@ -8,7 +8,7 @@ use Rattle.jsonb_value.specs.Tree.{Mark}
 use Rattle.jsonb_value.specs.Code.{invalid_eof}
 use Rattle.jsonb_value.specs.Grammar.StringBody.{Item, raw, escape, unit, after_u, spelling, IsItem, meaning}
 use Rattle.jsonb_value.specs.Grammar.StringStep.{item_step}
-use Rattle.jsonb_value.specs.Grammar.Quoted.{IsInside, Quoted}
+use Rattle.jsonb_value.specs.Grammar.Quoted.{MayStandIn, Quoted}
 use Rattle.jsonb_value.proofs.Strings.Spelling.{item_step-spelling}
 use Rattle.jsonb.specs.Reading.{Read, fault}
 use Rattle.jsonb.specs.Reading.String.{Body, body_of, further, quote_from, quote_end, decoded, closed, string_at}
@@ -48,7 +48,7 @@ quote_end-step quote b n bytes other step =
     ∙ ap (λ (k : ℕ). further 1 (quote_from quote k bytes)) count ∙ ap (further 1) (quote_from-drop quote n bytes) ∙ further-further 1 n (quote_end quote (drop n bytes))
     ∙ ap (λ (k : ℕ). further k (quote_end quote (drop n bytes))) same
 
-quote_end-item : (quote : ℕ) (mode : Mode) (x : Item) (more : List ℕ) → quote ≢ 92 → IsItem mode x → IsInside quote x → quote_end quote (spelling x ++ more) ≡ further (length (spelling x)) (quote_end quote more)
+quote_end-item : (quote : ℕ) (mode : Mode) (x : Item) (more : List ℕ) → quote ≢ 92 → IsItem mode x → MayStandIn quote x → quote_end quote (spelling x ++ more) ≡ further (length (spelling x)) (quote_end quote more)
 quote_end-item quote mode (raw byte) more no_backslash is inside = quote_end-step quote byte 0 more inside (item_step-spelling mode (raw byte) more is)
 quote_end-item quote mode (escape letter byte) more no_backslash is inside =
     quote_end-step quote 92 1 (letter ∷ more) (λ e. no_backslash (sym e)) (item_step-spelling mode (escape letter byte) more is)
@@ -59,7 +59,7 @@ quote_end-item quote mode (unit braces digits) more no_backslash is inside =
 
 -- ---- where a string ends the search ends
 
-quote_complete : (quote : ℕ) (mode : Mode) (items : List Item) (more : List ℕ) → quote ≢ 92 → AllByRecursion (IsItem mode) items → AllByRecursion (IsInside quote) items → quote_end quote (flat_map spelling items ++ quote ∷ more) ≡ Ok (length (flat_map spelling items))
+quote_complete : (quote : ℕ) (mode : Mode) (items : List Item) (more : List ℕ) → quote ≢ 92 → AllByRecursion (IsItem mode) items → AllByRecursion (MayStandIn quote) items → quote_end quote (flat_map spelling items ++ quote ∷ more) ≡ Ok (length (flat_map spelling items))
 quote_complete quote mode [] more no_backslash each inside = quote_end-here quote more
 quote_complete quote mode (x ∷ items) more no_backslash each inside =
     let count : length (spelling x) + length (flat_map spelling items) ≡ length (flat_map spelling (x ∷ items)) = omega (arith, length-append (spelling x) (flat_map spelling items)) in
@@ -107,7 +107,7 @@ pub quote_within : (quote : ℕ) (bytes : List ℕ) (end : ℕ) → quote_end qu
 quote_within quote bytes end e = (quote_sound quote 0 bytes end e).within
 
 -- the items before the quote that the search found hold no such quote
-found_inside : (quote : ℕ) (mode : Mode) (items : List Item) (more : List ℕ) → quote ≢ 92 → AllByRecursion (IsItem mode) items → quote_end quote (flat_map spelling items ++ quote ∷ more) ≡ Ok (length (flat_map spelling items)) → AllByRecursion (IsInside quote) items
+found_inside : (quote : ℕ) (mode : Mode) (items : List Item) (more : List ℕ) → quote ≢ 92 → AllByRecursion (IsItem mode) items → quote_end quote (flat_map spelling items ++ quote ∷ more) ≡ Ok (length (flat_map spelling items)) → AllByRecursion (MayStandIn quote) items
 found_inside quote mode [] more no_backslash each e = tt
 found_inside quote mode (x ∷ items) more no_backslash each e =
     let regrouped : quote_end quote (spelling x ++ (flat_map spelling items ++ quote ∷ more)) ≡ Ok (length (flat_map spelling (x ∷ items))) = ap (quote_end quote) (sym (append_assoc (spelling x) (flat_map spelling items) (quote ∷ more))) ∙ e in
@@ -117,7 +117,7 @@ found_inside quote mode (x ∷ items) more no_backslash each e =
     let count : f.0 ≡ length (flat_map spelling items) = omega (arith, f.2, length-append (spelling x) (flat_map spelling items)) in
     (first, found_inside quote mode items more no_backslash each.1 (f.1 ∙ ap (λ (i : ℕ). Ok i) count))
   where
-    inside_first : (q : ℕ) (y : Item) (rest : List ℕ) (k : ℕ) → quote_end q (spelling y ++ rest) ≡ Ok (length (flat_map spelling (x ∷ items))) → length (flat_map spelling (x ∷ items)) ≡ length (spelling x) + k → IsInside q y
+    inside_first : (q : ℕ) (y : Item) (rest : List ℕ) (k : ℕ) → quote_end q (spelling y ++ rest) ≡ Ok (length (flat_map spelling (x ∷ items))) → length (flat_map spelling (x ∷ items)) ≡ length (spelling x) + k → MayStandIn q y
     inside_first q (raw byte) rest k h count = λ same.
         let zero_end : ◌≡◌ {A = Result ℕ ℕ} (Ok 0) (Ok (length (flat_map spelling (x ∷ items)))) = sym (quote_end-here q rest) ∙ ap (λ (b : ℕ). quote_end q (b ∷ rest)) (sym same) ∙ h in
         let none : 0 ≡ length (flat_map spelling (x ∷ items)) = cc in

@@ -11,7 +11,7 @@ use Rattle.jsonb_value.specs.Mode.{Mode}
 use Rattle.jsonb_value.specs.Tree.{Mark}
 use Rattle.jsonb_value.specs.Code.{Code, invalid_string_value, invalid_escaped, invalid_hex, unexpected_end_of_hex_escape}
 use Rattle.jsonb_value.specs.Grammar.StringBody.{Item, raw, escape, unit, after_u, spelling, IsItem, IsHexDigit, IsBody, escaped_byte, meaning}
-use Rattle.jsonb_value.specs.Grammar.StringFault.{IsUnitCut, BadUnit, cut_unit, bad_digit, BadEscape, cut_escape, unknown_escape, bad_unit, IsCutShort, IsNoText, Fault}
+use Rattle.jsonb_value.specs.Grammar.StringFault.{IsUnitCut, BadUnit, cut_unit, bad_digit, BadEscape, cut_escape, unknown_escape, bad_unit, IsCutShort, IsNoText, IsFaultyBody}
 use Rattle.jsonb_value.specs.Grammar.Quoted.{mark_of}
 use Rattle.jsonb_value.proofs.Strings.Spelling.{escape_is_not_u}
 use Rattle.jsonb.specs.Reading.String.{Body, non_digit, checked_unit, unit_of, unit_at, known_escape, escape_at, item_at, onto, then_items, items_within, meaning_of, body_of}
@@ -347,7 +347,7 @@ body_complete mode bytes items body utf8 =
 no_utf8 : (text : List ℕ) → ¬ (IsUtf8 text) → is_utf8 text ≡ false
 no_utf8 text n = ⊎_elim (λ yes. absurd (n (IsUtf8-from_is_utf8 text yes))) (λ no. no) (cases_Bool (is_utf8 text))
 
-pub body_faulty : (mode : Mode) (bytes : List ℕ) (code : Code) (read : ℕ) → Fault mode bytes code read → body_of mode bytes ≡ Err (code, read)
+pub body_faulty : (mode : Mode) (bytes : List ℕ) (code : Code) (read : ℕ) → IsFaultyBody mode bytes code read → body_of mode bytes ≡ Err (code, read)
 unfolding body_of
 body_faulty mode bytes code read fault =
     ⊎_elim

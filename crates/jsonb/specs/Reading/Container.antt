@@ -84,10 +84,10 @@ abbrev pub spot_cmp : Spot → Spot → Ordering
 spot_cmp s t = ordering_then (slice_cmp nat_cmp s.key t.key) (nat_cmp s.place t.place)
 
 -- no spot is above the next one
-abbrev pub AreAscending : List Spot → Type 0
-AreAscending [] = Unit {0}
-AreAscending (s ∷ []) = Unit {0}
-AreAscending (s ∷ t ∷ ts) = (is_gt (spot_cmp s t) ≡ false) × AreAscending (t ∷ ts)
+abbrev pub SpotsAreSorted : List Spot → Type 0
+SpotsAreSorted [] = Unit {0}
+SpotsAreSorted (s ∷ []) = Unit {0}
+SpotsAreSorted (s ∷ t ∷ ts) = (is_gt (spot_cmp s t) ≡ false) × SpotsAreSorted (t ∷ ts)
 
 abbrev pub insert_spot : Spot → List Spot → List Spot
 insert_spot s [] = s ∷ []

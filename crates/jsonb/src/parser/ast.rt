@@ -1,6 +1,6 @@
 //! JSON values as they were written.
 ghost use Rattle.std.specs.Prelude.{◌≡◌, ◌≢◌, ◌<◌, IfOk, IfErr, Err};
-ghost use Rattle.jsonb_value.specs.Grammar.{IsDocument};
+ghost use Rattle.jsonb_value.specs.Grammar.{IsDocument, IsNoDocument};
 ghost use Rattle.jsonb_value.specs.Tree.{Tree};
 ghost use Rattle.jsonb.specs.AstView.{ast_view};
 ghost use Rattle.jsonb.specs.Parser.{mode_of, IsTextRefusal, Gives, HoldsMarker};
@@ -47,8 +47,7 @@ impl<'a> JsonAst<'a> {
         ensures only { IfOk result (λ v. (t : Tree) → IsDocument (mode_of mode) buf.now t → t ≡ ast_view v) }
 
         // What is refused is no document, unless memory ran out.
-        ensures refused { IfErr result (λ e. e ≢ Error.OutOfMemory → (t : Tree) → IsDocument (mode_of mode) buf.now t
-            → ⊥) }
+        ensures refused { IfErr result (λ e. e ≢ Error.OutOfMemory → IsNoDocument (mode_of mode) buf.now) }
         ensures memory { result ≡ Err Error.OutOfMemory → HoldsMarker buf.now }
 
         // Nothing but these two refuses.

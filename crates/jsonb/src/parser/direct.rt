@@ -8,14 +8,14 @@ ghost use Rattle.jsonb_value.specs.Grammar.{max_depth};
 ghost use Rattle.jsonb_value.specs.Tree.{Tree};
 ghost use Rattle.jsonb_value.specs.View.{view};
 ghost use Rattle.jsonb.specs.declared.parser.direct.OpenValue.TheVariants.{Array, Object};
-ghost use Rattle.jsonb.specs.Direct.{IsPutIn, IsHeld, Pushes, Stops, IsDue, WasRead, IsAhead, tree_of};
+ghost use Rattle.jsonb.specs.Direct.{IsPutIn, IsHeld, Pushes, ReadsParts, ValueIsDue, WasRead, IsAhead, tree_of};
 ghost use Rattle.jsonb.specs.Parser.{rest_of, size_of, mode_of, Advances};
 ghost use Rattle.jsonb.specs.Reading.{Read, begins};
 ghost use Rattle.jsonb.specs.Reading.Blank.{is_blank_start, skip_blanks};
 ghost use Rattle.jsonb.specs.Reading.Container.{Found, is_left_out, value_or_null};
 ghost use Rattle.jsonb.specs.Reading.Document.{document_of, value_at};
 ghost use Rattle.jsonb.specs.Reading.Scalar.{scalar_at};
-ghost use Rattle.jsonb.specs.Stack.{Open, elements_from, members_from, next_part_at};
+ghost use Rattle.jsonb.specs.Stack.{Open, elements_from, read_members_from, next_part_at};
 
 mod scalar;
 
@@ -120,7 +120,7 @@ impl<'a> Parser<'a> {
     fn open_container(&mut self, stack: &mut Vec<OpenValue<'a>>) -> Option<bool>
         requires depth { length stack.old.items ≤ max_depth }
         requires inside { self.old.idx ≤ size_of self.old }
-        ensures reads { (whole : Read Tree) → IsDue whole self.old stack.old.items
+        ensures reads { (whole : Read Tree) → ValueIsDue whole self.old stack.old.items
             → IfSome result (IsAhead whole self.new stack.new.items) }
         ensures onward { IfSome result (λ closed. self.old.idx < self.new.idx) }
         ensures depth { IfSome result (λ closed. length stack.new.items ≤ max_depth) }
@@ -171,7 +171,7 @@ impl<'a> Parser<'a> {
         requires inside { self.old.idx ≤ size_of self.old }
         requires same { text.now ≡ self.old.buf.now }
         ensures reads { IfSome result (λ closed. (depth : ℕ) → (c : Open) → IsHeld frame.old c
-            → Stops (size_of self.old) (mode_of self.old.mode) depth
+            → ReadsParts (size_of self.old) (mode_of self.old.mode) depth
             (next_part_at (size_of self.old) (mode_of self.old.mode) depth c (rest_of self.old))
             closed frame.new (rest_of self.new)) }
         ensures onward { IfSome result (λ closed. MatchBool closed (self.old.idx < self.new.idx) (Unit {0})) }
@@ -187,7 +187,7 @@ impl<'a> Parser<'a> {
     fn read_elements(&mut self, items: &mut Vec<Value<'a>>, text: &'a str) -> Option<bool>
         requires inside { self.old.idx ≤ size_of self.old }
         requires same { text.now ≡ self.old.buf.now }
-        ensures reads { IfSome result (λ closed. (depth : ℕ) → Stops (size_of self.old) (mode_of self.old.mode) depth
+        ensures reads { IfSome result (λ closed. (depth : ℕ) → ReadsParts (size_of self.old) (mode_of self.old.mode) depth
             (elements_from (size_of self.old) (mode_of self.old.mode) depth (map view items.old.items)
             (rest_of self.old)) closed (Array items.new) (rest_of self.new)) }
         ensures onward { IfSome result (λ closed. MatchBool closed (self.old.idx < self.new.idx) (Unit {0})) }
@@ -229,8 +229,8 @@ impl<'a> Parser<'a> {
         requires inside { self.old.idx ≤ size_of self.old }
         requires same { text.now ≡ self.old.buf.now }
         ensures reads { IfSome result (λ closed. (depth : ℕ) → (front : List Found)
-            → IsPutIn front object.old.members.entries → Stops (size_of self.old) (mode_of self.old.mode) depth
-            (members_from (size_of self.old) (mode_of self.old.mode) depth front (rest_of self.old))
+            → IsPutIn front object.old.members.entries → ReadsParts (size_of self.old) (mode_of self.old.mode) depth
+            (read_members_from (size_of self.old) (mode_of self.old.mode) depth front (rest_of self.old))
             closed (Object object.new) (rest_of self.new)) }
         ensures onward { IfSome result (λ closed. MatchBool closed (self.old.idx < self.new.idx) (Unit {0})) }
         ensures advances { Advances self.old self.new }

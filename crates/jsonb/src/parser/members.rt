@@ -1,11 +1,11 @@
 //! The members of an object: their order, and the key that comes twice.
 ghost use Rattle.std.specs.Prelude.{◌≡◌, ◌+◌, ◌<◌, IfOk, Err, map, ℕ, List, IsPermutation};
-ghost use Rattle.jsonb_value.specs.Mode.{Mode as Grammar};
+ghost use Rattle.jsonb_value.specs.Mode.{Mode as GrammarMode};
 ghost use Rattle.jsonb.specs.AstView.{ast_view, found_of};
 ghost use Rattle.jsonb.specs.OpenPlaces.{placed_of};
 ghost use Rattle.jsonb.specs.Parser.{Gives};
 ghost use Rattle.jsonb.specs.Placed.{AreMembersAt, HasByte, IsValueAt};
-ghost use Rattle.jsonb.specs.Reading.Container.{first_repeat, spot_of, spot_cmp, object_or_fault, AreAscending};
+ghost use Rattle.jsonb.specs.Reading.Container.{first_repeat, spot_of, spot_cmp, object_or_fault, SpotsAreSorted};
 ghost use Rattle.jsonb.specs.Source.{source_view};
 
 use super::JsonAst;
@@ -29,7 +29,7 @@ fn member_cmp(a: &Member, b: &Member) -> Ordering
 
 fn sort_members(members: &mut Vec<Member>)
     ensures permutation { IsPermutation members.old.items members.new.items }
-    ensures ascending { AreAscending (map spot_of (map found_of members.new.items)) }
+    ensures ascending { SpotsAreSorted (map spot_of (map found_of members.new.items)) }
 {
     members.sort_unstable_by(member_cmp);
 }
@@ -39,7 +39,7 @@ pub(super) fn object_of<'a>(alloc: Global, mut members: Vec<Member<'a>>) -> Resu
     ensures reads { (rest : List ℕ) → Gives (λ v. (ast_view v, rest)) result
         (object_or_fault (first_repeat (map spot_of (map found_of members.entry.items)))
         (map found_of members.entry.items) rest) }
-    ensures source { (mode : Grammar) → (input : List ℕ) → (from to : ℕ) → HasByte input 123 from
+    ensures source { (mode : GrammarMode) → (input : List ℕ) → (from to : ℕ) → HasByte input 123 from
         → AreMembersAt mode input (from + 1) (map placed_of members.entry.items) to → HasByte input 125 to
         → IfOk result (λ v. IsValueAt mode input from (source_view v) (to + 1)) }
 {

@@ -2,7 +2,7 @@
 ghost use Rattle.std.specs.Prelude.{◌≡◌, ◌+◌, ◌<◌, ◌≤◌, length, MatchOption, OnOk, IfOk, MatchResult, Some, None, Err, false, ℕ, List};
 ghost use Rattle.std.specs.Cow.{cow_str_bytes};
 ghost use Rattle.jsonb_value.specs.Grammar.{max_depth};
-ghost use Rattle.jsonb_value.specs.Mode.{Mode as Grammar};
+ghost use Rattle.jsonb_value.specs.Mode.{Mode as GrammarMode};
 ghost use Rattle.jsonb_value.specs.Tree.{Tree};
 ghost use Rattle.jsonb_value.specs.View.{mark_view};
 ghost use Rattle.jsonb.specs.AstView.{ast_view};
@@ -266,7 +266,7 @@ impl<'a> Frame<'a> {
     fn add(&mut self, value: JsonAst<'a>) -> Result<()>
         ensures reads { MatchResult result (λ _. open_of self.new ≡ add_part (open_of self.old)
             (ast_view value.entry)) (λ e. e ≡ Error.OutOfMemory) }
-        ensures source { (mode : Grammar) → (input : List ℕ) → (from due end to : ℕ)
+        ensures source { (mode : GrammarMode) → (input : List ℕ) → (from due end to : ℕ)
             → FrameIsPlaced mode input from self.old due → PartIsRead mode input self.old due
             (source_view value.entry) end
             → Skips mode input end to → to < length input → OnOk result (FrameIsRead mode input from self.new to) }

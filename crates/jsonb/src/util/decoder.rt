@@ -4,8 +4,8 @@ ghost use Rattle.jsonb_value.specs.Mode.{standard};
 ghost use Rattle.jsonb_value.specs.Code.{code_of};
 ghost use Rattle.jsonb_value.specs.Grammar.StringBody.{escaped_byte, kept, alone, Decodes};
 ghost use Rattle.jsonb.specs.Parser.{mode_of};
-ghost use Rattle.jsonb.specs.StringRefusal.{Refuses};
-ghost use Rattle.jsonb.specs.Decoding.{Adds, Stops};
+ghost use Rattle.jsonb.specs.StringRefusal.{IsDecodingError};
+ghost use Rattle.jsonb.specs.Decoding.{Adds, StopsAtEscape};
 
 mod room;
 mod run;
@@ -20,7 +20,7 @@ use unit::units;
 
 // What keeps bytes from being decoded, and how many of them are left then.
 #[derive(Drop)]
-struct Fault {
+struct DecodingFault {
     code: ParseErrorCode,
     left: usize,
 }
@@ -50,16 +50,16 @@ fn escape<'a>(
     bytes: &'a [u8],
     mode: Mode,
     text: &mut Vec<u8>,
-) -> std::result::Result<&'a [u8], Fault>
+) -> std::result::Result<&'a [u8], DecodingFault>
     requires { vec_len text.old + 1 + length bytes.now ≤ vec_capacity text.old }
     ensures ok { IfOk result (λ rest. Adds (mode_of mode) (92 ∷ bytes.now) rest.now text.old.items text.new.items) }
     ensures shorter { IfOk result (λ rest. length rest.now ≤ length bytes.now) }
     ensures room { IfOk result (λ rest. vec_len text.new + length rest.now ≤ vec_len text.old + 1 + length bytes.now) }
-    ensures err { IfErr result (λ fault. Stops (mode_of mode) (92 ∷ bytes.now) (code_of fault.code) fault.left) }
+    ensures err { IfErr result (λ fault. StopsAtEscape (mode_of mode) (92 ∷ bytes.now) (code_of fault.code) fault.left) }
     ensures capacity { vec_capacity text.old ≤ vec_capacity text.new }
 {
     let Some((letter, rest)) = bytes.split_first() else {
-        return Err(Fault {
+        return Err(DecodingFault {
             code: ParseErrorCode::UnexpectedEndOfHexEscape,
             left: 0,
         });
@@ -68,7 +68,7 @@ fn escape<'a>(
         return units(rest, text);
     }
     let Some(byte) = escaped(*letter, mode) else {
-        return Err(Fault {
+        return Err(DecodingFault {
             code: ParseErrorCode::InvalidEscaped(*letter),
             left: rest.len(),
         });
@@ -78,10 +78,10 @@ fn escape<'a>(
 }
 
 // Decodes a whole body, to the end of the text.
-fn decode(bytes: &[u8], mode: Mode, text: &mut Vec<u8>) -> std::result::Result<(), Fault>
+fn decode(bytes: &[u8], mode: Mode, text: &mut Vec<u8>) -> std::result::Result<(), DecodingFault>
     requires { vec_len text.old + length bytes.now ≤ vec_capacity text.old }
     ensures ok { OnOk result (Adds (mode_of mode) bytes.now [] text.old.items text.new.items) }
-    ensures err { IfErr result (λ fault. Stops (mode_of mode) bytes.now (code_of fault.code) fault.left) }
+    ensures err { IfErr result (λ fault. StopsAtEscape (mode_of mode) bytes.now (code_of fault.code) fault.left) }
 {
     let mut left = bytes;
     'items: while !left.is_empty() {
@@ -99,7 +99,7 @@ pub(crate) fn unescape(alloc: Global, bytes: &[u8], mode: Mode, idx: &mut usize)
     requires { idx.old + length bytes.now < 2 ^ 64 }
     ensures ok { IfOk result (λ text. Decodes (mode_of mode) bytes.now (string_bytes text)) }
     ensures end { OnOk result (idx.new ≡ idx.old + length bytes.now) }
-    ensures err { IfErr result (Refuses (mode_of mode) bytes.now idx.old idx.new) }
+    ensures err { IfErr result (IsDecodingError (mode_of mode) bytes.now idx.old idx.new) }
 {
     // The text is never longer than the bytes, so no other growth is asked for.
     let Ok(mut text) = Vec::with_capacity(alloc, bytes.len()) else {
@@ -132,7 +132,7 @@ pub fn parse_string(alloc: Global, data: &[u8], len: usize, idx: &mut usize) -> 
     requires { idx.old + length «data».now < 2 ^ 64 }
     ensures ok { IfOk result (λ text. Decodes standard «data».now (string_bytes text)) }
     ensures end { OnOk result (idx.new ≡ idx.old + length «data».now) }
-    ensures err { IfErr result (Refuses standard «data».now idx.old idx.new) }
+    ensures err { IfErr result (IsDecodingError standard «data».now idx.old idx.new) }
 {
     // The room that is asked for is the length of the data, which is always enough.
     let _ = len;

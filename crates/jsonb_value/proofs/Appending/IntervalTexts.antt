@@ -7,7 +7,7 @@ use Rattle.std.specs.Fmt.{sign_text, signed_decimal, decimal}
 use Rattle.std.specs.Fmt.Cut.{cut_to}
 use Rattle.std.proofs.lemmas.Int.{ints}
 use Rattle.std.specs.Int.{w32, is_negative}
-use Rattle.jsonb_value.specs.Text.IntervalText.{amount_text, fraction_text, clock_text, time_text, with_blank, beside, interval_text}
+use Rattle.jsonb_value.specs.Text.IntervalText.{amount_text, microseconds_text, clock_text, time_text, with_blank, beside, interval_text}
 use Rattle.jsonb_value.specs.Text.NumberText.{zero_padded}
 
 -- a text that fits is not cut
@@ -86,17 +86,17 @@ pub more_end : (n : ℕ) → n ≢ 1 → ending n ≡ 115 ∷ []
 more_end n h = cond-false (n == 1) _ _ (ne_eqb n 1 h)
 
 -- no fraction
-pub fraction_text-none : (micros : ℕ) → micros ≡ 0 → fraction_text micros ≡ []
-unfolding fraction_text
+pub fraction_text-none : (micros : ℕ) → micros ≡ 0 → microseconds_text micros ≡ []
+unfolding microseconds_text
 fraction_text-none micros h = cond-true (micros == 0) _ _ (eq-eqb micros 0 h)
 
-pub fraction_text-some : (micros : ℕ) → micros ≢ 0 → fraction_text micros ≡ 46 ∷ zero_padded 6 (decimal micros)
-unfolding fraction_text
+pub fraction_text-some : (micros : ℕ) → micros ≢ 0 → microseconds_text micros ≡ 46 ∷ zero_padded 6 (decimal micros)
+unfolding microseconds_text
 fraction_text-some micros h = cond-false (micros == 0) _ _ (ne_eqb micros 0 h)
 
 -- the parts of a clock one after the other
 pub clock_joined : (text : List ℕ) (micros : ℕ)
-    → ((((text ++ zero_padded 2 (decimal (micros / 3600000000))) ++ 58 ∷ []) ++ zero_padded 2 (decimal (micros / 60000000 % 60))) ++ 58 ∷ []) ++ zero_padded 2 (decimal (micros / 1000000 % 60)) ++ fraction_text (micros % 1000000)
+    → ((((text ++ zero_padded 2 (decimal (micros / 3600000000))) ++ 58 ∷ []) ++ zero_padded 2 (decimal (micros / 60000000 % 60))) ++ 58 ∷ []) ++ zero_padded 2 (decimal (micros / 1000000 % 60)) ++ microseconds_text (micros % 1000000)
     ≡ text ++ clock_text micros
 unfolding clock_text
 clock_joined text micros = simp append_assoc
@@ -118,7 +118,7 @@ time_text-is micros h = cond-false (unsigned_abs micros == 0) _ _ (ne_eqb (unsig
 clock_text-some : (micros : ℕ) → 0 < length (clock_text micros)
 unfolding clock_text
 clock_text-some micros =
-    let last = fraction_text (micros % 1000000) in
+    let last = microseconds_text (micros % 1000000) in
     omega (arith, length-append {A = ℕ})
 
 -- a time that is there

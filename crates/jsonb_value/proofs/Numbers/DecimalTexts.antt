@@ -48,7 +48,7 @@ first_digit n small =
 -- ---- the text
 
 -- digits with a point, as the parts of a decimal number text: its scale and the value of its digits
-record IsBody (body : List ℕ) (scale m : ℕ) : Type 0 where
+record IsDecimalBody (body : List ℕ) (scale m : ℕ) : Type 0 where
   zeros : List ℕ
   whole : List ℕ
   fraction : Option (List ℕ)
@@ -62,7 +62,7 @@ record IsBody (body : List ℕ) (scale m : ℕ) : Type 0 where
   scale_is : length (fraction_digits fraction) ≡ scale
   value : digits_value 10 (whole ++ fraction_digits fraction) ≡ m
 
-body_zero : IsBody (with_point 0 (zero_padded 1 (decimal 0))) 0 0
+body_zero : IsDecimalBody (with_point 0 (zero_padded 1 (decimal 0))) 0 0
 body_zero =
     record {
       zeros = 48 ∷ [];
@@ -79,7 +79,7 @@ body_zero =
       value = refl;
     }
 
-body_whole : (m : ℕ) → 0 < m → m < 10 ^ 38 → IsBody (with_point 0 (zero_padded 1 (decimal m))) 0 m
+body_whole : (m : ℕ) → 0 < m → m < 10 ^ 38 → IsDecimalBody (with_point 0 (zero_padded 1 (decimal m))) 0 m
 body_whole m some small =
     let first = first_digit m (omega arith) in
     let numeral = decimal_is_IsNumeral_wide m (omega arith) in
@@ -98,7 +98,7 @@ body_whole m some small =
       value = ap (digits_value 10) (append-nil (decimal m)) ∙ numeral.1;
     }
 
-body_inside : (scale m : ℕ) → 0 < scale → 0 < m → m < 10 ^ 38 → scale < length (decimal m) → IsBody (with_point scale (zero_padded (scale + 1) (decimal m))) scale m
+body_inside : (scale m : ℕ) → 0 < scale → 0 < m → m < 10 ^ 38 → scale < length (decimal m) → IsDecimalBody (with_point scale (zero_padded (scale + 1) (decimal m))) scale m
 body_inside scale m point some small inside =
     let first = first_digit m (omega arith) in
     let numeral = decimal_is_IsNumeral_wide m (omega arith) in
@@ -121,7 +121,7 @@ body_inside scale m point some small inside =
       value = ap (digits_value 10) (take-append-drop (length (decimal m) - scale) (decimal m)) ∙ numeral.1;
     }
 
-body_before : (scale m : ℕ) → 0 < scale → scale ≤ 38 → m < 10 ^ 38 → length (decimal m) ≤ scale → IsBody (with_point scale (zero_padded (scale + 1) (decimal m))) scale m
+body_before : (scale m : ℕ) → 0 < scale → scale ≤ 38 → m < 10 ^ 38 → length (decimal m) ≤ scale → IsDecimalBody (with_point scale (zero_padded (scale + 1) (decimal m))) scale m
 body_before scale m point few small behind =
     let numeral = decimal_is_IsNumeral_wide m (omega arith) in
     let long : length (replicate (scale - length (decimal m)) 48 ++ decimal m) ≡ scale = simp (length-append, length-replicate) (omega arith) in
@@ -140,11 +140,11 @@ body_before scale m point few small behind =
       value = value-after_zeros (scale - length (decimal m)) (decimal m) ∙ numeral.1;
     }
 
-body : (scale m : ℕ) → scale ≤ 38 → m < 10 ^ 38 → IsBody (with_point scale (zero_padded (scale + 1) (decimal m))) scale m
+body : (scale m : ℕ) → scale ≤ 38 → m < 10 ^ 38 → IsDecimalBody (with_point scale (zero_padded (scale + 1) (decimal m))) scale m
 body scale m few small =
     ⊎_elim
-    (λ no_point. subst (λ s. IsBody (with_point s (zero_padded (s + 1) (decimal m))) s m) (sym no_point)
-    (⊎_elim (λ none. subst (λ k. IsBody (with_point 0 (zero_padded 1 (decimal k))) 0 k) (sym none) body_zero) (λ some. body_whole m (omega arith) small) (cases_eq m 0)))
+    (λ no_point. subst (λ s. IsDecimalBody (with_point s (zero_padded (s + 1) (decimal m))) s m) (sym no_point)
+    (⊎_elim (λ none. subst (λ k. IsDecimalBody (with_point 0 (zero_padded 1 (decimal k))) 0 k) (sym none) body_zero) (λ some. body_whole m (omega arith) small) (cases_eq m 0)))
     (λ point. ⊎_elim
     (λ inside. ⊎_elim (λ none. absurd (omega (arith, point, inside, ap length (ap decimal none ∙ decimal_digit 0 (omega arith))))) (λ some. body_inside scale m (omega arith) (omega arith) small inside) (cases_eq m 0))
     (λ behind. body_before scale m (omega arith) few small behind) (cases_lt scale (length (decimal m)))) (cases_eq scale 0)

@@ -6,7 +6,7 @@ use Rattle.std.specs.List.{flat_map, AllByRecursion}
 use Rattle.jsonb_value.specs.Mode.{Mode}
 use Rattle.jsonb_value.specs.Code.{Code}
 use Rattle.jsonb_value.specs.Grammar.StringBody.{Item, raw, escape, unit, after_u, spelling, IsItem, IsHexDigit, IsBody, Decodes, escaped_byte, meaning}
-use Rattle.jsonb_value.specs.Grammar.StringFault.{IsFirstNonDigit, BadUnit, cut_unit, bad_digit, BadEscape, cut_escape, unknown_escape, bad_unit, IsCutShort, Fault}
+use Rattle.jsonb_value.specs.Grammar.StringFault.{IsFirstNonDigit, BadUnit, cut_unit, bad_digit, BadEscape, cut_escape, unknown_escape, bad_unit, IsCutShort, IsFaultyBody}
 use Rattle.jsonb_value.proofs.Strings.Units.{length-after_u}
 use Rattle.jsonb_value.proofs.Strings.Spelling.{same_items, same_front, escape_is_not_u}
 
@@ -83,7 +83,7 @@ cut_short_excludes mode bytes code read items cut body =
     no_first [] each spelled = no_rest cut.bad spelled
     no_first (x ∷ xs) each spelled = item_excluded mode cut.rest code cut.steps x (flat_map spelling xs) cut.bad each.0 spelled
 
-pub fault_excludes : (mode : Mode) (bytes : List ℕ) (code : Code) (read : ℕ) (text : List ℕ) → Fault mode bytes code read → ¬ (Decodes mode bytes text)
+pub fault_excludes : (mode : Mode) (bytes : List ℕ) (code : Code) (read : ℕ) (text : List ℕ) → IsFaultyBody mode bytes code read → ¬ (Decodes mode bytes text)
 fault_excludes mode bytes code read text fault d =
     ⊎_elim
     (λ cut. cut_short_excludes mode bytes code read d.items cut d.body)

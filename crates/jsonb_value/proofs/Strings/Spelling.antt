@@ -67,13 +67,13 @@ spelling_not_empty (escape l b) rest e = cc
 spelling_not_empty (unit h d) rest e = cc
 
 -- Items that spell the front of what other items spell are the first of those.
-pub record IsFront (mode : Mode) (xs ys : List Item) (rest : List ℕ) : Type 0 where
+pub record AreFirstItems (mode : Mode) (xs ys : List Item) (rest : List ℕ) : Type 0 where
   pub tail : List Item
   pub split : ys ≡ xs ++ tail
   pub each : AllByRecursion (IsItem mode) tail
   pub spelled : rest ≡ flat_map spelling tail
 
-pub same_front : (mode : Mode) (xs ys : List Item) (rest : List ℕ) → AllByRecursion (IsItem mode) xs → AllByRecursion (IsItem mode) ys → flat_map spelling xs ++ rest ≡ flat_map spelling ys → IsFront mode xs ys rest
+pub same_front : (mode : Mode) (xs ys : List Item) (rest : List ℕ) → AllByRecursion (IsItem mode) xs → AllByRecursion (IsItem mode) ys → flat_map spelling xs ++ rest ≡ flat_map spelling ys → AreFirstItems mode xs ys rest
 same_front mode [] ys rest p q e = record { tail = ys; split = refl; each = q; spelled = e }
 same_front mode (x ∷ xs) [] rest p q e = absurd (spelling_not_empty x (flat_map spelling xs ++ rest) (sym (append_assoc (spelling x) (flat_map spelling xs) rest) ∙ e))
 same_front mode (x ∷ xs) (y ∷ ys) rest p q e =

@@ -10,7 +10,7 @@ use Rattle.std.specs.List.{flat_map, AllByRecursion}
 use Rattle.jsonb_value.specs.Mode.{Mode}
 use Rattle.jsonb_value.specs.Mode.{standard, extended}
 use Rattle.jsonb_value.specs.Grammar.StringBody.{Item, raw, escape, unit, spelling, escaped_byte, IsItem, IsHexDigit, unit_value, is_high, is_low, alone, meaning}
-use Rattle.jsonb_value.specs.Grammar.Quoted.{mark_of, IsInside, Quoted}
+use Rattle.jsonb_value.specs.Grammar.Quoted.{mark_of, MayStandIn, Quoted}
 use Rattle.jsonb_value.specs.Tree.{Mark}
 use Rattle.jsonb_value.specs.Text.StringText.{control_text, byte_text, quoted_text}
 use Rattle.jsonb_value.proofs.Strings.Units.{alone-character}
@@ -66,8 +66,8 @@ item-item_of mode byte =
     let e = escapes_as mode in
     by_cases (λ b item text. IsItem mode item) byte e.0 e.1 e.2 e.3 e.4 (λ low. (refl, control_each byte low)) (λ no_quote no_backslash. no_backslash)
 
-pub inside-item_of : (byte : ℕ) → IsInside 34 (item_of byte)
-inside-item_of byte = by_cases (λ b item text. IsInside 34 item) byte tt tt tt tt tt (λ low. tt) (λ no_quote no_backslash. no_quote)
+pub inside-item_of : (byte : ℕ) → MayStandIn 34 (item_of byte)
+inside-item_of byte = by_cases (λ b item text. MayStandIn 34 item) byte tt tt tt tt tt (λ low. tt) (λ no_quote no_backslash. no_quote)
 
 unit_value-control : (byte : ℕ) → byte < 32 → unit_value (control_digits byte) ≡ byte
 unit_value-control byte low = let values = control_values byte low in omega (arith, values.0, values.1)
@@ -101,7 +101,7 @@ each-items_of : (mode : Mode) (text : List ℕ) → AllByRecursion (IsItem mode)
 each-items_of mode [] = tt
 each-items_of mode (byte ∷ text) = (item-item_of mode byte, each-items_of mode text)
 
-inside-items_of : (text : List ℕ) → AllByRecursion (IsInside 34) (map item_of text)
+inside-items_of : (text : List ℕ) → AllByRecursion (MayStandIn 34) (map item_of text)
 inside-items_of [] = tt
 inside-items_of (byte ∷ text) = (inside-item_of byte, inside-items_of text)
 

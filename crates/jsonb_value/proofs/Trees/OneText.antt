@@ -11,7 +11,7 @@ use Rattle.jsonb_value.specs.Order.{decimal_cmp, num_cmp, bytes_cmp, tree_cmp, t
 use Rattle.jsonb_value.specs.Text.Range.{IsWithin, AreWithin, HaveWithin}
 use Rattle.jsonb_value.specs.Grammar.StringBody.{Item, raw, escape, unit, after_u, spelling}
 use Rattle.jsonb_value.specs.Text.StringText.{byte_text, quoted_text}
-use Rattle.jsonb_value.specs.Grammar.Quoted.{IsInside as IsInsideQuotes}
+use Rattle.jsonb_value.specs.Grammar.Quoted.{MayStandIn as IsInsideQuotes}
 use Rattle.jsonb_value.specs.Text.{tree_text, with_commas, item_texts, member_texts}
 use Rattle.jsonb_value.specs.Tree.{Num, Tree, null, boolean, string, number, array, object, Trees, no_trees, more_trees, Members, no_members, more_members}
 use Rattle.jsonb_value.proofs.Numbers.Texts.{IsNumberByte, Begins, number_first, same_number_before}

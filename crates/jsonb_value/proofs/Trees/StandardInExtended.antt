@@ -29,7 +29,7 @@ use Rattle.jsonb_value.proofs.Numbers.InRange.{decimals}
 use Rattle.jsonb_value.proofs.Numbers.Texts.{IsDigit, Begins, begun, digit_bytes}
 use Rattle.jsonb_value.proofs.Trees.OneText.{same_numbers, same_bytes, both_equal, IsTextByte}
 use Rattle.jsonb_value.proofs.Trees.Runs.{heads}
-use Rattle.jsonb_value.proofs.Trees.TextsReadBack.{IsReadAs, no_blanks_alone}
+use Rattle.jsonb_value.proofs.Trees.TextsReadBack.{SpellsSameNumber, no_blanks_alone}
 
 -- the modes differ
 two_modes : {A : Type 0} → standard ≡ extended → A
@@ -147,7 +147,7 @@ integer_value true value n is = (negative_small value is.0, ap (λ (m : Num). m.
 
 -- an integer text is a decimal text, whose zeros stand apart from its other digits
 decimal_parts : (bytes : List ℕ) (negative : Bool) (whole zeros digits : List ℕ) (n : Num) → bytes ≡ sign_text negative ++ whole → whole ≡ zeros ++ digits → zeros ≡ replicate (length zeros) 48 → AllDigits 10 digits → slice_index digits 0 ≢ 48
-    → 0 < length zeros + length digits → length digits ≤ 38 → n.scale ≡ 0 → n.whole ≡ signed_by negative (digits_value 10 digits) → IsReadAs extended bytes n
+    → 0 < length zeros + length digits → length digits ≤ 38 → n.scale ≡ 0 → n.whole ≡ signed_by negative (digits_value 10 digits) → SpellsSameNumber extended bytes n
 decimal_parts bytes negative whole zeros digits n joined split are_zeros each first some few scaled value =
     let sign = sign_text negative in
     let s = sign_is negative in
@@ -175,7 +175,7 @@ decimal_parts bytes negative whole zeros digits n joined split are_zeros each fi
       wholes = (λ i. signed_by (s.1 i) (digits_value 10 (append-nil digits i))) ∙ sym value;
     }
 
-standard_is_decimal : (bytes : List ℕ) (n : Num) → IsStandardNumber bytes n → IsReadAs extended bytes n
+standard_is_decimal : (bytes : List ℕ) (n : Num) → IsStandardNumber bytes n → SpellsSameNumber extended bytes n
 standard_is_decimal bytes n (negative, whole, parts, is) =
     let v = integer_value negative (digits_value 10 whole) n is in
     let joined : bytes ≡ sign_text negative ++ whole = parts.joined ∙ ap (λ w. sign_text negative ++ w) (append-nil whole) in

@@ -72,14 +72,14 @@ at_depth mode zero bytes t s = s
 at_depth mode (suc depth) bytes t s = scalar s
 
 -- the bytes are a number text of this scale and whole number
-pub record IsReadAs (mode : Mode) (bytes : List ℕ) (n : Num) : Type 0 where
+pub record SpellsSameNumber (mode : Mode) (bytes : List ℕ) (n : Num) : Type 0 where
   pub read : Num
   pub is_number : IsNumber mode bytes read
   pub scales : read.scale ≡ n.scale
   pub wholes : read.whole ≡ n.whole
 
 -- the tree's text is derived for a tree that is the same and has this text
-record IsReadAt (mode : Mode) (depth : ℕ) (t : Tree) : Type 0 where
+record SpellsSameTree (mode : Mode) (depth : ℕ) (t : Tree) : Type 0 where
   tree : Tree
   derived : Derives mode depth (tree_text t) tree
   same : tree_cmp tree t ≡ Equal
@@ -153,15 +153,15 @@ same_ascent Value (more_members k t ms) (more_members l u ns) h a = (same_below 
 
 -- ---- values
 
-module _ (mode : Mode) (IsIn : Num → Type 0) (short : (n : Num) → IsProperNumber n → IsIn n → IsShort n) (number_reads_back : (n : Num) → IsProperNumber n → IsIn n → IsReadAs mode (number_text n) n) where
-  read_null : (depth : ℕ) → IsReadAt mode depth null
+module _ (mode : Mode) (IsIn : Num → Type 0) (short : (n : Num) → IsProperNumber n → IsIn n → IsShort n) (number_reads_back : (n : Num) → IsProperNumber n → IsIn n → SpellsSameNumber mode (number_text n) n) where
+  read_null : (depth : ℕ) → SpellsSameTree mode depth null
   read_null depth = record { tree = null; derived = at_depth mode depth _ null (literal_value (null_word (own_word mode (codes "null") refl))); same = refl; text = refl }
 
-  read_boolean : (b : Bool) (depth : ℕ) → IsReadAt mode depth (boolean b)
+  read_boolean : (b : Bool) (depth : ℕ) → SpellsSameTree mode depth (boolean b)
   read_boolean true depth = record { tree = boolean true; derived = at_depth mode depth _ (boolean true) (literal_value (true_word (own_word mode (codes "true") refl))); same = refl; text = refl }
   read_boolean false depth = record { tree = boolean false; derived = at_depth mode depth _ (boolean false) (literal_value (false_word (own_word mode (codes "false") refl))); same = refl; text = refl }
 
-  read_string : (mark : Mark) (bytes : List ℕ) (depth : ℕ) → IsUtf8 bytes → IsReadAt mode depth (string mark bytes)
+  read_string : (mark : Mark) (bytes : List ℕ) (depth : ℕ) → IsUtf8 bytes → SpellsSameTree mode depth (string mark bytes)
   read_string mark bytes depth utf8 =
       let r = reads_back mode bytes utf8 in
       record {
@@ -171,7 +171,7 @@ module _ (mode : Mode) (IsIn : Num → Type 0) (short : (n : Num) → IsProperNu
         text = refl;
       }
 
-  read_number : (n : Num) (depth : ℕ) → IsProperNumber n → IsIn n → IsReadAt mode depth (number n)
+  read_number : (n : Num) (depth : ℕ) → IsProperNumber n → IsIn n → SpellsSameTree mode depth (number n)
   read_number n depth p w =
       let r = number_reads_back n p w in
       record {
@@ -189,7 +189,7 @@ module _ (mode : Mode) (IsIn : Num → Type 0) (short : (n : Num) → IsProperNu
       record { first = b.first; rest = b.rest ++ others; joined = ap (λ text. text ++ others) b.joined; is = b.is }
 
   read_items : (t : Tree) (ts us : Trees) (depth : ℕ) → Begins IsTextByte (with_commas (item_texts (more_trees t ts))) → AreSpelled (Derives mode depth) (more_trees t ts) us → trees_cmp us (more_trees t ts) ≡ Equal
-      → item_texts us ≡ item_texts (more_trees t ts) → IsReadAt mode (suc depth) (array (more_trees t ts))
+      → item_texts us ≡ item_texts (more_trees t ts) → SpellsSameTree mode (suc depth) (array (more_trees t ts))
   read_items t ts no_trees depth b spelled same texts = absurd spelled
   read_items t ts (more_trees u us) depth b spelled same texts = record {
     tree = array (more_trees u us);
@@ -199,12 +199,12 @@ module _ (mode : Mode) (IsIn : Num → Type 0) (short : (n : Num) → IsProperNu
     text = ap (λ parts. 91 ∷ with_commas parts ++ 93 ∷ []) texts;
   }
 
-  read_array : (ts : Trees) (depth : ℕ) → AreProper ts → AreWithin IsIn ts depth → AreReadAt mode depth ts → IsReadAt mode (suc depth) (array ts)
+  read_array : (ts : Trees) (depth : ℕ) → AreProper ts → AreWithin IsIn ts depth → AreReadAt mode depth ts → SpellsSameTree mode (suc depth) (array ts)
   read_array no_trees depth p w r = record { tree = array no_trees; derived = empty_array {blanks = []} no_blanks; same = refl; text = refl }
   read_array (more_trees t ts) depth p w r = read_items t ts r.trees depth (items_begin t ts depth p.0 w.0) r.spelled r.same r.texts
 
   read_members : (k : List ℕ) (t : Tree) (ms ns : Members) (depth : ℕ) → KeysAscend (more_members k t ms) → HaveProperParts (more_members k t ms) → HaveSpelled (Derives mode depth) (more_members k t ms) ns
-      → members_cmp ns (more_members k t ms) ≡ Equal → member_texts ns ≡ member_texts (more_members k t ms) → IsReadAt mode (suc depth) (object (more_members k t ms))
+      → members_cmp ns (more_members k t ms) ≡ Equal → member_texts ns ≡ member_texts (more_members k t ms) → SpellsSameTree mode (suc depth) (object (more_members k t ms))
   read_members k t ms no_members depth a p spelled same texts = absurd spelled
   read_members k t ms (more_members l u ns) depth a p spelled same texts =
       let rising = same_ascent (Derives mode depth) (more_members k t ms) (more_members l u ns) spelled a in
@@ -216,11 +216,11 @@ module _ (mode : Mode) (IsIn : Num → Type 0) (short : (n : Num) → IsProperNu
         text = ap (λ parts. 123 ∷ with_commas parts ++ 125 ∷ []) texts;
       }
 
-  read_object : (ms : Members) (depth : ℕ) → IsProper (object ms) → HaveReadAt mode depth ms → IsReadAt mode (suc depth) (object ms)
+  read_object : (ms : Members) (depth : ℕ) → IsProper (object ms) → HaveReadAt mode depth ms → SpellsSameTree mode (suc depth) (object ms)
   read_object no_members depth p r = record { tree = object no_members; derived = empty_object {blanks = []} no_blanks; same = refl; text = refl }
   read_object (more_members k t ms) depth p r = read_members k t ms r.members depth p.0 p.1 r.spelled r.same r.texts
 
-  read_next : (t : Tree) (ts : Trees) (depth : ℕ) → IsReadAt mode depth t → AreReadAt mode depth ts → AreReadAt mode depth (more_trees t ts)
+  read_next : (t : Tree) (ts : Trees) (depth : ℕ) → SpellsSameTree mode depth t → AreReadAt mode depth ts → AreReadAt mode depth (more_trees t ts)
   read_next t ts depth first others = record {
     trees = more_trees first.tree others.trees;
     spelled = (first.derived, others.spelled);
@@ -228,7 +228,7 @@ module _ (mode : Mode) (IsIn : Num → Type 0) (short : (n : Num) → IsProperNu
     texts = λ i. first.text i ∷ others.texts i;
   }
 
-  read_next_member : (k : List ℕ) (t : Tree) (ms : Members) (depth : ℕ) → IsReadAt mode depth t → HaveReadAt mode depth ms → HaveReadAt mode depth (more_members k t ms)
+  read_next_member : (k : List ℕ) (t : Tree) (ms : Members) (depth : ℕ) → SpellsSameTree mode depth t → HaveReadAt mode depth ms → HaveReadAt mode depth (more_members k t ms)
   read_next_member k t ms depth first others = record {
     members = more_members k first.tree others.members;
     spelled = (refl, first.derived, others.spelled);
@@ -237,7 +237,7 @@ module _ (mode : Mode) (IsIn : Num → Type 0) (short : (n : Num) → IsProperNu
   }
 
   mutual
-    read_tree : (t : Tree) (depth : ℕ) → IsProper t → IsWithin IsIn t depth → IsReadAt mode depth t
+    read_tree : (t : Tree) (depth : ℕ) → IsProper t → IsWithin IsIn t depth → SpellsSameTree mode depth t
     read_tree null depth p w = read_null depth
     read_tree (boolean b) depth p w = read_boolean b depth
     read_tree (string mark bytes) depth p w = read_string mark bytes depth p

@@ -30,11 +30,11 @@ keys_sorted [] h = tt
 keys_sorted (e ∷ es) h = (above_key (string_bytes e.0) es h.0, keys_sorted es h.1)
 
 -- the members that pairs are
-abbrev pub members_from : List Member → Members
-members_from [] = no_members
-members_from (m ∷ ms) = more_members m.0 m.1 (members_from ms)
+abbrev pub members_of_pairs : List Member → Members
+members_of_pairs [] = no_members
+members_of_pairs (m ∷ ms) = more_members m.0 m.1 (members_of_pairs ms)
 
-pub members_view-pairs_view : (es : List Entry) → members_view es ≡ members_from (pairs_view es)
+pub members_view-pairs_view : (es : List Entry) → members_view es ≡ members_of_pairs (pairs_view es)
 members_view-pairs_view [] = refl
 members_view-pairs_view (e ∷ es) = ap (more_members (string_bytes e.0) (view e.1)) (members_view-pairs_view es)
 
@@ -84,7 +84,7 @@ members_view-found (x ∷ xs) (y ∷ ys) s t h =
 
 -- pairs that look alike are the same members
 pub members_view-alike : (es fs : List Entry) → pairs_view es ≡ pairs_view fs → members_view es ≡ members_view fs
-members_view-alike es fs h = members_view-pairs_view es ∙ ap members_from h ∙ sym (members_view-pairs_view fs)
+members_view-alike es fs h = members_view-pairs_view es ∙ ap members_of_pairs h ∙ sym (members_view-pairs_view fs)
 
 pub members_view-built : (es : List Entry) (m : BTreeMap (String Global) Value) → KeysAscend (members_view es) → IsFromIterResult string_cmp es m → members_view m.entries ≡ members_view es
 members_view-built es m h made =

@@ -5,7 +5,7 @@ use Rattle.jsonb_value.specs.Owned.{owned, owned_items, owned_members}
 use Rattle.jsonb_value.specs.Tree.{Member, Members, no_members, more_members, trees_of, more_trees}
 use Rattle.jsonb_value.specs.View.{view, trees_view, members_view, pairs_view}
 use Rattle.jsonb_value.specs.declared.value.Value.{Value}
-use Rattle.jsonb_value.proofs.Values.Built.{members_from, members_view-pairs_view}
+use Rattle.jsonb_value.proofs.Values.Built.{members_of_pairs, members_view-pairs_view}
 use Rattle.jsonb_value.proofs.Values.Members.{Entry}
 
 -- each key with its value's tree, the strings of which are owned
@@ -16,13 +16,13 @@ pub owned_items-trees_view : (vs : List Value) → trees_of (map (λ v. owned (v
 owned_items-trees_view [] = refl
 owned_items-trees_view (v ∷ vs) = ap (more_trees (owned (view v))) (owned_items-trees_view vs)
 
-from_owned_pairs : (es : List Entry) → members_from (owned_pairs es) ≡ owned_members (members_view es)
+from_owned_pairs : (es : List Entry) → members_of_pairs (owned_pairs es) ≡ owned_members (members_view es)
 from_owned_pairs [] = refl
 from_owned_pairs (e ∷ es) = ap (more_members (string_bytes e.0) (owned (view e.1))) (from_owned_pairs es)
 
 -- pairs that are those of the entries with owned strings are the members with owned strings
 pub members_view-owned : (es fs : List Entry) → pairs_view es ≡ owned_pairs fs → members_view es ≡ owned_members (members_view fs)
-members_view-owned es fs h = members_view-pairs_view es ∙ ap members_from h ∙ from_owned_pairs fs
+members_view-owned es fs h = members_view-pairs_view es ∙ ap members_of_pairs h ∙ from_owned_pairs fs
 
 below_owned : (k : List ℕ) (ms : Members) → IsBelowKeys k ms → IsBelowKeys k (owned_members ms)
 below_owned k no_members h = tt

@@ -14,17 +14,17 @@ mark_of (escape letter byte ∷ items) = escaped
 mark_of (unit braces digits ∷ items) = escaped
 
 -- an item that may stand between these quotes: any but the quote itself, raw
-abbrev pub IsInside : ℕ → Item → Type 0
-IsInside quote (raw byte) = byte ≢ quote
-IsInside quote (escape letter byte) = Unit {0}
-IsInside quote (unit braces digits) = Unit {0}
+abbrev pub MayStandIn : ℕ → Item → Type 0
+MayStandIn quote (raw byte) = byte ≢ quote
+MayStandIn quote (escape letter byte) = Unit {0}
+MayStandIn quote (unit braces digits) = Unit {0}
 
 -- the bytes are a string in these quotes, which means this text
 pub record Quoted (mode : Mode) (quote : ℕ) (bytes text : List ℕ) (mark : Mark) : Type 0 where
   pub items : List Item
   pub spelled : bytes ≡ quote ∷ flat_map spelling items ++ quote ∷ []
   pub each : AllByRecursion (IsItem mode) items
-  pub inside : AllByRecursion (IsInside quote) items
+  pub inside : AllByRecursion (MayStandIn quote) items
   pub meant : text ≡ meaning items
   pub utf8 : IsUtf8 text
   pub marked : mark ≡ mark_of items

@@ -48,5 +48,5 @@ pub record IsNoText (mode : Mode) (bytes : List ℕ) (code : Code) (read : ℕ) 
   pub count : read ≡ length bytes
 
 -- the bytes are no body: what is wrong, and how many of them are read then
-abbrev pub Fault : Mode → List ℕ → Code → ℕ → Type 0
-Fault mode bytes code read = IsCutShort mode bytes code read ⊎ IsNoText mode bytes code read
+abbrev pub IsFaultyBody : Mode → List ℕ → Code → ℕ → Type 0
+IsFaultyBody mode bytes code read = IsCutShort mode bytes code read ⊎ IsNoText mode bytes code read

@@ -11,7 +11,7 @@ extension_text (interval months days micros) = Some (interval_text months days m
 extension_text t = None
 
 -- new is old with the tree's text at its end
-pub record AppendsExtension (t : Tree) (old new : List ℕ) : Type 0 where
+pub record AppendsExtensionText (t : Tree) (old new : List ℕ) : Type 0 where
   pub bytes : List ℕ
   pub is_text : extension_text t ≡ Some bytes
   pub appended : new ≡ old ++ bytes

@@ -9,15 +9,15 @@ unfoldable pub amount_text : ℤ → List ℕ → List ℕ
 amount_text amount name = if unsigned_abs amount == 0 then [] else signed_decimal amount ++ 32 ∷ name ++ (if unsigned_abs amount == 1 then [] else 115 ∷ [])
 
 -- a point and six digits, or nothing for 0
-unfoldable pub fraction_text : ℕ → List ℕ
-fraction_text micros = if micros == 0 then [] else 46 ∷ zero_padded 6 (decimal micros)
+unfoldable pub microseconds_text : ℕ → List ℕ
+microseconds_text micros = if micros == 0 then [] else 46 ∷ zero_padded 6 (decimal micros)
 
 -- hours, minutes and seconds, each of two digits, of which the hours may be more, and the rest
 unfoldable pub clock_text : ℕ → List ℕ
 clock_text micros = zero_padded 2 (decimal (micros / 3600000000))
     ++ 58 ∷ zero_padded 2 (decimal (micros / 60000000 % 60))
     ++ 58 ∷ zero_padded 2 (decimal (micros / 1000000 % 60))
-    ++ fraction_text (micros % 1000000)
+    ++ microseconds_text (micros % 1000000)
 
 -- a time of day's length, with a minus if negative: nothing for 0
 unfoldable pub time_text : ℤ → List ℕ

@@ -5,9 +5,9 @@ use Rattle.jsonb_value.specs.Mode.{Mode, standard, extended}
 use Rattle.jsonb_value.specs.Tree.{Form, int64, uint64, decimal64, decimal128, Num, Tree, null, boolean, string, number, array, object, Trees, no_trees, more_trees, Members, no_members, more_members}
 
 -- what a container may hold, where it may be opened: at one less than the depth that is left
-abbrev pub IsInside : (ℕ → Type 0) → ℕ → Type 0
-IsInside Within zero = ⊥
-IsInside Within (suc depth) = Within depth
+abbrev pub IsOneDeeper : (ℕ → Type 0) → ℕ → Type 0
+IsOneDeeper Within zero = ⊥
+IsOneDeeper Within (suc depth) = Within depth
 
 module _ (IsIn : Num → Type 0) where
   abbrev mutual
@@ -17,8 +17,8 @@ module _ (IsIn : Num → Type 0) where
     IsWithin (boolean b) depth = ⊤
     IsWithin (string mark bytes) depth = ⊤
     IsWithin (number n) depth = IsIn n
-    IsWithin (array ts) depth = IsInside (AreWithin ts) depth
-    IsWithin (object ms) depth = IsInside (HaveWithin ms) depth
+    IsWithin (array ts) depth = IsOneDeeper (AreWithin ts) depth
+    IsWithin (object ms) depth = IsOneDeeper (HaveWithin ms) depth
     IsWithin t depth = ⊥
 
     -- each item is

@@ -4,8 +4,8 @@ ghost use Rattle.std.specs.Fmt.{decimal, sign_text};
 ghost use Rattle.std.specs.Fmt.InlineText.{inline_text};
 ghost use Rattle.std.specs.Vec.{vec_capacity};
 ghost use Rattle.jsonb_value.specs.Text.BinaryText.{hexadecimal_pair, binary_text};
-ghost use Rattle.jsonb_value.specs.Text.ExtensionText.{extension_text, AppendsExtension};
-ghost use Rattle.jsonb_value.specs.Text.IntervalText.{amount_text, fraction_text, clock_text, time_text, with_blank, beside, interval_text};
+ghost use Rattle.jsonb_value.specs.Text.ExtensionText.{extension_text, AppendsExtensionText};
+ghost use Rattle.jsonb_value.specs.Text.IntervalText.{amount_text, microseconds_text, clock_text, time_text, with_blank, beside, interval_text};
 ghost use Rattle.jsonb_value.specs.Text.NumberText.{zero_padded};
 ghost use Rattle.jsonb_value.specs.View.{extension_view};
 
@@ -91,7 +91,7 @@ fn sign_of(negative: bool) -> &'static str
 // The text and a point and six digits, which are left out where they are 0.
 fn and_fraction(text: IntervalText, micros: u64) -> IntervalText
     requires { length (inline_text text) + 21 ≤ 160 }
-    ensures { inline_text result ≡ inline_text text ++ fraction_text micros }
+    ensures { inline_text result ≡ inline_text text ++ microseconds_text micros }
 {
     if micros == 0 {
         text
@@ -192,7 +192,7 @@ impl ExtensionValue<'_> {
     /// whole text.
     pub fn write_text(&self, buf: &mut Vec<u8>) -> Result<()>
         ensures ok { OnOk result
-            (AppendsExtension (extension_view self.now) buf.old.items buf.new.items) }
+            (AppendsExtensionText (extension_view self.now) buf.old.items buf.new.items) }
         ensures err { OnErr result (buf.new.items ≡ buf.old.items) }
         ensures unexpected { IsErrOf result Error.UnexpectedType
             ↔ (extension_text (extension_view self.now) ≡ None) }

@@ -1,6 +1,6 @@
 //! `clone` of a value, member by member. What is borrowed stays borrowed.
 ghost use Rattle.std.specs.Prelude.{◌≡◌, IfOk, IfErr};
-ghost use Rattle.jsonb_value.specs.Parts.{HoldsNoMemory};
+ghost use Rattle.jsonb_value.specs.Accessors.{HoldsNoMemory};
 ghost use Rattle.jsonb_value.specs.Tree.{escaped};
 ghost use Rattle.std.specs.Cow.{cow_str_bytes};
 ghost use Rattle.jsonb_value.specs.Keys.{KeysAscend};

@@ -3,7 +3,7 @@ ghost use Rattle.std.specs.Prelude.{◌≡◌, ◌⊎◌, IfOk, IfErr, true, fal
 ghost use Rattle.std.specs.Cow.{cow_str_bytes};
 ghost use Rattle.std.specs.Result.{IsErrOf};
 ghost use Rattle.jsonb_value.specs.Owned.{owned, owned_items, owned_members, holds_binary, items_hold_binary, members_hold_binary};
-ghost use Rattle.jsonb_value.specs.Parts.{HoldsNoMemory};
+ghost use Rattle.jsonb_value.specs.Accessors.{HoldsNoMemory};
 ghost use Rattle.jsonb_value.specs.Tree.{escaped};
 ghost use Rattle.jsonb_value.specs.View.{view, trees_view, members_view, mark_view};
 

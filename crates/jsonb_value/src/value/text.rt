@@ -15,7 +15,7 @@ ghost use Rattle.jsonb_value.specs.Proper.{IsProper, AreProper, HaveProperParts}
 ghost use Rattle.jsonb_value.specs.Text.Range.{IsIntegerRange, IsInRangeOf};
 ghost use Rattle.jsonb_value.specs.Text.ReadsBack.{StringReadsBack, ReadsBackAs};
 ghost use Rattle.jsonb_value.specs.Text.StringText.{byte_text, control_text, quoted_text};
-ghost use Rattle.jsonb_value.specs.Text.{has_text, items_have_texts, members_have_texts, in_quotes, tree_text, with_commas, item_texts, member_texts, text_of, Appends};
+ghost use Rattle.jsonb_value.specs.Text.{has_text, items_have_texts, members_have_texts, in_quotes, tree_text, with_commas, item_texts, member_texts, text_of, AppendsText};
 ghost use Rattle.jsonb_value.specs.Tree.{Tree};
 ghost use Rattle.jsonb_value.specs.View.{view, trees_view, members_view};
 
@@ -35,7 +35,7 @@ pub fn string_texts_read_back()
 type Appended = std::result::Result<(), AllocError>;
 
 impl Value<'_> {
-    /// Appends the value's text: JSON with no blanks, members in the order of their keys, binary data
+    /// AppendsText the value's text: JSON with no blanks, members in the order of their keys, binary data
     /// and intervals as strings. After a refusal `buf` has the same bytes as before.
     ///
     /// # Errors
@@ -43,7 +43,7 @@ impl Value<'_> {
     /// `UnexpectedType` where a date or a time stands in the value at any depth: it has no text then, and that is
     /// tested first. `OutOfMemory` only where `buf` has no room for the whole text.
     pub fn write_text(&self, buf: &mut Vec<u8>) -> Result<()>
-        ensures ok { OnOk result (Appends (view self.now) buf.old.items buf.new.items) }
+        ensures ok { OnOk result (AppendsText (view self.now) buf.old.items buf.new.items) }
         ensures err { OnErr result (buf.new.items ≡ buf.old.items) }
         ensures unexpected { IsErrOf result Error.UnexpectedType ↔ (text_of (view self.now) ≡ None) }
         ensures errors { IfErr result (λ e. (e ≡ Error.UnexpectedType) ⊎ (e ≡ Error.OutOfMemory)) }
@@ -185,7 +185,7 @@ fn append_members<'a>(members: &Object<'a>, buf: &mut Vec<u8>) -> Appended
     buf.extend_from_slice(b"}")
 }
 
-// Appends the comma before an item or a member. The first has none.
+// AppendsText the comma before an item or a member. The first has none.
 fn append_comma(is_first: bool, buf: &mut Vec<u8>) -> Appended
     ensures ok { OnOk result (buf.new.items ≡ buf.old.items ++ comma_before is_first) }
     ensures err { OnErr result (buf.new.items ≡ buf.old.items) }
@@ -200,7 +200,7 @@ fn append_comma(is_first: bool, buf: &mut Vec<u8>) -> Appended
     }
 }
 
-// Appends a member's key and the colon after it.
+// AppendsText a member's key and the colon after it.
 fn append_key(key: &String, buf: &mut Vec<u8>) -> Appended
     ensures ok { OnOk result (buf.new.items
         ≡ buf.old.items ++ (quoted_text (string_bytes key.now) ++ 58 ∷ [])) }
@@ -252,7 +252,7 @@ fn append_string(text: &str, buf: &mut Vec<u8>) -> Appended
     buf.extend_from_slice(b"\"")
 }
 
-// Appends a string's bytes, which mostly need no escape.
+// AppendsText a string's bytes, which mostly need no escape.
 #[inline(always)]
 fn append_escaped(bytes: &[u8], buf: &mut Vec<u8>) -> Appended
     ensures ok { OnOk result (buf.new.items ≡ buf.old.items ++ flat_map byte_text bytes.now) }
@@ -377,7 +377,7 @@ fn first_set(mask: u64, lanes: usize) -> usize
     }
 }
 
-// Appends a byte of a string, with an escape where it needs one.
+// AppendsText a byte of a string, with an escape where it needs one.
 fn append_byte(byte: u8, buf: &mut Vec<u8>) -> Appended
     ensures ok { OnOk result (buf.new.items ≡ buf.old.items ++ byte_text byte) }
     ensures err { OnErr result (buf.new.items ≡ buf.old.items) }

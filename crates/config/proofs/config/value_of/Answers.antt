@@ -1,6 +1,6 @@
 use Rattle.std.proofs.Common.{option_map, ap, ◌∙◌}
 use Rattle.jsonb.specs.View.{view}
-use Rattle.jsonb_value.proofs.Values.Parts.{option_map-lookup}
+use Rattle.jsonb_value.proofs.Values.Accessors.{option_map-lookup}
 use Rattle.config.proofs.Settings.{seen, at_key}
 use Rattle.config.proofs.config.value_of.Goals as goal
 

@@ -1,13 +1,13 @@
 //! UTF-16 code units, four hexadecimal digits each.
 ghost use Rattle.std.specs.Prelude.{List, ◌≡◌, ◌≢◌, ℕ, ◌+◌, ◌*◌, ◌^◌, ◌≤◌, ◌<◌, ◌++◌, ◌∷◌, length, vec_len, vec_capacity, All, ◌||◌, IfOk, IfErr, IfSome, IfNone, Some, None, true, false, ◌⊎◌};
 ghost use Rattle.std.specs.Char.{digit_value, encode_utf8, InScalarRange};
-ghost use Rattle.jsonb_value.specs.Mode.{Mode as Grammar};
+ghost use Rattle.jsonb_value.specs.Mode.{Mode as GrammarMode};
 ghost use Rattle.jsonb_value.specs.Code.{code_of};
 ghost use Rattle.jsonb_value.specs.Grammar.StringBody.{IsHexDigit, unit_value, is_high, is_low, kept, alone, together, Decodes};
 ghost use Rattle.jsonb_value.specs.Grammar.StringFault.{IsUnitCut, IsFirstNonDigit};
-ghost use Rattle.jsonb.specs.Decoding.{SplitsUnit, ReadsUnit, Adds, StopsInUnit, Stops};
+ghost use Rattle.jsonb.specs.Decoding.{SplitsUnit, ReadsUnit, Adds, StopsInUnit, StopsAtEscape};
 
-use super::Fault;
+use super::DecodingFault;
 use super::room::{extend_within, push_within};
 use jsonb_value::error::ParseErrorCode;
 
@@ -75,19 +75,19 @@ fn split_unit(bytes: &[u8]) -> Option<(&[u8], &[u8])>
 
 // The unit whose `\u` stands before the bytes.
 #[inline(always)]
-fn read_unit(bytes: &[u8]) -> std::result::Result<HexUnit<'_>, Fault>
+fn read_unit(bytes: &[u8]) -> std::result::Result<HexUnit<'_>, DecodingFault>
     ensures ok { IfOk result (λ unit. ReadsUnit bytes.now unit.digits.now unit.rest.now unit.value) }
     ensures long { IfOk result (λ unit. length unit.rest.now + 4 ≤ length bytes.now) }
     ensures err { IfErr result (λ fault. StopsInUnit bytes.now (code_of fault.code) fault.left) }
 {
     let Some((digits, rest)) = split_unit(bytes) else {
-        return Err(Fault {
+        return Err(DecodingFault {
             code: ParseErrorCode::UnexpectedEndOfHexEscape,
             left: bytes.len(),
         });
     };
     if let Some(byte) = first_non_digit(digits) {
-        return Err(Fault {
+        return Err(DecodingFault {
             code: ParseErrorCode::InvalidHex(byte),
             left: rest.len(),
         });
@@ -214,13 +214,13 @@ fn after_next_mark<'a>(unit: &HexUnit<'a>) -> Option<&'a [u8]>
 // Decodes the unit whose `\u` stands before the bytes, with the next one where the two are taken together. Returns
 // what follows.
 #[inline(always)]
-pub(super) fn units<'a>(bytes: &'a [u8], text: &mut Vec<u8>) -> std::result::Result<&'a [u8], Fault>
+pub(super) fn units<'a>(bytes: &'a [u8], text: &mut Vec<u8>) -> std::result::Result<&'a [u8], DecodingFault>
     requires { vec_len text.old + 2 + length bytes.now ≤ vec_capacity text.old }
-    ensures ok { IfOk result (λ rest. (mode : Grammar) → Adds mode
+    ensures ok { IfOk result (λ rest. (mode : GrammarMode) → Adds mode
         (92 ∷ 117 ∷ bytes.now) rest.now text.old.items text.new.items) }
     ensures shorter { IfOk result (λ rest. length rest.now ≤ length bytes.now) }
     ensures room { IfOk result (λ rest. vec_len text.new + length rest.now ≤ vec_len text.old + 2 + length bytes.now) }
-    ensures err { IfErr result (λ fault. (mode : Grammar) → Stops mode (92 ∷ 117 ∷ bytes.now)
+    ensures err { IfErr result (λ fault. (mode : GrammarMode) → StopsAtEscape mode (92 ∷ 117 ∷ bytes.now)
         (code_of fault.code) fault.left) }
     ensures capacity { vec_capacity text.old ≤ vec_capacity text.new }
 {

@@ -1,7 +1,7 @@
 use Rattle.std.proofs.Common.{◌≡◌, ◌↔◌, ℕ, List, [], ◌∷◌, ◌++◌, false, Result, Ok, Err, if◌then◌else◌, refl, sym, subst, ap, ◌∙◌, append_assoc}
 use Rattle.std.specs.Result.{is_err, is_ok}
 use Rattle.jsonb_value.specs.Grammar.{IsDocument}
-use Rattle.jsonb_value.specs.Text.{Appends}
+use Rattle.jsonb_value.specs.Text.{AppendsText}
 use Rattle.jsonb_value.specs.Tree.{Tree}
 use Rattle.jsonb_value.specs.View.{view}
 use Rattle.jsonb_value.specs.declared.value.Value.{Value}
@@ -18,7 +18,7 @@ done (Ok x) new now old e p = p
 done (Err x) new now old e p = cc
 
 -- the text of a document and a line feed, appended to old, are what the document's text gives again
-again : (mode : Mode) (t : Tree) (input old now new : List ℕ) → IsDocument (mode_of mode) input t → Appends t old now → new ≡ now ++ 10 ∷ [] → (text : List ℕ) → new ≡ old ++ (text ++ 10 ∷ [])
+again : (mode : Mode) (t : Tree) (input old now new : List ℕ) → IsDocument (mode_of mode) input t → AppendsText t old now → new ≡ now ++ 10 ∷ [] → (text : List ℕ) → new ≡ old ++ (text ++ 10 ∷ [])
     → (line : List ℕ) → IsLineOf (mode_of mode) text line ↔ (line ≡ text ++ 10 ∷ [])
 again mode t input old now new document written pushed text ended line =
     let whole : new ≡ old ++ (written.bytes ++ 10 ∷ []) = pushed ∙ ap (λ bytes. bytes ++ 10 ∷ []) written.appended ∙ append_assoc old written.bytes (10 ∷ []) in

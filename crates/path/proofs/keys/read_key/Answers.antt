@@ -1,7 +1,7 @@
 use Rattle.std.proofs.Common.{◌≡◌, ◌++◌, Some, sym, subst, arith}
 use Rattle.path.specs.Path.{spelled_key}
-use Rattle.path.specs.Spelling.{byte_of}
-use Rattle.path.proofs.Spelling.{next_byte}
+use Rattle.path.specs.KeySpelling.{byte_of}
+use Rattle.path.proofs.KeySpelling.{next_byte}
 use Rattle.path.proofs.keys.read_key.Goals as goal
 
 pub bytes-preserved : goal.bytes-preserved

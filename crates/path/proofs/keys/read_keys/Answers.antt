@@ -1,7 +1,7 @@
 use Rattle.std.proofs.Common.{◌≡◌, ℕ, List, [], ◌∷◌, ◌++◌, map, string_bytes, String, Global, true≢false, sym, subst, ap, ◌∙◌}
 use Rattle.std.proofs.lemmas.List.{map-append, nil_from_length}
-use Rattle.path.specs.Spelling.{Reads}
-use Rattle.path.proofs.Spelling.{after_key, path_read, path_alone, no_slash, no_text}
+use Rattle.path.specs.KeySpelling.{Reads}
+use Rattle.path.proofs.KeySpelling.{after_key, path_read, path_alone, no_slash, no_text}
 use Rattle.path.proofs.keys.read_keys.Goals as goal
 
 moved : (bytes : List ℕ) (keys : List (List ℕ)) (rest more : List ℕ) (slash : ℕ) → Reads bytes keys rest → rest ≡ slash ∷ more → slash ≡ 47 → Reads bytes keys (47 ∷ more)

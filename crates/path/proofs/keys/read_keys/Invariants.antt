@@ -1,5 +1,5 @@
 use Rattle.std.proofs.Common.{length, map, string_bytes}
-use Rattle.path.specs.Spelling.{Reads}
+use Rattle.path.specs.KeySpelling.{Reads}
 use Rattle.path.proofs.keys.read_keys.Given as goal
 
 abbrev pub invariant-parts : goal.invariant-parts

@@ -1,5 +1,5 @@
 use Rattle.jsonb.specs.View.{view, trees_view}
-use Rattle.path.proofs.Parts.{item_missing}
+use Rattle.path.proofs.PathParts.{item_missing}
 use Rattle.path.proofs.part.child.Goals as goal
 
 pub returns-in-Some-as_array-clause-none : goal.returns-in-Some-as_array-clause-none

@@ -1,7 +1,7 @@
 use Rattle.std.proofs.Common.{◌≡◌, ◌<◌, Some, length, sym, ap, ◌∙◌, arith}
 use Rattle.std.proofs.lemmas.Grind.{common_steps}
 use Rattle.jsonb.specs.View.{view}
-use Rattle.path.proofs.Parts.{item_at-trees_view, item_within, one_index}
+use Rattle.path.proofs.PathParts.{item_at-trees_view, item_within, one_index}
 use Rattle.path.proofs.part.item.Goals as goal
 
 pub returns-in_default-clause-none : goal.returns-in_default-clause-none

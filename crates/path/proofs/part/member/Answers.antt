@@ -1,7 +1,7 @@
 use Rattle.std.proofs.Common.{option_map, ap, ◌∙◌}
 use Rattle.jsonb.specs.View.{view}
-use Rattle.jsonb_value.proofs.Values.Parts.{option_map-lookup}
-use Rattle.path.proofs.Parts.{seen}
+use Rattle.jsonb_value.proofs.Values.Accessors.{option_map-lookup}
+use Rattle.path.proofs.PathParts.{seen}
 use Rattle.path.proofs.part.member.Goals as goal
 
 pub returns : goal.returns

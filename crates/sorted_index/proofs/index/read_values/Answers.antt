@@ -3,7 +3,7 @@ use Rattle.jsonb.specs.Grammar.{IsDocument}
 use Rattle.jsonb.specs.Mode.{extended}
 use Rattle.jsonb.specs.View.{view}
 use Rattle.sorted_index.specs.Index.{contents, AreDocuments, no_documents}
-use Rattle.sorted_index.proofs.Documents.{next_document, first_fault}
+use Rattle.sorted_index.proofs.LinesRead.{next_document, first_fault}
 use Rattle.sorted_index.proofs.index.read_values.Goals as goal
 
 pub lines-init : goal.lines-init

@@ -1,6 +1,6 @@
 use Rattle.std.proofs.Common.{[], sym, subst, arith}
 use Rattle.sorted_index.specs.Index.{AreTexts, no_texts}
-use Rattle.sorted_index.proofs.Texts.{next_text}
+use Rattle.sorted_index.proofs.IndexTexts.{next_text}
 use Rattle.sorted_index.proofs.index.texts_of.Goals as goal
 
 pub values-init : goal.values-init

@@ -1,6 +1,6 @@
 use Rattle.std.proofs.Common.{◌≡◌, ◌+◌, ◌-◌, ◌<◌, length, take, refl, subst, arith}
 use Rattle.std.specs.Vec.{vec_len}
-use Rattle.jsonb.specs.Direct.{Stops}
+use Rattle.jsonb.specs.Direct.{ReadsParts}
 use Rattle.jsonb.specs.Parser.{mode_of, rest_of, size_of}
 use Rattle.jsonb.specs.Stack.{next_part_at}
 use Rattle.jsonb.proofs.Containers.OpenOfDirect.{filled, last-is, last-set, stopped_due}
@@ -17,7 +17,7 @@ returns-then-branch-clause-reads c whole ahead =
     let f = c.in_ok-frame.frame.now in
     let g = c.fill.new.frame in
     filled p q fs _ (take n fs) f g whole c.fill.ensures.advances (last-is fs n f last c.in_ok-frame.ensures.value) (last-set fs n g last)
-    (λ depth o h. subst (λ closed. Stops (size_of p) (mode_of p.mode) depth (next_part_at (size_of p) (mode_of p.mode) depth o (rest_of p)) closed g (rest_of q)) c.if-branch.true (c.in_ok-fill.ensures.reads depth o h))
+    (λ depth o h. subst (λ closed. ReadsParts (size_of p) (mode_of p.mode) depth (next_part_at (size_of p) (mode_of p.mode) depth o (rest_of p)) closed g (rest_of q)) c.if-branch.true (c.in_ok-fill.ensures.reads depth o h))
     ahead
 
 pub returns-clause-reads : goal.returns-clause-reads
@@ -32,5 +32,5 @@ returns-clause-reads c whole ahead =
     let g = c.fill.new.frame in
     c.open_container.ensures.reads whole
     (stopped_due p q fs _ (take n fs) f g whole c.fill.ensures.advances (last-is fs n f last c.in_ok-frame.ensures.value) (last-set fs n g last)
-    (λ depth o h. subst (λ closed. Stops (size_of p) (mode_of p.mode) depth (next_part_at (size_of p) (mode_of p.mode) depth o (rest_of p)) closed g (rest_of q)) c.if-branch.false (c.in_ok-fill.ensures.reads depth o h))
+    (λ depth o h. subst (λ closed. ReadsParts (size_of p) (mode_of p.mode) depth (next_part_at (size_of p) (mode_of p.mode) depth o (rest_of p)) closed g (rest_of q)) c.if-branch.false (c.in_ok-fill.ensures.reads depth o h))
     ahead)

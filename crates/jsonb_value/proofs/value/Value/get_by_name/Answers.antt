@@ -1,7 +1,7 @@
 use Rattle.std.proofs.Common.{option_map, sym, ap, ◌∙◌}
-use Rattle.jsonb_value.specs.Parts.{get_by_name}
+use Rattle.jsonb_value.specs.Accessors.{get_by_name}
 use Rattle.jsonb_value.specs.View.{view}
-use Rattle.jsonb_value.proofs.Values.Parts.{seen, view-Object, option_map-lookup}
+use Rattle.jsonb_value.proofs.Values.Accessors.{seen, view-Object, option_map-lookup}
 use Rattle.jsonb_value.proofs.value.Value.get_by_name.Goals as goal
 
 pub returns-in-Object : goal.returns-in-Object

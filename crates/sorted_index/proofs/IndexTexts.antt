@@ -1,7 +1,7 @@
 -- Texts written one after the other.
 use Rattle.std.proofs.Common.{◌≡◌, ℕ, ◌+◌, ◌<◌, List, [], ◌∷◌, ◌++◌, length, take, get_or, Some, sym, subst, ap, ◌∙◌, append_assoc, add-one, take-suc}
 use Rattle.jsonb.specs.View.{view}
-use Rattle.jsonb_value.specs.Text.{text_of, Appends}
+use Rattle.jsonb_value.specs.Text.{text_of, AppendsText}
 use Rattle.jsonb_value.specs.declared.value.Value.{Value}
 use Rattle.sorted_index.specs.Index.{AreTexts, no_texts, more_texts}
 
@@ -11,7 +11,7 @@ texts_push v text (more_texts {value = value} {text = first} {rest = rest} {valu
     subst (λ bytes. AreTexts (value ∷ (values ++ v ∷ [])) bytes) (sym (append_assoc first (10 ∷ rest) (text ++ 10 ∷ []))) (more_texts is_first (texts_push v text others is_text))
 
 -- one more value and its text
-pub next_text : (values : List Value) (i : ℕ) (v : Value) (old now new : List ℕ) → i < length values → v ≡ get_or values i v → AreTexts (take i values) old → Appends (view v) old now → new ≡ now ++ 10 ∷ [] → AreTexts (take (i + 1) values) new
+pub next_text : (values : List Value) (i : ℕ) (v : Value) (old now new : List ℕ) → i < length values → v ≡ get_or values i v → AreTexts (take i values) old → AppendsText (view v) old now → new ≡ now ++ 10 ∷ [] → AreTexts (take (i + 1) values) new
 next_text values i v old now new within is so_far written ended =
     let grown : take (i + 1) values ≡ take i values ++ v ∷ [] = rw add-one (take-suc values i v within) ∙ ap (λ x. take i values ++ x ∷ []) (sym is) in
     let whole : new ≡ old ++ (written.bytes ++ 10 ∷ []) = ended ∙ ap (λ bytes. bytes ++ 10 ∷ []) written.appended ∙ append_assoc old written.bytes (10 ∷ []) in

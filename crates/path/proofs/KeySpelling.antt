@@ -3,7 +3,7 @@ use Rattle.std.proofs.Common.{◌≡◌, ◌≢◌, ℕ, List, [], ◌∷◌, �
 use Rattle.std.proofs.lemmas.Str.{IsUtf8-string_bytes}
 use Rattle.std.specs.List.{AllByRecursion}
 use Rattle.path.specs.Path.{spelled_byte, spelled_key, spelled_keys, IsPath}
-use Rattle.path.specs.Spelling.{escape_of, byte_of, Reads}
+use Rattle.path.specs.KeySpelling.{escape_of, byte_of, Reads}
 
 abbrev read_as : ℕ → List ℕ → Option (ℕ × List ℕ)
 read_as b rest = Some (b, rest)
