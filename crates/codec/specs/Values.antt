@@ -39,12 +39,14 @@ EncodeRefuses t TooLong = (text : List ℕ) × (text_of t ≡ Some text) × (2 ^
 EncodeRefuses t CutShort = ⊥
 EncodeRefuses t (Refused e) = ((e ≡ error.UnexpectedType) × (text_of t ≡ None)) ⊎ (e ≡ error.OutOfMemory)
 
--- The bytes begin with no frame, or with the frame of a text that is no document, or memory ran out. The fault of the text is as reading tells it.
+-- The bytes begin with no frame, or with the frame of a text that is no document, or memory ran out. The fault of the
+-- text is as reading tells it.
 abbrev pub DecodeRefuses : List ℕ → Refusal → Type 0
 DecodeRefuses bytes TooLong = ⊥
 DecodeRefuses bytes CutShort = (text rest : List ℕ) → BeginsWith bytes text rest → ⊥
 DecodeRefuses bytes (Refused e) =
-    (text : List ℕ) × (rest : List ℕ) × BeginsWith bytes text rest × (e ≢ error.OutOfMemory → IsNoDocument extended text) × Fails e (document_of extended text)
+    (text : List ℕ) × (rest : List ℕ) × BeginsWith bytes text rest
+    × (e ≢ error.OutOfMemory → IsNoDocument extended text) × Fails e (document_of extended text)
 
 -- the bytes of each line
 abbrev pub contents : List (Vec ℕ Global) → List (List ℕ)
@@ -53,7 +55,8 @@ contents lines = map (λ line. line.items) lines
 -- Each line is a document, and the bytes are frames of the same trees with the same texts, one after the other.
 pub data AreEncoded : List (List ℕ) → List ℕ → Type 0 where
   no_lines : AreEncoded [] []
-  more_lines : {line bytes rest : List ℕ} {t : Tree} {lines : List (List ℕ)} → IsDocument extended line t → DecodesAs bytes t rest → AreEncoded lines rest → AreEncoded (line ∷ lines) bytes
+  more_lines : {line bytes rest : List ℕ} {t : Tree} {lines : List (List ℕ)} → IsDocument extended line t
+      → DecodesAs bytes t rest → AreEncoded lines rest → AreEncoded (line ∷ lines) bytes
 
 -- new is old with the tree's text and a line feed at its end
 pub record AppendsLine (t : Tree) (old new : List ℕ) : Type 0 where
@@ -70,4 +73,5 @@ pub record DecodesLine (bytes rest old new : List ℕ) : Type 0 where
 -- The bytes are frames, and the text has a line for each: the text of its tree and a line feed.
 pub data AreDecoded : List ℕ → List ℕ → Type 0 where
   no_frames : AreDecoded [] []
-  more_frames : {bytes rest line others : List ℕ} → DecodesLine bytes rest [] line → AreDecoded rest others → AreDecoded bytes (line ++ others)
+  more_frames : {bytes rest line others : List ℕ} → DecodesLine bytes rest [] line → AreDecoded rest others
+      → AreDecoded bytes (line ++ others)

@@ -101,8 +101,10 @@ NamesPlace text setting other = ⊥
 -- The text is no document, or one of no object, or a setting of its object is wrong, or memory ran out.
 abbrev pub Refuses : List ℕ → Refusal → Type 0
 Refuses text (refusal.NoDocument e line column) =
-    (e ≢ error.OutOfMemory → IsNoDocument extended text) × Fails e (document_of extended text) × ((line, column) ≡ place_after (take (fault_position e) text))
+    (e ≢ error.OutOfMemory → IsNoDocument extended text) × Fails e (document_of extended text)
+    × ((line, column) ≡ place_after (take (fault_position e) text))
 Refuses text refusal.NoObject = (t : Tree) × IsDocument extended text t × (as_object t ≡ None)
 Refuses text (refusal.Wrong setting line column) =
-    (t : Tree) × IsDocument extended text t × (ms : Members) × (as_object t ≡ Some ms) × IsWrong setting (setting_of setting ms) × EndsKey text setting line column
+    (t : Tree) × IsDocument extended text t × (ms : Members) × (as_object t ≡ Some ms)
+    × IsWrong setting (setting_of setting ms) × EndsKey text setting line column
 Refuses text refusal.NoMemory = ⊤

@@ -1,4 +1,5 @@
--- Reading with no JsonAst between: the arrays and objects that are open while their values are made, and what is left to read.
+-- Reading with no JsonAst between: the arrays and objects that are open while their values are made, and what is left
+-- to read.
 use Rattle.std.specs.Prelude.{◌≡◌, ℕ, suc, ◌-◌, Bool, true, false, List, [], ◌∷◌, ◌++◌, length, Ok, None, map, String, string_bytes}
 use Rattle.std.specs.BTreeMap.{insert_entry, is_at}
 use Rattle.std.specs.Map.{lookup}
@@ -76,7 +77,8 @@ stopped_at size mode depth false c rest = value_at size mode depth rest >>= fini
 -- the outermost container, from the end or from a part of the innermost on
 abbrev pub outer_at : ℕ → Mode → ℕ → Bool → List Open → List ℕ → Read Tree
 outer_at size mode depth closed [] rest = Ok (null, rest)
-outer_at size mode depth closed (c ∷ cs) rest = part_at size mode depth closed c rest >>= resume size mode (suc depth) cs
+outer_at size mode depth closed (c ∷ cs) rest =
+    part_at size mode depth closed c rest >>= resume size mode (suc depth) cs
 
 -- how deep a value may nest inside of these
 abbrev pub depth_within : List OpenValue → ℕ
@@ -89,11 +91,14 @@ abbrev pub Pushes : List Value → Read Tree → List Value → List ℕ → Typ
 Pushes before whole after rest = (v : Value) × (after ≡ before ++ v ∷ []) × (whole ≡ Ok (view v, rest))
 
 -- This was put in under a key that none had, and is what is read.
-abbrev pub PutsIn : List (String Global × Value) → String Global → Read Tree → List (String Global × Value) → List ℕ → Type 0
-PutsIn before key whole after rest = (v : Value) × (after ≡ insert_entry string_cmp before key v) × (lookup (is_at (string_cmp key)) before ≡ None) × (whole ≡ Ok (view v, rest))
+abbrev pub PutsIn : List (String Global × Value) → String Global → Read Tree → List (String Global × Value) → List ℕ
+    → Type 0
+PutsIn before key whole after rest = (v : Value) × (after ≡ insert_entry string_cmp before key v)
+    × (lookup (is_at (string_cmp key)) before ≡ None) × (whole ≡ Ok (view v, rest))
 
 -- Parts were read, up to the end of the container or up to a part that is a container itself.
-pub record ReadsParts (size : ℕ) (mode : Mode) (depth : ℕ) (whole : Read Tree) (closed : Bool) (frame : OpenValue) (rest : List ℕ) : Type 0 where
+pub record ReadsParts (size : ℕ) (mode : Mode) (depth : ℕ) (whole : Read Tree) (closed : Bool) (frame : OpenValue)
+    (rest : List ℕ) : Type 0 where
   pub so_far : Open
   pub held : IsHeld frame so_far
   pub reads : whole ≡ stopped_at size mode depth closed so_far rest
@@ -106,12 +111,17 @@ pub record Leaves (whole : Read Tree) (frames : List OpenValue) (left : List Ope
 
 -- A value is due.
 abbrev pub ValueIsDue : Read Tree → Parser → List OpenValue → Type 0
-ValueIsDue whole p frames = Leaves whole frames (λ cs. value_at (size_of p) (mode_of p.mode) (depth_within frames) (rest_of p) >>= resume (size_of p) (mode_of p.mode) (depth_within frames) cs)
+ValueIsDue whole p frames =
+    Leaves whole frames
+    (λ cs. value_at (size_of p) (mode_of p.mode) (depth_within frames) (rest_of p) >>= resume (size_of p)
+    (mode_of p.mode) (depth_within frames) cs)
 
 -- This was read inside of the containers.
 abbrev pub WasRead : Read Tree → Parser → List OpenValue → Tree → Type 0
-WasRead whole p frames t = Leaves whole frames (λ cs. resume (size_of p) (mode_of p.mode) (depth_within frames) cs (t, rest_of p))
+WasRead whole p frames t =
+    Leaves whole frames (λ cs. resume (size_of p) (mode_of p.mode) (depth_within frames) cs (t, rest_of p))
 
 -- The innermost container was read to its end, or a part of it begins.
 abbrev pub IsAhead : Read Tree → Parser → List OpenValue → Bool → Type 0
-IsAhead whole p frames closed = Leaves whole frames (λ cs. outer_at (size_of p) (mode_of p.mode) (depth_within frames) closed cs (rest_of p))
+IsAhead whole p frames closed =
+    Leaves whole frames (λ cs. outer_at (size_of p) (mode_of p.mode) (depth_within frames) closed cs (rest_of p))

@@ -1,4 +1,5 @@
--- What a reader has of its text so far: the open containers and the value that was read last, as they stand in the text.
+-- What a reader has of its text so far: the open containers and the value that was read last, as they stand in the
+-- text.
 use Rattle.std.specs.Prelude.{◌≡◌, ◌⊎◌, ℕ, ◌+◌, ◌≤◌, false, List, [], ◌∷◌, drop, map, Option, Some, None, Result, IfOk, ⊤}
 use Rattle.std.specs.Cow.{cow_str_bytes}
 use Rattle.jsonb_value.specs.Mode.{Mode, extended}
@@ -26,9 +27,11 @@ pub record Skips (mode : Mode) (input : List ℕ) (from to : ℕ) : Type 0 where
   pub onward : from ≤ to
 
 -- parts with a comma after each
-pub data ArePartsBefore {A : Type 0} (input : List ℕ) (AreJoined : ℕ → List A → ℕ → Type 0) (from : ℕ) : List A → ℕ → Type 0 where
+pub data ArePartsBefore {A : Type 0} (input : List ℕ) (AreJoined : ℕ → List A → ℕ → Type 0) (from : ℕ) : List A → ℕ
+    → Type 0 where
   no_parts : ArePartsBefore input AreJoined from [] from
-  parts_and_comma : {comma : ℕ} {parts : List A} → AreJoined from parts comma → HasByte input 44 comma → ArePartsBefore input AreJoined from parts (comma + 1)
+  parts_and_comma : {comma : ℕ} {parts : List A} → AreJoined from parts comma → HasByte input 44 comma
+      → ArePartsBefore input AreJoined from parts (comma + 1)
 
 -- an array that is open, from its bracket up to where an element is due
 pub record ArrayIsOpen (mode : Mode) (input : List ℕ) (from : ℕ) (ss : List Source) (due : ℕ) : Type 0 where
@@ -49,7 +52,8 @@ pub record MemberBegins (mode : Mode) (input : List ℕ) (from : ℕ) (key : Mar
   pub skips : Skips mode input (colon + 1) due
 
 -- an object that is open, from its brace up to where a value is due
-pub record ObjectIsOpen (mode : Mode) (input : List ℕ) (from : ℕ) (ms : List Placed) (key : Mark × List ℕ) (index due : ℕ) : Type 0 where
+pub record ObjectIsOpen (mode : Mode) (input : List ℕ) (from : ℕ) (ms : List Placed) (key : Mark × List ℕ)
+    (index due : ℕ) : Type 0 where
   pub next : ℕ
   pub opens : HasByte input 123 from
   pub members : ArePartsBefore input (AreMembersAt mode input) (from + 1) ms next
@@ -73,12 +77,16 @@ module _ (mode : Mode) (input : List ℕ) where
   -- a container that is open, up to where a value is due
   abbrev pub FrameIsPlaced : ℕ → Frame → ℕ → Type 0
   FrameIsPlaced from (variants.Array v) due = ArrayIsOpen mode input from (map source_view v.items) due
-  FrameIsPlaced from (variants.Object o) due = ObjectIsOpen mode input from (map placed_of o.members.items) (mark_view o.key, cow_str_bytes o.key) o.after due
+  FrameIsPlaced from (variants.Object o) due =
+      ObjectIsOpen mode input from (map placed_of o.members.items) (mark_view o.key, cow_str_bytes o.key) o.after due
 
   -- the same after its last part
   abbrev pub FrameIsRead : ℕ → Frame → ℕ → Type 0
-  FrameIsRead from (variants.Array v) to = HasByte input 91 from × (begins 93 (skip_blanks mode (drop (from + 1) input)) ≡ false) × AreElementsAt mode input (from + 1) (map source_view v.items) to
-  FrameIsRead from (variants.Object o) to = HasByte input 123 from × AreMembersAt mode input (from + 1) (map placed_of o.members.items) to
+  FrameIsRead from (variants.Array v) to = HasByte input 91 from
+      × (begins 93 (skip_blanks mode (drop (from + 1) input)) ≡ false)
+      × AreElementsAt mode input (from + 1) (map source_view v.items) to
+  FrameIsRead from (variants.Object o) to = HasByte input 123 from
+      × AreMembersAt mode input (from + 1) (map placed_of o.members.items) to
 
   -- containers that are open, one in the other, up to where a value is due
   abbrev pub StackIsPlaced : ℕ → List Frame → ℕ → Type 0
@@ -104,17 +112,24 @@ module _ (mode : Mode) (input : List ℕ) where
 
   -- the open containers, and the value that was read
   abbrev pub AllIsPlaced : ℕ → List Frame → ℕ → Option JsonAst → Type 0
-  AllIsPlaced start frames at read = (due : ℕ) × StackIsPlaced start frames due × ReadIsPlaced (ValueIsRead frames) due at read
+  AllIsPlaced start frames at read = (due : ℕ) × StackIsPlaced start frames due
+      × ReadIsPlaced (ValueIsRead frames) due at read
 
   -- the container that a step goes on with, and the value that was read
   abbrev pub PartIsPlaced : ℕ → Frame → ℕ → Option JsonAst → Type 0
-  PartIsPlaced from frame at read = (due : ℕ) × FrameIsPlaced from frame due × ReadIsPlaced (PartIsRead frame) due at read
+  PartIsPlaced from frame at read = (due : ℕ) × FrameIsPlaced from frame due
+      × ReadIsPlaced (PartIsRead frame) due at read
 
 -- Where the open containers and the value stood in the text before a call, they and what it read stand there after it.
-abbrev pub KeepsPlaces : Parser → List Frame → Option JsonAst → Result (Option JsonAst) Error → Parser → List Frame → Type 0
-KeepsPlaces old before read result new after = (start : ℕ) → AllIsPlaced (mode_of old.mode) old.buf.now start before old.idx read → IfOk result (AllIsPlaced (mode_of new.mode) new.buf.now start after new.idx)
+abbrev pub KeepsPlaces : Parser → List Frame → Option JsonAst → Result (Option JsonAst) Error → Parser → List Frame
+    → Type 0
+KeepsPlaces old before read result new after = (start : ℕ)
+    → AllIsPlaced (mode_of old.mode) old.buf.now start before old.idx read
+    → IfOk result (AllIsPlaced (mode_of new.mode) new.buf.now start after new.idx)
 
 -- The same of a call after the byte that opens a container.
 abbrev pub OpensContainer : ℕ → Parser → List Frame → Result (Option JsonAst) Error → Parser → List Frame → Type 0
-OpensContainer byte old before result new after = (start from : ℕ) → StackIsPlaced (mode_of old.mode) old.buf.now start before from → HasByte old.buf.now byte from → old.idx ≡ from + 1
+OpensContainer byte old before result new after = (start from : ℕ)
+    → StackIsPlaced (mode_of old.mode) old.buf.now start before from → HasByte old.buf.now byte from
+    → old.idx ≡ from + 1
     → IfOk result (AllIsPlaced (mode_of new.mode) new.buf.now start after new.idx)

@@ -51,9 +51,11 @@ IsTextRefusal (Syntax code place) = Unit {0}
 IsTextRefusal OutOfMemory = Unit {0}
 IsTextRefusal other = ⊥
 
--- What a call returned, seen by view, and the bytes that it left are what this function reads from the reader's index on.
+-- What a call returned, seen by view, and the bytes that it left are what this function reads from the reader's index
+-- on.
 abbrev pub ReadsAs : {X Y : Type 0} → (X → Y) → (ℕ → Mode → List ℕ → Read Y) → Result X Error → Parser → Parser → Type 0
-ReadsAs view read result old new = Gives (λ x. (view x, rest_of new)) result (read (size_of old) (mode_of old.mode) (rest_of old))
+ReadsAs view read result old new =
+    Gives (λ x. (view x, rest_of new)) result (read (size_of old) (mode_of old.mode) (rest_of old))
 
 -- The input holds a bracket or a brace that opens, or a backslash: a reader that asks for memory has met one.
 abbrev pub HoldsMarker : List ℕ → Type 0

@@ -48,42 +48,58 @@ source_members_of (m ∷ ms) = more_source_members m.0.0 m.0.1 m.1 m.2 (source_m
 abbrev pub SourceKeysAscend : SourceMembers → Type 0
 SourceKeysAscend no_source_members = ⊤
 SourceKeysAscend (more_source_members a k s i no_source_members) = ⊤
-SourceKeysAscend (more_source_members a k s i (more_source_members b l t j ms)) = (slice_cmp nat_cmp k l ≡ Less) × SourceKeysAscend (more_source_members b l t j ms)
+SourceKeysAscend (more_source_members a k s i (more_source_members b l t j ms)) = (slice_cmp nat_cmp k l ≡ Less)
+    × SourceKeysAscend (more_source_members b l t j ms)
 
 mutual
   -- From one place to the other the value is spelled. An object has its members in the order of their keys.
   pub data IsValueAt (mode : Mode) (input : List ℕ) : ℕ → Source → ℕ → Type 0 where
-    scalar : {from to : ℕ} {t : Tree} → Has input (λ bytes. IsScalar mode bytes t) from to → IsValueAt mode input from (source_alone t) to
-    empty_array : {from to : ℕ} → HasByte input 91 from → HasBlanks mode input (from + 1) to → HasByte input 93 to → IsValueAt mode input from (array_source (sources_of [])) (to + 1)
-    full_array : {from to : ℕ} {ss : List Source} → HasByte input 91 from → AreElementsAt mode input (from + 1) ss to → (HasBlanks mode input (from + 1) to → ⊥) → HasByte input 93 to
+    scalar : {from to : ℕ} {t : Tree} → Has input (λ bytes. IsScalar mode bytes t) from to
+        → IsValueAt mode input from (source_alone t) to
+    empty_array : {from to : ℕ} → HasByte input 91 from → HasBlanks mode input (from + 1) to → HasByte input 93 to
+        → IsValueAt mode input from (array_source (sources_of [])) (to + 1)
+    full_array : {from to : ℕ} {ss : List Source} → HasByte input 91 from → AreElementsAt mode input (from + 1) ss to
+        → (HasBlanks mode input (from + 1) to → ⊥) → HasByte input 93 to
         → IsValueAt mode input from (array_source (sources_of ss)) (to + 1)
-    empty_object : {from to : ℕ} → HasByte input 123 from → HasBlanks mode input (from + 1) to → HasByte input 125 to → IsValueAt mode input from (object_source (source_members_of [])) (to + 1)
-    full_object : {from to : ℕ} {written sorted : List Placed} → HasByte input 123 from → AreMembersAt mode input (from + 1) written to → HasByte input 125 to
-        → IsPermutation written sorted → SourceKeysAscend (source_members_of sorted) → IsValueAt mode input from (object_source (source_members_of sorted)) (to + 1)
+    empty_object : {from to : ℕ} → HasByte input 123 from → HasBlanks mode input (from + 1) to → HasByte input 125 to
+        → IsValueAt mode input from (object_source (source_members_of [])) (to + 1)
+    full_object : {from to : ℕ} {written sorted : List Placed} → HasByte input 123 from
+        → AreMembersAt mode input (from + 1) written to → HasByte input 125 to
+        → IsPermutation written sorted → SourceKeysAscend (source_members_of sorted)
+        → IsValueAt mode input from (object_source (source_members_of sorted)) (to + 1)
 
   -- elements with commas between
   pub data AreElementsAt (mode : Mode) (input : List ℕ) : ℕ → List Source → ℕ → Type 0 where
-    one_element : {from to : ℕ} {s : Source} → IsElementAt mode input from s to → AreElementsAt mode input from (s ∷ []) to
-    more_elements : {from comma to : ℕ} {s : Source} {others : List Source} → IsElementAt mode input from s comma → HasByte input 44 comma → AreElementsAt mode input (comma + 1) others to
+    one_element : {from to : ℕ} {s : Source} → IsElementAt mode input from s to
+        → AreElementsAt mode input from (s ∷ []) to
+    more_elements : {from comma to : ℕ} {s : Source} {others : List Source} → IsElementAt mode input from s comma
+        → HasByte input 44 comma → AreElementsAt mode input (comma + 1) others to
         → AreElementsAt mode input from (s ∷ others) to
 
   -- A value with blanks round it. In extended mode blanks alone stand for null.
   pub data IsElementAt (mode : Mode) (input : List ℕ) : ℕ → Source → ℕ → Type 0 where
-    whole_element : {from begin end to : ℕ} {s : Source} → HasBlanks mode input from begin → IsValueAt mode input begin s end → HasBlanks mode input end to → IsElementAt mode input from s to
-    empty_element : {from to : ℕ} → mode ≡ extended → HasBlanks mode input from to → IsElementAt mode input from null_source to
+    whole_element : {from begin end to : ℕ} {s : Source} → HasBlanks mode input from begin
+        → IsValueAt mode input begin s end → HasBlanks mode input end to → IsElementAt mode input from s to
+    empty_element : {from to : ℕ} → mode ≡ extended → HasBlanks mode input from to
+        → IsElementAt mode input from null_source to
 
   -- members with commas between
   pub data AreMembersAt (mode : Mode) (input : List ℕ) : ℕ → List Placed → ℕ → Type 0 where
     one_member : {from to : ℕ} {m : Placed} → IsMemberAt mode input from m to → AreMembersAt mode input from (m ∷ []) to
-    more_members : {from comma to : ℕ} {m : Placed} {others : List Placed} → IsMemberAt mode input from m comma → HasByte input 44 comma → AreMembersAt mode input (comma + 1) others to
+    more_members : {from comma to : ℕ} {m : Placed} {others : List Placed} → IsMemberAt mode input from m comma
+        → HasByte input 44 comma → AreMembersAt mode input (comma + 1) others to
         → AreMembersAt mode input from (m ∷ others) to
 
-  -- A key, a colon and a value, with blanks round the key and round the value. The index of the member is where its own key ends.
+  -- A key, a colon and a value, with blanks round the key and round the value. The index of the member is where its own
+  -- key ends.
   pub data IsMemberAt (mode : Mode) (input : List ℕ) : ℕ → Placed → ℕ → Type 0 where
-    key_and_value : {from begin index colon due end to : ℕ} {key : Mark × List ℕ} {s : Source} → HasBlanks mode input from begin → HasKey mode input begin key index → HasBlanks mode input index colon
-        → HasByte input 58 colon → HasBlanks mode input (colon + 1) due → IsValueAt mode input due s end → HasBlanks mode input end to → IsMemberAt mode input from (key, s, index) to
+    key_and_value : {from begin index colon due end to : ℕ} {key : Mark × List ℕ} {s : Source}
+        → HasBlanks mode input from begin → HasKey mode input begin key index → HasBlanks mode input index colon
+        → HasByte input 58 colon → HasBlanks mode input (colon + 1) due → IsValueAt mode input due s end
+        → HasBlanks mode input end to → IsMemberAt mode input from (key, s, index) to
 
 -- The whole text: a value with blanks round it. In extended mode blanks alone stand for null.
 pub data IsPlaced (mode : Mode) (input : List ℕ) : Source → Type 0 where
-  value_alone : {from to : ℕ} {s : Source} → HasBlanks mode input 0 from → IsValueAt mode input from s to → Has input (AreLastBlanks mode) to (length input) → IsPlaced mode input s
+  value_alone : {from to : ℕ} {s : Source} → HasBlanks mode input 0 from → IsValueAt mode input from s to
+      → Has input (AreLastBlanks mode) to (length input) → IsPlaced mode input s
   blanks_alone : mode ≡ extended → AreLastBlanks mode input → IsPlaced mode input null_source

@@ -37,7 +37,8 @@ EndsKey bytes (key_ends.Past at) = (key_end bytes ≡ Err at) × (at < length by
 -- bit k tells whether the byte at + k is the quote or a backslash, of those before end
 pub record TellsMarks (quote : ℕ) (bytes : List ℕ) (at end bits : ℕ) : Type 0 where
   pub within : end ≤ length bytes
-  pub set : (k : ℕ) → at + k < end → (slice_index bytes (at + k) ≡ quote) ⊎ (slice_index bytes (at + k) ≡ 92) → bit_at bits k ≡ 1
+  pub set : (k : ℕ) → at + k < end → (slice_index bytes (at + k) ≡ quote) ⊎ (slice_index bytes (at + k) ≡ 92)
+      → bit_at bits k ≡ 1
   pub marked : (k : ℕ) → bit_at bits k ≡ 1 → (slice_index bytes (at + k) ≡ quote) ⊎ (slice_index bytes (at + k) ≡ 92)
   pub short : (k : ℕ) → bit_at bits k ≡ 1 → at + k < end
 

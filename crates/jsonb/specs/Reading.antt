@@ -1,5 +1,5 @@
--- Reading from left to right as a function on lists: what is read and the bytes after it, or the first fault that is met.
--- This is the bridge between the code of the reader and the definition of its grammar.
+-- Reading from left to right as a function on lists: what is read and the bytes after it, or the first fault that is
+-- met. This is the bridge between the code of the reader and the definition of its grammar.
 pub mod BareKey
 pub mod Blank
 pub mod Container

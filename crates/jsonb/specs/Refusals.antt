@@ -28,15 +28,20 @@ IsSpelling mode bytes t = (depth : ℕ) × Derives mode depth bytes t
 -- any number of parts, with a comma after each
 pub data ArePassed {A : Type 0} (Spells : List ℕ → A → Type 0) : List ℕ → List A → Type 0 where
   no_parts : ArePassed Spells [] []
-  part_passed : {first rest : List ℕ} {a : A} {others : List A} → Spells first a → ArePassed Spells rest others → ArePassed Spells (first ++ 44 ∷ rest) (a ∷ others)
+  part_passed : {first rest : List ℕ} {a : A} {others : List A} → Spells first a → ArePassed Spells rest others
+      → ArePassed Spells (first ++ 44 ∷ rest) (a ∷ others)
 
--- The bytes up to where a value is due, with this many arrays and objects open: blanks, and then for each of these its opening byte,
--- what is passed of it, and blanks. Of an array elements are passed, and of an object members and then a key and a colon.
+-- The bytes up to where a value is due, with this many arrays and objects open: blanks, and then for each of these its
+-- opening byte, what is passed of it, and blanks. Of an array elements are passed, and of an object members and then a
+-- key and a colon.
 pub data IsFront (mode : Mode) : List ℕ → ℕ → Type 0 where
   front_of_blanks : {bytes : List ℕ} → IsBlanks mode bytes → IsFront mode bytes 0
-  in_array : {before elements rest : List ℕ} {ts : List Tree} {count : ℕ} → IsBlanks mode before → ArePassed (IsElement mode (IsSpelling mode)) elements ts → IsFront mode rest count
+  in_array : {before elements rest : List ℕ} {ts : List Tree} {count : ℕ} → IsBlanks mode before
+      → ArePassed (IsElement mode (IsSpelling mode)) elements ts → IsFront mode rest count
       → IsFront mode (before ++ 91 ∷ (elements ++ rest)) (suc count)
-  in_object : {before members left rest : List ℕ} {key : Mark × List ℕ} {ms : List Member} {count : ℕ} → IsBlanks mode before → ArePassed (IsMember mode (IsSpelling mode)) members ms → IsPadded mode (IsKey mode) left key → IsFront mode rest count
+  in_object : {before members left rest : List ℕ} {key : Mark × List ℕ} {ms : List Member} {count : ℕ}
+      → IsBlanks mode before → ArePassed (IsMember mode (IsSpelling mode)) members ms
+      → IsPadded mode (IsKey mode) left key → IsFront mode rest count
       → IsFront mode (before ++ 123 ∷ (members ++ (left ++ 58 ∷ rest))) (suc count)
 
 -- A value is due at a byte that begins none, and no blank begins there. A place counts from 1.
@@ -62,7 +67,8 @@ pub record IsTooDeep (mode : Mode) (input : List ℕ) (place : ℕ) : Type 0 whe
   pub is_front : IsFront mode front max_depth
   pub opens : (byte ≡ 91) ⊎ (byte ≡ 123)
 
--- What stands before the place is a document that is no blanks alone. No blank begins at the place, and no longer beginning of the input is a document.
+-- What stands before the place is a document that is no blanks alone. No blank begins at the place, and no longer
+-- beginning of the input is a document.
 pub record Trails (mode : Mode) (input : List ℕ) (place : ℕ) : Type 0 where
   pub before : List ℕ
   pub byte : ℕ
@@ -73,14 +79,15 @@ pub record Trails (mode : Mode) (input : List ℕ) (place : ℕ) : Type 0 where
   pub document : IsDocument mode before tree
   pub not_blank : IsBlanks mode before → ⊥
   pub no_blank : (blank rest : List ℕ) → IsBlank mode blank → byte ∷ others ≡ blank ++ rest → ⊥
-  pub longest : (longer rest : List ℕ) (t : Tree) → input ≡ longer ++ rest → length before < length longer → IsDocument mode longer t → ⊥
+  pub longest : (longer rest : List ℕ) (t : Tree) → input ≡ longer ++ rest → length before < length longer
+      → IsDocument mode longer t → ⊥
 
 -- how many of the members have the key
 abbrev pub times : List ℕ → List Member → ℕ
 times key ms = count_by (λ m. is_eq (slice_cmp nat_cmp m.0 key)) ms
 
--- The members in which a key comes twice: those before its second spelling, each with a comma, and then that one and the later ones.
--- No lesser key comes twice, by the bytes, and the second spelling ends after this many bytes.
+-- The members in which a key comes twice: those before its second spelling, each with a comma, and then that one and
+-- the later ones. No lesser key comes twice, by the bytes, and the second spelling ends after this many bytes.
 pub record Repeats (mode : Mode) (body key : List ℕ) (length_upto : ℕ) : Type 0 where
   pub passed : List ℕ
   pub blanks : List ℕ
@@ -100,7 +107,8 @@ pub record Repeats (mode : Mode) (body key : List ℕ) (length_upto : ℕ) : Typ
   pub least : (k : List ℕ) → slice_cmp nat_cmp k key ≡ Less → times k (earlier ++ again ∷ later) ≤ 1
   pub ends : length_upto ≡ length (passed ++ (blanks ++ spelled))
 
--- Where a value is due stands an object in which a key comes twice. The place is the index after the second spelling of the least such key.
+-- Where a value is due stands an object in which a key comes twice. The place is the index after the second spelling of
+-- the least such key.
 pub record RepeatsKey (mode : Mode) (input key : List ℕ) (place : ℕ) : Type 0 where
   pub front : List ℕ
   pub body : List ℕ
@@ -113,7 +121,8 @@ pub record RepeatsKey (mode : Mode) (input key : List ℕ) (place : ℕ) : Type 
   pub repeats : Repeats mode body key length_upto
   pub after_key : place ≡ length front + 1 + length_upto
 
--- Where a value is due stands a number that no tree carries, and no longer spelling of a number. The place is the index after it.
+-- Where a value is due stands a number that no tree carries, and no longer spelling of a number. The place is the index
+-- after it.
 pub record IsNotCarried (mode : Mode) (input : List ℕ) (place : ℕ) : Type 0 where
   pub front : List ℕ
   pub text : List ℕ
@@ -123,7 +132,8 @@ pub record IsNotCarried (mode : Mode) (input : List ℕ) (place : ℕ) : Type 0 
   pub within : count ≤ max_depth
   pub is_front : IsFront mode front count
   pub is_uncarried : IsUncarried mode text
-  pub longest : (longer rest : List ℕ) → text ++ others ≡ longer ++ rest → length text < length longer → IsNumberSpelling mode longer → ⊥
+  pub longest : (longer rest : List ℕ) → text ++ others ≡ longer ++ rest → length text < length longer
+      → IsNumberSpelling mode longer → ⊥
   pub after_text : place ≡ length front + length text
 
 -- What a refusal with this code at this place says of the input. Of other codes nothing is said.

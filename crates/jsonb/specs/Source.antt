@@ -80,5 +80,6 @@ abbrev mutual
 
   pub source_members_eq : SourceMembers → SourceMembers → Bool
   source_members_eq no_source_members no_source_members = true
-  source_members_eq (more_source_members a k s i ms) (more_source_members b l t j ns) = bytes_eq k l && source_eq s t && i == j && source_members_eq ms ns
+  source_members_eq (more_source_members a k s i ms) (more_source_members b l t j ns) = bytes_eq k l && source_eq s t
+      && i == j && source_members_eq ms ns
   source_members_eq ms ns = false

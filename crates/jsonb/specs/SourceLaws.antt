@@ -31,7 +31,8 @@ mutual
 
   source_members_refl : (ms : SourceMembers) → source_members_eq ms ms ≡ true
   source_members_refl no_source_members = refl
-  source_members_refl (more_source_members a k s n ms) = λ i. nat_list_eq_equiv.refl k i && same_refl s i && nat_eq_equiv.refl n i && source_members_refl ms i
+  source_members_refl (more_source_members a k s n ms) = λ i. nat_list_eq_equiv.refl k i && same_refl s i
+      && nat_eq_equiv.refl n i && source_members_refl ms i
 
 mutual
   same_symm : (s t : Source) → source_eq s t ≡ source_eq t s
@@ -50,7 +51,8 @@ mutual
 
   source_members_symm : (ms ns : SourceMembers) → source_members_eq ms ns ≡ source_members_eq ns ms
   source_members_symm no_source_members no_source_members = refl
-  source_members_symm (more_source_members a k s m ms) (more_source_members b l t n ns) = λ i. nat_list_eq_equiv.symm k l i && same_symm s t i && nat_eq_equiv.symm m n i && source_members_symm ms ns i
+  source_members_symm (more_source_members a k s m ms) (more_source_members b l t n ns) =
+      λ i. nat_list_eq_equiv.symm k l i && same_symm s t i && nat_eq_equiv.symm m n i && source_members_symm ms ns i
   source_members_symm ms ns = refl
 
 mutual
@@ -71,13 +73,16 @@ mutual
   sources_congr : (ss ts us : Sources) → sources_eq ss ts ≡ true → sources_eq ss us ≡ sources_eq ts us
   sources_congr no_sources no_sources us h = refl
   sources_congr (more_sources s ss) (more_sources t ts) (more_sources u us) h =
-      λ i. same_congr s t u (first_so (source_eq s t) (sources_eq ss ts) h) i && sources_congr ss ts us (second_so (source_eq s t) (sources_eq ss ts) h) i
+      λ i. same_congr s t u (first_so (source_eq s t) (sources_eq ss ts) h) i
+      && sources_congr ss ts us (second_so (source_eq s t) (sources_eq ss ts) h) i
   sources_congr (more_sources s ss) (more_sources t ts) us h = refl
   sources_congr ss ts us h = cc h
 
-  source_members_congr : (ms ns os : SourceMembers) → source_members_eq ms ns ≡ true → source_members_eq ms os ≡ source_members_eq ns os
+  source_members_congr : (ms ns os : SourceMembers) → source_members_eq ms ns ≡ true
+      → source_members_eq ms os ≡ source_members_eq ns os
   source_members_congr no_source_members no_source_members os h = refl
-  source_members_congr (more_source_members a k s m ms) (more_source_members b l t n ns) (more_source_members c j u o os) h =
+  source_members_congr (more_source_members a k s m ms) (more_source_members b l t n ns)
+      (more_source_members c j u o os) h =
       let rest = second_so (bytes_eq k l && source_eq s t && m == n) (source_members_eq ms ns) h in
       let front = first_so (bytes_eq k l && source_eq s t && m == n) (source_members_eq ms ns) h in
       let index = second_so (bytes_eq k l && source_eq s t) (m == n) front in

@@ -22,21 +22,24 @@ use Rattle.jsonb.specs.Reading.Container.{Found, array_at, element_at, first_rep
 use Rattle.jsonb.specs.Reading.Document.{too_deep, value_at}
 use Rattle.jsonb.specs.Reading.Scalar.{key_at}
 
--- An array or an object that is open: its parts so far, and in an object the key that waits for its value, with the place after it.
+-- An array or an object that is open: its parts so far, and in an object the key that waits for its value, with the
+-- place after it.
 pub data Open : Type 0 where
   elements_so_far : List Tree → Open
   members_so_far : List Found → Mark × List ℕ → ℕ → Open
 
 -- ---- parts joined by commas, after those that were read
 
-module _ {A : Type 0} (size : ℕ) (code : Code) (close : ℕ) (part : List ℕ → Read A) (finish : List A → List ℕ → Read Tree) where
+module _ {A : Type 0} (size : ℕ) (code : Code) (close : ℕ) (part : List ℕ → Read A)
+    (finish : List A → List ℕ → Read Tree) where
   -- from the beginning of a part on
   abbrev pub parts_from : List A → List ℕ → Read Tree
   parts_from front bytes = joined_at size code close part (suc (length bytes)) bytes >>= λ x. finish (front ++ x.0) x.1
 
   -- from the end of a part on
   abbrev pub parts_after : List A → List ℕ → Read Tree
-  parts_after front bytes = on_byte 44 bytes (parts_from front) (on_byte close bytes (finish front) (refused size code 0 bytes))
+  parts_after front bytes =
+      on_byte 44 bytes (parts_from front) (on_byte close bytes (finish front) (refused size code 0 bytes))
 
 abbrev pub array_end : List Tree → List ℕ → Read Tree
 array_end ts rest = Ok (array (trees_of ts), rest)
@@ -47,30 +50,38 @@ object_end fs rest = object_or_fault (first_repeat (map spot_of fs)) fs rest
 -- a key with its colon, the place after the key, and what comes after the blanks after the colon
 abbrev pub member_start : ℕ → Mode → List ℕ → Read ((Mark × List ℕ) × ℕ)
 member_start size mode bytes =
-    key_at size mode (skip_blanks mode bytes) >>= λ k. on_byte 58 (skip_blanks mode k.1) (λ rest. Ok ((k.0, size - length k.1), skip_blanks mode rest)) (refused size expected_colon 0 (skip_blanks mode k.1))
+    key_at size mode (skip_blanks mode bytes) >>= λ k. on_byte 58 (skip_blanks mode k.1)
+    (λ rest. Ok ((k.0, size - length k.1), skip_blanks mode rest))
+    (refused size expected_colon 0 (skip_blanks mode k.1))
 
 -- the container with one more part; its key is used up
 abbrev pub add_part : Open → Tree → Open
 add_part (elements_so_far front) t = elements_so_far (front ++ t ∷ [])
-add_part (members_so_far front key place) t = members_so_far (front ++ record { mark = key.0; key = key.1; tree = t; place = place } ∷ []) (plain, []) place
+add_part (members_so_far front key place) t =
+    members_so_far (front ++ record { mark = key.0; key = key.1; tree = t; place = place } ∷ []) (plain, []) place
 
 module _ (size : ℕ) (mode : Mode) (depth : ℕ) where
   abbrev pub elements_from : List Tree → List ℕ → Read Tree
   elements_from = parts_from size expected_array_comma_or_end 93 (element_at mode (value_at size mode depth)) array_end
 
   abbrev pub read_members_from : List Found → List ℕ → Read Tree
-  read_members_from = parts_from size expected_object_comma_or_end 125 (member_at size mode (value_at size mode depth)) object_end
+  read_members_from =
+      parts_from size expected_object_comma_or_end 125 (member_at size mode (value_at size mode depth)) object_end
 
   -- the rest of a container, from the end of a part on
   abbrev pub rest_at : Open → List ℕ → Read Tree
-  rest_at (elements_so_far front) = parts_after size expected_array_comma_or_end 93 (element_at mode (value_at size mode depth)) array_end front
-  rest_at (members_so_far front key place) = parts_after size expected_object_comma_or_end 125 (member_at size mode (value_at size mode depth)) object_end front
+  rest_at (elements_so_far front) =
+      parts_after size expected_array_comma_or_end 93 (element_at mode (value_at size mode depth)) array_end front
+  rest_at (members_so_far front key place) =
+      parts_after size expected_object_comma_or_end 125 (member_at size mode (value_at size mode depth)) object_end
+      front
 
   -- the container, once the value that it waits for was read
   abbrev pub finish_open : Open → Tree × List ℕ → Read Tree
   finish_open c x = rest_at (add_part c x.0) (skip_blanks mode x.1)
 
--- The outermost value, once the value that the innermost container waits for was read. The innermost container comes first, and the number is how deep what is in it may nest.
+-- The outermost value, once the value that the innermost container waits for was read. The innermost container comes
+-- first, and the number is how deep what is in it may nest.
 unfoldable pub resume : ℕ → Mode → ℕ → List Open → Tree × List ℕ → Read Tree
 resume size mode depth [] x = Ok x
 resume size mode depth (c ∷ cs) x = finish_open size mode depth c x >>= resume size mode (suc depth) cs
@@ -89,7 +100,8 @@ object_within size mode (suc depth) = object_at size mode (value_at size mode de
 
 abbrev pub open_of : Frame → Open
 open_of (variants.Array v) = elements_so_far (map ast_view v.items)
-open_of (variants.Object o) = members_so_far (map found_of o.members.items) (mark_view o.key, cow_str_bytes o.key) o.after
+open_of (variants.Object o) =
+    members_so_far (map found_of o.members.items) (mark_view o.key, cow_str_bytes o.key) o.after
 
 abbrev pub stack_onto : List Open → List Frame → List Open
 stack_onto below [] = below
@@ -123,7 +135,8 @@ element_begun size mode depth (Some v) bytes = Ok (ast_view v, bytes)
 
 -- an array with these elements, once an element was begun
 abbrev pub element_from : ℕ → Mode → ℕ → List Tree → Option JsonAst → List ℕ → Read Tree
-element_from size mode depth front begun bytes = element_begun size mode depth begun bytes >>= finish_open size mode depth (elements_so_far front)
+element_from size mode depth front begun bytes =
+    element_begun size mode depth begun bytes >>= finish_open size mode depth (elements_so_far front)
 
 -- The rest of the innermost container from the end of a part on, and then of the others.
 abbrev pub rest_of_opens : ℕ → Mode → ℕ → List Open → List ℕ → Read Tree
@@ -137,7 +150,8 @@ next_part_at size mode depth (members_so_far front key place) bytes = read_membe
 
 -- What a step into a part leaves, or its fault.
 abbrev pub PartBegins : ℕ → Mode → ℕ → Read Tree → Result (Option JsonAst) Error → Open → List ℕ → Type 0
-PartBegins size mode depth whole (Ok begun) c bytes = whole ≡ (element_begun size mode depth begun bytes >>= finish_open size mode depth c)
+PartBegins size mode depth whole (Ok begun) c bytes = whole
+    ≡ (element_begun size mode depth begun bytes >>= finish_open size mode depth c)
 PartBegins size mode depth whole (Err e) c bytes = Fails e whole
 
 abbrev pub rest_from : Parser → List Frame → Read Tree

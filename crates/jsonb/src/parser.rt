@@ -27,10 +27,10 @@ mod members;
 mod number;
 mod scalar;
 mod string;
-mod value;
-mod vector;
 #[cfg(test)]
 mod tests;
+mod value;
+mod vector;
 
 pub use ast::JsonAst;
 use direct::read_directly;

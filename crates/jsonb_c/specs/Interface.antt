@@ -72,8 +72,8 @@ pub record IsAccepted (number : ℕ) (text : List ℕ) : Type 0 where
   pub tree : Tree
   pub read : IsDocumentOf number text tree
 
--- The number chooses a mode in which the text is no document. What is told is the fault that reading meets, and which of
--- the texts it is.
+-- The number chooses a mode in which the text is no document. What is told is the fault that reading meets, and which
+-- of the texts it is.
 pub record IsRefused (number : ℕ) (text : List ℕ) (count : ℕ) (refusal : Refusal) : Type 0 where
   pub mode : Mode
   pub chosen : NumberChooses number mode
@@ -126,7 +126,8 @@ IsReason number IsTold UnknownMode = 1 < number
 
 -- The reason says what the error of a reader does: the fault is told, of this one of the texts, or memory ran out.
 abbrev pub SaysError : ℕ → Error → Refused → Type 0
-SaysError count error (Text refusal) = (code : ParseErrorCode) × (error ≡ errors.Syntax code refusal.position) × (refusal.code ≡ code_number (code_of code)) × (refusal.which ≡ count)
+SaysError count error (Text refusal) = (code : ParseErrorCode) × (error ≡ errors.Syntax code refusal.position)
+    × (refusal.code ≡ code_number (code_of code)) × (refusal.which ≡ count)
 SaysError count error OutOfMemory = error ≡ errors.OutOfMemory
 SaysError count error UnknownMode = ⊥
 

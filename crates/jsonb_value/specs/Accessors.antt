@@ -94,7 +94,8 @@ get_by_index index t = None
 
 -- the tree of that key, or else of the first key that differs from it in case alone
 abbrev pub get_ignore_case : List ℕ → Tree → Option Tree
-get_ignore_case name (object ms) = option_or (find_member (bytes_eq name) ms) (find_member (str_eq_ignore_ascii_case name) ms)
+get_ignore_case name (object ms) =
+    option_or (find_member (bytes_eq name) ms) (find_member (str_eq_ignore_ascii_case name) ms)
 get_ignore_case name t = None
 
 -- it holds no other tree and no text of its own, so that a copy takes no memory

@@ -16,12 +16,14 @@ use Rattle.jsonb_value.specs.Grammar.Scalar.{IsScalar, IsKey}
 
 -- `Spells bytes a` says that the bytes spell a. Blanks may stand before and after what is padded.
 pub data IsPadded {A : Type 0} (mode : Mode) (Spells : List ℕ → A → Type 0) : List ℕ → A → Type 0 where
-  padded : {before core after : List ℕ} {a : A} → IsBlanks mode before → Spells core a → IsBlanks mode after → IsPadded mode Spells (before ++ (core ++ after)) a
+  padded : {before core after : List ℕ} {a : A} → IsBlanks mode before → Spells core a → IsBlanks mode after
+      → IsPadded mode Spells (before ++ (core ++ after)) a
 
 -- one part, or more with a comma after each but the last
 pub data IsJoined {A : Type 0} (Spells : List ℕ → A → Type 0) : List ℕ → List A → Type 0 where
   one_part : {bytes : List ℕ} {a : A} → Spells bytes a → IsJoined Spells bytes (a ∷ [])
-  more_parts : {first rest : List ℕ} {a : A} {others : List A} → Spells first a → IsJoined Spells rest others → IsJoined Spells (first ++ 44 ∷ rest) (a ∷ others)
+  more_parts : {first rest : List ℕ} {a : A} {others : List A} → Spells first a → IsJoined Spells rest others
+      → IsJoined Spells (first ++ 44 ∷ rest) (a ∷ others)
 
 -- An element of an array: a value with blanks round it. In extended mode blanks alone stand for null.
 pub data IsElement (mode : Mode) (Value : List ℕ → Tree → Type 0) : List ℕ → Tree → Type 0 where
@@ -30,7 +32,8 @@ pub data IsElement (mode : Mode) (Value : List ℕ → Tree → Type 0) : List �
 
 -- A member of an object: a key, a colon and a value, with blanks round the key and round the value.
 pub data IsMember (mode : Mode) (Value : List ℕ → Tree → Type 0) : List ℕ → Member → Type 0 where
-  key_and_value : {left right : List ℕ} {key : Mark × List ℕ} {t : Tree} → IsPadded mode (IsKey mode) left key → IsPadded mode Value right t → IsMember mode Value (left ++ 58 ∷ right) (key.1, t)
+  key_and_value : {left right : List ℕ} {key : Mark × List ℕ} {t : Tree} → IsPadded mode (IsKey mode) left key
+      → IsPadded mode Value right t → IsMember mode Value (left ++ 58 ∷ right) (key.1, t)
 
 -- the key is none of these
 abbrev pub IsNew : List ℕ → List (List ℕ) → Type 0
@@ -49,10 +52,14 @@ HaveDistinctKeys ms = AreDistinct (map (λ m. m.0) ms)
 -- A value, where Value says which values may stand inside of it. One element alone is not blanks alone.
 pub data IsValue (mode : Mode) (Value : List ℕ → Tree → Type 0) : List ℕ → Tree → Type 0 where
   scalar : {bytes : List ℕ} {t : Tree} → IsScalar mode bytes t → IsValue mode Value bytes t
-  empty_array : {blanks : List ℕ} → IsBlanks mode blanks → IsValue mode Value (91 ∷ (blanks ++ 93 ∷ [])) (array (trees_of []))
-  full_array : {body : List ℕ} {ts : List Tree} → IsJoined (IsElement mode Value) body ts → (IsBlanks mode body → ⊥) → IsValue mode Value (91 ∷ (body ++ 93 ∷ [])) (array (trees_of ts))
-  empty_object : {blanks : List ℕ} → IsBlanks mode blanks → IsValue mode Value (123 ∷ (blanks ++ 125 ∷ [])) (object no_members)
-  full_object : {body : List ℕ} {ms : List Member} → IsJoined (IsMember mode Value) body ms → HaveDistinctKeys ms → IsValue mode Value (123 ∷ (body ++ 125 ∷ [])) (object (put_all ms no_members))
+  empty_array : {blanks : List ℕ} → IsBlanks mode blanks
+      → IsValue mode Value (91 ∷ (blanks ++ 93 ∷ [])) (array (trees_of []))
+  full_array : {body : List ℕ} {ts : List Tree} → IsJoined (IsElement mode Value) body ts → (IsBlanks mode body → ⊥)
+      → IsValue mode Value (91 ∷ (body ++ 93 ∷ [])) (array (trees_of ts))
+  empty_object : {blanks : List ℕ} → IsBlanks mode blanks
+      → IsValue mode Value (123 ∷ (blanks ++ 125 ∷ [])) (object no_members)
+  full_object : {body : List ℕ} {ms : List Member} → IsJoined (IsMember mode Value) body ms → HaveDistinctKeys ms
+      → IsValue mode Value (123 ∷ (body ++ 125 ∷ [])) (object (put_all ms no_members))
 
 -- the bytes spell the tree, with arrays and objects nested no deeper than the number
 abbrev pub Derives : Mode → ℕ → List ℕ → Tree → Type 0
@@ -65,7 +72,8 @@ max_depth = 512
 
 -- A whole text: a value with blanks round it. In extended mode blanks alone stand for null.
 pub data IsDocument (mode : Mode) : List ℕ → Tree → Type 0 where
-  value_alone : {before core after : List ℕ} {t : Tree} → IsBlanks mode before → Derives mode max_depth core t → AreLastBlanks mode after → IsDocument mode (before ++ (core ++ after)) t
+  value_alone : {before core after : List ℕ} {t : Tree} → IsBlanks mode before → Derives mode max_depth core t
+      → AreLastBlanks mode after → IsDocument mode (before ++ (core ++ after)) t
   blanks_alone : {bytes : List ℕ} → mode ≡ extended → AreLastBlanks mode bytes → IsDocument mode bytes null
 
 -- the text is a document of no tree

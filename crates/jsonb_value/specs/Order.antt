@@ -63,7 +63,8 @@ abbrev mutual
   members_cmp no_members no_members = Equal
   members_cmp no_members (more_members l u ns) = Less
   members_cmp (more_members k t ms) no_members = Greater
-  members_cmp (more_members k t ms) (more_members l u ns) = ordering_then (bytes_cmp k l) (ordering_then (tree_cmp t u) (members_cmp ms ns))
+  members_cmp (more_members k t ms) (more_members l u ns) =
+      ordering_then (bytes_cmp k l) (ordering_then (tree_cmp t u) (members_cmp ms ns))
 
 -- t is below u
 abbrev pub Below : Tree → Tree → Type 0
@@ -73,7 +74,8 @@ Below t u = tree_cmp t u ≡ Less
 abbrev pub Same : Tree → Tree → Type 0
 Same t u = tree_cmp t u ≡ Equal
 
--- Exactly one of `below x y`, `same x y` and `below y x` holds, both relations are transitive, and `same` is an equivalence that `below` respects.
+-- Exactly one of `below x y`, `same x y` and `below y x` holds, both relations are transitive, and `same` is an
+-- equivalence that `below` respects.
 pub record IsOneOrder {X : Type 0} (below same : X → X → Type 0) : Type 0 where
   pub some_holds : (x y : X) → below x y ⊎ same x y ⊎ below y x
   pub below_alone : (x y : X) → below x y → ¬ (same x y) × ¬ (below y x)

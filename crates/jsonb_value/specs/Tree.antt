@@ -56,7 +56,9 @@ Member = List ℕ × Tree
 -- the members with t at the key k, in place of what was there
 abbrev pub put : List ℕ → Tree → Members → Members
 put k t no_members = more_members k t no_members
-put k t (more_members l u ms) = match_ordering (slice_cmp nat_cmp k l) (more_members k t (more_members l u ms)) (more_members l t ms) (more_members l u (put k t ms))
+put k t (more_members l u ms) =
+    match_ordering (slice_cmp nat_cmp k l) (more_members k t (more_members l u ms)) (more_members l t ms)
+    (more_members l u (put k t ms))
 
 -- the members ms and then each of the pairs, put in one after the other: a later equal key replaces
 abbrev pub put_all : List Member → Members → Members

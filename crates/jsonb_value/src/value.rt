@@ -1,7 +1,7 @@
 //! JSON values.
 mod access;
-mod convert;
 mod clone;
+mod convert;
 mod laws;
 mod order;
 mod owned;

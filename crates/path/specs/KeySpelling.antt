@@ -12,7 +12,9 @@ abbrev pub byte_of : List ℕ → Option (ℕ × List ℕ)
 byte_of [] = None
 byte_of (byte ∷ rest) = if byte == 47 then None else if byte == 126 then escape_of rest else Some (byte, rest)
 
--- The bytes begin with the spelling of these keys, and each path that the bytes spell begins with these keys and goes on with what the rest spells.
+-- The bytes begin with the spelling of these keys, and each path that the bytes spell begins with these keys and goes
+-- on with what the rest spells.
 pub record Reads (bytes : List ℕ) (keys : List (List ℕ)) (rest : List ℕ) : Type 0 where
   pub spelled : bytes ≡ spelled_keys keys ++ rest
-  pub only : (others : List (List ℕ)) → bytes ≡ spelled_keys others → (more : List (List ℕ)) × (others ≡ keys ++ more) × (rest ≡ spelled_keys more)
+  pub only : (others : List (List ℕ)) → bytes ≡ spelled_keys others
+      → (more : List (List ℕ)) × (others ≡ keys ++ more) × (rest ≡ spelled_keys more)

@@ -81,5 +81,6 @@ pub record HasNoPart (path document : List ℕ) : Type 0 where
 -- The path is none, the document is none, or memory ran out. A document's fault is as reading tells it.
 abbrev pub IsPathRefusal : List ℕ → List ℕ → Refusal → Type 0
 IsPathRefusal path document NoPath = (keys : List (List ℕ)) → IsPath path keys → ⊥
-IsPathRefusal path document (NoDocument error) = (error ≢ OutOfMemory → IsNoDocument extended document) × Fails error (document_of extended document)
+IsPathRefusal path document (NoDocument error) = (error ≢ OutOfMemory → IsNoDocument extended document)
+    × Fails error (document_of extended document)
 IsPathRefusal path document NoMemory = ⊤

@@ -26,13 +26,15 @@ contents lines = map (λ line. line.items) lines
 -- Each line is a document, and these are the values, one after the other.
 pub data AreDocuments : List (List ℕ) → List Value → Type 0 where
   no_documents : AreDocuments [] []
-  more_documents : {line : List ℕ} {value : Value} {lines : List (List ℕ)} {values : List Value} → IsDocument extended line (view value) → AreDocuments lines values → AreDocuments (line ∷ lines) (value ∷ values)
+  more_documents : {line : List ℕ} {value : Value} {lines : List (List ℕ)} {values : List Value}
+      → IsDocument extended line (view value) → AreDocuments lines values → AreDocuments (line ∷ lines) (value ∷ values)
 
 -- the order of values, as `Value::cmp` answers it
 abbrev pub value_cmp : Value → Value → Ordering
 value_cmp v w = tree_cmp (view v) (view w)
 
--- The index of the given values: it ascends strictly, each value of it was given, and each that was given is equal to one of it.
+-- The index of the given values: it ascends strictly, each value of it was given, and each that was given is equal to
+-- one of it.
 pub record IsIndexOf (given index : List Value) : Type 0 where
   pub ascending : IsStrictlySortedBy value_cmp index
   pub was_given : (v : Value) → Contains index v → Contains given v
@@ -41,7 +43,8 @@ pub record IsIndexOf (given index : List Value) : Type 0 where
 -- The bytes are the texts of the values, each with a line feed after it.
 pub data AreTexts : List Value → List ℕ → Type 0 where
   no_texts : AreTexts [] []
-  more_texts : {value : Value} {text rest : List ℕ} {values : List Value} → text_of (view value) ≡ Some text → AreTexts values rest → AreTexts (value ∷ values) (text ++ 10 ∷ rest)
+  more_texts : {value : Value} {text rest : List ℕ} {values : List Value} → text_of (view value) ≡ Some text
+      → AreTexts values rest → AreTexts (value ∷ values) (text ++ 10 ∷ rest)
 
 -- The lines are documents, and the bytes are the texts of the index of their values.
 pub record IsIndexText (lines : List (List ℕ)) (bytes : List ℕ) : Type 0 where
@@ -51,7 +54,8 @@ pub record IsIndexText (lines : List (List ℕ)) (bytes : List ℕ) : Type 0 whe
   pub is_index : IsIndexOf given index
   pub texts : AreTexts index bytes
 
--- The lines before the one with this number, counted from 1, are documents, and it is none, unless memory ran out. The error is its fault, as reading tells it.
+-- The lines before the one with this number, counted from 1, are documents, and it is none, unless memory ran out. The
+-- error is its fault, as reading tells it.
 pub record IsFirstFault (lines : List (List ℕ)) (number : ℕ) (error : Error) : Type 0 where
   pub before : List (List ℕ)
   pub line : List ℕ

@@ -13,14 +13,16 @@ is_key_ascii b = is_ascii_alphanumeric b || ((b == 95) || (b == 36))
 
 -- how many bytes a character of a key takes whose first byte is this, or 0 where no key has one
 abbrev pub key_step : ℕ → ℕ
-key_step b = if is_key_ascii b then 1 else (if nat_lt b 192 then 0 else (if nat_lt b 224 then 2 else (if nat_lt b 240 then 3 else 4)))
+key_step b = if is_key_ascii b then 1
+    else (if nat_lt b 192 then 0 else (if nat_lt b 224 then 2 else (if nat_lt b 240 then 3 else 4)))
 
 abbrev pub key_chosen : ℕ → Result ℕ ℕ → Result ℕ ℕ
 key_chosen zero later = Ok 0
 key_chosen (suc passed) later = later
 
--- How many bytes stand before the first one that begins no character of a key, where this many bytes of a character are still to be
--- passed. Where there is none, the number tells where the search stands at the end, which may be past the bytes.
+-- How many bytes stand before the first one that begins no character of a key, where this many bytes of a character are
+-- still to be passed. Where there is none, the number tells where the search stands at the end, which may be past the
+-- bytes.
 unfoldable pub key_from : ℕ → List ℕ → Result ℕ ℕ
 key_from passed [] = Err passed
 key_from (suc passed) (b ∷ bytes) = further 1 (key_from passed bytes)
@@ -31,13 +33,17 @@ key_end bytes = key_from 0 bytes
 
 -- the key of so many bytes, where they are text
 abbrev pub text_key : ℕ → List ℕ → ℕ → Read (Mark × List ℕ)
-text_key size bytes end = if is_utf8 (take end bytes) then Ok ((plain, take end bytes), drop end bytes) else fault invalid_string_value (size - length bytes + end)
+text_key size bytes end = if is_utf8 (take end bytes) then Ok ((plain, take end bytes), drop end bytes)
+    else fault invalid_string_value (size - length bytes + end)
 
 abbrev pub key_to : ℕ → List ℕ → Result ℕ ℕ → Read (Mark × List ℕ)
-key_to size bytes (Ok end) = if (end == 0) || nat_le 128 (slice_index bytes end) then fault object_key_invalid_character (size - length bytes + end) else text_key size bytes end
+key_to size bytes (Ok end) = if (end == 0) || nat_le 128 (slice_index bytes end)
+    then fault object_key_invalid_character (size - length bytes + end) else text_key size bytes end
 key_to size bytes (Err at) = fault invalid_eof (size - length bytes + at)
 
 -- a bare key
 unfoldable pub bare_key_at : ℕ → List ℕ → Read (Mark × List ℕ)
 bare_key_at size [] = fault invalid_eof size
-bare_key_at size (b ∷ bytes) = if is_ascii_digit b then fault object_key_invalid_number (size - length (b ∷ bytes) + 1) else key_to size (b ∷ bytes) (key_end (b ∷ bytes))
+bare_key_at size (b ∷ bytes) = if is_ascii_digit b
+    then fault object_key_invalid_number (size - length (b ∷ bytes) + 1)
+    else key_to size (b ∷ bytes) (key_end (b ∷ bytes))

@@ -20,7 +20,8 @@ form_feed_length (c ∷ d ∷ rest) = if (c == 48) && (d == 67) then 4 else 0
 -- how many bytes the blank takes whose first byte is a backslash, from the byte after it on, or 0
 abbrev pub written_length : List ℕ → ℕ
 written_length [] = 0
-written_length (b ∷ bytes) = if (b == 110) || (b == 114) || (b == 116) then 2 else (if b == 120 then form_feed_length bytes else 0)
+written_length (b ∷ bytes) = if (b == 110) || (b == 114) || (b == 116) then 2
+    else (if b == 120 then form_feed_length bytes else 0)
 
 -- so many bytes more, where there are any
 abbrev pub longer_by : ℕ → ℕ → ℕ
@@ -37,10 +38,12 @@ unfoldable pub line_length : List ℕ → ℕ
 line_length [] = 0
 line_length (b ∷ bytes) = if (b == 10) || (b == 13) then 1 else longer_by 1 (line_length bytes)
 
--- how many bytes the comment takes whose first byte is a slash, from the byte after it on, or 0 where none begins or ends
+-- how many bytes the comment takes whose first byte is a slash, from the byte after it on, or 0 where none begins or
+-- ends
 abbrev pub comment_length : List ℕ → ℕ
 comment_length [] = 0
-comment_length (b ∷ bytes) = if b == 42 then longer_by 2 (block_length bytes) else (if b == 47 then longer_by 2 (line_length bytes) else 0)
+comment_length (b ∷ bytes) = if b == 42 then longer_by 2 (block_length bytes)
+    else (if b == 47 then longer_by 2 (line_length bytes) else 0)
 
 abbrev pub slash_length : Mode → List ℕ → ℕ
 slash_length standard bytes = 0
@@ -62,7 +65,8 @@ pass_chosen (suc passed) here later = later
 unfoldable pub pass_from : Mode → ℕ → List ℕ → List ℕ
 pass_from mode passed [] = []
 pass_from mode (suc passed) (b ∷ bytes) = pass_from mode passed bytes
-pass_from mode zero (b ∷ bytes) = pass_chosen (blank_length mode (b ∷ bytes)) (b ∷ bytes) (pass_from mode (blank_length mode (b ∷ bytes) - 1) bytes)
+pass_from mode zero (b ∷ bytes) =
+    pass_chosen (blank_length mode (b ∷ bytes)) (b ∷ bytes) (pass_from mode (blank_length mode (b ∷ bytes) - 1) bytes)
 
 -- the bytes after the blanks
 abbrev pub pass_blanks : Mode → List ℕ → List ℕ

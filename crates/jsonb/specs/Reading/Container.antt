@@ -15,7 +15,8 @@ use Rattle.jsonb.specs.Reading.Scalar.{key_at}
 module _ {A : Type 0} (size : ℕ) (code : Code) (close : ℕ) (part : List ℕ → Read A) where
   abbrev pub after_part : (List ℕ → Read (List A)) → A → List ℕ → Read (List A)
   after_part others a bytes =
-      on_byte 44 bytes (λ rest. others rest >>= λ x. Ok (a ∷ x.0, x.1)) (on_byte close bytes (λ rest. Ok (a ∷ [], rest)) (refused size code 0 bytes))
+      on_byte 44 bytes (λ rest. others rest >>= λ x. Ok (a ∷ x.0, x.1))
+      (on_byte close bytes (λ rest. Ok (a ∷ [], rest)) (refused size code 0 bytes))
 
   -- The number bounds the parts. One more than the bytes is always enough.
   unfoldable pub joined_at : ℕ → List ℕ → Read (List A)
@@ -44,11 +45,14 @@ abbrev pub element_at : Mode → (List ℕ → Read Tree) → List ℕ → Read 
 element_at mode value = padded_at mode (value_or_null mode value)
 
 abbrev pub elements_at : ℕ → Mode → (List ℕ → Read Tree) → List ℕ → Read Tree
-elements_at size mode value bytes = joined_at size expected_array_comma_or_end 93 (element_at mode value) (suc (length bytes)) (skip_blanks mode bytes) >>= λ x. Ok (array (trees_of x.0), x.1)
+elements_at size mode value bytes =
+    joined_at size expected_array_comma_or_end 93 (element_at mode value) (suc (length bytes))
+    (skip_blanks mode bytes) >>= λ x. Ok (array (trees_of x.0), x.1)
 
 -- an array, from the byte after the bracket on
 abbrev pub array_at : ℕ → Mode → (List ℕ → Read Tree) → List ℕ → Read Tree
-array_at size mode value bytes = on_byte 93 (skip_blanks mode bytes) (λ rest. Ok (array no_trees, rest)) (elements_at size mode value bytes)
+array_at size mode value bytes =
+    on_byte 93 (skip_blanks mode bytes) (λ rest. Ok (array no_trees, rest)) (elements_at size mode value bytes)
 
 -- ---- objects
 
@@ -66,10 +70,13 @@ abbrev pub found_at : Mark × List ℕ → ℕ → Tree × List ℕ → Read Fou
 found_at key place x = Ok (record { mark = key.0; key = key.1; tree = x.0; place = place }, x.1)
 
 abbrev pub after_key : ℕ → Mode → (List ℕ → Read Tree) → Mark × List ℕ → ℕ → List ℕ → Read Found
-after_key size mode value key place bytes = on_byte 58 bytes (λ rest. padded_at mode value rest >>= found_at key place) (refused size expected_colon 0 bytes)
+after_key size mode value key place bytes =
+    on_byte 58 bytes (λ rest. padded_at mode value rest >>= found_at key place) (refused size expected_colon 0 bytes)
 
 abbrev pub member_at : ℕ → Mode → (List ℕ → Read Tree) → List ℕ → Read Found
-member_at size mode value bytes = key_at size mode (skip_blanks mode bytes) >>= λ k. after_key size mode value k.0 (size - length k.1) (skip_blanks mode k.1)
+member_at size mode value bytes =
+    key_at size mode (skip_blanks mode bytes) >>= λ k. after_key size mode value k.0 (size - length k.1)
+    (skip_blanks mode k.1)
 
 -- A key, and the place after it.
 pub record Spot : Type 0 where
@@ -112,8 +119,11 @@ object_or_fault None fs rest = Ok (object (put_all (map member_of fs) no_members
 object_or_fault (Some s) fs rest = fault (object_duplicate_key s.key) s.place
 
 abbrev pub members_at : ℕ → Mode → (List ℕ → Read Tree) → List ℕ → Read Tree
-members_at size mode value bytes = joined_at size expected_object_comma_or_end 125 (member_at size mode value) (suc (length bytes)) (skip_blanks mode bytes) >>= λ x. object_or_fault (first_repeat (map spot_of x.0)) x.0 x.1
+members_at size mode value bytes =
+    joined_at size expected_object_comma_or_end 125 (member_at size mode value) (suc (length bytes))
+    (skip_blanks mode bytes) >>= λ x. object_or_fault (first_repeat (map spot_of x.0)) x.0 x.1
 
 -- an object, from the byte after the brace on
 abbrev pub object_at : ℕ → Mode → (List ℕ → Read Tree) → List ℕ → Read Tree
-object_at size mode value bytes = on_byte 125 (skip_blanks mode bytes) (λ rest. Ok (object no_members, rest)) (members_at size mode value bytes)
+object_at size mode value bytes =
+    on_byte 125 (skip_blanks mode bytes) (λ rest. Ok (object no_members, rest)) (members_at size mode value bytes)

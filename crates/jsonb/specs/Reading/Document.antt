@@ -18,7 +18,9 @@ too_deep size rest = fault depth_limit_exceeded (size - length rest)
 -- a value that begins here, with arrays and objects nested no deeper than the number
 unfoldable pub value_at : ℕ → Mode → ℕ → List ℕ → Read Tree
 value_at size mode zero = value_with size mode (too_deep size) (too_deep size)
-value_at size mode (suc depth) = value_with size mode (array_at size mode (value_at size mode depth)) (object_at size mode (value_at size mode depth))
+value_at size mode (suc depth) =
+    value_with size mode (array_at size mode (value_at size mode depth))
+    (object_at size mode (value_at size mode depth))
 
 -- the end of a text in a comment without its end, from the byte after the slash on: a line comment ends with the text
 abbrev pub comment_at : ℕ → Tree → List ℕ → Result Tree Fault
@@ -26,7 +28,8 @@ comment_at size t bytes = if begins 47 bytes then Ok t else fault invalid_eof si
 
 abbrev pub at_end : ℕ → Mode → Tree → List ℕ → Result Tree Fault
 at_end size mode t [] = Ok t
-at_end size mode t (b ∷ bytes) = if opens_comment mode (b ∷ bytes) then comment_at size t bytes else fault unexpected_trailing_characters (size - length (b ∷ bytes) + 1)
+at_end size mode t (b ∷ bytes) = if opens_comment mode (b ∷ bytes) then comment_at size t bytes
+    else fault unexpected_trailing_characters (size - length (b ∷ bytes) + 1)
 
 -- a text of blanks alone
 abbrev pub nothing_at : ℕ → Mode → Result Tree Fault
@@ -39,7 +42,8 @@ value_to_end size mode bytes = value_at size mode max_depth bytes >>= λ x. at_e
 
 abbrev pub document_from : ℕ → Mode → List ℕ → Result Tree Fault
 document_from size mode [] = nothing_at size mode
-document_from size mode (b ∷ bytes) = if opens_comment mode (b ∷ bytes) then comment_at size null bytes else value_to_end size mode (b ∷ bytes)
+document_from size mode (b ∷ bytes) = if opens_comment mode (b ∷ bytes) then comment_at size null bytes
+    else value_to_end size mode (b ∷ bytes)
 
 -- the tree of a whole text
 unfoldable pub document_of : Mode → List ℕ → Result Tree Fault

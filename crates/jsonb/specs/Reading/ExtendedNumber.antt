@@ -72,21 +72,27 @@ lacks_digits bytes = front_end bytes - core_start bytes + scale_at bytes == 0
 
 -- whether a second point follows, before so many digits were read that it ends the number
 abbrev pub has_second_point : List ℕ → Bool
-has_second_point bytes = nat_lt (front_end bytes) (point_end bytes) && (nat_lt (precision_at bytes) 76 && (slice_index bytes (behind_end bytes) == 46))
+has_second_point bytes = nat_lt (front_end bytes) (point_end bytes)
+    && (nat_lt (precision_at bytes) 76 && (slice_index bytes (behind_end bytes) == 46))
 
 -- the index after a decimal number text that the bytes begin with
 unfoldable pub decimal_end : List ℕ → End
 decimal_end bytes =
-    if lacks_digits bytes then Err (point_end bytes) else (if has_second_point bytes then Err (behind_end bytes) else exponent_from bytes (behind_end bytes))
+    if lacks_digits bytes then Err (point_end bytes)
+    else (if has_second_point bytes then Err (behind_end bytes) else exponent_from bytes (behind_end bytes))
 
 -- its digits, without the point
 abbrev pub all_digits : List ℕ → List ℕ
-all_digits bytes = slice_range bytes (core_start bytes) (front_end bytes) ++ slice_range bytes (point_end bytes) (behind_end bytes)
+all_digits bytes = slice_range bytes (core_start bytes) (front_end bytes)
+    ++ slice_range bytes (point_end bytes) (behind_end bytes)
 
 -- the number of the text that ends here, which must be without an exponent and have at most 38 digits that count
 unfoldable pub decimal_at : List ℕ → ℕ → Option Num
 decimal_at bytes end =
-    if (behind_end bytes == end) && nat_le (precision_at bytes) 38 then Some (decimal_number (scale_at bytes) (precision_at bytes) (signed_by (is_minus bytes) (digits_value 10 (all_digits bytes)))) else None
+    if (behind_end bytes == end) && nat_le (precision_at bytes) 38
+    then Some
+    (decimal_number (scale_at bytes) (precision_at bytes)
+    (signed_by (is_minus bytes) (digits_value 10 (all_digits bytes)))) else None
 
 abbrev pub decimal_to : List ℕ → End → Scanned
 decimal_to bytes (Ok end) = Ok (decimal_at bytes end, end)
@@ -113,19 +119,23 @@ hexadecimal_fits ds = nat_lt (digits_value 16 ds) (2 ^ 128)
 
 -- digits without a fraction, which end here
 abbrev pub hexadecimal_whole : ℕ → Bool → List ℕ → Scanned
-hexadecimal_whole end negative ds = if hexadecimal_fits ds then Ok (hexadecimal_number negative (digits_value 16 ds), end) else Err (invalid_number_value, end)
+hexadecimal_whole end negative ds = if hexadecimal_fits ds
+    then Ok (hexadecimal_number negative (digits_value 16 ds), end) else Err (invalid_number_value, end)
 
 -- the bytes after the point of a hexadecimal, the first of which has this place, after digits that 128 bits hold or not
 unfoldable pub fraction_scan : ℕ → Bool → List ℕ → Scanned
 fraction_scan place whole_fits bytes =
     if hexadecimal_length bytes == 0 then Err (invalid_number_value, place)
-    else (if whole_fits && hexadecimal_fits (take (hexadecimal_length bytes) bytes) then Ok (None, place + hexadecimal_length bytes) else Err (invalid_number_value, place + hexadecimal_length bytes))
+    else (if whole_fits && hexadecimal_fits (take (hexadecimal_length bytes) bytes)
+    then Ok (None, place + hexadecimal_length bytes) else Err (invalid_number_value, place + hexadecimal_length bytes))
 
 -- the bytes after the x of a hexadecimal, the first of which has this place
 unfoldable pub hexadecimal_scan : ℕ → Bool → List ℕ → Scanned
 hexadecimal_scan place negative bytes =
     if hexadecimal_length bytes == 0 then Err (invalid_number_value, place)
-    else (if slice_index bytes (hexadecimal_length bytes) == 46 then fraction_scan (place + hexadecimal_length bytes + 1) (hexadecimal_fits (take (hexadecimal_length bytes) bytes)) (drop (hexadecimal_length bytes + 1) bytes)
+    else (if slice_index bytes (hexadecimal_length bytes) == 46
+    then fraction_scan (place + hexadecimal_length bytes + 1)
+    (hexadecimal_fits (take (hexadecimal_length bytes) bytes)) (drop (hexadecimal_length bytes + 1) bytes)
     else hexadecimal_whole (place + hexadecimal_length bytes) negative (take (hexadecimal_length bytes) bytes))
 
 -- ---- words
@@ -134,7 +144,8 @@ hexadecimal_scan place negative bytes =
 unfoldable pub spelled_from : ℕ → List ℕ → List ℕ → Result ℕ (Code × ℕ)
 spelled_from place [] bytes = Ok place
 spelled_from place (c ∷ word) [] = Err (invalid_eof, place)
-spelled_from place (c ∷ word) (b ∷ bytes) = if to_ascii_lowercase b == c then spelled_from (place + 1) word bytes else Err (expected_some_ident, place + 1)
+spelled_from place (c ∷ word) (b ∷ bytes) = if to_ascii_lowercase b == c then spelled_from (place + 1) word bytes
+    else Err (expected_some_ident, place + 1)
 
 -- a word that names no finite number
 abbrev pub uncarried_word : Result ℕ (Code × ℕ) → Scanned
@@ -149,7 +160,9 @@ invalid_word (Err f) = Err f
 -- a word from its first letter on, after a minus or not
 unfoldable pub word_scan : ℕ → Bool → List ℕ → Scanned
 word_scan place negative bytes =
-    if to_ascii_lowercase (slice_index bytes 0) == 110 then (if negative then invalid_word (spelled_from place (codes "nan") bytes) else uncarried_word (spelled_from place (codes "nan") bytes))
+    if to_ascii_lowercase (slice_index bytes 0) == 110
+    then (if negative then invalid_word (spelled_from place (codes "nan") bytes)
+    else uncarried_word (spelled_from place (codes "nan") bytes))
     else uncarried_word (spelled_from place (codes "infinity") bytes)
 
 -- ---- all of them
@@ -160,7 +173,8 @@ is_word_start b = (to_ascii_lowercase b == 110) || (to_ascii_lowercase b == 105)
 
 -- whether a zero and an x stand here
 abbrev pub hexadecimal_starts : List ℕ → ℕ → Bool
-hexadecimal_starts bytes start = (slice_index bytes start == 48) && (to_ascii_lowercase (slice_index bytes (start + 1)) == 120)
+hexadecimal_starts bytes start = (slice_index bytes start == 48)
+    && (to_ascii_lowercase (slice_index bytes (start + 1)) == 120)
 
 -- whether a zero and an x stand after the sign
 abbrev pub is_hexadecimal_start : List ℕ → Bool
@@ -169,8 +183,11 @@ is_hexadecimal_start bytes = hexadecimal_starts bytes (core_start bytes)
 -- the longest extended number text that the bytes begin with
 unfoldable pub extended_scan : List ℕ → Scanned
 extended_scan bytes =
-    if is_word_start (core_byte bytes) then word_scan (core_start bytes) (is_minus bytes) (drop (core_start bytes) bytes)
-    else (if is_hexadecimal_start bytes then hexadecimal_scan (core_start bytes + 2) (is_minus bytes) (drop (core_start bytes + 2) bytes) else decimal_scan bytes)
+    if is_word_start (core_byte bytes)
+    then word_scan (core_start bytes) (is_minus bytes) (drop (core_start bytes) bytes)
+    else (if is_hexadecimal_start bytes
+    then hexadecimal_scan (core_start bytes + 2) (is_minus bytes) (drop (core_start bytes + 2) bytes)
+    else decimal_scan bytes)
 
 -- the number of the longest extended number text that the bytes begin with
 unfoldable pub extended_number_at : ℕ → List ℕ → Read Num

@@ -35,19 +35,24 @@ sign_end bytes start = if (slice_index bytes start == 43) || (slice_index bytes 
 -- the index after an exponent, if one is there: a digit is due behind its mark and sign
 unfoldable pub exponent_from : List ℕ → ℕ → End
 exponent_from bytes start =
-    if (slice_index bytes start == 101) || (slice_index bytes start == 69) then (if digits_length (drop (sign_end bytes (start + 1)) bytes) == 0 then Err (sign_end bytes (start + 1)) else Ok (digits_from bytes (sign_end bytes (start + 1))))
+    if (slice_index bytes start == 101) || (slice_index bytes start == 69)
+    then (if digits_length (drop (sign_end bytes (start + 1)) bytes) == 0 then Err (sign_end bytes (start + 1))
+    else Ok (digits_from bytes (sign_end bytes (start + 1))))
     else Ok start
 
 -- the index after a fraction, if one is there: a digit is due behind its point
 unfoldable pub fraction_from : List ℕ → ℕ → End
 fraction_from bytes start =
-    if slice_index bytes start == 46 then (if digits_length (drop (start + 1) bytes) == 0 then Err (start + 2) else Ok (digits_from bytes (start + 1))) else Ok start
+    if slice_index bytes start == 46
+    then (if digits_length (drop (start + 1) bytes) == 0 then Err (start + 2)
+    else Ok (digits_from bytes (start + 1))) else Ok start
 
 -- the index after digits without a needless zero: a digit is due
 unfoldable pub whole_from : List ℕ → ℕ → End
 whole_from bytes start =
     if digits_length (drop start bytes) == 0 then Err start
-    else (if (slice_index bytes start == 48) && nat_lt 1 (digits_length (drop start bytes)) then Err (start + 2) else Ok (digits_from bytes start))
+    else (if (slice_index bytes start == 48) && nat_lt 1 (digits_length (drop start bytes)) then Err (start + 2)
+    else Ok (digits_from bytes start))
 
 -- whether the bytes begin with a minus
 abbrev pub has_minus : List ℕ → Bool
@@ -59,14 +64,17 @@ whole_start bytes = from_bool (has_minus bytes)
 
 -- the index after the standard number text that the bytes begin with
 unfoldable pub standard_end : List ℕ → End
-standard_end bytes = then_from (then_from (whole_from bytes (whole_start bytes)) (fraction_from bytes)) (exponent_from bytes)
+standard_end bytes =
+    then_from (then_from (whole_from bytes (whole_start bytes)) (fraction_from bytes)) (exponent_from bytes)
 
 -- ---- which number it is
 
 -- the integer of digits with this value, where its type holds it
 abbrev pub integer_of : Bool → ℕ → Option Num
-integer_of false value = if nat_lt value (2 ^ 64) then Some (record { form = uint64; scale = 0; whole = pos value }) else None
-integer_of true value = if nat_le value (2 ^ 63) then Some (record { form = int64; scale = 0; whole = neg_ℤ (pos value) }) else None
+integer_of false value = if nat_lt value (2 ^ 64) then Some (record { form = uint64; scale = 0; whole = pos value })
+    else None
+integer_of true value = if nat_le value (2 ^ 63)
+    then Some (record { form = int64; scale = 0; whole = neg_ℤ (pos value) }) else None
 
 -- the digits of the whole part
 abbrev pub whole_digits : List ℕ → List ℕ
@@ -74,7 +82,8 @@ whole_digits bytes = take (digits_length (drop (whole_start bytes) bytes)) (drop
 
 -- the number of the text that ends here, which must be an integer
 unfoldable pub integer_at : List ℕ → ℕ → Option Num
-integer_at bytes end = if digits_from bytes (whole_start bytes) == end then integer_of (has_minus bytes) (digits_value 10 (whole_digits bytes)) else None
+integer_at bytes end = if digits_from bytes (whole_start bytes) == end
+    then integer_of (has_minus bytes) (digits_value 10 (whole_digits bytes)) else None
 
 -- the number and the bytes after it; without a number the fault at these
 abbrev pub carried_at : ℕ → List ℕ → Option Num → Read Num

@@ -29,7 +29,8 @@ begins_letter mode c bytes = on_letter mode c bytes (λ rest. true) false
 -- the bytes after these letters
 abbrev pub letters_at : ℕ → Mode → List ℕ → List ℕ → Result (List ℕ) Fault
 letters_at size mode [] bytes = Ok bytes
-letters_at size mode (c ∷ cs) bytes = on_letter mode c bytes (letters_at size mode cs) (refused size expected_some_ident 1 bytes)
+letters_at size mode (c ∷ cs) bytes =
+    on_letter mode c bytes (letters_at size mode cs) (refused size expected_some_ident 1 bytes)
 
 -- a word and what it stands for
 abbrev pub word_at : ℕ → Mode → List ℕ → Tree → List ℕ → Read Tree
@@ -69,15 +70,18 @@ number_value_at size mode bytes = number_at size mode bytes >>= λ x. Ok (number
 
 -- a number as a value, or the fault of a byte that begins no value
 abbrev pub number_or_fault : ℕ → Mode → List ℕ → Read Tree
-number_or_fault size mode bytes = if begins_number mode bytes then number_value_at size mode bytes else refused size expected_some_value 1 bytes
+number_or_fault size mode bytes = if begins_number mode bytes then number_value_at size mode bytes
+    else refused size expected_some_value 1 bytes
 
 -- ---- scalars and keys
 
 abbrev pub false_at : ℕ → Mode → List ℕ → Read Tree
-false_at size mode bytes = if begins_letter mode 102 bytes then word_at size mode (codes "false") (boolean false) bytes else number_or_fault size mode bytes
+false_at size mode bytes = if begins_letter mode 102 bytes
+    then word_at size mode (codes "false") (boolean false) bytes else number_or_fault size mode bytes
 
 abbrev pub true_or_false_at : ℕ → Mode → List ℕ → Read Tree
-true_or_false_at size mode bytes = if begins_letter mode 116 bytes then word_at size mode (codes "true") (boolean true) bytes else false_at size mode bytes
+true_or_false_at size mode bytes = if begins_letter mode 116 bytes
+    then word_at size mode (codes "true") (boolean true) bytes else false_at size mode bytes
 
 -- the first, or where it fails the other
 abbrev pub or_else : {A : Type 0} → Result A Fault → Result A Fault → Result A Fault
@@ -87,10 +91,12 @@ or_else (Err e) other = other
 -- `null`; where that fails, in extended mode a number's word may begin with the same letter
 abbrev pub null_at : ℕ → Mode → List ℕ → Read Tree
 null_at size standard bytes = word_at size standard (codes "null") null bytes
-null_at size extended bytes = or_else (word_at size extended (codes "null") null bytes) (number_value_at size extended bytes)
+null_at size extended bytes =
+    or_else (word_at size extended (codes "null") null bytes) (number_value_at size extended bytes)
 
 abbrev pub words_at : ℕ → Mode → List ℕ → Read Tree
-words_at size mode bytes = if begins_letter mode 110 bytes then null_at size mode bytes else true_or_false_at size mode bytes
+words_at size mode bytes = if begins_letter mode 110 bytes then null_at size mode bytes
+    else true_or_false_at size mode bytes
 
 -- a string in single quotes, a word or a number
 abbrev pub other_scalar_at : ℕ → Mode → List ℕ → Read Tree
@@ -107,4 +113,6 @@ unquoted_at size extended bytes = bare_key_at size bytes
 
 -- a key, with its mark
 unfoldable pub key_at : ℕ → Mode → List ℕ → Read (Mark × List ℕ)
-key_at size mode bytes = on_byte 34 bytes (string_at size mode 34) (on_single_quote mode bytes (string_at size mode 39) (unquoted_at size mode bytes))
+key_at size mode bytes =
+    on_byte 34 bytes (string_at size mode 34)
+    (on_single_quote mode bytes (string_at size mode 39) (unquoted_at size mode bytes))

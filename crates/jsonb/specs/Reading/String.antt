@@ -33,7 +33,9 @@ unit_of braces digits = checked_unit braces digits (non_digit digits)
 unfoldable pub unit_at : List ℕ → Body Item
 unit_at bytes =
     if nat_lt (length bytes) 4 then Err (unexpected_end_of_hex_escape, 2)
-    else (if slice_index bytes 0 == 123 then (if slice_index bytes 5 == 125 then unit_of true (take 4 (drop 1 bytes)) else Err (unexpected_end_of_hex_escape, 2)) else unit_of false (take 4 bytes))
+    else (if slice_index bytes 0 == 123
+    then (if slice_index bytes 5 == 125 then unit_of true (take 4 (drop 1 bytes))
+    else Err (unexpected_end_of_hex_escape, 2)) else unit_of false (take 4 bytes))
 
 abbrev pub known_escape : ℕ → Option ℕ → Body Item
 known_escape letter None = Err (invalid_escaped letter, 2)
@@ -42,7 +44,8 @@ known_escape letter (Some byte) = Ok (escape letter byte)
 -- an escape, from the byte after the backslash on
 unfoldable pub escape_at : Mode → List ℕ → Body Item
 escape_at mode [] = Err (unexpected_end_of_hex_escape, 1)
-escape_at mode (letter ∷ bytes) = if letter == 117 then unit_at bytes else known_escape letter (escaped_byte mode letter)
+escape_at mode (letter ∷ bytes) = if letter == 117 then unit_at bytes
+    else known_escape letter (escaped_byte mode letter)
 
 -- the first item of a body
 unfoldable pub item_at : Mode → ℕ → List ℕ → Body Item
@@ -60,11 +63,13 @@ then_items (Err f) others = Err f
 unfoldable pub items_within : ℕ → Mode → List ℕ → Body (List Item)
 items_within n mode [] = Ok []
 items_within zero mode (b ∷ bytes) = Ok []
-items_within (suc n) mode (b ∷ bytes) = then_items (item_at mode b bytes) (λ item. items_within n mode (drop (length (spelling item)) (b ∷ bytes)))
+items_within (suc n) mode (b ∷ bytes) =
+    then_items (item_at mode b bytes) (λ item. items_within n mode (drop (length (spelling item)) (b ∷ bytes)))
 
 -- the meaning of the items, where it is text
 abbrev pub meaning_of : List ℕ → Body (List Item) → Body (Mark × List ℕ)
-meaning_of bytes (Ok items) = if is_utf8 (meaning items) then Ok (mark_of items, meaning items) else Err (invalid_string_value, length bytes)
+meaning_of bytes (Ok items) = if is_utf8 (meaning items) then Ok (mark_of items, meaning items)
+    else Err (invalid_string_value, length bytes)
 meaning_of bytes (Err f) = Err f
 
 -- a whole body: its mark and its text
@@ -78,12 +83,13 @@ abbrev pub further : ℕ → Result ℕ ℕ → Result ℕ ℕ
 further n (Ok end) = Ok (n + end)
 further n (Err at) = Err (n + at)
 
--- How many bytes stand before the closing quote, where this many bytes of an item are still to be passed. Where there is no
--- closing quote, the number tells where the search stands at the end, which may be past the bytes.
+-- How many bytes stand before the closing quote, where this many bytes of an item are still to be passed. Where there
+-- is no closing quote, the number tells where the search stands at the end, which may be past the bytes.
 unfoldable pub quote_from : ℕ → ℕ → List ℕ → Result ℕ ℕ
 quote_from quote passed [] = Err passed
 quote_from quote (suc passed) (b ∷ bytes) = further 1 (quote_from quote passed bytes)
-quote_from quote zero (b ∷ bytes) = if b == quote then Ok 0 else further 1 (quote_from quote (item_step (b ∷ bytes) - 1) bytes)
+quote_from quote zero (b ∷ bytes) = if b == quote then Ok 0
+    else further 1 (quote_from quote (item_step (b ∷ bytes) - 1) bytes)
 
 abbrev pub quote_end : ℕ → List ℕ → Result ℕ ℕ
 quote_end quote bytes = quote_from quote 0 bytes

@@ -238,5 +238,4 @@ impl<'a> Parser<'a> {
     {
         matches!(self.peek(), Some(next) if fold(next, self.mode) == letter)
     }
-
 }

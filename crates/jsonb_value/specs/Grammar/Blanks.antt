@@ -29,9 +29,11 @@ pub data IsBlank (mode : Mode) : List ℕ → Type 0 where
   written_tab : IsBlank mode (92 ∷ 116 ∷ [])
   written_form_feed : IsBlank mode (92 ∷ 120 ∷ 48 ∷ 67 ∷ [])
   -- a slash and a star, and any bytes up to the first star and slash after these
-  block_comment : (inside : List ℕ) → mode ≡ extended → LacksCommentEnd inside → IsBlank mode (47 ∷ 42 ∷ (inside ++ 42 ∷ 47 ∷ []))
+  block_comment : (inside : List ℕ) → mode ≡ extended → LacksCommentEnd inside
+      → IsBlank mode (47 ∷ 42 ∷ (inside ++ 42 ∷ 47 ∷ []))
   -- two slashes, and any bytes up to the end of the line
-  line_comment : (inside : List ℕ) (last : ℕ) → mode ≡ extended → IsOneLine inside → EndsLine last → IsBlank mode (47 ∷ 47 ∷ (inside ++ last ∷ []))
+  line_comment : (inside : List ℕ) (last : ℕ) → mode ≡ extended → IsOneLine inside → EndsLine last
+      → IsBlank mode (47 ∷ 47 ∷ (inside ++ last ∷ []))
 
 -- any number of blanks in a row
 pub data IsBlanks (mode : Mode) : List ℕ → Type 0 where
@@ -41,4 +43,5 @@ pub data IsBlanks (mode : Mode) : List ℕ → Type 0 where
 -- Blanks at the end of a whole text. In extended mode a line comment may end there with the text.
 pub data AreLastBlanks (mode : Mode) : List ℕ → Type 0 where
   blanks_to_end : {blanks : List ℕ} → IsBlanks mode blanks → AreLastBlanks mode blanks
-  line_to_end : {blanks : List ℕ} (inside : List ℕ) → mode ≡ extended → IsBlanks mode blanks → IsOneLine inside → AreLastBlanks mode (blanks ++ 47 ∷ 47 ∷ inside)
+  line_to_end : {blanks : List ℕ} (inside : List ℕ) → mode ≡ extended → IsBlanks mode blanks → IsOneLine inside
+      → AreLastBlanks mode (blanks ++ 47 ∷ 47 ∷ inside)

@@ -21,16 +21,18 @@ fraction_text (Some ds) = 46 ∷ ds
 
 -- ---- decimals
 
--- the parts of a decimal number text: a sign or none, zeros, digits that begin with no zero, a point with digits or none, and an exponent or none
-pub record HasDecimalParts (bytes sign zeros whole : List ℕ) (fraction : Option (List ℕ)) (exponent : List ℕ) : Type 0 where
-  pub joined : bytes ≡ sign ++ (zeros ++ (whole ++ (fraction_text fraction ++ exponent)))
-  pub is_sign : IsSign sign
-  pub are_zeros : zeros ≡ replicate (length zeros) 48
-  pub whole_digits : AllDigits 10 whole
-  pub no_zero_first : slice_index whole 0 ≢ 48
-  pub digits_behind : AllDigits 10 (fraction_digits fraction)
-  pub some_digit : 0 < length zeros + length whole + length (fraction_digits fraction)
-  pub is_exponent : IsExponent exponent
+-- the parts of a decimal number text: a sign or none, zeros, digits that begin with no zero, a point with digits or
+-- none, and an exponent or none
+pub record HasDecimalParts (bytes sign zeros whole : List ℕ) (fraction : Option (List ℕ)) (exponent : List ℕ) : Type 0
+  where
+    pub joined : bytes ≡ sign ++ (zeros ++ (whole ++ (fraction_text fraction ++ exponent)))
+    pub is_sign : IsSign sign
+    pub are_zeros : zeros ≡ replicate (length zeros) 48
+    pub whole_digits : AllDigits 10 whole
+    pub no_zero_first : slice_index whole 0 ≢ 48
+    pub digits_behind : AllDigits 10 (fraction_digits fraction)
+    pub some_digit : 0 < length zeros + length whole + length (fraction_digits fraction)
+    pub is_exponent : IsExponent exponent
 
 -- how many digits count
 abbrev pub precision_of : List ℕ → Option (List ℕ) → ℕ
@@ -56,22 +58,28 @@ decimal_form scale precision value =
     else (if nat_le precision 18 then decimal64 else decimal128))
 
 abbrev pub decimal_number : ℕ → ℕ → ℤ → Num
-decimal_number scale precision value = record { form = decimal_form scale precision value; scale = scale; whole = value }
+decimal_number scale precision value =
+    record { form = decimal_form scale precision value; scale = scale; whole = value }
 
 -- the bytes are a decimal number text without an exponent and with at most 38 digits, and n is its number
 abbrev pub IsDecimalNumber : List ℕ → Num → Type 0
 IsDecimalNumber bytes n =
-    (sign : List ℕ) × (zeros : List ℕ) × (whole : List ℕ) × (fraction : Option (List ℕ)) × HasDecimalParts bytes sign zeros whole fraction [] × (precision_of whole fraction ≤ 38)
-    × (n ≡ decimal_number (length (fraction_digits fraction)) (precision_of whole fraction) (value_of sign whole fraction))
+    (sign : List ℕ) × (zeros : List ℕ) × (whole : List ℕ) × (fraction : Option (List ℕ))
+    × HasDecimalParts bytes sign zeros whole fraction [] × (precision_of whole fraction ≤ 38)
+    × (n ≡ decimal_number (length (fraction_digits fraction)) (precision_of whole fraction)
+    (value_of sign whole fraction))
 
 -- the bytes are a decimal number text
 abbrev pub IsDecimalText : List ℕ → Type 0
-IsDecimalText bytes = (sign : List ℕ) × (zeros : List ℕ) × (whole : List ℕ) × (fraction : Option (List ℕ)) × (exponent : List ℕ) × HasDecimalParts bytes sign zeros whole fraction exponent
+IsDecimalText bytes = (sign : List ℕ) × (zeros : List ℕ) × (whole : List ℕ) × (fraction : Option (List ℕ))
+    × (exponent : List ℕ) × HasDecimalParts bytes sign zeros whole fraction exponent
 
 -- the bytes are a decimal number text with an exponent or with 39 digits or more
 abbrev pub IsUncarriedDecimal : List ℕ → Type 0
 IsUncarriedDecimal bytes =
-    (sign : List ℕ) × (zeros : List ℕ) × (whole : List ℕ) × (fraction : Option (List ℕ)) × (exponent : List ℕ) × HasDecimalParts bytes sign zeros whole fraction exponent × ((exponent ≢ []) ⊎ (38 < precision_of whole fraction))
+    (sign : List ℕ) × (zeros : List ℕ) × (whole : List ℕ) × (fraction : Option (List ℕ)) × (exponent : List ℕ)
+    × HasDecimalParts bytes sign zeros whole fraction exponent
+    × ((exponent ≢ []) ⊎ (38 < precision_of whole fraction))
 
 -- ---- hexadecimals
 
@@ -80,33 +88,39 @@ abbrev pub FitsHexadecimal : List ℕ → Type 0
 FitsHexadecimal ds = digits_value 16 ds < 2 ^ 128
 
 -- the parts of a hexadecimal number text: a sign or none, a zero and an x, digits, and a point with digits or none
-pub record HasHexadecimalParts (bytes sign : List ℕ) (mark : ℕ) (whole : List ℕ) (fraction : Option (List ℕ)) : Type 0 where
-  pub joined : bytes ≡ sign ++ (48 ∷ mark ∷ (whole ++ fraction_text fraction))
-  pub is_sign : IsSign sign
-  pub is_mark : to_ascii_lowercase mark ≡ 120
-  pub are_digits : IsNumeral 16 whole
-  pub digits_behind : IfSome fraction (IsNumeral 16)
-  pub whole_fits : FitsHexadecimal whole
-  pub fraction_fits : FitsHexadecimal (fraction_digits fraction)
+pub record HasHexadecimalParts (bytes sign : List ℕ) (mark : ℕ) (whole : List ℕ) (fraction : Option (List ℕ)) : Type 0
+  where
+    pub joined : bytes ≡ sign ++ (48 ∷ mark ∷ (whole ++ fraction_text fraction))
+    pub is_sign : IsSign sign
+    pub is_mark : to_ascii_lowercase mark ≡ 120
+    pub are_digits : IsNumeral 16 whole
+    pub digits_behind : IfSome fraction (IsNumeral 16)
+    pub whole_fits : FitsHexadecimal whole
+    pub fraction_fits : FitsHexadecimal (fraction_digits fraction)
 
 -- a hexadecimal without a fraction as a number, where a form holds it
 unfoldable pub hexadecimal_number : Bool → ℕ → Option Num
-hexadecimal_number false n = if nat_lt n (2 ^ 64) then Some (record { form = uint64; scale = 0; whole = pos n }) else (if nat_lt n (10 ^ 38) then Some (record { form = decimal128; scale = 0; whole = pos n }) else None)
-hexadecimal_number true n = if nat_le n (2 ^ 63) then Some (record { form = int64; scale = 0; whole = neg_ℤ (pos n) }) else (if nat_lt n (10 ^ 38) then Some (record { form = decimal128; scale = 0; whole = neg_ℤ (pos n) }) else None)
+hexadecimal_number false n = if nat_lt n (2 ^ 64) then Some (record { form = uint64; scale = 0; whole = pos n })
+    else (if nat_lt n (10 ^ 38) then Some (record { form = decimal128; scale = 0; whole = pos n }) else None)
+hexadecimal_number true n = if nat_le n (2 ^ 63) then Some (record { form = int64; scale = 0; whole = neg_ℤ (pos n) })
+    else (if nat_lt n (10 ^ 38) then Some (record { form = decimal128; scale = 0; whole = neg_ℤ (pos n) }) else None)
 
 -- the bytes are a hexadecimal number text without a fraction, and n is its number
 abbrev pub IsHexadecimalNumber : List ℕ → Num → Type 0
 IsHexadecimalNumber bytes n =
-    (sign : List ℕ) × (mark : ℕ) × (whole : List ℕ) × HasHexadecimalParts bytes sign mark whole None × (hexadecimal_number (is_minus sign) (digits_value 16 whole) ≡ Some n)
+    (sign : List ℕ) × (mark : ℕ) × (whole : List ℕ) × HasHexadecimalParts bytes sign mark whole None
+    × (hexadecimal_number (is_minus sign) (digits_value 16 whole) ≡ Some n)
 
 -- the bytes are a hexadecimal number text
 abbrev pub IsHexadecimalText : List ℕ → Type 0
-IsHexadecimalText bytes = (sign : List ℕ) × (mark : ℕ) × (whole : List ℕ) × (fraction : Option (List ℕ)) × HasHexadecimalParts bytes sign mark whole fraction
+IsHexadecimalText bytes = (sign : List ℕ) × (mark : ℕ) × (whole : List ℕ) × (fraction : Option (List ℕ))
+    × HasHexadecimalParts bytes sign mark whole fraction
 
 -- the bytes are a hexadecimal number text with a fraction or with a number that no form holds
 abbrev pub IsUncarriedHexadecimal : List ℕ → Type 0
 IsUncarriedHexadecimal bytes =
-    (sign : List ℕ) × (mark : ℕ) × (whole : List ℕ) × (fraction : Option (List ℕ)) × HasHexadecimalParts bytes sign mark whole fraction
+    (sign : List ℕ) × (mark : ℕ) × (whole : List ℕ) × (fraction : Option (List ℕ))
+    × HasHexadecimalParts bytes sign mark whole fraction
     × ((fraction ≢ None) ⊎ (hexadecimal_number (is_minus sign) (digits_value 16 whole) ≡ None))
 
 -- ---- words
@@ -121,7 +135,8 @@ IsNumberWord sign letters = Spells (codes "infinity") letters ⊎ (Spells (codes
 
 -- the bytes are a word that names no finite number
 abbrev pub IsWordText : List ℕ → Type 0
-IsWordText bytes = (sign : List ℕ) × (letters : List ℕ) × (bytes ≡ sign ++ letters) × IsSign sign × IsNumberWord sign letters
+IsWordText bytes = (sign : List ℕ) × (letters : List ℕ) × (bytes ≡ sign ++ letters) × IsSign sign
+    × IsNumberWord sign letters
 
 -- ---- all of them
 

@@ -36,10 +36,12 @@ IsUncarried extended bytes = IsExtendedUncarried bytes
 -- a word, a string in quotes or a number
 pub data IsScalar (mode : Mode) : List ℕ → Tree → Type 0 where
   literal_value : {bytes : List ℕ} {t : Tree} → IsLiteral mode bytes t → IsScalar mode bytes t
-  string_value : {quote : ℕ} {bytes text : List ℕ} {mark : Mark} → IsQuote mode quote → Quoted mode quote bytes text mark → IsScalar mode bytes (string mark text)
+  string_value : {quote : ℕ} {bytes text : List ℕ} {mark : Mark} → IsQuote mode quote
+      → Quoted mode quote bytes text mark → IsScalar mode bytes (string mark text)
   number_value : {bytes : List ℕ} {n : Num} → IsNumber mode bytes n → IsScalar mode bytes (number n)
 
 -- A key with its mark: a string in quotes, or in extended mode a bare key.
 pub data IsKey (mode : Mode) : List ℕ → Mark × List ℕ → Type 0 where
-  quoted_key : {quote : ℕ} {bytes text : List ℕ} {mark : Mark} → IsQuote mode quote → Quoted mode quote bytes text mark → IsKey mode bytes (mark, text)
+  quoted_key : {quote : ℕ} {bytes text : List ℕ} {mark : Mark} → IsQuote mode quote
+      → Quoted mode quote bytes text mark → IsKey mode bytes (mark, text)
   bare_key : {bytes : List ℕ} → mode ≡ extended → IsBareKey bytes → IsKey mode bytes (plain, bytes)

@@ -45,19 +45,24 @@ pub record HasParts (bytes : List ℕ) (negative : Bool) (whole fraction exponen
 
 -- a number text
 abbrev pub IsNumberText : List ℕ → Type 0
-IsNumberText bytes = (negative : Bool) × (whole : List ℕ) × (fraction : List ℕ) × (exponent : List ℕ) × HasParts bytes negative whole fraction exponent
+IsNumberText bytes = (negative : Bool) × (whole : List ℕ) × (fraction : List ℕ) × (exponent : List ℕ)
+    × HasParts bytes negative whole fraction exponent
 
--- Digits after a minus or none are this integer, which its type holds: 0 to 2^64-1 without a minus, and else -2^63 to 0.
+-- Digits after a minus or none are this integer, which its type holds: 0 to 2^64-1 without a minus, and else -2^63 to
+-- 0.
 abbrev pub IsInteger : Bool → ℕ → Num → Type 0
 IsInteger false value n = (value < 2 ^ 64) × (n ≡ record { form = uint64; scale = 0; whole = pos value })
-IsInteger true value n = FitsSigned w64 (neg_ℤ (pos value)) × (n ≡ record { form = int64; scale = 0; whole = neg_ℤ (pos value) })
+IsInteger true value n = FitsSigned w64 (neg_ℤ (pos value))
+    × (n ≡ record { form = int64; scale = 0; whole = neg_ℤ (pos value) })
 
 -- the bytes are an integer text, and n is its number
 abbrev pub IsStandardNumber : List ℕ → Num → Type 0
-IsStandardNumber bytes n = (negative : Bool) × (whole : List ℕ) × HasParts bytes negative whole [] [] × IsInteger negative (digits_value 10 whole) n
+IsStandardNumber bytes n = (negative : Bool) × (whole : List ℕ) × HasParts bytes negative whole [] []
+    × IsInteger negative (digits_value 10 whole) n
 
 -- the bytes are a number text with a fraction, an exponent or a value that its type does not hold
 abbrev pub IsStandardUncarried : List ℕ → Type 0
 IsStandardUncarried bytes =
-    (negative : Bool) × (whole : List ℕ) × (fraction : List ℕ) × (exponent : List ℕ) × HasParts bytes negative whole fraction exponent
+    (negative : Bool) × (whole : List ℕ) × (fraction : List ℕ) × (exponent : List ℕ)
+    × HasParts bytes negative whole fraction exponent
     × ((fraction ++ exponent ≢ []) ⊎ ((n : Num) → ¬ IsInteger negative (digits_value 10 whole) n))

@@ -55,7 +55,8 @@ IsItem mode (unit braces digits) = (length digits ≡ 4) × All IsHexDigit digit
 -- the number that four hexadecimal digits spell
 abbrev pub unit_value : List ℕ → ℕ
 unit_value digits =
-    digit_value (slice_index digits 0) * 4096 + digit_value (slice_index digits 1) * 256 + digit_value (slice_index digits 2) * 16 + digit_value (slice_index digits 3)
+    digit_value (slice_index digits 0) * 4096 + digit_value (slice_index digits 1) * 256
+    + digit_value (slice_index digits 2) * 16 + digit_value (slice_index digits 3)
 
 -- the halves of a surrogate pair
 abbrev pub is_high : ℕ → Bool
@@ -74,11 +75,13 @@ kept digits = 92 ∷ 117 ∷ digits
 
 -- a unit alone: its character, or the unit as text where it is half of a pair
 unfoldable pub alone : List ℕ → List ℕ
-alone digits = if is_high (unit_value digits) || is_low (unit_value digits) then kept digits else encode_utf8 (unit_value digits)
+alone digits = if is_high (unit_value digits) || is_low (unit_value digits) then kept digits
+    else encode_utf8 (unit_value digits)
 
 -- a high unit and the unit right after it: the character of the pair, or both as text where the second isn't low
 unfoldable pub together : List ℕ → List ℕ → List ℕ
-together high next = if is_low (unit_value next) then encode_utf8 (paired (unit_value high) (unit_value next)) else kept high ++ kept next
+together high next = if is_low (unit_value next) then encode_utf8 (paired (unit_value high) (unit_value next))
+    else kept high ++ kept next
 
 -- The bytes that items mean. Units are taken from the left, and a high one takes a unit right after it with it.
 unfoldable pub meaning : List Item → List ℕ
@@ -86,7 +89,8 @@ meaning [] = []
 meaning (raw byte ∷ items) = byte ∷ meaning items
 meaning (escape letter byte ∷ items) = byte ∷ meaning items
 meaning (unit p first ∷ unit q next ∷ items) =
-    if is_high (unit_value first) then together first next ++ meaning items else alone first ++ meaning (unit q next ∷ items)
+    if is_high (unit_value first) then together first next ++ meaning items
+    else alone first ++ meaning (unit q next ∷ items)
 meaning (unit p first ∷ items) = alone first ++ meaning items
 
 -- these items are a body, and it is spelled by these bytes

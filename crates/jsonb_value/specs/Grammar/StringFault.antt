@@ -21,13 +21,17 @@ pub record IsFirstNonDigit (bytes : List ℕ) (byte : ℕ) : Type 0 where
 -- The bytes, which follow `\u`, begin with no digits of a unit: what is wrong, and how many of them are read then.
 pub data BadUnit (bytes : List ℕ) (code : Code) (read : ℕ) : Type 0 where
   cut_unit : IsUnitCut bytes → code ≡ unexpected_end_of_hex_escape → read ≡ 0 → BadUnit bytes code read
-  bad_digit : (braces : Bool) (digits rest : List ℕ) (byte : ℕ) → bytes ≡ after_u braces digits ++ rest → length digits ≡ 4 → (braces ≡ false → slice_index digits 0 ≢ 123) → IsFirstNonDigit digits byte → code ≡ invalid_hex byte → read ≡ length (after_u braces digits) → BadUnit bytes code read
+  bad_digit : (braces : Bool) (digits rest : List ℕ) (byte : ℕ) → bytes ≡ after_u braces digits ++ rest
+      → length digits ≡ 4 → (braces ≡ false → slice_index digits 0 ≢ 123) → IsFirstNonDigit digits byte
+      → code ≡ invalid_hex byte → read ≡ length (after_u braces digits) → BadUnit bytes code read
 
 -- The bytes begin with a backslash and with no item: what is wrong, and how many of them are read then.
 pub data BadEscape (mode : Mode) (bytes : List ℕ) (code : Code) (read : ℕ) : Type 0 where
   cut_escape : bytes ≡ 92 ∷ [] → code ≡ unexpected_end_of_hex_escape → read ≡ 1 → BadEscape mode bytes code read
-  unknown_escape : (letter : ℕ) (rest : List ℕ) → bytes ≡ 92 ∷ letter ∷ rest → letter ≢ 117 → escaped_byte mode letter ≡ None → code ≡ invalid_escaped letter → read ≡ 2 → BadEscape mode bytes code read
-  bad_unit : (rest : List ℕ) (steps : ℕ) → bytes ≡ 92 ∷ 117 ∷ rest → BadUnit rest code steps → read ≡ 2 + steps → BadEscape mode bytes code read
+  unknown_escape : (letter : ℕ) (rest : List ℕ) → bytes ≡ 92 ∷ letter ∷ rest → letter ≢ 117
+      → escaped_byte mode letter ≡ None → code ≡ invalid_escaped letter → read ≡ 2 → BadEscape mode bytes code read
+  bad_unit : (rest : List ℕ) (steps : ℕ) → bytes ≡ 92 ∷ 117 ∷ rest → BadUnit rest code steps → read ≡ 2 + steps
+      → BadEscape mode bytes code read
 
 -- items, and then a bad escape
 pub record IsCutShort (mode : Mode) (bytes : List ℕ) (code : Code) (read : ℕ) : Type 0 where

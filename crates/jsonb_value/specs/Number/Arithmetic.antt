@@ -102,9 +102,14 @@ IsRest x y r = OfIntegers x y r (λ k. AnswersRemainder k (whole_of x) (whole_of
 -- the opposite number: an integer as an `Int64`, a decimal in its own variant with its own scale
 abbrev pub IsNegation : Number → Result Number Error → Type 0
 IsNegation (Int64 a) r = AnswersInt64 (codes "Int64 overflow") (neg_ℤ a) r
-IsNegation (UInt64 a) r = (a < 2 ^ 63 → r ≡ Ok (Int64 (neg_ℤ (pos a)))) × (2 ^ 63 ≤ a → RefusesWith (codes "Int64 overflow") r)
-IsNegation (Decimal64 d) r = (FitsSigned w64 (neg_ℤ d.value) → r ≡ Ok (Decimal64 (record d { value = neg_ℤ d.value }))) × (¬ FitsSigned w64 (neg_ℤ d.value) → RefusesWith (codes "Decimal64 overflow") r)
-IsNegation (Decimal128 d) r = (FitsSigned w128 (neg_ℤ d.value) → r ≡ Ok (Decimal128 (record d { value = neg_ℤ d.value }))) × (¬ FitsSigned w128 (neg_ℤ d.value) → RefusesWith (codes "Decimal128 overflow") r)
+IsNegation (UInt64 a) r = (a < 2 ^ 63 → r ≡ Ok (Int64 (neg_ℤ (pos a))))
+    × (2 ^ 63 ≤ a → RefusesWith (codes "Int64 overflow") r)
+IsNegation (Decimal64 d) r =
+    (FitsSigned w64 (neg_ℤ d.value) → r ≡ Ok (Decimal64 (record d { value = neg_ℤ d.value })))
+    × (¬ FitsSigned w64 (neg_ℤ d.value) → RefusesWith (codes "Decimal64 overflow") r)
+IsNegation (Decimal128 d) r =
+    (FitsSigned w128 (neg_ℤ d.value) → r ≡ Ok (Decimal128 (record d { value = neg_ℤ d.value })))
+    × (¬ FitsSigned w128 (neg_ℤ d.value) → RefusesWith (codes "Decimal128 overflow") r)
 
 -- z is in the range of an `Int64` or of a `UInt64`
 abbrev pub IsWithin65Bits : ℤ → Type 0

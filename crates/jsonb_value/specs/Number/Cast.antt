@@ -9,7 +9,8 @@ IsExactly scale whole n = whole ≡ n *ℤ pos (10 ^ scale)
 -- n is a whole number nearest to whole / 10^scale, and of two as near the one further from 0
 pub record IsNearest (scale : ℕ) (whole n : ℤ) : Type 0 where
   pub near : 2 * unsigned_abs (whole -ℤ n *ℤ pos (10 ^ scale)) ≤ 10 ^ scale
-  pub away_from_zero : 2 * unsigned_abs (whole -ℤ n *ℤ pos (10 ^ scale)) ≡ 10 ^ scale → unsigned_abs whole < unsigned_abs (n *ℤ pos (10 ^ scale))
+  pub away_from_zero : 2 * unsigned_abs (whole -ℤ n *ℤ pos (10 ^ scale)) ≡ 10 ^ scale
+      → unsigned_abs whole < unsigned_abs (n *ℤ pos (10 ^ scale))
 
 -- the number is n
 abbrev pub HasValue : Num → ℤ → Type 0

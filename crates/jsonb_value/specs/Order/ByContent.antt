@@ -3,7 +3,8 @@ use Rattle.std.specs.Prelude.{◌≡◌, ◌⊎◌, ◌↔◌, ⊤, ℕ, ◌<◌
 use Rattle.jsonb_value.specs.Order.{rank}
 use Rattle.jsonb_value.specs.Tree.{Num, Mark, Tree, boolean, number, string, array, object, binary, date, timestamp, timestamp_tz, interval, Trees, no_trees, more_trees, Member, Members, no_members, more_members}
 
--- At a place, where a list that has ended has nothing: both lists have ended, or both go on and their items are the same.
+-- At a place, where a list that has ended has nothing: both lists have ended, or both go on and their items are the
+-- same.
 abbrev pub SameAt : {X : Type 0} → (X → X → Type 0) → Option X → Option X → Type 0
 SameAt same None None = ⊤
 SameAt same None (Some y) = ⊥
@@ -55,7 +56,8 @@ crossed m n = m.whole *ℤ pos (10 ^ n.scale)
 module _ (below same : Tree → Tree → Type 0) where
   -- two trees compare as these lists do
   abbrev pub AsLists : {X : Type 0} → Tree → Tree → (X → X → Type 0) → (X → X → Type 0) → List X → List X → Type 0
-  AsLists t u item_below item_same xs ys = (below t u ↔ BelowByPlaces item_below item_same xs ys) × (same t u ↔ SameByPlaces item_same xs ys)
+  AsLists t u item_below item_same xs ys = (below t u ↔ BelowByPlaces item_below item_same xs ys)
+      × (same t u ↔ SameByPlaces item_same xs ys)
 
   -- Kinds stand by rank: trees of different kinds are never the same. Then false is below true, numbers compare by
   -- cross-multiplying, strings and binary data by their bytes, dates and times by their fields, arrays by their items,
@@ -64,12 +66,16 @@ module _ (below same : Tree → Tree → Type 0) where
     pub kinds : (t u : Tree) → rank t < rank u → below t u
     pub one_kind : (t u : Tree) → same t u → rank t ≡ rank u
     pub booleans : below (boolean false) (boolean true)
-    pub numbers : (m n : Num) → (below (number m) (number n) ↔ (crossed m n <ℤ crossed n m)) × (same (number m) (number n) ↔ (crossed m n ≡ crossed n m))
+    pub numbers : (m n : Num)
+        → (below (number m) (number n) ↔ (crossed m n <ℤ crossed n m))
+        × (same (number m) (number n) ↔ (crossed m n ≡ crossed n m))
     pub strings : (k l : Mark) (s t : List ℕ) → AsLists (string k s) (string l t) ◌<◌ ◌≡◌ s t
     pub binaries : (b c : List ℕ) → AsLists (binary b) (binary c) ◌<◌ ◌≡◌ b c
     pub dates : (d e : ℤ) → AsLists (date d) (date e) ◌<ℤ◌ ◌≡◌ (d ∷ []) (e ∷ [])
     pub timestamps : (t u : ℤ) → AsLists (timestamp t) (timestamp u) ◌<ℤ◌ ◌≡◌ (t ∷ []) (u ∷ [])
     pub zoned : (o p t u : ℤ) → AsLists (timestamp_tz o t) (timestamp_tz p u) ◌<ℤ◌ ◌≡◌ (o ∷ t ∷ []) (p ∷ u ∷ [])
-    pub intervals : (m n d e t u : ℤ) → AsLists (interval m d t) (interval n e u) ◌<ℤ◌ ◌≡◌ (m ∷ d ∷ t ∷ []) (n ∷ e ∷ u ∷ [])
+    pub intervals : (m n d e t u : ℤ)
+        → AsLists (interval m d t) (interval n e u) ◌<ℤ◌ ◌≡◌ (m ∷ d ∷ t ∷ []) (n ∷ e ∷ u ∷ [])
     pub arrays : (ts us : Trees) → AsLists (array ts) (array us) below same (items_of ts) (items_of us)
-    pub objects : (ms ns : Members) → AsLists (object ms) (object ns) (BelowPair below) (SamePair same) (pairs_of ms) (pairs_of ns)
+    pub objects : (ms ns : Members)
+        → AsLists (object ms) (object ns) (BelowPair below) (SamePair same) (pairs_of ms) (pairs_of ns)

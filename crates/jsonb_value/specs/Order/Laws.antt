@@ -63,18 +63,22 @@ second_ties Less s e = cc e
 second_ties Equal s e = e
 second_ties Greater s e = cc e
 
-then-reverse : (r s : Ordering) → ordering_reverse (ordering_then r s) ≡ ordering_then (ordering_reverse r) (ordering_reverse s)
+then-reverse : (r s : Ordering)
+    → ordering_reverse (ordering_then r s) ≡ ordering_then (ordering_reverse r) (ordering_reverse s)
 then-reverse Less s = refl
 then-reverse Equal s = refl
 then-reverse Greater s = refl
 
-then_antisymm : (a b c d : Ordering) → a ≡ ordering_reverse b → c ≡ ordering_reverse d → ordering_then a c ≡ ordering_reverse (ordering_then b d)
+then_antisymm : (a b c d : Ordering) → a ≡ ordering_reverse b → c ≡ ordering_reverse d
+    → ordering_then a c ≡ ordering_reverse (ordering_then b d)
 then_antisymm a b c d p q = (λ i. ordering_then (p i) (q i)) ∙ sym (then-reverse b d)
 
-then_congr : (a b c d e f : Ordering) → (a ≡ Equal → b ≡ c) → (d ≡ Equal → e ≡ f) → ordering_then a d ≡ Equal → ordering_then b e ≡ ordering_then c f
+then_congr : (a b c d e f : Ordering) → (a ≡ Equal → b ≡ c) → (d ≡ Equal → e ≡ f) → ordering_then a d ≡ Equal
+    → ordering_then b e ≡ ordering_then c f
 then_congr a b c d e f p q h = λ i. ordering_then (p (first_ties a d h) i) (q (second_ties a d h) i)
 
-then_trans : (a b c d e f : Ordering) → (a ≡ Less → b ≡ Less → c ≡ Less) → (a ≡ Equal → c ≡ b) → (b ≡ Equal → a ≡ c) → (d ≡ Less → e ≡ Less → f ≡ Less)
+then_trans : (a b c d e f : Ordering) → (a ≡ Less → b ≡ Less → c ≡ Less) → (a ≡ Equal → c ≡ b) → (b ≡ Equal → a ≡ c)
+    → (d ≡ Less → e ≡ Less → f ≡ Less)
     → ordering_then a d ≡ Less → ordering_then b e ≡ Less → ordering_then c f ≡ Less
 then_trans Less Less c d e f t g h s p q = ap (λ r. ordering_then r f) (t refl refl)
 then_trans Less Equal c d e f t g h s p q = ap (λ r. ordering_then r f) (sym (h refl))
@@ -87,9 +91,11 @@ then_trans Greater b c d e f t g h s p q = cc p
 then_at : {K : Type 0} {R S : K → K → Ordering} (x : K) → IsTotalAt R x → IsTotalAt S x → IsTotalAt (then_cmp R S) x
 then_at {K} {R} {S} x a b = record {
   antisymm = λ y. then_antisymm (R x y) (R y x) (S x y) (S y x) (a.antisymm y) (b.antisymm y);
-  trans = λ y z. then_trans (R x y) (R y z) (R x z) (S x y) (S y z) (S x z) (a.trans y z) (a.congr y z) (a.congr_right y z) (b.trans y z);
+  trans = λ y z. then_trans (R x y) (R y z) (R x z) (S x y) (S y z) (S x z) (a.trans y z) (a.congr y z)
+      (a.congr_right y z) (b.trans y z);
   congr = λ y z. then_congr (R x y) (R x z) (R y z) (S x y) (S x z) (S y z) (a.congr y z) (b.congr y z);
-  congr_right = λ y z. then_congr (R y z) (R x y) (R x z) (S y z) (S x y) (S x z) (a.congr_right y z) (b.congr_right y z);
+  congr_right =
+      λ y z. then_congr (R y z) (R x y) (R x z) (S y z) (S x y) (S x z) (a.congr_right y z) (b.congr_right y z);
 }
 
 -- ---- lists
@@ -122,23 +128,31 @@ module _ {K : Type 0} (R : K → K → Ordering) where
     where
       antisymm : (ys : List K) → slice_cmp R (x ∷ xs) ys ≡ ordering_reverse (slice_cmp R ys (x ∷ xs))
       antisymm [] = refl
-      antisymm (y ∷ ys) = then_antisymm (R x y) (R y x) (slice_cmp R xs ys) (slice_cmp R ys xs) (a.antisymm y) (b.antisymm ys)
+      antisymm (y ∷ ys) =
+          then_antisymm (R x y) (R y x) (slice_cmp R xs ys) (slice_cmp R ys xs) (a.antisymm y) (b.antisymm ys)
 
-      trans : (ys zs : List K) → slice_cmp R (x ∷ xs) ys ≡ Less → slice_cmp R ys zs ≡ Less → slice_cmp R (x ∷ xs) zs ≡ Less
+      trans : (ys zs : List K) → slice_cmp R (x ∷ xs) ys ≡ Less → slice_cmp R ys zs ≡ Less
+          → slice_cmp R (x ∷ xs) zs ≡ Less
       trans [] zs p q = cc p
       trans (y ∷ ys) [] p q = cc q
-      trans (y ∷ ys) (z ∷ zs) p q = then_trans (R x y) (R y z) (R x z) (slice_cmp R xs ys) (slice_cmp R ys zs) (slice_cmp R xs zs) (a.trans y z) (a.congr y z) (a.congr_right y z) (b.trans ys zs) p q
+      trans (y ∷ ys) (z ∷ zs) p q =
+          then_trans (R x y) (R y z) (R x z) (slice_cmp R xs ys) (slice_cmp R ys zs) (slice_cmp R xs zs) (a.trans y z)
+          (a.congr y z) (a.congr_right y z) (b.trans ys zs) p q
 
       congr : (ys zs : List K) → slice_cmp R (x ∷ xs) ys ≡ Equal → slice_cmp R (x ∷ xs) zs ≡ slice_cmp R ys zs
       congr [] zs p = cc p
       congr (y ∷ ys) [] p = refl
-      congr (y ∷ ys) (z ∷ zs) p = then_congr (R x y) (R x z) (R y z) (slice_cmp R xs ys) (slice_cmp R xs zs) (slice_cmp R ys zs) (a.congr y z) (b.congr ys zs) p
+      congr (y ∷ ys) (z ∷ zs) p =
+          then_congr (R x y) (R x z) (R y z) (slice_cmp R xs ys) (slice_cmp R xs zs) (slice_cmp R ys zs) (a.congr y z)
+          (b.congr ys zs) p
 
       congr_right : (ys zs : List K) → slice_cmp R ys zs ≡ Equal → slice_cmp R (x ∷ xs) ys ≡ slice_cmp R (x ∷ xs) zs
       congr_right [] [] p = refl
       congr_right [] (z ∷ zs) p = cc p
       congr_right (y ∷ ys) [] p = cc p
-      congr_right (y ∷ ys) (z ∷ zs) p = then_congr (R y z) (R x y) (R x z) (slice_cmp R ys zs) (slice_cmp R xs ys) (slice_cmp R xs zs) (a.congr_right y z) (b.congr_right ys zs) p
+      congr_right (y ∷ ys) (z ∷ zs) p =
+          then_congr (R y z) (R x y) (R x z) (slice_cmp R ys zs) (slice_cmp R xs ys) (slice_cmp R xs zs)
+          (a.congr_right y z) (b.congr_right ys zs) p
 
 pub trees_cmp-list : (ts us : Trees) → trees_cmp ts us ≡ slice_cmp tree_cmp (items_of ts) (items_of us)
 trees_cmp-list no_trees no_trees = refl
@@ -159,7 +173,8 @@ members_cmp-list no_members no_members = refl
 members_cmp-list no_members (more_members l u ns) = refl
 members_cmp-list (more_members k t ms) no_members = refl
 members_cmp-list (more_members k t ms) (more_members l u ns) =
-    then_assoc (bytes_cmp k l) (tree_cmp t u) (members_cmp ms ns) ∙ ap (ordering_then (entry_cmp (k, t) (l, u))) (members_cmp-list ms ns)
+    then_assoc (bytes_cmp k l) (tree_cmp t u) (members_cmp ms ns) ∙ ap (ordering_then (entry_cmp (k, t) (l, u)))
+    (members_cmp-list ms ns)
 
 -- ---- trees, by their parts: the kind, and then what the kinds hold, where a tree that lacks a part has an empty one
 
@@ -193,7 +208,11 @@ members_in (object ms) = ms
 members_in t = no_members
 
 abbrev pub parts_cmp : Tree → Tree → Ordering
-parts_cmp = then_cmp (on rank nat_cmp) (then_cmp (on ints_of (slice_cmp int_cmp)) (then_cmp (on num_of num_cmp) (then_cmp (on bytes_of bytes_cmp) (then_cmp (on trees_in trees_cmp) (on members_in members_cmp)))))
+parts_cmp =
+    then_cmp (on rank nat_cmp)
+    (then_cmp (on ints_of (slice_cmp int_cmp))
+    (then_cmp (on num_of num_cmp)
+    (then_cmp (on bytes_of bytes_cmp) (then_cmp (on trees_in trees_cmp) (on members_in members_cmp)))))
 
 bools : (b c : Bool) → bool_cmp b c ≡ int_cmp (bool_int b) (bool_int c)
 unfolding bool_int
@@ -206,9 +225,11 @@ pub tree_cmp-parts : (t u : Tree) → tree_cmp t u ≡ parts_cmp t u
 tree_cmp-parts (binary b) (binary c) = sym (then_equal (bytes_cmp b c))
 tree_cmp-parts (date d) (date e) = sym (then_equal _ ∙ then_equal (int_cmp d e))
 tree_cmp-parts (timestamp t) (timestamp u) = sym (then_equal _ ∙ then_equal (int_cmp t u))
-tree_cmp-parts (timestamp_tz o t) (timestamp_tz p u) = sym (then_equal _ ∙ ap (ordering_then (int_cmp o p)) (then_equal (int_cmp t u)))
+tree_cmp-parts (timestamp_tz o t) (timestamp_tz p u) =
+    sym (then_equal _ ∙ ap (ordering_then (int_cmp o p)) (then_equal (int_cmp t u)))
 tree_cmp-parts (interval m d t) (interval n e u) =
-    sym (then_equal _ ∙ ap (λ r. ordering_then (int_cmp m n) (ordering_then (int_cmp d e) r)) (then_equal (int_cmp t u)))
+    sym (then_equal _ ∙ ap (λ r. ordering_then (int_cmp m n) (ordering_then (int_cmp d e) r))
+    (then_equal (int_cmp t u)))
 tree_cmp-parts (boolean b) (boolean c) = bools b c ∙ sym (then_equal _ ∙ then_equal _)
 tree_cmp-parts (number m) (number n) = sym (then_equal (num_cmp m n))
 tree_cmp-parts (string k s) (string l t) = sym (then_equal (bytes_cmp s t))
@@ -240,7 +261,8 @@ no_members_at = members_from no_members (none_at entry_cmp)
 entry_at : (k : List ℕ) (t : Tree) → IsTotalAt tree_cmp t → IsTotalAt entry_cmp (k, t)
 entry_at k t a =
     let e : List ℕ × Tree = (k, t) in
-    then_at e (on_at (λ (e : List ℕ × Tree). e.0) e (at_each nat_list_cmp_total k)) (on_at (λ (e : List ℕ × Tree). e.1) e a)
+    then_at e (on_at (λ (e : List ℕ × Tree). e.0) e (at_each nat_list_cmp_total k))
+    (on_at (λ (e : List ℕ × Tree). e.1) e a)
 
 mutual
   tree_at : (t : Tree) → IsTotalAt tree_cmp t
@@ -278,7 +300,12 @@ module _ {X : Type 0} {R : X → X → Ordering} (o : IsTotalOrder R) where
   one_order : IsOneOrder (λ x y. R x y ≡ Less) (λ x y. R x y ≡ Equal)
   one_order = record {
     some_holds = λ x y. one_of_three x y (R x y) refl;
-    below_alone = λ x y b. (λ s. let e : Less ≡ Equal = sym b ∙ s in cc, λ c. let e : Less ≡ Greater = sym b ∙ o.antisymm x y ∙ ap ordering_reverse c in cc);
+    below_alone =
+        λ x y b. (
+          λ s. let e : Less ≡ Equal = sym b ∙ s
+              in cc,
+          λ c. let e : Less ≡ Greater = sym b ∙ o.antisymm x y ∙ ap ordering_reverse c in cc,
+        );
     below_trans = o.trans;
     same_refl = tied_itself o;
     same_symm = tied_back o;

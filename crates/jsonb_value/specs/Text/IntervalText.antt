@@ -4,9 +4,11 @@ use Rattle.std.specs.Fmt.{decimal, sign_text, signed_decimal}
 use Rattle.std.specs.Int.{is_negative}
 use Rattle.jsonb_value.specs.Text.NumberText.{zero_padded}
 
--- an amount of a unit: nothing for 0, and else the amount, a blank and the unit's name, with an s unless the amount without its sign is 1
+-- an amount of a unit: nothing for 0, and else the amount, a blank and the unit's name, with an s unless the amount
+-- without its sign is 1
 unfoldable pub amount_text : ℤ → List ℕ → List ℕ
-amount_text amount name = if unsigned_abs amount == 0 then [] else signed_decimal amount ++ 32 ∷ name ++ (if unsigned_abs amount == 1 then [] else 115 ∷ [])
+amount_text amount name = if unsigned_abs amount == 0 then []
+    else signed_decimal amount ++ 32 ∷ name ++ (if unsigned_abs amount == 1 then [] else 115 ∷ [])
 
 -- a point and six digits, or nothing for 0
 unfoldable pub microseconds_text : ℕ → List ℕ
@@ -21,7 +23,8 @@ clock_text micros = zero_padded 2 (decimal (micros / 3600000000))
 
 -- a time of day's length, with a minus if negative: nothing for 0
 unfoldable pub time_text : ℤ → List ℕ
-time_text micros = if unsigned_abs micros == 0 then [] else sign_text (is_negative micros) ++ clock_text (unsigned_abs micros)
+time_text micros = if unsigned_abs micros == 0 then []
+    else sign_text (is_negative micros) ++ clock_text (unsigned_abs micros)
 
 -- the text, and a blank after it where it is not empty
 unfoldable pub with_blank : List ℕ → List ℕ
@@ -37,4 +40,6 @@ beside before (c ∷ text) = with_blank before ++ c ∷ text
 unfoldable pub interval_text : ℤ → ℤ → ℤ → List ℕ
 interval_text months days micros =
     if unsigned_abs months == 0 && unsigned_abs days == 0 && unsigned_abs micros == 0 then codes "00:00:00"
-    else beside (beside (beside (amount_text (int_div months (pos 12)) (codes "year")) (amount_text (int_rem months (pos 12)) (codes "month"))) (amount_text days (codes "day"))) (time_text micros)
+    else beside
+    (beside (beside (amount_text (int_div months (pos 12)) (codes "year"))
+    (amount_text (int_rem months (pos 12)) (codes "month"))) (amount_text days (codes "day"))) (time_text micros)

@@ -14,7 +14,8 @@ with_point scale ds = if scale == 0 then ds else take (length ds - scale) ds ++ 
 
 -- a minus where the whole number is negative, then its digits, at least scale + 1 of them, with the point
 unfoldable pub text_of_parts : ℕ → ℤ → List ℕ
-text_of_parts scale whole = sign_text (is_negative whole) ++ with_point scale (zero_padded (scale + 1) (decimal (unsigned_abs whole)))
+text_of_parts scale whole = sign_text (is_negative whole)
+    ++ with_point scale (zero_padded (scale + 1) (decimal (unsigned_abs whole)))
 
 -- the text of a number
 abbrev pub number_text : Num → List ℕ

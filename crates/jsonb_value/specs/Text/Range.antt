@@ -52,7 +52,8 @@ IsIntegerForm decimal128 = ⊥
 abbrev pub IsIntegral : Num → Type 0
 IsIntegral n = IsIntegerForm n.form
 
--- The tree is in range: it is JSON, at most 512 arrays and objects stand inside of each other, and decimals have few digits.
+-- The tree is in range: it is JSON, at most 512 arrays and objects stand inside of each other, and decimals have few
+-- digits.
 abbrev pub IsInRange : Tree → Type 0
 IsInRange t = IsWithin IsInTexts t max_depth
 

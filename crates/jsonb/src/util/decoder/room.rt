@@ -1,7 +1,6 @@
 //! Appending where there is room.
 ghost use Rattle.std.specs.Prelude.{◌≡◌, ◌+◌, ◌≤◌, ◌<◌, ◌++◌, ◌∷◌, [], length, vec_len, vec_capacity};
 
-
 // Appends a byte where there is room.
 pub(super) fn push_within(text: &mut Vec<u8>, byte: u8)
     requires { vec_len text.old < vec_capacity text.old }

@@ -214,7 +214,10 @@ fn after_next_mark<'a>(unit: &HexUnit<'a>) -> Option<&'a [u8]>
 // Decodes the unit whose `\u` stands before the bytes, with the next one where the two are taken together. Returns
 // what follows.
 #[inline(always)]
-pub(super) fn units<'a>(bytes: &'a [u8], text: &mut Vec<u8>) -> std::result::Result<&'a [u8], DecodingFault>
+pub(super) fn units<'a>(
+    bytes: &'a [u8],
+    text: &mut Vec<u8>,
+) -> std::result::Result<&'a [u8], DecodingFault>
     requires { vec_len text.old + 2 + length bytes.now ≤ vec_capacity text.old }
     ensures ok { IfOk result (λ rest. (mode : GrammarMode) → Adds mode
         (92 ∷ 117 ∷ bytes.now) rest.now text.old.items text.new.items) }
