@@ -314,6 +314,18 @@ impl<'a> Parser<'a> {
     }
 }
 
+// An array that was read keeps room for so many values more than it has, and no more.
+const SPARE: usize = 15;
+
+// Gives back room that nothing needs, where there is enough of it to be worth the call.
+fn give_back(items: &mut Vec<Value>)
+    ensures { items.new.items ≡ items.old.items }
+{
+    if items.capacity() - items.len() > SPARE {
+        items.shrink_to_fit();
+    }
+}
+
 impl<'a> OpenValue<'a> {
     // The value of a container that was read.
     #[inline(always)]
@@ -321,7 +333,10 @@ impl<'a> OpenValue<'a> {
         ensures { view result ≡ tree_of self.entry }
     {
         match self {
-            OpenValue::Array(items) => Value::Array(items),
+            OpenValue::Array(mut items) => {
+                give_back(&mut items);
+                Value::Array(items)
+            }
             OpenValue::Object(object) => Value::Object(object.members),
         }
     }

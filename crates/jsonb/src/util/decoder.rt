@@ -13,7 +13,7 @@ mod unit;
 
 use crate::parser::Mode;
 use jsonb_value::error::{Error, ParseErrorCode, Result};
-use room::push_within;
+use room::{give_back, push_within};
 use run::copy_run;
 use std::alloc::Global;
 use unit::units;
@@ -110,6 +110,7 @@ pub(crate) fn unescape(alloc: Global, bytes: &[u8], mode: Mode, idx: &mut usize)
         return Err(Error::Syntax(fault.code, *idx));
     }
     *idx += bytes.len();
+    give_back(&mut text);
     match String::from_utf8(text) {
         Ok(text) => Ok(text),
         Err(_) => Err(Error::Syntax(ParseErrorCode::InvalidStringValue, *idx)),

@@ -20,3 +20,15 @@ pub(super) fn extend_within(text: &mut Vec<u8>, bytes: &[u8])
 {
     let _ = text.extend_from_slice(bytes);
 }
+
+// A decoded text keeps room for so many bytes more than it has, and no more.
+const SPARE: usize = 63;
+
+// Gives back room that nothing needs, where there is enough of it to be worth the call.
+pub(super) fn give_back(text: &mut Vec<u8>)
+    ensures { text.new.items ≡ text.old.items }
+{
+    if text.capacity() - text.len() > SPARE {
+        text.shrink_to_fit();
+    }
+}

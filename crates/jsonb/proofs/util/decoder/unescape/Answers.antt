@@ -1,4 +1,5 @@
 use Rattle.std.proofs.Common.{◌≡◌, [], inl, refl, sym, ap, subst, string_bytes, arith}
+use Rattle.std.specs.Str.{IsUtf8}
 use Rattle.std.proofs.lemmas.Str.{IsUtf8-string_bytes}
 use Rattle.std.proofs.lemmas.Bool.{false≢true}
 use Rattle.jsonb.specs.Parser.{mode_of}
@@ -20,11 +21,11 @@ returns-in-Ok-from_utf8-clause-ok c =
     let mode = mode_of c.args.mode in
     let text = c.in-Ok-from_utf8.text in
     let all = decoded_from_empty mode c.args.bytes.now c.in-Ok.text.items c.decode.new.text.items c.in-Ok.ensures.items c.in_default-decode.ensures.ok in
-    let same : c.decode.new.text.items ≡ string_bytes text = ap (λ v. v.items) (sym c.in-Ok-from_utf8.ensures.ok) in
+    let same : c.decode.new.text.items ≡ string_bytes text = subst (λ bs. bs ≡ string_bytes text) c.give_back.ensures (ap (λ v. v.items) (sym c.in-Ok-from_utf8.ensures.ok)) in
     decodes_all mode c.args.bytes.now (string_bytes text) (subst (λ new. DecodesUpTo mode c.args.bytes.now [] new) same all) (IsUtf8-string_bytes text)
 
 pub returns-clause-err : goal.returns-clause-err
 returns-clause-err c =
     let mode = mode_of c.args.mode in
     let all = decoded_from_empty mode c.args.bytes.now c.in-Ok.text.items c.decode.new.text.items c.in-Ok.ensures.items c.in_default-decode.ensures.ok in
-    (_, fault_no_text mode c.args.bytes.now c.decode.new.text.items all (λ utf8. false≢true (c.in-Err-from_utf8.ensures.succeeds utf8)), refl, refl)
+    (_, fault_no_text mode c.args.bytes.now c.decode.new.text.items all (λ utf8. false≢true (c.in-Err-from_utf8.ensures.succeeds (subst IsUtf8 (sym c.give_back.ensures) utf8))), refl, refl)
