@@ -1,7 +1,10 @@
 //! Laws of the grammar, which hold whatever is read. Each is the contract of a function that does nothing.
 
 ghost use Rattle.std.specs.Prelude.{◌≡◌, ◌≢◌, ◌++◌, ℕ, List, [], None};
+ghost use Rattle.jsonb_value.specs.Code.{Code};
 ghost use Rattle.jsonb_value.specs.Grammar.{Derives, IsDocument};
+ghost use Rattle.jsonb_value.specs.Grammar.StringBody.{Decodes};
+ghost use Rattle.jsonb_value.specs.Grammar.StringFault.{IsFaultyBody};
 ghost use Rattle.jsonb_value.specs.Mode.{Mode};
 ghost use Rattle.jsonb_value.specs.Accessors.{as_number};
 ghost use Rattle.jsonb_value.specs.Tree.{Tree};
@@ -15,4 +18,11 @@ pub fn one_reading()
         → Derives mode n (bytes ++ rest) u → rest ≢ [] → (as_number t ≢ None) × (as_number u ≢ None) }
     ensures same { (mode : Mode) → (m n : ℕ) → (bytes : List ℕ) → (t u : Tree) → Derives mode m bytes t
         → Derives mode n bytes u → t ≡ u }
+{}
+
+/// The body of a string means at most one text, and bytes that have a fault are the body of none.
+pub fn one_decoding()
+    ensures text { (mode : Mode) → (bytes s t : List ℕ) → Decodes mode bytes s → Decodes mode bytes t → s ≡ t }
+    ensures fault { (mode : Mode) → (bytes : List ℕ) → (code : Code) → (read : ℕ) → (text : List ℕ)
+        → IsFaultyBody mode bytes code read → Decodes mode bytes text → ⊥ }
 {}

@@ -11,7 +11,7 @@ pub use jsonb_value::extension::{Date, ExtensionValue, Interval, Timestamp, Time
 pub use jsonb_value::number::{Decimal64, Decimal128, Number};
 pub use jsonb_value::value::{Object, Value};
 pub use jsonb_value::{error, extension, number, value};
-pub use laws::one_reading;
+pub use laws::{one_decoding, one_reading};
 pub use line::line_and_column;
 pub use parser::{JsonAst, Mode, parse_value, parse_value_standard_mode};
 pub use util::parse_string;
