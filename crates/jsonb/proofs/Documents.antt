@@ -1,4 +1,4 @@
 -- Whole documents.
-pub mod Answers
+pub mod Agreement
 pub mod Markers
 pub mod Spellings

@@ -44,7 +44,7 @@ pub data IsFront (mode : Mode) : List ℕ → ℕ → Type 0 where
       → IsPadded mode (IsKey mode) left key → IsFront mode rest count
       → IsFront mode (before ++ 123 ∷ (members ++ (left ++ 58 ∷ rest))) (suc count)
 
--- A value is due at a byte that begins none, and no blank begins there. A place counts from 1.
+-- A value is due at a byte that begins none, and no blank begins there. The place counts from 1.
 pub record LacksValue (mode : Mode) (input : List ℕ) (place : ℕ) : Type 0 where
   pub front : List ℕ
   pub byte : ℕ

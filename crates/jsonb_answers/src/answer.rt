@@ -1,5 +1,5 @@
-//! The answer to one line: a letter, and what it is asked of in hexadecimal, with one blank before each part, also where
-//! that part is empty. The letter is `s` for standard or `e` for extended mode, or `b` for a string's body.
+//! The answer to one line: a letter, and what it is asked of in hexadecimal, with one blank before each part, also
+//! where that part is empty. The letter is `s` for standard or `e` for extended mode, or `b` for a string's body.
 //!
 //! | line | answer |
 //! |---|---|

@@ -1,5 +1,5 @@
-//! Reads JSON texts, one or two on each line of standard input, and says of each line how they are read. `tests/compare`
-//! asks it.
+//! Reads JSON texts, one or two on each line of standard input, and says of each line how they are read.
+//! `tests/compare` asks it.
 #![tactic(auto)]
 
 mod answer;

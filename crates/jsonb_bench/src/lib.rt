@@ -45,8 +45,8 @@ pub extern "C" fn jsonb_bench_read_extended(alloc: Global, text: &[u8], rounds: 
     rounds
 }
 
-/// Reads the text as standard JSON into a [`JsonAst`] `rounds` times, and drops each, with no value made of it. The answer
-/// is how many rounds went well before the first that did not, and so it is `rounds` where all did.
+/// Reads the text as standard JSON into a [`JsonAst`] `rounds` times, and drops each, with no value made of it. The
+/// answer is how many rounds went well before the first that did not, and so it is `rounds` where all did.
 #[unsafe(no_mangle)]
 pub extern "C" fn jsonb_bench_read_ast(alloc: Global, text: &[u8], rounds: usize) -> usize
     ensures most { result ≤ rounds }

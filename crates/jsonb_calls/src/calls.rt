@@ -1,6 +1,6 @@
-//! The calls on a text. A line of the input is a letter, `s` for standard or `e` for extended mode, a blank, and the text
-//! in hexadecimal. Each call has a line of its own: its name, a blank, and the text of its answer or what is printed of
-//! the refusal.
+//! The calls on a text. A line of the input is a letter, `s` for standard or `e` for extended mode, a blank, and the
+//! text in hexadecimal. Each call has a line of its own: its name, a blank, and the text of its answer or what is
+//! printed of the refusal.
 
 use jsonb::{Error, JsonAst, Mode, Result, Value};
 use std::alloc::Global;

@@ -80,7 +80,7 @@ array_entered p o q fs gs v begun a b skipped opened none e fits reads =
     (ap (λ r. begins 93 r) (sym skipped) ∙ opened) here
     ∙ sym (ahead_pushed p q fs gs (variants.Array v) (elements_so_far []) begun (goes_on p o q a b) e (ap (λ xs. elements_so_far (map ast_view xs)) none))
 
--- ---- the beginning of an open_object
+-- ---- where an object begins
 
 object-open : (size : ℕ) (mode : Mode) (n m : ℕ) (cs : List Open) (bytes : List ℕ) → n ≡ suc m → begins 125 (skip_blanks mode bytes) ≡ false
     → (object_within size mode n bytes >>= resume size mode n cs)

@@ -38,7 +38,7 @@ impl<'a> JsonAst<'a> {
     ///
     /// # Errors
     ///
-    /// `Syntax` with what is wrong and the index that is named, where the text is no document of the mode; the text is
+    /// `Syntax` with what is wrong and a position, where the text is no document of the mode; the text is
     /// read from the left, and the first fault that is met is told. `OutOfMemory` only where the text holds `[`, `{` or
     /// a backslash.
     pub fn parse(alloc: Global, buf: &'a [u8], mode: Mode) -> Result<JsonAst<'a>>
@@ -60,8 +60,8 @@ impl<'a> JsonAst<'a> {
         // of a number and of a key.
         ensures explained { IfErr result (IsExplained (mode_of mode) buf.now) }
 
-        // Each value stands in the text where it was read. Each object's keys rise, and each member's own key ends at its
-        // index.
+        // Each value stands in the text where it was read. Each object's keys ascend, and each member's own key ends at
+        // its index.
         ensures source { IfOk result (λ v. IsPlaced (mode_of mode) buf.now (source_view v)) }
     {
         let mut parser = Parser {

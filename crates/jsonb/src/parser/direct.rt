@@ -187,8 +187,8 @@ impl<'a> Parser<'a> {
     fn read_elements(&mut self, items: &mut Vec<Value<'a>>, text: &'a str) -> Option<bool>
         requires inside { self.old.idx ≤ size_of self.old }
         requires same { text.now ≡ self.old.buf.now }
-        ensures reads { IfSome result (λ closed. (depth : ℕ) → ReadsParts (size_of self.old) (mode_of self.old.mode) depth
-            (elements_from (size_of self.old) (mode_of self.old.mode) depth (map view items.old.items)
+        ensures reads { IfSome result (λ closed. (depth : ℕ) → ReadsParts (size_of self.old) (mode_of self.old.mode)
+            depth (elements_from (size_of self.old) (mode_of self.old.mode) depth (map view items.old.items)
             (rest_of self.old)) closed (Array items.new) (rest_of self.new)) }
         ensures onward { IfSome result (λ closed. MatchBool closed (self.old.idx < self.new.idx) (Unit {0})) }
         ensures advances { Advances self.old self.new }

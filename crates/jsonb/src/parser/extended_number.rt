@@ -1,4 +1,4 @@
-// The numbers of extended texts: decimals, hexadecimals and words.
+//! The numbers of extended texts: decimals, hexadecimals and words.
 ghost use Rattle.std.specs.Prelude.{◌≡◌, ◌≢◌, ◌+◌, ◌-◌, ◌*◌, ◌≤◌, ◌<◌, ◌^◌, length, Err, Some, None, IfOk, IfErr};
 ghost use Rattle.jsonb_value.specs.View.{number_view};
 ghost use Rattle.jsonb_value.specs.declared.error.Error.TheVariants.{OutOfMemory};

@@ -1,4 +1,4 @@
-// The numbers of standard texts.
+//! The numbers of standard texts.
 ghost use Rattle.std.specs.Prelude.{◌≡◌, ◌≢◌, ℕ, ◌+◌, ◌*◌, ◌≤◌, ◌<◌, ◌^◌, length, take, drop, slice_index, Err, Some, None, MatchOption, IfOk, IfErr};
 ghost use Rattle.std.specs.Char.{digit_value};
 ghost use Rattle.std.specs.Bool.{MatchBool};

@@ -1,4 +1,4 @@
-//! The decoding of strings.
+//! From a string's body to the text that it means, escape by escape and run by run.
 ghost use Rattle.std.specs.Prelude.{◌≡◌, ◌+◌, ◌*◌, ◌^◌, ◌≤◌, ◌<◌, ◌∷◌, [], length, vec_len, vec_capacity, IfOk, IfErr, OnOk, Some, None, string_bytes};
 ghost use Rattle.jsonb_value.specs.Mode.{standard};
 ghost use Rattle.jsonb_value.specs.Code.{code_of};
@@ -55,7 +55,8 @@ fn escape<'a>(
     ensures ok { IfOk result (λ rest. Adds (mode_of mode) (92 ∷ bytes.now) rest.now text.old.items text.new.items) }
     ensures shorter { IfOk result (λ rest. length rest.now ≤ length bytes.now) }
     ensures room { IfOk result (λ rest. vec_len text.new + length rest.now ≤ vec_len text.old + 1 + length bytes.now) }
-    ensures err { IfErr result (λ fault. StopsAtEscape (mode_of mode) (92 ∷ bytes.now) (code_of fault.code) fault.left) }
+    ensures err { IfErr result (λ fault. StopsAtEscape (mode_of mode) (92 ∷ bytes.now) (code_of fault.code)
+        fault.left) }
     ensures capacity { vec_capacity text.old ≤ vec_capacity text.new }
 {
     let Some((letter, rest)) = bytes.split_first() else {

@@ -36,7 +36,7 @@ code_text object_key_invalid_character = codes "object attribute name cannot be 
 code_text number_not_carried = codes "number not carried"
 code_text depth_limit_exceeded = codes "depth limit exceeded"
 
--- A fault of a text in words, with its place in decimal; a message as it is; any other error by its name.
+-- A fault of a text in words, with its position in decimal; a message as it is; any other error by its name.
 abbrev pub error_text : Error → List ℕ
 error_text variants.InvalidUtf8 = codes "InvalidUtf8"
 error_text variants.InvalidEOF = codes "InvalidEOF"

@@ -4,7 +4,7 @@ use Rattle.jsonb_value.specs.Code.{Code, code_of, NamesNoKey}
 use Rattle.jsonb_value.specs.declared.error.Error.{Error}
 use Rattle.jsonb_value.specs.declared.error.Error.TheVariants as variants
 
--- an error, with its message, or with the code and the place of a fault of a text
+-- an error, with its message, or with the code and the position of a fault of a text
 pub data ErrorView : Type 0 where
   invalid_utf8 : ErrorView
   invalid_eof : ErrorView

@@ -61,7 +61,7 @@ IsInRange t = IsWithin IsInTexts t max_depth
 abbrev pub IsIntegerRange : Tree → Type 0
 IsIntegerRange t = IsWithin IsIntegral t max_depth
 
--- the trees whose texts are documents of the mode
+-- the trees whose texts read back in the mode
 abbrev pub IsInRangeOf : Mode → Tree → Type 0
 IsInRangeOf standard t = IsIntegerRange t
 IsInRangeOf extended t = IsInRange t

@@ -1,4 +1,4 @@
-// Arithmetic of 64-bit integers, exact or refused.
+//! Arithmetic of 64-bit integers, exact or refused.
 ghost use Rattle.std.specs.Prelude.{◌≡◌, ℕ, ℤ, Some, None, pos, neg_ℤ, ◌^◌, ◌<ℤ◌, ◌≤ℤ◌, MatchOption, IfSome, IfNone, FitsSigned};
 ghost use Rattle.std.specs.Int.{w64, w128};
 ghost use Rattle.std.specs.Option.{SomeIff};

@@ -1,4 +1,4 @@
-// Numbers as whole numbers.
+//! Numbers as whole numbers.
 ghost use Rattle.std.specs.Prelude.{◌≡◌, ℕ, ℤ, ◌+◌, ◌*◌, ◌^◌, ◌<◌, ◌≤◌, ◌↔◌, Some, pos, false, IsSome, IfSome, IfNone, FitsSigned};
 ghost use Rattle.std.specs.Int.{w64};
 ghost use Rattle.jsonb_value.specs.Number.Cast.{HasValue, HasNearest, IsRounded};

@@ -1,4 +1,4 @@
-//! Keys, and values that hold no others.
+//! Keys and values that hold no others, as the direct reader makes them.
 ghost use Rattle.std.specs.Prelude.{◌≡◌, ◌≢◌, ℕ, ◌<◌, ◌≤◌, IfSome, IfNone, Ok, string_bytes};
 ghost use Rattle.std.specs.Cow.{cow_str_bytes};
 ghost use Rattle.jsonb_value.specs.Tree.{Mark};

@@ -179,8 +179,8 @@ fn ends_of_strings_are_found_at_each_length(rt: HostRuntime) -> Result<(), Fail>
 }
 
 // The search for a string's end byte by byte, from the byte after the opening quote on: the index of the closing quote,
-// or the index at which the search stands where there is none. A backslash takes the byte after it; after `\u` six bytes
-// from a brace on are passed, or else four.
+// or the index at which the search stands where there is none. A backslash takes the byte after it; after `\u` six
+// bytes from a brace on are passed, or else four.
 fn end_byte_by_byte(bytes: &[u8], quote: u8) -> std::result::Result<usize, usize> {
     let mut passed = 0usize;
     for (index, byte) in bytes.iter().enumerate() {
@@ -203,8 +203,8 @@ fn end_byte_by_byte(bytes: &[u8], quote: u8) -> std::result::Result<usize, usize
     Err(bytes.len().saturating_add(passed))
 }
 
-// The string ends where the search byte by byte ends it: a byte after the closing quote is left over, and without one the
-// text ends where the search stands.
+// The string ends where the search byte by byte ends it: a byte after the closing quote is left over, and without one
+// the text ends where the search stands.
 fn expect_end(
     rt: &(impl AllocGlobal + Abort),
     mode: Mode,

@@ -1,5 +1,5 @@
 use Rattle.std.proofs.Common.{sym, ◌∙◌}
-use Rattle.jsonb.proofs.Documents.Answers.{ends_comment, ends_trailing, ends_well}
+use Rattle.jsonb.proofs.Documents.Agreement.{ends_comment, ends_trailing, ends_well}
 use Rattle.jsonb.proofs.parser.Parser.end_document.Goals as goal
 
 pub returns-then-self-clause-reads : goal.returns-then-self-clause-reads

@@ -1,5 +1,5 @@
 use Rattle.std.proofs.Common.{inl, inr}
-use Rattle.jsonb.proofs.Documents.Answers.{comment_closed, comment_open}
+use Rattle.jsonb.proofs.Documents.Agreement.{comment_closed, comment_open}
 use Rattle.jsonb.proofs.parser.Parser.end_in_comment.Goals as goal
 use Rattle.jsonb.proofs.parser.Parser.end_in_comment.Goals.{else-next-self-via-then-next-self+else-self-next-eq47, else-next-self-via-else-next-self}
 

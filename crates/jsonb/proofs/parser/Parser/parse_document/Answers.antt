@@ -8,7 +8,7 @@ use Rattle.jsonb.specs.Reading.{◌>>=◌}
 use Rattle.jsonb.specs.Reading.Blank.{pass_blanks}
 use Rattle.jsonb.specs.Reading.Document.{at_end, document_from, value_at}
 use Rattle.jsonb.proofs.Steps.Outcomes.{fails_same, fails_through}
-use Rattle.jsonb.proofs.Documents.Answers.{document_comment, document_some, ended, ended_same}
+use Rattle.jsonb.proofs.Documents.Agreement.{document_comment, document_some, ended, ended_same}
 use Rattle.jsonb.specs.Source.{source_view}
 use Rattle.jsonb.proofs.Places.Placed.{blanks_placed, comment_placed, value_placed}
 use Rattle.jsonb.proofs.parser.Parser.parse_document.Goals as goal

@@ -4,7 +4,7 @@ use Rattle.jsonb.specs.declared.parser.Parser.{Parser}
 use Rattle.jsonb.specs.Parser.{mode_of, size_of}
 use Rattle.jsonb.specs.Reading.{◌>>=◌}
 use Rattle.jsonb.specs.Reading.Document.{document_of}
-use Rattle.jsonb.proofs.Documents.Answers.{document_some, ended, ended_same}
+use Rattle.jsonb.proofs.Documents.Agreement.{document_some, ended, ended_same}
 use Rattle.jsonb.proofs.parser.direct.read_directly.Goals as goal
 
 pub returns : goal.returns
