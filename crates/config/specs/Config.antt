@@ -1,17 +1,17 @@
 -- The settings that a tree gives.
-use Rattle.std.specs.Prelude.{◌≡◌, ◌≢◌, ◌⊎◌, ℕ, ◌<◌, ◌^◌, List, take, Bool, false, Option, Some, None, codes, string_bytes, pos, ⊤}
+use Rattle.std.specs.Prelude.{◌≡◌, ◌≢◌, ◌⊎◌, ℕ, ◌<◌, ◌^◌, List, Bool, false, Option, Some, None, codes, string_bytes, pos, ⊤}
 use Rattle.std.specs.Str.{bytes_eq}
 use Rattle.jsonb.specs.Grammar.{IsDocument, IsNoDocument}
 use Rattle.jsonb.specs.Mode.{extended}
 use Rattle.jsonb.specs.Parser.{Fails}
 use Rattle.jsonb.specs.Accessors.{as_boolean, as_object, as_string, find_member, IsWholeNumber}
+use Rattle.jsonb.specs.Line.{line_at, column_at}
 use Rattle.jsonb.specs.Placed.{IsPlaced}
 use Rattle.jsonb.specs.Reading.Document.{document_of}
 use Rattle.jsonb.specs.Source.{object_source, SourceMembers, no_source_members, more_source_members}
 use Rattle.jsonb.specs.Tree.{Mark, Tree, Members}
 use Rattle.jsonb_value.specs.declared.error.Error.{Error}
 use Rattle.jsonb_value.specs.declared.error.Error.TheVariants as error
-use Rattle.config.specs.Place.{place_after}
 use Rattle.config.specs.declared.config.Config.{Config}
 use Rattle.config.specs.declared.config.Setting.{Setting}
 use Rattle.config.specs.declared.config.Setting.TheVariants.{Host, Port, Workers, Verbose}
@@ -90,7 +90,8 @@ pub record EndsKey (text : List ℕ) (setting : Setting) (line column : ℕ) : T
   pub placed : IsPlaced extended text (object_source members)
   pub index : ℕ
   pub ends : HasKeyEnd members (key_of setting) index
-  pub place : (line, column) ≡ place_after (take index text)
+  pub line_there : line ≡ line_at text index
+  pub column_there : column ≡ column_at text index
 
 -- The refusal names the setting and where its key ends, or memory ran out.
 abbrev pub NamesPlace : List ℕ → Setting → Refusal → Type 0
@@ -99,12 +100,12 @@ NamesPlace text setting refusal.NoMemory = ⊤
 NamesPlace text setting other = ⊥
 
 -- The text is no document, or one of no object, or a setting of its object is wrong, or memory ran out.
-abbrev pub Refuses : List ℕ → Refusal → Type 0
-Refuses text (refusal.NoDocument e line column) =
+abbrev pub IsConfigRefusal : List ℕ → Refusal → Type 0
+IsConfigRefusal text (refusal.NoDocument e line column) =
     (e ≢ error.OutOfMemory → IsNoDocument extended text) × Fails e (document_of extended text)
-    × ((line, column) ≡ place_after (take (fault_position e) text))
-Refuses text refusal.NoObject = (t : Tree) × IsDocument extended text t × (as_object t ≡ None)
-Refuses text (refusal.Wrong setting line column) =
+    × (line ≡ line_at text (fault_position e)) × (column ≡ column_at text (fault_position e))
+IsConfigRefusal text refusal.NoObject = (t : Tree) × IsDocument extended text t × (as_object t ≡ None)
+IsConfigRefusal text (refusal.Wrong setting line column) =
     (t : Tree) × IsDocument extended text t × (ms : Members) × (as_object t ≡ Some ms)
     × IsWrong setting (setting_of setting ms) × EndsKey text setting line column
-Refuses text refusal.NoMemory = ⊤
+IsConfigRefusal text refusal.NoMemory = ⊤

@@ -6,10 +6,9 @@ ghost use Rattle.jsonb.specs.Mode.{extended};
 ghost use Rattle.jsonb.specs.Source.{source_members_view};
 ghost use Rattle.jsonb.specs.Tree.{Tree};
 ghost use Rattle.jsonb.specs.View.{view, members_view};
-ghost use Rattle.config.specs.Config.{key_of, setting_of, IsHost, IsPort, IsWorkers, IsVerbose, IsConfig, IsConfigOf, IsWrong, IsFaultOf, fault_position, HasKeyEnd, NamesPlace, Refuses};
+ghost use Rattle.config.specs.Config.{key_of, setting_of, IsHost, IsPort, IsWorkers, IsVerbose, IsConfig, IsConfigOf, IsWrong, IsFaultOf, fault_position, HasKeyEnd, NamesPlace, IsConfigRefusal};
 
-use crate::place::line_and_column;
-use jsonb::{Error, JsonAst, Mode, Object, Value};
+use jsonb::{Error, JsonAst, Mode, Object, Value, line_and_column};
 use std::alloc::{AllocError, Global};
 use std::borrow::CowStr;
 use std::fmt;
@@ -98,7 +97,7 @@ enum Fault {
 pub fn read_config(alloc: Global, text: &[u8]) -> Result<Config, Refusal>
     ensures config { IfOk result (λ c. (t : Tree) × IsDocument extended text.now t × IsConfigOf t c) }
     ensures only { IfOk result (λ c. (t : Tree) → IsDocument extended text.now t → IsConfigOf t c) }
-    ensures refused { IfErr result (Refuses text.now) }
+    ensures refused { IfErr result (IsConfigRefusal text.now) }
 {
     let value = match jsonb::parse_value(alloc, text) {
         Ok(value) => value,

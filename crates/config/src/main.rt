@@ -3,7 +3,6 @@
 #![tactic(auto)]
 
 pub mod config;
-pub mod place;
 
 use config::{Config, read_config};
 use std::alloc::Global;
