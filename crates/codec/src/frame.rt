@@ -20,7 +20,7 @@ pub fn split_frame(bytes: &[u8]) -> Option<(&[u8], &[u8])>
 }
 
 /// Makes a frame of what stands from `start` on, four bytes and a text. `false` where the text is too long for a frame.
-pub fn close_frame(buf: &mut Vec<u8>, start: usize) -> bool
+pub(crate) fn close_frame(buf: &mut Vec<u8>, start: usize) -> bool
     requires { start + 4 ≤ vec_len buf.old }
     ensures framed { MatchBool result
         (buf.new.items ≡ take start buf.old.items ++ frame_of (drop (start + 4) buf.old.items))
