@@ -7,6 +7,7 @@ ghost use Rattle.jsonb_value.specs.Keys.{KeysAscend};
 ghost use Rattle.jsonb_value.specs.View.{view, trees_view, members_view, mark_view};
 
 use super::{Object, Value};
+use crate::number::Number;
 use std::alloc::AllocError;
 use std::borrow::CowStr;
 use std::default::Emptied;
@@ -55,13 +56,30 @@ fn copy_text<'a>(text: &CowStr<'a>) -> Result<CowStr<'a>, AllocError>
     }
 }
 
+// Scalars have arms of their own, so that each is written into its place and nowhere before.
 #[cycle(copy)]
 fn copy_items<'a>(items: &Vec<Value<'a>>) -> Result<Vec<Value<'a>>, AllocError>
     ensures { IfOk result (λ v. trees_view v.items ≡ trees_view items.now.items) }
 {
     let mut copies = Vec::with_capacity(*items.allocator(), items.len())?;
     'items: for item in items {
-        copies.push(copy(item)?)?;
+        match item {
+            Value::Null => copies.push_reserved(Value::Null),
+            Value::Bool(b) => copies.push_reserved(Value::Bool(*b)),
+            Value::String(CowStr::Borrowed(text)) => {
+                copies.push_reserved(Value::String(CowStr::Borrowed(*text)));
+            }
+            Value::String(CowStr::Owned(text)) => {
+                copies.push_reserved(Value::String(CowStr::Owned(text.clone()?)));
+            }
+            Value::Number(Number::Int64(n)) => {
+                copies.push_reserved(Value::Number(Number::Int64(*n)));
+            }
+            Value::Number(Number::UInt64(n)) => {
+                copies.push_reserved(Value::Number(Number::UInt64(*n)));
+            }
+            _ => copies.push_reserved(copy(item)?),
+        }
     }
     Ok(copies)
 }

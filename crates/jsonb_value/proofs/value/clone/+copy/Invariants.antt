@@ -1,10 +1,11 @@
-use Rattle.std.proofs.Common.{◌≡◌, ◌++◌, take, map}
+use Rattle.std.proofs.Common.{◌≡◌, ◌≤◌, ◌++◌, length, take, map, vec_len, vec_capacity}
 use Rattle.jsonb_value.specs.Tree.{put_all}
 use Rattle.jsonb_value.specs.View.{view, members_view, pairs_view}
 use Rattle.jsonb_value.proofs.value.clone.+copy.Given as goal
 
 abbrev pub invariant-copy_items-items : goal.invariant-copy_items-items
-invariant-copy_items-items l = map view l.copies.items ≡ map view (take l.item-index l.item-items)
+invariant-copy_items-items l = (map view l.copies.items ≡ map view (take l.item-index l.item-items))
+    × (vec_len l.copies ≡ l.item-index) × (length l.item-items ≤ vec_capacity l.copies)
 
 -- what is left completes the copies to the whole
 abbrev pub invariant-copy_members-members : goal.invariant-copy_members-members
