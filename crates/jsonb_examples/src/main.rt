@@ -66,7 +66,8 @@ fn show_walking(rt: &impl Print, alloc: Global) -> Result<()> {
     }
     let count = walking::count_strings(&settings);
     println!(rt; "{count}")?;
-    Ok(())
+    let items = walking::joined(alloc, comparing::sorted(alloc, &MIXED)?)?;
+    show(rt, alloc, &Value::Array(items))
 }
 
 fn show_building(rt: &impl Print, alloc: Global) -> Result<()> {

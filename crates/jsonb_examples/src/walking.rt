@@ -26,6 +26,18 @@ pub fn kind(value: &Value) -> &'static str {
     }
 }
 
+/// The items of all arrays in turn. A value that is no array is an item itself.
+pub fn joined<'a>(alloc: Global, values: Vec<Value<'a>>) -> Result<Vec<Value<'a>>> {
+    let mut all = Vec::new(alloc);
+    for value in values {
+        match value.into_array() {
+            Ok(items) => all.extend(items)?,
+            Err(value) => all.push(value)?,
+        }
+    }
+    Ok(all)
+}
+
 /// A line for each member, in the order of the keys: the key and the kind of its value.
 pub fn outline(alloc: Global, members: &Object) -> Result<String> {
     let mut out = String::new(alloc);

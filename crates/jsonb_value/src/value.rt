@@ -2,6 +2,7 @@
 mod access;
 mod clone;
 mod convert;
+mod into;
 mod laws;
 mod order;
 mod owned;
@@ -21,7 +22,10 @@ pub use text::string_texts_read_back;
 pub type Object<'a> = BTreeMap<String, Value<'a>>;
 
 /// A JSON value, or a scalar beyond JSON.
-#[derive(Debug, Drop)]
+///
+/// It is dropped by hand, so no pattern moves a part out of it: [`Value::into_array`], [`Value::into_object`] and
+/// [`Value::into_string`] do.
+#[derive(Debug)]
 pub enum Value<'a> {
     Null,
     Bool(bool),
@@ -34,6 +38,20 @@ pub enum Value<'a> {
     Interval(Interval),
     Array(Vec<Value<'a>>),
     Object(Object<'a>),
+}
+
+// Inlined into the loops that drop values, so that only what owns memory is a call there.
+impl Drop for Value<'_> {
+    #[inline(always)]
+    fn drop(self) {
+        match self {
+            Value::String(text) => drop(text),
+            Value::Array(items) => drop(items),
+            Value::Object(members) => drop(members),
+            Value::Bool(_) | Value::Number(_) | Value::Binary(_) | Value::Null => {}
+            Value::Date(_) | Value::Timestamp(_) | Value::TimestampTz(_) | Value::Interval(_) => {}
+        }
+    }
 }
 
 impl Default for Value<'_> {

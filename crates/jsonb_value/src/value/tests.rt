@@ -88,6 +88,24 @@ fn parts_are_found(rt: HostRuntime) -> Result<(), Fail> {
 }
 
 #[test]
+fn parts_are_moved_out(rt: HostRuntime) -> Result<(), Fail> {
+    let alloc = rt.alloc();
+    let text = Value::String(CowStr::Borrowed("a"));
+    assert_eq!(rt; text.into_string()?, CowStr::Borrowed("a"));
+    let items = Value::Array(vec![in alloc; integer(1), Value::Null]?);
+    let array = items.into_object().unwrap_err().into_array()?;
+    assert_eq!(rt; array.len(), 2);
+    assert_eq!(rt; array.last(), Some(&Value::Null));
+    let members = object(alloc, &[("b", 1), ("a", 2)])?.into_object()?;
+    assert_eq!(rt; members.get("a"), Some(&integer(2)));
+    assert_eq!(rt; members.len(), 2);
+    assert_eq!(rt; integer(1).into_string(), Err(integer(1)));
+    assert_eq!(rt; integer(1).into_array().is_err(), true);
+    assert_eq!(rt; integer(1).into_object().is_err(), true);
+    Ok(())
+}
+
+#[test]
 fn values_of_other_types(rt: HostRuntime) {
     assert_eq!(rt; Value::from(true), Value::Bool(true));
     assert_eq!(rt; Value::from(-5i64), Value::Number(Number::Int64(-5)));

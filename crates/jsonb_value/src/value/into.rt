@@ -1,0 +1,59 @@
+//! Values taken apart: what they own is moved out.
+ghost use Rattle.std.specs.Prelude.{◌≡◌, IfOk, IfErr, None};
+ghost use Rattle.std.specs.Cow.{cow_str_bytes};
+ghost use Rattle.jsonb_value.specs.Accessors.{as_string, as_array, as_object};
+ghost use Rattle.jsonb_value.specs.Tree.{string, array, object};
+ghost use Rattle.jsonb_value.specs.View.{view, trees_view, members_view, mark_view};
+
+use super::{Object, Value};
+use std::borrow::CowStr;
+
+impl<'a> Value<'a> {
+    /// The text, if this is a string: borrowed or owned as it was, and no byte is copied.
+    ///
+    /// # Errors
+    ///
+    /// The value as it was, if it is no string.
+    pub fn into_string(self) -> Result<CowStr<'a>, Value<'a>>
+        ensures ok { IfOk result (λ text. view self.entry ≡ string (mark_view text) (cow_str_bytes text)) }
+        ensures kept { IfErr result (λ value. value ≡ self.entry) }
+        ensures none { IfErr result (λ _. as_string (view self.entry) ≡ None) }
+    {
+        match self {
+            Value::String(text) => Ok(text),
+            value => Err(value),
+        }
+    }
+
+    /// The items, if this is an array. None is copied.
+    ///
+    /// # Errors
+    ///
+    /// The value as it was, if it is no array.
+    pub fn into_array(self) -> Result<Vec<Value<'a>>, Value<'a>>
+        ensures ok { IfOk result (λ items. view self.entry ≡ array (trees_view items.items)) }
+        ensures kept { IfErr result (λ value. value ≡ self.entry) }
+        ensures none { IfErr result (λ _. as_array (view self.entry) ≡ None) }
+    {
+        match self {
+            Value::Array(items) => Ok(items),
+            value => Err(value),
+        }
+    }
+
+    /// The members, if this is an object. None is copied.
+    ///
+    /// # Errors
+    ///
+    /// The value as it was, if it is no object.
+    pub fn into_object(self) -> Result<Object<'a>, Value<'a>>
+        ensures ok { IfOk result (λ members. view self.entry ≡ object (members_view members.entries)) }
+        ensures kept { IfErr result (λ value. value ≡ self.entry) }
+        ensures none { IfErr result (λ _. as_object (view self.entry) ≡ None) }
+    {
+        match self {
+            Value::Object(members) => Ok(members),
+            value => Err(value),
+        }
+    }
+}
