@@ -84,8 +84,8 @@ fn copy_items<'a>(items: &Vec<Value<'a>>) -> Result<Vec<Value<'a>>, AllocError>
     Ok(copies)
 }
 
-// Up to so many members, which one node holds, are inserted one by one. More are built into a map at once.
-const FEW: usize = 15;
+// Up to so many members are inserted one by one. More are built into a map at once.
+const FEW: usize = 5;
 
 #[cycle(copy)]
 fn copy_members<'a>(members: &Object<'a>) -> Result<Object<'a>, AllocError>
