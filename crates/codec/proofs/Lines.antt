@@ -14,25 +14,54 @@ frame_shortens bytes rest t frame =
     let parts : length (frame_of frame.text ++ rest) ≡ length (frame_of frame.text) + length rest = length-append (frame_of frame.text) rest in
     omega (arith, whole, parts)
 
+-- The frames before what is left are decoded.
+pub record Reaches (frames left text : List ℕ) : Type 0 where
+  pub front : List ℕ
+  pub split : frames ≡ front ++ left
+  pub goes_on : (others more : List ℕ) → AreDecoded others more → AreDecoded (front ++ others) (text ++ more)
+
 -- before any frame is decoded
-pub none_decoded : (frames text : List ℕ) → text ≡ [] → (more : List ℕ) → AreDecoded frames more → AreDecoded frames (text ++ more)
-none_decoded frames text nothing more decoded = subst (λ bytes. AreDecoded frames (bytes ++ more)) (sym nothing) decoded
+pub none_decoded : (frames text : List ℕ) → text ≡ [] → Reaches frames frames text
+none_decoded frames text nothing = record { front = []; split = refl; goes_on = λ others more decoded. subst (λ bytes. AreDecoded others (bytes ++ more)) (sym nothing) decoded }
 
 -- after one more frame
-pub next_decoded : (frames left rest old new : List ℕ) → ((more : List ℕ) → AreDecoded left more → AreDecoded frames (old ++ more)) → DecodesLine left rest old new
-    → (more : List ℕ) → AreDecoded rest more → AreDecoded frames (new ++ more)
-next_decoded frames left rest old new so_far decodes more decoded =
-    let line = decodes.line.text ++ 10 ∷ [] in
-    let alone : DecodesLine left rest [] line = record { tree = decodes.tree; frame = decodes.frame; line = record { text = decodes.line.text; is_text = decodes.line.is_text; appended = refl } } in
-    let grown : new ++ more ≡ old ++ (line ++ more) = ap (λ bytes. bytes ++ more) decodes.line.appended ∙ append_assoc old line more in
-    subst (λ bytes. AreDecoded frames bytes) (sym grown) (so_far (line ++ more) (more_frames alone decoded))
+pub next_decoded : (frames left rest old new : List ℕ) → Reaches frames left old → DecodesLine left rest old new → Reaches frames rest new
+next_decoded frames left rest old new so_far decodes = record {
+  front = so_far.front ++ frame;
+  split = so_far.split ∙ ap (λ bytes. so_far.front ++ bytes) decodes.frame.begins.whole ∙ sym (append_assoc so_far.front frame rest);
+  goes_on = λ others more decoded.
+      subst (λ bytes. AreDecoded bytes (new ++ more)) (sym (append_assoc so_far.front frame others))
+      (subst (λ bytes. AreDecoded (so_far.front ++ (frame ++ others)) bytes) (sym (grown more))
+      (so_far.goes_on (frame ++ others) (line ++ more) (more_frames (alone others) decoded)));
+}
+  where
+    frame : List ℕ
+    frame = frame_of decodes.frame.text
+
+    line : List ℕ
+    line = decodes.line.text ++ 10 ∷ []
+
+    alone : (others : List ℕ) → DecodesLine (frame ++ others) others [] line
+    alone others = record {
+      tree = decodes.tree;
+      frame = record { text = decodes.frame.text; begins = record { fits = decodes.frame.begins.fits; whole = refl }; document = decodes.frame.document };
+      line = record { text = decodes.line.text; is_text = decodes.line.is_text; appended = refl };
+    }
+
+    grown : (more : List ℕ) → new ++ more ≡ old ++ (line ++ more)
+    grown more = ap (λ bytes. bytes ++ more) decodes.line.appended ∙ append_assoc old line more
+
+-- what is decoded
+pub front_decoded : (frames left text : List ℕ) (so_far : Reaches frames left text) → AreDecoded so_far.front text
+front_decoded frames left text so_far =
+    subst (λ bytes. AreDecoded so_far.front bytes) (append-nil text) (subst (λ bytes. AreDecoded bytes (text ++ [])) (append-nil so_far.front) (so_far.goes_on [] [] no_frames))
 
 -- after all frames
-pub all_decoded : (frames left text : List ℕ) → ((more : List ℕ) → AreDecoded left more → AreDecoded frames (text ++ more)) → left ≡ [] → AreDecoded frames text
+pub all_decoded : (frames left text : List ℕ) → Reaches frames left text → left ≡ [] → AreDecoded frames text
 all_decoded frames left text so_far nothing =
-    subst (λ bytes. AreDecoded frames bytes) (append-nil text) (so_far [] (subst (λ bytes. AreDecoded bytes []) (sym nothing) no_frames))
+    subst (λ bytes. AreDecoded bytes text) (sym (so_far.split ∙ ap (λ bytes. so_far.front ++ bytes) nothing ∙ append-nil so_far.front)) (front_decoded frames left text so_far)
 
-contents-append : (xs ys : List (Vec ℕ Global)) → contents (xs ++ ys) ≡ contents xs ++ contents ys
+pub contents-append : (xs ys : List (Vec ℕ Global)) → contents (xs ++ ys) ≡ contents xs ++ contents ys
 contents-append xs ys = map-append (λ (line : Vec ℕ Global). line.items) xs ys
 
 -- after one more line is encoded

@@ -58,6 +58,24 @@ pub data AreEncoded : List (List ℕ) → List ℕ → Type 0 where
   more_lines : {line bytes rest : List ℕ} {t : Tree} {lines : List (List ℕ)} → IsDocument extended line t
       → DecodesAs bytes t rest → AreEncoded lines rest → AreEncoded (line ∷ lines) bytes
 
+-- The line is no document, and the fault is as reading tells it, or the text of its tree is too long for a frame, or
+-- memory ran out.
+abbrev pub LineRefuses : List ℕ → Refusal → Type 0
+LineRefuses line TooLong = (t : Tree) × IsDocument extended line t × EncodeRefuses t TooLong
+LineRefuses line CutShort = ⊥
+LineRefuses line (Refused e) = (e ≢ error.OutOfMemory → IsNoDocument extended line)
+    × Fails e (document_of extended line)
+
+-- The lines before this one are documents that have frames, and this one is refused.
+pub record EncodeLinesRefuses (lines : List (List ℕ)) (refusal : Refusal) : Type 0 where
+  pub before : List (List ℕ)
+  pub line : List ℕ
+  pub after : List (List ℕ)
+  pub split : lines ≡ before ++ line ∷ after
+  pub bytes : List ℕ
+  pub encoded : AreEncoded before bytes
+  pub refused : LineRefuses line refusal
+
 -- new is old with the tree's text and a line feed at its end
 pub record AppendsLine (t : Tree) (old new : List ℕ) : Type 0 where
   pub text : List ℕ
@@ -75,3 +93,13 @@ pub data AreDecoded : List ℕ → List ℕ → Type 0 where
   no_frames : AreDecoded [] []
   more_frames : {bytes rest line others : List ℕ} → DecodesLine bytes rest [] line → AreDecoded rest others
       → AreDecoded bytes (line ++ others)
+
+-- The bytes are frames with their lines, and more behind them, which is refused as `decode` refuses it.
+pub record DecodeLinesRefuses (bytes : List ℕ) (refusal : Refusal) : Type 0 where
+  pub front : List ℕ
+  pub text : List ℕ
+  pub decoded : AreDecoded front text
+  pub left : List ℕ
+  pub split : bytes ≡ front ++ left
+  pub more : left ≢ []
+  pub refused : DecodeRefuses left refusal

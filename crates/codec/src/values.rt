@@ -1,10 +1,11 @@
 //! Values in frames.
 
-ghost use Rattle.std.specs.Prelude.{◌≡◌, ◌≢◌, ◌++◌, ℕ, List, OnOk, OnErr, IfOk, IfErr};
+ghost use Rattle.std.specs.Prelude.{◌≡◌, ◌≢◌, ◌⊎◌, ◌++◌, ℕ, List, None, OnOk, OnErr, IfOk, IfErr};
 ghost use Rattle.jsonb.specs.Tree.{Tree};
 ghost use Rattle.jsonb.specs.View.{view};
+ghost use Rattle.jsonb_value.specs.Text.{text_of};
 ghost use Rattle.jsonb_value.specs.Text.Range.{IsInRange};
-ghost use Rattle.codec.specs.Values.{contents, IsFrame, AppendsFrame, DecodesAs, AreEncoded, AppendsLine, DecodesLine, AreDecoded, EncodeRefuses, DecodeRefuses};
+ghost use Rattle.codec.specs.Values.{contents, IsFrame, AppendsFrame, DecodesAs, AreEncoded, AppendsLine, DecodesLine, AreDecoded, EncodeRefuses, DecodeRefuses, EncodeLinesRefuses, DecodeLinesRefuses};
 
 use crate::frame::{SIZE_LEN, close_frame, split_frame};
 use jsonb::{Error, Value};
@@ -88,9 +89,11 @@ pub fn decode(alloc: Global, bytes: &[u8]) -> Result<(Value<'_>, &[u8]), Refusal
 ///
 /// # Errors
 ///
-/// `Refused` with the fault of a line that is no document, and what [`encode`] refuses.
+/// Of the first line that has no frame: `Refused` with its fault where it is no document, `TooLong` where the text of
+/// its value is, and `Refused` where memory ran out.
 pub fn encode_lines(alloc: Global, lines: &[Vec<u8>]) -> Result<Vec<u8>, Refusal>
     ensures encoded { IfOk result (λ bytes. AreEncoded (contents lines.now) bytes.items) }
+    ensures refused { IfErr result (EncodeLinesRefuses (contents lines.now)) }
 {
     let mut frames = Vec::new(alloc);
     'lines: for line in lines {
@@ -107,9 +110,10 @@ pub fn encode_lines(alloc: Global, lines: &[Vec<u8>]) -> Result<Vec<u8>, Refusal
 ///
 /// # Errors
 ///
-/// What [`decode`] refuses of the bytes from a frame on, and `Refused` where memory ran out.
+/// What [`decode`] refuses of the bytes from the first frame on that has no value, and `Refused` where memory ran out.
 pub fn decode_lines(alloc: Global, frames: &[u8]) -> Result<Vec<u8>, Refusal>
     ensures decoded { IfOk result (λ text. AreDecoded frames.now text.items) }
+    ensures refused { IfErr result (DecodeLinesRefuses frames.now) }
 {
     let mut text = Vec::new(alloc);
     let mut left = frames;
@@ -121,23 +125,24 @@ pub fn decode_lines(alloc: Global, frames: &[u8]) -> Result<Vec<u8>, Refusal>
 
 // Appends the text of the first frame's value and a line feed, and answers what follows the frame.
 fn decode_line<'a>(alloc: Global, frames: &'a [u8], text: &mut Vec<u8>) -> Result<&'a [u8], Refusal>
-    ensures { IfOk result (λ rest. DecodesLine frames.now rest.now text.old.items text.new.items) }
+    ensures line { IfOk result (λ rest. DecodesLine frames.now rest.now text.old.items text.new.items) }
+    ensures refused { IfErr result (DecodeRefuses frames.now) }
 {
     let (value, rest) = decode(alloc, frames)?;
-    write_line(&value, text)?;
+    if let Err(error) = write_line(&value, text) {
+        return Err(Refusal::Refused(error));
+    }
     Ok(rest)
 }
 
 // Appends the value's text and a line feed.
-fn write_line(value: &Value, text: &mut Vec<u8>) -> Result<(), Refusal>
-    ensures { OnOk result (AppendsLine (view value.now) text.old.items text.new.items) }
+fn write_line(value: &Value, text: &mut Vec<u8>) -> jsonb::Result<()>
+    ensures line { OnOk result (AppendsLine (view value.now) text.old.items text.new.items) }
+    ensures refused { IfErr result (λ e. ((e ≡ Error.UnexpectedType) × (text_of (view value.now) ≡ None))
+        ⊎ (e ≡ Error.OutOfMemory)) }
 {
-    if let Err(error) = value.write_text(text) {
-        return Err(Refusal::Refused(error));
-    }
-    if text.push(b'\n').is_err() {
-        return Err(Refusal::Refused(Error::OutOfMemory));
-    }
+    value.write_text(text)?;
+    text.push(b'\n')?;
     Ok(())
 }
 

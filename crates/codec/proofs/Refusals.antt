@@ -1,0 +1,61 @@
+-- What is refused of lines and of frames.
+use Rattle.std.proofs.Common.{◌≡◌, ◌≢◌, ◌⊎◌, inl, inr, ℕ, ◌+◌, ◌<◌, List, [], ◌∷◌, ◌++◌, length, take, drop, get_or, None, IsSome, Vec, Global, refl, sym, subst, ap, ◌∙◌, add-one, append-nil, drop-cons, take-append-drop}
+use Rattle.jsonb.specs.Grammar.{IsDocument}
+use Rattle.jsonb.specs.Mode.{extended}
+use Rattle.jsonb.specs.Tree.{Tree}
+use Rattle.jsonb_value.proofs.Trees.DocumentTexts.{document_has_text}
+use Rattle.jsonb_value.specs.Text.{text_of}
+use Rattle.jsonb_value.specs.declared.error.Error.{Error}
+use Rattle.jsonb_value.specs.declared.error.Error.TheVariants as error
+use Rattle.codec.specs.declared.values.Refusal.{Refusal}
+use Rattle.codec.specs.declared.values.Refusal.TheVariants.{TooLong, CutShort, Refused}
+use Rattle.codec.specs.Values.{contents, IsFrame, AreEncoded, no_lines, EncodeRefuses, DecodeRefuses, LineRefuses, EncodeLinesRefuses, DecodeLinesRefuses}
+use Rattle.codec.proofs.Lines.{contents-append, Reaches, front_decoded}
+
+-- a document has a text
+has_text : (bytes : List ℕ) (t : Tree) → IsDocument extended bytes t → text_of t ≡ None → ⊥
+has_text bytes t document none =
+    let some : IsSome {T = List ℕ} None = subst IsSome none (document_has_text extended bytes t document) in
+    cc
+
+-- the value of a frame that can't be written
+pub unwritten : (bytes : List ℕ) (t : Tree) (rest : List ℕ) (e : Error) → IsFrame bytes t rest → ((e ≡ error.UnexpectedType) × (text_of t ≡ None)) ⊎ (e ≡ error.OutOfMemory) → DecodeRefuses bytes (Refused e)
+unwritten bytes t rest e frame (inl p) = absurd (has_text frame.text t frame.document p.1)
+unwritten bytes t rest e frame (inr memory) =
+    subst (λ x. DecodeRefuses bytes (Refused x)) (sym memory) (frame.text, rest, frame.begins, (λ other. absurd (other refl)), tt)
+
+-- the value of a line that has no frame
+pub unframed : (line : List ℕ) (t : Tree) (r : Refusal) → IsDocument extended line t → EncodeRefuses t r → LineRefuses line r
+unframed line t TooLong document refused = (t, document, refused)
+unframed line t CutShort document refused = refused
+unframed line t (Refused e) document (inl p) = absurd (has_text line t document p.1)
+unframed line t (Refused e) document (inr memory) =
+    subst (λ x. LineRefuses line (Refused x)) (sym memory) ((λ other. absurd (other refl)), tt)
+
+-- the first line that is refused
+pub first_refused : (lines : List (Vec ℕ Global)) (i : ℕ) (line : Vec ℕ Global) (bytes : List ℕ) (r : Refusal) → i < length lines → line ≡ get_or lines i line
+    → ((others : List (List ℕ)) (rest : List ℕ) → AreEncoded others rest → AreEncoded (contents (take i lines) ++ others) (bytes ++ rest)) → LineRefuses line.items r → EncodeLinesRefuses (contents lines) r
+first_refused lines i line bytes r within is so_far refused =
+    let rest : drop i lines ≡ line ∷ drop (i + 1) lines = rw add-one (drop-cons lines i line within) ∙ ap (λ x. x ∷ drop (i + 1) lines) (sym is) in
+    let whole : lines ≡ take i lines ++ line ∷ drop (i + 1) lines = sym (take-append-drop i lines) ∙ ap (λ ls. take i lines ++ ls) rest in
+    record {
+      before = contents (take i lines);
+      line = line.items;
+      after = contents (drop (i + 1) lines);
+      split = ap contents whole ∙ contents-append (take i lines) (line ∷ drop (i + 1) lines);
+      bytes = bytes;
+      encoded = subst (λ bs. AreEncoded (contents (take i lines)) bs) (append-nil bytes) (subst (λ ls. AreEncoded ls (bytes ++ [])) (append-nil (contents (take i lines))) (so_far [] [] no_lines));
+      refused = refused;
+    }
+
+-- the frames that are left are refused
+pub frames_refused : (frames left text : List ℕ) (r : Refusal) → Reaches frames left text → length left ≢ 0 → DecodeRefuses left r → DecodeLinesRefuses frames r
+frames_refused frames left text r so_far some refused = record {
+  front = so_far.front;
+  text = text;
+  decoded = front_decoded frames left text so_far;
+  left = left;
+  split = so_far.split;
+  more = λ nothing. some (ap length nothing);
+  refused = refused;
+}

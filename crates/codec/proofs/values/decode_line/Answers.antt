@@ -1,0 +1,7 @@
+use Rattle.jsonb.specs.View.{view}
+use Rattle.codec.proofs.Refusals.{unwritten}
+use Rattle.codec.proofs.values.decode_line.Goals as goal
+
+pub returns-in-Err-clause-refused : goal.returns-in-Err-clause-refused
+returns-in-Err-clause-refused c =
+    unwritten c.args.frames.now (view c.in_ok-value.value) c.in_ok-value.rest.now c.in-Err.error c.in_ok-value.ensures.ok c.in-Err.ensures.refused
