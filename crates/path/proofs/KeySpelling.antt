@@ -2,7 +2,7 @@
 use Rattle.std.proofs.Common.{◌≡◌, ◌≢◌, ℕ, List, [], ◌∷◌, ◌++◌, Bool, true, false, cond, eqb, eqb-true, Option, Some, None, map, string_bytes, String, Global, IsUtf8, refl, sym, ap, subst, ◌∙◌, append_assoc, append-nil}
 use Rattle.std.proofs.lemmas.Str.{IsUtf8-string_bytes}
 use Rattle.std.specs.List.{AllByRecursion}
-use Rattle.path.specs.Path.{spelled_byte, spelled_key, spelled_keys, IsPath}
+use Rattle.path.specs.Path.{spelled_byte, spelled_key, spelled_keys, IsPath, StartsKey}
 use Rattle.path.specs.KeySpelling.{escape_of, byte_of, Reads}
 
 abbrev read_as : ℕ → List ℕ → Option (ℕ × List ℕ)
@@ -131,6 +131,11 @@ path_alone bytes keys others r path = let left = r.only others path.spelled in a
     alone : (more : List (List ℕ)) → others ≡ keys ++ more → [] ≡ spelled_keys more → others ≡ keys
     alone [] same nothing = same ∙ append-nil keys
     alone (k ∷ more) same nothing = absurd (nil_cons 47 (spelled_key k ++ spelled_keys more) nothing)
+
+-- what has a key begins with a slash
+pub starts : (bytes : List ℕ) (keys : List (List ℕ)) (more : List ℕ) → Reads bytes keys (47 ∷ more) → StartsKey bytes
+starts bytes [] more r = (more, r.spelled)
+starts bytes (key ∷ keys) more r = ((spelled_key key ++ spelled_keys keys) ++ 47 ∷ more, r.spelled)
 
 -- what is left begins with no slash
 pub no_slash : (bytes : List ℕ) (keys others : List (List ℕ)) (first : ℕ) (left : List ℕ) → Reads bytes keys (first ∷ left) → first ≢ 47 → IsPath bytes others → ⊥

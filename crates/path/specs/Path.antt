@@ -1,14 +1,14 @@
 -- Paths, their spelling (RFC 6901, sections 3 and 4), and the part of a tree at a path.
-use Rattle.std.specs.Prelude.{◌≡◌, ◌≢◌, ℕ, zero, suc, ◌<◌, List, [], ◌∷◌, ◌++◌, length, slice_index, codes, Option, Some, None, if◌then◌else◌, ◌==◌, ⊤, IsUtf8}
+use Rattle.std.specs.Prelude.{◌≡◌, ◌≢◌, ◌⊎◌, ℕ, ◌<◌, List, [], ◌∷◌, ◌++◌, length, slice_index, codes, Some, if◌then◌else◌, ◌==◌, IsUtf8}
 use Rattle.std.specs.List.{AllByRecursion}
 use Rattle.std.specs.Str.{bytes_eq}
 use Rattle.std.specs.Str.Parse.{IsNumeral, digits_value}
 use Rattle.jsonb.specs.Grammar.{IsDocument, IsNoDocument}
 use Rattle.jsonb.specs.Mode.{extended}
-use Rattle.jsonb.specs.Parser.{Fails}
-use Rattle.jsonb.specs.Accessors.{find_member}
+use Rattle.jsonb.specs.Parser.{Fails, HoldsMarker}
+use Rattle.jsonb.specs.Accessors.{find_member, item_at}
 use Rattle.jsonb.specs.Reading.Document.{document_of}
-use Rattle.jsonb.specs.Tree.{Tree, array, object, Trees, no_trees, more_trees}
+use Rattle.jsonb.specs.Tree.{Tree, array, object, Trees}
 use Rattle.jsonb_value.specs.Text.{text_of}
 use Rattle.jsonb_value.specs.declared.error.Error.TheVariants.{OutOfMemory}
 use Rattle.path.specs.declared.part.Refusal.{Refusal}
@@ -33,21 +33,19 @@ pub record IsPath (bytes : List ℕ) (keys : List (List ℕ)) : Type 0 where
   pub texts : AllByRecursion IsUtf8 keys
   pub spelled : bytes ≡ spelled_keys keys
 
+-- the bytes begin as the path of a key does
+abbrev pub StartsKey : List ℕ → Type 0
+StartsKey bytes = (rest : List ℕ) × (bytes ≡ 47 ∷ rest)
+
 -- The key is the index in decimal digits, without leading zeros.
 pub record IsIndex (key : List ℕ) (index : ℕ) : Type 0 where
   pub digits : IsNumeral 10 key
   pub no_zero : 1 < length key → slice_index key 0 ≢ 48
   pub value : index ≡ digits_value 10 key
 
--- the item of that index
-abbrev pub array_item : Trees → ℕ → Option Tree
-array_item no_trees index = None
-array_item (more_trees t ts) zero = Some t
-array_item (more_trees t ts) (suc index) = array_item ts index
-
 -- t is the item whose index the key is
 abbrev pub IsArrayItem : Trees → List ℕ → Tree → Type 0
-IsArrayItem ts key t = (index : ℕ) × IsIndex key index × (array_item ts index ≡ Some t)
+IsArrayItem ts key t = (index : ℕ) × IsIndex key index × (item_at ts index ≡ Some t)
 
 -- The second tree is the member of that key, or the item of that index.
 abbrev pub IsChild : Tree → List ℕ → Tree → Type 0
@@ -78,9 +76,10 @@ pub record HasNoPart (path document : List ℕ) : Type 0 where
   pub is_document : IsDocument extended document tree
   pub none : (part : Tree) → IsAt tree keys part → ⊥
 
--- The path is none, the document is none, or memory ran out. A document's fault is as reading tells it.
+-- The path is none, the document is none, or memory ran out: for a key, or for the text of a part. A document's fault
+-- is as reading tells it.
 abbrev pub IsPathRefusal : List ℕ → List ℕ → Refusal → Type 0
 IsPathRefusal path document NoPath = (keys : List (List ℕ)) → IsPath path keys → ⊥
 IsPathRefusal path document (NoDocument error) = (error ≢ OutOfMemory → IsNoDocument extended document)
-    × Fails error (document_of extended document)
-IsPathRefusal path document NoMemory = ⊤
+    × (error ≡ OutOfMemory → HoldsMarker document) × Fails error (document_of extended document)
+IsPathRefusal path document NoMemory = StartsKey path ⊎ ((tree : Tree) × IsDocument extended document tree)

@@ -1,7 +1,7 @@
 //! The keys of a path (RFC 6901): each stands after a slash, with `~0` for `~` and `~1` for `/`.
 
-ghost use Rattle.std.specs.Prelude.{◌≡◌, ◌<◌, ◌≤◌, ℕ, List, ◌++◌, length, map, string_bytes, option_map, None, IfOk, IfSome, IfNone};
-ghost use Rattle.path.specs.Path.{spelled_key, IsPath};
+ghost use Rattle.std.specs.Prelude.{◌≡◌, ◌<◌, ◌≤◌, ℕ, List, ◌++◌, length, map, string_bytes, option_map, None, IfOk, IfErr, IfSome, IfNone};
+ghost use Rattle.path.specs.Path.{spelled_key, IsPath, StartsKey};
 ghost use Rattle.path.specs.KeySpelling.{escape_of, byte_of};
 
 use std::alloc::{AllocError, Global};
@@ -15,6 +15,7 @@ pub fn read_keys(alloc: Global, path: &[u8]) -> Result<Option<Vec<String>>, Allo
     ensures only { IfOk result (λ answer. IfSome answer (λ keys. (others : List (List ℕ)) → IsPath path.now others
         → others ≡ map string_bytes keys.items)) }
     ensures none { IfOk result (λ answer. IfNone answer ((others : List (List ℕ)) → IsPath path.now others → ⊥)) }
+    ensures memory { IfErr result (λ _. StartsKey path.now) }
 {
     let mut keys = Vec::new(alloc);
     let mut rest = path;

@@ -1,14 +1,12 @@
 //! The part of a document at a path.
 
-ghost use Rattle.std.specs.Prelude.{◌≡◌, ◌<◌, ◌^◌, ℕ, List, map, string_bytes, option_map, IfOk, IfErr, IfSome, IfNone, MatchOption};
-ghost use Rattle.std.specs.Str.{bytes_eq};
-ghost use Rattle.jsonb.specs.Accessors.{find_member};
+ghost use Rattle.std.specs.Prelude.{◌≡◌, ◌<◌, ◌^◌, ℕ, List, map, string_bytes, IfOk, IfErr, IfSome, IfNone, MatchOption};
 ghost use Rattle.jsonb.specs.Tree.{Tree};
-ghost use Rattle.jsonb.specs.View.{view, trees_view, members_view};
-ghost use Rattle.path.specs.Path.{IsIndex, IsArrayItem, IsChild, IsAt, IsPartText, HasNoPart, IsPathRefusal};
+ghost use Rattle.jsonb.specs.View.{view};
+ghost use Rattle.path.specs.Path.{IsIndex, IsChild, IsAt, IsPartText, HasNoPart, IsPathRefusal};
 
 use crate::keys::read_keys;
-use jsonb::{Error, Object, Value};
+use jsonb::{Error, Value};
 use std::alloc::{AllocError, Global};
 use std::fmt;
 
@@ -92,36 +90,13 @@ fn child<'v, 'a>(value: &'v Value<'a>, key: &str) -> Option<&'v Value<'a>>
     ensures some { IfSome result (λ part. IsChild (view value.now) key.now (view part.now)) }
     ensures none { IfNone result ((t : Tree) → IsChild (view value.now) key.now t → ⊥) }
 {
-    if let Some(members) = value.as_object() {
-        return member(members, key);
-    }
-    if let Some(items) = value.as_array() {
-        return item(items, key);
-    }
-    None
-}
-
-// The member of that key.
-fn member<'v, 'a>(members: &'v Object<'a>, key: &str) -> Option<&'v Value<'a>>
-    ensures { option_map (λ v. view v.now) result
-        ≡ find_member (bytes_eq key.now) (members_view members.now.entries) }
-{
-    members.get(key)
-}
-
-// The item of that index.
-fn item<'v, 'a>(items: &'v Vec<Value<'a>>, key: &str) -> Option<&'v Value<'a>>
-    ensures some { IfSome result (λ item. IsArrayItem (trees_view items.now.items) key.now (view item.now)) }
-    ensures none { IfNone result ((t : Tree) → IsArrayItem (trees_view items.now.items) key.now t → ⊥) }
-{
-    let len = items.len();
+    let Some(_) = value.array_length() else {
+        return value.get_by_name(key);
+    };
     let Some(index) = index_of(key) else {
         return None;
     };
-    if index >= len {
-        return None;
-    }
-    Some(&items[index])
+    value.get_by_index(index)
 }
 
 // The index that the key spells: decimal digits without leading zeros.

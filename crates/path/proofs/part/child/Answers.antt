@@ -1,7 +1,8 @@
-use Rattle.jsonb.specs.View.{view, trees_view}
-use Rattle.path.proofs.PathParts.{item_missing}
+use Rattle.std.proofs.Common.{rules}
+use Rattle.jsonb.specs.View.{view}
+use Rattle.path.proofs.PathParts.{no_index}
 use Rattle.path.proofs.part.child.Goals as goal
 
-pub returns-in-Some-as_array-clause-none : goal.returns-in-Some-as_array-clause-none
-returns-in-Some-as_array-clause-none c =
-    item_missing (view c.args.value.now) (trees_view c.in-Some-as_array.items.now.items) c.args.key.now c.item.result c.in-Some-as_array.ensures c.item.ensures.none
+pub returns-in_default-index_of-clause-none : goal.returns-in_default-index_of-clause-none
+returns-in_default-index_of-clause-none c =
+    no_index (view c.args.value.now) c.args.key.now c.in-Some.field-0 c.in-Some.ensures (search rules) c.in_default-index_of.ensures.none
