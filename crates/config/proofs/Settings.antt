@@ -1,41 +1,161 @@
--- Settings and members.
-use Rattle.std.proofs.Common.{◌≡◌, ◌↔◌, ℕ, ◌<◌, ◌≤◌, ◌^◌, pos, List, Option, IfNone, Some, None, option_map, option_copied, Bor, refl, sym, subst, ap, ◌∙◌, arith}
+-- Settings and the members that were read.
+use Rattle.std.proofs.Common.{◌≡◌, ℕ, ◌+◌, ◌<◌, List, [], ◌∷◌, ◌++◌, length, take, get_or, Option, Some, Bool, true, false, not, Ordering, Less, Equal, Greater, nat_cmp, Vec, Global, Result, Ok, Err, IfOk, IfErr, refl, sym, subst, ap, ◌∙◌, add-one, take-suc, rules, if◌then◌else◌}
+use Rattle.std.proofs.lemmas.Map.Text.{is_eq-slice_cmp}
+use Rattle.std.specs.Cmp.Lexicographic.{slice_cmp}
+use Rattle.std.specs.Cow.{cow_str_bytes}
+use Rattle.std.specs.Ordering.{match_ordering, is_eq}
 use Rattle.std.specs.Str.{bytes_eq}
-use Rattle.jsonb.specs.Accessors.{find_member, IsWholeNumber}
-use Rattle.jsonb.specs.View.{view, members_view}
-use Rattle.jsonb_value.proofs.Values.Members.{Entry}
-use Rattle.jsonb_value.specs.declared.value.Value.{Value}
-use Rattle.config.specs.Config.{key_of, setting_of, IsPort, IsWorkers}
+use Rattle.jsonb.specs.Accessors.{as_object, find_member}
+use Rattle.jsonb.specs.AstView.{Written, ast_view, written_members, written_pairs}
+use Rattle.jsonb.specs.Grammar.{IsDocument}
+use Rattle.jsonb.specs.Mode.{extended}
+use Rattle.jsonb.specs.Placed.{IsPlaced}
+use Rattle.jsonb.specs.Source.{source_members_view, source_view}
+use Rattle.jsonb.specs.Tree.{Member, Members, no_members, more_members, object, put, put_all, Tree}
+use Rattle.jsonb.specs.declared.parser.ast.JsonAst.{JsonAst, the_lemmas}
+use Rattle.jsonb.specs.declared.parser.ast.JsonAst.TheVariants as ast
+use Rattle.config.proofs.KeyEnds.{key_found, object_placed, same_bytes}
+use Rattle.config.specs.Config.{HasKeyEnd, IsConfig, IsConfigOf, IsConfigRefusal, IsSettingRefusal, key_of, setting_of}
+use Rattle.config.specs.declared.config.Config.{Config}
+use Rattle.config.specs.declared.config.Refusal.{Refusal}
+use Rattle.config.specs.declared.config.Refusal.TheVariants as refusal
 use Rattle.config.specs.declared.config.Setting.{Setting}
 
--- a value that is borrowed is seen as it is
-pub seen : (r : Option (Bor Value)) → option_map (λ v. view v.now) r ≡ option_map view (option_copied r)
-seen None = refl
-seen (Some v) = refl
+-- ---- one more member put in
 
--- what stands at the setting's key
-pub at_key : (setting : Setting) (key : List ℕ) (es : List Entry) → key ≡ key_of setting → find_member (bytes_eq key) (members_view es) ≡ setting_of setting (members_view es)
-at_key setting key es is = ap (λ k. find_member (bytes_eq k) (members_view es)) is
+same_key : (k l : List ℕ) → slice_cmp nat_cmp k l ≡ Equal → k ≡ l
+same_key k l e = same_bytes k l (sym (is_eq-slice_cmp k l) ∙ ap is_eq e)
 
-same_number : (m n : ℕ) → Some m ≡ Some n → m ≡ n
-same_number m n e = cc
+false_true : false ≡ true → ⊥
+false_true e = cc
 
-no_number : (n : ℕ) → None ≡ Some n → ⊥
-no_number n e = cc
+one_or_other : {A : Type 0} (b c : Bool) (x y z : A) → (b ≡ true → c ≡ true → ⊥) → (if c then x else (if b then y else z)) ≡ (if b then y else (if c then x else z))
+one_or_other true true x y z differ = absurd (differ refl refl)
+one_or_other true false x y z differ = refl
+one_or_other false true x y z differ = refl
+one_or_other false false x y z differ = refl
 
--- a value that is no number of workers
-pub no_workers : (value : Option (Bor Value)) (v : Bor Value) (read : Option ℕ) → value ≡ Some v → ((n : ℕ) → (read ≡ Some n) ↔ (IsWholeNumber (view v.now) (pos n) × (n < 2 ^ 64)))
-    → IfNone read ((n : ℕ) → IsWorkers (option_map (λ w. view w.now) value) n → ⊥)
-no_workers value v None is exact = λ n workers. no_number n ((exact n).1 (subst (λ (o : Option (Bor Value)). IsWorkers (option_map (λ w. view w.now) o) n) is workers))
-no_workers value v (Some m) is exact = tt
+replaced : {A : Type 0} (b : Bool) (x y z : A) → (if b then x else z) ≡ (if b then x else (if b then y else z))
+replaced true x y z = refl
+replaced false x y z = refl
 
--- a whole number that is no port
-pub no_port : (value : Option (Bor Value)) (v : Bor Value) (read port : Option ℕ) (m : ℕ) → value ≡ Some v → ((n : ℕ) → (read ≡ Some n) ↔ (IsWholeNumber (view v.now) (pos n) × (n < 2 ^ 64)))
-    → read ≡ Some m → (port ≡ None → 2 ^ 16 ≤ m) → IfNone port ((n : ℕ) → IsPort (option_map (λ w. view w.now) value) n → ⊥)
-no_port value v read None m is exact found large = λ n port.
-    let whole : IsWholeNumber (view v.now) (pos n) × (n < 2 ^ 16) = subst (λ (o : Option (Bor Value)). IsPort (option_map (λ w. view w.now) o) n) is port in
-    let small : n < 2 ^ 16 = whole.1 in
-    let one : m ≡ n = same_number m n (sym found ∙ (exact n).1 (whole.0, omega (arith, small))) in
-    let much : 2 ^ 16 ≤ m = large refl in
-    absurd (omega (arith, small, one, much))
-no_port value v read (Some p) m is exact found large = tt
+-- the member that is found after one more is put in
+find_put : (key k : List ℕ) (t : Tree) (ms : Members) → find_member (bytes_eq key) (put k t ms) ≡ (if bytes_eq key k then Some t else find_member (bytes_eq key) ms)
+find_put key k t no_members = refl
+find_put key k t (more_members l u ms) = by_order (slice_cmp nat_cmp k l) refl (find_put key k t ms)
+  where
+    found : Members → Option Tree
+    found members = find_member (bytes_eq key) members
+
+    by_order : (o : Ordering) → slice_cmp nat_cmp k l ≡ o → found (put k t ms) ≡ (if bytes_eq key k then Some t else found ms)
+        → found (match_ordering o (more_members k t (more_members l u ms)) (more_members l t ms) (more_members l u (put k t ms))) ≡ (if bytes_eq key k then Some t else (if bytes_eq key l then Some u else found ms))
+    by_order Less is behind = refl
+    by_order Equal is behind =
+        let same : bytes_eq key k ≡ bytes_eq key l = ap (bytes_eq key) (same_key k l is) in
+        subst (λ b. (if bytes_eq key l then Some t else found ms) ≡ (if b then Some t else (if bytes_eq key l then Some u else found ms))) (sym same) (replaced (bytes_eq key l) (Some t) (Some u) (found ms))
+    by_order Greater is behind =
+        ap (λ o. if bytes_eq key l then Some u else o) behind
+        ∙ one_or_other (bytes_eq key k) (bytes_eq key l) (Some u) (Some t) (found ms) differ
+      where
+        differ : bytes_eq key k ≡ true → bytes_eq key l ≡ true → ⊥
+        differ at_k at_l =
+            let both : bytes_eq k l ≡ true = subst (λ x. bytes_eq x l ≡ true) (same_bytes key k at_k) at_l in
+            false_true (sym (ap is_eq is) ∙ is_eq-slice_cmp k l ∙ both)
+
+put_all-push : (es : List Member) (e : Member) (ms : Members) → put_all (es ++ e ∷ []) ms ≡ put e.0 e.1 (put_all es ms)
+put_all-push [] e ms = refl
+put_all-push (x ∷ es) e ms = put_all-push es e (put x.0 x.1 ms)
+
+pairs-push : (ms : List Written) (m : Written) → written_pairs (ms ++ m ∷ []) ≡ written_pairs ms ++ (cow_str_bytes m.0, ast_view m.1) ∷ []
+pairs-push [] m = refl
+pairs-push (x ∷ ms) m = ap (λ ps. (cow_str_bytes x.0, ast_view x.1) ∷ ps) (pairs-push ms m)
+
+-- what is found among one more of the members
+pub next_member : (key : List ℕ) (ms : List Written) (i : ℕ) (m : Written) → i < length ms → m ≡ get_or ms i m
+    → find_member (bytes_eq key) (written_members (take (i + 1) ms)) ≡ (if bytes_eq key (cow_str_bytes m.0) then Some (ast_view m.1) else find_member (bytes_eq key) (written_members (take i ms)))
+next_member key ms i m within is =
+    let grown : take (i + 1) ms ≡ take i ms ++ m ∷ [] = rw add-one (take-suc ms i m within) ∙ ap (λ x. take i ms ++ x ∷ []) (sym is) in
+    ap (λ ws. find_member (bytes_eq key) (written_members ws)) grown
+    ∙ ap (λ ps. find_member (bytes_eq key) (put_all ps no_members)) (pairs-push (take i ms) m)
+    ∙ ap (λ members. find_member (bytes_eq key) members) (put_all-push (written_pairs (take i ms)) (cow_str_bytes m.0, ast_view m.1) no_members)
+    ∙ find_put key (cow_str_bytes m.0) (ast_view m.1) (written_members (take i ms))
+
+-- a member with another key changes nothing
+passed : (b : Bool) (now before : Option Tree) (t : Tree) → b ≡ false → now ≡ before → now ≡ (if b then Some t else before)
+passed false now before t is same = same
+passed true now before t is same = absurd (false_true (sym is))
+
+-- a member with the key takes the place of what was found
+taken : (b : Bool) (before : Option Tree) (t : Tree) → b ≡ true → Some t ≡ (if b then Some t else before)
+taken true before t is = refl
+taken false before t is = absurd (false_true is)
+
+denied : (b c : Bool) → c ≡ not b → c ≡ true → b ≡ false
+denied true c is h = cc
+denied false c is h = refl
+
+granted : (b c : Bool) → c ≡ not b → c ≡ false → b ≡ true
+granted true c is h = refl
+granted false c is h = cc
+
+module _ (setting : Setting) (key name : List ℕ) (ms : List Written) (i : ℕ) (m : Written) (within : i < length ms) (is : m ≡ get_or ms i m) (is_key : key ≡ key_of setting) (is_name : name ≡ cow_str_bytes m.0) where
+  tested : bytes_eq key name ≡ bytes_eq (key_of setting) (cow_str_bytes m.0)
+  tested = ap (λ k. bytes_eq k name) is_key ∙ ap (bytes_eq (key_of setting)) is_name
+
+  -- after a member with another key
+  pub next_passed : (other : Bool) (now : Option Tree) → other ≡ not (bytes_eq key name) → other ≡ true → now ≡ setting_of setting (written_members (take i ms)) → now ≡ setting_of setting (written_members (take (i + 1) ms))
+  next_passed other now ne h so_far =
+      passed (bytes_eq (key_of setting) (cow_str_bytes m.0)) now _ (ast_view m.1) (sym tested ∙ denied (bytes_eq key name) other ne h) so_far ∙ sym (next_member (key_of setting) ms i m within is)
+
+  -- after a member with the key
+  pub next_taken : (other : Bool) → other ≡ not (bytes_eq key name) → other ≡ false → Some (ast_view m.1) ≡ setting_of setting (written_members (take (i + 1) ms))
+  next_taken other ne h =
+      taken (bytes_eq (key_of setting) (cow_str_bytes m.0)) _ (ast_view m.1) (sym tested ∙ granted (bytes_eq key name) other ne h) ∙ sym (next_member (key_of setting) ms i m within is)
+
+  -- where that key ends
+  pub taken_end : (other : Bool) → other ≡ not (bytes_eq key name) → other ≡ false → HasKeyEnd (source_members_view ms) (key_of setting) m.2
+  taken_end other ne h =
+      key_found ms i m (key_of setting) within is (sym (same_bytes (key_of setting) (cow_str_bytes m.0) (sym tested ∙ granted (bytes_eq key name) other ne h)))
+
+-- ---- the whole text
+
+view-Object : (v : Vec Written Global) → ast_view (ast.Object v) ≡ object (written_members v.items)
+view-Object v = search (rules, the_lemmas)
+
+-- an object that was read is that of its members
+pub as_members : (read : JsonAst) (v : Vec Written Global) → read ≡ ast.Object v → as_object (ast_view read) ≡ Some (written_members v.items)
+as_members read v is = ap as_object (ap ast_view is ∙ view-Object v)
+
+-- settings of the object that was read
+pub settings : (text : List ℕ) (read : JsonAst) (v : Vec Written Global) (r : Result Config Refusal) → read ≡ ast.Object v → IsDocument extended text (ast_view read)
+    → IfOk r (IsConfig (written_members v.items)) → IfOk r (λ c. (t : Tree) × IsDocument extended text t × IsConfigOf t c)
+settings text read v (Ok c) is document config = (ast_view read, document, (written_members v.items, as_members read v is, config))
+settings text read v (Err e) is document config = tt
+
+pub only_settings : (text : List ℕ) (read : JsonAst) (v : Vec Written Global) (r : Result Config Refusal) → read ≡ ast.Object v → ((t : Tree) → IsDocument extended text t → t ≡ ast_view read)
+    → IfOk r (IsConfig (written_members v.items)) → IfOk r (λ c. (t : Tree) → IsDocument extended text t → IsConfigOf t c)
+only_settings text read v (Ok c) is one config = λ t document. (written_members v.items, ap as_object (one t document) ∙ as_members read v is, config)
+only_settings text read v (Err e) is one config = tt
+
+-- the refusal of a setting of the object that was read
+pub no_settings : (text : List ℕ) (read : JsonAst) (v : Vec Written Global) (r : Result Config Refusal) → read ≡ ast.Object v → IsDocument extended text (ast_view read) → IsPlaced extended text (source_view read)
+    → IfErr r (IsSettingRefusal text v.items) → IfErr r (IsConfigRefusal text)
+no_settings text read v (Ok c) is document placed told = tt
+no_settings text read v (Err (refusal.Wrong setting line column)) is document placed told = (
+  ast_view read,
+  document,
+  written_members v.items,
+  as_members read v is,
+  told.0,
+  record {
+    members = source_members_view v.items;
+    placed = object_placed extended text read v is placed;
+    index = told.1;
+    ends = told.2;
+    line_there = told.3;
+    column_there = told.4;
+  },
+)
+no_settings text read v (Err refusal.NoMemory) is document placed told = (ast_view read, document, written_members v.items, as_members read v is, told.0, told.1)
+no_settings text read v (Err (refusal.NoDocument e line column)) is document placed told = absurd told
+no_settings text read v (Err refusal.NoObject) is document placed told = absurd told

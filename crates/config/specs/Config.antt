@@ -1,22 +1,21 @@
 -- The settings that a tree gives.
-use Rattle.std.specs.Prelude.{◌≡◌, ◌≢◌, ◌⊎◌, ℕ, ◌<◌, ◌^◌, List, Bool, false, Option, Some, None, codes, string_bytes, pos, ⊤}
+use Rattle.std.specs.Prelude.{◌≡◌, ◌≢◌, ◌⊎◌, ℕ, ◌<◌, ◌^◌, List, Bool, false, Option, Some, None, codes, string_bytes, pos}
 use Rattle.std.specs.Str.{bytes_eq}
+use Rattle.jsonb.specs.AstView.{Written, written_members}
 use Rattle.jsonb.specs.Grammar.{IsDocument, IsNoDocument}
 use Rattle.jsonb.specs.Mode.{extended}
-use Rattle.jsonb.specs.Parser.{Fails}
+use Rattle.jsonb.specs.Parser.{Fails, HoldsMarker}
 use Rattle.jsonb.specs.Accessors.{as_boolean, as_object, as_string, find_member, IsWholeNumber}
 use Rattle.jsonb.specs.Line.{line_at, column_at}
 use Rattle.jsonb.specs.Placed.{IsPlaced}
 use Rattle.jsonb.specs.Reading.Document.{document_of}
-use Rattle.jsonb.specs.Source.{object_source, SourceMembers, no_source_members, more_source_members}
+use Rattle.jsonb.specs.Source.{object_source, SourceMembers, no_source_members, more_source_members, source_members_view}
 use Rattle.jsonb.specs.Tree.{Mark, Tree, Members}
 use Rattle.jsonb_value.specs.declared.error.Error.{Error}
 use Rattle.jsonb_value.specs.declared.error.Error.TheVariants as error
 use Rattle.config.specs.declared.config.Config.{Config}
 use Rattle.config.specs.declared.config.Setting.{Setting}
 use Rattle.config.specs.declared.config.Setting.TheVariants.{Host, Port, Workers, Verbose}
-use Rattle.config.specs.declared.config.Fault.{Fault}
-use Rattle.config.specs.declared.config.Fault.TheVariants as fault
 use Rattle.config.specs.declared.config.Refusal.{Refusal}
 use Rattle.config.specs.declared.config.Refusal.TheVariants as refusal
 
@@ -69,11 +68,6 @@ IsWrong Port t = (port : ℕ) → IsPort t port → ⊥
 IsWrong Workers t = (workers : ℕ) → IsWorkers t workers → ⊥
 IsWrong Verbose t = (verbose : Bool) → IsVerbose t verbose → ⊥
 
--- a setting of the members is wrong, or memory ran out
-abbrev pub IsFaultOf : Members → Fault → Type 0
-IsFaultOf ms (fault.Wrong setting) = IsWrong setting (setting_of setting ms)
-IsFaultOf ms fault.NoMemory = ⊤
-
 -- the position of a fault of the text
 abbrev pub fault_position : Error → ℕ
 fault_position (error.Syntax code position) = position
@@ -93,19 +87,27 @@ pub record EndsKey (text : List ℕ) (setting : Setting) (line column : ℕ) : T
   pub line_there : line ≡ line_at text index
   pub column_there : column ≡ column_at text index
 
--- The refusal names the setting and where its key ends, or memory ran out.
-abbrev pub NamesPlace : List ℕ → Setting → Refusal → Type 0
-NamesPlace text setting (refusal.Wrong wrong line column) = (wrong ≡ setting) × EndsKey text setting line column
-NamesPlace text setting refusal.NoMemory = ⊤
-NamesPlace text setting other = ⊥
+-- The refusal names a setting of the members that is wrong, and where its key ends, or there is no memory for the host.
+abbrev pub IsSettingRefusal : List ℕ → List Written → Refusal → Type 0
+IsSettingRefusal text members (refusal.Wrong setting line column) =
+    IsWrong setting (setting_of setting (written_members members))
+    × (index : ℕ) × HasKeyEnd (source_members_view members) (key_of setting) index
+    × (line ≡ line_at text index) × (column ≡ column_at text index)
+IsSettingRefusal text members refusal.NoMemory =
+    (host : List ℕ) × IsHost (setting_of Host (written_members members)) host
+IsSettingRefusal text members other = ⊥
 
--- The text is no document, or one of no object, or a setting of its object is wrong, or memory ran out.
+-- The text is no document, or one of no object, or a setting of its object is wrong, or there is no memory for the
+-- host.
 abbrev pub IsConfigRefusal : List ℕ → Refusal → Type 0
 IsConfigRefusal text (refusal.NoDocument e line column) =
-    (e ≢ error.OutOfMemory → IsNoDocument extended text) × Fails e (document_of extended text)
+    (e ≢ error.OutOfMemory → IsNoDocument extended text) × (e ≡ error.OutOfMemory → HoldsMarker text)
+    × Fails e (document_of extended text)
     × (line ≡ line_at text (fault_position e)) × (column ≡ column_at text (fault_position e))
 IsConfigRefusal text refusal.NoObject = (t : Tree) × IsDocument extended text t × (as_object t ≡ None)
 IsConfigRefusal text (refusal.Wrong setting line column) =
     (t : Tree) × IsDocument extended text t × (ms : Members) × (as_object t ≡ Some ms)
     × IsWrong setting (setting_of setting ms) × EndsKey text setting line column
-IsConfigRefusal text refusal.NoMemory = ⊤
+IsConfigRefusal text refusal.NoMemory =
+    (t : Tree) × IsDocument extended text t × (ms : Members) × (as_object t ≡ Some ms)
+    × (host : List ℕ) × IsHost (setting_of Host ms) host

@@ -1,15 +1,17 @@
 //! The settings of a server.
 
-ghost use Rattle.std.specs.Prelude.{◌≡◌, option_map, string_bytes, IfOk, IfErr, IfSome, IfNone};
+ghost use Rattle.std.specs.Prelude.{◌≡◌, ◌↔◌, ℕ, ◌<◌, ◌^◌, pos, Some, None, option_map, string_bytes, IfOk, IfErr, IfSome, IfNone};
+ghost use Rattle.jsonb.specs.Accessors.{IsWholeNumber, as_boolean, as_string};
+ghost use Rattle.jsonb.specs.AstView.{ast_view, written_members};
 ghost use Rattle.jsonb.specs.Grammar.{IsDocument};
+ghost use Rattle.jsonb.specs.Line.{line_at, column_at};
 ghost use Rattle.jsonb.specs.Mode.{extended};
 ghost use Rattle.jsonb.specs.Source.{source_members_view};
-ghost use Rattle.jsonb.specs.Tree.{Tree};
-ghost use Rattle.jsonb.specs.View.{view, members_view};
-ghost use Rattle.config.specs.Config.{key_of, setting_of, IsHost, IsPort, IsWorkers, IsVerbose, IsConfig, IsConfigOf, IsWrong, IsFaultOf, fault_position, HasKeyEnd, NamesPlace, IsConfigRefusal};
+ghost use Rattle.jsonb.specs.Tree.{Mark, Tree};
+ghost use Rattle.config.specs.Config.{key_of, setting_of, IsHost, IsPort, IsWorkers, IsVerbose, IsConfig, IsConfigOf, fault_position, HasKeyEnd, IsSettingRefusal, IsConfigRefusal};
 
-use jsonb::{Error, JsonAst, Mode, Object, Value, line_and_column};
-use std::alloc::{AllocError, Global};
+use jsonb::{Error, JsonAst, Mode, line_and_column};
+use std::alloc::Global;
 use std::borrow::CowStr;
 use std::fmt;
 
@@ -81,39 +83,31 @@ impl fmt::Display for Refusal {
     }
 }
 
-// Why an object gives no settings.
-#[derive(Drop)]
-enum Fault {
-    Wrong(Setting),
-    NoMemory,
-}
+// A member of an object as it was read: its key, its value, and the index where its key ends.
+type Member<'a> = (CowStr<'a>, JsonAst<'a>, usize);
 
 /// The settings that the text gives, with the defaults of those that are missing.
 ///
 /// # Errors
 ///
 /// `NoDocument` where the text is no document of extended mode, `NoObject` where it is one of another value, `Wrong`
-/// with a setting of the wrong kind or out of range, and `NoMemory`.
+/// with a setting of the wrong kind or out of range, and `NoMemory` where there is none for the host.
 pub fn read_config(alloc: Global, text: &[u8]) -> Result<Config, Refusal>
     ensures config { IfOk result (λ c. (t : Tree) × IsDocument extended text.now t × IsConfigOf t c) }
     ensures only { IfOk result (λ c. (t : Tree) → IsDocument extended text.now t → IsConfigOf t c) }
     ensures refused { IfErr result (IsConfigRefusal text.now) }
 {
-    let value = match jsonb::parse_value(alloc, text) {
-        Ok(value) => value,
+    let document = match JsonAst::parse(alloc, text, Mode::Extended) {
+        Ok(document) => document,
         Err(error) => {
             let (line, column) = line_and_column(text, position_of(&error));
             return Err(Refusal::NoDocument(error, line, column));
         }
     };
-    let Some(members) = value.as_object() else {
+    let JsonAst::Object(members) = &document else {
         return Err(Refusal::NoObject);
     };
-    match config_of(alloc, members) {
-        Ok(config) => Ok(config),
-        Err(Fault::Wrong(wrong)) => Err(located(alloc, text, wrong)),
-        Err(Fault::NoMemory) => Err(Refusal::NoMemory),
-    }
+    config_of(alloc, text, members)
 }
 
 // The position of a fault of the text.
@@ -126,54 +120,17 @@ fn position_of(error: &Error) -> usize
     }
 }
 
-// The refusal of this setting, with the place where its key ends.
-fn located(alloc: Global, text: &[u8], wrong: Setting) -> Refusal
-    ensures { NamesPlace text.now wrong result }
+// The settings of an object with these members of the text.
+fn config_of(alloc: Global, text: &[u8], members: &[Member]) -> Result<Config, Refusal>
+    ensures ok { IfOk result (IsConfig (written_members members.now)) }
+    ensures refused { IfErr result (IsSettingRefusal text.now members.now) }
 {
-    let Ok(document) = JsonAst::parse(alloc, text, Mode::Extended) else {
-        return Refusal::NoMemory;
-    };
-    let JsonAst::Object(members) = &document else {
-        return Refusal::NoMemory;
-    };
-    let Some(index) = key_end(members, wrong.key()) else {
-        return Refusal::NoMemory;
-    };
-    let (line, column) = line_and_column(text, index);
-    Refusal::Wrong(wrong, line, column)
-}
-
-// The index where the spelling of the key ends.
-fn key_end(members: &[(CowStr, JsonAst, usize)], key: &str) -> Option<usize>
-    ensures { IfSome result (λ index. HasKeyEnd (source_members_view members.now) key.now index) }
-{
-    'members: for (name, _, index) in members {
-        if name.as_str() == key {
-            return Some(*index);
-        }
-    }
-    None
-}
-
-// The settings of an object with these members.
-fn config_of(alloc: Global, members: &Object) -> Result<Config, Fault>
-    ensures ok { IfOk result (IsConfig (members_view members.now.entries)) }
-    ensures wrong { IfErr result (IsFaultOf (members_view members.now.entries)) }
-{
-    let Some(port) = port_of(value_of(members, Setting::Port)) else {
-        return Err(Fault::Wrong(Setting::Port));
-    };
-    let Some(workers) = workers_of(value_of(members, Setting::Workers)) else {
-        return Err(Fault::Wrong(Setting::Workers));
-    };
-    let Some(verbose) = verbose_of(value_of(members, Setting::Verbose)) else {
-        return Err(Fault::Wrong(Setting::Verbose));
-    };
-    let Ok(host) = host_of(alloc, value_of(members, Setting::Host)) else {
-        return Err(Fault::NoMemory);
-    };
-    let Some(host) = host else {
-        return Err(Fault::Wrong(Setting::Host));
+    let port = port_of(text, members)?;
+    let workers = workers_of(text, members)?;
+    let verbose = verbose_of(text, members)?;
+    let host = host_of(text, members)?;
+    let Ok(host) = String::from_str(alloc, host) else {
+        return Err(Refusal::NoMemory);
     };
     Ok(Config {
         host,
@@ -183,58 +140,123 @@ fn config_of(alloc: Global, members: &Object) -> Result<Config, Fault>
     })
 }
 
-// The value at the setting's key.
-fn value_of<'v, 'a>(members: &'v Object<'a>, setting: Setting) -> Option<&'v Value<'a>>
-    ensures { option_map (λ v. view v.now) result ≡ setting_of setting (members_view members.now.entries) }
+// The text of the host.
+fn host_of<'m>(text: &[u8], members: &'m [Member]) -> Result<&'m str, Refusal>
+    ensures ok { IfOk result (λ host. IsHost (setting_of Setting.Host (written_members members.now)) host.now) }
+    ensures refused { IfErr result (IsSettingRefusal text.now members.now) }
 {
-    members.get(setting.key())
+    let Some((value, end)) = member_of(members, Setting::Host) else {
+        return Ok("localhost");
+    };
+    let Some(host) = string(value) else {
+        return Err(wrong(text, Setting::Host, end));
+    };
+    Ok(host)
 }
 
-// The text of the host. `Ok(None)` where the value is no text.
-fn host_of(alloc: Global, value: Option<&Value>) -> Result<Option<String>, AllocError>
-    ensures some { IfOk result (λ found. IfSome found (λ host. IsHost (option_map (λ v. view v.now) value.entry)
-        (string_bytes host))) }
-    ensures none { IfOk result (λ found. IfNone found (IsWrong Setting.Host
-        (option_map (λ v. view v.now) value.entry))) }
+// The number of the port.
+fn port_of(text: &[u8], members: &[Member]) -> Result<u16, Refusal>
+    ensures ok { IfOk result (IsPort (setting_of Setting.Port (written_members members.now))) }
+    ensures refused { IfErr result (IsSettingRefusal text.now members.now) }
 {
-    let Some(value) = value else {
-        return Ok(Some(String::from_str(alloc, "localhost")?));
+    let Some((value, end)) = member_of(members, Setting::Port) else {
+        return Ok(8080);
     };
-    let Some(text) = value.as_str() else {
-        return Ok(None);
+    let Some(port) = small_number(value) else {
+        return Err(wrong(text, Setting::Port, end));
     };
-    Ok(Some(String::from_str(alloc, text.as_str())?))
+    Ok(port)
 }
 
-// The number of the port. `None` where the value is no such number.
-fn port_of(value: Option<&Value>) -> Option<u16>
-    ensures some { IfSome result (IsPort (option_map (λ v. view v.now) value.entry)) }
-    ensures none { IfNone result (IsWrong Setting.Port (option_map (λ v. view v.now) value.entry)) }
+// The number of workers.
+fn workers_of(text: &[u8], members: &[Member]) -> Result<u64, Refusal>
+    ensures ok { IfOk result (IsWorkers (setting_of Setting.Workers (written_members members.now))) }
+    ensures refused { IfErr result (IsSettingRefusal text.now members.now) }
 {
-    let Some(value) = value else {
-        return Some(8080);
+    let Some((value, end)) = member_of(members, Setting::Workers) else {
+        return Ok(4);
     };
-    u16::try_from(value.as_u64()?).ok()
+    let Some(workers) = whole_number(value) else {
+        return Err(wrong(text, Setting::Workers, end));
+    };
+    Ok(workers)
 }
 
-// The number of workers. `None` where the value is no such number.
-fn workers_of(value: Option<&Value>) -> Option<u64>
-    ensures some { IfSome result (IsWorkers (option_map (λ v. view v.now) value.entry)) }
-    ensures none { IfNone result (IsWrong Setting.Workers (option_map (λ v. view v.now) value.entry)) }
+// Whether more is told.
+fn verbose_of(text: &[u8], members: &[Member]) -> Result<bool, Refusal>
+    ensures ok { IfOk result (IsVerbose (setting_of Setting.Verbose (written_members members.now))) }
+    ensures refused { IfErr result (IsSettingRefusal text.now members.now) }
 {
-    let Some(value) = value else {
-        return Some(4);
+    let Some((value, end)) = member_of(members, Setting::Verbose) else {
+        return Ok(false);
     };
-    value.as_u64()
+    let Some(verbose) = truth_value(value) else {
+        return Err(wrong(text, Setting::Verbose, end));
+    };
+    Ok(verbose)
 }
 
-// Whether more is told. `None` where the value is no truth value.
-fn verbose_of(value: Option<&Value>) -> Option<bool>
-    ensures some { IfSome result (IsVerbose (option_map (λ v. view v.now) value.entry)) }
-    ensures none { IfNone result (IsWrong Setting.Verbose (option_map (λ v. view v.now) value.entry)) }
+// The refusal of this setting, whose key ends at the index.
+fn wrong(text: &[u8], setting: Setting, end: usize) -> Refusal
+    ensures { result ≡ Refusal.Wrong setting (line_at text.now end) (column_at text.now end) }
 {
-    let Some(value) = value else {
-        return Some(false);
-    };
-    value.as_bool()
+    let (line, column) = line_and_column(text, end);
+    Refusal::Wrong(setting, line, column)
+}
+
+// The value at the setting's key, and the index where the key ends.
+fn member_of<'m, 'a>(
+    members: &'m [Member<'a>],
+    setting: Setting,
+) -> Option<(&'m JsonAst<'a>, usize)>
+    ensures value { option_map (λ m. ast_view m.0.now) result ≡ setting_of setting (written_members members.now) }
+    ensures ends { IfSome result (λ m. HasKeyEnd (source_members_view members.now) (key_of setting) m.1) }
+{
+    let key = setting.key();
+    let mut found = None;
+    'members: for (name, value, end) in members {
+        if key != name.as_str() {
+            continue;
+        }
+        found = Some((value, *end));
+    }
+    found
+}
+
+// The bytes of a string.
+fn string<'m>(value: &'m JsonAst) -> Option<&'m str>
+    ensures some { IfSome result (λ s. (mark : Mark) × (as_string (ast_view value.now) ≡ Some (mark, s.now))) }
+    ensures none { IfNone result (as_string (ast_view value.now) ≡ None) }
+{
+    match value {
+        JsonAst::String(text) => Some(text.as_str()),
+        _ => None,
+    }
+}
+
+// The whole number below 2^64 that the value is.
+fn whole_number(value: &JsonAst) -> Option<u64>
+    ensures { (n : ℕ) → (result ≡ Some n) ↔ (IsWholeNumber (ast_view value.now) (pos n) × (n < 2 ^ 64)) }
+{
+    match value {
+        JsonAst::Number(number) => number.as_u64(),
+        _ => None,
+    }
+}
+
+// The whole number below 2^16 that the value is.
+fn small_number(value: &JsonAst) -> Option<u16>
+    ensures { (n : ℕ) → (result ≡ Some n) ↔ (IsWholeNumber (ast_view value.now) (pos n) × (n < 2 ^ 16)) }
+{
+    u16::try_from(whole_number(value)?).ok()
+}
+
+// The truth value that the value is.
+fn truth_value(value: &JsonAst) -> Option<bool>
+    ensures { result ≡ as_boolean (ast_view value.now) }
+{
+    match value {
+        JsonAst::Bool(truth) => Some(*truth),
+        _ => None,
+    }
 }

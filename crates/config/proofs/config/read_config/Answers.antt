@@ -1,0 +1,17 @@
+use Rattle.config.proofs.Settings.{settings, only_settings, no_settings}
+use Rattle.config.proofs.config.read_config.Goals as goal
+
+pub returns-clause-config : goal.returns-clause-config
+returns-clause-config c =
+    let ok = rw c.deref.ensures.value at c.config_of.ensures.ok in
+    settings c.args.text.now c.in-Ok.document c.in-Object.members c.config_of.result c.in-Object.is c.in-Ok.ensures.document ok
+
+pub returns-clause-only : goal.returns-clause-only
+returns-clause-only c =
+    let ok = rw c.deref.ensures.value at c.config_of.ensures.ok in
+    only_settings c.args.text.now c.in-Ok.document c.in-Object.members c.config_of.result c.in-Object.is c.in-Ok.ensures.only ok
+
+pub returns-clause-refused : goal.returns-clause-refused
+returns-clause-refused c =
+    let refused = rw c.deref.ensures.value at c.config_of.ensures.refused in
+    no_settings c.args.text.now c.in-Ok.document c.in-Object.members c.config_of.result c.in-Object.is c.in-Ok.ensures.document c.in-Ok.ensures.source refused
