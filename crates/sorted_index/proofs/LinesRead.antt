@@ -3,9 +3,8 @@ use Rattle.std.proofs.Common.{◌≡◌, ◌≢◌, ℕ, ◌+◌, ◌<◌, List,
 use Rattle.std.proofs.lemmas.List.{map-append, length-map}
 use Rattle.jsonb.specs.Grammar.{IsDocument, IsNoDocument}
 use Rattle.jsonb.specs.Mode.{extended}
-use Rattle.jsonb.specs.Parser.{Fails}
+use Rattle.jsonb.specs.Parser.{Fails, HoldsMarker}
 use Rattle.jsonb.specs.Reading.Document.{document_of}
-use Rattle.jsonb.specs.Tree.{Tree}
 use Rattle.jsonb.specs.View.{view}
 use Rattle.jsonb_value.specs.declared.error.Error.{Error}
 use Rattle.jsonb_value.specs.declared.error.Error.TheVariants.{OutOfMemory}
@@ -28,9 +27,9 @@ next_document lines i line values v within is so_far document =
 
 -- the first line that is refused
 pub first_fault : (lines : List (Vec ℕ Global)) (i : ℕ) (line : Vec ℕ Global) (values : List Value) (e : Error) → i < length lines → line ≡ get_or lines i line
-    → AreDocuments (contents (take i lines)) values → (e ≢ OutOfMemory → IsNoDocument extended line.items) → Fails e (document_of extended line.items)
+    → AreDocuments (contents (take i lines)) values → (e ≢ OutOfMemory → IsNoDocument extended line.items) → (e ≡ OutOfMemory → HoldsMarker line.items) → Fails e (document_of extended line.items)
     → IsFirstFault (contents lines) (i + 1) e
-first_fault lines i line values e within is so_far refused fault =
+first_fault lines i line values e within is so_far refused memory fault =
     let rest : drop i lines ≡ line ∷ drop (i + 1) lines = rw add-one (drop-cons lines i line within) ∙ ap (λ x. x ∷ drop (i + 1) lines) (sym is) in
     let whole : lines ≡ take i lines ++ line ∷ drop (i + 1) lines = sym (take-append-drop i lines) ∙ ap (λ ls. take i lines ++ ls) rest in
     let count : length (contents (take i lines)) ≡ i = length-map (take i lines) _ ∙ length-take-le i lines (omega arith) in
@@ -43,5 +42,6 @@ first_fault lines i line values e within is so_far refused fault =
       given = values;
       documents = so_far;
       no_document = refused;
+      memory = memory;
       fault = fault;
     }

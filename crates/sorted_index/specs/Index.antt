@@ -7,9 +7,8 @@ use Rattle.std.specs.declared.cmp.Ordering.{Ordering}
 use Rattle.std.specs.declared.cmp.Ordering.TheVariants.{Equal}
 use Rattle.jsonb.specs.Grammar.{IsDocument, IsNoDocument}
 use Rattle.jsonb.specs.Mode.{extended}
-use Rattle.jsonb.specs.Parser.{Fails}
+use Rattle.jsonb.specs.Parser.{Fails, HoldsMarker}
 use Rattle.jsonb.specs.Reading.Document.{document_of}
-use Rattle.jsonb.specs.Tree.{Tree}
 use Rattle.jsonb.specs.View.{view}
 use Rattle.jsonb_value.specs.Order.{tree_cmp}
 use Rattle.jsonb_value.specs.Text.{text_of}
@@ -65,6 +64,7 @@ pub record IsFirstFault (lines : List (List ℕ)) (number : ℕ) (error : Error)
   pub given : List Value
   pub documents : AreDocuments before given
   pub no_document : error ≢ OutOfMemory → IsNoDocument extended line
+  pub memory : error ≡ OutOfMemory → HoldsMarker line
   pub fault : Fails error (document_of extended line)
 
 -- A line is refused, or memory ran out.
