@@ -31,7 +31,7 @@ fn a_comment_before_an_integer(rt: HostRuntime) -> Result<(), Fail> {
     for input in ["// a\n1", "// a\r1"] {
         let value = read(&rt, Mode::Extended, input.as_bytes())??;
         assert!(rt;
-            matches!(value, Value::Number(Number::UInt64(1))),
+            matches!(&value, Value::Number(Number::UInt64(1))),
             "of {input}"
         );
     }

@@ -94,7 +94,7 @@ fn strings_without_escapes_are_borrowed(rt: HostRuntime) -> Result<(), Fail> {
     ] {
         for mode in modes {
             let value = read(&rt, *mode, input.as_bytes())??;
-            let got = matches!(value, Value::String(CowStr::Borrowed(_)));
+            let got = matches!(&value, Value::String(CowStr::Borrowed(_)));
             assert_eq!(rt; got, is_borrowed, "of {input}");
             assert!(rt;
                 value == Value::String(CowStr::Borrowed(want)),
