@@ -36,6 +36,7 @@ pub fn report<W: Write>(alloc: Global, line: &str, out: &mut W) -> io::Result<()
     say(out, "value", &value(alloc, mode, &text))?;
     say(out, "tree", &tree(alloc, mode, &text))?;
     say(out, "clone", &clone(alloc, mode, &text))?;
+    say(out, "owned", &owned(alloc, mode, &text))?;
     say(out, "tree_clone", &tree_clone(alloc, mode, &text))?;
     say(out, "keys", &keys(alloc, mode, &text))?;
     say(out, "without_room", &without_room(alloc, mode, &text))?;
@@ -75,6 +76,10 @@ fn tree(alloc: Global, mode: Mode, text: &[u8]) -> Result<Vec<u8>> {
 
 fn clone(alloc: Global, mode: Mode, text: &[u8]) -> Result<Vec<u8>> {
     written(alloc, &read(alloc, mode, text)?.clone()?)
+}
+
+fn owned(alloc: Global, mode: Mode, text: &[u8]) -> Result<Vec<u8>> {
+    written(alloc, &read(alloc, mode, text)?.to_owned_value(alloc)?)
 }
 
 fn tree_clone(alloc: Global, mode: Mode, text: &[u8]) -> Result<Vec<u8>> {
