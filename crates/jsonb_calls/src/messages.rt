@@ -1,13 +1,25 @@
-//! The calls that answer a message, and clones of errors.
+//! The calls that answer a message, clones of errors, and the texts of an interval.
 
 use crate::calls::say;
-use jsonb::{Decimal64, Decimal128, Error, Interval, Number, ParseErrorCode, Result, Value};
+use jsonb::{
+    Decimal64, Decimal128, Error, ExtensionValue, Interval, Number, ParseErrorCode, Result, Value,
+};
 use std::alloc::Global;
 use std::io;
 use std::io::Write;
 
-/// Writes a line for each message of arithmetic, for clones of errors, and for the text of an interval.
+/// Writes a line for each message of arithmetic, for clones of errors, and for each text of an interval.
 pub fn report<W: Write>(alloc: Global, out: &mut W) -> io::Result<()> {
+    report_integers(alloc, out)?;
+    report_decimals(alloc, out)?;
+    say(out, "code_clone", &code_clone(alloc))?;
+    say(out, "message_clone", &message_clone(alloc))?;
+    say(out, "interval", &interval_value(alloc))?;
+    say(out, "interval_alone", &interval_alone(alloc))
+}
+
+// The messages of arithmetic on integers.
+fn report_integers<W: Write>(alloc: Global, out: &mut W) -> io::Result<()> {
     let least = Number::Int64(i64::MIN);
     let greatest = Number::UInt64(u64::MAX);
     say(
@@ -35,7 +47,11 @@ pub fn report<W: Write>(alloc: Global, out: &mut W) -> io::Result<()> {
         "rem_zero",
         &printed(alloc, greatest.rem(alloc, Number::UInt64(0))),
     )?;
-    say(out, "neg", &printed(alloc, least.neg(alloc)))?;
+    say(out, "neg", &printed(alloc, least.neg(alloc)))
+}
+
+// The messages of arithmetic on decimals.
+fn report_decimals<W: Write>(alloc: Global, out: &mut W) -> io::Result<()> {
     let short = Number::Decimal64(Decimal64 {
         scale: 1,
         value: i64::MIN,
@@ -45,10 +61,7 @@ pub fn report<W: Write>(alloc: Global, out: &mut W) -> io::Result<()> {
         scale: 1,
         value: i128::MIN,
     });
-    say(out, "neg_decimal128", &printed(alloc, long.neg(alloc)))?;
-    say(out, "code_clone", &code_clone(alloc))?;
-    say(out, "message_clone", &message_clone(alloc))?;
-    say(out, "interval", &interval(alloc))
+    say(out, "neg_decimal128", &printed(alloc, long.neg(alloc)))
 }
 
 // A number as its text.
@@ -75,13 +88,22 @@ fn message_clone(alloc: Global) -> Result<Vec<u8>> {
     shown(alloc, &error.clone()?)
 }
 
-fn interval(alloc: Global) -> Result<Vec<u8>> {
-    let interval = Interval {
-        months: 14,
-        days: -1,
-        micros: 3_661_000_001,
-    };
+// An interval whose text has each part.
+const INTERVAL: Interval = Interval {
+    months: 14,
+    days: -1,
+    micros: 3_661_000_001,
+};
+
+fn interval_value(alloc: Global) -> Result<Vec<u8>> {
     let mut text = Vec::new(alloc);
-    Value::Interval(interval).write_text(&mut text)?;
+    Value::Interval(INTERVAL).write_text(&mut text)?;
+    Ok(text)
+}
+
+// The same with no `Value` around it, and so without quotes.
+fn interval_alone(alloc: Global) -> Result<Vec<u8>> {
+    let mut text = Vec::new(alloc);
+    ExtensionValue::Interval(INTERVAL).write_text(&mut text)?;
     Ok(text)
 }
