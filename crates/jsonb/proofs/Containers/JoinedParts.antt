@@ -1,5 +1,6 @@
 -- Parts of a text: what stands between blanks, and parts joined by commas. A reader of the parts gives a reader of the whole.
 use Rattle.std.proofs.Common.{◌≡◌, ℕ, zero, suc, ◌<◌, ◌≤◌, Bool, true, false, cond, ◌||◌, ◌⊎◌, ⊎_elim, inl, inr, List, [], ◌∷◌, ◌++◌, length, Ok, refl, sym, ap, ap₂, map, subst, ◌∙◌, append_assoc, length-append, arith, eqb, eqb-true}
+use Rattle.std.proofs.lemmas.Bool.{cond-false, cond-true, or_cases, or_parts}
 use Rattle.jsonb_value.specs.Grammar.Blanks.{IsBlank, IsBlanks}
 use Rattle.jsonb_value.specs.Grammar.Blanks.IsBlank.{block_comment, carriage_return, form_feed, line_comment, line_feed, space, tab, written_carriage_return, written_form_feed, written_line_feed, written_tab}
 use Rattle.jsonb_value.specs.Grammar.Blanks.IsBlanks.{more_blanks, no_blanks}
@@ -11,7 +12,7 @@ use Rattle.jsonb_value.specs.Mode.{Mode}
 use Rattle.jsonb.specs.Reading.{Read, begins, on_byte, refused, ◌>>=◌}
 use Rattle.jsonb.specs.Reading.Blank.{is_blank_start, is_break, skip_blanks}
 use Rattle.jsonb.specs.Reading.Container.{after_part, joined_at, padded_at}
-use Rattle.jsonb.proofs.Steps.Tests.{bind_ok, chosen, eqb_self, if-false, if-true, or_false, or_true, refused_fails, same_read}
+use Rattle.jsonb.proofs.Steps.Tests.{bind_ok, chosen, eqb_self, refused_fails, same_read}
 use Rattle.jsonb.proofs.Text.Blanks.{skip-blanks, skip-stop, skips}
 
 -- ---- bytes that begin and that end something
@@ -40,11 +41,11 @@ pub record IsOther (b : ℕ) : Type 0 where
 
 pub other : (b : ℕ) → is_break b ≡ false → IsOther b
 other b e =
-    let p = or_false (is_blank_start b || eqb b 44 || eqb b 58 || eqb b 93) (eqb b 125) e in
-    let q = or_false (is_blank_start b || eqb b 44 || eqb b 58) (eqb b 93) p.first in
-    let r = or_false (is_blank_start b || eqb b 44) (eqb b 58) q.first in
-    let s = or_false (is_blank_start b) (eqb b 44) r.first in
-    record { blank = s.first; comma = s.second; colon = r.second; bracket = q.second; brace = p.second }
+    let p = or_parts (is_blank_start b || eqb b 44 || eqb b 58 || eqb b 93) (eqb b 125) e in
+    let q = or_parts (is_blank_start b || eqb b 44 || eqb b 58) (eqb b 93) p.0 in
+    let r = or_parts (is_blank_start b || eqb b 44) (eqb b 58) q.0 in
+    let s = or_parts (is_blank_start b) (eqb b 44) r.0 in
+    record { blank = s.0; comma = s.1; colon = r.1; bracket = q.1; brace = p.1 }
 
 -- what holds of each byte that may follow a value
 pub break_is : (b : ℕ) → is_break b ≡ true → (P : ℕ → Type 0) → P 32 → P 9 → P 10 → P 12 → P 13 → P 92 → P 47 → P 44 → P 58 → P 93 → P 125 → P b
@@ -61,7 +62,7 @@ break_is b e P p32 p9 p10 p12 p13 p92 p47 p44 p58 p93 p125 =
     or (eqb b 32) 9 n p9 (λ o. subst P (sym (eqb-true b 32 o)) p32))))))))))
   where
     or : (a : Bool) (c : ℕ) → (a || eqb b c) ≡ true → P c → (a ≡ true → P b) → P b
-    or a c h here other = ⊎_elim other (λ same. subst P (sym (eqb-true b c same)) here) (or_true a (eqb b c) h)
+    or a c h here other = ⊎_elim other (λ same. subst P (sym (eqb-true b c same)) here) (or_cases a (eqb b c) h)
 
 pub ends_at : (b : ℕ) (bytes : List ℕ) → is_break b ≡ true → Ends (b ∷ bytes)
 ends_at b bytes e = record { first = b; others = bytes; whole = refl; is_end = e }
@@ -161,14 +162,14 @@ module _ {A : Type 0} (mode : Mode) (Spells : List ℕ → A → Type 0) (read :
 -- ---- a byte at the front
 
 pub on_byte-found : {X : Type 0} (c : ℕ) (rest : List ℕ) (found : List ℕ → X) (other : X) → on_byte c (c ∷ rest) found other ≡ found rest
-on_byte-found c rest found other = if-true (eqb c c) (found rest) other (eqb_self c)
+on_byte-found c rest found other = cond-true (eqb c c) (found rest) other (eqb_self c)
 
 pub on_byte-other : {X : Type 0} (c b : ℕ) (rest : List ℕ) (found : List ℕ → X) (other : X) → eqb b c ≡ false → on_byte c (b ∷ rest) found other ≡ other
-on_byte-other c b rest found other e = if-false (eqb b c) (found rest) other e
+on_byte-other c b rest found other e = cond-false (eqb b c) (found rest) other e
 
 pub on_byte-none : {X : Type 0} (c : ℕ) (bytes : List ℕ) (found : List ℕ → X) (other : X) → begins c bytes ≡ false → on_byte c bytes found other ≡ other
 on_byte-none c [] found other e = refl
-on_byte-none c (b ∷ rest) found other e = if-false (eqb b c) (found rest) other (not_found (eqb b c) e)
+on_byte-none c (b ∷ rest) found other e = cond-false (eqb b c) (found rest) other (not_found (eqb b c) e)
   where
     not_found : (t : Bool) → cond t true false ≡ false → t ≡ false
     not_found true h = h
@@ -180,7 +181,7 @@ on_byte_cases c [] found other z e = inr (refl, e)
 on_byte_cases c (b ∷ rest) found other z e =
     elim (chosen (eqb b c) (found rest) other z e) [
       | inl t ↦ let same : b ≡ c = eqb-true b c t.0 in inl (rest, ap (λ (k : ℕ). k ∷ rest) same, t.1)
-      | inr f ↦ inr (if-false (eqb b c) true false f.0, f.1)
+      | inr f ↦ inr (cond-false (eqb b c) true false f.0, f.1)
     ]
 
 -- ---- parts joined by commas

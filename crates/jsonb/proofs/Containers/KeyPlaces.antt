@@ -2,6 +2,7 @@
 use Rattle.std.proofs.Common.{◌≡◌, ℕ, zero, suc, ◌+◌, ◌-◌, ◌<◌, ◌≤◌, Bool, true, false, cond, inl, inr, List, [], ◌∷◌, ◌++◌, length, map, Some, Ok, is_eq, nat_cmp, refl, sym, ap, ap₂, subst, subst₂, ◌∙◌, append_assoc, length-append, arith, eqb, eqb-true}
 use Rattle.std.specs.Cmp.Lexicographic.{slice_cmp}
 use Rattle.std.proofs.lemmas.List.Recursion.{is_count_by}
+use Rattle.std.proofs.lemmas.Bool.{cond-false}
 use Rattle.jsonb_value.specs.Grammar.Blanks.{IsBlanks}
 use Rattle.jsonb_value.specs.Code.Code.{expected_colon, expected_object_comma_or_end}
 use Rattle.jsonb_value.specs.Grammar.{IsJoined, IsMember}
@@ -17,7 +18,7 @@ use Rattle.jsonb.specs.Reading.Container.{Found, Spot, after_key, after_part, fi
 use Rattle.jsonb.specs.Reading.Scalar.{key_at}
 use Rattle.jsonb.specs.Refusals.{ArePassed, IsSpelling, Repeats, times}
 use Rattle.jsonb.specs.Refusals.ArePassed.{no_parts, part_passed}
-use Rattle.jsonb.proofs.Steps.Tests.{bind_ok, if-false, refused_fails, same_read}
+use Rattle.jsonb.proofs.Steps.Tests.{bind_ok, refused_fails, same_read}
 use Rattle.jsonb.proofs.Containers.JoinedParts.{IsSound, on_byte_cases, padded_sound}
 use Rattle.jsonb.proofs.Scalars.Spellings.{key_sound, key_starts}
 use Rattle.jsonb.proofs.Containers.SecondPlaces.{AreRising, IsSecond, alike, count, has, once_before, rising-weaken, second_found, stands_there}
@@ -177,14 +178,14 @@ module _ (mode : Mode) (size : ℕ) where
     where
       here : (b : Bool) → stands_there s (spot_of f) ≡ b → IsLocated tail bytes (f ∷ []) s
       here true e = record { earlier = []; found = f; later = []; all = refl; is_it = e; passed = []; rest = bytes; whole = refl; are_passed = no_parts; are_joined = one_part m; key_at = k }
-      here false e = absurd (let none : count (stands_there s) (map spot_of (f ∷ [])) ≡ 0 = if-false (stands_there s (spot_of f)) (1 + 0) 0 e in omega (arith, h, none))
+      here false e = absurd (let none : count (stands_there s) (map spot_of (f ∷ [])) ≡ 0 = cond-false (stands_there s (spot_of f)) (1 + 0) 0 e in omega (arith, h, none))
   locate {tail} (more_laid {first = first} {rest = others} {f = f} {fs = fs} m k o l) s h = here (stands_there s (spot_of f)) refl (locate l s)
     where
       here : (b : Bool) → stands_there s (spot_of f) ≡ b → (1 ≤ count (stands_there s) (map spot_of fs) → IsLocated tail others fs s) → IsLocated tail (first ++ 44 ∷ others) (f ∷ fs) s
       here true e next =
           record { earlier = []; found = f; later = fs; all = refl; is_it = e; passed = []; rest = first ++ 44 ∷ others; whole = refl; are_passed = no_parts; are_joined = more_parts m (laid_joined l); key_at = k }
       here false e next =
-          let fewer : count (stands_there s) (map spot_of (f ∷ fs)) ≡ count (stands_there s) (map spot_of fs) = if-false (stands_there s (spot_of f)) (1 + count (stands_there s) (map spot_of fs)) (count (stands_there s) (map spot_of fs)) e in
+          let fewer : count (stands_there s) (map spot_of (f ∷ fs)) ≡ count (stands_there s) (map spot_of fs) = cond-false (stands_there s (spot_of f)) (1 + count (stands_there s) (map spot_of fs)) (count (stands_there s) (map spot_of fs)) e in
           let r = next (omega (arith, h, fewer)) in
           record {
             earlier = f ∷ r.earlier;

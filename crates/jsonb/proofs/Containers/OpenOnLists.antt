@@ -2,7 +2,7 @@
 use Rattle.std.proofs.Common.{◌≡◌, ℕ, zero, suc, ◌-◌, ◌<◌, ◌≤◌, true, false, cond, List, [], ◌∷◌, ◌++◌, length, Result, Ok, Err, ⊎_elim, refl, sym, ap, ◌∙◌, append_assoc, length-append, arith, eqb}
 use Rattle.jsonb_value.specs.Code.{Code}
 use Rattle.jsonb_value.specs.Code.Code.{expected_array_comma_or_end, expected_colon, expected_object_comma_or_end}
-use Rattle.std.proofs.lemmas.Bool.{cases_lt}
+use Rattle.std.proofs.lemmas.Bool.{cases_lt, cond-false, cond-true}
 use Rattle.jsonb_value.specs.Grammar.{Derives, IsElement}
 use Rattle.jsonb_value.specs.Mode.{Mode}
 use Rattle.jsonb_value.specs.Tree.{Mark, Tree}
@@ -16,7 +16,6 @@ use Rattle.jsonb.specs.Reading.Document.{too_deep, value_at, value_with}
 use Rattle.jsonb.specs.Reading.Scalar.{key_at, scalar_at}
 use Rattle.jsonb.specs.Stack.{Open, array_end, array_within, elements_from, finish_open, member_start, read_members_from, object_end, object_within, parts_after, parts_from, resume}
 use Rattle.jsonb.specs.Stack.Open.{elements_so_far, members_so_far}
-use Rattle.jsonb.proofs.Steps.Tests.{if-false, if-true}
 use Rattle.jsonb.proofs.Containers.JoinedParts.{IsSoundBefore, on_byte-none}
 use Rattle.jsonb.proofs.Text.Blanks.{length-skip}
 use Rattle.jsonb.proofs.Containers.Values.{IsFound, element_sound, member_sound, value_sound}
@@ -121,13 +120,13 @@ module _ (size : ℕ) (mode : Mode) (depth : ℕ) where
       → elements_from size mode depth front bytes ≡ (value_at size mode depth (skip_blanks mode bytes) >>= finish_open size mode depth (elements_so_far front))
   element-due front bytes e =
       elements-turn front bytes
-      ∙ ap (λ (r : Read Tree). r >>= finish_open size mode depth (elements_so_far front)) (if-false (is_left_out mode (skip_blanks mode bytes)) (Ok (null, skip_blanks mode bytes)) (value_at size mode depth (skip_blanks mode bytes)) e)
+      ∙ ap (λ (r : Read Tree). r >>= finish_open size mode depth (elements_so_far front)) (cond-false (is_left_out mode (skip_blanks mode bytes)) (Ok (null, skip_blanks mode bytes)) (value_at size mode depth (skip_blanks mode bytes)) e)
 
   pub element-left_out : (front : List Tree) (bytes : List ℕ) → is_left_out mode (skip_blanks mode bytes) ≡ true
       → elements_from size mode depth front bytes ≡ finish_open size mode depth (elements_so_far front) (null, skip_blanks mode bytes)
   element-left_out front bytes e =
       elements-turn front bytes
-      ∙ ap (λ (r : Read Tree). r >>= finish_open size mode depth (elements_so_far front)) (if-true (is_left_out mode (skip_blanks mode bytes)) (Ok (null, skip_blanks mode bytes)) (value_at size mode depth (skip_blanks mode bytes)) e)
+      ∙ ap (λ (r : Read Tree). r >>= finish_open size mode depth (elements_so_far front)) (cond-true (is_left_out mode (skip_blanks mode bytes)) (Ok (null, skip_blanks mode bytes)) (value_at size mode depth (skip_blanks mode bytes)) e)
 
   pub array-begun : (bytes : List ℕ) → begins 93 (skip_blanks mode bytes) ≡ false → array_at size mode (value_at size mode depth) bytes ≡ elements_from size mode depth [] (skip_blanks mode bytes)
   array-begun bytes e =

@@ -2,9 +2,10 @@
 use Rattle.std.proofs.Common.{◌≡◌, ◌≢◌, ℕ, ◌+◌, ◌<◌, ◌≤◌, Bool, true, false, cond, ◌⊎◌, inl, inr, List, [], ◌∷◌, ◌++◌, Option, Some, Ordering, Less, Equal, Greater, is_eq, is_gt, nat_cmp, refl, sym, ap, subst, ◌∙◌, arith, eqb, ltb, leb, eq-eqb, le-ltb, le-leb, lt-ltb, leb-true}
 use Rattle.std.specs.Ordering.{MatchOrdering, ordering_then}
 use Rattle.std.proofs.lemmas.Cmp.{ranked, tied_itself, nat_list_cmp_total}
+use Rattle.std.proofs.lemmas.Bool.{cond-false, cond-true}
 use Rattle.jsonb_value.specs.Grammar.{IsNew}
 use Rattle.jsonb.specs.Reading.Container.{Spot, adjacent_repeat, first_repeat, insert_spot, sort_spots, spot_cmp}
-use Rattle.jsonb.proofs.Steps.Tests.{chosen, if-false, if-true}
+use Rattle.jsonb.proofs.Steps.Tests.{chosen}
 use Rattle.jsonb.proofs.Containers.Repeats.{AreSorted, IsLow, below, key_cmp, keys, new-below, other_key, same_key, sorted-sort}
 
 -- ---- how many spots pass a test
@@ -14,10 +15,10 @@ count p [] = 0
 count p (s ∷ ss) = cond (p s) (1 + count p ss) (count p ss)
 
 count_yes : (p : Spot → Bool) (s : Spot) (ss : List Spot) → p s ≡ true → count p (s ∷ ss) ≡ 1 + count p ss
-count_yes p s ss e = if-true (p s) (1 + count p ss) (count p ss) e
+count_yes p s ss e = cond-true (p s) (1 + count p ss) (count p ss) e
 
 count_no : (p : Spot → Bool) (s : Spot) (ss : List Spot) → p s ≡ false → count p (s ∷ ss) ≡ count p ss
-count_no p s ss e = if-false (p s) (1 + count p ss) (count p ss) e
+count_no p s ss e = cond-false (p s) (1 + count p ss) (count p ss) e
 
 count_more : (p : Spot → Bool) (s : Spot) (ss : List Spot) → count p ss ≤ count p (s ∷ ss)
 count_more p s ss = elim (p s) as (λ b. count p ss ≤ cond b (1 + count p ss) (count p ss)) [ true ↦ omega arith | false ↦ omega arith ]
@@ -115,7 +116,7 @@ there (a ∷ []) s e = absurd cc
 there (a ∷ b ∷ rest) s e =
     elim (repeat_cases a b s rest e) [
       | inl h ↦
-          let itself : stands_there b b ≡ true = if-true (has b.key b) (eqb b.place b.place) false (like b.key b.key refl) ∙ eq-eqb b.place b.place refl in
+          let itself : stands_there b b ≡ true = cond-true (has b.key b) (eqb b.place b.place) false (like b.key b.key refl) ∙ eq-eqb b.place b.place refl in
           subst (λ (t : Spot). 1 ≤ count (stands_there t) (a ∷ b ∷ rest)) h.1 (omega (arith, count_more (stands_there b) a (b ∷ rest), count_yes (stands_there b) b rest itself))
       | inr h ↦ omega (arith, there (b ∷ rest) s h.1, count_more (stands_there s) a (b ∷ rest))
     ]
@@ -126,8 +127,8 @@ two_upto (a ∷ []) s z e = absurd cc
 two_upto (a ∷ b ∷ rest) s z e =
     elim (repeat_cases a b s rest e) [
       | inl h ↦
-          let itself : stands_upto b b ≡ true = if-true (has b.key b) (leb b.place b.place) false (like b.key b.key refl) ∙ le-leb b.place b.place (omega arith) in
-          let first : stands_upto b a ≡ true = if-true (has b.key a) (leb a.place b.place) false h.0 ∙ le-leb a.place b.place (no_later a b h.0 z.0.0) in
+          let itself : stands_upto b b ≡ true = cond-true (has b.key b) (leb b.place b.place) false (like b.key b.key refl) ∙ le-leb b.place b.place (omega arith) in
+          let first : stands_upto b a ≡ true = cond-true (has b.key a) (leb a.place b.place) false h.0 ∙ le-leb a.place b.place (no_later a b h.0 z.0.0) in
           subst (λ (t : Spot). 2 ≤ count (stands_upto t) (a ∷ b ∷ rest)) h.1 (omega (arith, count_yes (stands_upto b) a (b ∷ rest) first, count_yes (stands_upto b) b rest itself))
       | inr h ↦ omega (arith, two_upto (b ∷ rest) s z.1 h.1, count_more (stands_upto s) a (b ∷ rest))
     ]
@@ -163,11 +164,11 @@ one_before (a ∷ []) s z e = absurd cc
 one_before (a ∷ b ∷ rest) s z e =
     elim (repeat_cases a b s rest e) [
       | inl h ↦
-          let itself : stands_before b b ≡ false = if-true (has b.key b) (ltb b.place b.place) false (like b.key b.key refl) ∙ le-ltb b.place b.place (omega arith) in
+          let itself : stands_before b b ≡ false = cond-true (has b.key b) (ltb b.place b.place) false (like b.key b.key refl) ∙ le-ltb b.place b.place (omega arith) in
           subst (λ (t : Spot). count (stands_before t) (a ∷ b ∷ rest) ≤ 1) h.1
           (omega (arith, count_less (stands_before b) a (b ∷ rest), count_no (stands_before b) b rest itself, none_before b rest z.1.0))
       | inr h ↦
-          let no : stands_before s a ≡ false = if-false (has s.key a) (ltb a.place s.place) false (unlike a.key s.key (new_found a.key (b ∷ rest) s h.1 (new_after a b rest z h.0))) in
+          let no : stands_before s a ≡ false = cond-false (has s.key a) (ltb a.place s.place) false (unlike a.key s.key (new_found a.key (b ∷ rest) s h.1 (new_after a b rest z h.0))) in
           omega (arith, count_no (stands_before s) a (b ∷ rest) no, one_before (b ∷ rest) s z.1 h.1)
     ]
 
@@ -230,7 +231,7 @@ all_before : (bound : ℕ) (left : List Spot) (s : Spot) (right : List Spot) →
 all_before bound [] s right r = refl
 all_before bound (t ∷ left) s right r =
     elim (has s.key t) as (λ b. cond (cond b (ltb t.place s.place) false) (1 + count (stands_before s) left) (count (stands_before s) left) ≡ cond b (1 + count (has s.key) left) (count (has s.key) left)) [
-      | true ↦ if-true (ltb t.place s.place) (1 + count (stands_before s) left) (count (stands_before s) left) (lt-ltb t.place s.place (past t.place left s right r.1)) ∙ ap (λ (n : ℕ). 1 + n) (all_before t.place left s right r.1)
+      | true ↦ cond-true (ltb t.place s.place) (1 + count (stands_before s) left) (count (stands_before s) left) (lt-ltb t.place s.place (past t.place left s right r.1)) ∙ ap (λ (n : ℕ). 1 + n) (all_before t.place left s right r.1)
       | false ↦ all_before t.place left s right r.1
     ]
 

@@ -1,5 +1,6 @@
 -- A reader of the values inside of arrays and objects gives a reader of these.
 use Rattle.std.proofs.Common.{◌≡◌, ℕ, zero, suc, ◌+◌, ◌-◌, ◌≤◌, Bool, true, false, true≢false, ◌||◌, ◌⊎◌, inl, inr, List, [], ◌∷◌, ◌++◌, length, map, map-id, Option, Some, None, Result, Ok, refl, sym, ap, subst, subst₂, ◌∙◌, append_assoc, length-append, arith, eqb, eqb-true}
+use Rattle.std.proofs.lemmas.Bool.{cond-false, cond-true}
 use Rattle.jsonb_value.specs.Grammar.Blanks.{AreLastBlanks, IsBlanks}
 use Rattle.jsonb_value.specs.Code.Code.{expected_array_comma_or_end, expected_colon, expected_object_comma_or_end, invalid_eof, unexpected_trailing_characters}
 use Rattle.jsonb_value.specs.Grammar.{AreDistinct, Derives, HaveDistinctKeys, IsDocument, IsElement, IsJoined, IsMember, IsPadded, IsValue, max_depth}
@@ -20,7 +21,7 @@ use Rattle.jsonb.specs.Reading.Blank.{is_blank_start, is_break, opens_comment, p
 use Rattle.jsonb.specs.Reading.Container.{Found, Spot, after_key, array_at, element_at, elements_at, first_repeat, found_at, is_left_out, joined_at, member_at, member_of, members_at, object_at, object_or_fault, padded_at, spot_of, value_or_null}
 use Rattle.jsonb.specs.Reading.Document.{at_end, comment_at, document_from, document_of, nothing_at, too_deep, value_at, value_to_end, value_with}
 use Rattle.jsonb.specs.Reading.Scalar.{key_at, scalar_at}
-use Rattle.jsonb.proofs.Steps.Tests.{SameRead, bind_ok, chosen, if-false, if-true, refused_fails, same_ok, same_read}
+use Rattle.jsonb.proofs.Steps.Tests.{SameRead, bind_ok, chosen, refused_fails, same_ok, same_read}
 use Rattle.jsonb.proofs.Containers.JoinedParts.{IsComplete, IsOther, IsPartComplete, IsSound, IsSoundBefore, Spelled, Starts, ends-blanks, ends_at, joined-skip, joined_complete, joined_sound, length-joined, on_byte-none, on_byte-other, on_byte_cases, other, padded_complete, padded_sound, skip-padded}
 use Rattle.jsonb.proofs.Containers.Repeats.{distinct, no_repeat}
 use Rattle.jsonb.proofs.Scalars.Spellings.{Follows, IsNumberTree, key_complete, key_sound, scalar_complete, scalar_sound, scalar_starts}
@@ -73,7 +74,7 @@ is_extended_if extended bytes e = refl
 module _ (mode : Mode) (Value : List ℕ → Tree → Type 0) (read : List ℕ → Read Tree) where
   value_or_null-reads : (bytes : List ℕ) → Starts bytes → value_or_null mode read bytes ≡ read bytes
   value_or_null-reads bytes s =
-      if-false (is_left_out mode bytes) (Ok (null, bytes)) (read bytes)
+      cond-false (is_left_out mode bytes) (Ok (null, bytes)) (read bytes)
       (ap (λ (u : List ℕ). is_left_out mode u) s.whole ∙ left_out-none mode s.first s.others (other s.first s.is_start))
 
   value_complete : IsValueComplete Value read → IsComplete Value read
@@ -96,7 +97,7 @@ module _ (mode : Mode) (Value : List ℕ → Tree → Type 0) (read : List ℕ �
       let k : skip_blanks mode (c ∷ rest) ≡ c ∷ rest = skip-stop mode c rest is_none in
       let left_out : is_left_out mode (c ∷ rest) ≡ true = ap (λ (m : Mode). is_left_out m (c ∷ rest)) is_extended ∙ ends in
       ap (λ (u : List ℕ). value_or_null mode read u >>= λ (x : Tree × List ℕ). Ok (x.0, skip_blanks mode x.1)) (skip-blanks b (c ∷ rest) ∙ k)
-      ∙ ap (λ (r : Read Tree). r >>= λ (x : Tree × List ℕ). Ok (x.0, skip_blanks mode x.1)) (if-true (is_left_out mode (c ∷ rest)) (Ok (null, c ∷ rest)) (read (c ∷ rest)) left_out)
+      ∙ ap (λ (r : Read Tree). r >>= λ (x : Tree × List ℕ). Ok (x.0, skip_blanks mode x.1)) (cond-true (is_left_out mode (c ∷ rest)) (Ok (null, c ∷ rest)) (read (c ∷ rest)) left_out)
       ∙ ap (λ (u : List ℕ). Ok (null, u)) k
 
   elements_complete : IsValueComplete Value read → IsPartComplete (λ (t : Tree). t) 93 (IsElement mode Value) (element_at mode read)
@@ -190,7 +191,7 @@ module _ (mode : Mode) (Value : List ℕ → Tree → Type 0) (read : List ℕ �
       let s = skip-padded mode Spells part complete bytes a rest p in
       let st = complete.starts s.core a s.spells in
       ap (λ (u : List ℕ). begins c u) (s.skipped ∙ ap (λ (u : List ℕ). u ++ (s.after ++ rest)) st.whole)
-      ∙ if-false (eqb st.first c) true false (apart st.first (other st.first st.is_start))
+      ∙ cond-false (eqb st.first c) true false (apart st.first (other st.first st.is_start))
 
   element_begins : IsValueComplete Value read → (bytes : List ℕ) (t : Tree) (rest : List ℕ) → IsElement mode Value bytes t → (begins 93 (skip_blanks mode (bytes ++ rest)) ≡ false) ⊎ IsBlanks mode bytes
   element_begins complete bytes t rest (whole_element p) = inl (begins-padded Value read (value_complete complete) bytes t rest 93 p (λ b o. o.bracket))

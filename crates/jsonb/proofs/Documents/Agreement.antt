@@ -1,6 +1,7 @@
 -- The reading of a whole text, and what its answers say of documents.
 use Rattle.std.proofs.Common.{◌≡◌, ◌≢◌, ℕ, ◌+◌, ◌-◌, ◌<◌, ◌≤◌, Bool, true, false, cond, ◌⊎◌, inl, inr, get_or, ne_eqb, List, [], ◌∷◌, length, drop, Result, Ok, Err, IfOk, IfErr, refl, sym, ap, ◌∙◌, arith, length-drop, drop-drop}
 use Rattle.std.proofs.lemmas.List.{drop_more}
+use Rattle.std.proofs.lemmas.Bool.{cond-false, cond-true}
 use Rattle.jsonb.specs.declared.parser.Parser.{Parser}
 use Rattle.jsonb_value.specs.declared.error.Error.{Error}
 use Rattle.jsonb_value.specs.declared.error.Error.TheVariants.{Syntax, OutOfMemory}
@@ -14,7 +15,6 @@ use Rattle.jsonb_value.specs.Tree.Tree.{null}
 use Rattle.jsonb.specs.AstView.{ast_view}
 use Rattle.jsonb.specs.Parser.{Advances, Gives, IsTextRefusal, mode_of, rest_of, size_of}
 use Rattle.jsonb.specs.Reading.{Fault, fault, ◌>>=◌}
-use Rattle.jsonb.proofs.Steps.Tests.{if-false, if-true}
 use Rattle.jsonb.specs.Reading.Blank.{opens_comment, pass_blanks}
 use Rattle.jsonb.specs.Reading.Document.{at_end, comment_at, document_from, document_of, value_at, value_to_end}
 use Rattle.jsonb.specs.Refusals.{IsExplained}
@@ -30,11 +30,11 @@ ended size mode x = at_end size mode x.0 (pass_blanks mode x.1)
 
 from_some : (size : ℕ) (mode : Mode) (r : List ℕ) → 0 < length r → opens_comment mode r ≡ false → document_from size mode r ≡ value_to_end size mode r
 from_some size mode [] h e = absurd (omega arith)
-from_some size mode (b ∷ r) h e = if-false (opens_comment mode (b ∷ r)) (comment_at size null r) (value_to_end size mode (b ∷ r)) e
+from_some size mode (b ∷ r) h e = cond-false (opens_comment mode (b ∷ r)) (comment_at size null r) (value_to_end size mode (b ∷ r)) e
 
 from_comment : (size : ℕ) (mode : Mode) (r : List ℕ) → 0 < length r → opens_comment mode r ≡ true → document_from size mode r ≡ comment_at size null (drop 1 r)
 from_comment size mode [] h e = absurd (omega arith)
-from_comment size mode (b ∷ r) h e = if-true (opens_comment mode (b ∷ r)) (comment_at size null r) (value_to_end size mode (b ∷ r)) e
+from_comment size mode (b ∷ r) h e = cond-true (opens_comment mode (b ∷ r)) (comment_at size null r) (value_to_end size mode (b ∷ r)) e
 
 -- what is left after the blanks, in the same input
 document_same : (p q : Parser) → rest_of q ≡ pass_blanks (mode_of p.mode) (rest_of p) → Advances p q
@@ -65,12 +65,12 @@ ending_same p q t e a =
 past_end : (size : ℕ) (mode : Mode) (t : Tree) (r : List ℕ) (i : ℕ) → length r + i ≡ size → 0 < length r → opens_comment mode r ≡ false → at_end size mode t r ≡ Err (record { code = unexpected_trailing_characters; place = i + 1 })
 past_end size mode t [] i e h closed = absurd (omega arith)
 past_end size mode t (b ∷ r) i e h closed =
-    if-false (opens_comment mode (b ∷ r)) (comment_at size t r) (fault unexpected_trailing_characters (size - length (b ∷ r) + 1)) closed
+    cond-false (opens_comment mode (b ∷ r)) (comment_at size t r) (fault unexpected_trailing_characters (size - length (b ∷ r) + 1)) closed
     ∙ ap (λ (k : ℕ). Err (record { code = unexpected_trailing_characters; place = k })) (let same : size - length (b ∷ r) + 1 ≡ i + 1 = omega (arith, e) in same)
 
 comment_end : (size : ℕ) (mode : Mode) (t : Tree) (r : List ℕ) → 0 < length r → opens_comment mode r ≡ true → at_end size mode t r ≡ comment_at size t (drop 1 r)
 comment_end size mode t [] h opens = absurd (omega arith)
-comment_end size mode t (b ∷ r) h opens = if-true (opens_comment mode (b ∷ r)) (comment_at size t r) (fault unexpected_trailing_characters (size - length (b ∷ r) + 1)) opens
+comment_end size mode t (b ∷ r) h opens = cond-true (opens_comment mode (b ∷ r)) (comment_at size t r) (fault unexpected_trailing_characters (size - length (b ∷ r) + 1)) opens
 
 pub ends_trailing : (p q : Parser) (t : Tree) → rest_of q ≡ pass_blanks (mode_of p.mode) (rest_of p) → Advances p q → q.idx < size_of q → opens_comment (mode_of q.mode) (rest_of q) ≡ false
     → at_end (size_of p) (mode_of p.mode) t (pass_blanks (mode_of p.mode) (rest_of p)) ≡ Err (record { code = unexpected_trailing_characters; place = q.idx + 1 })

@@ -1,5 +1,6 @@
 -- A text is read exactly where it is a document, and it is a document of one tree.
 use Rattle.std.proofs.Common.{◌≡◌, ℕ, zero, suc, ◌+◌, ◌-◌, arith, false, true, List, [], ◌∷◌, ◌++◌, length, Ok, Err, refl, sym, ap, subst, ◌∙◌, append-nil, append_assoc}
+use Rattle.std.proofs.lemmas.Bool.{cond-false, cond-true}
 use Rattle.jsonb_value.specs.Grammar.Blanks.{AreLastBlanks, IsBlanks}
 use Rattle.jsonb_value.specs.Grammar.Blanks.AreLastBlanks.{blanks_to_end, line_to_end}
 use Rattle.jsonb_value.specs.Grammar.Blanks.IsBlanks.{more_blanks, no_blanks}
@@ -18,7 +19,7 @@ use Rattle.jsonb_value.specs.Tree.Tree.{null}
 use Rattle.jsonb.specs.Reading.{Fault, Read, fault, ◌>>=◌}
 use Rattle.jsonb.specs.Reading.Blank.{is_blank_start, opens_comment, pass_blanks}
 use Rattle.jsonb.specs.Reading.Document.{at_end, comment_at, document_from, document_of, nothing_at, value_at, value_to_end}
-use Rattle.jsonb.proofs.Steps.Tests.{if-false, if-true, same_ok, same_read}
+use Rattle.jsonb.proofs.Steps.Tests.{same_ok, same_read}
 use Rattle.jsonb.proofs.Containers.JoinedParts.{Ends, ends-blank, ends_at, other}
 use Rattle.jsonb.proofs.Scalars.Spellings.{Follows, IsNumberTree}
 use Rattle.jsonb.proofs.Scalars.Spellings.Follows.{before, no_more}
@@ -33,7 +34,7 @@ follows-blanks (line_to_end inside is (more_blanks {blank = blank} {rest = other
 
 -- a line comment that ends a text
 comment_line : (size : ℕ) (mode : Mode) (t : Tree) (line : List ℕ) → opens_comment mode (47 ∷ 47 ∷ line) ≡ true → at_end size mode t (47 ∷ 47 ∷ line) ≡ Ok t
-comment_line size mode t line opens = if-true (opens_comment mode (47 ∷ 47 ∷ line)) (comment_at size t (47 ∷ line)) (fault unexpected_trailing_characters (size - length (47 ∷ 47 ∷ line) + 1)) opens
+comment_line size mode t line opens = cond-true (opens_comment mode (47 ∷ 47 ∷ line)) (comment_at size t (47 ∷ line)) (fault unexpected_trailing_characters (size - length (47 ∷ 47 ∷ line) + 1)) opens
 
 end_read : (size : ℕ) (mode : Mode) (t : Tree) {after : List ℕ} (b : AreLastBlanks mode after) → at_end size mode t (pass_blanks mode after) ≡ Ok t
 end_read size mode t {after} b = by_end (ends_passed b)
@@ -52,7 +53,7 @@ value_document mode size {front} {after} core t b s c =
     let passed : pass_blanks mode (front ++ (core ++ after)) ≡ st.first ∷ (st.others ++ after) =
     pass-blanks b (core ++ after) ∙ ap (pass_blanks mode) opened ∙ pass-stop mode st.first (st.others ++ after) blank in
     ap (document_from size mode) passed
-    ∙ if-false (opens_comment mode (st.first ∷ (st.others ++ after))) (comment_at size null (st.others ++ after)) (value_to_end size mode (st.first ∷ (st.others ++ after))) (opens-stop mode st.first (st.others ++ after) blank)
+    ∙ cond-false (opens_comment mode (st.first ∷ (st.others ++ after))) (comment_at size null (st.others ++ after)) (value_to_end size mode (st.first ∷ (st.others ++ after))) (opens-stop mode st.first (st.others ++ after) blank)
     ∙ ap (value_to_end size mode) (sym opened)
     ∙ ap (λ (r : Read Tree). r >>= λ (x : Tree × List ℕ). at_end size mode x.0 (pass_blanks mode x.1)) (complete.reads core t after s (λ n. follows-blanks c))
     ∙ end_read size mode t c
@@ -62,7 +63,7 @@ blank_document mode size {bytes} is b = by_end (ends_passed b)
   where
     by_end : EndsPassed mode bytes → document_from size mode (pass_blanks mode bytes) ≡ Ok null
     by_end (all_passed e) = ap (document_from size mode) e ∙ ap (λ (m : Mode). nothing_at size m) is
-    by_end (line_left line opens e) = ap (document_from size mode) e ∙ if-true (opens_comment mode (47 ∷ 47 ∷ line)) (comment_at size null (47 ∷ line)) (value_to_end size mode (47 ∷ 47 ∷ line)) opens
+    by_end (line_left line opens e) = ap (document_from size mode) e ∙ cond-true (opens_comment mode (47 ∷ 47 ∷ line)) (comment_at size null (47 ∷ line)) (value_to_end size mode (47 ∷ 47 ∷ line)) opens
 
 -- each document is read, as its tree
 pub document_complete : (mode : Mode) (bytes : List ℕ) (t : Tree) → IsDocument mode bytes t → document_of mode bytes ≡ Ok t

@@ -231,7 +231,7 @@ whole_signed : (whole : List ℕ) → IsWhole whole → EndsWhole (run Minus who
 whole_signed [] w = absurd (omega (arith, w.digits.0))
 whole_signed (c ∷ cs) w = subst EndsWhole (sym (ap (λ s. run s cs) (minus_first c))) (whole_from_first c cs w)
 
-after_whole_point : (s : State) → EndsWhole s → next s 46 ≡ Point
+pub after_whole_point : (s : State) → EndsWhole s → next s 46 ≡ Point
 unfolding next
 after_whole_point s (inl e) = rw e refl
 after_whole_point s (inr e) = rw e refl

@@ -1,7 +1,7 @@
 -- Where the parts of an extended decimal end, by index, in facts about each byte.
-use Rattle.std.proofs.Common.{◌≡◌, ◌≢◌, ◌⊎◌, ℕ, ◌+◌, ◌-◌, ◌<◌, ◌≤◌, Bool, true, false, ◌&&◌, zero, suc, List, [], ◌∷◌, length, drop, refl, sym, subst, ap, ◌∙◌, inl, inr, ⊎_elim, arith, Ok, Err}
+use Rattle.std.proofs.Common.{◌≡◌, ◌≢◌, ◌⊎◌, ℕ, ◌+◌, ◌-◌, ◌<◌, ◌≤◌, true, false, ◌&&◌, zero, suc, List, [], ◌∷◌, length, drop, refl, sym, subst, ap, ◌∙◌, inl, inr, ⊎_elim, arith, Ok, Err}
 use Rattle.std.specs.Prelude.{slice_index, ◌==◌, nat_lt}
-use Rattle.std.proofs.lemmas.Bool.{cases_eq, cases_lt, cases_Bool}
+use Rattle.std.proofs.lemmas.Bool.{cases_eq, cases_lt, cases_Bool, and_parts}
 use Rattle.std.proofs.lemmas.Bool.Decides.{nat_tests}
 use Rattle.std.proofs.lemmas.List.{length-drop}
 use Rattle.jsonb.specs.Reading.Number.{digits_from, sign_end, exponent_from}
@@ -159,14 +159,10 @@ pub digits_tested : (bs : List ℕ) → HasDigits bs → lacks_digits bs ≡ fal
 digits_tested bs (inl some) = let e : 0 < front_end bs - core_start bs + scale_at bs = omega (arith, some) in grind (arith, nat_tests)
 digits_tested bs (inr some) = let e : 0 < front_end bs - core_start bs + scale_at bs = omega (arith, some) in grind (arith, nat_tests)
 
-and_true : (a b : Bool) → (a && b) ≡ true → (a ≡ true) × (b ≡ true)
-and_true true b h = (refl, h)
-and_true false b h = absurd (cc)
-
 pub second_point : (bs : List ℕ) → has_second_point bs ≡ true → (front_end bs < point_end bs) × (slice_index bs (behind_end bs) ≡ 46)
 second_point bs h =
-    let first = and_true (nat_lt (front_end bs) (point_end bs)) (nat_lt (precision_at bs) 76 && (slice_index bs (behind_end bs) == 46)) h in
-    let second = and_true (nat_lt (precision_at bs) 76) (slice_index bs (behind_end bs) == 46) first.1 in
+    let first = and_parts (nat_lt (front_end bs) (point_end bs)) (nat_lt (precision_at bs) 76 && (slice_index bs (behind_end bs) == 46)) h in
+    let second = and_parts (nat_lt (precision_at bs) 76) (slice_index bs (behind_end bs) == 46) first.1 in
     let some = first.0 in
     let point = second.1 in
     (grind (arith, nat_tests), grind (arith, nat_tests))

@@ -1,7 +1,6 @@
 -- What reading finds of a number text: its parts where there is one, and else that no number text can end.
-use Rattle.std.proofs.Common.{◌≡◌, ◌⊎◌, ℕ, ◌+◌, ◌-◌, ◌<◌, ◌≤◌, ◌^◌, Bool, true, false, zero, suc, List, length, take, drop, refl, sym, subst, ap, ◌∙◌, inl, inr, ⊎_elim, arith, Option, Some, None, Ok, Err, pos, neg_ℤ}
-use Rattle.std.specs.Prelude.{slice_index, slice_range, ◌==◌, nat_lt, nat_le, FitsSigned, MatchOption}
-use Rattle.std.specs.Int.{w64}
+use Rattle.std.proofs.Common.{◌≡◌, ◌⊎◌, ℕ, ◌+◌, ◌-◌, ◌<◌, ◌≤◌, ◌^◌, Bool, true, false, List, length, take, drop, refl, sym, subst, ap, ◌∙◌, inl, inr, ⊎_elim, arith, Option, Some, None, Ok, Err}
+use Rattle.std.specs.Prelude.{slice_index, slice_range, ◌==◌, nat_lt, nat_le, MatchOption}
 use Rattle.std.specs.Str.Parse.{digits_value}
 use Rattle.std.proofs.lemmas.Bool.{cases_eq, cases_lt, cases_Bool}
 use Rattle.std.proofs.lemmas.Bool.Decides.{nat_tests}
@@ -13,6 +12,8 @@ use Rattle.jsonb.proofs.Numbers.Scan.{IsDigitRun, IsScan, inside_of, digits_run,
 use Rattle.jsonb.proofs.Numbers.Automaton.{Start, state_at, NoneEnds, EndsWhole}
 use Rattle.jsonb.proofs.Numbers.ScanStates.{due, fault_no_digit, fault_needless_zero, whole_state, fraction_state, fault_bare_point, fault_bare_mark}
 use Rattle.jsonb.proofs.Numbers.ScanText.{fraction_within, scan_number_text, scan_uncarried}
+use Rattle.jsonb.proofs.Numbers.Forms.{negated_small}
+use Rattle.jsonb.proofs.Numbers.HexadecimalValues.{signed_fits_64}
 
 -- ---- the whole part
 
@@ -96,14 +97,6 @@ none_ends bs place at =
 
 -- ---- its number
 
-negative_fits : (v : ℕ) → v ≤ 2 ^ 63 → FitsSigned w64 (neg_ℤ (pos v))
-negative_fits zero small = record { sfits = omega arith }
-negative_fits (suc v) small = record { sfits = omega (arith, small) }
-
-negative_small : (v : ℕ) → FitsSigned w64 (neg_ℤ (pos v)) → v ≤ 2 ^ 63
-negative_small zero fits = omega arith
-negative_small (suc v) fits = omega (arith, fits.sfits)
-
 -- an integer where the type holds it, and else none
 pub integer_is : (negative : Bool) (v : ℕ) → MatchOption (integer_of negative v) ((n : Num) → ¬ IsInteger negative v n) (IsInteger negative v)
 integer_is false v =
@@ -112,8 +105,8 @@ integer_is false v =
     (λ great. let tested : nat_lt v (2 ^ 64) ≡ false = grind (arith, nat_tests) in rw tested (λ n h. absurd (omega (arith, great, h.0)))) (cases_lt v (2 ^ 64))
 integer_is true v =
     ⊎_elim
-    (λ small. let low : v ≤ 2 ^ 63 = omega (arith, small) in let tested : nat_le v (2 ^ 63) ≡ true = grind (arith, nat_tests) in rw tested (negative_fits v low, refl))
-    (λ great. let tested : nat_le v (2 ^ 63) ≡ false = grind (arith, nat_tests) in rw tested (λ n h. absurd (omega (arith, great, negative_small v h.0)))) (cases_lt v (2 ^ 63 + 1))
+    (λ small. let low : v ≤ 2 ^ 63 = omega (arith, small) in let tested : nat_le v (2 ^ 63) ≡ true = grind (arith, nat_tests) in rw tested (signed_fits_64 v low, refl))
+    (λ great. let tested : nat_le v (2 ^ 63) ≡ false = grind (arith, nat_tests) in rw tested (λ n h. absurd (omega (arith, great, negated_small v h.0)))) (cases_lt v (2 ^ 63 + 1))
 
 -- the number of the text that ends here, or that it is not carried
 pub number_at_end : (bs : List ℕ) (end : ℕ) → ScannedTo bs end → MatchOption (integer_at bs end) (IsStandardUncarried (take end bs)) (IsStandardNumber (take end bs))

@@ -1,11 +1,11 @@
 -- Reading an extended number gives what the definition says, and the definition's numbers are read so.
-use Rattle.std.proofs.Common.{◌≡◌, ◌≢◌, ◌⊎◌, zero, suc, ℕ, ◌+◌, ◌-◌, ◌<◌, ◌≤◌, Bool, true, false, ◌&&◌, List, [], ◌∷◌, ◌++◌, length, take, drop, refl, sym, subst, ap, ◌∙◌, inl, inr, ⊎_elim, arith, Option, Some, None, Ok, Err}
+use Rattle.std.proofs.Common.{◌≡◌, ◌≢◌, ◌⊎◌, zero, suc, ℕ, ◌+◌, ◌-◌, ◌<◌, ◌≤◌, true, false, List, [], ◌∷◌, ◌++◌, length, take, drop, refl, sym, subst, ap, ◌∙◌, inl, inr, ⊎_elim, arith, Option, Some, None, Ok, Err}
 use Rattle.std.specs.Prelude.{replicate, slice_index, MatchOption, ◌==◌}
 use Rattle.std.specs.Char.{to_ascii_lowercase}
 use Rattle.std.specs.Int.{IsInRange}
 use Rattle.std.specs.Str.Parse.{AllDigits}
 use Rattle.std.proofs.lemmas.Str.Parse.{digit_from_value}
-use Rattle.std.proofs.lemmas.Bool.{cases_Bool, cases_lt, false≢true}
+use Rattle.std.proofs.lemmas.Bool.{cases_Bool, cases_lt, false≢true, cond-false, cond-true, and_parts}
 use Rattle.std.proofs.lemmas.Bool.Decides.{nat_tests}
 use Rattle.std.proofs.lemmas.List.{take-append-drop, length-append, length-drop, length-take-le, drop_more, get_or_past}
 use Rattle.std.proofs.Math.Seq.{take-append_seam, drop-append_seam}
@@ -16,7 +16,6 @@ use Rattle.jsonb_value.specs.Tree.{Num}
 use Rattle.jsonb.specs.Reading.{Fault, Read}
 use Rattle.jsonb.specs.Reading.Number.{End, sign_end}
 use Rattle.jsonb.specs.Reading.ExtendedNumber.{Scanned, scanned_to, core_start, core_byte, front_end, point_end, behind_end, decimal_end, decimal_at, decimal_to, decimal_scan, hexadecimal_scan, word_scan, is_word_start, hexadecimal_starts, is_hexadecimal_start, extended_scan, extended_number_at, is_extended_start, GoesOnExtended, EndsExtended}
-use Rattle.jsonb.proofs.Steps.Tests.{if-false, if-true}
 use Rattle.jsonb.proofs.Numbers.Steps.{is_digit}
 use Rattle.jsonb.proofs.Numbers.Scan.{exponent_fault_is}
 use Rattle.jsonb.proofs.Numbers.DecimalScan.{DecimalCase, no_digit, second, further, decimal_case, no_digits, second_point, core_within, core_digits, point_here, point_ordered}
@@ -76,10 +75,6 @@ no_letter : (b : ℕ) → is_word_start b ≡ false → ¬ IsWordStart b
 no_letter b h (inl n) = let t : (to_ascii_lowercase b == 110) ≡ true = grind (arith, nat_tests) in let never : true ≡ false = rw t at h in absurd (false≢true (sym never))
 no_letter b h (inr i) = let t : (to_ascii_lowercase b == 110) ≡ false = grind (arith, nat_tests) in let u : (to_ascii_lowercase b == 105) ≡ true = grind (arith, nat_tests) in let never : true ≡ false = rw (t, u) at h in absurd (false≢true (sym never))
 
-and_true : (a b : Bool) → (a && b) ≡ true → (a ≡ true) × (b ≡ true)
-and_true true b h = (refl, h)
-and_true false b h = absurd (cc)
-
 byte_inside : (xs : List ℕ) (i : ℕ) → slice_index xs i ≢ 0 → i < length xs
 byte_inside xs i some = ⊎_elim (λ inside. inside) (λ past. absurd (some (get_or_past xs i 0 (omega (arith, past))))) (cases_lt i (length xs))
 
@@ -100,15 +95,15 @@ hexadecimal_front bytes zero_byte letter =
 -- which of the three is read
 pub scan_word : (bytes : List ℕ) → is_word_start (core_byte bytes) ≡ true → extended_scan bytes ≡ word_scan (core_start bytes) (is_minus bytes) (drop (core_start bytes) bytes)
 unfolding extended_scan
-scan_word bytes word = if-true (is_word_start (core_byte bytes)) _ _ word
+scan_word bytes word = cond-true (is_word_start (core_byte bytes)) _ _ word
 
 pub scan_hexadecimal : (bytes : List ℕ) → is_word_start (core_byte bytes) ≡ false → is_hexadecimal_start bytes ≡ true → extended_scan bytes ≡ hexadecimal_scan (core_start bytes + 2) (is_minus bytes) (drop (core_start bytes + 2) bytes)
 unfolding extended_scan
-scan_hexadecimal bytes no_word hexadecimal = if-false (is_word_start (core_byte bytes)) _ _ no_word ∙ if-true (is_hexadecimal_start bytes) _ _ hexadecimal
+scan_hexadecimal bytes no_word hexadecimal = cond-false (is_word_start (core_byte bytes)) _ _ no_word ∙ cond-true (is_hexadecimal_start bytes) _ _ hexadecimal
 
 pub scan_decimal : (bytes : List ℕ) → is_word_start (core_byte bytes) ≡ false → is_hexadecimal_start bytes ≡ false → extended_scan bytes ≡ decimal_scan bytes
 unfolding extended_scan
-scan_decimal bytes no_word none = if-false (is_word_start (core_byte bytes)) _ _ no_word ∙ if-false (is_hexadecimal_start bytes) _ _ none
+scan_decimal bytes no_word none = cond-false (is_word_start (core_byte bytes)) _ _ no_word ∙ cond-false (is_hexadecimal_start bytes) _ _ none
 
 -- what a reader finds of each, at the byte after the sign
 pub found_word : (bytes tail : List ℕ) (start minus first : ℕ) (s : Scanned) → start ≡ sign_end bytes 0 → minus ≡ slice_index bytes 0 → first ≡ slice_index bytes start → is_word_start first ≡ true → tail ≡ drop start bytes → s ≡ word_scan start (minus == 45) tail → s ≡ extended_scan bytes
@@ -131,7 +126,7 @@ scans_extended bytes =
     ⊎_elim (λ word. subst (ScansExtended bytes) (sym (scan_word bytes word)) (reads_word bytes (record { inside = core_within bytes; letter = is_letter (core_byte bytes) word })))
     (λ no_word. ⊎_elim
     (λ hexadecimal.
-    let both = and_true (core_byte bytes == 48) (to_ascii_lowercase (slice_index bytes (core_start bytes + 1)) == 120) hexadecimal in
+    let both = and_parts (core_byte bytes == 48) (to_ascii_lowercase (slice_index bytes (core_start bytes + 1)) == 120) hexadecimal in
     let first = both.0 in
     let next = both.1 in
     let zero_byte : core_byte bytes ≡ 48 = grind (arith, nat_tests) in

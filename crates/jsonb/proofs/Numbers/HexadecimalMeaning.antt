@@ -9,10 +9,10 @@ use Rattle.jsonb_value.specs.Grammar.StandardNumber.{IsSign}
 use Rattle.jsonb_value.specs.Grammar.ExtendedNumber.{is_minus, fraction_text, hexadecimal_number, HasHexadecimalParts, IsExtendedText}
 use Rattle.jsonb_value.specs.Tree.{Num}
 use Rattle.jsonb.specs.Reading.ExtendedNumber.{invalid, core_byte, hexadecimal_length, hexadecimal_fits, fraction_scan, hexadecimal_scan, GoesOnExtended}
-use Rattle.jsonb.proofs.Numbers.HexadecimalValues.{below, not_below}
 use Rattle.jsonb.proofs.Numbers.HexadecimalAnswers.{without_number, taken_digits, fraction_without_digits, fraction_after_past, fraction_not_carried, fraction_past, hexadecimal_without_digits, hexadecimal_with_point, hexadecimal_past, hexadecimal_whole_at}
 use Rattle.jsonb.proofs.Numbers.HexadecimalTexts.{IsHexadecimalScan, AreGood, scan_length, hexadecimal_ends}
 use Rattle.jsonb.proofs.Numbers.ExtendedTexts.{IsWordStart, IsLongestExtended, NoExtendedEnds, ScansExtended, core_of, letter_is, word_found, found_letter, decimals_before_mark}
+use Rattle.jsonb.proofs.Numbers.Steps.{is_below, is_not_below}
 
 -- ---- what can end where a hexadecimal begins
 
@@ -133,10 +133,10 @@ reads_fraction bytes sign mark rest place n m fits behind front start count some
       text = inr (inl (sign, mark, take n rest, Some (take m behind), parts.1, inl (λ e. absurd (cc))));
       longest = longest_in_scan bytes sign mark (take n rest) (Some (take m behind)) (drop m behind) scan;
     }) in
-    subst (ScansExtended bytes) (fraction_not_carried (place + n + 1) m fits behind more digits (fits_is ∙ below (digits_value 16 (take n rest)) (2 ^ 128) small) small_too) found)
-    (λ large. subst (ScansExtended bytes) (fraction_past (place + n + 1) m fits behind more digits (fits_is ∙ below (digits_value 16 (take n rest)) (2 ^ 128) small) (λ less. omega (arith, less, large))) (none (λ good. omega (arith, good.fraction_fits, large)) (place + n + 1 + m)))
+    subst (ScansExtended bytes) (fraction_not_carried (place + n + 1) m fits behind more digits (fits_is ∙ is_below (digits_value 16 (take n rest)) (2 ^ 128) small) small_too) found)
+    (λ large. subst (ScansExtended bytes) (fraction_past (place + n + 1) m fits behind more digits (fits_is ∙ is_below (digits_value 16 (take n rest)) (2 ^ 128) small) (λ less. omega (arith, less, large))) (none (λ good. omega (arith, good.fraction_fits, large)) (place + n + 1 + m)))
     (cases_lt (digits_value 16 (take m behind)) (2 ^ 128)))
-    (λ large. subst (ScansExtended bytes) (fraction_after_past (place + n + 1) m fits behind more digits (fits_is ∙ not_below (digits_value 16 (take n rest)) (2 ^ 128) (omega (arith, large)))) (none (λ good. omega (arith, good.whole_fits, large)) (place + n + 1 + m)))
+    (λ large. subst (ScansExtended bytes) (fraction_after_past (place + n + 1) m fits behind more digits (fits_is ∙ is_not_below (digits_value 16 (take n rest)) (2 ^ 128) (omega (arith, large)))) (none (λ good. omega (arith, good.whole_fits, large)) (place + n + 1 + m)))
     (cases_lt (digits_value 16 (take n rest)) (2 ^ 128))) (cases_eq m 0)
 
 reads_whole : (bytes sign : List ℕ) (mark : ℕ) (rest : List ℕ) (place n : ℕ) (r : Option Num) → IsHexadecimalFront bytes sign mark rest → place ≡ length sign + 2 →

@@ -1,6 +1,6 @@
 -- Hexadecimal digits from left to right, and the number that they write.
 use Rattle.std.proofs.Common.{◌≡◌, ℕ, ◌+◌, ◌*◌, ◌^◌, ◌<◌, ◌≤◌, true, false, zero, suc, Option, Some, None, List, [], ◌∷◌, ◌++◌, length, get_or, take, drop, map, refl, sym, ap, ◌∙◌, arith}
-use Rattle.std.specs.Prelude.{slice_index, nat_lt, nat_le, ℤ, neg_ℤ, pos, FitsSigned, Bool}
+use Rattle.std.specs.Prelude.{slice_index, nat_le, ℤ, neg_ℤ, pos, FitsSigned, Bool}
 use Rattle.std.specs.Int.{w64}
 use Rattle.std.specs.Char.{digit_value}
 use Rattle.std.specs.Option.{SomeIff}
@@ -13,27 +13,22 @@ use Rattle.jsonb_value.specs.Number.Signed.{signed_by}
 use Rattle.jsonb_value.specs.Tree.{int64, uint64, decimal128}
 use Rattle.jsonb_value.specs.Grammar.ExtendedNumber.{hexadecimal_number}
 use Rattle.jsonb.specs.Reading.ExtendedNumber.{hexadecimal_length}
+use Rattle.jsonb.proofs.Numbers.Steps.{is_below, is_not_below}
 
 -- ---- how many digits there are
-
-pub below : (a b : ℕ) → a < b → nat_lt a b ≡ true
-below a b h = grind (arith, nat_tests)
-
-pub not_below : (a b : ℕ) → b ≤ a → nat_lt a b ≡ false
-not_below a b h = grind (arith, nat_tests)
 
 pub length_more : (bs : List ℕ) (i : ℕ) → digit_value (slice_index bs i) < 16 → (hexadecimal_length (drop i bs) ≡ suc (hexadecimal_length (drop (suc i) bs))) × (i < length bs)
 unfolding hexadecimal_length
 length_more [] zero h = absurd (omega (arith, h))
 length_more [] (suc i) h = absurd (omega (arith, h))
-length_more (b ∷ bs) zero h = (rw (below (digit_value b) 16 h) refl, omega arith)
+length_more (b ∷ bs) zero h = (rw (is_below (digit_value b) 16 h) refl, omega arith)
 length_more (b ∷ bs) (suc i) h = let rest = length_more bs i h in (rest.0, omega (arith, rest.1))
 
 pub length_stop : (bs : List ℕ) (i : ℕ) → 16 ≤ digit_value (slice_index bs i) → hexadecimal_length (drop i bs) ≡ 0
 unfolding hexadecimal_length
 length_stop [] zero h = refl
 length_stop [] (suc i) h = refl
-length_stop (b ∷ bs) zero h = rw (not_below (digit_value b) 16 h) refl
+length_stop (b ∷ bs) zero h = rw (is_not_below (digit_value b) 16 h) refl
 length_stop (b ∷ bs) (suc i) h = length_stop bs i h
 
 -- ---- the number
@@ -65,15 +60,15 @@ digit_below (d ∷ ds) (suc i) h inside = digit_below ds i h.1 (omega (arith, in
 
 pub hexadecimal-unsigned : (n : ℕ) → n < 2 ^ 64 → hexadecimal_number false n ≡ Some (record { form = uint64; scale = 0; whole = pos n })
 unfolding hexadecimal_number
-hexadecimal-unsigned n h = rw (below n (2 ^ 64) h) refl
+hexadecimal-unsigned n h = rw (is_below n (2 ^ 64) h) refl
 
 pub hexadecimal-unsigned_wide : (n : ℕ) → 2 ^ 64 ≤ n → n < 10 ^ 38 → hexadecimal_number false n ≡ Some (record { form = decimal128; scale = 0; whole = pos n })
 unfolding hexadecimal_number
-hexadecimal-unsigned_wide n h small = rw (not_below n (2 ^ 64) h, below n (10 ^ 38) small) refl
+hexadecimal-unsigned_wide n h small = rw (is_not_below n (2 ^ 64) h, is_below n (10 ^ 38) small) refl
 
 pub hexadecimal-unsigned_none : (n : ℕ) → 10 ^ 38 ≤ n → hexadecimal_number false n ≡ None
 unfolding hexadecimal_number
-hexadecimal-unsigned_none n large = rw (not_below n (2 ^ 64) (omega arith), not_below n (10 ^ 38) large) refl
+hexadecimal-unsigned_none n large = rw (is_not_below n (2 ^ 64) (omega arith), is_not_below n (10 ^ 38) large) refl
 
 pub hexadecimal-signed : (n : ℕ) → n ≤ 2 ^ 63 → hexadecimal_number true n ≡ Some (record { form = int64; scale = 0; whole = neg_ℤ (pos n) })
 unfolding hexadecimal_number
@@ -81,13 +76,13 @@ hexadecimal-signed n h = let tested : nat_le n (2 ^ 63) ≡ true = grind (arith,
 
 pub hexadecimal-signed_wide : (n : ℕ) → 2 ^ 63 < n → n < 10 ^ 38 → hexadecimal_number true n ≡ Some (record { form = decimal128; scale = 0; whole = neg_ℤ (pos n) })
 unfolding hexadecimal_number
-hexadecimal-signed_wide n h small = let tested : nat_le n (2 ^ 63) ≡ false = grind (arith, nat_tests) in rw (tested, below n (10 ^ 38) small) refl
+hexadecimal-signed_wide n h small = let tested : nat_le n (2 ^ 63) ≡ false = grind (arith, nat_tests) in rw (tested, is_below n (10 ^ 38) small) refl
 
 pub hexadecimal-signed_none : (n : ℕ) → 10 ^ 38 ≤ n → hexadecimal_number true n ≡ None
 unfolding hexadecimal_number
 hexadecimal-signed_none n large =
     let past : 2 ^ 63 < n = omega arith in
-    let tested : nat_le n (2 ^ 63) ≡ false = grind (arith, nat_tests) in rw (tested, not_below n (10 ^ 38) large) refl
+    let tested : nat_le n (2 ^ 63) ≡ false = grind (arith, nat_tests) in rw (tested, is_not_below n (10 ^ 38) large) refl
 
 pub signed_fits_64 : (n : ℕ) → n ≤ 2 ^ 63 → FitsSigned w64 (neg_ℤ (pos n))
 signed_fits_64 zero h = record { sfits = omega arith }

@@ -8,7 +8,7 @@ use Rattle.jsonb_value.specs.Grammar.StandardNumber.{IsExponentMark}
 use Rattle.jsonb.proofs.Numbers.Scan.{IsDigitRun, IsFractionEnd, IsBarePoint, IsExponentEnd, IsBareMark}
 use Rattle.jsonb.specs.Reading.Number.{sign_end, GoesOn}
 use Rattle.jsonb.proofs.Numbers.Steps.{differs, is_no_digit, is_no_mark, sign_end_ge}
-use Rattle.jsonb.proofs.Numbers.Automaton.{State, Start, Minus, Zero, Whole, Point, Fraction, Mark, MarkSign, Exponent, DecimalStart, Signed, Digits, BarePoint, Dead, next, from_first, is_accepting, state_at, state_at-next, state_over_digits, NoneEnds, zero_first, digit_first, no_digit_first, start_unsigned, whole_stays, fraction_stays, exponent_stays, point_digit, mark_digit, mark_sign_digit, EndsWhole, EndsDigits, EndsFraction, after_fraction_mark, StopsAt, ends_at, NoneEnds-from_stop}
+use Rattle.jsonb.proofs.Numbers.Automaton.{State, Start, Minus, Zero, Whole, Point, Fraction, Mark, MarkSign, Exponent, DecimalStart, Signed, Digits, BarePoint, Dead, next, from_first, is_accepting, state_at, state_at-next, state_over_digits, NoneEnds, zero_first, digit_first, no_digit_first, start_unsigned, whole_stays, fraction_stays, exponent_stays, point_digit, mark_digit, mark_sign_digit, EndsWhole, EndsDigits, EndsFraction, after_fraction_mark, StopsAt, ends_at, NoneEnds-from_stop, after_whole_point}
 
 -- the states before the first digit
 abbrev pub BeforeWhole : State → Type 0
@@ -98,14 +98,9 @@ whole_state bytes start end is_due digits some no_zero =
 
 -- ---- the fraction
 
-point_of : (s : State) → EndsWhole s → next s 46 ≡ Point
-unfolding next
-point_of s (inl e) = ap (λ t. next t 46) e
-point_of s (inr e) = ap (λ t. next t 46) e
-
 after_point : (bytes : List ℕ) (start : ℕ) → EndsWhole (state_at Start bytes start) → start < length bytes → slice_index bytes start ≡ 46 → state_at Start bytes (start + 1) ≡ Point
 after_point bytes start ends inside point =
-    state_at-next Start bytes start inside ∙ (ap (next (state_at Start bytes start)) point ∙ point_of (state_at Start bytes start) ends)
+    state_at-next Start bytes start inside ∙ (ap (next (state_at Start bytes start)) point ∙ after_whole_point (state_at Start bytes start) ends)
 
 no_digit_stops_point : (b : ℕ) → ¬ IsInRange 48 57 b → next Point b ≡ Dead
 unfolding next

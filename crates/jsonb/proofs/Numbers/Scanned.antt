@@ -7,6 +7,7 @@ use Rattle.std.proofs.lemmas.List.{length-drop, drop-drop}
 use Rattle.std.proofs.lemmas.List.Edits.{length-between}
 use Rattle.std.proofs.lemmas.Nat.{pow-add}
 use Rattle.std.proofs.Math.Nat.{pow-le-pow_right, mul-le-mul_right}
+use Rattle.std.proofs.lemmas.Bool.{cond-false, cond-true}
 use Rattle.jsonb_value.specs.Code.{Code, number_not_carried}
 use Rattle.jsonb_value.specs.Grammar.ExtendedNumber.{is_minus, decimal_number}
 use Rattle.jsonb_value.specs.Number.Signed.{signed_by}
@@ -16,7 +17,6 @@ use Rattle.jsonb.specs.Reading.Number.{End, digits_from, exponent_from, sign_end
 use Rattle.jsonb.specs.Reading.ExtendedNumber.{zeros_from, core_start, zeros_end, front_end, point_end, behind_end, scale_at, precision_at, lacks_digits, has_second_point, decimal_end, all_digits, decimal_at, scanned_to, extended_scan, extended_number_at}
 use Rattle.jsonb.specs.ScannedNumber.{AreEnds}
 use Rattle.jsonb.specs.declared.parser.extended_number.decimal.DecimalEnds.{DecimalEnds}
-use Rattle.jsonb.proofs.Steps.Tests.{if-false, if-true}
 use Rattle.jsonb.proofs.Numbers.DecimalScan.{core_digits, counted_digits, point_here, point_ordered}
 use Rattle.jsonb.proofs.Numbers.DecimalScanText.{behind_digits, digits_value_same}
 use Rattle.jsonb.proofs.Numbers.DigitValues.{value_after-append}
@@ -56,8 +56,8 @@ ends_without_point bytes start zeros front next at zeroed digits byte other =
       start = at;
       zeros = z;
       front = f;
-      point = f ∙ sym (if-false (slice_index bytes (front_end bytes) == 46) _ _ test);
-      behind = f ∙ sym (if-false (slice_index bytes (front_end bytes) == 46) _ _ test);
+      point = f ∙ sym (cond-false (slice_index bytes (front_end bytes) == 46) _ _ test);
+      behind = f ∙ sym (cond-false (slice_index bytes (front_end bytes) == 46) _ _ test);
       ordered = omega (arith, z, f, front_ends bytes);
       behind_ordered = omega arith;
       within = omega (arith, f, front_ends bytes);
@@ -70,8 +70,8 @@ ends_with_point bytes start zeros front next behind at zeroed digits byte point 
     let here : slice_index bytes (front_end bytes) ≡ 46 = ap (slice_index bytes) (sym f) ∙ (sym byte ∙ point) in
     let test : (slice_index bytes (front_end bytes) == 46) ≡ true = grind (arith, nat_tests) in
     let order = point_ordered bytes (front_end bytes) (point_end bytes) (behind_end bytes) (core_digits bytes).within (point_here bytes) in
-    let b : behind ≡ behind_end bytes = ends ∙ (ap (λ i. digits_from bytes (i + 1)) f ∙ sym (if-true (slice_index bytes (front_end bytes) == 46) _ _ test)) in
-    let p : front + 1 ≡ point_end bytes = ap (λ i. i + 1) f ∙ sym (if-true (slice_index bytes (front_end bytes) == 46) _ _ test) in
+    let b : behind ≡ behind_end bytes = ends ∙ (ap (λ i. digits_from bytes (i + 1)) f ∙ sym (cond-true (slice_index bytes (front_end bytes) == 46) _ _ test)) in
+    let p : front + 1 ≡ point_end bytes = ap (λ i. i + 1) f ∙ sym (cond-true (slice_index bytes (front_end bytes) == 46) _ _ test) in
     record {
       start = at;
       zeros = z;
@@ -90,7 +90,7 @@ unfolding decimal_end
 no_digits_end bytes e are none =
     let count : front_end bytes - core_start bytes + scale_at bytes ≡ 0 = omega (arith, none, are.start, are.front, are.point, are.behind) in
     let tested : lacks_digits bytes ≡ true = grind (arith, nat_tests) in
-    if-true (lacks_digits bytes) _ _ tested ∙ ap Err (sym are.point)
+    cond-true (lacks_digits bytes) _ _ tested ∙ ap Err (sym are.point)
 
 some_digits : (bytes : List ℕ) (e : DecimalEnds) → AreEnds bytes e → (e.front_end - e.start + (e.behind_end - e.point_end) ≡ 0 → ⊥) → lacks_digits bytes ≡ false
 some_digits bytes e are some =
@@ -107,7 +107,7 @@ second_point_end bytes e next are some point few byte again =
     let second : nat_lt (precision_at bytes) 76 ≡ true = grind (arith, nat_tests) in
     let third : (slice_index bytes (behind_end bytes) == 46) ≡ true = grind (arith, nat_tests) in
     let tested : has_second_point bytes ≡ true = all_true _ _ _ first second third in
-    if-false (lacks_digits bytes) _ _ (some_digits bytes e are some) ∙ (if-true (has_second_point bytes) _ _ tested ∙ ap Err (sym are.behind))
+    cond-false (lacks_digits bytes) _ _ (some_digits bytes e are some) ∙ (cond-true (has_second_point bytes) _ _ tested ∙ ap Err (sym are.behind))
   where
     all_true : (a b c : Bool) → a ≡ true → b ≡ true → c ≡ true → (a && (b && c)) ≡ true
     all_true true true c h k l = l
@@ -121,7 +121,7 @@ NoSecondPoint bytes e = (e.point_end ≤ e.front_end) ⊎ ((76 ≤ e.front_end -
 pub exponent_due : (bytes : List ℕ) (e : DecimalEnds) (r : End) → AreEnds bytes e → (e.front_end - e.start + (e.behind_end - e.point_end) ≡ 0 → ⊥) → NoSecondPoint bytes e → r ≡ exponent_from bytes e.behind_end → r ≡ decimal_end bytes
 unfolding decimal_end
 exponent_due bytes e r are some once last =
-    last ∙ (ap (exponent_from bytes) are.behind ∙ sym (if-false (lacks_digits bytes) _ _ (some_digits bytes e are some) ∙ if-false (has_second_point bytes) _ _ (tested once)))
+    last ∙ (ap (exponent_from bytes) are.behind ∙ sym (cond-false (lacks_digits bytes) _ _ (some_digits bytes e are some) ∙ cond-false (has_second_point bytes) _ _ (tested once)))
   where
     first_false : (a b c : Bool) → a ≡ false → (a && (b && c)) ≡ false
     first_false true b c h = absurd (cc)
@@ -186,7 +186,7 @@ not_carried bytes e end are (inl other) =
 not_carried bytes e end are (inr many) =
     let large : 38 < precision_at bytes = omega (arith, many, are.zeros, are.front, are.point, are.behind) in
     let test : nat_le (precision_at bytes) 38 ≡ false = grind (arith, nat_tests) in
-    sym (if-false ((behind_end bytes == end) && nat_le (precision_at bytes) 38) _ _ (and_false (behind_end bytes == end) (nat_le (precision_at bytes) 38) test))
+    sym (cond-false ((behind_end bytes == end) && nat_le (precision_at bytes) 38) _ _ (and_false (behind_end bytes == end) (nat_le (precision_at bytes) 38) test))
   where
     and_false : (a b : Bool) → b ≡ false → (a && b) ≡ false
     and_false true b h = h

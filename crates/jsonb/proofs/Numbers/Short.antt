@@ -1,10 +1,10 @@
 -- Reading a decimal of few digits at once.
-use Rattle.std.proofs.Common.{◌≡◌, ◌≢◌, ◌⊎◌, ℕ, ◌+◌, ◌-◌, ◌^◌, ◌<◌, ◌≤◌, Bool, true, false, ◌&&◌, Some, List, [], ◌∷◌, ◌++◌, length, take, drop, refl, sym, subst, ap, ◌∙◌, inl, inr, ⊎_elim, arith, Ok}
+use Rattle.std.proofs.Common.{◌≡◌, ◌≢◌, ◌⊎◌, ℕ, ◌+◌, ◌-◌, ◌^◌, ◌<◌, ◌≤◌, Bool, true, false, ◌&&◌, Some, List, [], ◌++◌, length, take, drop, refl, sym, subst, ap, ◌∙◌, inl, inr, ⊎_elim, arith, Ok}
 use Rattle.std.specs.Prelude.{slice_index, slice_range, ◌==◌, nat_lt, nat_le}
 use Rattle.std.specs.Char.{to_ascii_lowercase}
 use Rattle.std.specs.Int.{IsInRange}
-use Rattle.std.specs.Str.Parse.{AllDigits, digits_value, digits_value_after}
-use Rattle.std.proofs.lemmas.Bool.{cases_Bool, cases_lt}
+use Rattle.std.specs.Str.Parse.{digits_value, digits_value_after}
+use Rattle.std.proofs.lemmas.Bool.{cases_Bool, cases_lt, cond-false, cond-true, and_parts}
 use Rattle.std.proofs.lemmas.Bool.Decides.{nat_tests}
 use Rattle.std.proofs.lemmas.List.{append-nil, length-append}
 use Rattle.std.proofs.lemmas.List.Edits.{length-between}
@@ -14,27 +14,23 @@ use Rattle.jsonb_value.specs.Number.Signed.{signed_by}
 use Rattle.jsonb_value.specs.Tree.{Num}
 use Rattle.jsonb.specs.Reading.Number.{FollowsWhole, digits_length, digits_from, sign_end}
 use Rattle.jsonb.specs.Reading.ExtendedNumber.{FollowsDigits, core_start, core_byte, zeros_end, front_end, point_end, behind_end, scale_at, precision_at, lacks_digits, has_second_point, decimal_end, all_digits, decimal_at, decimal_to, decimal_scan, is_word_start, is_hexadecimal_start, extended_scan}
-use Rattle.jsonb.proofs.Steps.Tests.{if-false, if-true}
 use Rattle.jsonb.proofs.Numbers.DecimalScan.{HasDigits, core_zeros, core_digits, counted_digits, point_here, point_ordered, digits_tested}
 use Rattle.jsonb.proofs.Numbers.DecimalScanText.{behind_digits, digits_value_same}
 use Rattle.jsonb.proofs.Numbers.DigitValues.{value_after-append, value_after_lt}
 use Rattle.jsonb.proofs.Numbers.Extended.{is_letter, scan_decimal}
 use Rattle.jsonb.proofs.Numbers.ExtendedTexts.{letter_is, mark_is}
-use Rattle.jsonb.proofs.Numbers.Steps.{differs, no_exponent}
+use Rattle.jsonb.proofs.Numbers.Steps.{differs, no_exponent, is_not_below}
 use Rattle.jsonb.proofs.Numbers.ScanText.{range_none, run_digits}
+use Rattle.jsonb_value.proofs.Numbers.InRange.{digits-append}
 
 -- ---- how large the digits' number is
-
-digits_joined : (ds es : List ℕ) → AllDigits 10 ds → AllDigits 10 es → AllDigits 10 (ds ++ es)
-digits_joined [] es h k = k
-digits_joined (d ∷ ds) es h k = (h.0, digits_joined ds es h.1 k)
 
 pub value_small : (bytes : List ℕ) → digits_value 10 (all_digits bytes) < 10 ^ precision_at bytes
 value_small bytes =
     let order = point_ordered bytes (front_end bytes) (point_end bytes) (behind_end bytes) (core_digits bytes).within (point_here bytes) in
     let front : List ℕ = slice_range bytes (zeros_end bytes) (front_end bytes) in
     let back : List ℕ = slice_range bytes (point_end bytes) (behind_end bytes) in
-    let all = digits_joined (slice_range bytes (zeros_end bytes) (front_end bytes)) (slice_range bytes (point_end bytes) (behind_end bytes)) (run_digits bytes (zeros_end bytes) (front_end bytes) (counted_digits bytes)) (behind_digits bytes (front_end bytes) (point_end bytes) (behind_end bytes) (point_here bytes)) in
+    let all = digits-append (slice_range bytes (zeros_end bytes) (front_end bytes)) (slice_range bytes (point_end bytes) (behind_end bytes)) (run_digits bytes (zeros_end bytes) (front_end bytes) (counted_digits bytes)) (behind_digits bytes (front_end bytes) (point_end bytes) (behind_end bytes) (point_here bytes)) in
     let long : length (slice_range bytes (zeros_end bytes) (front_end bytes) ++ slice_range bytes (point_end bytes) (behind_end bytes)) ≡ precision_at bytes =
     omega (arith, length-append (slice_range bytes (zeros_end bytes) (front_end bytes)) (slice_range bytes (point_end bytes) (behind_end bytes)), length-between bytes (zeros_end bytes) (front_end bytes) (counted_digits bytes).within, length-between bytes (point_end bytes) (behind_end bytes) order.2) in
     omega (arith, value_after_lt 0 (slice_range bytes (zeros_end bytes) (front_end bytes) ++ slice_range bytes (point_end bytes) (behind_end bytes)) all, digits_value_same bytes (Some (slice_range bytes (point_end bytes) (behind_end bytes))) refl, ap (λ n. 10 ^ n) long)
@@ -56,10 +52,6 @@ core_is bytes m =
 no_word : (bytes : List ℕ) → NoMark bytes → is_word_start (core_byte bytes) ≡ false
 no_word bytes m = ⊎_elim (λ word. absurd (omega (arith, letter_is (core_byte bytes) (is_letter (core_byte bytes) word), core_is bytes m))) (λ none. none) (cases_Bool (is_word_start (core_byte bytes)))
 
-and_true : (a b : Bool) → (a && b) ≡ true → (a ≡ true) × (b ≡ true)
-and_true true b h = (refl, h)
-and_true false b h = absurd (cc)
-
 no_hexadecimal : (bytes : List ℕ) → NoMark bytes → is_hexadecimal_start bytes ≡ false
 no_hexadecimal bytes m = ⊎_elim (λ starts. absurd (never starts)) (λ none. none) (cases_Bool (is_hexadecimal_start bytes))
   where
@@ -69,7 +61,7 @@ no_hexadecimal bytes m = ⊎_elim (λ starts. absurd (never starts)) (λ none. n
 
     never : is_hexadecimal_start bytes ≡ true → ⊥
     never starts =
-        let both = and_true (core_byte bytes == 48) (to_ascii_lowercase (slice_index bytes (core_start bytes + 1)) == 120) starts in
+        let both = and_parts (core_byte bytes == 48) (to_ascii_lowercase (slice_index bytes (core_start bytes + 1)) == 120) starts in
         let first = both.0 in
         let next = both.1 in
         let zero_byte : core_byte bytes ≡ 48 = grind (arith, nat_tests) in
@@ -92,7 +84,7 @@ record IsPlain (bytes : List ℕ) : Type 0 where
 plain_end : (bytes : List ℕ) → IsPlain bytes → decimal_end bytes ≡ Ok (behind_end bytes)
 unfolding decimal_end
 plain_end bytes p =
-    if-false (lacks_digits bytes) _ _ (digits_tested bytes p.has_digits) ∙ (if-false (has_second_point bytes) _ _ p.once ∙ no_exponent bytes (behind_end bytes) p.no_exponent_mark)
+    cond-false (lacks_digits bytes) _ _ (digits_tested bytes p.has_digits) ∙ (cond-false (has_second_point bytes) _ _ p.once ∙ no_exponent bytes (behind_end bytes) p.no_exponent_mark)
 
 plain_at : (bytes : List ℕ) → IsPlain bytes → decimal_at bytes (behind_end bytes) ≡ Some (decimal_number (scale_at bytes) (precision_at bytes) (signed_by (is_minus bytes) (digits_value 10 (all_digits bytes))))
 unfolding decimal_at
@@ -130,10 +122,7 @@ found_end bytes start len value f = omega (arith, f.start_is, f.len_is)
 -- ---- without a point
 
 no_point_ends : (bytes : List ℕ) → slice_index bytes (front_end bytes) ≢ 46 → (point_end bytes ≡ front_end bytes) × (behind_end bytes ≡ front_end bytes)
-no_point_ends bytes other = (if-false (slice_index bytes (front_end bytes) == 46) _ _ (differs (slice_index bytes (front_end bytes)) 46 other), if-false (slice_index bytes (front_end bytes) == 46) _ _ (differs (slice_index bytes (front_end bytes)) 46 other))
-
-not_later : (a b : ℕ) → b ≤ a → nat_lt a b ≡ false
-not_later a b h = grind (arith, nat_tests)
+no_point_ends bytes other = (cond-false (slice_index bytes (front_end bytes) == 46) _ _ (differs (slice_index bytes (front_end bytes)) 46 other), cond-false (slice_index bytes (front_end bytes) == 46) _ _ (differs (slice_index bytes (front_end bytes)) 46 other))
 
 pub short_whole : (bytes : List ℕ) (start len value next minus : ℕ) (n : Num) → FrontRead bytes start len value → (len ≡ 0 → ⊥) → len ≤ 19 → next ≡ slice_index bytes (start + len) → (next ≡ 46 → ⊥) → ¬ FollowsDigits next → minus ≡ slice_index bytes 0 →
     ((precision : ℕ) → value < 10 ^ precision → n ≡ decimal_number 0 precision (signed_by (minus == 45) value)) → extended_scan bytes ≡ Ok (Some n, start + len)
@@ -151,7 +140,7 @@ short_whole bytes start len value next minus n f some few byte no_point stops si
         some = inl (omega (arith, end, f.start_is, some));
       };
       has_digits = inl (omega (arith, end, f.start_is, some));
-      once = ap (λ b. b && (nat_lt (precision_at bytes) 76 && (slice_index bytes (behind_end bytes) == 46))) (not_later (front_end bytes) (point_end bytes) (omega (arith, ends)));
+      once = ap (λ b. b && (nat_lt (precision_at bytes) 76 && (slice_index bytes (behind_end bytes) == 46))) (is_not_below (front_end bytes) (point_end bytes) (omega (arith, ends)));
       no_exponent_mark = λ mark. stops (inl (inr (subst IsExponentMark (ap (slice_index bytes) ends.1 ∙ sym here) mark)));
       few = omega (arith, none, end, f.start_is, few, (core_zeros bytes).ordered);
     } in
@@ -169,7 +158,7 @@ whole_within bytes start len value f = omega (arith, found_end bytes start len v
 point_ends : (bytes : List ℕ) → slice_index bytes (front_end bytes) ≡ 46 → (point_end bytes ≡ front_end bytes + 1) × (behind_end bytes ≡ digits_from bytes (front_end bytes + 1))
 point_ends bytes point =
     let tested : (slice_index bytes (front_end bytes) == 46) ≡ true = grind (arith, nat_tests) in
-    (if-true (slice_index bytes (front_end bytes) == 46) _ _ tested, if-true (slice_index bytes (front_end bytes) == 46) _ _ tested)
+    (cond-true (slice_index bytes (front_end bytes) == 46) _ _ tested, cond-true (slice_index bytes (front_end bytes) == 46) _ _ tested)
 
 -- what a reader found behind the point
 pub record BehindRead (bytes : List ℕ) (start len value total all : ℕ) : Type 0 where

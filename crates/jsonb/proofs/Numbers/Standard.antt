@@ -9,9 +9,9 @@ use Rattle.std.proofs.Math.Seq.{take-append_seam, drop-append_seam}
 use Rattle.jsonb_value.specs.Code.{invalid_number_value, number_not_carried}
 use Rattle.jsonb_value.specs.Tree.{Num}
 use Rattle.jsonb_value.specs.Grammar.StandardNumber.{IsWhole, IsFraction, IsExponent, HasParts, IsNumberText, IsInteger, IsStandardNumber, IsStandardUncarried}
-use Rattle.jsonb.specs.Reading.{Fault, Read, fault}
+use Rattle.jsonb.specs.Reading.{Fault, Read}
 use Rattle.jsonb.specs.Reading.Number.{FollowsWhole, GoesOn, EndsNumber, is_number_start, End, standard_end, integer_at, carried_at, number_to, standard_number_at}
-use Rattle.jsonb.proofs.Numbers.Steps.{is_digit}
+use Rattle.jsonb.proofs.Numbers.Steps.{is_digit, read_fault}
 use Rattle.jsonb.proofs.Numbers.Automaton.{NoneEnds, IsLongest}
 use Rattle.jsonb.proofs.Numbers.ScanText.{scan_longest, scan_end_within}
 use Rattle.jsonb.proofs.Numbers.Ends.{scanned, none_ends, number_at_end}
@@ -149,10 +149,6 @@ read_to size bytes end at =
       answer = ap (number_to size bytes) at;
     }
 
-read_invalid : (size : ℕ) (bytes : List ℕ) (place : ℕ) → standard_end bytes ≡ Err place → standard_number_at size bytes ≡ fault invalid_number_value (size - length bytes + place)
-unfolding standard_number_at
-read_invalid size bytes place at = ap (number_to size bytes) at
-
 -- a number was read
 pub record NumberRead (bytes : List ℕ) (n : Num) (rest : List ℕ) : Type 0 where
   pub core : List ℕ
@@ -216,7 +212,7 @@ answer_by size bytes (Ok end) at =
     let read = read_to size bytes end at in
     subst (IsAnswer size bytes) (sym read.answer) (carried_answer size end bytes (integer_at bytes end) read.within read.longest read.number)
 answer_by size bytes (Err place) at =
-    subst (IsAnswer size bytes) (sym (read_invalid size bytes place at)) (no_number refl (nothing_ends bytes (none_ends bytes place at)))
+    subst (IsAnswer size bytes) (sym (read_fault size bytes place at)) (no_number refl (nothing_ends bytes (none_ends bytes place at)))
 
 answer_is : (size : ℕ) (bytes : List ℕ) (r : Read Num) → standard_number_at size bytes ≡ r → IsAnswer size bytes r
 answer_is size bytes r at = subst (IsAnswer size bytes) at (answer_by size bytes (standard_end bytes) refl)

@@ -1,5 +1,5 @@
 -- Reading a number on lists, step by step: where digits end, and where a number text does.
-use Rattle.std.proofs.Common.{◌≡◌, ◌≢◌, ◌⊎◌, ℕ, ◌+◌, ◌-◌, ◌*◌, ◌^◌, ◌<◌, ◌≤◌, Bool, true, false, ◌||◌, ◌&&◌, zero, suc, List, [], ◌∷◌, length, take, drop, refl, sym, subst, ap, ◌∙◌, inl, inr, ⊎_elim, arith, Option, None, Result, Ok, Err}
+use Rattle.std.proofs.Common.{◌≡◌, ◌≢◌, ◌⊎◌, ℕ, ◌+◌, ◌-◌, ◌*◌, ◌^◌, ◌<◌, ◌≤◌, true, false, ◌||◌, zero, suc, List, [], ◌∷◌, length, take, drop, refl, sym, subst, ap, ◌∙◌, inl, inr, ⊎_elim, arith, Option, None, Result, Ok, Err}
 use Rattle.std.specs.Prelude.{slice_index, ◌==◌, nat_lt}
 use Rattle.std.specs.Char.{is_ascii_digit}
 use Rattle.std.specs.Int.{IsInRange, from_bool}
@@ -9,7 +9,7 @@ use Rattle.std.proofs.lemmas.Str.{digit_value_digit}
 use Rattle.std.proofs.lemmas.Int.Digits.{digits_value_more}
 use Rattle.std.proofs.lemmas.List.{length-drop, drop-drop}
 use Rattle.std.proofs.Math.Nat.{pow-suc, pow-le-pow_right}
-use Rattle.std.proofs.lemmas.Bool.{cases_Bool, cases_eq, false≢true}
+use Rattle.std.proofs.lemmas.Bool.{cases_Bool, cases_eq, false≢true, and_right}
 use Rattle.std.proofs.lemmas.Bool.Decides.{nat_tests}
 use Rattle.jsonb_value.specs.Code.{invalid_number_value, number_not_carried}
 use Rattle.jsonb_value.specs.Grammar.StandardNumber.{IsExponentMark}
@@ -46,6 +46,12 @@ is_zero n e = grind (arith, nat_tests)
 
 pub is_some : (n : ℕ) → 0 < n → (n == 0) ≡ false
 is_some n e = grind (arith, nat_tests)
+
+pub is_below : (a b : ℕ) → a < b → nat_lt a b ≡ true
+is_below a b h = grind (arith, nat_tests)
+
+pub is_not_below : (a b : ℕ) → b ≤ a → nat_lt a b ≡ false
+is_not_below a b h = grind (arith, nat_tests)
 
 -- ---- digits
 
@@ -101,16 +107,12 @@ needless_at bs start more zero_byte =
     let many : nat_lt 1 (digits_length (drop start bs)) ≡ true = grind (arith, nat_tests) in
     rw (is_some (digits_length (drop start bs)) (omega (arith, more)), zero_byte, many) refl
 
-and_false : (a b : Bool) → b ≡ false → (a && b) ≡ false
-and_false true b h = h
-and_false false b h = refl
-
 found_at : (bs : List ℕ) (start : ℕ) → IsWholeAt bs start → whole_from bs start ≡ Ok (digits_from bs start)
 unfolding whole_from
 found_at bs start (some, inl other) = rw (is_some (digits_length (drop start bs)) some, differs (slice_index bs start) 48 other) refl
 found_at bs start (some, inr single) =
     let one : nat_lt 1 (digits_length (drop start bs)) ≡ false = grind (arith, nat_tests) in
-    rw (is_some (digits_length (drop start bs)) some, and_false (slice_index bs start == 48) (nat_lt 1 (digits_length (drop start bs))) one) refl
+    rw (is_some (digits_length (drop start bs)) some, and_right (slice_index bs start == 48) (nat_lt 1 (digits_length (drop start bs))) one) refl
 
 -- where the whole part is due, and the index after it
 abbrev pub whole_end : List ℕ → ℕ

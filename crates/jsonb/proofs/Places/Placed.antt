@@ -1,8 +1,7 @@
 -- Where a `JsonAst` stands in the text, from one step of the reader to the next.
-use Rattle.std.proofs.Common.{◌≡◌, ◌⊎◌, true≢false, if◌then◌else◌, inl, inr, ℕ, ◌+◌, ◌<◌, ◌≤◌, Bool, true, false, List, [], ◌∷◌, ◌++◌, length, take, drop, map, Vec, Global, Option, Some, None, Result, Ok, Err, IfOk, is_gt, is_eq, nat_cmp, Ordering, Less, Equal, Greater, IsPermutation, rules, refl, sym, ap, subst, subst₂, ◌∙◌, append-nil, append_assoc, arith, length-append, length-drop}
+use Rattle.std.proofs.Common.{◌≡◌, ◌⊎◌, true≢false, if◌then◌else◌, inl, inr, ℕ, ◌+◌, ◌<◌, ◌≤◌, Bool, true, false, List, [], ◌∷◌, ◌++◌, length, take, drop, map, Vec, Global, Option, Some, None, Result, Ok, Err, IfOk, is_eq, nat_cmp, IsPermutation, rules, refl, sym, ap, subst, subst₂, ◌∙◌, append-nil, append_assoc, arith, length-append, length-drop}
 use Rattle.std.proofs.Math.Seq.{drop-append_seam}
 use Rattle.std.specs.Cow.{cow_str_bytes}
-use Rattle.std.specs.Ordering.{ordering_then}
 use Rattle.std.specs.Cmp.Lexicographic.{slice_cmp}
 use Rattle.std.proofs.lemmas.List.{length-take-le, take-append-drop}
 use Rattle.std.proofs.lemmas.List.Sorted.{IsPermutation-map}
@@ -42,6 +41,7 @@ use Rattle.jsonb.proofs.Scalars.Spellings.{key_sound, scalar_sound}
 use Rattle.jsonb.proofs.Steps.Advancing.{goes_on}
 use Rattle.jsonb.proofs.Text.Blanks.{ends_all, opens-nil, passes, skip-blanks, skip-skip, skip-stop, skips}
 use Rattle.jsonb.proofs.Containers.Values.{comment_ends, ended}
+use Rattle.jsonb.proofs.Containers.Repeats.{below}
 
 -- ---- the source of a `JsonAst`, level by level
 
@@ -230,11 +230,6 @@ element_begun mode input v at (Some w) h = inr (h.0, h.1, refl)
 
 -- ---- keys in strictly ascending order
 
-strictly : (o p : Ordering) → is_gt (ordering_then o p) ≡ false → is_eq o ≡ false → o ≡ Less
-strictly Less p up other = refl
-strictly Equal p up other = absurd cc
-strictly Greater p up other = absurd cc
-
 no_repeat : (b : Bool) (t : Spot) (o : Option Spot) → (if b then Some t else o) ≡ None → (b ≡ false) × (o ≡ None)
 no_repeat true t o e = absurd cc
 no_repeat false t o e = (refl, e)
@@ -246,7 +241,7 @@ keys_rise (m ∷ n ∷ ms) up e =
     let s : Spot = spot_of (found_of m) in
     let t : Spot = spot_of (found_of n) in
     let none = no_repeat (is_eq (slice_cmp nat_cmp s.key t.key)) t (adjacent_repeat (spots (n ∷ ms))) e in (
-      strictly (slice_cmp nat_cmp s.key t.key) (nat_cmp s.place t.place) up.0 none.0,
+      below (slice_cmp nat_cmp s.key t.key) (nat_cmp s.place t.place) up.0 none.0,
       keys_rise (n ∷ ms) up.1 none.1,
     )
 

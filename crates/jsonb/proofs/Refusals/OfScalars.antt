@@ -3,7 +3,7 @@ use Rattle.std.proofs.Common.{◌≡◌, ℕ, zero, suc, ◌+◌, ◌-◌, ◌<�
 use Rattle.std.specs.Char.{is_ascii_digit}
 use Rattle.std.specs.Str.{is_utf8}
 use Rattle.std.specs.Bool.{nat_lt}
-use Rattle.std.proofs.lemmas.Bool.{cases_lt}
+use Rattle.std.proofs.lemmas.Bool.{cases_lt, cond-true}
 use Rattle.jsonb_value.specs.Code.{Code}
 use Rattle.jsonb_value.specs.Code.Code.{expected_some_ident, expected_some_value, invalid_eof, invalid_string_value, number_not_carried, object_key_invalid_character, object_key_invalid_number}
 use Rattle.jsonb_value.specs.Mode.{Mode}
@@ -19,7 +19,7 @@ use Rattle.jsonb.specs.Reading.BareKey.{bare_key_at, key_end, key_to, text_key}
 use Rattle.jsonb.specs.Reading.Scalar.{begins_letter, begins_number, false_at, folded, key_at, letters_at, null_at, number_at, number_or_fault, number_value_at, on_single_quote, or_else, quoted_at, scalar_at, true_or_false_at, unquoted_at, word_at, words_at}
 use Rattle.jsonb.specs.Reading.String.{Body, body_of, checked_unit, closed, decoded, escape_at, item_at, items_within, known_escape, meaning_of, non_digit, onto, quote_end, string_at, then_items, unit_at}
 use Rattle.jsonb.specs.Refusals.{IsNumberSpelling}
-use Rattle.jsonb.proofs.Steps.Tests.{bind_ok, chosen, if-true, same_read}
+use Rattle.jsonb.proofs.Steps.Tests.{bind_ok, chosen, same_read}
 use Rattle.jsonb.proofs.Refusals.Codes.{IsTold, bind_err, same_err, silent_fault, silent_refused}
 use Rattle.jsonb.proofs.Containers.JoinedParts.{on_byte_cases}
 use Rattle.jsonb.proofs.Numbers.Extended.{ExtendedFault, ExtendedUncarried, extended_faults, extended_sound}
@@ -186,7 +186,7 @@ number_begins : (mode : Mode) (bytes : List ℕ) (n : Num) → IsNumber mode byt
 number_begins mode bytes n is = let s = number_opens mode bytes n is in ap (λ (u : List ℕ). begins_number mode u) s.whole ∙ s.begun s.others
 
 letter_begins : (mode : Mode) (c : ℕ) (bytes : List ℕ) → StartsWord mode c bytes → begins_letter mode c bytes ≡ true
-letter_begins mode c bytes s = ap (begins_letter mode c) s.whole ∙ if-true (eqb (folded mode s.first) c) true false (eq-eqb (folded mode s.first) c s.letter)
+letter_begins mode c bytes s = ap (begins_letter mode c) s.whole ∙ cond-true (eqb (folded mode s.first) c) true false (eq-eqb (folded mode s.first) c s.letter)
 
 scalar_first : (mode : Mode) (bytes : List ℕ) (t : Tree) → IsScalar mode bytes t → FirstOf mode bytes
 scalar_first mode bytes t (literal_value (null_word is)) = with_letter 110 (inl refl) (letter_begins mode 110 bytes (word_starts mode 110 (codes "ull") bytes is))

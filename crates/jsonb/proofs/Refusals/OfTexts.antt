@@ -1,5 +1,6 @@
 -- What the fault of a whole text says of it.
 use Rattle.std.proofs.Common.{◌≡◌, ℕ, zero, suc, ◌+◌, ◌-◌, ◌<◌, ◌≤◌, false, true≢false, ◌⊎◌, inl, inr, List, [], ◌∷◌, ◌++◌, length, Result, Ok, Err, refl, sym, ap, subst, ◌∙◌, append_assoc, length-append, arith}
+use Rattle.std.proofs.lemmas.Bool.{cond-true}
 use Rattle.jsonb_value.specs.Grammar.Blanks.{AreLastBlanks, IsBlank, IsBlanks}
 use Rattle.jsonb_value.specs.Grammar.Blanks.AreLastBlanks.{blanks_to_end, line_to_end}
 use Rattle.jsonb_value.specs.Grammar.Blanks.IsBlanks.{more_blanks, no_blanks}
@@ -19,7 +20,7 @@ use Rattle.jsonb.specs.Reading.Container.{array_at, object_at}
 use Rattle.jsonb.specs.Reading.Document.{at_end, comment_at, document_from, document_of, nothing_at, too_deep, value_at, value_to_end, value_with}
 use Rattle.jsonb.specs.Reading.Scalar.{scalar_at}
 use Rattle.jsonb.specs.Refusals.{IsFront, Stands, Trails}
-use Rattle.jsonb.proofs.Steps.Tests.{chosen, if-true, same_read}
+use Rattle.jsonb.proofs.Steps.Tests.{chosen, same_read}
 use Rattle.jsonb.proofs.Refusals.Codes.{IsTold, bind_err, same_err, silent_fault}
 use Rattle.jsonb.proofs.Containers.JoinedParts.{Ends, Starts, ends-blank, ends_at, on_byte-other, skip-starts, starts-append}
 use Rattle.jsonb.proofs.Refusals.Explained.{Wrong, stops_after_blanks, value_explains}
@@ -176,7 +177,7 @@ last_skipped : (mode : Mode) {last : List ℕ} (b : AreLastBlanks mode last) (mo
 last_skipped mode {last} b more =
     elim (last_within b more) [
       | inl within ↦ omega (arith, within, length-past mode (pass_blanks mode (last ++ more)))
-      | inr opens ↦ omega (arith, ap length (if-true (opens_comment mode (pass_blanks mode (last ++ more))) [] (pass_blanks mode (last ++ more)) opens))
+      | inr opens ↦ omega (arith, ap length (cond-true (opens_comment mode (pass_blanks mode (last ++ more))) [] (pass_blanks mode (last ++ more)) opens))
     ]
 
 document_within : (mode : Mode) (input first rest longer more : List ℕ) (t u : Tree) (after : List ℕ) → input ≡ first ++ rest → length rest < length (skip_blanks mode input) → pass_blanks mode after ≡ rest → opens_comment mode rest ≡ false

@@ -1,12 +1,12 @@
 -- Values that hold no others, by their first byte.
 use Rattle.std.proofs.Common.{◌≡◌, ◌≤◌, ℕ, true, false, true≢false, List, [], ◌∷◌, refl, sym, ap, ◌∙◌, arith}
+use Rattle.std.proofs.lemmas.Bool.{cond-false, cond-true}
 use Rattle.jsonb_value.specs.Code.Code.{expected_some_value}
 use Rattle.jsonb_value.specs.Mode.{Mode, standard, extended}
 use Rattle.jsonb.specs.declared.parser.Parser.{Parser}
 use Rattle.jsonb.specs.Parser.{Advances, mode_of, rest_of, size_of}
 use Rattle.jsonb.specs.Reading.{begins, refused}
 use Rattle.jsonb.specs.Reading.Scalar.{begins_letter, begins_number, begins_single_quote, number_or_fault, number_value_at, other_scalar_at, quoted_at, scalar_at, words_at}
-use Rattle.jsonb.proofs.Steps.Tests.{if-false, if-true}
 use Rattle.jsonb.proofs.Steps.Outcomes.{read_past, unmoved, words_number}
 use Rattle.jsonb.proofs.Containers.JoinedParts.{on_byte-none}
 use Rattle.jsonb.proofs.Scalars.Spellings.{IsApart, number_start_apart}
@@ -35,10 +35,10 @@ other_word p q same single =
 
 single-apart : (mode : Mode) (b : ℕ) (rest : List ℕ) → IsApart b → begins_single_quote mode (b ∷ rest) ≡ false
 single-apart standard b rest a = refl
-single-apart extended b rest a = if-false _ true false a.no_single
+single-apart extended b rest a = cond-false _ true false a.no_single
 
 letter-apart : (mode : Mode) (c b : ℕ) (rest : List ℕ) → 97 ≤ c → IsApart b → begins_letter mode c (b ∷ rest) ≡ false
-letter-apart mode c b rest high a = if-false _ true false (a.no_letter mode c high)
+letter-apart mode c b rest high a = cond-false _ true false (a.no_letter mode c high)
 
 other_number : (size : ℕ) (mode : Mode) (bytes : List ℕ) → begins_number standard bytes ≡ true → other_scalar_at size mode bytes ≡ number_or_fault size mode bytes
 other_number size mode [] e = absurd (true≢false (sym e))
@@ -50,4 +50,4 @@ other_number size mode (b ∷ rest) e =
 pub standard_number : (size : ℕ) (mode : Mode) (bytes : List ℕ) → mode ≡ standard → begins_number standard bytes ≡ true → other_scalar_at size mode bytes ≡ number_value_at size standard bytes
 standard_number size mode bytes is begun =
     ap (λ m. other_scalar_at size m bytes) is ∙ other_number size standard bytes begun
-    ∙ if-true (begins_number standard bytes) (number_value_at size standard bytes) (refused size expected_some_value 1 bytes) begun
+    ∙ cond-true (begins_number standard bytes) (number_value_at size standard bytes) (refused size expected_some_value 1 bytes) begun

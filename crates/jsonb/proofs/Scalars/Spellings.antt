@@ -1,7 +1,7 @@
 -- What the grammar needs of scalars and keys: what is read is spelled, each spelling is read, and how a spelling begins.
-use Rattle.std.proofs.Common.{◌≡◌, ◌≢◌, ℕ, Bool, true, false, true≢false, inl, inr, List, [], ◌∷◌, ◌++◌, codes, cond, map, Result, Ok, Err, refl, sym, ap, ap₂, subst, ◌∙◌, eqb, eqb-true, eq-eqb, ne_eqb, ltb, lt-ltb, ◌||◌, ◌⊎◌, ⊎_elim, ◌+◌, ◌<◌, ◌≤◌, arith}
+use Rattle.std.proofs.Common.{◌≡◌, ◌≢◌, ℕ, true, false, true≢false, inl, inr, List, [], ◌∷◌, ◌++◌, codes, cond, map, Result, Ok, Err, refl, sym, ap, ap₂, subst, ◌∙◌, eqb, eqb-true, eq-eqb, ne_eqb, ltb, lt-ltb, ◌||◌, ◌⊎◌, ⊎_elim, ◌+◌, ◌<◌, ◌≤◌, arith}
 use Rattle.std.proofs.lemmas.Bool.Decides.{nat_tests}
-use Rattle.std.proofs.lemmas.Bool.{cases_Bool}
+use Rattle.std.proofs.lemmas.Bool.{cases_Bool, cond-false, cond-true, or_cases, or_from}
 use Rattle.std.specs.Char.{digit_value, is_ascii_digit, to_ascii_lowercase}
 use Rattle.jsonb_value.specs.Grammar.BareKey.{IsBareKey}
 use Rattle.jsonb_value.specs.Code.Code.{expected_some_ident, expected_some_value}
@@ -23,11 +23,12 @@ use Rattle.jsonb.specs.Reading.Number.{EndsNumber, GoesOn, is_number_start}
 use Rattle.jsonb.specs.Reading.Scalar.{begins_letter, begins_number, false_at, folded, key_at, letters_at, null_at, number_at, number_or_fault, number_value_at, on_letter, on_single_quote, or_else, quoted_at, scalar_at, true_or_false_at, unquoted_at, word_at, words_at}
 use Rattle.jsonb.specs.Reading.String.{string_at}
 use Rattle.jsonb.proofs.Strings.BareKeys.{bare_complete, bare_sound, bare_starts, break_stops}
-use Rattle.jsonb.proofs.Steps.Tests.{bind_ok, chosen, if-false, if-true, refused_fails, same_read}
+use Rattle.jsonb.proofs.Steps.Tests.{bind_ok, chosen, refused_fails, same_read}
 use Rattle.jsonb.proofs.Numbers.Extended.{OpensNumber, extended_complete, extended_sound, extended_starts, opens_extended}
 use Rattle.jsonb.proofs.Containers.JoinedParts.{Ends, IsComplete, IsSound, Spelled, Starts, break_is, on_byte-found, on_byte-other, on_byte_cases}
 use Rattle.jsonb.proofs.Numbers.Standard.{number_complete, number_sound, number_starts}
 use Rattle.jsonb.proofs.Strings.Ends.{string_complete, string_sound}
+use Rattle.jsonb_value.proofs.Trees.TextsReadBack.{double_quote}
 
 -- The text is empty, or begins with a byte that may follow a value.
 pub data Follows : List ℕ → Type 0 where
@@ -62,11 +63,11 @@ on_letter_cases mode c [] found other z e = inr (refl, e)
 on_letter_cases mode c (b ∷ bytes) found other z e =
     elim (chosen (eqb (folded mode b) c) (found bytes) other z e) [
       | inl t ↦ inl (b, bytes, refl, eqb-true (folded mode b) c t.0, t.1)
-      | inr f ↦ inr (if-false (eqb (folded mode b) c) true false f.0, f.1)
+      | inr f ↦ inr (cond-false (eqb (folded mode b) c) true false f.0, f.1)
     ]
 
 on_letter-found : {X : Type 0} (mode : Mode) (c b : ℕ) (rest : List ℕ) (found : List ℕ → X) (other : X) → folded mode b ≡ c → on_letter mode c (b ∷ rest) found other ≡ found rest
-on_letter-found mode c b rest found other e = if-true (eqb (folded mode b) c) (found rest) other (eq-eqb (folded mode b) c e)
+on_letter-found mode c b rest found other e = cond-true (eqb (folded mode b) c) (found rest) other (eq-eqb (folded mode b) c e)
 
 -- words are spelled letter by letter
 pub AreFolded : Mode → List ℕ → List ℕ → Type 0
@@ -153,7 +154,7 @@ letter_is extended b c e =
 
 pub folded_low : (mode : Mode) (b : ℕ) → b < 65 → folded mode b ≡ b
 folded_low standard b low = refl
-folded_low extended b low = if-true (ltb b 65) b (cond (ltb b 91) (b + 32) b) (lt-ltb b 65 low)
+folded_low extended b low = cond-true (ltb b 65) b (cond (ltb b 91) (b + 32) b) (lt-ltb b 65 low)
 
 -- what holds of a letter in both cases holds of the first letter of a word
 by_letter : (P : ℕ → Type 0) (mode : Mode) (b c d : ℕ) → folded mode b ≡ c → d + 32 ≡ c → P c → P d → P b
@@ -180,10 +181,6 @@ begins_letter-of : (mode : Mode) (b c d : ℕ) (rest : List ℕ) → folded mode
 begins_letter-of mode b c d rest e = ap (λ (x : ℕ). cond (eqb x c) true false) e
 
 -- ---- strings
-
-double_quote : (mode : Mode) → IsQuote mode 34
-double_quote standard = refl
-double_quote extended = inl refl
 
 single_quote : (mode : Mode) → mode ≡ extended → IsQuote mode 39
 single_quote mode is = subst (λ (m : Mode). IsQuote m 39) (sym is) (inr refl)
@@ -264,24 +261,20 @@ pub record IsApart (b : ℕ) : Type 0 where
 differs : (b c : ℕ) → b ≢ c → eqb b c ≡ false
 differs b c h = ne_eqb b c h
 
-all_false : (a b : Bool) → a ≡ false → b ≡ false → (a || b) ≡ false
-all_false true b p q = p
-all_false false b p q = q
-
 apart_from : (b : ℕ) → (b ≡ 45) ⊎ ((48 ≤ b) × (b ≤ 57)) → IsApart b
 apart_from b h =
     let in_range : (45 ≤ b) × (b ≤ 57) = ⊎_elim (λ (m : b ≡ 45). (omega (arith, m), omega (arith, m))) (λ (d : (48 ≤ b) × (b ≤ 57)). (omega (arith, d.0), d.1)) h in
     let no_slash : b ≢ 47 = λ e. ⊎_elim (λ (m : b ≡ 45). omega (arith, m, e)) (λ (d : (48 ≤ b) × (b ≤ 57)). omega (arith, d.0, e)) h in
     record {
       no_break =
-          all_false (is_blank_start b || eqb b 44 || eqb b 58 || eqb b 93) (eqb b 125)
-          (all_false (is_blank_start b || eqb b 44 || eqb b 58) (eqb b 93)
-          (all_false (is_blank_start b || eqb b 44) (eqb b 58)
-          (all_false (is_blank_start b) (eqb b 44)
-          (all_false (eqb b 32 || eqb b 9 || eqb b 10 || eqb b 12 || eqb b 13 || eqb b 92) (eqb b 47)
-          (all_false (eqb b 32 || eqb b 9 || eqb b 10 || eqb b 12 || eqb b 13) (eqb b 92)
-          (all_false (eqb b 32 || eqb b 9 || eqb b 10 || eqb b 12) (eqb b 13)
-          (all_false (eqb b 32 || eqb b 9 || eqb b 10) (eqb b 12) (all_false (eqb b 32 || eqb b 9) (eqb b 10) (all_false (eqb b 32) (eqb b 9) (differs b 32 (omega (arith, in_range.0))) (differs b 9 (omega (arith, in_range.0)))) (differs b 10 (omega (arith, in_range.0)))) (differs b 12 (omega (arith, in_range.0))))
+          or_from (is_blank_start b || eqb b 44 || eqb b 58 || eqb b 93) (eqb b 125)
+          (or_from (is_blank_start b || eqb b 44 || eqb b 58) (eqb b 93)
+          (or_from (is_blank_start b || eqb b 44) (eqb b 58)
+          (or_from (is_blank_start b) (eqb b 44)
+          (or_from (eqb b 32 || eqb b 9 || eqb b 10 || eqb b 12 || eqb b 13 || eqb b 92) (eqb b 47)
+          (or_from (eqb b 32 || eqb b 9 || eqb b 10 || eqb b 12 || eqb b 13) (eqb b 92)
+          (or_from (eqb b 32 || eqb b 9 || eqb b 10 || eqb b 12) (eqb b 13)
+          (or_from (eqb b 32 || eqb b 9 || eqb b 10) (eqb b 12) (or_from (eqb b 32 || eqb b 9) (eqb b 10) (or_from (eqb b 32) (eqb b 9) (differs b 32 (omega (arith, in_range.0))) (differs b 9 (omega (arith, in_range.0)))) (differs b 10 (omega (arith, in_range.0)))) (differs b 12 (omega (arith, in_range.0))))
           (differs b 13 (omega (arith, in_range.0))))
           (differs b 92 (omega (arith, in_range.1))))
           (differs b 47 no_slash))
@@ -295,10 +288,6 @@ apart_from b h =
       no_single = differs b 39 (omega (arith, in_range.0));
       no_letter = λ mode c low. ap (λ (x : ℕ). eqb x c) (folded_low mode b (omega (arith, in_range.1))) ∙ differs b c (λ e. omega (arith, in_range.1, low, e));
     }
-
-or_true : (a b : Bool) → (a || b) ≡ true → (a ≡ true) ⊎ (b ≡ true)
-or_true true b e = inl refl
-or_true false b e = inr e
 
 sign_or_point_apart : (b : ℕ) → is_break b ≡ false → eqb b 91 ≡ false → eqb b 123 ≡ false → eqb b 34 ≡ false → eqb b 39 ≡ false → b < 65 → IsApart b
 sign_or_point_apart b no_break no_bracket no_brace no_quote no_single low =
@@ -320,7 +309,7 @@ opens_apart b (inr (inr (inr digit))) = apart_from b (inr digit)
 
 pub number_start_apart : (b : ℕ) → is_number_start b ≡ true → IsApart b
 number_start_apart b e =
-    apart_from b (⊎_elim (λ (d : is_ascii_digit b ≡ true). inr (ascii_digit b d)) (λ (m : eqb b 45 ≡ true). inl (eqb-true b 45 m)) (or_true (is_ascii_digit b) (eqb b 45) e))
+    apart_from b (⊎_elim (λ (d : is_ascii_digit b ≡ true). inr (ascii_digit b d)) (λ (m : eqb b 45 ≡ true). inl (eqb-true b 45 m)) (or_cases (is_ascii_digit b) (eqb b 45) e))
   where
     ascii_digit : (c : ℕ) → is_ascii_digit c ≡ true → (48 ≤ c) × (c ≤ 57)
     ascii_digit c d = grind (arith, nat_tests)
@@ -450,19 +439,19 @@ no_quotes size mode b bytes double single =
 number_first : (size : ℕ) (mode : Mode) (b : ℕ) (bytes : List ℕ) → IsApart b → scalar_at size mode (b ∷ bytes) ≡ number_or_fault size mode (b ∷ bytes)
 number_first size mode b bytes a =
     no_quotes size mode b bytes a.no_quote a.no_single
-    ∙ if-false (begins_letter mode 110 (b ∷ bytes)) (null_at size mode (b ∷ bytes)) (true_or_false_at size mode (b ∷ bytes)) (other_letter 110 (omega arith))
-    ∙ if-false (begins_letter mode 116 (b ∷ bytes)) (word_at size mode (codes "true") (boolean true) (b ∷ bytes)) (false_at size mode (b ∷ bytes)) (other_letter 116 (omega arith))
-    ∙ if-false (begins_letter mode 102 (b ∷ bytes)) (word_at size mode (codes "false") (boolean false) (b ∷ bytes)) (number_or_fault size mode (b ∷ bytes)) (other_letter 102 (omega arith))
+    ∙ cond-false (begins_letter mode 110 (b ∷ bytes)) (null_at size mode (b ∷ bytes)) (true_or_false_at size mode (b ∷ bytes)) (other_letter 110 (omega arith))
+    ∙ cond-false (begins_letter mode 116 (b ∷ bytes)) (word_at size mode (codes "true") (boolean true) (b ∷ bytes)) (false_at size mode (b ∷ bytes)) (other_letter 116 (omega arith))
+    ∙ cond-false (begins_letter mode 102 (b ∷ bytes)) (word_at size mode (codes "false") (boolean false) (b ∷ bytes)) (number_or_fault size mode (b ∷ bytes)) (other_letter 102 (omega arith))
   where
     other_letter : (c : ℕ) → 97 ≤ c → begins_letter mode c (b ∷ bytes) ≡ false
-    other_letter c low = if-false (eqb (folded mode b) c) true false (a.no_letter mode c low)
+    other_letter c low = cond-false (eqb (folded mode b) c) true false (a.no_letter mode c low)
 
 number_reads : (size : ℕ) (mode : Mode) (core : List ℕ) (n : Num) (rest : List ℕ) → IsNumber mode core n → Follows rest → scalar_at size mode (core ++ rest) ≡ Ok (number n, rest)
 number_reads size mode core n rest is f =
     let s = number_opens mode core n is in
     let opened : core ++ rest ≡ s.first ∷ (s.others ++ rest) = ap (λ (u : List ℕ). u ++ rest) s.whole in
     ap (λ (u : List ℕ). scalar_at size mode u) opened ∙ number_first size mode s.first (s.others ++ rest) s.apart
-    ∙ if-true (begins_number mode (s.first ∷ (s.others ++ rest))) (number_value_at size mode (s.first ∷ (s.others ++ rest))) (refused size expected_some_value 1 (s.first ∷ (s.others ++ rest))) (s.begun (s.others ++ rest))
+    ∙ cond-true (begins_number mode (s.first ∷ (s.others ++ rest))) (number_value_at size mode (s.first ∷ (s.others ++ rest))) (refused size expected_some_value 1 (s.first ∷ (s.others ++ rest))) (s.begun (s.others ++ rest))
     ∙ ap (λ (u : List ℕ). number_value_at size mode u) (sym opened)
     ∙ ap (λ (r : Read Num). r >>= λ (x : Num × List ℕ). Ok (number x.0, x.1)) (by_mode mode is)
   where
@@ -497,20 +486,20 @@ pub scalar_complete : (size : ℕ) (mode : Mode) (bytes : List ℕ) (t : Tree) (
 scalar_complete size mode bytes t rest (literal_value (null_word is)) f =
     let s = word_starts mode 110 (codes "ull") bytes is in
     word_first size mode 110 bytes rest s (letter_n mode)
-    ∙ if-true (begins_letter mode 110 (bytes ++ rest)) (null_at size mode (bytes ++ rest)) (true_or_false_at size mode (bytes ++ rest)) (begins_word mode 110 110 bytes rest s)
+    ∙ cond-true (begins_letter mode 110 (bytes ++ rest)) (null_at size mode (bytes ++ rest)) (true_or_false_at size mode (bytes ++ rest)) (begins_word mode 110 110 bytes rest s)
     ∙ null_read size mode bytes rest is
 scalar_complete size mode bytes t rest (literal_value (true_word is)) f =
     let s = word_starts mode 116 (codes "rue") bytes is in
     word_first size mode 116 bytes rest s (letter_t mode)
-    ∙ if-false (begins_letter mode 110 (bytes ++ rest)) (null_at size mode (bytes ++ rest)) (true_or_false_at size mode (bytes ++ rest)) (begins_word mode 110 116 bytes rest s)
-    ∙ if-true (begins_letter mode 116 (bytes ++ rest)) (word_at size mode (codes "true") (boolean true) (bytes ++ rest)) (false_at size mode (bytes ++ rest)) (begins_word mode 116 116 bytes rest s)
+    ∙ cond-false (begins_letter mode 110 (bytes ++ rest)) (null_at size mode (bytes ++ rest)) (true_or_false_at size mode (bytes ++ rest)) (begins_word mode 110 116 bytes rest s)
+    ∙ cond-true (begins_letter mode 116 (bytes ++ rest)) (word_at size mode (codes "true") (boolean true) (bytes ++ rest)) (false_at size mode (bytes ++ rest)) (begins_word mode 116 116 bytes rest s)
     ∙ word_read size mode (codes "true") bytes (boolean true) rest is
 scalar_complete size mode bytes t rest (literal_value (false_word is)) f =
     let s = word_starts mode 102 (codes "alse") bytes is in
     word_first size mode 102 bytes rest s (letter_f mode)
-    ∙ if-false (begins_letter mode 110 (bytes ++ rest)) (null_at size mode (bytes ++ rest)) (true_or_false_at size mode (bytes ++ rest)) (begins_word mode 110 102 bytes rest s)
-    ∙ if-false (begins_letter mode 116 (bytes ++ rest)) (word_at size mode (codes "true") (boolean true) (bytes ++ rest)) (false_at size mode (bytes ++ rest)) (begins_word mode 116 102 bytes rest s)
-    ∙ if-true (begins_letter mode 102 (bytes ++ rest)) (word_at size mode (codes "false") (boolean false) (bytes ++ rest)) (number_or_fault size mode (bytes ++ rest)) (begins_word mode 102 102 bytes rest s)
+    ∙ cond-false (begins_letter mode 110 (bytes ++ rest)) (null_at size mode (bytes ++ rest)) (true_or_false_at size mode (bytes ++ rest)) (begins_word mode 110 102 bytes rest s)
+    ∙ cond-false (begins_letter mode 116 (bytes ++ rest)) (word_at size mode (codes "true") (boolean true) (bytes ++ rest)) (false_at size mode (bytes ++ rest)) (begins_word mode 116 102 bytes rest s)
+    ∙ cond-true (begins_letter mode 102 (bytes ++ rest)) (word_at size mode (codes "false") (boolean false) (bytes ++ rest)) (number_or_fault size mode (bytes ++ rest)) (begins_word mode 102 102 bytes rest s)
     ∙ word_read size mode (codes "false") bytes (boolean false) rest is
 scalar_complete size mode bytes t rest (string_value {quote = quote} {text = text} {mark = mark} is q) f = quoted_reads size mode quote bytes text mark rest is q
 scalar_complete size mode bytes t rest (number_value {n = n} is) f = number_reads size mode bytes n rest is (f tt)

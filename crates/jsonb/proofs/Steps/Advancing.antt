@@ -5,9 +5,10 @@ use Rattle.jsonb.specs.Parser.{Advances, Fails, NamesFault}
 use Rattle.jsonb.specs.Reading.{Fault, refused}
 use Rattle.jsonb.specs.Reading.Scalar.{begins_letter, begins_single_quote, folded, letters_at, on_letter, on_single_quote}
 use Rattle.jsonb_value.specs.Mode.{Mode, standard, extended}
-use Rattle.jsonb.proofs.Steps.Tests.{chosen, if-true}
+use Rattle.jsonb.proofs.Steps.Tests.{chosen}
 use Rattle.jsonb.proofs.Containers.JoinedParts.{on_byte-none}
 use Rattle.std.proofs.lemmas.List.{get_or-drop}
+use Rattle.std.proofs.lemmas.Bool.{cond-true}
 use Rattle.jsonb.specs.declared.parser.Parser.{Parser}
 use Rattle.jsonb_value.specs.declared.error.Error.{Error}
 use Rattle.jsonb_value.specs.declared.error.Error.TheVariants.{Syntax}
@@ -32,7 +33,7 @@ pub on_letter-true : {X : Type 0} (mode : Mode) (c : ℕ) (bytes : List ℕ) (fo
 on_letter-true mode c [] found other e = absurd (true≢false (sym e))
 on_letter-true mode c (b ∷ bytes) found other e =
     elim (chosen (eqb (folded mode b) c) true false true e) [
-      | inl t ↦ if-true (eqb (folded mode b) c) (found bytes) other t.0
+      | inl t ↦ cond-true (eqb (folded mode b) c) (found bytes) other t.0
       | inr f ↦ absurd (true≢false (sym f.1))
     ]
 
@@ -46,7 +47,7 @@ single-true standard bytes found other e = absurd (true≢false (sym e))
 single-true extended [] found other e = absurd (true≢false (sym e))
 single-true extended (b ∷ bytes) found other e =
     elim (chosen (eqb b 39) true false true e) [
-      | inl t ↦ if-true (eqb b 39) (found bytes) other t.0
+      | inl t ↦ cond-true (eqb b 39) (found bytes) other t.0
       | inr f ↦ absurd (true≢false (sym f.1))
     ]
 

@@ -1,5 +1,6 @@
 -- The bytes of an input from an index on.
-use Rattle.std.proofs.Common.{◌≡◌, ℕ, ◌+◌, ◌-◌, ◌<◌, ◌≤◌, List, [], ◌∷◌, length, drop, refl, ap, arith, length-drop}
+use Rattle.std.proofs.Common.{◌≡◌, ℕ, ◌+◌, ◌-◌, ◌<◌, ◌≤◌, List, [], ◌∷◌, length, drop, ap, arith, length-drop}
+use Rattle.std.proofs.lemmas.List.{nil_from_length}
 use Rattle.jsonb_value.specs.Code.{Code}
 use Rattle.jsonb.specs.Reading.{fault_at}
 
@@ -11,9 +12,5 @@ fault-here size code step i (b ∷ bytes) e h = let place : size - length (b ∷
 pub fault_at-inside : (buf : List ℕ) (i : ℕ) (code : Code) (step : ℕ) → i < length buf → fault_at (length buf) code step (drop i buf) ≡ record { code = code; place = i + step }
 fault_at-inside buf i code step h = fault-here (length buf) code step i (drop i buf) (omega (arith, length-drop i buf)) (omega (arith, length-drop i buf))
 
-empty : {A : Type 0} (ys : List A) → length ys ≡ 0 → ys ≡ []
-empty [] e = refl
-empty (y ∷ ys) e = absurd (omega arith)
-
 pub nothing_left : {A : Type 0} (xs : List A) (i : ℕ) → length xs ≤ i → drop i xs ≡ []
-nothing_left xs i h = empty (drop i xs) (omega (arith, length-drop i xs))
+nothing_left xs i h = nil_from_length (drop i xs) (omega (arith, length-drop i xs))

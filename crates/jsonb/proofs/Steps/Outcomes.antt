@@ -1,15 +1,18 @@
 -- What a step of the reader gives, from what the steps inside of it give.
-use Rattle.std.proofs.Common.{◌≡◌, ℕ, true, false, List, ◌∷◌, length, drop, codes, Result, sym, ap, ap₂, subst, ◌∙◌}
+use Rattle.std.proofs.Common.{◌≡◌, ℕ, true, false, List, ◌∷◌, length, drop, codes, Result, sym, ap, ap₂, subst, ◌∙◌, Ok, Err, IfOk, IfErr}
+use Rattle.std.proofs.lemmas.Bool.{cond-false}
 use Rattle.jsonb.specs.declared.parser.Parser.{Parser}
 use Rattle.jsonb_value.specs.declared.error.Error.{Error}
 use Rattle.jsonb_value.specs.declared.error.Error.TheVariants.{Syntax, OutOfMemory}
 use Rattle.jsonb_value.specs.Mode.{Mode}
+use Rattle.jsonb_value.specs.Tree.{Tree}
 use Rattle.jsonb_value.specs.Tree.Tree.{boolean}
+use Rattle.jsonb_value.specs.View.{view}
+use Rattle.jsonb_value.specs.declared.value.Value.{Value}
 use Rattle.jsonb.specs.Parser.{Advances, Fails, mode_of, rest_of, size_of}
 use Rattle.jsonb.specs.Reading.{Fault, begins, ◌>>=◌}
 use Rattle.jsonb.specs.Reading.Scalar.{begins_letter, begins_single_quote, false_at, key_at, null_at, number_or_fault, on_single_quote, quoted_at, scalar_at, true_or_false_at, unquoted_at, word_at, words_at}
 use Rattle.jsonb.specs.Reading.String.{string_at}
-use Rattle.jsonb.proofs.Steps.Tests.{if-false}
 use Rattle.jsonb.proofs.Containers.JoinedParts.{on_byte-found, on_byte-none}
 use Rattle.jsonb.proofs.Steps.Advancing.{single-false, single-true}
 
@@ -79,6 +82,16 @@ scalar_quoted p q a e =
 module _ (size : ℕ) (mode : Mode) (bytes : List ℕ) where
   pub words_number : begins_letter mode 110 bytes ≡ false → begins_letter mode 116 bytes ≡ false → begins_letter mode 102 bytes ≡ false → words_at size mode bytes ≡ number_or_fault size mode bytes
   words_number n t f =
-      if-false (begins_letter mode 110 bytes) (null_at size mode bytes) (true_or_false_at size mode bytes) n
-      ∙ if-false (begins_letter mode 116 bytes) (word_at size mode (codes "true") (boolean true) bytes) (false_at size mode bytes) t
-      ∙ if-false (begins_letter mode 102 bytes) (word_at size mode (codes "false") (boolean false) bytes) (number_or_fault size mode bytes) f
+      cond-false (begins_letter mode 110 bytes) (null_at size mode bytes) (true_or_false_at size mode bytes) n
+      ∙ cond-false (begins_letter mode 116 bytes) (word_at size mode (codes "true") (boolean true) bytes) (false_at size mode bytes) t
+      ∙ cond-false (begins_letter mode 102 bytes) (word_at size mode (codes "false") (boolean false) bytes) (number_or_fault size mode bytes) f
+
+-- what a refusal for want of memory says beside its code
+pub refused_container : {A : Type 0} (Q : Type 0) (r : Result A Error) → IfErr r (λ e. (e ≡ OutOfMemory) × Q) → r ≡ Err OutOfMemory → Q
+refused_container Q (Ok x) h is = cc
+refused_container Q (Err e) h is = h.1
+
+-- what holds of the tree holds of the value that is made of it
+pub value_has : {E : Type 0} (P : Tree → Type 0) (t : Tree) (r : Result Value E) → IfOk r (λ v. view v ≡ t) → P t → IfOk r (λ v. P (view v))
+value_has P t (Ok v) same p = subst P (sym same) p
+value_has P t (Err e) same p = tt

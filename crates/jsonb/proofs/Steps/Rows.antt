@@ -1,8 +1,7 @@
 -- Two rows compared from a place on.
-use Rattle.std.proofs.Common.{◌≡◌, ℕ, ◌+◌, ◌<◌, ◌≤◌, List, [], ◌∷◌, ◌++◌, length, take, drop, get_or, leb, true, false, refl, sym, ap, ◌∙◌, inl, inr, arith, drop-cons}
+use Rattle.std.proofs.Common.{◌≡◌, ℕ, ◌+◌, ◌<◌, ◌≤◌, List, [], ◌∷◌, ◌++◌, length, take, drop, get_or, leb, refl, sym, ap, ◌∙◌, inl, inr, arith, drop-cons}
 use Rattle.std.proofs.Math.Seq.{drop-nil}
-use Rattle.std.proofs.lemmas.Bool.{cases_lt}
-use Rattle.std.proofs.lemmas.Bool.Decides.{nat_tests}
+use Rattle.std.proofs.lemmas.Bool.{cases_lt, le-leb, lt-leb}
 use Rattle.std.proofs.lemmas.List.{drop_all, take_more}
 use Rattle.std.specs.Cow.{cow_str_bytes}
 use Rattle.jsonb_value.specs.Tree.{Mark}
@@ -11,30 +10,24 @@ use Rattle.jsonb.specs.AstView.{Written}
 use Rattle.jsonb.specs.Source.{Source, SourceMembers, no_source_members, more_source_members, source_view, sources_view, source_members_view, sources_eq, source_members_eq}
 use Rattle.jsonb.specs.declared.parser.ast.JsonAst.{JsonAst, Null}
 
-no_longer : (m n : ℕ) → m ≤ n → leb m n ≡ true
-no_longer m n h = grind (arith, nat_tests)
-
-longer : (m n : ℕ) → n < m → leb m n ≡ false
-longer m n h = grind (arith, nat_tests)
-
 -- the first row has ended: they are the same where the second has too
 pub items_ended : (xs ys : List JsonAst) (i : ℕ) → length xs ≤ i → i ≤ length xs
     → leb (length ys) (length xs) ≡ sources_eq (sources_view (drop i xs)) (sources_view (drop i ys))
 items_ended xs ys i h k = elim (cases_lt i (length ys)) [
-  | inl goes_on ↦ longer (length ys) (length xs) (omega arith) ∙ rw (drop_all i xs h, drop-cons ys i Null goes_on) refl
-  | inr ended ↦ no_longer (length ys) (length xs) (omega arith) ∙ rw (drop_all i xs h, drop_all i ys ended) refl
+  | inl goes_on ↦ lt-leb (length ys) (length xs) (omega arith) ∙ rw (drop_all i xs h, drop-cons ys i Null goes_on) refl
+  | inr ended ↦ le-leb (length ys) (length xs) (omega arith) ∙ rw (drop_all i xs h, drop_all i ys ended) refl
 ]
 
 ended_by : (xs ys : List Written) (d : Written) (i : ℕ) → length xs ≤ i → i ≤ length xs
     → leb (length ys) (length xs) ≡ source_members_eq (source_members_view (drop i xs)) (source_members_view (drop i ys))
 ended_by xs ys d i h k = elim (cases_lt i (length ys)) [
-  | inl goes_on ↦ longer (length ys) (length xs) (omega arith) ∙ rw (drop_all i xs h, drop-cons ys i d goes_on) refl
-  | inr ended ↦ no_longer (length ys) (length xs) (omega arith) ∙ rw (drop_all i xs h, drop_all i ys ended) refl
+  | inl goes_on ↦ lt-leb (length ys) (length xs) (omega arith) ∙ rw (drop_all i xs h, drop-cons ys i d goes_on) refl
+  | inr ended ↦ le-leb (length ys) (length xs) (omega arith) ∙ rw (drop_all i xs h, drop_all i ys ended) refl
 ]
 
 pub members_ended : (xs ys : List Written) (i : ℕ) → length xs ≤ i → i ≤ length xs
     → leb (length ys) (length xs) ≡ source_members_eq (source_members_view (drop i xs)) (source_members_view (drop i ys))
-members_ended xs [] i h k = no_longer 0 (length xs) (omega arith) ∙ rw (drop_all i xs h, drop-nil i) refl
+members_ended xs [] i h k = le-leb 0 (length xs) (omega arith) ∙ rw (drop_all i xs h, drop-nil i) refl
 members_ended xs (y ∷ ys) i h k = ended_by xs (y ∷ ys) y i h k
 
 source_members_push : SourceMembers → Mark → List ℕ → Source → ℕ → SourceMembers

@@ -1,5 +1,5 @@
 -- Tests and steps that may fail, by their outcome.
-use Rattle.std.proofs.Common.{◌≡◌, ℕ, Bool, true, false, cond, ◌||◌, ◌⊎◌, inl, inr, List, Result, Ok, Err, refl, ap, eqb, eq-eqb}
+use Rattle.std.proofs.Common.{◌≡◌, ℕ, Bool, true, false, cond, ◌⊎◌, inl, inr, List, Result, Ok, Err, refl, ap, eqb, eq-eqb}
 use Rattle.jsonb_value.specs.Code.{Code}
 use Rattle.jsonb.specs.Reading.{Fault, Read, refused, ◌>>=◌}
 
@@ -7,26 +7,6 @@ use Rattle.jsonb.specs.Reading.{Fault, Read, refused, ◌>>=◌}
 pub chosen : {A : Type 0} (b : Bool) (x y z : A) → cond b x y ≡ z → ((b ≡ true) × (x ≡ z)) ⊎ ((b ≡ false) × (y ≡ z))
 chosen true x y z e = inl (refl, e)
 chosen false x y z e = inr (refl, e)
-
-pub if-false : {A : Type 0} (b : Bool) (x y : A) → b ≡ false → cond b x y ≡ y
-if-false true x y e = absurd cc
-if-false false x y e = refl
-
-pub if-true : {A : Type 0} (b : Bool) (x y : A) → b ≡ true → cond b x y ≡ x
-if-true true x y e = refl
-if-true false x y e = absurd cc
-
-pub or_true : (a b : Bool) → (a || b) ≡ true → (a ≡ true) ⊎ (b ≡ true)
-or_true true b e = inl refl
-or_true false b e = inr e
-
-pub record BothFalse (a b : Bool) : Type 0 where
-  pub first : a ≡ false
-  pub second : b ≡ false
-
-pub or_false : (a b : Bool) → (a || b) ≡ false → BothFalse a b
-or_false true b e = absurd cc
-or_false false b e = record { first = refl; second = e }
 
 -- the value of a step that did not fail
 pub bind_ok : {A B : Type 0} (r : Result A Fault) (f : A → Result B Fault) (y : B) → (r >>= f) ≡ Ok y → (x : A) × (r ≡ Ok x) × (f x ≡ Ok y)

@@ -2,7 +2,7 @@
 use Rattle.std.proofs.Common.{List, [], ◌∷◌, ◌≡◌, ◌≢◌, ℕ, zero, suc, ◌+◌, ◌-◌, ◌/◌, ◌≤◌, ◌<◌, ◌++◌, length, take, drop, get_or, Bool, true, false, true≢false, cond, eqb, ltb, leb, ◌&&◌, ◌||◌, Result, Ok, Err, ◌⊎◌, inl, inr, ⊎_elim, sym, ap, ◌∙◌, subst, arith, refl, length-append, ne_eqb, lt-ltb, le-ltb}
 use Rattle.std.proofs.lemmas.List.{append_assoc, take_at, drop_all, drop_at, drop_more, drop-drop, get_or_at, length-take-le, take-append-drop}
 use Rattle.std.proofs.lemmas.Str.{encode_ascii, IsUtf8-from_is_utf8, is_utf8-from_IsUtf8}
-use Rattle.std.proofs.lemmas.Bool.{cases_Bool, cases_lt}
+use Rattle.std.proofs.lemmas.Bool.{cases_Bool, cases_lt, cond-false, cond-true, and_parts}
 use Rattle.std.proofs.lemmas.Bool.Decides.{nat_tests}
 use lib.Utf8.{next, scalar, scalars}
 use Rattle.std.specs.List.{AllByRecursion}
@@ -15,7 +15,7 @@ use Rattle.jsonb.specs.Reading.{Read, fault}
 use Rattle.jsonb.specs.Reading.BareKey.{bare_key_at, is_key_ascii, key_chosen, key_end, key_from, key_step, key_to, text_key}
 use Rattle.jsonb.specs.Reading.Blank.{is_break}
 use Rattle.jsonb.specs.Reading.String.{further}
-use Rattle.jsonb.proofs.Steps.Tests.{chosen, if-false, if-true, same_read}
+use Rattle.jsonb.proofs.Steps.Tests.{chosen, same_read}
 use Rattle.jsonb.proofs.Containers.JoinedParts.{break_is}
 use Rattle.jsonb.proofs.Strings.Ends.{further-further, further-zero, ok_further}
 
@@ -59,10 +59,10 @@ high_no_ascii : (b : ℕ) → 128 ≤ b → is_key_ascii b ≡ false
 high_no_ascii b high = ⊎_elim (λ t. absurd (omega (arith, high, ascii_low b (ascii_is b t)))) (λ f. f) (cases_Bool (is_key_ascii b))
 
 key_step-ascii : (b : ℕ) → is_key_ascii b ≡ true → key_step b ≡ 1
-key_step-ascii b e = if-true (is_key_ascii b) 1 (cond (ltb b 192) 0 (cond (ltb b 224) 2 (cond (ltb b 240) 3 4))) e
+key_step-ascii b e = cond-true (is_key_ascii b) 1 (cond (ltb b 192) 0 (cond (ltb b 224) 2 (cond (ltb b 240) 3 4))) e
 
 key_step-past : (b : ℕ) → is_key_ascii b ≡ false → key_step b ≡ cond (ltb b 192) 0 (cond (ltb b 224) 2 (cond (ltb b 240) 3 4))
-key_step-past b e = if-false (is_key_ascii b) 1 (cond (ltb b 192) 0 (cond (ltb b 224) 2 (cond (ltb b 240) 3 4))) e
+key_step-past b e = cond-false (is_key_ascii b) 1 (cond (ltb b 192) 0 (cond (ltb b 224) 2 (cond (ltb b 240) 3 4))) e
 
 -- ---- a character's first byte
 
@@ -87,17 +87,17 @@ unfolding encode_utf8
 encode_past c past = ap (λ b. cond b (c ∷ []) (cond (ltb c 2048) (two_bytes c) (cond (ltb c 65536) (three_bytes c) (four_bytes c)))) (le-ltb c 128 past)
 
 step-two : (b : ℕ) → 192 ≤ b → b < 224 → key_step b ≡ 2
-step-two b low high = key_step-past b (high_no_ascii b (omega (arith, low))) ∙ if-false (ltb b 192) 0 (cond (ltb b 224) 2 (cond (ltb b 240) 3 4)) (le-ltb b 192 low) ∙ if-true (ltb b 224) 2 (cond (ltb b 240) 3 4) (lt-ltb b 224 high)
+step-two b low high = key_step-past b (high_no_ascii b (omega (arith, low))) ∙ cond-false (ltb b 192) 0 (cond (ltb b 224) 2 (cond (ltb b 240) 3 4)) (le-ltb b 192 low) ∙ cond-true (ltb b 224) 2 (cond (ltb b 240) 3 4) (lt-ltb b 224 high)
 
 step-three : (b : ℕ) → 224 ≤ b → b < 240 → key_step b ≡ 3
 step-three b low high =
-    key_step-past b (high_no_ascii b (omega (arith, low))) ∙ if-false (ltb b 192) 0 (cond (ltb b 224) 2 (cond (ltb b 240) 3 4)) (le-ltb b 192 (omega (arith, low))) ∙ if-false (ltb b 224) 2 (cond (ltb b 240) 3 4) (le-ltb b 224 low)
-    ∙ if-true (ltb b 240) 3 4 (lt-ltb b 240 high)
+    key_step-past b (high_no_ascii b (omega (arith, low))) ∙ cond-false (ltb b 192) 0 (cond (ltb b 224) 2 (cond (ltb b 240) 3 4)) (le-ltb b 192 (omega (arith, low))) ∙ cond-false (ltb b 224) 2 (cond (ltb b 240) 3 4) (le-ltb b 224 low)
+    ∙ cond-true (ltb b 240) 3 4 (lt-ltb b 240 high)
 
 step-four : (b : ℕ) → 240 ≤ b → key_step b ≡ 4
 step-four b low =
-    key_step-past b (high_no_ascii b (omega (arith, low))) ∙ if-false (ltb b 192) 0 (cond (ltb b 224) 2 (cond (ltb b 240) 3 4)) (le-ltb b 192 (omega (arith, low))) ∙ if-false (ltb b 224) 2 (cond (ltb b 240) 3 4) (le-ltb b 224 (omega (arith, low)))
-    ∙ if-false (ltb b 240) 3 4 (le-ltb b 240 low)
+    key_step-past b (high_no_ascii b (omega (arith, low))) ∙ cond-false (ltb b 192) 0 (cond (ltb b 224) 2 (cond (ltb b 240) 3 4)) (le-ltb b 192 (omega (arith, low))) ∙ cond-false (ltb b 224) 2 (cond (ltb b 240) 3 4) (le-ltb b 224 (omega (arith, low)))
+    ∙ cond-false (ltb b 240) 3 4 (le-ltb b 240 low)
 
 lead : (c : ℕ) → 128 ≤ c → Lead c
 lead c past =
@@ -217,10 +217,10 @@ bare_complete size core rest b k ends =
     let low : leb 128 (get_or bytes (length core) 0) ≡ false = ap (leb 128) at ∙ low_is b (break_low b ends) in
     let front : take (length core) bytes ≡ core = take_at core (b ∷ rest) (length core) refl in
     let back : drop (length core) bytes ≡ b ∷ rest = drop_at core (b ∷ rest) (length core) refl in
-    ap (bare_key_at size) opened ∙ if-false (is_ascii_digit s.first) (fault object_key_invalid_number (size - length (s.first ∷ (s.others ++ b ∷ rest)) + 1)) (key_to size (s.first ∷ (s.others ++ b ∷ rest)) (key_end (s.first ∷ (s.others ++ b ∷ rest)))) s.no_digit
+    ap (bare_key_at size) opened ∙ cond-false (is_ascii_digit s.first) (fault object_key_invalid_number (size - length (s.first ∷ (s.others ++ b ∷ rest)) + 1)) (key_to size (s.first ∷ (s.others ++ b ∷ rest)) (key_end (s.first ∷ (s.others ++ b ∷ rest)))) s.no_digit
     ∙ ap (λ (u : List ℕ). key_to size u (key_end u)) (sym opened) ∙ ap (key_to size bytes) found
-    ∙ if-false (eqb (length core) 0 || leb 128 (get_or bytes (length core) 0)) (fault object_key_invalid_character (size - length bytes + length core)) (text_key size bytes (length core)) (both some low)
-    ∙ if-true (is_utf8 (take (length core) bytes)) (Ok ((plain, take (length core) bytes), drop (length core) bytes)) (fault invalid_string_value (size - length bytes + length core)) (ap is_utf8 front ∙ is_utf8-from_IsUtf8 core (key_is_text core k))
+    ∙ cond-false (eqb (length core) 0 || leb 128 (get_or bytes (length core) 0)) (fault object_key_invalid_character (size - length bytes + length core)) (text_key size bytes (length core)) (both some low)
+    ∙ cond-true (is_utf8 (take (length core) bytes)) (Ok ((plain, take (length core) bytes), drop (length core) bytes)) (fault invalid_string_value (size - length bytes + length core)) (ap is_utf8 front ∙ is_utf8-from_IsUtf8 core (key_is_text core k))
     ∙ ap (λ (u : List ℕ). Ok ((plain, u), drop (length core) bytes)) front ∙ ap (λ (u : List ℕ). Ok ((plain, core), u)) back
   where
     no_zero : (n : ℕ) → 0 < n → eqb n 0 ≡ false
@@ -264,7 +264,7 @@ each_found (c ∷ cs) more e =
         ⊎_elim (λ t. t)
         (λ f.
         let one = encode_ascii d low in
-        let none : key_step d ≡ 0 = key_step-past d f ∙ if-true (ltb d 192) 0 (cond (ltb d 224) 2 (cond (ltb d 240) 3 4)) (lt-ltb d 192 (omega (arith, low))) in
+        let none : key_step d ≡ 0 = key_step-past d f ∙ cond-true (ltb d 192) 0 (cond (ltb d 224) 2 (cond (ltb d 240) 3 4)) (lt-ltb d 192 (omega (arith, low))) in
         let zero_end : ◌≡◌ {A = Result ℕ ℕ} (Ok 0) (Ok (length (encode_utf8 d ++ us))) = sym (key_end-here d later none) ∙ ap (λ (u : List ℕ). key_end (u ++ later)) (sym one) ∙ h in
         let same : 0 ≡ length (encode_utf8 d ++ us) = cc in
         absurd (omega (arith, same, length-append (encode_utf8 d) us, ap length one)))
@@ -272,10 +272,6 @@ each_found (c ∷ cs) more e =
 
     character : (d : ℕ) (us later : List ℕ) → key_end (encode_utf8 d ++ later) ≡ Ok (length (encode_utf8 d ++ us)) → IsKeyCharacter d
     character d us later h = ⊎_elim (λ low. inl (ascii_is d (low_character d us later low h))) (λ past. inr past) (cases_lt d 128)
-
-and_parts : (a b : Bool) → (a && b) ≡ true → (a ≡ true) × (b ≡ true)
-and_parts true b e = (refl, e)
-and_parts false b e = absurd (true≢false (sym e))
 
 all_scalars : (cs : List ℕ) → scalars cs ≡ true → AllByRecursion IsScalar cs
 all_scalars [] e = tt
@@ -396,7 +392,7 @@ pub bare-digit : (size : ℕ) (bytes : List ℕ) (b : ℕ) (more : List ℕ) (i 
 unfolding bare_key_at
 bare-digit size bytes b more i e digit at =
     let place : size - length (b ∷ more) + 1 ≡ i + 1 = omega (arith, at, ap length e) in
-    ap (bare_key_at size) e ∙ if-true (is_ascii_digit b) (fault object_key_invalid_number (size - length (b ∷ more) + 1)) (key_to size (b ∷ more) (key_end (b ∷ more))) digit
+    ap (bare_key_at size) e ∙ cond-true (is_ascii_digit b) (fault object_key_invalid_number (size - length (b ∷ more) + 1)) (key_to size (b ∷ more) (key_end (b ∷ more))) digit
     ∙ ap (λ (k : ℕ). Err (record { code = object_key_invalid_number; place = k })) place
 
 -- bytes whose first one is no digit
@@ -410,7 +406,7 @@ bare-on : (size : ℕ) (bytes : List ℕ) → BeginsBare bytes → bare_key_at s
 unfolding bare_key_at
 bare-on size bytes s =
     ap (bare_key_at size) s.whole
-    ∙ if-false (is_ascii_digit s.first) (fault object_key_invalid_number (size - length (s.first ∷ s.others) + 1)) (key_to size (s.first ∷ s.others) (key_end (s.first ∷ s.others))) s.no_digit
+    ∙ cond-false (is_ascii_digit s.first) (fault object_key_invalid_number (size - length (s.first ∷ s.others) + 1)) (key_to size (s.first ∷ s.others) (key_end (s.first ∷ s.others))) s.no_digit
     ∙ ap (λ (u : List ℕ). key_to size u (key_end u)) (sym s.whole)
 
 pub bare-past : (size : ℕ) (bytes : List ℕ) (at i : ℕ) → BeginsBare bytes → key_end bytes ≡ Err at → size - length bytes ≡ i → bare_key_at size bytes ≡ Err (record { code = invalid_eof; place = i + at })
@@ -426,7 +422,7 @@ pub bare-character : (size : ℕ) (bytes : List ℕ) (end i : ℕ) → BeginsBar
 bare-character size bytes end i s found wrong index =
     let test : (eqb end 0 || leb 128 (get_or bytes end 0)) ≡ true =
     ⊎_elim (λ (e : end ≡ 0). ap (λ (n : ℕ). eqb n 0 || leb 128 (get_or bytes end 0)) e) (λ high. ap (λ (t : Bool). eqb end 0 || t) (high_is (get_or bytes end 0) high) ∙ or_so (eqb end 0)) wrong in
-    key-stopped size bytes end s found ∙ if-true (eqb end 0 || leb 128 (get_or bytes end 0)) (fault object_key_invalid_character (size - length bytes + end)) (text_key size bytes end) test
+    key-stopped size bytes end s found ∙ cond-true (eqb end 0 || leb 128 (get_or bytes end 0)) (fault object_key_invalid_character (size - length bytes + end)) (text_key size bytes end) test
     ∙ ap (λ (k : ℕ). Err (record { code = object_key_invalid_character; place = k + end })) index
   where
     high_is : (n : ℕ) → 128 ≤ n → leb 128 n ≡ true
@@ -439,7 +435,7 @@ bare-character size bytes end i s found wrong index =
 key-text : (size : ℕ) (bytes : List ℕ) (end : ℕ) → BeginsBare bytes → key_end bytes ≡ Ok end → end ≢ 0 → get_or bytes end 0 < 128 → bare_key_at size bytes ≡ text_key size bytes end
 key-text size bytes end s found some low =
     let test : (eqb end 0 || leb 128 (get_or bytes end 0)) ≡ false = ap (λ (t : Bool). t || leb 128 (get_or bytes end 0)) (ne_eqb end 0 some) ∙ low_is (get_or bytes end 0) low in
-    key-stopped size bytes end s found ∙ if-false (eqb end 0 || leb 128 (get_or bytes end 0)) (fault object_key_invalid_character (size - length bytes + end)) (text_key size bytes end) test
+    key-stopped size bytes end s found ∙ cond-false (eqb end 0 || leb 128 (get_or bytes end 0)) (fault object_key_invalid_character (size - length bytes + end)) (text_key size bytes end) test
   where
     low_is : (n : ℕ) → n < 128 → leb 128 n ≡ false
     low_is n h = grind (arith, nat_tests)
@@ -447,12 +443,12 @@ key-text size bytes end s found some low =
 pub bare-text : (size : ℕ) (bytes : List ℕ) (end : ℕ) → BeginsBare bytes → key_end bytes ≡ Ok end → end ≢ 0 → get_or bytes end 0 < 128 → IsUtf8 (take end bytes) → bare_key_at size bytes ≡ Ok ((plain, take end bytes), drop end bytes)
 bare-text size bytes end s found some low utf8 =
     key-text size bytes end s found some low
-    ∙ if-true (is_utf8 (take end bytes)) (Ok ((plain, take end bytes), drop end bytes)) (fault invalid_string_value (size - length bytes + end)) (is_utf8-from_IsUtf8 (take end bytes) utf8)
+    ∙ cond-true (is_utf8 (take end bytes)) (Ok ((plain, take end bytes), drop end bytes)) (fault invalid_string_value (size - length bytes + end)) (is_utf8-from_IsUtf8 (take end bytes) utf8)
 
 pub bare-no_text : (size : ℕ) (bytes : List ℕ) (end i : ℕ) → BeginsBare bytes → key_end bytes ≡ Ok end → end ≢ 0 → get_or bytes end 0 < 128 → ¬ (IsUtf8 (take end bytes)) → size - length bytes ≡ i
     → bare_key_at size bytes ≡ Err (record { code = invalid_string_value; place = i + end })
 bare-no_text size bytes end i s found some low none index =
     let test : is_utf8 (take end bytes) ≡ false = ⊎_elim (λ t. absurd (none (IsUtf8-from_is_utf8 (take end bytes) t))) (λ f. f) (cases_Bool (is_utf8 (take end bytes))) in
     key-text size bytes end s found some low
-    ∙ if-false (is_utf8 (take end bytes)) (Ok ((plain, take end bytes), drop end bytes)) (fault invalid_string_value (size - length bytes + end)) test
+    ∙ cond-false (is_utf8 (take end bytes)) (Ok ((plain, take end bytes), drop end bytes)) (fault invalid_string_value (size - length bytes + end)) test
     ∙ ap (λ (k : ℕ). Err (record { code = invalid_string_value; place = k + end })) index

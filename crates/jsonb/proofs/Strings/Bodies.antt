@@ -1,7 +1,7 @@
 -- The bodies of strings with and without a backslash, and steps of the search for a string's end.
 use Rattle.std.proofs.Common.{List, [], ◌∷◌, ◌≡◌, ◌≢◌, ℕ, zero, suc, ◌+◌, ◌-◌, ◌≤◌, ◌<◌, length, take, drop, get_or, map, Contains, Bool, true, false, ◌||◌, eqb, Ok, Err, ⊎_elim, inr, sym, ap, ◌∙◌, subst, arith, refl, eq-eqb, ne_eqb}
 use Rattle.std.proofs.lemmas.List.{get_or-drop, get_or_default, length-drop, drop_more, drop-drop, drop_all, get_or-take, length-take-le}
-use Rattle.std.proofs.lemmas.Bool.{cases_lt}
+use Rattle.std.proofs.lemmas.Bool.{cases_lt, cond-false}
 use Rattle.memchr.specs.Find.{is_byte2}
 use Rattle.std.specs.Str.{IsUtf8}
 use Rattle.std.specs.List.{flat_map, AllByRecursion}
@@ -19,7 +19,6 @@ use Rattle.jsonb.specs.QuotedString.{ReadsBody}
 use Rattle.jsonb.specs.Parser.{Fails}
 use Rattle.jsonb.specs.Reading.{fault}
 use Rattle.jsonb.specs.Reading.String.{body_of, further, quote_from, quote_end, decoded, closed, string_at}
-use Rattle.jsonb.proofs.Steps.Tests.{if-false}
 use Rattle.jsonb.proofs.Strings.Decoding.{spelling-raw, items-raw}
 use Rattle.jsonb.proofs.Strings.Items.{body_complete, body_faulty}
 use Rattle.jsonb.proofs.Strings.Ends.{quote_end-step, further-zero, further-further, quote_end-here}
@@ -83,7 +82,7 @@ search_step quote bytes at n within other step s =
 
 search_raw : (quote : ℕ) (bytes : List ℕ) (at : ℕ) → at < length bytes → get_or bytes at 0 ≢ quote → get_or bytes at 0 ≢ 92 → SearchFrom quote bytes at → SearchFrom quote bytes (at + 1)
 search_raw quote bytes at within other no_backslash s =
-    let one : item_step (get_or bytes at 0 ∷ drop (at + 1) bytes) ≡ 1 = if-false (eqb (get_or bytes at 0) 92) (1 + escape_step (drop (at + 1) bytes)) 1 (ne_eqb (get_or bytes at 0) 92 no_backslash) in
+    let one : item_step (get_or bytes at 0 ∷ drop (at + 1) bytes) ≡ 1 = cond-false (eqb (get_or bytes at 0) 92) (1 + escape_step (drop (at + 1) bytes)) 1 (ne_eqb (get_or bytes at 0) 92 no_backslash) in
     search_step quote bytes at 0 within other one s
 
 -- an escape is stepped over

@@ -3,6 +3,7 @@ use Rattle.std.proofs.Common.{List, [], ◌∷◌, ◌≡◌, ◌≢◌, ℕ, ze
 use Rattle.std.proofs.lemmas.List.{append_assoc, take_at, drop_at, drop_more, take-append-drop, length-take-le}
 use Rattle.std.specs.List.{flat_map, AllByRecursion}
 use Rattle.std.specs.Str.{IsUtf8}
+use Rattle.std.proofs.lemmas.Bool.{cond-false, cond-true}
 use Rattle.jsonb_value.specs.Mode.{Mode}
 use Rattle.jsonb_value.specs.Tree.{Mark}
 use Rattle.jsonb_value.specs.Code.{invalid_eof}
@@ -12,7 +13,7 @@ use Rattle.jsonb_value.specs.Grammar.Quoted.{MayStandIn, Quoted}
 use Rattle.jsonb_value.proofs.Strings.Spelling.{item_step-spelling}
 use Rattle.jsonb.specs.Reading.{Read, fault}
 use Rattle.jsonb.specs.Reading.String.{Body, body_of, further, quote_from, quote_end, decoded, closed, string_at}
-use Rattle.jsonb.proofs.Steps.Tests.{chosen, if-true, if-false, eqb_self, same_read}
+use Rattle.jsonb.proofs.Steps.Tests.{chosen, eqb_self, same_read}
 use Rattle.jsonb.proofs.Strings.Items.{Means, length-spelling, body_complete, body_sound}
 
 -- ---- steps of the search
@@ -36,7 +37,7 @@ quote_from-drop quote (suc passed) (b ∷ bytes) =
 
 pub quote_end-here : (quote : ℕ) (bytes : List ℕ) → quote_end quote (quote ∷ bytes) ≡ Ok 0
 unfolding quote_from
-quote_end-here quote bytes = if-true (eqb quote quote) (Ok 0) (further 1 (quote_from quote (item_step (quote ∷ bytes) - 1) bytes)) (eqb_self quote)
+quote_end-here quote bytes = cond-true (eqb quote quote) (Ok 0) (further 1 (quote_from quote (item_step (quote ∷ bytes) - 1) bytes)) (eqb_self quote)
 
 -- a step over the first item
 pub quote_end-step : (quote b n : ℕ) (bytes : List ℕ) → b ≢ quote → item_step (b ∷ bytes) ≡ suc n → quote_end quote (b ∷ bytes) ≡ further (suc n) (quote_end quote (drop n bytes))
@@ -44,7 +45,7 @@ unfolding quote_from
 quote_end-step quote b n bytes other step =
     let count : item_step (b ∷ bytes) - 1 ≡ n = omega (arith, step) in
     let same : 1 + n ≡ suc n = omega arith in
-    if-false (eqb b quote) (Ok 0) (further 1 (quote_from quote (item_step (b ∷ bytes) - 1) bytes)) (ne_eqb b quote other)
+    cond-false (eqb b quote) (Ok 0) (further 1 (quote_from quote (item_step (b ∷ bytes) - 1) bytes)) (ne_eqb b quote other)
     ∙ ap (λ (k : ℕ). further 1 (quote_from quote k bytes)) count ∙ ap (further 1) (quote_from-drop quote n bytes) ∙ further-further 1 n (quote_end quote (drop n bytes))
     ∙ ap (λ (k : ℕ). further k (quote_end quote (drop n bytes))) same
 

@@ -2,7 +2,7 @@
 use Rattle.std.proofs.Common.{List, [], ◌∷◌, ◌≡◌, ◌≢◌, ℕ, zero, suc, ◌+◌, ◌≤◌, ◌++◌, length, take, drop, get_or, Bool, true, false, cond, eqb, ltb, Option, Some, None, Ok, Err, ⊎_elim, inl, inr, sym, ap, ◌∙◌, subst, arith, refl, length-append, eqb-true, eq-eqb, ne_eqb, ltb-true, All}
 use Rattle.std.proofs.lemmas.List.{append_assoc, append-nil, take_at, drop_at, get_or_at, get_or_append_left, take-append-drop, length-take-le}
 use Rattle.std.proofs.lemmas.List.Elements.{All-from_recursion}
-use Rattle.std.proofs.lemmas.Bool.{cases_Bool, eqb-false, lt-ltb, le-ltb, ltb-false}
+use Rattle.std.proofs.lemmas.Bool.{cases_Bool, eqb-false, lt-ltb, le-ltb, ltb-false, cond-false, cond-true}
 use Rattle.std.proofs.lemmas.Str.{IsUtf8-from_is_utf8, is_utf8-from_IsUtf8}
 use Rattle.std.specs.Char.{digit_value}
 use Rattle.std.specs.Str.{is_utf8, IsUtf8}
@@ -13,9 +13,9 @@ use Rattle.jsonb_value.specs.Code.{Code, invalid_string_value, invalid_escaped, 
 use Rattle.jsonb_value.specs.Grammar.StringBody.{Item, raw, escape, unit, after_u, spelling, IsItem, IsHexDigit, IsBody, escaped_byte, meaning}
 use Rattle.jsonb_value.specs.Grammar.StringFault.{IsUnitCut, BadUnit, cut_unit, bad_digit, BadEscape, cut_escape, unknown_escape, bad_unit, IsCutShort, IsNoText, IsFaultyBody}
 use Rattle.jsonb_value.specs.Grammar.Quoted.{mark_of}
-use Rattle.jsonb_value.proofs.Strings.Spelling.{escape_is_not_u}
+use Rattle.jsonb_value.proofs.Strings.Spelling.{escape_is_not_u, spelling_not_empty}
 use Rattle.jsonb.specs.Reading.String.{Body, non_digit, checked_unit, unit_of, unit_at, known_escape, escape_at, item_at, onto, then_items, items_within, meaning_of, body_of}
-use Rattle.jsonb.proofs.Steps.Tests.{chosen, if-true, if-false}
+use Rattle.jsonb.proofs.Steps.Tests.{chosen}
 
 -- ---- digits
 
@@ -27,12 +27,12 @@ all_rest b bytes all k d low = all (suc k) d (omega (arith, low))
 
 non_digit-all : (bytes : List ℕ) → All IsHexDigit bytes → non_digit bytes ≡ None
 non_digit-all [] all = refl
-non_digit-all (b ∷ bytes) all = if-true (ltb (digit_value b) 16) (non_digit bytes) (Some b) (lt-ltb (digit_value b) 16 (all 0 0 (omega arith))) ∙ non_digit-all bytes (all_rest b bytes all)
+non_digit-all (b ∷ bytes) all = cond-true (ltb (digit_value b) 16) (non_digit bytes) (Some b) (lt-ltb (digit_value b) 16 (all 0 0 (omega arith))) ∙ non_digit-all bytes (all_rest b bytes all)
 
 non_digit-first : (digits : List ℕ) (b : ℕ) (more : List ℕ) → All IsHexDigit digits → ¬ (IsHexDigit b) → non_digit (digits ++ b ∷ more) ≡ Some b
-non_digit-first [] b more all here = if-false (ltb (digit_value b) 16) (non_digit more) (Some b) (digit_high b here)
+non_digit-first [] b more all here = cond-false (ltb (digit_value b) 16) (non_digit more) (Some b) (digit_high b here)
 non_digit-first (d ∷ digits) b more all here =
-    if-true (ltb (digit_value d) 16) (non_digit (digits ++ b ∷ more)) (Some d) (lt-ltb (digit_value d) 16 (all 0 0 (omega arith))) ∙ non_digit-first digits b more (all_rest d digits all) here
+    cond-true (ltb (digit_value d) 16) (non_digit (digits ++ b ∷ more)) (Some d) (lt-ltb (digit_value d) 16 (all 0 0 (omega arith))) ∙ non_digit-first digits b more (all_rest d digits all) here
 
 digits_from_none : (bytes : List ℕ) → non_digit bytes ≡ None → AllByRecursion IsHexDigit bytes
 digits_from_none [] e = tt
@@ -139,9 +139,9 @@ unit-opened bytes digits rest split four =
     let open_brace : get_or bytes 0 0 ≡ 123 = ap (λ xs. get_or xs 0 0) whole in
     let close_brace : get_or bytes 5 0 ≡ 125 = ap (λ xs. get_or xs 5 0) whole ∙ get_or_at (123 ∷ digits) 125 rest 0 5 (omega (arith, four)) in
     let inner : take 4 (drop 1 bytes) ≡ digits = ap (λ xs. take 4 (drop 1 xs)) whole ∙ take_at digits (125 ∷ rest) 4 four in
-    if-false (ltb (length bytes) 4) (Err (unexpected_end_of_hex_escape, 2)) (cond (eqb (get_or bytes 0 0) 123) (cond (eqb (get_or bytes 5 0) 125) (unit_of true (take 4 (drop 1 bytes))) (Err (unexpected_end_of_hex_escape, 2))) (unit_of false (take 4 bytes))) long
-    ∙ if-true (eqb (get_or bytes 0 0) 123) (cond (eqb (get_or bytes 5 0) 125) (unit_of true (take 4 (drop 1 bytes))) (Err (unexpected_end_of_hex_escape, 2))) (unit_of false (take 4 bytes)) (eq-eqb (get_or bytes 0 0) 123 open_brace)
-    ∙ if-true (eqb (get_or bytes 5 0) 125) (unit_of true (take 4 (drop 1 bytes))) (Err (unexpected_end_of_hex_escape, 2)) (eq-eqb (get_or bytes 5 0) 125 close_brace)
+    cond-false (ltb (length bytes) 4) (Err (unexpected_end_of_hex_escape, 2)) (cond (eqb (get_or bytes 0 0) 123) (cond (eqb (get_or bytes 5 0) 125) (unit_of true (take 4 (drop 1 bytes))) (Err (unexpected_end_of_hex_escape, 2))) (unit_of false (take 4 bytes))) long
+    ∙ cond-true (eqb (get_or bytes 0 0) 123) (cond (eqb (get_or bytes 5 0) 125) (unit_of true (take 4 (drop 1 bytes))) (Err (unexpected_end_of_hex_escape, 2))) (unit_of false (take 4 bytes)) (eq-eqb (get_or bytes 0 0) 123 open_brace)
+    ∙ cond-true (eqb (get_or bytes 5 0) 125) (unit_of true (take 4 (drop 1 bytes))) (Err (unexpected_end_of_hex_escape, 2)) (eq-eqb (get_or bytes 5 0) 125 close_brace)
     ∙ ap (unit_of true) inner
 
 unit-bare : (bytes digits rest : List ℕ) → bytes ≡ digits ++ rest → length digits ≡ 4 → get_or digits 0 0 ≢ 123 → unit_at bytes ≡ unit_of false digits
@@ -150,8 +150,8 @@ unit-bare bytes digits rest split four other =
     let long : ltb (length bytes) 4 ≡ false = le-ltb (length bytes) 4 (omega (arith, ap length split, length-append digits rest)) in
     let first : get_or bytes 0 0 ≡ get_or digits 0 0 = ap (λ xs. get_or xs 0 0) split ∙ get_or_append_left digits rest 0 0 (omega (arith, four)) in
     let inner : take 4 bytes ≡ digits = ap (take 4) split ∙ take_at digits rest 4 four in
-    if-false (ltb (length bytes) 4) (Err (unexpected_end_of_hex_escape, 2)) (cond (eqb (get_or bytes 0 0) 123) (cond (eqb (get_or bytes 5 0) 125) (unit_of true (take 4 (drop 1 bytes))) (Err (unexpected_end_of_hex_escape, 2))) (unit_of false (take 4 bytes))) long
-    ∙ if-false (eqb (get_or bytes 0 0) 123) (cond (eqb (get_or bytes 5 0) 125) (unit_of true (take 4 (drop 1 bytes))) (Err (unexpected_end_of_hex_escape, 2))) (unit_of false (take 4 bytes)) (ne_eqb (get_or bytes 0 0) 123 (λ e. other (sym first ∙ e)))
+    cond-false (ltb (length bytes) 4) (Err (unexpected_end_of_hex_escape, 2)) (cond (eqb (get_or bytes 0 0) 123) (cond (eqb (get_or bytes 5 0) 125) (unit_of true (take 4 (drop 1 bytes))) (Err (unexpected_end_of_hex_escape, 2))) (unit_of false (take 4 bytes))) long
+    ∙ cond-false (eqb (get_or bytes 0 0) 123) (cond (eqb (get_or bytes 5 0) 125) (unit_of true (take 4 (drop 1 bytes))) (Err (unexpected_end_of_hex_escape, 2))) (unit_of false (take 4 bytes)) (ne_eqb (get_or bytes 0 0) 123 (λ e. other (sym first ∙ e)))
     ∙ ap (unit_of false) inner
 
 unit-either : (braces : Bool) (bytes digits rest : List ℕ) → bytes ≡ after_u braces digits ++ rest → length digits ≡ 4 → (braces ≡ false → get_or digits 0 0 ≢ 123) → unit_at bytes ≡ unit_of braces digits
@@ -163,7 +163,7 @@ bare_digits braces digits four each e = λ first. first_no_brace digits [] four 
 
 escape-letter : (mode : Mode) (letter : ℕ) (bytes : List ℕ) → letter ≢ 117 → escape_at mode (letter ∷ bytes) ≡ known_escape letter (escaped_byte mode letter)
 unfolding escape_at
-escape-letter mode letter bytes other = if-false (eqb letter 117) (unit_at bytes) (known_escape letter (escaped_byte mode letter)) (ne_eqb letter 117 other)
+escape-letter mode letter bytes other = cond-false (eqb letter 117) (unit_at bytes) (known_escape letter (escaped_byte mode letter)) (ne_eqb letter 117 other)
 
 escape-u : (mode : Mode) (bytes : List ℕ) → escape_at mode (117 ∷ bytes) ≡ unit_at bytes
 unfolding escape_at
@@ -175,7 +175,7 @@ item-backslash mode bytes = refl
 
 item-raw : (mode : Mode) (byte : ℕ) (bytes : List ℕ) → byte ≢ 92 → item_at mode byte bytes ≡ Ok (raw byte)
 unfolding item_at
-item-raw mode byte bytes other = if-false (eqb byte 92) (escape_at mode bytes) (Ok (raw byte)) (ne_eqb byte 92 other)
+item-raw mode byte bytes other = cond-false (eqb byte 92) (escape_at mode bytes) (Ok (raw byte)) (ne_eqb byte 92 other)
 
 -- ---- the first item of bytes that have one
 
@@ -198,14 +198,14 @@ unit-cut : (bytes : List ℕ) → IsUnitCut bytes → unit_at bytes ≡ Err (une
 unfolding unit_at
 unit-cut bytes cut =
     ⊎_elim
-    (λ short. if-true (ltb (length bytes) 4) (Err (unexpected_end_of_hex_escape, 2)) (cond (eqb (get_or bytes 0 0) 123) (cond (eqb (get_or bytes 5 0) 125) (unit_of true (take 4 (drop 1 bytes))) (Err (unexpected_end_of_hex_escape, 2))) (unit_of false (take 4 bytes))) (lt-ltb (length bytes) 4 short))
+    (λ short. cond-true (ltb (length bytes) 4) (Err (unexpected_end_of_hex_escape, 2)) (cond (eqb (get_or bytes 0 0) 123) (cond (eqb (get_or bytes 5 0) 125) (unit_of true (take 4 (drop 1 bytes))) (Err (unexpected_end_of_hex_escape, 2))) (unit_of false (take 4 bytes))) (lt-ltb (length bytes) 4 short))
     (λ unclosed.
     ⊎_elim
-    (λ short. if-true (ltb (length bytes) 4) (Err (unexpected_end_of_hex_escape, 2)) (cond (eqb (get_or bytes 0 0) 123) (cond (eqb (get_or bytes 5 0) 125) (unit_of true (take 4 (drop 1 bytes))) (Err (unexpected_end_of_hex_escape, 2))) (unit_of false (take 4 bytes))) short)
+    (λ short. cond-true (ltb (length bytes) 4) (Err (unexpected_end_of_hex_escape, 2)) (cond (eqb (get_or bytes 0 0) 123) (cond (eqb (get_or bytes 5 0) 125) (unit_of true (take 4 (drop 1 bytes))) (Err (unexpected_end_of_hex_escape, 2))) (unit_of false (take 4 bytes))) short)
     (λ long.
-    if-false (ltb (length bytes) 4) (Err (unexpected_end_of_hex_escape, 2)) (cond (eqb (get_or bytes 0 0) 123) (cond (eqb (get_or bytes 5 0) 125) (unit_of true (take 4 (drop 1 bytes))) (Err (unexpected_end_of_hex_escape, 2))) (unit_of false (take 4 bytes))) long
-    ∙ if-true (eqb (get_or bytes 0 0) 123) (cond (eqb (get_or bytes 5 0) 125) (unit_of true (take 4 (drop 1 bytes))) (Err (unexpected_end_of_hex_escape, 2))) (unit_of false (take 4 bytes)) (eq-eqb (get_or bytes 0 0) 123 unclosed.0)
-    ∙ if-false (eqb (get_or bytes 5 0) 125) (unit_of true (take 4 (drop 1 bytes))) (Err (unexpected_end_of_hex_escape, 2)) (ne_eqb (get_or bytes 5 0) 125 unclosed.1))
+    cond-false (ltb (length bytes) 4) (Err (unexpected_end_of_hex_escape, 2)) (cond (eqb (get_or bytes 0 0) 123) (cond (eqb (get_or bytes 5 0) 125) (unit_of true (take 4 (drop 1 bytes))) (Err (unexpected_end_of_hex_escape, 2))) (unit_of false (take 4 bytes))) long
+    ∙ cond-true (eqb (get_or bytes 0 0) 123) (cond (eqb (get_or bytes 5 0) 125) (unit_of true (take 4 (drop 1 bytes))) (Err (unexpected_end_of_hex_escape, 2))) (unit_of false (take 4 bytes)) (eq-eqb (get_or bytes 0 0) 123 unclosed.0)
+    ∙ cond-false (eqb (get_or bytes 5 0) 125) (unit_of true (take 4 (drop 1 bytes))) (Err (unexpected_end_of_hex_escape, 2)) (ne_eqb (get_or bytes 5 0) 125 unclosed.1))
     (cases_Bool (ltb (length bytes) 4)))
     cut
 
@@ -246,11 +246,6 @@ unfolding items_within first_item
 items-first n mode [] some = absurd (some refl)
 items-first n mode (b ∷ bytes) some = refl
 
-spelled_some : (x : Item) (more : List ℕ) → spelling x ++ more ≢ []
-spelled_some (raw byte) more e = cc
-spelled_some (escape letter byte) more e = cc
-spelled_some (unit braces digits) more e = cc
-
 pub length-spelling : (x : Item) → 1 ≤ length (spelling x)
 length-spelling (raw byte) = omega arith
 length-spelling (escape letter byte) = omega arith
@@ -258,7 +253,7 @@ length-spelling (unit braces digits) = omega arith
 
 items-step : (n : ℕ) (mode : Mode) (x : Item) (more : List ℕ) → IsItem mode x → items_within (suc n) mode (spelling x ++ more) ≡ onto x (items_within n mode more)
 items-step n mode x more is =
-    items-first n mode (spelling x ++ more) (spelled_some x more)
+    items-first n mode (spelling x ++ more) (spelling_not_empty x more)
     ∙ ap (λ (r : Body Item). then_items r (λ item. items_within n mode (drop (length (spelling item)) (spelling x ++ more)))) (item_complete mode x more is)
     ∙ ap (λ (rest : List ℕ). onto x (items_within n mode rest)) (drop_at (spelling x) more (length (spelling x)) refl)
 
@@ -342,7 +337,7 @@ unfolding body_of
 body_complete mode bytes items body utf8 =
     let enough : length (flat_map spelling items) ≤ length bytes = omega (arith, ap length body.spelled) in
     let read : items_within (length bytes) mode bytes ≡ Ok items = ap (items_within (length bytes) mode) body.spelled ∙ items_complete mode (length bytes) items body.each enough in
-    ap (meaning_of bytes) read ∙ if-true (is_utf8 (meaning items)) (Ok (mark_of items, meaning items)) (Err (invalid_string_value, length bytes)) (is_utf8-from_IsUtf8 (meaning items) utf8)
+    ap (meaning_of bytes) read ∙ cond-true (is_utf8 (meaning items)) (Ok (mark_of items, meaning items)) (Err (invalid_string_value, length bytes)) (is_utf8-from_IsUtf8 (meaning items) utf8)
 
 no_utf8 : (text : List ℕ) → ¬ (IsUtf8 text) → is_utf8 text ≡ false
 no_utf8 text n = ⊎_elim (λ yes. absurd (n (IsUtf8-from_is_utf8 text yes))) (λ no. no) (cases_Bool (is_utf8 text))
@@ -358,7 +353,7 @@ body_faulty mode bytes code read fault =
     (λ (none : IsNoText mode bytes code read).
     let enough : length (flat_map spelling none.items) ≤ length bytes = omega (arith, ap length none.body.spelled) in
     ap (meaning_of bytes) (ap (items_within (length bytes) mode) none.body.spelled ∙ items_complete mode (length bytes) none.items none.body.each enough)
-    ∙ if-false (is_utf8 (meaning none.items)) (Ok (mark_of none.items, meaning none.items)) (Err (invalid_string_value, length bytes)) (no_utf8 (meaning none.items) none.not_utf8)
+    ∙ cond-false (is_utf8 (meaning none.items)) (Ok (mark_of none.items, meaning none.items)) (Err (invalid_string_value, length bytes)) (no_utf8 (meaning none.items) none.not_utf8)
     ∙ ap (λ (c : Code). Err (c, length bytes)) (sym none.invalid) ∙ ap (λ (k : ℕ). Err (code, k)) (sym none.count))
     fault
 

@@ -1,7 +1,7 @@
 -- The marks of a vector of bytes: where a lane holds a quote or a backslash.
-use Rattle.std.proofs.Common.{◌≡◌, ◌≢◌, ◌⊎◌, ◌↔◌, ℕ, ◌+◌, ◌-◌, ◌%◌, ◌<◌, ◌≤◌, inl, inr, true, false, cond, List, [], ◌∷◌, zero, suc, bit_and, bit_or, eqb, eqb-true, eq-eqb, length, get_or, refl, sym, ap, ap₂, subst, ◌∙◌, arith, pow_pos}
-use Rattle.std.proofs.Math.Nat.{div-eq_of_lt}
+use Rattle.std.proofs.Common.{◌≡◌, ◌≢◌, ◌⊎◌, ◌↔◌, ℕ, ◌+◌, ◌-◌, ◌<◌, ◌≤◌, inl, inr, true, false, cond, List, [], ◌∷◌, zero, suc, bit_and, bit_or, eqb, eqb-true, eq-eqb, length, get_or, refl, sym, ap, ap₂, subst, ◌∙◌, arith}
 use Rattle.std.specs.Int.{bit_at}
+use Rattle.std.proofs.lemmas.Nat.Bits.{bit_at-zero}
 use Rattle.memchr.specs.Lanes.{HasLanes}
 use Rattle.jsonb.specs.QuotedString.{KnowsMarks, TellsMarks}
 
@@ -70,12 +70,9 @@ clear-at quote m i end k bytes t low high off =
 pub clear_before : (quote m i end n : ℕ) (bytes : List ℕ) → TellsMarks quote bytes i end m → ((k : ℕ) → k < n → bit_at m k ≡ 0) → i + n < end → IsClear quote bytes i (i + n)
 clear_before quote m i end n bytes t below small k low high = clear-at quote m i end k bytes t low (omega (arith, small, high)) (below (k - i) (omega arith))
 
-pub no_bits : (k : ℕ) → bit_at 0 k ≡ 0
-no_bits k = ap (λ x. x % 2) (div-eq_of_lt (pow_pos k))
-
 pub clear_all : (quote m i end : ℕ) (bytes : List ℕ) → TellsMarks quote bytes i end m → m ≡ 0 → IsClear quote bytes i end
 clear_all quote m i end bytes t none k low high =
-    clear-at quote m i end k bytes t low high (subst (λ x. bit_at x (k - i) ≡ 0) (sym none) (no_bits (k - i)))
+    clear-at quote m i end k bytes t low high (subst (λ x. bit_at x (k - i) ≡ 0) (sym none) (bit_at-zero (k - i)))
 
 -- ---- marks that are kept
 
@@ -86,8 +83,8 @@ knows_none quote at bytes = (
   record {
     within = omega arith;
     set = λ k low mark. absurd (omega (arith, low));
-    marked = λ k bit. absurd (omega (arith, bit, no_bits k));
-    short = λ k bit. absurd (omega (arith, bit, no_bits k));
+    marked = λ k bit. absurd (omega (arith, bit, bit_at-zero k));
+    short = λ k bit. absurd (omega (arith, bit, bit_at-zero k));
   },
 )
 

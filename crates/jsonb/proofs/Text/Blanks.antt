@@ -1,6 +1,7 @@
 -- Passing over blanks.
 use Rattle.std.proofs.Common.{◌≡◌, MatchBool, ne_eqb, ℕ, zero, suc, ◌+◌, ◌-◌, ◌<◌, ◌≤◌, Bool, true, false, cond, ◌||◌, ◌&&◌, ◌⊎◌, inl, inr, List, [], ◌∷◌, ◌++◌, length, get_or, drop, refl, sym, ap, subst, ◌∙◌, append_assoc, append-nil, length-append, arith, eqb, eqb-true}
 use Rattle.std.proofs.lemmas.List.{drop_at, length-drop}
+use Rattle.std.proofs.lemmas.Bool.{cond-false, cond-true, or_cases, and_parts, or_parts}
 use Rattle.jsonb_value.specs.Grammar.Blanks.{AreLastBlanks, EndsLine, IsBlank, IsBlanks, IsOneLine, LacksCommentEnd}
 use Rattle.jsonb_value.specs.Grammar.Blanks.AreLastBlanks.{blanks_to_end, line_to_end}
 use Rattle.jsonb_value.specs.Grammar.Blanks.IsBlank.{space, tab, line_feed, form_feed, carriage_return, written_line_feed, written_carriage_return, written_tab, written_form_feed, block_comment, line_comment}
@@ -8,7 +9,7 @@ use Rattle.jsonb_value.specs.Grammar.Blanks.IsBlanks.{no_blanks, more_blanks}
 use Rattle.jsonb_value.specs.Mode.{Mode, standard, extended}
 use Rattle.jsonb.specs.Reading.{begins}
 use Rattle.jsonb.specs.Reading.Blank.{is_blank_start, blank_length, block_length, line_length, slash_length, written_length, form_feed_length, longer_by, opens_comment, past_comment, pass_chosen, pass_from, pass_blanks, skip_blanks}
-use Rattle.jsonb.proofs.Steps.Tests.{chosen, or_true, or_false, if-false, if-true}
+use Rattle.jsonb.proofs.Steps.Tests.{chosen}
 use Rattle.jsonb.proofs.Text.Comments.{block-found, block_ends, line-found, line-none, line-past, line_ends, no_line_end, longer-is, longer-longer, longer-some}
 
 -- ---- steps over one blank
@@ -91,24 +92,24 @@ pass-spaces mode (suc count) (b ∷ bytes) within are =
 
 blank_length-none : (mode : Mode) (b : ℕ) (bytes : List ℕ) → is_blank_start b ≡ false → blank_length mode (b ∷ bytes) ≡ 0
 blank_length-none mode b bytes e =
-    let g = or_false (eqb b 32 || eqb b 9 || eqb b 10 || eqb b 12 || eqb b 13 || eqb b 92) (eqb b 47) e in
-    let h = or_false (eqb b 32 || eqb b 9 || eqb b 10 || eqb b 12 || eqb b 13) (eqb b 92) g.first in
+    let g = or_parts (eqb b 32 || eqb b 9 || eqb b 10 || eqb b 12 || eqb b 13 || eqb b 92) (eqb b 47) e in
+    let h = or_parts (eqb b 32 || eqb b 9 || eqb b 10 || eqb b 12 || eqb b 13) (eqb b 92) g.0 in
     let slash : ℕ = cond (eqb b 47) (slash_length mode bytes) 0 in
-    if-false (eqb b 32 || eqb b 9 || eqb b 10 || eqb b 12 || eqb b 13) 1 (cond (eqb b 92) (written_length bytes) slash) h.first ∙ if-false (eqb b 92) (written_length bytes) slash h.second
-    ∙ if-false (eqb b 47) (slash_length mode bytes) 0 g.second
+    cond-false (eqb b 32 || eqb b 9 || eqb b 10 || eqb b 12 || eqb b 13) 1 (cond (eqb b 92) (written_length bytes) slash) h.0 ∙ cond-false (eqb b 92) (written_length bytes) slash h.1
+    ∙ cond-false (eqb b 47) (slash_length mode bytes) 0 g.1
 
 pub pass-stop : (mode : Mode) (b : ℕ) (bytes : List ℕ) → is_blank_start b ≡ false → pass_blanks mode (b ∷ bytes) ≡ b ∷ bytes
 pass-stop mode b bytes e = pass-none mode (b ∷ bytes) (blank_length-none mode b bytes e)
 
 pub opens-other : (mode : Mode) (b : ℕ) (bytes : List ℕ) → eqb b 47 ≡ false → opens_comment mode (b ∷ bytes) ≡ false
 opens-other standard b bytes e = refl
-opens-other extended b bytes e = if-false (eqb b 47) (begins 42 bytes || begins 47 bytes) false e
+opens-other extended b bytes e = cond-false (eqb b 47) (begins 42 bytes || begins 47 bytes) false e
 
 pub opens-stop : (mode : Mode) (b : ℕ) (bytes : List ℕ) → is_blank_start b ≡ false → opens_comment mode (b ∷ bytes) ≡ false
-opens-stop mode b bytes e = opens-other mode b bytes (or_false (eqb b 32 || eqb b 9 || eqb b 10 || eqb b 12 || eqb b 13 || eqb b 92) (eqb b 47) e).second
+opens-stop mode b bytes e = opens-other mode b bytes (or_parts (eqb b 32 || eqb b 9 || eqb b 10 || eqb b 12 || eqb b 13 || eqb b 92) (eqb b 47) e).1
 
 past-none : (mode : Mode) (bytes : List ℕ) → opens_comment mode bytes ≡ false → past_comment mode bytes ≡ bytes
-past-none mode bytes e = if-false (opens_comment mode bytes) [] bytes e
+past-none mode bytes e = cond-false (opens_comment mode bytes) [] bytes e
 
 pub skip-stop : (mode : Mode) (b : ℕ) (bytes : List ℕ) → is_blank_start b ≡ false → skip_blanks mode (b ∷ bytes) ≡ b ∷ bytes
 skip-stop mode b bytes e = ap (past_comment mode) (pass-stop mode b bytes e) ∙ past-none mode (b ∷ bytes) (opens-stop mode b bytes e)
@@ -127,8 +128,8 @@ skip-nil mode = ap (past_comment mode) (pass-nil mode) ∙ past-none mode [] (op
 -- above a space only a backslash or a slash begins a blank
 skip-above : (mode : Mode) (b : ℕ) (bytes : List ℕ) → 32 < b → (eqb b 92 || eqb b 47) ≡ false → skip_blanks mode (b ∷ bytes) ≡ b ∷ bytes
 skip-above mode b bytes above others =
-    let h = or_false (eqb b 92) (eqb b 47) others in
-    skip-stop mode b bytes (none_of (eqb b 32) (eqb b 9) (eqb b 10) (eqb b 12) (eqb b 13) (eqb b 92) (eqb b 47) (lower 32 above) (lower 9 (omega arith)) (lower 10 (omega arith)) (lower 12 (omega arith)) (lower 13 (omega arith)) h.first h.second)
+    let h = or_parts (eqb b 92) (eqb b 47) others in
+    skip-stop mode b bytes (none_of (eqb b 32) (eqb b 9) (eqb b 10) (eqb b 12) (eqb b 13) (eqb b 92) (eqb b 47) (lower 32 above) (lower 9 (omega arith)) (lower 10 (omega arith)) (lower 12 (omega arith)) (lower 13 (omega arith)) h.0 h.1)
   where
     lower : (c : ℕ) → c < b → eqb b c ≡ false
     lower c h = ne_eqb b c (λ same. absurd (omega (arith, h, same)))
@@ -160,16 +161,12 @@ begins_with mode b c blank rest bytes e is whole =
     let same : b ≡ c = eqb-true b c e in
     record { blank = c ∷ blank; is_blank = is; whole = cc }
 
-and_true : (a b : Bool) → (a && b) ≡ true → (a ≡ true) × (b ≡ true)
-and_true true b e = (refl, e)
-and_true false b e = absurd cc
-
 form_feed_begins : (bytes : List ℕ) (n : ℕ) → form_feed_length bytes ≡ suc n → (n ≡ 3) × (rest : List ℕ) × (bytes ≡ 48 ∷ 67 ∷ rest) × (rest ≡ drop 2 bytes)
 form_feed_begins [] n e = absurd (omega arith)
 form_feed_begins (c ∷ []) n e = absurd (omega arith)
 form_feed_begins (c ∷ d ∷ rest) n e =
     elim (chosen (eqb c 48 && eqb d 67) 4 0 (suc n) e) [
-      | inl t ↦ let both = and_true (eqb c 48) (eqb d 67) t.0 in let p : c ≡ 48 = eqb-true c 48 both.0 in let q : d ≡ 67 = eqb-true d 67 both.1 in (omega arith, rest, cc, refl)
+      | inl t ↦ let both = and_parts (eqb c 48) (eqb d 67) t.0 in let p : c ≡ 48 = eqb-true c 48 both.0 in let q : d ≡ 67 = eqb-true d 67 both.1 in (omega arith, rest, cc, refl)
       | inr f ↦ absurd (omega arith)
     ]
 
@@ -180,8 +177,8 @@ written_begins mode b (c ∷ bytes) n is e =
       | inl t ↦
           let one : n ≡ 1 = omega (arith, t.1) in
           let at_one : bytes ≡ drop n (c ∷ bytes) = rw one refl in
-          elim (or_true (eqb c 110 || eqb c 114) (eqb c 116) t.0) [
-            | inl u ↦ elim (or_true (eqb c 110) (eqb c 114) u) [
+          elim (or_cases (eqb c 110 || eqb c 114) (eqb c 116) t.0) [
+            | inl u ↦ elim (or_cases (eqb c 110) (eqb c 114) u) [
               | inl v ↦ let p : c ≡ 110 = eqb-true c 110 v in begins_with mode b 92 (110 ∷ []) (drop n (c ∷ bytes)) (c ∷ bytes) is written_line_feed cc
               | inr v ↦ let p : c ≡ 114 = eqb-true c 114 v in begins_with mode b 92 (114 ∷ []) (drop n (c ∷ bytes)) (c ∷ bytes) is written_carriage_return cc
             ]
@@ -244,13 +241,13 @@ blank_begins mode b bytes n e =
     elim (chosen (eqb b 32 || eqb b 9 || eqb b 10 || eqb b 12 || eqb b 13) 1 (cond (eqb b 92) (written_length bytes) (cond (eqb b 47) (slash_length mode bytes) 0)) (suc n) e) [
       | inl t ↦
           let z : n ≡ 0 = omega (arith, t.1) in
-          elim (or_true (eqb b 32 || eqb b 9 || eqb b 10 || eqb b 12) (eqb b 13) t.0) [
+          elim (or_cases (eqb b 32 || eqb b 9 || eqb b 10 || eqb b 12) (eqb b 13) t.0) [
             | inr v ↦ one_begins mode b 13 n bytes v carriage_return z
-            | inl u ↦ elim (or_true (eqb b 32 || eqb b 9 || eqb b 10) (eqb b 12) u) [
+            | inl u ↦ elim (or_cases (eqb b 32 || eqb b 9 || eqb b 10) (eqb b 12) u) [
               | inr v ↦ one_begins mode b 12 n bytes v form_feed z
-              | inl w ↦ elim (or_true (eqb b 32 || eqb b 9) (eqb b 10) w) [
+              | inl w ↦ elim (or_cases (eqb b 32 || eqb b 9) (eqb b 10) w) [
                 | inr v ↦ one_begins mode b 10 n bytes v line_feed z
-                | inl x ↦ elim (or_true (eqb b 32) (eqb b 9) x) [
+                | inl x ↦ elim (or_cases (eqb b 32) (eqb b 9) x) [
                   | inl v ↦ one_begins mode b 32 n bytes v space z
                   | inr v ↦ one_begins mode b 9 n bytes v tab z
                 ]
@@ -322,7 +319,7 @@ skipped : (mode : Mode) (bytes : List ℕ) → (skip_blanks mode bytes ≡ []) �
 skipped mode bytes = by_test (opens_comment mode (pass_blanks mode bytes)) refl
   where
     by_test : (t : Bool) → opens_comment mode (pass_blanks mode bytes) ≡ t → (skip_blanks mode bytes ≡ []) ⊎ ((opens_comment mode (pass_blanks mode bytes) ≡ false) × (skip_blanks mode bytes ≡ pass_blanks mode bytes))
-    by_test true e = inl (if-true (opens_comment mode (pass_blanks mode bytes)) [] (pass_blanks mode bytes) e)
+    by_test true e = inl (cond-true (opens_comment mode (pass_blanks mode bytes)) [] (pass_blanks mode bytes) e)
     by_test false e = inr (e, past-none mode (pass_blanks mode bytes) e)
 
 pub length-skip : (mode : Mode) (bytes : List ℕ) → length (skip_blanks mode bytes) ≤ length bytes

@@ -1,16 +1,12 @@
 -- Where comments end.
 use Rattle.std.proofs.Common.{◌≡◌, ℕ, zero, suc, ◌+◌, ◌<◌, ◌≤◌, ◌≢◌, Bool, true, false, true≢false, cond, ◌||◌, ◌&&◌, ◌⊎◌, ⊎_elim, inl, inr, List, [], ◌∷◌, ◌++◌, length, drop, get_or, refl, sym, ap, ap₂, ◌∙◌, arith, eqb, eqb-true, ne_eqb, eq-eqb}
-use Rattle.std.proofs.lemmas.Bool.{cases_Bool, cases_eq}
+use Rattle.std.proofs.lemmas.Bool.{cases_Bool, cases_eq, cond-false, cond-true, or_cases, and_parts}
 use Rattle.std.proofs.lemmas.List.{drop_more, length-drop}
 use Rattle.memchr.specs.Find.{is_byte2}
 use Rattle.jsonb_value.specs.Grammar.Blanks.{EndsLine, IsOneLine, LacksCommentEnd}
 use Rattle.jsonb.specs.Reading.{begins}
 use Rattle.jsonb.specs.Reading.Blank.{longer_by, block_length, line_length}
-use Rattle.jsonb.proofs.Steps.Tests.{chosen, if-false, if-true, or_true}
-
-and_true : (a b : Bool) → (a && b) ≡ true → (a ≡ true) × (b ≡ true)
-and_true true b e = (refl, e)
-and_true false b e = absurd cc
+use Rattle.jsonb.proofs.Steps.Tests.{chosen}
 
 -- ---- lengths
 
@@ -46,7 +42,7 @@ no_end_first b (c ∷ inside) rest lacks = by_test (eqb b 42 && begins 47 (c ∷
   where
     by_test : (t : Bool) → (eqb b 42 && begins 47 (c ∷ (inside ++ 42 ∷ 47 ∷ rest))) ≡ t → t ≡ false
     by_test true e =
-        let both = and_true (eqb b 42) (begins 47 (c ∷ (inside ++ 42 ∷ 47 ∷ rest))) e in
+        let both = and_parts (eqb b 42) (begins 47 (c ∷ (inside ++ 42 ∷ 47 ∷ rest))) e in
         let star : b ≡ 42 = eqb-true b 42 both.0 in
         let slash = begins_found (c ∷ (inside ++ 42 ∷ 47 ∷ rest)) both.1 in
         let is : c ≡ 47 = let whole : c ∷ (inside ++ 42 ∷ 47 ∷ rest) ≡ 47 ∷ slash.0 = slash.1 in cc in
@@ -58,7 +54,7 @@ unfolding block_length
 block-found [] rest lacks = refl
 block-found (b ∷ inside) rest lacks =
     let later = block-found inside rest (lacks-rest b inside lacks) in
-    if-false (eqb b 42 && begins 47 (inside ++ 42 ∷ 47 ∷ rest)) 2 (longer_by 1 (block_length (inside ++ 42 ∷ 47 ∷ rest))) (no_end_first b inside rest lacks)
+    cond-false (eqb b 42 && begins 47 (inside ++ 42 ∷ 47 ∷ rest)) 2 (longer_by 1 (block_length (inside ++ 42 ∷ 47 ∷ rest))) (no_end_first b inside rest lacks)
     ∙ ap (longer_by 1) later ∙ longer-some 1 (length inside + 2) (omega arith) ∙ (let same : 1 + (length inside + 2) ≡ length (b ∷ inside) + 2 = omega arith in same)
 
 -- a comment up to its end, and what follows
@@ -99,7 +95,7 @@ block_ends [] n e = absurd (let never : 0 ≡ suc n = e in omega (arith, never))
 block_ends (b ∷ bytes) n e =
     elim (chosen (eqb b 42 && begins 47 bytes) 2 (longer_by 1 (block_length bytes)) (suc n) e) [
       | inl t ↦
-          let both = and_true (eqb b 42) (begins 47 bytes) t.0 in
+          let both = and_parts (eqb b 42) (begins 47 bytes) t.0 in
           let slash = begins_found bytes both.1 in
           let star : b ≡ 42 = eqb-true b 42 both.0 in
           record { inside = []; rest = slash.0; whole = (let tail : bytes ≡ 47 ∷ slash.0 = slash.1 in let all : b ∷ bytes ≡ 42 ∷ 47 ∷ slash.0 = cc in all); lacks = lacks_nothing; count = t.1 }
@@ -118,16 +114,16 @@ end_of_line b ends = ⊎_elim (λ e. ap (λ (t : Bool). t || eqb b 13) (eq-eqb b
 
 pub line-found : (inside : List ℕ) (last : ℕ) (rest : List ℕ) → IsOneLine inside → EndsLine last → line_length (inside ++ last ∷ rest) ≡ length inside + 1
 unfolding line_length
-line-found [] last rest one ends = if-true (eqb last 10 || eqb last 13) 1 (longer_by 1 (line_length rest)) (end_of_line last ends)
+line-found [] last rest one ends = cond-true (eqb last 10 || eqb last 13) 1 (longer_by 1 (line_length rest)) (end_of_line last ends)
 line-found (b ∷ inside) last rest one ends =
-    if-false (eqb b 10 || eqb b 13) 1 (longer_by 1 (line_length (inside ++ last ∷ rest))) (no_end_of_line b one.0)
+    cond-false (eqb b 10 || eqb b 13) 1 (longer_by 1 (line_length (inside ++ last ∷ rest))) (no_end_of_line b one.0)
     ∙ ap (longer_by 1) (line-found inside last rest one.1 ends) ∙ longer-some 1 (length inside + 1) (omega arith) ∙ (let same : 1 + (length inside + 1) ≡ length (b ∷ inside) + 1 = omega arith in same)
 
 pub line-none : (bytes : List ℕ) → IsOneLine bytes → line_length bytes ≡ 0
 unfolding line_length
 line-none [] one = refl
 line-none (b ∷ bytes) one =
-    if-false (eqb b 10 || eqb b 13) 1 (longer_by 1 (line_length bytes)) (no_end_of_line b one.0) ∙ ap (longer_by 1) (line-none bytes one.1)
+    cond-false (eqb b 10 || eqb b 13) 1 (longer_by 1 (line_length bytes)) (no_end_of_line b one.0) ∙ ap (longer_by 1) (line-none bytes one.1)
 
 longer-zero : (n : ℕ) → longer_by 0 n ≡ n
 longer-zero zero = refl
@@ -142,11 +138,11 @@ pub line-past : (inside more : List ℕ) → IsOneLine inside → line_length (i
 unfolding line_length
 line-past [] more one = sym (longer-zero (line_length more))
 line-past (b ∷ inside) more one =
-    if-false (eqb b 10 || eqb b 13) 1 (longer_by 1 (line_length (inside ++ more))) (no_end_of_line b one.0)
+    cond-false (eqb b 10 || eqb b 13) 1 (longer_by 1 (line_length (inside ++ more))) (no_end_of_line b one.0)
     ∙ ap (longer_by 1) (line-past inside more one.1) ∙ longer-longer 1 (length inside) (line_length more) ∙ (let same : 1 + length inside ≡ length (b ∷ inside) = omega arith in ap (λ (k : ℕ). longer_by k (line_length more)) same)
 
 ends_line : (b : ℕ) → (eqb b 10 || eqb b 13) ≡ true → EndsLine b
-ends_line b e = ⊎_elim (λ t. inl (eqb-true b 10 t)) (λ t. inr (eqb-true b 13 t)) (or_true (eqb b 10) (eqb b 13) e)
+ends_line b e = ⊎_elim (λ t. inl (eqb-true b 10 t)) (λ t. inr (eqb-true b 13 t)) (or_cases (eqb b 10) (eqb b 13) e)
 
 ends_no_line : (b : ℕ) → (eqb b 10 || eqb b 13) ≡ false → ¬ (EndsLine b)
 ends_no_line b e ends = true≢false (sym (end_of_line b ends) ∙ e)
@@ -214,7 +210,7 @@ block_past bytes at within other =
     let later : drop (at + 1) bytes ≡ c ∷ drop (at + 1 + 1) bytes = drop_more bytes (at + 1) 0 within in
     let none : (eqb b 42 && begins 47 (drop (at + 1) bytes)) ≡ false = ap (λ (u : List ℕ). eqb b 42 && begins 47 u) later ∙ ⊎_elim (λ n. ap (λ (t : Bool). t && begins 47 (c ∷ drop (at + 1 + 1) bytes)) (ne_eqb b 42 n))
     (λ n. ap (λ (t : Bool). eqb b 42 && cond t true false) (ne_eqb c 47 n) ∙ and_false (eqb b 42)) other in
-    ap block_length (drop_more bytes at 0 (omega (arith, within))) ∙ if-false (eqb b 42 && begins 47 (drop (at + 1) bytes)) 2 (longer_by 1 (block_length (drop (at + 1) bytes))) none
+    ap block_length (drop_more bytes at 0 (omega (arith, within))) ∙ cond-false (eqb b 42 && begins 47 (drop (at + 1) bytes)) 2 (longer_by 1 (block_length (drop (at + 1) bytes))) none
   where
     and_false : (t : Bool) → (t && false) ≡ false
     and_false true = refl
@@ -226,7 +222,7 @@ block_none bytes at past = short (drop at bytes) (omega (arith, past, length-dro
   where
     short : (u : List ℕ) → length u ≤ 1 → block_length u ≡ 0
     short [] h = refl
-    short (b ∷ []) h = if-false (eqb b 42 && false) 2 0 (and_no (eqb b 42))
+    short (b ∷ []) h = cond-false (eqb b 42 && false) 2 0 (and_no (eqb b 42))
       where
         and_no : (t : Bool) → (t && false) ≡ false
         and_no true = refl
@@ -253,10 +249,10 @@ block_far bytes at (suc count) within none =
 pub line_at : (bytes : List ℕ) (n : ℕ) → n < length bytes → is_byte2 10 13 (get_or bytes n 0) ≡ true → ((k : ℕ) → k < n → ¬ (is_byte2 10 13 (get_or bytes k 0) ≡ true)) → line_length bytes ≡ n + 1
 unfolding line_length
 line_at [] n within here before = absurd (omega (arith, within))
-line_at (b ∷ bytes) zero within here before = if-true (eqb b 10 || eqb b 13) 1 (longer_by 1 (line_length bytes)) here
+line_at (b ∷ bytes) zero within here before = cond-true (eqb b 10 || eqb b 13) 1 (longer_by 1 (line_length bytes)) here
 line_at (b ∷ bytes) (suc n) within here before =
     let none : (eqb b 10 || eqb b 13) ≡ false = ⊎_elim (λ t. absurd (before 0 (omega arith) t)) (λ f. f) (cases_Bool (eqb b 10 || eqb b 13)) in
-    if-false (eqb b 10 || eqb b 13) 1 (longer_by 1 (line_length bytes)) none
+    cond-false (eqb b 10 || eqb b 13) 1 (longer_by 1 (line_length bytes)) none
     ∙ ap (longer_by 1) (line_at bytes n (omega (arith, within)) here (λ k low. before (suc k) (omega (arith, low)))) ∙ longer-some 1 (n + 1) (omega arith) ∙ (let same : 1 + (n + 1) ≡ suc n + 1 = omega arith in same)
 
 pub line_nowhere : (bytes : List ℕ) → ((k : ℕ) → k < length bytes → ¬ (is_byte2 10 13 (get_or bytes k 0) ≡ true)) → line_length bytes ≡ 0
@@ -264,4 +260,4 @@ unfolding line_length
 line_nowhere [] none = refl
 line_nowhere (b ∷ bytes) none =
     let first : (eqb b 10 || eqb b 13) ≡ false = ⊎_elim (λ t. absurd (none 0 (omega arith) t)) (λ f. f) (cases_Bool (eqb b 10 || eqb b 13)) in
-    if-false (eqb b 10 || eqb b 13) 1 (longer_by 1 (line_length bytes)) first ∙ ap (longer_by 1) (line_nowhere bytes (λ k low. none (suc k) (omega (arith, low))))
+    cond-false (eqb b 10 || eqb b 13) 1 (longer_by 1 (line_length bytes)) first ∙ ap (longer_by 1) (line_nowhere bytes (λ k low. none (suc k) (omega (arith, low))))

@@ -3,7 +3,7 @@ use Rattle.std.proofs.Common.{◌≡◌, ℕ, zero, suc, ◌<◌, ◌≤◌, ◌
 use Rattle.std.specs.Prelude.{unsigned_abs, FitsSigned, ◌==◌, nat_lt, nat_le, if◌then◌else◌}
 use Rattle.std.specs.Int.{w64, w128}
 use Rattle.std.specs.Str.Parse.{AllDigits, digits_value}
-use Rattle.std.proofs.lemmas.Bool.{leb-true}
+use Rattle.std.proofs.lemmas.Bool.{leb-true, and_parts}
 use Rattle.std.proofs.lemmas.Str.Parse.{IsNumeralModel, numerals_by_value, tells_digits, digits_value_short}
 use Rattle.jsonb_value.specs.Grammar.ExtendedNumber.{is_minus, fraction_digits, precision_of, fits_u64, fits_i64, decimal_form, decimal_number, IsDecimalNumber, hexadecimal_number, IsExtendedNumber}
 use Rattle.jsonb_value.specs.Mode.{standard, extended}
@@ -103,14 +103,14 @@ standard_number bytes n is = integer_is is.0 (digits_value 10 is.1) n is.3
 abbrev IsRanged : Num → Type 0
 IsRanged n = IsInTexts n × IsProperNumber n
 
-digits-append : (ds es : List ℕ) → AllDigits 10 ds → AllDigits 10 es → AllDigits 10 (ds ++ es)
+pub digits-append : (ds es : List ℕ) → AllDigits 10 ds → AllDigits 10 es → AllDigits 10 (ds ++ es)
 digits-append [] es h k = k
 digits-append (d ∷ ds) es h k = (h.0, digits-append ds es h.1 k)
 
 pub decimals : IsNumeralModel (AllDigits 10) (digits_value 10)
 decimals = numerals_by_value (AllDigits 10) tells_digits
 
-small_signed : (b : Bool) (m : ℕ) → m < 10 ^ 18 → FitsSigned w64 (signed_by b m)
+pub small_signed : (b : Bool) (m : ℕ) → m < 10 ^ 18 → FitsSigned w64 (signed_by b m)
 small_signed false m h = record { sfits = omega arith }
 small_signed true zero h = record { sfits = omega arith }
 small_signed true (suc m) h = record { sfits = omega arith }
@@ -127,10 +127,6 @@ unsigned_fits (negsuc n) h = cc
 signed_fits : (z : ℤ) → fits_i64 z ≡ true → FitsSigned w64 z
 signed_fits (pos n) h = let small = ltb-true n (2 ^ 63) h in record { sfits = omega (arith, small) }
 signed_fits (negsuc n) h = let small = ltb-true n (2 ^ 63) h in record { sfits = omega (arith, small) }
-
-and_parts : (x y : Bool) → (x && y) ≡ true → (x ≡ true) × (y ≡ true)
-and_parts true y h = (refl, h)
-and_parts false y h = cc
 
 -- the number where the tests' answers are known
 picked : (a b c : Bool) (scale : ℕ) (value : ℤ) (P : Num → Type 0) → (a ≡ true → P (record { form = uint64; scale = scale; whole = value })) → (b ≡ true → P (record { form = int64; scale = scale; whole = value }))

@@ -1,6 +1,6 @@
 -- A number times a power of ten, within 128 bits and past them.
 use Rattle.std.proofs.Common.{◌≡◌, ℕ, suc, ◌+◌, ◌-◌, ◌*◌, ◌^◌, ◌<◌, ◌≤◌, ℤ, pos, negsuc, ◌*ℤ◌, FitsSigned, sym, ap, ◌∙◌, subst, arith}
-use Rattle.std.proofs.Math.Nat.{le-mul_of_pos_right, one-le-pow}
+use Rattle.std.proofs.Math.Nat.{le-mul_of_pos_right}
 use Rattle.std.proofs.lemmas.Int.{ints}
 use Rattle.std.proofs.lemmas.Nat.{pow-add}
 use Rattle.std.specs.Int.{w128}
@@ -9,9 +9,7 @@ use Rattle.std.specs.Cmp.{int_cmp_total}
 use borrow.Author.Differences.{product_is}
 use Rattle.jsonb_value.specs.Order.NumberLaws.{scaled_twice, int_cmp-scaled}
 use Rattle.jsonb_value.specs.Order.{decimal_cmp}
-
-ten : (s : ℕ) → 0 < 10 ^ s
-ten s = omega (arith, one-le-pow s 10 (omega arith))
+use Rattle.jsonb_value.proofs.Numbers.Quotients.{ten_positive}
 
 -- where the multiple fits, the number does
 fits_from_scaled : (z : ℤ) (k : ℕ) → 0 < k → FitsSigned w128 (z *ℤ pos k) → FitsSigned w128 z
@@ -31,7 +29,7 @@ too_large_more z x i d h e large f =
     ap (λ (k : ℕ). 10 ^ k) all ∙ pow-add 10 (i + 1) (d - (i + 1)) in
     let whole : z *ℤ pos (10 ^ d) ≡ x *ℤ pos 10 *ℤ pos (10 ^ (d - (i + 1))) =
     ap (λ k. z *ℤ pos k) split ∙ sym (scaled_twice z (10 ^ (i + 1)) (10 ^ (d - (i + 1)))) ∙ ap (λ y. y *ℤ pos (10 ^ (d - (i + 1)))) (sym (scaled_more z x i e)) in
-    large (fits_from_scaled (x *ℤ pos 10) (10 ^ (d - (i + 1))) (ten _) (subst (FitsSigned w128) whole f))
+    large (fits_from_scaled (x *ℤ pos 10) (10 ^ (d - (i + 1))) (ten_positive _) (subst (FitsSigned w128) whole f))
 
 -- both at the greater scale
 pub decimal_cmp-raised : (a b : ℤ) (s t : ℕ) → s ≤ t → int_cmp (a *ℤ pos (10 ^ (t - s))) b ≡ decimal_cmp a s b t
@@ -39,7 +37,7 @@ decimal_cmp-raised a b s t h =
     let all : 10 ^ (t - s) * 10 ^ s ≡ 10 ^ t =
     let sum : t - s + s ≡ t = omega arith in
     sym (pow-add 10 (t - s) s) ∙ ap (λ (k : ℕ). 10 ^ k) sum in
-    int_cmp-scaled _ _ (10 ^ s) (ten s) ∙ ap (λ x. int_cmp x (b *ℤ pos (10 ^ s))) (scaled_twice a (10 ^ (t - s)) (10 ^ s) ∙ ap (λ k. a *ℤ pos k) all)
+    int_cmp-scaled _ _ (10 ^ s) (ten_positive s) ∙ ap (λ x. int_cmp x (b *ℤ pos (10 ^ s))) (scaled_twice a (10 ^ (t - s)) (10 ^ s) ∙ ap (λ k. a *ℤ pos k) all)
 
 pub decimal_cmp-lowered : (a b : ℤ) (s t : ℕ) → t ≤ s → ordering_reverse (int_cmp (b *ℤ pos (10 ^ (s - t))) a) ≡ decimal_cmp a s b t
 decimal_cmp-lowered a b s t h =

@@ -6,7 +6,7 @@ use Rattle.std.specs.Fmt.{decimal, sign_text}
 use Rattle.std.specs.List.{AllByRecursion}
 use Rattle.std.specs.Str.Parse.{AllDigits, digits_value}
 use Rattle.std.proofs.lemmas.Bool.{cases_lt}
-use Rattle.std.proofs.lemmas.List.{append-nil, take-append-drop, length-take-le, length-drop, length-append, length-replicate}
+use Rattle.std.proofs.lemmas.List.{append-nil, take-append-drop, length-take-le, length-drop, length-append, length-replicate, nil_from_length}
 use Rattle.std.proofs.lemmas.Fmt.{decimal_is_IsNumeral_wide}
 use Rattle.std.proofs.lemmas.Str.Parse.{digit_from_value}
 use Rattle.jsonb_value.specs.Tree.{Num}
@@ -183,12 +183,8 @@ same_sign false true xs ys x y e =
     let first : 45 ≡ x.first = cc in
     absurd (omega (arith, first, x.is))
 
-no_items : (xs : List ℕ) → length xs ≡ 0 → xs ≡ []
-no_items [] e = refl
-no_items (x ∷ xs) e = absurd (omega (arith, e))
-
 same_behind : (s t : ℕ) (xs ys : List ℕ) → length xs ≡ s → length ys ≡ t → behind s xs ≡ behind t ys → (s ≡ t) × (xs ≡ ys)
-same_behind zero zero xs ys p q e = (refl, no_items xs p ∙ sym (no_items ys q))
+same_behind zero zero xs ys p q e = (refl, nil_from_length xs p ∙ sym (nil_from_length ys q))
 same_behind zero (suc t) xs ys p q e = cc
 same_behind (suc s) zero xs ys p q e = cc
 same_behind (suc s) (suc t) xs ys p q e = let same : xs ≡ ys = cc in (sym p ∙ ap length same ∙ q, same)

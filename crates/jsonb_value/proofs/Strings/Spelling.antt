@@ -61,7 +61,7 @@ same_first mode x y r s p q e =
     let rest : r ≡ s = sym (drop_at (spelling x) r _ refl) ∙ ap (drop (length (spelling x))) e ∙ drop_at (spelling y) s _ (sym long) in
     (same_spelling mode x y p q front, rest)
 
-spelling_not_empty : (x : Item) (rest : List ℕ) → spelling x ++ rest ≢ []
+pub spelling_not_empty : (x : Item) (rest : List ℕ) → spelling x ++ rest ≢ []
 spelling_not_empty (raw b) rest e = cc
 spelling_not_empty (escape l b) rest e = cc
 spelling_not_empty (unit h d) rest e = cc

@@ -1,10 +1,11 @@
 -- Each tree of a document has a text.
-use Rattle.std.proofs.Common.{◌≡◌, ℕ, zero, suc, Bool, true, false, ◌&&◌, List, [], ◌∷◌, Some, None, IsSome, refl, ap, ◌∙◌, subst, sym, if◌then◌else◌}
+use Rattle.std.proofs.Common.{◌≡◌, ℕ, zero, suc, Bool, true, false, List, [], ◌∷◌, Some, None, IsSome, refl, ap, subst, sym, if◌then◌else◌}
 use Rattle.std.specs.Cmp.Lexicographic.{slice_cmp}
 use Rattle.std.specs.Ordering.{nat_cmp, match_ordering}
 use Rattle.std.specs.declared.cmp.Ordering.{Ordering}
 use Rattle.std.specs.declared.cmp.Ordering.TheVariants.{Less, Equal, Greater}
 use Rattle.std.specs.List.{AllByRecursion}
+use Rattle.std.proofs.lemmas.Bool.{and_parts, and_from}
 use Rattle.jsonb_value.specs.Mode.{Mode}
 use Rattle.jsonb_value.specs.Tree.{Tree, Members, no_members, more_members, Member, trees_of, put, put_all}
 use Rattle.jsonb_value.specs.Grammar.Scalar.{IsScalar, literal_value, string_value, number_value, null_word, true_word, false_word}
@@ -13,16 +14,9 @@ use Rattle.jsonb_value.specs.Text.{has_text, items_have_texts, members_have_text
 
 -- ---- items and members
 
-pub both : (x y : Bool) → x ≡ true → y ≡ true → (x && y) ≡ true
-both x y h k = ap (λ b. b && y) h ∙ k
-
-each_of : (x y : Bool) → (x && y) ≡ true → (x ≡ true) × (y ≡ true)
-each_of true y h = (refl, h)
-each_of false y h = cc
-
 items-all : (ts : List Tree) → AllByRecursion (λ t. has_text t ≡ true) ts → items_have_texts (trees_of ts) ≡ true
 items-all [] all = refl
-items-all (t ∷ ts) all = both (has_text t) (items_have_texts (trees_of ts)) all.0 (items-all ts all.1)
+items-all (t ∷ ts) all = and_from (has_text t) (items_have_texts (trees_of ts)) all.0 (items-all ts all.1)
 
 members-match_ordering : (o : Ordering) (a b c : Members) → members_have_texts a ≡ true → members_have_texts b ≡ true → members_have_texts c ≡ true → members_have_texts (match_ordering o a b c) ≡ true
 members-match_ordering Less a b c h k l = h
@@ -30,13 +24,13 @@ members-match_ordering Equal a b c h k l = k
 members-match_ordering Greater a b c h k l = l
 
 members-put : (key : List ℕ) (t : Tree) (ms : Members) → has_text t ≡ true → members_have_texts ms ≡ true → members_have_texts (put key t ms) ≡ true
-members-put key t no_members h all = both (has_text t) true h refl
+members-put key t no_members h all = and_from (has_text t) true h refl
 members-put key t (more_members l u ms) h all =
-    let parts = each_of (has_text u) (members_have_texts ms) all in
+    let parts = and_parts (has_text u) (members_have_texts ms) all in
     members-match_ordering (slice_cmp nat_cmp key l) _ _ _
-    (both (has_text t) (members_have_texts (more_members l u ms)) h all)
-    (both (has_text t) (members_have_texts ms) h parts.1)
-    (both (has_text u) (members_have_texts (put key t ms)) parts.0 (members-put key t ms h parts.1))
+    (and_from (has_text t) (members_have_texts (more_members l u ms)) h all)
+    (and_from (has_text t) (members_have_texts ms) h parts.1)
+    (and_from (has_text u) (members_have_texts (put key t ms)) parts.0 (members-put key t ms h parts.1))
 
 members-put_all : (es : List Member) (ms : Members) → AllByRecursion (λ e. has_text e.1 ≡ true) es → members_have_texts ms ≡ true → members_have_texts (put_all es ms) ≡ true
 members-put_all [] ms all h = h

@@ -1,15 +1,13 @@
 -- Members whose keys ascend: no two have one key, and put in one after the other they stay as they are.
-use Rattle.std.proofs.Common.{List, ◌≡◌, ℕ, Less, Equal, Greater, refl, sym, ap, ◌∙◌, map}
+use Rattle.std.proofs.Common.{List, ◌≡◌, ℕ, Less, Equal, refl, sym, ap, ◌∙◌, map}
 use Rattle.std.specs.Cmp.{tied_itself}
 use Rattle.std.specs.Cmp.Lexicographic.{slice_cmp, nat_list_cmp_total}
-use Rattle.std.specs.Ordering.{nat_cmp, ordering_reverse, match_ordering}
+use Rattle.std.specs.Ordering.{nat_cmp, match_ordering}
 use Rattle.jsonb_value.specs.Grammar.{IsNew, HaveDistinctKeys}
 use Rattle.jsonb_value.specs.Keys.{IsBelowKeys, KeysAscend}
 use Rattle.jsonb_value.specs.Order.ByContent.{pairs_of}
 use Rattle.jsonb_value.specs.Tree.{Tree, Members, no_members, more_members, put, put_all}
-
-turned : (k l : List ℕ) → slice_cmp nat_cmp k l ≡ Less → slice_cmp nat_cmp l k ≡ Greater
-turned k l e = nat_list_cmp_total.antisymm l k ∙ ap ordering_reverse e
+use Rattle.jsonb_value.proofs.Values.Members.{turned}
 
 is_new : (k : List ℕ) (ms : Members) → IsBelowKeys k ms → IsNew k (map (λ m. m.0) (pairs_of ms))
 is_new k no_members h = tt

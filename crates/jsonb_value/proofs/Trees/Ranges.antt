@@ -1,10 +1,10 @@
 -- Trees within a range.
 use Rattle.std.proofs.Common.{◌≡◌, ℕ, zero, suc, true, refl}
+use Rattle.std.proofs.lemmas.Bool.{and_from}
 use Rattle.jsonb_value.specs.Proper.{IsProperNumber, IsProper, AreProper, HaveProperParts}
 use Rattle.jsonb_value.specs.Text.Range.{IsWithin, AreWithin, HaveWithin}
 use Rattle.jsonb_value.specs.Text.{has_text, items_have_texts, members_have_texts}
 use Rattle.jsonb_value.specs.Tree.{Num, Tree, null, boolean, string, number, array, object, Trees, no_trees, more_trees, Members, no_members, more_members}
-use Rattle.jsonb_value.proofs.Trees.DocumentTexts.{both}
 
 -- numbers of one kind are numbers of a wider kind
 module _ (P Q : Num → Type 0) (wider : (n : Num) → IsProperNumber n → P n → Q n) where
@@ -44,8 +44,8 @@ module _ (P : Num → Type 0) where
 
     within_texts : (ts : Trees) (depth : ℕ) → AreWithin P ts depth → items_have_texts ts ≡ true
     within_texts no_trees depth w = refl
-    within_texts (more_trees t ts) depth w = both (has_text t) (items_have_texts ts) (within_text t depth w.0) (within_texts ts depth w.1)
+    within_texts (more_trees t ts) depth w = and_from (has_text t) (items_have_texts ts) (within_text t depth w.0) (within_texts ts depth w.1)
 
     within_members : (ms : Members) (depth : ℕ) → HaveWithin P ms depth → members_have_texts ms ≡ true
     within_members no_members depth w = refl
-    within_members (more_members key t ms) depth w = both (has_text t) (members_have_texts ms) (within_text t depth w.0) (within_members ms depth w.1)
+    within_members (more_members key t ms) depth w = and_from (has_text t) (members_have_texts ms) (within_text t depth w.0) (within_members ms depth w.1)

@@ -11,6 +11,7 @@ use Rattle.std.specs.Ordering.{nat_cmp, ordering_then, match_ordering}
 use Rattle.std.specs.Str.Parse.{AllDigits, digits_value}
 use Rattle.std.proofs.lemmas.Bool.{cases_eq}
 use Rattle.std.proofs.lemmas.Fmt.{decimal-digits_value, length-decimal-le}
+use Rattle.std.proofs.lemmas.List.{nil_from_length}
 use Rattle.jsonb_value.specs.Grammar.Blanks.{IsBlank, space, tab, line_feed, form_feed, carriage_return, written_line_feed, written_carriage_return, written_tab, written_form_feed, block_comment, line_comment, IsBlanks, no_blanks, more_blanks, AreLastBlanks, blanks_to_end, line_to_end}
 use Rattle.jsonb_value.specs.Grammar.ExtendedNumber.{is_minus, decimal_number}
 use Rattle.jsonb_value.specs.Grammar.{IsPadded, padded, IsJoined, one_part, more_parts, IsElement, whole_element, empty_element, IsMember, key_and_value, AreDistinct, IsValue, scalar, empty_array, full_array, empty_object, full_object, Derives, max_depth, IsDocument, value_alone, blanks_alone}
@@ -124,13 +125,9 @@ begins_value before bytes whole (more_blanks {blank = blank} {rest = rest} one o
 
 -- ---- numbers
 
-no_items : (xs : List ℕ) → length xs ≡ 0 → xs ≡ []
-no_items [] e = refl
-no_items (x ∷ xs) e = absurd (omega (arith, e))
-
 zero_alone : (whole : List ℕ) → slice_index whole 0 ≡ 48 → length whole ≡ 1 → whole ≡ 48 ∷ []
 zero_alone [] first one = absurd (omega (arith, one))
-zero_alone (b ∷ bytes) first one = λ i. first i ∷ no_items bytes (omega (arith, one)) i
+zero_alone (b ∷ bytes) first one = λ i. first i ∷ nil_from_length bytes (omega (arith, one)) i
 
 few_digits : (whole : List ℕ) → IsWhole whole → digits_value 10 whole < 2 ^ 64 → length whole ≤ 20
 few_digits whole w small =

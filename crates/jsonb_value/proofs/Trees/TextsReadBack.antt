@@ -58,7 +58,7 @@ trees_of-items_of no_trees = refl
 trees_of-items_of (more_trees t ts) = ap (more_trees t) (trees_of-items_of ts)
 
 -- double quotes and words in lower case stand in each mode
-double_quote : (mode : Mode) → IsQuote mode 34
+pub double_quote : (mode : Mode) → IsQuote mode 34
 double_quote standard = refl
 double_quote extended = inl refl
 

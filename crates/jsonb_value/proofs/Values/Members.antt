@@ -29,7 +29,7 @@ at_middle : (P : String Global → Type 0) (es : List Entry) (e : Entry) (more :
 at_middle P [] e more h = h.0
 at_middle P (x ∷ es) e more h = at_middle P es e more h.1
 
-turned : (xs ys : List ℕ) → slice_cmp nat_cmp xs ys ≡ Less → slice_cmp nat_cmp ys xs ≡ Greater
+pub turned : (xs ys : List ℕ) → slice_cmp nat_cmp xs ys ≡ Less → slice_cmp nat_cmp ys xs ≡ Greater
 turned xs ys e = nat_list_cmp_total.antisymm ys xs ∙ ap ordering_reverse e
 
 -- a key above all others goes last

@@ -1,33 +1,20 @@
-use Rattle.std.proofs.Common.{◌≡◌, Result, Ok, Err, IfOk, IfErr, sym, subst}
 use Rattle.jsonb_value.specs.Mode.{extended}
 use Rattle.jsonb_value.specs.Proper.{IsProper}
 use Rattle.jsonb_value.specs.Text.Range.{IsInRange}
-use Rattle.jsonb_value.specs.Tree.{Tree}
 use Rattle.jsonb_value.specs.View.{view}
-use Rattle.jsonb_value.specs.declared.value.Value.{Value}
-use Rattle.jsonb_value.specs.declared.error.Error.{Error}
-use Rattle.jsonb_value.specs.declared.error.Error.TheVariants.{OutOfMemory}
 use Rattle.jsonb_value.proofs.Trees.DocumentsInRange.{extended_in_range}
 use Rattle.jsonb.specs.AstView.{ast_view}
 use Rattle.jsonb.proofs.Documents.Spellings.{document_unique}
 use Rattle.jsonb.proofs.Documents.Markers.{document_opened}
 use Rattle.jsonb.proofs.Containers.Values.{document_sound}
+use Rattle.jsonb.proofs.Steps.Outcomes.{refused_container, value_has}
 use Rattle.jsonb.proofs.parser.parse_value.Goals as goal
 
-refused_container : {A : Type 0} (Q : Type 0) (r : Result A Error) → IfErr r (λ e. (e ≡ OutOfMemory) × Q) → r ≡ Err OutOfMemory → Q
-refused_container Q (Ok x) h is = cc
-refused_container Q (Err e) h is = h.1
-
--- what holds of the tree holds of the value that is made of it
-held : {E : Type 0} (P : Tree → Type 0) (t : Tree) (r : Result Value E) → IfOk r (λ v. view v ≡ t) → P t → IfOk r (λ v. P (view v))
-held P t (Ok v) same p = subst P (sym same) p
-held P t (Err e) same p = tt
-
 pub returns-clause-in_range : goal.returns-clause-in_range
-returns-clause-in_range c = held IsInRange (ast_view c.in_ok-parse.field-0) c.into_value.result c.into_value.ensures.ok (extended_in_range c.args.buf.now _ c.in_ok-parse.ensures.document).0
+returns-clause-in_range c = value_has IsInRange (ast_view c.in_ok-parse.field-0) c.into_value.result c.into_value.ensures.ok (extended_in_range c.args.buf.now _ c.in_ok-parse.ensures.document).0
 
 pub returns-clause-proper : goal.returns-clause-proper
-returns-clause-proper c = held IsProper (ast_view c.in_ok-parse.field-0) c.into_value.result c.into_value.ensures.ok (extended_in_range c.args.buf.now _ c.in_ok-parse.ensures.document).1
+returns-clause-proper c = value_has IsProper (ast_view c.in_ok-parse.field-0) c.into_value.result c.into_value.ensures.ok (extended_in_range c.args.buf.now _ c.in_ok-parse.ensures.document).1
 
 pub returns-clause-memory : goal.returns-clause-memory
 returns-clause-memory c = λ is. document_opened extended c.args.buf.now _ c.in_ok-parse.ensures.document (refused_container _ c.into_value.result c.into_value.ensures.memory is)

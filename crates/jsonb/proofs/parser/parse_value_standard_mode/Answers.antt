@@ -1,4 +1,3 @@
-use Rattle.std.proofs.Common.{◌≡◌, Result, Ok, Err, IfOk, IfErr, sym, subst}
 use Rattle.jsonb_value.specs.Grammar.{IsDocument}
 use Rattle.jsonb_value.specs.Mode.{standard, extended}
 use Rattle.jsonb_value.specs.Order.{Same}
@@ -6,35 +5,24 @@ use Rattle.jsonb_value.specs.Proper.{IsProper}
 use Rattle.jsonb_value.specs.Text.Range.{IsIntegerRange}
 use Rattle.jsonb_value.specs.Tree.{Tree}
 use Rattle.jsonb_value.specs.View.{view}
-use Rattle.jsonb_value.specs.declared.value.Value.{Value}
-use Rattle.jsonb_value.specs.declared.error.Error.{Error}
-use Rattle.jsonb_value.specs.declared.error.Error.TheVariants.{OutOfMemory}
 use Rattle.jsonb_value.proofs.Trees.DocumentsInRange.{standard_in_range}
 use Rattle.jsonb_value.proofs.Trees.StandardInExtended.{standard_is_extended}
 use Rattle.jsonb.specs.AstView.{ast_view}
 use Rattle.jsonb.proofs.Documents.Spellings.{document_unique}
 use Rattle.jsonb.proofs.Documents.Markers.{document_opened}
 use Rattle.jsonb.proofs.Containers.Values.{document_sound}
+use Rattle.jsonb.proofs.Steps.Outcomes.{refused_container, value_has}
 use Rattle.jsonb.proofs.parser.parse_value_standard_mode.Goals as goal
 
-refused_container : {A : Type 0} (Q : Type 0) (r : Result A Error) → IfErr r (λ e. (e ≡ OutOfMemory) × Q) → r ≡ Err OutOfMemory → Q
-refused_container Q (Ok x) h is = cc
-refused_container Q (Err e) h is = h.1
-
--- what holds of the tree holds of the value that is made of it
-held : {E : Type 0} (P : Tree → Type 0) (t : Tree) (r : Result Value E) → IfOk r (λ v. view v ≡ t) → P t → IfOk r (λ v. P (view v))
-held P t (Ok v) same p = subst P (sym same) p
-held P t (Err e) same p = tt
-
 pub returns-clause-in_range : goal.returns-clause-in_range
-returns-clause-in_range c = held IsIntegerRange (ast_view c.in_ok-parse.field-0) c.into_value.result c.into_value.ensures.ok (standard_in_range c.args.buf.now _ c.in_ok-parse.ensures.document).0
+returns-clause-in_range c = value_has IsIntegerRange (ast_view c.in_ok-parse.field-0) c.into_value.result c.into_value.ensures.ok (standard_in_range c.args.buf.now _ c.in_ok-parse.ensures.document).0
 
 pub returns-clause-proper : goal.returns-clause-proper
-returns-clause-proper c = held IsProper (ast_view c.in_ok-parse.field-0) c.into_value.result c.into_value.ensures.ok (standard_in_range c.args.buf.now _ c.in_ok-parse.ensures.document).1
+returns-clause-proper c = value_has IsProper (ast_view c.in_ok-parse.field-0) c.into_value.result c.into_value.ensures.ok (standard_in_range c.args.buf.now _ c.in_ok-parse.ensures.document).1
 
 pub returns-clause-extended : goal.returns-clause-extended
 returns-clause-extended c =
-    held (λ t. (u : Tree) × IsDocument extended c.args.buf.now u × Same u t) (ast_view c.in_ok-parse.field-0) c.into_value.result c.into_value.ensures.ok (standard_is_extended c.args.buf.now _ c.in_ok-parse.ensures.document)
+    value_has (λ t. (u : Tree) × IsDocument extended c.args.buf.now u × Same u t) (ast_view c.in_ok-parse.field-0) c.into_value.result c.into_value.ensures.ok (standard_is_extended c.args.buf.now _ c.in_ok-parse.ensures.document)
 
 pub returns-clause-memory : goal.returns-clause-memory
 returns-clause-memory c = λ is. document_opened standard c.args.buf.now _ c.in_ok-parse.ensures.document (refused_container _ c.into_value.result c.into_value.ensures.memory is)

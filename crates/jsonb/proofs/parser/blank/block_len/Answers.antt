@@ -1,8 +1,8 @@
 use Rattle.std.proofs.Common.{◌≡◌, ◌+◌, ◌<◌, drop, get_or, sym, ap, subst, ◌∙◌, arith}
 use Rattle.std.specs.Int.{bit_at}
+use Rattle.std.proofs.lemmas.Nat.Bits.{bit_at-zero}
 use Rattle.jsonb.specs.Reading.Blank.{block_length, longer_by}
 use Rattle.jsonb.proofs.Text.Comments.{block_at, block_far, longer-longer}
-use Rattle.jsonb.proofs.Strings.NearMarks.{no_bits}
 use Rattle.jsonb.proofs.parser.blank.block_len.Goals as goal
 
 pub vectors-preserved : goal.vectors-preserved
@@ -12,7 +12,7 @@ vectors-preserved c =
     let none : c.block_ends-ends.result ≡ 0 = omega (arith, c.if-ends-ne0.false) in
     let far = block_far bytes at 32 (omega arith) (λ k low star slash.
     let bit = (c.block_ends-ends.ensures k).1 (low, star, slash) in
-    absurd (omega (arith, subst (λ m. bit_at m k ≡ 1) none bit, no_bits k))) in
+    absurd (omega (arith, subst (λ m. bit_at m k ≡ 1) none bit, bit_at-zero k))) in
     (c.vectors.invariant.0 ∙ ap (longer_by at) far ∙ longer-longer at 32 (block_length (drop (at + 32) bytes)), omega arith)
 
 pub returns-then-ends-ne0-clause-value : goal.returns-then-ends-ne0-clause-value

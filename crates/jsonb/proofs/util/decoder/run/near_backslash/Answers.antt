@@ -1,7 +1,6 @@
 use Rattle.std.proofs.Common.{◌≡◌, subst, arith, w64}
-use Rattle.std.proofs.lemmas.Nat.Bits.{bit_at-trailing_zeros}
+use Rattle.std.proofs.lemmas.Nat.Bits.{bit_at-trailing_zeros, bit_at-zero}
 use Rattle.std.specs.Int.{bit_at}
-use Rattle.jsonb.proofs.Strings.NearMarks.{no_bits}
 use Rattle.jsonb.proofs.util.decoder.run.near_backslash.Goals as goal
 
 pub returns-clause-within : goal.returns-clause-within
@@ -24,4 +23,4 @@ returns-clause-here c =
 pub returns-then-marks-eq0-clause-none : goal.returns-then-marks-eq0-clause-none
 returns-then-marks-eq0-clause-none c k low here =
     let set = (c.backslashes-marks.ensures k).1 (low, here) in
-    absurd (omega (arith, subst (λ m. bit_at m k ≡ 1) c.if-marks-eq0.true set, no_bits k))
+    absurd (omega (arith, subst (λ m. bit_at m k ≡ 1) c.if-marks-eq0.true set, bit_at-zero k))
