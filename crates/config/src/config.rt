@@ -1,6 +1,6 @@
 //! The settings of a server.
 
-ghost use Rattle.std.specs.Prelude.{◌≡◌, ◌↔◌, ℕ, ◌<◌, ◌^◌, pos, Some, None, option_map, string_bytes, IfOk, IfErr, IfSome, IfNone};
+ghost use Rattle.std.specs.Prelude.{◌≡◌, ◌↔◌, ℕ, ◌<◌, ◌^◌, pos, Some, None, option_map, IfOk, IfErr, IfSome, IfNone};
 ghost use Rattle.jsonb.specs.Accessors.{IsWholeNumber, as_boolean, as_string};
 ghost use Rattle.jsonb.specs.AstView.{ast_view, written_members};
 ghost use Rattle.jsonb.specs.Grammar.{IsDocument};

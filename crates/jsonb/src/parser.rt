@@ -1,6 +1,6 @@
 //! The reader of JSON texts: from left to right, with the first fault that it meets.
 
-ghost use Rattle.std.specs.Prelude.{◌≡◌, ◌≢◌, ◌+◌, ◌<◌, ◌≤◌, [], ◌∷◌, drop, MatchOption, MatchBool, IfOk, IfErr, Err};
+ghost use Rattle.std.specs.Prelude.{◌≡◌, ◌≢◌, ◌↔◌, IsTrue, ◌+◌, ◌<◌, ◌≤◌, [], ◌∷◌, drop, MatchOption, MatchBool, IfOk, IfErr, Err};
 ghost use Rattle.jsonb_value.specs.Code.{code_of};
 ghost use Rattle.jsonb_value.specs.Grammar.{IsDocument, IsNoDocument};
 ghost use Rattle.jsonb_value.specs.Mode.{standard, extended};
@@ -47,6 +47,11 @@ pub enum Mode {
     /// decimals and hexadecimals, and comments.
     Extended,
 }
+
+/// A law: two modes are equal exactly where they are the same one.
+pub fn modes_compare(left: &Mode, right: &Mode)
+    ensures equal { IsTrue (⟦<Mode as PartialEq>⟧.eq left.now right.now) ↔ (mode_of left.now ≡ mode_of right.now) }
+{}
 
 /// Reads a whole text of standard JSON.
 ///

@@ -6,9 +6,8 @@
 #![tactic(auto)]
 
 ghost use Rattle.std.specs.Prelude.{◌≡◌, ◌≤◌};
-ghost use Rattle.jsonb_value.specs.Grammar.{IsDocument, IsNoDocument};
+ghost use Rattle.jsonb_value.specs.Grammar.{IsNoDocument};
 ghost use Rattle.jsonb_value.specs.Mode.{standard, extended};
-ghost use Rattle.jsonb_value.specs.Tree.{Tree};
 
 use jsonb::{JsonAst, Mode, parse_value, parse_value_standard_mode};
 use std::alloc::Global;

@@ -1,6 +1,6 @@
 //! Comparing values, and sorting them.
 
-ghost use Rattle.std.specs.Prelude.{◌≡◌, ◌↔◌, IfOk, IsTrue};
+ghost use Rattle.std.specs.Prelude.{◌↔◌, IfOk, IsTrue};
 ghost use Rattle.jsonb.specs.Grammar.{IsDocument};
 ghost use Rattle.jsonb.specs.Mode.{extended};
 ghost use Rattle.jsonb.specs.Order.{Same};

@@ -5,7 +5,7 @@ mod laws;
 mod order;
 #[cfg(test)]
 mod tests;
-mod text;
+pub(crate) mod text;
 
 pub use laws::{
     decimal_texts_read_back, exact_casts_are_nearest, integer_texts_read_back,

@@ -1,6 +1,6 @@
 //! The part of a document at a path.
 
-ghost use Rattle.std.specs.Prelude.{◌≡◌, ◌<◌, ◌^◌, ℕ, List, map, string_bytes, IfOk, IfErr, IfSome, IfNone, MatchOption};
+ghost use Rattle.std.specs.Prelude.{◌≡◌, ◌<◌, ◌^◌, ℕ, map, string_bytes, IfOk, IfErr, IfSome, IfNone, MatchOption};
 ghost use Rattle.jsonb.specs.Tree.{Tree};
 ghost use Rattle.jsonb.specs.View.{view};
 ghost use Rattle.path.specs.Path.{IsIndex, IsChild, IsAt, IsPartText, HasNoPart, IsPathRefusal};

@@ -1,9 +1,8 @@
 //! Blanks between the parts of a text.
 ghost use Rattle.std.specs.Prelude.{◌≡◌, ◌↔◌, ℕ, ◌+◌, ◌<◌, ◌≤◌, ◌^◌, length, slice_index, MatchBool, drop};
 ghost use Rattle.std.specs.Int.{bit_at};
-ghost use Rattle.jsonb_value.specs.Mode.{extended};
 ghost use Rattle.jsonb.specs.Parser.{rest_of, size_of, mode_of, Advances};
-ghost use Rattle.jsonb.specs.Reading.Blank.{longer_by, block_length, line_length, comment_length, blank_length, opens_comment, pass_blanks, skip_blanks};
+ghost use Rattle.jsonb.specs.Reading.Blank.{block_length, line_length, comment_length, blank_length, opens_comment, pass_blanks, skip_blanks};
 
 use super::vector::{both, equal_to, load, lowest, top_bits};
 use super::{Mode, Parser};

@@ -131,8 +131,8 @@ fn integer(negative: bool, digits: Option<u64>) -> Option<Number>
     }
 }
 
-// Whether a byte goes on with a number after its whole part.
-fn follows_whole(byte: u8) -> bool
+// Whether a byte goes on with a number after its whole part, or stands behind a fraction as if it did.
+pub(super) fn follows_whole(byte: u8) -> bool
     ensures { MatchBool result (FollowsWhole byte) (¬ FollowsWhole byte) }
 {
     matches!(byte, b'.' | b'e' | b'E')

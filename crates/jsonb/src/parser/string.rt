@@ -51,28 +51,12 @@ pub(super) fn next_mark(bytes: &[u8], quote: u8, at: usize) -> usize
         ⊎ (slice_index bytes.now result ≡ 92) }
 {
     if bytes.len() - at < 32 {
-        return last_mark(bytes, quote, at);
+        return far_mark(bytes, quote, at);
     }
     if let Some(near) = near_mark(bytes, quote, at) {
         return near;
     }
     far_mark(bytes, quote, at + 32)
-}
-
-// The same byte by byte, as few are left.
-fn last_mark(bytes: &[u8], quote: u8, at: usize) -> usize
-    requires { at ≤ length bytes.now }
-    ensures bounds { (at ≤ result) × (result ≤ length bytes.now) }
-    ensures before { (k : ℕ) → at ≤ k → k < result → (slice_index bytes.now k ≢ quote)
-        × (slice_index bytes.now k ≢ 92) }
-    ensures here { result < length bytes.now → (slice_index bytes.now result ≡ quote)
-        ⊎ (slice_index bytes.now result ≡ 92) }
-{
-    let mut end = at;
-    'bytes: while end < bytes.len() && bytes[end] != quote && bytes[end] != b'\\' {
-        end += 1;
-    }
-    end
 }
 
 // The same by a search of all that is left.

@@ -2,7 +2,7 @@
 ghost use Rattle.std.specs.Prelude.{◌≡◌, ◌+◌, ◌*◌, ◌^◌, ◌≤◌, ◌<◌, ◌∷◌, [], length, vec_len, vec_capacity, IfOk, IfErr, OnOk, Some, None, string_bytes};
 ghost use Rattle.jsonb_value.specs.Mode.{standard};
 ghost use Rattle.jsonb_value.specs.Code.{code_of};
-ghost use Rattle.jsonb_value.specs.Grammar.StringBody.{escaped_byte, kept, alone, Decodes};
+ghost use Rattle.jsonb_value.specs.Grammar.StringBody.{escaped_byte, Decodes};
 ghost use Rattle.jsonb.specs.Parser.{mode_of};
 ghost use Rattle.jsonb.specs.StringRefusal.{IsDecodingError};
 ghost use Rattle.jsonb.specs.Decoding.{Adds, StopsAtEscape};

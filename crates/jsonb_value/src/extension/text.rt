@@ -1,6 +1,6 @@
 //! The texts of values beyond JSON, without quotes.
 ghost use Rattle.std.specs.Prelude.{◌≡◌, ◌↔◌, ◌⊎◌, ◌+◌, ◌<◌, ◌≤◌, ◌++◌, length, Some, None, IfErr, IfSome, IsErrOf, OnOk, OnErr, vec_len};
-ghost use Rattle.std.specs.Fmt.{decimal, sign_text};
+ghost use Rattle.std.specs.Fmt.{decimal};
 ghost use Rattle.std.specs.Fmt.InlineText.{inline_text};
 ghost use Rattle.std.specs.Vec.{vec_capacity};
 ghost use Rattle.jsonb_value.specs.Text.BinaryText.{hexadecimal_pair, binary_text};
@@ -11,6 +11,7 @@ ghost use Rattle.jsonb_value.specs.View.{extension_view};
 
 use super::{ExtensionValue, Interval};
 use crate::error::{Error, Result};
+use crate::number::text::sign_of;
 use itoa::Buffer;
 use std::alloc::AllocError;
 use std::fmt;
@@ -80,12 +81,6 @@ fn and_amount(text: IntervalText, amount: i32, unit: &str) -> IntervalText
     } else {
         and(named, "s")
     }
-}
-
-fn sign_of(negative: bool) -> &'static str
-    ensures { result.now ≡ sign_text negative }
-{
-    if negative { "-" } else { "" }
 }
 
 // The text and a point and six digits, which are left out where they are 0.

@@ -1,8 +1,8 @@
 //! Arithmetic of 64-bit integers, exact or refused.
-ghost use Rattle.std.specs.Prelude.{◌≡◌, ℕ, ℤ, Some, None, pos, neg_ℤ, ◌^◌, ◌<ℤ◌, ◌≤ℤ◌, MatchOption, IfSome, IfNone, FitsSigned};
-ghost use Rattle.std.specs.Int.{w64, w128};
+ghost use Rattle.std.specs.Prelude.{◌≡◌, ℤ, Some, None, IfSome, IfNone, FitsSigned};
+ghost use Rattle.std.specs.Int.{w128};
 ghost use Rattle.std.specs.Option.{SomeIff};
-ghost use Rattle.jsonb_value.specs.Number.Arithmetic.{whole_of, IsMessage, RefusesWith, AnswersInt64, AnswersUInt64, AnswersAs, common_kind, kind_by_sign, IsWithin65Bits, difference_overflow, AnswersRemainder, IsSum, IsProduct, IsDifference, IsRest, IsNegation};
+ghost use Rattle.jsonb_value.specs.Number.Arithmetic.{whole_of, IsMessage, AnswersInt64, AnswersUInt64, AnswersAs, common_kind, kind_by_sign, IsWithin65Bits, difference_overflow, AnswersRemainder, IsSum, IsProduct, IsDifference, IsRest, IsNegation};
 
 use crate::error::{Error, Result};
 use crate::number::{Decimal64, Decimal128, Number};

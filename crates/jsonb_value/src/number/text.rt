@@ -57,7 +57,7 @@ impl<'a> TextParts<'a> {
     }
 }
 
-fn sign_of(negative: bool) -> &'static str
+pub(crate) fn sign_of(negative: bool) -> &'static str
     ensures { result.now ≡ sign_text negative }
 {
     if negative { "-" } else { "" }

@@ -8,7 +8,7 @@ ghost use Rattle.jsonb_value.specs.View.{view, trees_view, members_view, mark_vi
 
 use super::{Object, Value};
 use crate::number::Number;
-use std::alloc::AllocError;
+use std::alloc::{AllocError, Global};
 use std::borrow::CowStr;
 use std::default::Emptied;
 
@@ -93,14 +93,32 @@ fn copy_members<'a>(members: &Object<'a>) -> Result<Object<'a>, AllocError>
 {
     if members.len() > FEW {
         if let Some((first, _)) = members.first_key_value() {
-            let mut pairs = Vec::with_capacity(*first.allocator(), members.len())?;
-            'pairs: for (key, value) in members.iter() {
-                let name = key.clone()?;
-                pairs.push((name, copy(value)?))?;
-            }
-            return build(pairs);
+            return build(copy_pairs(*first.allocator(), members)?);
         }
     }
+    insert_copies(members)
+}
+
+#[cycle(copy)]
+fn copy_pairs<'a>(
+    alloc: Global,
+    members: &Object<'a>,
+) -> Result<Vec<(String, Value<'a>)>, AllocError>
+    ensures same { IfOk result (λ pairs. members_view pairs.items ≡ members_view members.now.entries) }
+    ensures ascend { IfOk result (λ pairs. KeysAscend (members_view pairs.items)) }
+{
+    let mut pairs = Vec::with_capacity(alloc, members.len())?;
+    'pairs: for (key, value) in members.iter() {
+        let name = key.clone()?;
+        pairs.push((name, copy(value)?))?;
+    }
+    Ok(pairs)
+}
+
+#[cycle(copy)]
+fn insert_copies<'a>(members: &Object<'a>) -> Result<Object<'a>, AllocError>
+    ensures { IfOk result (λ m. members_view m.entries ≡ members_view members.now.entries) }
+{
     let mut copies = Object::emptied(members)?;
     'members: for (key, value) in members.iter() {
         let name = key.clone()?;

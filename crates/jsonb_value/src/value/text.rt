@@ -35,7 +35,7 @@ pub fn string_texts_read_back()
 type Appended = std::result::Result<(), AllocError>;
 
 impl Value<'_> {
-    /// AppendsText the value's text: JSON with no blanks, members in the order of their keys, binary data
+    /// Appends the value's text: JSON with no blanks, members in the order of their keys, binary data
     /// and intervals as strings. After a refusal `buf` has the same bytes as before.
     ///
     /// # Errors
@@ -185,7 +185,7 @@ fn append_members<'a>(members: &Object<'a>, buf: &mut Vec<u8>) -> Appended
     buf.extend_from_slice(b"}")
 }
 
-// AppendsText the comma before an item or a member. The first has none.
+// Appends the comma before an item or a member. The first has none.
 fn append_comma(is_first: bool, buf: &mut Vec<u8>) -> Appended
     ensures ok { OnOk result (buf.new.items ≡ buf.old.items ++ comma_before is_first) }
     ensures err { OnErr result (buf.new.items ≡ buf.old.items) }
@@ -200,7 +200,7 @@ fn append_comma(is_first: bool, buf: &mut Vec<u8>) -> Appended
     }
 }
 
-// AppendsText a member's key and the colon after it.
+// Appends a member's key and the colon after it.
 fn append_key(key: &String, buf: &mut Vec<u8>) -> Appended
     ensures ok { OnOk result (buf.new.items
         ≡ buf.old.items ++ (quoted_text (string_bytes key.now) ++ 58 ∷ [])) }
@@ -252,7 +252,7 @@ fn append_string(text: &str, buf: &mut Vec<u8>) -> Appended
     buf.extend_from_slice(b"\"")
 }
 
-// AppendsText a string's bytes, which mostly need no escape.
+// Appends a string's bytes, which mostly need no escape.
 #[inline(always)]
 fn append_escaped(bytes: &[u8], buf: &mut Vec<u8>) -> Appended
     ensures ok { OnOk result (buf.new.items ≡ buf.old.items ++ flat_map byte_text bytes.now) }
@@ -377,7 +377,7 @@ fn first_set(mask: u64, lanes: usize) -> usize
     }
 }
 
-// AppendsText a byte of a string, with an escape where it needs one.
+// Appends a byte of a string, with an escape where it needs one.
 fn append_byte(byte: u8, buf: &mut Vec<u8>) -> Appended
     ensures ok { OnOk result (buf.new.items ≡ buf.old.items ++ byte_text byte) }
     ensures err { OnErr result (buf.new.items ≡ buf.old.items) }

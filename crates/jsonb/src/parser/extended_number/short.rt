@@ -3,11 +3,11 @@ ghost use Rattle.std.specs.Prelude.{◌≡◌, ◌+◌, ◌-◌, ◌*◌, ◌≤
 ghost use Rattle.std.specs.Bool.{MatchBool};
 ghost use Rattle.std.specs.Str.Parse.{digits_value_after};
 ghost use Rattle.jsonb_value.specs.View.{number_view};
-ghost use Rattle.jsonb.specs.Reading.Number.{FollowsWhole, digits_length, sign_end};
+ghost use Rattle.jsonb.specs.Reading.Number.{digits_length, sign_end};
 ghost use Rattle.jsonb.specs.Reading.ExtendedNumber.{front_end, extended_scan, FollowsDigits};
 
 use super::form::{DECIMAL64_DIGITS, short_decimal, short_integer};
-use crate::parser::number::{SAFE_DIGITS, byte_at, sign_end};
+use crate::parser::number::{SAFE_DIGITS, byte_at, follows_whole, sign_end};
 use jsonb_value::number::Number;
 
 // A number and the index after its text.
@@ -56,13 +56,6 @@ fn follows_digits(byte: u8) -> bool
     matches!(byte, b'.' | b'e' | b'E' | b'x' | b'X')
 }
 
-// Whether a byte goes on with a decimal after the digits behind its point, or is a second point.
-fn follows_fraction(byte: u8) -> bool
-    ensures { MatchBool result (FollowsWhole byte) (¬ FollowsWhole byte) }
-{
-    matches!(byte, b'.' | b'e' | b'E')
-}
-
 // The number that the bytes begin with, if it is a decimal of few digits and without an exponent.
 #[inline(always)]
 pub(super) fn short_number(bytes: &[u8]) -> Option<ReadNumber>
@@ -79,7 +72,7 @@ pub(super) fn short_number(bytes: &[u8]) -> Option<ReadNumber>
         let all = digits_behind(&bytes[front_end + 1..], front)?;
         let scale = all.len - front.len;
         let end = front_end + 1 + scale;
-        if all.len == 0 || all.len > DECIMAL64_DIGITS || follows_fraction(byte_at(bytes, end)) {
+        if all.len == 0 || all.len > DECIMAL64_DIGITS || follows_whole(byte_at(bytes, end)) {
             return None;
         }
         return Some(ReadNumber {

@@ -1,9 +1,9 @@
 //! The bytes up to the next escape.
-ghost use Rattle.std.specs.Prelude.{◌≡◌, ℕ, ◌+◌, ◌*◌, ◌≤◌, ◌<◌, ◌++◌, length, take, slice_index, vec_len, vec_capacity, All, IfSome, IfNone, Some, None, ◌↔◌};
+ghost use Rattle.std.specs.Prelude.{◌≡◌, ℕ, ◌+◌, ◌≤◌, ◌<◌, ◌++◌, length, take, slice_index, vec_len, vec_capacity, IfSome, IfNone, Some, None, ◌↔◌};
 ghost use Rattle.std.specs.Int.{bit_at};
 ghost use Rattle.jsonb.specs.Decoding.{SeesNoBackslash, CopiesRun};
 
-use super::room::{extend_within, push_within};
+use super::room::extend_within;
 use memchr::memchr;
 use std::simd::prelude::*;
 
@@ -78,25 +78,6 @@ fn copy_many<'a>(bytes: &'a [u8], text: &mut Vec<u8>) -> &'a [u8]
     rest
 }
 
-// The same byte by byte.
-#[inline(always)]
-fn copy_singly<'a>(bytes: &'a [u8], text: &mut Vec<u8>) -> &'a [u8]
-    requires { vec_len text.old + length bytes.now ≤ vec_capacity text.old }
-    ensures copies { CopiesRun bytes.now result.now text.old.items text.new.items }
-    ensures len { vec_len text.new + length result.now ≡ vec_len text.old + length bytes.now }
-    ensures capacity { vec_capacity text.old ≤ vec_capacity text.new }
-{
-    let mut at = 0;
-    'bytes: while at < bytes.len() {
-        if bytes[at] == b'\\' {
-            return &bytes[at..];
-        }
-        push_within(text, bytes[at]);
-        at += 1;
-    }
-    &bytes[at..]
-}
-
 // The same, where the first backslash is likely to be near.
 #[inline(always)]
 fn copy_near<'a>(bytes: &'a [u8], text: &mut Vec<u8>) -> &'a [u8]
@@ -106,7 +87,7 @@ fn copy_near<'a>(bytes: &'a [u8], text: &mut Vec<u8>) -> &'a [u8]
     ensures capacity { vec_capacity text.old ≤ vec_capacity text.new }
 {
     if bytes.len() < 16 {
-        return copy_singly(bytes, text);
+        return copy_many(bytes, text);
     }
     match near_backslash(bytes) {
         Some(count) => copy_few(bytes, count, text),
@@ -137,7 +118,7 @@ pub(super) fn copy_run<'a>(bytes: &'a [u8], text: &mut Vec<u8>) -> &'a [u8]
     ensures capacity { vec_capacity text.old ≤ vec_capacity text.new }
 {
     if bytes.len() < 16 {
-        return copy_singly(bytes, text);
+        return copy_many(bytes, text);
     }
     match near_backslash(bytes) {
         Some(count) => copy_few(bytes, count, text),

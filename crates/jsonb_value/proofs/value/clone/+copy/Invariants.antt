@@ -8,9 +8,9 @@ invariant-copy_items-items l = (map view l.copies.items ≡ map view (take l.ite
     × (vec_len l.copies ≡ l.item-index) × (length l.item-items ≤ vec_capacity l.copies)
 
 -- what is left completes the copies to the whole
-abbrev pub invariant-copy_members-members : goal.invariant-copy_members-members
-invariant-copy_members-members l = put_all (pairs_view l.key-iterator) (members_view l.copies.entries) ≡ members_view l.members.entries
+abbrev pub invariant-insert_copies-members : goal.invariant-insert_copies-members
+invariant-insert_copies-members l = put_all (pairs_view l.key-iterator) (members_view l.copies.entries) ≡ members_view l.members.entries
 
 -- what is left completes the pairs to the whole
-abbrev pub invariant-copy_members-pairs : goal.invariant-copy_members-pairs
-invariant-copy_members-pairs l = pairs_view l.pairs.items ++ pairs_view l.key-iterator ≡ pairs_view l.members.entries
+abbrev pub invariant-copy_pairs-pairs : goal.invariant-copy_pairs-pairs
+invariant-copy_pairs-pairs l = pairs_view l.pairs.items ++ pairs_view l.key-iterator ≡ pairs_view l.members.entries
