@@ -217,7 +217,7 @@ impl<'a> Parser<'a> {
         requires { self.old.idx ≤ size_of self.old }
         ensures reads { (t : Tree) → Gives (λ _. t) result (at_end (size_of self.old) (mode_of self.old.mode) t
             (pass_blanks (mode_of self.old.mode) (rest_of self.old))) }
-        ensures named { result ≢ Err Error.OutOfMemory }
+        ensures takes_no_memory { result ≢ Err Error.OutOfMemory }
     {
         self.pass_blanks();
         if self.idx >= self.buf.len() {
@@ -234,7 +234,7 @@ impl<'a> Parser<'a> {
         requires { self.now.idx < size_of self.now }
         ensures reads { (t : Tree) → Gives (λ _. t) result (comment_at (size_of self.now) t
             (drop 1 (rest_of self.now))) }
-        ensures named { result ≢ Err Error.OutOfMemory }
+        ensures takes_no_memory { result ≢ Err Error.OutOfMemory }
     {
         let next = self.idx + 1;
         if next < self.buf.len() && self.buf[next] == b'/' {

@@ -74,7 +74,7 @@ impl<'a> Parser<'a> {
         requires { self.old.idx ≤ size_of self.old }
         ensures reads { Gives (λ s. ((mark_view s, cow_str_bytes s), rest_of self.new)) result
             (bare_key_at (size_of self.old) (rest_of self.old)) }
-        ensures named { result ≢ Err Error.OutOfMemory }
+        ensures takes_no_memory { result ≢ Err Error.OutOfMemory }
         ensures advances { Advances self.old self.new }
     {
         let Some(byte) = self.peek() else {

@@ -218,7 +218,7 @@ impl<'a> Parser<'a> {
     pub(super) fn parse_word(&mut self, word: &[u8]) -> Result<()>
         ensures reads { Gives (λ _. rest_of self.new) result
             (letters_at (size_of self.old) (mode_of self.old.mode) word.now (rest_of self.old)) }
-        ensures named { result ≢ Err Error.OutOfMemory }
+        ensures takes_no_memory { result ≢ Err Error.OutOfMemory }
         ensures advances { Advances self.old self.new }
     {
         'letters: for letter in word {

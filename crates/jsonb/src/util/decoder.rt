@@ -121,7 +121,8 @@ pub(crate) fn unescape(alloc: Global, bytes: &[u8], mode: Mode, idx: &mut usize)
 /// Decodes the body of a JSON string: what stands between its quotes. An escape is one of `\"`, `\\`, `\/`, `\b`,
 /// `\f`, `\n`, `\r`, `\t`, `\u` and four hexadecimal digits, or the same with the digits in braces; a high surrogate
 /// and the low one right after it are one character, and a surrogate alone is kept as it is spelled. Every other byte
-/// stands for itself. `len` is a hint for the first growth, and no answer depends on it.
+/// stands for itself. No answer depends on `len`: the room that is asked for is the length of `data`, which is always
+/// enough.
 ///
 /// `idx` is moved by the length of `data` on success, and past the fault on a refusal, whose position is the index that
 /// is left.
@@ -136,7 +137,6 @@ pub fn parse_string(alloc: Global, data: &[u8], len: usize, idx: &mut usize) -> 
     ensures end { OnOk result (idx.new ≡ idx.old + length «data».now) }
     ensures err { IfErr result (IsDecodingError standard «data».now idx.old idx.new) }
 {
-    // The room that is asked for is the length of the data, which is always enough.
     let _ = len;
     unescape(alloc, data, Mode::Standard, idx)
 }

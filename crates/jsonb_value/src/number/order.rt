@@ -23,9 +23,7 @@ impl Number {
             Number::Decimal128(decimal) => (decimal.value, decimal.scale),
         }
     }
-}
 
-impl Number {
     // The order, by the parts of both.
     fn cmp_parts(&self, other: &Number) -> Ordering
         ensures { result ≡ num_cmp (number_view self.now) (number_view other.now) }

@@ -51,7 +51,7 @@ impl Value<'_> {
         // Memory is refused only where the room for the whole text is missing.
         ensures full { IsErrOf result Error.OutOfMemory → IfSome (text_of (view self.now))
             (λ bytes. vec_capacity buf.old < vec_len buf.old + length bytes) }
-        ensures room { vec_capacity buf.old ≤ vec_capacity buf.new }
+        ensures capacity { vec_capacity buf.old ≤ vec_capacity buf.new }
         ensures proper { OnOk result (IsProper (view self.now)) }
         // What is written of a value in a mode's range is a document of the mode, of the same value, whose text it is
         // again.
@@ -126,7 +126,7 @@ fn append<'a>(value: &Value<'a>, buf: &mut Vec<u8>) -> Appended
     ensures kept { Extends buf.old.items buf.new.items }
     ensures full { OnErr result
         (vec_capacity buf.old < vec_len buf.old + length (tree_text (view value.now))) }
-    ensures room { vec_capacity buf.old ≤ vec_capacity buf.new }
+    ensures capacity { vec_capacity buf.old ≤ vec_capacity buf.new }
 {
     match value {
         Value::Null => buf.extend_from_slice(b"null"),
@@ -151,7 +151,7 @@ fn append_items<'a>(items: &Vec<Value<'a>>, buf: &mut Vec<u8>) -> Appended
     ensures kept { Extends buf.old.items buf.new.items }
     ensures full { OnErr result (vec_capacity buf.old < vec_len buf.old
         + length (91 ∷ with_commas (item_texts (trees_view items.now.items)) ++ 93 ∷ [])) }
-    ensures room { vec_capacity buf.old ≤ vec_capacity buf.new }
+    ensures capacity { vec_capacity buf.old ≤ vec_capacity buf.new }
 {
     buf.extend_from_slice(b"[")?;
     let mut is_first = true;
@@ -172,7 +172,7 @@ fn append_members<'a>(members: &Object<'a>, buf: &mut Vec<u8>) -> Appended
     ensures kept { Extends buf.old.items buf.new.items }
     ensures full { OnErr result (vec_capacity buf.old < vec_len buf.old
         + length (123 ∷ with_commas (member_texts (members_view members.now.entries)) ++ 125 ∷ [])) }
-    ensures room { vec_capacity buf.old ≤ vec_capacity buf.new }
+    ensures capacity { vec_capacity buf.old ≤ vec_capacity buf.new }
 {
     buf.extend_from_slice(b"{")?;
     let mut is_first = true;
@@ -191,7 +191,7 @@ fn append_comma(is_first: bool, buf: &mut Vec<u8>) -> Appended
     ensures err { OnErr result (buf.new.items ≡ buf.old.items) }
     ensures full { OnErr result
         (vec_capacity buf.old < vec_len buf.old + length (comma_before is_first)) }
-    ensures room { vec_capacity buf.old ≤ vec_capacity buf.new }
+    ensures capacity { vec_capacity buf.old ≤ vec_capacity buf.new }
 {
     if is_first {
         Ok(())
@@ -208,7 +208,7 @@ fn append_key(key: &String, buf: &mut Vec<u8>) -> Appended
     ensures kept { Extends buf.old.items buf.new.items }
     ensures full { OnErr result (vec_capacity buf.old < vec_len buf.old
         + length (quoted_text (string_bytes key.now) ++ 58 ∷ [])) }
-    ensures room { vec_capacity buf.old ≤ vec_capacity buf.new }
+    ensures capacity { vec_capacity buf.old ≤ vec_capacity buf.new }
 {
     append_string(key.as_str(), buf)?;
     buf.extend_from_slice(b":")
@@ -219,7 +219,7 @@ fn append_quoted_binary(bytes: &[u8], buf: &mut Vec<u8>) -> Appended
     ensures kept { Extends buf.old.items buf.new.items }
     ensures full { OnErr result
         (vec_capacity buf.old < vec_len buf.old + length (in_quotes (binary_text bytes.now))) }
-    ensures room { vec_capacity buf.old ≤ vec_capacity buf.new }
+    ensures capacity { vec_capacity buf.old ≤ vec_capacity buf.new }
 {
     buf.extend_from_slice(b"\"")?;
     append_binary(bytes, buf)?;
@@ -232,7 +232,7 @@ fn append_quoted_interval(interval: &Interval, buf: &mut Vec<u8>) -> Appended
     ensures kept { Extends buf.old.items buf.new.items }
     ensures full { OnErr result (vec_capacity buf.old < vec_len buf.old + length
         (in_quotes (interval_text interval.now.months interval.now.days interval.now.micros))) }
-    ensures room { vec_capacity buf.old ≤ vec_capacity buf.new }
+    ensures capacity { vec_capacity buf.old ≤ vec_capacity buf.new }
 {
     buf.extend_from_slice(b"\"")?;
     interval.append_text(buf)?;
@@ -245,7 +245,7 @@ fn append_string(text: &str, buf: &mut Vec<u8>) -> Appended
     ensures kept { Extends buf.old.items buf.new.items }
     ensures full { OnErr result
         (vec_capacity buf.old < vec_len buf.old + length (quoted_text text.now)) }
-    ensures room { vec_capacity buf.old ≤ vec_capacity buf.new }
+    ensures capacity { vec_capacity buf.old ≤ vec_capacity buf.new }
 {
     buf.extend_from_slice(b"\"")?;
     append_escaped(text.as_bytes(), buf)?;
@@ -259,7 +259,7 @@ fn append_escaped(bytes: &[u8], buf: &mut Vec<u8>) -> Appended
     ensures kept { Extends buf.old.items buf.new.items }
     ensures full { OnErr result
         (vec_capacity buf.old < vec_len buf.old + length (flat_map byte_text bytes.now)) }
-    ensures room { vec_capacity buf.old ≤ vec_capacity buf.new }
+    ensures capacity { vec_capacity buf.old ≤ vec_capacity buf.new }
 {
     if run_len(bytes) < bytes.len() {
         return append_runs(bytes, buf);
@@ -274,7 +274,7 @@ fn append_runs(bytes: &[u8], buf: &mut Vec<u8>) -> Appended
     ensures kept { Extends buf.old.items buf.new.items }
     ensures full { OnErr result
         (vec_capacity buf.old < vec_len buf.old + length (flat_map byte_text bytes.now)) }
-    ensures room { vec_capacity buf.old ≤ vec_capacity buf.new }
+    ensures capacity { vec_capacity buf.old ≤ vec_capacity buf.new }
 {
     let mut rest = bytes;
     'runs: loop {
@@ -382,7 +382,7 @@ fn append_byte(byte: u8, buf: &mut Vec<u8>) -> Appended
     ensures ok { OnOk result (buf.new.items ≡ buf.old.items ++ byte_text byte) }
     ensures err { OnErr result (buf.new.items ≡ buf.old.items) }
     ensures full { OnErr result (vec_capacity buf.old < vec_len buf.old + length (byte_text byte)) }
-    ensures room { vec_capacity buf.old ≤ vec_capacity buf.new }
+    ensures capacity { vec_capacity buf.old ≤ vec_capacity buf.new }
 {
     match byte {
         b'"' => buf.extend_from_slice(b"\\\""),
