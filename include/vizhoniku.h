@@ -23,7 +23,7 @@ extern "C" {
 
 /* Which grammar a text is read by. docs/GRAMMAR.md has both. Any other number is answered by VIZHONIKU_UNKNOWN_MODE. */
 enum vizhoniku_mode {
-  VIZHONIKU_STANDARD = 0, /* JSON as RFC 8259 has it, with a few more spellings of blanks */
+  VIZHONIKU_STANDARD = 0, /* JSON as RFC 8259 has it, with a few more spellings */
   VIZHONIKU_EXTENDED = 1, /* comments, single quotes, keys without quotes, decimals, hexadecimals and more */
 };
 

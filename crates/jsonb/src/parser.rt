@@ -41,7 +41,7 @@ use std::alloc::Global;
 /// Which grammar a text is read by.
 #[derive(Clone, Copy, Debug, PartialEq, Eq)]
 pub enum Mode {
-    /// JSON as RFC 8259 has it, with a few more spellings of blanks.
+    /// JSON as RFC 8259 has it, with a few more spellings of blanks and strings.
     Standard,
     /// Words in either case, single quotes, keys without quotes, elements that are left out, texts of blanks alone,
     /// decimals and hexadecimals, and comments.

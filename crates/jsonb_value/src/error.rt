@@ -64,8 +64,10 @@ pub enum Error {
     /// What is wrong with a text, and a position, counted in bytes from its start. `ExpectedSomeValue`,
     /// `ExpectedSomeIdent`, `UnexpectedTrailingCharacters`, `ObjectKeyInvalidNumber` and `DepthLimitExceeded` name a
     /// byte by its index plus 1. `ExpectedColon`, `ExpectedArrayCommaOrEnd`, `ExpectedObjectCommaOrEnd` and
-    /// `ObjectKeyInvalidCharacter` name one by its index. The others name the index after what they speak of, or
-    /// where the reader stands, which can pass the end of the text. `docs/GRAMMAR.md` has an example of each.
+    /// `ObjectKeyInvalidCharacter` name one by its index. `InvalidEscaped`, `InvalidHex` and
+    /// `UnexpectedEndOfHexEscape` name the index after what they speak of, plus 1. The others name the index after what
+    /// they speak of, or where the reader stands, which can pass the end of the text. `docs/GRAMMAR.md` has an example
+    /// of each.
     Syntax(ParseErrorCode, usize),
     OutOfMemory,
 }

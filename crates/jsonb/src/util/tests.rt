@@ -26,21 +26,23 @@ fn decoded_texts(rt: HostRuntime) -> Result<(), Fail> {
 fn faults(rt: HostRuntime) -> Result<(), Fail> {
     let alloc = rt.alloc();
     for (data, want) in [
-        ("\\u{00}", "unexpected end of hex escape, pos 2"),
-        ("\\u{0041x", "unexpected end of hex escape, pos 2"),
-        ("\\u{00G1}", "invalid hex '47', pos 8"),
-        ("\\uD800\\uDC0", "unexpected end of hex escape, pos 8"),
-        ("\\z", "invalid escaped '7A', pos 2"),
-        ("\\u123", "unexpected end of hex escape, pos 2"),
-        ("\\uGHIJ", "invalid hex '47', pos 6"),
-        ("\\'", "invalid escaped '27', pos 2"),
+        (&b"\\u{00}"[..], "unexpected end of hex escape, pos 2"),
+        (&b"\\u{0041x"[..], "unexpected end of hex escape, pos 2"),
+        (&b"\\u{00G1}"[..], "invalid hex '47', pos 8"),
+        (&b"\\uD800\\uDC0"[..], "unexpected end of hex escape, pos 8"),
+        (&b"\\z"[..], "invalid escaped '7A', pos 2"),
+        (&b"\\u123"[..], "unexpected end of hex escape, pos 2"),
+        (&b"\\uGHIJ"[..], "invalid hex '47', pos 6"),
+        (&b"\\'"[..], "invalid escaped '27', pos 2"),
+        (&b"ab\\"[..], "unexpected end of hex escape, pos 3"),
+        (&b"\\n\xFFab"[..], "invalid string, pos 5"),
     ] {
         let mut idx = 0;
-        let Err(error) = parse_string(alloc, data.as_bytes(), data.len(), &mut idx) else {
-            return Ok(assert!(rt; false, "{data} is decoded"));
+        let Err(error) = parse_string(alloc, data, data.len(), &mut idx) else {
+            return Ok(assert!(rt; false, "{data:?} is decoded"));
         };
         let text = format!(in alloc; "{error}")?;
-        assert_eq!(rt; text.as_str(), want, "of {data}");
+        assert_eq!(rt; text.as_str(), want, "of {data:?}");
     }
     Ok(())
 }

@@ -162,6 +162,7 @@ fn sums_and_products(rt: HostRuntime) {
             Want::Message("UInt64 overflow"),
         ),
         (Number::Int64(5), Number::UInt64(1), Want::Unsigned(6)),
+        (Number::Int64(5), Number::Int64(-7), Want::Signed(-2)),
         (Number::UInt64(1), decimal128(0, 1), Want::UnexpectedType),
     ] {
         assert!(rt; is_answer(&left.add(alloc, right), want), "{want:?}");
@@ -182,6 +183,7 @@ fn sums_and_products(rt: HostRuntime) {
             Number::UInt64(SIGN_BIT),
             Want::Message("UInt64 overflow"),
         ),
+        (Number::UInt64(3), Number::Int64(-2), Want::Signed(-6)),
         (decimal64(0, 1), Number::UInt64(1), Want::UnexpectedType),
     ] {
         assert!(rt; is_answer(&left.mul(alloc, right), want), "{want:?}");
@@ -204,6 +206,11 @@ fn differences_and_remainders(rt: HostRuntime) {
         ),
         (Number::UInt64(0), Number::UInt64(1), Want::Signed(-1)),
         (
+            Number::Int64(i64::MIN),
+            Number::Int64(1),
+            Want::Message("Int64 overflow"),
+        ),
+        (
             Number::UInt64(u64::MAX),
             Number::UInt64(0),
             Want::Message("UInt64 overflow"),
@@ -224,6 +231,8 @@ fn differences_and_remainders(rt: HostRuntime) {
         ),
         (Number::UInt64(u64::MAX), Number::Int64(-2), Want::Signed(1)),
         (Number::Int64(7), Number::UInt64(4), Want::Unsigned(3)),
+        (Number::Int64(-7), Number::Int64(2), Want::Signed(-1)),
+        (Number::UInt64(7), Number::UInt64(4), Want::Unsigned(3)),
         (Number::UInt64(SIGN_BIT), Number::Int64(-1), Want::Signed(0)),
         (
             Number::Int64(i64::MIN),

@@ -56,6 +56,7 @@ fn extended_integers(rt: HostRuntime) -> Result<(), Fail> {
     for (input, want, text) in &[
         ("-5", Number::Int64(-5), "-5"),
         ("-0", Number::UInt64(0), "0"),
+        ("5", Number::UInt64(5), "5"),
         ("+007", Number::UInt64(7), "7"),
         ("1.", Number::UInt64(1), "1"),
         ("0.", Number::UInt64(0), "0"),
@@ -121,6 +122,8 @@ fn long_numbers(rt: HostRuntime) -> Result<(), Fail> {
     expect_number(&rt, mode, &whole, &decimal128(0, NINES), &whole)?;
     let fraction = repeated(rt.alloc(), "0.", "9", 38, "")?;
     expect_number(&rt, mode, &fraction, &decimal128(38, NINES), &fraction)?;
+    let hexadecimal = b"0x4B3B4CA85A86C47A098A223FFFFFFFFF";
+    expect_number(&rt, mode, hexadecimal, &decimal128(0, NINES), &whole)?;
     let padded = repeated(rt.alloc(), "", "0", 40, "1")?;
     expect_number(&rt, mode, &padded, &Number::UInt64(1), b"1")
 }
@@ -174,6 +177,14 @@ fn numbers_that_extended_mode_refuses(rt: HostRuntime) -> Result<(), Fail> {
             ("0x1.", "invalid number, pos 4"),
             ("0x1.8", "number not carried, pos 5"),
             ("0x1.8.", "number not carried, pos 5"),
+            (
+                "0x4B3B4CA85A86C47A098A224000000000",
+                "number not carried, pos 34",
+            ),
+            (
+                "-0x4B3B4CA85A86C47A098A224000000000",
+                "number not carried, pos 35",
+            ),
             ("00x1", "trailing characters, pos 3"),
         ],
     )
@@ -189,6 +200,7 @@ fn words_are_no_numbers(rt: HostRuntime) -> Result<(), Fail> {
             ("+nan", "number not carried, pos 4"),
             ("-nan", "invalid number, pos 4"),
             ("Infinity", "number not carried, pos 8"),
+            ("+infinity", "number not carried, pos 9"),
             ("-Infinity", "number not carried, pos 9"),
             ("-in", "EOF while parsing a value, pos 3"),
         ],
@@ -223,6 +235,22 @@ fn long_numbers_that_are_refused(rt: HostRuntime) -> Result<(), Fail> {
         ),
         (&EXTENDED[..], "0x", "F", 33, ".", "invalid number, pos 36"),
         (&EXTENDED[..], "0x1", "0", 32, "", "invalid number, pos 35"),
+        (
+            &EXTENDED[..],
+            "0x1",
+            "0",
+            32,
+            ".8",
+            "invalid number, pos 37",
+        ),
+        (
+            &EXTENDED[..],
+            "0x1.1",
+            "0",
+            32,
+            "",
+            "invalid number, pos 37",
+        ),
     ] {
         let input = repeated(rt.alloc(), front, digit, times, back)?;
         for mode in modes {
