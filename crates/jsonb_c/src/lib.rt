@@ -111,6 +111,7 @@ pub extern "C" fn vizhoniku_text(
     // A document is accepted, unless memory ran out.
     ensures accepted { IsAccepted mode text.now
         → (result ≡ ACCEPTED) ⊎ (result ≡ TOO_SHORT) ⊎ (result ≡ OUT_OF_MEMORY) }
+    ensures memory { result ≡ OUT_OF_MEMORY → HoldsMarker text.now ⊎ IsAccepted mode text.now }
 
     // Which fault it is, and where.
     ensures refused { result ≡ REFUSED → IsRefused mode text.now 1 refusal.new }
@@ -229,6 +230,7 @@ fn put(bytes: &[u8], out: &mut [u8]) -> u32
 fn text_of(alloc: Global, mode: u32, text: &[u8]) -> Result<Vec<u8>, Refused>
     ensures text { IfOk result (λ bytes. IsTextOf mode text.now bytes.items) }
     ensures reason { IfErr result (IsReason mode (IsRefused mode text.now 1)) }
+    ensures memory { result ≡ Err Refused.OutOfMemory → HoldsMarker text.now ⊎ IsAccepted mode text.now }
 {
     let value = value_of(alloc, mode, text, 1)?;
     let mut bytes = Vec::new(alloc);
