@@ -1,4 +1,4 @@
-use Rattle.std.proofs.Common.{◌≡◌, ◌↔◌, ℕ, List, [], ◌∷◌, ◌++◌, false, Result, Ok, Err, if◌then◌else◌, refl, sym, subst, ap, ◌∙◌, append_assoc}
+use Rattle.std.proofs.Common.{◌≡◌, ◌↔◌, ℕ, List, [], ◌∷◌, ◌++◌, false, Result, Ok, Err, inr, if◌then◌else◌, refl, sym, subst, ap, ◌∙◌, append_assoc}
 use Rattle.std.specs.Result.{is_err, is_ok}
 use Rattle.jsonb_value.specs.Grammar.{IsDocument}
 use Rattle.jsonb_value.specs.Text.{AppendsText}
@@ -27,6 +27,24 @@ again mode t input old now new document written pushed text ended line =
 -- the same of the mode and the value that a branch of the match gives
 moved : (n m : Mode) (u v : Value) (input : List ℕ) → n ≡ m → u ≡ v → IsDocument (mode_of m) input (view v) → IsDocument (mode_of n) input (view u)
 moved n m u v input modes values document = subst (λ k. IsDocument (mode_of k) input (view u)) (sym modes) (subst (λ w. IsDocument (mode_of m) input (view w)) (sym values) document)
+
+-- so the input is a document of some tree
+some_document : (n m : Mode) (u v : Value) (input : List ℕ) → n ≡ m → u ≡ v → IsDocument (mode_of m) input (view v) → (t : Tree) × IsDocument (mode_of n) input t
+some_document n m u v input modes values document = (view u, moved n m u v input modes values document)
+
+pub returns-in_err-write_text-clause-memory : goal.returns-in_err-write_text-clause-memory
+returns-in_err-write_text-clause-memory c = λ memory. inr (
+    elim c.match-mode.branch [
+      | in-Standard+in_ok-value-in-Standard w ↦ some_document c.args.mode Standard c.match-mode.value _ c.args.input.now w.in-Standard.is w.value-is w.in_ok-value-in-Standard.ensures.document
+      | in-Extended+in_ok-value-in-Extended w ↦ some_document c.args.mode Extended c.match-mode.value _ c.args.input.now w.in-Extended.is w.value-is w.in_ok-value-in-Extended.ensures.document
+    ])
+
+pub returns-then-is_err-clause-memory : goal.returns-then-is_err-clause-memory
+returns-then-is_err-clause-memory c = λ memory. inr (
+    elim c.match-mode.branch [
+      | in-Standard+in_ok-value-in-Standard w ↦ some_document c.args.mode Standard c.match-mode.value _ c.args.input.now w.in-Standard.is w.value-is w.in_ok-value-in-Standard.ensures.document
+      | in-Extended+in_ok-value-in-Extended w ↦ some_document c.args.mode Extended c.match-mode.value _ c.args.input.now w.in-Extended.is w.value-is w.in_ok-value-in-Extended.ensures.document
+    ])
 
 pub returns-clause-again : goal.returns-clause-again
 returns-clause-again c = λ text ended line.
