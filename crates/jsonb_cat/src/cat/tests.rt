@@ -76,10 +76,11 @@ impl Read for Blanks {
     }
 }
 
-// Takes so many bytes, and then fails.
+// Takes so many bytes and keeps them, and then fails.
 #[derive(Drop)]
 struct Full {
     left: usize,
+    bytes: Vec<u8>,
 }
 
 impl Write for Full {
@@ -88,6 +89,7 @@ impl Write for Full {
         if count == 0 {
             return Err(io::Error::from(io::ErrorKind::StorageFull));
         }
+        self.bytes.extend_from_slice(&buf[..count])?;
         self.left -= count;
         Ok(count)
     }
@@ -97,15 +99,15 @@ impl Write for Full {
     }
 }
 
-// Takes all bytes, and fails to pass them on.
+// Takes all bytes and keeps them, and fails to pass them on.
 #[derive(Drop)]
 struct Unflushed {
-    written: usize,
+    bytes: Vec<u8>,
 }
 
 impl Write for Unflushed {
     fn write(&mut self, buf: &[u8]) -> io::Result<usize> {
-        self.written = self.written.saturating_add(buf.len());
+        self.bytes.extend_from_slice(buf)?;
         Ok(buf.len())
     }
 
@@ -206,11 +208,17 @@ fn the_last_read_may_tell_the_end(rt: HostRuntime) -> std::result::Result<(), Fa
 
 #[test]
 fn a_fault_in_telling_an_error_changes_no_status(rt: HostRuntime) -> std::result::Result<(), Fail> {
-    for (word, status) in [("--x", 2), ("--standard", 1)] {
+    for (word, status, told) in [
+        ("--x", 2, "usage: jsonb_cat [--standard]\n"),
+        ("--standard", 1, "InvalidUtf8\n"),
+    ] {
         for left in 0..4 {
             let words = words_of(rt.alloc(), word)?;
             let mut out = Vec::new(rt.alloc());
-            let mut err = Full { left };
+            let mut err = Full {
+                left,
+                bytes: Vec::new(rt.alloc()),
+            };
             let got = run(
                 rt.alloc(),
                 &words,
@@ -219,6 +227,7 @@ fn a_fault_in_telling_an_error_changes_no_status(rt: HostRuntime) -> std::result
                 &mut err,
             );
             assert_eq!(rt; got, status);
+            assert_eq!(rt; err.bytes.as_slice(), &told.as_bytes()[..left]);
             assert!(rt; out.is_empty());
         }
     }
@@ -274,6 +283,7 @@ fn texts_that_are_cut_off_are_refused(rt: HostRuntime) -> std::result::Result<()
         (r#""\u"#, "EOF while parsing a value, pos 3\n"),
         (r#""\u{"#, "EOF while parsing a value, pos 9\n"),
         (r#""\u1"#, "EOF while parsing a value, pos 7\n"),
+        (r#""\u1""#, "EOF while parsing a value, pos 7\n"),
     ] {
         for words in ["", "--standard"] {
             expect_run(&rt, words, &mut input.as_bytes(), 1, "", refusal)?;
@@ -333,10 +343,14 @@ fn a_writer_that_fails_ends_the_run(rt: HostRuntime) -> std::result::Result<(), 
         let words = words_of(rt.alloc(), word)?;
         for left in 0..6 {
             let mut err = Vec::new(rt.alloc());
-            let mut out = Full { left };
+            let mut out = Full {
+                left,
+                bytes: Vec::new(rt.alloc()),
+            };
             let mut input = b"[1]".as_slice();
             let got = run(rt.alloc(), &words, &mut input, &mut out, &mut err);
             assert_eq!(rt; got, if left < 4 { 1 } else { 0 }, "with room for {left}");
+            assert_eq!(rt; out.bytes.as_slice(), &b"[1]\n"[..left.min(4)]);
             assert!(rt; err.is_empty());
         }
     }
@@ -347,7 +361,9 @@ fn a_writer_that_fails_ends_the_run(rt: HostRuntime) -> std::result::Result<(), 
 fn a_writer_that_can_not_be_flushed_ends_the_run(rt: HostRuntime) -> std::result::Result<(), Fail> {
     let words = words_of(rt.alloc(), "--standard")?;
     let mut err = Vec::new(rt.alloc());
-    let mut out = Unflushed { written: 0 };
+    let mut out = Unflushed {
+        bytes: Vec::new(rt.alloc()),
+    };
     let got = run(
         rt.alloc(),
         &words,
@@ -356,7 +372,7 @@ fn a_writer_that_can_not_be_flushed_ends_the_run(rt: HostRuntime) -> std::result
         &mut err,
     );
     assert_eq!(rt; got, 1);
-    assert_eq!(rt; out.written, 4);
+    assert_eq!(rt; out.bytes.as_slice(), b"[1]\n".as_slice());
     assert!(rt; err.is_empty());
     Ok(())
 }
