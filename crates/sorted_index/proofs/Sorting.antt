@@ -1,5 +1,5 @@
 -- What sorting and keeping one of the equal ones leave.
-use Rattle.std.proofs.Common.{◌≡◌, true, List, IsPermutation, IsSorted, Any, Ordering, Less, Equal, Greater, is_eq, Bool, refl, sym, subst}
+use Rattle.std.proofs.Common.{◌≡◌, ◌≢◌, true, List, [], ◌∷◌, IsPermutation, IsSorted, Any, Ordering, Less, Equal, Greater, is_eq, Bool, refl, sym, subst, arith}
 use Rattle.std.proofs.lemmas.List.Kept.{Any-dedup, Contains-from_dedup, IsStrictlySortedBy-dedup}
 use Rattle.std.proofs.lemmas.List.Sorted.{Contains-permutation, IsPermutation-sym}
 use Rattle.std.specs.Cmp.{on_total, on_equiv, eq_by_cmp_equiv}
@@ -30,3 +30,9 @@ sorted_once given sorted index moved up kept =
       was_given = λ v h. Contains-permutation sorted given v (IsPermutation-sym given sorted moved) (Contains-from_dedup same_value sorted v h);
       stands = λ v h. found v (dedup same_value sorted) (Any-dedup (on_equiv view (eq_by_cmp_equiv tree_cmp_total)) sorted v (Contains-permutation given sorted v moved h));
     })
+
+-- the index of no values is empty
+pub some_given : (given index : List Value) → IsIndexOf given index → index ≢ [] → given ≢ []
+some_given [] [] is some = some
+some_given [] (v ∷ index) is some = let given = is.was_given v (0, omega arith, refl) in absurd (omega (arith, given.1))
+some_given (w ∷ given) index is some = λ e. cc

@@ -1,5 +1,5 @@
 -- The index of the documents that stand on lines.
-use Rattle.std.specs.Prelude.{◌≡◌, ◌≢◌, ℕ, ◌+◌, List, [], ◌∷◌, ◌++◌, length, map, Contains, Some, Vec, ⊤}
+use Rattle.std.specs.Prelude.{◌≡◌, ◌≢◌, ℕ, ◌+◌, List, [], ◌∷◌, ◌++◌, length, map, Contains, Some, Vec}
 use Rattle.std.specs.List.{Any}
 use Rattle.std.specs.List.Sorted.{IsStrictlySortedBy}
 use Rattle.std.specs.declared.alloc.Global.{Global}
@@ -9,6 +9,7 @@ use Rattle.jsonb.specs.Grammar.{IsDocument, IsNoDocument}
 use Rattle.jsonb.specs.Mode.{extended}
 use Rattle.jsonb.specs.Parser.{Fails, HoldsMarker}
 use Rattle.jsonb.specs.Reading.Document.{document_of}
+use Rattle.jsonb.specs.Tree.{Tree}
 use Rattle.jsonb.specs.View.{view}
 use Rattle.jsonb_value.specs.Order.{tree_cmp}
 use Rattle.jsonb_value.specs.Text.{text_of}
@@ -67,7 +68,12 @@ pub record IsFirstFault (lines : List (List ℕ)) (number : ℕ) (error : Error)
   pub memory : error ≡ OutOfMemory → HoldsMarker line
   pub fault : Fails error (document_of extended line)
 
--- A line is refused, or memory ran out.
+-- there is a first line, and it is a document
+abbrev pub BeginsWithDocument : List (List ℕ) → Type 0
+BeginsWithDocument [] = ⊥
+BeginsWithDocument (line ∷ others) = (tree : Tree) × IsDocument extended line tree
+
+-- A line is refused, or memory ran out, which is asked for once there is a value to keep.
 abbrev pub IsLineRefusal : List (List ℕ) → Refusal → Type 0
 IsLineRefusal lines (Line number error) = IsFirstFault lines number error
-IsLineRefusal lines NoMemory = ⊤
+IsLineRefusal lines NoMemory = BeginsWithDocument lines

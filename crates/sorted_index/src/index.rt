@@ -1,6 +1,6 @@
 //! The index of the documents that stand on lines: their values in order, equal ones once.
 
-ghost use Rattle.std.specs.Prelude.{OnOk, OnErr, IfOk, IfErr, ◌≡◌};
+ghost use Rattle.std.specs.Prelude.{OnOk, OnErr, IfOk, IfErr, ◌≡◌, ◌≢◌, ◌<◌, [], vec_len};
 ghost use Rattle.sorted_index.specs.Index.{contents, AreDocuments, IsIndexOf, AreTexts, IsIndexText, IsLineRefusal};
 
 use jsonb::{Error, Value};
@@ -36,10 +36,12 @@ impl From<AllocError> for Refusal {
     }
 }
 
-/// Sorts the values, and keeps one of those that are equal. After an error the values are as they were.
+/// Sorts the values, and keeps one of those that are equal. After an error the values are as they were. Only more than
+/// 20 values take memory.
 pub fn sort_values(values: &mut Vec<Value>) -> Result<(), AllocError>
     ensures ok { OnOk result (IsIndexOf values.old.items values.new.items) }
     ensures err { OnErr result (values.new.items ≡ values.old.items) }
+    ensures memory { OnErr result (20 < vec_len values.old) }
 {
     values.sort()?;
     values.dedup();
@@ -51,7 +53,8 @@ pub fn sort_values(values: &mut Vec<Value>) -> Result<(), AllocError>
 ///
 /// # Errors
 ///
-/// `Line` with the number of the first line that is no document, and its fault, and `NoMemory`.
+/// `Line` with the number of the first line that is no document, and its fault, and `NoMemory` where the first line is a
+/// document and memory ran out.
 pub fn index_text(alloc: Global, lines: &[Vec<u8>]) -> Result<Vec<u8>, Refusal>
     ensures ok { IfOk result (λ text. IsIndexText (contents lines.now) text.items) }
     ensures refused { IfErr result (IsLineRefusal (contents lines.now)) }
@@ -66,7 +69,7 @@ fn read_values<'a>(alloc: Global, lines: &'a [Vec<u8>]) -> Result<Vec<Value<'a>>
     ensures ok { IfOk result (λ values. AreDocuments (contents lines.now) values.items) }
     ensures refused { IfErr result (IsLineRefusal (contents lines.now)) }
 {
-    let mut values = Vec::with_capacity(alloc, lines.len())?;
+    let mut values = Vec::new(alloc);
     'lines: for (index, line) in lines.iter().enumerate() {
         let value = match jsonb::parse_value(alloc, line) {
             Ok(value) => value,
@@ -83,6 +86,7 @@ fn read_values<'a>(alloc: Global, lines: &'a [Vec<u8>]) -> Result<Vec<Value<'a>>
 fn texts_of(alloc: Global, values: &[Value]) -> Result<Vec<u8>, Refusal>
     ensures ok { IfOk result (λ text. AreTexts values.now text.items) }
     ensures refused { IfErr result (λ e. e ≡ Refusal.NoMemory) }
+    ensures memory { OnErr result (values.now ≢ []) }
 {
     let mut text = Vec::new(alloc);
     'values: for value in values {

@@ -5,11 +5,11 @@ use Rattle.jsonb.specs.Parser.{HoldsMarker}
 use Rattle.jsonb.specs.View.{view}
 use Rattle.jsonb_value.specs.declared.error.Error.TheVariants.{OutOfMemory}
 use Rattle.sorted_index.specs.Index.{contents, AreDocuments, no_documents}
-use Rattle.sorted_index.proofs.LinesRead.{next_document, first_fault}
+use Rattle.sorted_index.proofs.LinesRead.{next_document, first_read, first_fault}
 use Rattle.sorted_index.proofs.index.read_values.Goals as goal
 
 pub lines-init : goal.lines-init
-lines-init c = subst (λ values. AreDocuments [] values) (sym c.in_ok-values.ensures.items) no_documents
+lines-init c = subst (λ values. AreDocuments [] values) (sym c.new-values.ensures.items) no_documents
 
 pub returns-in-Err-clause-refused : goal.returns-in-Err-clause-refused
 returns-in-Err-clause-refused c =
@@ -18,6 +18,11 @@ returns-in-Err-clause-refused c =
     let memory : c.in-Err.error ≡ OutOfMemory → HoldsMarker line.items = λ none. subst HoldsMarker c.deref.ensures.value (c.parse_value.ensures.memory (c.in-Err.is ∙ ap Err none)) in
     let fault = rw c.deref.ensures.value at c.in-Err.ensures.exact in
     first_fault c.args.lines.now c.lines.index line c.lines.values.items c.in-Err.error (omega arith) c.index-lines-index.is c.lines.invariant refused memory fault
+
+pub returns-in_default-clause-refused : goal.returns-in_default-clause-refused
+returns-in_default-clause-refused c =
+    let document = subst (λ bytes. IsDocument extended bytes (view c.in-Ok.value)) c.deref.ensures.value c.in-Ok.ensures.document in
+    first_read c.args.lines.now c.lines.index c.index-lines-index.result c.lines.values.items c.in-Ok.value (omega arith) c.index-lines-index.is c.lines.invariant document
 
 pub lines-preserved : goal.lines-preserved
 lines-preserved c =
