@@ -1,5 +1,5 @@
--- What is refused of lines and of frames.
-use Rattle.std.proofs.Common.{◌≡◌, ◌≢◌, ◌⊎◌, inl, inr, ℕ, ◌+◌, ◌<◌, List, [], ◌∷◌, ◌++◌, length, take, drop, get_or, None, IsSome, Vec, Global, refl, sym, subst, ap, ◌∙◌, add-one, append-nil, drop-cons, take-append-drop}
+-- What is refused of lines and of frames, and where there is no room for a frame.
+use Rattle.std.proofs.Common.{◌≡◌, ◌≢◌, ◌⊎◌, inl, inr, ℕ, ◌+◌, ◌<◌, List, [], ◌∷◌, ◌++◌, length, take, drop, get_or, true, Option, Some, None, IsSome, IfSome, Result, Ok, Err, OnErr, is_err, Vec, Global, refl, sym, subst, ap, ◌∙◌, add-one, append-nil, drop-cons, take-append-drop, arith}
 use Rattle.jsonb.specs.Grammar.{IsDocument}
 use Rattle.jsonb.specs.Mode.{extended}
 use Rattle.jsonb.specs.Tree.{Tree}
@@ -7,9 +7,10 @@ use Rattle.jsonb_value.proofs.Trees.DocumentTexts.{document_has_text}
 use Rattle.jsonb_value.specs.Text.{text_of}
 use Rattle.jsonb_value.specs.declared.error.Error.{Error}
 use Rattle.jsonb_value.specs.declared.error.Error.TheVariants as error
+use Rattle.codec.specs.Frame.{frame_of}
 use Rattle.codec.specs.declared.values.Refusal.{Refusal}
 use Rattle.codec.specs.declared.values.Refusal.TheVariants.{TooLong, CutShort, Refused}
-use Rattle.codec.specs.Values.{contents, IsFrame, AreEncoded, no_lines, EncodeRefuses, DecodeRefuses, LineRefuses, EncodeLinesRefuses, DecodeLinesRefuses}
+use Rattle.codec.specs.Values.{contents, IsFrame, AreEncoded, no_lines, EncodeRefuses, DecodeLineRefuses, LineRefuses, EncodeLinesRefuses, DecodeLinesRefuses}
 use Rattle.codec.proofs.Lines.{contents-append, Reaches, front_decoded}
 
 -- a document has a text
@@ -19,10 +20,9 @@ has_text bytes t document none =
     cc
 
 -- the value of a frame that can't be written
-pub unwritten : (bytes : List ℕ) (t : Tree) (rest : List ℕ) (e : Error) → IsFrame bytes t rest → ((e ≡ error.UnexpectedType) × (text_of t ≡ None)) ⊎ (e ≡ error.OutOfMemory) → DecodeRefuses bytes (Refused e)
+pub unwritten : (bytes : List ℕ) (t : Tree) (rest : List ℕ) (e : Error) → IsFrame bytes t rest → ((e ≡ error.UnexpectedType) × (text_of t ≡ None)) ⊎ (e ≡ error.OutOfMemory) → DecodeLineRefuses bytes (Refused e)
 unwritten bytes t rest e frame (inl p) = absurd (has_text frame.text t frame.document p.1)
-unwritten bytes t rest e frame (inr memory) =
-    subst (λ x. DecodeRefuses bytes (Refused x)) (sym memory) (frame.text, rest, frame.begins, (λ other. absurd (other refl)), tt)
+unwritten bytes t rest e frame (inr memory) = inr (ap Refused memory, t, rest, frame)
 
 -- the value of a line that has no frame
 pub unframed : (line : List ℕ) (t : Tree) (r : Refusal) → IsDocument extended line t → EncodeRefuses t r → LineRefuses line r
@@ -30,7 +30,7 @@ unframed line t TooLong document refused = (t, document, refused)
 unframed line t CutShort document refused = refused
 unframed line t (Refused e) document (inl p) = absurd (has_text line t document p.1)
 unframed line t (Refused e) document (inr memory) =
-    subst (λ x. LineRefuses line (Refused x)) (sym memory) ((λ other. absurd (other refl)), tt)
+    subst (λ x. LineRefuses line (Refused x)) (sym memory) ((λ other. absurd (other refl)), (λ same. inr (t, document)), tt)
 
 -- the first line that is refused
 pub first_refused : (lines : List (Vec ℕ Global)) (i : ℕ) (line : Vec ℕ Global) (bytes : List ℕ) (r : Refusal) → i < length lines → line ≡ get_or lines i line
@@ -49,7 +49,7 @@ first_refused lines i line bytes r within is so_far refused =
     }
 
 -- the frames that are left are refused
-pub frames_refused : (frames left text : List ℕ) (r : Refusal) → Reaches frames left text → length left ≢ 0 → DecodeRefuses left r → DecodeLinesRefuses frames r
+pub frames_refused : (frames left text : List ℕ) (r : Refusal) → Reaches frames left text → length left ≢ 0 → DecodeLineRefuses left r → DecodeLinesRefuses frames r
 frames_refused frames left text r so_far some refused = record {
   front = so_far.front;
   text = text;
@@ -59,3 +59,13 @@ frames_refused frames left text r so_far some refused = record {
   more = λ nothing. some (ap length nothing);
   refused = refused;
 }
+
+-- the clause of a call that was refused
+pub refused_growth : {T E : Type 0} {P : Type 0} (r : Result T E) → OnErr r P → is_err r ≡ true → P
+refused_growth (Ok x) told refused = cc
+refused_growth (Err e) told refused = told
+
+-- where a length doesn't fit, no frame does
+pub no_room : (text : Option (List ℕ)) (capacity len : ℕ) → capacity < len + 4 → IfSome text (λ bytes. capacity < len + length (frame_of bytes))
+no_room None capacity len full = tt
+no_room (Some bytes) capacity len full = omega (arith, full)

@@ -3,7 +3,7 @@ use Rattle.std.specs.Prelude.{◌≡◌, ◌≢◌, ◌⊎◌, ℕ, ◌<◌, ◌
 use Rattle.std.specs.declared.alloc.Global.{Global}
 use Rattle.jsonb.specs.Grammar.{IsDocument, IsNoDocument}
 use Rattle.jsonb.specs.Mode.{extended}
-use Rattle.jsonb.specs.Parser.{Fails}
+use Rattle.jsonb.specs.Parser.{Fails, HoldsMarker}
 use Rattle.jsonb.specs.Reading.Document.{document_of}
 use Rattle.jsonb.specs.Tree.{Tree}
 use Rattle.jsonb_value.specs.Order.{Same}
@@ -40,13 +40,14 @@ EncodeRefuses t CutShort = ⊥
 EncodeRefuses t (Refused e) = ((e ≡ error.UnexpectedType) × (text_of t ≡ None)) ⊎ (e ≡ error.OutOfMemory)
 
 -- The bytes begin with no frame, or with the frame of a text that is no document, or memory ran out. The fault of the
--- text is as reading tells it.
+-- text is as reading tells it, which asks for memory only where the text holds a marker.
 abbrev pub DecodeRefuses : List ℕ → Refusal → Type 0
 DecodeRefuses bytes TooLong = ⊥
 DecodeRefuses bytes CutShort = (text rest : List ℕ) → BeginsWith bytes text rest → ⊥
 DecodeRefuses bytes (Refused e) =
     (text : List ℕ) × (rest : List ℕ) × BeginsWith bytes text rest
-    × (e ≢ error.OutOfMemory → IsNoDocument extended text) × Fails e (document_of extended text)
+    × (e ≢ error.OutOfMemory → IsNoDocument extended text) × (e ≡ error.OutOfMemory → HoldsMarker text)
+    × Fails e (document_of extended text)
 
 -- the bytes of each line
 abbrev pub contents : List (Vec ℕ Global) → List (List ℕ)
@@ -59,11 +60,12 @@ pub data AreEncoded : List (List ℕ) → List ℕ → Type 0 where
       → DecodesAs bytes t rest → AreEncoded lines rest → AreEncoded (line ∷ lines) bytes
 
 -- The line is no document, and the fault is as reading tells it, or the text of its tree is too long for a frame, or
--- memory ran out.
+-- memory ran out: for what the line holds, or for the frame of its tree.
 abbrev pub LineRefuses : List ℕ → Refusal → Type 0
 LineRefuses line TooLong = (t : Tree) × IsDocument extended line t × EncodeRefuses t TooLong
 LineRefuses line CutShort = ⊥
 LineRefuses line (Refused e) = (e ≢ error.OutOfMemory → IsNoDocument extended line)
+    × (e ≡ error.OutOfMemory → HoldsMarker line ⊎ ((t : Tree) × IsDocument extended line t))
     × Fails e (document_of extended line)
 
 -- The lines before this one are documents that have frames, and this one is refused.
@@ -94,7 +96,12 @@ pub data AreDecoded : List ℕ → List ℕ → Type 0 where
   more_frames : {bytes rest line others : List ℕ} → DecodesLine bytes rest [] line → AreDecoded rest others
       → AreDecoded bytes (line ++ others)
 
--- The bytes are frames with their lines, and more behind them, which is refused as `decode` refuses it.
+-- The first frame is refused as `decode` refuses it, or memory ran out for the line of its tree.
+abbrev pub DecodeLineRefuses : List ℕ → Refusal → Type 0
+DecodeLineRefuses bytes refusal = DecodeRefuses bytes refusal
+    ⊎ ((refusal ≡ Refused error.OutOfMemory) × (t : Tree) × (rest : List ℕ) × IsFrame bytes t rest)
+
+-- The bytes are frames with their lines, and more behind them, of which the first frame is refused.
 pub record DecodeLinesRefuses (bytes : List ℕ) (refusal : Refusal) : Type 0 where
   pub front : List ℕ
   pub text : List ℕ
@@ -102,4 +109,4 @@ pub record DecodeLinesRefuses (bytes : List ℕ) (refusal : Refusal) : Type 0 wh
   pub left : List ℕ
   pub split : bytes ≡ front ++ left
   pub more : left ≢ []
-  pub refused : DecodeRefuses left refusal
+  pub refused : DecodeLineRefuses left refusal

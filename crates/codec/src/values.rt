@@ -1,11 +1,12 @@
 //! Values in frames.
 
-ghost use Rattle.std.specs.Prelude.{◌≡◌, ◌≢◌, ◌⊎◌, ◌++◌, ℕ, List, None, OnOk, OnErr, IfOk, IfErr};
+ghost use Rattle.std.specs.Prelude.{◌≡◌, ◌≢◌, ◌⊎◌, ◌+◌, ◌<◌, ◌++◌, ℕ, List, length, None, vec_len, vec_capacity, OnOk, OnErr, IfOk, IfErr, IfSome, IsErrOf};
 ghost use Rattle.jsonb.specs.Tree.{Tree};
 ghost use Rattle.jsonb.specs.View.{view};
 ghost use Rattle.jsonb_value.specs.Text.{text_of};
 ghost use Rattle.jsonb_value.specs.Text.Range.{IsInRange};
-ghost use Rattle.codec.specs.Values.{contents, IsFrame, AppendsFrame, DecodesAs, AreEncoded, AppendsLine, DecodesLine, AreDecoded, EncodeRefuses, DecodeRefuses, EncodeLinesRefuses, DecodeLinesRefuses};
+ghost use Rattle.codec.specs.Frame.{frame_of};
+ghost use Rattle.codec.specs.Values.{contents, IsFrame, AppendsFrame, DecodesAs, AreEncoded, AppendsLine, DecodesLine, AreDecoded, EncodeRefuses, DecodeRefuses, DecodeLineRefuses, EncodeLinesRefuses, DecodeLinesRefuses};
 
 use crate::frame::{SIZE_LEN, close_frame, split_frame};
 use jsonb::{Error, Value};
@@ -38,7 +39,7 @@ impl fmt::Display for Refusal {
 /// # Errors
 ///
 /// `TooLong` where the text has 2^32 bytes or more, and what [`Value::write_text`] refuses: `UnexpectedType` where a
-/// date or a time stands in the value, and `OutOfMemory`.
+/// date or a time stands in the value, and `OutOfMemory` only where `out` has no room for the whole frame.
 pub fn encode(value: &Value, out: &mut Vec<u8>) -> Result<(), Refusal>
     ensures ok { OnOk result (AppendsFrame (view value.now) out.old.items out.new.items) }
     // What was appended, and any bytes after it, begin with the frame of an equal value with the same text.
@@ -46,6 +47,9 @@ pub fn encode(value: &Value, out: &mut Vec<u8>) -> Result<(), Refusal>
         → out.new.items ≡ out.old.items ++ bytes → DecodesAs (bytes ++ rest) (view value.now) rest) }
     ensures err { OnErr result (out.new.items ≡ out.old.items) }
     ensures refused { IfErr result (EncodeRefuses (view value.now)) }
+    // Memory is refused only where the room for the whole frame is missing.
+    ensures full { IsErrOf result (Refusal.Refused Error.OutOfMemory) → IfSome (text_of (view value.now))
+        (λ text. vec_capacity out.old < vec_len out.old + length (frame_of text)) }
 {
     let start = out.len();
     if out.extend_from_slice(&[0; SIZE_LEN]).is_err() {
@@ -110,7 +114,8 @@ pub fn encode_lines(alloc: Global, lines: &[Vec<u8>]) -> Result<Vec<u8>, Refusal
 ///
 /// # Errors
 ///
-/// What [`decode`] refuses of the bytes from the first frame on that has no value, and `Refused` where memory ran out.
+/// What [`decode`] refuses of the bytes from the first frame on that has no value, and `Refused` where memory ran out
+/// for a frame's line.
 pub fn decode_lines(alloc: Global, frames: &[u8]) -> Result<Vec<u8>, Refusal>
     ensures decoded { IfOk result (λ text. AreDecoded frames.now text.items) }
     ensures refused { IfErr result (DecodeLinesRefuses frames.now) }
@@ -126,7 +131,7 @@ pub fn decode_lines(alloc: Global, frames: &[u8]) -> Result<Vec<u8>, Refusal>
 // Appends the text of the first frame's value and a line feed, and answers what follows the frame.
 fn decode_line<'a>(alloc: Global, frames: &'a [u8], text: &mut Vec<u8>) -> Result<&'a [u8], Refusal>
     ensures line { IfOk result (λ rest. DecodesLine frames.now rest.now text.old.items text.new.items) }
-    ensures refused { IfErr result (DecodeRefuses frames.now) }
+    ensures refused { IfErr result (DecodeLineRefuses frames.now) }
 {
     let (value, rest) = decode(alloc, frames)?;
     if let Err(error) = write_line(&value, text) {
