@@ -31,7 +31,7 @@ enum vizhoniku_mode {
 enum vizhoniku_status {
   VIZHONIKU_ACCEPTED = 0,      /* each text is a document, and all went well */
   VIZHONIKU_REFUSED = 1,       /* a text is no document of the mode: the refusal says why */
-  VIZHONIKU_OUT_OF_MEMORY = 2, /* memory ran out: nothing is known of the text */
+  VIZHONIKU_OUT_OF_MEMORY = 2, /* memory ran out: this doesn't tell whether a text is a document */
   VIZHONIKU_UNKNOWN_MODE = 3,  /* no mode has this number */
   VIZHONIKU_TOO_SHORT = 4,     /* the buffer is shorter than the text: the size says what is needed */
 };
@@ -66,7 +66,7 @@ enum vizhoniku_code {
 struct vizhoniku_refusal {
   uint32_t code;   /* of enum vizhoniku_code */
   uint32_t which;  /* 1 for the only or the first text, 2 for the second */
-  size_t position; /* a byte index, mostly that after the byte that is wrong; with some codes it may pass the end */
+  size_t position; /* a byte index; which byte it names goes by the code, and it may pass the end */
 };
 
 /* Tells whether the text is a document of the mode. The status is never VIZHONIKU_TOO_SHORT. */
