@@ -1,5 +1,5 @@
 -- What a reader has still to read, and what a call of it leaves.
-use Rattle.std.specs.Prelude.{◌≡◌, ◌⊎◌, ℕ, ◌≤◌, List, length, drop, Contains, Result, Ok, Err}
+use Rattle.std.specs.Prelude.{◌≡◌, ◌⊎◌, ℕ, ◌≤◌, List, length, drop, Contains, Option, IfSome, Result, Ok, Err}
 use Rattle.jsonb_value.specs.Mode.{Mode, standard, extended}
 use Rattle.jsonb_value.specs.Code.{code_of}
 use Rattle.jsonb_value.specs.declared.error.Error.{Error}
@@ -56,6 +56,15 @@ IsTextRefusal other = ⊥
 abbrev pub ReadsAs : {X Y : Type 0} → (X → Y) → (ℕ → Mode → List ℕ → Read Y) → Result X Error → Parser → Parser → Type 0
 ReadsAs view read result old new =
     Gives (λ x. (view x, rest_of new)) result (read (size_of old) (mode_of old.mode) (rest_of old))
+
+-- The same of a call that answers nothing where it did not read.
+abbrev pub FindsAs : {X Y : Type 0} → (X → Y) → (ℕ → Mode → List ℕ → Read Y) → Option X → Parser → Parser → Type 0
+FindsAs view read result old new =
+    IfSome result (λ x. read (size_of old) (mode_of old.mode) (rest_of old) ≡ Ok (view x, rest_of new))
+
+-- what this function reads from where the reader is
+abbrev pub read_at : {Y : Type 0} → (ℕ → Mode → List ℕ → Read Y) → Parser → Read Y
+read_at read p = read (size_of p) (mode_of p.mode) (rest_of p)
 
 -- The input holds a bracket or a brace that opens, or a backslash: a reader that asks for memory has met one.
 abbrev pub HoldsMarker : List ℕ → Type 0

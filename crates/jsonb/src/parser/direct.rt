@@ -9,7 +9,7 @@ ghost use Rattle.jsonb_value.specs.Tree.{Tree};
 ghost use Rattle.jsonb_value.specs.View.{view};
 ghost use Rattle.jsonb.specs.declared.parser.direct.OpenValue.TheVariants.{Array, Object};
 ghost use Rattle.jsonb.specs.Direct.{IsPutIn, IsHeld, Pushes, ReadsParts, ValueIsDue, WasRead, IsAhead, tree_of};
-ghost use Rattle.jsonb.specs.Parser.{rest_of, size_of, mode_of, Advances};
+ghost use Rattle.jsonb.specs.Parser.{rest_of, size_of, mode_of, Advances, FindsAs};
 ghost use Rattle.jsonb.specs.Reading.{Read, begins};
 ghost use Rattle.jsonb.specs.Reading.Blank.{is_blank_start, skip_blanks};
 ghost use Rattle.jsonb.specs.Reading.Container.{Found, is_left_out, value_or_null};
@@ -74,8 +74,7 @@ impl<'a> Parser<'a> {
     fn direct_value(&mut self, text: &'a str) -> Option<Value<'a>>
         requires inside { self.old.idx ≤ size_of self.old }
         requires same { text.now ≡ self.old.buf.now }
-        ensures reads { IfSome result (λ v. value_at (size_of self.old) (mode_of self.old.mode) max_depth
-            (rest_of self.old) ≡ Ok (view v, rest_of self.new)) }
+        ensures reads { FindsAs view (λ size mode. value_at size mode max_depth) result self.old self.new }
         ensures advances { Advances self.old self.new }
     {
         if self.begins_container() {
@@ -97,8 +96,7 @@ impl<'a> Parser<'a> {
     fn direct_container(&mut self, text: &'a str) -> Option<Value<'a>>
         requires inside { self.old.idx ≤ size_of self.old }
         requires same { text.now ≡ self.old.buf.now }
-        ensures reads { IfSome result (λ v. value_at (size_of self.old) (mode_of self.old.mode) max_depth
-            (rest_of self.old) ≡ Ok (view v, rest_of self.new)) }
+        ensures reads { FindsAs view (λ size mode. value_at size mode max_depth) result self.old self.new }
         ensures advances { Advances self.old self.new }
     {
         let mut stack = Vec::new(self.alloc);

@@ -96,8 +96,7 @@ impl<'a> Parser<'a> {
     fn parse_string_value(&mut self, quote: u8) -> Result<JsonAst<'a>>
         requires no_backslash { quote ≢ 92 }
         requires inside { self.old.idx ≤ size_of self.old }
-        ensures reads { Gives (λ v. (ast_view v, rest_of self.new)) result
-            (quoted_at (size_of self.old) (mode_of self.old.mode) quote (rest_of self.old)) }
+        ensures reads { ReadsAs ast_view (λ size mode. quoted_at size mode quote) result self.old self.new }
         ensures alone { IfOk result (λ v. source_view v ≡ source_alone (ast_view v)) }
         ensures memory { result ≡ Err Error.OutOfMemory → Contains self.old.buf.now 92 }
         ensures advances { Advances self.old self.new }
@@ -168,8 +167,7 @@ impl<'a> Parser<'a> {
     #[inline(always)]
     pub(super) fn parse_number(&mut self) -> Result<Number>
         requires { self.old.idx ≤ size_of self.old }
-        ensures reads { Gives (λ n. (number_view n, rest_of self.new)) result
-            (number_at (size_of self.old) (mode_of self.old.mode) (rest_of self.old)) }
+        ensures reads { ReadsAs number_view number_at result self.old self.new }
         ensures takes_no_memory { result ≢ Err Error.OutOfMemory }
         ensures advances { Advances self.old self.new }
     {
@@ -182,8 +180,7 @@ impl<'a> Parser<'a> {
     // `null`; where that fails, in extended mode a number's word may begin with the same letter.
     fn parse_null(&mut self) -> Result<JsonAst<'a>>
         requires { self.old.idx ≤ size_of self.old }
-        ensures reads { Gives (λ v. (ast_view v, rest_of self.new)) result
-            (null_at (size_of self.old) (mode_of self.old.mode) (rest_of self.old)) }
+        ensures reads { ReadsAs ast_view null_at result self.old self.new }
         ensures alone { IfOk result (λ v. source_view v ≡ source_alone (ast_view v)) }
         ensures memory { result ≡ Err Error.OutOfMemory → Contains self.old.buf.now 92 }
         ensures advances { Advances self.old self.new }

@@ -4,7 +4,7 @@ ghost use Rattle.std.specs.Cow.{cow_str_bytes};
 ghost use Rattle.jsonb_value.specs.Grammar.StringStep.{escape_step};
 ghost use Rattle.jsonb_value.specs.View.{mark_view};
 ghost use Rattle.jsonb.specs.Decoding.{TellsBackslash};
-ghost use Rattle.jsonb.specs.Parser.{rest_of, size_of, mode_of, Advances, Gives};
+ghost use Rattle.jsonb.specs.Parser.{size_of, mode_of, Advances, ReadsAs};
 ghost use Rattle.jsonb.specs.QuotedString.{EndsString, KnowsMarks, ReadsBody, TellsMarks};
 ghost use Rattle.jsonb.specs.Reading.String.{body_of, string_at};
 
@@ -205,8 +205,8 @@ impl<'a> Parser<'a> {
     pub(super) fn parse_quoted(&mut self, quote: u8) -> Result<CowStr<'a>>
         requires no_backslash { quote ≢ 92 }
         requires inside { self.old.idx ≤ size_of self.old }
-        ensures reads { Gives (λ s. ((mark_view s, cow_str_bytes s), rest_of self.new)) result
-            (string_at (size_of self.old) (mode_of self.old.mode) quote (rest_of self.old)) }
+        ensures reads { ReadsAs (λ s. (mark_view s, cow_str_bytes s)) (λ size mode. string_at size mode quote) result
+            self.old self.new }
         ensures memory { result ≡ Err Error.OutOfMemory → Contains self.old.buf.now 92 }
         ensures advances { Advances self.old self.new }
     {

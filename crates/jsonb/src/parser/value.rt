@@ -7,7 +7,7 @@ ghost use Rattle.jsonb_value.specs.Tree.{Tree};
 ghost use Rattle.jsonb_value.specs.View.{mark_view};
 ghost use Rattle.jsonb.specs.AstView.{ast_view};
 ghost use Rattle.jsonb.specs.OpenPlaces.{AllIsPlaced, FrameIsPlaced, FrameIsRead, KeepsPlaces, LeftOut, MemberBegins, OpensContainer, PartIsPlaced, PartIsRead, Skips, StackIsRead};
-ghost use Rattle.jsonb.specs.Parser.{rest_of, size_of, mode_of, Advances, Gives, ReadsAs, HoldsMarker};
+ghost use Rattle.jsonb.specs.Parser.{rest_of, size_of, mode_of, Advances, Gives, ReadsAs, HoldsMarker, read_at};
 ghost use Rattle.jsonb.specs.Placed.{HasByte, IsValueAt};
 ghost use Rattle.jsonb.specs.Reading.{begins};
 ghost use Rattle.jsonb.specs.Reading.Container.{is_left_out};
@@ -166,7 +166,7 @@ impl<'a> Parser<'a> {
     fn begin_member(&mut self) -> Result<(CowStr<'a>, usize)>
         requires { self.old.idx ≤ size_of self.old }
         ensures reads { Gives (λ k. (((mark_view k.0, cow_str_bytes k.0), k.1), rest_of self.new)) result
-            (member_start (size_of self.old) (mode_of self.old.mode) (rest_of self.old)) }
+            (read_at member_start self.old) }
         ensures source { IfOk result (λ k. MemberBegins (mode_of self.old.mode) self.old.buf.now self.old.idx
             (mark_view k.0, cow_str_bytes k.0) k.1 self.new.idx) }
         ensures advances { Advances self.old self.new }

@@ -5,7 +5,7 @@ ghost use Rattle.jsonb_value.specs.Tree.{Mark};
 ghost use Rattle.jsonb_value.specs.Tree.Mark.{plain};
 ghost use Rattle.jsonb_value.specs.View.{view, mark_view};
 ghost use Rattle.jsonb.specs.Direct.{Pushes, PutsIn};
-ghost use Rattle.jsonb.specs.Parser.{rest_of, size_of, mode_of, Advances};
+ghost use Rattle.jsonb.specs.Parser.{rest_of, size_of, mode_of, Advances, FindsAs, read_at};
 ghost use Rattle.jsonb.specs.Reading.Blank.{skip_blanks};
 ghost use Rattle.jsonb.specs.Reading.Scalar.{scalar_at, other_scalar_at, words_at, key_at};
 ghost use Rattle.jsonb.specs.Reading.String.{string_at};
@@ -24,9 +24,8 @@ impl<'a> Parser<'a> {
     pub(super) fn push_scalar(&mut self, items: &mut Vec<Value<'a>>, text: &'a str) -> Option<()>
         requires inside { self.old.idx ≤ size_of self.old }
         requires same { text.now ≡ self.old.buf.now }
-        ensures reads { IfSome result (λ _. Pushes items.old.items
-            (scalar_at (size_of self.old) (mode_of self.old.mode) (rest_of self.old))
-            items.new.items (rest_of self.new)) }
+        ensures reads { IfSome result (λ _. Pushes items.old.items (read_at scalar_at self.old) items.new.items (rest_of
+            self.new)) }
         ensures advances { Advances self.old self.new }
     {
         if self.take_byte(b'"') {
@@ -53,9 +52,8 @@ impl<'a> Parser<'a> {
     fn push_other_scalar(&mut self, items: &mut Vec<Value<'a>>, text: &'a str) -> Option<()>
         requires inside { self.old.idx ≤ size_of self.old }
         requires same { text.now ≡ self.old.buf.now }
-        ensures reads { IfSome result (λ _. Pushes items.old.items
-            (other_scalar_at (size_of self.old) (mode_of self.old.mode) (rest_of self.old))
-            items.new.items (rest_of self.new)) }
+        ensures reads { IfSome result (λ _. Pushes items.old.items (read_at other_scalar_at self.old) items.new.items
+            (rest_of self.new)) }
         ensures advances { Advances self.old self.new }
     {
         let value = self.direct_other_scalar(text)?;
@@ -76,8 +74,7 @@ impl<'a> Parser<'a> {
     ) -> Option<()>
         requires inside { self.old.idx ≤ size_of self.old }
         requires same { text.now ≡ self.old.buf.now }
-        ensures reads { IfSome result (λ _. PutsIn members.old.entries key
-            (scalar_at (size_of self.old) (mode_of self.old.mode) (rest_of self.old))
+        ensures reads { IfSome result (λ _. PutsIn members.old.entries key (read_at scalar_at self.old)
             members.new.entries (rest_of self.new)) }
         ensures advances { Advances self.old self.new }
     {
@@ -106,8 +103,7 @@ impl<'a> Parser<'a> {
     ) -> Option<()>
         requires inside { self.old.idx ≤ size_of self.old }
         requires same { text.now ≡ self.old.buf.now }
-        ensures reads { IfSome result (λ _. PutsIn members.old.entries key
-            (other_scalar_at (size_of self.old) (mode_of self.old.mode) (rest_of self.old))
+        ensures reads { IfSome result (λ _. PutsIn members.old.entries key (read_at other_scalar_at self.old)
             members.new.entries (rest_of self.new)) }
         ensures advances { Advances self.old self.new }
     {
@@ -121,8 +117,7 @@ impl<'a> Parser<'a> {
     pub(super) fn direct_scalar(&mut self, text: &'a str) -> Option<Value<'a>>
         requires inside { self.old.idx ≤ size_of self.old }
         requires same { text.now ≡ self.old.buf.now }
-        ensures reads { IfSome result (λ v. scalar_at (size_of self.old) (mode_of self.old.mode) (rest_of self.old)
-            ≡ Ok (view v, rest_of self.new)) }
+        ensures reads { FindsAs view scalar_at result self.old self.new }
         ensures advances { Advances self.old self.new }
     {
         if self.take_byte(b'"') {
@@ -142,8 +137,7 @@ impl<'a> Parser<'a> {
     fn direct_other_scalar(&mut self, text: &'a str) -> Option<Value<'a>>
         requires inside { self.old.idx ≤ size_of self.old }
         requires same { text.now ≡ self.old.buf.now }
-        ensures reads { IfSome result (λ v. other_scalar_at (size_of self.old) (mode_of self.old.mode)
-            (rest_of self.old) ≡ Ok (view v, rest_of self.new)) }
+        ensures reads { FindsAs view other_scalar_at result self.old self.new }
         ensures advances { Advances self.old self.new }
     {
         if self.take_single_quote() {
@@ -156,8 +150,7 @@ impl<'a> Parser<'a> {
     #[inline(always)]
     fn direct_word_or_number(&mut self) -> Option<Value<'a>>
         requires { self.old.idx ≤ size_of self.old }
-        ensures reads { IfSome result (λ v. words_at (size_of self.old) (mode_of self.old.mode) (rest_of self.old)
-            ≡ Ok (view v, rest_of self.new)) }
+        ensures reads { FindsAs view words_at result self.old self.new }
         ensures advances { Advances self.old self.new }
     {
         if self.next_is_letter(b'n') {
@@ -269,8 +262,8 @@ impl<'a> Parser<'a> {
         requires no_backslash { quote ≢ 92 }
         requires inside { self.old.idx ≤ size_of self.old }
         requires same { text.now ≡ self.old.buf.now }
-        ensures reads { IfSome result (λ s. string_at (size_of self.old) (mode_of self.old.mode) quote
-            (rest_of self.old) ≡ Ok ((mark_view s, cow_str_bytes s), rest_of self.new)) }
+        ensures reads { FindsAs (λ s. (mark_view s, cow_str_bytes s)) (λ size mode. string_at size mode quote) result
+            self.old self.new }
         ensures advances { Advances self.old self.new }
     {
         if let Some(body) = self.direct_plain(quote, text) {
@@ -284,8 +277,8 @@ impl<'a> Parser<'a> {
     fn direct_escaped(&mut self, quote: u8) -> Option<CowStr<'a>>
         requires no_backslash { quote ≢ 92 }
         requires inside { self.old.idx ≤ size_of self.old }
-        ensures reads { IfSome result (λ s. string_at (size_of self.old) (mode_of self.old.mode) quote
-            (rest_of self.old) ≡ Ok ((mark_view s, cow_str_bytes s), rest_of self.new)) }
+        ensures reads { FindsAs (λ s. (mark_view s, cow_str_bytes s)) (λ size mode. string_at size mode quote) result
+            self.old self.new }
         ensures advances { Advances self.old self.new }
     {
         let Ok(string) = self.parse_quoted(quote) else {
@@ -300,8 +293,8 @@ impl<'a> Parser<'a> {
         requires no_backslash { quote ≢ 92 }
         requires inside { self.old.idx ≤ size_of self.old }
         requires same { text.now ≡ self.old.buf.now }
-        ensures reads { IfSome result (λ s. string_at (size_of self.old) (mode_of self.old.mode) quote
-            (rest_of self.old) ≡ Ok ((plain, s.now), rest_of self.new)) }
+        ensures reads { FindsAs (λ s. (plain, s.now)) (λ size mode. string_at size mode quote) result self.old
+            self.new }
         ensures stays { IfNone result (self.new ≡ self.old) }
         ensures advances { Advances self.old self.new }
     {
