@@ -1,5 +1,5 @@
 -- What the steps of the reader of quoted strings tell.
-use Rattle.std.specs.Prelude.{◌≡◌, ◌⊎◌, ℕ, ◌+◌, ◌<◌, ◌≤◌, List, length, slice_index, Result, Ok, Err}
+use Rattle.std.specs.Prelude.{◌≡◌, ◌≢◌, ◌⊎◌, ℕ, ◌+◌, ◌<◌, ◌≤◌, List, length, slice_index, Result, Ok, Err}
 use Rattle.std.specs.Cow.{cow_str_bytes}
 use Rattle.std.specs.Int.{bit_at}
 use Rattle.std.specs.declared.alloc.Global.{Global}
@@ -34,12 +34,18 @@ abbrev pub EndsKey : List ℕ → KeyEnd → Type 0
 EndsKey bytes (key_ends.At end) = key_end bytes ≡ Ok end
 EndsKey bytes (key_ends.Past at) = (key_end bytes ≡ Err at) × (at < length bytes + 4)
 
+abbrev pub IsQuoteOrBackslash : ℕ → ℕ → Type 0
+IsQuoteOrBackslash quote b = (b ≡ quote) ⊎ (b ≡ 92)
+
+-- neither is from one index up to another
+abbrev pub IsClear : ℕ → List ℕ → ℕ → ℕ → Type 0
+IsClear quote bytes from to = (k : ℕ) → from ≤ k → k < to → (slice_index bytes k ≢ quote) × (slice_index bytes k ≢ 92)
+
 -- bit k tells whether the byte at + k is the quote or a backslash, of those before end
 pub record TellsMarks (quote : ℕ) (bytes : List ℕ) (at end bits : ℕ) : Type 0 where
   pub within : end ≤ length bytes
-  pub set : (k : ℕ) → at + k < end → (slice_index bytes (at + k) ≡ quote) ⊎ (slice_index bytes (at + k) ≡ 92)
-      → bit_at bits k ≡ 1
-  pub marked : (k : ℕ) → bit_at bits k ≡ 1 → (slice_index bytes (at + k) ≡ quote) ⊎ (slice_index bytes (at + k) ≡ 92)
+  pub set : (k : ℕ) → at + k < end → IsQuoteOrBackslash quote (slice_index bytes (at + k)) → bit_at bits k ≡ 1
+  pub marked : (k : ℕ) → bit_at bits k ≡ 1 → IsQuoteOrBackslash quote (slice_index bytes (at + k))
   pub short : (k : ℕ) → bit_at bits k ≡ 1 → at + k < end
 
 -- the same of those before some place

@@ -1,6 +1,7 @@
 -- Reading with no JsonAst between, step by step, against reading by the open containers.
 use Rattle.std.proofs.Common.{◌≡◌, ◌≢◌, ℕ, zero, suc, ◌+◌, ◌-◌, ◌≤◌, Bool, true, false, cond, List, [], ◌∷◌, ◌++◌, length, take, get_or, set, map, String, Vec, Global, rules, Option, Some, None, Ok, Less, Equal, Greater, is_eq, string_bytes, string_cmp, nat_cmp, refl, sym, ap, ap₂, subst, ◌∙◌, arith, length-append}
 use Rattle.std.proofs.lemmas.Cmp.{nat_list_cmp_total, tied_itself}
+use Rattle.std.proofs.lemmas.List.{map-append}
 use Rattle.std.specs.BTreeMap.{insert_entry, is_at}
 use Rattle.std.specs.Cmp.Lexicographic.{slice_cmp}
 use Rattle.std.specs.Cow.{cow_str_bytes}
@@ -29,7 +30,7 @@ use Rattle.jsonb.specs.Direct.{AreHeld, AreHeldOnto, IsAhead, ValueIsDue, IsHeld
 use Rattle.jsonb.specs.Parser.{Advances, mode_of, rest_of, size_of}
 use Rattle.jsonb.specs.Reading.{Read, begins, on_byte, refused, ◌>>=◌}
 use Rattle.jsonb.specs.Reading.Blank.{skip_blanks}
-use Rattle.jsonb.specs.Reading.Container.{Found, array_at, elements_at, is_left_out, member_of, members_at, object_at, object_or_fault, spot_of, value_or_null}
+use Rattle.jsonb.specs.Reading.Container.{Found, Spot, array_at, elements_at, is_left_out, member_of, members_at, object_at, object_or_fault, spot_of, value_or_null}
 use Rattle.jsonb.specs.Reading.Document.{value_at}
 use Rattle.jsonb.specs.Reading.Number.{standard_number_at}
 use Rattle.jsonb.specs.Reading.Scalar.{begins_number, other_scalar_at, scalar_at}
@@ -75,16 +76,7 @@ distinct-snoc l [] d h = (tt, tt)
 distinct-snoc l (m ∷ ls) d h = (new-snoc m l ls d.0 (λ e. h.0 (sym e)), distinct-snoc l ls d.1 h.1)
 
 found_keys-snoc : (fs : List Found) (f : Found) → found_keys (fs ++ f ∷ []) ≡ found_keys fs ++ f.key ∷ []
-found_keys-snoc [] f = refl
-found_keys-snoc (g ∷ fs) f = ap (λ (ks : List (List ℕ)). g.key ∷ ks) (found_keys-snoc fs f)
-
-members-snoc : (fs : List Found) (f : Found) → map member_of (fs ++ f ∷ []) ≡ map member_of fs ++ member_of f ∷ []
-members-snoc [] f = refl
-members-snoc (g ∷ fs) f = ap (λ (ms : List Member). member_of g ∷ ms) (members-snoc fs f)
-
-pub trees-snoc : (vs : List Value) (v : Value) → map view (vs ++ v ∷ []) ≡ map view vs ++ view v ∷ []
-trees-snoc [] v = refl
-trees-snoc (w ∷ vs) v = ap (λ (ts : List Tree). view w ∷ ts) (trees-snoc vs v)
+found_keys-snoc fs f = ap (λ ss. map (λ s. s.key) ss) (map-append spot_of fs (f ∷ [])) ∙ map-append (λ (s : Spot). s.key) (map spot_of fs) (spot_of f ∷ [])
 
 put_all-snoc : (ms : List Member) (m : Member) (done : Members) → put_all (ms ++ m ∷ []) done ≡ put m.0 m.1 (put_all ms done)
 put_all-snoc [] m done = refl
@@ -98,7 +90,7 @@ put-more fs f es more k v h inserted missing named seen =
       put =
           ap members_view inserted ∙ members_view-insert_entry es k v
           ∙ (λ i. put (named i) (seen i) (h.put i))
-          ∙ sym (ap (λ ms. put_all ms no_members) (members-snoc fs f) ∙ put_all-snoc (map member_of fs) (member_of f) no_members);
+          ∙ sym (ap (λ ms. put_all ms no_members) (map-append member_of fs (f ∷ [])) ∙ put_all-snoc (map member_of fs) (member_of f) no_members);
       distinct = subst AreDistinct (sym (found_keys-snoc fs f)) (distinct-snoc f.key (found_keys fs) h.distinct (h.known f.key (subst (λ l. IsNew l (names es)) named (new-missing k es missing))));
       known = λ l n.
           let r = new-insert l es k v (subst (λ xs. IsNew l (names xs)) inserted n) missing in
@@ -377,7 +369,7 @@ array-joins : (size : ℕ) (mode : Mode) (v w : Vec Value Global) (x : Value) (b
 array-joins size mode v w x bytes rest closed put next (elements_so_far ts) h =
     record {
       so_far = elements_so_far (ts ++ view x ∷ []);
-      held = ap (λ (vs : List Value). map view vs) put ∙ trees-snoc v.items x ∙ ap (λ (us : List Tree). us ++ view x ∷ []) h;
+      held = ap (λ (vs : List Value). map view vs) put ∙ map-append view v.items (x ∷ []) ∙ ap (λ (us : List Tree). us ++ view x ∷ []) h;
       reads = λ depth. element_joins size mode depth ts (view x) bytes rest closed next;
     }
 array-joins size mode v w x bytes rest closed put next (members_so_far fs key place) h = absurd h

@@ -26,6 +26,7 @@ use Rattle.jsonb.proofs.Containers.JoinedParts.{IsComplete, IsOther, IsPartCompl
 use Rattle.jsonb.proofs.Containers.Repeats.{distinct, no_repeat}
 use Rattle.jsonb.proofs.Scalars.Spellings.{Follows, IsNumberTree, key_complete, key_sound, scalar_complete, scalar_sound, scalar_starts}
 use Rattle.jsonb.proofs.Scalars.Spellings.Follows.{before}
+use Rattle.jsonb.proofs.Text.Comments.{begins_found}
 use Rattle.jsonb.proofs.Text.Blanks.{Passes, ends_all, ends_line, passes, skip-blanks, skip-skip, skip-stop, skips}
 
 -- Each value is read, at the end of the text or where a byte follows that may follow.
@@ -268,6 +269,9 @@ module _ (mode : Mode) (Value : List ℕ → Tree → Type 0) (read : List ℕ �
   joined_members (one_part s) = one_part s
   joined_members (more_parts s j) = more_parts s (joined_members j)
 
+  member_skip : (size : ℕ) (u : List ℕ) → member_at size mode read (skip_blanks mode u) ≡ member_at size mode read u
+  member_skip size u = ap (λ (w : List ℕ). key_at size mode w >>= λ (x : (Mark × List ℕ) × List ℕ). after_key size mode read x.0 (size - length x.1) (skip_blanks mode x.1)) (skip-skip mode u)
+
   object_sound : (size : ℕ) → IsSound Value read → (bytes : List ℕ) (t : Tree) (rest : List ℕ) → object_at size mode read bytes ≡ Ok (t, rest) → Spelled (IsValue mode Value) (123 ∷ bytes) t rest
   object_sound size sound bytes t rest e =
       elim (on_byte_cases 125 (skip_blanks mode bytes) (λ (r : List ℕ). Ok (object no_members, r)) (members_at size mode read bytes) (Ok (t, rest)) e) [
@@ -292,9 +296,6 @@ module _ (mode : Mode) (Value : List ℕ → Tree → Type 0) (read : List ℕ �
               whole = close_up 123 125 bytes j.0 rest whole;
             }
       ]
-    where
-      member_skip : (size : ℕ) (u : List ℕ) → member_at size mode read (skip_blanks mode u) ≡ member_at size mode read u
-      member_skip size u = ap (λ (w : List ℕ). key_at size mode w >>= λ (x : (Mark × List ℕ) × List ℕ). after_key size mode read x.0 (size - length x.1) (skip_blanks mode x.1)) (skip-skip mode u)
 
   object_complete : (size : ℕ) → IsValueComplete Value read → (body : List ℕ) (ms : List Member) (rest : List ℕ) → IsJoined (IsMember mode Value) body ms → HaveDistinctKeys ms
       → object_at size mode read (body ++ 125 ∷ rest) ≡ Ok (object (put_all ms no_members), rest)
@@ -308,9 +309,6 @@ module _ (mode : Mode) (Value : List ℕ → Tree → Type 0) (read : List ℕ �
       (joined-skip size expected_object_comma_or_end 125 IsFound (member_at size mode read) mode (member_skip size) (suc (length bytes)) bytes ∙ c.2)
       ∙ ap (λ (o : Option Spot). object_or_fault o c.0 rest) (no_repeat (map spot_of c.0) spots_distinct)
       ∙ ap (λ (ns : List Member). Ok (object (put_all ns no_members), rest)) c.1
-    where
-      member_skip : (size : ℕ) (u : List ℕ) → member_at size mode read (skip_blanks mode u) ≡ member_at size mode read u
-      member_skip size u = ap (λ (w : List ℕ). key_at size mode w >>= λ (x : (Mark × List ℕ) × List ℕ). after_key size mode read x.0 (size - length x.1) (skip_blanks mode x.1)) (skip-skip mode u)
 
   empty_object_complete : (size : ℕ) {before : List ℕ} (b : IsBlanks mode before) (rest : List ℕ) → object_at size mode read (before ++ 125 ∷ rest) ≡ Ok (object no_members, rest)
   empty_object_complete size {before} b rest =
@@ -389,18 +387,11 @@ comment_ends mode size bytes b rest t u passed opens e =
     let is = opens_is mode b rest opens in
     elim (chosen (begins 47 rest) (Ok t) (fault invalid_eof size) (Ok u) e) [
       | inl h ↦
-          let line = line_begins rest h.0 in
+          let line = begins_found rest h.0 in
           let left : pass_blanks mode bytes ≡ 47 ∷ 47 ∷ line.0 = passed ∙ ap (λ (c : ℕ). c ∷ rest) is.1 ∙ ap (λ (v : List ℕ). 47 ∷ v) line.1 in
           (is.0, ends_line mode bytes line.0 is.0 left, same_ok t u h.1)
       | inr h ↦ absurd (let never : ◌≡◌ {A = Result Tree Fault} (fault invalid_eof size) (Ok u) = h.1 in cc)
     ]
-  where
-    line_begins : (v : List ℕ) → begins 47 v ≡ true → (r : List ℕ) × (v ≡ 47 ∷ r)
-    line_begins v found =
-        elim (on_byte_cases 47 v (λ (r : List ℕ). true) false true found) [
-          | inl h ↦ (h.0, h.1)
-          | inr h ↦ absurd (true≢false (sym h.1))
-        ]
 
 pub ended : (size : ℕ) (mode : Mode) (t : Tree) (bytes rest : List ℕ) (u : Tree) → pass_blanks mode bytes ≡ rest → at_end size mode t rest ≡ Ok u → AreLastBlanks mode bytes × (t ≡ u)
 ended size mode t bytes [] u passed e = (ends_all mode bytes passed, same_ok t u e)

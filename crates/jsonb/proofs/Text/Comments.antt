@@ -20,7 +20,7 @@ longer-is more (suc n) m e = (omega arith, e)
 
 -- ---- block comments
 
-begins_found : (bytes : List ℕ) → begins 47 bytes ≡ true → (rest : List ℕ) × (bytes ≡ 47 ∷ rest)
+pub begins_found : (bytes : List ℕ) → begins 47 bytes ≡ true → (rest : List ℕ) × (bytes ≡ 47 ∷ rest)
 begins_found [] e = absurd (true≢false (sym e))
 begins_found (b ∷ bytes) e =
     elim (chosen (eqb b 47) true false true e) [

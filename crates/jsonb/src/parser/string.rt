@@ -1,11 +1,11 @@
 //! Quoted strings.
-ghost use Rattle.std.specs.Prelude.{◌≡◌, ◌≢◌, ◌⊎◌, ◌==◌, IfSome, IfNone, ℕ, ◌+◌, ◌<◌, ◌≤◌, ◌^◌, length, slice_index, Contains, Err, true};
+ghost use Rattle.std.specs.Prelude.{◌≡◌, ◌≢◌, ◌==◌, IfSome, IfNone, ℕ, ◌+◌, ◌<◌, ◌≤◌, ◌^◌, length, slice_index, Contains, Err, true};
 ghost use Rattle.std.specs.Cow.{cow_str_bytes};
 ghost use Rattle.jsonb_value.specs.Grammar.StringStep.{escape_step};
 ghost use Rattle.jsonb_value.specs.View.{mark_view};
 ghost use Rattle.jsonb.specs.Decoding.{TellsBackslash};
 ghost use Rattle.jsonb.specs.Parser.{size_of, mode_of, Advances, ReadsAs};
-ghost use Rattle.jsonb.specs.QuotedString.{EndsString, KnowsMarks, ReadsBody, TellsMarks};
+ghost use Rattle.jsonb.specs.QuotedString.{EndsString, IsClear, IsQuoteOrBackslash, KnowsMarks, ReadsBody, TellsMarks};
 ghost use Rattle.jsonb.specs.Reading.String.{body_of, string_at};
 
 use super::vector::{either, equal_to, load, lowest, shifted_down, top_bits};
@@ -45,10 +45,8 @@ fn step_after_backslash(bytes: &[u8]) -> usize
 pub(super) fn next_mark(bytes: &[u8], quote: u8, at: usize) -> usize
     requires { at ≤ length bytes.now }
     ensures bounds { (at ≤ result) × (result ≤ length bytes.now) }
-    ensures before { (k : ℕ) → at ≤ k → k < result → (slice_index bytes.now k ≢ quote)
-        × (slice_index bytes.now k ≢ 92) }
-    ensures here { result < length bytes.now → (slice_index bytes.now result ≡ quote)
-        ⊎ (slice_index bytes.now result ≡ 92) }
+    ensures before { IsClear quote bytes.now at result }
+    ensures here { result < length bytes.now → IsQuoteOrBackslash quote (slice_index bytes.now result) }
 {
     if bytes.len() - at < 32 {
         return far_mark(bytes, quote, at);
@@ -64,10 +62,8 @@ pub(super) fn next_mark(bytes: &[u8], quote: u8, at: usize) -> usize
 fn far_mark(bytes: &[u8], quote: u8, at: usize) -> usize
     requires { at ≤ length bytes.now }
     ensures bounds { (at ≤ result) × (result ≤ length bytes.now) }
-    ensures before { (k : ℕ) → at ≤ k → k < result → (slice_index bytes.now k ≢ quote)
-        × (slice_index bytes.now k ≢ 92) }
-    ensures here { result < length bytes.now → (slice_index bytes.now result ≡ quote)
-        ⊎ (slice_index bytes.now result ≡ 92) }
+    ensures before { IsClear quote bytes.now at result }
+    ensures here { result < length bytes.now → IsQuoteOrBackslash quote (slice_index bytes.now result) }
 {
     match memchr2(quote, b'\\', &bytes[at..]) {
         Some(count) => at + count,
@@ -80,11 +76,9 @@ fn far_mark(bytes: &[u8], quote: u8, at: usize) -> usize
 fn near_mark(bytes: &[u8], quote: u8, at: usize) -> Option<usize>
     requires { at + 32 ≤ length bytes.now }
     ensures bounds { IfSome result (λ i. (at ≤ i) × (i < at + 32)) }
-    ensures before { IfSome result (λ i. (k : ℕ) → at ≤ k → k < i → (slice_index bytes.now k ≢ quote)
-        × (slice_index bytes.now k ≢ 92)) }
-    ensures here { IfSome result (λ i. (slice_index bytes.now i ≡ quote) ⊎ (slice_index bytes.now i ≡ 92)) }
-    ensures none { IfNone result ((k : ℕ) → at ≤ k → k < at + 32 → (slice_index bytes.now k ≢ quote)
-        × (slice_index bytes.now k ≢ 92)) }
+    ensures before { IfSome result (λ i. IsClear quote bytes.now at i) }
+    ensures here { IfSome result (λ i. IsQuoteOrBackslash quote (slice_index bytes.now i)) }
+    ensures none { IfNone result (IsClear quote bytes.now at (at + 32)) }
 {
     let marks = load_marks(bytes, quote, at);
     if marks == 0 {
@@ -113,10 +107,8 @@ fn first_mark(bytes: &[u8], quote: u8, at: usize, marks: u64) -> (usize, u64)
     requires inside { at ≤ length bytes.now }
     requires known { KnowsMarks quote bytes.now at marks }
     ensures bounds { (at ≤ result.0) × (result.0 ≤ length bytes.now) }
-    ensures before { (k : ℕ) → at ≤ k → k < result.0 → (slice_index bytes.now k ≢ quote)
-        × (slice_index bytes.now k ≢ 92) }
-    ensures here { result.0 < length bytes.now → (slice_index bytes.now result.0 ≡ quote)
-        ⊎ (slice_index bytes.now result.0 ≡ 92) }
+    ensures before { IsClear quote bytes.now at result.0 }
+    ensures here { result.0 < length bytes.now → IsQuoteOrBackslash quote (slice_index bytes.now result.0) }
     ensures known { KnowsMarks quote bytes.now result.0 result.1 }
 {
     if marks == 0 {
@@ -131,10 +123,8 @@ fn first_mark(bytes: &[u8], quote: u8, at: usize, marks: u64) -> (usize, u64)
 fn later_mark(bytes: &[u8], quote: u8, at: usize) -> (usize, u64)
     requires { at ≤ length bytes.now }
     ensures bounds { (at ≤ result.0) × (result.0 ≤ length bytes.now) }
-    ensures before { (k : ℕ) → at ≤ k → k < result.0 → (slice_index bytes.now k ≢ quote)
-        × (slice_index bytes.now k ≢ 92) }
-    ensures here { result.0 < length bytes.now → (slice_index bytes.now result.0 ≡ quote)
-        ⊎ (slice_index bytes.now result.0 ≡ 92) }
+    ensures before { IsClear quote bytes.now at result.0 }
+    ensures here { result.0 < length bytes.now → IsQuoteOrBackslash quote (slice_index bytes.now result.0) }
     ensures known { KnowsMarks quote bytes.now result.0 result.1 }
 {
     if bytes.len() - at < 32 {
