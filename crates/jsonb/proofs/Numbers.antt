@@ -13,6 +13,7 @@ pub mod HexadecimalAnswers
 pub mod HexadecimalMeaning
 pub mod HexadecimalTexts
 pub mod HexadecimalValues
+pub mod Runs
 pub mod Scan
 pub mod ScanStates
 pub mod ScanText

@@ -1,11 +1,11 @@
 -- Where the parts of an extended decimal end, by index, in facts about each byte.
-use Rattle.std.proofs.Common.{◌≡◌, ◌≢◌, ◌⊎◌, ℕ, ◌+◌, ◌-◌, ◌<◌, ◌≤◌, true, false, ◌&&◌, zero, suc, List, [], ◌∷◌, length, drop, refl, sym, subst, ap, ◌∙◌, inl, inr, ⊎_elim, arith, Ok, Err}
+use Rattle.std.proofs.Common.{◌≡◌, ◌≢◌, ◌⊎◌, ℕ, ◌+◌, ◌-◌, ◌<◌, ◌≤◌, true, false, ◌&&◌, zero, suc, List, length, drop, refl, sym, ap, ◌∙◌, inl, inr, ⊎_elim, arith, Ok, Err, true≢false}
 use Rattle.std.specs.Prelude.{slice_index, ◌==◌, nat_lt}
 use Rattle.std.proofs.lemmas.Bool.{cases_eq, cases_lt, cases_Bool, and_parts}
 use Rattle.std.proofs.lemmas.Bool.Decides.{nat_tests}
-use Rattle.std.proofs.lemmas.List.{length-drop}
 use Rattle.jsonb.specs.Reading.Number.{digits_from, sign_end, exponent_from}
 use Rattle.jsonb.specs.Reading.ExtendedNumber.{core_start, zeros_length, zeros_from, point_from, behind_from, zeros_end, front_end, point_end, behind_end, scale_at, precision_at, lacks_digits, has_second_point, decimal_end}
+use Rattle.jsonb.proofs.Numbers.Runs.{run_ends, run_more, run_passes, run_stop, run_within}
 use Rattle.jsonb.proofs.Numbers.Steps.{differs, digits_more, ok_no_err}
 use Rattle.jsonb.proofs.Numbers.Scan.{IsDigitRun, IsExponentEnd, inside_of, digits_run, exponent_is, sign_end_within}
 
@@ -42,47 +42,23 @@ pub record IsDecimalScan (bytes : List ℕ) (p : DecimalParts) : Type 0 where
 
 zeros_more : (bs : List ℕ) (i : ℕ) → slice_index bs i ≡ 48 → zeros_length (drop i bs) ≡ suc (zeros_length (drop (suc i) bs))
 unfolding zeros_length
-zeros_more [] zero h = absurd (omega (arith, h))
-zeros_more [] (suc i) h = absurd (omega (arith, h))
-zeros_more (b ∷ bs) zero h = rw h refl
-zeros_more (b ∷ bs) (suc i) h = zeros_more bs i h
+zeros_more bs i h = run_more (λ b. b == 48) refl bs i (ap (λ b. b == 48) h)
 
 zeros_stop : (bs : List ℕ) (i : ℕ) → slice_index bs i ≢ 48 → zeros_length (drop i bs) ≡ 0
 unfolding zeros_length
-zeros_stop [] zero h = refl
-zeros_stop [] (suc i) h = refl
-zeros_stop (b ∷ bs) zero h = rw (differs b 48 h) refl
-zeros_stop (b ∷ bs) (suc i) h = zeros_stop bs i h
+zeros_stop bs i h = run_stop (λ b. b == 48) refl bs i (differs (slice_index bs i) 48 h)
 
-zeros_within : (bs : List ℕ) → zeros_length bs ≤ length bs
-unfolding zeros_length
-zeros_within [] = omega arith
-zeros_within (b ∷ bs) =
-    ⊎_elim (λ zero_byte. rw zero_byte (omega (arith, zeros_within bs))) (λ other. rw other (omega arith)) (cases_Bool (b == 48))
+is_48 : (b : ℕ) → (b == 48) ≡ true → b ≡ 48
+is_48 b h = grind (arith, nat_tests)
 
 zeros_of : (bs : List ℕ) (n start : ℕ) → zeros_length (drop start bs) ≡ n → start ≤ length bs → IsZeroRun bs start (start + n)
+unfolding zeros_length
 zeros_of bs n start count within = record {
   ordered = omega arith;
-  within = omega (arith, zeros_within (drop start bs), length-drop start bs, count, within);
-  zeros = each bs n start count;
-  ends = last bs n start count;
+  within = omega (arith, count, run_within (λ b. b == 48) refl bs start within);
+  zeros = λ k low high. is_48 (slice_index bs k) (run_passes (λ b. b == 48) refl bs start k low (omega (arith, high, count)));
+  ends = λ zero_byte. true≢false (sym (ap (λ b. b == 48) zero_byte) ∙ ap (λ m. slice_index bs (start + m) == 48) (sym count) ∙ run_ends (λ b. b == 48) refl bs start);
 }
-  where
-    zero_at : (xs : List ℕ) (m from : ℕ) → zeros_length (drop from xs) ≡ suc m → slice_index xs from ≡ 48
-    zero_at xs m from counted = ⊎_elim (λ here. here) (λ other. absurd (omega (arith, counted, zeros_stop xs from other))) (cases_eq (slice_index xs from) 48)
-
-    each : (xs : List ℕ) (m from : ℕ) → zeros_length (drop from xs) ≡ m → (k : ℕ) → from ≤ k → k < from + m → slice_index xs k ≡ 48
-    each xs zero from counted k low high = absurd (omega (arith, low, high))
-    each xs (suc m) from counted k low high =
-        let here = zero_at xs m from counted in
-        ⊎_elim (λ same. ap (slice_index xs) same ∙ here)
-        (λ other. each xs m (suc from) (omega (arith, counted, zeros_more xs from here)) k (omega (arith, low, other)) (omega (arith, high))) (cases_eq k from)
-
-    last : (xs : List ℕ) (m from : ℕ) → zeros_length (drop from xs) ≡ m → slice_index xs (from + m) ≢ 48
-    last xs zero from counted = λ here. let place : from + 0 ≡ from = omega arith in absurd (omega (arith, counted, zeros_more xs from (ap (slice_index xs) (sym place) ∙ here)))
-    last xs (suc m) from counted =
-        let there : suc from + m ≡ from + suc m = omega arith in
-        subst (λ i. slice_index xs i ≢ 48) there (last xs m (suc from) (omega (arith, counted, zeros_more xs from (zero_at xs m from counted))))
 
 pub zeros_run : (bs : List ℕ) (start : ℕ) → start ≤ length bs → IsZeroRun bs start (zeros_from bs start)
 zeros_run bs start within = zeros_of bs (zeros_length (drop start bs)) start refl within

@@ -1,5 +1,5 @@
 -- What reading a hexadecimal as a function answers, case by case.
-use Rattle.std.proofs.Common.{◌⊎◌, inl, inr, ◌≡◌, ◌≢◌, ℕ, ◌+◌, ◌<◌, ◌≤◌, ◌^◌, Bool, true, false, Option, Some, None, List, [], ◌∷◌, length, take, drop, refl, sym, ap, ◌∙◌, arith, Ok, ⊎_elim}
+use Rattle.std.proofs.Common.{◌⊎◌, inl, inr, ◌≡◌, ◌≢◌, ℕ, ◌+◌, ◌<◌, ◌≤◌, ◌^◌, Bool, true, false, Option, Some, None, List, [], ◌∷◌, length, take, drop, refl, sym, ap, ◌∙◌, arith, Ok, ⊎_elim, suc}
 use Rattle.std.specs.Prelude.{slice_index, ◌==◌, is_some}
 use Rattle.std.specs.Char.{digit_value}
 use Rattle.std.specs.Option.{SomeIff}
@@ -20,8 +20,9 @@ unfolding hexadecimal_length
 taken_digits [] = (tt, omega arith, omega arith)
 taken_digits (b ∷ bs) =
     let rest = taken_digits bs in
+    let one : 1 + hexadecimal_length bs ≡ suc (hexadecimal_length bs) = omega arith in
     ⊎_elim
-    (λ digit. rw (is_below (digit_value b) 16 digit) ((digit, rest.0), rest.1, omega (arith, rest.2)))
+    (λ digit. rw (is_below (digit_value b) 16 digit, one) ((digit, rest.0), rest.1, omega (arith, rest.2)))
     (λ other. rw (is_not_below (digit_value b) 16 (omega (arith, other))) (tt, omega (arith, other), omega arith)) (cases_lt (digit_value b) 16)
 
 -- the digits that are taken, by their number

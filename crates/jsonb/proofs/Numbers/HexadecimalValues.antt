@@ -1,5 +1,5 @@
 -- Hexadecimal digits from left to right, and the number that they write.
-use Rattle.std.proofs.Common.{◌≡◌, ℕ, ◌+◌, ◌*◌, ◌^◌, ◌<◌, ◌≤◌, true, false, zero, suc, Option, Some, None, List, [], ◌∷◌, ◌++◌, length, get_or, take, drop, map, refl, sym, ap, ◌∙◌, arith}
+use Rattle.std.proofs.Common.{◌≡◌, ℕ, ◌+◌, ◌*◌, ◌^◌, ◌<◌, ◌≤◌, true, false, zero, suc, Option, Some, None, List, [], ◌∷◌, ◌++◌, length, get_or, take, drop, map, refl, sym, ap, ◌∙◌, arith, nat_lt}
 use Rattle.std.specs.Prelude.{slice_index, nat_le, ℤ, neg_ℤ, pos, FitsSigned, Bool}
 use Rattle.std.specs.Int.{w64}
 use Rattle.std.specs.Char.{digit_value}
@@ -13,23 +13,19 @@ use Rattle.jsonb_value.specs.Number.Signed.{signed_by}
 use Rattle.jsonb_value.specs.Tree.{int64, uint64, decimal128}
 use Rattle.jsonb_value.specs.Grammar.ExtendedNumber.{hexadecimal_number}
 use Rattle.jsonb.specs.Reading.ExtendedNumber.{hexadecimal_length}
+use Rattle.jsonb.proofs.Numbers.Runs.{run_inside, run_more, run_stop}
 use Rattle.jsonb.proofs.Numbers.Steps.{is_below, is_not_below}
 
 -- ---- how many digits there are
 
 pub length_more : (bs : List ℕ) (i : ℕ) → digit_value (slice_index bs i) < 16 → (hexadecimal_length (drop i bs) ≡ suc (hexadecimal_length (drop (suc i) bs))) × (i < length bs)
 unfolding hexadecimal_length
-length_more [] zero h = absurd (omega (arith, h))
-length_more [] (suc i) h = absurd (omega (arith, h))
-length_more (b ∷ bs) zero h = (rw (is_below (digit_value b) 16 h) refl, omega arith)
-length_more (b ∷ bs) (suc i) h = let rest = length_more bs i h in (rest.0, omega (arith, rest.1))
+length_more bs i h =
+    let passes = is_below (digit_value (slice_index bs i)) 16 h in (run_more (λ b. nat_lt (digit_value b) 16) refl bs i passes, run_inside (λ b. nat_lt (digit_value b) 16) refl bs i passes)
 
 pub length_stop : (bs : List ℕ) (i : ℕ) → 16 ≤ digit_value (slice_index bs i) → hexadecimal_length (drop i bs) ≡ 0
 unfolding hexadecimal_length
-length_stop [] zero h = refl
-length_stop [] (suc i) h = refl
-length_stop (b ∷ bs) zero h = rw (is_not_below (digit_value b) 16 h) refl
-length_stop (b ∷ bs) (suc i) h = length_stop bs i h
+length_stop bs i h = run_stop (λ b. nat_lt (digit_value b) 16) refl bs i (is_not_below (digit_value (slice_index bs i)) 16 h)
 
 -- ---- the number
 

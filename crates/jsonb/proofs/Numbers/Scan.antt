@@ -1,12 +1,13 @@
 -- Where the parts of a number text end, by index, in facts about each byte.
-use Rattle.std.proofs.Common.{◌≡◌, ◌≢◌, ◌⊎◌, ℕ, ◌+◌, ◌<◌, ◌≤◌, true, ◌||◌, zero, suc, List, [], ◌∷◌, length, drop, refl, sym, subst, inl, inr, ⊎_elim, arith, Ok, Err}
+use Rattle.std.specs.Char.{is_ascii_digit}
+use Rattle.std.proofs.Common.{◌≡◌, ◌≢◌, ◌⊎◌, ℕ, ◌+◌, ◌<◌, ◌≤◌, true, ◌||◌, zero, suc, List, [], ◌∷◌, length, drop, refl, sym, subst, inl, inr, ⊎_elim, arith, Ok, Err, true≢false, ap, ◌∙◌}
 use Rattle.std.specs.Prelude.{slice_index, ◌==◌}
 use Rattle.std.specs.Int.{IsInRange}
-use Rattle.std.proofs.lemmas.Bool.{cases_eq, cases_lt, cases_Bool}
-use Rattle.std.proofs.lemmas.List.{length-drop}
+use Rattle.std.proofs.lemmas.Bool.{cases_eq, cases_Bool}
 use Rattle.jsonb_value.specs.Grammar.StandardNumber.{IsExponentMark}
 use Rattle.jsonb.specs.Reading.Number.{digits_length, digits_from, sign_end, exponent_from, fraction_from, whole_start}
-use Rattle.jsonb.proofs.Numbers.Steps.{digits_more, digits_stop, digits_within, no_fraction, no_exponent, fraction_bare, fraction_some, exponent_bare, exponent_some, mark_or_not, by_digits, ok_same, ok_no_err}
+use Rattle.jsonb.proofs.Numbers.Runs.{run_ends, run_passes, run_within}
+use Rattle.jsonb.proofs.Numbers.Steps.{no_fraction, no_exponent, fraction_bare, fraction_some, exponent_bare, exponent_some, mark_or_not, by_digits, ok_same, ok_no_err, is_digit, digit_is}
 
 -- from start to end there are digits, and none at end
 pub record IsDigitRun (bytes : List ℕ) (start end : ℕ) : Type 0 where
@@ -49,32 +50,13 @@ inside_of (b ∷ bytes) zero h = omega arith
 inside_of (b ∷ bytes) (suc k) h = omega (arith, inside_of bytes k h)
 
 digits_of : (bs : List ℕ) (n start : ℕ) → digits_length (drop start bs) ≡ n → start ≤ length bs → IsDigitRun bs start (start + n)
+unfolding digits_length
 digits_of bs n start count within = record {
   ordered = omega arith;
-  within = omega (arith, digits_within (drop start bs), length-drop start bs, count, within);
-  digits = each bs n start count;
-  ends = last bs n start count;
+  within = omega (arith, count, run_within is_ascii_digit refl bs start within);
+  digits = λ k low high. digit_is (slice_index bs k) (run_passes is_ascii_digit refl bs start k low (omega (arith, high, count)));
+  ends = λ digit. true≢false (sym (is_digit (slice_index bs (start + n)) digit) ∙ ap (λ m. is_ascii_digit (slice_index bs (start + m))) (sym count) ∙ run_ends is_ascii_digit refl bs start);
 }
-  where
-    tested : (b : ℕ) → IsInRange 48 57 b ⊎ (IsInRange 48 57 b → ⊥)
-    tested b =
-        ⊎_elim (λ low. inr (λ h. omega (arith, low, h))) (λ high. ⊎_elim (λ below. inl (omega arith, omega arith)) (λ out. inr (λ h. omega (arith, out, h))) (cases_lt b 58)) (cases_lt b 48)
-
-    digit_at : (xs : List ℕ) (m from : ℕ) → digits_length (drop from xs) ≡ suc m → IsInRange 48 57 (slice_index xs from)
-    digit_at xs m from counted = ⊎_elim (λ digit. digit) (λ other. absurd (omega (arith, counted, digits_stop xs from other))) (tested (slice_index xs from))
-
-    each : (xs : List ℕ) (m from : ℕ) → digits_length (drop from xs) ≡ m → (k : ℕ) → from ≤ k → k < from + m → IsInRange 48 57 (slice_index xs k)
-    each xs zero from counted k low high = absurd (omega (arith, low, high))
-    each xs (suc m) from counted k low high =
-        let here = digit_at xs m from counted in
-        ⊎_elim (λ same. subst (λ i. IsInRange 48 57 (slice_index xs i)) (sym same) here)
-        (λ other. each xs m (suc from) (omega (arith, counted, digits_more xs from here)) k (omega (arith, low, other)) (omega (arith, high))) (cases_eq k from)
-
-    last : (xs : List ℕ) (m from : ℕ) → digits_length (drop from xs) ≡ m → ¬ IsInRange 48 57 (slice_index xs (from + m))
-    last xs zero from counted = λ digit. let here : from + 0 ≡ from = omega arith in absurd (omega (arith, counted, digits_more xs from (subst (λ i. IsInRange 48 57 (slice_index xs i)) here digit)))
-    last xs (suc m) from counted =
-        let there : suc from + m ≡ from + suc m = omega arith in
-        subst (λ i. ¬ IsInRange 48 57 (slice_index xs i)) there (last xs m (suc from) (omega (arith, counted, digits_more xs from (digit_at xs m from counted))))
 
 pub digits_run : (bs : List ℕ) (start end : ℕ) → start ≤ length bs → end ≡ digits_from bs start → IsDigitRun bs start end
 digits_run bs start end within at = subst (IsDigitRun bs start) (sym at) (digits_of bs (digits_length (drop start bs)) start refl within)

@@ -8,6 +8,7 @@ use Rattle.std.specs.Str.Parse.{AllDigits, digits_value}
 use Rattle.std.proofs.lemmas.Str.{digit_value_digit}
 use Rattle.std.proofs.lemmas.Int.Digits.{digits_value_more}
 use Rattle.std.proofs.lemmas.List.{length-drop, drop-drop}
+use Rattle.std.proofs.lemmas.List.Sums.{prefix_len-drop_all, prefix_len-le-length}
 use Rattle.std.proofs.Math.Nat.{pow-suc, pow-le-pow_right}
 use Rattle.std.proofs.lemmas.Bool.{cases_Bool, cases_eq, false≢true, and_right}
 use Rattle.std.proofs.lemmas.Bool.Decides.{nat_tests}
@@ -16,6 +17,7 @@ use Rattle.jsonb_value.specs.Grammar.StandardNumber.{IsExponentMark}
 use Rattle.jsonb_value.specs.Tree.{Num}
 use Rattle.jsonb.specs.Reading.{fault}
 use Rattle.jsonb.specs.Reading.Number.{FollowsWhole, End, then_from, digits_length, digits_from, sign_end, exponent_from, fraction_from, whole_from, has_minus, whole_start, standard_end, integer_of, whole_digits, integer_at, carried_at, number_to, standard_number_at}
+use Rattle.jsonb.proofs.Numbers.Runs.{run_more, run_stop}
 
 -- ---- bytes
 
@@ -57,38 +59,27 @@ is_not_below a b h = grind (arith, nat_tests)
 
 pub digits_more : (bs : List ℕ) (i : ℕ) → IsInRange 48 57 (slice_index bs i) → digits_length (drop i bs) ≡ suc (digits_length (drop (suc i) bs))
 unfolding digits_length
-digits_more [] zero h = absurd (omega (arith, h))
-digits_more [] (suc i) h = absurd (omega (arith, h))
-digits_more (b ∷ bs) zero h = rw (is_digit b h) refl
-digits_more (b ∷ bs) (suc i) h = digits_more bs i h
+digits_more bs i h = run_more is_ascii_digit refl bs i (is_digit (slice_index bs i) h)
 
 pub digits_stop : (bs : List ℕ) (i : ℕ) → ¬ IsInRange 48 57 (slice_index bs i) → digits_length (drop i bs) ≡ 0
 unfolding digits_length
-digits_stop [] zero h = refl
-digits_stop [] (suc i) h = refl
-digits_stop (b ∷ bs) zero h = rw (is_no_digit b h) refl
-digits_stop (b ∷ bs) (suc i) h = digits_stop bs i h
+digits_stop bs i h = run_stop is_ascii_digit refl bs i (is_no_digit (slice_index bs i) h)
 
 -- past the end there are none
 pub digits_past : (bs : List ℕ) (i : ℕ) → length bs ≤ i → digits_length (drop i bs) ≡ 0
 unfolding digits_length
-digits_past [] zero h = refl
-digits_past [] (suc i) h = refl
-digits_past (b ∷ bs) zero h = absurd (omega (arith, h))
-digits_past (b ∷ bs) (suc i) h = digits_past bs i (omega (arith, h))
+digits_past bs i h = prefix_len-drop_all is_ascii_digit bs i h
 
 pub digits_within : (bs : List ℕ) → digits_length bs ≤ length bs
 unfolding digits_length
-digits_within [] = omega arith
-digits_within (b ∷ bs) =
-    ⊎_elim (λ digit. rw digit (omega (arith, digits_within bs))) (λ other. rw other (omega arith)) (cases_Bool (is_ascii_digit b))
+digits_within bs = prefix_len-le-length is_ascii_digit bs
 
 pub all_digits : (bs : List ℕ) → AllDigits 10 (take (digits_length bs) bs)
 unfolding digits_length
 all_digits [] = tt
 all_digits (b ∷ bs) =
     ⊎_elim
-    (λ digit. let byte = digit_is b digit in rw digit (omega (arith, digit_value_digit b byte, byte), all_digits bs))
+    (λ digit. let byte = digit_is b digit in let one : 1 + digits_length bs ≡ suc (digits_length bs) = omega arith in rw (digit, one) (omega (arith, digit_value_digit b byte, byte), all_digits bs))
     (λ other. rw other tt) (cases_Bool (is_ascii_digit b))
 
 -- ---- standard numbers

@@ -1,6 +1,7 @@
 -- Reading an extended number, as a function on lists: a decimal, a hexadecimal or a word.
-use Rattle.std.specs.Prelude.{◌≡◌, ⊤, ◌⊎◌, ℕ, ◌+◌, ◌-◌, ◌<◌, ◌^◌, ◌==◌, ◌||◌, ◌&&◌, suc, Bool, List, [], ◌∷◌, ◌++◌, take, drop, length, codes, nat_lt, nat_le, slice_index, slice_range, if◌then◌else◌, Option, Some, None, Result, Ok, Err}
+use Rattle.std.specs.Prelude.{◌≡◌, ⊤, ◌⊎◌, ℕ, ◌+◌, ◌-◌, ◌<◌, ◌^◌, ◌==◌, ◌||◌, ◌&&◌, Bool, List, [], ◌∷◌, ◌++◌, take, drop, length, codes, nat_lt, nat_le, slice_index, slice_range, if◌then◌else◌, Option, Some, None, Result, Ok, Err}
 use Rattle.std.specs.Char.{digit_value, to_ascii_lowercase}
+use Rattle.std.specs.List.{prefix_len}
 use Rattle.std.specs.Str.Parse.{digits_value}
 use Rattle.jsonb_value.specs.Code.{Code, invalid_eof, invalid_number_value, expected_some_ident}
 use Rattle.jsonb_value.specs.Grammar.ExtendedNumber.{is_minus, decimal_number, hexadecimal_number}
@@ -30,8 +31,7 @@ core_byte bytes = slice_index bytes (core_start bytes)
 
 -- how many zeros the bytes begin with
 unfoldable pub zeros_length : List ℕ → ℕ
-zeros_length [] = 0
-zeros_length (b ∷ bytes) = if b == 48 then suc (zeros_length bytes) else 0
+zeros_length bytes = prefix_len (λ b. b == 48) bytes
 
 -- the index after the zeros from start on
 abbrev pub zeros_from : List ℕ → ℕ → ℕ
@@ -110,8 +110,7 @@ invalid place = Err (invalid_number_value, place)
 
 -- how many hexadecimal digits the bytes begin with
 unfoldable pub hexadecimal_length : List ℕ → ℕ
-hexadecimal_length [] = 0
-hexadecimal_length (b ∷ bytes) = if nat_lt (digit_value b) 16 then suc (hexadecimal_length bytes) else 0
+hexadecimal_length bytes = prefix_len (λ b. nat_lt (digit_value b) 16) bytes
 
 -- whether 128 bits hold the number of the digits
 abbrev pub hexadecimal_fits : List ℕ → Bool

@@ -1,7 +1,8 @@
 -- Reading a number, as a function on lists.
-use Rattle.std.specs.Prelude.{◌≡◌, ⊤, ◌⊎◌, ℕ, ◌+◌, ◌-◌, ◌==◌, ◌||◌, ◌&&◌, ◌^◌, suc, Bool, true, false, List, [], ◌∷◌, take, drop, length, nat_lt, nat_le, pos, neg_ℤ, slice_index, if◌then◌else◌, Option, Some, None, Result, Ok, Err}
+use Rattle.std.specs.Prelude.{◌≡◌, ⊤, ◌⊎◌, ℕ, ◌+◌, ◌-◌, ◌==◌, ◌||◌, ◌&&◌, ◌^◌, Bool, true, false, List, [], ◌∷◌, take, drop, length, nat_lt, nat_le, pos, neg_ℤ, slice_index, if◌then◌else◌, Option, Some, None, Result, Ok, Err}
 use Rattle.std.specs.Char.{is_ascii_digit}
 use Rattle.std.specs.Int.{IsInRange, from_bool}
+use Rattle.std.specs.List.{prefix_len}
 use Rattle.std.specs.Str.Parse.{digits_value}
 use Rattle.jsonb_value.specs.Code.{invalid_number_value, number_not_carried}
 use Rattle.jsonb_value.specs.Grammar.StandardNumber.{IsExponentMark}
@@ -21,8 +22,7 @@ then_from (Err place) f = Err place
 
 -- how many digits the bytes begin with
 unfoldable pub digits_length : List ℕ → ℕ
-digits_length [] = 0
-digits_length (b ∷ bytes) = if is_ascii_digit b then suc (digits_length bytes) else 0
+digits_length bytes = prefix_len is_ascii_digit bytes
 
 -- the index after the digits from start on
 abbrev pub digits_from : List ℕ → ℕ → ℕ
