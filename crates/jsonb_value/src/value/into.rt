@@ -1,9 +1,7 @@
 //! Values taken apart: what they own is moved out.
 ghost use Rattle.std.specs.Prelude.{◌≡◌, IfOk, IfErr, None};
-ghost use Rattle.std.specs.Cow.{cow_str_bytes};
 ghost use Rattle.jsonb_value.specs.Accessors.{as_string, as_array, as_object};
-ghost use Rattle.jsonb_value.specs.Tree.{string, array, object};
-ghost use Rattle.jsonb_value.specs.View.{view, trees_view, members_view, mark_view};
+ghost use Rattle.jsonb_value.specs.View.{view};
 
 use super::{Object, Value};
 use std::borrow::CowStr;
@@ -15,7 +13,7 @@ impl<'a> Value<'a> {
     ///
     /// The value as it was, if it is no string.
     pub fn into_string(self) -> Result<CowStr<'a>, Value<'a>>
-        ensures ok { IfOk result (λ text. view self.entry ≡ string (mark_view text) (cow_str_bytes text)) }
+        ensures ok { IfOk result (λ text. self.entry ≡ Value.String text) }
         ensures kept { IfErr result (λ value. value ≡ self.entry) }
         ensures none { IfErr result (λ _. as_string (view self.entry) ≡ None) }
     {
@@ -31,7 +29,7 @@ impl<'a> Value<'a> {
     ///
     /// The value as it was, if it is no array.
     pub fn into_array(self) -> Result<Vec<Value<'a>>, Value<'a>>
-        ensures ok { IfOk result (λ items. view self.entry ≡ array (trees_view items.items)) }
+        ensures ok { IfOk result (λ items. self.entry ≡ Value.Array items) }
         ensures kept { IfErr result (λ value. value ≡ self.entry) }
         ensures none { IfErr result (λ _. as_array (view self.entry) ≡ None) }
     {
@@ -47,7 +45,7 @@ impl<'a> Value<'a> {
     ///
     /// The value as it was, if it is no object.
     pub fn into_object(self) -> Result<Object<'a>, Value<'a>>
-        ensures ok { IfOk result (λ members. view self.entry ≡ object (members_view members.entries)) }
+        ensures ok { IfOk result (λ members. self.entry ≡ Value.Object members) }
         ensures kept { IfErr result (λ value. value ≡ self.entry) }
         ensures none { IfErr result (λ _. as_object (view self.entry) ≡ None) }
     {
