@@ -1,5 +1,5 @@
 //! From a string's body to the text that it means, escape by escape and run by run.
-ghost use Rattle.std.specs.Prelude.{◌≡◌, ◌+◌, ◌*◌, ◌^◌, ◌≤◌, ◌<◌, ◌∷◌, [], length, vec_len, vec_capacity, IfOk, IfErr, OnOk, Some, None, string_bytes};
+ghost use Rattle.std.specs.Prelude.{◌≡◌, ◌≢◌, ◌+◌, ◌*◌, ◌^◌, ◌≤◌, ◌<◌, ◌∷◌, [], length, vec_len, vec_capacity, IfOk, IfErr, OnOk, Some, None, Err, string_bytes};
 ghost use Rattle.jsonb_value.specs.Mode.{standard};
 ghost use Rattle.jsonb_value.specs.Code.{code_of};
 ghost use Rattle.jsonb_value.specs.Grammar.StringBody.{escaped_byte, Decodes};
@@ -101,6 +101,7 @@ pub(crate) fn unescape(alloc: Global, bytes: &[u8], mode: Mode, idx: &mut usize)
     ensures ok { IfOk result (λ text. Decodes (mode_of mode) bytes.now (string_bytes text)) }
     ensures end { OnOk result (idx.new ≡ idx.old + length bytes.now) }
     ensures err { IfErr result (IsDecodingError (mode_of mode) bytes.now idx.old idx.new) }
+    ensures memory { result ≡ Err Error.OutOfMemory → bytes.now ≢ [] }
 {
     // The text is never longer than the bytes, so no other growth is asked for.
     let Ok(mut text) = Vec::with_capacity(alloc, bytes.len()) else {
@@ -136,6 +137,7 @@ pub fn parse_string(alloc: Global, data: &[u8], len: usize, idx: &mut usize) -> 
     ensures ok { IfOk result (λ text. Decodes standard «data».now (string_bytes text)) }
     ensures end { OnOk result (idx.new ≡ idx.old + length «data».now) }
     ensures err { IfErr result (IsDecodingError standard «data».now idx.old idx.new) }
+    ensures memory { result ≡ Err Error.OutOfMemory → «data».now ≢ [] }
 {
     let _ = len;
     unescape(alloc, data, Mode::Standard, idx)
