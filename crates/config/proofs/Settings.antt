@@ -156,6 +156,6 @@ no_settings text read v (Err (refusal.Wrong setting line column)) is document pl
     column_there = told.4;
   },
 )
-no_settings text read v (Err refusal.NoMemory) is document placed told = (ast_view read, document, written_members v.items, as_members read v is, told.0, told.1)
+no_settings text read v (Err refusal.NoMemory) is document placed told = (ast_view read, document, written_members v.items, as_members read v is, told)
 no_settings text read v (Err (refusal.NoDocument e line column)) is document placed told = absurd told
 no_settings text read v (Err refusal.NoObject) is document placed told = absurd told

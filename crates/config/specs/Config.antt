@@ -87,18 +87,24 @@ pub record EndsKey (text : List ℕ) (setting : Setting) (line column : ℕ) : T
   pub line_there : line ≡ line_at text index
   pub column_there : column ≡ column_at text index
 
--- The refusal names a setting of the members that is wrong, and where its key ends, or there is no memory for the host.
+-- the members give settings
+abbrev pub GiveSettings : Members → Type 0
+GiveSettings ms = (host : List ℕ) × IsHost (setting_of Host ms) host × (port : ℕ) × IsPort (setting_of Port ms) port
+    × (workers : ℕ) × IsWorkers (setting_of Workers ms) workers
+    × (verbose : Bool) × IsVerbose (setting_of Verbose ms) verbose
+
+-- The refusal names a setting of the members that is wrong, and where its key ends, or there is no memory for the host,
+-- and none is wrong.
 abbrev pub IsSettingRefusal : List ℕ → List Written → Refusal → Type 0
 IsSettingRefusal text members (refusal.Wrong setting line column) =
     IsWrong setting (setting_of setting (written_members members))
     × (index : ℕ) × HasKeyEnd (source_members_view members) (key_of setting) index
     × (line ≡ line_at text index) × (column ≡ column_at text index)
-IsSettingRefusal text members refusal.NoMemory =
-    (host : List ℕ) × IsHost (setting_of Host (written_members members)) host
+IsSettingRefusal text members refusal.NoMemory = GiveSettings (written_members members)
 IsSettingRefusal text members other = ⊥
 
--- The text is no document, or one of no object, or a setting of its object is wrong, or there is no memory for the
--- host.
+-- The text is no document, or one of no object, or a setting of its object is wrong, or none is and there is no memory
+-- for the host.
 abbrev pub IsConfigRefusal : List ℕ → Refusal → Type 0
 IsConfigRefusal text (refusal.NoDocument e line column) =
     (e ≢ error.OutOfMemory → IsNoDocument extended text) × (e ≡ error.OutOfMemory → HoldsMarker text)
@@ -109,5 +115,4 @@ IsConfigRefusal text (refusal.Wrong setting line column) =
     (t : Tree) × IsDocument extended text t × (ms : Members) × (as_object t ≡ Some ms)
     × IsWrong setting (setting_of setting ms) × EndsKey text setting line column
 IsConfigRefusal text refusal.NoMemory =
-    (t : Tree) × IsDocument extended text t × (ms : Members) × (as_object t ≡ Some ms)
-    × (host : List ℕ) × IsHost (setting_of Host ms) host
+    (t : Tree) × IsDocument extended text t × (ms : Members) × (as_object t ≡ Some ms) × GiveSettings ms

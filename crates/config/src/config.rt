@@ -91,7 +91,8 @@ type Member<'a> = (CowStr<'a>, JsonAst<'a>, usize);
 /// # Errors
 ///
 /// `NoDocument` where the text is no document of extended mode, `NoObject` where it is one of another value, `Wrong`
-/// with a setting of the wrong kind or out of range, and `NoMemory` where there is none for the host.
+/// with a setting of the wrong kind or out of range, and `NoMemory` where none is wrong and there is no memory for the
+/// host.
 pub fn read_config(alloc: Global, text: &[u8]) -> Result<Config, Refusal>
     ensures config { IfOk result (λ c. (t : Tree) × IsDocument extended text.now t × IsConfigOf t c) }
     ensures only { IfOk result (λ c. (t : Tree) → IsDocument extended text.now t → IsConfigOf t c) }
