@@ -77,7 +77,10 @@ next_encoded lines i line old new t within is so_far document appends decodes ot
     let back : new ++ rest ≡ old ++ (bytes ++ rest) = ap (λ bs. bs ++ rest) appends.appended ∙ append_assoc old bytes rest in
     subst (λ ls. AreEncoded ls (new ++ rest)) (sym front)
     (subst (λ bs. AreEncoded (contents (take i lines) ++ line.items ∷ others) bs) (sym back)
-    (so_far (line.items ∷ others) (bytes ++ rest) (more_lines document (decodes bytes rest appends.appended) encoded)))
+    (so_far (line.items ∷ others) (bytes ++ rest) (more_lines document alone (decodes bytes rest appends.appended) encoded)))
+  where
+    alone : AppendsFrame t [] (frame_of appends.text)
+    alone = record { text = appends.text; is_text = appends.is_text; fits = appends.fits; appended = refl }
 
 -- after all lines
 pub all_encoded : (lines : List (Vec ℕ Global)) (i : ℕ) (bytes : List ℕ) → ((others : List (List ℕ)) (rest : List ℕ) → AreEncoded others rest → AreEncoded (contents (take i lines) ++ others) (bytes ++ rest))

@@ -1,5 +1,5 @@
 -- What is refused of lines and of frames, and where there is no room for a frame.
-use Rattle.std.proofs.Common.{◌≡◌, ◌≢◌, ◌⊎◌, inl, inr, ℕ, ◌+◌, ◌<◌, List, [], ◌∷◌, ◌++◌, length, take, drop, get_or, true, Option, Some, None, IsSome, IfSome, Result, Ok, Err, OnErr, is_err, Vec, Global, refl, sym, subst, ap, ◌∙◌, add-one, append-nil, drop-cons, take-append-drop, arith}
+use Rattle.std.proofs.Common.{◌≡◌, ◌≢◌, ◌⊎◌, inl, inr, ℕ, ◌+◌, ◌<◌, List, [], ◌∷◌, ◌++◌, length, take, drop, get_or, true, Option, Some, None, IsSome, MatchOption, Result, Ok, Err, OnErr, is_err, Vec, Global, refl, sym, subst, ap, ◌∙◌, add-one, append-nil, drop-cons, take-append-drop, arith}
 use Rattle.jsonb.specs.Grammar.{IsDocument}
 use Rattle.jsonb.specs.Mode.{extended}
 use Rattle.jsonb.specs.Tree.{Tree}
@@ -66,6 +66,6 @@ refused_growth (Ok x) told refused = cc
 refused_growth (Err e) told refused = told
 
 -- where a length doesn't fit, no frame does
-pub no_room : (text : Option (List ℕ)) (capacity len : ℕ) → capacity < len + 4 → IfSome text (λ bytes. capacity < len + length (frame_of bytes))
-no_room None capacity len full = tt
+pub no_room : (text : Option (List ℕ)) (capacity len : ℕ) → capacity < len + 4 → MatchOption text (capacity < len + 4) (λ bytes. capacity < len + length (frame_of bytes))
+no_room None capacity len full = full
 no_room (Some bytes) capacity len full = omega (arith, full)

@@ -53,11 +53,13 @@ DecodeRefuses bytes (Refused e) =
 abbrev pub contents : List (Vec ℕ Global) → List (List ℕ)
 contents lines = map (λ line. line.items) lines
 
--- Each line is a document, and the bytes are frames of the same trees with the same texts, one after the other.
+-- Each line is a document, and the bytes are the frames of the texts of their trees, one after the other. They are also
+-- frames of the same trees with the same texts.
 pub data AreEncoded : List (List ℕ) → List ℕ → Type 0 where
   no_lines : AreEncoded [] []
-  more_lines : {line bytes rest : List ℕ} {t : Tree} {lines : List (List ℕ)} → IsDocument extended line t
-      → DecodesAs bytes t rest → AreEncoded lines rest → AreEncoded (line ∷ lines) bytes
+  more_lines : {line frame rest : List ℕ} {t : Tree} {lines : List (List ℕ)} → IsDocument extended line t
+      → AppendsFrame t [] frame → DecodesAs (frame ++ rest) t rest → AreEncoded lines rest
+      → AreEncoded (line ∷ lines) (frame ++ rest)
 
 -- The line is no document, and the fault is as reading tells it, or the text of its tree is too long for a frame, or
 -- memory ran out: for what the line holds, or for the frame of its tree.

@@ -1,6 +1,6 @@
 //! Values in frames.
 
-ghost use Rattle.std.specs.Prelude.{◌≡◌, ◌≢◌, ◌⊎◌, ◌+◌, ◌<◌, ◌++◌, ℕ, List, length, None, vec_len, vec_capacity, OnOk, OnErr, IfOk, IfErr, IfSome, IsErrOf};
+ghost use Rattle.std.specs.Prelude.{◌≡◌, ◌≢◌, ◌⊎◌, ◌+◌, ◌<◌, ◌++◌, ℕ, List, length, None, vec_len, vec_capacity, OnOk, OnErr, IfOk, IfErr, MatchOption, IsErrOf};
 ghost use Rattle.jsonb.specs.Tree.{Tree};
 ghost use Rattle.jsonb.specs.View.{view};
 ghost use Rattle.jsonb_value.specs.Text.{text_of};
@@ -47,8 +47,9 @@ pub fn encode(value: &Value, out: &mut Vec<u8>) -> Result<(), Refusal>
         → out.new.items ≡ out.old.items ++ bytes → DecodesAs (bytes ++ rest) (view value.now) rest) }
     ensures err { OnErr result (out.new.items ≡ out.old.items) }
     ensures refused { IfErr result (EncodeRefuses (view value.now)) }
-    // Memory is refused only where the room for the whole frame is missing.
-    ensures full { IsErrOf result (Refusal.Refused Error.OutOfMemory) → IfSome (text_of (view value.now))
+    // Memory is refused only where the room for the whole frame is missing, or for the length where there is no text.
+    ensures full { IsErrOf result (Refusal.Refused Error.OutOfMemory) → MatchOption (text_of (view value.now))
+        (vec_capacity out.old < vec_len out.old + 4)
         (λ text. vec_capacity out.old < vec_len out.old + length (frame_of text)) }
 {
     let start = out.len();
