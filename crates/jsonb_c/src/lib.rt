@@ -99,7 +99,7 @@ pub extern "C" fn vizhoniku_text(
     size: &mut usize,
     refusal: &mut Refusal,
 ) -> u32
-    ensures status { result ≤ TOO_SHORT }
+    ensures status { result ≤ 4 }
     ensures mode { result ≡ UNKNOWN_MODE ↔ (1 < mode) }
 
     // What is written is the text of the document's tree, and no other byte of the buffer changes.
@@ -151,7 +151,8 @@ pub extern "C" fn vizhoniku_compare(
     // Two documents are accepted, unless memory ran out.
     ensures accepted { IsAccepted mode left.now → IsAccepted mode right.now
         → (result ≡ ACCEPTED) ⊎ (result ≡ OUT_OF_MEMORY) }
-    ensures memory { result ≡ OUT_OF_MEMORY → HoldsMarker left.now ⊎ HoldsMarker right.now }
+    ensures memory { result ≡ OUT_OF_MEMORY → HoldsMarker left.now
+        ⊎ (IsAccepted mode left.now × HoldsMarker right.now) }
 
     // Which of the two it is that is refused, which fault, and where.
     ensures refused { result ≡ REFUSED → IsOneRefused mode left.now right.now refusal.new }
@@ -195,7 +196,8 @@ fn tell(refused: Refused, refusal: &mut Refusal) -> u32
 fn order_of(alloc: Global, mode: u32, left: &[u8], right: &[u8]) -> Result<Ordering, Refused>
     ensures ordered { IfOk result (λ order. IsOrdered mode left.now right.now (sign order)) }
     ensures reason { IfErr result (IsReason mode (IsOneRefused mode left.now right.now)) }
-    ensures memory { result ≡ Err Refused.OutOfMemory → HoldsMarker left.now ⊎ HoldsMarker right.now }
+    ensures memory { result ≡ Err Refused.OutOfMemory → HoldsMarker left.now
+        ⊎ (IsAccepted mode left.now × HoldsMarker right.now) }
 {
     let first = value_of(alloc, mode, left, 1)?;
     let second = value_of(alloc, mode, right, 2)?;

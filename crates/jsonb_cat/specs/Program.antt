@@ -1,5 +1,5 @@
 -- What the program does with its words and its streams.
-use Rattle.std.specs.Prelude.{◌≡◌, ℕ, List, [], ◌∷◌, ◌++◌, Option, Some, codes}
+use Rattle.std.specs.Prelude.{◌≡◌, ℕ, ◌+◌, ◌<◌, List, [], ◌∷◌, ◌++◌, length, Option, Some, codes}
 use Rattle.std.specs.Io.KnownBytes.{Appends}
 use Rattle.jsonb_value.specs.Mode.{Mode, standard, extended}
 use Rattle.jsonb_value.specs.Tree.{Tree}
@@ -18,6 +18,12 @@ pub record IsLineOf (mode : Mode) (input line : List ℕ) : Type 0 where
   pub text : List ℕ
   pub is_text : text_of tree ≡ Some text
   pub ended : line ≡ text ++ 10 ∷ []
+
+-- The input is a document, and a buffer of this capacity with this many bytes has no room for its line.
+pub record LacksRoom (mode : Mode) (input : List ℕ) (capacity len : ℕ) : Type 0 where
+  pub line : List ℕ
+  pub line_of : IsLineOf mode input line
+  pub too_short : capacity < len + length line
 
 -- The words choose a mode in which the input is a document.
 pub record IsAccepted (words : List (List ℕ)) (input : List ℕ) : Type 0 where

@@ -1,14 +1,13 @@
 //! What the program does, over any streams.
 
-ghost use Rattle.std.specs.Prelude.{◌≡◌, ◌≢◌, ◌↔◌, ◌⊎◌, ℕ, ◌+◌, ◌≤◌, List, [], ◌∷◌, ◌++◌, take, map, vec_len, string_bytes, MatchOption, OnOk, OnErr, IfOk, IfErr, IfSome, Err};
+ghost use Rattle.std.specs.Prelude.{◌≡◌, ◌≢◌, ◌↔◌, ◌⊎◌, ℕ, ◌+◌, ◌≤◌, List, [], ◌∷◌, ◌++◌, take, map, vec_len, vec_capacity, string_bytes, MatchOption, OnOk, OnErr, IfOk, IfErr, IfSome, Err};
 ghost use Rattle.std.specs.Io.KnownBytes.{Appends, IsAtEnd};
-ghost use Rattle.jsonb_value.specs.Grammar.{IsDocument, IsNoDocument};
+ghost use Rattle.jsonb_value.specs.Grammar.{IsNoDocument};
 ghost use Rattle.jsonb_value.specs.Mode.{Mode as GrammarMode};
-ghost use Rattle.jsonb_value.specs.Tree.{Tree};
 ghost use Rattle.jsonb.specs.Parser.{mode_of, Fails, HoldsMarker};
 ghost use Rattle.jsonb.specs.Reading.Document.{document_of};
 ghost use Rattle.jsonb.specs.Refusals.{IsExplained};
-ghost use Rattle.jsonb_cat.specs.Program.{WordsChoose, IsLineOf, IsAccepted, IsAnswered};
+ghost use Rattle.jsonb_cat.specs.Program.{WordsChoose, IsLineOf, LacksRoom, IsAccepted, IsAnswered};
 
 use jsonb::parser::Mode;
 use jsonb::{Error, Result};
@@ -43,7 +42,7 @@ pub fn convert(alloc: Global, mode: Mode, input: &[u8], out: &mut Vec<u8>) -> Re
         × (out.new.items ≡ out.old.items ++ line)) }
     ensures refused { IfErr result (λ e. e ≢ Error.OutOfMemory → IsNoDocument (mode_of mode) input.now) }
     ensures memory { result ≡ Err Error.OutOfMemory → HoldsMarker input.now
-        ⊎ ((tree : Tree) × IsDocument (mode_of mode) input.now tree) }
+        ⊎ LacksRoom (mode_of mode) input.now (vec_capacity out.old) (vec_len out.old) }
     ensures err { OnErr result (out.new.items ≡ out.old.items) }
     // Which fault it is, and where, and what stands at the place that is named.
     ensures exact { IfErr result (λ e. Fails e (document_of (mode_of mode) input.now)) }
