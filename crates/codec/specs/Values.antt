@@ -1,6 +1,7 @@
 -- Values in frames.
-use Rattle.std.specs.Prelude.{◌≡◌, ◌≢◌, ◌⊎◌, ℕ, ◌<◌, ◌≤◌, ◌^◌, List, [], ◌∷◌, ◌++◌, length, map, Some, None, Vec}
+use Rattle.std.specs.Prelude.{◌≡◌, ◌≢◌, ◌⊎◌, ℕ, ◌<◌, ◌≤◌, ◌^◌, List, [], ◌∷◌, ◌++◌, length, map, codes, Some, None, Vec}
 use Rattle.std.specs.declared.alloc.Global.{Global}
+use Rattle.jsonb.specs.ErrorText.{error_text}
 use Rattle.jsonb.specs.Grammar.{IsDocument, IsNoDocument}
 use Rattle.jsonb.specs.Mode.{extended}
 use Rattle.jsonb.specs.Parser.{Fails, HoldsMarker}
@@ -32,6 +33,12 @@ pub record DecodesAs (bytes : List ℕ) (t : Tree) (rest : List ℕ) : Type 0 wh
   pub frame : IsFrame bytes tree rest
   pub same : Same tree t
   pub text : text_of tree ≡ text_of t
+
+-- what is printed of a refusal
+abbrev pub refusal_text : Refusal → List ℕ
+refusal_text TooLong = codes "text too long"
+refusal_text CutShort = codes "frame cut short"
+refusal_text (Refused e) = error_text e
 
 -- The text is too long for a frame, or there is no text, or memory ran out.
 abbrev pub EncodeRefuses : Tree → Refusal → Type 0

@@ -3,6 +3,7 @@ use Rattle.std.specs.Prelude.{◌≡◌, ◌≢◌, ◌⊎◌, ℕ, ◌<◌, Lis
 use Rattle.std.specs.List.{AllByRecursion}
 use Rattle.std.specs.Str.{bytes_eq}
 use Rattle.std.specs.Str.Parse.{IsNumeral, digits_value}
+use Rattle.jsonb.specs.ErrorText.{error_text}
 use Rattle.jsonb.specs.Grammar.{IsDocument, IsNoDocument}
 use Rattle.jsonb.specs.Mode.{extended}
 use Rattle.jsonb.specs.Parser.{Fails, HoldsMarker}
@@ -83,3 +84,9 @@ IsPathRefusal path document NoPath = (keys : List (List ℕ)) → IsPath path ke
 IsPathRefusal path document (NoDocument error) = (error ≢ OutOfMemory → IsNoDocument extended document)
     × (error ≡ OutOfMemory → HoldsMarker document) × Fails error (document_of extended document)
 IsPathRefusal path document NoMemory = StartsKey path ⊎ ((tree : Tree) × IsDocument extended document tree)
+
+-- what is printed of a refusal
+abbrev pub refusal_text : Refusal → List ℕ
+refusal_text NoPath = codes "no path"
+refusal_text (NoDocument error) = error_text error
+refusal_text NoMemory = codes "out of memory"

@@ -1,10 +1,12 @@
 -- The index of the documents that stand on lines.
-use Rattle.std.specs.Prelude.{◌≡◌, ◌≢◌, ℕ, ◌+◌, List, [], ◌∷◌, ◌++◌, length, map, Contains, Some, Vec}
+use Rattle.std.specs.Prelude.{◌≡◌, ◌≢◌, ℕ, ◌+◌, List, [], ◌∷◌, ◌++◌, length, map, codes, Contains, Some, Vec}
+use Rattle.std.specs.Fmt.{decimal}
 use Rattle.std.specs.List.{Any}
 use Rattle.std.specs.List.Sorted.{IsStrictlySortedBy}
 use Rattle.std.specs.declared.alloc.Global.{Global}
 use Rattle.std.specs.declared.cmp.Ordering.{Ordering}
 use Rattle.std.specs.declared.cmp.Ordering.TheVariants.{Equal}
+use Rattle.jsonb.specs.ErrorText.{error_text}
 use Rattle.jsonb.specs.Grammar.{IsDocument, IsNoDocument}
 use Rattle.jsonb.specs.Mode.{extended}
 use Rattle.jsonb.specs.Parser.{Fails, HoldsMarker}
@@ -77,3 +79,8 @@ BeginsWithDocument (line ∷ others) = (tree : Tree) × IsDocument extended line
 abbrev pub IsLineRefusal : List (List ℕ) → Refusal → Type 0
 IsLineRefusal lines (Line number error) = IsFirstFault lines number error
 IsLineRefusal lines NoMemory = BeginsWithDocument lines
+
+-- what is printed of a refusal
+abbrev pub refusal_text : Refusal → List ℕ
+refusal_text (Line number error) = codes "line " ++ decimal number ++ codes ": " ++ error_text error
+refusal_text NoMemory = codes "out of memory"
