@@ -1,5 +1,5 @@
 -- What is written of a value in range reads back, and says which value it is.
-use Rattle.std.proofs.Common.{List, [], ◌≡◌, ◌↔◌, ℕ, Some, sym, subst, ap, ◌∙◌, append-nil}
+use Rattle.std.proofs.Common.{List, [], ◌≡◌, ◌≢◌, ◌↔◌, ℕ, Some, None, sym, subst, ap, ◌∙◌, append-nil}
 use Rattle.jsonb_value.specs.Grammar.{max_depth, IsDocument}
 use Rattle.jsonb_value.specs.Mode.{Mode, standard, extended}
 use Rattle.jsonb_value.specs.Order.{Same}
@@ -23,6 +23,14 @@ some_same xs ys e = cc
 -- a tree in range has a text
 pub text_in_range : (IsIn : Num → Type 0) (t : Tree) → IsWithin IsIn t max_depth → text_of t ≡ Some (tree_text t)
 text_in_range IsIn t w = text_of-has_text t (within_text IsIn t max_depth w)
+
+some_is_there : (xs : List ℕ) → Some xs ≡ None → ⊥
+some_is_there xs e = cc
+
+-- so has a tree in a mode's range
+pub range_has_text : (mode : Mode) (t : Tree) → IsInRangeOf mode t → text_of t ≢ None
+range_has_text standard t w none = some_is_there (tree_text t) (sym (text_in_range IsIntegral t w) ∙ none)
+range_has_text extended t w none = some_is_there (tree_text t) (sym (text_in_range IsInTexts t w) ∙ none)
 
 same_short : (t u : Tree) → IsWithin IsShort t max_depth → IsWithin IsShort u max_depth → tree_text t ≡ tree_text u → Same t u
 same_short t u w v e = (one_tree t u max_depth max_depth [] [] w v tt tt (append-nil (tree_text t) ∙ e ∙ sym (append-nil (tree_text u)))).0

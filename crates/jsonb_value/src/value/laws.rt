@@ -1,6 +1,6 @@
 //! Laws of the texts of values and of documents. Each is the contract of a function that does nothing.
 
-ghost use Rattle.std.specs.Prelude.{◌≡◌, ◌↔◌, ℕ, List, Some};
+ghost use Rattle.std.specs.Prelude.{◌≡◌, ◌≢◌, ◌↔◌, ℕ, List, Some, None};
 ghost use Rattle.jsonb_value.specs.Grammar.{IsDocument};
 ghost use Rattle.jsonb_value.specs.Mode.{Mode, standard, extended};
 ghost use Rattle.jsonb_value.specs.Order.{Same};
@@ -10,9 +10,10 @@ ghost use Rattle.jsonb_value.specs.Text.ReadsBack.{ReadsBackAs};
 ghost use Rattle.jsonb_value.specs.Text.{text_of};
 ghost use Rattle.jsonb_value.specs.Tree.{Tree};
 
-/// What is written of a value in range reads back as the same value. Values in range with one text are the same, and of
-/// values whose numbers are all integers the same ones have one text.
+/// A value in range has a text, and what is written of it reads back as the same value. Values in range with one text
+/// are the same, and of values whose numbers are all integers the same ones have one text.
 pub fn value_texts_read_back()
+    ensures written { (mode : Mode) → (t : Tree) → IsInRangeOf mode t → text_of t ≢ None }
     ensures reads_back { (mode : Mode) → (t : Tree) → IsProper t → IsInRangeOf mode t → (bytes : List ℕ)
         → text_of t ≡ Some bytes → ReadsBackAs mode bytes t }
     ensures same { (t u : Tree) → IsProper t → IsProper u → IsInRange t → IsInRange u

@@ -1,5 +1,8 @@
-use Rattle.jsonb_value.proofs.Trees.RangeTexts.{range_reads_back, one_text_in_range, one_text_of_integers}
+use Rattle.jsonb_value.proofs.Trees.RangeTexts.{range_has_text, range_reads_back, one_text_in_range, one_text_of_integers}
 use Rattle.jsonb_value.proofs.value.laws.value_texts_read_back.Goals as goal
+
+pub returns-clause-written : goal.returns-clause-written
+returns-clause-written c = range_has_text
 
 pub returns-clause-reads_back : goal.returns-clause-reads_back
 returns-clause-reads_back c = range_reads_back
