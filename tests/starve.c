@@ -1,6 +1,6 @@
 /* Refuses a program one request for memory: the one whose number, counted from 1, is in STARVE. Where it refuses one it
- * writes a byte to the descriptor STARVE_TO. It is loaded before the C library. It includes no header, so that the kit's
- * compiler builds it alone. */
+ * writes an x to the descriptor STARVE_TO, and a k at the end where the program has not given back all that it took. It
+ * is loaded before the C library. It includes no header, so that the kit's compiler builds it alone. */
 typedef unsigned long size;
 extern void *dlsym(void *handle, const char *name);
 extern char *getenv(const char *name);
@@ -13,6 +13,9 @@ extern long write(int to, const void *bytes, size count);
 static long left = -1;
 static int to = -1;
 static int is_set;
+
+/* How many blocks of memory the program holds. */
+static long held;
 
 static void set(void) {
   const char *number = getenv("STARVE"), *where = getenv("STARVE_TO");
@@ -30,20 +33,38 @@ static int is_refused(void) {
   return 1;
 }
 
+static void *counted(void *block) {
+  if (block) held++;
+  return block;
+}
+
 void *malloc(size n) {
   static void *(*real)(size);
   if (!real) real = NEXT("malloc");
-  return is_refused() ? 0 : real(n);
+  return is_refused() ? 0 : counted(real(n));
 }
 
 void *realloc(void *old, size n) {
   static void *(*real)(void *, size);
   if (!real) real = NEXT("realloc");
-  return is_refused() ? 0 : real(old, n);
+  if (is_refused()) return 0;
+  return old ? real(old, n) : counted(real(old, n));
+}
+
+void free(void *old) {
+  static void (*real)(void *);
+  if (!real) real = NEXT("free");
+  if (old) held--;
+  real(old);
 }
 
 void *aligned_alloc(size alignment, size n) {
   static void *(*real)(size, size);
   if (!real) real = NEXT("aligned_alloc");
-  return is_refused() ? 0 : real(alignment, n);
+  return is_refused() ? 0 : counted(real(alignment, n));
+}
+
+__attribute__((destructor)) static void end(void) {
+  if (!is_set) set();
+  if (held > 0 && to >= 0) (void)!write(to, "k", 1);
 }
