@@ -8,6 +8,7 @@
  *  - No pointer is null, not even that of an empty text or buffer.
  *  - What a call writes to (buffer, size, order, refusal) lies apart from all else that the call is given.
  *  - No text and no buffer is longer than PTRDIFF_MAX bytes.
+ *  - The thread has 512 KB of stack free: a text of 512 objects in one another can take most of it.
  *  - No call comes from a signal handler, or from the child that a process with threads forked.
  *
  * docs/C.md says how to build and link the library, and what is proved. */
