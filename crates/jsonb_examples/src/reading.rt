@@ -51,13 +51,16 @@ pub fn told(alloc: Global, refusal: &Error) -> Result<String> {
 
 /// The line and the column of the byte or the place that a refusal of the text names.
 pub fn place_of(text: &[u8], code: &ParseErrorCode, position: usize) -> (usize, usize) {
-    let index = match code {
+    let added = match code {
         ParseErrorCode::ExpectedSomeValue
         | ParseErrorCode::ExpectedSomeIdent
         | ParseErrorCode::UnexpectedTrailingCharacters
         | ParseErrorCode::ObjectKeyInvalidNumber
-        | ParseErrorCode::DepthLimitExceeded => position.saturating_sub(1),
-        _ => position,
+        | ParseErrorCode::DepthLimitExceeded => 1,
+        ParseErrorCode::InvalidEscaped(_)
+        | ParseErrorCode::InvalidHex(_)
+        | ParseErrorCode::UnexpectedEndOfHexEscape => 2,
+        _ => 0,
     };
-    jsonb::line_and_column(text, index)
+    jsonb::line_and_column(text, position.saturating_sub(added))
 }
