@@ -1,5 +1,5 @@
 -- The settings that a tree gives.
-use Rattle.std.specs.Prelude.{◌≡◌, ◌≢◌, ◌⊎◌, ℕ, ◌<◌, ◌^◌, List, Bool, false, Option, Some, None, codes, string_bytes, pos}
+use Rattle.std.specs.Prelude.{◌≡◌, ◌≢◌, ◌⊎◌, ℕ, ◌-◌, ◌<◌, ◌^◌, List, Bool, false, Option, Some, None, codes, string_bytes, pos}
 use Rattle.std.specs.Str.{bytes_eq}
 use Rattle.jsonb.specs.AstView.{Written, written_members}
 use Rattle.jsonb.specs.Grammar.{IsDocument, IsNoDocument}
@@ -13,6 +13,8 @@ use Rattle.jsonb.specs.Source.{object_source, SourceMembers, no_source_members, 
 use Rattle.jsonb.specs.Tree.{Mark, Tree, Members}
 use Rattle.jsonb_value.specs.declared.error.Error.{Error}
 use Rattle.jsonb_value.specs.declared.error.Error.TheVariants as error
+use Rattle.jsonb_value.specs.declared.error.ParseErrorCode.{ParseErrorCode}
+use Rattle.jsonb_value.specs.declared.error.ParseErrorCode.TheVariants as code
 use Rattle.config.specs.declared.config.Config.{Config}
 use Rattle.config.specs.declared.config.Setting.{Setting}
 use Rattle.config.specs.declared.config.Setting.TheVariants.{Host, Port, Workers, Verbose}
@@ -68,9 +70,21 @@ IsWrong Port t = (port : ℕ) → IsPort t port → ⊥
 IsWrong Workers t = (workers : ℕ) → IsWorkers t workers → ⊥
 IsWrong Verbose t = (verbose : Bool) → IsVerbose t verbose → ⊥
 
--- the position of a fault of the text
+-- what the position of a code has more than the index of the byte that a person looks for
+abbrev pub added : ParseErrorCode → ℕ
+added code.ExpectedSomeValue = 1
+added code.ExpectedSomeIdent = 1
+added code.UnexpectedTrailingCharacters = 1
+added code.ObjectKeyInvalidNumber = 1
+added code.DepthLimitExceeded = 1
+added (code.InvalidEscaped byte) = 2
+added (code.InvalidHex byte) = 2
+added code.UnexpectedEndOfHexEscape = 2
+added other = 0
+
+-- the index of the byte that a person looks for
 abbrev pub fault_position : Error → ℕ
-fault_position (error.Syntax code position) = position
+fault_position (error.Syntax c position) = position - added c
 fault_position other = 0
 
 -- one of the members has this key, whose spelling ends at the index

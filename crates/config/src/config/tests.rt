@@ -54,6 +54,15 @@ fn refusals_name_the_place_and_the_key(rt: HostRuntime) -> Result<(), Fail> {
         ),
         ("[]", "no object"),
         ("{\n\n  a 1}", "line 3, column 5: expected `:`, pos 7"),
+        (
+            "{\n  verbose: tru\n}",
+            "line 2, column 15: expected ident, pos 17",
+        ),
+        (
+            "{\n  host: 'a\\\n'}",
+            "line 2, column 12: invalid escaped 'A', pos 15",
+        ),
+        ("{a: x}", "line 1, column 5: expected value, pos 5"),
     ] {
         expect(&rt, text, told)?;
     }
