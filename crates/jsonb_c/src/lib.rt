@@ -10,12 +10,13 @@ ghost use Rattle.jsonb_value.specs.Code.{code_of};
 ghost use Rattle.jsonb_value.specs.Grammar.{IsDocument, IsNoDocument};
 ghost use Rattle.jsonb_value.specs.Tree.{Tree};
 ghost use Rattle.jsonb_value.specs.View.{view};
+ghost use Rattle.jsonb.specs.Line.{column_at, line_at};
 ghost use Rattle.jsonb.specs.Parser.{mode_of, Gives, HoldsMarker, IsTextRefusal};
 ghost use Rattle.jsonb.specs.Reading.Document.{document_of};
 ghost use Rattle.jsonb.specs.Refusals.{IsExplained};
-ghost use Rattle.jsonb_c.specs.Interface.{NumberChooses, code_number, nothing, sign, status_of, told, IsAccepted, IsOneRefused, IsOrdered, IsDocumentOf, IsReason, IsRefused, IsTextOf, IsWritten, NeedsRoom, SaysError};
+ghost use Rattle.jsonb_c.specs.Interface.{NumberChooses, added, code_number, ends_escape, names_next, nothing, shown, sign, status_of, told, IsAccepted, IsOneRefused, IsOrdered, IsDocumentOf, IsReason, IsRefused, IsTextOf, IsWritten, NeedsRoom, SaysError};
 
-use jsonb::{Error, Mode, ParseErrorCode, Value, parse_value, parse_value_standard_mode};
+use jsonb::{Error, Mode, ParseErrorCode, Value, line_and_column, parse_value, parse_value_standard_mode};
 use std::alloc::Global;
 use std::cmp::Ordering;
 
@@ -169,6 +170,68 @@ pub extern "C" fn vizhoniku_compare(
             tell(refused, refusal)
         }
     }
+}
+
+/// The version of this interface. It grows by one when a function, a status or a code is added.
+pub const VERSION: u32 = 2;
+
+/// The version of this interface.
+#[unsafe(no_mangle)]
+pub extern "C" fn vizhoniku_version() -> u32
+    ensures { result ≡ VERSION }
+{
+    VERSION
+}
+
+/// The line and the column of the byte that a person is shown of a refusal of this text, both counted from 1, the column
+/// in bytes. At the end of the text they are those of the byte that would stand there.
+#[unsafe(no_mangle)]
+pub extern "C" fn vizhoniku_place(
+    text: &[u8],
+    refusal: &Refusal,
+    line: &mut usize,
+    column: &mut usize,
+)
+    ensures line { line.new ≡ line_at text.now (shown refusal.now) }
+    ensures column { column.new ≡ column_at text.now (shown refusal.now) }
+{
+    let place = line_and_column(text, shown(refusal));
+    *line = place.0;
+    *column = place.1;
+}
+
+// The index of the byte that a person is shown: the position, less what the code adds to it.
+fn shown(refusal: &Refusal) -> usize
+    ensures { result ≡ shown refusal.now }
+{
+    refusal.position.saturating_sub(added(refusal.code))
+}
+
+// What the position of a code has more than the index of the byte that it speaks of.
+fn added(code: u32) -> usize
+    ensures { result ≡ added code }
+{
+    if names_next(code) {
+        1
+    } else if ends_escape(code) {
+        2
+    } else {
+        0
+    }
+}
+
+// Whether the position of the code is the index of a byte plus 1.
+fn names_next(code: u32) -> bool
+    ensures { result ≡ names_next code }
+{
+    code == 4 || code == 5 || code == 9 || code == 18 || code == 21
+}
+
+// Whether the code is one of escapes, whose position is the index after what was looked at, plus 1.
+fn ends_escape(code: u32) -> bool
+    ensures { result ≡ ends_escape code }
+{
+    code == 12 || code == 13 || code == 16
 }
 
 // Tells why a call has no answer, and gives the status of that.
