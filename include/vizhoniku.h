@@ -1,4 +1,4 @@
-/* Vizhoniku for C: check JSON texts, write the texts of their values, compare their values.
+/* Vizhoniku for C: check JSON texts, write the texts of their values, compare their values, tell what is wrong.
  *
  * A text is any bytes, with its size; it needs no zero byte at its end. A call keeps nothing: there is no state, all
  * memory that a call takes it frees, and it writes only to what its caller passes. So calls in different threads need
@@ -10,6 +10,10 @@
  *  - No text and no buffer is longer than PTRDIFF_MAX bytes.
  *  - The thread has 512 KB of stack free: a text of 512 objects in one another can take most of it.
  *  - No call comes from a signal handler, or from the child that a process with threads forked.
+ *  - A call may take 256 KB of the machine stack: a value is let go by a function that calls itself for each array and
+ *    object. (Measured: 202 KB, for 512 objects in one another.) A thread of musl has 128 KB where nothing is asked.
+ *  - malloc, realloc and free are of one allocator, and align a block to each power of two up to 16 that divides its
+ *    size.
  *
  * docs/C.md says how to build and link the library, and what is proved. */
 #ifndef VIZHONIKU_H
@@ -21,6 +25,12 @@
 #ifdef __cplusplus
 extern "C" {
 #endif
+
+/* The version of this interface. It grows where a function, a status or a code is added. vizhoniku_version answers that
+ * of the library. */
+#define VIZHONIKU_VERSION 2
+
+uint32_t vizhoniku_version(void);
 
 /* Which grammar a text is read by. docs/GRAMMAR.md has both. Any other number is answered by VIZHONIKU_UNKNOWN_MODE. */
 enum vizhoniku_mode {
@@ -88,6 +98,27 @@ uint32_t vizhoniku_text(uint32_t mode, const unsigned char *text, size_t text_si
  * VIZHONIKU_TOO_SHORT. */
 uint32_t vizhoniku_compare(uint32_t mode, const unsigned char *left, size_t left_size, const unsigned char *right,
                            size_t right_size, int32_t *order, struct vizhoniku_refusal *refusal);
+
+/* Where a person looks for what is wrong: the index of a byte, or the text's size where its end is at fault, and the
+ * line and the column of that, both counted from 1, the column in bytes. */
+struct vizhoniku_place {
+  size_t index;
+  size_t line;
+  size_t column;
+};
+
+/* Tells the place of a refusal of this text. */
+void vizhoniku_place(const unsigned char *text, size_t text_size, const struct vizhoniku_refusal *refusal,
+                     struct vizhoniku_place *place);
+
+/* Writes what is wrong with the text to the front of the buffer, in the words that the program jsonb_cat prints, such
+ * as `duplicate object attribute "a", pos 10`. The text is read again for that.
+ *
+ *  - VIZHONIKU_REFUSED: *size bytes were written, with no zero byte after them. The rest of the buffer is as before.
+ *  - VIZHONIKU_TOO_SHORT: *size bytes are needed, and nothing was written.
+ *  - VIZHONIKU_ACCEPTED: nothing is wrong. *size is 0, as with any other status, and nothing was written. */
+uint32_t vizhoniku_message(uint32_t mode, const unsigned char *text, size_t text_size, unsigned char *buffer,
+                           size_t buffer_size, size_t *size);
 
 #ifdef __cplusplus
 }

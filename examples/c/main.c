@@ -10,26 +10,36 @@
 
 #include "vizhoniku.h"
 
-/* The line and the column of a position, both counted from 1: those of the byte before it. */
-static void print_place(const unsigned char *text, size_t text_size, size_t position) {
-  size_t end = position < text_size ? position : text_size, line = 1, start = 0;
-  for (size_t i = 0; i + 1 < end; i++)
-    if (text[i] == '\n') {
-      line++;
-      start = i + 1;
-    }
-  fprintf(stderr, "line %zu, column %zu", line, end - start);
+/* The line of the text in which the place stands, and under it a caret. Tabs stay tabs, so that the caret stands right;
+ * the second and later bytes of a character take no column. */
+static void print_line(const unsigned char *text, size_t text_size, const struct vizhoniku_place *place) {
+  size_t start = place->index - (place->column - 1), end = start;
+  while (end < text_size && text[end] != '\n' && text[end] != '\r') end++;
+  fwrite(text + start, 1, end - start, stderr);
+  fputc('\n', stderr);
+  for (size_t i = start; i < place->index; i++)
+    if (text[i] == '\t' || (text[i] & 0xC0) != 0x80) fputc(text[i] == '\t' ? '\t' : ' ', stderr);
+  fputs("^\n", stderr);
 }
 
-static int print_failure(uint32_t status, const struct vizhoniku_refusal *refusal, const unsigned char *text,
-                         size_t text_size) {
+/* Says where the text is wrong, and what is wrong, in words. */
+static int print_failure(uint32_t mode, uint32_t status, const struct vizhoniku_refusal *refusal,
+                         const unsigned char *text, size_t text_size) {
+  unsigned char words[256];
+  size_t size;
+  struct vizhoniku_place place;
   if (status != VIZHONIKU_REFUSED) {
     fprintf(stderr, "status %u\n", (unsigned)status);
     return 2;
   }
-  fprintf(stderr, "code %u at ", (unsigned)refusal->code);
-  print_place(text, text_size, refusal->position);
+  vizhoniku_place(text, text_size, refusal, &place);
+  fprintf(stderr, "line %zu, column %zu: ", place.line, place.column);
+  if (vizhoniku_message(mode, text, text_size, words, sizeof words, &size) == VIZHONIKU_REFUSED)
+    fwrite(words, 1, size, stderr);
+  else
+    fprintf(stderr, "code %u", (unsigned)refusal->code); /* a long key, or no memory */
   fputc('\n', stderr);
+  print_line(text, text_size, &place);
   return 1;
 }
 
@@ -65,7 +75,7 @@ static int print_text(uint32_t mode, const unsigned char *text, size_t text_size
   }
   int answer = 0;
   if (status != VIZHONIKU_ACCEPTED)
-    answer = print_failure(status, &refusal, text, text_size);
+    answer = print_failure(mode, status, &refusal, text, text_size);
   else if (fwrite(buffer, 1, size, stdout) != size || putchar('\n') == EOF)
     answer = 2;
   if (buffer != small) free(buffer);
@@ -79,7 +89,7 @@ static int print_input(uint32_t mode) {
   struct vizhoniku_refusal refusal;
   uint32_t status = vizhoniku_check(mode, text, text_size, &refusal);
   int answer = status == VIZHONIKU_ACCEPTED ? print_text(mode, text, text_size)
-                                            : print_failure(status, &refusal, text, text_size);
+                                            : print_failure(mode, status, &refusal, text, text_size);
   free(text);
   return answer;
 }
@@ -91,10 +101,10 @@ static int print_order(uint32_t mode, const char *left, const char *right) {
   uint32_t status = vizhoniku_compare(mode, (const unsigned char *)left, strlen(left), (const unsigned char *)right,
                                       strlen(right), &order, &refusal);
   if (status == VIZHONIKU_ACCEPTED) return puts(order < 0 ? "<" : order > 0 ? ">" : "=") == EOF ? 2 : 0;
-  if (status != VIZHONIKU_REFUSED) return print_failure(status, &refusal, NULL, 0);
+  if (status != VIZHONIKU_REFUSED) return print_failure(mode, status, &refusal, NULL, 0);
   const char *text = texts[refusal.which - 1];
   fprintf(stderr, "text %u: ", (unsigned)refusal.which);
-  return print_failure(status, &refusal, (const unsigned char *)text, strlen(text));
+  return print_failure(mode, status, &refusal, (const unsigned char *)text, strlen(text));
 }
 
 int main(int argc, char **argv) {

@@ -1,5 +1,5 @@
 -- What the functions for C tell of texts.
-use Rattle.std.specs.Prelude.{◌≡◌, ℕ, ◌-◌, ◌<◌, ◌≤◌, ℤ, pos, negsuc, Bool, ◌||◌, ◌==◌, if◌then◌else◌, List, ◌++◌, length, drop, Some, Ok, Err}
+use Rattle.std.specs.Prelude.{◌≡◌, ◌≢◌, ℕ, ◌-◌, ◌<◌, ◌≤◌, ℤ, pos, negsuc, Bool, ◌||◌, ◌==◌, if◌then◌else◌, List, ◌++◌, length, drop, Some, Ok, Err}
 use Rattle.std.specs.declared.cmp.Ordering.{Ordering}
 use Rattle.std.specs.declared.cmp.Ordering.TheVariants.{Less, Equal, Greater}
 use Rattle.jsonb_value.specs.declared.error.Error.{Error}
@@ -7,6 +7,7 @@ use Rattle.jsonb_value.specs.declared.error.Error.TheVariants as errors
 use Rattle.jsonb_value.specs.declared.error.ParseErrorCode.{ParseErrorCode}
 use Rattle.jsonb_value.specs.Code.{Code, code_of}
 use Rattle.jsonb_value.specs.Code.Code.{control_character_while_parsing_string, depth_limit_exceeded, expected_array_comma_or_end, expected_colon, expected_object_comma_or_end, expected_some_ident, expected_some_value, invalid_eof, invalid_escaped, invalid_hex, invalid_lone_leading_surrogate_in_hex_escape, invalid_number_value, invalid_string_value, invalid_surrogate_in_hex_escape, key_must_be_a_string, number_not_carried, object_duplicate_key, object_key_invalid_character, object_key_invalid_number, unexpected_end_of_hex_escape, unexpected_trailing_characters}
+use Rattle.jsonb_value.specs.Error.ErrorText.{error_text}
 use Rattle.jsonb_value.specs.Grammar.{IsDocument, IsNoDocument}
 use Rattle.jsonb_value.specs.Mode.{Mode, standard, extended}
 use Rattle.jsonb_value.specs.Order.{tree_cmp}
@@ -14,6 +15,7 @@ use Rattle.jsonb_value.specs.Text.ReadsBack.{ReadsBackAs}
 use Rattle.jsonb_value.specs.Text.{text_of}
 use Rattle.jsonb_value.specs.Tree.{Tree}
 use Rattle.jsonb.specs.Reading.Document.{document_of}
+use Rattle.jsonb.specs.Parser.{Fails}
 use Rattle.jsonb.specs.Refusals.{Stands}
 use Rattle.jsonb_c.specs.declared.Refusal.{Refusal}
 use Rattle.jsonb_c.specs.declared.Refused.{Refused}
@@ -118,6 +120,30 @@ pub record IsOrdered (number : ℕ) (left right : List ℕ) (order : ℤ) : Type
   pub second_read : IsDocumentOf number right second
   pub ordered : order ≡ sign (tree_cmp first second)
 
+-- The number chooses a mode in which the text is no document, and the bytes say in words which fault reading meets.
+pub record IsMessageOf (number : ℕ) (text bytes : List ℕ) : Type 0 where
+  pub mode : Mode
+  pub chosen : NumberChooses number mode
+  pub no_document : IsNoDocument mode text
+  pub error : Error
+  pub is_fault : error ≢ errors.OutOfMemory
+  pub exact : Fails error (document_of mode text)
+  pub is_text : bytes ≡ error_text error
+
+-- The message of the text's fault stands at the front of the buffer, whose other bytes are as before.
+pub record IsMessageWritten (number : ℕ) (text : List ℕ) (size : ℕ) (old new : List ℕ) : Type 0 where
+  pub bytes : List ℕ
+  pub is_message : IsMessageOf number text bytes
+  pub sized : size ≡ length bytes
+  pub put : new ≡ bytes ++ drop size old
+
+-- The message of the text's fault has this size, and the buffer is shorter.
+pub record NeedsRoomForMessage (number : ℕ) (text : List ℕ) (size : ℕ) (old : List ℕ) : Type 0 where
+  pub bytes : List ℕ
+  pub is_message : IsMessageOf number text bytes
+  pub sized : size ≡ length bytes
+  pub too_short : length old < size
+
 -- Why there is no answer: a text is refused, of which this is told; memory ran out; or the number chooses no mode.
 abbrev pub IsReason : ℕ → (Refusal → Type 0) → Refused → Type 0
 IsReason number IsTold (Text refusal) = (number ≤ 1) × IsTold refusal
@@ -154,7 +180,3 @@ ends_escape code = code == 12 || code == 13 || code == 16
 -- what the position of the code has more than the index of the byte that it speaks of
 abbrev pub added : ℕ → ℕ
 added code = if names_next code then 1 else if ends_escape code then 2 else 0
-
--- the index of the byte that a person is shown of a refusal
-abbrev pub shown : Refusal → ℕ
-shown refusal = refusal.position - added refusal.code

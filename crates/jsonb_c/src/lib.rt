@@ -5,8 +5,9 @@
 //! `&mut` points to lies apart from all else that is passed. Each call writes to each `&mut` but the buffer.
 #![tactic(auto)]
 
-ghost use Rattle.std.specs.Prelude.{◌≡◌, ◌≢◌, ◌↔◌, ◌⊎◌, ◌<◌, ◌≤◌, ◌++◌, length, drop, pos, MatchOption, IfOk, IfErr, Err};
+ghost use Rattle.std.specs.Prelude.{◌≡◌, ◌≢◌, ◌↔◌, ◌⊎◌, ◌<◌, ◌≤◌, ◌++◌, min, ◌-◌, length, drop, pos, string_bytes, MatchOption, IfOk, IfErr, IfSome, Err};
 ghost use Rattle.jsonb_value.specs.Code.{code_of};
+ghost use Rattle.jsonb_value.specs.Error.ErrorText.{error_text};
 ghost use Rattle.jsonb_value.specs.Grammar.{IsDocument, IsNoDocument};
 ghost use Rattle.jsonb_value.specs.Tree.{Tree};
 ghost use Rattle.jsonb_value.specs.View.{view};
@@ -14,7 +15,7 @@ ghost use Rattle.jsonb.specs.Line.{column_at, line_at};
 ghost use Rattle.jsonb.specs.Parser.{mode_of, Gives, HoldsMarker, IsTextRefusal};
 ghost use Rattle.jsonb.specs.Reading.Document.{document_of};
 ghost use Rattle.jsonb.specs.Refusals.{IsExplained};
-ghost use Rattle.jsonb_c.specs.Interface.{NumberChooses, added, code_number, ends_escape, names_next, nothing, shown, sign, status_of, told, IsAccepted, IsOneRefused, IsOrdered, IsDocumentOf, IsReason, IsRefused, IsTextOf, IsWritten, NeedsRoom, SaysError};
+ghost use Rattle.jsonb_c.specs.Interface.{NumberChooses, added, code_number, ends_escape, names_next, nothing, sign, status_of, told, IsAccepted, IsOneRefused, IsOrdered, IsDocumentOf, IsMessageOf, IsMessageWritten, IsReason, IsRefused, IsTextOf, IsWritten, NeedsRoom, NeedsRoomForMessage, SaysError};
 
 use jsonb::{Error, Mode, ParseErrorCode, Value, line_and_column, parse_value, parse_value_standard_mode};
 use std::alloc::Global;
@@ -43,6 +44,16 @@ pub struct Refusal {
     pub code: u32,
     pub which: u32,
     pub position: usize,
+}
+
+/// Where a person looks for what is wrong with a text: the index of a byte, or the text's length, and the line and the
+/// column of that, both counted from 1, the column in bytes.
+#[repr(C)]
+#[derive(Clone, Copy)]
+pub struct Place {
+    pub index: usize,
+    pub line: usize,
+    pub column: usize,
 }
 
 const NOTHING: Refusal = Refusal {
@@ -183,28 +194,20 @@ pub extern "C" fn vizhoniku_version() -> u32
     VERSION
 }
 
-/// The line and the column of the byte that a person is shown of a refusal of this text, both counted from 1, the column
-/// in bytes. At the end of the text they are those of the byte that would stand there.
+/// Tells where a person looks for what is wrong with this text.
 #[unsafe(no_mangle)]
-pub extern "C" fn vizhoniku_place(
-    text: &[u8],
-    refusal: &Refusal,
-    line: &mut usize,
-    column: &mut usize,
-)
-    ensures line { line.new ≡ line_at text.now (shown refusal.now) }
-    ensures column { column.new ≡ column_at text.now (shown refusal.now) }
+pub extern "C" fn vizhoniku_place(text: &[u8], refusal: &Refusal, place: &mut Place)
+    ensures index { place.new.index ≡ min (refusal.now.position - added refusal.now.code) (length text.now) }
+    ensures line { place.new.line ≡ line_at text.now place.new.index }
+    ensures column { place.new.column ≡ column_at text.now place.new.index }
 {
-    let place = line_and_column(text, shown(refusal));
-    *line = place.0;
-    *column = place.1;
-}
-
-// The index of the byte that a person is shown: the position, less what the code adds to it.
-fn shown(refusal: &Refusal) -> usize
-    ensures { result ≡ shown refusal.now }
-{
-    refusal.position.saturating_sub(added(refusal.code))
+    let index = refusal.position.saturating_sub(added(refusal.code)).min(text.len());
+    let (line, column) = line_and_column(text, index);
+    *place = Place {
+        index,
+        line,
+        column,
+    };
 }
 
 // What the position of a code has more than the index of the byte that it speaks of.
@@ -232,6 +235,87 @@ fn ends_escape(code: u32) -> bool
     ensures { result ≡ ends_escape code }
 {
     code == 12 || code == 13 || code == 16
+}
+
+/// Writes what is wrong with a text that is no document in words, with the position, to the front of `out`, and the size
+/// of the words to `size`: the line that the program prints. Where `out` is too short, it stays as it is, and `size` is
+/// what is needed.
+#[unsafe(no_mangle)]
+pub extern "C" fn vizhoniku_message(
+    alloc: Global,
+    mode: u32,
+    text: &[u8],
+    out: &mut [u8],
+    size: &mut usize,
+) -> u32
+    ensures status { result ≤ TOO_SHORT }
+    ensures mode { result ≡ UNKNOWN_MODE ↔ (1 < mode) }
+    ensures document { result ≡ ACCEPTED → IsAccepted mode text.now }
+
+    // What is written is the message of the fault that reading meets, and no other byte of the buffer changes.
+    ensures written { result ≡ REFUSED → IsMessageWritten mode text.now size.new out.old out.new }
+    ensures short { result ≡ TOO_SHORT → NeedsRoomForMessage mode text.now size.new out.old }
+    ensures untouched { result ≢ REFUSED → out.new ≡ out.old }
+    ensures no_size { result ≢ REFUSED → result ≢ TOO_SHORT → size.new ≡ 0 }
+{
+    match message_of(alloc, mode, text) {
+        Ok(Some(message)) => {
+            let bytes = message.as_bytes();
+            *size = bytes.len();
+            match put(bytes, out) {
+                ACCEPTED => REFUSED,
+                short => short,
+            }
+        }
+        Ok(None) => {
+            *size = 0;
+            ACCEPTED
+        }
+        Err(refused) => {
+            *size = 0;
+            status(refused)
+        }
+    }
+}
+
+// What is wrong with a text in words, or `None` where it is a document.
+fn message_of(alloc: Global, mode: u32, text: &[u8]) -> Result<Option<String>, Refused>
+    ensures message { IfOk result (λ answer. MatchOption answer (IsAccepted mode text.now)
+        (λ message. IsMessageOf mode text.now (string_bytes message))) }
+    ensures reason { IfErr result (IsReason mode (λ _. ⊥)) }
+{
+    let Some(mode) = choose_mode(mode) else {
+        return Err(Refused::UnknownMode);
+    };
+    match read(alloc, mode, text) {
+        Ok(_) => Ok(None),
+        Err(error) => match words_of(alloc, &error) {
+            Some(message) => Ok(Some(message)),
+            None => Err(Refused::OutOfMemory),
+        },
+    }
+}
+
+// The words of a fault of a text, or `None` where memory ran out.
+fn words_of(alloc: Global, error: &Error) -> Option<String>
+    ensures words { IfSome result (λ message. (string_bytes message ≡ error_text error.now)
+        × (error.now ≢ Error.OutOfMemory)) }
+{
+    match error {
+        Error::OutOfMemory => None,
+        fault => format!(in alloc; "{fault}").ok(),
+    }
+}
+
+// The status of a reason.
+fn status(refused: Refused) -> u32
+    ensures { result ≡ status_of refused }
+{
+    match refused {
+        Refused::Text(_) => REFUSED,
+        Refused::OutOfMemory => OUT_OF_MEMORY,
+        Refused::UnknownMode => UNKNOWN_MODE,
+    }
 }
 
 // Tells why a call has no answer, and gives the status of that.
