@@ -16,7 +16,7 @@ VERSION = $(shell sed -n 's/^\#define VIZHONIKU_VERSION //p' include/vizhoniku.h
 
 # Of the kit's archives only that of malloc, realloc and free is called.
 KIT := $(shell dirname "$$(rt doc)")
-CRATES = jsonb_value jsonb jsonb_c
+CRATES = jsonb_value jsonb jsonb_pointer jsonb_c
 SOURCES := crates.txt $(shell find $(CRATES:%=crates/%) -name out -prune -o \( -name '*.rt' -o -name '*.antt' \) -print)
 BUILT = crates/jsonb_c/out/libjsonb_c.a
 

@@ -45,6 +45,8 @@ enum vizhoniku_status {
   VIZHONIKU_OUT_OF_MEMORY = 2, /* memory ran out: this doesn't tell whether a text is a document */
   VIZHONIKU_UNKNOWN_MODE = 3,  /* no mode has this number */
   VIZHONIKU_TOO_SHORT = 4,     /* the buffer is shorter than the text: the size says what is needed */
+  VIZHONIKU_NO_PART = 5,       /* nothing stands at the path: vizhoniku_part alone */
+  VIZHONIKU_NO_PATH = 6,       /* the path isn't spelled as RFC 6901 has it: vizhoniku_part alone */
 };
 
 /* What is wrong with a text. docs/GRAMMAR.md says when, and where the position is. */
@@ -91,6 +93,15 @@ uint32_t vizhoniku_check(uint32_t mode, const unsigned char *text, size_t text_s
  *  - any other status: *size is 0, and nothing was written. */
 uint32_t vizhoniku_text(uint32_t mode, const unsigned char *text, size_t text_size, unsigned char *buffer,
                         size_t buffer_size, size_t *size, struct vizhoniku_refusal *refusal);
+
+/* Writes the text of the part of the text's value that stands at the path, as vizhoniku_text writes the whole. A path is
+ * spelled as RFC 6901 has it: "" is the whole, and "/a/0" the first item of the member "a".
+ *
+ *  - VIZHONIKU_ACCEPTED and VIZHONIKU_TOO_SHORT: as of vizhoniku_text.
+ *  - VIZHONIKU_NO_PART, VIZHONIKU_NO_PATH, any other status: *size is 0, and nothing was written. */
+uint32_t vizhoniku_part(uint32_t mode, const unsigned char *path, size_t path_size, const unsigned char *text,
+                        size_t text_size, unsigned char *buffer, size_t buffer_size, size_t *size,
+                        struct vizhoniku_refusal *refusal);
 
 /* Compares the values of two texts of one mode: *order is -1 where the first is below the second, 0 where they are the
  * same, and 1 where it is above. It is one total order; docs/VALUES.md has it. Where the status is not

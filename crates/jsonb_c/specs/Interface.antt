@@ -17,6 +17,9 @@ use Rattle.jsonb_value.specs.Tree.{Tree}
 use Rattle.jsonb.specs.Reading.Document.{document_of}
 use Rattle.jsonb.specs.Parser.{Fails}
 use Rattle.jsonb.specs.Refusals.{Stands}
+use Rattle.jsonb_pointer.specs.Path.{IsAt, IsPath}
+use Rattle.jsonb_c.specs.declared.Part.{Part}
+use Rattle.jsonb_c.specs.declared.Part.TheVariants as parts
 use Rattle.jsonb_c.specs.declared.Refusal.{Refusal}
 use Rattle.jsonb_c.specs.declared.Refused.{Refused}
 use Rattle.jsonb_c.specs.declared.Refused.TheVariants.{Text, OutOfMemory, UnknownMode}
@@ -141,6 +144,44 @@ pub record IsMessageWritten (number : ℕ) (text : List ℕ) (size : ℕ) (old n
 pub record NeedsRoomForMessage (number : ℕ) (text : List ℕ) (size : ℕ) (old : List ℕ) : Type 0 where
   pub bytes : List ℕ
   pub is_message : IsMessageOf number text bytes
+  pub sized : size ≡ length bytes
+  pub too_short : length old < size
+
+-- The bytes are the text of the part of the text's tree that stands at the path.
+pub record IsPartOf (number : ℕ) (path text bytes : List ℕ) : Type 0 where
+  pub tree : Tree
+  pub read : IsDocumentOf number text tree
+  pub keys : List (List ℕ)
+  pub is_path : IsPath path keys
+  pub part : Tree
+  pub at : IsAt tree keys part
+  pub is_text : text_of part ≡ Some bytes
+
+-- The text's tree has no part at the path.
+pub record HasNoPartAt (number : ℕ) (path text : List ℕ) : Type 0 where
+  pub tree : Tree
+  pub read : IsDocumentOf number text tree
+  pub keys : List (List ℕ)
+  pub is_path : IsPath path keys
+  pub none : (part : Tree) → IsAt tree keys part → ⊥
+
+-- What stands at the path: a part with this text, or nothing; or the path is none.
+abbrev pub IsPartAnswer : ℕ → List ℕ → List ℕ → Part → Type 0
+IsPartAnswer number path text (parts.Text bytes) = IsPartOf number path text bytes.items
+IsPartAnswer number path text parts.Nothing = HasNoPartAt number path text
+IsPartAnswer number path text parts.NoPath = (keys : List (List ℕ)) → IsPath path keys → ⊥
+
+-- The text of the part stands at the front of the buffer, whose other bytes are as before.
+pub record IsPartWritten (number : ℕ) (path text : List ℕ) (size : ℕ) (old new : List ℕ) : Type 0 where
+  pub bytes : List ℕ
+  pub is_part : IsPartOf number path text bytes
+  pub sized : size ≡ length bytes
+  pub put : new ≡ bytes ++ drop size old
+
+-- The text of the part has this size, and the buffer is shorter.
+pub record NeedsRoomForPart (number : ℕ) (path text : List ℕ) (size : ℕ) (old : List ℕ) : Type 0 where
+  pub bytes : List ℕ
+  pub is_part : IsPartOf number path text bytes
   pub sized : size ≡ length bytes
   pub too_short : length old < size
 

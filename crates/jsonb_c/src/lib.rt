@@ -1,11 +1,11 @@
-//! The library for C: it checks a text, writes the text of its value, and compares two texts. `include/vizhoniku.h`
-//! declares it.
+//! The library for C: it checks a text, writes the text of its value or of a part of it, compares two texts, and tells
+//! what is wrong with one. `include/vizhoniku.h` declares it.
 //!
 //! From C, `alloc` is passed as nothing, and a slice as a pointer and a length. No pointer may be null, and what a
 //! `&mut` points to lies apart from all else that is passed. Each call writes to each `&mut` but the buffer.
 #![tactic(auto)]
 
-ghost use Rattle.std.specs.Prelude.{◌≡◌, ◌≢◌, ◌↔◌, ◌⊎◌, ◌<◌, ◌≤◌, ◌++◌, min, ◌-◌, length, drop, pos, string_bytes, MatchOption, IfOk, IfErr, IfSome, Err};
+ghost use Rattle.std.specs.Prelude.{◌≡◌, ◌≢◌, ◌↔◌, ◌⊎◌, ℕ, List, ◌<◌, ◌≤◌, ◌++◌, min, ◌-◌, length, drop, pos, string_bytes, MatchOption, IfOk, IfErr, IfSome, Err};
 ghost use Rattle.jsonb_value.specs.Code.{code_of};
 ghost use Rattle.jsonb_value.specs.Error.ErrorText.{error_text};
 ghost use Rattle.jsonb_value.specs.Grammar.{IsDocument, IsNoDocument};
@@ -15,9 +15,11 @@ ghost use Rattle.jsonb.specs.Line.{column_at, line_at};
 ghost use Rattle.jsonb.specs.Parser.{mode_of, Gives, HoldsMarker, IsTextRefusal};
 ghost use Rattle.jsonb.specs.Reading.Document.{document_of};
 ghost use Rattle.jsonb.specs.Refusals.{IsExplained};
-ghost use Rattle.jsonb_c.specs.Interface.{NumberChooses, added, code_number, ends_escape, names_next, nothing, sign, status_of, told, IsAccepted, IsOneRefused, IsOrdered, IsDocumentOf, IsMessageOf, IsMessageWritten, IsReason, IsRefused, IsTextOf, IsWritten, NeedsRoom, NeedsRoomForMessage, SaysError};
+ghost use Rattle.jsonb_pointer.specs.Path.{IsPath};
+ghost use Rattle.jsonb_c.specs.Interface.{NumberChooses, added, code_number, ends_escape, names_next, nothing, sign, status_of, told, HasNoPartAt, IsAccepted, IsOneRefused, IsOrdered, IsDocumentOf, IsMessageOf, IsMessageWritten, IsPartAnswer, IsPartWritten, IsReason, IsRefused, IsTextOf, IsWritten, NeedsRoom, NeedsRoomForMessage, NeedsRoomForPart, SaysError};
 
 use jsonb::{Error, Mode, ParseErrorCode, Value, line_and_column, parse_value, parse_value_standard_mode};
+use jsonb_pointer::{part_at, read_keys};
 use std::alloc::Global;
 use std::cmp::Ordering;
 
@@ -35,6 +37,12 @@ pub const UNKNOWN_MODE: u32 = 3;
 
 /// The buffer is shorter than the text.
 pub const TOO_SHORT: u32 = 4;
+
+/// Nothing stands at the path.
+pub const NO_PART: u32 = 5;
+
+/// The path isn't spelled as RFC 6901 has it.
+pub const NO_PATH: u32 = 6;
 
 /// What is told of a text that is refused: the number of the code, which of the texts it is, from 1 on, and the
 /// position. All are 0 where no text is refused.
@@ -181,6 +189,87 @@ pub extern "C" fn vizhoniku_compare(
             tell(refused, refusal)
         }
     }
+}
+
+/// Writes the text of the part of the text's value that stands at the path, as RFC 6901 spells it, to the front of
+/// `out`, and its size to `size`. Where `out` is too short, it stays as it is, and `size` is what is needed.
+#[unsafe(no_mangle)]
+pub extern "C" fn vizhoniku_part(
+    alloc: Global,
+    mode: u32,
+    path: &[u8],
+    text: &[u8],
+    out: &mut [u8],
+    size: &mut usize,
+    refusal: &mut Refusal,
+) -> u32
+    ensures status { result ≤ NO_PATH }
+
+    // What is written is the text of the part of the document's tree, and no other byte of the buffer changes.
+    ensures written { result ≡ ACCEPTED → IsPartWritten mode path.now text.now size.new out.old out.new }
+    ensures short { result ≡ TOO_SHORT → NeedsRoomForPart mode path.now text.now size.new out.old }
+    ensures untouched { result ≢ ACCEPTED → out.new ≡ out.old }
+    ensures no_size { result ≢ ACCEPTED → result ≢ TOO_SHORT → size.new ≡ 0 }
+
+    // The document has no such part, or the path is none.
+    ensures no_part { result ≡ NO_PART → HasNoPartAt mode path.now text.now }
+    ensures no_path { result ≡ NO_PATH → (keys : List (List ℕ)) → IsPath path.now keys → ⊥ }
+
+    // Which fault it is, and where.
+    ensures refused { result ≡ REFUSED → IsRefused mode text.now 1 refusal.new }
+    ensures nothing { result ≢ REFUSED → refusal.new ≡ nothing }
+{
+    match part_of(alloc, mode, path, text) {
+        Ok(Part::Text(bytes)) => {
+            *refusal = NOTHING;
+            *size = bytes.len();
+            put(&bytes, out)
+        }
+        Ok(Part::Nothing) => {
+            *refusal = NOTHING;
+            *size = 0;
+            NO_PART
+        }
+        Ok(Part::NoPath) => {
+            *refusal = NOTHING;
+            *size = 0;
+            NO_PATH
+        }
+        Err(refused) => {
+            *size = 0;
+            tell(refused, refusal)
+        }
+    }
+}
+
+// What stands at a path.
+#[derive(Drop)]
+enum Part {
+    Text(Vec<u8>),
+    Nothing,
+    NoPath,
+}
+
+// What stands at the path in the value of a text.
+fn part_of(alloc: Global, mode: u32, path: &[u8], text: &[u8]) -> Result<Part, Refused>
+    ensures part { IfOk result (IsPartAnswer mode path.now text.now) }
+    ensures reason { IfErr result (IsReason mode (IsRefused mode text.now 1)) }
+{
+    let value = value_of(alloc, mode, text, 1)?;
+    let Ok(spelled) = read_keys(alloc, path) else {
+        return Err(Refused::OutOfMemory);
+    };
+    let Some(keys) = spelled else {
+        return Ok(Part::NoPath);
+    };
+    let Some(part) = part_at(&value, &keys) else {
+        return Ok(Part::Nothing);
+    };
+    let mut bytes = Vec::new(alloc);
+    if part.write_text(&mut bytes).is_err() {
+        return Err(Refused::OutOfMemory);
+    }
+    Ok(Part::Text(bytes))
 }
 
 /// The version of this interface. It grows by one when a function, a status or a code is added.

@@ -2,8 +2,6 @@
 //! in the spelling of RFC 6901: `/a/0` is the first item of the member `a`.
 #![tactic(auto)]
 
-pub mod keys;
-pub mod part;
 
 use std::alloc::Global;
 use std::io::{Read, Write};
@@ -42,7 +40,7 @@ fn main(rt: HostRuntime) -> ExitCode {
     let Ok(document) = read_all(rt.alloc(), &mut rt.stdin()) else {
         return ExitCode::FAILURE;
     };
-    match part::part_text(rt.alloc(), path.as_bytes(), &document) {
+    match jsonb_pointer::part_text(rt.alloc(), path.as_bytes(), &document) {
         Ok(Some(text)) => match put(&mut rt.stdout(), &text) {
             Ok(()) => ExitCode::SUCCESS,
             Err(_) => ExitCode::FAILURE,

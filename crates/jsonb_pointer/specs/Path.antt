@@ -12,8 +12,8 @@ use Rattle.jsonb.specs.Reading.Document.{document_of}
 use Rattle.jsonb.specs.Tree.{Tree, array, object, Trees}
 use Rattle.jsonb_value.specs.Text.{text_of}
 use Rattle.jsonb_value.specs.declared.error.Error.TheVariants.{OutOfMemory}
-use Rattle.path.specs.declared.part.Refusal.{Refusal}
-use Rattle.path.specs.declared.part.Refusal.TheVariants.{NoPath, NoDocument, NoMemory}
+use Rattle.jsonb_pointer.specs.declared.part.Refusal.{Refusal}
+use Rattle.jsonb_pointer.specs.declared.part.Refusal.TheVariants.{NoPath, NoDocument, NoMemory}
 
 -- how a byte of a key is spelled: `~0` is `~`, and `~1` is `/`
 abbrev pub spelled_byte : ℕ → List ℕ

@@ -2,7 +2,7 @@
 use Rattle.std.proofs.Common.{◌≡◌, ℕ, zero, suc, ◌<◌, ◌^◌, List, Some, None, option_map, arith}
 use Rattle.jsonb.specs.Accessors.{as_array, item_at, trees_len}
 use Rattle.jsonb.specs.Tree.{Tree, array, Trees, no_trees, more_trees}
-use Rattle.path.specs.Path.{IsIndex, IsChild}
+use Rattle.jsonb_pointer.specs.Path.{IsIndex, IsChild}
 
 item_within : (ts : Trees) (i : ℕ) (t : Tree) → item_at ts i ≡ Some t → i < trees_len ts
 item_within no_trees i t e = cc

@@ -3,7 +3,7 @@
 ghost use Rattle.std.specs.Prelude.{◌≡◌, ◌<◌, ◌^◌, ℕ, map, string_bytes, IfOk, IfErr, IfSome, IfNone, MatchOption};
 ghost use Rattle.jsonb.specs.Tree.{Tree};
 ghost use Rattle.jsonb.specs.View.{view};
-ghost use Rattle.path.specs.Path.{IsIndex, IsChild, IsAt, IsPartText, HasNoPart, IsPathRefusal};
+ghost use Rattle.jsonb_pointer.specs.Path.{IsIndex, IsChild, IsAt, IsPartText, HasNoPart, IsPathRefusal};
 
 use crate::keys::read_keys;
 use jsonb::{Error, Value};
@@ -23,7 +23,7 @@ pub enum Refusal {
 
 impl fmt::Display for Refusal {
     ghost use Rattle.std.specs.Prelude.{Some};
-    ghost use Rattle.path.specs.Path.{refusal_text};
+    ghost use Rattle.jsonb_pointer.specs.Path.{refusal_text};
 
     ghost output = { λ refusal. Some (refusal_text refusal) };
 
@@ -38,7 +38,7 @@ impl fmt::Display for Refusal {
 
 impl From<AllocError> for Refusal {
     ghost use Rattle.std.specs.Prelude.{◌≡◌};
-    ghost use Rattle.path.specs.declared.part.Refusal.TheVariants.{NoMemory};
+    ghost use Rattle.jsonb_pointer.specs.declared.part.Refusal.TheVariants.{NoMemory};
 
     ghost from_gives = { λ _ e. e ≡ NoMemory };
 

@@ -1,8 +1,8 @@
 use Rattle.std.proofs.Common.{◌≡◌, ◌++◌, Some, sym, subst, arith}
-use Rattle.path.specs.Path.{spelled_key}
-use Rattle.path.specs.KeySpelling.{byte_of}
-use Rattle.path.proofs.KeySpelling.{next_byte}
-use Rattle.path.proofs.keys.read_key.Goals as goal
+use Rattle.jsonb_pointer.specs.Path.{spelled_key}
+use Rattle.jsonb_pointer.specs.KeySpelling.{byte_of}
+use Rattle.jsonb_pointer.proofs.KeySpelling.{next_byte}
+use Rattle.jsonb_pointer.proofs.keys.read_key.Goals as goal
 
 pub bytes-preserved : goal.bytes-preserved
 bytes-preserved c =

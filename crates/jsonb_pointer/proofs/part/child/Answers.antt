@@ -1,7 +1,7 @@
 use Rattle.std.proofs.Common.{rules}
 use Rattle.jsonb.specs.View.{view}
-use Rattle.path.proofs.PathParts.{no_index}
-use Rattle.path.proofs.part.child.Goals as goal
+use Rattle.jsonb_pointer.proofs.PathParts.{no_index}
+use Rattle.jsonb_pointer.proofs.part.child.Goals as goal
 
 pub returns-in_default-index_of-clause-none : goal.returns-in_default-index_of-clause-none
 returns-in_default-index_of-clause-none c =

@@ -1,6 +1,6 @@
 -- Paths read from the left.
 use Rattle.std.specs.Prelude.{◌≡◌, ℕ, List, [], ◌∷◌, ◌++◌, Option, Some, None, if◌then◌else◌, ◌==◌}
-use Rattle.path.specs.Path.{spelled_keys}
+use Rattle.jsonb_pointer.specs.Path.{spelled_keys}
 
 -- the byte that an escape stands for by what follows its `~`, and what is left
 abbrev pub escape_of : List ℕ → Option (ℕ × List ℕ)

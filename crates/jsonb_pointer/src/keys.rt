@@ -1,8 +1,8 @@
 //! The keys of a path (RFC 6901): each stands after a slash, with `~0` for `~` and `~1` for `/`.
 
 ghost use Rattle.std.specs.Prelude.{◌≡◌, ◌<◌, ◌≤◌, ℕ, List, ◌++◌, length, map, string_bytes, option_map, None, IfOk, IfErr, IfSome, IfNone};
-ghost use Rattle.path.specs.Path.{spelled_key, IsPath, StartsKey};
-ghost use Rattle.path.specs.KeySpelling.{escape_of, byte_of};
+ghost use Rattle.jsonb_pointer.specs.Path.{spelled_key, IsPath, StartsKey};
+ghost use Rattle.jsonb_pointer.specs.KeySpelling.{escape_of, byte_of};
 
 use std::alloc::{AllocError, Global};
 

@@ -1,0 +1,8 @@
+//! Parts of documents at paths, in the spelling of RFC 6901 (JSON Pointer): `/a/0` is the first item of the member `a`.
+#![tactic(auto)]
+
+pub mod keys;
+pub mod part;
+
+pub use keys::read_keys;
+pub use part::{Refusal, part_at, part_text};
