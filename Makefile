@@ -26,8 +26,9 @@ all: build/libvizhoniku.a build/$(SONAME) build/vizhoniku.pc
 $(BUILT): $(SOURCES)
 	@mkdir -p build
 	@echo "proving and building the library. To follow it: tail -f $(CURDIR)/build/log"
+	@touch build/start
 	@(cd crates/jsonb_c && rt lib) > build/log 2>&1 || { cat build/log >&2; exit 1; }
-	@touch $@
+	@touch -r build/start $@
 
 # One object, whose only global names are those of the header.
 build/vizhoniku.o: $(BUILT) packaging/exports

@@ -15,10 +15,12 @@ ghost use Rattle.jsonb.specs.Line.{column_at, line_at};
 ghost use Rattle.jsonb.specs.Parser.{mode_of, Gives, HoldsMarker, IsTextRefusal};
 ghost use Rattle.jsonb.specs.Reading.Document.{document_of};
 ghost use Rattle.jsonb.specs.Refusals.{IsExplained};
-ghost use Rattle.jsonb_pointer.specs.Path.{IsPath};
+ghost use Rattle.jsonb_pointer.specs.Path.{IsPath, StartsKey};
 ghost use Rattle.jsonb_c.specs.Interface.{NumberChooses, added, code_number, ends_escape, names_next, nothing, sign, status_of, told, HasNoPartAt, IsAccepted, IsOneRefused, IsOrdered, IsDocumentOf, IsMessageOf, IsMessageWritten, IsPartAnswer, IsPartWritten, IsReason, IsRefused, IsTextOf, IsWritten, NeedsRoom, NeedsRoomForMessage, NeedsRoomForPart, SaysError};
 
-use jsonb::{Error, Mode, ParseErrorCode, Value, line_and_column, parse_value, parse_value_standard_mode};
+use jsonb::{
+    Error, Mode, ParseErrorCode, Value, line_and_column, parse_value, parse_value_standard_mode,
+};
 use jsonb_pointer::{part_at, read_keys};
 use std::alloc::Global;
 use std::cmp::Ordering;
@@ -204,6 +206,8 @@ pub extern "C" fn vizhoniku_part(
     refusal: &mut Refusal,
 ) -> u32
     ensures status { result ≤ NO_PATH }
+    ensures mode { result ≡ UNKNOWN_MODE ↔ (1 < mode) }
+    ensures memory { result ≡ OUT_OF_MEMORY → HoldsMarker text.now ⊎ StartsKey path.now ⊎ IsAccepted mode text.now }
 
     // What is written is the text of the part of the document's tree, and no other byte of the buffer changes.
     ensures written { result ≡ ACCEPTED → IsPartWritten mode path.now text.now size.new out.old out.new }
@@ -253,6 +257,9 @@ enum Part {
 // What stands at the path in the value of a text.
 fn part_of(alloc: Global, mode: u32, path: &[u8], text: &[u8]) -> Result<Part, Refused>
     ensures part { IfOk result (IsPartAnswer mode path.now text.now) }
+    ensures known { IfOk result (λ _. mode ≤ 1) }
+    ensures memory { result ≡ Err Refused.OutOfMemory
+        → HoldsMarker text.now ⊎ StartsKey path.now ⊎ IsAccepted mode text.now }
     ensures reason { IfErr result (IsReason mode (IsRefused mode text.now 1)) }
 {
     let value = value_of(alloc, mode, text, 1)?;
@@ -290,7 +297,10 @@ pub extern "C" fn vizhoniku_place(text: &[u8], refusal: &Refusal, place: &mut Pl
     ensures line { place.new.line ≡ line_at text.now place.new.index }
     ensures column { place.new.column ≡ column_at text.now place.new.index }
 {
-    let index = refusal.position.saturating_sub(added(refusal.code)).min(text.len());
+    let index = refusal
+        .position
+        .saturating_sub(added(refusal.code))
+        .min(text.len());
     let (line, column) = line_and_column(text, index);
     *place = Place {
         index,
@@ -326,9 +336,9 @@ fn ends_escape(code: u32) -> bool
     code == 12 || code == 13 || code == 16
 }
 
-/// Writes what is wrong with a text that is no document in words, with the position, to the front of `out`, and the size
-/// of the words to `size`: the line that the program prints. Where `out` is too short, it stays as it is, and `size` is
-/// what is needed.
+/// Writes what is wrong with a text that is no document in words, with the position, to the front of `out`, and the
+/// size of the words to `size`: what the program prints. Where `out` is too short, it stays as it is, and `size` is what
+/// is needed.
 #[unsafe(no_mangle)]
 pub extern "C" fn vizhoniku_message(
     alloc: Global,

@@ -2,7 +2,6 @@
 //! in the spelling of RFC 6901: `/a/0` is the first item of the member `a`.
 #![tactic(auto)]
 
-
 use std::alloc::Global;
 use std::io::{Read, Write};
 use std::process::ExitCode;
