@@ -8,6 +8,7 @@ pub mod Order
 pub mod Owned
 pub mod Accessors
 pub mod Proper
+pub mod SortKey
 pub mod Text
 pub mod Tree
 pub mod View

@@ -3,6 +3,7 @@ mod arithmetic;
 mod cast;
 mod laws;
 mod order;
+mod sort_key;
 #[cfg(test)]
 mod tests;
 pub(crate) mod text;

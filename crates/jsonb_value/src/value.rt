@@ -6,6 +6,7 @@ mod into;
 mod laws;
 mod order;
 mod owned;
+mod sort_key;
 #[cfg(test)]
 mod tests;
 mod text;
@@ -14,6 +15,7 @@ use crate::extension::{Date, Interval, Timestamp, TimestampTz};
 use crate::number::Number;
 pub use laws::{documents_are_in_range, value_texts_read_back};
 pub use order::order_is_total;
+pub use sort_key::sort_keys_order;
 use std::borrow::CowStr;
 use std::collections::BTreeMap;
 pub use text::string_texts_read_back;

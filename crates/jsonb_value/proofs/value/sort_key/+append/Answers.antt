@@ -1,0 +1,69 @@
+use Rattle.std.proofs.Common.{◌≡◌, List, ◌+◌, [], ◌∷◌, ◌++◌, drop, refl, sym, subst, ap, ◌∙◌, arith, rules, string_bytes}
+use Rattle.jsonb_value.specs.SortKey.{text_key, key_of, items_key, members_key, HaveBounds}
+use Rattle.jsonb_value.specs.View.{view, trees_view, members_view}
+use Rattle.jsonb_value.proofs.Appending.Appended.{begun, goes_on, fits, on_err}
+use Rattle.jsonb_value.proofs.SortKeys.Parts.{next_item, next_member, next_bounded, next_bounded_member}
+use Rattle.jsonb_value.proofs.Values.Members.{Entry}
+use Rattle.jsonb_value.proofs.value.sort_key.+append.Goals as goal
+
+pub append_items-items-preserved : goal.append_items-items-preserved
+append_items-items-preserved t c =
+    let all = c.args.items.now.items in
+    let item = c.item-item.result in
+    let rest = items_key (trees_view (drop (c.items.item-index + 1) all)) in
+    record {
+      underway = goes_on c.append.new.buf.items (key_of (view item)) rest c.items.invariant.underway (next_item all c.items.item-index item (search rules) (search rules)) c.in_ok-append.ensures.ok;
+      bounded = λ others. c.items.invariant.bounded (next_bounded all c.items.item-index item (search rules) (search rules) c.in_ok-append.ensures.bounded others);
+      room = omega arith;
+    }
+
+pub append_items-returns-in_err-append-clause-full : goal.append_items-returns-in_err-append-clause-full
+append_items-returns-in_err-append-clause-full t c =
+    let all = c.args.items.now.items in
+    let item = c.item-item.result in
+    let rest = items_key (trees_view (drop (c.items.item-index + 1) all)) in
+    let room = fits (key_of (view item)) rest c.items.invariant.underway (next_item all c.items.item-index item (search rules) (search rules)) in
+    on_err c.from_residual-in_err-append.result (omega (arith, room, c.in_err-append.ensures.full))
+
+pub append_members-members-preserved : goal.append_members-members-preserved
+append_members-members-preserved t c =
+    let key = text_key (string_bytes c.in-Some.key.now) in
+    let value = key_of (view c.in-Some.value.now) in
+    let rest = members_key (members_view c.next.new.self) in
+    let next = next_member c.members.key-iterator c.next.new.self (c.in-Some.key.now, c.in-Some.value.now) c.in-Some.ensures.steps in
+    let due = goes_on c.append_key.new.buf.items key (value ++ rest) c.members.invariant.underway next c.in_ok-append_key.ensures.ok in
+    record {
+      underway = goes_on c.append.new.buf.items value rest due refl c.in_ok-append.ensures.ok;
+      bounded = λ others. c.members.invariant.bounded (next_bounded_member c.members.key-iterator c.next.new.self (c.in-Some.key.now, c.in-Some.value.now) c.in-Some.ensures.steps c.in_ok-append.ensures.bounded others);
+      room = omega arith;
+    }
+
+pub append_members-returns-in_err-append_key-clause-full : goal.append_members-returns-in_err-append_key-clause-full
+append_members-returns-in_err-append_key-clause-full t c =
+    let key = text_key (string_bytes c.in-Some.key.now) in
+    let value = key_of (view c.in-Some.value.now) in
+    let rest = members_key (members_view c.next.new.self) in
+    let next = next_member c.members.key-iterator c.next.new.self (c.in-Some.key.now, c.in-Some.value.now) c.in-Some.ensures.steps in
+    let room = fits key (value ++ rest) c.members.invariant.underway next in
+    on_err c.from_residual-in_err-append_key.result (omega (arith, room, c.in_err-append_key.ensures.full))
+
+pub append_members-returns-in_err-append-clause-full : goal.append_members-returns-in_err-append-clause-full
+append_members-returns-in_err-append-clause-full t c =
+    let key = text_key (string_bytes c.in-Some.key.now) in
+    let value = key_of (view c.in-Some.value.now) in
+    let rest = members_key (members_view c.next.new.self) in
+    let next = next_member c.members.key-iterator c.next.new.self (c.in-Some.key.now, c.in-Some.value.now) c.in-Some.ensures.steps in
+    let due = goes_on c.append_key.new.buf.items key (value ++ rest) c.members.invariant.underway next c.in_ok-append_key.ensures.ok in
+    let room = fits value rest due refl in
+    on_err c.from_residual-in_err-append.result (omega (arith, room, c.in_err-append.ensures.full))
+
+pub append_members-members-init : goal.append_members-members-init
+append_members-members-init t c =
+    let all = c.args.members.now.entries in
+    let whole : c.into_iter-key-iterator.result ≡ all = c.into_iter-key-iterator.ensures.into_iter_gives ∙ c.iter-key-items.ensures.rest in
+    let rest = members_key (members_view c.into_iter-key-iterator.result) in
+    record {
+      underway = goes_on c.extend_from_slice.new.self.items (209 ∷ []) rest (begun c.args.buf.now.items (209 ∷ members_key (members_view all))) (ap (λ (es : List Entry). 209 ∷ members_key (members_view es)) (sym whole)) c.in_ok-extend_from_slice.ensures.items;
+      bounded = λ parts. subst (λ es. HaveBounds (members_view es)) whole parts;
+      room = omega (arith, c.in_ok-extend_from_slice.ensures.capacity);
+    }

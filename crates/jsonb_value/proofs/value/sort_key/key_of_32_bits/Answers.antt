@@ -1,0 +1,12 @@
+use Rattle.std.proofs.Common.{◌≡◌, pos, unsigned_abs, ap, ◌∙◌, arith}
+use Rattle.std.proofs.lemmas.Int.{ints}
+use Rattle.std.specs.Int.{bytes_high_first}
+use Rattle.std.specs.Prelude.{◌+ℤ◌}
+use Rattle.jsonb_value.specs.SortKey.{key_of_32_bits}
+use Rattle.jsonb_value.proofs.value.sort_key.key_of_32_bits.Goals as goal
+
+pub returns : goal.returns
+unfolding key_of_32_bits
+returns c =
+    let moved : c.unsigned_abs-moved.result ≡ unsigned_abs (c.args.value +ℤ pos 2147483648) = omega (arith, ints) in
+    c.to_be_bytes.ensures ∙ ap (bytes_high_first 4) moved

@@ -1,0 +1,271 @@
+//! Sort keys: bytes that compare as the values that they stand for.
+ghost use Rattle.std.specs.Prelude.{ℕ, List, ◌≡◌, ◌↔◌, ◌+◌, ◌<◌, ◌≤◌, ◌++◌, ◌∷◌, [], length, take, IfErr, OnOk, OnErr, vec_len, string_bytes};
+ghost use Rattle.std.specs.List.{flat_map};
+ghost use Rattle.std.specs.Ordering.{ordering_then};
+ghost use Rattle.std.specs.Vec.{vec_capacity};
+ghost use Rattle.jsonb_value.specs.Order.{bytes_cmp, tree_cmp, Same};
+ghost use Rattle.jsonb_value.specs.SortKey.{byte_key, text_key, key_of_32_bits, key_of_64_bits, key_of, items_key, members_key, IsBounded, AreBounded, HaveBounds};
+ghost use Rattle.jsonb_value.specs.Text.Appending.{Extends};
+ghost use Rattle.jsonb_value.specs.Tree.{Tree};
+ghost use Rattle.jsonb_value.specs.View.{view, trees_view, members_view};
+
+use super::{Object, Value};
+use crate::error::{Error, Result};
+use std::alloc::AllocError;
+
+/// Keys compare as the values do, byte by byte; they are equal exactly where the values are; none begins another; and
+/// so keys one after the other compare as tuples of the values.
+pub fn sort_keys_order()
+    ensures order { (t u : Tree) → IsBounded t → IsBounded u
+        → bytes_cmp (key_of t) (key_of u) ≡ tree_cmp t u }
+    ensures same { (t u : Tree) → IsBounded t → IsBounded u → (key_of t ≡ key_of u) ↔ Same t u }
+    ensures no_front { (t u : Tree) → IsBounded t → IsBounded u → (more : List ℕ)
+        → key_of u ≡ key_of t ++ more → more ≡ [] }
+    ensures joined { (t u : Tree) → IsBounded t → IsBounded u → (x y : List ℕ)
+        → bytes_cmp (key_of t ++ x) (key_of u ++ y) ≡ ordering_then (tree_cmp t u) (bytes_cmp x y) }
+{}
+
+// What a function that appends answers. After a refusal the buffer may hold a part of the key.
+type Appended = std::result::Result<(), AllocError>;
+
+impl Value<'_> {
+    /// Appends the value's sort key: bytes whose order is the order of values. After a refusal `buf` has the same bytes
+    /// as before.
+    ///
+    /// # Errors
+    ///
+    /// `OutOfMemory` only where `buf` has no room for the whole key.
+    pub fn write_sort_key(&self, buf: &mut Vec<u8>) -> Result<()>
+        ensures ok { OnOk result (buf.new.items ≡ buf.old.items ++ key_of (view self.now)) }
+        ensures err { OnErr result (buf.new.items ≡ buf.old.items) }
+        ensures errors { IfErr result (λ e. e ≡ Error.OutOfMemory) }
+        // Memory is refused only where the room for the whole key is missing.
+        ensures full { OnErr result
+            (vec_capacity buf.old < vec_len buf.old + length (key_of (view self.now))) }
+        ensures capacity { vec_capacity buf.old ≤ vec_capacity buf.new }
+        ensures bounded { OnOk result (IsBounded (view self.now)) }
+        // The key compares with that of any other value as the values do.
+        ensures order { OnOk result ((u : Tree) → IsBounded u
+            → bytes_cmp (key_of (view self.now)) (key_of u) ≡ tree_cmp (view self.now) u) }
+    {
+        let old_len = buf.len();
+        if append(self, buf).is_err() {
+            buf.truncate(old_len);
+            return Err(Error::OutOfMemory);
+        }
+        Ok(())
+    }
+}
+
+// Inlined into the loops, so that only containers are calls there.
+#[inline(always)]
+#[cycle(append)]
+fn append<'a>(value: &Value<'a>, buf: &mut Vec<u8>) -> Appended
+    ensures ok { OnOk result (buf.new.items ≡ buf.old.items ++ key_of (view value.now)) }
+    ensures bounded { OnOk result (IsBounded (view value.now)) }
+    ensures kept { Extends buf.old.items buf.new.items }
+    ensures full { OnErr result
+        (vec_capacity buf.old < vec_len buf.old + length (key_of (view value.now))) }
+    ensures capacity { vec_capacity buf.old ≤ vec_capacity buf.new }
+{
+    match value {
+        Value::Binary(bytes) => append_text(16, *bytes, buf),
+        Value::Date(date) => append_32_bits(17, date.value, buf),
+        Value::Timestamp(time) => append_64_bits(18, time.value, buf),
+        Value::TimestampTz(time) => append_zoned(time.offset, time.value, buf),
+        Value::Interval(interval) => append_interval(
+            interval.months,
+            interval.days,
+            interval.micros,
+            buf,
+        ),
+        Value::Bool(false) => buf.extend_from_slice(&[21]),
+        Value::Bool(true) => buf.extend_from_slice(&[22]),
+        Value::Number(number) => number.append_sort_key(buf),
+        Value::String(text) => append_text(208, text.as_bytes(), buf),
+        Value::Object(members) => append_members(members, buf),
+        Value::Array(items) => append_items(items, buf),
+        Value::Null => buf.extend_from_slice(&[211]),
+    }
+}
+
+#[cycle(append)]
+fn append_items<'a>(items: &Vec<Value<'a>>, buf: &mut Vec<u8>) -> Appended
+    ensures ok { OnOk result (buf.new.items
+        ≡ buf.old.items ++ 210 ∷ items_key (trees_view items.now.items)) }
+    ensures bounded { OnOk result (AreBounded (trees_view items.now.items)) }
+    ensures kept { Extends buf.old.items buf.new.items }
+    ensures full { OnErr result (vec_capacity buf.old
+        < vec_len buf.old + length (210 ∷ items_key (trees_view items.now.items))) }
+    ensures capacity { vec_capacity buf.old ≤ vec_capacity buf.new }
+{
+    buf.extend_from_slice(&[210])?;
+    'items: for item in items {
+        append(item, buf)?;
+    }
+    buf.extend_from_slice(&[0])
+}
+
+#[cycle(append)]
+fn append_members<'a>(members: &Object<'a>, buf: &mut Vec<u8>) -> Appended
+    ensures ok { OnOk result (buf.new.items
+        ≡ buf.old.items ++ 209 ∷ members_key (members_view members.now.entries)) }
+    ensures bounded { OnOk result (HaveBounds (members_view members.now.entries)) }
+    ensures kept { Extends buf.old.items buf.new.items }
+    ensures full { OnErr result (vec_capacity buf.old
+        < vec_len buf.old + length (209 ∷ members_key (members_view members.now.entries))) }
+    ensures capacity { vec_capacity buf.old ≤ vec_capacity buf.new }
+{
+    buf.extend_from_slice(&[209])?;
+    'members: for (key, value) in members.iter() {
+        append_key(key, buf)?;
+        append(value, buf)?;
+    }
+    buf.extend_from_slice(&[0, 0])
+}
+
+// Appends the kind and a text.
+fn append_text(kind: u8, bytes: &[u8], buf: &mut Vec<u8>) -> Appended
+    ensures ok { OnOk result (buf.new.items ≡ buf.old.items ++ kind ∷ text_key bytes.now) }
+    ensures kept { Extends buf.old.items buf.new.items }
+    ensures full { OnErr result
+        (vec_capacity buf.old < vec_len buf.old + length (kind ∷ text_key bytes.now)) }
+    ensures capacity { vec_capacity buf.old ≤ vec_capacity buf.new }
+{
+    buf.extend_from_slice(&[kind])?;
+    append_closed(bytes, buf)
+}
+
+// Appends a text and what closes it.
+fn append_closed(bytes: &[u8], buf: &mut Vec<u8>) -> Appended
+    ensures ok { OnOk result (buf.new.items ≡ buf.old.items ++ text_key bytes.now) }
+    ensures kept { Extends buf.old.items buf.new.items }
+    ensures full { OnErr result
+        (vec_capacity buf.old < vec_len buf.old + length (text_key bytes.now)) }
+    ensures capacity { vec_capacity buf.old ≤ vec_capacity buf.new }
+{
+    append_escaped(bytes, buf)?;
+    buf.extend_from_slice(&[0, 1])
+}
+
+// Appends a member's key.
+#[inline(always)]
+fn append_key(key: &String, buf: &mut Vec<u8>) -> Appended
+    ensures ok { OnOk result (buf.new.items ≡ buf.old.items ++ text_key (string_bytes key.now)) }
+    ensures kept { Extends buf.old.items buf.new.items }
+    ensures full { OnErr result
+        (vec_capacity buf.old < vec_len buf.old + length (text_key (string_bytes key.now))) }
+    ensures capacity { vec_capacity buf.old ≤ vec_capacity buf.new }
+{
+    append_closed(key.as_bytes(), buf)
+}
+
+// Appends a text's bytes. Runs between zeros, of which most texts have none, are copied whole.
+fn append_escaped(bytes: &[u8], buf: &mut Vec<u8>) -> Appended
+    ensures ok { OnOk result (buf.new.items ≡ buf.old.items ++ flat_map byte_key bytes.now) }
+    ensures kept { Extends buf.old.items buf.new.items }
+    ensures full { OnErr result
+        (vec_capacity buf.old < vec_len buf.old + length (flat_map byte_key bytes.now)) }
+    ensures capacity { vec_capacity buf.old ≤ vec_capacity buf.new }
+{
+    let mut rest = bytes;
+    'runs: loop {
+        let (run, others) = rest.split_at(run_len(rest));
+        buf.extend_from_slice(run)?;
+        let Some((byte, more)) = others.split_first() else {
+            return Ok(());
+        };
+        append_byte(*byte, buf)?;
+        rest = more;
+    }
+}
+
+// How many of the first bytes are no zeros.
+fn run_len(bytes: &[u8]) -> usize
+    ensures within { result ≤ length bytes.now }
+    ensures plain { flat_map byte_key (take result bytes.now) ≡ take result bytes.now }
+{
+    'bytes: for (i, byte) in bytes.iter().enumerate() {
+        if *byte == 0 {
+            return i;
+        }
+    }
+    bytes.len()
+}
+
+fn append_byte(byte: u8, buf: &mut Vec<u8>) -> Appended
+    ensures ok { OnOk result (buf.new.items ≡ buf.old.items ++ byte_key byte) }
+    ensures kept { Extends buf.old.items buf.new.items }
+    ensures full { OnErr result (vec_capacity buf.old < vec_len buf.old + length (byte_key byte)) }
+    ensures capacity { vec_capacity buf.old ≤ vec_capacity buf.new }
+{
+    if byte == 0 {
+        buf.extend_from_slice(&[0, 255])
+    } else {
+        buf.extend_from_slice(&[byte])
+    }
+}
+
+// The bytes of a whole number of 32 bits.
+fn key_of_32_bits(value: i32) -> [u8; 4]
+    ensures { result ≡ key_of_32_bits value }
+{
+    let moved = (i64::from(value) + 0x8000_0000).unsigned_abs() as u32;
+    moved.to_be_bytes()
+}
+
+// The same of 64 bits.
+fn key_of_64_bits(value: i64) -> [u8; 8]
+    ensures { result ≡ key_of_64_bits value }
+{
+    let moved = (i128::from(value) + 0x8000_0000_0000_0000).unsigned_abs() as u64;
+    moved.to_be_bytes()
+}
+
+// Appends the kind and a whole number.
+fn append_32_bits(kind: u8, value: i32, buf: &mut Vec<u8>) -> Appended
+    ensures ok { OnOk result (buf.new.items ≡ buf.old.items ++ kind ∷ key_of_32_bits value) }
+    ensures kept { Extends buf.old.items buf.new.items }
+    ensures full { OnErr result
+        (vec_capacity buf.old < vec_len buf.old + length (kind ∷ key_of_32_bits value)) }
+    ensures capacity { vec_capacity buf.old ≤ vec_capacity buf.new }
+{
+    buf.extend_from_slice(&[kind])?;
+    buf.extend_from_slice(&key_of_32_bits(value))
+}
+
+fn append_64_bits(kind: u8, value: i64, buf: &mut Vec<u8>) -> Appended
+    ensures ok { OnOk result (buf.new.items ≡ buf.old.items ++ kind ∷ key_of_64_bits value) }
+    ensures kept { Extends buf.old.items buf.new.items }
+    ensures full { OnErr result
+        (vec_capacity buf.old < vec_len buf.old + length (kind ∷ key_of_64_bits value)) }
+    ensures capacity { vec_capacity buf.old ≤ vec_capacity buf.new }
+{
+    buf.extend_from_slice(&[kind])?;
+    buf.extend_from_slice(&key_of_64_bits(value))
+}
+
+fn append_zoned(offset: i32, micros: i64, buf: &mut Vec<u8>) -> Appended
+    ensures ok { OnOk result
+        (buf.new.items ≡ buf.old.items ++ 19 ∷ key_of_32_bits offset ++ key_of_64_bits micros) }
+    ensures kept { Extends buf.old.items buf.new.items }
+    ensures full { OnErr result (vec_capacity buf.old < vec_len buf.old
+        + length (19 ∷ key_of_32_bits offset ++ key_of_64_bits micros)) }
+    ensures capacity { vec_capacity buf.old ≤ vec_capacity buf.new }
+{
+    append_32_bits(19, offset, buf)?;
+    buf.extend_from_slice(&key_of_64_bits(micros))
+}
+
+fn append_interval(months: i32, days: i32, micros: i64, buf: &mut Vec<u8>) -> Appended
+    ensures ok { OnOk result (buf.new.items ≡ buf.old.items
+        ++ 20 ∷ key_of_32_bits months ++ (key_of_32_bits days ++ key_of_64_bits micros)) }
+    ensures kept { Extends buf.old.items buf.new.items }
+    ensures full { OnErr result (vec_capacity buf.old < vec_len buf.old
+        + length (20 ∷ key_of_32_bits months ++ (key_of_32_bits days ++ key_of_64_bits micros))) }
+    ensures capacity { vec_capacity buf.old ≤ vec_capacity buf.new }
+{
+    append_32_bits(20, months, buf)?;
+    buf.extend_from_slice(&key_of_32_bits(days))?;
+    buf.extend_from_slice(&key_of_64_bits(micros))
+}
