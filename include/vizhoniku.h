@@ -103,6 +103,16 @@ uint32_t vizhoniku_part(uint32_t mode, const unsigned char *path, size_t path_si
                         size_t text_size, unsigned char *buffer, size_t buffer_size, size_t *size,
                         struct vizhoniku_refusal *refusal);
 
+/* Writes the sort key of the text's value to the front of the buffer: bytes that compare, as memcmp does and the shorter
+ * first, as vizhoniku_compare does, and that are equal exactly for equal values. No key begins another, so keys may
+ * stand one after the other. docs/SORT_KEYS.md has the format.
+ *
+ *  - VIZHONIKU_ACCEPTED: *size bytes were written. The rest of the buffer is as before.
+ *  - VIZHONIKU_TOO_SHORT: *size bytes are needed, and nothing was written.
+ *  - any other status: *size is 0, and nothing was written. */
+uint32_t vizhoniku_sort_key(uint32_t mode, const unsigned char *text, size_t text_size, unsigned char *buffer,
+                            size_t buffer_size, size_t *size, struct vizhoniku_refusal *refusal);
+
 /* Compares the values of two texts of one mode: *order is -1 where the first is below the second, 0 where they are the
  * same, and 1 where it is above. It is one total order; docs/VALUES.md has it. Where the status is not
  * VIZHONIKU_ACCEPTED, *order is 0. Where both texts are refused, the first is told. The status is never

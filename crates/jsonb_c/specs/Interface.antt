@@ -11,6 +11,7 @@ use Rattle.jsonb_value.specs.Error.ErrorText.{error_text}
 use Rattle.jsonb_value.specs.Grammar.{IsDocument, IsNoDocument}
 use Rattle.jsonb_value.specs.Mode.{Mode, standard, extended}
 use Rattle.jsonb_value.specs.Order.{tree_cmp}
+use Rattle.jsonb_value.specs.SortKey.{key_of}
 use Rattle.jsonb_value.specs.Text.ReadsBack.{ReadsBackAs}
 use Rattle.jsonb_value.specs.Text.{text_of}
 use Rattle.jsonb_value.specs.Tree.{Tree}
@@ -112,6 +113,26 @@ pub record IsWritten (number : ℕ) (text : List ℕ) (size : ℕ) (old new : Li
 pub record NeedsRoom (number : ℕ) (text : List ℕ) (size : ℕ) (old : List ℕ) : Type 0 where
   pub bytes : List ℕ
   pub is_text : IsTextOf number text bytes
+  pub sized : size ≡ length bytes
+  pub too_short : length old < size
+
+-- The bytes are the sort key of the tree of the text.
+pub record IsKeyOf (number : ℕ) (text bytes : List ℕ) : Type 0 where
+  pub tree : Tree
+  pub read : IsDocumentOf number text tree
+  pub is_key : bytes ≡ key_of tree
+
+-- The key of the text's tree stands at the front of the buffer, whose other bytes are as before.
+pub record IsKeyWritten (number : ℕ) (text : List ℕ) (size : ℕ) (old new : List ℕ) : Type 0 where
+  pub bytes : List ℕ
+  pub is_key : IsKeyOf number text bytes
+  pub sized : size ≡ length bytes
+  pub put : new ≡ bytes ++ drop size old
+
+-- The key of the text's tree has this size, and the buffer is shorter.
+pub record NeedsRoomForKey (number : ℕ) (text : List ℕ) (size : ℕ) (old : List ℕ) : Type 0 where
+  pub bytes : List ℕ
+  pub is_key : IsKeyOf number text bytes
   pub sized : size ≡ length bytes
   pub too_short : length old < size
 

@@ -16,7 +16,7 @@ ghost use Rattle.jsonb.specs.Parser.{mode_of, Gives, HoldsMarker, IsTextRefusal}
 ghost use Rattle.jsonb.specs.Reading.Document.{document_of};
 ghost use Rattle.jsonb.specs.Refusals.{IsExplained};
 ghost use Rattle.jsonb_pointer.specs.Path.{IsPath, StartsKey};
-ghost use Rattle.jsonb_c.specs.Interface.{NumberChooses, added, code_number, ends_escape, names_next, nothing, sign, status_of, told, HasNoPartAt, IsAccepted, IsOneRefused, IsOrdered, IsDocumentOf, IsMessageOf, IsMessageWritten, IsPartAnswer, IsPartWritten, IsReason, IsRefused, IsTextOf, IsWritten, NeedsRoom, NeedsRoomForMessage, NeedsRoomForPart, SaysError};
+ghost use Rattle.jsonb_c.specs.Interface.{NumberChooses, added, code_number, ends_escape, names_next, nothing, sign, status_of, told, HasNoPartAt, IsAccepted, IsOneRefused, IsOrdered, IsDocumentOf, IsKeyOf, IsKeyWritten, IsMessageOf, IsMessageWritten, IsPartAnswer, IsPartWritten, IsReason, IsRefused, IsTextOf, IsWritten, NeedsRoom, NeedsRoomForKey, NeedsRoomForMessage, NeedsRoomForPart, SaysError};
 
 use jsonb::{
     Error, Mode, ParseErrorCode, Value, line_and_column, parse_value, parse_value_standard_mode,
@@ -140,6 +140,48 @@ pub extern "C" fn vizhoniku_text(
     ensures nothing { result ≢ REFUSED → refusal.new ≡ nothing }
 {
     match text_of(alloc, mode, text) {
+        Ok(bytes) => {
+            *refusal = NOTHING;
+            *size = bytes.len();
+            put(&bytes, out)
+        }
+        Err(refused) => {
+            *size = 0;
+            tell(refused, refusal)
+        }
+    }
+}
+
+/// Writes the sort key of the text's value to the front of `out`, and its size to `size`. Where `out` is too short, it
+/// stays as it is, and `size` is what is needed.
+#[unsafe(no_mangle)]
+pub extern "C" fn vizhoniku_sort_key(
+    alloc: Global,
+    mode: u32,
+    text: &[u8],
+    out: &mut [u8],
+    size: &mut usize,
+    refusal: &mut Refusal,
+) -> u32
+    ensures status { result ≤ TOO_SHORT }
+    ensures mode { result ≡ UNKNOWN_MODE ↔ (1 < mode) }
+
+    // What is written is the key of the document's tree, and no other byte of the buffer changes.
+    ensures written { result ≡ ACCEPTED → IsKeyWritten mode text.now size.new out.old out.new }
+    ensures short { result ≡ TOO_SHORT → NeedsRoomForKey mode text.now size.new out.old }
+    ensures untouched { result ≢ ACCEPTED → out.new ≡ out.old }
+    ensures no_size { result ≢ ACCEPTED → result ≢ TOO_SHORT → size.new ≡ 0 }
+
+    // A document is accepted, unless memory ran out.
+    ensures accepted { IsAccepted mode text.now
+        → (result ≡ ACCEPTED) ⊎ (result ≡ TOO_SHORT) ⊎ (result ≡ OUT_OF_MEMORY) }
+    ensures memory { result ≡ OUT_OF_MEMORY → HoldsMarker text.now ⊎ IsAccepted mode text.now }
+
+    // Which fault it is, and where.
+    ensures refused { result ≡ REFUSED → IsRefused mode text.now 1 refusal.new }
+    ensures nothing { result ≢ REFUSED → refusal.new ≡ nothing }
+{
+    match sort_key_of(alloc, mode, text) {
         Ok(bytes) => {
             *refusal = NOTHING;
             *size = bytes.len();
@@ -483,6 +525,20 @@ fn text_of(alloc: Global, mode: u32, text: &[u8]) -> Result<Vec<u8>, Refused>
     let value = value_of(alloc, mode, text, 1)?;
     let mut bytes = Vec::new(alloc);
     if value.write_text(&mut bytes).is_err() {
+        return Err(Refused::OutOfMemory);
+    }
+    Ok(bytes)
+}
+
+// The sort key of the value of a text.
+fn sort_key_of(alloc: Global, mode: u32, text: &[u8]) -> Result<Vec<u8>, Refused>
+    ensures key { IfOk result (λ bytes. IsKeyOf mode text.now bytes.items) }
+    ensures reason { IfErr result (IsReason mode (IsRefused mode text.now 1)) }
+    ensures memory { result ≡ Err Refused.OutOfMemory → HoldsMarker text.now ⊎ IsAccepted mode text.now }
+{
+    let value = value_of(alloc, mode, text, 1)?;
+    let mut bytes = Vec::new(alloc);
+    if value.write_sort_key(&mut bytes).is_err() {
         return Err(Refused::OutOfMemory);
     }
     Ok(bytes)

@@ -1,0 +1,20 @@
+use Rattle.std.proofs.Common.{◌≡◌, ℕ, false, List, [], ◌++◌, Result, Ok, Err, OnOk, ap, sym, ◌∙◌}
+use Rattle.std.specs.Result.{is_err}
+use Rattle.jsonb_value.specs.SortKey.{key_of}
+use Rattle.jsonb_value.specs.View.{view}
+use Rattle.jsonb_c.specs.Interface.{IsKeyOf}
+use Rattle.jsonb_c.proofs.sort_key_of.Goals as goal
+
+done : {T E : Type 0} (P : Type 0) (r : Result T E) → is_err r ≡ false → OnOk r P → P
+done P (Ok x) e p = p
+done P (Err x) e p = cc
+
+pub returns-clause-key : goal.returns-clause-key
+returns-clause-key c =
+    let tree = view c.in_ok-value.value in
+    let appended = done _ c.write_sort_key.result (sym c.is_err.ensures.value ∙ c.if-is_err.false) c.write_sort_key.ensures.ok in
+    record {
+      tree = tree;
+      read = c.in_ok-value.ensures.read;
+      is_key = appended ∙ ap (λ old. old ++ key_of tree) c.new-bytes.ensures.items;
+    }
