@@ -126,10 +126,10 @@ pub skip-nil : (mode : Mode) → skip_blanks mode [] ≡ []
 skip-nil mode = ap (past_comment mode) (pass-nil mode) ∙ past-none mode [] (opens-nil mode)
 
 -- above a space only a backslash or a slash begins a blank
-skip-above : (mode : Mode) (b : ℕ) (bytes : List ℕ) → 32 < b → (eqb b 92 || eqb b 47) ≡ false → skip_blanks mode (b ∷ bytes) ≡ b ∷ bytes
-skip-above mode b bytes above others =
+starts_none : (b : ℕ) → 32 < b → (eqb b 92 || eqb b 47) ≡ false → is_blank_start b ≡ false
+starts_none b above others =
     let h = or_parts (eqb b 92) (eqb b 47) others in
-    skip-stop mode b bytes (none_of (eqb b 32) (eqb b 9) (eqb b 10) (eqb b 12) (eqb b 13) (eqb b 92) (eqb b 47) (lower 32 above) (lower 9 (omega arith)) (lower 10 (omega arith)) (lower 12 (omega arith)) (lower 13 (omega arith)) h.0 h.1)
+    none_of (eqb b 32) (eqb b 9) (eqb b 10) (eqb b 12) (eqb b 13) (eqb b 92) (eqb b 47) (lower 32 above) (lower 9 (omega arith)) (lower 10 (omega arith)) (lower 12 (omega arith)) (lower 13 (omega arith)) h.0 h.1
   where
     lower : (c : ℕ) → c < b → eqb b c ≡ false
     lower c h = ne_eqb b c (λ same. absurd (omega (arith, h, same)))
@@ -140,7 +140,11 @@ skip-above mode b bytes above others =
 -- whether a byte above a space may begin a blank
 pub skip-by_slash : (mode : Mode) (b : ℕ) (bytes rest : List ℕ) → rest ≡ b ∷ bytes → 32 < b → (is : Bool) → (eqb b 92 || eqb b 47) ≡ is → MatchBool is (Unit {0}) (skip_blanks mode rest ≡ rest)
 skip-by_slash mode b bytes rest whole above true e = tt
-skip-by_slash mode b bytes rest whole above false e = ap (skip_blanks mode) whole ∙ skip-above mode b bytes above e ∙ sym whole
+skip-by_slash mode b bytes rest whole above false e = ap (skip_blanks mode) whole ∙ skip-stop mode b bytes (starts_none b above e) ∙ sym whole
+
+pub pass-by_slash : (mode : Mode) (b : ℕ) (bytes rest : List ℕ) → rest ≡ b ∷ bytes → 32 < b → (is : Bool) → (eqb b 92 || eqb b 47) ≡ is → MatchBool is (Unit {0}) (pass_blanks mode rest ≡ rest)
+pass-by_slash mode b bytes rest whole above true e = tt
+pass-by_slash mode b bytes rest whole above false e = ap (pass_blanks mode) whole ∙ pass-stop mode b bytes (starts_none b above e) ∙ sym whole
 
 -- ---- what is passed is blanks
 

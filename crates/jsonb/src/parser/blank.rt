@@ -125,7 +125,9 @@ impl Parser<'_> {
     // Whether the next byte may begin a blank. Few bytes may, so this is asked before the call.
     #[inline(always)]
     fn may_begin_blank(&self) -> bool
-        ensures { MatchBool result (Unit {0}) (skip_blanks (mode_of self.now.mode) (rest_of self.now)
+        ensures skips { MatchBool result (Unit {0}) (skip_blanks (mode_of self.now.mode) (rest_of self.now)
+            ≡ rest_of self.now) }
+        ensures passes { MatchBool result (Unit {0}) (pass_blanks (mode_of self.now.mode) (rest_of self.now)
             ≡ rest_of self.now) }
     {
         match self.peek() {
@@ -165,14 +167,26 @@ impl Parser<'_> {
         ensures rest { rest_of self.new ≡ skip_blanks (mode_of self.old.mode) (rest_of self.old) }
         ensures advances { Advances self.old self.new }
     {
-        self.pass_blanks();
+        self.pass_all_blanks();
         if self.opens_comment() {
             self.idx = self.buf.len();
         }
     }
 
     // Passes blanks, up to a comment that never ends.
+    #[inline(always)]
     pub(super) fn pass_blanks(&mut self)
+        ensures rest { rest_of self.new ≡ pass_blanks (mode_of self.old.mode) (rest_of self.old) }
+        ensures advances { Advances self.old self.new }
+    {
+        if self.may_begin_blank() {
+            self.pass_all_blanks();
+        }
+    }
+
+    // The same, blank by blank.
+    #[inline(never)]
+    fn pass_all_blanks(&mut self)
         ensures rest { rest_of self.new ≡ pass_blanks (mode_of self.old.mode) (rest_of self.old) }
         ensures advances { Advances self.old self.new }
     {

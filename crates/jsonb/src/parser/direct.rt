@@ -1,6 +1,6 @@
 //! A second reader of whole texts, which makes the value with no `JsonAst` between and without a word of what is wrong.
 //! Where it answers nothing, the text may still be a document, and the reader that tells faults is asked.
-ghost use Rattle.std.specs.Prelude.{◌≡◌, ◌<◌, ◌≤◌, ℕ, false, length, map, List, MatchBool, IfSome, Ok, None, string_bytes, [], ◌∷◌, if◌then◌else◌};
+ghost use Rattle.std.specs.Prelude.{◌≡◌, ◌<◌, ◌≤◌, ℕ, false, length, map, List, MatchBool, IfOk, IfSome, Ok, None, string_bytes, [], ◌∷◌, if◌then◌else◌};
 ghost use Rattle.std.specs.BTreeMap.{insert_entry, is_at};
 ghost use Rattle.std.specs.Map.{lookup};
 ghost use Rattle.std.specs.String.{string_cmp};
@@ -22,7 +22,7 @@ mod scalar;
 use super::value::MAX_DEPTH;
 use super::{Mode, Parser};
 use jsonb_value::value::{Object, Value};
-use std::alloc::Global;
+use std::alloc::{AllocError, Global};
 use std::mem;
 
 // An array or an object that is open, with what was read of it.
@@ -298,6 +298,7 @@ impl<'a> Parser<'a> {
     {
         match stack.last_mut()? {
             OpenValue::Array(items) => {
+                make_room(items, self.next_is(b']'));
                 let Ok(()) = items.push(inner.into_value()) else {
                     return None;
                 };
@@ -309,6 +310,16 @@ impl<'a> Parser<'a> {
                 self.end_part(b'}')
             }
         }
+    }
+}
+
+// Makes room for a value, and for no other, where it is the array's only one. Arrays in arrays often have but one.
+#[inline(always)]
+fn make_room(items: &mut Vec<Value>, is_last: bool)
+    ensures { items.new.items ≡ items.old.items }
+{
+    if is_last && items.capacity() == 0 {
+        let _made = items.reserve_exact(1);
     }
 }
 
@@ -358,11 +369,33 @@ fn insert_new<'a>(members: &mut Object<'a>, key: String, value: Value<'a>) -> Op
         ≡ insert_entry string_cmp members.old.entries key value.entry) }
     ensures missing { IfSome result (λ _. lookup (is_at (string_cmp key)) members.old.entries ≡ None) }
 {
-    let Ok(old) = members.insert(key, value) else {
+    let Ok(is_new) = put_member(members, key, value) else {
         return None;
     };
-    if old.is_some() {
+    if !is_new {
         return None;
     }
     Some(())
+}
+
+// Puts in a member. True where no other had its key; else the other's value is gone. All readers put members in here,
+// so that the map's own code stands in this function and in no other, and its answer takes no place in memory.
+#[inline(never)]
+pub(super) fn put_member<'a>(
+    members: &mut Object<'a>,
+    key: String,
+    value: Value<'a>,
+) -> Result<bool, AllocError>
+    ensures entries { IfOk result (λ _. members.new.entries
+        ≡ insert_entry string_cmp members.old.entries key value.entry) }
+    ensures missing { IfOk result (λ is_new. MatchBool is_new
+        (lookup (is_at (string_cmp key)) members.old.entries ≡ None) (Unit {0})) }
+{
+    let Ok(old) = members.insert(key, value) else {
+        return Err(AllocError);
+    };
+    if old.is_some() {
+        return Ok(false);
+    }
+    Ok(true)
 }

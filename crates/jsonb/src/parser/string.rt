@@ -49,12 +49,33 @@ pub(super) fn next_mark(bytes: &[u8], quote: u8, at: usize) -> usize
     ensures here { result < length bytes.now → IsQuoteOrBackslash quote (slice_index bytes.now result) }
 {
     if bytes.len() - at < 32 {
-        return far_mark(bytes, quote, at);
+        return short_mark(bytes, quote, at);
     }
     if let Some(near) = near_mark(bytes, quote, at) {
         return near;
     }
     far_mark(bytes, quote, at + 32)
+}
+
+// The same byte by byte, where few are left.
+#[inline(never)]
+fn short_mark(bytes: &[u8], quote: u8, at: usize) -> usize
+    requires { at ≤ length bytes.now }
+    ensures bounds { (at ≤ result) × (result ≤ length bytes.now) }
+    ensures before { IsClear quote bytes.now at result }
+    ensures here { result < length bytes.now → IsQuoteOrBackslash quote (slice_index bytes.now result) }
+{
+    let mut stop = at;
+    'bytes: while stop < bytes.len() {
+        if bytes[stop] == quote {
+            return stop;
+        }
+        if bytes[stop] == b'\\' {
+            return stop;
+        }
+        stop += 1;
+    }
+    stop
 }
 
 // The same by a search of all that is left.

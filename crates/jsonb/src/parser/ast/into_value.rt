@@ -5,6 +5,7 @@ ghost use Rattle.jsonb_value.specs.View.{view, trees_view, members_view};
 ghost use Rattle.jsonb.specs.AstView.{ast_view, asts_view, written_members, IsContainer};
 
 use super::JsonAst;
+use crate::parser::direct::put_member;
 use jsonb_value::error::{Error, Result};
 use jsonb_value::value::{Object, Value};
 use std::alloc::Global;
@@ -60,7 +61,7 @@ fn build_members<'a>(
     let mut object = Object::new(alloc);
     'members: for (key, ast, _) in members {
         let name = key.into_owned(alloc)?;
-        drop(object.insert(name, build(alloc, ast)?)?);
+        put_member(&mut object, name, build(alloc, ast)?)?;
     }
     Ok(object)
 }

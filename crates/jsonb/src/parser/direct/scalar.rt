@@ -29,7 +29,13 @@ impl<'a> Parser<'a> {
         ensures advances { Advances self.old self.new }
     {
         if self.take_byte(b'"') {
-            let string = self.direct_string(b'"', text)?;
+            if let Some(body) = self.direct_plain(b'"', text) {
+                let Ok(()) = items.push(Value::String(CowStr::Borrowed(body))) else {
+                    return None;
+                };
+                return Some(());
+            }
+            let string = self.direct_escaped(b'"')?;
             let Ok(()) = items.push(Value::String(string)) else {
                 return None;
             };
@@ -79,7 +85,11 @@ impl<'a> Parser<'a> {
         ensures advances { Advances self.old self.new }
     {
         if self.take_byte(b'"') {
-            let string = self.direct_string(b'"', text)?;
+            if let Some(body) = self.direct_plain(b'"', text) {
+                insert_new(members, key, Value::String(CowStr::Borrowed(body)))?;
+                return Some(());
+            }
+            let string = self.direct_escaped(b'"')?;
             insert_new(members, key, Value::String(string))?;
             return Some(());
         }

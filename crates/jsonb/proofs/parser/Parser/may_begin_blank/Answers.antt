@@ -1,13 +1,22 @@
 use Rattle.std.proofs.Common.{nat_eq, ne_eqb, sym, ap, ◌∙◌, ◌||◌}
-use Rattle.jsonb.specs.Reading.Blank.{skip_blanks}
+use Rattle.jsonb.specs.Reading.Blank.{pass_blanks, skip_blanks}
 use Rattle.jsonb.specs.Parser.{mode_of, rest_of}
-use Rattle.jsonb.proofs.Text.Blanks.{skip-by_slash, skip-nil}
+use Rattle.jsonb.proofs.Text.Blanks.{pass-by_slash, pass-nil, skip-by_slash, skip-nil}
 use Rattle.jsonb.proofs.parser.Parser.may_begin_blank.Goals as goal
 
 pub returns-else-byte-eq92 : goal.returns-else-byte-eq92
 returns-else-byte-eq92 c =
     let byte = c.in-Some.byte in
-    skip-by_slash (mode_of c.args.self.now.mode) byte _ (rest_of c.args.self.now) c.in-Some.ensures.next c.if-byte-eq92.false.0 (nat_eq byte 47) (ap (λ t. t || nat_eq byte 47) (ne_eqb byte 92 c.if-byte-eq92.false.1))
+    let slash = ap (λ t. t || nat_eq byte 47) (ne_eqb byte 92 c.if-byte-eq92.false.1) in
+    record {
+      skips = skip-by_slash (mode_of c.args.self.now.mode) byte _ (rest_of c.args.self.now) c.in-Some.ensures.next c.if-byte-eq92.false.0 (nat_eq byte 47) slash;
+      passes = pass-by_slash (mode_of c.args.self.now.mode) byte _ (rest_of c.args.self.now) c.in-Some.ensures.next c.if-byte-eq92.false.0 (nat_eq byte 47) slash;
+    }
 
 pub returns-in-None : goal.returns-in-None
-returns-in-None c = let mode = mode_of c.args.self.now.mode in ap (skip_blanks mode) c.in-None.ensures.next ∙ skip-nil mode ∙ sym c.in-None.ensures.next
+returns-in-None c =
+    let mode = mode_of c.args.self.now.mode in
+    record {
+      skips = ap (skip_blanks mode) c.in-None.ensures.next ∙ skip-nil mode ∙ sym c.in-None.ensures.next;
+      passes = ap (pass_blanks mode) c.in-None.ensures.next ∙ pass-nil mode ∙ sym c.in-None.ensures.next;
+    }

@@ -14,7 +14,7 @@ build_members-members-preserved t c =
     let e : Written = (c.in-Some.key, c.in-Some.ast, c.in-Some.field-0-2) in (
       (taken ++ e ∷ [], whole ∙ ap (λ ms. taken ++ ms) c.in-Some.ensures.steps.0 ∙ sym (append_assoc taken (e ∷ []) left)),
       ap (put_all (written_pairs left))
-          (ap members_view c.in_ok-insert.ensures.entries ∙ members_view-insert_entry c.members.object.entries c.in_ok-name.name c.in_ok-build.field-0
+          (ap members_view c.in_ok-put_member.ensures.entries ∙ members_view-insert_entry c.members.object.entries c.in_ok-name.name c.in_ok-build.field-0
           ∙ (λ i. put (c.in_ok-name.ensures.ok i) (c.in_ok-build.ensures.ok i) so_far))
           ∙ ap (λ ms. put_all (written_pairs ms) so_far) (sym c.in-Some.ensures.steps.0)
           ∙ made,

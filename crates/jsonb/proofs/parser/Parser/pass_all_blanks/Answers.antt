@@ -5,7 +5,7 @@ use Rattle.jsonb.proofs.Text.Blanks.{pass-none, pass-step, pass-nil}
 use Rattle.jsonb.specs.declared.parser.Parser.{Parser}
 use Rattle.jsonb.proofs.Steps.Advancing.{goes_on}
 use Rattle.jsonb.proofs.Steps.Cursors.{nothing_left}
-use Rattle.jsonb.proofs.parser.Parser.pass_blanks.Goals as goal
+use Rattle.jsonb.proofs.parser.Parser.pass_all_blanks.Goals as goal
 
 pub returns-then-n-eq0-clause-rest : goal.returns-then-n-eq0-clause-rest
 returns-then-n-eq0-clause-rest c =

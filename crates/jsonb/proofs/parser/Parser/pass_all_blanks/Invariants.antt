@@ -1,7 +1,7 @@
 use Rattle.std.proofs.Common.{◌≡◌, ◌-◌, length}
 use Rattle.jsonb.specs.Reading.Blank.{pass_blanks}
 use Rattle.jsonb.specs.Parser.{mode_of, rest_of, Advances}
-use Rattle.jsonb.proofs.parser.Parser.pass_blanks.Given as goal
+use Rattle.jsonb.proofs.parser.Parser.pass_all_blanks.Given as goal
 
 abbrev pub invariant-blanks : goal.invariant-blanks
 invariant-blanks l = (pass_blanks (mode_of l.initial.self.mode) (rest_of l.self) ≡ pass_blanks (mode_of l.initial.self.mode) (rest_of l.initial.self)) × Advances l.initial.self l.self
