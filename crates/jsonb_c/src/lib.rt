@@ -163,7 +163,7 @@ pub extern "C" fn vizhoniku_sort_key(
     size: &mut usize,
     refusal: &mut Refusal,
 ) -> u32
-    ensures status { result ≤ TOO_SHORT }
+    ensures status { result ≤ 4 }
     ensures mode { result ≡ UNKNOWN_MODE ↔ (1 < mode) }
 
     // What is written is the key of the document's tree, and no other byte of the buffer changes.
@@ -247,7 +247,7 @@ pub extern "C" fn vizhoniku_part(
     size: &mut usize,
     refusal: &mut Refusal,
 ) -> u32
-    ensures status { result ≤ NO_PATH }
+    ensures status { result ≤ 6 }
     ensures mode { result ≡ UNKNOWN_MODE ↔ (1 < mode) }
     ensures memory { result ≡ OUT_OF_MEMORY → HoldsMarker text.now ⊎ StartsKey path.now ⊎ IsAccepted mode text.now }
 
@@ -379,8 +379,8 @@ fn ends_escape(code: u32) -> bool
 }
 
 /// Writes what is wrong with a text that is no document in words, with the position, to the front of `out`, and the
-/// size of the words to `size`: what the program prints. Where `out` is too short, it stays as it is, and `size` is what
-/// is needed.
+/// size of the words to `size`: what the program prints. Where `out` is too short, it stays as it is, and `size` is
+/// what is needed.
 #[unsafe(no_mangle)]
 pub extern "C" fn vizhoniku_message(
     alloc: Global,
@@ -389,7 +389,7 @@ pub extern "C" fn vizhoniku_message(
     out: &mut [u8],
     size: &mut usize,
 ) -> u32
-    ensures status { result ≤ TOO_SHORT }
+    ensures status { result ≤ 4 }
     ensures mode { result ≡ UNKNOWN_MODE ↔ (1 < mode) }
     ensures document { result ≡ ACCEPTED → IsAccepted mode text.now }
 
