@@ -35,7 +35,7 @@ uint32_t vizhoniku_version(void);
 /* Which grammar a text is read by. docs/GRAMMAR.md has both. Any other number is answered by VIZHONIKU_UNKNOWN_MODE. */
 enum vizhoniku_mode {
   VIZHONIKU_STANDARD = 0, /* JSON as RFC 8259 has it, with a few more spellings */
-  VIZHONIKU_EXTENDED = 1, /* comments, single quotes, keys without quotes, decimals, hexadecimals and more */
+  VIZHONIKU_EXTENDED = 1  /* comments, single quotes, keys without quotes, decimals, hexadecimals and more */
 };
 
 /* What a call answers. */
@@ -46,7 +46,7 @@ enum vizhoniku_status {
   VIZHONIKU_UNKNOWN_MODE = 3,  /* no mode has this number */
   VIZHONIKU_TOO_SHORT = 4,     /* the buffer is shorter than the text: the size says what is needed */
   VIZHONIKU_NO_PART = 5,       /* nothing stands at the path: vizhoniku_part alone */
-  VIZHONIKU_NO_PATH = 6,       /* the path isn't spelled as RFC 6901 has it: vizhoniku_part alone */
+  VIZHONIKU_NO_PATH = 6        /* the path isn't spelled as RFC 6901 has it: vizhoniku_part alone */
 };
 
 /* What is wrong with a text. docs/GRAMMAR.md says when, and where the position is. */
@@ -72,7 +72,7 @@ enum vizhoniku_code {
   VIZHONIKU_OBJECT_KEY_INVALID_NUMBER = 18,
   VIZHONIKU_OBJECT_KEY_INVALID_CHARACTER = 19,
   VIZHONIKU_NUMBER_NOT_CARRIED = 20,   /* a number that no value holds exactly; the position is after it */
-  VIZHONIKU_DEPTH_LIMIT_EXCEEDED = 21, /* more than 512 arrays and objects are open at once */
+  VIZHONIKU_DEPTH_LIMIT_EXCEEDED = 21  /* more than 512 arrays and objects are open at once */
 };
 
 /* Which text was refused, and why. All three are 0 where the status is not VIZHONIKU_REFUSED. */
