@@ -6,12 +6,11 @@
  *
  * What a caller owes:
  *  - No pointer is null, not even that of an empty text or buffer.
- *  - What a call writes to (buffer, size, order, refusal) lies apart from all else that the call is given.
+ *  - What a call writes to (buffer, size, order, refusal, place) lies apart from all else that the call is given.
  *  - No text and no buffer is longer than PTRDIFF_MAX bytes.
- *  - The thread has 512 KB of stack free: a text of 512 objects in one another can take most of it.
+ *  - The thread has a megabyte of stack free, where a text is a stranger's: 800 KB is the most that a call was seen to
+ *    take. docs/C.md has figures. A thread of musl has 128 KB where nothing is asked.
  *  - No call comes from a signal handler, or from the child that a process with threads forked.
- *  - A call may take 256 KB of the machine stack: a value is let go by a function that calls itself for each array and
- *    object. (Measured: 202 KB, for 512 objects in one another.) A thread of musl has 128 KB where nothing is asked.
  *  - malloc, realloc and free are of one allocator, and align a block to each power of two up to 16 that divides its
  *    size.
  *
@@ -94,8 +93,8 @@ uint32_t vizhoniku_check(uint32_t mode, const unsigned char *text, size_t text_s
 uint32_t vizhoniku_text(uint32_t mode, const unsigned char *text, size_t text_size, unsigned char *buffer,
                         size_t buffer_size, size_t *size, struct vizhoniku_refusal *refusal);
 
-/* Writes the text of the part of the text's value that stands at the path, as vizhoniku_text writes the whole. A path is
- * spelled as RFC 6901 has it: "" is the whole, and "/a/0" the first item of the member "a".
+/* Writes the text of the part of the text's value that stands at the path, as vizhoniku_text writes the whole. A path
+ * is spelled as RFC 6901 has it: "" is the whole, and "/a/0" the first item of the member "a".
  *
  *  - VIZHONIKU_ACCEPTED and VIZHONIKU_TOO_SHORT: as of vizhoniku_text.
  *  - VIZHONIKU_NO_PART, VIZHONIKU_NO_PATH, any other status: *size is 0, and nothing was written. */
@@ -103,9 +102,9 @@ uint32_t vizhoniku_part(uint32_t mode, const unsigned char *path, size_t path_si
                         size_t text_size, unsigned char *buffer, size_t buffer_size, size_t *size,
                         struct vizhoniku_refusal *refusal);
 
-/* Writes the sort key of the text's value to the front of the buffer: bytes that compare, as memcmp does and the shorter
- * first, as vizhoniku_compare does, and that are equal exactly for equal values. No key begins another, so keys may
- * stand one after the other. docs/SORT_KEYS.md has the format.
+/* Writes the sort key of the text's value to the front of the buffer: bytes that compare, as memcmp does and the
+ * shorter first, as vizhoniku_compare does, and that are equal exactly for equal values. No key begins another, so keys
+ * may stand one after the other. docs/SORT_KEYS.md has the format.
  *
  *  - VIZHONIKU_ACCEPTED: *size bytes were written. The rest of the buffer is as before.
  *  - VIZHONIKU_TOO_SHORT: *size bytes are needed, and nothing was written.
