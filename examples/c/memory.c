@@ -1,0 +1,86 @@
+/* Refuses memory to each function of the library, one request after the other, and counts what is kept after a call.
+ *
+ * The linker puts the three functions below in the place of the C library's (--wrap). The status is 1 where a call kept
+ * memory, or answered neither as with ample memory nor VIZHONIKU_OUT_OF_MEMORY. */
+#include <stdint.h>
+#include <stdio.h>
+#include <stdlib.h>
+#include <string.h>
+
+#include "vizhoniku.h"
+
+void *__real_malloc(size_t size);
+void *__real_realloc(void *block, size_t size);
+void __real_free(void *block);
+
+/* Blocks that are held, requests since the call began, and which of them is refused, from 0 on, or -1. */
+static long held, asked, refused;
+
+void *__wrap_malloc(size_t size) {
+  if (asked++ == refused) return NULL;
+  void *block = __real_malloc(size);
+  if (block) held++;
+  return block;
+}
+
+void *__wrap_realloc(void *block, size_t size) {
+  if (asked++ == refused) return NULL;
+  void *grown = __real_realloc(block, size);
+  if (grown && !block) held++;
+  return grown;
+}
+
+void __wrap_free(void *block) {
+  if (block) held--;
+  __real_free(block);
+}
+
+static const char *const texts[] = {
+    "{\"a\":[1,2,\"x\\n\",{\"b\":[]}],"
+    "\"c\":{\"d\":1,\"e\":2,\"f\":3,\"g\":4,\"h\":5,\"i\":6,\"j\":7,\"k\":[[[\"\\u0041\"]]]}}",
+    "[1,[2,[3,\"\\u0041\",{\"a\":1,\"b\":[\"\\n\"]}]],x]",
+    "{\"a\":1,\"b\":{\"c\":[\"\\t\"]},\"a\":2}",
+    "{a:0x1F, /* x */ b:[,+.5,'\\'']} // end",
+    "[1.5,\"\\q\"]",
+    "[[[[",
+    "\"\\u0041\"",
+    "1",
+    "",
+};
+
+/* Each function of the library that takes memory, by a number. */
+static uint32_t call(int which, uint32_t mode, const unsigned char *text, size_t text_size, size_t room) {
+  static const unsigned char path[] = {'/', 'c', '/', 'k'};
+  unsigned char buffer[400];
+  struct vizhoniku_refusal refusal;
+  size_t size;
+  int32_t order;
+  switch (which) {
+    case 0: return vizhoniku_check(mode, text, text_size, &refusal);
+    case 1: return vizhoniku_text(mode, text, text_size, buffer, room, &size, &refusal);
+    case 2: return vizhoniku_sort_key(mode, text, text_size, buffer, room, &size, &refusal);
+    case 3: return vizhoniku_part(mode, path, sizeof path, text, text_size, buffer, room, &size, &refusal);
+    case 4: return vizhoniku_message(mode, text, text_size, buffer, room, &size);
+    default: return vizhoniku_compare(mode, text, text_size, text, text_size, &order, &refusal);
+  }
+}
+
+int main(void) {
+  long kept = 0, wrong = 0;
+  for (size_t i = 0; i < 2 * 2 * 6 * (sizeof texts / sizeof *texts); i++) {
+    const unsigned char *text = (const unsigned char *)texts[i / 24];
+    size_t text_size = strlen(texts[i / 24]), room = i % 2 ? 400 : 3;
+    int which = (int)(i / 2 % 6);
+    uint32_t mode = (uint32_t)(i / 12 % 2), whole = 0;
+    for (refused = -1; refused < 0 || asked >= refused; refused++) {
+      long before = held;
+      asked = 0;
+      uint32_t status = call(which, mode, text, text_size, room);
+      if (refused < 0) whole = status;
+      if (held != before) kept++;
+      if (status != whole && status != VIZHONIKU_OUT_OF_MEMORY) wrong++;
+    }
+  }
+  printf("%ld calls kept memory, %ld answered otherwise\n", kept, wrong);
+  return kept || wrong;
+}
