@@ -1,5 +1,4 @@
 -- Arrays and objects, and the containers that are open.
-pub mod JoinedParts
 pub mod KeyPlaces
 pub mod LongerSpellings
 pub mod Members

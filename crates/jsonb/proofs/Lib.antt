@@ -1,9 +1,6 @@
 pub mod Containers
 pub mod Documents
-pub mod Numbers
 pub mod Places
 pub mod Refusals
 pub mod Scalars
 pub mod Steps
-pub mod Strings
-pub mod Text

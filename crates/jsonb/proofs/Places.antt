@@ -1,4 +1,3 @@
 -- Where a `JsonAst` stands in the text; lines and columns.
-pub mod Lines
 pub mod Placed
 pub mod Views

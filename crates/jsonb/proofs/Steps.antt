@@ -3,4 +3,3 @@ pub mod Advancing
 pub mod Cursors
 pub mod Outcomes
 pub mod Rows
-pub mod Tests

@@ -7,7 +7,7 @@ use Rattle.jsonb_value.specs.Tree.{Tree, null, boolean, number, string, array, o
 use Rattle.jsonb_value.specs.View.{number_view, mark_view}
 use Rattle.jsonb.specs.declared.parser.ast.JsonAst.{JsonAst, fold-JsonAst}
 use Rattle.jsonb.specs.declared.parser.ast.JsonAst.TheOpen.{JsonAst-F}
-use Rattle.jsonb.specs.Reading.Container.{Found, member_of}
+use Rattle.jsonb_scan.specs.Reading.Container.{Found, member_of}
 
 -- a member of an object, with its value already seen as a tree
 abbrev pub found_from : CowStr Global × Tree × ℕ → Found

@@ -15,10 +15,11 @@ use Rattle.jsonb_value.specs.View.{members_view, trees_view, view}
 use Rattle.jsonb.specs.declared.parser.Parser.{Parser}
 use Rattle.jsonb.specs.declared.parser.direct.OpenValue.{OpenValue}
 use Rattle.jsonb.specs.declared.parser.direct.OpenValue.TheVariants as variants
-use Rattle.jsonb.specs.Parser.{mode_of, rest_of, size_of}
-use Rattle.jsonb.specs.Reading.{Read, ◌>>=◌}
-use Rattle.jsonb.specs.Reading.Container.{Found, member_of, spot_of}
-use Rattle.jsonb.specs.Reading.Document.{value_at}
+use Rattle.jsonb_scan.specs.Answer.{mode_of}
+use Rattle.jsonb.specs.Parser.{rest_of, size_of}
+use Rattle.jsonb_scan.specs.Reading.{Read, ◌>>=◌}
+use Rattle.jsonb_scan.specs.Reading.Container.{Found, member_of, spot_of}
+use Rattle.jsonb_scan.specs.Reading.Document.{value_at}
 use Rattle.jsonb.specs.Stack.{Open, array_end, finish_open, next_part_at, object_end, resume}
 use Rattle.jsonb.specs.Stack.Open.{elements_so_far, members_so_far}
 

@@ -11,10 +11,10 @@ use Rattle.jsonb.specs.declared.parser.ast.JsonAst.{JsonAst}
 use Rattle.jsonb.specs.declared.parser.value.Frame.{Frame}
 use Rattle.jsonb.specs.declared.parser.value.Frame.TheVariants as variants
 use Rattle.jsonb.specs.AstView.{Written}
-use Rattle.jsonb.specs.Parser.{mode_of}
+use Rattle.jsonb_scan.specs.Answer.{mode_of}
 use Rattle.jsonb.specs.Placed.{AreElementsAt, AreMembersAt, HasBlanks, HasByte, HasKey, IsValueAt, Placed}
-use Rattle.jsonb.specs.Reading.{begins}
-use Rattle.jsonb.specs.Reading.Blank.{skip_blanks}
+use Rattle.jsonb_scan.specs.Reading.{begins}
+use Rattle.jsonb_scan.specs.Reading.Blank.{skip_blanks}
 use Rattle.jsonb.specs.Source.{Source, null_source, source_view}
 
 -- a member as it was read

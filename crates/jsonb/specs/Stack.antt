@@ -15,12 +15,13 @@ use Rattle.jsonb_value.specs.Tree.Mark.{plain}
 use Rattle.jsonb_value.specs.Tree.Tree.{array, null}
 use Rattle.jsonb_value.specs.View.{mark_view}
 use Rattle.jsonb.specs.AstView.{ast_view, found_of}
-use Rattle.jsonb.specs.Parser.{Fails, mode_of, rest_of, size_of}
-use Rattle.jsonb.specs.Reading.{Read, on_byte, refused, ◌>>=◌}
-use Rattle.jsonb.specs.Reading.Blank.{skip_blanks}
-use Rattle.jsonb.specs.Reading.Container.{Found, array_at, element_at, first_repeat, joined_at, member_at, object_at, object_or_fault, spot_of}
-use Rattle.jsonb.specs.Reading.Document.{too_deep, value_at}
-use Rattle.jsonb.specs.Reading.Scalar.{key_at}
+use Rattle.jsonb_scan.specs.Answer.{Fails, mode_of}
+use Rattle.jsonb.specs.Parser.{rest_of, size_of}
+use Rattle.jsonb_scan.specs.Reading.{Read, on_byte, refused, ◌>>=◌}
+use Rattle.jsonb_scan.specs.Reading.Blank.{skip_blanks}
+use Rattle.jsonb_scan.specs.Reading.Container.{Found, array_at, element_at, first_repeat, joined_at, member_at, object_at, object_or_fault, spot_of}
+use Rattle.jsonb_scan.specs.Reading.Document.{too_deep, value_at}
+use Rattle.jsonb_scan.specs.Reading.Scalar.{key_at}
 
 -- An array or an object that is open: its parts so far, and in an object the key that waits for its value, with the
 -- place after it.

@@ -1,6 +1,6 @@
 //! The reader of JSON texts: from left to right, with the first fault that it meets.
 
-ghost use Rattle.std.specs.Prelude.{◌≡◌, ◌≢◌, ◌↔◌, IsTrue, ◌+◌, ◌<◌, ◌≤◌, [], ◌∷◌, drop, MatchOption, MatchBool, IfOk, IfErr, Err};
+ghost use Rattle.std.specs.Prelude.{◌≡◌, ◌≢◌, ◌+◌, ◌<◌, ◌≤◌, [], ◌∷◌, drop, MatchOption, MatchBool, IfOk, IfErr, Err};
 ghost use Rattle.jsonb_value.specs.Code.{code_of};
 ghost use Rattle.jsonb_value.specs.Grammar.{IsDocument, IsNoDocument};
 ghost use Rattle.jsonb_value.specs.Mode.{standard, extended};
@@ -10,11 +10,12 @@ ghost use Rattle.jsonb_value.specs.Text.Range.{IsInRange, IsIntegerRange};
 ghost use Rattle.jsonb_value.specs.Tree.{Tree};
 ghost use Rattle.jsonb_value.specs.View.{view};
 ghost use Rattle.jsonb.specs.AstView.{ast_view};
-ghost use Rattle.jsonb.specs.Parser.{rest_of, size_of, mode_of, Advances, NamesFault, IsTextRefusal, Gives, HoldsMarker};
+ghost use Rattle.jsonb_scan.specs.Answer.{mode_of, NamesFault, IsTextRefusal, Gives, HoldsMarker};
+ghost use Rattle.jsonb.specs.Parser.{rest_of, size_of, Advances};
 ghost use Rattle.jsonb.specs.Placed.{IsPlaced};
-ghost use Rattle.jsonb.specs.Reading.{begins, fault_at};
-ghost use Rattle.jsonb.specs.Reading.Blank.{pass_blanks};
-ghost use Rattle.jsonb.specs.Reading.Document.{at_end, comment_at, document_from, document_of};
+ghost use Rattle.jsonb_scan.specs.Reading.{begins, fault_at};
+ghost use Rattle.jsonb_scan.specs.Reading.Blank.{pass_blanks};
+ghost use Rattle.jsonb_scan.specs.Reading.Document.{at_end, comment_at, document_from, document_of};
 ghost use Rattle.jsonb.specs.Refusals.{IsExplained};
 ghost use Rattle.jsonb.specs.Source.{source_view};
 
@@ -27,31 +28,14 @@ mod members;
 mod number;
 mod scalar;
 mod string;
-#[cfg(test)]
-mod tests;
 mod value;
-mod vector;
 
 pub use ast::JsonAst;
 use direct::read_directly;
+pub use jsonb_scan::parser::{Mode, modes_compare};
 use jsonb_value::error::{Error, ParseErrorCode, Result};
 use jsonb_value::value::Value;
 use std::alloc::Global;
-
-/// Which grammar a text is read by.
-#[derive(Clone, Copy, Debug, PartialEq, Eq)]
-pub enum Mode {
-    /// JSON as RFC 8259 has it, with a few more spellings of blanks and strings.
-    Standard,
-    /// Words in either case, single quotes, keys without quotes, elements that are left out, texts of blanks alone,
-    /// decimals and hexadecimals, and comments.
-    Extended,
-}
-
-/// A law: two modes are equal exactly where they are the same one.
-pub fn modes_compare(left: &Mode, right: &Mode)
-    ensures equal { IsTrue (⟦<Mode as PartialEq>⟧.eq left.now right.now) ↔ (mode_of left.now ≡ mode_of right.now) }
-{}
 
 /// Reads a whole text of standard JSON.
 ///

@@ -213,6 +213,3 @@ pub fn errors_compare_by_parts(left: &Error, right: &Error)
     ensures hash { error_view left.now ≡ error_view right.now →
         ⟦<Error as Hash>⟧.hash_input left.now ≡ ⟦<Error as Hash>⟧.hash_input right.now }
 {}
-
-#[cfg(test)]
-mod tests;

@@ -1,7 +1,5 @@
 //! Values beyond JSON: binary data, dates and intervals.
 mod laws;
-#[cfg(test)]
-mod tests;
 pub(crate) mod text;
 
 ghost use Rattle.std.specs.Prelude.{◌≡◌, refl};

@@ -4,8 +4,6 @@ mod cast;
 mod laws;
 mod order;
 mod sort_key;
-#[cfg(test)]
-mod tests;
 pub(crate) mod text;
 
 pub use laws::{

@@ -7,8 +7,6 @@ mod laws;
 mod order;
 mod owned;
 mod sort_key;
-#[cfg(test)]
-mod tests;
 mod text;
 
 use crate::extension::{Date, Interval, Timestamp, TimestampTz};

@@ -12,17 +12,17 @@ use Rattle.jsonb_value.specs.Grammar.IsPadded.{padded}
 use Rattle.jsonb_value.specs.Mode.{Mode}
 use Rattle.jsonb_value.specs.Grammar.Scalar.{IsKey}
 use Rattle.jsonb_value.specs.Tree.{Mark, Member, Tree}
-use Rattle.jsonb.specs.Reading.{Read, on_byte, refused, ◌>>=◌}
-use Rattle.jsonb.specs.Reading.Blank.{skip_blanks}
-use Rattle.jsonb.specs.Reading.Container.{Found, Spot, after_key, after_part, first_repeat, found_at, joined_at, member_at, member_of, padded_at, spot_of}
-use Rattle.jsonb.specs.Reading.Scalar.{key_at}
+use Rattle.jsonb_scan.specs.Reading.{Read, on_byte, refused, ◌>>=◌}
+use Rattle.jsonb_scan.specs.Reading.Blank.{skip_blanks}
+use Rattle.jsonb_scan.specs.Reading.Container.{Found, Spot, after_key, after_part, first_repeat, found_at, joined_at, member_at, member_of, padded_at, spot_of}
+use Rattle.jsonb_scan.specs.Reading.Scalar.{key_at}
 use Rattle.jsonb.specs.Refusals.{ArePassed, IsSpelling, Repeats, times}
 use Rattle.jsonb.specs.Refusals.ArePassed.{no_parts, part_passed}
-use Rattle.jsonb.proofs.Steps.Tests.{bind_ok, refused_fails, same_read}
-use Rattle.jsonb.proofs.Containers.JoinedParts.{IsSound, on_byte_cases, padded_sound}
+use Rattle.jsonb_scan.proofs.Steps.Tests.{bind_ok, refused_fails, same_read}
+use Rattle.jsonb_scan.proofs.Containers.JoinedParts.{IsSound, on_byte_cases, padded_sound}
 use Rattle.jsonb.proofs.Scalars.Spellings.{key_sound, key_starts}
 use Rattle.jsonb.proofs.Containers.SecondPlaces.{AreRising, IsSecond, alike, count, has, once_before, rising-weaken, second_found, stands_there}
-use Rattle.jsonb.proofs.Text.Blanks.{skips}
+use Rattle.jsonb_scan.proofs.Text.Blanks.{skips}
 
 -- ---- one member
 

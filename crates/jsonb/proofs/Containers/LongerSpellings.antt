@@ -10,7 +10,7 @@ use Rattle.jsonb_value.specs.Grammar.Scalar.IsLiteral.{false_word, null_word, tr
 use Rattle.jsonb_value.specs.Grammar.Scalar.IsScalar.{literal_value, number_value, string_value}
 use Rattle.jsonb_value.specs.Tree.{Tree}
 use Rattle.jsonb_value.specs.Tree.Tree.{number}
-use Rattle.jsonb.specs.Reading.Scalar.{folded}
+use Rattle.jsonb_scan.specs.Reading.Scalar.{folded}
 use Rattle.jsonb.proofs.Documents.Spellings.{whole_if_no_number}
 use Rattle.jsonb.proofs.Scalars.Spellings.{IsApart, IsNumberTree, StartsNumber, StartsWord, number_opens, quote_is, quoted_starts, word_starts}
 

@@ -7,7 +7,7 @@ use Rattle.jsonb_value.specs.Tree.{put_all}
 use Rattle.jsonb_value.specs.Tree.Members.{no_members}
 use Rattle.jsonb_value.specs.Tree.Tree.{object}
 use Rattle.jsonb.specs.AstView.{ast_view, found_of}
-use Rattle.jsonb.specs.Reading.Container.{SpotsAreSorted, Spot, adjacent_repeat, first_repeat, member_of, object_or_fault, spot_of}
+use Rattle.jsonb_scan.specs.Reading.Container.{SpotsAreSorted, Spot, adjacent_repeat, first_repeat, member_of, object_or_fault, spot_of}
 use Rattle.jsonb.proofs.Containers.Repeats.{distinct}
 use Rattle.jsonb.proofs.Containers.Shuffles.{IsShuffle, first_repeat-sorted, none_left, put_all-shuffle, shuffle-map, shuffled}
 use Rattle.jsonb.proofs.Containers.Values.{same_keys}

@@ -27,20 +27,21 @@ use Rattle.jsonb.specs.declared.parser.direct.OpenMembers.{OpenMembers}
 use Rattle.jsonb.specs.declared.parser.direct.OpenValue.{OpenValue}
 use Rattle.jsonb.specs.declared.parser.direct.OpenValue.TheVariants as variants
 use Rattle.jsonb.specs.Direct.{AreHeld, AreHeldOnto, IsAhead, ValueIsDue, IsHeld, IsPutIn, ReadsParts, WasRead, depth_within, end_of, found_keys, names, outer_at, part_at, stopped_at, tree_of}
-use Rattle.jsonb.specs.Parser.{Advances, mode_of, rest_of, size_of}
-use Rattle.jsonb.specs.Reading.{Read, begins, on_byte, refused, ◌>>=◌}
-use Rattle.jsonb.specs.Reading.Blank.{skip_blanks}
-use Rattle.jsonb.specs.Reading.Container.{Found, Spot, array_at, elements_at, is_left_out, member_of, members_at, object_at, object_or_fault, spot_of, value_or_null}
-use Rattle.jsonb.specs.Reading.Document.{value_at}
-use Rattle.jsonb.specs.Reading.Number.{standard_number_at}
-use Rattle.jsonb.specs.Reading.Scalar.{begins_number, other_scalar_at, scalar_at}
-use Rattle.jsonb.specs.Reading.String.{string_at}
+use Rattle.jsonb_scan.specs.Answer.{mode_of}
+use Rattle.jsonb.specs.Parser.{Advances, rest_of, size_of}
+use Rattle.jsonb_scan.specs.Reading.{Read, begins, on_byte, refused, ◌>>=◌}
+use Rattle.jsonb_scan.specs.Reading.Blank.{skip_blanks}
+use Rattle.jsonb_scan.specs.Reading.Container.{Found, Spot, array_at, elements_at, is_left_out, member_of, members_at, object_at, object_or_fault, spot_of, value_or_null}
+use Rattle.jsonb_scan.specs.Reading.Document.{value_at}
+use Rattle.jsonb_scan.specs.Reading.Number.{standard_number_at}
+use Rattle.jsonb_scan.specs.Reading.Scalar.{begins_number, other_scalar_at, scalar_at}
+use Rattle.jsonb_scan.specs.Reading.String.{string_at}
 use Rattle.jsonb.specs.Stack.{Open, array_end, elements_from, finish_open, member_start, read_members_from, next_part_at, object_end, rest_at, resume}
 use Rattle.jsonb.specs.Stack.Open.{elements_so_far, members_so_far}
 use Rattle.jsonb.proofs.Scalars.FirstBytes.{standard_number}
 use Rattle.jsonb.proofs.Containers.OpenOnLists.{array-begun, array-value, element-due, elements-turn, members-turn, object-begun, object-value, resume-none, resume-part, value_plain}
 use Rattle.jsonb.proofs.Steps.Outcomes.{same_size, scalar_quoted}
-use Rattle.jsonb.proofs.Containers.JoinedParts.{on_byte-found, on_byte-other}
+use Rattle.jsonb_scan.proofs.Containers.JoinedParts.{on_byte-found, on_byte-other}
 use Rattle.jsonb.proofs.Containers.Repeats.{no_repeat}
 use Rattle.jsonb.proofs.Steps.Advancing.{goes_on}
 

@@ -14,18 +14,19 @@ use Rattle.jsonb_value.specs.Mode.{Mode}
 use Rattle.jsonb_value.specs.Tree.{Mark, Tree}
 use Rattle.jsonb_value.specs.View.{mark_view}
 use Rattle.jsonb.specs.AstView.{ast_view, found_of}
-use Rattle.jsonb.specs.Parser.{Advances, Fails, mode_of, rest_of, size_of}
-use Rattle.jsonb.specs.Reading.{Read, begins, fault_at, on_byte, refused, ◌>>=◌}
-use Rattle.jsonb.specs.Reading.Blank.{skip_blanks}
-use Rattle.jsonb.specs.Reading.Container.{is_left_out}
-use Rattle.jsonb.specs.Reading.Document.{value_at}
-use Rattle.jsonb.specs.Reading.Scalar.{scalar_at}
+use Rattle.jsonb_scan.specs.Answer.{Fails, mode_of}
+use Rattle.jsonb.specs.Parser.{Advances, rest_of, size_of}
+use Rattle.jsonb_scan.specs.Reading.{Read, begins, fault_at, on_byte, refused, ◌>>=◌}
+use Rattle.jsonb_scan.specs.Reading.Blank.{skip_blanks}
+use Rattle.jsonb_scan.specs.Reading.Container.{is_left_out}
+use Rattle.jsonb_scan.specs.Reading.Document.{value_at}
+use Rattle.jsonb_scan.specs.Reading.Scalar.{scalar_at}
 use Rattle.jsonb.specs.Stack.{Continues, Open, PartBegins, add_part, ahead, array_end, array_within, depth_in, element_begun, element_from, elements_from, finish_open, member_start, read_members_from, next_part_at, object_end, object_within, open_of, rest_at, rest_from, rest_of_opens, resume, resumed, stack_of, stack_onto}
 use Rattle.jsonb.specs.Stack.Open.{elements_so_far, members_so_far}
 use Rattle.jsonb.proofs.Containers.OpenOnLists.{array-begun, array-value, members-turn, object-begun, object-value, resume-none, resume-part, value_plain}
 use Rattle.jsonb.proofs.Steps.Advancing.{goes_on}
 use Rattle.jsonb.proofs.Steps.Outcomes.{fails_same, fails_through, same_size}
-use Rattle.jsonb.proofs.Containers.JoinedParts.{on_byte-none}
+use Rattle.jsonb_scan.proofs.Containers.JoinedParts.{on_byte-none}
 use Rattle.jsonb.proofs.Places.Views.{view-Array}
 
 -- ---- frames

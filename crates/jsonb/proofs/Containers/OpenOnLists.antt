@@ -9,15 +9,15 @@ use Rattle.jsonb_value.specs.Tree.{Mark, Tree}
 use Rattle.jsonb_value.specs.Tree.Members.{no_members}
 use Rattle.jsonb_value.specs.Tree.Tree.{array, null, object}
 use Rattle.jsonb_value.specs.Tree.Trees.{no_trees}
-use Rattle.jsonb.specs.Reading.{Fault, Read, begins, on_byte, refused, ◌>>=◌}
-use Rattle.jsonb.specs.Reading.Blank.{skip_blanks}
-use Rattle.jsonb.specs.Reading.Container.{Found, after_key, after_part, array_at, element_at, elements_at, found_at, is_left_out, joined_at, member_at, members_at, object_at, padded_at, value_or_null}
-use Rattle.jsonb.specs.Reading.Document.{too_deep, value_at, value_with}
-use Rattle.jsonb.specs.Reading.Scalar.{key_at, scalar_at}
+use Rattle.jsonb_scan.specs.Reading.{Fault, Read, begins, on_byte, refused, ◌>>=◌}
+use Rattle.jsonb_scan.specs.Reading.Blank.{skip_blanks}
+use Rattle.jsonb_scan.specs.Reading.Container.{Found, after_key, after_part, array_at, element_at, elements_at, found_at, is_left_out, joined_at, member_at, members_at, object_at, padded_at, value_or_null}
+use Rattle.jsonb_scan.specs.Reading.Document.{too_deep, value_at, value_with}
+use Rattle.jsonb_scan.specs.Reading.Scalar.{key_at, scalar_at}
 use Rattle.jsonb.specs.Stack.{Open, array_end, array_within, elements_from, finish_open, member_start, read_members_from, object_end, object_within, parts_after, parts_from, resume}
 use Rattle.jsonb.specs.Stack.Open.{elements_so_far, members_so_far}
-use Rattle.jsonb.proofs.Containers.JoinedParts.{IsSoundBefore, on_byte-none}
-use Rattle.jsonb.proofs.Text.Blanks.{length-skip}
+use Rattle.jsonb_scan.proofs.Containers.JoinedParts.{IsSoundBefore, on_byte-none}
+use Rattle.jsonb_scan.proofs.Text.Blanks.{length-skip}
 use Rattle.jsonb.proofs.Containers.Values.{IsFound, element_sound, member_sound, value_sound}
 
 -- ---- steps one after the other

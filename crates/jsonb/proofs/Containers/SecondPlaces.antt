@@ -4,8 +4,8 @@ use Rattle.std.specs.Ordering.{MatchOrdering, ordering_then}
 use Rattle.std.proofs.lemmas.Cmp.{ranked, tied_itself, nat_list_cmp_total}
 use Rattle.std.proofs.lemmas.Bool.{cond-false, cond-true}
 use Rattle.jsonb_value.specs.Grammar.{IsNew}
-use Rattle.jsonb.specs.Reading.Container.{Spot, adjacent_repeat, first_repeat, insert_spot, sort_spots, spot_cmp}
-use Rattle.jsonb.proofs.Steps.Tests.{chosen}
+use Rattle.jsonb_scan.specs.Reading.Container.{Spot, adjacent_repeat, first_repeat, insert_spot, sort_spots, spot_cmp}
+use Rattle.jsonb_scan.proofs.Steps.Tests.{chosen}
 use Rattle.jsonb.proofs.Containers.Repeats.{AreSorted, IsLow, below, key_cmp, keys, new-below, other_key, same_key, sorted-sort}
 
 -- ---- how many spots pass a test

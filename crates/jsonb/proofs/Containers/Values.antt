@@ -16,18 +16,18 @@ use Rattle.jsonb_value.specs.Tree.{Mark, Member, Tree, put_all, trees_of}
 use Rattle.jsonb_value.specs.Tree.Members.{no_members}
 use Rattle.jsonb_value.specs.Tree.Tree.{array, null, object}
 use Rattle.jsonb_value.specs.Tree.Trees.{no_trees}
-use Rattle.jsonb.specs.Reading.{Fault, Read, begins, fault, on_byte, refused, ◌>>=◌}
-use Rattle.jsonb.specs.Reading.Blank.{is_blank_start, is_break, opens_comment, pass_blanks, skip_blanks}
-use Rattle.jsonb.specs.Reading.Container.{Found, Spot, after_key, array_at, element_at, elements_at, first_repeat, found_at, is_left_out, joined_at, member_at, member_of, members_at, object_at, object_or_fault, padded_at, spot_of, value_or_null}
-use Rattle.jsonb.specs.Reading.Document.{at_end, comment_at, document_from, document_of, nothing_at, too_deep, value_at, value_to_end, value_with}
-use Rattle.jsonb.specs.Reading.Scalar.{key_at, scalar_at}
-use Rattle.jsonb.proofs.Steps.Tests.{SameRead, bind_ok, chosen, refused_fails, same_ok, same_read}
-use Rattle.jsonb.proofs.Containers.JoinedParts.{IsComplete, IsOther, IsPartComplete, IsSound, IsSoundBefore, Spelled, Starts, ends-blanks, ends_at, joined-skip, joined_complete, joined_sound, length-joined, on_byte-none, on_byte-other, on_byte_cases, other, padded_complete, padded_sound, skip-padded}
+use Rattle.jsonb_scan.specs.Reading.{Fault, Read, begins, fault, on_byte, refused, ◌>>=◌}
+use Rattle.jsonb_scan.specs.Reading.Blank.{is_blank_start, is_break, opens_comment, pass_blanks, skip_blanks}
+use Rattle.jsonb_scan.specs.Reading.Container.{Found, Spot, after_key, array_at, element_at, elements_at, first_repeat, found_at, is_left_out, joined_at, member_at, member_of, members_at, object_at, object_or_fault, padded_at, spot_of, value_or_null}
+use Rattle.jsonb_scan.specs.Reading.Document.{at_end, comment_at, document_from, document_of, nothing_at, too_deep, value_at, value_to_end, value_with}
+use Rattle.jsonb_scan.specs.Reading.Scalar.{key_at, scalar_at}
+use Rattle.jsonb_scan.proofs.Steps.Tests.{SameRead, bind_ok, chosen, refused_fails, same_ok, same_read}
+use Rattle.jsonb_scan.proofs.Containers.JoinedParts.{IsComplete, IsOther, IsPartComplete, IsSound, IsSoundBefore, Spelled, Starts, ends-blanks, ends_at, joined-skip, joined_complete, joined_sound, length-joined, on_byte-none, on_byte-other, on_byte_cases, other, padded_complete, padded_sound, skip-padded}
 use Rattle.jsonb.proofs.Containers.Repeats.{distinct, no_repeat}
 use Rattle.jsonb.proofs.Scalars.Spellings.{Follows, IsNumberTree, key_complete, key_sound, scalar_complete, scalar_sound, scalar_starts}
 use Rattle.jsonb.proofs.Scalars.Spellings.Follows.{before}
-use Rattle.jsonb.proofs.Text.Comments.{begins_found}
-use Rattle.jsonb.proofs.Text.Blanks.{Passes, ends_all, ends_line, passes, skip-blanks, skip-skip, skip-stop, skips}
+use Rattle.jsonb_scan.proofs.Text.Comments.{begins_found}
+use Rattle.jsonb_scan.proofs.Text.Blanks.{Passes, ends_all, ends_line, passes, skip-blanks, skip-skip, skip-stop, skips}
 
 -- Each value is read, at the end of the text or where a byte follows that may follow.
 pub record IsValueComplete (Value : List ℕ → Tree → Type 0) (read : List ℕ → Read Tree) : Type 0 where

@@ -13,10 +13,11 @@ use Rattle.jsonb_value.specs.Mode.{Mode}
 use Rattle.jsonb_value.specs.Tree.{Tree}
 use Rattle.jsonb_value.specs.Tree.Tree.{null}
 use Rattle.jsonb.specs.AstView.{ast_view}
-use Rattle.jsonb.specs.Parser.{Advances, Gives, IsTextRefusal, mode_of, rest_of, size_of}
-use Rattle.jsonb.specs.Reading.{Fault, fault, ◌>>=◌}
-use Rattle.jsonb.specs.Reading.Blank.{opens_comment, pass_blanks}
-use Rattle.jsonb.specs.Reading.Document.{at_end, comment_at, document_from, document_of, value_at, value_to_end}
+use Rattle.jsonb_scan.specs.Answer.{Gives, IsTextRefusal, mode_of}
+use Rattle.jsonb.specs.Parser.{Advances, rest_of, size_of}
+use Rattle.jsonb_scan.specs.Reading.{Fault, fault, ◌>>=◌}
+use Rattle.jsonb_scan.specs.Reading.Blank.{opens_comment, pass_blanks}
+use Rattle.jsonb_scan.specs.Reading.Document.{at_end, comment_at, document_from, document_of, value_at, value_to_end}
 use Rattle.jsonb.specs.Refusals.{IsExplained}
 use Rattle.jsonb.proofs.Steps.Cursors.{nothing_left}
 use Rattle.jsonb.proofs.Documents.Spellings.{document_unique, refused_is_none}

@@ -9,7 +9,7 @@ use Rattle.jsonb_value.specs.Grammar.Scalar.IsLiteral.{false_word, null_word, tr
 use Rattle.jsonb_value.specs.Grammar.Scalar.IsScalar.{literal_value, number_value, string_value}
 use Rattle.jsonb_value.specs.Tree.{Tree}
 use Rattle.jsonb.specs.AstView.{IsContainer}
-use Rattle.jsonb.specs.Parser.{HoldsMarker}
+use Rattle.jsonb_scan.specs.Answer.{HoldsMarker}
 
 contains_at : (front : List ℕ) (b : ℕ) (more : List ℕ) → Contains (front ++ b ∷ more) b
 contains_at front b more = (length front, omega (arith, length-append front (b ∷ more)), get_or_at front b more b (length front) refl)

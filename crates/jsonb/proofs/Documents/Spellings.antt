@@ -16,14 +16,14 @@ use Rattle.jsonb_value.specs.Mode.{Mode}
 use Rattle.jsonb_value.specs.Mode.Mode.{extended}
 use Rattle.jsonb_value.specs.Tree.{Member, Tree}
 use Rattle.jsonb_value.specs.Tree.Tree.{null}
-use Rattle.jsonb.specs.Reading.{Fault, Read, fault, ◌>>=◌}
-use Rattle.jsonb.specs.Reading.Blank.{is_blank_start, opens_comment, pass_blanks}
-use Rattle.jsonb.specs.Reading.Document.{at_end, comment_at, document_from, document_of, nothing_at, value_at, value_to_end}
-use Rattle.jsonb.proofs.Steps.Tests.{same_ok, same_read}
-use Rattle.jsonb.proofs.Containers.JoinedParts.{Ends, ends-blank, ends_at, other}
+use Rattle.jsonb_scan.specs.Reading.{Fault, Read, fault, ◌>>=◌}
+use Rattle.jsonb_scan.specs.Reading.Blank.{is_blank_start, opens_comment, pass_blanks}
+use Rattle.jsonb_scan.specs.Reading.Document.{at_end, comment_at, document_from, document_of, nothing_at, value_at, value_to_end}
+use Rattle.jsonb_scan.proofs.Steps.Tests.{same_ok, same_read}
+use Rattle.jsonb_scan.proofs.Containers.JoinedParts.{Ends, ends-blank, ends_at, other}
 use Rattle.jsonb.proofs.Scalars.Spellings.{Follows, IsNumberTree}
 use Rattle.jsonb.proofs.Scalars.Spellings.Follows.{before, no_more}
-use Rattle.jsonb.proofs.Text.Blanks.{EndsPassed, all_passed, line_left, ends_passed, opens-stop, pass-blanks, pass-stop}
+use Rattle.jsonb_scan.proofs.Text.Blanks.{EndsPassed, all_passed, line_left, ends_passed, opens-stop, pass-blanks, pass-stop}
 use Rattle.jsonb.proofs.Containers.Values.{value_is_complete}
 
 follows-blanks : {mode : Mode} {after : List ℕ} (b : AreLastBlanks mode after) → Follows after

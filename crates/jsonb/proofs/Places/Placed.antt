@@ -20,7 +20,8 @@ use Rattle.jsonb.specs.declared.parser.value.Frame.{Frame}
 use Rattle.jsonb.specs.declared.parser.value.Frame.TheVariants as variants
 use Rattle.jsonb.specs.OpenPlaces.{AllIsPlaced, ArePartsBefore, ArrayIsOpen, FrameIsPlaced, FrameIsRead, IsLeftOut, LeftOut, MemberBegins, ObjectIsOpen, PartIsPlaced, PartIsRead, ReadIsPlaced, Skips, StackIsPlaced, StackIsRead, ValueIsRead, placed_of}
 use Rattle.jsonb.specs.OpenPlaces.ArePartsBefore.{no_parts, parts_and_comma}
-use Rattle.jsonb.specs.Parser.{Advances, mode_of, rest_of, size_of}
+use Rattle.jsonb_scan.specs.Answer.{mode_of}
+use Rattle.jsonb.specs.Parser.{Advances, rest_of, size_of}
 use Rattle.jsonb.specs.Placed.{AreElementsAt, AreMembersAt, Has, HasBlanks, HasByte, HasKey, IsElementAt, IsMemberAt, IsPlaced, IsValueAt, SourceKeysAscend, Placed, source_members_of, source_alone}
 use Rattle.jsonb.specs.Placed.AreElementsAt.{more_elements, one_element}
 use Rattle.jsonb.specs.Placed.AreMembersAt.{more_members, one_member}
@@ -28,18 +29,18 @@ use Rattle.jsonb.specs.Placed.IsElementAt.{empty_element, whole_element}
 use Rattle.jsonb.specs.Placed.IsMemberAt.{key_and_value}
 use Rattle.jsonb.specs.Placed.IsPlaced.{blanks_alone, value_alone}
 use Rattle.jsonb.specs.Placed.IsValueAt.{empty_array, empty_object, full_array, full_object, scalar}
-use Rattle.jsonb.specs.Reading.{begins}
-use Rattle.jsonb.specs.Reading.Blank.{opens_comment, pass_blanks, skip_blanks}
-use Rattle.jsonb.specs.Reading.Container.{SpotsAreSorted, Spot, adjacent_repeat, spot_of}
-use Rattle.jsonb.specs.Reading.Document.{at_end, comment_at}
-use Rattle.jsonb.specs.Reading.Scalar.{key_at, scalar_at}
+use Rattle.jsonb_scan.specs.Reading.{begins}
+use Rattle.jsonb_scan.specs.Reading.Blank.{opens_comment, pass_blanks, skip_blanks}
+use Rattle.jsonb_scan.specs.Reading.Container.{SpotsAreSorted, Spot, adjacent_repeat, spot_of}
+use Rattle.jsonb_scan.specs.Reading.Document.{at_end, comment_at}
+use Rattle.jsonb_scan.specs.Reading.Scalar.{key_at, scalar_at}
 use Rattle.jsonb.specs.Source.{Source, array_source, null_source, object_source, source_members_view, source_view, sources_view, SourceMembers}
 use Rattle.jsonb.specs.Source.SourceMembers.{more_source_members}
 use Rattle.jsonb.proofs.Steps.Cursors.{nothing_left}
 use Rattle.jsonb.proofs.Containers.Members.{spots}
 use Rattle.jsonb.proofs.Scalars.Spellings.{key_sound, scalar_sound}
 use Rattle.jsonb.proofs.Steps.Advancing.{goes_on}
-use Rattle.jsonb.proofs.Text.Blanks.{ends_all, opens-nil, passes, skip-blanks, skip-skip, skip-stop, skips}
+use Rattle.jsonb_scan.proofs.Text.Blanks.{ends_all, opens-nil, passes, skip-blanks, skip-skip, skip-stop, skips}
 use Rattle.jsonb.proofs.Containers.Values.{comment_ends, ended}
 use Rattle.jsonb.proofs.Containers.Repeats.{below}
 

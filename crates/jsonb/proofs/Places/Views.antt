@@ -7,7 +7,7 @@ use Rattle.jsonb_value.specs.Tree.{Tree, put_all, trees_of}
 use Rattle.jsonb_value.specs.Tree.Members.{no_members}
 use Rattle.jsonb_value.specs.Tree.Tree.{array, null, object}
 use Rattle.jsonb.specs.AstView.{ast_view, found_from, found_of}
-use Rattle.jsonb.specs.Reading.Container.{member_of}
+use Rattle.jsonb_scan.specs.Reading.Container.{member_of}
 
 pub view-Null : ast_view ast.Null ≡ null
 view-Null = search (rules, the_lemmas)

@@ -12,21 +12,21 @@ use Rattle.jsonb_value.specs.Tree.{Mark, Member, Tree, put_all, trees_of}
 use Rattle.jsonb_value.specs.Tree.Members.{no_members}
 use Rattle.jsonb_value.specs.Tree.Tree.{array, null, object}
 use Rattle.jsonb_value.specs.Tree.Trees.{no_trees}
-use Rattle.jsonb.specs.Reading.{Fault, Read, begins, on_byte, refused, ◌>>=◌}
-use Rattle.jsonb.specs.Reading.Blank.{skip_blanks}
-use Rattle.jsonb.specs.Reading.Container.{Found, Spot, after_key, after_part, array_at, element_at, elements_at, first_repeat, found_at, is_left_out, joined_at, member_at, member_of, members_at, object_at, object_or_fault, padded_at, spot_of, value_or_null}
-use Rattle.jsonb.specs.Reading.Document.{too_deep, value_at, value_with}
-use Rattle.jsonb.specs.Reading.Scalar.{key_at, scalar_at}
+use Rattle.jsonb_scan.specs.Reading.{Fault, Read, begins, on_byte, refused, ◌>>=◌}
+use Rattle.jsonb_scan.specs.Reading.Blank.{skip_blanks}
+use Rattle.jsonb_scan.specs.Reading.Container.{Found, Spot, after_key, after_part, array_at, element_at, elements_at, first_repeat, found_at, is_left_out, joined_at, member_at, member_of, members_at, object_at, object_or_fault, padded_at, spot_of, value_or_null}
+use Rattle.jsonb_scan.specs.Reading.Document.{too_deep, value_at, value_with}
+use Rattle.jsonb_scan.specs.Reading.Scalar.{key_at, scalar_at}
 use Rattle.jsonb.specs.Refusals.{ArePassed, IsFront, IsSpelling, Repeats}
 use Rattle.jsonb.specs.Refusals.ArePassed.{no_parts, part_passed}
 use Rattle.jsonb.specs.Refusals.IsFront.{front_of_blanks, in_array, in_object}
-use Rattle.jsonb.proofs.Steps.Tests.{chosen}
+use Rattle.jsonb_scan.proofs.Steps.Tests.{chosen}
 use Rattle.jsonb.proofs.Refusals.Codes.{IsTold, bind_err, same_err, silent_fault, silent_refused}
 use Rattle.jsonb.proofs.Containers.KeyPlaces.{laid_repeats, members_laid}
-use Rattle.jsonb.proofs.Containers.JoinedParts.{IsSound, IsSoundBefore, joined-skip, on_byte_cases, padded_sound}
+use Rattle.jsonb_scan.proofs.Containers.JoinedParts.{IsSound, IsSoundBefore, joined-skip, on_byte_cases, padded_sound}
 use Rattle.jsonb.proofs.Refusals.OfScalars.{NotCarried, WrongScalar, key_silent, scalar_refused, scalar_some}
 use Rattle.jsonb.proofs.Scalars.Spellings.{key_sound}
-use Rattle.jsonb.proofs.Text.Blanks.{length-skip, skip-skip, skips}
+use Rattle.jsonb_scan.proofs.Text.Blanks.{length-skip, skip-skip, skips}
 use Rattle.jsonb.proofs.Containers.Values.{element_sound, member_sound, value_sound}
 
 -- ---- fronts

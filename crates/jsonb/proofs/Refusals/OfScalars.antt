@@ -14,21 +14,21 @@ use Rattle.jsonb_value.specs.Grammar.Scalar.IsScalar.{literal_value, number_valu
 use Rattle.jsonb_value.specs.Grammar.StringBody.{Item, escaped_byte, meaning, spelling}
 use Rattle.jsonb_value.specs.Tree.{Mark, plain, Num, Tree}
 use Rattle.jsonb_value.specs.Tree.Tree.{boolean, null, number, string}
-use Rattle.jsonb.specs.Reading.{Fault, Read, begins, fault, fault_at, refused}
-use Rattle.jsonb.specs.Reading.BareKey.{bare_key_at, key_end, key_to, text_key}
-use Rattle.jsonb.specs.Reading.Scalar.{begins_letter, begins_number, false_at, folded, key_at, letters_at, null_at, number_at, number_or_fault, number_value_at, on_single_quote, or_else, quoted_at, scalar_at, true_or_false_at, unquoted_at, word_at, words_at}
-use Rattle.jsonb.specs.Reading.String.{Body, body_of, checked_unit, closed, decoded, escape_at, item_at, items_within, known_escape, meaning_of, non_digit, onto, quote_end, string_at, then_items, unit_at}
+use Rattle.jsonb_scan.specs.Reading.{Fault, Read, begins, fault, fault_at, refused}
+use Rattle.jsonb_scan.specs.Reading.BareKey.{bare_key_at, key_end, key_to, text_key}
+use Rattle.jsonb_scan.specs.Reading.Scalar.{begins_letter, begins_number, false_at, folded, key_at, letters_at, null_at, number_at, number_or_fault, number_value_at, on_single_quote, or_else, quoted_at, scalar_at, true_or_false_at, unquoted_at, word_at, words_at}
+use Rattle.jsonb_scan.specs.Reading.String.{Body, body_of, checked_unit, closed, decoded, escape_at, item_at, items_within, known_escape, meaning_of, non_digit, onto, quote_end, string_at, then_items, unit_at}
 use Rattle.jsonb.specs.Refusals.{IsNumberSpelling}
-use Rattle.jsonb.proofs.Steps.Tests.{bind_ok, chosen, same_read}
+use Rattle.jsonb_scan.proofs.Steps.Tests.{bind_ok, chosen, same_read}
 use Rattle.jsonb.proofs.Refusals.Codes.{IsTold, bind_err, same_err, silent_fault, silent_refused}
-use Rattle.jsonb.proofs.Containers.JoinedParts.{on_byte_cases}
-use Rattle.jsonb.proofs.Numbers.Extended.{ExtendedFault, ExtendedUncarried, extended_faults, extended_sound}
-use Rattle.jsonb.proofs.Numbers.Extended.ExtendedFault.{no_text, uncarried_text}
-use Rattle.jsonb.proofs.Numbers.ExtendedParts.{extended_is_text}
-use Rattle.jsonb.proofs.Numbers.ExtendedTexts.{IsNumberCode}
+use Rattle.jsonb_scan.proofs.Containers.JoinedParts.{on_byte_cases}
+use Rattle.jsonb_scan.proofs.Numbers.Extended.{ExtendedFault, ExtendedUncarried, extended_faults, extended_sound}
+use Rattle.jsonb_scan.proofs.Numbers.Extended.ExtendedFault.{no_text, uncarried_text}
+use Rattle.jsonb_scan.proofs.Numbers.ExtendedParts.{extended_is_text}
+use Rattle.jsonb_scan.proofs.Numbers.ExtendedTexts.{IsNumberCode}
 use Rattle.jsonb.proofs.Scalars.Spellings.{IsNumberTree, StartsWord, number_opens, on_letter_cases, quote_is, quoted_starts, scalar-number, scalar_complete, single_cases, word_starts}
-use Rattle.jsonb.proofs.Numbers.Standard.{FaultRead, UncarriedRead, number_faults, number_longest, standard_is_text}
-use Rattle.jsonb.proofs.Numbers.Standard.FaultRead.{no_number, not_carried}
+use Rattle.jsonb_scan.proofs.Numbers.Standard.{FaultRead, UncarriedRead, number_faults, number_longest, standard_is_text}
+use Rattle.jsonb_scan.proofs.Numbers.Standard.FaultRead.{no_number, not_carried}
 
 -- ---- words, strings and keys are silent
 

@@ -14,20 +14,20 @@ use Rattle.jsonb_value.specs.Mode.Mode.{extended, standard}
 use Rattle.jsonb_value.specs.Grammar.Scalar.{IsScalar}
 use Rattle.jsonb_value.specs.Tree.{Tree}
 use Rattle.jsonb_value.specs.Tree.Tree.{null}
-use Rattle.jsonb.specs.Reading.{Fault, Read, begins, fault, on_byte}
-use Rattle.jsonb.specs.Reading.Blank.{opens_comment, pass_blanks, skip_blanks}
-use Rattle.jsonb.specs.Reading.Container.{array_at, object_at}
-use Rattle.jsonb.specs.Reading.Document.{at_end, comment_at, document_from, document_of, nothing_at, too_deep, value_at, value_to_end, value_with}
-use Rattle.jsonb.specs.Reading.Scalar.{scalar_at}
+use Rattle.jsonb_scan.specs.Reading.{Fault, Read, begins, fault, on_byte}
+use Rattle.jsonb_scan.specs.Reading.Blank.{opens_comment, pass_blanks, skip_blanks}
+use Rattle.jsonb_scan.specs.Reading.Container.{array_at, object_at}
+use Rattle.jsonb_scan.specs.Reading.Document.{at_end, comment_at, document_from, document_of, nothing_at, too_deep, value_at, value_to_end, value_with}
+use Rattle.jsonb_scan.specs.Reading.Scalar.{scalar_at}
 use Rattle.jsonb.specs.Refusals.{IsFront, Stands, Trails}
-use Rattle.jsonb.proofs.Steps.Tests.{chosen, same_read}
+use Rattle.jsonb_scan.proofs.Steps.Tests.{chosen, same_read}
 use Rattle.jsonb.proofs.Refusals.Codes.{IsTold, bind_err, same_err, silent_fault}
-use Rattle.jsonb.proofs.Containers.JoinedParts.{Ends, Starts, ends-blank, ends_at, on_byte-other, skip-starts, starts-append}
+use Rattle.jsonb_scan.proofs.Containers.JoinedParts.{Ends, Starts, ends-blank, ends_at, on_byte-other, skip-starts, starts-append}
 use Rattle.jsonb.proofs.Refusals.Explained.{Wrong, stops_after_blanks, value_explains}
 use Rattle.jsonb.proofs.Refusals.OfScalars.{scalar_longest}
 use Rattle.jsonb.proofs.Scalars.Spellings.{Follows, IsNumberTree, scalar_starts}
 use Rattle.jsonb.proofs.Scalars.Spellings.Follows.{before}
-use Rattle.jsonb.proofs.Text.Blanks.{last_within, length-pass, length-past, length-skip, pass-pass, passes, skip-blank, skip-blanks, skip-nil, skip-passed, skip-skip, skips}
+use Rattle.jsonb_scan.proofs.Text.Blanks.{last_within, length-pass, length-past, length-skip, pass-pass, passes, skip-blank, skip-blanks, skip-nil, skip-passed, skip-skip, skips}
 use Rattle.jsonb.proofs.Containers.Values.{value_is_complete, value_sound}
 
 -- ---- where a value is due

@@ -15,19 +15,19 @@ use Rattle.jsonb_value.specs.Grammar.Scalar.IsScalar.{literal_value, number_valu
 use Rattle.jsonb_value.specs.Grammar.StandardNumber.{IsExponentMark}
 use Rattle.jsonb_value.specs.Tree.{Mark, plain, Num, Tree}
 use Rattle.jsonb_value.specs.Tree.Tree.{boolean, null, number, string}
-use Rattle.jsonb.specs.Reading.{Fault, Read, begins, on_byte, refused, ◌>>=◌}
-use Rattle.jsonb.specs.Reading.BareKey.{bare_key_at, key_step}
-use Rattle.jsonb.specs.Reading.Blank.{is_blank_start, is_break}
-use Rattle.jsonb.specs.Reading.ExtendedNumber.{EndsExtended, GoesOnExtended}
-use Rattle.jsonb.specs.Reading.Number.{EndsNumber, GoesOn, is_number_start}
-use Rattle.jsonb.specs.Reading.Scalar.{begins_letter, begins_number, false_at, folded, key_at, letters_at, null_at, number_at, number_or_fault, number_value_at, on_letter, on_single_quote, or_else, quoted_at, scalar_at, true_or_false_at, unquoted_at, word_at, words_at}
-use Rattle.jsonb.specs.Reading.String.{string_at}
-use Rattle.jsonb.proofs.Strings.BareKeys.{bare_complete, bare_sound, bare_starts, break_stops}
-use Rattle.jsonb.proofs.Steps.Tests.{bind_ok, chosen, refused_fails, same_read}
-use Rattle.jsonb.proofs.Numbers.Extended.{OpensNumber, extended_complete, extended_sound, extended_starts, opens_extended}
-use Rattle.jsonb.proofs.Containers.JoinedParts.{Ends, IsComplete, IsSound, Spelled, Starts, break_is, on_byte-found, on_byte-other, on_byte_cases}
-use Rattle.jsonb.proofs.Numbers.Standard.{number_complete, number_sound, number_starts}
-use Rattle.jsonb.proofs.Strings.Ends.{string_complete, string_sound}
+use Rattle.jsonb_scan.specs.Reading.{Fault, Read, begins, on_byte, refused, ◌>>=◌}
+use Rattle.jsonb_scan.specs.Reading.BareKey.{bare_key_at, key_step}
+use Rattle.jsonb_scan.specs.Reading.Blank.{is_blank_start, is_break}
+use Rattle.jsonb_scan.specs.Reading.ExtendedNumber.{EndsExtended, GoesOnExtended}
+use Rattle.jsonb_scan.specs.Reading.Number.{EndsNumber, GoesOn, is_number_start}
+use Rattle.jsonb_scan.specs.Reading.Scalar.{begins_letter, begins_number, false_at, folded, key_at, letters_at, null_at, number_at, number_or_fault, number_value_at, on_letter, on_single_quote, or_else, quoted_at, scalar_at, true_or_false_at, unquoted_at, word_at, words_at}
+use Rattle.jsonb_scan.specs.Reading.String.{string_at}
+use Rattle.jsonb_scan.proofs.Strings.BareKeys.{bare_complete, bare_sound, bare_starts, break_stops}
+use Rattle.jsonb_scan.proofs.Steps.Tests.{bind_ok, chosen, refused_fails, same_read}
+use Rattle.jsonb_scan.proofs.Numbers.Extended.{OpensNumber, extended_complete, extended_sound, extended_starts, opens_extended}
+use Rattle.jsonb_scan.proofs.Containers.JoinedParts.{Ends, IsComplete, IsSound, Spelled, Starts, break_is, on_byte-found, on_byte-other, on_byte_cases}
+use Rattle.jsonb_scan.proofs.Numbers.Standard.{number_complete, number_sound, number_starts}
+use Rattle.jsonb_scan.proofs.Strings.Ends.{string_complete, string_sound}
 use Rattle.jsonb_value.proofs.Trees.TextsReadBack.{double_quote}
 
 -- The text is empty, or begins with a byte that may follow a value.

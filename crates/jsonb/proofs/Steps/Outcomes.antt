@@ -9,11 +9,12 @@ use Rattle.jsonb_value.specs.Tree.{Tree}
 use Rattle.jsonb_value.specs.Tree.Tree.{boolean}
 use Rattle.jsonb_value.specs.View.{view}
 use Rattle.jsonb_value.specs.declared.value.Value.{Value}
-use Rattle.jsonb.specs.Parser.{Advances, Fails, mode_of, rest_of, size_of}
-use Rattle.jsonb.specs.Reading.{Fault, begins, ◌>>=◌}
-use Rattle.jsonb.specs.Reading.Scalar.{begins_letter, begins_single_quote, false_at, key_at, null_at, number_or_fault, on_single_quote, quoted_at, scalar_at, true_or_false_at, unquoted_at, word_at, words_at}
-use Rattle.jsonb.specs.Reading.String.{string_at}
-use Rattle.jsonb.proofs.Containers.JoinedParts.{on_byte-found, on_byte-none}
+use Rattle.jsonb_scan.specs.Answer.{Fails, mode_of}
+use Rattle.jsonb.specs.Parser.{Advances, rest_of, size_of}
+use Rattle.jsonb_scan.specs.Reading.{Fault, begins, ◌>>=◌}
+use Rattle.jsonb_scan.specs.Reading.Scalar.{begins_letter, begins_single_quote, false_at, key_at, null_at, number_or_fault, on_single_quote, quoted_at, scalar_at, true_or_false_at, unquoted_at, word_at, words_at}
+use Rattle.jsonb_scan.specs.Reading.String.{string_at}
+use Rattle.jsonb_scan.proofs.Containers.JoinedParts.{on_byte-found, on_byte-none}
 use Rattle.jsonb.proofs.Steps.Advancing.{single-false, single-true}
 
 -- a fault of the first step is one of the whole

@@ -3,17 +3,15 @@ ghost use Rattle.std.specs.Prelude.{◌≡◌, ◌≢◌, ◌<◌, IfOk, IfErr, 
 ghost use Rattle.jsonb_value.specs.Grammar.{IsDocument, IsNoDocument};
 ghost use Rattle.jsonb_value.specs.Tree.{Tree};
 ghost use Rattle.jsonb.specs.AstView.{ast_view};
-ghost use Rattle.jsonb.specs.Parser.{mode_of, IsTextRefusal, Gives, HoldsMarker};
+ghost use Rattle.jsonb_scan.specs.Answer.{mode_of, IsTextRefusal, Gives, HoldsMarker};
 ghost use Rattle.jsonb.specs.Placed.{IsPlaced};
-ghost use Rattle.jsonb.specs.Reading.Document.{document_of};
+ghost use Rattle.jsonb_scan.specs.Reading.Document.{document_of};
 ghost use Rattle.jsonb.specs.Refusals.{IsExplained};
 ghost use Rattle.jsonb.specs.Source.{source_view};
 
 mod clone;
 mod equality;
 mod into_value;
-#[cfg(test)]
-mod tests;
 
 use super::{Mode, Parser};
 use jsonb_value::error::{Error, Result};

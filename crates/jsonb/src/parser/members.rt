@@ -3,9 +3,9 @@ ghost use Rattle.std.specs.Prelude.{◌≡◌, ◌+◌, ◌<◌, IfOk, Err, map,
 ghost use Rattle.jsonb_value.specs.Mode.{Mode as GrammarMode};
 ghost use Rattle.jsonb.specs.AstView.{ast_view, found_of};
 ghost use Rattle.jsonb.specs.OpenPlaces.{placed_of};
-ghost use Rattle.jsonb.specs.Parser.{Gives};
+ghost use Rattle.jsonb_scan.specs.Answer.{Gives};
 ghost use Rattle.jsonb.specs.Placed.{AreMembersAt, HasByte, IsValueAt};
-ghost use Rattle.jsonb.specs.Reading.Container.{first_repeat, spot_of, spot_cmp, object_or_fault, SpotsAreSorted};
+ghost use Rattle.jsonb_scan.specs.Reading.Container.{first_repeat, spot_of, spot_cmp, object_or_fault, SpotsAreSorted};
 ghost use Rattle.jsonb.specs.Source.{source_view};
 
 use super::JsonAst;

@@ -3,9 +3,10 @@ ghost use Rattle.std.specs.Prelude.{◌≡◌, ◌≢◌, ◌<◌, ◌≤◌, �
 ghost use Rattle.jsonb_value.specs.Mode.{standard};
 ghost use Rattle.jsonb_value.specs.View.{number_view};
 ghost use Rattle.jsonb.specs.AstView.{ast_view};
-ghost use Rattle.jsonb.specs.Parser.{rest_of, size_of, mode_of, Advances, Gives, ReadsAs};
+ghost use Rattle.jsonb_scan.specs.Answer.{mode_of, Gives};
+ghost use Rattle.jsonb.specs.Parser.{rest_of, size_of, Advances, ReadsAs};
 ghost use Rattle.jsonb.specs.Placed.{source_alone};
-ghost use Rattle.jsonb.specs.Reading.Scalar.{begins_letter, begins_number, begins_single_quote, folded, letters_at, null_at, number_at, number_value_at, word_at, quoted_at, number_or_fault, scalar_at, other_scalar_at, words_at};
+ghost use Rattle.jsonb_scan.specs.Reading.Scalar.{begins_letter, begins_number, begins_single_quote, folded, letters_at, null_at, number_at, number_value_at, word_at, quoted_at, number_or_fault, scalar_at, other_scalar_at, words_at};
 ghost use Rattle.jsonb.specs.Source.{source_view};
 
 use super::{JsonAst, Mode, Parser};

@@ -7,11 +7,12 @@ ghost use Rattle.jsonb_value.specs.Tree.{Tree};
 ghost use Rattle.jsonb_value.specs.View.{mark_view};
 ghost use Rattle.jsonb.specs.AstView.{ast_view};
 ghost use Rattle.jsonb.specs.OpenPlaces.{AllIsPlaced, FrameIsPlaced, FrameIsRead, KeepsPlaces, LeftOut, MemberBegins, OpensContainer, PartIsPlaced, PartIsRead, Skips, StackIsRead};
-ghost use Rattle.jsonb.specs.Parser.{rest_of, size_of, mode_of, Advances, Gives, ReadsAs, HoldsMarker, read_at};
+ghost use Rattle.jsonb_scan.specs.Answer.{mode_of, Gives, HoldsMarker};
+ghost use Rattle.jsonb.specs.Parser.{rest_of, size_of, Advances, ReadsAs, read_at};
 ghost use Rattle.jsonb.specs.Placed.{HasByte, IsValueAt};
-ghost use Rattle.jsonb.specs.Reading.{begins};
-ghost use Rattle.jsonb.specs.Reading.Container.{is_left_out};
-ghost use Rattle.jsonb.specs.Reading.Document.{value_at};
+ghost use Rattle.jsonb_scan.specs.Reading.{begins};
+ghost use Rattle.jsonb_scan.specs.Reading.Container.{is_left_out};
+ghost use Rattle.jsonb_scan.specs.Reading.Document.{value_at};
 ghost use Rattle.jsonb.specs.Source.{source_view};
 ghost use Rattle.jsonb.specs.Stack.{elements_from, element_from, member_start, array_within, object_within, open_of, add_part, next_part_at, PartBegins, depth_in, resumed, rest_from, ahead, Continues};
 

@@ -5,15 +5,16 @@ ghost use Rattle.jsonb_value.specs.Tree.{Mark};
 ghost use Rattle.jsonb_value.specs.Tree.Mark.{plain};
 ghost use Rattle.jsonb_value.specs.View.{view, mark_view};
 ghost use Rattle.jsonb.specs.Direct.{Pushes, PutsIn};
-ghost use Rattle.jsonb.specs.Parser.{rest_of, size_of, mode_of, Advances, FindsAs, read_at};
-ghost use Rattle.jsonb.specs.Reading.Blank.{skip_blanks};
-ghost use Rattle.jsonb.specs.Reading.Scalar.{scalar_at, other_scalar_at, words_at, key_at};
-ghost use Rattle.jsonb.specs.Reading.String.{string_at};
+ghost use Rattle.jsonb_scan.specs.Answer.{mode_of};
+ghost use Rattle.jsonb.specs.Parser.{rest_of, size_of, Advances, FindsAs, read_at};
+ghost use Rattle.jsonb_scan.specs.Reading.Blank.{skip_blanks};
+ghost use Rattle.jsonb_scan.specs.Reading.Scalar.{scalar_at, other_scalar_at, words_at, key_at};
+ghost use Rattle.jsonb_scan.specs.Reading.String.{string_at};
 ghost use Rattle.jsonb.specs.Stack.{member_start};
 
 use super::insert_new;
 use crate::parser::Parser;
-use crate::parser::string::next_mark;
+use jsonb_scan::parser::string::next_mark;
 use jsonb_value::value::{Object, Value};
 use std::borrow::CowStr;
 

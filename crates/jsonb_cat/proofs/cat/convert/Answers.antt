@@ -9,9 +9,9 @@ use Rattle.jsonb_value.specs.declared.error.Error.TheVariants.{OutOfMemory}
 use Rattle.jsonb_value.specs.Tree.{Tree}
 use Rattle.jsonb_value.specs.View.{view}
 use Rattle.jsonb_value.specs.declared.value.Value.{Value}
-use Rattle.jsonb.specs.Parser.{mode_of}
-use Rattle.jsonb.specs.declared.parser.Mode.{Mode}
-use Rattle.jsonb.specs.declared.parser.Mode.TheVariants.{Standard, Extended}
+use Rattle.jsonb_scan.specs.Answer.{mode_of}
+use Rattle.jsonb_scan.specs.declared.parser.Mode.{Mode}
+use Rattle.jsonb_scan.specs.declared.parser.Mode.TheVariants.{Standard, Extended}
 use Rattle.jsonb_cat.specs.Program.{IsLineOf, LacksRoom}
 use Rattle.jsonb_cat.proofs.LinesAgain.{appended_again}
 use Rattle.jsonb_cat.proofs.TextOfDocument.{document_has_text}

@@ -1,6 +1,7 @@
 use Rattle.std.proofs.Common.{◌≡◌, ◌+◌, false, [], ◌∷◌, ◌++◌, Some, drop, map, ap, sym, ◌∙◌, arith, subst}
-use Rattle.jsonb.specs.Parser.{rest_of, mode_of}
-use Rattle.jsonb.specs.Reading.{begins}
+use Rattle.jsonb_scan.specs.Answer.{mode_of}
+use Rattle.jsonb.specs.Parser.{rest_of}
+use Rattle.jsonb_scan.specs.Reading.{begins}
 use Rattle.jsonb.proofs.Steps.Advancing.{goes_on}
 use Rattle.jsonb.proofs.Containers.OpenOfReader.{array_entered}
 use Rattle.jsonb.specs.declared.parser.ast.JsonAst as ast
@@ -8,7 +9,7 @@ use Rattle.jsonb.specs.declared.parser.value.Frame.TheVariants as variants
 use Rattle.jsonb.specs.OpenPlaces.{AllIsPlaced, ArePartsBefore, ArrayIsOpen, LeftOut, Skips}
 use Rattle.jsonb.specs.OpenPlaces.ArePartsBefore.{no_parts}
 use Rattle.jsonb.specs.Placed.{AreElementsAt, IsValueAt}
-use Rattle.jsonb.specs.Reading.Blank.{skip_blanks}
+use Rattle.jsonb_scan.specs.Reading.Blank.{skip_blanks}
 use Rattle.jsonb.specs.Source.{source_view}
 use Rattle.jsonb.proofs.Places.Placed.{earlier, element_begun, empty_array_placed, empty_closed, later, part_pushed, skip_made, skip_twice, value_any}
 use Rattle.jsonb.proofs.parser.Parser.begin_array.Goals as goal

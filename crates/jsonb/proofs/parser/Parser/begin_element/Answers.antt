@@ -1,8 +1,9 @@
 use Rattle.std.proofs.Common.{sym, ap, ◌∙◌}
 use Rattle.jsonb_value.specs.Tree.Tree.{null}
-use Rattle.jsonb.specs.Parser.{mode_of, rest_of, size_of}
-use Rattle.jsonb.specs.Reading.{◌>>=◌}
-use Rattle.jsonb.specs.Reading.Document.{value_at}
+use Rattle.jsonb_scan.specs.Answer.{mode_of}
+use Rattle.jsonb.specs.Parser.{rest_of, size_of}
+use Rattle.jsonb_scan.specs.Reading.{◌>>=◌}
+use Rattle.jsonb_scan.specs.Reading.Document.{value_at}
 use Rattle.jsonb.specs.Stack.{finish_open}
 use Rattle.jsonb.specs.Stack.Open.{elements_so_far}
 use Rattle.jsonb.proofs.Containers.OpenOnLists.{element-due, element-left_out}

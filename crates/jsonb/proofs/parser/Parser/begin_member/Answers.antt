@@ -3,7 +3,8 @@ use Rattle.std.proofs.Common.{◌≡◌, ℕ, List, arith, ap, ◌<◌, length, 
 use Rattle.jsonb_value.specs.Tree.{Mark}
 use Rattle.jsonb_value.specs.View.{mark_view}
 use Rattle.jsonb.specs.OpenPlaces.{Skips}
-use Rattle.jsonb.specs.Parser.{mode_of, size_of}
+use Rattle.jsonb_scan.specs.Answer.{mode_of}
+use Rattle.jsonb.specs.Parser.{size_of}
 use Rattle.jsonb.specs.Placed.{HasByte, HasKey}
 use Rattle.jsonb.proofs.Places.Placed.{byte_has, earlier, key_has, next_index, skip_made, skipped}
 use Rattle.jsonb.proofs.Steps.Advancing.{goes_on}

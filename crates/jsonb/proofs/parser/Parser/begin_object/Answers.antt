@@ -1,7 +1,8 @@
 use Rattle.std.proofs.Common.{◌≡◌, ◌+◌, ℕ, List, [], ◌∷◌, ◌++◌, None, Some, map, ap, refl, sym, ◌∙◌, arith, subst}
 use Rattle.std.proofs.lemmas.Result.{err_from_is_err_and}
-use Rattle.jsonb.specs.Parser.{rest_of, mode_of}
-use Rattle.jsonb.specs.Reading.{begins}
+use Rattle.jsonb_scan.specs.Answer.{mode_of}
+use Rattle.jsonb.specs.Parser.{rest_of}
+use Rattle.jsonb_scan.specs.Reading.{begins}
 use Rattle.jsonb.proofs.Steps.Advancing.{goes_on}
 use Rattle.jsonb.proofs.Containers.OpenOfReader.{object_entered, object_fails}
 use Rattle.std.specs.Cow.{cow_str_bytes}

@@ -1,9 +1,10 @@
 use Rattle.std.proofs.Common.{Result, OnOk, Err, inl, inr, ◌≡◌, ◌<◌, ap, sym, ◌∙◌, subst, None, Some, Ok}
 use Rattle.std.proofs.lemmas.Result.{err_from_is_err_and}
 use Rattle.jsonb.specs.AstView.{ast_view}
-use Rattle.jsonb.specs.Parser.{mode_of, rest_of, size_of}
-use Rattle.jsonb.specs.Reading.{begins}
-use Rattle.jsonb.specs.Reading.Scalar.{scalar_at}
+use Rattle.jsonb_scan.specs.Answer.{mode_of}
+use Rattle.jsonb.specs.Parser.{rest_of, size_of}
+use Rattle.jsonb_scan.specs.Reading.{begins}
+use Rattle.jsonb_scan.specs.Reading.Scalar.{scalar_at}
 use Rattle.jsonb.specs.Stack.{ahead, depth_in, resume, resumed, stack_of}
 use Rattle.jsonb.proofs.Steps.Advancing.{goes_on, contains_next}
 use Rattle.jsonb.proofs.Steps.Outcomes.{fails_same, fails_through}

@@ -2,8 +2,9 @@ use Rattle.std.proofs.Common.{◌≡◌, ◌<◌, [], ◌∷◌, ◌++◌, lengt
 use Rattle.std.proofs.lemmas.Result.{err_from_is_err_and}
 use Rattle.jsonb_value.specs.Code.Code.{expected_array_comma_or_end, expected_object_comma_or_end}
 use Rattle.jsonb.specs.AstView.{found_of}
-use Rattle.jsonb.specs.Parser.{mode_of, rest_of, size_of}
-use Rattle.jsonb.specs.Reading.{fault_at}
+use Rattle.jsonb_scan.specs.Answer.{mode_of}
+use Rattle.jsonb.specs.Parser.{rest_of, size_of}
+use Rattle.jsonb_scan.specs.Reading.{fault_at}
 use Rattle.jsonb.specs.Stack.{depth_in, object_end, rest_from, resume, resumed, stack_of}
 use Rattle.jsonb.proofs.Steps.Outcomes.{fails_same, fails_through}
 use Rattle.jsonb.proofs.Steps.Advancing.{fails}

@@ -2,8 +2,9 @@ use Rattle.std.proofs.Common.{◌≡◌, length, sym, subst, ◌∙◌, ap, arit
 use Rattle.std.proofs.lemmas.Grind.{common_steps}
 use Rattle.jsonb_value.specs.Grammar.{max_depth}
 use Rattle.jsonb.specs.Direct.{IsAhead}
-use Rattle.jsonb.specs.Parser.{mode_of, rest_of, size_of}
-use Rattle.jsonb.specs.Reading.Document.{value_at}
+use Rattle.jsonb_scan.specs.Answer.{mode_of}
+use Rattle.jsonb.specs.Parser.{rest_of, size_of}
+use Rattle.jsonb_scan.specs.Reading.Document.{value_at}
 use Rattle.jsonb.proofs.Containers.OpenOfDirect.{ended, outermost, outermost_due}
 use Rattle.jsonb.proofs.Steps.Advancing.{goes_on}
 use Rattle.jsonb.proofs.parser.Parser.direct_container.Goals as goal

@@ -1,8 +1,9 @@
 use Rattle.std.proofs.Common.{◌-◌, ◌≤◌, length}
 use Rattle.jsonb_value.specs.Grammar.{max_depth}
 use Rattle.jsonb.specs.Direct.{IsAhead}
-use Rattle.jsonb.specs.Parser.{Advances, mode_of, rest_of, size_of}
-use Rattle.jsonb.specs.Reading.Document.{value_at}
+use Rattle.jsonb_scan.specs.Answer.{mode_of}
+use Rattle.jsonb.specs.Parser.{Advances, rest_of, size_of}
+use Rattle.jsonb_scan.specs.Reading.Document.{value_at}
 use Rattle.jsonb.proofs.parser.Parser.direct_container.Given as goal
 
 -- what is read of the whole is what is left to read inside of the open containers

@@ -1,10 +1,11 @@
 use Rattle.std.proofs.Common.{ℕ, ◌-◌, List, ◌∷◌, Ok, length, string_bytes, ap, sym, ◌∙◌}
 use Rattle.jsonb_value.specs.Code.Code.{expected_colon}
 use Rattle.jsonb_value.specs.Tree.{Mark}
-use Rattle.jsonb.specs.Parser.{mode_of, rest_of, size_of}
-use Rattle.jsonb.specs.Reading.{Read, on_byte, refused, ◌>>=◌}
-use Rattle.jsonb.specs.Reading.Blank.{skip_blanks}
-use Rattle.jsonb.proofs.Containers.JoinedParts.{on_byte-found}
+use Rattle.jsonb_scan.specs.Answer.{mode_of}
+use Rattle.jsonb.specs.Parser.{rest_of, size_of}
+use Rattle.jsonb_scan.specs.Reading.{Read, on_byte, refused, ◌>>=◌}
+use Rattle.jsonb_scan.specs.Reading.Blank.{skip_blanks}
+use Rattle.jsonb_scan.proofs.Containers.JoinedParts.{on_byte-found}
 use Rattle.jsonb.proofs.Steps.Advancing.{goes_on}
 use Rattle.jsonb.proofs.parser.Parser.direct_key.Goals as goal
 

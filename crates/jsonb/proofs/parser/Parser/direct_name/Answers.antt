@@ -1,9 +1,10 @@
 use Rattle.std.proofs.Common.{◌≡◌, List, ℕ, ◌∷◌, Ok, ap, ap₂, sym, subst, ◌∙◌}
 use Rattle.jsonb_value.specs.Tree.Mark.{plain}
-use Rattle.jsonb.specs.Parser.{Advances, mode_of, rest_of, size_of}
-use Rattle.jsonb.specs.Reading.Blank.{skip_blanks}
-use Rattle.jsonb.specs.Reading.Scalar.{key_at}
-use Rattle.jsonb.specs.Reading.String.{string_at}
+use Rattle.jsonb_scan.specs.Answer.{mode_of}
+use Rattle.jsonb.specs.Parser.{Advances, rest_of, size_of}
+use Rattle.jsonb_scan.specs.Reading.Blank.{skip_blanks}
+use Rattle.jsonb_scan.specs.Reading.Scalar.{key_at}
+use Rattle.jsonb_scan.specs.Reading.String.{string_at}
 use Rattle.jsonb.proofs.Containers.OpenOfDirect.{if_some}
 use Rattle.jsonb.proofs.Steps.Outcomes.{key_quoted, same_size}
 use Rattle.jsonb.proofs.parser.Parser.direct_name.Goals as goal

@@ -1,10 +1,11 @@
 use Rattle.std.proofs.Common.{◌≡◌, ℕ, ◌+◌, ◌-◌, ◌<◌, List, Ok, false, length, take, drop, ap, sym, subst, ◌∙◌, arith, drop-drop}
 use Rattle.std.specs.Str.{IsUtf8}
 use Rattle.jsonb_value.specs.Tree.Mark.{plain}
-use Rattle.jsonb.specs.Decoding.{TellsBackslash}
-use Rattle.jsonb.specs.Parser.{mode_of, size_of}
-use Rattle.jsonb.specs.Reading.String.{quote_end, string_at}
-use Rattle.jsonb.proofs.Strings.Bodies.{body-raw, found_end, search_start, search_to, string-closed, tells_taken}
+use Rattle.jsonb_scan.specs.Decoding.{TellsBackslash}
+use Rattle.jsonb_scan.specs.Answer.{mode_of}
+use Rattle.jsonb.specs.Parser.{size_of}
+use Rattle.jsonb_scan.specs.Reading.String.{quote_end, string_at}
+use Rattle.jsonb_scan.proofs.Strings.Bodies.{body-raw, found_end, search_start, search_to, string-closed, tells_taken}
 use Rattle.jsonb.proofs.parser.Parser.direct_plain.Goals as goal
 
 pub returns-clause-reads : goal.returns-clause-reads

@@ -1,6 +1,7 @@
 use Rattle.std.proofs.Common.{◌≡◌, ◌+◌, ◌-◌, ◌<◌, ◌≤◌, [], ◌∷◌, ◌++◌, length, length-append, set, take, ap, refl, ◌∙◌, arith, subst, sym}
 use Rattle.jsonb_value.specs.Grammar.{max_depth}
-use Rattle.jsonb.specs.Parser.{rest_of, mode_of}
+use Rattle.jsonb_scan.specs.Answer.{mode_of}
+use Rattle.jsonb.specs.Parser.{rest_of}
 use Rattle.jsonb.proofs.Steps.Advancing.{goes_on}
 use Rattle.jsonb.proofs.Containers.OpenOfReader.{continues_from, last-is, last-set, part_begun, value_added}
 use Rattle.std.specs.Vec.{vec_len}

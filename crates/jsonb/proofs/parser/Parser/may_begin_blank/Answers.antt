@@ -1,7 +1,8 @@
 use Rattle.std.proofs.Common.{nat_eq, ne_eqb, sym, ap, ◌∙◌, ◌||◌}
-use Rattle.jsonb.specs.Reading.Blank.{pass_blanks, skip_blanks}
-use Rattle.jsonb.specs.Parser.{mode_of, rest_of}
-use Rattle.jsonb.proofs.Text.Blanks.{pass-by_slash, pass-nil, skip-by_slash, skip-nil}
+use Rattle.jsonb_scan.specs.Reading.Blank.{pass_blanks, skip_blanks}
+use Rattle.jsonb_scan.specs.Answer.{mode_of}
+use Rattle.jsonb.specs.Parser.{rest_of}
+use Rattle.jsonb_scan.proofs.Text.Blanks.{pass-by_slash, pass-nil, skip-by_slash, skip-nil}
 use Rattle.jsonb.proofs.parser.Parser.may_begin_blank.Goals as goal
 
 pub returns-else-byte-eq92 : goal.returns-else-byte-eq92

@@ -2,7 +2,8 @@ use Rattle.std.proofs.Common.{◌+◌, ℕ, List, None, map, refl, subst, sym}
 use Rattle.std.specs.Cow.{cow_str_bytes}
 use Rattle.jsonb_value.specs.View.{mark_view}
 use Rattle.std.proofs.lemmas.Result.{err_from_is_err_and}
-use Rattle.jsonb.specs.Parser.{rest_of, mode_of}
+use Rattle.jsonb_scan.specs.Answer.{mode_of}
+use Rattle.jsonb.specs.Parser.{rest_of}
 use Rattle.jsonb.proofs.Containers.OpenOfReader.{member_fails, member_next}
 use Rattle.jsonb_value.specs.Tree.{Mark}
 use Rattle.jsonb.specs.declared.parser.value.Frame.TheVariants as variants

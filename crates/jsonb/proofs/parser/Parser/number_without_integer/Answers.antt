@@ -1,5 +1,5 @@
 use Rattle.std.proofs.Common.{sym, ◌∙◌}
-use Rattle.jsonb.proofs.Numbers.Steps.{uncarried_at}
+use Rattle.jsonb_scan.proofs.Numbers.Steps.{uncarried_at}
 use Rattle.jsonb.proofs.parser.Parser.number_without_integer.Goals as goal
 
 pub returns-in-Ok-clause-fault : goal.returns-in-Ok-clause-fault

@@ -3,8 +3,8 @@ use Rattle.std.proofs.lemmas.List.{length-take-le}
 use Rattle.std.specs.Str.{IsUtf8}
 use Rattle.jsonb_value.specs.Tree.{plain}
 use Rattle.jsonb.specs.Parser.{rest_of, size_of}
-use Rattle.jsonb.specs.Reading.BareKey.{key_end}
-use Rattle.jsonb.proofs.Strings.BareKeys.{BeginsBare, bare-character, bare-digit, bare-no_text, bare-nothing, bare-past, bare-text, key_within}
+use Rattle.jsonb_scan.specs.Reading.BareKey.{key_end}
+use Rattle.jsonb_scan.proofs.Strings.BareKeys.{BeginsBare, bare-character, bare-digit, bare-no_text, bare-nothing, bare-past, bare-text, key_within}
 use Rattle.jsonb.proofs.parser.Parser.parse_bare_key.Goals as goal
 use Rattle.jsonb.proofs.parser.Parser.parse_bare_key.Goals.{then-end-eq0-via-then-end-eq0, then-end-eq0-via-else-end-eq0+then-rest-end-ge128}
 

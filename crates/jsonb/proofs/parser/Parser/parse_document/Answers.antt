@@ -3,10 +3,11 @@ use Rattle.std.proofs.lemmas.Result.{err_from_is_err_and}
 use Rattle.jsonb_value.specs.Grammar.{max_depth}
 use Rattle.jsonb_value.specs.Tree.Tree.{null}
 use Rattle.jsonb.specs.AstView.{ast_view}
-use Rattle.jsonb.specs.Parser.{mode_of, rest_of, size_of}
-use Rattle.jsonb.specs.Reading.{◌>>=◌}
-use Rattle.jsonb.specs.Reading.Blank.{pass_blanks}
-use Rattle.jsonb.specs.Reading.Document.{at_end, document_from, value_at}
+use Rattle.jsonb_scan.specs.Answer.{mode_of}
+use Rattle.jsonb.specs.Parser.{rest_of, size_of}
+use Rattle.jsonb_scan.specs.Reading.{◌>>=◌}
+use Rattle.jsonb_scan.specs.Reading.Blank.{pass_blanks}
+use Rattle.jsonb_scan.specs.Reading.Document.{at_end, document_from, value_at}
 use Rattle.jsonb.proofs.Steps.Outcomes.{fails_same, fails_through}
 use Rattle.jsonb.proofs.Documents.Agreement.{document_comment, document_some, ended, ended_same}
 use Rattle.jsonb.specs.Source.{source_view}

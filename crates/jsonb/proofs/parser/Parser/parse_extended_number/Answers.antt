@@ -1,4 +1,4 @@
-use Rattle.jsonb.proofs.Numbers.Scanned.{scanned_number}
+use Rattle.jsonb_scan.proofs.Numbers.Scanned.{scanned_number}
 use Rattle.jsonb.proofs.parser.Parser.parse_extended_number.Goals as goal
 
 pub returns-in-Some-clause-reads : goal.returns-in-Some-clause-reads

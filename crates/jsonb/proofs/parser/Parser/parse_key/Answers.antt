@@ -1,8 +1,9 @@
 use Rattle.std.proofs.Common.{ap, sym, ◌∙◌}
 use Rattle.jsonb_value.specs.Code.Code.{expected_some_ident}
-use Rattle.jsonb.specs.Parser.{mode_of, rest_of, size_of}
-use Rattle.jsonb.specs.Reading.{fault_at}
-use Rattle.jsonb.specs.Reading.Scalar.{key_at, unquoted_at}
+use Rattle.jsonb_scan.specs.Answer.{mode_of}
+use Rattle.jsonb.specs.Parser.{rest_of, size_of}
+use Rattle.jsonb_scan.specs.Reading.{fault_at}
+use Rattle.jsonb_scan.specs.Reading.Scalar.{key_at, unquoted_at}
 use Rattle.jsonb.proofs.Steps.Outcomes.{key_bare, key_quoted, key_single}
 use Rattle.jsonb.proofs.Steps.Advancing.{fails}
 use Rattle.jsonb.proofs.parser.Parser.parse_key.Goals as goal

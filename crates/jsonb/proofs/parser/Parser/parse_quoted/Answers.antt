@@ -6,13 +6,14 @@ use Rattle.jsonb_value.specs.Code.{invalid_eof}
 use Rattle.jsonb_value.specs.View.{mark_view}
 use Rattle.jsonb_value.specs.declared.error.Error.{Error}
 use Rattle.jsonb_value.specs.declared.error.Error.TheVariants.{OutOfMemory}
-use Rattle.jsonb.specs.Decoding.{TellsBackslash}
-use Rattle.jsonb.specs.Parser.{rest_of, size_of, mode_of}
-use Rattle.jsonb.specs.QuotedString.{ReadsBody}
-use Rattle.jsonb.specs.Reading.{fault}
-use Rattle.jsonb.specs.Reading.String.{body_of, quote_end}
-use Rattle.jsonb.proofs.Strings.Ends.{quote_within}
-use Rattle.jsonb.proofs.Strings.Bodies.{string-closed, string-unclosed, body_fails, contains_after}
+use Rattle.jsonb_scan.specs.Decoding.{TellsBackslash}
+use Rattle.jsonb_scan.specs.Answer.{mode_of}
+use Rattle.jsonb.specs.Parser.{rest_of, size_of}
+use Rattle.jsonb_scan.specs.QuotedString.{ReadsBody}
+use Rattle.jsonb_scan.specs.Reading.{fault}
+use Rattle.jsonb_scan.specs.Reading.String.{body_of, quote_end}
+use Rattle.jsonb_scan.proofs.Strings.Ends.{quote_within}
+use Rattle.jsonb_scan.proofs.Strings.Bodies.{string-closed, string-unclosed, body_fails, contains_after}
 use Rattle.jsonb.proofs.parser.Parser.parse_quoted.Goals as goal
 
 same_error : {A : Type 0} (r : Result A Error) (x y : Error) → r ≡ Err x → r ≡ Err OutOfMemory → x ≡ y → y ≡ OutOfMemory

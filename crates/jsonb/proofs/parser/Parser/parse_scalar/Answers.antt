@@ -1,5 +1,6 @@
 use Rattle.std.proofs.Common.{sym, ◌∙◌}
-use Rattle.jsonb.specs.Parser.{mode_of, rest_of, size_of}
+use Rattle.jsonb_scan.specs.Answer.{mode_of}
+use Rattle.jsonb.specs.Parser.{rest_of, size_of}
 use Rattle.jsonb.proofs.Scalars.FirstBytes.{scalar_other, standard_number}
 use Rattle.jsonb.proofs.Steps.Outcomes.{scalar_quoted}
 use Rattle.jsonb.proofs.parser.Parser.parse_scalar.Goals as goal

@@ -2,9 +2,10 @@ use Rattle.std.proofs.Common.{ap, sym, ◌∙◌, subst, ◌+◌, Some}
 use Rattle.std.specs.Prelude.{◌==◌}
 use Rattle.std.specs.Str.Parse.{digits_value}
 use Rattle.jsonb_value.specs.View.{number_view}
-use Rattle.jsonb.specs.Parser.{Fails, rest_of, size_of}
-use Rattle.jsonb.specs.Reading.Number.{FollowsWhole, integer_of, whole_digits}
-use Rattle.jsonb.proofs.Numbers.Steps.{HasWhole, whole_end, invalid_at, read_past, integer_read, integer_missing, found_whole, found_has_whole, found_end, found_missing, found_needless, found_value}
+use Rattle.jsonb_scan.specs.Answer.{Fails}
+use Rattle.jsonb.specs.Parser.{rest_of, size_of}
+use Rattle.jsonb_scan.specs.Reading.Number.{FollowsWhole, integer_of, whole_digits}
+use Rattle.jsonb_scan.proofs.Numbers.Steps.{HasWhole, whole_end, invalid_at, read_past, integer_read, integer_missing, found_whole, found_has_whole, found_end, found_missing, found_needless, found_value}
 use Rattle.jsonb.proofs.parser.Parser.parse_standard_number.Goals as goal
 
 pub returns-then-digits-eq0-clause-reads : goal.returns-then-digits-eq0-clause-reads

@@ -1,4 +1,4 @@
-use Rattle.jsonb.specs.Parser.{HoldsMarker, mode_of}
+use Rattle.jsonb_scan.specs.Answer.{HoldsMarker, mode_of}
 use Rattle.std.proofs.Common.{◌≡◌, rules, ◌<◌, ◌≤◌, ⊎_elim, ap, length, Some, ◌∙◌, arith, refl, subst, sym}
 use Rattle.std.proofs.lemmas.Grind.{common_steps}
 use Rattle.std.proofs.lemmas.Bool.{cases_lt}

@@ -2,8 +2,9 @@ use Rattle.std.proofs.Common.{◌≡◌, ◌+◌, ◌*◌, ◌≤◌, ◌<◌, �
 use Rattle.jsonb.specs.declared.parser.ast.JsonAst.{JsonAst}
 use Rattle.jsonb_value.specs.Grammar.{max_depth}
 use Rattle.jsonb.specs.OpenPlaces.{AllIsPlaced}
-use Rattle.jsonb.specs.Parser.{Advances, HoldsMarker, mode_of, rest_of, size_of}
-use Rattle.jsonb.specs.Reading.Document.{value_at}
+use Rattle.jsonb_scan.specs.Answer.{HoldsMarker, mode_of}
+use Rattle.jsonb.specs.Parser.{Advances, rest_of, size_of}
+use Rattle.jsonb_scan.specs.Reading.Document.{value_at}
 use Rattle.jsonb.specs.Stack.{ahead}
 use Rattle.jsonb.proofs.parser.Parser.parse_value.Given as goal
 

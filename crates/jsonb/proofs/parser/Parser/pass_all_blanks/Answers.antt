@@ -1,7 +1,8 @@
 use Rattle.std.proofs.Common.{◌≡◌, ◌+◌, ◌<◌, [], drop, sym, ap, ap₂, ◌∙◌, arith, drop-drop, length, length-drop}
-use Rattle.jsonb.specs.Reading.Blank.{blank_length, pass_blanks}
-use Rattle.jsonb.specs.Parser.{Advances, mode_of, rest_of}
-use Rattle.jsonb.proofs.Text.Blanks.{pass-none, pass-step, pass-nil}
+use Rattle.jsonb_scan.specs.Reading.Blank.{blank_length, pass_blanks}
+use Rattle.jsonb_scan.specs.Answer.{mode_of}
+use Rattle.jsonb.specs.Parser.{Advances, rest_of}
+use Rattle.jsonb_scan.proofs.Text.Blanks.{pass-none, pass-step, pass-nil}
 use Rattle.jsonb.specs.declared.parser.Parser.{Parser}
 use Rattle.jsonb.proofs.Steps.Advancing.{goes_on}
 use Rattle.jsonb.proofs.Steps.Cursors.{nothing_left}

@@ -1,6 +1,7 @@
 use Rattle.std.proofs.Common.{◌≡◌, ◌-◌, length}
-use Rattle.jsonb.specs.Reading.Blank.{pass_blanks}
-use Rattle.jsonb.specs.Parser.{mode_of, rest_of, Advances}
+use Rattle.jsonb_scan.specs.Reading.Blank.{pass_blanks}
+use Rattle.jsonb_scan.specs.Answer.{mode_of}
+use Rattle.jsonb.specs.Parser.{rest_of, Advances}
 use Rattle.jsonb.proofs.parser.Parser.pass_all_blanks.Given as goal
 
 abbrev pub invariant-blanks : goal.invariant-blanks

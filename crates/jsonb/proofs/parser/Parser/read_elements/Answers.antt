@@ -1,7 +1,8 @@
 use Rattle.std.proofs.Common.{false, [], ◌∷◌, ◌++◌, map, sym, refl, ap, ◌∙◌}
 use Rattle.std.proofs.lemmas.List.{map-append}
 use Rattle.jsonb_value.specs.View.{view}
-use Rattle.jsonb.specs.Parser.{mode_of, rest_of, size_of}
+use Rattle.jsonb_scan.specs.Answer.{mode_of}
+use Rattle.jsonb.specs.Parser.{rest_of, size_of}
 use Rattle.jsonb.specs.Direct.{part_at}
 use Rattle.jsonb.specs.Stack.Open.{elements_so_far}
 use Rattle.jsonb.proofs.Containers.OpenOfDirect.{element_stops, element_turn}

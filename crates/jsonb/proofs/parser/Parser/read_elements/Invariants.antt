@@ -1,6 +1,7 @@
 use Rattle.std.proofs.Common.{◌≡◌, ℕ, ◌-◌, ◌≤◌, map}
 use Rattle.jsonb_value.specs.View.{view}
-use Rattle.jsonb.specs.Parser.{Advances, mode_of, rest_of, size_of}
+use Rattle.jsonb_scan.specs.Answer.{mode_of}
+use Rattle.jsonb.specs.Parser.{Advances, rest_of, size_of}
 use Rattle.jsonb.specs.Stack.{elements_from}
 use Rattle.jsonb.proofs.parser.Parser.read_elements.Given as goal
 

@@ -3,7 +3,8 @@ use Rattle.jsonb_value.specs.Tree.{Mark}
 use Rattle.jsonb_value.specs.Tree.Mark.{plain}
 use Rattle.jsonb_value.specs.View.{view}
 use Rattle.jsonb.specs.Direct.{part_at}
-use Rattle.jsonb.specs.Parser.{mode_of, rest_of, size_of}
+use Rattle.jsonb_scan.specs.Answer.{mode_of}
+use Rattle.jsonb.specs.Parser.{rest_of, size_of}
 use Rattle.jsonb.specs.Stack.Open.{members_so_far}
 use Rattle.jsonb.proofs.Containers.OpenOfDirect.{found, member_stops, member_turn, put-more}
 use Rattle.jsonb.proofs.Steps.Advancing.{goes_on}

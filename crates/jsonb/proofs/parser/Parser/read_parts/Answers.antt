@@ -1,7 +1,8 @@
 use Rattle.std.proofs.Common.{◌≡◌, ◌+◌, ◌-◌, ◌<◌, length, take, refl, subst, arith}
 use Rattle.std.specs.Vec.{vec_len}
 use Rattle.jsonb.specs.Direct.{ReadsParts}
-use Rattle.jsonb.specs.Parser.{mode_of, rest_of, size_of}
+use Rattle.jsonb_scan.specs.Answer.{mode_of}
+use Rattle.jsonb.specs.Parser.{rest_of, size_of}
 use Rattle.jsonb.specs.Stack.{next_part_at}
 use Rattle.jsonb.proofs.Containers.OpenOfDirect.{filled, last-is, last-set, stopped_due}
 use Rattle.jsonb.proofs.parser.Parser.read_parts.Goals as goal

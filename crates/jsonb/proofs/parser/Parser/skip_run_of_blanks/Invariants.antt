@@ -1,6 +1,7 @@
 use Rattle.std.proofs.Common.{◌≡◌, ◌-◌}
-use Rattle.jsonb.specs.Reading.Blank.{pass_blanks}
-use Rattle.jsonb.specs.Parser.{mode_of, rest_of, size_of, Advances}
+use Rattle.jsonb_scan.specs.Reading.Blank.{pass_blanks}
+use Rattle.jsonb_scan.specs.Answer.{mode_of}
+use Rattle.jsonb.specs.Parser.{rest_of, size_of, Advances}
 use Rattle.jsonb.proofs.parser.Parser.skip_run_of_blanks.Given as goal
 
 abbrev pub invariant-lines : goal.invariant-lines

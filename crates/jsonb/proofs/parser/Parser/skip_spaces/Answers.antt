@@ -1,8 +1,9 @@
 use Rattle.std.proofs.Common.{◌≡◌, ℕ, ◌<◌, ◌≤◌, ◌∷◌, refl, ap, sym, ◌∙◌, arith, drop-drop, get_or, length, length-drop}
-use Rattle.jsonb.specs.Reading.Blank.{pass_blanks}
-use Rattle.jsonb.specs.Parser.{mode_of, rest_of}
+use Rattle.jsonb_scan.specs.Reading.Blank.{pass_blanks}
+use Rattle.jsonb_scan.specs.Answer.{mode_of}
+use Rattle.jsonb.specs.Parser.{rest_of}
 use Rattle.jsonb.proofs.Steps.Advancing.{goes_on}
-use Rattle.jsonb.proofs.Text.Blanks.{pass-spaces, pass-step}
+use Rattle.jsonb_scan.proofs.Text.Blanks.{pass-spaces, pass-step}
 use Rattle.jsonb.proofs.parser.Parser.skip_spaces.Goals as goal
 
 pub spaces-init : goal.spaces-init

@@ -1,7 +1,8 @@
 use Rattle.std.proofs.Common.{ap, ◌∙◌}
-use Rattle.jsonb.specs.Parser.{mode_of, rest_of}
-use Rattle.jsonb.specs.Reading.Blank.{skip_blanks}
-use Rattle.jsonb.proofs.Text.Blanks.{skip-stop}
+use Rattle.jsonb_scan.specs.Answer.{mode_of}
+use Rattle.jsonb.specs.Parser.{rest_of}
+use Rattle.jsonb_scan.specs.Reading.Blank.{skip_blanks}
+use Rattle.jsonb_scan.proofs.Text.Blanks.{skip-stop}
 use Rattle.jsonb.proofs.parser.Parser.take_after_blanks.Goals as goal
 
 pub returns-then-take_byte-clause-rest : goal.returns-then-take_byte-clause-rest

@@ -1,10 +1,11 @@
 use Rattle.std.proofs.Common.{◌≡◌, ℕ, [], ◌∷◌, refl, sym, ap, ◌∙◌}
 use Rattle.jsonb_value.specs.Grammar.Blanks.{IsBlank}
 use Rattle.jsonb_value.specs.Grammar.Blanks.IsBlank.{space, tab, line_feed, carriage_return}
-use Rattle.jsonb.specs.Parser.{mode_of, rest_of}
-use Rattle.jsonb.specs.Reading.Blank.{pass_blanks}
+use Rattle.jsonb_scan.specs.Answer.{mode_of}
+use Rattle.jsonb.specs.Parser.{rest_of}
+use Rattle.jsonb_scan.specs.Reading.Blank.{pass_blanks}
 use Rattle.jsonb.specs.declared.parser.Parser.{Parser}
-use Rattle.jsonb.proofs.Text.Blanks.{pass-blank}
+use Rattle.jsonb_scan.proofs.Text.Blanks.{pass-blank}
 use Rattle.jsonb.proofs.parser.Parser.take_plain_blank.Goals as goal
 
 -- one byte that is a blank was passed

@@ -1,9 +1,10 @@
 use Rattle.std.proofs.Common.{ap, sym, ◌∙◌}
 use Rattle.jsonb_value.specs.View.{view}
 use Rattle.jsonb.specs.declared.parser.Parser.{Parser}
-use Rattle.jsonb.specs.Parser.{mode_of, size_of}
-use Rattle.jsonb.specs.Reading.{◌>>=◌}
-use Rattle.jsonb.specs.Reading.Document.{document_of}
+use Rattle.jsonb_scan.specs.Answer.{mode_of}
+use Rattle.jsonb.specs.Parser.{size_of}
+use Rattle.jsonb_scan.specs.Reading.{◌>>=◌}
+use Rattle.jsonb_scan.specs.Reading.Document.{document_of}
 use Rattle.jsonb.proofs.Documents.Agreement.{document_some, ended, ended_same}
 use Rattle.jsonb.proofs.parser.direct.read_directly.Goals as goal
 

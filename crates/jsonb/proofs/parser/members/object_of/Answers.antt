@@ -1,7 +1,7 @@
 use Rattle.std.proofs.Common.{◌≡◌, ◌+◌, ◌-◌, ◌<◌, List, ℕ, length, drop, Some, Err, refl, ap, sym, subst, ◌∙◌, arith}
 use Rattle.jsonb_value.specs.Code.Code.{object_duplicate_key}
 use Rattle.jsonb.specs.AstView.{found_of}
-use Rattle.jsonb.specs.Reading.Container.{Spot, adjacent_repeat, spot_of}
+use Rattle.jsonb_scan.specs.Reading.Container.{Spot, adjacent_repeat, spot_of}
 use Rattle.jsonb.proofs.Places.Placed.{object_placed}
 use Rattle.jsonb.proofs.Containers.Members.{Parsed, no_more_left, not_repeated, repeated, spots}
 use Rattle.jsonb.proofs.Containers.Shuffles.{agree_if, differ_if, neighbours_agree, neighbours_differ}

@@ -1,7 +1,7 @@
 use Rattle.std.proofs.Common.{refl}
 use Rattle.jsonb.specs.AstView.{ast_view}
-use Rattle.jsonb.specs.Parser.{mode_of}
-use Rattle.jsonb.specs.Reading.Document.{document_of}
+use Rattle.jsonb_scan.specs.Answer.{mode_of}
+use Rattle.jsonb_scan.specs.Reading.Document.{document_of}
 use Rattle.jsonb.proofs.Documents.Agreement.{gives_document, gives_errors, gives_explained, gives_only, gives_refused}
 use Rattle.jsonb.proofs.parser.ast.JsonAst.parse.Goals as goal
 

@@ -1,7 +1,0 @@
-use Rattle.std.proofs.Common.{length, ap, ◌∙◌}
-use Rattle.jsonb.specs.Line.{is_line_feed}
-use Rattle.jsonb.proofs.Places.Lines.{length-places}
-use Rattle.jsonb.proofs.line.line_feeds.Goals as goal
-
-pub returns : goal.returns
-returns c = c.count.ensures ∙ ap length c.memchr_iter.ensures.value ∙ length-places is_line_feed c.args.bytes.now

@@ -1,8 +1,0 @@
-//! The decoding of strings.
-
-mod decoder;
-#[cfg(test)]
-mod tests;
-
-pub use decoder::parse_string;
-pub(crate) use decoder::unescape;

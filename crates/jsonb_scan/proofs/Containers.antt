@@ -1,0 +1,2 @@
+-- Arrays and objects, and the containers that are open.
+pub mod JoinedParts

@@ -1,0 +1,256 @@
+-- Parts of a text: what stands between blanks, and parts joined by commas. A reader of the parts gives a reader of the whole.
+use Rattle.std.proofs.Common.{◌≡◌, ℕ, zero, suc, ◌<◌, ◌≤◌, Bool, true, false, cond, ◌||◌, ◌⊎◌, ⊎_elim, inl, inr, List, [], ◌∷◌, ◌++◌, length, Ok, refl, sym, ap, ap₂, map, subst, ◌∙◌, append_assoc, length-append, arith, eqb, eqb-true}
+use Rattle.std.proofs.lemmas.Bool.{cond-false, cond-true, or_cases, or_parts}
+use Rattle.jsonb_value.specs.Grammar.Blanks.{IsBlank, IsBlanks}
+use Rattle.jsonb_value.specs.Grammar.Blanks.IsBlank.{block_comment, carriage_return, form_feed, line_comment, line_feed, space, tab, written_carriage_return, written_form_feed, written_line_feed, written_tab}
+use Rattle.jsonb_value.specs.Grammar.Blanks.IsBlanks.{more_blanks, no_blanks}
+use Rattle.jsonb_value.specs.Code.{Code}
+use Rattle.jsonb_value.specs.Grammar.{IsJoined, IsPadded}
+use Rattle.jsonb_value.specs.Grammar.IsJoined.{more_parts, one_part}
+use Rattle.jsonb_value.specs.Grammar.IsPadded.{padded}
+use Rattle.jsonb_value.specs.Mode.{Mode}
+use Rattle.jsonb_scan.specs.Reading.{Read, begins, on_byte, refused, ◌>>=◌}
+use Rattle.jsonb_scan.specs.Reading.Blank.{is_blank_start, is_break, skip_blanks}
+use Rattle.jsonb_scan.specs.Reading.Container.{after_part, joined_at, padded_at}
+use Rattle.jsonb_scan.proofs.Steps.Tests.{bind_ok, chosen, eqb_self, refused_fails, same_read}
+use Rattle.jsonb_scan.proofs.Text.Blanks.{skip-blanks, skip-stop, skips}
+
+-- ---- bytes that begin and that end something
+
+-- The text begins with a byte that no blank, comma, colon or closing bracket begins with.
+pub record Starts (bytes : List ℕ) : Type 0 where
+  pub first : ℕ
+  pub others : List ℕ
+  pub whole : bytes ≡ first ∷ others
+  pub is_start : is_break first ≡ false
+
+-- The text begins with a byte that may follow a value or a key.
+pub record Ends (bytes : List ℕ) : Type 0 where
+  pub first : ℕ
+  pub others : List ℕ
+  pub whole : bytes ≡ first ∷ others
+  pub is_end : is_break first ≡ true
+
+-- which bytes a byte that begins a value is not
+pub record IsOther (b : ℕ) : Type 0 where
+  pub blank : is_blank_start b ≡ false
+  pub comma : eqb b 44 ≡ false
+  pub colon : eqb b 58 ≡ false
+  pub bracket : eqb b 93 ≡ false
+  pub brace : eqb b 125 ≡ false
+
+pub other : (b : ℕ) → is_break b ≡ false → IsOther b
+other b e =
+    let p = or_parts (is_blank_start b || eqb b 44 || eqb b 58 || eqb b 93) (eqb b 125) e in
+    let q = or_parts (is_blank_start b || eqb b 44 || eqb b 58) (eqb b 93) p.0 in
+    let r = or_parts (is_blank_start b || eqb b 44) (eqb b 58) q.0 in
+    let s = or_parts (is_blank_start b) (eqb b 44) r.0 in
+    record { blank = s.0; comma = s.1; colon = r.1; bracket = q.1; brace = p.1 }
+
+-- what holds of each byte that may follow a value
+pub break_is : (b : ℕ) → is_break b ≡ true → (P : ℕ → Type 0) → P 32 → P 9 → P 10 → P 12 → P 13 → P 92 → P 47 → P 44 → P 58 → P 93 → P 125 → P b
+break_is b e P p32 p9 p10 p12 p13 p92 p47 p44 p58 p93 p125 =
+    or (is_blank_start b || eqb b 44 || eqb b 58 || eqb b 93) 125 e p125 (λ f.
+    or (is_blank_start b || eqb b 44 || eqb b 58) 93 f p93 (λ g.
+    or (is_blank_start b || eqb b 44) 58 g p58 (λ h.
+    or (is_blank_start b) 44 h p44 (λ i.
+    or (eqb b 32 || eqb b 9 || eqb b 10 || eqb b 12 || eqb b 13 || eqb b 92) 47 i p47 (λ j.
+    or (eqb b 32 || eqb b 9 || eqb b 10 || eqb b 12 || eqb b 13) 92 j p92 (λ k.
+    or (eqb b 32 || eqb b 9 || eqb b 10 || eqb b 12) 13 k p13 (λ l.
+    or (eqb b 32 || eqb b 9 || eqb b 10) 12 l p12 (λ m.
+    or (eqb b 32 || eqb b 9) 10 m p10 (λ n.
+    or (eqb b 32) 9 n p9 (λ o. subst P (sym (eqb-true b 32 o)) p32))))))))))
+  where
+    or : (a : Bool) (c : ℕ) → (a || eqb b c) ≡ true → P c → (a ≡ true → P b) → P b
+    or a c h here other = ⊎_elim other (λ same. subst P (sym (eqb-true b c same)) here) (or_cases a (eqb b c) h)
+
+pub ends_at : (b : ℕ) (bytes : List ℕ) → is_break b ≡ true → Ends (b ∷ bytes)
+ends_at b bytes e = record { first = b; others = bytes; whole = refl; is_end = e }
+
+pub ends-blank : {mode : Mode} {blank : List ℕ} (b : IsBlank mode blank) (rest : List ℕ) → Ends (blank ++ rest)
+ends-blank space rest = ends_at 32 rest refl
+ends-blank tab rest = ends_at 9 rest refl
+ends-blank line_feed rest = ends_at 10 rest refl
+ends-blank form_feed rest = ends_at 12 rest refl
+ends-blank carriage_return rest = ends_at 13 rest refl
+ends-blank written_line_feed rest = ends_at 92 (110 ∷ rest) refl
+ends-blank written_carriage_return rest = ends_at 92 (114 ∷ rest) refl
+ends-blank written_tab rest = ends_at 92 (116 ∷ rest) refl
+ends-blank written_form_feed rest = ends_at 92 (120 ∷ 48 ∷ 67 ∷ rest) refl
+ends-blank (block_comment inside is lacks) rest = ends_at 47 (42 ∷ ((inside ++ 42 ∷ 47 ∷ []) ++ rest)) refl
+ends-blank (line_comment inside last is one ends) rest = ends_at 47 (47 ∷ ((inside ++ last ∷ []) ++ rest)) refl
+
+pub ends-blanks : {mode : Mode} {before : List ℕ} (b : IsBlanks mode before) (rest : List ℕ) → Ends rest → Ends (before ++ rest)
+ends-blanks no_blanks rest h = h
+ends-blanks (more_blanks {blank = blank} {rest = others} b bs) rest h = subst Ends (sym (append_assoc blank others rest)) (ends-blank b (others ++ rest))
+
+-- ---- readers
+
+-- What is read from the front of the bytes is a spelling of a.
+pub record Spelled {A : Type 0} (Spells : List ℕ → A → Type 0) (bytes : List ℕ) (a : A) (rest : List ℕ) : Type 0 where
+  pub core : List ℕ
+  pub spells : Spells core a
+  pub whole : bytes ≡ core ++ rest
+
+abbrev pub IsSound : {A : Type 0} → (List ℕ → A → Type 0) → (List ℕ → Read A) → Type 0
+IsSound {A} Spells read = (bytes : List ℕ) (a : A) (rest : List ℕ) → read bytes ≡ Ok (a, rest) → Spelled Spells bytes a rest
+
+-- The same of a reader that passes what may be no blank at the end of the bytes, where some are left.
+abbrev pub IsSoundBefore : {A : Type 0} → (List ℕ → A → Type 0) → (List ℕ → Read A) → Type 0
+IsSoundBefore {A} Spells read = (bytes : List ℕ) (a : A) (rest : List ℕ) → read bytes ≡ Ok (a, rest) → 0 < length rest → Spelled Spells bytes a rest
+
+-- Each spelling is read, where a byte follows that may follow.
+pub record IsComplete {A : Type 0} (Spells : List ℕ → A → Type 0) (read : List ℕ → Read A) : Type 0 where
+  pub starts : (core : List ℕ) (a : A) → Spells core a → Starts core
+  pub reads : (core : List ℕ) (a : A) (rest : List ℕ) → Spells core a → Ends rest → read (core ++ rest) ≡ Ok (a, rest)
+
+-- ---- blanks round what is read
+
+pub starts-append : (core rest : List ℕ) → Starts core → Starts (core ++ rest)
+starts-append core rest s = record { first = s.first; others = s.others ++ rest; whole = ap (λ (t : List ℕ). t ++ rest) s.whole; is_start = s.is_start }
+
+pub skip-starts : (mode : Mode) (bytes : List ℕ) → Starts bytes → skip_blanks mode bytes ≡ bytes
+skip-starts mode bytes s = ap (λ (t : List ℕ). skip_blanks mode t) s.whole ∙ skip-stop mode s.first s.others (other s.first s.is_start).blank ∙ sym s.whole
+
+module _ {A : Type 0} (mode : Mode) (Spells : List ℕ → A → Type 0) (read : List ℕ → Read A) where
+  pub padded_sound : IsSound Spells read → IsSoundBefore (IsPadded mode Spells) (padded_at mode read)
+  padded_sound sound bytes a rest e left =
+      let b = bind_ok (read (skip_blanks mode bytes)) (λ (x : A × List ℕ). Ok (x.0, skip_blanks mode x.1)) (a, rest) e in
+      let same = same_read b.0.0 a (skip_blanks mode b.0.1) rest b.2 in
+      let back = skips mode b.0.1 (omega (arith, left, ap length same.rest)) in
+      let s = sound (skip_blanks mode bytes) b.0.0 b.0.1 b.1 in
+      let front = skips mode bytes (omega (arith, left, ap length same.rest, ap length back.whole, ap length s.whole, length-append s.core b.0.1, length-append back.blanks (skip_blanks mode b.0.1))) in
+      let regrouped : bytes ≡ (front.blanks ++ (s.core ++ back.blanks)) ++ skip_blanks mode b.0.1 =
+      front.whole ∙ ap (λ (t : List ℕ). front.blanks ++ t) (s.whole ∙ ap (λ (t : List ℕ). s.core ++ t) back.whole ∙ sym (append_assoc s.core back.blanks (skip_blanks mode b.0.1)))
+      ∙ sym (append_assoc front.blanks (s.core ++ back.blanks) (skip_blanks mode b.0.1)) in
+      record {
+        core = front.blanks ++ (s.core ++ back.blanks);
+        spells = subst (λ (v : A). IsPadded mode Spells (front.blanks ++ (s.core ++ back.blanks)) v) same.value (padded front.are_blanks s.spells back.are_blanks);
+        whole = subst (λ (t : List ℕ). bytes ≡ (front.blanks ++ (s.core ++ back.blanks)) ++ t) same.rest regrouped;
+      }
+
+  -- the bytes of a padded value after the blanks before it
+  pub record Padded (bytes : List ℕ) (a : A) (rest : List ℕ) : Type 0 where
+    pub core : List ℕ
+    pub after : List ℕ
+    pub spells : Spells core a
+    pub are_blanks : IsBlanks mode after
+    pub skipped : skip_blanks mode (bytes ++ rest) ≡ core ++ (after ++ rest)
+
+  pub skip-padded : IsComplete Spells read → (bytes : List ℕ) (a : A) (rest : List ℕ) → IsPadded mode Spells bytes a → Padded bytes a rest
+  skip-padded complete bytes a rest (padded {before = before} {core = core} {after = after} b s c) =
+      record {
+        core = core;
+        after = after;
+        spells = s;
+        are_blanks = c;
+        skipped =
+            ap (λ (t : List ℕ). skip_blanks mode t) (append_assoc before (core ++ after) rest) ∙ skip-blanks b ((core ++ after) ++ rest)
+            ∙ ap (λ (t : List ℕ). skip_blanks mode t) (append_assoc core after rest) ∙ skip-starts mode (core ++ (after ++ rest)) (starts-append core (after ++ rest) (complete.starts core a s));
+      }
+
+  pub padded_complete : IsComplete Spells read → (bytes : List ℕ) (a : A) (c : ℕ) (rest : List ℕ) → IsPadded mode Spells bytes a → is_break c ≡ true → is_blank_start c ≡ false
+      → padded_at mode read (bytes ++ c ∷ rest) ≡ Ok (a, c ∷ rest)
+  padded_complete complete bytes a c rest p is_end is_none =
+      let s = skip-padded complete bytes a (c ∷ rest) p in
+      let r = complete.reads s.core a (s.after ++ c ∷ rest) s.spells (ends-blanks s.are_blanks (c ∷ rest) (ends_at c rest is_end)) in
+      let k : skip_blanks mode (s.after ++ c ∷ rest) ≡ c ∷ rest = skip-blanks s.are_blanks (c ∷ rest) ∙ skip-stop mode c rest is_none in
+      ap (λ (t : List ℕ). read t >>= λ (x : A × List ℕ). Ok (x.0, skip_blanks mode x.1)) s.skipped
+      ∙ ap (λ (q : Read A). q >>= λ (x : A × List ℕ). Ok (x.0, skip_blanks mode x.1)) r
+      ∙ ap (λ (t : List ℕ). Ok (a, t)) k
+
+-- ---- a byte at the front
+
+pub on_byte-found : {X : Type 0} (c : ℕ) (rest : List ℕ) (found : List ℕ → X) (other : X) → on_byte c (c ∷ rest) found other ≡ found rest
+on_byte-found c rest found other = cond-true (eqb c c) (found rest) other (eqb_self c)
+
+pub on_byte-other : {X : Type 0} (c b : ℕ) (rest : List ℕ) (found : List ℕ → X) (other : X) → eqb b c ≡ false → on_byte c (b ∷ rest) found other ≡ other
+on_byte-other c b rest found other e = cond-false (eqb b c) (found rest) other e
+
+pub on_byte-none : {X : Type 0} (c : ℕ) (bytes : List ℕ) (found : List ℕ → X) (other : X) → begins c bytes ≡ false → on_byte c bytes found other ≡ other
+on_byte-none c [] found other e = refl
+on_byte-none c (b ∷ rest) found other e = cond-false (eqb b c) (found rest) other (not_found (eqb b c) e)
+  where
+    not_found : (t : Bool) → cond t true false ≡ false → t ≡ false
+    not_found true h = h
+    not_found false h = refl
+
+pub on_byte_cases : {X : Type 0} (c : ℕ) (bytes : List ℕ) (found : List ℕ → X) (other z : X) → on_byte c bytes found other ≡ z
+    → ((rest : List ℕ) × (bytes ≡ c ∷ rest) × (found rest ≡ z)) ⊎ ((begins c bytes ≡ false) × (other ≡ z))
+on_byte_cases c [] found other z e = inr (refl, e)
+on_byte_cases c (b ∷ rest) found other z e =
+    elim (chosen (eqb b c) (found rest) other z e) [
+      | inl t ↦ let same : b ≡ c = eqb-true b c t.0 in inl (rest, ap (λ (k : ℕ). k ∷ rest) same, t.1)
+      | inr f ↦ inr (cond-false (eqb b c) true false f.0, f.1)
+    ]
+
+-- ---- parts joined by commas
+
+pub length-joined : {A : Type 0} {Spells : List ℕ → A → Type 0} {bytes : List ℕ} {parts : List A} → IsJoined Spells bytes parts → length parts ≤ suc (length bytes)
+length-joined (one_part {bytes = bytes} s) = omega arith
+length-joined (more_parts {first = first} {rest = rest} s j) = let h = length-joined j in omega (arith, h, length-append first (44 ∷ rest))
+
+-- What is read of a part shows the part by view. Each spelling of a part is read up to the comma or the closing byte after it.
+pub record IsPartComplete {A F : Type 0} (view : F → A) (close : ℕ) (Spells : List ℕ → A → Type 0) (part : List ℕ → Read F) : Type 0 where
+  pub comma : (bytes : List ℕ) (a : A) (rest : List ℕ) → Spells bytes a → (f : F) × (view f ≡ a) × (part (bytes ++ 44 ∷ rest) ≡ Ok (f, 44 ∷ rest))
+  pub last : (bytes : List ℕ) (a : A) (rest : List ℕ) → Spells bytes a → (f : F) × (view f ≡ a) × (part (bytes ++ close ∷ rest) ≡ Ok (f, close ∷ rest))
+  pub apart : eqb close 44 ≡ false
+
+module _ {A F : Type 0} (view : F → A) (size : ℕ) (code : Code) (close : ℕ) (Spells : List ℕ → A → Type 0) (part : List ℕ → Read F) (p : IsPartComplete view close Spells part) where
+  pub joined_complete : {bytes : List ℕ} {parts : List A} → IsJoined Spells bytes parts → (n : ℕ) (rest : List ℕ) → length parts ≤ n
+      → (fs : List F) × (map view fs ≡ parts) × (joined_at size code close part n (bytes ++ close ∷ rest) ≡ Ok (fs, rest))
+  unfolding joined_at
+  joined_complete (one_part s) zero rest h = absurd (omega arith)
+  joined_complete (one_part {bytes = bytes} {a = a} s) (suc n) rest h =
+      let f = p.last bytes a rest s in (
+        f.0 ∷ [],
+        ap (λ (b : A). b ∷ []) f.1,
+        ap (λ (r : Read F). r >>= λ (x : F × List ℕ). after_part size code close part (joined_at size code close part n) x.0 x.1) f.2
+            ∙ on_byte-other 44 close rest (λ (t : List ℕ). joined_at size code close part n t >>= λ (x : List F × List ℕ). Ok (f.0 ∷ x.0, x.1)) (on_byte close (close ∷ rest) (λ (t : List ℕ). Ok (f.0 ∷ [], t)) (refused size code 0 (close ∷ rest))) p.apart
+            ∙ on_byte-found close rest (λ (t : List ℕ). Ok (f.0 ∷ [], t)) (refused size code 0 (close ∷ rest)),
+      )
+  joined_complete (more_parts s j) zero rest h = absurd (omega arith)
+  joined_complete (more_parts {first = first} {rest = others} {a = a} {others = as_parts} s j) (suc n) rest h =
+      let f = p.comma first a (others ++ close ∷ rest) s in
+      let g = joined_complete j n rest (omega arith) in (
+        f.0 ∷ g.0,
+        ap₂ (λ (b : A) (bs : List A). b ∷ bs) f.1 g.1,
+        ap (λ (t : List ℕ). joined_at size code close part (suc n) t) (append_assoc first (44 ∷ others) (close ∷ rest))
+            ∙ ap (λ (r : Read F). r >>= λ (x : F × List ℕ). after_part size code close part (joined_at size code close part n) x.0 x.1) f.2
+            ∙ ap (λ (r : Read (List F)). r >>= λ (x : List F × List ℕ). Ok (f.0 ∷ x.0, x.1)) g.2,
+      )
+
+module _ {A : Type 0} (size : ℕ) (code : Code) (close : ℕ) (Spells : List ℕ → A → Type 0) (part : List ℕ → Read A) where
+  pub joined_sound : IsSoundBefore Spells part → (n : ℕ) (bytes : List ℕ) (parts : List A) (rest : List ℕ) → joined_at size code close part n bytes ≡ Ok (parts, rest)
+      → (body : List ℕ) × IsJoined Spells body parts × (bytes ≡ body ++ close ∷ rest)
+  unfolding joined_at
+  joined_sound sound zero bytes parts rest e = absurd cc
+  joined_sound sound (suc n) bytes parts rest e =
+      let b = bind_ok (part bytes) (λ (x : A × List ℕ). after_part size code close part (joined_at size code close part n) x.0 x.1) (parts, rest) e in
+      let a : A = b.0.0 in
+      let middle : List ℕ = b.0.1 in
+      elim (on_byte_cases 44 middle (λ (t : List ℕ). joined_at size code close part n t >>= λ (x : List A × List ℕ). Ok (a ∷ x.0, x.1)) (on_byte close middle (λ (t : List ℕ). Ok (a ∷ [], t)) (refused size code 0 middle)) (Ok (parts, rest)) b.2) [
+        | inl t ↦
+            let s = sound bytes a middle b.1 (omega (arith, ap length t.1)) in
+            let c = bind_ok (joined_at size code close part n t.0) (λ (x : List A × List ℕ). Ok (a ∷ x.0, x.1)) (parts, rest) t.2 in
+            let h = joined_sound sound n t.0 c.0.0 c.0.1 c.1 in
+            let same = same_read (a ∷ c.0.0) parts c.0.1 rest c.2 in (
+              s.core ++ 44 ∷ h.0,
+              subst (λ (ps : List A). IsJoined Spells (s.core ++ 44 ∷ h.0) ps) same.value (more_parts s.spells h.1),
+              s.whole ∙ ap (λ (u : List ℕ). s.core ++ u) (t.1 ∙ ap (λ (u : List ℕ). 44 ∷ u) h.2) ∙ sym (append_assoc s.core (44 ∷ h.0) (close ∷ c.0.1)) ∙ ap (λ (u : List ℕ). (s.core ++ 44 ∷ h.0) ++ close ∷ u) same.rest,
+            )
+        | inr f ↦
+            elim (on_byte_cases close middle (λ (t : List ℕ). Ok (a ∷ [], t)) (refused size code 0 middle) (Ok (parts, rest)) f.1) [
+              | inl t ↦
+                  let s = sound bytes a middle b.1 (omega (arith, ap length t.1)) in
+                  let same = same_read (a ∷ []) parts t.0 rest t.2 in
+                  (s.core, subst (λ (ps : List A). IsJoined Spells s.core ps) same.value (one_part s.spells), s.whole ∙ ap (λ (u : List ℕ). s.core ++ u) (t.1 ∙ ap (λ (u : List ℕ). close ∷ u) same.rest))
+              | inr g ↦ absurd (refused_fails size code 0 middle (parts, rest) g.1)
+            ]
+      ]
+
+  -- blanks before the first part are passed by its reader
+  pub joined-skip : (mode : Mode) → ((bytes : List ℕ) → part (skip_blanks mode bytes) ≡ part bytes) → (n : ℕ) (bytes : List ℕ) → joined_at size code close part n (skip_blanks mode bytes) ≡ joined_at size code close part n bytes
+  unfolding joined_at
+  joined-skip mode same zero bytes = refl
+  joined-skip mode same (suc n) bytes = ap (λ (r : Read A). r >>= λ (x : A × List ℕ). after_part size code close part (joined_at size code close part n) x.0 x.1) (same bytes)

@@ -1,0 +1,7 @@
+pub mod Containers
+pub mod Numbers
+pub mod Places
+pub mod Scalars
+pub mod Steps
+pub mod Strings
+pub mod Text

@@ -1,0 +1,3 @@
+-- Values that hold no others, and keys.
+pub mod WordLetters
+pub mod WordMeaning

@@ -1,0 +1,2 @@
+-- Small steps that all layers take.
+pub mod Tests

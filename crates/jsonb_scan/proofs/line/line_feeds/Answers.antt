@@ -1,0 +1,7 @@
+use Rattle.std.proofs.Common.{length, ap, ◌∙◌}
+use Rattle.jsonb_scan.specs.Line.{is_line_feed}
+use Rattle.jsonb_scan.proofs.Places.Lines.{length-places}
+use Rattle.jsonb_scan.proofs.line.line_feeds.Goals as goal
+
+pub returns : goal.returns
+returns c = c.count.ensures ∙ ap length c.memchr_iter.ensures.value ∙ length-places is_line_feed c.args.bytes.now

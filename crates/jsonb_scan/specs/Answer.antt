@@ -1,0 +1,40 @@
+-- Which grammar a mode stands for, and what an answer says beside what reading gives.
+use Rattle.std.specs.Prelude.{◌≡◌, ◌⊎◌, ℕ, List, Contains, Result, Ok, Err}
+use Rattle.jsonb_value.specs.Mode.{Mode, standard, extended}
+use Rattle.jsonb_value.specs.Code.{code_of}
+use Rattle.jsonb_value.specs.declared.error.Error.{Error}
+use Rattle.jsonb_value.specs.declared.error.Error.TheVariants.{Syntax, OutOfMemory}
+use Rattle.jsonb_scan.specs.declared.parser.Mode as parser
+use Rattle.jsonb_scan.specs.declared.parser.Mode.TheVariants.{Standard, Extended}
+use Rattle.jsonb_scan.specs.Reading.{Fault}
+
+-- the grammar that a reader's mode stands for
+abbrev pub mode_of : parser.Mode → Mode
+mode_of Standard = standard
+mode_of Extended = extended
+
+-- the error names this fault
+abbrev pub NamesFault : Error → Fault → Type 0
+NamesFault (Syntax code place) f = f ≡ record { code = code_of code; place = place }
+NamesFault other f = ⊥
+
+-- The error is the fault that reading gives, or want of memory.
+abbrev pub Fails : {Y : Type 0} → Error → Result Y Fault → Type 0
+Fails (Syntax code place) read = read ≡ Err (record { code = code_of code; place = place })
+Fails OutOfMemory read = Unit {0}
+Fails other read = ⊥
+
+-- What a function returned, seen by view, is what reading gives, unless memory ran out.
+abbrev pub Gives : {X Y : Type 0} → (X → Y) → Result X Error → Result Y Fault → Type 0
+Gives view (Ok x) read = read ≡ Ok (view x)
+Gives view (Err e) read = Fails e read
+
+-- a fault of the text, or want of memory
+abbrev pub IsTextRefusal : Error → Type 0
+IsTextRefusal (Syntax code place) = Unit {0}
+IsTextRefusal OutOfMemory = Unit {0}
+IsTextRefusal other = ⊥
+
+-- The input holds a bracket or a brace that opens, or a backslash: a reader that asks for memory has met one.
+abbrev pub HoldsMarker : List ℕ → Type 0
+HoldsMarker input = Contains input 91 ⊎ (Contains input 123 ⊎ Contains input 92)

@@ -1,0 +1,53 @@
+-- What the steps of the reader of quoted strings tell.
+use Rattle.std.specs.Prelude.{◌≡◌, ◌≢◌, ◌⊎◌, ℕ, ◌+◌, ◌<◌, ◌≤◌, List, length, slice_index, Result, Ok, Err}
+use Rattle.std.specs.Cow.{cow_str_bytes}
+use Rattle.std.specs.Int.{bit_at}
+use Rattle.std.specs.declared.alloc.Global.{Global}
+use Rattle.std.specs.declared.borrow.CowStr.{CowStr}
+use Rattle.jsonb_value.specs.Tree.{Mark}
+use Rattle.jsonb_value.specs.Code.{code_of}
+use Rattle.jsonb_value.specs.View.{mark_view}
+use Rattle.jsonb_value.specs.declared.error.Error.{Error}
+use Rattle.jsonb_value.specs.declared.error.Error.TheVariants.{Syntax, OutOfMemory}
+use Rattle.jsonb_scan.specs.declared.parser.string.StringEnd.{StringEnd}
+use Rattle.jsonb_scan.specs.declared.parser.string.StringEnd.TheVariants.{Closed, Unclosed}
+use Rattle.jsonb_scan.specs.declared.parser.key.KeyEnd.{KeyEnd}
+use Rattle.jsonb_scan.specs.declared.parser.key.KeyEnd.TheVariants as key_ends
+use Rattle.jsonb_scan.specs.Decoding.{TellsBackslash}
+use Rattle.jsonb_scan.specs.Reading.BareKey.{key_end}
+use Rattle.jsonb_scan.specs.Reading.String.{Body, quote_end}
+
+-- the search ends where reading does; and whether a backslash was passed
+abbrev pub EndsString : ℕ → List ℕ → StringEnd → Type 0
+EndsString quote bytes (Closed end escaped) = (quote_end quote bytes ≡ Ok end) × TellsBackslash bytes end escaped
+EndsString quote bytes (Unclosed at) = (quote_end quote bytes ≡ Err at) × (at < length bytes + 8)
+
+-- The text and its mark are those that are read of the body, or the fault is, where the decoder counts from `idx`.
+abbrev pub ReadsBody : ℕ → Result (CowStr Global) Error → Body (Mark × List ℕ) → Type 0
+ReadsBody idx (Ok text) read = read ≡ Ok (mark_view text, cow_str_bytes text)
+ReadsBody idx (Err (Syntax code place)) read = (count : ℕ) × (read ≡ Err (code_of code, count)) × (place ≡ idx + count)
+ReadsBody idx (Err OutOfMemory) read = Unit {0}
+ReadsBody idx (Err other) read = ⊥
+
+-- the search for the end of a bare key ends where reading does
+abbrev pub EndsKey : List ℕ → KeyEnd → Type 0
+EndsKey bytes (key_ends.At end) = key_end bytes ≡ Ok end
+EndsKey bytes (key_ends.Past at) = (key_end bytes ≡ Err at) × (at < length bytes + 4)
+
+abbrev pub IsQuoteOrBackslash : ℕ → ℕ → Type 0
+IsQuoteOrBackslash quote b = (b ≡ quote) ⊎ (b ≡ 92)
+
+-- neither is from one index up to another
+abbrev pub IsClear : ℕ → List ℕ → ℕ → ℕ → Type 0
+IsClear quote bytes from to = (k : ℕ) → from ≤ k → k < to → (slice_index bytes k ≢ quote) × (slice_index bytes k ≢ 92)
+
+-- bit k tells whether the byte at + k is the quote or a backslash, of those before end
+pub record TellsMarks (quote : ℕ) (bytes : List ℕ) (at end bits : ℕ) : Type 0 where
+  pub within : end ≤ length bytes
+  pub set : (k : ℕ) → at + k < end → IsQuoteOrBackslash quote (slice_index bytes (at + k)) → bit_at bits k ≡ 1
+  pub marked : (k : ℕ) → bit_at bits k ≡ 1 → IsQuoteOrBackslash quote (slice_index bytes (at + k))
+  pub short : (k : ℕ) → bit_at bits k ≡ 1 → at + k < end
+
+-- the same of those before some place
+abbrev pub KnowsMarks : ℕ → List ℕ → ℕ → ℕ → Type 0
+KnowsMarks quote bytes at bits = (end : ℕ) × TellsMarks quote bytes at end bits

@@ -1,0 +1,118 @@
+-- Reading values that hold no others, and keys, as functions on lists.
+use Rattle.std.specs.Prelude.{ℕ, Bool, true, false, List, [], ◌∷◌, codes, Result, Ok, Err, ◌==◌, if◌then◌else◌}
+use Rattle.std.specs.Char.{to_ascii_lowercase}
+use Rattle.jsonb_value.specs.Mode.{Mode, standard, extended}
+use Rattle.jsonb_value.specs.Tree.{Mark, Num, Tree, null, boolean, string, number}
+use Rattle.jsonb_value.specs.Code.{expected_some_ident, expected_some_value}
+use Rattle.jsonb_scan.specs.Reading.{Fault, Read, ◌>>=◌, on_byte, refused}
+use Rattle.jsonb_scan.specs.Reading.BareKey.{bare_key_at}
+use Rattle.jsonb_scan.specs.Reading.ExtendedNumber.{is_extended_start, extended_number_at}
+use Rattle.jsonb_scan.specs.Reading.Number.{is_number_start, standard_number_at}
+use Rattle.jsonb_scan.specs.Reading.String.{string_at}
+
+-- ---- words
+
+-- a letter as words have it: in extended mode in lower case
+abbrev pub folded : Mode → ℕ → ℕ
+folded standard b = b
+folded extended b = to_ascii_lowercase b
+
+-- the one where the bytes begin with this letter, of the bytes after it, and else the other
+abbrev pub on_letter : {X : Type 0} → Mode → ℕ → List ℕ → (List ℕ → X) → X → X
+on_letter mode c [] found other = other
+on_letter mode c (b ∷ bytes) found other = if folded mode b == c then found bytes else other
+
+-- whether the bytes begin with this letter
+abbrev pub begins_letter : Mode → ℕ → List ℕ → Bool
+begins_letter mode c bytes = on_letter mode c bytes (λ rest. true) false
+
+-- the bytes after these letters
+abbrev pub letters_at : ℕ → Mode → List ℕ → List ℕ → Result (List ℕ) Fault
+letters_at size mode [] bytes = Ok bytes
+letters_at size mode (c ∷ cs) bytes =
+    on_letter mode c bytes (letters_at size mode cs) (refused size expected_some_ident 1 bytes)
+
+-- a word and what it stands for
+abbrev pub word_at : ℕ → Mode → List ℕ → Tree → List ℕ → Read Tree
+word_at size mode word t bytes = letters_at size mode word bytes >>= λ rest. Ok (t, rest)
+
+-- ---- strings
+
+-- the one where the bytes begin with a single quote in extended mode, of the bytes after it, and else the other
+abbrev pub on_single_quote : {X : Type 0} → Mode → List ℕ → (List ℕ → X) → X → X
+on_single_quote standard bytes found other = other
+on_single_quote extended bytes found other = on_byte 39 bytes found other
+
+-- a string as a value, from the byte after the opening quote on
+abbrev pub quoted_at : ℕ → Mode → ℕ → List ℕ → Read Tree
+quoted_at size mode quote bytes = string_at size mode quote bytes >>= λ x. Ok (string x.0.0 x.0.1, x.1)
+
+-- whether the bytes begin with one
+abbrev pub begins_single_quote : Mode → List ℕ → Bool
+begins_single_quote mode bytes = on_single_quote mode bytes (λ rest. true) false
+
+-- ---- numbers
+
+-- whether a number may begin here
+abbrev pub begins_number : Mode → List ℕ → Bool
+begins_number mode [] = false
+begins_number standard (b ∷ bytes) = is_number_start b
+begins_number extended (b ∷ bytes) = is_extended_start b
+
+-- the number that begins here
+abbrev pub number_at : ℕ → Mode → List ℕ → Read Num
+number_at size standard bytes = standard_number_at size bytes
+number_at size extended bytes = extended_number_at size bytes
+
+-- a number as a value
+abbrev pub number_value_at : ℕ → Mode → List ℕ → Read Tree
+number_value_at size mode bytes = number_at size mode bytes >>= λ x. Ok (number x.0, x.1)
+
+-- a number as a value, or the fault of a byte that begins no value
+abbrev pub number_or_fault : ℕ → Mode → List ℕ → Read Tree
+number_or_fault size mode bytes = if begins_number mode bytes then number_value_at size mode bytes
+    else refused size expected_some_value 1 bytes
+
+-- ---- scalars and keys
+
+abbrev pub false_at : ℕ → Mode → List ℕ → Read Tree
+false_at size mode bytes = if begins_letter mode 102 bytes
+    then word_at size mode (codes "false") (boolean false) bytes else number_or_fault size mode bytes
+
+abbrev pub true_or_false_at : ℕ → Mode → List ℕ → Read Tree
+true_or_false_at size mode bytes = if begins_letter mode 116 bytes
+    then word_at size mode (codes "true") (boolean true) bytes else false_at size mode bytes
+
+-- the first, or where it fails the other
+abbrev pub or_else : {A : Type 0} → Result A Fault → Result A Fault → Result A Fault
+or_else (Ok x) other = Ok x
+or_else (Err e) other = other
+
+-- `null`; where that fails, in extended mode a number's word may begin with the same letter
+abbrev pub null_at : ℕ → Mode → List ℕ → Read Tree
+null_at size standard bytes = word_at size standard (codes "null") null bytes
+null_at size extended bytes =
+    or_else (word_at size extended (codes "null") null bytes) (number_value_at size extended bytes)
+
+abbrev pub words_at : ℕ → Mode → List ℕ → Read Tree
+words_at size mode bytes = if begins_letter mode 110 bytes then null_at size mode bytes
+    else true_or_false_at size mode bytes
+
+-- a string in single quotes, a word or a number
+abbrev pub other_scalar_at : ℕ → Mode → List ℕ → Read Tree
+other_scalar_at size mode bytes = on_single_quote mode bytes (quoted_at size mode 39) (words_at size mode bytes)
+
+-- a word, a string or a number
+unfoldable pub scalar_at : ℕ → Mode → List ℕ → Read Tree
+scalar_at size mode bytes = on_byte 34 bytes (quoted_at size mode 34) (other_scalar_at size mode bytes)
+
+-- a key without quotes
+abbrev pub unquoted_at : ℕ → Mode → List ℕ → Read (Mark × List ℕ)
+unquoted_at size standard bytes = refused size expected_some_ident 1 bytes
+unquoted_at size extended bytes = bare_key_at size bytes
+
+-- a key, with its mark
+unfoldable pub key_at : ℕ → Mode → List ℕ → Read (Mark × List ℕ)
+key_at size mode bytes =
+    on_byte 34 bytes (string_at size mode 34)
+    (on_single_quote mode bytes (string_at size mode 39) (unquoted_at size mode bytes))

@@ -1,0 +1,6 @@
+//! Searches in the bytes of JSON texts: where blanks, strings, keys and numbers end, and what they mean.
+#![tactic(auto)]
+
+pub mod line;
+pub mod parser;
+pub mod util;

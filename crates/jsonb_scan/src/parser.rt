@@ -1,0 +1,26 @@
+//! The parts of a text, as searches over bytes.
+
+ghost use Rattle.std.specs.Prelude.{◌≡◌, ◌↔◌, IsTrue};
+ghost use Rattle.jsonb_scan.specs.Answer.{mode_of};
+
+pub mod blank;
+pub mod extended_number;
+pub mod key;
+pub mod number;
+pub mod string;
+mod vector;
+
+/// Which grammar a text is read by.
+#[derive(Clone, Copy, Debug, PartialEq, Eq)]
+pub enum Mode {
+    /// JSON as RFC 8259 has it, with a few more spellings of blanks and strings.
+    Standard,
+    /// Words in either case, single quotes, keys without quotes, elements that are left out, texts of blanks alone,
+    /// decimals and hexadecimals, and comments.
+    Extended,
+}
+
+/// A law: two modes are equal exactly where they are the same one.
+pub fn modes_compare(left: &Mode, right: &Mode)
+    ensures equal { IsTrue (⟦<Mode as PartialEq>⟧.eq left.now right.now) ↔ (mode_of left.now ≡ mode_of right.now) }
+{}

@@ -1,0 +1,194 @@
+//! The numbers of standard texts.
+ghost use Rattle.std.specs.Prelude.{◌≡◌, ℕ, ◌+◌, ◌*◌, ◌≤◌, ◌<◌, ◌^◌, length, take, drop, slice_index, Err, Some, None, MatchOption, IfOk, IfErr};
+ghost use Rattle.std.specs.Char.{digit_value};
+ghost use Rattle.std.specs.Bool.{MatchBool};
+ghost use Rattle.std.specs.Int.{IsInRange};
+ghost use Rattle.std.specs.Option.{SomeIff};
+ghost use Rattle.std.specs.Str.Parse.{AllDigits, digits_value};
+ghost use Rattle.jsonb_value.specs.View.{number_view};
+ghost use Rattle.jsonb_scan.specs.Reading.Number.{FollowsWhole, digits_length, digits_from, sign_end, exponent_from, fraction_from, whole_start, then_from, integer_of};
+
+use jsonb_value::error::Result;
+use jsonb_value::number::Number;
+
+// 64 bits hold each number of so many digits.
+pub(super) const SAFE_DIGITS: usize = 19;
+
+/// Digits: how many, and their number, where 64 bits hold it.
+#[derive(Clone, Copy)]
+pub struct Digits {
+    pub len: usize,
+    pub value: Option<u64>,
+}
+
+/// The byte at an index, or 0 past the end.
+pub fn byte_at(bytes: &[u8], index: usize) -> u8
+    ensures { result ≡ slice_index bytes.now index }
+{
+    if index < bytes.len() { bytes[index] } else { 0 }
+}
+
+// The index after the digits from `start` on.
+pub(super) fn digits_end(bytes: &[u8], start: usize) -> usize
+    requires { start ≤ length bytes.now }
+    ensures end { result ≡ digits_from bytes.now start }
+    ensures within { result ≤ length bytes.now }
+{
+    let mut end = start;
+    'digits: while end < bytes.len() && bytes[end].is_ascii_digit() {
+        end += 1;
+    }
+    end
+}
+
+// The number with one digit more, where 64 bits hold it.
+fn appended(number: u64, digit: u8) -> Option<u64>
+    requires { IsInRange 48 57 digit }
+    ensures { SomeIff result (number * 10 + digit_value digit < 2 ^ 64) (number * 10 + digit_value digit) }
+{
+    number.checked_mul(10)?.checked_add(u64::from(digit - b'0'))
+}
+
+// The number that digits write, where 64 bits hold it.
+fn digits_number(digits: &[u8]) -> Option<u64>
+    requires { AllDigits 10 digits.now }
+    ensures { SomeIff result (digits_value 10 digits.now < 2 ^ 64) (digits_value 10 digits.now) }
+{
+    let mut number = 0u64;
+    for digit in digits {
+        number = appended(number, *digit)?;
+    }
+    Some(number)
+}
+
+// The digits that the bytes begin with, with a test at each.
+#[cold]
+fn many_digits(bytes: &[u8]) -> Digits
+    ensures len { result.len ≡ digits_length bytes.now }
+    ensures within { result.len ≤ length bytes.now }
+    ensures value { SomeIff result.value
+        (digits_value 10 (take (digits_length bytes.now) bytes.now) < 2 ^ 64)
+        (digits_value 10 (take (digits_length bytes.now) bytes.now)) }
+{
+    let len = digits_end(bytes, 0);
+    Digits {
+        len,
+        value: digits_number(&bytes[..len]),
+    }
+}
+
+/// The digits that the bytes begin with.
+#[inline(always)]
+pub fn leading_digits(bytes: &[u8]) -> Digits
+    ensures len { result.len ≡ digits_length bytes.now }
+    ensures within { result.len ≤ length bytes.now }
+    ensures value { SomeIff result.value
+        (digits_value 10 (take (digits_length bytes.now) bytes.now) < 2 ^ 64)
+        (digits_value 10 (take (digits_length bytes.now) bytes.now)) }
+{
+    let mut value = 0u64;
+    let mut len = 0;
+    'digits: while len < bytes.len() && bytes[len].is_ascii_digit() {
+        if len == SAFE_DIGITS {
+            return many_digits(bytes);
+        }
+        value = value * 10 + u64::from(bytes[len] - b'0');
+        len += 1;
+    }
+    Digits {
+        len,
+        value: Some(value),
+    }
+}
+
+/// The bytes after a minus, if one is there.
+pub fn after_minus(bytes: &[u8]) -> &[u8]
+    ensures { result.now ≡ drop (whole_start bytes.now) bytes.now }
+{
+    match bytes {
+        [b'-', rest @ ..] => rest,
+        _ => bytes,
+    }
+}
+
+/// An integer with its sign, where its type holds it.
+pub fn integer(negative: bool, digits: Option<u64>) -> Option<Number>
+    ensures { (value : ℕ) → SomeIff digits (value < 2 ^ 64) value
+        → MatchOption result (integer_of negative value ≡ None)
+        (λ n. integer_of negative value ≡ Some (number_view n)) }
+{
+    let magnitude = digits?;
+    if !negative {
+        return Some(Number::UInt64(magnitude));
+    }
+    match i64::try_from(-i128::from(magnitude)) {
+        Ok(value) => Some(Number::Int64(value)),
+        Err(_) => None,
+    }
+}
+
+/// Whether a byte goes on with a number after its whole part, or stands behind a fraction as if it did.
+pub fn follows_whole(byte: u8) -> bool
+    ensures { MatchBool result (FollowsWhole byte) (¬ FollowsWhole byte) }
+{
+    matches!(byte, b'.' | b'e' | b'E')
+}
+
+// The index after a fraction, if one is there; else the place of the fault.
+fn fraction_end(bytes: &[u8], start: usize) -> std::result::Result<usize, usize>
+    requires { start ≤ length bytes.now }
+    ensures end { result ≡ fraction_from bytes.now start }
+    ensures within { IfOk result (λ end. end ≤ length bytes.now) }
+    ensures near { IfErr result (λ place. place ≤ length bytes.now + 2) }
+{
+    if byte_at(bytes, start) != b'.' {
+        return Ok(start);
+    }
+    let end = digits_end(bytes, start + 1);
+    if end == start + 1 {
+        Err(start + 2)
+    } else {
+        Ok(end)
+    }
+}
+
+// The index after a sign, if one is there.
+pub(super) fn sign_end(bytes: &[u8], start: usize) -> usize
+    requires { start ≤ length bytes.now }
+    ensures end { result ≡ sign_end bytes.now start }
+    ensures within { result ≤ length bytes.now }
+{
+    match byte_at(bytes, start) {
+        b'+' | b'-' => start + 1,
+        _ => start,
+    }
+}
+
+// The index after an exponent, if one is there; else the place of the fault.
+pub(super) fn exponent_end(bytes: &[u8], start: usize) -> std::result::Result<usize, usize>
+    requires { start ≤ length bytes.now }
+    ensures end { result ≡ exponent_from bytes.now start }
+    ensures within { IfOk result (λ end. end ≤ length bytes.now) }
+    ensures near { IfErr result (λ place. place ≤ length bytes.now) }
+{
+    let mark = byte_at(bytes, start);
+    if mark != b'e' && mark != b'E' {
+        return Ok(start);
+    }
+    let digits = sign_end(bytes, start + 1);
+    let end = digits_end(bytes, digits);
+    if end == digits { Err(digits) } else { Ok(end) }
+}
+
+/// The index after a number text with a fraction or an exponent; else the place of the fault.
+#[cold]
+pub fn number_end(bytes: &[u8], whole_end: usize) -> std::result::Result<usize, usize>
+    requires { whole_end ≤ length bytes.now }
+    ensures end { result
+        ≡ then_from (fraction_from bytes.now whole_end) (exponent_from bytes.now) }
+    ensures within { IfOk result (λ end. end ≤ length bytes.now) }
+    ensures near { IfErr result (λ place. place ≤ length bytes.now + 2) }
+{
+    let fraction_end = fraction_end(bytes, whole_end)?;
+    exponent_end(bytes, fraction_end)
+}

@@ -1,0 +1,5 @@
+//! The decoding of strings.
+
+mod decoder;
+
+pub use decoder::{parse_string, unescape};

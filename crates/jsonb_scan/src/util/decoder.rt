@@ -1,0 +1,144 @@
+//! From a string's body to the text that it means, escape by escape and run by run.
+ghost use Rattle.std.specs.Prelude.{◌≡◌, ◌≢◌, ◌+◌, ◌*◌, ◌^◌, ◌≤◌, ◌<◌, ◌∷◌, [], length, vec_len, vec_capacity, IfOk, IfErr, OnOk, Some, None, Err, string_bytes};
+ghost use Rattle.jsonb_value.specs.Mode.{standard};
+ghost use Rattle.jsonb_value.specs.Code.{code_of};
+ghost use Rattle.jsonb_value.specs.Grammar.StringBody.{escaped_byte, Decodes};
+ghost use Rattle.jsonb_scan.specs.Answer.{mode_of};
+ghost use Rattle.jsonb_scan.specs.StringRefusal.{IsDecodingError};
+ghost use Rattle.jsonb_scan.specs.Decoding.{Adds, StopsAtEscape};
+
+mod room;
+mod run;
+mod unit;
+
+use crate::parser::Mode;
+use jsonb_value::error::{Error, ParseErrorCode, Result};
+use room::{give_back, push_within};
+use run::copy_run;
+use std::alloc::Global;
+use unit::units;
+
+// What keeps bytes from being decoded, and how many of them are left then.
+#[derive(Drop)]
+struct DecodingFault {
+    code: ParseErrorCode,
+    left: usize,
+}
+
+// The byte that a backslash and this letter stand for.
+fn escaped(letter: u8, mode: Mode) -> Option<u8>
+    ensures { result ≡ escaped_byte (mode_of mode) letter }
+{
+    match letter {
+        b'"' | b'\\' | b'/' => Some(letter),
+        b'b' => Some(0x08),
+        b'f' => Some(0x0C),
+        b'n' => Some(b'\n'),
+        b'r' => Some(b'\r'),
+        b't' => Some(b'\t'),
+        b'\'' => match mode {
+            Mode::Standard => None,
+            Mode::Extended => Some(letter),
+        },
+        _ => None,
+    }
+}
+
+// Decodes the escape whose backslash stands before the bytes, and returns what follows.
+#[inline(always)]
+fn escape<'a>(
+    bytes: &'a [u8],
+    mode: Mode,
+    text: &mut Vec<u8>,
+) -> std::result::Result<&'a [u8], DecodingFault>
+    requires { vec_len text.old + 1 + length bytes.now ≤ vec_capacity text.old }
+    ensures ok { IfOk result (λ rest. Adds (mode_of mode) (92 ∷ bytes.now) rest.now text.old.items text.new.items) }
+    ensures shorter { IfOk result (λ rest. length rest.now ≤ length bytes.now) }
+    ensures room { IfOk result (λ rest. vec_len text.new + length rest.now ≤ vec_len text.old + 1 + length bytes.now) }
+    ensures err { IfErr result (λ fault. StopsAtEscape (mode_of mode) (92 ∷ bytes.now) (code_of fault.code)
+        fault.left) }
+    ensures capacity { vec_capacity text.old ≤ vec_capacity text.new }
+{
+    let Some((letter, rest)) = bytes.split_first() else {
+        return Err(DecodingFault {
+            code: ParseErrorCode::UnexpectedEndOfHexEscape,
+            left: 0,
+        });
+    };
+    if *letter == b'u' {
+        return units(rest, text);
+    }
+    let Some(byte) = escaped(*letter, mode) else {
+        return Err(DecodingFault {
+            code: ParseErrorCode::InvalidEscaped(*letter),
+            left: rest.len(),
+        });
+    };
+    push_within(text, byte);
+    Ok(rest)
+}
+
+// Decodes a whole body, to the end of the text.
+fn decode(bytes: &[u8], mode: Mode, text: &mut Vec<u8>) -> std::result::Result<(), DecodingFault>
+    requires { vec_len text.old + length bytes.now ≤ vec_capacity text.old }
+    ensures ok { OnOk result (Adds (mode_of mode) bytes.now [] text.old.items text.new.items) }
+    ensures err { IfErr result (λ fault. StopsAtEscape (mode_of mode) bytes.now (code_of fault.code) fault.left) }
+{
+    let mut left = bytes;
+    'items: while !left.is_empty() {
+        let rest = copy_run(left, text);
+        left = match rest.split_first() {
+            Some((_, rest)) => escape(rest, mode, text)?,
+            None => rest,
+        };
+    }
+    Ok(())
+}
+
+/// Decodes a body of this mode, and moves the index past what was read of it.
+pub fn unescape(alloc: Global, bytes: &[u8], mode: Mode, idx: &mut usize) -> Result<String>
+    requires { idx.old + length bytes.now < 2 ^ 64 }
+    ensures ok { IfOk result (λ text. Decodes (mode_of mode) bytes.now (string_bytes text)) }
+    ensures end { OnOk result (idx.new ≡ idx.old + length bytes.now) }
+    ensures err { IfErr result (IsDecodingError (mode_of mode) bytes.now idx.old idx.new) }
+    ensures memory { result ≡ Err Error.OutOfMemory → bytes.now ≢ [] }
+{
+    // The text is never longer than the bytes, so no other growth is asked for.
+    let Ok(mut text) = Vec::with_capacity(alloc, bytes.len()) else {
+        return Err(Error::OutOfMemory);
+    };
+    if let Err(fault) = decode(bytes, mode, &mut text) {
+        *idx += bytes.len() - fault.left;
+        return Err(Error::Syntax(fault.code, *idx));
+    }
+    *idx += bytes.len();
+    give_back(&mut text);
+    match String::from_utf8(text) {
+        Ok(text) => Ok(text),
+        Err(_) => Err(Error::Syntax(ParseErrorCode::InvalidStringValue, *idx)),
+    }
+}
+
+/// Decodes the body of a JSON string: what stands between its quotes. An escape is one of `\"`, `\\`, `\/`, `\b`,
+/// `\f`, `\n`, `\r`, `\t`, `\u` and four hexadecimal digits, or the same with the digits in braces; a high surrogate
+/// and the low one right after it are one character, and a surrogate alone is kept as it is spelled. Every other byte
+/// stands for itself. No answer depends on `len`: the room that is asked for is the length of `data`, which is always
+/// enough.
+///
+/// `idx` is moved by the length of `data` on success, and past the fault on a refusal, whose position is the index that
+/// is left.
+///
+/// # Errors
+///
+/// `Syntax` with `InvalidEscaped`, `InvalidHex` or `UnexpectedEndOfHexEscape` for an escape that is none of these, and
+/// with `InvalidStringValue` where the decoded bytes are not UTF-8; `OutOfMemory`.
+pub fn parse_string(alloc: Global, data: &[u8], len: usize, idx: &mut usize) -> Result<String>
+    requires { idx.old + length «data».now < 2 ^ 64 }
+    ensures ok { IfOk result (λ text. Decodes standard «data».now (string_bytes text)) }
+    ensures end { OnOk result (idx.new ≡ idx.old + length «data».now) }
+    ensures err { IfErr result (IsDecodingError standard «data».now idx.old idx.new) }
+    ensures memory { result ≡ Err Error.OutOfMemory → «data».now ≢ [] }
+{
+    let _ = len;
+    unescape(alloc, data, Mode::Standard, idx)
+}

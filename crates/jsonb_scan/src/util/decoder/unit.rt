@@ -1,0 +1,238 @@
+//! UTF-16 code units, four hexadecimal digits each.
+ghost use Rattle.std.specs.Prelude.{List, ◌≡◌, ◌≢◌, ℕ, ◌+◌, ◌*◌, ◌^◌, ◌≤◌, ◌<◌, ◌++◌, ◌∷◌, length, vec_len, vec_capacity, All, ◌||◌, IfOk, IfErr, IfSome, IfNone, Some, None, true, false, ◌⊎◌};
+ghost use Rattle.std.specs.Char.{digit_value, encode_utf8, InScalarRange};
+ghost use Rattle.jsonb_value.specs.Mode.{Mode as GrammarMode};
+ghost use Rattle.jsonb_value.specs.Code.{code_of};
+ghost use Rattle.jsonb_value.specs.Grammar.StringBody.{IsHexDigit, unit_value, is_high, is_low, kept, alone, together};
+ghost use Rattle.jsonb_value.specs.Grammar.StringFault.{IsUnitCut, IsFirstNonDigit};
+ghost use Rattle.jsonb_scan.specs.Decoding.{SplitsUnit, ReadsUnit, Adds, StopsInUnit, StopsAtEscape};
+
+use super::DecodingFault;
+use super::room::{extend_within, push_within};
+use jsonb_value::error::ParseErrorCode;
+
+// The four digits of a unit, their value, and what follows the unit.
+#[derive(Clone, Copy)]
+struct HexUnit<'a> {
+    digits: &'a [u8],
+    value: u32,
+    rest: &'a [u8],
+}
+
+// The value of a hexadecimal digit, and 36 for any other byte that is no letter.
+fn digit(byte: u8) -> u32
+    ensures { result ≡ digit_value byte }
+{
+    match byte {
+        b'0'..=b'9' => u32::from(byte - b'0'),
+        b'A'..=b'Z' => u32::from(byte - b'A') + 10,
+        b'a'..=b'z' => u32::from(byte - b'a') + 10,
+        _ => 36,
+    }
+}
+
+#[inline(always)]
+fn first_non_digit(bytes: &[u8]) -> Option<u8>
+    ensures some { IfSome result (IsFirstNonDigit bytes.now) }
+    ensures none { IfNone result (All IsHexDigit bytes.now) }
+{
+    for byte in bytes {
+        if digit(*byte) >= 16 {
+            return Some(*byte);
+        }
+    }
+    None
+}
+
+#[inline(always)]
+fn value_of(digits: &[u8]) -> u32
+    requires four { length digits.now ≡ 4 }
+    requires each { All IsHexDigit digits.now }
+    ensures value { result ≡ unit_value digits.now }
+    ensures range { result < 2 ^ 16 }
+{
+    digit(digits[0]) * 4096 + digit(digits[1]) * 256 + digit(digits[2]) * 16 + digit(digits[3])
+}
+
+// The four bytes after `\u`, in braces or not, and what follows them.
+#[inline(always)]
+fn split_unit(bytes: &[u8]) -> Option<(&[u8], &[u8])>
+    ensures some { IfSome result (λ parts. SplitsUnit bytes.now parts.0.now parts.1.now) }
+    ensures long { IfSome result (λ parts. length parts.1.now + 4 ≤ length bytes.now) }
+    ensures none { IfNone result (IsUnitCut bytes.now) }
+{
+    if bytes.len() < 4 {
+        return None;
+    }
+    if bytes[0] != b'{' {
+        return Some((&bytes[..4], &bytes[4..]));
+    }
+    if bytes.len() < 6 || bytes[5] != b'}' {
+        return None;
+    }
+    Some((&bytes[1..5], &bytes[6..]))
+}
+
+// The unit whose `\u` stands before the bytes.
+#[inline(always)]
+fn read_unit(bytes: &[u8]) -> std::result::Result<HexUnit<'_>, DecodingFault>
+    ensures ok { IfOk result (λ unit. ReadsUnit bytes.now unit.digits.now unit.rest.now unit.value) }
+    ensures long { IfOk result (λ unit. length unit.rest.now + 4 ≤ length bytes.now) }
+    ensures err { IfErr result (λ fault. StopsInUnit bytes.now (code_of fault.code) fault.left) }
+{
+    let Some((digits, rest)) = split_unit(bytes) else {
+        return Err(DecodingFault {
+            code: ParseErrorCode::UnexpectedEndOfHexEscape,
+            left: bytes.len(),
+        });
+    };
+    if let Some(byte) = first_non_digit(digits) {
+        return Err(DecodingFault {
+            code: ParseErrorCode::InvalidHex(byte),
+            left: rest.len(),
+        });
+    }
+    let value = value_of(digits);
+    Ok(HexUnit {
+        digits,
+        value,
+        rest,
+    })
+}
+
+fn is_surrogate_high(value: u32) -> bool
+    ensures { result ≡ is_high value }
+{
+    (0xD800..=0xDBFF).contains(&value)
+}
+
+fn is_surrogate_low(value: u32) -> bool
+    ensures { result ≡ is_low value }
+{
+    (0xDC00..=0xDFFF).contains(&value)
+}
+
+fn is_surrogate(value: u32) -> bool
+    ensures { result ≡ (is_high value || is_low value) }
+{
+    is_surrogate_high(value) || is_surrogate_low(value)
+}
+
+#[inline(always)]
+fn push_char(text: &mut Vec<u8>, value: u32)
+    requires scalar { InScalarRange value }
+    requires room { vec_len text.old + 4 ≤ vec_capacity text.old }
+    ensures items { text.new.items ≡ text.old.items ++ encode_utf8 value }
+    ensures len { vec_len text.new ≤ vec_len text.old + 4 }
+    ensures capacity { vec_capacity text.old ≤ vec_capacity text.new }
+{
+    let character = char::from_u32(value).unwrap();
+    let mut buffer = [0; 4];
+    extend_within(text, character.encode_utf8(&mut buffer).as_bytes());
+}
+
+fn push_kept(text: &mut Vec<u8>, digits: &[u8])
+    requires four { length digits.now ≡ 4 }
+    requires room { vec_len text.old + 6 ≤ vec_capacity text.old }
+    ensures items { text.new.items ≡ text.old.items ++ kept digits.now }
+    ensures len { vec_len text.new ≡ vec_len text.old + 6 }
+    ensures capacity { vec_capacity text.old ≤ vec_capacity text.new }
+{
+    extend_within(text, b"\\u");
+    extend_within(text, digits);
+}
+
+// A unit that isn't taken together with the next one.
+#[inline(always)]
+fn push_alone(text: &mut Vec<u8>, digits: &[u8], value: u32)
+    requires four { length digits.now ≡ 4 }
+    requires value { value ≡ unit_value digits.now }
+    requires range { value < 2 ^ 16 }
+    requires room { vec_len text.old + 6 ≤ vec_capacity text.old }
+    ensures items { text.new.items ≡ text.old.items ++ alone digits.now }
+    ensures len { vec_len text.new ≤ vec_len text.old + 6 }
+    ensures capacity { vec_capacity text.old ≤ vec_capacity text.new }
+{
+    if is_surrogate(value) {
+        push_kept(text, digits);
+    } else {
+        push_char(text, value);
+    }
+}
+
+// A high unit and the unit right after it.
+fn push_together(text: &mut Vec<u8>, high: &HexUnit<'_>, next: &HexUnit<'_>)
+    requires four { (length high.now.digits.now ≡ 4) × (length next.now.digits.now ≡ 4) }
+    requires value { (high.now.value ≡ unit_value high.now.digits.now)
+        × (next.now.value ≡ unit_value next.now.digits.now) }
+    requires is_high { is_high high.now.value ≡ true }
+    requires room { vec_len text.old + 12 ≤ vec_capacity text.old }
+    ensures items { text.new.items ≡ text.old.items ++ together high.now.digits.now next.now.digits.now }
+    ensures len { vec_len text.new ≤ vec_len text.old + 12 }
+    ensures capacity { vec_capacity text.old ≤ vec_capacity text.new }
+{
+    if is_surrogate_low(next.value) {
+        push_char(
+            text,
+            0x10000 + (high.value - 0xD800) * 0x400 + (next.value - 0xDC00),
+        );
+    } else {
+        push_kept(text, high.digits);
+        push_kept(text, next.digits);
+    }
+}
+
+// What follows the `\u` that the bytes begin with.
+fn after_unit_mark(bytes: &[u8]) -> Option<&[u8]>
+    ensures some { IfSome result (λ rest. bytes.now ≡ 92 ∷ 117 ∷ rest.now) }
+    ensures len { IfSome result (λ rest. length rest.now + 2 ≡ length bytes.now) }
+    ensures none { IfNone result ((rest : List ℕ) → bytes.now ≢ 92 ∷ 117 ∷ rest) }
+{
+    let (first, rest) = bytes.split_first()?;
+    let (second, rest) = rest.split_first()?;
+    if *first == b'\\' && *second == b'u' {
+        Some(rest)
+    } else {
+        None
+    }
+}
+
+// What follows the next `\u`, where it stands right after a high unit.
+fn after_next_mark<'a>(unit: &HexUnit<'a>) -> Option<&'a [u8]>
+    ensures some { IfSome result (λ rest. (is_high unit.now.value ≡ true) × (unit.now.rest.now ≡ 92 ∷ 117 ∷ rest.now)) }
+    ensures len { IfSome result (λ rest. length rest.now + 2 ≡ length unit.now.rest.now) }
+    ensures none { IfNone result ((is_high unit.now.value ≡ false)
+        ⊎ ((rest : List ℕ) → unit.now.rest.now ≢ 92 ∷ 117 ∷ rest)) }
+{
+    if is_surrogate_high(unit.value) {
+        after_unit_mark(unit.rest)
+    } else {
+        None
+    }
+}
+
+// Decodes the unit whose `\u` stands before the bytes, with the next one where the two are taken together. Returns
+// what follows.
+#[inline(always)]
+pub(super) fn units<'a>(
+    bytes: &'a [u8],
+    text: &mut Vec<u8>,
+) -> std::result::Result<&'a [u8], DecodingFault>
+    requires { vec_len text.old + 2 + length bytes.now ≤ vec_capacity text.old }
+    ensures ok { IfOk result (λ rest. (mode : GrammarMode) → Adds mode
+        (92 ∷ 117 ∷ bytes.now) rest.now text.old.items text.new.items) }
+    ensures shorter { IfOk result (λ rest. length rest.now ≤ length bytes.now) }
+    ensures room { IfOk result (λ rest. vec_len text.new + length rest.now ≤ vec_len text.old + 2 + length bytes.now) }
+    ensures err { IfErr result (λ fault. (mode : GrammarMode) → StopsAtEscape mode (92 ∷ 117 ∷ bytes.now)
+        (code_of fault.code) fault.left) }
+    ensures capacity { vec_capacity text.old ≤ vec_capacity text.new }
+{
+    let first = read_unit(bytes)?;
+    let Some(after) = after_next_mark(&first) else {
+        push_alone(text, first.digits, first.value);
+        return Ok(first.rest);
+    };
+    let next = read_unit(after)?;
+    push_together(text, &first, &next);
+    Ok(next.rest)
+}
