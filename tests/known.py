@@ -1,7 +1,7 @@
 """Texts with answers that were worked out by hand from the rules. Run alone, it shows that the reference gives them.
 
 Each row is the modes (`s`, `e` or both), the text, and the answer: a tree in one word, or a code with its position and,
-where it has one, its argument.
+where it has one, its argument; or, in PRINTED, what is printed.
 """
 
 import itertools
@@ -77,6 +77,7 @@ STANDARD_NUMBERS = [
     ("s", b"1e", number(2)), ("s", b"1e5", uncarried(3)), ("s", b"1e+", number(3)), ("s", b"1.5e", number(4)),
     ("s", b"1.5", uncarried(3)), ("s", b"1.5E-07 ", uncarried(7)), ("s", b"+1", a_value(1)),
     ("s", b".5", a_value(1)), ("s", b"0x1", trailing(2)), ("s", b"-x", number(1)),
+    ("s", b"-1.5E+07 ", uncarried(8)),
 ]
 
 EXTENDED_NUMBERS = [
@@ -95,6 +96,17 @@ EXTENDED_NUMBERS = [
     ("e", b"1" * 76 + b"..", uncarried(77)), ("e", b"0" * 80 + b"..", number(81)),
     ("e", b"1" * 39 + b"..", number(40)), ("e", b"-9223372036854775809", "Decimal128(0,-9223372036854775809)"),
     ("e", b"00x1", trailing(3)), ("e", b"1.0x1", trailing(4)),
+    ("e", b"+007", "UInt64(7)"), ("e", b"-5", "Int64(-5)"), ("e", b"-7.", "Int64(-7)"),
+    ("e", b"12.50", "Decimal64(2,1250)"), ("e", b"12.50 ", "Decimal64(2,1250)"), ("e", b"00", "UInt64(0)"),
+    ("e", b"18446744073709551615", "UInt64(18446744073709551615)"),
+    ("e", b"-9223372036854775808", "Int64(-9223372036854775808)"),
+    ("e", b"0.123456789012345678", "Decimal64(18,123456789012345678)"),
+    ("e", b"-00001.23456789012345678", "Decimal64(17,-123456789012345678)"),
+    ("e", b"1.234567890123456789", "Decimal128(18,1234567890123456789)"), ("e", b"1e55", uncarried(4)),
+    ("e", b"1.5E-3 ", uncarried(6)), ("e", b"1.5.2", number(3)), ("e", b"..5", number(1)),
+    ("e", b"-99999999999999999999999999999999999999", "Decimal128(0,-99999999999999999999999999999999999999)"),
+    ("e", b"-00000000000000000000000000000000000000001.5", "Decimal64(1,-15)"), ("e", b"INFINITY", uncarried(8)),
+    ("e", b"-i", eof(2)), ("e", b"infinite", ident(8)),
 ]
 
 HEXADECIMALS = [
@@ -110,6 +122,7 @@ HEXADECIMALS = [
     ("e", b"0x1.8.", uncarried(5)), ("e", b"0x" + b"F" * 33 + b".", number(36)),
     ("e", b"0x" + b"F" * 33 + b".8", number(37)), ("e", b"0x1." + b"F" * 33, number(37)),
     ("e", b"0x1." + b"0" * 40 + b"1", uncarried(45)),
+    ("e", b"0x10", "UInt64(16)"), ("e", b"+0XfF", "UInt64(255)"), ("e", b"+0XfF ", "UInt64(255)"),
 ]
 
 STRINGS = [
@@ -149,6 +162,9 @@ CONTAINERS = [
     ("se", b"[" * 512 + b"{", DEEP), ("se", b"[" * 10000, DEEP), ("e", b"{a:" * 513, ("DepthLimitExceeded", 1537)),
     ("s", b'{"a":' * 513, ("DepthLimitExceeded", 2561)),
     ("se", b"[" + b"[]," * 599 + b"[]]", "[" + "[]," * 599 + "[]]"),
+    ("se", b'{"b":1,"a":2}', "{plain:61@10=UInt64(2),plain:62@4=UInt64(1)}"),
+    ("se", b'[{"a":1},{"b":2,"a" :1}]', "[{plain:61@5=UInt64(1)},{plain:61@19=UInt64(1),plain:62@13=UInt64(2)}]"),
+    ("se", b'{"\\u0061":1}', "{escaped:61@9=UInt64(1)}"),
 ]
 
 KEYS = [
@@ -179,6 +195,83 @@ COMMENTS = [
 
 ROWS = DOCUMENTS + STANDARD_NUMBERS + EXTENDED_NUMBERS + HEXADECIMALS + STRINGS + CONTAINERS + KEYS + COMMENTS
 
+# Texts with what is printed of them: the written text, or the refusal.
+PRINTED = [
+    # Scalars and words, and numbers beside other bytes.
+    ("e", b"tru", b"EOF while parsing a value, pos 3"), ("se", b"a", b"expected value, pos 1"),
+    ("se", b"null x", b"trailing characters, pos 6"), ("se", b"\xff", b"expected value, pos 1"),
+    ("s", b" \\n", b"EOF while parsing a value, pos 3"), ("se", b"null", b"null"), ("se", b"\\n true\\x0C", b"true"),
+    ("se", b"\\r\\tfalse\\n", b"false"), ("e", b"-5", b"-5"), ("e", b"nulL", b"null"), ("e", b"NULL", b"null"),
+    ("e", b"True", b"true"), ("e", b"fAlSe", b"false"), ("e", b" \\n", b"null"),
+    ("e", b"nUlX", b"expected ident, pos 2"), ("e", b"Tru", b"EOF while parsing a value, pos 3"),
+    ("e", b"-", b"invalid number, pos 1"), ("e", b"1.5e", b"invalid number, pos 4"),
+    ("s", b"1e5.", b"number not carried, pos 3"), ("s", b"1.5e5.", b"number not carried, pos 5"),
+    ("e", b"0x4B3B4CA85A86C47A098A224000000000", b"number not carried, pos 34"),
+    ("e", b"-0x4B3B4CA85A86C47A098A224000000000", b"number not carried, pos 35"),
+    ("s", b"[1.5]", b"number not carried, pos 4"), ("e", b"+infinity", b"number not carried, pos 9"),
+    ("s", b"0,", b"trailing characters, pos 2"), ("s", b"-9223372036854775808]", b"trailing characters, pos 21"),
+    ("e", b"-5,", b"trailing characters, pos 3"), ("e", b"-7.]", b"trailing characters, pos 4"),
+    ("e", b"00x1", b"trailing characters, pos 3"),
+    # Strings.
+    ("se", b'{"\xff":1}', b"invalid string, pos 4"), ("se", b'"a\\n"', b'"a\\n"'), ("se", b'"it\'s"', b'"it\'s"'),
+    ("e", b"'a", b"EOF while parsing a value, pos 2"), ("e", b'\'a"', b"EOF while parsing a value, pos 3"),
+    ("e", b"'a\\'", b"EOF while parsing a value, pos 4"),
+    ("se", b'"\\uD834\\u{DD1E}\\n\\\\"', b'"\xf0\x9d\x84\x9e\\n\\\\"'),
+    # Arrays and objects, elements that are left out, and keys.
+    ("se", b'{"name":"Fred","phones":[{"type":"home","number":3720453},{"type":"work","number":5062051}]}',
+     b'{"name":"Fred","phones":[{"number":3720453,"type":"home"},{"number":5062051,"type":"work"}]}'),
+    ("se", b" [ 1 , [ ] , { } ] ", b"[1,[],{}]"), ("se", b'{"b" : 1 , "a" : [null]}', b'{"a":[null],"b":1}'),
+    ("se", b'{"\\n\\"":"\\u0001"}', b'{"\\n\\"":"\\u0001"}'), ("se", b"{} x", b"trailing characters, pos 4"),
+    ("se", b'[{"a":1,"a":2},', b'duplicate object attribute "a", pos 11'),
+    ("se", b'[{"a":1},{"a":2}]', b'[{"a":1},{"a":2}]'), ("e", b"[1,]", b"[1,null]"),
+    ("e", b"[,,]", b"[null,null,null]"), ("e", b"[,,3]", b"[null,null,3]"), ("e", b"[,2,]", b"[null,2,null]"),
+    ("e", b"[,2,3]", b"[null,2,3]"), ("e", b"[1,,]", b"[1,null,null]"), ("e", b"[1,2,3]", b"[1,2,3]"),
+    ("e", b"[[],,{}]", b"[[],null,{}]"), ("e", b"[,{a:[,,]},]", b'[null,{"a":[null,null,null]},null]'),
+    ("e", b"[ , /*a*/ ,//b\n]", b"[null,null,null]"), ("s", b"[,2,3]", b"expected value, pos 2"),
+    ("s", b"[1,,3]", b"expected value, pos 4"), ("s", b"[1,2,]", b"expected value, pos 6"),
+    ("e", b'{"a":1,}', b"object attribute name cannot be invalid character, pos 7"),
+    ("e", b"{\xc3(:1}", b"invalid string, pos 3"), ("e", b'{a:1,\'b\':[],"c":{}}', b'{"a":1,"b":[],"c":{}}'),
+    ("e", b"{$a_1\xc3\xa9:1}", b'{"$a_1\xc3\xa9":1}'), ("e", b"{a:1,a:2}", b'duplicate object attribute "a", pos 6'),
+    ("e", b"[-1.50,0x1F,+.5,00.]", b"[-1.50,31,0.5,0]"),
+    ("se", b'{"a":{"a":{"a":[{"a":1},{"a":2}]}}}', b'{"a":{"a":{"a":[{"a":1},{"a":2}]}}}'),
+    ("se", b'{"a":{"b":{"c":1,"c":2}}}', b'duplicate object attribute "c", pos 20'),
+    ("se", b'{"a":[{"b":1,"b":2}],"a":3}', b'duplicate object attribute "b", pos 16'),
+    ("se", b'{"a":[1],"a":[2]}', b'duplicate object attribute "a", pos 12'),
+    ("se", b'{"a":{},"b":{"a":{}},"a":[]}', b'duplicate object attribute "a", pos 24'),
+    ("e", b'{a:{\'b\':1,"b":2}}', b'duplicate object attribute "b", pos 13'),
+    ("e", b'{a:{"\\u0062":1,b:[]}}', b'duplicate object attribute "b", pos 16'),
+    # Comments, some of which are no text, and whitespace alone.
+    ("s", b"/", b"expected value, pos 1"), ("s", b"[/", b"expected value, pos 2"),
+    ("s", b"1/", b"trailing characters, pos 2"), ("s", b"1 /x", b"trailing characters, pos 3"),
+    ("s", b"[1/2]", b"expected `,` or `]`, pos 2"), ("e", b"1 // a", b"1"), ("e", b"1/**/", b"1"),
+    ("e", b'"a"//', b'"a"'), ("e", b"// \xff\n1", b"1"), ("e", b"{/*", b"EOF while parsing a value, pos 3"),
+    ("e", b"{a:1//", b"EOF while parsing a value, pos 6"), ("s", b"-/**/1", b"invalid number, pos 1"),
+    ("se", b'"/*a*/"', b'"/*a*/"'), ("se", b'"// a"', b'"// a"'), ("e", b"1/**/2", b"trailing characters, pos 6"),
+    ("e", b"n/**/ull", b"expected ident, pos 2"), ("e", b"{a/**/b:1}", b"expected `:`, pos 6"),
+    ("s", b"/**/1", b"expected value, pos 1"), ("e", b"/*\xff*/[1]", b"[1]"), ("e", b"[1]//\xff", b"[1]"),
+    ("e", b"//\xff", b"null"), ("e", b"{a/*\xc3*/:'b'}", b'{"a":"b"}'), ("e", b'[1,//\xf0\n"b"]', b'[1,"b"]'),
+    ("e", b'[\'\\n\'/*\xff*/,"\xc3\xa9",]', b'["\\n","\xc3\xa9",null]'),
+    ("e", b"[1/*\xff", b"EOF while parsing a value, pos 5"), ("e", b"[1/*\xff*/2]", b"expected `,` or `]`, pos 7"),
+    ("e", b'[/*\xff*/"\xff"]', b"invalid string, pos 9"), ("s", b"[1]//\xff", b"trailing characters, pos 4"),
+    ("s", b" ", b"EOF while parsing a value, pos 1"), ("e", b" ", b"null"),
+    ("s", b" \r\n\t", b"EOF while parsing a value, pos 4"), ("e", b" \r\n\t", b"null"),
+    ("s", b"\\n\\r\\t\\x0C", b"EOF while parsing a value, pos 10"), ("e", b"\\n\\r\\t\\x0C", b"null"),
+    ("e", b" /*a*/\n/**/ ", b"null"), ("e", b" // a\n ", b"null"), ("e", b"[1/*a*/,//b\n2] //c", b"[1,2]"),
+    # Of two faults the first is told.
+    ("se", b"[1 2,x]", b"expected `,` or `]`, pos 3"), ("se", b'{"a" 1:x}', b"expected `:`, pos 5"),
+    ("se", b'{"a":1 "a":2}', b"expected `,` or `}`, pos 7"),
+    ("se", b'[{"a":1,"a":2},x]', b'duplicate object attribute "a", pos 11'),
+    ("e", b"{1a:x}", b"object attribute name cannot be a number, pos 2"),
+    ("e", b"{:x}", b"object attribute name cannot be invalid character, pos 1"),
+    ("s", b"[01,1.5]", b"invalid number, pos 3"), ("s", b"[1.5,01]", b"number not carried, pos 4"),
+    ("e", b"[1..,1e5]", b"invalid number, pos 3"), ("e", b"[1e5,1..]", b"number not carried, pos 4"),
+    ("se", b'["\xff",x]', b"invalid string, pos 4"), ("se", b'["\\z\\q"]', b"invalid escaped '7A', pos 5"),
+    ("se", b'["\\u00G0\\z"]', b"invalid hex '47', pos 9"),
+    ("se", b'["\\u{00}12\\z"]', b"unexpected end of hex escape, pos 5"),
+    ("se", b'["\\z', b"EOF while parsing a value, pos 4"), ("se", b"[trux,1 2]", b"expected ident, pos 5"),
+    ("se", b"[x,1 2]", b"expected value, pos 2"), ("se", b"1 2 x", b"trailing characters, pos 3"),
+]
+
 # Bodies of strings, with their texts or refusals and the indexes that are left.
 BODIES = [
     (b"hello\\nworld", "hello\nworld", 12), (b'\\"\\\\\\b\\f\\n\\r\\t', '"\\\b\f\n\r\t', 14),
@@ -190,6 +283,7 @@ BODIES = [
     (b"\\z", ("InvalidEscaped", 2, 122), 2), (b"\\u123", ("UnexpectedEndOfHexEscape", 2), 2),
     (b"\\uGHIJ", ("InvalidHex", 6, 71), 6), (b"\\'", ("InvalidEscaped", 2, 39), 2),
     (b"ab\\", ("UnexpectedEndOfHexEscape", 3), 3), (b"\xff\\n", ("InvalidStringValue", 3), 3),
+    (b"\\n\xffab", ("InvalidStringValue", 5), 5),
 ]
 
 # The written text of some values, in extended mode.
@@ -224,6 +318,13 @@ def answer_of(text, mode):
         return parts_of(refusal)
 
 
+def printed_of(text, mode):
+    try:
+        return reference.written(reference.read(text, mode))
+    except reference.Refusal as refusal:
+        return refusal.printed()
+
+
 def answer_of_body(data):
     body = reference.Body(data, 0, reference.STANDARD)
     try:
@@ -238,6 +339,11 @@ def faults_of_reading():
             found = answer_of(text, MODES[mode])
             if found != wanted:
                 yield f"{MODES[mode]} {text[:80]!r}: {found}, and not {wanted}"
+    for modes, text, wanted in PRINTED:
+        for mode in modes:
+            found = printed_of(text, MODES[mode])
+            if found != wanted:
+                yield f"{MODES[mode]} {text[:80]!r}: {found!r}, and not {wanted!r}"
     for body, *wanted in BODIES:
         found = answer_of_body(body)
         if found != tuple(wanted):
@@ -262,7 +368,8 @@ def faults_of_order():
 def main():
     """Prints what the reference answers in another way."""
     faults = [*faults_of_reading(), *faults_of_writing(), *faults_of_order()]
-    counts = f"{len(ROWS)} texts, {len(BODIES)} bodies, {len(WRITTEN)} written texts, {len(UPWARDS)} places"
+    texts = len(ROWS) + len(PRINTED)
+    counts = f"{texts} texts, {len(BODIES)} bodies, {len(WRITTEN)} written texts, {len(UPWARDS)} places"
     print("\n".join(faults) or f"the reference gives what is known: {counts} in the order")
     sys.exit(1 if faults else 0)
 

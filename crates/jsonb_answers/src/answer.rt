@@ -9,9 +9,10 @@
 //! | a body | `ok` and its text in hexadecimal, or `no` as above; and the index that `parse_string` leaves |
 //! | any other | `unknown` |
 //!
-//! It is `same` where the tree, the value and what its written text reads back as are equal, and that text is written
-//! again.
+//! It is `same` where the value that was read is that of the tree, with the same variants of numbers and the same strings
+//! borrowed, and where what its written text reads back as is equal to it and is written as that text again.
 
+use crate::same::are_same;
 use crate::tree;
 use jsonb::{Error, JsonAst, Mode, Value};
 use std::alloc::{AllocError, Global};
@@ -119,12 +120,12 @@ fn written(alloc: Global, mode: Mode, text: &[u8]) -> jsonb::Result<Vec<u8>> {
     Ok(written)
 }
 
-// Whether the tree, the value and what its text reads back as are equal, and the text is written again.
+// Whether the value is that of the tree, what its text reads back as is equal to it, and the text is written again.
 fn agree<'a>(alloc: Global, mode: Mode, text: &'a [u8], written: &'a [u8]) -> jsonb::Result<bool> {
     let value = read(alloc, mode, text)?;
     let again = read(alloc, mode, written)?;
     let mut written_again = Vec::new(alloc);
     again.write_text(&mut written_again)?;
     let converted = JsonAst::parse(alloc, text, mode)?.into_value(alloc)?;
-    Ok(converted == value && again == value && &written_again[..] == written)
+    Ok(are_same(&converted, &value) && again == value && &written_again[..] == written)
 }

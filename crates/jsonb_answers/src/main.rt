@@ -3,6 +3,7 @@
 #![tactic(auto)]
 
 mod answer;
+mod same;
 mod tree;
 
 use std::io;

@@ -1,13 +1,12 @@
-//! Worked examples of the calls of `jsonb`.
+//! Worked examples of the calls of `jsonb` that no text alone can tell: of trees and values that are made by hand, and
+//! of indexes near the greatest. What is read of texts `jsonb_answers` is asked, with its file `stdin`.
 #![tactic(auto)]
 
 #[cfg(test)]
 mod ast;
 #[cfg(test)]
+mod by_hand;
+#[cfg(test)]
 mod decoding;
 #[cfg(test)]
 mod line;
-#[cfg(test)]
-mod numbers;
-#[cfg(test)]
-mod reading;

@@ -1,25 +1,11 @@
-// Whether two answers are the same, where equality alone would pass other marks and other variants of numbers.
-use jsonb_value::error::Error;
-use jsonb_value::number::Number;
-use jsonb_value::value::{Object, Value};
-use std::borrow::CowStr;
-use std::test::Fail;
+//! Whether two values are the same, where equality alone would pass other marks and other variants of numbers.
 
-// Whether the two are the same value, or one refusal.
-pub(super) fn are_same_answers<'a>(
-    left: &Result<Value<'a>, Error>,
-    right: &Result<Value<'a>, Error>,
-) -> bool {
-    match (left, right) {
-        (Ok(a), Ok(b)) => are_same(a, b),
-        (Err(a), Err(b)) => a == b,
-        _ => false,
-    }
-}
+use jsonb::{Number, Object, Value};
+use std::borrow::CowStr;
 
 // Whether the two are one JSON value, whose strings are borrowed in both or in neither.
 #[cycle(are_same)]
-pub(super) fn are_same<'a>(left: &Value<'a>, right: &Value<'a>) -> bool {
+pub fn are_same<'a>(left: &Value<'a>, right: &Value<'a>) -> bool {
     match (left, right) {
         (Value::Null, Value::Null) => true,
         (Value::Bool(a), Value::Bool(b)) => a == b,
@@ -70,7 +56,7 @@ fn are_same_strings(left: &CowStr, right: &CowStr) -> bool {
 }
 
 // Whether the two are one variant, with one scale and whole number.
-pub(super) fn are_same_numbers(left: &Number, right: &Number) -> bool {
+fn are_same_numbers(left: &Number, right: &Number) -> bool {
     match (left, right) {
         (Number::Int64(m), Number::Int64(n)) => m == n,
         (Number::UInt64(m), Number::UInt64(n)) => m == n,
@@ -78,30 +64,4 @@ pub(super) fn are_same_numbers(left: &Number, right: &Number) -> bool {
         (Number::Decimal128(m), Number::Decimal128(n)) => m.scale == n.scale && m.value == n.value,
         _ => false,
     }
-}
-
-#[test]
-fn marks_and_variants_are_told_apart(rt: HostRuntime) -> Result<(), Fail> {
-    let alloc = rt.alloc();
-    let values = [
-        Value::Null,
-        Value::Bool(false),
-        Value::Number(Number::UInt64(1)),
-        Value::Number(Number::Int64(1)),
-        Value::Number(super::decimal64(0, 1)),
-        Value::Number(super::decimal64(1, 10)),
-        Value::Number(super::decimal128(0, 1)),
-        Value::String(CowStr::Borrowed("a")),
-        Value::String(CowStr::Owned(String::from_str(alloc, "a")?)),
-        Value::Array(Vec::new(alloc)),
-        Value::Array(vec![in alloc; Value::Null]?),
-        Value::Array(vec![in alloc; Value::Bool(true)]?),
-        Value::Object(Object::new(alloc)),
-    ];
-    for (i, left) in values.iter().enumerate() {
-        for (j, right) in values.iter().enumerate() {
-            assert_eq!(rt; are_same(left, right), i == j, "of {i} and {j}");
-        }
-    }
-    Ok(())
 }

@@ -1,0 +1,118 @@
+"""What jsonb_answers is asked in each run of the gate, and the reference's answers: `stdin` and `stdout` of its crate.
+
+Run alone, it makes both files anew.
+"""
+
+import itertools
+import pathlib
+
+import known
+import reference
+import vectors
+
+CRATE = pathlib.Path(__file__).resolve().parent.parent / "crates" / "jsonb_answers"
+
+# Lines that ask nothing.
+UNKNOWN = ["", "s", "x 31", "s 3", "s zz", "s 31 32 33", "b zz"]
+
+# A comment or whitespace stands between these tokens, before them and after them.
+TOKENS = [b"[", b"1", b",", b"{", b"a", b":", b"'b'", b",", b'"c"', b":", b"[", b"2", b"]", b"}", b"]"]
+BETWEEN = [b" ", b"/*x*/", b"//x\n", b" /**/ //\r", b"/*", b"/*/", b" /**/ /*", b"//"]
+
+# An object of one member, whose key `a` and whose value are spelled in these ways.
+KEYS = [b'"a"', b' "\\u0061"', b"'a'", b" '\\u0061'", b"a", b" a", b"/*b*/a"]
+COLONS = [b":", b" :", b": ", b"\t:\n", b"\\n : \\x0C", b"/**/:", b":/**/", b"//\n:"]
+VALUES = [b"1", b"-5 ", b"null", b'"b"', b'"\\u0062" ', b"[]", b"[1] ", b'{"b" : {}}', b"'b'", b"+.5"]
+
+# Strings and keys of each length up to two vectors and more, closed and cut off.
+AROUND = [
+    (b'["', b'"]'), (b'["\\n', b'"]'), (b'["\xc3\xa9', b'"]'), (b'["', b'\\n"]'), (b"['", b'"\']'), (b'{"k":"', b'"}'),
+    (b'{"', b'":1}'), (b'{"', b'\\n":1}'), (b'{"\\n', b'":""}'), (b"{", b":1}"),
+]
+LENGTHS = range(37)
+
+# An object past three levels of a map, its keys in no order: each number comes once, since their count is a prime.
+KEYS_OF_A_WIDE_OBJECT = 1201
+
+
+def wide_object():
+    numbers = [(5 + 700 * place) % KEYS_OF_A_WIDE_OBJECT for place in range(KEYS_OF_A_WIDE_OBJECT)]
+    return b"{" + b",".join(b'"k%04d":%d' % (number, number) for number in numbers) + b"}"
+
+
+def nested(front, part, times, end, back):
+    """A value in so many arrays and objects."""
+    return front + part * times + b"1" + end * times + back
+
+
+def deep():
+    yield nested(b"", b"[", 512, b"]", b"")
+    yield nested(b"", b'{"a":', 512, b"}", b"")
+    yield nested(b"", b'[{"a":', 256, b"}]", b"")
+    yield nested(b"", b'{"a":[', 256, b"]}", b"")
+    yield nested(b"", b"[", 513, b"]", b"")
+    yield nested(b"", b'{"a":', 513, b"}", b"")
+    yield nested(b"[", b'{"a":[', 256, b"]}", b"]")
+    yield nested(b'{"a":', b'[{"a":', 256, b"}]", b"}")
+
+
+def long_strings():
+    part = b"abcdefg\xc3\xa9" * 600
+    yield b'"' + part + b'"'
+    yield b'"\\n' + part + b'\\n"'
+
+
+def beginnings():
+    document = b"{b:'x', a:+007}"
+    return (document[:length] for length in range(len(document) + 1))
+
+
+def texts_beside():
+    """Tokens with each of what stands between them at each place."""
+    for place, between in itertools.product(range(len(TOKENS) + 1), BETWEEN):
+        yield b"".join([*TOKENS[:place], between, *TOKENS[place:]])
+
+
+def members():
+    return (b"{" + key + colon + value + b"}" for key, colon, value in itertools.product(KEYS, COLONS, VALUES))
+
+
+def of_each_length():
+    for (front, back), length in itertools.product(AROUND, LENGTHS):
+        yield front + b"a" * length + back
+        yield front + b"a" * length
+
+
+def texts():
+    """The texts that are read in both modes."""
+    yield from (text for _, text, _ in known.ROWS + known.PRINTED if len(text) <= vectors.MAX_KNOWN_BYTES)
+    yield from (text for text, _ in known.WRITTEN)
+    yield from itertools.chain(beginnings(), texts_beside(), members(), of_each_length())
+    yield from itertools.chain(deep(), long_strings(), [wide_object()])
+
+
+def pairs():
+    """Each two values that are equal or beside one another in the known order, both ways round."""
+    for equal, above in zip(known.UPWARDS, known.UPWARDS[1:] + [[]]):
+        yield from itertools.permutations(equal, 2)
+        yield from ((equal[0], higher) for higher in above)
+        yield from ((higher, equal[-1]) for higher in above)
+
+
+def lines():
+    yield from UNKNOWN
+    yield from (f"{mode} {text.hex()}" for text in texts() for mode in ("s", "e"))
+    yield from (f"b {body.hex()}" for body, *_ in known.BODIES)
+    yield from (f"e {left.hex()} {right.hex()}" for left, right in pairs())
+    yield from vectors.lines_and_answers()[0]
+
+
+def main():
+    asked = list(dict.fromkeys(lines()))
+    (CRATE / "stdin").write_text("".join(f"{line}\n" for line in asked), encoding="utf-8")
+    (CRATE / "stdout").write_text("".join(f"{reference.answer(line)}\n" for line in asked), encoding="utf-8")
+    print(f"{len(asked)} lines")
+
+
+if __name__ == "__main__":
+    main()
