@@ -2,8 +2,9 @@
 
 import itertools
 import random
+import re
 
-from reference import EXTENDED, STANDARD, Refusal, read
+from reference import EXTENDED, RANGES, STANDARD, Refusal, number_of, read
 
 # Places where the rules change: variants, what is carried, what a hexadecimal holds, what is looked at.
 LIMITS = (0, 1, 10 ** 18, 10 ** 19, 2 ** 63, 2 ** 64, 10 ** 37, 10 ** 38, 2 ** 127, 2 ** 128, 10 ** 39)
@@ -45,6 +46,27 @@ class Maker:
 
     def in_either_case(self, word):
         return "".join(self.pick((c.lower(), c.upper())) for c in word).encode()
+
+    # Numbers by hand.
+
+    def number_by_hand(self):
+        variant = self.pick(tuple(RANGES))
+        least, greatest = RANGES[variant]
+        whole = self.pick((self.pick(LIMITS), 10 ** self.count(0, 38), self.count(0, 2 ** self.count(0, 128))))
+        whole = (whole + self.count(-1, 1)) * self.pick((1, 10, 100, 10 ** self.count(0, 20))) * self.pick((-1, 1))
+        whole = min(max(whole, least), greatest)
+        if variant in ("Int64", "UInt64"):
+            return f"{variant}({whole})"
+        return f"{variant}({self.pick((0, 1, 2, 18, 38, self.count(0, 45), self.count(0, 255)))},{whole})"
+
+    def number_beside(self, word):
+        """Any number, or one whose whole number is near, with the scale of another."""
+        other = self.number_by_hand()
+        if self.chance(0.5):
+            return other
+        whole = int(re.findall("-?[0-9]+", word)[-1])
+        moved = re.sub(r"-?[0-9]+\)", f"{whole * self.pick((1, 10, 100)) + self.count(-1, 1)})", other)
+        return moved if number_of(moved) else other
 
     # Blanks and comments.
 
@@ -379,6 +401,14 @@ def bodies(seed, count):
     maker = Maker(f"bodies {seed}")
     for _ in range(count):
         yield maker.body()
+
+
+def numbers(seed, count):
+    """So many rows of one number or two, spelled as in a tree. The second is often near the first."""
+    maker = Maker(f"numbers {seed}")
+    for _ in range(count):
+        left = maker.number_by_hand()
+        yield left if maker.chance(0.4) else f"{left} {maker.number_beside(left)}"
 
 
 def short(most):

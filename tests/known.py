@@ -306,6 +306,95 @@ UPWARDS = [
 ]
 
 
+# Numbers, spelled as in a tree, with their exact casts and with their rounded ones: to 128 bits, `i64` and `u64`.
+CASTS = [
+    ("Decimal64(200,0)", (0, 0, 0), (0, 0, 0)), ("Decimal64(200,1)", (None, None, None), (0, 0, 0)),
+    ("Decimal64(1,1234)", (None, None, None), (123, 123, 123)),
+    ("Decimal128(1,-1230)", (-123, -123, None), (-123, -123, None)),
+    (f"UInt64({2 ** 64 - 1})", (2 ** 64 - 1, None, 2 ** 64 - 1), (2 ** 64 - 1, None, 2 ** 64 - 1)),
+    ("Decimal64(1,-5)", (None, None, None), (-1, -1, None)), ("Decimal64(1,-4)", (None, None, None), (0, 0, 0)),
+    ("Decimal128(1,-1235)", (None, None, None), (-124, -124, None)),
+    ("Decimal128(1,92233720368547758075)", (None, None, None), (2 ** 63, None, 2 ** 63)),
+    (f"Decimal128(38,{5 * 10 ** 37})", (None, None, None), (1, 1, 1)),
+    (f"Decimal128(38,{5 * 10 ** 37 - 1})", (None, None, None), (0, 0, 0)),
+    (f"Decimal128(38,{2 ** 127 - 1})", (None, None, None), (2, 2, 2)),
+    (f"Decimal128(39,{2 ** 127 - 1})", (None, None, None), (0, 0, 0)),
+    (f"Decimal128(38,{-2 ** 127})", (None, None, None), (-2, -2, None)),
+    (f"Decimal128(39,{-2 ** 127})", (None, None, None), (0, 0, 0)),
+]
+
+# Numbers with their texts.
+NUMBER_TEXTS = [
+    (f"Int64({-2 ** 63})", "-9223372036854775808"), (f"UInt64({2 ** 64 - 1})", "18446744073709551615"),
+    ("Int64(0)", "0"), ("Decimal64(2,0)", "0.00"), ("Decimal64(2,-5)", "-0.05"), ("Decimal64(0,-5)", "-5"),
+    (f"Decimal64(1,{2 ** 63 - 1})", "922337203685477580.7"),
+    (f"Decimal64(255,{-2 ** 63})", "-0." + "0" * 236 + "9223372036854775808"),
+    (f"Decimal128(38,{2 ** 127 - 1})", "1.70141183460469231731687303715884105727"),
+    (f"Decimal128(40,{-2 ** 127})", "-0.0170141183460469231731687303715884105728"),
+    (f"Decimal128(255,{-2 ** 127})", "-0." + "0" * 216 + "170141183460469231731687303715884105728"),
+]
+
+# What arithmetic answers.
+ARITHMETIC = [
+    ("add", "Int64(-1)", f"UInt64({2 ** 63})", f"Int64({2 ** 63 - 1})"),
+    ("add", f"UInt64({2 ** 64 - 1})", "Int64(-1)", "Int64 overflow"),
+    ("add", f"UInt64({2 ** 64 - 1})", "Int64(1)", "UInt64 overflow"), ("add", "Int64(5)", "UInt64(1)", "UInt64(6)"),
+    ("add", "Int64(5)", "Int64(-7)", "Int64(-2)"), ("add", "UInt64(1)", "Decimal128(0,1)", "UnexpectedType"),
+    ("mul", "Int64(-1)", f"UInt64({2 ** 63})", f"Int64({-2 ** 63})"),
+    ("mul", "Int64(-2)", f"UInt64({2 ** 63})", "Int64 overflow"),
+    ("mul", "UInt64(2)", f"UInt64({2 ** 63})", "UInt64 overflow"), ("mul", "UInt64(3)", "Int64(-2)", "Int64(-6)"),
+    ("mul", "Decimal64(0,1)", "UInt64(1)", "UnexpectedType"),
+    ("sub", "Int64(5)", f"UInt64({2 ** 63})", "Int64(-9223372036854775803)"),
+    ("sub", f"UInt64({2 ** 64 - 1})", f"UInt64({2 ** 64 - 1})", "Int64(0)"),
+    ("sub", "UInt64(0)", "UInt64(1)", "Int64(-1)"), ("sub", f"Int64({-2 ** 63})", "Int64(1)", "Int64 overflow"),
+    ("sub", f"UInt64({2 ** 64 - 1})", "UInt64(0)", "UInt64 overflow"),
+    ("sub", f"UInt64({2 ** 64 - 1})", "Int64(-1)", "Int64 overflow"),
+    ("rem", "Int64(-7)", f"UInt64({2 ** 64 - 1})", "Int64(-7)"),
+    ("rem", f"UInt64({2 ** 64 - 1})", "Int64(-2)", "Int64(1)"), ("rem", "Int64(7)", "UInt64(4)", "UInt64(3)"),
+    ("rem", "Int64(-7)", "Int64(2)", "Int64(-1)"), ("rem", "UInt64(7)", "UInt64(4)", "UInt64(3)"),
+    ("rem", f"UInt64({2 ** 63})", "Int64(-1)", "Int64(0)"),
+    ("rem", f"Int64({-2 ** 63})", "Int64(-1)", "Int64 overflow"),
+    ("rem", "UInt64(3)", "UInt64(0)", "Division by zero"), ("rem", "Decimal64(1,5)", "Int64(0)", "UnexpectedType"),
+]
+
+# What `neg` answers.
+OPPOSITES = [
+    (f"UInt64({2 ** 63})", "Int64 overflow"), (f"Int64({-2 ** 63})", "Int64 overflow"), ("UInt64(5)", "Int64(-5)"),
+    (f"Decimal64(0,{-2 ** 63})", "Decimal64 overflow"), (f"Decimal128(3,{-2 ** 127})", "Decimal128 overflow"),
+    ("Decimal64(3,-7)", "Decimal64(3,7)"),
+]
+
+# The order of two numbers: products within 128 bits, just within, and past them.
+ORDERED_NUMBERS = [
+    ("Decimal128(0,17014118346046923173168730371588410572)", f"Decimal128(1,{2 ** 127 - 1})", "less"),
+    ("Decimal128(0,17014118346046923173168730371588410573)", f"Decimal128(1,{2 ** 127 - 1})", "greater"),
+    (f"Decimal128(0,{2 ** 127 - 1})", f"Decimal128(38,{2 ** 127 - 1})", "greater"),
+    ("Decimal64(0,1)", f"Decimal128(255,{2 ** 127 - 1})", "greater"),
+    ("Decimal64(0,-1)", f"Decimal128(255,{-2 ** 127})", "less"),
+    ("Decimal128(255,1)", "Decimal128(0,0)", "greater"), ("Decimal128(0,0)", "Decimal128(255,0)", "equal"),
+    ("Decimal64(2,1234)", "Decimal128(3,12340)", "equal"), ("Int64(12)", "Decimal64(1,121)", "less"),
+    (f"UInt64({2 ** 64 - 1})", f"Decimal128(0,{2 ** 63 - 1})", "greater"), ("Int64(5)", "UInt64(5)", "equal"),
+]
+
+# Sort keys of numbers.
+NUMBER_KEYS = [
+    ("Decimal128(0,0)", "80"), ("Decimal128(255,0)", "80"), ("Decimal128(0,1)", "a114"), ("UInt64(1)", "a114"),
+    ("Decimal128(2,100)", "a114"), ("Decimal128(0,42)", "a254"), ("Int64(42)", "a254"),
+    ("Decimal128(0,123)", "a3193c"), ("UInt64(65535)", "a5836b64"), ("Decimal128(0,1000)", "a414"),
+    ("Decimal128(1,5)", "a064"), ("Decimal64(2,314)", "a13f50"), ("Decimal128(30,1)", "8314"),
+    ("Decimal128(31,1)", "8214"), ("Decimal128(32,1)", "81e014"), ("Decimal128(255,1)", "810114"),
+    ("Decimal128(0,-42)", "5dab"), ("Decimal128(2,-5)", "609b"),
+    (f"Decimal128(0,{2 ** 127 - 1})", "c72303532545795db93f9321af3d4b1fb1530b918c"),
+]
+
+# Sort keys of texts in extended mode.
+KEYS_OF_TEXTS = [
+    (b"''", "d00001"), (b"'a'", "d0610001"), (b"[1,null]", "d2a114d300"), (b"'\\u0000'", "d000ff0001"),
+    (b"{b:2,a:1.0}", "d1610001a114620001a1280000"), (b"true", "16"), (b"false", "15"), (b"[]", "d200"),
+    (b"{}", "d10000"),
+]
+
+
 def parts_of(refusal):
     argument = () if refusal.argument is None else (refusal.argument,)
     return (refusal.code, refusal.position, *argument)
@@ -365,12 +454,41 @@ def faults_of_order():
             yield f"{left!r} and {right!r}: not {wanted}"
 
 
+def known_of_numbers():
+    """Each row of numbers with what the reference answers of it, and what it is to answer."""
+    number = reference.number_of
+    for word, casts, nearest in CASTS:
+        wanted = " ".join(str("none" if cast is None else cast) for cast in casts + nearest)
+        yield word, " ".join(reference.answer_number(number(word)).split(" ")[1:7]), wanted
+    for word, text in NUMBER_TEXTS:
+        yield word, reference.answer_number(number(word)).split(" ")[0], text
+    for name, left, right, wanted in ARITHMETIC:
+        found = reference.operated(name, number(left), number(right))
+        yield f"{name} of {left} and {right}", found if isinstance(found, str) else reference.described(found), wanted
+    for word, wanted in OPPOSITES:
+        found = reference.negated(number(word))
+        yield f"neg of {word}", found if isinstance(found, str) else reference.described(found), wanted
+    for left, right, wanted in ORDERED_NUMBERS:
+        yield f"{left} and {right}", reference.answer_two_numbers(number(left), number(right)).split(" ")[0], wanted
+    for word, wanted in NUMBER_KEYS:
+        yield f"key of {word}", reference.answer_number(number(word)).split(" ")[-1], wanted
+    for text, wanted in KEYS_OF_TEXTS:
+        yield f"key of {text!r}", reference.answer_key(text), f"ok {wanted}"
+
+
+def faults_of_numbers():
+    for what, found, wanted in known_of_numbers():
+        if found != wanted:
+            yield f"{what}: {found}, and not {wanted}"
+
+
 def main():
     """Prints what the reference answers in another way."""
-    faults = [*faults_of_reading(), *faults_of_writing(), *faults_of_order()]
+    faults = [*faults_of_reading(), *faults_of_writing(), *faults_of_order(), *faults_of_numbers()]
     texts = len(ROWS) + len(PRINTED)
-    counts = f"{texts} texts, {len(BODIES)} bodies, {len(WRITTEN)} written texts, {len(UPWARDS)} places"
-    print("\n".join(faults) or f"the reference gives what is known: {counts} in the order")
+    counts = f"{texts} texts, {len(BODIES)} bodies, {len(WRITTEN)} written texts, {len(UPWARDS)} places in the order"
+    rows = len(list(known_of_numbers()))
+    print("\n".join(faults) or f"the reference gives what is known: {counts}, {rows} rows of numbers and keys")
     sys.exit(1 if faults else 0)
 
 

@@ -20,7 +20,7 @@ def path(name):
 
 def newest_source(name):
     files = [TOP / "crates.txt"]
-    for crate in ("jsonb_value", "jsonb", name):
+    for crate in ("jsonb_value", "jsonb_scan", "jsonb", name):
         for file in (CRATES / crate).rglob("*"):
             if file.suffix in (".rt", ".antt") and "out" not in file.parts:
                 files.append(file)

@@ -1,7 +1,8 @@
 """A second reading of JSON texts, in both modes, to compare the reader with.
 
-It is written from the rules in docs/GRAMMAR.md and docs/VALUES.md, and not from the code of the crates. It is to be
-plain, not fast. Run alone, it answers the lines that it reads from standard input as the program `jsonb_answers` does.
+It is written from the rules in docs/GRAMMAR.md, docs/VALUES.md and docs/SORT_KEYS.md, and not from the code of the
+crates. It is to be plain, not fast. Run alone, it answers the lines that it reads from standard input as the program
+`jsonb_answers` does.
 
 A tree is a tuple whose first part is its kind:
 
@@ -12,6 +13,8 @@ The mark of a string is "plain" where it has no backslash in the text, else "esc
 after its key's spelling.
 """
 
+import math
+import re
 import sys
 
 STANDARD = "standard"
@@ -640,6 +643,101 @@ def order_of_lists(left, right, order_of_items):
     return sign_of(len(left), len(right))
 
 
+# Numbers by themselves.
+
+RANGES = {
+    "Int64": (-(2 ** 63), 2 ** 63 - 1),
+    "UInt64": (0, 2 ** 64 - 1),
+    "Decimal64": (-(2 ** 63), 2 ** 63 - 1),
+    "Decimal128": (-(2 ** 127), 2 ** 127 - 1),
+}
+SIGNED, UNSIGNED = RANGES["Int64"], RANGES["UInt64"]
+
+
+def within(whole, bounds):
+    return whole is not None and bounds[0] <= whole <= bounds[1]
+
+
+def exact(number):
+    """The whole number that the number is, or None."""
+    _, _, scale, whole = number
+    return None if whole % 10 ** scale else whole // 10 ** scale
+
+
+def rounded(number):
+    """The nearest whole number, halves away from zero."""
+    _, _, scale, whole = number
+    nearest = (2 * abs(whole) + 10 ** scale) // (2 * 10 ** scale)
+    return -nearest if whole < 0 else nearest
+
+
+def in_variant(variant, whole, message=None):
+    """The number, or what is printed of the refusal."""
+    if within(whole, RANGES[variant]):
+        return ("number", variant, 0, whole)
+    return message or f"{variant} overflow"
+
+
+def negated(number):
+    _, variant, scale, whole = number
+    if variant.startswith("Decimal"):
+        return ("number", variant, scale, -whole) if within(-whole, RANGES[variant]) else f"{variant} overflow"
+    # The opposite of a UInt64 of 2^63 would fit, and is refused.
+    return "Int64 overflow" if whole == 2 ** 63 else in_variant("Int64", -whole)
+
+
+def operated(name, left, right):
+    """The answer of `add`, `sub`, `mul` or `rem`."""
+    (_, variant, _, a), (_, other, _, b) = left, right
+    if variant.startswith("Decimal") or other.startswith("Decimal"):
+        return "UnexpectedType"
+    if name == "sub":
+        return in_variant("Int64", a - b, "UInt64 overflow" if variant == other == "UInt64" else None)
+    of_signs = variant if variant == other else "Int64" if min(a, b) < 0 else "UInt64"
+    if name == "add":
+        return in_variant(of_signs, a + b)
+    if name == "mul":
+        return in_variant(of_signs, a * b)
+    if b == 0:
+        return "Division by zero"
+    if variant == other == "Int64" and a == -(2 ** 63) and b == -1:
+        return "Int64 overflow"
+    return in_variant(of_signs, abs(a) % abs(b) * (-1 if a < 0 else 1))
+
+
+# Sort keys.
+
+def text_key(text):
+    return text.replace(b"\0", b"\0\xff") + b"\0\1"
+
+
+def number_key(scale, whole):
+    if whole == 0:
+        return b"\x80"
+    digits = str(abs(whole))
+    before = len(digits) - scale
+    key = bytes([0xA0 + before]) if before >= -30 else bytes([0x81, 255 + before])
+    digits = digits.rstrip("0")
+    pairs = [int(digits[at:at + 2].ljust(2, "0")) for at in range(0, len(digits), 2)]
+    key += bytes([2 * pair + 1 for pair in pairs[:-1]] + [2 * pairs[-1]])
+    return bytes(255 - byte for byte in key) if whole < 0 else key
+
+
+def sort_key(tree):
+    kind = tree[0]
+    if kind == "bool":
+        return b"\x16" if tree[1] else b"\x15"
+    if kind == "number":
+        return number_key(tree[2], tree[3])
+    if kind == "string":
+        return b"\xd0" + text_key(tree[2])
+    if kind == "object":
+        return b"\xd1" + b"".join(text_key(key) + sort_key(item) for _, key, _, item in tree[1]) + b"\0\0"
+    if kind == "array":
+        return b"\xd2" + b"".join(sort_key(item) for item in tree[1]) + b"\0"
+    return b"\xd3"
+
+
 # The answers of the program `jsonb_answers`.
 
 def described(tree):
@@ -691,15 +789,60 @@ def answer_body(data):
         return f"no {refusal.printed().hex()} {body.idx}"
 
 
+def answer_key(data):
+    try:
+        return f"ok {sort_key(read(data, EXTENDED)).hex()}"
+    except Refusal as refusal:
+        return f"no {refusal.printed().hex()}"
+
+
+def number_of(word):
+    """The number that is spelled as in a tree, or None."""
+    found = re.fullmatch(r"(U?Int64)\((-?[0-9]+)\)|(Decimal64|Decimal128)\(([0-9]+),(-?[0-9]+)\)", word)
+    if found is None:
+        return None
+    variant, scale, whole = found[1] or found[3], int(found[4] or 0), int(found[2] or found[5])
+    return ("number", variant, scale, whole) if scale <= 255 and within(whole, RANGES[variant]) else None
+
+
+def answer_number(number):
+    casts = [found if within(found, bounds) else "none"
+             for found in (exact(number), rounded(number)) for bounds in ((-math.inf, math.inf), SIGNED, UNSIGNED)]
+    _, _, scale, whole = number
+    text, key = number_text(scale, whole).decode(), number_key(scale, whole).hex()
+    return " ".join([text, *map(str, casts), described_or_refused(negated(number)), key])
+
+
+def described_or_refused(answer):
+    return f"no:{answer.encode().hex()}" if isinstance(answer, str) else described(answer)
+
+
+def answer_two_numbers(left, right):
+    word = ("less", "equal", "greater")[order(left, right) + 1]
+    answers = (described_or_refused(operated(name, left, right)) for name in ("add", "sub", "mul", "rem"))
+    return " ".join([word, *answers])
+
+
+def answer_numbers(words):
+    numbers = [number_of(word) for word in words]
+    if None in numbers or len(numbers) not in (1, 2):
+        return "unknown"
+    return answer_number(*numbers) if len(numbers) == 1 else answer_two_numbers(*numbers)
+
+
 def answer(line):
-    """The answer to a line: a letter, and one or two texts in hexadecimal."""
+    """The answer to a line: a letter, and one or two texts in hexadecimal, or numbers."""
     letter, *words = line.split(" ")
+    if letter == "n":
+        return answer_numbers(words)
     try:
         texts = [bytes.fromhex(word) for word in words]
     except ValueError:
         return "unknown"
     if letter == "b" and len(texts) == 1:
         return answer_body(texts[0])
+    if letter == "k" and len(texts) == 1:
+        return answer_key(texts[0])
     mode = {"s": STANDARD, "e": EXTENDED}.get(letter)
     if mode is not None and len(texts) == 1:
         return answer_text(texts[0], mode)

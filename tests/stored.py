@@ -13,7 +13,10 @@ import vectors
 CRATE = pathlib.Path(__file__).resolve().parent.parent / "crates" / "jsonb_answers"
 
 # Lines that ask nothing.
-UNKNOWN = ["", "s", "x 31", "s 3", "s zz", "s 31 32 33", "b zz"]
+UNKNOWN = [
+    "", "s", "x 31", "s 3", "s zz", "s 31 32 33", "b zz", "k zz", "n", "n 5", "n Int64(x)", "n Date(1)",
+    "n Int64(9223372036854775808)", "n Decimal64(256,0)", "n Int64(1) Int64(2) Int64(3)",
+]
 
 # A comment or whitespace stands between these tokens, before them and after them.
 TOKENS = [b"[", b"1", b",", b"{", b"a", b":", b"'b'", b",", b'"c"', b":", b"[", b"2", b"]", b"}", b"]"]
@@ -99,8 +102,26 @@ def pairs():
         yield from ((higher, equal[-1]) for higher in above)
 
 
+def numbers():
+    """Numbers alone and in pairs, in the order of their rows; and each scale with the least and a small number."""
+    for rows in (known.CASTS, known.NUMBER_TEXTS, known.OPPOSITES, known.NUMBER_KEYS):
+        yield from (word for word, *_ in rows)
+    for _, left, right, _ in known.ARITHMETIC:
+        yield f"{left} {right}"
+        yield f"{right} {left}"
+    for left, right, _ in known.ORDERED_NUMBERS:
+        yield f"{left} {right}"
+        yield f"{right} {left}"
+    for scale in range(256):
+        yield f"Decimal64({scale},{-2 ** 63})"
+        yield f"Decimal128({scale},7)"
+
+
 def lines():
     yield from UNKNOWN
+    yield from (f"n {words}" for words in numbers())
+    yield from (f"k {text.hex()}" for text, _ in known.KEYS_OF_TEXTS)
+    yield from (f"k {text.hex()}" for equal in known.UPWARDS for text in equal)
     yield from (f"{mode} {text.hex()}" for text in texts() for mode in ("s", "e"))
     yield from (f"b {body.hex()}" for body, *_ in known.BODIES)
     yield from (f"e {left.hex()} {right.hex()}" for left, right in pairs())

@@ -6,14 +6,19 @@
 //! | one text, which is read | `ok`, its tree, its written text in hexadecimal, and `same` or `differs` |
 //! | one text, which is refused | `no` and what is printed of the refusal, in hexadecimal |
 //! | two texts, which are read | `less`, `equal` or `greater` |
+//! | a text for its key | `ok` and the sort key in hexadecimal, or `no` as above |
 //! | a body | `ok` and its text in hexadecimal, or `no` as above; and the index that `parse_string` leaves |
+//! | one number | its text, `as_i128`, `as_i64`, `as_u64`, `to_i128`, `to_i64`, `to_u64`, `neg`, and its sort key |
+//! | two numbers | their order, their sum, difference, product and remainder |
 //! | any other | `unknown` |
+//!
+//! A cast that gives no number is `none`. What arithmetic refuses is `no:` and what is printed of that, in hexadecimal.
 //!
 //! It is `same` where the value that was read is that of the tree, with the same variants of numbers and the same strings
 //! borrowed, and where what its written text reads back as is equal to it and is written as that text again.
 
 use crate::same::are_same;
-use crate::tree;
+use crate::{numbers, tree};
 use jsonb::{Error, JsonAst, Mode, Value};
 use std::alloc::{AllocError, Global};
 use std::cmp::Ordering;
@@ -23,7 +28,12 @@ pub fn answer(alloc: Global, line: &str) -> Result<String, AllocError> {
     match line.split_once(' ') {
         Some(("s", texts)) => of_texts(alloc, Mode::Standard, texts),
         Some(("e", texts)) => of_texts(alloc, Mode::Extended, texts),
+        Some(("k", text)) => of_key(alloc, text),
         Some(("b", body)) => of_body(alloc, body),
+        Some(("n", words)) => match numbers::answer(alloc, words)? {
+            Some(answer) => Ok(answer),
+            None => unknown(alloc),
+        },
         _ => unknown(alloc),
     }
 }
@@ -37,6 +47,25 @@ fn of_texts(alloc: Global, mode: Mode, texts: &str) -> Result<String, AllocError
         None => one_text(alloc, mode, texts),
         Some((left, right)) => two_texts(alloc, mode, left, right),
     }
+}
+
+fn of_key(alloc: Global, text: &str) -> Result<String, AllocError> {
+    let Ok(text) = hex::decode(alloc, text) else {
+        return unknown(alloc);
+    };
+    match sort_key(alloc, &text) {
+        Ok(key) => {
+            let key = hex::encode(alloc, &key[..])?;
+            format!(in alloc; "ok {key}")
+        }
+        Err(e) => refused(alloc, &e),
+    }
+}
+
+fn sort_key(alloc: Global, text: &[u8]) -> jsonb::Result<Vec<u8>> {
+    let mut key = Vec::new(alloc);
+    jsonb::parse_value(alloc, text)?.write_sort_key(&mut key)?;
+    Ok(key)
 }
 
 fn of_body(alloc: Global, body: &str) -> Result<String, AllocError> {

@@ -1,8 +1,10 @@
-//! Reads JSON texts, one or two on each line of standard input, and says of each line how they are read.
+//! Reads JSON texts or numbers, one or two on each line of standard input, and says of each line how they are read, or
+//! what is answered of them.
 //! `tests/compare` asks it.
 #![tactic(auto)]
 
 mod answer;
+mod numbers;
 mod same;
 mod tree;
 

@@ -25,7 +25,8 @@ fn put(alloc: Global, out: &mut String, ast: &JsonAst<'_>) -> Result<(), AllocEr
     }
 }
 
-fn put_number(out: &mut String, number: &Number) -> Result<(), AllocError> {
+/// Puts the number's variant, scale and whole number.
+pub fn put_number(out: &mut String, number: &Number) -> Result<(), AllocError> {
     match number {
         Number::Int64(n) => write!(out, "Int64({n})"),
         Number::UInt64(n) => write!(out, "UInt64({n})"),

@@ -8,6 +8,4 @@ mod extension;
 #[cfg(test)]
 mod number;
 #[cfg(test)]
-mod order;
-#[cfg(test)]
 mod value;
