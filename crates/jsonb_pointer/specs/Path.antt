@@ -10,6 +10,7 @@ use Rattle.jsonb.specs.Parser.{Fails, HoldsMarker}
 use Rattle.jsonb.specs.Accessors.{find_member, item_at}
 use Rattle.jsonb.specs.Reading.Document.{document_of}
 use Rattle.jsonb.specs.Tree.{Tree, array, object, Trees}
+use Rattle.jsonb_value.specs.Text.ReadsBack.{ReadsBackAs}
 use Rattle.jsonb_value.specs.Text.{text_of}
 use Rattle.jsonb_value.specs.declared.error.Error.TheVariants.{OutOfMemory}
 use Rattle.jsonb_pointer.specs.declared.part.Refusal.{Refusal}
@@ -59,7 +60,8 @@ abbrev pub IsAt : Tree → List (List ℕ) → Tree → Type 0
 IsAt t [] part = t ≡ part
 IsAt t (key ∷ keys) part = (u : Tree) × IsChild t key u × IsAt u keys part
 
--- The bytes are the text of the document's part at the path.
+-- The bytes are the text of the document's part at the path, and they read back as a document of the same part with
+-- this text.
 pub record IsPartText (path document bytes : List ℕ) : Type 0 where
   pub keys : List (List ℕ)
   pub is_path : IsPath path keys
@@ -68,6 +70,7 @@ pub record IsPartText (path document bytes : List ℕ) : Type 0 where
   pub part : Tree
   pub at : IsAt tree keys part
   pub text : text_of part ≡ Some bytes
+  pub reads_back : ReadsBackAs extended bytes part
 
 -- The document has no part at the path.
 pub record HasNoPart (path document : List ℕ) : Type 0 where
