@@ -3,7 +3,6 @@ use Rattle.std.proofs.Common.{◌≡◌, ◌≢◌, ℕ, ◌≤◌, List, refl, 
 use Rattle.jsonb_value.specs.Code.{code_of}
 use Rattle.jsonb_value.specs.Grammar.{IsDocument, IsNoDocument}
 use Rattle.jsonb_value.specs.Mode.{Mode}
-use Rattle.jsonb_value.specs.Tree.{Tree}
 use Rattle.jsonb_value.specs.declared.error.Error.{Error}
 use Rattle.jsonb_value.specs.declared.error.Error.TheVariants as errors
 use Rattle.jsonb.specs.Parser.{Fails}

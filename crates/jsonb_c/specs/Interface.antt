@@ -1,5 +1,5 @@
 -- What the functions for C tell of texts.
-use Rattle.std.specs.Prelude.{◌≡◌, ◌≢◌, ℕ, ◌-◌, ◌<◌, ◌≤◌, ℤ, pos, negsuc, Bool, ◌||◌, ◌==◌, if◌then◌else◌, List, ◌++◌, length, drop, Some, Ok, Err}
+use Rattle.std.specs.Prelude.{◌≡◌, ◌≢◌, ℕ, ◌<◌, ◌≤◌, ℤ, pos, negsuc, Bool, ◌||◌, ◌==◌, if◌then◌else◌, List, ◌++◌, length, drop, Some, Ok, Err}
 use Rattle.std.specs.declared.cmp.Ordering.{Ordering}
 use Rattle.std.specs.declared.cmp.Ordering.TheVariants.{Less, Equal, Greater}
 use Rattle.jsonb_value.specs.declared.error.Error.{Error}
@@ -144,6 +144,12 @@ pub record IsOrdered (number : ℕ) (left right : List ℕ) (order : ℤ) : Type
   pub second_read : IsDocumentOf number right second
   pub ordered : order ≡ sign (tree_cmp first second)
 
+-- The number chooses a mode in which the text is no document.
+pub record IsNoDocumentOf (number : ℕ) (text : List ℕ) : Type 0 where
+  pub mode : Mode
+  pub chosen : NumberChooses number mode
+  pub no_document : IsNoDocument mode text
+
 -- The number chooses a mode in which the text is no document, and the bytes say in words which fault reading meets.
 pub record IsMessageOf (number : ℕ) (text bytes : List ℕ) : Type 0 where
   pub mode : Mode
@@ -168,15 +174,21 @@ pub record NeedsRoomForMessage (number : ℕ) (text : List ℕ) (size : ℕ) (ol
   pub sized : size ≡ length bytes
   pub too_short : length old < size
 
--- The bytes are the text of the part of the text's tree that stands at the path.
-pub record IsPartOf (number : ℕ) (path text bytes : List ℕ) : Type 0 where
+-- A part of the text's tree stands at the path.
+pub record HasPartAt (number : ℕ) (path text : List ℕ) : Type 0 where
   pub tree : Tree
   pub read : IsDocumentOf number text tree
   pub keys : List (List ℕ)
   pub is_path : IsPath path keys
   pub part : Tree
   pub at : IsAt tree keys part
-  pub is_text : text_of part ≡ Some bytes
+
+-- The bytes are the text of the part of the text's tree that stands at the path, and they read back as a document of
+-- the same part with this text.
+pub record IsPartOf (number : ℕ) (path text bytes : List ℕ) : Type 0 where
+  pub found : HasPartAt number path text
+  pub is_text : text_of found.part ≡ Some bytes
+  pub reads_back : ReadsBackAs found.read.mode bytes found.part
 
 -- The text's tree has no part at the path.
 pub record HasNoPartAt (number : ℕ) (path text : List ℕ) : Type 0 where
@@ -186,11 +198,15 @@ pub record HasNoPartAt (number : ℕ) (path text : List ℕ) : Type 0 where
   pub is_path : IsPath path keys
   pub none : (part : Tree) → IsAt tree keys part → ⊥
 
--- What stands at the path: a part with this text, or nothing; or the path is none.
+-- The bytes spell no path.
+abbrev pub IsNoPath : List ℕ → Type 0
+IsNoPath path = (keys : List (List ℕ)) → IsPath path keys → ⊥
+
+-- What stands at the path in a document: a part with this text, or nothing; or the path is none.
 abbrev pub IsPartAnswer : ℕ → List ℕ → List ℕ → Part → Type 0
 IsPartAnswer number path text (parts.Text bytes) = IsPartOf number path text bytes.items
 IsPartAnswer number path text parts.Nothing = HasNoPartAt number path text
-IsPartAnswer number path text parts.NoPath = (keys : List (List ℕ)) → IsPath path keys → ⊥
+IsPartAnswer number path text parts.NoPath = IsAccepted number text × IsNoPath path
 
 -- The text of the part stands at the front of the buffer, whose other bytes are as before.
 pub record IsPartWritten (number : ℕ) (path text : List ℕ) (size : ℕ) (old new : List ℕ) : Type 0 where

@@ -16,7 +16,7 @@ ghost use Rattle.jsonb.specs.Parser.{mode_of, Gives, HoldsMarker, IsTextRefusal}
 ghost use Rattle.jsonb.specs.Reading.Document.{document_of};
 ghost use Rattle.jsonb.specs.Refusals.{IsExplained};
 ghost use Rattle.jsonb_pointer.specs.Path.{IsPath, StartsKey};
-ghost use Rattle.jsonb_c.specs.Interface.{NumberChooses, added, code_number, ends_escape, names_next, nothing, sign, status_of, told, HasNoPartAt, IsAccepted, IsOneRefused, IsOrdered, IsDocumentOf, IsKeyOf, IsKeyWritten, IsMessageOf, IsMessageWritten, IsPartAnswer, IsPartWritten, IsReason, IsRefused, IsTextOf, IsWritten, NeedsRoom, NeedsRoomForKey, NeedsRoomForMessage, NeedsRoomForPart, SaysError};
+ghost use Rattle.jsonb_c.specs.Interface.{NumberChooses, added, code_number, ends_escape, names_next, nothing, sign, status_of, told, HasNoPartAt, HasPartAt, IsAccepted, IsNoDocumentOf, IsNoPath, IsOneRefused, IsOrdered, IsDocumentOf, IsKeyOf, IsKeyWritten, IsMessageOf, IsMessageWritten, IsPartAnswer, IsPartWritten, IsReason, IsRefused, IsTextOf, IsWritten, NeedsRoom, NeedsRoomForKey, NeedsRoomForMessage, NeedsRoomForPart, SaysError};
 
 use jsonb::{
     Error, Mode, ParseErrorCode, Value, line_and_column, parse_value, parse_value_standard_mode,
@@ -249,7 +249,6 @@ pub extern "C" fn vizhoniku_part(
 ) -> u32
     ensures status { result ≤ 6 }
     ensures mode { result ≡ UNKNOWN_MODE ↔ (1 < mode) }
-    ensures memory { result ≡ OUT_OF_MEMORY → HoldsMarker text.now ⊎ StartsKey path.now ⊎ IsAccepted mode text.now }
 
     // What is written is the text of the part of the document's tree, and no other byte of the buffer changes.
     ensures written { result ≡ ACCEPTED → IsPartWritten mode path.now text.now size.new out.old out.new }
@@ -259,7 +258,16 @@ pub extern "C" fn vizhoniku_part(
 
     // The document has no such part, or the path is none.
     ensures no_part { result ≡ NO_PART → HasNoPartAt mode path.now text.now }
-    ensures no_path { result ≡ NO_PATH → (keys : List (List ℕ)) → IsPath path.now keys → ⊥ }
+    ensures no_path { result ≡ NO_PATH → IsAccepted mode text.now × IsNoPath path.now }
+
+    // A part of a document is accepted, and what is wrong with the path of one is told, unless memory ran out.
+    ensures accepted { HasPartAt mode path.now text.now
+        → (result ≡ ACCEPTED) ⊎ (result ≡ TOO_SHORT) ⊎ (result ≡ OUT_OF_MEMORY) }
+    ensures nothing_there { HasNoPartAt mode path.now text.now → (result ≡ NO_PART) ⊎ (result ≡ OUT_OF_MEMORY) }
+    ensures wrong_path { IsAccepted mode text.now → IsNoPath path.now → (result ≡ NO_PATH) ⊎ (result ≡ OUT_OF_MEMORY) }
+    ensures memory { result ≡ OUT_OF_MEMORY → HoldsMarker text.now
+        ⊎ (IsAccepted mode text.now × StartsKey path.now)
+        ⊎ HasPartAt mode path.now text.now }
 
     // Which fault it is, and where.
     ensures refused { result ≡ REFUSED → IsRefused mode text.now 1 refusal.new }
@@ -300,8 +308,9 @@ enum Part {
 fn part_of(alloc: Global, mode: u32, path: &[u8], text: &[u8]) -> Result<Part, Refused>
     ensures part { IfOk result (IsPartAnswer mode path.now text.now) }
     ensures known { IfOk result (λ _. mode ≤ 1) }
-    ensures memory { result ≡ Err Refused.OutOfMemory
-        → HoldsMarker text.now ⊎ StartsKey path.now ⊎ IsAccepted mode text.now }
+    ensures memory { result ≡ Err Refused.OutOfMemory → HoldsMarker text.now
+        ⊎ (IsAccepted mode text.now × StartsKey path.now)
+        ⊎ HasPartAt mode path.now text.now }
     ensures reason { IfErr result (IsReason mode (IsRefused mode text.now 1)) }
 {
     let value = value_of(alloc, mode, text, 1)?;
@@ -391,7 +400,11 @@ pub extern "C" fn vizhoniku_message(
 ) -> u32
     ensures status { result ≤ 4 }
     ensures mode { result ≡ UNKNOWN_MODE ↔ (1 < mode) }
+
+    // A document is accepted, and nothing else, unless memory ran out.
     ensures document { result ≡ ACCEPTED → IsAccepted mode text.now }
+    ensures accepted { IsAccepted mode text.now → (result ≡ ACCEPTED) ⊎ (result ≡ OUT_OF_MEMORY) }
+    ensures memory { result ≡ OUT_OF_MEMORY → HoldsMarker text.now ⊎ IsNoDocumentOf mode text.now }
 
     // What is written is the message of the fault that reading meets, and no other byte of the buffer changes.
     ensures written { result ≡ REFUSED → IsMessageWritten mode text.now size.new out.old out.new }
@@ -424,6 +437,7 @@ fn message_of(alloc: Global, mode: u32, text: &[u8]) -> Result<Option<String>, R
     ensures message { IfOk result (λ answer. MatchOption answer (IsAccepted mode text.now)
         (λ message. IsMessageOf mode text.now (string_bytes message))) }
     ensures reason { IfErr result (IsReason mode (λ _. ⊥)) }
+    ensures memory { result ≡ Err Refused.OutOfMemory → HoldsMarker text.now ⊎ IsNoDocumentOf mode text.now }
 {
     let Some(mode) = choose_mode(mode) else {
         return Err(Refused::UnknownMode);

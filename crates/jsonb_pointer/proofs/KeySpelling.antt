@@ -154,3 +154,13 @@ pub no_text : (bytes : List ℕ) (keys others : List (List ℕ)) (key rest : Lis
 no_text bytes keys others key rest r not_text path =
     let more = r.only others path.spelled in
     not_text (key_among keys more.0 key (subst (AllByRecursion IsUtf8) more.1 path.texts))
+
+-- a path is spelled by one list of keys
+pub one_path : (keys others : List (List ℕ)) → spelled_keys keys ≡ spelled_keys others → keys ≡ others
+one_path [] [] same = refl
+one_path [] (l ∷ others) same = absurd (nil_cons 47 (spelled_key l ++ spelled_keys others) same)
+one_path (k ∷ keys) [] same = absurd (nil_cons 47 (spelled_key k ++ spelled_keys keys) (sym same))
+one_path (k ∷ keys) (l ∷ others) same =
+    let behind = (cons_cons 47 47 (spelled_key k ++ spelled_keys keys) (spelled_key l ++ spelled_keys others) same).1 in
+    let one = one_key k l (spelled_keys keys) (spelled_keys others) (ended keys) (ended others) behind in
+    ap (λ key. key ∷ keys) one.0 ∙ ap (λ left. l ∷ left) (one_path keys others one.1)

@@ -1,8 +1,7 @@
-use Rattle.std.proofs.Common.{◌≡◌, ℕ, false, List, [], ◌++◌, Result, Ok, Err, OnOk, ap, sym, ◌∙◌}
+use Rattle.std.proofs.Common.{◌≡◌, false, ◌++◌, Result, Ok, Err, OnOk, ap, sym, ◌∙◌}
 use Rattle.std.specs.Result.{is_err}
 use Rattle.jsonb_value.specs.SortKey.{key_of}
 use Rattle.jsonb_value.specs.View.{view}
-use Rattle.jsonb_c.specs.Interface.{IsKeyOf}
 use Rattle.jsonb_c.proofs.sort_key_of.Goals as goal
 
 done : {T E : Type 0} (P : Type 0) (r : Result T E) → is_err r ≡ false → OnOk r P → P
