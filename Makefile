@@ -1,6 +1,6 @@
 # Builds the library for C as a static and as a shared library, and installs both:
 #
-#   make                                builds build/libvizhoniku.a and build/libvizhoniku.so.1
+#   make                                builds build/libvizhoniku.a and build/libvizhoniku.so.0
 #   make install [PREFIX=/usr/local] [DESTDIR=]
 #
 # Needs the Rattle kit, cc, ld and objcopy. The library is proved before it is built, so the first time takes minutes.
@@ -9,18 +9,22 @@ INCLUDEDIR ?= $(PREFIX)/include
 LIBDIR ?= $(PREFIX)/lib
 INSTALL ?= install
 OBJCOPY ?= objcopy
+CFLAGS ?= -O2
 
 # The soname changes where a program that was linked before would go wrong.
-SONAME = libvizhoniku.so.1
-VERSION = $(shell sed -n 's/^\#define VIZHONIKU_VERSION //p' include/vizhoniku.h)
+SONAME = libvizhoniku.so.0
+VERSION = $(shell sed -n 's/^\#define VIZHONIKU_VERSION_STRING "\(.*\)"/\1/p' include/vizhoniku.h)
+
+# The functions that take bytes: packaging/empty.c stands before the proved ones.
+WITH_BYTES = check text part sort_key compare place message
 
 # Of the kit's archives only that of malloc, realloc and free is called.
-KIT := $(shell dirname "$$(rt doc)")
-CRATES = jsonb_value jsonb jsonb_pointer jsonb_c
+KIT = $(shell dirname "$$(rt doc)")
+CRATES = jsonb_value jsonb_scan jsonb jsonb_pointer jsonb_c
 SOURCES := crates.txt $(shell find $(CRATES:%=crates/%) -name out -prune -o \( -name '*.rt' -o -name '*.antt' \) -print)
 BUILT = crates/jsonb_c/out/libjsonb_c.a
 
-all: build/libvizhoniku.a build/$(SONAME) build/vizhoniku.pc
+all: build/libvizhoniku.a build/$(SONAME)
 
 # What rt prints is kept, and shown where it fails.
 $(BUILT): $(SOURCES)
@@ -30,10 +34,18 @@ $(BUILT): $(SOURCES)
 	@(cd crates/jsonb_c && rt lib) > build/log 2>&1 || { cat build/log >&2; exit 1; }
 	@touch -r build/start $@
 
-# One object, whose only global names are those of the header.
-build/vizhoniku.o: $(BUILT) packaging/exports
+build/proved.o: $(BUILT) Makefile
 	@mkdir -p build
 	$(LD) -r -o $@ --whole-archive $(BUILT) $(KIT)/c/liblibc_c.a
+	$(OBJCOPY) $(foreach name,$(WITH_BYTES),--redefine-sym vizhoniku_$(name)=proved_$(name)) $@
+
+build/empty.o: packaging/empty.c include/vizhoniku.h Makefile
+	@mkdir -p build
+	$(CC) $(CFLAGS) -std=c99 -Wall -Wextra -Werror -pedantic -fPIC -fno-lto -Iinclude -c -o $@ $<
+
+# One object, whose only global names are those of the header.
+build/vizhoniku.o: build/proved.o build/empty.o
+	$(LD) -r -o $@ $^
 	$(OBJCOPY) --wildcard --keep-global-symbol='vizhoniku_*' $@
 
 build/libvizhoniku.a: build/vizhoniku.o
@@ -43,18 +55,16 @@ build/libvizhoniku.a: build/vizhoniku.o
 build/$(SONAME): build/vizhoniku.o packaging/exports
 	$(CC) -shared -o $@ -Wl,-soname,$(SONAME) -Wl,--version-script=packaging/exports -Wl,-z,defs $(LDFLAGS) $<
 
-build/vizhoniku.pc: packaging/vizhoniku.pc.in include/vizhoniku.h Makefile
-	@mkdir -p build
-	sed -e 's|@PREFIX@|$(PREFIX)|' -e 's|@INCLUDEDIR@|$(INCLUDEDIR)|' -e 's|@LIBDIR@|$(LIBDIR)|' \
-	    -e 's|@VERSION@|$(VERSION)|' $< > $@
-
+# The file for pkg-config names the folders of this call.
 install: all
 	$(INSTALL) -d $(DESTDIR)$(INCLUDEDIR) $(DESTDIR)$(LIBDIR)/pkgconfig
 	$(INSTALL) -m 644 include/vizhoniku.h $(DESTDIR)$(INCLUDEDIR)
 	$(INSTALL) -m 644 build/libvizhoniku.a $(DESTDIR)$(LIBDIR)
 	$(INSTALL) -m 755 build/$(SONAME) $(DESTDIR)$(LIBDIR)
 	ln -sf $(SONAME) $(DESTDIR)$(LIBDIR)/libvizhoniku.so
-	$(INSTALL) -m 644 build/vizhoniku.pc $(DESTDIR)$(LIBDIR)/pkgconfig
+	sed -e 's|@PREFIX@|$(PREFIX)|' -e 's|@INCLUDEDIR@|$(INCLUDEDIR)|' -e 's|@LIBDIR@|$(LIBDIR)|' \
+	    -e 's|@VERSION@|$(VERSION)|' packaging/vizhoniku.pc.in > $(DESTDIR)$(LIBDIR)/pkgconfig/vizhoniku.pc
+	chmod 644 $(DESTDIR)$(LIBDIR)/pkgconfig/vizhoniku.pc
 
 uninstall:
 	rm -f $(DESTDIR)$(INCLUDEDIR)/vizhoniku.h $(DESTDIR)$(LIBDIR)/libvizhoniku.a $(DESTDIR)$(LIBDIR)/$(SONAME) \
@@ -64,3 +74,4 @@ clean:
 	rm -rf build
 
 .PHONY: all install uninstall clean
+.DELETE_ON_ERROR:

@@ -5,7 +5,7 @@
  * no lock, as long as none writes to what another uses.
  *
  * What a caller owes:
- *  - No pointer is null, not even that of an empty text or buffer.
+ *  - No pointer is null, but that of a text, a path or a buffer of size 0, which isn't looked at.
  *  - What a call writes to (buffer, size, order, refusal, place) lies apart from all else that the call is given.
  *  - No text and no buffer is longer than PTRDIFF_MAX bytes.
  *  - The thread has a megabyte of stack free, where a text is a stranger's: 800 KB is the most that a call was seen to
@@ -24,6 +24,9 @@
 #ifdef __cplusplus
 extern "C" {
 #endif
+
+/* The version of the library that this header belongs to. */
+#define VIZHONIKU_VERSION_STRING "0.1.0"
 
 /* The version of this interface. It grows where a function, a status or a code is added. vizhoniku_version answers that
  * of the library. */
@@ -97,7 +100,8 @@ uint32_t vizhoniku_text(uint32_t mode, const unsigned char *text, size_t text_si
  * is spelled as RFC 6901 has it: "" is the whole, and "/a/0" the first item of the member "a".
  *
  *  - VIZHONIKU_ACCEPTED and VIZHONIKU_TOO_SHORT: as of vizhoniku_text.
- *  - VIZHONIKU_NO_PART, VIZHONIKU_NO_PATH, any other status: *size is 0, and nothing was written. */
+ *  - VIZHONIKU_NO_PART, VIZHONIKU_NO_PATH: the text is a document. *size is 0, and nothing was written.
+ *  - any other status: *size is 0, and nothing was written. */
 uint32_t vizhoniku_part(uint32_t mode, const unsigned char *path, size_t path_size, const unsigned char *text,
                         size_t text_size, unsigned char *buffer, size_t buffer_size, size_t *size,
                         struct vizhoniku_refusal *refusal);

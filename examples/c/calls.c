@@ -1,4 +1,5 @@
-/* Makes calls whose answers main.c doesn't show: an unknown mode, and buffers of several sizes. Each prints a line. */
+/* Makes calls whose answers main.c doesn't show: an unknown mode, buffers of several sizes, parts and their paths, sort
+ * keys, and null pointers of size 0. Each prints a line. */
 #include <stdio.h>
 #include <string.h>
 
@@ -38,6 +39,52 @@ static void compare(uint32_t mode, const char *left, const char *right) {
   print_refusal(&refusal);
 }
 
+static void write_part(uint32_t mode, const char *path, const char *text, size_t buffer_size) {
+  unsigned char buffer[12];
+  size_t size = 99;
+  struct vizhoniku_refusal refusal;
+  memset(buffer, '.', sizeof buffer);
+  memset(&refusal, 255, sizeof refusal);
+  uint32_t status = vizhoniku_part(mode, BYTES(path), BYTES(text), buffer, buffer_size, &size, &refusal);
+  printf("part: status %u size %zu buffer %.12s", (unsigned)status, size, (char *)buffer);
+  print_refusal(&refusal);
+}
+
+static void write_sort_key(uint32_t mode, const char *text, size_t buffer_size) {
+  unsigned char buffer[12];
+  size_t size = 99;
+  struct vizhoniku_refusal refusal;
+  memset(buffer, 0, sizeof buffer);
+  memset(&refusal, 255, sizeof refusal);
+  uint32_t status = vizhoniku_sort_key(mode, BYTES(text), buffer, buffer_size, &size, &refusal);
+  printf("sort key: status %u size %zu buffer ", (unsigned)status, size);
+  for (size_t i = 0; i < sizeof buffer; i++) printf("%02x", (unsigned)buffer[i]);
+  print_refusal(&refusal);
+}
+
+/* A null pointer of size 0 is an empty text, path or buffer. */
+static void pass_null(uint32_t mode) {
+  size_t size = 99;
+  int32_t order = 99;
+  struct vizhoniku_refusal refusal = {0, 0, 0};
+  struct vizhoniku_place place = {0, 0, 0};
+  printf("null: check %u,", (unsigned)vizhoniku_check(mode, NULL, 0, &refusal));
+  printf(" text %u", (unsigned)vizhoniku_text(mode, NULL, 0, NULL, 0, &size, &refusal));
+  printf(" size %zu,", size);
+  printf(" part %u", (unsigned)vizhoniku_part(mode, NULL, 0, NULL, 0, NULL, 0, &size, &refusal));
+  printf(" size %zu,", size);
+  printf(" whole %u", (unsigned)vizhoniku_part(mode, NULL, 0, BYTES("[1]"), NULL, 0, &size, &refusal));
+  printf(" size %zu,", size);
+  printf(" sort key %u", (unsigned)vizhoniku_sort_key(mode, NULL, 0, NULL, 0, &size, &refusal));
+  printf(" size %zu,", size);
+  printf(" compare %u", (unsigned)vizhoniku_compare(mode, BYTES("null"), NULL, 0, &order, &refusal));
+  printf(" order %d,", (int)order);
+  printf(" message %u", (unsigned)vizhoniku_message(mode, NULL, 0, NULL, 0, &size));
+  printf(" size %zu,", size);
+  vizhoniku_place(NULL, 0, &refusal, &place);
+  printf(" place %zu %zu %zu\n", place.index, place.line, place.column);
+}
+
 int main(void) {
   check(VIZHONIKU_STANDARD, "[null]");
   check(VIZHONIKU_STANDARD, "{\"a\":1,\"a\":2}");
@@ -54,5 +101,23 @@ int main(void) {
   compare(VIZHONIKU_STANDARD, "{}", "[");
   compare(VIZHONIKU_STANDARD, "]", "[");
   compare(2, "1", "2");
+
+  write_part(VIZHONIKU_EXTENDED, "", "{a: [+1]}", 12);
+  write_part(VIZHONIKU_EXTENDED, "/a/0", "{a: [+1]}", 12);
+  write_part(VIZHONIKU_EXTENDED, "/a/0", "{a: [+1]}", 0);
+  write_part(VIZHONIKU_EXTENDED, "/a/1", "{a: [+1]}", 12);
+  write_part(VIZHONIKU_EXTENDED, "a", "{a: [+1]}", 12);
+  write_part(VIZHONIKU_EXTENDED, "a", "{a: [+1", 12);
+  write_part(2, "", "[]", 12);
+
+  write_sort_key(VIZHONIKU_EXTENDED, "[1]", 12);
+  write_sort_key(VIZHONIKU_EXTENDED, "[1]", 0);
+  write_sort_key(VIZHONIKU_EXTENDED, "[1", 12);
+
+  pass_null(VIZHONIKU_STANDARD);
+  pass_null(VIZHONIKU_EXTENDED);
+  pass_null(2);
+
+  printf("version: %u\n", (unsigned)vizhoniku_version());
   return 0;
 }

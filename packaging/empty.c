@@ -1,0 +1,66 @@
+/* The functions that take bytes. Each calls the proved one of its name, with proved_ in place of vizhoniku_.
+ *
+ * A slice of a proved function is never at a null pointer, and a caller may have no other for an empty text or buffer.
+ * So a pointer that comes with size 0 isn't passed on: the address of a byte that nothing reads or writes is. */
+#include "vizhoniku.h"
+
+uint32_t proved_check(uint32_t mode, const unsigned char *text, size_t text_size, struct vizhoniku_refusal *refusal);
+uint32_t proved_text(uint32_t mode, const unsigned char *text, size_t text_size, unsigned char *buffer,
+                     size_t buffer_size, size_t *size, struct vizhoniku_refusal *refusal);
+uint32_t proved_part(uint32_t mode, const unsigned char *path, size_t path_size, const unsigned char *text,
+                     size_t text_size, unsigned char *buffer, size_t buffer_size, size_t *size,
+                     struct vizhoniku_refusal *refusal);
+uint32_t proved_sort_key(uint32_t mode, const unsigned char *text, size_t text_size, unsigned char *buffer,
+                         size_t buffer_size, size_t *size, struct vizhoniku_refusal *refusal);
+uint32_t proved_compare(uint32_t mode, const unsigned char *left, size_t left_size, const unsigned char *right,
+                        size_t right_size, int32_t *order, struct vizhoniku_refusal *refusal);
+void proved_place(const unsigned char *text, size_t text_size, const struct vizhoniku_refusal *refusal,
+                  struct vizhoniku_place *place);
+uint32_t proved_message(uint32_t mode, const unsigned char *text, size_t text_size, unsigned char *buffer,
+                        size_t buffer_size, size_t *size);
+
+static unsigned char none;
+
+static const unsigned char *bytes_at(const unsigned char *bytes, size_t size) { return size ? bytes : &none; }
+
+static unsigned char *buffer_at(unsigned char *buffer, size_t size) { return size ? buffer : &none; }
+
+uint32_t vizhoniku_check(uint32_t mode, const unsigned char *text, size_t text_size,
+                         struct vizhoniku_refusal *refusal) {
+  return proved_check(mode, bytes_at(text, text_size), text_size, refusal);
+}
+
+uint32_t vizhoniku_text(uint32_t mode, const unsigned char *text, size_t text_size, unsigned char *buffer,
+                        size_t buffer_size, size_t *size, struct vizhoniku_refusal *refusal) {
+  return proved_text(mode, bytes_at(text, text_size), text_size, buffer_at(buffer, buffer_size), buffer_size, size,
+                     refusal);
+}
+
+uint32_t vizhoniku_part(uint32_t mode, const unsigned char *path, size_t path_size, const unsigned char *text,
+                        size_t text_size, unsigned char *buffer, size_t buffer_size, size_t *size,
+                        struct vizhoniku_refusal *refusal) {
+  return proved_part(mode, bytes_at(path, path_size), path_size, bytes_at(text, text_size), text_size,
+                     buffer_at(buffer, buffer_size), buffer_size, size, refusal);
+}
+
+uint32_t vizhoniku_sort_key(uint32_t mode, const unsigned char *text, size_t text_size, unsigned char *buffer,
+                            size_t buffer_size, size_t *size, struct vizhoniku_refusal *refusal) {
+  return proved_sort_key(mode, bytes_at(text, text_size), text_size, buffer_at(buffer, buffer_size), buffer_size, size,
+                         refusal);
+}
+
+uint32_t vizhoniku_compare(uint32_t mode, const unsigned char *left, size_t left_size, const unsigned char *right,
+                           size_t right_size, int32_t *order, struct vizhoniku_refusal *refusal) {
+  return proved_compare(mode, bytes_at(left, left_size), left_size, bytes_at(right, right_size), right_size, order,
+                        refusal);
+}
+
+void vizhoniku_place(const unsigned char *text, size_t text_size, const struct vizhoniku_refusal *refusal,
+                     struct vizhoniku_place *place) {
+  proved_place(bytes_at(text, text_size), text_size, refusal, place);
+}
+
+uint32_t vizhoniku_message(uint32_t mode, const unsigned char *text, size_t text_size, unsigned char *buffer,
+                           size_t buffer_size, size_t *size) {
+  return proved_message(mode, bytes_at(text, text_size), text_size, buffer_at(buffer, buffer_size), buffer_size, size);
+}
