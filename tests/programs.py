@@ -18,9 +18,19 @@ def path(name):
     return CRATES / name / "out" / name
 
 
+def with_crates_below(name):
+    """The crate and those of the repository that it stands on, by crates.txt."""
+    lines = (TOP / "crates.txt").read_text(encoding="utf-8").splitlines()
+    below = {head.split()[0]: words.split() for head, _, words in (line.partition(":") for line in lines) if words}
+    found = [name]
+    for crate in found:
+        found += [other for other in below[crate] if other in below and other not in found]
+    return found
+
+
 def newest_source(name):
     files = [TOP / "crates.txt"]
-    for crate in ("jsonb_value", "jsonb_scan", "jsonb", name):
+    for crate in with_crates_below(name):
         for file in (CRATES / crate).rglob("*"):
             if file.suffix in (".rt", ".antt") and "out" not in file.parts:
                 files.append(file)
