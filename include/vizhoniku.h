@@ -123,8 +123,9 @@ uint32_t vizhoniku_sort_key(uint32_t mode, const unsigned char *text, size_t tex
 uint32_t vizhoniku_compare(uint32_t mode, const unsigned char *left, size_t left_size, const unsigned char *right,
                            size_t right_size, int32_t *order, struct vizhoniku_refusal *refusal);
 
-/* Where a person looks for what is wrong: the index of a byte, or the text's size where its end is at fault, and the
- * line and the column of that, both counted from 1, the column in bytes. */
+/* The place to show of a refusal: the index of the wrong byte, or of the last byte of the number, the string, the key or
+ * the unit that is wrong, or the text's size where the text ends too early; and the line and the column of that, both
+ * counted from 1, the column in bytes. */
 struct vizhoniku_place {
   size_t index;
   size_t line;

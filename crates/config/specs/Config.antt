@@ -1,20 +1,19 @@
 -- The settings that a tree gives.
-use Rattle.std.specs.Prelude.{◌≡◌, ◌≢◌, ◌⊎◌, ℕ, ◌-◌, ◌<◌, ◌^◌, List, Bool, false, Option, Some, None, codes, string_bytes, pos}
+use Rattle.std.specs.Prelude.{◌≡◌, ◌≢◌, ◌⊎◌, ℕ, ◌<◌, ◌^◌, List, Bool, false, Option, Some, None, codes, string_bytes, pos}
 use Rattle.std.specs.Str.{bytes_eq}
 use Rattle.jsonb.specs.AstView.{Written, written_members}
+use Rattle.jsonb.specs.Code.{code_of}
 use Rattle.jsonb.specs.Grammar.{IsDocument, IsNoDocument}
 use Rattle.jsonb.specs.Mode.{extended}
 use Rattle.jsonb.specs.Parser.{Fails, HoldsMarker}
 use Rattle.jsonb.specs.Accessors.{as_boolean, as_object, as_string, find_member, IsWholeNumber}
-use Rattle.jsonb.specs.Line.{line_at, column_at}
+use Rattle.jsonb.specs.Line.{column_at, fault_index, line_at}
 use Rattle.jsonb.specs.Placed.{IsPlaced}
 use Rattle.jsonb.specs.Reading.Document.{document_of}
 use Rattle.jsonb.specs.Source.{object_source, SourceMembers, no_source_members, more_source_members, source_members_view}
 use Rattle.jsonb.specs.Tree.{Mark, Tree, Members}
 use Rattle.jsonb_value.specs.declared.error.Error.{Error}
 use Rattle.jsonb_value.specs.declared.error.Error.TheVariants as error
-use Rattle.jsonb_value.specs.declared.error.ParseErrorCode.{ParseErrorCode}
-use Rattle.jsonb_value.specs.declared.error.ParseErrorCode.TheVariants as code
 use Rattle.config.specs.declared.config.Config.{Config}
 use Rattle.config.specs.declared.config.Setting.{Setting}
 use Rattle.config.specs.declared.config.Setting.TheVariants.{Host, Port, Workers, Verbose}
@@ -70,22 +69,10 @@ IsWrong Port t = (port : ℕ) → IsPort t port → ⊥
 IsWrong Workers t = (workers : ℕ) → IsWorkers t workers → ⊥
 IsWrong Verbose t = (verbose : Bool) → IsVerbose t verbose → ⊥
 
--- what the position of a code has more than the index of the byte that a person looks for
-abbrev pub added : ParseErrorCode → ℕ
-added code.ExpectedSomeValue = 1
-added code.ExpectedSomeIdent = 1
-added code.UnexpectedTrailingCharacters = 1
-added code.ObjectKeyInvalidNumber = 1
-added code.DepthLimitExceeded = 1
-added (code.InvalidEscaped byte) = 2
-added (code.InvalidHex byte) = 2
-added code.UnexpectedEndOfHexEscape = 2
-added other = 0
-
--- the index of the byte that a person looks for
-abbrev pub fault_position : Error → ℕ
-fault_position (error.Syntax c position) = position - added c
-fault_position other = 0
+-- the index of the byte to show of a refusal
+abbrev pub shown_index : List ℕ → Error → ℕ
+shown_index text (error.Syntax code position) = fault_index text (code_of code) position
+shown_index text other = 0
 
 -- one of the members has this key, whose spelling ends at the index
 abbrev pub HasKeyEnd : SourceMembers → List ℕ → ℕ → Type 0
@@ -123,7 +110,7 @@ abbrev pub IsConfigRefusal : List ℕ → Refusal → Type 0
 IsConfigRefusal text (refusal.NoDocument e line column) =
     (e ≢ error.OutOfMemory → IsNoDocument extended text) × (e ≡ error.OutOfMemory → HoldsMarker text)
     × Fails e (document_of extended text)
-    × (line ≡ line_at text (fault_position e)) × (column ≡ column_at text (fault_position e))
+    × (line ≡ line_at text (shown_index text e)) × (column ≡ column_at text (shown_index text e))
 IsConfigRefusal text refusal.NoObject = (t : Tree) × IsDocument extended text t × (as_object t ≡ None)
 IsConfigRefusal text (refusal.Wrong setting line column) =
     (t : Tree) × IsDocument extended text t × (ms : Members) × (as_object t ≡ Some ms)

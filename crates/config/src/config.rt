@@ -8,9 +8,9 @@ ghost use Rattle.jsonb.specs.Line.{line_at, column_at};
 ghost use Rattle.jsonb.specs.Mode.{extended};
 ghost use Rattle.jsonb.specs.Source.{source_members_view};
 ghost use Rattle.jsonb.specs.Tree.{Mark, Tree};
-ghost use Rattle.config.specs.Config.{added, key_of, setting_of, IsHost, IsPort, IsWorkers, IsVerbose, IsConfig, IsConfigOf, fault_position, HasKeyEnd, IsSettingRefusal, IsConfigRefusal};
+ghost use Rattle.config.specs.Config.{key_of, setting_of, shown_index, IsHost, IsPort, IsWorkers, IsVerbose, IsConfig, IsConfigOf, HasKeyEnd, IsSettingRefusal, IsConfigRefusal};
 
-use jsonb::{Error, JsonAst, Mode, ParseErrorCode, line_and_column};
+use jsonb::{Error, JsonAst, Mode, fault_index, line_and_column};
 use std::alloc::Global;
 use std::borrow::CowStr;
 use std::fmt;
@@ -57,7 +57,7 @@ impl Setting {
 /// Why a text gives no settings.
 #[derive(Debug, Drop)]
 pub enum Refusal {
-    /// The text is refused; the line and the column are those of the byte that a person looks for.
+    /// The text is refused; the line and the column are those of the byte to show.
     NoDocument(Error, usize, usize),
     /// The document is no object.
     NoObject,
@@ -101,7 +101,7 @@ pub fn read_config(alloc: Global, text: &[u8]) -> Result<Config, Refusal>
     let document = match JsonAst::parse(alloc, text, Mode::Extended) {
         Ok(document) => document,
         Err(error) => {
-            let (line, column) = line_and_column(text, position_of(&error));
+            let (line, column) = line_and_column(text, shown_index(text, &error));
             return Err(Refusal::NoDocument(error, line, column));
         }
     };
@@ -111,29 +111,12 @@ pub fn read_config(alloc: Global, text: &[u8]) -> Result<Config, Refusal>
     config_of(alloc, text, members)
 }
 
-// The index of the byte that a person looks for.
-fn position_of(error: &Error) -> usize
-    ensures { result ≡ fault_position error.now }
+// The index of the byte to show of a refusal.
+fn shown_index(text: &[u8], error: &Error) -> usize
+    ensures { result ≡ shown_index text.now error.now }
 {
     match error {
-        Error::Syntax(code, position) => position.saturating_sub(added(code)),
-        _ => 0,
-    }
-}
-
-// What the position of a code has more than the index of the byte that a person looks for.
-fn added(code: &ParseErrorCode) -> usize
-    ensures { result ≡ added code.now }
-{
-    match code {
-        ParseErrorCode::ExpectedSomeValue
-        | ParseErrorCode::ExpectedSomeIdent
-        | ParseErrorCode::UnexpectedTrailingCharacters
-        | ParseErrorCode::ObjectKeyInvalidNumber
-        | ParseErrorCode::DepthLimitExceeded => 1,
-        ParseErrorCode::InvalidEscaped(_)
-        | ParseErrorCode::InvalidHex(_)
-        | ParseErrorCode::UnexpectedEndOfHexEscape => 2,
+        Error::Syntax(code, position) => fault_index(text, code, *position),
         _ => 0,
     }
 }

@@ -4,7 +4,7 @@
 pub mod laws;
 pub mod parser;
 
-pub use jsonb_scan::line::line_and_column;
+pub use jsonb_scan::line::{fault_index, line_and_column};
 pub use jsonb_scan::util::parse_string;
 pub use jsonb_scan::{line, util};
 pub use jsonb_value::error::{Error, ParseErrorCode, Result};

@@ -1,5 +1,5 @@
 -- What the functions for C tell of texts.
-use Rattle.std.specs.Prelude.{◌≡◌, ◌≢◌, ℕ, ◌<◌, ◌≤◌, ℤ, pos, negsuc, Bool, ◌||◌, ◌==◌, if◌then◌else◌, List, ◌++◌, length, drop, Some, Ok, Err}
+use Rattle.std.specs.Prelude.{◌≡◌, ◌≢◌, ℕ, ◌<◌, ◌≤◌, ℤ, pos, negsuc, List, ◌++◌, length, drop, Some, Ok, Err}
 use Rattle.std.specs.declared.cmp.Ordering.{Ordering}
 use Rattle.std.specs.declared.cmp.Ordering.TheVariants.{Less, Equal, Greater}
 use Rattle.jsonb_value.specs.declared.error.Error.{Error}
@@ -246,15 +246,3 @@ abbrev pub told : Refused → Refusal
 told (Text refusal) = refusal
 told OutOfMemory = nothing
 told UnknownMode = nothing
-
--- whether the position of the code with this number is the index of a byte plus 1
-abbrev pub names_next : ℕ → Bool
-names_next code = code == 4 || code == 5 || code == 9 || code == 18 || code == 21
-
--- whether the code is one of escapes, whose position is the index after what was looked at, plus 1
-abbrev pub ends_escape : ℕ → Bool
-ends_escape code = code == 12 || code == 13 || code == 16
-
--- what the position of the code has more than the index of the byte that it speaks of
-abbrev pub added : ℕ → ℕ
-added code = if names_next code then 1 else if ends_escape code then 2 else 0

@@ -5,21 +5,22 @@
 //! `&mut` points to lies apart from all else that is passed. Each call writes to each `&mut` but the buffer.
 #![tactic(auto)]
 
-ghost use Rattle.std.specs.Prelude.{◌≡◌, ◌≢◌, ◌↔◌, ◌⊎◌, ℕ, List, ◌<◌, ◌≤◌, ◌++◌, min, ◌-◌, length, drop, pos, string_bytes, MatchOption, IfOk, IfErr, IfSome, Err};
-ghost use Rattle.jsonb_value.specs.Code.{code_of};
+ghost use Rattle.std.specs.Prelude.{◌≡◌, ◌≢◌, ◌↔◌, ◌⊎◌, ℕ, List, ◌<◌, ◌≤◌, ◌++◌, min, length, drop, pos, string_bytes, MatchOption, IfOk, IfErr, IfNone, IfSome, Err};
+ghost use Rattle.jsonb_value.specs.Code.{Code, code_of};
 ghost use Rattle.jsonb_value.specs.Error.ErrorText.{error_text};
 ghost use Rattle.jsonb_value.specs.Grammar.{IsDocument, IsNoDocument};
 ghost use Rattle.jsonb_value.specs.Tree.{Tree};
 ghost use Rattle.jsonb_value.specs.View.{view};
-ghost use Rattle.jsonb.specs.Line.{column_at, line_at};
+ghost use Rattle.jsonb.specs.Line.{column_at, fault_index, line_at};
 ghost use Rattle.jsonb.specs.Parser.{mode_of, Gives, HoldsMarker, IsTextRefusal};
 ghost use Rattle.jsonb.specs.Reading.Document.{document_of};
 ghost use Rattle.jsonb.specs.Refusals.{IsExplained};
 ghost use Rattle.jsonb_pointer.specs.Path.{IsPath, StartsKey};
-ghost use Rattle.jsonb_c.specs.Interface.{NumberChooses, added, code_number, ends_escape, names_next, nothing, sign, status_of, told, HasNoPartAt, HasPartAt, IsAccepted, IsNoDocumentOf, IsNoPath, IsOneRefused, IsOrdered, IsDocumentOf, IsKeyOf, IsKeyWritten, IsMessageOf, IsMessageWritten, IsPartAnswer, IsPartWritten, IsReason, IsRefused, IsTextOf, IsWritten, NeedsRoom, NeedsRoomForKey, NeedsRoomForMessage, NeedsRoomForPart, SaysError};
+ghost use Rattle.jsonb_c.specs.Interface.{NumberChooses, code_number, nothing, sign, status_of, told, HasNoPartAt, HasPartAt, IsAccepted, IsNoDocumentOf, IsNoPath, IsOneRefused, IsOrdered, IsDocumentOf, IsKeyOf, IsKeyWritten, IsMessageOf, IsMessageWritten, IsPartAnswer, IsPartWritten, IsReason, IsRefused, IsTextOf, IsWritten, NeedsRoom, NeedsRoomForKey, NeedsRoomForMessage, NeedsRoomForPart, SaysError};
 
 use jsonb::{
-    Error, Mode, ParseErrorCode, Value, line_and_column, parse_value, parse_value_standard_mode,
+    Error, Mode, ParseErrorCode, Value, fault_index, line_and_column, parse_value,
+    parse_value_standard_mode,
 };
 use jsonb_pointer::{part_at, read_keys};
 use std::alloc::Global;
@@ -56,8 +57,8 @@ pub struct Refusal {
     pub position: usize,
 }
 
-/// Where a person looks for what is wrong with a text: the index of a byte, or the text's length, and the line and the
-/// column of that, both counted from 1, the column in bytes.
+/// The place to show of a refusal: the index of a byte, or the text's length, and the line and the column of that, both
+/// counted from 1, the column in bytes.
 #[repr(C)]
 #[derive(Clone, Copy)]
 pub struct Place {
@@ -341,17 +342,22 @@ pub extern "C" fn vizhoniku_version() -> u32
     VERSION
 }
 
-/// Tells where a person looks for what is wrong with this text.
+/// Tells the place to show of a refusal of this text.
 #[unsafe(no_mangle)]
-pub extern "C" fn vizhoniku_place(text: &[u8], refusal: &Refusal, place: &mut Place)
-    ensures index { place.new.index ≡ min (refusal.now.position - added refusal.now.code) (length text.now) }
+pub extern "C" fn vizhoniku_place(alloc: Global, text: &[u8], refusal: &Refusal, place: &mut Place)
+    // The index is that of the code with the number, and where there is none the position, within the text.
+    ensures index { (code : Code) → refusal.now.code ≡ code_number code
+        → place.new.index ≡ fault_index text.now code refusal.now.position }
+    ensures no_code { ((code : Code) → refusal.now.code ≢ code_number code)
+        → place.new.index ≡ min refusal.now.position (length text.now) }
+
     ensures line { place.new.line ≡ line_at text.now place.new.index }
     ensures column { place.new.column ≡ column_at text.now place.new.index }
 {
-    let index = refusal
-        .position
-        .saturating_sub(added(refusal.code))
-        .min(text.len());
+    let index = match code_numbered(alloc, refusal.code) {
+        Some(code) => fault_index(text, &code, refusal.position),
+        None => refusal.position.min(text.len()),
+    };
     let (line, column) = line_and_column(text, index);
     *place = Place {
         index,
@@ -360,31 +366,36 @@ pub extern "C" fn vizhoniku_place(text: &[u8], refusal: &Refusal, place: &mut Pl
     };
 }
 
-// What the position of a code has more than the index of the byte that it speaks of.
-fn added(code: u32) -> usize
-    ensures { result ≡ added code }
+// The code with this number, of a byte, a unit or a key that means nothing.
+fn code_numbered(alloc: Global, number: u32) -> Option<ParseErrorCode>
+    ensures some { IfSome result (λ code. number ≡ code_number (code_of code)) }
+    ensures none { IfNone result ((code : Code) → number ≢ code_number code) }
 {
-    if names_next(code) {
-        1
-    } else if ends_escape(code) {
-        2
-    } else {
-        0
-    }
-}
-
-// Whether the position of the code is the index of a byte plus 1.
-fn names_next(code: u32) -> bool
-    ensures { result ≡ names_next code }
-{
-    code == 4 || code == 5 || code == 9 || code == 18 || code == 21
-}
-
-// Whether the code is one of escapes, whose position is the index after what was looked at, plus 1.
-fn ends_escape(code: u32) -> bool
-    ensures { result ≡ ends_escape code }
-{
-    code == 12 || code == 13 || code == 16
+    let code = match number {
+        1 => ParseErrorCode::InvalidEOF,
+        2 => ParseErrorCode::InvalidNumberValue,
+        3 => ParseErrorCode::InvalidStringValue,
+        4 => ParseErrorCode::ExpectedSomeIdent,
+        5 => ParseErrorCode::ExpectedSomeValue,
+        6 => ParseErrorCode::ExpectedColon,
+        7 => ParseErrorCode::ExpectedArrayCommaOrEnd,
+        8 => ParseErrorCode::ExpectedObjectCommaOrEnd,
+        9 => ParseErrorCode::UnexpectedTrailingCharacters,
+        10 => ParseErrorCode::KeyMustBeAString,
+        11 => ParseErrorCode::ControlCharacterWhileParsingString,
+        12 => ParseErrorCode::InvalidEscaped(0),
+        13 => ParseErrorCode::InvalidHex(0),
+        14 => ParseErrorCode::InvalidLoneLeadingSurrogateInHexEscape(0),
+        15 => ParseErrorCode::InvalidSurrogateInHexEscape(0),
+        16 => ParseErrorCode::UnexpectedEndOfHexEscape,
+        17 => ParseErrorCode::ObjectDuplicateKey(String::new(alloc)),
+        18 => ParseErrorCode::ObjectKeyInvalidNumber,
+        19 => ParseErrorCode::ObjectKeyInvalidCharacter,
+        20 => ParseErrorCode::NumberNotCarried,
+        21 => ParseErrorCode::DepthLimitExceeded,
+        _ => return None,
+    };
+    Some(code)
 }
 
 /// Writes what is wrong with a text that is no document in words, with the position, to the front of `out`, and the

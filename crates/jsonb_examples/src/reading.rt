@@ -49,18 +49,7 @@ pub fn told(alloc: Global, refusal: &Error) -> Result<String> {
     Ok(text)
 }
 
-/// The line and the column of the byte or the place that a refusal of the text names.
+/// The line and the column of the byte to show of a refusal of the text.
 pub fn place_of(text: &[u8], code: &ParseErrorCode, position: usize) -> (usize, usize) {
-    let added = match code {
-        ParseErrorCode::ExpectedSomeValue
-        | ParseErrorCode::ExpectedSomeIdent
-        | ParseErrorCode::UnexpectedTrailingCharacters
-        | ParseErrorCode::ObjectKeyInvalidNumber
-        | ParseErrorCode::DepthLimitExceeded => 1,
-        ParseErrorCode::InvalidEscaped(_)
-        | ParseErrorCode::InvalidHex(_)
-        | ParseErrorCode::UnexpectedEndOfHexEscape => 2,
-        _ => 0,
-    };
-    jsonb::line_and_column(text, position.saturating_sub(added))
+    jsonb::line_and_column(text, jsonb::fault_index(text, code, position))
 }

@@ -1,8 +1,10 @@
-//! Positions in a text as lines and columns.
+//! Positions in a text as lines and columns, and the byte to show of a fault.
 ghost use Rattle.std.specs.Prelude.{◌≡◌, ◌≤◌, length, not};
 ghost use Rattle.std.specs.List.{count_by, suffix_len};
-ghost use Rattle.jsonb_scan.specs.Line.{is_line_feed, line_at, column_at};
+ghost use Rattle.jsonb_value.specs.Code.{code_of};
+ghost use Rattle.jsonb_scan.specs.Line.{bytes_past, column_at, fault_index, is_line_feed, line_at};
 
+use jsonb_value::error::ParseErrorCode;
 use memchr::{memchr_iter, memrchr};
 
 /// The line and the column of a position, which is a number of bytes from the text's start. Lines are counted from 1,
@@ -13,6 +15,36 @@ pub fn line_and_column(text: &[u8], position: usize) -> (usize, usize)
 {
     let before = &text[..position.min(text.len())];
     (line_feeds(before) + 1, last_line_len(before) + 1)
+}
+
+/// The index of the byte to show of a fault of this text, which `Error::Syntax` tells with its code and position: the
+/// wrong byte, or the last byte of the number, the string, the key or the unit that is wrong. It is the text's length
+/// where the text ends too early.
+pub fn fault_index(text: &[u8], code: &ParseErrorCode, position: usize) -> usize
+    ensures index { result ≡ fault_index text.now (code_of code.now) position }
+{
+    position.saturating_sub(bytes_past(code)).min(text.len())
+}
+
+// How many bytes the position of a code is past the index of the byte to show.
+fn bytes_past(code: &ParseErrorCode) -> usize
+    ensures { result ≡ bytes_past (code_of code.now) }
+{
+    match code {
+        ParseErrorCode::ExpectedSomeValue
+        | ParseErrorCode::ExpectedSomeIdent
+        | ParseErrorCode::UnexpectedTrailingCharacters
+        | ParseErrorCode::ObjectKeyInvalidNumber
+        | ParseErrorCode::DepthLimitExceeded
+        | ParseErrorCode::InvalidNumberValue
+        | ParseErrorCode::InvalidStringValue
+        | ParseErrorCode::ObjectDuplicateKey(_)
+        | ParseErrorCode::NumberNotCarried => 1,
+        ParseErrorCode::InvalidEscaped(_)
+        | ParseErrorCode::InvalidHex(_)
+        | ParseErrorCode::UnexpectedEndOfHexEscape => 2,
+        _ => 0,
+    }
 }
 
 // How many line feeds there are.
