@@ -5,6 +5,7 @@ pub mod Digits
 pub mod Fixed
 pub mod Kinds
 pub mod Numbers
+pub mod Pairs
 pub mod Parts
 pub mod Pieces
 pub mod Texts

@@ -1,5 +1,5 @@
 //! The sort key of a number: its sign, the place of its first digit, and its digits.
-ghost use Rattle.std.specs.Prelude.{◌≡◌, ◌+◌, ◌*◌, ◌/◌, ◌%◌, ◌^◌, ◌<◌, ◌≤◌, ◌++◌, ◌∷◌, [], length, map, OnOk, OnErr, vec_len};
+ghost use Rattle.std.specs.Prelude.{◌≡◌, ◌+◌, ◌*◌, ◌/◌, ◌%◌, ◌^◌, ◌<◌, ◌≤◌, ◌++◌, ◌↔◌, ◌-◌, ◌∷◌, [], length, map, drop, OnOk, OnErr, vec_len};
 ghost use Rattle.std.specs.Vec.{vec_capacity};
 ghost use Rattle.jsonb_value.specs.Proper.{IsProperNumber};
 ghost use Rattle.jsonb_value.specs.SortKey.{digit_count, place_key, digits_key, magnitude_key, number_key, turned};
@@ -32,17 +32,6 @@ impl Number {
     }
 }
 
-// Appends bytes of a key.
-#[inline(always)]
-fn append_bytes(bytes: &[u8], buf: &mut Vec<u8>) -> Appended
-    ensures ok { OnOk result (buf.new.items ≡ buf.old.items ++ bytes.now) }
-    ensures kept { Extends buf.old.items buf.new.items }
-    ensures full { OnErr result (vec_capacity buf.old < vec_len buf.old + length bytes.now) }
-    ensures capacity { vec_capacity buf.old ≤ vec_capacity buf.new }
-{
-    buf.extend_from_slice(bytes)
-}
-
 // Appends a byte of a key.
 #[inline(always)]
 fn append_byte(byte: u8, buf: &mut Vec<u8>) -> Appended
@@ -57,6 +46,18 @@ fn append_byte(byte: u8, buf: &mut Vec<u8>) -> Appended
     Ok(())
 }
 
+// Appends what stands in a row of bytes from `start` on.
+#[inline(always)]
+fn append_row(row: &[u8; 12], start: usize, buf: &mut Vec<u8>) -> Appended
+    requires { start ≤ 12 }
+    ensures ok { OnOk result (buf.new.items ≡ buf.old.items ++ drop start row.now) }
+    ensures kept { Extends buf.old.items buf.new.items }
+    ensures full { OnErr result (vec_capacity buf.old < vec_len buf.old + length (drop start row.now)) }
+    ensures capacity { vec_capacity buf.old ≤ vec_capacity buf.new }
+{
+    buf.extend_from_slice(&row[start..])
+}
+
 // A byte, turned round where the number is negative.
 #[inline(always)]
 fn turned(negative: bool, byte: u8) -> u8
@@ -65,19 +66,43 @@ fn turned(negative: bool, byte: u8) -> u8
     if negative { 255 - byte } else { byte }
 }
 
-// How many digits a number above 0 has.
-fn digit_count(magnitude: u128) -> u32
-    requires { 0 < magnitude }
-    ensures count { result ≡ digit_count magnitude }
-    ensures some { 0 < result }
-    ensures few { result ≤ 39 }
-    ensures below { magnitude < 10 ^ result }
-{
-    magnitude.ilog10() + 1
-}
-
 // Appends the key of a number above 0 with this sign.
 fn append_magnitude(negative: bool, scale: u8, magnitude: u128, buf: &mut Vec<u8>) -> Appended
+    requires { 0 < magnitude }
+    ensures ok { OnOk result (buf.new.items
+        ≡ buf.old.items ++ map (turned negative) (magnitude_key scale magnitude)) }
+    ensures kept { Extends buf.old.items buf.new.items }
+    ensures full { OnErr result (vec_capacity buf.old < vec_len buf.old
+        + length (map (turned negative) (magnitude_key scale magnitude))) }
+    ensures capacity { vec_capacity buf.old ≤ vec_capacity buf.new }
+{
+    if magnitude < 0x1_0000_0000_0000_0000 {
+        return append_short(negative, scale, magnitude as u64, buf);
+    }
+    append_long(negative, scale, magnitude, buf)
+}
+
+// The same where the number fits 64 bits, as most do: its bytes are made in a row and appended at once.
+#[inline(always)]
+fn append_short(negative: bool, scale: u8, magnitude: u64, buf: &mut Vec<u8>) -> Appended
+    requires { 0 < magnitude }
+    ensures ok { OnOk result (buf.new.items
+        ≡ buf.old.items ++ map (turned negative) (magnitude_key scale magnitude)) }
+    ensures kept { Extends buf.old.items buf.new.items }
+    ensures full { OnErr result (vec_capacity buf.old < vec_len buf.old
+        + length (map (turned negative) (magnitude_key scale magnitude))) }
+    ensures capacity { vec_capacity buf.old ≤ vec_capacity buf.new }
+{
+    let count = short_digit_count(magnitude);
+    let mut row = [0; 12];
+    let digits = write_digits(negative, count, magnitude, &mut row);
+    let start = write_place(negative, count + 255 - u32::from(scale), digits, &mut row);
+    append_row(&row, start, buf)
+}
+
+// The same of any number.
+#[inline(never)]
+fn append_long(negative: bool, scale: u8, magnitude: u128, buf: &mut Vec<u8>) -> Appended
     requires { 0 < magnitude }
     ensures ok { OnOk result (buf.new.items
         ≡ buf.old.items ++ map (turned negative) (magnitude_key scale magnitude)) }
@@ -91,6 +116,46 @@ fn append_magnitude(negative: bool, scale: u8, magnitude: u128, buf: &mut Vec<u8
     append_digits(negative, count, magnitude, buf)
 }
 
+// How many digits a number above 0 has.
+fn digit_count(magnitude: u128) -> u32
+    requires { 0 < magnitude }
+    ensures count { result ≡ digit_count magnitude }
+    ensures some { 0 < result }
+    ensures few { result ≤ 39 }
+    ensures below { magnitude < 10 ^ result }
+{
+    magnitude.ilog10() + 1
+}
+
+// The same of 64 bits.
+#[inline(always)]
+fn short_digit_count(magnitude: u64) -> u32
+    requires { 0 < magnitude }
+    ensures count { result ≡ digit_count magnitude }
+    ensures some { 0 < result }
+    ensures few { result ≤ 20 }
+    ensures below { magnitude < 10 ^ result }
+{
+    magnitude.ilog10() + 1
+}
+
+// Writes the place of the first digit before what stands in the row from `end` on, and answers where it begins.
+#[inline(always)]
+fn write_place(negative: bool, place: u32, end: usize, row: &mut [u8; 12]) -> usize
+    requires small { place < 295 }
+    requires room { (2 ≤ end) × (end ≤ 12) }
+    ensures bytes { drop result row.new ≡ map (turned negative) (place_key place) ++ drop end row.old }
+    ensures within { result ≤ 12 }
+{
+    if place < 225 {
+        row[end - 1] = turned(negative, place as u8);
+        row[end - 2] = turned(negative, 129);
+        return end - 2;
+    }
+    row[end - 1] = turned(negative, (place - 95) as u8);
+    end - 1
+}
+
 // Appends the place of the first digit.
 fn append_place(negative: bool, place: u32, buf: &mut Vec<u8>) -> Appended
     requires { place < 295 }
@@ -101,11 +166,73 @@ fn append_place(negative: bool, place: u32, buf: &mut Vec<u8>) -> Appended
         < vec_len buf.old + length (map (turned negative) (place_key place))) }
     ensures capacity { vec_capacity buf.old ≤ vec_capacity buf.new }
 {
-    if place < 225 {
-        append_bytes(&[turned(negative, 129), turned(negative, place as u8)], buf)
+    let mut row = [0; 12];
+    let start = write_place(negative, place, 12, &mut row);
+    append_row(&row, start, buf)
+}
+
+// The last pair of digits, or the last digit and a 0 where their count is odd, and the number before them.
+#[inline(always)]
+fn split_last(count: u32, magnitude: u64) -> (u8, u64)
+    requires { 0 < count }
+    ensures last { (2 * result.0) ∷ []
+        ≡ digits_key (2 - count % 2) (magnitude % 10 ^ (2 - count % 2)) }
+    ensures zero { result.0 ≡ 0 ↔ magnitude % 10 ^ (2 - count % 2) ≡ 0 }
+    ensures small { result.0 < 100 }
+    ensures front { result.1 ≡ magnitude / 10 ^ (2 - count % 2) }
+{
+    if count % 2 == 0 {
+        ((magnitude % 100) as u8, magnitude / 100)
     } else {
-        append_byte(turned(negative, (place - 95) as u8), buf)
+        (10 * (magnitude % 10) as u8, magnitude / 10)
     }
+}
+
+// Writes the digits to the end of the row, two at a time from the last on, and answers where they begin.
+#[inline(always)]
+fn write_digits(negative: bool, count: u32, magnitude: u64, row: &mut [u8; 12]) -> usize
+    requires some { 0 < count }
+    requires few { count ≤ 20 }
+    requires below { magnitude < 10 ^ count }
+    ensures bytes { drop result row.new ≡ map (turned negative) (digits_key count magnitude) }
+    ensures room { (2 ≤ result) × (result ≤ 12) }
+{
+    let (last, mut front) = split_last(count, magnitude);
+    let mut more = 0;
+    if last != 0 {
+        more = 1;
+    }
+    let mut start = 11;
+    row[start] = turned(negative, 2 * last);
+    let mut left = (count - 1) / 2;
+    'pairs: while left > 0 {
+        let pair = (front % 100) as u8;
+        front /= 100;
+        start -= usize::from(more);
+        row[start] = turned(negative, 2 * pair + more);
+        if pair != 0 {
+            more = 1;
+        }
+        left -= 1;
+    }
+    start
+}
+
+// Appends the digits of a number that fits 64 bits, of which there are at most 20.
+fn append_short_digits(negative: bool, count: u32, magnitude: u64, buf: &mut Vec<u8>) -> Appended
+    requires some { 0 < count }
+    requires few { count ≤ 20 }
+    requires below { magnitude < 10 ^ count }
+    ensures ok { OnOk result (buf.new.items
+        ≡ buf.old.items ++ map (turned negative) (digits_key count magnitude)) }
+    ensures kept { Extends buf.old.items buf.new.items }
+    ensures full { OnErr result (vec_capacity buf.old
+        < vec_len buf.old + length (map (turned negative) (digits_key count magnitude))) }
+    ensures capacity { vec_capacity buf.old ≤ vec_capacity buf.new }
+{
+    let mut row = [0; 12];
+    let start = write_digits(negative, count, magnitude, &mut row);
+    append_row(&row, start, buf)
 }
 
 // The first two digits, and the `left` digits behind them.
@@ -117,30 +244,11 @@ fn split_pair(magnitude: u128, left: u32) -> (u8, u128)
     ensures small { result.0 < 100 }
     ensures below { result.1 < 10 ^ left }
 {
-    // Most numbers fit 64 bits, whose division is one instruction.
-    if left < 20 && magnitude < 0x1_0000_0000_0000_0000 {
-        let (pair, rest) = split_small_pair(magnitude as u64, left);
-        return (pair, u128::from(rest));
-    }
     let power = 10u128.pow(left);
     ((magnitude / power) as u8, magnitude % power)
 }
 
-// The same of 64 bits.
-#[inline(always)]
-fn split_small_pair(magnitude: u64, left: u32) -> (u8, u64)
-    requires few { left < 20 }
-    requires below { magnitude < 100 * 10 ^ left }
-    ensures pair { result.0 ≡ magnitude / 10 ^ left }
-    ensures rest { result.1 ≡ magnitude % 10 ^ left }
-    ensures small { result.0 < 100 }
-    ensures below { result.1 < 10 ^ left }
-{
-    let power = 10u64.pow(left);
-    ((magnitude / power) as u8, magnitude % power)
-}
-
-// Appends the digits, two at a time.
+// Appends the digits, two at a time until the rest fits 64 bits.
 fn append_digits(negative: bool, count: u32, magnitude: u128, buf: &mut Vec<u8>) -> Appended
     requires some { 0 < magnitude }
     requires few { count ≤ 39 }
@@ -152,8 +260,8 @@ fn append_digits(negative: bool, count: u32, magnitude: u128, buf: &mut Vec<u8>)
         < vec_len buf.old + length (map (turned negative) (digits_key count magnitude))) }
     ensures capacity { vec_capacity buf.old ≤ vec_capacity buf.new }
 {
-    if count < 2 {
-        return append_byte(turned(negative, 20 * magnitude as u8), buf);
+    if count <= 20 && magnitude < 0x1_0000_0000_0000_0000 {
+        return append_short_digits(negative, count, magnitude as u64, buf);
     }
     let left = count - 2;
     let (pair, rest) = split_pair(magnitude, left);

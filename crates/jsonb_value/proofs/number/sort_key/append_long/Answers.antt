@@ -3,7 +3,7 @@ use Rattle.jsonb_value.specs.SortKey.{place_key, digits_key, turned}
 use Rattle.jsonb_value.proofs.Appending.Appended.{on_err}
 use Rattle.jsonb_value.proofs.SortKeys.Pieces.{ok_then, full_then, full_first}
 use Rattle.jsonb_value.proofs.SortKeys.Numbers.{magnitude_split}
-use Rattle.jsonb_value.proofs.number.sort_key.append_magnitude.Goals as goal
+use Rattle.jsonb_value.proofs.number.sort_key.append_long.Goals as goal
 
 pub returns-in_err-append_place-clause-full : goal.returns-in_err-append_place-clause-full
 returns-in_err-append_place-clause-full c =
