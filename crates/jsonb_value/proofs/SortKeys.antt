@@ -10,3 +10,4 @@ pub mod Parts
 pub mod Pieces
 pub mod Texts
 pub mod Trees
+pub mod Zeros

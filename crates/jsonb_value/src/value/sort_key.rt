@@ -1,5 +1,5 @@
 //! Sort keys: bytes that compare as the values that they stand for.
-ghost use Rattle.std.specs.Prelude.{ℕ, List, ◌≡◌, ◌↔◌, ◌+◌, ◌<◌, ◌≤◌, ◌++◌, ◌∷◌, [], length, take, IfErr, OnOk, OnErr, vec_len, string_bytes};
+ghost use Rattle.std.specs.Prelude.{ℕ, List, ◌≡◌, ◌↔◌, ◌+◌, ◌<◌, ◌≤◌, ◌++◌, ◌∷◌, [], length, take, IfErr, OnOk, OnErr, vec_len, string_bytes, IsTrue};
 ghost use Rattle.std.specs.List.{flat_map};
 ghost use Rattle.std.specs.Ordering.{ordering_then};
 ghost use Rattle.std.specs.Vec.{vec_capacity};
@@ -11,6 +11,8 @@ ghost use Rattle.jsonb_value.specs.View.{view, trees_view, members_view};
 
 use super::{Object, Value};
 use crate::error::{Error, Result};
+use super::text::run_len;
+use memchr::memchr;
 use std::alloc::AllocError;
 
 /// Keys compare as the values do, byte by byte; they are equal exactly where the values are; none begins another; and
@@ -160,8 +162,32 @@ fn append_key(key: &String, buf: &mut Vec<u8>) -> Appended
     append_closed(key.as_bytes(), buf)
 }
 
-// Appends a text's bytes. Runs between zeros, of which most texts have none, are copied whole.
+// Appends a text's bytes. Most texts have no byte that their JSON text escapes, and so no zero.
+#[inline(always)]
 fn append_escaped(bytes: &[u8], buf: &mut Vec<u8>) -> Appended
+    ensures ok { OnOk result (buf.new.items ≡ buf.old.items ++ flat_map byte_key bytes.now) }
+    ensures kept { Extends buf.old.items buf.new.items }
+    ensures full { OnErr result
+        (vec_capacity buf.old < vec_len buf.old + length (flat_map byte_key bytes.now)) }
+    ensures capacity { vec_capacity buf.old ≤ vec_capacity buf.new }
+{
+    if !is_plain(bytes) {
+        return append_runs(bytes, buf);
+    }
+    buf.extend_from_slice(bytes)
+}
+
+// Whether a JSON text has all bytes as they are. There is no zero among them then.
+#[inline(always)]
+fn is_plain(bytes: &[u8]) -> bool
+    ensures { IsTrue result → flat_map byte_key bytes.now ≡ bytes.now }
+{
+    run_len(bytes) == bytes.len()
+}
+
+// The same of bytes with zeros. Runs between zeros are copied whole.
+#[inline(never)]
+fn append_runs(bytes: &[u8], buf: &mut Vec<u8>) -> Appended
     ensures ok { OnOk result (buf.new.items ≡ buf.old.items ++ flat_map byte_key bytes.now) }
     ensures kept { Extends buf.old.items buf.new.items }
     ensures full { OnErr result
@@ -170,7 +196,7 @@ fn append_escaped(bytes: &[u8], buf: &mut Vec<u8>) -> Appended
 {
     let mut rest = bytes;
     'runs: loop {
-        let (run, others) = rest.split_at(run_len(rest));
+        let (run, others) = rest.split_at(first_zero(rest));
         buf.extend_from_slice(run)?;
         let Some((byte, more)) = others.split_first() else {
             return Ok(());
@@ -180,17 +206,12 @@ fn append_escaped(bytes: &[u8], buf: &mut Vec<u8>) -> Appended
     }
 }
 
-// How many of the first bytes are no zeros.
-fn run_len(bytes: &[u8]) -> usize
+// The index of the first zero, or the number of bytes.
+fn first_zero(bytes: &[u8]) -> usize
     ensures within { result ≤ length bytes.now }
     ensures plain { flat_map byte_key (take result bytes.now) ≡ take result bytes.now }
 {
-    'bytes: for (i, byte) in bytes.iter().enumerate() {
-        if *byte == 0 {
-            return i;
-        }
-    }
-    bytes.len()
+    memchr(0, bytes).unwrap_or(bytes.len())
 }
 
 fn append_byte(byte: u8, buf: &mut Vec<u8>) -> Appended

@@ -290,7 +290,7 @@ fn append_runs(bytes: &[u8], buf: &mut Vec<u8>) -> Appended
 
 // How many of the first bytes are written as they are.
 #[inline(always)]
-fn run_len(bytes: &[u8]) -> usize
+pub(super) fn run_len(bytes: &[u8]) -> usize
     ensures within { result ≤ length bytes.now }
     ensures plain { flat_map byte_text (take result bytes.now) ≡ take result bytes.now }
 {

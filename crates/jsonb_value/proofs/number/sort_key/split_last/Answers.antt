@@ -1,4 +1,4 @@
-use Rattle.std.proofs.Common.{◌≡◌, ◌-◌, ◌*◌, ◌%◌, List, ℕ, [], ◌∷◌, sym, ap, ◌∙◌, arith}
+use Rattle.std.proofs.Common.{◌≡◌, ◌*◌, ◌%◌, [], ◌∷◌, sym, ap, ◌∙◌, arith}
 use Rattle.jsonb_value.proofs.SortKeys.Pairs.{two_digits, single_digit}
 use Rattle.jsonb_value.proofs.number.sort_key.split_last.Goals as goal
 

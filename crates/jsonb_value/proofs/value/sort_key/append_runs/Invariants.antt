@@ -3,7 +3,7 @@ use Rattle.std.specs.List.{flat_map}
 use Rattle.std.specs.Vec.{vec_capacity}
 use Rattle.jsonb_value.specs.SortKey.{byte_key}
 use Rattle.jsonb_value.proofs.Appending.Appended.{IsUnderway}
-use Rattle.jsonb_value.proofs.value.sort_key.append_escaped.Given as goal
+use Rattle.jsonb_value.proofs.value.sort_key.append_runs.Given as goal
 
 -- what is left to write is the key of the rest
 abbrev pub invariant-runs : goal.invariant-runs
