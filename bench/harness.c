@@ -1,4 +1,5 @@
-/* Times reading in both modes and into trees, writing, comparing and cloning over files of documents, one document a line.
+/* Times reading in both modes and into trees, writing, sort keys, comparing and cloning over files of documents, one
+ * document a line.
  *
  *   harness FILE..               prints a line for each file and operation: the file, the operation, how many bytes, the
  *                                nanoseconds of one pass over the file, and its instructions, or - where they can't be counted
@@ -11,8 +12,8 @@
  * The documents of a file whose name ends in .json5 are of extended mode, and are only read.
  *
  * With NO_COUNTER set it opens no counter. PREFIX is what the names of the measured library's functions begin with.
- * WITH_EXTENDED is defined where the library reads extended mode, WITH_AST where it reads into trees, and WITH_MEMORY where
- * memory.c is linked, as --peak needs it and as the times must not have it. */
+ * WITH_EXTENDED is defined where the library reads extended mode, WITH_AST where it reads into trees, WITH_SORT_KEY where it
+ * writes sort keys, and WITH_MEMORY where memory.c is linked, as --peak needs it and as the times must not have it. */
 #define _GNU_SOURCE
 #include <linux/perf_event.h>
 #include <malloc.h>
@@ -39,6 +40,9 @@ operation_t JOIN(PREFIX, read_extended);
 #ifdef WITH_AST
 operation_t JOIN(PREFIX, read_ast);
 #endif
+#ifdef WITH_SORT_KEY
+operation_t JOIN(PREFIX, sort_key);
+#endif
 
 /* An operation that does not only read still reads the text where there is no round at all. So its cost is what more
  * rounds cost than none. */
@@ -51,6 +55,9 @@ static const struct operation { const char *name; operation_t *run; int only_rea
   { "read_ast", JOIN(PREFIX, read_ast), 1, 0 },
 #endif
   { "write", JOIN(PREFIX, write), 0, 0 },
+#ifdef WITH_SORT_KEY
+  { "sort_key", JOIN(PREFIX, sort_key), 0, 0 },
+#endif
   { "compare", JOIN(PREFIX, compare), 0, 0 },
   { "clone", JOIN(PREFIX, clone), 0, 0 },
 };

@@ -32,6 +32,7 @@ pub use Rattle.jsonb_value.specs.Text.Range
 pub use Rattle.jsonb_value.specs.Text.ReadsBack
 pub use Rattle.jsonb_value.specs.Grammar.Scalar
 pub use Rattle.jsonb_value.specs.Number.Signed
+pub use Rattle.jsonb_value.specs.SortKey
 pub use Rattle.jsonb_value.specs.Grammar.StandardNumber
 pub use Rattle.jsonb_value.specs.Grammar.StringBody
 pub use Rattle.jsonb_value.specs.Grammar.StringFault

@@ -81,6 +81,27 @@ pub extern "C" fn jsonb_bench_write(alloc: Global, text: &[u8], rounds: usize) -
     rounds
 }
 
+/// Reads the text once, and writes the value's sort key `rounds` times into one buffer. The answer is how many rounds
+/// went well before the first that did not, and 0 where the text is refused.
+#[unsafe(no_mangle)]
+pub extern "C" fn jsonb_bench_sort_key(alloc: Global, text: &[u8], rounds: usize) -> usize
+    ensures most { result ≤ rounds }
+    // Nothing goes well with a text that is no document.
+    ensures refused { IsNoDocument standard text.now → result ≡ 0 }
+{
+    let Ok(value) = parse_value_standard_mode(alloc, text) else {
+        return 0;
+    };
+    let mut key = Vec::new(alloc);
+    for round in 0..rounds {
+        key.clear();
+        if value.write_sort_key(&mut key).is_err() {
+            return round;
+        }
+    }
+    rounds
+}
+
 /// Reads the text twice, and compares the two values with `==` `rounds` times. The answer is how many rounds
 /// found them equal before the first that did not, and 0 where the text is refused.
 #[unsafe(no_mangle)]

@@ -1,11 +1,15 @@
 //! Comparing values, and sorting them.
 
-ghost use Rattle.std.specs.Prelude.{◌↔◌, IfOk, IsTrue};
+ghost use Rattle.std.specs.Prelude.{◌≡◌, ◌↔◌, ◌++◌, IfOk, IsTrue};
+ghost use Rattle.std.specs.Ordering.{ordering_then};
 ghost use Rattle.jsonb.specs.Grammar.{IsDocument};
 ghost use Rattle.jsonb.specs.Mode.{extended};
-ghost use Rattle.jsonb.specs.Order.{Same};
+ghost use Rattle.jsonb.specs.Order.{bytes_cmp, tree_cmp, Same};
+ghost use Rattle.jsonb.specs.SortKey.{key_of, IsBounded};
 ghost use Rattle.jsonb.specs.Tree.{Tree};
+ghost use Rattle.jsonb.specs.View.{view};
 
+use jsonb::value::sort_keys_order;
 use jsonb::{Result, Value};
 use std::alloc::Global;
 
@@ -27,4 +31,20 @@ pub fn sorted<'a>(alloc: Global, texts: &[&'a [u8]]) -> Result<Vec<Value<'a>>> {
     }
     values.sort()?;
     Ok(values)
+}
+
+/// The sort key of a pair of values. It compares with that of another pair as the pairs do: by the first values, and
+/// where these are equal by the second.
+pub fn pair_key<'a>(alloc: Global, first: &Value<'a>, second: &Value<'a>) -> Result<Vec<u8>>
+    ensures key { IfOk result (λ key. key.items ≡ key_of (view first.now) ++ key_of (view second.now)) }
+    ensures order { IfOk result (λ key. (t u : Tree) → IsBounded t → IsBounded u
+        → bytes_cmp key.items (key_of t ++ key_of u)
+        ≡ ordering_then (tree_cmp (view first.now) t) (tree_cmp (view second.now) u)) }
+{
+    // The law's clauses serve the proof. It does nothing.
+    sort_keys_order();
+    let mut key = Vec::new(alloc);
+    first.write_sort_key(&mut key)?;
+    second.write_sort_key(&mut key)?;
+    Ok(key)
 }

@@ -53,7 +53,17 @@ fn show_comparing(rt: &impl Print, alloc: Global) -> Result<()> {
     let are_equal = comparing::are_equal(alloc, b"{a: 1.0, 'b': 0x1}", b"{\"b\":1,\"a\":1}")?;
     println!(rt; "{are_equal}")?;
     let values = comparing::sorted(alloc, &MIXED)?;
-    show(rt, alloc, &Value::Array(values))
+    show(rt, alloc, &Value::Array(values))?;
+    let (nine, ten) = (
+        jsonb::parse_value(alloc, b"9.5")?,
+        jsonb::parse_value(alloc, b"10")?,
+    );
+    let word = jsonb::parse_value(alloc, b"'a'")?;
+    let below = comparing::pair_key(alloc, &nine, &word)?;
+    let above = comparing::pair_key(alloc, &ten, &nine)?;
+    let is_below = below < above;
+    println!(rt; "{below:?} {is_below}")?;
+    Ok(())
 }
 
 fn show_walking(rt: &impl Print, alloc: Global) -> Result<()> {

@@ -198,18 +198,6 @@ digits_compare negative (suc (suc a)) (suc (suc b)) m n p q o k =
 
 -- ---- the digits as they are written
 
-pub one_digit : (negative : Bool) (count m byte : ℕ) → count < 2 → 0 < m → m < 10 ^ count → byte ≡ turned negative (20 * m)
-    → byte ∷ [] ≡ map (turned negative) (digits_key count m)
-unfolding digits_key
-one_digit negative zero m byte l o h e = absurd (omega (arith, pow-zero 10))
-one_digit negative (suc zero) m byte l o h e = ap (λ b. b ∷ []) e
-one_digit negative (suc (suc count)) m byte l o h e = absurd (omega arith)
-
-pub below_ten : (count m : ℕ) → count < 2 → m < 10 ^ count → m < 10
-below_ten zero m l h = omega (arith, pow-zero 10)
-below_ten (suc zero) m l h = h
-below_ten (suc (suc count)) m l h = absurd (omega arith)
-
 pub last_two : (negative : Bool) (count left m byte pair rest : ℕ) → count ≡ left + 2 → pair ≡ m / 10 ^ left → rest ≡ m % 10 ^ left
     → rest ≡ 0 → byte ≡ turned negative (2 * pair) → byte ∷ [] ≡ map (turned negative) (digits_key count m)
 last_two negative count left m byte pair rest e p r h b =

@@ -39,8 +39,8 @@ pub begin_digits : (negative : Bool) (m count last front more byte : ℕ) (row :
 begin_digits negative m count last front more byte row long digits to from before e one none = record {
   bytes = last_byte row byte long ∙ ap (λ b. b ∷ []) e ∙ ap (map (turned negative)) digits;
   before = before;
-  none = λ h. elim (cases_eq last 0) [ | inl z ↦ (to z, refl) | inr z ↦ absurd (omega (arith, one z)) ];
-  some = λ h. elim (cases_eq last 0) [ | inl z ↦ absurd (h (none z)) | inr z ↦ (one z, λ y. z (from y)) ];
+  none = λ h. elim (cases_eq last 0) [ inl z ↦ (to z, refl) | inr z ↦ absurd (omega (arith, one z)) ];
+  some = λ h. elim (cases_eq last 0) [ inl z ↦ absurd (h (none z)) | inr z ↦ (one z, λ y. z (from y)) ];
 }
 
 -- ---- a pair before the digits that stand there

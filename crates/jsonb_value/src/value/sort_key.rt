@@ -9,9 +9,9 @@ ghost use Rattle.jsonb_value.specs.Text.Appending.{Extends};
 ghost use Rattle.jsonb_value.specs.Tree.{Tree};
 ghost use Rattle.jsonb_value.specs.View.{view, trees_view, members_view};
 
+use super::text::run_len;
 use super::{Object, Value};
 use crate::error::{Error, Result};
-use super::text::run_len;
 use memchr::memchr;
 use std::alloc::AllocError;
 

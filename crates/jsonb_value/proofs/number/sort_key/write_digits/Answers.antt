@@ -11,8 +11,8 @@ pub pairs-init : goal.pairs-init
 pairs-init c =
     let split = c.split_last-last in
     let count : c.args.count - 2 * ((c.args.count - 1) / 2) ≡ 2 - c.args.count % 2 = omega (arith, c.requires.some) in
-    let one : split.result.0 ≢ 0 → c.if-last-ne0.more ≡ 1 = λ h. elim c.if-last-ne0.branch [ | then-last-ne0 w ↦ w.more-is | else-last-ne0 w ↦ absurd (h w.if-last-ne0.false) ] in
-    let none : split.result.0 ≡ 0 → c.if-last-ne0.more ≡ 0 = λ h. elim c.if-last-ne0.branch [ | then-last-ne0 w ↦ absurd (w.if-last-ne0.true h) | else-last-ne0 w ↦ w.more-is ] in
+    let one : split.result.0 ≢ 0 → c.if-last-ne0.more ≡ 1 = λ h. elim c.if-last-ne0.branch [ then-last-ne0 w ↦ w.more-is | else-last-ne0 w ↦ absurd (h w.if-last-ne0.false) ] in
+    let none : split.result.0 ≡ 0 → c.if-last-ne0.more ≡ 0 = λ h. elim c.if-last-ne0.branch [ then-last-ne0 w ↦ absurd (w.if-last-ne0.true h) | else-last-ne0 w ↦ w.more-is ] in
     record {
       written = rw count (begin_digits c.args.negative c.args.magnitude (2 - c.args.count % 2) split.result.0 split.result.1 c.if-last-ne0.more c.turned.result c.args.row.now c.told-row split.ensures.last split.ensures.zero.0 split.ensures.zero.1 split.ensures.front c.turned.ensures one none);
       room = omega (arith, c.requires.few);
@@ -44,11 +44,11 @@ pairs-preserved c =
     let l = c.pairs in
     let i = c.pairs.invariant in
     let count : c.args.count - 2 * (l.left - 1) ≡ suc (suc (c.args.count - 2 * l.left)) = omega (arith, i.digits, c.pairs-test.true) in
-    let one : l.front % 100 ≢ 0 → c.if-pair-ne0.more ≡ 1 = λ h. elim c.if-pair-ne0.branch [ | then-pair-ne0 w ↦ w.more-is | else-pair-ne0 w ↦ absurd (h w.if-pair-ne0.false) ] in
-    let same : l.front % 100 ≡ 0 → c.if-pair-ne0.more ≡ l.more = λ h. elim c.if-pair-ne0.branch [ | then-pair-ne0 w ↦ absurd (w.if-pair-ne0.true h) | else-pair-ne0 w ↦ w.more-is ] in
+    let one : l.front % 100 ≢ 0 → c.if-pair-ne0.more ≡ 1 = λ h. elim c.if-pair-ne0.branch [ then-pair-ne0 w ↦ w.more-is | else-pair-ne0 w ↦ absurd (h w.if-pair-ne0.false) ] in
+    let same : l.front % 100 ≡ 0 → c.if-pair-ne0.more ≡ l.more = λ h. elim c.if-pair-ne0.branch [ then-pair-ne0 w ↦ absurd (w.if-pair-ne0.true h) | else-pair-ne0 w ↦ w.more-is ] in
     record {
       written = rw (count, c.from-start.ensures) (next_pair c.args.negative c.args.magnitude (c.args.count - 2 * l.left) l.start l.front l.more c.turned-in-pairs.result c.if-pair-ne0.more l.row i.long (omega (arith, i.room)) i.within i.written c.turned-in-pairs.ensures one same);
-      room = elim (cases_eq l.more 0) [ | inl z ↦ omega (arith, z, c.from-start.ensures, i.room) | inr z ↦ omega (arith, (i.written.some z).0, c.from-start.ensures, i.room, c.pairs-test.true) ];
+      room = elim (cases_eq l.more 0) [ inl z ↦ omega (arith, z, c.from-start.ensures, i.room) | inr z ↦ omega (arith, (i.written.some z).0, c.from-start.ensures, i.room, c.pairs-test.true) ];
       within = omega (arith, i.within);
       digits = omega (arith, i.digits);
       long = length-set l.row (l.start - c.from-start.result) c.turned-in-pairs.result ∙ i.long;
