@@ -1,8 +1,9 @@
 //! The library for C: it checks a text, writes the text of its value or of a part of it, compares two texts, and tells
 //! what is wrong with one. `include/vizhoniku.h` declares it.
 //!
-//! From C, `alloc` is passed as nothing, and a slice as a pointer and a length. No pointer may be null, and what a
-//! `&mut` points to lies apart from all else that is passed. Each call writes to each `&mut` but the buffer.
+//! From C, `alloc` is passed as nothing, and a slice as a pointer and a length. No pointer may be null: the code in
+//! `packaging/empty.c` stands before these functions, and passes on another pointer of an empty slice. What a `&mut`
+//! points to lies apart from all else that is passed. Each call writes to each `&mut` but the buffer.
 #![tactic(auto)]
 
 ghost use Rattle.std.specs.Prelude.{◌≡◌, ◌≢◌, ◌↔◌, ◌⊎◌, ℕ, List, ◌<◌, ◌≤◌, ◌++◌, min, length, drop, pos, string_bytes, MatchOption, IfOk, IfErr, IfNone, IfSome, Err};
