@@ -34,7 +34,7 @@ use Rattle.jsonb_scan.specs.Reading.Blank.{skip_blanks}
 use Rattle.jsonb_scan.specs.Reading.Container.{Found, Spot, array_at, elements_at, is_left_out, member_of, members_at, object_at, object_or_fault, spot_of, value_or_null}
 use Rattle.jsonb_scan.specs.Reading.Document.{value_at}
 use Rattle.jsonb_scan.specs.Reading.Number.{standard_number_at}
-use Rattle.jsonb_scan.specs.Reading.Scalar.{begins_number, other_scalar_at, scalar_at}
+use Rattle.jsonb_scan.specs.Reading.Scalar.{begins_number, other_scalar_at, quoted_at, scalar_at}
 use Rattle.jsonb_scan.specs.Reading.String.{string_at}
 use Rattle.jsonb.specs.Stack.{Open, array_end, elements_from, finish_open, member_start, read_members_from, next_part_at, object_end, rest_at, resume}
 use Rattle.jsonb.specs.Stack.Open.{elements_so_far, members_so_far}
@@ -117,11 +117,13 @@ pub number_seen : (n : Number) → view (value.Number n) ≡ number (number_view
 number_seen n = search (rules, the_lemmas)
 
 -- a string in double quotes, and a number of a standard text
-pub scalar_string : (p q : Parser) (s : CowStr Global) (rest : List ℕ) → Advances p q → rest_of p ≡ 34 ∷ rest_of q → string_at (size_of q) (mode_of q.mode) 34 (rest_of q) ≡ Ok ((mark_view s, cow_str_bytes s), rest) → scalar_at (size_of p) (mode_of p.mode) (rest_of p) ≡ Ok (view (value.String s), rest)
-scalar_string p q s rest a e read =
-    scalar_quoted p q a e
-    ∙ ap (λ (r : Read (Mark × List ℕ)). r >>= λ (x : (Mark × List ℕ) × List ℕ). Ok (string x.0.0 x.0.1, x.1)) read
+pub quoted_string : (p : Parser) (s : CowStr Global) (rest : List ℕ) → string_at (size_of p) (mode_of p.mode) 34 (rest_of p) ≡ Ok ((mark_view s, cow_str_bytes s), rest) → quoted_at (size_of p) (mode_of p.mode) 34 (rest_of p) ≡ Ok (view (value.String s), rest)
+quoted_string p s rest read =
+    ap (λ (r : Read (Mark × List ℕ)). r >>= λ (x : (Mark × List ℕ) × List ℕ). Ok (string x.0.0 x.0.1, x.1)) read
     ∙ ap (λ (t : Tree). Ok (t, rest)) (sym (string_seen s))
+
+pub scalar_string : (p q : Parser) (s : CowStr Global) (rest : List ℕ) → Advances p q → rest_of p ≡ 34 ∷ rest_of q → string_at (size_of q) (mode_of q.mode) 34 (rest_of q) ≡ Ok ((mark_view s, cow_str_bytes s), rest) → scalar_at (size_of p) (mode_of p.mode) (rest_of p) ≡ Ok (view (value.String s), rest)
+scalar_string p q s rest a e read = scalar_quoted p q a e ∙ quoted_string q s rest read
 
 pub number_of_standard : (p : Parser) (n : Number) (rest : List ℕ) → mode_of p.mode ≡ standard → begins_number standard (rest_of p) ≡ true → standard_number_at (size_of p) (rest_of p) ≡ Ok (number_view n, rest) → other_scalar_at (size_of p) (mode_of p.mode) (rest_of p) ≡ Ok (view (value.Number n), rest)
 number_of_standard p n rest is begun read =

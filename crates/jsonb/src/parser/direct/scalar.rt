@@ -8,7 +8,7 @@ ghost use Rattle.jsonb.specs.Direct.{Pushes, PutsIn};
 ghost use Rattle.jsonb_scan.specs.Answer.{mode_of};
 ghost use Rattle.jsonb.specs.Parser.{rest_of, size_of, Advances, FindsAs, read_at};
 ghost use Rattle.jsonb_scan.specs.Reading.Blank.{skip_blanks};
-ghost use Rattle.jsonb_scan.specs.Reading.Scalar.{scalar_at, other_scalar_at, words_at, key_at};
+ghost use Rattle.jsonb_scan.specs.Reading.Scalar.{scalar_at, other_scalar_at, quoted_at, words_at, key_at};
 ghost use Rattle.jsonb_scan.specs.Reading.String.{string_at};
 ghost use Rattle.jsonb.specs.Stack.{member_start};
 
@@ -36,11 +36,7 @@ impl<'a> Parser<'a> {
                 };
                 return Some(());
             }
-            let string = self.direct_escaped(b'"')?;
-            let Ok(()) = items.push(Value::String(string)) else {
-                return None;
-            };
-            return Some(());
+            return self.push_escaped(items);
         }
         if self.begins_standard_number() {
             let Ok(number) = self.parse_standard_number() else {
@@ -52,6 +48,22 @@ impl<'a> Parser<'a> {
             return Some(());
         }
         self.push_other_scalar(items, text)
+    }
+
+    // Pushes a string in double quotes that has escapes, or is refused, from the byte after its opening quote on. It
+    // stands apart, since its caller would clear the place of an owned string before each value.
+    #[inline(never)]
+    fn push_escaped(&mut self, items: &mut Vec<Value<'a>>) -> Option<()>
+        requires { self.old.idx ≤ size_of self.old }
+        ensures reads { IfSome result (λ _. Pushes items.old.items
+            (read_at (λ size mode. quoted_at size mode 34) self.old) items.new.items (rest_of self.new)) }
+        ensures advances { Advances self.old self.new }
+    {
+        let string = self.direct_escaped(b'"')?;
+        let Ok(()) = items.push(Value::String(string)) else {
+            return None;
+        };
+        Some(())
     }
 
     // The same of a string in single quotes, a word or a number of an extended text.
@@ -90,9 +102,7 @@ impl<'a> Parser<'a> {
                 insert_new(members, key, Value::String(CowStr::Borrowed(body)))?;
                 return Some(());
             }
-            let string = self.direct_escaped(b'"')?;
-            insert_new(members, key, Value::String(string))?;
-            return Some(());
+            return self.insert_escaped(members, key);
         }
         if self.begins_standard_number() {
             let Ok(number) = self.parse_standard_number() else {
@@ -102,6 +112,20 @@ impl<'a> Parser<'a> {
             return Some(());
         }
         self.insert_other_scalar(members, key, text)
+    }
+
+    // Puts in a member whose value is a string in double quotes that has escapes, or is refused, from the byte after its
+    // opening quote on.
+    #[inline(never)]
+    fn insert_escaped(&mut self, members: &mut Object<'a>, key: String) -> Option<()>
+        requires { self.old.idx ≤ size_of self.old }
+        ensures reads { IfSome result (λ _. PutsIn members.old.entries key
+            (read_at (λ size mode. quoted_at size mode 34) self.old) members.new.entries (rest_of self.new)) }
+        ensures advances { Advances self.old self.new }
+    {
+        let string = self.direct_escaped(b'"')?;
+        insert_new(members, key, Value::String(string))?;
+        Some(())
     }
 
     // The same of a string in single quotes, a word or a number of an extended text.
@@ -284,7 +308,7 @@ impl<'a> Parser<'a> {
     }
 
     // A string that has escapes, or is refused.
-    #[inline(never)]
+    #[inline(always)]
     fn direct_escaped(&mut self, quote: u8) -> Option<CowStr<'a>>
         requires no_backslash { quote ≢ 92 }
         requires inside { self.old.idx ≤ size_of self.old }
