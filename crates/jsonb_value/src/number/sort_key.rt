@@ -198,7 +198,7 @@ fn write_digits(negative: bool, count: u32, magnitude: u64, row: &mut [u8; 12]) 
     ensures room { (2 ≤ result) × (result ≤ 12) }
 {
     let (last, mut front) = split_last(count, magnitude);
-    let mut more = 0;
+    let mut more = 0u8;
     if last != 0 {
         more = 1;
     }
