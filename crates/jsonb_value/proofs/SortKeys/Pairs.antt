@@ -1,12 +1,13 @@
 -- The digits of a number written to the end of a row of 12 bytes, two at a time from the last on.
-use Rattle.std.proofs.Common.{◌≡◌, ◌≢◌, ℕ, zero, suc, ◌+◌, ◌-◌, ◌*◌, ◌/◌, ◌%◌, ◌^◌, ◌<◌, ◌≤◌, inl, inr, ◌⊎◌, Bool, List, [], ◌∷◌, ◌++◌, map, drop, length, slice_set, refl, sym, ap, ◌∙◌, arith}
+use Rattle.std.proofs.Common.{◌≡◌, ◌≢◌, ℕ, zero, suc, ◌+◌, ◌-◌, ◌*◌, ◌/◌, ◌%◌, ◌^◌, ◌<◌, ◌≤◌, inl, inr, ◌⊎◌, Bool, List, [], ◌∷◌, ◌++◌, map, drop, length, slice_set, refl, sym, ap, ap₂, ◌∙◌, arith}
 use Rattle.std.proofs.Math.Arith.{mod-mul}
 use Rattle.std.proofs.Math.Nat.{div-div-eq-div-mul, pow-suc, pow-zero}
 use Rattle.std.proofs.lemmas.Bool.{cases_eq}
 use Rattle.std.proofs.lemmas.List.{drop-set, drop_all, length-set}
 use Rattle.std.proofs.lemmas.Nat.{div-add-mod', mod_below, mod-mul-add, div-mul-add}
-use Rattle.jsonb_value.specs.SortKey.{digits_key, place_key, turned}
+use Rattle.jsonb_value.specs.SortKey.{digit_count, digits_key, magnitude_key, place_key, turned}
 use Rattle.jsonb_value.proofs.SortKeys.Counts.{near, far}
+use Rattle.jsonb_value.proofs.SortKeys.Numbers.{magnitude_split}
 use Rattle.jsonb_value.proofs.SortKeys.Digits.{hundred, last_pair, more_pairs, mul-pos, ten}
 
 -- The last `count` digits of m stand in the row from `start` on. `front` is the number before them, and `more` is 1
@@ -139,3 +140,18 @@ two_or_more zero m below (inl h) = absurd (omega (arith, h.1, below, pow-zero 10
 two_or_more (suc zero) m below (inl h) = absurd (omega (arith, h.1, below, pow-suc 10 0, pow-zero 10))
 two_or_more (suc (suc count)) m below (inl h) = omega arith
 two_or_more count m below (inr h) = omega arith
+
+-- ---- two bytes for one or two digits
+
+pub small_key : (negative : Bool) (scale m count digits first second : ℕ) → scale < 31 → 1 ≤ count → count ≡ digit_count m
+    → ◌≡◌ {A = List ℕ} (digits ∷ []) (digits_key (digit_count m) m)
+    → first ≡ turned negative (count + 160 - scale) → second ≡ turned negative digits
+    → ◌≡◌ {A = List ℕ} (first ∷ second ∷ []) (map (turned negative) (magnitude_key scale m))
+small_key negative scale m count digits first second near some is key e f =
+    let place : count + 255 - scale - 95 ≡ count + 160 - scale = omega arith in
+    let head : first ∷ [] ≡ map (turned negative) (place_key (count + 255 - scale)) =
+    ap (λ b. b ∷ []) (e ∙ ap (turned negative) (sym place)) ∙ sym (ap (map (turned negative)) (far (count + 255 - scale) (omega arith))) in
+    let tail : second ∷ [] ≡ map (turned negative) (digits_key count m) =
+    ap (λ b. b ∷ []) f ∙ ap (map (turned negative)) (key ∙ ap (λ n. digits_key n m) (sym is)) in
+    ap₂ (λ front back. front ++ back) head tail
+    ∙ sym (magnitude_split negative scale m count (count + 255 - scale) is refl)

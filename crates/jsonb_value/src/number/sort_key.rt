@@ -46,6 +46,17 @@ fn append_byte(byte: u8, buf: &mut Vec<u8>) -> Appended
     Ok(())
 }
 
+// Appends two bytes of a key.
+#[inline(always)]
+fn append_two(first: u8, second: u8, buf: &mut Vec<u8>) -> Appended
+    ensures ok { OnOk result (buf.new.items ≡ buf.old.items ++ first ∷ second ∷ []) }
+    ensures kept { Extends buf.old.items buf.new.items }
+    ensures full { OnErr result (vec_capacity buf.old < vec_len buf.old + length (first ∷ second ∷ [])) }
+    ensures capacity { vec_capacity buf.old ≤ vec_capacity buf.new }
+{
+    buf.extend_from_slice(&[first, second])
+}
+
 // Appends what stands in a row of bytes from `start` on.
 #[inline(always)]
 fn append_row(row: &[u8; 12], start: usize, buf: &mut Vec<u8>) -> Appended
@@ -76,13 +87,48 @@ fn append_magnitude(negative: bool, scale: u8, magnitude: u128, buf: &mut Vec<u8
         + length (map (turned negative) (magnitude_key scale magnitude))) }
     ensures capacity { vec_capacity buf.old ≤ vec_capacity buf.new }
 {
+    if magnitude < 100 && scale < 31 {
+        return append_small(negative, scale, magnitude as u64, buf);
+    }
     if magnitude < 0x1_0000_0000_0000_0000 {
         return append_short(negative, scale, magnitude as u64, buf);
     }
     append_long(negative, scale, magnitude, buf)
 }
 
-// The same where the number fits 64 bits, as most do: its bytes are made in a row and appended at once.
+// The same of a number of one or two digits, whose key has two bytes but for small fractions.
+#[inline(always)]
+fn append_small(negative: bool, scale: u8, magnitude: u64, buf: &mut Vec<u8>) -> Appended
+    requires few { (0 < magnitude) × (magnitude < 100) }
+    requires near { scale < 31 }
+    ensures ok { OnOk result (buf.new.items
+        ≡ buf.old.items ++ map (turned negative) (magnitude_key scale magnitude)) }
+    ensures kept { Extends buf.old.items buf.new.items }
+    ensures full { OnErr result (vec_capacity buf.old < vec_len buf.old
+        + length (map (turned negative) (magnitude_key scale magnitude))) }
+    ensures capacity { vec_capacity buf.old ≤ vec_capacity buf.new }
+{
+    let (count, digits) = small_digits(magnitude);
+    let place = turned(negative, count + 160 - scale);
+    append_two(place, turned(negative, digits), buf)
+}
+
+// How many digits a number below 100 has, and their byte.
+#[inline(always)]
+fn small_digits(magnitude: u64) -> (u8, u8)
+    requires { (0 < magnitude) × (magnitude < 100) }
+    ensures count { result.0 ≡ digit_count magnitude }
+    ensures digits { result.1 ∷ [] ≡ digits_key (digit_count magnitude) magnitude }
+    ensures few { (1 ≤ result.0) × (result.0 ≤ 2) }
+{
+    if magnitude < 10 {
+        (1, 20 * magnitude as u8)
+    } else {
+        (2, 2 * magnitude as u8)
+    }
+}
+
+// The same of a number that fits 64 bits, as most do: its bytes are made in a row and appended at once.
 #[inline(always)]
 fn append_short(negative: bool, scale: u8, magnitude: u64, buf: &mut Vec<u8>) -> Appended
     requires { 0 < magnitude }
