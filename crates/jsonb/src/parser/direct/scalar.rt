@@ -59,7 +59,9 @@ impl<'a> Parser<'a> {
             (read_at (λ size mode. quoted_at size mode 34) self.old) items.new.items (rest_of self.new)) }
         ensures advances { Advances self.old self.new }
     {
-        let string = self.direct_escaped(b'"')?;
+        let Ok(string) = self.parse_quoted(b'"') else {
+            return None;
+        };
         let Ok(()) = items.push(Value::String(string)) else {
             return None;
         };
@@ -102,7 +104,9 @@ impl<'a> Parser<'a> {
                 insert_new(members, key, Value::String(CowStr::Borrowed(body)))?;
                 return Some(());
             }
-            return self.insert_escaped(members, key);
+            let string = self.direct_escaped(b'"')?;
+            insert_new(members, key, Value::String(string))?;
+            return Some(());
         }
         if self.begins_standard_number() {
             let Ok(number) = self.parse_standard_number() else {
@@ -112,20 +116,6 @@ impl<'a> Parser<'a> {
             return Some(());
         }
         self.insert_other_scalar(members, key, text)
-    }
-
-    // Puts in a member whose value is a string in double quotes that has escapes, or is refused, from the byte after its
-    // opening quote on.
-    #[inline(never)]
-    fn insert_escaped(&mut self, members: &mut Object<'a>, key: String) -> Option<()>
-        requires { self.old.idx ≤ size_of self.old }
-        ensures reads { IfSome result (λ _. PutsIn members.old.entries key
-            (read_at (λ size mode. quoted_at size mode 34) self.old) members.new.entries (rest_of self.new)) }
-        ensures advances { Advances self.old self.new }
-    {
-        let string = self.direct_escaped(b'"')?;
-        insert_new(members, key, Value::String(string))?;
-        Some(())
     }
 
     // The same of a string in single quotes, a word or a number of an extended text.
@@ -308,7 +298,7 @@ impl<'a> Parser<'a> {
     }
 
     // A string that has escapes, or is refused.
-    #[inline(always)]
+    #[inline(never)]
     fn direct_escaped(&mut self, quote: u8) -> Option<CowStr<'a>>
         requires no_backslash { quote ≢ 92 }
         requires inside { self.old.idx ≤ size_of self.old }

@@ -4,7 +4,7 @@ use Rattle.jsonb.proofs.parser.Parser.push_escaped.Goals as goal
 
 pub returns-clause-reads : goal.returns-clause-reads
 returns-clause-reads c = (
-  value.String c.in_ok-string.string,
-  c.in-Ok.ensures.items,
-  quoted_string c.args.self.now c.in_ok-string.string _ c.in_ok-string.ensures.reads,
+  value.String c.in-Ok.string,
+  c.in-Ok-push.ensures.items,
+  quoted_string c.args.self.now c.in-Ok.string _ c.in-Ok.ensures.reads,
 )
