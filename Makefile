@@ -16,7 +16,7 @@ SONAME = libvizhoniku.so.0
 VERSION = $(shell sed -n 's/^\#define VIZHONIKU_VERSION_STRING "\(.*\)"/\1/p' include/vizhoniku.h)
 
 # The functions that take bytes: packaging/empty.c stands before the proved ones.
-WITH_BYTES = check text part sort_key compare place message
+WITH_BYTES = check text part sort_key text_and_key compare place message
 
 # Of the kit's archives only that of malloc, realloc and free is called.
 KIT = $(shell dirname "$$(rt doc)")

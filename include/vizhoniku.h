@@ -116,6 +116,17 @@ uint32_t vizhoniku_part(uint32_t mode, const unsigned char *path, size_t path_si
 uint32_t vizhoniku_sort_key(uint32_t mode, const unsigned char *text, size_t text_size, unsigned char *buffer,
                             size_t buffer_size, size_t *size, struct vizhoniku_refusal *refusal);
 
+/* Writes the text and the sort key of the text's value, as vizhoniku_text and vizhoniku_sort_key do, of one reading:
+ * each to the front of a buffer of its own. The two buffers lie apart.
+ *
+ *  - VIZHONIKU_ACCEPTED: *size and *key_size bytes were written. The rest of both buffers is as before.
+ *  - VIZHONIKU_TOO_SHORT: one of the buffers is too short. *size and *key_size bytes are needed, and nothing was
+ *    written.
+ *  - any other status: *size and *key_size are 0, and nothing was written. */
+uint32_t vizhoniku_text_and_key(uint32_t mode, const unsigned char *text, size_t text_size, unsigned char *buffer,
+                                size_t buffer_size, size_t *size, unsigned char *key_buffer, size_t key_buffer_size,
+                                size_t *key_size, struct vizhoniku_refusal *refusal);
+
 /* Compares the values of two texts of one mode: *order is -1 where the first is below the second, 0 where they are the
  * same, and 1 where it is above. It is one total order; docs/VALUES.md has it. Where the status is not
  * VIZHONIKU_ACCEPTED, *order is 0. Where both texts are refused, the first is told. The status is never

@@ -1,5 +1,5 @@
 /* Makes calls whose answers main.c doesn't show: an unknown mode, buffers of several sizes, parts and their paths, sort
- * keys, and null pointers of size 0. Each prints a line. */
+ * keys, both at once, and null pointers of size 0. Each prints a line. */
 #include <stdio.h>
 #include <string.h>
 
@@ -62,9 +62,23 @@ static void write_sort_key(uint32_t mode, const char *text, size_t buffer_size) 
   print_refusal(&refusal);
 }
 
+static void write_both(uint32_t mode, const char *text, size_t buffer_size, size_t key_buffer_size) {
+  unsigned char buffer[12], key_buffer[12];
+  size_t size = 99, key_size = 99;
+  struct vizhoniku_refusal refusal;
+  memset(buffer, '.', sizeof buffer);
+  memset(key_buffer, 0, sizeof key_buffer);
+  memset(&refusal, 255, sizeof refusal);
+  uint32_t status = vizhoniku_text_and_key(mode, BYTES(text), buffer, buffer_size, &size, key_buffer, key_buffer_size,
+                                           &key_size, &refusal);
+  printf("text and key: status %u sizes %zu %zu buffers %.12s ", (unsigned)status, size, key_size, (char *)buffer);
+  for (size_t i = 0; i < sizeof key_buffer; i++) printf("%02x", (unsigned)key_buffer[i]);
+  print_refusal(&refusal);
+}
+
 /* A null pointer of size 0 is an empty text, path or buffer. */
 static void pass_null(uint32_t mode) {
-  size_t size = 99;
+  size_t size = 99, key_size = 99;
   int32_t order = 99;
   struct vizhoniku_refusal refusal = {0, 0, 0};
   struct vizhoniku_place place = {0, 0, 0};
@@ -77,6 +91,8 @@ static void pass_null(uint32_t mode) {
   printf(" size %zu,", size);
   printf(" sort key %u", (unsigned)vizhoniku_sort_key(mode, NULL, 0, NULL, 0, &size, &refusal));
   printf(" size %zu,", size);
+  printf(" both %u", (unsigned)vizhoniku_text_and_key(mode, NULL, 0, NULL, 0, &size, NULL, 0, &key_size, &refusal));
+  printf(" sizes %zu %zu,", size, key_size);
   printf(" compare %u", (unsigned)vizhoniku_compare(mode, BYTES("null"), NULL, 0, &order, &refusal));
   printf(" order %d,", (int)order);
   printf(" message %u", (unsigned)vizhoniku_message(mode, NULL, 0, NULL, 0, &size));
@@ -113,6 +129,13 @@ int main(void) {
   write_sort_key(VIZHONIKU_EXTENDED, "[1]", 12);
   write_sort_key(VIZHONIKU_EXTENDED, "[1]", 0);
   write_sort_key(VIZHONIKU_EXTENDED, "[1", 12);
+
+  write_both(VIZHONIKU_EXTENDED, "[ 1, +2 ]", 12, 12);
+  write_both(VIZHONIKU_EXTENDED, "[ 1, +2 ]", 5, 6);
+  write_both(VIZHONIKU_EXTENDED, "[ 1, +2 ]", 4, 12);
+  write_both(VIZHONIKU_EXTENDED, "[ 1, +2 ]", 12, 5);
+  write_both(VIZHONIKU_EXTENDED, "[1", 12, 12);
+  write_both(2, "1", 12, 12);
 
   pass_null(VIZHONIKU_STANDARD);
   pass_null(VIZHONIKU_EXTENDED);

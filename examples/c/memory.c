@@ -51,9 +51,9 @@ static const char *const texts[] = {
 /* Each function of the library that takes memory, by a number. */
 static uint32_t call(int which, uint32_t mode, const unsigned char *text, size_t text_size, size_t room) {
   static const unsigned char path[] = {'/', 'c', '/', 'k'};
-  unsigned char buffer[400];
+  unsigned char buffer[400], key_buffer[400];
   struct vizhoniku_refusal refusal;
-  size_t size;
+  size_t size, key_size;
   int32_t order;
   switch (which) {
     case 0: return vizhoniku_check(mode, text, text_size, &refusal);
@@ -61,17 +61,19 @@ static uint32_t call(int which, uint32_t mode, const unsigned char *text, size_t
     case 2: return vizhoniku_sort_key(mode, text, text_size, buffer, room, &size, &refusal);
     case 3: return vizhoniku_part(mode, path, sizeof path, text, text_size, buffer, room, &size, &refusal);
     case 4: return vizhoniku_message(mode, text, text_size, buffer, room, &size);
+    case 5:
+      return vizhoniku_text_and_key(mode, text, text_size, buffer, room, &size, key_buffer, room, &key_size, &refusal);
     default: return vizhoniku_compare(mode, text, text_size, text, text_size, &order, &refusal);
   }
 }
 
 int main(void) {
   long kept = 0, wrong = 0;
-  for (size_t i = 0; i < 2 * 2 * 6 * (sizeof texts / sizeof *texts); i++) {
-    const unsigned char *text = (const unsigned char *)texts[i / 24];
-    size_t text_size = strlen(texts[i / 24]), room = i % 2 ? 400 : 3;
-    int which = (int)(i / 2 % 6);
-    uint32_t mode = (uint32_t)(i / 12 % 2), whole = 0;
+  for (size_t i = 0; i < 2 * 2 * 7 * (sizeof texts / sizeof *texts); i++) {
+    const unsigned char *text = (const unsigned char *)texts[i / 28];
+    size_t text_size = strlen(texts[i / 28]), room = i % 2 ? 400 : 3;
+    int which = (int)(i / 2 % 7);
+    uint32_t mode = (uint32_t)(i / 14 % 2), whole = 0;
     for (refused = -1; refused < 0 || asked >= refused; refused++) {
       long before = held;
       asked = 0;

@@ -1,5 +1,5 @@
 -- What the functions for C tell of texts.
-use Rattle.std.specs.Prelude.{◌≡◌, ◌≢◌, ℕ, ◌<◌, ◌≤◌, ℤ, pos, negsuc, List, ◌++◌, length, drop, Some, Ok, Err}
+use Rattle.std.specs.Prelude.{◌≡◌, ◌≢◌, ◌⊎◌, ℕ, ◌<◌, ◌≤◌, ℤ, pos, negsuc, List, ◌++◌, length, drop, Some, Ok, Err}
 use Rattle.std.specs.declared.cmp.Ordering.{Ordering}
 use Rattle.std.specs.declared.cmp.Ordering.TheVariants.{Less, Equal, Greater}
 use Rattle.jsonb_value.specs.declared.error.Error.{Error}
@@ -135,6 +135,16 @@ pub record NeedsRoomForKey (number : ℕ) (text : List ℕ) (size : ℕ) (old : 
   pub is_key : IsKeyOf number text bytes
   pub sized : size ≡ length bytes
   pub too_short : length old < size
+
+-- The text and the key of the text's tree have these sizes, and one of the buffers is shorter.
+pub record NeedsRoomForBoth (number : ℕ) (text : List ℕ) (size key_size : ℕ) (old key_old : List ℕ) : Type 0 where
+  pub bytes : List ℕ
+  pub is_text : IsTextOf number text bytes
+  pub sized : size ≡ length bytes
+  pub key : List ℕ
+  pub is_key : IsKeyOf number text key
+  pub key_sized : key_size ≡ length key
+  pub too_short : (length old < size) ⊎ (length key_old < key_size)
 
 -- The number is that of the order of the two texts' trees.
 pub record IsOrdered (number : ℕ) (left right : List ℕ) (order : ℤ) : Type 0 where

@@ -17,7 +17,7 @@ ghost use Rattle.jsonb.specs.Parser.{mode_of, Gives, HoldsMarker, IsTextRefusal}
 ghost use Rattle.jsonb.specs.Reading.Document.{document_of};
 ghost use Rattle.jsonb.specs.Refusals.{IsExplained};
 ghost use Rattle.jsonb_pointer.specs.Path.{IsPath, StartsKey};
-ghost use Rattle.jsonb_c.specs.Interface.{NumberChooses, code_number, nothing, sign, status_of, told, HasNoPartAt, HasPartAt, IsAccepted, IsNoDocumentOf, IsNoPath, IsOneRefused, IsOrdered, IsDocumentOf, IsKeyOf, IsKeyWritten, IsMessageOf, IsMessageWritten, IsPartAnswer, IsPartWritten, IsReason, IsRefused, IsTextOf, IsWritten, NeedsRoom, NeedsRoomForKey, NeedsRoomForMessage, NeedsRoomForPart, SaysError};
+ghost use Rattle.jsonb_c.specs.Interface.{NumberChooses, code_number, nothing, sign, status_of, told, HasNoPartAt, HasPartAt, IsAccepted, IsNoDocumentOf, IsNoPath, IsOneRefused, IsOrdered, IsDocumentOf, IsKeyOf, IsKeyWritten, IsMessageOf, IsMessageWritten, IsPartAnswer, IsPartWritten, IsReason, IsRefused, IsTextOf, IsWritten, NeedsRoom, NeedsRoomForBoth, NeedsRoomForKey, NeedsRoomForMessage, NeedsRoomForPart, SaysError};
 
 use jsonb::{
     Error, Mode, ParseErrorCode, Value, fault_index, line_and_column, parse_value,
@@ -191,6 +191,54 @@ pub extern "C" fn vizhoniku_sort_key(
         }
         Err(refused) => {
             *size = 0;
+            tell(refused, refusal)
+        }
+    }
+}
+
+/// Writes the text and the sort key of the text's value, of one reading: each to the front of a buffer of its own, with
+/// its size. Where one of the buffers is too short, both stay as they are, and the sizes are what is needed.
+#[unsafe(no_mangle)]
+pub extern "C" fn vizhoniku_text_and_key(
+    alloc: Global,
+    mode: u32,
+    text: &[u8],
+    out: &mut [u8],
+    size: &mut usize,
+    key_out: &mut [u8],
+    key_size: &mut usize,
+    refusal: &mut Refusal,
+) -> u32
+    ensures status { result ≤ 4 }
+    ensures mode { result ≡ UNKNOWN_MODE ↔ (1 < mode) }
+
+    // What is written is what `vizhoniku_text` and `vizhoniku_sort_key` write, and no other byte changes.
+    ensures written { result ≡ ACCEPTED → IsWritten mode text.now size.new out.old out.new }
+    ensures key_written { result ≡ ACCEPTED → IsKeyWritten mode text.now key_size.new key_out.old key_out.new }
+    ensures short { result ≡ TOO_SHORT
+        → NeedsRoomForBoth mode text.now size.new key_size.new out.old key_out.old }
+    ensures untouched { result ≢ ACCEPTED → (out.new ≡ out.old) × (key_out.new ≡ key_out.old) }
+    ensures no_size { result ≢ ACCEPTED → result ≢ TOO_SHORT → (size.new ≡ 0) × (key_size.new ≡ 0) }
+
+    // A document is accepted, unless memory ran out.
+    ensures accepted { IsAccepted mode text.now
+        → (result ≡ ACCEPTED) ⊎ (result ≡ TOO_SHORT) ⊎ (result ≡ OUT_OF_MEMORY) }
+    ensures memory { result ≡ OUT_OF_MEMORY → HoldsMarker text.now ⊎ IsAccepted mode text.now }
+
+    // Which fault it is, and where.
+    ensures refused { result ≡ REFUSED → IsRefused mode text.now 1 refusal.new }
+    ensures nothing { result ≢ REFUSED → refusal.new ≡ nothing }
+{
+    match text_and_key_of(alloc, mode, text) {
+        Ok(both) => {
+            *refusal = NOTHING;
+            *size = both.text.len();
+            *key_size = both.key.len();
+            put_both(&both.text, &both.key, out, key_out)
+        }
+        Err(refused) => {
+            *size = 0;
+            *key_size = 0;
             tell(refused, refusal)
         }
     }
@@ -540,6 +588,49 @@ fn put(bytes: &[u8], out: &mut [u8]) -> u32
     }
     out[..bytes.len()].copy_from_slice(bytes);
     ACCEPTED
+}
+
+// Puts each of the two at the front of its buffer, where both have room.
+fn put_both(text: &[u8], key: &[u8], out: &mut [u8], key_out: &mut [u8]) -> u32
+    ensures status { (result ≡ ACCEPTED) ⊎ (result ≡ TOO_SHORT) }
+    ensures text { result ≡ ACCEPTED → out.new ≡ text.now ++ drop (length text.now) out.old }
+    ensures key { result ≡ ACCEPTED → key_out.new ≡ key.now ++ drop (length key.now) key_out.old }
+    ensures short { result ≡ TOO_SHORT
+        → (length out.old < length text.now) ⊎ (length key_out.old < length key.now) }
+    ensures untouched { result ≡ TOO_SHORT → (out.new ≡ out.old) × (key_out.new ≡ key_out.old) }
+{
+    if out.len() < text.len() || key_out.len() < key.len() {
+        return TOO_SHORT;
+    }
+    out[..text.len()].copy_from_slice(text);
+    key_out[..key.len()].copy_from_slice(key);
+    ACCEPTED
+}
+
+// The text and the sort key of a value.
+#[derive(Drop)]
+struct TextAndKey {
+    text: Vec<u8>,
+    key: Vec<u8>,
+}
+
+// The text and the sort key of the value of a text.
+fn text_and_key_of(alloc: Global, mode: u32, text: &[u8]) -> Result<TextAndKey, Refused>
+    ensures text { IfOk result (λ both. IsTextOf mode text.now both.text.items) }
+    ensures key { IfOk result (λ both. IsKeyOf mode text.now both.key.items) }
+    ensures reason { IfErr result (IsReason mode (IsRefused mode text.now 1)) }
+    ensures memory { result ≡ Err Refused.OutOfMemory → HoldsMarker text.now ⊎ IsAccepted mode text.now }
+{
+    let value = value_of(alloc, mode, text, 1)?;
+    let mut bytes = Vec::new(alloc);
+    if value.write_text(&mut bytes).is_err() {
+        return Err(Refused::OutOfMemory);
+    }
+    let mut key = Vec::new(alloc);
+    if value.write_sort_key(&mut key).is_err() {
+        return Err(Refused::OutOfMemory);
+    }
+    Ok(TextAndKey { text: bytes, key })
 }
 
 // The text of the value of a text.

@@ -1,16 +1,12 @@
-use Rattle.std.proofs.Common.{◌≡◌, ℕ, false, List, [], ◌++◌, Some, IfSome, Result, Ok, Err, OnOk, map, string_bytes, ap, subst, sym, ◌∙◌}
-use Rattle.std.specs.Result.{is_err}
+use Rattle.std.proofs.Common.{◌≡◌, ℕ, List, [], ◌++◌, Some, IfSome, map, string_bytes, ap, subst, sym, ◌∙◌}
 use Rattle.jsonb_value.specs.Text.{text_of, AppendsText}
 use Rattle.jsonb_value.specs.Tree.{Tree}
 use Rattle.jsonb_value.specs.View.{view}
 use Rattle.jsonb_pointer.specs.Path.{IsAt, IsPath}
 use Rattle.jsonb_pointer.proofs.PartsReadBack.{part_reads_back}
 use Rattle.jsonb_c.specs.Interface.{IsDocumentOf, HasPartAt, IsPartOf}
+use Rattle.jsonb_c.proofs.Texts.{done}
 use Rattle.jsonb_c.proofs.part_of.Goals as goal
-
-done : {T E : Type 0} (P : Type 0) (r : Result T E) → is_err r ≡ false → OnOk r P → P
-done P (Ok x) e p = p
-done P (Err x) e p = cc
 
 -- what is appended to nothing is the text of the part
 part_is : (number : ℕ) (path text : List ℕ) (keys : List (List ℕ)) (t part : Tree) (old new : List ℕ) → IsPath path keys → IsDocumentOf number text t → IsAt t keys part → old ≡ [] → AppendsText part old new → IsPartOf number path text new

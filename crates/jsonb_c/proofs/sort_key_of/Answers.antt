@@ -1,12 +1,8 @@
-use Rattle.std.proofs.Common.{◌≡◌, false, ◌++◌, Result, Ok, Err, OnOk, ap, sym, ◌∙◌}
-use Rattle.std.specs.Result.{is_err}
+use Rattle.std.proofs.Common.{◌++◌, ap, sym, ◌∙◌}
 use Rattle.jsonb_value.specs.SortKey.{key_of}
 use Rattle.jsonb_value.specs.View.{view}
+use Rattle.jsonb_c.proofs.Texts.{done}
 use Rattle.jsonb_c.proofs.sort_key_of.Goals as goal
-
-done : {T E : Type 0} (P : Type 0) (r : Result T E) → is_err r ≡ false → OnOk r P → P
-done P (Ok x) e p = p
-done P (Err x) e p = cc
 
 pub returns-clause-key : goal.returns-clause-key
 returns-clause-key c =

@@ -1,0 +1,7 @@
+use Rattle.std.proofs.Common.{◌∙◌, inr}
+use Rattle.jsonb_c.proofs.Reasons.{memory_wanting}
+use Rattle.jsonb_c.proofs.vizhoniku_text_and_key.Goals as goal
+
+pub returns-in-Err-clause-accepted : goal.returns-in-Err-clause-accepted
+returns-in-Err-clause-accepted c = λ accepted.
+    inr (inr (c.tell.ensures.status ∙ memory_wanting c.args.mode c.args.text.now c.in-Err.refused c.in-Err.ensures.reason accepted))
