@@ -1,0 +1,856 @@
+/*-------------------------------------------------------------------------
+ *
+ * vizhoniku.c
+ *	  The type vjson: JSON documents that are compared, indexed and hashed by
+ *	  value.
+ *
+ * A datum of vjson is a varlena that holds, one after the other,
+ *
+ *	- the size of the sort key, in 4 bytes,
+ *	- the sort key: bytes whose order, by memcmp, is the order of values, and
+ *	  that are equal exactly for equal values,
+ *	- the written text, in UTF-8 whatever the encoding of the database is.
+ *
+ * All is made at input, by one reading of the text.  Comparing and hashing
+ * look at the sort key alone and never at the text.
+ *
+ *-------------------------------------------------------------------------
+ */
+#include "postgres.h"
+
+#include "common/hashfn.h"
+#include "common/jsonapi.h"
+#include "fmgr.h"
+#include "lib/hyperloglog.h"
+#include "libpq/pqformat.h"
+#include "mb/pg_wchar.h"
+#include "miscadmin.h"
+#include "tcop/tcopprot.h"
+#include "utils/builtins.h"
+#include "utils/guc.h"
+#include "utils/json.h"
+#include "utils/jsonb.h"
+#include "utils/memutils.h"
+#include "utils/sortsupport.h"
+
+#include <vizhoniku.h>
+
+PG_MODULE_MAGIC;
+
+#define KEY_SIZE_SIZE	sizeof(uint32)
+#define VJSON_HDRSZ		(VARHDRSZ + KEY_SIZE_SIZE)
+
+/* Room beyond the size of the text that is read; more is asked for if needed. */
+#define SPARE_ROOM		16
+
+/* How many bytes before a fault are shown. */
+#define SHOWN_BEFORE	50
+
+/*
+ * The machine stack that one call of the library may take, in bytes: at most
+ * about 8 kB, and 1.6 kB for each array or object that is open.  At most 512
+ * are open at once.
+ */
+#define CALL_STACK		(64 * 1024)
+#define LEVEL_STACK		(2 * 1024)
+#define MAX_LEVELS		512
+#define WORST_STACK		(CALL_STACK + MAX_LEVELS * LEVEL_STACK)
+
+/* How an abbreviated key is divided; see vjson_abbreviate. */
+#define FRONT_LIMIT		0x7FFF
+#define SHOWN_BYTES		6
+
+/* How a text is read. */
+typedef enum
+{
+	READ_INPUT,					/* standard mode, and decimals in JSON */
+	READ_EXTENDED				/* extended mode */
+} ReadAs;
+
+/* The two parts of a value. */
+typedef struct
+{
+	const unsigned char *key;
+	size_t		key_size;
+	const char *text;
+	size_t		text_size;
+} VjsonParts;
+
+/* What a sort with abbreviated keys keeps. */
+typedef struct
+{
+	unsigned char *pivot;		/* the front of the first sort key that came */
+	size_t		pivot_size;		/* at most FRONT_LIMIT; 0 where none came */
+	int64		input_count;	/* keys so far */
+	bool		estimating;		/* still counting distinct abbreviations? */
+	hyperLogLogState distinct;
+} VjsonSort;
+
+PG_FUNCTION_INFO_V1(vjson_in);
+PG_FUNCTION_INFO_V1(vjson_out);
+PG_FUNCTION_INFO_V1(vjson_recv);
+PG_FUNCTION_INFO_V1(vjson_send);
+PG_FUNCTION_INFO_V1(vjson_extended);
+PG_FUNCTION_INFO_V1(vjson_sort_key);
+PG_FUNCTION_INFO_V1(vjson_get);
+PG_FUNCTION_INFO_V1(vjson_from_json);
+PG_FUNCTION_INFO_V1(vjson_from_jsonb);
+PG_FUNCTION_INFO_V1(vjson_to_json);
+PG_FUNCTION_INFO_V1(vjson_to_jsonb);
+PG_FUNCTION_INFO_V1(vjson_eq);
+PG_FUNCTION_INFO_V1(vjson_ne);
+PG_FUNCTION_INFO_V1(vjson_lt);
+PG_FUNCTION_INFO_V1(vjson_le);
+PG_FUNCTION_INFO_V1(vjson_gt);
+PG_FUNCTION_INFO_V1(vjson_ge);
+PG_FUNCTION_INFO_V1(vjson_cmp);
+PG_FUNCTION_INFO_V1(vjson_sortsupport);
+PG_FUNCTION_INFO_V1(vjson_hash);
+PG_FUNCTION_INFO_V1(vjson_hash_extended);
+
+
+/*
+ * Refusals
+ */
+
+/*
+ * Make words fit for a message: where they aren't valid in the encoding of the
+ * database, each byte that isn't printable ASCII becomes a question mark.
+ */
+static char *
+printable(char *words, size_t size)
+{
+	if (GetDatabaseEncoding() != PG_UTF8 || !pg_verify_mbstr(PG_UTF8, words, (int) size, true))
+	{
+		for (size_t i = 0; i < size; i++)
+		{
+			if (words[i] < 0x20 || words[i] > 0x7E)
+				words[i] = '?';
+		}
+	}
+	return words;
+}
+
+/*
+ * What is wrong with the text, in the words of the library.  NULL if there is
+ * no memory for them.
+ */
+static char *
+words_of_refusal(uint32 mode, const char *text, size_t size)
+{
+	size_t		room = 256;
+
+	for (;;)
+	{
+		char	   *words = palloc_extended(room + 1, MCXT_ALLOC_HUGE);
+		size_t		length;
+		uint32		status = vizhoniku_message(mode, (const unsigned char *) text, size,
+											   (unsigned char *) words, room, &length);
+
+		if (status == VIZHONIKU_REFUSED)
+		{
+			words[length] = '\0';
+			return printable(words, length);
+		}
+		pfree(words);
+		if (status != VIZHONIKU_TOO_SHORT)
+			return NULL;
+		room = length;
+	}
+}
+
+/* The line with the fault, up to the fault, as it is shown to the user. */
+static char *
+shown_line(const char *text, size_t size, const struct vizhoniku_place *place)
+{
+	size_t		line = place->index - (place->column - 1);
+	size_t		start = line;
+	size_t		end = place->index;
+	StringInfoData shown;
+	char	   *part;
+
+	if (end - start > SHOWN_BEFORE)
+	{
+		start = end - SHOWN_BEFORE;
+		while (start < end && ((unsigned char) text[start] & 0xC0) == 0x80)
+			start++;
+	}
+	if (end < size && text[end] != '\n')
+	{
+		end++;
+		while (end < size && ((unsigned char) text[end] & 0xC0) == 0x80)
+			end++;
+	}
+
+	part = pnstrdup(text + start, end - start);
+	initStringInfo(&shown);
+	if (start > line)
+		appendStringInfoString(&shown, "...");
+	appendStringInfoString(&shown, printable(part, end - start));
+	if (end < size && text[end] != '\n')
+		appendStringInfoString(&shown, "...");
+	return shown.data;
+}
+
+static void pg_attribute_noreturn()
+raise_refusal(const char *words, const char *text, size_t size, const struct vizhoniku_refusal *refusal)
+{
+	struct vizhoniku_place place;
+
+	vizhoniku_place((const unsigned char *) text, size, refusal, &place);
+	ereport(ERROR,
+			(errcode(ERRCODE_INVALID_TEXT_REPRESENTATION),
+			 errmsg("invalid input syntax for type %s", "vjson"),
+			 errdetail_internal("%s (line %zu, column %zu)", words ? words : "not a document",
+								place.line, place.column),
+			 refusal->code == VIZHONIKU_NUMBER_NOT_CARRIED ?
+			 errhint("Numbers are integers and decimals of at most 38 digits, with no exponent.") : 0,
+			 errcontext("vjson text, line %zu: %s", place.line, shown_line(text, size, &place))));
+}
+
+static void pg_attribute_noreturn()
+raise_out_of_memory(size_t size)
+{
+	ereport(ERROR,
+			(errcode(ERRCODE_OUT_OF_MEMORY),
+			 errmsg("out of memory"),
+			 errdetail("Failed while reading a vjson text of %zu bytes.", size)));
+}
+
+static void pg_attribute_noreturn()
+raise_unexpected(uint32 status)
+{
+	elog(ERROR, "unexpected status %u of the library vizhoniku", status);
+}
+
+
+/*
+ * Reading
+ */
+
+/*
+ * Raise an error unless the machine stack has room for a call with this text.
+ *
+ * The library doesn't look at the stack itself.  It is enough for each text
+ * where the most that a call takes is left below max_stack_depth, as it nearly
+ * always is.  Else the brackets of the text bound how deep it nests.
+ */
+static void
+check_stack_room(const char *text, size_t size)
+{
+	char		here;
+	pg_stack_base_t base = set_stack_base();
+	size_t		used;
+	size_t		limit = (size_t) max_stack_depth * 1024;
+	size_t		levels = 0;
+
+	restore_stack_base(base);
+	if (base == NULL)
+		return;					/* not a usual backend: nothing is limited */
+	used = base > &here ? (size_t) (base - &here) : (size_t) (&here - base);
+	if (used + WORST_STACK <= limit)
+		return;
+
+	for (size_t i = 0; i < size && levels < MAX_LEVELS; i++)
+	{
+		if (text[i] == '[' || text[i] == '{')
+			levels++;
+	}
+	if (used + CALL_STACK + levels * LEVEL_STACK <= limit)
+		return;
+	ereport(ERROR,
+			(errcode(ERRCODE_STATEMENT_TOO_COMPLEX),
+			 errmsg("stack depth limit exceeded"),
+			 errdetail("Reading a vjson text needs up to %d kB of stack.", WORST_STACK / 1024),
+			 errhint("Increase the configuration parameter \"max_stack_depth\" (currently %dkB), "
+					 "after ensuring the platform's stack depth limit is adequate.",
+					 max_stack_depth)));
+}
+
+/*
+ * Read the text in this mode, and make the value.  Answers the status of the
+ * library; *value is set where it is VIZHONIKU_ACCEPTED.
+ */
+static uint32
+make_value(uint32 mode, const char *text, size_t size, struct varlena **value, struct vizhoniku_refusal *refusal)
+{
+	size_t		key_room = size + SPARE_ROOM;
+	size_t		text_room = size + SPARE_ROOM;
+
+	CHECK_FOR_INTERRUPTS();
+	check_stack_room(text, size);
+	for (;;)
+	{
+		/* The text is written behind the room of the key, and moved down to the key's end. */
+		char	   *result = palloc_extended(VJSON_HDRSZ + key_room + text_room, MCXT_ALLOC_HUGE);
+		char	   *key = result + VJSON_HDRSZ;
+		size_t		key_size;
+		size_t		text_size;
+		uint32		status = vizhoniku_text_and_key(mode, (const unsigned char *) text, size,
+													(unsigned char *) key + key_room, text_room, &text_size,
+													(unsigned char *) key, key_room, &key_size, refusal);
+
+		if (status == VIZHONIKU_ACCEPTED)
+		{
+			uint32		stored_size = (uint32) key_size;
+
+			if (VJSON_HDRSZ + key_size + text_size > MaxAllocSize)
+				ereport(ERROR,
+						(errcode(ERRCODE_PROGRAM_LIMIT_EXCEEDED),
+						 errmsg("vjson value is too large"),
+						 errdetail("Its text of %zu bytes and its sort key of %zu bytes exceed %zu bytes.",
+								   text_size, key_size, (size_t) MaxAllocSize)));
+			memcpy(result + VARHDRSZ, &stored_size, KEY_SIZE_SIZE);
+			memmove(key + key_size, key + key_room, text_size);
+			SET_VARSIZE(result, VJSON_HDRSZ + key_size + text_size);
+			*value = (struct varlena *) result;
+			return status;
+		}
+		pfree(result);
+		if (status != VIZHONIKU_TOO_SHORT)
+			return status;
+		key_room = Max(key_room, key_size);
+		text_room = Max(text_room, text_size);
+	}
+}
+
+/*
+ * Raise an error unless the text is JSON as the server's own type json takes
+ * it.
+ */
+static void
+check_json(const char *text, size_t size)
+{
+	JsonLexContext *lex = makeJsonLexContextCstringLen(unconstify(char *, text), (int) size, PG_UTF8, false);
+	JsonParseErrorType error = pg_parse_json(lex, &nullSemAction);
+
+	if (error != JSON_SUCCESS)
+	{
+		struct vizhoniku_refusal refusal = {VIZHONIKU_NO_CODE, 1, 0};
+
+		refusal.position = lex->token_start ? (size_t) (lex->token_start - lex->input) : size;
+		raise_refusal(json_errdetail(error, lex), text, size, &refusal);
+	}
+	pfree(lex);
+}
+
+/*
+ * Read a text in the encoding of the database.
+ *
+ * Input is of standard mode.  Extended mode has more numbers, which must be
+ * read back where their text was dumped; so a text whose fault in standard
+ * mode is a number that isn't carried is also read where it is JSON and
+ * extended mode carries all of its numbers.
+ */
+static struct varlena *
+read_value(const char *server_text, size_t server_size, ReadAs as)
+{
+	uint32		mode = as == READ_EXTENDED ? VIZHONIKU_EXTENDED : VIZHONIKU_STANDARD;
+	char	   *text = pg_server_to_any(server_text, (int) server_size, PG_UTF8);
+	size_t		size = text == server_text ? server_size : strlen(text);
+	struct vizhoniku_refusal refusal;
+	struct varlena *value = NULL;
+	uint32		status = make_value(mode, text, size, &value, &refusal);
+
+	if (status == VIZHONIKU_REFUSED && as == READ_INPUT && refusal.code == VIZHONIKU_NUMBER_NOT_CARRIED)
+	{
+		check_json(text, size);
+		mode = VIZHONIKU_EXTENDED;
+		status = make_value(mode, text, size, &value, &refusal);
+	}
+	if (status == VIZHONIKU_REFUSED)
+		raise_refusal(words_of_refusal(mode, text, size), text, size, &refusal);
+	if (status == VIZHONIKU_OUT_OF_MEMORY)
+		raise_out_of_memory(size);
+	if (status != VIZHONIKU_ACCEPTED)
+		raise_unexpected(status);
+	if (text != server_text)
+		pfree(text);
+	return value;
+}
+
+
+/*
+ * Looking at values
+ */
+
+static void
+get_parts(struct varlena *value, VjsonParts *parts)
+{
+	const char *data = VARDATA_ANY(value);
+	size_t		size = VARSIZE_ANY_EXHDR(value);
+	uint32		key_size;
+
+	if (size < KEY_SIZE_SIZE)
+		ereport(ERROR, (errcode(ERRCODE_DATA_CORRUPTED), errmsg("vjson value is corrupted")));
+	memcpy(&key_size, data, KEY_SIZE_SIZE);
+	if (key_size > size - KEY_SIZE_SIZE)
+		ereport(ERROR, (errcode(ERRCODE_DATA_CORRUPTED), errmsg("vjson value is corrupted")));
+	parts->key = (const unsigned char *) data + KEY_SIZE_SIZE;
+	parts->key_size = key_size;
+	parts->text = data + KEY_SIZE_SIZE + key_size;
+	parts->text_size = size - KEY_SIZE_SIZE - key_size;
+}
+
+/*
+ * The sort key of a value.  Of a compressed value only the front with the key
+ * is decompressed.  What is answered is to be freed unless it is the datum.
+ */
+static struct varlena *
+get_key(Datum datum, VjsonParts *parts)
+{
+	struct varlena *value = (struct varlena *) DatumGetPointer(datum);
+
+	if (VARATT_IS_COMPRESSED(value))
+	{
+		struct varlena *front = PG_DETOAST_DATUM_SLICE(datum, 0, KEY_SIZE_SIZE);
+		uint32		key_size;
+
+		if (VARSIZE_ANY_EXHDR(front) < KEY_SIZE_SIZE)
+			ereport(ERROR, (errcode(ERRCODE_DATA_CORRUPTED), errmsg("vjson value is corrupted")));
+		memcpy(&key_size, VARDATA_ANY(front), KEY_SIZE_SIZE);
+		pfree(front);
+		if (key_size > MaxAllocSize)
+			ereport(ERROR, (errcode(ERRCODE_DATA_CORRUPTED), errmsg("vjson value is corrupted")));
+		value = PG_DETOAST_DATUM_SLICE(datum, 0, (int32) (KEY_SIZE_SIZE + key_size));
+	}
+	else
+		value = pg_detoast_datum_packed(value);
+	get_parts(value, parts);
+	return value;
+}
+
+static inline void
+free_key(struct varlena *value, Datum datum)
+{
+	if ((Pointer) value != DatumGetPointer(datum))
+		pfree(value);
+}
+
+/* The written text in the encoding of the database, with a zero byte at its end. */
+static char *
+get_server_text(const VjsonParts *parts)
+{
+	if (GetDatabaseEncoding() != PG_UTF8)
+	{
+		char	   *text = pg_any_to_server(parts->text, (int) parts->text_size, PG_UTF8);
+
+		if (text != parts->text)
+			return text;
+	}
+	return pnstrdup(parts->text, parts->text_size);
+}
+
+/*
+ * A value that was made can be written in the encoding of the database, or else
+ * an error is raised, so that no row is kept that can't be shown or dumped.
+ */
+static struct varlena *
+checked_for_output(struct varlena *value)
+{
+	if (GetDatabaseEncoding() != PG_UTF8)
+	{
+		VjsonParts	parts;
+
+		get_parts(value, &parts);
+		pfree(get_server_text(&parts));
+	}
+	return value;
+}
+
+
+/*
+ * Input and output
+ */
+
+Datum
+vjson_in(PG_FUNCTION_ARGS)
+{
+	char	   *text = PG_GETARG_CSTRING(0);
+
+	PG_RETURN_POINTER(checked_for_output(read_value(text, strlen(text), READ_INPUT)));
+}
+
+Datum
+vjson_out(PG_FUNCTION_ARGS)
+{
+	struct varlena *value = PG_GETARG_VARLENA_PP(0);
+	VjsonParts	parts;
+
+	get_parts(value, &parts);
+	PG_RETURN_CSTRING(get_server_text(&parts));
+}
+
+/* The binary form is the text, as that of json is. */
+Datum
+vjson_recv(PG_FUNCTION_ARGS)
+{
+	StringInfo	buffer = (StringInfo) PG_GETARG_POINTER(0);
+	int			size;
+	char	   *text = pq_getmsgtext(buffer, buffer->len - buffer->cursor, &size);
+
+	PG_RETURN_POINTER(checked_for_output(read_value(text, size, READ_INPUT)));
+}
+
+Datum
+vjson_send(PG_FUNCTION_ARGS)
+{
+	struct varlena *value = PG_GETARG_VARLENA_PP(0);
+	VjsonParts	parts;
+	char	   *text;
+	StringInfoData buffer;
+
+	get_parts(value, &parts);
+	text = get_server_text(&parts);
+	pq_begintypsend(&buffer);
+	pq_sendtext(&buffer, text, (int) strlen(text));
+	PG_RETURN_BYTEA_P(pq_endtypsend(&buffer));
+}
+
+Datum
+vjson_extended(PG_FUNCTION_ARGS)
+{
+	text	   *words = PG_GETARG_TEXT_PP(0);
+
+	PG_RETURN_POINTER(checked_for_output(read_value(VARDATA_ANY(words), VARSIZE_ANY_EXHDR(words), READ_EXTENDED)));
+}
+
+Datum
+vjson_sort_key(PG_FUNCTION_ARGS)
+{
+	VjsonParts	parts;
+	bytea	   *result;
+
+	get_key(PG_GETARG_DATUM(0), &parts);
+	result = (bytea *) palloc(VARHDRSZ + parts.key_size);
+	SET_VARSIZE(result, VARHDRSZ + parts.key_size);
+	memcpy(VARDATA(result), parts.key, parts.key_size);
+	PG_RETURN_BYTEA_P(result);
+}
+
+
+/*
+ * The part at a path
+ */
+Datum
+vjson_get(PG_FUNCTION_ARGS)
+{
+	struct varlena *value = PG_GETARG_VARLENA_PP(0);
+	text	   *words = PG_GETARG_TEXT_PP(1);
+	char	   *path = pg_server_to_any(VARDATA_ANY(words), (int) VARSIZE_ANY_EXHDR(words), PG_UTF8);
+	size_t		path_size = path == VARDATA_ANY(words) ? VARSIZE_ANY_EXHDR(words) : strlen(path);
+	VjsonParts	parts;
+	char	   *part;
+	size_t		part_size;
+	struct vizhoniku_refusal refusal;
+	struct varlena *result = NULL;
+	uint32		status;
+
+	/* A written text is of extended mode, and that of a part is no longer than that of the whole. */
+	get_parts(value, &parts);
+	CHECK_FOR_INTERRUPTS();
+	check_stack_room(parts.text, parts.text_size);
+	part = palloc_extended(parts.text_size + SPARE_ROOM, MCXT_ALLOC_HUGE);
+	status = vizhoniku_part(VIZHONIKU_EXTENDED, (const unsigned char *) path, path_size,
+							(const unsigned char *) parts.text, parts.text_size,
+							(unsigned char *) part, parts.text_size + SPARE_ROOM, &part_size, &refusal);
+	if (status == VIZHONIKU_NO_PART)
+		PG_RETURN_NULL();
+	if (status == VIZHONIKU_NO_PATH)
+		ereport(ERROR,
+				(errcode(ERRCODE_INVALID_PARAMETER_VALUE),
+				 errmsg("invalid path: \"%s\"", text_to_cstring(words)),
+				 errdetail("A path is empty or begins with \"/\", and each \"~\" in it is followed by 0 or 1.")));
+	if (status == VIZHONIKU_ACCEPTED)
+		status = make_value(VIZHONIKU_EXTENDED, part, part_size, &result, &refusal);
+	if (status == VIZHONIKU_OUT_OF_MEMORY)
+		raise_out_of_memory(parts.text_size);
+	if (status != VIZHONIKU_ACCEPTED)
+		raise_unexpected(status);
+	pfree(part);
+	PG_RETURN_POINTER(result);
+}
+
+
+/*
+ * Casts.  Those from and to text are the server's, by input and output.
+ */
+
+/* What json and jsonb hold is JSON, so that extended mode adds numbers alone. */
+Datum
+vjson_from_json(PG_FUNCTION_ARGS)
+{
+	text	   *json = PG_GETARG_TEXT_PP(0);
+
+	PG_RETURN_POINTER(checked_for_output(read_value(VARDATA_ANY(json), VARSIZE_ANY_EXHDR(json), READ_EXTENDED)));
+}
+
+Datum
+vjson_from_jsonb(PG_FUNCTION_ARGS)
+{
+	Jsonb	   *jsonb = PG_GETARG_JSONB_P(0);
+	char	   *text = JsonbToCString(NULL, &jsonb->root, VARSIZE(jsonb));
+	struct varlena *value = read_value(text, strlen(text), READ_EXTENDED);
+
+	pfree(text);
+	PG_RETURN_POINTER(checked_for_output(value));
+}
+
+static char *
+text_of_argument(Datum datum)
+{
+	struct varlena *value = PG_DETOAST_DATUM_PACKED(datum);
+	VjsonParts	parts;
+	char	   *text;
+
+	get_parts(value, &parts);
+	text = get_server_text(&parts);
+	if ((Pointer) value != DatumGetPointer(datum))
+		pfree(value);
+	return text;
+}
+
+Datum
+vjson_to_json(PG_FUNCTION_ARGS)
+{
+	return DirectFunctionCall1(json_in, CStringGetDatum(text_of_argument(PG_GETARG_DATUM(0))));
+}
+
+Datum
+vjson_to_jsonb(PG_FUNCTION_ARGS)
+{
+	return DirectFunctionCall1(jsonb_in, CStringGetDatum(text_of_argument(PG_GETARG_DATUM(0))));
+}
+
+
+/*
+ * Order and equality
+ */
+
+static inline int
+compare_keys(const VjsonParts *left, const VjsonParts *right)
+{
+	int			order = memcmp(left->key, right->key, Min(left->key_size, right->key_size));
+
+	if (order != 0)
+		return order < 0 ? -1 : 1;
+	return (left->key_size > right->key_size) - (left->key_size < right->key_size);
+}
+
+static int
+compare_datums(Datum left, Datum right)
+{
+	VjsonParts	left_parts;
+	VjsonParts	right_parts;
+	struct varlena *left_key = get_key(left, &left_parts);
+	struct varlena *right_key = get_key(right, &right_parts);
+	int			order = compare_keys(&left_parts, &right_parts);
+
+	free_key(left_key, left);
+	free_key(right_key, right);
+	return order;
+}
+
+static bool
+equal_datums(Datum left, Datum right)
+{
+	VjsonParts	left_parts;
+	VjsonParts	right_parts;
+	struct varlena *left_key = get_key(left, &left_parts);
+	struct varlena *right_key = get_key(right, &right_parts);
+	bool		equal = left_parts.key_size == right_parts.key_size &&
+		memcmp(left_parts.key, right_parts.key, left_parts.key_size) == 0;
+
+	free_key(left_key, left);
+	free_key(right_key, right);
+	return equal;
+}
+
+Datum
+vjson_eq(PG_FUNCTION_ARGS)
+{
+	PG_RETURN_BOOL(equal_datums(PG_GETARG_DATUM(0), PG_GETARG_DATUM(1)));
+}
+
+Datum
+vjson_ne(PG_FUNCTION_ARGS)
+{
+	PG_RETURN_BOOL(!equal_datums(PG_GETARG_DATUM(0), PG_GETARG_DATUM(1)));
+}
+
+Datum
+vjson_lt(PG_FUNCTION_ARGS)
+{
+	PG_RETURN_BOOL(compare_datums(PG_GETARG_DATUM(0), PG_GETARG_DATUM(1)) < 0);
+}
+
+Datum
+vjson_le(PG_FUNCTION_ARGS)
+{
+	PG_RETURN_BOOL(compare_datums(PG_GETARG_DATUM(0), PG_GETARG_DATUM(1)) <= 0);
+}
+
+Datum
+vjson_gt(PG_FUNCTION_ARGS)
+{
+	PG_RETURN_BOOL(compare_datums(PG_GETARG_DATUM(0), PG_GETARG_DATUM(1)) > 0);
+}
+
+Datum
+vjson_ge(PG_FUNCTION_ARGS)
+{
+	PG_RETURN_BOOL(compare_datums(PG_GETARG_DATUM(0), PG_GETARG_DATUM(1)) >= 0);
+}
+
+Datum
+vjson_cmp(PG_FUNCTION_ARGS)
+{
+	PG_RETURN_INT32(compare_datums(PG_GETARG_DATUM(0), PG_GETARG_DATUM(1)));
+}
+
+
+/*
+ * Sorting
+ */
+
+static int
+vjson_fast_cmp(Datum x, Datum y, SortSupport ssup)
+{
+	(void) ssup;
+	return compare_datums(x, y);
+}
+
+#if SIZEOF_DATUM >= 8
+
+/*
+ * An abbreviated key, compared as an unsigned number.
+ *
+ * Documents of one table often begin alike, so that the first bytes of their
+ * sort keys tell little.  So a key is told by where it leaves the first key
+ * that came, the pivot:
+ *
+ *	- the highest bit: whether it is below the pivot (0) or not (1),
+ *	- 15 bits: how many bytes it begins with in common with the pivot, at most
+ *	  FRONT_LIMIT; a key below the pivot is the higher the more these are, and
+ *	  one above it the lower the more these are,
+ *	- 6 bytes: those that come next.
+ *
+ * Keys that agree in the first two parts begin with the same bytes of the
+ * pivot, so that what comes next compares as the keys do.
+ */
+static Datum
+vjson_abbreviate(Datum original, SortSupport ssup)
+{
+	VjsonSort  *sort = (VjsonSort *) ssup->ssup_extra;
+	VjsonParts	parts;
+	struct varlena *value = get_key(original, &parts);
+	size_t		limit;
+	size_t		front = 0;
+	bool		below;
+	uint64		result;
+
+	if (sort->pivot_size == 0)
+	{
+		sort->pivot_size = Min(parts.key_size, FRONT_LIMIT);
+		sort->pivot = MemoryContextAlloc(ssup->ssup_cxt, Max(sort->pivot_size, 1));
+		memcpy(sort->pivot, parts.key, sort->pivot_size);
+	}
+
+	limit = Min(parts.key_size, sort->pivot_size);
+	while (front + sizeof(uint64) <= limit &&
+		   memcmp(parts.key + front, sort->pivot + front, sizeof(uint64)) == 0)
+		front += sizeof(uint64);
+	while (front < limit && parts.key[front] == sort->pivot[front])
+		front++;
+
+	/* No key begins another: one with all bytes of the pivot is the pivot, or has FRONT_LIMIT bytes in common. */
+	below = front < limit && parts.key[front] < sort->pivot[front];
+	result = below ? (uint64) front : (uint64) (2 * FRONT_LIMIT + 1 - front);
+	for (size_t i = front; i < front + SHOWN_BYTES; i++)
+		result = (result << 8) | (i < parts.key_size ? parts.key[i] : 0);
+	free_key(value, original);
+
+	sort->input_count++;
+	if (sort->estimating)
+		addHyperLogLog(&sort->distinct,
+					   DatumGetUInt32(hash_uint32((uint32) result ^ (uint32) (result >> 32))));
+	return (Datum) result;
+}
+
+/*
+ * Whether to give up abbreviated keys, since too few of them differ.  This is
+ * what the server's own types of fixed cost (uuid, network addresses) do.
+ */
+static bool
+vjson_abbreviate_abort(int memtupcount, SortSupport ssup)
+{
+	VjsonSort  *sort = (VjsonSort *) ssup->ssup_extra;
+	double		distinct;
+
+	if (memtupcount < 10000 || sort->input_count < 10000 || !sort->estimating)
+		return false;
+	distinct = estimateHyperLogLog(&sort->distinct);
+	if (distinct > 100000.0)
+	{
+		sort->estimating = false;
+		return false;
+	}
+	return distinct < sort->input_count / 2000.0 + 0.5;
+}
+
+#endif							/* SIZEOF_DATUM >= 8 */
+
+Datum
+vjson_sortsupport(PG_FUNCTION_ARGS)
+{
+	SortSupport ssup = (SortSupport) PG_GETARG_POINTER(0);
+
+	ssup->comparator = vjson_fast_cmp;
+	ssup->ssup_extra = NULL;
+#if SIZEOF_DATUM >= 8
+	if (ssup->abbreviate)
+	{
+		VjsonSort  *sort = MemoryContextAllocZero(ssup->ssup_cxt, sizeof(VjsonSort));
+		MemoryContext caller = MemoryContextSwitchTo(ssup->ssup_cxt);
+
+		sort->estimating = true;
+		initHyperLogLog(&sort->distinct, 10);
+		MemoryContextSwitchTo(caller);
+		ssup->ssup_extra = sort;
+		ssup->comparator = ssup_datum_unsigned_cmp;
+		ssup->abbrev_converter = vjson_abbreviate;
+		ssup->abbrev_abort = vjson_abbreviate_abort;
+		ssup->abbrev_full_comparator = vjson_fast_cmp;
+	}
+#endif
+	PG_RETURN_VOID();
+}
+
+
+/*
+ * Hashing
+ */
+
+Datum
+vjson_hash(PG_FUNCTION_ARGS)
+{
+	VjsonParts	parts;
+	Datum		datum = PG_GETARG_DATUM(0);
+	struct varlena *value = get_key(datum, &parts);
+	Datum		result = hash_any(parts.key, (int) parts.key_size);
+
+	free_key(value, datum);
+	PG_RETURN_DATUM(result);
+}
+
+Datum
+vjson_hash_extended(PG_FUNCTION_ARGS)
+{
+	VjsonParts	parts;
+	Datum		datum = PG_GETARG_DATUM(0);
+	struct varlena *value = get_key(datum, &parts);
+	Datum		result = hash_any_extended(parts.key, (int) parts.key_size, PG_GETARG_INT64(1));
+
+	free_key(value, datum);
+	PG_RETURN_DATUM(result);
+}
