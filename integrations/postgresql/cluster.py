@@ -75,7 +75,7 @@ class Installed:
         build = os.path.join(self.folder, "build")
         os.mkdir(build)
         for name in os.listdir(HERE):
-            if name == "Makefile" or name.startswith("vizhoniku") and name.endswith((".c", ".control", ".sql")):
+            if name == "Makefile" or name.endswith((".c", ".h", ".control", ".sql")):
                 shutil.copy(os.path.join(HERE, name), build)
         command = ["make", "-s", "install", "PG_CONFIG=" + PG_CONFIG, "with_llvm=no", "DESTDIR=" + self.folder,
                    "COPT=-Wextra -Wno-unused-parameter -Werror"]

@@ -4,15 +4,19 @@
  *	  The type vjson: JSON documents that are compared, indexed and hashed by
  *	  value.
  *
- * A datum of vjson is a varlena that holds, one after the other,
+ * A datum of vjson is a varlena with the sort key of the value: bytes whose
+ * order, by memcmp, is the order of values, and that are equal exactly for
+ * equal values.  Comparing and hashing look at it alone.  The first byte says
+ * what else there is:
  *
- *	- the size of the sort key, in 4 bytes,
- *	- the sort key: bytes whose order, by memcmp, is the order of values, and
- *	  that are equal exactly for equal values,
- *	- the written text, in UTF-8 whatever the encoding of the database is.
+ *	- 0: nothing.  The text is written from the key.
+ *	- 1: how the text is written from the key: the zeros that end decimals.
+ *	  The size of the key, in 4 bytes, comes first, then the key, the zeros.
+ *	- 2: the text.  The size of the key comes first, then the key, the text.
  *
- * All is made at input, by one reading of the text.  Comparing and hashing
- * look at the sort key alone and never at the text.
+ * The library makes text and key by one reading of the input.  Then the text is
+ * written from the key, and where that isn't the library's text, the text is
+ * stored.  Keys and texts are in UTF-8 whatever the encoding of the database.
  *
  *-------------------------------------------------------------------------
  */
@@ -35,10 +39,16 @@
 
 #include <vizhoniku.h>
 
+#include "key_text.h"
+
 PG_MODULE_MAGIC;
 
+#define KEY_ALONE		0
+#define KEY_AND_ZEROS	1
+#define KEY_AND_TEXT	2
+
+#define FORM_SIZE		1
 #define KEY_SIZE_SIZE	sizeof(uint32)
-#define VJSON_HDRSZ		(VARHDRSZ + KEY_SIZE_SIZE)
 
 /* Room beyond the size of the text that is read; more is asked for if needed. */
 #define SPARE_ROOM		16
@@ -60,6 +70,9 @@ PG_MODULE_MAGIC;
 #define FRONT_LIMIT		0x7FFF
 #define SHOWN_BYTES		6
 
+/* How much of a compressed value is looked at first. */
+#define FIRST_SLICE		256
+
 /* How a text is read. */
 typedef enum
 {
@@ -67,13 +80,14 @@ typedef enum
 	READ_EXTENDED				/* extended mode */
 } ReadAs;
 
-/* The two parts of a value. */
+/* The parts of a value. */
 typedef struct
 {
+	int			form;
 	const unsigned char *key;
 	size_t		key_size;
-	const char *text;
-	size_t		text_size;
+	const unsigned char *rest;	/* zeros or text */
+	size_t		rest_size;
 } VjsonParts;
 
 /* What a sort with abbreviated keys keeps. */
@@ -268,6 +282,41 @@ check_stack_room(const char *text, size_t size)
 }
 
 /*
+ * Make the value of a key and a text.  The result has the key behind the byte
+ * of the form, and room for 4 bytes more; the text lies elsewhere in it.
+ */
+static void
+finish_value(char *result, size_t key_size, const char *text, size_t text_size)
+{
+	char	   *form = result + VARHDRSZ;
+	char	   *key = form + FORM_SIZE;
+	uint32		stored_size = (uint32) key_size;
+	unsigned char *zeros = NULL;
+	size_t		zeros_size = 0;
+
+	if (key_text_zeros((unsigned char *) key, key_size, text, text_size, &zeros, &zeros_size))
+	{
+		if (zeros_size == 0)
+		{
+			*form = KEY_ALONE;
+			SET_VARSIZE(result, VARHDRSZ + FORM_SIZE + key_size);
+			return;
+		}
+		*form = KEY_AND_ZEROS;
+		text = (char *) zeros;
+		text_size = zeros_size;
+	}
+	else
+		*form = KEY_AND_TEXT;
+	memmove(key + KEY_SIZE_SIZE, key, key_size);
+	memcpy(key, &stored_size, KEY_SIZE_SIZE);
+	memmove(key + KEY_SIZE_SIZE + key_size, text, text_size);
+	SET_VARSIZE(result, VARHDRSZ + FORM_SIZE + KEY_SIZE_SIZE + key_size + text_size);
+	if (zeros)
+		pfree(zeros);
+}
+
+/*
  * Read the text in this mode, and make the value.  Answers the status of the
  * library; *value is set where it is VIZHONIKU_ACCEPTED.
  */
@@ -281,28 +330,25 @@ make_value(uint32 mode, const char *text, size_t size, struct varlena **value, s
 	check_stack_room(text, size);
 	for (;;)
 	{
-		/* The text is written behind the room of the key, and moved down to the key's end. */
-		char	   *result = palloc_extended(VJSON_HDRSZ + key_room + text_room, MCXT_ALLOC_HUGE);
-		char	   *key = result + VJSON_HDRSZ;
+		char	   *result = palloc_extended(VARHDRSZ + FORM_SIZE + key_room + KEY_SIZE_SIZE + text_room,
+											 MCXT_ALLOC_HUGE);
+		char	   *key = result + VARHDRSZ + FORM_SIZE;
+		char	   *written = key + key_room + KEY_SIZE_SIZE;
 		size_t		key_size;
 		size_t		text_size;
 		uint32		status = vizhoniku_text_and_key(mode, (const unsigned char *) text, size,
-													(unsigned char *) key + key_room, text_room, &text_size,
+													(unsigned char *) written, text_room, &text_size,
 													(unsigned char *) key, key_room, &key_size, refusal);
 
 		if (status == VIZHONIKU_ACCEPTED)
 		{
-			uint32		stored_size = (uint32) key_size;
-
-			if (VJSON_HDRSZ + key_size + text_size > MaxAllocSize)
+			if (VARHDRSZ + FORM_SIZE + KEY_SIZE_SIZE + key_size + text_size > MaxAllocSize)
 				ereport(ERROR,
 						(errcode(ERRCODE_PROGRAM_LIMIT_EXCEEDED),
 						 errmsg("vjson value is too large"),
 						 errdetail("Its text of %zu bytes and its sort key of %zu bytes exceed %zu bytes.",
 								   text_size, key_size, (size_t) MaxAllocSize)));
-			memcpy(result + VARHDRSZ, &stored_size, KEY_SIZE_SIZE);
-			memmove(key + key_size, key + key_room, text_size);
-			SET_VARSIZE(result, VJSON_HDRSZ + key_size + text_size);
+			finish_value(result, key_size, written, text_size);
 			*value = (struct varlena *) result;
 			return status;
 		}
@@ -374,49 +420,57 @@ read_value(const char *server_text, size_t server_size, ReadAs as)
  * Looking at values
  */
 
-static void
-get_parts(struct varlena *value, VjsonParts *parts)
+static void pg_attribute_noreturn()
+raise_corrupted(void)
 {
-	const char *data = VARDATA_ANY(value);
+	ereport(ERROR, (errcode(ERRCODE_DATA_CORRUPTED), errmsg("vjson value is corrupted")));
+}
+
+/* The parts of the value, or of its first bytes where it is a slice. */
+static inline void
+get_parts(struct varlena *value, bool slice, VjsonParts *parts)
+{
+	const unsigned char *data = (const unsigned char *) VARDATA_ANY(value);
 	size_t		size = VARSIZE_ANY_EXHDR(value);
 	uint32		key_size;
 
-	if (size < KEY_SIZE_SIZE)
-		ereport(ERROR, (errcode(ERRCODE_DATA_CORRUPTED), errmsg("vjson value is corrupted")));
+	if (size < FORM_SIZE)
+		raise_corrupted();
+	parts->form = data[0];
+	data += FORM_SIZE;
+	size -= FORM_SIZE;
+	if (likely(parts->form == KEY_ALONE))
+	{
+		parts->key = data;
+		parts->key_size = size;
+		parts->rest = NULL;
+		parts->rest_size = 0;
+		return;
+	}
+	if (parts->form > KEY_AND_TEXT || size < KEY_SIZE_SIZE)
+		raise_corrupted();
 	memcpy(&key_size, data, KEY_SIZE_SIZE);
-	if (key_size > size - KEY_SIZE_SIZE)
-		ereport(ERROR, (errcode(ERRCODE_DATA_CORRUPTED), errmsg("vjson value is corrupted")));
-	parts->key = (const unsigned char *) data + KEY_SIZE_SIZE;
+	data += KEY_SIZE_SIZE;
+	size -= KEY_SIZE_SIZE;
+	if (key_size > size)
+	{
+		if (!slice)
+			raise_corrupted();
+		key_size = size;
+	}
+	parts->key = data;
 	parts->key_size = key_size;
-	parts->text = data + KEY_SIZE_SIZE + key_size;
-	parts->text_size = size - KEY_SIZE_SIZE - key_size;
+	parts->rest = data + key_size;
+	parts->rest_size = size - key_size;
 }
 
-/*
- * The sort key of a value.  Of a compressed value only the front with the key
- * is decompressed.  What is answered is to be freed unless it is the datum.
- */
-static struct varlena *
+/* The sort key of a value. What is answered is to be freed by free_key. */
+static inline struct varlena *
 get_key(Datum datum, VjsonParts *parts)
 {
-	struct varlena *value = (struct varlena *) DatumGetPointer(datum);
+	struct varlena *value = PG_DETOAST_DATUM_PACKED(datum);
 
-	if (VARATT_IS_COMPRESSED(value))
-	{
-		struct varlena *front = PG_DETOAST_DATUM_SLICE(datum, 0, KEY_SIZE_SIZE);
-		uint32		key_size;
-
-		if (VARSIZE_ANY_EXHDR(front) < KEY_SIZE_SIZE)
-			ereport(ERROR, (errcode(ERRCODE_DATA_CORRUPTED), errmsg("vjson value is corrupted")));
-		memcpy(&key_size, VARDATA_ANY(front), KEY_SIZE_SIZE);
-		pfree(front);
-		if (key_size > MaxAllocSize)
-			ereport(ERROR, (errcode(ERRCODE_DATA_CORRUPTED), errmsg("vjson value is corrupted")));
-		value = PG_DETOAST_DATUM_SLICE(datum, 0, (int32) (KEY_SIZE_SIZE + key_size));
-	}
-	else
-		value = pg_detoast_datum_packed(value);
-	get_parts(value, parts);
+	get_parts(value, false, parts);
 	return value;
 }
 
@@ -427,18 +481,31 @@ free_key(struct varlena *value, Datum datum)
 		pfree(value);
 }
 
+/* The written text in UTF-8, with a zero byte at its end. */
+static char *
+get_text(const VjsonParts *parts, size_t *size)
+{
+	char	   *text;
+
+	if (parts->form == KEY_AND_TEXT)
+	{
+		*size = parts->rest_size;
+		return pnstrdup((const char *) parts->rest, parts->rest_size);
+	}
+	text = key_text_write(parts->key, parts->key_size, parts->rest, parts->rest_size, size);
+	if (text == NULL)
+		raise_corrupted();
+	return text;
+}
+
 /* The written text in the encoding of the database, with a zero byte at its end. */
 static char *
 get_server_text(const VjsonParts *parts)
 {
-	if (GetDatabaseEncoding() != PG_UTF8)
-	{
-		char	   *text = pg_any_to_server(parts->text, (int) parts->text_size, PG_UTF8);
+	size_t		size;
+	char	   *text = get_text(parts, &size);
 
-		if (text != parts->text)
-			return text;
-	}
-	return pnstrdup(parts->text, parts->text_size);
+	return GetDatabaseEncoding() == PG_UTF8 ? text : pg_any_to_server(text, (int) size, PG_UTF8);
 }
 
 /*
@@ -452,7 +519,7 @@ checked_for_output(struct varlena *value)
 	{
 		VjsonParts	parts;
 
-		get_parts(value, &parts);
+		get_parts(value, false, &parts);
 		pfree(get_server_text(&parts));
 	}
 	return value;
@@ -477,7 +544,7 @@ vjson_out(PG_FUNCTION_ARGS)
 	struct varlena *value = PG_GETARG_VARLENA_PP(0);
 	VjsonParts	parts;
 
-	get_parts(value, &parts);
+	get_parts(value, false, &parts);
 	PG_RETURN_CSTRING(get_server_text(&parts));
 }
 
@@ -500,7 +567,7 @@ vjson_send(PG_FUNCTION_ARGS)
 	char	   *text;
 	StringInfoData buffer;
 
-	get_parts(value, &parts);
+	get_parts(value, false, &parts);
 	text = get_server_text(&parts);
 	pq_begintypsend(&buffer);
 	pq_sendtext(&buffer, text, (int) strlen(text));
@@ -540,6 +607,8 @@ vjson_get(PG_FUNCTION_ARGS)
 	char	   *path = pg_server_to_any(VARDATA_ANY(words), (int) VARSIZE_ANY_EXHDR(words), PG_UTF8);
 	size_t		path_size = path == VARDATA_ANY(words) ? VARSIZE_ANY_EXHDR(words) : strlen(path);
 	VjsonParts	parts;
+	char	   *whole;
+	size_t		whole_size;
 	char	   *part;
 	size_t		part_size;
 	struct vizhoniku_refusal refusal;
@@ -547,13 +616,14 @@ vjson_get(PG_FUNCTION_ARGS)
 	uint32		status;
 
 	/* A written text is of extended mode, and that of a part is no longer than that of the whole. */
-	get_parts(value, &parts);
+	get_parts(value, false, &parts);
+	whole = get_text(&parts, &whole_size);
 	CHECK_FOR_INTERRUPTS();
-	check_stack_room(parts.text, parts.text_size);
-	part = palloc_extended(parts.text_size + SPARE_ROOM, MCXT_ALLOC_HUGE);
+	check_stack_room(whole, whole_size);
+	part = palloc_extended(whole_size + SPARE_ROOM, MCXT_ALLOC_HUGE);
 	status = vizhoniku_part(VIZHONIKU_EXTENDED, (const unsigned char *) path, path_size,
-							(const unsigned char *) parts.text, parts.text_size,
-							(unsigned char *) part, parts.text_size + SPARE_ROOM, &part_size, &refusal);
+							(const unsigned char *) whole, whole_size,
+							(unsigned char *) part, whole_size + SPARE_ROOM, &part_size, &refusal);
 	if (status == VIZHONIKU_NO_PART)
 		PG_RETURN_NULL();
 	if (status == VIZHONIKU_NO_PATH)
@@ -564,9 +634,10 @@ vjson_get(PG_FUNCTION_ARGS)
 	if (status == VIZHONIKU_ACCEPTED)
 		status = make_value(VIZHONIKU_EXTENDED, part, part_size, &result, &refusal);
 	if (status == VIZHONIKU_OUT_OF_MEMORY)
-		raise_out_of_memory(parts.text_size);
+		raise_out_of_memory(whole_size);
 	if (status != VIZHONIKU_ACCEPTED)
 		raise_unexpected(status);
+	pfree(whole);
 	pfree(part);
 	PG_RETURN_POINTER(result);
 }
@@ -603,7 +674,7 @@ text_of_argument(Datum datum)
 	VjsonParts	parts;
 	char	   *text;
 
-	get_parts(value, &parts);
+	get_parts(value, false, &parts);
 	text = get_server_text(&parts);
 	if ((Pointer) value != DatumGetPointer(datum))
 		pfree(value);
@@ -742,13 +813,21 @@ static Datum
 vjson_abbreviate(Datum original, SortSupport ssup)
 {
 	VjsonSort  *sort = (VjsonSort *) ssup->ssup_extra;
+	bool		slice = sort->pivot_size > 0 && VARATT_IS_COMPRESSED(DatumGetPointer(original));
 	VjsonParts	parts;
-	struct varlena *value = get_key(original, &parts);
+	struct varlena *value;
 	size_t		limit;
 	size_t		front = 0;
 	bool		below;
 	uint64		result;
 
+	if (slice)
+	{
+		value = PG_DETOAST_DATUM_SLICE(original, 0, FIRST_SLICE);
+		get_parts(value, true, &parts);
+	}
+	else
+		value = get_key(original, &parts);
 	if (sort->pivot_size == 0)
 	{
 		sort->pivot_size = Min(parts.key_size, FRONT_LIMIT);
@@ -756,12 +835,20 @@ vjson_abbreviate(Datum original, SortSupport ssup)
 		memcpy(sort->pivot, parts.key, sort->pivot_size);
 	}
 
-	limit = Min(parts.key_size, sort->pivot_size);
-	while (front + sizeof(uint64) <= limit &&
-		   memcmp(parts.key + front, sort->pivot + front, sizeof(uint64)) == 0)
-		front += sizeof(uint64);
-	while (front < limit && parts.key[front] == sort->pivot[front])
-		front++;
+	for (;;)
+	{
+		limit = Min(parts.key_size, sort->pivot_size);
+		while (front + sizeof(uint64) <= limit &&
+			   memcmp(parts.key + front, sort->pivot + front, sizeof(uint64)) == 0)
+			front += sizeof(uint64);
+		while (front < limit && parts.key[front] == sort->pivot[front])
+			front++;
+		if (!slice || front + SHOWN_BYTES <= parts.key_size)
+			break;
+		slice = false;			/* the slice may be too short */
+		free_key(value, original);
+		value = get_key(original, &parts);
+	}
 
 	/* No key begins another: one with all bytes of the pivot is the pivot, or has FRONT_LIMIT bytes in common. */
 	below = front < limit && parts.key[front] < sort->pivot[front];
