@@ -385,7 +385,11 @@ key_text_zeros(const unsigned char *key, size_t key_size, const char *text, size
 	writer.text = text;
 	writer.text_size = text_size;
 	if (!put_document(&writer) || writer.size != text_size)
+	{
+		if (writer.found)
+			pfree(writer.found);
 		return false;
+	}
 	*zeros = writer.found;
 	*zeros_size = writer.found_size;
 	return true;
@@ -404,7 +408,10 @@ key_text_write(const unsigned char *key, size_t key_size, const unsigned char *z
 	writer.room = key_size + key_size / 8 + 64;
 	writer.written = palloc_extended(writer.room, MCXT_ALLOC_HUGE);
 	if (!next_gap(&writer) || !put_document(&writer) || !put_byte(&writer, '\0'))
+	{
+		pfree(writer.written);
 		return NULL;
+	}
 	*text_size = writer.size - 1;
 	return writer.written;
 }
