@@ -77,7 +77,7 @@ class Installed:
         for name in os.listdir(HERE):
             if name == "Makefile" or name.endswith((".c", ".h", ".control", ".sql")):
                 shutil.copy(os.path.join(HERE, name), build)
-        command = ["make", "-s", "PG_CONFIG=" + PG_CONFIG, "with_llvm=no", "DESTDIR=" + self.folder,
+        command = ["make", "-s", "PG_CONFIG=" + PG_CONFIG, "DESTDIR=" + self.folder,
                    "COPT=-Wextra -Wno-unused-parameter -Werror"]
         run(command, cwd=build)
         run(command + ["install"], cwd=build)

@@ -41,6 +41,10 @@
 
 #include "key_text.h"
 
+#if PG_VERSION_NUM / 10000 != 15
+#error "this extension is for PostgreSQL 15"
+#endif
+
 PG_MODULE_MAGIC;
 
 #define KEY_ALONE		0
@@ -178,8 +182,8 @@ static char *
 shown_line(const char *text, size_t size, const struct vizhoniku_place *place)
 {
 	size_t		line = place->index - (place->column - 1);
-	size_t		start = line;
-	size_t		end = place->index;
+	size_t		end = Min(place->index, size);
+	size_t		start = Min(line, end);
 	StringInfoData shown;
 	char	   *part;
 
