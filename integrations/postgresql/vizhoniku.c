@@ -712,15 +712,71 @@ compare_keys(const VjsonParts *left, const VjsonParts *right)
 	return (left->key_size > right->key_size) - (left->key_size < right->key_size);
 }
 
+/* The sort key of a value, or its front where the value is compressed. */
+static inline struct varlena *
+get_front(Datum datum, VjsonParts *parts)
+{
+	struct varlena *value;
+
+	if (!VARATT_IS_COMPRESSED(DatumGetPointer(datum)))
+		return get_key(datum, parts);
+	value = PG_DETOAST_DATUM_SLICE(datum, 0, FIRST_SLICE);
+	get_parts(value, true, parts);
+	return value;
+}
+
+/*
+ * Compare values of which one is compressed by what is cheaper than whole keys:
+ * by the compressed bytes, which are the same only for the same value, and by
+ * the fronts of the keys.  False if that doesn't tell the order.
+ */
+static bool
+compare_compressed(Datum left, Datum right, int *order)
+{
+	Pointer		left_value = DatumGetPointer(left);
+	Pointer		right_value = DatumGetPointer(right);
+	struct varlena *left_front;
+	struct varlena *right_front;
+	VjsonParts	left_parts;
+	VjsonParts	right_parts;
+
+	if (VARATT_IS_EXTERNAL(left_value) || VARATT_IS_EXTERNAL(right_value))
+		return false;
+	if (VARATT_IS_COMPRESSED(left_value) && VARATT_IS_COMPRESSED(right_value) &&
+		VARSIZE(left_value) == VARSIZE(right_value) &&
+		memcmp(left_value, right_value, VARSIZE(left_value)) == 0)
+	{
+		*order = 0;
+		return true;
+	}
+	left_front = get_front(left, &left_parts);
+	right_front = get_front(right, &right_parts);
+	*order = memcmp(left_parts.key, right_parts.key, Min(left_parts.key_size, right_parts.key_size));
+	free_key(left_front, left);
+	free_key(right_front, right);
+	return *order != 0;
+}
+
+static inline bool
+is_compressed(Datum datum)
+{
+	return VARATT_IS_COMPRESSED(DatumGetPointer(datum));
+}
+
 static int
 compare_datums(Datum left, Datum right)
 {
 	VjsonParts	left_parts;
 	VjsonParts	right_parts;
-	struct varlena *left_key = get_key(left, &left_parts);
-	struct varlena *right_key = get_key(right, &right_parts);
-	int			order = compare_keys(&left_parts, &right_parts);
+	struct varlena *left_key;
+	struct varlena *right_key;
+	int			order;
 
+	if ((is_compressed(left) || is_compressed(right)) && compare_compressed(left, right, &order))
+		return order < 0 ? -1 : order > 0;
+	left_key = get_key(left, &left_parts);
+	right_key = get_key(right, &right_parts);
+	order = compare_keys(&left_parts, &right_parts);
 	free_key(left_key, left);
 	free_key(right_key, right);
 	return order;
@@ -731,11 +787,17 @@ equal_datums(Datum left, Datum right)
 {
 	VjsonParts	left_parts;
 	VjsonParts	right_parts;
-	struct varlena *left_key = get_key(left, &left_parts);
-	struct varlena *right_key = get_key(right, &right_parts);
-	bool		equal = left_parts.key_size == right_parts.key_size &&
-		memcmp(left_parts.key, right_parts.key, left_parts.key_size) == 0;
+	struct varlena *left_key;
+	struct varlena *right_key;
+	int			order;
+	bool		equal;
 
+	if ((is_compressed(left) || is_compressed(right)) && compare_compressed(left, right, &order))
+		return order == 0;
+	left_key = get_key(left, &left_parts);
+	right_key = get_key(right, &right_parts);
+	equal = left_parts.key_size == right_parts.key_size &&
+		memcmp(left_parts.key, right_parts.key, left_parts.key_size) == 0;
 	free_key(left_key, left);
 	free_key(right_key, right);
 	return equal;
@@ -819,19 +881,12 @@ vjson_abbreviate(Datum original, SortSupport ssup)
 	VjsonSort  *sort = (VjsonSort *) ssup->ssup_extra;
 	bool		slice = sort->pivot_size > 0 && VARATT_IS_COMPRESSED(DatumGetPointer(original));
 	VjsonParts	parts;
-	struct varlena *value;
+	struct varlena *value = slice ? get_front(original, &parts) : get_key(original, &parts);
 	size_t		limit;
 	size_t		front = 0;
 	bool		below;
 	uint64		result;
 
-	if (slice)
-	{
-		value = PG_DETOAST_DATUM_SLICE(original, 0, FIRST_SLICE);
-		get_parts(value, true, &parts);
-	}
-	else
-		value = get_key(original, &parts);
 	if (sort->pivot_size == 0)
 	{
 		sort->pivot_size = Min(parts.key_size, FRONT_LIMIT);
