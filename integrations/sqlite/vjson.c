@@ -1,0 +1,299 @@
+/* A loadable extension for SQLite: JSON documents by value, over the library for C.
+ *
+ *   vjson(X [, MODE])                 the text of X's value; an error where X is no document
+ *   vjson_valid(X [, MODE])           1 where X is a document, 0 where it is none
+ *   vjson_error_position(X [, MODE])  0 where X is a document, else the character of the fault, counted from 1
+ *   vjson_error(X [, MODE])           what is wrong with X, with line and column; NULL where X is a document
+ *   vjson_get(X, PATH [, MODE])       the text of X's part at the path (RFC 6901); NULL where nothing stands there
+ *   vjson_key(X [, MODE])             the sort key of X's value, a BLOB: for indexes on expressions
+ *   COLLATE VJSON                     texts in the order of their values
+ *
+ * A mode is 'extended', also where none is given, or 'standard'. Each function returns NULL where X is NULL. A number
+ * is taken as its text, and a BLOB as the bytes of a text in UTF-8. */
+#include <stdint.h>
+#include <stdio.h>
+#include <string.h>
+
+#include <sqlite3ext.h>
+SQLITE_EXTENSION_INIT1
+
+#include <vizhoniku.h>
+
+/* The subtype that json1 gives its own results, so that its functions take a text as JSON and don't quote it. */
+#define JSON_SUBTYPE 74
+
+/* Reads an argument's bytes. Returns 0 where there is no memory for them, which has been told. */
+static int read_bytes(sqlite3_context *context, sqlite3_value *value, const unsigned char **bytes, size_t *size) {
+  int is_blob = sqlite3_value_type(value) == SQLITE_BLOB;
+  *bytes = is_blob ? sqlite3_value_blob(value) : sqlite3_value_text(value);
+  *size = (size_t)sqlite3_value_bytes(value);
+  if (*bytes || (is_blob && !*size)) return 1;
+  sqlite3_result_error_nomem(context);
+  return 0;
+}
+
+/* Reads the argument that may name a mode. Returns 0 where it names none, which has been told. */
+static int read_mode(sqlite3_context *context, int count, sqlite3_value **values, int at, uint32_t *mode) {
+  *mode = VIZHONIKU_EXTENDED;
+  if (count <= at) return 1;
+  const char *word = (const char *)sqlite3_value_text(values[at]);
+  if (word && !strcmp(word, "extended")) return 1;
+  *mode = VIZHONIKU_STANDARD;
+  if (word && !strcmp(word, "standard")) return 1;
+  sqlite3_result_error(context, "the mode is 'standard' or 'extended'", -1);
+  return 0;
+}
+
+/* Reads the arguments of a function that takes a text and perhaps a mode. Returns 0 where the result stands already. */
+static int read_arguments(sqlite3_context *context, int count, sqlite3_value **values, const unsigned char **text,
+                          size_t *size, uint32_t *mode) {
+  if (sqlite3_value_type(values[0]) == SQLITE_NULL) return 0;
+  return read_mode(context, count, values, 1, mode) && read_bytes(context, values[0], text, size);
+}
+
+/* How many characters begin in the bytes. */
+static size_t characters(const unsigned char *bytes, size_t size) {
+  size_t count = 0;
+  for (size_t i = 0; i < size; i++) count += (bytes[i] & 0xC0) != 0x80;
+  return count;
+}
+
+/* The number of the character that the byte at the index belongs to, counted from 1 at the byte at `first`. */
+static size_t character_at(const unsigned char *text, size_t size, size_t first, size_t index) {
+  if (index >= size) return characters(text + first, size - first) + 1;
+  return characters(text + first, index + 1 - first);
+}
+
+/* Gives what is wrong with the text, in words: as the error of the statement, or as the result. */
+static void tell(sqlite3_context *context, uint32_t mode, uint32_t status, const struct vizhoniku_refusal *refusal,
+                 const unsigned char *text, size_t size, int is_error) {
+  if (status != VIZHONIKU_REFUSED) {
+    sqlite3_result_error_nomem(context);
+    return;
+  }
+  struct vizhoniku_place place;
+  vizhoniku_place(text, size, refusal, &place);
+  size_t column = size ? character_at(text, size, place.index - (place.column - 1), place.index) : 1;
+  char front[128], end[32];
+  size_t front_size = (size_t)snprintf(front, sizeof front, "%sline %zu, column %zu: ",
+                                       is_error ? "malformed JSON: " : "", place.line, column);
+  size_t end_size = (size_t)snprintf(end, sizeof end, ", pos %zu", refusal->position);
+  size_t room = 256, words_size = 0;
+  char *words = NULL;
+  do {
+    sqlite3_free(words);
+    words = sqlite3_malloc64(front_size + room);
+    if (!words) {
+      sqlite3_result_error_nomem(context);
+      return;
+    }
+    status = vizhoniku_message(mode, text, size, (unsigned char *)words + front_size, room, &words_size);
+    room = words_size;
+  } while (status == VIZHONIKU_TOO_SHORT);
+  if (status != VIZHONIKU_REFUSED) {
+    sqlite3_free(words);
+    sqlite3_result_error_nomem(context);
+    return;
+  }
+  memcpy(words, front, front_size);
+  /* The words end with the position, which is told as line and column instead. */
+  if (words_size >= end_size && !memcmp(words + front_size + words_size - end_size, end, end_size))
+    words_size -= end_size;
+  words_size += front_size;
+  if (is_error) {
+    sqlite3_result_error(context, words, words_size < 1000000 ? (int)words_size : 1000000);
+    sqlite3_free(words);
+  } else {
+    sqlite3_result_text64(context, words, words_size, sqlite3_free, SQLITE_UTF8);
+  }
+}
+
+static void call_valid(sqlite3_context *context, int count, sqlite3_value **values) {
+  uint32_t mode;
+  size_t size;
+  const unsigned char *text;
+  struct vizhoniku_refusal refusal;
+  if (!read_arguments(context, count, values, &text, &size, &mode)) return;
+  uint32_t status = vizhoniku_check(mode, text, size, &refusal);
+  if (status == VIZHONIKU_OUT_OF_MEMORY)
+    sqlite3_result_error_nomem(context);
+  else
+    sqlite3_result_int(context, status == VIZHONIKU_ACCEPTED);
+}
+
+static void call_error_position(sqlite3_context *context, int count, sqlite3_value **values) {
+  uint32_t mode;
+  size_t size;
+  const unsigned char *text;
+  struct vizhoniku_refusal refusal;
+  struct vizhoniku_place place;
+  if (!read_arguments(context, count, values, &text, &size, &mode)) return;
+  uint32_t status = vizhoniku_check(mode, text, size, &refusal);
+  if (status == VIZHONIKU_OUT_OF_MEMORY) {
+    sqlite3_result_error_nomem(context);
+  } else if (status == VIZHONIKU_ACCEPTED) {
+    sqlite3_result_int(context, 0);
+  } else {
+    vizhoniku_place(text, size, &refusal, &place);
+    sqlite3_result_int64(context, size ? (sqlite3_int64)character_at(text, size, 0, place.index) : 1);
+  }
+}
+
+static void call_error(sqlite3_context *context, int count, sqlite3_value **values) {
+  uint32_t mode;
+  size_t size;
+  const unsigned char *text;
+  struct vizhoniku_refusal refusal;
+  if (!read_arguments(context, count, values, &text, &size, &mode)) return;
+  uint32_t status = vizhoniku_check(mode, text, size, &refusal);
+  if (status != VIZHONIKU_ACCEPTED) tell(context, mode, status, &refusal, text, size, 0);
+}
+
+/* The size of what is written isn't known before. Where the first buffer is too short the text is read again. */
+static void call_text(sqlite3_context *context, int count, sqlite3_value **values) {
+  uint32_t mode, status;
+  size_t size, written;
+  const unsigned char *text;
+  struct vizhoniku_refusal refusal;
+  if (!read_arguments(context, count, values, &text, &size, &mode)) return;
+  size_t room = size + 16;
+  unsigned char *buffer = NULL;
+  do {
+    sqlite3_free(buffer);
+    buffer = sqlite3_malloc64(room);
+    if (!buffer) {
+      sqlite3_result_error_nomem(context);
+      return;
+    }
+    status = vizhoniku_text(mode, text, size, buffer, room, &written, &refusal);
+    room = written;
+  } while (status == VIZHONIKU_TOO_SHORT);
+  if (status == VIZHONIKU_ACCEPTED) {
+    sqlite3_result_text64(context, (char *)buffer, written, sqlite3_free, SQLITE_UTF8);
+    sqlite3_result_subtype(context, JSON_SUBTYPE);
+  } else {
+    sqlite3_free(buffer);
+    tell(context, mode, status, &refusal, text, size, 1);
+  }
+}
+
+static void call_key(sqlite3_context *context, int count, sqlite3_value **values) {
+  uint32_t mode, status;
+  size_t size, written;
+  const unsigned char *text;
+  struct vizhoniku_refusal refusal;
+  if (!read_arguments(context, count, values, &text, &size, &mode)) return;
+  size_t room = size + 64;
+  unsigned char *buffer = NULL;
+  do {
+    sqlite3_free(buffer);
+    buffer = sqlite3_malloc64(room);
+    if (!buffer) {
+      sqlite3_result_error_nomem(context);
+      return;
+    }
+    status = vizhoniku_sort_key(mode, text, size, buffer, room, &written, &refusal);
+    room = written;
+  } while (status == VIZHONIKU_TOO_SHORT);
+  if (status == VIZHONIKU_ACCEPTED) {
+    sqlite3_result_blob64(context, buffer, written, sqlite3_free);
+  } else {
+    sqlite3_free(buffer);
+    tell(context, mode, status, &refusal, text, size, 1);
+  }
+}
+
+static void call_get(sqlite3_context *context, int count, sqlite3_value **values) {
+  uint32_t mode, status;
+  size_t size, path_size, written;
+  const unsigned char *text, *path;
+  struct vizhoniku_refusal refusal;
+  if (sqlite3_value_type(values[0]) == SQLITE_NULL || sqlite3_value_type(values[1]) == SQLITE_NULL) return;
+  if (!read_mode(context, count, values, 2, &mode) || !read_bytes(context, values[0], &text, &size) ||
+      !read_bytes(context, values[1], &path, &path_size))
+    return;
+  size_t room = 256;
+  unsigned char *buffer = NULL;
+  do {
+    sqlite3_free(buffer);
+    buffer = sqlite3_malloc64(room);
+    if (!buffer) {
+      sqlite3_result_error_nomem(context);
+      return;
+    }
+    status = vizhoniku_part(mode, path, path_size, text, size, buffer, room, &written, &refusal);
+    room = written;
+  } while (status == VIZHONIKU_TOO_SHORT);
+  if (status == VIZHONIKU_ACCEPTED) {
+    sqlite3_result_text64(context, (char *)buffer, written, sqlite3_free, SQLITE_UTF8);
+    sqlite3_result_subtype(context, JSON_SUBTYPE);
+    return;
+  }
+  sqlite3_free(buffer);
+  if (status == VIZHONIKU_NO_PATH)
+    sqlite3_result_error(context, "malformed path: it is empty or begins with /, and ~ stands only in ~0 and ~1", -1);
+  else if (status != VIZHONIKU_NO_PART)
+    tell(context, mode, status, &refusal, text, size, 1);
+}
+
+static int compare_bytes(const void *left, size_t left_size, const void *right, size_t right_size) {
+  size_t shorter = left_size < right_size ? left_size : right_size;
+  int order = shorter ? memcmp(left, right, shorter) : 0;
+  return order ? order : (left_size > right_size) - (left_size < right_size);
+}
+
+/* Documents come first, by their values, in extended mode. Behind them come texts that are no documents, by their
+ * bytes. A collation can't fail: where memory runs out, the statement is interrupted. */
+static int collate(void *database, int left_length, const void *left, int right_length, const void *right) {
+  size_t left_size = (size_t)left_length, right_size = (size_t)right_length;
+  int32_t order;
+  struct vizhoniku_refusal refusal;
+  uint32_t status = vizhoniku_compare(VIZHONIKU_EXTENDED, left, left_size, right, right_size, &order, &refusal);
+  if (status == VIZHONIKU_ACCEPTED) return order;
+  if (status == VIZHONIKU_REFUSED) {
+    if (refusal.which == 2) return -1;
+    status = vizhoniku_check(VIZHONIKU_EXTENDED, right, right_size, &refusal);
+    if (status == VIZHONIKU_ACCEPTED) return 1;
+  }
+  if (status == VIZHONIKU_OUT_OF_MEMORY) sqlite3_interrupt(database);
+  return compare_bytes(left, left_size, right, right_size);
+}
+
+#ifndef SQLITE_RESULT_SUBTYPE
+#define SQLITE_RESULT_SUBTYPE 0 /* from 3.45 on a function says that its results have subtypes */
+#endif
+
+#ifdef _WIN32
+__declspec(dllexport)
+#else
+__attribute__((visibility("default")))
+#endif
+int sqlite3_vjson_init(sqlite3 *database, char **message, const sqlite3_api_routines *routines) {
+  static const struct {
+    const char *name;
+    int least; /* arguments without the mode */
+    int flags;
+    void (*call)(sqlite3_context *, int, sqlite3_value **);
+  } functions[] = {
+      {"vjson", 1, SQLITE_RESULT_SUBTYPE, call_text},
+      {"vjson_valid", 1, 0, call_valid},
+      {"vjson_error_position", 1, 0, call_error_position},
+      {"vjson_error", 1, 0, call_error},
+      {"vjson_get", 2, SQLITE_RESULT_SUBTYPE, call_get},
+      {"vjson_key", 1, 0, call_key},
+  };
+  SQLITE_EXTENSION_INIT2(routines);
+  if (vizhoniku_version() < VIZHONIKU_VERSION) {
+    *message = sqlite3_mprintf("libvizhoniku has interface version %u, and %u is needed",
+                               (unsigned)vizhoniku_version(), (unsigned)VIZHONIKU_VERSION);
+    return SQLITE_ERROR;
+  }
+  int status = SQLITE_OK;
+  for (size_t i = 0; i < 2 * (sizeof functions / sizeof *functions) && status == SQLITE_OK; i++)
+    status = sqlite3_create_function_v2(database, functions[i / 2].name, functions[i / 2].least + (int)(i % 2),
+                                        SQLITE_UTF8 | SQLITE_DETERMINISTIC | SQLITE_INNOCUOUS | functions[i / 2].flags,
+                                        NULL, functions[i / 2].call, NULL, NULL, NULL);
+  if (status == SQLITE_OK)
+    status = sqlite3_create_collation_v2(database, "VJSON", SQLITE_UTF8, database, collate, NULL);
+  return status;
+}
