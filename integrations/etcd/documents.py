@@ -1,0 +1,173 @@
+#!/usr/bin/env python3
+"""Documents in etcd, one for each value, in the order of their values.
+
+    documents.py [--endpoints URL,URL] [--prefix PREFIX] [--standard] put TEXT ...
+    documents.py ... get TEXT               prints the stored document of an equal value
+    documents.py ... delete TEXT            removes it
+    documents.py ... between LOW HIGH       prints the documents from LOW up to and without HIGH
+    documents.py ... list                   prints all
+
+A document is stored under a prefix and its sort key; what is stored is the text of its value. It speaks to etcd's JSON
+gateway (etcd 3.4 and later) by plain HTTP, without user names. The status is 0, or 1 where nothing is found, or 2 where
+a text is rejected or no member answers.
+"""
+
+import argparse
+import base64
+import json
+import os
+import sys
+import time
+import urllib.error
+import urllib.request
+from typing import Any, Dict, Iterator, List, Optional, Sequence
+
+sys.path.insert(0, os.path.join(os.path.dirname(os.path.abspath(__file__)), "..", "python"))
+import vizhoniku  # noqa: E402
+
+_PAGE = 1000  # documents that one request reads
+_LATER = (4, 14)  # the codes of gRPC for a request that another member, or a later time, may answer
+_opener = urllib.request.build_opener(urllib.request.ProxyHandler({}))
+
+
+class EtcdError(Exception):
+    """A request that etcd refused, in its words: such as one that is too large."""
+
+
+class Unavailable(EtcdError):
+    """No member answered in time. Whether the request was carried out isn't known."""
+
+
+def _to_json(data: bytes) -> str:
+    return base64.b64encode(data).decode()
+
+
+class Documents:
+    """The documents under one prefix. A request that a member doesn't answer goes to the next one, until time is up."""
+
+    def __init__(self, endpoints: Sequence[str], prefix: bytes = b"documents/", mode: int = vizhoniku.EXTENDED,
+                 timeout: float = 10.0) -> None:
+        if not endpoints:
+            raise ValueError("no endpoint is named")
+        if not prefix.strip(b"\xff"):
+            raise ValueError("the prefix has a byte below FF")
+        self._endpoints: List[str] = [endpoint.rstrip("/") for endpoint in endpoints]
+        self._prefix = prefix
+        self._mode = mode
+        self._timeout = timeout
+
+    def _ask(self, path: str, request: Dict[str, Any]) -> Dict[str, Any]:
+        data, until, told = json.dumps(request).encode(), time.monotonic() + self._timeout, "no member answers"
+        while True:
+            for endpoint in list(self._endpoints):
+                left = until - time.monotonic()
+                if left <= 0:
+                    raise Unavailable(told)
+                try:
+                    # A member that lives answers or refuses in seconds; half of what is left is kept for the others.
+                    sent = urllib.request.Request(endpoint + path, data)
+                    with _opener.open(sent, timeout=max(left / 2, 0.1)) as answer:
+                        return json.loads(answer.read())
+                except urllib.error.HTTPError as error:
+                    body = error.read().decode("utf-8", "replace")
+                    try:
+                        refused = json.loads(body)
+                        told, code = refused["error"], refused["code"]
+                    except (ValueError, KeyError, TypeError):
+                        told, code = body or str(error), None
+                    if code not in _LATER:
+                        raise EtcdError(told) from None
+                except OSError as error:  # refused, reset or timed out
+                    told = f"{endpoint}: {getattr(error, 'reason', error)}"
+                # The member goes to the end, so that the next request doesn't begin with it.
+                self._endpoints.remove(endpoint)
+                self._endpoints.append(endpoint)
+            time.sleep(0.1)
+
+    def _key(self, text: vizhoniku.Text) -> bytes:
+        return self._prefix + vizhoniku.sort_key(text, self._mode)
+
+    def put(self, text: vizhoniku.Text) -> bool:
+        """Stores the document, and returns whether it is new. One of an equal value stays as it was.
+
+        Where a member stops in between and the request is sent to another one, a new document may be told as not new.
+        """
+        document, key = vizhoniku.text_and_key(text, self._mode)
+        name = _to_json(self._prefix + key)
+        answer = self._ask("/v3/kv/txn", {
+            "compare": [{"key": name, "target": "CREATE", "result": "EQUAL", "createRevision": "0"}],
+            "success": [{"requestPut": {"key": name, "value": _to_json(document.encode())}}]})
+        return bool(answer.get("succeeded", False))
+
+    def get(self, text: vizhoniku.Text) -> Optional[str]:
+        """The stored document whose value equals the text's, or None."""
+        answer = self._ask("/v3/kv/range", {"key": _to_json(self._key(text))})
+        found = answer.get("kvs", [])
+        return base64.b64decode(found[0]["value"]).decode() if found else None
+
+    def delete(self, text: vizhoniku.Text) -> bool:
+        """Removes the document whose value equals the text's, and returns whether there was one."""
+        answer = self._ask("/v3/kv/deleterange", {"key": _to_json(self._key(text))})
+        return int(answer.get("deleted", 0)) > 0
+
+    def between(self, low: vizhoniku.Text, high: vizhoniku.Text) -> Iterator[str]:
+        """The documents from low up to and without high, in the order of their values, as of one moment."""
+        return self._range(self._key(low), self._key(high))
+
+    def __iter__(self) -> Iterator[str]:
+        """All documents, in the order of their values, as of one moment."""
+        front = self._prefix.rstrip(b"\xff")
+        return self._range(self._prefix, front[:-1] + bytes([front[-1] + 1]))
+
+    def _range(self, first: bytes, end: bytes) -> Iterator[str]:
+        revision = "0"  # the newest, for the first page; the later pages are of the same one
+        more = first < end
+        while more:
+            answer = self._ask("/v3/kv/range", {"key": _to_json(first), "range_end": _to_json(end), "limit": str(_PAGE),
+                                                "revision": revision})
+            if revision == "0":
+                revision = answer["header"]["revision"]
+            found = answer.get("kvs", [])
+            for entry in found:
+                yield base64.b64decode(entry["value"]).decode()
+            more = bool(answer.get("more", False)) and bool(found)
+            if more:
+                first = base64.b64decode(found[-1]["key"]) + b"\x00"
+
+
+def main() -> int:
+    parser = argparse.ArgumentParser(description="Documents in etcd, in the order of their values.")
+    parser.add_argument("--endpoints", default="http://127.0.0.1:2379", help="the members, with commas between them")
+    parser.add_argument("--prefix", default="documents/")
+    parser.add_argument("--standard", action="store_true", help="read texts in standard mode")
+    calls = parser.add_subparsers(dest="call", required=True, metavar="put|get|delete|between|list")
+    for name, texts in (("put", "+"), ("get", 1), ("delete", 1), ("between", 2)):
+        calls.add_parser(name).add_argument("texts", nargs=texts, metavar="TEXT")
+    calls.add_parser("list")
+    given = parser.parse_args()
+    mode = vizhoniku.STANDARD if given.standard else vizhoniku.EXTENDED
+    try:
+        documents = Documents(given.endpoints.split(","), given.prefix.encode(), mode)
+        if given.call == "put":
+            for text in given.texts:
+                vizhoniku.check(text, mode)  # all of them before the first is stored
+            for text in given.texts:
+                print("new" if documents.put(text) else "there already")
+            return 0
+        if given.call == "get":
+            found = documents.get(given.texts[0])
+            if found is not None:
+                print(found)
+            return 0 if found is not None else 1
+        if given.call == "delete":
+            return 0 if documents.delete(given.texts[0]) else 1
+        for text in documents.between(*given.texts) if given.call == "between" else documents:
+            print(text)
+        return 0
+    except (vizhoniku.RejectedText, EtcdError, ValueError) as error:
+        print(f"documents.py: {error}", file=sys.stderr)
+        return 2
+
+
+if __name__ == "__main__":
+    sys.exit(main())
