@@ -149,91 +149,73 @@ static void call_error(sqlite3_context *context, int count, sqlite3_value **valu
   if (status != VIZHONIKU_ACCEPTED) tell(context, mode, status, &refusal, text, size, 0);
 }
 
-/* The size of what is written isn't known before. Where the first buffer is too short the text is read again. */
-static void call_text(sqlite3_context *context, int count, sqlite3_value **values) {
-  uint32_t mode, status;
-  size_t size, written;
-  const unsigned char *text;
-  struct vizhoniku_refusal refusal;
-  if (!read_arguments(context, count, values, &text, &size, &mode)) return;
-  size_t room = size + 16;
-  unsigned char *buffer = NULL;
-  do {
-    sqlite3_free(buffer);
-    buffer = sqlite3_malloc64(room);
-    if (!buffer) {
-      sqlite3_result_error_nomem(context);
-      return;
-    }
-    status = vizhoniku_text(mode, text, size, buffer, room, &written, &refusal);
-    room = written;
-  } while (status == VIZHONIKU_TOO_SHORT);
-  if (status == VIZHONIKU_ACCEPTED) {
-    sqlite3_result_text64(context, (char *)buffer, written, sqlite3_free, SQLITE_UTF8);
-    sqlite3_result_subtype(context, JSON_SUBTYPE);
-  } else {
-    sqlite3_free(buffer);
-    tell(context, mode, status, &refusal, text, size, 1);
-  }
-}
+enum what { TEXT, KEY, PART };
 
-static void call_key(sqlite3_context *context, int count, sqlite3_value **values) {
-  uint32_t mode, status;
-  size_t size, written;
-  const unsigned char *text;
+/* Gives what is written of the text as the result, or the error. The size of what is written isn't known before: where
+ * the text is short a short buffer is tried first, and where a buffer is too short the text is read again. */
+static void give_written(sqlite3_context *context, enum what what, uint32_t mode, const unsigned char *path,
+                         size_t path_size, const unsigned char *text, size_t size) {
+  uint32_t status;
+  size_t written;
   struct vizhoniku_refusal refusal;
-  if (!read_arguments(context, count, values, &text, &size, &mode)) return;
-  size_t room = size + 64;
-  unsigned char *buffer = NULL;
-  do {
-    sqlite3_free(buffer);
-    buffer = sqlite3_malloc64(room);
-    if (!buffer) {
+  unsigned char small[1024], *buffer = small;
+  size_t room = what == PART || size <= sizeof small - 64 ? sizeof small : size + 64;
+  for (;;) {
+    if (room > sizeof small && !(buffer = sqlite3_malloc64(room))) {
       sqlite3_result_error_nomem(context);
       return;
     }
-    status = vizhoniku_sort_key(mode, text, size, buffer, room, &written, &refusal);
+    if (what == TEXT)
+      status = vizhoniku_text(mode, text, size, buffer, room, &written, &refusal);
+    else if (what == KEY)
+      status = vizhoniku_sort_key(mode, text, size, buffer, room, &written, &refusal);
+    else
+      status = vizhoniku_part(mode, path, path_size, text, size, buffer, room, &written, &refusal);
+    if (status != VIZHONIKU_TOO_SHORT) break;
+    if (buffer != small) sqlite3_free(buffer);
     room = written;
-  } while (status == VIZHONIKU_TOO_SHORT);
-  if (status == VIZHONIKU_ACCEPTED) {
-    sqlite3_result_blob64(context, buffer, written, sqlite3_free);
-  } else {
-    sqlite3_free(buffer);
-    tell(context, mode, status, &refusal, text, size, 1);
   }
-}
-
-static void call_get(sqlite3_context *context, int count, sqlite3_value **values) {
-  uint32_t mode, status;
-  size_t size, path_size, written;
-  const unsigned char *text, *path;
-  struct vizhoniku_refusal refusal;
-  if (sqlite3_value_type(values[0]) == SQLITE_NULL || sqlite3_value_type(values[1]) == SQLITE_NULL) return;
-  if (!read_mode(context, count, values, 2, &mode) || !read_bytes(context, values[0], &text, &size) ||
-      !read_bytes(context, values[1], &path, &path_size))
-    return;
-  size_t room = 256;
-  unsigned char *buffer = NULL;
-  do {
-    sqlite3_free(buffer);
-    buffer = sqlite3_malloc64(room);
-    if (!buffer) {
-      sqlite3_result_error_nomem(context);
-      return;
-    }
-    status = vizhoniku_part(mode, path, path_size, text, size, buffer, room, &written, &refusal);
-    room = written;
-  } while (status == VIZHONIKU_TOO_SHORT);
   if (status == VIZHONIKU_ACCEPTED) {
-    sqlite3_result_text64(context, (char *)buffer, written, sqlite3_free, SQLITE_UTF8);
-    sqlite3_result_subtype(context, JSON_SUBTYPE);
+    void (*destroy)(void *) = buffer == small ? SQLITE_TRANSIENT : sqlite3_free;
+    if (what == KEY) {
+      sqlite3_result_blob64(context, buffer, written, destroy);
+    } else {
+      sqlite3_result_text64(context, (char *)buffer, written, destroy, SQLITE_UTF8);
+      sqlite3_result_subtype(context, JSON_SUBTYPE);
+    }
     return;
   }
-  sqlite3_free(buffer);
+  if (buffer != small) sqlite3_free(buffer);
   if (status == VIZHONIKU_NO_PATH)
     sqlite3_result_error(context, "malformed path: it is empty or begins with /, and ~ stands only in ~0 and ~1", -1);
   else if (status != VIZHONIKU_NO_PART)
     tell(context, mode, status, &refusal, text, size, 1);
+}
+
+static void call_text(sqlite3_context *context, int count, sqlite3_value **values) {
+  uint32_t mode;
+  size_t size;
+  const unsigned char *text;
+  if (read_arguments(context, count, values, &text, &size, &mode))
+    give_written(context, TEXT, mode, NULL, 0, text, size);
+}
+
+static void call_key(sqlite3_context *context, int count, sqlite3_value **values) {
+  uint32_t mode;
+  size_t size;
+  const unsigned char *text;
+  if (read_arguments(context, count, values, &text, &size, &mode))
+    give_written(context, KEY, mode, NULL, 0, text, size);
+}
+
+static void call_get(sqlite3_context *context, int count, sqlite3_value **values) {
+  uint32_t mode;
+  size_t size, path_size;
+  const unsigned char *text, *path;
+  if (sqlite3_value_type(values[0]) == SQLITE_NULL || sqlite3_value_type(values[1]) == SQLITE_NULL) return;
+  if (read_mode(context, count, values, 2, &mode) && read_bytes(context, values[0], &text, &size) &&
+      read_bytes(context, values[1], &path, &path_size))
+    give_written(context, PART, mode, path, path_size, text, size);
 }
 
 static int compare_bytes(const void *left, size_t left_size, const void *right, size_t right_size) {
