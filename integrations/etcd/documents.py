@@ -50,7 +50,7 @@ class Documents:
         if not endpoints:
             raise ValueError("no endpoint is named")
         if not prefix.strip(b"\xff"):
-            raise ValueError("the prefix has a byte below FF")
+            raise ValueError("the prefix has no byte below FF")
         self._endpoints: List[str] = [endpoint.rstrip("/") for endpoint in endpoints]
         self._prefix = prefix
         self._mode = mode
@@ -67,7 +67,8 @@ class Documents:
                     # A member that lives answers or refuses in seconds; half of what is left is kept for the others.
                     sent = urllib.request.Request(endpoint + path, data)
                     with _opener.open(sent, timeout=max(left / 2, 0.1)) as answer:
-                        return json.loads(answer.read())
+                        answered: Dict[str, Any] = json.loads(answer.read())
+                        return answered
                 except urllib.error.HTTPError as error:
                     body = error.read().decode("utf-8", "replace")
                     try:
@@ -141,7 +142,8 @@ def main() -> int:
     parser.add_argument("--prefix", default="documents/")
     parser.add_argument("--standard", action="store_true", help="read texts in standard mode")
     calls = parser.add_subparsers(dest="call", required=True, metavar="put|get|delete|between|list")
-    for name, texts in (("put", "+"), ("get", 1), ("delete", 1), ("between", 2)):
+    calls.add_parser("put").add_argument("texts", nargs="+", metavar="TEXT")
+    for name, texts in (("get", 1), ("delete", 1), ("between", 2)):
         calls.add_parser(name).add_argument("texts", nargs=texts, metavar="TEXT")
     calls.add_parser("list")
     given = parser.parse_args()
@@ -161,7 +163,7 @@ def main() -> int:
             return 0 if found is not None else 1
         if given.call == "delete":
             return 0 if documents.delete(given.texts[0]) else 1
-        for text in documents.between(*given.texts) if given.call == "between" else documents:
+        for text in documents.between(*given.texts) if given.call == "between" else iter(documents):
             print(text)
         return 0
     except (vizhoniku.RejectedText, EtcdError, ValueError) as error:

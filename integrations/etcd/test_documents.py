@@ -12,7 +12,9 @@ import unittest.mock
 from typing import List, Tuple
 
 from cluster import Cluster
-from documents import Documents, EtcdError, Unavailable, vizhoniku
+from documents import Documents, EtcdError, Unavailable
+
+import vizhoniku  # in the folder that documents.py adds
 
 HERE = os.path.dirname(os.path.abspath(__file__))
 
@@ -147,6 +149,16 @@ class InTheCluster(unittest.TestCase):
         for thread in threads:
             thread.join()
         self.assertEqual((len(new), sum(new)), (80, 20))
+
+    def test_prefixes_of_any_bytes(self) -> None:
+        for prefix in (b"\xff\x00\xff", b"\x00", self.prefix + b"\xff"):
+            documents = Documents(cluster.endpoints, prefix)
+            documents.put("[1]")
+            self.assertEqual(list(documents), ["[1]"])
+            self.assertTrue(documents.delete("[1]"))
+        for prefix in (b"", b"\xff\xff"):
+            self.assertRaises(ValueError, Documents, cluster.endpoints, prefix)
+        self.assertRaises(ValueError, Documents, [])
 
     def test_rejected(self) -> None:
         for call in (self.documents.put, self.documents.get, self.documents.delete):

@@ -22,7 +22,7 @@ class Documents:
     def __init__(self, environment: lmdb.Environment, mode: int = vizhoniku.EXTENDED) -> None:
         self._environment = environment
         self._mode = mode
-        self._bound = environment.max_key_size()
+        self._bound: int = environment.max_key_size()
 
     def _stored(self, whole: bytes) -> bytes:
         if len(whole) <= self._bound - _HASH:

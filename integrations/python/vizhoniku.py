@@ -12,7 +12,7 @@ import ctypes
 import enum
 import os
 import subprocess
-from typing import List, Optional, Tuple, Union
+from typing import Any, List, Optional, Tuple, Union
 
 __all__ = [
     "EXTENDED", "STANDARD", "Mode", "PathError", "RejectedText", "check", "compare", "get", "is_valid", "sort_key",
@@ -94,8 +94,8 @@ def _open() -> ctypes.CDLL:
 def _load() -> ctypes.CDLL:
     library = _open()
     mode, size, status = ctypes.c_uint32, ctypes.c_size_t, ctypes.c_uint32
-    text_in = [ctypes.c_char_p, size]
-    text_out = [ctypes.c_void_p, size, ctypes.POINTER(size)]
+    text_in: List[Any] = [ctypes.c_char_p, size]
+    text_out: List[Any] = [ctypes.c_void_p, size, ctypes.POINTER(size)]
     refusal, place = ctypes.POINTER(_Refusal), ctypes.POINTER(_Place)
     try:
         library.vizhoniku_version.argtypes = []
