@@ -119,12 +119,13 @@ static int run(sqlite3 *database, const char *statement, int at) {
   return status;
 }
 
-static long changes_of(sqlite3 *database) {
+/* A number of what the database holds, or 0 where it isn't whole. */
+static unsigned long content_of(sqlite3 *database) {
   run(database, "SELECT count(*) || group_concat(body) FROM docs", 1);
-  long sum = 0;
-  for (const char *at = told[1]; *at; at++) sum = sum * 31 + *at;
+  unsigned long sum = 1;
+  for (const char *at = told[1]; *at; at++) sum = sum * 31 + (unsigned char)*at;
   run(database, "PRAGMA integrity_check", 1);
-  return strcmp(told[1], "ok|") ? -1 : sum;
+  return strcmp(told[1], "ok|") ? 0 : sum;
 }
 
 int main(void) {
@@ -148,7 +149,7 @@ int main(void) {
         printf("the database isn't made\n");
         return 1;
       }
-      long old = changes_of(database);
+      unsigned long old = content_of(database);
       if (at < 0) { /* what it does with ample memory */
         run(database, statement, 0);
         sqlite3_close(database);
@@ -165,8 +166,8 @@ int main(void) {
       /* Where there is no memory for its words, an error is told in SQLite's own. */
       int is_right = !strcmp(told[1], wanted) || (!strncmp(told[1], "error: ", 7) && !strncmp(wanted, "error: ", 7));
       int is_done = status == SQLITE_DONE;
-      long now = changes_of(database);
-      if ((!is_out && !is_right) || now == -1 || (!is_done && now != old)) {
+      unsigned long now = content_of(database);
+      if ((!is_out && !is_right) || !now || (!is_done && now != old)) {
         wrong++;
         printf("request %ld of %s: status %d\n", at, statement, status);
       }
