@@ -128,6 +128,34 @@ put_escaped(Writer *writer, unsigned char byte)
 	}
 }
 
+/* Put the bytes of a string up to its end, or up to one that is written with an escape. */
+static inline bool
+put_run(Writer *writer)
+{
+	const unsigned char *run = writer->key;
+	const unsigned char *key = run;
+	const unsigned char *key_end = writer->key_end;
+
+	if (writer->text)
+	{
+		const char *at = writer->text + writer->size;
+		const char *end = writer->text + writer->text_size;
+
+		for (; key < key_end && *key >= 0x20 && *key != '"' && *key != '\\'; key++)
+		{
+			if (at == end || (unsigned char) *at++ != *key)
+				return false;
+		}
+		writer->size += key - run;
+		writer->key = key;
+		return true;
+	}
+	while (key < key_end && *key >= 0x20 && *key != '"' && *key != '\\')
+		key++;
+	writer->key = key;
+	return put(writer, run, key - run);
+}
+
 /* A string: its bytes, of which a zero is followed by 0xFF, and at the end 0 and 1. */
 static bool
 put_string(Writer *writer)
@@ -136,11 +164,7 @@ put_string(Writer *writer)
 		return false;
 	for (;;)
 	{
-		const unsigned char *run = writer->key;
-
-		while (writer->key < writer->key_end && *writer->key >= 0x20 && *writer->key != '"' && *writer->key != '\\')
-			writer->key++;
-		if (!put(writer, run, writer->key - run))
+		if (!put_run(writer))
 			return false;
 		if (writer->key == writer->key_end)
 			return false;
