@@ -84,7 +84,12 @@ fn show_building(rt: &impl Print, alloc: Global) -> Result<()> {
     show(rt, alloc, &building::pair(alloc, 1, 2)?)?;
     show(rt, alloc, &building::item(alloc, "tea", 250)?)?;
     let tidied = writing::tidied(alloc, SETTINGS)?;
-    show(rt, alloc, &jsonb::parse_value(alloc, &tidied)?)
+    show(rt, alloc, &jsonb::parse_value(alloc, &tidied)?)?;
+    let spread = writing::spread(alloc, SETTINGS)?;
+    if let Ok(lines) = String::from_utf8(spread) {
+        println!(rt; "{lines}")?;
+    }
+    Ok(())
 }
 
 fn show_keeping(rt: &impl Print, alloc: Global) -> Result<()> {

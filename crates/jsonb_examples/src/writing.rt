@@ -5,8 +5,10 @@ ghost use Rattle.jsonb.specs.Grammar.{IsDocument};
 ghost use Rattle.jsonb.specs.Mode.{extended};
 ghost use Rattle.jsonb.specs.Text.{text_of};
 ghost use Rattle.jsonb.specs.Tree.{Tree};
+ghost use Rattle.jsonb_pretty.specs.Indented.{indented};
 
 use jsonb::{Error, Result, Value};
+use jsonb_pretty::write_text_indented;
 use std::alloc::Global;
 
 /// The text without blanks and comments, its members in the order of their keys.
@@ -30,4 +32,14 @@ pub fn append_line(value: &Value, out: &mut Vec<u8>) -> Result<()>
         return Err(Error::OutOfMemory);
     }
     Ok(())
+}
+
+/// The text over lines, two spaces further in for each array and object.
+pub fn spread(alloc: Global, text: &[u8]) -> Result<Vec<u8>>
+    ensures { IfOk result (λ out. (t : Tree) × IsDocument extended text.now t × (out.items ≡ indented 2 0 t)) }
+{
+    let value = jsonb::parse_value(alloc, text)?;
+    let mut out = Vec::new(alloc);
+    write_text_indented(&value, 2, &mut out)?;
+    Ok(out)
 }

@@ -60,6 +60,24 @@ abbrev pub IsAt : Tree → List (List ℕ) → Tree → Type 0
 IsAt t [] part = t ≡ part
 IsAt t (key ∷ keys) part = (u : Tree) × IsChild t key u × IsAt u keys part
 
+-- The second tree is the part of the first at the path.
+pub record IsPartAt (path : List ℕ) (t part : Tree) : Type 0 where
+  pub keys : List (List ℕ)
+  pub is_path : IsPath path keys
+  pub at : IsAt t keys part
+
+-- The tree has no part at the path, which is one.
+pub record HasNoPartAt (path : List ℕ) (t : Tree) : Type 0 where
+  pub keys : List (List ℕ)
+  pub is_path : IsPath path keys
+  pub none : (part : Tree) → IsAt t keys part → ⊥
+
+-- The path is none, or memory ran out for a key.
+abbrev pub IsGetRefusal : List ℕ → Refusal → Type 0
+IsGetRefusal path NoPath = (keys : List (List ℕ)) → IsPath path keys → ⊥
+IsGetRefusal path (NoDocument error) = ⊥
+IsGetRefusal path NoMemory = StartsKey path
+
 -- The bytes are the text of the document's part at the path, and they read back as a document of the same part with
 -- this text.
 pub record IsPartText (path document bytes : List ℕ) : Type 0 where

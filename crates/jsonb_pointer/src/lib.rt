@@ -5,4 +5,4 @@ pub mod keys;
 pub mod part;
 
 pub use keys::read_keys;
-pub use part::{Refusal, part_at, part_text};
+pub use part::{Refusal, get, part_at, part_text};

@@ -3,7 +3,7 @@
 ghost use Rattle.std.specs.Prelude.{◌≡◌, ◌<◌, ◌^◌, ℕ, map, string_bytes, IfOk, IfErr, IfSome, IfNone, MatchOption};
 ghost use Rattle.jsonb.specs.Tree.{Tree};
 ghost use Rattle.jsonb.specs.View.{view};
-ghost use Rattle.jsonb_pointer.specs.Path.{IsIndex, IsChild, IsAt, IsPartText, HasNoPart, IsPathRefusal};
+ghost use Rattle.jsonb_pointer.specs.Path.{IsIndex, IsChild, IsAt, IsPartAt, HasNoPartAt, IsGetRefusal, IsPartText, HasNoPart, IsPathRefusal};
 
 use crate::keys::read_keys;
 use jsonb::{Error, Value};
@@ -44,6 +44,30 @@ impl From<AllocError> for Refusal {
 
     fn from(_: AllocError) -> Refusal {
         Refusal::NoMemory
+    }
+}
+
+/// The part of the value at the path, as `/a/0` is the first item of the member `a`, or `None` where there is none. The
+/// empty path is that of the whole value. Memory is taken for the keys of the path alone.
+///
+/// # Errors
+///
+/// `NoPath` where the bytes spell no path of RFC 6901, and `NoMemory`.
+pub fn get<'v, 'a>(
+    alloc: Global,
+    value: &'v Value<'a>,
+    path: &[u8],
+) -> Result<Option<&'v Value<'a>>, Refusal>
+    ensures some { IfOk result (λ answer. IfSome answer
+        (λ part. IsPartAt path.now (view value.now) (view part.now))) }
+    ensures only { IfOk result (λ answer. IfSome answer (λ part. (t : Tree) → IsPartAt path.now (view value.now) t
+        → t ≡ view part.now)) }
+    ensures none { IfOk result (λ answer. IfNone answer (HasNoPartAt path.now (view value.now))) }
+    ensures refused { IfErr result (IsGetRefusal path.now) }
+{
+    match read_keys(alloc, path)? {
+        Some(keys) => Ok(part_at(value, &keys)),
+        None => Err(Refusal::NoPath),
     }
 }
 

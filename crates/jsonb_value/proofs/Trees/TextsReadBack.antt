@@ -79,11 +79,11 @@ pub record SpellsSameNumber (mode : Mode) (bytes : List ℕ) (n : Num) : Type 0 
   pub wholes : read.whole ≡ n.whole
 
 -- the tree's text is derived for a tree that is the same and has this text
-record SpellsSameTree (mode : Mode) (depth : ℕ) (t : Tree) : Type 0 where
-  tree : Tree
-  derived : Derives mode depth (tree_text t) tree
-  same : tree_cmp tree t ≡ Equal
-  text : tree_text tree ≡ tree_text t
+pub record SpellsSameTree (mode : Mode) (depth : ℕ) (t : Tree) : Type 0 where
+  pub tree : Tree
+  pub derived : Derives mode depth (tree_text t) tree
+  pub same : tree_cmp tree t ≡ Equal
+  pub text : tree_text tree ≡ tree_text t
 
 -- each item's text is spelled for the other's
 abbrev AreSpelled : (List ℕ → Tree → Type 0) → Trees → Trees → Type 0
@@ -93,7 +93,7 @@ AreSpelled Value (more_trees t ts) no_trees = ⊥
 AreSpelled Value (more_trees t ts) (more_trees u us) = Value (tree_text t) u × AreSpelled Value ts us
 
 -- the same of members, which have the same keys
-abbrev HaveSpelled : (List ℕ → Tree → Type 0) → Members → Members → Type 0
+abbrev pub HaveSpelled : (List ℕ → Tree → Type 0) → Members → Members → Type 0
 HaveSpelled Value no_members no_members = Unit {0}
 HaveSpelled Value no_members (more_members l u ns) = ⊥
 HaveSpelled Value (more_members k t ms) no_members = ⊥
@@ -145,7 +145,7 @@ same_below Value k l (more_members k' t ms) no_members e h below = absurd h
 same_below Value k l (more_members k' t ms) (more_members l' u ns) e h below =
     ((λ i. slice_cmp nat_cmp (sym e i) (sym h.0 i)) ∙ below.0, same_below Value k l ms ns e h.2 below.1)
 
-same_ascent : (Value : List ℕ → Tree → Type 0) (ms ns : Members) → HaveSpelled Value ms ns → KeysAscend ms → KeysAscend ns
+pub same_ascent : (Value : List ℕ → Tree → Type 0) (ms ns : Members) → HaveSpelled Value ms ns → KeysAscend ms → KeysAscend ns
 same_ascent Value no_members no_members h a = tt
 same_ascent Value no_members (more_members l u ns) h a = absurd h
 same_ascent Value (more_members k t ms) no_members h a = absurd h
@@ -237,7 +237,7 @@ module _ (mode : Mode) (IsIn : Num → Type 0) (short : (n : Num) → IsProperNu
   }
 
   mutual
-    read_tree : (t : Tree) (depth : ℕ) → IsProper t → IsWithin IsIn t depth → SpellsSameTree mode depth t
+    pub read_tree : (t : Tree) (depth : ℕ) → IsProper t → IsWithin IsIn t depth → SpellsSameTree mode depth t
     read_tree null depth p w = read_null depth
     read_tree (boolean b) depth p w = read_boolean b depth
     read_tree (string mark bytes) depth p w = read_string mark bytes depth p

@@ -1,6 +1,6 @@
-//! Values of Rust's own types. None takes memory.
+//! Values of Rust's own types, and of numbers, items and members. None takes memory: what owns its memory is moved.
 
-use super::Value;
+use super::{Object, Value};
 use crate::number::Number;
 use std::borrow::CowStr;
 
@@ -13,6 +13,30 @@ impl From<bool> for Value<'_> {
 
     fn from(truth: bool) -> Self {
         Value::Bool(truth)
+    }
+}
+
+impl From<i32> for Value<'_> {
+    ghost use Rattle.std.specs.Prelude.{◌≡◌};
+    ghost use Rattle.jsonb_value.specs.Tree.{number, int64};
+    ghost use Rattle.jsonb_value.specs.View.{view};
+
+    ghost from_gives = { λ n v. view v ≡ number (record { form = int64; scale = 0; whole = n }) };
+
+    fn from(number: i32) -> Self {
+        Value::Number(Number::Int64(i64::from(number)))
+    }
+}
+
+impl From<u32> for Value<'_> {
+    ghost use Rattle.std.specs.Prelude.{◌≡◌, pos};
+    ghost use Rattle.jsonb_value.specs.Tree.{number, uint64};
+    ghost use Rattle.jsonb_value.specs.View.{view};
+
+    ghost from_gives = { λ n v. view v ≡ number (record { form = uint64; scale = 0; whole = pos n }) };
+
+    fn from(number: u32) -> Self {
+        Value::Number(Number::UInt64(u64::from(number)))
     }
 }
 
@@ -49,5 +73,41 @@ impl<'a> From<&'a str> for Value<'a> {
 
     fn from(text: &'a str) -> Self {
         Value::String(CowStr::Borrowed(text))
+    }
+}
+
+impl From<String> for Value<'_> {
+    ghost use Rattle.std.specs.Prelude.{◌≡◌, string_bytes};
+    ghost use Rattle.jsonb_value.specs.Tree.{string, escaped};
+    ghost use Rattle.jsonb_value.specs.View.{view};
+
+    ghost from_gives = { λ text v. view v ≡ string escaped (string_bytes text) };
+
+    fn from(text: String) -> Self {
+        Value::String(CowStr::Owned(text))
+    }
+}
+
+impl<'a> From<Vec<Value<'a>>> for Value<'a> {
+    ghost use Rattle.std.specs.Prelude.{◌≡◌};
+    ghost use Rattle.jsonb_value.specs.Tree.{array};
+    ghost use Rattle.jsonb_value.specs.View.{view, trees_view};
+
+    ghost from_gives = { λ items v. view v ≡ array (trees_view items.items) };
+
+    fn from(items: Vec<Value<'a>>) -> Self {
+        Value::Array(items)
+    }
+}
+
+impl<'a> From<Object<'a>> for Value<'a> {
+    ghost use Rattle.std.specs.Prelude.{◌≡◌};
+    ghost use Rattle.jsonb_value.specs.Tree.{object};
+    ghost use Rattle.jsonb_value.specs.View.{view, members_view};
+
+    ghost from_gives = { λ members v. view v ≡ object (members_view members.entries) };
+
+    fn from(members: Object<'a>) -> Self {
+        Value::Object(members)
     }
 }

@@ -35,6 +35,13 @@ pub fn string_texts_read_back()
 type Appended = std::result::Result<(), AllocError>;
 
 impl Value<'_> {
+    /// Whether the value has a text, as it has unless a date or a time stands in it at any depth.
+    pub fn has_text(&self) -> bool
+        ensures { result ≡ has_text (view self.now) }
+    {
+        has_text(self)
+    }
+
     /// Appends the value's text: JSON with no blanks, members in the order of their keys, binary data
     /// and intervals as strings. After a refusal `buf` has the same bytes as before.
     ///

@@ -1,0 +1,282 @@
+//! The text of a value over lines: each item and each member on a line of its own, indented by its depth.
+#![tactic(auto)]
+
+ghost use Rattle.std.specs.Prelude.{◌≡◌, ◌⊎◌, ◌↔◌, ◌+◌, ◌<◌, ◌≤◌, ◌++◌, ◌∷◌, [], true, length, None, IfOk, IfErr, IsErrOf, OnOk, OnErr, vec_len, string_bytes};
+ghost use Rattle.std.specs.Str.{IsUtf8};
+ghost use Rattle.std.specs.Vec.{vec_capacity};
+ghost use Rattle.jsonb_value.specs.Keys.{KeysAscend};
+ghost use Rattle.jsonb_value.specs.Mode.{Mode};
+ghost use Rattle.jsonb_value.specs.Proper.{IsProper, AreProper, HaveProperParts};
+ghost use Rattle.jsonb_value.specs.Text.Appending.{Extends, comma_before};
+ghost use Rattle.jsonb_value.specs.Text.Range.{IsInRangeOf};
+ghost use Rattle.jsonb_value.specs.Text.StringText.{quoted_text};
+ghost use Rattle.jsonb_value.specs.Text.{has_text, tree_text, with_commas, text_of};
+ghost use Rattle.jsonb_value.specs.Tree.{array, object};
+ghost use Rattle.jsonb_value.specs.View.{view, trees_view, members_view};
+ghost use Rattle.jsonb_pretty.specs.Indented.{new_line, indented, item_lines, member_lines, StandsFor};
+
+use jsonb_value::error::{Error, Result};
+use jsonb_value::value::{Object, Value};
+use std::alloc::AllocError;
+
+/// Appends the value's text over lines: a line for each item and each member, `indent` spaces more for each array and
+/// object round it, and a space behind the colon of a member. Empty arrays and objects are `[]` and `{}`, and all else
+/// is as `Value::write_text` writes it. No line feed stands at the end. After a refusal `buf` has the same bytes as
+/// before.
+///
+/// With an `indent` of 2, the value of `{"b":[1,2],"a":{}}` gives
+///
+/// ```text
+/// {
+///   "a": {},
+///   "b": [
+///     1,
+///     2
+///   ]
+/// }
+/// ```
+///
+/// # Errors
+///
+/// `UnexpectedType` where a date or a time stands in the value at any depth: it has no text then, and that is tested
+/// first. `OutOfMemory` only where `buf` has no room for the whole text.
+pub fn write_text_indented(value: &Value<'_>, indent: usize, buf: &mut Vec<u8>) -> Result<()>
+    ensures ok { OnOk result (buf.new.items ≡ buf.old.items ++ indented indent 0 (view value.now)) }
+    ensures err { OnErr result (buf.new.items ≡ buf.old.items) }
+    ensures unexpected { IsErrOf result Error.UnexpectedType ↔ (text_of (view value.now) ≡ None) }
+    ensures errors { IfErr result (λ e. (e ≡ Error.UnexpectedType) ⊎ (e ≡ Error.OutOfMemory)) }
+    // Memory is refused only where the room for the whole text is missing.
+    ensures full { IsErrOf result Error.OutOfMemory
+        → vec_capacity buf.old < vec_len buf.old + length (indented indent 0 (view value.now)) }
+    ensures capacity { vec_capacity buf.old ≤ vec_capacity buf.new }
+    ensures proper { OnOk result (IsProper (view value.now)) }
+    // What is written of a value in a mode's range is a document of the mode, of the same value.
+    ensures reads_back { OnOk result ((mode : Mode) → IsInRangeOf mode (view value.now)
+        → StandsFor mode (indented indent 0 (view value.now)) (view value.now)) }
+{
+    if !value.has_text() {
+        return Err(Error::UnexpectedType);
+    }
+    let old_len = buf.len();
+    if append(value, indent, 0, buf).is_err() {
+        buf.truncate(old_len);
+        return Err(Error::OutOfMemory);
+    }
+    Ok(())
+}
+
+// What a function that appends answers. After a refusal the buffer may hold a part of the text.
+type Appended = std::result::Result<(), AllocError>;
+
+// Appends a value, whose lines begin with `margin` spaces.
+#[cycle(append)]
+fn append<'a>(value: &Value<'a>, indent: usize, margin: usize, buf: &mut Vec<u8>) -> Appended
+    ensures ok { OnOk result (buf.new.items
+        ≡ buf.old.items ++ indented indent margin (view value.now)) }
+    ensures proper { OnOk result (IsProper (view value.now)) }
+    ensures kept { Extends buf.old.items buf.new.items }
+    ensures full { OnErr result (vec_capacity buf.old
+        < vec_len buf.old + length (indented indent margin (view value.now))) }
+    ensures capacity { vec_capacity buf.old ≤ vec_capacity buf.new }
+{
+    match value {
+        Value::Array(items) => append_items(items, indent, margin, buf),
+        Value::Object(members) => append_members(members, indent, margin, buf),
+        Value::Null => append_scalar(value, buf),
+        Value::Bool(_) => append_scalar(value, buf),
+        Value::String(_) => append_scalar(value, buf),
+        Value::Number(_) => append_scalar(value, buf),
+        Value::Binary(_) => append_scalar(value, buf),
+        Value::Interval(_) => append_scalar(value, buf),
+        // These have no text, and are refused before.
+        Value::Date(_) | Value::Timestamp(_) | Value::TimestampTz(_) => Ok(()),
+    }
+}
+
+#[cycle(append)]
+fn append_items<'a>(
+    items: &Vec<Value<'a>>,
+    indent: usize,
+    margin: usize,
+    buf: &mut Vec<u8>,
+) -> Appended
+    ensures ok { OnOk result (buf.new.items
+        ≡ buf.old.items ++ indented indent margin (array (trees_view items.now.items))) }
+    ensures proper { OnOk result (AreProper (trees_view items.now.items)) }
+    ensures kept { Extends buf.old.items buf.new.items }
+    ensures full { OnErr result (vec_capacity buf.old
+        < vec_len buf.old + length (indented indent margin (array (trees_view items.now.items)))) }
+    ensures capacity { vec_capacity buf.old ≤ vec_capacity buf.new }
+{
+    if items.is_empty() {
+        return buf.extend_from_slice(b"[]");
+    }
+    let inner = inner_margin(indent, margin, buf)?;
+    buf.extend_from_slice(b"[")?;
+    append_item_lines(items, indent, inner, buf)?;
+    append_line(margin, buf)?;
+    buf.extend_from_slice(b"]")
+}
+
+#[cycle(append)]
+fn append_item_lines<'a>(
+    items: &Vec<Value<'a>>,
+    indent: usize,
+    margin: usize,
+    buf: &mut Vec<u8>,
+) -> Appended
+    ensures ok { OnOk result (buf.new.items ≡ buf.old.items
+        ++ with_commas (item_lines indent margin (trees_view items.now.items))) }
+    ensures proper { OnOk result (AreProper (trees_view items.now.items)) }
+    ensures kept { Extends buf.old.items buf.new.items }
+    ensures full { OnErr result (vec_capacity buf.old < vec_len buf.old
+        + length (with_commas (item_lines indent margin (trees_view items.now.items)))) }
+    ensures capacity { vec_capacity buf.old ≤ vec_capacity buf.new }
+{
+    let mut is_first = true;
+    'items: for item in items {
+        append_comma(is_first, buf)?;
+        is_first = false;
+        append_line(margin, buf)?;
+        append(item, indent, margin, buf)?;
+    }
+    Ok(())
+}
+
+#[cycle(append)]
+fn append_members<'a>(
+    members: &Object<'a>,
+    indent: usize,
+    margin: usize,
+    buf: &mut Vec<u8>,
+) -> Appended
+    ensures ok { OnOk result (buf.new.items
+        ≡ buf.old.items ++ indented indent margin (object (members_view members.now.entries))) }
+    ensures proper { OnOk result (KeysAscend (members_view members.now.entries)
+        × HaveProperParts (members_view members.now.entries)) }
+    ensures kept { Extends buf.old.items buf.new.items }
+    ensures full { OnErr result (vec_capacity buf.old < vec_len buf.old
+        + length (indented indent margin (object (members_view members.now.entries)))) }
+    ensures capacity { vec_capacity buf.old ≤ vec_capacity buf.new }
+{
+    if members.is_empty() {
+        return buf.extend_from_slice(b"{}");
+    }
+    let inner = inner_margin(indent, margin, buf)?;
+    buf.extend_from_slice(b"{")?;
+    append_member_lines(members, indent, inner, buf)?;
+    append_line(margin, buf)?;
+    buf.extend_from_slice(b"}")
+}
+
+#[cycle(append)]
+fn append_member_lines<'a>(
+    members: &Object<'a>,
+    indent: usize,
+    margin: usize,
+    buf: &mut Vec<u8>,
+) -> Appended
+    ensures ok { OnOk result (buf.new.items ≡ buf.old.items
+        ++ with_commas (member_lines indent margin (members_view members.now.entries))) }
+    ensures proper { OnOk result (KeysAscend (members_view members.now.entries)
+        × HaveProperParts (members_view members.now.entries)) }
+    ensures kept { Extends buf.old.items buf.new.items }
+    ensures full { OnErr result (vec_capacity buf.old < vec_len buf.old
+        + length (with_commas (member_lines indent margin (members_view members.now.entries)))) }
+    ensures capacity { vec_capacity buf.old ≤ vec_capacity buf.new }
+{
+    let mut is_first = true;
+    'members: for (key, value) in members.iter() {
+        append_comma(is_first, buf)?;
+        is_first = false;
+        append_line(margin, buf)?;
+        append_key(key, buf)?;
+        append(value, indent, margin, buf)?;
+    }
+    Ok(())
+}
+
+// The margin of what stands in an array or an object. Where it is no number there is no room for it.
+fn inner_margin(
+    indent: usize,
+    margin: usize,
+    buf: &Vec<u8>,
+) -> std::result::Result<usize, AllocError>
+    ensures ok { IfOk result (λ inner. inner ≡ margin + indent) }
+    ensures full { OnErr result (vec_capacity buf.now < margin + indent) }
+{
+    let _capacity = buf.capacity();
+    match margin.checked_add(indent) {
+        Some(inner) => Ok(inner),
+        None => Err(AllocError),
+    }
+}
+
+// Appends the text of a value that is no array and no object.
+fn append_scalar(value: &Value<'_>, buf: &mut Vec<u8>) -> Appended
+    requires { has_text (view value.now) ≡ true }
+    ensures ok { OnOk result (buf.new.items ≡ buf.old.items ++ tree_text (view value.now)) }
+    ensures proper { OnOk result (IsProper (view value.now)) }
+    ensures kept { Extends buf.old.items buf.new.items }
+    ensures full { OnErr result
+        (vec_capacity buf.old < vec_len buf.old + length (tree_text (view value.now))) }
+    ensures capacity { vec_capacity buf.old ≤ vec_capacity buf.new }
+{
+    if value.write_text(buf).is_err() {
+        return Err(AllocError);
+    }
+    Ok(())
+}
+
+// Appends the comma before an item or a member. The first has none.
+fn append_comma(is_first: bool, buf: &mut Vec<u8>) -> Appended
+    ensures ok { OnOk result (buf.new.items ≡ buf.old.items ++ comma_before is_first) }
+    ensures kept { Extends buf.old.items buf.new.items }
+    ensures full { OnErr result
+        (vec_capacity buf.old < vec_len buf.old + length (comma_before is_first)) }
+    ensures capacity { vec_capacity buf.old ≤ vec_capacity buf.new }
+{
+    if is_first {
+        Ok(())
+    } else {
+        buf.extend_from_slice(b",")
+    }
+}
+
+// Appends a line feed and the spaces of the next line.
+fn append_line(margin: usize, buf: &mut Vec<u8>) -> Appended
+    ensures ok { OnOk result (buf.new.items ≡ buf.old.items ++ new_line margin) }
+    ensures kept { Extends buf.old.items buf.new.items }
+    ensures full { OnErr result
+        (vec_capacity buf.old < vec_len buf.old + length (new_line margin)) }
+    ensures capacity { vec_capacity buf.old ≤ vec_capacity buf.new }
+{
+    buf.extend_from_slice(b"\n")?;
+    buf.reserve(margin)?;
+    buf.resize(buf.len() + margin, b' ')
+}
+
+// Appends a member's key, and the colon and the space after it.
+fn append_key(key: &String, buf: &mut Vec<u8>) -> Appended
+    ensures ok { OnOk result (buf.new.items
+        ≡ buf.old.items ++ (quoted_text (string_bytes key.now) ++ 58 ∷ 32 ∷ [])) }
+    ensures utf8 { IsUtf8 (string_bytes key.now) }
+    ensures kept { Extends buf.old.items buf.new.items }
+    ensures full { OnErr result (vec_capacity buf.old < vec_len buf.old
+        + length (quoted_text (string_bytes key.now) ++ 58 ∷ 32 ∷ [])) }
+    ensures capacity { vec_capacity buf.old ≤ vec_capacity buf.new }
+{
+    append_string(key.as_str(), buf)?;
+    buf.extend_from_slice(b": ")
+}
+
+fn append_string(text: &str, buf: &mut Vec<u8>) -> Appended
+    ensures ok { OnOk result (buf.new.items ≡ buf.old.items ++ quoted_text text.now) }
+    ensures utf8 { IsUtf8 text.now }
+    ensures kept { Extends buf.old.items buf.new.items }
+    ensures full { OnErr result
+        (vec_capacity buf.old < vec_len buf.old + length (quoted_text text.now)) }
+    ensures capacity { vec_capacity buf.old ≤ vec_capacity buf.new }
+{
+    append_scalar(&Value::from(text), buf)
+}
