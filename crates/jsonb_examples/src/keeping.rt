@@ -22,7 +22,7 @@ pub fn read_owned<'a>(alloc: Global, text: &[u8]) -> Result<Value<'a>>
 /// Values by name. Each may borrow from a text that lives as long as `'a`.
 pub type Index<'a> = BTreeMap<String, Value<'a>>;
 
-/// Reads each text, which stands beside its name, into one index.
+/// Parses the texts, each with its name, into one index.
 pub fn index_of<'a>(alloc: Global, texts: &'a [(String, Vec<u8>)]) -> Result<Index<'a>> {
     let mut index = Index::new(alloc);
     for (name, text) in texts {

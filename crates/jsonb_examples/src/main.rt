@@ -34,14 +34,14 @@ fn show_reading(rt: &impl Print, alloc: Global) -> Result<()> {
         match reading::read(alloc, mode, text.as_bytes()) {
             Ok(value) => show(rt, alloc, &value)?,
             Err(refusal) => {
-                let told = reading::told(alloc, &refusal)?;
-                println!(rt; "{told}")?;
+                let described = reading::describe_error(alloc, &refusal)?;
+                println!(rt; "{described}")?;
             }
         }
     }
     let lines = b"{\n  \"a\": [1,]\n}";
     if let Err(Error::Syntax(code, position)) = reading::read(alloc, Mode::Standard, lines) {
-        let (line, column) = reading::place_of(lines, &code, position);
+        let (line, column) = reading::line_and_column_of(lines, &code, position);
         println!(rt; "line {line}, column {column}: {code}")?;
     }
     let is_standard = reading::is_standard(alloc, SETTINGS)?;
@@ -71,12 +71,12 @@ fn show_walking(rt: &impl Print, alloc: Global) -> Result<()> {
     let port = walking::port(&settings);
     println!(rt; "{port:?}")?;
     if let Value::Object(members) = &settings {
-        let outline = walking::outline(alloc, members)?;
+        let outline = walking::list_members(alloc, members)?;
         print!(rt; "{outline}")?;
     }
     let count = walking::count_strings(&settings);
     println!(rt; "{count}")?;
-    let items = walking::joined(alloc, comparing::sorted(alloc, &MIXED)?)?;
+    let items = walking::flatten(alloc, comparing::sorted(alloc, &MIXED)?)?;
     show(rt, alloc, &Value::Array(items))
 }
 

@@ -10,7 +10,7 @@ ghost use Rattle.jsonb.specs.View.{view};
 use jsonb::{Error, Mode, ParseErrorCode, Result, Value};
 use std::alloc::Global;
 
-/// The value of a text, in the mode that the caller asks for.
+/// The value of a text, in the mode that the caller chooses.
 pub fn read(alloc: Global, mode: Mode, text: &[u8]) -> Result<Value<'_>>
     ensures document { IfOk result (λ v. IsDocument (mode_of mode) text.now (view v)) }
     ensures only { IfOk result (λ v. (t : Tree) → IsDocument (mode_of mode) text.now t → t ≡ view v) }
@@ -22,7 +22,7 @@ pub fn read(alloc: Global, mode: Mode, text: &[u8]) -> Result<Value<'_>>
     }
 }
 
-/// Whether the text is standard JSON. The only refusal is want of memory.
+/// Whether the text is standard JSON. The only error is that memory runs out.
 pub fn is_standard(alloc: Global, text: &[u8]) -> Result<bool>
     ensures yes { IfOk result (λ b. b ≡ true → (t : Tree) × IsDocument standard text.now t) }
     ensures no { IfOk result (λ b. b ≡ false → IsNoDocument standard text.now) }
@@ -30,26 +30,26 @@ pub fn is_standard(alloc: Global, text: &[u8]) -> Result<bool>
     match jsonb::parse_value_standard_mode(alloc, text) {
         Ok(_) => Ok(true),
         Err(Error::Syntax(_, _)) => Ok(false),
-        Err(refusal) => Err(refusal),
+        Err(error) => Err(error),
     }
 }
 
-/// What a user is told of a refusal.
-pub fn told(alloc: Global, refusal: &Error) -> Result<String> {
-    let text = match refusal {
-        Error::OutOfMemory => String::from_str(alloc, "there is too little memory")?,
+/// What to tell a user of an error.
+pub fn describe_error(alloc: Global, error: &Error) -> Result<String> {
+    let text = match error {
+        Error::OutOfMemory => String::from_str(alloc, "out of memory")?,
         Error::Syntax(ParseErrorCode::NumberNotCarried, end) => {
-            format!(in alloc; "the number that ends before byte {end} is not carried")?
+            format!(in alloc; "the number that ends before byte {end} is not representable")?
         }
         Error::Syntax(ParseErrorCode::ObjectDuplicateKey(key), _) => {
-            format!(in alloc; "the key {key} comes twice in one object")?
+            format!(in alloc; "the key {key} is repeated in one object")?
         }
         other => format!(in alloc; "{other}")?,
     };
     Ok(text)
 }
 
-/// The line and the column of the byte to show of a refusal of the text.
-pub fn place_of(text: &[u8], code: &ParseErrorCode, position: usize) -> (usize, usize) {
-    jsonb::line_and_column(text, jsonb::fault_index(text, code, position))
+/// The line and the column of the byte to show of an error of the text.
+pub fn line_and_column_of(text: &[u8], code: &ParseErrorCode, pos: usize) -> (usize, usize) {
+    jsonb::line_and_column(text, jsonb::fault_index(text, code, pos))
 }

@@ -27,7 +27,7 @@ pub fn kind(value: &Value) -> &'static str {
 }
 
 /// The items of all arrays in turn. A value that is no array is an item itself.
-pub fn joined<'a>(alloc: Global, values: Vec<Value<'a>>) -> Result<Vec<Value<'a>>> {
+pub fn flatten<'a>(alloc: Global, values: Vec<Value<'a>>) -> Result<Vec<Value<'a>>> {
     let mut all = Vec::new(alloc);
     for value in values {
         match value.into_array() {
@@ -39,7 +39,7 @@ pub fn joined<'a>(alloc: Global, values: Vec<Value<'a>>) -> Result<Vec<Value<'a>
 }
 
 /// A line for each member, in the order of the keys: the key and the kind of its value.
-pub fn outline(alloc: Global, members: &Object) -> Result<String> {
+pub fn list_members(alloc: Global, members: &Object) -> Result<String> {
     let mut out = String::new(alloc);
     for (key, value) in members.iter() {
         let name = kind(value);
@@ -48,7 +48,7 @@ pub fn outline(alloc: Global, members: &Object) -> Result<String> {
     Ok(out)
 }
 
-/// How many strings stand in the value, keys not among them.
+/// How many strings the value holds, keys not among them.
 #[cycle(count_strings)]
 pub fn count_strings<'a>(value: &Value<'a>) -> usize {
     match value {

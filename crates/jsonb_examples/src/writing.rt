@@ -11,7 +11,7 @@ use jsonb::{Error, Result, Value};
 use jsonb_pretty::write_text_indented;
 use std::alloc::Global;
 
-/// The text without blanks and comments, its members in the order of their keys.
+/// The text without whitespace and comments, its members in the order of their keys.
 pub fn tidied(alloc: Global, text: &[u8]) -> Result<Vec<u8>>
     ensures { IfOk result (λ out. (t : Tree) × IsDocument extended text.now t × (text_of t ≡ Some out.items)) }
 {
@@ -21,7 +21,7 @@ pub fn tidied(alloc: Global, text: &[u8]) -> Result<Vec<u8>>
     Ok(out)
 }
 
-/// Appends the value's text and a line feed. After a refusal the buffer holds what it held.
+/// Appends the value and a line feed. After an error the buffer holds what it held.
 pub fn append_line(value: &Value, out: &mut Vec<u8>) -> Result<()>
     ensures { OnErr result (out.new.items ≡ out.old.items) }
 {
