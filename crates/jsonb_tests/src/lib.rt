@@ -1,5 +1,5 @@
 //! Worked examples of the calls of `jsonb` that no text alone can tell: of trees and values that are made by hand, and
-//! of indexes near the greatest. What is read of texts `jsonb_answers` is asked, with its file `stdin`.
+//! of indexes near the greatest. What is read of texts `jsonb_driver` is asked, with its file `stdin`.
 #![tactic(auto)]
 
 #[cfg(test)]

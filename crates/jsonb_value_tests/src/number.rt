@@ -1,4 +1,4 @@
-// Clones of numbers. What else is answered of numbers jsonb_answers is asked, with its file `stdin`.
+// Clones of numbers. What else is answered of numbers jsonb_driver is asked, with its file `stdin`.
 use jsonb_value::number::{Decimal64, Decimal128, Number};
 use std::test::Fail;
 

@@ -1,5 +1,5 @@
-//! Reads JSON texts, one on each line of standard input, and says of each call of the library that takes memory what it
-//! answered. `tests/starve` refuses the program memory, one request after the other.
+//! Parses the JSON texts of standard input, one a line, and prints what each call of the library that allocates returns.
+//! `tests/oom` makes its allocations fail, one after the other.
 #![tactic(auto)]
 
 mod calls;

@@ -1,6 +1,6 @@
-/* Refuses a program one request for memory: the one whose number, counted from 1, is in STARVE. Where it refuses one it
- * writes an x to the descriptor STARVE_TO, and a k at the end where the program has not given back all that it took. It
- * is loaded before the C library. It includes no header, so that the kit's compiler builds it alone. */
+/* Makes one allocation of a program fail: the one whose number, counted from 1, is in FAIL_ALLOCATION. When it does, it
+ * writes an x to the descriptor REPORT_TO, and a k at the end where the program has not freed all memory. It is loaded
+ * before the C library. It includes no header, so that the kit's compiler builds it alone. */
 typedef unsigned long size;
 extern void *dlsym(void *handle, const char *name);
 extern char *getenv(const char *name);
@@ -18,14 +18,14 @@ static int is_set;
 static long held;
 
 static void set(void) {
-  const char *number = getenv("STARVE"), *where = getenv("STARVE_TO");
+  const char *number = getenv("FAIL_ALLOCATION"), *where = getenv("REPORT_TO");
   is_set = 1;
   if (number) left = atol(number);
   if (where) to = (int)atol(where);
 }
 
-/* Whether this request is the one to refuse. */
-static int is_refused(void) {
+/* Whether this allocation is the one that fails. */
+static int fails(void) {
   if (!is_set) set();
   if (left <= 0 || --left > 0) return 0;
   left = -1;
@@ -41,13 +41,13 @@ static void *counted(void *block) {
 void *malloc(size n) {
   static void *(*real)(size);
   if (!real) real = NEXT("malloc");
-  return is_refused() ? 0 : counted(real(n));
+  return fails() ? 0 : counted(real(n));
 }
 
 void *realloc(void *old, size n) {
   static void *(*real)(void *, size);
   if (!real) real = NEXT("realloc");
-  if (is_refused()) return 0;
+  if (fails()) return 0;
   return old ? real(old, n) : counted(real(old, n));
 }
 
@@ -61,7 +61,7 @@ void free(void *old) {
 void *aligned_alloc(size alignment, size n) {
   static void *(*real)(size, size);
   if (!real) real = NEXT("aligned_alloc");
-  return is_refused() ? 0 : counted(real(alignment, n));
+  return fails() ? 0 : counted(real(alignment, n));
 }
 
 __attribute__((destructor)) static void end(void) {

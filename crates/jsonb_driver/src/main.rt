@@ -1,6 +1,5 @@
-//! Reads JSON texts or numbers, one or two on each line of standard input, and says of each line how they are read, or
-//! what is answered of them.
-//! `tests/compare` asks it.
+//! Parses the JSON texts or calculates with the numbers of each line of standard input, one or two a line, and prints
+//! the result of each. `tests/differential` runs it.
 #![tactic(auto)]
 
 mod answer;
