@@ -1,12 +1,12 @@
-/* Vizhoniku for C: check JSON texts, write the texts of their values, compare their values, tell what is wrong.
+/* Vizhoniku for C: check JSON texts, write their values as text and as sort keys, compare them, report errors.
  *
- * A text is any bytes, with its size; it needs no zero byte at its end. A call keeps nothing: there is no state, all
- * memory that a call takes it frees, and it writes only to what its caller passes. So calls in different threads need
+ * A text is any bytes, with its size; it needs no zero byte at its end. A call keeps nothing: there is no state, a call
+ * frees all memory that it allocates, and it writes only to what its caller passes. So calls in different threads need
  * no lock, as long as none writes to what another uses.
  *
  * What a caller owes:
- *  - No pointer is null, but that of a text, a path or a buffer of size 0, which isn't looked at.
- *  - What a call writes to (buffer, size, order, refusal, place) lies apart from all else that the call is given.
+ *  - No pointer is null, but that of a text, a path or a buffer of size 0, which isn't dereferenced.
+ *  - What a call writes to (buffer, size, order, refusal, place) doesn't overlap any other argument.
  *  - No text and no buffer is longer than PTRDIFF_MAX bytes.
  *  - The thread has a megabyte of stack free, where a text is a stranger's: 800 KB is the most that a call was seen to
  *    take. docs/C.md has figures. A thread of musl has 128 KB where nothing is asked.
@@ -28,37 +28,37 @@ extern "C" {
 /* The version of the library that this header belongs to. */
 #define VIZHONIKU_VERSION_STRING "0.1.0"
 
-/* The version of this interface. It grows where a function, a status or a code is added. vizhoniku_version answers that
+/* The version of this interface. It grows where a function, a status or a code is added. vizhoniku_version returns that
  * of the library. */
 #define VIZHONIKU_VERSION 2
 
 uint32_t vizhoniku_version(void);
 
-/* Which grammar a text is read by. docs/GRAMMAR.md has both. Any other number is answered by VIZHONIKU_UNKNOWN_MODE. */
+/* The grammar of a text. docs/GRAMMAR.md has both. Any other number is VIZHONIKU_UNKNOWN_MODE. */
 enum vizhoniku_mode {
-  VIZHONIKU_STANDARD = 0, /* JSON as RFC 8259 has it, with a few more spellings */
-  VIZHONIKU_EXTENDED = 1  /* comments, single quotes, keys without quotes, decimals, hexadecimals and more */
+    VIZHONIKU_STANDARD = 0, /* JSON as RFC 8259 has it, with 64-bit integers alone as numbers */
+  VIZHONIKU_EXTENDED = 1  /* comments, single quotes, unquoted keys, decimals, hexadecimals and more */
 };
 
-/* What a call answers. */
+/* What a call returns. */
 enum vizhoniku_status {
-  VIZHONIKU_ACCEPTED = 0,      /* each text is a document, and all went well */
+    VIZHONIKU_ACCEPTED = 0,      /* success: each text is a document */
   VIZHONIKU_REFUSED = 1,       /* a text is no document of the mode: the refusal says why */
-  VIZHONIKU_OUT_OF_MEMORY = 2, /* memory ran out: this doesn't tell whether a text is a document */
+  VIZHONIKU_OUT_OF_MEMORY = 2, /* memory ran out: this doesn't say whether a text is a document */
   VIZHONIKU_UNKNOWN_MODE = 3,  /* no mode has this number */
   VIZHONIKU_TOO_SHORT = 4,     /* the buffer is shorter than the text: the size says what is needed */
-  VIZHONIKU_NO_PART = 5,       /* nothing stands at the path: vizhoniku_part alone */
-  VIZHONIKU_NO_PATH = 6        /* the path isn't spelled as RFC 6901 has it: vizhoniku_part alone */
+    VIZHONIKU_NO_PART = 5,       /* the document has no part at the path: vizhoniku_part alone */
+  VIZHONIKU_NO_PATH = 6        /* the path isn't a JSON Pointer (RFC 6901): vizhoniku_part alone */
 };
 
-/* What is wrong with a text. docs/GRAMMAR.md says when, and where the position is. */
+/* What is wrong with a text. docs/GRAMMAR.md says when, and which byte the position means. */
 enum vizhoniku_code {
   VIZHONIKU_NO_CODE = 0,
   VIZHONIKU_INVALID_EOF = 1, /* the text ends too early */
   VIZHONIKU_INVALID_NUMBER_VALUE = 2,
   VIZHONIKU_INVALID_STRING_VALUE = 3,
   VIZHONIKU_EXPECTED_SOME_IDENT = 4,
-  VIZHONIKU_EXPECTED_SOME_VALUE = 5, /* a value is due, and the byte begins none */
+    VIZHONIKU_EXPECTED_SOME_VALUE = 5, /* a value is expected, and the byte begins none */
   VIZHONIKU_EXPECTED_COLON = 6,
   VIZHONIKU_EXPECTED_ARRAY_COMMA_OR_END = 7,
   VIZHONIKU_EXPECTED_OBJECT_COMMA_OR_END = 8,
@@ -70,24 +70,24 @@ enum vizhoniku_code {
   VIZHONIKU_INVALID_LONE_LEADING_SURROGATE_IN_HEX_ESCAPE = 14,
   VIZHONIKU_INVALID_SURROGATE_IN_HEX_ESCAPE = 15,
   VIZHONIKU_UNEXPECTED_END_OF_HEX_ESCAPE = 16,
-  VIZHONIKU_OBJECT_DUPLICATE_KEY = 17, /* a key comes twice in an object; the position is after the second */
+    VIZHONIKU_OBJECT_DUPLICATE_KEY = 17, /* a key is repeated in an object; the position is after the second */
   VIZHONIKU_OBJECT_KEY_INVALID_NUMBER = 18,
   VIZHONIKU_OBJECT_KEY_INVALID_CHARACTER = 19,
-  VIZHONIKU_NUMBER_NOT_CARRIED = 20,   /* a number that no value holds exactly; the position is after it */
+    VIZHONIKU_NUMBER_NOT_CARRIED = 20,   /* a number that isn't representable; the position is after it */
   VIZHONIKU_DEPTH_LIMIT_EXCEEDED = 21  /* more than 512 arrays and objects are open at once */
 };
 
-/* Which text was refused, and why. All three are 0 where the status is not VIZHONIKU_REFUSED. */
+/* Which text was rejected, and why. All three are 0 where the status is not VIZHONIKU_REFUSED. */
 struct vizhoniku_refusal {
   uint32_t code;   /* of enum vizhoniku_code */
   uint32_t which;  /* 1 for the only or the first text, 2 for the second */
-  size_t position; /* a byte index; which byte it names goes by the code, and it may pass the end */
+    size_t position; /* a number of bytes; which byte it means depends on the code, and it may pass the end */
 };
 
-/* Tells whether the text is a document of the mode. The status is never VIZHONIKU_TOO_SHORT. */
+/* Checks whether the text is a document of the mode. The status is never VIZHONIKU_TOO_SHORT. */
 uint32_t vizhoniku_check(uint32_t mode, const unsigned char *text, size_t text_size, struct vizhoniku_refusal *refusal);
 
-/* Writes the text of the text's value to the front of the buffer: with no blanks, and the members of objects in the
+/* Writes the text's value as text to the start of the buffer: without whitespace, and the members of objects in the
  * order of their keys' bytes. What was written is a document of the same value, and is written as itself.
  *
  *  - VIZHONIKU_ACCEPTED: *size bytes were written, with no zero byte after them. The rest of the buffer is as before.
@@ -96,8 +96,8 @@ uint32_t vizhoniku_check(uint32_t mode, const unsigned char *text, size_t text_s
 uint32_t vizhoniku_text(uint32_t mode, const unsigned char *text, size_t text_size, unsigned char *buffer,
                         size_t buffer_size, size_t *size, struct vizhoniku_refusal *refusal);
 
-/* Writes the text of the part of the text's value that stands at the path, as vizhoniku_text writes the whole. A path
- * is spelled as RFC 6901 has it: "" is the whole, and "/a/0" the first item of the member "a".
+/* Writes the part of the text's value at the path, as vizhoniku_text writes the whole. A path is a JSON Pointer (RFC
+ * 6901): "" is the whole, and "/a/0" the first item of the member "a".
  *
  *  - VIZHONIKU_ACCEPTED and VIZHONIKU_TOO_SHORT: as of vizhoniku_text.
  *  - VIZHONIKU_NO_PART, VIZHONIKU_NO_PATH: the text is a document. *size is 0, and nothing was written.
@@ -106,9 +106,9 @@ uint32_t vizhoniku_part(uint32_t mode, const unsigned char *path, size_t path_si
                         size_t text_size, unsigned char *buffer, size_t buffer_size, size_t *size,
                         struct vizhoniku_refusal *refusal);
 
-/* Writes the sort key of the text's value to the front of the buffer: bytes that compare, as memcmp does and the
- * shorter first, as vizhoniku_compare does, and that are equal exactly for equal values. No key begins another, so keys
- * may stand one after the other. docs/SORT_KEYS.md has the format.
+/* Writes the sort key of the text's value to the start of the buffer: bytes that compare, as memcmp does and the
+ * shorter first, as vizhoniku_compare does, and that are equal exactly for equal values. No key is a prefix of another,
+ * so keys may be concatenated. docs/SORT_KEYS.md has the format.
  *
  *  - VIZHONIKU_ACCEPTED: *size bytes were written. The rest of the buffer is as before.
  *  - VIZHONIKU_TOO_SHORT: *size bytes are needed, and nothing was written.
@@ -116,8 +116,8 @@ uint32_t vizhoniku_part(uint32_t mode, const unsigned char *path, size_t path_si
 uint32_t vizhoniku_sort_key(uint32_t mode, const unsigned char *text, size_t text_size, unsigned char *buffer,
                             size_t buffer_size, size_t *size, struct vizhoniku_refusal *refusal);
 
-/* Writes the text and the sort key of the text's value, as vizhoniku_text and vizhoniku_sort_key do, of one reading:
- * each to the front of a buffer of its own. The two buffers lie apart.
+/* Writes the text's value as text and as sort key, as vizhoniku_text and vizhoniku_sort_key do, but parses the text once:
+ * each to the start of a buffer of its own. The two buffers don't overlap.
  *
  *  - VIZHONIKU_ACCEPTED: *size and *key_size bytes were written. The rest of both buffers is as before.
  *  - VIZHONIKU_TOO_SHORT: one of the buffers is too short. *size and *key_size bytes are needed, and nothing was
@@ -129,30 +129,30 @@ uint32_t vizhoniku_text_and_key(uint32_t mode, const unsigned char *text, size_t
 
 /* Compares the values of two texts of one mode: *order is -1 where the first is below the second, 0 where they are the
  * same, and 1 where it is above. It is one total order; docs/VALUES.md has it. Where the status is not
- * VIZHONIKU_ACCEPTED, *order is 0. Where both texts are refused, the first is told. The status is never
+  * VIZHONIKU_ACCEPTED, *order is 0. Where both texts are rejected, the first is reported. The status is never
  * VIZHONIKU_TOO_SHORT. */
 uint32_t vizhoniku_compare(uint32_t mode, const unsigned char *left, size_t left_size, const unsigned char *right,
                            size_t right_size, int32_t *order, struct vizhoniku_refusal *refusal);
 
-/* The place to show of a refusal: the index of the wrong byte, or of the last byte of the number, the string, the key or
- * the unit that is wrong, or the text's size where the text ends too early; and the line and the column of that, both
- * counted from 1, the column in bytes. */
+/* The byte to show of an error: the offset of the wrong byte, or of the last byte of the faulty number, string, key or
+ * escape, or the text's size where the text ends too early; and the line and the column of that, both counted from 1,
+ * the column in bytes. */
 struct vizhoniku_place {
   size_t index;
   size_t line;
   size_t column;
 };
 
-/* Tells the place of a refusal of this text. */
+/* Returns the byte to show of a refusal of this text. */
 void vizhoniku_place(const unsigned char *text, size_t text_size, const struct vizhoniku_refusal *refusal,
                      struct vizhoniku_place *place);
 
-/* Writes what is wrong with the text to the front of the buffer, in the words that the program jsonb_cat prints, such
- * as `duplicate object attribute "a", pos 10`. The text is read again for that.
+/* Writes the error message of the text to the start of the buffer, as the program jsonb_cat prints it, such as
+ * `duplicate object attribute "a", pos 10`. The text is parsed again for that.
  *
  *  - VIZHONIKU_REFUSED: *size bytes were written, with no zero byte after them. The rest of the buffer is as before.
  *  - VIZHONIKU_TOO_SHORT: *size bytes are needed, and nothing was written.
- *  - VIZHONIKU_ACCEPTED: nothing is wrong. *size is 0, as with any other status, and nothing was written. */
+  *  - VIZHONIKU_ACCEPTED: the text is a document. *size is 0, as with any other status, and nothing was written. */
 uint32_t vizhoniku_message(uint32_t mode, const unsigned char *text, size_t text_size, unsigned char *buffer,
                            size_t buffer_size, size_t *size);
 
