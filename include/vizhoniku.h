@@ -116,7 +116,7 @@ uint32_t vizhoniku_part(uint32_t mode, const unsigned char *path, size_t path_si
 uint32_t vizhoniku_sort_key(uint32_t mode, const unsigned char *text, size_t text_size, unsigned char *buffer,
                             size_t buffer_size, size_t *size, struct vizhoniku_refusal *refusal);
 
-/* Writes the text's value as text and as sort key, as vizhoniku_text and vizhoniku_sort_key do, but parses the text once:
+/* Writes the text's value as text and as sort key, as vizhoniku_text and vizhoniku_sort_key do, parsing the text once:
  * each to the start of a buffer of its own. The two buffers don't overlap.
  *
  *  - VIZHONIKU_ACCEPTED: *size and *key_size bytes were written. The rest of both buffers is as before.
