@@ -1,4 +1,5 @@
 -- The order of numbers and of trees: `Less` is below, `Equal` is the same. Marks and a number's form do not count.
+pub mod Bounds
 pub mod ByContent
 pub mod Laws
 pub mod NumberLaws

@@ -2,6 +2,7 @@
 mod access;
 mod clone;
 mod convert;
+mod dismantle;
 mod into;
 mod laws;
 mod order;

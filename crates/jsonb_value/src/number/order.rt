@@ -25,6 +25,7 @@ impl Number {
     }
 
     // The order, by the parts of both.
+    #[inline(never)]
     fn cmp_parts(&self, other: &Number) -> Ordering
         ensures { result ≡ num_cmp (number_view self.now) (number_view other.now) }
     {
@@ -94,6 +95,7 @@ impl Ord for Number {
     ghost matches_eq = { λ m n. refl };
 
     /// By value, exactly, whatever the variants and the scales are.
+    #[inline(always)]
     fn cmp(&self, other: &Number) -> Ordering {
         // Two integers of one type, which most are, are compared as such.
         match (self, other) {

@@ -1,14 +1,19 @@
 //! The order of values: by kind, and then by what they hold.
-ghost use Rattle.std.specs.Prelude.{◌≡◌, refl};
+ghost use Rattle.std.specs.Prelude.{◌≡◌, ◌∷◌, ◌++◌, [], List, String, refl, IfSome, MatchOption};
+ghost use Rattle.std.specs.Bound.{bound_map};
+ghost use Rattle.std.specs.declared.alloc.Global.{Global};
 ghost use Rattle.std.specs.Cmp.{on_equiv, on_per, on_po, on_total, partial_equiv_from_equiv, eq_by_cmp_equiv, po};
 ghost use Rattle.std.specs.Ordering.{on, eq_by_cmp, as_partial_cmp};
 ghost use Rattle.jsonb_value.specs.Order.{rank, tree_cmp, trees_cmp, members_cmp, Below, Same, IsOneOrder};
 ghost use Rattle.jsonb_value.specs.Order.ByContent.{IsByContent};
+ghost use Rattle.std.specs.declared.ops.Bound.TheVariants.{Excluded};
+ghost use Rattle.jsonb_value.specs.Order.Bounds.{from_bound};
 ghost use Rattle.jsonb_value.specs.Order.Laws.{tree_cmp_total};
 ghost use Rattle.jsonb_value.specs.View.{view, trees_view, members_view};
 
 use super::{Object, Value};
 use std::cmp::Ordering;
+use std::ops::Bound;
 
 impl PartialEq for Value<'_> {
     ghost eq = { on view (eq_by_cmp tree_cmp) };
@@ -16,7 +21,7 @@ impl PartialEq for Value<'_> {
     ghost laws = { on_per view (partial_equiv_from_equiv (eq_by_cmp_equiv tree_cmp_total)) };
 
     fn eq(&self, other: &Self) -> bool {
-        compare(self, other).is_eq()
+        compare(self, other, MANY_OBJECTS).is_eq()
     }
 }
 
@@ -30,7 +35,7 @@ impl PartialOrd for Value<'_> {
     ghost laws = { on_po view (po tree_cmp_total (λ t u. refl)) };
 
     fn partial_cmp(&self, other: &Self) -> Option<Ordering> {
-        Some(compare(self, other))
+        Some(compare(self, other, MANY_OBJECTS))
     }
 }
 
@@ -47,7 +52,7 @@ impl Ord for Value<'_> {
     /// strings, objects, arrays, null. In a kind by exact content: numbers by value, strings by bytes, arrays by
     /// their items, and objects by their members in the order of their keys.
     fn cmp(&self, other: &Self) -> Ordering {
-        compare(self, other)
+        compare(self, other, MANY_OBJECTS)
     }
 }
 
@@ -76,10 +81,14 @@ pub(super) fn rank(value: &Value) -> u8
     }
 }
 
-// Inlined into the loops, so that only containers are calls there.
+// Objects that stand in so many others are compared key by key, which takes less machine stack.
+const MANY_OBJECTS: u32 = 128;
+
+// Inlined into the loops, so that only containers are calls there. So many objects may still be open round others that are
+// compared with an iterator over each.
 #[inline(always)]
 #[cycle(compare)]
-fn compare<'a>(left: &Value<'a>, right: &Value<'a>) -> Ordering
+fn compare<'a>(left: &Value<'a>, right: &Value<'a>, levels: u32) -> Ordering
     ensures { result ≡ tree_cmp (view left.now) (view right.now) }
 {
     match (left, right) {
@@ -91,22 +100,22 @@ fn compare<'a>(left: &Value<'a>, right: &Value<'a>) -> Ordering
         (Value::Bool(a), Value::Bool(b)) => a.cmp(b),
         (Value::Number(a), Value::Number(b)) => a.cmp(b),
         (Value::String(a), Value::String(b)) => a.cmp(b),
-        (Value::Object(a), Value::Object(b)) => compare_members(a, b),
-        (Value::Array(a), Value::Array(b)) => compare_items(a, b),
+        (Value::Object(a), Value::Object(b)) => compare_members(a, b, levels),
+        (Value::Array(a), Value::Array(b)) => compare_items(a, b, levels),
         _ => rank(left).cmp(&rank(right)),
     }
 }
 
 // The first two items that differ decide, and a front is below what goes on.
 #[cycle(compare)]
-fn compare_items<'a>(left: &Vec<Value<'a>>, right: &Vec<Value<'a>>) -> Ordering
+fn compare_items<'a>(left: &Vec<Value<'a>>, right: &Vec<Value<'a>>, levels: u32) -> Ordering
     ensures { result ≡ trees_cmp (trees_view left.now.items) (trees_view right.now.items) }
 {
     'items: for (i, item) in left.iter().enumerate() {
         if i >= right.len() {
             return Ordering::Greater;
         }
-        let order = compare(item, &right[i]);
+        let order = compare(item, &right[i], levels);
         if order.is_ne() {
             return order;
         }
@@ -120,9 +129,12 @@ fn compare_items<'a>(left: &Vec<Value<'a>>, right: &Vec<Value<'a>>) -> Ordering
 
 // The same of members, each by its key and then by its value.
 #[cycle(compare)]
-fn compare_members<'a>(left: &Object<'a>, right: &Object<'a>) -> Ordering
+fn compare_members<'a>(left: &Object<'a>, right: &Object<'a>, levels: u32) -> Ordering
     ensures { result ≡ members_cmp (members_view left.now.entries) (members_view right.now.entries) }
 {
+    if levels == 0 {
+        return compare_deep(left, right);
+    }
     let mut others = right.iter();
     'members: for (key, value) in left.iter() {
         let Some((other_key, other_value)) = others.next() else {
@@ -132,7 +144,7 @@ fn compare_members<'a>(left: &Object<'a>, right: &Object<'a>) -> Ordering
         if order.is_ne() {
             return order;
         }
-        let order = compare(value, other_value);
+        let order = compare(value, other_value, levels - 1);
         if order.is_ne() {
             return order;
         }
@@ -142,4 +154,79 @@ fn compare_members<'a>(left: &Object<'a>, right: &Object<'a>) -> Ordering
     } else {
         Ordering::Equal
     }
+}
+
+// The same of members that stand deep. What nests deep mostly has but one member in each object.
+#[inline(never)]
+#[cycle(compare)]
+fn compare_deep<'a>(left: &Object<'a>, right: &Object<'a>) -> Ordering
+    ensures { result ≡ members_cmp (members_view left.now.entries) (members_view right.now.entries) }
+{
+    let Some((key, value)) = only_member(left) else {
+        return compare_by_key(left, right);
+    };
+    let Some((other_key, other_value)) = only_member(right) else {
+        return compare_by_key(left, right);
+    };
+    let order = key.cmp(other_key);
+    if order.is_ne() {
+        return order;
+    }
+    compare(value, other_value, 0)
+}
+
+// The same with no iterator while a value is compared, since two of them take much machine stack.
+#[inline(never)]
+#[cycle(compare)]
+fn compare_by_key<'a>(left: &Object<'a>, right: &Object<'a>) -> Ordering
+    ensures { result ≡ members_cmp (members_view left.now.entries) (members_view right.now.entries) }
+{
+    let mut past = Bound::Unbounded;
+    let mut other_past = Bound::Unbounded;
+    'members: while let Some((key, value)) = next_member(left, past) {
+        let Some((other_key, other_value)) = next_member(right, other_past) else {
+            return Ordering::Greater;
+        };
+        let order = key.cmp(other_key);
+        if order.is_ne() {
+            return order;
+        }
+        let order = compare(value, other_value, 0);
+        if order.is_ne() {
+            return order;
+        }
+        past = Bound::Excluded(key);
+        other_past = Bound::Excluded(other_key);
+    }
+    if next_member(right, other_past).is_some() {
+        Ordering::Less
+    } else {
+        Ordering::Equal
+    }
+}
+
+// The member of an object that has no other.
+#[inline(always)]
+fn only_member<'v, 'a>(members: &'v Object<'a>) -> Option<(&'v String, &'v Value<'a>)>
+    ensures { IfSome result (λ m. members.now.entries ≡ (m.0.now, m.1.now) ∷ []) }
+{
+    if members.len() != 1 {
+        return None;
+    }
+    members.first_key_value()
+}
+
+// The first member within a bound.
+#[inline(never)]
+fn next_member<'v, 'a>(
+    members: &'v Object<'a>,
+    past: Bound<&'v String>,
+) -> Option<(&'v String, &'v Value<'a>)>
+    ensures next { MatchOption result (from_bound (bound_map (λ k. k.now) past.entry) members.now.entries ≡ [])
+        (λ m. from_bound (bound_map (λ k. k.now) past.entry) members.now.entries
+        ≡ (m.0.now, m.1.now) ∷ from_bound (Excluded m.0.now) members.now.entries) }
+    ensures ends { (taken : List (String Global × Value))
+        × (members.now.entries ≡ taken ++ from_bound (bound_map (λ k. k.now) past.entry) members.now.entries) }
+{
+    members.range((past, Bound::Unbounded)).next()
 }
