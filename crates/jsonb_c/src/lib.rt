@@ -363,14 +363,14 @@ fn part_of(alloc: Global, mode: u32, path: &[u8], text: &[u8]) -> Result<Part, R
         ⊎ HasPartAt mode path.now text.now }
     ensures reason { IfErr result (IsReason mode (IsRefused mode text.now 1)) }
 {
-    let value = value_of(alloc, mode, text, 1)?;
+    let held = value_of(alloc, mode, text, 1)?;
     let Ok(spelled) = read_keys(alloc, path) else {
         return Err(Refused::OutOfMemory);
     };
     let Some(keys) = spelled else {
         return Ok(Part::NoPath);
     };
-    let Some(part) = part_at(&value, &keys) else {
+    let Some(part) = part_at(&held.value, &keys) else {
         return Ok(Part::Nothing);
     };
     let mut bytes = Vec::new(alloc);
@@ -502,12 +502,16 @@ fn message_of(alloc: Global, mode: u32, text: &[u8]) -> Result<Option<String>, R
     let Some(mode) = choose_mode(mode) else {
         return Err(Refused::UnknownMode);
     };
-    match read(alloc, mode, text) {
-        Ok(_) => Ok(None),
-        Err(error) => match words_of(alloc, &error) {
-            Some(message) => Ok(Some(message)),
-            None => Err(Refused::OutOfMemory),
-        },
+    let error = match read(alloc, mode, text) {
+        Ok(value) => {
+            value.dismantle();
+            return Ok(None);
+        }
+        Err(error) => error,
+    };
+    match words_of(alloc, &error) {
+        Some(message) => Ok(Some(message)),
+        None => Err(Refused::OutOfMemory),
     }
 }
 
@@ -563,7 +567,7 @@ fn order_of(alloc: Global, mode: u32, left: &[u8], right: &[u8]) -> Result<Order
 {
     let first = value_of(alloc, mode, left, 1)?;
     let second = value_of(alloc, mode, right, 2)?;
-    Ok(first.cmp(&second))
+    Ok(first.value.cmp(&second.value))
 }
 
 // The number of an order.
@@ -621,13 +625,13 @@ fn text_and_key_of(alloc: Global, mode: u32, text: &[u8]) -> Result<TextAndKey, 
     ensures reason { IfErr result (IsReason mode (IsRefused mode text.now 1)) }
     ensures memory { result ≡ Err Refused.OutOfMemory → HoldsMarker text.now ⊎ IsAccepted mode text.now }
 {
-    let value = value_of(alloc, mode, text, 1)?;
+    let held = value_of(alloc, mode, text, 1)?;
     let mut bytes = Vec::new(alloc);
-    if value.write_text(&mut bytes).is_err() {
+    if held.value.write_text(&mut bytes).is_err() {
         return Err(Refused::OutOfMemory);
     }
     let mut key = Vec::new(alloc);
-    if value.write_sort_key(&mut key).is_err() {
+    if held.value.write_sort_key(&mut key).is_err() {
         return Err(Refused::OutOfMemory);
     }
     Ok(TextAndKey { text: bytes, key })
@@ -639,9 +643,9 @@ fn text_of(alloc: Global, mode: u32, text: &[u8]) -> Result<Vec<u8>, Refused>
     ensures reason { IfErr result (IsReason mode (IsRefused mode text.now 1)) }
     ensures memory { result ≡ Err Refused.OutOfMemory → HoldsMarker text.now ⊎ IsAccepted mode text.now }
 {
-    let value = value_of(alloc, mode, text, 1)?;
+    let held = value_of(alloc, mode, text, 1)?;
     let mut bytes = Vec::new(alloc);
-    if value.write_text(&mut bytes).is_err() {
+    if held.value.write_text(&mut bytes).is_err() {
         return Err(Refused::OutOfMemory);
     }
     Ok(bytes)
@@ -653,17 +657,29 @@ fn sort_key_of(alloc: Global, mode: u32, text: &[u8]) -> Result<Vec<u8>, Refused
     ensures reason { IfErr result (IsReason mode (IsRefused mode text.now 1)) }
     ensures memory { result ≡ Err Refused.OutOfMemory → HoldsMarker text.now ⊎ IsAccepted mode text.now }
 {
-    let value = value_of(alloc, mode, text, 1)?;
+    let held = value_of(alloc, mode, text, 1)?;
     let mut bytes = Vec::new(alloc);
-    if value.write_sort_key(&mut bytes).is_err() {
+    if held.value.write_sort_key(&mut bytes).is_err() {
         return Err(Refused::OutOfMemory);
     }
     Ok(bytes)
 }
 
+// A value that was read, which is dropped within little machine stack.
+struct Held<'a> {
+    value: Value<'a>,
+}
+
+impl Drop for Held<'_> {
+    fn drop(self) {
+        let Held { value } = self;
+        value.dismantle();
+    }
+}
+
 // The value of a text, which is the first or the second of those that a call is given.
-fn value_of<'a>(alloc: Global, mode: u32, text: &'a [u8], which: u32) -> Result<Value<'a>, Refused>
-    ensures read { IfOk result (λ value. IsDocumentOf mode text.now (view value)) }
+fn value_of<'a>(alloc: Global, mode: u32, text: &'a [u8], which: u32) -> Result<Held<'a>, Refused>
+    ensures read { IfOk result (λ held. IsDocumentOf mode text.now (view held.value)) }
     ensures reason { IfErr result (IsReason mode (IsRefused mode text.now which)) }
     ensures memory { result ≡ Err Refused.OutOfMemory → HoldsMarker text.now }
 {
@@ -671,7 +687,7 @@ fn value_of<'a>(alloc: Global, mode: u32, text: &'a [u8], which: u32) -> Result<
         return Err(Refused::UnknownMode);
     };
     match read(alloc, mode, text) {
-        Ok(value) => Ok(value),
+        Ok(value) => Ok(Held { value }),
         Err(error) => Err(reason_of(&error, which)),
     }
 }

@@ -10,7 +10,7 @@ ghost use Rattle.jsonb.specs.Refusals.{IsExplained};
 ghost use Rattle.jsonb_cat.specs.Program.{WordsChoose, IsLineOf, LacksRoom, IsAccepted, IsAnswered};
 
 use jsonb::parser::Mode;
-use jsonb::{Error, Result};
+use jsonb::{Error, Result, Value};
 use std::alloc::Global;
 use std::io;
 use std::io::{Read, Write};
@@ -35,6 +35,18 @@ pub fn choose_mode(words: &[String]) -> Option<Mode>
     }
 }
 
+// A value that was read, which is dropped within little machine stack.
+struct Held<'a> {
+    value: Value<'a>,
+}
+
+impl Drop for Held<'_> {
+    fn drop(self) {
+        let Held { value } = self;
+        value.dismantle();
+    }
+}
+
 /// Appends to `out` the text of the document that `input` is, and a line feed. After an error `out` holds what it held.
 #[tactic(auto, using(crate::proofs::TextOfDocument::document_has_text))]
 pub fn convert(alloc: Global, mode: Mode, input: &[u8], out: &mut Vec<u8>) -> Result<()>
@@ -56,7 +68,8 @@ pub fn convert(alloc: Global, mode: Mode, input: &[u8], out: &mut Vec<u8>) -> Re
         Mode::Extended => jsonb::parse_value(alloc, input)?,
     };
     let old_len = out.len();
-    value.write_text(out)?;
+    let held = Held { value };
+    held.value.write_text(out)?;
     if out.push(b'\n').is_err() {
         out.truncate(old_len);
         return Err(Error::OutOfMemory);

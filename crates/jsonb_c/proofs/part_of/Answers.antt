@@ -18,7 +18,7 @@ part_is number path text keys t part old new is_path read at none written =
 
 pub returns-clause-part : goal.returns-clause-part
 returns-clause-part c =
-    part_is c.args.mode c.args.path.now c.args.text.now (map string_bytes c.in-Some.keys.items) (view c.in_ok-value.value) (view c.in-Some-part_at.part.now) c.new-bytes.result.items c.write_text.new.buf.items
-    (subst (λ answer. IfSome answer (λ keys. IsPath c.args.path.now (map string_bytes keys.items))) c.in-Some.is c.in-Ok.ensures.some) c.in_ok-value.ensures.read
-    (subst (λ items. IsAt (view c.in_ok-value.value) (map string_bytes items) (view c.in-Some-part_at.part.now)) c.deref.ensures.value c.in-Some-part_at.ensures.some) c.new-bytes.ensures.items
+    part_is c.args.mode c.args.path.now c.args.text.now (map string_bytes c.in-Some.keys.items) (view c.in_ok-held.held.value) (view c.in-Some-part_at.part.now) c.new-bytes.result.items c.write_text.new.buf.items
+    (subst (λ answer. IfSome answer (λ keys. IsPath c.args.path.now (map string_bytes keys.items))) c.in-Some.is c.in-Ok.ensures.some) c.in_ok-held.ensures.read
+    (subst (λ items. IsAt (view c.in_ok-held.held.value) (map string_bytes items) (view c.in-Some-part_at.part.now)) c.deref.ensures.value c.in-Some-part_at.ensures.some) c.new-bytes.ensures.items
     (done _ c.write_text.result (sym c.is_err.ensures.value ∙ c.if-is_err.false) c.write_text.ensures.ok)

@@ -6,10 +6,10 @@ use Rattle.jsonb_c.proofs.sort_key_of.Goals as goal
 
 pub returns-clause-key : goal.returns-clause-key
 returns-clause-key c =
-    let tree = view c.in_ok-value.value in
+    let tree = view c.in_ok-held.held.value in
     let appended = done _ c.write_sort_key.result (sym c.is_err.ensures.value ∙ c.if-is_err.false) c.write_sort_key.ensures.ok in
     record {
       tree = tree;
-      read = c.in_ok-value.ensures.read;
+      read = c.in_ok-held.ensures.read;
       is_key = appended ∙ ap (λ old. old ++ key_of tree) c.new-bytes.ensures.items;
     }
