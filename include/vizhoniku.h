@@ -81,7 +81,7 @@ enum vizhoniku_code {
 struct vizhoniku_refusal {
   uint32_t code;   /* of enum vizhoniku_code */
   uint32_t which;  /* 1 for the only or the first text, 2 for the second */
-    size_t position; /* a number of bytes; which byte it means depends on the code, and it may pass the end */
+    size_t position; /* a number of bytes: which byte it means depends on the code, and it may pass the end */
 };
 
 /* Checks whether the text is a document of the mode. The status is never VIZHONIKU_TOO_SHORT. */
