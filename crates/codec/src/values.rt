@@ -39,12 +39,12 @@ impl fmt::Display for Refusal {
     }
 }
 
-/// Appends the value's frame. After a refusal the buffer holds what it held.
+/// Appends the value's frame. After an error the buffer holds what it held.
 ///
 /// # Errors
 ///
-/// `TooLong` where the text has 2^32 bytes or more, and what [`Value::write_text`] refuses: `UnexpectedType` where a
-/// date or a time stands in the value, and `OutOfMemory` only where `out` has no room for the whole frame.
+/// `TooLong` where the text has 2^32 bytes or more, and the errors of [`Value::write_text`]: `UnexpectedType` where the
+/// value holds a date or a time, and `OutOfMemory` only where `out` lacks the capacity for the whole frame.
 pub fn encode(value: &Value, out: &mut Vec<u8>) -> Result<(), Refusal>
     ensures ok { OnOk result (AppendsFrame (view value.now) out.old.items out.new.items) }
     // What was appended, and any bytes after it, begin with the frame of an equal value with the same text.
@@ -76,7 +76,7 @@ pub fn encode(value: &Value, out: &mut Vec<u8>) -> Result<(), Refusal>
 ///
 /// # Errors
 ///
-/// `CutShort` where no whole frame stands there, and what [`jsonb::parse_value`] refuses of the frame's text.
+/// `CutShort` where there is no whole frame, and the errors of [`jsonb::parse_value`] for the frame's text.
 pub fn decode(alloc: Global, bytes: &[u8]) -> Result<(Value<'_>, &[u8]), Refusal>
     ensures ok { IfOk result (λ r. IsFrame bytes.now (view r.0) r.1.now) }
     ensures only { IfOk result (λ r. (t : Tree) → (rest : List ℕ) → IsFrame bytes.now t rest

@@ -18,16 +18,16 @@ use std::fmt;
 #[cfg(test)]
 mod tests;
 
-/// What a server is told by its file. Keys that aren't settings are passed over.
+/// The settings of a server. Keys that aren't settings are ignored.
 #[derive(Debug, Drop)]
 pub struct Config {
-    /// A text, `localhost` where none is given.
+    /// A text, `localhost` by default.
     pub host: String,
-    /// A whole number below 2^16, 8080 where none is given.
+    /// An integer below 2^16, 8080 by default.
     pub port: u16,
-    /// A whole number below 2^64, 4 where none is given.
+    /// An integer below 2^64, 4 by default.
     pub workers: u64,
-    /// A truth value, false where none is given.
+    /// A boolean, false by default.
     pub verbose: bool,
 }
 
@@ -57,7 +57,7 @@ impl Setting {
 /// Why a text gives no settings.
 #[derive(Debug, Drop)]
 pub enum Refusal {
-    /// The text is refused; the line and the column are those of the byte to show.
+    /// The text is rejected; the line and the column are those of the byte to show.
     NoDocument(Error, usize, usize),
     /// The document is no object.
     NoObject,
@@ -235,7 +235,7 @@ fn string<'m>(value: &'m JsonAst) -> Option<&'m str>
     }
 }
 
-// The whole number below 2^64 that the value is.
+// The integer below 2^64 that the value is.
 fn whole_number(value: &JsonAst) -> Option<u64>
     ensures { (n : ℕ) → (result ≡ Some n) ↔ (IsWholeNumber (ast_view value.now) (pos n) × (n < 2 ^ 64)) }
 {
@@ -245,14 +245,14 @@ fn whole_number(value: &JsonAst) -> Option<u64>
     }
 }
 
-// The whole number below 2^16 that the value is.
+// The integer below 2^16 that the value is.
 fn small_number(value: &JsonAst) -> Option<u16>
     ensures { (n : ℕ) → (result ≡ Some n) ↔ (IsWholeNumber (ast_view value.now) (pos n) × (n < 2 ^ 16)) }
 {
     u16::try_from(whole_number(value)?).ok()
 }
 
-// The truth value that the value is.
+// The boolean that the value is.
 fn truth_value(value: &JsonAst) -> Option<bool>
     ensures { result ≡ as_boolean (ast_view value.now) }
 {

@@ -1,4 +1,4 @@
-//! Laws of the grammar, which hold whatever is read. Each is the contract of a function that does nothing.
+//! Laws of the grammar. Each is the contract of a function that does nothing.
 
 ghost use Rattle.std.specs.Prelude.{◌≡◌, ◌≢◌, ◌++◌, ℕ, List, [], None};
 ghost use Rattle.jsonb_value.specs.Code.{Code};
@@ -9,7 +9,7 @@ ghost use Rattle.jsonb_value.specs.Mode.{Mode};
 ghost use Rattle.jsonb_value.specs.Accessors.{as_number};
 ghost use Rattle.jsonb_value.specs.Tree.{Tree};
 
-/// A text is a document of at most one tree. Where one spelling of a value begins another, longer one, both are
+/// A text is a document of at most one tree. Where the text of a value is a proper prefix of that of another, both are
 /// numbers.
 pub fn one_reading()
     ensures tree { (mode : Mode) → (bytes : List ℕ) → (t u : Tree) → IsDocument mode bytes t
@@ -20,7 +20,7 @@ pub fn one_reading()
         → Derives mode n bytes u → t ≡ u }
 {}
 
-/// The body of a string means at most one text, and bytes that have a fault are the body of none.
+/// The contents of a string decode to at most one text, and malformed contents to none.
 pub fn one_decoding()
     ensures text { (mode : Mode) → (bytes s t : List ℕ) → Decodes mode bytes s → Decodes mode bytes t → s ≡ t }
     ensures fault { (mode : Mode) → (bytes : List ℕ) → (code : Code) → (read : ℕ) → (text : List ℕ)

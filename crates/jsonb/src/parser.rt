@@ -1,4 +1,4 @@
-//! The reader of JSON texts: from left to right, with the first fault that it meets.
+//! The parsers of JSON texts: from left to right, up to the first fault.
 
 ghost use Rattle.std.specs.Prelude.{◌≡◌, ◌≢◌, ◌+◌, ◌<◌, ◌≤◌, [], ◌∷◌, drop, MatchOption, MatchBool, IfOk, IfErr, Err};
 ghost use Rattle.jsonb_value.specs.Code.{code_of};
@@ -37,7 +37,7 @@ use jsonb_value::error::{Error, ParseErrorCode, Result};
 use jsonb_value::value::Value;
 use std::alloc::Global;
 
-/// Reads a whole text of standard JSON.
+/// Parses a whole text of standard JSON.
 ///
 /// # Errors
 ///
@@ -73,7 +73,7 @@ pub fn parse_value_standard_mode(alloc: Global, buf: &[u8]) -> Result<Value<'_>>
     JsonAst::parse(alloc, buf, Mode::Standard)?.into_value(alloc)
 }
 
-/// Reads a whole text of extended JSON.
+/// Parses a whole text of extended JSON.
 ///
 /// # Errors
 ///

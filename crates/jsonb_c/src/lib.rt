@@ -1,9 +1,9 @@
-//! The library for C: it checks a text, writes the text of its value or of a part of it, compares two texts, and tells
-//! what is wrong with one. `include/vizhoniku.h` declares it.
+//! The library for C: it checks a text, writes its value or a part of it, compares two texts, and reports errors.
+//! `include/vizhoniku.h` declares it.
 //!
 //! From C, `alloc` is passed as nothing, and a slice as a pointer and a length. No pointer may be null: the code in
-//! `packaging/empty.c` stands before these functions, and passes on another pointer of an empty slice. What a `&mut`
-//! points to lies apart from all else that is passed. Each call writes to each `&mut` but the buffer.
+//! `packaging/empty.c` calls these functions, with another pointer for an empty slice. What a `&mut` points to doesn't
+//! overlap any other argument. Each call writes to each `&mut` but the buffer.
 #![tactic(auto)]
 
 ghost use Rattle.std.specs.Prelude.{◌≡◌, ◌≢◌, ◌↔◌, ◌⊎◌, ℕ, List, ◌<◌, ◌≤◌, ◌++◌, min, length, drop, pos, string_bytes, MatchOption, IfOk, IfErr, IfNone, IfSome, Err};
@@ -27,7 +27,7 @@ use jsonb_pointer::{part_at, read_keys};
 use std::alloc::Global;
 use std::cmp::Ordering;
 
-/// Everything went well.
+/// Success.
 pub const ACCEPTED: u32 = 0;
 
 /// A text is no document of the mode.
@@ -42,14 +42,14 @@ pub const UNKNOWN_MODE: u32 = 3;
 /// The buffer is shorter than the text.
 pub const TOO_SHORT: u32 = 4;
 
-/// Nothing stands at the path.
+/// The document has no part at the path.
 pub const NO_PART: u32 = 5;
 
-/// The path isn't spelled as RFC 6901 has it.
+/// The path isn't a JSON Pointer (RFC 6901).
 pub const NO_PATH: u32 = 6;
 
-/// What is told of a text that is refused: the number of the code, which of the texts it is, from 1 on, and the
-/// position. All are 0 where no text is refused.
+/// What is reported of a rejected text: the number of the code, which of the texts it is, from 1 on, and the number of
+/// the error. All are 0 where no text is rejected.
 #[repr(C)]
 #[derive(Clone, Copy)]
 pub struct Refusal {
@@ -58,8 +58,8 @@ pub struct Refusal {
     pub position: usize,
 }
 
-/// The place to show of a refusal: the index of a byte, or the text's length, and the line and the column of that, both
-/// counted from 1, the column in bytes.
+/// The byte to show of an error: its offset, or the text's length, and the line and the column of that, both counted
+/// from 1, the column in bytes.
 #[repr(C)]
 #[derive(Clone, Copy)]
 pub struct Place {
@@ -82,8 +82,8 @@ enum Refused {
     UnknownMode,
 }
 
-/// Tells whether the text is a document of the mode, 0 for standard or 1 for extended. What is wrong with a text that
-/// is none is told in `refusal`.
+/// Checks whether the text is a document of the mode, 0 for standard or 1 for extended. What is wrong with a text that
+/// is none is in `refusal`.
 #[unsafe(no_mangle)]
 pub extern "C" fn vizhoniku_check(
     alloc: Global,
@@ -112,8 +112,8 @@ pub extern "C" fn vizhoniku_check(
     }
 }
 
-/// Writes the text of the text's value to the front of `out`, and its size to `size`. Where `out` is too short, it
-/// stays as it is, and `size` is what is needed.
+/// Writes the text's value as text to the start of `out`, and its size to `size`. Where `out` is too short, it stays as
+/// it is, and `size` is what is needed.
 #[unsafe(no_mangle)]
 pub extern "C" fn vizhoniku_text(
     alloc: Global,
@@ -154,7 +154,7 @@ pub extern "C" fn vizhoniku_text(
     }
 }
 
-/// Writes the sort key of the text's value to the front of `out`, and its size to `size`. Where `out` is too short, it
+/// Writes the sort key of the text's value to the start of `out`, and its size to `size`. Where `out` is too short, it
 /// stays as it is, and `size` is what is needed.
 #[unsafe(no_mangle)]
 pub extern "C" fn vizhoniku_sort_key(
@@ -196,8 +196,8 @@ pub extern "C" fn vizhoniku_sort_key(
     }
 }
 
-/// Writes the text and the sort key of the text's value, of one reading: each to the front of a buffer of its own, with
-/// its size. Where one of the buffers is too short, both stay as they are, and the sizes are what is needed.
+/// Writes the text's value as text and as sort key, parsing the text once: each to the start of a buffer of its own,
+/// with its size. Where one of the buffers is too short, both stay as they are, and the sizes are what is needed.
 #[unsafe(no_mangle)]
 pub extern "C" fn vizhoniku_text_and_key(
     alloc: Global,
@@ -285,8 +285,8 @@ pub extern "C" fn vizhoniku_compare(
     }
 }
 
-/// Writes the text of the part of the text's value that stands at the path, as RFC 6901 spells it, to the front of
-/// `out`, and its size to `size`. Where `out` is too short, it stays as it is, and `size` is what is needed.
+/// Writes the part of the text's value at the path, a JSON Pointer (RFC 6901), to the start of `out`, and its size to
+/// `size`. Where `out` is too short, it stays as it is, and `size` is what is needed.
 #[unsafe(no_mangle)]
 pub extern "C" fn vizhoniku_part(
     alloc: Global,
@@ -391,7 +391,7 @@ pub extern "C" fn vizhoniku_version() -> u32
     VERSION
 }
 
-/// Tells the place to show of a refusal of this text.
+/// Returns the byte to show of a refusal of this text.
 #[unsafe(no_mangle)]
 pub extern "C" fn vizhoniku_place(alloc: Global, text: &[u8], refusal: &Refusal, place: &mut Place)
     // The index is that of the code with the number, and where there is none the position, within the text.
@@ -447,9 +447,8 @@ fn code_numbered(alloc: Global, number: u32) -> Option<ParseErrorCode>
     Some(code)
 }
 
-/// Writes what is wrong with a text that is no document in words, with the position, to the front of `out`, and the
-/// size of the words to `size`: what the program prints. Where `out` is too short, it stays as it is, and `size` is
-/// what is needed.
+/// Writes the error message of a text that is no document to the start of `out`, and its size to `size`: what the
+/// program prints. Where `out` is too short, it stays as it is, and `size` is what is needed.
 #[unsafe(no_mangle)]
 pub extern "C" fn vizhoniku_message(
     alloc: Global,

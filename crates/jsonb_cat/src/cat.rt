@@ -23,7 +23,7 @@ const MAX_READS: u32 = 1 << 20;
 // How many bytes are free at least when the input is read.
 const MIN_ROOM: usize = 4096;
 
-/// The mode that the program's words choose, or `None` where they are none that it knows.
+/// The mode of the program's arguments, or `None` where it doesn't take them.
 pub fn choose_mode(words: &[String]) -> Option<Mode>
     ensures { MatchOption result ((mode : GrammarMode) → WordsChoose (map string_bytes words.now) mode → ⊥)
         (λ mode. WordsChoose (map string_bytes words.now) (mode_of mode)) }
@@ -133,8 +133,8 @@ fn put<W: Write>(out: &mut W, bytes: &[u8]) -> io::Result<()>
     out.flush()
 }
 
-/// Runs the program with these words, its own name not among them, over these streams, and answers its exit status:
-/// 0 where the value's text was written, 1 where the input was refused or a stream failed, 2 where the words are wrong.
+/// Runs the program with these arguments, without its own name, over these streams, and returns its exit status: 0
+/// where the value was written, 1 where the input was rejected or a stream failed, 2 where the arguments are wrong.
 pub fn run<R: Read, W: Write, E: Write>(
     alloc: Global,
     words: &[String],

@@ -55,7 +55,7 @@ fn are_same_strings(left: &CowStr, right: &CowStr) -> bool {
     }
 }
 
-// Whether the two are one variant, with one scale and whole number.
+// Whether the two are one variant, with one scale and integer.
 fn are_same_numbers(left: &Number, right: &Number) -> bool {
     match (left, right) {
         (Number::Int64(m), Number::Int64(n)) => m == n,

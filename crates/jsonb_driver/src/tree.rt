@@ -1,6 +1,6 @@
-//! What a reader gave, in one word with no blanks: `null`, `true`, `false`; a number as its variant, scale and whole
-//! number, `Int64(-5)`, `Decimal64(2,150)`; a string as `plain:` or `escaped:` (borrowed or owned) and its bytes in
-//! hexadecimal; `[item,item]`; `{key@index=value,key@index=value}`, each key as a string, with its member's index.
+//! A parsed tree, without whitespace: `null`, `true`, `false`; a number as its variant, scale and integer, `Int64(-5)`,
+//! `Decimal64(2,150)`; a string as `plain:` or `escaped:` (borrowed or owned) and its bytes in hexadecimal;
+//! `[item,item]`; `{key@index=value,key@index=value}`, each key as a string, with its member's index.
 
 use jsonb::{JsonAst, Number};
 use std::alloc::{AllocError, Global};
@@ -25,7 +25,7 @@ fn put(alloc: Global, out: &mut String, ast: &JsonAst<'_>) -> Result<(), AllocEr
     }
 }
 
-/// Puts the number's variant, scale and whole number.
+/// Puts the number's variant, scale and integer.
 pub fn put_number(out: &mut String, number: &Number) -> Result<(), AllocError> {
     match number {
         Number::Int64(n) => write!(out, "Int64({n})"),

@@ -1,4 +1,4 @@
-//! Making a value by hand.
+//! Making a value.
 
 ghost use Rattle.std.specs.Prelude.{◌≡◌, pos, [], ◌∷◌, IfOk};
 ghost use Rattle.jsonb.specs.Tree.{array, number, uint64, trees_of};

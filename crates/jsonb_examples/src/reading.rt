@@ -1,4 +1,4 @@
-//! Reading a text, and telling why it is refused.
+//! Parsing a text, and reporting why it is rejected.
 
 ghost use Rattle.std.specs.Prelude.{◌≡◌, ◌≢◌, false, true, IfOk, IfErr};
 ghost use Rattle.jsonb.specs.Grammar.{IsDocument, IsNoDocument};

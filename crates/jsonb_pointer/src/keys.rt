@@ -1,4 +1,4 @@
-//! The keys of a path (RFC 6901): each stands after a slash, with `~0` for `~` and `~1` for `/`.
+//! The keys of a path (RFC 6901): each after a slash, with `~0` for `~` and `~1` for `/`.
 
 ghost use Rattle.std.specs.Prelude.{◌≡◌, ◌<◌, ◌≤◌, ℕ, List, ◌++◌, length, map, string_bytes, option_map, None, IfOk, IfErr, IfSome, IfNone};
 ghost use Rattle.jsonb_pointer.specs.Path.{spelled_key, IsPath, StartsKey};
@@ -9,7 +9,7 @@ use std::alloc::{AllocError, Global};
 #[cfg(test)]
 mod tests;
 
-/// The keys that the path spells, or `None` where it is no path.
+/// The keys of the path, or `None` where the bytes aren't a path.
 pub fn read_keys(alloc: Global, path: &[u8]) -> Result<Option<Vec<String>>, AllocError>
     ensures some { IfOk result (λ answer. IfSome answer (λ keys. IsPath path.now (map string_bytes keys.items))) }
     ensures only { IfOk result (λ answer. IfSome answer (λ keys. (others : List (List ℕ)) → IsPath path.now others

@@ -1,4 +1,4 @@
-//! Parts of documents at paths, in the spelling of RFC 6901 (JSON Pointer): `/a/0` is the first item of the member `a`.
+//! Parts of documents at paths of RFC 6901 (JSON Pointer): `/a/0` is the first item of the member `a`.
 #![tactic(auto)]
 
 pub mod keys;

@@ -10,12 +10,12 @@ use jsonb::{Error, Value};
 use std::alloc::{AllocError, Global};
 use std::fmt;
 
-/// Why a path and a document have no answer.
+/// Why a path and a document have no result.
 #[derive(Debug, Drop)]
 pub enum Refusal {
-    /// The path is none.
+    /// The path isn't a JSON Pointer.
     NoPath,
-    /// The document is refused.
+    /// The document is rejected.
     NoDocument(Error),
     /// Memory ran out.
     NoMemory,
@@ -48,11 +48,11 @@ impl From<AllocError> for Refusal {
 }
 
 /// The part of the value at the path, as `/a/0` is the first item of the member `a`, or `None` where there is none. The
-/// empty path is that of the whole value. Memory is taken for the keys of the path alone.
+/// empty path is that of the whole value. Only the keys of the path are allocated.
 ///
 /// # Errors
 ///
-/// `NoPath` where the bytes spell no path of RFC 6901, and `NoMemory`.
+/// `NoPath` where the bytes aren't a path of RFC 6901, and `NoMemory`.
 pub fn get<'v, 'a>(
     alloc: Global,
     value: &'v Value<'a>,

@@ -20,8 +20,8 @@ use jsonb_value::value::{Object, Value};
 use std::alloc::AllocError;
 
 /// Appends the value's text over lines: a line for each item and each member, `indent` spaces more for each array and
-/// object round it, and a space behind the colon of a member. Empty arrays and objects are `[]` and `{}`, and all else
-/// is as `Value::write_text` writes it. No line feed stands at the end. After a refusal `buf` has the same bytes as
+/// object around it, and a space after the colon of a member. Empty arrays and objects are `[]` and `{}`, and all else
+/// is as `Value::write_text` writes it. There is no line feed at the end. After an error `buf` has the same bytes as
 /// before.
 ///
 /// With an `indent` of 2, the value of `{"b":[1,2],"a":{}}` gives
@@ -38,14 +38,14 @@ use std::alloc::AllocError;
 ///
 /// # Errors
 ///
-/// `UnexpectedType` where a date or a time stands in the value at any depth: it has no text then, and that is tested
-/// first. `OutOfMemory` only where `buf` has no room for the whole text.
+/// `UnexpectedType` where the value holds a date or a time, at any depth: it has no text then, and this is checked
+/// first. `OutOfMemory` only where `buf` lacks the capacity for the whole text.
 pub fn write_text_indented(value: &Value<'_>, indent: usize, buf: &mut Vec<u8>) -> Result<()>
     ensures ok { OnOk result (buf.new.items ≡ buf.old.items ++ indented indent 0 (view value.now)) }
     ensures err { OnErr result (buf.new.items ≡ buf.old.items) }
     ensures unexpected { IsErrOf result Error.UnexpectedType ↔ (text_of (view value.now) ≡ None) }
     ensures errors { IfErr result (λ e. (e ≡ Error.UnexpectedType) ⊎ (e ≡ Error.OutOfMemory)) }
-    // Memory is refused only where the room for the whole text is missing.
+    // Memory runs out only where the capacity for the whole text is missing.
     ensures full { IsErrOf result Error.OutOfMemory
         → vec_capacity buf.old < vec_len buf.old + length (indented indent 0 (view value.now)) }
     ensures capacity { vec_capacity buf.old ≤ vec_capacity buf.new }
@@ -65,7 +65,7 @@ pub fn write_text_indented(value: &Value<'_>, indent: usize, buf: &mut Vec<u8>) 
     Ok(())
 }
 
-// What a function that appends answers. After a refusal the buffer may hold a part of the text.
+// The result of a function that appends. After an error the buffer may hold a part of the text.
 type Appended = std::result::Result<(), AllocError>;
 
 // Appends a value, whose lines begin with `margin` spaces.

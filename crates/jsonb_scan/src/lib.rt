@@ -1,4 +1,4 @@
-//! Searches in the bytes of JSON texts: where blanks, strings, keys and numbers end, and what they mean.
+//! Searches in the bytes of JSON texts: where whitespace, strings, keys and numbers end, and what they mean.
 #![tactic(auto)]
 
 pub mod line;

@@ -1,4 +1,4 @@
-//! Positions in a text as lines and columns, and the byte to show of a fault.
+//! Lines and columns of offsets, and the byte to show of an error.
 ghost use Rattle.std.specs.Prelude.{◌≡◌, ◌≤◌, length, not};
 ghost use Rattle.std.specs.List.{count_by, suffix_len};
 ghost use Rattle.jsonb_value.specs.Code.{code_of};
@@ -7,8 +7,8 @@ ghost use Rattle.jsonb_scan.specs.Line.{bytes_past, column_at, fault_index, is_l
 use jsonb_value::error::ParseErrorCode;
 use memchr::{memchr_iter, memrchr};
 
-/// The line and the column of a position, which is a number of bytes from the text's start. Lines are counted from 1,
-/// and each line feed ends one. Columns are counted from 1 too, in bytes. A position past the end counts as the end.
+/// The line and the column of an offset, in bytes from the text's start. Lines are counted from 1, and each line feed
+/// ends one. Columns are counted from 1 too, in bytes. An offset past the end counts as the end.
 pub fn line_and_column(text: &[u8], position: usize) -> (usize, usize)
     ensures line { result.0 ≡ line_at text.now position }
     ensures column { result.1 ≡ column_at text.now position }
@@ -17,9 +17,9 @@ pub fn line_and_column(text: &[u8], position: usize) -> (usize, usize)
     (line_feeds(before) + 1, last_line_len(before) + 1)
 }
 
-/// The index of the byte to show of a fault of this text, which `Error::Syntax` tells with its code and position: the
-/// wrong byte, or the last byte of the number, the string, the key or the unit that is wrong. It is the text's length
-/// where the text ends too early.
+/// The offset of the byte to show of an error of this text, from the code and the number of its `Error::Syntax`: the
+/// wrong byte, or the last byte of the faulty number, string, key or escape. It is the text's length where the text
+/// ends too early.
 pub fn fault_index(text: &[u8], code: &ParseErrorCode, position: usize) -> usize
     ensures index { result ≡ fault_index text.now (code_of code.now) position }
 {

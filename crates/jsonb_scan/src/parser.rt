@@ -10,13 +10,13 @@ pub mod number;
 pub mod string;
 mod vector;
 
-/// Which grammar a text is read by.
+/// The grammar of a text.
 #[derive(Clone, Copy, Debug, PartialEq, Eq)]
 pub enum Mode {
-    /// JSON as RFC 8259 has it, with a few more spellings of blanks and strings.
+    /// JSON as RFC 8259 has it, with more whitespace and escapes, and 64-bit integers alone as numbers.
     Standard,
-    /// Words in either case, single quotes, keys without quotes, elements that are left out, texts of blanks alone,
-    /// decimals and hexadecimals, and comments.
+    /// Literals in either case, single quotes, unquoted keys, elided elements, texts of whitespace alone, decimals and
+    /// hexadecimals, and comments.
     Extended,
 }
 

@@ -1,4 +1,4 @@
-//! Why a call is refused.
+//! Why a call failed.
 
 ghost use Rattle.std.specs.Prelude.{◌≡◌, ◌↔◌, IsTrue};
 ghost use Rattle.jsonb_value.specs.Code.{code_of};
@@ -11,7 +11,7 @@ use std::hash::Hash;
 use std::str::Utf8Error;
 use std::{fmt, io};
 
-/// What a call that can be refused answers.
+/// The result of a call that can fail.
 pub type Result<T> = std::result::Result<T, Error>;
 
 /// What is wrong with a text.
@@ -40,7 +40,7 @@ pub enum ParseErrorCode {
     DepthLimitExceeded,
 }
 
-/// Why a call is refused.
+/// Why a call failed.
 #[derive(Debug, PartialEq, Eq, Hash, Drop)]
 pub enum Error {
     InvalidUtf8,
@@ -61,13 +61,12 @@ pub enum Error {
     ObjectDuplicateKey,
     UnexpectedType,
     Message(String),
-    /// What is wrong with a text, and a position, counted in bytes from its start. `ExpectedSomeValue`,
-    /// `ExpectedSomeIdent`, `UnexpectedTrailingCharacters`, `ObjectKeyInvalidNumber` and `DepthLimitExceeded` name a
-    /// byte by its index plus 1. `ExpectedColon`, `ExpectedArrayCommaOrEnd`, `ExpectedObjectCommaOrEnd` and
-    /// `ObjectKeyInvalidCharacter` name one by its index. `InvalidEscaped`, `InvalidHex` and
-    /// `UnexpectedEndOfHexEscape` name the index after what they speak of, plus 1. The others name the index after what
-    /// they speak of, or where the reader stands, which can pass the end of the text. `docs/GRAMMAR.md` has an example
-    /// of each.
+    /// What is wrong with a text, and a number of bytes from its start. `ExpectedSomeValue`, `ExpectedSomeIdent`,
+    /// `UnexpectedTrailingCharacters`, `ObjectKeyInvalidNumber` and `DepthLimitExceeded` have the offset of a byte plus
+    /// 1. `ExpectedColon`, `ExpectedArrayCommaOrEnd`, `ExpectedObjectCommaOrEnd` and `ObjectKeyInvalidCharacter` have
+    /// the offset of a byte. `InvalidEscaped`, `InvalidHex` and `UnexpectedEndOfHexEscape` have the offset after the
+    /// faulty part, plus 1. The others have the offset after the faulty part, or the one that the parser reached, which
+    /// can pass the end of the text. `docs/GRAMMAR.md` has an example of each.
     Syntax(ParseErrorCode, usize),
     OutOfMemory,
 }

@@ -1,4 +1,4 @@
-//! The values of JSON documents: what a value is, its text, and why a text is refused.
+//! The values of JSON documents: values, their serialized form, and errors.
 #![tactic(auto)]
 
 pub mod error;

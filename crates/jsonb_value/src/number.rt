@@ -50,7 +50,7 @@ impl Number {
         }
     }
 
-    // Whether the whole number is negative, and its digits' value.
+    // Whether the integer is negative, and its digits' value.
     pub(crate) fn sign_and_magnitude(&self) -> (bool, u128)
         ensures sign { result.0 ≡ is_negative (number_view self.now).whole }
         ensures magnitude { result.1 ≡ unsigned_abs (number_view self.now).whole }

@@ -24,7 +24,7 @@ pub type Object<'a> = BTreeMap<String, Value<'a>>;
 
 /// A JSON value, or a scalar beyond JSON.
 ///
-/// It is dropped by hand, so no pattern moves a part out of it: [`Value::into_array`], [`Value::into_object`] and
+/// It has a `Drop` impl, so no pattern moves a part out of it: [`Value::into_array`], [`Value::into_object`] and
 /// [`Value::into_string`] do.
 #[derive(Debug)]
 pub enum Value<'a> {

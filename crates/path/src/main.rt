@@ -1,5 +1,5 @@
-//! Reads a JSON document from standard input, and writes the text of its part at the path that the first argument is,
-//! in the spelling of RFC 6901: `/a/0` is the first item of the member `a`.
+//! Reads a JSON document from standard input, and writes the text of its part at the path that is the first argument, a
+//! JSON Pointer (RFC 6901): `/a/0` is the first item of the member `a`.
 #![tactic(auto)]
 
 use std::alloc::Global;

@@ -1,4 +1,4 @@
-//! The index of the documents that stand on lines: their values in order, equal ones once.
+//! The index of the documents on lines: their values in order, equal ones once.
 
 ghost use Rattle.std.specs.Prelude.{OnOk, OnErr, IfOk, IfErr, ◌≡◌, ◌≢◌, ◌<◌, [], vec_len};
 ghost use Rattle.sorted_index.specs.Index.{contents, AreDocuments, IsIndexOf, AreTexts, IsIndexText, IsLineRefusal};
@@ -10,7 +10,7 @@ use std::fmt;
 /// Why lines have no index.
 #[derive(Debug, Drop)]
 pub enum Refusal {
-    /// The line with this number, counted from 1, is refused.
+    /// The line with this number, counted from 1, is rejected.
     Line(usize, Error),
     /// Memory ran out.
     NoMemory,

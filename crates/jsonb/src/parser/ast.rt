@@ -19,8 +19,8 @@ use jsonb_value::number::Number;
 use std::alloc::Global;
 use std::borrow::CowStr;
 
-/// A text that was read: its value, with strings borrowed from it where they have no escapes. A reader gives an
-/// object's members in the order of their keys; each is its key, its value and the index after the key's spelling.
+/// A parsed text: its value, with strings borrowed from it where they have no escapes. A parser returns an object's
+/// members in the order of their keys; each is its key, its value and the offset after the key.
 #[derive(Debug, Drop)]
 pub enum JsonAst<'a> {
     Null,
@@ -32,13 +32,12 @@ pub enum JsonAst<'a> {
 }
 
 impl<'a> JsonAst<'a> {
-    /// Reads a whole text.
+    /// Parses a whole text.
     ///
     /// # Errors
     ///
-    /// `Syntax` with what is wrong and a position, where the text is no document of the mode; the text is
-    /// read from the left, and the first fault that is met is told. `OutOfMemory` only where the text holds `[`, `{` or
-    /// a backslash.
+    /// `Syntax` with what is wrong and where, if the text is no document of the mode; the text is parsed from left to
+    /// right, and the first fault is reported. `OutOfMemory` only where the text holds `[`, `{` or a backslash.
     pub fn parse(alloc: Global, buf: &'a [u8], mode: Mode) -> Result<JsonAst<'a>>
         // What is read is a document, and this is its one tree.
         ensures document { IfOk result (λ v. IsDocument (mode_of mode) buf.now (ast_view v)) }

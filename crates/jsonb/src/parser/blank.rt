@@ -1,4 +1,4 @@
-//! Blanks between the parts of a text.
+//! Whitespace between the parts of a text.
 ghost use Rattle.std.specs.Prelude.{◌≡◌, ◌+◌, ◌<◌, ◌≤◌, MatchBool};
 ghost use Rattle.jsonb_scan.specs.Answer.{mode_of};
 ghost use Rattle.jsonb.specs.Parser.{rest_of, size_of, Advances};

@@ -1,4 +1,4 @@
-//! The numbers of extended texts: decimals, hexadecimals and words.
+//! The numbers of extended texts: decimals, hexadecimals, `nan` and `infinity`.
 ghost use Rattle.std.specs.Prelude.{◌≡◌, ◌≢◌, ◌+◌, ◌-◌, ◌≤◌, ◌<◌, Err, Some, None};
 ghost use Rattle.jsonb_value.specs.View.{number_view};
 ghost use Rattle.jsonb_value.specs.declared.error.Error.TheVariants.{OutOfMemory};

@@ -1,4 +1,4 @@
-//! Blanks between the parts of a text.
+//! Whitespace between the parts of a text.
 ghost use Rattle.std.specs.Prelude.{◌≡◌, ◌↔◌, ℕ, ◌+◌, ◌<◌, ◌≤◌, ◌^◌, length, slice_index, drop};
 ghost use Rattle.std.specs.Int.{bit_at};
 ghost use Rattle.jsonb_scan.specs.Answer.{mode_of};

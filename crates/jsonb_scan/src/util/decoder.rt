@@ -1,4 +1,4 @@
-//! From a string's body to the text that it means, escape by escape and run by run.
+//! Decodes the contents of a string, escape by escape and run by run.
 ghost use Rattle.std.specs.Prelude.{◌≡◌, ◌≢◌, ◌+◌, ◌*◌, ◌^◌, ◌≤◌, ◌<◌, ◌∷◌, [], length, vec_len, vec_capacity, IfOk, IfErr, OnOk, Some, None, Err, string_bytes};
 ghost use Rattle.jsonb_value.specs.Mode.{standard};
 ghost use Rattle.jsonb_value.specs.Code.{code_of};
@@ -95,7 +95,7 @@ fn decode(bytes: &[u8], mode: Mode, text: &mut Vec<u8>) -> std::result::Result<(
     Ok(())
 }
 
-/// Decodes a body of this mode, and moves the index past what was read of it.
+/// Decodes the contents of a string of this mode, and moves the offset past what was decoded.
 pub fn unescape(alloc: Global, bytes: &[u8], mode: Mode, idx: &mut usize) -> Result<String>
     requires { idx.old + length bytes.now < 2 ^ 64 }
     ensures ok { IfOk result (λ text. Decodes (mode_of mode) bytes.now (string_bytes text)) }
@@ -119,14 +119,12 @@ pub fn unescape(alloc: Global, bytes: &[u8], mode: Mode, idx: &mut usize) -> Res
     }
 }
 
-/// Decodes the body of a JSON string: what stands between its quotes. An escape is one of `\"`, `\\`, `\/`, `\b`,
+/// Decodes the contents of a JSON string: the bytes between its quotes. An escape is one of `\"`, `\\`, `\/`, `\b`,
 /// `\f`, `\n`, `\r`, `\t`, `\u` and four hexadecimal digits, or the same with the digits in braces; a high surrogate
-/// and the low one right after it are one character, and a surrogate alone is kept as it is spelled. Every other byte
-/// stands for itself. No answer depends on `len`: the room that is asked for is the length of `data`, which is always
-/// enough.
+/// and the low one right after it are one character, and a lone surrogate is kept verbatim. Every other byte means
+/// itself. No result depends on `len`: the capacity is the length of `data`, which is always enough.
 ///
-/// `idx` is moved by the length of `data` on success, and past the fault on a refusal, whose position is the index that
-/// is left.
+/// `idx` is moved by the length of `data` on success, and past the fault on an error, whose offset is the new `idx`.
 ///
 /// # Errors
 ///

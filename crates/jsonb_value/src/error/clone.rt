@@ -1,4 +1,4 @@
-//! `clone` of errors. Want of memory for a text is all that it is refused for.
+//! `clone` of errors. Its only error is an allocation failure.
 ghost use Rattle.std.specs.Prelude.{◌≡◌};
 ghost use Rattle.jsonb_value.specs.Code.{code_of, NamesNoKey};
 ghost use Rattle.jsonb_value.specs.Error.ErrorView.{error_view, HoldsNoText};

@@ -10,7 +10,7 @@ ghost use Rattle.jsonb_value.specs.declared.extension.TimestampTz.{TimestampTz};
 
 use super::{Date, ExtensionValue, Interval, Timestamp, TimestampTz};
 
-/// A clone is never refused, and it is the same value.
+/// A clone never fails, and it is the same value.
 pub fn extension_clones_are_the_same<'a>()
     ensures date { (a b : Date) → ⟦<Date as Clone>⟧.is_infallible a × (⟦<Date as Clone>⟧.is_clone a b → b ≡ a) }
     ensures timestamp { (a b : Timestamp) → ⟦<Timestamp as Clone>⟧.is_infallible a

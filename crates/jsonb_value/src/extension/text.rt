@@ -178,13 +178,13 @@ pub(crate) fn append_binary(bytes: &[u8], buf: &mut Vec<u8>) -> std::result::Res
 }
 
 impl ExtensionValue<'_> {
-    /// Appends the text of binary data or of an interval, without quotes. After a refusal `buf` has the same bytes as
+    /// Appends the text of binary data or of an interval, without quotes. After an error `buf` has the same bytes as
     /// before.
     ///
     /// # Errors
     ///
-    /// `UnexpectedType` for a date or a time, which has no text. `OutOfMemory` only where `buf` has no room for the
-    /// whole text.
+    /// `UnexpectedType` for a date or a time, which has no text. `OutOfMemory` only where `buf` lacks the capacity for
+    /// the whole text.
     pub fn write_text(&self, buf: &mut Vec<u8>) -> Result<()>
         ensures ok { OnOk result
             (AppendsExtensionText (extension_view self.now) buf.old.items buf.new.items) }
@@ -192,7 +192,7 @@ impl ExtensionValue<'_> {
         ensures unexpected { IsErrOf result Error.UnexpectedType
             ↔ (extension_text (extension_view self.now) ≡ None) }
         ensures errors { IfErr result (λ e. (e ≡ Error.UnexpectedType) ⊎ (e ≡ Error.OutOfMemory)) }
-        // Memory is refused only where the room for the whole text is missing.
+        // Memory runs out only where the capacity for the whole text is missing.
         ensures full { IsErrOf result Error.OutOfMemory
             → IfSome (extension_text (extension_view self.now))
             (λ bytes. vec_capacity buf.old < vec_len buf.old + length bytes) }

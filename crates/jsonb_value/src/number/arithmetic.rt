@@ -1,4 +1,4 @@
-//! Arithmetic of 64-bit integers, exact or refused.
+//! Arithmetic of 64-bit integers, exact or an error.
 ghost use Rattle.std.specs.Prelude.{◌≡◌, ℤ, Some, None, IfSome, IfNone, FitsSigned};
 ghost use Rattle.std.specs.Int.{w128};
 ghost use Rattle.std.specs.Option.{SomeIff};

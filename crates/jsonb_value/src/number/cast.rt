@@ -1,4 +1,4 @@
-//! Numbers as whole numbers.
+//! Numbers as integers.
 ghost use Rattle.std.specs.Prelude.{◌≡◌, ℕ, ℤ, ◌+◌, ◌*◌, ◌^◌, ◌<◌, ◌≤◌, ◌↔◌, Some, pos, false, IsSome, IfSome, IfNone, FitsSigned};
 ghost use Rattle.std.specs.Int.{w64};
 ghost use Rattle.jsonb_value.specs.Number.Cast.{HasValue, HasNearest, IsRounded};
@@ -15,7 +15,7 @@ fn power_of_ten(scale: u8) -> Option<u128>
     10u128.checked_pow(u32::from(scale))
 }
 
-// magnitude / 10^scale, where that is a whole number.
+// magnitude / 10^scale, where that is an integer.
 fn exact_quotient(magnitude: u128, scale: u8) -> Option<u128>
     ensures { (k : ℕ) → (result ≡ Some k) ↔ (magnitude ≡ k * 10 ^ scale) }
 {
@@ -27,7 +27,7 @@ fn exact_quotient(magnitude: u128, scale: u8) -> Option<u128>
     }
 }
 
-// magnitude / 10^scale as a whole number, with halves rounded up.
+// magnitude / 10^scale as an integer, with halves rounded up.
 fn rounded_quotient(magnitude: u128, scale: u8) -> u128
     requires { magnitude ≤ 2 ^ 127 }
     ensures { IsRounded scale magnitude result }
@@ -42,7 +42,7 @@ fn rounded_quotient(magnitude: u128, scale: u8) -> u128
     }
 }
 
-// The whole number with this sign.
+// The integer with this sign.
 fn with_sign(negative: bool, magnitude: u128) -> i128
     requires at_most { magnitude ≤ 2 ^ 127 }
     requires positive { negative ≡ false → magnitude < 2 ^ 127 }
@@ -84,7 +84,7 @@ impl Number {
         u64::try_from(self.as_i128()?).ok()
     }
 
-    /// The nearest whole number; a half is rounded away from zero.
+    /// The nearest integer; half is rounded away from zero.
     pub fn to_i128(&self) -> Option<i128>
         ensures some { IsSome result }
         ensures nearest { (n : ℤ) → (result ≡ Some n)
@@ -94,7 +94,7 @@ impl Number {
         Some(with_sign(negative, rounded_quotient(magnitude, self.scale())))
     }
 
-    /// The nearest whole number, where it fits; a half is rounded away from zero.
+    /// The nearest integer, where it fits; half is rounded away from zero.
     pub fn to_i64(&self) -> Option<i64>
         ensures { (n : ℤ) → (result ≡ Some n)
             ↔ (HasNearest (number_view self.now) n × FitsSigned w64 n) }
@@ -102,7 +102,7 @@ impl Number {
         i64::try_from(self.to_i128()?).ok()
     }
 
-    /// The nearest whole number, where it fits; a half is rounded away from zero.
+    /// The nearest integer, where it fits; half is rounded away from zero.
     pub fn to_u64(&self) -> Option<u64>
         ensures { (n : ℕ) → (result ≡ Some n)
             ↔ (HasNearest (number_view self.now) (pos n) × (n < 2 ^ 64)) }

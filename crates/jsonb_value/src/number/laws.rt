@@ -13,7 +13,7 @@ ghost use Rattle.jsonb_value.specs.declared.number.Number.TheVariants.{Int64, UI
 
 use super::{Decimal64, Decimal128, Number};
 
-/// A whole number is the nearest whole number of itself.
+/// An integer is the integer nearest to itself.
 pub fn exact_casts_are_nearest()
     ensures { (x : Num) → (n : ℤ) → HasValue x n → HasNearest x n }
 {}
@@ -24,13 +24,12 @@ pub fn integer_texts_read_back()
     ensures unsigned { (n : ℕ) → n < 2 ^ 64 → ReadsBack (number_view (UInt64 n)) }
 {}
 
-/// What `{}` writes of a number with at most 38 digits is an extended decimal text of the same
-/// scale and whole number.
+/// What `{}` writes of a number with at most 38 digits is an extended decimal text of the same scale and integer.
 pub fn decimal_texts_read_back()
     ensures { (x : Num) → HasFewDigits x → ReadsBackAsDecimal x }
 {}
 
-/// A clone is never refused, and it is the same number in the same form.
+/// A clone never fails, and it is the same number in the same form.
 pub fn number_clones_are_the_same()
     ensures decimal64 { (a b : Decimal64) → ⟦<Decimal64 as Clone>⟧.is_infallible a
         × (⟦<Decimal64 as Clone>⟧.is_clone a b → b ≡ a) }

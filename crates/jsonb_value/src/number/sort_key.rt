@@ -1,4 +1,4 @@
-//! The sort key of a number: its sign, the place of its first digit, and its digits.
+//! The sort key of a number: its sign, its exponent, and its digits.
 ghost use Rattle.std.specs.Prelude.{◌≡◌, ◌+◌, ◌*◌, ◌/◌, ◌%◌, ◌^◌, ◌<◌, ◌≤◌, ◌++◌, ◌↔◌, ◌-◌, ◌∷◌, [], length, map, drop, OnOk, OnErr, vec_len};
 ghost use Rattle.std.specs.Vec.{vec_capacity};
 ghost use Rattle.jsonb_value.specs.Proper.{IsProperNumber};
@@ -9,7 +9,7 @@ ghost use Rattle.jsonb_value.specs.View.{number_view};
 use super::Number;
 use std::alloc::AllocError;
 
-// What a function that appends answers. After a refusal the buffer may hold a part of the key.
+// The result of a function that appends. After an error the buffer may hold a part of the key.
 type Appended = Result<(), AllocError>;
 
 impl Number {

@@ -23,7 +23,7 @@ struct TextParts<'a> {
 }
 
 impl<'a> TextParts<'a> {
-    // The text of a whole number, which has no point.
+    // The text of an integer, which has no point.
     fn whole(digits: &'a str) -> TextParts<'a>
         ensures { joined result ≡ digits.now }
     {
@@ -77,7 +77,7 @@ fn unsigned_text(n: u64, buffer: &mut Buffer) -> &str
     buffer.format(n)
 }
 
-// The pieces of a decimal, from its sign and the digits of its whole number.
+// The pieces of a decimal, from its sign and the digits of its integer.
 fn decimal_parts(scale: u8, negative: bool, digits: &str) -> TextParts<'_>
     requires ascii { IsAscii digits.now }
     requires some_digit { 0 < length digits.now }

@@ -128,14 +128,14 @@ impl<'a> Value<'a> {
         }
     }
 
-    /// Whether this is a truth value.
+    /// Whether this is a boolean.
     pub fn is_boolean(&self) -> bool
         ensures { result ≡ is_some (as_boolean (view self.now)) }
     {
         self.as_bool().is_some()
     }
 
-    /// The truth value, if this is one.
+    /// The boolean, if this is one.
     pub fn as_bool(&self) -> Option<bool>
         ensures { result ≡ as_boolean (view self.now) }
     {
@@ -298,8 +298,8 @@ impl<'a> Value<'a> {
         rank(self) == rank(other)
     }
 
-    /// Of an object an array of its keys, as strings of their own in the order of the keys. Any other
-    /// value has none, and takes no memory.
+    /// Of an object an array of its keys, as strings of their own in the order of the keys. Any other value has none,
+    /// and allocates nothing.
     pub fn object_keys(&self, alloc: Global) -> Result<Option<Value<'a>>>
         ensures ok { IfOk result (λ keys. option_map view keys
             ≡ option_map (λ ms. array (key_trees ms)) (as_object (view self.now))) }

@@ -1,4 +1,4 @@
-//! Values of Rust's own types, and of numbers, items and members. None takes memory: what owns its memory is moved.
+//! Values of Rust's own types, and of numbers, items and members. None allocates: what owns its memory is moved.
 
 use super::{Object, Value};
 use crate::number::Number;

@@ -48,9 +48,9 @@ impl Ord for Value<'_> {
 
     ghost matches_eq = { λ v w. refl };
 
-    /// By kind, upwards: binary data, dates, times without and with a zone, intervals, truth values, numbers,
-    /// strings, objects, arrays, null. In a kind by exact content: numbers by value, strings by bytes, arrays by
-    /// their items, and objects by their members in the order of their keys.
+    /// By kind, upwards: binary data, dates, times without and with a zone, intervals, booleans, numbers, strings,
+    /// objects, arrays, null. In a kind by exact content: numbers by value, strings by bytes, arrays by their items,
+    /// and objects by their members in the order of their keys.
     fn cmp(&self, other: &Self) -> Ordering {
         compare(self, other, MANY_OBJECTS)
     }

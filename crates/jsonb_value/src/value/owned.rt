@@ -14,13 +14,13 @@ use std::alloc::{AllocError, Global};
 use std::borrow::CowStr;
 
 impl<'a> Value<'a> {
-    /// A copy that borrows nothing, so that it can outlive the text that this was read from: each string owns its
-    /// text. It has the lifetime that the caller needs, `'static` too.
+    /// A copy that borrows nothing, so that it can outlive the text that this was parsed from: each string owns its
+    /// bytes. It has the lifetime that the caller needs, `'static` too.
     ///
     /// # Errors
     ///
-    /// `UnexpectedType` only where binary data, which is always borrowed, stands in the value at any depth.
-    /// `OutOfMemory` only of a string, an array or an object.
+    /// `UnexpectedType` only where the value holds binary data, which is always borrowed, at any depth. `OutOfMemory`
+    /// only of a string, an array or an object.
     pub fn to_owned_value<'b>(&self, alloc: Global) -> Result<Value<'b>>
         ensures ok { IfOk result (λ v. view v ≡ owned (view self.now)) }
         ensures binary { IfOk result (λ _. holds_binary (view self.now) ≡ false) }

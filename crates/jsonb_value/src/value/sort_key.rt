@@ -1,4 +1,4 @@
-//! Sort keys: bytes that compare as the values that they stand for.
+//! Sort keys: bytes that compare as the values do.
 ghost use Rattle.std.specs.Prelude.{ℕ, List, ◌≡◌, ◌↔◌, ◌+◌, ◌<◌, ◌≤◌, ◌++◌, ◌∷◌, [], length, take, IfErr, OnOk, OnErr, vec_len, string_bytes, IsTrue};
 ghost use Rattle.std.specs.List.{flat_map};
 ghost use Rattle.std.specs.Ordering.{ordering_then};
@@ -15,8 +15,8 @@ use crate::error::{Error, Result};
 use memchr::memchr;
 use std::alloc::AllocError;
 
-/// Keys compare as the values do, byte by byte; they are equal exactly where the values are; none begins another; and
-/// so keys one after the other compare as tuples of the values.
+/// Keys compare as the values do, byte by byte; they are equal exactly where the values are; none is a prefix of
+/// another; and so concatenated keys compare as tuples of the values.
 pub fn sort_keys_order()
     ensures order { (t u : Tree) → IsBounded t → IsBounded u
         → bytes_cmp (key_of t) (key_of u) ≡ tree_cmp t u }
@@ -27,16 +27,16 @@ pub fn sort_keys_order()
         → bytes_cmp (key_of t ++ x) (key_of u ++ y) ≡ ordering_then (tree_cmp t u) (bytes_cmp x y) }
 {}
 
-// What a function that appends answers. After a refusal the buffer may hold a part of the key.
+// The result of a function that appends. After an error the buffer may hold a part of the key.
 type Appended = std::result::Result<(), AllocError>;
 
 impl Value<'_> {
-    /// Appends the value's sort key: bytes whose order is the order of values. After a refusal `buf` has the same bytes
+    /// Appends the value's sort key: bytes whose order is the order of values. After an error `buf` has the same bytes
     /// as before.
     ///
     /// # Errors
     ///
-    /// `OutOfMemory` only where `buf` has no room for the whole key.
+    /// `OutOfMemory` only where `buf` lacks the capacity for the whole key.
     pub fn write_sort_key(&self, buf: &mut Vec<u8>) -> Result<()>
         ensures ok { OnOk result (buf.new.items ≡ buf.old.items ++ key_of (view self.now)) }
         ensures err { OnErr result (buf.new.items ≡ buf.old.items) }
@@ -227,7 +227,7 @@ fn append_byte(byte: u8, buf: &mut Vec<u8>) -> Appended
     }
 }
 
-// The bytes of a whole number of 32 bits.
+// The bytes of an integer of 32 bits.
 fn key_of_32_bits(value: i32) -> [u8; 4]
     ensures { result ≡ key_of_32_bits value }
 {
@@ -243,7 +243,7 @@ fn key_of_64_bits(value: i64) -> [u8; 8]
     moved.to_be_bytes()
 }
 
-// Appends the kind and a whole number.
+// Appends the kind and an integer.
 fn append_32_bits(kind: u8, value: i32, buf: &mut Vec<u8>) -> Appended
     ensures ok { OnOk result (buf.new.items ≡ buf.old.items ++ kind ∷ key_of_32_bits value) }
     ensures kept { Extends buf.old.items buf.new.items }

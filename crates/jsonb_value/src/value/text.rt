@@ -1,4 +1,4 @@
-//! The text of a value: JSON with no blanks.
+//! The serialized form of a value: JSON without whitespace.
 ghost use Rattle.std.specs.Prelude.{ℕ, List, ◌≡◌, ◌≢◌, ◌↔◌, ◌⊎◌, ◌+◌, ◌<◌, ◌≤◌, ◌++◌, ◌∷◌, [], ◌==◌, if◌then◌else◌, length, take, Some, None, IfErr, IfSome, IsErrOf, OnOk, OnErr, vec_len, string_bytes};
 ghost use Rattle.std.specs.Char.{digit_char};
 ghost use Rattle.std.specs.Int.{w64, trailing_zeros};
@@ -26,36 +26,36 @@ use crate::extension::text::append_binary;
 use std::alloc::AllocError;
 use std::simd::prelude::*;
 
-/// A law: what is written of a string reads back as the string, in each mode.
+/// A law: a written string is parsed as the same string, in each mode.
 pub fn string_texts_read_back()
     ensures { (mode : Mode) → (text : List ℕ) → IsUtf8 text → StringReadsBack mode text }
 {}
 
-// What a function that appends answers. After a refusal the buffer may hold a part of the text.
+// The result of a function that appends. After an error the buffer may hold a part of the text.
 type Appended = std::result::Result<(), AllocError>;
 
 impl Value<'_> {
-    /// Whether the value has a text, as it has unless a date or a time stands in it at any depth.
+    /// Whether the value has a serialized form: it has one unless it holds a date or a time, at any depth.
     pub fn has_text(&self) -> bool
         ensures { result ≡ has_text (view self.now) }
     {
         has_text(self)
     }
 
-    /// Appends the value's text: JSON with no blanks, members in the order of their keys, binary data
-    /// and intervals as strings. After a refusal `buf` has the same bytes as before.
+    /// Appends the value's serialized form: JSON without whitespace, members in the order of their keys, binary data
+    /// and intervals as strings. After an error `buf` has the same bytes as before.
     ///
     /// # Errors
     ///
-    /// `UnexpectedType` where a date or a time stands in the value at any depth: it has no text then, and that is
-    /// tested first. `OutOfMemory` only where `buf` has no room for the whole text.
+    /// `UnexpectedType` where the value holds a date or a time, at any depth: it has no text then, and this is checked
+    /// first. `OutOfMemory` only where `buf` lacks the capacity for the whole text.
     pub fn write_text(&self, buf: &mut Vec<u8>) -> Result<()>
         ensures ok { OnOk result (AppendsText (view self.now) buf.old.items buf.new.items) }
         ensures err { OnErr result (buf.new.items ≡ buf.old.items) }
         ensures unexpected { IsErrOf result Error.UnexpectedType ↔ (text_of (view self.now) ≡ None) }
         ensures errors { IfErr result (λ e. (e ≡ Error.UnexpectedType) ⊎ (e ≡ Error.OutOfMemory)) }
         ensures refused { IfErr result (λ e. e ≢ Error.OutOfMemory → text_of (view self.now) ≡ None) }
-        // Memory is refused only where the room for the whole text is missing.
+        // Memory runs out only where the capacity for the whole text is missing.
         ensures full { IsErrOf result Error.OutOfMemory → IfSome (text_of (view self.now))
             (λ bytes. vec_capacity buf.old < vec_len buf.old + length bytes) }
         ensures capacity { vec_capacity buf.old ≤ vec_capacity buf.new }

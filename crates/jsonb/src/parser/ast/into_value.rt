@@ -1,5 +1,5 @@
-//! The value of a JSON text that was read. An object's members are put in one after the other, and
-//! a later equal key replaces.
+//! The value of a parsed text. An object's members are inserted one after the other, and a later equal key replaces an
+//! earlier one.
 ghost use Rattle.std.specs.Prelude.{◌≡◌, IfOk, IfErr};
 ghost use Rattle.jsonb_value.specs.View.{view, trees_view, members_view};
 ghost use Rattle.jsonb.specs.AstView.{ast_view, asts_view, written_members, IsContainer};
@@ -12,7 +12,7 @@ use std::alloc::Global;
 use std::borrow::CowStr;
 
 impl<'a> JsonAst<'a> {
-    /// The value with the same tree. Only want of memory refuses it, and the tree is then gone.
+    /// The value with the same tree. Its only error is an allocation failure, and the tree is then dropped.
     pub fn into_value(self, alloc: Global) -> Result<Value<'a>>
         ensures ok { IfOk result (λ v. view v ≡ ast_view self.entry) }
         ensures memory { IfErr result (λ e. (e ≡ Error.OutOfMemory) × IsContainer (ast_view self.entry)) }

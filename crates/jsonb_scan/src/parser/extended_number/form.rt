@@ -18,7 +18,7 @@ pub(super) fn with_sign(negative: bool, magnitude: u128) -> i128
     if negative { -value } else { value }
 }
 
-// A whole number, of which 64 bits hold the magnitude.
+// An integer, of which 64 bits hold the magnitude.
 pub(super) fn short_integer(negative: bool, magnitude: u64) -> Number
     ensures { (precision : ℕ) → magnitude < 10 ^ precision
         → number_view result ≡ decimal_number 0 precision (signed_by negative magnitude) }
@@ -48,7 +48,7 @@ pub(super) fn short_decimal(scale: usize, negative: bool, magnitude: u64) -> Num
     })
 }
 
-// A whole number of at most 38 digits.
+// An integer of at most 38 digits.
 fn integer(negative: bool, magnitude: u128) -> Number
     requires { magnitude < 10 ^ 38 }
     ensures { (precision : ℕ) → magnitude < 10 ^ precision

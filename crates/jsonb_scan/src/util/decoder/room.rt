@@ -1,4 +1,4 @@
-//! Appending where there is room.
+//! Appending within the capacity.
 ghost use Rattle.std.specs.Prelude.{◌≡◌, ◌+◌, ◌≤◌, ◌<◌, ◌++◌, ◌∷◌, [], length, vec_len, vec_capacity};
 
 // Appends a byte where there is room.

@@ -1,4 +1,4 @@
-//! UTF-16 code units, four hexadecimal digits each.
+//! `\u` escapes: UTF-16 code units of four hexadecimal digits.
 ghost use Rattle.std.specs.Prelude.{List, ◌≡◌, ◌≢◌, ℕ, ◌+◌, ◌*◌, ◌^◌, ◌≤◌, ◌<◌, ◌++◌, ◌∷◌, length, vec_len, vec_capacity, All, ◌||◌, IfOk, IfErr, IfSome, IfNone, Some, None, true, false, ◌⊎◌};
 ghost use Rattle.std.specs.Char.{digit_value, encode_utf8, InScalarRange};
 ghost use Rattle.jsonb_value.specs.Mode.{Mode as GrammarMode};
