@@ -36,18 +36,18 @@ uint32_t vizhoniku_version(void);
 
 /* The grammar of a text. docs/GRAMMAR.md has both. Any other number is VIZHONIKU_UNKNOWN_MODE. */
 enum vizhoniku_mode {
-    VIZHONIKU_STANDARD = 0, /* JSON as RFC 8259 has it, with 64-bit integers alone as numbers */
+  VIZHONIKU_STANDARD = 0, /* JSON as RFC 8259 has it, with 64-bit integers alone as numbers */
   VIZHONIKU_EXTENDED = 1  /* comments, single quotes, unquoted keys, decimals, hexadecimals and more */
 };
 
 /* What a call returns. */
 enum vizhoniku_status {
-    VIZHONIKU_ACCEPTED = 0,      /* success: each text is a document */
+  VIZHONIKU_ACCEPTED = 0,      /* success: each text is a document */
   VIZHONIKU_REFUSED = 1,       /* a text is no document of the mode: the refusal says why */
   VIZHONIKU_OUT_OF_MEMORY = 2, /* memory ran out: this doesn't say whether a text is a document */
   VIZHONIKU_UNKNOWN_MODE = 3,  /* no mode has this number */
   VIZHONIKU_TOO_SHORT = 4,     /* the buffer is shorter than the text: the size says what is needed */
-    VIZHONIKU_NO_PART = 5,       /* the document has no part at the path: vizhoniku_part alone */
+  VIZHONIKU_NO_PART = 5,       /* the document has no part at the path: vizhoniku_part alone */
   VIZHONIKU_NO_PATH = 6        /* the path isn't a JSON Pointer (RFC 6901): vizhoniku_part alone */
 };
 
@@ -58,7 +58,7 @@ enum vizhoniku_code {
   VIZHONIKU_INVALID_NUMBER_VALUE = 2,
   VIZHONIKU_INVALID_STRING_VALUE = 3,
   VIZHONIKU_EXPECTED_SOME_IDENT = 4,
-    VIZHONIKU_EXPECTED_SOME_VALUE = 5, /* a value is expected, and the byte begins none */
+  VIZHONIKU_EXPECTED_SOME_VALUE = 5, /* a value is expected, and the byte begins none */
   VIZHONIKU_EXPECTED_COLON = 6,
   VIZHONIKU_EXPECTED_ARRAY_COMMA_OR_END = 7,
   VIZHONIKU_EXPECTED_OBJECT_COMMA_OR_END = 8,
@@ -70,10 +70,10 @@ enum vizhoniku_code {
   VIZHONIKU_INVALID_LONE_LEADING_SURROGATE_IN_HEX_ESCAPE = 14,
   VIZHONIKU_INVALID_SURROGATE_IN_HEX_ESCAPE = 15,
   VIZHONIKU_UNEXPECTED_END_OF_HEX_ESCAPE = 16,
-    VIZHONIKU_OBJECT_DUPLICATE_KEY = 17, /* a key is repeated in an object; the position is after the second */
+  VIZHONIKU_OBJECT_DUPLICATE_KEY = 17, /* a key is repeated in an object; the position is after the second */
   VIZHONIKU_OBJECT_KEY_INVALID_NUMBER = 18,
   VIZHONIKU_OBJECT_KEY_INVALID_CHARACTER = 19,
-    VIZHONIKU_NUMBER_NOT_CARRIED = 20,   /* a number that isn't representable; the position is after it */
+  VIZHONIKU_NUMBER_NOT_CARRIED = 20,   /* a number that isn't representable; the position is after it */
   VIZHONIKU_DEPTH_LIMIT_EXCEEDED = 21  /* more than 512 arrays and objects are open at once */
 };
 
@@ -81,7 +81,7 @@ enum vizhoniku_code {
 struct vizhoniku_refusal {
   uint32_t code;   /* of enum vizhoniku_code */
   uint32_t which;  /* 1 for the only or the first text, 2 for the second */
-    size_t position; /* a number of bytes: which byte it means depends on the code, and it may pass the end */
+  size_t position; /* a number of bytes: which byte it means depends on the code, and it may pass the end */
 };
 
 /* Checks whether the text is a document of the mode. The status is never VIZHONIKU_TOO_SHORT. */
