@@ -1,0 +1,33 @@
+use Rattle.std.proofs.Common.{◌+◌, ◌/◌, arith, refl}
+use Rattle.jsonb_key.proofs.Numbers.{last_none, last_some, pair_within, pair_read, not_over}
+use Rattle.jsonb_key.proofs.number.read_digits.Goals as goal
+
+pub returns-in_err-digits-clause-found : goal.returns-in_err-digits-clause-found
+returns-in_err-digits-clause-found c = λ C M below some high few more e.
+    absurd (last_none c.args.negative c.args.bytes.now c.pairs.digits c.pairs.count c.pairs.rest.now c.in-Some.byte.now c.in-Some.others.now c.turned-byte.result c.pairs.invariant.reads c.in-Some.ensures.cases.0 c.turned-byte.ensures C M below some high few more e c.if-byte-eq0.true (c.turned-byte.result / 2) refl c.in_err-digits.ensures)
+
+pub returns-clause-found : goal.returns-clause-found
+returns-clause-found c = λ C M below some high few more e.
+    not_over c.args.negative c.args.bytes.now c.pairs.digits c.pairs.count c.pairs.rest.now c.pairs.invariant.reads c.in_default.ensures.cases C M below some high few more e
+
+pub returns-then-byte-eq0-clause-found : goal.returns-then-byte-eq0-clause-found
+returns-then-byte-eq0-clause-found c = λ C M below some high few more e.
+    last_some c.args.negative c.args.bytes.now c.pairs.digits c.pairs.count c.pairs.rest.now c.in-Some.byte.now c.in-Some.others.now c.turned-byte.result c.pairs.invariant.reads c.in-Some.ensures.cases.0 c.turned-byte.ensures C M below some high few more e c.if-byte-eq0.true (c.turned-byte.result / 2) c.in_ok-digits.digits c.in_ok-digits.last refl c.in_ok-digits.ensures
+
+pub returns-in_err-checked_mul-clause-found : goal.returns-in_err-checked_mul-clause-found
+returns-in_err-checked_mul-clause-found c = λ C M below some high few more e.
+    let within = pair_within c.args.negative c.args.bytes.now c.pairs.digits c.pairs.count c.pairs.rest.now c.in-Some.byte.now c.in-Some.others.now c.turned-byte.result c.pairs.invariant.reads c.in-Some.ensures.cases.0 c.turned-byte.ensures C M below some high few more e c.if-byte-eq0.false (c.turned-byte.result / 2) refl in
+    absurd (c.in_err-checked_mul.ensures (omega (arith, within)))
+
+pub returns-in_err-digits-2-clause-found : goal.returns-in_err-digits-2-clause-found
+returns-in_err-digits-2-clause-found c = λ C M below some high few more e.
+    let within = pair_within c.args.negative c.args.bytes.now c.pairs.digits c.pairs.count c.pairs.rest.now c.in-Some.byte.now c.in-Some.others.now c.turned-byte.result c.pairs.invariant.reads c.in-Some.ensures.cases.0 c.turned-byte.ensures C M below some high few more e c.if-byte-eq0.false (c.turned-byte.result / 2) refl in
+    absurd (c.in_err-digits-2.ensures (omega (arith, within, c.in_ok-checked_mul.ensures, c.from.ensures)))
+
+pub pairs-preserved : goal.pairs-preserved
+pairs-preserved c = record {
+  reads = λ C M below some high few more e.
+      pair_read c.args.negative c.args.bytes.now c.pairs.digits c.pairs.count c.pairs.rest.now c.in-Some.byte.now c.in-Some.others.now c.turned-byte.result c.pairs.invariant.reads c.in-Some.ensures.cases.0 c.turned-byte.ensures C M below some high few more e c.if-byte-eq0.false (c.turned-byte.result / 2) c.in_ok-digits-2.digits (c.pairs.count + 2) refl (omega (arith, c.in_ok-digits-2.ensures, c.in_ok-checked_mul.ensures, c.from.ensures)) refl;
+  within = omega (arith, c.in-Some.ensures.cases.1, c.pairs.invariant.within);
+  few = omega (arith, c.if-count-gt38.false);
+}

@@ -1,0 +1,26 @@
+-- Which values are read from their sort keys.
+use Rattle.std.specs.Prelude.{ℕ, List, codes, ⊤}
+use Rattle.jsonb_value.specs.Grammar.{max_depth}
+use Rattle.jsonb_value.specs.Proper.{IsProper}
+use Rattle.jsonb_value.specs.Text.Range.{IsWithin}
+use Rattle.jsonb_value.specs.Tree.{Num, Tree}
+use Rattle.jsonb_key.specs.declared.key.KeyError.{KeyError}
+use Rattle.jsonb_key.specs.declared.key.KeyError.TheVariants.{Invalid, OutOfMemory}
+
+-- any number
+abbrev pub IsAnyNumber : Num → Type 0
+IsAnyNumber n = ⊤
+
+-- The tree of a value of JSON's kinds, with arrays and objects nested no deeper than the number.
+pub record IsReadableAt (depth : ℕ) (t : Tree) : Type 0 where
+  pub proper : IsProper t
+  pub within : IsWithin IsAnyNumber t depth
+
+-- The tree of a value of JSON's kinds, with at most 512 arrays and objects in one another.
+abbrev pub IsReadable : Tree → Type 0
+IsReadable t = IsReadableAt max_depth t
+
+-- what is printed of an error
+abbrev pub key_error_text : KeyError → List ℕ
+key_error_text Invalid = codes "no sort key"
+key_error_text OutOfMemory = codes "out of memory"

@@ -1,0 +1,47 @@
+-- Keys read from the left.
+use Rattle.std.specs.Prelude.{◌≡◌, ℕ, ◌+◌, ◌*◌, ◌%◌, ◌^◌, ◌<◌, ◌≤◌, Bool, List, [], ◌∷◌, Option, Some, None, if◌then◌else◌, ◌==◌, unsigned_abs}
+use Rattle.jsonb_value.specs.SortKey.{turned}
+use Rattle.jsonb_value.specs.Tree.{Num}
+
+-- a zero of a text by what follows its first byte, and the bytes after it
+abbrev pub escape_of : List ℕ → Option (ℕ × List ℕ)
+escape_of [] = None
+escape_of (mark ∷ rest) = if mark == 255 then Some (0, rest) else None
+
+-- the byte of a text whose key the bytes begin with, and the bytes after it
+abbrev pub byte_of : List ℕ → Option (ℕ × List ℕ)
+byte_of [] = None
+byte_of (byte ∷ rest) = if byte == 0 then escape_of rest else Some (byte, rest)
+
+-- The first digits of a number that has `count` of them, without zeros at the end: there are `read` of them.
+pub record IsDigits (count magnitude digits read : ℕ) : Type 0 where
+  pub some : 0 < digits
+  pub whole : digits * 10 ^ count ≡ magnitude * 10 ^ read
+  pub fewer : read ≤ count
+
+-- These are the digits of n, without its sign, and the first of them stands at this place.
+pub record HasParts (n : Num) (place digits read : ℕ) : Type 0 where
+  pub count : ℕ
+  pub is_digits : IsDigits count (unsigned_abs n.whole) digits read
+  pub is_place : place + n.scale ≡ count + 255
+
+-- what was read, and the bytes after it
+abbrev pub read_as : ℕ → List ℕ → Option (ℕ × List ℕ)
+read_as n rest = Some (n, rest)
+
+-- The digits with the pair behind them, of which `read` are taken: one digit where the second is 0.
+pub record IsLastPair (digits pair with_pair read : ℕ) : Type 0 where
+  pub whole : with_pair * 100 ≡ (digits * 100 + pair) * 10 ^ read
+  pub few : read ≤ 2
+  pub one : pair % 10 ≡ 0 → read ≡ 1
+
+-- the second byte of a place, and the bytes after it
+abbrev pub second_of : Bool → List ℕ → Option (ℕ × List ℕ)
+second_of negative [] = None
+second_of negative (byte ∷ rest) = read_as (turned negative byte) rest
+
+-- the place of a number's first digit, with 255 added, and the bytes after it
+abbrev pub place_of : Bool → List ℕ → Option (ℕ × List ℕ)
+place_of negative [] = None
+place_of negative (byte ∷ rest) =
+    if turned negative byte == 129 then second_of negative rest else read_as (turned negative byte + 95) rest

@@ -1,0 +1,8 @@
+//! Values read from sort keys.
+#![tactic(auto)]
+
+pub mod key;
+mod number;
+mod text;
+
+pub use key::{KeyError, value_of_sort_key};

@@ -1,0 +1,157 @@
+//! The numbers of sort keys.
+
+ghost use Rattle.std.specs.Prelude.{◌≡◌, ◌≢◌, ◌%◌, ◌+◌, ◌*◌, ◌^◌, ◌<◌, ◌≤◌, ◌++◌, List, ℕ, ℤ, length, map, ◌/◌, ◌⊎◌, false, IfSome, MatchOption, option_map, Some, unsigned_abs};
+ghost use Rattle.std.specs.Int.{is_negative};
+ghost use Rattle.jsonb_value.specs.Number.Signed.{signed_by};
+ghost use Rattle.jsonb_value.specs.Order.{num_cmp};
+ghost use Rattle.std.specs.declared.cmp.Ordering.TheVariants.{Equal};
+ghost use Rattle.jsonb_value.specs.Proper.{IsProperNumber};
+ghost use Rattle.jsonb_value.specs.SortKey.{number_key, digits_key, turned};
+ghost use Rattle.jsonb_value.specs.Tree.{Num};
+ghost use Rattle.jsonb_value.specs.View.{number_view};
+ghost use Rattle.jsonb_key.specs.Reading.{IsDigits, HasParts, IsLastPair, place_of, second_of};
+
+use jsonb_value::number::{Decimal64, Decimal128, Number};
+
+// The number whose key the bytes begin with, and the bytes after it.
+pub(crate) fn read_number(bytes: &[u8]) -> Option<(Number, &[u8])>
+    ensures found { (n : Num) → IsProperNumber n → (more : List ℕ) → bytes.now ≡ number_key n ++ more
+        → MatchOption result ⊥ (λ r. (number_key (number_view r.0) ≡ number_key n) × (r.1.now ≡ more)) }
+    ensures shorter { IfSome result (λ r. length r.1.now < length bytes.now) }
+{
+    let (first, rest) = bytes.split_first()?;
+    if *first == 128 {
+        return Some((Number::UInt64(0), rest));
+    }
+    let negative = *first < 128;
+    let (place, rest) = read_place(negative, bytes)?;
+    let (digits, count, rest) = read_digits(negative, rest)?;
+    Some((number_of(negative, place, digits, count)?, rest))
+}
+
+// A byte of a key, turned round where the number is negative.
+fn turned(negative: bool, byte: u8) -> u8
+    ensures { result ≡ turned negative byte }
+{
+    if negative { 255 - byte } else { byte }
+}
+
+// The place of the first digit, with 255 added, and the bytes after it.
+fn read_place(negative: bool, bytes: &[u8]) -> Option<(u32, &[u8])>
+    ensures place { option_map (λ r. (r.0, r.1.now)) result ≡ place_of negative bytes.now }
+    ensures shorter { IfSome result (λ r. (r.0 < 512) × (length r.1.now < length bytes.now)) }
+{
+    let (byte, rest) = bytes.split_first()?;
+    match turned(negative, *byte) {
+        129 => read_second(negative, rest),
+        byte => Some((u32::from(byte) + 95, rest)),
+    }
+}
+
+// The same of a place of two bytes, after the first.
+fn read_second(negative: bool, bytes: &[u8]) -> Option<(u32, &[u8])>
+    ensures place { option_map (λ r. (r.0, r.1.now)) result ≡ second_of negative bytes.now }
+    ensures shorter { IfSome result (λ r. (r.0 < 512) × (length r.1.now < length bytes.now)) }
+{
+    let (byte, rest) = bytes.split_first()?;
+    Some((u32::from(turned(negative, *byte)), rest))
+}
+
+// The digits as a number, how many they are, and the bytes after them. A zero at the end is left out.
+fn read_digits(negative: bool, bytes: &[u8]) -> Option<(u128, u32, &[u8])>
+    ensures found { (count magnitude : ℕ) → magnitude < 10 ^ count → 0 < magnitude → magnitude ≤ 2 ^ 127 → count ≤ 39
+        → (more : List ℕ) → bytes.now ≡ map (turned negative) (digits_key count magnitude) ++ more
+        → MatchOption result ⊥ (λ r. IsDigits count magnitude r.0 r.1 × (r.2.now ≡ more)) }
+    ensures shorter { IfSome result (λ r. (r.1 < 512) × (length r.2.now < length bytes.now)) }
+{
+    let mut digits: u128 = 0;
+    let mut count: u32 = 0;
+    let mut rest = bytes;
+    'pairs: while let Some((byte, others)) = rest.split_first() {
+        let byte = turned(negative, *byte);
+        let pair = byte / 2;
+        if byte % 2 == 0 {
+            let (digits, last) = last_pair(digits, pair)?;
+            return Some((digits, count + last, others));
+        }
+        if count > 38 {
+            return None;
+        }
+        digits = digits.checked_mul(100)?.checked_add(u128::from(pair))?;
+        count += 2;
+        rest = others;
+    }
+    None
+}
+
+// The digits with the last pair of them, and how many digits of the pair are no zeros at the end.
+fn last_pair(digits: u128, pair: u8) -> Option<(u128, u32)>
+    ensures { MatchOption result ((2 ^ 128 ≤ digits * 10 + pair / 10) ⊎ ((pair % 10 ≢ 0) × (2 ^ 128 ≤ digits * 100 + pair))) (λ r. IsLastPair digits pair r.0 r.1) }
+{
+    let digits = digits.checked_mul(10)?.checked_add(u128::from(pair / 10))?;
+    if pair % 10 == 0 {
+        return Some((digits, 1));
+    }
+    Some((
+        digits.checked_mul(10)?.checked_add(u128::from(pair % 10))?,
+        2,
+    ))
+}
+
+// The number of these digits, the first of which stands at this place.
+fn number_of(negative: bool, place: u32, digits: u128, count: u32) -> Option<Number>
+    requires few { (place < 512) × (count < 512) }
+    ensures same { (n : Num) → IsProperNumber n → is_negative n.whole ≡ negative → HasParts n place digits count
+        → MatchOption result ⊥ (λ x. num_cmp (number_view x) n ≡ Equal) }
+    ensures proper { IfSome result (λ x. IsProperNumber (number_view x)) }
+{
+    let unit = 255 + count;
+    if place >= unit {
+        let power = 10u128.checked_pow(place - unit)?;
+        let whole = with_sign(negative, digits.checked_mul(power)?)?;
+        return Some(number_with(0, whole));
+    }
+    let scale = u8::try_from(unit - place).ok()?;
+    let signed = with_sign(negative, digits)?;
+    Some(number_with(scale, signed))
+}
+
+// The whole number of this sign.
+fn with_sign(negative: bool, magnitude: u128) -> Option<i128>
+    ensures { MatchOption result ((2 ^ 127 < magnitude) ⊎ ((negative ≡ false) × (2 ^ 127 ≤ magnitude)))
+        (λ z. z ≡ signed_by negative magnitude) }
+{
+    if magnitude == 0 {
+        return Some(0);
+    }
+    let Ok(below) = i128::try_from(magnitude - 1) else {
+        return None;
+    };
+    if negative {
+        return Some(-1 - below);
+    }
+    below.checked_add(1)
+}
+
+// The number in the first form that carries it.
+fn number_with(scale: u8, whole: i128) -> Number
+    ensures scale { (number_view result).scale ≡ scale }
+    ensures whole { (number_view result).whole ≡ whole }
+    ensures proper { IsProperNumber (number_view result) }
+{
+    if scale == 0 {
+        if let Ok(value) = u64::try_from(whole) {
+            return Number::UInt64(value);
+        }
+        if let Ok(value) = i64::try_from(whole) {
+            return Number::Int64(value);
+        }
+    }
+    match i64::try_from(whole) {
+        Ok(value) => Number::Decimal64(Decimal64 { scale, value }),
+        Err(_) => Number::Decimal128(Decimal128 {
+            scale,
+            value: whole,
+        }),
+    }
+}
