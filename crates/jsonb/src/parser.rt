@@ -70,7 +70,7 @@ pub fn parse_value_standard_mode(alloc: Global, buf: &[u8]) -> Result<Value<'_>>
     if let Some(value) = read_directly(alloc, buf, Mode::Standard) {
         return Ok(value);
     }
-    JsonAst::parse(alloc, buf, Mode::Standard)?.into_value(alloc)
+    JsonAst::parse(alloc, buf, Mode::Standard)?.into_scalar(alloc)
 }
 
 /// Parses a whole text of extended JSON.
@@ -103,7 +103,7 @@ pub fn parse_value(alloc: Global, buf: &[u8]) -> Result<Value<'_>>
     if let Some(value) = read_directly(alloc, buf, Mode::Extended) {
         return Ok(value);
     }
-    JsonAst::parse(alloc, buf, Mode::Extended)?.into_value(alloc)
+    JsonAst::parse(alloc, buf, Mode::Extended)?.into_scalar(alloc)
 }
 
 // A reader that stands at the index `idx` of its input.

@@ -1,6 +1,6 @@
 //! A second reader of whole texts, which makes the value with no `JsonAst` between and without a word of what is wrong.
 //! Where it answers nothing, the text may still be a document, and the reader that tells faults is asked.
-ghost use Rattle.std.specs.Prelude.{◌≡◌, ◌<◌, ◌≤◌, ℕ, false, length, map, List, MatchBool, IfOk, IfSome, Ok, None, string_bytes, [], ◌∷◌, if◌then◌else◌};
+ghost use Rattle.std.specs.Prelude.{◌≡◌, ◌<◌, ◌≤◌, ℕ, false, length, map, take, List, MatchBool, OnOk, IfOk, IfSome, Ok, None, string_bytes, [], ◌∷◌, ◌++◌, if◌then◌else◌};
 ghost use Rattle.std.specs.BTreeMap.{insert_entry, is_at};
 ghost use Rattle.std.specs.Map.{lookup};
 ghost use Rattle.std.specs.String.{string_cmp};
@@ -27,11 +27,20 @@ use std::alloc::{AllocError, Global};
 use std::mem;
 
 // An array or an object that is open, with what was read of it.
-#[derive(Drop)]
 enum OpenValue<'a> {
     // The elements so far.
     Array(Vec<Value<'a>>),
     Object(OpenMembers<'a>),
+}
+
+// What is dropped here is given up, and may nest deep.
+impl Drop for OpenValue<'_> {
+    fn drop(self) {
+        match self {
+            OpenValue::Array(items) => Value::Array(items).dismantle(),
+            OpenValue::Object(object) => Value::Object(object.members).dismantle(),
+        }
+    }
 }
 
 // The members so far of an object that is open, and the key that waits for its value while a container inside is open.
@@ -46,10 +55,9 @@ struct OpenMembers<'a> {
 pub(super) fn read_directly(alloc: Global, buf: &[u8], mode: Mode) -> Option<Value<'_>>
     ensures { IfSome result (λ v. document_of (mode_of mode) buf.now ≡ Ok (view v)) }
 {
-    // Strings without escapes are cut out of the text, which is tested once.
-    let Ok(text) = std::str::from_utf8(buf) else {
-        return None;
-    };
+    // Strings without escapes are cut out of the text, which is tested once. Where a comment isn't UTF-8, each string is
+    // tested alone, as none can be cut out.
+    let text = std::str::from_utf8(buf).unwrap_or("");
     let mut parser = Parser {
         alloc,
         mode,
@@ -65,6 +73,7 @@ pub(super) fn read_directly(alloc: Global, buf: &[u8], mode: Mode) -> Option<Val
     }
     let value = parser.direct_value(text)?;
     let Ok(()) = parser.end_document() else {
+        value.dismantle();
         return None;
     };
     Some(value)
@@ -74,7 +83,7 @@ impl<'a> Parser<'a> {
     // A value that begins here.
     fn direct_value(&mut self, text: &'a str) -> Option<Value<'a>>
         requires inside { self.old.idx ≤ size_of self.old }
-        requires same { text.now ≡ self.old.buf.now }
+        requires same { text.now ≡ take (length text.now) self.old.buf.now }
         ensures reads { FindsAs view (λ size mode. value_at size mode max_depth) result self.old self.new }
         ensures advances { Advances self.old self.new }
     {
@@ -96,7 +105,7 @@ impl<'a> Parser<'a> {
     // An array or an object that begins here, by a loop over those that are open.
     fn direct_container(&mut self, text: &'a str) -> Option<Value<'a>>
         requires inside { self.old.idx ≤ size_of self.old }
-        requires same { text.now ≡ self.old.buf.now }
+        requires same { text.now ≡ take (length text.now) self.old.buf.now }
         ensures reads { FindsAs view (λ size mode. value_at size mode max_depth) result self.old self.new }
         ensures advances { Advances self.old self.new }
     {
@@ -150,7 +159,7 @@ impl<'a> Parser<'a> {
     fn read_parts(&mut self, stack: &mut Vec<OpenValue<'a>>, text: &'a str) -> Option<bool>
         requires depth { length stack.old.items ≤ max_depth }
         requires inside { self.old.idx ≤ size_of self.old }
-        requires same { text.now ≡ self.old.buf.now }
+        requires same { text.now ≡ take (length text.now) self.old.buf.now }
         ensures reads { (whole : Read Tree) → IsAhead whole self.old stack.old.items false
             → IfSome result (IsAhead whole self.new stack.new.items) }
         ensures onward { IfSome result (λ closed. self.old.idx < self.new.idx) }
@@ -168,7 +177,7 @@ impl<'a> Parser<'a> {
     #[inline(always)]
     fn fill(&mut self, frame: &mut OpenValue<'a>, text: &'a str) -> Option<bool>
         requires inside { self.old.idx ≤ size_of self.old }
-        requires same { text.now ≡ self.old.buf.now }
+        requires same { text.now ≡ take (length text.now) self.old.buf.now }
         ensures reads { IfSome result (λ closed. (depth : ℕ) → (c : Open) → IsHeld frame.old c
             → ReadsParts (size_of self.old) (mode_of self.old.mode) depth
             (next_part_at (size_of self.old) (mode_of self.old.mode) depth c (rest_of self.old))
@@ -185,7 +194,7 @@ impl<'a> Parser<'a> {
     // The same of an array.
     fn read_elements(&mut self, items: &mut Vec<Value<'a>>, text: &'a str) -> Option<bool>
         requires inside { self.old.idx ≤ size_of self.old }
-        requires same { text.now ≡ self.old.buf.now }
+        requires same { text.now ≡ take (length text.now) self.old.buf.now }
         ensures reads { IfSome result (λ closed. (depth : ℕ) → ReadsParts (size_of self.old) (mode_of self.old.mode)
             depth (elements_from (size_of self.old) (mode_of self.old.mode) depth (map view items.old.items)
             (rest_of self.old)) closed (Array items.new) (rest_of self.new)) }
@@ -208,7 +217,7 @@ impl<'a> Parser<'a> {
     #[inline(always)]
     fn push_element(&mut self, items: &mut Vec<Value<'a>>, text: &'a str) -> Option<()>
         requires inside { self.old.idx ≤ size_of self.old }
-        requires same { text.now ≡ self.old.buf.now }
+        requires same { text.now ≡ take (length text.now) self.old.buf.now }
         ensures reads { IfSome result (λ _. Pushes items.old.items
             (value_or_null (mode_of self.old.mode) (scalar_at (size_of self.old) (mode_of self.old.mode))
             (rest_of self.old)) items.new.items (rest_of self.new)) }
@@ -226,7 +235,7 @@ impl<'a> Parser<'a> {
     // The same of an object. The key of the part that is a container is kept.
     fn read_members(&mut self, object: &mut OpenMembers<'a>, text: &'a str) -> Option<bool>
         requires inside { self.old.idx ≤ size_of self.old }
-        requires same { text.now ≡ self.old.buf.now }
+        requires same { text.now ≡ take (length text.now) self.old.buf.now }
         ensures reads { IfSome result (λ closed. (depth : ℕ) → (front : List Found)
             → IsPutIn front object.old.members.entries → ReadsParts (size_of self.old) (mode_of self.old.mode) depth
             (read_members_from (size_of self.old) (mode_of self.old.mode) depth front (rest_of self.old))
@@ -300,7 +309,7 @@ impl<'a> Parser<'a> {
         match stack.last_mut()? {
             OpenValue::Array(items) => {
                 make_room(items, self.next_is(b']'));
-                let Ok(()) = items.push(inner.into_value()) else {
+                let Ok(()) = push_value(items, inner.into_value()) else {
                     return None;
                 };
                 self.end_part(b']')
@@ -322,6 +331,18 @@ fn make_room(items: &mut Vec<Value>, is_last: bool)
     if is_last && items.capacity() == 0 {
         let _made = items.reserve_exact(1);
     }
+}
+
+// Pushes a value. One that is refused may nest deep.
+#[inline(always)]
+fn push_value<'a>(items: &mut Vec<Value<'a>>, value: Value<'a>) -> Result<(), AllocError>
+    ensures items { OnOk result (items.new.items ≡ items.old.items ++ value.entry ∷ []) }
+{
+    if let Err(refused) = items.push(value) {
+        refused.value.dismantle();
+        return Err(AllocError);
+    }
+    Ok(())
 }
 
 // An array that was read keeps room for so many values more than it has, and no more.
@@ -392,11 +413,16 @@ pub(super) fn put_member<'a>(
     ensures missing { IfOk result (λ is_new. MatchBool is_new
         (lookup (is_at (string_cmp key)) members.old.entries ≡ None) (Unit {0})) }
 {
-    let Ok(old) = members.insert(key, value) else {
-        return Err(AllocError);
-    };
-    if old.is_some() {
-        return Ok(false);
+    match members.insert(key, value) {
+        Ok(None) => Ok(true),
+        Ok(Some(old)) => {
+            old.dismantle();
+            Ok(false)
+        }
+        Err(refused) => {
+            let (_, value) = refused.value;
+            value.dismantle();
+            Err(AllocError)
+        }
     }
-    Ok(true)
 }

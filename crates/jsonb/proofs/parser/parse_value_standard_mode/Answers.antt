@@ -15,17 +15,17 @@ use Rattle.jsonb.proofs.Steps.Outcomes.{refused_container, value_has}
 use Rattle.jsonb.proofs.parser.parse_value_standard_mode.Goals as goal
 
 pub returns-clause-in_range : goal.returns-clause-in_range
-returns-clause-in_range c = value_has IsIntegerRange (ast_view c.in_ok-parse.field-0) c.into_value.result c.into_value.ensures.ok (standard_in_range c.args.buf.now _ c.in_ok-parse.ensures.document).0
+returns-clause-in_range c = value_has IsIntegerRange (ast_view c.in_ok-parse.field-0) c.into_scalar.result c.into_scalar.ensures.ok (standard_in_range c.args.buf.now _ c.in_ok-parse.ensures.document).0
 
 pub returns-clause-proper : goal.returns-clause-proper
-returns-clause-proper c = value_has IsProper (ast_view c.in_ok-parse.field-0) c.into_value.result c.into_value.ensures.ok (standard_in_range c.args.buf.now _ c.in_ok-parse.ensures.document).1
+returns-clause-proper c = value_has IsProper (ast_view c.in_ok-parse.field-0) c.into_scalar.result c.into_scalar.ensures.ok (standard_in_range c.args.buf.now _ c.in_ok-parse.ensures.document).1
 
 pub returns-clause-extended : goal.returns-clause-extended
 returns-clause-extended c =
-    value_has (λ t. (u : Tree) × IsDocument extended c.args.buf.now u × Same u t) (ast_view c.in_ok-parse.field-0) c.into_value.result c.into_value.ensures.ok (standard_is_extended c.args.buf.now _ c.in_ok-parse.ensures.document)
+    value_has (λ t. (u : Tree) × IsDocument extended c.args.buf.now u × Same u t) (ast_view c.in_ok-parse.field-0) c.into_scalar.result c.into_scalar.ensures.ok (standard_is_extended c.args.buf.now _ c.in_ok-parse.ensures.document)
 
 pub returns-clause-memory : goal.returns-clause-memory
-returns-clause-memory c = λ is. document_opened standard c.args.buf.now _ c.in_ok-parse.ensures.document (refused_container _ c.into_value.result c.into_value.ensures.memory is)
+returns-clause-memory c = λ is. document_opened standard c.args.buf.now _ c.in_ok-parse.ensures.document (refused_container _ c.into_scalar.result c.into_scalar.ensures.memory is)
 
 pub returns-in-Some-clause-document : goal.returns-in-Some-clause-document
 returns-in-Some-clause-document c = document_sound standard c.args.buf.now (view c.in-Some.value) c.in-Some.ensures

@@ -1,5 +1,5 @@
 //! Keys and values that hold no others, as the direct reader makes them.
-ghost use Rattle.std.specs.Prelude.{◌≡◌, ◌≢◌, ℕ, ◌<◌, ◌≤◌, IfSome, IfNone, Ok, string_bytes};
+ghost use Rattle.std.specs.Prelude.{length, take, ◌≡◌, ◌≢◌, ℕ, ◌<◌, ◌≤◌, IfSome, IfNone, Ok, string_bytes};
 ghost use Rattle.std.specs.Cow.{cow_str_bytes};
 ghost use Rattle.jsonb_value.specs.Tree.{Mark};
 ghost use Rattle.jsonb_value.specs.Tree.Mark.{plain};
@@ -24,7 +24,7 @@ impl<'a> Parser<'a> {
     #[inline(always)]
     pub(super) fn push_scalar(&mut self, items: &mut Vec<Value<'a>>, text: &'a str) -> Option<()>
         requires inside { self.old.idx ≤ size_of self.old }
-        requires same { text.now ≡ self.old.buf.now }
+        requires same { text.now ≡ take (length text.now) self.old.buf.now }
         ensures reads { IfSome result (λ _. Pushes items.old.items (read_at scalar_at self.old) items.new.items (rest_of
             self.new)) }
         ensures advances { Advances self.old self.new }
@@ -72,7 +72,7 @@ impl<'a> Parser<'a> {
     #[inline(never)]
     fn push_other_scalar(&mut self, items: &mut Vec<Value<'a>>, text: &'a str) -> Option<()>
         requires inside { self.old.idx ≤ size_of self.old }
-        requires same { text.now ≡ self.old.buf.now }
+        requires same { text.now ≡ take (length text.now) self.old.buf.now }
         ensures reads { IfSome result (λ _. Pushes items.old.items (read_at other_scalar_at self.old) items.new.items
             (rest_of self.new)) }
         ensures advances { Advances self.old self.new }
@@ -94,7 +94,7 @@ impl<'a> Parser<'a> {
         text: &'a str,
     ) -> Option<()>
         requires inside { self.old.idx ≤ size_of self.old }
-        requires same { text.now ≡ self.old.buf.now }
+        requires same { text.now ≡ take (length text.now) self.old.buf.now }
         ensures reads { IfSome result (λ _. PutsIn members.old.entries key (read_at scalar_at self.old)
             members.new.entries (rest_of self.new)) }
         ensures advances { Advances self.old self.new }
@@ -127,7 +127,7 @@ impl<'a> Parser<'a> {
         text: &'a str,
     ) -> Option<()>
         requires inside { self.old.idx ≤ size_of self.old }
-        requires same { text.now ≡ self.old.buf.now }
+        requires same { text.now ≡ take (length text.now) self.old.buf.now }
         ensures reads { IfSome result (λ _. PutsIn members.old.entries key (read_at other_scalar_at self.old)
             members.new.entries (rest_of self.new)) }
         ensures advances { Advances self.old self.new }
@@ -141,7 +141,7 @@ impl<'a> Parser<'a> {
     #[inline(always)]
     pub(super) fn direct_scalar(&mut self, text: &'a str) -> Option<Value<'a>>
         requires inside { self.old.idx ≤ size_of self.old }
-        requires same { text.now ≡ self.old.buf.now }
+        requires same { text.now ≡ take (length text.now) self.old.buf.now }
         ensures reads { FindsAs view scalar_at result self.old self.new }
         ensures advances { Advances self.old self.new }
     {
@@ -161,7 +161,7 @@ impl<'a> Parser<'a> {
     #[inline(always)]
     fn direct_other_scalar(&mut self, text: &'a str) -> Option<Value<'a>>
         requires inside { self.old.idx ≤ size_of self.old }
-        requires same { text.now ≡ self.old.buf.now }
+        requires same { text.now ≡ take (length text.now) self.old.buf.now }
         ensures reads { FindsAs view other_scalar_at result self.old self.new }
         ensures advances { Advances self.old self.new }
     {
@@ -209,7 +209,7 @@ impl<'a> Parser<'a> {
     #[inline(always)]
     pub(super) fn direct_key(&mut self, text: &'a str) -> Option<String>
         requires inside { self.old.idx ≤ size_of self.old }
-        requires same { text.now ≡ self.old.buf.now }
+        requires same { text.now ≡ take (length text.now) self.old.buf.now }
         ensures reads { IfSome result (λ name. (mark : Mark) × (place : ℕ)
             × (member_start (size_of self.old) (mode_of self.old.mode) (rest_of self.old)
             ≡ Ok (((mark, string_bytes name), place), rest_of self.new))) }
@@ -227,7 +227,7 @@ impl<'a> Parser<'a> {
     #[inline(always)]
     fn direct_name(&mut self, text: &'a str) -> Option<String>
         requires inside { self.old.idx ≤ size_of self.old }
-        requires same { text.now ≡ self.old.buf.now }
+        requires same { text.now ≡ take (length text.now) self.old.buf.now }
         ensures reads { IfSome result (λ name. (mark : Mark)
             × (key_at (size_of self.old) (mode_of self.old.mode) (skip_blanks (mode_of self.old.mode)
             (rest_of self.old)) ≡ Ok ((mark, string_bytes name), rest_of self.new))) }
@@ -286,7 +286,7 @@ impl<'a> Parser<'a> {
     fn direct_string(&mut self, quote: u8, text: &'a str) -> Option<CowStr<'a>>
         requires no_backslash { quote ≢ 92 }
         requires inside { self.old.idx ≤ size_of self.old }
-        requires same { text.now ≡ self.old.buf.now }
+        requires same { text.now ≡ take (length text.now) self.old.buf.now }
         ensures reads { FindsAs (λ s. (mark_view s, cow_str_bytes s)) (λ size mode. string_at size mode quote) result
             self.old self.new }
         ensures advances { Advances self.old self.new }
@@ -317,7 +317,7 @@ impl<'a> Parser<'a> {
     fn direct_plain(&mut self, quote: u8, text: &'a str) -> Option<&'a str>
         requires no_backslash { quote ≢ 92 }
         requires inside { self.old.idx ≤ size_of self.old }
-        requires same { text.now ≡ self.old.buf.now }
+        requires same { text.now ≡ take (length text.now) self.old.buf.now }
         ensures reads { FindsAs (λ s. (plain, s.now)) (λ size mode. string_at size mode quote) result self.old
             self.new }
         ensures stays { IfNone result (self.new ≡ self.old) }

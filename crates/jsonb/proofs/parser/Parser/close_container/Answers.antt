@@ -18,7 +18,7 @@ returns-in-Ok-clause-reads c whole was =
     let last : n + 1 ≡ length fs = omega arith in
     let f = c.in_ok-items.field-0.now in
     if_some c.end_part.result (λ closed next.
-    array_joined p q fs _ (take n fs) f c.in-Array.items c.push.new.self c.into_value.result closed whole c.end_part.ensures.advances (last-is fs n f last c.in_ok-items.ensures.value) c.in-Array.is (last-set fs n (variants.Array c.push.new.self) last)
+    array_joined p q fs _ (take n fs) f c.in-Array.items c.push_value.new.items c.into_value.result closed whole c.end_part.ensures.advances (last-is fs n f last c.in_ok-items.ensures.value) c.in-Array.is (last-set fs n (variants.Array c.push_value.new.items) last)
     (c.in-Ok.ensures.items ∙ ap (λ vs. vs ++ c.into_value.result ∷ []) c.make_room.ensures) next (subst (λ t. WasRead whole p fs t) (sym c.into_value.ensures) was)) c.end_part.ensures.reads
 
 pub returns-in_ok-insert_new-in-Object-clause-reads : goal.returns-in_ok-insert_new-in-Object-clause-reads

@@ -1,4 +1,5 @@
-use Rattle.std.proofs.Common.{◌≡◌, ℕ, ◌+◌, ◌-◌, ◌<◌, List, Ok, false, length, take, drop, ap, sym, subst, ◌∙◌, arith, drop-drop}
+use Rattle.std.proofs.Common.{◌≡◌, ℕ, ◌+◌, ◌-◌, ◌<◌, ◌≤◌, List, Ok, false, length, take, drop, ap, sym, subst, ◌∙◌, arith, drop-drop}
+use Rattle.std.proofs.lemmas.List.{drop-take, take-take}
 use Rattle.std.specs.Str.{IsUtf8}
 use Rattle.jsonb_value.specs.Tree.Mark.{plain}
 use Rattle.jsonb_scan.specs.Decoding.{TellsBackslash}
@@ -21,8 +22,16 @@ returns-clause-reads c =
     let found : quote_end quote rest ≡ Ok end = found_end quote rest end within c.if-rest-end.false (search_to quote rest 0 end mark.bounds.0 mark.bounds.1 mark.before (search_start quote rest)) in
     let clear : TellsBackslash (take end rest) (length (take end rest)) false = tells_taken rest end false mark.bounds.1 (λ k high. (mark.before k (omega arith) high).1) in
     let count : p.idx + end - p.idx ≡ end = omega arith in
+    let all : ℕ = length c.args.text.now in
+    let left : ℕ = all - p.idx in
+    let bounds = c.in_ok-body.ensures.cases in
+    let split : all ≡ p.idx + left = omega arith in
+    let short : end ≤ left = omega arith in
     let cut : c.in_ok-body.body.now ≡ take end rest =
-    c.in_ok-body.ensures.cases.0 ∙ ap (λ (n : ℕ). take n (drop p.idx c.args.text.now)) count ∙ ap (λ (u : List ℕ). take end (drop p.idx u)) c.requires.same ∙ ap (λ (u : List ℕ). take end u) (sym rest-is) in
+    c.in_ok-body.ensures.cases.0 ∙ ap (λ (n : ℕ). take n (drop p.idx c.args.text.now)) count
+    ∙ ap (λ (u : List ℕ). take end (drop p.idx u)) (c.requires.same ∙ ap (λ (n : ℕ). take n p.buf.now) split)
+    ∙ ap (λ (u : List ℕ). take end u) (drop-take p.idx left p.buf.now) ∙ take-take end left (drop p.idx p.buf.now) short
+    ∙ ap (λ (u : List ℕ). take end u) (sym rest-is) in
     let is_text : IsUtf8 (take end rest) = subst IsUtf8 (c.as_bytes-bytes.ensures.value ∙ cut) c.as_bytes-bytes.ensures.utf8 in
     ap (λ (u : List ℕ). string_at (size_of p) mode quote u) (sym rest-is)
     ∙ string-closed (size_of p) mode quote rest end (plain, take end rest) found (body-raw mode (take end rest) clear is_text)

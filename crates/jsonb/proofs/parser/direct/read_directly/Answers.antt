@@ -18,4 +18,4 @@ returns c =
     document_some p q c.pass_blanks.ensures.rest c.pass_blanks.ensures.advances c.if-parser.false (sym c.opens_comment.ensures.value ∙ c.if-opens_comment.false)
     ∙ ap (λ r. r >>= ended (size_of q) (mode_of q.mode)) c.in_ok-value.ensures.reads
     ∙ ended_same q m t c.in_ok-value.ensures.advances
-    ∙ c.in-Ok-end_document.ensures.reads t
+    ∙ c.in-Ok.ensures.reads t
