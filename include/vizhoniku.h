@@ -8,8 +8,8 @@
  *  - No pointer is null, but that of a text, a path or a buffer of size 0, which isn't dereferenced.
  *  - What a call writes to (buffer, size, order, refusal, place) doesn't overlap any other argument.
  *  - No text and no buffer is longer than PTRDIFF_MAX bytes.
- *  - The thread has a megabyte of stack free, where a text is a stranger's: 800 KB is the most that a call was seen to
- *    take. docs/C.md has figures. A thread of musl has 128 KB where nothing is asked.
+ *  - The thread has 112 KB of stack free, where input is untrusted: no call was seen to take more. docs/C.md has
+ *    figures. A thread of musl has 128 KB by default.
  *  - No call comes from a signal handler, or from the child that a process with threads forked.
  *  - malloc, realloc and free are of one allocator, and align a block to each power of two up to 16 that divides its
  *    size.

@@ -62,11 +62,11 @@ PG_MODULE_MAGIC;
 
 /*
  * The machine stack that one call of the library may take, in bytes: at most
- * about 8 kB, and 1.6 kB for each array or object that is open.  At most 512
+ * about 8 kB, and 0.21 kB for each array or object that is open.  At most 512
  * are open at once.
  */
-#define CALL_STACK		(64 * 1024)
-#define LEVEL_STACK		(2 * 1024)
+#define CALL_STACK		(16 * 1024)
+#define LEVEL_STACK		256
 #define MAX_LEVELS		512
 #define WORST_STACK		(CALL_STACK + MAX_LEVELS * LEVEL_STACK)
 

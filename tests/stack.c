@@ -1,0 +1,292 @@
+/* Measures how much machine stack the functions of the library take, over texts that nest as deep as texts may.
+ *
+ * usage: stack [KB]
+ *
+ * Each call runs in a thread of its own, whose stack has KB kilobytes (128) and is filled with one byte before. What lies
+ * lowest of what no longer is that byte tells how much the call took. A page below the stack ends the process where it is
+ * used up. For some texts each request for memory in turn is refused, by the functions below that the linker puts in the
+ * place of the C library's (--wrap). Prints the most that each call took. The status is 1 where that is more than LIMIT. */
+#define _GNU_SOURCE
+#include <pthread.h>
+#include <stdint.h>
+#include <stdio.h>
+#include <stdlib.h>
+#include <string.h>
+#include <sys/mman.h>
+
+#include "vizhoniku.h"
+
+/* What a call may take, in bytes. */
+#define LIMIT (112 * 1024)
+
+/* As many arrays and objects may be open at once. */
+#define LEVELS 512
+
+#define PAGE 4096
+#define FILLED 0xA5A5A5A5A5A5A5A5
+
+void *__real_malloc(size_t size);
+void *__real_realloc(void *block, size_t size);
+
+/* Requests since the call began, and which of them is refused, from 0 on, or -1. */
+static long asked, refused = -1;
+
+void *__wrap_malloc(size_t size) { return asked++ == refused ? NULL : __real_malloc(size); }
+
+void *__wrap_realloc(void *block, size_t size) { return asked++ == refused ? NULL : __real_realloc(block, size); }
+
+static void *checked(void *block) {
+  if (!block) {
+    perror("stack");
+    exit(2);
+  }
+  return block;
+}
+
+/* A text that grows. */
+struct text {
+  unsigned char *bytes;
+  size_t size, room;
+};
+
+static void add(struct text *text, const char *bytes) {
+  size_t size = strlen(bytes);
+  if (text->size + size > text->room) {
+    text->room = 2 * (text->room + size);
+    text->bytes = checked(__real_realloc(text->bytes, text->room));
+  }
+  memcpy(text->bytes + text->size, bytes, size);
+  text->size += size;
+}
+
+/* What stands in one another. */
+enum kind { ARRAYS, OBJECTS, IN_TURN };
+
+static const char *const kinds[] = {"arrays", "objects", "arrays and objects in turn"};
+
+/* What stands before or behind the value, or is wrong inside. */
+enum end {
+  WHOLE,
+  COMMENT,     /* a comment that isn't UTF-8 before it, in extended mode */
+  TRAILING,    /* a byte too much behind it */
+  UNCLOSED,    /* the outermost lacks its end */
+  INNERMOST,   /* the innermost holds what is no value */
+  TOO_DEEP,    /* one more than may be open */
+  KEY_AGAIN,   /* the key of the outermost's deep member comes again */
+  KEY_BEFORE,  /* and came before */
+  ENDS
+};
+
+static const char *const ends[] = {
+    "", ", behind a comment that isn't UTF-8", ", a byte too much behind", ", unclosed", ", a fault in the innermost",
+    ", one too deep", ", a key again behind", ", a key again before",
+};
+
+struct shape {
+  enum kind kind;
+  int members; /* how many members or items each array and object has */
+  int is_first; /* whether the deep one is the first of them, else the last */
+  enum end end;
+};
+
+static int is_object(const struct shape *shape, int level) {
+  return shape->kind == OBJECTS || (shape->kind == IN_TURN && level % 2 == 1);
+}
+
+/* The members of one level that hold nothing, which stand on one side of the deep one. */
+static void add_shallow(struct text *text, const struct shape *shape, int level) {
+  char key[16];
+  for (int i = 1; i < shape->members; i++) {
+    if (shape->is_first) add(text, ",");
+    if (is_object(shape, level)) {
+      snprintf(key, sizeof key, "\"k%d\":", 10000 + i);
+      add(text, key);
+    }
+    add(text, "0");
+    if (!shape->is_first) add(text, ",");
+  }
+}
+
+/* The path of the innermost value. */
+static struct text make_path(const struct shape *shape) {
+  struct text path = {0};
+  char index[16];
+  snprintf(index, sizeof index, "/%d", shape->is_first ? 0 : shape->members - 1);
+  for (int level = 0; level < LEVELS; level++) add(&path, is_object(shape, level) ? (shape->is_first ? "/a" : "/z") : index);
+  return path;
+}
+
+static struct text make(const struct shape *shape) {
+  struct text text = {0};
+  int levels = shape->end == TOO_DEEP ? LEVELS + 1 : LEVELS;
+  const char *key = shape->is_first ? "\"a\":" : "\"z\":";
+  if (shape->end == COMMENT) add(&text, "/*\xff*/");
+  for (int level = 0; level < levels; level++) {
+    add(&text, is_object(shape, level) ? "{" : "[");
+    if (!shape->is_first) add_shallow(&text, shape, level);
+    if (!is_object(shape, level)) continue;
+    if (shape->end == KEY_BEFORE && level == 0) {
+      add(&text, key);
+      add(&text, "0,");
+    }
+    add(&text, key);
+  }
+  if (shape->end == INNERMOST) add(&text, "?");
+  else add(&text, "0");
+  for (int level = levels; level-- > 0;) {
+    if (shape->is_first) add_shallow(&text, shape, level);
+    if (shape->end == KEY_AGAIN && level == 0) {
+      add(&text, ",");
+      add(&text, key);
+      add(&text, "0");
+    }
+    if (shape->end != UNCLOSED || level > 0) add(&text, is_object(shape, level) ? "}" : "]");
+  }
+  if (shape->end == TRAILING) add(&text, "?");
+  return text;
+}
+
+/* Each function of the library that reads a text, by a number. */
+enum function { CHECK, TEXT, SORT_KEY, TEXT_AND_KEY, PART, COMPARE, MESSAGE, FUNCTIONS };
+
+static const char *const functions[] = {
+    "vizhoniku_check", "vizhoniku_text", "vizhoniku_sort_key", "vizhoniku_text_and_key", "vizhoniku_part",
+    "vizhoniku_compare", "vizhoniku_message",
+};
+
+struct call {
+  enum function function;
+  uint32_t mode;
+  const struct text *text, *path;
+  unsigned char *buffer, *key_buffer;
+  size_t room;
+  uint32_t status;
+  const unsigned char *top; /* the machine stack where the call began */
+};
+
+static void *run(void *given) {
+  struct call *call = given;
+  const unsigned char *bytes = call->text->bytes;
+  size_t text_size = call->text->size, size, key_size;
+  struct vizhoniku_refusal refusal;
+  int32_t order;
+  call->top = __builtin_frame_address(0);
+  switch (call->function) {
+    case CHECK: call->status = vizhoniku_check(call->mode, bytes, text_size, &refusal); break;
+    case TEXT:
+      call->status = vizhoniku_text(call->mode, bytes, text_size, call->buffer, call->room, &size, &refusal);
+      break;
+    case SORT_KEY:
+      call->status = vizhoniku_sort_key(call->mode, bytes, text_size, call->buffer, call->room, &size, &refusal);
+      break;
+    case TEXT_AND_KEY:
+      call->status = vizhoniku_text_and_key(call->mode, bytes, text_size, call->buffer, call->room, &size,
+                                            call->key_buffer, call->room, &key_size, &refusal);
+      break;
+    case PART:
+      call->status = vizhoniku_part(call->mode, call->path->bytes, call->path->size, bytes, text_size, call->buffer,
+                                    call->room, &size, &refusal);
+      break;
+    case COMPARE: call->status = vizhoniku_compare(call->mode, bytes, text_size, bytes, text_size, &order, &refusal); break;
+    default: call->status = vizhoniku_message(call->mode, bytes, text_size, call->buffer, call->room, &size); break;
+  }
+  return NULL;
+}
+
+/* A machine stack, as words. What a call has changed of it is filled again. */
+struct stack {
+  uint64_t *words;
+  size_t size; /* in bytes */
+};
+
+static void fill(const struct stack *stack, size_t from) {
+  for (size_t i = from; i < stack->size / sizeof *stack->words; i++) stack->words[i] = FILLED;
+}
+
+/* How much machine stack the call takes in a thread of its own. */
+static size_t taken(struct call *call, const struct stack *stack) {
+  pthread_attr_t attributes;
+  pthread_t thread;
+  asked = 0;
+  if (pthread_attr_init(&attributes) || pthread_attr_setstack(&attributes, stack->words, stack->size) ||
+      pthread_create(&thread, &attributes, run, call) || pthread_join(thread, NULL))
+    exit(2);
+  pthread_attr_destroy(&attributes);
+  size_t lowest = 0;
+  while (stack->words[lowest] == FILLED) lowest++;
+  fill(stack, lowest);
+  return (size_t)(call->top - (const unsigned char *)(stack->words + lowest));
+}
+
+/* The most that each function took, and over which text. */
+static size_t most[FUNCTIONS];
+static struct shape where[FUNCTIONS];
+static long runs, wrong;
+
+/* Each function over one text, with ample memory, and, in extended mode and with one member, with each request refused in
+ * turn. */
+static void measure(const struct shape *shape, const struct stack *stack) {
+  struct text text = make(shape), path = make_path(shape);
+  struct call call = {.text = &text, .path = &path, .room = 2 * text.size + 64};
+  call.buffer = checked(__real_malloc(call.room));
+  call.key_buffer = checked(__real_malloc(call.room));
+  for (int i = 0; i < 2 * FUNCTIONS; i++) {
+    uint32_t whole = VIZHONIKU_ACCEPTED;
+    call.function = (enum function)(i / 2);
+    call.mode = (uint32_t)(i % 2);
+    /* The longest texts have 25 megabytes, so not each call reads them. */
+    if (shape->members > 30 && (call.mode != (shape->end == COMMENT) || (shape->end != WHOLE && i > 1))) continue;
+    long last = 0;
+    for (refused = -1; refused < last; refused++) {
+      size_t took = taken(&call, stack);
+      runs++;
+      if (refused < 0) {
+        whole = call.status;
+        last = shape->members == 1 && call.mode == VIZHONIKU_EXTENDED ? asked : 0;
+      }
+      if (call.status != whole && call.status != VIZHONIKU_OUT_OF_MEMORY) wrong++;
+      if (took > most[call.function]) {
+        most[call.function] = took;
+        where[call.function] = *shape;
+      }
+    }
+    /* A comment is refused in standard mode, and a fault in both. */
+    int is_read = shape->end == WHOLE || (shape->end == COMMENT && call.mode == VIZHONIKU_EXTENDED);
+    if (whole != (is_read ? VIZHONIKU_ACCEPTED : VIZHONIKU_REFUSED)) wrong++;
+  }
+  refused = -1;
+  free(call.key_buffer);
+  free(call.buffer);
+  free(path.bytes);
+  free(text.bytes);
+}
+
+int main(int count, char **words) {
+  struct stack stack = {NULL, (count > 1 ? strtoul(words[1], NULL, 10) : 128) * 1024};
+  unsigned char *room = mmap(NULL, PAGE + stack.size, PROT_READ | PROT_WRITE, MAP_PRIVATE | MAP_ANONYMOUS, -1, 0);
+  if (room == MAP_FAILED || mprotect(room, PAGE, PROT_NONE)) return 2;
+  stack.words = (uint64_t *)(void *)(room + PAGE);
+  fill(&stack, 0);
+  static const int members[] = {1, 30, 5001};
+  for (int kind = ARRAYS; kind <= IN_TURN; kind++) {
+    for (int i = 0; i < 3; i++) {
+      for (int is_first = 0; is_first < (members[i] > 1 ? 2 : 1); is_first++) {
+        for (int end = WHOLE; end < ENDS; end++) {
+          struct shape shape = {(enum kind)kind, members[i], is_first, (enum end)end};
+          if ((end == KEY_AGAIN || end == KEY_BEFORE) && kind != OBJECTS) continue;
+          if (members[i] > 30 && (kind == IN_TURN || end > TRAILING || (end != WHOLE && !is_first))) continue;
+          measure(&shape, &stack);
+        }
+      }
+    }
+  }
+  int over = 0;
+  for (int i = 0; i < FUNCTIONS; i++) {
+    const struct shape *shape = &where[i];
+    printf("%s took %zu bytes at most: %s of %d, the deep one %s%s\n", functions[i], most[i], kinds[shape->kind],
+           shape->members, shape->is_first ? "first" : "last", ends[shape->end]);
+    if (most[i] > LIMIT) over++;
+  }
+  printf("%ld calls, %ld answered otherwise, %d functions took more than %d bytes\n", runs, wrong, over, LIMIT);
+  return over || wrong;
+}
