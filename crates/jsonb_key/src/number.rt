@@ -116,7 +116,7 @@ fn number_of(negative: bool, place: u32, digits: u128, count: u32) -> Option<Num
     Some(number_with(scale, signed))
 }
 
-// The whole number of this sign.
+// The integer of this sign.
 fn with_sign(negative: bool, magnitude: u128) -> Option<i128>
     ensures { MatchOption result ((2 ^ 127 < magnitude) ⊎ ((negative ≡ false) × (2 ^ 127 ≤ magnitude)))
         (λ z. z ≡ signed_by negative magnitude) }
