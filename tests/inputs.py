@@ -70,7 +70,7 @@ class Maker:
 
     # Blanks and comments.
 
-    def blanks(self, mode):
+    def whitespace(self, mode):
         if self.chance(0.7):
             return b""
         return b"".join(self.blank(mode) for _ in range(self.count(1, 3)))
@@ -221,19 +221,19 @@ class Maker:
             return self.scalar(mode)
         parts = [self.member(mode, depth - 1) if way < 0.7 else self.element(mode, depth - 1)
                  for _ in range(self.pick((0, 1, 1, 2, 2, 3, 4)))]
-        inner = b",".join(parts) if parts else self.blanks(mode)
+        inner = b",".join(parts) if parts else self.whitespace(mode)
         return b"{" + inner + b"}" if way < 0.7 else b"[" + inner + b"]"
 
     def element(self, mode, depth):
         core = b"" if mode == EXTENDED and self.chance(0.1) else self.value(mode, depth)
-        return self.blanks(mode) + core + self.blanks(mode)
+        return self.whitespace(mode) + core + self.whitespace(mode)
 
     def member(self, mode, depth):
-        key = self.blanks(mode) + self.key(mode) + self.blanks(mode)
-        return key + b":" + self.blanks(mode) + self.value(mode, depth) + self.blanks(mode)
+        key = self.whitespace(mode) + self.key(mode) + self.whitespace(mode)
+        return key + b":" + self.whitespace(mode) + self.value(mode, depth) + self.whitespace(mode)
 
     def document(self, mode):
-        text = self.blanks(mode) + self.value(mode, self.pick((0, 1, 1, 2, 3))) + self.blanks(mode)
+        text = self.whitespace(mode) + self.value(mode, self.pick((0, 1, 1, 2, 3))) + self.whitespace(mode)
         if mode == EXTENDED and self.chance(0.03):
             text += b"//" + b"".join(self.random.choices(TOKENS, k=self.count(0, 4)))
         return text
@@ -265,7 +265,7 @@ class Maker:
         return b"".join(self.random.choices(TOKENS + LONG_TOKENS, k=self.count(0, 9)))
 
     def opener(self, mode):
-        blanks = self.blanks(mode) if self.chance(0.05) else b""
+        blanks = self.whitespace(mode) if self.chance(0.05) else b""
         if self.chance(0.02):
             return b"[" + blanks + self.pick((b"[],", b"{},", b"[[]],")), b"]"
         if self.chance(0.6):
@@ -284,9 +284,9 @@ class Maker:
         spellings = [b'"a"', b'"b"', b'"c"', b'"\\u0061"', b'"\\u{0062}"', b'"\xc3\xa9"', b'"\\u00e9"']
         if mode == EXTENDED:
             spellings += [b"a", b"b", b"c", b"'a'", b"'\\u0062'", b"\xc3\xa9"]
-        members = [self.blanks(mode) + self.pick(spellings) + self.blanks(mode) + b":" + self.scalar(mode)
+        members = [self.whitespace(mode) + self.pick(spellings) + self.whitespace(mode) + b":" + self.scalar(mode)
                    for _ in range(self.count(2, 5))]
-        text = b"{" + b",".join(members) + self.blanks(mode) + b"}"
+        text = b"{" + b",".join(members) + self.whitespace(mode) + b"}"
         return self.pick((text, b"[" + text + b"]", b'{"b":' + text + b',"b":0}'))
 
     # An object with one key of bytes that keys without quotes may or may not hold.
@@ -322,7 +322,7 @@ class Maker:
             (350, lambda: [self.document(mode)]),
             (300, lambda: [self.broken(self.document(mode))]),
             (100, lambda: [self.raw()]),
-            (100, lambda: [self.blanks(mode) + self.number(mode) + self.blanks(mode)]),
+            (100, lambda: [self.whitespace(mode) + self.number(mode) + self.whitespace(mode)]),
             (80, lambda: [self.string(mode)]),
             (20, lambda: [self.long_string(mode)]),
             (20, lambda: [self.repeating(mode)]),

@@ -1,7 +1,7 @@
-"""A second reading of JSON texts, in both modes, to compare the reader with.
+"""The reference implementation: JSON texts in both modes, to compare the parsers with.
 
 It is written from the rules in docs/GRAMMAR.md, docs/VALUES.md and docs/SORT_KEYS.md, and not from the code of the
-crates. It is to be plain, not fast. Run alone, it answers the lines that it reads from standard input as the program
+crates. It is to be plain, not fast. Run alone, it takes lines from standard input and prints results as the program
 `jsonb_driver` does.
 
 A tree is a tuple whose first part is its kind:
@@ -9,8 +9,8 @@ A tree is a tuple whose first part is its kind:
     ("null",)   ("bool", truth)   ("number", variant, scale, whole)   ("string", mark, bytes)
     ("array", items)   ("object", members), each member (mark, key, index, tree), in the order of the keys
 
-The mark of a string is "plain" where it has no backslash in the text, else "escaped". The index of a member is the one
-after its key's spelling.
+The mark of a string is "plain" where it has no backslash in the text, else "escaped". The index of a member is the
+offset after its key.
 """
 
 import math
@@ -57,7 +57,7 @@ sys.setrecursionlimit(20000)
 
 
 class Refusal(Exception):
-    """Why a text is refused: a code, its argument (a byte or a key) or None, and a position."""
+    """Why a text is rejected: a code, its argument (a byte or a key) or None, and an offset."""
 
     def __init__(self, code, position, argument=None):
         super().__init__(code, position, argument)
@@ -102,7 +102,7 @@ class Body:
         self.idx = idx
         self.mode = mode
 
-    def refuse(self, code, argument=None):
+    def reject(self, code, argument=None):
         raise Refusal(code, self.idx, argument)
 
     def go(self, count):
@@ -119,13 +119,13 @@ class Body:
             else:
                 out.append(byte)
         if not is_utf8(out):
-            self.refuse("InvalidStringValue")
+            self.reject("InvalidStringValue")
         return bytes(out)
 
     def escape(self):
         """The meaning of an escape whose backslash was passed."""
         if self.at == len(self.data):
-            self.refuse("UnexpectedEndOfHexEscape")
+            self.reject("UnexpectedEndOfHexEscape")
         letter = self.data[self.at]
         self.go(1)
         if letter in SIMPLE_ESCAPES:
@@ -133,7 +133,7 @@ class Body:
         if letter == 0x27 and self.mode == EXTENDED:
             return b"'"
         if letter != 0x75:
-            self.refuse("InvalidEscaped", letter)
+            self.reject("InvalidEscaped", letter)
         return self.units(self.unit())
 
     def units(self, first):
@@ -155,17 +155,17 @@ class Body:
         rest = self.data[self.at:self.at + 6]
         if rest[:1] == b"{":
             if len(rest) < 6 or rest[5:6] != b"}":
-                self.refuse("UnexpectedEndOfHexEscape")
+                self.reject("UnexpectedEndOfHexEscape")
             digits = rest[1:5]
             self.go(6)
         else:
             digits = rest[:4]
             if len(digits) < 4:
-                self.refuse("UnexpectedEndOfHexEscape")
+                self.reject("UnexpectedEndOfHexEscape")
             self.go(4)
         for byte in digits:
             if byte not in HEX_DIGITS:
-                self.refuse("InvalidHex", byte)
+                self.reject("InvalidHex", byte)
         return Unit(digits)
 
 
@@ -187,22 +187,22 @@ class Reader:
     def is_here(self, choices):
         return self.at < self.end and self.data[self.at] in choices
 
-    def refuse_end(self):
+    def reject_end(self):
         raise Refusal("InvalidEOF", self.end)
 
     def document(self):
-        self.blanks()
+        self.whitespace()
         if self.at == self.end and self.extended:
             return ("null",)
         tree = self.value()
-        self.blanks()
+        self.whitespace()
         if self.at < self.end:
             raise Refusal("UnexpectedTrailingCharacters", self.at + 1)
         return tree
 
     # Blanks and comments.
 
-    def blanks(self):
+    def whitespace(self):
         while self.blank():
             pass
 
@@ -221,11 +221,11 @@ class Reader:
             return False
         close = self.data.find(b"*/", self.at + 2)
         if close < 0:
-            self.refuse_end()
+            self.reject_end()
         self.at = close + 2
         return True
 
-    # A line that the text's end cuts is passed to that end. In an array or an object the end is then refused.
+    # A line that the text's end cuts is passed to that end. In an array or an object the end is then rejected.
     def line_comment(self):
         if not self.data.startswith(b"//", self.at):
             return False
@@ -241,7 +241,7 @@ class Reader:
     def value(self):
         first = self.here()
         if first == b"":
-            self.refuse_end()
+            self.reject_end()
         if first == b"[":
             return self.array()
         if first == b"{":
@@ -285,7 +285,7 @@ class Reader:
     def word(self, letters):
         for letter in letters:
             if self.at == self.end:
-                self.refuse_end()
+                self.reject_end()
             byte = self.here().lower() if self.extended else self.here()
             if byte != bytes((letter,)):
                 raise Refusal("ExpectedSomeIdent", self.at + 1)
@@ -300,7 +300,7 @@ class Reader:
             self.at += 1
         return self.data[start:self.at]
 
-    def refuse_number(self, step=0):
+    def reject_number(self, step=0):
         raise Refusal("InvalidNumberValue", self.at + step)
 
     def exponent(self):
@@ -311,7 +311,7 @@ class Reader:
         if self.is_here(b"+-"):
             self.at += 1
         if not self.run(DIGITS):
-            self.refuse_number()
+            self.reject_number()
         return True
 
     def standard_number(self):
@@ -322,16 +322,16 @@ class Reader:
             whole = self.here()
             self.at += 1
             if self.is_here(DIGITS):
-                self.refuse_number(1)
+                self.reject_number(1)
         else:
             whole = self.run(DIGITS)
             if not whole:
-                self.refuse_number()
+                self.reject_number()
         fraction = self.here() == b"."
         if fraction:
             self.at += 1
             if not self.run(DIGITS):
-                self.refuse_number(1)
+                self.reject_number(1)
         exponent = self.exponent()
         # No number of 64 bits has more digits than 20.
         if not (fraction or exponent) and len(whole) <= 20:
@@ -351,7 +351,7 @@ class Reader:
                 self.word(b"nan" if self.is_here(b"nN") else b"infinity")
                 word = self.data[self.at - 3:self.at].lower()
                 if sign == b"-" and word == b"nan":
-                    self.refuse_number()
+                    self.reject_number()
                 raise Refusal("NumberNotCarried", self.at)
         if self.data[self.at:self.at + 2].lower() == b"0x":
             return self.hexadecimal(sign == b"-")
@@ -361,18 +361,18 @@ class Reader:
         self.at += 2
         digits = self.run(HEX_DIGITS)
         if not digits:
-            self.refuse_number()
+            self.reject_number()
         number = int(digits, 16)
         if self.here() == b".":
             self.at += 1
             fraction = self.run(HEX_DIGITS)
             if not fraction:
-                self.refuse_number()
+                self.reject_number()
             if number >= 2 ** 128 or int(fraction, 16) >= 2 ** 128:
-                self.refuse_number()
+                self.reject_number()
             raise Refusal("NumberNotCarried", self.at)
         if number >= 2 ** 128:
-            self.refuse_number()
+            self.reject_number()
         if negative and number <= 2 ** 63:
             return ("number", "Int64", 0, -number)
         if not negative and number < 2 ** 64:
@@ -389,13 +389,13 @@ class Reader:
             self.at += 1
             fraction = self.run(DIGITS)
             if not (zeros or whole or fraction):
-                self.refuse_number()
+                self.reject_number()
             if self.here() == b".":
                 if len(whole) + len(fraction) < DIGITS_UNTIL_A_POINT_ENDS:
-                    self.refuse_number()
+                    self.reject_number()
                 raise Refusal("NumberNotCarried", self.at)
         if not (zeros or whole or fraction):
-            self.refuse_number()
+            self.reject_number()
         exponent = self.exponent()
         precision = len(whole) + len(fraction)
         if exponent or precision > MAX_PRECISION:
@@ -443,14 +443,14 @@ class Reader:
     def key(self):
         first = self.here()
         if first == b"":
-            self.refuse_end()
+            self.reject_end()
         if first == b'"' or (self.extended and first == b"'"):
             return self.quoted()
         if not self.extended:
             raise Refusal("ExpectedSomeIdent", self.at + 1)
-        return ("plain", self.bare_key())
+        return ("plain", self.unquoted_key())
 
-    def bare_key(self):
+    def unquoted_key(self):
         start = self.at
         if self.is_here(DIGITS):
             raise Refusal("ObjectKeyInvalidNumber", self.at + 1)
@@ -480,7 +480,7 @@ class Reader:
             raise Refusal("DepthLimitExceeded", self.at + 1)
         self.depth += 1
         self.at += 1
-        self.blanks()
+        self.whitespace()
 
     def go_out(self):
         self.depth -= 1
@@ -493,14 +493,14 @@ class Reader:
             self.go_out()
             return ("array", items)
         while True:
-            self.blanks()
+            self.whitespace()
             if self.extended and self.is_here(b",]"):
                 items.append(("null",))
             else:
                 items.append(self.value())
-                self.blanks()
+                self.whitespace()
             if self.at == self.end:
-                self.refuse_end()
+                self.reject_end()
             if self.here() == b"]":
                 self.go_out()
                 return ("array", items)
@@ -515,11 +515,11 @@ class Reader:
             self.go_out()
             return ("object", members)
         while True:
-            self.blanks()
+            self.whitespace()
             members.append(self.member())
-            self.blanks()
+            self.whitespace()
             if self.at == self.end:
-                self.refuse_end()
+                self.reject_end()
             if self.here() == b"}":
                 self.go_out()
                 return ("object", in_order(members))
@@ -530,13 +530,13 @@ class Reader:
     def member(self):
         mark, key = self.key()
         index = self.at
-        self.blanks()
+        self.whitespace()
         if self.at == self.end:
-            self.refuse_end()
+            self.reject_end()
         if self.here() != b":":
             raise Refusal("ExpectedColon", self.at)
         self.at += 1
-        self.blanks()
+        self.whitespace()
         return (mark, key, index, self.value())
 
 
@@ -550,7 +550,7 @@ def carried(number, scale, precision):
 
 
 def in_order(members):
-    """The members in the order of their keys; the least key that is repeated is refused, at its second spelling."""
+    """The members in the order of their keys; the least repeated key is rejected, at its second occurrence."""
     seen = set()
     second = {}
     for _, key, index, _ in members:
@@ -682,7 +682,7 @@ def negated(number):
     _, variant, scale, whole = number
     if variant.startswith("Decimal"):
         return ("number", variant, scale, -whole) if within(-whole, RANGES[variant]) else f"{variant} overflow"
-    # The opposite of a UInt64 of 2^63 would fit, and is refused.
+    # The opposite of a UInt64 of 2^63 would fit, and is an error.
     return "Int64 overflow" if whole == 2 ** 63 else in_variant("Int64", -whole)
 
 
@@ -797,7 +797,7 @@ def answer_key(data):
 
 
 def number_of(word):
-    """The number that is spelled as in a tree, or None."""
+    """The number that is written as in a tree, or None."""
     found = re.fullmatch(r"(U?Int64)\((-?[0-9]+)\)|(Decimal64|Decimal128)\(([0-9]+),(-?[0-9]+)\)", word)
     if found is None:
         return None
@@ -810,16 +810,16 @@ def answer_number(number):
              for found in (exact(number), rounded(number)) for bounds in ((-math.inf, math.inf), SIGNED, UNSIGNED)]
     _, _, scale, whole = number
     text, key = number_text(scale, whole).decode(), number_key(scale, whole).hex()
-    return " ".join([text, *map(str, casts), described_or_refused(negated(number)), key])
+    return " ".join([text, *map(str, casts), described_or_error(negated(number)), key])
 
 
-def described_or_refused(answer):
+def described_or_error(answer):
     return f"no:{answer.encode().hex()}" if isinstance(answer, str) else described(answer)
 
 
 def answer_two_numbers(left, right):
     word = ("less", "equal", "greater")[order(left, right) + 1]
-    answers = (described_or_refused(operated(name, left, right)) for name in ("add", "sub", "mul", "rem"))
+    answers = (described_or_error(operated(name, left, right)) for name in ("add", "sub", "mul", "rem"))
     return " ".join([word, *answers])
 
 
