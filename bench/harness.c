@@ -13,7 +13,9 @@
  *
  * With NO_COUNTER set it opens no counter. PREFIX is what the names of the measured library's functions begin with.
  * WITH_EXTENDED is defined where the library reads extended mode, WITH_AST where it reads into trees, WITH_SORT_KEY where it
- * writes sort keys, and WITH_MEMORY where memory.c is linked, as --peak needs it and as the times must not have it. */
+ * writes sort keys, and WITH_MEMORY where memory.c is linked, as --peak needs it and as the times must not have it.
+ * WITHOUT_VALUES is defined where it compares and clones no values, and WITH_READ_WRITE where it writes only what it has
+ * just read. */
 #define _GNU_SOURCE
 #include <linux/perf_event.h>
 #include <malloc.h>
@@ -33,7 +35,15 @@
 #define JOIN(a, b) JOIN_(a, b)
 
 typedef size_t operation_t(const unsigned char *text, size_t len, size_t rounds);
-operation_t JOIN(PREFIX, read), JOIN(PREFIX, write), JOIN(PREFIX, compare), JOIN(PREFIX, clone);
+operation_t JOIN(PREFIX, read);
+#ifdef WITH_READ_WRITE
+operation_t JOIN(PREFIX, read_write);
+#else
+operation_t JOIN(PREFIX, write);
+#endif
+#ifndef WITHOUT_VALUES
+operation_t JOIN(PREFIX, compare), JOIN(PREFIX, clone);
+#endif
 #ifdef WITH_EXTENDED
 operation_t JOIN(PREFIX, read_extended);
 #endif
@@ -54,12 +64,18 @@ static const struct operation { const char *name; operation_t *run; int only_rea
 #ifdef WITH_AST
   { "read_ast", JOIN(PREFIX, read_ast), 1, 0 },
 #endif
+#ifdef WITH_READ_WRITE
+  { "read_write", JOIN(PREFIX, read_write), 1, 0 },
+#else
   { "write", JOIN(PREFIX, write), 0, 0 },
+#endif
 #ifdef WITH_SORT_KEY
   { "sort_key", JOIN(PREFIX, sort_key), 0, 0 },
 #endif
+#ifndef WITHOUT_VALUES
   { "compare", JOIN(PREFIX, compare), 0, 0 },
   { "clone", JOIN(PREFIX, clone), 0, 0 },
+#endif
 };
 #define OPERATIONS (sizeof operations / sizeof *operations)
 

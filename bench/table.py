@@ -2,7 +2,7 @@
 """Prints the table of the benchmark: table.py NAME=MEASURES.. , a file of the harness's lines for each library."""
 import sys
 
-OPERATIONS = ["read", "extended", "read_ast", "write", "sort_key", "compare", "clone"]
+OPERATIONS = ["read", "extended", "read_ast", "write", "read_write", "sort_key", "compare", "clone"]
 
 
 def per_byte(figure, size):
@@ -17,7 +17,15 @@ def rows(path):
         for line in file:
             document, operation, size, ns, instructions = line.split()
             documents.setdefault(document.rsplit(".", 1)[0], {})[operation] = (int(size), ns, instructions)
+    for measures in documents.values():
+        if "read" in measures and "write" in measures:
+            (size, *read), (_, *write) = measures["read"], measures["write"]
+            measures["read_write"] = (size, *(total(pair) for pair in zip(read, write)))
     return documents
+
+
+def total(figures):
+    return "-" if "-" in figures else str(sum(map(float, figures)))
 
 
 def main():
@@ -25,7 +33,7 @@ def main():
     print("Nanoseconds a byte, and instructions a byte (ins), of one operation over all documents of a file.")
     print("The peak is the bytes of heap, for a byte of text, that live at most while a document is read.")
     print("%-13s %8s  %-10s" % ("document", "bytes", "library")
-          + "".join("%9s %7s" % (it, "ins") for it in OPERATIONS) + "   peak")
+          + "".join("%11s %7s" % (it, "ins") for it in OPERATIONS) + "   peak")
     for document in libraries[0][1]:
         for name, documents in libraries:
             if document not in documents:
@@ -33,9 +41,9 @@ def main():
             measures = documents[document]
             size = next(iter(measures.values()))[0]
             figures = [measures.get(it, (size, "-", "-")) for it in OPERATIONS]
-            peak = measures["peak"][1]
+            peak = measures["peak"][1] if "peak" in measures else "-"
             print("%-13s %8d  %-10s" % (document, size, name) + "".join(
-                "%9s %7s" % (per_byte(ns, size), per_byte(instructions, size)) for _, ns, instructions in figures)
+                "%11s %7s" % (per_byte(ns, size), per_byte(instructions, size)) for _, ns, instructions in figures)
                 + "%7s" % per_byte(peak, size))
 
 
