@@ -1,21 +1,22 @@
-//! The answer to one line: a letter, and what it is asked of in hexadecimal, with one blank before each part, also
-//! where that part is empty. The letter is `s` for standard or `e` for extended mode, or `b` for a string's body.
+//! The result of one line: a letter, and texts in hexadecimal or numbers, with one space before each part, also where
+//! that part is empty. The letter is `s` for standard or `e` for extended mode, `k` for a sort key, `b` for the contents
+//! of a string, and `n` for numbers.
 //!
-//! | line | answer |
+//! | line | result |
 //! |---|---|
-//! | one text, which is read | `ok`, its tree, its written text in hexadecimal, and `same` or `differs` |
-//! | one text, which is refused | `no` and what is printed of the refusal, in hexadecimal |
-//! | two texts, which are read | `less`, `equal` or `greater` |
-//! | a text for its key | `ok` and the sort key in hexadecimal, or `no` as above |
-//! | a body | `ok` and its text in hexadecimal, or `no` as above; and the index that `parse_string` leaves |
+//! | one text, which is accepted | `ok`, its tree, its serialized form in hexadecimal, and `same` or `differs` |
+//! | one text, which is rejected | `no` and the printed error, in hexadecimal |
+//! | two texts, which are accepted | `less`, `equal` or `greater` |
+//! | a text for its key | `ok`, the sort key in hexadecimal, and `differs` where the key's value isn't equal; or `no` as above |
+//! | contents | `ok` and their text in hexadecimal, or `no` as above; and the offset that `parse_string` leaves |
 //! | one number | its text, `as_i128`, `as_i64`, `as_u64`, `to_i128`, `to_i64`, `to_u64`, `neg`, and its sort key |
 //! | two numbers | their order, their sum, difference, product and remainder |
 //! | any other | `unknown` |
 //!
-//! A cast that gives no number is `none`. What arithmetic refuses is `no:` and what is printed of that, in hexadecimal.
+//! A cast that returns no number is `none`. An error of arithmetic is `no:` and the printed error, in hexadecimal.
 //!
-//! It is `same` where the value that was read is that of the tree, with the same variants of numbers and the same strings
-//! borrowed, and where what its written text reads back as is equal to it and is written as that text again.
+//! It is `same` where the parsed value is that of the tree, with the same variants of numbers and the same strings
+//! borrowed, and where its serialized form is parsed as an equal value with that serialized form.
 
 use crate::same::are_same;
 use crate::{numbers, tree};
@@ -54,18 +55,30 @@ fn of_key(alloc: Global, text: &str) -> Result<String, AllocError> {
         return unknown(alloc);
     };
     match sort_key(alloc, &text) {
-        Ok(key) => {
+        Ok((key, decodes)) => {
             let key = hex::encode(alloc, &key[..])?;
-            format!(in alloc; "ok {key}")
+            let difference = if decodes { "" } else { " differs" };
+            format!(in alloc; "ok {key}{difference}")
         }
         Err(e) => refused(alloc, &e),
     }
 }
 
-fn sort_key(alloc: Global, text: &[u8]) -> jsonb::Result<Vec<u8>> {
+// The sort key of a text's value, and whether the key is decoded as an equal value.
+fn sort_key(alloc: Global, text: &[u8]) -> jsonb::Result<(Vec<u8>, bool)> {
+    let value = jsonb::parse_value(alloc, text)?;
     let mut key = Vec::new(alloc);
-    jsonb::parse_value(alloc, text)?.write_sort_key(&mut key)?;
-    Ok(key)
+    value.write_sort_key(&mut key)?;
+    let decodes = is_key_of(alloc, &key, &value.to_owned_value(alloc)?);
+    Ok((key, decodes))
+}
+
+// Whether the key is decoded as an equal value.
+fn is_key_of(alloc: Global, key: &[u8], value: &Value<'static>) -> bool {
+    match jsonb_key::value_of_sort_key(alloc, key) {
+        Ok(decoded) => decoded == *value,
+        Err(_) => false,
+    }
 }
 
 fn of_body(alloc: Global, body: &str) -> Result<String, AllocError> {

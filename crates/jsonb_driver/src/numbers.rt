@@ -1,4 +1,4 @@
-//! The answer to one number or two, each spelled as in a tree: `Int64(-5)`, `Decimal64(2,150)`.
+//! The result of one number or two, each written as in a tree: `Int64(-5)`, `Decimal64(2,150)`.
 
 use crate::tree;
 use jsonb::{Decimal64, Decimal128, Error, Number, Result as NumberResult, Value};
