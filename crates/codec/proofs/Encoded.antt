@@ -1,4 +1,4 @@
--- What stands after a value was encoded.
+-- The buffer after a value was encoded.
 use Rattle.std.proofs.Common.{◌≡◌, ℕ, List, ◌++◌, Some, sym, subst, ap, ◌∙◌}
 use Rattle.std.proofs.lemmas.List.{append_cancel_left}
 use Rattle.jsonb.specs.Grammar.{IsDocument}

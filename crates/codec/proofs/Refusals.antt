@@ -1,4 +1,4 @@
--- What is refused of lines and of frames, and where there is no room for a frame.
+-- The first line or frame that is rejected, and where a frame exceeds the capacity.
 use Rattle.std.proofs.Common.{◌≡◌, ◌≢◌, ◌⊎◌, inl, inr, ℕ, ◌+◌, ◌<◌, List, [], ◌∷◌, ◌++◌, length, take, drop, get_or, true, Option, Some, None, IsSome, MatchOption, Result, Ok, Err, OnErr, is_err, Vec, Global, refl, sym, subst, ap, ◌∙◌, add-one, append-nil, drop-cons, take-append-drop, arith}
 use Rattle.jsonb.specs.Grammar.{IsDocument}
 use Rattle.jsonb.specs.Mode.{extended}

@@ -1,4 +1,5 @@
--- Frames: a text behind its length.
+-- The frame of a text, and the bytes that begin with it.
+-- Read for: promises.
 use Rattle.std.specs.Prelude.{◌≡◌, ℕ, ◌<◌, ◌^◌, List, ◌++◌, length}
 use Rattle.std.specs.Int.{w32, to_be_bytes}
 

@@ -1,10 +1,11 @@
--- Values in frames.
+-- Frames of values, one and many, as they are written and parsed, and the errors.
+-- Read for: promises.
 use Rattle.std.specs.Prelude.{◌≡◌, ◌≢◌, ◌⊎◌, ℕ, ◌<◌, ◌≤◌, ◌^◌, List, [], ◌∷◌, ◌++◌, length, map, codes, Some, None, Vec}
 use Rattle.std.specs.declared.alloc.Global.{Global}
 use Rattle.jsonb.specs.ErrorText.{error_text}
 use Rattle.jsonb.specs.Grammar.{IsDocument, IsNoDocument}
 use Rattle.jsonb.specs.Mode.{extended}
-use Rattle.jsonb.specs.Parser.{Fails, HoldsMarker}
+use Rattle.jsonb.specs.Parser.{Fails, MayAllocate}
 use Rattle.jsonb.specs.Reading.Document.{document_of}
 use Rattle.jsonb.specs.Tree.{Tree}
 use Rattle.jsonb_value.specs.Order.{Same}
@@ -53,7 +54,7 @@ DecodeRefuses bytes TooLong = ⊥
 DecodeRefuses bytes CutShort = (text rest : List ℕ) → BeginsWith bytes text rest → ⊥
 DecodeRefuses bytes (Refused e) =
     (text : List ℕ) × (rest : List ℕ) × BeginsWith bytes text rest
-    × (e ≢ error.OutOfMemory → IsNoDocument extended text) × (e ≡ error.OutOfMemory → HoldsMarker text)
+    × (e ≢ error.OutOfMemory → IsNoDocument extended text) × (e ≡ error.OutOfMemory → MayAllocate text)
     × Fails e (document_of extended text)
 
 -- the bytes of each line
@@ -74,7 +75,7 @@ abbrev pub LineRefuses : List ℕ → Refusal → Type 0
 LineRefuses line TooLong = (t : Tree) × IsDocument extended line t × EncodeRefuses t TooLong
 LineRefuses line CutShort = ⊥
 LineRefuses line (Refused e) = (e ≢ error.OutOfMemory → IsNoDocument extended line)
-    × (e ≡ error.OutOfMemory → HoldsMarker line ⊎ ((t : Tree) × IsDocument extended line t))
+    × (e ≡ error.OutOfMemory → MayAllocate line ⊎ ((t : Tree) × IsDocument extended line t))
     × Fails e (document_of extended line)
 
 -- The lines before this one are documents that have frames, and this one is refused.

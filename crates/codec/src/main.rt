@@ -1,23 +1,38 @@
 //! Reads JSON documents from standard input, one on each line, puts their values one after the other into a buffer of
-//! frames, reads the frames again, and writes the text of each value on a line.
+//! frames, reads the frames again, and writes the text of each value on a line. Lines of whitespace alone are skipped.
 #![tactic(auto)]
 
 pub mod frame;
 pub mod values;
 
 use std::alloc::Global;
-use std::io;
 use std::io::{BufRead, BufReader, Read, Write};
 use std::process::ExitCode;
+use std::rt::Env;
+use std::{env, io};
 use values::Refusal;
 
-// The lines of the input, without their line feeds.
-fn read_lines<R: Read + Drop>(alloc: Global, input: R) -> io::Result<Vec<Vec<u8>>> {
-    let mut lines = Vec::new(alloc);
+// The lines of the input that are more than whitespace, without their line feeds, and the number of each, from 1.
+#[derive(Drop)]
+struct Input {
+    texts: Vec<Vec<u8>>,
+    numbers: Vec<usize>,
+}
+
+fn read_lines<R: Read + Drop>(alloc: Global, input: R) -> io::Result<Input> {
+    let mut texts = Vec::new(alloc);
+    let mut numbers = Vec::new(alloc);
+    let mut number = 0usize;
     for line in BufReader::new(alloc, input)?.split(alloc, b'\n') {
-        lines.push(line?)?;
+        let line = line?;
+        number = number.saturating_add(1);
+        if line.iter().all(|byte| byte.is_ascii_whitespace()) {
+            continue;
+        }
+        texts.push(line)?;
+        numbers.push(number)?;
     }
-    Ok(lines)
+    Ok(Input { texts, numbers })
 }
 
 // The texts of the documents that the lines are, by way of their frames.
@@ -32,17 +47,40 @@ fn put<W: Write>(out: &mut W, bytes: &[u8]) -> io::Result<()> {
     out.flush()
 }
 
+// The number of the first line that is no document.
+fn rejected_line(alloc: Global, lines: &Input) -> Option<usize> {
+    for (text, number) in lines.texts.iter().zip(lines.numbers.iter()) {
+        if jsonb::parse_value(alloc, text).is_err() {
+            return Some(*number);
+        }
+    }
+    None
+}
+
+// Whether the program has arguments, and it takes none.
+fn has_arguments(rt: &(impl Env + AllocGlobal)) -> io::Result<bool> {
+    Ok(env::args(rt)?.nth(1).is_some())
+}
+
 fn main(rt: HostRuntime) -> ExitCode {
+    if !matches!(has_arguments(&rt), Ok(false)) {
+        let _ = writeln!(rt.stderr(), "usage: codec < FILE");
+        return ExitCode::from(2);
+    }
     let Ok(lines) = read_lines(rt.alloc(), rt.reader()) else {
+        let _ = writeln!(rt.stderr(), "the input can't be read");
         return ExitCode::FAILURE;
     };
-    match recoded(rt.alloc(), &lines) {
+    match recoded(rt.alloc(), &lines.texts) {
         Ok(text) => match put(&mut rt.stdout(), &text) {
             Ok(()) => ExitCode::SUCCESS,
             Err(_) => ExitCode::FAILURE,
         },
         Err(refusal) => {
-            let _ = writeln!(rt.stderr(), "{refusal}");
+            let _ = match rejected_line(rt.alloc(), &lines) {
+                Some(number) => writeln!(rt.stderr(), "line {number}: {refusal}"),
+                None => writeln!(rt.stderr(), "{refusal}"),
+            };
             ExitCode::FAILURE
         }
     }

@@ -1,4 +1,4 @@
--- The members of a `JsonAst` as a source.
+-- A member of a `JsonAst` by its key, with the offset of the key's end.
 use Rattle.std.proofs.Common.{◌≡◌, inl, inr, ℕ, zero, suc, ◌<◌, List, [], ◌∷◌, length, get_or, Bool, true, false, ◌&&◌, eqb, eqb-true, Vec, Global, refl, ap, subst, sym, ◌∙◌, arith, rules}
 use Rattle.std.specs.Cow.{cow_str_bytes}
 use Rattle.jsonb.specs.AstView.{Written}

@@ -1,4 +1,4 @@
--- Settings and the members that were read.
+-- The member at a setting's key among those that were parsed; settings and errors of the whole text.
 use Rattle.std.proofs.Common.{◌≡◌, ℕ, ◌+◌, ◌<◌, List, [], ◌∷◌, ◌++◌, length, take, get_or, Option, Some, Bool, true, false, not, Ordering, Less, Equal, Greater, nat_cmp, Vec, Global, Result, Ok, Err, IfOk, IfErr, refl, sym, subst, ap, ◌∙◌, add-one, take-suc, rules, if◌then◌else◌}
 use Rattle.std.proofs.lemmas.Map.Text.{is_eq-slice_cmp}
 use Rattle.std.specs.Cmp.Lexicographic.{slice_cmp}

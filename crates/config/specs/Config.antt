@@ -1,11 +1,12 @@
--- The settings that a tree gives.
+-- Which settings a tree gives, with the defaults, and what is rejected.
+-- Read for: promises, but `IsSettingRefusal`.
 use Rattle.std.specs.Prelude.{◌≡◌, ◌≢◌, ◌⊎◌, ℕ, ◌<◌, ◌^◌, List, Bool, false, Option, Some, None, codes, string_bytes, pos}
 use Rattle.std.specs.Str.{bytes_eq}
 use Rattle.jsonb.specs.AstView.{Written, written_members}
 use Rattle.jsonb.specs.Code.{code_of}
 use Rattle.jsonb.specs.Grammar.{IsDocument, IsNoDocument}
 use Rattle.jsonb.specs.Mode.{extended}
-use Rattle.jsonb.specs.Parser.{Fails, HoldsMarker}
+use Rattle.jsonb.specs.Parser.{Fails, MayAllocate}
 use Rattle.jsonb.specs.Accessors.{as_boolean, as_object, as_string, find_member, IsWholeNumber}
 use Rattle.jsonb.specs.Line.{column_at, fault_index, line_at}
 use Rattle.jsonb.specs.Placed.{IsPlaced}
@@ -108,7 +109,7 @@ IsSettingRefusal text members other = ⊥
 -- for the host.
 abbrev pub IsConfigRefusal : List ℕ → Refusal → Type 0
 IsConfigRefusal text (refusal.NoDocument e line column) =
-    (e ≢ error.OutOfMemory → IsNoDocument extended text) × (e ≡ error.OutOfMemory → HoldsMarker text)
+    (e ≢ error.OutOfMemory → IsNoDocument extended text) × (e ≡ error.OutOfMemory → MayAllocate text)
     × Fails e (document_of extended text)
     × (line ≡ line_at text (shown_index text e)) × (column ≡ column_at text (shown_index text e))
 IsConfigRefusal text refusal.NoObject = (t : Tree) × IsDocument extended text t × (as_object t ≡ None)

@@ -52,6 +52,16 @@ impl Setting {
             Setting::Verbose => "verbose",
         }
     }
+
+    // What its value has to be, in words.
+    fn wanted(self) -> &'static str {
+        match self {
+            Setting::Host => "a string",
+            Setting::Port => "an integer from 0 to 65535",
+            Setting::Workers => "an integer from 0 to 18446744073709551615",
+            Setting::Verbose => "true or false",
+        }
+    }
 }
 
 /// Why a text gives no settings.
@@ -73,10 +83,10 @@ impl fmt::Display for Refusal {
             Refusal::NoDocument(error, line, column) => {
                 write!(f, "line {line}, column {column}: {error}")
             }
-            Refusal::NoObject => write!(f, "no object"),
+            Refusal::NoObject => write!(f, "the settings aren't an object"),
             Refusal::Wrong(setting, line, column) => {
-                let key = setting.key();
-                write!(f, "line {line}, column {column}: wrong value of {key}")
+                let (key, wanted) = (setting.key(), setting.wanted());
+                write!(f, "line {line}, column {column}: {key} isn't {wanted}")
             }
             Refusal::NoMemory => write!(f, "out of memory"),
         }

@@ -33,10 +33,11 @@ fn put<W: Write>(out: &mut W, text: &[u8]) -> io::Result<()> {
 
 fn main(rt: HostRuntime) -> ExitCode {
     let Ok(path) = path_of(&rt) else {
-        let _ = writeln!(rt.stderr(), "usage: path PATH");
+        let _ = writeln!(rt.stderr(), "usage: path PATH < FILE");
         return ExitCode::from(2);
     };
     let Ok(document) = read_all(rt.alloc(), &mut rt.stdin()) else {
+        let _ = writeln!(rt.stderr(), "the input can't be read");
         return ExitCode::FAILURE;
     };
     match jsonb_pointer::part_text(rt.alloc(), path.as_bytes(), &document) {
@@ -45,7 +46,7 @@ fn main(rt: HostRuntime) -> ExitCode {
             Err(_) => ExitCode::FAILURE,
         },
         Ok(None) => {
-            let _ = writeln!(rt.stderr(), "nothing stands at this path");
+            let _ = writeln!(rt.stderr(), "the document has nothing at this path");
             ExitCode::FAILURE
         }
         Err(refusal) => {

@@ -1,9 +1,9 @@
--- Documents read one after the other.
+-- Documents parsed one after the other.
 use Rattle.std.proofs.Common.{◌≡◌, ◌≢◌, ℕ, zero, suc, ◌+◌, ◌<◌, List, [], ◌∷◌, ◌++◌, length, take, drop, get_or, Vec, Global, Result, Ok, Err, IfErr, OnErr, refl, sym, subst, ap, ◌∙◌, add-one, drop-cons, take-suc, take-append-drop, length-take-le, arith}
 use Rattle.std.proofs.lemmas.List.{map-append, length-map}
 use Rattle.jsonb.specs.Grammar.{IsDocument, IsNoDocument}
 use Rattle.jsonb.specs.Mode.{extended}
-use Rattle.jsonb.specs.Parser.{Fails, HoldsMarker}
+use Rattle.jsonb.specs.Parser.{Fails, MayAllocate}
 use Rattle.jsonb.specs.Reading.Document.{document_of}
 use Rattle.jsonb.specs.View.{view}
 use Rattle.jsonb_value.specs.declared.error.Error.{Error}
@@ -51,7 +51,7 @@ first_read lines i line values v within is so_far document =
 
 -- the first line that is refused
 pub first_fault : (lines : List (Vec ℕ Global)) (i : ℕ) (line : Vec ℕ Global) (values : List Value) (e : Error) → i < length lines → line ≡ get_or lines i line
-    → AreDocuments (contents (take i lines)) values → (e ≢ OutOfMemory → IsNoDocument extended line.items) → (e ≡ OutOfMemory → HoldsMarker line.items) → Fails e (document_of extended line.items)
+    → AreDocuments (contents (take i lines)) values → (e ≢ OutOfMemory → IsNoDocument extended line.items) → (e ≡ OutOfMemory → MayAllocate line.items) → Fails e (document_of extended line.items)
     → IsFirstFault (contents lines) (i + 1) e
 first_fault lines i line values e within is so_far refused memory fault =
     let rest : drop i lines ≡ line ∷ drop (i + 1) lines = rw add-one (drop-cons lines i line within) ∙ ap (λ x. x ∷ drop (i + 1) lines) (sym is) in

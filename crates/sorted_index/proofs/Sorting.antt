@@ -1,4 +1,4 @@
--- What sorting and keeping one of the equal ones leave.
+-- What sorting and keeping one of the equal ones leave, and of which values nothing remains.
 use Rattle.std.proofs.Common.{◌≡◌, ◌≢◌, true, List, [], ◌∷◌, IsPermutation, IsSorted, Any, Ordering, Less, Equal, Greater, is_eq, Bool, refl, sym, subst, arith}
 use Rattle.std.proofs.lemmas.List.Kept.{Any-dedup, Contains-from_dedup, IsStrictlySortedBy-dedup}
 use Rattle.std.proofs.lemmas.List.Sorted.{Contains-permutation, IsPermutation-sym}

@@ -1,4 +1,5 @@
--- The index of the documents that stand on lines.
+-- Which values are the index of others, its text, and which line is rejected.
+-- Read for: promises.
 use Rattle.std.specs.Prelude.{◌≡◌, ◌≢◌, ℕ, ◌+◌, List, [], ◌∷◌, ◌++◌, length, map, codes, Contains, Some, Vec}
 use Rattle.std.specs.Fmt.{decimal}
 use Rattle.std.specs.List.{Any}
@@ -9,7 +10,7 @@ use Rattle.std.specs.declared.cmp.Ordering.TheVariants.{Equal}
 use Rattle.jsonb.specs.ErrorText.{error_text}
 use Rattle.jsonb.specs.Grammar.{IsDocument, IsNoDocument}
 use Rattle.jsonb.specs.Mode.{extended}
-use Rattle.jsonb.specs.Parser.{Fails, HoldsMarker}
+use Rattle.jsonb.specs.Parser.{Fails, MayAllocate}
 use Rattle.jsonb.specs.Reading.Document.{document_of}
 use Rattle.jsonb.specs.Tree.{Tree}
 use Rattle.jsonb.specs.View.{view}
@@ -67,7 +68,7 @@ pub record IsFirstFault (lines : List (List ℕ)) (number : ℕ) (error : Error)
   pub given : List Value
   pub documents : AreDocuments before given
   pub no_document : error ≢ OutOfMemory → IsNoDocument extended line
-  pub memory : error ≡ OutOfMemory → HoldsMarker line
+  pub memory : error ≡ OutOfMemory → MayAllocate line
   pub fault : Fails error (document_of extended line)
 
 -- there is a first line, and it is a document

@@ -40,19 +40,25 @@ fn refusals_name_the_place_and_the_key(rt: HostRuntime) -> Result<(), Fail> {
     for (text, told) in [
         (
             "{\n  host: 'a',\n  port: 65536\n}",
-            "line 3, column 7: wrong value of port",
+            "line 3, column 7: port isn't an integer from 0 to 65535",
         ),
-        ("{port: -1}", "line 1, column 6: wrong value of port"),
+        (
+            "{port: -1}",
+            "line 1, column 6: port isn't an integer from 0 to 65535",
+        ),
         (
             "{\n'workers': 1.5}",
-            "line 2, column 10: wrong value of workers",
+            "line 2, column 10: workers isn't an integer from 0 to 18446744073709551615",
         ),
-        ("{verbose: 1}", "line 1, column 9: wrong value of verbose"),
+        (
+            "{verbose: 1}",
+            "line 1, column 9: verbose isn't true or false",
+        ),
         (
             "// a\n\n{host: null}",
-            "line 3, column 6: wrong value of host",
+            "line 3, column 6: host isn't a string",
         ),
-        ("[]", "no object"),
+        ("[]", "the settings aren't an object"),
         ("{\n\n  a 1}", "line 3, column 5: expected `:`, pos 7"),
         (
             "{\n  verbose: tru\n}",

@@ -1,7 +1,7 @@
 use Rattle.std.proofs.Common.{◌≡◌, ◌∙◌, inl, Err, ap, subst, arith}
 use Rattle.jsonb.specs.Grammar.{IsDocument}
 use Rattle.jsonb.specs.Mode.{extended}
-use Rattle.jsonb.specs.Parser.{HoldsMarker}
+use Rattle.jsonb.specs.Parser.{MayAllocate}
 use Rattle.jsonb.specs.View.{view}
 use Rattle.jsonb_value.specs.declared.error.Error.TheVariants.{OutOfMemory}
 use Rattle.codec.proofs.Lines.{next_encoded, all_encoded}
@@ -21,7 +21,7 @@ pub returns-in-Err-clause-refused : goal.returns-in-Err-clause-refused
 returns-in-Err-clause-refused c =
     let line = c.line-item.result in
     let no_document = rw c.deref.ensures.value at c.in-Err.ensures.refused in
-    let memory : c.in-Err.error ≡ OutOfMemory → HoldsMarker line.items = λ none. subst HoldsMarker c.deref.ensures.value (c.parse_value.ensures.memory (c.in-Err.is ∙ ap Err none)) in
+    let memory : c.in-Err.error ≡ OutOfMemory → MayAllocate line.items = λ none. subst MayAllocate c.deref.ensures.value (c.parse_value.ensures.memory (c.in-Err.is ∙ ap Err none)) in
     let fault = rw c.deref.ensures.value at c.in-Err.ensures.exact in
     first_refused c.args.lines.now c.lines.line-index line c.lines.frames.items (Refused c.in-Err.error) (omega arith) c.line-item.is c.lines.invariant (no_document, (λ none. inl (memory none)), fault)
 

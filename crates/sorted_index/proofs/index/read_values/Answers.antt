@@ -1,7 +1,7 @@
 use Rattle.std.proofs.Common.{◌≡◌, ◌+◌, ◌∙◌, [], take, Err, ap, sym, subst, arith}
 use Rattle.jsonb.specs.Grammar.{IsDocument}
 use Rattle.jsonb.specs.Mode.{extended}
-use Rattle.jsonb.specs.Parser.{HoldsMarker}
+use Rattle.jsonb.specs.Parser.{MayAllocate}
 use Rattle.jsonb.specs.View.{view}
 use Rattle.jsonb_value.specs.declared.error.Error.TheVariants.{OutOfMemory}
 use Rattle.sorted_index.specs.Index.{contents, AreDocuments, no_documents}
@@ -15,7 +15,7 @@ pub returns-in-Err-clause-refused : goal.returns-in-Err-clause-refused
 returns-in-Err-clause-refused c =
     let line = c.index-lines-index.result in
     let refused = rw c.deref.ensures.value at c.in-Err.ensures.refused in
-    let memory : c.in-Err.error ≡ OutOfMemory → HoldsMarker line.items = λ none. subst HoldsMarker c.deref.ensures.value (c.parse_value.ensures.memory (c.in-Err.is ∙ ap Err none)) in
+    let memory : c.in-Err.error ≡ OutOfMemory → MayAllocate line.items = λ none. subst MayAllocate c.deref.ensures.value (c.parse_value.ensures.memory (c.in-Err.is ∙ ap Err none)) in
     let fault = rw c.deref.ensures.value at c.in-Err.ensures.exact in
     first_fault c.args.lines.now c.lines.index line c.lines.values.items c.in-Err.error (omega arith) c.index-lines-index.is c.lines.invariant refused memory fault
 
