@@ -1,3 +1,3 @@
--- Where a `JsonAst` stands in the text; lines and columns.
+-- The byte ranges of a `JsonAst` and its parts.
 pub mod Placed
 pub mod Views

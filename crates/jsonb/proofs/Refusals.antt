@@ -1,4 +1,4 @@
--- What refusals say of the text.
+-- What errors say of the text.
 pub mod Codes
 pub mod Explained
 pub mod OfScalars

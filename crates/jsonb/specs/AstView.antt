@@ -1,4 +1,5 @@
--- The tree that a `JsonAst` stands for.
+-- The tree of a `JsonAst`.
+-- Read for: promises: `ast_view` and what it names, `IsContainer`; the rest private.
 use Rattle.std.specs.Prelude.{ℕ, List, map, ⊤}
 use Rattle.std.specs.Cow.{cow_str_bytes}
 use Rattle.std.specs.declared.alloc.Global.{Global}

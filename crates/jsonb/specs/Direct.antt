@@ -1,5 +1,5 @@
--- Reading with no JsonAst between: the arrays and objects that are open while their values are made, and what is left
--- to read.
+-- The open containers of the fast path.
+-- Read for: private.
 use Rattle.std.specs.Prelude.{◌≡◌, ℕ, suc, ◌-◌, Bool, true, false, List, [], ◌∷◌, ◌++◌, length, Ok, None, map, String, string_bytes}
 use Rattle.std.specs.BTreeMap.{insert_entry, is_at}
 use Rattle.std.specs.Map.{lookup}
@@ -33,25 +33,25 @@ abbrev pub found_keys : List Found → List (List ℕ)
 found_keys fs = map (λ s. s.key) (map spot_of fs)
 
 -- The members that were found, each with another key, are those of the map.
-pub record IsPutIn (fs : List Found) (es : List (String Global × Value)) : Type 0 where
+pub record MapHolds (fs : List Found) (es : List (String Global × Value)) : Type 0 where
   pub put : members_view es ≡ put_all (map member_of fs) no_members
   pub distinct : AreDistinct (found_keys fs)
   pub known : (k : List ℕ) → IsNew k (names es) → IsNew k (found_keys fs)
 
 -- The parts so far are those that were found.
-abbrev pub IsHeld : OpenValue → Open → Type 0
-IsHeld (variants.Array v) (elements_so_far ts) = map view v.items ≡ ts
-IsHeld (variants.Array v) (members_so_far fs key place) = ⊥
-IsHeld (variants.Object o) (elements_so_far ts) = ⊥
-IsHeld (variants.Object o) (members_so_far fs key place) = IsPutIn fs o.members.entries × (string_bytes o.key ≡ key.1)
+abbrev pub FrameHolds : OpenValue → Open → Type 0
+FrameHolds (variants.Array v) (elements_so_far ts) = map view v.items ≡ ts
+FrameHolds (variants.Array v) (members_so_far fs key place) = ⊥
+FrameHolds (variants.Object o) (elements_so_far ts) = ⊥
+FrameHolds (variants.Object o) (members_so_far fs key place) = MapHolds fs o.members.entries × (string_bytes o.key ≡ key.1)
 
 -- The same of all that are open, where those of the reader come from the outermost on.
-abbrev pub AreHeldOnto : List Open → List OpenValue → List Open → Type 0
-AreHeldOnto below [] cs = cs ≡ below
-AreHeldOnto below (f ∷ fs) cs = (c : Open) × IsHeld f c × AreHeldOnto (c ∷ below) fs cs
+abbrev pub FramesHoldOnto : List Open → List OpenValue → List Open → Type 0
+FramesHoldOnto below [] cs = cs ≡ below
+FramesHoldOnto below (f ∷ fs) cs = (c : Open) × FrameHolds f c × FramesHoldOnto (c ∷ below) fs cs
 
-abbrev pub AreHeld : List OpenValue → List Open → Type 0
-AreHeld = AreHeldOnto []
+abbrev pub FramesHold : List OpenValue → List Open → Type 0
+FramesHold = FramesHoldOnto []
 
 -- the tree of a container that was read to its end
 abbrev pub tree_of : OpenValue → Tree
@@ -61,25 +61,25 @@ tree_of (variants.Object o) = object (members_view o.members.entries)
 -- ---- what is left to read
 
 -- the container, from after its closing byte on
-abbrev pub end_of : Open → List ℕ → Read Tree
-end_of (elements_so_far ts) rest = array_end ts rest
-end_of (members_so_far fs key place) rest = object_end fs rest
+abbrev pub finish_container : Open → List ℕ → Read Tree
+finish_container (elements_so_far ts) rest = array_end ts rest
+finish_container (members_so_far fs key place) rest = object_end fs rest
 
 -- the container, from its end or from the beginning of a part on
-abbrev pub part_at : ℕ → Mode → ℕ → Bool → Open → List ℕ → Read Tree
-part_at size mode depth true c rest = end_of c rest
-part_at size mode depth false c rest = next_part_at size mode depth c rest
+abbrev pub resume_part : ℕ → Mode → ℕ → Bool → Open → List ℕ → Read Tree
+resume_part size mode depth true c rest = finish_container c rest
+resume_part size mode depth false c rest = next_part_at size mode depth c rest
 
 -- the container, from its end or from where a value is due on
-abbrev pub stopped_at : ℕ → Mode → ℕ → Bool → Open → List ℕ → Read Tree
-stopped_at size mode depth true c rest = end_of c rest
-stopped_at size mode depth false c rest = value_at size mode depth rest >>= finish_open size mode depth c
+abbrev pub resume_value : ℕ → Mode → ℕ → Bool → Open → List ℕ → Read Tree
+resume_value size mode depth true c rest = finish_container c rest
+resume_value size mode depth false c rest = value_at size mode depth rest >>= finish_open size mode depth c
 
 -- the outermost container, from the end or from a part of the innermost on
-abbrev pub outer_at : ℕ → Mode → ℕ → Bool → List Open → List ℕ → Read Tree
-outer_at size mode depth closed [] rest = Ok (null, rest)
-outer_at size mode depth closed (c ∷ cs) rest =
-    part_at size mode depth closed c rest >>= resume size mode (suc depth) cs
+abbrev pub resume_stack : ℕ → Mode → ℕ → Bool → List Open → List ℕ → Read Tree
+resume_stack size mode depth closed [] rest = Ok (null, rest)
+resume_stack size mode depth closed (c ∷ cs) rest =
+    resume_part size mode depth closed c rest >>= resume size mode (suc depth) cs
 
 -- how deep a value may nest inside of these
 abbrev pub depth_within : List OpenValue → ℕ
@@ -101,28 +101,28 @@ PutsIn before key whole after rest = (v : Value) × (after ≡ insert_entry stri
 pub record ReadsParts (size : ℕ) (mode : Mode) (depth : ℕ) (whole : Read Tree) (closed : Bool) (frame : OpenValue)
     (rest : List ℕ) : Type 0 where
   pub so_far : Open
-  pub held : IsHeld frame so_far
-  pub reads : whole ≡ stopped_at size mode depth closed so_far rest
+  pub held : FrameHolds frame so_far
+  pub reads : whole ≡ resume_value size mode depth closed so_far rest
 
 -- With the containers that are open, this is left to read of the whole.
-pub record Leaves (whole : Read Tree) (frames : List OpenValue) (left : List Open → Read Tree) : Type 0 where
+pub record Remains (whole : Read Tree) (frames : List OpenValue) (left : List Open → Read Tree) : Type 0 where
   pub opens : List Open
-  pub held : AreHeld frames opens
+  pub held : FramesHold frames opens
   pub reads : whole ≡ left opens
 
 -- A value is due.
-abbrev pub ValueIsDue : Read Tree → Parser → List OpenValue → Type 0
-ValueIsDue whole p frames =
-    Leaves whole frames
+abbrev pub BeforeValue : Read Tree → Parser → List OpenValue → Type 0
+BeforeValue whole p frames =
+    Remains whole frames
     (λ cs. value_at (size_of p) (mode_of p.mode) (depth_within frames) (rest_of p) >>= resume (size_of p)
     (mode_of p.mode) (depth_within frames) cs)
 
 -- This was read inside of the containers.
-abbrev pub WasRead : Read Tree → Parser → List OpenValue → Tree → Type 0
-WasRead whole p frames t =
-    Leaves whole frames (λ cs. resume (size_of p) (mode_of p.mode) (depth_within frames) cs (t, rest_of p))
+abbrev pub AfterValue : Read Tree → Parser → List OpenValue → Tree → Type 0
+AfterValue whole p frames t =
+    Remains whole frames (λ cs. resume (size_of p) (mode_of p.mode) (depth_within frames) cs (t, rest_of p))
 
 -- The innermost container was read to its end, or a part of it begins.
-abbrev pub IsAhead : Read Tree → Parser → List OpenValue → Bool → Type 0
-IsAhead whole p frames closed =
-    Leaves whole frames (λ cs. outer_at (size_of p) (mode_of p.mode) (depth_within frames) closed cs (rest_of p))
+abbrev pub AtPart : Read Tree → Parser → List OpenValue → Bool → Type 0
+AtPart whole p frames closed =
+    Remains whole frames (λ cs. resume_stack (size_of p) (mode_of p.mode) (depth_within frames) closed cs (rest_of p))

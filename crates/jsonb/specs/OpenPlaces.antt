@@ -1,5 +1,5 @@
--- What a reader has of its text so far: the open containers and the value that was read last, as they stand in the
--- text.
+-- The byte ranges of the open containers and of the last value.
+-- Read for: private.
 use Rattle.std.specs.Prelude.{◌≡◌, ◌⊎◌, ℕ, ◌+◌, ◌≤◌, false, List, [], ◌∷◌, drop, map, Option, Some, None, Result, IfOk, ⊤}
 use Rattle.std.specs.Cow.{cow_str_bytes}
 use Rattle.jsonb_value.specs.Mode.{Mode, extended}

@@ -1,11 +1,12 @@
--- What a reader has still to read, and what a call of it leaves.
+-- The remaining input of a parser, and what a call of it leaves; `Answer` of `jsonb_scan` again.
+-- Read for: private.
 use Rattle.std.specs.Prelude.{◌≡◌, ℕ, ◌≤◌, List, length, drop, Option, IfSome, Result, Ok}
 use Rattle.jsonb_value.specs.Mode.{Mode}
 use Rattle.jsonb_value.specs.declared.error.Error.{Error}
 use Rattle.jsonb.specs.declared.parser.Parser.{Parser}
 use Rattle.jsonb_scan.specs.declared.parser.Mode as parser
 use Rattle.jsonb_scan.specs.Reading.{Read}
-pub use Rattle.jsonb_scan.specs.Answer.{mode_of, NamesFault, Fails, Gives, IsTextRefusal, HoldsMarker}
+pub use Rattle.jsonb_scan.specs.Answer.{mode_of, NamesFault, Fails, Gives, IsTextRefusal, MayAllocate}
 
 -- the bytes from the index on
 abbrev pub rest_of : Parser → List ℕ

@@ -1,4 +1,5 @@
--- Where a `JsonAst` and its parts stand in the text that it was read from. A place is how many bytes stand before it.
+-- The byte ranges of a `JsonAst` and its parts. An offset is the number of bytes before it.
+-- Read for: promises.
 use Rattle.std.specs.Prelude.{◌≡◌, ℕ, ◌+◌, List, [], ◌∷◌, ◌++◌, length, IsPermutation, ⊤}
 use Rattle.std.specs.Ordering.{nat_cmp}
 use Rattle.std.specs.Cmp.Lexicographic.{slice_cmp}
@@ -40,9 +41,9 @@ source_alone other = null_source
 abbrev pub Placed : Type 0
 Placed = (Mark × List ℕ) × Source × ℕ
 
-abbrev pub source_members_of : List Placed → SourceMembers
-source_members_of [] = no_source_members
-source_members_of (m ∷ ms) = more_source_members m.0.0 m.0.1 m.1 m.2 (source_members_of ms)
+abbrev pub placed_members : List Placed → SourceMembers
+placed_members [] = no_source_members
+placed_members (m ∷ ms) = more_source_members m.0.0 m.0.1 m.1 m.2 (placed_members ms)
 
 -- each key is below the next one, by bytes
 abbrev pub SourceKeysAscend : SourceMembers → Type 0
@@ -62,11 +63,11 @@ mutual
         → (HasBlanks mode input (from + 1) to → ⊥) → HasByte input 93 to
         → IsValueAt mode input from (array_source (sources_of ss)) (to + 1)
     empty_object : {from to : ℕ} → HasByte input 123 from → HasBlanks mode input (from + 1) to → HasByte input 125 to
-        → IsValueAt mode input from (object_source (source_members_of [])) (to + 1)
+        → IsValueAt mode input from (object_source (placed_members [])) (to + 1)
     full_object : {from to : ℕ} {written sorted : List Placed} → HasByte input 123 from
         → AreMembersAt mode input (from + 1) written to → HasByte input 125 to
-        → IsPermutation written sorted → SourceKeysAscend (source_members_of sorted)
-        → IsValueAt mode input from (object_source (source_members_of sorted)) (to + 1)
+        → IsPermutation written sorted → SourceKeysAscend (placed_members sorted)
+        → IsValueAt mode input from (object_source (placed_members sorted)) (to + 1)
 
   -- elements with commas between
   pub data AreElementsAt (mode : Mode) (input : List ℕ) : ℕ → List Source → ℕ → Type 0 where

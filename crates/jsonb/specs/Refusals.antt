@@ -1,4 +1,5 @@
--- What a refusal says of the text: what stands before the place that it names, and what is wrong there.
+-- What an error says of the text, for the five codes that say something.
+-- Read for: promises.
 use Rattle.std.specs.Prelude.{◌≡◌, ℕ, suc, ◌+◌, ◌<◌, ◌≤◌, ◌⊎◌, List, [], ◌∷◌, ◌++◌, length, count_by}
 use Rattle.std.specs.declared.cmp.Ordering.TheVariants.{Less}
 use Rattle.std.specs.Ordering.{nat_cmp, is_eq}

@@ -1,4 +1,5 @@
--- What a `JsonAst` says of its text: its variants and their parts, with an object's members in source order.
+-- A `JsonAst` with its order and offsets, and what is borrowed; equality by parts.
+-- Read for: promises, but `sources_view`, `source_members_view`.
 use Rattle.std.specs.Prelude.{ℕ, List, [], ◌∷◌, map, Bool, true, false, ◌&&◌, ◌==◌, bytes_eq, ⊤}
 use Rattle.std.specs.Cow.{cow_str_bytes}
 use Rattle.std.specs.Ordering.{bool_cmp, eq_by_cmp}
@@ -30,19 +31,19 @@ mutual
     more_source_members : Mark → List ℕ → Source → ℕ → SourceMembers → SourceMembers
 
 -- it holds no other source and no text of its own, so that a copy takes no memory
-abbrev pub HoldsNoMemory : Source → Type 0
-HoldsNoMemory (string_source escaped s) = ⊥
-HoldsNoMemory (array_source ss) = ⊥
-HoldsNoMemory (object_source ms) = ⊥
-HoldsNoMemory s = ⊤
+abbrev pub SourceHoldsNoMemory : Source → Type 0
+SourceHoldsNoMemory (string_source escaped s) = ⊥
+SourceHoldsNoMemory (array_source ss) = ⊥
+SourceHoldsNoMemory (object_source ms) = ⊥
+SourceHoldsNoMemory s = ⊤
 
 abbrev pub sources_of : List Source → Sources
 sources_of [] = no_sources
 sources_of (s ∷ ss) = more_sources s (sources_of ss)
 
-abbrev pub source_members_of : List (CowStr Global × Source × ℕ) → SourceMembers
-source_members_of [] = no_source_members
-source_members_of (m ∷ ms) = more_source_members (mark_view m.0) (cow_str_bytes m.0) m.1 m.2 (source_members_of ms)
+abbrev pub placed_members : List (CowStr Global × Source × ℕ) → SourceMembers
+placed_members [] = no_source_members
+placed_members (m ∷ ms) = more_source_members (mark_view m.0) (cow_str_bytes m.0) m.1 m.2 (placed_members ms)
 
 -- one level, with each value inside already seen as its source
 abbrev pub source_step : JsonAst-F Source → Source
@@ -51,7 +52,7 @@ source_step (JsonAst-F.Bool b) = boolean_source b
 source_step (JsonAst-F.String s) = string_source (mark_view s) (cow_str_bytes s)
 source_step (JsonAst-F.Number n) = number_source (number_view n)
 source_step (JsonAst-F.Array v) = array_source (sources_of v.items)
-source_step (JsonAst-F.Object v) = object_source (source_members_of v.items)
+source_step (JsonAst-F.Object v) = object_source (placed_members v.items)
 
 abbrev pub source_view : JsonAst → Source
 source_view = fold-JsonAst Source source_step
@@ -60,7 +61,7 @@ abbrev pub sources_view : List JsonAst → Sources
 sources_view asts = sources_of (map source_view asts)
 
 abbrev pub source_members_view : List Written → SourceMembers
-source_members_view ms = source_members_of (map (λ m. (m.0, source_view m.1, m.2)) ms)
+source_members_view ms = placed_members (map (λ m. (m.0, source_view m.1, m.2)) ms)
 
 abbrev mutual
   -- by parts: texts by their bytes and numbers by their values

@@ -1,4 +1,5 @@
 -- Equality by parts is an equivalence. The laws of `Eq` cite this.
+-- Read for: private.
 use Rattle.std.proofs.Common.{◌≡◌, Bool, true, ◌&&◌, ◌==◌, bytes_eq, refl}
 use Rattle.std.specs.Ordering.{bool_cmp, eq_by_cmp}
 use Rattle.std.specs.Cmp.{IsEquivalence, first_so, second_so, eq_by_cmp_equiv, bool_cmp_total, nat_eq_equiv}

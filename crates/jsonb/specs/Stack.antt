@@ -1,4 +1,5 @@
--- Reading by the arrays and objects that are open: what is left to read once a value inside of them was read.
+-- Parsing by the open containers: what remains once a value inside them was parsed.
+-- Read for: private.
 use Rattle.std.specs.Cow.{cow_str_bytes}
 use Rattle.jsonb_value.specs.declared.error.Error.{Error}
 use Rattle.jsonb.specs.declared.parser.ast.JsonAst.{JsonAst}
@@ -70,16 +71,16 @@ module _ (size : ℕ) (mode : Mode) (depth : ℕ) where
       parts_from size expected_object_comma_or_end 125 (member_at size mode (value_at size mode depth)) object_end
 
   -- the rest of a container, from the end of a part on
-  abbrev pub rest_at : Open → List ℕ → Read Tree
-  rest_at (elements_so_far front) =
+  abbrev pub resume_after_part : Open → List ℕ → Read Tree
+  resume_after_part (elements_so_far front) =
       parts_after size expected_array_comma_or_end 93 (element_at mode (value_at size mode depth)) array_end front
-  rest_at (members_so_far front key place) =
+  resume_after_part (members_so_far front key place) =
       parts_after size expected_object_comma_or_end 125 (member_at size mode (value_at size mode depth)) object_end
       front
 
   -- the container, once the value that it waits for was read
   abbrev pub finish_open : Open → Tree × List ℕ → Read Tree
-  finish_open c x = rest_at (add_part c x.0) (skip_blanks mode x.1)
+  finish_open c x = resume_after_part (add_part c x.0) (skip_blanks mode x.1)
 
 -- The outermost value, once the value that the innermost container waits for was read. The innermost container comes
 -- first, and the number is how deep what is in it may nest.
@@ -142,7 +143,7 @@ element_from size mode depth front begun bytes =
 -- The rest of the innermost container from the end of a part on, and then of the others.
 abbrev pub rest_of_opens : ℕ → Mode → ℕ → List Open → List ℕ → Read Tree
 rest_of_opens size mode depth [] bytes = Ok (null, bytes)
-rest_of_opens size mode depth (c ∷ cs) bytes = rest_at size mode depth c bytes >>= resume size mode (suc depth) cs
+rest_of_opens size mode depth (c ∷ cs) bytes = resume_after_part size mode depth c bytes >>= resume size mode (suc depth) cs
 
 -- the same from the beginning of a part on
 abbrev pub next_part_at : ℕ → Mode → ℕ → Open → List ℕ → Read Tree
@@ -155,5 +156,5 @@ PartBegins size mode depth whole (Ok begun) c bytes = whole
     ≡ (element_begun size mode depth begun bytes >>= finish_open size mode depth c)
 PartBegins size mode depth whole (Err e) c bytes = Fails e whole
 
-abbrev pub rest_from : Parser → List Frame → Read Tree
-rest_from p frames = rest_of_opens (size_of p) (mode_of p.mode) (depth_in frames) (stack_of frames) (rest_of p)
+abbrev pub resume_stack_after_part : Parser → List Frame → Read Tree
+resume_stack_after_part p frames = rest_of_opens (size_of p) (mode_of p.mode) (depth_in frames) (stack_of frames) (rest_of p)

@@ -1,4 +1,4 @@
-//! JSON texts as values: the readers, with the values that they give.
+//! JSON texts as values: the parsers, with the values that they return.
 #![tactic(auto)]
 
 pub mod laws;

@@ -10,11 +10,11 @@ ghost use Rattle.jsonb_value.specs.Text.Range.{IsInRange, IsIntegerRange};
 ghost use Rattle.jsonb_value.specs.Tree.{Tree};
 ghost use Rattle.jsonb_value.specs.View.{view};
 ghost use Rattle.jsonb.specs.AstView.{ast_view};
-ghost use Rattle.jsonb_scan.specs.Answer.{mode_of, NamesFault, IsTextRefusal, Gives, HoldsMarker};
+ghost use Rattle.jsonb_scan.specs.Answer.{mode_of, NamesFault, IsTextRefusal, Gives, MayAllocate};
 ghost use Rattle.jsonb.specs.Parser.{rest_of, size_of, Advances};
 ghost use Rattle.jsonb.specs.Placed.{IsPlaced};
 ghost use Rattle.jsonb_scan.specs.Reading.{begins, fault_at};
-ghost use Rattle.jsonb_scan.specs.Reading.Blank.{pass_blanks};
+ghost use Rattle.jsonb_scan.specs.Reading.Blank.{skip_closed_blanks};
 ghost use Rattle.jsonb_scan.specs.Reading.Document.{at_end, comment_at, document_from, document_of};
 ghost use Rattle.jsonb.specs.Refusals.{IsExplained};
 ghost use Rattle.jsonb.specs.Source.{source_view};
@@ -39,6 +39,16 @@ use std::alloc::Global;
 
 /// Parses a whole text of standard JSON.
 ///
+/// Strings without escapes are borrowed from `buf`. The time is linear in the text, and in an object of n members each
+/// costs log n comparisons of keys; a rejected text is parsed twice. It allocates for arrays, objects, their keys, and
+/// strings with escapes.
+///
+/// ```
+/// let value = jsonb::parse_value_standard_mode(rt.alloc(), b"{\"a\": [1, true]}")?;
+/// assert_eq!(rt; value.get_by_name("a").and_then(|a| a.array_length()), Some(2));
+/// assert!(rt; jsonb::parse_value_standard_mode(rt.alloc(), b"{a: 1}").is_err());
+/// ```
+///
 /// # Errors
 ///
 /// Those of [`JsonAst::parse`].
@@ -49,7 +59,7 @@ pub fn parse_value_standard_mode(alloc: Global, buf: &[u8]) -> Result<Value<'_>>
 
     // What is refused is no document, unless memory ran out.
     ensures refused { IfErr result (λ e. e ≢ Error.OutOfMemory → IsNoDocument standard buf.now) }
-    ensures memory { result ≡ Err Error.OutOfMemory → HoldsMarker buf.now }
+    ensures memory { result ≡ Err Error.OutOfMemory → MayAllocate buf.now }
 
     // Nothing but these two refuses.
     ensures errors { IfErr result IsTextRefusal }
@@ -75,6 +85,13 @@ pub fn parse_value_standard_mode(alloc: Global, buf: &[u8]) -> Result<Value<'_>>
 
 /// Parses a whole text of extended JSON.
 ///
+/// The cost is that of [`parse_value_standard_mode`].
+///
+/// ```
+/// let value = jsonb::parse_value(rt.alloc(), b"{n: 0x1F, list: [,+.5]} // a comment")?;
+/// assert_eq!(rt; value.get_by_name("n").and_then(|n| n.as_u64()), Some(31));
+/// ```
+///
 /// # Errors
 ///
 /// Those of [`JsonAst::parse`].
@@ -85,7 +102,7 @@ pub fn parse_value(alloc: Global, buf: &[u8]) -> Result<Value<'_>>
 
     // What is refused is no document, unless memory ran out.
     ensures refused { IfErr result (λ e. e ≢ Error.OutOfMemory → IsNoDocument extended buf.now) }
-    ensures memory { result ≡ Err Error.OutOfMemory → HoldsMarker buf.now }
+    ensures memory { result ≡ Err Error.OutOfMemory → MayAllocate buf.now }
 
     // Nothing but these two refuses.
     ensures errors { IfErr result IsTextRefusal }
@@ -175,12 +192,12 @@ impl<'a> Parser<'a> {
     fn parse_document(&mut self) -> Result<JsonAst<'a>>
         requires { self.old.idx ≤ size_of self.old }
         ensures reads { Gives ast_view result (document_from (size_of self.old) (mode_of self.old.mode)
-            (pass_blanks (mode_of self.old.mode) (rest_of self.old))) }
-        ensures memory { result ≡ Err Error.OutOfMemory → HoldsMarker self.old.buf.now }
+            (skip_closed_blanks (mode_of self.old.mode) (rest_of self.old))) }
+        ensures memory { result ≡ Err Error.OutOfMemory → MayAllocate self.old.buf.now }
         ensures source { self.old.idx ≡ 0 → IfOk result (λ v. IsPlaced (mode_of self.old.mode) self.old.buf.now
             (source_view v)) }
     {
-        self.pass_blanks();
+        self.skip_closed_blanks();
         if self.idx >= self.buf.len() {
             return match self.mode {
                 Mode::Standard => Err(Error::Syntax(ParseErrorCode::InvalidEOF, self.buf.len())),
@@ -200,10 +217,10 @@ impl<'a> Parser<'a> {
     fn end_document(&mut self) -> Result<()>
         requires { self.old.idx ≤ size_of self.old }
         ensures reads { (t : Tree) → Gives (λ _. t) result (at_end (size_of self.old) (mode_of self.old.mode) t
-            (pass_blanks (mode_of self.old.mode) (rest_of self.old))) }
+            (skip_closed_blanks (mode_of self.old.mode) (rest_of self.old))) }
         ensures takes_no_memory { result ≢ Err Error.OutOfMemory }
     {
-        self.pass_blanks();
+        self.skip_closed_blanks();
         if self.idx >= self.buf.len() {
             return Ok(());
         }

@@ -1,4 +1,4 @@
--- What a reason says of an answer.
+-- What a status says, by its reason.
 use Rattle.std.proofs.Common.{◌≡◌, ◌≢◌, ℕ, ◌≤◌, List, refl, subst, sym, ◌∙◌, arith}
 use Rattle.jsonb_value.specs.Code.{code_of}
 use Rattle.jsonb_value.specs.Grammar.{IsDocument, IsNoDocument}

@@ -1,4 +1,4 @@
--- What is appended to an empty buffer, where appending isn't refused.
+-- What is appended to an empty buffer is the text of a tree.
 use Rattle.std.proofs.Common.{◌≡◌, ℕ, false, List, [], ◌++◌, Some, Result, Ok, Err, OnOk, ap, sym, ◌∙◌}
 use Rattle.std.specs.Result.{is_err}
 use Rattle.jsonb_value.specs.Text.{text_of, AppendsText}

@@ -1,4 +1,5 @@
--- What the functions for C tell of texts.
+-- What each status and each out parameter says of the texts.
+-- Read for: promises, but `IsReason`, `SaysError`, `status_of`, `told`.
 use Rattle.std.specs.Prelude.{◌≡◌, ◌≢◌, ◌⊎◌, ℕ, ◌<◌, ◌≤◌, ℤ, pos, negsuc, List, ◌++◌, length, drop, Some, Ok, Err}
 use Rattle.std.specs.declared.cmp.Ordering.{Ordering}
 use Rattle.std.specs.declared.cmp.Ordering.TheVariants.{Less, Equal, Greater}

@@ -13,7 +13,7 @@ ghost use Rattle.jsonb_value.specs.Grammar.{IsDocument, IsNoDocument};
 ghost use Rattle.jsonb_value.specs.Tree.{Tree};
 ghost use Rattle.jsonb_value.specs.View.{view};
 ghost use Rattle.jsonb.specs.Line.{column_at, fault_index, line_at};
-ghost use Rattle.jsonb.specs.Parser.{mode_of, Gives, HoldsMarker, IsTextRefusal};
+ghost use Rattle.jsonb.specs.Parser.{mode_of, Gives, MayAllocate, IsTextRefusal};
 ghost use Rattle.jsonb.specs.Reading.Document.{document_of};
 ghost use Rattle.jsonb.specs.Refusals.{IsExplained};
 ghost use Rattle.jsonb_pointer.specs.Path.{IsPath, StartsKey};
@@ -97,7 +97,7 @@ pub extern "C" fn vizhoniku_check(
     // A document is accepted, and nothing else, unless memory ran out.
     ensures document { result ≡ ACCEPTED → IsAccepted mode text.now }
     ensures accepted { IsAccepted mode text.now → (result ≡ ACCEPTED) ⊎ (result ≡ OUT_OF_MEMORY) }
-    ensures memory { result ≡ OUT_OF_MEMORY → HoldsMarker text.now }
+    ensures memory { result ≡ OUT_OF_MEMORY → MayAllocate text.now }
 
     // Which fault it is, and where.
     ensures refused { result ≡ REFUSED → IsRefused mode text.now 1 refusal.new }
@@ -135,7 +135,7 @@ pub extern "C" fn vizhoniku_text(
     // A document is accepted, unless memory ran out.
     ensures accepted { IsAccepted mode text.now
         → (result ≡ ACCEPTED) ⊎ (result ≡ TOO_SHORT) ⊎ (result ≡ OUT_OF_MEMORY) }
-    ensures memory { result ≡ OUT_OF_MEMORY → HoldsMarker text.now ⊎ IsAccepted mode text.now }
+    ensures memory { result ≡ OUT_OF_MEMORY → MayAllocate text.now ⊎ IsAccepted mode text.now }
 
     // Which fault it is, and where.
     ensures refused { result ≡ REFUSED → IsRefused mode text.now 1 refusal.new }
@@ -177,7 +177,7 @@ pub extern "C" fn vizhoniku_sort_key(
     // A document is accepted, unless memory ran out.
     ensures accepted { IsAccepted mode text.now
         → (result ≡ ACCEPTED) ⊎ (result ≡ TOO_SHORT) ⊎ (result ≡ OUT_OF_MEMORY) }
-    ensures memory { result ≡ OUT_OF_MEMORY → HoldsMarker text.now ⊎ IsAccepted mode text.now }
+    ensures memory { result ≡ OUT_OF_MEMORY → MayAllocate text.now ⊎ IsAccepted mode text.now }
 
     // Which fault it is, and where.
     ensures refused { result ≡ REFUSED → IsRefused mode text.now 1 refusal.new }
@@ -223,7 +223,7 @@ pub extern "C" fn vizhoniku_text_and_key(
     // A document is accepted, unless memory ran out.
     ensures accepted { IsAccepted mode text.now
         → (result ≡ ACCEPTED) ⊎ (result ≡ TOO_SHORT) ⊎ (result ≡ OUT_OF_MEMORY) }
-    ensures memory { result ≡ OUT_OF_MEMORY → HoldsMarker text.now ⊎ IsAccepted mode text.now }
+    ensures memory { result ≡ OUT_OF_MEMORY → MayAllocate text.now ⊎ IsAccepted mode text.now }
 
     // Which fault it is, and where.
     ensures refused { result ≡ REFUSED → IsRefused mode text.now 1 refusal.new }
@@ -265,8 +265,8 @@ pub extern "C" fn vizhoniku_compare(
     // Two documents are accepted, unless memory ran out.
     ensures accepted { IsAccepted mode left.now → IsAccepted mode right.now
         → (result ≡ ACCEPTED) ⊎ (result ≡ OUT_OF_MEMORY) }
-    ensures memory { result ≡ OUT_OF_MEMORY → HoldsMarker left.now
-        ⊎ (IsAccepted mode left.now × HoldsMarker right.now) }
+    ensures memory { result ≡ OUT_OF_MEMORY → MayAllocate left.now
+        ⊎ (IsAccepted mode left.now × MayAllocate right.now) }
 
     // Which of the two it is that is refused, which fault, and where.
     ensures refused { result ≡ REFUSED → IsOneRefused mode left.now right.now refusal.new }
@@ -315,7 +315,7 @@ pub extern "C" fn vizhoniku_part(
         → (result ≡ ACCEPTED) ⊎ (result ≡ TOO_SHORT) ⊎ (result ≡ OUT_OF_MEMORY) }
     ensures nothing_there { HasNoPartAt mode path.now text.now → (result ≡ NO_PART) ⊎ (result ≡ OUT_OF_MEMORY) }
     ensures wrong_path { IsAccepted mode text.now → IsNoPath path.now → (result ≡ NO_PATH) ⊎ (result ≡ OUT_OF_MEMORY) }
-    ensures memory { result ≡ OUT_OF_MEMORY → HoldsMarker text.now
+    ensures memory { result ≡ OUT_OF_MEMORY → MayAllocate text.now
         ⊎ (IsAccepted mode text.now × StartsKey path.now)
         ⊎ HasPartAt mode path.now text.now }
 
@@ -358,7 +358,7 @@ enum Part {
 fn part_of(alloc: Global, mode: u32, path: &[u8], text: &[u8]) -> Result<Part, Refused>
     ensures part { IfOk result (IsPartAnswer mode path.now text.now) }
     ensures known { IfOk result (λ _. mode ≤ 1) }
-    ensures memory { result ≡ Err Refused.OutOfMemory → HoldsMarker text.now
+    ensures memory { result ≡ Err Refused.OutOfMemory → MayAllocate text.now
         ⊎ (IsAccepted mode text.now × StartsKey path.now)
         ⊎ HasPartAt mode path.now text.now }
     ensures reason { IfErr result (IsReason mode (IsRefused mode text.now 1)) }
@@ -463,7 +463,7 @@ pub extern "C" fn vizhoniku_message(
     // A document is accepted, and nothing else, unless memory ran out.
     ensures document { result ≡ ACCEPTED → IsAccepted mode text.now }
     ensures accepted { IsAccepted mode text.now → (result ≡ ACCEPTED) ⊎ (result ≡ OUT_OF_MEMORY) }
-    ensures memory { result ≡ OUT_OF_MEMORY → HoldsMarker text.now ⊎ IsNoDocumentOf mode text.now }
+    ensures memory { result ≡ OUT_OF_MEMORY → MayAllocate text.now ⊎ IsNoDocumentOf mode text.now }
 
     // What is written is the message of the fault that reading meets, and no other byte of the buffer changes.
     ensures written { result ≡ REFUSED → IsMessageWritten mode text.now size.new out.old out.new }
@@ -496,7 +496,7 @@ fn message_of(alloc: Global, mode: u32, text: &[u8]) -> Result<Option<String>, R
     ensures message { IfOk result (λ answer. MatchOption answer (IsAccepted mode text.now)
         (λ message. IsMessageOf mode text.now (string_bytes message))) }
     ensures reason { IfErr result (IsReason mode (λ _. ⊥)) }
-    ensures memory { result ≡ Err Refused.OutOfMemory → HoldsMarker text.now ⊎ IsNoDocumentOf mode text.now }
+    ensures memory { result ≡ Err Refused.OutOfMemory → MayAllocate text.now ⊎ IsNoDocumentOf mode text.now }
 {
     let Some(mode) = choose_mode(mode) else {
         return Err(Refused::UnknownMode);
@@ -561,8 +561,8 @@ fn tell(refused: Refused, refusal: &mut Refusal) -> u32
 fn order_of(alloc: Global, mode: u32, left: &[u8], right: &[u8]) -> Result<Ordering, Refused>
     ensures ordered { IfOk result (λ order. IsOrdered mode left.now right.now (sign order)) }
     ensures reason { IfErr result (IsReason mode (IsOneRefused mode left.now right.now)) }
-    ensures memory { result ≡ Err Refused.OutOfMemory → HoldsMarker left.now
-        ⊎ (IsAccepted mode left.now × HoldsMarker right.now) }
+    ensures memory { result ≡ Err Refused.OutOfMemory → MayAllocate left.now
+        ⊎ (IsAccepted mode left.now × MayAllocate right.now) }
 {
     let first = value_of(alloc, mode, left, 1)?;
     let second = value_of(alloc, mode, right, 2)?;
@@ -622,7 +622,7 @@ fn text_and_key_of(alloc: Global, mode: u32, text: &[u8]) -> Result<TextAndKey, 
     ensures text { IfOk result (λ both. IsTextOf mode text.now both.text.items) }
     ensures key { IfOk result (λ both. IsKeyOf mode text.now both.key.items) }
     ensures reason { IfErr result (IsReason mode (IsRefused mode text.now 1)) }
-    ensures memory { result ≡ Err Refused.OutOfMemory → HoldsMarker text.now ⊎ IsAccepted mode text.now }
+    ensures memory { result ≡ Err Refused.OutOfMemory → MayAllocate text.now ⊎ IsAccepted mode text.now }
 {
     let held = value_of(alloc, mode, text, 1)?;
     let mut bytes = Vec::new(alloc);
@@ -640,7 +640,7 @@ fn text_and_key_of(alloc: Global, mode: u32, text: &[u8]) -> Result<TextAndKey, 
 fn text_of(alloc: Global, mode: u32, text: &[u8]) -> Result<Vec<u8>, Refused>
     ensures text { IfOk result (λ bytes. IsTextOf mode text.now bytes.items) }
     ensures reason { IfErr result (IsReason mode (IsRefused mode text.now 1)) }
-    ensures memory { result ≡ Err Refused.OutOfMemory → HoldsMarker text.now ⊎ IsAccepted mode text.now }
+    ensures memory { result ≡ Err Refused.OutOfMemory → MayAllocate text.now ⊎ IsAccepted mode text.now }
 {
     let held = value_of(alloc, mode, text, 1)?;
     let mut bytes = Vec::new(alloc);
@@ -654,7 +654,7 @@ fn text_of(alloc: Global, mode: u32, text: &[u8]) -> Result<Vec<u8>, Refused>
 fn sort_key_of(alloc: Global, mode: u32, text: &[u8]) -> Result<Vec<u8>, Refused>
     ensures key { IfOk result (λ bytes. IsKeyOf mode text.now bytes.items) }
     ensures reason { IfErr result (IsReason mode (IsRefused mode text.now 1)) }
-    ensures memory { result ≡ Err Refused.OutOfMemory → HoldsMarker text.now ⊎ IsAccepted mode text.now }
+    ensures memory { result ≡ Err Refused.OutOfMemory → MayAllocate text.now ⊎ IsAccepted mode text.now }
 {
     let held = value_of(alloc, mode, text, 1)?;
     let mut bytes = Vec::new(alloc);
@@ -680,7 +680,7 @@ impl Drop for Held<'_> {
 fn value_of<'a>(alloc: Global, mode: u32, text: &'a [u8], which: u32) -> Result<Held<'a>, Refused>
     ensures read { IfOk result (λ held. IsDocumentOf mode text.now (view held.value)) }
     ensures reason { IfErr result (IsReason mode (IsRefused mode text.now which)) }
-    ensures memory { result ≡ Err Refused.OutOfMemory → HoldsMarker text.now }
+    ensures memory { result ≡ Err Refused.OutOfMemory → MayAllocate text.now }
 {
     let Some(mode) = choose_mode(mode) else {
         return Err(Refused::UnknownMode);
@@ -708,7 +708,7 @@ fn read<'a>(alloc: Global, mode: Mode, text: &'a [u8]) -> jsonb::Result<Value<'a
     ensures only { IfOk result (λ v. (t : Tree) → IsDocument (mode_of mode) text.now t → t ≡ view v) }
     ensures refused { IfErr result (λ e. e ≢ Error.OutOfMemory
         → IsNoDocument (mode_of mode) text.now) }
-    ensures memory { result ≡ Err Error.OutOfMemory → HoldsMarker text.now }
+    ensures memory { result ≡ Err Error.OutOfMemory → MayAllocate text.now }
     ensures errors { IfErr result IsTextRefusal }
     ensures exact { Gives view result (document_of (mode_of mode) text.now) }
     ensures explained { IfErr result (IsExplained (mode_of mode) text.now) }

@@ -1,4 +1,5 @@
--- What the program does with its words and its streams.
+-- Which arguments choose which mode, and what the program writes for an input.
+-- Read for: promises.
 use Rattle.std.specs.Prelude.{◌≡◌, ℕ, ◌+◌, ◌<◌, List, [], ◌∷◌, ◌++◌, length, Option, Some, codes}
 use Rattle.std.specs.Io.KnownBytes.{Appends}
 use Rattle.jsonb_value.specs.Mode.{Mode, standard, extended}

@@ -4,7 +4,7 @@ ghost use Rattle.std.specs.Prelude.{◌≡◌, ◌≢◌, ◌↔◌, ◌⊎◌, 
 ghost use Rattle.std.specs.Io.KnownBytes.{Appends, IsAtEnd};
 ghost use Rattle.jsonb_value.specs.Grammar.{IsNoDocument};
 ghost use Rattle.jsonb_value.specs.Mode.{Mode as GrammarMode};
-ghost use Rattle.jsonb.specs.Parser.{mode_of, Fails, HoldsMarker};
+ghost use Rattle.jsonb.specs.Parser.{mode_of, Fails, MayAllocate};
 ghost use Rattle.jsonb.specs.Reading.Document.{document_of};
 ghost use Rattle.jsonb.specs.Refusals.{IsExplained};
 ghost use Rattle.jsonb_cat.specs.Program.{WordsChoose, IsLineOf, LacksRoom, IsAccepted, IsAnswered};
@@ -53,7 +53,7 @@ pub fn convert(alloc: Global, mode: Mode, input: &[u8], out: &mut Vec<u8>) -> Re
     ensures ok { OnOk result ((line : List ℕ) × IsLineOf (mode_of mode) input.now line
         × (out.new.items ≡ out.old.items ++ line)) }
     ensures refused { IfErr result (λ e. e ≢ Error.OutOfMemory → IsNoDocument (mode_of mode) input.now) }
-    ensures memory { result ≡ Err Error.OutOfMemory → HoldsMarker input.now
+    ensures memory { result ≡ Err Error.OutOfMemory → MayAllocate input.now
         ⊎ LacksRoom (mode_of mode) input.now (vec_capacity out.old) (vec_len out.old) }
     ensures err { OnErr result (out.new.items ≡ out.old.items) }
     // Which fault it is, and where, and what stands at the place that is named.

@@ -1,4 +1,4 @@
--- Items read from the key of an array, one after the other.
+-- Items decoded from the key of an array, one after the other.
 use Rattle.std.proofs.Common.{◌≡◌, ◌≢◌, ℕ, zero, suc, ◌+◌, List, [], ◌∷◌, ◌++◌, refl, sym, ap, subst, ◌∙◌, arith, append_assoc, append-nil, length}
 use Rattle.std.specs.List.{flat_map}
 use Rattle.jsonb_value.specs.Proper.{IsProper, AreProper, HaveProperParts}

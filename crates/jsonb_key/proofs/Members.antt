@@ -1,4 +1,4 @@
--- Members read from the key of an object, one after the other.
+-- Members decoded from the key of an object, one after the other.
 use Rattle.std.proofs.Common.{◌≡◌, ℕ, zero, suc, List, [], ◌∷◌, ◌++◌, map, Less, string_bytes, nat_cmp, refl, sym, ap, subst, ◌∙◌, arith, append_assoc, append-nil, IsUtf8}
 use Rattle.std.specs.Cmp.Lexicographic.{slice_cmp}
 use Rattle.std.specs.List.{flat_map}

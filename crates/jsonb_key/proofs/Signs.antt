@@ -1,4 +1,4 @@
--- The key of a number: its sign, its place and its digits.
+-- The key of a number by its sign.
 use Rattle.std.proofs.Common.{◌≡◌, ◌≢◌, ℕ, zero, suc, ◌+◌, ◌-◌, ◌^◌, ◌<◌, ◌≤◌, Bool, true, false, Equal, List, [], ◌∷◌, ◌++◌, map, ℤ, pos, negsuc, unsigned_abs, refl, sym, subst, ap, ◌∙◌, arith, append_assoc, length}
 use Rattle.std.proofs.lemmas.Bool.{lt-ltb, le-ltb}
 use Rattle.std.specs.Bool.{nat_lt}

@@ -1,4 +1,4 @@
--- Texts read from keys, byte by byte.
+-- Texts decoded from keys, byte by byte.
 use Rattle.std.proofs.Common.{◌≡◌, ℕ, zero, suc, List, [], ◌∷◌, ◌++◌, Option, Some, None, refl, sym, ap, ◌∙◌, arith, ◌==◌, append_assoc, append-nil}
 use Rattle.std.proofs.lemmas.Bool.{ne_eqb, cond-false}
 use Rattle.jsonb_value.specs.SortKey.{text_key}

@@ -1,4 +1,5 @@
--- Which values are read from their sort keys.
+-- Which values are decoded from their keys.
+-- Read for: promises.
 use Rattle.std.specs.Prelude.{ℕ, List, codes, ⊤}
 use Rattle.jsonb_value.specs.Grammar.{max_depth}
 use Rattle.jsonb_value.specs.Proper.{IsProper}

@@ -1,4 +1,5 @@
--- Keys read from the left.
+-- Parts of keys, parsed from left to right.
+-- Read for: private.
 use Rattle.std.specs.Prelude.{◌≡◌, ℕ, ◌+◌, ◌*◌, ◌%◌, ◌^◌, ◌<◌, ◌≤◌, Bool, List, [], ◌∷◌, Option, Some, None, if◌then◌else◌, ◌==◌, unsigned_abs}
 use Rattle.jsonb_value.specs.SortKey.{turned}
 use Rattle.jsonb_value.specs.Tree.{Num}

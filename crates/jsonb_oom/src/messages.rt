@@ -1,4 +1,4 @@
-//! The calls that answer a message, clones of errors, and the texts of an interval.
+//! The calls that return a message, clones of errors, and the texts of an interval.
 
 use crate::calls::say;
 use jsonb::{

@@ -1,4 +1,4 @@
--- The spelling of a key's bytes, of keys and of paths: each has one reading.
+-- Bytes, keys and paths in RFC 6901: each has one meaning.
 use Rattle.std.proofs.Common.{◌≡◌, ◌≢◌, ℕ, List, [], ◌∷◌, ◌++◌, Bool, true, false, cond, eqb, eqb-true, Option, Some, None, map, string_bytes, String, Global, IsUtf8, refl, sym, ap, subst, ◌∙◌, append_assoc, append-nil}
 use Rattle.std.proofs.lemmas.Str.{IsUtf8-string_bytes}
 use Rattle.std.specs.List.{AllByRecursion}

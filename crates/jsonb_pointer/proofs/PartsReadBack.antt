@@ -1,4 +1,4 @@
--- What is written of a part reads back: each part of a tree in range is in range.
+-- Each part of a tree in range is in range and round-trips.
 use Rattle.std.proofs.Common.{◌≡◌, ℕ, zero, suc, Bool, true, false, ◌⊎◌, inl, inr, if◌then◌else◌, Option, List, [], ◌∷◌, Some, None, subst}
 use Rattle.std.specs.Str.{bytes_eq}
 use Rattle.jsonb_value.specs.Accessors.{find_member, item_at}

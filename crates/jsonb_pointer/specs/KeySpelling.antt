@@ -1,4 +1,5 @@
--- Paths read from the left.
+-- A path parsed from left to right.
+-- Read for: private.
 use Rattle.std.specs.Prelude.{◌≡◌, ℕ, List, [], ◌∷◌, ◌++◌, Option, Some, None, if◌then◌else◌, ◌==◌}
 use Rattle.jsonb_pointer.specs.Path.{spelled_keys}
 

@@ -1,4 +1,5 @@
--- Paths, their spelling (RFC 6901, sections 3 and 4), and the part of a tree at a path.
+-- Keys as a path, and the part of a tree at keys.
+-- Read for: promises.
 use Rattle.std.specs.Prelude.{◌≡◌, ◌≢◌, ◌⊎◌, ℕ, ◌<◌, List, [], ◌∷◌, ◌++◌, length, slice_index, codes, Some, if◌then◌else◌, ◌==◌, IsUtf8}
 use Rattle.std.specs.List.{AllByRecursion}
 use Rattle.std.specs.Str.{bytes_eq}
@@ -6,7 +7,7 @@ use Rattle.std.specs.Str.Parse.{IsNumeral, digits_value}
 use Rattle.jsonb.specs.ErrorText.{error_text}
 use Rattle.jsonb.specs.Grammar.{IsDocument, IsNoDocument}
 use Rattle.jsonb.specs.Mode.{extended}
-use Rattle.jsonb.specs.Parser.{Fails, HoldsMarker}
+use Rattle.jsonb.specs.Parser.{Fails, MayAllocate}
 use Rattle.jsonb.specs.Accessors.{find_member, item_at}
 use Rattle.jsonb.specs.Reading.Document.{document_of}
 use Rattle.jsonb.specs.Tree.{Tree, array, object, Trees}
@@ -103,11 +104,11 @@ pub record HasNoPart (path document : List ℕ) : Type 0 where
 abbrev pub IsPathRefusal : List ℕ → List ℕ → Refusal → Type 0
 IsPathRefusal path document NoPath = (keys : List (List ℕ)) → IsPath path keys → ⊥
 IsPathRefusal path document (NoDocument error) = (error ≢ OutOfMemory → IsNoDocument extended document)
-    × (error ≡ OutOfMemory → HoldsMarker document) × Fails error (document_of extended document)
+    × (error ≡ OutOfMemory → MayAllocate document) × Fails error (document_of extended document)
 IsPathRefusal path document NoMemory = StartsKey path ⊎ ((tree : Tree) × IsDocument extended document tree)
 
 -- what is printed of a refusal
 abbrev pub refusal_text : Refusal → List ℕ
-refusal_text NoPath = codes "no path"
+refusal_text NoPath = codes "not a JSON Pointer (RFC 6901)"
 refusal_text (NoDocument error) = error_text error
 refusal_text NoMemory = codes "out of memory"

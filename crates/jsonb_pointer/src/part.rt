@@ -29,7 +29,7 @@ impl fmt::Display for Refusal {
 
     fn fmt<W: fmt::Write>(&self, f: &mut fmt::Formatter<W>) -> fmt::Result {
         match self {
-            Refusal::NoPath => write!(f, "no path"),
+            Refusal::NoPath => write!(f, "not a JSON Pointer (RFC 6901)"),
             Refusal::NoDocument(error) => write!(f, "{error}"),
             Refusal::NoMemory => write!(f, "out of memory"),
         }

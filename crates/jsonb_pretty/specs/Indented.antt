@@ -1,4 +1,5 @@
--- The text of a value over lines, and what it stands for.
+-- The text of a value over lines, and that bytes stand for a value in a mode.
+-- Read for: promises.
 use Rattle.std.specs.Prelude.{ℕ, ◌+◌, List, [], ◌∷◌, ◌++◌, replicate}
 use Rattle.jsonb_value.specs.Grammar.{IsDocument}
 use Rattle.jsonb_value.specs.Mode.{Mode}

@@ -1,2 +1,2 @@
--- Where a `JsonAst` stands in the text; lines and columns.
+-- Lines and columns of offsets.
 pub mod Lines

@@ -1,3 +1,3 @@
--- Blanks and comments.
+-- Whitespace and comments.
 pub mod Blanks
 pub mod Comments

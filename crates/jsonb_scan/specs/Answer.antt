@@ -1,4 +1,5 @@
--- Which grammar a mode stands for, and what an answer says beside what reading gives.
+-- The grammar of a mode, and how a result relates to the executable specification.
+-- Read for: promises: `mode_of`, `IsTextRefusal`, `MayAllocate`; `exact`: `Gives`, `Fails`; the rest private.
 use Rattle.std.specs.Prelude.{◌≡◌, ◌⊎◌, ℕ, List, Contains, Result, Ok, Err}
 use Rattle.jsonb_value.specs.Mode.{Mode, standard, extended}
 use Rattle.jsonb_value.specs.Code.{code_of}
@@ -36,5 +37,5 @@ IsTextRefusal OutOfMemory = Unit {0}
 IsTextRefusal other = ⊥
 
 -- The input holds a bracket or a brace that opens, or a backslash: a reader that asks for memory has met one.
-abbrev pub HoldsMarker : List ℕ → Type 0
-HoldsMarker input = Contains input 91 ⊎ (Contains input 123 ⊎ Contains input 92)
+abbrev pub MayAllocate : List ℕ → Type 0
+MayAllocate input = Contains input 91 ⊎ (Contains input 123 ⊎ Contains input 92)

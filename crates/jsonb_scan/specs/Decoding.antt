@@ -1,4 +1,5 @@
--- How the decoder goes on: what its private functions promise.
+-- What the steps of the decoder guarantee.
+-- Read for: private.
 use Rattle.std.specs.Prelude.{◌≡◌, ◌≢◌, ℕ, ◌+◌, ◌≤◌, ◌<◌, ◌^◌, Bool, true, false, List, ◌++◌, length, All, slice_index}
 use Rattle.std.specs.List.{flat_map, AllByRecursion}
 use Rattle.jsonb_value.specs.Mode.{Mode}

@@ -1,5 +1,5 @@
--- A position in a text as a line and a column, both counted from 1. A position past the end counts as the end. And the
--- byte to show of a fault.
+-- The line and the column of an offset. A position past the end counts as the end. And the byte to show of a fault.
+-- Read for: promises.
 use Rattle.std.specs.Prelude.{ℕ, suc, ◌-◌, min, Bool, not, ◌==◌, List, length, take}
 use Rattle.std.specs.List.{count_by, suffix_len}
 use Rattle.jsonb_value.specs.Code.{Code}

@@ -1,4 +1,5 @@
--- What the steps of the reader of quoted strings tell.
+-- What the steps of parsing strings and unquoted keys guarantee.
+-- Read for: private.
 use Rattle.std.specs.Prelude.{◌≡◌, ◌≢◌, ◌⊎◌, ℕ, ◌+◌, ◌<◌, ◌≤◌, List, length, slice_index, Result, Ok, Err}
 use Rattle.std.specs.Cow.{cow_str_bytes}
 use Rattle.std.specs.Int.{bit_at}
@@ -23,11 +24,11 @@ EndsString quote bytes (Closed end escaped) = (quote_end quote bytes ≡ Ok end)
 EndsString quote bytes (Unclosed at) = (quote_end quote bytes ≡ Err at) × (at < length bytes + 8)
 
 -- The text and its mark are those that are read of the body, or the fault is, where the decoder counts from `idx`.
-abbrev pub ReadsBody : ℕ → Result (CowStr Global) Error → Body (Mark × List ℕ) → Type 0
-ReadsBody idx (Ok text) read = read ≡ Ok (mark_view text, cow_str_bytes text)
-ReadsBody idx (Err (Syntax code place)) read = (count : ℕ) × (read ≡ Err (code_of code, count)) × (place ≡ idx + count)
-ReadsBody idx (Err OutOfMemory) read = Unit {0}
-ReadsBody idx (Err other) read = ⊥
+abbrev pub DecodesContents : ℕ → Result (CowStr Global) Error → Body (Mark × List ℕ) → Type 0
+DecodesContents idx (Ok text) read = read ≡ Ok (mark_view text, cow_str_bytes text)
+DecodesContents idx (Err (Syntax code place)) read = (count : ℕ) × (read ≡ Err (code_of code, count)) × (place ≡ idx + count)
+DecodesContents idx (Err OutOfMemory) read = Unit {0}
+DecodesContents idx (Err other) read = ⊥
 
 -- the search for the end of a bare key ends where reading does
 abbrev pub EndsKey : List ℕ → KeyEnd → Type 0

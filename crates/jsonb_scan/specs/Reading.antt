@@ -1,5 +1,6 @@
--- Reading from left to right as a function on lists: what is read and the bytes after it, or the first fault that is
--- met. This is the bridge between the code of the reader and the definition of its grammar.
+-- Results of the executable specification, faults, and sequencing. It connects the code of the parsers with the
+-- grammar.
+-- Read for: `exact`.
 pub mod BareKey
 pub mod Blank
 pub mod Container

@@ -1,4 +1,5 @@
--- What the scan of an extended number stands for.
+-- What the scan of an extended number guarantees.
+-- Read for: private.
 use Rattle.std.specs.Prelude.{◌≡◌, ◌≤◌, ℕ, List, length, Option, Some, None, Result, Ok, Err}
 use Rattle.jsonb_value.specs.Code.{Code, code_of}
 use Rattle.jsonb_value.specs.Tree.{Num}

@@ -1,4 +1,5 @@
--- What `parse_string` may refuse.
+-- The errors of `parse_string`.
+-- Read for: promises.
 use Rattle.std.specs.Prelude.{◌≡◌, ℕ, ◌+◌, List}
 use Rattle.jsonb_value.specs.Mode.{Mode}
 use Rattle.jsonb_value.specs.Code.{code_of}

@@ -9,6 +9,12 @@ use memchr::{memchr_iter, memrchr};
 
 /// The line and the column of an offset, in bytes from the text's start. Lines are counted from 1, and each line feed
 /// ends one. Columns are counted from 1 too, in bytes. An offset past the end counts as the end.
+///
+/// The time is linear in the offset, and nothing is allocated.
+///
+/// ```
+/// assert_eq!(rt; jsonb::line::line_and_column(b"[1,\n x]", 5), (2, 2));
+/// ```
 pub fn line_and_column(text: &[u8], position: usize) -> (usize, usize)
     ensures line { result.0 ≡ line_at text.now position }
     ensures column { result.1 ≡ column_at text.now position }
@@ -20,6 +26,14 @@ pub fn line_and_column(text: &[u8], position: usize) -> (usize, usize)
 /// The offset of the byte to show of an error of this text, from the code and the number of its `Error::Syntax`: the
 /// wrong byte, or the last byte of the faulty number, string, key or escape. It is the text's length where the text
 /// ends too early.
+///
+/// ```
+/// let text = b"[1,\n x]";
+/// if let Err(Error::Syntax(code, position)) = jsonb::parse_value_standard_mode(rt.alloc(), text) {
+///     let offset = jsonb::line::fault_index(text, &code, position);
+///     assert_eq!(rt; jsonb::line::line_and_column(text, offset), (2, 2));
+/// }
+/// ```
 pub fn fault_index(text: &[u8], code: &ParseErrorCode, position: usize) -> usize
     ensures index { result ≡ fault_index text.now (code_of code.now) position }
 {

@@ -1,4 +1,4 @@
--- The bodies of strings: one list of items, one meaning, or a fault.
+-- The contents of strings: one list of items, one meaning, or a fault.
 pub mod Exclusion
 pub mod Meaning
 pub mod PlainRuns

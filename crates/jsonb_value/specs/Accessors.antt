@@ -1,4 +1,5 @@
--- What a tree holds, if it is of that kind.
+-- What a tree holds, if it is of a kind; members by name, items by index.
+-- Read for: promises.
 use Rattle.std.specs.Prelude.{ℕ, zero, suc, ℤ, List, Bool, Some, None, if◌then◌else◌, ⊤}
 use Rattle.std.specs.declared.option.Option.{Option}
 use Rattle.std.specs.Option.{option_or}

@@ -1,4 +1,5 @@
--- Why a text is refused: the codes of the readers, apart from where their parts lie in memory.
+-- Codes, independent of representation.
+-- Read for: promises.
 use Rattle.std.specs.Prelude.{ℕ, List, string_bytes, ⊤}
 use Rattle.jsonb_value.specs.declared.error.ParseErrorCode.{ParseErrorCode}
 use Rattle.jsonb_value.specs.declared.error.ParseErrorCode.TheVariants as variants

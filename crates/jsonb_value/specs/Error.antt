@@ -1,3 +1,4 @@
--- Errors: their texts, and their parts.
+-- Errors and their texts.
+-- Read for: what its files are.
 pub mod ErrorText
 pub mod ErrorView

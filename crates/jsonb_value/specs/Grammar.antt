@@ -1,4 +1,6 @@
--- The texts of values and documents, and what they stand for (RFC 8259, sections 2, 4 and 5, for the standard ones).
+-- Documents: whitespace around values, parts joined by commas, elements, members, values by depth (RFC 8259, sections
+-- 2, 4 and 5, for the standard ones).
+-- Read for: promises.
 pub mod BareKey
 pub mod Blanks
 pub mod ExtendedNumber

@@ -1,4 +1,5 @@
--- Members whose keys ascend, as those of each object do.
+-- Members whose keys ascend.
+-- Read for: promises.
 use Rattle.std.specs.Prelude.{◌≡◌, ℕ, List, ⊤}
 use Rattle.std.specs.Ordering.{nat_cmp}
 use Rattle.std.specs.Cmp.Lexicographic.{slice_cmp}

@@ -1,4 +1,5 @@
--- The grammar that a text is read by: standard JSON, or the extended one.
+-- The two grammars.
+-- Read for: promises.
 pub data Mode : Type 0 where
   standard : Mode
   extended : Mode

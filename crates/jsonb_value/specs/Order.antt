@@ -1,4 +1,6 @@
--- The order of numbers and of trees: `Less` is below, `Equal` is the same. Marks and a number's form do not count.
+-- The order of numbers and trees, computed; what one total order is. `Less` is below, `Equal` is the same. Marks and a
+-- number's form do not count.
+-- Read for: promises.
 pub mod Bounds
 pub mod ByContent
 pub mod Laws

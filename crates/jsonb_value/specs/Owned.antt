@@ -1,4 +1,5 @@
--- A tree whose strings own their text, as that of a value that outlives the text that it was read from.
+-- A tree with each string owned; whether a tree holds binary data.
+-- Read for: promises.
 use Rattle.std.specs.Prelude.{Bool, true, false, ◌||◌}
 use Rattle.jsonb_value.specs.Tree.{Tree, string, array, object, binary, escaped, Trees, no_trees, more_trees, Members, no_members, more_members}
 

@@ -1,4 +1,5 @@
--- What is so of the tree of each value, besides its kind and its parts.
+-- What each value's tree has by its types: texts are UTF-8, numbers fit their forms, keys ascend.
+-- Read for: promises.
 use Rattle.std.specs.Prelude.{◌≡◌, ℕ, ◌<◌, ◌^◌, ⊤, ℤ, pos, negsuc, FitsSigned}
 use Rattle.std.specs.Int.{w64, w128}
 use Rattle.std.specs.Str.{IsUtf8}

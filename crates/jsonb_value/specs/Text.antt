@@ -1,4 +1,5 @@
--- The text of a value, as it is written: JSON with no blanks (RFC 8259, sections 2 to 7).
+-- The text of a tree, and which trees have one: JSON without whitespace (RFC 8259, sections 2 to 7).
+-- Read for: promises.
 pub mod Appending
 pub mod BinaryText
 pub mod ExtensionText

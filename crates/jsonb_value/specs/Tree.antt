@@ -1,4 +1,5 @@
--- What a JSON text or a value stands for, apart from where its parts lie in memory.
+-- Kinds and contents, numbers as form, scale and integer; members in the order of their keys, and inserting one.
+-- Read for: promises.
 use Rattle.std.specs.Prelude.{ℕ, ℤ, Bool, List, [], ◌∷◌}
 use Rattle.std.specs.Ordering.{nat_cmp, match_ordering}
 use Rattle.std.specs.Cmp.Lexicographic.{slice_cmp}

@@ -1,4 +1,5 @@
--- The tree that a `Value` stands for.
+-- The tree of a `Value`, a `Number` or an `ExtensionValue`.
+-- Read for: promises, but `pairs_view`.
 use Rattle.std.specs.Prelude.{ℕ, List, [], ◌∷◌, map, String, string_bytes, pos}
 use Rattle.std.specs.Cow.{cow_str_bytes}
 use Rattle.std.specs.declared.alloc.Global.{Global}

@@ -1,4 +1,4 @@
--- Where the keys of the members that were read stand, and what a key that comes twice says of the members.
+-- The offsets of the keys of the parsed members.
 use Rattle.std.proofs.Common.{◌≡◌, ℕ, zero, suc, ◌+◌, ◌-◌, ◌<◌, ◌≤◌, Bool, true, false, cond, inl, inr, List, [], ◌∷◌, ◌++◌, length, map, Some, Ok, is_eq, nat_cmp, refl, sym, ap, ap₂, subst, subst₂, ◌∙◌, append_assoc, length-append, arith, eqb, eqb-true}
 use Rattle.std.specs.Cmp.Lexicographic.{slice_cmp}
 use Rattle.std.proofs.lemmas.List.Recursion.{is_count_by}

@@ -1,4 +1,4 @@
--- Where one spelling of a value begins another, longer one.
+-- Where the text of a value is a proper prefix of that of another, both are numbers.
 use Rattle.std.proofs.Common.{◌≡◌, ◌≢◌, ℕ, zero, suc, ◌≤◌, true≢false, List, [], ◌∷◌, ◌++◌, codes, None, ⊎_elim, refl, sym, ap, subst, ◌∙◌, eq-eqb, arith}
 use Rattle.jsonb_value.specs.Grammar.{Derives, IsValue}
 use Rattle.jsonb_value.specs.Grammar.IsValue.{empty_array, empty_object, full_array, full_object, scalar}

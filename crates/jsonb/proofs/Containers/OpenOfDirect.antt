@@ -1,4 +1,4 @@
--- Reading with no JsonAst between, step by step, against reading by the open containers.
+-- The stack of the fast path parses as the open containers do, and its maps hold what was parsed.
 use Rattle.std.proofs.Common.{◌≡◌, ◌≢◌, ℕ, zero, suc, ◌+◌, ◌-◌, ◌≤◌, Bool, true, false, cond, List, [], ◌∷◌, ◌++◌, length, take, get_or, set, map, String, Vec, Global, rules, Option, Some, None, Ok, Less, Equal, Greater, is_eq, string_bytes, string_cmp, nat_cmp, refl, sym, ap, ap₂, subst, ◌∙◌, arith, length-append}
 use Rattle.std.proofs.lemmas.Cmp.{nat_list_cmp_total, tied_itself}
 use Rattle.std.proofs.lemmas.List.{map-append}
@@ -26,7 +26,7 @@ use Rattle.jsonb.specs.declared.parser.Parser.{Parser}
 use Rattle.jsonb.specs.declared.parser.direct.OpenMembers.{OpenMembers}
 use Rattle.jsonb.specs.declared.parser.direct.OpenValue.{OpenValue}
 use Rattle.jsonb.specs.declared.parser.direct.OpenValue.TheVariants as variants
-use Rattle.jsonb.specs.Direct.{AreHeld, AreHeldOnto, IsAhead, ValueIsDue, IsHeld, IsPutIn, ReadsParts, WasRead, depth_within, end_of, found_keys, names, outer_at, part_at, stopped_at, tree_of}
+use Rattle.jsonb.specs.Direct.{FramesHold, FramesHoldOnto, AtPart, BeforeValue, FrameHolds, MapHolds, ReadsParts, AfterValue, depth_within, finish_container, found_keys, names, resume_stack, resume_part, resume_value, tree_of}
 use Rattle.jsonb_scan.specs.Answer.{mode_of}
 use Rattle.jsonb.specs.Parser.{Advances, rest_of, size_of}
 use Rattle.jsonb_scan.specs.Reading.{Read, begins, on_byte, refused, ◌>>=◌}
@@ -36,7 +36,7 @@ use Rattle.jsonb_scan.specs.Reading.Document.{value_at}
 use Rattle.jsonb_scan.specs.Reading.Number.{standard_number_at}
 use Rattle.jsonb_scan.specs.Reading.Scalar.{begins_number, other_scalar_at, quoted_at, scalar_at}
 use Rattle.jsonb_scan.specs.Reading.String.{string_at}
-use Rattle.jsonb.specs.Stack.{Open, array_end, elements_from, finish_open, member_start, read_members_from, next_part_at, object_end, rest_at, resume}
+use Rattle.jsonb.specs.Stack.{Open, array_end, elements_from, finish_open, member_start, read_members_from, next_part_at, object_end, resume_after_part, resume}
 use Rattle.jsonb.specs.Stack.Open.{elements_so_far, members_so_far}
 use Rattle.jsonb.proofs.Scalars.FirstBytes.{standard_number}
 use Rattle.jsonb.proofs.Containers.OpenOnLists.{array-begun, array-value, element-due, elements-turn, members-turn, object-begun, object-value, resume-none, resume-part, value_plain}
@@ -47,7 +47,7 @@ use Rattle.jsonb.proofs.Steps.Advancing.{goes_on}
 
 -- ---- the keys of a map
 
-pub put-none : IsPutIn [] []
+pub put-none : MapHolds [] []
 put-none = record { put = refl; distinct = tt; known = λ k h. tt }
 
 new-missing : (k : String Global) (es : List Entry) → lookup (is_at (string_cmp k)) es ≡ None → IsNew (string_bytes k) (names es)
@@ -84,8 +84,8 @@ put_all-snoc [] m done = refl
 put_all-snoc (n ∷ ms) m done = put_all-snoc ms m (put n.0 n.1 done)
 
 -- one more member, whose key the map does not have
-pub put-more : (fs : List Found) (f : Found) (es more : List Entry) (k : String Global) (v : Value) → IsPutIn fs es → more ≡ insert_entry string_cmp es k v → lookup (is_at (string_cmp k)) es ≡ None
-    → string_bytes k ≡ f.key → view v ≡ f.tree → IsPutIn (fs ++ f ∷ []) more
+pub put-more : (fs : List Found) (f : Found) (es more : List Entry) (k : String Global) (v : Value) → MapHolds fs es → more ≡ insert_entry string_cmp es k v → lookup (is_at (string_cmp k)) es ≡ None
+    → string_bytes k ≡ f.key → view v ≡ f.tree → MapHolds (fs ++ f ∷ []) more
 put-more fs f es more k v h inserted missing named seen =
     record {
       put =
@@ -99,7 +99,7 @@ put-more fs f es more k v h inserted missing named seen =
     }
 
 -- the object of the members that were found
-pub put-end : (fs : List Found) (es : List Entry) (rest : List ℕ) → IsPutIn fs es → object_end fs rest ≡ Ok (object (members_view es), rest)
+pub put-end : (fs : List Found) (es : List Entry) (rest : List ℕ) → MapHolds fs es → object_end fs rest ≡ Ok (object (members_view es), rest)
 put-end fs es rest h =
     ap (λ o. object_or_fault o fs rest) (no_repeat (map spot_of fs) h.distinct)
     ∙ ap (λ ms. Ok (object ms, rest)) (sym h.put)
@@ -150,25 +150,25 @@ found k t place = record { mark = k.0; key = k.1; tree = t; place = place }
 
 module _ (size : ℕ) (mode : Mode) (depth : ℕ) where
   pub element_joins : (front : List Tree) (t : Tree) (bytes u : List ℕ) (closed : Bool) → skip_blanks mode bytes ≡ cond closed 93 44 ∷ u
-      → finish_open size mode depth (elements_so_far front) (t, bytes) ≡ part_at size mode depth closed (elements_so_far (front ++ t ∷ [])) u
+      → finish_open size mode depth (elements_so_far front) (t, bytes) ≡ resume_part size mode depth closed (elements_so_far (front ++ t ∷ [])) u
   element_joins front t bytes u true e =
-      ap (λ (r : List ℕ). rest_at size mode depth (elements_so_far (front ++ t ∷ [])) r) e
+      ap (λ (r : List ℕ). resume_after_part size mode depth (elements_so_far (front ++ t ∷ [])) r) e
       ∙ on_byte-other 44 93 u (elements_from size mode depth (front ++ t ∷ [])) (on_byte 93 (93 ∷ u) (array_end (front ++ t ∷ [])) (refused size expected_array_comma_or_end 0 (93 ∷ u))) refl
       ∙ on_byte-found 93 u (array_end (front ++ t ∷ [])) (refused size expected_array_comma_or_end 0 (93 ∷ u))
   element_joins front t bytes u false e =
-      ap (λ (r : List ℕ). rest_at size mode depth (elements_so_far (front ++ t ∷ [])) r) e
+      ap (λ (r : List ℕ). resume_after_part size mode depth (elements_so_far (front ++ t ∷ [])) r) e
       ∙ on_byte-found 44 u (elements_from size mode depth (front ++ t ∷ [])) (on_byte 93 (44 ∷ u) (array_end (front ++ t ∷ [])) (refused size expected_array_comma_or_end 0 (44 ∷ u)))
 
   pub member_joins : (front : List Found) (k : Mark × List ℕ) (place : ℕ) (t : Tree) (bytes u : List ℕ) (closed : Bool) → skip_blanks mode bytes ≡ cond closed 125 44 ∷ u
-      → finish_open size mode depth (members_so_far front k place) (t, bytes) ≡ part_at size mode depth closed (members_so_far (front ++ found k t place ∷ []) (plain, []) place) u
+      → finish_open size mode depth (members_so_far front k place) (t, bytes) ≡ resume_part size mode depth closed (members_so_far (front ++ found k t place ∷ []) (plain, []) place) u
   member_joins front k place t bytes u true e =
       let more = front ++ found k t place ∷ [] in
-      ap (λ (r : List ℕ). rest_at size mode depth (members_so_far more (plain, []) place) r) e
+      ap (λ (r : List ℕ). resume_after_part size mode depth (members_so_far more (plain, []) place) r) e
       ∙ on_byte-other 44 125 u (read_members_from size mode depth more) (on_byte 125 (125 ∷ u) (object_end more) (refused size expected_object_comma_or_end 0 (125 ∷ u))) refl
       ∙ on_byte-found 125 u (object_end more) (refused size expected_object_comma_or_end 0 (125 ∷ u))
   member_joins front k place t bytes u false e =
       let more = front ++ found k t place ∷ [] in
-      ap (λ (r : List ℕ). rest_at size mode depth (members_so_far more (plain, []) place) r) e
+      ap (λ (r : List ℕ). resume_after_part size mode depth (members_so_far more (plain, []) place) r) e
       ∙ on_byte-found 44 u (read_members_from size mode depth more) (on_byte 125 (44 ∷ u) (object_end more) (refused size expected_object_comma_or_end 0 (44 ∷ u)))
 
   -- a key was read
@@ -180,7 +180,7 @@ module _ (size : ℕ) (mode : Mode) (depth : ℕ) where
 
 -- ---- the containers that are open
 
-pub held-push : (below : List Open) (fs : List OpenValue) (cs : List Open) (f : OpenValue) (c : Open) → AreHeldOnto below fs cs → IsHeld f c → AreHeldOnto below (fs ++ f ∷ []) (c ∷ cs)
+pub held-push : (below : List Open) (fs : List OpenValue) (cs : List Open) (f : OpenValue) (c : Open) → FramesHoldOnto below fs cs → FrameHolds f c → FramesHoldOnto below (fs ++ f ∷ []) (c ∷ cs)
 held-push below [] cs f c h i = (c, i, ap (λ (ds : List Open). c ∷ ds) h)
 held-push below (g ∷ fs) cs f c h i = (h.0, h.1, held-push (h.0 ∷ below) fs cs f c h.2 i)
 
@@ -189,23 +189,23 @@ record Innermost (below : List Open) (fs : List OpenValue) (f : OpenValue) (cs :
   pub inner : Open
   pub others : List Open
   pub are : cs ≡ inner ∷ others
-  pub held : IsHeld f inner
-  pub below_held : AreHeldOnto below fs others
+  pub held : FrameHolds f inner
+  pub below_held : FramesHoldOnto below fs others
 
-held-pop : (below : List Open) (fs : List OpenValue) (f : OpenValue) (cs : List Open) → AreHeldOnto below (fs ++ f ∷ []) cs → Innermost below fs f cs
+held-pop : (below : List Open) (fs : List OpenValue) (f : OpenValue) (cs : List Open) → FramesHoldOnto below (fs ++ f ∷ []) cs → Innermost below fs f cs
 held-pop below [] f cs h = record { inner = h.0; others = below; are = h.2; held = h.1; below_held = refl }
 held-pop below (g ∷ fs) f cs h =
     let r = held-pop (h.0 ∷ below) fs f cs h.2 in
     record { inner = r.inner; others = r.others; are = r.are; held = r.held; below_held = (h.0, h.1, r.below_held) }
 
-innermost_of : (fs gs : List OpenValue) (f : OpenValue) (cs : List Open) → gs ≡ fs ++ f ∷ [] → AreHeld gs cs → Innermost [] fs f cs
-innermost_of fs gs f cs e h = held-pop [] fs f cs (subst (λ hs. AreHeld hs cs) e h)
+innermost_of : (fs gs : List OpenValue) (f : OpenValue) (cs : List Open) → gs ≡ fs ++ f ∷ [] → FramesHold gs cs → Innermost [] fs f cs
+innermost_of fs gs f cs e h = held-pop [] fs f cs (subst (λ hs. FramesHold hs cs) e h)
 
-pushed-on : (fs gs : List OpenValue) (f : OpenValue) (c : Open) (cs : List Open) → gs ≡ fs ++ f ∷ [] → AreHeld fs cs → IsHeld f c → AreHeld gs (c ∷ cs)
-pushed-on fs gs f c cs e h i = subst (λ hs. AreHeld hs (c ∷ cs)) (sym e) (held-push [] fs cs f c h i)
+pushed-on : (fs gs : List OpenValue) (f : OpenValue) (c : Open) (cs : List Open) → gs ≡ fs ++ f ∷ [] → FramesHold fs cs → FrameHolds f c → FramesHold gs (c ∷ cs)
+pushed-on fs gs f c cs e h i = subst (λ hs. FramesHold hs (c ∷ cs)) (sym e) (held-push [] fs cs f c h i)
 
-outer-same : (p q : Parser) (depth : ℕ) (closed : Bool) (cs : List Open) (bytes : List ℕ) → Advances p q → outer_at (size_of p) (mode_of p.mode) depth closed cs bytes ≡ outer_at (size_of q) (mode_of q.mode) depth closed cs bytes
-outer-same p q depth closed cs bytes a = sym (ap₂ (λ n m. outer_at n m depth closed cs bytes) (same_size p q a) (ap mode_of a.mode))
+outer-same : (p q : Parser) (depth : ℕ) (closed : Bool) (cs : List Open) (bytes : List ℕ) → Advances p q → resume_stack (size_of p) (mode_of p.mode) depth closed cs bytes ≡ resume_stack (size_of q) (mode_of q.mode) depth closed cs bytes
+outer-same p q depth closed cs bytes a = sym (ap₂ (λ n m. resume_stack n m depth closed cs bytes) (same_size p q a) (ap mode_of a.mode))
 
 resume-outermost : (size : ℕ) (mode : Mode) (depth : ℕ) (cs : List Open) (x : Tree × List ℕ) → cs ≡ [] → resume size mode depth cs x ≡ Ok x
 unfolding resume
@@ -221,14 +221,14 @@ closing c mode bytes s q false e f r = (ap (λ u. begins c u) (sym e) ∙ sym f,
 
 module _ (size : ℕ) (mode : Mode) (depth : ℕ) (bytes rest : List ℕ) where
   array-starts : (closed : Bool) → cond closed (skip_blanks mode bytes ≡ 93 ∷ rest) ((begins 93 (skip_blanks mode bytes) ≡ false) × (skip_blanks mode bytes ≡ rest))
-      → array_at size mode (value_at size mode depth) bytes ≡ part_at size mode depth closed (elements_so_far []) rest
+      → array_at size mode (value_at size mode depth) bytes ≡ resume_part size mode depth closed (elements_so_far []) rest
   array-starts true e =
       ap (λ (u : List ℕ). on_byte 93 u (λ (r : List ℕ). Ok (array no_trees, r)) (elements_at size mode (value_at size mode depth) bytes)) e
       ∙ on_byte-found 93 rest (λ (r : List ℕ). Ok (array no_trees, r)) (elements_at size mode (value_at size mode depth) bytes)
   array-starts false e = array-begun size mode depth bytes e.0 ∙ ap (λ (u : List ℕ). elements_from size mode depth [] u) e.1
 
   object-starts : (key : Mark × List ℕ) (place : ℕ) (closed : Bool) → cond closed (skip_blanks mode bytes ≡ 125 ∷ rest) ((begins 125 (skip_blanks mode bytes) ≡ false) × (skip_blanks mode bytes ≡ rest))
-      → object_at size mode (value_at size mode depth) bytes ≡ part_at size mode depth closed (members_so_far [] key place) rest
+      → object_at size mode (value_at size mode depth) bytes ≡ resume_part size mode depth closed (members_so_far [] key place) rest
   object-starts key place true e =
       ap (λ (u : List ℕ). on_byte 125 u (λ (r : List ℕ). Ok (object no_members, r)) (members_at size mode (value_at size mode depth) bytes)) e
       ∙ on_byte-found 125 rest (λ (r : List ℕ). Ok (object no_members, r)) (members_at size mode (value_at size mode depth) bytes)
@@ -236,9 +236,9 @@ module _ (size : ℕ) (mode : Mode) (depth : ℕ) (bytes rest : List ℕ) where
   object-starts key place false e = object-begun size mode depth bytes e.0 ∙ ap (λ (u : List ℕ). read_members_from size mode depth [] u) e.1
 
 -- a container was pushed that is read from here on
-opened : (p q : Parser) (fs gs : List OpenValue) (f : OpenValue) (c : Open) (closed : Bool) (whole : Read Tree) → Advances p q → gs ≡ fs ++ f ∷ [] → IsHeld f c → length gs ≤ max_depth
-    → ((depth : ℕ) → value_at (size_of p) (mode_of p.mode) (suc depth) (rest_of p) ≡ part_at (size_of p) (mode_of p.mode) depth closed c (rest_of q))
-    → ValueIsDue whole p fs → IsAhead whole q gs closed
+opened : (p q : Parser) (fs gs : List OpenValue) (f : OpenValue) (c : Open) (closed : Bool) (whole : Read Tree) → Advances p q → gs ≡ fs ++ f ∷ [] → FrameHolds f c → length gs ≤ max_depth
+    → ((depth : ℕ) → value_at (size_of p) (mode_of p.mode) (suc depth) (rest_of p) ≡ resume_part (size_of p) (mode_of p.mode) depth closed c (rest_of q))
+    → BeforeValue whole p fs → AtPart whole q gs closed
 opened p q fs gs f c closed whole a e held fits reads due =
     let deep : depth_within fs ≡ suc (depth_within gs) = omega (arith, ap length e, length-append fs (f ∷ [])) in
     record {
@@ -252,7 +252,7 @@ opened p q fs gs f c closed whole a e held fits reads due =
     }
 
 pub array_opened : (p o s q : Parser) (fs gs : List OpenValue) (v : Vec Value Global) (closed : Bool) (whole : Read Tree) → Advances p o → Advances p q → rest_of p ≡ 91 ∷ rest_of o → rest_of s ≡ skip_blanks (mode_of o.mode) (rest_of o)
-    → closed ≡ begins 93 (rest_of s) → cond closed (rest_of s ≡ 93 ∷ rest_of q) (q ≡ s) → v.items ≡ [] → gs ≡ fs ++ variants.Array v ∷ [] → length gs ≤ max_depth → ValueIsDue whole p fs → IsAhead whole q gs closed
+    → closed ≡ begins 93 (rest_of s) → cond closed (rest_of s ≡ 93 ∷ rest_of q) (q ≡ s) → v.items ≡ [] → gs ≡ fs ++ variants.Array v ∷ [] → length gs ≤ max_depth → BeforeValue whole p fs → AtPart whole q gs closed
 array_opened p o s q fs gs v closed whole a b bracket skipped found closes none e fits due =
     opened p q fs gs (variants.Array v) (elements_so_far []) closed whole b e (ap (λ (vs : List Value). map view vs) none) fits
     (λ depth.
@@ -262,10 +262,10 @@ array_opened p o s q fs gs v closed whole a b bracket skipped found closes none 
     due
 
 pub object_opened : (p o s q : Parser) (fs gs : List OpenValue) (m : OpenMembers) (closed : Bool) (whole : Read Tree) → Advances p o → Advances p q → rest_of p ≡ 123 ∷ rest_of o → rest_of s ≡ skip_blanks (mode_of o.mode) (rest_of o)
-    → closed ≡ begins 125 (rest_of s) → cond closed (rest_of s ≡ 125 ∷ rest_of q) (q ≡ s) → m.members.entries ≡ [] → gs ≡ fs ++ variants.Object m ∷ [] → length gs ≤ max_depth → ValueIsDue whole p fs → IsAhead whole q gs closed
+    → closed ≡ begins 125 (rest_of s) → cond closed (rest_of s ≡ 125 ∷ rest_of q) (q ≡ s) → m.members.entries ≡ [] → gs ≡ fs ++ variants.Object m ∷ [] → length gs ≤ max_depth → BeforeValue whole p fs → AtPart whole q gs closed
 object_opened p o s q fs gs m closed whole a b brace skipped found closes none e fits due =
     let key : Mark × List ℕ = (plain, string_bytes m.key) in
-    opened p q fs gs (variants.Object m) (members_so_far [] key 0) closed whole b e (subst (λ es. IsPutIn [] es) (sym none) put-none, refl) fits
+    opened p q fs gs (variants.Object m) (members_so_far [] key 0) closed whole b e (subst (λ es. MapHolds [] es) (sym none) put-none, refl) fits
     (λ depth.
     ap (λ r. value_at (size_of p) (mode_of p.mode) (suc depth) r) brace
     ∙ object-value (size_of p) (mode_of p.mode) (suc depth) (rest_of o)
@@ -278,16 +278,16 @@ module _ (p q : Parser) (fs gs hs : List OpenValue) (f g : OpenValue) (whole : R
   same_depth : depth_within gs ≡ depth_within fs
   same_depth = ap (λ n. max_depth - n) (let same : length gs ≡ length fs = omega (arith, ap length e, ap length d, length-append hs (f ∷ []), length-append hs (g ∷ [])) in same)
 
-  stopped : (closed : Bool) (ahead : IsAhead whole p fs false) (i : Innermost [] hs f ahead.opens) (s : ReadsParts (size_of p) (mode_of p.mode) (depth_within fs) (next_part_at (size_of p) (mode_of p.mode) (depth_within fs) i.inner (rest_of p)) closed g (rest_of q))
-      → whole ≡ (stopped_at (size_of p) (mode_of p.mode) (depth_within fs) closed s.so_far (rest_of q) >>= resume (size_of p) (mode_of p.mode) (suc (depth_within fs)) i.others)
+  stopped : (closed : Bool) (ahead : AtPart whole p fs false) (i : Innermost [] hs f ahead.opens) (s : ReadsParts (size_of p) (mode_of p.mode) (depth_within fs) (next_part_at (size_of p) (mode_of p.mode) (depth_within fs) i.inner (rest_of p)) closed g (rest_of q))
+      → whole ≡ (resume_value (size_of p) (mode_of p.mode) (depth_within fs) closed s.so_far (rest_of q) >>= resume (size_of p) (mode_of p.mode) (suc (depth_within fs)) i.others)
   stopped closed ahead i s =
       ahead.reads
-      ∙ ap (λ cs. outer_at (size_of p) (mode_of p.mode) (depth_within fs) false cs (rest_of p)) i.are
+      ∙ ap (λ cs. resume_stack (size_of p) (mode_of p.mode) (depth_within fs) false cs (rest_of p)) i.are
       ∙ ap (λ (r : Read Tree). r >>= resume (size_of p) (mode_of p.mode) (suc (depth_within fs)) i.others) s.reads
 
   -- up to the end of the container
-  pub filled : ((depth : ℕ) (c : Open) → IsHeld f c → ReadsParts (size_of p) (mode_of p.mode) depth (next_part_at (size_of p) (mode_of p.mode) depth c (rest_of p)) true g (rest_of q))
-      → IsAhead whole p fs false → IsAhead whole q gs true
+  pub filled : ((depth : ℕ) (c : Open) → FrameHolds f c → ReadsParts (size_of p) (mode_of p.mode) depth (next_part_at (size_of p) (mode_of p.mode) depth c (rest_of p)) true g (rest_of q))
+      → AtPart whole p fs false → AtPart whole q gs true
   filled stops ahead =
       let i = innermost_of hs fs f ahead.opens e ahead.held in
       let s = stops (depth_within fs) i.inner i.held in
@@ -297,12 +297,12 @@ module _ (p q : Parser) (fs gs hs : List OpenValue) (f g : OpenValue) (whole : R
         reads =
             stopped true ahead i s
             ∙ outer-same p q (depth_within fs) true (s.so_far ∷ i.others) (rest_of q) a
-            ∙ ap (λ n. outer_at (size_of q) (mode_of q.mode) n true (s.so_far ∷ i.others) (rest_of q)) (sym same_depth);
+            ∙ ap (λ n. resume_stack (size_of q) (mode_of q.mode) n true (s.so_far ∷ i.others) (rest_of q)) (sym same_depth);
       }
 
   -- up to a part that is a container
-  pub stopped_due : ((depth : ℕ) (c : Open) → IsHeld f c → ReadsParts (size_of p) (mode_of p.mode) depth (next_part_at (size_of p) (mode_of p.mode) depth c (rest_of p)) false g (rest_of q))
-      → IsAhead whole p fs false → ValueIsDue whole q gs
+  pub stopped_due : ((depth : ℕ) (c : Open) → FrameHolds f c → ReadsParts (size_of p) (mode_of p.mode) depth (next_part_at (size_of p) (mode_of p.mode) depth c (rest_of p)) false g (rest_of q))
+      → AtPart whole p fs false → BeforeValue whole q gs
   stopped_due stops ahead =
       let i = innermost_of hs fs f ahead.opens e ahead.held in
       let s = stops (depth_within fs) i.inner i.held in
@@ -318,14 +318,14 @@ module _ (p q : Parser) (fs gs hs : List OpenValue) (f g : OpenValue) (whole : R
 
 -- ---- a container ends
 
-end-held : (f : OpenValue) (c : Open) (rest : List ℕ) → IsHeld f c → end_of c rest ≡ Ok (tree_of f, rest)
+end-held : (f : OpenValue) (c : Open) (rest : List ℕ) → FrameHolds f c → finish_container c rest ≡ Ok (tree_of f, rest)
 end-held (variants.Array v) (elements_so_far ts) rest h = ap (λ us. Ok (array (trees_of us), rest)) (sym h)
 end-held (variants.Array v) (members_so_far fs key place) rest h = absurd h
 end-held (variants.Object o) (elements_so_far ts) rest h = absurd h
 end-held (variants.Object o) (members_so_far fs key place) rest h = put-end fs o.members.entries rest h.0
 
 -- the innermost was taken off
-pub ended : (p : Parser) (fs gs : List OpenValue) (f : OpenValue) (whole : Read Tree) → fs ≡ gs ++ f ∷ [] → length fs ≤ max_depth → IsAhead whole p fs true → WasRead whole p gs (tree_of f)
+pub ended : (p : Parser) (fs gs : List OpenValue) (f : OpenValue) (whole : Read Tree) → fs ≡ gs ++ f ∷ [] → length fs ≤ max_depth → AtPart whole p fs true → AfterValue whole p gs (tree_of f)
 ended p fs gs f whole e fits ahead =
     let i = innermost_of gs fs f ahead.opens e ahead.held in
     let deep : suc (depth_within fs) ≡ depth_within gs = omega (arith, ap length e, length-append gs (f ∷ [])) in
@@ -334,24 +334,24 @@ ended p fs gs f whole e fits ahead =
       held = i.below_held;
       reads =
           ahead.reads
-          ∙ ap (λ cs. outer_at (size_of p) (mode_of p.mode) (depth_within fs) true cs (rest_of p)) i.are
+          ∙ ap (λ cs. resume_stack (size_of p) (mode_of p.mode) (depth_within fs) true cs (rest_of p)) i.are
           ∙ ap (λ (r : Read Tree). r >>= resume (size_of p) (mode_of p.mode) (suc (depth_within fs)) i.others) (end-held f i.inner (rest_of p) i.held)
           ∙ ap (λ n. resume (size_of p) (mode_of p.mode) n i.others (tree_of f, rest_of p)) deep;
     }
 
 -- no other is open
-pub outermost : (p : Parser) (fs : List OpenValue) (t : Tree) (whole : Read Tree) → length fs ≡ 0 → WasRead whole p fs t → whole ≡ Ok (t, rest_of p)
+pub outermost : (p : Parser) (fs : List OpenValue) (t : Tree) (whole : Read Tree) → length fs ≡ 0 → AfterValue whole p fs t → whole ≡ Ok (t, rest_of p)
 outermost p [] t whole e was = was.reads ∙ resume-outermost (size_of p) (mode_of p.mode) (depth_within []) was.opens (t, rest_of p) was.held
 outermost p (f ∷ fs) t whole e was = absurd (omega arith)
 
 -- a value joined the parts of the container around it, up to the next one or to the end
 record Joins (size : ℕ) (mode : Mode) (c : Open) (t : Tree) (bytes : List ℕ) (closed : Bool) (g : OpenValue) (rest : List ℕ) : Type 0 where
   pub so_far : Open
-  pub held : IsHeld g so_far
-  pub reads : (depth : ℕ) → finish_open size mode depth c (t, bytes) ≡ part_at size mode depth closed so_far rest
+  pub held : FrameHolds g so_far
+  pub reads : (depth : ℕ) → finish_open size mode depth c (t, bytes) ≡ resume_part size mode depth closed so_far rest
 
 joined : (p q : Parser) (fs gs hs : List OpenValue) (f g : OpenValue) (t : Tree) (closed : Bool) (whole : Read Tree) → Advances p q → fs ≡ hs ++ f ∷ [] → gs ≡ hs ++ g ∷ []
-    → ((c : Open) → IsHeld f c → Joins (size_of p) (mode_of p.mode) c t (rest_of p) closed g (rest_of q)) → WasRead whole p fs t → IsAhead whole q gs closed
+    → ((c : Open) → FrameHolds f c → Joins (size_of p) (mode_of p.mode) c t (rest_of p) closed g (rest_of q)) → AfterValue whole p fs t → AtPart whole q gs closed
 unfolding resume
 joined p q fs gs hs f g t closed whole a e d joins was =
     let i = innermost_of hs fs f was.opens e was.held in
@@ -364,11 +364,11 @@ joined p q fs gs hs f g t closed whole a e d joins was =
           ∙ ap (λ cs. resume (size_of p) (mode_of p.mode) (depth_within fs) cs (t, rest_of p)) i.are
           ∙ ap (λ (r : Read Tree). r >>= resume (size_of p) (mode_of p.mode) (suc (depth_within fs)) i.others) (j.reads (depth_within fs))
           ∙ outer-same p q (depth_within fs) closed (j.so_far ∷ i.others) (rest_of q) a
-          ∙ ap (λ n. outer_at (size_of q) (mode_of q.mode) n closed (j.so_far ∷ i.others) (rest_of q)) (sym (same_depth p q fs gs hs f g whole a e d));
+          ∙ ap (λ n. resume_stack (size_of q) (mode_of q.mode) n closed (j.so_far ∷ i.others) (rest_of q)) (sym (same_depth p q fs gs hs f g whole a e d));
     }
 
 array-joins : (size : ℕ) (mode : Mode) (v w : Vec Value Global) (x : Value) (bytes rest : List ℕ) (closed : Bool) → w.items ≡ v.items ++ x ∷ [] → skip_blanks mode bytes ≡ cond closed 93 44 ∷ rest
-    → (c : Open) → IsHeld (variants.Array v) c → Joins size mode c (view x) bytes closed (variants.Array w) rest
+    → (c : Open) → FrameHolds (variants.Array v) c → Joins size mode c (view x) bytes closed (variants.Array w) rest
 array-joins size mode v w x bytes rest closed put next (elements_so_far ts) h =
     record {
       so_far = elements_so_far (ts ++ view x ∷ []);
@@ -378,7 +378,7 @@ array-joins size mode v w x bytes rest closed put next (elements_so_far ts) h =
 array-joins size mode v w x bytes rest closed put next (members_so_far fs key place) h = absurd h
 
 object-joins : (size : ℕ) (mode : Mode) (v w : OpenMembers) (x : Value) (bytes rest : List ℕ) (closed : Bool) → w.members.entries ≡ insert_entry string_cmp v.members.entries v.key x → lookup (is_at (string_cmp v.key)) v.members.entries ≡ None → string_bytes w.key ≡ []
-    → skip_blanks mode bytes ≡ cond closed 125 44 ∷ rest → (c : Open) → IsHeld (variants.Object v) c → Joins size mode c (view x) bytes closed (variants.Object w) rest
+    → skip_blanks mode bytes ≡ cond closed 125 44 ∷ rest → (c : Open) → FrameHolds (variants.Object v) c → Joins size mode c (view x) bytes closed (variants.Object w) rest
 object-joins size mode v w x bytes rest closed put missing none next (elements_so_far ts) h = absurd h
 object-joins size mode v w x bytes rest closed put missing none next (members_so_far fs key place) h =
     record {
@@ -388,13 +388,13 @@ object-joins size mode v w x bytes rest closed put missing none next (members_so
     }
 
 pub array_joined : (p q : Parser) (fs gs hs : List OpenValue) (f : OpenValue) (v w : Vec Value Global) (x : Value) (closed : Bool) (whole : Read Tree) → Advances p q → fs ≡ hs ++ f ∷ [] → f ≡ variants.Array v → gs ≡ hs ++ variants.Array w ∷ []
-    → w.items ≡ v.items ++ x ∷ [] → skip_blanks (mode_of p.mode) (rest_of p) ≡ cond closed 93 44 ∷ rest_of q → WasRead whole p fs (view x) → IsAhead whole q gs closed
+    → w.items ≡ v.items ++ x ∷ [] → skip_blanks (mode_of p.mode) (rest_of p) ≡ cond closed 93 44 ∷ rest_of q → AfterValue whole p fs (view x) → AtPart whole q gs closed
 array_joined p q fs gs hs f v w x closed whole a e is d put next was =
     joined p q fs gs hs (variants.Array v) (variants.Array w) (view x) closed whole a (e ∙ ap (λ h. hs ++ h ∷ []) is) d (array-joins (size_of p) (mode_of p.mode) v w x (rest_of p) (rest_of q) closed put next) was
 
 pub object_joined : (p q : Parser) (fs gs hs : List OpenValue) (f : OpenValue) (v w : OpenMembers) (x : Value) (closed : Bool) (whole : Read Tree) → Advances p q → fs ≡ hs ++ f ∷ [] → f ≡ variants.Object v → gs ≡ hs ++ variants.Object w ∷ []
     → w.members.entries ≡ insert_entry string_cmp v.members.entries v.key x → lookup (is_at (string_cmp v.key)) v.members.entries ≡ None → string_bytes w.key ≡ []
-    → skip_blanks (mode_of p.mode) (rest_of p) ≡ cond closed 125 44 ∷ rest_of q → WasRead whole p fs (view x) → IsAhead whole q gs closed
+    → skip_blanks (mode_of p.mode) (rest_of p) ≡ cond closed 125 44 ∷ rest_of q → AfterValue whole p fs (view x) → AtPart whole q gs closed
 object_joined p q fs gs hs f v w x closed whole a e is d put missing none next was =
     joined p q fs gs hs (variants.Object v) (variants.Object w) (view x) closed whole a (e ∙ ap (λ h. hs ++ h ∷ []) is) d (object-joins (size_of p) (mode_of p.mode) v w x (rest_of p) (rest_of q) closed put missing none next) was
 
@@ -410,7 +410,7 @@ element_stops p l s depth front a b skipped due =
 
 pub element_turn : (p l s q r : Parser) (depth : ℕ) (front : List Tree) (t : Tree) (closed : Bool) → Advances p l → Advances l s → Advances s q → rest_of s ≡ skip_blanks (mode_of l.mode) (rest_of l)
     → begins 91 (rest_of s) ≡ false → begins 123 (rest_of s) ≡ false → value_or_null (mode_of s.mode) (scalar_at (size_of s) (mode_of s.mode)) (rest_of s) ≡ Ok (t, rest_of q) → skip_blanks (mode_of q.mode) (rest_of q) ≡ cond closed 93 44 ∷ rest_of r
-    → elements_from (size_of p) (mode_of p.mode) depth front (rest_of l) ≡ part_at (size_of p) (mode_of p.mode) depth closed (elements_so_far (front ++ t ∷ [])) (rest_of r)
+    → elements_from (size_of p) (mode_of p.mode) depth front (rest_of l) ≡ resume_part (size_of p) (mode_of p.mode) depth closed (elements_so_far (front ++ t ∷ [])) (rest_of r)
 element_turn p l s q r depth front t closed a b d skipped no_array no_object read next =
     let on = goes_on p l s a b in
     let here : rest_of s ≡ skip_blanks (mode_of p.mode) (rest_of l) = skipped ∙ sym (skip_same p l (rest_of l) a) in
@@ -430,7 +430,7 @@ member_stops p l s depth front k place a start =
 
 pub member_turn : (p l s q r : Parser) (depth : ℕ) (front : List Found) (k : Mark × List ℕ) (place : ℕ) (t : Tree) (closed : Bool) → Advances p l → Advances l s → Advances s q → member_start (size_of l) (mode_of l.mode) (rest_of l) ≡ Ok ((k, place), rest_of s)
     → begins 91 (rest_of s) ≡ false → begins 123 (rest_of s) ≡ false → scalar_at (size_of s) (mode_of s.mode) (rest_of s) ≡ Ok (t, rest_of q) → skip_blanks (mode_of q.mode) (rest_of q) ≡ cond closed 125 44 ∷ rest_of r
-    → read_members_from (size_of p) (mode_of p.mode) depth front (rest_of l) ≡ part_at (size_of p) (mode_of p.mode) depth closed (members_so_far (front ++ found k t place ∷ []) (plain, []) place) (rest_of r)
+    → read_members_from (size_of p) (mode_of p.mode) depth front (rest_of l) ≡ resume_part (size_of p) (mode_of p.mode) depth closed (members_so_far (front ++ found k t place ∷ []) (plain, []) place) (rest_of r)
 member_turn p l s q r depth front k place t closed a b d start no_array no_object read next =
     let on = goes_on p l s a b in
     member_stops p l s depth front k place a start
@@ -440,9 +440,9 @@ member_turn p l s q r depth front k place t closed a b d start no_array no_objec
 -- ---- the stack
 
 -- no container is open yet
-pub outermost_due : (p : Parser) (fs : List OpenValue) → fs ≡ [] → ValueIsDue (value_at (size_of p) (mode_of p.mode) max_depth (rest_of p)) p fs
+pub outermost_due : (p : Parser) (fs : List OpenValue) → fs ≡ [] → BeforeValue (value_at (size_of p) (mode_of p.mode) max_depth (rest_of p)) p fs
 outermost_due p fs e =
-    subst (λ gs. ValueIsDue (value_at (size_of p) (mode_of p.mode) max_depth (rest_of p)) p gs) (sym e)
+    subst (λ gs. BeforeValue (value_at (size_of p) (mode_of p.mode) max_depth (rest_of p)) p gs) (sym e)
     (record { opens = []; held = refl; reads = sym (resume-none (size_of p) (mode_of p.mode) max_depth (value_at (size_of p) (mode_of p.mode) max_depth (rest_of p))) })
 
 pub last-is : (fs : List OpenValue) (n : ℕ) (f : OpenValue) → n + 1 ≡ length fs → f ≡ get_or fs n f → fs ≡ take n fs ++ f ∷ []

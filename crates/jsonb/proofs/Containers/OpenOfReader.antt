@@ -1,4 +1,4 @@
--- The reader's stack of open containers, as the reader comes upon their parts.
+-- The stack of the slow path parses, step by step, as the open containers do.
 use Rattle.std.specs.Cow.{cow_str_bytes}
 use Rattle.std.proofs.Common.{◌≡◌, ℕ, zero, suc, ◌+◌, ◌-◌, ◌<◌, ◌≤◌, false, List, [], ◌∷◌, ◌++◌, length, take, get_or, set, map, Vec, Global, Option, Some, None, Result, Ok, Err, refl, sym, ap, ap₂, subst, subst₂, ◌∙◌, arith, length-append}
 use Rattle.jsonb.specs.declared.parser.Parser.{Parser}
@@ -21,7 +21,7 @@ use Rattle.jsonb_scan.specs.Reading.Blank.{skip_blanks}
 use Rattle.jsonb_scan.specs.Reading.Container.{is_left_out}
 use Rattle.jsonb_scan.specs.Reading.Document.{value_at}
 use Rattle.jsonb_scan.specs.Reading.Scalar.{scalar_at}
-use Rattle.jsonb.specs.Stack.{Continues, Open, PartBegins, add_part, ahead, array_end, array_within, depth_in, element_begun, element_from, elements_from, finish_open, member_start, read_members_from, next_part_at, object_end, object_within, open_of, rest_at, rest_from, rest_of_opens, resume, resumed, stack_of, stack_onto}
+use Rattle.jsonb.specs.Stack.{Continues, Open, PartBegins, add_part, ahead, array_end, array_within, depth_in, element_begun, element_from, elements_from, finish_open, member_start, read_members_from, next_part_at, object_end, object_within, open_of, resume_after_part, resume_stack_after_part, rest_of_opens, resume, resumed, stack_of, stack_onto}
 use Rattle.jsonb.specs.Stack.Open.{elements_so_far, members_so_far}
 use Rattle.jsonb.proofs.Containers.OpenOnLists.{array-begun, array-value, members-turn, object-begun, object-value, resume-none, resume-part, value_plain}
 use Rattle.jsonb.proofs.Steps.Advancing.{goes_on}
@@ -163,21 +163,21 @@ member_fails p f open_object depth e is fails =
 -- ---- the end of a part
 
 pub rest_popped : (p : Parser) (fs gs : List Frame) (f : Frame) → fs ≡ gs ++ f ∷ [] → length fs ≤ max_depth
-    → rest_from p fs ≡ resumed p gs (rest_at (size_of p) (mode_of p.mode) (depth_in fs) (open_of f) (rest_of p))
+    → resume_stack_after_part p fs ≡ resumed p gs (resume_after_part (size_of p) (mode_of p.mode) (depth_in fs) (open_of f) (rest_of p))
 rest_popped p fs gs f e fits =
     ap (λ cs. rest_of_opens (size_of p) (mode_of p.mode) (depth_in fs) cs (rest_of p)) (ap (λ hs. stack_of hs) e ∙ stack-push [] gs f)
-    ∙ ap (λ n. rest_at (size_of p) (mode_of p.mode) (depth_in fs) (open_of f) (rest_of p) >>= resume (size_of p) (mode_of p.mode) n (stack_of gs)) (sym (deeper gs fs f e fits))
+    ∙ ap (λ n. resume_after_part (size_of p) (mode_of p.mode) (depth_in fs) (open_of f) (rest_of p) >>= resume (size_of p) (mode_of p.mode) n (stack_of gs)) (sym (deeper gs fs f e fits))
 
 pub array_closed : (p q : Parser) (fs gs : List Frame) (v : Vec JsonAst Global) → Advances p q → fs ≡ gs ++ variants.Array v ∷ [] → length fs ≤ max_depth → rest_of p ≡ 93 ∷ rest_of q
-    → rest_from p fs ≡ ahead q gs (Some (ast.Array v))
+    → resume_stack_after_part p fs ≡ ahead q gs (Some (ast.Array v))
 array_closed p q fs gs v a e fits closes =
     rest_popped p fs gs (variants.Array v) e fits
-    ∙ ap (λ r. resumed p gs (rest_at (size_of p) (mode_of p.mode) (depth_in fs) (elements_so_far (map ast_view v.items)) r)) closes
+    ∙ ap (λ r. resumed p gs (resume_after_part (size_of p) (mode_of p.mode) (depth_in fs) (elements_so_far (map ast_view v.items)) r)) closes
     ∙ ap (λ t. resumed p gs (Ok (t, rest_of q))) (sym (view-Array v))
     ∙ sym (resumed_same p q gs (Ok (ast_view (ast.Array v), rest_of q)) a)
 
 pub array_unclosed : (p : Parser) (fs gs : List Frame) (v : Vec JsonAst Global) → fs ≡ gs ++ variants.Array v ∷ [] → length fs ≤ max_depth → begins 44 (rest_of p) ≡ false → begins 93 (rest_of p) ≡ false
-    → rest_from p fs ≡ Err (fault_at (size_of p) expected_array_comma_or_end 0 (rest_of p))
+    → resume_stack_after_part p fs ≡ Err (fault_at (size_of p) expected_array_comma_or_end 0 (rest_of p))
 array_unclosed p fs gs v e fits no_comma no_close =
     let front = map ast_view v.items in
     let found = elements_from (size_of p) (mode_of p.mode) (depth_in fs) front in
@@ -186,15 +186,15 @@ array_unclosed p fs gs v e fits no_comma no_close =
     ∙ ap (λ r. resumed p gs r) (on_byte-none 44 (rest_of p) found (on_byte 93 (rest_of p) (array_end front) refusal) no_comma ∙ on_byte-none 93 (rest_of p) (array_end front) refusal no_close)
 
 pub object_closed : (p q : Parser) (fs gs : List Frame) (open_object : OpenObject) → Advances p q → fs ≡ gs ++ variants.Object open_object ∷ [] → length fs ≤ max_depth → rest_of p ≡ 125 ∷ rest_of q
-    → rest_from p fs ≡ resumed q gs (object_end (map found_of open_object.members.items) (rest_of q))
+    → resume_stack_after_part p fs ≡ resumed q gs (object_end (map found_of open_object.members.items) (rest_of q))
 object_closed p q fs gs open_object a e fits closes =
     let front = map found_of open_object.members.items in
     rest_popped p fs gs (variants.Object open_object) e fits
-    ∙ ap (λ r. resumed p gs (rest_at (size_of p) (mode_of p.mode) (depth_in fs) (members_so_far front (mark_view open_object.key, cow_str_bytes open_object.key) open_object.after) r)) closes
+    ∙ ap (λ r. resumed p gs (resume_after_part (size_of p) (mode_of p.mode) (depth_in fs) (members_so_far front (mark_view open_object.key, cow_str_bytes open_object.key) open_object.after) r)) closes
     ∙ sym (resumed_same p q gs (object_end front (rest_of q)) a)
 
 pub object_unclosed : (p : Parser) (fs gs : List Frame) (open_object : OpenObject) → fs ≡ gs ++ variants.Object open_object ∷ [] → length fs ≤ max_depth → begins 44 (rest_of p) ≡ false → begins 125 (rest_of p) ≡ false
-    → rest_from p fs ≡ Err (fault_at (size_of p) expected_object_comma_or_end 0 (rest_of p))
+    → resume_stack_after_part p fs ≡ Err (fault_at (size_of p) expected_object_comma_or_end 0 (rest_of p))
 object_unclosed p fs gs open_object e fits no_comma no_close =
     let front = map found_of open_object.members.items in
     let found = read_members_from (size_of p) (mode_of p.mode) (depth_in fs) front in
@@ -204,32 +204,32 @@ object_unclosed p fs gs open_object e fits no_comma no_close =
 
 -- a value was put into the innermost container
 pub value_added : (p q : Parser) (fs gs hs : List Frame) (f g : Frame) (v : JsonAst) → Advances p q → rest_of q ≡ skip_blanks (mode_of p.mode) (rest_of p) → fs ≡ hs ++ f ∷ [] → gs ≡ hs ++ g ∷ [] → length fs ≤ max_depth
-    → open_of g ≡ add_part (open_of f) (ast_view v) → ahead p fs (Some v) ≡ rest_from q gs
+    → open_of g ≡ add_part (open_of f) (ast_view v) → ahead p fs (Some v) ≡ resume_stack_after_part q gs
 unfolding resume
 value_added p q fs gs hs f g v a skipped e d fits added =
     let same : length gs ≡ length fs = omega (arith, ap length e, ap length d, length-append hs (f ∷ []), length-append hs (g ∷ [])) in
     let n = depth_in fs in
     ap (λ cs. resume (size_of p) (mode_of p.mode) n cs (ast_view v, rest_of p)) (ap (λ xs. stack_of xs) e ∙ stack-push [] hs f)
-    ∙ ap (λ c. rest_at (size_of p) (mode_of p.mode) n c (skip_blanks (mode_of p.mode) (rest_of p)) >>= resume (size_of p) (mode_of p.mode) (suc n) (stack_of hs)) (sym added)
-    ∙ ap (λ r. rest_at (size_of p) (mode_of p.mode) n (open_of g) r >>= resume (size_of p) (mode_of p.mode) (suc n) (stack_of hs)) (sym skipped)
+    ∙ ap (λ c. resume_after_part (size_of p) (mode_of p.mode) n c (skip_blanks (mode_of p.mode) (rest_of p)) >>= resume (size_of p) (mode_of p.mode) (suc n) (stack_of hs)) (sym added)
+    ∙ ap (λ r. resume_after_part (size_of p) (mode_of p.mode) n (open_of g) r >>= resume (size_of p) (mode_of p.mode) (suc n) (stack_of hs)) (sym skipped)
     ∙ ap (λ cs. rest_of_opens (size_of p) (mode_of p.mode) n cs (rest_of q)) (sym (ap (λ xs. stack_of xs) d ∙ stack-push [] hs g))
     ∙ ap (λ k. rest_of_opens (size_of p) (mode_of p.mode) (max_depth - k) (stack_of gs) (rest_of q)) (sym same)
     ∙ sym (ap₂ (λ k m. rest_of_opens k m (depth_in gs) (stack_of gs) (rest_of q)) (same_size p q a) (ap mode_of a.mode))
 
-rest-comma : (size : ℕ) (mode : Mode) (depth : ℕ) (c : Open) (more : List ℕ) → rest_at size mode depth c (44 ∷ more) ≡ next_part_at size mode depth c more
+rest-comma : (size : ℕ) (mode : Mode) (depth : ℕ) (c : Open) (more : List ℕ) → resume_after_part size mode depth c (44 ∷ more) ≡ next_part_at size mode depth c more
 rest-comma size mode depth (elements_so_far front) more = refl
 rest-comma size mode depth (members_so_far front key place) more = refl
 
 -- a comma comes, and the next part is begun
 pub part_begun : (p o q : Parser) (fs gs hs : List Frame) (f g : Frame) (r : Result (Option JsonAst) Error) → Advances p o → Advances o q → rest_of p ≡ 44 ∷ rest_of o → fs ≡ hs ++ f ∷ [] → gs ≡ hs ++ g ∷ [] → length fs ≤ max_depth
     → ((depth : ℕ) → PartBegins (size_of o) (mode_of o.mode) depth (next_part_at (size_of o) (mode_of o.mode) depth (open_of f) (rest_of o)) r (open_of g) (rest_of q))
-    → Continues (rest_from p fs) r q gs
+    → Continues (resume_stack_after_part p fs) r q gs
 part_begun p o q fs gs hs f g (Ok begun) a b comma e d fits reads =
     let same : length gs ≡ length fs = omega (arith, ap length e, ap length d, length-append hs (f ∷ []), length-append hs (g ∷ [])) in
     let n = depth_in gs in
     rest_popped p fs hs f e fits
-    ∙ ap (λ k. resumed p hs (rest_at (size_of p) (mode_of p.mode) (max_depth - k) (open_of f) (rest_of p))) (sym same)
-    ∙ ap (λ r. resumed p hs (rest_at (size_of p) (mode_of p.mode) n (open_of f) r)) comma
+    ∙ ap (λ k. resumed p hs (resume_after_part (size_of p) (mode_of p.mode) (max_depth - k) (open_of f) (rest_of p))) (sym same)
+    ∙ ap (λ r. resumed p hs (resume_after_part (size_of p) (mode_of p.mode) n (open_of f) r)) comma
     ∙ ap (λ r. resumed p hs r) (rest-comma (size_of p) (mode_of p.mode) n (open_of f) (rest_of o)
     ∙ subst₂ (λ k m. next_part_at k m n (open_of f) (rest_of o) ≡ (element_begun k m n begun (rest_of q) >>= finish_open k m n (open_of g))) (same_size p o a) (ap mode_of a.mode) (reads n))
     ∙ ap (λ k. element_begun (size_of p) (mode_of p.mode) n begun (rest_of q) >>= finish_open (size_of p) (mode_of p.mode) n (open_of g) >>= resume (size_of p) (mode_of p.mode) k (stack_of hs)) (deeper hs gs g d (omega arith))
@@ -238,9 +238,9 @@ part_begun p o q fs gs hs f g (Ok begun) a b comma e d fits reads =
 part_begun p o q fs gs hs f g (Err x) a b comma e d fits reads =
     let n = depth_in fs in
     let part = next_part_at (size_of p) (mode_of p.mode) n (open_of f) (rest_of o) in
-    fails_same x (resumed p hs part) (rest_from p fs)
+    fails_same x (resumed p hs part) (resume_stack_after_part p fs)
     (rest_popped p fs hs f e fits
-    ∙ ap (λ r. resumed p hs (rest_at (size_of p) (mode_of p.mode) n (open_of f) r)) comma
+    ∙ ap (λ r. resumed p hs (resume_after_part (size_of p) (mode_of p.mode) n (open_of f) r)) comma
     ∙ ap (λ r. resumed p hs r) (rest-comma (size_of p) (mode_of p.mode) n (open_of f) (rest_of o)))
     (fails_through x part (resume (size_of p) (mode_of p.mode) (depth_in hs) (stack_of hs))
     (subst₂ (λ k m. Fails x (next_part_at k m n (open_of f) (rest_of o))) (same_size p o a) (ap mode_of a.mode) (reads n)))

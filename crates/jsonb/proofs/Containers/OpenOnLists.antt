@@ -1,4 +1,4 @@
--- Reading by the open containers, against reading from left to right, over lists alone.
+-- Parsing by the open containers is parsing from left to right.
 use Rattle.std.proofs.Common.{◌≡◌, ℕ, zero, suc, ◌-◌, ◌<◌, ◌≤◌, true, false, cond, List, [], ◌∷◌, ◌++◌, length, Result, Ok, Err, ⊎_elim, refl, sym, ap, ◌∙◌, append_assoc, length-append, arith, eqb}
 use Rattle.jsonb_value.specs.Code.{Code}
 use Rattle.jsonb_value.specs.Code.Code.{expected_array_comma_or_end, expected_colon, expected_object_comma_or_end}

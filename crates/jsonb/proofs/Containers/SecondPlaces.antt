@@ -1,4 +1,4 @@
--- The least key that comes twice, and where it comes the second time.
+-- The least repeated key, and where it occurs the second time.
 use Rattle.std.proofs.Common.{◌≡◌, ◌≢◌, ℕ, ◌+◌, ◌<◌, ◌≤◌, Bool, true, false, cond, ◌⊎◌, inl, inr, List, [], ◌∷◌, ◌++◌, Option, Some, Ordering, Less, Equal, Greater, is_eq, is_gt, nat_cmp, refl, sym, ap, subst, ◌∙◌, arith, eqb, ltb, leb, eq-eqb, le-ltb, le-leb, lt-ltb, leb-true}
 use Rattle.std.specs.Ordering.{MatchOrdering, ordering_then}
 use Rattle.std.proofs.lemmas.Cmp.{ranked, tied_itself, nat_list_cmp_total}

@@ -1,4 +1,4 @@
--- A reader of the values inside of arrays and objects gives a reader of these.
+-- From parsing the values in arrays and objects to parsing these, at any depth.
 use Rattle.std.proofs.Common.{◌≡◌, ℕ, zero, suc, ◌+◌, ◌-◌, ◌≤◌, Bool, true, false, true≢false, ◌||◌, ◌⊎◌, inl, inr, List, [], ◌∷◌, ◌++◌, length, map, map-id, Option, Some, None, Result, Ok, refl, sym, ap, subst, subst₂, ◌∙◌, append_assoc, length-append, arith, eqb, eqb-true}
 use Rattle.std.proofs.lemmas.Bool.{cond-false, cond-true}
 use Rattle.jsonb_value.specs.Grammar.Blanks.{AreLastBlanks, IsBlanks}
@@ -17,7 +17,7 @@ use Rattle.jsonb_value.specs.Tree.Members.{no_members}
 use Rattle.jsonb_value.specs.Tree.Tree.{array, null, object}
 use Rattle.jsonb_value.specs.Tree.Trees.{no_trees}
 use Rattle.jsonb_scan.specs.Reading.{Fault, Read, begins, fault, on_byte, refused, ◌>>=◌}
-use Rattle.jsonb_scan.specs.Reading.Blank.{is_blank_start, is_break, opens_comment, pass_blanks, skip_blanks}
+use Rattle.jsonb_scan.specs.Reading.Blank.{is_blank_start, is_break, opens_comment, skip_closed_blanks, skip_blanks}
 use Rattle.jsonb_scan.specs.Reading.Container.{Found, Spot, after_key, array_at, element_at, elements_at, first_repeat, found_at, is_left_out, joined_at, member_at, member_of, members_at, object_at, object_or_fault, padded_at, spot_of, value_or_null}
 use Rattle.jsonb_scan.specs.Reading.Document.{at_end, comment_at, document_from, document_of, nothing_at, too_deep, value_at, value_to_end, value_with}
 use Rattle.jsonb_scan.specs.Reading.Scalar.{key_at, scalar_at}
@@ -382,18 +382,18 @@ opens_is extended b rest e =
     ]
 
 -- a comment that ends a text is a line
-pub comment_ends : (mode : Mode) (size : ℕ) (bytes : List ℕ) (b : ℕ) (rest : List ℕ) (t u : Tree) → pass_blanks mode bytes ≡ b ∷ rest → opens_comment mode (b ∷ rest) ≡ true → comment_at size t rest ≡ Ok u → (mode ≡ extended) × AreLastBlanks mode bytes × (t ≡ u)
+pub comment_ends : (mode : Mode) (size : ℕ) (bytes : List ℕ) (b : ℕ) (rest : List ℕ) (t u : Tree) → skip_closed_blanks mode bytes ≡ b ∷ rest → opens_comment mode (b ∷ rest) ≡ true → comment_at size t rest ≡ Ok u → (mode ≡ extended) × AreLastBlanks mode bytes × (t ≡ u)
 comment_ends mode size bytes b rest t u passed opens e =
     let is = opens_is mode b rest opens in
     elim (chosen (begins 47 rest) (Ok t) (fault invalid_eof size) (Ok u) e) [
       | inl h ↦
           let line = begins_found rest h.0 in
-          let left : pass_blanks mode bytes ≡ 47 ∷ 47 ∷ line.0 = passed ∙ ap (λ (c : ℕ). c ∷ rest) is.1 ∙ ap (λ (v : List ℕ). 47 ∷ v) line.1 in
+          let left : skip_closed_blanks mode bytes ≡ 47 ∷ 47 ∷ line.0 = passed ∙ ap (λ (c : ℕ). c ∷ rest) is.1 ∙ ap (λ (v : List ℕ). 47 ∷ v) line.1 in
           (is.0, ends_line mode bytes line.0 is.0 left, same_ok t u h.1)
       | inr h ↦ absurd (let never : ◌≡◌ {A = Result Tree Fault} (fault invalid_eof size) (Ok u) = h.1 in cc)
     ]
 
-pub ended : (size : ℕ) (mode : Mode) (t : Tree) (bytes rest : List ℕ) (u : Tree) → pass_blanks mode bytes ≡ rest → at_end size mode t rest ≡ Ok u → AreLastBlanks mode bytes × (t ≡ u)
+pub ended : (size : ℕ) (mode : Mode) (t : Tree) (bytes rest : List ℕ) (u : Tree) → skip_closed_blanks mode bytes ≡ rest → at_end size mode t rest ≡ Ok u → AreLastBlanks mode bytes × (t ≡ u)
 ended size mode t bytes [] u passed e = (ends_all mode bytes passed, same_ok t u e)
 ended size mode t bytes (b ∷ rest) u passed e =
     elim (chosen (opens_comment mode (b ∷ rest)) (comment_at size t rest) (fault unexpected_trailing_characters (size - length (b ∷ rest) + 1)) (Ok u) e) [
@@ -407,17 +407,17 @@ nothing_read extended bytes t size b e = subst (λ (u : Tree). IsDocument extend
 
 pub document_sound : (mode : Mode) (bytes : List ℕ) (t : Tree) → document_of mode bytes ≡ Ok t → IsDocument mode bytes t
 unfolding document_of
-document_sound mode bytes t e = go (pass_blanks mode bytes) refl e
+document_sound mode bytes t e = go (skip_closed_blanks mode bytes) refl e
   where
     value_read : (b : ℕ) (rest : List ℕ) → Passes mode bytes (b ∷ rest) → value_to_end (length bytes) mode (b ∷ rest) ≡ Ok t → IsDocument mode bytes t
     value_read b rest front e =
-        let r = bind_ok (value_at (length bytes) mode max_depth (b ∷ rest)) (λ (x : Tree × List ℕ). at_end (length bytes) mode x.0 (pass_blanks mode x.1)) t e in
+        let r = bind_ok (value_at (length bytes) mode max_depth (b ∷ rest)) (λ (x : Tree × List ℕ). at_end (length bytes) mode x.0 (skip_closed_blanks mode x.1)) t e in
         let s = value_sound (length bytes) mode max_depth (b ∷ rest) r.0.0 r.0.1 r.1 in
-        let end = ended (length bytes) mode r.0.0 r.0.1 (pass_blanks mode r.0.1) t refl r.2 in
+        let end = ended (length bytes) mode r.0.0 r.0.1 (skip_closed_blanks mode r.0.1) t refl r.2 in
         let regrouped : front.blanks ++ (s.core ++ r.0.1) ≡ bytes = sym (front.whole ∙ ap (λ (u : List ℕ). front.blanks ++ u) s.whole) in
         subst₂ (λ (u : List ℕ) (v : Tree). IsDocument mode u v) regrouped end.1 (value_alone front.are_blanks s.spells end.0)
 
-    go : (rest : List ℕ) → pass_blanks mode bytes ≡ rest → document_from (length bytes) mode rest ≡ Ok t → IsDocument mode bytes t
+    go : (rest : List ℕ) → skip_closed_blanks mode bytes ≡ rest → document_from (length bytes) mode rest ≡ Ok t → IsDocument mode bytes t
     go [] passed e = nothing_read mode bytes t (length bytes) (ends_all mode bytes passed) e
     go (b ∷ rest) passed e =
         elim (chosen (opens_comment mode (b ∷ rest)) (comment_at (length bytes) null rest) (value_to_end (length bytes) mode (b ∷ rest)) (Ok t) e) [

@@ -9,12 +9,12 @@ use Rattle.jsonb_value.specs.Grammar.Scalar.IsLiteral.{false_word, null_word, tr
 use Rattle.jsonb_value.specs.Grammar.Scalar.IsScalar.{literal_value, number_value, string_value}
 use Rattle.jsonb_value.specs.Tree.{Tree}
 use Rattle.jsonb.specs.AstView.{IsContainer}
-use Rattle.jsonb_scan.specs.Answer.{HoldsMarker}
+use Rattle.jsonb_scan.specs.Answer.{MayAllocate}
 
 contains_at : (front : List ℕ) (b : ℕ) (more : List ℕ) → Contains (front ++ b ∷ more) b
 contains_at front b more = (length front, omega (arith, length-append front (b ∷ more)), get_or_at front b more b (length front) refl)
 
-opened_by : (mode : Mode) (depth : ℕ) (core front after : List ℕ) (t : Tree) → Derives mode depth core t → IsContainer t → HoldsMarker (front ++ (core ++ after))
+opened_by : (mode : Mode) (depth : ℕ) (core front after : List ℕ) (t : Tree) → Derives mode depth core t → IsContainer t → MayAllocate (front ++ (core ++ after))
 opened_by mode zero core front after t (literal_value (null_word w)) is = absurd is
 opened_by mode zero core front after t (literal_value (true_word w)) is = absurd is
 opened_by mode zero core front after t (literal_value (false_word w)) is = absurd is
@@ -30,6 +30,6 @@ opened_by mode (suc depth) core front after t (full_array {body = body} j n) is 
 opened_by mode (suc depth) core front after t (empty_object {blanks = bs} b) is = inr (inl (contains_at front 123 ((bs ++ 125 ∷ []) ++ after)))
 opened_by mode (suc depth) core front after t (full_object {body = body} j d) is = inr (inl (contains_at front 123 ((body ++ 125 ∷ []) ++ after)))
 
-pub document_opened : (mode : Mode) (bytes : List ℕ) (t : Tree) → IsDocument mode bytes t → IsContainer t → HoldsMarker bytes
+pub document_opened : (mode : Mode) (bytes : List ℕ) (t : Tree) → IsDocument mode bytes t → IsContainer t → MayAllocate bytes
 document_opened mode bytes t (value_alone {before = front} {core = core} {after = after} b s c) is = opened_by mode max_depth core front after t s is
 document_opened mode bytes t (blanks_alone extended_mode b) is = absurd is

@@ -1,4 +1,4 @@
--- A text is read exactly where it is a document, and it is a document of one tree.
+-- A text is accepted exactly where it is a document, and it is a document of one tree.
 use Rattle.std.proofs.Common.{◌≡◌, ℕ, zero, suc, ◌+◌, ◌-◌, arith, false, true, List, [], ◌∷◌, ◌++◌, length, Ok, Err, refl, sym, ap, subst, ◌∙◌, append-nil, append_assoc}
 use Rattle.std.proofs.lemmas.Bool.{cond-false, cond-true}
 use Rattle.jsonb_value.specs.Grammar.Blanks.{AreLastBlanks, IsBlanks}
@@ -17,7 +17,7 @@ use Rattle.jsonb_value.specs.Mode.Mode.{extended}
 use Rattle.jsonb_value.specs.Tree.{Member, Tree}
 use Rattle.jsonb_value.specs.Tree.Tree.{null}
 use Rattle.jsonb_scan.specs.Reading.{Fault, Read, fault, ◌>>=◌}
-use Rattle.jsonb_scan.specs.Reading.Blank.{is_blank_start, opens_comment, pass_blanks}
+use Rattle.jsonb_scan.specs.Reading.Blank.{is_blank_start, opens_comment, skip_closed_blanks}
 use Rattle.jsonb_scan.specs.Reading.Document.{at_end, comment_at, document_from, document_of, nothing_at, value_at, value_to_end}
 use Rattle.jsonb_scan.proofs.Steps.Tests.{same_ok, same_read}
 use Rattle.jsonb_scan.proofs.Containers.JoinedParts.{Ends, ends-blank, ends_at, other}
@@ -36,32 +36,32 @@ follows-blanks (line_to_end inside is (more_blanks {blank = blank} {rest = other
 comment_line : (size : ℕ) (mode : Mode) (t : Tree) (line : List ℕ) → opens_comment mode (47 ∷ 47 ∷ line) ≡ true → at_end size mode t (47 ∷ 47 ∷ line) ≡ Ok t
 comment_line size mode t line opens = cond-true (opens_comment mode (47 ∷ 47 ∷ line)) (comment_at size t (47 ∷ line)) (fault unexpected_trailing_characters (size - length (47 ∷ 47 ∷ line) + 1)) opens
 
-end_read : (size : ℕ) (mode : Mode) (t : Tree) {after : List ℕ} (b : AreLastBlanks mode after) → at_end size mode t (pass_blanks mode after) ≡ Ok t
+end_read : (size : ℕ) (mode : Mode) (t : Tree) {after : List ℕ} (b : AreLastBlanks mode after) → at_end size mode t (skip_closed_blanks mode after) ≡ Ok t
 end_read size mode t {after} b = by_end (ends_passed b)
   where
-    by_end : EndsPassed mode after → at_end size mode t (pass_blanks mode after) ≡ Ok t
+    by_end : EndsPassed mode after → at_end size mode t (skip_closed_blanks mode after) ≡ Ok t
     by_end (all_passed e) = ap (at_end size mode t) e
     by_end (line_left line opens e) = ap (at_end size mode t) e ∙ comment_line size mode t line opens
 
 -- a text with a value
-value_document : (mode : Mode) (size : ℕ) {front after : List ℕ} (core : List ℕ) (t : Tree) → IsBlanks mode front → Derives mode max_depth core t → AreLastBlanks mode after → document_from size mode (pass_blanks mode (front ++ (core ++ after))) ≡ Ok t
+value_document : (mode : Mode) (size : ℕ) {front after : List ℕ} (core : List ℕ) (t : Tree) → IsBlanks mode front → Derives mode max_depth core t → AreLastBlanks mode after → document_from size mode (skip_closed_blanks mode (front ++ (core ++ after))) ≡ Ok t
 value_document mode size {front} {after} core t b s c =
     let complete = value_is_complete size mode max_depth in
     let st = complete.starts core t s in
     let blank : is_blank_start st.first ≡ false = (other st.first st.is_start).blank in
     let opened : core ++ after ≡ st.first ∷ (st.others ++ after) = ap (λ (u : List ℕ). u ++ after) st.whole in
-    let passed : pass_blanks mode (front ++ (core ++ after)) ≡ st.first ∷ (st.others ++ after) =
-    pass-blanks b (core ++ after) ∙ ap (pass_blanks mode) opened ∙ pass-stop mode st.first (st.others ++ after) blank in
+    let passed : skip_closed_blanks mode (front ++ (core ++ after)) ≡ st.first ∷ (st.others ++ after) =
+    pass-blanks b (core ++ after) ∙ ap (skip_closed_blanks mode) opened ∙ pass-stop mode st.first (st.others ++ after) blank in
     ap (document_from size mode) passed
     ∙ cond-false (opens_comment mode (st.first ∷ (st.others ++ after))) (comment_at size null (st.others ++ after)) (value_to_end size mode (st.first ∷ (st.others ++ after))) (opens-stop mode st.first (st.others ++ after) blank)
     ∙ ap (value_to_end size mode) (sym opened)
-    ∙ ap (λ (r : Read Tree). r >>= λ (x : Tree × List ℕ). at_end size mode x.0 (pass_blanks mode x.1)) (complete.reads core t after s (λ n. follows-blanks c))
+    ∙ ap (λ (r : Read Tree). r >>= λ (x : Tree × List ℕ). at_end size mode x.0 (skip_closed_blanks mode x.1)) (complete.reads core t after s (λ n. follows-blanks c))
     ∙ end_read size mode t c
 
-blank_document : (mode : Mode) (size : ℕ) {bytes : List ℕ} → mode ≡ extended → AreLastBlanks mode bytes → document_from size mode (pass_blanks mode bytes) ≡ Ok null
+blank_document : (mode : Mode) (size : ℕ) {bytes : List ℕ} → mode ≡ extended → AreLastBlanks mode bytes → document_from size mode (skip_closed_blanks mode bytes) ≡ Ok null
 blank_document mode size {bytes} is b = by_end (ends_passed b)
   where
-    by_end : EndsPassed mode bytes → document_from size mode (pass_blanks mode bytes) ≡ Ok null
+    by_end : EndsPassed mode bytes → document_from size mode (skip_closed_blanks mode bytes) ≡ Ok null
     by_end (all_passed e) = ap (document_from size mode) e ∙ ap (λ (m : Mode). nothing_at size m) is
     by_end (line_left line opens e) = ap (document_from size mode) e ∙ cond-true (opens_comment mode (47 ∷ 47 ∷ line)) (comment_at size null (47 ∷ line)) (value_to_end size mode (47 ∷ 47 ∷ line)) opens
 

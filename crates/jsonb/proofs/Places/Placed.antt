@@ -1,4 +1,4 @@
--- Where a `JsonAst` stands in the text, from one step of the reader to the next.
+-- The byte range of a `JsonAst`, from one step of the parser to the next.
 use Rattle.std.proofs.Common.{◌≡◌, ◌⊎◌, true≢false, if◌then◌else◌, inl, inr, ℕ, ◌+◌, ◌<◌, ◌≤◌, Bool, true, false, List, [], ◌∷◌, ◌++◌, length, take, drop, map, Vec, Global, Option, Some, None, Result, Ok, Err, IfOk, is_eq, nat_cmp, IsPermutation, rules, refl, sym, ap, subst, subst₂, ◌∙◌, append-nil, append_assoc, arith, length-append, length-drop}
 use Rattle.std.proofs.Math.Seq.{drop-append_seam}
 use Rattle.std.specs.Cow.{cow_str_bytes}
@@ -22,7 +22,7 @@ use Rattle.jsonb.specs.OpenPlaces.{AllIsPlaced, ArePartsBefore, ArrayIsOpen, Fra
 use Rattle.jsonb.specs.OpenPlaces.ArePartsBefore.{no_parts, parts_and_comma}
 use Rattle.jsonb_scan.specs.Answer.{mode_of}
 use Rattle.jsonb.specs.Parser.{Advances, rest_of, size_of}
-use Rattle.jsonb.specs.Placed.{AreElementsAt, AreMembersAt, Has, HasBlanks, HasByte, HasKey, IsElementAt, IsMemberAt, IsPlaced, IsValueAt, SourceKeysAscend, Placed, source_members_of, source_alone}
+use Rattle.jsonb.specs.Placed.{AreElementsAt, AreMembersAt, Has, HasBlanks, HasByte, HasKey, IsElementAt, IsMemberAt, IsPlaced, IsValueAt, SourceKeysAscend, Placed, placed_members, source_alone}
 use Rattle.jsonb.specs.Placed.AreElementsAt.{more_elements, one_element}
 use Rattle.jsonb.specs.Placed.AreMembersAt.{more_members, one_member}
 use Rattle.jsonb.specs.Placed.IsElementAt.{empty_element, whole_element}
@@ -30,7 +30,7 @@ use Rattle.jsonb.specs.Placed.IsMemberAt.{key_and_value}
 use Rattle.jsonb.specs.Placed.IsPlaced.{blanks_alone, value_alone}
 use Rattle.jsonb.specs.Placed.IsValueAt.{empty_array, empty_object, full_array, full_object, scalar}
 use Rattle.jsonb_scan.specs.Reading.{begins}
-use Rattle.jsonb_scan.specs.Reading.Blank.{opens_comment, pass_blanks, skip_blanks}
+use Rattle.jsonb_scan.specs.Reading.Blank.{opens_comment, skip_closed_blanks, skip_blanks}
 use Rattle.jsonb_scan.specs.Reading.Container.{SpotsAreSorted, Spot, adjacent_repeat, spot_of}
 use Rattle.jsonb_scan.specs.Reading.Document.{at_end, comment_at}
 use Rattle.jsonb_scan.specs.Reading.Scalar.{key_at, scalar_at}
@@ -55,7 +55,7 @@ source-Array v = search (rules, the_lemmas)
 source-Object : (v : Vec Written Global) → source_view (ast.Object v) ≡ object_source (source_members_view v.items)
 source-Object v = search (rules, the_lemmas)
 
-members_same : (ms : List Written) → source_members_of (map placed_of ms) ≡ source_members_view ms
+members_same : (ms : List Written) → placed_members (map placed_of ms) ≡ source_members_view ms
 members_same [] = refl
 members_same (m ∷ ms) = ap (more_source_members (mark_view m.0) (cow_str_bytes m.0) (source_view m.1) m.2) (members_same ms)
 
@@ -235,7 +235,7 @@ no_repeat : (b : Bool) (t : Spot) (o : Option Spot) → (if b then Some t else o
 no_repeat true t o e = absurd cc
 no_repeat false t o e = (refl, e)
 
-keys_rise : (ms : List Written) → SpotsAreSorted (spots ms) → adjacent_repeat (spots ms) ≡ None → SourceKeysAscend (source_members_of (map placed_of ms))
+keys_rise : (ms : List Written) → SpotsAreSorted (spots ms) → adjacent_repeat (spots ms) ≡ None → SourceKeysAscend (placed_members (map placed_of ms))
 keys_rise [] up e = tt
 keys_rise (m ∷ []) up e = tt
 keys_rise (m ∷ n ∷ ms) up e =
@@ -307,17 +307,17 @@ module _ (mode : Mode) (input : List ℕ) where
 -- ---- whole texts
 
 -- a text of blanks alone
-pub blanks_placed : (p q : Parser) → p.idx ≡ 0 → rest_of q ≡ pass_blanks (mode_of p.mode) (rest_of p) → size_of q ≤ q.idx → mode_of p.mode ≡ extended → IsPlaced (mode_of p.mode) p.buf.now (source_view ast.Null)
+pub blanks_placed : (p q : Parser) → p.idx ≡ 0 → rest_of q ≡ skip_closed_blanks (mode_of p.mode) (rest_of p) → size_of q ≤ q.idx → mode_of p.mode ≡ extended → IsPlaced (mode_of p.mode) p.buf.now (source_view ast.Null)
 blanks_placed p q start e past is =
     subst (λ (s : Source). IsPlaced (mode_of p.mode) p.buf.now s) (sym source-Null)
     (blanks_alone is (subst (λ (n : ℕ). AreLastBlanks (mode_of p.mode) (drop n p.buf.now)) start (ends_all (mode_of p.mode) (rest_of p) (sym e ∙ nothing_left q.buf.now q.idx past))))
 
-comment_only : (mode : Mode) (size : ℕ) (bytes rest : List ℕ) (t u : Tree) → pass_blanks mode bytes ≡ rest → opens_comment mode rest ≡ true → comment_at size t (drop 1 rest) ≡ Ok u → (mode ≡ extended) × AreLastBlanks mode bytes
+comment_only : (mode : Mode) (size : ℕ) (bytes rest : List ℕ) (t u : Tree) → skip_closed_blanks mode bytes ≡ rest → opens_comment mode rest ≡ true → comment_at size t (drop 1 rest) ≡ Ok u → (mode ≡ extended) × AreLastBlanks mode bytes
 comment_only mode size bytes [] t u passed opens e = absurd (true≢false (sym opens ∙ opens-nil mode))
 comment_only mode size bytes (b ∷ rest) t u passed opens e = let c = comment_ends mode size bytes b rest t u passed opens e in (c.0, c.1)
 
 -- a text of blanks and a line comment without its end
-pub comment_placed : (p q : Parser) → p.idx ≡ 0 → Advances p q → rest_of q ≡ pass_blanks (mode_of p.mode) (rest_of p) → opens_comment (mode_of q.mode) (rest_of q) ≡ true
+pub comment_placed : (p q : Parser) → p.idx ≡ 0 → Advances p q → rest_of q ≡ skip_closed_blanks (mode_of p.mode) (rest_of p) → opens_comment (mode_of q.mode) (rest_of q) ≡ true
     → comment_at (size_of q) null (drop 1 (rest_of q)) ≡ Ok null → IsPlaced (mode_of p.mode) p.buf.now (source_view ast.Null)
 comment_placed p q start a e opens ends =
     let m : Mode = mode_of p.mode in
@@ -325,8 +325,8 @@ comment_placed p q start a e opens ends =
     subst (λ (s : Source). IsPlaced m p.buf.now s) (sym source-Null) (blanks_alone only.0 (subst (λ (n : ℕ). AreLastBlanks m (drop n p.buf.now)) start only.1))
 
 -- a text with a value
-pub value_placed : (p q r : Parser) (t u : Tree) (s : Source) → p.idx ≡ 0 → p.idx ≤ size_of p → Advances p q → rest_of q ≡ pass_blanks (mode_of p.mode) (rest_of p) → Advances q r → IsValueAt (mode_of q.mode) q.buf.now q.idx s r.idx
-    → at_end (size_of r) (mode_of r.mode) t (pass_blanks (mode_of r.mode) (rest_of r)) ≡ Ok u → IsPlaced (mode_of p.mode) p.buf.now s
+pub value_placed : (p q r : Parser) (t u : Tree) (s : Source) → p.idx ≡ 0 → p.idx ≤ size_of p → Advances p q → rest_of q ≡ skip_closed_blanks (mode_of p.mode) (rest_of p) → Advances q r → IsValueAt (mode_of q.mode) q.buf.now q.idx s r.idx
+    → at_end (size_of r) (mode_of r.mode) t (skip_closed_blanks (mode_of r.mode) (rest_of r)) ≡ Ok u → IsPlaced (mode_of p.mode) p.buf.now s
 value_placed p q r t u s start inside a e b value ends =
     let m : Mode = mode_of p.mode in
     let input : List ℕ = p.buf.now in
@@ -334,7 +334,7 @@ value_placed p q r t u s start inside a e b value ends =
     let before = read_has p q (λ bytes. IsBlanks m bytes) front.blanks a inside (front.whole ∙ ap (λ (v : List ℕ). front.blanks ++ v) (sym e)) front.are_blanks in
     let within : r.idx ≤ length r.buf.now = b.inside (a.inside inside) in
     let whole : rest_of r ≡ rest_of r ++ drop (length r.buf.now) r.buf.now = sym (ap (λ (v : List ℕ). rest_of r ++ v) (nothing_left r.buf.now (length r.buf.now) (omega arith)) ∙ append-nil (rest_of r)) in
-    let last = (ended (size_of r) (mode_of r.mode) t (rest_of r) (pass_blanks (mode_of r.mode) (rest_of r)) u refl ends).0 in
+    let last = (ended (size_of r) (mode_of r.mode) t (rest_of r) (skip_closed_blanks (mode_of r.mode) (rest_of r)) u refl ends).0 in
     let after = has r.buf.now (λ bytes. AreLastBlanks (mode_of r.mode) bytes) r.idx (length r.buf.now) (rest_of r) whole within (omega arith) last in
     let on = goes_on p q r a b in
     value_alone (subst (λ (n : ℕ). HasBlanks m input n q.idx) start before) (earlier p q (λ k i. IsValueAt k i q.idx s r.idx) a value)

@@ -1,4 +1,4 @@
--- Where two steps failed, and the codes of which something is said.
+-- In which of two steps the fault was, and the codes of which something is said.
 use Rattle.std.proofs.Common.{◌≡◌, ℕ, ◌+◌, ◌-◌, ◌⊎◌, inl, inr, List, [], ◌∷◌, length, Result, Ok, Err, refl, sym, ap, subst}
 use Rattle.jsonb_value.specs.Code.{Code}
 use Rattle.jsonb_value.specs.Code.Code.{depth_limit_exceeded, expected_some_value, invalid_eof, number_not_carried, object_duplicate_key, unexpected_trailing_characters}

@@ -1,4 +1,4 @@
--- What the refusals of the grammar need of scalars and keys: what their faults say, and that no spelling of a scalar goes past what is read.
+-- What the faults of scalars and keys say, and that no scalar goes past what is parsed.
 use Rattle.std.proofs.Common.{◌≡◌, ℕ, zero, suc, ◌+◌, ◌-◌, ◌<◌, ◌≤◌, Bool, true, false, true≢false, cond, ◌⊎◌, ◌||◌, ⊎_elim, inl, inr, List, [], ◌∷◌, ◌++◌, length, take, drop, codes, get_or, Option, Some, None, Result, Ok, Err, refl, sym, ap, subst, ◌∙◌, arith, eqb, eq-eqb, leb, length-append}
 use Rattle.std.specs.Char.{is_ascii_digit}
 use Rattle.std.specs.Str.{is_utf8}

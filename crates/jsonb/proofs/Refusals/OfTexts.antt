@@ -15,7 +15,7 @@ use Rattle.jsonb_value.specs.Grammar.Scalar.{IsScalar}
 use Rattle.jsonb_value.specs.Tree.{Tree}
 use Rattle.jsonb_value.specs.Tree.Tree.{null}
 use Rattle.jsonb_scan.specs.Reading.{Fault, Read, begins, fault, on_byte}
-use Rattle.jsonb_scan.specs.Reading.Blank.{opens_comment, pass_blanks, skip_blanks}
+use Rattle.jsonb_scan.specs.Reading.Blank.{opens_comment, skip_closed_blanks, skip_blanks}
 use Rattle.jsonb_scan.specs.Reading.Container.{array_at, object_at}
 use Rattle.jsonb_scan.specs.Reading.Document.{at_end, comment_at, document_from, document_of, nothing_at, too_deep, value_at, value_to_end, value_with}
 use Rattle.jsonb_scan.specs.Reading.Scalar.{scalar_at}
@@ -140,7 +140,7 @@ follows_last (line_to_end inside is (more_blanks {blank = blank} {rest = others}
 
 -- Nor does one with blanks after it go past the blanks after what is read.
 blanks_within : (size : ℕ) (mode : Mode) (depth : ℕ) (core : List ℕ) (u : Tree) (rest : List ℕ) (t : Tree) (after : List ℕ) {last : List ℕ} → AreLastBlanks mode last → Derives mode depth core u
-    → value_at size mode depth (core ++ (last ++ rest)) ≡ Ok (t, after) → opens_comment mode (pass_blanks mode after) ≡ false → length (pass_blanks mode after) ≤ length rest
+    → value_at size mode depth (core ++ (last ++ rest)) ≡ Ok (t, after) → opens_comment mode (skip_closed_blanks mode after) ≡ false → length (skip_closed_blanks mode after) ≤ length rest
 blanks_within size mode depth core u rest t after {last} b d e closed =
     elim (follows_last b rest) [
       | inl none ↦
@@ -149,8 +149,8 @@ blanks_within size mode depth core u rest t after {last} b d e closed =
       | inr ends ↦
           let same = same_read u t (last ++ rest) after (sym ((value_is_complete size mode depth).reads core u (last ++ rest) d (λ n. before ends)) ∙ e) in
           elim (last_within b rest) [
-            | inl within ↦ omega (arith, within, ap length (ap (λ (w : List ℕ). pass_blanks mode w) same.rest))
-            | inr opens ↦ absurd (true≢false (sym opens ∙ ap (λ (w : List ℕ). opens_comment mode (pass_blanks mode w)) same.rest ∙ closed))
+            | inl within ↦ omega (arith, within, ap length (ap (λ (w : List ℕ). skip_closed_blanks mode w) same.rest))
+            | inr opens ↦ absurd (true≢false (sym opens ∙ ap (λ (w : List ℕ). opens_comment mode (skip_closed_blanks mode w)) same.rest ∙ closed))
           ]
     ]
 
@@ -161,7 +161,7 @@ skip-front mode {front} core last rest b s =
     ∙ ap (λ (w : List ℕ). skip_blanks mode w) (append_assoc core last rest) ∙ skip-starts mode (core ++ (last ++ rest)) (starts-append core (last ++ rest) s)
 
 value_within : (size : ℕ) (mode : Mode) (depth : ℕ) {front last : List ℕ} (core : List ℕ) (u : Tree) (rest : List ℕ) (t : Tree) (after : List ℕ) → IsBlanks mode front → Derives mode depth core u → AreLastBlanks mode last
-    → value_at size mode depth (skip_blanks mode ((front ++ (core ++ last)) ++ rest)) ≡ Ok (t, after) → opens_comment mode (pass_blanks mode after) ≡ false → length (pass_blanks mode after) ≤ length rest
+    → value_at size mode depth (skip_blanks mode ((front ++ (core ++ last)) ++ rest)) ≡ Ok (t, after) → opens_comment mode (skip_closed_blanks mode after) ≡ false → length (skip_closed_blanks mode after) ≤ length rest
 value_within size mode depth {front} {last} core u rest t after b d c e closed =
     let skipped = skip-front mode core last rest b ((value_is_complete size mode depth).starts core u d) in
     blanks_within size mode depth core u rest t after c d (subst (λ (w : List ℕ). value_at size mode depth w ≡ Ok (t, after)) skipped e) closed
@@ -176,20 +176,20 @@ value_some mode depth core last u rest b d =
 last_skipped : (mode : Mode) {last : List ℕ} (b : AreLastBlanks mode last) (more : List ℕ) → length (skip_blanks mode (last ++ more)) ≤ length more
 last_skipped mode {last} b more =
     elim (last_within b more) [
-      | inl within ↦ omega (arith, within, length-past mode (pass_blanks mode (last ++ more)))
-      | inr opens ↦ omega (arith, ap length (cond-true (opens_comment mode (pass_blanks mode (last ++ more))) [] (pass_blanks mode (last ++ more)) opens))
+      | inl within ↦ omega (arith, within, length-past mode (skip_closed_blanks mode (last ++ more)))
+      | inr opens ↦ omega (arith, ap length (cond-true (opens_comment mode (skip_closed_blanks mode (last ++ more))) [] (skip_closed_blanks mode (last ++ more)) opens))
     ]
 
-document_within : (mode : Mode) (input first rest longer more : List ℕ) (t u : Tree) (after : List ℕ) → input ≡ first ++ rest → length rest < length (skip_blanks mode input) → pass_blanks mode after ≡ rest → opens_comment mode rest ≡ false
+document_within : (mode : Mode) (input first rest longer more : List ℕ) (t u : Tree) (after : List ℕ) → input ≡ first ++ rest → length rest < length (skip_blanks mode input) → skip_closed_blanks mode after ≡ rest → opens_comment mode rest ≡ false
     → value_at (length input) mode max_depth (skip_blanks mode input) ≡ Ok (t, after) → input ≡ longer ++ more → length first < length longer → IsDocument mode longer u → ⊥
 document_within mode input first rest longer more t u after whole some end closed e split long (value_alone {core = core} b d c) =
-    let least : length (pass_blanks mode after) ≤ length more =
+    let least : length (skip_closed_blanks mode after) ≤ length more =
     value_within (length input) mode max_depth core u more t after b d c (subst (λ (w : List ℕ). value_at (length input) mode max_depth (skip_blanks mode w) ≡ Ok (t, after)) split e) (ap (opens_comment mode) end ∙ closed) in
     omega (arith, least, long, ap length end, ap length whole, ap length split, length-append first rest, length-append longer more)
 document_within mode input first rest longer more t u after whole some end closed e split long (blanks_alone is b) =
     omega (arith, some, long, ap length (ap (λ (w : List ℕ). skip_blanks mode w) split), last_skipped mode b more, ap length whole, ap length split, length-append first rest, length-append longer more)
 
-trails : (mode : Mode) (input : List ℕ) (t : Tree) (after : List ℕ) (c : ℕ) (others : List ℕ) → value_at (length input) mode max_depth (skip_blanks mode input) ≡ Ok (t, after) → 0 < length (skip_blanks mode input) → pass_blanks mode after ≡ c ∷ others → opens_comment mode (c ∷ others) ≡ false
+trails : (mode : Mode) (input : List ℕ) (t : Tree) (after : List ℕ) (c : ℕ) (others : List ℕ) → value_at (length input) mode max_depth (skip_blanks mode input) ≡ Ok (t, after) → 0 < length (skip_blanks mode input) → skip_closed_blanks mode after ≡ c ∷ others → opens_comment mode (c ∷ others) ≡ false
     → Trails mode input (length input - length (c ∷ others) + 1)
 trails mode input t after c others e left end closed =
     let front = skips mode input left in
@@ -202,7 +202,7 @@ trails mode input t after c others e left end closed =
     let at_byte : length input - length (c ∷ others) + 1 ≡ length first + 1 = omega (arith, ap length whole, length-append first (c ∷ others)) in
     let more : length (c ∷ others) < length (skip_blanks mode input) =
     subst (λ (w : List ℕ). length (c ∷ others) < length (skip_blanks mode w)) (sym whole) (value_some mode max_depth s.core back.blanks t (c ∷ others) front.are_blanks s.spells) in
-    let stays : skip_blanks mode (c ∷ others) ≡ c ∷ others = skip-passed mode (c ∷ others) c others (ap (pass_blanks mode) (sym end) ∙ pass-pass mode after ∙ end) closed in
+    let stays : skip_blanks mode (c ∷ others) ≡ c ∷ others = skip-passed mode (c ∷ others) c others (ap (skip_closed_blanks mode) (sym end) ∙ pass-pass mode after ∙ end) closed in
     record {
       before = first;
       byte = c;
@@ -226,7 +226,7 @@ comment_silent size t bytes f e told =
       | inr h ↦ silent_fault {B = Tree} invalid_eof size f h.1 (λ n. n) told
     ]
 
-stands_after : (mode : Mode) (input : List ℕ) (t : Tree) (after rest : List ℕ) (f : Fault) → value_at (length input) mode max_depth (skip_blanks mode input) ≡ Ok (t, after) → 0 < length (skip_blanks mode input) → pass_blanks mode after ≡ rest
+stands_after : (mode : Mode) (input : List ℕ) (t : Tree) (after rest : List ℕ) (f : Fault) → value_at (length input) mode max_depth (skip_blanks mode input) ≡ Ok (t, after) → 0 < length (skip_blanks mode input) → skip_closed_blanks mode after ≡ rest
     → at_end (length input) mode t rest ≡ Err f → IsTold f.code → Stands mode input f.code f.place
 stands_after mode input t after [] f e left end g told = absurd cc
 stands_after mode input t after (c ∷ others) f e left end g told =
@@ -243,7 +243,7 @@ nothing_silent extended size f e told = absurd (let never : ◌≡◌ {A = Resul
 
 value_told : (mode : Mode) (input : List ℕ) (b : ℕ) (rest : List ℕ) (f : Fault) → skip_blanks mode input ≡ b ∷ rest → value_to_end (length input) mode (b ∷ rest) ≡ Err f → IsTold f.code → Stands mode input f.code f.place
 value_told mode input b rest f skipped e told =
-    elim (bind_err (value_at (length input) mode max_depth (b ∷ rest)) (λ (x : Tree × List ℕ). at_end (length input) mode x.0 (pass_blanks mode x.1)) f e) [
+    elim (bind_err (value_at (length input) mode max_depth (b ∷ rest)) (λ (x : Tree × List ℕ). at_end (length input) mode x.0 (skip_closed_blanks mode x.1)) f e) [
       | inl h ↦
           let within : length (skip_blanks mode input) ≤ length input = length-skip mode input in
           let s = stops_after_blanks mode max_depth (length input) input f
@@ -251,10 +251,10 @@ value_told mode input b rest f skipped e told =
           stands_at mode input s.front s.rest s.count s.left f.code f.place s.whole s.sum s.is_front s.wrong
       | inr h ↦
           let left : 0 < length (skip_blanks mode input) = omega (arith, ap length skipped) in
-          stands_after mode input h.0.0 h.0.1 (pass_blanks mode h.0.1) f (ap (λ (w : List ℕ). value_at (length input) mode max_depth w) skipped ∙ h.1) left refl h.2 told
+          stands_after mode input h.0.0 h.0.1 (skip_closed_blanks mode h.0.1) f (ap (λ (w : List ℕ). value_at (length input) mode max_depth w) skipped ∙ h.1) left refl h.2 told
     ]
 
-document_told : (mode : Mode) (input rest : List ℕ) (f : Fault) → pass_blanks mode input ≡ rest → document_from (length input) mode rest ≡ Err f → IsTold f.code → Stands mode input f.code f.place
+document_told : (mode : Mode) (input rest : List ℕ) (f : Fault) → skip_closed_blanks mode input ≡ rest → document_from (length input) mode rest ≡ Err f → IsTold f.code → Stands mode input f.code f.place
 document_told mode input [] f passed e told = absurd (nothing_silent mode (length input) f e told)
 document_told mode input (b ∷ rest) f passed e told =
     elim (chosen (opens_comment mode (b ∷ rest)) (comment_at (length input) null rest) (value_to_end (length input) mode (b ∷ rest)) (Err f) e) [
@@ -274,4 +274,4 @@ untold mode input other place h = tt
 -- What the fault of a text says of it.
 pub document_stands : (mode : Mode) (input : List ℕ) (f : Fault) → document_of mode input ≡ Err f → Stands mode input f.code f.place
 unfolding document_of
-document_stands mode input f e = untold mode input f.code f.place (λ told. document_told mode input (pass_blanks mode input) f refl e told)
+document_stands mode input f e = untold mode input f.code f.place (λ told. document_told mode input (skip_closed_blanks mode input) f refl e told)

@@ -1,4 +1,4 @@
--- Values that hold no others, by their first byte.
+-- Which scalar it is, by the first byte.
 use Rattle.std.proofs.Common.{◌≡◌, ◌≤◌, ℕ, true, false, true≢false, List, [], ◌∷◌, refl, sym, ap, ◌∙◌, arith}
 use Rattle.std.proofs.lemmas.Bool.{cond-false, cond-true}
 use Rattle.jsonb_value.specs.Code.Code.{expected_some_value}

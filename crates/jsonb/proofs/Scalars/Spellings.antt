@@ -1,4 +1,4 @@
--- What the grammar needs of scalars and keys: what is read is spelled, each spelling is read, and how a spelling begins.
+-- What is parsed of a scalar or a key is derived, and what is derived is parsed.
 use Rattle.std.proofs.Common.{◌≡◌, ◌≢◌, ℕ, true, false, true≢false, inl, inr, List, [], ◌∷◌, ◌++◌, codes, cond, map, Result, Ok, Err, refl, sym, ap, ap₂, subst, ◌∙◌, eqb, eqb-true, eq-eqb, ne_eqb, ltb, lt-ltb, ◌||◌, ◌⊎◌, ⊎_elim, ◌+◌, ◌<◌, ◌≤◌, arith}
 use Rattle.std.proofs.lemmas.Bool.Decides.{nat_tests}
 use Rattle.std.proofs.lemmas.Bool.{cases_Bool, cond-false, cond-true, or_cases, or_from}
@@ -18,8 +18,8 @@ use Rattle.jsonb_value.specs.Tree.Tree.{boolean, null, number, string}
 use Rattle.jsonb_scan.specs.Reading.{Fault, Read, begins, on_byte, refused, ◌>>=◌}
 use Rattle.jsonb_scan.specs.Reading.BareKey.{bare_key_at, key_step}
 use Rattle.jsonb_scan.specs.Reading.Blank.{is_blank_start, is_break}
-use Rattle.jsonb_scan.specs.Reading.ExtendedNumber.{EndsExtended, GoesOnExtended}
-use Rattle.jsonb_scan.specs.Reading.Number.{EndsNumber, GoesOn, is_number_start}
+use Rattle.jsonb_scan.specs.Reading.ExtendedNumber.{EndsExtended, ContinuesNumberExtended}
+use Rattle.jsonb_scan.specs.Reading.Number.{IsNumberBoundary, ContinuesNumber, is_number_start}
 use Rattle.jsonb_scan.specs.Reading.Scalar.{begins_letter, begins_number, false_at, folded, key_at, letters_at, null_at, number_at, number_or_fault, number_value_at, on_letter, on_single_quote, or_else, quoted_at, scalar_at, true_or_false_at, unquoted_at, word_at, words_at}
 use Rattle.jsonb_scan.specs.Reading.String.{string_at}
 use Rattle.jsonb_scan.proofs.Strings.BareKeys.{bare_complete, bare_sound, bare_starts, break_stops}
@@ -314,20 +314,20 @@ number_start_apart b e =
     ascii_digit : (c : ℕ) → is_ascii_digit c ≡ true → (48 ≤ c) × (c ≤ 57)
     ascii_digit c d = grind (arith, nat_tests)
 
-break_ends : (b : ℕ) → is_break b ≡ true → ¬ (GoesOn b)
+break_ends : (b : ℕ) → is_break b ≡ true → ¬ (ContinuesNumber b)
 break_ends b e g = true≢false (sym e ∙ ⊎_elim (λ d. (apart_from b (inr d)).no_break) (λ (h : (b ≡ 46) ⊎ IsExponentMark b). ⊎_elim (λ p. ap is_break p) (λ (m : IsExponentMark b). ⊎_elim (λ p. ap is_break p) (λ p. ap is_break p) m) h) g)
 
-follows_number : (rest : List ℕ) → Follows rest → EndsNumber rest
+follows_number : (rest : List ℕ) → Follows rest → IsNumberBoundary rest
 follows_number rest no_more = tt
-follows_number rest (before h) = subst EndsNumber (sym h.whole) (break_ends h.first h.is_end)
+follows_number rest (before h) = subst IsNumberBoundary (sym h.whole) (break_ends h.first h.is_end)
 
-no_more_digits : (b : ℕ) → 16 ≤ digit_value b → b ≢ 46 → to_ascii_lowercase b ≢ 120 → ¬ (GoesOnExtended b)
+no_more_digits : (b : ℕ) → 16 ≤ digit_value b → b ≢ 46 → to_ascii_lowercase b ≢ 120 → ¬ (ContinuesNumberExtended b)
 no_more_digits b digit point mark = ⊎_elim (λ d. omega (arith, d, digit)) (⊎_elim point mark)
 
 -- no byte that may follow a value goes on with an extended number
-break_ends_extended : (b : ℕ) → is_break b ≡ true → ¬ (GoesOnExtended b)
+break_ends_extended : (b : ℕ) → is_break b ≡ true → ¬ (ContinuesNumberExtended b)
 break_ends_extended b e =
-    break_is b e (λ c. ¬ (GoesOnExtended c))
+    break_is b e (λ c. ¬ (ContinuesNumberExtended c))
     (no_more_digits 32 (omega arith) (omega arith) (omega arith))
     (no_more_digits 9 (omega arith) (omega arith) (omega arith))
     (no_more_digits 10 (omega arith) (omega arith) (omega arith))

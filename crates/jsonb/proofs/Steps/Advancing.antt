@@ -1,4 +1,4 @@
--- Steps of the readers.
+-- A parser that goes on in the same input.
 use Rattle.std.proofs.Common.{◌≡◌, ℕ, ◌+◌, true, false, true≢false, eqb, inl, inr, List, [], ◌∷◌, length, drop, Result, Err, Contains, get_or, refl, sym, ap, ◌∙◌, arith, length-drop}
 use Rattle.jsonb_value.specs.Code.Code.{expected_some_ident}
 use Rattle.jsonb_scan.specs.Answer.{Fails, NamesFault}

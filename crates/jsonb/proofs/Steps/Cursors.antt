@@ -1,4 +1,4 @@
--- The bytes of an input from an index on.
+-- The bytes of an input from an offset on.
 use Rattle.std.proofs.Common.{◌≡◌, ℕ, ◌+◌, ◌-◌, ◌<◌, ◌≤◌, List, [], ◌∷◌, length, drop, ap, arith, length-drop}
 use Rattle.std.proofs.lemmas.List.{nil_from_length}
 use Rattle.jsonb_value.specs.Code.{Code}

@@ -1,4 +1,4 @@
--- What a step of the reader gives, from what the steps inside of it give.
+-- What a step of the parser gives, from what the steps in it give.
 use Rattle.std.proofs.Common.{◌≡◌, ℕ, true, false, List, ◌∷◌, length, drop, codes, Result, sym, ap, ap₂, subst, ◌∙◌, Ok, Err, IfOk, IfErr}
 use Rattle.std.proofs.lemmas.Bool.{cond-false}
 use Rattle.jsonb.specs.declared.parser.Parser.{Parser}

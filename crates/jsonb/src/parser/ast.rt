@@ -3,7 +3,7 @@ ghost use Rattle.std.specs.Prelude.{◌≡◌, ◌≢◌, ◌<◌, IfOk, IfErr, 
 ghost use Rattle.jsonb_value.specs.Grammar.{IsDocument, IsNoDocument};
 ghost use Rattle.jsonb_value.specs.Tree.{Tree};
 ghost use Rattle.jsonb.specs.AstView.{ast_view};
-ghost use Rattle.jsonb_scan.specs.Answer.{mode_of, IsTextRefusal, Gives, HoldsMarker};
+ghost use Rattle.jsonb_scan.specs.Answer.{mode_of, IsTextRefusal, Gives, MayAllocate};
 ghost use Rattle.jsonb.specs.Placed.{IsPlaced};
 ghost use Rattle.jsonb_scan.specs.Reading.Document.{document_of};
 ghost use Rattle.jsonb.specs.Refusals.{IsExplained};
@@ -34,6 +34,15 @@ pub enum JsonAst<'a> {
 impl<'a> JsonAst<'a> {
     /// Parses a whole text.
     ///
+    /// The time is linear in the text, and sorting the n members of an object takes n log n comparisons of keys.
+    ///
+    /// ```
+    /// let tree = JsonAst::parse(rt.alloc(), b"{b: 1, a: 'x'}", Mode::Extended)?;
+    /// let JsonAst::Object(members) = &tree else { return Ok(()) };
+    /// assert_eq!(rt; members[0].0.as_str(), "a");
+    /// assert_eq!(rt; members[0].2, 8); // the offset after the key
+    /// ```
+    ///
     /// # Errors
     ///
     /// `Syntax` with what is wrong and where, if the text is no document of the mode; the text is parsed from left to
@@ -45,7 +54,7 @@ impl<'a> JsonAst<'a> {
 
         // What is refused is no document, unless memory ran out.
         ensures refused { IfErr result (λ e. e ≢ Error.OutOfMemory → IsNoDocument (mode_of mode) buf.now) }
-        ensures memory { result ≡ Err Error.OutOfMemory → HoldsMarker buf.now }
+        ensures memory { result ≡ Err Error.OutOfMemory → MayAllocate buf.now }
 
         // Nothing but these two refuses.
         ensures errors { IfErr result IsTextRefusal }

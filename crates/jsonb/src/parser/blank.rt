@@ -2,7 +2,7 @@
 ghost use Rattle.std.specs.Prelude.{◌≡◌, ◌+◌, ◌<◌, ◌≤◌, MatchBool};
 ghost use Rattle.jsonb_scan.specs.Answer.{mode_of};
 ghost use Rattle.jsonb.specs.Parser.{rest_of, size_of, Advances};
-ghost use Rattle.jsonb_scan.specs.Reading.Blank.{opens_comment, pass_blanks, skip_blanks};
+ghost use Rattle.jsonb_scan.specs.Reading.Blank.{opens_comment, skip_closed_blanks, skip_blanks};
 
 use super::{Mode, Parser};
 use jsonb_scan::parser::blank::{blank_len, near_spaces};
@@ -14,7 +14,7 @@ impl Parser<'_> {
     fn may_begin_blank(&self) -> bool
         ensures skips { MatchBool result (Unit {0}) (skip_blanks (mode_of self.now.mode) (rest_of self.now)
             ≡ rest_of self.now) }
-        ensures passes { MatchBool result (Unit {0}) (pass_blanks (mode_of self.now.mode) (rest_of self.now)
+        ensures passes { MatchBool result (Unit {0}) (skip_closed_blanks (mode_of self.now.mode) (rest_of self.now)
             ≡ rest_of self.now) }
     {
         match self.peek() {
@@ -54,7 +54,7 @@ impl Parser<'_> {
         ensures rest { rest_of self.new ≡ skip_blanks (mode_of self.old.mode) (rest_of self.old) }
         ensures advances { Advances self.old self.new }
     {
-        self.pass_all_blanks();
+        self.skip_each_closed_blank();
         if self.opens_comment() {
             self.idx = self.buf.len();
         }
@@ -62,19 +62,19 @@ impl Parser<'_> {
 
     // Passes blanks, up to a comment that never ends.
     #[inline(always)]
-    pub(super) fn pass_blanks(&mut self)
-        ensures rest { rest_of self.new ≡ pass_blanks (mode_of self.old.mode) (rest_of self.old) }
+    pub(super) fn skip_closed_blanks(&mut self)
+        ensures rest { rest_of self.new ≡ skip_closed_blanks (mode_of self.old.mode) (rest_of self.old) }
         ensures advances { Advances self.old self.new }
     {
         if self.may_begin_blank() {
-            self.pass_all_blanks();
+            self.skip_each_closed_blank();
         }
     }
 
     // The same, blank by blank.
     #[inline(never)]
-    fn pass_all_blanks(&mut self)
-        ensures rest { rest_of self.new ≡ pass_blanks (mode_of self.old.mode) (rest_of self.old) }
+    fn skip_each_closed_blank(&mut self)
+        ensures rest { rest_of self.new ≡ skip_closed_blanks (mode_of self.old.mode) (rest_of self.old) }
         ensures advances { Advances self.old self.new }
     {
         'blanks: while self.idx < self.buf.len() {
@@ -90,7 +90,7 @@ impl Parser<'_> {
     // Passes a space, a tab or an end of a line, where one comes next.
     #[inline(always)]
     fn take_plain_blank(&mut self) -> bool
-        ensures rest { pass_blanks (mode_of self.old.mode) (rest_of self.new) ≡ pass_blanks (mode_of self.old.mode)
+        ensures rest { skip_closed_blanks (mode_of self.old.mode) (rest_of self.new) ≡ skip_closed_blanks (mode_of self.old.mode)
             (rest_of self.old) }
         ensures onward { MatchBool result ((self.old.idx < self.new.idx) × (self.new.idx ≤ size_of self.new))
             (self.new ≡ self.old) }
@@ -115,7 +115,7 @@ impl Parser<'_> {
     #[inline(always)]
     fn skip_spaces(&mut self)
         requires { self.old.idx ≤ size_of self.old }
-        ensures rest { pass_blanks (mode_of self.old.mode) (rest_of self.new) ≡ pass_blanks (mode_of self.old.mode)
+        ensures rest { skip_closed_blanks (mode_of self.old.mode) (rest_of self.new) ≡ skip_closed_blanks (mode_of self.old.mode)
             (rest_of self.old) }
         ensures advances { Advances self.old self.new }
     {

@@ -1,5 +1,5 @@
-//! A second reader of whole texts, which makes the value with no `JsonAst` between and without a word of what is wrong.
-//! Where it answers nothing, the text may still be a document, and the reader that tells faults is asked.
+//! The fast path: a parser of whole texts, which makes the value with no `JsonAst` between and reports no error. Where it
+//! returns nothing, the text may still be a document, and the slow path parses it again.
 ghost use Rattle.std.specs.Prelude.{◌≡◌, ◌<◌, ◌≤◌, ℕ, false, length, map, take, List, MatchBool, OnOk, IfOk, IfSome, Ok, None, string_bytes, [], ◌∷◌, ◌++◌, if◌then◌else◌};
 ghost use Rattle.std.specs.BTreeMap.{insert_entry, is_at};
 ghost use Rattle.std.specs.Map.{lookup};
@@ -8,7 +8,7 @@ ghost use Rattle.jsonb_value.specs.Grammar.{max_depth};
 ghost use Rattle.jsonb_value.specs.Tree.{Tree};
 ghost use Rattle.jsonb_value.specs.View.{view};
 ghost use Rattle.jsonb.specs.declared.parser.direct.OpenValue.TheVariants.{Array, Object};
-ghost use Rattle.jsonb.specs.Direct.{IsPutIn, IsHeld, Pushes, ReadsParts, ValueIsDue, WasRead, IsAhead, tree_of};
+ghost use Rattle.jsonb.specs.Direct.{MapHolds, FrameHolds, Pushes, ReadsParts, BeforeValue, AfterValue, AtPart, tree_of};
 ghost use Rattle.jsonb_scan.specs.Answer.{mode_of};
 ghost use Rattle.jsonb.specs.Parser.{rest_of, size_of, Advances, FindsAs};
 ghost use Rattle.jsonb_scan.specs.Reading.{Read, begins};
@@ -35,6 +35,8 @@ enum OpenValue<'a> {
 
 // What is dropped here is given up, and may nest deep.
 impl Drop for OpenValue<'_> {
+    #[cold]
+    #[inline(never)]
     fn drop(self) {
         match self {
             OpenValue::Array(items) => Value::Array(items).dismantle(),
@@ -64,7 +66,7 @@ pub(super) fn read_directly(alloc: Global, buf: &[u8], mode: Mode) -> Option<Val
         buf,
         idx: 0,
     };
-    parser.pass_blanks();
+    parser.skip_closed_blanks();
     if parser.idx >= parser.buf.len() {
         return None;
     }
@@ -73,7 +75,7 @@ pub(super) fn read_directly(alloc: Global, buf: &[u8], mode: Mode) -> Option<Val
     }
     let value = parser.direct_value(text)?;
     let Ok(()) = parser.end_document() else {
-        value.dismantle();
+        drop_deep(value);
         return None;
     };
     Some(value)
@@ -128,8 +130,8 @@ impl<'a> Parser<'a> {
     fn open_container(&mut self, stack: &mut Vec<OpenValue<'a>>) -> Option<bool>
         requires depth { length stack.old.items ≤ max_depth }
         requires inside { self.old.idx ≤ size_of self.old }
-        ensures reads { (whole : Read Tree) → ValueIsDue whole self.old stack.old.items
-            → IfSome result (IsAhead whole self.new stack.new.items) }
+        ensures reads { (whole : Read Tree) → BeforeValue whole self.old stack.old.items
+            → IfSome result (AtPart whole self.new stack.new.items) }
         ensures onward { IfSome result (λ closed. self.old.idx < self.new.idx) }
         ensures depth { IfSome result (λ closed. length stack.new.items ≤ max_depth) }
         ensures advances { Advances self.old self.new }
@@ -160,8 +162,8 @@ impl<'a> Parser<'a> {
         requires depth { length stack.old.items ≤ max_depth }
         requires inside { self.old.idx ≤ size_of self.old }
         requires same { text.now ≡ take (length text.now) self.old.buf.now }
-        ensures reads { (whole : Read Tree) → IsAhead whole self.old stack.old.items false
-            → IfSome result (IsAhead whole self.new stack.new.items) }
+        ensures reads { (whole : Read Tree) → AtPart whole self.old stack.old.items false
+            → IfSome result (AtPart whole self.new stack.new.items) }
         ensures onward { IfSome result (λ closed. self.old.idx < self.new.idx) }
         ensures depth { IfSome result (λ closed. length stack.new.items ≤ max_depth) }
         ensures advances { Advances self.old self.new }
@@ -178,7 +180,7 @@ impl<'a> Parser<'a> {
     fn fill(&mut self, frame: &mut OpenValue<'a>, text: &'a str) -> Option<bool>
         requires inside { self.old.idx ≤ size_of self.old }
         requires same { text.now ≡ take (length text.now) self.old.buf.now }
-        ensures reads { IfSome result (λ closed. (depth : ℕ) → (c : Open) → IsHeld frame.old c
+        ensures reads { IfSome result (λ closed. (depth : ℕ) → (c : Open) → FrameHolds frame.old c
             → ReadsParts (size_of self.old) (mode_of self.old.mode) depth
             (next_part_at (size_of self.old) (mode_of self.old.mode) depth c (rest_of self.old))
             closed frame.new (rest_of self.new)) }
@@ -237,7 +239,7 @@ impl<'a> Parser<'a> {
         requires inside { self.old.idx ≤ size_of self.old }
         requires same { text.now ≡ take (length text.now) self.old.buf.now }
         ensures reads { IfSome result (λ closed. (depth : ℕ) → (front : List Found)
-            → IsPutIn front object.old.members.entries → ReadsParts (size_of self.old) (mode_of self.old.mode) depth
+            → MapHolds front object.old.members.entries → ReadsParts (size_of self.old) (mode_of self.old.mode) depth
             (read_members_from (size_of self.old) (mode_of self.old.mode) depth front (rest_of self.old))
             closed (Object object.new) (rest_of self.new)) }
         ensures onward { IfSome result (λ closed. MatchBool closed (self.old.idx < self.new.idx) (Unit {0})) }
@@ -300,8 +302,8 @@ impl<'a> Parser<'a> {
     ) -> Option<bool>
         requires depth { length stack.old.items ≤ max_depth }
         requires inside { self.old.idx ≤ size_of self.old }
-        ensures reads { (whole : Read Tree) → WasRead whole self.old stack.old.items (tree_of inner.entry)
-            → IfSome result (IsAhead whole self.new stack.new.items) }
+        ensures reads { (whole : Read Tree) → AfterValue whole self.old stack.old.items (tree_of inner.entry)
+            → IfSome result (AtPart whole self.new stack.new.items) }
         ensures onward { IfSome result (λ closed. self.old.idx < self.new.idx) }
         ensures depth { IfSome result (λ closed. length stack.new.items ≤ max_depth) }
         ensures advances { Advances self.old self.new }
@@ -331,6 +333,13 @@ fn make_room(items: &mut Vec<Value>, is_last: bool)
     if is_last && items.capacity() == 0 {
         let _made = items.reserve_exact(1);
     }
+}
+
+// Drops a value that may nest deep. It is a call of its own, so that no caller makes room for it where nothing fails.
+#[cold]
+#[inline(never)]
+fn drop_deep(value: Value) {
+    value.dismantle();
 }
 
 // Pushes a value. One that is refused may nest deep.

@@ -1,4 +1,4 @@
-//! The members of an object: their order, and the key that comes twice.
+//! The members of an object: their order, and repeated keys.
 ghost use Rattle.std.specs.Prelude.{◌≡◌, ◌+◌, ◌<◌, IfOk, Err, map, ℕ, List, IsPermutation};
 ghost use Rattle.jsonb_value.specs.Mode.{Mode as GrammarMode};
 ghost use Rattle.jsonb.specs.AstView.{ast_view, found_of};

@@ -5,11 +5,11 @@ ghost use Rattle.jsonb_value.specs.declared.error.Error.TheVariants.{Syntax, Out
 ghost use Rattle.jsonb_value.specs.declared.error.ParseErrorCode.TheVariants.{InvalidNumberValue};
 ghost use Rattle.jsonb_scan.specs.Answer.{Gives, Fails};
 ghost use Rattle.jsonb.specs.Parser.{rest_of, size_of, Advances};
-ghost use Rattle.jsonb_scan.specs.Reading.Number.{FollowsWhole, digits_from, exponent_from, fraction_from, whole_start, then_from, number_to, standard_number_at};
+ghost use Rattle.jsonb_scan.specs.Reading.Number.{ContinuesAfterInteger, digits_from, exponent_from, fraction_from, whole_start, then_from, number_to, standard_number_at};
 
 use super::Parser;
 use jsonb_scan::parser::number::{
-    after_minus, byte_at, follows_whole, integer, leading_digits, number_end,
+    after_minus, byte_at, continues_after_integer, integer, leading_digits, number_end,
 };
 use jsonb_value::error::{Error, ParseErrorCode, Result};
 use jsonb_value::number::Number;
@@ -37,7 +37,7 @@ impl Parser<'_> {
             return Err(self.invalid_number(start + 2));
         }
         let end = start + digits.len;
-        if follows_whole(byte_at(bytes, end)) {
+        if continues_after_integer(byte_at(bytes, end)) {
             return Err(self.number_without_integer(bytes, end));
         }
         self.idx += end;
@@ -62,7 +62,7 @@ impl Parser<'_> {
         requires bytes { bytes.now ≡ rest_of self.now }
         requires whole { end ≡ digits_from bytes.now (whole_start bytes.now) }
         requires within { end ≤ length bytes.now }
-        requires goes_on { FollowsWhole (slice_index bytes.now end) }
+        requires goes_on { ContinuesAfterInteger (slice_index bytes.now end) }
         ensures fault { Fails result (number_to (size_of self.now) (rest_of self.now)
             (then_from (fraction_from (rest_of self.now) end) (exponent_from (rest_of self.now)))) }
         ensures takes_no_memory { result ≢ OutOfMemory }

@@ -6,7 +6,7 @@ ghost use Rattle.jsonb.specs.Parser.{size_of, Advances, ReadsAs};
 ghost use Rattle.jsonb_scan.specs.Reading.String.{string_at};
 
 use super::Parser;
-use jsonb_scan::parser::string::{StringEnd, find_end, read_body};
+use jsonb_scan::parser::string::{StringEnd, decode_contents, find_end};
 use jsonb_value::error::{Error, ParseErrorCode, Result};
 use std::borrow::CowStr;
 use std::simd::prelude::*;
@@ -28,7 +28,13 @@ impl<'a> Parser<'a> {
                 Err(Error::Syntax(ParseErrorCode::InvalidEOF, self.idx + at))
             }
             StringEnd::Closed { end, escaped } => {
-                let text = read_body(self.alloc, &rest[..end], self.mode, escaped, self.idx + 1)?;
+                let text = decode_contents(
+                    self.alloc,
+                    &rest[..end],
+                    self.mode,
+                    escaped,
+                    self.idx + 1,
+                )?;
                 self.idx += end + 1;
                 Ok(text)
             }

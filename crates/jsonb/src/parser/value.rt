@@ -7,14 +7,14 @@ ghost use Rattle.jsonb_value.specs.Tree.{Tree};
 ghost use Rattle.jsonb_value.specs.View.{mark_view};
 ghost use Rattle.jsonb.specs.AstView.{ast_view};
 ghost use Rattle.jsonb.specs.OpenPlaces.{AllIsPlaced, FrameIsPlaced, FrameIsRead, KeepsPlaces, LeftOut, MemberBegins, OpensContainer, PartIsPlaced, PartIsRead, Skips, StackIsRead};
-ghost use Rattle.jsonb_scan.specs.Answer.{mode_of, Gives, HoldsMarker};
+ghost use Rattle.jsonb_scan.specs.Answer.{mode_of, Gives, MayAllocate};
 ghost use Rattle.jsonb.specs.Parser.{rest_of, size_of, Advances, ReadsAs, read_at};
 ghost use Rattle.jsonb.specs.Placed.{HasByte, IsValueAt};
 ghost use Rattle.jsonb_scan.specs.Reading.{begins};
 ghost use Rattle.jsonb_scan.specs.Reading.Container.{is_left_out};
 ghost use Rattle.jsonb_scan.specs.Reading.Document.{value_at};
 ghost use Rattle.jsonb.specs.Source.{source_view};
-ghost use Rattle.jsonb.specs.Stack.{elements_from, element_from, member_start, array_within, object_within, open_of, add_part, next_part_at, PartBegins, depth_in, resumed, rest_from, ahead, Continues};
+ghost use Rattle.jsonb.specs.Stack.{elements_from, element_from, member_start, array_within, object_within, open_of, add_part, next_part_at, PartBegins, depth_in, resumed, resume_stack_after_part, ahead, Continues};
 
 use super::members::{Member, object_of};
 use super::{JsonAst, Mode, Parser};
@@ -46,7 +46,7 @@ impl<'a> Parser<'a> {
     pub(super) fn parse_value(&mut self) -> Result<JsonAst<'a>>
         requires { self.old.idx ≤ size_of self.old }
         ensures reads { ReadsAs ast_view (λ size mode. value_at size mode max_depth) result self.old self.new }
-        ensures memory { result ≡ Err Error.OutOfMemory → HoldsMarker self.old.buf.now }
+        ensures memory { result ≡ Err Error.OutOfMemory → MayAllocate self.old.buf.now }
         ensures source { IfOk result (λ v. IsValueAt (mode_of self.old.mode) self.old.buf.now self.old.idx
             (source_view v) self.new.idx) }
         ensures advances { Advances self.old self.new }
@@ -67,8 +67,8 @@ impl<'a> Parser<'a> {
         requires depth { length stack.old.items ≤ max_depth }
         requires inside { self.old.idx ≤ size_of self.old }
         ensures reads { Continues (ahead self.old stack.old.items None) result self.new stack.new.items }
-        ensures memory { result ≡ Err Error.OutOfMemory → HoldsMarker self.old.buf.now }
-        ensures opened { OnOk result (length stack.old.items < length stack.new.items → HoldsMarker self.old.buf.now) }
+        ensures memory { result ≡ Err Error.OutOfMemory → MayAllocate self.old.buf.now }
+        ensures opened { OnOk result (length stack.old.items < length stack.new.items → MayAllocate self.old.buf.now) }
         ensures onward { IfOk result (λ read. MatchOption read
             (length (rest_of self.new) < length (rest_of self.old)) (λ _. Unit {0})) }
         ensures source { KeepsPlaces self.old stack.old.items None result self.new stack.new.items }
@@ -236,7 +236,7 @@ impl<'a> Parser<'a> {
         requires depth { length stack.old.items ≤ max_depth }
         requires some { 0 < length stack.old.items }
         requires other { begins 44 (rest_of self.old) ≡ false }
-        ensures reads { Continues (rest_from self.old stack.old.items) result self.new stack.new.items }
+        ensures reads { Continues (resume_stack_after_part self.old stack.old.items) result self.new stack.new.items }
         ensures onward { OnOk result (length (rest_of self.new) < length (rest_of self.old)) }
         ensures source { (start : ℕ) → (self.old.idx < size_of self.old
             → StackIsRead (mode_of self.old.mode) self.old.buf.now start stack.old.items self.old.idx)

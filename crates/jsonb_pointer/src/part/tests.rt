@@ -69,12 +69,12 @@ fn an_index_has_no_leading_zero_and_no_sign(rt: HostRuntime) -> Result<(), Fail>
 #[test]
 fn what_is_no_path_and_no_document_is_told(rt: HostRuntime) -> Result<(), Fail> {
     for (path, document, told) in [
-        ("a", "1", "no path"),
-        ("/~", "1", "no path"),
+        ("a", "1", "not a JSON Pointer (RFC 6901)"),
+        ("/~", "1", "not a JSON Pointer (RFC 6901)"),
         ("", "[1", "EOF while parsing a value, pos 2"),
     ] {
         expect(&rt, path.as_bytes(), document, told)?;
     }
-    expect(&rt, b"/\xff", "1", "no path")?;
+    expect(&rt, b"/\xff", "1", "not a JSON Pointer (RFC 6901)")?;
     Ok(())
 }

@@ -1,4 +1,4 @@
--- Parts of a text: what stands between blanks, and parts joined by commas. A reader of the parts gives a reader of the whole.
+-- From parsing parts to parsing parts joined by commas.
 use Rattle.std.proofs.Common.{◌≡◌, ℕ, zero, suc, ◌<◌, ◌≤◌, Bool, true, false, cond, ◌||◌, ◌⊎◌, ⊎_elim, inl, inr, List, [], ◌∷◌, ◌++◌, length, Ok, refl, sym, ap, ap₂, map, subst, ◌∙◌, append_assoc, length-append, arith, eqb, eqb-true}
 use Rattle.std.proofs.lemmas.Bool.{cond-false, cond-true, or_cases, or_parts}
 use Rattle.jsonb_value.specs.Grammar.Blanks.{IsBlank, IsBlanks}

@@ -1,4 +1,5 @@
--- A finite automaton that accepts number texts. It shows after which of its beginnings a text can end.
+-- The states of the automaton, that it accepts numbers, and where a number can end. It shows after which of its
+-- beginnings a text can end.
 use Rattle.std.proofs.Common.{◌≡◌, ◌≢◌, ◌⊎◌, ℕ, ◌+◌, ◌<◌, ◌≤◌, Bool, true, false, zero, suc, ◌||◌, List, [], ◌∷◌, ◌++◌, length, get_or, take, drop, refl, sym, subst, ap, ◌∙◌, inl, inr, ⊎_elim, arith, add-zero}
 use Rattle.std.specs.Prelude.{slice_index, if◌then◌else◌, ◌==◌}
 use Rattle.std.specs.Int.{IsInRange}
@@ -9,16 +10,16 @@ use Rattle.std.proofs.lemmas.Str.Parse.{digit_from_value}
 use Rattle.std.proofs.lemmas.Bool.{cases_lt, cases_eq, cases_Bool, false≢true}
 use Rattle.std.proofs.lemmas.List.{take_more, take-append-drop, take-take}
 use Rattle.jsonb_value.specs.Grammar.StandardNumber.{IsWhole, IsFraction, IsExponentMark, IsSign, IsExponent, IsNumberText}
-use Rattle.jsonb_scan.specs.Reading.Number.{GoesOn}
+use Rattle.jsonb_scan.specs.Reading.Number.{ContinuesNumber}
 use Rattle.jsonb_scan.proofs.Numbers.Steps.{digit_is, is_digit, is_no_digit, differs, is_mark, is_no_mark}
 
 -- after each number text that the bytes begin with a byte goes on with a number
 abbrev pub NoneEnds : List ℕ → Type 0
-NoneEnds bytes = (k : ℕ) → k ≤ length bytes → IsNumberText (take k bytes) → GoesOn (slice_index bytes k)
+NoneEnds bytes = (k : ℕ) → k ≤ length bytes → IsNumberText (take k bytes) → ContinuesNumber (slice_index bytes k)
 
 -- of the number texts that the bytes begin with none is longer than len, and after each shorter one a byte goes on with a number
 abbrev pub IsLongest : List ℕ → ℕ → Type 0
-IsLongest bytes len = (k : ℕ) → k ≤ length bytes → IsNumberText (take k bytes) → (k ≡ len) ⊎ ((k < len) × GoesOn (slice_index bytes k))
+IsLongest bytes len = (k : ℕ) → k ≤ length bytes → IsNumberText (take k bytes) → (k ≡ len) ⊎ ((k < len) × ContinuesNumber (slice_index bytes k))
 
 pub data State : Type 0 where
   Start : State
@@ -108,7 +109,7 @@ pub record StopsAll (b : ℕ) : Type 0 where
   pub no_point : (b == 46) ≡ false
   pub no_mark : (b == 101 || b == 69) ≡ false
 
-pub goes_on_or_stops : (b : ℕ) → GoesOn b ⊎ StopsAll b
+pub goes_on_or_stops : (b : ℕ) → ContinuesNumber b ⊎ StopsAll b
 goes_on_or_stops b =
     ⊎_elim (λ digit. inl (inl (digit_is b digit)))
     (λ no_digit. ⊎_elim (λ point. inl (inr (inl point)))
@@ -134,7 +135,7 @@ stops_accepted BarePoint b h f = absurd (false≢true h)
 stops_accepted Dead b h f = absurd (false≢true h)
 
 -- after an accepted text only some bytes go on
-pub goes_on : (s : State) (b : ℕ) → is_accepting s ≡ true → ¬ (next s b ≡ Dead) → GoesOn b
+pub goes_on : (s : State) (b : ℕ) → is_accepting s ≡ true → ¬ (next s b ≡ Dead) → ContinuesNumber b
 goes_on s b h alive = ⊎_elim (λ g. g) (λ f. absurd (alive (stops_accepted s b h f))) (goes_on_or_stops b)
 
 -- ---- the state after a beginning of a list
@@ -333,7 +334,7 @@ pub record StopsAt (origin : State) (bytes : List ℕ) (q : ℕ) (s : State) : T
   pub stops : next s (slice_index bytes q) ≡ Dead
 
 -- what the automaton accepts of a list ends where it stops, or before that where a byte goes on
-pub accepted_ends : (origin : State) (bytes : List ℕ) (q : ℕ) (s : State) → StopsAt origin bytes q s → (k : ℕ) → k ≤ length bytes → is_accepting (state_at origin bytes k) ≡ true → ((k ≡ q) × (is_accepting s ≡ true)) ⊎ ((k < q) × GoesOn (slice_index bytes k))
+pub accepted_ends : (origin : State) (bytes : List ℕ) (q : ℕ) (s : State) → StopsAt origin bytes q s → (k : ℕ) → k ≤ length bytes → is_accepting (state_at origin bytes k) ≡ true → ((k ≡ q) × (is_accepting s ≡ true)) ⊎ ((k < q) × ContinuesNumber (slice_index bytes k))
 accepted_ends origin bytes q s stop k within accepted =
     ⊎_elim
     (λ before. inr (
@@ -352,7 +353,7 @@ accepted_ends origin bytes q s stop k within accepted =
     cases_le_eq a b le = ⊎_elim inl (λ other. inr (omega arith)) (cases_eq a b)
 
 -- a number text that the bytes begin with ends where the automaton stops, or before that where a byte goes on
-pub ends_at : (bytes : List ℕ) (q : ℕ) (s : State) → StopsAt Start bytes q s → (k : ℕ) → k ≤ length bytes → IsNumberText (take k bytes) → ((k ≡ q) × (is_accepting s ≡ true)) ⊎ ((k < q) × GoesOn (slice_index bytes k))
+pub ends_at : (bytes : List ℕ) (q : ℕ) (s : State) → StopsAt Start bytes q s → (k : ℕ) → k ≤ length bytes → IsNumberText (take k bytes) → ((k ≡ q) × (is_accepting s ≡ true)) ⊎ ((k < q) × ContinuesNumber (slice_index bytes k))
 ends_at bytes q s stop k within text = accepted_ends Start bytes q s stop k within (text_accepted (take k bytes) text)
 
 -- where the automaton stops in a state that accepts nothing, no text can end

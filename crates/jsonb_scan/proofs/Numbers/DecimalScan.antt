@@ -1,4 +1,4 @@
--- Where the parts of an extended decimal end, by index, in facts about each byte.
+-- Where the parts of an extended decimal end, by offset.
 use Rattle.std.proofs.Common.{◌≡◌, ◌≢◌, ◌⊎◌, ℕ, ◌+◌, ◌-◌, ◌<◌, ◌≤◌, true, false, ◌&&◌, zero, suc, List, length, drop, refl, sym, ap, ◌∙◌, inl, inr, ⊎_elim, arith, Ok, Err, true≢false}
 use Rattle.std.specs.Prelude.{slice_index, ◌==◌, nat_lt}
 use Rattle.std.proofs.lemmas.Bool.{cases_eq, cases_lt, cases_Bool, and_parts}

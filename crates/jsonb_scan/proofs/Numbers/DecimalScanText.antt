@@ -1,4 +1,4 @@
--- The text that a scan of an extended decimal found is a decimal number text, of these parts.
+-- The text that a scan of an extended decimal finds is a decimal number.
 use Rattle.std.proofs.Common.{◌≡◌, ◌≢◌, ◌⊎◌, ℕ, ◌+◌, ◌-◌, ◌<◌, ◌≤◌, Bool, true, false, cond, ◌||◌, suc, Option, Some, None, List, [], ◌∷◌, ◌++◌, length, get_or, take, drop, refl, sym, subst, ap, ◌∙◌, inl, inr, ⊎_elim, arith, Ok}
 use Rattle.std.specs.Prelude.{slice_index, slice_range, replicate, MatchOption, ◌==◌, nat_le}
 use Rattle.std.specs.Str.Parse.{AllDigits, digits_value}

@@ -9,7 +9,7 @@ use Rattle.std.proofs.lemmas.List.{append-nil, append_assoc, length-append}
 use Rattle.jsonb_value.proofs.Numbers.DecimalTexts.{digits-after_zeros}
 use Rattle.jsonb_value.specs.Grammar.StandardNumber.{IsSign}
 use Rattle.jsonb_value.specs.Grammar.ExtendedNumber.{fraction_digits, fraction_text, IsDecimalText}
-use Rattle.jsonb_scan.specs.Reading.Number.{sign_end, GoesOn}
+use Rattle.jsonb_scan.specs.Reading.Number.{sign_end, ContinuesNumber}
 use Rattle.jsonb_scan.proofs.Numbers.Steps.{differs, is_digit, is_no_digit}
 use Rattle.jsonb_scan.proofs.Numbers.Scan.{IsDigitRun, IsBareMark}
 use Rattle.jsonb_scan.proofs.Numbers.DecimalScan.{IsZeroRun, IsPointEnd}
@@ -18,11 +18,11 @@ use Rattle.jsonb_scan.proofs.Numbers.ScanStates.{FractionDone, alive_by, bare_ma
 
 -- of the decimal number texts that the bytes begin with none is longer than len, and after each shorter one a byte goes on with a number
 abbrev pub IsLongestDecimal : List ℕ → ℕ → Type 0
-IsLongestDecimal bytes len = (k : ℕ) → k ≤ length bytes → IsDecimalText (take k bytes) → (k ≡ len) ⊎ ((k < len) × GoesOn (slice_index bytes k))
+IsLongestDecimal bytes len = (k : ℕ) → k ≤ length bytes → IsDecimalText (take k bytes) → (k ≡ len) ⊎ ((k < len) × ContinuesNumber (slice_index bytes k))
 
 -- after each decimal number text that the bytes begin with a byte goes on with a number
 abbrev pub NoDecimalEnds : List ℕ → Type 0
-NoDecimalEnds bytes = (k : ℕ) → k ≤ length bytes → IsDecimalText (take k bytes) → GoesOn (slice_index bytes k)
+NoDecimalEnds bytes = (k : ℕ) → k ≤ length bytes → IsDecimalText (take k bytes) → ContinuesNumber (slice_index bytes k)
 
 -- ---- steps
 
@@ -109,9 +109,9 @@ decimal_accepted bytes (sign, zeros, whole, fraction, exponent, parts) =
     ap (run DecimalStart) parts.joined ∙ (run-append DecimalStart sign (zeros ++ (whole ++ (fraction_text fraction ++ exponent))) ∙ (ap (run (run DecimalStart sign)) regroup ∙ run-append (run DecimalStart sign) ((zeros ++ whole) ++ fraction_text fraction) exponent)) in
     ap is_accepting there ∙ exponent_accepted _ exponent ends parts.is_exponent
 
-pub NoDecimalEnds-from_stop : (bytes : List ℕ) (q : ℕ) (s : State) → StopsAt DecimalStart bytes q s → (is_accepting s ≡ true → GoesOn (slice_index bytes q)) → NoDecimalEnds bytes
+pub NoDecimalEnds-from_stop : (bytes : List ℕ) (q : ℕ) (s : State) → StopsAt DecimalStart bytes q s → (is_accepting s ≡ true → ContinuesNumber (slice_index bytes q)) → NoDecimalEnds bytes
 NoDecimalEnds-from_stop bytes q s stop goes k within text =
-    ⊎_elim (λ at. subst (λ i. GoesOn (slice_index bytes i)) (sym at.0) (goes at.1)) (λ before. before.1) (accepted_ends DecimalStart bytes q s stop k within (decimal_accepted (take k bytes) text))
+    ⊎_elim (λ at. subst (λ i. ContinuesNumber (slice_index bytes i)) (sym at.0) (goes at.1)) (λ before. before.1) (accepted_ends DecimalStart bytes q s stop k within (decimal_accepted (take k bytes) text))
 
 pub IsLongestDecimal-from_stop : (bytes : List ℕ) (q : ℕ) (s : State) → StopsAt DecimalStart bytes q s → IsLongestDecimal bytes q
 IsLongestDecimal-from_stop bytes q s stop k within text =

@@ -1,4 +1,4 @@
--- What reading finds of a number text: its parts where there is one, and else that no number text can end.
+-- What is found of a number, and else that no number can end there.
 use Rattle.std.proofs.Common.{◌≡◌, ◌⊎◌, ℕ, ◌+◌, ◌-◌, ◌<◌, ◌≤◌, ◌^◌, Bool, true, false, List, length, take, drop, refl, sym, subst, ap, ◌∙◌, inl, inr, ⊎_elim, arith, Option, Some, None, Ok, Err}
 use Rattle.std.specs.Prelude.{slice_index, slice_range, ◌==◌, nat_lt, nat_le, MatchOption}
 use Rattle.std.specs.Str.Parse.{digits_value}

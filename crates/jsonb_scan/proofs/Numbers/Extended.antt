@@ -1,4 +1,4 @@
--- Reading an extended number gives what the definition says, and the definition's numbers are read so.
+-- Parsing an extended number gives what the grammar says, and the grammar's numbers are parsed so.
 use Rattle.std.proofs.Common.{◌≡◌, ◌≢◌, ◌⊎◌, zero, suc, ℕ, ◌+◌, ◌-◌, ◌<◌, ◌≤◌, true, false, List, [], ◌∷◌, ◌++◌, length, take, drop, refl, sym, subst, ap, ◌∙◌, inl, inr, ⊎_elim, arith, Option, Some, None, Ok, Err}
 use Rattle.std.specs.Prelude.{replicate, slice_index, MatchOption, ◌==◌}
 use Rattle.std.specs.Char.{to_ascii_lowercase}
@@ -15,7 +15,7 @@ use Rattle.jsonb_value.specs.Grammar.ExtendedNumber.{fraction_digits, fraction_t
 use Rattle.jsonb_value.specs.Tree.{Num}
 use Rattle.jsonb_scan.specs.Reading.{Fault, Read}
 use Rattle.jsonb_scan.specs.Reading.Number.{End, sign_end}
-use Rattle.jsonb_scan.specs.Reading.ExtendedNumber.{Scanned, scanned_to, core_start, core_byte, front_end, point_end, behind_end, decimal_end, decimal_at, decimal_to, decimal_scan, hexadecimal_scan, word_scan, is_word_start, hexadecimal_starts, is_hexadecimal_start, extended_scan, extended_number_at, is_extended_start, GoesOnExtended, EndsExtended}
+use Rattle.jsonb_scan.specs.Reading.ExtendedNumber.{Scanned, scanned_to, core_start, core_byte, front_end, point_end, behind_end, decimal_end, decimal_at, decimal_to, decimal_scan, hexadecimal_scan, word_scan, is_word_start, hexadecimal_starts, is_hexadecimal_start, extended_scan, extended_number_at, is_extended_start, ContinuesNumberExtended, EndsExtended}
 use Rattle.jsonb_scan.proofs.Numbers.Steps.{is_digit}
 use Rattle.jsonb_scan.proofs.Numbers.Scan.{exponent_fault_is}
 use Rattle.jsonb_scan.proofs.Numbers.DecimalScan.{DecimalCase, no_digit, second, further, decimal_case, no_digits, second_point, core_within, core_digits, point_here, point_ordered}
@@ -181,7 +181,7 @@ pub data ExtendedFault (size : ℕ) (bytes : List ℕ) (f : Fault) : Type 0 wher
   no_text : IsNumberCode f.code → NoExtendedText bytes → ExtendedFault size bytes f
 
 -- a byte after a number text that doesn't go on with it
-stops_after : (core rest : List ℕ) → EndsExtended rest → ¬ GoesOnExtended (slice_index (core ++ rest) (length core))
+stops_after : (core rest : List ℕ) → EndsExtended rest → ¬ ContinuesNumberExtended (slice_index (core ++ rest) (length core))
 stops_after [] [] ends = ⊎_elim (λ digit. omega (arith, digit)) (⊎_elim (λ point. omega (arith, point)) (λ mark. omega (arith, mark)))
 stops_after [] (b ∷ rest) ends = ends
 stops_after (c ∷ core) rest ends = stops_after core rest ends
@@ -190,7 +190,7 @@ nothing_ends : (bytes : List ℕ) → NoExtendedEnds bytes → NoExtendedText by
 nothing_ends bytes none core after joined text ends =
     let total : length bytes ≡ length core + length after = ap length joined ∙ length-append core after in
     let front : take (length core) bytes ≡ core = ap (take (length core)) joined ∙ take-append_seam core after in
-    stops_after core after ends (subst (λ xs. GoesOnExtended (slice_index xs (length core))) joined (none (length core) (omega (arith, total)) (subst IsExtendedText (sym front) text)))
+    stops_after core after ends (subst (λ xs. ContinuesNumberExtended (slice_index xs (length core))) joined (none (length core) (omega (arith, total)) (subst IsExtendedText (sym front) text)))
 
 -- what reading answers, by what was scanned
 abbrev IsAnswer : ℕ → List ℕ → Read Num → Type 0

@@ -1,4 +1,4 @@
--- An extended number text has its parts in one way.
+-- An extended number has its parts in one way.
 use Rattle.std.proofs.Common.{◌≡◌, ◌≢◌, ℕ, ◌<◌, zero, suc, Option, Some, None, List, [], ◌∷◌, ◌++◌, length, take, drop, refl, sym, subst, ap, ◌∙◌, inl, inr, ⊎_elim, arith, length-append}
 use Rattle.std.specs.Prelude.{slice_index, replicate}
 use Rattle.std.specs.Char.{digit_value}

@@ -1,4 +1,4 @@
--- The number texts of extended JSON by the first byte after their sign: decimals, hexadecimals and words begin differently.
+-- Decimals, hexadecimals, `nan` and `infinity` begin differently.
 use Rattle.std.proofs.Common.{◌≡◌, ◌≢◌, ◌⊎◌, ℕ, ◌+◌, ◌<◌, ◌≤◌, false, List, [], ◌∷◌, ◌++◌, length, take, drop, refl, sym, subst, ap, ◌∙◌, inl, inr, ⊎_elim, arith, Some, None, Ok, Err}
 use Rattle.std.specs.Prelude.{slice_index, codes, ◌==◌}
 use Rattle.std.specs.Char.{digit_value, to_ascii_lowercase}
@@ -9,8 +9,8 @@ use Rattle.std.proofs.lemmas.Str.{digit_value_digit}
 use Rattle.jsonb_value.specs.Code.{Code, invalid_eof, invalid_number_value, expected_some_ident}
 use Rattle.jsonb_value.specs.Grammar.StandardNumber.{IsSign}
 use Rattle.jsonb_value.specs.Grammar.ExtendedNumber.{is_minus, fraction_text, IsDecimalText, IsHexadecimalText, IsWordText, Spells, IsExtendedNumber, IsExtendedUncarried, IsExtendedText}
-use Rattle.jsonb_scan.specs.Reading.Number.{sign_end, GoesOn}
-use Rattle.jsonb_scan.specs.Reading.ExtendedNumber.{Scanned, core_byte, GoesOnExtended}
+use Rattle.jsonb_scan.specs.Reading.Number.{sign_end, ContinuesNumber}
+use Rattle.jsonb_scan.specs.Reading.ExtendedNumber.{Scanned, core_byte, ContinuesNumberExtended}
 use Rattle.jsonb_scan.proofs.Numbers.Steps.{differs}
 use Rattle.jsonb_scan.proofs.Numbers.Automaton.{DecimalStart, Digits, Dead, next, state_at, StopsAt, accepted_ends}
 use Rattle.jsonb_scan.proofs.Numbers.ScanStates.{alive_by}
@@ -22,11 +22,11 @@ IsWordStart b = (to_ascii_lowercase b ≡ 110) ⊎ (to_ascii_lowercase b ≡ 105
 
 -- of the number texts that the bytes begin with none is longer than len, and after each shorter one a byte goes on with a number
 abbrev pub IsLongestExtended : List ℕ → ℕ → Type 0
-IsLongestExtended bytes len = (k : ℕ) → k ≤ length bytes → IsExtendedText (take k bytes) → (k ≡ len) ⊎ ((k < len) × GoesOnExtended (slice_index bytes k))
+IsLongestExtended bytes len = (k : ℕ) → k ≤ length bytes → IsExtendedText (take k bytes) → (k ≡ len) ⊎ ((k < len) × ContinuesNumberExtended (slice_index bytes k))
 
 -- after each number text that the bytes begin with a byte goes on with a number
 abbrev pub NoExtendedEnds : List ℕ → Type 0
-NoExtendedEnds bytes = (k : ℕ) → k ≤ length bytes → IsExtendedText (take k bytes) → GoesOnExtended (slice_index bytes k)
+NoExtendedEnds bytes = (k : ℕ) → k ≤ length bytes → IsExtendedText (take k bytes) → ContinuesNumberExtended (slice_index bytes k)
 
 -- the text up to end is of this kind, and the longest
 pub record ReadsText (bytes : List ℕ) (end : ℕ) (P : List ℕ → Type 0) : Type 0 where
@@ -132,7 +132,7 @@ found_letter bytes k f = ⊎_elim (λ i. inr i.1) (λ n. inl n.2) f.kind
 
 -- ---- bytes that go on
 
-pub goes_on_more : (b : ℕ) → GoesOn b → GoesOnExtended b
+pub goes_on_more : (b : ℕ) → ContinuesNumber b → ContinuesNumberExtended b
 goes_on_more b (inl digit) = inl (omega (arith, digit_value_digit b digit, digit))
 goes_on_more b (inr (inl point)) = inr (inl point)
 goes_on_more b (inr (inr (inl e))) = inl (subst (λ x. digit_value x < 16) (sym e) (omega arith))
@@ -154,7 +154,7 @@ zero_state bytes sign r joined (inr (inl a)) = rw (joined, a) refl
 zero_state bytes sign r joined (inr (inr a)) = rw (joined, a) refl
 
 -- before the x of a hexadecimal only decimals end
-pub decimals_before_mark : (bytes sign : List ℕ) (mark : ℕ) (rest : List ℕ) → bytes ≡ sign ++ (48 ∷ mark ∷ rest) → IsSign sign → to_ascii_lowercase mark ≡ 120 → (k : ℕ) → k ≤ length bytes → IsDecimalText (take k bytes) → (k < length sign + 2) × GoesOnExtended (slice_index bytes k)
+pub decimals_before_mark : (bytes sign : List ℕ) (mark : ℕ) (rest : List ℕ) → bytes ≡ sign ++ (48 ∷ mark ∷ rest) → IsSign sign → to_ascii_lowercase mark ≡ 120 → (k : ℕ) → k ≤ length bytes → IsDecimalText (take k bytes) → (k < length sign + 2) × ContinuesNumberExtended (slice_index bytes k)
 decimals_before_mark bytes sign mark rest joined is_sign is_mark k within text =
     let at_mark : slice_index bytes (length sign + 1) ≡ mark = ap (λ z. slice_index z (length sign + 1)) joined ∙ get_or-append-add sign (48 ∷ mark ∷ rest) 1 0 in
     let stop : StopsAt DecimalStart bytes (length sign + 1) Digits = record {
@@ -167,7 +167,7 @@ decimals_before_mark bytes sign mark rest joined is_sign is_mark k within text =
     (λ before. (omega (arith, before.0), goes_on_more (slice_index bytes k) before.1)) (accepted_ends DecimalStart bytes (length sign + 1) Digits stop k within (decimal_accepted (take k bytes) text))
 
 -- before the first letter of a word no decimal ends
-pub decimals_before_letter : (bytes : List ℕ) → sign_end bytes 0 ≤ length bytes → IsWordStart (core_byte bytes) → (k : ℕ) → k ≤ length bytes → IsDecimalText (take k bytes) → (k < sign_end bytes 0) × GoesOnExtended (slice_index bytes k)
+pub decimals_before_letter : (bytes : List ℕ) → sign_end bytes 0 ≤ length bytes → IsWordStart (core_byte bytes) → (k : ℕ) → k ≤ length bytes → IsDecimalText (take k bytes) → (k < sign_end bytes 0) × ContinuesNumberExtended (slice_index bytes k)
 decimals_before_letter bytes inside letter k within text =
     let is_due = decimal_due bytes (sign_end bytes 0) refl inside in
     let large : 58 ≤ core_byte bytes = letter_is (core_byte bytes) letter in

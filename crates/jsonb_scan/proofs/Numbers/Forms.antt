@@ -1,4 +1,4 @@
--- The form of a number, by its scale, precision and whole number.
+-- The form of a number, by its scale, precision and integer.
 use Rattle.std.proofs.Common.{◌≡◌, ◌≢◌, ℕ, ◌^◌, ◌<◌, ◌≤◌, Bool, true, false, zero, suc, refl, ⊎_elim, arith, ℤ, pos, neg_ℤ}
 use Rattle.std.specs.Prelude.{◌==◌, nat_le, FitsSigned}
 use Rattle.std.specs.Int.{w64}

@@ -1,4 +1,4 @@
--- What reading a hexadecimal as a function answers, case by case.
+-- The result of parsing a hexadecimal, case by case.
 use Rattle.std.proofs.Common.{◌⊎◌, inl, inr, ◌≡◌, ◌≢◌, ℕ, ◌+◌, ◌<◌, ◌≤◌, ◌^◌, Bool, true, false, Option, Some, None, List, [], ◌∷◌, length, take, drop, refl, sym, ap, ◌∙◌, arith, Ok, ⊎_elim, suc}
 use Rattle.std.specs.Prelude.{slice_index, ◌==◌, is_some}
 use Rattle.std.specs.Char.{digit_value}

@@ -1,4 +1,4 @@
--- What reading a hexadecimal answers means the same as the definition says.
+-- Parsing a hexadecimal gives what the grammar says.
 use Rattle.std.proofs.Common.{◌≡◌, ◌≢◌, ◌⊎◌, ℕ, ◌+◌, ◌<◌, ◌≤◌, ◌^◌, Bool, Option, Some, None, List, ◌∷◌, ◌++◌, length, take, drop, refl, sym, subst, ap, ◌∙◌, inl, inr, ⊎_elim, arith, Ok, add-zero}
 use Rattle.std.specs.Prelude.{slice_index}
 use Rattle.std.specs.Char.{digit_value, to_ascii_lowercase}
@@ -8,7 +8,7 @@ use Rattle.std.proofs.lemmas.List.{append_assoc, take-append-drop, length-append
 use Rattle.jsonb_value.specs.Grammar.StandardNumber.{IsSign}
 use Rattle.jsonb_value.specs.Grammar.ExtendedNumber.{is_minus, fraction_text, hexadecimal_number, HasHexadecimalParts, IsExtendedText}
 use Rattle.jsonb_value.specs.Tree.{Num}
-use Rattle.jsonb_scan.specs.Reading.ExtendedNumber.{invalid, core_byte, hexadecimal_length, hexadecimal_fits, fraction_scan, hexadecimal_scan, GoesOnExtended}
+use Rattle.jsonb_scan.specs.Reading.ExtendedNumber.{invalid, core_byte, hexadecimal_length, hexadecimal_fits, fraction_scan, hexadecimal_scan, ContinuesNumberExtended}
 use Rattle.jsonb_scan.proofs.Numbers.HexadecimalAnswers.{without_number, taken_digits, fraction_without_digits, fraction_after_past, fraction_not_carried, fraction_past, hexadecimal_without_digits, hexadecimal_with_point, hexadecimal_past, hexadecimal_whole_at}
 use Rattle.jsonb_scan.proofs.Numbers.HexadecimalTexts.{IsHexadecimalScan, AreGood, scan_length, hexadecimal_ends}
 use Rattle.jsonb_scan.proofs.Numbers.ExtendedTexts.{IsWordStart, IsLongestExtended, NoExtendedEnds, ScansExtended, core_of, letter_is, word_found, found_letter, decimals_before_mark}
@@ -22,7 +22,7 @@ scan_core bytes sign mark whole fraction after scan word =
     omega (arith, core.byte, letter_is (core_byte bytes) word)
 
 text_in_scan : (bytes sign : List ℕ) (mark : ℕ) (whole : List ℕ) (fraction : Option (List ℕ)) (after : List ℕ) → IsHexadecimalScan bytes sign mark whole fraction after →
-    (k : ℕ) → k ≤ length bytes → IsExtendedText (take k bytes) → ((k ≡ scan_length sign whole fraction) × AreGood whole fraction) ⊎ ((k < scan_length sign whole fraction) × GoesOnExtended (slice_index bytes k))
+    (k : ℕ) → k ≤ length bytes → IsExtendedText (take k bytes) → ((k ≡ scan_length sign whole fraction) × AreGood whole fraction) ⊎ ((k < scan_length sign whole fraction) × ContinuesNumberExtended (slice_index bytes k))
 text_in_scan bytes sign mark whole fraction after scan k within (inl decimal) =
     let before = decimals_before_mark bytes sign mark (whole ++ (fraction_text fraction ++ after)) scan.joined scan.is_sign scan.is_mark k within decimal in
     inr (omega (arith, before.0), before.1)

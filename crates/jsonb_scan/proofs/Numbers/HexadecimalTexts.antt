@@ -1,4 +1,4 @@
--- Which number texts a list begins with, where its first bytes after the sign are a zero and an x.
+-- Which numbers begin with a zero and an x after the sign.
 use Rattle.std.proofs.Common.{◌≡◌, ◌≢◌, ◌⊎◌, ℕ, ◌+◌, ◌<◌, ◌≤◌, Option, Some, None, List, [], ◌∷◌, ◌++◌, length, take, drop, refl, sym, subst, ap, ◌∙◌, inl, inr, ⊎_elim, arith, add-zero}
 use Rattle.std.specs.Prelude.{slice_index, IfSome}
 use Rattle.std.specs.Char.{digit_value, to_ascii_lowercase}
@@ -6,7 +6,7 @@ use Rattle.std.specs.Str.Parse.{AllDigits, IsNumeral}
 use Rattle.std.proofs.lemmas.List.{append_assoc, take-append-drop, length-append, length-take-le, get_or-drop}
 use Rattle.jsonb_value.specs.Grammar.StandardNumber.{IsSign}
 use Rattle.jsonb_value.specs.Grammar.ExtendedNumber.{fraction_digits, fraction_text, FitsHexadecimal, IsHexadecimalText}
-use Rattle.jsonb_scan.specs.Reading.ExtendedNumber.{GoesOnExtended}
+use Rattle.jsonb_scan.specs.Reading.ExtendedNumber.{ContinuesNumberExtended}
 
 -- ---- runs of digits
 
@@ -59,10 +59,10 @@ fraction_stops : (fraction : Option (List ℕ)) (after : List ℕ) → 16 ≤ di
 fraction_stops None after stops = stops
 fraction_stops (Some ds) after stops = omega arith
 
-abbrev EndsOrGoesOn : Option (List ℕ) → Option (List ℕ) → List ℕ → Type 0
-EndsOrGoesOn f g m = (f ≡ g) ⊎ ((length (fraction_text f) < length (fraction_text g)) × GoesOnExtended (slice_index m 0))
+abbrev EndsOrContinuesNumber : Option (List ℕ) → Option (List ℕ) → List ℕ → Type 0
+EndsOrContinuesNumber f g m = (f ≡ g) ⊎ ((length (fraction_text f) < length (fraction_text g)) × ContinuesNumberExtended (slice_index m 0))
 
-fractions_end : (f g : Option (List ℕ)) (m after : List ℕ) → AllDigits 16 (fraction_digits f) → AllDigits 16 (fraction_digits g) → 16 ≤ digit_value (slice_index after 0) → (g ≡ None → slice_index after 0 ≢ 46) → fraction_text f ++ m ≡ fraction_text g ++ after → EndsOrGoesOn f g m
+fractions_end : (f g : Option (List ℕ)) (m after : List ℕ) → AllDigits 16 (fraction_digits f) → AllDigits 16 (fraction_digits g) → 16 ≤ digit_value (slice_index after 0) → (g ≡ None → slice_index after 0 ≢ 46) → fraction_text f ++ m ≡ fraction_text g ++ after → EndsOrContinuesNumber f g m
 fractions_end None None m after h k stops no_point same = inl refl
 fractions_end None (Some g) m after h k stops no_point same = inr (omega arith, inr (inl (ap (λ z. slice_index z 0) same)))
 fractions_end (Some f) None m after h k stops no_point same = absurd (no_point refl (sym (ap (λ z. slice_index z 0) same)))
@@ -81,7 +81,7 @@ digits_of_some (Some f) h = h.1
 
 -- a hexadecimal text that the bytes begin with ends where the digits do, or before that where a byte goes on
 pub hexadecimal_ends : (bytes sign : List ℕ) (mark : ℕ) (whole : List ℕ) (fraction : Option (List ℕ)) (after : List ℕ) → IsHexadecimalScan bytes sign mark whole fraction after →
-    (k : ℕ) → k ≤ length bytes → IsHexadecimalText (take k bytes) → ((k ≡ scan_length sign whole fraction) × AreGood whole fraction) ⊎ ((k < scan_length sign whole fraction) × GoesOnExtended (slice_index bytes k))
+    (k : ℕ) → k ≤ length bytes → IsHexadecimalText (take k bytes) → ((k ≡ scan_length sign whole fraction) × AreGood whole fraction) ⊎ ((k < scan_length sign whole fraction) × ContinuesNumberExtended (slice_index bytes k))
 hexadecimal_ends bytes sign mark whole fraction after scan k within (sign', mark', whole', fraction', parts) =
     let m = drop k bytes in
     let spelled : sign' ++ (48 ∷ mark' ∷ (whole' ++ (fraction_text fraction' ++ drop k bytes))) ≡ bytes =
@@ -100,11 +100,11 @@ hexadecimal_ends bytes sign mark whole fraction after scan k within (sign', mark
         fraction_fits = subst (λ f. FitsHexadecimal (fraction_digits f)) same parts.fraction_fits;
       },
     ))
-    (λ shorter. inr (omega (arith, long, ap length front.0, ap length all.0, shorter.0), subst GoesOnExtended (sym next_byte) shorter.1))
+    (λ shorter. inr (omega (arith, long, ap length front.0, ap length all.0, shorter.0), subst ContinuesNumberExtended (sym next_byte) shorter.1))
     (fractions_end fraction' fraction (drop k bytes) after (digits_of_some fraction' parts.digits_behind) scan.digits_behind scan.stops scan.no_point all.1))
     (λ less.
     let behind = digit_behind fraction' (drop k bytes) less.1 in
-    inr (omega (arith, long, ap length front.0, less.0, ap (λ f. length (fraction_text f)) behind.0), subst GoesOnExtended (sym next_byte) (inl behind.1)))
+    inr (omega (arith, long, ap length front.0, less.0, ap (λ f. length (fraction_text f)) behind.0), subst ContinuesNumberExtended (sym next_byte) (inl behind.1)))
     (runs_end whole' whole (fraction_text fraction' ++ drop k bytes) (fraction_text fraction ++ after) parts.are_digits.1 scan.whole_digits (fraction_stops fraction after scan.stops) front.3)
   where
     text_length : (k : ℕ) (bytes sign : List ℕ) (mark : ℕ) (whole rest : List ℕ) → k ≤ length bytes → take k bytes ≡ sign ++ (48 ∷ mark ∷ (whole ++ rest)) → k ≡ length sign + (2 + (length whole + length rest))

@@ -1,4 +1,4 @@
--- Runs of bytes that pass a test, by index. No byte past the end passes.
+-- Where a run of bytes that meet a condition ends, by offset. No byte past the end passes.
 use Rattle.std.proofs.Common.{◌≡◌, ℕ, ◌+◌, ◌-◌, ◌<◌, ◌≤◌, Bool, true, false, true≢false, zero, suc, List, [], ◌∷◌, length, get_or, drop, sym, ap, ◌∙◌, ⊎_elim, arith, get_or-drop}
 use Rattle.std.specs.Prelude.{slice_index}
 use Rattle.std.specs.List.{prefix_len}

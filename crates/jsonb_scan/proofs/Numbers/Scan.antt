@@ -1,4 +1,4 @@
--- Where the parts of a number text end, by index, in facts about each byte.
+-- Where the parts of a number end, by offset.
 use Rattle.std.specs.Char.{is_ascii_digit}
 use Rattle.std.proofs.Common.{◌≡◌, ◌≢◌, ◌⊎◌, ℕ, ◌+◌, ◌<◌, ◌≤◌, true, ◌||◌, zero, suc, List, [], ◌∷◌, length, drop, refl, sym, subst, inl, inr, ⊎_elim, arith, Ok, Err, true≢false, ap, ◌∙◌}
 use Rattle.std.specs.Prelude.{slice_index, ◌==◌}

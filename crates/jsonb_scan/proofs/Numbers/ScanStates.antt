@@ -6,7 +6,7 @@ use Rattle.std.proofs.lemmas.Bool.{cases_eq, cases_Bool, false≢true}
 use Rattle.std.proofs.lemmas.Bool.Decides.{nat_tests}
 use Rattle.jsonb_value.specs.Grammar.StandardNumber.{IsExponentMark}
 use Rattle.jsonb_scan.proofs.Numbers.Scan.{IsDigitRun, IsFractionEnd, IsBarePoint, IsExponentEnd, IsBareMark}
-use Rattle.jsonb_scan.specs.Reading.Number.{sign_end, GoesOn}
+use Rattle.jsonb_scan.specs.Reading.Number.{sign_end, ContinuesNumber}
 use Rattle.jsonb_scan.proofs.Numbers.Steps.{differs, is_no_digit, is_no_mark, sign_end_ge}
 use Rattle.jsonb_scan.proofs.Numbers.Automaton.{State, Start, Minus, Zero, Whole, Point, Fraction, Mark, MarkSign, Exponent, DecimalStart, Signed, Digits, BarePoint, Dead, next, from_first, is_accepting, state_at, state_at-next, state_over_digits, NoneEnds, zero_first, digit_first, no_digit_first, start_unsigned, whole_stays, fraction_stays, exponent_stays, point_digit, mark_digit, mark_sign_digit, EndsWhole, EndsDigits, EndsFraction, after_fraction_mark, StopsAt, ends_at, NoneEnds-from_stop, after_whole_point}
 
@@ -83,7 +83,7 @@ fault_needless_zero bytes start end is_due digits zero_byte more k within text =
     let there : state_at Start bytes (start + 1) ≡ Zero = after_first bytes start is_due (omega (arith, digits.within)) ∙ zero_first (slice_index bytes start) zero_byte in
     let digit = digits.digits (start + 1) (omega arith) more in
     let stop : StopsAt Start bytes (start + 1) Zero = record { within = omega (arith, digits.within); state = there; alive = alive_by Zero Zero refl (omega arith); stops = digit_stops_zero (slice_index bytes (start + 1)) digit } in
-    ⊎_elim (λ at. subst (λ i. GoesOn (slice_index bytes i)) (sym at.0) (inl digit)) (λ before. before.1) (ends_at bytes (start + 1) Zero stop k within text)
+    ⊎_elim (λ at. subst (λ i. ContinuesNumber (slice_index bytes i)) (sym at.0) (inl digit)) (λ before. before.1) (ends_at bytes (start + 1) Zero stop k within text)
 
 -- the whole part ends in a state of its own
 pub whole_state : (bytes : List ℕ) (start end : ℕ) → WholePartIsDue bytes start → IsDigitRun bytes start end → start < end → (slice_index bytes start ≡ 48 → end ≡ start + 1) → EndsWhole (state_at Start bytes end)

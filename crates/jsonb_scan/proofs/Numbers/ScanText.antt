@@ -1,4 +1,4 @@
--- The text that a scan found is a number text, of these parts.
+-- The text that a scan finds is a number.
 use Rattle.std.proofs.Common.{◌≡◌, ◌≢◌, ◌⊎◌, ℕ, ◌+◌, ◌-◌, ◌<◌, ◌≤◌, cond, ◌||◌, suc, List, [], ◌∷◌, ◌++◌, length, get_or, take, drop, refl, sym, subst, ap, ◌∙◌, inl, inr, ⊎_elim, arith}
 use Rattle.std.specs.Prelude.{slice_index, slice_range, ◌==◌}
 use Rattle.std.specs.Int.{IsInRange, from_bool}

@@ -1,4 +1,4 @@
--- What the scan of an extended number finds, against reading it on lists.
+-- What the code's scan of an extended number finds is what the specification finds.
 use Rattle.std.proofs.Common.{◌≡◌, ◌≢◌, ℕ, ◌+◌, ◌-◌, ◌*◌, ◌^◌, ◌<◌, ◌≤◌, Bool, true, false, ◌&&◌, Some, None, List, length, drop, refl, sym, subst, ap, ◌∙◌, inl, inr, ◌⊎◌, arith, Ok, Err}
 use Rattle.std.specs.Prelude.{slice_index, slice_range, ◌==◌, nat_lt, nat_le}
 use Rattle.std.specs.Str.Parse.{AllDigits, digits_value, digits_value_after}

@@ -1,4 +1,4 @@
--- Reading a decimal of few digits at once.
+-- Parsing a decimal of few digits at once gives the same.
 use Rattle.std.proofs.Common.{◌≡◌, ◌≢◌, ◌⊎◌, ℕ, ◌+◌, ◌-◌, ◌^◌, ◌<◌, ◌≤◌, Bool, true, false, ◌&&◌, Some, List, [], ◌++◌, length, take, drop, refl, sym, subst, ap, ◌∙◌, inl, inr, ⊎_elim, arith, Ok}
 use Rattle.std.specs.Prelude.{slice_index, slice_range, ◌==◌, nat_lt, nat_le}
 use Rattle.std.specs.Char.{to_ascii_lowercase}
@@ -12,7 +12,7 @@ use Rattle.jsonb_value.specs.Grammar.StandardNumber.{IsExponentMark}
 use Rattle.jsonb_value.specs.Grammar.ExtendedNumber.{is_minus, decimal_number}
 use Rattle.jsonb_value.specs.Number.Signed.{signed_by}
 use Rattle.jsonb_value.specs.Tree.{Num}
-use Rattle.jsonb_scan.specs.Reading.Number.{FollowsWhole, digits_length, digits_from, sign_end}
+use Rattle.jsonb_scan.specs.Reading.Number.{ContinuesAfterInteger, digits_length, digits_from, sign_end}
 use Rattle.jsonb_scan.specs.Reading.ExtendedNumber.{FollowsDigits, core_start, core_byte, zeros_end, front_end, point_end, behind_end, scale_at, precision_at, lacks_digits, has_second_point, decimal_end, all_digits, decimal_at, decimal_to, decimal_scan, is_word_start, is_hexadecimal_start, extended_scan}
 use Rattle.jsonb_scan.proofs.Numbers.DecimalScan.{HasDigits, core_zeros, core_digits, counted_digits, point_here, point_ordered, digits_tested}
 use Rattle.jsonb_scan.proofs.Numbers.DecimalScanText.{behind_digits, digits_value_same}
@@ -192,7 +192,7 @@ behind_read bytes ds start len value total all next f byte point same long is =
 pub behind_few : (bytes : List ℕ) (start len value total all : ℕ) → BehindRead bytes start len value total all → precision_at bytes ≤ total
 behind_few bytes start len value total all b = omega (arith, b.total_is, found_end bytes start len value b.front, b.front.start_is, (core_zeros bytes).ordered)
 
-pub short_behind : (bytes : List ℕ) (start len value total all next minus : ℕ) (n : Num) → BehindRead bytes start len value total all → (total ≡ 0 → ⊥) → total ≤ 18 → next ≡ slice_index bytes (start + len + 1 + (total - len)) → ¬ FollowsWhole next → minus ≡ slice_index bytes 0 →
+pub short_behind : (bytes : List ℕ) (start len value total all next minus : ℕ) (n : Num) → BehindRead bytes start len value total all → (total ≡ 0 → ⊥) → total ≤ 18 → next ≡ slice_index bytes (start + len + 1 + (total - len)) → ¬ ContinuesAfterInteger next → minus ≡ slice_index bytes 0 →
     ((precision : ℕ) → precision ≤ 18 → all < 10 ^ precision → n ≡ decimal_number (total - len) precision (signed_by (minus == 45) all)) → extended_scan bytes ≡ Ok (Some n, start + len + 1 + (total - len))
 short_behind bytes start len value total all next minus n b some few byte stops sign number =
     let end = found_end bytes start len value b.front in

@@ -1,4 +1,4 @@
--- Reading a standard number gives what the definition says, and the definition's numbers are read so.
+-- Parsing a standard number gives what the grammar says, and the grammar's numbers are parsed so.
 use Rattle.std.proofs.Common.{◌≡◌, ◌⊎◌, ℕ, ◌+◌, ◌-◌, ◌<◌, ◌≤◌, Bool, true, false, List, [], ◌∷◌, ◌++◌, length, take, drop, refl, sym, subst, ap, ◌∙◌, inl, inr, ⊎_elim, arith, Option, Some, None, Ok, Err}
 use Rattle.std.specs.Prelude.{slice_index, MatchOption}
 use Rattle.std.specs.Int.{IsInRange}
@@ -10,7 +10,7 @@ use Rattle.jsonb_value.specs.Code.{invalid_number_value, number_not_carried}
 use Rattle.jsonb_value.specs.Tree.{Num}
 use Rattle.jsonb_value.specs.Grammar.StandardNumber.{IsWhole, IsFraction, IsExponent, HasParts, IsNumberText, IsInteger, IsStandardNumber, IsStandardUncarried}
 use Rattle.jsonb_scan.specs.Reading.{Fault, Read}
-use Rattle.jsonb_scan.specs.Reading.Number.{FollowsWhole, GoesOn, EndsNumber, is_number_start, End, standard_end, integer_at, carried_at, number_to, standard_number_at}
+use Rattle.jsonb_scan.specs.Reading.Number.{ContinuesAfterInteger, ContinuesNumber, IsNumberBoundary, is_number_start, End, standard_end, integer_at, carried_at, number_to, standard_number_at}
 use Rattle.jsonb_scan.proofs.Numbers.Steps.{is_digit, read_fault}
 use Rattle.jsonb_scan.proofs.Numbers.Automaton.{NoneEnds, IsLongest}
 use Rattle.jsonb_scan.proofs.Numbers.ScanText.{scan_longest, scan_end_within}
@@ -52,14 +52,14 @@ integer_unique : (negative : Bool) (value : ℕ) (m n : Num) → IsInteger negat
 integer_unique false value m n first second = first.1 ∙ sym second.1
 integer_unique true value m n first second = first.1 ∙ sym second.1
 
-no_digit_follows : (b : ℕ) → FollowsWhole b → IsInRange 48 57 b → ⊥
+no_digit_follows : (b : ℕ) → ContinuesAfterInteger b → IsInRange 48 57 b → ⊥
 no_digit_follows b (inl point) digit = omega (arith, point, digit)
 no_digit_follows b (inr (inl small)) digit = omega (arith, small, digit)
 no_digit_follows b (inr (inr great)) digit = omega (arith, great, digit)
 
 -- nothing, or a byte that follows a whole part
 abbrev pub IsTail : List ℕ → Type 0
-IsTail bytes = (bytes ≡ []) ⊎ ((b : ℕ) × (bs : List ℕ) × (bytes ≡ b ∷ bs) × FollowsWhole b)
+IsTail bytes = (bytes ≡ []) ⊎ ((b : ℕ) × (bs : List ℕ) × (bytes ≡ b ∷ bs) × ContinuesAfterInteger b)
 
 tail_of : (fraction exponent : List ℕ) → IsFraction fraction → IsExponent exponent → IsTail (fraction ++ exponent)
 tail_of fraction exponent (inl none) (inl no_exponent) = inl (rw (none, no_exponent) refl)
@@ -167,7 +167,7 @@ pub record UncarriedRead (size : ℕ) (bytes : List ℕ) (place : ℕ) : Type 0 
 
 -- no number text can end here
 abbrev pub NoNumberEnds : List ℕ → Type 0
-NoNumberEnds bytes = (core after : List ℕ) → bytes ≡ core ++ after → IsNumberText core → ¬ EndsNumber after
+NoNumberEnds bytes = (core after : List ℕ) → bytes ≡ core ++ after → IsNumberText core → ¬ IsNumberBoundary after
 
 -- what a fault of reading says
 pub data FaultRead (size : ℕ) (bytes : List ℕ) (f : Fault) : Type 0 where
@@ -175,7 +175,7 @@ pub data FaultRead (size : ℕ) (bytes : List ℕ) (f : Fault) : Type 0 where
   no_number : f.code ≡ invalid_number_value → NoNumberEnds bytes → FaultRead size bytes f
 
 -- a byte after a number text that doesn't go on with it
-stops_after : (core rest : List ℕ) → EndsNumber rest → ¬ GoesOn (slice_index (core ++ rest) (length core))
+stops_after : (core rest : List ℕ) → IsNumberBoundary rest → ¬ ContinuesNumber (slice_index (core ++ rest) (length core))
 stops_after [] [] ends = ⊎_elim (λ digit. omega (arith, digit)) (⊎_elim (λ point. omega (arith, point)) (⊎_elim (λ small. omega (arith, small)) (λ great. omega (arith, great))))
 stops_after [] (b ∷ rest) ends = ends
 stops_after (c ∷ core) rest ends = stops_after core rest ends
@@ -184,7 +184,7 @@ nothing_ends : (bytes : List ℕ) → NoneEnds bytes → NoNumberEnds bytes
 nothing_ends bytes none core after joined text ends =
     let total : length bytes ≡ length core + length after = ap length joined ∙ length-append core after in
     let front : take (length core) bytes ≡ core = ap (take (length core)) joined ∙ take-append_seam core after in
-    stops_after core after ends (subst (λ xs. GoesOn (slice_index xs (length core))) joined (none (length core) (omega (arith, total)) (subst IsNumberText (sym front) text)))
+    stops_after core after ends (subst (λ xs. ContinuesNumber (slice_index xs (length core))) joined (none (length core) (omega (arith, total)) (subst IsNumberText (sym front) text)))
 
 -- what reading answers, by the end that was found
 abbrev IsAnswer : ℕ → List ℕ → Read Num → Type 0
@@ -231,7 +231,7 @@ pub number_faults : (size : ℕ) (bytes : List ℕ) (f : Fault) → standard_num
 number_faults size bytes f at = answer_is size bytes (Err f) at
 
 -- A number text that nothing goes on with is read so.
-pub number_complete : (size : ℕ) (core rest : List ℕ) (n : Num) → IsStandardNumber core n → EndsNumber rest → standard_number_at size (core ++ rest) ≡ Ok (n, rest)
+pub number_complete : (size : ℕ) (core rest : List ℕ) (n : Num) → IsStandardNumber core n → IsNumberBoundary rest → standard_number_at size (core ++ rest) ≡ Ok (n, rest)
 number_complete size core rest n number ends = by_end (standard_end (core ++ rest)) refl
   where
     text : IsNumberText (take (length core) (core ++ rest))

@@ -1,4 +1,4 @@
--- Reading a number on lists, step by step: where digits end, and where a number text does.
+-- Where digits end, and where a number does, byte by byte.
 use Rattle.std.proofs.Common.{◌≡◌, ◌≢◌, ◌⊎◌, ℕ, ◌+◌, ◌-◌, ◌*◌, ◌^◌, ◌<◌, ◌≤◌, true, false, ◌||◌, zero, suc, List, [], ◌∷◌, length, take, drop, refl, sym, subst, ap, ◌∙◌, inl, inr, ⊎_elim, arith, Option, None, Result, Ok, Err}
 use Rattle.std.specs.Prelude.{slice_index, ◌==◌, nat_lt}
 use Rattle.std.specs.Char.{is_ascii_digit}
@@ -16,7 +16,7 @@ use Rattle.jsonb_value.specs.Code.{invalid_number_value, number_not_carried}
 use Rattle.jsonb_value.specs.Grammar.StandardNumber.{IsExponentMark}
 use Rattle.jsonb_value.specs.Tree.{Num}
 use Rattle.jsonb_scan.specs.Reading.{fault}
-use Rattle.jsonb_scan.specs.Reading.Number.{FollowsWhole, End, then_from, digits_length, digits_from, sign_end, exponent_from, fraction_from, whole_from, has_minus, whole_start, standard_end, integer_of, whole_digits, integer_at, carried_at, number_to, standard_number_at}
+use Rattle.jsonb_scan.specs.Reading.Number.{ContinuesAfterInteger, End, then_from, digits_length, digits_from, sign_end, exponent_from, fraction_from, whole_from, has_minus, whole_start, standard_end, integer_of, whole_digits, integer_at, carried_at, number_to, standard_number_at}
 use Rattle.jsonb_scan.proofs.Numbers.Runs.{run_more, run_stop}
 
 -- ---- bytes
@@ -256,7 +256,7 @@ then_ok (Ok middle) f end at = (middle, refl, at)
 then_ok (Err place) f end at = absurd (cc)
 
 -- a point or a mark after the whole part takes the end on
-past_whole : (bs : List ℕ) (start end : ℕ) → FollowsWhole (slice_index bs start) → then_from (fraction_from bs start) (exponent_from bs) ≡ Ok end → start < end
+past_whole : (bs : List ℕ) (start end : ℕ) → ContinuesAfterInteger (slice_index bs start) → then_from (fraction_from bs start) (exponent_from bs) ≡ Ok end → start < end
 past_whole bs start end (inl point) at =
     let parts = then_ok (fraction_from bs start) (exponent_from bs) end at in
     omega (arith, fraction_at_point bs start parts.0 point parts.1, exponent_ge bs parts.0 end parts.2)
@@ -285,21 +285,21 @@ unfolding standard_number_at
 read_past size end bs has_whole at =
     ap (number_to size bs) (whole_found bs has_whole ∙ ap (λ i. then_from (fraction_from bs i) (exponent_from bs)) (sym at))
 
-uncarried_in : (idx end last : ℕ) (buf : List ℕ) → idx ≤ length buf → end ≡ whole_end (drop idx buf) → FollowsWhole (slice_index (drop idx buf) end) → then_from (fraction_from (drop idx buf) end) (exponent_from (drop idx buf)) ≡ Ok last → last ≤ length (drop idx buf) → number_to (length buf) (drop idx buf) (Ok last) ≡ Err (record { code = number_not_carried; place = idx + last })
+uncarried_in : (idx end last : ℕ) (buf : List ℕ) → idx ≤ length buf → end ≡ whole_end (drop idx buf) → ContinuesAfterInteger (slice_index (drop idx buf) end) → then_from (fraction_from (drop idx buf) end) (exponent_from (drop idx buf)) ≡ Ok last → last ≤ length (drop idx buf) → number_to (length buf) (drop idx buf) (Ok last) ≡ Err (record { code = number_not_carried; place = idx + last })
 unfolding integer_at
 uncarried_in idx end last buf inside at goes_on found within =
     let later = past_whole (drop idx buf) end last goes_on found in
     let there : length buf - length (drop last (drop idx buf)) ≡ idx + last = omega (arith, length-drop idx buf, length-drop last (drop idx buf), within) in
     rw (differs (whole_end (drop idx buf)) last (λ same. omega (arith, at, later))) (ap (λ p. fault number_not_carried p) there)
 
-pub uncarried_at : (idx end last : ℕ) (buf bs : List ℕ) → idx ≤ length buf → bs ≡ drop idx buf → end ≡ whole_end bs → FollowsWhole (slice_index bs end) → then_from (fraction_from bs end) (exponent_from bs) ≡ Ok last → last ≤ length bs → number_to (length buf) (drop idx buf) (then_from (fraction_from (drop idx buf) end) (exponent_from (drop idx buf))) ≡ Err (record { code = number_not_carried; place = idx + last })
+pub uncarried_at : (idx end last : ℕ) (buf bs : List ℕ) → idx ≤ length buf → bs ≡ drop idx buf → end ≡ whole_end bs → ContinuesAfterInteger (slice_index bs end) → then_from (fraction_from bs end) (exponent_from bs) ≡ Ok last → last ≤ length bs → number_to (length buf) (drop idx buf) (then_from (fraction_from (drop idx buf) end) (exponent_from (drop idx buf))) ≡ Err (record { code = number_not_carried; place = idx + last })
 uncarried_at idx end last buf bs inside same at goes_on found within =
     let found_in = subst (λ xs. then_from (fraction_from xs end) (exponent_from xs) ≡ Ok last) same found in
     ap (number_to (length buf) (drop idx buf)) found_in
-    ∙ uncarried_in idx end last buf inside (subst (λ xs. end ≡ whole_end xs) same at) (subst (λ xs. FollowsWhole (slice_index xs end)) same goes_on) found_in (subst (λ xs. last ≤ length xs) same within)
+    ∙ uncarried_in idx end last buf inside (subst (λ xs. end ≡ whole_end xs) same at) (subst (λ xs. ContinuesAfterInteger (slice_index xs end)) same goes_on) found_in (subst (λ xs. last ≤ length xs) same within)
 
 -- a whole part and no more
-pub integer_read : (idx end : ℕ) (buf bs : List ℕ) (r : Option Num) → bs ≡ drop idx buf → HasWhole bs → end ≡ whole_end bs → ¬ FollowsWhole (slice_index bs end) → integer_of (has_minus bs) (digits_value 10 (whole_digits bs)) ≡ r → standard_number_at (length buf) (drop idx buf) ≡ carried_at (length buf) (drop (idx + end) buf) r
+pub integer_read : (idx end : ℕ) (buf bs : List ℕ) (r : Option Num) → bs ≡ drop idx buf → HasWhole bs → end ≡ whole_end bs → ¬ ContinuesAfterInteger (slice_index bs end) → integer_of (has_minus bs) (digits_value 10 (whole_digits bs)) ≡ r → standard_number_at (length buf) (drop idx buf) ≡ carried_at (length buf) (drop (idx + end) buf) r
 integer_read idx end buf bs r same has_whole at stops is_integer =
     let alone : standard_end bs ≡ Ok (whole_end bs) = whole_alone bs has_whole (λ point. stops (inl (ap (slice_index bs) at ∙ point))) (λ mark. stops (inr (subst (λ i. IsExponentMark (slice_index bs i)) (sym at) mark))) in
     let rest : drop (whole_end bs) bs ≡ drop (idx + end) buf = ap (λ i. drop i bs) (sym at) ∙ (ap (drop end) same ∙ drop-drop end idx buf) in
@@ -340,7 +340,7 @@ pub found_value : (bs ds : List ℕ) (v : Option ℕ) → ds ≡ drop (whole_sta
 found_value bs ds v after value = subst (λ xs. SomeIff v (digits_value 10 (take (digits_length xs) xs) < 2 ^ 64) (digits_value 10 (take (digits_length xs) xs))) after value
 
 -- a whole part whose value no type holds
-pub integer_missing : (idx end : ℕ) (buf bs : List ℕ) → idx ≤ length buf → bs ≡ drop idx buf → HasWhole bs → end ≡ whole_end bs → ¬ FollowsWhole (slice_index bs end) → integer_of (has_minus bs) (digits_value 10 (whole_digits bs)) ≡ None → standard_number_at (length buf) (drop idx buf) ≡ Err (record { code = number_not_carried; place = idx + end })
+pub integer_missing : (idx end : ℕ) (buf bs : List ℕ) → idx ≤ length buf → bs ≡ drop idx buf → HasWhole bs → end ≡ whole_end bs → ¬ ContinuesAfterInteger (slice_index bs end) → integer_of (has_minus bs) (digits_value 10 (whole_digits bs)) ≡ None → standard_number_at (length buf) (drop idx buf) ≡ Err (record { code = number_not_carried; place = idx + end })
 integer_missing idx end buf bs inside same has_whole at stops is_none =
     let there : length buf - length (drop (idx + end) buf) ≡ idx + end = omega (arith, length-drop (idx + end) buf, length-drop idx buf, ap length same, digits_within (drop (whole_start bs) bs), length-drop (whole_start bs) bs, has_whole.0, at, inside) in
     integer_read idx end buf bs None same has_whole at stops is_none ∙ ap (λ p. fault number_not_carried p) there

@@ -1,4 +1,4 @@
--- The letters of a word, from left to right.
+-- The letters of a literal, from left to right.
 use Rattle.std.proofs.Common.{◌≡◌, ◌≢◌, ◌⊎◌, inl, inr, ℕ, Bool, ◌+◌, ◌<◌, ◌≤◌, true, false, List, [], ◌∷◌, ◌++◌, length, get_or, drop, map, refl, ap, ◌∙◌, arith, Ok, Err, ⊎_elim}
 use Rattle.std.specs.Prelude.{slice_index, ◌==◌, codes, if◌then◌else◌, Result}
 use Rattle.std.proofs.lemmas.Bool.{cases_eq}

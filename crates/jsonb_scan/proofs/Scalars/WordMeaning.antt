@@ -1,4 +1,4 @@
--- What reading a word answers means the same as the definition says.
+-- Parsing a literal gives what the grammar says.
 use Rattle.std.proofs.Common.{refl, ◌≡◌, ◌≢◌, ◌⊎◌, ℕ, ◌<◌, ◌≤◌, false, List, ◌++◌, length, take, drop, sym, subst, ap, ◌∙◌, inl, inr, ⊎_elim, arith, Ok, Err, add-zero}
 use Rattle.std.specs.Prelude.{slice_index, codes}
 use Rattle.std.specs.Char.{to_ascii_lowercase}
@@ -7,7 +7,7 @@ use Rattle.std.proofs.lemmas.List.{append_assoc, take-append-drop, length-append
 use Rattle.jsonb_value.specs.Code.{Code}
 use Rattle.jsonb_value.specs.Grammar.ExtendedNumber.{is_minus, Spells, IsNumberWord, IsExtendedText}
 use Rattle.jsonb_scan.specs.Reading.Number.{sign_end}
-use Rattle.jsonb_scan.specs.Reading.ExtendedNumber.{core_byte, spelled_from, word_scan, uncarried_word, invalid_word, GoesOnExtended}
+use Rattle.jsonb_scan.specs.Reading.ExtendedNumber.{core_byte, spelled_from, word_scan, uncarried_word, invalid_word, ContinuesNumberExtended}
 use Rattle.jsonb_scan.proofs.Scalars.WordLetters.{Letters, IsWordCode, WordAnswer, word_answer, words_nan_minus, words_nan_plus, words_infinity}
 use Rattle.jsonb_scan.proofs.Numbers.ExtendedTexts.{IsWordStart, NoExtendedEnds, IsNumberCode, ScansExtended, letter_is, sign_front, WordFound, word_found, hexadecimal_core, decimals_before_letter}
 
@@ -17,7 +17,7 @@ pub record IsWordFront (bytes : List ℕ) : Type 0 where
   pub letter : IsWordStart (core_byte bytes)
 
 -- no other text ends where a word begins
-text_in_word : (bytes : List ℕ) → IsWordFront bytes → (k : ℕ) → k ≤ length bytes → IsExtendedText (take k bytes) → WordFound bytes k ⊎ ((k < sign_end bytes 0) × GoesOnExtended (slice_index bytes k))
+text_in_word : (bytes : List ℕ) → IsWordFront bytes → (k : ℕ) → k ≤ length bytes → IsExtendedText (take k bytes) → WordFound bytes k ⊎ ((k < sign_end bytes 0) × ContinuesNumberExtended (slice_index bytes k))
 text_in_word bytes front k within (inl decimal) = inr (decimals_before_letter bytes front.inside front.letter k within decimal)
 text_in_word bytes front k within (inr (inl hexadecimal)) = absurd (omega (arith, (hexadecimal_core bytes k hexadecimal).0, letter_is (core_byte bytes) front.letter))
 text_in_word bytes front k within (inr (inr word)) = inl (word_found bytes k word)

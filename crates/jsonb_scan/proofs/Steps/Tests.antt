@@ -1,4 +1,4 @@
--- Tests and steps that may fail, by their outcome.
+-- Conditions and steps that may fail, by their outcome.
 use Rattle.std.proofs.Common.{◌≡◌, ℕ, Bool, true, false, cond, ◌⊎◌, inl, inr, List, Result, Ok, Err, refl, ap, eqb, eq-eqb}
 use Rattle.jsonb_value.specs.Code.{Code}
 use Rattle.jsonb_scan.specs.Reading.{Fault, Read, refused, ◌>>=◌}

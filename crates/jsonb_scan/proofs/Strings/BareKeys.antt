@@ -1,4 +1,4 @@
--- Reading a bare key as a function, against what a bare key is.
+-- What is parsed of an unquoted key is the key, and each unquoted key is parsed.
 use Rattle.std.proofs.Common.{List, [], ◌∷◌, ◌≡◌, ◌≢◌, ℕ, zero, suc, ◌+◌, ◌-◌, ◌/◌, ◌≤◌, ◌<◌, ◌++◌, length, take, drop, get_or, Bool, true, false, true≢false, cond, eqb, ltb, leb, ◌&&◌, ◌||◌, Result, Ok, Err, ◌⊎◌, inl, inr, ⊎_elim, sym, ap, ◌∙◌, subst, arith, refl, length-append, ne_eqb, lt-ltb, le-ltb}
 use Rattle.std.proofs.lemmas.List.{append_assoc, take_at, drop_all, drop_at, drop_more, drop-drop, get_or_at, length-take-le, take-append-drop}
 use Rattle.std.proofs.lemmas.Str.{encode_ascii, IsUtf8-from_is_utf8, is_utf8-from_IsUtf8}

@@ -1,4 +1,4 @@
--- The bodies of strings with and without a backslash, and steps of the search for a string's end.
+-- Contents with and without a backslash, and what is parsed of a whole string.
 use Rattle.std.proofs.Common.{List, [], ◌∷◌, ◌≡◌, ◌≢◌, ℕ, zero, suc, ◌+◌, ◌-◌, ◌≤◌, ◌<◌, length, take, drop, get_or, map, Contains, Bool, true, false, ◌||◌, eqb, Ok, Err, ⊎_elim, inr, sym, ap, ◌∙◌, subst, arith, refl, eq-eqb, ne_eqb}
 use Rattle.std.proofs.lemmas.List.{get_or-drop, get_or_default, length-drop, drop_more, drop-drop, drop_all, get_or-take, length-take-le}
 use Rattle.std.proofs.lemmas.Bool.{cases_lt, cond-false}
@@ -15,7 +15,7 @@ use Rattle.jsonb_scan.specs.Decoding.{SeesBackslash, SeesNoBackslash, TellsBacks
 use Rattle.jsonb_value.specs.declared.error.Error.{Error}
 use Rattle.jsonb_value.specs.declared.error.Error.TheVariants.{Syntax, OutOfMemory}
 use Rattle.jsonb_scan.specs.StringRefusal.{IsDecodingError}
-use Rattle.jsonb_scan.specs.QuotedString.{ReadsBody}
+use Rattle.jsonb_scan.specs.QuotedString.{DecodesContents}
 use Rattle.jsonb_scan.specs.Answer.{Fails}
 use Rattle.jsonb_scan.specs.Reading.{fault}
 use Rattle.jsonb_scan.specs.Reading.String.{body_of, further, quote_from, quote_end, decoded, closed, string_at}
@@ -173,12 +173,12 @@ unfolding string_at
 string-unclosed size mode quote bytes at none = ap (closed size mode bytes) none
 
 -- what a decoder refuses is what reading the body refuses
-pub reads_refused : (mode : Mode) (bytes : List ℕ) (before after : ℕ) (e : Error) → IsDecodingError mode bytes before after e → ReadsBody before (Err e) (body_of mode bytes)
+pub reads_refused : (mode : Mode) (bytes : List ℕ) (before after : ℕ) (e : Error) → IsDecodingError mode bytes before after e → DecodesContents before (Err e) (body_of mode bytes)
 reads_refused mode bytes before after (Syntax code place) r = (r.0, body_faulty mode bytes (code_of code) r.0 r.1, r.3 ∙ r.2)
 reads_refused mode bytes before after OutOfMemory r = tt
 reads_refused mode bytes before after other r = r
 
-pub body_fails : (size : ℕ) (mode : Mode) (quote : ℕ) (bytes : List ℕ) (end idx : ℕ) (e : Error) → quote_end quote bytes ≡ Ok end → size - length bytes ≡ idx → ReadsBody (idx + 1) (Err e) (body_of mode (take end bytes)) → Fails e (string_at size mode quote bytes)
+pub body_fails : (size : ℕ) (mode : Mode) (quote : ℕ) (bytes : List ℕ) (end idx : ℕ) (e : Error) → quote_end quote bytes ≡ Ok end → size - length bytes ≡ idx → DecodesContents (idx + 1) (Err e) (body_of mode (take end bytes)) → Fails e (string_at size mode quote bytes)
 unfolding string_at
 body_fails size mode quote bytes end idx (Syntax code place) found at r =
     let same : size - length bytes + 1 + r.0 ≡ place = omega (arith, at, r.2) in

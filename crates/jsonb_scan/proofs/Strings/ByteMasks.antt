@@ -1,4 +1,4 @@
--- The mask of a vector of bytes: where a lane holds a byte.
+-- The bits of a mask: where a byte is among 16.
 use Rattle.std.proofs.Common.{◌≡◌, ◌↔◌, ℕ, zero, suc, ◌+◌, ◌^◌, ◌<◌, ◌≤◌, ◌-◌, ◌++◌, ⊎_elim, length-append, List, [], ◌∷◌, Bool, true, false, true≢false, cond, eqb, eqb-true, eq-eqb, ne_eqb, length, get_or, map, take, drop, sym, subst, ap, ◌∙◌, refl, arith}
 use Rattle.std.proofs.lemmas.Simd.{bit_mask_l, mask_l-lt}
 use Rattle.std.proofs.lemmas.List.{append_assoc, get_or-append-add, get_or_append_left, get_or-take, length-map, length-take-le, take-append-le, take-append-drop}

@@ -1,4 +1,4 @@
--- What the decoder appends, and where it stops, beside the meaning of a body.
+-- The decoder, step by step, decodes the contents.
 use Rattle.std.proofs.Common.{map, suc, get_or, List, [], ◌∷◌, ◌≡◌, ◌≢◌, ℕ, ◌+◌, ◌≤◌, ◌++◌, length, Bool, true, false, Some, None, ◌⊎◌, ⊎_elim, inr, sym, ap, ◌∙◌, subst, arith, refl, length-append}
 use Rattle.std.proofs.lemmas.List.{append_assoc, append-nil}
 use Rattle.std.proofs.lemmas.Grind.{flat_map-append}

@@ -1,4 +1,4 @@
--- Reading a quoted string as a function, against what a quoted string is.
+-- The search ends where the string ends.
 use Rattle.std.proofs.Common.{List, [], ◌∷◌, ◌≡◌, ◌≢◌, ℕ, zero, suc, ◌+◌, ◌-◌, ◌<◌, ◌++◌, length, take, drop, get_or, eqb, Result, Ok, Err, inl, inr, sym, ap, ◌∙◌, subst, arith, refl, length-append, eqb-true, ne_eqb}
 use Rattle.std.proofs.lemmas.List.{append_assoc, take_at, drop_at, drop_more, take-append-drop, length-take-le}
 use Rattle.std.specs.List.{flat_map, AllByRecursion}

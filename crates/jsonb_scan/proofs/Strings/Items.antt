@@ -1,4 +1,4 @@
--- Reading the items of a body as a function, against what a body is.
+-- What is parsed of contents is their items, and each item is parsed.
 use Rattle.std.proofs.Common.{List, [], ◌∷◌, ◌≡◌, ◌≢◌, ℕ, zero, suc, ◌+◌, ◌≤◌, ◌++◌, length, take, drop, get_or, Bool, true, false, cond, eqb, ltb, Option, Some, None, Ok, Err, ⊎_elim, inl, inr, sym, ap, ◌∙◌, subst, arith, refl, length-append, eqb-true, eq-eqb, ne_eqb, ltb-true, All}
 use Rattle.std.proofs.lemmas.List.{append_assoc, append-nil, take_at, drop_at, get_or_at, get_or_append_left, take-append-drop, length-take-le}
 use Rattle.std.proofs.lemmas.List.Elements.{All-from_recursion}

@@ -1,4 +1,4 @@
--- The marks of a vector of bytes: where a lane holds a quote or a backslash.
+-- The bits of a mask: where a quote, a backslash or the end of a comment is among 16 bytes.
 use Rattle.std.proofs.Common.{◌≡◌, ◌≢◌, ◌⊎◌, ◌↔◌, ℕ, ◌+◌, ◌-◌, ◌<◌, ◌≤◌, inl, inr, true, false, cond, List, [], ◌∷◌, zero, suc, bit_and, bit_or, eqb, eqb-true, eq-eqb, length, get_or, refl, sym, ap, ap₂, subst, ◌∙◌, arith}
 use Rattle.std.specs.Int.{bit_at}
 use Rattle.std.proofs.lemmas.Nat.Bits.{bit_at-zero}

@@ -1,4 +1,4 @@
--- Passing over blanks.
+-- What is skipped is whitespace, and all of it is skipped.
 use Rattle.std.proofs.Common.{◌≡◌, MatchBool, ne_eqb, ℕ, zero, suc, ◌+◌, ◌-◌, ◌<◌, ◌≤◌, Bool, true, false, cond, ◌||◌, ◌&&◌, ◌⊎◌, inl, inr, List, [], ◌∷◌, ◌++◌, length, get_or, drop, refl, sym, ap, subst, ◌∙◌, append_assoc, append-nil, length-append, arith, eqb, eqb-true}
 use Rattle.std.proofs.lemmas.List.{drop_at, length-drop}
 use Rattle.std.proofs.lemmas.Bool.{cond-false, cond-true, or_cases, and_parts, or_parts}
@@ -8,36 +8,36 @@ use Rattle.jsonb_value.specs.Grammar.Blanks.IsBlank.{space, tab, line_feed, form
 use Rattle.jsonb_value.specs.Grammar.Blanks.IsBlanks.{no_blanks, more_blanks}
 use Rattle.jsonb_value.specs.Mode.{Mode, standard, extended}
 use Rattle.jsonb_scan.specs.Reading.{begins}
-use Rattle.jsonb_scan.specs.Reading.Blank.{is_blank_start, blank_length, block_length, line_length, slash_length, written_length, form_feed_length, longer_by, opens_comment, past_comment, pass_chosen, pass_from, pass_blanks, skip_blanks}
+use Rattle.jsonb_scan.specs.Reading.Blank.{is_blank_start, blank_length, block_length, line_length, slash_length, written_length, form_feed_length, longer_by, opens_comment, past_comment, pass_chosen, pass_from, skip_closed_blanks, skip_blanks}
 use Rattle.jsonb_scan.proofs.Steps.Tests.{chosen}
 use Rattle.jsonb_scan.proofs.Text.Comments.{block-found, block_ends, line-found, line-none, line-past, line_ends, no_line_end, longer-is, longer-longer, longer-some}
 
 -- ---- steps over one blank
 
-pass_from-drop : (mode : Mode) (passed : ℕ) (bytes : List ℕ) → pass_from mode passed bytes ≡ pass_blanks mode (drop passed bytes)
+pass_from-drop : (mode : Mode) (passed : ℕ) (bytes : List ℕ) → pass_from mode passed bytes ≡ skip_closed_blanks mode (drop passed bytes)
 unfolding pass_from
 pass_from-drop mode zero bytes = refl
 pass_from-drop mode (suc passed) [] = refl
 pass_from-drop mode (suc passed) (b ∷ bytes) = pass_from-drop mode passed bytes
 
-pub pass-none : (mode : Mode) (bytes : List ℕ) → blank_length mode bytes ≡ 0 → pass_blanks mode bytes ≡ bytes
+pub pass-none : (mode : Mode) (bytes : List ℕ) → blank_length mode bytes ≡ 0 → skip_closed_blanks mode bytes ≡ bytes
 unfolding pass_from
 pass-none mode [] e = refl
 pass-none mode (b ∷ bytes) e = ap (λ (n : ℕ). pass_chosen n (b ∷ bytes) (pass_from mode (blank_length mode (b ∷ bytes) - 1) bytes)) e
 
-pass_chosen-drop : (mode : Mode) (n b : ℕ) (bytes : List ℕ) → 0 < n → pass_chosen n (b ∷ bytes) (pass_from mode (n - 1) bytes) ≡ pass_blanks mode (drop n (b ∷ bytes))
+pass_chosen-drop : (mode : Mode) (n b : ℕ) (bytes : List ℕ) → 0 < n → pass_chosen n (b ∷ bytes) (pass_from mode (n - 1) bytes) ≡ skip_closed_blanks mode (drop n (b ∷ bytes))
 pass_chosen-drop mode zero b bytes h = absurd (omega arith)
-pass_chosen-drop mode (suc n) b bytes h = let same : suc n - 1 ≡ n = omega arith in pass_from-drop mode (suc n - 1) bytes ∙ ap (λ (k : ℕ). pass_blanks mode (drop k bytes)) same
+pass_chosen-drop mode (suc n) b bytes h = let same : suc n - 1 ≡ n = omega arith in pass_from-drop mode (suc n - 1) bytes ∙ ap (λ (k : ℕ). skip_closed_blanks mode (drop k bytes)) same
 
-pub pass-step : (mode : Mode) (bytes : List ℕ) → 0 < blank_length mode bytes → pass_blanks mode bytes ≡ pass_blanks mode (drop (blank_length mode bytes) bytes)
+pub pass-step : (mode : Mode) (bytes : List ℕ) → 0 < blank_length mode bytes → skip_closed_blanks mode bytes ≡ skip_closed_blanks mode (drop (blank_length mode bytes) bytes)
 unfolding pass_from
 pass-step mode [] h = absurd (omega arith)
 pass-step mode (b ∷ bytes) h = pass_chosen-drop mode (blank_length mode (b ∷ bytes)) b bytes h
 
 -- a blank of this length is passed
-pass-front : (mode : Mode) (blank rest : List ℕ) → 0 < length blank → blank_length mode (blank ++ rest) ≡ length blank → pass_blanks mode (blank ++ rest) ≡ pass_blanks mode rest
+pass-front : (mode : Mode) (blank rest : List ℕ) → 0 < length blank → blank_length mode (blank ++ rest) ≡ length blank → skip_closed_blanks mode (blank ++ rest) ≡ skip_closed_blanks mode rest
 pass-front mode blank rest some count =
-    pass-step mode (blank ++ rest) (omega (arith, some, count)) ∙ ap (λ (n : ℕ). pass_blanks mode (drop n (blank ++ rest))) count ∙ ap (pass_blanks mode) (drop_at blank rest (length blank) refl)
+    pass-step mode (blank ++ rest) (omega (arith, some, count)) ∙ ap (λ (n : ℕ). skip_closed_blanks mode (drop n (blank ++ rest))) count ∙ ap (skip_closed_blanks mode) (drop_at blank rest (length blank) refl)
 
 -- ---- blanks are passed
 
@@ -51,7 +51,7 @@ line-length inside last rest one ends =
     ap (λ (u : List ℕ). longer_by 2 (line_length u)) (append_assoc inside (last ∷ []) rest) ∙ ap (longer_by 2) (line-found inside last rest one ends) ∙ longer-some 2 (length inside + 1) (omega arith)
     ∙ (let same : 2 + (length inside + 1) ≡ length (47 ∷ 47 ∷ (inside ++ last ∷ [])) = omega (arith, length-append inside (last ∷ [])) in same)
 
-pub pass-blank : {mode : Mode} {blank : List ℕ} (b : IsBlank mode blank) (rest : List ℕ) → pass_blanks mode (blank ++ rest) ≡ pass_blanks mode rest
+pub pass-blank : {mode : Mode} {blank : List ℕ} (b : IsBlank mode blank) (rest : List ℕ) → skip_closed_blanks mode (blank ++ rest) ≡ skip_closed_blanks mode rest
 unfolding pass_from
 pass-blank space rest = refl
 pass-blank tab rest = refl
@@ -64,12 +64,12 @@ pass-blank written_tab rest = refl
 pass-blank written_form_feed rest = refl
 pass-blank (block_comment inside is lacks) rest =
     let blank : List ℕ = 47 ∷ 42 ∷ (inside ++ 42 ∷ 47 ∷ []) in
-    subst (λ (m : Mode). pass_blanks m (blank ++ rest) ≡ pass_blanks m rest) (sym is) (pass-front extended blank rest (omega arith) (block-length inside rest lacks))
+    subst (λ (m : Mode). skip_closed_blanks m (blank ++ rest) ≡ skip_closed_blanks m rest) (sym is) (pass-front extended blank rest (omega arith) (block-length inside rest lacks))
 pass-blank (line_comment inside last is one ends) rest =
     let blank : List ℕ = 47 ∷ 47 ∷ (inside ++ last ∷ []) in
-    subst (λ (m : Mode). pass_blanks m (blank ++ rest) ≡ pass_blanks m rest) (sym is) (pass-front extended blank rest (omega arith) (line-length inside last rest one ends))
+    subst (λ (m : Mode). skip_closed_blanks m (blank ++ rest) ≡ skip_closed_blanks m rest) (sym is) (pass-front extended blank rest (omega arith) (line-length inside last rest one ends))
 
-pub pass-blanks : {mode : Mode} {blanks : List ℕ} (b : IsBlanks mode blanks) (rest : List ℕ) → pass_blanks mode (blanks ++ rest) ≡ pass_blanks mode rest
+pub pass-blanks : {mode : Mode} {blanks : List ℕ} (b : IsBlanks mode blanks) (rest : List ℕ) → skip_closed_blanks mode (blanks ++ rest) ≡ skip_closed_blanks mode rest
 pass-blanks no_blanks rest = refl
 pass-blanks (more_blanks {blank = blank} {rest = others} b bs) rest = rw append_assoc (pass-blank b (others ++ rest) ∙ pass-blanks bs rest)
 
@@ -80,13 +80,13 @@ pub skip-blanks : {mode : Mode} {blanks : List ℕ} (b : IsBlanks mode blanks) (
 skip-blanks {mode} b rest = ap (past_comment mode) (pass-blanks b rest)
 
 -- so many spaces
-pub pass-spaces : (mode : Mode) (count : ℕ) (bytes : List ℕ) → count ≤ length bytes → ((k : ℕ) → k < count → get_or bytes k 0 ≡ 32) → pass_blanks mode (drop count bytes) ≡ pass_blanks mode bytes
+pub pass-spaces : (mode : Mode) (count : ℕ) (bytes : List ℕ) → count ≤ length bytes → ((k : ℕ) → k < count → get_or bytes k 0 ≡ 32) → skip_closed_blanks mode (drop count bytes) ≡ skip_closed_blanks mode bytes
 pass-spaces mode zero bytes within are = refl
 pass-spaces mode (suc count) [] within are = absurd (omega (arith, within))
 pass-spaces mode (suc count) (b ∷ bytes) within are =
     let some : 0 < 1 = omega arith in
     pass-spaces mode count bytes (omega (arith, within)) (λ k low. are (suc k) (omega (arith, low)))
-    ∙ sym (ap (λ (c : ℕ). pass_blanks mode (c ∷ bytes)) (are 0 (omega arith)) ∙ pass-step mode (32 ∷ bytes) some)
+    ∙ sym (ap (λ (c : ℕ). skip_closed_blanks mode (c ∷ bytes)) (are 0 (omega arith)) ∙ pass-step mode (32 ∷ bytes) some)
 
 -- ---- where no blank begins nothing is passed
 
@@ -98,7 +98,7 @@ blank_length-none mode b bytes e =
     cond-false (eqb b 32 || eqb b 9 || eqb b 10 || eqb b 12 || eqb b 13) 1 (cond (eqb b 92) (written_length bytes) slash) h.0 ∙ cond-false (eqb b 92) (written_length bytes) slash h.1
     ∙ cond-false (eqb b 47) (slash_length mode bytes) 0 g.1
 
-pub pass-stop : (mode : Mode) (b : ℕ) (bytes : List ℕ) → is_blank_start b ≡ false → pass_blanks mode (b ∷ bytes) ≡ b ∷ bytes
+pub pass-stop : (mode : Mode) (b : ℕ) (bytes : List ℕ) → is_blank_start b ≡ false → skip_closed_blanks mode (b ∷ bytes) ≡ b ∷ bytes
 pass-stop mode b bytes e = pass-none mode (b ∷ bytes) (blank_length-none mode b bytes e)
 
 pub opens-other : (mode : Mode) (b : ℕ) (bytes : List ℕ) → eqb b 47 ≡ false → opens_comment mode (b ∷ bytes) ≡ false
@@ -118,7 +118,7 @@ pub opens-nil : (mode : Mode) → opens_comment mode [] ≡ false
 opens-nil standard = refl
 opens-nil extended = refl
 
-pub pass-nil : (mode : Mode) → pass_blanks mode [] ≡ []
+pub pass-nil : (mode : Mode) → skip_closed_blanks mode [] ≡ []
 unfolding pass_from
 pass-nil mode = refl
 
@@ -142,9 +142,9 @@ pub skip-by_slash : (mode : Mode) (b : ℕ) (bytes rest : List ℕ) → rest ≡
 skip-by_slash mode b bytes rest whole above true e = tt
 skip-by_slash mode b bytes rest whole above false e = ap (skip_blanks mode) whole ∙ skip-stop mode b bytes (starts_none b above e) ∙ sym whole
 
-pub pass-by_slash : (mode : Mode) (b : ℕ) (bytes rest : List ℕ) → rest ≡ b ∷ bytes → 32 < b → (is : Bool) → (eqb b 92 || eqb b 47) ≡ is → MatchBool is (Unit {0}) (pass_blanks mode rest ≡ rest)
+pub pass-by_slash : (mode : Mode) (b : ℕ) (bytes rest : List ℕ) → rest ≡ b ∷ bytes → 32 < b → (is : Bool) → (eqb b 92 || eqb b 47) ≡ is → MatchBool is (Unit {0}) (skip_closed_blanks mode rest ≡ rest)
 pass-by_slash mode b bytes rest whole above true e = tt
-pass-by_slash mode b bytes rest whole above false e = ap (pass_blanks mode) whole ∙ pass-stop mode b bytes (starts_none b above e) ∙ sym whole
+pass-by_slash mode b bytes rest whole above false e = ap (skip_closed_blanks mode) whole ∙ pass-stop mode b bytes (starts_none b above e) ∙ sym whole
 
 -- ---- what is passed is blanks
 
@@ -292,19 +292,19 @@ passes_from mode (suc passed) [] = passes_nothing mode []
 passes_from mode (suc passed) (b ∷ bytes) = passes_from mode passed bytes
 passes_from mode zero (b ∷ bytes) = passes_chosen mode (blank_length mode (b ∷ bytes)) b bytes refl (passes_from mode (blank_length mode (b ∷ bytes) - 1) bytes)
 
-pub passes : (mode : Mode) → (bytes : List ℕ) → Passes mode bytes (pass_blanks mode bytes)
+pub passes : (mode : Mode) → (bytes : List ℕ) → Passes mode bytes (skip_closed_blanks mode bytes)
 passes mode bytes = passes_from mode 0 bytes
 
 -- ---- after the blanks
 
-pub length-pass : (mode : Mode) (bytes : List ℕ) → length (pass_blanks mode bytes) ≤ length bytes
-length-pass mode bytes = let p = passes mode bytes in omega (arith, ap length p.whole, length-append p.blanks (pass_blanks mode bytes))
+pub length-pass : (mode : Mode) (bytes : List ℕ) → length (skip_closed_blanks mode bytes) ≤ length bytes
+length-pass mode bytes = let p = passes mode bytes in omega (arith, ap length p.whole, length-append p.blanks (skip_closed_blanks mode bytes))
 
-pub pass-pass : (mode : Mode) (bytes : List ℕ) → pass_blanks mode (pass_blanks mode bytes) ≡ pass_blanks mode bytes
-pass-pass mode bytes = let p = passes mode bytes in sym (pass-blanks p.are_blanks (pass_blanks mode bytes)) ∙ ap (pass_blanks mode) (sym p.whole)
+pub pass-pass : (mode : Mode) (bytes : List ℕ) → skip_closed_blanks mode (skip_closed_blanks mode bytes) ≡ skip_closed_blanks mode bytes
+pass-pass mode bytes = let p = passes mode bytes in sym (pass-blanks p.are_blanks (skip_closed_blanks mode bytes)) ∙ ap (skip_closed_blanks mode) (sym p.whole)
 
 -- where no blank is passed none begins
-pub blank_length-passed : (mode : Mode) (bytes : List ℕ) → pass_blanks mode bytes ≡ bytes → blank_length mode bytes ≡ 0
+pub blank_length-passed : (mode : Mode) (bytes : List ℕ) → skip_closed_blanks mode bytes ≡ bytes → blank_length mode bytes ≡ 0
 blank_length-passed mode bytes same = by_length (blank_length mode bytes) refl
   where
     longer : (us : List ℕ) (n : ℕ) → blank_length mode us ≡ suc n → 0 < length us
@@ -314,17 +314,17 @@ blank_length-passed mode bytes same = by_length (blank_length mode bytes) refl
     by_length : (n : ℕ) → blank_length mode bytes ≡ n → n ≡ 0
     by_length zero e = refl
     by_length (suc n) e =
-        let step : bytes ≡ pass_blanks mode (drop (suc n) bytes) = sym same ∙ pass-step mode bytes (omega (arith, e)) ∙ ap (λ (k : ℕ). pass_blanks mode (drop k bytes)) e in
+        let step : bytes ≡ skip_closed_blanks mode (drop (suc n) bytes) = sym same ∙ pass-step mode bytes (omega (arith, e)) ∙ ap (λ (k : ℕ). skip_closed_blanks mode (drop k bytes)) e in
         let some : 0 < length bytes = longer bytes n e in
         absurd (omega (arith, ap length step, length-pass mode (drop (suc n) bytes), length-drop (suc n) bytes, some))
 
 -- nothing, or the bytes after the blanks
-skipped : (mode : Mode) (bytes : List ℕ) → (skip_blanks mode bytes ≡ []) ⊎ ((opens_comment mode (pass_blanks mode bytes) ≡ false) × (skip_blanks mode bytes ≡ pass_blanks mode bytes))
-skipped mode bytes = by_test (opens_comment mode (pass_blanks mode bytes)) refl
+skipped : (mode : Mode) (bytes : List ℕ) → (skip_blanks mode bytes ≡ []) ⊎ ((opens_comment mode (skip_closed_blanks mode bytes) ≡ false) × (skip_blanks mode bytes ≡ skip_closed_blanks mode bytes))
+skipped mode bytes = by_test (opens_comment mode (skip_closed_blanks mode bytes)) refl
   where
-    by_test : (t : Bool) → opens_comment mode (pass_blanks mode bytes) ≡ t → (skip_blanks mode bytes ≡ []) ⊎ ((opens_comment mode (pass_blanks mode bytes) ≡ false) × (skip_blanks mode bytes ≡ pass_blanks mode bytes))
-    by_test true e = inl (cond-true (opens_comment mode (pass_blanks mode bytes)) [] (pass_blanks mode bytes) e)
-    by_test false e = inr (e, past-none mode (pass_blanks mode bytes) e)
+    by_test : (t : Bool) → opens_comment mode (skip_closed_blanks mode bytes) ≡ t → (skip_blanks mode bytes ≡ []) ⊎ ((opens_comment mode (skip_closed_blanks mode bytes) ≡ false) × (skip_blanks mode bytes ≡ skip_closed_blanks mode bytes))
+    by_test true e = inl (cond-true (opens_comment mode (skip_closed_blanks mode bytes)) [] (skip_closed_blanks mode bytes) e)
+    by_test false e = inr (e, past-none mode (skip_closed_blanks mode bytes) e)
 
 pub length-skip : (mode : Mode) (bytes : List ℕ) → length (skip_blanks mode bytes) ≤ length bytes
 length-skip mode bytes =
@@ -348,29 +348,29 @@ skips mode bytes left =
       | inr some ↦ subst (λ (u : List ℕ). Passes mode bytes u) (sym some.1) (passes mode bytes)
     ]
 
-pub skip-passed : (mode : Mode) (bytes : List ℕ) (b : ℕ) (rest : List ℕ) → pass_blanks mode bytes ≡ b ∷ rest → opens_comment mode (b ∷ rest) ≡ false → skip_blanks mode bytes ≡ b ∷ rest
+pub skip-passed : (mode : Mode) (bytes : List ℕ) (b : ℕ) (rest : List ℕ) → skip_closed_blanks mode bytes ≡ b ∷ rest → opens_comment mode (b ∷ rest) ≡ false → skip_blanks mode bytes ≡ b ∷ rest
 skip-passed mode bytes b rest e none = ap (past_comment mode) e ∙ past-none mode (b ∷ rest) none
 
 -- ---- the end of a text
 
 -- how the blanks at the end of a text are passed
 pub data EndsPassed (mode : Mode) (bytes : List ℕ) : Type 0 where
-  all_passed : pass_blanks mode bytes ≡ [] → EndsPassed mode bytes
-  line_left : (rest : List ℕ) → opens_comment mode (47 ∷ 47 ∷ rest) ≡ true → pass_blanks mode bytes ≡ 47 ∷ 47 ∷ rest → EndsPassed mode bytes
+  all_passed : skip_closed_blanks mode bytes ≡ [] → EndsPassed mode bytes
+  line_left : (rest : List ℕ) → opens_comment mode (47 ∷ 47 ∷ rest) ≡ true → skip_closed_blanks mode bytes ≡ 47 ∷ 47 ∷ rest → EndsPassed mode bytes
 
 pub ends_passed : {mode : Mode} {bytes : List ℕ} (b : AreLastBlanks mode bytes) → EndsPassed mode bytes
-ends_passed {mode} (blanks_to_end {blanks = blanks} b) = all_passed (ap (pass_blanks mode) (sym (append-nil blanks)) ∙ pass-blanks b [] ∙ pass-nil mode)
+ends_passed {mode} (blanks_to_end {blanks = blanks} b) = all_passed (ap (skip_closed_blanks mode) (sym (append-nil blanks)) ∙ pass-blanks b [] ∙ pass-nil mode)
 ends_passed {mode} (line_to_end {blanks = blanks} inside is b one) =
     line_left inside (ap (λ (m : Mode). opens_comment m (47 ∷ 47 ∷ inside)) is)
-    (pass-blanks b (47 ∷ 47 ∷ inside) ∙ subst (λ (m : Mode). pass_blanks m (47 ∷ 47 ∷ inside) ≡ 47 ∷ 47 ∷ inside) (sym is) (pass-none extended (47 ∷ 47 ∷ inside) (ap (longer_by 2) (line-none inside one))))
+    (pass-blanks b (47 ∷ 47 ∷ inside) ∙ subst (λ (m : Mode). skip_closed_blanks m (47 ∷ 47 ∷ inside) ≡ 47 ∷ 47 ∷ inside) (sym is) (pass-none extended (47 ∷ 47 ∷ inside) (ap (longer_by 2) (line-none inside one))))
 
-pub ends_all : (mode : Mode) (bytes : List ℕ) → pass_blanks mode bytes ≡ [] → AreLastBlanks mode bytes
+pub ends_all : (mode : Mode) (bytes : List ℕ) → skip_closed_blanks mode bytes ≡ [] → AreLastBlanks mode bytes
 ends_all mode bytes e = let p = passes mode bytes in subst (AreLastBlanks mode) (sym (p.whole ∙ ap (λ (u : List ℕ). p.blanks ++ u) e ∙ append-nil p.blanks)) (blanks_to_end p.are_blanks)
 
-pub ends_line : (mode : Mode) (bytes rest : List ℕ) → mode ≡ extended → pass_blanks mode bytes ≡ 47 ∷ 47 ∷ rest → AreLastBlanks mode bytes
+pub ends_line : (mode : Mode) (bytes rest : List ℕ) → mode ≡ extended → skip_closed_blanks mode bytes ≡ 47 ∷ 47 ∷ rest → AreLastBlanks mode bytes
 ends_line mode bytes rest is e =
     let p = passes mode bytes in
-    let stays : pass_blanks mode (47 ∷ 47 ∷ rest) ≡ 47 ∷ 47 ∷ rest = ap (pass_blanks mode) (sym e) ∙ pass-pass mode bytes ∙ e in
+    let stays : skip_closed_blanks mode (47 ∷ 47 ∷ rest) ≡ 47 ∷ 47 ∷ rest = ap (skip_closed_blanks mode) (sym e) ∙ pass-pass mode bytes ∙ e in
     let none : blank_length extended (47 ∷ 47 ∷ rest) ≡ 0 = ap (λ (m : Mode). blank_length m (47 ∷ 47 ∷ rest)) (sym is) ∙ blank_length-passed mode (47 ∷ 47 ∷ rest) stays in
     subst (AreLastBlanks mode) (sym (p.whole ∙ ap (λ (u : List ℕ). p.blanks ++ u) e)) (line_to_end rest is p.are_blanks (no_line_end rest (unlonger (line_length rest) none)))
   where
@@ -390,11 +390,11 @@ drop_past [] more n = let same : 0 + n ≡ n = omega arith in ap (λ (k : ℕ). 
 drop_past (b ∷ front) more n = let same : suc (length front) + n ≡ suc (length front + n) = omega arith in ap (λ (k : ℕ). drop k (b ∷ (front ++ more))) same ∙ drop_past front more n
 
 -- More bytes after the last blanks: what is passed goes on to these, or a comment is open.
-pub last_within : {mode : Mode} {last : List ℕ} (b : AreLastBlanks mode last) (more : List ℕ) → (length (pass_blanks mode (last ++ more)) ≤ length more) ⊎ (opens_comment mode (pass_blanks mode (last ++ more)) ≡ true)
+pub last_within : {mode : Mode} {last : List ℕ} (b : AreLastBlanks mode last) (more : List ℕ) → (length (skip_closed_blanks mode (last ++ more)) ≤ length more) ⊎ (opens_comment mode (skip_closed_blanks mode (last ++ more)) ≡ true)
 last_within {mode} (blanks_to_end b) more = inl (omega (arith, ap length (pass-blanks b more), length-pass mode more))
 last_within {mode} (line_to_end {blanks = blanks} inside is b one) more =
-    subst (λ (u : List ℕ). (length u ≤ length more) ⊎ (opens_comment mode u ≡ true)) (sym (ap (pass_blanks mode) (append_assoc blanks (47 ∷ 47 ∷ inside) more) ∙ pass-blanks b (47 ∷ 47 ∷ (inside ++ more))))
-    (subst (λ (m : Mode). (length (pass_blanks m line) ≤ length more) ⊎ (opens_comment m (pass_blanks m line) ≡ true)) (sym is) (by_length (line_length more) refl))
+    subst (λ (u : List ℕ). (length u ≤ length more) ⊎ (opens_comment mode u ≡ true)) (sym (ap (skip_closed_blanks mode) (append_assoc blanks (47 ∷ 47 ∷ inside) more) ∙ pass-blanks b (47 ∷ 47 ∷ (inside ++ more))))
+    (subst (λ (m : Mode). (length (skip_closed_blanks m line) ≤ length more) ⊎ (opens_comment m (skip_closed_blanks m line) ≡ true)) (sym is) (by_length (line_length more) refl))
   where
     line : List ℕ
     line = 47 ∷ 47 ∷ (inside ++ more)
@@ -402,9 +402,9 @@ last_within {mode} (line_to_end {blanks = blanks} inside is b one) more =
     count : (n : ℕ) → line_length more ≡ n → blank_length extended line ≡ longer_by (2 + length inside) n
     count n e = ap (longer_by 2) (line-past inside more one ∙ ap (longer_by (length inside)) e) ∙ longer-longer 2 (length inside) n
 
-    by_length : (n : ℕ) → line_length more ≡ n → (length (pass_blanks extended line) ≤ length more) ⊎ (opens_comment extended (pass_blanks extended line) ≡ true)
+    by_length : (n : ℕ) → line_length more ≡ n → (length (skip_closed_blanks extended line) ≤ length more) ⊎ (opens_comment extended (skip_closed_blanks extended line) ≡ true)
     by_length zero e = inr (ap (opens_comment extended) (pass-none extended line (count zero e)))
     by_length (suc n) e =
         let long : blank_length extended line ≡ 2 + length inside + suc n = count (suc n) e in
         let split : drop (2 + length inside + suc n) line ≡ drop (suc n) more = ap (λ (k : ℕ). drop k line) (let same : 2 + length inside + suc n ≡ length (47 ∷ 47 ∷ inside) + suc n = omega arith in same) ∙ drop_past (47 ∷ 47 ∷ inside) more (suc n) in
-        inl (omega (arith, ap length (pass-step extended line (omega (arith, long)) ∙ ap (λ (k : ℕ). pass_blanks extended (drop k line)) long ∙ ap (pass_blanks extended) split), length-pass extended (drop (suc n) more), length-drop (suc n) more))
+        inl (omega (arith, ap length (pass-step extended line (omega (arith, long)) ∙ ap (λ (k : ℕ). skip_closed_blanks extended (drop k line)) long ∙ ap (skip_closed_blanks extended) split), length-pass extended (drop (suc n) more), length-drop (suc n) more))

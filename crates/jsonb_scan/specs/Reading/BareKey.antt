@@ -1,4 +1,5 @@
--- Reading a key that stands without quotes, as a function on lists: the search for its end, and what it finds.
+-- The search for the end of an unquoted key, and what it finds.
+-- Read for: `exact`.
 use Rattle.std.specs.Prelude.{ℕ, zero, suc, ◌+◌, ◌-◌, Bool, ◌||◌, List, [], ◌∷◌, length, take, drop, slice_index, nat_lt, nat_le, Result, Ok, Err, ◌==◌, if◌then◌else◌}
 use Rattle.std.specs.Str.{is_utf8}
 use Rattle.std.specs.Char.{is_ascii_digit, is_ascii_alphanumeric}

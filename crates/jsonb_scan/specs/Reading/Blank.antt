@@ -1,4 +1,5 @@
--- Passing blanks, as a function on lists.
+-- Skipping whitespace.
+-- Read for: `exact`.
 use Rattle.std.specs.Prelude.{ℕ, zero, suc, ◌+◌, ◌-◌, Bool, false, ◌||◌, ◌&&◌, List, [], ◌∷◌, ◌==◌, if◌then◌else◌}
 use Rattle.jsonb_value.specs.Mode.{Mode, standard, extended}
 use Rattle.jsonb_scan.specs.Reading.{on_byte, begins}
@@ -69,8 +70,8 @@ pass_from mode zero (b ∷ bytes) =
     pass_chosen (blank_length mode (b ∷ bytes)) (b ∷ bytes) (pass_from mode (blank_length mode (b ∷ bytes) - 1) bytes)
 
 -- the bytes after the blanks
-abbrev pub pass_blanks : Mode → List ℕ → List ℕ
-pass_blanks mode bytes = pass_from mode 0 bytes
+abbrev pub skip_closed_blanks : Mode → List ℕ → List ℕ
+skip_closed_blanks mode bytes = pass_from mode 0 bytes
 
 -- whether a comment begins here, closed or not
 abbrev pub opens_comment : Mode → List ℕ → Bool
@@ -83,4 +84,4 @@ past_comment mode bytes = if opens_comment mode bytes then [] else bytes
 
 -- the bytes after the blanks, and after a comment that never ends
 abbrev pub skip_blanks : Mode → List ℕ → List ℕ
-skip_blanks mode bytes = past_comment mode (pass_blanks mode bytes)
+skip_blanks mode bytes = past_comment mode (skip_closed_blanks mode bytes)

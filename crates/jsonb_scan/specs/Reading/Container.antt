@@ -1,4 +1,5 @@
--- Reading arrays and objects as functions on lists, over a reader of the values inside.
+-- Parts joined by commas, arrays, objects, repeated keys.
+-- Read for: `exact`; promises: `Found` and `member_of`, which `ast_view` names.
 use Rattle.std.specs.Prelude.{◌≡◌, ℕ, zero, suc, ◌-◌, Bool, false, ◌||◌, List, [], ◌∷◌, length, Option, Some, None, Ok, map, ◌==◌, if◌then◌else◌}
 use Rattle.std.specs.declared.cmp.Ordering.{Ordering}
 use Rattle.std.specs.Ordering.{ordering_then, nat_cmp, is_gt, is_eq}

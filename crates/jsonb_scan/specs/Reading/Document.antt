@@ -1,11 +1,12 @@
--- Reading values and documents as functions on lists.
+-- Values by depth, and whole documents (`document_of`).
+-- Read for: `exact`.
 use Rattle.std.specs.Prelude.{ℕ, zero, suc, ◌+◌, ◌-◌, List, [], ◌∷◌, length, Result, Ok, if◌then◌else◌}
 use Rattle.jsonb_value.specs.Mode.{Mode, standard, extended}
 use Rattle.jsonb_value.specs.Tree.{Tree, null}
 use Rattle.jsonb_value.specs.Code.{invalid_eof, unexpected_trailing_characters, depth_limit_exceeded}
 use Rattle.jsonb_value.specs.Grammar.{max_depth}
 use Rattle.jsonb_scan.specs.Reading.{Fault, Read, ◌>>=◌, on_byte, begins, fault}
-use Rattle.jsonb_scan.specs.Reading.Blank.{opens_comment, pass_blanks}
+use Rattle.jsonb_scan.specs.Reading.Blank.{opens_comment, skip_closed_blanks}
 use Rattle.jsonb_scan.specs.Reading.Scalar.{scalar_at}
 use Rattle.jsonb_scan.specs.Reading.Container.{array_at, object_at}
 
@@ -38,7 +39,7 @@ nothing_at size extended = Ok null
 
 -- a value with blanks after it, up to the end of the text
 abbrev pub value_to_end : ℕ → Mode → List ℕ → Result Tree Fault
-value_to_end size mode bytes = value_at size mode max_depth bytes >>= λ x. at_end size mode x.0 (pass_blanks mode x.1)
+value_to_end size mode bytes = value_at size mode max_depth bytes >>= λ x. at_end size mode x.0 (skip_closed_blanks mode x.1)
 
 abbrev pub document_from : ℕ → Mode → List ℕ → Result Tree Fault
 document_from size mode [] = nothing_at size mode
@@ -47,4 +48,4 @@ document_from size mode (b ∷ bytes) = if opens_comment mode (b ∷ bytes) then
 
 -- the tree of a whole text
 unfoldable pub document_of : Mode → List ℕ → Result Tree Fault
-document_of mode bytes = document_from (length bytes) mode (pass_blanks mode bytes)
+document_of mode bytes = document_from (length bytes) mode (skip_closed_blanks mode bytes)

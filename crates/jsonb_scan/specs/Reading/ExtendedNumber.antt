@@ -1,4 +1,5 @@
--- Reading an extended number, as a function on lists: a decimal, a hexadecimal or a word.
+-- Where an extended number ends, and which number it is.
+-- Read for: `exact`.
 use Rattle.std.specs.Prelude.{◌≡◌, ⊤, ◌⊎◌, ℕ, ◌+◌, ◌-◌, ◌<◌, ◌^◌, ◌==◌, ◌||◌, ◌&&◌, Bool, List, [], ◌∷◌, ◌++◌, take, drop, length, codes, nat_lt, nat_le, slice_index, slice_range, if◌then◌else◌, Option, Some, None, Result, Ok, Err}
 use Rattle.std.specs.Char.{digit_value, to_ascii_lowercase}
 use Rattle.std.specs.List.{prefix_len}
@@ -8,7 +9,7 @@ use Rattle.jsonb_value.specs.Grammar.ExtendedNumber.{is_minus, decimal_number, h
 use Rattle.jsonb_value.specs.Number.Signed.{signed_by}
 use Rattle.jsonb_value.specs.Tree.{Num}
 use Rattle.jsonb_scan.specs.Reading.{Read, fault}
-use Rattle.jsonb_scan.specs.Reading.Number.{End, FollowsWhole, sign_end, digits_from, exponent_from, carried_at, is_number_start}
+use Rattle.jsonb_scan.specs.Reading.Number.{End, ContinuesAfterInteger, sign_end, digits_from, exponent_from, carried_at, is_number_start}
 
 -- A number text's number, if a form holds it, and the index after the text; or the fault and its place.
 abbrev pub Scanned : Type 0
@@ -200,13 +201,13 @@ is_extended_start b = is_number_start b || (b == 43) || (b == 46) || (to_ascii_l
 
 -- a byte that goes on with a number after digits: a point, an exponent mark or an x
 abbrev pub FollowsDigits : ℕ → Type 0
-FollowsDigits b = FollowsWhole b ⊎ ((b ≡ 120) ⊎ (b ≡ 88))
+FollowsDigits b = ContinuesAfterInteger b ⊎ ((b ≡ 120) ⊎ (b ≡ 88))
 
 -- a byte that goes on with an extended number: a hexadecimal digit, a point or an x
-abbrev pub GoesOnExtended : ℕ → Type 0
-GoesOnExtended b = (digit_value b < 16) ⊎ ((b ≡ 46) ⊎ (to_ascii_lowercase b ≡ 120))
+abbrev pub ContinuesNumberExtended : ℕ → Type 0
+ContinuesNumberExtended b = (digit_value b < 16) ⊎ ((b ≡ 46) ⊎ (to_ascii_lowercase b ≡ 120))
 
 -- the bytes don't go on with an extended number
 abbrev pub EndsExtended : List ℕ → Type 0
 EndsExtended [] = ⊤
-EndsExtended (b ∷ bytes) = ¬ GoesOnExtended b
+EndsExtended (b ∷ bytes) = ¬ ContinuesNumberExtended b

@@ -1,4 +1,5 @@
--- Reading a number, as a function on lists.
+-- Where a standard number ends, and which number it is.
+-- Read for: `exact`.
 use Rattle.std.specs.Prelude.{◌≡◌, ⊤, ◌⊎◌, ℕ, ◌+◌, ◌-◌, ◌==◌, ◌||◌, ◌&&◌, ◌^◌, Bool, true, false, List, [], ◌∷◌, take, drop, length, nat_lt, nat_le, pos, neg_ℤ, slice_index, if◌then◌else◌, Option, Some, None, Result, Ok, Err}
 use Rattle.std.specs.Char.{is_ascii_digit}
 use Rattle.std.specs.Int.{IsInRange, from_bool}
@@ -105,14 +106,14 @@ abbrev pub is_number_start : ℕ → Bool
 is_number_start b = is_ascii_digit b || (b == 45)
 
 -- a byte that goes on with a number after its whole part: a point or an exponent mark
-abbrev pub FollowsWhole : ℕ → Type 0
-FollowsWhole b = (b ≡ 46) ⊎ IsExponentMark b
+abbrev pub ContinuesAfterInteger : ℕ → Type 0
+ContinuesAfterInteger b = (b ≡ 46) ⊎ IsExponentMark b
 
 -- a byte that goes on with a number: a digit, a point or an exponent mark
-abbrev pub GoesOn : ℕ → Type 0
-GoesOn b = IsInRange 48 57 b ⊎ FollowsWhole b
+abbrev pub ContinuesNumber : ℕ → Type 0
+ContinuesNumber b = IsInRange 48 57 b ⊎ ContinuesAfterInteger b
 
 -- the bytes don't go on with a number
-abbrev pub EndsNumber : List ℕ → Type 0
-EndsNumber [] = ⊤
-EndsNumber (b ∷ bytes) = ¬ GoesOn b
+abbrev pub IsNumberBoundary : List ℕ → Type 0
+IsNumberBoundary [] = ⊤
+IsNumberBoundary (b ∷ bytes) = ¬ ContinuesNumber b

@@ -1,4 +1,5 @@
--- Reading values that hold no others, and keys, as functions on lists.
+-- Literals, strings, numbers, keys.
+-- Read for: `exact`.
 use Rattle.std.specs.Prelude.{ℕ, Bool, true, false, List, [], ◌∷◌, codes, Result, Ok, Err, ◌==◌, if◌then◌else◌}
 use Rattle.std.specs.Char.{to_ascii_lowercase}
 use Rattle.jsonb_value.specs.Mode.{Mode, standard, extended}

@@ -1,4 +1,5 @@
--- Reading a string as a function on lists: the search for its end, and the decoding of its body.
+-- The search for a string's end, and decoding its contents.
+-- Read for: `exact`.
 use Rattle.std.specs.Prelude.{ℕ, zero, suc, ◌+◌, ◌-◌, Bool, true, false, List, [], ◌∷◌, length, take, drop, slice_index, nat_lt, Option, Some, None, Result, Ok, Err, ◌==◌, if◌then◌else◌}
 use Rattle.std.specs.Str.{is_utf8}
 use Rattle.std.specs.Char.{digit_value}

@@ -6,7 +6,7 @@ ghost use Rattle.std.specs.Int.{IsInRange};
 ghost use Rattle.std.specs.Option.{SomeIff};
 ghost use Rattle.std.specs.Str.Parse.{AllDigits, digits_value};
 ghost use Rattle.jsonb_value.specs.View.{number_view};
-ghost use Rattle.jsonb_scan.specs.Reading.Number.{FollowsWhole, digits_length, digits_from, sign_end, exponent_from, fraction_from, whole_start, then_from, integer_of};
+ghost use Rattle.jsonb_scan.specs.Reading.Number.{ContinuesAfterInteger, digits_length, digits_from, sign_end, exponent_from, fraction_from, whole_start, then_from, integer_of};
 
 use jsonb_value::error::Result;
 use jsonb_value::number::Number;
@@ -128,8 +128,8 @@ pub fn integer(negative: bool, digits: Option<u64>) -> Option<Number>
 }
 
 /// Whether a byte goes on with a number after its whole part, or stands behind a fraction as if it did.
-pub fn follows_whole(byte: u8) -> bool
-    ensures { MatchBool result (FollowsWhole byte) (¬ FollowsWhole byte) }
+pub fn continues_after_integer(byte: u8) -> bool
+    ensures { MatchBool result (ContinuesAfterInteger byte) (¬ ContinuesAfterInteger byte) }
 {
     matches!(byte, b'.' | b'e' | b'E')
 }

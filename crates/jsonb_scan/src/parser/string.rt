@@ -3,7 +3,7 @@ ghost use Rattle.std.specs.Prelude.{◌≡◌, ◌≢◌, ◌==◌, IfSome, IfNo
 ghost use Rattle.jsonb_value.specs.Grammar.StringStep.{escape_step};
 ghost use Rattle.jsonb_scan.specs.Decoding.{TellsBackslash};
 ghost use Rattle.jsonb_scan.specs.Answer.{mode_of};
-ghost use Rattle.jsonb_scan.specs.QuotedString.{EndsString, IsClear, IsQuoteOrBackslash, KnowsMarks, ReadsBody, TellsMarks};
+ghost use Rattle.jsonb_scan.specs.QuotedString.{EndsString, IsClear, IsQuoteOrBackslash, KnowsMarks, DecodesContents, TellsMarks};
 ghost use Rattle.jsonb_scan.specs.Reading.String.{body_of};
 
 use super::Mode;
@@ -185,7 +185,7 @@ pub fn find_end(bytes: &[u8], quote: u8) -> StringEnd
 /// The text of a body, given whether it has a backslash. `idx` is the index after the opening quote and one more, from
 /// which the decoder counts. Only a body with a backslash takes memory.
 #[inline(always)]
-pub fn read_body<'a>(
+pub fn decode_contents<'a>(
     alloc: Global,
     body: &'a [u8],
     mode: Mode,
@@ -194,7 +194,7 @@ pub fn read_body<'a>(
 ) -> Result<CowStr<'a>>
     requires escaped { TellsBackslash body.now (length body.now) escaped }
     requires room { idx + length body.now < 2 ^ 64 }
-    ensures reads { ReadsBody idx result (body_of (mode_of mode) body.now) }
+    ensures reads { DecodesContents idx result (body_of (mode_of mode) body.now) }
     ensures memory { result ≡ Err Error.OutOfMemory → escaped ≡ true }
 {
     if escaped {

@@ -126,6 +126,14 @@ pub fn unescape(alloc: Global, bytes: &[u8], mode: Mode, idx: &mut usize) -> Res
 ///
 /// `idx` is moved by the length of `data` on success, and past the fault on an error, whose offset is the new `idx`.
 ///
+/// The time is linear in `data`.
+///
+/// ```
+/// let mut idx = 0;
+/// let text = jsonb::util::parse_string(rt.alloc(), b"caf\\u00e9", 9, &mut idx)?;
+/// assert_eq!(rt; text.as_str(), "caf\u{e9}");
+/// ```
+///
 /// # Errors
 ///
 /// `Syntax` with `InvalidEscaped`, `InvalidHex` or `UnexpectedEndOfHexEscape` for an escape that is none of these, and

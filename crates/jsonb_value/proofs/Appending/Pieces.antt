@@ -1,4 +1,4 @@
--- The texts of items and members, of which some are written and some are left.
+-- The texts of items and members, of which some are written and some remain.
 use Rattle.std.proofs.Common.{◌≡◌, Bool, true, false, List, [], ◌∷◌, ◌++◌, ℕ, ◌+◌, ◌<◌, ◌≤◌, length, get_or, drop, drop-cons, add-one, string_bytes, refl, sym, subst, ap, ◌∙◌, append_assoc}
 use Rattle.std.specs.List.{flat_map}
 use Rattle.std.specs.Str.{IsUtf8}

@@ -1,4 +1,4 @@
--- The texts of decimals are extended decimal texts.
+-- The texts of decimals are extended decimals.
 use Rattle.std.proofs.Common.{◌≡◌, ◌≢◌, ℕ, ◌+◌, ◌-◌, ◌%◌, ◌^◌, ◌<◌, ◌≤◌, Bool, true, false, zero, suc, Option, Some, None, List, [], ◌∷◌, ◌++◌, length, get_or, take, drop, refl, sym, subst, ap, ◌∙◌, inl, inr, ⊎_elim, arith}
 use Rattle.std.specs.Prelude.{slice_index, unsigned_abs, replicate, ◌==◌}
 use Rattle.std.specs.Int.{is_negative}

@@ -1,4 +1,4 @@
--- The texts of numbers in range read back, and what number texts give is in range.
+-- Numbers in range round-trip, and the numbers of texts are in range.
 use Rattle.std.proofs.Common.{◌≡◌, ℕ, zero, suc, ◌<◌, ◌≤◌, ◌^◌, List, [], ◌∷◌, ◌++◌, length, length-append, Bool, true, false, ◌&&◌, Some, None, refl, sym, subst, arith, inl, inr, ltb-true, eqb-true, ℤ, pos, negsuc, neg_ℤ}
 use Rattle.std.specs.Prelude.{unsigned_abs, FitsSigned, ◌==◌, nat_lt, nat_le, if◌then◌else◌}
 use Rattle.std.specs.Int.{w64, w128}

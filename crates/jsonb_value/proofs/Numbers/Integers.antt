@@ -1,4 +1,4 @@
--- Answers of integer arithmetic.
+-- The results of integer arithmetic.
 use Rattle.std.proofs.Common.{◌≡◌, ◌≢◌, ◌⊎◌, ℕ, ◌<◌, zero, suc, true, ◌%◌, List, Some, Result, refl, sym, ◌∙◌, arith, inl, inr, ℤ, pos, negsuc, neg_ℤ, ◌-ℤ◌}
 use Rattle.std.specs.Prelude.{unsigned_abs, int_div, int_rem, FitsSigned}
 use Rattle.std.specs.Int.{is_negative, w128, cast_signed, cast_unsigned}

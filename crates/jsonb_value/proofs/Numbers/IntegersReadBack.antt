@@ -1,4 +1,4 @@
--- The texts of integers are standard number texts.
+-- The texts of integers are standard numbers.
 use Rattle.std.proofs.Common.{◌≡◌, ℕ, ◌+◌, ◌^◌, ◌<◌, Bool, true, false, suc, [], ◌++◌, length, refl, sym, subst, ap, ◌∙◌, inl, ⊎_elim, arith, ℤ, pos, negsuc, neg_ℤ}
 use Rattle.std.specs.Prelude.{FitsSigned, if◌then◌else◌}
 use Rattle.std.specs.Int.{w64}

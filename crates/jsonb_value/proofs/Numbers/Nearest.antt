@@ -1,4 +1,4 @@
--- Whole numbers as a sign and a magnitude, their multiples, and the multiple that is nearest.
+-- The nearest multiple of an integer.
 use Rattle.std.proofs.Common.{◌≡◌, ◌↔◌, ℕ, ◌+◌, ◌-◌, ◌*◌, ◌^◌, ◌<◌, ◌≤◌, zero, suc, Some, refl, sym, subst, ap, ◌∙◌, arith, Bool, true, false, ℤ, pos, negsuc, ◌*ℤ◌, ◌-ℤ◌, ◌+ℤ◌, ◌≤ℤ◌, ◌<ℤ◌}
 use Rattle.std.specs.Prelude.{unsigned_abs}
 use Rattle.std.specs.Int.{is_negative}

@@ -1,4 +1,4 @@
--- Where the point of a number's text goes, by the number of its digits.
+-- Where the point of a number's text goes.
 use Rattle.std.proofs.Common.{◌≡◌, ℕ, ◌+◌, ◌-◌, ◌<◌, ◌≤◌, List, [], ◌∷◌, ◌++◌, length, take, drop, refl, ◌∙◌, sym, arith, eqb, true, false, suc, ◌≢◌, ◌^◌, ap, ℤ, pos, negsuc}
 use Rattle.std.specs.Prelude.{replicate, FitsSigned}
 use Rattle.std.specs.Int.{w64, is_negative}

@@ -1,4 +1,4 @@
--- A number's text says its scale and its whole number, also where bytes follow that no number has.
+-- A number's text determines its scale and its integer.
 use Rattle.std.proofs.Common.{List, [], ◌∷◌, ◌≡◌, ◌≢◌, ℕ, zero, suc, ◌+◌, ◌-◌, ◌<◌, ◌≤◌, ◌^◌, ◌++◌, length, take, drop, Bool, true, false, refl, sym, subst, ap, ◌∙◌, arith, ⊎_elim}
 use Rattle.std.specs.Prelude.{unsigned_abs, replicate}
 use Rattle.std.specs.Int.{is_negative}

@@ -1,4 +1,4 @@
--- The order that is computed is the order in words.
+-- The order that is computed is the order spelled out.
 use Rattle.std.proofs.Common.{◌≡◌, inl, inr, ◌↔◌, ℕ, zero, suc, ◌<◌, ◌<ℤ◌, List, [], ◌∷◌, Ordering, Less, Equal, Greater, refl, sym, ap, ◌∙◌, subst, arith, nat_cmp, slice_get}
 use Rattle.std.specs.Cmp.{int_ranks, int_cmp_is, ranks, nat_cmp_is, tied_itself}
 use Rattle.std.specs.Cmp.Lexicographic.{slice_cmp, nat_list_cmp_total}

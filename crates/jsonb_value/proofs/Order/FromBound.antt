@@ -1,4 +1,4 @@
--- The members of a map from a bound on: past the first of them stand the others.
+-- The members of a map from a bound on: after the first of them come the others.
 use Rattle.std.proofs.Common.{◌≡◌, List, [], ◌∷◌, ◌++◌, Bool, ◌&&◌, Option, Some, None, MatchOption, true, false, Less, Equal, Greater, Ordering, String, Global, string_cmp, ⊎_elim, refl, ap, sym, ◌∙◌, rules}
 use Rattle.std.proofs.lemmas.Cmp.{tied_itself}
 use Rattle.std.proofs.lemmas.Bool.{cases_Bool, cond-true, cond-false}

@@ -1,4 +1,4 @@
--- Numbers and lists of bytes compared part by part.
+-- Numbers of two digits and lists of bytes compared part by part.
 use Rattle.std.proofs.Common.{◌≡◌, ℕ, ◌+◌, ◌*◌, ◌<◌, ◌≤◌, List, [], ◌∷◌, ◌++◌, refl, sym, ap, ◌∙◌, arith, append_assoc}
 use Rattle.std.proofs.Math.Nat.{mul-lt-mul_of_pos_right, mul-le-mul_right}
 use Rattle.std.specs.Cmp.{nat_cmp_is, ranked}

@@ -1,4 +1,4 @@
--- The keys of whole numbers of 32 and of 64 bits.
+-- The keys of integers of 32 and 64 bits.
 use Rattle.std.proofs.Common.{◌≡◌, ℕ, zero, suc, ◌+◌, ◌*◌, ◌/◌, ◌%◌, ◌^◌, ◌<◌, ℤ, pos, unsigned_abs, FitsSigned, refl, sym, ap, ◌∙◌, arith}
 use Rattle.std.proofs.Math.Nat.{pow-suc, one-le-pow}
 use Rattle.std.proofs.lemmas.Int.{ints}

@@ -1,4 +1,4 @@
--- The digits of a number written to the end of a row of 12 bytes, two at a time from the last on.
+-- The digits of numbers of 64 bits, written into a row from the last pair on; the two bytes of one or two digits.
 use Rattle.std.proofs.Common.{◌≡◌, ◌≢◌, ℕ, zero, suc, ◌+◌, ◌-◌, ◌*◌, ◌/◌, ◌%◌, ◌^◌, ◌<◌, ◌≤◌, inl, inr, ◌⊎◌, Bool, List, [], ◌∷◌, ◌++◌, map, drop, length, slice_set, refl, sym, ap, ap₂, ◌∙◌, arith}
 use Rattle.std.proofs.Math.Arith.{mod-mul}
 use Rattle.std.proofs.Math.Nat.{div-div-eq-div-mul, pow-suc, pow-zero}

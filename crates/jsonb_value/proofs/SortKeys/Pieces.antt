@@ -1,4 +1,4 @@
--- Keys that are appended to a buffer as one piece, or as one after another.
+-- Keys that are appended piece by piece.
 use Rattle.std.proofs.Common.{◌≡◌, ℕ, ◌+◌, ◌<◌, ◌≤◌, List, ◌++◌, length, sym, subst, ap, ◌∙◌, append_assoc, length-append, arith, Result, Ok, Err, OnOk, OnErr}
 
 pub ok_as : {T E : Type 0} (r : Result T E) (old new piece text : List ℕ) → piece ≡ text → OnOk r (new ≡ old ++ piece) → OnOk r (new ≡ old ++ text)

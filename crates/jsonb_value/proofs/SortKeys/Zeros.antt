@@ -1,4 +1,4 @@
--- Bytes without zeros stand in a key as they are.
+-- Bytes without zeros, which a key has as they are.
 use Rattle.std.proofs.Common.{◌≡◌, ◌≢◌, ℕ, zero, suc, ◌<◌, ◌≤◌, Bool, true, false, List, [], ◌∷◌, ◌++◌, take, drop, length, get_or, Option, Some, None, refl, sym, ap, ap₂, ◌∙◌, arith, ◌==◌, length-append, eq-eqb}
 use Rattle.std.specs.Bool.{if◌then◌else◌, nat_lt}
 use Rattle.std.specs.List.{flat_map}

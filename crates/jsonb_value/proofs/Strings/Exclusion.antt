@@ -1,4 +1,4 @@
--- Bytes mean one text at most, and none where they have a fault.
+-- Contents decode to one text at most, and malformed ones to none.
 use Rattle.std.proofs.Common.{List, [], ◌∷◌, ◌≡◌, ◌≢◌, ℕ, ◌<◌, ◌++◌, length, take, drop, get_or, Bool, true, false, None, ⊎_elim, sym, ap, ◌∙◌, subst, arith, refl, length-append}
 use Rattle.std.proofs.lemmas.List.{append_assoc, take_at, get_or_at, get_or_append_left}
 use Rattle.std.specs.Str.{IsUtf8}

@@ -1,4 +1,4 @@
--- What the first items of a body mean.
+-- What the first items of contents mean.
 use Rattle.std.proofs.Common.{List, [], ◌∷◌, ◌≡◌, ◌≢◌, ℕ, ◌++◌, Bool, true, false, cond, ap, refl}
 use Rattle.std.specs.List.{flat_map, AllByRecursion}
 use Rattle.jsonb_value.specs.Mode.{Mode}

@@ -1,4 +1,4 @@
--- A body has one list of items: no item's spelling begins another's.
+-- Contents have one list of items: no item is a prefix of another.
 use Rattle.std.proofs.Common.{List, [], ◌∷◌, ◌≡◌, ◌≢◌, ℕ, ◌+◌, ◌<◌, ◌++◌, length, take, drop, get_or, Bool, true, false, cond, eqb, Some, None, sym, ap, ◌∙◌, subst, arith, refl, length-append, ne_eqb}
 use Rattle.std.proofs.lemmas.List.{append_assoc, append-nil, take_at, drop_at, append_cancel_right}
 use Rattle.std.specs.List.{flat_map, AllByRecursion}

@@ -1,4 +1,4 @@
--- The digits of a unit, and what a unit means.
+-- The digits of a `\u` escape, and what it means.
 use Rattle.std.proofs.Common.{List, ◌≡◌, ℕ, ◌+◌, ◌<◌, ◌≤◌, ◌++◌, ◌∷◌, length, take, drop, get_or, Bool, true, false, cond, ◌||◌, [], sym, ap, ◌∙◌, arith, length-append}
 use Rattle.std.proofs.lemmas.List.{take-append-drop, drop_more, length-take-le, get_or-take, get_or_default}
 use Rattle.std.proofs.lemmas.Str.{length-encode, len_utf8_bounds}

@@ -1,4 +1,4 @@
--- What is written reads back.
+-- A written string round-trips.
 use Rattle.std.proofs.Common.{List, [], ◌∷◌, ◌≡◌, ◌≢◌, ℕ, ◌/◌, ◌%◌, ◌<◌, ◌++◌, map, Bool, true, false, cond, eqb, ltb, Some, sym, ap, ◌∙◌, subst, arith, refl, eqb-true, ltb-true, ◌||◌, All}
 use Rattle.std.proofs.lemmas.Str.{encode_ascii, digit_value-digit_char}
 use Rattle.std.proofs.lemmas.Bool.Decides.{nat_tests}

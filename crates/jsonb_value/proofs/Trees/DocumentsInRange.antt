@@ -1,4 +1,4 @@
--- Each tree of a document is proper and in range.
+-- Each tree of a document is well-formed and in range.
 use Rattle.std.proofs.Common.{List, [], ◌∷◌, ◌≡◌, ℕ, zero, suc, Ordering, Less, Equal, Greater, refl, sym, subst, ap, ◌∙◌}
 use Rattle.std.specs.Cmp.Lexicographic.{slice_cmp, nat_list_cmp_total}
 use Rattle.std.specs.List.{AllByRecursion}

@@ -1,4 +1,4 @@
--- Members whose keys ascend: no two have one key, and put in one after the other they stay as they are.
+-- Members whose keys ascend, inserted one after the other, stay as they are.
 use Rattle.std.proofs.Common.{List, ◌≡◌, ℕ, Less, Equal, refl, sym, ap, ◌∙◌, map}
 use Rattle.std.specs.Cmp.{tied_itself}
 use Rattle.std.specs.Cmp.Lexicographic.{slice_cmp, nat_list_cmp_total}

@@ -1,4 +1,4 @@
--- What is written of a value in range reads back, and says which value it is.
+-- A value in range round-trips, and its text determines it.
 use Rattle.std.proofs.Common.{List, [], ◌≡◌, ◌≢◌, ◌↔◌, ℕ, Some, None, sym, subst, ap, ◌∙◌, append-nil}
 use Rattle.jsonb_value.specs.Grammar.{max_depth, IsDocument}
 use Rattle.jsonb_value.specs.Mode.{Mode, standard, extended}

@@ -1,4 +1,4 @@
--- Trees within a range.
+-- Trees within a range: they are in a wider range, and have a text.
 use Rattle.std.proofs.Common.{◌≡◌, ℕ, zero, suc, true, refl}
 use Rattle.std.proofs.lemmas.Bool.{and_from}
 use Rattle.jsonb_value.specs.Proper.{IsProperNumber, IsProper, AreProper, HaveProperParts}

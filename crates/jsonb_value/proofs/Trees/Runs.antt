@@ -1,4 +1,4 @@
--- A run of bytes of one kind, and bytes of another kind after it, are told apart.
+-- A run of bytes of one kind, and bytes of another kind after it, are distinguished.
 use Rattle.std.proofs.Common.{List, [], ◌∷◌, ◌≡◌, ℕ, ◌++◌, drop, get_or, refl, ap, subst}
 use Rattle.std.specs.List.{AllByRecursion}
 

@@ -1,4 +1,4 @@
--- Parts of a value beside those of its tree.
+-- What a value holds beside what its tree holds.
 use Rattle.std.proofs.Common.{◌≡◌, ℕ, zero, suc, ◌<◌, ◌≤◌, List, [], ◌∷◌, length, get_or, map, ◌↔◌, IsTrue, is_some, Option, Some, None, option_map, option_copied, Bor, cond, Bool, true, false, bytes_eq, string_bytes, nat_cmp, String, Vec, BTreeMap, Global, arith, refl, sym, ap, ◌∙◌, rules}
 use Rattle.std.proofs.lemmas.Map.Text.{is_eq-slice_cmp}
 use Rattle.std.specs.BTreeMap.{is_at}

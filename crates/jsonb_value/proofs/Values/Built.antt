@@ -1,4 +1,4 @@
--- A map built from pairs whose keys ascend has these pairs as its members.
+-- A map that is built at once of pairs in the order of their keys has these pairs.
 use Rattle.std.proofs.Common.{◌≡◌, ℕ, List, [], ◌∷◌, Ordering, Less, Equal, Greater, Option, Some, None, unwrap_or, true, BTreeMap, String, Global, string_bytes, string_cmp, nat_cmp, ⊎_elim, refl, ap, sym, ◌∙◌, rules}
 use Rattle.std.proofs.lemmas.Cmp.{eq_by_cmp_equiv, tied_itself}
 use Rattle.std.proofs.lemmas.Bool.{cases_Bool}

@@ -1,4 +1,4 @@
--- What copies that own their text have of what they were copied from.
+-- What a copy whose strings are owned has of its source: items, members, keys that ascend.
 use Rattle.std.proofs.Common.{◌≡◌, ℕ, List, [], ◌∷◌, map, string_bytes, refl, ap, ◌∙◌}
 use Rattle.jsonb_value.specs.Keys.{IsBelowKeys, KeysAscend}
 use Rattle.jsonb_value.specs.Owned.{owned, owned_items, owned_members}

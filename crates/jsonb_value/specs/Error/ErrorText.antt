@@ -1,4 +1,5 @@
--- What is printed of an error.
+-- The messages of codes and errors.
+-- Read for: promises.
 use Rattle.std.specs.Prelude.{ℕ, true, List, ◌++◌, codes, string_bytes}
 use Rattle.std.specs.Fmt.{decimal, digits}
 use Rattle.jsonb_value.specs.declared.error.Error.{Error}

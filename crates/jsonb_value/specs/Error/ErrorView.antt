@@ -1,4 +1,5 @@
--- Why a call is refused, apart from where its parts lie in memory.
+-- Errors, independent of representation.
+-- Read for: promises.
 use Rattle.std.specs.Prelude.{ℕ, List, string_bytes, ⊤}
 use Rattle.jsonb_value.specs.Code.{Code, code_of, NamesNoKey}
 use Rattle.jsonb_value.specs.declared.error.Error.{Error}

@@ -1,4 +1,5 @@
--- What may stand between the parts of a text.
+-- Whitespace, comments among it, by mode; whitespace at a document's end.
+-- Read for: promises.
 use Rattle.std.specs.Prelude.{◌≡◌, ◌≢◌, ◌⊎◌, ℕ, List, [], ◌∷◌, ◌++◌}
 use Rattle.std.specs.List.{AllByRecursion}
 use Rattle.jsonb_value.specs.Mode.{Mode, extended}

@@ -1,4 +1,5 @@
--- The numbers of extended JSON texts: decimals, hexadecimals and words, and the number that a text is.
+-- Extended numbers: decimals, hexadecimals, `nan` and `infinity`; which aren't representable.
+-- Read for: promises.
 use Rattle.std.specs.Prelude.{◌≡◌, ◌≢◌, ◌⊎◌, ℕ, ◌+◌, ◌<◌, ◌≤◌, ◌^◌, ◌==◌, ◌&&◌, Bool, true, false, List, [], ◌∷◌, ◌++◌, length, map, replicate, codes, Option, Some, None, IfSome, ℤ, pos, negsuc, neg_ℤ, nat_lt, nat_le, slice_index, if◌then◌else◌}
 use Rattle.std.specs.Char.{to_ascii_lowercase}
 use Rattle.std.specs.Str.Parse.{AllDigits, IsNumeral, digits_value}

@@ -1,4 +1,5 @@
--- The spellings of values that hold no others, and of keys.
+-- Literals, quotes, numbers and keys, by mode.
+-- Read for: promises.
 use Rattle.std.specs.Prelude.{◌≡◌, ◌⊎◌, ℕ, true, false, List, codes}
 use Rattle.jsonb_value.specs.Grammar.BareKey.{IsBareKey}
 use Rattle.jsonb_value.specs.Grammar.ExtendedNumber.{Spells, IsExtendedNumber, IsExtendedUncarried}

@@ -1,4 +1,5 @@
--- The numbers of standard JSON texts (RFC 8259, section 6): their grammar, and the number that a text is.
+-- Standard numbers (RFC 8259, section 6), and which aren't representable.
+-- Read for: promises.
 use Rattle.std.specs.Prelude.{◌≡◌, ◌≢◌, ◌⊎◌, ℕ, ◌<◌, ◌^◌, Bool, true, false, List, [], ◌∷◌, ◌++◌, length, pos, neg_ℤ, slice_index, FitsSigned}
 use Rattle.std.specs.Int.{w64}
 use Rattle.std.specs.Fmt.{sign_text}

@@ -1,4 +1,5 @@
--- The body of a string: what stands between its quotes, and what it means (RFC 8259, section 7, for the escapes).
+-- The items of the contents of a string, their bytes and their meaning (RFC 8259, section 7, for the escapes).
+-- Read for: promises.
 use Rattle.std.specs.Prelude.{◌≡◌, ◌≢◌, ℕ, ◌+◌, ◌-◌, ◌*◌, ◌<◌, Bool, true, false, if◌then◌else◌, ◌||◌, ◌==◌, List, [], ◌∷◌, ◌++◌, length, All, Option, Some, None, slice_index}
 use Rattle.std.specs.List.{flat_map, AllByRecursion}
 use Rattle.std.specs.Int.{is_in_range}

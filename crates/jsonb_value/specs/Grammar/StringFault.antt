@@ -1,4 +1,5 @@
--- What keeps bytes from being the body of a string.
+-- Malformed contents of a string, with a code and a count.
+-- Read for: promises.
 use Rattle.std.specs.Prelude.{◌≡◌, ◌≢◌, ℕ, ◌+◌, ◌<◌, Bool, false, ◌⊎◌, List, [], ◌∷◌, ◌++◌, length, All, None, slice_index}
 use Rattle.std.specs.List.{flat_map, AllByRecursion}
 use Rattle.std.specs.Str.{IsUtf8}

@@ -1,4 +1,5 @@
--- The step over the first item of a body, by its first bytes alone.
+-- The step over an item by its first bytes.
+-- Read for: `exact`.
 use Rattle.std.specs.Prelude.{ℕ, ◌+◌, if◌then◌else◌, ◌==◌, List, [], ◌∷◌}
 
 -- the step after `\u`

@@ -1,4 +1,5 @@
--- The whole numbers that a number stands for.
+-- The integer that a number is, and the nearest one.
+-- Read for: promises, but `IsRounded`.
 use Rattle.std.specs.Prelude.{◌≡◌, ℕ, ◌+◌, ◌*◌, ◌^◌, ◌<◌, ◌≤◌, ℤ, pos, ◌*ℤ◌, ◌-ℤ◌, unsigned_abs}
 use Rattle.jsonb_value.specs.Tree.{Num}
 

@@ -1,4 +1,5 @@
--- The order in words: kinds by their rank, and inside of a kind what the values hold, lists place by place.
+-- The order of trees spelled out: kinds by their rank, and inside a kind what the values hold, lists item by item.
+-- Read for: promises.
 use Rattle.std.specs.Prelude.{◌≡◌, ◌⊎◌, ◌↔◌, ⊤, ℕ, ◌<◌, ◌^◌, ℤ, pos, ◌*ℤ◌, ◌<ℤ◌, false, true, List, [], ◌∷◌, slice_get, Option, Some, None}
 use Rattle.jsonb_value.specs.Order.{rank}
 use Rattle.jsonb_value.specs.Tree.{Num, Mark, Tree, boolean, number, string, array, object, binary, date, timestamp, timestamp_tz, interval, Trees, no_trees, more_trees, Member, Members, no_members, more_members}

@@ -1,4 +1,5 @@
 -- Bytes at the end of others.
+-- Read for: private.
 use Rattle.std.specs.Prelude.{◌≡◌, ℕ, Bool, true, false, List, [], ◌∷◌, ◌++◌}
 
 -- new is old with some bytes at its end

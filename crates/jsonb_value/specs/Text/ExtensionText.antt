@@ -1,4 +1,5 @@
 -- The text of values beyond JSON, without quotes.
+-- Read for: promises.
 use Rattle.std.specs.Prelude.{◌≡◌, ℕ, List, ◌++◌, Option, Some, None}
 use Rattle.jsonb_value.specs.Tree.{Tree, binary, interval}
 use Rattle.jsonb_value.specs.Text.BinaryText.{binary_text}

@@ -1,4 +1,5 @@
 -- The text of an interval.
+-- Read for: promises.
 use Rattle.std.specs.Prelude.{ℕ, ◌/◌, ◌%◌, ◌==◌, ◌&&◌, List, [], ◌∷◌, ◌++◌, if◌then◌else◌, codes, ℤ, pos, int_div, int_rem, unsigned_abs}
 use Rattle.std.specs.Fmt.{decimal, sign_text, signed_decimal}
 use Rattle.std.specs.Int.{is_negative}

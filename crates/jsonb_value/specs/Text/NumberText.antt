@@ -1,4 +1,5 @@
 -- The text of a number.
+-- Read for: promises.
 use Rattle.std.specs.Prelude.{ℕ, ◌+◌, ◌-◌, ◌==◌, List, ◌∷◌, ◌++◌, length, take, drop, replicate, if◌then◌else◌, ℤ, unsigned_abs}
 use Rattle.std.specs.Fmt.{decimal, sign_text}
 use Rattle.std.specs.Int.{is_negative}

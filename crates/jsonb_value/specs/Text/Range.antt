@@ -1,4 +1,6 @@
--- The trees that are in range: JSON, nested no deeper than a text may be, with numbers that a text can have.
+-- Which trees are in range, and in the range of integers. JSON, nested no deeper than a text may be, with numbers that
+-- a text can have.
+-- Read for: promises.
 use Rattle.std.specs.Prelude.{ℕ, zero, suc, ◌<◌, ◌≤◌, ◌^◌, ⊤, unsigned_abs}
 use Rattle.jsonb_value.specs.Grammar.{max_depth}
 use Rattle.jsonb_value.specs.Mode.{Mode, standard, extended}

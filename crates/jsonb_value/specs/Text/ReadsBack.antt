@@ -1,4 +1,5 @@
--- The texts of values are texts of equal values: of numbers, of strings, and of whole values.
+-- What it means that a number, a string or a value round-trips.
+-- Read for: promises.
 use Rattle.std.specs.Prelude.{◌≡◌, ℕ, ◌<◌, ◌≤◌, ◌^◌, List, Some, ℤ, unsigned_abs, if◌then◌else◌}
 use Rattle.std.specs.Int.{is_negative}
 use Rattle.jsonb_value.specs.Grammar.{IsDocument}

@@ -1,4 +1,5 @@
--- How a string is written: between double quotes, with as few escapes as will do (RFC 8259, section 7).
+-- How a string is written: between double quotes, with as few escapes as possible (RFC 8259, section 7).
+-- Read for: promises.
 use Rattle.std.specs.Prelude.{ℕ, ◌/◌, ◌%◌, if◌then◌else◌, ◌==◌, nat_lt, List, [], ◌∷◌, ◌++◌}
 use Rattle.std.specs.List.{flat_map}
 use Rattle.std.specs.Char.{digit_char}

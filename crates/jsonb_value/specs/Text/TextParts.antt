@@ -1,4 +1,5 @@
--- The pieces of a number's text.
+-- The parts of a number's text.
+-- Read for: private.
 use Rattle.std.specs.Prelude.{List, ℕ, ◌++◌, replicate}
 use Rattle.jsonb_value.specs.declared.number.text.TextParts.{TextParts}
 

@@ -116,6 +116,11 @@ impl Number {
     /// The exact sum of two integers: an `Int64` of two `Int64`s or where the `Int64` is negative,
     /// and else a `UInt64`.
     ///
+    /// ```
+    /// let sum = Number::Int64(-1).add(rt.alloc(), Number::UInt64(3))?;
+    /// assert_eq!(rt; sum.as_i64(), Some(2));
+    /// ```
+    ///
     /// # Errors
     /// `UnexpectedType` for a decimal; the message `Int64 overflow` or `UInt64 overflow`, by the
     /// type of the sum; `OutOfMemory` where a message finds no memory.

@@ -59,6 +59,12 @@ fn with_sign(negative: bool, magnitude: u128) -> i128
 
 impl Number {
     /// The number as it is, where it is whole.
+    ///
+    /// ```
+    /// assert_eq!(rt; Number::Int64(-7).as_i128(), Some(-7));
+    /// let half = jsonb::parse_value(rt.alloc(), b"0.5")?;
+    /// assert_eq!(rt; half.as_number().and_then(|half| half.as_i128()), None);
+    /// ```
     pub fn as_i128(&self) -> Option<i128>
         ensures { (n : ℤ) → (result ≡ Some n)
             ↔ HasValue (number_view self.now) n }
@@ -85,6 +91,11 @@ impl Number {
     }
 
     /// The nearest integer; half is rounded away from zero.
+    ///
+    /// ```
+    /// let half = jsonb::parse_value(rt.alloc(), b"-0.5")?;
+    /// assert_eq!(rt; half.as_number().and_then(|half| half.to_i128()), Some(-1));
+    /// ```
     pub fn to_i128(&self) -> Option<i128>
         ensures some { IsSome result }
         ensures nearest { (n : ℤ) → (result ≡ Some n)

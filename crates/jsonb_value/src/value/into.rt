@@ -9,6 +9,13 @@ use std::borrow::CowStr;
 impl<'a> Value<'a> {
     /// The text, if this is a string: borrowed or owned as it was, and no byte is copied.
     ///
+    /// ```
+    /// let value = jsonb::parse_value_standard_mode(rt.alloc(), b"\"text\"")?;
+    /// if let Ok(text) = value.into_string() {
+    ///     assert_eq!(rt; text.as_str(), "text");
+    /// }
+    /// ```
+    ///
     /// # Errors
     ///
     /// The value as it was, if it is no string.
@@ -25,6 +32,12 @@ impl<'a> Value<'a> {
 
     /// The items, if this is an array. None is copied.
     ///
+    /// ```
+    /// if let Ok(items) = jsonb::parse_value_standard_mode(rt.alloc(), b"[1, 2]")?.into_array() {
+    ///     assert_eq!(rt; items.len(), 2);
+    /// }
+    /// ```
+    ///
     /// # Errors
     ///
     /// The value as it was, if it is no array.
@@ -40,6 +53,12 @@ impl<'a> Value<'a> {
     }
 
     /// The members, if this is an object. None is copied.
+    ///
+    /// ```
+    /// if let Ok(object) = jsonb::parse_value_standard_mode(rt.alloc(), b"{\"a\": 1}")?.into_object() {
+    ///     assert!(rt; object.contains_key("a"));
+    /// }
+    /// ```
     ///
     /// # Errors
     ///

@@ -17,6 +17,13 @@ impl<'a> Value<'a> {
     /// A copy that borrows nothing, so that it can outlive the text that this was parsed from: each string owns its
     /// bytes. It has the lifetime that the caller needs, `'static` too.
     ///
+    /// Machine stack grows with the depth of the value.
+    ///
+    /// ```
+    /// let value: Value<'static> = jsonb::parse_value(rt.alloc(), b"['kept']")?.to_owned_value(rt.alloc())?;
+    /// assert_eq!(rt; value.array_length(), Some(1));
+    /// ```
+    ///
     /// # Errors
     ///
     /// `UnexpectedType` only where the value holds binary data, which is always borrowed, at any depth. `OutOfMemory`

@@ -34,6 +34,15 @@ impl Value<'_> {
     /// Appends the value's sort key: bytes whose order is the order of values. After an error `buf` has the same bytes
     /// as before.
     ///
+    /// The time is linear in the key, and the only allocations are those of `buf`.
+    ///
+    /// ```
+    /// let (mut one, mut two) = (Vec::new(rt.alloc()), Vec::new(rt.alloc()));
+    /// jsonb::parse_value(rt.alloc(), b"[1, 2]")?.write_sort_key(&mut one)?;
+    /// jsonb::parse_value(rt.alloc(), b"[1, 10]")?.write_sort_key(&mut two)?;
+    /// assert!(rt; one.as_slice() < two.as_slice());
+    /// ```
+    ///
     /// # Errors
     ///
     /// `OutOfMemory` only where `buf` lacks the capacity for the whole key.

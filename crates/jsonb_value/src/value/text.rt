@@ -45,6 +45,15 @@ impl Value<'_> {
     /// Appends the value's serialized form: JSON without whitespace, members in the order of their keys, binary data
     /// and intervals as strings. After an error `buf` has the same bytes as before.
     ///
+    /// The time is linear in the text, and the only allocations are those of `buf`.
+    ///
+    /// ```
+    /// let value = jsonb::parse_value(rt.alloc(), b"{b: .5, a: null}")?;
+    /// let mut text = Vec::new(rt.alloc());
+    /// value.write_text(&mut text)?;
+    /// assert_eq!(rt; text.as_slice(), "{\"a\":null,\"b\":0.5}".as_bytes());
+    /// ```
+    ///
     /// # Errors
     ///
     /// `UnexpectedType` where the value holds a date or a time, at any depth: it has no text then, and this is checked

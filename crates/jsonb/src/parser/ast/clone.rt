@@ -3,7 +3,7 @@ ghost use Rattle.std.specs.Prelude.{◌≡◌, IfOk, IfErr};
 ghost use Rattle.std.specs.Cow.{cow_str_bytes};
 ghost use Rattle.jsonb_value.specs.Tree.{escaped};
 ghost use Rattle.jsonb_value.specs.View.{mark_view};
-ghost use Rattle.jsonb.specs.Source.{HoldsNoMemory, source_view, sources_view, source_members_view};
+ghost use Rattle.jsonb.specs.Source.{SourceHoldsNoMemory, source_view, sources_view, source_members_view};
 
 use super::JsonAst;
 use std::alloc::AllocError;
@@ -12,7 +12,7 @@ use std::borrow::CowStr;
 impl<'a> Clone for JsonAst<'a> {
     ghost is_clone = { λ a b. source_view b ≡ source_view a };
 
-    ghost is_infallible = { λ a. HoldsNoMemory (source_view a) };
+    ghost is_infallible = { λ a. SourceHoldsNoMemory (source_view a) };
 
     fn clone(&self) -> Result<JsonAst<'a>, AllocError> {
         copy(self)
@@ -24,7 +24,7 @@ impl<'a> Clone for JsonAst<'a> {
 #[cycle(copy)]
 fn copy<'a>(ast: &JsonAst<'a>) -> Result<JsonAst<'a>, AllocError>
     ensures same { IfOk result (λ a. source_view a ≡ source_view ast.now) }
-    ensures memory { IfErr result (λ _. ¬ (HoldsNoMemory (source_view ast.now))) }
+    ensures memory { IfErr result (λ _. ¬ (SourceHoldsNoMemory (source_view ast.now))) }
 {
     match ast {
         JsonAst::Null => Ok(JsonAst::Null),

@@ -13,6 +13,13 @@ use std::borrow::CowStr;
 
 impl<'a> JsonAst<'a> {
     /// The value with the same tree. Its only error is an allocation failure, and the tree is then dropped.
+    ///
+    /// It allocates for arrays and objects; strings move. Machine stack grows with the depth of the tree.
+    ///
+    /// ```
+    /// let tree = JsonAst::parse(rt.alloc(), b"[1, 2]", Mode::Standard)?;
+    /// assert_eq!(rt; tree.into_value(rt.alloc())?.array_length(), Some(2));
+    /// ```
     pub fn into_value(self, alloc: Global) -> Result<Value<'a>>
         ensures ok { IfOk result (λ v. view v ≡ ast_view self.entry) }
         ensures memory { IfErr result (λ e. (e ≡ Error.OutOfMemory) × IsContainer (ast_view self.entry)) }

@@ -1,4 +1,4 @@
-//! Keys and values that hold no others, as the direct reader makes them.
+//! Keys and values that hold no others, as the fast path makes them.
 ghost use Rattle.std.specs.Prelude.{length, take, ◌≡◌, ◌≢◌, ℕ, ◌<◌, ◌≤◌, IfSome, IfNone, Ok, string_bytes};
 ghost use Rattle.std.specs.Cow.{cow_str_bytes};
 ghost use Rattle.jsonb_value.specs.Tree.{Mark};
@@ -30,7 +30,7 @@ impl<'a> Parser<'a> {
         ensures advances { Advances self.old self.new }
     {
         if self.take_byte(b'"') {
-            if let Some(body) = self.direct_plain(b'"', text) {
+            if let Some(body) = self.borrowed_string(b'"', text) {
                 let Ok(()) = items.push(Value::String(CowStr::Borrowed(body))) else {
                     return None;
                 };
@@ -100,7 +100,7 @@ impl<'a> Parser<'a> {
         ensures advances { Advances self.old self.new }
     {
         if self.take_byte(b'"') {
-            if let Some(body) = self.direct_plain(b'"', text) {
+            if let Some(body) = self.borrowed_string(b'"', text) {
                 insert_new(members, key, Value::String(CowStr::Borrowed(body)))?;
                 return Some(());
             }
@@ -215,7 +215,7 @@ impl<'a> Parser<'a> {
             ≡ Ok (((mark, string_bytes name), place), rest_of self.new))) }
         ensures advances { Advances self.old self.new }
     {
-        let name = self.direct_name(text)?;
+        let name = self.quoted_name(text)?;
         if !self.take_after_blanks(b':') {
             return None;
         }
@@ -225,7 +225,7 @@ impl<'a> Parser<'a> {
 
     // A key, after blanks.
     #[inline(always)]
-    fn direct_name(&mut self, text: &'a str) -> Option<String>
+    fn quoted_name(&mut self, text: &'a str) -> Option<String>
         requires inside { self.old.idx ≤ size_of self.old }
         requires same { text.now ≡ take (length text.now) self.old.buf.now }
         ensures reads { IfSome result (λ name. (mark : Mark)
@@ -234,20 +234,20 @@ impl<'a> Parser<'a> {
         ensures advances { Advances self.old self.new }
     {
         if !self.take_after_blanks(b'"') {
-            return self.direct_other_name();
+            return self.unquoted_name();
         }
-        if let Some(body) = self.direct_plain(b'"', text) {
+        if let Some(body) = self.borrowed_string(b'"', text) {
             let Ok(name) = String::from_str(self.alloc, body) else {
                 return None;
             };
             return Some(name);
         }
-        self.direct_escaped_name()
+        self.escaped_name()
     }
 
     // A key in double quotes that has escapes, or is refused, from the byte after its opening quote on.
     #[inline(never)]
-    fn direct_escaped_name(&mut self) -> Option<String>
+    fn escaped_name(&mut self) -> Option<String>
         requires { self.old.idx ≤ size_of self.old }
         ensures reads { IfSome result (λ name. (mark : Mark)
             × (string_at (size_of self.old) (mode_of self.old.mode) 34 (rest_of self.old)
@@ -265,7 +265,7 @@ impl<'a> Parser<'a> {
 
     // A key in single quotes or in none.
     #[inline(never)]
-    fn direct_other_name(&mut self) -> Option<String>
+    fn unquoted_name(&mut self) -> Option<String>
         requires { self.old.idx ≤ size_of self.old }
         ensures reads { IfSome result (λ name. (mark : Mark)
             × (key_at (size_of self.old) (mode_of self.old.mode) (rest_of self.old)
@@ -291,7 +291,7 @@ impl<'a> Parser<'a> {
             self.old self.new }
         ensures advances { Advances self.old self.new }
     {
-        if let Some(body) = self.direct_plain(quote, text) {
+        if let Some(body) = self.borrowed_string(quote, text) {
             return Some(CowStr::Borrowed(body));
         }
         self.direct_escaped(quote)
@@ -314,7 +314,7 @@ impl<'a> Parser<'a> {
 
     // A string without escapes, from the byte after its opening quote on.
     #[inline(always)]
-    fn direct_plain(&mut self, quote: u8, text: &'a str) -> Option<&'a str>
+    fn borrowed_string(&mut self, quote: u8, text: &'a str) -> Option<&'a str>
         requires no_backslash { quote ≢ 92 }
         requires inside { self.old.idx ≤ size_of self.old }
         requires same { text.now ≡ take (length text.now) self.old.buf.now }

@@ -7,7 +7,7 @@ ghost use Rattle.jsonb_scan.specs.Reading.Number.{digits_length, sign_end};
 ghost use Rattle.jsonb_scan.specs.Reading.ExtendedNumber.{front_end, extended_scan, FollowsDigits};
 
 use super::form::{DECIMAL64_DIGITS, short_decimal, short_integer};
-use crate::parser::number::{SAFE_DIGITS, byte_at, follows_whole, sign_end};
+use crate::parser::number::{SAFE_DIGITS, byte_at, continues_after_integer, sign_end};
 use jsonb_value::number::Number;
 
 /// A number and the index after its text.
@@ -72,7 +72,10 @@ pub fn short_number(bytes: &[u8]) -> Option<ReadNumber>
         let all = digits_behind(&bytes[front_end + 1..], front)?;
         let scale = all.len - front.len;
         let end = front_end + 1 + scale;
-        if all.len == 0 || all.len > DECIMAL64_DIGITS || follows_whole(byte_at(bytes, end)) {
+        if all.len == 0
+            || all.len > DECIMAL64_DIGITS
+            || continues_after_integer(byte_at(bytes, end))
+        {
             return None;
         }
         return Some(ReadNumber {

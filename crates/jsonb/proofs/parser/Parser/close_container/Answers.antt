@@ -2,7 +2,7 @@ use Rattle.std.proofs.Common.{◌≡◌, [], ◌∷◌, ◌++◌, ◌+◌, ◌-�
 use Rattle.std.specs.BTreeMap.{insert_entry, is_at}
 use Rattle.std.specs.Map.{lookup}
 use Rattle.std.specs.Vec.{vec_len}
-use Rattle.jsonb.specs.Direct.{WasRead}
+use Rattle.jsonb.specs.Direct.{AfterValue}
 use Rattle.jsonb.specs.declared.parser.direct.OpenValue.TheVariants as variants
 use Rattle.jsonb.specs.declared.parser.direct.OpenMembers.{OpenMembers}
 use Rattle.jsonb.proofs.Containers.OpenOfDirect.{array_joined, if_some, last-is, last-set, object_joined}
@@ -19,7 +19,7 @@ returns-in-Ok-clause-reads c whole was =
     let f = c.in_ok-items.field-0.now in
     if_some c.end_part.result (λ closed next.
     array_joined p q fs _ (take n fs) f c.in-Array.items c.push_value.new.items c.into_value.result closed whole c.end_part.ensures.advances (last-is fs n f last c.in_ok-items.ensures.value) c.in-Array.is (last-set fs n (variants.Array c.push_value.new.items) last)
-    (c.in-Ok.ensures.items ∙ ap (λ vs. vs ++ c.into_value.result ∷ []) c.make_room.ensures) next (subst (λ t. WasRead whole p fs t) (sym c.into_value.ensures) was)) c.end_part.ensures.reads
+    (c.in-Ok.ensures.items ∙ ap (λ vs. vs ++ c.into_value.result ∷ []) c.make_room.ensures) next (subst (λ t. AfterValue whole p fs t) (sym c.into_value.ensures) was)) c.end_part.ensures.reads
 
 pub returns-in_ok-insert_new-in-Object-clause-reads : goal.returns-in_ok-insert_new-in-Object-clause-reads
 returns-in_ok-insert_new-in-Object-clause-reads c whole was =
@@ -40,4 +40,4 @@ returns-in_ok-insert_new-in-Object-clause-reads c whole was =
     (put.entries ∙ ap (λ k. insert_entry string_cmp v.members.entries k x) named)
     (subst (λ k. lookup (is_at (string_cmp k)) v.members.entries ≡ None) named put.missing)
     (ap (λ k. string_bytes k) c.replace-key.ensures.after ∙ c.new.ensures.bytes)
-    next (subst (λ t. WasRead whole p fs t) (sym c.into_value-in-Object.ensures) was)) c.end_part-in-Object.ensures.reads
+    next (subst (λ t. AfterValue whole p fs t) (sym c.into_value-in-Object.ensures) was)) c.end_part-in-Object.ensures.reads

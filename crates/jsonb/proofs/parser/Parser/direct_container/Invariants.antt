@@ -1,6 +1,6 @@
 use Rattle.std.proofs.Common.{◌-◌, ◌≤◌, length}
 use Rattle.jsonb_value.specs.Grammar.{max_depth}
-use Rattle.jsonb.specs.Direct.{IsAhead}
+use Rattle.jsonb.specs.Direct.{AtPart}
 use Rattle.jsonb_scan.specs.Answer.{mode_of}
 use Rattle.jsonb.specs.Parser.{Advances, rest_of, size_of}
 use Rattle.jsonb_scan.specs.Reading.Document.{value_at}
@@ -13,7 +13,7 @@ invariant-turns l =
       inside : l.self.idx ≤ size_of l.self;
       depth : length l.stack.items ≤ max_depth;
       advances : Advances p l.self;
-      ahead : IsAhead (value_at (size_of p) (mode_of p.mode) max_depth (rest_of p)) l.self l.stack.items l.closed;
+      ahead : AtPart (value_at (size_of p) (mode_of p.mode) max_depth (rest_of p)) l.self l.stack.items l.closed;
     }
 
 abbrev pub decreases-turns : goal.decreases-turns

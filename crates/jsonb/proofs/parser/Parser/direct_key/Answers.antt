@@ -12,11 +12,11 @@ use Rattle.jsonb.proofs.parser.Parser.direct_key.Goals as goal
 pub returns-clause-reads : goal.returns-clause-reads
 returns-clause-reads c =
     let p = c.args.self.now in
-    let r = c.direct_name.new.self in
+    let r = c.quoted_name.new.self in
     let u = c.take_after_blanks.new.self in
     let n = size_of p in
     let m = mode_of p.mode in
-    let on_r = c.direct_name.ensures.advances in
+    let on_r = c.quoted_name.ensures.advances in
     let on_u = goes_on p r u on_r c.take_after_blanks.ensures.advances in
     let mark : Mark = c.in_ok-name.ensures.reads.0 in
     let name : List ℕ = string_bytes c.in_ok-name.name in

@@ -21,7 +21,7 @@ returns-then-take_byte-clause-reads c =
       value.String c.in_ok-string.string,
       c.in_ok-insert_new-2.ensures.entries,
       c.in_ok-insert_new-2.ensures.missing,
-      scalar_string p c.direct_plain.new.self c.in_ok-string.string _ (subst (Advances p) stays c.take_byte.ensures.advances) (c.if-take_byte.ensures.rest ∙ ap (λ q. 34 ∷ rest_of q) stays) c.in_ok-string.ensures.reads,
+      scalar_string p c.borrowed_string.new.self c.in_ok-string.string _ (subst (Advances p) stays c.take_byte.ensures.advances) (c.if-take_byte.ensures.rest ∙ ap (λ q. 34 ∷ rest_of q) stays) c.in_ok-string.ensures.reads,
     )
 
 pub returns-then-begins_standard_number-clause-reads : goal.returns-then-begins_standard_number-clause-reads

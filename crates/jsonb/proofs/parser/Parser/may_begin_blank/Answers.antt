@@ -1,5 +1,5 @@
 use Rattle.std.proofs.Common.{nat_eq, ne_eqb, sym, ap, ◌∙◌, ◌||◌}
-use Rattle.jsonb_scan.specs.Reading.Blank.{pass_blanks, skip_blanks}
+use Rattle.jsonb_scan.specs.Reading.Blank.{skip_closed_blanks, skip_blanks}
 use Rattle.jsonb_scan.specs.Answer.{mode_of}
 use Rattle.jsonb.specs.Parser.{rest_of}
 use Rattle.jsonb_scan.proofs.Text.Blanks.{pass-by_slash, pass-nil, skip-by_slash, skip-nil}
@@ -19,5 +19,5 @@ returns-in-None c =
     let mode = mode_of c.args.self.now.mode in
     record {
       skips = ap (skip_blanks mode) c.in-None.ensures.next ∙ skip-nil mode ∙ sym c.in-None.ensures.next;
-      passes = ap (pass_blanks mode) c.in-None.ensures.next ∙ pass-nil mode ∙ sym c.in-None.ensures.next;
+      passes = ap (skip_closed_blanks mode) c.in-None.ensures.next ∙ pass-nil mode ∙ sym c.in-None.ensures.next;
     }

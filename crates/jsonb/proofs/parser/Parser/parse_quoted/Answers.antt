@@ -9,7 +9,7 @@ use Rattle.jsonb_value.specs.declared.error.Error.TheVariants.{OutOfMemory}
 use Rattle.jsonb_scan.specs.Decoding.{TellsBackslash}
 use Rattle.jsonb_scan.specs.Answer.{mode_of}
 use Rattle.jsonb.specs.Parser.{rest_of, size_of}
-use Rattle.jsonb_scan.specs.QuotedString.{ReadsBody}
+use Rattle.jsonb_scan.specs.QuotedString.{DecodesContents}
 use Rattle.jsonb_scan.specs.Reading.{fault}
 use Rattle.jsonb_scan.specs.Reading.String.{body_of, quote_end}
 use Rattle.jsonb_scan.proofs.Strings.Ends.{quote_within}
@@ -19,8 +19,8 @@ use Rattle.jsonb.proofs.parser.Parser.parse_quoted.Goals as goal
 same_error : {A : Type 0} (r : Result A Error) (x y : Error) → r ≡ Err x → r ≡ Err OutOfMemory → x ≡ y → y ≡ OutOfMemory
 same_error r x y was is same = cc
 
-pub slice_bounds-read_body-end : goal.slice_bounds-read_body-end
-slice_bounds-read_body-end c =
+pub slice_bounds-decode_contents-end : goal.slice_bounds-decode_contents-end
+slice_bounds-decode_contents-end c =
     let within = quote_within c.args.quote c.rest-rest.result.now c.in-Closed.end c.in-Closed.ensures.0 in
     sym (length-take-le c.in-Closed.end c.rest-rest.result.now (omega (arith, within)))
 
@@ -33,7 +33,7 @@ returns-in_err-text-in-Closed-clause-reads c =
     let r = err_from_is_err_and c.from_residual.result c.from_residual.ensures.1 in
     let mode = mode_of p.mode in
     let found = ap (quote_end c.args.quote) (sym rest-is) ∙ c.in-Closed.ensures.0 in
-    let body = subst (λ (u : List ℕ). ReadsBody (p.idx + 1) (Err e) (body_of mode (take end u))) rest-is c.in_err-text-in-Closed.ensures.reads in
+    let body = subst (λ (u : List ℕ). DecodesContents (p.idx + 1) (Err e) (body_of mode (take end u))) rest-is c.in_err-text-in-Closed.ensures.reads in
     rw (r.1, r.2) (body_fails (size_of p) mode c.args.quote (rest_of p) end p.idx e found (omega (arith, length-drop p.idx p.buf.now, c.requires.inside)) body)
 
 pub returns-in_err-text-in-Closed-clause-memory : goal.returns-in_err-text-in-Closed-clause-memory

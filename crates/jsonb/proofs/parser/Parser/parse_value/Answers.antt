@@ -1,4 +1,4 @@
-use Rattle.jsonb_scan.specs.Answer.{HoldsMarker, mode_of}
+use Rattle.jsonb_scan.specs.Answer.{MayAllocate, mode_of}
 use Rattle.std.proofs.Common.{◌≡◌, rules, ◌<◌, ◌≤◌, ⊎_elim, ap, length, Some, ◌∙◌, arith, refl, subst, sym}
 use Rattle.std.proofs.lemmas.Grind.{common_steps}
 use Rattle.std.proofs.lemmas.Bool.{cases_lt}
@@ -41,7 +41,7 @@ turns-preserved-in_ok-read-in-None c =
       i.0 ∙ ap (λ r. ahead l c.turns.stack.items r) c.in-None.is ∙ read.ensures.reads,
       read.ensures.depth,
       goes_on p l q i.2 c.begin_value.ensures.advances,
-      λ some. ⊎_elim (λ (more : 0 < length c.turns.stack.items). i.3 more) (λ (none : length c.turns.stack.items ≤ 0). subst HoldsMarker (ap (λ b. b.now) i.2.buf) (read.ensures.opened (omega (arith, none, some)))) (cases_lt 0 (length c.turns.stack.items)),
+      λ some. ⊎_elim (λ (more : 0 < length c.turns.stack.items). i.3 more) (λ (none : length c.turns.stack.items ≤ 0). subst MayAllocate (ap (λ b. b.now) i.2.buf) (read.ensures.opened (omega (arith, none, some)))) (cases_lt 0 (length c.turns.stack.items)),
       read.ensures.source p.idx (subst (λ r. AllIsPlaced (mode_of l.mode) l.buf.now p.idx c.turns.stack.items l.idx r) c.in-None.is i.4),
     )
 

@@ -2,7 +2,7 @@ use Rattle.std.proofs.Common.{◌≡◌, ◌+◌, ◌*◌, ◌≤◌, ◌<◌, �
 use Rattle.jsonb.specs.declared.parser.ast.JsonAst.{JsonAst}
 use Rattle.jsonb_value.specs.Grammar.{max_depth}
 use Rattle.jsonb.specs.OpenPlaces.{AllIsPlaced}
-use Rattle.jsonb_scan.specs.Answer.{HoldsMarker, mode_of}
+use Rattle.jsonb_scan.specs.Answer.{MayAllocate, mode_of}
 use Rattle.jsonb.specs.Parser.{Advances, rest_of, size_of}
 use Rattle.jsonb_scan.specs.Reading.Document.{value_at}
 use Rattle.jsonb.specs.Stack.{ahead}
@@ -18,7 +18,7 @@ invariant-turns l =
     (value_at (size_of p) (mode_of p.mode) max_depth (rest_of p) ≡ ahead l.self l.stack.items l.read)
     × (length l.stack.items ≤ max_depth)
     × Advances p l.self
-    × (0 < length l.stack.items → HoldsMarker p.buf.now)
+    × (0 < length l.stack.items → MayAllocate p.buf.now)
     × AllIsPlaced (mode_of l.self.mode) l.self.buf.now p.idx l.stack.items l.self.idx l.read
 
 abbrev pub decreases-turns : goal.decreases-turns

@@ -18,7 +18,7 @@ pub returns-then-take_byte-clause-reads : goal.returns-then-take_byte-clause-rea
 returns-then-take_byte-clause-reads c =
     let p = c.args.self.now in
     let stays = sym c.in_default.ensures.stays in
-    let quoted = scalar_quoted p c.direct_plain.new.self (subst (Advances p) stays c.take_byte.ensures.advances) (c.if-take_byte.ensures.rest ∙ ap (λ q. 34 ∷ rest_of q) stays) in
+    let quoted = scalar_quoted p c.borrowed_string.new.self (subst (Advances p) stays c.take_byte.ensures.advances) (c.if-take_byte.ensures.rest ∙ ap (λ q. 34 ∷ rest_of q) stays) in
     if_some c.push_escaped.result (λ done pushed. (pushed.0, pushed.1, quoted ∙ pushed.2)) c.push_escaped.ensures.reads
 
 pub returns-then-begins_standard_number-clause-reads : goal.returns-then-begins_standard_number-clause-reads

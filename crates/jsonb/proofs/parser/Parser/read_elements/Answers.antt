@@ -3,7 +3,7 @@ use Rattle.std.proofs.lemmas.List.{map-append}
 use Rattle.jsonb_value.specs.View.{view}
 use Rattle.jsonb_scan.specs.Answer.{mode_of}
 use Rattle.jsonb.specs.Parser.{rest_of, size_of}
-use Rattle.jsonb.specs.Direct.{part_at}
+use Rattle.jsonb.specs.Direct.{resume_part}
 use Rattle.jsonb.specs.Stack.Open.{elements_so_far}
 use Rattle.jsonb.proofs.Containers.OpenOfDirect.{element_stops, element_turn}
 use Rattle.jsonb.proofs.Steps.Advancing.{goes_on}
@@ -30,7 +30,7 @@ returns-then-branch-clause-reads c depth =
           i.reads depth
           ∙ element_turn c.args.self.now c.elements.self c.skip_blanks.new.self c.push_element.new.self c.end_part.new.self depth front (view pushed.0) c.in_ok-end_part.field-0 i.advances c.skip_blanks.ensures.advances c.push_element.ensures.advances c.skip_blanks.ensures.rest
           c.if-begins_container.ensures.0 c.if-begins_container.ensures.1 pushed.2 c.in_ok-end_part.ensures.reads
-          ∙ ap (λ closed. part_at (size_of c.args.self.now) (mode_of c.args.self.now.mode) depth closed (elements_so_far (front ++ view pushed.0 ∷ [])) (rest_of c.end_part.new.self)) c.if-branch.true;
+          ∙ ap (λ closed. resume_part (size_of c.args.self.now) (mode_of c.args.self.now.mode) depth closed (elements_so_far (front ++ view pushed.0 ∷ [])) (rest_of c.end_part.new.self)) c.if-branch.true;
     }
 
 pub elements-preserved : goal.elements-preserved
@@ -51,6 +51,6 @@ elements-preserved c =
           i.reads depth
           ∙ element_turn p l s q r depth front (view pushed.0) c.in_ok-end_part.field-0 i.advances c.skip_blanks.ensures.advances c.push_element.ensures.advances c.skip_blanks.ensures.rest
           c.if-begins_container.ensures.0 c.if-begins_container.ensures.1 pushed.2 c.in_ok-end_part.ensures.reads
-          ∙ ap (λ closed. part_at (size_of p) (mode_of p.mode) depth closed (elements_so_far (front ++ view pushed.0 ∷ [])) (rest_of r)) c.if-branch.false
-          ∙ ap (λ ts. part_at (size_of p) (mode_of p.mode) depth false (elements_so_far ts) (rest_of r)) (sym (ap (λ vs. map view vs) pushed.1 ∙ map-append view c.elements.items.items (pushed.0 ∷ [])));
+          ∙ ap (λ closed. resume_part (size_of p) (mode_of p.mode) depth closed (elements_so_far (front ++ view pushed.0 ∷ [])) (rest_of r)) c.if-branch.false
+          ∙ ap (λ ts. resume_part (size_of p) (mode_of p.mode) depth false (elements_so_far ts) (rest_of r)) (sym (ap (λ vs. map view vs) pushed.1 ∙ map-append view c.elements.items.items (pushed.0 ∷ [])));
     }

@@ -2,7 +2,7 @@ use Rattle.std.proofs.Common.{ℕ, List, [], ◌∷◌, ◌++◌, string_bytes, 
 use Rattle.jsonb_value.specs.Tree.{Mark}
 use Rattle.jsonb_value.specs.Tree.Mark.{plain}
 use Rattle.jsonb_value.specs.View.{view}
-use Rattle.jsonb.specs.Direct.{part_at}
+use Rattle.jsonb.specs.Direct.{resume_part}
 use Rattle.jsonb_scan.specs.Answer.{mode_of}
 use Rattle.jsonb.specs.Parser.{rest_of, size_of}
 use Rattle.jsonb.specs.Stack.Open.{members_so_far}
@@ -39,7 +39,7 @@ returns-then-branch-clause-reads c depth front held =
           so_far.2
           ∙ member_turn p c.members.self c.direct_key.new.self c.insert_scalar.new.self c.end_part.new.self depth so_far.0 k key.1 (view v) c.in_ok-end_part.field-0 i.advances c.direct_key.ensures.advances c.insert_scalar.ensures.advances key.2
           c.if-begins_container.ensures.0 c.if-begins_container.ensures.1 put.3 c.in_ok-end_part.ensures.reads
-          ∙ ap (λ closed. part_at (size_of p) (mode_of p.mode) depth closed (members_so_far (so_far.0 ++ f ∷ []) (plain, []) key.1) (rest_of c.end_part.new.self)) c.if-branch.true;
+          ∙ ap (λ closed. resume_part (size_of p) (mode_of p.mode) depth closed (members_so_far (so_far.0 ++ f ∷ []) (plain, []) key.1) (rest_of c.end_part.new.self)) c.if-branch.true;
     }
 
 pub members-preserved : goal.members-preserved
@@ -66,6 +66,6 @@ members-preserved c =
             so_far.2
                 ∙ member_turn p l s q r depth so_far.0 k key.1 (view v) c.in_ok-end_part.field-0 i.advances c.direct_key.ensures.advances c.insert_scalar.ensures.advances key.2
                 c.if-begins_container.ensures.0 c.if-begins_container.ensures.1 put.3 c.in_ok-end_part.ensures.reads
-                ∙ ap (λ closed. part_at (size_of p) (mode_of p.mode) depth closed (members_so_far (so_far.0 ++ f ∷ []) (plain, []) key.1) (rest_of r)) c.if-branch.false,
+                ∙ ap (λ closed. resume_part (size_of p) (mode_of p.mode) depth closed (members_so_far (so_far.0 ++ f ∷ []) (plain, []) key.1) (rest_of r)) c.if-branch.false,
           );
     }

@@ -1,5 +1,5 @@
 use Rattle.std.proofs.Common.{◌≡◌, ℕ, ◌-◌, ◌≤◌, List}
-use Rattle.jsonb.specs.Direct.{IsPutIn}
+use Rattle.jsonb.specs.Direct.{MapHolds}
 use Rattle.jsonb_scan.specs.Answer.{mode_of}
 use Rattle.jsonb.specs.Parser.{Advances, rest_of, size_of}
 use Rattle.jsonb_scan.specs.Reading.Container.{Found}
@@ -12,7 +12,7 @@ invariant-members l =
     let p = l.fn.self in record {
       inside : l.self.idx ≤ size_of l.self;
       advances : Advances p l.self;
-      reads : (depth : ℕ) (front : List Found) → IsPutIn front l.fn.object.members.entries → (fs : List Found) × IsPutIn fs l.object.members.entries × (read_members_from (size_of p) (mode_of p.mode) depth front (rest_of p) ≡ read_members_from (size_of p) (mode_of p.mode) depth fs (rest_of l.self));
+      reads : (depth : ℕ) (front : List Found) → MapHolds front l.fn.object.members.entries → (fs : List Found) × MapHolds fs l.object.members.entries × (read_members_from (size_of p) (mode_of p.mode) depth front (rest_of p) ≡ read_members_from (size_of p) (mode_of p.mode) depth fs (rest_of l.self));
     }
 
 abbrev pub decreases-members : goal.decreases-members

@@ -3,14 +3,14 @@ use Rattle.jsonb_value.specs.Grammar.Blanks.{IsBlank}
 use Rattle.jsonb_value.specs.Grammar.Blanks.IsBlank.{space, tab, line_feed, carriage_return}
 use Rattle.jsonb_scan.specs.Answer.{mode_of}
 use Rattle.jsonb.specs.Parser.{rest_of}
-use Rattle.jsonb_scan.specs.Reading.Blank.{pass_blanks}
+use Rattle.jsonb_scan.specs.Reading.Blank.{skip_closed_blanks}
 use Rattle.jsonb.specs.declared.parser.Parser.{Parser}
 use Rattle.jsonb_scan.proofs.Text.Blanks.{pass-blank}
 use Rattle.jsonb.proofs.parser.Parser.take_plain_blank.Goals as goal
 
 -- one byte that is a blank was passed
-passed : (p q r : Parser) (byte : ℕ) → q ≡ p → rest_of q ≡ byte ∷ rest_of r → IsBlank (mode_of p.mode) (byte ∷ []) → pass_blanks (mode_of p.mode) (rest_of r) ≡ pass_blanks (mode_of p.mode) (rest_of p)
-passed p q r byte same rest blank = sym (ap (λ s. pass_blanks (mode_of p.mode) (rest_of s)) (sym same) ∙ ap (pass_blanks (mode_of p.mode)) rest ∙ pass-blank blank (rest_of r))
+passed : (p q r : Parser) (byte : ℕ) → q ≡ p → rest_of q ≡ byte ∷ rest_of r → IsBlank (mode_of p.mode) (byte ∷ []) → skip_closed_blanks (mode_of p.mode) (rest_of r) ≡ skip_closed_blanks (mode_of p.mode) (rest_of p)
+passed p q r byte same rest blank = sym (ap (λ s. skip_closed_blanks (mode_of p.mode) (rest_of s)) (sym same) ∙ ap (skip_closed_blanks (mode_of p.mode)) rest ∙ pass-blank blank (rest_of r))
 
 pub returns-then-take_byte-clause-rest : goal.returns-then-take_byte-clause-rest
 returns-then-take_byte-clause-rest c = passed c.args.self.now c.args.self.now c.take_byte.new.self 32 refl c.if-take_byte.ensures.rest space

@@ -12,10 +12,10 @@ pub returns : goal.returns
 unfolding document_of
 returns c =
     let p : Parser = record { alloc = c.args.alloc; mode = c.args.mode; buf = c.args.buf; idx = 0 } in
-    let q = c.pass_blanks.new.self in
+    let q = c.skip_closed_blanks.new.self in
     let m = c.direct_value.new.self in
     let t = view c.in_ok-value.value in
-    document_some p q c.pass_blanks.ensures.rest c.pass_blanks.ensures.advances c.if-parser.false (sym c.opens_comment.ensures.value ∙ c.if-opens_comment.false)
+    document_some p q c.skip_closed_blanks.ensures.rest c.skip_closed_blanks.ensures.advances c.if-parser.false (sym c.opens_comment.ensures.value ∙ c.if-opens_comment.false)
     ∙ ap (λ r. r >>= ended (size_of q) (mode_of q.mode)) c.in_ok-value.ensures.reads
     ∙ ended_same q m t c.in_ok-value.ensures.advances
     ∙ c.in-Ok.ensures.reads t

@@ -11,7 +11,7 @@ pub returns-then-next-eq46-clause-found : goal.returns-then-next-eq46-clause-fou
 returns-then-next-eq46-clause-found c =
     let f = front_read c.args.bytes.now _ c.sign_end-start.result c.in_ok-front.front.len c.in_ok-front.front.value c.sign_end-start.ensures.end (take_rest c.args.bytes.now c.sign_end-start.result) c.in_ok-front.ensures.len c.in_ok-front.ensures.value in
     let b = behind_read c.args.bytes.now _ c.sign_end-start.result c.in_ok-front.front.len c.in_ok-front.front.value c.in_ok-all.all.len c.in_ok-all.all.value c.byte_at-next.result f c.byte_at-next.ensures c.if-next-eq46.true (take_rest c.args.bytes.now (c.sign_end-start.result + c.in_ok-front.front.len + 1)) c.in_ok-all.ensures.len c.in_ok-all.ensures.value in
-    short_behind c.args.bytes.now c.sign_end-start.result c.in_ok-front.front.len c.in_ok-front.front.value c.in_ok-all.all.len c.in_ok-all.all.value c.byte_at.result c.byte_at-negative.result _ b c.if-all-eq0.false c.if-all-gt-DECIMAL64_DIGITS.false c.byte_at.ensures c.if-follows_whole.ensures c.byte_at-negative.ensures c.short_decimal.ensures
+    short_behind c.args.bytes.now c.sign_end-start.result c.in_ok-front.front.len c.in_ok-front.front.value c.in_ok-all.all.len c.in_ok-all.all.value c.byte_at.result c.byte_at-negative.result _ b c.if-all-eq0.false c.if-all-gt-DECIMAL64_DIGITS.false c.byte_at.ensures c.if-continues_after_integer.ensures c.byte_at-negative.ensures c.short_decimal.ensures
 
 pub returns-then-next-eq46-clause-within : goal.returns-then-next-eq46-clause-within
 returns-then-next-eq46-clause-within c =

@@ -7,7 +7,7 @@ use Rattle.jsonb_scan.specs.Answer.{mode_of}
 use Rattle.jsonb.specs.Parser.{size_of}
 use Rattle.jsonb_scan.specs.Reading.String.{quote_end, string_at}
 use Rattle.jsonb_scan.proofs.Strings.Bodies.{body-raw, found_end, search_start, search_to, string-closed, tells_taken}
-use Rattle.jsonb.proofs.parser.Parser.direct_plain.Goals as goal
+use Rattle.jsonb.proofs.parser.Parser.borrowed_string.Goals as goal
 
 pub returns-clause-reads : goal.returns-clause-reads
 returns-clause-reads c =

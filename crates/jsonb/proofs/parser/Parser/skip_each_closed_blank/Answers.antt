@@ -1,12 +1,12 @@
 use Rattle.std.proofs.Common.{◌≡◌, ◌+◌, ◌<◌, [], drop, sym, ap, ap₂, ◌∙◌, arith, drop-drop, length, length-drop}
-use Rattle.jsonb_scan.specs.Reading.Blank.{blank_length, pass_blanks}
+use Rattle.jsonb_scan.specs.Reading.Blank.{blank_length, skip_closed_blanks}
 use Rattle.jsonb_scan.specs.Answer.{mode_of}
 use Rattle.jsonb.specs.Parser.{Advances, rest_of}
 use Rattle.jsonb_scan.proofs.Text.Blanks.{pass-none, pass-step, pass-nil}
 use Rattle.jsonb.specs.declared.parser.Parser.{Parser}
 use Rattle.jsonb.proofs.Steps.Advancing.{goes_on}
 use Rattle.jsonb.proofs.Steps.Cursors.{nothing_left}
-use Rattle.jsonb.proofs.parser.Parser.pass_all_blanks.Goals as goal
+use Rattle.jsonb.proofs.parser.Parser.skip_each_closed_blank.Goals as goal
 
 pub returns-then-n-eq0-clause-rest : goal.returns-then-n-eq0-clause-rest
 returns-then-n-eq0-clause-rest c =
@@ -26,10 +26,10 @@ blanks-preserved c =
     let past : Parser = record p { idx = p.idx + c.blank_len-n.result } in
     let on : Advances c.args.self.now past =
     record { buf = before.1.buf; mode = before.1.mode; onward = omega (arith, before.1.onward); inside = λ h. omega (arith, c.blank_len-n.ensures.within, ap length c.rest.ensures, length-drop p.idx p.buf.now) } in (
-      ap (λ k. pass_blanks (mode_of k) (rest_of c.skip_spaces.new.self)) (sym before.1.mode)
+      ap (λ k. skip_closed_blanks (mode_of k) (rest_of c.skip_spaces.new.self)) (sym before.1.mode)
           ∙ c.skip_spaces.ensures.rest
-          ∙ ap (λ k. pass_blanks (mode_of k) (rest_of past)) before.1.mode
-          ∙ ap (λ r. pass_blanks mode r) (sym passed) ∙ sym (pass-step mode (rest_of p) some) ∙ before.0,
+          ∙ ap (λ k. skip_closed_blanks (mode_of k) (rest_of past)) before.1.mode
+          ∙ ap (λ r. skip_closed_blanks mode r) (sym passed) ∙ sym (pass-step mode (rest_of p) some) ∙ before.0,
       goes_on c.args.self.now past c.skip_spaces.new.self on c.skip_spaces.ensures.advances,
     )
 
@@ -38,4 +38,4 @@ returns-clause-rest c =
     let p = c.blanks.self in
     let mode = mode_of c.args.self.now.mode in
     let none : rest_of p ≡ [] = nothing_left p.buf.now p.idx c.blanks-test.false in
-    none ∙ sym (pass-nil mode) ∙ ap (λ r. pass_blanks mode r) (sym none) ∙ c.blanks.invariant.0
+    none ∙ sym (pass-nil mode) ∙ ap (λ r. skip_closed_blanks mode r) (sym none) ∙ c.blanks.invariant.0

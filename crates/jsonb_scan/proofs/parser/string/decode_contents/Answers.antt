@@ -4,7 +4,7 @@ use Rattle.jsonb_value.specs.Tree.{plain}
 use Rattle.jsonb_scan.specs.Answer.{mode_of}
 use Rattle.jsonb_scan.specs.Decoding.{TellsBackslash}
 use Rattle.jsonb_scan.proofs.Strings.Bodies.{body-raw, body-raw_fault, body-decoded, reads_refused}
-use Rattle.jsonb_scan.proofs.parser.string.read_body.Goals as goal
+use Rattle.jsonb_scan.proofs.parser.string.decode_contents.Goals as goal
 
 pub returns-in_err-text-clause-reads : goal.returns-in_err-text-clause-reads
 returns-in_err-text-clause-reads c =
