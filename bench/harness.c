@@ -4,6 +4,9 @@
  *   harness FILE..               prints a line for each file and operation: the file, the operation, how many bytes, the
  *                                nanoseconds of one pass over the file, and its instructions, or - where they can't be counted
  *   harness --has-counter        succeeds where instructions can be counted here
+ *   harness --time FILE..        prints the same lines with the processor's time: the median of a pass, and in the place of
+ *                                instructions the page faults of all passes that were timed; of reading, writing, comparing
+ *                                and cloning alone
  *   harness --pass OP N FILE     makes one pass over the file with N rounds of the operation on each document, for a tool
  *                                that counts from outside
  *   harness --peak FILE..        prints a line for each file: the file, the word peak, how many bytes, the bytes of heap that
@@ -24,6 +27,7 @@
 #include <stdlib.h>
 #include <string.h>
 #include <sys/ioctl.h>
+#include <sys/resource.h>
 #include <sys/syscall.h>
 #include <time.h>
 #include <unistd.h>
@@ -132,6 +136,62 @@ static double best(const struct file *file, operation_t *run, size_t rounds, dou
   return least;
 }
 
+static const char *last_part(const char *path) {
+  const char *slash = strrchr(path, '/');
+  return slash ? slash + 1 : path;
+}
+
+static double processor_time(void) {
+  struct timespec t;
+  clock_gettime(CLOCK_PROCESS_CPUTIME_ID, &t);
+  return t.tv_sec * 1e9 + t.tv_nsec;
+}
+
+static int by_size(const void *a, const void *b) {
+  double x = *(const double *)a, y = *(const double *)b;
+  return (x > y) - (x < y);
+}
+
+/* The median of the processor's time of a pass. The first two passes bring the heap to its size, and don't count. */
+static double median(const struct file *file, operation_t *run, size_t rounds, double budget) {
+  enum { MOST = 400 };
+  double times[MOST], spent = 0;
+  int count = 0;
+  pass(file, run, rounds);
+  pass(file, run, rounds);
+  while (count < 5 || (count < MOST && spent < budget)) {
+    double from = processor_time();
+    pass(file, run, rounds);
+    spent += times[count++] = processor_time() - from;
+  }
+  qsort(times, count, sizeof *times, by_size);
+  return times[count / 2];
+}
+
+static long page_faults(void) {
+  struct rusage usage;
+  getrusage(RUSAGE_SELF, &usage);
+  return usage.ru_minflt + usage.ru_majflt;
+}
+
+/* The operations that are timed beside another library's. */
+static int is_timed(const struct operation *operation) {
+  static const char *const names[] = { "read", "write", "compare", "clone" };
+  for (size_t i = 0; i < sizeof names / sizeof *names; i++)
+    if (!strcmp(operation->name, names[i])) return 1;
+  return 0;
+}
+
+static void measure_processor(const struct file *file, const struct operation *operation, double budget) {
+  size_t rounds = operation->only_reads ? 1 : 16;
+  pass(file, operation->run, rounds);
+  long faults = page_faults();
+  double ns = median(file, operation->run, rounds, budget);
+  if (!operation->only_reads) ns = (ns - median(file, operation->run, 0, budget)) / rounds;
+  printf("%s\t%s\t%zu\t%.0f\t%ld\n", last_part(file->name), operation->name, file->bytes, ns, page_faults() - faults);
+  fflush(stdout);
+}
+
 /* A counter of this process's own instructions outside the kernel, or -1 where the kernel or the machine has none. */
 static int open_counter(void) {
   const char *refused = getenv("NO_COUNTER");
@@ -160,11 +220,6 @@ static double count(int counter, const struct file *file, operation_t *run, size
 static int is_extended(const struct file *file) {
   const char *point = strrchr(file->name, '.');
   return point && !strcmp(point, ".json5");
-}
-
-static const char *last_part(const char *path) {
-  const char *slash = strrchr(path, '/');
-  return slash ? slash + 1 : path;
 }
 
 static void measure(const struct file *file, const struct operation *operation, int counter, double budget) {
@@ -236,11 +291,16 @@ int main(int argc, char **argv) {
 
   const char *ms = getenv("BUDGET_MS");
   double budget = (ms ? atof(ms) : 200) * 1e6;
-  int counter = open_counter();
-  for (int i = 1; i < argc; i++) {
+  int timed = argc > 1 && !strcmp(argv[1], "--time");
+  int counter = timed ? -1 : open_counter();
+  for (int i = 1 + timed; i < argc; i++) {
     struct file file = load(argv[i]);
-    for (size_t which = 0; which < OPERATIONS; which++)
-      if (operations[which].is_extended || !is_extended(&file)) measure(&file, &operations[which], counter, budget);
+    for (size_t which = 0; which < OPERATIONS; which++) {
+      const struct operation *operation = &operations[which];
+      if (timed ? !is_timed(operation) : is_extended(&file) && !operation->is_extended) continue;
+      if (timed) measure_processor(&file, operation, budget);
+      else measure(&file, operation, counter, budget);
+    }
   }
   return 0;
 }

@@ -1,5 +1,7 @@
 #!/usr/bin/env python3
-"""Writes the documents of the benchmark into the folder that is named.
+"""Writes the documents of the benchmark into the folder that is named: make_documents.py FOLDER [SIZE]
+
+With a size in bytes it writes those of eight kinds that are about so long each, as many as are 1 MB together.
 
 Each line of a file is one document. Those of a .json file are standard JSON without a fraction or an exponent, and only
 the catalog has blanks between its tokens, as it is indented. Those of a .json5 file are extended JSON with keys without
@@ -211,6 +213,43 @@ def shaped_documents():
     yield "short_strings", [text_of([string_of(LETTERS, 2, 13) for _ in range(1000)]) for _ in range(100)]
 
 
+def until(size, part):
+    """The texts of parts that are so many bytes together, each made of its index."""
+    texts, length = [], 0
+    while length < size:
+        texts.append(part(len(texts)))
+        length += len(texts[-1].encode()) + 1
+    return texts
+
+
+def array(part):
+    """What makes an array of a size, of parts that are made of their index."""
+    return lambda size: "[%s]" % ",".join(until(size, lambda i: text_of(part(i))))
+
+
+def wide_object_of(size):
+    return "{%s}" % ",".join(until(size, lambda i: '"%s%d":%d' % (string_of(LETTERS, 6, 7), i, i)))
+
+
+# What makes a document of a size, of the kinds of `documents` and `shaped_documents` that have one.
+KINDS = {
+    "tweets": lambda size: answer(max(1, size // 3000)),
+    "catalog": lambda size: catalog(max(1, (size - 12000) // 2150)),
+    "long_strings": array(lambda _: string_of(LETTERS + " é", 40, 400)),
+    "short_strings": array(lambda _: string_of(LETTERS, 2, 13)),
+    "escapes": array(lambda _: string_of(LETTERS + " \n\"\t\\", 20, 100)),
+    "integers": array(lambda _: integer()),
+    "objects": array(record),
+    "wide_object": wide_object_of,
+}
+
+
+def write_sized(folder, size):
+    for name, make in KINDS.items():
+        texts = until(1000000, lambda _: make(size))
+        write(os.path.join(folder, name + ".json"), texts)
+
+
 def write(path, texts):
     with open(path, "w", encoding="utf-8") as file:
         file.write("".join(text + "\n" for text in texts))
@@ -220,6 +259,9 @@ def main():
     folder = sys.argv[1]
     os.makedirs(folder, exist_ok=True)
     random.seed(7)
+    if len(sys.argv) > 2:
+        write_sized(folder, int(sys.argv[2]))
+        return
     for name, texts in documents():
         write(os.path.join(folder, name + ".json"), texts)
     for name, texts in extended_documents():
