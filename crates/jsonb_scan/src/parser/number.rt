@@ -77,7 +77,45 @@ fn many_digits(bytes: &[u8]) -> Digits
     }
 }
 
-/// The digits that the bytes begin with.
+// How many of the first `limit` bytes are digits from the first on, and their number.
+#[inline(always)]
+fn digits_within(bytes: &[u8], limit: usize) -> (usize, u64)
+    requires few { limit ≤ 19 }
+    requires inside { limit ≤ length bytes.now }
+    ensures within { result.0 ≤ limit }
+    ensures digits { digits_length bytes.now ≡ result.0 + digits_length (drop result.0 bytes.now) }
+    ensures end { result.0 < limit → result.0 ≡ digits_length bytes.now }
+    ensures value { result.1 ≡ digits_value 10 (take result.0 bytes.now) }
+    ensures below { result.1 < 10 ^ result.0 }
+{
+    let mut value = 0u64;
+    let mut len = 0;
+    'digits: while len < limit && bytes[len].is_ascii_digit() {
+        value = value * 10 + u64::from(bytes[len] - b'0');
+        len += 1;
+    }
+    (len, value)
+}
+
+// The digits that few bytes begin with.
+#[inline(never)]
+fn few_digits(bytes: &[u8]) -> Digits
+    requires { length bytes.now ≤ 19 }
+    ensures len { result.len ≡ digits_length bytes.now }
+    ensures within { result.len ≤ length bytes.now }
+    ensures value { SomeIff result.value
+        (digits_value 10 (take (digits_length bytes.now) bytes.now) < 2 ^ 64)
+        (digits_value 10 (take (digits_length bytes.now) bytes.now)) }
+{
+    let (len, value) = digits_within(bytes, bytes.len());
+    Digits {
+        len,
+        value: Some(value),
+    }
+}
+
+/// The digits that the bytes begin with. The loop is over so many bytes as is known when it is compiled, so that it is
+/// unrolled.
 #[inline(always)]
 pub fn leading_digits(bytes: &[u8]) -> Digits
     ensures len { result.len ≡ digits_length bytes.now }
@@ -86,14 +124,12 @@ pub fn leading_digits(bytes: &[u8]) -> Digits
         (digits_value 10 (take (digits_length bytes.now) bytes.now) < 2 ^ 64)
         (digits_value 10 (take (digits_length bytes.now) bytes.now)) }
 {
-    let mut value = 0u64;
-    let mut len = 0;
-    'digits: while len < bytes.len() && bytes[len].is_ascii_digit() {
-        if len == SAFE_DIGITS {
-            return many_digits(bytes);
-        }
-        value = value * 10 + u64::from(bytes[len] - b'0');
-        len += 1;
+    if bytes.len() <= SAFE_DIGITS {
+        return few_digits(bytes);
+    }
+    let (len, value) = digits_within(bytes, SAFE_DIGITS);
+    if len == SAFE_DIGITS && bytes[len].is_ascii_digit() {
+        return many_digits(bytes);
     }
     Digits {
         len,
