@@ -6,10 +6,12 @@
 #![tactic(auto)]
 
 ghost use Rattle.std.specs.Prelude.{◌≡◌, ◌≤◌};
-ghost use Rattle.jsonb_value.specs.Grammar.{IsNoDocument};
+ghost use Rattle.jsonb_value.specs.Grammar.{IsDocument, IsNoDocument};
 ghost use Rattle.jsonb_value.specs.Mode.{standard, extended};
+ghost use Rattle.jsonb_value.specs.Tree.{Tree};
 
 use jsonb::{JsonAst, Mode, parse_value, parse_value_standard_mode};
+use jsonb_value::error::Error;
 use std::alloc::Global;
 
 /// Reads the text as standard JSON `rounds` times, and drops each value. The answer is how many rounds went
@@ -22,6 +24,25 @@ pub extern "C" fn jsonb_bench_read(alloc: Global, text: &[u8], rounds: usize) ->
 {
     for round in 0..rounds {
         if parse_value_standard_mode(alloc, text).is_err() {
+            return round;
+        }
+    }
+    rounds
+}
+
+/// Reads the text as standard JSON `rounds` times, and drops each error. The answer is how many rounds rejected it
+/// before the first that did not, and so it is `rounds` where all did.
+#[unsafe(no_mangle)]
+pub extern "C" fn jsonb_bench_reject(alloc: Global, text: &[u8], rounds: usize) -> usize
+    ensures most { result ≤ rounds }
+    // No round rejects a document. One where memory runs out isn't counted.
+    ensures document { (t : Tree) → IsDocument standard text.now t → result ≡ 0 }
+{
+    for round in 0..rounds {
+        let Err(error) = parse_value_standard_mode(alloc, text) else {
+            return round;
+        };
+        if matches!(error, Error::OutOfMemory) {
             return round;
         }
     }

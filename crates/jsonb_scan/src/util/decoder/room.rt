@@ -8,7 +8,7 @@ pub(super) fn push_within(text: &mut Vec<u8>, byte: u8)
     ensures len { vec_len text.new ≡ vec_len text.old + 1 }
     ensures capacity { vec_capacity text.old ≤ vec_capacity text.new }
 {
-    let _ = text.push(byte);
+    text.push_reserved(byte);
 }
 
 // Appends bytes where there is room.

@@ -1,4 +1,4 @@
-use Rattle.std.proofs.Common.{◌≡◌, ◌+◌, ◌-◌, ◌^◌, ◌<◌, ◌≤◌, length, take, drop}
+use Rattle.std.proofs.Common.{◌≡◌, ◌+◌, ◌-◌, ◌^◌, ◌<◌, ◌≤◌, take, drop}
 use Rattle.std.specs.Str.Parse.{digits_value}
 use Rattle.jsonb_scan.specs.Reading.Number.{digits_length}
 use Rattle.jsonb_scan.proofs.parser.number.digits_within.Given as goal
