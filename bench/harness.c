@@ -12,11 +12,13 @@
  *   harness --peak FILE..        prints a line for each file: the file, the word peak, how many bytes, the bytes of heap that
  *                                live at most while a document is read, its value among them, added up over the file, and -
  *
- * The documents of a file whose name ends in .json5 are of extended mode, and are only read.
+ * The documents of a file whose name ends in .json5 are of extended mode, and are only read. Those of a .rejected file are
+ * no documents, and are only rejected.
  *
  * With NO_COUNTER set it opens no counter. PREFIX is what the names of the measured library's functions begin with.
- * WITH_EXTENDED is defined where the library reads extended mode, WITH_AST where it reads into trees, WITH_SORT_KEY where it
- * writes sort keys, and WITH_MEMORY where memory.c is linked, as --peak needs it and as the times must not have it.
+ * WITH_EXTENDED is defined where the library reads extended mode, WITH_AST where it reads into trees, WITH_SORT_KEY where
+ * it writes sort keys, WITH_REJECT where it tells how often it rejects a text, and WITH_MEMORY where memory.c is linked, as
+ * --peak needs it and as the times must not have it.
  * WITHOUT_VALUES is defined where it compares and clones no values, and WITH_READ_WRITE where it writes only what it has
  * just read. */
 #define _GNU_SOURCE
@@ -51,6 +53,9 @@ operation_t JOIN(PREFIX, compare), JOIN(PREFIX, clone);
 #ifdef WITH_EXTENDED
 operation_t JOIN(PREFIX, read_extended);
 #endif
+#ifdef WITH_REJECT
+operation_t JOIN(PREFIX, reject);
+#endif
 #ifdef WITH_AST
 operation_t JOIN(PREFIX, read_ast);
 #endif
@@ -60,25 +65,28 @@ operation_t JOIN(PREFIX, sort_key);
 
 /* An operation that does not only read still reads the text where there is no round at all. So its cost is what more
  * rounds cost than none. */
-static const struct operation { const char *name; operation_t *run; int only_reads, is_extended; } operations[] = {
-  { "read", JOIN(PREFIX, read), 1, 0 },
+static const struct operation { const char *name; operation_t *run; int only_reads; const char *suffix; } operations[] = {
+  { "read", JOIN(PREFIX, read), 1, ".json" },
 #ifdef WITH_EXTENDED
-  { "extended", JOIN(PREFIX, read_extended), 1, 1 },
+  { "extended", JOIN(PREFIX, read_extended), 1, ".json5" },
+#endif
+#ifdef WITH_REJECT
+  { "reject", JOIN(PREFIX, reject), 1, ".rejected" },
 #endif
 #ifdef WITH_AST
-  { "read_ast", JOIN(PREFIX, read_ast), 1, 0 },
+  { "read_ast", JOIN(PREFIX, read_ast), 1, ".json" },
 #endif
 #ifdef WITH_READ_WRITE
-  { "read_write", JOIN(PREFIX, read_write), 1, 0 },
+  { "read_write", JOIN(PREFIX, read_write), 1, ".json" },
 #else
-  { "write", JOIN(PREFIX, write), 0, 0 },
+  { "write", JOIN(PREFIX, write), 0, ".json" },
 #endif
 #ifdef WITH_SORT_KEY
-  { "sort_key", JOIN(PREFIX, sort_key), 0, 0 },
+  { "sort_key", JOIN(PREFIX, sort_key), 0, ".json" },
 #endif
 #ifndef WITHOUT_VALUES
-  { "compare", JOIN(PREFIX, compare), 0, 0 },
-  { "clone", JOIN(PREFIX, clone), 0, 0 },
+  { "compare", JOIN(PREFIX, compare), 0, ".json" },
+  { "clone", JOIN(PREFIX, clone), 0, ".json" },
 #endif
 };
 #define OPERATIONS (sizeof operations / sizeof *operations)
@@ -217,9 +225,10 @@ static double count(int counter, const struct file *file, operation_t *run, size
   return instructions;
 }
 
-static int is_extended(const struct file *file) {
+/* Whether the operation is of the file's kind. Standard documents are extended ones too. */
+static int is_done(const struct operation *operation, const struct file *file) {
   const char *point = strrchr(file->name, '.');
-  return point && !strcmp(point, ".json5");
+  return point && (!strcmp(point, operation->suffix) || (!strcmp(point, ".json") && !strcmp(operation->suffix, ".json5")));
 }
 
 static void measure(const struct file *file, const struct operation *operation, int counter, double budget) {
@@ -240,10 +249,10 @@ static void measure(const struct file *file, const struct operation *operation, 
 #ifdef WITH_MEMORY
 extern size_t memory_live, memory_peak;
 
-/* What reads the file's documents into values: the first operation of their mode. */
+/* What reads the file's documents into values: the first operation of their kind. */
 static operation_t *reader_of(const struct file *file) {
   for (size_t i = 0; i < OPERATIONS; i++)
-    if (operations[i].is_extended == is_extended(file)) return operations[i].run;
+    if (is_done(&operations[i], file)) return operations[i].run;
   fprintf(stderr, "%s: the library does not read this mode\n", file->name);
   exit(2);
 }
@@ -297,7 +306,7 @@ int main(int argc, char **argv) {
     struct file file = load(argv[i]);
     for (size_t which = 0; which < OPERATIONS; which++) {
       const struct operation *operation = &operations[which];
-      if (timed ? !is_timed(operation) : is_extended(&file) && !operation->is_extended) continue;
+      if (!is_done(operation, &file) || (timed && !is_timed(operation))) continue;
       if (timed) measure_processor(&file, operation, budget);
       else measure(&file, operation, counter, budget);
     }

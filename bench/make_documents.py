@@ -5,8 +5,8 @@ With a size in bytes it writes those of eight kinds that are about so long each,
 
 Each line of a file is one document. Those of a .json file are standard JSON without a fraction or an exponent, and only
 the catalog has blanks between its tokens, as it is indented. Those of a .json5 file are extended JSON with keys without
-quotes, single quotes, comments, decimals and hexadecimals. The numbers come from a fixed seed, so that every run has
-the same documents.
+quotes, single quotes, comments, decimals and hexadecimals. Those of a .rejected file have a fault at nine tenths. The
+numbers come from a fixed seed, so that every run has the same documents.
 """
 import json
 import os
@@ -244,6 +244,12 @@ KINDS = {
 }
 
 
+def rejected(text):
+    """The text with a fault at nine tenths: a semicolon in the place of a comma between members or elements."""
+    fault = text.index(',"', len(text) * 9 // 10)
+    return text[:fault] + ";" + text[fault + 1:]
+
+
 def write_sized(folder, size):
     for name, make in KINDS.items():
         texts = until(1000000, lambda _: make(size))
@@ -264,6 +270,8 @@ def main():
         return
     for name, texts in documents():
         write(os.path.join(folder, name + ".json"), texts)
+        if name == "objects":
+            write(os.path.join(folder, "faulty_objects.rejected"), [rejected(text) for text in texts])
     for name, texts in extended_documents():
         write(os.path.join(folder, name + ".json5"), texts)
     for name, texts in shaped_documents():

@@ -2,7 +2,7 @@
 """Prints the table of the benchmark: table.py NAME=MEASURES.. , a file of the harness's lines for each library."""
 import sys
 
-OPERATIONS = ["read", "extended", "read_ast", "write", "read_write", "sort_key", "compare", "clone"]
+OPERATIONS = ["read", "reject", "extended", "read_ast", "write", "read_write", "sort_key", "compare", "clone"]
 
 
 def per_byte(figure, size):

@@ -23,6 +23,12 @@ pub unsafe extern "C" fn serde_bench_read(text: *const u8, len: usize, rounds: u
 }
 
 #[no_mangle]
+pub unsafe extern "C" fn serde_bench_reject(text: *const u8, len: usize, rounds: usize) -> usize {
+    let text = bytes(text, len);
+    repeat(rounds, || black_box(read(text)).is_none())
+}
+
+#[no_mangle]
 pub unsafe extern "C" fn serde_bench_write(text: *const u8, len: usize, rounds: usize) -> usize {
     let Some(value) = read(bytes(text, len)) else { return 0 };
     let mut written = Vec::new();
