@@ -1,7 +1,7 @@
 #!/usr/bin/env python3
-"""Writes the documents of the benchmark into the folder that is named: make_documents.py FOLDER [SIZE]
+"""Writes the documents of the benchmark into the folder that is named: make_documents.py FOLDER [SIZE KIND..]
 
-With a size in bytes it writes those of eight kinds that are about so long each, as many as are 1 MB together.
+With a size in bytes it writes documents of these kinds that are about so long each, as many as are 1 MB together.
 
 Each line of a file is one document. Those of a .json file are standard JSON without a fraction or an exponent, and only
 the catalog has blanks between its tokens, as it is indented. Those of a .json5 file are extended JSON with keys without
@@ -250,9 +250,9 @@ def rejected(text):
     return text[:fault] + ";" + text[fault + 1:]
 
 
-def write_sized(folder, size):
-    for name, make in KINDS.items():
-        texts = until(1000000, lambda _: make(size))
+def write_sized(folder, size, kinds):
+    for name in kinds:
+        texts = until(1000000, lambda _: KINDS[name](size))
         write(os.path.join(folder, name + ".json"), texts)
 
 
@@ -266,7 +266,7 @@ def main():
     os.makedirs(folder, exist_ok=True)
     random.seed(7)
     if len(sys.argv) > 2:
-        write_sized(folder, int(sys.argv[2]))
+        write_sized(folder, int(sys.argv[2]), sys.argv[3:])
         return
     for name, texts in documents():
         write(os.path.join(folder, name + ".json"), texts)
