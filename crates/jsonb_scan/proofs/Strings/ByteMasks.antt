@@ -1,13 +1,13 @@
 -- The bits of a mask: where a byte is among 16.
-use Rattle.std.proofs.Common.{◌≡◌, ◌↔◌, ℕ, zero, suc, ◌+◌, ◌^◌, ◌<◌, ◌≤◌, ◌-◌, ◌++◌, ⊎_elim, length-append, List, [], ◌∷◌, Bool, true, false, true≢false, cond, eqb, eqb-true, eq-eqb, ne_eqb, length, get_or, map, take, drop, sym, subst, ap, ◌∙◌, refl, arith}
+use Rattle.std.proofs.Common.{◌≡◌, ◌↔◌, ℕ, zero, suc, ◌+◌, ◌^◌, ◌<◌, ◌≤◌, ◌-◌, ◌++◌, ⊎_elim, List, [], ◌∷◌, Bool, true, false, true≢false, cond, eqb, eqb-true, eq-eqb, ne_eqb, length, get_or, map, take, drop, sym, subst, ap, ◌∙◌, refl, arith}
 use Rattle.std.proofs.lemmas.Simd.{bit_mask_l, mask_l-lt}
-use Rattle.std.proofs.lemmas.List.{append_assoc, get_or-append-add, get_or_append_left, get_or-take, length-map, length-take-le, take-append-le, take-append-drop}
+use Rattle.std.proofs.lemmas.List.{append_assoc, get_or-drop, get_or-take, length-map, length-take-le, take-append-le, take-append-drop}
 use Rattle.std.proofs.Math.ListN.{get_or-map}
 use Rattle.std.proofs.Math.Seq.{take-append-add}
 use Rattle.std.proofs.lemmas.Bool.{cases_lt}
 use Rattle.std.specs.Int.{bit_at}
 use Rattle.std.specs.Simd.Lanes.{mask_l}
-use Rattle.jsonb_scan.specs.Decoding.{CopiesRun, SeesNoBackslash}
+use Rattle.jsonb_scan.specs.Decoding.{SeesNoBackslash}
 
 within : (byte : ℕ) → 0 < byte → (bytes : List ℕ) (k : ℕ) → get_or bytes k 0 ≡ byte → k < length bytes
 within byte some [] k e = absurd (omega (arith, some, e))
@@ -51,21 +51,22 @@ cut_back old bytes count size few enough =
     take-append-add old (take size bytes) count
     ∙ ap (λ added. old ++ added) (sym (take-append-le count (take size bytes) (drop size bytes) (omega (arith, few, length-take-le size bytes enough))) ∙ ap (take count) (take-append-drop size bytes))
 
--- the first bytes, and then a run of the others
-pub copies_more : (bytes rest old middle new : List ℕ) → 16 ≤ length bytes → SeesNoBackslash bytes 16 → middle ≡ old ++ take 16 bytes → CopiesRun (drop 16 bytes) rest middle new → CopiesRun bytes rest old new
-copies_more bytes rest old middle new long none appended later =
-    let first = take 16 bytes in
-    let sixteen : length first ≡ 16 = length-take-le 16 bytes long in
-    record {
-      run = first ++ later.run;
-      split = sym (take-append-drop 16 bytes) ∙ ap (λ more. first ++ more) later.split ∙ sym (append_assoc first later.run rest);
-      clear = λ k low here. ⊎_elim
-          (λ before. none k before (sym (get_or-take 16 bytes k 0 before) ∙ sym (get_or_append_left first later.run 0 k (omega (arith, before, sixteen))) ∙ here))
-          (λ after.
-          let place : length first + (k - 16) ≡ k = omega (arith, after, sixteen) in
-          let same : get_or (first ++ later.run) k 0 ≡ get_or later.run (k - 16) 0 = ap (λ n. get_or (first ++ later.run) n 0) (sym place) ∙ get_or-append-add first later.run (k - 16) 0 in
-          later.clear (k - 16) (omega (arith, low, after, sixteen, length-append first later.run)) (sym same ∙ here))
-          (cases_lt k 16);
-      appended = later.appended ∙ ap (λ front. front ++ later.run) appended ∙ append_assoc old first later.run;
-      begins = later.begins;
-    }
+-- the first 16 bytes, and then so many of the others
+
+pub clear_more : (bytes others : List ℕ) (count : ℕ) → others ≡ drop 16 bytes → SeesNoBackslash bytes 16 → SeesNoBackslash others count → SeesNoBackslash bytes (16 + count)
+clear_more bytes others count is none later k low here = ⊎_elim
+    (λ before. none k before here)
+    (λ after.
+    let place : 16 + (k - 16) ≡ k = omega (arith, after) in
+    later (k - 16) (omega (arith, low, after)) (ap (λ xs. get_or xs (k - 16) 0) is ∙ get_or-drop 16 bytes (k - 16) 0 ∙ ap (λ n. get_or bytes n 0) place ∙ here))
+    (cases_lt k 16)
+
+pub next_more : (bytes others : List ℕ) (count : ℕ) → others ≡ drop 16 bytes → get_or others count 0 ≡ get_or bytes (16 + count) 0
+next_more bytes others count is = ap (λ xs. get_or xs count 0) is ∙ get_or-drop 16 bytes count 0
+
+pub copied_more : (bytes others old middle new : List ℕ) (count : ℕ) → 16 ≤ length bytes → others ≡ drop 16 bytes → middle ≡ old ++ take 16 bytes → new ≡ middle ++ take count others → new ≡ old ++ take (16 + count) bytes
+copied_more bytes others old middle new count long is first then =
+    let sixteen : length (take 16 bytes) ≡ 16 = length-take-le 16 bytes long in
+    let whole : take (16 + count) bytes ≡ take 16 bytes ++ take count (drop 16 bytes) =
+    ap (take (16 + count)) (sym (take-append-drop 16 bytes)) ∙ subst (λ n. take (n + count) (take 16 bytes ++ drop 16 bytes) ≡ take 16 bytes ++ take count (drop 16 bytes)) sixteen (take-append-add (take 16 bytes) (drop 16 bytes) count) in
+    then ∙ ap (λ xs. middle ++ take count xs) is ∙ ap (λ front. front ++ take count (drop 16 bytes)) first ∙ append_assoc old (take 16 bytes) (take count (drop 16 bytes)) ∙ ap (λ added. old ++ added) (sym whole)

@@ -177,6 +177,3 @@ fault_no_text mode bytes text p none = inr (record {
   invalid = refl;
   count = refl;
 })
-
-pub decoded_from_empty : (mode : Mode) (bytes old new : List ℕ) → old ≡ [] → Adds mode bytes [] old new → DecodesUpTo mode bytes [] new
-decoded_from_empty mode bytes old new empty p = subst (λ text. DecodesUpTo mode bytes [] text) (sym (p.appended ∙ ap (λ front. front ++ p.text) empty)) p.decodes

@@ -1,11 +1,11 @@
 //! Decodes the contents of a string, escape by escape and run by run.
-ghost use Rattle.std.specs.Prelude.{◌≡◌, ◌≢◌, ◌+◌, ◌*◌, ◌^◌, ◌≤◌, ◌<◌, ◌∷◌, [], length, vec_len, vec_capacity, IfOk, IfErr, OnOk, Some, None, Err, string_bytes};
+ghost use Rattle.std.specs.Prelude.{◌≡◌, ◌≢◌, ◌+◌, ◌*◌, ◌^◌, ◌≤◌, ◌<◌, ◌∷◌, [], length, take, IfOk, IfErr, OnOk, Some, None, Err, string_bytes};
 ghost use Rattle.jsonb_value.specs.Mode.{standard};
 ghost use Rattle.jsonb_value.specs.Code.{code_of};
 ghost use Rattle.jsonb_value.specs.Grammar.StringBody.{escaped_byte, Decodes};
 ghost use Rattle.jsonb_scan.specs.Answer.{mode_of};
 ghost use Rattle.jsonb_scan.specs.StringRefusal.{IsDecodingError};
-ghost use Rattle.jsonb_scan.specs.Decoding.{Adds, StopsAtEscape};
+ghost use Rattle.jsonb_scan.specs.Decoding.{Adds, DecodesUpTo, StopsAtEscape};
 
 mod room;
 mod run;
@@ -13,7 +13,7 @@ mod unit;
 
 use crate::parser::Mode;
 use jsonb_value::error::{Error, ParseErrorCode, Result};
-use room::{give_back, push_within};
+use room::{give_back, write_byte};
 use run::copy_run;
 use std::alloc::Global;
 use unit::units;
@@ -23,6 +23,13 @@ use unit::units;
 struct DecodingFault {
     code: ParseErrorCode,
     left: usize,
+}
+
+// The bytes that are left to decode, and how many of the text are decoded.
+#[derive(Clone, Copy)]
+struct Decoded<'a> {
+    rest: &'a [u8],
+    len: usize,
 }
 
 // The byte that a backslash and this letter stand for.
@@ -44,20 +51,22 @@ fn escaped(letter: u8, mode: Mode) -> Option<u8>
     }
 }
 
-// Decodes the escape whose backslash stands before the bytes, and returns what follows.
+// Decodes the escape whose backslash stands before the bytes.
 #[inline(always)]
 fn escape<'a>(
     bytes: &'a [u8],
     mode: Mode,
-    text: &mut Vec<u8>,
-) -> std::result::Result<&'a [u8], DecodingFault>
-    requires { vec_len text.old + 1 + length bytes.now ≤ vec_capacity text.old }
-    ensures ok { IfOk result (λ rest. Adds (mode_of mode) (92 ∷ bytes.now) rest.now text.old.items text.new.items) }
-    ensures shorter { IfOk result (λ rest. length rest.now ≤ length bytes.now) }
-    ensures room { IfOk result (λ rest. vec_len text.new + length rest.now ≤ vec_len text.old + 1 + length bytes.now) }
+    text: &mut [u8],
+    len: usize,
+) -> std::result::Result<Decoded<'a>, DecodingFault>
+    requires { len + 1 + length bytes.now ≤ length text.old }
+    ensures ok { IfOk result (λ done. Adds (mode_of mode)
+        (92 ∷ bytes.now) done.rest.now (take len text.old) (take done.len text.new)) }
+    ensures shorter { IfOk result (λ done. length done.rest.now ≤ length bytes.now) }
+    ensures room { IfOk result (λ done. done.len + length done.rest.now ≤ len + 1 + length bytes.now) }
     ensures err { IfErr result (λ fault. StopsAtEscape (mode_of mode) (92 ∷ bytes.now) (code_of fault.code)
         fault.left) }
-    ensures capacity { vec_capacity text.old ≤ vec_capacity text.new }
+    ensures size { length text.new ≡ length text.old }
 {
     let Some((letter, rest)) = bytes.split_first() else {
         return Err(DecodingFault {
@@ -66,7 +75,7 @@ fn escape<'a>(
         });
     };
     if *letter == b'u' {
-        return units(rest, text);
+        return units(rest, text, len);
     }
     let Some(byte) = escaped(*letter, mode) else {
         return Err(DecodingFault {
@@ -74,25 +83,28 @@ fn escape<'a>(
             left: rest.len(),
         });
     };
-    push_within(text, byte);
-    Ok(rest)
+    let len = write_byte(text, len, byte);
+    Ok(Decoded { rest, len })
 }
 
-// Decodes a whole body, to the end of the text.
-fn decode(bytes: &[u8], mode: Mode, text: &mut Vec<u8>) -> std::result::Result<(), DecodingFault>
-    requires { vec_len text.old + length bytes.now ≤ vec_capacity text.old }
-    ensures ok { OnOk result (Adds (mode_of mode) bytes.now [] text.old.items text.new.items) }
+// Decodes a whole body into a text of its length, and returns how many bytes of the text are decoded.
+fn decode(bytes: &[u8], mode: Mode, text: &mut [u8]) -> std::result::Result<usize, DecodingFault>
+    requires { length bytes.now ≤ length text.old }
+    ensures ok { IfOk result (λ len. DecodesUpTo (mode_of mode) bytes.now [] (take len text.new)) }
     ensures err { IfErr result (λ fault. StopsAtEscape (mode_of mode) bytes.now (code_of fault.code) fault.left) }
+    ensures size { length text.new ≡ length text.old }
 {
-    let mut left = bytes;
-    'items: while !left.is_empty() {
-        let rest = copy_run(left, text);
-        left = match rest.split_first() {
-            Some((_, rest)) => escape(rest, mode, text)?,
-            None => rest,
-        };
+    let mut done = Decoded {
+        rest: bytes,
+        len: 0,
+    };
+    'items: while !done.rest.is_empty() {
+        done = copy_run(done.rest, text, done.len);
+        if let Some((_, rest)) = done.rest.split_first() {
+            done = escape(rest, mode, text, done.len)?;
+        }
     }
-    Ok(())
+    Ok(done.len)
 }
 
 /// Decodes the contents of a string of this mode, and moves the offset past what was decoded.
@@ -103,13 +115,18 @@ pub fn unescape(alloc: Global, bytes: &[u8], mode: Mode, idx: &mut usize) -> Res
     ensures err { IfErr result (IsDecodingError (mode_of mode) bytes.now idx.old idx.new) }
     ensures memory { result ≡ Err Error.OutOfMemory → bytes.now ≢ [] }
 {
-    // The text is never longer than the bytes, so no other growth is asked for.
+    // The text is never longer than the bytes, so no other growth is asked for. It begins as a copy of them, so that it
+    // is written by index.
     let Ok(mut text) = Vec::with_capacity(alloc, bytes.len()) else {
         return Err(Error::OutOfMemory);
     };
-    if let Err(fault) = decode(bytes, mode, &mut text) {
-        *idx += bytes.len() - fault.left;
-        return Err(Error::Syntax(fault.code, *idx));
+    let _ = text.extend_from_slice(bytes);
+    match decode(bytes, mode, &mut text) {
+        Ok(len) => text.truncate(len),
+        Err(fault) => {
+            *idx += bytes.len() - fault.left;
+            return Err(Error::Syntax(fault.code, *idx));
+        }
     }
     *idx += bytes.len();
     give_back(&mut text);

@@ -1,24 +1,29 @@
-//! Appending within the capacity.
-ghost use Rattle.std.specs.Prelude.{◌≡◌, ◌+◌, ◌≤◌, ◌<◌, ◌++◌, ◌∷◌, [], length, vec_len, vec_capacity};
+//! Writing into the text, of which the first `len` bytes are decoded so far.
+ghost use Rattle.std.specs.Prelude.{◌≡◌, ◌+◌, ◌≤◌, ◌<◌, ◌++◌, ◌∷◌, [], length, take};
 
-// Appends a byte where there is room.
-pub(super) fn push_within(text: &mut Vec<u8>, byte: u8)
-    requires { vec_len text.old < vec_capacity text.old }
-    ensures items { text.new.items ≡ text.old.items ++ byte ∷ [] }
-    ensures len { vec_len text.new ≡ vec_len text.old + 1 }
-    ensures capacity { vec_capacity text.old ≤ vec_capacity text.new }
+// Writes a byte behind those that are decoded.
+#[inline(always)]
+pub(super) fn write_byte(text: &mut [u8], len: usize, byte: u8) -> usize
+    requires { len < length text.old }
+    ensures written { take result text.new ≡ take len text.old ++ byte ∷ [] }
+    ensures len { result ≡ len + 1 }
+    ensures size { length text.new ≡ length text.old }
 {
-    text.push_reserved(byte);
+    text[len] = byte;
+    len + 1
 }
 
-// Appends bytes where there is room.
-pub(super) fn extend_within(text: &mut Vec<u8>, bytes: &[u8])
-    requires { vec_len text.old + length bytes.now ≤ vec_capacity text.old }
-    ensures items { text.new.items ≡ text.old.items ++ bytes.now }
-    ensures len { vec_len text.new ≡ vec_len text.old + length bytes.now }
-    ensures capacity { vec_capacity text.old ≤ vec_capacity text.new }
+// Writes bytes behind those that are decoded.
+#[inline(always)]
+pub(super) fn write_all(text: &mut [u8], len: usize, bytes: &[u8]) -> usize
+    requires { len + length bytes.now ≤ length text.old }
+    ensures written { take result text.new ≡ take len text.old ++ bytes.now }
+    ensures len { result ≡ len + length bytes.now }
+    ensures size { length text.new ≡ length text.old }
 {
-    let _ = text.extend_from_slice(bytes);
+    let end = len + bytes.len();
+    text[len..end].copy_from_slice(bytes);
+    end
 }
 
 // A decoded text keeps room for so many bytes more than it has, and no more.

@@ -1,9 +1,10 @@
 //! The bytes up to the next escape.
-ghost use Rattle.std.specs.Prelude.{◌≡◌, ℕ, ◌+◌, ◌≤◌, ◌<◌, ◌++◌, length, take, slice_index, vec_len, vec_capacity, IfSome, IfNone, Some, None, ◌↔◌};
+ghost use Rattle.std.specs.Prelude.{◌≡◌, ℕ, ◌+◌, ◌≤◌, ◌<◌, ◌++◌, length, take, slice_index, IfSome, IfNone, Some, None, ◌↔◌};
 ghost use Rattle.std.specs.Int.{bit_at};
 ghost use Rattle.jsonb_scan.specs.Decoding.{SeesNoBackslash, CopiesRun};
 
-use super::room::extend_within;
+use super::Decoded;
+use super::room::{write_all, write_byte};
 use memchr::memchr;
 use std::simd::prelude::*;
 
@@ -34,94 +35,133 @@ fn near_backslash(bytes: &[u8]) -> Option<usize>
     Some(marks.trailing_zeros() as usize)
 }
 
-// Appends this many of the first 16 bytes. All 16 are copied, since a copy of a fixed length takes no call.
+// Writes the first 16 bytes by one load and one store.
 #[inline(always)]
-fn extend_by_few(text: &mut Vec<u8>, bytes: &[u8], count: usize)
-    requires few { count ≤ 16 }
+fn write_sixteen(text: &mut [u8], len: usize, bytes: &[u8])
     requires enough { 16 ≤ length bytes.now }
-    requires room { vec_len text.old + 16 ≤ vec_capacity text.old }
-    ensures items { text.new.items ≡ text.old.items ++ take count bytes.now }
-    ensures len { vec_len text.new ≡ vec_len text.old + count }
-    ensures capacity { vec_capacity text.old ≤ vec_capacity text.new }
+    requires room { len + 16 ≤ length text.old }
+    ensures written { take (len + 16) text.new ≡ take len text.old ++ take 16 bytes.now }
+    ensures size { length text.new ≡ length text.old }
 {
-    let len = text.len() + count;
-    extend_within(text, &bytes[..16]);
-    text.truncate(len);
+    u8x16::from_slice(bytes).copy_to_slice(&mut text[len..]);
 }
 
-// Appends the bytes before the first backslash, which is at this index of the first 16, and returns those from it on.
+// Writes this many of the first 16 bytes. All 16 are copied, since a copy of a fixed length takes no call.
 #[inline(always)]
-fn copy_few<'a>(bytes: &'a [u8], count: usize, text: &mut Vec<u8>) -> &'a [u8]
-    requires few { (count < 16) × (16 ≤ length bytes.now) }
-    requires before { SeesNoBackslash bytes.now count }
-    requires here { slice_index bytes.now count ≡ 92 }
-    requires room { vec_len text.old + length bytes.now ≤ vec_capacity text.old }
-    ensures copies { CopiesRun bytes.now result.now text.old.items text.new.items }
-    ensures len { vec_len text.new + length result.now ≡ vec_len text.old + length bytes.now }
-    ensures capacity { vec_capacity text.old ≤ vec_capacity text.new }
+fn write_few(text: &mut [u8], len: usize, bytes: &[u8], count: usize)
+    requires few { count ≤ 16 }
+    requires enough { 16 ≤ length bytes.now }
+    requires room { len + 16 ≤ length text.old }
+    ensures written { take (len + count) text.new ≡ take len text.old ++ take count bytes.now }
+    ensures size { length text.new ≡ length text.old }
 {
-    extend_by_few(text, bytes, count);
-    &bytes[count..]
+    let _ = count;
+    write_sixteen(text, len, bytes);
+}
+
+// Copies the bytes before the first backslash, one by one, and returns how many they are.
+#[inline(always)]
+fn copy_short(bytes: &[u8], text: &mut [u8], len: usize) -> usize
+    requires { len + length bytes.now ≤ length text.old }
+    ensures bound { result ≤ length bytes.now }
+    ensures before { SeesNoBackslash bytes.now result }
+    ensures here { result < length bytes.now → slice_index bytes.now result ≡ 92 }
+    ensures written { take (len + result) text.new ≡ take len text.old ++ take result bytes.now }
+    ensures size { length text.new ≡ length text.old }
+{
+    let mut count = 0;
+    'bytes: while count < bytes.len() {
+        if bytes[count] == b'\\' {
+            return count;
+        }
+        write_byte(text, len + count, bytes[count]);
+        count += 1;
+    }
+    count
 }
 
 // The same, where the first backslash is anywhere or nowhere.
 #[inline(never)]
-fn copy_many<'a>(bytes: &'a [u8], text: &mut Vec<u8>) -> &'a [u8]
-    requires { vec_len text.old + length bytes.now ≤ vec_capacity text.old }
-    ensures copies { CopiesRun bytes.now result.now text.old.items text.new.items }
-    ensures len { vec_len text.new + length result.now ≡ vec_len text.old + length bytes.now }
-    ensures capacity { vec_capacity text.old ≤ vec_capacity text.new }
+fn copy_many(bytes: &[u8], text: &mut [u8], len: usize) -> usize
+    requires { len + length bytes.now ≤ length text.old }
+    ensures bound { result ≤ length bytes.now }
+    ensures before { SeesNoBackslash bytes.now result }
+    ensures here { result < length bytes.now → slice_index bytes.now result ≡ 92 }
+    ensures written { take (len + result) text.new ≡ take len text.old ++ take result bytes.now }
+    ensures size { length text.new ≡ length text.old }
 {
     let count = memchr(b'\\', bytes).unwrap_or(bytes.len());
-    let (run, rest) = bytes.split_at(count);
-    extend_within(text, run);
-    rest
+    write_all(text, len, &bytes[..count]);
+    count
 }
 
 // The same, where the first backslash is likely to be near.
 #[inline(always)]
-fn copy_near<'a>(bytes: &'a [u8], text: &mut Vec<u8>) -> &'a [u8]
-    requires { vec_len text.old + length bytes.now ≤ vec_capacity text.old }
-    ensures copies { CopiesRun bytes.now result.now text.old.items text.new.items }
-    ensures len { vec_len text.new + length result.now ≡ vec_len text.old + length bytes.now }
-    ensures capacity { vec_capacity text.old ≤ vec_capacity text.new }
+fn copy_near(bytes: &[u8], text: &mut [u8], len: usize) -> usize
+    requires { len + length bytes.now ≤ length text.old }
+    ensures bound { result ≤ length bytes.now }
+    ensures before { SeesNoBackslash bytes.now result }
+    ensures here { result < length bytes.now → slice_index bytes.now result ≡ 92 }
+    ensures written { take (len + result) text.new ≡ take len text.old ++ take result bytes.now }
+    ensures size { length text.new ≡ length text.old }
 {
     if bytes.len() < 16 {
-        return copy_many(bytes, text);
+        return copy_short(bytes, text, len);
     }
-    match near_backslash(bytes) {
-        Some(count) => copy_few(bytes, count, text),
-        None => copy_many(bytes, text),
-    }
+    let Some(count) = near_backslash(bytes) else {
+        return copy_many(bytes, text, len);
+    };
+    write_few(text, len, bytes, count);
+    count
 }
 
 // The same, where no backslash is among the first 16 bytes.
 #[inline(never)]
-fn copy_more<'a>(bytes: &'a [u8], text: &mut Vec<u8>) -> &'a [u8]
+fn copy_more(bytes: &[u8], text: &mut [u8], len: usize) -> usize
     requires long { 16 ≤ length bytes.now }
     requires clear { SeesNoBackslash bytes.now 16 }
-    requires room { vec_len text.old + length bytes.now ≤ vec_capacity text.old }
-    ensures copies { CopiesRun bytes.now result.now text.old.items text.new.items }
-    ensures len { vec_len text.new + length result.now ≡ vec_len text.old + length bytes.now }
-    ensures capacity { vec_capacity text.old ≤ vec_capacity text.new }
+    requires room { len + length bytes.now ≤ length text.old }
+    ensures bound { result ≤ length bytes.now }
+    ensures before { SeesNoBackslash bytes.now result }
+    ensures here { result < length bytes.now → slice_index bytes.now result ≡ 92 }
+    ensures written { take (len + result) text.new ≡ take len text.old ++ take result bytes.now }
+    ensures size { length text.new ≡ length text.old }
 {
-    extend_within(text, &bytes[..16]);
-    copy_near(&bytes[16..], text)
+    write_sixteen(text, len, bytes);
+    16 + copy_near(&bytes[16..], text, len + 16)
 }
 
-// Appends the bytes before the first backslash, and returns those from it on.
+// The same, where the first backslash is often among the first 16 bytes.
 #[inline(always)]
-pub(super) fn copy_run<'a>(bytes: &'a [u8], text: &mut Vec<u8>) -> &'a [u8]
-    requires { vec_len text.old + length bytes.now ≤ vec_capacity text.old }
-    ensures copies { CopiesRun bytes.now result.now text.old.items text.new.items }
-    ensures len { vec_len text.new + length result.now ≡ vec_len text.old + length bytes.now }
-    ensures capacity { vec_capacity text.old ≤ vec_capacity text.new }
+fn copy_first(bytes: &[u8], text: &mut [u8], len: usize) -> usize
+    requires { len + length bytes.now ≤ length text.old }
+    ensures bound { result ≤ length bytes.now }
+    ensures before { SeesNoBackslash bytes.now result }
+    ensures here { result < length bytes.now → slice_index bytes.now result ≡ 92 }
+    ensures written { take (len + result) text.new ≡ take len text.old ++ take result bytes.now }
+    ensures size { length text.new ≡ length text.old }
 {
     if bytes.len() < 16 {
-        return copy_many(bytes, text);
+        return copy_short(bytes, text, len);
     }
-    match near_backslash(bytes) {
-        Some(count) => copy_few(bytes, count, text),
-        None => copy_more(bytes, text),
+    let Some(count) = near_backslash(bytes) else {
+        return copy_more(bytes, text, len);
+    };
+    write_few(text, len, bytes, count);
+    count
+}
+
+// Copies the bytes before the first backslash.
+#[inline(always)]
+pub(super) fn copy_run<'a>(bytes: &'a [u8], text: &mut [u8], len: usize) -> Decoded<'a>
+    requires { len + length bytes.now ≤ length text.old }
+    ensures copies { CopiesRun bytes.now result.rest.now (take len text.old) (take result.len text.new) }
+    ensures len { result.len + length result.rest.now ≡ len + length bytes.now }
+    ensures size { length text.new ≡ length text.old }
+{
+    let count = copy_first(bytes, text, len);
+    Decoded {
+        rest: &bytes[count..],
+        len: len + count,
     }
 }

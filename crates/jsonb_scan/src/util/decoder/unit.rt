@@ -1,5 +1,5 @@
 //! `\u` escapes: UTF-16 code units of four hexadecimal digits.
-ghost use Rattle.std.specs.Prelude.{List, ◌≡◌, ◌≢◌, ℕ, ◌+◌, ◌*◌, ◌^◌, ◌≤◌, ◌<◌, ◌++◌, ◌∷◌, length, vec_len, vec_capacity, All, ◌||◌, IfOk, IfErr, IfSome, IfNone, Some, None, true, false, ◌⊎◌};
+ghost use Rattle.std.specs.Prelude.{List, ◌≡◌, ◌≢◌, ℕ, ◌+◌, ◌*◌, ◌^◌, ◌≤◌, ◌<◌, ◌++◌, ◌∷◌, length, take, All, ◌||◌, IfOk, IfErr, IfSome, IfNone, Some, None, true, false, ◌⊎◌};
 ghost use Rattle.std.specs.Char.{digit_value, encode_utf8, InScalarRange};
 ghost use Rattle.jsonb_value.specs.Mode.{Mode as GrammarMode};
 ghost use Rattle.jsonb_value.specs.Code.{code_of};
@@ -7,8 +7,8 @@ ghost use Rattle.jsonb_value.specs.Grammar.StringBody.{IsHexDigit, unit_value, i
 ghost use Rattle.jsonb_value.specs.Grammar.StringFault.{IsUnitCut, IsFirstNonDigit};
 ghost use Rattle.jsonb_scan.specs.Decoding.{SplitsUnit, ReadsUnit, Adds, StopsInUnit, StopsAtEscape};
 
-use super::DecodingFault;
-use super::room::{extend_within, push_within};
+use super::room::write_all;
+use super::{Decoded, DecodingFault};
 use jsonb_value::error::ParseErrorCode;
 
 // The four digits of a unit, their value, and what follows the unit.
@@ -119,66 +119,67 @@ fn is_surrogate(value: u32) -> bool
 }
 
 #[inline(always)]
-fn push_char(text: &mut Vec<u8>, value: u32)
+fn push_char(text: &mut [u8], len: usize, value: u32) -> usize
     requires scalar { InScalarRange value }
-    requires room { vec_len text.old + 4 ≤ vec_capacity text.old }
-    ensures items { text.new.items ≡ text.old.items ++ encode_utf8 value }
-    ensures len { vec_len text.new ≤ vec_len text.old + 4 }
-    ensures capacity { vec_capacity text.old ≤ vec_capacity text.new }
+    requires room { len + 4 ≤ length text.old }
+    ensures written { take result text.new ≡ take len text.old ++ encode_utf8 value }
+    ensures len { result ≤ len + 4 }
+    ensures size { length text.new ≡ length text.old }
 {
     let character = char::from_u32(value).unwrap();
     let mut buffer = [0; 4];
-    extend_within(text, character.encode_utf8(&mut buffer).as_bytes());
+    write_all(text, len, character.encode_utf8(&mut buffer).as_bytes())
 }
 
-fn push_kept(text: &mut Vec<u8>, digits: &[u8])
+fn push_kept(text: &mut [u8], len: usize, digits: &[u8]) -> usize
     requires four { length digits.now ≡ 4 }
-    requires room { vec_len text.old + 6 ≤ vec_capacity text.old }
-    ensures items { text.new.items ≡ text.old.items ++ kept digits.now }
-    ensures len { vec_len text.new ≡ vec_len text.old + 6 }
-    ensures capacity { vec_capacity text.old ≤ vec_capacity text.new }
+    requires room { len + 6 ≤ length text.old }
+    ensures written { take result text.new ≡ take len text.old ++ kept digits.now }
+    ensures len { result ≡ len + 6 }
+    ensures size { length text.new ≡ length text.old }
 {
-    extend_within(text, b"\\u");
-    extend_within(text, digits);
+    let len = write_all(text, len, b"\\u");
+    write_all(text, len, digits)
 }
 
 // A unit that isn't taken together with the next one.
 #[inline(always)]
-fn push_alone(text: &mut Vec<u8>, digits: &[u8], value: u32)
+fn push_alone(text: &mut [u8], len: usize, digits: &[u8], value: u32) -> usize
     requires four { length digits.now ≡ 4 }
     requires value { value ≡ unit_value digits.now }
     requires range { value < 2 ^ 16 }
-    requires room { vec_len text.old + 6 ≤ vec_capacity text.old }
-    ensures items { text.new.items ≡ text.old.items ++ alone digits.now }
-    ensures len { vec_len text.new ≤ vec_len text.old + 6 }
-    ensures capacity { vec_capacity text.old ≤ vec_capacity text.new }
+    requires room { len + 6 ≤ length text.old }
+    ensures written { take result text.new ≡ take len text.old ++ alone digits.now }
+    ensures len { result ≤ len + 6 }
+    ensures size { length text.new ≡ length text.old }
 {
     if is_surrogate(value) {
-        push_kept(text, digits);
+        push_kept(text, len, digits)
     } else {
-        push_char(text, value);
+        push_char(text, len, value)
     }
 }
 
 // A high unit and the unit right after it.
-fn push_together(text: &mut Vec<u8>, high: &HexUnit<'_>, next: &HexUnit<'_>)
+fn push_together(text: &mut [u8], len: usize, high: &HexUnit<'_>, next: &HexUnit<'_>) -> usize
     requires four { (length high.now.digits.now ≡ 4) × (length next.now.digits.now ≡ 4) }
     requires value { (high.now.value ≡ unit_value high.now.digits.now)
         × (next.now.value ≡ unit_value next.now.digits.now) }
     requires is_high { is_high high.now.value ≡ true }
-    requires room { vec_len text.old + 12 ≤ vec_capacity text.old }
-    ensures items { text.new.items ≡ text.old.items ++ together high.now.digits.now next.now.digits.now }
-    ensures len { vec_len text.new ≤ vec_len text.old + 12 }
-    ensures capacity { vec_capacity text.old ≤ vec_capacity text.new }
+    requires room { len + 12 ≤ length text.old }
+    ensures written { take result text.new ≡ take len text.old ++ together high.now.digits.now next.now.digits.now }
+    ensures len { result ≤ len + 12 }
+    ensures size { length text.new ≡ length text.old }
 {
     if is_surrogate_low(next.value) {
         push_char(
             text,
+            len,
             0x10000 + (high.value - 0xD800) * 0x400 + (next.value - 0xDC00),
-        );
+        )
     } else {
-        push_kept(text, high.digits);
-        push_kept(text, next.digits);
+        let len = push_kept(text, len, high.digits);
+        push_kept(text, len, next.digits)
     }
 }
 
@@ -211,28 +212,34 @@ fn after_next_mark<'a>(unit: &HexUnit<'a>) -> Option<&'a [u8]>
     }
 }
 
-// Decodes the unit whose `\u` stands before the bytes, with the next one where the two are taken together. Returns
-// what follows.
+// Decodes the unit whose `\u` stands before the bytes, with the next one where the two are taken together.
 #[inline(always)]
 pub(super) fn units<'a>(
     bytes: &'a [u8],
-    text: &mut Vec<u8>,
-) -> std::result::Result<&'a [u8], DecodingFault>
-    requires { vec_len text.old + 2 + length bytes.now ≤ vec_capacity text.old }
-    ensures ok { IfOk result (λ rest. (mode : GrammarMode) → Adds mode
-        (92 ∷ 117 ∷ bytes.now) rest.now text.old.items text.new.items) }
-    ensures shorter { IfOk result (λ rest. length rest.now ≤ length bytes.now) }
-    ensures room { IfOk result (λ rest. vec_len text.new + length rest.now ≤ vec_len text.old + 2 + length bytes.now) }
+    text: &mut [u8],
+    len: usize,
+) -> std::result::Result<Decoded<'a>, DecodingFault>
+    requires { len + 2 + length bytes.now ≤ length text.old }
+    ensures ok { IfOk result (λ done. (mode : GrammarMode) → Adds mode
+        (92 ∷ 117 ∷ bytes.now) done.rest.now (take len text.old) (take done.len text.new)) }
+    ensures shorter { IfOk result (λ done. length done.rest.now ≤ length bytes.now) }
+    ensures room { IfOk result (λ done. done.len + length done.rest.now ≤ len + 2 + length bytes.now) }
     ensures err { IfErr result (λ fault. (mode : GrammarMode) → StopsAtEscape mode (92 ∷ 117 ∷ bytes.now)
         (code_of fault.code) fault.left) }
-    ensures capacity { vec_capacity text.old ≤ vec_capacity text.new }
+    ensures size { length text.new ≡ length text.old }
 {
     let first = read_unit(bytes)?;
     let Some(after) = after_next_mark(&first) else {
-        push_alone(text, first.digits, first.value);
-        return Ok(first.rest);
+        let len = push_alone(text, len, first.digits, first.value);
+        return Ok(Decoded {
+            rest: first.rest,
+            len,
+        });
     };
     let next = read_unit(after)?;
-    push_together(text, &first, &next);
-    Ok(next.rest)
+    let len = push_together(text, len, &first, &next);
+    Ok(Decoded {
+        rest: next.rest,
+        len,
+    })
 }

@@ -16,7 +16,7 @@ pub returns-clause-ok : goal.returns-clause-ok
 returns-clause-ok c =
     let mode = mode_of c.args.mode in record {
       text = _;
-      appended = c.push_within.ensures.items;
+      appended = c.write_byte-len.ensures.written;
       decodes = subst (λ bytes. DecodesUpTo mode (92 ∷ bytes) c.in-Some.rest.now (c.in-Some-escaped.byte ∷ [])) (sym c.in-Some.ensures.cases.0)
           (decoded_escape mode c.in-Some.letter.now c.in-Some-escaped.byte c.in-Some.rest.now (sym c.in-Some-escaped.ensures));
     }

@@ -1,23 +1,23 @@
-use Rattle.std.proofs.Common.{◌≡◌, true, false, sym, ap, ◌∙◌, ◌++◌}
+use Rattle.std.proofs.Common.{take, ◌≡◌, true, false, sym, ap, ◌∙◌, ◌++◌}
 use Rattle.std.proofs.lemmas.List.{append_assoc}
 use Rattle.std.specs.Char.{encode_utf8}
 use Rattle.jsonb_value.specs.Grammar.StringBody.{is_low, unit_value, paired, kept}
 use Rattle.jsonb_value.proofs.Strings.Units.{together-kept, together-character}
 use Rattle.jsonb_scan.proofs.util.decoder.unit.push_together.Goals as goal
 
-pub returns-then-is_surrogate_low-clause-items : goal.returns-then-is_surrogate_low-clause-items
-returns-then-is_surrogate_low-clause-items c =
+pub returns-then-is_surrogate_low-clause-written : goal.returns-then-is_surrogate_low-clause-written
+returns-then-is_surrogate_low-clause-written c =
     let high = c.args.high.now in
     let next = c.args.next.now in
     let low : is_low (unit_value next.digits.now) ≡ true = ap is_low (sym c.requires.value.1) ∙ sym c.is_surrogate_low.ensures ∙ c.if-is_surrogate_low.true in
     let same = ap (λ value. encode_utf8 (paired value next.value)) c.requires.value.0 ∙ ap (λ value. encode_utf8 (paired (unit_value high.digits.now) value)) c.requires.value.1 in
-    c.push_char.ensures.items ∙ ap (λ added. c.args.text.now.items ++ added) (same ∙ sym (together-character high.digits.now next.digits.now low))
+    c.push_char.ensures.written ∙ ap (λ added. take c.args.len c.args.text.now ++ added) (same ∙ sym (together-character high.digits.now next.digits.now low))
 
-pub returns-else-is_surrogate_low-clause-items : goal.returns-else-is_surrogate_low-clause-items
-returns-else-is_surrogate_low-clause-items c =
+pub returns-else-is_surrogate_low-clause-written : goal.returns-else-is_surrogate_low-clause-written
+returns-else-is_surrogate_low-clause-written c =
     let high = c.args.high.now in
     let next = c.args.next.now in
     let other : is_low (unit_value next.digits.now) ≡ false = ap is_low (sym c.requires.value.1) ∙ sym c.is_surrogate_low.ensures ∙ c.if-is_surrogate_low.false in
-    c.push_kept-else-is_surrogate_low.ensures.items ∙ ap (λ added. added ++ kept next.digits.now) c.push_kept.ensures.items
-    ∙ append_assoc c.args.text.now.items (kept high.digits.now) (kept next.digits.now)
-    ∙ ap (λ added. c.args.text.now.items ++ added) (sym (together-kept high.digits.now next.digits.now other))
+    c.push_kept.ensures.written ∙ ap (λ added. added ++ kept next.digits.now) c.push_kept-len.ensures.written
+    ∙ append_assoc (take c.args.len c.args.text.now) (kept high.digits.now) (kept next.digits.now)
+    ∙ ap (λ added. take c.args.len c.args.text.now ++ added) (sym (together-kept high.digits.now next.digits.now other))

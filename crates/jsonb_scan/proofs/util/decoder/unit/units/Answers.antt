@@ -20,7 +20,7 @@ pub returns-in_default-clause-ok : goal.returns-in_default-clause-ok
 returns-in_default-clause-ok c = λ mode.
     let first = c.in_ok-first.first in record {
       text = _;
-      appended = c.push_alone.ensures.items;
+      appended = c.push_alone-len.ensures.written;
       decodes = decoded_alone mode c.args.bytes.now first.digits.now first.rest.now first.value c.in_ok-first.ensures.ok c.in_default.ensures.none;
     }
 
@@ -31,6 +31,6 @@ returns-clause-ok c = λ mode.
     let after = c.in-Some in
     let reads = subst (λ rest. ReadsUnit c.args.bytes.now first.digits.now rest first.value) after.ensures.some.1 c.in_ok-first.ensures.ok in record {
       text = _;
-      appended = c.push_together.ensures.items;
+      appended = c.push_together-len.ensures.written;
       decodes = decoded_together mode c.args.bytes.now first.digits.now after.after.now next.digits.now next.rest.now first.value next.value reads after.ensures.some.0 c.in_ok-next.ensures.ok;
     }
