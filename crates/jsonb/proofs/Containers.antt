@@ -8,4 +8,5 @@ pub mod OpenOnLists
 pub mod Repeats
 pub mod SecondPlaces
 pub mod Shuffles
+pub mod Sources
 pub mod Values

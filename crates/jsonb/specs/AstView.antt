@@ -8,15 +8,10 @@ use Rattle.jsonb_value.specs.Tree.{Tree, null, boolean, number, string, array, o
 use Rattle.jsonb_value.specs.View.{number_view, mark_view}
 use Rattle.jsonb.specs.declared.parser.ast.JsonAst.{JsonAst, fold-JsonAst}
 use Rattle.jsonb.specs.declared.parser.ast.JsonAst.TheOpen.{JsonAst-F}
-use Rattle.jsonb_scan.specs.Reading.Container.{Found, member_of}
-
--- a member of an object, with its value already seen as a tree
-abbrev pub found_from : CowStr Global × Tree × ℕ → Found
-found_from m = record { mark = mark_view m.0; key = cow_str_bytes m.0; tree = m.1; place = m.2 }
 
 -- the key and the tree of each member
 abbrev pub keyed_trees : List (CowStr Global × Tree × ℕ) → List Member
-keyed_trees ms = map (λ m. member_of (found_from m)) ms
+keyed_trees ms = map (λ m. (cow_str_bytes m.0, m.1)) ms
 
 -- one level, with each value inside already seen as its tree. An object has its members put in one after the other
 abbrev pub ast_step : JsonAst-F Tree → Tree
@@ -52,7 +47,3 @@ abbrev pub IsContainer : Tree → Type 0
 IsContainer (array ts) = ⊤
 IsContainer (object ms) = ⊤
 IsContainer other = ⊥
-
--- a member that was read
-abbrev pub found_of : Written → Found
-found_of m = found_from (m.0, ast_view m.1, m.2)

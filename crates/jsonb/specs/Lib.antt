@@ -1,6 +1,5 @@
 pub mod AstView
 pub mod Direct
-pub mod OpenPlaces
 pub mod Parser
 pub mod Placed
 pub mod Refusals

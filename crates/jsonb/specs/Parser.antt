@@ -1,10 +1,9 @@
 -- The remaining input of a parser, and what a call of it leaves; `Answer` of `jsonb_scan` again.
 -- Read for: private.
-use Rattle.std.specs.Prelude.{◌≡◌, ℕ, ◌≤◌, List, length, drop, Option, IfSome, Result, Ok}
+use Rattle.std.specs.Prelude.{◌≡◌, ℕ, ◌-◌, ◌<◌, ◌≤◌, List, length, drop, slice_index, Option, IfSome, Result, Ok}
 use Rattle.jsonb_value.specs.Mode.{Mode}
 use Rattle.jsonb_value.specs.declared.error.Error.{Error}
 use Rattle.jsonb.specs.declared.parser.Parser.{Parser}
-use Rattle.jsonb_scan.specs.declared.parser.Mode as parser
 use Rattle.jsonb_scan.specs.Reading.{Read}
 pub use Rattle.jsonb_scan.specs.Answer.{mode_of, NamesFault, Fails, Gives, IsTextRefusal, MayAllocate}
 
@@ -15,6 +14,10 @@ rest_of p = drop p.idx p.buf.now
 -- the length of the whole input
 abbrev pub size_of : Parser → ℕ
 size_of p = length p.buf.now
+
+-- The byte before the reader's index is this one.
+abbrev pub IsBehind : ℕ → Parser → Type 0
+IsBehind byte p = (0 < p.idx) × (slice_index p.buf.now (p.idx - 1) ≡ byte)
 
 -- The reader has gone on in the same input, and not past its end.
 pub record Advances (old new : Parser) : Type 0 where

@@ -7,8 +7,8 @@ use Rattle.std.specs.declared.cmp.Ordering.TheVariants.{Less}
 use Rattle.jsonb_value.specs.Grammar.Blanks.{AreLastBlanks, IsBlanks}
 use Rattle.jsonb_value.specs.Mode.{Mode, extended}
 use Rattle.jsonb_value.specs.Grammar.Scalar.{IsKey, IsScalar}
-use Rattle.jsonb_value.specs.Tree.{Mark, Tree, boolean, string, number}
-use Rattle.jsonb.specs.Source.{Source, null_source, boolean_source, string_source, number_source, array_source, object_source, sources_of, SourceMembers, no_source_members, more_source_members}
+use Rattle.jsonb_value.specs.Tree.{Mark, Tree}
+use Rattle.jsonb_scan.specs.Source.{Source, null_source, object_source, array_source_of, Found, found, SourceMembers, no_source_members, more_source_members, source_alone, source_members_of}
 
 -- From one place to the other the input has bytes of this kind.
 pub record Has (input : List ℕ) (Kind : List ℕ → Type 0) (from to : ℕ) : Type 0 where
@@ -30,21 +30,6 @@ HasBlanks mode input from to = Has input (IsBlanks mode) from to
 abbrev pub HasKey : Mode → List ℕ → ℕ → Mark × List ℕ → ℕ → Type 0
 HasKey mode input from key to = Has input (λ bytes. IsKey mode bytes key) from to
 
--- a tree that holds no others, as a source
-abbrev pub source_alone : Tree → Source
-source_alone (boolean b) = boolean_source b
-source_alone (string k s) = string_source k s
-source_alone (number n) = number_source n
-source_alone other = null_source
-
--- a member of an object: its key with the mark, its value, and the index after the key
-abbrev pub Placed : Type 0
-Placed = (Mark × List ℕ) × Source × ℕ
-
-abbrev pub placed_members : List Placed → SourceMembers
-placed_members [] = no_source_members
-placed_members (m ∷ ms) = more_source_members m.0.0 m.0.1 m.1 m.2 (placed_members ms)
-
 -- each key is below the next one, by bytes
 abbrev pub SourceKeysAscend : SourceMembers → Type 0
 SourceKeysAscend no_source_members = ⊤
@@ -58,16 +43,16 @@ mutual
     scalar : {from to : ℕ} {t : Tree} → Has input (λ bytes. IsScalar mode bytes t) from to
         → IsValueAt mode input from (source_alone t) to
     empty_array : {from to : ℕ} → HasByte input 91 from → HasBlanks mode input (from + 1) to → HasByte input 93 to
-        → IsValueAt mode input from (array_source (sources_of [])) (to + 1)
+        → IsValueAt mode input from (array_source_of []) (to + 1)
     full_array : {from to : ℕ} {ss : List Source} → HasByte input 91 from → AreElementsAt mode input (from + 1) ss to
         → (HasBlanks mode input (from + 1) to → ⊥) → HasByte input 93 to
-        → IsValueAt mode input from (array_source (sources_of ss)) (to + 1)
+        → IsValueAt mode input from (array_source_of ss) (to + 1)
     empty_object : {from to : ℕ} → HasByte input 123 from → HasBlanks mode input (from + 1) to → HasByte input 125 to
-        → IsValueAt mode input from (object_source (placed_members [])) (to + 1)
-    full_object : {from to : ℕ} {written sorted : List Placed} → HasByte input 123 from
+        → IsValueAt mode input from (object_source (source_members_of [])) (to + 1)
+    full_object : {from to : ℕ} {written sorted : List Found} → HasByte input 123 from
         → AreMembersAt mode input (from + 1) written to → HasByte input 125 to
-        → IsPermutation written sorted → SourceKeysAscend (placed_members sorted)
-        → IsValueAt mode input from (object_source (placed_members sorted)) (to + 1)
+        → IsPermutation written sorted → SourceKeysAscend (source_members_of sorted)
+        → IsValueAt mode input from (object_source (source_members_of sorted)) (to + 1)
 
   -- elements with commas between
   pub data AreElementsAt (mode : Mode) (input : List ℕ) : ℕ → List Source → ℕ → Type 0 where
@@ -85,19 +70,19 @@ mutual
         → IsElementAt mode input from null_source to
 
   -- members with commas between
-  pub data AreMembersAt (mode : Mode) (input : List ℕ) : ℕ → List Placed → ℕ → Type 0 where
-    one_member : {from to : ℕ} {m : Placed} → IsMemberAt mode input from m to → AreMembersAt mode input from (m ∷ []) to
-    more_members : {from comma to : ℕ} {m : Placed} {others : List Placed} → IsMemberAt mode input from m comma
+  pub data AreMembersAt (mode : Mode) (input : List ℕ) : ℕ → List Found → ℕ → Type 0 where
+    one_member : {from to : ℕ} {m : Found} → IsMemberAt mode input from m to → AreMembersAt mode input from (m ∷ []) to
+    more_members : {from comma to : ℕ} {m : Found} {others : List Found} → IsMemberAt mode input from m comma
         → HasByte input 44 comma → AreMembersAt mode input (comma + 1) others to
         → AreMembersAt mode input from (m ∷ others) to
 
   -- A key, a colon and a value, with blanks round the key and round the value. The index of the member is where its own
   -- key ends.
-  pub data IsMemberAt (mode : Mode) (input : List ℕ) : ℕ → Placed → ℕ → Type 0 where
+  pub data IsMemberAt (mode : Mode) (input : List ℕ) : ℕ → Found → ℕ → Type 0 where
     key_and_value : {from begin index colon due end to : ℕ} {key : Mark × List ℕ} {s : Source}
         → HasBlanks mode input from begin → HasKey mode input begin key index → HasBlanks mode input index colon
         → HasByte input 58 colon → HasBlanks mode input (colon + 1) due → IsValueAt mode input due s end
-        → HasBlanks mode input end to → IsMemberAt mode input from (key, s, index) to
+        → HasBlanks mode input end to → IsMemberAt mode input from (found key s index) to
 
 -- The whole text: a value with blanks round it. In extended mode blanks alone stand for null.
 pub data IsPlaced (mode : Mode) (input : List ℕ) : Source → Type 0 where

@@ -1,34 +1,18 @@
 -- A `JsonAst` with its order and offsets, and what is borrowed; equality by parts.
--- Read for: promises, but `sources_view`, `source_members_view`.
-use Rattle.std.specs.Prelude.{ℕ, List, [], ◌∷◌, map, Bool, true, false, ◌&&◌, ◌==◌, bytes_eq, ⊤}
+-- Read for: promises, but `sources_view`, `source_members_view`, `found_of`.
+use Rattle.std.specs.Prelude.{ℕ, List, map, Bool, true, false, ◌&&◌, ◌==◌, bytes_eq, ⊤}
 use Rattle.std.specs.Cow.{cow_str_bytes}
 use Rattle.std.specs.Ordering.{bool_cmp, eq_by_cmp}
 use Rattle.std.specs.declared.alloc.Global.{Global}
 use Rattle.std.specs.declared.borrow.CowStr.{CowStr}
 use Rattle.jsonb_value.specs.Order.{num_cmp}
-use Rattle.jsonb_value.specs.Tree.{Num, Mark, escaped}
+use Rattle.jsonb_value.specs.Tree.{escaped}
 use Rattle.jsonb_value.specs.View.{number_view, mark_view}
 use Rattle.jsonb.specs.AstView.{Written}
 use Rattle.jsonb.specs.declared.parser.ast.JsonAst.{JsonAst, fold-JsonAst}
 use Rattle.jsonb.specs.declared.parser.ast.JsonAst.TheOpen.{JsonAst-F}
-
-mutual
-  pub data Source : Type 0 where
-    null_source : Source
-    boolean_source : Bool → Source
-    string_source : Mark → List ℕ → Source
-    number_source : Num → Source
-    array_source : Sources → Source
-    object_source : SourceMembers → Source
-
-  pub data Sources : Type 0 where
-    no_sources : Sources
-    more_sources : Source → Sources → Sources
-
-  -- a key with its mark, what stands there, and the index after the key
-  pub data SourceMembers : Type 0 where
-    no_source_members : SourceMembers
-    more_source_members : Mark → List ℕ → Source → ℕ → SourceMembers → SourceMembers
+use Rattle.jsonb_scan.specs.Source.{Found, array_source_of, source_members_of, sources_of}
+pub use Rattle.jsonb_scan.specs.Source.{Source, null_source, boolean_source, string_source, number_source, array_source, object_source, Sources, no_sources, more_sources, SourceMembers, no_source_members, more_source_members}
 
 -- it holds no other source and no text of its own, so that a copy takes no memory
 abbrev pub SourceHoldsNoMemory : Source → Type 0
@@ -37,13 +21,9 @@ SourceHoldsNoMemory (array_source ss) = ⊥
 SourceHoldsNoMemory (object_source ms) = ⊥
 SourceHoldsNoMemory s = ⊤
 
-abbrev pub sources_of : List Source → Sources
-sources_of [] = no_sources
-sources_of (s ∷ ss) = more_sources s (sources_of ss)
-
-abbrev pub placed_members : List (CowStr Global × Source × ℕ) → SourceMembers
-placed_members [] = no_source_members
-placed_members (m ∷ ms) = more_source_members (mark_view m.0) (cow_str_bytes m.0) m.1 m.2 (placed_members ms)
+-- a member of an object, with its value already seen as a source
+abbrev pub found_from : CowStr Global × Source × ℕ → Found
+found_from m = record { mark = mark_view m.0; key = cow_str_bytes m.0; source = m.1; place = m.2 }
 
 -- one level, with each value inside already seen as its source
 abbrev pub source_step : JsonAst-F Source → Source
@@ -51,8 +31,8 @@ source_step JsonAst-F.Null = null_source
 source_step (JsonAst-F.Bool b) = boolean_source b
 source_step (JsonAst-F.String s) = string_source (mark_view s) (cow_str_bytes s)
 source_step (JsonAst-F.Number n) = number_source (number_view n)
-source_step (JsonAst-F.Array v) = array_source (sources_of v.items)
-source_step (JsonAst-F.Object v) = object_source (placed_members v.items)
+source_step (JsonAst-F.Array v) = array_source_of v.items
+source_step (JsonAst-F.Object v) = object_source (source_members_of (map found_from v.items))
 
 abbrev pub source_view : JsonAst → Source
 source_view = fold-JsonAst Source source_step
@@ -61,7 +41,11 @@ abbrev pub sources_view : List JsonAst → Sources
 sources_view asts = sources_of (map source_view asts)
 
 abbrev pub source_members_view : List Written → SourceMembers
-source_members_view ms = placed_members (map (λ m. (m.0, source_view m.1, m.2)) ms)
+source_members_view ms = source_members_of (map found_from (map (λ m. (m.0, source_view m.1, m.2)) ms))
+
+-- a member that was read
+abbrev pub found_of : Written → Found
+found_of m = found_from (m.0, source_view m.1, m.2)
 
 abbrev mutual
   -- by parts: texts by their bytes and numbers by their values

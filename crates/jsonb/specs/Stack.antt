@@ -11,42 +11,42 @@ use Rattle.jsonb_value.specs.Code.{Code}
 use Rattle.jsonb_value.specs.Code.Code.{expected_array_comma_or_end, expected_colon, expected_object_comma_or_end}
 use Rattle.jsonb_value.specs.Grammar.{max_depth}
 use Rattle.jsonb_value.specs.Mode.{Mode}
-use Rattle.jsonb_value.specs.Tree.{Mark, Tree, trees_of}
+use Rattle.jsonb_value.specs.Tree.{Mark}
 use Rattle.jsonb_value.specs.Tree.Mark.{plain}
-use Rattle.jsonb_value.specs.Tree.Tree.{array, null}
 use Rattle.jsonb_value.specs.View.{mark_view}
-use Rattle.jsonb.specs.AstView.{ast_view, found_of}
+use Rattle.jsonb.specs.Source.{source_view, found_of}
+use Rattle.jsonb_scan.specs.Source.{Source, null_source, Found, found, spot_of, first_repeat, array_source_of}
 use Rattle.jsonb_scan.specs.Answer.{Fails, mode_of}
 use Rattle.jsonb.specs.Parser.{rest_of, size_of}
 use Rattle.jsonb_scan.specs.Reading.{Read, on_byte, refused, ◌>>=◌}
 use Rattle.jsonb_scan.specs.Reading.Blank.{skip_blanks}
-use Rattle.jsonb_scan.specs.Reading.Container.{Found, array_at, element_at, first_repeat, joined_at, member_at, object_at, object_or_fault, spot_of}
+use Rattle.jsonb_scan.specs.Reading.Container.{array_at, element_at, joined_at, member_at, object_at, object_or_fault}
 use Rattle.jsonb_scan.specs.Reading.Document.{too_deep, value_at}
 use Rattle.jsonb_scan.specs.Reading.Scalar.{key_at}
 
 -- An array or an object that is open: its parts so far, and in an object the key that waits for its value, with the
 -- place after it.
 pub data Open : Type 0 where
-  elements_so_far : List Tree → Open
+  elements_so_far : List Source → Open
   members_so_far : List Found → Mark × List ℕ → ℕ → Open
 
 -- ---- parts joined by commas, after those that were read
 
 module _ {A : Type 0} (size : ℕ) (code : Code) (close : ℕ) (part : List ℕ → Read A)
-    (finish : List A → List ℕ → Read Tree) where
+    (finish : List A → List ℕ → Read Source) where
   -- from the beginning of a part on
-  abbrev pub parts_from : List A → List ℕ → Read Tree
+  abbrev pub parts_from : List A → List ℕ → Read Source
   parts_from front bytes = joined_at size code close part (suc (length bytes)) bytes >>= λ x. finish (front ++ x.0) x.1
 
   -- from the end of a part on
-  abbrev pub parts_after : List A → List ℕ → Read Tree
+  abbrev pub parts_after : List A → List ℕ → Read Source
   parts_after front bytes =
       on_byte 44 bytes (parts_from front) (on_byte close bytes (finish front) (refused size code 0 bytes))
 
-abbrev pub array_end : List Tree → List ℕ → Read Tree
-array_end ts rest = Ok (array (trees_of ts), rest)
+abbrev pub array_end : List Source → List ℕ → Read Source
+array_end ss rest = Ok (array_source_of ss, rest)
 
-abbrev pub object_end : List Found → List ℕ → Read Tree
+abbrev pub object_end : List Found → List ℕ → Read Source
 object_end fs rest = object_or_fault (first_repeat (map spot_of fs)) fs rest
 
 -- a key with its colon, the place after the key, and what comes after the blanks after the colon
@@ -57,21 +57,21 @@ member_start size mode bytes =
     (refused size expected_colon 0 (skip_blanks mode k.1))
 
 -- the container with one more part; its key is used up
-abbrev pub add_part : Open → Tree → Open
-add_part (elements_so_far front) t = elements_so_far (front ++ t ∷ [])
-add_part (members_so_far front key place) t =
-    members_so_far (front ++ record { mark = key.0; key = key.1; tree = t; place = place } ∷ []) (plain, []) place
+abbrev pub add_part : Open → Source → Open
+add_part (elements_so_far front) s = elements_so_far (front ++ s ∷ [])
+add_part (members_so_far front key place) s =
+    members_so_far (front ++ found key s place ∷ []) (plain, []) place
 
 module _ (size : ℕ) (mode : Mode) (depth : ℕ) where
-  abbrev pub elements_from : List Tree → List ℕ → Read Tree
+  abbrev pub elements_from : List Source → List ℕ → Read Source
   elements_from = parts_from size expected_array_comma_or_end 93 (element_at mode (value_at size mode depth)) array_end
 
-  abbrev pub read_members_from : List Found → List ℕ → Read Tree
+  abbrev pub read_members_from : List Found → List ℕ → Read Source
   read_members_from =
       parts_from size expected_object_comma_or_end 125 (member_at size mode (value_at size mode depth)) object_end
 
   -- the rest of a container, from the end of a part on
-  abbrev pub resume_after_part : Open → List ℕ → Read Tree
+  abbrev pub resume_after_part : Open → List ℕ → Read Source
   resume_after_part (elements_so_far front) =
       parts_after size expected_array_comma_or_end 93 (element_at mode (value_at size mode depth)) array_end front
   resume_after_part (members_so_far front key place) =
@@ -79,29 +79,29 @@ module _ (size : ℕ) (mode : Mode) (depth : ℕ) where
       front
 
   -- the container, once the value that it waits for was read
-  abbrev pub finish_open : Open → Tree × List ℕ → Read Tree
+  abbrev pub finish_open : Open → Source × List ℕ → Read Source
   finish_open c x = resume_after_part (add_part c x.0) (skip_blanks mode x.1)
 
 -- The outermost value, once the value that the innermost container waits for was read. The innermost container comes
 -- first, and the number is how deep what is in it may nest.
-unfoldable pub resume : ℕ → Mode → ℕ → List Open → Tree × List ℕ → Read Tree
+unfoldable pub resume : ℕ → Mode → ℕ → List Open → Source × List ℕ → Read Source
 resume size mode depth [] x = Ok x
 resume size mode depth (c ∷ cs) x = finish_open size mode depth c x >>= resume size mode (suc depth) cs
 
 -- an array, from the byte after the bracket on, where arrays and objects may nest this deep
-abbrev pub array_within : ℕ → Mode → ℕ → List ℕ → Read Tree
+abbrev pub array_within : ℕ → Mode → ℕ → List ℕ → Read Source
 array_within size mode zero = too_deep size
 array_within size mode (suc depth) = array_at size mode (value_at size mode depth)
 
 -- an object, from the byte after the brace on
-abbrev pub object_within : ℕ → Mode → ℕ → List ℕ → Read Tree
+abbrev pub object_within : ℕ → Mode → ℕ → List ℕ → Read Source
 object_within size mode zero = too_deep size
 object_within size mode (suc depth) = object_at size mode (value_at size mode depth)
 
 -- ---- the reader's stack, whose last frame is the innermost
 
 abbrev pub open_of : Frame → Open
-open_of (variants.Array v) = elements_so_far (map ast_view v.items)
+open_of (variants.Array v) = elements_so_far (map source_view v.items)
 open_of (variants.Object o) =
     members_so_far (map found_of o.members.items) (mark_view o.key, cow_str_bytes o.key) o.after
 
@@ -117,44 +117,46 @@ abbrev pub depth_in : List Frame → ℕ
 depth_in frames = max_depth - length frames
 
 -- the outermost value, once this was read inside of the open containers
-abbrev pub resumed : Parser → List Frame → Read Tree → Read Tree
+abbrev pub resumed : Parser → List Frame → Read Source → Read Source
 resumed p frames read = read >>= resume (size_of p) (mode_of p.mode) (depth_in frames) (stack_of frames)
 
 -- What is read from here on where a value is due, and where this value was read.
-abbrev pub ahead : Parser → List Frame → Option JsonAst → Read Tree
+abbrev pub ahead : Parser → List Frame → Option JsonAst → Read Source
 ahead p frames None = resumed p frames (value_at (size_of p) (mode_of p.mode) (depth_in frames) (rest_of p))
-ahead p frames (Some v) = resumed p frames (Ok (ast_view v, rest_of p))
+ahead p frames (Some v) = resumed p frames (Ok (source_view v, rest_of p))
 
 -- A step of the reader leaves what is read the same, or gives its fault.
-abbrev pub Continues : Read Tree → Result (Option JsonAst) Error → Parser → List Frame → Type 0
+abbrev pub Continues : Read Source → Result (Option JsonAst) Error → Parser → List Frame → Type 0
 Continues whole (Ok value) p frames = whole ≡ ahead p frames value
 Continues whole (Err e) p frames = Fails e whole
 
 -- the element that was left out, or the value that is due
-abbrev pub element_begun : ℕ → Mode → ℕ → Option JsonAst → List ℕ → Read Tree
+abbrev pub element_begun : ℕ → Mode → ℕ → Option JsonAst → List ℕ → Read Source
 element_begun size mode depth None bytes = value_at size mode depth bytes
-element_begun size mode depth (Some v) bytes = Ok (ast_view v, bytes)
+element_begun size mode depth (Some v) bytes = Ok (source_view v, bytes)
 
 -- an array with these elements, once an element was begun
-abbrev pub element_from : ℕ → Mode → ℕ → List Tree → Option JsonAst → List ℕ → Read Tree
+abbrev pub element_from : ℕ → Mode → ℕ → List Source → Option JsonAst → List ℕ → Read Source
 element_from size mode depth front begun bytes =
     element_begun size mode depth begun bytes >>= finish_open size mode depth (elements_so_far front)
 
 -- The rest of the innermost container from the end of a part on, and then of the others.
-abbrev pub rest_of_opens : ℕ → Mode → ℕ → List Open → List ℕ → Read Tree
-rest_of_opens size mode depth [] bytes = Ok (null, bytes)
-rest_of_opens size mode depth (c ∷ cs) bytes = resume_after_part size mode depth c bytes >>= resume size mode (suc depth) cs
+abbrev pub rest_of_opens : ℕ → Mode → ℕ → List Open → List ℕ → Read Source
+rest_of_opens size mode depth [] bytes = Ok (null_source, bytes)
+rest_of_opens size mode depth (c ∷ cs) bytes =
+    resume_after_part size mode depth c bytes >>= resume size mode (suc depth) cs
 
 -- the same from the beginning of a part on
-abbrev pub next_part_at : ℕ → Mode → ℕ → Open → List ℕ → Read Tree
+abbrev pub next_part_at : ℕ → Mode → ℕ → Open → List ℕ → Read Source
 next_part_at size mode depth (elements_so_far front) bytes = elements_from size mode depth front bytes
 next_part_at size mode depth (members_so_far front key place) bytes = read_members_from size mode depth front bytes
 
 -- What a step into a part leaves, or its fault.
-abbrev pub PartBegins : ℕ → Mode → ℕ → Read Tree → Result (Option JsonAst) Error → Open → List ℕ → Type 0
+abbrev pub PartBegins : ℕ → Mode → ℕ → Read Source → Result (Option JsonAst) Error → Open → List ℕ → Type 0
 PartBegins size mode depth whole (Ok begun) c bytes = whole
     ≡ (element_begun size mode depth begun bytes >>= finish_open size mode depth c)
 PartBegins size mode depth whole (Err e) c bytes = Fails e whole
 
-abbrev pub resume_stack_after_part : Parser → List Frame → Read Tree
-resume_stack_after_part p frames = rest_of_opens (size_of p) (mode_of p.mode) (depth_in frames) (stack_of frames) (rest_of p)
+abbrev pub resume_stack_after_part : Parser → List Frame → Read Source
+resume_stack_after_part p frames =
+    rest_of_opens (size_of p) (mode_of p.mode) (depth_in frames) (stack_of frames) (rest_of p)

@@ -9,14 +9,13 @@ ghost use Rattle.jsonb_value.specs.Proper.{IsProper};
 ghost use Rattle.jsonb_value.specs.Text.Range.{IsInRange, IsIntegerRange};
 ghost use Rattle.jsonb_value.specs.Tree.{Tree};
 ghost use Rattle.jsonb_value.specs.View.{view};
-ghost use Rattle.jsonb.specs.AstView.{ast_view};
 ghost use Rattle.jsonb_scan.specs.Answer.{mode_of, NamesFault, IsTextRefusal, Gives, MayAllocate};
-ghost use Rattle.jsonb.specs.Parser.{rest_of, size_of, Advances};
-ghost use Rattle.jsonb.specs.Placed.{IsPlaced};
+ghost use Rattle.jsonb.specs.Parser.{rest_of, size_of, Advances, IsBehind};
 ghost use Rattle.jsonb_scan.specs.Reading.{begins, fault_at};
 ghost use Rattle.jsonb_scan.specs.Reading.Blank.{skip_closed_blanks};
-ghost use Rattle.jsonb_scan.specs.Reading.Document.{at_end, comment_at, document_from, document_of};
+ghost use Rattle.jsonb_scan.specs.Reading.Document.{at_end, comment_at, document_of, source_from};
 ghost use Rattle.jsonb.specs.Refusals.{IsExplained};
+ghost use Rattle.jsonb_scan.specs.Source.{Source};
 ghost use Rattle.jsonb.specs.Source.{source_view};
 
 mod ast;
@@ -159,6 +158,7 @@ impl<'a> Parser<'a> {
         ensures rest { MatchBool result (rest_of self.old ≡ byte ∷ rest_of self.new) (self.new ≡ self.old) }
         ensures inside { MatchBool result (self.old.idx < self.new.idx × self.new.idx ≤ size_of self.new)
             (self.new ≡ self.old) }
+        ensures behind { MatchBool result (IsBehind byte self.new) (Unit {0}) }
         ensures advances { Advances self.old self.new }
     {
         let found = self.next_is(byte);
@@ -191,11 +191,9 @@ impl<'a> Parser<'a> {
     // A value with blanks round it, up to the end of the text.
     fn parse_document(&mut self) -> Result<JsonAst<'a>>
         requires { self.old.idx ≤ size_of self.old }
-        ensures reads { Gives ast_view result (document_from (size_of self.old) (mode_of self.old.mode)
+        ensures reads { Gives source_view result (source_from (size_of self.old) (mode_of self.old.mode)
             (skip_closed_blanks (mode_of self.old.mode) (rest_of self.old))) }
         ensures memory { result ≡ Err Error.OutOfMemory → MayAllocate self.old.buf.now }
-        ensures source { self.old.idx ≡ 0 → IfOk result (λ v. IsPlaced (mode_of self.old.mode) self.old.buf.now
-            (source_view v)) }
     {
         self.skip_closed_blanks();
         if self.idx >= self.buf.len() {
@@ -216,7 +214,7 @@ impl<'a> Parser<'a> {
     // The end of a text, after its value.
     fn end_document(&mut self) -> Result<()>
         requires { self.old.idx ≤ size_of self.old }
-        ensures reads { (t : Tree) → Gives (λ _. t) result (at_end (size_of self.old) (mode_of self.old.mode) t
+        ensures reads { (s : Source) → Gives (λ _. s) result (at_end (size_of self.old) (mode_of self.old.mode) s
             (skip_closed_blanks (mode_of self.old.mode) (rest_of self.old))) }
         ensures takes_no_memory { result ≢ Err Error.OutOfMemory }
     {
@@ -233,7 +231,7 @@ impl<'a> Parser<'a> {
     // A text may end in a line comment without its end, and in no other comment.
     fn end_in_comment(&self) -> Result<()>
         requires { self.now.idx < size_of self.now }
-        ensures reads { (t : Tree) → Gives (λ _. t) result (comment_at (size_of self.now) t
+        ensures reads { (s : Source) → Gives (λ _. s) result (comment_at (size_of self.now) s
             (drop 1 (rest_of self.now))) }
         ensures takes_no_memory { result ≢ Err Error.OutOfMemory }
     {

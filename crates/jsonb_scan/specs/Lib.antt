@@ -4,4 +4,5 @@ pub mod Line
 pub mod QuotedString
 pub mod Reading
 pub mod ScannedNumber
+pub mod Source
 pub mod StringRefusal

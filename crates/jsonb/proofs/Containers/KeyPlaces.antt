@@ -11,15 +11,17 @@ use Rattle.jsonb_value.specs.Grammar.IsMember.{key_and_value}
 use Rattle.jsonb_value.specs.Grammar.IsPadded.{padded}
 use Rattle.jsonb_value.specs.Mode.{Mode}
 use Rattle.jsonb_value.specs.Grammar.Scalar.{IsKey}
-use Rattle.jsonb_value.specs.Tree.{Mark, Member, Tree}
+use Rattle.jsonb_value.specs.Tree.{Mark, Member}
 use Rattle.jsonb_scan.specs.Reading.{Read, on_byte, refused, ◌>>=◌}
 use Rattle.jsonb_scan.specs.Reading.Blank.{skip_blanks}
-use Rattle.jsonb_scan.specs.Reading.Container.{Found, Spot, after_key, after_part, first_repeat, found_at, joined_at, member_at, member_of, padded_at, spot_of}
+use Rattle.jsonb_scan.specs.Reading.Container.{after_key, after_part, found_at, joined_at, member_at, padded_at}
+use Rattle.jsonb_scan.specs.Source.{Found, Source, Spot, first_repeat, member_of, spot_of, tree_of_source}
 use Rattle.jsonb_scan.specs.Reading.Scalar.{key_at}
 use Rattle.jsonb.specs.Refusals.{ArePassed, IsSpelling, Repeats, times}
 use Rattle.jsonb.specs.Refusals.ArePassed.{no_parts, part_passed}
 use Rattle.jsonb_scan.proofs.Steps.Tests.{bind_ok, refused_fails, same_read}
-use Rattle.jsonb_scan.proofs.Containers.JoinedParts.{IsSound, on_byte_cases, padded_sound}
+use Rattle.jsonb_scan.proofs.Containers.JoinedParts.{IsSound, on_byte_cases, padded_seen, padded_sound}
+use Rattle.jsonb.proofs.Containers.Values.{Seen}
 use Rattle.jsonb.proofs.Scalars.Spellings.{key_sound, key_starts}
 use Rattle.jsonb.proofs.Containers.SecondPlaces.{AreRising, IsSecond, alike, count, has, once_before, rising-weaken, second_found, stands_there}
 use Rattle.jsonb_scan.proofs.Text.Blanks.{skips}
@@ -44,7 +46,7 @@ record MemberRead (mode : Mode) (size : ℕ) (bytes : List ℕ) (f : Found) (res
   pub whole : bytes ≡ core ++ rest
   pub key_at : KeyAt mode size rest core f
 
-module _ (mode : Mode) (size : ℕ) (read : List ℕ → Read Tree) (sound : IsSound (IsSpelling mode) read) where
+module _ (mode : Mode) (size : ℕ) (read : List ℕ → Read Source) (sound : IsSound (Seen (IsSpelling mode)) read) where
   member_read : (bytes : List ℕ) (f : Found) (rest : List ℕ) → member_at size mode read bytes ≡ Ok (f, rest) → 0 < length rest → MemberRead mode size bytes f rest
   member_read bytes f rest e left =
       let b = bind_ok (key_at size mode (skip_blanks mode bytes)) (λ (x : (Mark × List ℕ) × List ℕ). after_key size mode read x.0 (size - length x.1) (skip_blanks mode x.1)) (f, rest) e in
@@ -53,12 +55,12 @@ module _ (mode : Mode) (size : ℕ) (read : List ℕ → Read Tree) (sound : IsS
       let colon : List ℕ = skip_blanks mode b.0.1 in
       let s = key_sound size mode (skip_blanks mode bytes) k b.0.1 b.1 in
       let st = key_starts mode s.core k s.spells in
-      elim (on_byte_cases 58 colon (λ (r : List ℕ). padded_at mode read r >>= λ (x : Tree × List ℕ). found_at k place x) (refused size expected_colon 0 colon) (Ok (f, rest)) b.2) [
+      elim (on_byte_cases 58 colon (λ (r : List ℕ). padded_at mode read r >>= λ (x : Source × List ℕ). found_at k place x) (refused size expected_colon 0 colon) (Ok (f, rest)) b.2) [
         | inl t ↦
-            let v = bind_ok (padded_at mode read t.0) (λ (x : Tree × List ℕ). found_at k place x) (f, rest) t.2 in
-            let g : Found = record { mark = k.0; key = k.1; tree = v.0.0; place = place } in
+            let v = bind_ok (padded_at mode read t.0) (λ (x : Source × List ℕ). found_at k place x) (f, rest) t.2 in
+            let g : Found = record { mark = k.0; key = k.1; source = v.0.0; place = place } in
             let same = same_read g f v.0.1 rest v.2 in
-            let right = padded_sound mode (IsSpelling mode) read sound t.0 v.0.0 v.0.1 v.1 (omega (arith, left, ap length same.rest)) in
+            let right = padded_sound mode (Seen (IsSpelling mode)) read sound t.0 v.0.0 v.0.1 v.1 (omega (arith, left, ap length same.rest)) in
             let back = skips mode b.0.1 (omega (arith, ap length t.1)) in
             let front = skips mode bytes (omega (arith, ap length s.whole, length-append s.core b.0.1, ap length st.whole)) in
             let after : List ℕ = back.blanks ++ 58 ∷ right.core in
@@ -79,7 +81,7 @@ module _ (mode : Mode) (size : ℕ) (read : List ℕ → Read Tree) (sound : IsS
               some = some;
               place = ap (λ (u : List ℕ). size - length u) after-is;
             } in
-            let m : MemberRead mode size bytes g v.0.1 = record { core = core; spells = key_and_value (padded front.are_blanks s.spells back.are_blanks) right.spells; whole = whole; key_at = k_at } in
+            let m : MemberRead mode size bytes g v.0.1 = record { core = core; spells = key_and_value (padded front.are_blanks s.spells back.are_blanks) (padded_seen tree_of_source (IsSpelling mode) right.spells); whole = whole; key_at = k_at } in
             subst₂ (λ (h : Found) (r : List ℕ). MemberRead mode size bytes h r) same.value same.rest m
         | inr g ↦ absurd (refused_fails size expected_colon 0 colon (f, rest) g.1)
       ]
@@ -92,7 +94,7 @@ pub data AreLaid (mode : Mode) (size : ℕ) (tail : List ℕ) : List ℕ → Lis
   more_laid : {first rest : List ℕ} {f : Found} {fs : List Found} → IsMember mode (IsSpelling mode) first (member_of f) → (k : KeyAt mode size tail (first ++ 44 ∷ rest) f) → length rest ≤ length k.after
       → AreLaid mode size tail rest fs → AreLaid mode size tail (first ++ 44 ∷ rest) (f ∷ fs)
 
-module _ (mode : Mode) (size : ℕ) (read : List ℕ → Read Tree) (sound : IsSound (IsSpelling mode) read) where
+module _ (mode : Mode) (size : ℕ) (read : List ℕ → Read Source) (sound : IsSound (Seen (IsSpelling mode)) read) where
   pub members_laid : (n : ℕ) (bytes : List ℕ) (fs : List Found) (rest : List ℕ) → joined_at size expected_object_comma_or_end 125 (member_at size mode read) n bytes ≡ Ok (fs, rest)
       → (body : List ℕ) × AreLaid mode size (125 ∷ rest) body fs × (bytes ≡ body ++ 125 ∷ rest)
   unfolding joined_at

@@ -1,5 +1,5 @@
 -- The stack of the fast path parses as the open containers do, and its maps hold what was parsed.
-use Rattle.std.proofs.Common.{◌≡◌, ◌≢◌, ℕ, zero, suc, ◌+◌, ◌-◌, ◌≤◌, Bool, true, false, cond, List, [], ◌∷◌, ◌++◌, length, take, get_or, set, map, String, Vec, Global, rules, Option, Some, None, Ok, Less, Equal, Greater, is_eq, string_bytes, string_cmp, nat_cmp, refl, sym, ap, ap₂, subst, ◌∙◌, arith, length-append}
+use Rattle.std.proofs.Common.{◌≡◌, ◌≢◌, inl, inr, ℕ, zero, suc, ◌+◌, ◌-◌, ◌≤◌, Bool, true, false, cond, List, [], ◌∷◌, ◌++◌, length, take, get_or, set, map, String, Vec, Global, rules, Option, Some, None, Ok, Less, Equal, Greater, is_eq, string_bytes, string_cmp, nat_cmp, refl, sym, ap, ap₂, subst, ◌∙◌, arith, length-append}
 use Rattle.std.proofs.lemmas.Cmp.{nat_list_cmp_total, tied_itself}
 use Rattle.std.proofs.lemmas.List.{map-append}
 use Rattle.std.specs.BTreeMap.{insert_entry, is_at}
@@ -16,7 +16,6 @@ use Rattle.jsonb_value.specs.Tree.{Mark, Member, Members, Num, Tree, put, put_al
 use Rattle.jsonb_value.specs.Tree.Mark.{plain}
 use Rattle.jsonb_value.specs.Tree.Members.{no_members}
 use Rattle.jsonb_value.specs.Tree.Tree.{array, null, number, object, string}
-use Rattle.jsonb_value.specs.Tree.Trees.{no_trees}
 use Rattle.jsonb_value.specs.View.{mark_view, members_view, number_view, view}
 use Rattle.jsonb_value.specs.declared.number.Number.{Number}
 use Rattle.jsonb_value.specs.declared.value.Value.{Value, the_lemmas}
@@ -26,13 +25,14 @@ use Rattle.jsonb.specs.declared.parser.Parser.{Parser}
 use Rattle.jsonb.specs.declared.parser.direct.OpenMembers.{OpenMembers}
 use Rattle.jsonb.specs.declared.parser.direct.OpenValue.{OpenValue}
 use Rattle.jsonb.specs.declared.parser.direct.OpenValue.TheVariants as variants
-use Rattle.jsonb.specs.Direct.{FramesHold, FramesHoldOnto, AtPart, BeforeValue, FrameHolds, MapHolds, ReadsParts, AfterValue, depth_within, finish_container, found_keys, names, resume_stack, resume_part, resume_value, tree_of}
+use Rattle.jsonb.specs.Direct.{FramesHold, FramesHoldOnto, AtPart, BeforeValue, FrameHolds, GivesTree, MapHolds, ReadsParts, AfterValue, depth_within, finish_container, found_keys, names, resume_stack, resume_part, resume_value, scalar_or_null, tree_of}
 use Rattle.jsonb_scan.specs.Answer.{mode_of}
 use Rattle.jsonb.specs.Parser.{Advances, rest_of, size_of}
 use Rattle.jsonb_scan.specs.Reading.{Read, begins, on_byte, refused, ◌>>=◌}
 use Rattle.jsonb_scan.specs.Reading.Blank.{skip_blanks}
-use Rattle.jsonb_scan.specs.Reading.Container.{Found, Spot, array_at, elements_at, is_left_out, member_of, members_at, object_at, object_or_fault, spot_of, value_or_null}
-use Rattle.jsonb_scan.specs.Reading.Document.{value_at}
+use Rattle.jsonb_scan.specs.Reading.Container.{array_at, elements_at, is_left_out, members_at, object_at, object_or_fault, value_or_null}
+use Rattle.jsonb_scan.specs.Source.{Found, Source, Spot, array_source, array_source_of, found, member_of, no_source_members, no_sources, null_source, object_source, object_source_of, source_alone, spot_of, tree_of_source}
+use Rattle.jsonb_scan.specs.Reading.Document.{alone_at, value_at}
 use Rattle.jsonb_scan.specs.Reading.Number.{standard_number_at}
 use Rattle.jsonb_scan.specs.Reading.Scalar.{begins_number, other_scalar_at, quoted_at, scalar_at}
 use Rattle.jsonb_scan.specs.Reading.String.{string_at}
@@ -42,7 +42,11 @@ use Rattle.jsonb.proofs.Scalars.FirstBytes.{standard_number}
 use Rattle.jsonb.proofs.Containers.OpenOnLists.{array-begun, array-value, element-due, elements-turn, members-turn, object-begun, object-value, resume-none, resume-part, value_plain}
 use Rattle.jsonb.proofs.Steps.Outcomes.{same_size, scalar_quoted}
 use Rattle.jsonb_scan.proofs.Containers.JoinedParts.{on_byte-found, on_byte-other}
+use Rattle.jsonb_scan.proofs.Steps.Tests.{chosen, same_read}
 use Rattle.jsonb.proofs.Containers.Repeats.{no_repeat}
+use Rattle.jsonb.proofs.Containers.Sources.{alone_tree, array_tree, object_tree}
+use Rattle.jsonb.proofs.Containers.Values.{same_keys}
+use Rattle.jsonb.proofs.Scalars.Spellings.{scalar_sound}
 use Rattle.jsonb.proofs.Steps.Advancing.{goes_on}
 
 -- ---- the keys of a map
@@ -85,7 +89,7 @@ put_all-snoc (n ∷ ms) m done = put_all-snoc ms m (put n.0 n.1 done)
 
 -- one more member, whose key the map does not have
 pub put-more : (fs : List Found) (f : Found) (es more : List Entry) (k : String Global) (v : Value) → MapHolds fs es → more ≡ insert_entry string_cmp es k v → lookup (is_at (string_cmp k)) es ≡ None
-    → string_bytes k ≡ f.key → view v ≡ f.tree → MapHolds (fs ++ f ∷ []) more
+    → string_bytes k ≡ f.key → view v ≡ tree_of_source f.source → MapHolds (fs ++ f ∷ []) more
 put-more fs f es more k v h inserted missing named seen =
     record {
       put =
@@ -99,10 +103,11 @@ put-more fs f es more k v h inserted missing named seen =
     }
 
 -- the object of the members that were found
-pub put-end : (fs : List Found) (es : List Entry) (rest : List ℕ) → MapHolds fs es → object_end fs rest ≡ Ok (object (members_view es), rest)
-put-end fs es rest h =
-    ap (λ o. object_or_fault o fs rest) (no_repeat (map spot_of fs) h.distinct)
-    ∙ ap (λ ms. Ok (object ms, rest)) (sym h.put)
+ends-distinct : (fs : List Found) (rest : List ℕ) → AreDistinct (found_keys fs) → object_end fs rest ≡ Ok (object_source_of fs, rest)
+ends-distinct fs rest d = ap (λ o. object_or_fault o fs rest) (no_repeat (map spot_of fs) d)
+
+pub put-end : (fs : List Found) (es : List Entry) (rest : List ℕ) → MapHolds fs es → GivesTree (object_end fs rest) (object (members_view es)) rest
+put-end fs es rest h = (object_source_of fs, object_tree fs (subst AreDistinct (same_keys fs) h.distinct) ∙ ap (λ ms. object ms) (sym h.put), ends-distinct fs rest h.distinct)
 
 pub if_some : {A : Type 0} {P Q : A → Type 0} (o : Option A) → ((x : A) → P x → Q x) → IfSome o P → IfSome o Q
 if_some None f h = tt
@@ -139,17 +144,29 @@ skip_same p q bytes a = ap (λ m. skip_blanks (mode_of m) bytes) (sym a.mode)
 
 -- a value that holds no others, at any depth
 pub value_alone : (p q : Parser) (depth : ℕ) → Advances p q → begins 91 (rest_of q) ≡ false → begins 123 (rest_of q) ≡ false
-    → value_at (size_of p) (mode_of p.mode) depth (rest_of q) ≡ scalar_at (size_of q) (mode_of q.mode) (rest_of q)
+    → value_at (size_of p) (mode_of p.mode) depth (rest_of q) ≡ alone_at (scalar_at (size_of q) (mode_of q.mode) (rest_of q))
 value_alone p q depth a no_array no_object = value_same p q depth (rest_of q) a ∙ value_plain (size_of q) (mode_of q.mode) depth (rest_of q) no_array no_object
+
+-- such a value has this tree
+pub scalar_shown : (size : ℕ) (mode : Mode) (bytes : List ℕ) (t : Tree) (rest : List ℕ) → scalar_at size mode bytes ≡ Ok (t, rest) → tree_of_source (source_alone t) ≡ t
+scalar_shown size mode bytes t rest e = alone_tree (scalar_sound size mode bytes t rest e).spells
+
+-- and so has an element
+pub element_shown : (size : ℕ) (mode : Mode) (bytes : List ℕ) (t : Tree) (rest : List ℕ) → scalar_or_null size mode bytes ≡ Ok (t, rest) → tree_of_source (source_alone t) ≡ t
+element_shown size mode bytes t rest e =
+    elim (chosen (is_left_out mode bytes) (Ok (null, bytes)) (scalar_at size mode bytes) (Ok (t, rest)) e) [
+      | inl h ↦ let same = (same_read null t bytes rest h.1).value in subst (λ u. tree_of_source (source_alone u) ≡ u) same refl
+      | inr h ↦ scalar_shown size mode bytes t rest h.1
+    ]
+
+or_null_alone : (left_out : Bool) (bytes : List ℕ) (read : Read Tree) → cond left_out (Ok (null_source, bytes)) (alone_at read) ≡ alone_at (cond left_out (Ok (null, bytes)) read)
+or_null_alone true bytes read = refl
+or_null_alone false bytes read = refl
 
 -- ---- one more part
 
--- what was found with this key, this value and this place
-abbrev pub found : Mark × List ℕ → Tree → ℕ → Found
-found k t place = record { mark = k.0; key = k.1; tree = t; place = place }
-
 module _ (size : ℕ) (mode : Mode) (depth : ℕ) where
-  pub element_joins : (front : List Tree) (t : Tree) (bytes u : List ℕ) (closed : Bool) → skip_blanks mode bytes ≡ cond closed 93 44 ∷ u
+  pub element_joins : (front : List Source) (t : Source) (bytes u : List ℕ) (closed : Bool) → skip_blanks mode bytes ≡ cond closed 93 44 ∷ u
       → finish_open size mode depth (elements_so_far front) (t, bytes) ≡ resume_part size mode depth closed (elements_so_far (front ++ t ∷ [])) u
   element_joins front t bytes u true e =
       ap (λ (r : List ℕ). resume_after_part size mode depth (elements_so_far (front ++ t ∷ [])) r) e
@@ -159,7 +176,7 @@ module _ (size : ℕ) (mode : Mode) (depth : ℕ) where
       ap (λ (r : List ℕ). resume_after_part size mode depth (elements_so_far (front ++ t ∷ [])) r) e
       ∙ on_byte-found 44 u (elements_from size mode depth (front ++ t ∷ [])) (on_byte 93 (44 ∷ u) (array_end (front ++ t ∷ [])) (refused size expected_array_comma_or_end 0 (44 ∷ u)))
 
-  pub member_joins : (front : List Found) (k : Mark × List ℕ) (place : ℕ) (t : Tree) (bytes u : List ℕ) (closed : Bool) → skip_blanks mode bytes ≡ cond closed 125 44 ∷ u
+  pub member_joins : (front : List Found) (k : Mark × List ℕ) (place : ℕ) (t : Source) (bytes u : List ℕ) (closed : Bool) → skip_blanks mode bytes ≡ cond closed 125 44 ∷ u
       → finish_open size mode depth (members_so_far front k place) (t, bytes) ≡ resume_part size mode depth closed (members_so_far (front ++ found k t place ∷ []) (plain, []) place) u
   member_joins front k place t bytes u true e =
       let more = front ++ found k t place ∷ [] in
@@ -207,7 +224,7 @@ pushed-on fs gs f c cs e h i = subst (λ hs. FramesHold hs (c ∷ cs)) (sym e) (
 outer-same : (p q : Parser) (depth : ℕ) (closed : Bool) (cs : List Open) (bytes : List ℕ) → Advances p q → resume_stack (size_of p) (mode_of p.mode) depth closed cs bytes ≡ resume_stack (size_of q) (mode_of q.mode) depth closed cs bytes
 outer-same p q depth closed cs bytes a = sym (ap₂ (λ n m. resume_stack n m depth closed cs bytes) (same_size p q a) (ap mode_of a.mode))
 
-resume-outermost : (size : ℕ) (mode : Mode) (depth : ℕ) (cs : List Open) (x : Tree × List ℕ) → cs ≡ [] → resume size mode depth cs x ≡ Ok x
+resume-outermost : (size : ℕ) (mode : Mode) (depth : ℕ) (cs : List Open) (x : Source × List ℕ) → cs ≡ [] → resume size mode depth cs x ≡ Ok x
 unfolding resume
 resume-outermost size mode depth cs x e = ap (λ ds. resume size mode depth ds x) e
 
@@ -223,20 +240,20 @@ module _ (size : ℕ) (mode : Mode) (depth : ℕ) (bytes rest : List ℕ) where
   array-starts : (closed : Bool) → cond closed (skip_blanks mode bytes ≡ 93 ∷ rest) ((begins 93 (skip_blanks mode bytes) ≡ false) × (skip_blanks mode bytes ≡ rest))
       → array_at size mode (value_at size mode depth) bytes ≡ resume_part size mode depth closed (elements_so_far []) rest
   array-starts true e =
-      ap (λ (u : List ℕ). on_byte 93 u (λ (r : List ℕ). Ok (array no_trees, r)) (elements_at size mode (value_at size mode depth) bytes)) e
-      ∙ on_byte-found 93 rest (λ (r : List ℕ). Ok (array no_trees, r)) (elements_at size mode (value_at size mode depth) bytes)
+      ap (λ (u : List ℕ). on_byte 93 u (λ (r : List ℕ). Ok (array_source no_sources, r)) (elements_at size mode (value_at size mode depth) bytes)) e
+      ∙ on_byte-found 93 rest (λ (r : List ℕ). Ok (array_source no_sources, r)) (elements_at size mode (value_at size mode depth) bytes)
   array-starts false e = array-begun size mode depth bytes e.0 ∙ ap (λ (u : List ℕ). elements_from size mode depth [] u) e.1
 
   object-starts : (key : Mark × List ℕ) (place : ℕ) (closed : Bool) → cond closed (skip_blanks mode bytes ≡ 125 ∷ rest) ((begins 125 (skip_blanks mode bytes) ≡ false) × (skip_blanks mode bytes ≡ rest))
       → object_at size mode (value_at size mode depth) bytes ≡ resume_part size mode depth closed (members_so_far [] key place) rest
   object-starts key place true e =
-      ap (λ (u : List ℕ). on_byte 125 u (λ (r : List ℕ). Ok (object no_members, r)) (members_at size mode (value_at size mode depth) bytes)) e
-      ∙ on_byte-found 125 rest (λ (r : List ℕ). Ok (object no_members, r)) (members_at size mode (value_at size mode depth) bytes)
-      ∙ sym (put-end [] [] rest put-none)
+      ap (λ (u : List ℕ). on_byte 125 u (λ (r : List ℕ). Ok (object_source no_source_members, r)) (members_at size mode (value_at size mode depth) bytes)) e
+      ∙ on_byte-found 125 rest (λ (r : List ℕ). Ok (object_source no_source_members, r)) (members_at size mode (value_at size mode depth) bytes)
+      ∙ sym (ends-distinct [] rest tt)
   object-starts key place false e = object-begun size mode depth bytes e.0 ∙ ap (λ (u : List ℕ). read_members_from size mode depth [] u) e.1
 
 -- a container was pushed that is read from here on
-opened : (p q : Parser) (fs gs : List OpenValue) (f : OpenValue) (c : Open) (closed : Bool) (whole : Read Tree) → Advances p q → gs ≡ fs ++ f ∷ [] → FrameHolds f c → length gs ≤ max_depth
+opened : (p q : Parser) (fs gs : List OpenValue) (f : OpenValue) (c : Open) (closed : Bool) (whole : Read Source) → Advances p q → gs ≡ fs ++ f ∷ [] → FrameHolds f c → length gs ≤ max_depth
     → ((depth : ℕ) → value_at (size_of p) (mode_of p.mode) (suc depth) (rest_of p) ≡ resume_part (size_of p) (mode_of p.mode) depth closed c (rest_of q))
     → BeforeValue whole p fs → AtPart whole q gs closed
 opened p q fs gs f c closed whole a e held fits reads due =
@@ -251,7 +268,7 @@ opened p q fs gs f c closed whole a e held fits reads due =
           ∙ outer-same p q (depth_within gs) closed (c ∷ due.opens) (rest_of q) a;
     }
 
-pub array_opened : (p o s q : Parser) (fs gs : List OpenValue) (v : Vec Value Global) (closed : Bool) (whole : Read Tree) → Advances p o → Advances p q → rest_of p ≡ 91 ∷ rest_of o → rest_of s ≡ skip_blanks (mode_of o.mode) (rest_of o)
+pub array_opened : (p o s q : Parser) (fs gs : List OpenValue) (v : Vec Value Global) (closed : Bool) (whole : Read Source) → Advances p o → Advances p q → rest_of p ≡ 91 ∷ rest_of o → rest_of s ≡ skip_blanks (mode_of o.mode) (rest_of o)
     → closed ≡ begins 93 (rest_of s) → cond closed (rest_of s ≡ 93 ∷ rest_of q) (q ≡ s) → v.items ≡ [] → gs ≡ fs ++ variants.Array v ∷ [] → length gs ≤ max_depth → BeforeValue whole p fs → AtPart whole q gs closed
 array_opened p o s q fs gs v closed whole a b bracket skipped found closes none e fits due =
     opened p q fs gs (variants.Array v) (elements_so_far []) closed whole b e (ap (λ (vs : List Value). map view vs) none) fits
@@ -261,7 +278,7 @@ array_opened p o s q fs gs v closed whole a b bracket skipped found closes none 
     ∙ array-starts (size_of p) (mode_of p.mode) depth (rest_of o) (rest_of q) closed (closing 93 (mode_of p.mode) (rest_of o) s q closed (skipped ∙ sym (skip_same p o (rest_of o) a)) found closes))
     due
 
-pub object_opened : (p o s q : Parser) (fs gs : List OpenValue) (m : OpenMembers) (closed : Bool) (whole : Read Tree) → Advances p o → Advances p q → rest_of p ≡ 123 ∷ rest_of o → rest_of s ≡ skip_blanks (mode_of o.mode) (rest_of o)
+pub object_opened : (p o s q : Parser) (fs gs : List OpenValue) (m : OpenMembers) (closed : Bool) (whole : Read Source) → Advances p o → Advances p q → rest_of p ≡ 123 ∷ rest_of o → rest_of s ≡ skip_blanks (mode_of o.mode) (rest_of o)
     → closed ≡ begins 125 (rest_of s) → cond closed (rest_of s ≡ 125 ∷ rest_of q) (q ≡ s) → m.members.entries ≡ [] → gs ≡ fs ++ variants.Object m ∷ [] → length gs ≤ max_depth → BeforeValue whole p fs → AtPart whole q gs closed
 object_opened p o s q fs gs m closed whole a b brace skipped found closes none e fits due =
     let key : Mark × List ℕ = (plain, string_bytes m.key) in
@@ -274,7 +291,7 @@ object_opened p o s q fs gs m closed whole a b brace skipped found closes none e
 
 -- ---- parts are read
 
-module _ (p q : Parser) (fs gs hs : List OpenValue) (f g : OpenValue) (whole : Read Tree) (a : Advances p q) (e : fs ≡ hs ++ f ∷ []) (d : gs ≡ hs ++ g ∷ []) where
+module _ (p q : Parser) (fs gs hs : List OpenValue) (f g : OpenValue) (whole : Read Source) (a : Advances p q) (e : fs ≡ hs ++ f ∷ []) (d : gs ≡ hs ++ g ∷ []) where
   same_depth : depth_within gs ≡ depth_within fs
   same_depth = ap (λ n. max_depth - n) (let same : length gs ≡ length fs = omega (arith, ap length e, ap length d, length-append hs (f ∷ []), length-append hs (g ∷ [])) in same)
 
@@ -283,7 +300,7 @@ module _ (p q : Parser) (fs gs hs : List OpenValue) (f g : OpenValue) (whole : R
   stopped closed ahead i s =
       ahead.reads
       ∙ ap (λ cs. resume_stack (size_of p) (mode_of p.mode) (depth_within fs) false cs (rest_of p)) i.are
-      ∙ ap (λ (r : Read Tree). r >>= resume (size_of p) (mode_of p.mode) (suc (depth_within fs)) i.others) s.reads
+      ∙ ap (λ (r : Read Source). r >>= resume (size_of p) (mode_of p.mode) (suc (depth_within fs)) i.others) s.reads
 
   -- up to the end of the container
   pub filled : ((depth : ℕ) (c : Open) → FrameHolds f c → ReadsParts (size_of p) (mode_of p.mode) depth (next_part_at (size_of p) (mode_of p.mode) depth c (rest_of p)) true g (rest_of q))
@@ -318,81 +335,92 @@ module _ (p q : Parser) (fs gs hs : List OpenValue) (f g : OpenValue) (whole : R
 
 -- ---- a container ends
 
-end-held : (f : OpenValue) (c : Open) (rest : List ℕ) → FrameHolds f c → finish_container c rest ≡ Ok (tree_of f, rest)
-end-held (variants.Array v) (elements_so_far ts) rest h = ap (λ us. Ok (array (trees_of us), rest)) (sym h)
+end-held : (f : OpenValue) (c : Open) (rest : List ℕ) → FrameHolds f c → GivesTree (finish_container c rest) (tree_of f) rest
+end-held (variants.Array v) (elements_so_far ss) rest h = (array_source_of ss, array_tree ss ∙ ap (λ us. array (trees_of us)) (sym h), refl)
 end-held (variants.Array v) (members_so_far fs key place) rest h = absurd h
-end-held (variants.Object o) (elements_so_far ts) rest h = absurd h
+end-held (variants.Object o) (elements_so_far ss) rest h = absurd h
 end-held (variants.Object o) (members_so_far fs key place) rest h = put-end fs o.members.entries rest h.0
 
 -- the innermost was taken off
-pub ended : (p : Parser) (fs gs : List OpenValue) (f : OpenValue) (whole : Read Tree) → fs ≡ gs ++ f ∷ [] → length fs ≤ max_depth → AtPart whole p fs true → AfterValue whole p gs (tree_of f)
+pub ended : (p : Parser) (fs gs : List OpenValue) (f : OpenValue) (whole : Read Source) → fs ≡ gs ++ f ∷ [] → length fs ≤ max_depth → AtPart whole p fs true → AfterValue whole p gs (tree_of f)
 ended p fs gs f whole e fits ahead =
     let i = innermost_of gs fs f ahead.opens e ahead.held in
-    let deep : suc (depth_within fs) ≡ depth_within gs = omega (arith, ap length e, length-append gs (f ∷ [])) in
-    record {
-      opens = i.others;
-      held = i.below_held;
-      reads =
-          ahead.reads
-          ∙ ap (λ cs. resume_stack (size_of p) (mode_of p.mode) (depth_within fs) true cs (rest_of p)) i.are
-          ∙ ap (λ (r : Read Tree). r >>= resume (size_of p) (mode_of p.mode) (suc (depth_within fs)) i.others) (end-held f i.inner (rest_of p) i.held)
-          ∙ ap (λ n. resume (size_of p) (mode_of p.mode) n i.others (tree_of f, rest_of p)) deep;
-    }
+    let end = end-held f i.inner (rest_of p) i.held in
+    let deep : suc (depth_within fs) ≡ depth_within gs = omega (arith, ap length e, length-append gs (f ∷ [])) in (
+      end.0,
+      end.1,
+      record {
+        opens = i.others;
+        held = i.below_held;
+        reads =
+            ahead.reads
+            ∙ ap (λ cs. resume_stack (size_of p) (mode_of p.mode) (depth_within fs) true cs (rest_of p)) i.are
+            ∙ ap (λ (r : Read Source). r >>= resume (size_of p) (mode_of p.mode) (suc (depth_within fs)) i.others) end.2
+            ∙ ap (λ n. resume (size_of p) (mode_of p.mode) n i.others (end.0, rest_of p)) deep;
+      },
+    )
 
 -- no other is open
-pub outermost : (p : Parser) (fs : List OpenValue) (t : Tree) (whole : Read Tree) → length fs ≡ 0 → AfterValue whole p fs t → whole ≡ Ok (t, rest_of p)
-outermost p [] t whole e was = was.reads ∙ resume-outermost (size_of p) (mode_of p.mode) (depth_within []) was.opens (t, rest_of p) was.held
+pub outermost : (p : Parser) (fs : List OpenValue) (t : Tree) (whole : Read Source) → length fs ≡ 0 → AfterValue whole p fs t → GivesTree whole t (rest_of p)
+outermost p [] t whole e was = (was.0, was.1, was.2.reads ∙ resume-outermost (size_of p) (mode_of p.mode) (depth_within []) was.2.opens (was.0, rest_of p) was.2.held)
 outermost p (f ∷ fs) t whole e was = absurd (omega arith)
 
 -- a value joined the parts of the container around it, up to the next one or to the end
-record Joins (size : ℕ) (mode : Mode) (c : Open) (t : Tree) (bytes : List ℕ) (closed : Bool) (g : OpenValue) (rest : List ℕ) : Type 0 where
+record Joins (size : ℕ) (mode : Mode) (c : Open) (s : Source) (bytes : List ℕ) (closed : Bool) (g : OpenValue) (rest : List ℕ) : Type 0 where
   pub so_far : Open
   pub held : FrameHolds g so_far
-  pub reads : (depth : ℕ) → finish_open size mode depth c (t, bytes) ≡ resume_part size mode depth closed so_far rest
+  pub reads : (depth : ℕ) → finish_open size mode depth c (s, bytes) ≡ resume_part size mode depth closed so_far rest
 
-joined : (p q : Parser) (fs gs hs : List OpenValue) (f g : OpenValue) (t : Tree) (closed : Bool) (whole : Read Tree) → Advances p q → fs ≡ hs ++ f ∷ [] → gs ≡ hs ++ g ∷ []
-    → ((c : Open) → FrameHolds f c → Joins (size_of p) (mode_of p.mode) c t (rest_of p) closed g (rest_of q)) → AfterValue whole p fs t → AtPart whole q gs closed
+joined : (p q : Parser) (fs gs hs : List OpenValue) (f g : OpenValue) (t : Tree) (closed : Bool) (whole : Read Source) → Advances p q → fs ≡ hs ++ f ∷ [] → gs ≡ hs ++ g ∷ []
+    → ((s : Source) → tree_of_source s ≡ t → (c : Open) → FrameHolds f c → Joins (size_of p) (mode_of p.mode) c s (rest_of p) closed g (rest_of q)) → AfterValue whole p fs t → AtPart whole q gs closed
 unfolding resume
-joined p q fs gs hs f g t closed whole a e d joins was =
+joined p q fs gs hs f g t closed whole a e d joins after =
+    let s : Source = after.0 in
+    let was = after.2 in
     let i = innermost_of hs fs f was.opens e was.held in
-    let j = joins i.inner i.held in
+    let j = joins s after.1 i.inner i.held in
     record {
       opens = j.so_far ∷ i.others;
       held = pushed-on hs gs g j.so_far i.others d i.below_held j.held;
       reads =
           was.reads
-          ∙ ap (λ cs. resume (size_of p) (mode_of p.mode) (depth_within fs) cs (t, rest_of p)) i.are
-          ∙ ap (λ (r : Read Tree). r >>= resume (size_of p) (mode_of p.mode) (suc (depth_within fs)) i.others) (j.reads (depth_within fs))
+          ∙ ap (λ cs. resume (size_of p) (mode_of p.mode) (depth_within fs) cs (s, rest_of p)) i.are
+          ∙ ap (λ (r : Read Source). r >>= resume (size_of p) (mode_of p.mode) (suc (depth_within fs)) i.others) (j.reads (depth_within fs))
           ∙ outer-same p q (depth_within fs) closed (j.so_far ∷ i.others) (rest_of q) a
           ∙ ap (λ n. resume_stack (size_of q) (mode_of q.mode) n closed (j.so_far ∷ i.others) (rest_of q)) (sym (same_depth p q fs gs hs f g whole a e d));
     }
 
+-- one more element, of this tree
+pub elements-more : (vs ws : List Value) (x : Value) (ss : List Source) (s : Source) → ws ≡ vs ++ x ∷ [] → map view vs ≡ map tree_of_source ss → tree_of_source s ≡ view x → map view ws ≡ map tree_of_source (ss ++ s ∷ [])
+elements-more vs ws x ss s put h e =
+    ap (λ (us : List Value). map view us) put ∙ map-append view vs (x ∷ []) ∙ (λ i. h i ++ sym e i ∷ []) ∙ sym (map-append tree_of_source ss (s ∷ []))
+
 array-joins : (size : ℕ) (mode : Mode) (v w : Vec Value Global) (x : Value) (bytes rest : List ℕ) (closed : Bool) → w.items ≡ v.items ++ x ∷ [] → skip_blanks mode bytes ≡ cond closed 93 44 ∷ rest
-    → (c : Open) → FrameHolds (variants.Array v) c → Joins size mode c (view x) bytes closed (variants.Array w) rest
-array-joins size mode v w x bytes rest closed put next (elements_so_far ts) h =
+    → (s : Source) → tree_of_source s ≡ view x → (c : Open) → FrameHolds (variants.Array v) c → Joins size mode c s bytes closed (variants.Array w) rest
+array-joins size mode v w x bytes rest closed put next s e (elements_so_far ss) h =
     record {
-      so_far = elements_so_far (ts ++ view x ∷ []);
-      held = ap (λ (vs : List Value). map view vs) put ∙ map-append view v.items (x ∷ []) ∙ ap (λ (us : List Tree). us ++ view x ∷ []) h;
-      reads = λ depth. element_joins size mode depth ts (view x) bytes rest closed next;
+      so_far = elements_so_far (ss ++ s ∷ []);
+      held = elements-more v.items w.items x ss s put h e;
+      reads = λ depth. element_joins size mode depth ss s bytes rest closed next;
     }
-array-joins size mode v w x bytes rest closed put next (members_so_far fs key place) h = absurd h
+array-joins size mode v w x bytes rest closed put next s e (members_so_far fs key place) h = absurd h
 
 object-joins : (size : ℕ) (mode : Mode) (v w : OpenMembers) (x : Value) (bytes rest : List ℕ) (closed : Bool) → w.members.entries ≡ insert_entry string_cmp v.members.entries v.key x → lookup (is_at (string_cmp v.key)) v.members.entries ≡ None → string_bytes w.key ≡ []
-    → skip_blanks mode bytes ≡ cond closed 125 44 ∷ rest → (c : Open) → FrameHolds (variants.Object v) c → Joins size mode c (view x) bytes closed (variants.Object w) rest
-object-joins size mode v w x bytes rest closed put missing none next (elements_so_far ts) h = absurd h
-object-joins size mode v w x bytes rest closed put missing none next (members_so_far fs key place) h =
+    → skip_blanks mode bytes ≡ cond closed 125 44 ∷ rest → (s : Source) → tree_of_source s ≡ view x → (c : Open) → FrameHolds (variants.Object v) c → Joins size mode c s bytes closed (variants.Object w) rest
+object-joins size mode v w x bytes rest closed put missing none next s e (elements_so_far ss) h = absurd h
+object-joins size mode v w x bytes rest closed put missing none next s e (members_so_far fs key place) h =
     record {
-      so_far = members_so_far (fs ++ found key (view x) place ∷ []) (plain, []) place;
-      held = (put-more fs (found key (view x) place) v.members.entries w.members.entries v.key x h.0 put missing h.1 refl, none);
-      reads = λ depth. member_joins size mode depth fs key place (view x) bytes rest closed next;
+      so_far = members_so_far (fs ++ found key s place ∷ []) (plain, []) place;
+      held = (put-more fs (found key s place) v.members.entries w.members.entries v.key x h.0 put missing h.1 (sym e), none);
+      reads = λ depth. member_joins size mode depth fs key place s bytes rest closed next;
     }
 
-pub array_joined : (p q : Parser) (fs gs hs : List OpenValue) (f : OpenValue) (v w : Vec Value Global) (x : Value) (closed : Bool) (whole : Read Tree) → Advances p q → fs ≡ hs ++ f ∷ [] → f ≡ variants.Array v → gs ≡ hs ++ variants.Array w ∷ []
+pub array_joined : (p q : Parser) (fs gs hs : List OpenValue) (f : OpenValue) (v w : Vec Value Global) (x : Value) (closed : Bool) (whole : Read Source) → Advances p q → fs ≡ hs ++ f ∷ [] → f ≡ variants.Array v → gs ≡ hs ++ variants.Array w ∷ []
     → w.items ≡ v.items ++ x ∷ [] → skip_blanks (mode_of p.mode) (rest_of p) ≡ cond closed 93 44 ∷ rest_of q → AfterValue whole p fs (view x) → AtPart whole q gs closed
 array_joined p q fs gs hs f v w x closed whole a e is d put next was =
     joined p q fs gs hs (variants.Array v) (variants.Array w) (view x) closed whole a (e ∙ ap (λ h. hs ++ h ∷ []) is) d (array-joins (size_of p) (mode_of p.mode) v w x (rest_of p) (rest_of q) closed put next) was
 
-pub object_joined : (p q : Parser) (fs gs hs : List OpenValue) (f : OpenValue) (v w : OpenMembers) (x : Value) (closed : Bool) (whole : Read Tree) → Advances p q → fs ≡ hs ++ f ∷ [] → f ≡ variants.Object v → gs ≡ hs ++ variants.Object w ∷ []
+pub object_joined : (p q : Parser) (fs gs hs : List OpenValue) (f : OpenValue) (v w : OpenMembers) (x : Value) (closed : Bool) (whole : Read Source) → Advances p q → fs ≡ hs ++ f ∷ [] → f ≡ variants.Object v → gs ≡ hs ++ variants.Object w ∷ []
     → w.members.entries ≡ insert_entry string_cmp v.members.entries v.key x → lookup (is_at (string_cmp v.key)) v.members.entries ≡ None → string_bytes w.key ≡ []
     → skip_blanks (mode_of p.mode) (rest_of p) ≡ cond closed 125 44 ∷ rest_of q → AfterValue whole p fs (view x) → AtPart whole q gs closed
 object_joined p q fs gs hs f v w x closed whole a e is d put missing none next was =
@@ -401,26 +429,27 @@ object_joined p q fs gs hs f v w x closed whole a e is d put missing none next w
 -- ---- a turn of the loops over parts
 
 -- an element is due
-pub element_stops : (p l s : Parser) (depth : ℕ) (front : List Tree) → Advances p l → Advances l s → rest_of s ≡ skip_blanks (mode_of l.mode) (rest_of l) → is_left_out (mode_of s.mode) (rest_of s) ≡ false
+pub element_stops : (p l s : Parser) (depth : ℕ) (front : List Source) → Advances p l → Advances l s → rest_of s ≡ skip_blanks (mode_of l.mode) (rest_of l) → is_left_out (mode_of s.mode) (rest_of s) ≡ false
     → elements_from (size_of p) (mode_of p.mode) depth front (rest_of l) ≡ (value_at (size_of p) (mode_of p.mode) depth (rest_of s) >>= finish_open (size_of p) (mode_of p.mode) depth (elements_so_far front))
 element_stops p l s depth front a b skipped due =
     let here : rest_of s ≡ skip_blanks (mode_of p.mode) (rest_of l) = skipped ∙ sym (skip_same p l (rest_of l) a) in
     element-due (size_of p) (mode_of p.mode) depth front (rest_of l) (ap₂ (λ m r. is_left_out m r) (sym (ap mode_of (goes_on p l s a b).mode)) (sym here) ∙ due)
     ∙ ap (λ r. value_at (size_of p) (mode_of p.mode) depth r >>= finish_open (size_of p) (mode_of p.mode) depth (elements_so_far front)) (sym here)
 
-pub element_turn : (p l s q r : Parser) (depth : ℕ) (front : List Tree) (t : Tree) (closed : Bool) → Advances p l → Advances l s → Advances s q → rest_of s ≡ skip_blanks (mode_of l.mode) (rest_of l)
-    → begins 91 (rest_of s) ≡ false → begins 123 (rest_of s) ≡ false → value_or_null (mode_of s.mode) (scalar_at (size_of s) (mode_of s.mode)) (rest_of s) ≡ Ok (t, rest_of q) → skip_blanks (mode_of q.mode) (rest_of q) ≡ cond closed 93 44 ∷ rest_of r
-    → elements_from (size_of p) (mode_of p.mode) depth front (rest_of l) ≡ resume_part (size_of p) (mode_of p.mode) depth closed (elements_so_far (front ++ t ∷ [])) (rest_of r)
+pub element_turn : (p l s q r : Parser) (depth : ℕ) (front : List Source) (t : Tree) (closed : Bool) → Advances p l → Advances l s → Advances s q → rest_of s ≡ skip_blanks (mode_of l.mode) (rest_of l)
+    → begins 91 (rest_of s) ≡ false → begins 123 (rest_of s) ≡ false → scalar_or_null (size_of s) (mode_of s.mode) (rest_of s) ≡ Ok (t, rest_of q) → skip_blanks (mode_of q.mode) (rest_of q) ≡ cond closed 93 44 ∷ rest_of r
+    → elements_from (size_of p) (mode_of p.mode) depth front (rest_of l) ≡ resume_part (size_of p) (mode_of p.mode) depth closed (elements_so_far (front ++ source_alone t ∷ [])) (rest_of r)
 element_turn p l s q r depth front t closed a b d skipped no_array no_object read next =
     let on = goes_on p l s a b in
     let here : rest_of s ≡ skip_blanks (mode_of p.mode) (rest_of l) = skipped ∙ sym (skip_same p l (rest_of l) a) in
     elements-turn (size_of p) (mode_of p.mode) depth front (rest_of l)
     ∙ ap (λ x. x >>= finish_open (size_of p) (mode_of p.mode) depth (elements_so_far front))
     (ap (λ u. value_or_null (mode_of p.mode) (value_at (size_of p) (mode_of p.mode) depth) u) (sym here)
-    ∙ ap (λ v. cond (is_left_out (mode_of p.mode) (rest_of s)) (Ok (null, rest_of s)) v) (value_alone p s depth on no_array no_object)
-    ∙ ap (λ m. cond (is_left_out (mode_of m) (rest_of s)) (Ok (null, rest_of s)) (scalar_at (size_of s) (mode_of s.mode) (rest_of s))) (sym on.mode)
-    ∙ read)
-    ∙ element_joins (size_of p) (mode_of p.mode) depth front t (rest_of q) (rest_of r) closed (skip_same p q (rest_of q) (goes_on p s q on d) ∙ next)
+    ∙ ap (λ v. cond (is_left_out (mode_of p.mode) (rest_of s)) (Ok (null_source, rest_of s)) v) (value_alone p s depth on no_array no_object)
+    ∙ ap (λ m. cond (is_left_out (mode_of m) (rest_of s)) (Ok (null_source, rest_of s)) (alone_at (scalar_at (size_of s) (mode_of s.mode) (rest_of s)))) (sym on.mode)
+    ∙ or_null_alone (is_left_out (mode_of s.mode) (rest_of s)) (rest_of s) (scalar_at (size_of s) (mode_of s.mode) (rest_of s))
+    ∙ ap alone_at read)
+    ∙ element_joins (size_of p) (mode_of p.mode) depth front (source_alone t) (rest_of q) (rest_of r) closed (skip_same p q (rest_of q) (goes_on p s q on d) ∙ next)
 
 -- a member's value is due
 pub member_stops : (p l s : Parser) (depth : ℕ) (front : List Found) (k : Mark × List ℕ) (place : ℕ) → Advances p l → member_start (size_of l) (mode_of l.mode) (rest_of l) ≡ Ok ((k, place), rest_of s)
@@ -430,12 +459,12 @@ member_stops p l s depth front k place a start =
 
 pub member_turn : (p l s q r : Parser) (depth : ℕ) (front : List Found) (k : Mark × List ℕ) (place : ℕ) (t : Tree) (closed : Bool) → Advances p l → Advances l s → Advances s q → member_start (size_of l) (mode_of l.mode) (rest_of l) ≡ Ok ((k, place), rest_of s)
     → begins 91 (rest_of s) ≡ false → begins 123 (rest_of s) ≡ false → scalar_at (size_of s) (mode_of s.mode) (rest_of s) ≡ Ok (t, rest_of q) → skip_blanks (mode_of q.mode) (rest_of q) ≡ cond closed 125 44 ∷ rest_of r
-    → read_members_from (size_of p) (mode_of p.mode) depth front (rest_of l) ≡ resume_part (size_of p) (mode_of p.mode) depth closed (members_so_far (front ++ found k t place ∷ []) (plain, []) place) (rest_of r)
+    → read_members_from (size_of p) (mode_of p.mode) depth front (rest_of l) ≡ resume_part (size_of p) (mode_of p.mode) depth closed (members_so_far (front ++ found k (source_alone t) place ∷ []) (plain, []) place) (rest_of r)
 member_turn p l s q r depth front k place t closed a b d start no_array no_object read next =
     let on = goes_on p l s a b in
     member_stops p l s depth front k place a start
-    ∙ ap (λ x. x >>= finish_open (size_of p) (mode_of p.mode) depth (members_so_far front k place)) (value_alone p s depth on no_array no_object ∙ read)
-    ∙ member_joins (size_of p) (mode_of p.mode) depth front k place t (rest_of q) (rest_of r) closed (skip_same p q (rest_of q) (goes_on p s q on d) ∙ next)
+    ∙ ap (λ x. x >>= finish_open (size_of p) (mode_of p.mode) depth (members_so_far front k place)) (value_alone p s depth on no_array no_object ∙ ap alone_at read)
+    ∙ member_joins (size_of p) (mode_of p.mode) depth front k place (source_alone t) (rest_of q) (rest_of r) closed (skip_same p q (rest_of q) (goes_on p s q on d) ∙ next)
 
 -- ---- the stack
 

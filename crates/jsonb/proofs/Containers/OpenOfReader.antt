@@ -11,15 +11,16 @@ use Rattle.jsonb.specs.declared.parser.ast.JsonAst as ast
 use Rattle.jsonb_value.specs.Code.Code.{expected_array_comma_or_end, expected_object_comma_or_end}
 use Rattle.jsonb_value.specs.Grammar.{max_depth}
 use Rattle.jsonb_value.specs.Mode.{Mode}
-use Rattle.jsonb_value.specs.Tree.{Mark, Tree}
+use Rattle.jsonb_value.specs.Tree.{Mark}
 use Rattle.jsonb_value.specs.View.{mark_view}
-use Rattle.jsonb.specs.AstView.{ast_view, found_of}
+use Rattle.jsonb.specs.Source.{found_of, source_view}
+use Rattle.jsonb_scan.specs.Source.{Source}
 use Rattle.jsonb_scan.specs.Answer.{Fails, mode_of}
 use Rattle.jsonb.specs.Parser.{Advances, rest_of, size_of}
 use Rattle.jsonb_scan.specs.Reading.{Read, begins, fault_at, on_byte, refused, ◌>>=◌}
 use Rattle.jsonb_scan.specs.Reading.Blank.{skip_blanks}
 use Rattle.jsonb_scan.specs.Reading.Container.{is_left_out}
-use Rattle.jsonb_scan.specs.Reading.Document.{value_at}
+use Rattle.jsonb_scan.specs.Reading.Document.{alone_at, value_at}
 use Rattle.jsonb_scan.specs.Reading.Scalar.{scalar_at}
 use Rattle.jsonb.specs.Stack.{Continues, Open, PartBegins, add_part, ahead, array_end, array_within, depth_in, element_begun, element_from, elements_from, finish_open, member_start, read_members_from, next_part_at, object_end, object_within, open_of, resume_after_part, resume_stack_after_part, rest_of_opens, resume, resumed, stack_of, stack_onto}
 use Rattle.jsonb.specs.Stack.Open.{elements_so_far, members_so_far}
@@ -27,7 +28,10 @@ use Rattle.jsonb.proofs.Containers.OpenOnLists.{array-begun, array-value, member
 use Rattle.jsonb.proofs.Steps.Advancing.{goes_on}
 use Rattle.jsonb.proofs.Steps.Outcomes.{fails_same, fails_through, same_size}
 use Rattle.jsonb_scan.proofs.Containers.JoinedParts.{on_byte-none}
-use Rattle.jsonb.proofs.Places.Views.{view-Array}
+use Rattle.jsonb.proofs.Places.Views.{source-Array, tree_of_view}
+use Rattle.jsonb.proofs.Containers.Sources.{alone_source}
+use Rattle.jsonb.proofs.Scalars.Spellings.{scalar_sound}
+use Rattle.jsonb.specs.AstView.{ast_view}
 
 -- ---- frames
 
@@ -39,7 +43,7 @@ pub deeper : (fs gs : List Frame) (f : Frame) → gs ≡ fs ++ f ∷ [] → leng
 deeper fs gs f e h = omega (arith, ap length e, length-append fs (f ∷ []))
 
 -- one input, further on
-pub resumed_same : (p q : Parser) (fs : List Frame) (r : Read Tree) → Advances p q → resumed q fs r ≡ resumed p fs r
+pub resumed_same : (p q : Parser) (fs : List Frame) (r : Read Source) → Advances p q → resumed q fs r ≡ resumed p fs r
 resumed_same p q fs r a = ap₂ (λ n m. r >>= resume n m (depth_in fs) (stack_of fs)) (same_size p q a) (ap mode_of a.mode)
 
 pub ahead_is : (p : Parser) (fs : List Frame) (begun : Option JsonAst) → ahead p fs begun ≡ resumed p fs (element_begun (size_of p) (mode_of p.mode) (depth_in fs) begun (rest_of p))
@@ -60,7 +64,7 @@ ahead_pushed p q fs gs f c begun a e is =
 pub same_left_out : (p q : Parser) → rest_of q ≡ skip_blanks (mode_of p.mode) (rest_of p) → Advances p q → is_left_out (mode_of p.mode) (skip_blanks (mode_of p.mode) (rest_of p)) ≡ is_left_out (mode_of q.mode) (rest_of q)
 same_left_out p q e a = sym (ap₂ (λ m r. is_left_out m r) (ap mode_of a.mode) e)
 
-array-open : (size : ℕ) (mode : Mode) (n m : ℕ) (cs : List Open) (bytes : List ℕ) (r : Read Tree) → n ≡ suc m → begins 93 (skip_blanks mode bytes) ≡ false
+array-open : (size : ℕ) (mode : Mode) (n m : ℕ) (cs : List Open) (bytes : List ℕ) (r : Read Source) → n ≡ suc m → begins 93 (skip_blanks mode bytes) ≡ false
     → elements_from size mode m [] (skip_blanks mode bytes) ≡ (r >>= finish_open size mode m (elements_so_far []))
     → (array_within size mode n bytes >>= resume size mode n cs) ≡ (r >>= resume size mode m (elements_so_far [] ∷ cs))
 array-open size mode n m cs bytes r e b h =
@@ -70,7 +74,7 @@ array-open size mode n m cs bytes r e b h =
 
 pub array_entered : (p o q : Parser) (fs gs : List Frame) (v : Vec JsonAst Global) (begun : Option JsonAst) → Advances p o → Advances o q → rest_of o ≡ skip_blanks (mode_of p.mode) (rest_of p) → begins 93 (rest_of o) ≡ false
     → v.items ≡ [] → gs ≡ fs ++ variants.Array v ∷ [] → length gs ≤ max_depth
-    → ((d : ℕ) (front : List Tree) → elements_from (size_of o) (mode_of o.mode) d front (rest_of o) ≡ element_from (size_of o) (mode_of o.mode) d front begun (rest_of q))
+    → ((d : ℕ) (front : List Source) → elements_from (size_of o) (mode_of o.mode) d front (rest_of o) ≡ element_from (size_of o) (mode_of o.mode) d front begun (rest_of q))
     → resumed p fs (array_within (size_of p) (mode_of p.mode) (depth_in fs) (rest_of p)) ≡ ahead q gs begun
 array_entered p o q fs gs v begun a b skipped opened none e fits reads =
     let m = depth_in gs in
@@ -79,7 +83,7 @@ array_entered p o q fs gs v begun a b skipped opened none e fits reads =
     (subst₂ (λ n k. elements_from n k m [] (rest_of o) ≡ element_from n k m [] begun (rest_of q)) (same_size p o a) (ap mode_of a.mode) (reads m [])) in
     array-open (size_of p) (mode_of p.mode) (depth_in fs) m (stack_of fs) (rest_of p) (element_begun (size_of p) (mode_of p.mode) m begun (rest_of q)) (deeper fs gs (variants.Array v) e fits)
     (ap (λ r. begins 93 r) (sym skipped) ∙ opened) here
-    ∙ sym (ahead_pushed p q fs gs (variants.Array v) (elements_so_far []) begun (goes_on p o q a b) e (ap (λ xs. elements_so_far (map ast_view xs)) none))
+    ∙ sym (ahead_pushed p q fs gs (variants.Array v) (elements_so_far []) begun (goes_on p o q a b) e (ap (λ xs. elements_so_far (map source_view xs)) none))
 
 -- ---- where an object begins
 
@@ -112,7 +116,7 @@ object_fails p o fs e a skipped opened fits f =
     let m = depth_in fs - 1 in
     let deep : depth_in fs ≡ suc m = omega arith in
     let start = member_start (size_of p) (mode_of p.mode) (skip_blanks (mode_of p.mode) (rest_of p)) in
-    let waits : ((Mark × List ℕ) × ℕ) × List ℕ → Read Tree = λ k. value_at (size_of p) (mode_of p.mode) m k.1 >>= finish_open (size_of p) (mode_of p.mode) m (members_so_far [] k.0.0 k.0.1) in
+    let waits : ((Mark × List ℕ) × ℕ) × List ℕ → Read Source = λ k. value_at (size_of p) (mode_of p.mode) m k.1 >>= finish_open (size_of p) (mode_of p.mode) m (members_so_far [] k.0.0 k.0.1) in
     fails_same e (start >>= waits >>= resume (size_of p) (mode_of p.mode) (suc m) (stack_of fs)) (resumed p fs (object_within (size_of p) (mode_of p.mode) (depth_in fs) (rest_of p)))
     (object-open (size_of p) (mode_of p.mode) (depth_in fs) m (stack_of fs) (rest_of p) deep (ap (λ r. begins 125 r) (sym skipped) ∙ opened))
     (fails_through e (start >>= waits) (resume (size_of p) (mode_of p.mode) (suc m) (stack_of fs)) (fails_through e start waits
@@ -132,11 +136,16 @@ object_begins p q fs a e =
     ap (λ r. resumed p fs r) (ap (λ r. value_at (size_of p) (mode_of p.mode) (depth_in fs) r) e ∙ object-value (size_of p) (mode_of p.mode) (depth_in fs) (rest_of q))
     ∙ sym (ap₂ (λ n m. object_within n m (depth_in fs) (rest_of q) >>= resume n m (depth_in fs) (stack_of fs)) (same_size p q a) (ap mode_of a.mode))
 
-pub scalar_begins : (p : Parser) (fs : List Frame) → begins 91 (rest_of p) ≡ false → begins 123 (rest_of p) ≡ false → ahead p fs None ≡ resumed p fs (scalar_at (size_of p) (mode_of p.mode) (rest_of p))
+pub scalar_begins : (p : Parser) (fs : List Frame) → begins 91 (rest_of p) ≡ false → begins 123 (rest_of p) ≡ false → ahead p fs None ≡ resumed p fs (alone_at (scalar_at (size_of p) (mode_of p.mode) (rest_of p)))
 scalar_begins p fs a b = ap (λ r. resumed p fs r) (value_plain (size_of p) (mode_of p.mode) (depth_in fs) (rest_of p) a b)
 
+-- a value that holds no others, as its source
+pub alone_seen : (p : Parser) (v : JsonAst) (rest : List ℕ) → scalar_at (size_of p) (mode_of p.mode) (rest_of p) ≡ Ok (ast_view v, rest) → alone_at (scalar_at (size_of p) (mode_of p.mode) (rest_of p)) ≡ Ok (source_view v, rest)
+alone_seen p v rest e =
+    ap alone_at e ∙ ap (λ s. Ok (s, rest)) (alone_source (source_view v) (scalar_sound (size_of p) (mode_of p.mode) (rest_of p) (ast_view v) rest e).spells (tree_of_view v))
+
 -- a step that goes on from where the reader is
-pub continues_from : (whole other : Read Tree) (p : Parser) (fs : List Frame) (r : Result (Option JsonAst) Error) → whole ≡ other → Continues other r p fs → Continues whole r p fs
+pub continues_from : (whole other : Read Source) (p : Parser) (fs : List Frame) (r : Result (Option JsonAst) Error) → whole ≡ other → Continues other r p fs → Continues whole r p fs
 continues_from whole other p fs r e h = subst (λ w. Continues w r p fs) (sym e) h
 
 -- ---- the next part
@@ -155,7 +164,7 @@ pub member_fails : (p : Parser) (f : Frame) (open_object : OpenObject) (depth : 
 member_fails p f open_object depth e is fails =
     let front = map found_of open_object.members.items in
     let start = member_start (size_of p) (mode_of p.mode) (rest_of p) in
-    let waits : ((Mark × List ℕ) × ℕ) × List ℕ → Read Tree = λ k. value_at (size_of p) (mode_of p.mode) depth k.1 >>= finish_open (size_of p) (mode_of p.mode) depth (members_so_far front k.0.0 k.0.1) in
+    let waits : ((Mark × List ℕ) × ℕ) × List ℕ → Read Source = λ k. value_at (size_of p) (mode_of p.mode) depth k.1 >>= finish_open (size_of p) (mode_of p.mode) depth (members_so_far front k.0.0 k.0.1) in
     fails_same e (start >>= waits) (next_part_at (size_of p) (mode_of p.mode) depth (open_of f) (rest_of p))
     (ap (λ g. next_part_at (size_of p) (mode_of p.mode) depth (open_of g) (rest_of p)) is ∙ members-turn (size_of p) (mode_of p.mode) depth front (rest_of p))
     (fails_through e start waits fails)
@@ -172,14 +181,14 @@ pub array_closed : (p q : Parser) (fs gs : List Frame) (v : Vec JsonAst Global) 
     → resume_stack_after_part p fs ≡ ahead q gs (Some (ast.Array v))
 array_closed p q fs gs v a e fits closes =
     rest_popped p fs gs (variants.Array v) e fits
-    ∙ ap (λ r. resumed p gs (resume_after_part (size_of p) (mode_of p.mode) (depth_in fs) (elements_so_far (map ast_view v.items)) r)) closes
-    ∙ ap (λ t. resumed p gs (Ok (t, rest_of q))) (sym (view-Array v))
-    ∙ sym (resumed_same p q gs (Ok (ast_view (ast.Array v), rest_of q)) a)
+    ∙ ap (λ r. resumed p gs (resume_after_part (size_of p) (mode_of p.mode) (depth_in fs) (elements_so_far (map source_view v.items)) r)) closes
+    ∙ ap (λ t. resumed p gs (Ok (t, rest_of q))) (sym (source-Array v))
+    ∙ sym (resumed_same p q gs (Ok (source_view (ast.Array v), rest_of q)) a)
 
 pub array_unclosed : (p : Parser) (fs gs : List Frame) (v : Vec JsonAst Global) → fs ≡ gs ++ variants.Array v ∷ [] → length fs ≤ max_depth → begins 44 (rest_of p) ≡ false → begins 93 (rest_of p) ≡ false
     → resume_stack_after_part p fs ≡ Err (fault_at (size_of p) expected_array_comma_or_end 0 (rest_of p))
 array_unclosed p fs gs v e fits no_comma no_close =
-    let front = map ast_view v.items in
+    let front = map source_view v.items in
     let found = elements_from (size_of p) (mode_of p.mode) (depth_in fs) front in
     let refusal = refused (size_of p) expected_array_comma_or_end 0 (rest_of p) in
     rest_popped p fs gs (variants.Array v) e fits
@@ -204,12 +213,12 @@ object_unclosed p fs gs open_object e fits no_comma no_close =
 
 -- a value was put into the innermost container
 pub value_added : (p q : Parser) (fs gs hs : List Frame) (f g : Frame) (v : JsonAst) → Advances p q → rest_of q ≡ skip_blanks (mode_of p.mode) (rest_of p) → fs ≡ hs ++ f ∷ [] → gs ≡ hs ++ g ∷ [] → length fs ≤ max_depth
-    → open_of g ≡ add_part (open_of f) (ast_view v) → ahead p fs (Some v) ≡ resume_stack_after_part q gs
+    → open_of g ≡ add_part (open_of f) (source_view v) → ahead p fs (Some v) ≡ resume_stack_after_part q gs
 unfolding resume
 value_added p q fs gs hs f g v a skipped e d fits added =
     let same : length gs ≡ length fs = omega (arith, ap length e, ap length d, length-append hs (f ∷ []), length-append hs (g ∷ [])) in
     let n = depth_in fs in
-    ap (λ cs. resume (size_of p) (mode_of p.mode) n cs (ast_view v, rest_of p)) (ap (λ xs. stack_of xs) e ∙ stack-push [] hs f)
+    ap (λ cs. resume (size_of p) (mode_of p.mode) n cs (source_view v, rest_of p)) (ap (λ xs. stack_of xs) e ∙ stack-push [] hs f)
     ∙ ap (λ c. resume_after_part (size_of p) (mode_of p.mode) n c (skip_blanks (mode_of p.mode) (rest_of p)) >>= resume (size_of p) (mode_of p.mode) (suc n) (stack_of hs)) (sym added)
     ∙ ap (λ r. resume_after_part (size_of p) (mode_of p.mode) n (open_of g) r >>= resume (size_of p) (mode_of p.mode) (suc n) (stack_of hs)) (sym skipped)
     ∙ ap (λ cs. rest_of_opens (size_of p) (mode_of p.mode) n cs (rest_of q)) (sym (ap (λ xs. stack_of xs) d ∙ stack-push [] hs g))
@@ -265,6 +274,6 @@ pub outermost_due : (p : Parser) (fs : List Frame) → length fs ≡ 0 → value
 outermost_due p [] e = sym (resume-none (size_of p) (mode_of p.mode) max_depth (value_at (size_of p) (mode_of p.mode) max_depth (rest_of p)))
 outermost_due p (f ∷ fs) e = absurd (omega arith)
 
-pub outermost_read : (p : Parser) (fs : List Frame) (read : Option JsonAst) (v : JsonAst) → length fs ≡ 0 → read ≡ Some v → ahead p fs read ≡ Ok (ast_view v, rest_of p)
-outermost_read p [] read v e is = ap (λ r. ahead p [] r) is ∙ resume-none (size_of p) (mode_of p.mode) max_depth (Ok (ast_view v, rest_of p))
+pub outermost_read : (p : Parser) (fs : List Frame) (read : Option JsonAst) (v : JsonAst) → length fs ≡ 0 → read ≡ Some v → ahead p fs read ≡ Ok (source_view v, rest_of p)
+outermost_read p [] read v e is = ap (λ r. ahead p [] r) is ∙ resume-none (size_of p) (mode_of p.mode) max_depth (Ok (source_view v, rest_of p))
 outermost_read p (f ∷ fs) read v e is = absurd (omega arith)

@@ -5,20 +5,18 @@ use Rattle.jsonb_value.specs.Code.Code.{expected_array_comma_or_end, expected_co
 use Rattle.std.proofs.lemmas.Bool.{cases_lt, cond-false, cond-true}
 use Rattle.jsonb_value.specs.Grammar.{Derives, IsElement}
 use Rattle.jsonb_value.specs.Mode.{Mode}
-use Rattle.jsonb_value.specs.Tree.{Mark, Tree}
-use Rattle.jsonb_value.specs.Tree.Members.{no_members}
-use Rattle.jsonb_value.specs.Tree.Tree.{array, null, object}
-use Rattle.jsonb_value.specs.Tree.Trees.{no_trees}
+use Rattle.jsonb_value.specs.Tree.{Mark}
 use Rattle.jsonb_scan.specs.Reading.{Fault, Read, begins, on_byte, refused, ◌>>=◌}
 use Rattle.jsonb_scan.specs.Reading.Blank.{skip_blanks}
-use Rattle.jsonb_scan.specs.Reading.Container.{Found, after_key, after_part, array_at, element_at, elements_at, found_at, is_left_out, joined_at, member_at, members_at, object_at, padded_at, value_or_null}
-use Rattle.jsonb_scan.specs.Reading.Document.{too_deep, value_at, value_with}
+use Rattle.jsonb_scan.specs.Reading.Container.{after_key, after_part, array_at, element_at, elements_at, found_at, is_left_out, joined_at, member_at, members_at, object_at, padded_at, value_or_null}
+use Rattle.jsonb_scan.specs.Source.{Found, Source, array_source, no_source_members, no_sources, null_source, object_source}
+use Rattle.jsonb_scan.specs.Reading.Document.{alone_at, too_deep, value_at, value_with}
 use Rattle.jsonb_scan.specs.Reading.Scalar.{key_at, scalar_at}
 use Rattle.jsonb.specs.Stack.{Open, array_end, array_within, elements_from, finish_open, member_start, read_members_from, object_end, object_within, parts_after, parts_from, resume}
 use Rattle.jsonb.specs.Stack.Open.{elements_so_far, members_so_far}
 use Rattle.jsonb_scan.proofs.Containers.JoinedParts.{IsSoundBefore, on_byte-none}
 use Rattle.jsonb_scan.proofs.Text.Blanks.{length-skip}
-use Rattle.jsonb.proofs.Containers.Values.{IsFound, element_sound, member_sound, value_sound}
+use Rattle.jsonb.proofs.Containers.Values.{IsFound, Seen, element_sound, member_sound, value_sound}
 
 -- ---- steps one after the other
 
@@ -74,7 +72,7 @@ module _ {A : Type 0} (size : ℕ) (code : Code) (close : ℕ) (part : List ℕ 
       (on_byte close x.1 (λ (r : List ℕ). Ok (x.0 ∷ [], r)) (refused size code 0 x.1)) (on_byte close x.1 (λ (r : List ℕ). Ok (x.0 ∷ [], r)) (refused size code 0 x.1))
       (λ r less. ap (λ (q : Read (List A)). q >>= λ (y : List A × List ℕ). Ok (x.0 ∷ y.0, y.1)) (enough_turns m n r (omega arith) (omega arith))) refl)
 
-  module _ (finish : List A → List ℕ → Read Tree) where
+  module _ (finish : List A → List ℕ → Read Source) where
     -- what comes after one more part
     after-part : (front : List A) (n : ℕ) (a : A) (more : List ℕ) → length more ≤ n
         → (after_part size code close part (joined_at size code close part n) a more >>= λ (x : List A × List ℕ). finish (front ++ x.0) x.1) ≡ parts_after size code close part finish (front ++ a ∷ []) more
@@ -104,41 +102,41 @@ sound-shrinks Spells part sound bytes x e =
 
 module _ (size : ℕ) (mode : Mode) (depth : ℕ) where
   element-shrinks : Shrinks (element_at mode (value_at size mode depth))
-  element-shrinks = sound-shrinks (IsElement mode (Derives mode depth)) (element_at mode (value_at size mode depth)) (element_sound mode (Derives mode depth) (value_at size mode depth) (value_sound size mode depth))
+  element-shrinks = sound-shrinks (Seen (IsElement mode (Derives mode depth))) (element_at mode (value_at size mode depth)) (element_sound mode (Derives mode depth) (value_at size mode depth) (value_sound size mode depth))
 
   member-shrinks : Shrinks (member_at size mode (value_at size mode depth))
   member-shrinks = sound-shrinks (IsFound mode (Derives mode depth) (value_at size mode depth)) (member_at size mode (value_at size mode depth)) (member_sound mode (Derives mode depth) (value_at size mode depth) size (value_sound size mode depth))
 
-  pub elements-turn : (front : List Tree) (bytes : List ℕ) → elements_from size mode depth front bytes
+  pub elements-turn : (front : List Source) (bytes : List ℕ) → elements_from size mode depth front bytes
       ≡ (value_or_null mode (value_at size mode depth) (skip_blanks mode bytes) >>= finish_open size mode depth (elements_so_far front))
   elements-turn front bytes =
       parts-turn size expected_array_comma_or_end 93 (element_at mode (value_at size mode depth)) element-shrinks array_end front bytes
-      ∙ then-then (value_or_null mode (value_at size mode depth) (skip_blanks mode bytes)) (λ (x : Tree × List ℕ). Ok (x.0, skip_blanks mode x.1))
-      (λ (x : Tree × List ℕ). parts_after size expected_array_comma_or_end 93 (element_at mode (value_at size mode depth)) array_end (front ++ x.0 ∷ []) x.1)
+      ∙ then-then (value_or_null mode (value_at size mode depth) (skip_blanks mode bytes)) (λ (x : Source × List ℕ). Ok (x.0, skip_blanks mode x.1))
+      (λ (x : Source × List ℕ). parts_after size expected_array_comma_or_end 93 (element_at mode (value_at size mode depth)) array_end (front ++ x.0 ∷ []) x.1)
 
-  pub element-due : (front : List Tree) (bytes : List ℕ) → is_left_out mode (skip_blanks mode bytes) ≡ false
+  pub element-due : (front : List Source) (bytes : List ℕ) → is_left_out mode (skip_blanks mode bytes) ≡ false
       → elements_from size mode depth front bytes ≡ (value_at size mode depth (skip_blanks mode bytes) >>= finish_open size mode depth (elements_so_far front))
   element-due front bytes e =
       elements-turn front bytes
-      ∙ ap (λ (r : Read Tree). r >>= finish_open size mode depth (elements_so_far front)) (cond-false (is_left_out mode (skip_blanks mode bytes)) (Ok (null, skip_blanks mode bytes)) (value_at size mode depth (skip_blanks mode bytes)) e)
+      ∙ ap (λ (r : Read Source). r >>= finish_open size mode depth (elements_so_far front)) (cond-false (is_left_out mode (skip_blanks mode bytes)) (Ok (null_source, skip_blanks mode bytes)) (value_at size mode depth (skip_blanks mode bytes)) e)
 
-  pub element-left_out : (front : List Tree) (bytes : List ℕ) → is_left_out mode (skip_blanks mode bytes) ≡ true
-      → elements_from size mode depth front bytes ≡ finish_open size mode depth (elements_so_far front) (null, skip_blanks mode bytes)
+  pub element-left_out : (front : List Source) (bytes : List ℕ) → is_left_out mode (skip_blanks mode bytes) ≡ true
+      → elements_from size mode depth front bytes ≡ finish_open size mode depth (elements_so_far front) (null_source, skip_blanks mode bytes)
   element-left_out front bytes e =
       elements-turn front bytes
-      ∙ ap (λ (r : Read Tree). r >>= finish_open size mode depth (elements_so_far front)) (cond-true (is_left_out mode (skip_blanks mode bytes)) (Ok (null, skip_blanks mode bytes)) (value_at size mode depth (skip_blanks mode bytes)) e)
+      ∙ ap (λ (r : Read Source). r >>= finish_open size mode depth (elements_so_far front)) (cond-true (is_left_out mode (skip_blanks mode bytes)) (Ok (null_source, skip_blanks mode bytes)) (value_at size mode depth (skip_blanks mode bytes)) e)
 
   pub array-begun : (bytes : List ℕ) → begins 93 (skip_blanks mode bytes) ≡ false → array_at size mode (value_at size mode depth) bytes ≡ elements_from size mode depth [] (skip_blanks mode bytes)
   array-begun bytes e =
       let fits : length (skip_blanks mode bytes) ≤ length bytes = length-skip mode bytes in
-      on_byte-none 93 (skip_blanks mode bytes) (λ (r : List ℕ). Ok (array no_trees, r)) (elements_at size mode (value_at size mode depth) bytes) e
-      ∙ ap (λ (r : Read (List Tree)). r >>= λ (x : List Tree × List ℕ). array_end x.0 x.1)
+      on_byte-none 93 (skip_blanks mode bytes) (λ (r : List ℕ). Ok (array_source no_sources, r)) (elements_at size mode (value_at size mode depth) bytes) e
+      ∙ ap (λ (r : Read (List Source)). r >>= λ (x : List Source × List ℕ). array_end x.0 x.1)
       (enough_turns size expected_array_comma_or_end 93 (element_at mode (value_at size mode depth)) element-shrinks (suc (length bytes)) (suc (length (skip_blanks mode bytes))) (skip_blanks mode bytes) (omega arith) (omega arith))
 
   pub object-begun : (bytes : List ℕ) → begins 125 (skip_blanks mode bytes) ≡ false → object_at size mode (value_at size mode depth) bytes ≡ read_members_from size mode depth [] (skip_blanks mode bytes)
   object-begun bytes e =
       let fits : length (skip_blanks mode bytes) ≤ length bytes = length-skip mode bytes in
-      on_byte-none 125 (skip_blanks mode bytes) (λ (r : List ℕ). Ok (object no_members, r)) (members_at size mode (value_at size mode depth) bytes) e
+      on_byte-none 125 (skip_blanks mode bytes) (λ (r : List ℕ). Ok (object_source no_source_members, r)) (members_at size mode (value_at size mode depth) bytes) e
       ∙ ap (λ (r : Read (List Found)). r >>= λ (x : List Found × List ℕ). object_end x.0 x.1)
       (enough_turns size expected_object_comma_or_end 125 (member_at size mode (value_at size mode depth)) member-shrinks (suc (length bytes)) (suc (length (skip_blanks mode bytes))) (skip_blanks mode bytes) (omega arith) (omega arith))
 
@@ -152,16 +150,16 @@ module _ (size : ℕ) (mode : Mode) (depth : ℕ) where
       (λ (k : (Mark × List ℕ) × List ℕ). colon k >>= waits) keyed
       ∙ sym (then-then (key_at size mode (skip_blanks mode bytes)) colon waits)
     where
-      added : Found × List ℕ → Read Tree
+      added : Found × List ℕ → Read Source
       added x = parts_after size expected_object_comma_or_end 125 (member_at size mode (value_at size mode depth)) object_end (front ++ x.0 ∷ []) x.1
 
-      waits : ((Mark × List ℕ) × ℕ) × List ℕ → Read Tree
+      waits : ((Mark × List ℕ) × ℕ) × List ℕ → Read Source
       waits k = value_at size mode depth k.1 >>= finish_open size mode depth (members_so_far front k.0.0 k.0.1)
 
       colon : (Mark × List ℕ) × List ℕ → Read ((Mark × List ℕ) × ℕ)
       colon k = on_byte 58 (skip_blanks mode k.1) (λ rest. Ok ((k.0, size - length k.1), skip_blanks mode rest)) (refused size expected_colon 0 (skip_blanks mode k.1))
 
-      padded-found : (key : Mark × List ℕ) (place : ℕ) (r : Read Tree) → (r >>= (λ (x : Tree × List ℕ). Ok (x.0, skip_blanks mode x.1)) >>= found_at key place >>= added) ≡ (r >>= finish_open size mode depth (members_so_far front key place))
+      padded-found : (key : Mark × List ℕ) (place : ℕ) (r : Read Source) → (r >>= (λ (x : Source × List ℕ). Ok (x.0, skip_blanks mode x.1)) >>= found_at key place >>= added) ≡ (r >>= finish_open size mode depth (members_so_far front key place))
       padded-found key place (Ok x) = refl
       padded-found key place (Err f) = refl
 
@@ -182,13 +180,13 @@ value_closed : (size : ℕ) (mode : Mode) (bytes : List ℕ) → value_at size m
 unfolding value_at
 value_closed size mode bytes = refl
 
-pub value_plain : (size : ℕ) (mode : Mode) (depth : ℕ) (bytes : List ℕ) → begins 91 bytes ≡ false → begins 123 bytes ≡ false → value_at size mode depth bytes ≡ scalar_at size mode bytes
+pub value_plain : (size : ℕ) (mode : Mode) (depth : ℕ) (bytes : List ℕ) → begins 91 bytes ≡ false → begins 123 bytes ≡ false → value_at size mode depth bytes ≡ alone_at (scalar_at size mode bytes)
 value_plain size mode zero bytes a b =
-    value_closed size mode bytes ∙ on_byte-none 91 bytes (too_deep size) (on_byte 123 bytes (too_deep size) (scalar_at size mode bytes)) a ∙ on_byte-none 123 bytes (too_deep size) (scalar_at size mode bytes) b
+    value_closed size mode bytes ∙ on_byte-none 91 bytes (too_deep size) (on_byte 123 bytes (too_deep size) (alone_at (scalar_at size mode bytes))) a ∙ on_byte-none 123 bytes (too_deep size) (alone_at (scalar_at size mode bytes)) b
 value_plain size mode (suc depth) bytes a b =
-    let arrays : List ℕ → Read Tree = array_at size mode (value_at size mode depth) in
-    let objects : List ℕ → Read Tree = object_at size mode (value_at size mode depth) in
-    value_opens size mode depth bytes ∙ on_byte-none 91 bytes arrays (on_byte 123 bytes objects (scalar_at size mode bytes)) a ∙ on_byte-none 123 bytes objects (scalar_at size mode bytes) b
+    let arrays : List ℕ → Read Source = array_at size mode (value_at size mode depth) in
+    let objects : List ℕ → Read Source = object_at size mode (value_at size mode depth) in
+    value_opens size mode depth bytes ∙ on_byte-none 91 bytes arrays (on_byte 123 bytes objects (alone_at (scalar_at size mode bytes))) a ∙ on_byte-none 123 bytes objects (alone_at (scalar_at size mode bytes)) b
 
 pub array-value : (size : ℕ) (mode : Mode) (depth : ℕ) (rest : List ℕ) → value_at size mode depth (91 ∷ rest) ≡ array_within size mode depth rest
 array-value size mode zero rest = value_closed size mode (91 ∷ rest)
@@ -201,11 +199,11 @@ object-value size mode (suc depth) rest = value_opens size mode depth (123 ∷ r
 -- ---- the containers that are open
 
 module _ (size : ℕ) (mode : Mode) (depth : ℕ) (c : Open) (cs : List Open) where
-  pub resume-part : (r : Read Tree) → (r >>= finish_open size mode depth c >>= resume size mode (suc depth) cs) ≡ (r >>= resume size mode depth (c ∷ cs))
+  pub resume-part : (r : Read Source) → (r >>= finish_open size mode depth c >>= resume size mode (suc depth) cs) ≡ (r >>= resume size mode depth (c ∷ cs))
   unfolding resume
   resume-part r = then-then r (finish_open size mode depth c) (resume size mode (suc depth) cs)
 
-pub resume-none : (size : ℕ) (mode : Mode) (depth : ℕ) (r : Read Tree) → (r >>= resume size mode depth []) ≡ r
+pub resume-none : (size : ℕ) (mode : Mode) (depth : ℕ) (r : Read Source) → (r >>= resume size mode depth []) ≡ r
 unfolding resume
 resume-none size mode depth (Ok x) = refl
 resume-none size mode depth (Err f) = refl

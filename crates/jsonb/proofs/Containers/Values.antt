@@ -1,5 +1,5 @@
 -- From parsing the values in arrays and objects to parsing these, at any depth.
-use Rattle.std.proofs.Common.{◌≡◌, ℕ, zero, suc, ◌+◌, ◌-◌, ◌≤◌, Bool, true, false, true≢false, ◌||◌, ◌⊎◌, inl, inr, List, [], ◌∷◌, ◌++◌, length, map, map-id, Option, Some, None, Result, Ok, refl, sym, ap, subst, subst₂, ◌∙◌, append_assoc, length-append, arith, eqb, eqb-true}
+use Rattle.std.proofs.Common.{◌≡◌, ℕ, zero, suc, ◌+◌, ◌-◌, ◌≤◌, Bool, true, false, true≢false, ◌||◌, ◌⊎◌, inl, inr, List, [], ◌∷◌, ◌++◌, length, map, Option, Some, None, Result, Ok, refl, sym, ap, subst, subst₂, ◌∙◌, append_assoc, length-append, arith, eqb, eqb-true}
 use Rattle.std.proofs.lemmas.Bool.{cond-false, cond-true}
 use Rattle.jsonb_value.specs.Grammar.Blanks.{AreLastBlanks, IsBlanks}
 use Rattle.jsonb_value.specs.Code.Code.{expected_array_comma_or_end, expected_colon, expected_object_comma_or_end, invalid_eof, unexpected_trailing_characters}
@@ -14,36 +14,56 @@ use Rattle.jsonb_value.specs.Mode.Mode.{extended, standard}
 use Rattle.jsonb_value.specs.Grammar.Scalar.{IsKey, IsScalar}
 use Rattle.jsonb_value.specs.Tree.{Mark, Member, Tree, put_all, trees_of}
 use Rattle.jsonb_value.specs.Tree.Members.{no_members}
-use Rattle.jsonb_value.specs.Tree.Tree.{array, null, object}
-use Rattle.jsonb_value.specs.Tree.Trees.{no_trees}
+use Rattle.jsonb_value.specs.Tree.Tree.{array, object}
 use Rattle.jsonb_scan.specs.Reading.{Fault, Read, begins, fault, on_byte, refused, ◌>>=◌}
 use Rattle.jsonb_scan.specs.Reading.Blank.{is_blank_start, is_break, opens_comment, skip_closed_blanks, skip_blanks}
-use Rattle.jsonb_scan.specs.Reading.Container.{Found, Spot, after_key, array_at, element_at, elements_at, first_repeat, found_at, is_left_out, joined_at, member_at, member_of, members_at, object_at, object_or_fault, padded_at, spot_of, value_or_null}
-use Rattle.jsonb_scan.specs.Reading.Document.{at_end, comment_at, document_from, document_of, nothing_at, too_deep, value_at, value_to_end, value_with}
+use Rattle.jsonb_scan.specs.Reading.Container.{after_key, array_at, element_at, elements_at, found_at, is_left_out, joined_at, member_at, members_at, object_at, object_or_fault, padded_at, value_or_null}
+use Rattle.jsonb_scan.specs.Source.{Found, Source, Spot, array_source, array_source_of, first_repeat, found, member_of, no_source_members, no_sources, null_source, object_source, object_source_of, source_alone, spot_of, tree_of_source}
+use Rattle.jsonb.proofs.Containers.Sources.{alone_tree, array_tree, object_tree}
+use Rattle.jsonb_scan.specs.Reading.Document.{alone_at, at_end, comment_at, document_of, source_from, source_of, nothing_at, too_deep, value_at, value_to_end, value_with}
 use Rattle.jsonb_scan.specs.Reading.Scalar.{key_at, scalar_at}
 use Rattle.jsonb_scan.proofs.Steps.Tests.{SameRead, bind_ok, chosen, refused_fails, same_ok, same_read}
-use Rattle.jsonb_scan.proofs.Containers.JoinedParts.{IsComplete, IsOther, IsPartComplete, IsSound, IsSoundBefore, Spelled, Starts, ends-blanks, ends_at, joined-skip, joined_complete, joined_sound, length-joined, on_byte-none, on_byte-other, on_byte_cases, other, padded_complete, padded_sound, skip-padded}
+use Rattle.jsonb_scan.proofs.Containers.JoinedParts.{IsOther, IsPartComplete, IsShown, IsSound, IsSoundBefore, SeenBy, Spelled, Starts, ends-blanks, ends_at, joined-skip, joined_complete, joined_seen, joined_sound, length-joined, on_byte-none, on_byte-other, on_byte_cases, other, padded_complete, padded_seen, padded_sound, skip-padded}
 use Rattle.jsonb.proofs.Containers.Repeats.{distinct, no_repeat}
 use Rattle.jsonb.proofs.Scalars.Spellings.{Follows, IsNumberTree, key_complete, key_sound, scalar_complete, scalar_sound, scalar_starts}
 use Rattle.jsonb.proofs.Scalars.Spellings.Follows.{before}
 use Rattle.jsonb_scan.proofs.Text.Comments.{begins_found}
 use Rattle.jsonb_scan.proofs.Text.Blanks.{Passes, ends_all, ends_line, passes, skip-blanks, skip-skip, skip-stop, skips}
 
+-- The bytes are a spelling of the source's tree.
+abbrev pub Seen : (List ℕ → Tree → Type 0) → List ℕ → Source → Type 0
+Seen Value = SeenBy tree_of_source Value
+
 -- Each value is read, at the end of the text or where a byte follows that may follow.
-pub record IsValueComplete (Value : List ℕ → Tree → Type 0) (read : List ℕ → Read Tree) : Type 0 where
+pub record IsValueComplete (Value : List ℕ → Tree → Type 0) (read : List ℕ → Read Source) : Type 0 where
   pub starts : (core : List ℕ) (t : Tree) → Value core t → Starts core
-  pub reads : (core : List ℕ) (t : Tree) (rest : List ℕ) → Value core t → (IsNumberTree t → Follows rest) → read (core ++ rest) ≡ Ok (t, rest)
+  pub reads : (core : List ℕ) (t : Tree) (rest : List ℕ) → Value core t → (IsNumberTree t → Follows rest) → (s : Source) × (tree_of_source s ≡ t) × (read (core ++ rest) ≡ Ok (s, rest))
 
 -- ---- scalars
 
-scalar_reads : (size : ℕ) (mode : Mode) (arrays objects : List ℕ → Read Tree) (core : List ℕ) (t : Tree) (rest : List ℕ) → IsScalar mode core t → (IsNumberTree t → Follows rest) → value_with size mode arrays objects (core ++ rest) ≡ Ok (t, rest)
+scalar_reads : (size : ℕ) (mode : Mode) (arrays objects : List ℕ → Read Source) (core : List ℕ) (t : Tree) (rest : List ℕ) → IsScalar mode core t → (IsNumberTree t → Follows rest)
+    → (s : Source) × (tree_of_source s ≡ t) × (value_with size mode arrays objects (core ++ rest) ≡ Ok (s, rest))
 scalar_reads size mode arrays objects core t rest s f =
     let st = scalar_starts mode core t s in
-    let opened : core ++ rest ≡ st.first ∷ (st.others ++ rest) = ap (λ (u : List ℕ). u ++ rest) st.whole in
-    ap (λ (u : List ℕ). on_byte 91 u arrays (on_byte 123 u objects (scalar_at size mode (core ++ rest)))) opened
-    ∙ on_byte-other 91 st.first (st.others ++ rest) arrays (on_byte 123 (st.first ∷ (st.others ++ rest)) objects (scalar_at size mode (core ++ rest))) st.bracket
-    ∙ on_byte-other 123 st.first (st.others ++ rest) objects (scalar_at size mode (core ++ rest)) st.brace
-    ∙ scalar_complete size mode core t rest s f
+    let opened : core ++ rest ≡ st.first ∷ (st.others ++ rest) = ap (λ (u : List ℕ). u ++ rest) st.whole in (
+      source_alone t,
+      alone_tree s,
+      ap (λ (u : List ℕ). on_byte 91 u arrays (on_byte 123 u objects (alone_at (scalar_at size mode (core ++ rest))))) opened
+          ∙ on_byte-other 91 st.first (st.others ++ rest) arrays (on_byte 123 (st.first ∷ (st.others ++ rest)) objects (alone_at (scalar_at size mode (core ++ rest)))) st.bracket
+          ∙ on_byte-other 123 st.first (st.others ++ rest) objects (alone_at (scalar_at size mode (core ++ rest))) st.brace
+          ∙ ap alone_at (scalar_complete size mode core t rest s f),
+    )
+
+pub alone_sound : (size : ℕ) (mode : Mode) → IsSound (Seen (IsScalar mode)) (λ bytes. alone_at (scalar_at size mode bytes))
+alone_sound size mode bytes s rest e =
+    let b = bind_ok (scalar_at size mode bytes) (λ (x : Tree × List ℕ). Ok (source_alone x.0, x.1)) (s, rest) e in
+    let same = same_read (source_alone b.0.0) s b.0.1 rest b.2 in
+    let r = scalar_sound size mode bytes b.0.0 b.0.1 b.1 in
+    record {
+      core = r.core;
+      spells = subst (λ (u : Tree). IsScalar mode r.core u) (sym (alone_tree r.spells) ∙ ap tree_of_source same.value) r.spells;
+      whole = r.whole ∙ ap (λ (u : List ℕ). r.core ++ u) same.rest;
+    }
 
 -- ---- elements
 
@@ -64,69 +84,75 @@ same_keys [] = refl
 same_keys (f ∷ fs) = ap (λ (ks : List (List ℕ)). f.key ∷ ks) (same_keys fs)
 
 -- an object that was read has no repeat
-object_of : (o : Option Spot) (fs : List Found) (r : List ℕ) (t : Tree) (rest : List ℕ) → object_or_fault o fs r ≡ Ok (t, rest) → (o ≡ None) × SameRead (object (put_all (map member_of fs) no_members)) t r rest
-object_of None fs r t rest e = (refl, same_read (object (put_all (map member_of fs) no_members)) t r rest e)
+pub object_of : (o : Option Spot) (fs : List Found) (r : List ℕ) (t : Source) (rest : List ℕ) → object_or_fault o fs r ≡ Ok (t, rest) → (o ≡ None) × SameRead (object_source_of fs) t r rest
+object_of None fs r t rest e = (refl, same_read (object_source_of fs) t r rest e)
 object_of (Some s) fs r t rest e = absurd cc
 
 pub is_extended_if : (mode : Mode) (bytes : List ℕ) → is_left_out mode bytes ≡ true → mode ≡ extended
 is_extended_if standard bytes e = absurd cc
 is_extended_if extended bytes e = refl
 
-module _ (mode : Mode) (Value : List ℕ → Tree → Type 0) (read : List ℕ → Read Tree) where
+module _ (mode : Mode) (Value : List ℕ → Tree → Type 0) (read : List ℕ → Read Source) where
   value_or_null-reads : (bytes : List ℕ) → Starts bytes → value_or_null mode read bytes ≡ read bytes
   value_or_null-reads bytes s =
-      cond-false (is_left_out mode bytes) (Ok (null, bytes)) (read bytes)
+      cond-false (is_left_out mode bytes) (Ok (null_source, bytes)) (read bytes)
       (ap (λ (u : List ℕ). is_left_out mode u) s.whole ∙ left_out-none mode s.first s.others (other s.first s.is_start))
 
-  value_complete : IsValueComplete Value read → IsComplete Value read
+  value_complete : IsValueComplete Value read → IsShown tree_of_source Value read
   value_complete c = record { starts = c.starts; reads = λ core t rest s e. c.reads core t rest s (λ n. before e) }
 
-  value_or_null_complete : IsValueComplete Value read → IsComplete Value (value_or_null mode read)
+  value_or_null_complete : IsValueComplete Value read → IsShown tree_of_source Value (value_or_null mode read)
   value_or_null_complete c =
       record {
         starts = c.starts;
         reads = λ core t rest s e.
             let st = c.starts core t s in
-            value_or_null-reads (core ++ rest) (record { first = st.first; others = st.others ++ rest; whole = ap (λ (u : List ℕ). u ++ rest) st.whole; is_start = st.is_start })
-            ∙ c.reads core t rest s (λ n. before e);
+            let r = c.reads core t rest s (λ n. before e) in (
+              r.0,
+              r.1,
+              value_or_null-reads (core ++ rest) (record { first = st.first; others = st.others ++ rest; whole = ap (λ (u : List ℕ). u ++ rest) st.whole; is_start = st.is_start }) ∙ r.2,
+            );
       }
 
   element_reads : IsValueComplete Value read → (bytes : List ℕ) (t : Tree) (c : ℕ) (rest : List ℕ) → IsElement mode Value bytes t
-      → (eqb c 44 || eqb c 93) ≡ true → is_break c ≡ true → is_blank_start c ≡ false → element_at mode read (bytes ++ c ∷ rest) ≡ Ok (t, c ∷ rest)
-  element_reads complete bytes t c rest (whole_element p) ends is_end is_none = padded_complete mode Value (value_or_null mode read) (value_or_null_complete complete) bytes t c rest p is_end is_none
+      → (eqb c 44 || eqb c 93) ≡ true → is_break c ≡ true → is_blank_start c ≡ false → (s : Source) × (tree_of_source s ≡ t) × (element_at mode read (bytes ++ c ∷ rest) ≡ Ok (s, c ∷ rest))
+  element_reads complete bytes t c rest (whole_element p) ends is_end is_none = padded_complete tree_of_source mode Value (value_or_null mode read) (value_or_null_complete complete) bytes t c rest p is_end is_none
   element_reads complete bytes t c rest (empty_element is_extended b) ends is_end is_none =
       let k : skip_blanks mode (c ∷ rest) ≡ c ∷ rest = skip-stop mode c rest is_none in
-      let left_out : is_left_out mode (c ∷ rest) ≡ true = ap (λ (m : Mode). is_left_out m (c ∷ rest)) is_extended ∙ ends in
-      ap (λ (u : List ℕ). value_or_null mode read u >>= λ (x : Tree × List ℕ). Ok (x.0, skip_blanks mode x.1)) (skip-blanks b (c ∷ rest) ∙ k)
-      ∙ ap (λ (r : Read Tree). r >>= λ (x : Tree × List ℕ). Ok (x.0, skip_blanks mode x.1)) (cond-true (is_left_out mode (c ∷ rest)) (Ok (null, c ∷ rest)) (read (c ∷ rest)) left_out)
-      ∙ ap (λ (u : List ℕ). Ok (null, u)) k
+      let left_out : is_left_out mode (c ∷ rest) ≡ true = ap (λ (m : Mode). is_left_out m (c ∷ rest)) is_extended ∙ ends in (
+        null_source,
+        refl,
+        ap (λ (u : List ℕ). value_or_null mode read u >>= λ (x : Source × List ℕ). Ok (x.0, skip_blanks mode x.1)) (skip-blanks b (c ∷ rest) ∙ k)
+            ∙ ap (λ (r : Read Source). r >>= λ (x : Source × List ℕ). Ok (x.0, skip_blanks mode x.1)) (cond-true (is_left_out mode (c ∷ rest)) (Ok (null_source, c ∷ rest)) (read (c ∷ rest)) left_out)
+            ∙ ap (λ (u : List ℕ). Ok (null_source, u)) k,
+      )
 
-  elements_complete : IsValueComplete Value read → IsPartComplete (λ (t : Tree). t) 93 (IsElement mode Value) (element_at mode read)
+  elements_complete : IsValueComplete Value read → IsPartComplete tree_of_source 93 (IsElement mode Value) (element_at mode read)
   elements_complete complete =
       record {
-        comma = λ bytes t rest s. (t, refl, element_reads complete bytes t 44 rest s refl refl refl);
-        last = λ bytes t rest s. (t, refl, element_reads complete bytes t 93 rest s refl refl refl);
+        comma = λ bytes t rest s. element_reads complete bytes t 44 rest s refl refl refl;
+        last = λ bytes t rest s. element_reads complete bytes t 93 rest s refl refl refl;
         apart = refl;
       }
 
-  pub element_sound : IsSound Value read → IsSoundBefore (IsElement mode Value) (element_at mode read)
+  pub element_sound : IsSound (Seen Value) read → IsSoundBefore (Seen (IsElement mode Value)) (element_at mode read)
   element_sound sound bytes t rest e left =
-      let b = bind_ok (value_or_null mode read (skip_blanks mode bytes)) (λ (x : Tree × List ℕ). Ok (x.0, skip_blanks mode x.1)) (t, rest) e in
-      elim (chosen (is_left_out mode (skip_blanks mode bytes)) (Ok (null, skip_blanks mode bytes)) (read (skip_blanks mode bytes)) (Ok b.0) b.1) [
+      let b = bind_ok (value_or_null mode read (skip_blanks mode bytes)) (λ (x : Source × List ℕ). Ok (x.0, skip_blanks mode x.1)) (t, rest) e in
+      elim (chosen (is_left_out mode (skip_blanks mode bytes)) (Ok (null_source, skip_blanks mode bytes)) (read (skip_blanks mode bytes)) (Ok b.0) b.1) [
         | inl h ↦
-            let same = same_read null b.0.0 (skip_blanks mode bytes) b.0.1 h.1 in
+            let same = same_read null_source b.0.0 (skip_blanks mode bytes) b.0.1 h.1 in
             let out = same_read b.0.0 t (skip_blanks mode b.0.1) rest b.2 in
             let rest-is : skip_blanks mode bytes ≡ rest = sym (skip-skip mode bytes) ∙ ap (λ (u : List ℕ). skip_blanks mode u) same.rest ∙ out.rest in
             let front = skips mode bytes (omega (arith, left, ap length rest-is)) in
             record {
               core = front.blanks;
-              spells = subst (λ (v : Tree). IsElement mode Value front.blanks v) (same.value ∙ out.value) (empty_element (is_extended_if mode (skip_blanks mode bytes) h.0) front.are_blanks);
+              spells = subst (λ (v : Source). Seen (IsElement mode Value) front.blanks v) (same.value ∙ out.value) (empty_element (is_extended_if mode (skip_blanks mode bytes) h.0) front.are_blanks);
               whole = front.whole ∙ ap (λ (u : List ℕ). front.blanks ++ u) rest-is;
             }
         | inr h ↦
-            let again : padded_at mode read bytes ≡ Ok (t, rest) = ap (λ (r : Read Tree). r >>= λ (x : Tree × List ℕ). Ok (x.0, skip_blanks mode x.1)) h.1 ∙ b.2 in
-            let s = padded_sound mode Value read sound bytes t rest again left in
-            record { core = s.core; spells = whole_element s.spells; whole = s.whole }
+            let again : padded_at mode read bytes ≡ Ok (t, rest) = ap (λ (r : Read Source). r >>= λ (x : Source × List ℕ). Ok (x.0, skip_blanks mode x.1)) h.1 ∙ b.2 in
+            let s = padded_sound mode (Seen Value) read sound bytes t rest again left in
+            record { core = s.core; spells = whole_element (padded_seen tree_of_source Value s.spells); whole = s.whole }
       ]
 
   -- ---- members
@@ -135,19 +161,19 @@ module _ (mode : Mode) (Value : List ℕ → Tree → Type 0) (read : List ℕ �
       → is_break c ≡ true → is_blank_start c ≡ false → (f : Found) × (member_of f ≡ m) × (member_at size mode read (bytes ++ c ∷ rest) ≡ Ok (f, c ∷ rest))
   member_reads size complete bytes m c rest (key_and_value {left = left} {right = right} {key = k} {t = t} kp vp) is_end is_none =
       let colon : List ℕ = 58 ∷ (right ++ c ∷ rest) in
-      let s = skip-padded mode (IsKey mode) (key_at size mode) (key_complete size mode) left k colon kp in
+      let s = skip-padded mode (IsKey mode) (key_complete size mode).starts left k colon kp in
       let place : ℕ = size - length (s.after ++ colon) in
       let key_read : key_at size mode (s.core ++ (s.after ++ colon)) ≡ Ok (k, s.after ++ colon) =
       (key_complete size mode).reads s.core k (s.after ++ colon) s.spells (ends-blanks s.are_blanks colon (ends_at 58 (right ++ c ∷ rest) refl)) in
       let skipped : skip_blanks mode (s.after ++ colon) ≡ colon = skip-blanks s.are_blanks colon ∙ skip-stop mode 58 (right ++ c ∷ rest) refl in
-      let value_read : padded_at mode read (right ++ c ∷ rest) ≡ Ok (t, c ∷ rest) = padded_complete mode Value read (value_complete complete) right t c rest vp is_end is_none in (
-        record { mark = k.0; key = k.1; tree = t; place = place },
-        refl,
+      let v = padded_complete tree_of_source mode Value read (value_complete complete) right t c rest vp is_end is_none in (
+        found k v.0 place,
+        ap (λ (u : Tree). (k.1, u)) v.1,
         ap (λ (u : List ℕ). member_at size mode read u) (append_assoc left (58 ∷ right) (c ∷ rest))
             ∙ ap (λ (u : List ℕ). key_at size mode u >>= λ (x : (Mark × List ℕ) × List ℕ). after_key size mode read x.0 (size - length x.1) (skip_blanks mode x.1)) s.skipped
             ∙ ap (λ (r : Read (Mark × List ℕ)). r >>= λ (x : (Mark × List ℕ) × List ℕ). after_key size mode read x.0 (size - length x.1) (skip_blanks mode x.1)) key_read
             ∙ ap (λ (u : List ℕ). after_key size mode read k place u) skipped
-            ∙ ap (λ (r : Read Tree). r >>= λ (x : Tree × List ℕ). found_at k place x) value_read,
+            ∙ ap (λ (r : Read Source). r >>= λ (x : Source × List ℕ). found_at k place x) v.2,
       )
 
   members_complete : (size : ℕ) → IsValueComplete Value read → IsPartComplete member_of 125 (IsMember mode Value) (member_at size mode read)
@@ -159,24 +185,24 @@ module _ (mode : Mode) (Value : List ℕ → Tree → Type 0) (read : List ℕ �
       }
 
   abbrev pub IsFound : List ℕ → Found → Type 0
-  IsFound bytes f = IsMember mode Value bytes (member_of f)
+  IsFound = SeenBy member_of (IsMember mode Value)
 
-  pub member_sound : (size : ℕ) → IsSound Value read → IsSoundBefore IsFound (member_at size mode read)
+  pub member_sound : (size : ℕ) → IsSound (Seen Value) read → IsSoundBefore IsFound (member_at size mode read)
   member_sound size sound bytes f rest e left_over =
       let b = bind_ok (key_at size mode (skip_blanks mode bytes)) (λ (x : (Mark × List ℕ) × List ℕ). after_key size mode read x.0 (size - length x.1) (skip_blanks mode x.1)) (f, rest) e in
       let k : Mark × List ℕ = b.0.0 in
       let place : ℕ = size - length b.0.1 in
       let colon : List ℕ = skip_blanks mode b.0.1 in
       let key_read : padded_at mode (key_at size mode) bytes ≡ Ok (k, colon) = ap (λ (r : Read (Mark × List ℕ)). r >>= λ (x : (Mark × List ℕ) × List ℕ). Ok (x.0, skip_blanks mode x.1)) b.1 in
-      elim (on_byte_cases 58 colon (λ (r : List ℕ). padded_at mode read r >>= λ (x : Tree × List ℕ). found_at k place x) (refused size expected_colon 0 colon) (Ok (f, rest)) b.2) [
+      elim (on_byte_cases 58 colon (λ (r : List ℕ). padded_at mode read r >>= λ (x : Source × List ℕ). found_at k place x) (refused size expected_colon 0 colon) (Ok (f, rest)) b.2) [
         | inl t ↦
-            let v = bind_ok (padded_at mode read t.0) (λ (x : Tree × List ℕ). found_at k place x) (f, rest) t.2 in
+            let v = bind_ok (padded_at mode read t.0) (λ (x : Source × List ℕ). found_at k place x) (f, rest) t.2 in
             let left = padded_sound mode (IsKey mode) (key_at size mode) (key_sound size mode) bytes k colon key_read (omega (arith, ap length t.1)) in
-            let same = same_read (record { mark = k.0; key = k.1; tree = v.0.0; place = place }) f v.0.1 rest v.2 in
-            let right = padded_sound mode Value read sound t.0 v.0.0 v.0.1 v.1 (omega (arith, left_over, ap length same.rest)) in
+            let same = same_read (found k v.0.0 place) f v.0.1 rest v.2 in
+            let right = padded_sound mode (Seen Value) read sound t.0 v.0.0 v.0.1 v.1 (omega (arith, left_over, ap length same.rest)) in
             record {
               core = left.core ++ 58 ∷ right.core;
-              spells = subst (λ (g : Found). IsFound (left.core ++ 58 ∷ right.core) g) same.value (key_and_value left.spells right.spells);
+              spells = subst (λ (g : Found). IsFound (left.core ++ 58 ∷ right.core) g) same.value (key_and_value left.spells (padded_seen tree_of_source Value right.spells));
               whole =
                   left.whole ∙ ap (λ (u : List ℕ). left.core ++ u) (t.1 ∙ ap (λ (u : List ℕ). 58 ∷ u) (right.whole ∙ ap (λ (u : List ℕ). right.core ++ u) same.rest))
                   ∙ sym (append_assoc left.core (58 ∷ right.core) rest);
@@ -186,16 +212,16 @@ module _ (mode : Mode) (Value : List ℕ → Tree → Type 0) (read : List ℕ �
 
   -- ---- how arrays and objects that are not empty begin
 
-  begins-padded : {A : Type 0} (Spells : List ℕ → A → Type 0) (part : List ℕ → Read A) → IsComplete Spells part → (bytes : List ℕ) (a : A) (rest : List ℕ) (c : ℕ) → IsPadded mode Spells bytes a
+  begins-padded : {A : Type 0} (Spells : List ℕ → A → Type 0) → ((core : List ℕ) (a : A) → Spells core a → Starts core) → (bytes : List ℕ) (a : A) (rest : List ℕ) (c : ℕ) → IsPadded mode Spells bytes a
       → ((b : ℕ) → IsOther b → eqb b c ≡ false) → begins c (skip_blanks mode (bytes ++ rest)) ≡ false
-  begins-padded Spells part complete bytes a rest c p apart =
-      let s = skip-padded mode Spells part complete bytes a rest p in
-      let st = complete.starts s.core a s.spells in
+  begins-padded Spells starts bytes a rest c p apart =
+      let s = skip-padded mode Spells starts bytes a rest p in
+      let st = starts s.core a s.spells in
       ap (λ (u : List ℕ). begins c u) (s.skipped ∙ ap (λ (u : List ℕ). u ++ (s.after ++ rest)) st.whole)
       ∙ cond-false (eqb st.first c) true false (apart st.first (other st.first st.is_start))
 
   element_begins : IsValueComplete Value read → (bytes : List ℕ) (t : Tree) (rest : List ℕ) → IsElement mode Value bytes t → (begins 93 (skip_blanks mode (bytes ++ rest)) ≡ false) ⊎ IsBlanks mode bytes
-  element_begins complete bytes t rest (whole_element p) = inl (begins-padded Value read (value_complete complete) bytes t rest 93 p (λ b o. o.bracket))
+  element_begins complete bytes t rest (whole_element p) = inl (begins-padded Value complete.starts bytes t rest 93 p (λ b o. o.bracket))
   element_begins complete bytes t rest (empty_element is_extended b) = inr b
 
   elements_begin : IsValueComplete Value read → {body : List ℕ} {ts : List Tree} (j : IsJoined (IsElement mode Value) body ts) (rest : List ℕ) → (IsBlanks mode body → ⊥) → begins 93 (skip_blanks mode (body ++ 93 ∷ rest)) ≡ false
@@ -211,7 +237,7 @@ module _ (mode : Mode) (Value : List ℕ → Tree → Type 0) (read : List ℕ �
   member_begins : (bytes : List ℕ) (m : Member) (rest : List ℕ) → IsMember mode Value bytes m → begins 125 (skip_blanks mode (bytes ++ rest)) ≡ false
   member_begins bytes m rest (key_and_value {left = left} {right = right} {key = k} kp vp) =
       ap (λ (u : List ℕ). begins 125 (skip_blanks mode u)) (append_assoc left (58 ∷ right) rest)
-      ∙ begins-padded (IsKey mode) (key_at 0 mode) (key_complete 0 mode) left k (58 ∷ (right ++ rest)) 125 kp (λ b o. o.brace)
+      ∙ begins-padded (IsKey mode) (key_complete 0 mode).starts left k (58 ∷ (right ++ rest)) 125 kp (λ b o. o.brace)
 
   members_begin : {body : List ℕ} {ms : List Member} (j : IsJoined (IsMember mode Value) body ms) (rest : List ℕ) → begins 125 (skip_blanks mode (body ++ rest)) ≡ false
   members_begin (one_part {bytes = bytes} {a = m} s) rest = member_begins bytes m rest s
@@ -220,67 +246,64 @@ module _ (mode : Mode) (Value : List ℕ → Tree → Type 0) (read : List ℕ �
 
   -- ---- arrays
 
-  array_sound : (size : ℕ) → IsSound Value read → (bytes : List ℕ) (t : Tree) (rest : List ℕ) → array_at size mode read bytes ≡ Ok (t, rest) → Spelled (IsValue mode Value) (91 ∷ bytes) t rest
+  array_sound : (size : ℕ) → IsSound (Seen Value) read → (bytes : List ℕ) (t : Source) (rest : List ℕ) → array_at size mode read bytes ≡ Ok (t, rest) → Spelled (Seen (IsValue mode Value)) (91 ∷ bytes) t rest
   array_sound size sound bytes t rest e =
-      elim (on_byte_cases 93 (skip_blanks mode bytes) (λ (r : List ℕ). Ok (array no_trees, r)) (elements_at size mode read bytes) (Ok (t, rest)) e) [
+      elim (on_byte_cases 93 (skip_blanks mode bytes) (λ (r : List ℕ). Ok (array_source no_sources, r)) (elements_at size mode read bytes) (Ok (t, rest)) e) [
         | inl h ↦
             let front = skips mode bytes (omega (arith, ap length h.1)) in
-            let same = same_read (array no_trees) t h.0 rest h.2 in
+            let same = same_read (array_source no_sources) t h.0 rest h.2 in
             record {
               core = 91 ∷ (front.blanks ++ 93 ∷ []);
-              spells = subst (λ (v : Tree). IsValue mode Value (91 ∷ (front.blanks ++ 93 ∷ [])) v) same.value (empty_array front.are_blanks);
+              spells = subst (λ (v : Source). Seen (IsValue mode Value) (91 ∷ (front.blanks ++ 93 ∷ [])) v) same.value (empty_array front.are_blanks);
               whole = close_up 91 93 bytes front.blanks rest (front.whole ∙ ap (λ (u : List ℕ). front.blanks ++ u) (h.1 ∙ ap (λ (u : List ℕ). 93 ∷ u) same.rest));
             }
         | inr h ↦
-            let b = bind_ok (joined_at size expected_array_comma_or_end 93 (element_at mode read) (suc (length bytes)) (skip_blanks mode bytes)) (λ (x : List Tree × List ℕ). Ok (array (trees_of x.0), x.1)) (t, rest) h.1 in
-            let again = sym (joined-skip size expected_array_comma_or_end 93 (IsElement mode Value) (element_at mode read) mode (λ u. ap (λ (w : List ℕ). value_or_null mode read w >>= λ (x : Tree × List ℕ). Ok (x.0, skip_blanks mode x.1)) (skip-skip mode u)) (suc (length bytes)) bytes) ∙ b.1 in
-            let j = joined_sound size expected_array_comma_or_end 93 (IsElement mode Value) (element_at mode read) (element_sound sound) (suc (length bytes)) bytes b.0.0 b.0.1 again in
-            let same = same_read (array (trees_of b.0.0)) t b.0.1 rest b.2 in
+            let b = bind_ok (joined_at size expected_array_comma_or_end 93 (element_at mode read) (suc (length bytes)) (skip_blanks mode bytes)) (λ (x : List Source × List ℕ). Ok (array_source_of x.0, x.1)) (t, rest) h.1 in
+            let again = sym (joined-skip size expected_array_comma_or_end 93 (Seen (IsElement mode Value)) (element_at mode read) mode (λ u. ap (λ (w : List ℕ). value_or_null mode read w >>= λ (x : Source × List ℕ). Ok (x.0, skip_blanks mode x.1)) (skip-skip mode u)) (suc (length bytes)) bytes) ∙ b.1 in
+            let j = joined_sound size expected_array_comma_or_end 93 (Seen (IsElement mode Value)) (element_at mode read) (element_sound sound) (suc (length bytes)) bytes b.0.0 b.0.1 again in
+            let same = same_read (array_source_of b.0.0) t b.0.1 rest b.2 in
             let whole : bytes ≡ j.0 ++ 93 ∷ rest = j.2 ∙ ap (λ (u : List ℕ). j.0 ++ 93 ∷ u) same.rest in
             let not_blank : IsBlanks mode j.0 → ⊥ = λ k.
             let found : begins 93 (skip_blanks mode bytes) ≡ true = ap (λ (u : List ℕ). begins 93 (skip_blanks mode u)) whole ∙ ap (λ (u : List ℕ). begins 93 u) (skip-blanks k (93 ∷ rest) ∙ skip-stop mode 93 rest refl) in
             true≢false (sym found ∙ h.0) in
             record {
               core = 91 ∷ (j.0 ++ 93 ∷ []);
-              spells = subst (λ (v : Tree). IsValue mode Value (91 ∷ (j.0 ++ 93 ∷ [])) v) same.value (full_array j.1 not_blank);
+              spells = subst (λ (v : Source). Seen (IsValue mode Value) (91 ∷ (j.0 ++ 93 ∷ [])) v) same.value (subst (λ (v : Tree). IsValue mode Value (91 ∷ (j.0 ++ 93 ∷ [])) v) (sym (array_tree b.0.0)) (full_array (joined_seen tree_of_source (IsElement mode Value) j.1) not_blank));
               whole = close_up 91 93 bytes j.0 rest whole;
             }
       ]
 
   array_complete : (size : ℕ) → IsValueComplete Value read → (body : List ℕ) (ts : List Tree) (rest : List ℕ) → IsJoined (IsElement mode Value) body ts → (IsBlanks mode body → ⊥)
-      → array_at size mode read (body ++ 93 ∷ rest) ≡ Ok (array (trees_of ts), rest)
+      → (s : Source) × (tree_of_source s ≡ array (trees_of ts)) × (array_at size mode read (body ++ 93 ∷ rest) ≡ Ok (s, rest))
   array_complete size complete body ts rest j not_blank =
       let bytes : List ℕ = body ++ 93 ∷ rest in
       let enough : length ts ≤ suc (length bytes) = omega (arith, length-joined j, length-append body (93 ∷ rest)) in
-      let c = joined_complete (λ (t : Tree). t) size expected_array_comma_or_end 93 (IsElement mode Value) (element_at mode read) (elements_complete complete) j (suc (length bytes)) rest enough in
-      let same : c.0 ≡ ts = sym (map-id c.0) ∙ c.1 in
-      on_byte-none 93 (skip_blanks mode bytes) (λ (r : List ℕ). Ok (array no_trees, r)) (elements_at size mode read bytes) (elements_begin complete j rest not_blank)
-      ∙ ap (λ (r : Read (List Tree)). r >>= λ (x : List Tree × List ℕ). Ok (array (trees_of x.0), x.1))
-      (joined-skip size expected_array_comma_or_end 93 (IsElement mode Value) (element_at mode read) mode (λ u. ap (λ (w : List ℕ). value_or_null mode read w >>= λ (x : Tree × List ℕ). Ok (x.0, skip_blanks mode x.1)) (skip-skip mode u)) (suc (length bytes)) bytes ∙ c.2)
-      ∙ ap (λ (us : List Tree). Ok (array (trees_of us), rest)) same
+      let c = joined_complete tree_of_source size expected_array_comma_or_end 93 (IsElement mode Value) (element_at mode read) (elements_complete complete) j (suc (length bytes)) rest enough in (
+        array_source_of c.0,
+        array_tree c.0 ∙ ap (λ (us : List Tree). array (trees_of us)) c.1,
+        on_byte-none 93 (skip_blanks mode bytes) (λ (r : List ℕ). Ok (array_source no_sources, r)) (elements_at size mode read bytes) (elements_begin complete j rest not_blank)
+            ∙ ap (λ (r : Read (List Source)). r >>= λ (x : List Source × List ℕ). Ok (array_source_of x.0, x.1))
+            (joined-skip size expected_array_comma_or_end 93 (Seen (IsElement mode Value)) (element_at mode read) mode (λ u. ap (λ (w : List ℕ). value_or_null mode read w >>= λ (x : Source × List ℕ). Ok (x.0, skip_blanks mode x.1)) (skip-skip mode u)) (suc (length bytes)) bytes ∙ c.2),
+      )
 
-  empty_array_complete : (size : ℕ) {before : List ℕ} (b : IsBlanks mode before) (rest : List ℕ) → array_at size mode read (before ++ 93 ∷ rest) ≡ Ok (array no_trees, rest)
+  empty_array_complete : (size : ℕ) {before : List ℕ} (b : IsBlanks mode before) (rest : List ℕ) → array_at size mode read (before ++ 93 ∷ rest) ≡ Ok (array_source no_sources, rest)
   empty_array_complete size {before} b rest =
-      ap (λ (u : List ℕ). on_byte 93 u (λ (r : List ℕ). Ok (array no_trees, r)) (elements_at size mode read (before ++ 93 ∷ rest))) (skip-blanks b (93 ∷ rest) ∙ skip-stop mode 93 rest refl)
+      ap (λ (u : List ℕ). on_byte 93 u (λ (r : List ℕ). Ok (array_source no_sources, r)) (elements_at size mode read (before ++ 93 ∷ rest))) (skip-blanks b (93 ∷ rest) ∙ skip-stop mode 93 rest refl)
 
   -- ---- objects
 
-  joined_members : {body : List ℕ} {fs : List Found} (j : IsJoined IsFound body fs) → IsJoined (IsMember mode Value) body (map member_of fs)
-  joined_members (one_part s) = one_part s
-  joined_members (more_parts s j) = more_parts s (joined_members j)
-
-  member_skip : (size : ℕ) (u : List ℕ) → member_at size mode read (skip_blanks mode u) ≡ member_at size mode read u
+  pub member_skip : (size : ℕ) (u : List ℕ) → member_at size mode read (skip_blanks mode u) ≡ member_at size mode read u
   member_skip size u = ap (λ (w : List ℕ). key_at size mode w >>= λ (x : (Mark × List ℕ) × List ℕ). after_key size mode read x.0 (size - length x.1) (skip_blanks mode x.1)) (skip-skip mode u)
 
-  object_sound : (size : ℕ) → IsSound Value read → (bytes : List ℕ) (t : Tree) (rest : List ℕ) → object_at size mode read bytes ≡ Ok (t, rest) → Spelled (IsValue mode Value) (123 ∷ bytes) t rest
+  object_sound : (size : ℕ) → IsSound (Seen Value) read → (bytes : List ℕ) (t : Source) (rest : List ℕ) → object_at size mode read bytes ≡ Ok (t, rest) → Spelled (Seen (IsValue mode Value)) (123 ∷ bytes) t rest
   object_sound size sound bytes t rest e =
-      elim (on_byte_cases 125 (skip_blanks mode bytes) (λ (r : List ℕ). Ok (object no_members, r)) (members_at size mode read bytes) (Ok (t, rest)) e) [
+      elim (on_byte_cases 125 (skip_blanks mode bytes) (λ (r : List ℕ). Ok (object_source no_source_members, r)) (members_at size mode read bytes) (Ok (t, rest)) e) [
         | inl h ↦
             let front = skips mode bytes (omega (arith, ap length h.1)) in
-            let same = same_read (object no_members) t h.0 rest h.2 in
+            let same = same_read (object_source no_source_members) t h.0 rest h.2 in
             record {
               core = 123 ∷ (front.blanks ++ 125 ∷ []);
-              spells = subst (λ (v : Tree). IsValue mode Value (123 ∷ (front.blanks ++ 125 ∷ [])) v) same.value (empty_object front.are_blanks);
+              spells = subst (λ (v : Source). Seen (IsValue mode Value) (123 ∷ (front.blanks ++ 125 ∷ [])) v) same.value (empty_object front.are_blanks);
               whole = close_up 123 125 bytes front.blanks rest (front.whole ∙ ap (λ (u : List ℕ). front.blanks ++ u) (h.1 ∙ ap (λ (u : List ℕ). 125 ∷ u) same.rest));
             }
         | inr h ↦
@@ -292,37 +315,40 @@ module _ (mode : Mode) (Value : List ℕ → Tree → Type 0) (read : List ℕ �
             let keys : HaveDistinctKeys (map member_of b.0.0) = subst AreDistinct (same_keys b.0.0) (distinct (map spot_of b.0.0) o.0) in
             record {
               core = 123 ∷ (j.0 ++ 125 ∷ []);
-              spells = subst (λ (v : Tree). IsValue mode Value (123 ∷ (j.0 ++ 125 ∷ [])) v) o.1.value (full_object (joined_members j.1) keys);
+              spells = subst (λ (v : Source). Seen (IsValue mode Value) (123 ∷ (j.0 ++ 125 ∷ [])) v) o.1.value (subst (λ (v : Tree). IsValue mode Value (123 ∷ (j.0 ++ 125 ∷ [])) v) (sym (object_tree b.0.0 keys)) (full_object (joined_seen member_of (IsMember mode Value) j.1) keys));
               whole = close_up 123 125 bytes j.0 rest whole;
             }
       ]
 
   object_complete : (size : ℕ) → IsValueComplete Value read → (body : List ℕ) (ms : List Member) (rest : List ℕ) → IsJoined (IsMember mode Value) body ms → HaveDistinctKeys ms
-      → object_at size mode read (body ++ 125 ∷ rest) ≡ Ok (object (put_all ms no_members), rest)
+      → (s : Source) × (tree_of_source s ≡ object (put_all ms no_members)) × (object_at size mode read (body ++ 125 ∷ rest) ≡ Ok (s, rest))
   object_complete size complete body ms rest j keys =
       let bytes : List ℕ = body ++ 125 ∷ rest in
       let enough : length ms ≤ suc (length bytes) = omega (arith, length-joined j, length-append body (125 ∷ rest)) in
       let c = joined_complete member_of size expected_object_comma_or_end 125 (IsMember mode Value) (member_at size mode read) (members_complete size complete) j (suc (length bytes)) rest enough in
-      let spots_distinct : AreDistinct (map (λ s. s.key) (map spot_of c.0)) = subst AreDistinct (sym (same_keys c.0)) (subst HaveDistinctKeys (sym c.1) keys) in
-      on_byte-none 125 (skip_blanks mode bytes) (λ (r : List ℕ). Ok (object no_members, r)) (members_at size mode read bytes) (members_begin j (125 ∷ rest))
-      ∙ ap (λ (r : Read (List Found)). r >>= λ (x : List Found × List ℕ). object_or_fault (first_repeat (map spot_of x.0)) x.0 x.1)
-      (joined-skip size expected_object_comma_or_end 125 IsFound (member_at size mode read) mode (member_skip size) (suc (length bytes)) bytes ∙ c.2)
-      ∙ ap (λ (o : Option Spot). object_or_fault o c.0 rest) (no_repeat (map spot_of c.0) spots_distinct)
-      ∙ ap (λ (ns : List Member). Ok (object (put_all ns no_members), rest)) c.1
+      let found_distinct : HaveDistinctKeys (map member_of c.0) = subst HaveDistinctKeys (sym c.1) keys in
+      let spots_distinct : AreDistinct (map (λ s. s.key) (map spot_of c.0)) = subst AreDistinct (sym (same_keys c.0)) found_distinct in (
+        object_source_of c.0,
+        object_tree c.0 found_distinct ∙ ap (λ (ns : List Member). object (put_all ns no_members)) c.1,
+        on_byte-none 125 (skip_blanks mode bytes) (λ (r : List ℕ). Ok (object_source no_source_members, r)) (members_at size mode read bytes) (members_begin j (125 ∷ rest))
+            ∙ ap (λ (r : Read (List Found)). r >>= λ (x : List Found × List ℕ). object_or_fault (first_repeat (map spot_of x.0)) x.0 x.1)
+            (joined-skip size expected_object_comma_or_end 125 IsFound (member_at size mode read) mode (member_skip size) (suc (length bytes)) bytes ∙ c.2)
+            ∙ ap (λ (o : Option Spot). object_or_fault o c.0 rest) (no_repeat (map spot_of c.0) spots_distinct),
+      )
 
-  empty_object_complete : (size : ℕ) {before : List ℕ} (b : IsBlanks mode before) (rest : List ℕ) → object_at size mode read (before ++ 125 ∷ rest) ≡ Ok (object no_members, rest)
+  empty_object_complete : (size : ℕ) {before : List ℕ} (b : IsBlanks mode before) (rest : List ℕ) → object_at size mode read (before ++ 125 ∷ rest) ≡ Ok (object_source no_source_members, rest)
   empty_object_complete size {before} b rest =
-      ap (λ (u : List ℕ). on_byte 125 u (λ (r : List ℕ). Ok (object no_members, r)) (members_at size mode read (before ++ 125 ∷ rest))) (skip-blanks b (125 ∷ rest) ∙ skip-stop mode 125 rest refl)
+      ap (λ (u : List ℕ). on_byte 125 u (λ (r : List ℕ). Ok (object_source no_source_members, r)) (members_at size mode read (before ++ 125 ∷ rest))) (skip-blanks b (125 ∷ rest) ∙ skip-stop mode 125 rest refl)
 
   -- ---- values
 
-  pub containers_sound : (size : ℕ) → IsSound Value read → IsSound (IsValue mode Value) (value_with size mode (array_at size mode read) (object_at size mode read))
+  pub containers_sound : (size : ℕ) → IsSound (Seen Value) read → IsSound (Seen (IsValue mode Value)) (value_with size mode (array_at size mode read) (object_at size mode read))
   containers_sound size sound bytes t rest e =
-      elim (on_byte_cases 91 bytes (array_at size mode read) (on_byte 123 bytes (object_at size mode read) (scalar_at size mode bytes)) (Ok (t, rest)) e) [
-        | inl h ↦ subst (λ (u : List ℕ). Spelled (IsValue mode Value) u t rest) (sym h.1) (array_sound size sound h.0 t rest h.2)
-        | inr h ↦ elim (on_byte_cases 123 bytes (object_at size mode read) (scalar_at size mode bytes) (Ok (t, rest)) h.1) [
-          | inl k ↦ subst (λ (u : List ℕ). Spelled (IsValue mode Value) u t rest) (sym k.1) (object_sound size sound k.0 t rest k.2)
-          | inr k ↦ let s = scalar_sound size mode bytes t rest k.1 in record { core = s.core; spells = scalar s.spells; whole = s.whole }
+      elim (on_byte_cases 91 bytes (array_at size mode read) (on_byte 123 bytes (object_at size mode read) (alone_at (scalar_at size mode bytes))) (Ok (t, rest)) e) [
+        | inl h ↦ subst (λ (u : List ℕ). Spelled (Seen (IsValue mode Value)) u t rest) (sym h.1) (array_sound size sound h.0 t rest h.2)
+        | inr h ↦ elim (on_byte_cases 123 bytes (object_at size mode read) (alone_at (scalar_at size mode bytes)) (Ok (t, rest)) h.1) [
+          | inl k ↦ subst (λ (u : List ℕ). Spelled (Seen (IsValue mode Value)) u t rest) (sym k.1) (object_sound size sound k.0 t rest k.2)
+          | inr k ↦ let s = alone_sound size mode bytes t rest k.1 in record { core = s.core; spells = scalar s.spells; whole = s.whole }
         ]
       ]
 
@@ -334,29 +360,31 @@ module _ (mode : Mode) (Value : List ℕ → Tree → Type 0) (read : List ℕ �
   value_starts core t (full_object {body = body} j d) = record { first = 123; others = body ++ 125 ∷ []; whole = refl; is_start = refl }
 
   value_reads : (size : ℕ) → IsValueComplete Value read → (core : List ℕ) (t : Tree) (rest : List ℕ) → IsValue mode Value core t → (IsNumberTree t → Follows rest)
-      → value_with size mode (array_at size mode read) (object_at size mode read) (core ++ rest) ≡ Ok (t, rest)
+      → (s : Source) × (tree_of_source s ≡ t) × (value_with size mode (array_at size mode read) (object_at size mode read) (core ++ rest) ≡ Ok (s, rest))
   value_reads size complete core t rest (scalar s) f = scalar_reads size mode (array_at size mode read) (object_at size mode read) core t rest s f
-  value_reads size complete core t rest (empty_array {blanks = bs} b) f = ap (λ (u : List ℕ). array_at size mode read u) (append_assoc bs (93 ∷ []) rest) ∙ empty_array_complete size b rest
-  value_reads size complete core t rest (full_array {body = body} {ts = ts} j n) f = ap (λ (u : List ℕ). array_at size mode read u) (append_assoc body (93 ∷ []) rest) ∙ array_complete size complete body ts rest j n
-  value_reads size complete core t rest (empty_object {blanks = bs} b) f = ap (λ (u : List ℕ). object_at size mode read u) (append_assoc bs (125 ∷ []) rest) ∙ empty_object_complete size b rest
-  value_reads size complete core t rest (full_object {body = body} {ms = ms} j d) f = ap (λ (u : List ℕ). object_at size mode read u) (append_assoc body (125 ∷ []) rest) ∙ object_complete size complete body ms rest j d
+  value_reads size complete core t rest (empty_array {blanks = bs} b) f = (array_source no_sources, refl, ap (λ (u : List ℕ). array_at size mode read u) (append_assoc bs (93 ∷ []) rest) ∙ empty_array_complete size b rest)
+  value_reads size complete core t rest (full_array {body = body} {ts = ts} j n) f =
+      let r = array_complete size complete body ts rest j n in (r.0, r.1, ap (λ (u : List ℕ). array_at size mode read u) (append_assoc body (93 ∷ []) rest) ∙ r.2)
+  value_reads size complete core t rest (empty_object {blanks = bs} b) f = (object_source no_source_members, refl, ap (λ (u : List ℕ). object_at size mode read u) (append_assoc bs (125 ∷ []) rest) ∙ empty_object_complete size b rest)
+  value_reads size complete core t rest (full_object {body = body} {ms = ms} j d) f =
+      let r = object_complete size complete body ms rest j d in (r.0, r.1, ap (λ (u : List ℕ). object_at size mode read u) (append_assoc body (125 ∷ []) rest) ∙ r.2)
 
   pub containers_complete : (size : ℕ) → IsValueComplete Value read → IsValueComplete (IsValue mode Value) (value_with size mode (array_at size mode read) (object_at size mode read))
   containers_complete size complete = record { starts = value_starts; reads = value_reads size complete }
 
 -- ---- values of any depth
 
-too_deep_sound : (size : ℕ) (mode : Mode) → IsSound (IsScalar mode) (value_with size mode (too_deep size) (too_deep size))
+too_deep_sound : (size : ℕ) (mode : Mode) → IsSound (Seen (IsScalar mode)) (value_with size mode (too_deep size) (too_deep size))
 too_deep_sound size mode bytes t rest e =
-    elim (on_byte_cases 91 bytes (too_deep size) (on_byte 123 bytes (too_deep size) (scalar_at size mode bytes)) (Ok (t, rest)) e) [
+    elim (on_byte_cases 91 bytes (too_deep size) (on_byte 123 bytes (too_deep size) (alone_at (scalar_at size mode bytes))) (Ok (t, rest)) e) [
       | inl h ↦ absurd (let never : too_deep size h.0 ≡ Ok (t, rest) = h.2 in cc)
-      | inr h ↦ elim (on_byte_cases 123 bytes (too_deep size) (scalar_at size mode bytes) (Ok (t, rest)) h.1) [
+      | inr h ↦ elim (on_byte_cases 123 bytes (too_deep size) (alone_at (scalar_at size mode bytes)) (Ok (t, rest)) h.1) [
         | inl k ↦ absurd (let never : too_deep size k.0 ≡ Ok (t, rest) = k.2 in cc)
-        | inr k ↦ scalar_sound size mode bytes t rest k.1
+        | inr k ↦ alone_sound size mode bytes t rest k.1
       ]
     ]
 
-pub value_sound : (size : ℕ) (mode : Mode) (depth : ℕ) → IsSound (Derives mode depth) (value_at size mode depth)
+pub value_sound : (size : ℕ) (mode : Mode) (depth : ℕ) → IsSound (Seen (Derives mode depth)) (value_at size mode depth)
 unfolding value_at
 value_sound size mode zero = too_deep_sound size mode
 value_sound size mode (suc depth) = containers_sound mode (Derives mode depth) (value_at size mode depth) size (value_sound size mode depth)
@@ -382,7 +410,7 @@ opens_is extended b rest e =
     ]
 
 -- a comment that ends a text is a line
-pub comment_ends : (mode : Mode) (size : ℕ) (bytes : List ℕ) (b : ℕ) (rest : List ℕ) (t u : Tree) → skip_closed_blanks mode bytes ≡ b ∷ rest → opens_comment mode (b ∷ rest) ≡ true → comment_at size t rest ≡ Ok u → (mode ≡ extended) × AreLastBlanks mode bytes × (t ≡ u)
+pub comment_ends : (mode : Mode) (size : ℕ) (bytes : List ℕ) (b : ℕ) (rest : List ℕ) (t u : Source) → skip_closed_blanks mode bytes ≡ b ∷ rest → opens_comment mode (b ∷ rest) ≡ true → comment_at size t rest ≡ Ok u → (mode ≡ extended) × AreLastBlanks mode bytes × (t ≡ u)
 comment_ends mode size bytes b rest t u passed opens e =
     let is = opens_is mode b rest opens in
     elim (chosen (begins 47 rest) (Ok t) (fault invalid_eof size) (Ok u) e) [
@@ -390,37 +418,43 @@ comment_ends mode size bytes b rest t u passed opens e =
           let line = begins_found rest h.0 in
           let left : skip_closed_blanks mode bytes ≡ 47 ∷ 47 ∷ line.0 = passed ∙ ap (λ (c : ℕ). c ∷ rest) is.1 ∙ ap (λ (v : List ℕ). 47 ∷ v) line.1 in
           (is.0, ends_line mode bytes line.0 is.0 left, same_ok t u h.1)
-      | inr h ↦ absurd (let never : ◌≡◌ {A = Result Tree Fault} (fault invalid_eof size) (Ok u) = h.1 in cc)
+      | inr h ↦ absurd (let never : ◌≡◌ {A = Result Source Fault} (fault invalid_eof size) (Ok u) = h.1 in cc)
     ]
 
-pub ended : (size : ℕ) (mode : Mode) (t : Tree) (bytes rest : List ℕ) (u : Tree) → skip_closed_blanks mode bytes ≡ rest → at_end size mode t rest ≡ Ok u → AreLastBlanks mode bytes × (t ≡ u)
+pub ended : (size : ℕ) (mode : Mode) (t : Source) (bytes rest : List ℕ) (u : Source) → skip_closed_blanks mode bytes ≡ rest → at_end size mode t rest ≡ Ok u → AreLastBlanks mode bytes × (t ≡ u)
 ended size mode t bytes [] u passed e = (ends_all mode bytes passed, same_ok t u e)
 ended size mode t bytes (b ∷ rest) u passed e =
     elim (chosen (opens_comment mode (b ∷ rest)) (comment_at size t rest) (fault unexpected_trailing_characters (size - length (b ∷ rest) + 1)) (Ok u) e) [
       | inl h ↦ let c = comment_ends mode size bytes b rest t u passed h.0 h.1 in (c.1, c.2)
-      | inr h ↦ absurd (let never : ◌≡◌ {A = Result Tree Fault} (fault unexpected_trailing_characters (size - length (b ∷ rest) + 1)) (Ok u) = h.1 in cc)
+      | inr h ↦ absurd (let never : ◌≡◌ {A = Result Source Fault} (fault unexpected_trailing_characters (size - length (b ∷ rest) + 1)) (Ok u) = h.1 in cc)
     ]
 
-nothing_read : (mode : Mode) (bytes : List ℕ) (t : Tree) (size : ℕ) → AreLastBlanks mode bytes → nothing_at size mode ≡ Ok t → IsDocument mode bytes t
-nothing_read standard bytes t size b e = absurd cc
-nothing_read extended bytes t size b e = subst (λ (u : Tree). IsDocument extended bytes u) (same_ok null t e) (blanks_alone refl b)
+nothing_read : (mode : Mode) (bytes : List ℕ) (s : Source) (size : ℕ) → AreLastBlanks mode bytes → nothing_at size mode ≡ Ok s → Seen (IsDocument mode) bytes s
+nothing_read standard bytes s size b e = absurd cc
+nothing_read extended bytes s size b e = subst (λ (u : Source). Seen (IsDocument extended) bytes u) (same_ok null_source s e) (blanks_alone refl b)
 
-pub document_sound : (mode : Mode) (bytes : List ℕ) (t : Tree) → document_of mode bytes ≡ Ok t → IsDocument mode bytes t
-unfolding document_of
-document_sound mode bytes t e = go (skip_closed_blanks mode bytes) refl e
+source_sound : (mode : Mode) (bytes : List ℕ) (s : Source) → source_of mode bytes ≡ Ok s → Seen (IsDocument mode) bytes s
+unfolding source_of
+source_sound mode bytes t e = go (skip_closed_blanks mode bytes) refl e
   where
-    value_read : (b : ℕ) (rest : List ℕ) → Passes mode bytes (b ∷ rest) → value_to_end (length bytes) mode (b ∷ rest) ≡ Ok t → IsDocument mode bytes t
+    value_read : (b : ℕ) (rest : List ℕ) → Passes mode bytes (b ∷ rest) → value_to_end (length bytes) mode (b ∷ rest) ≡ Ok t → Seen (IsDocument mode) bytes t
     value_read b rest front e =
-        let r = bind_ok (value_at (length bytes) mode max_depth (b ∷ rest)) (λ (x : Tree × List ℕ). at_end (length bytes) mode x.0 (skip_closed_blanks mode x.1)) t e in
+        let r = bind_ok (value_at (length bytes) mode max_depth (b ∷ rest)) (λ (x : Source × List ℕ). at_end (length bytes) mode x.0 (skip_closed_blanks mode x.1)) t e in
         let s = value_sound (length bytes) mode max_depth (b ∷ rest) r.0.0 r.0.1 r.1 in
         let end = ended (length bytes) mode r.0.0 r.0.1 (skip_closed_blanks mode r.0.1) t refl r.2 in
         let regrouped : front.blanks ++ (s.core ++ r.0.1) ≡ bytes = sym (front.whole ∙ ap (λ (u : List ℕ). front.blanks ++ u) s.whole) in
-        subst₂ (λ (u : List ℕ) (v : Tree). IsDocument mode u v) regrouped end.1 (value_alone front.are_blanks s.spells end.0)
+        subst₂ (λ (u : List ℕ) (v : Source). Seen (IsDocument mode) u v) regrouped end.1 (value_alone front.are_blanks s.spells end.0)
 
-    go : (rest : List ℕ) → skip_closed_blanks mode bytes ≡ rest → document_from (length bytes) mode rest ≡ Ok t → IsDocument mode bytes t
+    go : (rest : List ℕ) → skip_closed_blanks mode bytes ≡ rest → source_from (length bytes) mode rest ≡ Ok t → Seen (IsDocument mode) bytes t
     go [] passed e = nothing_read mode bytes t (length bytes) (ends_all mode bytes passed) e
     go (b ∷ rest) passed e =
-        elim (chosen (opens_comment mode (b ∷ rest)) (comment_at (length bytes) null rest) (value_to_end (length bytes) mode (b ∷ rest)) (Ok t) e) [
-          | inl h ↦ let c = comment_ends mode (length bytes) bytes b rest null t passed h.0 h.1 in subst (λ (u : Tree). IsDocument mode bytes u) c.2 (blanks_alone c.0 c.1)
+        elim (chosen (opens_comment mode (b ∷ rest)) (comment_at (length bytes) null_source rest) (value_to_end (length bytes) mode (b ∷ rest)) (Ok t) e) [
+          | inl h ↦ let c = comment_ends mode (length bytes) bytes b rest null_source t passed h.0 h.1 in subst (λ (u : Source). Seen (IsDocument mode) bytes u) c.2 (blanks_alone c.0 c.1)
           | inr h ↦ value_read b rest (subst (λ (u : List ℕ). Passes mode bytes u) passed (passes mode bytes)) h.1
         ]
+
+pub document_sound : (mode : Mode) (bytes : List ℕ) (t : Tree) → document_of mode bytes ≡ Ok t → IsDocument mode bytes t
+unfolding document_of
+document_sound mode bytes t e =
+    let b = bind_ok (source_of mode bytes) (λ (s : Source). Ok (tree_of_source s)) t e in
+    subst (λ (u : Tree). IsDocument mode bytes u) (same_ok (tree_of_source b.0) t b.2) (source_sound mode bytes b.0 b.1)

@@ -11,14 +11,18 @@ use Rattle.jsonb_value.specs.Code.Code.{invalid_eof, unexpected_trailing_charact
 use Rattle.jsonb_value.specs.Grammar.{IsDocument, max_depth, IsNoDocument}
 use Rattle.jsonb_value.specs.Mode.{Mode}
 use Rattle.jsonb_value.specs.Tree.{Tree}
-use Rattle.jsonb_value.specs.Tree.Tree.{null}
 use Rattle.jsonb.specs.AstView.{ast_view}
 use Rattle.jsonb_scan.specs.Answer.{Gives, IsTextRefusal, mode_of}
 use Rattle.jsonb.specs.Parser.{Advances, rest_of, size_of}
+use Rattle.jsonb_scan.specs.Source.{Source, null_source, tree_of_source}
 use Rattle.jsonb_scan.specs.Reading.{Fault, fault, ◌>>=◌}
 use Rattle.jsonb_scan.specs.Reading.Blank.{opens_comment, skip_closed_blanks}
-use Rattle.jsonb_scan.specs.Reading.Document.{at_end, comment_at, document_from, document_of, value_at, value_to_end}
+use Rattle.jsonb_scan.specs.Reading.Document.{at_end, comment_at, document_of, source_from, source_of, value_at, value_to_end}
 use Rattle.jsonb.specs.Refusals.{IsExplained}
+use Rattle.jsonb.specs.Placed.{IsPlaced}
+use Rattle.jsonb.specs.Source.{source_view}
+use Rattle.jsonb.proofs.Places.Placed.{source_placed}
+use Rattle.jsonb.proofs.Places.Views.{tree_of_view}
 use Rattle.jsonb.proofs.Steps.Cursors.{nothing_left}
 use Rattle.jsonb.proofs.Documents.Spellings.{document_unique, refused_is_none}
 use Rattle.jsonb.proofs.Steps.Outcomes.{same_size}
@@ -26,68 +30,68 @@ use Rattle.jsonb.proofs.Refusals.OfTexts.{document_stands}
 use Rattle.jsonb.proofs.Containers.Values.{document_sound}
 
 -- the end of a document
-abbrev pub ended : ℕ → Mode → Tree × List ℕ → Result Tree Fault
+abbrev pub ended : ℕ → Mode → Source × List ℕ → Result Source Fault
 ended size mode x = at_end size mode x.0 (skip_closed_blanks mode x.1)
 
-from_some : (size : ℕ) (mode : Mode) (r : List ℕ) → 0 < length r → opens_comment mode r ≡ false → document_from size mode r ≡ value_to_end size mode r
+from_some : (size : ℕ) (mode : Mode) (r : List ℕ) → 0 < length r → opens_comment mode r ≡ false → source_from size mode r ≡ value_to_end size mode r
 from_some size mode [] h e = absurd (omega arith)
-from_some size mode (b ∷ r) h e = cond-false (opens_comment mode (b ∷ r)) (comment_at size null r) (value_to_end size mode (b ∷ r)) e
+from_some size mode (b ∷ r) h e = cond-false (opens_comment mode (b ∷ r)) (comment_at size null_source r) (value_to_end size mode (b ∷ r)) e
 
-from_comment : (size : ℕ) (mode : Mode) (r : List ℕ) → 0 < length r → opens_comment mode r ≡ true → document_from size mode r ≡ comment_at size null (drop 1 r)
+from_comment : (size : ℕ) (mode : Mode) (r : List ℕ) → 0 < length r → opens_comment mode r ≡ true → source_from size mode r ≡ comment_at size null_source (drop 1 r)
 from_comment size mode [] h e = absurd (omega arith)
-from_comment size mode (b ∷ r) h e = cond-true (opens_comment mode (b ∷ r)) (comment_at size null r) (value_to_end size mode (b ∷ r)) e
+from_comment size mode (b ∷ r) h e = cond-true (opens_comment mode (b ∷ r)) (comment_at size null_source r) (value_to_end size mode (b ∷ r)) e
 
 -- what is left after the blanks, in the same input
 document_same : (p q : Parser) → rest_of q ≡ skip_closed_blanks (mode_of p.mode) (rest_of p) → Advances p q
-    → document_from (size_of p) (mode_of p.mode) (skip_closed_blanks (mode_of p.mode) (rest_of p)) ≡ document_from (size_of q) (mode_of q.mode) (rest_of q)
+    → source_from (size_of p) (mode_of p.mode) (skip_closed_blanks (mode_of p.mode) (rest_of p)) ≡ source_from (size_of q) (mode_of q.mode) (rest_of q)
 document_same p q e a =
-    ap (λ (r : List ℕ). document_from (size_of p) (mode_of p.mode) r) (sym e)
-    ∙ ap (λ (n : ℕ). document_from n (mode_of p.mode) (rest_of q)) (sym (same_size p q a)) ∙ ap (λ (m : Mode). document_from (size_of q) m (rest_of q)) (sym (ap mode_of a.mode))
+    ap (λ (r : List ℕ). source_from (size_of p) (mode_of p.mode) r) (sym e)
+    ∙ ap (λ (n : ℕ). source_from n (mode_of p.mode) (rest_of q)) (sym (same_size p q a)) ∙ ap (λ (m : Mode). source_from (size_of q) m (rest_of q)) (sym (ap mode_of a.mode))
 
 -- a text with more than blanks
 pub document_some : (p q : Parser) → rest_of q ≡ skip_closed_blanks (mode_of p.mode) (rest_of p) → Advances p q → q.idx < size_of q → opens_comment (mode_of q.mode) (rest_of q) ≡ false
-    → document_from (size_of p) (mode_of p.mode) (skip_closed_blanks (mode_of p.mode) (rest_of p)) ≡ (value_at (size_of q) (mode_of q.mode) max_depth (rest_of q) >>= ended (size_of q) (mode_of q.mode))
+    → source_from (size_of p) (mode_of p.mode) (skip_closed_blanks (mode_of p.mode) (rest_of p)) ≡ (value_at (size_of q) (mode_of q.mode) max_depth (rest_of q) >>= ended (size_of q) (mode_of q.mode))
 document_some p q e a within closed = document_same p q e a ∙ from_some (size_of q) (mode_of q.mode) (rest_of q) (omega (arith, length-drop q.idx q.buf.now)) closed
 
 -- a text of blanks and a comment without its end
 pub document_comment : (p q : Parser) → rest_of q ≡ skip_closed_blanks (mode_of p.mode) (rest_of p) → Advances p q → q.idx < size_of q → opens_comment (mode_of q.mode) (rest_of q) ≡ true
-    → document_from (size_of p) (mode_of p.mode) (skip_closed_blanks (mode_of p.mode) (rest_of p)) ≡ comment_at (size_of q) null (drop 1 (rest_of q))
+    → source_from (size_of p) (mode_of p.mode) (skip_closed_blanks (mode_of p.mode) (rest_of p)) ≡ comment_at (size_of q) null_source (drop 1 (rest_of q))
 document_comment p q e a within opens = document_same p q e a ∙ from_comment (size_of q) (mode_of q.mode) (rest_of q) (omega (arith, length-drop q.idx q.buf.now)) opens
 
 -- ---- after the value
 
 -- what is left after the blanks, in the same input
-ending_same : (p q : Parser) (t : Tree) → rest_of q ≡ skip_closed_blanks (mode_of p.mode) (rest_of p) → Advances p q
+ending_same : (p q : Parser) (t : Source) → rest_of q ≡ skip_closed_blanks (mode_of p.mode) (rest_of p) → Advances p q
     → at_end (size_of p) (mode_of p.mode) t (skip_closed_blanks (mode_of p.mode) (rest_of p)) ≡ at_end (size_of q) (mode_of q.mode) t (rest_of q)
 ending_same p q t e a =
     ap (λ (r : List ℕ). at_end (size_of p) (mode_of p.mode) t r) (sym e)
     ∙ ap (λ (n : ℕ). at_end n (mode_of p.mode) t (rest_of q)) (sym (same_size p q a)) ∙ ap (λ (m : Mode). at_end (size_of q) m t (rest_of q)) (sym (ap mode_of a.mode))
 
-past_end : (size : ℕ) (mode : Mode) (t : Tree) (r : List ℕ) (i : ℕ) → length r + i ≡ size → 0 < length r → opens_comment mode r ≡ false → at_end size mode t r ≡ Err (record { code = unexpected_trailing_characters; place = i + 1 })
+past_end : (size : ℕ) (mode : Mode) (t : Source) (r : List ℕ) (i : ℕ) → length r + i ≡ size → 0 < length r → opens_comment mode r ≡ false → at_end size mode t r ≡ Err (record { code = unexpected_trailing_characters; place = i + 1 })
 past_end size mode t [] i e h closed = absurd (omega arith)
 past_end size mode t (b ∷ r) i e h closed =
     cond-false (opens_comment mode (b ∷ r)) (comment_at size t r) (fault unexpected_trailing_characters (size - length (b ∷ r) + 1)) closed
     ∙ ap (λ (k : ℕ). Err (record { code = unexpected_trailing_characters; place = k })) (let same : size - length (b ∷ r) + 1 ≡ i + 1 = omega (arith, e) in same)
 
-comment_end : (size : ℕ) (mode : Mode) (t : Tree) (r : List ℕ) → 0 < length r → opens_comment mode r ≡ true → at_end size mode t r ≡ comment_at size t (drop 1 r)
+comment_end : (size : ℕ) (mode : Mode) (t : Source) (r : List ℕ) → 0 < length r → opens_comment mode r ≡ true → at_end size mode t r ≡ comment_at size t (drop 1 r)
 comment_end size mode t [] h opens = absurd (omega arith)
 comment_end size mode t (b ∷ r) h opens = cond-true (opens_comment mode (b ∷ r)) (comment_at size t r) (fault unexpected_trailing_characters (size - length (b ∷ r) + 1)) opens
 
-pub ends_trailing : (p q : Parser) (t : Tree) → rest_of q ≡ skip_closed_blanks (mode_of p.mode) (rest_of p) → Advances p q → q.idx < size_of q → opens_comment (mode_of q.mode) (rest_of q) ≡ false
+pub ends_trailing : (p q : Parser) (t : Source) → rest_of q ≡ skip_closed_blanks (mode_of p.mode) (rest_of p) → Advances p q → q.idx < size_of q → opens_comment (mode_of q.mode) (rest_of q) ≡ false
     → at_end (size_of p) (mode_of p.mode) t (skip_closed_blanks (mode_of p.mode) (rest_of p)) ≡ Err (record { code = unexpected_trailing_characters; place = q.idx + 1 })
 ends_trailing p q t e a within closed =
     ending_same p q t e a ∙ past_end (size_of q) (mode_of q.mode) t (rest_of q) q.idx (omega (arith, length-drop q.idx q.buf.now)) (omega (arith, length-drop q.idx q.buf.now)) closed
 
-pub ends_comment : (p q : Parser) (t : Tree) → rest_of q ≡ skip_closed_blanks (mode_of p.mode) (rest_of p) → Advances p q → q.idx < size_of q → opens_comment (mode_of q.mode) (rest_of q) ≡ true
+pub ends_comment : (p q : Parser) (t : Source) → rest_of q ≡ skip_closed_blanks (mode_of p.mode) (rest_of p) → Advances p q → q.idx < size_of q → opens_comment (mode_of q.mode) (rest_of q) ≡ true
     → at_end (size_of p) (mode_of p.mode) t (skip_closed_blanks (mode_of p.mode) (rest_of p)) ≡ comment_at (size_of q) t (drop 1 (rest_of q))
 ends_comment p q t e a within opens = ending_same p q t e a ∙ comment_end (size_of q) (mode_of q.mode) t (rest_of q) (omega (arith, length-drop q.idx q.buf.now)) opens
 
-pub ends_well : (p q : Parser) (t : Tree) → rest_of q ≡ skip_closed_blanks (mode_of p.mode) (rest_of p) → Advances p q → size_of q ≤ q.idx
+pub ends_well : (p q : Parser) (t : Source) → rest_of q ≡ skip_closed_blanks (mode_of p.mode) (rest_of p) → Advances p q → size_of q ≤ q.idx
     → at_end (size_of p) (mode_of p.mode) t (skip_closed_blanks (mode_of p.mode) (rest_of p)) ≡ Ok t
 ends_well p q t e a past = ending_same p q t e a ∙ ap (at_end (size_of q) (mode_of q.mode) t) (nothing_left q.buf.now q.idx past)
 
 -- the end of the text is that of the same input further on
-pub ended_same : (q m : Parser) (t : Tree) → Advances q m → ended (size_of q) (mode_of q.mode) (t, rest_of m) ≡ at_end (size_of m) (mode_of m.mode) t (skip_closed_blanks (mode_of m.mode) (rest_of m))
+pub ended_same : (q m : Parser) (t : Source) → Advances q m → ended (size_of q) (mode_of q.mode) (t, rest_of m) ≡ at_end (size_of m) (mode_of m.mode) t (skip_closed_blanks (mode_of m.mode) (rest_of m))
 ended_same q m t a =
     sym (ap (λ (n : ℕ). at_end n (mode_of m.mode) t (skip_closed_blanks (mode_of m.mode) (rest_of m))) (same_size q m a) ∙ ap (λ (k : Mode). at_end (size_of q) k t (skip_closed_blanks k (rest_of m))) (ap mode_of a.mode))
 
@@ -96,17 +100,30 @@ ended_same q m t a =
 after-next : (buf : List ℕ) (i : ℕ) → drop 1 (drop i buf) ≡ drop (i + 1) buf
 after-next buf i = drop-drop 1 i buf
 
-pub comment_closed : (buf : List ℕ) (i : ℕ) (t : Tree) → i + 1 < length buf → get_or buf (i + 1) 0 ≡ 47 → comment_at (length buf) t (drop 1 (drop i buf)) ≡ Ok t
+pub comment_closed : (buf : List ℕ) (i : ℕ) (t : Source) → i + 1 < length buf → get_or buf (i + 1) 0 ≡ 47 → comment_at (length buf) t (drop 1 (drop i buf)) ≡ Ok t
 comment_closed buf i t within slash =
     ap (comment_at (length buf) t) (after-next buf i ∙ drop_more buf (i + 1) 0 within ∙ ap (λ (b : ℕ). b ∷ drop (i + 1 + 1) buf) slash)
 
-pub comment_open : (buf : List ℕ) (i : ℕ) (t : Tree) → (length buf ≤ i + 1) ⊎ ((i + 1 < length buf) × (get_or buf (i + 1) 0 ≢ 47)) → comment_at (length buf) t (drop 1 (drop i buf)) ≡ Err (record { code = invalid_eof; place = length buf })
+pub comment_open : (buf : List ℕ) (i : ℕ) (t : Source) → (length buf ≤ i + 1) ⊎ ((i + 1 < length buf) × (get_or buf (i + 1) 0 ≢ 47)) → comment_at (length buf) t (drop 1 (drop i buf)) ≡ Err (record { code = invalid_eof; place = length buf })
 comment_open buf i t (inl past) = ap (comment_at (length buf) t) (after-next buf i ∙ nothing_left buf (i + 1) past)
 comment_open buf i t (inr (within, other)) =
     ap (comment_at (length buf) t) (after-next buf i ∙ drop_more buf (i + 1) 0 within)
     ∙ ap (λ (b : Bool). cond (cond b true false) (Ok t) (fault invalid_eof (length buf))) (ne_eqb (get_or buf (i + 1) 0) 47 other)
 
 -- ---- what an answer says
+
+-- the tree of the source that is given
+pub gives_tree : (mode : Mode) (bytes : List ℕ) (r : Result JsonAst Error) → Gives source_view r (source_of mode bytes) → Gives ast_view r (document_of mode bytes)
+unfolding document_of
+gives_tree mode bytes (Ok v) g = ap (λ q. q >>= λ s. Ok (tree_of_source s)) g ∙ ap (λ t. Ok t) (tree_of_view v)
+gives_tree mode bytes (Err (Syntax code place)) g = ap (λ q. q >>= λ s. Ok (tree_of_source s)) g
+gives_tree mode bytes (Err OutOfMemory) g = tt
+gives_tree mode bytes (Err other) g = absurd g
+
+-- each value stands where it was read
+pub gives_source : (mode : Mode) (bytes : List ℕ) (r : Result JsonAst Error) → Gives source_view r (source_of mode bytes) → IfOk r (λ v. IsPlaced mode bytes (source_view v))
+gives_source mode bytes (Ok v) g = source_placed mode bytes (source_view v) g
+gives_source mode bytes (Err e) g = tt
 
 pub gives_document : (mode : Mode) (bytes : List ℕ) (r : Result JsonAst Error) → Gives ast_view r (document_of mode bytes) → IfOk r (λ v. IsDocument mode bytes (ast_view v))
 gives_document mode bytes (Ok v) g = document_sound mode bytes (ast_view v) g

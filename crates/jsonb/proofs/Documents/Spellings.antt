@@ -15,10 +15,10 @@ use Rattle.jsonb_value.specs.Code.Code.{unexpected_trailing_characters}
 use Rattle.jsonb_value.specs.Mode.{Mode}
 use Rattle.jsonb_value.specs.Mode.Mode.{extended}
 use Rattle.jsonb_value.specs.Tree.{Member, Tree}
-use Rattle.jsonb_value.specs.Tree.Tree.{null}
+use Rattle.jsonb_scan.specs.Source.{Source, null_source, tree_of_source}
 use Rattle.jsonb_scan.specs.Reading.{Fault, Read, fault, ◌>>=◌}
 use Rattle.jsonb_scan.specs.Reading.Blank.{is_blank_start, opens_comment, skip_closed_blanks}
-use Rattle.jsonb_scan.specs.Reading.Document.{at_end, comment_at, document_from, document_of, nothing_at, value_at, value_to_end}
+use Rattle.jsonb_scan.specs.Reading.Document.{at_end, comment_at, document_of, nothing_at, source_from, source_of, value_at, value_to_end}
 use Rattle.jsonb_scan.proofs.Steps.Tests.{same_ok, same_read}
 use Rattle.jsonb_scan.proofs.Containers.JoinedParts.{Ends, ends-blank, ends_at, other}
 use Rattle.jsonb.proofs.Scalars.Spellings.{Follows, IsNumberTree}
@@ -33,10 +33,10 @@ follows-blanks (line_to_end inside is no_blanks one) = before (ends_at 47 (47 �
 follows-blanks (line_to_end inside is (more_blanks {blank = blank} {rest = others} b bs) one) = before (subst Ends (sym (append_assoc blank others (47 ∷ 47 ∷ inside))) (ends-blank b (others ++ 47 ∷ 47 ∷ inside)))
 
 -- a line comment that ends a text
-comment_line : (size : ℕ) (mode : Mode) (t : Tree) (line : List ℕ) → opens_comment mode (47 ∷ 47 ∷ line) ≡ true → at_end size mode t (47 ∷ 47 ∷ line) ≡ Ok t
+comment_line : (size : ℕ) (mode : Mode) (t : Source) (line : List ℕ) → opens_comment mode (47 ∷ 47 ∷ line) ≡ true → at_end size mode t (47 ∷ 47 ∷ line) ≡ Ok t
 comment_line size mode t line opens = cond-true (opens_comment mode (47 ∷ 47 ∷ line)) (comment_at size t (47 ∷ line)) (fault unexpected_trailing_characters (size - length (47 ∷ 47 ∷ line) + 1)) opens
 
-end_read : (size : ℕ) (mode : Mode) (t : Tree) {after : List ℕ} (b : AreLastBlanks mode after) → at_end size mode t (skip_closed_blanks mode after) ≡ Ok t
+end_read : (size : ℕ) (mode : Mode) (t : Source) {after : List ℕ} (b : AreLastBlanks mode after) → at_end size mode t (skip_closed_blanks mode after) ≡ Ok t
 end_read size mode t {after} b = by_end (ends_passed b)
   where
     by_end : EndsPassed mode after → at_end size mode t (skip_closed_blanks mode after) ≡ Ok t
@@ -44,32 +44,44 @@ end_read size mode t {after} b = by_end (ends_passed b)
     by_end (line_left line opens e) = ap (at_end size mode t) e ∙ comment_line size mode t line opens
 
 -- a text with a value
-value_document : (mode : Mode) (size : ℕ) {front after : List ℕ} (core : List ℕ) (t : Tree) → IsBlanks mode front → Derives mode max_depth core t → AreLastBlanks mode after → document_from size mode (skip_closed_blanks mode (front ++ (core ++ after))) ≡ Ok t
-value_document mode size {front} {after} core t b s c =
+value_document : (mode : Mode) (size : ℕ) {front after : List ℕ} (core : List ℕ) (t : Tree) → IsBlanks mode front → Derives mode max_depth core t → AreLastBlanks mode after
+    → (s : Source) × (tree_of_source s ≡ t) × (source_from size mode (skip_closed_blanks mode (front ++ (core ++ after))) ≡ Ok s)
+value_document mode size {front} {after} core t b d c =
     let complete = value_is_complete size mode max_depth in
-    let st = complete.starts core t s in
+    let st = complete.starts core t d in
+    let r = complete.reads core t after d (λ n. follows-blanks c) in
     let blank : is_blank_start st.first ≡ false = (other st.first st.is_start).blank in
     let opened : core ++ after ≡ st.first ∷ (st.others ++ after) = ap (λ (u : List ℕ). u ++ after) st.whole in
     let passed : skip_closed_blanks mode (front ++ (core ++ after)) ≡ st.first ∷ (st.others ++ after) =
-    pass-blanks b (core ++ after) ∙ ap (skip_closed_blanks mode) opened ∙ pass-stop mode st.first (st.others ++ after) blank in
-    ap (document_from size mode) passed
-    ∙ cond-false (opens_comment mode (st.first ∷ (st.others ++ after))) (comment_at size null (st.others ++ after)) (value_to_end size mode (st.first ∷ (st.others ++ after))) (opens-stop mode st.first (st.others ++ after) blank)
-    ∙ ap (value_to_end size mode) (sym opened)
-    ∙ ap (λ (r : Read Tree). r >>= λ (x : Tree × List ℕ). at_end size mode x.0 (skip_closed_blanks mode x.1)) (complete.reads core t after s (λ n. follows-blanks c))
-    ∙ end_read size mode t c
+    pass-blanks b (core ++ after) ∙ ap (skip_closed_blanks mode) opened ∙ pass-stop mode st.first (st.others ++ after) blank in (
+      r.0,
+      r.1,
+      ap (source_from size mode) passed
+          ∙ cond-false (opens_comment mode (st.first ∷ (st.others ++ after))) (comment_at size null_source (st.others ++ after)) (value_to_end size mode (st.first ∷ (st.others ++ after))) (opens-stop mode st.first (st.others ++ after) blank)
+          ∙ ap (value_to_end size mode) (sym opened)
+          ∙ ap (λ (q : Read Source). q >>= λ (x : Source × List ℕ). at_end size mode x.0 (skip_closed_blanks mode x.1)) r.2
+          ∙ end_read size mode r.0 c,
+    )
 
-blank_document : (mode : Mode) (size : ℕ) {bytes : List ℕ} → mode ≡ extended → AreLastBlanks mode bytes → document_from size mode (skip_closed_blanks mode bytes) ≡ Ok null
+blank_document : (mode : Mode) (size : ℕ) {bytes : List ℕ} → mode ≡ extended → AreLastBlanks mode bytes → source_from size mode (skip_closed_blanks mode bytes) ≡ Ok null_source
 blank_document mode size {bytes} is b = by_end (ends_passed b)
   where
-    by_end : EndsPassed mode bytes → document_from size mode (skip_closed_blanks mode bytes) ≡ Ok null
-    by_end (all_passed e) = ap (document_from size mode) e ∙ ap (λ (m : Mode). nothing_at size m) is
-    by_end (line_left line opens e) = ap (document_from size mode) e ∙ cond-true (opens_comment mode (47 ∷ 47 ∷ line)) (comment_at size null (47 ∷ line)) (value_to_end size mode (47 ∷ 47 ∷ line)) opens
+    by_end : EndsPassed mode bytes → source_from size mode (skip_closed_blanks mode bytes) ≡ Ok null_source
+    by_end (all_passed e) = ap (source_from size mode) e ∙ ap (λ (m : Mode). nothing_at size m) is
+    by_end (line_left line opens e) =
+        ap (source_from size mode) e ∙ cond-true (opens_comment mode (47 ∷ 47 ∷ line)) (comment_at size null_source (47 ∷ line)) (value_to_end size mode (47 ∷ 47 ∷ line)) opens
+
+source_complete : (mode : Mode) (bytes : List ℕ) (t : Tree) → IsDocument mode bytes t → (s : Source) × (tree_of_source s ≡ t) × (source_of mode bytes ≡ Ok s)
+unfolding source_of
+source_complete mode bytes t (value_alone {core = core} b d c) = value_document mode (length bytes) core t b d c
+source_complete mode bytes t (blanks_alone is b) = (null_source, refl, blank_document mode (length bytes) is b)
 
 -- each document is read, as its tree
 pub document_complete : (mode : Mode) (bytes : List ℕ) (t : Tree) → IsDocument mode bytes t → document_of mode bytes ≡ Ok t
 unfolding document_of
-document_complete mode bytes t (value_alone {core = core} b d c) = value_document mode (length bytes) core t b d c
-document_complete mode bytes t (blanks_alone is b) = blank_document mode (length bytes) is b
+document_complete mode bytes t d =
+    let c = source_complete mode bytes t d in
+    ap (λ r. r >>= λ s. Ok (tree_of_source s)) c.2 ∙ ap (λ u. Ok u) c.1
 
 -- what is refused is no document
 pub refused_is_none : (mode : Mode) (bytes : List ℕ) (f : Fault) → document_of mode bytes ≡ Err f → IsNoDocument mode bytes
@@ -124,10 +136,10 @@ whole_if_no_number mode m n bytes rest t u d e no_number =
     let first = (value_is_complete 0 mode (n + m)).reads bytes t rest (deeper_by mode n m bytes t d) (λ k. absurd (no_number k)) in
     let swap : m + n ≡ n + m = omega arith in
     let lifted : Derives mode (n + m) (bytes ++ rest) u = subst (λ (k : ℕ). Derives mode k (bytes ++ rest) u) swap (deeper_by mode m n (bytes ++ rest) u e) in
-    let second : value_at 0 mode (n + m) (bytes ++ rest) ≡ Ok (u, []) =
-    ap (λ (s : List ℕ). value_at 0 mode (n + m) s) (sym (append-nil (bytes ++ rest))) ∙ (value_is_complete 0 mode (n + m)).reads (bytes ++ rest) u [] lifted (λ k. no_more) in
-    let same = same_read t u rest [] (sym first ∙ second) in
-    (same.rest, same.value)
+    let second = (value_is_complete 0 mode (n + m)).reads (bytes ++ rest) u [] lifted (λ k. no_more) in
+    let whole : value_at 0 mode (n + m) (bytes ++ rest) ≡ Ok (second.0, []) = ap (λ (s : List ℕ). value_at 0 mode (n + m) s) (sym (append-nil (bytes ++ rest))) ∙ second.2 in
+    let same = same_read first.0 second.0 rest [] (sym first.2 ∙ whole) in
+    (same.rest, sym first.1 ∙ ap tree_of_source same.value ∙ second.1)
 
 -- Bytes are spelled by one tree at most, whatever the depths.
 pub derived_unique : (mode : Mode) (m n : ℕ) (bytes : List ℕ) (t u : Tree) → Derives mode m bytes t → Derives mode n bytes u → t ≡ u
@@ -136,4 +148,4 @@ derived_unique mode m n bytes t u d e =
     let lifted : Derives mode (n + m) bytes u = subst (λ (k : ℕ). Derives mode k bytes u) swap (deeper_by mode m n bytes u e) in
     let first = (value_is_complete 0 mode (n + m)).reads bytes t [] (deeper_by mode n m bytes t d) (λ k. no_more) in
     let second = (value_is_complete 0 mode (n + m)).reads bytes u [] lifted (λ k. no_more) in
-    (same_read t u [] [] (sym first ∙ second)).value
+    sym first.1 ∙ ap tree_of_source (same_read first.0 second.0 [] [] (sym first.2 ∙ second.2)).value ∙ second.1

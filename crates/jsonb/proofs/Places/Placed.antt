@@ -1,341 +1,323 @@
--- The byte range of a `JsonAst`, from one step of the parser to the next.
-use Rattle.std.proofs.Common.{◌≡◌, ◌⊎◌, true≢false, if◌then◌else◌, inl, inr, ℕ, ◌+◌, ◌<◌, ◌≤◌, Bool, true, false, List, [], ◌∷◌, ◌++◌, length, take, drop, map, Vec, Global, Option, Some, None, Result, Ok, Err, IfOk, is_eq, nat_cmp, IsPermutation, rules, refl, sym, ap, subst, subst₂, ◌∙◌, append-nil, append_assoc, arith, length-append, length-drop}
+-- What reading gives stands in the text where it was read.
+use Rattle.std.proofs.Common.{◌≡◌, true≢false, inl, inr, ℕ, zero, suc, ◌+◌, ◌-◌, ◌<◌, true, List, [], ◌∷◌, ◌++◌, length, drop, map, None, Ok, nat_cmp, refl, sym, ap, subst, subst₂, ◌∙◌, append-nil, append_assoc, arith, length-append}
 use Rattle.std.proofs.Math.Seq.{drop-append_seam}
-use Rattle.std.specs.Cow.{cow_str_bytes}
 use Rattle.std.specs.Cmp.Lexicographic.{slice_cmp}
-use Rattle.std.proofs.lemmas.List.{length-take-le, take-append-drop}
-use Rattle.std.proofs.lemmas.List.Sorted.{IsPermutation-map}
-use Rattle.jsonb_value.specs.Grammar.Blanks.{AreLastBlanks, IsBlanks}
+use Rattle.jsonb_value.specs.Code.{Code}
+use Rattle.jsonb_value.specs.Code.Code.{expected_array_comma_or_end, expected_colon, expected_object_comma_or_end}
+use Rattle.jsonb_value.specs.Grammar.{Derives, IsElement, max_depth}
+use Rattle.jsonb_value.specs.Grammar.Blanks.{AreLastBlanks}
 use Rattle.jsonb_value.specs.Mode.{Mode}
-use Rattle.jsonb_value.specs.Mode.Mode.{extended}
-use Rattle.jsonb_value.specs.Grammar.Scalar.{IsKey, IsScalar}
+use Rattle.jsonb_value.specs.Mode.Mode.{extended, standard}
+use Rattle.jsonb_value.specs.Grammar.Scalar.{IsKey}
 use Rattle.jsonb_value.specs.Tree.{Mark, Tree}
-use Rattle.jsonb_value.specs.Tree.Tree.{null}
-use Rattle.jsonb_value.specs.View.{mark_view}
-use Rattle.jsonb.specs.AstView.{Written, ast_view, found_of}
-use Rattle.jsonb.specs.declared.parser.Parser.{Parser}
-use Rattle.jsonb.specs.declared.parser.ast.JsonAst.{JsonAst, the_lemmas}
-use Rattle.jsonb.specs.declared.parser.ast.JsonAst as ast
-use Rattle.jsonb.specs.declared.parser.value.Frame.{Frame}
-use Rattle.jsonb.specs.declared.parser.value.Frame.TheVariants as variants
-use Rattle.jsonb.specs.OpenPlaces.{AllIsPlaced, ArePartsBefore, ArrayIsOpen, FrameIsPlaced, FrameIsRead, IsLeftOut, LeftOut, MemberBegins, ObjectIsOpen, PartIsPlaced, PartIsRead, ReadIsPlaced, Skips, StackIsPlaced, StackIsRead, ValueIsRead, placed_of}
-use Rattle.jsonb.specs.OpenPlaces.ArePartsBefore.{no_parts, parts_and_comma}
-use Rattle.jsonb_scan.specs.Answer.{mode_of}
-use Rattle.jsonb.specs.Parser.{Advances, rest_of, size_of}
-use Rattle.jsonb.specs.Placed.{AreElementsAt, AreMembersAt, Has, HasBlanks, HasByte, HasKey, IsElementAt, IsMemberAt, IsPlaced, IsValueAt, SourceKeysAscend, Placed, placed_members, source_alone}
+use Rattle.jsonb.specs.Placed.{AreElementsAt, AreMembersAt, Has, HasBlanks, HasByte, IsElementAt, IsMemberAt, IsPlaced, IsValueAt, SourceKeysAscend}
 use Rattle.jsonb.specs.Placed.AreElementsAt.{more_elements, one_element}
 use Rattle.jsonb.specs.Placed.AreMembersAt.{more_members, one_member}
 use Rattle.jsonb.specs.Placed.IsElementAt.{empty_element, whole_element}
 use Rattle.jsonb.specs.Placed.IsMemberAt.{key_and_value}
 use Rattle.jsonb.specs.Placed.IsPlaced.{blanks_alone, value_alone}
 use Rattle.jsonb.specs.Placed.IsValueAt.{empty_array, empty_object, full_array, full_object, scalar}
-use Rattle.jsonb_scan.specs.Reading.{begins}
-use Rattle.jsonb_scan.specs.Reading.Blank.{opens_comment, skip_closed_blanks, skip_blanks}
-use Rattle.jsonb_scan.specs.Reading.Container.{SpotsAreSorted, Spot, adjacent_repeat, spot_of}
-use Rattle.jsonb_scan.specs.Reading.Document.{at_end, comment_at}
+use Rattle.jsonb_scan.specs.Reading.{Read, begins, on_byte, refused, ◌>>=◌}
+use Rattle.jsonb_scan.specs.Reading.Blank.{opens_comment, skip_blanks, skip_closed_blanks}
+use Rattle.jsonb_scan.specs.Reading.Container.{after_key, after_part, array_at, element_at, elements_at, found_at, is_left_out, joined_at, member_at, members_at, object_at, object_or_fault, padded_at, value_or_null}
+use Rattle.jsonb_scan.specs.Reading.Document.{alone_at, at_end, comment_at, nothing_at, source_from, source_of, too_deep, value_at, value_to_end}
 use Rattle.jsonb_scan.specs.Reading.Scalar.{key_at, scalar_at}
-use Rattle.jsonb.specs.Source.{Source, array_source, null_source, object_source, source_members_view, source_view, sources_view, SourceMembers}
-use Rattle.jsonb.specs.Source.SourceMembers.{more_source_members}
-use Rattle.jsonb.proofs.Steps.Cursors.{nothing_left}
-use Rattle.jsonb.proofs.Containers.Members.{spots}
+use Rattle.jsonb_scan.specs.Source.{Found, Source, adjacent_repeat, array_source, array_source_of, first_repeat, found, no_source_members, no_sources, null_source, object_source, sort_by, source_alone, source_members_of, spot_of}
+use Rattle.jsonb_scan.proofs.Containers.JoinedParts.{IsSound, IsSoundBefore, joined-skip, joined_sound, on_byte_cases}
+use Rattle.jsonb_scan.proofs.Steps.Tests.{bind_ok, chosen, refused_fails, same_ok, same_read}
+use Rattle.jsonb_scan.proofs.Text.Blanks.{ends_all, passes, skip-blanks, skip-skip, skip-stop, skips}
+use Rattle.jsonb.proofs.Containers.Repeats.{AreSorted, apart, below, sorted-sort}
+use Rattle.jsonb.proofs.Containers.Shuffles.{permutes, sort-shuffles, spots-sort}
+use Rattle.jsonb.proofs.Containers.Values.{IsFound, Seen, comment_ends, element_sound, ended, is_extended_if, member_skip, member_sound, object_of, value_sound}
 use Rattle.jsonb.proofs.Scalars.Spellings.{key_sound, scalar_sound}
-use Rattle.jsonb.proofs.Steps.Advancing.{goes_on}
-use Rattle.jsonb_scan.proofs.Text.Blanks.{ends_all, opens-nil, passes, skip-blanks, skip-skip, skip-stop, skips}
-use Rattle.jsonb.proofs.Containers.Values.{comment_ends, ended}
-use Rattle.jsonb.proofs.Containers.Repeats.{below}
-
--- ---- the source of a `JsonAst`, level by level
-
-pub source-Null : source_view ast.Null ≡ null_source
-source-Null = search (rules, the_lemmas)
-
-source-Array : (v : Vec JsonAst Global) → source_view (ast.Array v) ≡ array_source (sources_view v.items)
-source-Array v = search (rules, the_lemmas)
-
-source-Object : (v : Vec Written Global) → source_view (ast.Object v) ≡ object_source (source_members_view v.items)
-source-Object v = search (rules, the_lemmas)
-
-members_same : (ms : List Written) → placed_members (map placed_of ms) ≡ source_members_view ms
-members_same [] = refl
-members_same (m ∷ ms) = ap (more_source_members (mark_view m.0) (cow_str_bytes m.0) (source_view m.1) m.2) (members_same ms)
-
--- ---- one input, further on
-
-pub later : (p q : Parser) (P : Mode → List ℕ → Type 0) → Advances p q → P (mode_of p.mode) p.buf.now → P (mode_of q.mode) q.buf.now
-later p q P a h = subst₂ P (sym (ap mode_of a.mode)) (sym (ap (λ b. b.now) a.buf)) h
-
-pub earlier : (p q : Parser) (P : Mode → List ℕ → Type 0) → Advances p q → P (mode_of q.mode) q.buf.now → P (mode_of p.mode) p.buf.now
-earlier p q P a h = subst₂ P (ap mode_of a.mode) (ap (λ b. b.now) a.buf) h
-
-pub if_ok : {A E : Type 0} {P Q : A → Type 0} (r : Result A E) → ((x : A) → P x → Q x) → IfOk r P → IfOk r Q
-if_ok (Ok x) f h = f x h
-if_ok (Err e) f h = h
-
--- ---- bytes from one place to another
-
-pub has : (input : List ℕ) (Kind : List ℕ → Type 0) (from to : ℕ) (bytes : List ℕ) → drop from input ≡ bytes ++ drop to input → from ≤ to → to ≤ length input → Kind bytes → Has input Kind from to
-has input Kind from to bytes e onward within is =
-    let before : List ℕ = take from input in
-    let front : length before ≡ from = length-take-le from input (omega arith) in
-    record {
-      before = before;
-      bytes = bytes;
-      after = drop to input;
-      whole = sym (take-append-drop from input) ∙ ap (λ (u : List ℕ). before ++ u) e;
-      begins = sym front;
-      ends = omega (arith, ap length e, length-append bytes (drop to input), length-append before bytes, length-drop from input, length-drop to input, front, within, onward);
-      is = is;
-    }
-
-has_dropped : {input : List ℕ} {Kind : List ℕ → Type 0} {from to : ℕ} (h : Has input Kind from to) → drop from input ≡ h.bytes ++ drop to input
-has_dropped {input} {Kind} {from} {to} h =
-    ap (λ (n : ℕ). drop n input) h.begins ∙ ap (λ (u : List ℕ). drop (length h.before) u) h.whole ∙ drop-append_seam h.before (h.bytes ++ h.after)
-    ∙ ap (λ (u : List ℕ). h.bytes ++ u) (sym (ap (λ (n : ℕ). drop n input) h.ends ∙ ap (λ (u : List ℕ). drop (length (h.before ++ h.bytes)) u) (h.whole ∙ sym (append_assoc h.before h.bytes h.after)) ∙ drop-append_seam (h.before ++ h.bytes) h.after))
-
-has_onward : {input : List ℕ} {Kind : List ℕ → Type 0} {from to : ℕ} (h : Has input Kind from to) → from ≤ to
-has_onward h = omega (arith, h.begins, h.ends, length-append h.before h.bytes)
-
-byte_within : {input : List ℕ} {byte at : ℕ} → HasByte input byte at → at < length input
-byte_within h = omega (arith, h.begins, h.ends, ap length h.whole, length-append h.before (h.bytes ++ h.after), length-append h.bytes h.after, length-append h.before h.bytes)
-
--- what a step of the reader has read
-pub read_has : (p q : Parser) (Kind : List ℕ → Type 0) (bytes : List ℕ) → Advances p q → p.idx ≤ size_of p → rest_of p ≡ bytes ++ rest_of q → Kind bytes → Has p.buf.now Kind p.idx q.idx
-read_has p q Kind bytes a inside e is =
-    let here : q.buf.now ≡ p.buf.now = ap (λ b. b.now) a.buf in
-    let within : q.idx ≤ length q.buf.now = a.inside inside in
-    has p.buf.now Kind p.idx q.idx bytes (e ∙ ap (λ (u : List ℕ). bytes ++ drop q.idx u) here) a.onward (omega (arith, within, ap length here)) is
-
-pub key_has : (p q : Parser) (k : Mark × List ℕ) → Advances p q → p.idx ≤ size_of p → key_at (size_of p) (mode_of p.mode) (rest_of p) ≡ Ok (k, rest_of q) → HasKey (mode_of p.mode) p.buf.now p.idx k q.idx
-key_has p q k a inside e =
-    let s = key_sound (size_of p) (mode_of p.mode) (rest_of p) k (rest_of q) e in
-    read_has p q (λ bytes. IsKey (mode_of p.mode) bytes k) s.core a inside s.whole s.spells
-
--- a value that holds no others
-pub scalar_has : (p q : Parser) (v : JsonAst) → Advances p q → p.idx ≤ size_of p → scalar_at (size_of p) (mode_of p.mode) (rest_of p) ≡ Ok (ast_view v, rest_of q) → source_view v ≡ source_alone (ast_view v)
-    → IsValueAt (mode_of p.mode) p.buf.now p.idx (source_view v) q.idx
-scalar_has p q v a inside e alone =
-    let s = scalar_sound (size_of p) (mode_of p.mode) (rest_of p) (ast_view v) (rest_of q) e in
-    subst (λ (u : Source). IsValueAt (mode_of p.mode) p.buf.now p.idx u q.idx) (sym alone) (scalar (read_has p q (λ bytes. IsScalar (mode_of p.mode) bytes (ast_view v)) s.core a inside s.whole s.spells))
-
-pub next_index : (p q : Parser) (c : ℕ) → Advances p q → rest_of p ≡ c ∷ rest_of q → q.idx ≤ size_of q → p.idx < q.idx → q.idx ≡ p.idx + 1
-next_index p q c a e within moved = omega (arith, ap length e, length-drop p.idx p.buf.now, length-drop q.idx q.buf.now, ap (λ b. length b.now) a.buf, within, moved)
-
-pub byte_has : (p q : Parser) (c : ℕ) → Advances p q → rest_of p ≡ c ∷ rest_of q → q.idx ≤ size_of q → p.idx < q.idx → HasByte p.buf.now c p.idx
-byte_has p q c a e within moved =
-    let inside : p.idx ≤ size_of p = omega (arith, within, moved, ap (λ b. length b.now) a.buf) in
-    subst (λ (n : ℕ). Has p.buf.now (λ bytes. bytes ≡ c ∷ []) p.idx n) (next_index p q c a e within moved) (read_has p q (λ bytes. bytes ≡ c ∷ []) (c ∷ []) a inside e refl)
-
--- ---- blanks
-
-pub skip_made : (p q : Parser) → Advances p q → rest_of q ≡ skip_blanks (mode_of p.mode) (rest_of p) → Skips (mode_of p.mode) p.buf.now p.idx q.idx
-skip_made p q a e = record { rest = ap (λ b. drop q.idx b.now) (sym a.buf) ∙ e; onward = a.onward }
-
-module _ {mode : Mode} {input : List ℕ} where
-  pub skip_twice : {from middle to : ℕ} → Skips mode input from middle → Skips mode input middle to → Skips mode input from to
-  skip_twice {from} {middle} {to} s t =
-      record {
-        rest = t.rest ∙ ap (λ (u : List ℕ). skip_blanks mode u) s.rest ∙ skip-skip mode (drop from input);
-        onward = omega (arith, s.onward, t.onward);
-      }
-
-  pub skipped : {from to : ℕ} → Skips mode input from to → to < length input → HasBlanks mode input from to
-  skipped {from} {to} s left =
-      let p = skips mode (drop from input) (omega (arith, left, ap length s.rest, length-drop to input)) in
-      has input (λ bytes. IsBlanks mode bytes) from to p.blanks (p.whole ∙ ap (λ (u : List ℕ). p.blanks ++ u) (sym s.rest)) s.onward (omega arith) p.are_blanks
-
-  -- ---- values
-
-  value_before : {from to : ℕ} {s : Source} → IsValueAt mode input from s to → to < length input → from < length input
-  value_before (scalar h) left = omega (arith, left, has_onward h)
-  value_before (empty_array h b c) left = byte_within h
-  value_before (full_array h e n c) left = byte_within h
-  value_before (empty_object h b c) left = byte_within h
-  value_before (full_object h m c p k) left = byte_within h
-
-  -- ---- parts
-
-  elements_added : {from comma to : ℕ} {ss : List Source} {s : Source} → AreElementsAt mode input from ss comma → HasByte input 44 comma → IsElementAt mode input (comma + 1) s to → AreElementsAt mode input from (ss ++ s ∷ []) to
-  elements_added (one_element e) b last = more_elements e b (one_element last)
-  elements_added (more_elements e c es) b last = more_elements e c (elements_added es b last)
-
-  members_added : {from comma to : ℕ} {ms : List Placed} {m : Placed} → AreMembersAt mode input from ms comma → HasByte input 44 comma → IsMemberAt mode input (comma + 1) m to → AreMembersAt mode input from (ms ++ m ∷ []) to
-  members_added (one_member e) b last = more_members e b (one_member last)
-  members_added (more_members e c es) b last = more_members e c (members_added es b last)
-
-  element_after : {from next to : ℕ} {ss : List Source} {s : Source} → ArePartsBefore input (AreElementsAt mode input) from ss next → IsElementAt mode input next s to → AreElementsAt mode input from (ss ++ s ∷ []) to
-  element_after no_parts last = one_element last
-  element_after (parts_and_comma es b) last = elements_added es b last
-
-  member_after : {from next to : ℕ} {ms : List Placed} {m : Placed} → ArePartsBefore input (AreMembersAt mode input) from ms next → IsMemberAt mode input next m to → AreMembersAt mode input from (ms ++ m ∷ []) to
-  member_after no_parts last = one_member last
-  member_after (parts_and_comma es b) last = members_added es b last
-
-  -- an element or a member was read, and then the blanks after it
-  pub element_added : {from due end to : ℕ} {ss : List Source} {s : Source} (o : ArrayIsOpen mode input from ss due) → IsValueAt mode input due s end ⊎ IsLeftOut mode due s end
-      → Skips mode input end to → to < length input → AreElementsAt mode input (from + 1) (ss ++ s ∷ []) to
-  element_added {from} {due} {end} {to} {ss} {s} o (inl v) k left =
-      let on : end ≤ to = k.onward in
-      element_after o.elements (whole_element (skipped o.skips (value_before v (omega arith))) v (skipped k left))
-  element_added {from} {due} {end} {to} {ss} {s} o (inr out) k left =
-      let again : Skips mode input due to = subst (λ (n : ℕ). Skips mode input n to) (sym out.2) k in
-      let last : IsElementAt mode input o.next null_source to = empty_element out.0 (skipped (skip_twice o.skips again) left) in
-      element_after o.elements (subst (λ (u : Source). IsElementAt mode input o.next u to) (sym out.1) last)
-
-  pub member_added : {from index due end to : ℕ} {ms : List Placed} {key : Mark × List ℕ} {s : Source} (o : ObjectIsOpen mode input from ms key index due) → IsValueAt mode input due s end
-      → Skips mode input end to → to < length input → AreMembersAt mode input (from + 1) (ms ++ (key, s, index) ∷ []) to
-  member_added {from} {index} {due} {end} {to} {ms} {key} {s} o v k left =
-      let on : end ≤ to = k.onward in
-      let m = o.member in
-      let first : m.begin < length input = omega (arith, has_onward m.is_key, has_onward m.between, byte_within m.has_colon) in
-      member_after o.members (key_and_value (skipped m.before first) m.is_key m.between m.has_colon (skipped m.skips (value_before v (omega arith))) v (skipped k left))
-
-  -- blanks before a key, passed in two steps
-  pub member_later : {from middle index due : ℕ} {key : Mark × List ℕ} → Skips mode input from middle → MemberBegins mode input middle key index due → MemberBegins mode input from key index due
-  member_later s m = record { begin = m.begin; colon = m.colon; before = skip_twice s m.before; is_key = m.is_key; between = m.between; has_colon = m.has_colon; skips = m.skips }
-
-  -- ---- containers that end
-
-  pub empty_array_placed : {from to : ℕ} (v : Vec JsonAst Global) → v.items ≡ [] → HasByte input 91 from → HasBlanks mode input (from + 1) to → HasByte input 93 to → IsValueAt mode input from (source_view (ast.Array v)) (to + 1)
-  empty_array_placed {from} {to} v none b h c =
-      subst (λ (s : Source). IsValueAt mode input from s (to + 1)) (sym (source-Array v ∙ ap (λ (vs : List JsonAst). array_source (sources_view vs)) none)) (empty_array b h c)
-
-  pub array_placed : {from to : ℕ} (v : Vec JsonAst Global) → HasByte input 91 from → begins 93 (skip_blanks mode (drop (from + 1) input)) ≡ false → AreElementsAt mode input (from + 1) (map source_view v.items) to → HasByte input 93 to
-      → IsValueAt mode input from (source_view (ast.Array v)) (to + 1)
-  array_placed {from} {to} v b some es c = subst (λ (s : Source). IsValueAt mode input from s (to + 1)) (sym (source-Array v)) (full_array b es not_blank c)
-    where
-      closed : drop to input ≡ 93 ∷ drop (to + 1) input
-      closed = has_dropped c ∙ ap (λ (u : List ℕ). u ++ drop (to + 1) input) c.is
-
-      not_blank : HasBlanks mode input (from + 1) to → ⊥
-      not_blank h =
-          let stops : skip_blanks mode (drop (from + 1) input) ≡ 93 ∷ drop (to + 1) input =
-          ap (λ (u : List ℕ). skip_blanks mode u) (has_dropped h ∙ ap (λ (u : List ℕ). h.bytes ++ u) closed) ∙ skip-blanks h.is (93 ∷ drop (to + 1) input) ∙ skip-stop mode 93 (drop (to + 1) input) refl in
-          true≢false (sym (ap (λ (u : List ℕ). begins 93 u) stops) ∙ some)
-
-  pub empty_object_placed : {from to : ℕ} (v : Vec Written Global) → v.items ≡ [] → HasByte input 123 from → HasBlanks mode input (from + 1) to → HasByte input 125 to → IsValueAt mode input from (source_view (ast.Object v)) (to + 1)
-  empty_object_placed {from} {to} v none b h c =
-      subst (λ (s : Source). IsValueAt mode input from s (to + 1)) (sym (source-Object v ∙ ap (λ (ms : List Written). object_source (source_members_view ms)) none)) (empty_object b h c)
-
--- an array or an object that closes after blanks
-pub empty_closed : (p s o : Parser) (from close : ℕ) → p.idx ≡ from + 1 → Advances p s → rest_of s ≡ skip_blanks (mode_of p.mode) (rest_of p) → Advances s o → rest_of s ≡ close ∷ rest_of o → (s.idx < o.idx) × (o.idx ≤ size_of o)
-    → (P : ℕ → Type 0) → ((to : ℕ) → HasBlanks (mode_of p.mode) p.buf.now (from + 1) to → HasByte p.buf.now close to → P (to + 1)) → P o.idx
-empty_closed p s o from close after a e b closes inside P closed =
-    let left : s.idx < length p.buf.now = omega (arith, inside.0, inside.1, ap (λ r. length r.now) a.buf, ap (λ r. length r.now) b.buf) in
-    let blanks = subst (λ (n : ℕ). HasBlanks (mode_of p.mode) p.buf.now n s.idx) after (skipped (skip_made p s a e) left) in
-    subst P (sym (next_index s o close b closes inside.1 inside.0)) (closed s.idx blanks (earlier p s (λ m i. HasByte i close s.idx) a (byte_has s o close b closes inside.1 inside.0)))
-
--- an element is due or left out
-pub element_begun : (mode : Mode) (input : List ℕ) (v : Vec JsonAst Global) (at : ℕ) (read : Option JsonAst) → LeftOut mode read → ReadIsPlaced (PartIsRead mode input (variants.Array v)) at at read
-element_begun mode input v at None h = refl
-element_begun mode input v at (Some w) h = inr (h.0, h.1, refl)
 
 -- ---- keys in strictly ascending order
 
-no_repeat : (b : Bool) (t : Spot) (o : Option Spot) → (if b then Some t else o) ≡ None → (b ≡ false) × (o ≡ None)
-no_repeat true t o e = absurd cc
-no_repeat false t o e = (refl, e)
-
-keys_rise : (ms : List Written) → SpotsAreSorted (spots ms) → adjacent_repeat (spots ms) ≡ None → SourceKeysAscend (placed_members (map placed_of ms))
+keys_rise : (fs : List Found) → AreSorted (map spot_of fs) → adjacent_repeat (map spot_of fs) ≡ None → SourceKeysAscend (source_members_of fs)
 keys_rise [] up e = tt
-keys_rise (m ∷ []) up e = tt
-keys_rise (m ∷ n ∷ ms) up e =
-    let s : Spot = spot_of (found_of m) in
-    let t : Spot = spot_of (found_of n) in
-    let none = no_repeat (is_eq (slice_cmp nat_cmp s.key t.key)) t (adjacent_repeat (spots (n ∷ ms))) e in (
-      below (slice_cmp nat_cmp s.key t.key) (nat_cmp s.place t.place) up.0 none.0,
-      keys_rise (n ∷ ms) up.1 none.1,
-    )
+keys_rise (f ∷ []) up e = tt
+keys_rise (f ∷ g ∷ fs) up e =
+    let none = apart (spot_of f) (spot_of g) (map spot_of fs) e in
+    (below (slice_cmp nat_cmp f.key g.key) (nat_cmp f.place g.place) up.0.0 none.0, keys_rise (g ∷ fs) up.1 none.1)
 
--- an object whose members were put in the order of their keys
-pub object_placed : (mode : Mode) (input : List ℕ) (from to : ℕ) (old : List Written) (v : Vec Written Global) → IsPermutation old v.items → SpotsAreSorted (spots v.items) → adjacent_repeat (spots v.items) ≡ None
-    → HasByte input 123 from → AreMembersAt mode input (from + 1) (map placed_of old) to → HasByte input 125 to → IsValueAt mode input from (source_view (ast.Object v)) (to + 1)
-object_placed mode input from to old v p up e b ms c =
-    subst (λ (s : Source). IsValueAt mode input from s (to + 1)) (sym (source-Object v ∙ ap (λ (us : SourceMembers). object_source us) (sym (members_same v.items))))
-    (full_object b ms c (IsPermutation-map placed_of old v.items p) (keys_rise v.items up e))
+sorted_rise : (fs : List Found) → first_repeat (map spot_of fs) ≡ None → SourceKeysAscend (source_members_of (sort_by spot_of fs))
+unfolding first_repeat
+sorted_rise fs e =
+    let same = sym (spots-sort spot_of fs) in
+    keys_rise (sort_by spot_of fs) (subst AreSorted same (sorted-sort (map spot_of fs))) (ap adjacent_repeat (sym same) ∙ e)
 
--- ---- the stack
+-- ---- places in one input
 
 module _ (mode : Mode) (input : List ℕ) where
-  pub frame_pushed : (fs : List Frame) (f : Frame) (from middle due : ℕ) → StackIsPlaced mode input from fs middle → FrameIsPlaced mode input middle f due → StackIsPlaced mode input from (fs ++ f ∷ []) due
-  frame_pushed [] f from middle due h i = (due, subst (λ (n : ℕ). FrameIsPlaced mode input n f due) (sym h) i, refl)
-  frame_pushed (g ∷ fs) f from middle due h i = (h.0, h.1, frame_pushed fs f h.0 middle due h.2 i)
+  -- the place where so many bytes are left
+  abbrev at : List ℕ → ℕ
+  at bytes = length input - length bytes
 
-  pub frame_split : (fs : List Frame) (f : Frame) (from due : ℕ) → StackIsPlaced mode input from (fs ++ f ∷ []) due → (middle : ℕ) × StackIsPlaced mode input from fs middle × FrameIsPlaced mode input middle f due
-  frame_split [] f from due h = (from, refl, subst (λ (n : ℕ). FrameIsPlaced mode input from f n) h.2 h.1)
-  frame_split (g ∷ fs) f from due h = let rest = frame_split fs f h.0 due h.2 in (rest.0, (h.0, h.1, rest.1), rest.2)
+  -- the input ends with these bytes
+  abbrev IsRest : List ℕ → Type 0
+  IsRest bytes = (before : List ℕ) × (input ≡ before ++ bytes)
 
-  pub last_added : (fs : List Frame) (f : Frame) (from middle to : ℕ) → StackIsPlaced mode input from fs middle → FrameIsRead mode input middle f to → StackIsRead mode input from (fs ++ f ∷ []) to
-  last_added [] f from middle to h i = subst (λ (n : ℕ). FrameIsRead mode input n f to) (sym h) i
-  last_added (g ∷ []) f from middle to h i = (h.0, h.1, subst (λ (n : ℕ). FrameIsRead mode input n f to) (sym h.2) i)
-  last_added (g ∷ k ∷ fs) f from middle to h i = (h.0, h.1, last_added (k ∷ fs) f h.0 middle to h.2 i)
+  rest_after : {bytes : List ℕ} → IsRest bytes → (core rest : List ℕ) → bytes ≡ core ++ rest → IsRest rest
+  rest_after r core rest e = (r.0 ++ core, r.1 ∙ ap (λ (u : List ℕ). r.0 ++ u) e ∙ sym (append_assoc r.0 core rest))
 
-  pub last_split : (fs : List Frame) (f : Frame) (from to : ℕ) → StackIsRead mode input from (fs ++ f ∷ []) to → (middle : ℕ) × StackIsPlaced mode input from fs middle × FrameIsRead mode input middle f to
-  last_split [] f from to h = (from, refl, h)
-  last_split (g ∷ []) f from to h = (h.0, (h.0, h.1, refl), h.2)
-  last_split (g ∷ k ∷ fs) f from to h = let rest = last_split (k ∷ fs) f h.0 to h.2 in (rest.0, (h.0, h.1, rest.1), rest.2)
+  dropped : {bytes : List ℕ} → IsRest bytes → drop (at bytes) input ≡ bytes
+  dropped {bytes} r =
+      let here : at bytes ≡ length r.0 = omega (arith, ap length r.1, length-append r.0 bytes) in
+      ap (λ (n : ℕ). drop n input) here ∙ ap (λ (u : List ℕ). drop (length r.0) u) r.1 ∙ drop-append_seam r.0 bytes
 
-  part_any : (f : Frame) (from : ℕ) (s : Source) (to : ℕ) → IsValueAt mode input from s to → PartIsRead mode input f from s to
-  part_any (variants.Array v) from s to h = inl h
-  part_any (variants.Object o) from s to h = h
+  has : {Kind : List ℕ → Type 0} {bytes : List ℕ} → IsRest bytes → (core rest : List ℕ) → bytes ≡ core ++ rest → Kind core → Has input Kind (at bytes) (at rest)
+  has {Kind} {bytes} r core rest e is =
+      record {
+        before = r.0;
+        bytes = core;
+        after = rest;
+        whole = r.1 ∙ ap (λ (u : List ℕ). r.0 ++ u) e;
+        begins = omega (arith, ap length r.1, length-append r.0 bytes);
+        ends = omega (arith, ap length r.1, length-append r.0 bytes, ap length e, length-append core rest, length-append r.0 core);
+        is = is;
+      }
 
-  -- a whole value, in whatever container
-  pub value_any : (fs : List Frame) (from : ℕ) (s : Source) (to : ℕ) → IsValueAt mode input from s to → ValueIsRead mode input fs from s to
-  value_any [] from s to h = h
-  value_any (f ∷ []) from s to h = part_any f from s to h
-  value_any (f ∷ g ∷ fs) from s to h = value_any (g ∷ fs) from s to h
+  has_dropped : {Kind : List ℕ → Type 0} {from to : ℕ} (h : Has input Kind from to) → drop from input ≡ h.bytes ++ drop to input
+  has_dropped {Kind} {from} {to} h =
+      ap (λ (n : ℕ). drop n input) h.begins ∙ ap (λ (u : List ℕ). drop (length h.before) u) h.whole ∙ drop-append_seam h.before (h.bytes ++ h.after)
+      ∙ ap (λ (u : List ℕ). h.bytes ++ u) (sym (ap (λ (n : ℕ). drop n input) h.ends ∙ ap (λ (u : List ℕ). drop (length (h.before ++ h.bytes)) u) (h.whole ∙ sym (append_assoc h.before h.bytes h.after)) ∙ drop-append_seam (h.before ++ h.bytes) h.after))
 
-  value_last : (fs : List Frame) (f : Frame) (from : ℕ) (s : Source) (to : ℕ) → PartIsRead mode input f from s to → ValueIsRead mode input (fs ++ f ∷ []) from s to
-  value_last [] f from s to h = h
-  value_last (g ∷ []) f from s to h = h
-  value_last (g ∷ k ∷ fs) f from s to h = value_last (k ∷ fs) f from s to h
+  next : {bytes : List ℕ} → IsRest bytes → (c : ℕ) (rest : List ℕ) → bytes ≡ c ∷ rest → at rest ≡ at bytes + 1
+  next {bytes} r c rest e = omega (arith, ap length r.1, length-append r.0 bytes, ap length e)
 
-  pub last_value : (fs : List Frame) (f : Frame) (from : ℕ) (s : Source) (to : ℕ) → ValueIsRead mode input (fs ++ f ∷ []) from s to → PartIsRead mode input f from s to
-  last_value [] f from s to h = h
-  last_value (g ∷ []) f from s to h = h
-  last_value (g ∷ k ∷ fs) f from s to h = last_value (k ∷ fs) f from s to h
+  has_byte : {bytes : List ℕ} → IsRest bytes → (c : ℕ) (rest : List ℕ) → bytes ≡ c ∷ rest → HasByte input c (at bytes)
+  has_byte {bytes} r c rest e = subst (λ (n : ℕ). Has input (λ u. u ≡ c ∷ []) (at bytes) n) (next r c rest e) (has r (c ∷ []) rest e refl)
 
-  -- a container that is open is the innermost
-  pub part_pushed : (fs : List Frame) (f : Frame) (start middle at : ℕ) (read : Option JsonAst) → StackIsPlaced mode input start fs middle → PartIsPlaced mode input middle f at read → AllIsPlaced mode input start (fs ++ f ∷ []) at read
-  part_pushed fs f start middle at None h i = (i.0, frame_pushed fs f start middle i.0 h i.1, i.2)
-  part_pushed fs f start middle at (Some v) h i = (i.0, frame_pushed fs f start middle i.0 h i.1, value_last fs f i.0 (source_view v) at i.2)
+  after_byte : {bytes : List ℕ} → IsRest bytes → (c : ℕ) (rest : List ℕ) → bytes ≡ c ∷ rest → IsRest rest
+  after_byte r c rest e = rest_after r (c ∷ []) rest e
 
-  -- the outermost value
-  pub outermost_placed : (fs : List Frame) → length fs ≡ 0 → (start at : ℕ) (v : JsonAst) → AllIsPlaced mode input start fs at (Some v) → IsValueAt mode input start (source_view v) at
-  outermost_placed [] e start at v h = subst (λ (n : ℕ). IsValueAt mode input n (source_view v) at) (sym h.1) h.2
-  outermost_placed (f ∷ fs) e start at v h = absurd (omega arith)
+  -- ---- what is read, with blanks round it
+
+  record IsRound {A : Type 0} (Spells : List ℕ → A → Type 0) (bytes : List ℕ) (a : A) (after rest : List ℕ) : Type 0 where
+    pub front : HasBlanks mode input (at bytes) (at (skip_blanks mode bytes))
+    pub begins_at : IsRest (skip_blanks mode bytes)
+    pub is : Has input (λ core. Spells core a) (at (skip_blanks mode bytes)) (at after)
+    pub back : HasBlanks mode input (at after) (at rest)
+    pub ends_at : IsRest rest
+
+  round : {A : Type 0} (Spells : List ℕ → A → Type 0) (read : List ℕ → Read A) → IsSound Spells read → {bytes : List ℕ} → IsRest bytes → (a : A) (after rest : List ℕ) → read (skip_blanks mode bytes) ≡ Ok (a, after) → skip_blanks mode after ≡ rest
+      → 0 < length rest → IsRound Spells bytes a after rest
+  round Spells read sound {bytes} r a after rest e skipped left =
+      let s = sound (skip_blanks mode bytes) a after e in
+      let back = skips mode after (omega (arith, left, ap length skipped)) in
+      let front = skips mode bytes (omega (arith, left, ap length skipped, ap length back.whole, ap length s.whole, length-append s.core after, length-append back.blanks (skip_blanks mode after))) in
+      let here : IsRest (skip_blanks mode bytes) = rest_after r front.blanks (skip_blanks mode bytes) front.whole in
+      let there : IsRest after = rest_after here s.core after s.whole in
+      let back_is : after ≡ back.blanks ++ rest = back.whole ∙ ap (λ (u : List ℕ). back.blanks ++ u) skipped in
+      record {
+        front = has r front.blanks (skip_blanks mode bytes) front.whole front.are_blanks;
+        begins_at = here;
+        is = has here s.core after s.whole s.spells;
+        back = has there back.blanks rest back_is back.are_blanks;
+        ends_at = rest_after there back.blanks rest back_is;
+      }
+
+  -- ---- parts joined by commas
+
+  module _ {A : Type 0} (AreAll : ℕ → List A → ℕ → Type 0) (Stands : ℕ → A → ℕ → Type 0) (one : (from to : ℕ) (a : A) → Stands from a to → AreAll from (a ∷ []) to)
+      (more : (from comma to : ℕ) (a : A) (others : List A) → Stands from a comma → HasByte input 44 comma → AreAll (comma + 1) others to → AreAll from (a ∷ others) to)
+      (size : ℕ) (code : Code) (close : ℕ) (Spells : List ℕ → A → Type 0) (part : List ℕ → Read A) (sound : IsSoundBefore Spells part)
+      (places : (bytes : List ℕ) (a : A) (rest : List ℕ) → IsRest bytes → part bytes ≡ Ok (a, rest) → 0 < length rest → Stands (at bytes) a (at rest)) where
+    joined_placed : (n : ℕ) (bytes : List ℕ) (parts : List A) (rest : List ℕ) → IsRest bytes → joined_at size code close part n bytes ≡ Ok (parts, rest) → AreAll (at bytes) parts (at (close ∷ rest))
+    unfolding joined_at
+    joined_placed zero bytes parts rest r e = absurd cc
+    joined_placed (suc n) bytes parts rest r e =
+        let b = bind_ok (part bytes) (λ (x : A × List ℕ). after_part size code close part (joined_at size code close part n) x.0 x.1) (parts, rest) e in
+        let a : A = b.0.0 in
+        let middle : List ℕ = b.0.1 in
+        elim (on_byte_cases 44 middle (λ (t : List ℕ). joined_at size code close part n t >>= λ (x : List A × List ℕ). Ok (a ∷ x.0, x.1)) (on_byte close middle (λ (t : List ℕ). Ok (a ∷ [], t)) (refused size code 0 middle)) (Ok (parts, rest)) b.2) [
+          | inl t ↦
+              let some : 0 < length middle = omega (arith, ap length t.1) in
+              let s = sound bytes a middle b.1 some in
+              let there : IsRest middle = rest_after r s.core middle s.whole in
+              let c = bind_ok (joined_at size code close part n t.0) (λ (x : List A × List ℕ). Ok (a ∷ x.0, x.1)) (parts, rest) t.2 in
+              let same = same_read (a ∷ c.0.0) parts c.0.1 rest c.2 in
+              let others = joined_placed n t.0 c.0.0 c.0.1 (after_byte there 44 t.0 t.1) c.1 in
+              let all = more (at bytes) (at middle) (at (close ∷ c.0.1)) a c.0.0 (places bytes a middle r b.1 some) (has_byte there 44 t.0 t.1) (subst (λ (m : ℕ). AreAll m c.0.0 (at (close ∷ c.0.1))) (next there 44 t.0 t.1) others) in
+              subst₂ (λ (ps : List A) (u : List ℕ). AreAll (at bytes) ps (at (close ∷ u))) same.value same.rest all
+          | inr f ↦
+              elim (on_byte_cases close middle (λ (t : List ℕ). Ok (a ∷ [], t)) (refused size code 0 middle) (Ok (parts, rest)) f.1) [
+                | inl t ↦
+                    let same = same_read (a ∷ []) parts t.0 rest t.2 in
+                    let last = places bytes a middle r b.1 (omega (arith, ap length t.1)) in
+                    subst₂ (λ (ps : List A) (u : List ℕ). AreAll (at bytes) ps (at u)) same.value (t.1 ∙ ap (λ (u : List ℕ). close ∷ u) same.rest) (one (at bytes) (at middle) a last)
+                | inr g ↦ absurd (refused_fails size code 0 middle (parts, rest) g.1)
+              ]
+        ]
+
+  -- ---- arrays and objects
+
+  -- what is read is a value that stands there
+  abbrev Places : (List ℕ → Read Source) → Type 0
+  Places read = (bytes : List ℕ) (s : Source) (rest : List ℕ) → IsRest bytes → read bytes ≡ Ok (s, rest) → IsValueAt mode input (at bytes) s (at rest)
+
+  module _ (Value : List ℕ → Tree → Type 0) (read : List ℕ → Read Source) (sound : IsSound (Seen Value) read) (places : Places read) where
+    element_placed : (bytes : List ℕ) (s : Source) (rest : List ℕ) → IsRest bytes → element_at mode read bytes ≡ Ok (s, rest) → 0 < length rest → IsElementAt mode input (at bytes) s (at rest)
+    element_placed bytes s rest r e left =
+        let here : List ℕ = skip_blanks mode bytes in
+        let b = bind_ok (value_or_null mode read here) (λ (x : Source × List ℕ). Ok (x.0, skip_blanks mode x.1)) (s, rest) e in
+        let out = same_read b.0.0 s (skip_blanks mode b.0.1) rest b.2 in
+        elim (chosen (is_left_out mode here) (Ok (null_source, here)) (read here) (Ok b.0) b.1) [
+          | inl h ↦
+              let same = same_read null_source b.0.0 here b.0.1 h.1 in
+              let rest-is : here ≡ rest = sym (skip-skip mode bytes) ∙ ap (λ (u : List ℕ). skip_blanks mode u) same.rest ∙ out.rest in
+              let front = skips mode bytes (omega (arith, left, ap length rest-is)) in
+              let blanks = has r front.blanks rest (front.whole ∙ ap (λ (u : List ℕ). front.blanks ++ u) rest-is) front.are_blanks in
+              subst (λ (v : Source). IsElementAt mode input (at bytes) v (at rest)) (same.value ∙ out.value) (empty_element (is_extended_if mode here h.0) blanks)
+          | inr h ↦
+              let p = round (Seen Value) read sound r b.0.0 b.0.1 rest h.1 out.rest left in
+              subst (λ (v : Source). IsElementAt mode input (at bytes) v (at rest)) out.value (whole_element p.front (places here b.0.0 b.0.1 p.begins_at h.1) p.back)
+        ]
+
+    member_placed : (bytes : List ℕ) (f : Found) (rest : List ℕ) → IsRest bytes → member_at (length input) mode read bytes ≡ Ok (f, rest) → 0 < length rest → IsMemberAt mode input (at bytes) f (at rest)
+    member_placed bytes f rest r e left =
+        let b = bind_ok (key_at (length input) mode (skip_blanks mode bytes)) (λ (x : (Mark × List ℕ) × List ℕ). after_key (length input) mode read x.0 (length input - length x.1) (skip_blanks mode x.1)) (f, rest) e in
+        let k : Mark × List ℕ = b.0.0 in
+        let place : ℕ = at b.0.1 in
+        let colon : List ℕ = skip_blanks mode b.0.1 in
+        elim (on_byte_cases 58 colon (λ (u : List ℕ). padded_at mode read u >>= λ (x : Source × List ℕ). found_at k place x) (refused (length input) expected_colon 0 colon) (Ok (f, rest)) b.2) [
+          | inl t ↦
+              let v = bind_ok (padded_at mode read t.0) (λ (x : Source × List ℕ). found_at k place x) (f, rest) t.2 in
+              let w = bind_ok (read (skip_blanks mode t.0)) (λ (x : Source × List ℕ). Ok (x.0, skip_blanks mode x.1)) v.0 v.1 in
+              let s : Source = w.0.0 in
+              let made = same_read (found k v.0.0 place) f v.0.1 rest v.2 in
+              let out = same_read s v.0.0 (skip_blanks mode w.0.1) v.0.1 w.2 in
+              let left_part = round (IsKey mode) (key_at (length input) mode) (key_sound (length input) mode) r k b.0.1 colon b.1 refl (omega (arith, ap length t.1)) in
+              let there : IsRest t.0 = after_byte left_part.ends_at 58 t.0 t.1 in
+              let right_part = round (Seen Value) read sound there s w.0.1 rest w.1 (out.rest ∙ made.rest) left in
+              let due = subst (λ (n : ℕ). HasBlanks mode input n (at (skip_blanks mode t.0))) (next left_part.ends_at 58 t.0 t.1) right_part.front in
+              let member = key_and_value left_part.front left_part.is left_part.back (has_byte left_part.ends_at 58 t.0 t.1) due (places (skip_blanks mode t.0) s w.0.1 right_part.begins_at w.1) right_part.back in
+              let same : found k s place ≡ f = ap (λ (u : Source). found k u place) out.value ∙ made.value in
+              subst (λ (g : Found). IsMemberAt mode input (at bytes) g (at rest)) same member
+          | inr g ↦ absurd (refused_fails (length input) expected_colon 0 colon (f, rest) g.1)
+        ]
+
+    array_placed : (bytes : List ℕ) (s : Source) (rest : List ℕ) → IsRest (91 ∷ bytes) → array_at (length input) mode read bytes ≡ Ok (s, rest) → IsValueAt mode input (at (91 ∷ bytes)) s (at rest)
+    array_placed bytes s rest r e =
+        let from : ℕ = at (91 ∷ bytes) in
+        let inside : IsRest bytes = after_byte r 91 bytes refl in
+        let begun : at bytes ≡ from + 1 = next r 91 bytes refl in
+        elim (on_byte_cases 93 (skip_blanks mode bytes) (λ (u : List ℕ). Ok (array_source no_sources, u)) (elements_at (length input) mode read bytes) (Ok (s, rest)) e) [
+          | inl h ↦
+              let front = skips mode bytes (omega (arith, ap length h.1)) in
+              let there : IsRest (skip_blanks mode bytes) = rest_after inside front.blanks (skip_blanks mode bytes) front.whole in
+              let same = same_read (array_source no_sources) s h.0 rest h.2 in
+              let blanks = subst (λ (n : ℕ). HasBlanks mode input n (at (skip_blanks mode bytes))) begun (has inside front.blanks (skip_blanks mode bytes) front.whole front.are_blanks) in
+              let ends : at (skip_blanks mode bytes) + 1 ≡ at rest = sym (next there 93 h.0 h.1) ∙ ap at same.rest in
+              subst₂ (λ (v : Source) (n : ℕ). IsValueAt mode input from v n) same.value ends (empty_array (has_byte r 91 bytes refl) blanks (has_byte there 93 h.0 h.1))
+          | inr h ↦
+              let element : List ℕ → Read Source = element_at mode read in
+              let b = bind_ok (joined_at (length input) expected_array_comma_or_end 93 element (suc (length bytes)) (skip_blanks mode bytes)) (λ (x : List Source × List ℕ). Ok (array_source_of x.0, x.1)) (s, rest) h.1 in
+              let again = sym (joined-skip (length input) expected_array_comma_or_end 93 (Seen (IsElement mode Value)) element mode (λ u. ap (λ (w : List ℕ). value_or_null mode read w >>= λ (x : Source × List ℕ). Ok (x.0, skip_blanks mode x.1)) (skip-skip mode u)) (suc (length bytes)) bytes) ∙ b.1 in
+              let j = joined_sound (length input) expected_array_comma_or_end 93 (Seen (IsElement mode Value)) element (element_sound mode Value read sound) (suc (length bytes)) bytes b.0.0 b.0.1 again in
+              let all = joined_placed (AreElementsAt mode input) (IsElementAt mode input) (λ from to a h. one_element h) (λ from comma to a others h c hs. more_elements h c hs) (length input) expected_array_comma_or_end 93 (Seen (IsElement mode Value)) element (element_sound mode Value read sound) element_placed (suc (length bytes)) bytes b.0.0 b.0.1 inside again in
+              let same = same_read (array_source_of b.0.0) s b.0.1 rest b.2 in
+              let there : IsRest (93 ∷ b.0.1) = rest_after inside j.0 (93 ∷ b.0.1) j.2 in
+              let elements = subst (λ (n : ℕ). AreElementsAt mode input n b.0.0 (at (93 ∷ b.0.1))) begun all in
+              let not_blank : HasBlanks mode input (from + 1) (at (93 ∷ b.0.1)) → ⊥ = λ k.
+              let blank : bytes ≡ k.bytes ++ 93 ∷ b.0.1 = sym (dropped inside) ∙ ap (λ (n : ℕ). drop n input) begun ∙ has_dropped k ∙ ap (λ (u : List ℕ). k.bytes ++ u) (dropped there) in
+              let found : begins 93 (skip_blanks mode bytes) ≡ true = ap (λ (u : List ℕ). begins 93 (skip_blanks mode u)) blank ∙ ap (λ (u : List ℕ). begins 93 u) (skip-blanks k.is (93 ∷ b.0.1) ∙ skip-stop mode 93 b.0.1 refl) in
+              true≢false (sym found ∙ h.0) in
+              let ends : at (93 ∷ b.0.1) + 1 ≡ at rest = sym (next there 93 b.0.1 refl) ∙ ap at same.rest in
+              subst₂ (λ (v : Source) (n : ℕ). IsValueAt mode input from v n) same.value ends (full_array (has_byte r 91 bytes refl) elements not_blank (has_byte there 93 b.0.1 refl))
+        ]
+
+    object_placed : (bytes : List ℕ) (s : Source) (rest : List ℕ) → IsRest (123 ∷ bytes) → object_at (length input) mode read bytes ≡ Ok (s, rest) → IsValueAt mode input (at (123 ∷ bytes)) s (at rest)
+    object_placed bytes s rest r e =
+        let from : ℕ = at (123 ∷ bytes) in
+        let inside : IsRest bytes = after_byte r 123 bytes refl in
+        let begun : at bytes ≡ from + 1 = next r 123 bytes refl in
+        elim (on_byte_cases 125 (skip_blanks mode bytes) (λ (u : List ℕ). Ok (object_source no_source_members, u)) (members_at (length input) mode read bytes) (Ok (s, rest)) e) [
+          | inl h ↦
+              let front = skips mode bytes (omega (arith, ap length h.1)) in
+              let there : IsRest (skip_blanks mode bytes) = rest_after inside front.blanks (skip_blanks mode bytes) front.whole in
+              let same = same_read (object_source no_source_members) s h.0 rest h.2 in
+              let blanks = subst (λ (n : ℕ). HasBlanks mode input n (at (skip_blanks mode bytes))) begun (has inside front.blanks (skip_blanks mode bytes) front.whole front.are_blanks) in
+              let ends : at (skip_blanks mode bytes) + 1 ≡ at rest = sym (next there 125 h.0 h.1) ∙ ap at same.rest in
+              subst₂ (λ (v : Source) (n : ℕ). IsValueAt mode input from v n) same.value ends (empty_object (has_byte r 123 bytes refl) blanks (has_byte there 125 h.0 h.1))
+          | inr h ↦
+              let member : List ℕ → Read Found = member_at (length input) mode read in
+              let IsOne : List ℕ → Found → Type 0 = IsFound mode Value read in
+              let member_is_sound : IsSoundBefore IsOne member = member_sound mode Value read (length input) sound in
+              let b = bind_ok (joined_at (length input) expected_object_comma_or_end 125 member (suc (length bytes)) (skip_blanks mode bytes)) (λ (x : List Found × List ℕ). object_or_fault (first_repeat (map spot_of x.0)) x.0 x.1) (s, rest) h.1 in
+              let again = sym (joined-skip (length input) expected_object_comma_or_end 125 IsOne member mode (member_skip mode Value read (length input)) (suc (length bytes)) bytes) ∙ b.1 in
+              let j = joined_sound (length input) expected_object_comma_or_end 125 IsOne member member_is_sound (suc (length bytes)) bytes b.0.0 b.0.1 again in
+              let all = joined_placed (AreMembersAt mode input) (IsMemberAt mode input) (λ from to a h. one_member h) (λ from comma to a others h c hs. more_members h c hs) (length input) expected_object_comma_or_end 125 IsOne member member_is_sound member_placed (suc (length bytes)) bytes b.0.0 b.0.1 inside again in
+              let o = object_of (first_repeat (map spot_of b.0.0)) b.0.0 b.0.1 s rest b.2 in
+              let there : IsRest (125 ∷ b.0.1) = rest_after inside j.0 (125 ∷ b.0.1) j.2 in
+              let members = subst (λ (n : ℕ). AreMembersAt mode input n b.0.0 (at (125 ∷ b.0.1))) begun all in
+              let ends : at (125 ∷ b.0.1) + 1 ≡ at rest = sym (next there 125 b.0.1 refl) ∙ ap at o.1.rest in
+              subst₂ (λ (v : Source) (n : ℕ). IsValueAt mode input from v n) o.1.value ends
+              (full_object (has_byte r 123 bytes refl) members (has_byte there 125 b.0.1 refl) (permutes (sort-shuffles spot_of b.0.0)) (sorted_rise b.0.0 o.0))
+        ]
+
+  -- ---- values of any depth
+
+  alone_placed : Places (λ bytes. alone_at (scalar_at (length input) mode bytes))
+  alone_placed bytes s rest r e =
+      let b = bind_ok (scalar_at (length input) mode bytes) (λ (x : Tree × List ℕ). Ok (source_alone x.0, x.1)) (s, rest) e in
+      let same = same_read (source_alone b.0.0) s b.0.1 rest b.2 in
+      let k = scalar_sound (length input) mode bytes b.0.0 b.0.1 b.1 in
+      subst₂ (λ (v : Source) (u : List ℕ). IsValueAt mode input (at bytes) v (at u)) same.value same.rest (scalar (has r k.core b.0.1 k.whole k.spells))
+
+  value_placed : (depth : ℕ) → Places (value_at (length input) mode depth)
+  unfolding value_at
+  value_placed zero bytes s rest r e =
+      elim (on_byte_cases 91 bytes (too_deep (length input)) (on_byte 123 bytes (too_deep (length input)) (alone_at (scalar_at (length input) mode bytes))) (Ok (s, rest)) e) [
+        | inl h ↦ absurd (let never : too_deep (length input) h.0 ≡ Ok (s, rest) = h.2 in cc)
+        | inr h ↦ elim (on_byte_cases 123 bytes (too_deep (length input)) (alone_at (scalar_at (length input) mode bytes)) (Ok (s, rest)) h.1) [
+          | inl k ↦ absurd (let never : too_deep (length input) k.0 ≡ Ok (s, rest) = k.2 in cc)
+          | inr k ↦ alone_placed bytes s rest r k.1
+        ]
+      ]
+  value_placed (suc depth) bytes s rest r e =
+      let read : List ℕ → Read Source = value_at (length input) mode depth in
+      let arrays : List ℕ → Read Source = array_at (length input) mode read in
+      let objects : List ℕ → Read Source = object_at (length input) mode read in
+      let sound : IsSound (Seen (Derives mode depth)) read = value_sound (length input) mode depth in
+      elim (on_byte_cases 91 bytes arrays (on_byte 123 bytes objects (alone_at (scalar_at (length input) mode bytes))) (Ok (s, rest)) e) [
+        | inl h ↦ subst (λ (u : List ℕ). IsValueAt mode input (at u) s (at rest)) (sym h.1) (array_placed (Derives mode depth) read sound (value_placed depth) h.0 s rest (subst IsRest h.1 r) h.2)
+        | inr h ↦ elim (on_byte_cases 123 bytes objects (alone_at (scalar_at (length input) mode bytes)) (Ok (s, rest)) h.1) [
+          | inl k ↦ subst (λ (u : List ℕ). IsValueAt mode input (at u) s (at rest)) (sym k.1) (object_placed (Derives mode depth) read sound (value_placed depth) k.0 s rest (subst IsRest k.1 r) k.2)
+          | inr k ↦ alone_placed bytes s rest r k.1
+        ]
+      ]
 
 -- ---- whole texts
 
--- a text of blanks alone
-pub blanks_placed : (p q : Parser) → p.idx ≡ 0 → rest_of q ≡ skip_closed_blanks (mode_of p.mode) (rest_of p) → size_of q ≤ q.idx → mode_of p.mode ≡ extended → IsPlaced (mode_of p.mode) p.buf.now (source_view ast.Null)
-blanks_placed p q start e past is =
-    subst (λ (s : Source). IsPlaced (mode_of p.mode) p.buf.now s) (sym source-Null)
-    (blanks_alone is (subst (λ (n : ℕ). AreLastBlanks (mode_of p.mode) (drop n p.buf.now)) start (ends_all (mode_of p.mode) (rest_of p) (sym e ∙ nothing_left q.buf.now q.idx past))))
+nothing_placed : (mode : Mode) (input : List ℕ) (s : Source) (size : ℕ) → AreLastBlanks mode input → nothing_at size mode ≡ Ok s → IsPlaced mode input s
+nothing_placed standard input s size b e = absurd cc
+nothing_placed extended input s size b e = subst (λ (u : Source). IsPlaced extended input u) (same_ok null_source s e) (blanks_alone refl b)
 
-comment_only : (mode : Mode) (size : ℕ) (bytes rest : List ℕ) (t u : Tree) → skip_closed_blanks mode bytes ≡ rest → opens_comment mode rest ≡ true → comment_at size t (drop 1 rest) ≡ Ok u → (mode ≡ extended) × AreLastBlanks mode bytes
-comment_only mode size bytes [] t u passed opens e = absurd (true≢false (sym opens ∙ opens-nil mode))
-comment_only mode size bytes (b ∷ rest) t u passed opens e = let c = comment_ends mode size bytes b rest t u passed opens e in (c.0, c.1)
+pub source_placed : (mode : Mode) (input : List ℕ) (s : Source) → source_of mode input ≡ Ok s → IsPlaced mode input s
+unfolding source_of
+source_placed mode input s e = go (skip_closed_blanks mode input) refl e
+  where
+    value_read : (b : ℕ) (rest : List ℕ) → skip_closed_blanks mode input ≡ b ∷ rest → value_to_end (length input) mode (b ∷ rest) ≡ Ok s → IsPlaced mode input s
+    value_read b rest passed e =
+        let r = bind_ok (value_at (length input) mode max_depth (b ∷ rest)) (λ (x : Source × List ℕ). at_end (length input) mode x.0 (skip_closed_blanks mode x.1)) s e in
+        let front = passes mode input in
+        let front_is : input ≡ front.blanks ++ b ∷ rest = front.whole ∙ ap (λ (u : List ℕ). front.blanks ++ u) passed in
+        let k = value_sound (length input) mode max_depth (b ∷ rest) r.0.0 r.0.1 r.1 in
+        let end = ended (length input) mode r.0.0 r.0.1 (skip_closed_blanks mode r.0.1) s refl r.2 in
+        let all : IsRest mode input input = ([], refl) in
+        let here : IsRest mode input (b ∷ rest) = rest_after mode input all front.blanks (b ∷ rest) front_is in
+        let there : IsRest mode input r.0.1 = rest_after mode input here k.core r.0.1 k.whole in
+        let first : length input - length input ≡ 0 = omega arith in
+        let last : length input - 0 ≡ length input = omega arith in
+        let before = subst (λ (n : ℕ). HasBlanks mode input n (at mode input (b ∷ rest))) first (has mode input all front.blanks (b ∷ rest) front_is front.are_blanks) in
+        let after = subst (λ (n : ℕ). Has input (AreLastBlanks mode) (at mode input r.0.1) n) last (has mode input there r.0.1 [] (sym (append-nil r.0.1)) end.0) in
+        subst (λ (v : Source). IsPlaced mode input v) end.1 (value_alone before (value_placed mode input max_depth (b ∷ rest) r.0.0 r.0.1 here r.1) after)
 
--- a text of blanks and a line comment without its end
-pub comment_placed : (p q : Parser) → p.idx ≡ 0 → Advances p q → rest_of q ≡ skip_closed_blanks (mode_of p.mode) (rest_of p) → opens_comment (mode_of q.mode) (rest_of q) ≡ true
-    → comment_at (size_of q) null (drop 1 (rest_of q)) ≡ Ok null → IsPlaced (mode_of p.mode) p.buf.now (source_view ast.Null)
-comment_placed p q start a e opens ends =
-    let m : Mode = mode_of p.mode in
-    let only = comment_only m (size_of q) (rest_of p) (rest_of q) null null (sym e) (ap (λ k. opens_comment (mode_of k) (rest_of q)) (sym a.mode) ∙ opens) ends in
-    subst (λ (s : Source). IsPlaced m p.buf.now s) (sym source-Null) (blanks_alone only.0 (subst (λ (n : ℕ). AreLastBlanks m (drop n p.buf.now)) start only.1))
-
--- a text with a value
-pub value_placed : (p q r : Parser) (t u : Tree) (s : Source) → p.idx ≡ 0 → p.idx ≤ size_of p → Advances p q → rest_of q ≡ skip_closed_blanks (mode_of p.mode) (rest_of p) → Advances q r → IsValueAt (mode_of q.mode) q.buf.now q.idx s r.idx
-    → at_end (size_of r) (mode_of r.mode) t (skip_closed_blanks (mode_of r.mode) (rest_of r)) ≡ Ok u → IsPlaced (mode_of p.mode) p.buf.now s
-value_placed p q r t u s start inside a e b value ends =
-    let m : Mode = mode_of p.mode in
-    let input : List ℕ = p.buf.now in
-    let front = passes m (rest_of p) in
-    let before = read_has p q (λ bytes. IsBlanks m bytes) front.blanks a inside (front.whole ∙ ap (λ (v : List ℕ). front.blanks ++ v) (sym e)) front.are_blanks in
-    let within : r.idx ≤ length r.buf.now = b.inside (a.inside inside) in
-    let whole : rest_of r ≡ rest_of r ++ drop (length r.buf.now) r.buf.now = sym (ap (λ (v : List ℕ). rest_of r ++ v) (nothing_left r.buf.now (length r.buf.now) (omega arith)) ∙ append-nil (rest_of r)) in
-    let last = (ended (size_of r) (mode_of r.mode) t (rest_of r) (skip_closed_blanks (mode_of r.mode) (rest_of r)) u refl ends).0 in
-    let after = has r.buf.now (λ bytes. AreLastBlanks (mode_of r.mode) bytes) r.idx (length r.buf.now) (rest_of r) whole within (omega arith) last in
-    let on = goes_on p q r a b in
-    value_alone (subst (λ (n : ℕ). HasBlanks m input n q.idx) start before) (earlier p q (λ k i. IsValueAt k i q.idx s r.idx) a value)
-    (earlier p r (λ k i. Has i (λ bytes. AreLastBlanks k bytes) r.idx (length i)) on after)
+    go : (rest : List ℕ) → skip_closed_blanks mode input ≡ rest → source_from (length input) mode rest ≡ Ok s → IsPlaced mode input s
+    go [] passed e = nothing_placed mode input s (length input) (ends_all mode input passed) e
+    go (b ∷ rest) passed e =
+        elim (chosen (opens_comment mode (b ∷ rest)) (comment_at (length input) null_source rest) (value_to_end (length input) mode (b ∷ rest)) (Ok s) e) [
+          | inl h ↦ let c = comment_ends mode (length input) input b rest null_source s passed h.0 h.1 in subst (λ (u : Source). IsPlaced mode input u) c.2 (blanks_alone c.0 c.1)
+          | inr h ↦ value_read b rest passed h.1
+        ]

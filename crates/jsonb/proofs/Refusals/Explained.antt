@@ -8,14 +8,12 @@ use Rattle.jsonb_value.specs.Grammar.{Derives, IsElement, IsMember, IsPadded, Is
 use Rattle.jsonb_value.specs.Grammar.IsValue.{empty_array, empty_object, full_array, full_object, scalar}
 use Rattle.jsonb_value.specs.Mode.{Mode}
 use Rattle.jsonb_value.specs.Grammar.Scalar.{IsKey, IsScalar}
-use Rattle.jsonb_value.specs.Tree.{Mark, Member, Tree, put_all, trees_of}
-use Rattle.jsonb_value.specs.Tree.Members.{no_members}
-use Rattle.jsonb_value.specs.Tree.Tree.{array, null, object}
-use Rattle.jsonb_value.specs.Tree.Trees.{no_trees}
+use Rattle.jsonb_value.specs.Tree.{Mark, Member, Tree}
 use Rattle.jsonb_scan.specs.Reading.{Fault, Read, begins, on_byte, refused, ◌>>=◌}
 use Rattle.jsonb_scan.specs.Reading.Blank.{skip_blanks}
-use Rattle.jsonb_scan.specs.Reading.Container.{Found, Spot, after_key, after_part, array_at, element_at, elements_at, first_repeat, found_at, is_left_out, joined_at, member_at, member_of, members_at, object_at, object_or_fault, padded_at, spot_of, value_or_null}
-use Rattle.jsonb_scan.specs.Reading.Document.{too_deep, value_at, value_with}
+use Rattle.jsonb_scan.specs.Reading.Container.{after_key, after_part, array_at, element_at, elements_at, found_at, is_left_out, joined_at, member_at, members_at, object_at, object_or_fault, padded_at, value_or_null}
+use Rattle.jsonb_scan.specs.Source.{Found, Source, Spot, array_source, array_source_of, first_repeat, member_of, no_source_members, no_sources, null_source, object_source, object_source_of, source_alone, spot_of, tree_of_source}
+use Rattle.jsonb_scan.specs.Reading.Document.{alone_at, too_deep, value_at, value_with}
 use Rattle.jsonb_scan.specs.Reading.Scalar.{key_at, scalar_at}
 use Rattle.jsonb.specs.Refusals.{ArePassed, IsFront, IsSpelling, Repeats}
 use Rattle.jsonb.specs.Refusals.ArePassed.{no_parts, part_passed}
@@ -23,11 +21,11 @@ use Rattle.jsonb.specs.Refusals.IsFront.{front_of_blanks, in_array, in_object}
 use Rattle.jsonb_scan.proofs.Steps.Tests.{chosen}
 use Rattle.jsonb.proofs.Refusals.Codes.{IsTold, bind_err, same_err, silent_fault, silent_refused}
 use Rattle.jsonb.proofs.Containers.KeyPlaces.{laid_repeats, members_laid}
-use Rattle.jsonb_scan.proofs.Containers.JoinedParts.{IsSound, IsSoundBefore, joined-skip, on_byte_cases, padded_sound}
+use Rattle.jsonb_scan.proofs.Containers.JoinedParts.{IsSound, IsSoundBefore, SeenBy, joined-skip, on_byte_cases, padded_sound}
 use Rattle.jsonb.proofs.Refusals.OfScalars.{NotCarried, WrongScalar, key_silent, scalar_refused, scalar_some}
 use Rattle.jsonb.proofs.Scalars.Spellings.{key_sound}
 use Rattle.jsonb_scan.proofs.Text.Blanks.{length-skip, skip-skip, skips}
-use Rattle.jsonb.proofs.Containers.Values.{element_sound, member_sound, value_sound}
+use Rattle.jsonb.proofs.Containers.Values.{Seen, element_sound, member_sound, value_sound}
 
 -- ---- fronts
 
@@ -94,7 +92,7 @@ pub record IsRefusedAt (mode : Mode) (depth size : ℕ) (bytes : List ℕ) (f : 
   pub wrong : Wrong mode left size rest f.code f.place
 
 -- Each fault of the reader that is told of says what is wrong with the bytes, which are no more than the whole input and begin with no blank.
-abbrev pub Explains : Mode → ℕ → ℕ → (List ℕ → Read Tree) → Type 0
+abbrev pub Explains : Mode → ℕ → ℕ → (List ℕ → Read Source) → Type 0
 Explains mode depth size read = (bytes : List ℕ) (f : Fault) → length bytes ≤ size → skip_blanks mode bytes ≡ bytes → read bytes ≡ Err f → IsTold f.code → IsRefusedAt mode depth size bytes f
 
 -- what is wrong with the bytes at once
@@ -224,34 +222,44 @@ module _ {A : Type 0} (size : ℕ) (code : Code) (close : ℕ) (Spells : List �
             ]
       ]
 
+-- a value that holds no others is read with the faults of its tree
+alone_fault : (r : Read Tree) (f : Fault) → alone_at r ≡ Err f → r ≡ Err f
+alone_fault (Ok x) f e = absurd (let never : ◌≡◌ {A = Read Source} (Ok (source_alone x.0, x.1)) (Err f) = e in cc)
+alone_fault (Err d) f e = ap (λ (g : Fault). Err g) (same_err {B = Source × List ℕ} d f e)
+
+-- parts that are passed, seen by view
+passed_seen : {A F : Type 0} (view : F → A) (Spells : List ℕ → A → Type 0) {bytes : List ℕ} {fs : List F} (p : ArePassed (SeenBy view Spells) bytes fs) → ArePassed Spells bytes (map view fs)
+passed_seen view Spells no_parts = no_parts
+passed_seen view Spells (part_passed s p) = part_passed s (passed_seen view Spells p)
+
 -- ---- one level
 
-module _ (mode : Mode) (depth size : ℕ) (read : List ℕ → Read Tree) (sound : IsSound (IsSpelling mode) read) (explains : Explains mode depth size read) where
+module _ (mode : Mode) (depth size : ℕ) (read : List ℕ → Read Source) (sound : IsSound (Seen (IsSpelling mode)) read) (explains : Explains mode depth size read) where
   -- a value after blanks
   value_refused : (bytes : List ℕ) (f : Fault) → length bytes ≤ size → read (skip_blanks mode bytes) ≡ Err f → IsTold f.code → IsRefusedAt mode depth size bytes f
   value_refused bytes f h e told = stops_after_blanks mode depth size bytes f (explains (skip_blanks mode bytes) f (omega (arith, h, length-skip mode bytes)) (skip-skip mode bytes) e told)
 
   element_refused : (bytes : List ℕ) (f : Fault) → length bytes ≤ size → element_at mode read bytes ≡ Err f → IsTold f.code → IsRefusedAt mode depth size bytes f
   element_refused bytes f h e told =
-      elim (bind_err (value_or_null mode read (skip_blanks mode bytes)) (λ (x : Tree × List ℕ). Ok (x.0, skip_blanks mode x.1)) f e) [
-        | inl g ↦ elim (chosen (is_left_out mode (skip_blanks mode bytes)) (Ok (null, skip_blanks mode bytes)) (read (skip_blanks mode bytes)) (Err f) g) [
-          | inl k ↦ absurd (let never : ◌≡◌ {A = Read Tree} (Ok (null, skip_blanks mode bytes)) (Err f) = k.1 in cc)
+      elim (bind_err (value_or_null mode read (skip_blanks mode bytes)) (λ (x : Source × List ℕ). Ok (x.0, skip_blanks mode x.1)) f e) [
+        | inl g ↦ elim (chosen (is_left_out mode (skip_blanks mode bytes)) (Ok (null_source, skip_blanks mode bytes)) (read (skip_blanks mode bytes)) (Err f) g) [
+          | inl k ↦ absurd (let never : ◌≡◌ {A = Read Source} (Ok (null_source, skip_blanks mode bytes)) (Err f) = k.1 in cc)
           | inr k ↦ value_refused bytes f h k.1 told
         ]
-        | inr g ↦ absurd (let never : ◌≡◌ {A = Read Tree} (Ok (g.0.0, skip_blanks mode g.0.1)) (Err f) = g.2 in cc)
+        | inr g ↦ absurd (let never : ◌≡◌ {A = Read Source} (Ok (g.0.0, skip_blanks mode g.0.1)) (Err f) = g.2 in cc)
       ]
 
   array_refused : (bytes : List ℕ) (f : Fault) → length (91 ∷ bytes) ≤ size → array_at size mode read bytes ≡ Err f → IsTold f.code → IsRefusedAt mode (suc depth) size (91 ∷ bytes) f
   array_refused bytes f h e told =
-      elim (on_byte_cases 93 (skip_blanks mode bytes) (λ (r : List ℕ). Ok (array no_trees, r)) (elements_at size mode read bytes) (Err f) e) [
-        | inl g ↦ absurd (let never : ◌≡◌ {A = Read Tree} (Ok (array no_trees, g.0)) (Err f) = g.2 in cc)
-        | inr g ↦ elim (bind_err (joined_at size expected_array_comma_or_end 93 (element_at mode read) (suc (length bytes)) (skip_blanks mode bytes)) (λ (x : List Tree × List ℕ). Ok (array (trees_of x.0), x.1)) f g.1) [
+      elim (on_byte_cases 93 (skip_blanks mode bytes) (λ (r : List ℕ). Ok (array_source no_sources, r)) (elements_at size mode read bytes) (Err f) e) [
+        | inl g ↦ absurd (let never : ◌≡◌ {A = Read Source} (Ok (array_source no_sources, g.0)) (Err f) = g.2 in cc)
+        | inr g ↦ elim (bind_err (joined_at size expected_array_comma_or_end 93 (element_at mode read) (suc (length bytes)) (skip_blanks mode bytes)) (λ (x : List Source × List ℕ). Ok (array_source_of x.0, x.1)) f g.1) [
           | inl k ↦
-              let again = sym (joined-skip size expected_array_comma_or_end 93 (IsElement mode (IsSpelling mode)) (element_at mode read) mode (λ u. ap (λ (w : List ℕ). value_or_null mode read w >>= λ (x : Tree × List ℕ). Ok (x.0, skip_blanks mode x.1)) (skip-skip mode u)) (suc (length bytes)) bytes) ∙ k in
-              let p = joined_refused size expected_array_comma_or_end 93 (IsElement mode (IsSpelling mode)) (element_at mode read) (element_sound mode (IsSpelling mode) read sound) (λ n. n) (suc (length bytes)) bytes f again told in
+              let again = sym (joined-skip size expected_array_comma_or_end 93 (Seen (IsElement mode (IsSpelling mode))) (element_at mode read) mode (λ u. ap (λ (w : List ℕ). value_or_null mode read w >>= λ (x : Source × List ℕ). Ok (x.0, skip_blanks mode x.1)) (skip-skip mode u)) (suc (length bytes)) bytes) ∙ k in
+              let p = joined_refused size expected_array_comma_or_end 93 (Seen (IsElement mode (IsSpelling mode))) (element_at mode read) (element_sound mode (IsSpelling mode) read sound) (λ n. n) (suc (length bytes)) bytes f again told in
               let within : length p.rest ≤ size = rest_within size bytes p.passed p.rest (omega (arith, h)) p.whole in
-              stops_in_array mode depth size bytes p.passed p.rest f p.are_passed p.whole (element_refused p.rest f within p.fails told)
-          | inr k ↦ absurd (let never : ◌≡◌ {A = Read Tree} (Ok (array (trees_of k.0.0), k.0.1)) (Err f) = k.2 in cc)
+              stops_in_array mode depth size bytes p.passed p.rest f (passed_seen tree_of_source (IsElement mode (IsSpelling mode)) p.are_passed) p.whole (element_refused p.rest f within p.fails told)
+          | inr k ↦ absurd (let never : ◌≡◌ {A = Read Source} (Ok (array_source_of k.0.0, k.0.1)) (Err f) = k.2 in cc)
         ]
       ]
 
@@ -273,13 +281,13 @@ module _ (mode : Mode) (depth size : ℕ) (read : List ℕ → Read Tree) (sound
             let place : ℕ = size - length g.0.1 in
             let colon : List ℕ = skip_blanks mode g.0.1 in
             let key_read : padded_at mode (key_at size mode) bytes ≡ Ok (k, colon) = ap (λ (r : Read (Mark × List ℕ)). r >>= λ (x : (Mark × List ℕ) × List ℕ). Ok (x.0, skip_blanks mode x.1)) g.1 in
-            elim (on_byte_cases 58 colon (λ (r : List ℕ). padded_at mode read r >>= λ (x : Tree × List ℕ). found_at k place x) (refused size expected_colon 0 colon) (Err f) g.2) [
-              | inl t ↦ elim (bind_err (padded_at mode read t.0) (λ (x : Tree × List ℕ). found_at k place x) f t.2) [
-                | inl v ↦ elim (bind_err (read (skip_blanks mode t.0)) (λ (x : Tree × List ℕ). Ok (x.0, skip_blanks mode x.1)) f v) [
+            elim (on_byte_cases 58 colon (λ (r : List ℕ). padded_at mode read r >>= λ (x : Source × List ℕ). found_at k place x) (refused size expected_colon 0 colon) (Err f) g.2) [
+              | inl t ↦ elim (bind_err (padded_at mode read t.0) (λ (x : Source × List ℕ). found_at k place x) f t.2) [
+                | inl v ↦ elim (bind_err (read (skip_blanks mode t.0)) (λ (x : Source × List ℕ). Ok (x.0, skip_blanks mode x.1)) f v) [
                   | inl w ↦
                       let s = padded_sound mode (IsKey mode) (key_at size mode) (key_sound size mode) bytes k colon key_read (omega (arith, ap length t.1)) in
                       record { left = s.core; key = k; rest = t.0; is_key = s.spells; whole = s.whole ∙ ap (λ (u : List ℕ). s.core ++ u) t.1; fails = w }
-                  | inr w ↦ absurd (let never : ◌≡◌ {A = Read Tree} (Ok (w.0.0, skip_blanks mode w.0.1)) (Err f) = w.2 in cc)
+                  | inr w ↦ absurd (let never : ◌≡◌ {A = Read Source} (Ok (w.0.0, skip_blanks mode w.0.1)) (Err f) = w.2 in cc)
                 ]
                 | inr v ↦ absurd (let never : found_at k place v.0 ≡ Err f = v.2 in cc)
               ]
@@ -290,9 +298,9 @@ module _ (mode : Mode) (depth size : ℕ) (read : List ℕ → Read Tree) (sound
   -- the members have a key that comes twice
   repeat_refused : (o : Option Spot) (fs : List Found) (bytes rest : List ℕ) (f : Fault) → length (123 ∷ bytes) ≤ size → first_repeat (map spot_of fs) ≡ o
       → joined_at size expected_object_comma_or_end 125 (member_at size mode read) (suc (length bytes)) bytes ≡ Ok (fs, rest) → object_or_fault o fs rest ≡ Err f → IsRefusedAt mode (suc depth) size (123 ∷ bytes) f
-  repeat_refused None fs bytes rest f h found j e = absurd (let never : ◌≡◌ {A = Read Tree} (Ok (object (put_all (map member_of fs) no_members), rest)) (Err f) = e in cc)
+  repeat_refused None fs bytes rest f h found j e = absurd (let never : ◌≡◌ {A = Read Source} (Ok (object_source_of fs, rest)) (Err f) = e in cc)
   repeat_refused (Some s) fs bytes rest f h found j e =
-      let is : record { code = object_duplicate_key s.key; place = s.place } ≡ f = same_err {B = Tree × List ℕ} (record { code = object_duplicate_key s.key; place = s.place }) f e in
+      let is : record { code = object_duplicate_key s.key; place = s.place } ≡ f = same_err {B = Source × List ℕ} (record { code = object_duplicate_key s.key; place = s.place }) f e in
       let l = members_laid mode size read sound (suc (length bytes)) bytes fs rest j in
       let within : length (l.0 ++ 125 ∷ rest) ≤ size = omega (arith, h, ap length l.2) in
       let r = laid_repeats mode size l.1 s found within in
@@ -304,8 +312,8 @@ module _ (mode : Mode) (depth size : ℕ) (read : List ℕ → Read Tree) (sound
 
   object_refused : (bytes : List ℕ) (f : Fault) → length (123 ∷ bytes) ≤ size → object_at size mode read bytes ≡ Err f → IsTold f.code → IsRefusedAt mode (suc depth) size (123 ∷ bytes) f
   object_refused bytes f h e told =
-      elim (on_byte_cases 125 (skip_blanks mode bytes) (λ (r : List ℕ). Ok (object no_members, r)) (members_at size mode read bytes) (Err f) e) [
-        | inl g ↦ absurd (let never : ◌≡◌ {A = Read Tree} (Ok (object no_members, g.0)) (Err f) = g.2 in cc)
+      elim (on_byte_cases 125 (skip_blanks mode bytes) (λ (r : List ℕ). Ok (object_source no_source_members, r)) (members_at size mode read bytes) (Err f) e) [
+        | inl g ↦ absurd (let never : ◌≡◌ {A = Read Source} (Ok (object_source no_source_members, g.0)) (Err f) = g.2 in cc)
         | inr g ↦ elim (bind_err (joined_at size expected_object_comma_or_end 125 (member_at size mode read) (suc (length bytes)) (skip_blanks mode bytes)) (λ (x : List Found × List ℕ). object_or_fault (first_repeat (map spot_of x.0)) x.0 x.1) f g.1) [
           | inl k ↦
               let again = sym (joined-skip size expected_object_comma_or_end 125 IsFound (member_at size mode read) mode member_skip (suc (length bytes)) bytes) ∙ k in
@@ -314,7 +322,7 @@ module _ (mode : Mode) (depth size : ℕ) (read : List ℕ → Read Tree) (sound
               let from_key : length p.rest ≤ size = rest_within size bytes p.passed p.rest (omega (arith, h)) p.whole in
               let from_colon : length (58 ∷ m.rest) ≤ size = rest_within size p.rest m.left (58 ∷ m.rest) from_key m.whole in
               let within : length m.rest ≤ size = omega (arith, from_colon) in
-              stops_in_object mode depth size bytes p.passed p.rest m.left m.rest f (passed_members p.are_passed) p.whole m.is_key m.whole (value_refused m.rest f within m.fails told)
+              stops_in_object mode depth size bytes p.passed p.rest m.left m.rest f (passed_seen member_of (IsMember mode (IsSpelling mode)) p.are_passed) p.whole m.is_key m.whole (value_refused m.rest f within m.fails told)
           | inr k ↦
               let again = sym (joined-skip size expected_object_comma_or_end 125 IsFound (member_at size mode read) mode member_skip (suc (length bytes)) bytes) ∙ k.1 in
               repeat_refused (first_repeat (map spot_of k.0.0)) k.0.0 bytes k.0.1 f h refl again k.2
@@ -327,17 +335,13 @@ module _ (mode : Mode) (depth size : ℕ) (read : List ℕ → Read Tree) (sound
       member_skip : (u : List ℕ) → member_at size mode read (skip_blanks mode u) ≡ member_at size mode read u
       member_skip u = ap (λ (w : List ℕ). key_at size mode w >>= λ (x : (Mark × List ℕ) × List ℕ). after_key size mode read x.0 (size - length x.1) (skip_blanks mode x.1)) (skip-skip mode u)
 
-      passed_members : {u : List ℕ} {gs : List Found} (p : ArePassed IsFound u gs) → ArePassed (IsMember mode (IsSpelling mode)) u (map member_of gs)
-      passed_members no_parts = no_parts
-      passed_members (part_passed s p) = part_passed s (passed_members p)
-
   pub containers_refused : Explains mode (suc depth) size (value_with size mode (array_at size mode read) (object_at size mode read))
   containers_refused bytes f h none e told =
-      elim (on_byte_cases 91 bytes (array_at size mode read) (on_byte 123 bytes (object_at size mode read) (scalar_at size mode bytes)) (Err f) e) [
+      elim (on_byte_cases 91 bytes (array_at size mode read) (on_byte 123 bytes (object_at size mode read) (alone_at (scalar_at size mode bytes))) (Err f) e) [
         | inl g ↦ subst (λ (u : List ℕ). IsRefusedAt mode (suc depth) size u f) (sym g.1) (array_refused g.0 f (subst (λ (u : List ℕ). length u ≤ size) g.1 h) g.2 told)
-        | inr g ↦ elim (on_byte_cases 123 bytes (object_at size mode read) (scalar_at size mode bytes) (Err f) g.1) [
+        | inr g ↦ elim (on_byte_cases 123 bytes (object_at size mode read) (alone_at (scalar_at size mode bytes)) (Err f) g.1) [
           | inl k ↦ subst (λ (u : List ℕ). IsRefusedAt mode (suc depth) size u f) (sym k.1) (object_refused k.0 f (subst (λ (u : List ℕ). length u ≤ size) k.1 h) k.2 told)
-          | inr k ↦ no_value mode (suc depth) size bytes f (scalar_some size mode bytes f k.1 told) none g.0 k.0 (scalar_refused size mode bytes f k.1 told)
+          | inr k ↦ no_value mode (suc depth) size bytes f (scalar_some size mode bytes f (alone_fault (scalar_at size mode bytes) f k.1) told) none g.0 k.0 (scalar_refused size mode bytes f (alone_fault (scalar_at size mode bytes) f k.1) told)
         ]
       ]
 
@@ -345,21 +349,21 @@ module _ (mode : Mode) (depth size : ℕ) (read : List ℕ → Read Tree) (sound
 
 too_deep_refused : (mode : Mode) (size b : ℕ) (rest : List ℕ) (f : Fault) → (b ≡ 91) ⊎ (b ≡ 123) → too_deep size rest ≡ Err f → IsRefusedAt mode 0 size (b ∷ rest) f
 too_deep_refused mode size b rest f opens e =
-    let is : record { code = depth_limit_exceeded; place = size - length rest } ≡ f = same_err {B = Tree × List ℕ} (record { code = depth_limit_exceeded; place = size - length rest }) f e in
+    let is : record { code = depth_limit_exceeded; place = size - length rest } ≡ f = same_err {B = Source × List ℕ} (record { code = depth_limit_exceeded; place = size - length rest }) f e in
     subst (λ (g : Fault). IsRefusedAt mode 0 size (b ∷ rest) g) is
     (stops_here mode 0 size (b ∷ rest) (record { code = depth_limit_exceeded; place = size - length rest }) (omega arith) (record { byte = b; others = rest; whole = refl; at_byte = refl; opens = opens; none_left = refl }))
 
 none_left_refused : (size : ℕ) (mode : Mode) → Explains mode 0 size (value_with size mode (too_deep size) (too_deep size))
 none_left_refused size mode bytes f h none e told =
-    elim (on_byte_cases 91 bytes (too_deep size) (on_byte 123 bytes (too_deep size) (scalar_at size mode bytes)) (Err f) e) [
+    elim (on_byte_cases 91 bytes (too_deep size) (on_byte 123 bytes (too_deep size) (alone_at (scalar_at size mode bytes))) (Err f) e) [
       | inl g ↦ subst (λ (u : List ℕ). IsRefusedAt mode 0 size u f) (sym g.1) (too_deep_refused mode size 91 g.0 f (inl refl) g.2)
-      | inr g ↦ elim (on_byte_cases 123 bytes (too_deep size) (scalar_at size mode bytes) (Err f) g.1) [
+      | inr g ↦ elim (on_byte_cases 123 bytes (too_deep size) (alone_at (scalar_at size mode bytes)) (Err f) g.1) [
         | inl k ↦ subst (λ (u : List ℕ). IsRefusedAt mode 0 size u f) (sym k.1) (too_deep_refused mode size 123 k.0 f (inr refl) k.2)
-        | inr k ↦ no_value mode 0 size bytes f (scalar_some size mode bytes f k.1 told) none g.0 k.0 (scalar_refused size mode bytes f k.1 told)
+        | inr k ↦ no_value mode 0 size bytes f (scalar_some size mode bytes f (alone_fault (scalar_at size mode bytes) f k.1) told) none g.0 k.0 (scalar_refused size mode bytes f (alone_fault (scalar_at size mode bytes) f k.1) told)
       ]
     ]
 
-spelling_sound : (size : ℕ) (mode : Mode) (depth : ℕ) → IsSound (IsSpelling mode) (value_at size mode depth)
+spelling_sound : (size : ℕ) (mode : Mode) (depth : ℕ) → IsSound (Seen (IsSpelling mode)) (value_at size mode depth)
 spelling_sound size mode depth bytes t rest e = let s = value_sound size mode depth bytes t rest e in record { core = s.core; spells = (depth, s.spells); whole = s.whole }
 
 -- what a fault that is told of says of a value of any depth

@@ -13,14 +13,14 @@ use Rattle.jsonb_value.specs.Mode.{Mode}
 use Rattle.jsonb_value.specs.Mode.Mode.{extended, standard}
 use Rattle.jsonb_value.specs.Grammar.Scalar.{IsScalar}
 use Rattle.jsonb_value.specs.Tree.{Tree}
-use Rattle.jsonb_value.specs.Tree.Tree.{null}
-use Rattle.jsonb_scan.specs.Reading.{Fault, Read, begins, fault, on_byte}
+use Rattle.jsonb_scan.specs.Source.{Source, null_source, source_alone, tree_of_source}
+use Rattle.jsonb_scan.specs.Reading.{Fault, Read, begins, fault, on_byte, ◌>>=◌}
 use Rattle.jsonb_scan.specs.Reading.Blank.{opens_comment, skip_closed_blanks, skip_blanks}
 use Rattle.jsonb_scan.specs.Reading.Container.{array_at, object_at}
-use Rattle.jsonb_scan.specs.Reading.Document.{at_end, comment_at, document_from, document_of, nothing_at, too_deep, value_at, value_to_end, value_with}
+use Rattle.jsonb_scan.specs.Reading.Document.{alone_at, at_end, comment_at, document_of, nothing_at, source_from, source_of, too_deep, value_at, value_to_end, value_with}
 use Rattle.jsonb_scan.specs.Reading.Scalar.{scalar_at}
 use Rattle.jsonb.specs.Refusals.{IsFront, Stands, Trails}
-use Rattle.jsonb_scan.proofs.Steps.Tests.{chosen, same_read}
+use Rattle.jsonb_scan.proofs.Steps.Tests.{bind_ok, chosen, same_read}
 use Rattle.jsonb.proofs.Refusals.Codes.{IsTold, bind_err, same_err, silent_fault}
 use Rattle.jsonb_scan.proofs.Containers.JoinedParts.{Ends, Starts, ends-blank, ends_at, on_byte-other, skip-starts, starts-append}
 use Rattle.jsonb.proofs.Refusals.Explained.{Wrong, stops_after_blanks, value_explains}
@@ -103,32 +103,34 @@ stands_at mode input front rest count left other place whole sum h w = absurd w
 
 -- ---- after the value
 
-scalar_route : (size : ℕ) (mode : Mode) (arrays objects : List ℕ → Read Tree) (core rest : List ℕ) (t : Tree) → IsScalar mode core t → value_with size mode arrays objects (core ++ rest) ≡ scalar_at size mode (core ++ rest)
+scalar_route : (size : ℕ) (mode : Mode) (arrays objects : List ℕ → Read Source) (core rest : List ℕ) (t : Tree) → IsScalar mode core t → value_with size mode arrays objects (core ++ rest) ≡ alone_at (scalar_at size mode (core ++ rest))
 scalar_route size mode arrays objects core rest t s =
     let st = scalar_starts mode core t s in
     let opened : core ++ rest ≡ st.first ∷ (st.others ++ rest) = ap (λ (u : List ℕ). u ++ rest) st.whole in
-    ap (λ (u : List ℕ). on_byte 91 u arrays (on_byte 123 u objects (scalar_at size mode (core ++ rest)))) opened
-    ∙ on_byte-other 91 st.first (st.others ++ rest) arrays (on_byte 123 (st.first ∷ (st.others ++ rest)) objects (scalar_at size mode (core ++ rest))) st.bracket
-    ∙ on_byte-other 123 st.first (st.others ++ rest) objects (scalar_at size mode (core ++ rest)) st.brace
+    ap (λ (u : List ℕ). on_byte 91 u arrays (on_byte 123 u objects (alone_at (scalar_at size mode (core ++ rest))))) opened
+    ∙ on_byte-other 91 st.first (st.others ++ rest) arrays (on_byte 123 (st.first ∷ (st.others ++ rest)) objects (alone_at (scalar_at size mode (core ++ rest)))) st.bracket
+    ∙ on_byte-other 123 st.first (st.others ++ rest) objects (alone_at (scalar_at size mode (core ++ rest))) st.brace
 
-scalar_within : (size : ℕ) (mode : Mode) (arrays objects : List ℕ → Read Tree) (core : List ℕ) (u : Tree) (rest : List ℕ) (t : Tree) (after : List ℕ) → IsScalar mode core u
-    → value_with size mode arrays objects (core ++ rest) ≡ Ok (t, after) → length after ≤ length rest
-scalar_within size mode arrays objects core u rest t after s e = scalar_longest size mode core u rest t after s (sym (scalar_route size mode arrays objects core rest u s) ∙ e)
+scalar_within : (size : ℕ) (mode : Mode) (arrays objects : List ℕ → Read Source) (core : List ℕ) (u : Tree) (rest : List ℕ) (t : Source) (after : List ℕ) → IsScalar mode core u → value_with size mode arrays objects (core ++ rest) ≡ Ok (t, after) → length after ≤ length rest
+scalar_within size mode arrays objects core u rest t after s e =
+    let b = bind_ok (scalar_at size mode (core ++ rest)) (λ (x : Tree × List ℕ). Ok (source_alone x.0, x.1)) (t, after) (sym (scalar_route size mode arrays objects core rest u s) ∙ e) in
+    let same = same_read (source_alone b.0.0) t b.0.1 after b.2 in
+    omega (arith, scalar_longest size mode core u rest b.0.0 b.0.1 s b.1, ap length same.rest)
 
 -- No spelling of a value goes past what is read.
-value_longest : (size : ℕ) (mode : Mode) (depth : ℕ) (core : List ℕ) (u : Tree) (rest : List ℕ) (t : Tree) (after : List ℕ) → Derives mode depth core u
+value_longest : (size : ℕ) (mode : Mode) (depth : ℕ) (core : List ℕ) (u : Tree) (rest : List ℕ) (t : Source) (after : List ℕ) → Derives mode depth core u
     → value_at size mode depth (core ++ rest) ≡ Ok (t, after) → length after ≤ length rest
 unfolding value_at
 value_longest size mode zero core u rest t after d e = scalar_within size mode (too_deep size) (too_deep size) core u rest t after d e
 value_longest size mode (suc depth) core u rest t after d e = by_kind core u d e (value_is_complete size mode (suc depth)).reads
   where
     by_kind : (core : List ℕ) (u : Tree) → IsValue mode (Derives mode depth) core u → value_with size mode (array_at size mode (value_at size mode depth)) (object_at size mode (value_at size mode depth)) (core ++ rest) ≡ Ok (t, after)
-        → ((bytes : List ℕ) (v : Tree) (others : List ℕ) → IsValue mode (Derives mode depth) bytes v → (IsNumberTree v → Follows others) → value_at size mode (suc depth) (bytes ++ others) ≡ Ok (v, others)) → length after ≤ length rest
+        → ((bytes : List ℕ) (v : Tree) (others : List ℕ) → IsValue mode (Derives mode depth) bytes v → (IsNumberTree v → Follows others) → (s : Source) × (tree_of_source s ≡ v) × (value_at size mode (suc depth) (bytes ++ others) ≡ Ok (s, others))) → length after ≤ length rest
     by_kind core u (scalar s) e complete = scalar_within size mode (array_at size mode (value_at size mode depth)) (object_at size mode (value_at size mode depth)) core u rest t after s e
-    by_kind core u (empty_array b) e complete = let same = same_read u t rest after (sym (complete core u rest (empty_array b) (λ n. absurd n)) ∙ e) in omega (arith, ap length same.rest)
-    by_kind core u (full_array j n) e complete = let same = same_read u t rest after (sym (complete core u rest (full_array j n) (λ n. absurd n)) ∙ e) in omega (arith, ap length same.rest)
-    by_kind core u (empty_object b) e complete = let same = same_read u t rest after (sym (complete core u rest (empty_object b) (λ n. absurd n)) ∙ e) in omega (arith, ap length same.rest)
-    by_kind core u (full_object j k) e complete = let same = same_read u t rest after (sym (complete core u rest (full_object j k) (λ n. absurd n)) ∙ e) in omega (arith, ap length same.rest)
+    by_kind core u (empty_array b) e complete = let c = complete core u rest (empty_array b) (λ n. absurd n) in let same = same_read c.0 t rest after (sym c.2 ∙ e) in omega (arith, ap length same.rest)
+    by_kind core u (full_array j n) e complete = let c = complete core u rest (full_array j n) (λ n. absurd n) in let same = same_read c.0 t rest after (sym c.2 ∙ e) in omega (arith, ap length same.rest)
+    by_kind core u (empty_object b) e complete = let c = complete core u rest (empty_object b) (λ n. absurd n) in let same = same_read c.0 t rest after (sym c.2 ∙ e) in omega (arith, ap length same.rest)
+    by_kind core u (full_object j k) e complete = let c = complete core u rest (full_object j k) (λ n. absurd n) in let same = same_read c.0 t rest after (sym c.2 ∙ e) in omega (arith, ap length same.rest)
 
 -- a document's value, or what follows it
 follows_last : {mode : Mode} {last : List ℕ} (b : AreLastBlanks mode last) (rest : List ℕ) → (last ≡ []) ⊎ Ends (last ++ rest)
@@ -139,7 +141,7 @@ follows_last (line_to_end inside is (more_blanks {blank = blank} {rest = others}
     inr (subst Ends (sym (ap (λ (w : List ℕ). w ++ rest) (append_assoc blank others (47 ∷ 47 ∷ inside)) ∙ append_assoc blank (others ++ 47 ∷ 47 ∷ inside) rest)) (ends-blank b ((others ++ 47 ∷ 47 ∷ inside) ++ rest)))
 
 -- Nor does one with blanks after it go past the blanks after what is read.
-blanks_within : (size : ℕ) (mode : Mode) (depth : ℕ) (core : List ℕ) (u : Tree) (rest : List ℕ) (t : Tree) (after : List ℕ) {last : List ℕ} → AreLastBlanks mode last → Derives mode depth core u
+blanks_within : (size : ℕ) (mode : Mode) (depth : ℕ) (core : List ℕ) (u : Tree) (rest : List ℕ) (t : Source) (after : List ℕ) {last : List ℕ} → AreLastBlanks mode last → Derives mode depth core u
     → value_at size mode depth (core ++ (last ++ rest)) ≡ Ok (t, after) → opens_comment mode (skip_closed_blanks mode after) ≡ false → length (skip_closed_blanks mode after) ≤ length rest
 blanks_within size mode depth core u rest t after {last} b d e closed =
     elim (follows_last b rest) [
@@ -147,7 +149,8 @@ blanks_within size mode depth core u rest t after {last} b d e closed =
           let longest : length after ≤ length (last ++ rest) = value_longest size mode depth core u (last ++ rest) t after d e in
           omega (arith, length-pass mode after, longest, length-append last rest, ap length none)
       | inr ends ↦
-          let same = same_read u t (last ++ rest) after (sym ((value_is_complete size mode depth).reads core u (last ++ rest) d (λ n. before ends)) ∙ e) in
+          let c = (value_is_complete size mode depth).reads core u (last ++ rest) d (λ n. before ends) in
+          let same = same_read c.0 t (last ++ rest) after (sym c.2 ∙ e) in
           elim (last_within b rest) [
             | inl within ↦ omega (arith, within, ap length (ap (λ (w : List ℕ). skip_closed_blanks mode w) same.rest))
             | inr opens ↦ absurd (true≢false (sym opens ∙ ap (λ (w : List ℕ). opens_comment mode (skip_closed_blanks mode w)) same.rest ∙ closed))
@@ -160,7 +163,7 @@ skip-front mode {front} core last rest b s =
     ap (λ (w : List ℕ). skip_blanks mode w) (append_assoc front (core ++ last) rest) ∙ skip-blanks b ((core ++ last) ++ rest)
     ∙ ap (λ (w : List ℕ). skip_blanks mode w) (append_assoc core last rest) ∙ skip-starts mode (core ++ (last ++ rest)) (starts-append core (last ++ rest) s)
 
-value_within : (size : ℕ) (mode : Mode) (depth : ℕ) {front last : List ℕ} (core : List ℕ) (u : Tree) (rest : List ℕ) (t : Tree) (after : List ℕ) → IsBlanks mode front → Derives mode depth core u → AreLastBlanks mode last
+value_within : (size : ℕ) (mode : Mode) (depth : ℕ) {front last : List ℕ} (core : List ℕ) (u : Tree) (rest : List ℕ) (t : Source) (after : List ℕ) → IsBlanks mode front → Derives mode depth core u → AreLastBlanks mode last
     → value_at size mode depth (skip_blanks mode ((front ++ (core ++ last)) ++ rest)) ≡ Ok (t, after) → opens_comment mode (skip_closed_blanks mode after) ≡ false → length (skip_closed_blanks mode after) ≤ length rest
 value_within size mode depth {front} {last} core u rest t after b d c e closed =
     let skipped = skip-front mode core last rest b ((value_is_complete size mode depth).starts core u d) in
@@ -180,7 +183,7 @@ last_skipped mode {last} b more =
       | inr opens ↦ omega (arith, ap length (cond-true (opens_comment mode (skip_closed_blanks mode (last ++ more))) [] (skip_closed_blanks mode (last ++ more)) opens))
     ]
 
-document_within : (mode : Mode) (input first rest longer more : List ℕ) (t u : Tree) (after : List ℕ) → input ≡ first ++ rest → length rest < length (skip_blanks mode input) → skip_closed_blanks mode after ≡ rest → opens_comment mode rest ≡ false
+document_within : (mode : Mode) (input first rest longer more : List ℕ) (t : Source) (u : Tree) (after : List ℕ) → input ≡ first ++ rest → length rest < length (skip_blanks mode input) → skip_closed_blanks mode after ≡ rest → opens_comment mode rest ≡ false
     → value_at (length input) mode max_depth (skip_blanks mode input) ≡ Ok (t, after) → input ≡ longer ++ more → length first < length longer → IsDocument mode longer u → ⊥
 document_within mode input first rest longer more t u after whole some end closed e split long (value_alone {core = core} b d c) =
     let least : length (skip_closed_blanks mode after) ≤ length more =
@@ -189,7 +192,7 @@ document_within mode input first rest longer more t u after whole some end close
 document_within mode input first rest longer more t u after whole some end closed e split long (blanks_alone is b) =
     omega (arith, some, long, ap length (ap (λ (w : List ℕ). skip_blanks mode w) split), last_skipped mode b more, ap length whole, ap length split, length-append first rest, length-append longer more)
 
-trails : (mode : Mode) (input : List ℕ) (t : Tree) (after : List ℕ) (c : ℕ) (others : List ℕ) → value_at (length input) mode max_depth (skip_blanks mode input) ≡ Ok (t, after) → 0 < length (skip_blanks mode input) → skip_closed_blanks mode after ≡ c ∷ others → opens_comment mode (c ∷ others) ≡ false
+trails : (mode : Mode) (input : List ℕ) (t : Source) (after : List ℕ) (c : ℕ) (others : List ℕ) → value_at (length input) mode max_depth (skip_blanks mode input) ≡ Ok (t, after) → 0 < length (skip_blanks mode input) → skip_closed_blanks mode after ≡ c ∷ others → opens_comment mode (c ∷ others) ≡ false
     → Trails mode input (length input - length (c ∷ others) + 1)
 trails mode input t after c others e left end closed =
     let front = skips mode input left in
@@ -201,7 +204,7 @@ trails mode input t after c others e left end closed =
     ∙ sym (append_assoc front.blanks (s.core ++ back.blanks) (c ∷ others)) in
     let at_byte : length input - length (c ∷ others) + 1 ≡ length first + 1 = omega (arith, ap length whole, length-append first (c ∷ others)) in
     let more : length (c ∷ others) < length (skip_blanks mode input) =
-    subst (λ (w : List ℕ). length (c ∷ others) < length (skip_blanks mode w)) (sym whole) (value_some mode max_depth s.core back.blanks t (c ∷ others) front.are_blanks s.spells) in
+    subst (λ (w : List ℕ). length (c ∷ others) < length (skip_blanks mode w)) (sym whole) (value_some mode max_depth s.core back.blanks (tree_of_source t) (c ∷ others) front.are_blanks s.spells) in
     let stays : skip_blanks mode (c ∷ others) ≡ c ∷ others = skip-passed mode (c ∷ others) c others (ap (skip_closed_blanks mode) (sym end) ∙ pass-pass mode after ∙ end) closed in
     record {
       before = first;
@@ -209,9 +212,9 @@ trails mode input t after c others e left end closed =
       others = others;
       whole = whole;
       at_byte = at_byte;
-      tree = t;
+      tree = tree_of_source t;
       document = value_alone front.are_blanks s.spells (blanks_to_end back.are_blanks);
-      not_blank = λ b. let some : 0 < length (skip_blanks mode (first ++ [])) = value_some mode max_depth s.core back.blanks t [] front.are_blanks s.spells in omega (arith, some, ap length (skip-blanks b []), ap length (skip-nil mode));
+      not_blank = λ b. let some : 0 < length (skip_blanks mode (first ++ [])) = value_some mode max_depth s.core back.blanks (tree_of_source t) [] front.are_blanks s.spells in omega (arith, some, ap length (skip-blanks b []), ap length (skip-nil mode));
       no_blank = no_blank_at (c ∷ others) stays;
       longest = λ longer rest u split long d. document_within mode input first (c ∷ others) longer rest t u after whole more end closed e split long d;
     }
@@ -219,31 +222,31 @@ trails mode input t after c others e left end closed =
 -- ---- whole texts
 
 -- a comment that never ends is not told of
-comment_silent : (size : ℕ) (t : Tree) (bytes : List ℕ) (f : Fault) → comment_at size t bytes ≡ Err f → IsTold f.code → ⊥
+comment_silent : (size : ℕ) (t : Source) (bytes : List ℕ) (f : Fault) → comment_at size t bytes ≡ Err f → IsTold f.code → ⊥
 comment_silent size t bytes f e told =
     elim (chosen (begins 47 bytes) (Ok t) (fault invalid_eof size) (Err f) e) [
-      | inl h ↦ let never : ◌≡◌ {A = Result Tree Fault} (Ok t) (Err f) = h.1 in cc
-      | inr h ↦ silent_fault {B = Tree} invalid_eof size f h.1 (λ n. n) told
+      | inl h ↦ let never : ◌≡◌ {A = Result Source Fault} (Ok t) (Err f) = h.1 in cc
+      | inr h ↦ silent_fault {B = Source} invalid_eof size f h.1 (λ n. n) told
     ]
 
-stands_after : (mode : Mode) (input : List ℕ) (t : Tree) (after rest : List ℕ) (f : Fault) → value_at (length input) mode max_depth (skip_blanks mode input) ≡ Ok (t, after) → 0 < length (skip_blanks mode input) → skip_closed_blanks mode after ≡ rest
+stands_after : (mode : Mode) (input : List ℕ) (t : Source) (after rest : List ℕ) (f : Fault) → value_at (length input) mode max_depth (skip_blanks mode input) ≡ Ok (t, after) → 0 < length (skip_blanks mode input) → skip_closed_blanks mode after ≡ rest
     → at_end (length input) mode t rest ≡ Err f → IsTold f.code → Stands mode input f.code f.place
 stands_after mode input t after [] f e left end g told = absurd cc
 stands_after mode input t after (c ∷ others) f e left end g told =
     elim (chosen (opens_comment mode (c ∷ others)) (comment_at (length input) t others) (fault unexpected_trailing_characters (length input - length (c ∷ others) + 1)) (Err f) g) [
       | inl h ↦ absurd (comment_silent (length input) t others f h.1 told)
       | inr h ↦
-          let is : record { code = unexpected_trailing_characters; place = length input - length (c ∷ others) + 1 } ≡ f = same_err {B = Tree} (record { code = unexpected_trailing_characters; place = length input - length (c ∷ others) + 1 }) f h.1 in
+          let is : record { code = unexpected_trailing_characters; place = length input - length (c ∷ others) + 1 } ≡ f = same_err {B = Source} (record { code = unexpected_trailing_characters; place = length input - length (c ∷ others) + 1 }) f h.1 in
           subst (λ (d : Fault). Stands mode input d.code d.place) is (trails mode input t after c others e left end h.0)
     ]
 
 nothing_silent : (mode : Mode) (size : ℕ) (f : Fault) → nothing_at size mode ≡ Err f → IsTold f.code → ⊥
-nothing_silent standard size f e told = silent_fault {B = Tree} invalid_eof size f e (λ n. n) told
-nothing_silent extended size f e told = absurd (let never : ◌≡◌ {A = Result Tree Fault} (Ok null) (Err f) = e in cc)
+nothing_silent standard size f e told = silent_fault {B = Source} invalid_eof size f e (λ n. n) told
+nothing_silent extended size f e told = absurd (let never : ◌≡◌ {A = Result Source Fault} (Ok null_source) (Err f) = e in cc)
 
 value_told : (mode : Mode) (input : List ℕ) (b : ℕ) (rest : List ℕ) (f : Fault) → skip_blanks mode input ≡ b ∷ rest → value_to_end (length input) mode (b ∷ rest) ≡ Err f → IsTold f.code → Stands mode input f.code f.place
 value_told mode input b rest f skipped e told =
-    elim (bind_err (value_at (length input) mode max_depth (b ∷ rest)) (λ (x : Tree × List ℕ). at_end (length input) mode x.0 (skip_closed_blanks mode x.1)) f e) [
+    elim (bind_err (value_at (length input) mode max_depth (b ∷ rest)) (λ (x : Source × List ℕ). at_end (length input) mode x.0 (skip_closed_blanks mode x.1)) f e) [
       | inl h ↦
           let within : length (skip_blanks mode input) ≤ length input = length-skip mode input in
           let s = stops_after_blanks mode max_depth (length input) input f
@@ -254,11 +257,11 @@ value_told mode input b rest f skipped e told =
           stands_after mode input h.0.0 h.0.1 (skip_closed_blanks mode h.0.1) f (ap (λ (w : List ℕ). value_at (length input) mode max_depth w) skipped ∙ h.1) left refl h.2 told
     ]
 
-document_told : (mode : Mode) (input rest : List ℕ) (f : Fault) → skip_closed_blanks mode input ≡ rest → document_from (length input) mode rest ≡ Err f → IsTold f.code → Stands mode input f.code f.place
+document_told : (mode : Mode) (input rest : List ℕ) (f : Fault) → skip_closed_blanks mode input ≡ rest → source_from (length input) mode rest ≡ Err f → IsTold f.code → Stands mode input f.code f.place
 document_told mode input [] f passed e told = absurd (nothing_silent mode (length input) f e told)
 document_told mode input (b ∷ rest) f passed e told =
-    elim (chosen (opens_comment mode (b ∷ rest)) (comment_at (length input) null rest) (value_to_end (length input) mode (b ∷ rest)) (Err f) e) [
-      | inl h ↦ absurd (comment_silent (length input) null rest f h.1 told)
+    elim (chosen (opens_comment mode (b ∷ rest)) (comment_at (length input) null_source rest) (value_to_end (length input) mode (b ∷ rest)) (Err f) e) [
+      | inl h ↦ absurd (comment_silent (length input) null_source rest f h.1 told)
       | inr h ↦ value_told mode input b rest f (skip-passed mode input b rest passed h.0) h.1 told
     ]
 
@@ -271,7 +274,16 @@ untold mode input expected_some_value place h = h tt
 untold mode input depth_limit_exceeded place h = h tt
 untold mode input other place h = tt
 
+-- the tree of the source has its fault
+tree_fault : (r : Result Source Fault) (f : Fault) → (r >>= λ s. Ok (tree_of_source s)) ≡ Err f → r ≡ Err f
+tree_fault (Ok s) f e = absurd (let never : ◌≡◌ {A = Result Tree Fault} (Ok (tree_of_source s)) (Err f) = e in cc)
+tree_fault (Err d) f e = ap (λ (g : Fault). Err g) (same_err {B = Tree} d f e)
+
+source_stands : (mode : Mode) (input : List ℕ) (f : Fault) → source_of mode input ≡ Err f → Stands mode input f.code f.place
+unfolding source_of
+source_stands mode input f e = untold mode input f.code f.place (λ told. document_told mode input (skip_closed_blanks mode input) f refl e told)
+
 -- What the fault of a text says of it.
 pub document_stands : (mode : Mode) (input : List ℕ) (f : Fault) → document_of mode input ≡ Err f → Stands mode input f.code f.place
 unfolding document_of
-document_stands mode input f e = untold mode input f.code f.place (λ told. document_told mode input (skip_closed_blanks mode input) f refl e told)
+document_stands mode input f e = source_stands mode input f (tree_fault (source_of mode input) f e)

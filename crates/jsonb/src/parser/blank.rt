@@ -8,6 +8,9 @@ use super::{Mode, Parser};
 use jsonb_scan::parser::blank::{blank_len, near_spaces};
 use std::simd::prelude::*;
 
+// How many bytes `near_spaces` looks at.
+const NEAR: usize = 16;
+
 impl Parser<'_> {
     // Whether the next byte may begin a blank. Few bytes may, so this is asked before the call.
     #[inline(always)]
@@ -40,11 +43,14 @@ impl Parser<'_> {
         ensures rest { rest_of self.new ≡ skip_blanks (mode_of self.old.mode) (rest_of self.old) }
         ensures advances { Advances self.old self.new }
     {
-        'lines: while self.take_plain_blank() {
+        'lines: loop {
+            if !self.take_plain_blank() {
+                return self.skip_other_blanks();
+            }
             self.skip_spaces();
-        }
-        if self.may_begin_blank() {
-            self.skip_other_blanks();
+            if !self.may_begin_blank() {
+                return;
+            }
         }
     }
 
@@ -111,6 +117,16 @@ impl Parser<'_> {
         false
     }
 
+    // Passes one space, where one comes next.
+    #[inline(always)]
+    pub(super) fn skip_space(&mut self)
+        ensures rest { skip_blanks (mode_of self.old.mode) (rest_of self.new) ≡ skip_blanks (mode_of self.old.mode)
+            (rest_of self.old) }
+        ensures advances { Advances self.old self.new }
+    {
+        let _found = self.take_byte(b' ');
+    }
+
     // Most blanks are spaces in a row.
     #[inline(always)]
     fn skip_spaces(&mut self)
@@ -119,7 +135,21 @@ impl Parser<'_> {
             (rest_of self.old) }
         ensures advances { Advances self.old self.new }
     {
-        self.idx += near_spaces(self.rest());
+        let count = near_spaces(self.rest());
+        self.idx += count;
+        if count == NEAR {
+            self.skip_more_spaces();
+        }
+    }
+
+    // The same of more spaces than `near_spaces` looks at.
+    #[inline(never)]
+    fn skip_more_spaces(&mut self)
+        requires { self.old.idx ≤ size_of self.old }
+        ensures rest { skip_closed_blanks (mode_of self.old.mode) (rest_of self.new) ≡ skip_closed_blanks (mode_of self.old.mode)
+            (rest_of self.old) }
+        ensures advances { Advances self.old self.new }
+    {
         'spaces: while self.take_byte(b' ') {}
     }
 

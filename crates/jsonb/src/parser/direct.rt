@@ -1,21 +1,20 @@
 //! The fast path: a parser of whole texts, which makes the value with no `JsonAst` between and reports no error. Where it
 //! returns nothing, the text may still be a document, and the slow path parses it again.
-ghost use Rattle.std.specs.Prelude.{◌≡◌, ◌<◌, ◌≤◌, ℕ, false, length, map, take, List, MatchBool, OnOk, IfOk, IfSome, Ok, None, string_bytes, [], ◌∷◌, ◌++◌, if◌then◌else◌};
+ghost use Rattle.std.specs.Prelude.{◌≡◌, ◌<◌, ◌≤◌, ℕ, false, length, map, take, List, MatchBool, MatchResult, OnOk, IfOk, IfSome, Ok, None, string_bytes, [], ◌∷◌, ◌++◌, if◌then◌else◌};
 ghost use Rattle.std.specs.BTreeMap.{insert_entry, is_at};
 ghost use Rattle.std.specs.Map.{lookup};
 ghost use Rattle.std.specs.String.{string_cmp};
 ghost use Rattle.jsonb_value.specs.Grammar.{max_depth};
-ghost use Rattle.jsonb_value.specs.Tree.{Tree};
 ghost use Rattle.jsonb_value.specs.View.{view};
 ghost use Rattle.jsonb.specs.declared.parser.direct.OpenValue.TheVariants.{Array, Object};
-ghost use Rattle.jsonb.specs.Direct.{MapHolds, FrameHolds, Pushes, ReadsParts, BeforeValue, AfterValue, AtPart, tree_of};
+ghost use Rattle.jsonb.specs.Direct.{MapHolds, FrameHolds, Pushes, ReadsParts, BeforeValue, AfterValue, AtPart, GivesTree, scalar_or_null, tree_of};
 ghost use Rattle.jsonb_scan.specs.Answer.{mode_of};
-ghost use Rattle.jsonb.specs.Parser.{rest_of, size_of, Advances, FindsAs};
+ghost use Rattle.jsonb.specs.Parser.{rest_of, size_of, Advances, IsBehind, read_at};
 ghost use Rattle.jsonb_scan.specs.Reading.{Read, begins};
 ghost use Rattle.jsonb_scan.specs.Reading.Blank.{is_blank_start, skip_blanks};
-ghost use Rattle.jsonb_scan.specs.Reading.Container.{Found, is_left_out, value_or_null};
+ghost use Rattle.jsonb_scan.specs.Reading.Container.{is_left_out};
 ghost use Rattle.jsonb_scan.specs.Reading.Document.{document_of, value_at};
-ghost use Rattle.jsonb_scan.specs.Reading.Scalar.{scalar_at};
+ghost use Rattle.jsonb_scan.specs.Source.{Source, Found, tree_of_source};
 ghost use Rattle.jsonb.specs.Stack.{Open, elements_from, read_members_from, next_part_at};
 
 mod scalar;
@@ -23,7 +22,7 @@ mod scalar;
 use super::value::MAX_DEPTH;
 use super::{Mode, Parser};
 use jsonb_value::value::{Object, Value};
-use std::alloc::{AllocError, Global};
+use std::alloc::{AllocError, AllocFailed, Global};
 use std::mem;
 
 // An array or an object that is open, with what was read of it.
@@ -86,7 +85,8 @@ impl<'a> Parser<'a> {
     fn direct_value(&mut self, text: &'a str) -> Option<Value<'a>>
         requires inside { self.old.idx ≤ size_of self.old }
         requires same { text.now ≡ take (length text.now) self.old.buf.now }
-        ensures reads { FindsAs view (λ size mode. value_at size mode max_depth) result self.old self.new }
+        ensures reads { IfSome result (λ v. GivesTree (read_at (λ size mode. value_at size mode max_depth) self.old)
+            (view v) (rest_of self.new)) }
         ensures advances { Advances self.old self.new }
     {
         if self.begins_container() {
@@ -108,7 +108,8 @@ impl<'a> Parser<'a> {
     fn direct_container(&mut self, text: &'a str) -> Option<Value<'a>>
         requires inside { self.old.idx ≤ size_of self.old }
         requires same { text.now ≡ take (length text.now) self.old.buf.now }
-        ensures reads { FindsAs view (λ size mode. value_at size mode max_depth) result self.old self.new }
+        ensures reads { IfSome result (λ v. GivesTree (read_at (λ size mode. value_at size mode max_depth) self.old)
+            (view v) (rest_of self.new)) }
         ensures advances { Advances self.old self.new }
     {
         let mut stack = Vec::new(self.alloc);
@@ -130,7 +131,7 @@ impl<'a> Parser<'a> {
     fn open_container(&mut self, stack: &mut Vec<OpenValue<'a>>) -> Option<bool>
         requires depth { length stack.old.items ≤ max_depth }
         requires inside { self.old.idx ≤ size_of self.old }
-        ensures reads { (whole : Read Tree) → BeforeValue whole self.old stack.old.items
+        ensures reads { (whole : Read Source) → BeforeValue whole self.old stack.old.items
             → IfSome result (AtPart whole self.new stack.new.items) }
         ensures onward { IfSome result (λ closed. self.old.idx < self.new.idx) }
         ensures depth { IfSome result (λ closed. length stack.new.items ≤ max_depth) }
@@ -162,7 +163,7 @@ impl<'a> Parser<'a> {
         requires depth { length stack.old.items ≤ max_depth }
         requires inside { self.old.idx ≤ size_of self.old }
         requires same { text.now ≡ take (length text.now) self.old.buf.now }
-        ensures reads { (whole : Read Tree) → AtPart whole self.old stack.old.items false
+        ensures reads { (whole : Read Source) → AtPart whole self.old stack.old.items false
             → IfSome result (AtPart whole self.new stack.new.items) }
         ensures onward { IfSome result (λ closed. self.old.idx < self.new.idx) }
         ensures depth { IfSome result (λ closed. length stack.new.items ≤ max_depth) }
@@ -197,9 +198,11 @@ impl<'a> Parser<'a> {
     fn read_elements(&mut self, items: &mut Vec<Value<'a>>, text: &'a str) -> Option<bool>
         requires inside { self.old.idx ≤ size_of self.old }
         requires same { text.now ≡ take (length text.now) self.old.buf.now }
-        ensures reads { IfSome result (λ closed. (depth : ℕ) → ReadsParts (size_of self.old) (mode_of self.old.mode)
-            depth (elements_from (size_of self.old) (mode_of self.old.mode) depth (map view items.old.items)
-            (rest_of self.old)) closed (Array items.new) (rest_of self.new)) }
+        ensures reads { IfSome result (λ closed. (depth : ℕ) → (front : List Source)
+            → map view items.old.items ≡ map tree_of_source front
+            → ReadsParts (size_of self.old) (mode_of self.old.mode) depth
+            (elements_from (size_of self.old) (mode_of self.old.mode) depth front (rest_of self.old))
+            closed (Array items.new) (rest_of self.new)) }
         ensures onward { IfSome result (λ closed. MatchBool closed (self.old.idx < self.new.idx) (Unit {0})) }
         ensures advances { Advances self.old self.new }
     {
@@ -220,9 +223,8 @@ impl<'a> Parser<'a> {
     fn push_element(&mut self, items: &mut Vec<Value<'a>>, text: &'a str) -> Option<()>
         requires inside { self.old.idx ≤ size_of self.old }
         requires same { text.now ≡ take (length text.now) self.old.buf.now }
-        ensures reads { IfSome result (λ _. Pushes items.old.items
-            (value_or_null (mode_of self.old.mode) (scalar_at (size_of self.old) (mode_of self.old.mode))
-            (rest_of self.old)) items.new.items (rest_of self.new)) }
+        ensures reads { IfSome result (λ _. Pushes items.old.items (read_at scalar_or_null self.old) items.new.items
+            (rest_of self.new)) }
         ensures advances { Advances self.old self.new }
     {
         if !self.is_left_out() {
@@ -284,6 +286,7 @@ impl<'a> Parser<'a> {
         ensures rest { skip_blanks (mode_of self.old.mode) (rest_of self.old)
             ≡ (if result then byte ∷ rest_of self.new else rest_of self.new) }
         ensures onward { MatchBool result (self.old.idx < self.new.idx) (Unit {0}) }
+        ensures behind { MatchBool result (IsBehind byte self.new) (Unit {0}) }
         ensures advances { Advances self.old self.new }
     {
         if self.take_byte(byte) {
@@ -302,7 +305,7 @@ impl<'a> Parser<'a> {
     ) -> Option<bool>
         requires depth { length stack.old.items ≤ max_depth }
         requires inside { self.old.idx ≤ size_of self.old }
-        ensures reads { (whole : Read Tree) → AfterValue whole self.old stack.old.items (tree_of inner.entry)
+        ensures reads { (whole : Read Source) → AfterValue whole self.old stack.old.items (tree_of inner.entry)
             → IfSome result (AtPart whole self.new stack.new.items) }
         ensures onward { IfSome result (λ closed. self.old.idx < self.new.idx) }
         ensures depth { IfSome result (λ closed. length stack.new.items ≤ max_depth) }
@@ -424,10 +427,26 @@ pub(super) fn put_member<'a>(
 {
     match members.insert(key, value) {
         Ok(None) => Ok(true),
+        other => drop_refused(other),
+    }
+}
+
+// Drops what the map gave back in the place of a new member: the value that a repeated key had, or the one that there
+// was no memory for. Either may nest deep. It is a call of its own, so that `put_member` makes no room for what it
+// drops.
+#[cold]
+#[inline(never)]
+fn drop_refused<'a>(
+    given: Result<Option<Value<'a>>, AllocFailed<(String, Value<'a>)>>,
+) -> Result<bool, AllocError>
+    ensures { MatchResult given.entry (λ _. result ≡ Ok false) (λ _. IfOk result (λ _. ⊥)) }
+{
+    match given {
         Ok(Some(old)) => {
             old.dismantle();
             Ok(false)
         }
+        Ok(None) => Ok(false),
         Err(refused) => {
             let (_, value) = refused.value;
             value.dismantle();

@@ -1,12 +1,9 @@
 //! The members of an object: their order, and repeated keys.
-ghost use Rattle.std.specs.Prelude.{◌≡◌, ◌+◌, ◌<◌, IfOk, Err, map, ℕ, List, IsPermutation};
-ghost use Rattle.jsonb_value.specs.Mode.{Mode as GrammarMode};
-ghost use Rattle.jsonb.specs.AstView.{ast_view, found_of};
-ghost use Rattle.jsonb.specs.OpenPlaces.{placed_of};
+ghost use Rattle.std.specs.Prelude.{◌≡◌, map, ℕ, List, IsPermutation};
 ghost use Rattle.jsonb_scan.specs.Answer.{Gives};
-ghost use Rattle.jsonb.specs.Placed.{AreMembersAt, HasByte, IsValueAt};
-ghost use Rattle.jsonb_scan.specs.Reading.Container.{first_repeat, spot_of, spot_cmp, object_or_fault, SpotsAreSorted};
-ghost use Rattle.jsonb.specs.Source.{source_view};
+ghost use Rattle.jsonb_scan.specs.Reading.Container.{object_or_fault};
+ghost use Rattle.jsonb_scan.specs.Source.{first_repeat, spot_of, spot_cmp, SpotsAreSorted};
+ghost use Rattle.jsonb.specs.Source.{found_of, source_view};
 
 use super::JsonAst;
 use jsonb_value::error::{Error, ParseErrorCode, Result};
@@ -36,12 +33,9 @@ fn sort_members(members: &mut Vec<Member>)
 
 // The object of the members, in the order of their keys, where no two have one key.
 pub(super) fn object_of<'a>(alloc: Global, mut members: Vec<Member<'a>>) -> Result<JsonAst<'a>>
-    ensures reads { (rest : List ℕ) → Gives (λ v. (ast_view v, rest)) result
+    ensures reads { (rest : List ℕ) → Gives (λ v. (source_view v, rest)) result
         (object_or_fault (first_repeat (map spot_of (map found_of members.entry.items)))
         (map found_of members.entry.items) rest) }
-    ensures source { (mode : GrammarMode) → (input : List ℕ) → (from to : ℕ) → HasByte input 123 from
-        → AreMembersAt mode input (from + 1) (map placed_of members.entry.items) to → HasByte input 125 to
-        → IfOk result (λ v. IsValueAt mode input from (source_view v) (to + 1)) }
 {
     sort_members(&mut members);
     for i in 1..members.len() {

@@ -4,10 +4,8 @@ ghost use Rattle.jsonb_value.specs.Mode.{standard};
 ghost use Rattle.jsonb_value.specs.View.{number_view};
 ghost use Rattle.jsonb.specs.AstView.{ast_view};
 ghost use Rattle.jsonb_scan.specs.Answer.{mode_of, Gives};
-ghost use Rattle.jsonb.specs.Parser.{rest_of, size_of, Advances, ReadsAs};
-ghost use Rattle.jsonb.specs.Placed.{source_alone};
+ghost use Rattle.jsonb.specs.Parser.{rest_of, size_of, Advances, IsBehind, ReadsAs};
 ghost use Rattle.jsonb_scan.specs.Reading.Scalar.{begins_letter, begins_number, begins_single_quote, folded, letters_at, null_at, number_at, number_value_at, word_at, quoted_at, number_or_fault, scalar_at, other_scalar_at, words_at};
-ghost use Rattle.jsonb.specs.Source.{source_view};
 
 use super::{JsonAst, Mode, Parser};
 use jsonb_value::error::{Error, ParseErrorCode, Result};
@@ -30,7 +28,6 @@ impl<'a> Parser<'a> {
     pub(super) fn parse_scalar(&mut self) -> Result<JsonAst<'a>>
         requires { self.old.idx ≤ size_of self.old }
         ensures reads { ReadsAs ast_view scalar_at result self.old self.new }
-        ensures alone { IfOk result (λ v. source_view v ≡ source_alone (ast_view v)) }
         ensures memory { result ≡ Err Error.OutOfMemory → Contains self.old.buf.now 92 }
         ensures advances { Advances self.old self.new }
     {
@@ -48,7 +45,6 @@ impl<'a> Parser<'a> {
     fn parse_other_scalar(&mut self) -> Result<JsonAst<'a>>
         requires { self.old.idx ≤ size_of self.old }
         ensures reads { ReadsAs ast_view other_scalar_at result self.old self.new }
-        ensures alone { IfOk result (λ v. source_view v ≡ source_alone (ast_view v)) }
         ensures memory { result ≡ Err Error.OutOfMemory → Contains self.old.buf.now 92 }
         ensures advances { Advances self.old self.new }
     {
@@ -63,7 +59,6 @@ impl<'a> Parser<'a> {
     fn parse_word_or_number(&mut self) -> Result<JsonAst<'a>>
         requires { self.old.idx ≤ size_of self.old }
         ensures reads { ReadsAs ast_view words_at result self.old self.new }
-        ensures alone { IfOk result (λ v. source_view v ≡ source_alone (ast_view v)) }
         ensures memory { result ≡ Err Error.OutOfMemory → Contains self.old.buf.now 92 }
         ensures advances { Advances self.old self.new }
     {
@@ -85,6 +80,7 @@ impl<'a> Parser<'a> {
         ensures found { result ≡ begins_single_quote (mode_of self.old.mode) (rest_of self.old) }
         ensures rest { MatchBool result (rest_of self.old ≡ 39 ∷ rest_of self.new) (self.new ≡ self.old) }
         ensures inside { MatchBool result (self.new.idx ≤ size_of self.new) (self.new ≡ self.old) }
+        ensures behind { MatchBool result (IsBehind 39 self.new) (Unit {0}) }
         ensures advances { Advances self.old self.new }
     {
         match self.mode {
@@ -98,7 +94,6 @@ impl<'a> Parser<'a> {
         requires no_backslash { quote ≢ 92 }
         requires inside { self.old.idx ≤ size_of self.old }
         ensures reads { ReadsAs ast_view (λ size mode. quoted_at size mode quote) result self.old self.new }
-        ensures alone { IfOk result (λ v. source_view v ≡ source_alone (ast_view v)) }
         ensures memory { result ≡ Err Error.OutOfMemory → Contains self.old.buf.now 92 }
         ensures advances { Advances self.old self.new }
     {
@@ -124,7 +119,6 @@ impl<'a> Parser<'a> {
         requires { self.old.idx ≤ size_of self.old }
         ensures reads { Gives (λ v. (ast_view v, rest_of self.new)) result
             (number_value_at (size_of self.old) standard (rest_of self.old)) }
-        ensures alone { IfOk result (λ v. source_view v ≡ source_alone (ast_view v)) }
         ensures memory { result ≡ Err Error.OutOfMemory → Contains self.old.buf.now 92 }
         ensures advances { Advances self.old self.new }
     {
@@ -153,7 +147,6 @@ impl<'a> Parser<'a> {
     fn parse_number_value(&mut self) -> Result<JsonAst<'a>>
         requires { self.old.idx ≤ size_of self.old }
         ensures reads { ReadsAs ast_view number_or_fault result self.old self.new }
-        ensures alone { IfOk result (λ v. source_view v ≡ source_alone (ast_view v)) }
         ensures memory { result ≡ Err Error.OutOfMemory → Contains self.old.buf.now 92 }
         ensures advances { Advances self.old self.new }
     {
@@ -182,7 +175,6 @@ impl<'a> Parser<'a> {
     fn parse_null(&mut self) -> Result<JsonAst<'a>>
         requires { self.old.idx ≤ size_of self.old }
         ensures reads { ReadsAs ast_view null_at result self.old self.new }
-        ensures alone { IfOk result (λ v. source_view v ≡ source_alone (ast_view v)) }
         ensures memory { result ≡ Err Error.OutOfMemory → Contains self.old.buf.now 92 }
         ensures advances { Advances self.old self.new }
     {
@@ -205,7 +197,6 @@ impl<'a> Parser<'a> {
     fn parse_literal(&mut self, word: &[u8], value: JsonAst<'a>) -> Result<JsonAst<'a>>
         ensures reads { Gives (λ v. (ast_view v, rest_of self.new)) result
             (word_at (size_of self.old) (mode_of self.old.mode) word.now (ast_view value.entry) (rest_of self.old)) }
-        ensures same { IfOk result (λ v. v ≡ value.entry) }
         ensures memory { result ≡ Err Error.OutOfMemory → Contains self.old.buf.now 92 }
         ensures advances { Advances self.old self.new }
     {

@@ -1,18 +1,14 @@
 //! Values with all that is in them, by a loop over the arrays and objects that are open.
-ghost use Rattle.std.specs.Prelude.{◌≡◌, ◌+◌, ◌<◌, ◌≤◌, length, MatchOption, OnOk, IfOk, MatchResult, Some, None, Err, false, ℕ, List};
+ghost use Rattle.std.specs.Prelude.{◌≡◌, ◌<◌, ◌≤◌, length, MatchOption, OnOk, IfOk, MatchResult, Some, None, Err, false, ℕ, List};
 ghost use Rattle.std.specs.Cow.{cow_str_bytes};
 ghost use Rattle.jsonb_value.specs.Grammar.{max_depth};
-ghost use Rattle.jsonb_value.specs.Mode.{Mode as GrammarMode};
-ghost use Rattle.jsonb_value.specs.Tree.{Tree};
 ghost use Rattle.jsonb_value.specs.View.{mark_view};
-ghost use Rattle.jsonb.specs.AstView.{ast_view};
-ghost use Rattle.jsonb.specs.OpenPlaces.{AllIsPlaced, FrameIsPlaced, FrameIsRead, KeepsPlaces, LeftOut, MemberBegins, OpensContainer, PartIsPlaced, PartIsRead, Skips, StackIsRead};
 ghost use Rattle.jsonb_scan.specs.Answer.{mode_of, Gives, MayAllocate};
 ghost use Rattle.jsonb.specs.Parser.{rest_of, size_of, Advances, ReadsAs, read_at};
-ghost use Rattle.jsonb.specs.Placed.{HasByte, IsValueAt};
 ghost use Rattle.jsonb_scan.specs.Reading.{begins};
 ghost use Rattle.jsonb_scan.specs.Reading.Container.{is_left_out};
 ghost use Rattle.jsonb_scan.specs.Reading.Document.{value_at};
+ghost use Rattle.jsonb_scan.specs.Source.{Source};
 ghost use Rattle.jsonb.specs.Source.{source_view};
 ghost use Rattle.jsonb.specs.Stack.{elements_from, element_from, member_start, array_within, object_within, open_of, add_part, next_part_at, PartBegins, depth_in, resumed, resume_stack_after_part, ahead, Continues};
 
@@ -45,10 +41,8 @@ impl<'a> Parser<'a> {
     // A value that begins here, by a loop over the arrays and objects that are open.
     pub(super) fn parse_value(&mut self) -> Result<JsonAst<'a>>
         requires { self.old.idx ≤ size_of self.old }
-        ensures reads { ReadsAs ast_view (λ size mode. value_at size mode max_depth) result self.old self.new }
+        ensures reads { ReadsAs source_view (λ size mode. value_at size mode max_depth) result self.old self.new }
         ensures memory { result ≡ Err Error.OutOfMemory → MayAllocate self.old.buf.now }
-        ensures source { IfOk result (λ v. IsValueAt (mode_of self.old.mode) self.old.buf.now self.old.idx
-            (source_view v) self.new.idx) }
         ensures advances { Advances self.old self.new }
     {
         let mut stack = Vec::new(self.alloc);
@@ -71,7 +65,6 @@ impl<'a> Parser<'a> {
         ensures opened { OnOk result (length stack.old.items < length stack.new.items → MayAllocate self.old.buf.now) }
         ensures onward { IfOk result (λ read. MatchOption read
             (length (rest_of self.new) < length (rest_of self.old)) (λ _. Unit {0})) }
-        ensures source { KeepsPlaces self.old stack.old.items None result self.new stack.new.items }
         ensures depth { OnOk result (length stack.new.items ≤ max_depth) }
         ensures advances { Advances self.old self.new }
     {
@@ -91,7 +84,6 @@ impl<'a> Parser<'a> {
         ensures reads { Continues (resumed self.old stack.old.items
             (array_within (size_of self.old) (mode_of self.old.mode) (depth_in stack.old.items) (rest_of self.old)))
             result self.new stack.new.items }
-        ensures source { OpensContainer 91 self.old stack.old.items result self.new stack.new.items }
         ensures depth { OnOk result (length stack.new.items ≤ max_depth) }
         ensures advances { Advances self.old self.new }
     {
@@ -109,11 +101,9 @@ impl<'a> Parser<'a> {
 
     // An element that is left out, or nothing where a value is due.
     fn begin_element(&mut self) -> Option<JsonAst<'a>>
-        ensures reads { (depth : ℕ) → (front : List Tree) → elements_from (size_of self.old)
+        ensures reads { (depth : ℕ) → (front : List Source) → elements_from (size_of self.old)
             (mode_of self.old.mode) depth front (rest_of self.old)
             ≡ element_from (size_of self.old) (mode_of self.old.mode) depth front result (rest_of self.new) }
-        ensures skips { Skips (mode_of self.old.mode) self.old.buf.now self.old.idx self.new.idx }
-        ensures source { LeftOut (mode_of self.old.mode) result }
         ensures advances { Advances self.old self.new }
     {
         self.skip_blanks();
@@ -141,7 +131,6 @@ impl<'a> Parser<'a> {
         ensures reads { Continues (resumed self.old stack.old.items
             (object_within (size_of self.old) (mode_of self.old.mode) (depth_in stack.old.items) (rest_of self.old)))
             result self.new stack.new.items }
-        ensures source { OpensContainer 123 self.old stack.old.items result self.new stack.new.items }
         ensures depth { OnOk result (length stack.new.items ≤ max_depth) }
         ensures advances { Advances self.old self.new }
     {
@@ -168,8 +157,6 @@ impl<'a> Parser<'a> {
         requires { self.old.idx ≤ size_of self.old }
         ensures reads { Gives (λ k. (((mark_view k.0, cow_str_bytes k.0), k.1), rest_of self.new)) result
             (read_at member_start self.old) }
-        ensures source { IfOk result (λ k. MemberBegins (mode_of self.old.mode) self.old.buf.now self.old.idx
-            (mark_view k.0, cow_str_bytes k.0) k.1 self.new.idx) }
         ensures advances { Advances self.old self.new }
     {
         self.skip_blanks();
@@ -194,7 +181,6 @@ impl<'a> Parser<'a> {
         requires inside { self.old.idx ≤ size_of self.old }
         ensures reads { Continues (ahead self.old stack.old.items (Some value.entry)) result self.new stack.new.items }
         ensures onward { OnOk result (length (rest_of self.new) < length (rest_of self.old)) }
-        ensures source { KeepsPlaces self.old stack.old.items (Some value.entry) result self.new stack.new.items }
         ensures depth { OnOk result (length stack.new.items ≤ max_depth) }
         ensures advances { Advances self.old self.new }
     {
@@ -215,9 +201,6 @@ impl<'a> Parser<'a> {
         ensures reads { (depth : ℕ) → PartBegins (size_of self.old) (mode_of self.old.mode) depth
             (next_part_at (size_of self.old) (mode_of self.old.mode) depth (open_of frame.old) (rest_of self.old))
             result (open_of frame.new) (rest_of self.new) }
-        ensures source { (from comma : ℕ) → FrameIsRead (mode_of self.old.mode) self.old.buf.now from frame.old comma
-            → HasByte self.old.buf.now 44 comma → self.old.idx ≡ comma + 1
-            → IfOk result (PartIsPlaced (mode_of self.new.mode) self.new.buf.now from frame.new self.new.idx) }
         ensures advances { Advances self.old self.new }
     {
         match frame {
@@ -238,9 +221,6 @@ impl<'a> Parser<'a> {
         requires other { begins 44 (rest_of self.old) ≡ false }
         ensures reads { Continues (resume_stack_after_part self.old stack.old.items) result self.new stack.new.items }
         ensures onward { OnOk result (length (rest_of self.new) < length (rest_of self.old)) }
-        ensures source { (start : ℕ) → (self.old.idx < size_of self.old
-            → StackIsRead (mode_of self.old.mode) self.old.buf.now start stack.old.items self.old.idx)
-            → IfOk result (AllIsPlaced (mode_of self.new.mode) self.new.buf.now start stack.new.items self.new.idx) }
         ensures depth { OnOk result (length stack.new.items < length stack.old.items) }
         ensures advances { Advances self.old self.new }
     {
@@ -266,11 +246,7 @@ impl<'a> Frame<'a> {
     // Puts in the value that the container waits for.
     fn add(&mut self, value: JsonAst<'a>) -> Result<()>
         ensures reads { MatchResult result (λ _. open_of self.new ≡ add_part (open_of self.old)
-            (ast_view value.entry)) (λ e. e ≡ Error.OutOfMemory) }
-        ensures source { (mode : GrammarMode) → (input : List ℕ) → (from due end to : ℕ)
-            → FrameIsPlaced mode input from self.old due → PartIsRead mode input self.old due
-            (source_view value.entry) end
-            → Skips mode input end to → to < length input → OnOk result (FrameIsRead mode input from self.new to) }
+            (source_view value.entry)) (λ e. e ≡ Error.OutOfMemory) }
     {
         match self {
             Frame::Array(items) => items.push(value)?,

@@ -104,6 +104,24 @@ pub record IsComplete {A : Type 0} (Spells : List ℕ → A → Type 0) (read : 
   pub starts : (core : List ℕ) (a : A) → Spells core a → Starts core
   pub reads : (core : List ℕ) (a : A) (rest : List ℕ) → Spells core a → Ends rest → read (core ++ rest) ≡ Ok (a, rest)
 
+-- The same, where what is read shows the spelling's meaning by view.
+pub record IsShown {A F : Type 0} (view : F → A) (Spells : List ℕ → A → Type 0) (read : List ℕ → Read F) : Type 0 where
+  pub starts : (core : List ℕ) (a : A) → Spells core a → Starts core
+  pub reads : (core : List ℕ) (a : A) (rest : List ℕ) → Spells core a → Ends rest → (f : F) × (view f ≡ a) × (read (core ++ rest) ≡ Ok (f, rest))
+
+-- ---- what is seen by view
+
+module _ {A F : Type 0} (view : F → A) (Spells : List ℕ → A → Type 0) where
+  abbrev pub SeenBy : List ℕ → F → Type 0
+  SeenBy bytes f = Spells bytes (view f)
+
+  pub padded_seen : {mode : Mode} {bytes : List ℕ} {f : F} (p : IsPadded mode SeenBy bytes f) → IsPadded mode Spells bytes (view f)
+  padded_seen (padded b s c) = padded b s c
+
+  pub joined_seen : {bytes : List ℕ} {fs : List F} (j : IsJoined SeenBy bytes fs) → IsJoined Spells bytes (map view fs)
+  joined_seen (one_part s) = one_part s
+  joined_seen (more_parts s j) = more_parts s (joined_seen j)
+
 -- ---- blanks round what is read
 
 pub starts-append : (core rest : List ℕ) → Starts core → Starts (core ++ rest)
@@ -129,6 +147,7 @@ module _ {A : Type 0} (mode : Mode) (Spells : List ℕ → A → Type 0) (read :
         whole = subst (λ (t : List ℕ). bytes ≡ (front.blanks ++ (s.core ++ back.blanks)) ++ t) same.rest regrouped;
       }
 
+module _ {A : Type 0} (mode : Mode) (Spells : List ℕ → A → Type 0) where
   -- the bytes of a padded value after the blanks before it
   pub record Padded (bytes : List ℕ) (a : A) (rest : List ℕ) : Type 0 where
     pub core : List ℕ
@@ -137,8 +156,8 @@ module _ {A : Type 0} (mode : Mode) (Spells : List ℕ → A → Type 0) (read :
     pub are_blanks : IsBlanks mode after
     pub skipped : skip_blanks mode (bytes ++ rest) ≡ core ++ (after ++ rest)
 
-  pub skip-padded : IsComplete Spells read → (bytes : List ℕ) (a : A) (rest : List ℕ) → IsPadded mode Spells bytes a → Padded bytes a rest
-  skip-padded complete bytes a rest (padded {before = before} {core = core} {after = after} b s c) =
+  pub skip-padded : ((core : List ℕ) (a : A) → Spells core a → Starts core) → (bytes : List ℕ) (a : A) (rest : List ℕ) → IsPadded mode Spells bytes a → Padded bytes a rest
+  skip-padded starts bytes a rest (padded {before = before} {core = core} {after = after} b s c) =
       record {
         core = core;
         after = after;
@@ -146,18 +165,22 @@ module _ {A : Type 0} (mode : Mode) (Spells : List ℕ → A → Type 0) (read :
         are_blanks = c;
         skipped =
             ap (λ (t : List ℕ). skip_blanks mode t) (append_assoc before (core ++ after) rest) ∙ skip-blanks b ((core ++ after) ++ rest)
-            ∙ ap (λ (t : List ℕ). skip_blanks mode t) (append_assoc core after rest) ∙ skip-starts mode (core ++ (after ++ rest)) (starts-append core (after ++ rest) (complete.starts core a s));
+            ∙ ap (λ (t : List ℕ). skip_blanks mode t) (append_assoc core after rest) ∙ skip-starts mode (core ++ (after ++ rest)) (starts-append core (after ++ rest) (starts core a s));
       }
 
-  pub padded_complete : IsComplete Spells read → (bytes : List ℕ) (a : A) (c : ℕ) (rest : List ℕ) → IsPadded mode Spells bytes a → is_break c ≡ true → is_blank_start c ≡ false
-      → padded_at mode read (bytes ++ c ∷ rest) ≡ Ok (a, c ∷ rest)
+module _ {A F : Type 0} (view : F → A) (mode : Mode) (Spells : List ℕ → A → Type 0) (read : List ℕ → Read F) where
+  pub padded_complete : IsShown view Spells read → (bytes : List ℕ) (a : A) (c : ℕ) (rest : List ℕ) → IsPadded mode Spells bytes a → is_break c ≡ true → is_blank_start c ≡ false
+      → (f : F) × (view f ≡ a) × (padded_at mode read (bytes ++ c ∷ rest) ≡ Ok (f, c ∷ rest))
   padded_complete complete bytes a c rest p is_end is_none =
-      let s = skip-padded complete bytes a (c ∷ rest) p in
+      let s = skip-padded mode Spells complete.starts bytes a (c ∷ rest) p in
       let r = complete.reads s.core a (s.after ++ c ∷ rest) s.spells (ends-blanks s.are_blanks (c ∷ rest) (ends_at c rest is_end)) in
-      let k : skip_blanks mode (s.after ++ c ∷ rest) ≡ c ∷ rest = skip-blanks s.are_blanks (c ∷ rest) ∙ skip-stop mode c rest is_none in
-      ap (λ (t : List ℕ). read t >>= λ (x : A × List ℕ). Ok (x.0, skip_blanks mode x.1)) s.skipped
-      ∙ ap (λ (q : Read A). q >>= λ (x : A × List ℕ). Ok (x.0, skip_blanks mode x.1)) r
-      ∙ ap (λ (t : List ℕ). Ok (a, t)) k
+      let k : skip_blanks mode (s.after ++ c ∷ rest) ≡ c ∷ rest = skip-blanks s.are_blanks (c ∷ rest) ∙ skip-stop mode c rest is_none in (
+        r.0,
+        r.1,
+        ap (λ (t : List ℕ). read t >>= λ (x : F × List ℕ). Ok (x.0, skip_blanks mode x.1)) s.skipped
+            ∙ ap (λ (q : Read F). q >>= λ (x : F × List ℕ). Ok (x.0, skip_blanks mode x.1)) r.2
+            ∙ ap (λ (t : List ℕ). Ok (r.0, t)) k,
+      )
 
 -- ---- a byte at the front
 

@@ -1,12 +1,10 @@
 -- Parts joined by commas, arrays, objects, repeated keys.
--- Read for: `exact`; promises: `Found` and `member_of`, which `ast_view` names.
-use Rattle.std.specs.Prelude.{◌≡◌, ℕ, zero, suc, ◌-◌, Bool, false, ◌||◌, List, [], ◌∷◌, length, Option, Some, None, Ok, map, ◌==◌, if◌then◌else◌}
-use Rattle.std.specs.declared.cmp.Ordering.{Ordering}
-use Rattle.std.specs.Ordering.{ordering_then, nat_cmp, is_gt, is_eq}
-use Rattle.std.specs.Cmp.Lexicographic.{slice_cmp}
+-- Read for: `exact`.
+use Rattle.std.specs.Prelude.{ℕ, zero, suc, ◌-◌, Bool, false, ◌||◌, List, [], ◌∷◌, length, Option, Some, None, Ok, map, ◌==◌, if◌then◌else◌}
 use Rattle.jsonb_value.specs.Mode.{Mode, standard, extended}
-use Rattle.jsonb_value.specs.Tree.{Mark, Tree, null, array, object, no_trees, no_members, trees_of, Member, put_all}
+use Rattle.jsonb_value.specs.Tree.{Mark}
 use Rattle.jsonb_value.specs.Code.{Code, invalid_eof, expected_colon, expected_array_comma_or_end, expected_object_comma_or_end, object_duplicate_key}
+use Rattle.jsonb_scan.specs.Source.{Source, null_source, array_source, object_source, no_sources, no_source_members, Found, Spot, found, spot_of, first_repeat, array_source_of, object_source_of}
 use Rattle.jsonb_scan.specs.Reading.{Read, ◌>>=◌, on_byte, fault, refused}
 use Rattle.jsonb_scan.specs.Reading.Blank.{skip_blanks}
 use Rattle.jsonb_scan.specs.Reading.Scalar.{key_at}
@@ -39,92 +37,47 @@ abbrev pub is_left_out : Mode → List ℕ → Bool
 is_left_out standard bytes = false
 is_left_out extended bytes = ends_element bytes
 
-abbrev pub value_or_null : Mode → (List ℕ → Read Tree) → List ℕ → Read Tree
-value_or_null mode value bytes = if is_left_out mode bytes then Ok (null, bytes) else value bytes
+abbrev pub value_or_null : Mode → (List ℕ → Read Source) → List ℕ → Read Source
+value_or_null mode value bytes = if is_left_out mode bytes then Ok (null_source, bytes) else value bytes
 
-abbrev pub element_at : Mode → (List ℕ → Read Tree) → List ℕ → Read Tree
+abbrev pub element_at : Mode → (List ℕ → Read Source) → List ℕ → Read Source
 element_at mode value = padded_at mode (value_or_null mode value)
 
-abbrev pub elements_at : ℕ → Mode → (List ℕ → Read Tree) → List ℕ → Read Tree
+abbrev pub elements_at : ℕ → Mode → (List ℕ → Read Source) → List ℕ → Read Source
 elements_at size mode value bytes =
     joined_at size expected_array_comma_or_end 93 (element_at mode value) (suc (length bytes))
-    (skip_blanks mode bytes) >>= λ x. Ok (array (trees_of x.0), x.1)
+    (skip_blanks mode bytes) >>= λ x. Ok (array_source_of x.0, x.1)
 
 -- an array, from the byte after the bracket on
-abbrev pub array_at : ℕ → Mode → (List ℕ → Read Tree) → List ℕ → Read Tree
+abbrev pub array_at : ℕ → Mode → (List ℕ → Read Source) → List ℕ → Read Source
 array_at size mode value bytes =
-    on_byte 93 (skip_blanks mode bytes) (λ rest. Ok (array no_trees, rest)) (elements_at size mode value bytes)
+    on_byte 93 (skip_blanks mode bytes) (λ rest. Ok (array_source no_sources, rest)) (elements_at size mode value bytes)
 
 -- ---- objects
 
--- A member, the mark of its key, and the place after its key.
-pub record Found : Type 0 where
-  pub mark : Mark
-  pub key : List ℕ
-  pub tree : Tree
-  pub place : ℕ
+abbrev pub found_at : Mark × List ℕ → ℕ → Source × List ℕ → Read Found
+found_at key place x = Ok (found key x.0 place, x.1)
 
-abbrev pub member_of : Found → Member
-member_of f = (f.key, f.tree)
-
-abbrev pub found_at : Mark × List ℕ → ℕ → Tree × List ℕ → Read Found
-found_at key place x = Ok (record { mark = key.0; key = key.1; tree = x.0; place = place }, x.1)
-
-abbrev pub after_key : ℕ → Mode → (List ℕ → Read Tree) → Mark × List ℕ → ℕ → List ℕ → Read Found
+abbrev pub after_key : ℕ → Mode → (List ℕ → Read Source) → Mark × List ℕ → ℕ → List ℕ → Read Found
 after_key size mode value key place bytes =
     on_byte 58 bytes (λ rest. padded_at mode value rest >>= found_at key place) (refused size expected_colon 0 bytes)
 
-abbrev pub member_at : ℕ → Mode → (List ℕ → Read Tree) → List ℕ → Read Found
+abbrev pub member_at : ℕ → Mode → (List ℕ → Read Source) → List ℕ → Read Found
 member_at size mode value bytes =
     key_at size mode (skip_blanks mode bytes) >>= λ k. after_key size mode value k.0 (size - length k.1)
     (skip_blanks mode k.1)
 
--- A key, and the place after it.
-pub record Spot : Type 0 where
-  pub key : List ℕ
-  pub place : ℕ
-
-abbrev pub spot_of : Found → Spot
-spot_of f = record { key = f.key; place = f.place }
-
--- by the key's bytes, and then by the place
-abbrev pub spot_cmp : Spot → Spot → Ordering
-spot_cmp s t = ordering_then (slice_cmp nat_cmp s.key t.key) (nat_cmp s.place t.place)
-
--- no spot is above the next one
-abbrev pub SpotsAreSorted : List Spot → Type 0
-SpotsAreSorted [] = Unit {0}
-SpotsAreSorted (s ∷ []) = Unit {0}
-SpotsAreSorted (s ∷ t ∷ ts) = (is_gt (spot_cmp s t) ≡ false) × SpotsAreSorted (t ∷ ts)
-
-abbrev pub insert_spot : Spot → List Spot → List Spot
-insert_spot s [] = s ∷ []
-insert_spot s (t ∷ ts) = if is_gt (spot_cmp s t) then t ∷ insert_spot s ts else s ∷ t ∷ ts
-
-abbrev pub sort_spots : List Spot → List Spot
-sort_spots [] = []
-sort_spots (s ∷ ss) = insert_spot s (sort_spots ss)
-
--- the first one whose key is that of the one before it
-abbrev pub adjacent_repeat : List Spot → Option Spot
-adjacent_repeat [] = None
-adjacent_repeat (s ∷ []) = None
-adjacent_repeat (s ∷ t ∷ ts) = if is_eq (slice_cmp nat_cmp s.key t.key) then Some t else adjacent_repeat (t ∷ ts)
-
--- the least key that comes twice, where it comes the second time
-unfoldable pub first_repeat : List Spot → Option Spot
-first_repeat ss = adjacent_repeat (sort_spots ss)
-
-abbrev pub object_or_fault : Option Spot → List Found → List ℕ → Read Tree
-object_or_fault None fs rest = Ok (object (put_all (map member_of fs) no_members), rest)
+abbrev pub object_or_fault : Option Spot → List Found → List ℕ → Read Source
+object_or_fault None fs rest = Ok (object_source_of fs, rest)
 object_or_fault (Some s) fs rest = fault (object_duplicate_key s.key) s.place
 
-abbrev pub members_at : ℕ → Mode → (List ℕ → Read Tree) → List ℕ → Read Tree
+abbrev pub members_at : ℕ → Mode → (List ℕ → Read Source) → List ℕ → Read Source
 members_at size mode value bytes =
     joined_at size expected_object_comma_or_end 125 (member_at size mode value) (suc (length bytes))
     (skip_blanks mode bytes) >>= λ x. object_or_fault (first_repeat (map spot_of x.0)) x.0 x.1
 
 -- an object, from the byte after the brace on
-abbrev pub object_at : ℕ → Mode → (List ℕ → Read Tree) → List ℕ → Read Tree
+abbrev pub object_at : ℕ → Mode → (List ℕ → Read Source) → List ℕ → Read Source
 object_at size mode value bytes =
-    on_byte 125 (skip_blanks mode bytes) (λ rest. Ok (object no_members, rest)) (members_at size mode value bytes)
+    on_byte 125 (skip_blanks mode bytes) (λ rest. Ok (object_source no_source_members, rest))
+    (members_at size mode value bytes)

@@ -6,7 +6,7 @@ ghost use Rattle.jsonb_value.specs.Tree.Mark.{plain};
 ghost use Rattle.jsonb_value.specs.View.{view, mark_view};
 ghost use Rattle.jsonb.specs.Direct.{Pushes, PutsIn};
 ghost use Rattle.jsonb_scan.specs.Answer.{mode_of};
-ghost use Rattle.jsonb.specs.Parser.{rest_of, size_of, Advances, FindsAs, read_at};
+ghost use Rattle.jsonb.specs.Parser.{rest_of, size_of, Advances, FindsAs, IsBehind, read_at};
 ghost use Rattle.jsonb_scan.specs.Reading.Blank.{skip_blanks};
 ghost use Rattle.jsonb_scan.specs.Reading.Scalar.{scalar_at, other_scalar_at, quoted_at, words_at, key_at};
 ghost use Rattle.jsonb_scan.specs.Reading.String.{string_at};
@@ -219,6 +219,8 @@ impl<'a> Parser<'a> {
         if !self.take_after_blanks(b':') {
             return None;
         }
+        // Often there is one space.
+        self.skip_space();
         self.skip_blanks();
         Some(name)
     }
@@ -285,6 +287,8 @@ impl<'a> Parser<'a> {
     #[inline(always)]
     fn direct_string(&mut self, quote: u8, text: &'a str) -> Option<CowStr<'a>>
         requires no_backslash { quote ≢ 92 }
+        requires ascii { quote < 128 }
+        requires opened { IsBehind quote self.old }
         requires inside { self.old.idx ≤ size_of self.old }
         requires same { text.now ≡ take (length text.now) self.old.buf.now }
         ensures reads { FindsAs (λ s. (mark_view s, cow_str_bytes s)) (λ size mode. string_at size mode quote) result
@@ -312,10 +316,13 @@ impl<'a> Parser<'a> {
         Some(string)
     }
 
-    // A string without escapes, from the byte after its opening quote on.
+    // A string without escapes, from the byte after its opening quote on. No character crosses a quote, so that the text
+    // is cut at both without a look at the bytes there.
     #[inline(always)]
     fn borrowed_string(&mut self, quote: u8, text: &'a str) -> Option<&'a str>
         requires no_backslash { quote ≢ 92 }
+        requires ascii { quote < 128 }
+        requires opened { IsBehind quote self.old }
         requires inside { self.old.idx ≤ size_of self.old }
         requires same { text.now ≡ take (length text.now) self.old.buf.now }
         ensures reads { FindsAs (λ s. (plain, s.now)) (λ size mode. string_at size mode quote) result self.old
@@ -331,10 +338,14 @@ impl<'a> Parser<'a> {
         if rest[end] != quote {
             return None;
         }
-        let body = text.get(self.idx..self.idx + end)?;
+        let after = self.idx + end;
+        if after > text.len() {
+            return None;
+        }
+        let body = &text[self.idx..after];
         // Tells that the body is UTF-8.
         let _bytes = body.as_bytes();
-        self.idx += end + 1;
+        self.idx = after + 1;
         Some(body)
     }
 }

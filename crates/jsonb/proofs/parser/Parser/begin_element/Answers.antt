@@ -1,16 +1,14 @@
 use Rattle.std.proofs.Common.{sym, ap, ◌∙◌}
-use Rattle.jsonb_value.specs.Tree.Tree.{null}
 use Rattle.jsonb_scan.specs.Answer.{mode_of}
 use Rattle.jsonb.specs.Parser.{rest_of, size_of}
 use Rattle.jsonb_scan.specs.Reading.{◌>>=◌}
 use Rattle.jsonb_scan.specs.Reading.Document.{value_at}
+use Rattle.jsonb_scan.specs.Source.{null_source}
 use Rattle.jsonb.specs.Stack.{finish_open}
 use Rattle.jsonb.specs.Stack.Open.{elements_so_far}
 use Rattle.jsonb.proofs.Containers.OpenOnLists.{element-due, element-left_out}
 use Rattle.jsonb.proofs.Containers.OpenOfReader.{same_left_out}
-use Rattle.jsonb.proofs.Containers.Values.{is_extended_if}
-use Rattle.jsonb.proofs.Places.Views.{view-Null}
-use Rattle.jsonb.proofs.Places.Placed.{skip_made, source-Null}
+use Rattle.jsonb.proofs.Places.Views.{source-Null}
 use Rattle.jsonb.proofs.parser.Parser.begin_element.Goals as goal
 
 pub returns-then-is_left_out-clause-reads : goal.returns-then-is_left_out-clause-reads
@@ -18,8 +16,8 @@ returns-then-is_left_out-clause-reads c depth front =
     let p = c.args.self.now in
     let q = c.skip_blanks.new.self in
     element-left_out (size_of p) (mode_of p.mode) depth front (rest_of p) (same_left_out p q c.skip_blanks.ensures.rest c.skip_blanks.ensures.advances ∙ sym c.is_left_out.ensures ∙ c.if-is_left_out.true)
-    ∙ ap (λ r. finish_open (size_of p) (mode_of p.mode) depth (elements_so_far front) (null, r)) (sym c.skip_blanks.ensures.rest)
-    ∙ ap (λ t. finish_open (size_of p) (mode_of p.mode) depth (elements_so_far front) (t, rest_of q)) (sym view-Null)
+    ∙ ap (λ r. finish_open (size_of p) (mode_of p.mode) depth (elements_so_far front) (null_source, r)) (sym c.skip_blanks.ensures.rest)
+    ∙ ap (λ t. finish_open (size_of p) (mode_of p.mode) depth (elements_so_far front) (t, rest_of q)) (sym source-Null)
 
 pub returns-else-is_left_out-clause-reads : goal.returns-else-is_left_out-clause-reads
 returns-else-is_left_out-clause-reads c depth front =
@@ -27,14 +25,3 @@ returns-else-is_left_out-clause-reads c depth front =
     let q = c.skip_blanks.new.self in
     element-due (size_of p) (mode_of p.mode) depth front (rest_of p) (same_left_out p q c.skip_blanks.ensures.rest c.skip_blanks.ensures.advances ∙ sym c.is_left_out.ensures ∙ c.if-is_left_out.false)
     ∙ ap (λ r. value_at (size_of p) (mode_of p.mode) depth r >>= finish_open (size_of p) (mode_of p.mode) depth (elements_so_far front)) (sym c.skip_blanks.ensures.rest)
-
-pub returns-then-is_left_out-clause-skips : goal.returns-then-is_left_out-clause-skips
-returns-then-is_left_out-clause-skips c = skip_made c.args.self.now c.skip_blanks.new.self c.skip_blanks.ensures.advances c.skip_blanks.ensures.rest
-
-pub returns-else-is_left_out-clause-skips : goal.returns-else-is_left_out-clause-skips
-returns-else-is_left_out-clause-skips c = skip_made c.args.self.now c.skip_blanks.new.self c.skip_blanks.ensures.advances c.skip_blanks.ensures.rest
-
-pub returns-then-is_left_out-clause-source : goal.returns-then-is_left_out-clause-source
-returns-then-is_left_out-clause-source c =
-    let q = c.skip_blanks.new.self in
-    (sym (ap mode_of c.skip_blanks.ensures.advances.mode) ∙ is_extended_if (mode_of q.mode) (rest_of q) (sym c.is_left_out.ensures ∙ c.if-is_left_out.true), source-Null)

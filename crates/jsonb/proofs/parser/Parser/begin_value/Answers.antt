@@ -1,6 +1,8 @@
-use Rattle.std.proofs.Common.{Result, OnOk, Err, inl, inr, ◌≡◌, ◌<◌, ap, sym, ◌∙◌, subst, None, Some, Ok}
+use Rattle.std.proofs.Common.{Result, OnOk, Err, inl, inr, ◌≡◌, ℕ, List, ap, sym, ◌∙◌, None, Ok}
 use Rattle.std.proofs.lemmas.Result.{err_from_is_err_and}
-use Rattle.jsonb.specs.AstView.{ast_view}
+use Rattle.jsonb_value.specs.Tree.{Tree}
+use Rattle.jsonb_scan.specs.Source.{source_alone}
+use Rattle.jsonb_scan.specs.Reading.Document.{alone_at}
 use Rattle.jsonb_scan.specs.Answer.{mode_of}
 use Rattle.jsonb.specs.Parser.{rest_of, size_of}
 use Rattle.jsonb_scan.specs.Reading.{begins}
@@ -8,11 +10,8 @@ use Rattle.jsonb_scan.specs.Reading.Scalar.{scalar_at}
 use Rattle.jsonb.specs.Stack.{ahead, depth_in, resume, resumed, stack_of}
 use Rattle.jsonb.proofs.Steps.Advancing.{goes_on, contains_next}
 use Rattle.jsonb.proofs.Steps.Outcomes.{fails_same, fails_through}
-use Rattle.jsonb.proofs.Containers.OpenOfReader.{array_begins, continues_from, object_begins, resumed_same, scalar_begins}
-use Rattle.jsonb.specs.OpenPlaces.{AllIsPlaced, StackIsPlaced}
-use Rattle.jsonb.specs.Placed.{HasByte, IsValueAt}
+use Rattle.jsonb.proofs.Containers.OpenOfReader.{alone_seen, array_begins, continues_from, object_begins, resumed_same, scalar_begins}
 use Rattle.jsonb.specs.Source.{source_view}
-use Rattle.jsonb.proofs.Places.Placed.{byte_has, earlier, later, next_index, scalar_has, value_any}
 use Rattle.jsonb.proofs.parser.Parser.begin_value.Goals as goal
 
 on_ok : {A E : Type 0} {P : Type 0} (r : Result A E) → P → OnOk r P
@@ -40,10 +39,11 @@ returns-in_err-parse_scalar-clause-reads c =
     let e = c.in_err-parse_scalar.field-0.0 in
     let unmoved : o ≡ p = c.if-take_byte-2.ensures.rest ∙ c.if-take_byte.ensures.rest in
     let fs = c.args.stack.now.items in
-    rw (r.1, r.2) (fails_same e (resumed p fs (scalar_at (size_of p) (mode_of p.mode) (rest_of p))) (ahead p fs None)
+    rw (r.1, r.2) (fails_same e (resumed p fs (alone_at (scalar_at (size_of p) (mode_of p.mode) (rest_of p)))) (ahead p fs None)
     (scalar_begins p fs (sym c.if-take_byte.ensures.found) (ap (λ r. begins 123 (rest_of r)) (sym c.if-take_byte.ensures.rest) ∙ sym c.if-take_byte-2.ensures.found))
-    (fails_through e (scalar_at (size_of p) (mode_of p.mode) (rest_of p)) (resume (size_of p) (mode_of p.mode) (depth_in fs) (stack_of fs))
-    (fails_same e (scalar_at (size_of o) (mode_of o.mode) (rest_of o)) (scalar_at (size_of p) (mode_of p.mode) (rest_of p)) (ap (λ s. scalar_at (size_of s) (mode_of s.mode) (rest_of s)) (sym unmoved)) c.in_err-parse_scalar.ensures.reads)))
+    (fails_through e (alone_at (scalar_at (size_of p) (mode_of p.mode) (rest_of p))) (resume (size_of p) (mode_of p.mode) (depth_in fs) (stack_of fs))
+    (fails_through e (scalar_at (size_of p) (mode_of p.mode) (rest_of p)) (λ (x : Tree × List ℕ). Ok (source_alone x.0, x.1))
+    (fails_same e (scalar_at (size_of o) (mode_of o.mode) (rest_of o)) (scalar_at (size_of p) (mode_of p.mode) (rest_of p)) (ap (λ s. scalar_at (size_of s) (mode_of s.mode) (rest_of s)) (sym unmoved)) c.in_err-parse_scalar.ensures.reads))))
 
 pub returns-clause-reads : goal.returns-clause-reads
 returns-clause-reads c =
@@ -54,9 +54,9 @@ returns-clause-reads c =
     let fs = c.args.stack.now.items in
     let unmoved : o ≡ p = c.if-take_byte-2.ensures.rest ∙ c.if-take_byte.ensures.rest in
     scalar_begins p fs (sym c.if-take_byte.ensures.found) (ap (λ r. begins 123 (rest_of r)) (sym c.if-take_byte.ensures.rest) ∙ sym c.if-take_byte-2.ensures.found)
-    ∙ ap (λ s. resumed p fs (scalar_at (size_of s) (mode_of s.mode) (rest_of s))) (sym unmoved)
-    ∙ ap (λ r. resumed p fs r) c.in_ok-parse_scalar.ensures.reads
-    ∙ sym (resumed_same p m fs (Ok (ast_view c.in_ok-parse_scalar.field-0, rest_of m))
+    ∙ ap (λ s. resumed p fs (alone_at (scalar_at (size_of s) (mode_of s.mode) (rest_of s)))) (sym unmoved)
+    ∙ ap (λ r. resumed p fs r) (alone_seen o c.in_ok-parse_scalar.field-0 (rest_of m) c.in_ok-parse_scalar.ensures.reads)
+    ∙ sym (resumed_same p m fs (Ok (source_view c.in_ok-parse_scalar.field-0, rest_of m))
     (goes_on p q m c.take_byte.ensures.advances (goes_on q o m c.take_byte-2.ensures.advances c.parse_scalar.ensures.advances)))
 
 pub returns-then-take_byte-clause-memory : goal.returns-then-take_byte-clause-memory
@@ -77,42 +77,3 @@ returns-then-take_byte-2-clause-opened c =
     let here = ap (λ r. rest_of r) (sym c.if-take_byte.ensures.rest) ∙ c.if-take_byte-2.ensures.rest in
     let there = contains_next c.args.self.now.buf.now c.args.self.now.idx 123 (rest_of c.take_byte-2.new.self) here in
     on_ok c.begin_object.result (λ more. inr (inl there))
-
-pub returns-then-take_byte-clause-source : goal.returns-then-take_byte-clause-source
-returns-then-take_byte-clause-source c start h =
-    let p = c.args.self.now in
-    let q = c.take_byte.new.self in
-    let fs = c.args.stack.now.items in
-    let a = c.take_byte.ensures.advances in
-    let there = byte_has p q 91 a c.if-take_byte.ensures.rest c.if-take_byte.ensures.inside.1 c.if-take_byte.ensures.inside.0 in
-    c.begin_array.ensures.source start p.idx (later p q (λ m i. StackIsPlaced m i start fs p.idx) a (subst (λ n. StackIsPlaced (mode_of p.mode) p.buf.now start fs n) h.2 h.1))
-    (later p q (λ m i. HasByte i 91 p.idx) a there) (next_index p q 91 a c.if-take_byte.ensures.rest c.if-take_byte.ensures.inside.1 c.if-take_byte.ensures.inside.0)
-
-pub returns-then-take_byte-2-clause-source : goal.returns-then-take_byte-2-clause-source
-returns-then-take_byte-2-clause-source c start h =
-    let p = c.args.self.now in
-    let o = c.take_byte.new.self in
-    let q = c.take_byte-2.new.self in
-    let fs = c.args.stack.now.items in
-    let unmoved : o ≡ p = c.if-take_byte.ensures.rest in
-    let a = goes_on p o q c.take_byte.ensures.advances c.take_byte-2.ensures.advances in
-    let rest = ap (λ r. rest_of r) (sym unmoved) ∙ c.if-take_byte-2.ensures.rest in
-    let moved = subst (λ r. r.idx < q.idx) unmoved c.if-take_byte-2.ensures.inside.0 in
-    let there = byte_has p q 123 a rest c.if-take_byte-2.ensures.inside.1 moved in
-    c.begin_object.ensures.source start p.idx (later p q (λ m i. StackIsPlaced m i start fs p.idx) a (subst (λ n. StackIsPlaced (mode_of p.mode) p.buf.now start fs n) h.2 h.1))
-    (later p q (λ m i. HasByte i 123 p.idx) a there) (next_index p q 123 a rest c.if-take_byte-2.ensures.inside.1 moved)
-
-pub returns-clause-source : goal.returns-clause-source
-returns-clause-source c start h =
-    let p = c.args.self.now in
-    let q = c.take_byte.new.self in
-    let o = c.take_byte-2.new.self in
-    let m = c.parse_scalar.new.self in
-    let fs = c.args.stack.now.items in
-    let v = c.in_ok-parse_scalar.field-0 in
-    let unmoved : o ≡ p = c.if-take_byte-2.ensures.rest ∙ c.if-take_byte.ensures.rest in
-    let to-o = goes_on p q o c.take_byte.ensures.advances c.take_byte-2.ensures.advances in
-    let a = c.parse_scalar.ensures.advances in
-    let here = earlier p o (λ k i. IsValueAt k i o.idx (source_view v) m.idx) to-o (scalar_has o m v a (to-o.inside c.requires.inside) c.in_ok-parse_scalar.ensures.reads c.in_ok-parse_scalar.ensures.alone) in
-    let value = subst (λ n. IsValueAt (mode_of p.mode) p.buf.now n (source_view v) m.idx) (ap (λ r. r.idx) unmoved ∙ sym h.2) here in
-    later p m (λ k i. AllIsPlaced k i start fs m.idx (Some v)) (goes_on p o m to-o a) (h.0, h.1, value_any (mode_of p.mode) p.buf.now fs h.0 (source_view v) m.idx value)

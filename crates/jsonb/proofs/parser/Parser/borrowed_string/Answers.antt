@@ -1,6 +1,7 @@
-use Rattle.std.proofs.Common.{◌≡◌, ℕ, ◌+◌, ◌-◌, ◌<◌, ◌≤◌, List, Ok, false, length, take, drop, ap, sym, subst, ◌∙◌, arith, drop-drop}
-use Rattle.std.proofs.lemmas.List.{drop-take, take-take}
-use Rattle.std.specs.Str.{IsUtf8}
+use Rattle.std.proofs.Common.{◌≡◌, ℕ, ◌+◌, ◌-◌, ◌<◌, ◌≤◌, List, Ok, false, length, take, drop, get_or, ap, sym, subst, ◌∙◌, arith, drop-drop}
+use Rattle.std.proofs.lemmas.List.{drop-take, get_or-take, take-take}
+use Rattle.std.proofs.lemmas.Str.{IsCharBoundary-after_ascii}
+use Rattle.std.specs.Str.{IsCharBoundary, IsUtf8}
 use Rattle.jsonb_value.specs.Tree.Mark.{plain}
 use Rattle.jsonb_scan.specs.Decoding.{TellsBackslash}
 use Rattle.jsonb_scan.specs.Answer.{mode_of}
@@ -8,6 +9,17 @@ use Rattle.jsonb.specs.Parser.{size_of}
 use Rattle.jsonb_scan.specs.Reading.String.{quote_end, string_at}
 use Rattle.jsonb_scan.proofs.Strings.Bodies.{body-raw, found_end, search_start, search_to, string-closed, tells_taken}
 use Rattle.jsonb.proofs.parser.Parser.borrowed_string.Goals as goal
+
+pub range-body-requires-clause-start_boundary : goal.range-body-requires-clause-start_boundary
+range-body-requires-clause-start_boundary c some =
+    let p = c.args.self.now in
+    let text : List ℕ = c.args.text.now in
+    let before : ℕ = p.idx - 1 in
+    let within : before < length text = omega (arith, c.requires.opened.0, c.if-after-text.false) in
+    let quote : get_or text before 0 ≡ c.args.quote =
+    ap (λ (u : List ℕ). get_or u before 0) c.requires.same ∙ get_or-take (length text) p.buf.now before 0 within ∙ c.requires.opened.1 in
+    let next : before + 1 ≡ p.idx = omega (arith, some) in
+    subst (IsCharBoundary text) next (IsCharBoundary-after_ascii text before c.utf8.text within (omega (arith, quote, c.requires.ascii)))
 
 pub returns-clause-reads : goal.returns-clause-reads
 returns-clause-reads c =
@@ -24,16 +36,16 @@ returns-clause-reads c =
     let count : p.idx + end - p.idx ≡ end = omega arith in
     let all : ℕ = length c.args.text.now in
     let left : ℕ = all - p.idx in
-    let bounds = c.in_ok-body.ensures.cases in
-    let split : all ≡ p.idx + left = omega arith in
-    let short : end ≤ left = omega arith in
-    let cut : c.in_ok-body.body.now ≡ take end rest =
-    c.in_ok-body.ensures.cases.0 ∙ ap (λ (n : ℕ). take n (drop p.idx c.args.text.now)) count
+    let split : all ≡ p.idx + left = omega (arith, c.if-after-text.false) in
+    let short : end ≤ left = omega (arith, c.if-after-text.false) in
+    let cut : c.range-body.result.now ≡ take end rest =
+    c.range-body.ensures.value ∙ ap (λ (n : ℕ). take n (drop p.idx c.args.text.now)) count
     ∙ ap (λ (u : List ℕ). take end (drop p.idx u)) (c.requires.same ∙ ap (λ (n : ℕ). take n p.buf.now) split)
     ∙ ap (λ (u : List ℕ). take end u) (drop-take p.idx left p.buf.now) ∙ take-take end left (drop p.idx p.buf.now) short
     ∙ ap (λ (u : List ℕ). take end u) (sym rest-is) in
+    let after : p.idx + (end + 1) ≡ p.idx + end + 1 = omega arith in
     let is_text : IsUtf8 (take end rest) = subst IsUtf8 (c.as_bytes-bytes.ensures.value ∙ cut) c.as_bytes-bytes.ensures.utf8 in
     ap (λ (u : List ℕ). string_at (size_of p) mode quote u) (sym rest-is)
     ∙ string-closed (size_of p) mode quote rest end (plain, take end rest) found (body-raw mode (take end rest) clear is_text)
     ∙ ap (λ (s : List ℕ). Ok ((plain, s), drop (end + 1) rest)) (sym cut)
-    ∙ ap (λ (u : List ℕ). Ok ((plain, c.in_ok-body.body.now), u)) (ap (λ (u : List ℕ). drop (end + 1) u) rest-is ∙ drop-drop (end + 1) p.idx p.buf.now)
+    ∙ ap (λ (u : List ℕ). Ok ((plain, c.range-body.result.now), u)) (ap (λ (u : List ℕ). drop (end + 1) u) rest-is ∙ drop-drop (end + 1) p.idx p.buf.now ∙ ap (λ (n : ℕ). drop n p.buf.now) after)

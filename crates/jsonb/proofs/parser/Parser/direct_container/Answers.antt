@@ -1,7 +1,7 @@
-use Rattle.std.proofs.Common.{◌≡◌, length, sym, subst, ◌∙◌, ap, arith, Ok}
+use Rattle.std.proofs.Common.{◌≡◌, length, sym, subst, arith}
 use Rattle.std.proofs.lemmas.Grind.{common_steps}
 use Rattle.jsonb_value.specs.Grammar.{max_depth}
-use Rattle.jsonb.specs.Direct.{AtPart}
+use Rattle.jsonb.specs.Direct.{AtPart, GivesTree}
 use Rattle.jsonb_scan.specs.Answer.{mode_of}
 use Rattle.jsonb.specs.Parser.{rest_of, size_of}
 use Rattle.jsonb_scan.specs.Reading.Document.{value_at}
@@ -28,8 +28,8 @@ returns-then-is_empty-clause-reads c =
     let fs = c.turns.stack.items in
     let gs = c.pop.new.self.items in
     let none : length gs ≡ 0 = grind (arith, common_steps) in
-    outermost l gs _ whole none (ended l fs gs c.in_ok-inner.inner whole c.in_ok-inner.ensures.items i.depth (subst (λ closed. AtPart whole l fs closed) c.if-closed.true i.ahead))
-    ∙ ap (λ t. Ok (t, rest_of l)) (sym c.into_value.ensures)
+    subst (λ t. GivesTree whole t (rest_of l)) (sym c.into_value.ensures)
+    (outermost l gs _ whole none (ended l fs gs c.in_ok-inner.inner whole c.in_ok-inner.ensures.items i.depth (subst (λ closed. AtPart whole l fs closed) c.if-closed.true i.ahead)))
 
 pub turns-preserved-then-closed : goal.turns-preserved-then-closed
 turns-preserved-then-closed c =

@@ -26,5 +26,5 @@ returns-clause-reads c =
       ap (λ (x : Read (Mark × List ℕ)). x >>= λ (k : (Mark × List ℕ) × List ℕ). on_byte 58 (skip_blanks m k.1) (λ rest. Ok ((k.0, n - length k.1), skip_blanks m rest)) (refused n expected_colon 0 (skip_blanks m k.1))) c.in_ok-name.ensures.reads.1
           ∙ ap (λ (v : List ℕ). on_byte 58 v (λ rest. Ok (((mark, name), place), skip_blanks m rest)) (refused n expected_colon 0 v)) (ap (λ k. skip_blanks (mode_of k) (rest_of r)) (sym on_r.mode) ∙ c.if-not-take_after_blanks.ensures.rest)
           ∙ on_byte-found 58 (rest_of u) (λ rest. Ok (((mark, name), place), skip_blanks m rest)) (refused n expected_colon 0 (58 ∷ rest_of u))
-          ∙ ap (λ (v : List ℕ). Ok (((mark, name), place), v)) (ap (λ k. skip_blanks (mode_of k) (rest_of u)) (sym on_u.mode) ∙ sym c.skip_blanks.ensures.rest),
+          ∙ ap (λ (v : List ℕ). Ok (((mark, name), place), v)) (ap (λ k. skip_blanks (mode_of k) (rest_of u)) (sym on_u.mode) ∙ sym c.skip_space.ensures.rest ∙ ap (λ k. skip_blanks (mode_of k) (rest_of c.skip_space.new.self)) (sym c.skip_space.ensures.advances.mode) ∙ sym c.skip_blanks.ensures.rest),
     )

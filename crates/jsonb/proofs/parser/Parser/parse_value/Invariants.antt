@@ -1,7 +1,6 @@
 use Rattle.std.proofs.Common.{◌≡◌, ◌+◌, ◌*◌, ◌≤◌, ◌<◌, ℕ, length, Option, Some, None}
 use Rattle.jsonb.specs.declared.parser.ast.JsonAst.{JsonAst}
 use Rattle.jsonb_value.specs.Grammar.{max_depth}
-use Rattle.jsonb.specs.OpenPlaces.{AllIsPlaced}
 use Rattle.jsonb_scan.specs.Answer.{MayAllocate, mode_of}
 use Rattle.jsonb.specs.Parser.{Advances, rest_of, size_of}
 use Rattle.jsonb_scan.specs.Reading.Document.{value_at}
@@ -19,7 +18,6 @@ invariant-turns l =
     × (length l.stack.items ≤ max_depth)
     × Advances p l.self
     × (0 < length l.stack.items → MayAllocate p.buf.now)
-    × AllIsPlaced (mode_of l.self.mode) l.self.buf.now p.idx l.stack.items l.self.idx l.read
 
 abbrev pub decreases-turns : goal.decreases-turns
 decreases-turns l = 2 * length (rest_of l.self) + due l.read

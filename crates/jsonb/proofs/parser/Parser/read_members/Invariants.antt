@@ -2,7 +2,7 @@ use Rattle.std.proofs.Common.{◌≡◌, ℕ, ◌-◌, ◌≤◌, List}
 use Rattle.jsonb.specs.Direct.{MapHolds}
 use Rattle.jsonb_scan.specs.Answer.{mode_of}
 use Rattle.jsonb.specs.Parser.{Advances, rest_of, size_of}
-use Rattle.jsonb_scan.specs.Reading.Container.{Found}
+use Rattle.jsonb_scan.specs.Source.{Found}
 use Rattle.jsonb.specs.Stack.{read_members_from}
 use Rattle.jsonb.proofs.parser.Parser.read_members.Given as goal
 

@@ -1,29 +1,24 @@
-use Rattle.std.proofs.Common.{◌≡◌, ℕ, ◌<◌, ◌≤◌, ◌∷◌, refl, ap, sym, ◌∙◌, arith, drop-drop, get_or, length, length-drop}
+use Rattle.std.proofs.Common.{◌≡◌, ℕ, ◌+◌, ◌<◌, ◌≤◌, List, ap, sym, ◌∙◌, arith, drop, drop-drop, get_or, length}
+use Rattle.jsonb_value.specs.Mode.{Mode}
 use Rattle.jsonb_scan.specs.Reading.Blank.{skip_closed_blanks}
 use Rattle.jsonb_scan.specs.Answer.{mode_of}
 use Rattle.jsonb.specs.Parser.{rest_of}
-use Rattle.jsonb.proofs.Steps.Advancing.{goes_on}
-use Rattle.jsonb_scan.proofs.Text.Blanks.{pass-spaces, pass-step}
+use Rattle.jsonb.specs.declared.parser.Parser.{Parser}
+use Rattle.jsonb_scan.proofs.Text.Blanks.{pass-spaces}
 use Rattle.jsonb.proofs.parser.Parser.skip_spaces.Goals as goal
 
-pub spaces-init : goal.spaces-init
-spaces-init c =
-    let p = c.args.self.now in
-    let mode = mode_of p.mode in
-    let count = c.near_spaces.result in
-    let within : count ≤ length (rest_of p) = omega (arith, c.near_spaces.ensures.within, ap length c.rest.ensures) in
-    let are : (k : ℕ) → k < count → get_or (rest_of p) k 0 ≡ 32 = λ k low. sym (ap (λ u. get_or u k 0) c.rest.ensures) ∙ c.near_spaces.ensures.spaces k low in (
-      sym (ap (skip_closed_blanks mode) (drop-drop count p.idx p.buf.now)) ∙ pass-spaces mode count (rest_of p) within are,
-      record { buf = refl; mode = refl; onward = omega arith; inside = λ h. omega (arith, within, length-drop p.idx p.buf.now) },
-    )
+-- So many spaces are passed, as these bytes from the index on show.
+passed : (p : Parser) (rest : List ℕ) (count : ℕ) → rest ≡ rest_of p → count ≤ length rest → ((k : ℕ) → k < count → get_or rest k 0 ≡ 32) → skip_closed_blanks (mode_of p.mode) (drop (p.idx + count) p.buf.now) ≡ skip_closed_blanks (mode_of p.mode) (rest_of p)
+passed p rest count same within spaces =
+    let mode : Mode = mode_of p.mode in
+    let fits : count ≤ length (rest_of p) = omega (arith, within, ap length same) in
+    let are : (k : ℕ) → k < count → get_or (rest_of p) k 0 ≡ 32 = λ k low. sym (ap (λ u. get_or u k 0) same) ∙ spaces k low in
+    sym (ap (skip_closed_blanks mode) (drop-drop count p.idx p.buf.now)) ∙ pass-spaces mode count (rest_of p) fits are
 
-pub spaces-preserved : goal.spaces-preserved
-spaces-preserved c =
-    let p = c.spaces.self in
-    let q = c.take_byte.new.self in
-    let mode = mode_of c.args.self.now.mode in
-    let some : 0 < 1 = omega arith in
-    let before = c.spaces.invariant in (
-      sym (ap (λ r. skip_closed_blanks mode r) c.spaces-test.ensures.rest ∙ pass-step mode (32 ∷ rest_of q) some) ∙ before.0,
-      goes_on c.args.self.now p q before.1 c.take_byte.ensures.advances,
-    )
+pub returns-then-count-eq-NEAR-clause-rest : goal.returns-then-count-eq-NEAR-clause-rest
+returns-then-count-eq-NEAR-clause-rest c =
+    c.skip_more_spaces.ensures.rest ∙ passed c.args.self.now c.rest.result.now c.near_spaces-count.result c.rest.ensures c.near_spaces-count.ensures.within c.near_spaces-count.ensures.spaces
+
+pub returns-else-count-eq-NEAR-clause-rest : goal.returns-else-count-eq-NEAR-clause-rest
+returns-else-count-eq-NEAR-clause-rest c =
+    passed c.args.self.now c.rest.result.now c.near_spaces-count.result c.rest.ensures c.near_spaces-count.ensures.within c.near_spaces-count.ensures.spaces

@@ -1,13 +1,12 @@
-use Rattle.std.proofs.Common.{refl}
 use Rattle.jsonb.specs.AstView.{ast_view}
 use Rattle.jsonb_scan.specs.Answer.{mode_of}
-use Rattle.jsonb_scan.specs.Reading.Document.{document_of}
-use Rattle.jsonb.proofs.Documents.Agreement.{gives_document, gives_errors, gives_explained, gives_only, gives_refused}
+use Rattle.jsonb_scan.specs.Reading.Document.{document_of, source_of}
+use Rattle.jsonb.proofs.Documents.Agreement.{gives_document, gives_errors, gives_explained, gives_only, gives_refused, gives_source, gives_tree}
 use Rattle.jsonb.proofs.parser.ast.JsonAst.parse.Goals as goal
 
 pub returns-clause-exact : goal.returns-clause-exact
-unfolding document_of
-returns-clause-exact c = c.parse_document.ensures.reads
+unfolding source_of
+returns-clause-exact c = gives_tree (mode_of c.args.mode) c.args.buf.now c.parse_document.result c.parse_document.ensures.reads
 
 pub returns-clause-document : goal.returns-clause-document
 returns-clause-document c = gives_document (mode_of c.args.mode) c.args.buf.now c.parse_document.result (returns-clause-exact c)
@@ -25,4 +24,5 @@ pub returns-clause-errors : goal.returns-clause-errors
 returns-clause-errors c = gives_errors ast_view c.parse_document.result (document_of (mode_of c.args.mode) c.args.buf.now) (returns-clause-exact c)
 
 pub returns-clause-source : goal.returns-clause-source
-returns-clause-source c = c.parse_document.ensures.source refl
+unfolding source_of
+returns-clause-source c = gives_source (mode_of c.args.mode) c.args.buf.now c.parse_document.result c.parse_document.ensures.reads
