@@ -1,9 +1,9 @@
 -- Arrays and objects, and the containers that are open.
+pub mod Built
+pub mod Frames
 pub mod KeyPlaces
 pub mod LongerSpellings
 pub mod Members
-pub mod OpenOfDirect
-pub mod OpenOfReader
 pub mod OpenOnLists
 pub mod Repeats
 pub mod SecondPlaces

@@ -1,3 +1,4 @@
 -- Values that hold no others, and keys.
+pub mod Built
 pub mod FirstBytes
 pub mod Spellings

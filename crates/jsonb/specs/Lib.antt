@@ -1,5 +1,6 @@
 pub mod AstView
-pub mod Direct
+pub mod Build
+pub mod Frames
 pub mod Parser
 pub mod Placed
 pub mod Refusals

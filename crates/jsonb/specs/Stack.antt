@@ -1,23 +1,12 @@
 -- Parsing by the open containers: what remains once a value inside them was parsed.
 -- Read for: private.
-use Rattle.std.specs.Cow.{cow_str_bytes}
-use Rattle.jsonb_value.specs.declared.error.Error.{Error}
-use Rattle.jsonb.specs.declared.parser.ast.JsonAst.{JsonAst}
-use Rattle.jsonb.specs.declared.parser.Parser.{Parser}
-use Rattle.jsonb.specs.declared.parser.value.Frame.{Frame}
-use Rattle.jsonb.specs.declared.parser.value.Frame.TheVariants as variants
-use Rattle.std.specs.Prelude.{◌≡◌, ℕ, zero, suc, ◌-◌, List, [], ◌∷◌, ◌++◌, length, Result, Ok, Err, Option, Some, None, map}
+use Rattle.std.specs.Prelude.{ℕ, zero, suc, ◌-◌, Bool, true, false, List, [], ◌∷◌, ◌++◌, length, Ok, map}
 use Rattle.jsonb_value.specs.Code.{Code}
 use Rattle.jsonb_value.specs.Code.Code.{expected_array_comma_or_end, expected_colon, expected_object_comma_or_end}
-use Rattle.jsonb_value.specs.Grammar.{max_depth}
 use Rattle.jsonb_value.specs.Mode.{Mode}
 use Rattle.jsonb_value.specs.Tree.{Mark}
 use Rattle.jsonb_value.specs.Tree.Mark.{plain}
-use Rattle.jsonb_value.specs.View.{mark_view}
-use Rattle.jsonb.specs.Source.{source_view, found_of}
-use Rattle.jsonb_scan.specs.Source.{Source, null_source, Found, found, spot_of, first_repeat, array_source_of}
-use Rattle.jsonb_scan.specs.Answer.{Fails, mode_of}
-use Rattle.jsonb.specs.Parser.{rest_of, size_of}
+use Rattle.jsonb_scan.specs.Source.{Source, Found, found, spot_of, first_repeat, array_source_of}
 use Rattle.jsonb_scan.specs.Reading.{Read, on_byte, refused, ◌>>=◌}
 use Rattle.jsonb_scan.specs.Reading.Blank.{skip_blanks}
 use Rattle.jsonb_scan.specs.Reading.Container.{array_at, element_at, joined_at, member_at, object_at, object_or_fault}
@@ -43,6 +32,12 @@ module _ {A : Type 0} (size : ℕ) (code : Code) (close : ℕ) (part : List ℕ 
   parts_after front bytes =
       on_byte 44 bytes (parts_from front) (on_byte close bytes (finish front) (refused size code 0 bytes))
 
+-- the comma after a part, or the closing byte
+abbrev pub part_end : ℕ → Code → ℕ → List ℕ → Read Bool
+part_end size code close bytes =
+    on_byte 44 bytes (λ rest. Ok (false, rest)) (on_byte close bytes (λ rest. Ok (true, rest))
+    (refused size code 0 bytes))
+
 abbrev pub array_end : List Source → List ℕ → Read Source
 array_end ss rest = Ok (array_source_of ss, rest)
 
@@ -60,7 +55,7 @@ member_start size mode bytes =
 abbrev pub add_part : Open → Source → Open
 add_part (elements_so_far front) s = elements_so_far (front ++ s ∷ [])
 add_part (members_so_far front key place) s =
-    members_so_far (front ++ found key s place ∷ []) (plain, []) place
+    members_so_far (front ++ found key s place ∷ []) (plain, []) 0
 
 module _ (size : ℕ) (mode : Mode) (depth : ℕ) where
   abbrev pub elements_from : List Source → List ℕ → Read Source
@@ -98,65 +93,7 @@ abbrev pub object_within : ℕ → Mode → ℕ → List ℕ → Read Source
 object_within size mode zero = too_deep size
 object_within size mode (suc depth) = object_at size mode (value_at size mode depth)
 
--- ---- the reader's stack, whose last frame is the innermost
-
-abbrev pub open_of : Frame → Open
-open_of (variants.Array v) = elements_so_far (map source_view v.items)
-open_of (variants.Object o) =
-    members_so_far (map found_of o.members.items) (mark_view o.key, cow_str_bytes o.key) o.after
-
-abbrev pub stack_onto : List Open → List Frame → List Open
-stack_onto below [] = below
-stack_onto below (f ∷ fs) = stack_onto (open_of f ∷ below) fs
-
-abbrev pub stack_of : List Frame → List Open
-stack_of = stack_onto []
-
--- how deep a value may nest inside of these
-abbrev pub depth_in : List Frame → ℕ
-depth_in frames = max_depth - length frames
-
--- the outermost value, once this was read inside of the open containers
-abbrev pub resumed : Parser → List Frame → Read Source → Read Source
-resumed p frames read = read >>= resume (size_of p) (mode_of p.mode) (depth_in frames) (stack_of frames)
-
--- What is read from here on where a value is due, and where this value was read.
-abbrev pub ahead : Parser → List Frame → Option JsonAst → Read Source
-ahead p frames None = resumed p frames (value_at (size_of p) (mode_of p.mode) (depth_in frames) (rest_of p))
-ahead p frames (Some v) = resumed p frames (Ok (source_view v, rest_of p))
-
--- A step of the reader leaves what is read the same, or gives its fault.
-abbrev pub Continues : Read Source → Result (Option JsonAst) Error → Parser → List Frame → Type 0
-Continues whole (Ok value) p frames = whole ≡ ahead p frames value
-Continues whole (Err e) p frames = Fails e whole
-
--- the element that was left out, or the value that is due
-abbrev pub element_begun : ℕ → Mode → ℕ → Option JsonAst → List ℕ → Read Source
-element_begun size mode depth None bytes = value_at size mode depth bytes
-element_begun size mode depth (Some v) bytes = Ok (source_view v, bytes)
-
--- an array with these elements, once an element was begun
-abbrev pub element_from : ℕ → Mode → ℕ → List Source → Option JsonAst → List ℕ → Read Source
-element_from size mode depth front begun bytes =
-    element_begun size mode depth begun bytes >>= finish_open size mode depth (elements_so_far front)
-
--- The rest of the innermost container from the end of a part on, and then of the others.
-abbrev pub rest_of_opens : ℕ → Mode → ℕ → List Open → List ℕ → Read Source
-rest_of_opens size mode depth [] bytes = Ok (null_source, bytes)
-rest_of_opens size mode depth (c ∷ cs) bytes =
-    resume_after_part size mode depth c bytes >>= resume size mode (suc depth) cs
-
--- the same from the beginning of a part on
+-- the container from the beginning of a part on
 abbrev pub next_part_at : ℕ → Mode → ℕ → Open → List ℕ → Read Source
 next_part_at size mode depth (elements_so_far front) bytes = elements_from size mode depth front bytes
 next_part_at size mode depth (members_so_far front key place) bytes = read_members_from size mode depth front bytes
-
--- What a step into a part leaves, or its fault.
-abbrev pub PartBegins : ℕ → Mode → ℕ → Read Source → Result (Option JsonAst) Error → Open → List ℕ → Type 0
-PartBegins size mode depth whole (Ok begun) c bytes = whole
-    ≡ (element_begun size mode depth begun bytes >>= finish_open size mode depth c)
-PartBegins size mode depth whole (Err e) c bytes = Fails e whole
-
-abbrev pub resume_stack_after_part : Parser → List Frame → Read Source
-resume_stack_after_part p frames =
-    rest_of_opens (size_of p) (mode_of p.mode) (depth_in frames) (stack_of frames) (rest_of p)

@@ -1,6 +1,6 @@
 //! The parsers of JSON texts: from left to right, up to the first fault.
 
-ghost use Rattle.std.specs.Prelude.{◌≡◌, ◌≢◌, ◌+◌, ◌<◌, ◌≤◌, [], ◌∷◌, drop, MatchOption, MatchBool, IfOk, IfErr, Err};
+ghost use Rattle.std.specs.Prelude.{◌≡◌, ◌≢◌, ◌+◌, ◌<◌, ◌≤◌, [], ◌∷◌, drop, MatchOption, MatchBool, IfOk, IfErr, Err, Some, length, take};
 ghost use Rattle.jsonb_value.specs.Code.{code_of};
 ghost use Rattle.jsonb_value.specs.Grammar.{IsDocument, IsNoDocument};
 ghost use Rattle.jsonb_value.specs.Mode.{standard, extended};
@@ -13,14 +13,14 @@ ghost use Rattle.jsonb_scan.specs.Answer.{mode_of, NamesFault, IsTextRefusal, Gi
 ghost use Rattle.jsonb.specs.Parser.{rest_of, size_of, Advances, IsBehind};
 ghost use Rattle.jsonb_scan.specs.Reading.{begins, fault_at};
 ghost use Rattle.jsonb_scan.specs.Reading.Blank.{skip_closed_blanks};
-ghost use Rattle.jsonb_scan.specs.Reading.Document.{at_end, comment_at, document_of, source_from};
+ghost use Rattle.jsonb_scan.specs.Reading.Document.{at_end, comment_at, document_of, source_from, source_of};
 ghost use Rattle.jsonb.specs.Refusals.{IsExplained};
 ghost use Rattle.jsonb_scan.specs.Source.{Source};
-ghost use Rattle.jsonb.specs.Source.{source_view};
+ghost use Rattle.jsonb.specs.Build.{BuildsAll};
 
 mod ast;
 mod blank;
-mod direct;
+mod build;
 mod extended_number;
 mod key;
 mod members;
@@ -30,7 +30,7 @@ mod string;
 mod value;
 
 pub use ast::JsonAst;
-use direct::read_directly;
+use build::Build;
 pub use jsonb_scan::parser::{Mode, modes_compare};
 use jsonb_value::error::{Error, ParseErrorCode, Result};
 use jsonb_value::value::Value;
@@ -76,7 +76,7 @@ pub fn parse_value_standard_mode(alloc: Global, buf: &[u8]) -> Result<Value<'_>>
     // Each standard document is an extended one, of the same value.
     ensures extended { IfOk result (λ v. (u : Tree) × IsDocument extended buf.now u × Same u (view v)) }
 {
-    if let Some(value) = read_directly(alloc, buf, Mode::Standard) {
+    if let Ok(value) = read_document::<Value>(alloc, buf, Mode::Standard) {
         return Ok(value);
     }
     JsonAst::parse(alloc, buf, Mode::Standard)?.into_scalar(alloc)
@@ -116,10 +116,31 @@ pub fn parse_value(alloc: Global, buf: &[u8]) -> Result<Value<'_>>
     ensures in_range { IfOk result (λ v. IsInRange (view v)) }
     ensures proper { IfOk result (λ v. IsProper (view v)) }
 {
-    if let Some(value) = read_directly(alloc, buf, Mode::Extended) {
+    if let Ok(value) = read_document::<Value>(alloc, buf, Mode::Extended) {
         return Ok(value);
     }
     JsonAst::parse(alloc, buf, Mode::Extended)?.into_scalar(alloc)
+}
+
+// What is built of a whole text.
+fn read_document<'a, V: Build<'a>>(
+    alloc: Global,
+    buf: &'a [u8],
+    mode: Mode,
+) -> std::result::Result<V, V::Failure>
+    ensures reads { BuildsAll V.told V.sees result (source_of (mode_of mode) buf.now) }
+    ensures memory { IfErr result (λ f. V.told f ≡ Some Error.OutOfMemory → MayAllocate buf.now) }
+{
+    // Strings without escapes are cut out of the text, which is tested once. Where a comment isn't UTF-8, each string
+    // is tested alone, as none can be cut out.
+    let text = std::str::from_utf8(buf).unwrap_or("");
+    let mut parser = Parser {
+        alloc,
+        mode,
+        buf,
+        idx: 0,
+    };
+    parser.parse_document(text)
 }
 
 // A reader that stands at the index `idx` of its input.
@@ -189,25 +210,34 @@ impl<'a> Parser<'a> {
     }
 
     // A value with blanks round it, up to the end of the text.
-    fn parse_document(&mut self) -> Result<JsonAst<'a>>
-        requires { self.old.idx ≤ size_of self.old }
-        ensures reads { Gives source_view result (source_from (size_of self.old) (mode_of self.old.mode)
+    fn parse_document<V: Build<'a>>(&mut self, text: &'a str) -> std::result::Result<V, V::Failure>
+        requires inside { self.old.idx ≤ size_of self.old }
+        requires same { text.now ≡ take (length text.now) self.old.buf.now }
+        ensures reads { BuildsAll V.told V.sees result (source_from (size_of self.old) (mode_of self.old.mode)
             (skip_closed_blanks (mode_of self.old.mode) (rest_of self.old))) }
-        ensures memory { result ≡ Err Error.OutOfMemory → MayAllocate self.old.buf.now }
+        ensures memory { IfErr result (λ f. V.told f ≡ Some Error.OutOfMemory → MayAllocate self.old.buf.now) }
     {
         self.skip_closed_blanks();
         if self.idx >= self.buf.len() {
             return match self.mode {
-                Mode::Standard => Err(Error::Syntax(ParseErrorCode::InvalidEOF, self.buf.len())),
-                Mode::Extended => Ok(JsonAst::Null),
+                Mode::Standard => Err(V::failure(Error::Syntax(
+                    ParseErrorCode::InvalidEOF,
+                    self.buf.len(),
+                ))),
+                Mode::Extended => Ok(V::null()),
             };
         }
         if self.opens_comment() {
-            self.end_in_comment()?;
-            return Ok(JsonAst::Null);
+            if let Err(error) = self.end_in_comment() {
+                return Err(V::failure(error));
+            }
+            return Ok(V::null());
         }
-        let value = self.parse_value()?;
-        self.end_document()?;
+        let value = self.parse_value::<V>(text)?;
+        if let Err(error) = self.end_document() {
+            value.dismantle();
+            return Err(V::failure(error));
+        }
         Ok(value)
     }
 

@@ -1,15 +1,14 @@
 -- The object of members that were put in the order of their keys.
-use Rattle.std.proofs.Common.{◌≡◌, ℕ, ◌-◌, ◌≤◌, List, [], ◌∷◌, length, drop, map, Vec, Global, Some, None, Ok, Err, IsPermutation, refl, sym, ap, subst, ◌∙◌, arith}
+use Rattle.std.proofs.Common.{◌≡◌, ℕ, ◌-◌, ◌≤◌, List, [], ◌∷◌, length, drop, map, Some, None, Ok, Err, IsPermutation, refl, ap, subst, ◌∙◌, arith}
 use Rattle.jsonb_value.specs.Code.Code.{object_duplicate_key}
 use Rattle.jsonb_value.specs.Grammar.{AreDistinct}
 use Rattle.jsonb.specs.AstView.{Written}
-use Rattle.jsonb.specs.Source.{found_of, source_view}
+use Rattle.jsonb.specs.Source.{found_of}
 use Rattle.jsonb_scan.specs.Reading.Container.{object_or_fault}
 use Rattle.jsonb_scan.specs.Source.{Found, SpotsAreSorted, Spot, adjacent_repeat, first_repeat, object_source, sort_by, source_members_of, spot_of}
 use Rattle.jsonb.proofs.Containers.Repeats.{distinct}
 use Rattle.jsonb.proofs.Containers.Shuffles.{first_repeat-sorted, none_left, shuffle-map, shuffled, sort-ascending, sort-distinct}
-use Rattle.jsonb.proofs.Places.Views.{fuse, source-Object}
-use Rattle.jsonb.specs.declared.parser.ast.JsonAst as ast
+use Rattle.jsonb.proofs.Places.Views.{fuse}
 
 abbrev pub spots : List Written → List Spot
 spots ms = map spot_of (map found_of ms)
@@ -25,14 +24,12 @@ module _ (old new : List Written) (p : IsPermutation old new) (up : SpotsAreSort
   pub repeated : (s : Spot) (rest : List ℕ) → adjacent_repeat (spots new) ≡ Some s → object_or_fault (first_repeat (spots old)) (map found_of old) rest ≡ Err (record { code = object_duplicate_key s.key; place = s.place })
   repeated s rest e = ap (λ o. object_or_fault o (map found_of old) rest) (first_is ∙ e)
 
-  pub not_repeated : (v : Vec Written Global) (rest : List ℕ) → v.items ≡ new → adjacent_repeat (spots new) ≡ None → object_or_fault (first_repeat (spots old)) (map found_of old) rest ≡ Ok (source_view (ast.Object v), rest)
-  not_repeated v rest is e =
+  pub not_repeated : (rest : List ℕ) → adjacent_repeat (spots new) ≡ None → object_or_fault (first_repeat (spots old)) (map found_of old) rest ≡ Ok (object_source (source_members_of (map found_of new)), rest)
+  not_repeated rest e =
       let none : first_repeat (spots old) ≡ None = first_is ∙ e in
       let keys : AreDistinct (map (λ (f : Found). f.key) (map found_of old)) = subst AreDistinct (fuse spot_of (λ (s : Spot). s.key) (map found_of old)) (distinct (spots old) none) in
       let sorted : sort_by spot_of (map found_of old) ≡ map found_of new = sort-distinct spot_of (shuffle-map found_of (shuffled old new p)) keys ∙ sort-ascending spot_of (map found_of new) up in
-      ap (λ o. object_or_fault o (map found_of old) rest) none
-      ∙ ap (λ fs. Ok (object_source (source_members_of fs), rest)) (sorted ∙ ap (λ ms. map found_of ms) (sym is))
-      ∙ ap (λ s. Ok (s, rest)) (sym (source-Object v))
+      ap (λ o. object_or_fault o (map found_of old) rest) none ∙ ap (λ fs. Ok (object_source (source_members_of fs), rest)) sorted
 
 pub no_more_left : (ms : List Written) (i : ℕ) → 1 ≤ i → length ms ≤ i → adjacent_repeat (drop (i - 1) (spots ms)) ≡ None
 no_more_left ms i some past = none_left (spots ms) (i - 1) (let one = length-map found_of ms in let two = length-map spot_of (map found_of ms) in omega arith)

@@ -2,7 +2,7 @@
 use Rattle.std.proofs.Common.{◌≡◌, ℕ, zero, suc, ◌-◌, ◌<◌, ◌≤◌, true, false, cond, List, [], ◌∷◌, ◌++◌, length, Result, Ok, Err, ⊎_elim, refl, sym, ap, ◌∙◌, append_assoc, length-append, arith, eqb}
 use Rattle.jsonb_value.specs.Code.{Code}
 use Rattle.jsonb_value.specs.Code.Code.{expected_array_comma_or_end, expected_colon, expected_object_comma_or_end}
-use Rattle.std.proofs.lemmas.Bool.{cases_lt, cond-false, cond-true}
+use Rattle.std.proofs.lemmas.Bool.{cases_lt, cond-false}
 use Rattle.jsonb_value.specs.Grammar.{Derives, IsElement}
 use Rattle.jsonb_value.specs.Mode.{Mode}
 use Rattle.jsonb_value.specs.Tree.{Mark}
@@ -119,12 +119,6 @@ module _ (size : ℕ) (mode : Mode) (depth : ℕ) where
   element-due front bytes e =
       elements-turn front bytes
       ∙ ap (λ (r : Read Source). r >>= finish_open size mode depth (elements_so_far front)) (cond-false (is_left_out mode (skip_blanks mode bytes)) (Ok (null_source, skip_blanks mode bytes)) (value_at size mode depth (skip_blanks mode bytes)) e)
-
-  pub element-left_out : (front : List Source) (bytes : List ℕ) → is_left_out mode (skip_blanks mode bytes) ≡ true
-      → elements_from size mode depth front bytes ≡ finish_open size mode depth (elements_so_far front) (null_source, skip_blanks mode bytes)
-  element-left_out front bytes e =
-      elements-turn front bytes
-      ∙ ap (λ (r : Read Source). r >>= finish_open size mode depth (elements_so_far front)) (cond-true (is_left_out mode (skip_blanks mode bytes)) (Ok (null_source, skip_blanks mode bytes)) (value_at size mode depth (skip_blanks mode bytes)) e)
 
   pub array-begun : (bytes : List ℕ) → begins 93 (skip_blanks mode bytes) ≡ false → array_at size mode (value_at size mode depth) bytes ≡ elements_from size mode depth [] (skip_blanks mode bytes)
   array-begun bytes e =

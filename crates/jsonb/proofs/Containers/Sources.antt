@@ -1,5 +1,5 @@
 -- The trees of sources, by what they are made of.
-use Rattle.std.proofs.Common.{◌≡◌, ℕ, List, [], ◌∷◌, map, refl, ap, sym, subst, ◌∙◌}
+use Rattle.std.proofs.Common.{◌≡◌, ℕ, List, [], ◌∷◌, map, refl, ap, sym, ◌∙◌}
 use Rattle.jsonb_value.specs.Grammar.{HaveDistinctKeys}
 use Rattle.jsonb_value.specs.Grammar.Scalar.{IsScalar}
 use Rattle.jsonb_value.specs.Grammar.Scalar.IsLiteral.{false_word, null_word, true_word}
@@ -9,7 +9,6 @@ use Rattle.jsonb_value.specs.Tree.{Members, Tree, more_trees, put, put_all, tree
 use Rattle.jsonb_value.specs.Tree.Members.{no_members}
 use Rattle.jsonb_value.specs.Tree.Tree.{array, boolean, null, number, object, string}
 use Rattle.jsonb_scan.specs.Source.{Found, Source, array_source_of, member_of, object_source_of, put_source_members, sort_by, source_alone, source_members_of, sources_of, spot_of, tree_of_source, trees_of_sources}
-use Rattle.jsonb_scan.specs.Source.Source.{array_source, boolean_source, null_source, number_source, object_source, string_source}
 use Rattle.jsonb.proofs.Containers.Shuffles.{put_all-shuffle, shuffle-map, sort-shuffles}
 
 -- ---- values that hold no others
@@ -37,18 +36,6 @@ tree_if_alone other h = absurd h
 
 pub alone_tree : {mode : Mode} {bytes : List ℕ} {t : Tree} → IsScalar mode bytes t → tree_of_source (source_alone t) ≡ t
 alone_tree {t = t} s = tree_if_alone t (is_alone s)
-
-source_if_alone : (s : Source) → IsAlone (tree_of_source s) → source_alone (tree_of_source s) ≡ s
-source_if_alone null_source h = refl
-source_if_alone (boolean_source b) h = refl
-source_if_alone (string_source k s) h = refl
-source_if_alone (number_source n) h = refl
-source_if_alone (array_source ss) h = absurd h
-source_if_alone (object_source ms) h = absurd h
-
--- the source that has this tree
-pub alone_source : {mode : Mode} {bytes : List ℕ} {t : Tree} (s : Source) → IsScalar mode bytes t → tree_of_source s ≡ t → source_alone t ≡ s
-alone_source s is e = ap source_alone (sym e) ∙ source_if_alone s (subst IsAlone (sym e) (is_alone is))
 
 -- ---- arrays and objects
 

@@ -1,5 +1,5 @@
 -- The clauses of the parsers from the executable specification.
-use Rattle.std.proofs.Common.{◌≡◌, ◌≢◌, ℕ, ◌+◌, ◌-◌, ◌<◌, ◌≤◌, Bool, true, false, cond, ◌⊎◌, inl, inr, get_or, ne_eqb, List, [], ◌∷◌, length, drop, Result, Ok, Err, IfOk, IfErr, refl, sym, ap, ◌∙◌, arith, length-drop, drop-drop}
+use Rattle.std.proofs.Common.{◌≡◌, ◌≢◌, ℕ, ◌+◌, ◌-◌, ◌<◌, ◌≤◌, Bool, true, false, cond, ◌⊎◌, inl, inr, get_or, ne_eqb, List, [], ◌∷◌, length, drop, Some, Result, Ok, Err, IfOk, IfErr, refl, sym, ap, ◌∙◌, arith, length-drop, drop-drop}
 use Rattle.std.proofs.lemmas.List.{drop_more}
 use Rattle.std.proofs.lemmas.Bool.{cond-false, cond-true}
 use Rattle.jsonb.specs.declared.parser.Parser.{Parser}
@@ -18,6 +18,7 @@ use Rattle.jsonb_scan.specs.Source.{Source, null_source, tree_of_source}
 use Rattle.jsonb_scan.specs.Reading.{Fault, fault, ◌>>=◌}
 use Rattle.jsonb_scan.specs.Reading.Blank.{opens_comment, skip_closed_blanks}
 use Rattle.jsonb_scan.specs.Reading.Document.{at_end, comment_at, document_of, source_from, source_of, value_at, value_to_end}
+use Rattle.jsonb.specs.Build.{BuildsAll}
 use Rattle.jsonb.specs.Refusals.{IsExplained}
 use Rattle.jsonb.specs.Placed.{IsPlaced}
 use Rattle.jsonb.specs.Source.{source_view}
@@ -52,11 +53,6 @@ document_same p q e a =
 pub document_some : (p q : Parser) → rest_of q ≡ skip_closed_blanks (mode_of p.mode) (rest_of p) → Advances p q → q.idx < size_of q → opens_comment (mode_of q.mode) (rest_of q) ≡ false
     → source_from (size_of p) (mode_of p.mode) (skip_closed_blanks (mode_of p.mode) (rest_of p)) ≡ (value_at (size_of q) (mode_of q.mode) max_depth (rest_of q) >>= ended (size_of q) (mode_of q.mode))
 document_some p q e a within closed = document_same p q e a ∙ from_some (size_of q) (mode_of q.mode) (rest_of q) (omega (arith, length-drop q.idx q.buf.now)) closed
-
--- a text of blanks and a comment without its end
-pub document_comment : (p q : Parser) → rest_of q ≡ skip_closed_blanks (mode_of p.mode) (rest_of p) → Advances p q → q.idx < size_of q → opens_comment (mode_of q.mode) (rest_of q) ≡ true
-    → source_from (size_of p) (mode_of p.mode) (skip_closed_blanks (mode_of p.mode) (rest_of p)) ≡ comment_at (size_of q) null_source (drop 1 (rest_of q))
-document_comment p q e a within opens = document_same p q e a ∙ from_comment (size_of q) (mode_of q.mode) (rest_of q) (omega (arith, length-drop q.idx q.buf.now)) opens
 
 -- ---- after the value
 
@@ -111,6 +107,16 @@ comment_open buf i t (inr (within, other)) =
     ∙ ap (λ (b : Bool). cond (cond b true false) (Ok t) (fault invalid_eof (length buf))) (ne_eqb (get_or buf (i + 1) 0) 47 other)
 
 -- ---- what an answer says
+
+-- the source of the `JsonAst` that is built
+pub gives_built : (r : Result JsonAst Error) (read : Result Source Fault) → BuildsAll (λ e. Some e) (λ v s. source_view v ≡ s) r read → Gives source_view r read
+gives_built (Ok v) read b = b.2 ∙ ap (λ s. Ok s) (sym b.1)
+gives_built (Err e) read b = b
+
+-- the tree of the value that is built
+pub document_built : (mode : Mode) (bytes : List ℕ) (t : Tree) (s : Source) → t ≡ tree_of_source s → source_of mode bytes ≡ Ok s → document_of mode bytes ≡ Ok t
+unfolding document_of
+document_built mode bytes t s same e = ap (λ q. q >>= λ s. Ok (tree_of_source s)) e ∙ ap (λ u. Ok u) (sym same)
 
 -- the tree of the source that is given
 pub gives_tree : (mode : Mode) (bytes : List ℕ) (r : Result JsonAst Error) → Gives source_view r (source_of mode bytes) → Gives ast_view r (document_of mode bytes)

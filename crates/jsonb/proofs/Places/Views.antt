@@ -10,16 +10,13 @@ use Rattle.jsonb_value.specs.Tree.Members.{no_members}
 use Rattle.jsonb_value.specs.Tree.Tree.{array, object}
 use Rattle.jsonb.specs.AstView.{Written, ast_step, ast_view, keyed_trees}
 use Rattle.jsonb.specs.Source.{found_from, found_of, source_step, source_view}
-use Rattle.jsonb_scan.specs.Source.{Source, array_source_of, null_source, object_source, put_source_members, source_members_of, sources_of, tree_of_source, trees_of_sources}
+use Rattle.jsonb_scan.specs.Source.{Source, array_source_of, object_source, put_source_members, source_members_of, sources_of, tree_of_source, trees_of_sources}
 
 pub fuse : {A B C : Type 0} (f : A → B) (g : B → C) (xs : List A) → map g (map f xs) ≡ map (λ x. g (f x)) xs
 fuse f g [] = refl
 fuse f g (x ∷ xs) = ap (λ ys. g (f x) ∷ ys) (fuse f g xs)
 
 -- ---- sources
-
-pub source-Null : source_view ast.Null ≡ null_source
-source-Null = search (rules, the_lemmas)
 
 pub source-Array : (v : Vec JsonAst Global) → source_view (ast.Array v) ≡ array_source_of (map source_view v.items)
 source-Array v = search (rules, the_lemmas)

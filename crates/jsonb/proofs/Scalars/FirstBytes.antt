@@ -5,13 +5,13 @@ use Rattle.jsonb_value.specs.Code.Code.{expected_some_value}
 use Rattle.jsonb_value.specs.Mode.{Mode, standard, extended}
 use Rattle.jsonb.specs.declared.parser.Parser.{Parser}
 use Rattle.jsonb_scan.specs.Answer.{mode_of}
-use Rattle.jsonb.specs.Parser.{Advances, rest_of, size_of}
+use Rattle.jsonb.specs.Parser.{rest_of, size_of}
 use Rattle.jsonb_scan.specs.Reading.{begins, refused}
 use Rattle.jsonb_scan.specs.Reading.Scalar.{begins_letter, begins_number, begins_single_quote, number_or_fault, number_value_at, other_scalar_at, quoted_at, scalar_at, words_at}
-use Rattle.jsonb.proofs.Steps.Outcomes.{read_past, unmoved, words_number}
+use Rattle.jsonb.proofs.Steps.Outcomes.{unmoved, words_number}
 use Rattle.jsonb_scan.proofs.Containers.JoinedParts.{on_byte-none}
 use Rattle.jsonb.proofs.Scalars.Spellings.{IsApart, number_start_apart}
-use Rattle.jsonb.proofs.Steps.Advancing.{single-false, single-true}
+use Rattle.jsonb.proofs.Steps.Advancing.{single-false}
 
 -- no double quote comes next
 pub scalar_other : (p q : Parser) → q ≡ p → begins 34 (rest_of p) ≡ false → scalar_at (size_of p) (mode_of p.mode) (rest_of p) ≡ other_scalar_at (size_of q) (mode_of q.mode) (rest_of q)
@@ -20,13 +20,7 @@ scalar_other p q same none =
     on_byte-none 34 (rest_of p) (quoted_at (size_of p) (mode_of p.mode) 34) (other_scalar_at (size_of p) (mode_of p.mode) (rest_of p)) none
     ∙ unmoved p q same (λ o. other_scalar_at (size_of o) (mode_of o.mode) (rest_of o))
 
--- a single quote comes next that begins a string
-pub other_single : (p q : Parser) → Advances p q → begins_single_quote (mode_of p.mode) (rest_of p) ≡ true → rest_of p ≡ 39 ∷ rest_of q → other_scalar_at (size_of p) (mode_of p.mode) (rest_of p) ≡ quoted_at (size_of q) (mode_of q.mode) 39 (rest_of q)
-other_single p q a single e =
-    single-true (mode_of p.mode) (rest_of p) (quoted_at (size_of p) (mode_of p.mode) 39) (words_at (size_of p) (mode_of p.mode) (rest_of p)) single
-    ∙ read_past p q 39 (λ n m u. quoted_at n m 39 u) a e
-
--- and none does
+-- no single quote comes next that begins a string
 pub other_word : (p q : Parser) → q ≡ p → begins_single_quote (mode_of p.mode) (rest_of p) ≡ false → other_scalar_at (size_of p) (mode_of p.mode) (rest_of p) ≡ words_at (size_of q) (mode_of q.mode) (rest_of q)
 other_word p q same single =
     single-false (mode_of p.mode) (rest_of p) (quoted_at (size_of p) (mode_of p.mode) 39) (words_at (size_of p) (mode_of p.mode) (rest_of p)) single

@@ -13,7 +13,7 @@ mod clone;
 mod equality;
 mod into_value;
 
-use super::{Mode, Parser};
+use super::{Mode, read_document};
 use jsonb_value::error::{Error, Result};
 use jsonb_value::number::Number;
 use std::alloc::Global;
@@ -70,13 +70,7 @@ impl<'a> JsonAst<'a> {
         // its index.
         ensures source { IfOk result (λ v. IsPlaced (mode_of mode) buf.now (source_view v)) }
     {
-        let mut parser = Parser {
-            alloc,
-            mode,
-            buf,
-            idx: 0,
-        };
-        parser.parse_document()
+        read_document::<JsonAst>(alloc, buf, mode)
     }
 }
 

@@ -96,8 +96,8 @@ impl Parser<'_> {
     // Passes a space, a tab or an end of a line, where one comes next.
     #[inline(always)]
     fn take_plain_blank(&mut self) -> bool
-        ensures rest { skip_closed_blanks (mode_of self.old.mode) (rest_of self.new) ≡ skip_closed_blanks (mode_of self.old.mode)
-            (rest_of self.old) }
+        ensures rest { skip_closed_blanks (mode_of self.old.mode) (rest_of self.new)
+            ≡ skip_closed_blanks (mode_of self.old.mode) (rest_of self.old) }
         ensures onward { MatchBool result ((self.old.idx < self.new.idx) × (self.new.idx ≤ size_of self.new))
             (self.new ≡ self.old) }
         ensures advances { Advances self.old self.new }
@@ -131,8 +131,8 @@ impl Parser<'_> {
     #[inline(always)]
     fn skip_spaces(&mut self)
         requires { self.old.idx ≤ size_of self.old }
-        ensures rest { skip_closed_blanks (mode_of self.old.mode) (rest_of self.new) ≡ skip_closed_blanks (mode_of self.old.mode)
-            (rest_of self.old) }
+        ensures rest { skip_closed_blanks (mode_of self.old.mode) (rest_of self.new)
+            ≡ skip_closed_blanks (mode_of self.old.mode) (rest_of self.old) }
         ensures advances { Advances self.old self.new }
     {
         let count = near_spaces(self.rest());
@@ -146,8 +146,8 @@ impl Parser<'_> {
     #[inline(never)]
     fn skip_more_spaces(&mut self)
         requires { self.old.idx ≤ size_of self.old }
-        ensures rest { skip_closed_blanks (mode_of self.old.mode) (rest_of self.new) ≡ skip_closed_blanks (mode_of self.old.mode)
-            (rest_of self.old) }
+        ensures rest { skip_closed_blanks (mode_of self.old.mode) (rest_of self.new)
+            ≡ skip_closed_blanks (mode_of self.old.mode) (rest_of self.old) }
         ensures advances { Advances self.old self.new }
     {
         'spaces: while self.take_byte(b' ') {}

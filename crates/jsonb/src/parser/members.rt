@@ -2,8 +2,8 @@
 ghost use Rattle.std.specs.Prelude.{◌≡◌, map, ℕ, List, IsPermutation};
 ghost use Rattle.jsonb_scan.specs.Answer.{Gives};
 ghost use Rattle.jsonb_scan.specs.Reading.Container.{object_or_fault};
-ghost use Rattle.jsonb_scan.specs.Source.{first_repeat, spot_of, spot_cmp, SpotsAreSorted};
-ghost use Rattle.jsonb.specs.Source.{found_of, source_view};
+ghost use Rattle.jsonb_scan.specs.Source.{first_repeat, object_source, source_members_of, spot_of, spot_cmp, SpotsAreSorted};
+ghost use Rattle.jsonb.specs.Source.{found_of};
 
 use super::JsonAst;
 use jsonb_value::error::{Error, ParseErrorCode, Result};
@@ -31,13 +31,14 @@ fn sort_members(members: &mut Vec<Member>)
     members.sort_unstable_by(member_cmp);
 }
 
-// The object of the members, in the order of their keys, where no two have one key.
-pub(super) fn object_of<'a>(alloc: Global, mut members: Vec<Member<'a>>) -> Result<JsonAst<'a>>
-    ensures reads { (rest : List ℕ) → Gives (λ v. (source_view v, rest)) result
-        (object_or_fault (first_repeat (map spot_of (map found_of members.entry.items)))
-        (map found_of members.entry.items) rest) }
+// Puts the members in the order of their keys, and tells a key that comes twice.
+pub(super) fn settle_members(alloc: Global, members: &mut Vec<Member>) -> Result<()>
+    ensures reads { (rest : List ℕ) → Gives
+        (λ _. (object_source (source_members_of (map found_of members.new.items)), rest)) result
+        (object_or_fault (first_repeat (map spot_of (map found_of members.old.items)))
+        (map found_of members.old.items) rest) }
 {
-    sort_members(&mut members);
+    sort_members(members);
     for i in 1..members.len() {
         let earlier = &members[i - 1];
         let later = &members[i];
@@ -46,5 +47,5 @@ pub(super) fn object_of<'a>(alloc: Global, mut members: Vec<Member<'a>>) -> Resu
             return Err(Error::Syntax(ParseErrorCode::ObjectDuplicateKey(key), later.2));
         }
     }
-    Ok(JsonAst::Object(members))
+    Ok(())
 }

@@ -1,14 +1,16 @@
 //! Values that hold no others.
-ghost use Rattle.std.specs.Prelude.{◌≡◌, ◌≢◌, ◌<◌, ◌≤◌, ◌∷◌, Contains, MatchBool, Err, IfOk, true};
+ghost use Rattle.std.specs.Prelude.{◌≡◌, ◌≢◌, ◌<◌, ◌≤◌, ◌∷◌, length, take, ℕ, Contains, MatchBool, Err, IfErr, IfOk, Some, true};
 ghost use Rattle.jsonb_value.specs.Mode.{standard};
 ghost use Rattle.jsonb_value.specs.View.{number_view};
-ghost use Rattle.jsonb.specs.AstView.{ast_view};
+ghost use Rattle.jsonb.specs.Build.{AsNumber, AsScalar, Builds};
+ghost use Rattle.jsonb.specs.Frames.{Pushes, PutsIn};
 ghost use Rattle.jsonb_scan.specs.Answer.{mode_of, Gives};
-ghost use Rattle.jsonb.specs.Parser.{rest_of, size_of, Advances, IsBehind, ReadsAs};
-ghost use Rattle.jsonb_scan.specs.Reading.Scalar.{begins_letter, begins_number, begins_single_quote, folded, letters_at, null_at, number_at, number_value_at, word_at, quoted_at, number_or_fault, scalar_at, other_scalar_at, words_at};
+ghost use Rattle.jsonb.specs.Parser.{rest_of, size_of, Advances, IsBehind, ReadsAs, read_at};
+ghost use Rattle.jsonb_scan.specs.Reading.Scalar.{begins_letter, begins_number, begins_single_quote, folded, letters_at, null_at, number_at, quoted_at, scalar_at, other_scalar_at, words_at};
 
-use super::{JsonAst, Mode, Parser};
-use jsonb_value::error::{Error, ParseErrorCode, Result};
+use super::build::Build;
+use super::{Mode, Parser};
+use jsonb_value::error::{Error, ParseErrorCode};
 use jsonb_value::number::Number;
 use std::borrow::CowStr;
 
@@ -24,54 +26,254 @@ fn fold(letter: u8, mode: Mode) -> u8
 }
 
 impl<'a> Parser<'a> {
-    // A value that holds no others.
-    pub(super) fn parse_scalar(&mut self) -> Result<JsonAst<'a>>
-        requires { self.old.idx ≤ size_of self.old }
-        ensures reads { ReadsAs ast_view scalar_at result self.old self.new }
-        ensures memory { result ≡ Err Error.OutOfMemory → Contains self.old.buf.now 92 }
+    // Pushes a value that holds no others. Strings and numbers are pushed where they are made, since a value that comes
+    // from several arms is copied more than once.
+    #[inline(always)]
+    pub(super) fn push_scalar<V: Build<'a>>(
+        &mut self,
+        items: &mut Vec<V>,
+        text: &'a str,
+    ) -> Result<(), V::Failure>
+        requires inside { self.old.idx ≤ size_of self.old }
+        requires same { text.now ≡ take (length text.now) self.old.buf.now }
+        ensures reads { Pushes V.told V.sees result items.old.items (read_at scalar_at self.old) items.new.items
+            (rest_of self.new) }
         ensures advances { Advances self.old self.new }
     {
         if self.take_byte(b'"') {
-            return self.parse_string_value(b'"');
+            if let Some(body) = self.borrowed_string(b'"', text) {
+                let Ok(()) = items.push(V::string(CowStr::Borrowed(body))) else {
+                    return Err(V::failure(Error::OutOfMemory));
+                };
+                return Ok(());
+            }
+            return self.push_escaped(items);
         }
         if self.begins_standard_number() {
-            return self.parse_standard_number_value();
+            let number = match self.parse_standard_number() {
+                Ok(number) => number,
+                Err(error) => return Err(V::failure(error)),
+            };
+            let Ok(()) = items.push(V::number(number)) else {
+                return Err(V::failure(Error::OutOfMemory));
+            };
+            return Ok(());
         }
-        self.parse_other_scalar()
+        self.push_other_scalar(items, text)
+    }
+
+    // Pushes a string in double quotes that has escapes, or is refused, from the byte after its opening quote on. It
+    // stands apart, since its caller would clear the place of an owned string before each value.
+    #[inline(never)]
+    fn push_escaped<V: Build<'a>>(&mut self, items: &mut Vec<V>) -> Result<(), V::Failure>
+        requires { self.old.idx ≤ size_of self.old }
+        ensures reads { Pushes V.told V.sees result items.old.items
+            (read_at (λ size mode. quoted_at size mode 34) self.old) items.new.items (rest_of self.new) }
+        ensures advances { Advances self.old self.new }
+    {
+        let string = match self.parse_quoted(b'"') {
+            Ok(string) => string,
+            Err(error) => return Err(V::failure(error)),
+        };
+        let Ok(()) = items.push(V::string(string)) else {
+            return Err(V::failure(Error::OutOfMemory));
+        };
+        Ok(())
+    }
+
+    // The same of a string in single quotes, a word or a number of an extended text.
+    #[inline(never)]
+    fn push_other_scalar<V: Build<'a>>(
+        &mut self,
+        items: &mut Vec<V>,
+        text: &'a str,
+    ) -> Result<(), V::Failure>
+        requires inside { self.old.idx ≤ size_of self.old }
+        requires same { text.now ≡ take (length text.now) self.old.buf.now }
+        ensures reads { Pushes V.told V.sees result items.old.items (read_at other_scalar_at self.old) items.new.items
+            (rest_of self.new) }
+        ensures advances { Advances self.old self.new }
+    {
+        let value = self.parse_other_scalar(text)?;
+        let Ok(()) = items.push(value) else {
+            return Err(V::failure(Error::OutOfMemory));
+        };
+        Ok(())
+    }
+
+    // Puts in a member whose value holds no others. Here too a value is put in where it is made.
+    #[inline(always)]
+    pub(super) fn insert_scalar<V: Build<'a>>(
+        &mut self,
+        members: &mut V::Members,
+        key: V::Key,
+        text: &'a str,
+    ) -> Result<(), V::Failure>
+        requires inside { self.old.idx ≤ size_of self.old }
+        requires same { text.now ≡ take (length text.now) self.old.buf.now }
+        ensures reads { PutsIn V.told V.names V.holds result members.old key (read_at scalar_at self.old) members.new
+            (rest_of self.new) }
+        ensures advances { Advances self.old self.new }
+    {
+        if self.take_byte(b'"') {
+            if let Some(body) = self.borrowed_string(b'"', text) {
+                return V::insert(members, key, V::string(CowStr::Borrowed(body)));
+            }
+            let string = match self.parse_escaped(b'"') {
+                Ok(string) => string,
+                Err(error) => return Err(V::failure(error)),
+            };
+            return V::insert(members, key, V::string(string));
+        }
+        if self.begins_standard_number() {
+            let number = match self.parse_standard_number() {
+                Ok(number) => number,
+                Err(error) => return Err(V::failure(error)),
+            };
+            return V::insert(members, key, V::number(number));
+        }
+        self.insert_other_scalar::<V>(members, key, text)
+    }
+
+    // The same of a string in single quotes, a word or a number of an extended text.
+    #[inline(never)]
+    fn insert_other_scalar<V: Build<'a>>(
+        &mut self,
+        members: &mut V::Members,
+        key: V::Key,
+        text: &'a str,
+    ) -> Result<(), V::Failure>
+        requires inside { self.old.idx ≤ size_of self.old }
+        requires same { text.now ≡ take (length text.now) self.old.buf.now }
+        ensures reads { PutsIn V.told V.names V.holds result members.old key (read_at other_scalar_at self.old)
+            members.new (rest_of self.new) }
+        ensures advances { Advances self.old self.new }
+    {
+        let value = self.parse_other_scalar(text)?;
+        V::insert(members, key, value)
+    }
+
+    // A value that holds no others.
+    #[inline(always)]
+    pub(super) fn parse_scalar<V: Build<'a>>(&mut self, text: &'a str) -> Result<V, V::Failure>
+        requires inside { self.old.idx ≤ size_of self.old }
+        requires same { text.now ≡ take (length text.now) self.old.buf.now }
+        ensures reads { Builds V.told (AsScalar V.sees) result (read_at scalar_at self.old) (rest_of self.new) }
+        ensures memory { IfErr result (λ f. V.told f ≡ Some Error.OutOfMemory → Contains self.old.buf.now 92) }
+        ensures advances { Advances self.old self.new }
+    {
+        if self.take_byte(b'"') {
+            return self.parse_string(b'"', text);
+        }
+        if self.begins_standard_number() {
+            return match self.parse_standard_number() {
+                Ok(number) => Ok(V::number(number)),
+                Err(error) => Err(V::failure(error)),
+            };
+        }
+        self.parse_other_scalar(text)
     }
 
     // A string in single quotes, a word or a number.
-    #[inline(never)]
-    fn parse_other_scalar(&mut self) -> Result<JsonAst<'a>>
-        requires { self.old.idx ≤ size_of self.old }
-        ensures reads { ReadsAs ast_view other_scalar_at result self.old self.new }
-        ensures memory { result ≡ Err Error.OutOfMemory → Contains self.old.buf.now 92 }
+    #[inline(always)]
+    fn parse_other_scalar<V: Build<'a>>(&mut self, text: &'a str) -> Result<V, V::Failure>
+        requires inside { self.old.idx ≤ size_of self.old }
+        requires same { text.now ≡ take (length text.now) self.old.buf.now }
+        ensures reads { Builds V.told (AsScalar V.sees) result (read_at other_scalar_at self.old) (rest_of self.new) }
+        ensures memory { IfErr result (λ f. V.told f ≡ Some Error.OutOfMemory → Contains self.old.buf.now 92) }
         ensures advances { Advances self.old self.new }
     {
         if self.take_single_quote() {
-            return self.parse_string_value(b'\'');
+            return self.parse_string(b'\'', text);
         }
         self.parse_word_or_number()
     }
 
     // A word or a number as a value.
     #[inline(always)]
-    fn parse_word_or_number(&mut self) -> Result<JsonAst<'a>>
+    fn parse_word_or_number<V: Build<'a>>(&mut self) -> Result<V, V::Failure>
         requires { self.old.idx ≤ size_of self.old }
-        ensures reads { ReadsAs ast_view words_at result self.old self.new }
-        ensures memory { result ≡ Err Error.OutOfMemory → Contains self.old.buf.now 92 }
+        ensures reads { Builds V.told (AsScalar V.sees) result (read_at words_at self.old) (rest_of self.new) }
+        ensures memory { IfErr result (λ f. V.told f ≡ Some Error.OutOfMemory → Contains self.old.buf.now 92) }
         ensures advances { Advances self.old self.new }
     {
         if self.next_is_letter(b'n') {
             return self.parse_null();
         }
         if self.next_is_letter(b't') {
-            return self.parse_literal(b"true", JsonAst::Bool(true));
+            return match self.parse_word(b"true") {
+                Ok(()) => Ok(V::boolean(true)),
+                Err(error) => Err(V::failure(error)),
+            };
         }
         if self.next_is_letter(b'f') {
-            return self.parse_literal(b"false", JsonAst::Bool(false));
+            return match self.parse_word(b"false") {
+                Ok(()) => Ok(V::boolean(false)),
+                Err(error) => Err(V::failure(error)),
+            };
+        }
+        if !self.begins_number() {
+            return Err(V::failure(self.unexpected(ParseErrorCode::ExpectedSomeValue, 1)));
         }
         self.parse_number_value()
+    }
+
+    // `null`; where that fails, in extended mode a number's word may begin with the same letter.
+    #[inline(always)]
+    fn parse_null<V: Build<'a>>(&mut self) -> Result<V, V::Failure>
+        requires { self.old.idx ≤ size_of self.old }
+        ensures reads { Builds V.told (AsScalar V.sees) result (read_at null_at self.old) (rest_of self.new) }
+        ensures memory { IfErr result (λ f. V.told f ≡ Some Error.OutOfMemory → Contains self.old.buf.now 92) }
+        ensures advances { Advances self.old self.new }
+    {
+        let start = self.idx;
+        let error = match self.parse_word(b"null") {
+            Ok(()) => return Ok(V::null()),
+            Err(error) => error,
+        };
+        match self.mode {
+            Mode::Standard => Err(V::failure(error)),
+            Mode::Extended => {
+                self.idx = start;
+                self.parse_number_value()
+            }
+        }
+    }
+
+    // A number as a value.
+    #[inline(always)]
+    fn parse_number_value<V: Build<'a>>(&mut self) -> Result<V, V::Failure>
+        requires { self.old.idx ≤ size_of self.old }
+        ensures reads { Builds V.told (AsNumber V.sees) result (read_at number_at self.old) (rest_of self.new) }
+        ensures memory { IfErr result (λ f. V.told f ≡ Some Error.OutOfMemory → Contains self.old.buf.now 92) }
+        ensures advances { Advances self.old self.new }
+    {
+        match self.parse_number() {
+            Ok(number) => Ok(V::number(number)),
+            Err(error) => Err(V::failure(error)),
+        }
+    }
+
+    // A string as a value, from the byte after its opening quote on.
+    #[inline(always)]
+    fn parse_string<V: Build<'a>>(&mut self, quote: u8, text: &'a str) -> Result<V, V::Failure>
+        requires no_backslash { quote ≢ 92 }
+        requires ascii { quote < 128 }
+        requires opened { IsBehind quote self.old }
+        requires inside { self.old.idx ≤ size_of self.old }
+        requires same { text.now ≡ take (length text.now) self.old.buf.now }
+        ensures reads { Builds V.told (AsScalar V.sees) result
+            (read_at (λ size mode. quoted_at size mode quote) self.old) (rest_of self.new) }
+        ensures memory { IfErr result (λ f. V.told f ≡ Some Error.OutOfMemory → Contains self.old.buf.now 92) }
+        ensures advances { Advances self.old self.new }
+    {
+        if let Some(body) = self.borrowed_string(quote, text) {
+            return Ok(V::string(CowStr::Borrowed(body)));
+        }
+        match self.parse_escaped(quote) {
+            Ok(string) => Ok(V::string(string)),
+            Err(error) => Err(V::failure(error)),
+        }
     }
 
     // Passes a single quote, where one comes next that begins a string.
@@ -89,18 +291,6 @@ impl<'a> Parser<'a> {
         }
     }
 
-    // A string as a value, from the byte after the opening quote on.
-    fn parse_string_value(&mut self, quote: u8) -> Result<JsonAst<'a>>
-        requires no_backslash { quote ≢ 92 }
-        requires inside { self.old.idx ≤ size_of self.old }
-        ensures reads { ReadsAs ast_view (λ size mode. quoted_at size mode quote) result self.old self.new }
-        ensures memory { result ≡ Err Error.OutOfMemory → Contains self.old.buf.now 92 }
-        ensures advances { Advances self.old self.new }
-    {
-        let text = self.parse_quoted(quote)?;
-        Ok(JsonAst::String(text))
-    }
-
     // Whether the text is a standard one, and a number begins here.
     #[inline(always)]
     pub(super) fn begins_standard_number(&self) -> bool
@@ -111,19 +301,6 @@ impl<'a> Parser<'a> {
             Mode::Standard => matches!(self.peek(), Some(b'0'..=b'9' | b'-')),
             Mode::Extended => false,
         }
-    }
-
-    // A number of a standard text as a value.
-    #[inline(always)]
-    fn parse_standard_number_value(&mut self) -> Result<JsonAst<'a>>
-        requires { self.old.idx ≤ size_of self.old }
-        ensures reads { Gives (λ v. (ast_view v, rest_of self.new)) result
-            (number_value_at (size_of self.old) standard (rest_of self.old)) }
-        ensures memory { result ≡ Err Error.OutOfMemory → Contains self.old.buf.now 92 }
-        ensures advances { Advances self.old self.new }
-    {
-        let number = self.parse_standard_number()?;
-        Ok(JsonAst::Number(number))
     }
 
     // Whether a number begins here.
@@ -142,24 +319,9 @@ impl<'a> Parser<'a> {
         }
     }
 
-    // A number as a value; a byte that begins no number begins no value.
-    #[inline(always)]
-    fn parse_number_value(&mut self) -> Result<JsonAst<'a>>
-        requires { self.old.idx ≤ size_of self.old }
-        ensures reads { ReadsAs ast_view number_or_fault result self.old self.new }
-        ensures memory { result ≡ Err Error.OutOfMemory → Contains self.old.buf.now 92 }
-        ensures advances { Advances self.old self.new }
-    {
-        if !self.begins_number() {
-            return Err(self.unexpected(ParseErrorCode::ExpectedSomeValue, 1));
-        }
-        let number = self.parse_number()?;
-        Ok(JsonAst::Number(number))
-    }
-
     // A number, or a word that names none.
     #[inline(always)]
-    pub(super) fn parse_number(&mut self) -> Result<Number>
+    fn parse_number(&mut self) -> std::result::Result<Number, Error>
         requires { self.old.idx ≤ size_of self.old }
         ensures reads { ReadsAs number_view number_at result self.old self.new }
         ensures takes_no_memory { result ≢ Err Error.OutOfMemory }
@@ -171,40 +333,8 @@ impl<'a> Parser<'a> {
         }
     }
 
-    // `null`; where that fails, in extended mode a number's word may begin with the same letter.
-    fn parse_null(&mut self) -> Result<JsonAst<'a>>
-        requires { self.old.idx ≤ size_of self.old }
-        ensures reads { ReadsAs ast_view null_at result self.old self.new }
-        ensures memory { result ≡ Err Error.OutOfMemory → Contains self.old.buf.now 92 }
-        ensures advances { Advances self.old self.new }
-    {
-        match self.mode {
-            Mode::Standard => self.parse_literal(b"null", JsonAst::Null),
-            Mode::Extended => {
-                let start = self.idx;
-                if self.parse_word(b"null").is_ok() {
-                    return Ok(JsonAst::Null);
-                }
-                self.idx = start;
-                let number = self.parse_number()?;
-                Ok(JsonAst::Number(number))
-            }
-        }
-    }
-
-    // The value, where the word comes next.
-    #[inline(always)]
-    fn parse_literal(&mut self, word: &[u8], value: JsonAst<'a>) -> Result<JsonAst<'a>>
-        ensures reads { Gives (λ v. (ast_view v, rest_of self.new)) result
-            (word_at (size_of self.old) (mode_of self.old.mode) word.now (ast_view value.entry) (rest_of self.old)) }
-        ensures memory { result ≡ Err Error.OutOfMemory → Contains self.old.buf.now 92 }
-        ensures advances { Advances self.old self.new }
-    {
-        self.parse_word(word)?;
-        Ok(value)
-    }
-
-    pub(super) fn parse_word(&mut self, word: &[u8]) -> Result<()>
+    // A word, byte by byte.
+    fn parse_word(&mut self, word: &[u8]) -> std::result::Result<(), Error>
         ensures reads { Gives (λ _. rest_of self.new) result
             (letters_at (size_of self.old) (mode_of self.old.mode) word.now (rest_of self.old)) }
         ensures takes_no_memory { result ≢ Err Error.OutOfMemory }

@@ -1,121 +1,271 @@
 //! Values with all that is in them, by a loop over the arrays and objects that are open.
-ghost use Rattle.std.specs.Prelude.{◌≡◌, ◌<◌, ◌≤◌, length, MatchOption, OnOk, IfOk, MatchResult, Some, None, Err, false, ℕ, List};
-ghost use Rattle.std.specs.Cow.{cow_str_bytes};
+ghost use Rattle.std.specs.Prelude.{◌≡◌, ◌+◌, ◌<◌, ◌≤◌, ℕ, false, true, length, take, List, MatchBool, OnOk, IfOk, IfErr, Some, [], ◌∷◌, ◌++◌, if◌then◌else◌};
+ghost use Rattle.jsonb_value.specs.Code.Code.{expected_array_comma_or_end, expected_object_comma_or_end};
 ghost use Rattle.jsonb_value.specs.Grammar.{max_depth};
-ghost use Rattle.jsonb_value.specs.View.{mark_view};
-ghost use Rattle.jsonb_scan.specs.Answer.{mode_of, Gives, MayAllocate};
-ghost use Rattle.jsonb.specs.Parser.{rest_of, size_of, Advances, ReadsAs, read_at};
-ghost use Rattle.jsonb_scan.specs.Reading.{begins};
+ghost use Rattle.jsonb_value.specs.declared.error.Error.TheVariants.{Syntax};
+ghost use Rattle.jsonb_value.specs.declared.error.ParseErrorCode.TheVariants.{DepthLimitExceeded};
+ghost use Rattle.jsonb.specs.declared.parser.value.Frame.TheVariants.{Array, Object};
+ghost use Rattle.jsonb.specs.Build.{ElseFails, Builds, AreSeen};
+ghost use Rattle.jsonb.specs.Frames.{FrameHolds, Pushes, ReadsParts, BeforeValue, AtPart, IsRead, OpensContainer, Completes, finish_container, scalar_or_null};
+ghost use Rattle.jsonb_scan.specs.Answer.{mode_of, MayAllocate};
+ghost use Rattle.jsonb.specs.Parser.{rest_of, size_of, Advances, IsBehind, read_at};
+ghost use Rattle.jsonb_scan.specs.Reading.{Read, begins};
+ghost use Rattle.jsonb_scan.specs.Reading.Blank.{is_blank_start, skip_blanks};
 ghost use Rattle.jsonb_scan.specs.Reading.Container.{is_left_out};
 ghost use Rattle.jsonb_scan.specs.Reading.Document.{value_at};
-ghost use Rattle.jsonb_scan.specs.Source.{Source};
-ghost use Rattle.jsonb.specs.Source.{source_view};
-ghost use Rattle.jsonb.specs.Stack.{elements_from, element_from, member_start, array_within, object_within, open_of, add_part, next_part_at, PartBegins, depth_in, resumed, resume_stack_after_part, ahead, Continues};
+ghost use Rattle.jsonb_scan.specs.Source.{Source, Found};
+ghost use Rattle.jsonb.specs.Stack.{Open, elements_from, next_part_at, part_end};
+ghost use Rattle.jsonb.specs.Stack.Open.{members_so_far};
+ghost use Rattle.jsonb_value.specs.Tree.Mark.{plain};
 
-use super::members::{Member, object_of};
-use super::{JsonAst, Mode, Parser};
-use jsonb_value::error::{Error, ParseErrorCode, Result};
-use std::borrow::CowStr;
+use super::build::Build;
+use super::{Mode, Parser};
+use jsonb_value::error::{Error, ParseErrorCode};
+use std::alloc::{AllocError, Global};
 use std::mem;
 
 // How many arrays and objects may be open at once.
-pub(super) const MAX_DEPTH: usize = 512;
+const MAX_DEPTH: usize = 512;
 
 // An array or an object that is open, with what was read of it.
 #[derive(Drop)]
-enum Frame<'a> {
+enum Frame<V, M, K> {
     // The elements so far.
-    Array(Vec<JsonAst<'a>>),
-    Object(OpenObject<'a>),
+    Array(Vec<V>),
+    Object(OpenObject<M, K>),
 }
 
-// The members so far of an object that is open, and the key that waits for its value, with the index after it.
+// The members so far of an object that is open, and the key that waits for its value while a container inside is open.
 #[derive(Drop)]
-struct OpenObject<'a> {
-    members: Vec<Member<'a>>,
-    key: CowStr<'a>,
-    after: usize,
+struct OpenObject<M, K> {
+    members: M,
+    key: K,
 }
+
+type FrameOf<'a, V> = Frame<V, <V as Build<'a>>::Members, <V as Build<'a>>::Key>;
+
+type ObjectOf<'a, V> = OpenObject<<V as Build<'a>>::Members, <V as Build<'a>>::Key>;
 
 impl<'a> Parser<'a> {
-    // A value that begins here, by a loop over the arrays and objects that are open.
-    pub(super) fn parse_value(&mut self) -> Result<JsonAst<'a>>
-        requires { self.old.idx ≤ size_of self.old }
-        ensures reads { ReadsAs source_view (λ size mode. value_at size mode max_depth) result self.old self.new }
-        ensures memory { result ≡ Err Error.OutOfMemory → MayAllocate self.old.buf.now }
+    // A value that begins here.
+    pub(super) fn parse_value<V: Build<'a>>(&mut self, text: &'a str) -> Result<V, V::Failure>
+        requires inside { self.old.idx ≤ size_of self.old }
+        requires same { text.now ≡ take (length text.now) self.old.buf.now }
+        ensures reads { Builds V.told V.sees result (read_at (λ size mode. value_at size mode max_depth) self.old)
+            (rest_of self.new) }
+        ensures memory { IfErr result (λ f. V.told f ≡ Some Error.OutOfMemory → MayAllocate self.old.buf.now) }
         ensures advances { Advances self.old self.new }
     {
-        let mut stack = Vec::new(self.alloc);
-        let mut read = None;
+        if self.begins_container() {
+            return self.parse_container(text);
+        }
+        self.parse_scalar(text)
+    }
+
+    // Whether an array or an object begins here.
+    #[inline(always)]
+    fn begins_container(&self) -> bool
+        ensures other { MatchBool result (is_left_out (mode_of self.now.mode) (rest_of self.now) ≡ false)
+            ((begins 91 (rest_of self.now) ≡ false) × (begins 123 (rest_of self.now) ≡ false)) }
+        ensures opens { MatchBool result (OpensContainer (rest_of self.now)) (Unit {0}) }
+    {
+        matches!(self.peek(), Some(b'[' | b'{'))
+    }
+
+    // An array or an object that begins here. What isn't built may nest deep.
+    fn parse_container<V: Build<'a>>(&mut self, text: &'a str) -> Result<V, V::Failure>
+        requires inside { self.old.idx ≤ size_of self.old }
+        requires same { text.now ≡ take (length text.now) self.old.buf.now }
+        requires opens { OpensContainer (rest_of self.old) }
+        ensures reads { Builds V.told V.sees result (read_at (λ size mode. value_at size mode max_depth) self.old)
+            (rest_of self.new) }
+        ensures advances { Advances self.old self.new }
+    {
+        let mut stack: Vec<FrameOf<'a, V>> = Vec::new(self.alloc);
+        if let Err(failure) = self.read_container::<V>(&mut stack, text) {
+            dismantle_all::<V>(stack);
+            return Err(failure);
+        }
+        let Some(mut frame) = stack.pop() else {
+            return Err(V::failure(Error::OutOfMemory));
+        };
+        finish::<V>(self.alloc, &mut frame)?;
+        Ok(frame_value::<V>(frame))
+    }
+
+    // The same, by a loop over those that are open. The stack is left with the one container, read to its end.
+    fn read_container<V: Build<'a>>(
+        &mut self,
+        stack: &mut Vec<FrameOf<'a, V>>,
+        text: &'a str,
+    ) -> Result<(), V::Failure>
+        requires inside { self.old.idx ≤ size_of self.old }
+        requires same { text.now ≡ take (length text.now) self.old.buf.now }
+        requires opens { OpensContainer (rest_of self.old) }
+        requires none { stack.old.items ≡ [] }
+        ensures reads { ElseFails V.told result (read_at (λ size mode. value_at size mode max_depth) self.old)
+            (λ _. IsRead V.sees V.names V.holds (read_at (λ size mode. value_at size mode max_depth) self.old)
+            stack.new.items (rest_of self.new)) }
+        ensures advances { Advances self.old self.new }
+    {
+        let mut closed = self.open_container::<V>(stack)?;
         'turns: loop {
-            read = match read {
-                None => self.begin_value(&mut stack)?,
-                Some(value) if stack.is_empty() => return Ok(value),
-                Some(value) => self.end_value(&mut stack, value)?,
-            };
+            if closed {
+                if stack.len() == 1 {
+                    return Ok(());
+                }
+                closed = self.close_container::<V>(stack)?;
+            } else {
+                closed = self.read_parts::<V>(stack, text)?;
+            }
         }
     }
 
-    // Reads a value that holds no others, or opens an array or object up to where a value is due.
-    fn begin_value(&mut self, stack: &mut Vec<Frame<'a>>) -> Result<Option<JsonAst<'a>>>
+    // Opens an array or an object, up to its first part. True where it has none, and it is read to its end.
+    fn open_container<V: Build<'a>>(
+        &mut self,
+        stack: &mut Vec<FrameOf<'a, V>>,
+    ) -> Result<bool, V::Failure>
         requires depth { length stack.old.items ≤ max_depth }
         requires inside { self.old.idx ≤ size_of self.old }
-        ensures reads { Continues (ahead self.old stack.old.items None) result self.new stack.new.items }
-        ensures memory { result ≡ Err Error.OutOfMemory → MayAllocate self.old.buf.now }
-        ensures opened { OnOk result (length stack.old.items < length stack.new.items → MayAllocate self.old.buf.now) }
-        ensures onward { IfOk result (λ read. MatchOption read
-            (length (rest_of self.new) < length (rest_of self.old)) (λ _. Unit {0})) }
-        ensures depth { OnOk result (length stack.new.items ≤ max_depth) }
-        ensures advances { Advances self.old self.new }
-    {
-        if self.take_byte(b'[') {
-            return self.begin_array(stack);
-        }
-        if self.take_byte(b'{') {
-            return self.begin_object(stack);
-        }
-        Ok(Some(self.parse_scalar()?))
-    }
-
-    // Opens an array, from the byte after the bracket on.
-    fn begin_array(&mut self, stack: &mut Vec<Frame<'a>>) -> Result<Option<JsonAst<'a>>>
-        requires depth { length stack.old.items ≤ max_depth }
-        requires inside { self.old.idx ≤ size_of self.old }
-        ensures reads { Continues (resumed self.old stack.old.items
-            (array_within (size_of self.old) (mode_of self.old.mode) (depth_in stack.old.items) (rest_of self.old)))
-            result self.new stack.new.items }
-        ensures depth { OnOk result (length stack.new.items ≤ max_depth) }
+        requires opens { OpensContainer (rest_of self.old) }
+        ensures reads { (whole : Read Source) → BeforeValue V.sees V.names V.holds whole self.old stack.old.items
+            → ElseFails V.told result whole (AtPart V.sees V.names V.holds whole self.new stack.new.items) }
+        ensures onward { IfOk result (λ closed. self.old.idx < self.new.idx) }
+        ensures depth { IfOk result (λ closed. length stack.new.items ≤ max_depth) }
         ensures advances { Advances self.old self.new }
     {
         if stack.len() == MAX_DEPTH {
-            return Err(Error::Syntax(ParseErrorCode::DepthLimitExceeded, self.idx));
+            return Err(V::failure(self.too_deep()));
         }
-        let items = Vec::new(self.alloc);
+        if self.take_byte(b'[') {
+            let Ok(()) = stack.push(Frame::Array(Vec::new(self.alloc))) else {
+                return Err(V::failure(Error::OutOfMemory));
+            };
+            self.skip_blanks();
+            return Ok(self.take_byte(b']'));
+        }
+        self.idx += 1;
+        let Ok(()) = stack.push(new_object::<V>(self.alloc)) else {
+            return Err(V::failure(Error::OutOfMemory));
+        };
         self.skip_blanks();
-        if self.take_byte(b']') {
-            return Ok(Some(JsonAst::Array(items)));
-        }
-        stack.push(Frame::Array(items))?;
-        Ok(self.begin_element())
+        Ok(self.take_byte(b'}'))
     }
 
-    // An element that is left out, or nothing where a value is due.
-    fn begin_element(&mut self) -> Option<JsonAst<'a>>
-        ensures reads { (depth : ℕ) → (front : List Source) → elements_from (size_of self.old)
-            (mode_of self.old.mode) depth front (rest_of self.old)
-            ≡ element_from (size_of self.old) (mode_of self.old.mode) depth front result (rest_of self.new) }
+    // The fault of a container inside of as many as may be.
+    #[cold]
+    fn too_deep(&self) -> Error
+        requires { self.now.idx < size_of self.now }
+        ensures { result ≡ Syntax DepthLimitExceeded (self.now.idx + 1) }
+    {
+        Error::Syntax(ParseErrorCode::DepthLimitExceeded, self.idx + 1)
+    }
+
+    // Reads parts of the innermost container, up to its end, or up to a part that is a container and opens that one.
+    // True where a container was read to its end.
+    fn read_parts<V: Build<'a>>(
+        &mut self,
+        stack: &mut Vec<FrameOf<'a, V>>,
+        text: &'a str,
+    ) -> Result<bool, V::Failure>
+        requires depth { length stack.old.items ≤ max_depth }
+        requires inside { self.old.idx ≤ size_of self.old }
+        requires same { text.now ≡ take (length text.now) self.old.buf.now }
+        ensures reads { (whole : Read Source) → AtPart V.sees V.names V.holds whole self.old stack.old.items false
+            → ElseFails V.told result whole (AtPart V.sees V.names V.holds whole self.new stack.new.items) }
+        ensures onward { IfOk result (λ closed. self.old.idx < self.new.idx) }
+        ensures depth { IfOk result (λ closed. length stack.new.items ≤ max_depth) }
         ensures advances { Advances self.old self.new }
     {
-        self.skip_blanks();
-        if self.is_left_out() {
-            Some(JsonAst::Null)
-        } else {
-            None
+        let Some(frame) = stack.last_mut() else {
+            return Err(V::failure(Error::OutOfMemory));
+        };
+        if self.fill::<V>(frame, text)? {
+            return Ok(true);
         }
+        self.open_container::<V>(stack)
+    }
+
+    // Reads parts of a container, up to one that is a container, or up to its end. True at the end.
+    #[inline(always)]
+    fn fill<V: Build<'a>>(
+        &mut self,
+        frame: &mut FrameOf<'a, V>,
+        text: &'a str,
+    ) -> Result<bool, V::Failure>
+        requires inside { self.old.idx ≤ size_of self.old }
+        requires same { text.now ≡ take (length text.now) self.old.buf.now }
+        ensures reads { (depth : ℕ) → (c : Open) → FrameHolds V.sees V.names V.holds frame.old c
+            → ElseFails V.told result
+            (next_part_at (size_of self.old) (mode_of self.old.mode) depth c (rest_of self.old))
+            (λ closed. ReadsParts V.sees V.names V.holds (size_of self.old) (mode_of self.old.mode) depth
+            (next_part_at (size_of self.old) (mode_of self.old.mode) depth c (rest_of self.old))
+            closed frame.new (rest_of self.new)) }
+        ensures onward { IfOk result (λ closed. MatchBool closed (self.old.idx < self.new.idx) (Unit {0})) }
+        ensures opens { IfOk result (λ closed. MatchBool closed (Unit {0}) (OpensContainer (rest_of self.new))) }
+        ensures advances { Advances self.old self.new }
+    {
+        match frame {
+            Frame::Array(items) => self.read_elements(items, text),
+            Frame::Object(object) => self.read_members::<V>(object, text),
+        }
+    }
+
+    // The same of an array.
+    fn read_elements<V: Build<'a>>(
+        &mut self,
+        items: &mut Vec<V>,
+        text: &'a str,
+    ) -> Result<bool, V::Failure>
+        requires inside { self.old.idx ≤ size_of self.old }
+        requires same { text.now ≡ take (length text.now) self.old.buf.now }
+        ensures reads { (depth : ℕ) → (front : List Source) → AreSeen V.sees items.old.items front
+            → ElseFails V.told result
+            (elements_from (size_of self.old) (mode_of self.old.mode) depth front (rest_of self.old))
+            (λ closed. ReadsParts V.sees V.names V.holds (size_of self.old) (mode_of self.old.mode) depth
+            (elements_from (size_of self.old) (mode_of self.old.mode) depth front (rest_of self.old))
+            closed (Array items.new) (rest_of self.new)) }
+        ensures onward { IfOk result (λ closed. MatchBool closed (self.old.idx < self.new.idx) (Unit {0})) }
+        ensures opens { IfOk result (λ closed. MatchBool closed (Unit {0}) (OpensContainer (rest_of self.new))) }
+        ensures advances { Advances self.old self.new }
+    {
+        'elements: loop {
+            self.skip_blanks();
+            if self.begins_container() {
+                return Ok(false);
+            }
+            self.push_element(items, text)?;
+            if self.end_element::<V>()? {
+                return Ok(true);
+            }
+        }
+    }
+
+    // Pushes an element that is no container: a value, or null where it is left out.
+    #[inline(always)]
+    fn push_element<V: Build<'a>>(
+        &mut self,
+        items: &mut Vec<V>,
+        text: &'a str,
+    ) -> Result<(), V::Failure>
+        requires inside { self.old.idx ≤ size_of self.old }
+        requires same { text.now ≡ take (length text.now) self.old.buf.now }
+        ensures reads { Pushes V.told V.sees result items.old.items (read_at scalar_or_null self.old) items.new.items
+            (rest_of self.new) }
+        ensures advances { Advances self.old self.new }
+    {
+        if !self.is_left_out() {
+            return self.push_scalar(items, text);
+        }
+        let Ok(()) = items.push(V::null()) else {
+            return Err(V::failure(Error::OutOfMemory));
+        };
+        Ok(())
     }
 
     // Whether an element is left out here.
-    pub(super) fn is_left_out(&self) -> bool
+    fn is_left_out(&self) -> bool
         ensures { result ≡ is_left_out (mode_of self.now.mode) (rest_of self.now) }
     {
         match self.mode {
@@ -124,137 +274,197 @@ impl<'a> Parser<'a> {
         }
     }
 
-    // Opens an object, from the byte after the brace on.
-    fn begin_object(&mut self, stack: &mut Vec<Frame<'a>>) -> Result<Option<JsonAst<'a>>>
-        requires depth { length stack.old.items ≤ max_depth }
-        requires inside { self.old.idx ≤ size_of self.old }
-        ensures reads { Continues (resumed self.old stack.old.items
-            (object_within (size_of self.old) (mode_of self.old.mode) (depth_in stack.old.items) (rest_of self.old)))
-            result self.new stack.new.items }
-        ensures depth { OnOk result (length stack.new.items ≤ max_depth) }
-        ensures advances { Advances self.old self.new }
-    {
-        if stack.len() == MAX_DEPTH {
-            return Err(Error::Syntax(ParseErrorCode::DepthLimitExceeded, self.idx));
-        }
-        let members = Vec::new(self.alloc);
-        self.skip_blanks();
-        if self.take_byte(b'}') {
-            return Ok(Some(JsonAst::Object(members)));
-        }
-        let (key, after) = self.begin_member()?;
-        stack.push(Frame::Object(OpenObject {
-            members,
-            key,
-            after,
-        }))?;
-        Ok(None)
-    }
-
-    // A key with its colon, up to where its value is due, and the index after the key.
-    #[inline(always)]
-    fn begin_member(&mut self) -> Result<(CowStr<'a>, usize)>
-        requires { self.old.idx ≤ size_of self.old }
-        ensures reads { Gives (λ k. (((mark_view k.0, cow_str_bytes k.0), k.1), rest_of self.new)) result
-            (read_at member_start self.old) }
-        ensures advances { Advances self.old self.new }
-    {
-        self.skip_blanks();
-        let key = self.parse_key()?;
-        let after = self.idx;
-        self.skip_blanks();
-        if !self.take_byte(b':') {
-            return Err(self.unexpected(ParseErrorCode::ExpectedColon, 0));
-        }
-        self.skip_blanks();
-        Ok((key, after))
-    }
-
-    // Puts a value into the innermost container, and goes on to the next part or closes the container.
-    fn end_value(
+    // The same of an object. The key of the part that is a container is kept.
+    fn read_members<V: Build<'a>>(
         &mut self,
-        stack: &mut Vec<Frame<'a>>,
-        value: JsonAst<'a>,
-    ) -> Result<Option<JsonAst<'a>>>
-        requires depth { length stack.old.items ≤ max_depth }
-        requires some { 0 < length stack.old.items }
+        object: &mut ObjectOf<'a, V>,
+        text: &'a str,
+    ) -> Result<bool, V::Failure>
         requires inside { self.old.idx ≤ size_of self.old }
-        ensures reads { Continues (ahead self.old stack.old.items (Some value.entry)) result self.new stack.new.items }
-        ensures onward { OnOk result (length (rest_of self.new) < length (rest_of self.old)) }
-        ensures depth { OnOk result (length stack.new.items ≤ max_depth) }
+        requires same { text.now ≡ take (length text.now) self.old.buf.now }
+        ensures reads { (depth : ℕ) → (c : Open) → FrameHolds V.sees V.names V.holds (Object object.old) c
+            → ElseFails V.told result
+            (next_part_at (size_of self.old) (mode_of self.old.mode) depth c (rest_of self.old))
+            (λ closed. ReadsParts V.sees V.names V.holds (size_of self.old) (mode_of self.old.mode) depth
+            (next_part_at (size_of self.old) (mode_of self.old.mode) depth c (rest_of self.old))
+            closed (Object object.new) (rest_of self.new)) }
+        ensures onward { IfOk result (λ closed. MatchBool closed (self.old.idx < self.new.idx) (Unit {0})) }
+        ensures opens { IfOk result (λ closed. MatchBool closed (Unit {0}) (OpensContainer (rest_of self.new))) }
         ensures advances { Advances self.old self.new }
     {
-        let Some(frame) = stack.last_mut() else {
-            return Ok(Some(value));
-        };
-        frame.add(value)?;
-        self.skip_blanks();
-        if self.take_byte(b',') {
-            return self.next_part(frame);
-        }
-        self.close(stack)
-    }
-
-    // Goes on to the next part of a container, from the byte after the comma on.
-    fn next_part(&mut self, frame: &mut Frame<'a>) -> Result<Option<JsonAst<'a>>>
-        requires { self.old.idx ≤ size_of self.old }
-        ensures reads { (depth : ℕ) → PartBegins (size_of self.old) (mode_of self.old.mode) depth
-            (next_part_at (size_of self.old) (mode_of self.old.mode) depth (open_of frame.old) (rest_of self.old))
-            result (open_of frame.new) (rest_of self.new) }
-        ensures advances { Advances self.old self.new }
-    {
-        match frame {
-            Frame::Array(_) => Ok(self.begin_element()),
-            Frame::Object(object) => {
-                let (key, after) = self.begin_member()?;
+        'members: loop {
+            let key = self.begin_member::<V>(text)?;
+            if self.begins_container() {
                 object.key = key;
-                object.after = after;
-                Ok(None)
+                return Ok(false);
+            }
+            self.insert_scalar::<V>(&mut object.members, key, text)?;
+            if self.end_member::<V>()? {
+                return Ok(true);
             }
         }
     }
 
-    // Closes the innermost container.
-    fn close(&mut self, stack: &mut Vec<Frame<'a>>) -> Result<Option<JsonAst<'a>>>
-        requires depth { length stack.old.items ≤ max_depth }
-        requires some { 0 < length stack.old.items }
-        requires other { begins 44 (rest_of self.old) ≡ false }
-        ensures reads { Continues (resume_stack_after_part self.old stack.old.items) result self.new stack.new.items }
-        ensures onward { OnOk result (length (rest_of self.new) < length (rest_of self.old)) }
-        ensures depth { OnOk result (length stack.new.items < length stack.old.items) }
+    // Passes the comma or the bracket after an element. True where it is the bracket.
+    #[inline(always)]
+    fn end_element<V: Build<'a>>(&mut self) -> Result<bool, V::Failure>
+        requires { self.old.idx ≤ size_of self.old }
+        ensures reads { Builds V.told (λ x y. x ≡ y) result
+            (part_end (size_of self.old) expected_array_comma_or_end 93 (skip_blanks (mode_of self.old.mode)
+            (rest_of self.old))) (rest_of self.new) }
+        ensures onward { IfOk result (λ closed. self.old.idx < self.new.idx) }
         ensures advances { Advances self.old self.new }
     {
-        match stack.pop() {
-            Some(Frame::Array(items)) => {
-                if !self.take_byte(b']') {
-                    return Err(self.unexpected(ParseErrorCode::ExpectedArrayCommaOrEnd, 0));
-                }
-                Ok(Some(JsonAst::Array(items)))
+        if self.take_after_blanks(b',') {
+            return Ok(false);
+        }
+        if self.take_byte(b']') {
+            return Ok(true);
+        }
+        Err(V::failure(self.unexpected(ParseErrorCode::ExpectedArrayCommaOrEnd, 0)))
+    }
+
+    // Passes the comma or the brace after a member. True where it is the brace.
+    #[inline(always)]
+    fn end_member<V: Build<'a>>(&mut self) -> Result<bool, V::Failure>
+        requires { self.old.idx ≤ size_of self.old }
+        ensures reads { Builds V.told (λ x y. x ≡ y) result
+            (part_end (size_of self.old) expected_object_comma_or_end 125 (skip_blanks (mode_of self.old.mode)
+            (rest_of self.old))) (rest_of self.new) }
+        ensures onward { IfOk result (λ closed. self.old.idx < self.new.idx) }
+        ensures advances { Advances self.old self.new }
+    {
+        if self.take_after_blanks(b',') {
+            return Ok(false);
+        }
+        if self.take_byte(b'}') {
+            return Ok(true);
+        }
+        Err(V::failure(self.unexpected(ParseErrorCode::ExpectedObjectCommaOrEnd, 0)))
+    }
+
+    // Passes blanks and this byte, where it comes next; else the blanks alone. Most often there are none.
+    #[inline(always)]
+    pub(super) fn take_after_blanks(&mut self, byte: u8) -> bool
+        requires stop { is_blank_start byte ≡ false }
+        requires inside { self.old.idx ≤ size_of self.old }
+        ensures rest { skip_blanks (mode_of self.old.mode) (rest_of self.old)
+            ≡ (if result then byte ∷ rest_of self.new else rest_of self.new) }
+        ensures other { MatchBool result (Unit {0}) (begins byte (rest_of self.new) ≡ false) }
+        ensures onward { MatchBool result (self.old.idx < self.new.idx) (Unit {0}) }
+        ensures behind { MatchBool result (IsBehind byte self.new) (Unit {0}) }
+        ensures advances { Advances self.old self.new }
+    {
+        if self.take_byte(byte) {
+            return true;
+        }
+        self.skip_blanks();
+        self.take_byte(byte)
+    }
+
+    // Puts the innermost container, which was read, into the one around it, up to the next part of that one. True where
+    // that one ends there.
+    fn close_container<V: Build<'a>>(
+        &mut self,
+        stack: &mut Vec<FrameOf<'a, V>>,
+    ) -> Result<bool, V::Failure>
+        requires depth { length stack.old.items ≤ max_depth }
+        requires inside { self.old.idx ≤ size_of self.old }
+        ensures reads { (whole : Read Source) → AtPart V.sees V.names V.holds whole self.old stack.old.items true
+            → ElseFails V.told result whole (AtPart V.sees V.names V.holds whole self.new stack.new.items) }
+        ensures onward { IfOk result (λ closed. self.old.idx < self.new.idx) }
+        ensures depth { IfOk result (λ closed. length stack.new.items ≤ max_depth) }
+        ensures advances { Advances self.old self.new }
+    {
+        let Some(mut inner) = stack.pop() else {
+            return Err(V::failure(Error::OutOfMemory));
+        };
+        finish::<V>(self.alloc, &mut inner)?;
+        let Some(outer) = stack.last_mut() else {
+            return Err(V::failure(Error::OutOfMemory));
+        };
+        match outer {
+            Frame::Array(items) => {
+                make_room(items, self.next_is(b']'));
+                let Ok(()) = push_value(items, frame_value::<V>(inner)) else {
+                    return Err(V::failure(Error::OutOfMemory));
+                };
+                self.end_element::<V>()
             }
-            Some(Frame::Object(object)) => {
-                if !self.take_byte(b'}') {
-                    return Err(self.unexpected(ParseErrorCode::ExpectedObjectCommaOrEnd, 0));
-                }
-                Ok(Some(object_of(self.alloc, object.members)?))
+            Frame::Object(object) => {
+                let key = mem::replace(&mut object.key, V::no_key(self.alloc));
+                V::insert(&mut object.members, key, frame_value::<V>(inner))?;
+                self.end_member::<V>()
             }
-            None => Ok(None),
         }
     }
 }
 
-impl<'a> Frame<'a> {
-    // Puts in the value that the container waits for.
-    fn add(&mut self, value: JsonAst<'a>) -> Result<()>
-        ensures reads { MatchResult result (λ _. open_of self.new ≡ add_part (open_of self.old)
-            (source_view value.entry)) (λ e. e ≡ Error.OutOfMemory) }
-    {
-        match self {
-            Frame::Array(items) => items.push(value)?,
-            Frame::Object(object) => {
-                let key = mem::replace(&mut object.key, CowStr::Borrowed(""));
-                object.members.push((key, value, object.after))?;
-            }
+// An object with no members.
+#[inline(always)]
+fn new_object<'a, V: Build<'a>>(alloc: Global) -> FrameOf<'a, V>
+    ensures { FrameHolds V.sees V.names V.holds result (members_so_far [] (plain, []) 0) }
+{
+    Frame::Object(OpenObject {
+        members: V::members(alloc),
+        key: V::no_key(alloc),
+    })
+}
+
+// What comes at the end of a container: a key that comes twice is told.
+#[inline(always)]
+fn finish<'a, V: Build<'a>>(alloc: Global, frame: &mut FrameOf<'a, V>) -> Result<(), V::Failure>
+    ensures { (c : Open) → (rest : List ℕ) → FrameHolds V.sees V.names V.holds frame.old c
+        → ElseFails V.told result (finish_container c rest) (λ _. (s : Source)
+        × Completes V.sees V.completes frame.new s × (finish_container c rest ≡ Ok (s, rest))) }
+{
+    match frame {
+        Frame::Array(_) => Ok(()),
+        Frame::Object(object) => V::finish(alloc, &mut object.members),
+    }
+}
+
+// The value of a container that is finished.
+#[inline(always)]
+fn frame_value<'a, V: Build<'a>>(frame: FrameOf<'a, V>) -> V
+    ensures { (s : Source) → Completes V.sees V.completes frame s → V.sees result s }
+{
+    match frame {
+        Frame::Array(items) => V::array(items),
+        Frame::Object(object) => V::object(object.members),
+    }
+}
+
+// Makes room for a value, and for no other, where it is the array's only one. Arrays in arrays often have but one.
+#[inline(always)]
+fn make_room<V>(items: &mut Vec<V>, is_last: bool)
+    ensures { items.new.items ≡ items.old.items }
+{
+    if is_last && items.capacity() == 0 {
+        let _made = items.reserve_exact(1);
+    }
+}
+
+// Pushes a value. One that is refused may nest deep.
+#[inline(always)]
+fn push_value<'a, V: Build<'a>>(items: &mut Vec<V>, value: V) -> Result<(), AllocError>
+    ensures items { OnOk result (items.new.items ≡ items.old.items ++ value ∷ []) }
+{
+    if let Err(refused) = items.push(value) {
+        refused.value.dismantle();
+        return Err(AllocError);
+    }
+    Ok(())
+}
+
+// Drops the containers that are open. What they hold may nest deep.
+#[cold]
+#[inline(never)]
+fn dismantle_all<'a, V: Build<'a>>(stack: Vec<FrameOf<'a, V>>) {
+    'frames: for frame in stack {
+        match frame {
+            Frame::Array(items) => V::array(items).dismantle(),
+            Frame::Object(object) => V::dismantle_members(object.members),
         }
-        Ok(())
     }
 }

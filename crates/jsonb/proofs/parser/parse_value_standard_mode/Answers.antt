@@ -8,6 +8,7 @@ use Rattle.jsonb_value.specs.View.{view}
 use Rattle.jsonb_value.proofs.Trees.DocumentsInRange.{standard_in_range}
 use Rattle.jsonb_value.proofs.Trees.StandardInExtended.{standard_is_extended}
 use Rattle.jsonb.specs.AstView.{ast_view}
+use Rattle.jsonb.proofs.Documents.Agreement.{document_built}
 use Rattle.jsonb.proofs.Documents.Spellings.{document_unique}
 use Rattle.jsonb.proofs.Documents.Markers.{document_opened}
 use Rattle.jsonb.proofs.Containers.Values.{document_sound}
@@ -27,18 +28,23 @@ returns-clause-extended c =
 pub returns-clause-memory : goal.returns-clause-memory
 returns-clause-memory c = λ is. document_opened standard c.args.buf.now _ c.in_ok-parse.ensures.document (refused_container _ c.into_scalar.result c.into_scalar.ensures.memory is)
 
-pub returns-in-Some-clause-document : goal.returns-in-Some-clause-document
-returns-in-Some-clause-document c = document_sound standard c.args.buf.now (view c.in-Some.value) c.in-Some.ensures
+pub returns-in-Ok-clause-exact : goal.returns-in-Ok-clause-exact
+returns-in-Ok-clause-exact c =
+    let reads = c.in-Ok.ensures.reads in
+    document_built standard c.args.buf.now (view c.in-Ok.value) reads.0 reads.1 reads.2
 
-pub returns-in-Some-clause-only : goal.returns-in-Some-clause-only
-returns-in-Some-clause-only c = λ t d.
-    document_unique standard c.args.buf.now t (view c.in-Some.value) d (returns-in-Some-clause-document c)
+pub returns-in-Ok-clause-document : goal.returns-in-Ok-clause-document
+returns-in-Ok-clause-document c = document_sound standard c.args.buf.now (view c.in-Ok.value) (returns-in-Ok-clause-exact c)
 
-pub returns-in-Some-clause-in_range : goal.returns-in-Some-clause-in_range
-returns-in-Some-clause-in_range c = (standard_in_range c.args.buf.now (view c.in-Some.value) (returns-in-Some-clause-document c)).0
+pub returns-in-Ok-clause-only : goal.returns-in-Ok-clause-only
+returns-in-Ok-clause-only c = λ t d.
+    document_unique standard c.args.buf.now t (view c.in-Ok.value) d (returns-in-Ok-clause-document c)
 
-pub returns-in-Some-clause-proper : goal.returns-in-Some-clause-proper
-returns-in-Some-clause-proper c = (standard_in_range c.args.buf.now (view c.in-Some.value) (returns-in-Some-clause-document c)).1
+pub returns-in-Ok-clause-in_range : goal.returns-in-Ok-clause-in_range
+returns-in-Ok-clause-in_range c = (standard_in_range c.args.buf.now (view c.in-Ok.value) (returns-in-Ok-clause-document c)).0
 
-pub returns-in-Some-clause-extended : goal.returns-in-Some-clause-extended
-returns-in-Some-clause-extended c = standard_is_extended c.args.buf.now (view c.in-Some.value) (returns-in-Some-clause-document c)
+pub returns-in-Ok-clause-proper : goal.returns-in-Ok-clause-proper
+returns-in-Ok-clause-proper c = (standard_in_range c.args.buf.now (view c.in-Ok.value) (returns-in-Ok-clause-document c)).1
+
+pub returns-in-Ok-clause-extended : goal.returns-in-Ok-clause-extended
+returns-in-Ok-clause-extended c = standard_is_extended c.args.buf.now (view c.in-Ok.value) (returns-in-Ok-clause-document c)

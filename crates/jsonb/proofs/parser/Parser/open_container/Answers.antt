@@ -1,26 +1,38 @@
-use Rattle.std.proofs.Common.{ap, sym, ◌∙◌, arith}
-use Rattle.jsonb.specs.Parser.{rest_of}
-use Rattle.jsonb.proofs.Containers.OpenOfDirect.{array_opened, object_opened}
+use Rattle.std.proofs.Common.{◌≡◌, subst, ◌+◌, ◌∷◌, [], refl, ap, sym, ◌∙◌, arith, length, length-drop}
+use Rattle.jsonb_scan.specs.Answer.{Fails}
+use Rattle.jsonb_value.specs.Tree.Mark.{plain}
+use Rattle.jsonb.specs.declared.parser.Parser.{Parser}
+use Rattle.jsonb.specs.Parser.{Advances, rest_of, size_of}
+use Rattle.jsonb.proofs.Containers.Frames.{after_brace, array_opened, object_opened, too_many}
 use Rattle.jsonb.proofs.Steps.Advancing.{goes_on}
+use Rattle.jsonb.proofs.Steps.Failures.{tells_fault}
 use Rattle.jsonb.proofs.parser.Parser.open_container.Goals as goal
 
+pub returns-then-len-eq-MAX_DEPTH-clause-reads : goal.returns-then-len-eq-MAX_DEPTH-clause-reads
+returns-then-len-eq-MAX_DEPTH-clause-reads g c whole due =
+    tells_fault (g.V.Build.told c.failure.result) c.too_deep.result whole c.failure.ensures
+    (subst (λ e. Fails e whole) (sym c.too_deep.ensures) (too_many g.V.Build.sees g.V.Build.names g.V.Build.holds c.args.self.now c.args.stack.now.items whole (omega arith) c.requires.opens due))
+
 pub returns-then-take_byte-clause-reads : goal.returns-then-take_byte-clause-reads
-returns-then-take_byte-clause-reads c whole due =
+returns-then-take_byte-clause-reads g c whole due =
     let p = c.args.self.now in
     let o = c.take_byte.new.self in
     let s = c.skip_blanks.new.self in
     let q = c.take_byte-then-take_byte.new.self in
     let a = c.take_byte.ensures.advances in
-    array_opened p o s q c.args.stack.now.items c.push.new.self.items c.new.result c.take_byte-then-take_byte.result whole a (goes_on p o q a (goes_on o s q c.skip_blanks.ensures.advances c.take_byte-then-take_byte.ensures.advances))
+    array_opened g.V.Build.sees g.V.Build.names g.V.Build.holds p o s q c.args.stack.now.items c.push.new.self.items c.new.result c.take_byte-then-take_byte.result whole a (goes_on p o q a (goes_on o s q c.skip_blanks.ensures.advances c.take_byte-then-take_byte.ensures.advances))
     c.if-take_byte.ensures.rest c.skip_blanks.ensures.rest c.take_byte-then-take_byte.ensures.found c.take_byte-then-take_byte.ensures.rest c.new.ensures.items c.in-Ok.ensures.items (omega arith) due
 
 pub returns-clause-reads : goal.returns-clause-reads
-returns-clause-reads c whole due =
+returns-clause-reads g c whole due =
     let p = c.args.self.now in
     let n = c.take_byte.new.self in
-    let o = c.take_byte-2.new.self in
+    let o : Parser = record n { idx = n.idx + 1 } in
     let s = c.skip_blanks-2.new.self in
-    let q = c.take_byte-3.new.self in
-    let a = goes_on p n o c.take_byte.ensures.advances c.take_byte-2.ensures.advances in
-    object_opened p o s q c.args.stack.now.items c.push-2.new.self.items c.new-2.result c.take_byte-3.result whole a (goes_on p o q a (goes_on o s q c.skip_blanks-2.ensures.advances c.take_byte-3.ensures.advances))
-    (ap (λ r. rest_of r) (sym c.if-take_byte.ensures.rest) ∙ c.if-not-take_byte.ensures.rest) c.skip_blanks-2.ensures.rest c.take_byte-3.ensures.found c.take_byte-3.ensures.rest c.new-2.ensures.0 c.in-Ok-push.ensures.items (omega arith) due
+    let q = c.take_byte-2.new.self in
+    let unmoved : n ≡ p = c.if-take_byte.ensures.rest in
+    let brace = after_brace p c.requires.opens (sym c.if-take_byte.ensures.found) ∙ ap (λ r. 123 ∷ rest_of (record r { idx = r.idx + 1 })) (sym unmoved) in
+    let past : Advances n o = record { buf = refl; mode = refl; onward = omega arith; inside = λ h. omega (arith, ap length brace, length-drop p.idx p.buf.now, ap (λ r. r.idx) unmoved, ap (λ r. size_of r) unmoved) } in
+    let a = goes_on p n o c.take_byte.ensures.advances past in
+    object_opened g.V.Build.sees g.V.Build.names g.V.Build.holds p o s q c.args.stack.now.items c.push-2.new.self.items c.new_object.result (plain, []) 0 c.take_byte-2.result whole a (goes_on p o q a (goes_on o s q c.skip_blanks-2.ensures.advances c.take_byte-2.ensures.advances))
+    brace c.skip_blanks-2.ensures.rest c.take_byte-2.ensures.found c.take_byte-2.ensures.rest c.new_object.ensures c.in-Ok-push.ensures.items (omega arith) due

@@ -1,32 +1,20 @@
-use Rattle.jsonb_scan.specs.Answer.{MayAllocate}
-use Rattle.std.proofs.Common.{◌≡◌, ◌<◌, ◌≤◌, ⊎_elim, ap, length, ◌∙◌, arith, subst}
-use Rattle.std.proofs.lemmas.Grind.{common_steps}
-use Rattle.std.proofs.lemmas.Bool.{cases_lt}
-use Rattle.jsonb.specs.Stack.{ahead}
-use Rattle.jsonb.proofs.Steps.Advancing.{goes_on, stays}
-use Rattle.jsonb.proofs.Containers.OpenOfReader.{outermost_due, outermost_read}
+use Rattle.jsonb_value.specs.Grammar.{max_depth}
+use Rattle.jsonb.specs.Parser.{read_at, rest_of, size_of}
+use Rattle.jsonb_scan.specs.Answer.{mode_of}
+use Rattle.jsonb_scan.specs.Reading.Document.{alone_at, value_at}
+use Rattle.jsonb_scan.specs.Reading.Scalar.{scalar_at}
+use Rattle.jsonb.proofs.Containers.Frames.{builds_alone, each_error, opens_allocates}
+use Rattle.jsonb.proofs.Containers.OpenOnLists.{value_plain}
+use Rattle.jsonb.proofs.Steps.Failures.{builds_same}
 use Rattle.jsonb.proofs.parser.Parser.parse_value.Goals as goal
 
-pub turns-init : goal.turns-init
-turns-init c =
-    let p = c.args.self.now in
-    let none : length c.new-stack.result.items ≡ 0 = ap length c.new-stack.ensures.items in
-    (outermost_due c.args.self.now c.new-stack.result.items none, omega arith, stays c.args.self.now, λ some. absurd (omega (arith, none, some)))
+pub returns-then-begins_container-clause-memory : goal.returns-then-begins_container-clause-memory
+returns-then-begins_container-clause-memory g c = each_error c.parse_container.result (λ f is. opens_allocates c.args.self.now c.if-begins_container.ensures.opens)
 
-pub returns-in-Some-clause-reads : goal.returns-in-Some-clause-reads
-returns-in-Some-clause-reads c =
-    let none : length c.turns.stack.items ≡ 0 = grind (arith, common_steps) in
-    c.turns.invariant.0 ∙ outermost_read c.turns.self c.turns.stack.items c.turns.read c.in-Some.value none c.in-Some.is
-
-pub turns-preserved-in_ok-read-in-None : goal.turns-preserved-in_ok-read-in-None
-turns-preserved-in_ok-read-in-None c =
+pub returns-clause-reads : goal.returns-clause-reads
+returns-clause-reads g c =
     let p = c.args.self.now in
-    let l = c.turns.self in
-    let q = c.begin_value.new.self in
-    let i = c.turns.invariant in
-    let read = c.in_ok-read-in-None in (
-      i.0 ∙ ap (λ r. ahead l c.turns.stack.items r) c.in-None.is ∙ read.ensures.reads,
-      read.ensures.depth,
-      goes_on p l q i.2 c.begin_value.ensures.advances,
-      λ some. ⊎_elim (λ (more : 0 < length c.turns.stack.items). i.3 more) (λ (none : length c.turns.stack.items ≤ 0). subst MayAllocate (ap (λ b. b.now) i.2.buf) (read.ensures.opened (omega (arith, none, some)))) (cases_lt 0 (length c.turns.stack.items)),
-    )
+    let rest = rest_of c.parse_scalar.new.self in
+    builds_same g.V.Build.told g.V.Build.sees c.parse_scalar.result (alone_at (read_at scalar_at p)) (read_at (λ size mode. value_at size mode max_depth) p) rest
+    (value_plain (size_of p) (mode_of p.mode) max_depth (rest_of p) c.if-begins_container.ensures.other.0 c.if-begins_container.ensures.other.1)
+    (builds_alone g.V.Build.told g.V.Build.sees c.parse_scalar.result (read_at scalar_at p) rest c.parse_scalar.ensures.reads)

@@ -1,10 +1,18 @@
-use Rattle.jsonb_value.specs.declared.value.Value as value
-use Rattle.jsonb.proofs.Containers.OpenOfDirect.{quoted_string}
+use Rattle.std.specs.Cow.{cow_str_bytes}
+use Rattle.jsonb_value.specs.Tree.{string}
+use Rattle.jsonb_value.specs.View.{mark_view}
+use Rattle.jsonb_scan.specs.Answer.{mode_of}
+use Rattle.jsonb.specs.Parser.{rest_of, size_of}
+use Rattle.jsonb.proofs.Scalars.Built.{string_read}
 use Rattle.jsonb.proofs.parser.Parser.push_escaped.Goals as goal
 
 pub returns-clause-reads : goal.returns-clause-reads
-returns-clause-reads c = (
-  value.String c.in-Ok.string,
-  c.in-Ok-push.ensures.items,
-  quoted_string c.args.self.now c.in-Ok.string _ c.in-Ok.ensures.reads,
-)
+returns-clause-reads g c =
+    let p = c.args.self.now in
+    let s = c.in-Ok.string in (
+      c.string.result,
+      string (mark_view s) (cow_str_bytes s),
+      c.in-Ok-push.ensures.items,
+      c.string.ensures,
+      string_read (size_of p) (mode_of p.mode) 34 (rest_of p) (mark_view s, cow_str_bytes s) _ c.in-Ok.ensures.reads,
+    )

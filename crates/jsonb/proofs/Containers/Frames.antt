@@ -1,0 +1,468 @@
+-- The parser's stack parses as the open containers do.
+use Rattle.std.proofs.Common.{◌≡◌, map, inl, inr, ℕ, zero, suc, ◌+◌, ◌-◌, ◌≤◌, Bool, true, false, cond, List, [], ◌∷◌, ◌++◌, length, take, get_or, set, Vec, Global, Option, Result, Ok, Err, IfErr, refl, sym, ap, ap₂, subst, ◌∙◌, arith, length-append, length-drop, drop, drop-drop, eqb, true≢false}
+use Rattle.std.proofs.lemmas.Bool.{eqb-true}
+use Rattle.jsonb_value.specs.Code.{Code}
+use Rattle.jsonb_value.specs.Code.Code.{depth_limit_exceeded, expected_array_comma_or_end, expected_object_comma_or_end}
+use Rattle.jsonb_value.specs.Grammar.{AreDistinct, max_depth}
+use Rattle.jsonb_value.specs.Mode.{Mode}
+use Rattle.jsonb_value.specs.Tree.{Mark, Tree}
+use Rattle.jsonb_value.specs.Tree.Mark.{plain}
+use Rattle.jsonb_value.specs.Tree.Tree.{null}
+use Rattle.jsonb_value.specs.declared.error.Error.{Error}
+use Rattle.jsonb.specs.declared.parser.Parser.{Parser}
+use Rattle.jsonb.specs.declared.parser.value.Frame.{Frame}
+use Rattle.jsonb.specs.declared.parser.value.OpenObject.{OpenObject}
+use Rattle.jsonb.specs.declared.parser.value.Frame.TheVariants as variants
+use Rattle.jsonb.specs.Build.{AreSeen, AsScalar, Builds, ElseFails, Misses, found_keys}
+use Rattle.jsonb.specs.Frames.{AtPart, BeforeValue, FrameHolds, FramesHold, FramesHoldOnto, IsRead, OpensContainer, ReadsParts, Remains, depth_within, finish_container, resume_part, resume_stack, resume_value, scalar_or_null}
+use Rattle.jsonb_scan.specs.Answer.{MayAllocate, mode_of}
+use Rattle.jsonb.specs.Parser.{Advances, read_at, rest_of, size_of}
+use Rattle.jsonb_scan.specs.Reading.{Fault, Read, begins, on_byte, refused, ◌>>=◌}
+use Rattle.jsonb_scan.specs.Reading.Blank.{skip_blanks}
+use Rattle.jsonb_scan.specs.Reading.Container.{array_at, elements_at, is_left_out, members_at, object_at, object_or_fault, value_or_null}
+use Rattle.jsonb_scan.specs.Source.{Found, Source, array_source, found, no_source_members, no_sources, null_source, object_source, object_source_of, source_alone, spot_of}
+use Rattle.jsonb_scan.specs.Reading.Document.{alone_at, value_at}
+use Rattle.jsonb_scan.specs.Reading.Scalar.{scalar_at}
+use Rattle.jsonb.specs.Stack.{Open, add_part, elements_from, finish_open, member_start, next_part_at, object_end, part_end, read_members_from, resume, resume_after_part}
+use Rattle.jsonb.specs.Stack.Open.{elements_so_far, members_so_far}
+use Rattle.jsonb.proofs.Containers.OpenOnLists.{array-begun, array-value, element-due, elements-turn, members-turn, object-begun, object-value, on_byte-then, resume-none, resume-part, then-same, then-then, value_plain}
+use Rattle.jsonb.proofs.Containers.Repeats.{no_repeat}
+use Rattle.jsonb.proofs.Steps.Advancing.{contains_next, goes_on}
+use Rattle.jsonb.proofs.Steps.Failures.{misses_same, misses_through}
+use Rattle.jsonb.proofs.Steps.Outcomes.{same_size}
+use Rattle.jsonb_scan.proofs.Containers.JoinedParts.{on_byte-found}
+use Rattle.jsonb_scan.proofs.Steps.Tests.{chosen}
+
+-- ---- what is returned after a first step
+
+-- A step was built, and what comes after it is the whole; or its fault is that of the whole.
+pub builds_then : {X F Y B : Type 0} (told : F → Option Error) (See : X → Y → Type 0) (r : Result X F) (read : Read Y) (rest : List ℕ) (then : Y × List ℕ → Result B Fault) (whole : Result B Fault) (P : X → Type 0)
+    → Builds told See r read rest → whole ≡ (read >>= then) → ((x : X) (y : Y) → See x y → whole ≡ then (y, rest) → P x) → ElseFails told r whole P
+builds_then told See (Ok x) read rest then whole P b e f = f x b.0 b.1 (e ∙ ap (λ q. q >>= then) b.2)
+builds_then told See (Err t) read rest then whole P b e f = misses_same (told t) (read >>= then) whole e (misses_through (told t) read then b)
+
+-- a value that holds no others
+pub builds_alone : {X F : Type 0} (told : F → Option Error) (Sees : X → Source → Type 0) (r : Result X F) (read : Read Tree) (rest : List ℕ) → Builds told (AsScalar Sees) r read rest → Builds told Sees r (alone_at read) rest
+builds_alone told Sees (Ok x) read rest b = (source_alone b.0, b.1, ap alone_at b.2)
+builds_alone told Sees (Err f) read rest b = misses_through (told f) read (λ x. Ok (source_alone x.0, x.1)) b
+
+pub each_error : {X F : Type 0} {P : F → Type 0} (r : Result X F) → ((f : F) → P f) → IfErr r P
+each_error (Ok x) h = tt
+each_error (Err f) h = h f
+
+-- ---- the same in one input
+
+pub value_same : (p q : Parser) (depth : ℕ) (bytes : List ℕ) → Advances p q → value_at (size_of p) (mode_of p.mode) depth bytes ≡ value_at (size_of q) (mode_of q.mode) depth bytes
+value_same p q depth bytes a = sym (ap₂ (λ n m. value_at n m depth bytes) (same_size p q a) (ap mode_of a.mode))
+
+pub skip_same : (p q : Parser) (bytes : List ℕ) → Advances p q → skip_blanks (mode_of p.mode) bytes ≡ skip_blanks (mode_of q.mode) bytes
+skip_same p q bytes a = ap (λ m. skip_blanks (mode_of m) bytes) (sym a.mode)
+
+-- a value that holds no others, at any depth
+pub value_alone : (p q : Parser) (depth : ℕ) → Advances p q → begins 91 (rest_of q) ≡ false → begins 123 (rest_of q) ≡ false
+    → value_at (size_of p) (mode_of p.mode) depth (rest_of q) ≡ alone_at (scalar_at (size_of q) (mode_of q.mode) (rest_of q))
+value_alone p q depth a no_array no_object = value_same p q depth (rest_of q) a ∙ value_plain (size_of q) (mode_of q.mode) depth (rest_of q) no_array no_object
+
+or_null_alone : (left_out : Bool) (bytes : List ℕ) (read : Read Tree) → cond left_out (Ok (null_source, bytes)) (alone_at read) ≡ alone_at (cond left_out (Ok (null, bytes)) read)
+or_null_alone true bytes read = refl
+or_null_alone false bytes read = refl
+
+-- the object of the members that were found
+pub ends-distinct : (fs : List Found) (rest : List ℕ) → AreDistinct (found_keys fs) → object_end fs rest ≡ Ok (object_source_of fs, rest)
+ends-distinct fs rest d = ap (λ o. object_or_fault o fs rest) (no_repeat (map spot_of fs) d)
+
+-- ---- the end of a part
+
+module _ (size : ℕ) (mode : Mode) (depth : ℕ) where
+  pub element_ends : (front : List Source) (bytes : List ℕ)
+      → resume_after_part size mode depth (elements_so_far front) bytes ≡ (part_end size expected_array_comma_or_end 93 bytes >>= λ x. resume_part size mode depth x.0 (elements_so_far front) x.1)
+  element_ends front bytes =
+      let g : Bool × List ℕ → Read Source = λ x. resume_part size mode depth x.0 (elements_so_far front) x.1 in
+      let last : Read Bool = on_byte 93 bytes (λ rest. Ok (true, rest)) (refused size expected_array_comma_or_end 0 bytes) in
+      sym (on_byte-then 44 bytes (λ rest. Ok (false, rest)) last g
+      ∙ ap (λ (o : Read Source). on_byte 44 bytes (λ rest. g (false, rest)) o) (on_byte-then 93 bytes (λ rest. Ok (true, rest)) (refused size expected_array_comma_or_end 0 bytes) g))
+
+  pub member_ends : (front : List Found) (key : Mark × List ℕ) (place : ℕ) (bytes : List ℕ)
+      → resume_after_part size mode depth (members_so_far front key place) bytes ≡ (part_end size expected_object_comma_or_end 125 bytes >>= λ x. resume_part size mode depth x.0 (members_so_far front key place) x.1)
+  member_ends front key place bytes =
+      let g : Bool × List ℕ → Read Source = λ x. resume_part size mode depth x.0 (members_so_far front key place) x.1 in
+      let last : Read Bool = on_byte 125 bytes (λ rest. Ok (true, rest)) (refused size expected_object_comma_or_end 0 bytes) in
+      sym (on_byte-then 44 bytes (λ rest. Ok (false, rest)) last g
+      ∙ ap (λ (o : Read Source). on_byte 44 bytes (λ rest. g (false, rest)) o) (on_byte-then 125 bytes (λ rest. Ok (true, rest)) (refused size expected_object_comma_or_end 0 bytes) g))
+
+-- ---- a turn of the loops over parts
+
+-- an element is due
+pub element_stops : (p l s : Parser) (depth : ℕ) (front : List Source) → Advances p l → Advances l s → rest_of s ≡ skip_blanks (mode_of l.mode) (rest_of l) → is_left_out (mode_of s.mode) (rest_of s) ≡ false
+    → elements_from (size_of p) (mode_of p.mode) depth front (rest_of l) ≡ (value_at (size_of p) (mode_of p.mode) depth (rest_of s) >>= finish_open (size_of p) (mode_of p.mode) depth (elements_so_far front))
+element_stops p l s depth front a b skipped due =
+    let here : rest_of s ≡ skip_blanks (mode_of p.mode) (rest_of l) = skipped ∙ sym (skip_same p l (rest_of l) a) in
+    element-due (size_of p) (mode_of p.mode) depth front (rest_of l) (ap₂ (λ m r. is_left_out m r) (sym (ap mode_of (goes_on p l s a b).mode)) (sym here) ∙ due)
+    ∙ ap (λ r. value_at (size_of p) (mode_of p.mode) depth r >>= finish_open (size_of p) (mode_of p.mode) depth (elements_so_far front)) (sym here)
+
+-- the part that ends here, and what is left of the container
+abbrev pub after_element : Parser → ℕ → List Source → Tree × List ℕ → Read Source
+after_element p depth front x =
+    part_end (size_of p) expected_array_comma_or_end 93 (skip_blanks (mode_of p.mode) x.1) >>= λ y. resume_part (size_of p) (mode_of p.mode) depth y.0 (elements_so_far (front ++ source_alone x.0 ∷ [])) y.1
+
+abbrev pub after_member : Parser → ℕ → List Found → Mark × List ℕ → ℕ → Tree × List ℕ → Read Source
+after_member p depth front k place x =
+    part_end (size_of p) expected_object_comma_or_end 125 (skip_blanks (mode_of p.mode) x.1) >>= λ y. resume_part (size_of p) (mode_of p.mode) depth y.0 (members_so_far (front ++ found k (source_alone x.0) place ∷ []) (plain, []) 0) y.1
+
+-- an element that holds no others is due, or none
+pub element_turn : (p l s : Parser) (depth : ℕ) (front : List Source) → Advances p l → Advances l s → rest_of s ≡ skip_blanks (mode_of l.mode) (rest_of l) → begins 91 (rest_of s) ≡ false → begins 123 (rest_of s) ≡ false
+    → elements_from (size_of p) (mode_of p.mode) depth front (rest_of l) ≡ (read_at scalar_or_null s >>= after_element p depth front)
+element_turn p l s depth front a b skipped no_array no_object =
+    let on = goes_on p l s a b in
+    let read : Read Tree = scalar_or_null (size_of s) (mode_of s.mode) (rest_of s) in
+    let here : rest_of s ≡ skip_blanks (mode_of p.mode) (rest_of l) = skipped ∙ sym (skip_same p l (rest_of l) a) in
+    elements-turn (size_of p) (mode_of p.mode) depth front (rest_of l)
+    ∙ ap (λ x. x >>= finish_open (size_of p) (mode_of p.mode) depth (elements_so_far front))
+    (ap (λ u. value_or_null (mode_of p.mode) (value_at (size_of p) (mode_of p.mode) depth) u) (sym here)
+    ∙ ap (λ v. cond (is_left_out (mode_of p.mode) (rest_of s)) (Ok (null_source, rest_of s)) v) (value_alone p s depth on no_array no_object)
+    ∙ ap (λ m. cond (is_left_out (mode_of m) (rest_of s)) (Ok (null_source, rest_of s)) (alone_at (scalar_at (size_of s) (mode_of s.mode) (rest_of s)))) (sym on.mode)
+    ∙ or_null_alone (is_left_out (mode_of s.mode) (rest_of s)) (rest_of s) (scalar_at (size_of s) (mode_of s.mode) (rest_of s)))
+    ∙ then-then read (λ (x : Tree × List ℕ). Ok (source_alone x.0, x.1)) (finish_open (size_of p) (mode_of p.mode) depth (elements_so_far front))
+    ∙ then-same read (λ (x : Tree × List ℕ). finish_open (size_of p) (mode_of p.mode) depth (elements_so_far front) (source_alone x.0, x.1)) (after_element p depth front)
+    (λ x. element_ends (size_of p) (mode_of p.mode) depth (front ++ source_alone x.0 ∷ []) (skip_blanks (mode_of p.mode) x.1))
+
+-- a member is due
+abbrev pub waits : Parser → ℕ → List Found → ((Mark × List ℕ) × ℕ) × List ℕ → Read Source
+waits p depth front k =
+    value_at (size_of p) (mode_of p.mode) depth k.1 >>= finish_open (size_of p) (mode_of p.mode) depth (members_so_far front k.0.0 k.0.1)
+
+pub member_due : (p l : Parser) (depth : ℕ) (front : List Found) → Advances p l → read_members_from (size_of p) (mode_of p.mode) depth front (rest_of l) ≡ (read_at member_start l >>= waits p depth front)
+member_due p l depth front a =
+    members-turn (size_of p) (mode_of p.mode) depth front (rest_of l)
+    ∙ ap (λ (r : Read ((Mark × List ℕ) × ℕ)). r >>= waits p depth front) (sym (ap₂ (λ n m. member_start n m (rest_of l)) (same_size p l a) (ap mode_of a.mode)))
+
+-- a member's value, which holds no others
+pub member_turn : (p s : Parser) (depth : ℕ) (front : List Found) (k : Mark × List ℕ) (place : ℕ) → Advances p s → begins 91 (rest_of s) ≡ false → begins 123 (rest_of s) ≡ false
+    → waits p depth front ((k, place), rest_of s) ≡ (read_at scalar_at s >>= after_member p depth front k place)
+member_turn p s depth front k place a no_array no_object =
+    let read : Read Tree = scalar_at (size_of s) (mode_of s.mode) (rest_of s) in
+    ap (λ (r : Read Source). r >>= finish_open (size_of p) (mode_of p.mode) depth (members_so_far front k place)) (value_alone p s depth a no_array no_object)
+    ∙ then-then read (λ (x : Tree × List ℕ). Ok (source_alone x.0, x.1)) (finish_open (size_of p) (mode_of p.mode) depth (members_so_far front k place))
+    ∙ then-same read (λ (x : Tree × List ℕ). finish_open (size_of p) (mode_of p.mode) depth (members_so_far front k place) (source_alone x.0, x.1)) (after_member p depth front k place)
+    (λ x. member_ends (size_of p) (mode_of p.mode) depth (front ++ found k (source_alone x.0) place ∷ []) (plain, []) 0 (skip_blanks (mode_of p.mode) x.1))
+
+-- the end of a part, told of the parser that stands there
+pub same_end : (p q : Parser) (code : Code) (close : ℕ) → Advances p q → part_end (size_of q) code close (skip_blanks (mode_of q.mode) (rest_of q)) ≡ part_end (size_of p) code close (skip_blanks (mode_of p.mode) (rest_of q))
+same_end p q code close a = ap₂ (λ n m. part_end n code close (skip_blanks m (rest_of q))) (same_size p q a) (ap mode_of a.mode)
+
+-- ---- values in turn
+
+pub seen-snoc : {V : Type 0} (Sees : V → Source → Type 0) (vs : List V) (ss : List Source) (v : V) (s : Source) → AreSeen Sees vs ss → Sees v s → AreSeen Sees (vs ++ v ∷ []) (ss ++ s ∷ [])
+seen-snoc Sees [] [] v s h i = (i, tt)
+seen-snoc Sees [] (t ∷ ts) v s h i = absurd h
+seen-snoc Sees (w ∷ vs) [] v s h i = absurd h
+seen-snoc Sees (w ∷ vs) (t ∷ ts) v s h i = (h.0, seen-snoc Sees vs ts v s h.1 i)
+
+-- ---- lists that end in one more
+
+pub last-is : {A : Type 0} (fs : List A) (n : ℕ) (f : A) → n + 1 ≡ length fs → f ≡ get_or fs n f → fs ≡ take n fs ++ f ∷ []
+last-is [] n f e h = absurd (omega arith)
+last-is (x ∷ []) zero f e h = ap (λ y. y ∷ []) (sym h)
+last-is (x ∷ y ∷ xs) zero f e h = absurd (omega arith)
+last-is (x ∷ xs) (suc n) f e h = ap (λ ys. x ∷ ys) (last-is xs n f (omega arith) h)
+
+pub last-set : {A : Type 0} (fs : List A) (n : ℕ) (g : A) → n + 1 ≡ length fs → set fs n g ≡ take n fs ++ g ∷ []
+last-set [] n g e = absurd (omega arith)
+last-set (x ∷ []) zero g e = refl
+last-set (x ∷ y ∷ xs) zero g e = absurd (omega arith)
+last-set (x ∷ xs) (suc n) g e = ap (λ ys. x ∷ ys) (last-set xs n g (omega arith))
+
+pub only_one : {A : Type 0} (fs : List A) → length fs ≡ 1 → (f : A) × (fs ≡ f ∷ [])
+only_one [] e = absurd (omega arith)
+only_one (f ∷ []) e = (f, refl)
+only_one (f ∷ x ∷ fs) e = absurd (omega arith)
+
+-- ---- the byte that opens a container
+
+-- a byte that comes next
+next_found : (c : ℕ) (p : Parser) → begins c (rest_of p) ≡ true → rest_of p ≡ c ∷ drop (p.idx + 1) p.buf.now
+next_found c p e = found_next c (rest_of p) e ∙ ap (λ r. c ∷ r) (drop-drop 1 p.idx p.buf.now)
+  where
+    found_next : (c : ℕ) (bytes : List ℕ) → begins c bytes ≡ true → bytes ≡ c ∷ drop 1 bytes
+    found_next c [] e = absurd (true≢false (sym e))
+    found_next c (b ∷ bytes) e =
+        elim (chosen (eqb b c) true false true e) [
+          | inl t ↦ ap (λ k. k ∷ bytes) (eqb-true b c t.0)
+          | inr f ↦ absurd (true≢false (sym f.1))
+        ]
+
+-- after the brace, where it comes next
+pub after_brace : (p : Parser) → OpensContainer (rest_of p) → begins 91 (rest_of p) ≡ false → rest_of p ≡ 123 ∷ drop (p.idx + 1) p.buf.now
+after_brace p (inl e) none = absurd (true≢false (sym e ∙ none))
+after_brace p (inr e) none = next_found 123 p e
+
+-- The byte that opens a container is in the input.
+pub opens_allocates : (p : Parser) → OpensContainer (rest_of p) → MayAllocate p.buf.now
+opens_allocates p (inl e) = inl (contains_next p.buf.now p.idx 91 (drop (p.idx + 1) p.buf.now) (next_found 91 p e))
+opens_allocates p (inr e) = inr (inl (contains_next p.buf.now p.idx 123 (drop (p.idx + 1) p.buf.now) (next_found 123 p e)))
+
+-- whether the closing byte comes next
+closing : (c : ℕ) (mode : Mode) (bytes : List ℕ) (s q : Parser) (closed : Bool) → rest_of s ≡ skip_blanks mode bytes → closed ≡ begins c (rest_of s) → cond closed (rest_of s ≡ c ∷ rest_of q) (q ≡ s)
+    → cond closed (skip_blanks mode bytes ≡ c ∷ rest_of q) ((begins c (skip_blanks mode bytes) ≡ false) × (skip_blanks mode bytes ≡ rest_of q))
+closing c mode bytes s q true e f r = sym e ∙ r
+closing c mode bytes s q false e f r = (ap (λ u. begins c u) (sym e) ∙ sym f, sym e ∙ ap (λ o. rest_of o) (sym r))
+
+module _ (size : ℕ) (mode : Mode) (depth : ℕ) (bytes rest : List ℕ) where
+  array-starts : (closed : Bool) → cond closed (skip_blanks mode bytes ≡ 93 ∷ rest) ((begins 93 (skip_blanks mode bytes) ≡ false) × (skip_blanks mode bytes ≡ rest))
+      → array_at size mode (value_at size mode depth) bytes ≡ resume_part size mode depth closed (elements_so_far []) rest
+  array-starts true e =
+      ap (λ (u : List ℕ). on_byte 93 u (λ (r : List ℕ). Ok (array_source no_sources, r)) (elements_at size mode (value_at size mode depth) bytes)) e
+      ∙ on_byte-found 93 rest (λ (r : List ℕ). Ok (array_source no_sources, r)) (elements_at size mode (value_at size mode depth) bytes)
+  array-starts false e = array-begun size mode depth bytes e.0 ∙ ap (λ (u : List ℕ). elements_from size mode depth [] u) e.1
+
+  object-starts : (key : Mark × List ℕ) (place : ℕ) (closed : Bool) → cond closed (skip_blanks mode bytes ≡ 125 ∷ rest) ((begins 125 (skip_blanks mode bytes) ≡ false) × (skip_blanks mode bytes ≡ rest))
+      → object_at size mode (value_at size mode depth) bytes ≡ resume_part size mode depth closed (members_so_far [] key place) rest
+  object-starts key place true e =
+      ap (λ (u : List ℕ). on_byte 125 u (λ (r : List ℕ). Ok (object_source no_source_members, r)) (members_at size mode (value_at size mode depth) bytes)) e
+      ∙ on_byte-found 125 rest (λ (r : List ℕ). Ok (object_source no_source_members, r)) (members_at size mode (value_at size mode depth) bytes)
+      ∙ sym (ends-distinct [] rest tt)
+  object-starts key place false e = object-begun size mode depth bytes e.0 ∙ ap (λ (u : List ℕ). read_members_from size mode depth [] u) e.1
+
+outer-same : (p q : Parser) (depth : ℕ) (closed : Bool) (cs : List Open) (bytes : List ℕ) → Advances p q → resume_stack (size_of p) (mode_of p.mode) depth closed cs bytes ≡ resume_stack (size_of q) (mode_of q.mode) depth closed cs bytes
+outer-same p q depth closed cs bytes a = sym (ap₂ (λ n m. resume_stack n m depth closed cs bytes) (same_size p q a) (ap mode_of a.mode))
+
+-- ---- the stack
+
+module _ {V M K : Type 0} (Sees : V → Source → Type 0) (Names : K → Mark × List ℕ → ℕ → Type 0) (Holds : M → List Found → Type 0) where
+  held-push : (below : List Open) (fs : List (Frame V M K)) (cs : List Open) (f : Frame V M K) (c : Open) → FramesHoldOnto Sees Names Holds below fs cs → FrameHolds Sees Names Holds f c → FramesHoldOnto Sees Names Holds below (fs ++ f ∷ []) (c ∷ cs)
+  held-push below [] cs f c h i = (c, i, ap (λ (ds : List Open). c ∷ ds) h)
+  held-push below (g ∷ fs) cs f c h i = (h.0, h.1, held-push (h.0 ∷ below) fs cs f c h.2 i)
+
+  -- the innermost, and the others
+  record Innermost (below : List Open) (fs : List (Frame V M K)) (f : Frame V M K) (cs : List Open) : Type 0 where
+    pub inner : Open
+    pub others : List Open
+    pub are : cs ≡ inner ∷ others
+    pub held : FrameHolds Sees Names Holds f inner
+    pub below_held : FramesHoldOnto Sees Names Holds below fs others
+
+  held-pop : (below : List Open) (fs : List (Frame V M K)) (f : Frame V M K) (cs : List Open) → FramesHoldOnto Sees Names Holds below (fs ++ f ∷ []) cs → Innermost below fs f cs
+  held-pop below [] f cs h = record { inner = h.0; others = below; are = h.2; held = h.1; below_held = refl }
+  held-pop below (g ∷ fs) f cs h =
+      let r = held-pop (h.0 ∷ below) fs f cs h.2 in
+      record { inner = r.inner; others = r.others; are = r.are; held = r.held; below_held = (h.0, h.1, r.below_held) }
+
+  innermost_of : (fs gs : List (Frame V M K)) (f : Frame V M K) (cs : List Open) → gs ≡ fs ++ f ∷ [] → FramesHold Sees Names Holds gs cs → Innermost [] fs f cs
+  innermost_of fs gs f cs e h = held-pop [] fs f cs (subst (λ hs. FramesHold Sees Names Holds hs cs) e h)
+
+  pushed-on : (fs gs : List (Frame V M K)) (f : Frame V M K) (c : Open) (cs : List Open) → gs ≡ fs ++ f ∷ [] → FramesHold Sees Names Holds fs cs → FrameHolds Sees Names Holds f c → FramesHold Sees Names Holds gs (c ∷ cs)
+  pushed-on fs gs f c cs e h i = subst (λ hs. FramesHold Sees Names Holds hs (c ∷ cs)) (sym e) (held-push [] fs cs f c h i)
+
+  -- no container is open yet
+  pub outermost_due : (p : Parser) (fs : List (Frame V M K)) → fs ≡ [] → BeforeValue Sees Names Holds (value_at (size_of p) (mode_of p.mode) max_depth (rest_of p)) p fs
+  outermost_due p fs e =
+      subst (λ gs. BeforeValue Sees Names Holds (value_at (size_of p) (mode_of p.mode) max_depth (rest_of p)) p gs) (sym e)
+      (record { opens = []; held = refl; reads = sym (resume-none (size_of p) (mode_of p.mode) max_depth (value_at (size_of p) (mode_of p.mode) max_depth (rest_of p))) })
+
+  -- as many are open as may be
+  pub too_many : (p : Parser) (fs : List (Frame V M K)) (whole : Read Source) → length fs ≡ max_depth → OpensContainer (rest_of p) → BeforeValue Sees Names Holds whole p fs → whole ≡ Err (record { code = depth_limit_exceeded; place = p.idx + 1 })
+  too_many p fs whole full opens due =
+      let none : depth_within Sees Names Holds fs ≡ 0 = omega arith in
+      due.reads
+      ∙ ap (λ n. value_at (size_of p) (mode_of p.mode) n (rest_of p) >>= resume (size_of p) (mode_of p.mode) n due.opens) none
+      ∙ ap (λ (r : Read Source). r >>= resume (size_of p) (mode_of p.mode) 0 due.opens) (refused_here opens)
+    where
+      place-is : (c : ℕ) → rest_of p ≡ c ∷ drop (p.idx + 1) p.buf.now → size_of p - length (drop (p.idx + 1) p.buf.now) ≡ p.idx + 1
+      place-is c e = omega (arith, ap length e, length-drop p.idx p.buf.now, length-drop (p.idx + 1) p.buf.now)
+
+      refused_here : OpensContainer (rest_of p) → value_at (size_of p) (mode_of p.mode) 0 (rest_of p) ≡ Err (record { code = depth_limit_exceeded; place = p.idx + 1 })
+      refused_here (inl e) =
+          let next = next_found 91 p e in
+          ap (λ r. value_at (size_of p) (mode_of p.mode) 0 r) next
+          ∙ array-value (size_of p) (mode_of p.mode) 0 (drop (p.idx + 1) p.buf.now)
+          ∙ ap (λ n. Err (record { code = depth_limit_exceeded; place = n })) (place-is 91 next)
+      refused_here (inr e) =
+          let next = next_found 123 p e in
+          ap (λ r. value_at (size_of p) (mode_of p.mode) 0 r) next
+          ∙ object-value (size_of p) (mode_of p.mode) 0 (drop (p.idx + 1) p.buf.now)
+          ∙ ap (λ n. Err (record { code = depth_limit_exceeded; place = n })) (place-is 123 next)
+
+  -- a container was pushed that is read from here on
+  opened : (p q : Parser) (fs gs : List (Frame V M K)) (f : Frame V M K) (c : Open) (closed : Bool) (whole : Read Source) → Advances p q → gs ≡ fs ++ f ∷ [] → FrameHolds Sees Names Holds f c → length gs ≤ max_depth
+      → ((depth : ℕ) → value_at (size_of p) (mode_of p.mode) (suc depth) (rest_of p) ≡ resume_part (size_of p) (mode_of p.mode) depth closed c (rest_of q))
+      → BeforeValue Sees Names Holds whole p fs → AtPart Sees Names Holds whole q gs closed
+  opened p q fs gs f c closed whole a e held fits reads due =
+      let deep : depth_within Sees Names Holds fs ≡ suc (depth_within Sees Names Holds gs) = omega (arith, ap length e, length-append fs (f ∷ [])) in
+      record {
+        opens = c ∷ due.opens;
+        held = pushed-on fs gs f c due.opens e due.held held;
+        reads =
+            due.reads
+            ∙ ap (λ n. value_at (size_of p) (mode_of p.mode) n (rest_of p) >>= resume (size_of p) (mode_of p.mode) n due.opens) deep
+            ∙ ap (λ r. r >>= resume (size_of p) (mode_of p.mode) (suc (depth_within Sees Names Holds gs)) due.opens) (reads (depth_within Sees Names Holds gs))
+            ∙ outer-same p q (depth_within Sees Names Holds gs) closed (c ∷ due.opens) (rest_of q) a;
+      }
+
+  pub array_opened : (p o s q : Parser) (fs gs : List (Frame V M K)) (v : Vec V Global) (closed : Bool) (whole : Read Source) → Advances p o → Advances p q → rest_of p ≡ 91 ∷ rest_of o → rest_of s ≡ skip_blanks (mode_of o.mode) (rest_of o)
+      → closed ≡ begins 93 (rest_of s) → cond closed (rest_of s ≡ 93 ∷ rest_of q) (q ≡ s) → v.items ≡ [] → gs ≡ fs ++ variants.Array v ∷ [] → length gs ≤ max_depth → BeforeValue Sees Names Holds whole p fs → AtPart Sees Names Holds whole q gs closed
+  array_opened p o s q fs gs v closed whole a b bracket skipped found closes none e fits due =
+      opened p q fs gs (variants.Array v) (elements_so_far []) closed whole b e (subst (λ vs. AreSeen Sees vs []) (sym none) tt) fits
+      (λ depth.
+      ap (λ r. value_at (size_of p) (mode_of p.mode) (suc depth) r) bracket
+      ∙ array-value (size_of p) (mode_of p.mode) (suc depth) (rest_of o)
+      ∙ array-starts (size_of p) (mode_of p.mode) depth (rest_of o) (rest_of q) closed (closing 93 (mode_of p.mode) (rest_of o) s q closed (skipped ∙ sym (skip_same p o (rest_of o) a)) found closes))
+      due
+
+  pub object_opened : (p o s q : Parser) (fs gs : List (Frame V M K)) (f : Frame V M K) (key : Mark × List ℕ) (place : ℕ) (closed : Bool) (whole : Read Source) → Advances p o → Advances p q → rest_of p ≡ 123 ∷ rest_of o → rest_of s ≡ skip_blanks (mode_of o.mode) (rest_of o)
+      → closed ≡ begins 125 (rest_of s) → cond closed (rest_of s ≡ 125 ∷ rest_of q) (q ≡ s) → FrameHolds Sees Names Holds f (members_so_far [] key place) → gs ≡ fs ++ f ∷ [] → length gs ≤ max_depth → BeforeValue Sees Names Holds whole p fs → AtPart Sees Names Holds whole q gs closed
+  object_opened p o s q fs gs f key place closed whole a b brace skipped found closes held e fits due =
+      opened p q fs gs f (members_so_far [] key place) closed whole b e held fits
+      (λ depth.
+      ap (λ r. value_at (size_of p) (mode_of p.mode) (suc depth) r) brace
+      ∙ object-value (size_of p) (mode_of p.mode) (suc depth) (rest_of o)
+      ∙ object-starts (size_of p) (mode_of p.mode) depth (rest_of o) (rest_of q) key place closed (closing 125 (mode_of p.mode) (rest_of o) s q closed (skipped ∙ sym (skip_same p o (rest_of o) a)) found closes))
+      due
+
+  -- ---- parts are read
+
+  same_depth : (fs gs hs : List (Frame V M K)) (f g : Frame V M K) → fs ≡ hs ++ f ∷ [] → gs ≡ hs ++ g ∷ [] → depth_within Sees Names Holds gs ≡ depth_within Sees Names Holds fs
+  same_depth fs gs hs f g e d = ap (λ n. max_depth - n) (let same : length gs ≡ length fs = omega (arith, ap length e, ap length d, length-append hs (f ∷ []), length-append hs (g ∷ [])) in same)
+
+  module _ (p q : Parser) (fs gs hs : List (Frame V M K)) (f g : Frame V M K) (whole : Read Source) (a : Advances p q) (e : fs ≡ hs ++ f ∷ []) (d : gs ≡ hs ++ g ∷ []) where
+    stopped : (closed : Bool) (ahead : AtPart Sees Names Holds whole p fs false) (i : Innermost [] hs f ahead.opens) (s : ReadsParts Sees Names Holds (size_of p) (mode_of p.mode) (depth_within Sees Names Holds fs) (next_part_at (size_of p) (mode_of p.mode) (depth_within Sees Names Holds fs) i.inner (rest_of p)) closed g (rest_of q))
+        → whole ≡ (resume_value (size_of p) (mode_of p.mode) (depth_within Sees Names Holds fs) closed s.so_far (rest_of q) >>= resume (size_of p) (mode_of p.mode) (suc (depth_within Sees Names Holds fs)) i.others)
+    stopped closed ahead i s =
+        ahead.reads
+        ∙ ap (λ cs. resume_stack (size_of p) (mode_of p.mode) (depth_within Sees Names Holds fs) false cs (rest_of p)) i.are
+        ∙ ap (λ (r : Read Source). r >>= resume (size_of p) (mode_of p.mode) (suc (depth_within Sees Names Holds fs)) i.others) s.reads
+
+    -- up to the end of the container
+    pub filled : ((depth : ℕ) (c : Open) → FrameHolds Sees Names Holds f c → ReadsParts Sees Names Holds (size_of p) (mode_of p.mode) depth (next_part_at (size_of p) (mode_of p.mode) depth c (rest_of p)) true g (rest_of q))
+        → AtPart Sees Names Holds whole p fs false → AtPart Sees Names Holds whole q gs true
+    filled stops ahead =
+        let i = innermost_of hs fs f ahead.opens e ahead.held in
+        let s = stops (depth_within Sees Names Holds fs) i.inner i.held in
+        record {
+          opens = s.so_far ∷ i.others;
+          held = pushed-on hs gs g s.so_far i.others d i.below_held s.held;
+          reads =
+              stopped true ahead i s
+              ∙ outer-same p q (depth_within Sees Names Holds fs) true (s.so_far ∷ i.others) (rest_of q) a
+              ∙ ap (λ n. resume_stack (size_of q) (mode_of q.mode) n true (s.so_far ∷ i.others) (rest_of q)) (sym (same_depth fs gs hs f g e d));
+        }
+
+    -- up to a part that is a container
+    pub stopped_due : ((depth : ℕ) (c : Open) → FrameHolds Sees Names Holds f c → ReadsParts Sees Names Holds (size_of p) (mode_of p.mode) depth (next_part_at (size_of p) (mode_of p.mode) depth c (rest_of p)) false g (rest_of q))
+        → AtPart Sees Names Holds whole p fs false → BeforeValue Sees Names Holds whole q gs
+    stopped_due stops ahead =
+        let i = innermost_of hs fs f ahead.opens e ahead.held in
+        let s = stops (depth_within Sees Names Holds fs) i.inner i.held in
+        record {
+          opens = s.so_far ∷ i.others;
+          held = pushed-on hs gs g s.so_far i.others d i.below_held s.held;
+          reads =
+              stopped false ahead i s
+              ∙ resume-part (size_of p) (mode_of p.mode) (depth_within Sees Names Holds fs) s.so_far i.others (value_at (size_of p) (mode_of p.mode) (depth_within Sees Names Holds fs) (rest_of q))
+              ∙ ap₂ (λ n m. value_at n m (depth_within Sees Names Holds fs) (rest_of q) >>= resume n m (depth_within Sees Names Holds fs) (s.so_far ∷ i.others)) (sym (same_size p q a)) (ap mode_of (sym a.mode))
+              ∙ ap (λ n. value_at (size_of q) (mode_of q.mode) n (rest_of q) >>= resume (size_of q) (mode_of q.mode) n (s.so_far ∷ i.others)) (sym (same_depth fs gs hs f g e d));
+        }
+
+  -- the fault of a part of the innermost
+  pub part_misses : (p : Parser) (fs hs : List (Frame V M K)) (f : Frame V M K) (whole : Read Source) (t : Option Error) → fs ≡ hs ++ f ∷ []
+      → ((depth : ℕ) (c : Open) → FrameHolds Sees Names Holds f c → Misses t (next_part_at (size_of p) (mode_of p.mode) depth c (rest_of p))) → AtPart Sees Names Holds whole p fs false → Misses t whole
+  part_misses p fs hs f whole t is h ahead =
+      let i = innermost_of hs fs f ahead.opens is ahead.held in
+      let part = next_part_at (size_of p) (mode_of p.mode) (depth_within Sees Names Holds fs) i.inner (rest_of p) in
+      misses_same t (part >>= resume (size_of p) (mode_of p.mode) (suc (depth_within Sees Names Holds fs)) i.others) whole
+      (ahead.reads ∙ ap (λ cs. resume_stack (size_of p) (mode_of p.mode) (depth_within Sees Names Holds fs) false cs (rest_of p)) i.are)
+      (misses_through t part (resume (size_of p) (mode_of p.mode) (suc (depth_within Sees Names Holds fs)) i.others) (h (depth_within Sees Names Holds fs) i.inner i.held))
+
+  -- ---- a container ends
+
+  -- The innermost was taken off: it is what is read of it, and then the others go on.
+  pub record Ended (whole : Read Source) (p : Parser) (gs : List (Frame V M K)) (f : Frame V M K) : Type 0 where
+    pub inner : Open
+    pub held : FrameHolds Sees Names Holds f inner
+    pub left : Remains Sees Names Holds whole gs (λ cs. finish_container inner (rest_of p) >>= resume (size_of p) (mode_of p.mode) (depth_within Sees Names Holds gs) cs)
+
+  pub ended : (p : Parser) (fs gs : List (Frame V M K)) (f : Frame V M K) (whole : Read Source) → fs ≡ gs ++ f ∷ [] → length fs ≤ max_depth → AtPart Sees Names Holds whole p fs true → Ended whole p gs f
+  ended p fs gs f whole e fits ahead =
+      let i = innermost_of gs fs f ahead.opens e ahead.held in
+      let deep : suc (depth_within Sees Names Holds fs) ≡ depth_within Sees Names Holds gs = omega (arith, ap length e, length-append gs (f ∷ [])) in
+      record {
+        inner = i.inner;
+        held = i.held;
+        left = record {
+          opens = i.others;
+          held = i.below_held;
+          reads =
+              ahead.reads
+              ∙ ap (λ cs. resume_stack (size_of p) (mode_of p.mode) (depth_within Sees Names Holds fs) true cs (rest_of p)) i.are
+              ∙ ap (λ n. finish_container i.inner (rest_of p) >>= resume (size_of p) (mode_of p.mode) n i.others) deep;
+        };
+      }
+
+  -- no other is open
+  pub outermost : (p : Parser) (fs : List (Frame V M K)) (f : Frame V M K) (whole : Read Source) → fs ≡ f ∷ [] → AtPart Sees Names Holds whole p fs true → length fs ≤ max_depth → IsRead Sees Names Holds whole fs (rest_of p)
+  outermost p fs f whole e ahead fits =
+      let x = ended p fs [] f whole e fits ahead in (
+        f,
+        x.inner,
+        e,
+        x.held,
+        x.left.reads
+            ∙ ap (λ cs. finish_container x.inner (rest_of p) >>= resume (size_of p) (mode_of p.mode) (depth_within Sees Names Holds []) cs) x.left.held
+            ∙ resume-none (size_of p) (mode_of p.mode) (depth_within Sees Names Holds []) (finish_container x.inner (rest_of p)),
+      )
+
+  -- the fault at its end
+  pub end_misses : (p : Parser) (gs : List (Frame V M K)) (f : Frame V M K) (whole : Read Source) (t : Option Error) (x : Ended whole p gs f) → Misses t (finish_container x.inner (rest_of p)) → Misses t whole
+  end_misses p gs f whole t x h =
+      let then = resume (size_of p) (mode_of p.mode) (depth_within Sees Names Holds gs) x.left.opens in
+      misses_same t (finish_container x.inner (rest_of p) >>= then) whole x.left.reads (misses_through t (finish_container x.inner (rest_of p)) then h)
+
+  -- The container around a value, with the value put in, goes on at the end of the part.
+  pub record Joins (size : ℕ) (mode : Mode) (s : Source) (c : Open) (g : Frame V M K) (code : Code) (close : ℕ) : Type 0 where
+    pub held : FrameHolds Sees Names Holds g (add_part c s)
+    pub ends : (depth : ℕ) (bytes : List ℕ) → resume_after_part size mode depth (add_part c s) bytes ≡ (part_end size code close bytes >>= λ y. resume_part size mode depth y.0 (add_part c s) y.1)
+
+  module _ (p q : Parser) (gs ks hs : List (Frame V M K)) (f g inner : Frame V M K) (whole : Read Source) (s : Source) (code : Code) (close : ℕ) (a : Advances p q) (e : gs ≡ hs ++ f ∷ []) (d : ks ≡ hs ++ g ∷ []) where
+    pub joined : {F : Type 0} (told : F → Option Error) (r : Result Bool F) (x : Ended whole p gs inner) → finish_container x.inner (rest_of p) ≡ Ok (s, rest_of p) → ((c : Open) → FrameHolds Sees Names Holds f c → Joins (size_of p) (mode_of p.mode) s c g code close)
+        → Builds told (λ b c. b ≡ c) r (part_end (size_of p) code close (skip_blanks (mode_of p.mode) (rest_of p))) (rest_of q) → ElseFails told r whole (AtPart Sees Names Holds whole q ks)
+    unfolding resume
+    joined told r x finished joins built =
+        let i = innermost_of hs gs f x.left.opens e x.left.held in
+        let j = joins i.inner i.held in
+        let depth = depth_within Sees Names Holds gs in
+        let others = resume (size_of p) (mode_of p.mode) (suc depth) i.others in
+        let then : Bool × List ℕ → Read Source = λ y. resume_part (size_of p) (mode_of p.mode) depth y.0 (add_part i.inner s) y.1 >>= others in
+        let read = part_end (size_of p) code close (skip_blanks (mode_of p.mode) (rest_of p)) in
+        builds_then told (λ b c. b ≡ c) r read (rest_of q) then whole (AtPart Sees Names Holds whole q ks) built
+        (x.left.reads
+        ∙ ap (λ (u : Read Source). u >>= resume (size_of p) (mode_of p.mode) depth x.left.opens) finished
+        ∙ ap (λ cs. resume (size_of p) (mode_of p.mode) depth cs (s, rest_of p)) i.are
+        ∙ ap (λ (u : Read Source). u >>= others) (j.ends depth (skip_blanks (mode_of p.mode) (rest_of p)))
+        ∙ then-then read (λ (y : Bool × List ℕ). resume_part (size_of p) (mode_of p.mode) depth y.0 (add_part i.inner s) y.1) others)
+        (λ closed y same is.
+        record {
+          opens = add_part i.inner s ∷ i.others;
+          held = pushed-on hs ks g (add_part i.inner s) i.others d i.below_held j.held;
+          reads =
+              is
+              ∙ ap (λ b. resume_part (size_of p) (mode_of p.mode) depth b (add_part i.inner s) (rest_of q) >>= others) (sym same)
+              ∙ outer-same p q depth closed (add_part i.inner s ∷ i.others) (rest_of q) a
+              ∙ ap (λ n. resume_stack (size_of q) (mode_of q.mode) n closed (add_part i.inner s ∷ i.others) (rest_of q)) (sym (same_depth gs ks hs f g e d));
+        })
+
+  -- an element, and a member
+  pub array-joins : (size : ℕ) (mode : Mode) (v w : Vec V Global) (x : V) (s : Source) → w.items ≡ v.items ++ x ∷ [] → Sees x s → (c : Open) → FrameHolds Sees Names Holds (variants.Array v) c → Joins size mode s c (variants.Array w) expected_array_comma_or_end 93
+  array-joins size mode v w x s put seen (elements_so_far ss) h =
+      record {
+        held = subst (λ vs. AreSeen Sees vs (ss ++ s ∷ [])) (sym put) (seen-snoc Sees v.items ss x s h seen);
+        ends = λ depth bytes. element_ends size mode depth (ss ++ s ∷ []) bytes;
+      }
+  array-joins size mode v w x s put seen (members_so_far fs key place) h = absurd h
+
+  pub object-joins : (size : ℕ) (mode : Mode) (v w : OpenObject M K) (s : Source) → ((fs : List Found) (k : Mark × List ℕ) (place : ℕ) → Holds v.members fs → Names v.key k place → Holds w.members (fs ++ found k s place ∷ [])) → Names w.key (plain, []) 0
+      → (c : Open) → FrameHolds Sees Names Holds (variants.Object v) c → Joins size mode s c (variants.Object w) expected_object_comma_or_end 125
+  object-joins size mode v w s put none (elements_so_far ss) h = absurd h
+  object-joins size mode v w s put none (members_so_far fs key place) h =
+      record {
+        held = (put fs key place h.0 h.1, none);
+        ends = λ depth bytes. member_ends size mode depth (fs ++ found key s place ∷ []) (plain, []) 0 bytes;
+      }

@@ -1,0 +1,20 @@
+use Rattle.std.proofs.Common.{◌-◌, ◌≤◌, length}
+use Rattle.jsonb_value.specs.Grammar.{max_depth}
+use Rattle.jsonb.specs.Frames.{AtPart}
+use Rattle.jsonb_scan.specs.Answer.{mode_of}
+use Rattle.jsonb.specs.Parser.{Advances, rest_of, size_of}
+use Rattle.jsonb_scan.specs.Reading.Document.{value_at}
+use Rattle.jsonb.proofs.parser.Parser.read_container.Given as goal
+
+-- what is read of the whole is what is left to read inside of the open containers
+abbrev pub invariant-turns : goal.invariant-turns
+invariant-turns g l =
+    let p = l.fn.self in record {
+      inside : l.self.idx ≤ size_of l.self;
+      depth : length l.stack.items ≤ max_depth;
+      advances : Advances p l.self;
+      ahead : AtPart g.V.Build.sees g.V.Build.names g.V.Build.holds (value_at (size_of p) (mode_of p.mode) max_depth (rest_of p)) l.self l.stack.items l.closed;
+    }
+
+abbrev pub decreases-turns : goal.decreases-turns
+decreases-turns g l = size_of l.self - l.self.idx

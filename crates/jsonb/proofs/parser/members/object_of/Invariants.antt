@@ -1,7 +1,0 @@
-use Rattle.std.proofs.Common.{◌≡◌, ◌-◌, drop, map}
-use Rattle.jsonb.specs.Source.{found_of}
-use Rattle.jsonb_scan.specs.Source.{adjacent_repeat, spot_of}
-use Rattle.jsonb.proofs.parser.members.object_of.Given as goal
-
-abbrev pub invariant-loop-i : goal.invariant-loop-i
-invariant-loop-i l = adjacent_repeat (map spot_of (map found_of l.members.items)) ≡ adjacent_repeat (drop (l.i - 1) (map spot_of (map found_of l.members.items)))
