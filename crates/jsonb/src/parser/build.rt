@@ -20,11 +20,13 @@ pub(super) use value::put_member;
 
 // What the parser builds: values of one type, with the keys and members of objects that are open.
 pub(super) trait Build<'a>: Drop + Sized {
-    // What is returned where no value is.
+    // What is returned where nothing is built.
     type Failure: Drop;
 
+    // A key that waits for its value.
     type Key: Drop;
 
+    // The members so far of an object that is open.
     type Members: Drop;
 
     // The value is of this source.
@@ -42,6 +44,7 @@ pub(super) trait Build<'a>: Drop + Sized {
     // The error that the failure tells, or none.
     ghost told: { Self.Failure → Option Error };
 
+    // The failure that tells this error, or none.
     fn failure(error: Error) -> Self::Failure
         ensures { Tells (told result) error };
 
@@ -69,7 +72,7 @@ pub(super) trait Build<'a>: Drop + Sized {
         ensures named { IfOk result (λ key. names key (plain, text.now) after) }
         ensures memory { IfErr result (λ f. Tells (told f) Error.OutOfMemory) };
 
-    // The same of any key.
+    // The same of any other key.
     fn key(
         alloc: Global,
         text: CowStr<'a>,
@@ -82,9 +85,11 @@ pub(super) trait Build<'a>: Drop + Sized {
     fn no_key(alloc: Global) -> Self::Key
         ensures { names result (plain, []) 0 };
 
+    // No members yet.
     fn members(alloc: Global) -> Self::Members
         ensures { holds result [] };
 
+    // Puts in a member. Where its key is there already, this may fail, or else `finish` does.
     fn insert(
         members: &mut Self::Members,
         key: Self::Key,
@@ -100,6 +105,7 @@ pub(super) trait Build<'a>: Drop + Sized {
         ensures { (fs : List Found) → (rest : List ℕ) → holds members.old fs → ElseFails told result
             (object_end fs rest) (λ _. (s : Source) × completes members.new s × (object_end fs rest ≡ Ok (s, rest))) };
 
+    // The object of members that are finished.
     fn object(members: Self::Members) -> Self
         ensures { (s : Source) → completes members s → sees result s };
 

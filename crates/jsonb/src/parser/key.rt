@@ -30,7 +30,7 @@ impl<'a> Parser<'a> {
         ensures reads { Builds V.told (AsNamed V.names) result (read_at member_start self.old) (rest_of self.new) }
         ensures advances { Advances self.old self.new }
     {
-        let key = self.parse_name::<V>(text)?;
+        let key = self.parse_member_key::<V>(text)?;
         if !self.take_after_blanks(b':') {
             return Err(V::failure(self.unexpected(ParseErrorCode::ExpectedColon, 0)));
         }
@@ -42,7 +42,10 @@ impl<'a> Parser<'a> {
 
     // A key, after blanks.
     #[inline(always)]
-    fn parse_name<V: Build<'a>>(&mut self, text: &'a str) -> std::result::Result<V::Key, V::Failure>
+    fn parse_member_key<V: Build<'a>>(
+        &mut self,
+        text: &'a str,
+    ) -> std::result::Result<V::Key, V::Failure>
         requires inside { self.old.idx ≤ size_of self.old }
         requires same { text.now ≡ take (length text.now) self.old.buf.now }
         ensures reads { Builds V.told (AsKey V.names (size_of self.old) (rest_of self.new)) result
@@ -51,17 +54,17 @@ impl<'a> Parser<'a> {
         ensures advances { Advances self.old self.new }
     {
         if !self.take_after_blanks(b'"') {
-            return self.other_name::<V>();
+            return self.other_key::<V>();
         }
         if let Some(body) = self.borrowed_string(b'"', text) {
             return V::borrowed_key(self.alloc, body, self.idx);
         }
-        self.escaped_name::<V>()
+        self.escaped_key::<V>()
     }
 
     // A key in double quotes that has escapes, or is refused, from the byte after its opening quote on.
     #[inline(never)]
-    fn escaped_name<V: Build<'a>>(&mut self) -> std::result::Result<V::Key, V::Failure>
+    fn escaped_key<V: Build<'a>>(&mut self) -> std::result::Result<V::Key, V::Failure>
         requires { self.old.idx ≤ size_of self.old }
         ensures reads { Builds V.told (AsKey V.names (size_of self.old) (rest_of self.new)) result
             (string_at (size_of self.old) (mode_of self.old.mode) 34 (rest_of self.old)) (rest_of self.new) }
@@ -75,7 +78,7 @@ impl<'a> Parser<'a> {
 
     // A key in single quotes or in none.
     #[inline(never)]
-    fn other_name<V: Build<'a>>(&mut self) -> std::result::Result<V::Key, V::Failure>
+    fn other_key<V: Build<'a>>(&mut self) -> std::result::Result<V::Key, V::Failure>
         requires { self.old.idx ≤ size_of self.old }
         ensures reads { Builds V.told (AsKey V.names (size_of self.old) (rest_of self.new)) result
             (key_at (size_of self.old) (mode_of self.old.mode) (rest_of self.old)) (rest_of self.new) }

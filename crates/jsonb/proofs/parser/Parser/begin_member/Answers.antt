@@ -12,11 +12,11 @@ use Rattle.jsonb.proofs.parser.Parser.begin_member.Goals as goal
 pub returns-clause-reads : goal.returns-clause-reads
 returns-clause-reads g c =
     let p = c.args.self.now in
-    let r = c.parse_name.new.self in
+    let r = c.parse_member_key.new.self in
     let u = c.take_after_blanks.new.self in
     let n = size_of p in
     let m = mode_of p.mode in
-    let on_r = c.parse_name.ensures.advances in
+    let on_r = c.parse_member_key.ensures.advances in
     let on_u = goes_on p r u on_r c.take_after_blanks.ensures.advances in
     let read = c.in_ok-key.ensures.reads in
     let key : Mark × List ℕ = read.0 in

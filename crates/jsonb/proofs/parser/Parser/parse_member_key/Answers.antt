@@ -4,7 +4,7 @@ use Rattle.jsonb.specs.Parser.{Advances, rest_of, size_of}
 use Rattle.jsonb.proofs.Scalars.Built.{key_built, key_same}
 use Rattle.jsonb.proofs.Steps.Advancing.{goes_on}
 use Rattle.jsonb.proofs.Steps.Outcomes.{key_quoted, same_size}
-use Rattle.jsonb.proofs.parser.Parser.parse_name.Goals as goal
+use Rattle.jsonb.proofs.parser.Parser.parse_member_key.Goals as goal
 
 pub returns-in-Some-clause-reads : goal.returns-in-Some-clause-reads
 returns-in-Some-clause-reads g c =
@@ -22,4 +22,4 @@ returns-clause-reads g c =
     let q = c.borrowed_string.new.self in
     let stays = sym c.in_default.ensures.stays in
     let on = subst (Advances p) stays c.take_after_blanks.ensures.advances in
-    key_same g.V.Build.told g.V.Build.names c.escaped_name.result (size_of q) (size_of p) _ _ _ (sym (same_size p q on)) (key_quoted p q on (c.if-not-take_after_blanks.ensures.rest ∙ ap (λ s. 34 ∷ rest_of s) stays)) c.escaped_name.ensures.reads
+    key_same g.V.Build.told g.V.Build.names c.escaped_key.result (size_of q) (size_of p) _ _ _ (sym (same_size p q on)) (key_quoted p q on (c.if-not-take_after_blanks.ensures.rest ∙ ap (λ s. 34 ∷ rest_of s) stays)) c.escaped_key.ensures.reads
