@@ -27,7 +27,7 @@ impl<'a> JsonAst<'a> {
         build(alloc, self)
     }
 
-    // The value of a tree that holds no others. An array or an object, which the direct reader hasn't read, asked for
+    // The value of a tree that holds no others. An array or an object, of which no value was built, asked for
     // memory that there wasn't.
     pub(in crate::parser) fn into_scalar(self, alloc: Global) -> Result<Value<'a>>
         ensures ok { IfOk result (λ v. view v ≡ ast_view self.entry) }

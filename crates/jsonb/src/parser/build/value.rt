@@ -147,7 +147,7 @@ fn give_back(items: &mut Vec<Value>)
     }
 }
 
-// Puts in a member. True where no other had its key; else the other's value is gone. All readers put members in here,
+// Puts in a member. True where no other had its key; else the other's value is gone. All members are put in here,
 // so that the map's own code stands in this function and in no other, and its answer takes no place in memory.
 #[inline(never)]
 pub(in crate::parser) fn put_member<'a>(
