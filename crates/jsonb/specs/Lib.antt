@@ -1,6 +1,7 @@
 pub mod AstView
 pub mod Build
 pub mod Frames
+pub mod Literals
 pub mod Parser
 pub mod Placed
 pub mod Refusals

@@ -4,5 +4,6 @@ pub mod Line
 pub mod QuotedString
 pub mod Reading
 pub mod ScannedNumber
+pub mod ShortInteger
 pub mod Source
 pub mod StringRefusal

@@ -1,6 +1,7 @@
 -- A value that holds no others, built of what the steps in it give.
-use Rattle.std.proofs.Common.{◌≡◌, ◌≢◌, ◌-◌, ◌≤◌, ℕ, true, false, List, [], ◌∷◌, ◌++◌, codes, length, Option, Result, Ok, Err, IfOk, IfErr, refl, ap, sym, subst, ◌∙◌, arith, length-drop}
-use Rattle.std.proofs.lemmas.Bool.{cond-false, cond-true}
+use Rattle.std.proofs.Common.{◌≡◌, ◌≢◌, ◌-◌, ◌≤◌, ℕ, true, false, List, [], ◌∷◌, ◌++◌, codes, length, Option, Result, Ok, Err, IfOk, IfErr, refl, ap, sym, subst, ◌∙◌, arith, length-drop, eqb, true≢false, inl, inr}
+use Rattle.std.specs.Prelude.{slice_index}
+use Rattle.std.proofs.lemmas.Bool.{cases_Bool, cond-false, cond-true, eqb-true}
 use Rattle.jsonb_value.specs.declared.error.Error.{Error}
 use Rattle.jsonb_value.specs.declared.error.Error.TheVariants.{Syntax, OutOfMemory}
 use Rattle.jsonb_value.specs.Mode.{Mode, standard, extended}
@@ -8,15 +9,16 @@ use Rattle.jsonb_value.specs.Tree.{Mark, Num, Tree, null, boolean, number, strin
 use Rattle.jsonb.specs.declared.parser.Parser.{Parser}
 use Rattle.jsonb_scan.specs.Answer.{Fails, mode_of}
 use Rattle.jsonb_scan.specs.Reading.{Fault, Read, begins, ◌>>=◌}
-use Rattle.jsonb_scan.specs.Reading.Number.{standard_number_at}
-use Rattle.jsonb_scan.specs.Reading.Scalar.{begins_letter, begins_number, false_at, letters_at, null_at, number_at, number_or_fault, number_value_at, or_else, quoted_at, scalar_at, true_or_false_at, word_at, words_at}
+use Rattle.jsonb_scan.specs.Reading.Number.{is_number_start, standard_number_at}
+use Rattle.jsonb_scan.specs.Reading.Scalar.{begins_letter, begins_number, false_at, letters_at, null_at, number_at, number_or_fault, number_value_at, or_else, other_scalar_at, quoted_at, scalar_at, true_or_false_at, word_at, words_at}
 use Rattle.jsonb_scan.specs.Reading.String.{string_at}
 use Rattle.jsonb_scan.specs.Source.{Found, Source, found, source_alone}
-use Rattle.jsonb.specs.Build.{AsKey, AsNumber, AsScalar, Builds, Misses, Tells}
-use Rattle.jsonb.specs.Frames.{PutsIn}
+use Rattle.jsonb.specs.Build.{AsKey, AsNumber, AsScalar, Builds, Tells}
+use Rattle.jsonb.specs.Frames.{Pushes, PutsIn}
 use Rattle.jsonb.specs.Parser.{Advances, rest_of, size_of}
-use Rattle.jsonb.proofs.Scalars.FirstBytes.{scalar_other, standard_number}
-use Rattle.jsonb.proofs.Steps.Failures.{memory_misses, misses_same, misses_through, tells_fault}
+use Rattle.jsonb.proofs.Scalars.FirstBytes.{standard_number}
+use Rattle.jsonb_scan.proofs.Containers.JoinedParts.{on_byte-none}
+use Rattle.jsonb.proofs.Steps.Failures.{memory_misses, misses_through}
 use Rattle.jsonb.proofs.Steps.Outcomes.{scalar_quoted}
 
 -- ---- strings
@@ -27,13 +29,6 @@ string_read size mode quote bytes x rest read = ap (λ (r : Read (Mark × List �
 pub scalar_string : (p q : Parser) (x : Mark × List ℕ) (rest : List ℕ) → Advances p q → rest_of p ≡ 34 ∷ rest_of q → string_at (size_of q) (mode_of q.mode) 34 (rest_of q) ≡ Ok (x, rest)
     → scalar_at (size_of p) (mode_of p.mode) (rest_of p) ≡ Ok (string x.0 x.1, rest)
 scalar_string p q x rest a e read = scalar_quoted p q a e ∙ string_read (size_of q) (mode_of q.mode) 34 (rest_of q) x rest read
-
-pub scalar_string_missed : (t : Option Error) (e : Error) (p q : Parser) → Advances p q → rest_of p ≡ 34 ∷ rest_of q → Tells t e → Fails e (string_at (size_of q) (mode_of q.mode) 34 (rest_of q))
-    → Misses t (scalar_at (size_of p) (mode_of p.mode) (rest_of p))
-scalar_string_missed t e p q a opened is h =
-    let read = string_at (size_of q) (mode_of q.mode) 34 (rest_of q) in
-    misses_same t (quoted_at (size_of q) (mode_of q.mode) 34 (rest_of q)) (scalar_at (size_of p) (mode_of p.mode) (rest_of p)) (scalar_quoted p q a opened)
-    (misses_through t read (λ (s : (Mark × List ℕ) × List ℕ). Ok (string s.0.0 s.0.1, s.1)) (tells_fault t e read is h))
 
 -- ---- words
 
@@ -69,21 +64,15 @@ pub number_built : {V F : Type 0} (told : F → Option Error) (Sees : V → Sour
 number_built told Sees (Ok v) size mode bytes rest h = (number h.0, h.1, ap (λ (r : Read Num). r >>= λ x. Ok (number x.0, x.1)) h.2)
 number_built told Sees (Err f) size mode bytes rest h = misses_through (told f) (number_at size mode bytes) (λ x. Ok (number x.0, x.1)) h
 
--- a number of a standard text
-pub scalar_number : (p q : Parser) (n : Num) (rest : List ℕ) → q ≡ p → begins 34 (rest_of p) ≡ false → mode_of q.mode ≡ standard → begins_number standard (rest_of q) ≡ true → standard_number_at (size_of q) (rest_of q) ≡ Ok (n, rest)
-    → scalar_at (size_of p) (mode_of p.mode) (rest_of p) ≡ Ok (number n, rest)
-scalar_number p q n rest same none is begun read =
-    scalar_other p q same none ∙ standard_number (size_of q) (mode_of q.mode) (rest_of q) is begun ∙ ap (λ (r : Read Num). r >>= λ x. Ok (number x.0, x.1)) read
+-- ---- what is read is kept
 
-pub scalar_number_missed : (t : Option Error) (e : Error) (p q : Parser) → q ≡ p → begins 34 (rest_of p) ≡ false → mode_of q.mode ≡ standard → begins_number standard (rest_of q) ≡ true → Tells t e → Fails e (standard_number_at (size_of q) (rest_of q))
-    → Misses t (scalar_at (size_of p) (mode_of p.mode) (rest_of p))
-scalar_number_missed t e p q same none is begun tells h =
-    misses_same t (number_value_at (size_of q) standard (rest_of q)) (scalar_at (size_of p) (mode_of p.mode) (rest_of p)) (scalar_other p q same none ∙ standard_number (size_of q) (mode_of q.mode) (rest_of q) is begun)
-    (misses_through t (standard_number_at (size_of q) (rest_of q)) (λ (x : Num × List ℕ). Ok (number x.0, x.1)) (tells_fault t e (standard_number_at (size_of q) (rest_of q)) tells h))
+-- a value that was read is pushed
+pub read_pushed : {V F X : Type 0} (told : F → Option Error) (Sees : V → Source → Type 0) (result : Result X F) (before : List V) (v : V) (t : Tree) (read : Read Tree) (after : List V) (rest : List ℕ)
+    → IfOk result (λ _. after ≡ before ++ v ∷ []) → IfErr result (λ f. Tells (told f) OutOfMemory) → Sees v (source_alone t) → read ≡ Ok (t, rest) → Pushes told Sees result before read after rest
+read_pushed told Sees (Ok x) before v t read after rest pushed memory sees is = (v, t, pushed, sees, is)
+read_pushed told Sees (Err f) before v t read after rest pushed memory sees is = memory_misses (told f) read memory
 
--- ---- members
-
--- a value that was read is put in under a key
+-- the same under a key
 pub read_put : {V M K F X : Type 0} (told : F → Option Error) (Sees : V → Source → Type 0) (Names : K → Mark × List ℕ → ℕ → Type 0) (Holds : M → List Found → Type 0) (result : Result X F) (before : M) (key : K) (v : V) (t : Tree) (read : Read Tree) (after : M) (rest : List ℕ)
     → IfOk result (λ _. (front : List Found) → (k : Mark × List ℕ) → (s : Source) → (place : ℕ) → Holds before front → Names key k place → Sees v s → Holds after (front ++ found k s place ∷ []))
     → IfErr result (λ f. Tells (told f) OutOfMemory) → Sees v (source_alone t) → read ≡ Ok (t, rest) → PutsIn told Names Holds result before key read after rest
@@ -103,3 +92,44 @@ pub key_same : {K F : Type 0} (told : F → Option Error) (Names : K → Mark ×
     → Builds told (AsKey Names size rest) result read rest → Builds told (AsKey Names other_size rest) result other rest
 key_same told Names result size other_size read other rest sizes same h =
     subst (λ n. Builds told (AsKey Names n rest) result other rest) (sym sizes) (subst (λ q. Builds told (AsKey Names size rest) result q rest) (sym same) h)
+
+-- ---- what is read at once
+
+pub null_at_once : (size : ℕ) (mode : Mode) (rest : List ℕ) → scalar_at size mode (110 ∷ 117 ∷ 108 ∷ 108 ∷ rest) ≡ Ok (null, rest)
+unfolding scalar_at
+null_at_once size standard rest = refl
+null_at_once size extended rest = refl
+
+pub true_at_once : (size : ℕ) (mode : Mode) (rest : List ℕ) → scalar_at size mode (116 ∷ 114 ∷ 117 ∷ 101 ∷ rest) ≡ Ok (boolean true, rest)
+unfolding scalar_at
+true_at_once size standard rest = refl
+true_at_once size extended rest = refl
+
+pub false_at_once : (size : ℕ) (mode : Mode) (rest : List ℕ) → scalar_at size mode (102 ∷ 97 ∷ 108 ∷ 115 ∷ 101 ∷ rest) ≡ Ok (boolean false, rest)
+unfolding scalar_at
+false_at_once size standard rest = refl
+false_at_once size extended rest = refl
+
+-- the first byte is a digit or a minus
+starts_number : (bytes : List ℕ) → is_number_start (slice_index bytes 0) ≡ true → (begins 34 bytes ≡ false) × (begins_number standard bytes ≡ true)
+starts_number [] e = absurd (true≢false (sym e))
+starts_number (b ∷ bytes) e = (no_quote, e)
+  where
+    no_quote : begins 34 (b ∷ bytes) ≡ false
+    no_quote = elim (cases_Bool (eqb b 34)) [
+      | inl same ↦ absurd (true≢false (sym e ∙ ap is_number_start (eqb-true b 34 same)))
+      | inr other ↦ cond-false (eqb b 34) true false other
+    ]
+
+-- an integer of a standard text
+pub integer_at_once : (size : ℕ) (mode : Mode) (bytes : List ℕ) (n : Num) (rest : List ℕ) → mode ≡ standard → is_number_start (slice_index bytes 0) ≡ true → standard_number_at size bytes ≡ Ok (n, rest)
+    → scalar_at size mode bytes ≡ Ok (number n, rest)
+unfolding scalar_at
+integer_at_once size mode bytes n rest is first read =
+    let begun = starts_number bytes first in
+    on_byte-none 34 bytes (quoted_at size mode 34) (other_scalar_at size mode bytes) begun.0
+    ∙ standard_number size mode bytes is begun.1 ∙ ap (λ (r : Read Num). r >>= λ x. Ok (number x.0, x.1)) read
+
+-- what the parser reads where it stood still
+pub scalar_still : (p q : Parser) → q ≡ p → scalar_at (size_of p) (mode_of p.mode) (rest_of p) ≡ scalar_at (size_of q) (mode_of q.mode) (rest_of q)
+scalar_still p q same = sym (ap (λ o. scalar_at (size_of o) (mode_of o.mode) (rest_of o)) same)

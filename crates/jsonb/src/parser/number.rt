@@ -1,22 +1,42 @@
 //! The numbers of standard texts.
-ghost use Rattle.std.specs.Prelude.{◌≡◌, ◌≢◌, ◌+◌, ◌≤◌, ◌<◌, length, slice_index, Err, Some, None};
+ghost use Rattle.std.specs.Prelude.{◌≡◌, ◌≢◌, ◌+◌, ◌≤◌, ◌<◌, length, slice_index, Err, Some, None, IfNone, IfSome, true, ◌^◌};
 ghost use Rattle.jsonb_value.specs.View.{number_view};
 ghost use Rattle.jsonb_value.specs.declared.error.Error.TheVariants.{Syntax, OutOfMemory};
 ghost use Rattle.jsonb_value.specs.declared.error.ParseErrorCode.TheVariants.{InvalidNumberValue};
-ghost use Rattle.jsonb_scan.specs.Answer.{Gives, Fails};
-ghost use Rattle.jsonb.specs.Parser.{rest_of, size_of, Advances};
+ghost use Rattle.jsonb_scan.specs.Answer.{Gives, Fails, mode_of};
+ghost use Rattle.jsonb_value.specs.Mode.{standard};
+ghost use Rattle.jsonb_value.specs.Tree.{number};
+ghost use Rattle.jsonb.specs.Parser.{rest_of, size_of, Advances, FindsAs};
+ghost use Rattle.jsonb_scan.specs.Reading.Scalar.{scalar_at};
+ghost use Rattle.jsonb_scan.specs.ShortInteger.{short_view};
 ghost use Rattle.jsonb_scan.specs.Reading.Number.{ContinuesAfterInteger, digits_from, exponent_from, fraction_from, whole_start, then_from, number_to, standard_number_at};
 
 use super::Parser;
 use jsonb_scan::parser::number::{
-    after_minus, byte_at, continues_after_integer, integer, leading_digits, number_end,
+    ShortInteger, after_minus, byte_at, continues_after_integer, integer, leading_digits,
+    number_end, short_integer,
 };
 use jsonb_value::error::{Error, ParseErrorCode, Result};
 use jsonb_value::number::Number;
 
 impl Parser<'_> {
-    // Reads the longest number text, and gives its number.
+    // Reads an integer of a standard text, if one of at most 19 digits comes next.
     #[inline(always)]
+    pub(super) fn short_integer(&mut self) -> Option<ShortInteger>
+        requires inside { self.old.idx ≤ size_of self.old }
+        requires mode { mode_of self.old.mode ≡ standard }
+        ensures reads { FindsAs (λ read. number (short_view read)) scalar_at result self.old self.new }
+        ensures fits { IfSome result (λ read. read.negative ≡ true → read.magnitude < 2 ^ 63) }
+        ensures stays { IfNone result (self.new ≡ self.old) }
+        ensures advances { Advances self.old self.new }
+    {
+        let read = short_integer(self.rest())?;
+        self.idx += read.end;
+        Some(read)
+    }
+
+    // Reads the longest number text, and gives its number.
+    #[inline(never)]
     pub(super) fn parse_standard_number(&mut self) -> Result<Number>
         requires { self.old.idx ≤ size_of self.old }
         ensures reads { Gives (λ n. (number_view n, rest_of self.new)) result

@@ -1,11 +1,13 @@
 //! Values that hold no others.
-ghost use Rattle.std.specs.Prelude.{◌≡◌, ◌≢◌, ◌<◌, ◌≤◌, ◌∷◌, length, take, ℕ, Contains, MatchBool, Err, IfErr, IfOk, Some, true};
+ghost use Rattle.std.specs.Prelude.{◌≡◌, ◌≢◌, ◌<◌, ◌≤◌, [], ◌∷◌, ◌++◌, drop, length, take, Contains, MatchBool, Err, IfErr, IfNone, IfOk, Some, true, false};
 ghost use Rattle.jsonb_value.specs.Mode.{standard};
 ghost use Rattle.jsonb_value.specs.View.{number_view};
-ghost use Rattle.jsonb.specs.Build.{AsNumber, AsScalar, Builds};
+ghost use Rattle.jsonb.specs.Build.{AsNumber, AsScalar, Builds, Tells};
 ghost use Rattle.jsonb.specs.Frames.{Pushes, PutsIn};
 ghost use Rattle.jsonb_scan.specs.Answer.{mode_of, Gives};
-ghost use Rattle.jsonb.specs.Parser.{rest_of, size_of, Advances, IsBehind, ReadsAs, read_at};
+ghost use Rattle.jsonb.specs.Literals.{literal_tree};
+ghost use Rattle.jsonb.specs.Parser.{rest_of, size_of, Advances, FindsAs, IsBehind, ReadsAs, read_at};
+ghost use Rattle.jsonb_scan.specs.Reading.{begins};
 ghost use Rattle.jsonb_scan.specs.Reading.Scalar.{begins_letter, begins_number, begins_single_quote, folded, letters_at, null_at, number_at, quoted_at, scalar_at, other_scalar_at, words_at};
 
 use super::build::Build;
@@ -22,6 +24,33 @@ fn fold(letter: u8, mode: Mode) -> u8
     match mode {
         Mode::Standard => letter,
         Mode::Extended => letter.to_ascii_lowercase(),
+    }
+}
+
+// A literal.
+#[derive(Drop)]
+enum Literal {
+    Null,
+    Bool(bool),
+}
+
+// Whether the bytes begin with this word.
+#[inline(always)]
+fn begins_with(bytes: &[u8], word: &[u8]) -> bool
+    ensures { MatchBool result (bytes.now ≡ word.now ++ drop (length word.now) bytes.now) (Unit {0}) }
+{
+    bytes.len() >= word.len() && &bytes[..word.len()] == word
+}
+
+// Pushes a value, unless memory runs out.
+#[inline(always)]
+fn push<'a, V: Build<'a>>(items: &mut Vec<V>, value: V) -> Result<(), V::Failure>
+    ensures items { IfOk result (λ _. items.new.items ≡ items.old.items ++ value ∷ []) }
+    ensures memory { IfErr result (λ f. Tells (V.told f) Error.OutOfMemory) }
+{
+    match items.push(value) {
+        Ok(()) => Ok(()),
+        Err(_) => Err(V::failure(Error::OutOfMemory)),
     }
 }
 
@@ -42,24 +71,42 @@ impl<'a> Parser<'a> {
     {
         if self.take_byte(b'"') {
             if let Some(body) = self.borrowed_string(b'"', text) {
-                let Ok(()) = items.push(V::string(CowStr::Borrowed(body))) else {
-                    return Err(V::failure(Error::OutOfMemory));
-                };
-                return Ok(());
+                return push(items, V::string(CowStr::Borrowed(body)));
             }
             return self.push_escaped(items);
         }
-        if self.begins_standard_number() {
-            let number = match self.parse_standard_number() {
-                Ok(number) => number,
-                Err(error) => return Err(V::failure(error)),
-            };
-            let Ok(()) = items.push(V::number(number)) else {
-                return Err(V::failure(Error::OutOfMemory));
-            };
-            return Ok(());
+        match self.mode {
+            Mode::Standard => self.push_standard_scalar(items, text),
+            Mode::Extended => self.push_other_scalar(items, text),
         }
-        self.push_other_scalar(items, text)
+    }
+
+    // The same in standard mode, where no string comes next. Most numbers are integers of few digits.
+    #[inline(always)]
+    fn push_standard_scalar<V: Build<'a>>(
+        &mut self,
+        items: &mut Vec<V>,
+        text: &'a str,
+    ) -> Result<(), V::Failure>
+        requires inside { self.old.idx ≤ size_of self.old }
+        requires same { text.now ≡ take (length text.now) self.old.buf.now }
+        requires mode { mode_of self.old.mode ≡ standard }
+        requires no_string { begins 34 (rest_of self.old) ≡ false }
+        ensures reads { Pushes V.told V.sees result items.old.items (read_at scalar_at self.old) items.new.items
+            (rest_of self.new) }
+        ensures advances { Advances self.old self.new }
+    {
+        if let Some(read) = self.short_integer() {
+            if read.negative {
+                return push(items, V::number(Number::Int64(-(read.magnitude as i64))));
+            }
+            return push(items, V::number(Number::UInt64(read.magnitude)));
+        }
+        match self.short_literal() {
+            Some(Literal::Null) => push(items, V::null()),
+            Some(Literal::Bool(value)) => push(items, V::boolean(value)),
+            None => self.push_other_scalar(items, text),
+        }
     }
 
     // Pushes a string in double quotes that has escapes, or is refused, from the byte after its opening quote on. It
@@ -75,13 +122,10 @@ impl<'a> Parser<'a> {
             Ok(string) => string,
             Err(error) => return Err(V::failure(error)),
         };
-        let Ok(()) = items.push(V::string(string)) else {
-            return Err(V::failure(Error::OutOfMemory));
-        };
-        Ok(())
+        push(items, V::string(string))
     }
 
-    // The same of a string in single quotes, a word or a number of an extended text.
+    // Pushes any other value that holds no others, or tells its fault.
     #[inline(never)]
     fn push_other_scalar<V: Build<'a>>(
         &mut self,
@@ -95,10 +139,7 @@ impl<'a> Parser<'a> {
         ensures advances { Advances self.old self.new }
     {
         let value = self.parse_other_scalar(text)?;
-        let Ok(()) = items.push(value) else {
-            return Err(V::failure(Error::OutOfMemory));
-        };
-        Ok(())
+        push(items, value)
     }
 
     // Puts in a member whose value holds no others. Here too a value is put in where it is made.
@@ -119,23 +160,63 @@ impl<'a> Parser<'a> {
             if let Some(body) = self.borrowed_string(b'"', text) {
                 return V::insert(members, key, V::string(CowStr::Borrowed(body)));
             }
-            let string = match self.parse_escaped(b'"') {
-                Ok(string) => string,
-                Err(error) => return Err(V::failure(error)),
-            };
-            return V::insert(members, key, V::string(string));
+            return self.insert_escaped::<V>(members, key);
         }
-        if self.begins_standard_number() {
-            let number = match self.parse_standard_number() {
-                Ok(number) => number,
-                Err(error) => return Err(V::failure(error)),
-            };
-            return V::insert(members, key, V::number(number));
+        match self.mode {
+            Mode::Standard => self.insert_standard_scalar::<V>(members, key, text),
+            Mode::Extended => self.insert_other_scalar::<V>(members, key, text),
         }
-        self.insert_other_scalar::<V>(members, key, text)
     }
 
-    // The same of a string in single quotes, a word or a number of an extended text.
+    // The same in standard mode, where no string comes next.
+    #[inline(always)]
+    fn insert_standard_scalar<V: Build<'a>>(
+        &mut self,
+        members: &mut V::Members,
+        key: V::Key,
+        text: &'a str,
+    ) -> Result<(), V::Failure>
+        requires inside { self.old.idx ≤ size_of self.old }
+        requires same { text.now ≡ take (length text.now) self.old.buf.now }
+        requires mode { mode_of self.old.mode ≡ standard }
+        requires no_string { begins 34 (rest_of self.old) ≡ false }
+        ensures reads { PutsIn V.told V.names V.holds result members.old key (read_at scalar_at self.old) members.new
+            (rest_of self.new) }
+        ensures advances { Advances self.old self.new }
+    {
+        if let Some(read) = self.short_integer() {
+            if read.negative {
+                let number = Number::Int64(-(read.magnitude as i64));
+                return V::insert(members, key, V::number(number));
+            }
+            return V::insert(members, key, V::number(Number::UInt64(read.magnitude)));
+        }
+        match self.short_literal() {
+            Some(Literal::Null) => V::insert(members, key, V::null()),
+            Some(Literal::Bool(value)) => V::insert(members, key, V::boolean(value)),
+            None => self.insert_other_scalar::<V>(members, key, text),
+        }
+    }
+
+    // The same of a string in double quotes that has escapes, or is refused, from the byte after its opening quote on.
+    #[inline(never)]
+    fn insert_escaped<V: Build<'a>>(
+        &mut self,
+        members: &mut V::Members,
+        key: V::Key,
+    ) -> Result<(), V::Failure>
+        requires { self.old.idx ≤ size_of self.old }
+        ensures reads { PutsIn V.told V.names V.holds result members.old key
+            (read_at (λ size mode. quoted_at size mode 34) self.old) members.new (rest_of self.new) }
+        ensures advances { Advances self.old self.new }
+    {
+        match self.parse_quoted(b'"') {
+            Ok(string) => V::insert(members, key, V::string(string)),
+            Err(error) => Err(V::failure(error)),
+        }
+    }
+
+    // Puts in a member with any other value that holds no others, or tells its fault.
     #[inline(never)]
     fn insert_other_scalar<V: Build<'a>>(
         &mut self,
@@ -164,12 +245,6 @@ impl<'a> Parser<'a> {
     {
         if self.take_byte(b'"') {
             return self.parse_string(b'"', text);
-        }
-        if self.begins_standard_number() {
-            return match self.parse_standard_number() {
-                Ok(number) => Ok(V::number(number)),
-                Err(error) => Err(V::failure(error)),
-            };
         }
         self.parse_other_scalar(text)
     }
@@ -291,16 +366,28 @@ impl<'a> Parser<'a> {
         }
     }
 
-    // Whether the text is a standard one, and a number begins here.
+    // Reads a literal in small letters, if one comes next.
     #[inline(always)]
-    pub(super) fn begins_standard_number(&self) -> bool
-        ensures { MatchBool result ((mode_of self.now.mode ≡ standard)
-            × (begins_number standard (rest_of self.now) ≡ true)) (Unit {0}) }
+    fn short_literal(&mut self) -> Option<Literal>
+        requires { self.old.idx ≤ size_of self.old }
+        ensures reads { FindsAs literal_tree scalar_at result self.old self.new }
+        ensures stays { IfNone result (self.new ≡ self.old) }
+        ensures advances { Advances self.old self.new }
     {
-        match self.mode {
-            Mode::Standard => matches!(self.peek(), Some(b'0'..=b'9' | b'-')),
-            Mode::Extended => false,
+        let rest = self.rest();
+        if begins_with(rest, b"null") {
+            self.idx += 4;
+            return Some(Literal::Null);
         }
+        if begins_with(rest, b"true") {
+            self.idx += 4;
+            return Some(Literal::Bool(true));
+        }
+        if begins_with(rest, b"false") {
+            self.idx += 5;
+            return Some(Literal::Bool(false));
+        }
+        None
     }
 
     // Whether a number begins here.

@@ -1,13 +1,13 @@
 -- Where digits end, and where a number does, byte by byte.
-use Rattle.std.proofs.Common.{◌≡◌, ◌≢◌, ◌⊎◌, ℕ, ◌+◌, ◌-◌, ◌*◌, ◌^◌, ◌<◌, ◌≤◌, true, false, ◌||◌, zero, suc, List, [], ◌∷◌, length, take, drop, refl, sym, subst, ap, ◌∙◌, inl, inr, ⊎_elim, arith, Option, None, Result, Ok, Err}
-use Rattle.std.specs.Prelude.{slice_index, ◌==◌, nat_lt}
+use Rattle.std.proofs.Common.{◌≡◌, ◌≢◌, ◌⊎◌, ℕ, ◌+◌, ◌-◌, ◌*◌, ◌^◌, ◌<◌, ◌≤◌, true, false, ◌||◌, zero, suc, List, [], ◌∷◌, length, take, drop, refl, sym, subst, ap, ◌∙◌, inl, inr, ⊎_elim, arith, Bool, Option, Some, None, Result, Ok, Err}
+use Rattle.std.specs.Prelude.{slice_index, ◌==◌, nat_le, nat_lt}
 use Rattle.std.specs.Char.{is_ascii_digit}
 use Rattle.std.specs.Int.{IsInRange, from_bool}
 use Rattle.std.specs.Option.{SomeIff}
 use Rattle.std.specs.Str.Parse.{AllDigits, digits_value}
 use Rattle.std.proofs.lemmas.Str.{digit_value_digit}
 use Rattle.std.proofs.lemmas.Int.Digits.{digits_value_more}
-use Rattle.std.proofs.lemmas.List.{length-drop, drop-drop}
+use Rattle.std.proofs.lemmas.List.{get_or-drop, length-drop, drop-drop}
 use Rattle.std.proofs.lemmas.List.Sums.{prefix_len-drop_all, prefix_len-le-length}
 use Rattle.std.proofs.Math.Nat.{pow-suc, pow-le-pow_right}
 use Rattle.std.proofs.lemmas.Bool.{cases_Bool, cases_eq, false≢true, and_right}
@@ -16,7 +16,8 @@ use Rattle.jsonb_value.specs.Code.{invalid_number_value, number_not_carried}
 use Rattle.jsonb_value.specs.Grammar.StandardNumber.{IsExponentMark}
 use Rattle.jsonb_value.specs.Tree.{Num}
 use Rattle.jsonb_scan.specs.Reading.{fault}
-use Rattle.jsonb_scan.specs.Reading.Number.{ContinuesAfterInteger, End, then_from, digits_length, digits_from, sign_end, exponent_from, fraction_from, whole_from, has_minus, whole_start, standard_end, integer_of, whole_digits, integer_at, carried_at, number_to, standard_number_at}
+use Rattle.jsonb_scan.specs.Reading.Number.{ContinuesAfterInteger, ContinuesNumber, is_number_start, End, then_from, digits_length, digits_from, sign_end, exponent_from, fraction_from, whole_from, has_minus, whole_start, standard_end, integer_of, whole_digits, integer_at, carried_at, number_to, standard_number_at}
+use Rattle.jsonb_scan.specs.ShortInteger.{short_view}
 use Rattle.jsonb_scan.proofs.Numbers.Runs.{run_more, run_stop}
 
 -- ---- bytes
@@ -344,3 +345,46 @@ pub integer_missing : (idx end : ℕ) (buf bs : List ℕ) → idx ≤ length buf
 integer_missing idx end buf bs inside same has_whole at stops is_none =
     let there : length buf - length (drop (idx + end) buf) ≡ idx + end = omega (arith, length-drop (idx + end) buf, length-drop idx buf, ap length same, digits_within (drop (whole_start bs) bs), length-drop (whole_start bs) bs, has_whole.0, at, inside) in
     integer_read idx end buf bs None same has_whole at stops is_none ∙ ap (λ p. fault number_not_carried p) there
+
+-- ---- an integer of few digits
+
+-- No byte goes on with a number after the digits that were counted, so these are all.
+pub counted_all : (ds : List ℕ) (len : ℕ) → digits_length ds ≡ len + digits_length (drop len ds) → ¬ ContinuesNumber (slice_index ds len) → len ≡ digits_length ds
+counted_all ds len more stops = omega (arith, more, digits_stop ds len (λ digit. stops (inl digit)))
+
+-- the first byte is a digit or a minus
+pub starts_here : (bs : List ℕ) → 0 < digits_length (drop (whole_start bs) bs) → is_number_start (slice_index bs 0) ≡ true
+starts_here bs some = ⊎_elim (λ minus. or_right (is_ascii_digit (slice_index bs 0)) (has_minus bs) minus) (λ none. digit none) (cases_Bool (has_minus bs))
+  where
+    or_right : (x y : Bool) → y ≡ true → (x || y) ≡ true
+    or_right true y h = refl
+    or_right false y h = h
+
+    digit : has_minus bs ≡ false → is_number_start (slice_index bs 0) ≡ true
+    digit none =
+        let first : 0 < digits_length (drop 0 bs) = subst (λ b. 0 < digits_length (drop (from_bool b) bs)) none some in
+        ⊎_elim (λ digit. rw digit refl) (λ other. absurd (omega (arith, first, digits_stop bs 0 (λ range. false≢true (sym other ∙ is_digit (slice_index bs 0) range))))) (cases_Bool (is_ascii_digit (slice_index bs 0)))
+
+-- what is read of an integer
+pub short_read : (size : ℕ) (bs ds : List ℕ) (start len value first minus : ℕ) (n : Num) → ds ≡ drop (whole_start bs) bs → minus ≡ slice_index bs 0 → start ≡ from_bool (minus == 45) → (len ≡ 0 → ⊥) → len ≡ digits_length ds → ¬ ContinuesNumber (slice_index ds len)
+    → ((1 < len) × (first ≡ 48 → ⊥)) ⊎ (len ≤ 1) → first ≡ slice_index ds 0 → value ≡ digits_value 10 (take len ds) → integer_of (minus == 45) value ≡ Some n → standard_number_at size bs ≡ Ok (n, drop (start + len) bs)
+short_read size bs ds start len value first minus n after byte at some all stops needless first_byte is_value is_integer =
+    let found = found_whole bs ds start len minus byte at after all in
+    let first_at : first ≡ slice_index bs start = first_byte ∙ ap (λ xs. slice_index xs 0) after ∙ get_or-drop (whole_start bs) bs 0 0 ∙ ap (slice_index bs) (omega (arith, found.start_is)) in
+    let has_whole = found_has_whole bs start len first found some first_at needless in
+    let end = found_end bs start len found in
+    let next : slice_index ds len ≡ slice_index bs (start + len) = ap (λ xs. slice_index xs len) after ∙ get_or-drop (whole_start bs) bs len 0 ∙ ap (slice_index bs) (omega (arith, found.start_is)) in
+    let here : slice_index ds len ≡ slice_index bs (whole_end bs) = next ∙ ap (slice_index bs) end in
+    let alone : standard_end bs ≡ Ok (whole_end bs) = whole_alone bs has_whole (λ point. stops (inr (inl (here ∙ point)))) (λ mark. stops (inr (inr (subst IsExponentMark (sym here) mark)))) in
+    let digits : value ≡ digits_value 10 (whole_digits bs) = is_value ∙ ap (λ k. digits_value 10 (take k ds)) all ∙ ap (λ xs. digits_value 10 (take (digits_length xs) xs)) after in
+    read_integer size bs alone
+    ∙ ap (carried_at size (drop (whole_end bs) bs)) (ap (λ v. integer_of (has_minus bs) v) (sym digits) ∙ ap (λ b. integer_of (b == 45) value) (sym byte) ∙ is_integer)
+    ∙ ap (λ i. Ok (n, drop i bs)) (sym end)
+
+-- the integer that a magnitude gives that its type holds
+pub short_is : (negative : Bool) (magnitude end : ℕ) → magnitude < 2 ^ 64 → (negative ≡ true → magnitude < 2 ^ 63) → integer_of negative magnitude ≡ Some (short_view (record { negative = negative; magnitude = magnitude; end = end }))
+short_is false magnitude end fits small = let tested : nat_lt magnitude (2 ^ 64) ≡ true = grind (arith, nat_tests) in rw tested refl
+short_is true magnitude end fits small =
+    let below = small refl in
+    let tested : nat_le magnitude (2 ^ 63) ≡ true = grind (arith, nat_tests) in
+    rw tested refl

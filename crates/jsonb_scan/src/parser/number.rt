@@ -1,12 +1,13 @@
 //! The numbers of standard texts.
-ghost use Rattle.std.specs.Prelude.{◌≡◌, ℕ, ◌+◌, ◌*◌, ◌≤◌, ◌<◌, ◌^◌, length, take, drop, slice_index, Err, Some, None, MatchOption, IfOk, IfErr};
-ghost use Rattle.std.specs.Char.{digit_value};
+ghost use Rattle.std.specs.Prelude.{◌≡◌, ℕ, ◌+◌, ◌*◌, ◌≤◌, ◌<◌, ◌^◌, ◌-◌, true, false, length, take, drop, slice_index, Err, Some, None, MatchOption, IfOk, IfErr, IfSome, Ok};
+ghost use Rattle.std.specs.Char.{digit_value, is_ascii_digit};
 ghost use Rattle.std.specs.Bool.{MatchBool};
 ghost use Rattle.std.specs.Int.{IsInRange};
 ghost use Rattle.std.specs.Option.{SomeIff};
 ghost use Rattle.std.specs.Str.Parse.{AllDigits, digits_value};
 ghost use Rattle.jsonb_value.specs.View.{number_view};
-ghost use Rattle.jsonb_scan.specs.Reading.Number.{ContinuesAfterInteger, digits_length, digits_from, sign_end, exponent_from, fraction_from, whole_start, then_from, integer_of};
+ghost use Rattle.jsonb_scan.specs.ShortInteger.{short_view};
+ghost use Rattle.jsonb_scan.specs.Reading.Number.{ContinuesAfterInteger, ContinuesNumber, is_number_start, standard_number_at, digits_length, digits_from, sign_end, exponent_from, fraction_from, whole_start, then_from, integer_of};
 
 use jsonb_value::error::Result;
 use jsonb_value::number::Number;
@@ -61,9 +62,9 @@ fn digits_number(digits: &[u8]) -> Option<u64>
     Some(number)
 }
 
-// The digits that the bytes begin with, with a test at each.
+/// The digits that the bytes begin with.
 #[cold]
-fn many_digits(bytes: &[u8]) -> Digits
+pub fn leading_digits(bytes: &[u8]) -> Digits
     ensures len { result.len ≡ digits_length bytes.now }
     ensures within { result.len ≤ length bytes.now }
     ensures value { SomeIff result.value
@@ -75,6 +76,17 @@ fn many_digits(bytes: &[u8]) -> Digits
         len,
         value: digits_number(&bytes[..len]),
     }
+}
+
+// What a digit stands for, and more than 9 for a byte that is none. It is as wide as a number, so that a digit is
+// widened once.
+#[inline(always)]
+fn digit_of(byte: u8) -> u64
+    ensures digit { result < 10 → is_ascii_digit byte ≡ true }
+    ensures value { is_ascii_digit byte ≡ true → result ≡ byte - 48 }
+    ensures other { 10 ≤ result → is_ascii_digit byte ≡ false }
+{
+    u64::from(byte).wrapping_sub(48)
 }
 
 // How many of the first `limit` bytes are digits from the first on, and their number.
@@ -90,50 +102,27 @@ fn digits_within(bytes: &[u8], limit: usize) -> (usize, u64)
 {
     let mut value = 0u64;
     let mut len = 0;
-    'digits: while len < limit && bytes[len].is_ascii_digit() {
-        value = value * 10 + u64::from(bytes[len] - b'0');
+    'digits: while len < limit && digit_of(bytes[len]) < 10 {
+        value = value * 10 + digit_of(bytes[len]);
         len += 1;
     }
     (len, value)
 }
 
-// The digits that few bytes begin with.
-#[inline(never)]
-fn few_digits(bytes: &[u8]) -> Digits
-    requires { length bytes.now ≤ 19 }
-    ensures len { result.len ≡ digits_length bytes.now }
-    ensures within { result.len ≤ length bytes.now }
-    ensures value { SomeIff result.value
-        (digits_value 10 (take (digits_length bytes.now) bytes.now) < 2 ^ 64)
-        (digits_value 10 (take (digits_length bytes.now) bytes.now)) }
-{
-    let (len, value) = digits_within(bytes, bytes.len());
-    Digits {
-        len,
-        value: Some(value),
-    }
-}
-
-/// The digits that the bytes begin with. The loop is over so many bytes as is known when it is compiled, so that it is
-/// unrolled.
+// At most 19 digits that the bytes begin with, and their number. Where there are more bytes, the loop is over so many as
+// is known when it is compiled, so that it is unrolled.
 #[inline(always)]
-pub fn leading_digits(bytes: &[u8]) -> Digits
-    ensures len { result.len ≡ digits_length bytes.now }
-    ensures within { result.len ≤ length bytes.now }
-    ensures value { SomeIff result.value
-        (digits_value 10 (take (digits_length bytes.now) bytes.now) < 2 ^ 64)
-        (digits_value 10 (take (digits_length bytes.now) bytes.now)) }
+fn short_digits(bytes: &[u8]) -> (usize, u64)
+    ensures few { result.0 ≤ 19 }
+    ensures within { result.0 ≤ length bytes.now }
+    ensures digits { digits_length bytes.now ≡ result.0 + digits_length (drop result.0 bytes.now) }
+    ensures value { result.1 ≡ digits_value 10 (take result.0 bytes.now) }
+    ensures below { result.1 < 10 ^ result.0 }
 {
-    if bytes.len() <= SAFE_DIGITS {
-        return few_digits(bytes);
-    }
-    let (len, value) = digits_within(bytes, SAFE_DIGITS);
-    if len == SAFE_DIGITS && bytes[len].is_ascii_digit() {
-        return many_digits(bytes);
-    }
-    Digits {
-        len,
-        value: Some(value),
+    if bytes.len() > SAFE_DIGITS {
+        digits_within(bytes, SAFE_DIGITS)
+    } else {
+        digits_within(bytes, bytes.len())
     }
 }
 
@@ -161,6 +150,47 @@ pub fn integer(negative: bool, digits: Option<u64>) -> Option<Number>
         Ok(value) => Some(Number::Int64(value)),
         Err(_) => None,
     }
+}
+
+// Whether a byte goes on with a number: a digit, a point or an exponent mark.
+fn continues_number(byte: u8) -> bool
+    ensures { MatchBool result (ContinuesNumber byte) (¬ ContinuesNumber byte) }
+{
+    matches!(byte, b'0'..=b'9' | b'.' | b'e' | b'E')
+}
+
+/// An integer in its parts, and the index after its text.
+#[derive(Clone, Copy)]
+pub struct ShortInteger {
+    pub negative: bool,
+    pub magnitude: u64,
+    pub end: usize,
+}
+
+/// The integer of a standard text that the bytes begin with, if it has at most 19 digits and is an `i64` where it has a
+/// minus.
+#[inline(always)]
+pub fn short_integer(bytes: &[u8]) -> Option<ShortInteger>
+    ensures found { IfSome result (λ read. (size : ℕ) → standard_number_at size bytes.now
+        ≡ Ok (short_view read, drop read.end bytes.now)) }
+    ensures fits { IfSome result (λ read. read.negative ≡ true → read.magnitude < 2 ^ 63) }
+    ensures first { IfSome result (λ _. is_number_start (slice_index bytes.now 0) ≡ true) }
+    ensures within { IfSome result (λ read. read.end ≤ length bytes.now) }
+{
+    let digits = after_minus(bytes);
+    let (len, magnitude) = short_digits(digits);
+    if len == 0 || len > 1 && digits[0] == b'0' || continues_number(byte_at(digits, len)) {
+        return None;
+    }
+    let negative = byte_at(bytes, 0) == b'-';
+    if negative && magnitude > i64::MAX as u64 {
+        return None;
+    }
+    Some(ShortInteger {
+        negative,
+        magnitude,
+        end: usize::from(negative) + len,
+    })
 }
 
 /// Whether a byte goes on with a number after its whole part, or stands behind a fraction as if it did.

@@ -1,4 +1,4 @@
-use Rattle.std.proofs.Common.{arith, refl, sym, ◌∙◌}
+use Rattle.std.proofs.Common.{arith, refl}
 use Rattle.jsonb_scan.specs.Reading.Number.{digits_length}
 use Rattle.jsonb_scan.proofs.Numbers.Steps.{digits_go_on, digits_end_here, adds_digit}
 use Rattle.jsonb_scan.proofs.parser.number.digits_within.Goals as goal
@@ -6,22 +6,24 @@ use Rattle.jsonb_scan.proofs.parser.number.digits_within.Goals as goal
 pub overflow_mul-value : goal.overflow_mul-value
 overflow_mul-value c =
     let i = c.digits.invariant in
-    let step = adds_digit c.args.bytes.now c.digits.len c.digits.value _ (omega (arith, i.0, c.digits-test.true, c.requires.inside)) (omega (arith, c.digits-test.true, c.requires.few)) (sym c.is_ascii_digit.ensures.value ∙ c.if-is_ascii_digit.true) i.2 i.3 refl in
+    let digit = c.digit_of.ensures.digit c.if-digit_of-lt10.true in
+    let step = adds_digit c.args.bytes.now c.digits.len c.digits.value _ (omega (arith, i.0, c.digits-test.true, c.requires.inside)) (omega (arith, c.digits-test.true, c.requires.few)) digit i.2 i.3 refl in
     omega (arith, step.fits)
 
 pub overflow_add-value : goal.overflow_add-value
 overflow_add-value c =
     let i = c.digits.invariant in
-    let step = adds_digit c.args.bytes.now c.digits.len c.digits.value c.from.result (omega (arith, i.0, c.digits-test.true, c.requires.inside)) (omega (arith, c.digits-test.true, c.requires.few)) (sym c.is_ascii_digit.ensures.value ∙ c.if-is_ascii_digit.true) i.2 i.3 c.from.ensures in
+    let digit = c.digit_of.ensures.digit c.if-digit_of-lt10.true in
+    let step = adds_digit c.args.bytes.now c.digits.len c.digits.value c.digit_of-in-digits.result (omega (arith, i.0, c.digits-test.true, c.requires.inside)) (omega (arith, c.digits-test.true, c.requires.few)) digit i.2 i.3 (c.digit_of-in-digits.ensures.value digit) in
     omega (arith, step.fits)
 
 pub digits-preserved : goal.digits-preserved
 digits-preserved c =
     let i = c.digits.invariant in
-    let tested = sym c.is_ascii_digit.ensures.value ∙ c.if-is_ascii_digit.true in
-    let step = adds_digit c.args.bytes.now c.digits.len c.digits.value c.from.result (omega (arith, i.0, c.digits-test.true, c.requires.inside)) (omega (arith, c.digits-test.true, c.requires.few)) tested i.2 i.3 c.from.ensures in
-    (omega (arith, c.digits-test.true), digits_go_on c.args.bytes.now c.digits.len (digits_length c.args.bytes.now) tested i.1, step.is_value, step.below)
+    let digit = c.digit_of.ensures.digit c.if-digit_of-lt10.true in
+    let step = adds_digit c.args.bytes.now c.digits.len c.digits.value c.digit_of-in-digits.result (omega (arith, i.0, c.digits-test.true, c.requires.inside)) (omega (arith, c.digits-test.true, c.requires.few)) digit i.2 i.3 (c.digit_of-in-digits.ensures.value digit) in
+    (omega (arith, c.digits-test.true), digits_go_on c.args.bytes.now c.digits.len (digits_length c.args.bytes.now) digit i.1, step.is_value, step.below)
 
-pub returns-else-is_ascii_digit-clause-end : goal.returns-else-is_ascii_digit-clause-end
-returns-else-is_ascii_digit-clause-end c below =
-    digits_end_here c.args.bytes.now c.digits.len (digits_length c.args.bytes.now) (sym c.is_ascii_digit.ensures.value ∙ c.if-is_ascii_digit.false) c.digits.invariant.1
+pub returns-else-digit_of-lt10-clause-end : goal.returns-else-digit_of-lt10-clause-end
+returns-else-digit_of-lt10-clause-end c below =
+    digits_end_here c.args.bytes.now c.digits.len (digits_length c.args.bytes.now) (c.digit_of.ensures.other (omega (arith, c.if-digit_of-lt10.false))) c.digits.invariant.1

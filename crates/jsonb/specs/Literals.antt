@@ -1,0 +1,10 @@
+-- The literals: `null`, `true` and `false`.
+-- Read for: private.
+use Rattle.jsonb_value.specs.Tree.{Tree, null, boolean}
+use Rattle.jsonb.specs.declared.parser.scalar.Literal.{Literal}
+use Rattle.jsonb.specs.declared.parser.scalar.Literal.TheVariants as variants
+
+-- the tree of a literal
+abbrev pub literal_tree : Literal → Tree
+literal_tree variants.Null = null
+literal_tree (variants.Bool value) = boolean value
