@@ -1,11 +1,11 @@
 -- The texts of items and members, of which some are written and some remain.
-use Rattle.std.proofs.Common.{◌≡◌, Bool, true, false, List, [], ◌∷◌, ◌++◌, ℕ, ◌+◌, ◌<◌, ◌≤◌, length, get_or, drop, drop-cons, add-one, string_bytes, refl, sym, subst, ap, ◌∙◌, append_assoc}
+use Rattle.std.proofs.Common.{◌≡◌, Bool, true, false, ◌&&◌, List, [], ◌∷◌, ◌++◌, ℕ, ◌+◌, ◌<◌, ◌≤◌, length, get_or, drop, drop-cons, add-one, string_bytes, refl, sym, subst, ap, ◌∙◌, append_assoc}
 use Rattle.std.specs.List.{flat_map}
 use Rattle.std.specs.Str.{IsUtf8}
 use Rattle.jsonb_value.specs.Text.Appending.{comma_before}
 use Rattle.jsonb_value.specs.Proper.{IsProper, AreProper, HaveProperParts}
 use Rattle.jsonb_value.specs.Text.StringText.{quoted_text}
-use Rattle.jsonb_value.specs.Text.{with_commas, item_texts, member_texts, tree_text}
+use Rattle.jsonb_value.specs.Text.{with_commas, item_texts, member_texts, tree_text, has_text, items_have_texts, members_have_texts}
 use Rattle.jsonb_value.specs.View.{view, trees_view, members_view}
 use Rattle.jsonb_value.specs.declared.value.Value.{Value}
 use Rattle.jsonb_value.proofs.Appending.Appended.{IsUnderway, goes_on, fits}
@@ -57,6 +57,25 @@ next_item vs i v h e =
 pub next_member : (es others : List Entry) (e : Entry) → es ≡ e ∷ others
     → member_texts (members_view es) ≡ (quoted_text (string_bytes e.0) ++ 58 ∷ tree_text (view e.1)) ∷ member_texts (members_view others)
 next_member es others e next = ap (λ fs. member_texts (members_view fs)) next
+
+-- ---- values that have texts
+
+pub next_text : (vs : List Value) (i : ℕ) (v : Value) → i < length vs → v ≡ get_or vs i v → items_have_texts (trees_view (drop i vs)) ≡ (has_text (view v) && items_have_texts (trees_view (drop (i + 1) vs)))
+next_text vs i v h e =
+    ap (λ us. items_have_texts (trees_view us)) (drop-cons vs i v h)
+    ∙ (λ j. has_text (view (sym e j)) && items_have_texts (trees_view (drop (sym (add-one i) j) vs)))
+
+pub next_member_text : (es others : List Entry) (e : Entry) → es ≡ e ∷ others → members_have_texts (members_view es) ≡ (has_text (view e.1) && members_have_texts (members_view others))
+next_member_text es others e next = ap (λ fs. members_have_texts (members_view fs)) next
+
+-- the whole has texts where its first part and the others have
+pub texts_left_have : (whole here first others : Bool) → whole ≡ here → here ≡ (first && others) → first ≡ true → whole ≡ others
+texts_left_have whole here first others e next has = e ∙ next ∙ ap (λ b. b && others) has
+
+-- the first part has a text where the whole has
+pub first_has_text : (whole here first others : Bool) → whole ≡ here → here ≡ (first && others) → whole ≡ true → first ≡ true
+first_has_text whole here true others e next has = refl
+first_has_text whole here false others e next has = sym next ∙ sym e ∙ has
 
 -- ---- values whose trees are proper
 

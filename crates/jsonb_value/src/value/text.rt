@@ -1,5 +1,5 @@
 //! The serialized form of a value: JSON without whitespace.
-ghost use Rattle.std.specs.Prelude.{ℕ, List, ◌≡◌, ◌≢◌, ◌↔◌, ◌⊎◌, ◌+◌, ◌<◌, ◌≤◌, ◌++◌, ◌∷◌, [], ◌==◌, if◌then◌else◌, length, take, Some, None, IfErr, IfSome, IsErrOf, OnOk, OnErr, vec_len, string_bytes};
+ghost use Rattle.std.specs.Prelude.{ℕ, List, true, ◌≡◌, ◌≢◌, ◌↔◌, ◌⊎◌, ◌+◌, ◌<◌, ◌≤◌, ◌++◌, ◌∷◌, [], ◌==◌, if◌then◌else◌, length, take, Some, None, IfErr, IfSome, IsErrOf, OnOk, OnErr, vec_len, string_bytes};
 ghost use Rattle.std.specs.Char.{digit_char};
 ghost use Rattle.std.specs.Int.{w64, trailing_zeros};
 ghost use Rattle.std.specs.List.{flat_map};
@@ -31,7 +31,8 @@ pub fn string_texts_read_back()
     ensures { (mode : Mode) → (text : List ℕ) → IsUtf8 text → StringReadsBack mode text }
 {}
 
-// The result of a function that appends. After an error the buffer may hold a part of the text.
+// The result of a function that appends. After an error the buffer may hold a part of the text. It is one of memory, or
+// the value has no text.
 type Appended = std::result::Result<(), AllocError>;
 
 impl Value<'_> {
@@ -56,8 +57,8 @@ impl Value<'_> {
     ///
     /// # Errors
     ///
-    /// `UnexpectedType` where the value holds a date or a time, at any depth: it has no text then, and this is checked
-    /// first. `OutOfMemory` only where `buf` lacks the capacity for the whole text.
+    /// `UnexpectedType` where the value holds a date or a time, at any depth: it has no text then, however little
+    /// memory there is. `OutOfMemory` only where `buf` lacks the capacity for the whole text.
     pub fn write_text(&self, buf: &mut Vec<u8>) -> Result<()>
         ensures ok { OnOk result (AppendsText (view self.now) buf.old.items buf.new.items) }
         ensures err { OnErr result (buf.new.items ≡ buf.old.items) }
@@ -78,15 +79,26 @@ impl Value<'_> {
             → buf.new.items ≡ buf.old.items ++ bytes → (u : Tree) → IsProper u → IsIntegerRange u
             → (text_of u ≡ Some bytes) ↔ Same u (view self.now)) }
     {
-        if !has_text(self) {
-            return Err(Error::UnexpectedType);
-        }
         let old_len = buf.len();
-        if append(self, buf).is_err() {
-            buf.truncate(old_len);
-            return Err(Error::OutOfMemory);
+        if append(self, buf).is_ok() {
+            return Ok(());
         }
-        Ok(())
+        buf.truncate(old_len);
+        Err(refusal(self))
+    }
+}
+
+// The error of a value that was not appended. Only here is the value walked once more.
+#[cold]
+#[inline(never)]
+fn refusal(value: &Value<'_>) -> Error
+    ensures unexpected { (result ≡ Error.UnexpectedType) ↔ (text_of (view value.now) ≡ None) }
+    ensures errors { (result ≡ Error.UnexpectedType) ⊎ (result ≡ Error.OutOfMemory) }
+{
+    if has_text(value) {
+        Error::OutOfMemory
+    } else {
+        Error::UnexpectedType
     }
 }
 
@@ -133,15 +145,17 @@ fn members_have_texts<'a>(members: &Object<'a>) -> bool
     true
 }
 
-// Inlined into the loops, so that only containers are calls there.
+// Appends a value's text. Inlined into the loops, so that only containers are calls there.
 #[inline(always)]
 #[cycle(append)]
 fn append<'a>(value: &Value<'a>, buf: &mut Vec<u8>) -> Appended
     ensures ok { OnOk result (buf.new.items ≡ buf.old.items ++ tree_text (view value.now)) }
+    ensures texts { OnOk result (has_text (view value.now) ≡ true) }
     ensures proper { OnOk result (IsProper (view value.now)) }
     ensures kept { Extends buf.old.items buf.new.items }
-    ensures full { OnErr result
-        (vec_capacity buf.old < vec_len buf.old + length (tree_text (view value.now))) }
+    // Of a value that has a text, an error says that the capacity for the whole text is missing.
+    ensures full { OnErr result (has_text (view value.now) ≡ true
+        → vec_capacity buf.old < vec_len buf.old + length (tree_text (view value.now))) }
     ensures capacity { vec_capacity buf.old ≤ vec_capacity buf.new }
 {
     match value {
@@ -154,8 +168,8 @@ fn append<'a>(value: &Value<'a>, buf: &mut Vec<u8>) -> Appended
         Value::Interval(interval) => append_quoted_interval(interval, buf),
         Value::Array(items) => append_items(items, buf),
         Value::Object(members) => append_members(members, buf),
-        // These have no text, and are refused before.
-        Value::Date(_) | Value::Timestamp(_) | Value::TimestampTz(_) => Ok(()),
+        // These have no text.
+        Value::Date(_) | Value::Timestamp(_) | Value::TimestampTz(_) => Err(AllocError),
     }
 }
 
@@ -163,9 +177,11 @@ fn append<'a>(value: &Value<'a>, buf: &mut Vec<u8>) -> Appended
 fn append_items<'a>(items: &Vec<Value<'a>>, buf: &mut Vec<u8>) -> Appended
     ensures ok { OnOk result (buf.new.items
         ≡ buf.old.items ++ (91 ∷ with_commas (item_texts (trees_view items.now.items)) ++ 93 ∷ [])) }
+    ensures texts { OnOk result (items_have_texts (trees_view items.now.items) ≡ true) }
     ensures proper { OnOk result (AreProper (trees_view items.now.items)) }
     ensures kept { Extends buf.old.items buf.new.items }
-    ensures full { OnErr result (vec_capacity buf.old < vec_len buf.old
+    ensures full { OnErr result (items_have_texts (trees_view items.now.items) ≡ true
+        → vec_capacity buf.old < vec_len buf.old
         + length (91 ∷ with_commas (item_texts (trees_view items.now.items)) ++ 93 ∷ [])) }
     ensures capacity { vec_capacity buf.old ≤ vec_capacity buf.new }
 {
@@ -183,10 +199,12 @@ fn append_items<'a>(items: &Vec<Value<'a>>, buf: &mut Vec<u8>) -> Appended
 fn append_members<'a>(members: &Object<'a>, buf: &mut Vec<u8>) -> Appended
     ensures ok { OnOk result (buf.new.items ≡ buf.old.items
         ++ (123 ∷ with_commas (member_texts (members_view members.now.entries)) ++ 125 ∷ [])) }
+    ensures texts { OnOk result (members_have_texts (members_view members.now.entries) ≡ true) }
     ensures proper { OnOk result (KeysAscend (members_view members.now.entries)
         × HaveProperParts (members_view members.now.entries)) }
     ensures kept { Extends buf.old.items buf.new.items }
-    ensures full { OnErr result (vec_capacity buf.old < vec_len buf.old
+    ensures full { OnErr result (members_have_texts (members_view members.now.entries) ≡ true
+        → vec_capacity buf.old < vec_len buf.old
         + length (123 ∷ with_commas (member_texts (members_view members.now.entries)) ++ 125 ∷ [])) }
     ensures capacity { vec_capacity buf.old ≤ vec_capacity buf.new }
 {

@@ -1,13 +1,20 @@
 use Rattle.std.proofs.Common.{◌≡◌, List, false, ◌+◌, [], ◌∷◌, ◌++◌, drop, refl, sym, subst, ap, ◌∙◌, arith, rules, string_bytes}
 use Rattle.jsonb_value.specs.Proper.{HaveProperParts}
 use Rattle.jsonb_value.specs.Text.StringText.{quoted_text}
-use Rattle.jsonb_value.specs.Text.{with_commas, item_texts, member_texts, tree_text}
+use Rattle.jsonb_value.specs.Text.{with_commas, item_texts, member_texts, tree_text, members_have_texts}
 use Rattle.jsonb_value.specs.View.{view, trees_view, members_view}
 use Rattle.jsonb_value.proofs.Appending.Appended.{begun, goes_on, fits, on_err}
+use Rattle.jsonb_value.proofs.Values.Accessors.{view-Array, view-Object}
 use Rattle.jsonb_value.proofs.Values.Keys.{KeysAscend-members_view}
 use Rattle.jsonb_value.proofs.Values.Members.{Entry}
-use Rattle.jsonb_value.proofs.Appending.Pieces.{texts_left, comma_done, comma_fits, key_split, key_done, next_item, next_member, next_proper, next_proper_member}
+use Rattle.jsonb_value.proofs.Appending.Pieces.{texts_left, comma_done, comma_fits, key_split, key_done, next_item, next_member, next_text, next_member_text, texts_left_have, first_has_text, next_proper, next_proper_member}
 use Rattle.jsonb_value.proofs.value.text.+append.Goals as goal
+
+pub append-returns-in-Array-clause-full : goal.append-returns-in-Array-clause-full
+append-returns-in-Array-clause-full t c = rw (ap view c.in-Array.is ∙ view-Array c.in-Array.items) c.append_items.ensures.full
+
+pub append-returns-in-Object-clause-full : goal.append-returns-in-Object-clause-full
+append-returns-in-Object-clause-full t c = rw (ap view c.in-Object.is ∙ view-Object c.in-Object.members) c.append_members.ensures.full
 
 pub append_items-items-preserved : goal.append_items-items-preserved
 append_items-items-preserved t c =
@@ -18,6 +25,7 @@ append_items-items-preserved t c =
     let due = comma_done c.items.is_first _ _ _ _ (93 ∷ []) c.append_comma.new.buf.items _ _ next c.items.invariant.underway c.in_ok-append_comma.ensures.ok in
     record {
       underway = goes_on c.append.new.buf.items (tree_text (view item)) rest due refl c.in_ok-append.ensures.ok;
+      texts = texts_left_have _ _ _ _ c.items.invariant.texts (next_text all c.items.item-index item (search rules) (search rules)) c.in_ok-append.ensures.texts;
       proper = λ others. c.items.invariant.proper (next_proper all c.items.item-index item (search rules) (search rules) c.in_ok-append.ensures.proper others);
       room = omega arith;
     }
@@ -30,7 +38,8 @@ append_items-returns-in_err-append-clause-full t c =
     let next = next_item all c.items.item-index item (search rules) (search rules) in
     let due = comma_done c.items.is_first _ _ _ _ (93 ∷ []) c.append_comma.new.buf.items _ _ next c.items.invariant.underway c.in_ok-append_comma.ensures.ok in
     let room = fits (tree_text (view item)) rest due refl in
-    on_err c.from_residual-in_err-append.result (omega (arith, room, c.in_err-append.ensures.full))
+    let first = next_text all c.items.item-index item (search rules) (search rules) in
+    on_err c.from_residual-in_err-append.result (λ texts. omega (arith, room, c.in_err-append.ensures.full (first_has_text _ _ _ _ c.items.invariant.texts first texts)))
 
 pub append_members-members-preserved : goal.append_members-members-preserved
 append_members-members-preserved t c =
@@ -42,6 +51,7 @@ append_members-members-preserved t c =
     let due = key_done _ _ _ (quoted_text key) value rest c.append_key.new.buf.items due c.in_ok-append_key.ensures.ok in
     record {
       underway = goes_on c.append.new.buf.items value rest due refl c.in_ok-append.ensures.ok;
+      texts = texts_left_have _ _ _ _ c.members.invariant.texts (next_member_text c.members.key-iterator c.next.new.self (c.in-Some.key.now, c.in-Some.value.now) c.in-Some.ensures.steps) c.in_ok-append.ensures.texts;
       proper = λ others. c.members.invariant.proper (next_proper_member c.members.key-iterator c.next.new.self (c.in-Some.key.now, c.in-Some.value.now) c.in-Some.ensures.steps c.in_ok-append_key.ensures.utf8 c.in_ok-append.ensures.proper others);
       room = omega arith;
     }
@@ -54,7 +64,7 @@ append_members-returns-in_err-append_key-clause-full t c =
     let next = next_member c.members.key-iterator c.next.new.self (c.in-Some.key.now, c.in-Some.value.now) c.in-Some.ensures.steps in
     let due = comma_done c.members.is_first _ _ _ _ (125 ∷ []) c.append_comma.new.buf.items _ _ next c.members.invariant.underway c.in_ok-append_comma.ensures.ok in
     let room = fits (quoted_text key ++ 58 ∷ []) (value ++ rest) due (key_split (quoted_text key) value rest) in
-    on_err c.from_residual-in_err-append_key.result (omega (arith, room, c.in_err-append_key.ensures.full))
+    on_err c.from_residual-in_err-append_key.result (λ texts. omega (arith, room, c.in_err-append_key.ensures.full))
 
 pub append_members-returns-in_err-append-clause-full : goal.append_members-returns-in_err-append-clause-full
 append_members-returns-in_err-append-clause-full t c =
@@ -65,7 +75,8 @@ append_members-returns-in_err-append-clause-full t c =
     let due = comma_done c.members.is_first _ _ _ _ (125 ∷ []) c.append_comma.new.buf.items _ _ next c.members.invariant.underway c.in_ok-append_comma.ensures.ok in
     let due = key_done _ _ _ (quoted_text key) value rest c.append_key.new.buf.items due c.in_ok-append_key.ensures.ok in
     let room = fits value rest due refl in
-    on_err c.from_residual-in_err-append.result (omega (arith, room, c.in_err-append.ensures.full))
+    let first = next_member_text c.members.key-iterator c.next.new.self (c.in-Some.key.now, c.in-Some.value.now) c.in-Some.ensures.steps in
+    on_err c.from_residual-in_err-append.result (λ texts. omega (arith, room, c.in_err-append.ensures.full (first_has_text _ _ _ _ c.members.invariant.texts first texts)))
 
 pub append_members-members-init : goal.append_members-members-init
 append_members-members-init t c =
@@ -75,6 +86,7 @@ append_members-members-init t c =
     let rest = with_commas (member_texts (members_view c.into_iter-key-iterator.result)) ++ 125 ∷ [] in
     record {
       underway = goes_on c.extend_from_slice.new.self.items (123 ∷ []) rest (begun c.args.buf.now.items (text all)) (ap text (sym whole)) c.in_ok-extend_from_slice.ensures.items;
+      texts = ap (λ es. members_have_texts (members_view es)) (sym whole);
       proper = λ parts. (KeysAscend-members_view all c.iter-key-items.ensures.ordered, subst (λ es. HaveProperParts (members_view es)) whole parts);
       room = omega (arith, c.in_ok-extend_from_slice.ensures.capacity);
     }
@@ -83,4 +95,4 @@ pub append_members-returns-in_err-append_comma-clause-full : goal.append_members
 append_members-returns-in_err-append_comma-clause-full t c =
     let next = next_member c.members.key-iterator c.next.new.self (c.in-Some.key.now, c.in-Some.value.now) c.in-Some.ensures.steps in
     let room = comma_fits c.members.is_first _ _ _ _ (125 ∷ []) _ _ next c.members.invariant.underway in
-    on_err c.from_residual-in_err-append_comma.result (omega (arith, room, c.in_err-append_comma.ensures.full))
+    on_err c.from_residual-in_err-append_comma.result (λ texts. omega (arith, room, c.in_err-append_comma.ensures.full))
