@@ -10,7 +10,7 @@ ghost use Rattle.jsonb_value.specs.Proper.{IsProper, AreProper, HaveProperParts}
 ghost use Rattle.jsonb_value.specs.Text.Appending.{Extends, comma_before};
 ghost use Rattle.jsonb_value.specs.Text.Range.{IsInRangeOf};
 ghost use Rattle.jsonb_value.specs.Text.StringText.{quoted_text};
-ghost use Rattle.jsonb_value.specs.Text.{has_text, tree_text, with_commas, text_of};
+ghost use Rattle.jsonb_value.specs.Text.{has_text, items_have_texts, members_have_texts, tree_text, with_commas, text_of};
 ghost use Rattle.jsonb_value.specs.Tree.{array, object};
 ghost use Rattle.jsonb_value.specs.View.{view, trees_view, members_view};
 ghost use Rattle.jsonb_pretty.specs.Indented.{new_line, indented, item_lines, member_lines, StandsFor};
@@ -38,8 +38,8 @@ use std::alloc::AllocError;
 ///
 /// # Errors
 ///
-/// `UnexpectedType` where the value holds a date or a time, at any depth: it has no text then, and this is checked
-/// first. `OutOfMemory` only where `buf` lacks the capacity for the whole text.
+/// `UnexpectedType` where the value holds a date or a time, at any depth: it has no text then, however little memory
+/// there is. `OutOfMemory` only where `buf` lacks the capacity for the whole text.
 pub fn write_text_indented(value: &Value<'_>, indent: usize, buf: &mut Vec<u8>) -> Result<()>
     ensures ok { OnOk result (buf.new.items ≡ buf.old.items ++ indented indent 0 (view value.now)) }
     ensures err { OnErr result (buf.new.items ≡ buf.old.items) }
@@ -54,18 +54,30 @@ pub fn write_text_indented(value: &Value<'_>, indent: usize, buf: &mut Vec<u8>) 
     ensures reads_back { OnOk result ((mode : Mode) → IsInRangeOf mode (view value.now)
         → StandsFor mode (indented indent 0 (view value.now)) (view value.now)) }
 {
-    if !value.has_text() {
-        return Err(Error::UnexpectedType);
-    }
     let old_len = buf.len();
-    if append(value, indent, 0, buf).is_err() {
-        buf.truncate(old_len);
-        return Err(Error::OutOfMemory);
+    if append(value, indent, 0, buf).is_ok() {
+        return Ok(());
     }
-    Ok(())
+    buf.truncate(old_len);
+    Err(refusal(value))
 }
 
-// The result of a function that appends. After an error the buffer may hold a part of the text.
+// The error of a value that was not appended. Only here is the value walked once more.
+#[cold]
+#[inline(never)]
+fn refusal(value: &Value<'_>) -> Error
+    ensures unexpected { (result ≡ Error.UnexpectedType) ↔ (text_of (view value.now) ≡ None) }
+    ensures errors { (result ≡ Error.UnexpectedType) ⊎ (result ≡ Error.OutOfMemory) }
+{
+    if value.has_text() {
+        Error::OutOfMemory
+    } else {
+        Error::UnexpectedType
+    }
+}
+
+// The result of a function that appends. After an error the buffer may hold a part of the text. It is one of memory, or
+// the value has no text.
 type Appended = std::result::Result<(), AllocError>;
 
 // Appends a value, whose lines begin with `margin` spaces.
@@ -73,10 +85,12 @@ type Appended = std::result::Result<(), AllocError>;
 fn append<'a>(value: &Value<'a>, indent: usize, margin: usize, buf: &mut Vec<u8>) -> Appended
     ensures ok { OnOk result (buf.new.items
         ≡ buf.old.items ++ indented indent margin (view value.now)) }
+    ensures texts { OnOk result (has_text (view value.now) ≡ true) }
     ensures proper { OnOk result (IsProper (view value.now)) }
     ensures kept { Extends buf.old.items buf.new.items }
-    ensures full { OnErr result (vec_capacity buf.old
-        < vec_len buf.old + length (indented indent margin (view value.now))) }
+    // Of a value that has a text, an error says that the capacity for the whole text is missing.
+    ensures full { OnErr result (has_text (view value.now) ≡ true
+        → vec_capacity buf.old < vec_len buf.old + length (indented indent margin (view value.now))) }
     ensures capacity { vec_capacity buf.old ≤ vec_capacity buf.new }
 {
     match value {
@@ -88,8 +102,8 @@ fn append<'a>(value: &Value<'a>, indent: usize, margin: usize, buf: &mut Vec<u8>
         Value::Number(_) => append_scalar(value, buf),
         Value::Binary(_) => append_scalar(value, buf),
         Value::Interval(_) => append_scalar(value, buf),
-        // These have no text, and are refused before.
-        Value::Date(_) | Value::Timestamp(_) | Value::TimestampTz(_) => Ok(()),
+        // These have no text.
+        Value::Date(_) | Value::Timestamp(_) | Value::TimestampTz(_) => Err(AllocError),
     }
 }
 
@@ -102,9 +116,10 @@ fn append_items<'a>(
 ) -> Appended
     ensures ok { OnOk result (buf.new.items
         ≡ buf.old.items ++ indented indent margin (array (trees_view items.now.items))) }
+    ensures texts { OnOk result (items_have_texts (trees_view items.now.items) ≡ true) }
     ensures proper { OnOk result (AreProper (trees_view items.now.items)) }
     ensures kept { Extends buf.old.items buf.new.items }
-    ensures full { OnErr result (vec_capacity buf.old
+    ensures full { OnErr result (items_have_texts (trees_view items.now.items) ≡ true → vec_capacity buf.old
         < vec_len buf.old + length (indented indent margin (array (trees_view items.now.items)))) }
     ensures capacity { vec_capacity buf.old ≤ vec_capacity buf.new }
 {
@@ -127,9 +142,11 @@ fn append_item_lines<'a>(
 ) -> Appended
     ensures ok { OnOk result (buf.new.items ≡ buf.old.items
         ++ with_commas (item_lines indent margin (trees_view items.now.items))) }
+    ensures texts { OnOk result (items_have_texts (trees_view items.now.items) ≡ true) }
     ensures proper { OnOk result (AreProper (trees_view items.now.items)) }
     ensures kept { Extends buf.old.items buf.new.items }
-    ensures full { OnErr result (vec_capacity buf.old < vec_len buf.old
+    ensures full { OnErr result (items_have_texts (trees_view items.now.items) ≡ true
+        → vec_capacity buf.old < vec_len buf.old
         + length (with_commas (item_lines indent margin (trees_view items.now.items)))) }
     ensures capacity { vec_capacity buf.old ≤ vec_capacity buf.new }
 {
@@ -152,10 +169,12 @@ fn append_members<'a>(
 ) -> Appended
     ensures ok { OnOk result (buf.new.items
         ≡ buf.old.items ++ indented indent margin (object (members_view members.now.entries))) }
+    ensures texts { OnOk result (members_have_texts (members_view members.now.entries) ≡ true) }
     ensures proper { OnOk result (KeysAscend (members_view members.now.entries)
         × HaveProperParts (members_view members.now.entries)) }
     ensures kept { Extends buf.old.items buf.new.items }
-    ensures full { OnErr result (vec_capacity buf.old < vec_len buf.old
+    ensures full { OnErr result (members_have_texts (members_view members.now.entries) ≡ true
+        → vec_capacity buf.old < vec_len buf.old
         + length (indented indent margin (object (members_view members.now.entries)))) }
     ensures capacity { vec_capacity buf.old ≤ vec_capacity buf.new }
 {
@@ -178,10 +197,12 @@ fn append_member_lines<'a>(
 ) -> Appended
     ensures ok { OnOk result (buf.new.items ≡ buf.old.items
         ++ with_commas (member_lines indent margin (members_view members.now.entries))) }
+    ensures texts { OnOk result (members_have_texts (members_view members.now.entries) ≡ true) }
     ensures proper { OnOk result (KeysAscend (members_view members.now.entries)
         × HaveProperParts (members_view members.now.entries)) }
     ensures kept { Extends buf.old.items buf.new.items }
-    ensures full { OnErr result (vec_capacity buf.old < vec_len buf.old
+    ensures full { OnErr result (members_have_texts (members_view members.now.entries) ≡ true
+        → vec_capacity buf.old < vec_len buf.old
         + length (with_commas (member_lines indent margin (members_view members.now.entries)))) }
     ensures capacity { vec_capacity buf.old ≤ vec_capacity buf.new }
 {

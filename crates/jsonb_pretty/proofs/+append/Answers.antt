@@ -1,15 +1,22 @@
 use Rattle.std.proofs.Common.{◌≡◌, List, false, ◌+◌, [], ◌∷◌, ◌++◌, drop, refl, sym, subst, ap, ◌∙◌, arith, rules, string_bytes, append-nil, length, length-append, ◌≢◌}
 use Rattle.jsonb_value.specs.Proper.{HaveProperParts}
 use Rattle.jsonb_value.specs.Text.StringText.{quoted_text}
-use Rattle.jsonb_value.specs.Text.{with_commas}
+use Rattle.jsonb_value.specs.Text.{with_commas, members_have_texts}
 use Rattle.jsonb_value.specs.View.{view, trees_view, members_view}
 use Rattle.jsonb_value.proofs.Appending.Appended.{begun, goes_on, fits, on_err}
-use Rattle.jsonb_value.proofs.Appending.Pieces.{texts_left, comma_done, comma_fits, next_proper, next_proper_member}
+use Rattle.jsonb_value.proofs.Appending.Pieces.{texts_left, comma_done, comma_fits, next_text, next_member_text, texts_left_have, first_has_text, next_proper, next_proper_member}
+use Rattle.jsonb_value.proofs.Values.Accessors.{view-Array, view-Object}
 use Rattle.jsonb_value.proofs.Values.Keys.{KeysAscend-members_view}
 use Rattle.jsonb_value.proofs.Values.Members.{Entry}
 use Rattle.jsonb_pretty.specs.Indented.{new_line, indented, item_lines, member_lines}
 use Rattle.jsonb_pretty.proofs.Lines.{next_item, next_member, line_done, line_fits, key_split, key_done, array_is, object_is, array_long, object_long, appended_last, enclosed_length, err_weaker}
 use Rattle.jsonb_pretty.proofs.+append.Goals as goal
+
+pub append-returns-in-Array-clause-full : goal.append-returns-in-Array-clause-full
+append-returns-in-Array-clause-full t c = rw (ap view c.in-Array.is ∙ view-Array c.in-Array.items) c.append_items.ensures.full
+
+pub append-returns-in-Object-clause-full : goal.append-returns-in-Object-clause-full
+append-returns-in-Object-clause-full t c = rw (ap view c.in-Object.is ∙ view-Object c.in-Object.members) c.append_members.ensures.full
 
 pub append_item_lines-items-preserved : goal.append_item_lines-items-preserved
 append_item_lines-items-preserved t c =
@@ -22,6 +29,7 @@ append_item_lines-items-preserved t c =
     let due = line_done _ _ _ (new_line c.args.margin) text rest c.append_line.new.buf.items due c.in_ok-append_line.ensures.ok in
     record {
       underway = goes_on c.append.new.buf.items text rest due refl c.in_ok-append.ensures.ok;
+      texts = texts_left_have _ _ _ _ c.items.invariant.texts (next_text all c.items.item-index item (search rules) (search rules)) c.in_ok-append.ensures.texts;
       proper = λ others. c.items.invariant.proper (next_proper all c.items.item-index item (search rules) (search rules) c.in_ok-append.ensures.proper others);
       room = omega arith;
     }
@@ -30,7 +38,7 @@ pub append_item_lines-returns-in_err-append_comma-clause-full : goal.append_item
 append_item_lines-returns-in_err-append_comma-clause-full t c =
     let next = next_item c.args.indent c.args.margin c.args.items.now.items c.items.item-index c.item-item.result (search rules) (search rules) in
     let room = comma_fits c.items.is_first _ _ _ _ [] _ _ next c.items.invariant.underway in
-    on_err c.from_residual.result (omega (arith, room, c.in_err-append_comma.ensures.full))
+    on_err c.from_residual.result (λ texts. omega (arith, room, c.in_err-append_comma.ensures.full))
 
 pub append_item_lines-returns-in_err-append_line-clause-full : goal.append_item_lines-returns-in_err-append_line-clause-full
 append_item_lines-returns-in_err-append_line-clause-full t c =
@@ -41,7 +49,7 @@ append_item_lines-returns-in_err-append_line-clause-full t c =
     let next = next_item c.args.indent c.args.margin all c.items.item-index item (search rules) (search rules) in
     let due = comma_done c.items.is_first _ _ _ _ [] c.append_comma.new.buf.items _ _ next c.items.invariant.underway c.in_ok-append_comma.ensures.ok in
     let room = line_fits _ _ _ (new_line c.args.margin) text rest due in
-    on_err c.from_residual-in_err-append_line.result (omega (arith, room, c.in_err-append_line.ensures.full))
+    on_err c.from_residual-in_err-append_line.result (λ texts. omega (arith, room, c.in_err-append_line.ensures.full))
 
 pub append_item_lines-returns-in_err-append-clause-full : goal.append_item_lines-returns-in_err-append-clause-full
 append_item_lines-returns-in_err-append-clause-full t c =
@@ -53,7 +61,8 @@ append_item_lines-returns-in_err-append-clause-full t c =
     let due = comma_done c.items.is_first _ _ _ _ [] c.append_comma.new.buf.items _ _ next c.items.invariant.underway c.in_ok-append_comma.ensures.ok in
     let due = line_done _ _ _ (new_line c.args.margin) text rest c.append_line.new.buf.items due c.in_ok-append_line.ensures.ok in
     let room = fits text rest due refl in
-    on_err c.from_residual-in_err-append.result (omega (arith, room, c.in_err-append.ensures.full))
+    let first = next_text all c.items.item-index item (search rules) (search rules) in
+    on_err c.from_residual-in_err-append.result (λ texts. omega (arith, room, c.in_err-append.ensures.full (first_has_text _ _ _ _ c.items.invariant.texts first texts)))
 
 pub append_member_lines-members-preserved : goal.append_member_lines-members-preserved
 append_member_lines-members-preserved t c =
@@ -67,6 +76,7 @@ append_member_lines-members-preserved t c =
     let due = key_done _ _ _ key text rest c.append_key.new.buf.items due c.in_ok-append_key.ensures.ok in
     record {
       underway = goes_on c.append.new.buf.items text rest due refl c.in_ok-append.ensures.ok;
+      texts = texts_left_have _ _ _ _ c.members.invariant.texts (next_member_text c.members.key-iterator c.next.new.self entry c.in-Some.ensures.steps) c.in_ok-append.ensures.texts;
       proper = λ others. c.members.invariant.proper (next_proper_member c.members.key-iterator c.next.new.self entry c.in-Some.ensures.steps c.in_ok-append_key.ensures.utf8 c.in_ok-append.ensures.proper others);
       room = omega arith;
     }
@@ -75,7 +85,7 @@ pub append_member_lines-returns-in_err-append_comma-clause-full : goal.append_me
 append_member_lines-returns-in_err-append_comma-clause-full t c =
     let next = next_member c.args.indent c.args.margin c.members.key-iterator c.next.new.self (c.in-Some.key.now, c.in-Some.value.now) c.in-Some.ensures.steps in
     let room = comma_fits c.members.is_first _ _ _ _ [] _ _ next c.members.invariant.underway in
-    on_err c.from_residual.result (omega (arith, room, c.in_err-append_comma.ensures.full))
+    on_err c.from_residual.result (λ texts. omega (arith, room, c.in_err-append_comma.ensures.full))
 
 pub append_member_lines-returns-in_err-append_line-clause-full : goal.append_member_lines-returns-in_err-append_line-clause-full
 append_member_lines-returns-in_err-append_line-clause-full t c =
@@ -85,7 +95,7 @@ append_member_lines-returns-in_err-append_line-clause-full t c =
     let next = next_member c.args.indent c.args.margin c.members.key-iterator c.next.new.self (c.in-Some.key.now, c.in-Some.value.now) c.in-Some.ensures.steps in
     let due = comma_done c.members.is_first _ _ _ _ [] c.append_comma.new.buf.items _ _ next c.members.invariant.underway c.in_ok-append_comma.ensures.ok in
     let room = line_fits _ _ _ (new_line c.args.margin) (key ++ 58 ∷ 32 ∷ text) rest due in
-    on_err c.from_residual-in_err-append_line.result (omega (arith, room, c.in_err-append_line.ensures.full))
+    on_err c.from_residual-in_err-append_line.result (λ texts. omega (arith, room, c.in_err-append_line.ensures.full))
 
 pub append_member_lines-returns-in_err-append_key-clause-full : goal.append_member_lines-returns-in_err-append_key-clause-full
 append_member_lines-returns-in_err-append_key-clause-full t c =
@@ -96,7 +106,7 @@ append_member_lines-returns-in_err-append_key-clause-full t c =
     let due = comma_done c.members.is_first _ _ _ _ [] c.append_comma.new.buf.items _ _ next c.members.invariant.underway c.in_ok-append_comma.ensures.ok in
     let due = line_done _ _ _ (new_line c.args.margin) (key ++ 58 ∷ 32 ∷ text) rest c.append_line.new.buf.items due c.in_ok-append_line.ensures.ok in
     let room = fits (key ++ 58 ∷ 32 ∷ []) (text ++ rest) due (key_split key text rest) in
-    on_err c.from_residual-in_err-append_key.result (omega (arith, room, c.in_err-append_key.ensures.full))
+    on_err c.from_residual-in_err-append_key.result (λ texts. omega (arith, room, c.in_err-append_key.ensures.full))
 
 pub append_member_lines-returns-in_err-append-clause-full : goal.append_member_lines-returns-in_err-append-clause-full
 append_member_lines-returns-in_err-append-clause-full t c =
@@ -108,7 +118,8 @@ append_member_lines-returns-in_err-append-clause-full t c =
     let due = line_done _ _ _ (new_line c.args.margin) (key ++ 58 ∷ 32 ∷ text) rest c.append_line.new.buf.items due c.in_ok-append_line.ensures.ok in
     let due = key_done _ _ _ key text rest c.append_key.new.buf.items due c.in_ok-append_key.ensures.ok in
     let room = fits text rest due refl in
-    on_err c.from_residual-in_err-append.result (omega (arith, room, c.in_err-append.ensures.full))
+    let first = next_member_text c.members.key-iterator c.next.new.self (c.in-Some.key.now, c.in-Some.value.now) c.in-Some.ensures.steps in
+    on_err c.from_residual-in_err-append.result (λ texts. omega (arith, room, c.in_err-append.ensures.full (first_has_text _ _ _ _ c.members.invariant.texts first texts)))
 
 pub append_member_lines-members-init : goal.append_member_lines-members-init
 append_member_lines-members-init t c =
@@ -117,6 +128,7 @@ append_member_lines-members-init t c =
     let text = λ (es : List Entry). with_commas (member_lines c.args.indent c.args.margin (members_view es)) ++ [] in
     record {
       underway = goes_on c.args.buf.now.items [] (text c.into_iter-key-iterator.result) (begun c.args.buf.now.items (with_commas (member_lines c.args.indent c.args.margin (members_view all)))) (sym (append-nil _) ∙ ap text (sym whole)) (sym (append-nil c.args.buf.now.items));
+      texts = ap (λ es. members_have_texts (members_view es)) (sym whole);
       proper = λ parts. (KeysAscend-members_view all c.iter-key-items.ensures.ordered, subst (λ es. HaveProperParts (members_view es)) whole parts);
       room = omega arith;
     }
@@ -127,6 +139,7 @@ append_item_lines-items-init t c =
     let text = with_commas (item_lines c.args.indent c.args.margin (trees_view all)) in
     record {
       underway = goes_on c.args.buf.now.items [] (text ++ []) (begun c.args.buf.now.items text) (sym (append-nil text)) (sym (append-nil c.args.buf.now.items));
+      texts = refl;
       proper = λ parts. parts;
       room = omega arith;
     }
@@ -136,7 +149,7 @@ append_items-returns-in_err-inner-clause-full t c =
     let all = c.args.items.now.items in
     let some : length all ≢ 0 = search rules in
     let long = array_long c.args.indent c.args.margin all some in
-    on_err c.from_residual.result (omega (arith, long, c.in_err-inner.ensures.full))
+    on_err c.from_residual.result (λ texts. omega (arith, long, c.in_err-inner.ensures.full))
 
 pub append_items-returns-in_err-append_line-clause-full : goal.append_items-returns-in_err-append_line-clause-full
 append_items-returns-in_err-append_line-clause-full t c =
@@ -148,7 +161,7 @@ append_items-returns-in_err-append_line-clause-full t c =
     let first = ap length c.in_ok-extend_from_slice.ensures.items in
     let second = ap length c.in_ok-append_item_lines.ensures.ok in
     on_err c.from_residual-in_err-append_line.result
-    (omega (arith, ap length whole, room, first, length-append c.args.buf.now.items (91 ∷ []), second, length-append c.extend_from_slice-2.new.self.items lines, c.in_err-append_line.ensures.full))
+    (λ texts. omega (arith, ap length whole, room, first, length-append c.args.buf.now.items (91 ∷ []), second, length-append c.extend_from_slice-2.new.self.items lines, c.in_err-append_line.ensures.full))
 
 pub append_items-returns-clause-ok : goal.append_items-returns-clause-ok
 append_items-returns-clause-ok t c =
@@ -169,7 +182,7 @@ append_items-returns-clause-full t c =
     let second = ap length c.in_ok-append_item_lines.ensures.ok in
     let third = ap length c.in_ok-append_line.ensures.ok in
     err_weaker c.extend_from_slice-3.result
-    (λ full. omega (arith, full, ap length whole, room, first, length-append c.args.buf.now.items (91 ∷ []), second, length-append c.extend_from_slice-2.new.self.items lines, third, length-append c.append_item_lines.new.buf.items (new_line c.args.margin), c.in_ok-extend_from_slice.ensures.capacity, c.in_ok-append_item_lines.ensures.capacity, c.in_ok-append_line.ensures.capacity))
+    (λ full texts. omega (arith, full, ap length whole, room, first, length-append c.args.buf.now.items (91 ∷ []), second, length-append c.extend_from_slice-2.new.self.items lines, third, length-append c.append_item_lines.new.buf.items (new_line c.args.margin), c.in_ok-extend_from_slice.ensures.capacity, c.in_ok-append_item_lines.ensures.capacity, c.in_ok-append_line.ensures.capacity))
     c.extend_from_slice-3.ensures.full
 
 pub append_members-returns-in_err-inner-clause-full : goal.append_members-returns-in_err-inner-clause-full
@@ -177,7 +190,7 @@ append_members-returns-in_err-inner-clause-full t c =
     let all = c.args.members.now.entries in
     let some : length all ≢ 0 = search rules in
     let long = object_long c.args.indent c.args.margin all some in
-    on_err c.from_residual.result (omega (arith, long, c.in_err-inner.ensures.full))
+    on_err c.from_residual.result (λ texts. omega (arith, long, c.in_err-inner.ensures.full))
 
 pub append_members-returns-in_err-append_line-clause-full : goal.append_members-returns-in_err-append_line-clause-full
 append_members-returns-in_err-append_line-clause-full t c =
@@ -189,7 +202,7 @@ append_members-returns-in_err-append_line-clause-full t c =
     let first = ap length c.in_ok-extend_from_slice.ensures.items in
     let second = ap length c.in_ok-append_member_lines.ensures.ok in
     on_err c.from_residual-in_err-append_line.result
-    (omega (arith, ap length whole, room, first, length-append c.args.buf.now.items (123 ∷ []), second, length-append c.extend_from_slice-2.new.self.items lines, c.in_err-append_line.ensures.full))
+    (λ texts. omega (arith, ap length whole, room, first, length-append c.args.buf.now.items (123 ∷ []), second, length-append c.extend_from_slice-2.new.self.items lines, c.in_err-append_line.ensures.full))
 
 pub append_members-returns-clause-ok : goal.append_members-returns-clause-ok
 append_members-returns-clause-ok t c =
@@ -210,5 +223,5 @@ append_members-returns-clause-full t c =
     let second = ap length c.in_ok-append_member_lines.ensures.ok in
     let third = ap length c.in_ok-append_line.ensures.ok in
     err_weaker c.extend_from_slice-3.result
-    (λ full. omega (arith, full, ap length whole, room, first, length-append c.args.buf.now.items (123 ∷ []), second, length-append c.extend_from_slice-2.new.self.items lines, third, length-append c.append_member_lines.new.buf.items (new_line c.args.margin), c.in_ok-extend_from_slice.ensures.capacity, c.in_ok-append_member_lines.ensures.capacity, c.in_ok-append_line.ensures.capacity))
+    (λ full texts. omega (arith, full, ap length whole, room, first, length-append c.args.buf.now.items (123 ∷ []), second, length-append c.extend_from_slice-2.new.self.items lines, third, length-append c.append_member_lines.new.buf.items (new_line c.args.margin), c.in_ok-extend_from_slice.ensures.capacity, c.in_ok-append_member_lines.ensures.capacity, c.in_ok-append_line.ensures.capacity))
     c.extend_from_slice-3.ensures.full
