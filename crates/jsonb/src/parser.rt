@@ -1,6 +1,6 @@
 //! The parsers of JSON texts: from left to right, up to the first fault.
 
-ghost use Rattle.std.specs.Prelude.{◌≡◌, ◌≢◌, ◌+◌, ◌<◌, ◌≤◌, [], ◌∷◌, drop, MatchOption, MatchBool, IfOk, IfErr, Err, Some, length, take};
+ghost use Rattle.std.specs.Prelude.{◌≡◌, ◌≢◌, ◌+◌, ◌<◌, ◌≤◌, [], ◌∷◌, drop, MatchOption, MatchBool, IfOk, IfErr, IfSome, Err, Some, length, take};
 ghost use Rattle.jsonb_value.specs.Code.{code_of};
 ghost use Rattle.jsonb_value.specs.Grammar.{IsDocument, IsNoDocument};
 ghost use Rattle.jsonb_value.specs.Mode.{standard, extended};
@@ -133,7 +133,7 @@ fn read_document<'a, V: Build<'a>>(
 {
     // Strings without escapes are cut out of the text, which is tested once. Where a comment isn't UTF-8, each string
     // is tested alone, as none can be cut out.
-    let text = std::str::from_utf8(buf).unwrap_or("");
+    let text = whole_text(buf).unwrap_or("");
     let mut parser = Parser {
         alloc,
         mode,
@@ -141,6 +141,17 @@ fn read_document<'a, V: Build<'a>>(
         idx: 0,
     };
     parser.parse_document(text)
+}
+
+// The bytes as text, where they are UTF-8. The call for long texts looks at 64 bytes at once.
+#[inline(always)]
+fn whole_text(bytes: &[u8]) -> Option<&str>
+    ensures { IfSome result (λ text. text.now ≡ bytes.now) }
+{
+    if bytes.len() < 64 {
+        return std::str::from_utf8(bytes).ok();
+    }
+    simdutf8::basic::from_utf8(bytes).ok()
 }
 
 // A reader that stands at the index `idx` of its input.

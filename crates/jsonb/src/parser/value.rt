@@ -27,6 +27,9 @@ use std::mem;
 // How many arrays and objects may be open at once.
 const MAX_DEPTH: usize = 512;
 
+// For how many open containers there is room from the first one on.
+const FEW_FRAMES: usize = 4;
+
 // An array or an object that is open, with what was read of it.
 #[derive(Drop)]
 enum Frame<V, M, K> {
@@ -81,7 +84,9 @@ impl<'a> Parser<'a> {
             (rest_of self.new) }
         ensures advances { Advances self.old self.new }
     {
-        let mut stack: Vec<FrameOf<'a, V>> = Vec::new(self.alloc);
+        let Ok(mut stack) = Vec::with_capacity(self.alloc, FEW_FRAMES) else {
+            return Err(V::failure(Error::OutOfMemory));
+        };
         if let Err(failure) = self.read_container::<V>(&mut stack, text) {
             dismantle_all::<V>(stack);
             return Err(failure);
@@ -122,6 +127,7 @@ impl<'a> Parser<'a> {
     }
 
     // Opens an array or an object, up to its first part. True where it has none, and it is read to its end.
+    #[inline(always)]
     fn open_container<V: Build<'a>>(
         &mut self,
         stack: &mut Vec<FrameOf<'a, V>>,
