@@ -79,7 +79,7 @@ pub fn parse_value_standard_mode(alloc: Global, buf: &[u8]) -> Result<Value<'_>>
     if let Ok(value) = read_document::<Value>(alloc, buf, Mode::Standard) {
         return Ok(value);
     }
-    JsonAst::parse(alloc, buf, Mode::Standard)?.into_scalar(alloc)
+    value_of_tree(alloc, buf, Mode::Standard)
 }
 
 /// Parses a whole text of extended JSON.
@@ -119,7 +119,23 @@ pub fn parse_value(alloc: Global, buf: &[u8]) -> Result<Value<'_>>
     if let Ok(value) = read_document::<Value>(alloc, buf, Mode::Extended) {
         return Ok(value);
     }
-    JsonAst::parse(alloc, buf, Mode::Extended)?.into_scalar(alloc)
+    value_of_tree(alloc, buf, Mode::Extended)
+}
+
+// The value of a text by way of its tree, where none was built at once: what is wrong with the text, or a scalar.
+// It is a call of its own, so that no room for a tree is made and cleared before each text.
+#[cold]
+#[inline(never)]
+fn value_of_tree(alloc: Global, buf: &[u8], mode: Mode) -> Result<Value<'_>>
+    ensures document { IfOk result (λ v. IsDocument (mode_of mode) buf.now (view v)) }
+    ensures only { IfOk result (λ v. (t : Tree) → IsDocument (mode_of mode) buf.now t → t ≡ view v) }
+    ensures refused { IfErr result (λ e. e ≢ Error.OutOfMemory → IsNoDocument (mode_of mode) buf.now) }
+    ensures memory { result ≡ Err Error.OutOfMemory → MayAllocate buf.now }
+    ensures errors { IfErr result IsTextRefusal }
+    ensures exact { Gives view result (document_of (mode_of mode) buf.now) }
+    ensures explained { IfErr result (IsExplained (mode_of mode) buf.now) }
+{
+    JsonAst::parse(alloc, buf, mode)?.into_scalar(alloc)
 }
 
 // What is built of a whole text.

@@ -92,7 +92,7 @@ pub refused_container : {A : Type 0} (Q : Type 0) (r : Result A Error) → IfErr
 refused_container Q (Ok x) h is = cc
 refused_container Q (Err e) h is = h.1
 
--- what holds of the tree holds of the value that is made of it
-pub value_has : {E : Type 0} (P : Tree → Type 0) (t : Tree) (r : Result Value E) → IfOk r (λ v. view v ≡ t) → P t → IfOk r (λ v. P (view v))
-value_has P t (Ok v) same p = subst P (sym same) p
-value_has P t (Err e) same p = tt
+-- what follows for each value follows for the one that is returned
+pub value_has : {E : Type 0} (P Q : Value → Type 0) (r : Result Value E) → ((v : Value) → P v → Q v) → IfOk r P → IfOk r Q
+value_has P Q (Ok v) then p = then v p
+value_has P Q (Err e) then p = tt

@@ -1,24 +1,20 @@
+use Rattle.jsonb_value.specs.Grammar.{IsDocument}
 use Rattle.jsonb_value.specs.Mode.{extended}
 use Rattle.jsonb_value.specs.Proper.{IsProper}
 use Rattle.jsonb_value.specs.Text.Range.{IsInRange}
 use Rattle.jsonb_value.specs.View.{view}
 use Rattle.jsonb_value.proofs.Trees.DocumentsInRange.{extended_in_range}
-use Rattle.jsonb.specs.AstView.{ast_view}
 use Rattle.jsonb.proofs.Documents.Agreement.{document_built}
 use Rattle.jsonb.proofs.Documents.Spellings.{document_unique}
-use Rattle.jsonb.proofs.Documents.Markers.{document_opened}
 use Rattle.jsonb.proofs.Containers.Values.{document_sound}
-use Rattle.jsonb.proofs.Steps.Outcomes.{refused_container, value_has}
+use Rattle.jsonb.proofs.Steps.Outcomes.{value_has}
 use Rattle.jsonb.proofs.parser.parse_value.Goals as goal
 
 pub returns-clause-in_range : goal.returns-clause-in_range
-returns-clause-in_range c = value_has IsInRange (ast_view c.in_ok-parse.field-0) c.into_scalar.result c.into_scalar.ensures.ok (extended_in_range c.args.buf.now _ c.in_ok-parse.ensures.document).0
+returns-clause-in_range c = value_has (λ v. IsDocument extended c.args.buf.now (view v)) (λ v. IsInRange (view v)) c.value_of_tree.result (λ v d. (extended_in_range c.args.buf.now (view v) d).0) c.value_of_tree.ensures.document
 
 pub returns-clause-proper : goal.returns-clause-proper
-returns-clause-proper c = value_has IsProper (ast_view c.in_ok-parse.field-0) c.into_scalar.result c.into_scalar.ensures.ok (extended_in_range c.args.buf.now _ c.in_ok-parse.ensures.document).1
-
-pub returns-clause-memory : goal.returns-clause-memory
-returns-clause-memory c = λ is. document_opened extended c.args.buf.now _ c.in_ok-parse.ensures.document (refused_container _ c.into_scalar.result c.into_scalar.ensures.memory is)
+returns-clause-proper c = value_has (λ v. IsDocument extended c.args.buf.now (view v)) (λ v. IsProper (view v)) c.value_of_tree.result (λ v d. (extended_in_range c.args.buf.now (view v) d).1) c.value_of_tree.ensures.document
 
 pub returns-in-Ok-clause-exact : goal.returns-in-Ok-clause-exact
 returns-in-Ok-clause-exact c =
