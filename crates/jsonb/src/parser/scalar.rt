@@ -42,16 +42,18 @@ fn begins_with(bytes: &[u8], word: &[u8]) -> bool
     bytes.len() >= word.len() && &bytes[..word.len()] == word
 }
 
-// Pushes a value, unless memory runs out.
+// Pushes a value, unless memory runs out. Room is made first: a push that may fail would give the value back, and the
+// place for that is cleared before each value.
 #[inline(always)]
 fn push<'a, V: Build<'a>>(items: &mut Vec<V>, value: V) -> Result<(), V::Failure>
     ensures items { IfOk result (λ _. items.new.items ≡ items.old.items ++ value ∷ []) }
     ensures memory { IfErr result (λ f. Tells (V.told f) Error.OutOfMemory) }
 {
-    match items.push(value) {
-        Ok(()) => Ok(()),
-        Err(_) => Err(V::failure(Error::OutOfMemory)),
+    if items.try_reserve(1).is_err() {
+        return Err(V::failure(Error::OutOfMemory));
     }
+    items.push_reserved(value);
+    Ok(())
 }
 
 impl<'a> Parser<'a> {
