@@ -4,4 +4,5 @@
 pub mod error;
 pub mod extension;
 pub mod number;
+pub mod parts;
 pub mod value;

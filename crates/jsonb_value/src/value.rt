@@ -7,8 +7,8 @@ mod into;
 mod laws;
 mod order;
 mod owned;
-mod sort_key;
-mod text;
+pub(crate) mod sort_key;
+pub(crate) mod text;
 
 use crate::extension::{Date, Interval, Timestamp, TimestampTz};
 use crate::number::Number;

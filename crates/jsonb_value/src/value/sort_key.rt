@@ -148,7 +148,7 @@ fn append_text(kind: u8, bytes: &[u8], buf: &mut Vec<u8>) -> Appended
 }
 
 // Appends a text and what closes it.
-fn append_closed(bytes: &[u8], buf: &mut Vec<u8>) -> Appended
+pub(crate) fn append_closed(bytes: &[u8], buf: &mut Vec<u8>) -> Appended
     ensures ok { OnOk result (buf.new.items ≡ buf.old.items ++ text_key bytes.now) }
     ensures kept { Extends buf.old.items buf.new.items }
     ensures full { OnErr result

@@ -273,7 +273,8 @@ fn append_quoted_interval(interval: &Interval, buf: &mut Vec<u8>) -> Appended
     buf.extend_from_slice(b"\"")
 }
 
-fn append_string(text: &str, buf: &mut Vec<u8>) -> Appended
+// Appends a string or a key in double quotes.
+pub(crate) fn append_string(text: &str, buf: &mut Vec<u8>) -> Appended
     ensures ok { OnOk result (buf.new.items ≡ buf.old.items ++ quoted_text text.now) }
     ensures utf8 { IsUtf8 text.now }
     ensures kept { Extends buf.old.items buf.new.items }
