@@ -1,0 +1,4 @@
+pub mod InOrder
+pub mod JsonKinds
+pub mod Listing
+pub mod Same

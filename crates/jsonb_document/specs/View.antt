@@ -1,0 +1,9 @@
+-- The tree of a `Document`.
+-- Read for: promises.
+use Rattle.jsonb_value.specs.Tree.{Tree}
+use Rattle.jsonb.specs.AstView.{ast_view}
+use Rattle.jsonb_document.specs.declared.document.Document.{Document}
+
+-- the tree that a `Document` stands for
+abbrev pub document_view : Document → Tree
+document_view d = ast_view d.tree
