@@ -16,6 +16,7 @@ ghost use Rattle.jsonb.specs.Line.{column_at, fault_index, line_at};
 ghost use Rattle.jsonb.specs.Parser.{mode_of, Gives, MayAllocate, IsTextRefusal};
 ghost use Rattle.jsonb.specs.Reading.Document.{document_of};
 ghost use Rattle.jsonb.specs.Refusals.{IsExplained};
+ghost use Rattle.jsonb_document.specs.View.{document_view};
 ghost use Rattle.jsonb_pointer.specs.Path.{IsPath, StartsKey};
 ghost use Rattle.jsonb_c.specs.Interface.{NumberChooses, code_number, nothing, sign, status_of, told, HasNoPartAt, HasPartAt, IsAccepted, IsNoDocumentOf, IsNoPath, IsOneRefused, IsOrdered, IsDocumentOf, IsKeyOf, IsKeyWritten, IsMessageOf, IsMessageWritten, IsPartAnswer, IsPartWritten, IsReason, IsRefused, IsTextOf, IsWritten, NeedsRoom, NeedsRoomForBoth, NeedsRoomForKey, NeedsRoomForMessage, NeedsRoomForPart, SaysError};
 
@@ -23,6 +24,7 @@ use jsonb::{
     Error, Mode, ParseErrorCode, Value, fault_index, line_and_column, parse_value,
     parse_value_standard_mode,
 };
+use jsonb_document::Document;
 use jsonb_pointer::{part_at, read_keys};
 use std::alloc::Global;
 use std::cmp::Ordering;
@@ -103,7 +105,7 @@ pub extern "C" fn vizhoniku_check(
     ensures refused { result ≡ REFUSED → IsRefused mode text.now 1 refusal.new }
     ensures nothing { result ≢ REFUSED → refusal.new ≡ nothing }
 {
-    match value_of(alloc, mode, text, 1) {
+    match document_in(alloc, mode, text, 1) {
         Ok(_) => {
             *refusal = NOTHING;
             ACCEPTED
@@ -363,7 +365,7 @@ fn part_of(alloc: Global, mode: u32, path: &[u8], text: &[u8]) -> Result<Part, R
         ⊎ HasPartAt mode path.now text.now }
     ensures reason { IfErr result (IsReason mode (IsRefused mode text.now 1)) }
 {
-    let held = value_of(alloc, mode, text, 1)?;
+    let held = value_of(alloc, mode, text)?;
     let Ok(spelled) = read_keys(alloc, path) else {
         return Err(Refused::OutOfMemory);
     };
@@ -501,11 +503,8 @@ fn message_of(alloc: Global, mode: u32, text: &[u8]) -> Result<Option<String>, R
     let Some(mode) = choose_mode(mode) else {
         return Err(Refused::UnknownMode);
     };
-    let error = match read(alloc, mode, text) {
-        Ok(value) => {
-            value.dismantle();
-            return Ok(None);
-        }
+    let error = match Document::parse(alloc, text, mode) {
+        Ok(_) => return Ok(None),
         Err(error) => error,
     };
     match words_of(alloc, &error) {
@@ -564,9 +563,9 @@ fn order_of(alloc: Global, mode: u32, left: &[u8], right: &[u8]) -> Result<Order
     ensures memory { result ≡ Err Refused.OutOfMemory → MayAllocate left.now
         ⊎ (IsAccepted mode left.now × MayAllocate right.now) }
 {
-    let first = value_of(alloc, mode, left, 1)?;
-    let second = value_of(alloc, mode, right, 2)?;
-    Ok(first.value.cmp(&second.value))
+    let first = document_in(alloc, mode, left, 1)?;
+    let second = document_in(alloc, mode, right, 2)?;
+    Ok(first.cmp(&second))
 }
 
 // The number of an order.
@@ -624,13 +623,13 @@ fn text_and_key_of(alloc: Global, mode: u32, text: &[u8]) -> Result<TextAndKey, 
     ensures reason { IfErr result (IsReason mode (IsRefused mode text.now 1)) }
     ensures memory { result ≡ Err Refused.OutOfMemory → MayAllocate text.now ⊎ IsAccepted mode text.now }
 {
-    let held = value_of(alloc, mode, text, 1)?;
+    let document = document_in(alloc, mode, text, 1)?;
     let mut bytes = Vec::new(alloc);
-    if held.value.write_text(&mut bytes).is_err() {
+    if document.write_text(&mut bytes).is_err() {
         return Err(Refused::OutOfMemory);
     }
     let mut key = Vec::new(alloc);
-    if held.value.write_sort_key(&mut key).is_err() {
+    if document.write_sort_key(&mut key).is_err() {
         return Err(Refused::OutOfMemory);
     }
     Ok(TextAndKey { text: bytes, key })
@@ -642,9 +641,9 @@ fn text_of(alloc: Global, mode: u32, text: &[u8]) -> Result<Vec<u8>, Refused>
     ensures reason { IfErr result (IsReason mode (IsRefused mode text.now 1)) }
     ensures memory { result ≡ Err Refused.OutOfMemory → MayAllocate text.now ⊎ IsAccepted mode text.now }
 {
-    let held = value_of(alloc, mode, text, 1)?;
+    let document = document_in(alloc, mode, text, 1)?;
     let mut bytes = Vec::new(alloc);
-    if held.value.write_text(&mut bytes).is_err() {
+    if document.write_text(&mut bytes).is_err() {
         return Err(Refused::OutOfMemory);
     }
     Ok(bytes)
@@ -656,12 +655,32 @@ fn sort_key_of(alloc: Global, mode: u32, text: &[u8]) -> Result<Vec<u8>, Refused
     ensures reason { IfErr result (IsReason mode (IsRefused mode text.now 1)) }
     ensures memory { result ≡ Err Refused.OutOfMemory → MayAllocate text.now ⊎ IsAccepted mode text.now }
 {
-    let held = value_of(alloc, mode, text, 1)?;
+    let document = document_in(alloc, mode, text, 1)?;
     let mut bytes = Vec::new(alloc);
-    if held.value.write_sort_key(&mut bytes).is_err() {
+    if document.write_sort_key(&mut bytes).is_err() {
         return Err(Refused::OutOfMemory);
     }
     Ok(bytes)
+}
+
+// The document that a text is, which is the first or the second of those that a call is given. No value is built.
+fn document_in<'a>(
+    alloc: Global,
+    mode: u32,
+    text: &'a [u8],
+    which: u32,
+) -> Result<Document<'a>, Refused>
+    ensures read { IfOk result (λ d. IsDocumentOf mode text.now (document_view d)) }
+    ensures reason { IfErr result (IsReason mode (IsRefused mode text.now which)) }
+    ensures memory { result ≡ Err Refused.OutOfMemory → MayAllocate text.now }
+{
+    let Some(mode) = choose_mode(mode) else {
+        return Err(Refused::UnknownMode);
+    };
+    match Document::parse(alloc, text, mode) {
+        Ok(document) => Ok(document),
+        Err(error) => Err(reason_of(&error, which)),
+    }
 }
 
 // A value that was read, which is dropped within little machine stack.
@@ -676,10 +695,10 @@ impl Drop for Held<'_> {
     }
 }
 
-// The value of a text, which is the first or the second of those that a call is given.
-fn value_of<'a>(alloc: Global, mode: u32, text: &'a [u8], which: u32) -> Result<Held<'a>, Refused>
+// The value of a text.
+fn value_of<'a>(alloc: Global, mode: u32, text: &'a [u8]) -> Result<Held<'a>, Refused>
     ensures read { IfOk result (λ held. IsDocumentOf mode text.now (view held.value)) }
-    ensures reason { IfErr result (IsReason mode (IsRefused mode text.now which)) }
+    ensures reason { IfErr result (IsReason mode (IsRefused mode text.now 1)) }
     ensures memory { result ≡ Err Refused.OutOfMemory → MayAllocate text.now }
 {
     let Some(mode) = choose_mode(mode) else {
@@ -687,7 +706,7 @@ fn value_of<'a>(alloc: Global, mode: u32, text: &'a [u8], which: u32) -> Result<
     };
     match read(alloc, mode, text) {
         Ok(value) => Ok(Held { value }),
-        Err(error) => Err(reason_of(&error, which)),
+        Err(error) => Err(reason_of(&error, 1)),
     }
 }
 

@@ -10,7 +10,8 @@ ghost use Rattle.jsonb.specs.Refusals.{IsExplained};
 ghost use Rattle.jsonb_cat.specs.Program.{WordsChoose, IsLineOf, LacksRoom, IsAccepted, IsAnswered};
 
 use jsonb::parser::Mode;
-use jsonb::{Error, Result, Value};
+use jsonb::{Error, Result};
+use jsonb_document::Document;
 use std::alloc::Global;
 use std::io;
 use std::io::{Read, Write};
@@ -35,18 +36,6 @@ pub fn choose_mode(words: &[String]) -> Option<Mode>
     }
 }
 
-// A value that was read, which is dropped within little machine stack.
-struct Held<'a> {
-    value: Value<'a>,
-}
-
-impl Drop for Held<'_> {
-    fn drop(self) {
-        let Held { value } = self;
-        value.dismantle();
-    }
-}
-
 /// Appends to `out` the text of the document that `input` is, and a line feed. After an error `out` holds what it held.
 #[tactic(auto, using(crate::proofs::TextOfDocument::document_has_text))]
 pub fn convert(alloc: Global, mode: Mode, input: &[u8], out: &mut Vec<u8>) -> Result<()>
@@ -63,13 +52,9 @@ pub fn convert(alloc: Global, mode: Mode, input: &[u8], out: &mut Vec<u8>) -> Re
     ensures again { OnOk result ((text : List ℕ) → out.new.items ≡ out.old.items ++ (text ++ 10 ∷ [])
         → (line : List ℕ) → IsLineOf (mode_of mode) text line ↔ (line ≡ text ++ 10 ∷ [])) }
 {
-    let value = match mode {
-        Mode::Standard => jsonb::parse_value_standard_mode(alloc, input)?,
-        Mode::Extended => jsonb::parse_value(alloc, input)?,
-    };
+    let document = Document::parse(alloc, input, mode)?;
     let old_len = out.len();
-    let held = Held { value };
-    held.value.write_text(out)?;
+    document.write_text(out)?;
     if out.push(b'\n').is_err() {
         out.truncate(old_len);
         return Err(Error::OutOfMemory);

@@ -6,8 +6,8 @@
 //! |---|---|
 //! | one text, which is accepted | `ok`, its tree, its serialized form in hexadecimal, and `same` or `differs` |
 //! | one text, which is rejected | `no` and the printed error, in hexadecimal |
-//! | two texts, which are accepted | `less`, `equal` or `greater` |
-//! | a text for its key | `ok`, the sort key in hexadecimal, and `differs` where the key's value isn't equal; or `no` as above |
+//! | two texts, which are accepted | `less`, `equal` or `greater`; `differs` where documents compare otherwise |
+//! | a text for its key | `ok`, the sort key in hexadecimal, and `differs` where the key's value isn't equal, or where a document's key is another; or `no` as above |
 //! | contents | `ok` and their text in hexadecimal, or `no` as above; and the offset that `parse_string` leaves |
 //! | one number | its text, `as_i128`, `as_i64`, `as_u64`, `to_i128`, `to_i64`, `to_u64`, `neg`, and its sort key |
 //! | two numbers | their order, their sum, difference, product and remainder |
@@ -16,11 +16,13 @@
 //! A cast that returns no number is `none`. An error of arithmetic is `no:` and the printed error, in hexadecimal.
 //!
 //! It is `same` where the parsed value is that of the tree, with the same variants of numbers and the same strings
-//! borrowed, and where its serialized form is parsed as an equal value with that serialized form.
+//! borrowed, where its serialized form is parsed as an equal value with that serialized form, and where a document, of
+//! which no value is built, has that serialized form too and becomes an equal value.
 
 use crate::same::are_same;
 use crate::{numbers, tree};
 use jsonb::{Error, JsonAst, Mode, Value};
+use jsonb_document::Document;
 use std::alloc::{AllocError, Global};
 use std::cmp::Ordering;
 
@@ -55,22 +57,25 @@ fn of_key(alloc: Global, text: &str) -> Result<String, AllocError> {
         return unknown(alloc);
     };
     match sort_key(alloc, &text) {
-        Ok((key, decodes)) => {
+        Ok((key, agrees)) => {
             let key = hex::encode(alloc, &key[..])?;
-            let difference = if decodes { "" } else { " differs" };
+            let difference = if agrees { "" } else { " differs" };
             format!(in alloc; "ok {key}{difference}")
         }
         Err(e) => refused(alloc, &e),
     }
 }
 
-// The sort key of a text's value, and whether the key is decoded as an equal value.
+// The sort key of a text's value, and whether the key is decoded as an equal value and is that of the document.
 fn sort_key(alloc: Global, text: &[u8]) -> jsonb::Result<(Vec<u8>, bool)> {
     let value = jsonb::parse_value(alloc, text)?;
     let mut key = Vec::new(alloc);
     value.write_sort_key(&mut key)?;
+    let mut same = Vec::new(alloc);
+    Document::parse(alloc, text, Mode::Extended)?.write_sort_key(&mut same)?;
     let decodes = is_key_of(alloc, &key, &value.to_owned_value(alloc)?);
-    Ok((key, decodes))
+    let agrees = decodes && key[..] == same[..];
+    Ok((key, agrees))
 }
 
 // Whether the key is decoded as an equal value.
@@ -117,9 +122,10 @@ fn two_texts(alloc: Global, mode: Mode, left: &str, right: &str) -> Result<Strin
         return unknown(alloc);
     };
     let word = match order(alloc, mode, &left, &right) {
-        Ok(Ordering::Less) => "less",
-        Ok(Ordering::Equal) => "equal",
-        Ok(Ordering::Greater) => "greater",
+        Ok(Some(Ordering::Less)) => "less",
+        Ok(Some(Ordering::Equal)) => "equal",
+        Ok(Some(Ordering::Greater)) => "greater",
+        Ok(None) => "differs",
         Err(_) => "unknown",
     };
     String::from_str(alloc, word)
@@ -132,15 +138,21 @@ fn read(alloc: Global, mode: Mode, text: &[u8]) -> jsonb::Result<Value<'_>> {
     }
 }
 
+// The order of two texts' values, or `None` where that of their documents is another.
 fn order<'a>(
     alloc: Global,
     mode: Mode,
     left: &'a [u8],
     right: &'a [u8],
-) -> jsonb::Result<Ordering> {
-    let left = read(alloc, mode, left)?;
-    let right = read(alloc, mode, right)?;
-    Ok(left.cmp(&right))
+) -> jsonb::Result<Option<Ordering>> {
+    let order = read(alloc, mode, left)?.cmp(&read(alloc, mode, right)?);
+    let first = Document::parse(alloc, left, mode)?;
+    let second = Document::parse(alloc, right, mode)?;
+    Ok(if first.cmp(&second) == order {
+        Some(order)
+    } else {
+        None
+    })
 }
 
 // The answer to a text that is read.
@@ -162,12 +174,32 @@ fn written(alloc: Global, mode: Mode, text: &[u8]) -> jsonb::Result<Vec<u8>> {
     Ok(written)
 }
 
-// Whether the value is that of the tree, what its text reads back as is equal to it, and the text is written again.
+// Whether the value is that of the tree and of the document, what its text reads back as is equal to it, and the text is
+// written again.
 fn agree<'a>(alloc: Global, mode: Mode, text: &'a [u8], written: &'a [u8]) -> jsonb::Result<bool> {
     let value = read(alloc, mode, text)?;
     let again = read(alloc, mode, written)?;
     let mut written_again = Vec::new(alloc);
     again.write_text(&mut written_again)?;
     let converted = JsonAst::parse(alloc, text, mode)?.into_value(alloc)?;
-    Ok(are_same(&converted, &value) && again == value && &written_again[..] == written)
+    Ok(
+        are_same(&converted, &value)
+            && again == value
+            && &written_again[..] == written
+            && document_agrees(alloc, mode, text, &value, written)?,
+    )
+}
+
+// Whether a document of the text has this serialized form, and becomes this value.
+fn document_agrees<'a>(
+    alloc: Global,
+    mode: Mode,
+    text: &'a [u8],
+    value: &Value<'a>,
+    written: &[u8],
+) -> jsonb::Result<bool> {
+    let document = Document::parse(alloc, text, mode)?;
+    let mut form = Vec::new(alloc);
+    document.write_text(&mut form)?;
+    Ok(&form[..] == written && are_same(&document.into_value(alloc)?, value))
 }

@@ -7,7 +7,8 @@ ghost use Rattle.jsonb.specs.Text.{text_of};
 ghost use Rattle.jsonb.specs.Tree.{Tree};
 ghost use Rattle.jsonb_pretty.specs.Indented.{indented};
 
-use jsonb::{Error, Result, Value};
+use jsonb::{Error, Mode, Result, Value};
+use jsonb_document::Document;
 use jsonb_pretty::write_text_indented;
 use std::alloc::Global;
 
@@ -15,9 +16,9 @@ use std::alloc::Global;
 pub fn tidied(alloc: Global, text: &[u8]) -> Result<Vec<u8>>
     ensures { IfOk result (λ out. (t : Tree) × IsDocument extended text.now t × (text_of t ≡ Some out.items)) }
 {
-    let value = jsonb::parse_value(alloc, text)?;
+    let document = Document::parse(alloc, text, Mode::Extended)?;
     let mut out = Vec::new(alloc);
-    value.write_text(&mut out)?;
+    document.write_text(&mut out)?;
     Ok(out)
 }
 

@@ -3,6 +3,7 @@
 //! printed of the refusal.
 
 use jsonb::{Error, JsonAst, Mode, Result, Value};
+use jsonb_document::Document;
 use std::alloc::Global;
 use std::borrow::CowStr;
 use std::io;
@@ -38,6 +39,9 @@ pub fn report<W: Write>(alloc: Global, line: &str, out: &mut W) -> io::Result<()
     say(out, "clone", &clone(alloc, mode, &text))?;
     say(out, "owned", &owned(alloc, mode, &text))?;
     say(out, "tree_clone", &tree_clone(alloc, mode, &text))?;
+    say(out, "document", &document(alloc, mode, &text))?;
+    say(out, "document_key", &document_key(alloc, mode, &text))?;
+    say(out, "document_value", &document_value(alloc, mode, &text))?;
     say(out, "keys", &keys(alloc, mode, &text))?;
     say(out, "without_room", &without_room(alloc, mode, &text))?;
     say(out, "with_room", &with_room(alloc, mode, &text))?;
@@ -87,6 +91,42 @@ fn tree_clone(alloc: Global, mode: Mode, text: &[u8]) -> Result<Vec<u8>> {
     written(alloc, &tree.into_value(alloc)?)
 }
 
+// A document's text, behind what the buffer held. Where it found no room, the buffer holds that and nothing else.
+fn document(alloc: Global, mode: Mode, text: &[u8]) -> Result<Vec<u8>> {
+    let document = Document::parse(alloc, text, mode)?;
+    let mut buffer = Vec::from_slice(alloc, b"x")?;
+    let done = document.write_text(&mut buffer);
+    kept(alloc, done, buffer)
+}
+
+// The same of its sort key, in hexadecimal.
+fn document_key(alloc: Global, mode: Mode, text: &[u8]) -> Result<Vec<u8>> {
+    let document = Document::parse(alloc, text, mode)?;
+    let mut buffer = Vec::from_slice(alloc, b"x")?;
+    let done = document.write_sort_key(&mut buffer);
+    let key = kept(alloc, done, buffer)?;
+    let key = hex::encode(alloc, &key[..])?;
+    Ok(Vec::from_slice(alloc, key.as_bytes())?)
+}
+
+fn kept(alloc: Global, done: Result<()>, buffer: Vec<u8>) -> Result<Vec<u8>> {
+    match done {
+        Err(_) if &buffer[..] != b"x".as_slice() => Ok(Vec::from_slice(
+            alloc,
+            b"the buffer has changed",
+        )?),
+        Err(e) => Err(e),
+        Ok(()) => Ok(buffer),
+    }
+}
+
+fn document_value(alloc: Global, mode: Mode, text: &[u8]) -> Result<Vec<u8>> {
+    written(
+        alloc,
+        &Document::parse(alloc, text, mode)?.into_value(alloc)?,
+    )
+}
+
 fn keys(alloc: Global, mode: Mode, text: &[u8]) -> Result<Vec<u8>> {
     match read(alloc, mode, text)?.object_keys(alloc)? {
         Some(keys) => written(alloc, &keys),
@@ -98,14 +138,8 @@ fn keys(alloc: Global, mode: Mode, text: &[u8]) -> Result<Vec<u8>> {
 fn without_room(alloc: Global, mode: Mode, text: &[u8]) -> Result<Vec<u8>> {
     let value = read(alloc, mode, text)?;
     let mut buffer = Vec::from_slice(alloc, b"x")?;
-    match value.write_text(&mut buffer) {
-        Err(_) if &buffer[..] != b"x".as_slice() => Ok(Vec::from_slice(
-            alloc,
-            b"the buffer has changed",
-        )?),
-        Err(e) => Err(e),
-        Ok(()) => Ok(buffer),
-    }
+    let done = value.write_text(&mut buffer);
+    kept(alloc, done, buffer)
 }
 
 // Where there is room, no memory is asked for.
