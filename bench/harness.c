@@ -17,7 +17,7 @@
  *
  * With NO_COUNTER set it opens no counter. PREFIX is what the names of the measured library's functions begin with.
  * WITH_EXTENDED is defined where the library reads extended mode, WITH_AST where it reads into trees, WITH_SORT_KEY where
- * it writes sort keys, WITH_REJECT where it tells how often it rejects a text, and WITH_MEMORY where memory.c is linked, as
+ * it writes sort keys, WITH_DOCUMENT where it writes texts and sort keys with no value between, WITH_REJECT where it tells how often it rejects a text, and WITH_MEMORY where memory.c is linked, as
  * --peak needs it and as the times must not have it.
  * WITHOUT_VALUES is defined where it compares and clones no values, and WITH_READ_WRITE where it writes only what it has
  * just read. */
@@ -62,6 +62,9 @@ operation_t JOIN(PREFIX, read_ast);
 #ifdef WITH_SORT_KEY
 operation_t JOIN(PREFIX, sort_key);
 #endif
+#ifdef WITH_DOCUMENT
+operation_t JOIN(PREFIX, document_text), JOIN(PREFIX, document_key);
+#endif
 
 /* An operation that does not only read still reads the text where there is no round at all. So its cost is what more
  * rounds cost than none. */
@@ -75,6 +78,10 @@ static const struct operation { const char *name; operation_t *run; int only_rea
 #endif
 #ifdef WITH_AST
   { "read_ast", JOIN(PREFIX, read_ast), 1, ".json" },
+#endif
+#ifdef WITH_DOCUMENT
+  { "document_text", JOIN(PREFIX, document_text), 1, ".json" },
+  { "document_key", JOIN(PREFIX, document_key), 1, ".json" },
 #endif
 #ifdef WITH_READ_WRITE
   { "read_write", JOIN(PREFIX, read_write), 1, ".json" },

@@ -11,6 +11,7 @@ ghost use Rattle.jsonb_value.specs.Mode.{standard, extended};
 ghost use Rattle.jsonb_value.specs.Tree.{Tree};
 
 use jsonb::{JsonAst, Mode, parse_value, parse_value_standard_mode};
+use jsonb_document::Document;
 use jsonb_value::error::Error;
 use std::alloc::Global;
 
@@ -75,6 +76,48 @@ pub extern "C" fn jsonb_bench_read_ast(alloc: Global, text: &[u8], rounds: usize
 {
     for round in 0..rounds {
         if JsonAst::parse(alloc, text, Mode::Standard).is_err() {
+            return round;
+        }
+    }
+    rounds
+}
+
+/// Parses the text as standard JSON and writes its serialized form `rounds` times into one buffer, with no value built.
+/// The answer is how many rounds went well before the first that did not.
+#[unsafe(no_mangle)]
+pub extern "C" fn jsonb_bench_document_text(alloc: Global, text: &[u8], rounds: usize) -> usize
+    ensures most { result ≤ rounds }
+    // Nothing goes well with a text that is no document.
+    ensures refused { IsNoDocument standard text.now → result ≡ 0 }
+{
+    let mut written = Vec::new(alloc);
+    for round in 0..rounds {
+        written.clear();
+        let Ok(document) = Document::parse(alloc, text, Mode::Standard) else {
+            return round;
+        };
+        if document.write_text(&mut written).is_err() {
+            return round;
+        }
+    }
+    rounds
+}
+
+/// Parses the text as standard JSON and writes its sort key `rounds` times into one buffer, with no value built. The
+/// answer is how many rounds went well before the first that did not.
+#[unsafe(no_mangle)]
+pub extern "C" fn jsonb_bench_document_key(alloc: Global, text: &[u8], rounds: usize) -> usize
+    ensures most { result ≤ rounds }
+    // Nothing goes well with a text that is no document.
+    ensures refused { IsNoDocument standard text.now → result ≡ 0 }
+{
+    let mut key = Vec::new(alloc);
+    for round in 0..rounds {
+        key.clear();
+        let Ok(document) = Document::parse(alloc, text, Mode::Standard) else {
+            return round;
+        };
+        if document.write_sort_key(&mut key).is_err() {
             return round;
         }
     }
