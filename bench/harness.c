@@ -5,8 +5,8 @@
  *                                nanoseconds of one pass over the file, and its instructions, or - where they can't be counted
  *   harness --has-counter        succeeds where instructions can be counted here
  *   harness --time FILE..        prints the same lines with the processor's time: the median of a pass, and in the place of
- *                                instructions the page faults of all passes that were timed; of reading, writing, comparing
- *                                and cloning alone
+ *                                instructions the page faults of all passes that were timed; of reading, of writing with
+ *                                and with no value between, of comparing and of cloning alone
  *   harness --pass OP N FILE     makes one pass over the file with N rounds of the operation on each document, for a tool
  *                                that counts from outside
  *   harness --peak FILE..        prints a line for each file: the file, the word peak, how many bytes, the bytes of heap that
@@ -17,8 +17,9 @@
  *
  * With NO_COUNTER set it opens no counter. PREFIX is what the names of the measured library's functions begin with.
  * WITH_EXTENDED is defined where the library reads extended mode, WITH_AST where it reads into trees, WITH_SORT_KEY where
- * it writes sort keys, WITH_DOCUMENT where it writes texts and sort keys with no value between, WITH_REJECT where it tells how often it rejects a text, and WITH_MEMORY where memory.c is linked, as
- * --peak needs it and as the times must not have it.
+ * it writes sort keys, WITH_DOCUMENT where it writes texts and sort keys with no value between, WITH_REJECT where it tells
+ * how often it rejects a text, and WITH_MEMORY where memory.c is linked, as --peak needs it and as the times must not have
+ * it.
  * WITHOUT_VALUES is defined where it compares and clones no values, and WITH_READ_WRITE where it writes only what it has
  * just read. */
 #define _GNU_SOURCE
@@ -191,7 +192,7 @@ static long page_faults(void) {
 
 /* The operations that are timed beside another library's. */
 static int is_timed(const struct operation *operation) {
-  static const char *const names[] = { "read", "write", "compare", "clone" };
+  static const char *const names[] = { "read", "document_text", "write", "compare", "clone" };
   for (size_t i = 0; i < sizeof names / sizeof *names; i++)
     if (!strcmp(operation->name, names[i])) return 1;
   return 0;
