@@ -1,0 +1,33 @@
+"""Texts in tables: strings with an escape at each place, and documents with each byte replaced by each byte."""
+
+import itertools
+
+# A string of letters of each length, past two vectors of 32 bytes: with an escape at each place or with none, closed or
+# cut off, in either quote.
+LENGTHS = range(71)
+ESCAPE = b"\\n"
+
+# Each byte of these is replaced by each byte.
+DOCUMENTS = [b"{b:'x', a:+007}", b"[1/*a*/,//b\n2] //c", b'"\\uD834\\u{DD1E}\\n\\\\"', b"[-1.50,0x1F,+.5,00.]"]
+
+
+def bodies():
+    for length in LENGTHS:
+        yield b"a" * length
+        for before in range(length + 1):
+            yield b"a" * before + ESCAPE + b"a" * (length - before)
+
+
+def strings():
+    for body, quote in itertools.product(bodies(), (b'"', b"'")):
+        yield quote + body
+        yield quote + body + quote
+
+
+def replaced(document):
+    for place, byte in itertools.product(range(len(document)), range(256)):
+        yield document[:place] + bytes((byte,)) + document[place + 1:]
+
+
+def texts():
+    return itertools.chain(strings(), *map(replaced, DOCUMENTS))
