@@ -92,7 +92,7 @@ impl<'a> Parser<'a> {
             return Err(failure);
         }
         let Some(mut frame) = stack.pop() else {
-            return Err(V::failure(Error::OutOfMemory));
+            unreachable!();
         };
         finish::<V>(self.alloc, &mut frame)?;
         Ok(frame_value::<V>(frame))
@@ -139,6 +139,7 @@ impl<'a> Parser<'a> {
             → ElseFails V.told result whole (AtPart V.sees V.names V.holds whole self.new stack.new.items) }
         ensures onward { IfOk result (λ closed. self.old.idx < self.new.idx) }
         ensures depth { IfOk result (λ closed. length stack.new.items ≤ max_depth) }
+        ensures open { IfOk result (λ closed. 0 < length stack.new.items) }
         ensures advances { Advances self.old self.new }
     {
         if stack.len() == MAX_DEPTH {
@@ -175,6 +176,7 @@ impl<'a> Parser<'a> {
         stack: &mut Vec<FrameOf<'a, V>>,
         text: &'a str,
     ) -> Result<bool, V::Failure>
+        requires open { 0 < length stack.old.items }
         requires depth { length stack.old.items ≤ max_depth }
         requires inside { self.old.idx ≤ size_of self.old }
         requires same { text.now ≡ take (length text.now) self.old.buf.now }
@@ -182,10 +184,11 @@ impl<'a> Parser<'a> {
             → ElseFails V.told result whole (AtPart V.sees V.names V.holds whole self.new stack.new.items) }
         ensures onward { IfOk result (λ closed. self.old.idx < self.new.idx) }
         ensures depth { IfOk result (λ closed. length stack.new.items ≤ max_depth) }
+        ensures open { IfOk result (λ closed. 0 < length stack.new.items) }
         ensures advances { Advances self.old self.new }
     {
         let Some(frame) = stack.last_mut() else {
-            return Err(V::failure(Error::OutOfMemory));
+            unreachable!();
         };
         if self.fill::<V>(frame, text)? {
             return Ok(true);
@@ -374,20 +377,22 @@ impl<'a> Parser<'a> {
         &mut self,
         stack: &mut Vec<FrameOf<'a, V>>,
     ) -> Result<bool, V::Failure>
+        requires open { 1 < length stack.old.items }
         requires depth { length stack.old.items ≤ max_depth }
         requires inside { self.old.idx ≤ size_of self.old }
         ensures reads { (whole : Read Source) → AtPart V.sees V.names V.holds whole self.old stack.old.items true
             → ElseFails V.told result whole (AtPart V.sees V.names V.holds whole self.new stack.new.items) }
         ensures onward { IfOk result (λ closed. self.old.idx < self.new.idx) }
         ensures depth { IfOk result (λ closed. length stack.new.items ≤ max_depth) }
+        ensures open { IfOk result (λ closed. 0 < length stack.new.items) }
         ensures advances { Advances self.old self.new }
     {
         let Some(mut inner) = stack.pop() else {
-            return Err(V::failure(Error::OutOfMemory));
+            unreachable!();
         };
         finish::<V>(self.alloc, &mut inner)?;
         let Some(outer) = stack.last_mut() else {
-            return Err(V::failure(Error::OutOfMemory));
+            unreachable!();
         };
         match outer {
             Frame::Array(items) => {

@@ -19,6 +19,7 @@ turns-init g c =
     let p = c.args.self.now in
     record {
       inside = c.open_container.ensures.advances.inside c.requires.inside;
+      open-stack = c.in_ok-closed.ensures.open;
       depth = c.in_ok-closed.ensures.depth;
       advances = c.open_container.ensures.advances;
       ahead = c.in_ok-closed.ensures.reads (read_at (λ size mode. value_at size mode max_depth) p) (outermost_due g.V.Build.sees g.V.Build.names g.V.Build.holds p c.args.stack.now.items c.requires.none);

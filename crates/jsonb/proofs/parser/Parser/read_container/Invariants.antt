@@ -1,4 +1,4 @@
-use Rattle.std.proofs.Common.{◌-◌, ◌≤◌, length}
+use Rattle.std.proofs.Common.{◌-◌, ◌<◌, ◌≤◌, length}
 use Rattle.jsonb_value.specs.Grammar.{max_depth}
 use Rattle.jsonb.specs.Frames.{AtPart}
 use Rattle.jsonb_scan.specs.Answer.{mode_of}
@@ -11,6 +11,7 @@ abbrev pub invariant-turns : goal.invariant-turns
 invariant-turns g l =
     let p = l.fn.self in record {
       inside : l.self.idx ≤ size_of l.self;
+      open-stack : 0 < length l.stack.items;
       depth : length l.stack.items ≤ max_depth;
       advances : Advances p l.self;
       ahead : AtPart g.V.Build.sees g.V.Build.names g.V.Build.holds (value_at (size_of p) (mode_of p.mode) max_depth (rest_of p)) l.self l.stack.items l.closed;
