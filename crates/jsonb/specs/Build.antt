@@ -3,11 +3,14 @@
 use Rattle.std.specs.Prelude.{◌≡◌, ℕ, ◌-◌, List, [], ◌∷◌, length, map, Option, Some, None, Result, Ok, Err, String, string_bytes}
 use Rattle.std.specs.declared.alloc.Global.{Global}
 use Rattle.jsonb_value.specs.declared.error.Error.{Error}
+use Rattle.jsonb_value.specs.declared.error.Error.TheVariants.{OutOfMemory}
 use Rattle.jsonb_value.specs.declared.value.Value.{Value}
 use Rattle.jsonb_value.specs.Grammar.{AreDistinct, IsNew}
 use Rattle.jsonb_value.specs.Tree.{Mark, Num, Tree, put_all}
 use Rattle.jsonb_value.specs.Tree.Members.{no_members}
 use Rattle.jsonb_value.specs.View.{members_view}
+use Rattle.jsonb.specs.declared.parser.build.value.NotBuilt.{NotBuilt}
+use Rattle.jsonb.specs.declared.parser.build.value.NotBuilt.TheVariants as not_built
 use Rattle.jsonb_scan.specs.Answer.{Fails}
 use Rattle.jsonb_scan.specs.Reading.{Fault, Read}
 use Rattle.jsonb_scan.specs.Source.{Source, Found, member_of, number_source, source_alone, spot_of}
@@ -38,6 +41,11 @@ Builds {X} {F} {Y} told Sees result read rest =
 abbrev pub BuildsAll : {X F Y : Type 0} → (F → Option Error) → (X → Y → Type 0) → Result X F → Result Y Fault → Type 0
 BuildsAll {X} {F} {Y} told Sees result read =
     ElseFails told result read (λ x. (y : Y) × Sees x y × (read ≡ Ok y))
+
+-- What is told of a value that was not built. Of a fault nothing is: the `JsonAst` of the text tells it.
+abbrev pub told_of : NotBuilt → Option Error
+told_of not_built.Fault = None
+told_of not_built.OutOfMemory = Some OutOfMemory
 
 -- ---- what is built
 

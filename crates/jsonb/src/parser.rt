@@ -16,7 +16,7 @@ ghost use Rattle.jsonb_scan.specs.Reading.Blank.{skip_closed_blanks};
 ghost use Rattle.jsonb_scan.specs.Reading.Document.{at_end, comment_at, document_of, source_from, source_of};
 ghost use Rattle.jsonb.specs.Refusals.{IsExplained};
 ghost use Rattle.jsonb_scan.specs.Source.{Source};
-ghost use Rattle.jsonb.specs.Build.{BuildsAll};
+ghost use Rattle.jsonb.specs.Build.{BuildsAll, told_of};
 
 mod ast;
 mod blank;
@@ -30,7 +30,7 @@ mod string;
 mod value;
 
 pub use ast::JsonAst;
-use build::Build;
+use build::{Build, NotBuilt};
 pub use jsonb_scan::parser::{Mode, modes_compare};
 use jsonb_value::error::{Error, ParseErrorCode, Result};
 use jsonb_value::value::Value;
@@ -76,10 +76,10 @@ pub fn parse_value_standard_mode(alloc: Global, buf: &[u8]) -> Result<Value<'_>>
     // Each standard document is an extended one, of the same value.
     ensures extended { IfOk result (λ v. (u : Tree) × IsDocument extended buf.now u × Same u (view v)) }
 {
-    if let Ok(value) = read_document::<Value>(alloc, buf, Mode::Standard) {
-        return Ok(value);
+    match read_document::<Value>(alloc, buf, Mode::Standard) {
+        Ok(value) => Ok(value),
+        Err(failure) => value_of_tree(alloc, buf, Mode::Standard, failure),
     }
-    value_of_tree(alloc, buf, Mode::Standard)
 }
 
 /// Parses a whole text of extended JSON.
@@ -116,17 +116,18 @@ pub fn parse_value(alloc: Global, buf: &[u8]) -> Result<Value<'_>>
     ensures in_range { IfOk result (λ v. IsInRange (view v)) }
     ensures proper { IfOk result (λ v. IsProper (view v)) }
 {
-    if let Ok(value) = read_document::<Value>(alloc, buf, Mode::Extended) {
-        return Ok(value);
+    match read_document::<Value>(alloc, buf, Mode::Extended) {
+        Ok(value) => Ok(value),
+        Err(failure) => value_of_tree(alloc, buf, Mode::Extended, failure),
     }
-    value_of_tree(alloc, buf, Mode::Extended)
 }
 
-// The value of a text by way of its tree, where none was built at once: what is wrong with the text, or a scalar.
-// It is a call of its own, so that no room for a tree is made and cleared before each text.
+// What is returned of a text where no value was built at once: what is wrong with it, as its tree tells. It is a call of
+// its own, so that no room for a tree is made and cleared before each text.
 #[cold]
 #[inline(never)]
-fn value_of_tree(alloc: Global, buf: &[u8], mode: Mode) -> Result<Value<'_>>
+fn value_of_tree(alloc: Global, buf: &[u8], mode: Mode, failure: NotBuilt) -> Result<Value<'_>>
+    requires { told_of failure ≡ Some Error.OutOfMemory → MayAllocate buf.now }
     ensures document { IfOk result (λ v. IsDocument (mode_of mode) buf.now (view v)) }
     ensures only { IfOk result (λ v. (t : Tree) → IsDocument (mode_of mode) buf.now t → t ≡ view v) }
     ensures refused { IfErr result (λ e. e ≢ Error.OutOfMemory → IsNoDocument (mode_of mode) buf.now) }
@@ -135,7 +136,10 @@ fn value_of_tree(alloc: Global, buf: &[u8], mode: Mode) -> Result<Value<'_>>
     ensures exact { Gives view result (document_of (mode_of mode) buf.now) }
     ensures explained { IfErr result (IsExplained (mode_of mode) buf.now) }
 {
-    JsonAst::parse(alloc, buf, mode)?.into_scalar(alloc)
+    match failure {
+        NotBuilt::OutOfMemory => Err(Error::OutOfMemory),
+        NotBuilt::Fault => JsonAst::parse(alloc, buf, mode)?.into_value(alloc),
+    }
 }
 
 // What is built of a whole text.

@@ -16,7 +16,7 @@ use jsonb_value::error::Error;
 use jsonb_value::number::Number;
 use std::alloc::Global;
 use std::borrow::CowStr;
-pub(super) use value::put_member;
+pub(super) use value::{NotBuilt, put_member};
 
 // What the parser builds: values of one type, with the keys and members of objects that are open.
 pub(super) trait Build<'a>: Drop + Sized {

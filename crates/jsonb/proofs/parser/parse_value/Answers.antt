@@ -10,11 +10,11 @@ use Rattle.jsonb.proofs.Containers.Values.{document_sound}
 use Rattle.jsonb.proofs.Steps.Outcomes.{value_has}
 use Rattle.jsonb.proofs.parser.parse_value.Goals as goal
 
-pub returns-clause-in_range : goal.returns-clause-in_range
-returns-clause-in_range c = value_has (λ v. IsDocument extended c.args.buf.now (view v)) (λ v. IsInRange (view v)) c.value_of_tree.result (λ v d. (extended_in_range c.args.buf.now (view v) d).0) c.value_of_tree.ensures.document
+pub returns-in-Err-clause-in_range : goal.returns-in-Err-clause-in_range
+returns-in-Err-clause-in_range c = value_has (λ v. IsDocument extended c.args.buf.now (view v)) (λ v. IsInRange (view v)) c.value_of_tree.result (λ v d. (extended_in_range c.args.buf.now (view v) d).0) c.value_of_tree.ensures.document
 
-pub returns-clause-proper : goal.returns-clause-proper
-returns-clause-proper c = value_has (λ v. IsDocument extended c.args.buf.now (view v)) (λ v. IsProper (view v)) c.value_of_tree.result (λ v d. (extended_in_range c.args.buf.now (view v) d).1) c.value_of_tree.ensures.document
+pub returns-in-Err-clause-proper : goal.returns-in-Err-clause-proper
+returns-in-Err-clause-proper c = value_has (λ v. IsDocument extended c.args.buf.now (view v)) (λ v. IsProper (view v)) c.value_of_tree.result (λ v d. (extended_in_range c.args.buf.now (view v) d).1) c.value_of_tree.ensures.document
 
 pub returns-in-Ok-clause-exact : goal.returns-in-Ok-clause-exact
 returns-in-Ok-clause-exact c =

@@ -13,14 +13,14 @@ use Rattle.jsonb.proofs.Containers.Values.{document_sound}
 use Rattle.jsonb.proofs.Steps.Outcomes.{value_has}
 use Rattle.jsonb.proofs.parser.parse_value_standard_mode.Goals as goal
 
-pub returns-clause-in_range : goal.returns-clause-in_range
-returns-clause-in_range c = value_has (λ v. IsDocument standard c.args.buf.now (view v)) (λ v. IsIntegerRange (view v)) c.value_of_tree.result (λ v d. (standard_in_range c.args.buf.now (view v) d).0) c.value_of_tree.ensures.document
+pub returns-in-Err-clause-in_range : goal.returns-in-Err-clause-in_range
+returns-in-Err-clause-in_range c = value_has (λ v. IsDocument standard c.args.buf.now (view v)) (λ v. IsIntegerRange (view v)) c.value_of_tree.result (λ v d. (standard_in_range c.args.buf.now (view v) d).0) c.value_of_tree.ensures.document
 
-pub returns-clause-proper : goal.returns-clause-proper
-returns-clause-proper c = value_has (λ v. IsDocument standard c.args.buf.now (view v)) (λ v. IsProper (view v)) c.value_of_tree.result (λ v d. (standard_in_range c.args.buf.now (view v) d).1) c.value_of_tree.ensures.document
+pub returns-in-Err-clause-proper : goal.returns-in-Err-clause-proper
+returns-in-Err-clause-proper c = value_has (λ v. IsDocument standard c.args.buf.now (view v)) (λ v. IsProper (view v)) c.value_of_tree.result (λ v d. (standard_in_range c.args.buf.now (view v) d).1) c.value_of_tree.ensures.document
 
-pub returns-clause-extended : goal.returns-clause-extended
-returns-clause-extended c = value_has (λ v. IsDocument standard c.args.buf.now (view v)) (λ v. (u : Tree) × IsDocument extended c.args.buf.now u × Same u (view v)) c.value_of_tree.result (λ v d. standard_is_extended c.args.buf.now (view v) d) c.value_of_tree.ensures.document
+pub returns-in-Err-clause-extended : goal.returns-in-Err-clause-extended
+returns-in-Err-clause-extended c = value_has (λ v. IsDocument standard c.args.buf.now (view v)) (λ v. (u : Tree) × IsDocument extended c.args.buf.now u × Same u (view v)) c.value_of_tree.result (λ v d. standard_is_extended c.args.buf.now (view v) d) c.value_of_tree.ensures.document
 
 pub returns-in-Ok-clause-exact : goal.returns-in-Ok-clause-exact
 returns-in-Ok-clause-exact c =

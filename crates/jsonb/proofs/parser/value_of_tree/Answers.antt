@@ -3,5 +3,5 @@ use Rattle.jsonb.proofs.Documents.Markers.{document_opened}
 use Rattle.jsonb.proofs.Steps.Outcomes.{refused_container}
 use Rattle.jsonb.proofs.parser.value_of_tree.Goals as goal
 
-pub returns-clause-memory : goal.returns-clause-memory
-returns-clause-memory c = λ is. document_opened (mode_of c.args.mode) c.args.buf.now _ c.in_ok-parse.ensures.document (refused_container _ c.into_scalar.result c.into_scalar.ensures.memory is)
+pub returns-in_ok-parse-in-Fault-clause-memory : goal.returns-in_ok-parse-in-Fault-clause-memory
+returns-in_ok-parse-in-Fault-clause-memory c = λ is. document_opened (mode_of c.args.mode) c.args.buf.now _ c.in_ok-parse-in-Fault.ensures.document (refused_container _ c.into_value.result c.into_value.ensures.memory is)

@@ -26,20 +26,6 @@ impl<'a> JsonAst<'a> {
     {
         build(alloc, self)
     }
-
-    // The value of a tree that holds no others. An array or an object, of which no value was built, asked for
-    // memory that there wasn't.
-    #[cold]
-    #[inline(never)]
-    pub(in crate::parser) fn into_scalar(self, alloc: Global) -> Result<Value<'a>>
-        ensures ok { IfOk result (λ v. view v ≡ ast_view self.entry) }
-        ensures memory { IfErr result (λ e. (e ≡ Error.OutOfMemory) × IsContainer (ast_view self.entry)) }
-    {
-        match self {
-            JsonAst::Array(_) | JsonAst::Object(_) => Err(Error::OutOfMemory),
-            scalar => build(alloc, scalar),
-        }
-    }
 }
 
 // Inlined into the loops, so that only containers are calls there.

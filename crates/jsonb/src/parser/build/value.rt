@@ -1,12 +1,12 @@
-//! A `Value` is built with no `JsonAst` between, and tells no fault: where it isn't built, the text may still be a
-//! document, and is parsed again as a `JsonAst`.
+//! A `Value` is built with no `JsonAst` between, and tells no fault: where it isn't built and memory didn't run out,
+//! the text is parsed again as a `JsonAst`.
 ghost use Rattle.std.specs.Prelude.{◌≡◌, List, [], false, None, Ok, MatchBool, MatchResult, IfOk, OnOk, string_bytes};
 ghost use Rattle.std.specs.BTreeMap.{insert_entry, is_at};
 ghost use Rattle.std.specs.Map.{lookup};
 ghost use Rattle.std.specs.String.{string_cmp};
 ghost use Rattle.jsonb_value.specs.Tree.Tree.{object};
 ghost use Rattle.jsonb_value.specs.View.{members_view, view};
-ghost use Rattle.jsonb.specs.Build.{AreSeen, MapHolds, Tells};
+ghost use Rattle.jsonb.specs.Build.{AreSeen, MapHolds, Tells, told_of};
 ghost use Rattle.jsonb_scan.specs.Source.{Source, array_source_of, tree_of_source};
 
 use super::Build;
@@ -16,9 +16,13 @@ use jsonb_value::value::{Object, Value};
 use std::alloc::{AllocError, AllocFailed, Global};
 use std::borrow::CowStr;
 
-// No value was built: the text has a fault, or memory ran out.
+// Why no value was built.
 #[derive(Drop)]
-pub(in crate::parser) struct NotBuilt;
+pub(in crate::parser) enum NotBuilt {
+    // The text has a fault, which its `JsonAst` tells.
+    Fault,
+    OutOfMemory,
+}
 
 impl<'a> Build<'a> for Value<'a> {
     type Failure = NotBuilt;
@@ -35,13 +39,17 @@ impl<'a> Build<'a> for Value<'a> {
 
     ghost completes = { λ ms s. object (members_view ms.entries) ≡ tree_of_source s };
 
-    ghost told = { λ f. None };
+    ghost told = { told_of };
 
     #[inline(always)]
     fn failure(error: Error) -> NotBuilt
-        ensures { Tells None error }
+        ensures { Tells (told_of result) error }
     {
-        NotBuilt
+        if matches!(&error, Error::OutOfMemory) {
+            NotBuilt::OutOfMemory
+        } else {
+            NotBuilt::Fault
+        }
     }
 
     #[inline(always)]
@@ -77,7 +85,7 @@ impl<'a> Build<'a> for Value<'a> {
     #[inline(always)]
     fn borrowed_key(alloc: Global, text: &'a str, after: usize) -> Result<String, NotBuilt> {
         let Ok(name) = String::from_str(alloc, text) else {
-            return Err(NotBuilt);
+            return Err(NotBuilt::OutOfMemory);
         };
         Ok(name)
     }
@@ -85,7 +93,7 @@ impl<'a> Build<'a> for Value<'a> {
     #[inline(always)]
     fn key(alloc: Global, text: CowStr<'a>, after: usize) -> Result<String, NotBuilt> {
         let Ok(name) = text.into_owned(alloc) else {
-            return Err(NotBuilt);
+            return Err(NotBuilt::OutOfMemory);
         };
         Ok(name)
     }
@@ -106,10 +114,10 @@ impl<'a> Build<'a> for Value<'a> {
     #[inline(always)]
     fn insert(members: &mut Object<'a>, key: String, value: Self) -> Result<(), NotBuilt> {
         let Ok(is_new) = put_member(members, key, value) else {
-            return Err(NotBuilt);
+            return Err(NotBuilt::OutOfMemory);
         };
         if !is_new {
-            return Err(NotBuilt);
+            return Err(NotBuilt::Fault);
         }
         Ok(())
     }
