@@ -99,13 +99,14 @@ pub record HasNoPart (path document : List ℕ) : Type 0 where
   pub is_document : IsDocument extended document tree
   pub none : (part : Tree) → IsAt tree keys part → ⊥
 
--- The path is none, the document is none, or memory ran out: for a key, or for the text of a part. A document's fault
--- is as reading tells it.
+-- The path is none, the document is none, or memory ran out: for a key, for the document, or for the text of a part. A
+-- document's fault is as reading tells it.
 abbrev pub IsPathRefusal : List ℕ → List ℕ → Refusal → Type 0
 IsPathRefusal path document NoPath = (keys : List (List ℕ)) → IsPath path keys → ⊥
-IsPathRefusal path document (NoDocument error) = (error ≢ OutOfMemory → IsNoDocument extended document)
-    × (error ≡ OutOfMemory → MayAllocate document) × Fails error (document_of extended document)
-IsPathRefusal path document NoMemory = StartsKey path ⊎ ((tree : Tree) × IsDocument extended document tree)
+IsPathRefusal path document (NoDocument error) = (error ≢ OutOfMemory) × IsNoDocument extended document
+    × Fails error (document_of extended document)
+IsPathRefusal path document NoMemory = StartsKey path ⊎ MayAllocate document
+    ⊎ ((tree : Tree) × IsDocument extended document tree)
 
 -- what is printed of a refusal
 abbrev pub refusal_text : Refusal → List ℕ

@@ -15,7 +15,7 @@ use std::fmt;
 pub enum Refusal {
     /// The path isn't a JSON Pointer.
     NoPath,
-    /// The document is rejected.
+    /// The document is rejected, with the error of the parser, which is never `OutOfMemory`.
     NoDocument(Error),
     /// Memory ran out.
     NoMemory,
@@ -71,7 +71,7 @@ pub fn get<'v, 'a>(
     }
 }
 
-/// The text of the document's part at the path, or `None` where there is none.
+/// The text of the part at the path of a document of extended mode, or `None` where there is none.
 ///
 /// # Errors
 ///
@@ -86,6 +86,7 @@ pub fn part_text(alloc: Global, path: &[u8], document: &[u8]) -> Result<Option<V
     };
     let value = match jsonb::parse_value(alloc, document) {
         Ok(value) => value,
+        Err(Error::OutOfMemory) => return Err(Refusal::NoMemory),
         Err(error) => return Err(Refusal::NoDocument(error)),
     };
     let Some(part) = part_at(&value, &keys) else {
