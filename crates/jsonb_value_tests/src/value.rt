@@ -184,6 +184,10 @@ fn clones_are_equal(rt: HostRuntime) -> Result<(), Fail> {
     person.insert(String::from_str(alloc, "phones")?, Value::Array(phones))?;
     let person = Value::Object(person);
     assert_eq!(rt; person.clone()?, person);
+    // A map of so many members is built at once.
+    let members = [("g", 7), ("b", 2), ("a", 1), ("f", 6), ("c", 3), ("e", 5), ("d", 4)];
+    let wide = object(alloc, &members)?;
+    assert_eq!(rt; wide.clone()?, wide);
 
     let key = ParseErrorCode::ObjectDuplicateKey(String::from_str(alloc, "a")?);
     let refusal = Error::Syntax(key, 16);
