@@ -3,10 +3,11 @@
 
 pub mod laws;
 pub mod parser;
+pub mod util;
 
+pub use jsonb_scan::line;
 pub use jsonb_scan::line::{fault_index, line_and_column};
 pub use jsonb_scan::util::parse_string;
-pub use jsonb_scan::{line, util};
 pub use jsonb_value::error::{Error, ParseErrorCode, Result};
 pub use jsonb_value::extension::{Date, ExtensionValue, Interval, Timestamp, TimestampTz};
 pub use jsonb_value::number::{Decimal64, Decimal128, Number};
