@@ -186,3 +186,6 @@ fn object_of(
 {
     members.into_iter().collect(alloc)
 }
+
+#[cfg(test)]
+mod tests;
