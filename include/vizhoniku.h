@@ -129,7 +129,7 @@ uint32_t vizhoniku_text_and_key(uint32_t mode, const unsigned char *text, size_t
 
 /* Compares the values of two texts of one mode: *order is -1 where the first is below the second, 0 where they are the
  * same, and 1 where it is above. It is one total order; docs/VALUES.md has it. Where the status is not
-  * VIZHONIKU_ACCEPTED, *order is 0. Where both texts are rejected, the first is reported. The status is never
+ * VIZHONIKU_ACCEPTED, *order is 0. Where both texts are rejected, the first is reported. The status is never
  * VIZHONIKU_TOO_SHORT. */
 uint32_t vizhoniku_compare(uint32_t mode, const unsigned char *left, size_t left_size, const unsigned char *right,
                            size_t right_size, int32_t *order, struct vizhoniku_refusal *refusal);
@@ -137,7 +137,7 @@ uint32_t vizhoniku_compare(uint32_t mode, const unsigned char *left, size_t left
 /* The byte to show of an error: the offset of the wrong byte, or of the last byte of the faulty number, string, key or
  * escape, or the text's size where the text ends too early; and the line and the column of that, both counted from 1,
  * the column in bytes. */
-struct vizhoniku_place {
+struct vizhoniku_location {
   size_t index;
   size_t line;
   size_t column;
@@ -145,14 +145,14 @@ struct vizhoniku_place {
 
 /* Returns the byte to show of a refusal of this text. */
 void vizhoniku_place(const unsigned char *text, size_t text_size, const struct vizhoniku_refusal *refusal,
-                     struct vizhoniku_place *place);
+                     struct vizhoniku_location *place);
 
 /* Writes the error message of the text to the start of the buffer, as the program jsonb_cat prints it, such as
  * `duplicate object attribute "a", pos 10`. The text is parsed again for that.
  *
  *  - VIZHONIKU_REFUSED: *size bytes were written, with no zero byte after them. The rest of the buffer is as before.
  *  - VIZHONIKU_TOO_SHORT: *size bytes are needed, and nothing was written.
-  *  - VIZHONIKU_ACCEPTED: the text is a document. *size is 0, as with any other status, and nothing was written. */
+ *  - VIZHONIKU_ACCEPTED: the text is a document. *size is 0, as with any other status, and nothing was written. */
 uint32_t vizhoniku_message(uint32_t mode, const unsigned char *text, size_t text_size, unsigned char *buffer,
                            size_t buffer_size, size_t *size);
 

@@ -18,7 +18,7 @@ uint32_t proved_text_and_key(uint32_t mode, const unsigned char *text, size_t te
 uint32_t proved_compare(uint32_t mode, const unsigned char *left, size_t left_size, const unsigned char *right,
                         size_t right_size, int32_t *order, struct vizhoniku_refusal *refusal);
 void proved_place(const unsigned char *text, size_t text_size, const struct vizhoniku_refusal *refusal,
-                  struct vizhoniku_place *place);
+                  struct vizhoniku_location *place);
 uint32_t proved_message(uint32_t mode, const unsigned char *text, size_t text_size, unsigned char *buffer,
                         size_t buffer_size, size_t *size);
 
@@ -66,7 +66,7 @@ uint32_t vizhoniku_compare(uint32_t mode, const unsigned char *left, size_t left
 }
 
 void vizhoniku_place(const unsigned char *text, size_t text_size, const struct vizhoniku_refusal *refusal,
-                     struct vizhoniku_place *place) {
+                     struct vizhoniku_location *place) {
   proved_place(bytes_at(text, text_size), text_size, refusal, place);
 }
 

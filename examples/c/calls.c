@@ -81,7 +81,7 @@ static void pass_null(uint32_t mode) {
   size_t size = 99, key_size = 99;
   int32_t order = 99;
   struct vizhoniku_refusal refusal = {0, 0, 0};
-  struct vizhoniku_place place = {0, 0, 0};
+  struct vizhoniku_location place = {0, 0, 0};
   printf("null: check %u,", (unsigned)vizhoniku_check(mode, NULL, 0, &refusal));
   printf(" text %u", (unsigned)vizhoniku_text(mode, NULL, 0, NULL, 0, &size, &refusal));
   printf(" size %zu,", size);

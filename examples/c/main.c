@@ -12,7 +12,7 @@
 
 /* The line of the text in which the place stands, and under it a caret. Tabs stay tabs, so that the caret stands right;
  * the second and later bytes of a character take no column. */
-static void print_line(const unsigned char *text, size_t text_size, const struct vizhoniku_place *place) {
+static void print_line(const unsigned char *text, size_t text_size, const struct vizhoniku_location *place) {
   size_t start = place->index - (place->column - 1), end = start;
   while (end < text_size && text[end] != '\n' && text[end] != '\r') end++;
   fwrite(text + start, 1, end - start, stderr);
@@ -27,7 +27,7 @@ static int print_failure(uint32_t mode, uint32_t status, const struct vizhoniku_
                          const unsigned char *text, size_t text_size) {
   unsigned char words[256];
   size_t size;
-  struct vizhoniku_place place;
+  struct vizhoniku_location place;
   if (status != VIZHONIKU_REFUSED) {
     fprintf(stderr, "status %u\n", (unsigned)status);
     return 2;

@@ -179,7 +179,7 @@ words_of_refusal(uint32 mode, const char *text, size_t size)
 
 /* The line with the fault, up to the fault, as it is shown to the user. */
 static char *
-shown_line(const char *text, size_t size, const struct vizhoniku_place *place)
+shown_line(const char *text, size_t size, const struct vizhoniku_location *place)
 {
 	size_t		line = place->index - (place->column - 1);
 	size_t		end = Min(place->index, size);
@@ -213,7 +213,7 @@ shown_line(const char *text, size_t size, const struct vizhoniku_place *place)
 static void pg_attribute_noreturn()
 raise_refusal(const char *words, const char *text, size_t size, const struct vizhoniku_refusal *refusal)
 {
-	struct vizhoniku_place place;
+	struct vizhoniku_location place;
 
 	vizhoniku_place((const unsigned char *) text, size, refusal, &place);
 	ereport(ERROR,

@@ -71,7 +71,7 @@ static void tell(sqlite3_context *context, uint32_t mode, uint32_t status, const
     sqlite3_result_error_nomem(context);
     return;
   }
-  struct vizhoniku_place place;
+  struct vizhoniku_location place;
   vizhoniku_place(text, size, refusal, &place);
   size_t column = size ? character_at(text, size, place.index - (place.column - 1), place.index) : 1;
   char front[128], end[32];
@@ -126,7 +126,7 @@ static void call_error_position(sqlite3_context *context, int count, sqlite3_val
   size_t size;
   const unsigned char *text;
   struct vizhoniku_refusal refusal;
-  struct vizhoniku_place place;
+  struct vizhoniku_location place;
   if (!read_arguments(context, count, values, &text, &size, &mode)) return;
   uint32_t status = vizhoniku_check(mode, text, size, &refusal);
   if (status == VIZHONIKU_OUT_OF_MEMORY) {
