@@ -11,6 +11,7 @@ pub mod StringBody
 pub mod StringFault
 pub mod StringStep
 use Rattle.std.specs.Prelude.{◌≡◌, ◌≢◌, ℕ, zero, suc, List, [], ◌∷◌, ◌++◌, map}
+use Rattle.jsonb_value.specs.Ascii as ascii
 use Rattle.jsonb_value.specs.Mode.{Mode, extended}
 use Rattle.jsonb_value.specs.Tree.{Mark, Tree, null, array, object, no_members, trees_of, Member, put_all}
 use Rattle.jsonb_value.specs.Grammar.Blanks.{IsBlanks, AreLastBlanks}
@@ -25,7 +26,7 @@ pub data IsPadded {A : Type 0} (mode : Mode) (Spells : List ℕ → A → Type 0
 pub data IsJoined {A : Type 0} (Spells : List ℕ → A → Type 0) : List ℕ → List A → Type 0 where
   one_part : {bytes : List ℕ} {a : A} → Spells bytes a → IsJoined Spells bytes (a ∷ [])
   more_parts : {first rest : List ℕ} {a : A} {others : List A} → Spells first a → IsJoined Spells rest others
-      → IsJoined Spells (first ++ 44 ∷ rest) (a ∷ others)
+      → IsJoined Spells (first ++ ascii.comma ∷ rest) (a ∷ others)
 
 -- An element of an array: a value with blanks round it. In extended mode blanks alone stand for null.
 pub data IsElement (mode : Mode) (Value : List ℕ → Tree → Type 0) : List ℕ → Tree → Type 0 where
@@ -35,7 +36,7 @@ pub data IsElement (mode : Mode) (Value : List ℕ → Tree → Type 0) : List �
 -- A member of an object: a key, a colon and a value, with blanks round the key and round the value.
 pub data IsMember (mode : Mode) (Value : List ℕ → Tree → Type 0) : List ℕ → Member → Type 0 where
   key_and_value : {left right : List ℕ} {key : Mark × List ℕ} {t : Tree} → IsPadded mode (IsKey mode) left key
-      → IsPadded mode Value right t → IsMember mode Value (left ++ 58 ∷ right) (key.1, t)
+      → IsPadded mode Value right t → IsMember mode Value (left ++ ascii.colon ∷ right) (key.1, t)
 
 -- the key is none of these
 abbrev pub IsNew : List ℕ → List (List ℕ) → Type 0
@@ -55,13 +56,13 @@ HaveDistinctKeys ms = AreDistinct (map (λ m. m.0) ms)
 pub data IsValue (mode : Mode) (Value : List ℕ → Tree → Type 0) : List ℕ → Tree → Type 0 where
   scalar : {bytes : List ℕ} {t : Tree} → IsScalar mode bytes t → IsValue mode Value bytes t
   empty_array : {blanks : List ℕ} → IsBlanks mode blanks
-      → IsValue mode Value (91 ∷ (blanks ++ 93 ∷ [])) (array (trees_of []))
+      → IsValue mode Value (ascii.open_bracket ∷ (blanks ++ ascii.close_bracket ∷ [])) (array (trees_of []))
   full_array : {body : List ℕ} {ts : List Tree} → IsJoined (IsElement mode Value) body ts → (IsBlanks mode body → ⊥)
-      → IsValue mode Value (91 ∷ (body ++ 93 ∷ [])) (array (trees_of ts))
+      → IsValue mode Value (ascii.open_bracket ∷ (body ++ ascii.close_bracket ∷ [])) (array (trees_of ts))
   empty_object : {blanks : List ℕ} → IsBlanks mode blanks
-      → IsValue mode Value (123 ∷ (blanks ++ 125 ∷ [])) (object no_members)
+      → IsValue mode Value (ascii.open_brace ∷ (blanks ++ ascii.close_brace ∷ [])) (object no_members)
   full_object : {body : List ℕ} {ms : List Member} → IsJoined (IsMember mode Value) body ms → HaveDistinctKeys ms
-      → IsValue mode Value (123 ∷ (body ++ 125 ∷ [])) (object (put_all ms no_members))
+      → IsValue mode Value (ascii.open_brace ∷ (body ++ ascii.close_brace ∷ [])) (object (put_all ms no_members))
 
 -- the bytes spell the tree, with arrays and objects nested no deeper than the number
 abbrev pub Derives : Mode → ℕ → List ℕ → Tree → Type 0

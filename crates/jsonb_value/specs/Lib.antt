@@ -1,3 +1,4 @@
+pub mod Ascii
 pub mod Code
 pub mod Error
 pub mod Grammar
