@@ -25,9 +25,9 @@ pub(crate) fn append<'a>(tree: &JsonAst<'a>, buf: &mut Vec<u8>) -> Appended
     ensures capacity { vec_capacity buf.old ≤ vec_capacity buf.new }
 {
     match tree {
-        JsonAst::Null => buf.extend_from_slice(&[211]),
-        JsonAst::Bool(false) => buf.extend_from_slice(&[21]),
-        JsonAst::Bool(true) => buf.extend_from_slice(&[22]),
+        JsonAst::Null => buf.extend_from_slice(&[0xD3]),
+        JsonAst::Bool(false) => buf.extend_from_slice(&[0x15]),
+        JsonAst::Bool(true) => buf.extend_from_slice(&[0x16]),
         JsonAst::Number(number) => append_number_key(number, buf),
         JsonAst::String(text) => append_string(text.as_str(), buf),
         JsonAst::Array(items) => append_items(items, buf),
@@ -37,25 +37,25 @@ pub(crate) fn append<'a>(tree: &JsonAst<'a>, buf: &mut Vec<u8>) -> Appended
 
 // Appends a string: its kind and its text.
 fn append_string(text: &str, buf: &mut Vec<u8>) -> Appended
-    ensures ok { OnOk result (buf.new.items ≡ buf.old.items ++ 208 ∷ text_key text.now) }
+    ensures ok { OnOk result (buf.new.items ≡ buf.old.items ++ 0xD0 ∷ text_key text.now) }
     ensures kept { Extends buf.old.items buf.new.items }
-    ensures full { OnErr result (vec_capacity buf.old < vec_len buf.old + length (208 ∷ text_key text.now)) }
+    ensures full { OnErr result (vec_capacity buf.old < vec_len buf.old + length (0xD0 ∷ text_key text.now)) }
     ensures capacity { vec_capacity buf.old ≤ vec_capacity buf.new }
 {
-    buf.extend_from_slice(&[208])?;
+    buf.extend_from_slice(&[0xD0])?;
     append_text_key(text, buf)
 }
 
 #[cycle(append)]
 fn append_items<'a>(items: &Vec<JsonAst<'a>>, buf: &mut Vec<u8>) -> Appended
     ensures ok { OnOk result (buf.new.items
-        ≡ buf.old.items ++ 210 ∷ items_key (listed_items items.now.items)) }
+        ≡ buf.old.items ++ 0xD2 ∷ items_key (listed_items items.now.items)) }
     ensures kept { Extends buf.old.items buf.new.items }
     ensures full { OnErr result (vec_capacity buf.old
-        < vec_len buf.old + length (210 ∷ items_key (listed_items items.now.items))) }
+        < vec_len buf.old + length (0xD2 ∷ items_key (listed_items items.now.items))) }
     ensures capacity { vec_capacity buf.old ≤ vec_capacity buf.new }
 {
-    buf.extend_from_slice(&[210])?;
+    buf.extend_from_slice(&[0xD2])?;
     'items: for item in items {
         append(item, buf)?;
     }
@@ -68,13 +68,13 @@ fn append_members<'a>(
     buf: &mut Vec<u8>,
 ) -> Appended
     ensures ok { OnOk result (buf.new.items
-        ≡ buf.old.items ++ 209 ∷ members_key (listed_members members.now.items)) }
+        ≡ buf.old.items ++ 0xD1 ∷ members_key (listed_members members.now.items)) }
     ensures kept { Extends buf.old.items buf.new.items }
     ensures full { OnErr result (vec_capacity buf.old
-        < vec_len buf.old + length (209 ∷ members_key (listed_members members.now.items))) }
+        < vec_len buf.old + length (0xD1 ∷ members_key (listed_members members.now.items))) }
     ensures capacity { vec_capacity buf.old ≤ vec_capacity buf.new }
 {
-    buf.extend_from_slice(&[209])?;
+    buf.extend_from_slice(&[0xD1])?;
     'members: for member in members {
         append_key(&member.0, buf)?;
         append(&member.1, buf)?;

@@ -105,12 +105,12 @@ fn read_value(alloc: Global, depth: u32, bytes: &[u8]) -> Result<(Value<'static>
         return Err(KeyError::Invalid);
     };
     match *first {
-        21 => Ok((Value::from(false), rest)),
-        22 => Ok((Value::from(true), rest)),
-        208 => read_string(alloc, rest),
-        209 => read_object(alloc, depth, rest),
-        210 => read_array(alloc, depth, rest),
-        211 => Ok((Value::default(), rest)),
+        0x15 => Ok((Value::from(false), rest)),
+        0x16 => Ok((Value::from(true), rest)),
+        0xD0 => read_string(alloc, rest),
+        0xD1 => read_object(alloc, depth, rest),
+        0xD2 => read_array(alloc, depth, rest),
+        0xD3 => Ok((Value::default(), rest)),
         _ => match read_number(bytes) {
             Some((number, rest)) => Ok((Value::Number(number), rest)),
             None => Err(KeyError::Invalid),
@@ -120,7 +120,7 @@ fn read_value(alloc: Global, depth: u32, bytes: &[u8]) -> Result<(Value<'static>
 
 fn read_string(alloc: Global, bytes: &[u8]) -> Result<(Value<'static>, &[u8]), KeyError>
     ensures found { (text : List ℕ) → IsUtf8 text → (more : List ℕ) → bytes.now ≡ text_key text ++ more
-        → MatchResult result (λ r. (key_of (view r.0) ≡ 208 ∷ text_key text) × (r.1.now ≡ more))
+        → MatchResult result (λ r. (key_of (view r.0) ≡ 0xD0 ∷ text_key text) × (r.1.now ≡ more))
         (λ e. e ≡ KeyError.OutOfMemory) }
     ensures shorter { IfOk result (λ r. length r.1.now < length bytes.now) }
 {
@@ -131,7 +131,7 @@ fn read_string(alloc: Global, bytes: &[u8]) -> Result<(Value<'static>, &[u8]), K
 #[cycle(read_value)]
 fn read_array(alloc: Global, depth: u32, bytes: &[u8]) -> Result<(Value<'static>, &[u8]), KeyError>
     ensures found { (ts : Trees) → IsReadableAt depth (array ts) → (more : List ℕ) → bytes.now ≡ items_key ts ++ more
-        → MatchResult result (λ r. (key_of (view r.0) ≡ 210 ∷ items_key ts) × (r.1.now ≡ more))
+        → MatchResult result (λ r. (key_of (view r.0) ≡ 0xD2 ∷ items_key ts) × (r.1.now ≡ more))
         (λ e. e ≡ KeyError.OutOfMemory) }
     ensures shorter { IfOk result (λ r. length r.1.now < length bytes.now) }
 {
@@ -155,7 +155,7 @@ fn read_array(alloc: Global, depth: u32, bytes: &[u8]) -> Result<(Value<'static>
 fn read_object(alloc: Global, depth: u32, bytes: &[u8]) -> Result<(Value<'static>, &[u8]), KeyError>
     ensures found { (ms : Members) → IsReadableAt depth (object ms) → (more : List ℕ)
         → bytes.now ≡ members_key ms ++ more
-        → MatchResult result (λ r. (key_of (view r.0) ≡ 209 ∷ members_key ms) × (r.1.now ≡ more))
+        → MatchResult result (λ r. (key_of (view r.0) ≡ 0xD1 ∷ members_key ms) × (r.1.now ≡ more))
         (λ e. e ≡ KeyError.OutOfMemory) }
     ensures shorter { IfOk result (λ r. length r.1.now < length bytes.now) }
 {

@@ -61,18 +61,18 @@ number_key n = if unsigned_abs n.whole == 0 then 128 ∷ []
 abbrev mutual
   -- The kind, which a number's first byte says too, and then what the value holds.
   pub key_of : Tree → List ℕ
-  key_of (binary bytes) = 16 ∷ text_key bytes
-  key_of (date days) = 17 ∷ key_of_32_bits days
-  key_of (timestamp micros) = 18 ∷ key_of_64_bits micros
-  key_of (timestamp_tz offset micros) = 19 ∷ key_of_32_bits offset ++ key_of_64_bits micros
+  key_of (binary bytes) = 0x10 ∷ text_key bytes
+  key_of (date days) = 0x11 ∷ key_of_32_bits days
+  key_of (timestamp micros) = 0x12 ∷ key_of_64_bits micros
+  key_of (timestamp_tz offset micros) = 0x13 ∷ key_of_32_bits offset ++ key_of_64_bits micros
   key_of (interval months days micros) =
-      20 ∷ key_of_32_bits months ++ (key_of_32_bits days ++ key_of_64_bits micros)
-  key_of (boolean b) = (if b then 22 else 21) ∷ []
+      0x14 ∷ key_of_32_bits months ++ (key_of_32_bits days ++ key_of_64_bits micros)
+  key_of (boolean b) = (if b then 0x16 else 0x15) ∷ []
   key_of (number n) = number_key n
-  key_of (string mark bytes) = 208 ∷ text_key bytes
-  key_of (object ms) = 209 ∷ members_key ms
-  key_of (array ts) = 210 ∷ items_key ts
-  key_of null = 211 ∷ []
+  key_of (string mark bytes) = 0xD0 ∷ text_key bytes
+  key_of (object ms) = 0xD1 ∷ members_key ms
+  key_of (array ts) = 0xD2 ∷ items_key ts
+  key_of null = 0xD3 ∷ []
 
   -- the items one after the other, and a 0, which is below the first byte of each
   pub items_key : Trees → List ℕ

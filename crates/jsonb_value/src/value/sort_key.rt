@@ -80,9 +80,9 @@ fn append<'a>(value: &Value<'a>, buf: &mut Vec<u8>) -> Appended
     ensures capacity { vec_capacity buf.old ≤ vec_capacity buf.new }
 {
     match value {
-        Value::Binary(bytes) => append_text(16, *bytes, buf),
-        Value::Date(date) => append_32_bits(17, date.value, buf),
-        Value::Timestamp(time) => append_64_bits(18, time.value, buf),
+        Value::Binary(bytes) => append_text(0x10, *bytes, buf),
+        Value::Date(date) => append_32_bits(0x11, date.value, buf),
+        Value::Timestamp(time) => append_64_bits(0x12, time.value, buf),
         Value::TimestampTz(time) => append_zoned(time.offset, time.value, buf),
         Value::Interval(interval) => append_interval(
             interval.months,
@@ -90,27 +90,27 @@ fn append<'a>(value: &Value<'a>, buf: &mut Vec<u8>) -> Appended
             interval.micros,
             buf,
         ),
-        Value::Bool(false) => buf.extend_from_slice(&[21]),
-        Value::Bool(true) => buf.extend_from_slice(&[22]),
+        Value::Bool(false) => buf.extend_from_slice(&[0x15]),
+        Value::Bool(true) => buf.extend_from_slice(&[0x16]),
         Value::Number(number) => number.append_sort_key(buf),
-        Value::String(text) => append_text(208, text.as_bytes(), buf),
+        Value::String(text) => append_text(0xD0, text.as_bytes(), buf),
         Value::Object(members) => append_members(members, buf),
         Value::Array(items) => append_items(items, buf),
-        Value::Null => buf.extend_from_slice(&[211]),
+        Value::Null => buf.extend_from_slice(&[0xD3]),
     }
 }
 
 #[cycle(append)]
 fn append_items<'a>(items: &Vec<Value<'a>>, buf: &mut Vec<u8>) -> Appended
     ensures ok { OnOk result (buf.new.items
-        ≡ buf.old.items ++ 210 ∷ items_key (trees_view items.now.items)) }
+        ≡ buf.old.items ++ 0xD2 ∷ items_key (trees_view items.now.items)) }
     ensures bounded { OnOk result (AreBounded (trees_view items.now.items)) }
     ensures kept { Extends buf.old.items buf.new.items }
     ensures full { OnErr result (vec_capacity buf.old
-        < vec_len buf.old + length (210 ∷ items_key (trees_view items.now.items))) }
+        < vec_len buf.old + length (0xD2 ∷ items_key (trees_view items.now.items))) }
     ensures capacity { vec_capacity buf.old ≤ vec_capacity buf.new }
 {
-    buf.extend_from_slice(&[210])?;
+    buf.extend_from_slice(&[0xD2])?;
     'items: for item in items {
         append(item, buf)?;
     }
@@ -120,14 +120,14 @@ fn append_items<'a>(items: &Vec<Value<'a>>, buf: &mut Vec<u8>) -> Appended
 #[cycle(append)]
 fn append_members<'a>(members: &Object<'a>, buf: &mut Vec<u8>) -> Appended
     ensures ok { OnOk result (buf.new.items
-        ≡ buf.old.items ++ 209 ∷ members_key (members_view members.now.entries)) }
+        ≡ buf.old.items ++ 0xD1 ∷ members_key (members_view members.now.entries)) }
     ensures bounded { OnOk result (HaveBounds (members_view members.now.entries)) }
     ensures kept { Extends buf.old.items buf.new.items }
     ensures full { OnErr result (vec_capacity buf.old
-        < vec_len buf.old + length (209 ∷ members_key (members_view members.now.entries))) }
+        < vec_len buf.old + length (0xD1 ∷ members_key (members_view members.now.entries))) }
     ensures capacity { vec_capacity buf.old ≤ vec_capacity buf.new }
 {
-    buf.extend_from_slice(&[209])?;
+    buf.extend_from_slice(&[0xD1])?;
     'members: for (key, value) in members.iter() {
         append_key(key, buf)?;
         append(value, buf)?;
@@ -277,25 +277,25 @@ fn append_64_bits(kind: u8, value: i64, buf: &mut Vec<u8>) -> Appended
 
 fn append_zoned(offset: i32, micros: i64, buf: &mut Vec<u8>) -> Appended
     ensures ok { OnOk result
-        (buf.new.items ≡ buf.old.items ++ 19 ∷ key_of_32_bits offset ++ key_of_64_bits micros) }
+        (buf.new.items ≡ buf.old.items ++ 0x13 ∷ key_of_32_bits offset ++ key_of_64_bits micros) }
     ensures kept { Extends buf.old.items buf.new.items }
     ensures full { OnErr result (vec_capacity buf.old < vec_len buf.old
-        + length (19 ∷ key_of_32_bits offset ++ key_of_64_bits micros)) }
+        + length (0x13 ∷ key_of_32_bits offset ++ key_of_64_bits micros)) }
     ensures capacity { vec_capacity buf.old ≤ vec_capacity buf.new }
 {
-    append_32_bits(19, offset, buf)?;
+    append_32_bits(0x13, offset, buf)?;
     buf.extend_from_slice(&key_of_64_bits(micros))
 }
 
 fn append_interval(months: i32, days: i32, micros: i64, buf: &mut Vec<u8>) -> Appended
     ensures ok { OnOk result (buf.new.items ≡ buf.old.items
-        ++ 20 ∷ key_of_32_bits months ++ (key_of_32_bits days ++ key_of_64_bits micros)) }
+        ++ 0x14 ∷ key_of_32_bits months ++ (key_of_32_bits days ++ key_of_64_bits micros)) }
     ensures kept { Extends buf.old.items buf.new.items }
     ensures full { OnErr result (vec_capacity buf.old < vec_len buf.old
-        + length (20 ∷ key_of_32_bits months ++ (key_of_32_bits days ++ key_of_64_bits micros))) }
+        + length (0x14 ∷ key_of_32_bits months ++ (key_of_32_bits days ++ key_of_64_bits micros))) }
     ensures capacity { vec_capacity buf.old ≤ vec_capacity buf.new }
 {
-    append_32_bits(20, months, buf)?;
+    append_32_bits(0x14, months, buf)?;
     buf.extend_from_slice(&key_of_32_bits(days))?;
     buf.extend_from_slice(&key_of_64_bits(micros))
 }
