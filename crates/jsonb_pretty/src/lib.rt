@@ -13,6 +13,7 @@ ghost use Rattle.jsonb_value.specs.Text.StringText.{quoted_text};
 ghost use Rattle.jsonb_value.specs.Text.{has_text, items_have_texts, members_have_texts, tree_text, with_commas, text_of};
 ghost use Rattle.jsonb_value.specs.Tree.{array, object};
 ghost use Rattle.jsonb_value.specs.View.{view, trees_view, members_view};
+ghost use Rattle.jsonb_pretty.specs.Appends.{Appends};
 ghost use Rattle.jsonb_pretty.specs.Indented.{new_line, indented, item_lines, member_lines, StandsFor};
 
 use jsonb_value::error::{Error, Result};
@@ -251,11 +252,7 @@ fn append_scalar(value: &Value<'_>, buf: &mut Vec<u8>) -> Appended
 
 // Appends the comma before an item or a member. The first has none.
 fn append_comma(is_first: bool, buf: &mut Vec<u8>) -> Appended
-    ensures ok { OnOk result (buf.new.items ≡ buf.old.items ++ comma_before is_first) }
-    ensures kept { Extends buf.old.items buf.new.items }
-    ensures full { OnErr result
-        (vec_capacity buf.old < vec_len buf.old + length (comma_before is_first)) }
-    ensures capacity { vec_capacity buf.old ≤ vec_capacity buf.new }
+    ensures appends { Appends result buf.old buf.new (comma_before is_first) }
 {
     if is_first {
         Ok(())
@@ -266,11 +263,7 @@ fn append_comma(is_first: bool, buf: &mut Vec<u8>) -> Appended
 
 // Appends a line feed and the spaces of the next line.
 fn append_line(margin: usize, buf: &mut Vec<u8>) -> Appended
-    ensures ok { OnOk result (buf.new.items ≡ buf.old.items ++ new_line margin) }
-    ensures kept { Extends buf.old.items buf.new.items }
-    ensures full { OnErr result
-        (vec_capacity buf.old < vec_len buf.old + length (new_line margin)) }
-    ensures capacity { vec_capacity buf.old ≤ vec_capacity buf.new }
+    ensures appends { Appends result buf.old buf.new (new_line margin) }
 {
     buf.extend_from_slice(b"\n")?;
     buf.reserve(margin)?;
@@ -279,25 +272,16 @@ fn append_line(margin: usize, buf: &mut Vec<u8>) -> Appended
 
 // Appends a member's key, and the colon and the space after it.
 fn append_key(key: &String, buf: &mut Vec<u8>) -> Appended
-    ensures ok { OnOk result (buf.new.items
-        ≡ buf.old.items ++ (quoted_text (string_bytes key.now) ++ 58 ∷ 32 ∷ [])) }
+    ensures appends { Appends result buf.old buf.new (quoted_text (string_bytes key.now) ++ 58 ∷ 32 ∷ []) }
     ensures utf8 { IsUtf8 (string_bytes key.now) }
-    ensures kept { Extends buf.old.items buf.new.items }
-    ensures full { OnErr result (vec_capacity buf.old < vec_len buf.old
-        + length (quoted_text (string_bytes key.now) ++ 58 ∷ 32 ∷ [])) }
-    ensures capacity { vec_capacity buf.old ≤ vec_capacity buf.new }
 {
     append_string(key.as_str(), buf)?;
     buf.extend_from_slice(b": ")
 }
 
 fn append_string(text: &str, buf: &mut Vec<u8>) -> Appended
-    ensures ok { OnOk result (buf.new.items ≡ buf.old.items ++ quoted_text text.now) }
+    ensures appends { Appends result buf.old buf.new (quoted_text text.now) }
     ensures utf8 { IsUtf8 text.now }
-    ensures kept { Extends buf.old.items buf.new.items }
-    ensures full { OnErr result
-        (vec_capacity buf.old < vec_len buf.old + length (quoted_text text.now)) }
-    ensures capacity { vec_capacity buf.old ≤ vec_capacity buf.new }
 {
     append_scalar(&Value::from(text), buf)
 }

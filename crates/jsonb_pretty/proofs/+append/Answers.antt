@@ -25,8 +25,8 @@ append_item_lines-items-preserved t c =
     let text = indented c.args.indent c.args.margin (view item) in
     let rest = texts_left false (item_lines c.args.indent c.args.margin (trees_view (drop (c.items.item-index + 1) all))) ++ [] in
     let next = next_item c.args.indent c.args.margin all c.items.item-index item (search rules) (search rules) in
-    let due = comma_done c.items.is_first _ _ _ _ [] c.append_comma.new.buf.items _ _ next c.items.invariant.underway c.in_ok-append_comma.ensures.ok in
-    let due = line_done _ _ _ (new_line c.args.margin) text rest c.append_line.new.buf.items due c.in_ok-append_line.ensures.ok in
+    let due = comma_done c.items.is_first _ _ _ _ [] c.append_comma.new.buf.items _ _ next c.items.invariant.underway c.in_ok-append_comma.ensures.appends.ok in
+    let due = line_done _ _ _ (new_line c.args.margin) text rest c.append_line.new.buf.items due c.in_ok-append_line.ensures.appends.ok in
     record {
       underway = goes_on c.append.new.buf.items text rest due refl c.in_ok-append.ensures.ok;
       texts = texts_left_have _ _ _ _ c.items.invariant.texts (next_text all c.items.item-index item (search rules) (search rules)) c.in_ok-append.ensures.texts;
@@ -38,7 +38,7 @@ pub append_item_lines-returns-in_err-append_comma-clause-full : goal.append_item
 append_item_lines-returns-in_err-append_comma-clause-full t c =
     let next = next_item c.args.indent c.args.margin c.args.items.now.items c.items.item-index c.item-item.result (search rules) (search rules) in
     let room = comma_fits c.items.is_first _ _ _ _ [] _ _ next c.items.invariant.underway in
-    on_err c.from_residual.result (λ texts. omega (arith, room, c.in_err-append_comma.ensures.full))
+    on_err c.from_residual.result (λ texts. omega (arith, room, c.in_err-append_comma.ensures.appends.full))
 
 pub append_item_lines-returns-in_err-append_line-clause-full : goal.append_item_lines-returns-in_err-append_line-clause-full
 append_item_lines-returns-in_err-append_line-clause-full t c =
@@ -47,9 +47,9 @@ append_item_lines-returns-in_err-append_line-clause-full t c =
     let text = indented c.args.indent c.args.margin (view item) in
     let rest = texts_left false (item_lines c.args.indent c.args.margin (trees_view (drop (c.items.item-index + 1) all))) ++ [] in
     let next = next_item c.args.indent c.args.margin all c.items.item-index item (search rules) (search rules) in
-    let due = comma_done c.items.is_first _ _ _ _ [] c.append_comma.new.buf.items _ _ next c.items.invariant.underway c.in_ok-append_comma.ensures.ok in
+    let due = comma_done c.items.is_first _ _ _ _ [] c.append_comma.new.buf.items _ _ next c.items.invariant.underway c.in_ok-append_comma.ensures.appends.ok in
     let room = line_fits _ _ _ (new_line c.args.margin) text rest due in
-    on_err c.from_residual-in_err-append_line.result (λ texts. omega (arith, room, c.in_err-append_line.ensures.full))
+    on_err c.from_residual-in_err-append_line.result (λ texts. omega (arith, room, c.in_err-append_line.ensures.appends.full))
 
 pub append_item_lines-returns-in_err-append-clause-full : goal.append_item_lines-returns-in_err-append-clause-full
 append_item_lines-returns-in_err-append-clause-full t c =
@@ -58,8 +58,8 @@ append_item_lines-returns-in_err-append-clause-full t c =
     let text = indented c.args.indent c.args.margin (view item) in
     let rest = texts_left false (item_lines c.args.indent c.args.margin (trees_view (drop (c.items.item-index + 1) all))) ++ [] in
     let next = next_item c.args.indent c.args.margin all c.items.item-index item (search rules) (search rules) in
-    let due = comma_done c.items.is_first _ _ _ _ [] c.append_comma.new.buf.items _ _ next c.items.invariant.underway c.in_ok-append_comma.ensures.ok in
-    let due = line_done _ _ _ (new_line c.args.margin) text rest c.append_line.new.buf.items due c.in_ok-append_line.ensures.ok in
+    let due = comma_done c.items.is_first _ _ _ _ [] c.append_comma.new.buf.items _ _ next c.items.invariant.underway c.in_ok-append_comma.ensures.appends.ok in
+    let due = line_done _ _ _ (new_line c.args.margin) text rest c.append_line.new.buf.items due c.in_ok-append_line.ensures.appends.ok in
     let room = fits text rest due refl in
     let first = next_text all c.items.item-index item (search rules) (search rules) in
     on_err c.from_residual-in_err-append.result (λ texts. omega (arith, room, c.in_err-append.ensures.full (first_has_text _ _ _ _ c.items.invariant.texts first texts)))
@@ -71,9 +71,9 @@ append_member_lines-members-preserved t c =
     let text = indented c.args.indent c.args.margin (view c.in-Some.value.now) in
     let rest = texts_left false (member_lines c.args.indent c.args.margin (members_view c.next.new.self)) ++ [] in
     let next = next_member c.args.indent c.args.margin c.members.key-iterator c.next.new.self entry c.in-Some.ensures.steps in
-    let due = comma_done c.members.is_first _ _ _ _ [] c.append_comma.new.buf.items _ _ next c.members.invariant.underway c.in_ok-append_comma.ensures.ok in
-    let due = line_done _ _ _ (new_line c.args.margin) (key ++ 58 ∷ 32 ∷ text) rest c.append_line.new.buf.items due c.in_ok-append_line.ensures.ok in
-    let due = key_done _ _ _ key text rest c.append_key.new.buf.items due c.in_ok-append_key.ensures.ok in
+    let due = comma_done c.members.is_first _ _ _ _ [] c.append_comma.new.buf.items _ _ next c.members.invariant.underway c.in_ok-append_comma.ensures.appends.ok in
+    let due = line_done _ _ _ (new_line c.args.margin) (key ++ 58 ∷ 32 ∷ text) rest c.append_line.new.buf.items due c.in_ok-append_line.ensures.appends.ok in
+    let due = key_done _ _ _ key text rest c.append_key.new.buf.items due c.in_ok-append_key.ensures.appends.ok in
     record {
       underway = goes_on c.append.new.buf.items text rest due refl c.in_ok-append.ensures.ok;
       texts = texts_left_have _ _ _ _ c.members.invariant.texts (next_member_text c.members.key-iterator c.next.new.self entry c.in-Some.ensures.steps) c.in_ok-append.ensures.texts;
@@ -85,7 +85,7 @@ pub append_member_lines-returns-in_err-append_comma-clause-full : goal.append_me
 append_member_lines-returns-in_err-append_comma-clause-full t c =
     let next = next_member c.args.indent c.args.margin c.members.key-iterator c.next.new.self (c.in-Some.key.now, c.in-Some.value.now) c.in-Some.ensures.steps in
     let room = comma_fits c.members.is_first _ _ _ _ [] _ _ next c.members.invariant.underway in
-    on_err c.from_residual.result (λ texts. omega (arith, room, c.in_err-append_comma.ensures.full))
+    on_err c.from_residual.result (λ texts. omega (arith, room, c.in_err-append_comma.ensures.appends.full))
 
 pub append_member_lines-returns-in_err-append_line-clause-full : goal.append_member_lines-returns-in_err-append_line-clause-full
 append_member_lines-returns-in_err-append_line-clause-full t c =
@@ -93,9 +93,9 @@ append_member_lines-returns-in_err-append_line-clause-full t c =
     let text = indented c.args.indent c.args.margin (view c.in-Some.value.now) in
     let rest = texts_left false (member_lines c.args.indent c.args.margin (members_view c.next.new.self)) ++ [] in
     let next = next_member c.args.indent c.args.margin c.members.key-iterator c.next.new.self (c.in-Some.key.now, c.in-Some.value.now) c.in-Some.ensures.steps in
-    let due = comma_done c.members.is_first _ _ _ _ [] c.append_comma.new.buf.items _ _ next c.members.invariant.underway c.in_ok-append_comma.ensures.ok in
+    let due = comma_done c.members.is_first _ _ _ _ [] c.append_comma.new.buf.items _ _ next c.members.invariant.underway c.in_ok-append_comma.ensures.appends.ok in
     let room = line_fits _ _ _ (new_line c.args.margin) (key ++ 58 ∷ 32 ∷ text) rest due in
-    on_err c.from_residual-in_err-append_line.result (λ texts. omega (arith, room, c.in_err-append_line.ensures.full))
+    on_err c.from_residual-in_err-append_line.result (λ texts. omega (arith, room, c.in_err-append_line.ensures.appends.full))
 
 pub append_member_lines-returns-in_err-append_key-clause-full : goal.append_member_lines-returns-in_err-append_key-clause-full
 append_member_lines-returns-in_err-append_key-clause-full t c =
@@ -103,10 +103,10 @@ append_member_lines-returns-in_err-append_key-clause-full t c =
     let text = indented c.args.indent c.args.margin (view c.in-Some.value.now) in
     let rest = texts_left false (member_lines c.args.indent c.args.margin (members_view c.next.new.self)) ++ [] in
     let next = next_member c.args.indent c.args.margin c.members.key-iterator c.next.new.self (c.in-Some.key.now, c.in-Some.value.now) c.in-Some.ensures.steps in
-    let due = comma_done c.members.is_first _ _ _ _ [] c.append_comma.new.buf.items _ _ next c.members.invariant.underway c.in_ok-append_comma.ensures.ok in
-    let due = line_done _ _ _ (new_line c.args.margin) (key ++ 58 ∷ 32 ∷ text) rest c.append_line.new.buf.items due c.in_ok-append_line.ensures.ok in
+    let due = comma_done c.members.is_first _ _ _ _ [] c.append_comma.new.buf.items _ _ next c.members.invariant.underway c.in_ok-append_comma.ensures.appends.ok in
+    let due = line_done _ _ _ (new_line c.args.margin) (key ++ 58 ∷ 32 ∷ text) rest c.append_line.new.buf.items due c.in_ok-append_line.ensures.appends.ok in
     let room = fits (key ++ 58 ∷ 32 ∷ []) (text ++ rest) due (key_split key text rest) in
-    on_err c.from_residual-in_err-append_key.result (λ texts. omega (arith, room, c.in_err-append_key.ensures.full))
+    on_err c.from_residual-in_err-append_key.result (λ texts. omega (arith, room, c.in_err-append_key.ensures.appends.full))
 
 pub append_member_lines-returns-in_err-append-clause-full : goal.append_member_lines-returns-in_err-append-clause-full
 append_member_lines-returns-in_err-append-clause-full t c =
@@ -114,9 +114,9 @@ append_member_lines-returns-in_err-append-clause-full t c =
     let text = indented c.args.indent c.args.margin (view c.in-Some.value.now) in
     let rest = texts_left false (member_lines c.args.indent c.args.margin (members_view c.next.new.self)) ++ [] in
     let next = next_member c.args.indent c.args.margin c.members.key-iterator c.next.new.self (c.in-Some.key.now, c.in-Some.value.now) c.in-Some.ensures.steps in
-    let due = comma_done c.members.is_first _ _ _ _ [] c.append_comma.new.buf.items _ _ next c.members.invariant.underway c.in_ok-append_comma.ensures.ok in
-    let due = line_done _ _ _ (new_line c.args.margin) (key ++ 58 ∷ 32 ∷ text) rest c.append_line.new.buf.items due c.in_ok-append_line.ensures.ok in
-    let due = key_done _ _ _ key text rest c.append_key.new.buf.items due c.in_ok-append_key.ensures.ok in
+    let due = comma_done c.members.is_first _ _ _ _ [] c.append_comma.new.buf.items _ _ next c.members.invariant.underway c.in_ok-append_comma.ensures.appends.ok in
+    let due = line_done _ _ _ (new_line c.args.margin) (key ++ 58 ∷ 32 ∷ text) rest c.append_line.new.buf.items due c.in_ok-append_line.ensures.appends.ok in
+    let due = key_done _ _ _ key text rest c.append_key.new.buf.items due c.in_ok-append_key.ensures.appends.ok in
     let room = fits text rest due refl in
     let first = next_member_text c.members.key-iterator c.next.new.self (c.in-Some.key.now, c.in-Some.value.now) c.in-Some.ensures.steps in
     on_err c.from_residual-in_err-append.result (λ texts. omega (arith, room, c.in_err-append.ensures.full (first_has_text _ _ _ _ c.members.invariant.texts first texts)))
@@ -161,7 +161,7 @@ append_items-returns-in_err-append_line-clause-full t c =
     let first = ap length c.in_ok-extend_from_slice.ensures.items in
     let second = ap length c.in_ok-append_item_lines.ensures.ok in
     on_err c.from_residual-in_err-append_line.result
-    (λ texts. omega (arith, ap length whole, room, first, length-append c.args.buf.now.items (91 ∷ []), second, length-append c.extend_from_slice-2.new.self.items lines, c.in_err-append_line.ensures.full))
+    (λ texts. omega (arith, ap length whole, room, first, length-append c.args.buf.now.items (91 ∷ []), second, length-append c.extend_from_slice-2.new.self.items lines, c.in_err-append_line.ensures.appends.full))
 
 pub append_items-returns-clause-ok : goal.append_items-returns-clause-ok
 append_items-returns-clause-ok t c =
@@ -169,7 +169,7 @@ append_items-returns-clause-ok t c =
     let some : length all ≢ 0 = search rules in
     let lines = with_commas (item_lines c.args.indent c.in_ok-inner.inner (trees_view all)) in
     let whole = array_is c.args.indent c.args.margin c.in_ok-inner.inner all some c.in_ok-inner.ensures.ok in
-    appended_last c.args.buf.now.items _ _ _ 91 93 lines (new_line c.args.margin) _ c.extend_from_slice-3.result whole c.in_ok-extend_from_slice.ensures.items c.in_ok-append_item_lines.ensures.ok c.in_ok-append_line.ensures.ok c.extend_from_slice-3.ensures.items
+    appended_last c.args.buf.now.items _ _ _ 91 93 lines (new_line c.args.margin) _ c.extend_from_slice-3.result whole c.in_ok-extend_from_slice.ensures.items c.in_ok-append_item_lines.ensures.ok c.in_ok-append_line.ensures.appends.ok c.extend_from_slice-3.ensures.items
 
 pub append_items-returns-clause-full : goal.append_items-returns-clause-full
 append_items-returns-clause-full t c =
@@ -180,9 +180,9 @@ append_items-returns-clause-full t c =
     let room = enclosed_length 91 93 lines (new_line c.args.margin) in
     let first = ap length c.in_ok-extend_from_slice.ensures.items in
     let second = ap length c.in_ok-append_item_lines.ensures.ok in
-    let third = ap length c.in_ok-append_line.ensures.ok in
+    let third = ap length c.in_ok-append_line.ensures.appends.ok in
     err_weaker c.extend_from_slice-3.result
-    (λ full texts. omega (arith, full, ap length whole, room, first, length-append c.args.buf.now.items (91 ∷ []), second, length-append c.extend_from_slice-2.new.self.items lines, third, length-append c.append_item_lines.new.buf.items (new_line c.args.margin), c.in_ok-extend_from_slice.ensures.capacity, c.in_ok-append_item_lines.ensures.capacity, c.in_ok-append_line.ensures.capacity))
+    (λ full texts. omega (arith, full, ap length whole, room, first, length-append c.args.buf.now.items (91 ∷ []), second, length-append c.extend_from_slice-2.new.self.items lines, third, length-append c.append_item_lines.new.buf.items (new_line c.args.margin), c.in_ok-extend_from_slice.ensures.capacity, c.in_ok-append_item_lines.ensures.capacity, c.in_ok-append_line.ensures.appends.capacity))
     c.extend_from_slice-3.ensures.full
 
 pub append_members-returns-in_err-inner-clause-full : goal.append_members-returns-in_err-inner-clause-full
@@ -202,7 +202,7 @@ append_members-returns-in_err-append_line-clause-full t c =
     let first = ap length c.in_ok-extend_from_slice.ensures.items in
     let second = ap length c.in_ok-append_member_lines.ensures.ok in
     on_err c.from_residual-in_err-append_line.result
-    (λ texts. omega (arith, ap length whole, room, first, length-append c.args.buf.now.items (123 ∷ []), second, length-append c.extend_from_slice-2.new.self.items lines, c.in_err-append_line.ensures.full))
+    (λ texts. omega (arith, ap length whole, room, first, length-append c.args.buf.now.items (123 ∷ []), second, length-append c.extend_from_slice-2.new.self.items lines, c.in_err-append_line.ensures.appends.full))
 
 pub append_members-returns-clause-ok : goal.append_members-returns-clause-ok
 append_members-returns-clause-ok t c =
@@ -210,7 +210,7 @@ append_members-returns-clause-ok t c =
     let some : length all ≢ 0 = search rules in
     let lines = with_commas (member_lines c.args.indent c.in_ok-inner.inner (members_view all)) in
     let whole = object_is c.args.indent c.args.margin c.in_ok-inner.inner all some c.in_ok-inner.ensures.ok in
-    appended_last c.args.buf.now.items _ _ _ 123 125 lines (new_line c.args.margin) _ c.extend_from_slice-3.result whole c.in_ok-extend_from_slice.ensures.items c.in_ok-append_member_lines.ensures.ok c.in_ok-append_line.ensures.ok c.extend_from_slice-3.ensures.items
+    appended_last c.args.buf.now.items _ _ _ 123 125 lines (new_line c.args.margin) _ c.extend_from_slice-3.result whole c.in_ok-extend_from_slice.ensures.items c.in_ok-append_member_lines.ensures.ok c.in_ok-append_line.ensures.appends.ok c.extend_from_slice-3.ensures.items
 
 pub append_members-returns-clause-full : goal.append_members-returns-clause-full
 append_members-returns-clause-full t c =
@@ -221,7 +221,7 @@ append_members-returns-clause-full t c =
     let room = enclosed_length 123 125 lines (new_line c.args.margin) in
     let first = ap length c.in_ok-extend_from_slice.ensures.items in
     let second = ap length c.in_ok-append_member_lines.ensures.ok in
-    let third = ap length c.in_ok-append_line.ensures.ok in
+    let third = ap length c.in_ok-append_line.ensures.appends.ok in
     err_weaker c.extend_from_slice-3.result
-    (λ full texts. omega (arith, full, ap length whole, room, first, length-append c.args.buf.now.items (123 ∷ []), second, length-append c.extend_from_slice-2.new.self.items lines, third, length-append c.append_member_lines.new.buf.items (new_line c.args.margin), c.in_ok-extend_from_slice.ensures.capacity, c.in_ok-append_member_lines.ensures.capacity, c.in_ok-append_line.ensures.capacity))
+    (λ full texts. omega (arith, full, ap length whole, room, first, length-append c.args.buf.now.items (123 ∷ []), second, length-append c.extend_from_slice-2.new.self.items lines, third, length-append c.append_member_lines.new.buf.items (new_line c.args.margin), c.in_ok-extend_from_slice.ensures.capacity, c.in_ok-append_member_lines.ensures.capacity, c.in_ok-append_line.ensures.appends.capacity))
     c.extend_from_slice-3.ensures.full
