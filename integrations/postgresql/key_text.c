@@ -1,7 +1,7 @@
 /*-------------------------------------------------------------------------
  *
  * key_text.c
- *	  Writing the text of a value from its sort key.
+ *	  Writing the text of a value from its sort key, and finding its parts there.
  *
  * The format of sort keys is that of docs/SORT_KEYS.md, and the text is the
  * one that the library writes (docs/VALUES.md).  Nothing here is relied on for
@@ -438,4 +438,255 @@ key_text_write(const unsigned char *key, size_t key_size, const unsigned char *z
 	}
 	*text_size = writer.size - 1;
 	return writer.written;
+}
+
+/*
+ * The part of a key at a path
+ */
+
+/* The end of the text of a string that begins here, behind its 0 and 1. NULL if there is none. */
+static const unsigned char *
+string_end(const unsigned char *key, const unsigned char *key_end)
+{
+	while (key_end - key >= 2)
+	{
+		key = memchr(key, 0, key_end - key - 1);
+		if (key == NULL)
+			return NULL;
+		key += 2;
+		if (key[-1] != 0xFF)
+			return key[-1] == 0x01 ? key : NULL;
+	}
+	return NULL;
+}
+
+/* The end of the value that begins here. NULL if there is none. How many numbers it has is added to *numbers. */
+static const unsigned char *
+value_end(const unsigned char *key, const unsigned char *key_end, uint64 *numbers)
+{
+	bool		in_object[MAX_LEVELS];
+	int			depth = 0;
+
+	for (;;)
+	{
+		unsigned char kind;
+
+		if (key == key_end)
+			return NULL;
+		kind = *key++;
+		if (kind == KEY_STRING)
+			key = string_end(key, key_end);
+		else if (kind >= KEY_NUMBER_LOW && kind <= KEY_NUMBER_HIGH)
+		{
+			unsigned char flip = kind < KEY_ZERO ? 0xFF : 0;
+
+			(*numbers)++;
+			if ((kind ^ flip) == PLACE_SMALL)
+			{
+				if (key == key_end)
+					return NULL;
+				key++;
+			}
+			if (kind != KEY_ZERO)
+			{
+				do
+				{
+					if (key == key_end)
+						return NULL;
+				} while ((*key++ ^ flip) & 1);
+			}
+		}
+		else if (kind == KEY_OBJECT || kind == KEY_ARRAY)
+		{
+			if (depth == MAX_LEVELS)
+				return NULL;
+			in_object[depth++] = kind == KEY_OBJECT;
+		}
+		else if (kind != KEY_NULL && kind != KEY_TRUE && kind != KEY_FALSE)
+			return NULL;
+
+		/* Behind a value, or at the beginning of an array or an object. */
+		for (;;)
+		{
+			if (key == NULL || depth == 0)
+				return key;
+			if (in_object[depth - 1])
+			{
+				if (key_end - key < 2)
+					return NULL;
+				if (key[0] != 0 || key[1] != 0)
+				{
+					key = string_end(key, key_end);
+					if (key == NULL)
+						return NULL;
+					break;
+				}
+				key += 2;
+			}
+			else
+			{
+				if (key == key_end)
+					return NULL;
+				if (*key != 0)
+					break;
+				key++;
+			}
+			depth--;
+		}
+	}
+}
+
+/* Whether the name, with the 0 and 1 behind it, is that of this step of a path. */
+static bool
+is_step(const unsigned char *name, const unsigned char *name_end, const char *step, const char *step_end)
+{
+	for (name_end -= 2; step < step_end; step++, name++)
+	{
+		unsigned char wanted = *step;
+
+		if (wanted == '~')
+			wanted = *++step == '0' ? '~' : '/';
+		if (name >= name_end || *name != wanted || wanted == 0)
+			return false;
+	}
+	return name == name_end;
+}
+
+/* The number of an item as a step of a path spells it. False if it spells none. */
+static bool
+step_index(const char *step, const char *step_end, uint64 *index)
+{
+	if (step == step_end || (*step == '0' && step + 1 < step_end) || step_end - step > 10)
+		return false;
+	for (*index = 0; step < step_end; step++)
+	{
+		if (*step < '0' || *step > '9')
+			return false;
+		*index = *index * 10 + (*step - '0');
+	}
+	return true;
+}
+
+KeyPart
+key_part(const unsigned char *key, size_t key_size, const char *path, size_t path_size,
+		 const unsigned char **part, size_t *part_size, uint64 *numbers_before, uint64 *numbers)
+{
+	const unsigned char *key_end = key + key_size;
+	const char *path_end = path + path_size;
+	const unsigned char *end;
+
+	if (path_size > 0 && *path != '/')
+		return KEY_NO_PATH;
+	for (const char *at = path; at < path_end; at++)
+	{
+		if (*at == '~' && (++at == path_end || (*at != '0' && *at != '1')))
+			return KEY_NO_PATH;
+	}
+
+	*numbers_before = *numbers = 0;
+	while (path < path_end)
+	{
+		const char *step = ++path;
+		const char *step_end = memchr(step, '/', path_end - step);
+		unsigned char kind;
+
+		if (step_end == NULL)
+			step_end = path_end;
+		path = step_end;
+		if (key == key_end)
+			return KEY_CORRUPTED;
+		kind = *key++;
+		if (kind == KEY_OBJECT)
+		{
+			for (;;)
+			{
+				const unsigned char *name = key;
+
+				if (key_end - key < 2)
+					return KEY_CORRUPTED;
+				if (key[0] == 0 && key[1] == 0)
+					return KEY_NO_PART;
+				key = string_end(name, key_end);
+				if (key == NULL)
+					return KEY_CORRUPTED;
+				if (is_step(name, key, step, step_end))
+					break;
+				key = value_end(key, key_end, numbers_before);
+				if (key == NULL)
+					return KEY_CORRUPTED;
+			}
+		}
+		else if (kind == KEY_ARRAY)
+		{
+			uint64		index;
+
+			if (!step_index(step, step_end, &index))
+				return KEY_NO_PART;
+			for (;; index--)
+			{
+				if (key == key_end)
+					return KEY_CORRUPTED;
+				if (*key == 0)
+					return KEY_NO_PART;
+				if (index == 0)
+					break;
+				key = value_end(key, key_end, numbers_before);
+				if (key == NULL)
+					return KEY_CORRUPTED;
+			}
+		}
+		else
+			return KEY_NO_PART;
+	}
+
+	end = value_end(key, key_end, numbers);
+	if (end == NULL)
+		return KEY_CORRUPTED;
+	*part = key;
+	*part_size = end - key;
+	return KEY_PART;
+}
+
+/* Append how many numbers come before one with zeros. */
+static size_t
+put_gap(unsigned char *into, size_t size, uint64 gap)
+{
+	for (; gap >= 0x80; gap >>= 7)
+		into[size++] = 0x80 | (gap & 0x7F);
+	into[size++] = gap;
+	return size;
+}
+
+size_t
+key_part_zeros(const unsigned char *zeros, size_t zeros_size, uint64 numbers_before, uint64 numbers,
+			   unsigned char *part_zeros)
+{
+	const unsigned char *zeros_end = zeros + zeros_size;
+	uint64		number = 0;		/* the number that comes next */
+	uint64		next = numbers_before;	/* the number of the part that comes next */
+	size_t		size = 0;
+
+	while (zeros < zeros_end)
+	{
+		uint64		gap = 0;
+		int			shift = 0;
+
+		for (; zeros < zeros_end && *zeros >= 0x80 && shift < 56; shift += 7)
+			gap |= (uint64) (*zeros++ & 0x7F) << shift;
+		if (zeros_end - zeros < 2 || *zeros >= 0x80)
+			return SIZE_MAX;
+		gap |= (uint64) *zeros++ << shift;
+		number += gap;
+		if (number >= numbers_before + numbers)
+			break;
+		if (number >= numbers_before)
+		{
+			size = put_gap(part_zeros, size, number - next);
+			part_zeros[size++] = *zeros;
+			next = number + 1;
+		}
+		zeros++;
+		number++;
+	}
+	return size;
 }

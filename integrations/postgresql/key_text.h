@@ -1,7 +1,7 @@
 /*-------------------------------------------------------------------------
  *
  * key_text.h
- *	  Writing the text of a value from its sort key.
+ *	  Writing the text of a value from its sort key, and finding its parts there.
  *
  *-------------------------------------------------------------------------
  */
@@ -31,5 +31,29 @@ extern bool key_text_zeros(const unsigned char *key, size_t key_size, const char
  */
 extern char *key_text_write(const unsigned char *key, size_t key_size, const unsigned char *zeros, size_t zeros_size,
 							size_t *text_size);
+
+/* What there is at a path in a key. */
+typedef enum
+{
+	KEY_PART,					/* a part */
+	KEY_NO_PART,				/* nothing */
+	KEY_NO_PATH,				/* the path isn't spelled as RFC 6901 has it */
+	KEY_CORRUPTED				/* the bytes are no key */
+} KeyPart;
+
+/*
+ * Find the part of a key at a path: its bytes in the key, which are the key of
+ * the part, how many numbers come before it, and how many it has.
+ */
+extern KeyPart key_part(const unsigned char *key, size_t key_size, const char *path, size_t path_size,
+						const unsigned char **part, size_t *part_size, uint64 *numbers_before, uint64 *numbers);
+
+/*
+ * Find the zeros of a part with these numbers among those of the whole key.  At
+ * most zeros_size bytes are put into part_zeros.  The answer is how many, or
+ * SIZE_MAX if the bytes are no zeros of a key.
+ */
+extern size_t key_part_zeros(const unsigned char *zeros, size_t zeros_size, uint64 numbers_before, uint64 numbers,
+							 unsigned char *part_zeros);
 
 #endif							/* KEY_TEXT_H */

@@ -603,14 +603,20 @@ vjson_sort_key(PG_FUNCTION_ARGS)
 /*
  * The part at a path
  */
-Datum
-vjson_get(PG_FUNCTION_ARGS)
+
+static void pg_attribute_noreturn()
+raise_no_path(text *path)
 {
-	struct varlena *value = PG_GETARG_VARLENA_PP(0);
-	text	   *words = PG_GETARG_TEXT_PP(1);
-	char	   *path = pg_server_to_any(VARDATA_ANY(words), (int) VARSIZE_ANY_EXHDR(words), PG_UTF8);
-	size_t		path_size = path == VARDATA_ANY(words) ? VARSIZE_ANY_EXHDR(words) : strlen(path);
-	VjsonParts	parts;
+	ereport(ERROR,
+			(errcode(ERRCODE_INVALID_PARAMETER_VALUE),
+			 errmsg("invalid path: \"%s\"", text_to_cstring(path)),
+			 errdetail("A path is empty or begins with \"/\", and each \"~\" in it is followed by 0 or 1.")));
+}
+
+/* The part of a value that has its text, by the library.  NULL if there is none. */
+static struct varlena *
+get_part_by_text(const VjsonParts *parts, text *words, const char *path, size_t path_size)
+{
 	char	   *whole;
 	size_t		whole_size;
 	char	   *part;
@@ -620,8 +626,7 @@ vjson_get(PG_FUNCTION_ARGS)
 	uint32		status;
 
 	/* A written text is of extended mode, and that of a part is no longer than that of the whole. */
-	get_parts(value, false, &parts);
-	whole = get_text(&parts, &whole_size);
+	whole = get_text(parts, &whole_size);
 	CHECK_FOR_INTERRUPTS();
 	check_stack_room(whole, whole_size);
 	part = palloc_extended(whole_size + SPARE_ROOM, MCXT_ALLOC_HUGE);
@@ -629,12 +634,9 @@ vjson_get(PG_FUNCTION_ARGS)
 							(const unsigned char *) whole, whole_size,
 							(unsigned char *) part, whole_size + SPARE_ROOM, &part_size, &refusal);
 	if (status == VIZHONIKU_NO_PART)
-		PG_RETURN_NULL();
+		return NULL;
 	if (status == VIZHONIKU_NO_PATH)
-		ereport(ERROR,
-				(errcode(ERRCODE_INVALID_PARAMETER_VALUE),
-				 errmsg("invalid path: \"%s\"", text_to_cstring(words)),
-				 errdetail("A path is empty or begins with \"/\", and each \"~\" in it is followed by 0 or 1.")));
+		raise_no_path(words);
 	if (status == VIZHONIKU_ACCEPTED)
 		status = make_value(VIZHONIKU_EXTENDED, part, part_size, &result, &refusal);
 	if (status == VIZHONIKU_OUT_OF_MEMORY)
@@ -643,6 +645,71 @@ vjson_get(PG_FUNCTION_ARGS)
 		raise_unexpected(status);
 	pfree(whole);
 	pfree(part);
+	return result;
+}
+
+/*
+ * The key of a part is in that of the whole, and the zeros of its numbers are
+ * among those of the whole, so nothing is read or written anew.
+ */
+Datum
+vjson_get(PG_FUNCTION_ARGS)
+{
+	struct varlena *value = PG_GETARG_VARLENA_PP(0);
+	text	   *words = PG_GETARG_TEXT_PP(1);
+	char	   *path = pg_server_to_any(VARDATA_ANY(words), (int) VARSIZE_ANY_EXHDR(words), PG_UTF8);
+	size_t		path_size = path == VARDATA_ANY(words) ? VARSIZE_ANY_EXHDR(words) : strlen(path);
+	VjsonParts	parts;
+	const unsigned char *key;
+	size_t		key_size;
+	uint64		numbers_before;
+	uint64		numbers;
+	uint32		stored_size;
+	struct varlena *result;
+	char	   *into;
+	size_t		zeros_size = 0;
+
+	get_parts(value, false, &parts);
+	if (parts.form == KEY_AND_TEXT)
+	{
+		result = get_part_by_text(&parts, words, path, path_size);
+		if (result == NULL)
+			PG_RETURN_NULL();
+		PG_RETURN_POINTER(result);
+	}
+	switch (key_part(parts.key, parts.key_size, path, path_size, &key, &key_size, &numbers_before, &numbers))
+	{
+		case KEY_NO_PART:
+			PG_RETURN_NULL();
+		case KEY_NO_PATH:
+			raise_no_path(words);
+		case KEY_CORRUPTED:
+			raise_corrupted();
+		case KEY_PART:
+			break;
+	}
+
+	result = (struct varlena *) palloc(VARHDRSZ + FORM_SIZE + KEY_SIZE_SIZE + key_size + parts.rest_size);
+	into = VARDATA(result) + FORM_SIZE;
+	if (parts.form == KEY_AND_ZEROS)
+	{
+		zeros_size = key_part_zeros(parts.rest, parts.rest_size, numbers_before, numbers,
+									(unsigned char *) into + KEY_SIZE_SIZE + key_size);
+		if (zeros_size == SIZE_MAX)
+			raise_corrupted();
+	}
+	if (zeros_size == 0)
+	{
+		*VARDATA(result) = KEY_ALONE;
+		memcpy(into, key, key_size);
+		SET_VARSIZE(result, VARHDRSZ + FORM_SIZE + key_size);
+		PG_RETURN_POINTER(result);
+	}
+	*VARDATA(result) = KEY_AND_ZEROS;
+	stored_size = (uint32) key_size;
+	memcpy(into, &stored_size, KEY_SIZE_SIZE);
+	memcpy(into + KEY_SIZE_SIZE, key, key_size);
+	SET_VARSIZE(result, VARHDRSZ + FORM_SIZE + KEY_SIZE_SIZE + key_size + zeros_size);
 	PG_RETURN_POINTER(result);
 }
 
