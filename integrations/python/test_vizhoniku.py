@@ -237,6 +237,9 @@ class Calls(unittest.TestCase):
     def test_wrong_types(self) -> None:
         self.assertRaises(TypeError, v.check, None)
         self.assertRaises(TypeError, v.check, 1.5)
+        for wrong in (0, 5, True, [], [49], {}, {"a": 1}):  # what bytes() takes, and is no text
+            self.assertRaises(TypeError, v.text, wrong)
+            self.assertRaises(TypeError, v.get, "{}", wrong)
         self.assertRaises(TypeError, v.compare, "1", None)
 
 

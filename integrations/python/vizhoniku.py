@@ -124,7 +124,11 @@ _library = _load()
 
 def _bytes(text: Text) -> bytes:
     # Half of a surrogate pair in a str becomes three bytes that aren't UTF-8, which the library rejects at their place.
-    return text.encode("utf-8", "surrogatepass") if isinstance(text, str) else bytes(text)
+    if isinstance(text, str):
+        return text.encode("utf-8", "surrogatepass")
+    if isinstance(text, (bytes, bytearray, memoryview)):
+        return bytes(text)
+    raise TypeError(f"a text is a str, bytes, a bytearray or a memoryview, and not {type(text).__name__}")
 
 
 def _mode(mode: int) -> int:
