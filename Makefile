@@ -65,10 +65,17 @@ install: all
 	sed -e 's|@PREFIX@|$(PREFIX)|' -e 's|@INCLUDEDIR@|$(INCLUDEDIR)|' -e 's|@LIBDIR@|$(LIBDIR)|' \
 	    -e 's|@VERSION@|$(VERSION)|' packaging/vizhoniku.pc.in > $(DESTDIR)$(LIBDIR)/pkgconfig/vizhoniku.pc
 	chmod 644 $(DESTDIR)$(LIBDIR)/pkgconfig/vizhoniku.pc
+	$(INSTALL) -d $(DESTDIR)$(LIBDIR)/cmake/vizhoniku
+	for name in vizhoniku-config vizhoniku-config-version; do \
+	    sed -e 's|@INCLUDEDIR@|$(INCLUDEDIR)|' -e 's|@LIBDIR@|$(LIBDIR)|' -e 's|@VERSION@|$(VERSION)|' \
+	        packaging/$$name.cmake.in > $(DESTDIR)$(LIBDIR)/cmake/vizhoniku/$$name.cmake && \
+	    chmod 644 $(DESTDIR)$(LIBDIR)/cmake/vizhoniku/$$name.cmake || exit 1; \
+	done
 
 uninstall:
 	rm -f $(DESTDIR)$(INCLUDEDIR)/vizhoniku.h $(DESTDIR)$(LIBDIR)/libvizhoniku.a $(DESTDIR)$(LIBDIR)/$(SONAME) \
 	    $(DESTDIR)$(LIBDIR)/libvizhoniku.so $(DESTDIR)$(LIBDIR)/pkgconfig/vizhoniku.pc
+	rm -rf $(DESTDIR)$(LIBDIR)/cmake/vizhoniku
 
 clean:
 	rm -rf build
