@@ -567,6 +567,21 @@ step_index(const char *step, const char *step_end, uint64 *index)
 	return true;
 }
 
+bool
+key_path_valid(const char *path, size_t path_size)
+{
+	const char *path_end = path + path_size;
+
+	if (path_size > 0 && *path != '/')
+		return false;
+	for (; path < path_end; path++)
+	{
+		if (*path == '~' && (++path == path_end || (*path != '0' && *path != '1')))
+			return false;
+	}
+	return true;
+}
+
 KeyPart
 key_part(const unsigned char *key, size_t key_size, const char *path, size_t path_size,
 		 const unsigned char **part, size_t *part_size, uint64 *numbers_before, uint64 *numbers)
@@ -575,13 +590,8 @@ key_part(const unsigned char *key, size_t key_size, const char *path, size_t pat
 	const char *path_end = path + path_size;
 	const unsigned char *end;
 
-	if (path_size > 0 && *path != '/')
+	if (!key_path_valid(path, path_size))
 		return KEY_NO_PATH;
-	for (const char *at = path; at < path_end; at++)
-	{
-		if (*at == '~' && (++at == path_end || (*at != '0' && *at != '1')))
-			return KEY_NO_PATH;
-	}
 
 	*numbers_before = *numbers = 0;
 	while (path < path_end)

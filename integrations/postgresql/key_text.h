@@ -41,6 +41,9 @@ typedef enum
 	KEY_CORRUPTED				/* the bytes are no key */
 } KeyPart;
 
+/* Whether the bytes are a path. */
+extern bool key_path_valid(const char *path, size_t path_size);
+
 /*
  * Find the part of a key at a path: its bytes in the key, which are the key of
  * the part, how many numbers come before it, and how many it has.

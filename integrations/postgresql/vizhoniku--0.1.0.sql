@@ -44,16 +44,56 @@ CREATE FUNCTION vjson_sort_key(vjson) RETURNS bytea
   AS 'MODULE_PATHNAME' LANGUAGE C IMMUTABLE STRICT PARALLEL SAFE;
 COMMENT ON FUNCTION vjson_sort_key(vjson) IS 'bytes that compare as the document does, equal for equal documents';
 
-CREATE FUNCTION vjson_get(vjson, path text) RETURNS vjson
-  AS 'MODULE_PATHNAME' LANGUAGE C IMMUTABLE STRICT PARALLEL SAFE COST 20;
-COMMENT ON FUNCTION vjson_get(vjson, text) IS 'the part at a path as RFC 6901 spells it, or NULL';
+-- Paths. Their type has no collation, so that postgres_fdw asks for parts at the servers that have the documents.
+
+CREATE TYPE vjson_path;
+
+CREATE FUNCTION vjson_path_in(cstring) RETURNS vjson_path
+  AS 'MODULE_PATHNAME' LANGUAGE C IMMUTABLE STRICT PARALLEL SAFE;
+COMMENT ON FUNCTION vjson_path_in(cstring) IS 'I/O';
+
+CREATE FUNCTION vjson_path_out(vjson_path) RETURNS cstring
+  AS 'textout' LANGUAGE internal IMMUTABLE STRICT PARALLEL SAFE;
+COMMENT ON FUNCTION vjson_path_out(vjson_path) IS 'I/O';
+
+CREATE FUNCTION vjson_path_recv(internal) RETURNS vjson_path
+  AS 'MODULE_PATHNAME' LANGUAGE C IMMUTABLE STRICT PARALLEL SAFE;
+COMMENT ON FUNCTION vjson_path_recv(internal) IS 'I/O';
+
+CREATE FUNCTION vjson_path_send(vjson_path) RETURNS bytea
+  AS 'textsend' LANGUAGE internal IMMUTABLE STRICT PARALLEL SAFE;
+COMMENT ON FUNCTION vjson_path_send(vjson_path) IS 'I/O';
+
+CREATE TYPE vjson_path (
+  INPUT = vjson_path_in,
+  OUTPUT = vjson_path_out,
+  RECEIVE = vjson_path_recv,
+  SEND = vjson_path_send,
+  INTERNALLENGTH = VARIABLE,
+  STORAGE = extended
+);
+COMMENT ON TYPE vjson_path IS 'path of a part of a JSON document, as RFC 6901 spells it';
+
+CREATE FUNCTION vjson_path(text) RETURNS vjson_path
+  AS 'MODULE_PATHNAME', 'vjson_path_from_text' LANGUAGE C IMMUTABLE STRICT PARALLEL SAFE;
+COMMENT ON FUNCTION vjson_path(text) IS 'convert text to vjson_path';
+
+CREATE CAST (text AS vjson_path) WITH FUNCTION vjson_path(text) AS IMPLICIT;
+COMMENT ON CAST (text AS vjson_path) IS 'convert text to vjson_path';
+
+CREATE CAST (vjson_path AS text) WITHOUT FUNCTION AS ASSIGNMENT;
+COMMENT ON CAST (vjson_path AS text) IS 'convert vjson_path to text';
+
+CREATE FUNCTION vjson_get(vjson, path vjson_path) RETURNS vjson
+  AS 'MODULE_PATHNAME' LANGUAGE C IMMUTABLE STRICT PARALLEL SAFE COST 2;
+COMMENT ON FUNCTION vjson_get(vjson, vjson_path) IS 'the part at a path, or NULL';
 
 CREATE OPERATOR #> (
   LEFTARG = vjson,
-  RIGHTARG = text,
+  RIGHTARG = vjson_path,
   FUNCTION = vjson_get
 );
-COMMENT ON OPERATOR #> (vjson, text) IS 'the part at a path as RFC 6901 spells it, or NULL';
+COMMENT ON OPERATOR #> (vjson, vjson_path) IS 'the part at a path, or NULL';
 
 -- Casts. Those from and to text are the server's own: to text in assignments, from text where it is asked for.
 

@@ -110,6 +110,9 @@ PG_FUNCTION_INFO_V1(vjson_recv);
 PG_FUNCTION_INFO_V1(vjson_send);
 PG_FUNCTION_INFO_V1(vjson_extended);
 PG_FUNCTION_INFO_V1(vjson_sort_key);
+PG_FUNCTION_INFO_V1(vjson_path_in);
+PG_FUNCTION_INFO_V1(vjson_path_recv);
+PG_FUNCTION_INFO_V1(vjson_path_from_text);
 PG_FUNCTION_INFO_V1(vjson_get);
 PG_FUNCTION_INFO_V1(vjson_from_json);
 PG_FUNCTION_INFO_V1(vjson_from_jsonb);
@@ -605,12 +608,49 @@ vjson_sort_key(PG_FUNCTION_ARGS)
  */
 
 static void pg_attribute_noreturn()
-raise_no_path(text *path)
+raise_no_path(const char *path)
 {
 	ereport(ERROR,
 			(errcode(ERRCODE_INVALID_PARAMETER_VALUE),
-			 errmsg("invalid path: \"%s\"", text_to_cstring(path)),
+			 errmsg("invalid path: \"%s\"", path),
 			 errdetail("A path is empty or begins with \"/\", and each \"~\" in it is followed by 0 or 1.")));
+}
+
+/* A path is kept as a text, in the encoding of the database. */
+static Datum
+make_path(const char *path, size_t size)
+{
+	char	   *utf8 = pg_server_to_any(path, (int) size, PG_UTF8);
+
+	if (!key_path_valid(utf8, utf8 == path ? size : strlen(utf8)))
+		raise_no_path(pnstrdup(path, size));
+	return PointerGetDatum(cstring_to_text_with_len(path, (int) size));
+}
+
+Datum
+vjson_path_in(PG_FUNCTION_ARGS)
+{
+	char	   *path = PG_GETARG_CSTRING(0);
+
+	PG_RETURN_DATUM(make_path(path, strlen(path)));
+}
+
+Datum
+vjson_path_recv(PG_FUNCTION_ARGS)
+{
+	StringInfo	buffer = (StringInfo) PG_GETARG_POINTER(0);
+	int			size;
+	char	   *path = pq_getmsgtext(buffer, buffer->len - buffer->cursor, &size);
+
+	PG_RETURN_DATUM(make_path(path, size));
+}
+
+Datum
+vjson_path_from_text(PG_FUNCTION_ARGS)
+{
+	text	   *path = PG_GETARG_TEXT_PP(0);
+
+	PG_RETURN_DATUM(make_path(VARDATA_ANY(path), VARSIZE_ANY_EXHDR(path)));
 }
 
 /* The part of a value that has its text, by the library.  NULL if there is none. */
@@ -636,7 +676,7 @@ get_part_by_text(const VjsonParts *parts, text *words, const char *path, size_t 
 	if (status == VIZHONIKU_NO_PART)
 		return NULL;
 	if (status == VIZHONIKU_NO_PATH)
-		raise_no_path(words);
+		raise_no_path(text_to_cstring(words));
 	if (status == VIZHONIKU_ACCEPTED)
 		status = make_value(VIZHONIKU_EXTENDED, part, part_size, &result, &refusal);
 	if (status == VIZHONIKU_OUT_OF_MEMORY)
@@ -682,7 +722,7 @@ vjson_get(PG_FUNCTION_ARGS)
 		case KEY_NO_PART:
 			PG_RETURN_NULL();
 		case KEY_NO_PATH:
-			raise_no_path(words);
+			raise_no_path(text_to_cstring(words));
 		case KEY_CORRUPTED:
 			raise_corrupted();
 		case KEY_PART:
