@@ -258,3 +258,48 @@ CREATE OPERATOR CLASS vjson_ops DEFAULT FOR TYPE vjson USING hash FAMILY vjson_o
   FUNCTION 1 vjson_hash(vjson),
   FUNCTION 2 vjson_hash_extended(vjson, bigint);
 COMMENT ON OPERATOR CLASS vjson_ops USING hash IS 'documents by value';
+
+-- A BRIN index keeps the least and the greatest document of each range of blocks.
+
+CREATE OPERATOR FAMILY vjson_ops USING brin;
+COMMENT ON OPERATOR FAMILY vjson_ops USING brin IS 'documents in the order of their values';
+
+CREATE OPERATOR CLASS vjson_ops DEFAULT FOR TYPE vjson USING brin FAMILY vjson_ops AS
+  OPERATOR 1 <,
+  OPERATOR 2 <=,
+  OPERATOR 3 =,
+  OPERATOR 4 >=,
+  OPERATOR 5 >,
+  FUNCTION 1 brin_minmax_opcinfo(internal),
+  FUNCTION 2 brin_minmax_add_value(internal, internal, internal, internal),
+  FUNCTION 3 brin_minmax_consistent(internal, internal, internal),
+  FUNCTION 4 brin_minmax_union(internal, internal, internal);
+COMMENT ON OPERATOR CLASS vjson_ops USING brin IS 'documents in the order of their values';
+
+-- Aggregates
+
+CREATE FUNCTION vjson_smaller(vjson, vjson) RETURNS vjson
+  AS 'MODULE_PATHNAME' LANGUAGE C IMMUTABLE STRICT PARALLEL SAFE;
+COMMENT ON FUNCTION vjson_smaller(vjson, vjson) IS 'smaller of two';
+
+CREATE FUNCTION vjson_larger(vjson, vjson) RETURNS vjson
+  AS 'MODULE_PATHNAME' LANGUAGE C IMMUTABLE STRICT PARALLEL SAFE;
+COMMENT ON FUNCTION vjson_larger(vjson, vjson) IS 'larger of two';
+
+CREATE AGGREGATE min(vjson) (
+  SFUNC = vjson_smaller,
+  STYPE = vjson,
+  COMBINEFUNC = vjson_smaller,
+  SORTOP = <,
+  PARALLEL = SAFE
+);
+COMMENT ON AGGREGATE min(vjson) IS 'minimum value of all vjson input values';
+
+CREATE AGGREGATE max(vjson) (
+  SFUNC = vjson_larger,
+  STYPE = vjson,
+  COMBINEFUNC = vjson_larger,
+  SORTOP = >,
+  PARALLEL = SAFE
+);
+COMMENT ON AGGREGATE max(vjson) IS 'maximum value of all vjson input values';

@@ -125,6 +125,8 @@ PG_FUNCTION_INFO_V1(vjson_le);
 PG_FUNCTION_INFO_V1(vjson_gt);
 PG_FUNCTION_INFO_V1(vjson_ge);
 PG_FUNCTION_INFO_V1(vjson_cmp);
+PG_FUNCTION_INFO_V1(vjson_smaller);
+PG_FUNCTION_INFO_V1(vjson_larger);
 PG_FUNCTION_INFO_V1(vjson_sortsupport);
 PG_FUNCTION_INFO_V1(vjson_hash);
 PG_FUNCTION_INFO_V1(vjson_hash_extended);
@@ -213,6 +215,20 @@ shown_line(const char *text, size_t size, const struct vizhoniku_location *place
 	return shown.data;
 }
 
+/* The column counted in characters, as users count it, of a place that counts bytes. */
+static size_t
+column_in_characters(const char *text, size_t size, const struct vizhoniku_place *place)
+{
+	size_t		column = 1;
+
+	for (size_t i = place->index - (place->column - 1) + 1; i <= place->index; i++)
+	{
+		if (i >= size || ((unsigned char) text[i] & 0xC0) != 0x80)
+			column++;
+	}
+	return column;
+}
+
 static void pg_attribute_noreturn()
 raise_refusal(const char *words, const char *text, size_t size, const struct vizhoniku_refusal *refusal)
 {
@@ -223,7 +239,7 @@ raise_refusal(const char *words, const char *text, size_t size, const struct viz
 			(errcode(ERRCODE_INVALID_TEXT_REPRESENTATION),
 			 errmsg("invalid input syntax for type %s", "vjson"),
 			 errdetail_internal("%s (line %zu, column %zu)", words ? words : "not a document",
-								place.line, place.column),
+								place.line, column_in_characters(text, size, &place)),
 			 refusal->code == VIZHONIKU_NUMBER_NOT_CARRIED ?
 			 errhint("Numbers are integers and decimals of at most 38 digits, with no exponent.") : 0,
 			 errcontext("vjson text, line %zu: %s", place.line, shown_line(text, size, &place))));
@@ -950,6 +966,19 @@ Datum
 vjson_cmp(PG_FUNCTION_ARGS)
 {
 	PG_RETURN_INT32(compare_datums(PG_GETARG_DATUM(0), PG_GETARG_DATUM(1)));
+}
+
+/* Of equal documents the first stays. */
+Datum
+vjson_smaller(PG_FUNCTION_ARGS)
+{
+	PG_RETURN_DATUM(PG_GETARG_DATUM(compare_datums(PG_GETARG_DATUM(0), PG_GETARG_DATUM(1)) <= 0 ? 0 : 1));
+}
+
+Datum
+vjson_larger(PG_FUNCTION_ARGS)
+{
+	PG_RETURN_DATUM(PG_GETARG_DATUM(compare_datums(PG_GETARG_DATUM(0), PG_GETARG_DATUM(1)) >= 0 ? 0 : 1));
 }
 
 
