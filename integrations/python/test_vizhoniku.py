@@ -1,6 +1,6 @@
 """Tries the module, and documents in LMDB: python3 test_vizhoniku.py
 
-Needs libvizhoniku.so.0 where vizhoniku.py looks for it. The tests of LMDB are skipped where python3-lmdb is missing.
+Needs libvizhoniku.so.0 where the package vizhoniku looks for it. The tests of LMDB are skipped where python3-lmdb is missing.
 """
 
 import doctest
