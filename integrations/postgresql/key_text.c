@@ -657,6 +657,43 @@ key_part(const unsigned char *key, size_t key_size, const char *path, size_t pat
 	return KEY_PART;
 }
 
+bool
+key_is_null(const unsigned char *key, size_t key_size)
+{
+	return key_size == 1 && *key == KEY_NULL;
+}
+
+bool
+key_is_string(const unsigned char *key, size_t key_size)
+{
+	return key_size > 0 && *key == KEY_STRING;
+}
+
+char *
+key_string(const unsigned char *key, size_t key_size, size_t *size)
+{
+	const unsigned char *key_end = key + key_size;
+	char	   *string;
+
+	if (!key_is_string(key, key_size) || string_end(key + 1, key_end) != key_end)
+		return NULL;
+	string = palloc_extended(key_size, MCXT_ALLOC_HUGE);
+	*size = 0;
+	for (key++; key < key_end - 2; key++)
+	{
+		const unsigned char *zero = memchr(key, 0, key_end - 2 - key);
+		size_t		run = (zero ? zero + 1 : key_end - 2) - key;
+
+		memcpy(string + *size, key, run);
+		*size += run;
+		if (zero == NULL)
+			break;
+		key = zero + 1;			/* the 0xFF behind it */
+	}
+	string[*size] = '\0';
+	return string;
+}
+
 /* Append how many numbers come before one with zeros. */
 static size_t
 put_gap(unsigned char *into, size_t size, uint64 gap)

@@ -41,6 +41,18 @@ typedef enum
 	KEY_CORRUPTED				/* the bytes are no key */
 } KeyPart;
 
+/* Whether it is the key of null. */
+extern bool key_is_null(const unsigned char *key, size_t key_size);
+
+/* Whether it is the key of a string. */
+extern bool key_is_string(const unsigned char *key, size_t key_size);
+
+/*
+ * The string of a key, with a zero byte at its end; it may have others.  NULL if
+ * it is no key of a string.
+ */
+extern char *key_string(const unsigned char *key, size_t key_size, size_t *size);
+
 /* Whether the bytes are a path. */
 extern bool key_path_valid(const char *path, size_t path_size);
 

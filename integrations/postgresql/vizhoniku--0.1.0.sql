@@ -95,6 +95,17 @@ CREATE OPERATOR #> (
 );
 COMMENT ON OPERATOR #> (vjson, vjson_path) IS 'the part at a path, or NULL';
 
+CREATE FUNCTION vjson_get_text(vjson, path vjson_path) RETURNS text
+  AS 'MODULE_PATHNAME' LANGUAGE C IMMUTABLE STRICT PARALLEL SAFE COST 2;
+COMMENT ON FUNCTION vjson_get_text(vjson, vjson_path) IS 'the part at a path as text, or NULL';
+
+CREATE OPERATOR #>> (
+  LEFTARG = vjson,
+  RIGHTARG = vjson_path,
+  FUNCTION = vjson_get_text
+);
+COMMENT ON OPERATOR #>> (vjson, vjson_path) IS 'the part at a path as text, or NULL';
+
 -- Casts. Those from and to text are the server's own: to text in assignments, from text where it is asked for.
 
 CREATE FUNCTION vjson_from_json(json) RETURNS vjson

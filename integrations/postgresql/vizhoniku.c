@@ -114,6 +114,7 @@ PG_FUNCTION_INFO_V1(vjson_path_in);
 PG_FUNCTION_INFO_V1(vjson_path_recv);
 PG_FUNCTION_INFO_V1(vjson_path_from_text);
 PG_FUNCTION_INFO_V1(vjson_get);
+PG_FUNCTION_INFO_V1(vjson_get_text);
 PG_FUNCTION_INFO_V1(vjson_from_json);
 PG_FUNCTION_INFO_V1(vjson_from_jsonb);
 PG_FUNCTION_INFO_V1(vjson_to_json);
@@ -705,14 +706,14 @@ get_part_by_text(const VjsonParts *parts, text *words, const char *path, size_t 
 }
 
 /*
+ * The part of a value at a path, or NULL.
+ *
  * The key of a part is in that of the whole, and the zeros of its numbers are
  * among those of the whole, so nothing is read or written anew.
  */
-Datum
-vjson_get(PG_FUNCTION_ARGS)
+static struct varlena *
+get_part(struct varlena *value, text *words)
 {
-	struct varlena *value = PG_GETARG_VARLENA_PP(0);
-	text	   *words = PG_GETARG_TEXT_PP(1);
 	char	   *path = pg_server_to_any(VARDATA_ANY(words), (int) VARSIZE_ANY_EXHDR(words), PG_UTF8);
 	size_t		path_size = path == VARDATA_ANY(words) ? VARSIZE_ANY_EXHDR(words) : strlen(path);
 	VjsonParts	parts;
@@ -727,16 +728,11 @@ vjson_get(PG_FUNCTION_ARGS)
 
 	get_parts(value, false, &parts);
 	if (parts.form == KEY_AND_TEXT)
-	{
-		result = get_part_by_text(&parts, words, path, path_size);
-		if (result == NULL)
-			PG_RETURN_NULL();
-		PG_RETURN_POINTER(result);
-	}
+		return get_part_by_text(&parts, words, path, path_size);
 	switch (key_part(parts.key, parts.key_size, path, path_size, &key, &key_size, &numbers_before, &numbers))
 	{
 		case KEY_NO_PART:
-			PG_RETURN_NULL();
+			return NULL;
 		case KEY_NO_PATH:
 			raise_no_path(text_to_cstring(words));
 		case KEY_CORRUPTED:
@@ -759,14 +755,52 @@ vjson_get(PG_FUNCTION_ARGS)
 		*VARDATA(result) = KEY_ALONE;
 		memcpy(into, key, key_size);
 		SET_VARSIZE(result, VARHDRSZ + FORM_SIZE + key_size);
-		PG_RETURN_POINTER(result);
+		return result;
 	}
 	*VARDATA(result) = KEY_AND_ZEROS;
 	stored_size = (uint32) key_size;
 	memcpy(into, &stored_size, KEY_SIZE_SIZE);
 	memcpy(into + KEY_SIZE_SIZE, key, key_size);
 	SET_VARSIZE(result, VARHDRSZ + FORM_SIZE + KEY_SIZE_SIZE + key_size + zeros_size);
-	PG_RETURN_POINTER(result);
+	return result;
+}
+
+Datum
+vjson_get(PG_FUNCTION_ARGS)
+{
+	struct varlena *part = get_part(PG_GETARG_VARLENA_PP(0), PG_GETARG_TEXT_PP(1));
+
+	if (part == NULL)
+		PG_RETURN_NULL();
+	PG_RETURN_POINTER(part);
+}
+
+/* The part as a text: a string without its quotes and escapes, and NULL where it is null. */
+Datum
+vjson_get_text(PG_FUNCTION_ARGS)
+{
+	struct varlena *part = get_part(PG_GETARG_VARLENA_PP(0), PG_GETARG_TEXT_PP(1));
+	VjsonParts	parts;
+	char	   *string;
+	size_t		size;
+
+	if (part == NULL)
+		PG_RETURN_NULL();
+	get_parts(part, false, &parts);
+	if (key_is_null(parts.key, parts.key_size))
+		PG_RETURN_NULL();
+	if (!key_is_string(parts.key, parts.key_size))
+		PG_RETURN_TEXT_P(cstring_to_text(get_server_text(&parts)));
+	string = key_string(parts.key, parts.key_size, &size);
+	if (string == NULL)
+		raise_corrupted();
+	if (memchr(string, 0, size))
+		ereport(ERROR,
+				(errcode(ERRCODE_UNTRANSLATABLE_CHARACTER),
+				 errmsg("a string with \\u0000 cannot be converted to text")));
+	if (GetDatabaseEncoding() == PG_UTF8)
+		PG_RETURN_TEXT_P(cstring_to_text_with_len(string, (int) size));
+	PG_RETURN_TEXT_P(cstring_to_text(pg_any_to_server(string, (int) size, PG_UTF8)));
 }
 
 
