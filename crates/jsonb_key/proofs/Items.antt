@@ -67,7 +67,7 @@ pub items_begun : (depth : ℕ) (bytes : List ℕ) → ReadsItems depth bytes []
 items_begun depth bytes = λ ts p w more e. record { left = ts; proper = p; within = w; whole = refl; stands = e }
 
 -- no key begins with the byte that closes an array
-no_zero : (t : Tree) (depth : ℕ) (others rest : List ℕ) (first : ℕ) (tail : List ℕ) → IsProper t → IsWithin IsAnyNumber t depth → rest ≡ first ∷ tail → first ≡ 0 → rest ≡ key_of t ++ others → ⊥
+pub no_zero : (t : Tree) (depth : ℕ) (others rest : List ℕ) (first : ℕ) (tail : List ℕ) → IsProper t → IsWithin IsAnyNumber t depth → rest ≡ first ∷ tail → first ≡ 0 → rest ≡ key_of t ++ others → ⊥
 no_zero t depth others rest first tail p w e zero_there stands =
     let b = begins t (bounded_at t depth p w) in
     absurd (omega (arith, b.above, zero_there, heads first b.head tail (b.tail ++ others) (sym e ∙ stands ∙ ap (λ key. key ++ others) b.is)))

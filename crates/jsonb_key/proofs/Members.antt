@@ -90,7 +90,7 @@ pub members_begun : (depth : ℕ) (bytes : List ℕ) → ReadsMembers depth byte
 members_begun depth bytes = λ ms p w more e. record { left = ms; proper = p; within = w; whole = refl; names = refl; stands = e }
 
 -- no text's key begins as the end of an object does
-no_pair : (key others rest more : List ℕ) → rest ≡ 0 ∷ 0 ∷ more → rest ≡ text_key key ++ others → ⊥
+pub no_pair : (key others rest more : List ℕ) → rest ≡ 0 ∷ 0 ∷ more → rest ≡ text_key key ++ others → ⊥
 no_pair [] others rest more e stands = absurd (omega (arith, heads 0 1 more others (tails 0 0 (0 ∷ more) (1 ∷ others) (sym e ∙ stands))))
 no_pair (zero ∷ key) others rest more e stands = absurd (omega (arith, heads 0 255 more (text_key key ++ others) (tails 0 0 (0 ∷ more) (255 ∷ (text_key key ++ others)) (sym e ∙ stands))))
 no_pair (suc b ∷ key) others rest more e stands = absurd (omega (arith, heads 0 (suc b) (0 ∷ more) (text_key key ++ others) (sym e ∙ stands ∙ ap (λ bytes. bytes ++ others) (text_key-other b key))))

@@ -256,7 +256,7 @@ module _ (negative : Bool) (bytes : List ℕ) (digits read : ℕ) (rest : List �
         stands = y.stands;
       }
 
-no_bytes : (negative : Bool) (left tail : ℕ) (more : List ℕ) → tail < 10 ^ left → 0 < tail → [] ≡ map (turned negative) (digits_key left tail) ++ more → ⊥
+pub no_bytes : (negative : Bool) (left tail : ℕ) (more : List ℕ) → tail < 10 ^ left → 0 < tail → [] ≡ map (turned negative) (digits_key left tail) ++ more → ⊥
 no_bytes negative zero tail more below some e = absurd (nothing_left tail below some)
 no_bytes negative (suc zero) tail more below some e = let clash : [] ≡ turned negative (20 * tail) ∷ more = e ∙ ap (λ key. map (turned negative) key ++ more) (single_key tail) in cc
 no_bytes negative (suc (suc count)) tail more below some e = elim (cases_eq (tail % 10 ^ count) 0) [

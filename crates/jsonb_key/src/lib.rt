@@ -2,7 +2,7 @@
 #![tactic(auto)]
 
 pub mod key;
-mod number;
-mod text;
+pub mod number;
+pub mod text;
 
 pub use key::{KeyError, value_of_sort_key};

@@ -13,8 +13,8 @@ ghost use Rattle.jsonb_key.specs.Reading.{IsDigits, HasParts, IsLastPair, place_
 
 use jsonb_value::number::{Decimal64, Decimal128, Number};
 
-// The number whose key the bytes begin with, and the bytes after it.
-pub(crate) fn read_number(bytes: &[u8]) -> Option<(Number, &[u8])>
+/// The number whose key the bytes begin with, and the bytes after it.
+pub fn read_number(bytes: &[u8]) -> Option<(Number, &[u8])>
     ensures found { (n : Num) → IsProperNumber n → (more : List ℕ) → bytes.now ≡ number_key n ++ more
         → MatchOption result ⊥ (λ r. (number_key (number_view r.0) ≡ number_key n) × (r.1.now ≡ more)) }
     ensures shorter { IfSome result (λ r. length r.1.now < length bytes.now) }
@@ -29,15 +29,15 @@ pub(crate) fn read_number(bytes: &[u8]) -> Option<(Number, &[u8])>
     Some((number_of(negative, place, digits, count)?, rest))
 }
 
-// A byte of a key, turned round where the number is negative.
-fn turned(negative: bool, byte: u8) -> u8
+/// A byte of a key, turned round where the number is negative.
+pub fn turned(negative: bool, byte: u8) -> u8
     ensures { result ≡ turned negative byte }
 {
     if negative { 255 - byte } else { byte }
 }
 
-// The place of the first digit, with 255 added, and the bytes after it.
-fn read_place(negative: bool, bytes: &[u8]) -> Option<(u32, &[u8])>
+/// The place of the first digit, with 255 added, and the bytes after it.
+pub fn read_place(negative: bool, bytes: &[u8]) -> Option<(u32, &[u8])>
     ensures place { option_map (λ r. (r.0, r.1.now)) result ≡ place_of negative bytes.now }
     ensures shorter { IfSome result (λ r. (r.0 < 512) × (length r.1.now < length bytes.now)) }
 {

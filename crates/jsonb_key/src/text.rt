@@ -29,8 +29,8 @@ pub(crate) fn read_text(alloc: Global, bytes: &[u8]) -> Result<(String, &[u8]), 
     Ok((text, rest))
 }
 
-// The byte of a text whose key the bytes begin with, and the bytes after it.
-fn read_byte(bytes: &[u8]) -> Option<(u8, &[u8])>
+/// The byte of a text whose key the bytes begin with, and the bytes after it.
+pub fn read_byte(bytes: &[u8]) -> Option<(u8, &[u8])>
     ensures byte { option_map (λ r. (r.0, r.1.now)) result ≡ byte_of bytes.now }
     ensures shorter { IfSome result (λ r. length r.1.now < length bytes.now) }
 {
@@ -53,8 +53,8 @@ fn read_escape(bytes: &[u8]) -> Option<(u8, &[u8])>
     }
 }
 
-// The bytes after a zero and this byte, if they begin so.
-pub(crate) fn skip_pair(second: u8, bytes: &[u8]) -> Option<&[u8]>
+/// The bytes after a zero and this byte, if they begin so.
+pub fn skip_pair(second: u8, bytes: &[u8]) -> Option<&[u8]>
     ensures some { IfSome result (λ rest. bytes.now ≡ 0 ∷ second ∷ rest.now) }
     ensures found { (more : List ℕ) → bytes.now ≡ 0 ∷ second ∷ more → option_map (λ rest. rest.now) result ≡ Some more }
 {

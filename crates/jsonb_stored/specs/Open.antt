@@ -1,0 +1,49 @@
+-- What stands in a key behind the beginning of an array or an object: parts, and an end.
+-- Read for: private.
+use Rattle.std.specs.Prelude.{◌≡◌, ℕ, suc, Bool, true, false, List, [], ◌∷◌, ◌++◌, ⊤}
+use Rattle.jsonb_key.specs.Readable.{IsAnyNumber}
+use Rattle.jsonb_value.specs.Proper.{AreProper, HaveProperParts}
+use Rattle.jsonb_value.specs.SortKey.{items_key, members_key, text_key}
+use Rattle.jsonb_value.specs.Text.Range.{AreWithin, HaveWithin}
+use Rattle.jsonb_value.specs.Tree.{Tree, array, object, Trees, Members}
+
+-- an array or an object that is open: the items or the members that are left of it
+pub data Open : Type 0 where
+  items : Trees → Open
+  members : Members → Open
+
+-- whether it is an object
+abbrev pub is_object : Open → Bool
+is_object (items ts) = false
+is_object (members ms) = true
+
+-- what is left of its key
+abbrev pub open_key : Open → List ℕ
+open_key (items ts) = items_key ts
+open_key (members ms) = members_key ms
+
+-- what is left is well-formed, with arrays and objects nested no deeper than the number
+abbrev pub IsOpen : Open → ℕ → Type 0
+IsOpen (items ts) depth = AreProper ts × AreWithin IsAnyNumber ts depth
+IsOpen (members ms) depth = HaveProperParts ms × HaveWithin IsAnyNumber ms depth
+
+-- how an object or an array ends
+abbrev pub end_key : Bool → List ℕ
+end_key true = 0 ∷ 0 ∷ []
+end_key false = 0 ∷ []
+
+-- the key of a member's name, which an item has none of
+abbrev pub name_key : Bool → List ℕ → List ℕ
+name_key true name = text_key name
+name_key false name = []
+
+-- neither an array nor an object
+abbrev pub IsScalar : Tree → Type 0
+IsScalar (array ts) = ⊥
+IsScalar (object ms) = ⊥
+IsScalar t = ⊤
+
+-- the first byte of the key of an object, or of an array
+abbrev pub opening_byte : Bool → ℕ
+opening_byte true = 209
+opening_byte false = 210

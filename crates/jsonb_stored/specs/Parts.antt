@@ -1,0 +1,38 @@
+-- Parts of values, found in their keys.
+-- Read for: promises.
+use Rattle.std.specs.Prelude.{◌≡◌, ℕ, List, ◌++◌}
+use Rattle.jsonb_pointer.specs.Path.{IsChild, IsAt, IsPartAt}
+use Rattle.jsonb_stored.specs.Open.{Open, items, members}
+use Rattle.jsonb_value.specs.SortKey.{key_of}
+use Rattle.jsonb_value.specs.Tree.{Tree, array, object}
+
+-- the array or the object of which all is left
+abbrev pub opened_tree : Open → Tree
+opened_tree (items ts) = array ts
+opened_tree (members ms) = object ms
+
+-- The bytes begin with the key of the member of that name, or of the item of that index.
+pub record ChildAt (t : Tree) (name rest : List ℕ) : Type 0 where
+  pub child : Tree
+  pub is : IsChild t name child
+  pub behind : List ℕ
+  pub stands : rest ≡ key_of child ++ behind
+
+-- The bytes begin with the key of the part at the path of these names.
+pub record StandsAt (t : Tree) (names : List (List ℕ)) (rest : List ℕ) : Type 0 where
+  pub part : Tree
+  pub at : IsAt t names part
+  pub behind : List ℕ
+  pub stands : rest ≡ key_of part ++ behind
+
+-- The bytes are the key of the part at the path of these names.
+pub record IsKeyAt (t : Tree) (names : List (List ℕ)) (key : List ℕ) : Type 0 where
+  pub part : Tree
+  pub at : IsAt t names part
+  pub is_key : key ≡ key_of part
+
+-- The bytes are the key of the part at the path.
+pub record IsKeyOfPart (path : List ℕ) (t : Tree) (key : List ℕ) : Type 0 where
+  pub part : Tree
+  pub at : IsPartAt path t part
+  pub is_key : key ≡ key_of part

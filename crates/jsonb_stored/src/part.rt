@@ -1,0 +1,211 @@
+//! The part of a key at a path.
+
+ghost use Rattle.std.specs.Prelude.{◌≡◌, ◌<◌, ◌≤◌, ◌^◌, ◌++◌, ◌∷◌, List, ℕ, length, map, string_bytes, IfOk, IfErr, IfSome, IfNone, IsTrue, IsFalse, MatchOption, Some, None, true, false};
+ghost use Rattle.std.specs.Str.{bytes_eq};
+ghost use Rattle.jsonb_key.specs.Readable.{IsReadable, IsAnyNumber};
+ghost use Rattle.jsonb_pointer.specs.Path.{IsIndex, IsChild, IsAt, IsPartAt, HasNoPartAt, IsGetRefusal};
+ghost use Rattle.jsonb_stored.specs.Open.{Open, is_object, open_key, IsOpen, end_key};
+ghost use Rattle.jsonb_stored.specs.Parts.{opened_tree, ChildAt, StandsAt, IsKeyAt, IsKeyOfPart};
+ghost use Rattle.jsonb_value.specs.Proper.{AreProper, HaveProperParts};
+ghost use Rattle.jsonb_value.specs.SortKey.{key_of, items_key, members_key, text_key};
+ghost use Rattle.jsonb_value.specs.Text.Range.{AreWithin, HaveWithin};
+ghost use Rattle.jsonb_value.specs.Tree.{Tree, array, object, Trees, Members};
+
+use crate::skip::{after_end, after_key, after_text, opening};
+use crate::walk::front;
+use jsonb_key::text::{read_byte, skip_pair};
+use jsonb_pointer::{Refusal, read_keys};
+use std::alloc::Global;
+
+/// The key of the part at the path (RFC 6901), which stands within the key, or `None` where there is none. Only the
+/// keys of the path are allocated.
+///
+/// # Errors
+///
+/// `NoPath` where the bytes aren't a path, and `NoMemory`.
+pub fn part_of_key<'k>(
+    alloc: Global,
+    key: &'k [u8],
+    path: &[u8],
+) -> Result<Option<&'k [u8]>, Refusal>
+    ensures found { IfOk result (λ answer. (t : Tree) → IsReadable t → key.now ≡ key_of t
+        → MatchOption answer (HasNoPartAt path.now t) (λ part. IsKeyOfPart path.now t part.now)) }
+    ensures refused { IfErr result (IsGetRefusal path.now) }
+{
+    match read_keys(alloc, path)? {
+        Some(names) => Ok(part_at(key, &names)),
+        None => Err(Refusal::NoPath),
+    }
+}
+
+/// The key of the part at the path of these names.
+pub fn part_at<'k>(key: &'k [u8], names: &[String]) -> Option<&'k [u8]>
+    ensures found { (t : Tree) → IsReadable t → key.now ≡ key_of t
+        → MatchOption result ((u : Tree) → IsAt t (map string_bytes names.now) u → ⊥)
+        (λ part. IsKeyAt t (map string_bytes names.now) part.now) }
+{
+    let Some(part) = part_from(key, names) else {
+        return None;
+    };
+    let Some(rest) = after_key(part) else {
+        return None;
+    };
+    Some(front(part, rest))
+}
+
+// The bytes from the part at the path of these names on.
+fn part_from<'k>(key: &'k [u8], names: &[String]) -> Option<&'k [u8]>
+    ensures found { (t : Tree) → IsReadable t → (more : List ℕ) → key.now ≡ key_of t ++ more
+        → MatchOption result ((u : Tree) → IsAt t (map string_bytes names.now) u → ⊥)
+        (λ rest. StandsAt t (map string_bytes names.now) rest.now) }
+{
+    let Some((name, others)) = names.split_first() else {
+        return Some(key);
+    };
+    let Some(part) = child(key, name.as_str()) else {
+        return None;
+    };
+    part_from(part, others)
+}
+
+/// The bytes from the member of that name on, or from the item of that index on.
+pub fn child<'k>(key: &'k [u8], name: &str) -> Option<&'k [u8]>
+    ensures found { (t : Tree) → IsReadable t → (more : List ℕ) → key.now ≡ key_of t ++ more
+        → MatchOption result ((u : Tree) → IsChild t name.now u → ⊥) (λ rest. ChildAt t name.now rest.now) }
+{
+    let (first, parts) = key.split_first()?;
+    match opening(*first) {
+        Some(object) => child_of(object, parts, name),
+        None => None,
+    }
+}
+
+// The same, from what stands behind the first byte.
+fn child_of<'k>(object: bool, parts: &'k [u8], name: &str) -> Option<&'k [u8]>
+    ensures found { (o : Open) → is_object o ≡ object → IsOpen o 511 → (more : List ℕ)
+        → parts.now ≡ open_key o ++ more
+        → MatchOption result ((u : Tree) → IsChild (opened_tree o) name.now u → ⊥)
+        (λ rest. ChildAt (opened_tree o) name.now rest.now) }
+{
+    if object {
+        return member(parts, name.as_bytes());
+    }
+    match index_of(name) {
+        Some(index) => item(parts, index, name),
+        None => no_item(parts, name),
+    }
+}
+
+// None where the name spells no index of 64 bits.
+fn no_item<'k>(parts: &'k [u8], name: &str) -> Option<&'k [u8]>
+    requires { (index : ℕ) → index < 2 ^ 64 → IsIndex name.now index → ⊥ }
+    ensures found { (ts : Trees) → AreProper ts → AreWithin IsAnyNumber ts 511 → (more : List ℕ)
+        → parts.now ≡ items_key ts ++ more
+        → MatchOption result ((u : Tree) → IsChild (array ts) name.now u → ⊥)
+        (λ rest. ChildAt (array ts) name.now rest.now) }
+{
+    let _name = name;
+    let _count = len_of(parts);
+    None
+}
+
+fn len_of(bytes: &[u8]) -> usize
+    ensures { result ≡ length bytes.now }
+{
+    bytes.len()
+}
+
+// The bytes from the value of the member of that name on.
+fn member<'k>(members: &'k [u8], name: &[u8]) -> Option<&'k [u8]>
+    ensures found { (ms : Members) → HaveProperParts ms → HaveWithin IsAnyNumber ms 511 → (more : List ℕ)
+        → members.now ≡ members_key ms ++ more
+        → MatchOption result ((u : Tree) → IsChild (object ms) name.now u → ⊥)
+        (λ rest. ChildAt (object ms) name.now rest.now) }
+{
+    let mut rest = members;
+    'members: loop {
+        if is_over(true, rest) {
+            return None;
+        }
+        if let Some(value) = after_this_name(rest, name) {
+            return Some(value);
+        }
+        let value = after_text(rest)?;
+        let others = after_key(value)?;
+        rest = others;
+    }
+}
+
+// The bytes from that item on, whose index the name spells.
+fn item<'k>(items: &'k [u8], index: usize, name: &str) -> Option<&'k [u8]>
+    requires { IsIndex name.now index }
+    ensures found { (ts : Trees) → AreProper ts → AreWithin IsAnyNumber ts 511 → (more : List ℕ)
+        → items.now ≡ items_key ts ++ more
+        → MatchOption result ((u : Tree) → IsChild (array ts) name.now u → ⊥)
+        (λ rest. ChildAt (array ts) name.now rest.now) }
+{
+    let _name = name;
+    let mut rest = items;
+    let mut before = index;
+    'items: loop {
+        if is_over(false, rest) {
+            return None;
+        }
+        let Some(less) = before.checked_sub(1) else {
+            return Some(rest);
+        };
+        let others = after_key(rest)?;
+        rest = others;
+        before = less;
+    }
+}
+
+// Whether an object or an array ends here.
+fn is_over(object: bool, bytes: &[u8]) -> bool
+    ensures yes { IsTrue result → (tail : List ℕ) × (bytes.now ≡ end_key object ++ tail) }
+    ensures no { IsFalse result → (tail : List ℕ) → bytes.now ≡ end_key object ++ tail → ⊥ }
+{
+    match after_end(object, bytes) {
+        Some(_) => true,
+        None => false,
+    }
+}
+
+// The bytes after the key of this name, if they begin with it.
+fn after_this_name<'k>(bytes: &'k [u8], name: &[u8]) -> Option<&'k [u8]>
+    ensures found { (text more : List ℕ) → bytes.now ≡ text_key text ++ more
+        → MatchOption result (bytes_eq name.now text ≡ false)
+        (λ rest. (bytes_eq name.now text ≡ true) × (rest.now ≡ more)) }
+{
+    let mut rest = bytes;
+    let mut left = name;
+    'bytes: while let Some((wanted, others)) = left.split_first() {
+        let Some((byte, more)) = read_byte(rest) else {
+            return None;
+        };
+        if byte != *wanted {
+            return None;
+        }
+        rest = more;
+        left = others;
+    }
+    let Some(after) = skip_pair(1, rest) else {
+        return None;
+    };
+    Some(after)
+}
+
+// The index that the name spells: decimal digits without leading zeros.
+fn index_of(name: &str) -> Option<usize>
+    ensures some { IfSome result (λ index. IsIndex name.now index) }
+    ensures none { IfNone result ((index : ℕ) → index < 2 ^ 64 → IsIndex name.now index → ⊥) }
+{
+    let bytes = name.as_bytes();
+    if bytes.is_empty() || bytes[0] == b'+' {
+        return None;
+    }
+    if bytes.len() > 1 && bytes[0] == b'0' {
+        return None;
+    }
+    name.parse().ok()
+}

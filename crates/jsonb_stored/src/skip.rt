@@ -1,0 +1,197 @@
+//! Where the key of a value ends.
+
+ghost use Rattle.std.specs.Prelude.{◌≡◌, ◌<◌, ◌≤◌, ◌^◌, ◌++◌, ◌∷◌, ◌≢◌, ◌⊎◌, List, ℕ, length, map, nat_lt, IfSome, option_map, Some, IsTrue, IsFalse, MatchOption, get_or, false};
+ghost use Rattle.jsonb_key.specs.Readable.{IsReadable, IsReadableAt};
+ghost use Rattle.jsonb_stored.specs.Open.{Open, is_object, open_key, IsOpen, end_key, name_key, opening_byte, IsScalar};
+ghost use Rattle.jsonb_value.specs.Proper.{IsProperNumber};
+ghost use Rattle.jsonb_value.specs.SortKey.{key_of, number_key, digits_key, text_key, turned};
+ghost use Rattle.jsonb_value.specs.Tree.{Tree, Num};
+
+use jsonb_key::number::{read_place, turned};
+use jsonb_key::text::skip_pair;
+use memchr::memchr;
+
+/// How many arrays and objects may be open at once.
+pub const MAX_DEPTH: usize = 512;
+
+/// The bytes after the sort key that they begin with, of a value of JSON's kinds with at most 512 nested arrays and
+/// objects. Nothing is allocated, and no function calls itself. Of other bytes it may be any rest of them, or `None`.
+pub fn after_key(bytes: &[u8]) -> Option<&[u8]>
+    ensures found { (t : Tree) → IsReadable t → (more : List ℕ) → bytes.now ≡ key_of t ++ more
+        → option_map (λ rest. rest.now) result ≡ Some more }
+    ensures shorter { IfSome result (λ rest. length rest.now < length bytes.now) }
+{
+    let (first, rest) = bytes.split_first()?;
+    match opening(*first) {
+        Some(object) => after_parts(object, rest),
+        None => after_scalar(bytes),
+    }
+}
+
+/// Whether the first byte of a key is that of an object, where it is that of an object or an array.
+pub fn opening(first: u8) -> Option<bool>
+    ensures { MatchOption result ((first ≢ 209) × (first ≢ 210)) (λ object. first ≡ opening_byte object) }
+{
+    match first {
+        209 => Some(true),
+        210 => Some(false),
+        _ => None,
+    }
+}
+
+/// The bytes after the key of a value that is no array and no object.
+pub fn after_scalar(bytes: &[u8]) -> Option<&[u8]>
+    ensures found { (depth : ℕ) → (t : Tree) → IsReadableAt depth t → IsScalar t → (more : List ℕ)
+        → bytes.now ≡ key_of t ++ more → option_map (λ rest. rest.now) result ≡ Some more }
+    ensures shorter { IfSome result (λ rest. length rest.now < length bytes.now) }
+{
+    let (first, rest) = bytes.split_first()?;
+    if *first == 208 {
+        return after_text(rest);
+    }
+    if is_word(*first) {
+        return Some(rest);
+    }
+    after_number(*first < 128, bytes)
+}
+
+// The byte is a whole key: false, true, 0 and null.
+fn is_word(byte: u8) -> bool
+    ensures yes { IsTrue result → (byte ≡ 21) ⊎ ((byte ≡ 22) ⊎ ((byte ≡ 128) ⊎ (byte ≡ 211))) }
+    ensures no { IsFalse result → (byte ≢ 21) × (byte ≢ 22) × (byte ≢ 128) × (byte ≢ 211) }
+{
+    byte == 21 || byte == 22 || byte == 128 || byte == 211
+}
+
+/// The bytes after the key of a text that they begin with.
+pub fn after_text(bytes: &[u8]) -> Option<&[u8]>
+    ensures found { (text more : List ℕ) → bytes.now ≡ text_key text ++ more
+        → option_map (λ rest. rest.now) result ≡ Some more }
+    ensures shorter { IfSome result (λ rest. length rest.now < length bytes.now) }
+{
+    let mut rest = bytes;
+    'zeros: while let Some(zero) = memchr(0, rest) {
+        let (_, end) = rest.split_at(zero + 1);
+        let (mark, others) = end.split_first()?;
+        if *mark == 1 {
+            return Some(others);
+        }
+        if *mark != 255 {
+            return None;
+        }
+        rest = others;
+    }
+    None
+}
+
+// The bytes after a number that isn't 0.
+fn after_number(negative: bool, bytes: &[u8]) -> Option<&[u8]>
+    ensures found { (n : Num) → IsProperNumber n → (first : ℕ) → (tail : List ℕ) → bytes.now ≡ first ∷ tail
+        → first ≢ 128 → negative ≡ nat_lt first 128 → (more : List ℕ) → bytes.now ≡ number_key n ++ more
+        → option_map (λ rest. rest.now) result ≡ Some more }
+    ensures shorter { IfSome result (λ rest. length rest.now < length bytes.now) }
+{
+    let (_, rest) = read_place(negative, bytes)?;
+    after_digits(negative, rest)
+}
+
+// The bytes after digits: behind the first even byte.
+fn after_digits(negative: bool, bytes: &[u8]) -> Option<&[u8]>
+    ensures found { (count magnitude : ℕ) → magnitude < 10 ^ count → 0 < magnitude → (more : List ℕ)
+        → bytes.now ≡ map (turned negative) (digits_key count magnitude) ++ more
+        → option_map (λ rest. rest.now) result ≡ Some more }
+    ensures shorter { IfSome result (λ rest. length rest.now < length bytes.now) }
+{
+    let mut rest = bytes;
+    'pairs: while let Some((byte, others)) = rest.split_first() {
+        if turned(negative, *byte) % 2 == 0 {
+            return Some(others);
+        }
+        rest = others;
+    }
+    None
+}
+
+/// The bytes after the end of an object or an array, if it ends here.
+pub fn after_end(object: bool, bytes: &[u8]) -> Option<&[u8]>
+    ensures some { IfSome result (λ rest. bytes.now ≡ end_key object ++ rest.now) }
+    ensures found { (more : List ℕ) → bytes.now ≡ end_key object ++ more
+        → option_map (λ rest. rest.now) result ≡ Some more }
+    ensures shorter { IfSome result (λ rest. length rest.now < length bytes.now) }
+{
+    if object {
+        return skip_pair(0, bytes);
+    }
+    let (zero, rest) = bytes.split_first()?;
+    match *zero {
+        0 => Some(rest),
+        _ => None,
+    }
+}
+
+/// The bytes after a member's name, which an item has none of.
+pub fn after_name(object: bool, bytes: &[u8]) -> Option<&[u8]>
+    ensures found { (name more : List ℕ) → bytes.now ≡ name_key object name ++ more
+        → option_map (λ rest. rest.now) result ≡ Some more }
+    ensures within { IfSome result (λ rest. length rest.now ≤ length bytes.now) }
+{
+    if object {
+        after_text(bytes)
+    } else {
+        Some(bytes)
+    }
+}
+
+// The bytes after the parts of an object or an array, and after its end. Which of the open ones are objects stands in
+// an array, outermost first.
+fn after_parts(object: bool, bytes: &[u8]) -> Option<&[u8]>
+    ensures found { (o : Open) → is_object o ≡ object → IsOpen o 511 → (more : List ℕ)
+        → bytes.now ≡ open_key o ++ more → option_map (λ rest. rest.now) result ≡ Some more }
+    ensures shorter { IfSome result (λ rest. length rest.now < length bytes.now) }
+{
+    let mut objects = outermost(object);
+    let mut depth: usize = 1;
+    let mut rest = bytes;
+    'parts: loop {
+        let Some(top) = depth.checked_sub(1) else {
+            return Some(rest);
+        };
+        let inside = kind_at(&objects, top);
+        if let Some(others) = after_end(inside, rest) {
+            depth = top;
+            rest = others;
+            continue;
+        }
+        let value = after_name(inside, rest)?;
+        let (first, others) = value.split_first()?;
+        match opening(*first) {
+            Some(inner) => {
+                if depth == MAX_DEPTH {
+                    return None;
+                }
+                objects[depth] = inner;
+                depth += 1;
+                rest = others;
+            }
+            None => rest = after_scalar(value)?,
+        }
+    }
+}
+
+/// That the one that is open is an object.
+pub fn outermost(object: bool) -> [bool; MAX_DEPTH]
+    ensures first { get_or result 0 false ≡ object }
+    ensures size { length result ≡ 512 }
+{
+    let mut objects = [false; MAX_DEPTH];
+    objects[0] = object;
+    objects
+}
+
+/// Whether the open one at this index is an object.
+pub fn kind_at(objects: &[bool; MAX_DEPTH], index: usize) -> bool
+    requires { index < 512 }
+    ensures { result ≡ get_or objects.now index false }
+{
+    objects[index]
+}

@@ -1,0 +1,129 @@
+//! The items and the members of a key, one after the other.
+
+ghost use Rattle.std.specs.Prelude.{◌≡◌, ◌<◌, ◌++◌, ◌∷◌, List, ℕ, length, IfSome, MatchOption, option_map, Some, None};
+ghost use Rattle.jsonb_key.specs.Readable.{IsReadable};
+ghost use Rattle.jsonb_value.specs.SortKey.{key_of, items_key, members_key, text_key};
+ghost use Rattle.jsonb_value.specs.Tree.{Tree, array, object, Trees, no_trees, more_trees, Members, no_members, more_members};
+
+use crate::skip::{after_end, after_key, after_text};
+
+/// What kind of value a key is of.
+#[derive(Clone, Copy, Debug, PartialEq, Eq, Drop)]
+pub enum Kind {
+    Null,
+    Bool,
+    Number,
+    String,
+    Array,
+    Object,
+}
+
+/// The kind of the value whose key the bytes begin with.
+pub fn kind_of(key: &[u8]) -> Option<Kind> {
+    let (first, _) = key.split_first()?;
+    match *first {
+        21 | 22 => Some(Kind::Bool),
+        56..=199 => Some(Kind::Number),
+        208 => Some(Kind::String),
+        209 => Some(Kind::Object),
+        210 => Some(Kind::Array),
+        211 => Some(Kind::Null),
+        _ => None,
+    }
+}
+
+/// What stands behind the first byte of an array's key: its items, and what follows the array. `None` for any other
+/// value.
+pub fn items_of(key: &[u8]) -> Option<&[u8]>
+    ensures array { (ts : Trees) → (more : List ℕ) → key.now ≡ key_of (array ts) ++ more
+        → option_map (λ rest. rest.now) result ≡ Some (items_key ts ++ more) }
+    ensures some { IfSome result (λ rest. key.now ≡ 210 ∷ rest.now) }
+{
+    body_of(210, key)
+}
+
+/// What stands behind the first byte of an object's key: its members, and what follows the object. `None` for any other
+/// value.
+pub fn members_of(key: &[u8]) -> Option<&[u8]>
+    ensures object { (ms : Members) → (more : List ℕ) → key.now ≡ key_of (object ms) ++ more
+        → option_map (λ rest. rest.now) result ≡ Some (members_key ms ++ more) }
+    ensures some { IfSome result (λ rest. key.now ≡ 209 ∷ rest.now) }
+{
+    body_of(209, key)
+}
+
+fn body_of(kind: u8, key: &[u8]) -> Option<&[u8]>
+    ensures found { (body : List ℕ) → key.now ≡ kind ∷ body → option_map (λ rest. rest.now) result ≡ Some body }
+    ensures some { IfSome result (λ rest. key.now ≡ kind ∷ rest.now) }
+{
+    let (first, rest) = key.split_first()?;
+    if *first != kind {
+        return None;
+    }
+    Some(rest)
+}
+
+/// The key of the next item, and the items after it; `None` where there is none.
+pub fn next_item(items: &[u8]) -> Option<(&[u8], &[u8])>
+    ensures over { (more : List ℕ) → items.now ≡ items_key no_trees ++ more → result ≡ None }
+    ensures next { (t : Tree) → IsReadable t → (ts : Trees) → (more : List ℕ)
+        → items.now ≡ items_key (more_trees t ts) ++ more
+        → MatchOption result ⊥ (λ r. (r.0.now ≡ key_of t) × (r.1.now ≡ items_key ts ++ more)) }
+    ensures shorter { IfSome result (λ r. length r.1.now < length items.now) }
+{
+    match after_end(false, items) {
+        Some(_) => None,
+        None => item_of(items),
+    }
+}
+
+// The key that the bytes begin with, and what follows it.
+fn item_of(items: &[u8]) -> Option<(&[u8], &[u8])>
+    ensures next { (t : Tree) → IsReadable t → (more : List ℕ) → items.now ≡ key_of t ++ more
+        → MatchOption result ⊥ (λ r. (r.0.now ≡ key_of t) × (r.1.now ≡ more)) }
+    ensures shorter { IfSome result (λ r. length r.1.now < length items.now) }
+{
+    let rest = after_key(items)?;
+    Some((front(items, rest), rest))
+}
+
+/// The name of the next member as a text's key, the key of its value, and the members after it; `None` where there is
+/// none.
+pub fn next_member(members: &[u8]) -> Option<(&[u8], &[u8], &[u8])>
+    ensures over { (more : List ℕ) → members.now ≡ members_key no_members ++ more → result ≡ None }
+    ensures next { (name : List ℕ) → (t : Tree) → IsReadable t → (ms : Members) → (more : List ℕ)
+        → members.now ≡ members_key (more_members name t ms) ++ more
+        → MatchOption result ⊥ (λ r. (r.0.now ≡ text_key name) × (r.1.now ≡ key_of t)
+        × (r.2.now ≡ members_key ms ++ more)) }
+    ensures shorter { IfSome result (λ r. length r.2.now < length members.now) }
+{
+    match after_end(true, members) {
+        Some(_) => None,
+        None => member_of(members),
+    }
+}
+
+// The name and the key that the bytes begin with, and what follows.
+fn member_of(members: &[u8]) -> Option<(&[u8], &[u8], &[u8])>
+    ensures next { (name : List ℕ) → (t : Tree) → IsReadable t → (more : List ℕ)
+        → members.now ≡ text_key name ++ (key_of t ++ more)
+        → MatchOption result ⊥ (λ r. (r.0.now ≡ text_key name) × (r.1.now ≡ key_of t) × (r.2.now ≡ more)) }
+    ensures shorter { IfSome result (λ r. length r.2.now < length members.now) }
+{
+    let value = after_text(members)?;
+    let rest = after_key(value)?;
+    let name = front(members, value);
+    let part = front(value, rest);
+    Some((name, part, rest))
+}
+
+// The bytes before what is left of them.
+pub(crate) fn front<'k>(bytes: &'k [u8], rest: &[u8]) -> &'k [u8]
+    ensures { (before : List ℕ) → bytes.now ≡ before ++ rest.now → result.now ≡ before }
+{
+    let Some(len) = bytes.len().checked_sub(rest.len()) else {
+        return bytes;
+    };
+    let (before, _) = bytes.split_at(len);
+    before
+}
