@@ -1,0 +1,4 @@
+pub mod Strings
+pub mod Scalars
+pub mod Walk
+pub mod Whole

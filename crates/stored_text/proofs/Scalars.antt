@@ -1,0 +1,97 @@
+-- The texts of words.
+use Rattle.std.proofs.Common.{◌≡◌, ◌≢◌, ℕ, suc, ◌<◌, ◌≤◌, Bool, true, false, List, [], ◌∷◌, ◌++◌, refl, sym, ap, ◌∙◌, arith}
+use Rattle.std.specs.Prelude.{codes}
+use Rattle.jsonb_key.specs.Readable.{IsReadableAt}
+use Rattle.jsonb_value.specs.Text.StringText.{quoted_text}
+use Rattle.jsonb_stored.specs.Open.{IsScalar, Open, items, members, is_object, open_key, IsOpen, opening_byte}
+use Rattle.jsonb_stored.proofs.Scalars.{array_open, object_open}
+use Rattle.jsonb_value.specs.Proper.{IsProperNumber}
+use Rattle.jsonb_value.specs.SortKey.{key_of, items_key, members_key, number_key, text_key}
+use Rattle.jsonb_value.specs.Tree.{Num, Tree, null, boolean, string, number, array, object, binary, date, timestamp, timestamp_tz, interval}
+use Rattle.jsonb_value.proofs.SortKeys.Kinds.{is_small, number_begins}
+use Rattle.jsonb_value.proofs.Trees.Runs.{heads, tails}
+use Rattle.stored_text.specs.TextFor.{IsTextFor, IsNumberText, EndsOpen, opening_text}
+
+-- what each of the words says of the value
+pub record Word (t : Tree) (first : ℕ) (rest more : List ℕ) : Type 0 where
+  pub is_null : first ≡ 211 → (rest ≡ more) × IsTextFor t (codes "null")
+  pub is_false : first ≡ 21 → (rest ≡ more) × IsTextFor t (codes "false")
+  pub is_true : first ≡ 22 → (rest ≡ more) × IsTextFor t (codes "true")
+
+pub word_of : (depth : ℕ) (t : Tree) → IsReadableAt depth t → IsScalar t → (first : ℕ) (rest bytes more : List ℕ) → bytes ≡ first ∷ rest → bytes ≡ key_of t ++ more → Word t first rest more
+word_of depth null r s first rest bytes more e stands =
+    let is = heads first 211 rest more (sym e ∙ stands) in
+    record { is_null = λ h. (tails first 211 rest more (sym e ∙ stands), refl); is_false = λ h. absurd (omega (arith, is, h)); is_true = λ h. absurd (omega (arith, is, h)) }
+word_of depth (boolean true) r s first rest bytes more e stands =
+    let is = heads first 22 rest more (sym e ∙ stands) in
+    record { is_null = λ h. absurd (omega (arith, is, h)); is_false = λ h. absurd (omega (arith, is, h)); is_true = λ h. (tails first 22 rest more (sym e ∙ stands), refl) }
+word_of depth (boolean false) r s first rest bytes more e stands =
+    let is = heads first 21 rest more (sym e ∙ stands) in
+    record { is_null = λ h. absurd (omega (arith, is, h)); is_false = λ h. (tails first 21 rest more (sym e ∙ stands), refl); is_true = λ h. absurd (omega (arith, is, h)) }
+word_of depth (string mark text) r s first rest bytes more e stands =
+    let is = heads first 208 rest (text_key text ++ more) (sym e ∙ stands) in
+    record { is_null = λ h. absurd (omega (arith, is, h)); is_false = λ h. absurd (omega (arith, is, h)); is_true = λ h. absurd (omega (arith, is, h)) }
+word_of depth (number n) r s first rest bytes more e stands =
+    let b = number_begins n (is_small n r.proper) in
+    let is = heads first b.head rest (b.tail ++ more) (sym e ∙ stands ∙ ap (λ key. key ++ more) b.is) in
+    record { is_null = λ h. absurd (omega (arith, is, b.high, h)); is_false = λ h. absurd (omega (arith, is, b.low, h)); is_true = λ h. absurd (omega (arith, is, b.low, h)) }
+word_of depth (array ts) r s first rest bytes more e stands = absurd s
+word_of depth (object ms) r s first rest bytes more e stands = absurd s
+word_of depth t r s first rest bytes more e stands = absurd r.within
+
+-- the string that begins here, and its text
+pub string_text : (depth : ℕ) (t : Tree) → IsReadableAt depth t → (first : ℕ) (rest bytes more : List ℕ) → bytes ≡ first ∷ rest → bytes ≡ key_of t ++ more → first ≡ 208 → (text : List ℕ) × (rest ≡ text_key text ++ more) × ((written : List ℕ) → written ≡ quoted_text text → IsTextFor t written)
+string_text depth null r first rest bytes more e stands is = absurd (omega (arith, is, heads first 211 rest more (sym e ∙ stands)))
+string_text depth (boolean true) r first rest bytes more e stands is = absurd (omega (arith, is, heads first 22 rest more (sym e ∙ stands)))
+string_text depth (boolean false) r first rest bytes more e stands is = absurd (omega (arith, is, heads first 21 rest more (sym e ∙ stands)))
+string_text depth (string mark text) r first rest bytes more e stands is = (text, tails first 208 rest (text_key text ++ more) (sym e ∙ stands), λ written w. w)
+string_text depth (number n) r first rest bytes more e stands is =
+    let b = number_begins n (is_small n r.proper) in
+    absurd (omega (arith, is, b.high, heads first b.head rest (b.tail ++ more) (sym e ∙ stands ∙ ap (λ key. key ++ more) b.is)))
+string_text depth (array ts) r first rest bytes more e stands is = absurd (omega (arith, is, heads first 210 rest (items_key ts ++ more) (sym e ∙ stands)))
+string_text depth (object ms) r first rest bytes more e stands is = absurd (omega (arith, is, heads first 209 rest (members_key ms ++ more) (sym e ∙ stands)))
+string_text depth t r first rest bytes more e stands is = absurd r.within
+
+-- the number that begins here, and its text
+pub number_text_of : (depth : ℕ) (t : Tree) → IsReadableAt depth t → IsScalar t → (first : ℕ) (rest bytes more : List ℕ) → bytes ≡ first ∷ rest → bytes ≡ key_of t ++ more → first ≢ 208 → first ≢ 211 → first ≢ 21 → first ≢ 22
+    → (n : Num) × IsProperNumber n × (bytes ≡ number_key n ++ more) × ((written : List ℕ) → IsNumberText n written → IsTextFor t written)
+number_text_of depth null r s first rest bytes more e stands a b c d = absurd (b (heads first 211 rest more (sym e ∙ stands)))
+number_text_of depth (boolean true) r s first rest bytes more e stands a b c d = absurd (d (heads first 22 rest more (sym e ∙ stands)))
+number_text_of depth (boolean false) r s first rest bytes more e stands a b c d = absurd (c (heads first 21 rest more (sym e ∙ stands)))
+number_text_of depth (string mark text) r s first rest bytes more e stands a b c d = absurd (a (heads first 208 rest (text_key text ++ more) (sym e ∙ stands)))
+number_text_of depth (number n) r s first rest bytes more e stands a b c d = (n, r.proper, stands, λ written w. w)
+number_text_of depth (array ts) r s first rest bytes more e stands a b c d = absurd s
+number_text_of depth (object ms) r s first rest bytes more e stands a b c d = absurd s
+number_text_of depth t r s first rest bytes more e stands a b c d = absurd r.within
+
+-- what is open behind the first byte of an array or an object, and the text that its end makes
+pub record OpenedText (t : Tree) (left : ℕ) (b : Bool) (rest more : List ℕ) : Type 0 where
+  pub open_there : Open
+  pub is : is_object open_there ≡ b
+  pub inner : ℕ
+  pub deeper : left ≡ suc inner
+  pub fits : IsOpen open_there inner
+  pub stands : rest ≡ open_key open_there ++ more
+  pub ends : (v : List ℕ) → EndsOpen true open_there v → IsTextFor t (opening_text b ∷ v)
+
+between : (b : Bool) → (209 ≤ opening_byte b) × (opening_byte b ≤ 210)
+between true = (omega arith, omega arith)
+between false = (omega arith, omega arith)
+
+pub opened_text : (left : ℕ) (t : Tree) → IsReadableAt left t → (first : ℕ) (rest bytes more : List ℕ) → bytes ≡ first ∷ rest → bytes ≡ key_of t ++ more → (b : Bool) → first ≡ opening_byte b → OpenedText t left b rest more
+opened_text left null r first rest bytes more e stands b is = absurd (omega (arith, is, between b, heads first 211 rest more (sym e ∙ stands)))
+opened_text left (boolean true) r first rest bytes more e stands b is = absurd (omega (arith, is, between b, heads first 22 rest more (sym e ∙ stands)))
+opened_text left (boolean false) r first rest bytes more e stands b is = absurd (omega (arith, is, between b, heads first 21 rest more (sym e ∙ stands)))
+opened_text left (string mark text) r first rest bytes more e stands b is = absurd (omega (arith, is, between b, heads first 208 rest (text_key text ++ more) (sym e ∙ stands)))
+opened_text left (number n) r first rest bytes more e stands b is =
+    let x = number_begins n (is_small n r.proper) in
+    absurd (omega (arith, is, between b, x.high, heads first x.head rest (x.tail ++ more) (sym e ∙ stands ∙ ap (λ key. key ++ more) x.is)))
+opened_text left (array ts) r first rest bytes more e stands true is = absurd (omega (arith, is, heads first 210 rest (items_key ts ++ more) (sym e ∙ stands)))
+opened_text left (array ts) r first rest bytes more e stands false is =
+    let o = array_open ts left r in
+    record { open_there = items ts; is = refl; inner = o.0; deeper = o.1; fits = o.2; stands = tails first 210 rest (items_key ts ++ more) (sym e ∙ stands); ends = λ v h. (v, refl, h) }
+opened_text left (object ms) r first rest bytes more e stands false is = absurd (omega (arith, is, heads first 209 rest (members_key ms ++ more) (sym e ∙ stands)))
+opened_text left (object ms) r first rest bytes more e stands true is =
+    let o = object_open ms left r in
+    record { open_there = members ms; is = refl; inner = o.0; deeper = o.1; fits = o.2; stands = tails first 209 rest (members_key ms ++ more) (sym e ∙ stands); ends = λ v h. (v, refl, h) }
+opened_text left t r first rest bytes more e stands b is = absurd r.within

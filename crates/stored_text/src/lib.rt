@@ -1,0 +1,7 @@
+//! The text of a value from its key.
+#![tactic(auto)]
+
+pub mod string;
+pub mod write;
+
+pub use write::write_text_of_key;
