@@ -96,6 +96,20 @@ pub data IsOneRefused (number : ℕ) (left right : List ℕ) (refusal : Refusal)
   first_refused : IsRefused number left 1 refusal → IsOneRefused number left right refusal
   second_refused : IsAccepted number left → IsRefused number right 2 refusal → IsOneRefused number left right refusal
 
+-- Bytes that are these stand at the front of the buffer, whose other bytes are as before.
+pub record Writes (Are : List ℕ → Type 0) (size : ℕ) (old new : List ℕ) : Type 0 where
+  pub bytes : List ℕ
+  pub are : Are bytes
+  pub sized : size ≡ length bytes
+  pub put : new ≡ bytes ++ drop size old
+
+-- Bytes that are these have this size, and the buffer is shorter.
+pub record NeedsRoom (Are : List ℕ → Type 0) (size : ℕ) (old : List ℕ) : Type 0 where
+  pub bytes : List ℕ
+  pub are : Are bytes
+  pub sized : size ≡ length bytes
+  pub too_short : length old < size
+
 -- The bytes are the text of the tree of the text, and they read back as a document of the same tree with this text.
 pub record IsTextOf (number : ℕ) (text bytes : List ℕ) : Type 0 where
   pub tree : Tree
@@ -103,39 +117,11 @@ pub record IsTextOf (number : ℕ) (text bytes : List ℕ) : Type 0 where
   pub is_text : text_of tree ≡ Some bytes
   pub reads_back : ReadsBackAs read.mode bytes tree
 
--- The text of the text's tree stands at the front of the buffer, whose other bytes are as before.
-pub record IsWritten (number : ℕ) (text : List ℕ) (size : ℕ) (old new : List ℕ) : Type 0 where
-  pub bytes : List ℕ
-  pub is_text : IsTextOf number text bytes
-  pub sized : size ≡ length bytes
-  pub put : new ≡ bytes ++ drop size old
-
--- The text of the text's tree has this size, and the buffer is shorter.
-pub record NeedsRoom (number : ℕ) (text : List ℕ) (size : ℕ) (old : List ℕ) : Type 0 where
-  pub bytes : List ℕ
-  pub is_text : IsTextOf number text bytes
-  pub sized : size ≡ length bytes
-  pub too_short : length old < size
-
 -- The bytes are the sort key of the tree of the text.
 pub record IsKeyOf (number : ℕ) (text bytes : List ℕ) : Type 0 where
   pub tree : Tree
   pub read : IsDocumentOf number text tree
   pub is_key : bytes ≡ key_of tree
-
--- The key of the text's tree stands at the front of the buffer, whose other bytes are as before.
-pub record IsKeyWritten (number : ℕ) (text : List ℕ) (size : ℕ) (old new : List ℕ) : Type 0 where
-  pub bytes : List ℕ
-  pub is_key : IsKeyOf number text bytes
-  pub sized : size ≡ length bytes
-  pub put : new ≡ bytes ++ drop size old
-
--- The key of the text's tree has this size, and the buffer is shorter.
-pub record NeedsRoomForKey (number : ℕ) (text : List ℕ) (size : ℕ) (old : List ℕ) : Type 0 where
-  pub bytes : List ℕ
-  pub is_key : IsKeyOf number text bytes
-  pub sized : size ≡ length bytes
-  pub too_short : length old < size
 
 -- The text and the key of the text's tree have these sizes, and one of the buffers is shorter.
 pub record NeedsRoomForBoth (number : ℕ) (text : List ℕ) (size key_size : ℕ) (old key_old : List ℕ) : Type 0 where
@@ -171,20 +157,6 @@ pub record IsMessageOf (number : ℕ) (text bytes : List ℕ) : Type 0 where
   pub exact : Fails error (document_of mode text)
   pub is_text : bytes ≡ error_text error
 
--- The message of the text's fault stands at the front of the buffer, whose other bytes are as before.
-pub record IsMessageWritten (number : ℕ) (text : List ℕ) (size : ℕ) (old new : List ℕ) : Type 0 where
-  pub bytes : List ℕ
-  pub is_message : IsMessageOf number text bytes
-  pub sized : size ≡ length bytes
-  pub put : new ≡ bytes ++ drop size old
-
--- The message of the text's fault has this size, and the buffer is shorter.
-pub record NeedsRoomForMessage (number : ℕ) (text : List ℕ) (size : ℕ) (old : List ℕ) : Type 0 where
-  pub bytes : List ℕ
-  pub is_message : IsMessageOf number text bytes
-  pub sized : size ≡ length bytes
-  pub too_short : length old < size
-
 -- A part of the text's tree stands at the path.
 pub record HasPartAt (number : ℕ) (path text : List ℕ) : Type 0 where
   pub tree : Tree
@@ -218,20 +190,6 @@ abbrev pub IsPartAnswer : ℕ → List ℕ → List ℕ → Part → Type 0
 IsPartAnswer number path text (parts.Text bytes) = IsPartOf number path text bytes.items
 IsPartAnswer number path text parts.Nothing = HasNoPartAt number path text
 IsPartAnswer number path text parts.NoPath = IsAccepted number text × IsNoPath path
-
--- The text of the part stands at the front of the buffer, whose other bytes are as before.
-pub record IsPartWritten (number : ℕ) (path text : List ℕ) (size : ℕ) (old new : List ℕ) : Type 0 where
-  pub bytes : List ℕ
-  pub is_part : IsPartOf number path text bytes
-  pub sized : size ≡ length bytes
-  pub put : new ≡ bytes ++ drop size old
-
--- The text of the part has this size, and the buffer is shorter.
-pub record NeedsRoomForPart (number : ℕ) (path text : List ℕ) (size : ℕ) (old : List ℕ) : Type 0 where
-  pub bytes : List ℕ
-  pub is_part : IsPartOf number path text bytes
-  pub sized : size ≡ length bytes
-  pub too_short : length old < size
 
 -- Why there is no answer: a text is refused, of which this is told; memory ran out; or the number chooses no mode.
 abbrev pub IsReason : ℕ → (Refusal → Type 0) → Refused → Type 0

@@ -18,7 +18,7 @@ ghost use Rattle.jsonb.specs.Reading.Document.{document_of};
 ghost use Rattle.jsonb.specs.Refusals.{IsExplained};
 ghost use Rattle.jsonb_document.specs.View.{document_view};
 ghost use Rattle.jsonb_pointer.specs.Path.{IsPath, StartsKey};
-ghost use Rattle.jsonb_c.specs.Interface.{NumberChooses, code_number, nothing, sign, status_of, told, HasNoPartAt, HasPartAt, IsAccepted, IsNoDocumentOf, IsNoPath, IsOneRefused, IsOrdered, IsDocumentOf, IsKeyOf, IsKeyWritten, IsMessageOf, IsMessageWritten, IsPartAnswer, IsPartWritten, IsReason, IsRefused, IsTextOf, IsWritten, NeedsRoom, NeedsRoomForBoth, NeedsRoomForKey, NeedsRoomForMessage, NeedsRoomForPart, SaysError};
+ghost use Rattle.jsonb_c.specs.Interface.{NumberChooses, code_number, nothing, sign, status_of, told, HasNoPartAt, HasPartAt, IsAccepted, IsNoDocumentOf, IsNoPath, IsOneRefused, IsOrdered, IsDocumentOf, IsKeyOf, IsMessageOf, IsPartAnswer, IsReason, IsRefused, IsTextOf, NeedsRoom, NeedsRoomForBoth, SaysError, IsPartOf, Writes};
 
 use jsonb::{
     Error, Mode, ParseErrorCode, Value, fault_index, line_and_column, parse_value,
@@ -129,8 +129,8 @@ pub extern "C" fn vizhoniku_text(
     ensures mode { result ≡ UNKNOWN_MODE ↔ (1 < mode) }
 
     // What is written is the text of the document's tree, and no other byte of the buffer changes.
-    ensures written { result ≡ ACCEPTED → IsWritten mode text.now size.new out.old out.new }
-    ensures short { result ≡ TOO_SHORT → NeedsRoom mode text.now size.new out.old }
+    ensures written { result ≡ ACCEPTED → Writes (IsTextOf mode text.now) size.new out.old out.new }
+    ensures short { result ≡ TOO_SHORT → NeedsRoom (IsTextOf mode text.now) size.new out.old }
     ensures untouched { result ≢ ACCEPTED → out.new ≡ out.old }
     ensures no_size { result ≢ ACCEPTED → result ≢ TOO_SHORT → size.new ≡ 0 }
 
@@ -171,8 +171,8 @@ pub extern "C" fn vizhoniku_sort_key(
     ensures mode { result ≡ UNKNOWN_MODE ↔ (1 < mode) }
 
     // What is written is the key of the document's tree, and no other byte of the buffer changes.
-    ensures written { result ≡ ACCEPTED → IsKeyWritten mode text.now size.new out.old out.new }
-    ensures short { result ≡ TOO_SHORT → NeedsRoomForKey mode text.now size.new out.old }
+    ensures written { result ≡ ACCEPTED → Writes (IsKeyOf mode text.now) size.new out.old out.new }
+    ensures short { result ≡ TOO_SHORT → NeedsRoom (IsKeyOf mode text.now) size.new out.old }
     ensures untouched { result ≢ ACCEPTED → out.new ≡ out.old }
     ensures no_size { result ≢ ACCEPTED → result ≢ TOO_SHORT → size.new ≡ 0 }
 
@@ -215,8 +215,8 @@ pub extern "C" fn vizhoniku_text_and_key(
     ensures mode { result ≡ UNKNOWN_MODE ↔ (1 < mode) }
 
     // What is written is what `vizhoniku_text` and `vizhoniku_sort_key` write, and no other byte changes.
-    ensures written { result ≡ ACCEPTED → IsWritten mode text.now size.new out.old out.new }
-    ensures key_written { result ≡ ACCEPTED → IsKeyWritten mode text.now key_size.new key_out.old key_out.new }
+    ensures written { result ≡ ACCEPTED → Writes (IsTextOf mode text.now) size.new out.old out.new }
+    ensures key_written { result ≡ ACCEPTED → Writes (IsKeyOf mode text.now) key_size.new key_out.old key_out.new }
     ensures short { result ≡ TOO_SHORT
         → NeedsRoomForBoth mode text.now size.new key_size.new out.old key_out.old }
     ensures untouched { result ≢ ACCEPTED → (out.new ≡ out.old) × (key_out.new ≡ key_out.old) }
@@ -303,8 +303,8 @@ pub extern "C" fn vizhoniku_part(
     ensures mode { result ≡ UNKNOWN_MODE ↔ (1 < mode) }
 
     // What is written is the text of the part of the document's tree, and no other byte of the buffer changes.
-    ensures written { result ≡ ACCEPTED → IsPartWritten mode path.now text.now size.new out.old out.new }
-    ensures short { result ≡ TOO_SHORT → NeedsRoomForPart mode path.now text.now size.new out.old }
+    ensures written { result ≡ ACCEPTED → Writes (IsPartOf mode path.now text.now) size.new out.old out.new }
+    ensures short { result ≡ TOO_SHORT → NeedsRoom (IsPartOf mode path.now text.now) size.new out.old }
     ensures untouched { result ≢ ACCEPTED → out.new ≡ out.old }
     ensures no_size { result ≢ ACCEPTED → result ≢ TOO_SHORT → size.new ≡ 0 }
 
@@ -468,8 +468,8 @@ pub extern "C" fn vizhoniku_message(
     ensures memory { result ≡ OUT_OF_MEMORY → MayAllocate text.now ⊎ IsNoDocumentOf mode text.now }
 
     // What is written is the message of the fault that reading meets, and no other byte of the buffer changes.
-    ensures written { result ≡ REFUSED → IsMessageWritten mode text.now size.new out.old out.new }
-    ensures short { result ≡ TOO_SHORT → NeedsRoomForMessage mode text.now size.new out.old }
+    ensures written { result ≡ REFUSED → Writes (IsMessageOf mode text.now) size.new out.old out.new }
+    ensures short { result ≡ TOO_SHORT → NeedsRoom (IsMessageOf mode text.now) size.new out.old }
     ensures untouched { result ≢ REFUSED → out.new ≡ out.old }
     ensures no_size { result ≢ REFUSED → result ≢ TOO_SHORT → size.new ≡ 0 }
 {
