@@ -136,30 +136,30 @@ COMMENT ON CAST (vjson AS json) IS 'convert vjson to json';
 CREATE CAST (vjson AS jsonb) WITH FUNCTION vjson_to_jsonb(vjson) AS ASSIGNMENT;
 COMMENT ON CAST (vjson AS jsonb) IS 'convert vjson to jsonb';
 
--- Comparison
+-- Comparison. It tells nothing of its operands but the result, so that with row security indexes are used too.
 
 CREATE FUNCTION vjson_eq(vjson, vjson) RETURNS boolean
-  AS 'MODULE_PATHNAME' LANGUAGE C IMMUTABLE STRICT PARALLEL SAFE;
+  AS 'MODULE_PATHNAME' LANGUAGE C IMMUTABLE STRICT LEAKPROOF PARALLEL SAFE;
 COMMENT ON FUNCTION vjson_eq(vjson, vjson) IS 'implementation of = operator';
 
 CREATE FUNCTION vjson_ne(vjson, vjson) RETURNS boolean
-  AS 'MODULE_PATHNAME' LANGUAGE C IMMUTABLE STRICT PARALLEL SAFE;
+  AS 'MODULE_PATHNAME' LANGUAGE C IMMUTABLE STRICT LEAKPROOF PARALLEL SAFE;
 COMMENT ON FUNCTION vjson_ne(vjson, vjson) IS 'implementation of <> operator';
 
 CREATE FUNCTION vjson_lt(vjson, vjson) RETURNS boolean
-  AS 'MODULE_PATHNAME' LANGUAGE C IMMUTABLE STRICT PARALLEL SAFE;
+  AS 'MODULE_PATHNAME' LANGUAGE C IMMUTABLE STRICT LEAKPROOF PARALLEL SAFE;
 COMMENT ON FUNCTION vjson_lt(vjson, vjson) IS 'implementation of < operator';
 
 CREATE FUNCTION vjson_le(vjson, vjson) RETURNS boolean
-  AS 'MODULE_PATHNAME' LANGUAGE C IMMUTABLE STRICT PARALLEL SAFE;
+  AS 'MODULE_PATHNAME' LANGUAGE C IMMUTABLE STRICT LEAKPROOF PARALLEL SAFE;
 COMMENT ON FUNCTION vjson_le(vjson, vjson) IS 'implementation of <= operator';
 
 CREATE FUNCTION vjson_gt(vjson, vjson) RETURNS boolean
-  AS 'MODULE_PATHNAME' LANGUAGE C IMMUTABLE STRICT PARALLEL SAFE;
+  AS 'MODULE_PATHNAME' LANGUAGE C IMMUTABLE STRICT LEAKPROOF PARALLEL SAFE;
 COMMENT ON FUNCTION vjson_gt(vjson, vjson) IS 'implementation of > operator';
 
 CREATE FUNCTION vjson_ge(vjson, vjson) RETURNS boolean
-  AS 'MODULE_PATHNAME' LANGUAGE C IMMUTABLE STRICT PARALLEL SAFE;
+  AS 'MODULE_PATHNAME' LANGUAGE C IMMUTABLE STRICT LEAKPROOF PARALLEL SAFE;
 COMMENT ON FUNCTION vjson_ge(vjson, vjson) IS 'implementation of >= operator';
 
 CREATE OPERATOR = (
@@ -233,7 +233,7 @@ COMMENT ON OPERATOR >= (vjson, vjson) IS 'greater than or equal';
 -- Indexes. Equal documents may be spelled differently (1 and 1.0), so there is no support function equalimage.
 
 CREATE FUNCTION vjson_cmp(vjson, vjson) RETURNS integer
-  AS 'MODULE_PATHNAME' LANGUAGE C IMMUTABLE STRICT PARALLEL SAFE;
+  AS 'MODULE_PATHNAME' LANGUAGE C IMMUTABLE STRICT LEAKPROOF PARALLEL SAFE;
 COMMENT ON FUNCTION vjson_cmp(vjson, vjson) IS 'less-equal-greater';
 
 CREATE FUNCTION vjson_sortsupport(internal) RETURNS void
