@@ -78,3 +78,38 @@ fn what_is_no_path_and_no_document_is_told(rt: HostRuntime) -> Result<(), Fail> 
     expect(&rt, b"/\xff", "1", "not a JSON Pointer (RFC 6901)")?;
     Ok(())
 }
+
+#[test]
+fn get_finds_the_part_itself(rt: HostRuntime) -> Result<(), Fail> {
+    let alloc = rt.alloc();
+    let Ok(value) = jsonb::parse_value(alloc, b"{a: [7, {b: 'x'}], 'A': 8, 'a/b': [], '': null}")
+    else {
+        return Err(Fail::from(AllocError));
+    };
+    for (path, told) in [
+        ("", "{\"\":null,\"A\":8,\"a\":[7,{\"b\":\"x\"}],\"a/b\":[]}"),
+        ("/a/0", "7"),
+        ("/a/1/b", "\"x\""),
+        ("/A", "8"),
+        ("/a~1b", "[]"),
+        ("/", "null"),
+        ("/c", "none"),
+        ("/a/2", "none"),
+        ("/a/1/b/0", "none"),
+        ("a", "not a JSON Pointer (RFC 6901)"),
+        ("/~2", "not a JSON Pointer (RFC 6901)"),
+    ] {
+        let mut got = Vec::new(alloc);
+        match get(alloc, &value, path.as_bytes()) {
+            Ok(Some(part)) if part.write_text(&mut got).is_ok() => {}
+            Ok(Some(_)) => return Err(Fail::from(AllocError)),
+            Ok(None) => got.extend_from_slice(b"none")?,
+            Err(refusal) => {
+                let printed = format!(in alloc; "{refusal}")?;
+                got.extend_from_slice(printed.as_bytes())?;
+            }
+        }
+        assert_eq!(rt; got.as_slice(), told.as_bytes(), "{path}");
+    }
+    Ok(())
+}
