@@ -4,6 +4,9 @@
 
 use jsonb::{Error, JsonAst, Mode, Result, Value};
 use jsonb_document::Document;
+use jsonb_key::{KeyError, value_of_sort_key};
+use jsonb_pointer::Refusal;
+use jsonb_pretty::write_text_indented;
 use std::alloc::Global;
 use std::borrow::CowStr;
 use std::io;
@@ -42,6 +45,12 @@ pub fn report<W: Write>(alloc: Global, line: &str, out: &mut W) -> io::Result<()
     say(out, "document", &document(alloc, mode, &text))?;
     say(out, "document_key", &document_key(alloc, mode, &text))?;
     say(out, "document_value", &document_value(alloc, mode, &text))?;
+    say(out, "decoded", &decoded(alloc, mode, &text))?;
+    say(out, "cut_key", &cut_key(alloc, mode, &text))?;
+    say(out, "indented", &indented(alloc, mode, &text))?;
+    say(out, "part", &part(alloc, mode, &text, b"/1/a"))?;
+    say(out, "other_part", &part(alloc, mode, &text, b"/c~1/0"))?;
+    say(out, "no_path", &part(alloc, mode, &text, b"/~"))?;
     say(out, "keys", &keys(alloc, mode, &text))?;
     say(out, "without_room", &without_room(alloc, mode, &text))?;
     say(out, "with_room", &with_room(alloc, mode, &text))?;
@@ -125,6 +134,50 @@ fn document_value(alloc: Global, mode: Mode, text: &[u8]) -> Result<Vec<u8>> {
         alloc,
         &Document::parse(alloc, text, mode)?.into_value(alloc)?,
     )
+}
+
+// The text of what the sort key is decoded as.
+fn decoded(alloc: Global, mode: Mode, text: &[u8]) -> Result<Vec<u8>> {
+    let mut key = Vec::new(alloc);
+    read(alloc, mode, text)?.write_sort_key(&mut key)?;
+    value_of(alloc, &key)
+}
+
+// The same without the last byte of the key.
+fn cut_key(alloc: Global, mode: Mode, text: &[u8]) -> Result<Vec<u8>> {
+    let mut key = Vec::new(alloc);
+    read(alloc, mode, text)?.write_sort_key(&mut key)?;
+    let _last = key.pop();
+    value_of(alloc, &key)
+}
+
+fn value_of(alloc: Global, key: &[u8]) -> Result<Vec<u8>> {
+    match value_of_sort_key(alloc, key) {
+        Ok(value) => written(alloc, &value),
+        Err(KeyError::Invalid) => Ok(Vec::from_slice(alloc, b"no key")?),
+        Err(KeyError::OutOfMemory) => Err(Error::OutOfMemory),
+    }
+}
+
+// The text over lines, behind what the buffer held, in hexadecimal.
+fn indented(alloc: Global, mode: Mode, text: &[u8]) -> Result<Vec<u8>> {
+    let value = read(alloc, mode, text)?;
+    let mut buffer = Vec::from_slice(alloc, b"x")?;
+    let done = write_text_indented(&value, 1, &mut buffer);
+    let lines = kept(alloc, done, buffer)?;
+    let lines = hex::encode(alloc, &lines[..])?;
+    Ok(Vec::from_slice(alloc, lines.as_bytes())?)
+}
+
+// The text of the part at a path, or what there is in place of it.
+fn part(alloc: Global, mode: Mode, text: &[u8], path: &[u8]) -> Result<Vec<u8>> {
+    let value = read(alloc, mode, text)?;
+    match jsonb_pointer::get(alloc, &value, path) {
+        Ok(Some(part)) => written(alloc, part),
+        Ok(None) => Ok(Vec::from_slice(alloc, b"no part")?),
+        Err(Refusal::NoMemory) => Err(Error::OutOfMemory),
+        Err(_) => Ok(Vec::from_slice(alloc, b"no path")?),
+    }
 }
 
 fn keys(alloc: Global, mode: Mode, text: &[u8]) -> Result<Vec<u8>> {
