@@ -189,6 +189,3 @@ fn object_of(
 {
     members.into_iter().collect(alloc)
 }
-
-#[cfg(test)]
-mod tests;
