@@ -218,7 +218,7 @@ shown_line(const char *text, size_t size, const struct vizhoniku_location *place
 
 /* The column counted in characters, as users count it, of a place that counts bytes. */
 static size_t
-column_in_characters(const char *text, size_t size, const struct vizhoniku_place *place)
+column_in_characters(const char *text, size_t size, const struct vizhoniku_location *place)
 {
 	size_t		column = 1;
 
