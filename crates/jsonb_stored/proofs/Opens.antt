@@ -1,13 +1,13 @@
 -- Arrays and objects that are open while a key is walked, and what is left of their keys.
-use Rattle.std.proofs.Common.{◌≡◌, ◌≢◌, ℕ, zero, suc, ◌+◌, ◌-◌, ◌<◌, ◌≤◌, ◌⊎◌, inl, inr, Bool, true, false, List, [], ◌∷◌, ◌++◌, Some, None, get_or, set, length, refl, sym, ap, subst, ◌∙◌, arith, append_assoc, append-nil}
+use Rattle.std.proofs.Common.{◌≡◌, ◌≢◌, ℕ, zero, suc, ◌+◌, ◌<◌, ◌≤◌, ◌⊎◌, inl, inr, Bool, true, false, List, [], ◌∷◌, ◌++◌, Some, None, get_or, set, length, refl, sym, ap, subst, ◌∙◌, arith, append_assoc, append-nil}
 use Rattle.std.specs.Bool.{⊤}
 use Rattle.std.proofs.lemmas.List.{get_or-set_same, get_or-set_other}
 use Rattle.jsonb_key.specs.Readable.{IsReadableAt}
 use Rattle.jsonb_key.proofs.Items.{no_zero}
 use Rattle.jsonb_key.proofs.Members.{no_pair}
 use Rattle.jsonb_stored.specs.Open.{Open, items, members, is_object, open_key, IsOpen, end_key, name_key}
-use Rattle.jsonb_value.specs.SortKey.{key_of, items_key, members_key, text_key}
-use Rattle.jsonb_value.specs.Tree.{Tree, Trees, no_trees, more_trees, Members, no_members, more_members}
+use Rattle.jsonb_value.specs.SortKey.{key_of}
+use Rattle.jsonb_value.specs.Tree.{Tree, no_trees, more_trees, no_members, more_members}
 
 -- what is left of those that are open, the innermost first
 abbrev pub opens_key : List Open → List ℕ

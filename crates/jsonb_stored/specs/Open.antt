@@ -1,6 +1,6 @@
 -- What stands in a key behind the beginning of an array or an object: parts, and an end.
 -- Read for: private.
-use Rattle.std.specs.Prelude.{◌≡◌, ℕ, suc, Bool, true, false, List, [], ◌∷◌, ◌++◌, ⊤}
+use Rattle.std.specs.Prelude.{ℕ, Bool, true, false, List, [], ◌∷◌, ⊤}
 use Rattle.jsonb_key.specs.Readable.{IsAnyNumber}
 use Rattle.jsonb_value.specs.Proper.{AreProper, HaveProperParts}
 use Rattle.jsonb_value.specs.SortKey.{items_key, members_key, text_key}
@@ -45,5 +45,5 @@ IsScalar t = ⊤
 
 -- the first byte of the key of an object, or of an array
 abbrev pub opening_byte : Bool → ℕ
-opening_byte true = 209
-opening_byte false = 210
+opening_byte true = 0xD1
+opening_byte false = 0xD2

@@ -30,11 +30,11 @@ pub fn after_key(bytes: &[u8]) -> Option<&[u8]>
 
 /// Whether the first byte of a key is that of an object, where it is that of an object or an array.
 pub fn opening(first: u8) -> Option<bool>
-    ensures { MatchOption result ((first ≢ 209) × (first ≢ 210)) (λ object. first ≡ opening_byte object) }
+    ensures { MatchOption result ((first ≢ 0xD1) × (first ≢ 0xD2)) (λ object. first ≡ opening_byte object) }
 {
     match first {
-        209 => Some(true),
-        210 => Some(false),
+        0xD1 => Some(true),
+        0xD2 => Some(false),
         _ => None,
     }
 }
@@ -46,21 +46,21 @@ pub fn after_scalar(bytes: &[u8]) -> Option<&[u8]>
     ensures shorter { IfSome result (λ rest. length rest.now < length bytes.now) }
 {
     let (first, rest) = bytes.split_first()?;
-    if *first == 208 {
+    if *first == 0xD0 {
         return after_text(rest);
     }
     if is_word(*first) {
         return Some(rest);
     }
-    after_number(*first < 128, bytes)
+    after_number(*first < 0x80, bytes)
 }
 
 // The byte is a whole key: false, true, 0 and null.
 fn is_word(byte: u8) -> bool
-    ensures yes { IsTrue result → (byte ≡ 21) ⊎ ((byte ≡ 22) ⊎ ((byte ≡ 128) ⊎ (byte ≡ 211))) }
-    ensures no { IsFalse result → (byte ≢ 21) × (byte ≢ 22) × (byte ≢ 128) × (byte ≢ 211) }
+    ensures yes { IsTrue result → (byte ≡ 0x15) ⊎ ((byte ≡ 0x16) ⊎ ((byte ≡ 0x80) ⊎ (byte ≡ 0xD3))) }
+    ensures no { IsFalse result → (byte ≢ 0x15) × (byte ≢ 0x16) × (byte ≢ 0x80) × (byte ≢ 0xD3) }
 {
-    byte == 21 || byte == 22 || byte == 128 || byte == 211
+    byte == 0x15 || byte == 0x16 || byte == 0x80 || byte == 0xD3
 }
 
 /// The bytes after the key of a text that they begin with.

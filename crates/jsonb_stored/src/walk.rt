@@ -1,7 +1,8 @@
 //! The items and the members of a key, one after the other.
 
-ghost use Rattle.std.specs.Prelude.{◌≡◌, ◌<◌, ◌++◌, ◌∷◌, List, ℕ, length, IfSome, MatchOption, option_map, Some, None};
+ghost use Rattle.std.specs.Prelude.{◌≡◌, ◌<◌, ◌++◌, ◌∷◌, ◌⊎◌, List, ℕ, length, IfSome, MatchOption, option_map, Some, None};
 ghost use Rattle.jsonb_key.specs.Readable.{IsReadable};
+ghost use Rattle.jsonb_stored.specs.Parts.{IsFirstByte, kind_of_tree};
 ghost use Rattle.jsonb_value.specs.SortKey.{key_of, items_key, members_key, text_key};
 ghost use Rattle.jsonb_value.specs.Tree.{Tree, array, object, Trees, no_trees, more_trees, Members, no_members, more_members};
 
@@ -18,17 +19,32 @@ pub enum Kind {
     Object,
 }
 
-/// The kind of the value whose key the bytes begin with.
-pub fn kind_of(key: &[u8]) -> Option<Kind> {
+/// The kind of the value of JSON's kinds whose key the bytes begin with. Of other bytes it may be any kind, or `None`.
+pub fn kind_of(key: &[u8]) -> Option<Kind>
+    ensures kind { (t : Tree) → IsReadable t → (more : List ℕ) → key.now ≡ key_of t ++ more → result ≡ kind_of_tree t }
+{
     let (first, _) = key.split_first()?;
-    match *first {
-        21 | 22 => Some(Kind::Bool),
-        56..=199 => Some(Kind::Number),
-        208 => Some(Kind::String),
-        209 => Some(Kind::Object),
-        210 => Some(Kind::Array),
-        211 => Some(Kind::Null),
-        _ => None,
+    kind_by_byte(*first)
+}
+
+// The kind whose keys begin with this byte.
+fn kind_by_byte(first: u8) -> Option<Kind>
+    ensures { MatchOption result ((first < 0x15) ⊎ (0xD3 < first)) (λ kind. IsFirstByte kind first) }
+{
+    if first < 0x15 || first > 0xD3 {
+        return None;
+    }
+    if first <= 0x16 {
+        return Some(Kind::Bool);
+    }
+    if first < 0xD0 {
+        return Some(Kind::Number);
+    }
+    match first {
+        0xD0 => Some(Kind::String),
+        0xD1 => Some(Kind::Object),
+        0xD2 => Some(Kind::Array),
+        _ => Some(Kind::Null),
     }
 }
 
@@ -37,9 +53,9 @@ pub fn kind_of(key: &[u8]) -> Option<Kind> {
 pub fn items_of(key: &[u8]) -> Option<&[u8]>
     ensures array { (ts : Trees) → (more : List ℕ) → key.now ≡ key_of (array ts) ++ more
         → option_map (λ rest. rest.now) result ≡ Some (items_key ts ++ more) }
-    ensures some { IfSome result (λ rest. key.now ≡ 210 ∷ rest.now) }
+    ensures some { IfSome result (λ rest. key.now ≡ 0xD2 ∷ rest.now) }
 {
-    body_of(210, key)
+    body_of(0xD2, key)
 }
 
 /// What stands behind the first byte of an object's key: its members, and what follows the object. `None` for any other
@@ -47,9 +63,9 @@ pub fn items_of(key: &[u8]) -> Option<&[u8]>
 pub fn members_of(key: &[u8]) -> Option<&[u8]>
     ensures object { (ms : Members) → (more : List ℕ) → key.now ≡ key_of (object ms) ++ more
         → option_map (λ rest. rest.now) result ≡ Some (members_key ms ++ more) }
-    ensures some { IfSome result (λ rest. key.now ≡ 209 ∷ rest.now) }
+    ensures some { IfSome result (λ rest. key.now ≡ 0xD1 ∷ rest.now) }
 {
-    body_of(209, key)
+    body_of(0xD1, key)
 }
 
 fn body_of(kind: u8, key: &[u8]) -> Option<&[u8]>

@@ -71,19 +71,19 @@ fn append_scalar<'k>(bytes: &'k [u8], buf: &mut Vec<u8>) -> Result<&'k [u8], Key
     let Some((first, rest)) = bytes.split_first() else {
         return Err(KeyError::Invalid);
     };
-    if *first == 208 {
+    if *first == 0xD0 {
         let after = append_text(rest, buf)?;
         return Ok(after);
     }
-    if *first == 211 {
+    if *first == 0xD3 {
         buf.extend_from_slice(b"null")?;
         return Ok(rest);
     }
-    if *first == 21 {
+    if *first == 0x15 {
         buf.extend_from_slice(b"false")?;
         return Ok(rest);
     }
-    if *first == 22 {
+    if *first == 0x16 {
         buf.extend_from_slice(b"true")?;
         return Ok(rest);
     }

@@ -1,5 +1,4 @@
-use Rattle.std.proofs.Common.{◌∷◌, List, ℕ, map, string_bytes, ap, sym, ◌∙◌}
-use Rattle.jsonb_stored.specs.Parts.{ChildAt}
+use Rattle.std.proofs.Common.{◌∷◌, map, string_bytes, ap, sym, ◌∙◌}
 use Rattle.jsonb_stored.proofs.Finds.{path_goes_on, child_readable}
 use Rattle.jsonb_stored.proofs.part.+part_from.Goals as goal
 

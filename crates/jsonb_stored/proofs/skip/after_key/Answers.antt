@@ -1,4 +1,3 @@
-use Rattle.std.proofs.Common.{◌≡◌, sym, ap, ◌∙◌}
 use Rattle.jsonb_key.proofs.FirstBytes.{no_key}
 use Rattle.jsonb_stored.proofs.Scalars.{opened, scalar_there, opened_at_top}
 use Rattle.jsonb_stored.proofs.skip.after_key.Goals as goal

@@ -1,4 +1,4 @@
-use Rattle.std.proofs.Common.{◌≡◌, ◌≢◌, ap, Some, refl, arith}
+use Rattle.std.proofs.Common.{ap, Some, refl}
 use Rattle.jsonb_key.proofs.FirstBytes.{no_key, string_there, number_there}
 use Rattle.jsonb_stored.proofs.Scalars.{scalar_begins, word_skipped}
 use Rattle.jsonb_stored.proofs.skip.after_scalar.Goals as goal

@@ -1,0 +1,123 @@
+-- The kind of a value, told by the first byte of its key.
+use Rattle.std.proofs.Common.{◌≡◌, ◌⊎◌, inl, inr, true, false, ℕ, ◌+◌, ◌<◌, ◌∷◌, ◌++◌, List, Option, Some, None, MatchOption, refl, sym, ap, ◌∙◌, arith}
+use Rattle.jsonb_key.specs.Readable.{IsReadable}
+use Rattle.jsonb_stored.specs.declared.walk.Kind.{Kind}
+use Rattle.jsonb_stored.specs.declared.walk.Kind.TheVariants as kind
+use Rattle.jsonb_stored.specs.Parts.{IsFirstByte, kind_of_tree}
+use Rattle.jsonb_value.specs.SortKey.{key_of, items_key, members_key, text_key}
+use Rattle.jsonb_value.specs.Tree.{Tree, null, boolean, string, number, array, object}
+use Rattle.jsonb_value.proofs.SortKeys.Kinds.{is_small, number_begins}
+use Rattle.jsonb_value.proofs.Trees.Runs.{heads}
+
+-- the kind of a tree of JSON's kinds, with a key that begins so
+pub record KindOf (t : Tree) (first : ℕ) : Type 0 where
+  pub which : Kind
+  pub is : Some which ≡ kind_of_tree t
+  pub begins : IsFirstByte which first
+
+pub kind_begins : (t : Tree) → IsReadable t → (first : ℕ) (rest bytes more : List ℕ) → bytes ≡ first ∷ rest → bytes ≡ key_of t ++ more → KindOf t first
+kind_begins null r first rest bytes more e stands = record { which = kind.Null; is = refl; begins = heads first 0xD3 rest more (sym e ∙ stands) }
+kind_begins (boolean true) r first rest bytes more e stands = record { which = kind.Bool; is = refl; begins = inr (heads first 0x16 rest more (sym e ∙ stands)) }
+kind_begins (boolean false) r first rest bytes more e stands = record { which = kind.Bool; is = refl; begins = inl (heads first 0x15 rest more (sym e ∙ stands)) }
+kind_begins (string mark text) r first rest bytes more e stands = record { which = kind.String; is = refl; begins = heads first 0xD0 rest (text_key text ++ more) (sym e ∙ stands) }
+kind_begins (number n) r first rest bytes more e stands =
+    let b = number_begins n (is_small n r.proper) in
+    let is = heads first b.head rest (b.tail ++ more) (sym e ∙ stands ∙ ap (λ key. key ++ more) b.is) in
+    record { which = kind.Number; is = refl; begins = (omega (arith, is, b.low), omega (arith, is, b.high)) }
+kind_begins (array ts) r first rest bytes more e stands = record { which = kind.Array; is = refl; begins = heads first 0xD2 rest (items_key ts ++ more) (sym e ∙ stands) }
+kind_begins (object ms) r first rest bytes more e stands = record { which = kind.Object; is = refl; begins = heads first 0xD1 rest (members_key ms ++ more) (sym e ∙ stands) }
+kind_begins t r first rest bytes more e stands = absurd r.within
+
+-- where the keys of a kind begin: the least and the greatest first byte
+abbrev least : Kind → ℕ
+least kind.Null = 0xD3
+least kind.Bool = 0x15
+least kind.Number = 0x17
+least kind.String = 0xD0
+least kind.Array = 0xD2
+least kind.Object = 0xD1
+
+abbrev greatest : Kind → ℕ
+greatest kind.Null = 0xD3
+greatest kind.Bool = 0x16
+greatest kind.Number = 0xCF
+greatest kind.String = 0xD0
+greatest kind.Array = 0xD2
+greatest kind.Object = 0xD1
+
+between : (k : Kind) (first : ℕ) → IsFirstByte k first → (least k < first + 1) × (first < greatest k + 1)
+between kind.Null first b = (omega (arith, b), omega (arith, b))
+between kind.Bool first (inl b) = (omega (arith, b), omega (arith, b))
+between kind.Bool first (inr b) = (omega (arith, b), omega (arith, b))
+between kind.Number first b = (omega (arith, b.0), omega (arith, b.1))
+between kind.String first b = (omega (arith, b), omega (arith, b))
+between kind.Array first b = (omega (arith, b), omega (arith, b))
+between kind.Object first b = (omega (arith, b), omega (arith, b))
+
+-- the first byte is of one kind alone
+within : (j k : Kind) (first : ℕ) → (least j < first + 1) × (first < greatest j + 1) → (least k < first + 1) × (first < greatest k + 1) → j ≡ k
+within kind.Null kind.Null first a b = refl
+within kind.Null kind.Bool first a b = absurd (omega (arith, a.0, a.1, b.0, b.1))
+within kind.Null kind.Number first a b = absurd (omega (arith, a.0, a.1, b.0, b.1))
+within kind.Null kind.String first a b = absurd (omega (arith, a.0, a.1, b.0, b.1))
+within kind.Null kind.Array first a b = absurd (omega (arith, a.0, a.1, b.0, b.1))
+within kind.Null kind.Object first a b = absurd (omega (arith, a.0, a.1, b.0, b.1))
+within kind.Bool kind.Null first a b = absurd (omega (arith, a.0, a.1, b.0, b.1))
+within kind.Bool kind.Bool first a b = refl
+within kind.Bool kind.Number first a b = absurd (omega (arith, a.0, a.1, b.0, b.1))
+within kind.Bool kind.String first a b = absurd (omega (arith, a.0, a.1, b.0, b.1))
+within kind.Bool kind.Array first a b = absurd (omega (arith, a.0, a.1, b.0, b.1))
+within kind.Bool kind.Object first a b = absurd (omega (arith, a.0, a.1, b.0, b.1))
+within kind.Number kind.Null first a b = absurd (omega (arith, a.0, a.1, b.0, b.1))
+within kind.Number kind.Bool first a b = absurd (omega (arith, a.0, a.1, b.0, b.1))
+within kind.Number kind.Number first a b = refl
+within kind.Number kind.String first a b = absurd (omega (arith, a.0, a.1, b.0, b.1))
+within kind.Number kind.Array first a b = absurd (omega (arith, a.0, a.1, b.0, b.1))
+within kind.Number kind.Object first a b = absurd (omega (arith, a.0, a.1, b.0, b.1))
+within kind.String kind.Null first a b = absurd (omega (arith, a.0, a.1, b.0, b.1))
+within kind.String kind.Bool first a b = absurd (omega (arith, a.0, a.1, b.0, b.1))
+within kind.String kind.Number first a b = absurd (omega (arith, a.0, a.1, b.0, b.1))
+within kind.String kind.String first a b = refl
+within kind.String kind.Array first a b = absurd (omega (arith, a.0, a.1, b.0, b.1))
+within kind.String kind.Object first a b = absurd (omega (arith, a.0, a.1, b.0, b.1))
+within kind.Array kind.Null first a b = absurd (omega (arith, a.0, a.1, b.0, b.1))
+within kind.Array kind.Bool first a b = absurd (omega (arith, a.0, a.1, b.0, b.1))
+within kind.Array kind.Number first a b = absurd (omega (arith, a.0, a.1, b.0, b.1))
+within kind.Array kind.String first a b = absurd (omega (arith, a.0, a.1, b.0, b.1))
+within kind.Array kind.Array first a b = refl
+within kind.Array kind.Object first a b = absurd (omega (arith, a.0, a.1, b.0, b.1))
+within kind.Object kind.Null first a b = absurd (omega (arith, a.0, a.1, b.0, b.1))
+within kind.Object kind.Bool first a b = absurd (omega (arith, a.0, a.1, b.0, b.1))
+within kind.Object kind.Number first a b = absurd (omega (arith, a.0, a.1, b.0, b.1))
+within kind.Object kind.String first a b = absurd (omega (arith, a.0, a.1, b.0, b.1))
+within kind.Object kind.Array first a b = absurd (omega (arith, a.0, a.1, b.0, b.1))
+within kind.Object kind.Object first a b = refl
+
+one_kind : (k : Kind) (t : Tree) (first : ℕ) → IsFirstByte k first → KindOf t first → Some k ≡ kind_of_tree t
+one_kind k t first is of = ap (λ j. Some j) (within k of.which first (between k first is) (between of.which first of.begins)) ∙ of.is
+
+-- no kind begins so
+no_kind : (t : Tree) (first : ℕ) → KindOf t first → (first < 0x15) ⊎ (0xD3 < first) → ⊥
+no_kind t first of (inl low) = by_kind of.which (between of.which first of.begins)
+  where
+    by_kind : (k : Kind) → (least k < first + 1) × (first < greatest k + 1) → ⊥
+    by_kind kind.Null b = omega (arith, b.0, low)
+    by_kind kind.Bool b = omega (arith, b.0, low)
+    by_kind kind.Number b = omega (arith, b.0, low)
+    by_kind kind.String b = omega (arith, b.0, low)
+    by_kind kind.Array b = omega (arith, b.0, low)
+    by_kind kind.Object b = omega (arith, b.0, low)
+no_kind t first of (inr high) = by_kind of.which (between of.which first of.begins)
+  where
+    by_kind : (k : Kind) → (least k < first + 1) × (first < greatest k + 1) → ⊥
+    by_kind kind.Null b = omega (arith, b.1, high)
+    by_kind kind.Bool b = omega (arith, b.1, high)
+    by_kind kind.Number b = omega (arith, b.1, high)
+    by_kind kind.String b = omega (arith, b.1, high)
+    by_kind kind.Array b = omega (arith, b.1, high)
+    by_kind kind.Object b = omega (arith, b.1, high)
+
+-- what is found by the byte is the kind
+pub same_as_found : (t : Tree) (first : ℕ) → KindOf t first → (result : Option Kind) → MatchOption result ((first < 0x15) ⊎ (0xD3 < first)) (λ k. IsFirstByte k first) → result ≡ kind_of_tree t
+same_as_found t first of (Some k) is = one_kind k t first is of
+same_as_found t first of None out = absurd (no_kind t first of out)
