@@ -5,3 +5,4 @@ pub mod Numbers
 pub mod Wholes
 pub mod Signs
 pub mod FirstBytes
+pub mod Decoded

@@ -1,13 +1,13 @@
 -- The exponent and the digits of a number, pair by pair.
 use Rattle.std.proofs.Common.{◌≡◌, ◌≢◌, ℕ, zero, suc, ◌+◌, ◌-◌, ◌*◌, ◌/◌, ◌%◌, ◌^◌, ◌<◌, ◌≤◌, ◌⊎◌, inl, inr, Bool, true, false, List, [], ◌∷◌, ◌++◌, map, length, refl, sym, ap, subst, ◌∙◌, arith, eq-eqb, ◌==◌}
-use Rattle.std.proofs.Math.Nat.{mul-lt-mul_of_pos_right, mul-le-mul_left, pow-zero}
+use Rattle.std.proofs.Math.Nat.{mul-lt-mul_of_pos_right, mul-le-mul_left, mul-le-mul_right, pow-zero}
 use Rattle.std.proofs.lemmas.Bool.{cond-true, cond-false, ne_eqb, lt-ltb, le-ltb, cases_lt, cases_eq}
 use Rattle.std.proofs.lemmas.Nat.{div-add-mod', mod_below, div_below, pow-add}
 use Rattle.std.specs.Bool.{nat_lt}
 use Rattle.jsonb_value.specs.SortKey.{turned, place_key, digits_key}
 use Rattle.jsonb_value.proofs.SortKeys.Digits.{ten, hundred, mul-pos, last_pair, more_pairs}
 use Rattle.jsonb_value.proofs.Trees.Runs.{heads, tails}
-use Rattle.jsonb_key.specs.Reading.{place_of, read_as, IsDigits, IsLastPair}
+use Rattle.jsonb_key.specs.Reading.{place_of, read_as, IsDigits, IsLastPair, IsNoLastPair}
 
 -- ---- the place
 
@@ -194,6 +194,14 @@ pair_fits M digits (suc (suc left)) tail pair whole last some single high h =
     too_many (inl k) all = absurd (omega (arith, k, all, high))
     too_many (inr k) all = absurd (omega (arith, k.1, all, high))
 
+-- the last pair is none of zeros
+pub no_zeros : (tail pair power : ℕ) → tail * 100 ≡ pair * power → 0 < tail → tail < power → pair % 100 ≡ 0 → ⊥
+no_zeros tail zero power e some below zeros = absurd (omega (arith, e, some))
+no_zeros tail (suc pair) power e some below zeros = elim (cases_lt (suc pair) 100) [
+  | inl small ↦ absurd (omega (arith, small, zeros))
+  | inr large ↦ let more : 100 * power ≤ suc pair * power = mul-le-mul_right power large in absurd (omega (arith, e, below, more))
+]
+
 -- with a pair that others follow they are less
 pub pair_below_all : (M digits count rest pair left tail : ℕ) → M ≡ digits * 10 ^ left + tail → left ≡ count + 2 → tail ≡ pair * 10 ^ count + rest → (M ≡ (digits * 100 + pair) * 10 ^ count + rest) × (digits * 100 + pair ≤ M)
 pair_below_all M digits count rest pair left tail whole counted more =
@@ -221,8 +229,11 @@ module _ (negative : Bool) (bytes : List ℕ) (digits read : ℕ) (rest : List �
   going_on odd (inl x) = absurd (odd x.even)
   going_on odd (inr y) = y
 
-  pub last_none : b % 2 ≡ 0 → (pair : ℕ) → pair ≡ b / 2 → (2 ^ 128 ≤ digits * 10 + pair / 10) ⊎ ((pair % 10 ≢ 0) × (2 ^ 128 ≤ digits * 100 + pair)) → ⊥
-  last_none even pair half h =
+  pub last_none : b % 2 ≡ 0 → (pair : ℕ) → pair ≡ b / 2 → IsNoLastPair digits pair → ⊥
+  last_none even pair half (inl zeros) =
+      let x = at_end even cases in
+      no_zeros here.tail pair (10 ^ here.left) (x.whole ∙ ap (λ p. p * 10 ^ here.left) (sym half)) here.some here.below zeros
+  last_none even pair half (inr h) =
       let x = at_end even cases in
       pair_fits M digits here.left here.tail pair here.whole (x.whole ∙ ap (λ p. p * 10 ^ here.left) (sym half)) x.some (λ one. ap (λ p. p % 10) half ∙ x.single one) high h
 

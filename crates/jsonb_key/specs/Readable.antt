@@ -1,6 +1,6 @@
--- Which values are decoded from their keys.
+-- Which values are decoded from their keys, and what they are.
 -- Read for: promises.
-use Rattle.std.specs.Prelude.{ℕ, List, codes, ⊤}
+use Rattle.std.specs.Prelude.{◌≡◌, ◌≢◌, ◌%◌, ◌⊎◌, ℕ, List, codes, unsigned_abs, ⊤}
 use Rattle.jsonb_value.specs.Grammar.{max_depth}
 use Rattle.jsonb_value.specs.Proper.{IsProper}
 use Rattle.jsonb_value.specs.Text.Range.{IsWithin}
@@ -11,6 +11,10 @@ use Rattle.jsonb_key.specs.declared.key.KeyError.TheVariants.{Invalid, OutOfMemo
 -- any number
 abbrev pub IsAnyNumber : Num → Type 0
 IsAnyNumber n = ⊤
+
+-- A number with no digit that could be left out: it has no digits after the point, or its last digit isn't 0.
+abbrev pub HasFewestDigits : Num → Type 0
+HasFewestDigits n = (n.scale ≡ 0) ⊎ (unsigned_abs n.whole % 10 ≢ 0)
 
 -- The tree of a value of JSON's kinds, with arrays and objects nested no deeper than the number.
 pub record IsReadableAt (depth : ℕ) (t : Tree) : Type 0 where

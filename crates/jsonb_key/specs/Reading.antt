@@ -1,8 +1,19 @@
 -- Parts of keys, parsed from left to right.
 -- Read for: private.
-use Rattle.std.specs.Prelude.{◌≡◌, ℕ, ◌+◌, ◌*◌, ◌%◌, ◌^◌, ◌<◌, ◌≤◌, Bool, List, [], ◌∷◌, Option, Some, None, if◌then◌else◌, ◌==◌, unsigned_abs}
+use Rattle.std.specs.Prelude.{◌≡◌, ◌≢◌, ℕ, ◌+◌, ◌*◌, ◌/◌, ◌%◌, ◌^◌, ◌<◌, ◌≤◌, ◌⊎◌, Bool, List, [], ◌∷◌, Option, Some, None, if◌then◌else◌, ◌==◌, unsigned_abs}
+use Rattle.jsonb_value.specs.Owned.{owned}
+use Rattle.jsonb_value.specs.Proper.{IsProper}
 use Rattle.jsonb_value.specs.SortKey.{turned}
-use Rattle.jsonb_value.specs.Tree.{Num}
+use Rattle.jsonb_value.specs.Text.Range.{IsWithin}
+use Rattle.jsonb_value.specs.Tree.{Num, Tree}
+use Rattle.jsonb_key.specs.Readable.{HasFewestDigits}
+
+-- The tree of a decoded value: of JSON's kinds, with arrays and objects nested no deeper than the number, its numbers
+-- with the fewest digits, and its strings owned.
+pub record IsDecodedAt (depth : ℕ) (t : Tree) : Type 0 where
+  pub proper : IsProper t
+  pub within : IsWithin HasFewestDigits t depth
+  pub is_owned : owned t ≡ t
 
 -- a zero of a text by what follows its first byte, and the bytes after it
 abbrev pub escape_of : List ℕ → Option (ℕ × List ℕ)
@@ -35,6 +46,13 @@ pub record IsLastPair (digits pair with_pair read : ℕ) : Type 0 where
   pub whole : with_pair * 100 ≡ (digits * 100 + pair) * 10 ^ read
   pub few : read ≤ 2
   pub one : pair % 10 ≡ 0 → read ≡ 1
+  pub not_zero : with_pair % 10 ≢ 0
+
+-- The pair is of zeros, or the digits with it don't fit 128 bits.
+abbrev pub IsNoLastPair : ℕ → ℕ → Type 0
+IsNoLastPair digits pair =
+    (pair % 100 ≡ 0) ⊎ (2 ^ 128 ≤ digits * 10 + pair / 10)
+    ⊎ ((pair % 10 ≢ 0) × (2 ^ 128 ≤ digits * 100 + pair))
 
 -- the second byte of a place, and the bytes after it
 abbrev pub second_of : Bool → List ℕ → Option (ℕ × List ℕ)

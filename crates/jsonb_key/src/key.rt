@@ -1,13 +1,18 @@
 //! The value of a sort key.
 
-ghost use Rattle.std.specs.Prelude.{◌≡◌, ◌<◌, ◌++◌, ◌∷◌, List, ℕ, length, IfOk, IfErr, IfSome, MatchResult, option_map, Some};
+ghost use Rattle.std.specs.Prelude.{◌≡◌, ◌<◌, ◌++◌, ◌∷◌, List, ℕ, suc, length, IfOk, IfErr, IfSome, MatchResult, option_map, Some};
 ghost use Rattle.jsonb_value.specs.Order.{Same};
 ghost use Rattle.jsonb_value.specs.SortKey.{key_of, items_key, members_key, text_key, IsBounded};
 ghost use Rattle.jsonb_value.specs.Keys.{KeysAscend};
+ghost use Rattle.std.specs.List.{All};
 ghost use Rattle.std.specs.Str.{IsUtf8};
+ghost use Rattle.jsonb_value.specs.Grammar.{max_depth};
+ghost use Rattle.jsonb_value.specs.Owned.{owned};
+ghost use Rattle.jsonb_value.specs.Text.Range.{IsWithin};
 ghost use Rattle.jsonb_value.specs.Tree.{Tree, Trees, Members, array, object};
 ghost use Rattle.jsonb_value.specs.View.{view, members_view};
-ghost use Rattle.jsonb_key.specs.Readable.{IsReadable, IsReadableAt};
+ghost use Rattle.jsonb_key.specs.Readable.{HasFewestDigits, IsReadable, IsReadableAt};
+ghost use Rattle.jsonb_key.specs.Reading.{IsDecodedAt};
 
 use crate::number::read_number;
 use crate::text::{read_text, skip_pair};
@@ -81,6 +86,10 @@ pub fn value_of_sort_key(alloc: Global, key: &[u8]) -> Result<Value<'static>, Ke
     ensures key { IfOk result (λ v. key_of (view v) ≡ key.now) }
     // So each value with this key is equal to it.
     ensures same { IfOk result (λ v. (t : Tree) → IsBounded t → key_of t ≡ key.now → Same (view v) t) }
+    // It is of JSON's kinds, its numbers have the fewest digits, and its strings are owned.
+    ensures readable { IfOk result (λ v. IsReadable (view v)) }
+    ensures fewest { IfOk result (λ v. IsWithin HasFewestDigits (view v) max_depth) }
+    ensures owned { IfOk result (λ v. owned (view v) ≡ view v) }
     // The key of a value of JSON's kinds is decoded, unless memory runs out.
     ensures invalid { IfErr result (λ e. e ≡ KeyError.Invalid
         → (t : Tree) → IsReadable t → key_of t ≡ key.now → ⊥) }
@@ -103,6 +112,7 @@ fn read_value(alloc: Global, depth: u32, bytes: &[u8]) -> Result<(Value<'static>
         → MatchResult result (λ r. (key_of (view r.0) ≡ key_of t) × (r.1.now ≡ more))
         (λ e. e ≡ KeyError.OutOfMemory) }
     ensures shorter { IfOk result (λ r. length r.1.now < length bytes.now) }
+    ensures decoded { IfOk result (λ r. IsDecodedAt depth (view r.0)) }
 {
     let Some((first, rest)) = bytes.split_first() else {
         return Err(KeyError::Invalid);
@@ -126,6 +136,7 @@ fn read_string(alloc: Global, bytes: &[u8]) -> Result<(Value<'static>, &[u8]), K
         → MatchResult result (λ r. (key_of (view r.0) ≡ 0xD0 ∷ text_key text) × (r.1.now ≡ more))
         (λ e. e ≡ KeyError.OutOfMemory) }
     ensures shorter { IfOk result (λ r. length r.1.now < length bytes.now) }
+    ensures decoded { (depth : ℕ) → IfOk result (λ r. IsDecodedAt depth (view r.0)) }
 {
     let (text, rest) = read_text(alloc, bytes)?;
     Ok((Value::String(CowStr::Owned(text)), rest))
@@ -137,6 +148,7 @@ fn read_array(alloc: Global, depth: u32, bytes: &[u8]) -> Result<(Value<'static>
         → MatchResult result (λ r. (key_of (view r.0) ≡ 0xD2 ∷ items_key ts) × (r.1.now ≡ more))
         (λ e. e ≡ KeyError.OutOfMemory) }
     ensures shorter { IfOk result (λ r. length r.1.now < length bytes.now) }
+    ensures decoded { IfOk result (λ r. IsDecodedAt depth (view r.0)) }
 {
     let Some(inner) = depth.checked_sub(1) else {
         return Err(KeyError::Invalid);
@@ -161,6 +173,7 @@ fn read_object(alloc: Global, depth: u32, bytes: &[u8]) -> Result<(Value<'static
         → MatchResult result (λ r. (key_of (view r.0) ≡ 0xD1 ∷ members_key ms) × (r.1.now ≡ more))
         (λ e. e ≡ KeyError.OutOfMemory) }
     ensures shorter { IfOk result (λ r. length r.1.now < length bytes.now) }
+    ensures decoded { IfOk result (λ r. IsDecodedAt depth (view r.0)) }
 {
     let Some(inner) = depth.checked_sub(1) else {
         return Err(KeyError::Invalid);
@@ -179,13 +192,15 @@ fn read_object(alloc: Global, depth: u32, bytes: &[u8]) -> Result<(Value<'static
     }
 }
 
-// The object of members whose keys ascend.
+// The object of the members. Where their keys ascend, it has just these.
 fn object_of(
     alloc: Global,
     members: Vec<(String, Value<'static>)>,
 ) -> Result<Object<'static>, AllocError>
-    ensures { KeysAscend (members_view members.entry.items)
+    ensures members { KeysAscend (members_view members.entry.items)
         → IfOk result (λ m. members_view m.entries ≡ members_view members.entry.items) }
+    ensures decoded { (depth : ℕ) → All (λ m. IsDecodedAt depth (view m.1)) members.entry.items
+        → IfOk result (λ m. IsDecodedAt (suc depth) (object (members_view m.entries))) }
 {
     members.into_iter().collect(alloc)
 }

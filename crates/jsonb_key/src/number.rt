@@ -9,7 +9,8 @@ ghost use Rattle.jsonb_value.specs.Proper.{IsProperNumber};
 ghost use Rattle.jsonb_value.specs.SortKey.{number_key, digits_key, turned};
 ghost use Rattle.jsonb_value.specs.Tree.{Num};
 ghost use Rattle.jsonb_value.specs.View.{number_view};
-ghost use Rattle.jsonb_key.specs.Reading.{IsDigits, HasParts, IsLastPair, place_of, second_of};
+ghost use Rattle.jsonb_key.specs.Readable.{HasFewestDigits};
+ghost use Rattle.jsonb_key.specs.Reading.{HasParts, IsDigits, IsLastPair, IsNoLastPair, place_of, second_of};
 
 use jsonb_value::number::{Decimal64, Decimal128, Number};
 
@@ -18,6 +19,8 @@ pub fn read_number(bytes: &[u8]) -> Option<(Number, &[u8])>
     ensures found { (n : Num) → IsProperNumber n → (more : List ℕ) → bytes.now ≡ number_key n ++ more
         → MatchOption result ⊥ (λ r. (number_key (number_view r.0) ≡ number_key n) × (r.1.now ≡ more)) }
     ensures shorter { IfSome result (λ r. length r.1.now < length bytes.now) }
+    ensures proper { IfSome result (λ r. IsProperNumber (number_view r.0)) }
+    ensures fewest { IfSome result (λ r. HasFewestDigits (number_view r.0)) }
 {
     let (first, rest) = bytes.split_first()?;
     if *first == 128 {
@@ -63,6 +66,7 @@ fn read_digits(negative: bool, bytes: &[u8]) -> Option<(u128, u32, &[u8])>
         → (more : List ℕ) → bytes.now ≡ map (turned negative) (digits_key count magnitude) ++ more
         → MatchOption result ⊥ (λ r. IsDigits count magnitude r.0 r.1 × (r.2.now ≡ more)) }
     ensures shorter { IfSome result (λ r. (r.1 < 512) × (length r.2.now < length bytes.now)) }
+    ensures fewest { IfSome result (λ r. r.0 % 10 ≢ 0) }
 {
     let mut digits: u128 = 0;
     let mut count: u32 = 0;
@@ -84,10 +88,14 @@ fn read_digits(negative: bool, bytes: &[u8]) -> Option<(u128, u32, &[u8])>
     None
 }
 
-// The digits with the last pair of them, and how many digits of the pair are no zeros at the end.
+// The digits with the last pair of them, and how many digits of the pair are no zeros at the end. A pair of zeros is
+// no last pair.
 fn last_pair(digits: u128, pair: u8) -> Option<(u128, u32)>
-    ensures { MatchOption result ((2 ^ 128 ≤ digits * 10 + pair / 10) ⊎ ((pair % 10 ≢ 0) × (2 ^ 128 ≤ digits * 100 + pair))) (λ r. IsLastPair digits pair r.0 r.1) }
+    ensures { MatchOption result (IsNoLastPair digits pair) (λ r. IsLastPair digits pair r.0 r.1) }
 {
+    if pair % 100 == 0 {
+        return None;
+    }
     let digits = digits.checked_mul(10)?.checked_add(u128::from(pair / 10))?;
     if pair % 10 == 0 {
         return Some((digits, 1));
@@ -101,9 +109,11 @@ fn last_pair(digits: u128, pair: u8) -> Option<(u128, u32)>
 // The number of these digits, the first of which stands at this place.
 fn number_of(negative: bool, place: u32, digits: u128, count: u32) -> Option<Number>
     requires few { (place < 512) × (count < 512) }
+    requires fewest { digits % 10 ≢ 0 }
     ensures same { (n : Num) → IsProperNumber n → is_negative n.whole ≡ negative → HasParts n place digits count
         → MatchOption result ⊥ (λ x. num_cmp (number_view x) n ≡ Equal) }
     ensures proper { IfSome result (λ x. IsProperNumber (number_view x)) }
+    ensures fewest { IfSome result (λ x. HasFewestDigits (number_view x)) }
 {
     let unit = 255 + count;
     if place >= unit {

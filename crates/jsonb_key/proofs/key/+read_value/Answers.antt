@@ -3,6 +3,10 @@ use Rattle.jsonb_value.specs.Text.Range.{AreWithin, HaveWithin}
 use Rattle.std.proofs.lemmas.Result.{err_from_is_err_and}
 use Rattle.jsonb_value.specs.SortKey.{key_of, members_key}
 use Rattle.jsonb_key.specs.Readable.{IsAnyNumber}
+use Rattle.jsonb_key.specs.Reading.{IsDecodedAt}
+use Rattle.jsonb_key.proofs.Decoded.{array_decoded, items_pushed, members_pushed, one_deeper_decoded}
+use Rattle.jsonb_value.specs.Tree.{object}
+use Rattle.jsonb_value.specs.View.{members_view}
 use Rattle.jsonb_key.proofs.Items.{ItemsLeft, items_not_over, items_ended, next_item, item_read, one_deeper}
 use Rattle.jsonb_key.proofs.Members.{MembersLeft, members_ended, next_member, member_read}
 use Rattle.jsonb_key.proofs.FirstBytes.{one_byte, string_there, array_there, object_there, no_key}
@@ -31,6 +35,7 @@ read_array-items-preserved t c = record {
       subst (λ items. ItemsLeft c.in-Some.inner ts items c.in_ok-item.others.now more) (sym c.in_ok-push.ensures.items)
       (item_read c.in-Some.inner ts c.items.items.items c.items.rest.now more c.in_ok-item.item c.in_ok-item.others.now next read.0 read.1);
   within = omega (arith, c.in_ok-item.ensures.shorter, c.items.invariant.within);
+  decoded = items_pushed c.in-Some.inner c.items.items.items _ c.in_ok-item.item c.in_ok-push.ensures.items c.items.invariant.decoded c.in_ok-item.ensures.decoded;
 }
 
 pub read_array-returns-clause-found : goal.read_array-returns-clause-found
@@ -42,7 +47,7 @@ pub read_object-returns-in-Some-skip_pair-clause-found : goal.read_object-return
 read_object-returns-in-Some-skip_pair-clause-found t c = λ ms readable more e.
     let within = one_deeper (HaveWithin IsAnyNumber ms) c.args.depth c.in-Some.inner readable.within (omega (arith, c.in-Some.ensures)) in
     let done = members_ended c.in-Some.inner c.args.bytes.now c.members.members.items c.members.rest.now c.in-Some-skip_pair.others.now c.members.invariant.reads c.in-Some-skip_pair.ensures.some ms readable.proper.0 readable.proper.1 within more e in
-    (ap key_of c.from.ensures ∙ ap (λ es. 209 ∷ members_key es) (c.in_ok-object.ensures done.1) ∙ ap (λ key. 209 ∷ key) done.0, done.2)
+    (ap key_of c.from.ensures ∙ ap (λ es. 209 ∷ members_key es) (c.in_ok-object.ensures.members done.1) ∙ ap (λ key. 209 ∷ key) done.0, done.2)
 
 pub read_object-returns-in_err-key-clause-found : goal.read_object-returns-in_err-key-clause-found
 read_object-returns-in_err-key-clause-found t c = λ ms readable more e.
@@ -70,6 +75,7 @@ read_object-members-preserved t c = record {
       subst (λ entries. MembersLeft c.in-Some.inner ms entries c.in_ok-value.others.now more) (sym c.in_ok-push.ensures.items)
       (member_read c.in-Some.inner ms c.members.members.items c.members.rest.now more (c.in_ok-key.key, c.in_ok-value.value) c.in_ok-value.others.now next key.0 value.0 value.1);
   within = omega (arith, c.in_ok-key.ensures.shorter, c.in_ok-value.ensures.shorter, c.members.invariant.within);
+  decoded = members_pushed c.in-Some.inner c.members.members.items _ (c.in_ok-key.key, c.in_ok-value.value) c.in_ok-push.ensures.items c.members.invariant.decoded c.in_ok-value.ensures.decoded;
 }
 
 pub read_value-returns-in_default-clause-found : goal.read_value-returns-in_default-clause-found
@@ -104,3 +110,12 @@ pub read_value-returns-in-211-clause-found : goal.read_value-returns-in-211-clau
 read_value-returns-in-211-clause-found t c = λ u readable more e.
     let x = one_byte c.args.depth u readable c.in-Some.first.now c.in-Some.rest.now c.args.bytes.now more c.in-Some.ensures.cases.0 e 211 c.in-211.is (λ head low high is. omega (arith, high, is)) in
     (ap key_of c.default.ensures ∙ sym x.0, x.1)
+
+pub read_array-returns-then-first-eq0-clause-decoded : goal.read_array-returns-then-first-eq0-clause-decoded
+read_array-returns-then-first-eq0-clause-decoded t c =
+    subst (IsDecodedAt c.args.depth) (sym c.from.ensures) (array_decoded c.args.depth c.in-Some.inner c.items.items.items (omega (arith, c.in-Some.ensures)) c.items.invariant.decoded)
+
+pub read_object-returns-in-Some-skip_pair-clause-decoded : goal.read_object-returns-in-Some-skip_pair-clause-decoded
+read_object-returns-in-Some-skip_pair-clause-decoded t c =
+    subst (IsDecodedAt c.args.depth) (sym c.from.ensures)
+    (one_deeper_decoded c.args.depth c.in-Some.inner (object (members_view c.in_ok-object.object.entries)) (omega (arith, c.in-Some.ensures)) (c.in_ok-object.ensures.decoded c.in-Some.inner c.members.invariant.decoded))

@@ -1,4 +1,5 @@
 use Rattle.std.proofs.Common.{◌≤◌, ◌*◌, ◌+◌, length}
+use Rattle.jsonb_key.proofs.Decoded.{AreDecoded, HaveDecoded}
 use Rattle.jsonb_key.proofs.Items.{ReadsItems}
 use Rattle.jsonb_key.proofs.Members.{ReadsMembers}
 use Rattle.jsonb_key.proofs.key.+read_value.Given as goal
@@ -14,13 +15,13 @@ decreases-read_object l = 2 * l.depth
 
 -- what was read stands before what is left
 abbrev pub invariant-read_array-items : goal.invariant-read_array-items
-invariant-read_array-items l = record { reads : ReadsItems l.inner l.bytes l.items.items l.rest; within : length l.rest ≤ length l.bytes }
+invariant-read_array-items l = record { reads : ReadsItems l.inner l.bytes l.items.items l.rest; within : length l.rest ≤ length l.bytes; decoded : AreDecoded l.inner l.items.items }
 
 abbrev pub decreases-read_array-items : goal.decreases-read_array-items
 decreases-read_array-items l = length l.rest
 
 abbrev pub invariant-read_object-members : goal.invariant-read_object-members
-invariant-read_object-members l = record { reads : ReadsMembers l.inner l.bytes l.members.items l.rest; within : length l.rest ≤ length l.bytes }
+invariant-read_object-members l = record { reads : ReadsMembers l.inner l.bytes l.members.items l.rest; within : length l.rest ≤ length l.bytes; decoded : HaveDecoded l.inner l.members.items }
 
 abbrev pub decreases-read_object-members : goal.decreases-read_object-members
 decreases-read_object-members l = length l.rest

@@ -7,6 +7,7 @@ use Rattle.jsonb_value.specs.SortKey.{key_of, IsBounded}
 use Rattle.jsonb_value.specs.View.{view}
 use Rattle.jsonb_value.proofs.SortKeys.Trees.{keys_same}
 use Rattle.jsonb_key.specs.declared.key.KeyError.TheVariants.{Invalid, OutOfMemory}
+use Rattle.jsonb_key.proofs.Decoded.{decoded_readable}
 use Rattle.jsonb_key.proofs.key.value_of_sort_key.Goals as goal
 
 done : {T E P : Type 0} (r : Result T E) → is_err r ≡ false → OnOk r P → P
@@ -40,3 +41,6 @@ returns-clause-same c = λ t bounded e.
     let key : key_of (view c.in_ok-value.value) ≡ c.args.key.now = search rules in
     let fits : IsBounded (view c.in_ok-value.value) = done c.write_sort_key.result (sym c.is_err.ensures.value ∙ c.if-is_err.false) c.write_sort_key.ensures.bounded in
     (keys_same (view c.in_ok-value.value) t fits bounded).0 (key ∙ sym e)
+
+pub returns-clause-readable : goal.returns-clause-readable
+returns-clause-readable c = decoded_readable 512 (view c.in_ok-value.value) c.in_ok-value.ensures.decoded

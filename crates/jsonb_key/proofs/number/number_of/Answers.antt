@@ -1,9 +1,10 @@
-use Rattle.std.proofs.Common.{◌≡◌, ◌*◌, ◌^◌, inl, inr, arith, ap, ◌∙◌, unsigned_abs}
+use Rattle.std.proofs.Common.{◌≡◌, ◌*◌, ◌%◌, ◌^◌, inl, inr, arith, ap, sym, ◌∙◌, unsigned_abs}
 use Rattle.std.proofs.Common.{rules}
 use Rattle.std.specs.Prelude.{FitsSigned}
 use Rattle.std.specs.Int.{w128}
 use Rattle.std.proofs.lemmas.Int.{to_z-of_z}
 use Rattle.jsonb_value.specs.View.{number_view}
+use Rattle.jsonb_value.proofs.Numbers.Nearest.{unsigned_abs-signed}
 use Rattle.jsonb_key.proofs.Wholes.{most, positive_below, digits_most, up_same, up_most, up_power, down_same, same_number}
 use Rattle.jsonb_key.proofs.number.number_of.Goals as goal
 
@@ -45,3 +46,12 @@ returns-clause-same c = λ n proper sign parts.
     let same = down_same n c.args.place c.args.digits c.args.count proper parts (omega (arith, below)) in
     let fits : FitsSigned w128 c.in_ok-signed.signed = search rules in
     same_number (number_view c.number_with-2.result) n c.args.negative c.in_ok-scale.scale c.args.digits c.number_with-2.ensures.scale (c.number_with-2.ensures.whole ∙ to_z-of_z w128 c.in_ok-signed.signed fits ∙ c.in_ok-signed.ensures) sign (same ∙ ap (λ s. unsigned_abs n.whole * 10 ^ s) (search rules))
+
+pub returns-then-place-unit-clause-fewest : goal.returns-then-place-unit-clause-fewest
+returns-then-place-unit-clause-fewest c = inl c.number_with.ensures.scale
+
+pub returns-clause-fewest : goal.returns-clause-fewest
+returns-clause-fewest c =
+    let fits : FitsSigned w128 c.in_ok-signed.signed = search rules in
+    let digits = ap unsigned_abs (c.number_with-2.ensures.whole ∙ to_z-of_z w128 c.in_ok-signed.signed fits ∙ c.in_ok-signed.ensures) ∙ unsigned_abs-signed c.args.negative c.args.digits in
+    inr (λ zero. c.requires.fewest (ap (λ x. x % 10) (sym digits) ∙ zero))
