@@ -1,3 +1,4 @@
+pub mod Keys
 pub mod Parts
 pub mod Reasons
 pub mod Texts

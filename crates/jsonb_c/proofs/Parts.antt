@@ -8,7 +8,7 @@ use Rattle.jsonb_c.specs.Interface.{IsAccepted, IsDocumentOf, HasPartAt, HasNoPa
 use Rattle.jsonb_c.proofs.Reasons.{one_mode}
 
 -- a text is a document of one tree
-one_tree : (number : ℕ) (text : List ℕ) (t u : Tree) → IsDocumentOf number text t → IsDocumentOf number text u → t ≡ u
+pub one_tree : (number : ℕ) (text : List ℕ) (t u : Tree) → IsDocumentOf number text t → IsDocumentOf number text u → t ≡ u
 one_tree number text t u a b = b.only t (subst (λ mode. IsDocument mode text t) (one_mode a.chosen b.chosen) a.document)
 
 -- a part stands there, or none does

@@ -1,6 +1,6 @@
 -- What each status and each out parameter says of the texts.
 -- Read for: promises, but `IsReason`, `SaysError`, `status_of`, `told`.
-use Rattle.std.specs.Prelude.{◌≡◌, ◌≢◌, ◌⊎◌, ℕ, ◌<◌, ◌≤◌, ℤ, pos, negsuc, List, ◌++◌, length, drop, Some, Ok, Err}
+use Rattle.std.specs.Prelude.{◌≡◌, ◌≢◌, ◌⊎◌, ℕ, ◌<◌, ◌≤◌, ℤ, pos, negsuc, List, [], ◌++◌, length, drop, Some, Ok, Err}
 use Rattle.std.specs.declared.cmp.Ordering.{Ordering}
 use Rattle.std.specs.declared.cmp.Ordering.TheVariants.{Less, Equal, Greater}
 use Rattle.jsonb_value.specs.declared.error.Error.{Error}
@@ -11,7 +11,7 @@ use Rattle.jsonb_value.specs.Code.Code.{control_character_while_parsing_string, 
 use Rattle.jsonb_value.specs.Error.ErrorText.{error_text}
 use Rattle.jsonb_value.specs.Grammar.{IsDocument, IsNoDocument}
 use Rattle.jsonb_value.specs.Mode.{Mode, standard, extended}
-use Rattle.jsonb_value.specs.Order.{tree_cmp}
+use Rattle.jsonb_value.specs.Order.{bytes_cmp, tree_cmp}
 use Rattle.jsonb_value.specs.SortKey.{key_of}
 use Rattle.jsonb_value.specs.Text.ReadsBack.{ReadsBackAs}
 use Rattle.jsonb_value.specs.Text.{text_of}
@@ -117,11 +117,16 @@ pub record IsTextOf (number : ℕ) (text bytes : List ℕ) : Type 0 where
   pub is_text : text_of tree ≡ Some bytes
   pub reads_back : ReadsBackAs read.mode bytes tree
 
--- The bytes are the sort key of the tree of the text.
+-- The bytes are the sort key of the tree of the text. With the sort key of each document, of either mode, they compare
+-- as the trees do, and no more bytes follow them there.
 pub record IsKeyOf (number : ℕ) (text bytes : List ℕ) : Type 0 where
   pub tree : Tree
   pub read : IsDocumentOf number text tree
   pub is_key : bytes ≡ key_of tree
+  pub ordered : (mode : Mode) (other : List ℕ) (t : Tree) → IsDocument mode other t
+      → bytes_cmp bytes (key_of t) ≡ tree_cmp tree t
+  pub no_front : (mode : Mode) (other : List ℕ) (t : Tree) → IsDocument mode other t
+      → (more : List ℕ) → key_of t ≡ bytes ++ more → more ≡ []
 
 -- The text and the key of the text's tree have these sizes, and one of the buffers is shorter.
 pub record NeedsRoomForBoth (number : ℕ) (text : List ℕ) (size key_size : ℕ) (old key_old : List ℕ) : Type 0 where

@@ -10,6 +10,7 @@ ghost use Rattle.std.specs.Prelude.{◌≡◌, ◌≢◌, ◌↔◌, ◌⊎◌, 
 ghost use Rattle.jsonb_value.specs.Code.{Code, code_of};
 ghost use Rattle.jsonb_value.specs.Error.ErrorText.{error_text};
 ghost use Rattle.jsonb_value.specs.Grammar.{IsDocument, IsNoDocument};
+ghost use Rattle.jsonb_value.specs.Order.{bytes_cmp};
 ghost use Rattle.jsonb_value.specs.Tree.{Tree};
 ghost use Rattle.jsonb_value.specs.View.{view};
 ghost use Rattle.jsonb.specs.Line.{column_at, fault_index, line_at};
@@ -170,7 +171,8 @@ pub extern "C" fn vizhoniku_sort_key(
     ensures status { result ≤ 4 }
     ensures mode { result ≡ UNKNOWN_MODE ↔ (1 < mode) }
 
-    // What is written is the key of the document's tree, and no other byte of the buffer changes.
+    // What is written is the key of the document's tree, which compares with each other document's key as the trees
+    // do, and no other byte of the buffer changes.
     ensures written { result ≡ ACCEPTED → Writes (IsKeyOf mode text.now) size.new out.old out.new }
     ensures short { result ≡ TOO_SHORT → NeedsRoom (IsKeyOf mode text.now) size.new out.old }
     ensures untouched { result ≢ ACCEPTED → out.new ≡ out.old }
@@ -263,6 +265,10 @@ pub extern "C" fn vizhoniku_compare(
     // The order is that of the trees of two documents.
     ensures ordered { result ≡ ACCEPTED → IsOrdered mode left.now right.now order.new }
     ensures no_order { result ≢ ACCEPTED → order.new ≡ pos 0 }
+
+    // It is also that of the bytes of the sort keys that `vizhoniku_sort_key` writes of the texts.
+    ensures keys { result ≡ ACCEPTED → (key other : List ℕ) → IsKeyOf mode left.now key → IsKeyOf mode right.now other
+        → order.new ≡ sign (bytes_cmp key other) }
 
     // Two documents are accepted, unless memory ran out.
     ensures accepted { IsAccepted mode left.now → IsAccepted mode right.now

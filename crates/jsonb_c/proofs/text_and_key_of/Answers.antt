@@ -1,5 +1,7 @@
-use Rattle.std.proofs.Common.{sym, ◌∙◌}
+use Rattle.std.proofs.Common.{◌++◌, ap, sym, ◌∙◌}
+use Rattle.jsonb_value.specs.SortKey.{key_of}
 use Rattle.jsonb_document.specs.View.{document_view}
+use Rattle.jsonb_c.proofs.Keys.{key_is}
 use Rattle.jsonb_c.proofs.Texts.{done, text_is}
 use Rattle.jsonb_c.proofs.text_and_key_of.Goals as goal
 
@@ -7,3 +9,9 @@ pub returns-clause-text : goal.returns-clause-text
 returns-clause-text c =
     text_is c.args.mode c.args.text.now (document_view c.in_ok-document.document) c.new-bytes.result.items c.write_text.new.buf.items c.in_ok-document.ensures.read c.new-bytes.ensures.items
     (done _ c.write_text.result (sym c.is_err.ensures.value ∙ c.if-is_err.false) c.write_text.ensures.ok)
+
+pub returns-clause-key : goal.returns-clause-key
+returns-clause-key c =
+    let tree = document_view c.in_ok-document.document in
+    let appended = done _ c.write_sort_key.result (sym c.is_err-2.ensures.value ∙ c.if-is_err-2.false) c.write_sort_key.ensures.ok in
+    key_is c.args.mode c.args.text.now c.write_sort_key.new.buf.items tree c.in_ok-document.ensures.read (appended ∙ ap (λ old. old ++ key_of tree) c.new-key.ensures.items)
