@@ -8,6 +8,7 @@ pub mod Numbers
 pub mod Pairs
 pub mod Parts
 pub mod Pieces
+pub mod Sizes
 pub mod Texts
 pub mod Trees
 pub mod Zeros

@@ -1,5 +1,6 @@
 -- The sort key of a tree; what each value's tree has by its types, as far as keys rest on it.
 -- Read for: promises.
+pub mod Size
 use Rattle.std.specs.Prelude.{ℕ, zero, suc, ◌+◌, ◌-◌, ◌*◌, ◌/◌, ◌%◌, ◌^◌, ◌==◌, nat_lt, Bool, if◌then◌else◌, ⊤, ℤ, pos, ◌+ℤ◌, unsigned_abs, FitsSigned, List, [], ◌∷◌, ◌++◌, map}
 use Rattle.std.specs.Int.{w32, w64, is_negative, bytes_high_first}
 use Rattle.std.specs.List.{flat_map}

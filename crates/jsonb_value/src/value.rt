@@ -14,7 +14,7 @@ use crate::extension::{Date, Interval, Timestamp, TimestampTz};
 use crate::number::Number;
 pub use laws::{documents_are_in_range, value_texts_read_back};
 pub use order::order_is_total;
-pub use sort_key::sort_keys_order;
+pub use sort_key::{sort_key_sizes, sort_keys_order};
 use std::borrow::CowStr;
 use std::collections::BTreeMap;
 pub use text::string_texts_read_back;

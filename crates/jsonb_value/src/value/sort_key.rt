@@ -1,12 +1,15 @@
 //! Sort keys: bytes that compare as the values do.
-ghost use Rattle.std.specs.Prelude.{ℕ, List, ◌≡◌, ◌↔◌, ◌+◌, ◌<◌, ◌≤◌, ◌++◌, ◌∷◌, [], length, take, IfErr, OnOk, OnErr, vec_len, string_bytes, IsTrue};
-ghost use Rattle.std.specs.List.{flat_map};
+ghost use Rattle.std.specs.Prelude.{ℕ, List, ◌≡◌, ◌↔◌, ◌+◌, ◌/◌, ◌^◌, ◌<◌, ◌≤◌, ◌++◌, ◌∷◌, [], length, take, unsigned_abs, IfErr, OnOk, OnErr, vec_len, string_bytes, IsTrue};
+ghost use Rattle.std.specs.List.{flat_map, sum_by};
 ghost use Rattle.std.specs.Ordering.{ordering_then};
 ghost use Rattle.std.specs.Vec.{vec_capacity};
 ghost use Rattle.jsonb_value.specs.Order.{bytes_cmp, tree_cmp, Same};
+ghost use Rattle.jsonb_value.specs.Order.ByContent.{items_of, pairs_of};
+ghost use Rattle.jsonb_value.specs.Proper.{IsProperNumber};
 ghost use Rattle.jsonb_value.specs.SortKey.{byte_key, text_key, key_of_32_bits, key_of_64_bits, key_of, items_key, members_key, IsBounded, AreBounded, HaveBounds};
+ghost use Rattle.jsonb_value.specs.SortKey.Size.{exponent_len, member_len, most_pairs, zero_count};
 ghost use Rattle.jsonb_value.specs.Text.Appending.{Extends};
-ghost use Rattle.jsonb_value.specs.Tree.{Tree};
+ghost use Rattle.jsonb_value.specs.Tree.{Mark, Num, Tree, Trees, Members, number, string, array, object};
 ghost use Rattle.jsonb_value.specs.View.{view, trees_view, members_view};
 
 use super::text::run_len;
@@ -25,6 +28,20 @@ pub fn sort_keys_order()
         → key_of u ≡ key_of t ++ more → more ≡ [] }
     ensures joined { (t u : Tree) → IsBounded t → IsBounded u → (x y : List ℕ)
         → bytes_cmp (key_of t ++ x) (key_of u ++ y) ≡ ordering_then (tree_cmp t u) (bytes_cmp x y) }
+{}
+
+/// How many bytes keys have. A number has a byte for each two digits, and one for its exponent, or two below 10^-31. So
+/// it has at most 11 bytes where it has 64 bits, 21 where it has 128, and one more below 10^-31.
+pub fn sort_key_sizes()
+    ensures zero { (n : Num) → unsigned_abs n.whole ≡ 0 → length (key_of (number n)) ≡ 1 }
+    ensures digits { (n : Num) → IsProperNumber n → (count : ℕ) → unsigned_abs n.whole < 10 ^ count
+        → length (key_of (number n)) ≤ exponent_len n + (count + 1) / 2 }
+    ensures number { (n : Num) → IsProperNumber n
+        → length (key_of (number n)) ≤ exponent_len n + most_pairs n.form }
+    ensures string { (mark : Mark) → (bytes : List ℕ)
+        → length (key_of (string mark bytes)) ≡ length bytes + zero_count bytes + 3 }
+    ensures array { (ts : Trees) → length (key_of (array ts)) ≡ sum_by (λ t. length (key_of t)) (items_of ts) + 2 }
+    ensures object { (ms : Members) → length (key_of (object ms)) ≡ sum_by member_len (pairs_of ms) + 3 }
 {}
 
 // The result of a function that appends. After an error the buffer may hold a part of the key.
