@@ -2,6 +2,7 @@
 #
 #   make                                builds build/libvizhoniku.a and build/libvizhoniku.so.0
 #   make install [PREFIX=/usr/local] [DESTDIR=]
+#   make uninstall [PREFIX=/usr/local] [DESTDIR=]
 #
 # Needs the Rattle kit, cc, ld and objcopy. The library is proved before it is built, so the first time takes minutes.
 PREFIX ?= /usr/local
@@ -55,27 +56,41 @@ build/libvizhoniku.a: build/vizhoniku.o
 build/$(SONAME): build/vizhoniku.o packaging/exports
 	$(CC) -shared -o $@ -Wl,-soname,$(SONAME) -Wl,--version-script=packaging/exports -Wl,-z,defs $(LDFLAGS) $<
 
-# The file for pkg-config names the folders of this call.
+# The files for pkg-config and for CMake name these folders. So they are whole paths, which may have spaces, but no
+# character that means something else there. A DESTDIR may have any character.
+HASH := \#
+REFUSED_CHARACTERS := " ' \ $$ ` $(HASH) ; & |
+ifneq ($(filter install uninstall,$(MAKECMDGOALS)),)
+$(foreach folder,PREFIX INCLUDEDIR LIBDIR,$(foreach character,$(REFUSED_CHARACTERS),\
+    $(if $(findstring $(character),$($(folder))),$(error $(folder) is $($(folder)), and may have no $(character)))))
+$(foreach folder,PREFIX INCLUDEDIR LIBDIR,\
+    $(if $(filter /%,$(firstword $($(folder))/)),,$(error $(folder) is $($(folder)), and must begin with /)))
+endif
+
+# A word of the shell.
+quoted = '$(subst ','\'',$(1))'
+HEADER_TO = $(call quoted,$(DESTDIR)$(INCLUDEDIR))
+LIBRARY_TO = $(call quoted,$(DESTDIR)$(LIBDIR))
+NAMED = sed -e $(call quoted,s|@PREFIX@|$(PREFIX)|) -e $(call quoted,s|@INCLUDEDIR@|$(INCLUDEDIR)|) \
+    -e $(call quoted,s|@LIBDIR@|$(LIBDIR)|) -e $(call quoted,s|@VERSION@|$(VERSION)|)
+
 install: all
-	$(INSTALL) -d $(DESTDIR)$(INCLUDEDIR) $(DESTDIR)$(LIBDIR)/pkgconfig
-	$(INSTALL) -m 644 include/vizhoniku.h $(DESTDIR)$(INCLUDEDIR)
-	$(INSTALL) -m 644 build/libvizhoniku.a $(DESTDIR)$(LIBDIR)
-	$(INSTALL) -m 755 build/$(SONAME) $(DESTDIR)$(LIBDIR)
-	ln -sf $(SONAME) $(DESTDIR)$(LIBDIR)/libvizhoniku.so
-	sed -e 's|@PREFIX@|$(PREFIX)|' -e 's|@INCLUDEDIR@|$(INCLUDEDIR)|' -e 's|@LIBDIR@|$(LIBDIR)|' \
-	    -e 's|@VERSION@|$(VERSION)|' packaging/vizhoniku.pc.in > $(DESTDIR)$(LIBDIR)/pkgconfig/vizhoniku.pc
-	chmod 644 $(DESTDIR)$(LIBDIR)/pkgconfig/vizhoniku.pc
-	$(INSTALL) -d $(DESTDIR)$(LIBDIR)/cmake/vizhoniku
+	$(INSTALL) -d $(HEADER_TO) $(LIBRARY_TO)/pkgconfig $(LIBRARY_TO)/cmake/vizhoniku
+	$(INSTALL) -m 644 include/vizhoniku.h $(HEADER_TO)
+	$(INSTALL) -m 644 build/libvizhoniku.a $(LIBRARY_TO)
+	$(INSTALL) -m 755 build/$(SONAME) $(LIBRARY_TO)
+	ln -sf $(SONAME) $(LIBRARY_TO)/libvizhoniku.so
+	$(NAMED) packaging/vizhoniku.pc.in > $(LIBRARY_TO)/pkgconfig/vizhoniku.pc
+	chmod 644 $(LIBRARY_TO)/pkgconfig/vizhoniku.pc
 	for name in vizhoniku-config vizhoniku-config-version; do \
-	    sed -e 's|@INCLUDEDIR@|$(INCLUDEDIR)|' -e 's|@LIBDIR@|$(LIBDIR)|' -e 's|@VERSION@|$(VERSION)|' \
-	        packaging/$$name.cmake.in > $(DESTDIR)$(LIBDIR)/cmake/vizhoniku/$$name.cmake && \
-	    chmod 644 $(DESTDIR)$(LIBDIR)/cmake/vizhoniku/$$name.cmake || exit 1; \
+	    $(NAMED) packaging/$$name.cmake.in > $(LIBRARY_TO)/cmake/vizhoniku/$$name.cmake && \
+	    chmod 644 $(LIBRARY_TO)/cmake/vizhoniku/$$name.cmake || exit 1; \
 	done
 
 uninstall:
-	rm -f $(DESTDIR)$(INCLUDEDIR)/vizhoniku.h $(DESTDIR)$(LIBDIR)/libvizhoniku.a $(DESTDIR)$(LIBDIR)/$(SONAME) \
-	    $(DESTDIR)$(LIBDIR)/libvizhoniku.so $(DESTDIR)$(LIBDIR)/pkgconfig/vizhoniku.pc
-	rm -rf $(DESTDIR)$(LIBDIR)/cmake/vizhoniku
+	rm -f $(HEADER_TO)/vizhoniku.h $(LIBRARY_TO)/libvizhoniku.a $(LIBRARY_TO)/$(SONAME) $(LIBRARY_TO)/libvizhoniku.so \
+	    $(LIBRARY_TO)/pkgconfig/vizhoniku.pc
+	rm -rf $(LIBRARY_TO)/cmake/vizhoniku
 
 clean:
 	rm -rf build
