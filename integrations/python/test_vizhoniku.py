@@ -1,13 +1,16 @@
 """Tries the module, and documents in LMDB: python3 test_vizhoniku.py
 
-Needs libvizhoniku.so.0 where the package vizhoniku looks for it. The tests of LMDB are skipped where python3-lmdb is missing.
+Needs libvizhoniku.so.0 where the package vizhoniku looks for it. The tests of LMDB are skipped where python3-lmdb is
+missing, and those over a library that stands in for it where cc is.
 """
 
 import doctest
 import functools
 import json
 import os
+import pickle
 import random
+import shutil
 import subprocess
 import sys
 import tempfile
@@ -135,6 +138,15 @@ class Calls(unittest.TestCase):
         self.assertEqual((raised.exception.which, str(raised.exception)),
                          (2, "second text, line 1, column 2: expected value"))
 
+    def test_an_error_goes_to_another_process(self) -> None:
+        with self.assertRaises(v.RejectedText) as raised:
+            v.compare("1", "[1,\n x")
+        fault = raised.exception
+        again = pickle.loads(pickle.dumps(fault))
+        self.assertIs(type(again), v.RejectedText)
+        self.assertEqual(vars(again), vars(fault))
+        self.assertEqual(str(again), "second text, line 2, column 2: expected value")
+
     def test_sort_key(self) -> None:
         keys = [[v.sort_key(text) for text in line] for line in IN_ORDER]
         for line in keys:
@@ -243,13 +255,15 @@ class Calls(unittest.TestCase):
         self.assertRaises(TypeError, v.compare, "1", None)
 
 
-class Loading(unittest.TestCase):
-    """How the library is found, each time in an interpreter of its own."""
-
+class InAnInterpreter(unittest.TestCase):
     def run_with(self, code: str, **environment: str) -> str:
         ran = subprocess.run([sys.executable, "-c", code], cwd=HERE, env={**os.environ, **environment},
                              stdout=subprocess.PIPE, stderr=subprocess.STDOUT, check=False)
         return ran.stdout.decode().strip()
+
+
+class Loading(InAnInterpreter):
+    """How the library is found, each time in an interpreter of its own."""
 
     def library(self) -> str:
         with open("/proc/self/maps", encoding="utf-8", errors="surrogateescape") as maps:
@@ -283,6 +297,201 @@ except MemoryError:
 print(vizhoniku.text("[1, 2]"))
 """)
         self.assertEqual(told, "MemoryError\n[1,2]")
+
+
+# A library that stands in for the real one. Each call answers `status`, and rejects a text at its start. Where `waits` is
+# set it first waits for `goes_on`, which another thread has to set, for ten seconds at most.
+STAND_IN = r"""
+#define _POSIX_C_SOURCE 200809L
+#include <stddef.h>
+#include <stdint.h>
+#include <time.h>
+
+struct refusal { uint32_t code, which; size_t position; };
+struct place { size_t index, line, column; };
+
+volatile int waits, is_waiting, goes_on;
+volatile uint32_t status, message_status = 1;
+
+static uint32_t answer(struct refusal *refusal) {
+  const struct timespec moment = {0, 1000000};
+  is_waiting = 1;
+  for (int i = 0; waits && !goes_on && i < 10000; i++) nanosleep(&moment, NULL);
+  refusal->code = refusal->which = status == 1;
+  refusal->position = 0;
+  return waits && !goes_on ? 99 : status;
+}
+
+uint32_t vizhoniku_version(void) { return INTERFACE; }
+
+uint32_t vizhoniku_check(uint32_t mode, const char *text, size_t text_size, struct refusal *refusal) {
+  (void)mode, (void)text, (void)text_size;
+  return answer(refusal);
+}
+
+uint32_t vizhoniku_text(uint32_t mode, const char *text, size_t text_size, char *buffer, size_t room, size_t *size,
+                        struct refusal *refusal) {
+  (void)mode, (void)text, (void)text_size, (void)buffer, (void)room;
+  *size = 0;
+  return answer(refusal);
+}
+
+uint32_t vizhoniku_sort_key(uint32_t mode, const char *text, size_t text_size, char *buffer, size_t room, size_t *size,
+                            struct refusal *refusal) {
+  return vizhoniku_text(mode, text, text_size, buffer, room, size, refusal);
+}
+
+uint32_t vizhoniku_part(uint32_t mode, const char *path, size_t path_size, const char *text, size_t text_size,
+                        char *buffer, size_t room, size_t *size, struct refusal *refusal) {
+  (void)path, (void)path_size;
+  return vizhoniku_text(mode, text, text_size, buffer, room, size, refusal);
+}
+
+uint32_t vizhoniku_text_and_key(uint32_t mode, const char *text, size_t text_size, char *buffer, size_t room,
+                                size_t *size, char *key_buffer, size_t key_room, size_t *key_size,
+                                struct refusal *refusal) {
+  (void)key_buffer, (void)key_room;
+  *key_size = 0;
+  return vizhoniku_text(mode, text, text_size, buffer, room, size, refusal);
+}
+
+uint32_t vizhoniku_compare(uint32_t mode, const char *left, size_t left_size, const char *right, size_t right_size,
+                           int32_t *order, struct refusal *refusal) {
+  (void)mode, (void)left, (void)left_size, (void)right, (void)right_size;
+  *order = 0;
+  return answer(refusal);
+}
+
+uint32_t vizhoniku_message(uint32_t mode, const char *text, size_t text_size, char *buffer, size_t room, size_t *size) {
+  (void)mode, (void)text, (void)text_size, (void)buffer, (void)room;
+  *size = 0;
+  return message_status;
+}
+
+void vizhoniku_place(const char *text, size_t text_size, const struct refusal *refusal, struct place *place) {
+  (void)text, (void)text_size, (void)refusal;
+  place->index = 0, place->line = place->column = 1;
+}
+"""
+
+# What an interpreter over that library runs first.
+OVER_STAND_IN = """
+import ctypes
+import threading
+import vizhoniku as v
+
+status = ctypes.c_uint32.in_dll(v._library, "status")
+message_status = ctypes.c_uint32.in_dll(v._library, "message_status")
+waits, is_waiting, goes_on = (ctypes.c_int.in_dll(v._library, name) for name in ("waits", "is_waiting", "goes_on"))
+calls = {"check": lambda: v.check("1"), "is_valid": lambda: v.is_valid("1"), "text": lambda: v.text("1"),
+         "sort_key": lambda: v.sort_key("1"), "text_and_key": lambda: v.text_and_key("1"),
+         "get": lambda: v.get("1", ""), "compare": lambda: v.compare("1", "1")}
+
+def told(call):
+    try:
+        return str(call())
+    except Exception as error:
+        return type(error).__name__
+"""
+
+# Another thread goes on while a call reads, or the call answers a status that there isn't.
+WHILE_A_CALL_READS = OVER_STAND_IN + """
+waits.value = 1
+
+def go_on():
+    while not is_waiting.value:
+        pass
+    goes_on.value = 1
+
+for name, call in calls.items():
+    is_waiting.value = goes_on.value = 0
+    thread = threading.Thread(target=go_on)
+    thread.start()
+    answer = told(call)
+    print(name, answer)
+    thread.join()
+    if answer == "RuntimeError":
+        break
+"""
+
+
+@unittest.skipIf(shutil.which("cc") is None, "cc is missing")
+class StandIn(InAnInterpreter):
+    """What the module makes of statuses, of other versions and of places of the library."""
+
+    folder: "tempfile.TemporaryDirectory[str]"
+
+    @classmethod
+    def setUpClass(cls) -> None:
+        cls.folder = tempfile.TemporaryDirectory()
+        for version in (v._VERSION - 1, v._VERSION, v._VERSION + 1):
+            os.mkdir(os.path.join(cls.folder.name, str(version)))
+            subprocess.run(["cc", "-std=c99", "-Wall", "-Wextra", "-Werror", "-pedantic", "-shared", "-fPIC",
+                            f"-DINTERFACE={version}", "-x", "c", "-", "-o", cls.library_of(version)],
+                           input=STAND_IN.encode(), check=True)
+
+    @classmethod
+    def tearDownClass(cls) -> None:
+        cls.folder.cleanup()
+
+    @classmethod
+    def folder_of(cls, version: int) -> str:
+        return os.path.join(cls.folder.name, str(version))
+
+    @classmethod
+    def library_of(cls, version: int) -> str:
+        return os.path.join(cls.folder_of(version), "libvizhoniku.so.0")
+
+    def test_an_older_library_is_refused(self) -> None:
+        for version, wanted in ((v._VERSION, "0"), (v._VERSION + 1, "0")):
+            self.assertEqual(self.run_with("import vizhoniku; print(vizhoniku.compare('', ''))",
+                                           VIZHONIKU=self.library_of(version)), wanted)
+        told = self.run_with("import vizhoniku", VIZHONIKU=self.library_of(v._VERSION - 1))
+        self.assertEqual(told.splitlines()[-1], f"ImportError: libvizhoniku has interface version {v._VERSION - 1}, "
+                                                f"and {v._VERSION} is needed")
+
+    def test_statuses(self) -> None:
+        """Each call without memory, with a status that there isn't, and a rejected text without memory for its words."""
+        told = self.run_with(OVER_STAND_IN + """
+for status.value in (2, 3, 4_000_000_000):
+    print(status.value, *sorted({told(call) for call in calls.values()}))
+status.value = 1
+for message_status.value in (1, 2):
+    print(*(told(call) for call in calls.values()))
+""", VIZHONIKU=self.library_of(v._VERSION))
+        self.assertEqual(told.splitlines(), [
+            "2 MemoryError", "3 RuntimeError", "4000000000 RuntimeError",
+            "RejectedText False" + " RejectedText" * 5, "MemoryError False" + " MemoryError" * 5,
+        ])
+
+    def goes_on(self, **environment: str) -> None:
+        told = self.run_with(WHILE_A_CALL_READS, **environment)
+        self.assertEqual(told.splitlines(), ["check None", "is_valid True", "text ", "sort_key b''",
+                                             "text_and_key ('', b'')", "get ", "compare 0"])
+
+    def test_other_threads_go_on(self) -> None:
+        self.goes_on(VIZHONIKU=self.library_of(v._VERSION))
+        self.goes_on(VIZHONIKU="", LD_LIBRARY_PATH=self.folder_of(v._VERSION), PKG_CONFIG_PATH="")
+
+    @unittest.skipIf(shutil.which("pkg-config") is None, "pkg-config is missing")
+    def test_where_pkg_config_tells(self) -> None:
+        elsewhere = self.run_with("import ctypes; ctypes.CDLL('libvizhoniku.so.0'); print('found')", LD_LIBRARY_PATH="")
+        if elsewhere == "found":
+            self.skipTest("the system has a library, which comes first")
+        with tempfile.TemporaryDirectory(prefix="two words ") as folder:
+            def tell(libdir: str) -> None:
+                with open(os.path.join(folder, "vizhoniku.pc"), "w", encoding="utf-8") as file:
+                    file.write(f"prefix={folder}\nincludedir={folder}\nlibdir={libdir}\n\n"
+                               "Name: vizhoniku\nDescription: stands in\nVersion: 0\n")
+
+            tell(self.folder_of(v._VERSION))
+            self.goes_on(VIZHONIKU="", LD_LIBRARY_PATH="", PKG_CONFIG_PATH=folder)
+            shutil.copy(self.library_of(v._VERSION), folder)
+            tell(folder)
+            self.goes_on(VIZHONIKU="", LD_LIBRARY_PATH="", PKG_CONFIG_PATH=folder)
+            tell(os.path.join(folder, "nowhere"))
+            told = self.run_with("import vizhoniku", VIZHONIKU="", LD_LIBRARY_PATH="", PKG_CONFIG_PATH=folder)
+            self.assertIn("ImportError: libvizhoniku.so.0 is not found", told)
 
 
 @unittest.skipIf(lmdb is None, "python3-lmdb is missing")
