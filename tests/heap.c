@@ -1,0 +1,306 @@
+/* Counts the heap that each function of the library asks for and holds, over documents of several kinds and sizes, and
+ * compares both with bounds that are worked out from the document alone.
+ *
+ * The linker puts the three functions below in the place of the C library's (--wrap). What counts is what was asked
+ * for, not what the C library spends on it. A block that grows counts with its new size among what was asked for, and
+ * once among what is held. Prints, for each function, where it came closest to its bounds. The status is 1 where one
+ * was passed, where a call kept memory, or where a result isn't the expected one. */
+#include <stdint.h>
+#include <stdio.h>
+#include <stdlib.h>
+#include <string.h>
+
+#include "vizhoniku.h"
+
+/* Sizes in bytes, on a machine of 64 bits (bench/README.md). A value has 64, as has a node of the tree that is read
+ * where no value is built; a member of that tree has 112, with its key and an offset. A node of a map has room for 15
+ * members, and for what points to the nodes below it. */
+#define VALUE 64
+#define MEMBER (VALUE + 48)
+#define MAP_NODE (1328 + 16 * 8)
+
+/* An array of values keeps room for so many more than it has, and no more. */
+#define SPARE 15
+
+/* A vector has room for as many as it has at least, and for 4. */
+#define ROOM(count) ((count) > 2 ? 2 * (count) : 4)
+
+/* What is open while a text is read, for each level, and what a call takes whatever the text is. */
+#define LEVEL 256
+#define FIXED 4096
+
+#define LEVELS 512
+
+void *__real_malloc(size_t size);
+void *__real_realloc(void *block, size_t size);
+void __real_free(void *block);
+
+/* What was asked for since the call began, what is held, and the most that was. */
+static size_t asked, held, most;
+
+/* Each block has its size in front. */
+#define FRONT 16
+
+static void *counted(unsigned char *start, size_t size) {
+  if (!start) return NULL;
+  memcpy(start, &size, sizeof size);
+  asked += size;
+  held += size;
+  if (held > most) most = held;
+  return start + FRONT;
+}
+
+void *__wrap_malloc(size_t size) { return counted(__real_malloc(size + FRONT), size); }
+
+void __wrap_free(void *block) {
+  size_t size;
+  if (!block) return;
+  memcpy(&size, (unsigned char *)block - FRONT, sizeof size);
+  held -= size;
+  __real_free((unsigned char *)block - FRONT);
+}
+
+void *__wrap_realloc(void *block, size_t size) {
+  size_t old;
+  if (!block) return __wrap_malloc(size);
+  memcpy(&old, (unsigned char *)block - FRONT, sizeof old);
+  unsigned char *start = __real_realloc((unsigned char *)block - FRONT, size + FRONT);
+  if (start) held -= old;
+  return counted(start, size);
+}
+
+/* A text that grows. Its bytes aren't counted. */
+struct text {
+  unsigned char *bytes;
+  size_t size, room;
+};
+
+static void add(struct text *text, const char *bytes) {
+  size_t size = strlen(bytes);
+  if (text->size + size > text->room) {
+    text->room = 2 * (text->room + size);
+    text->bytes = __real_realloc(text->bytes, text->room);
+    if (!text->bytes) {
+      perror("heap");
+      exit(2);
+    }
+  }
+  memcpy(text->bytes + text->size, bytes, size);
+  text->size += size;
+}
+
+/* What the documents are made of. */
+enum kind {
+  NUMBERS,
+  ARRAYS,
+  PAIRS,
+  STRINGS,
+  ESCAPES,
+  LONG,
+  LONG_ESCAPES,
+  OBJECTS,
+  WIDE,
+  DEEP_ARRAYS,
+  DEEP_OBJECTS,
+  KINDS
+};
+
+static const char *const kinds[] = {
+    "numbers", "arrays of 70 numbers", "arrays of 2", "strings", "strings with escapes", "a long string",
+    "a long string with escapes", "objects of 5 members", "a wide object", "nested arrays", "nested objects",
+};
+
+/* A document of about `count` values, in standard mode and without whitespace. */
+static struct text make(enum kind kind, int count) {
+  struct text text = {0};
+  char part[32];
+  int levels = count < LEVELS ? count : LEVELS - 1;
+  add(&text, kind == WIDE ? "{" : "[");
+  switch (kind) {
+    case LONG:
+    case LONG_ESCAPES:
+      add(&text, "\"");
+      for (int i = 0; i < count; i++) add(&text, kind == LONG ? "text of it" : "a \\n or \\u0001");
+      add(&text, "\"");
+      break;
+    case DEEP_ARRAYS:
+    case DEEP_OBJECTS: /* again and again */
+      for (int i = 0; i < count; i += levels) {
+        if (i) add(&text, ",");
+        for (int level = 0; level < levels; level++) add(&text, kind == DEEP_ARRAYS ? "[" : "{\"a\":");
+        add(&text, "1");
+        for (int level = 0; level < levels; level++) add(&text, kind == DEEP_ARRAYS ? "]" : "}");
+      }
+      break;
+    default:
+      if (kind == ARRAYS || kind == PAIRS) add(&text, "[");
+      if (kind == OBJECTS) add(&text, "{");
+      for (int i = 0; i < count; i++) {
+        int place = kind == ARRAYS ? i % 70 : kind == PAIRS ? i % 2 : kind == OBJECTS ? i % 5 : -1;
+        if (i && place) add(&text, ",");
+        else if (i) add(&text, kind == OBJECTS ? "},{" : "],[");
+        if (kind == OBJECTS || kind == WIDE) {
+          snprintf(part, sizeof part, "\"key%d\":", kind == OBJECTS ? place : i * 7919 % count);
+          add(&text, part);
+        }
+        snprintf(part, sizeof part, kind == STRINGS ? "\"text%d\"" : kind == ESCAPES ? "\"\\n%d\"" : "%d", 100000 + i);
+        add(&text, part);
+      }
+      if (kind == ARRAYS || kind == PAIRS) add(&text, "]");
+      if (kind == OBJECTS) add(&text, "}");
+  }
+  add(&text, kind == WIDE ? "}" : "]");
+  return text;
+}
+
+/* The most that a document takes, as a tree and as a value, once it is read or while it is. */
+struct bounds {
+  size_t tree, value;
+};
+
+static struct bounds bounds_of(const struct text *text) {
+  size_t counts[LEVELS] = {0}, widest[LEVELS] = {0}, depth = 0, deepest = 0;
+  int is_object[LEVELS] = {0};
+  /* Strings with escapes are decoded, keys are copied, and both are no longer than the text. */
+  struct bounds bounds = {FIXED + text->size, FIXED + text->size};
+  for (size_t i = 0; i < text->size; i++) {
+    unsigned char byte = text->bytes[i];
+    if (byte == '"') {
+      while (text->bytes[++i] != '"') i += text->bytes[i] == '\\';
+    } else if (byte == '[' || byte == '{') {
+      is_object[depth] = byte == '{';
+      counts[depth] = text->bytes[i + 1] != byte + 2;
+      depth++;
+      if (depth > deepest) deepest = depth;
+    } else if (byte == ',') {
+      counts[depth - 1]++;
+    } else if (byte == ']' || byte == '}') {
+      size_t count = counts[--depth];
+      bounds.tree += ROOM(count) * (is_object[depth] ? MEMBER : VALUE);
+      /* Each node but the root is at least half full. */
+      bounds.value += is_object[depth] ? (1 + count / 7) * MAP_NODE : (count + SPARE) * VALUE;
+      if (!is_object[depth] && count > widest[depth]) widest[depth] = count;
+    }
+  }
+  /* While an array is read it has room for as many again. */
+  for (size_t level = 0; level < deepest; level++) bounds.value += widest[level] * VALUE;
+  bounds.tree += deepest * LEVEL;
+  bounds.value += deepest * LEVEL;
+  return bounds;
+}
+
+/* Each function of the library that takes memory, by a number. */
+enum function { CHECK, TEXT, SORT_KEY, TEXT_AND_KEY, PART, COMPARE, MESSAGE, FUNCTIONS };
+
+static const char *const functions[] = {
+    "vizhoniku_check", "vizhoniku_text", "vizhoniku_sort_key", "vizhoniku_text_and_key", "vizhoniku_part",
+    "vizhoniku_compare", "vizhoniku_message",
+};
+
+/* Calls the function, with buffers of so much room. *written is the size of all that it writes, and *status what it
+ * answers. */
+static void call(enum function function, const struct text *text, unsigned char *buffer, unsigned char *key_buffer,
+                 size_t room, size_t *written, uint32_t *status) {
+  const uint32_t mode = VIZHONIKU_STANDARD;
+  struct vizhoniku_refusal refusal;
+  size_t size = 0, key_size = 0;
+  int32_t order;
+  switch (function) {
+    case CHECK: *status = vizhoniku_check(mode, text->bytes, text->size, &refusal); break;
+    case TEXT: *status = vizhoniku_text(mode, text->bytes, text->size, buffer, room, &size, &refusal); break;
+    case SORT_KEY: *status = vizhoniku_sort_key(mode, text->bytes, text->size, buffer, room, &size, &refusal); break;
+    case TEXT_AND_KEY:
+      *status = vizhoniku_text_and_key(mode, text->bytes, text->size, buffer, room, &size, key_buffer, room, &key_size,
+                                       &refusal);
+      break;
+    case PART: *status = vizhoniku_part(mode, NULL, 0, text->bytes, text->size, buffer, room, &size, &refusal); break;
+    case COMPARE:
+      *status = vizhoniku_compare(mode, text->bytes, text->size, text->bytes, text->size, &order, &refusal);
+      break;
+    default: *status = vizhoniku_message(mode, text->bytes, text->size, buffer, room, &size); break;
+  }
+  *written = size + key_size;
+}
+
+/* Where a function came closest to what it may hold, and to what it may ask for, in thousandths. */
+static struct {
+  size_t thousandths;
+  enum kind kind;
+  int count;
+} closest[FUNCTIONS][2];
+
+static long calls, faults;
+
+static void compare(enum function function, enum kind kind, int count, int is_asked, size_t took, size_t bound) {
+  size_t thousandths = took * 1000 / bound;
+  if (thousandths > closest[function][is_asked].thousandths) {
+    closest[function][is_asked].thousandths = thousandths;
+    closest[function][is_asked].kind = kind;
+    closest[function][is_asked].count = count;
+  }
+  if (took <= bound) return;
+  faults++;
+  printf("%s %s %zu bytes, more than %zu: %s, %d\n", functions[function], is_asked ? "asked for" : "held", took, bound,
+         kinds[kind], count);
+}
+
+/* Each function over one text, with buffers that are long enough and with none. */
+static void measure(enum kind kind, int count, const struct text *text, uint32_t wanted) {
+  struct bounds bounds = bounds_of(text);
+  size_t room = 2 * text->size + 64, written;
+  unsigned char *buffer = __real_malloc(room), *key_buffer = __real_malloc(room);
+  uint32_t status;
+  if (!buffer || !key_buffer) exit(2);
+  for (int i = 0; i < 2 * FUNCTIONS; i++) {
+    enum function function = (enum function)(i / 2);
+    asked = held = most = 0;
+    call(function, text, buffer, key_buffer, i % 2 ? 0 : room, &written, &status);
+    calls++;
+    int writes = function == TEXT || function == SORT_KEY || function == TEXT_AND_KEY || function == PART;
+    uint32_t due = wanted == VIZHONIKU_ACCEPTED ? (i % 2 && writes ? VIZHONIKU_TOO_SHORT : VIZHONIKU_ACCEPTED)
+                                                : (i % 2 && function == MESSAGE ? VIZHONIKU_TOO_SHORT : wanted);
+    if (status != due) {
+      faults++;
+      printf("%s answered %u: %s, %d\n", functions[function], (unsigned)status, kinds[kind], count);
+    }
+    if (held) {
+      faults++;
+      printf("%s kept %zu bytes: %s, %d\n", functions[function], held, kinds[kind], count);
+    }
+    /* The tree of one text, or of two, or the value, and what is written, in a vector for each. Where no value is
+     * built, the text is read again as a tree, to say what is wrong. */
+    size_t one = function == PART ? bounds.value : function == COMPARE ? 2 * bounds.tree : bounds.tree;
+    if (function == PART && wanted != VIZHONIKU_ACCEPTED && one < bounds.tree) one = bounds.tree;
+    compare(function, kind, count, 0, most, one + ROOM(written));
+    /* A vector that grows to its room by doubling asks for twice that. An array of values had room for up to twice what
+     * it has, for which it asked four times as much, and once more when it gave back the rest. */
+    if (function == PART && wanted != VIZHONIKU_ACCEPTED) one = bounds.value + bounds.tree;
+    compare(function, kind, count, 1, asked, (function == PART ? 5 : 3) * (one + ROOM(written)));
+  }
+  __real_free(key_buffer);
+  __real_free(buffer);
+}
+
+int main(void) {
+  static const int counts[] = {0, 1, 2, 3, 14, 70, 700, 7001, 70000};
+  for (int kind = NUMBERS; kind < KINDS; kind++) {
+    for (size_t i = 0; i < sizeof counts / sizeof *counts; i++) {
+      if (kind >= DEEP_ARRAYS && counts[i] < 1) continue;
+      struct text text = make((enum kind)kind, counts[i]);
+      measure((enum kind)kind, counts[i], &text, VIZHONIKU_ACCEPTED);
+      add(&text, "?"); /* a byte too much */
+      measure((enum kind)kind, counts[i], &text, VIZHONIKU_REFUSED);
+      __real_free(text.bytes);
+    }
+  }
+  for (int i = 0; i < FUNCTIONS; i++) {
+    printf("%s", functions[i]);
+    for (int is_asked = 0; is_asked < 2; is_asked++)
+      printf("%s %zu.%zu %% of its bound: %s, %d", is_asked ? "; asked for" : " held",
+             closest[i][is_asked].thousandths / 10, closest[i][is_asked].thousandths % 10,
+             kinds[closest[i][is_asked].kind], closest[i][is_asked].count);
+    printf("\n");
+  }
+  printf("%ld calls, %ld faults\n", calls, faults);
+  return faults != 0;
+}
