@@ -299,8 +299,8 @@ print(vizhoniku.text("[1, 2]"))
         self.assertEqual(told, "MemoryError\n[1,2]")
 
 
-# A library that stands in for the real one. Each call answers `status`, and rejects a text at its start. Where `waits` is
-# set it first waits for `goes_on`, which another thread has to set, for ten seconds at most.
+# A library that stands in for the real one. Each call answers `status`, and rejects a text at its start. Where `waits`
+# is set it first waits for `goes_on`, which another thread has to set, for ten seconds at most.
 STAND_IN = r"""
 #define _POSIX_C_SOURCE 200809L
 #include <stddef.h>
@@ -451,7 +451,7 @@ class StandIn(InAnInterpreter):
                                                 f"and {v._VERSION} is needed")
 
     def test_statuses(self) -> None:
-        """Each call without memory, with a status that there isn't, and a rejected text without memory for its words."""
+        """Each call without memory, with a status that there isn't, and a rejected text without memory for words."""
         told = self.run_with(OVER_STAND_IN + """
 for status.value in (2, 3, 4_000_000_000):
     print(status.value, *sorted({told(call) for call in calls.values()}))
