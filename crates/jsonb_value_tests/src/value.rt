@@ -185,7 +185,15 @@ fn clones_are_equal(rt: HostRuntime) -> Result<(), Fail> {
     let person = Value::Object(person);
     assert_eq!(rt; person.clone()?, person);
     // A map of so many members is built at once.
-    let members = [("g", 7), ("b", 2), ("a", 1), ("f", 6), ("c", 3), ("e", 5), ("d", 4)];
+    let members = [
+        ("g", 7),
+        ("b", 2),
+        ("a", 1),
+        ("f", 6),
+        ("c", 3),
+        ("e", 5),
+        ("d", 4),
+    ];
     let wide = object(alloc, &members)?;
     assert_eq!(rt; wide.clone()?, wide);
 
