@@ -17,8 +17,9 @@ use Rattle.jsonb_scan.specs.Reading.Container.{is_left_out}
 use Rattle.jsonb_scan.specs.Reading.Scalar.{scalar_at}
 use Rattle.jsonb_scan.specs.Reading.Document.{value_at}
 use Rattle.jsonb_scan.specs.Source.{Source, Found, array_source_of, found, null_source, source_alone}
-use Rattle.jsonb.specs.Stack.{Open, array_end, finish_open, next_part_at, object_end, resume}
-use Rattle.jsonb.specs.Stack.Open.{elements_so_far, members_so_far}
+use Rattle.jsonb.specs.Stack.{array_end, finish_open, next_part_at, object_end, resume}
+use Rattle.jsonb_scan.specs.Open.{Open}
+use Rattle.jsonb_scan.specs.Open.{elements_so_far, members_so_far}
 
 -- an array or an object begins here
 abbrev pub OpensContainer : List ℕ → Type 0

@@ -5,19 +5,13 @@ use Rattle.jsonb_value.specs.Code.{Code}
 use Rattle.jsonb_value.specs.Code.Code.{expected_array_comma_or_end, expected_colon, expected_object_comma_or_end}
 use Rattle.jsonb_value.specs.Mode.{Mode}
 use Rattle.jsonb_value.specs.Tree.{Mark}
-use Rattle.jsonb_value.specs.Tree.Mark.{plain}
-use Rattle.jsonb_scan.specs.Source.{Source, Found, found, spot_of, first_repeat, array_source_of}
+use Rattle.jsonb_scan.specs.Open.{Open, add_part, elements_so_far, members_so_far}
+use Rattle.jsonb_scan.specs.Source.{Source, Found, spot_of, first_repeat, array_source_of}
 use Rattle.jsonb_scan.specs.Reading.{Read, on_byte, refused, ◌>>=◌}
 use Rattle.jsonb_scan.specs.Reading.Blank.{skip_blanks}
 use Rattle.jsonb_scan.specs.Reading.Container.{array_at, element_at, joined_at, member_at, object_at, object_or_fault}
 use Rattle.jsonb_scan.specs.Reading.Document.{too_deep, value_at}
 use Rattle.jsonb_scan.specs.Reading.Scalar.{key_at}
-
--- An array or an object that is open: its parts so far, and in an object the key that waits for its value, with the
--- place after it.
-pub data Open : Type 0 where
-  elements_so_far : List Source → Open
-  members_so_far : List Found → Mark × List ℕ → ℕ → Open
 
 -- ---- parts joined by commas, after those that were read
 
@@ -50,12 +44,6 @@ member_start size mode bytes =
     key_at size mode (skip_blanks mode bytes) >>= λ k. on_byte 58 (skip_blanks mode k.1)
     (λ rest. Ok ((k.0, size - length k.1), skip_blanks mode rest))
     (refused size expected_colon 0 (skip_blanks mode k.1))
-
--- the container with one more part; its key is used up
-abbrev pub add_part : Open → Source → Open
-add_part (elements_so_far front) s = elements_so_far (front ++ s ∷ [])
-add_part (members_so_far front key place) s =
-    members_so_far (front ++ found key s place ∷ []) (plain, []) 0
 
 module _ (size : ℕ) (mode : Mode) (depth : ℕ) where
   abbrev pub elements_from : List Source → List ℕ → Read Source

@@ -1,6 +1,7 @@
 pub mod Answer
 pub mod Decoding
 pub mod Line
+pub mod Open
 pub mod QuotedString
 pub mod Reading
 pub mod ScannedNumber

@@ -16,8 +16,9 @@ use Rattle.jsonb_value.specs.declared.value.Value as value
 use Rattle.jsonb_value.proofs.Values.Members.{Entry, members_view-insert_entry}
 use Rattle.jsonb.specs.Build.{AreSeen, MapHolds, found_keys, names}
 use Rattle.jsonb.specs.Frames.{Completes, FrameHolds, finish_container}
-use Rattle.jsonb.specs.Stack.{Open, object_end}
-use Rattle.jsonb.specs.Stack.Open.{elements_so_far, members_so_far}
+use Rattle.jsonb.specs.Stack.{object_end}
+use Rattle.jsonb_scan.specs.Open.{Open}
+use Rattle.jsonb_scan.specs.Open.{elements_so_far, members_so_far}
 use Rattle.jsonb.specs.declared.parser.value.Frame.{Frame}
 use Rattle.jsonb.specs.declared.parser.value.Frame.TheVariants as variants
 use Rattle.jsonb.specs.Source.{source_view}

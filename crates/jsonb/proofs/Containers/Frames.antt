@@ -23,8 +23,9 @@ use Rattle.jsonb_scan.specs.Reading.Container.{array_at, elements_at, is_left_ou
 use Rattle.jsonb_scan.specs.Source.{Found, Source, array_source, found, no_source_members, no_sources, null_source, object_source, object_source_of, source_alone, spot_of}
 use Rattle.jsonb_scan.specs.Reading.Document.{alone_at, value_at}
 use Rattle.jsonb_scan.specs.Reading.Scalar.{scalar_at}
-use Rattle.jsonb.specs.Stack.{Open, add_part, elements_from, finish_open, member_start, next_part_at, object_end, part_end, read_members_from, resume, resume_after_part}
-use Rattle.jsonb.specs.Stack.Open.{elements_so_far, members_so_far}
+use Rattle.jsonb.specs.Stack.{elements_from, finish_open, member_start, next_part_at, object_end, part_end, read_members_from, resume, resume_after_part}
+use Rattle.jsonb_scan.specs.Open.{Open, add_part}
+use Rattle.jsonb_scan.specs.Open.{elements_so_far, members_so_far}
 use Rattle.jsonb.proofs.Containers.OpenOnLists.{array-begun, array-value, element-due, elements-turn, members-turn, object-begun, object-value, on_byte-then, resume-none, resume-part, then-same, then-then, value_plain}
 use Rattle.jsonb.proofs.Containers.Repeats.{no_repeat}
 use Rattle.jsonb.proofs.Steps.Advancing.{contains_next, goes_on}

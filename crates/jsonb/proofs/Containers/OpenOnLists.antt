@@ -12,8 +12,9 @@ use Rattle.jsonb_scan.specs.Reading.Container.{after_key, after_part, array_at, 
 use Rattle.jsonb_scan.specs.Source.{Found, Source, array_source, no_source_members, no_sources, null_source, object_source}
 use Rattle.jsonb_scan.specs.Reading.Document.{alone_at, too_deep, value_at, value_with}
 use Rattle.jsonb_scan.specs.Reading.Scalar.{key_at, scalar_at}
-use Rattle.jsonb.specs.Stack.{Open, array_end, array_within, elements_from, finish_open, member_start, read_members_from, object_end, object_within, parts_after, parts_from, resume}
-use Rattle.jsonb.specs.Stack.Open.{elements_so_far, members_so_far}
+use Rattle.jsonb.specs.Stack.{array_end, array_within, elements_from, finish_open, member_start, read_members_from, object_end, object_within, parts_after, parts_from, resume}
+use Rattle.jsonb_scan.specs.Open.{Open}
+use Rattle.jsonb_scan.specs.Open.{elements_so_far, members_so_far}
 use Rattle.jsonb_scan.proofs.Containers.JoinedParts.{IsSoundBefore, on_byte-none}
 use Rattle.jsonb_scan.proofs.Text.Blanks.{length-skip}
 use Rattle.jsonb.proofs.Containers.Values.{IsFound, Seen, element_sound, member_sound, value_sound}

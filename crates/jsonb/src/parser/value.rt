@@ -14,8 +14,9 @@ ghost use Rattle.jsonb_scan.specs.Reading.Blank.{is_blank_start, skip_blanks};
 ghost use Rattle.jsonb_scan.specs.Reading.Container.{is_left_out};
 ghost use Rattle.jsonb_scan.specs.Reading.Document.{value_at};
 ghost use Rattle.jsonb_scan.specs.Source.{Source, Found};
-ghost use Rattle.jsonb.specs.Stack.{Open, elements_from, next_part_at, part_end};
-ghost use Rattle.jsonb.specs.Stack.Open.{members_so_far};
+ghost use Rattle.jsonb.specs.Stack.{elements_from, next_part_at, part_end};
+ghost use Rattle.jsonb_scan.specs.Open.{Open};
+ghost use Rattle.jsonb_scan.specs.Open.{members_so_far};
 ghost use Rattle.jsonb_value.specs.Tree.Mark.{plain};
 
 use super::build::Build;

@@ -9,7 +9,7 @@ use Rattle.jsonb_scan.specs.Reading.Blank.{skip_blanks}
 use Rattle.jsonb_scan.specs.Source.{source_alone}
 use Rattle.jsonb.specs.Parser.{read_at, rest_of, size_of}
 use Rattle.jsonb.specs.Stack.{elements_from, part_end}
-use Rattle.jsonb.specs.Stack.Open.{elements_so_far}
+use Rattle.jsonb_scan.specs.Open.{elements_so_far}
 use Rattle.jsonb.proofs.Containers.Frames.{after_element, element_stops, element_turn, same_end, seen-snoc}
 use Rattle.jsonb.proofs.Steps.Advancing.{goes_on}
 use Rattle.jsonb.proofs.Steps.Failures.{misses_same, misses_through}

@@ -11,8 +11,9 @@ use Rattle.jsonb_scan.specs.Reading.Blank.{skip_blanks}
 use Rattle.jsonb_scan.specs.Reading.Scalar.{scalar_at}
 use Rattle.jsonb_scan.specs.Source.{Found, found, source_alone}
 use Rattle.jsonb.specs.Parser.{read_at, rest_of, size_of}
-use Rattle.jsonb.specs.Stack.{Open, member_start, next_part_at, part_end, read_members_from}
-use Rattle.jsonb.specs.Stack.Open.{elements_so_far, members_so_far}
+use Rattle.jsonb.specs.Stack.{member_start, next_part_at, part_end, read_members_from}
+use Rattle.jsonb_scan.specs.Open.{Open}
+use Rattle.jsonb_scan.specs.Open.{elements_so_far, members_so_far}
 use Rattle.jsonb.proofs.Containers.Frames.{after_member, member_due, member_turn, same_end, waits}
 use Rattle.jsonb.proofs.Steps.Advancing.{goes_on, stays}
 use Rattle.jsonb.proofs.Steps.Failures.{misses_same, misses_through}

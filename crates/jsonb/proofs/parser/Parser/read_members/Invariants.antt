@@ -5,7 +5,8 @@ use Rattle.jsonb_value.specs.Tree.{Mark}
 use Rattle.jsonb_scan.specs.Answer.{mode_of}
 use Rattle.jsonb.specs.Parser.{Advances, rest_of, size_of}
 use Rattle.jsonb_scan.specs.Source.{Found}
-use Rattle.jsonb.specs.Stack.{Open, next_part_at, read_members_from}
+use Rattle.jsonb.specs.Stack.{next_part_at, read_members_from}
+use Rattle.jsonb_scan.specs.Open.{Open}
 use Rattle.jsonb.proofs.parser.Parser.read_members.Given as goal
 
 -- what is read of the members is what is left to read after those so far

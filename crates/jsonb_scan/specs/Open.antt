@@ -1,0 +1,18 @@
+-- Arrays and objects that are open while a text is parsed.
+-- Read for: private.
+use Rattle.std.specs.Prelude.{ℕ, List, [], ◌∷◌, ◌++◌}
+use Rattle.jsonb_value.specs.Tree.{Mark}
+use Rattle.jsonb_value.specs.Tree.Mark.{plain}
+use Rattle.jsonb_scan.specs.Source.{Source, Found, found}
+
+-- An array or an object that is open: its parts so far, and in an object the key that waits for its value, with the
+-- place after it.
+pub data Open : Type 0 where
+  elements_so_far : List Source → Open
+  members_so_far : List Found → Mark × List ℕ → ℕ → Open
+
+-- the container with one more part; its key is used up
+abbrev pub add_part : Open → Source → Open
+add_part (elements_so_far front) s = elements_so_far (front ++ s ∷ [])
+add_part (members_so_far front key place) s =
+    members_so_far (front ++ found key s place ∷ []) (plain, []) 0

@@ -1,0 +1,2 @@
+pub mod OpenText
+pub mod Written

@@ -1,0 +1,4 @@
+//! What is written while a text is parsed.
+#![tactic(auto)]
+
+pub mod written;
