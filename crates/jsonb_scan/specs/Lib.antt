@@ -7,4 +7,5 @@ pub mod Reading
 pub mod ScannedNumber
 pub mod ShortInteger
 pub mod Source
+pub mod Spelled
 pub mod StringRefusal

@@ -1,2 +1,9 @@
+pub mod KeyRoom
+pub mod MemberStarts
+pub mod Members
+pub mod OpenKey
 pub mod OpenText
+pub mod PlainText
+pub mod SpelledNumber
+pub mod TextRoom
 pub mod Written

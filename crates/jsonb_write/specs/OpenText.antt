@@ -19,6 +19,16 @@ key_text key = quoted_text key ++ ascii.colon ∷ []
 abbrev pub member_text : Found → List ℕ
 member_text f = key_text f.key ++ source_text f.source
 
+-- whether there are none
+abbrev pub is_empty : {A : Type 0} → List A → Bool
+is_empty [] = true
+is_empty (part ∷ parts) = false
+
+-- a comma, but before the first part
+abbrev pub comma_unless : Bool → List ℕ
+comma_unless true = []
+comma_unless false = ascii.comma ∷ []
+
 -- the comma after a part, if there is one
 abbrev pub comma_after : {A : Type 0} → List A → List ℕ
 comma_after [] = []

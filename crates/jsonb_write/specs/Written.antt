@@ -1,13 +1,8 @@
 -- What is written: a buffer, and behind it a part of the text.
 -- Read for: private.
-use Rattle.std.specs.Prelude.{ℕ, ◌≤◌, List, ◌++◌, length, slice_range}
+use Rattle.std.specs.Prelude.{ℕ, List, ◌++◌, slice_range}
 use Rattle.jsonb_write.specs.declared.written.Written.{Written}
 
 -- the buffer, and the part of the text behind it
 abbrev pub bytes_of : Written → List ℕ
 bytes_of w = w.out.items ++ slice_range w.text.now w.from w.end
-
--- The part stands in the text.
-pub record IsWithin (w : Written) : Type 0 where
-  pub ordered : w.from ≤ w.end
-  pub inside : w.end ≤ length w.text.now

@@ -1,8 +1,11 @@
 //! Bytes that are written while a text is parsed: a buffer, and behind it a part of the text that is written as it
 //! stands, and copied when the part ends.
-ghost use Rattle.std.specs.Prelude.{◌≡◌, ◌+◌, ◌<◌, ◌≤◌, ◌++◌, ◌∷◌, [], length, slice_range, OnOk};
-ghost use Rattle.jsonb_write.specs.Written.{bytes_of, IsWithin};
+ghost use Rattle.std.specs.Prelude.{◌≡◌, ◌+◌, ◌<◌, ◌≤◌, ◌++◌, ◌∷◌, [], ℕ, List, true, length, map, take, slice_range, IfOk, OnOk};
 
+use crate::members::{Member, Spare, put_in_order};
+use crate::short::append_first;
+use jsonb_value::number::Number;
+use jsonb_value::parts::{append_number, append_string};
 use std::alloc::AllocError;
 
 /// What is written: the buffer, and the text from one index to another.
@@ -12,14 +15,23 @@ pub struct Written<'a> {
     pub out: Vec<u8>,
     pub from: usize,
     pub end: usize,
+    pub ghost ordered: { from ≤ end },
+    pub ghost inside: { end ≤ length text.now },
 }
 
 impl<'a> Written<'a> {
+    ghost use Rattle.jsonb_value.specs.Text.Appending.{Extends};
+    ghost use Rattle.jsonb_value.specs.Text.NumberText.{number_text};
+    ghost use Rattle.jsonb_value.specs.Text.StringText.{quoted_text};
+    ghost use Rattle.jsonb_value.specs.View.{number_view};
+    ghost use Rattle.jsonb_write.specs.Members.{AreInOrder, AreKeyed, AreWritten, Piece, TellsRepeat, bytes_of_pieces, spot_in, spots_of_pieces};
+    ghost use Rattle.jsonb_write.specs.Written.{bytes_of};
+
     /// A buffer, and no part of the text.
     pub fn new(text: &'a [u8], out: Vec<u8>) -> Written<'a>
-        ensures within { IsWithin result }
         ensures bytes { bytes_of result ≡ out.items }
         ensures text { result.text ≡ text.entry }
+        ensures out { result.out.items ≡ out.items }
     {
         Written {
             text,
@@ -32,14 +44,14 @@ impl<'a> Written<'a> {
     /// Copies the part of the text to the buffer.
     #[inline(always)]
     pub fn flush(&mut self) -> Result<(), AllocError>
-        requires within { IsWithin self.old }
-        ensures within { IsWithin self.new }
         ensures bytes { OnOk result (bytes_of self.new ≡ bytes_of self.old) }
         ensures copied { OnOk result (bytes_of self.new ≡ self.new.out.items) }
         ensures text { self.new.text ≡ self.old.text }
+        ensures kept { Extends self.old.out.items self.new.out.items }
         ensures end { self.new.end ≡ self.old.end }
+        ensures empty { OnOk result (slice_range self.new.text.now self.new.from self.new.end ≡ []) }
     {
-        self.out.extend_from_slice(&self.text[self.from..self.end])?;
+        append_first(&self.text[self.from..], self.end - self.from, &mut self.out)?;
         self.from = self.end;
         Ok(())
     }
@@ -47,10 +59,9 @@ impl<'a> Written<'a> {
     /// Writes a byte. Mostly it is the next one of the text.
     #[inline(always)]
     pub fn put(&mut self, byte: u8) -> Result<(), AllocError>
-        requires within { IsWithin self.old }
-        ensures within { IsWithin self.new }
         ensures bytes { OnOk result (bytes_of self.new ≡ bytes_of self.old ++ byte ∷ []) }
         ensures text { self.new.text ≡ self.old.text }
+        ensures kept { Extends self.old.out.items self.new.out.items }
     {
         if self.end < self.text.len() && self.text[self.end] == byte {
             self.end += 1;
@@ -62,40 +73,102 @@ impl<'a> Written<'a> {
     /// Writes other bytes than those of the text.
     #[inline(never)]
     pub fn append(&mut self, bytes: &[u8]) -> Result<(), AllocError>
-        requires within { IsWithin self.old }
-        ensures within { IsWithin self.new }
         ensures bytes { OnOk result (bytes_of self.new ≡ bytes_of self.old ++ bytes.now) }
         ensures text { self.new.text ≡ self.old.text }
+        ensures kept { Extends self.old.out.items self.new.out.items }
     {
         self.flush()?;
         self.out.extend_from_slice(bytes)
     }
 
+    /// Writes a number.
+    #[inline(never)]
+    pub fn append_number(&mut self, number: &Number) -> Result<(), AllocError>
+        ensures bytes { OnOk result (bytes_of self.new ≡ bytes_of self.old ++ number_text (number_view number.now)) }
+        ensures text { self.new.text ≡ self.old.text }
+        ensures kept { Extends self.old.out.items self.new.out.items }
+    {
+        self.flush()?;
+        append_number(number, &mut self.out)
+    }
+
+    /// Writes a string, in double quotes and with the escapes that it needs.
+    #[inline(never)]
+    pub fn append_string(&mut self, string: &str) -> Result<(), AllocError>
+        ensures bytes { OnOk result (bytes_of self.new ≡ bytes_of self.old ++ quoted_text string.now) }
+        ensures text { self.new.text ≡ self.old.text }
+        ensures kept { Extends self.old.out.items self.new.out.items }
+    {
+        self.flush()?;
+        append_string(string, &mut self.out)
+    }
+
     /// Writes what stands in the text from one index to another.
     #[inline(always)]
     pub fn keep(&mut self, from: usize, to: usize) -> Result<(), AllocError>
-        requires within { IsWithin self.old }
         requires ordered { from ≤ to }
         requires inside { to ≤ length self.old.text.now }
-        ensures within { IsWithin self.new }
         ensures bytes { OnOk result (bytes_of self.new ≡ bytes_of self.old ++ slice_range self.old.text.now from to) }
         ensures text { self.new.text ≡ self.old.text }
+        ensures kept { Extends self.old.out.items self.new.out.items }
     {
         if from == self.end {
             self.end = to;
             return Ok(());
         }
+        self.begin_part(from, to)
+    }
+
+    // Copies the part of the text, and begins another.
+    #[inline(never)]
+    fn begin_part(&mut self, from: usize, to: usize) -> Result<(), AllocError>
+        requires ordered { from ≤ to }
+        requires inside { to ≤ length self.old.text.now }
+        ensures bytes { OnOk result (bytes_of self.new ≡ bytes_of self.old ++ slice_range self.old.text.now from to) }
+        ensures text { self.new.text ≡ self.old.text }
+        ensures kept { Extends self.old.out.items self.new.out.items }
+    {
         self.flush()?;
         self.from = from;
         self.end = to;
         Ok(())
     }
 
+    /// Puts the members at the end of what is written in the order of their keys, with commas between them, and tells a
+    /// key that comes twice by the index of the member where it comes the second time. The first `floor` bytes stay.
+    #[cold]
+    #[inline(never)]
+    pub fn settle(
+        &mut self,
+        decoded: &[u8],
+        members: &[Member],
+        spare: &mut Spare,
+        floor: usize,
+    ) -> Result<Option<usize>, AllocError>
+        ensures repeat { AreKeyed self.old.text.now decoded.now members.now →
+            IfOk result (TellsRepeat self.old.text.now decoded.now members.now) }
+        ensures bytes { AreKeyed self.old.text.now decoded.now members.now → (front : List ℕ) → (pieces : List Piece)
+            → floor ≤ length front → spots_of_pieces pieces ≡ map (spot_in self.old.text.now decoded.now) members.now
+            → AreWritten true members.now front (bytes_of_pieces pieces) (bytes_of self.old)
+            → IfOk result (λ repeat. AreInOrder true front pieces repeat (bytes_of self.new)) }
+        ensures text { self.new.text ≡ self.old.text }
+        ensures kept { Extends (take floor self.old.out.items) self.new.out.items }
+    {
+        self.flush()?;
+        put_in_order(
+            self.text,
+            decoded,
+            members,
+            spare,
+            &mut self.out,
+            floor,
+            true,
+        )
+    }
+
     /// How many bytes are written.
     #[inline(always)]
     pub fn len(&self) -> usize
-        requires within { IsWithin self.now }
-        requires small { length (bytes_of self.now) < 18446744073709551616 }
         ensures { result ≡ length (bytes_of self.now) }
     {
         self.out.len() + (self.end - self.from)

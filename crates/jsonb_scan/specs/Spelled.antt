@@ -1,0 +1,27 @@
+-- Scalars that stand in the text as they are serialized, or nearly so.
+-- Read for: private.
+use Rattle.std.specs.Prelude.{◌≡◌, ℕ, ◌<◌, ◌-◌, true, false, List, slice_range, codes}
+use Rattle.jsonb_value.specs.Grammar.StandardNumber.{IsStandardNumber}
+use Rattle.jsonb_value.specs.Text.{in_quotes}
+use Rattle.jsonb_value.specs.Tree.{plain, escaped}
+use Rattle.jsonb_scan.specs.Source.{Source, null_source, boolean_source, string_source, number_source, array_source, object_source}
+
+-- These bytes are a word in small letters, an integer of a standard text, or a string in double quotes without escapes.
+abbrev pub IsSpelled : List ℕ → Source → Type 0
+IsSpelled bytes null_source = bytes ≡ codes "null"
+IsSpelled bytes (boolean_source true) = bytes ≡ codes "true"
+IsSpelled bytes (boolean_source false) = bytes ≡ codes "false"
+IsSpelled bytes (string_source plain text) = bytes ≡ in_quotes text
+IsSpelled bytes (string_source escaped text) = ⊥
+IsSpelled bytes (number_source n) = IsStandardNumber bytes n
+IsSpelled bytes (array_source ss) = ⊥
+IsSpelled bytes (object_source ms) = ⊥
+
+-- The scalar stands in the text from one index to another. Where these are the same, nothing is said.
+abbrev pub IsSpelledAt : List ℕ → ℕ → ℕ → Source → Type 0
+IsSpelledAt text from to s = from < to → IsSpelled (slice_range text from to) s
+
+-- A key without escapes stands in the text between double quotes: its first byte at one index, and behind its closing
+-- quote the other.
+abbrev pub KeyStandsAt : List ℕ → List ℕ → ℕ → ℕ → Type 0
+KeyStandsAt text key from after = 0 < from → slice_range text (from - 1) after ≡ in_quotes key

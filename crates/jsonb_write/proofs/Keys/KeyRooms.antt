@@ -1,0 +1,82 @@
+-- The room for a sort key after bytes were written.
+use Rattle.std.proofs.Common.{◌≡◌, ℕ, ◌+◌, ◌-◌, ◌<◌, ◌≤◌, Bool, false, List, [], ◌∷◌, ◌++◌, length, take, drop, drop-drop, slice_range, refl, sym, ap, ap₂, subst, ◌∙◌, arith, append_assoc, append-nil}
+use Rattle.std.proofs.lemmas.List.{take-append-le}
+use Rattle.jsonb_value.specs.SortKey.{text_key}
+use Rattle.jsonb_value.specs.Text.{in_quotes}
+use Rattle.jsonb_value.proofs.SortKeys.Zeros.{plain_key}
+use Rattle.jsonb_scan.specs.Open.{Open, elements_so_far}
+use Rattle.jsonb_scan.specs.Source.{Source}
+use Rattle.jsonb_write.specs.KeyRoom.{Held, HeldFits, IsRoomWith, KeyStands, Writes, all_starts, base_of, items, part_key}
+use Rattle.jsonb_write.specs.MemberStarts.{AreKept}
+use Rattle.jsonb_write.specs.Members.{source_key}
+use Rattle.jsonb_write.specs.PlainText.{ArePlain}
+use Rattle.jsonb_write.specs.TextRoom.{SeesPart}
+use Rattle.jsonb_write.specs.declared.key.KeyRoom.{KeyRoom}
+use Rattle.jsonb_write.specs.declared.text.Part.{Part}
+use Rattle.jsonb_write.specs.declared.text.Part.TheVariants as part
+use Rattle.jsonb_write.proofs.FirstBytes.{behind_first}
+use Rattle.jsonb_write.proofs.RoomMembers.{key_there}
+use Rattle.jsonb_write.proofs.Keys.OpenKeys.{item_joined}
+
+-- More bytes are written, and what is open holds the members that it held.
+pub goes_on : {text front bytes now : List ℕ} {r s : KeyRoom} {due then : Bool} {held kept : List Held} {cs ds : List Open} → IsRoomWith text r front due held cs → Writes bytes r s → front ++ bytes ≡ now
+    → all_starts r.base due cs ≡ all_starts r.base then ds → HeldFits r.base kept ds → IsRoomWith text s now then kept ds
+goes_on {text = text} {front = front} {bytes = bytes} {r = r} {s = s} {then = then} {kept = kept} {ds = ds} room w joined same fits = record {
+  text_is = w.text ∙ room.text_is;
+  bytes =
+      w.written ∙ ap (λ b. b ++ bytes) room.bytes ∙ append_assoc (base_of r) front bytes
+      ∙ ap₂ (λ b n. b ++ n) (sym w.before) joined;
+  starts =
+      subst (λ d. AreKept text d s.members.items (all_starts s.base then ds)) (sym w.decoded) (
+      subst (λ ms. AreKept text r.decoded.items ms (all_starts s.base then ds)) (sym w.members) (
+      subst (λ bs. AreKept text r.decoded.items r.members.items bs) (same ∙ ap (λ b. all_starts b then ds) (sym w.base)) room.starts
+      )
+      );
+  fits = subst (λ b. HeldFits b kept ds) (sym w.base) fits;
+}
+
+-- nothing more
+pub unchanged : (r : KeyRoom) → Writes [] r r
+unchanged r = record { text = refl; base = refl; before = refl; written = sym (append-nil r.out.items); members = refl; decoded = refl }
+
+sees_key : (p : Part) (s : Source) → SeesPart p s → part_key p ≡ source_key s
+sees_key part.Null s h = ap source_key (sym h)
+sees_key (part.Bool b) s h = ap source_key (sym h)
+sees_key (part.Number n) s h = ap source_key (sym h)
+sees_key (part.String t) s h = ap source_key (sym h)
+sees_key part.Written s h = absurd h
+
+-- what is written of a part
+pub part_written : {r s : KeyRoom} (p : Part) (v : Source) → SeesPart p v → Writes (part_key p) r s → Writes (source_key v) r s
+part_written {r = r} {s = s} p v sees wrote = subst (λ bytes. Writes bytes r s) (sees_key p v sees) wrote
+
+-- an item behind those before it
+pub item_written : {text : List ℕ} {r s : KeyRoom} {held : List Held} {ss : List Source} {cs : List Open} (v : Source) → KeyStands text r false (items ∷ held) (elements_so_far ss ∷ cs) → Writes (source_key v) r s
+    → KeyStands text s false (items ∷ held) (elements_so_far (ss ++ v ∷ []) ∷ cs)
+item_written {ss = ss} {cs = cs} v room w = goes_on room w (item_joined ss v cs) refl room.fits
+
+-- the room with another buffer
+pub wrote : {bytes : List ℕ} {r s : KeyRoom} → s.text.now ≡ r.text.now → s.base ≡ r.base → s.members.items ≡ r.members.items → s.decoded.items ≡ r.decoded.items → s.out.items ≡ r.out.items ++ bytes → Writes bytes r s
+wrote {bytes = bytes} {r = r} {s = s} text base members decoded written = record {
+  text = text;
+  base = base;
+  before = ap₂ take base written ∙ take-append-le r.base r.out.items bytes r.based;
+  written = written;
+  members = members;
+  decoded = decoded;
+}
+
+-- ---- strings in the text
+
+-- bytes without escapes, and what closes them
+pub plain_text_key : (bytes : List ℕ) → ArePlain bytes → text_key bytes ≡ bytes ++ 0 ∷ 1 ∷ []
+plain_text_key bytes is_plain = ap (λ xs. xs ++ 0 ∷ 1 ∷ []) (plain_key bytes is_plain)
+
+-- a string between double quotes
+pub string_there : (text string : List ℕ) (from to : ℕ) → 1 < to - from → to ≤ length text → slice_range text from to ≡ in_quotes string → drop 1 (take (to - from - 1) (drop from text)) ≡ string
+string_there text string from to some inside spelled =
+    let back : from + 1 - 1 ≡ from = omega arith in
+    let there : slice_range text (from + 1 - 1) to ≡ in_quotes string = ap (λ f. slice_range text f to) back ∙ spelled in
+    let count : to - from - 1 - 1 ≡ to - 1 - (from + 1) = omega arith in
+    sym (behind_first (to - from - 1) (drop from text) (omega arith)) ∙ ap₂ take count (drop-drop 1 from text)
+    ∙ key_there text string (from + 1) to (omega arith) (omega arith) inside there

@@ -1,0 +1,9 @@
+-- The members of open objects: their order and their bytes.
+pub mod Ascending
+pub mod Closing
+pub mod Pieces
+pub mod Prefixes
+pub mod Ranks
+pub mod Repeats
+pub mod Settled
+pub mod Shuffles

@@ -1,0 +1,73 @@
+-- The room after bytes were written.
+use Rattle.std.proofs.Common.{◌≡◌, ℕ, Bool, true, false, List, [], ◌∷◌, ◌++◌, Result, Ok, Err, OnOk, refl, sym, ap, ap₂, subst, ◌∙◌, append_assoc, append-nil, slice_range}
+use Rattle.jsonb_scan.specs.Open.{Open, elements_so_far}
+use Rattle.jsonb_scan.specs.Source.{Source}
+use Rattle.jsonb_write.specs.MemberStarts.{AreKept}
+use Rattle.jsonb_write.specs.OpenText.{comma_unless, open_text, source_text}
+use Rattle.jsonb_write.specs.Written.{bytes_of}
+use Rattle.jsonb_write.proofs.OpenTexts.{comma_is, led, not_empty, part_joined}
+use Rattle.jsonb_write.specs.declared.text.Part.{Part}
+use Rattle.jsonb_write.specs.declared.text.Part.TheVariants as part
+use Rattle.jsonb_write.specs.TextRoom.{Held, IsSpelled, items, part_text, SeesPart, TextStands, TextFilled, HeldFits, IsRoomWith, Writes, base_of, all_starts}
+use Rattle.jsonb_write.specs.declared.text.TextRoom.{TextRoom}
+
+-- More bytes are written, and what is open holds the members that it held.
+pub goes_on : {text front bytes now : List ℕ} {r s : TextRoom} {due then : Bool} {held kept : List Held} {cs ds : List Open} → IsRoomWith text r front due held cs → Writes bytes r s → front ++ bytes ≡ now
+    → all_starts r.base due cs ≡ all_starts r.base then ds → HeldFits r.base then kept ds → IsRoomWith text s now then kept ds
+goes_on {text = text} {front = front} {bytes = bytes} {r = r} {s = s} {then = then} {kept = kept} {ds = ds} room w joined same fits = record {
+  text_is = w.text ∙ room.text_is;
+  bytes =
+      w.written ∙ ap (λ b. b ++ bytes) room.bytes ∙ append_assoc (base_of r) front bytes
+      ∙ ap₂ (λ b n. b ++ n) (sym w.before) joined;
+  starts =
+      subst (λ d. AreKept text d s.members.items (all_starts s.base then ds)) (sym w.decoded) (
+      subst (λ ms. AreKept text r.decoded.items ms (all_starts s.base then ds)) (sym w.members) (
+      subst (λ bs. AreKept text r.decoded.items r.members.items bs) (same ∙ ap (λ b. all_starts b then ds) (sym w.base)) room.starts
+      )
+      );
+  fits = subst (λ b. HeldFits b then kept ds) (sym w.base) fits;
+}
+
+-- nothing more
+pub unchanged : (r : TextRoom) → Writes [] r r
+unchanged r = record { text = refl; base = refl; before = refl; written = sym (append-nil (bytes_of r.written)); members = refl; decoded = refl }
+
+-- what stands before an item
+pub comma_written : {text : List ℕ} {r s : TextRoom} {held : List Held} {ss : List Source} {cs : List Open} (b : Bool) → TextStands text r false (items b ∷ held) (elements_so_far ss ∷ cs) → Writes (comma_unless b) r s
+    → TextStands text s true (items false ∷ held) (elements_so_far ss ∷ cs)
+comma_written {ss = ss} {cs = cs} b room w =
+    goes_on room w (ap (λ c. open_text false (elements_so_far ss ∷ cs) ++ c) (comma_is b ss room.fits.0) ∙ led (elements_so_far ss) cs) refl (refl, room.fits.1)
+
+pub sees_text : (p : Part) (s : Source) → SeesPart p s → part_text p ≡ source_text s
+sees_text part.Null s h = ap source_text (sym h)
+sees_text (part.Bool true) s h = ap source_text (sym h)
+sees_text (part.Bool false) s h = ap source_text (sym h)
+sees_text (part.Number n) s h = ap source_text (sym h)
+sees_text (part.String t) s h = ap source_text (sym h)
+sees_text part.Written s h = absurd h
+
+-- what is written of a part that stands there in the text
+pub part_written : {text written : List ℕ} {r s : TextRoom} {due : Bool} {held : List Held} {cs : List Open} (p : Part) (v : Source) (from to : ℕ) → IsRoomWith text r written due held cs → SeesPart p v → IsSpelled text from to p
+    → (IsSpelled r.written.text.now from to p → Writes (part_text p) r s) → Writes (source_text v) r s
+part_written {r = r} {s = s} p v from to room sees spelled wrote =
+    subst (λ bytes. Writes bytes r s) (sees_text p v sees) (wrote (subst (λ t. IsSpelled t from to p) (sym room.text_is) spelled))
+
+-- what is written of a range of the text that is a value's text
+pub range_written : {text written : List ℕ} {r s : TextRoom} {due : Bool} {held : List Held} {cs : List Open} (v : Source) (from to : ℕ) → IsRoomWith text r written due held cs → slice_range text from to ≡ source_text v
+    → Writes (slice_range r.written.text.now from to) r s → Writes (source_text v) r s
+range_written {r = r} {s = s} v from to room same writes =
+    subst (λ bytes. Writes bytes r s) (ap (λ t. slice_range t from to) room.text_is ∙ same) writes
+
+-- an item behind the comma before it
+pub item_written : {text : List ℕ} {r s : TextRoom} {held : List Held} {ss : List Source} {cs : List Open} (b : Bool) (v : Source) → TextStands text r true (items b ∷ held) (elements_so_far ss ∷ cs) → Writes (source_text v) r s
+    → TextStands text s false (items b ∷ held) (elements_so_far (ss ++ v ∷ []) ∷ cs)
+item_written {ss = ss} {cs = cs} b v room w =
+    goes_on room w (part_joined source_text 91 ss v (open_text true cs)) refl (room.fits.0 ∙ sym (not_empty ss v), room.fits.1)
+
+-- a whole value
+pub root_written : {text : List ℕ} {r s : TextRoom} (v : Source) → TextStands text r true [] [] → Writes (source_text v) r s → TextFilled text s v [] []
+root_written v room w = goes_on room w refl refl tt
+
+pub on_ok : {T E P Q : Type 0} (r : Result T E) → OnOk r P → (P → Q) → OnOk r Q
+on_ok (Ok x) p f = f p
+on_ok (Err e) p f = tt

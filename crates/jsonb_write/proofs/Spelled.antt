@@ -1,0 +1,77 @@
+-- What was parsed from bytes that are written as they are.
+use Rattle.std.proofs.Common.{◌≡◌, ◌≢◌, ℕ, zero, suc, ◌+◌, ◌-◌, ◌<◌, ◌^◌, ℤ, pos, Bool, true, false, List, [], ◌∷◌, ◌++◌, length, get_or, take, drop, drop-drop, slice_range, refl, sym, ap, ap₂, subst, ◌∙◌, append_assoc, append-nil, arith}
+use Rattle.std.specs.Prelude.{unsigned_abs, neg_ℤ, FitsSigned}
+use Rattle.std.specs.Fmt.{decimal, sign_text}
+use Rattle.std.specs.Int.{is_negative, w64}
+use Rattle.std.specs.Str.Parse.{IsNumeral, digits_value}
+use Rattle.std.proofs.Math.Seq.{take-append_seam}
+use Rattle.std.proofs.lemmas.List.{take-append-drop}
+use Rattle.std.specs.List.{flat_map}
+use Rattle.std.proofs.lemmas.Fmt.{decimal-digits_value}
+use Rattle.std.proofs.lemmas.Int.{ints}
+use Rattle.jsonb_value.specs.Grammar.StandardNumber.{IsStandardNumber}
+use Rattle.jsonb_value.specs.Tree.{Num, int64, uint64}
+use Rattle.jsonb_value.specs.Text.NumberText.{number_text, text_of_parts, with_point, zero_padded}
+use Rattle.jsonb_value.specs.Text.{in_quotes}
+use Rattle.jsonb_value.specs.Text.StringText.{byte_text, quoted_text}
+use Rattle.jsonb_value.specs.View.{number_view}
+use Rattle.jsonb_value.specs.declared.number.Number.{Number}
+use Rattle.jsonb_value.specs.declared.number.Number.TheVariants as form
+use Rattle.jsonb_value.proofs.Numbers.InRange.{decimals}
+use Rattle.jsonb_value.proofs.Numbers.Pointed.{is_negative-pos, pointed_whole}
+use Rattle.jsonb_write.specs.PlainText.{ArePlain}
+use Rattle.jsonb_write.specs.SpelledNumber.{StaysSpelled}
+use Rattle.jsonb_write.specs.TextRoom.{Writes}
+use Rattle.jsonb_write.specs.declared.text.TextRoom.{TextRoom}
+
+-- digits with no zero first are the text of their value
+digits_text : (v : ℕ) (ds : List ℕ) → IsNumeral 10 ds → (get_or ds 0 0 ≡ 48 → length ds ≡ 1) → digits_value 10 ds < 2 ^ 64 → v ≡ digits_value 10 ds → ds ≡ with_point 0 (zero_padded 1 (decimal v))
+digits_text v ds numeral no_zero small value =
+    let same : decimal v ≡ ds = ap decimal value ∙ decimal-digits_value decimals ds numeral.1 numeral.0 no_zero small in
+    sym (pointed_whole (decimal v) (subst (λ xs. 0 < length xs) (sym same) numeral.0) ∙ same)
+
+text_is : (negative : Bool) (whole : ℤ) (ds : List ℕ) → is_negative whole ≡ negative → ds ≡ with_point 0 (zero_padded 1 (decimal (unsigned_abs whole))) → sign_text negative ++ ds ≡ text_of_parts 0 whole
+unfolding text_of_parts
+text_is negative whole ds sign h = ap₂ (λ b xs. sign_text b ++ xs) (sym sign) h
+
+other_form : uint64 ≡ int64 → ⊥
+other_form e = cc
+
+signs : (v : ℕ) → neg_ℤ (pos v) ≢ pos 0 → (is_negative (neg_ℤ (pos v)) ≡ true) × (unsigned_abs (neg_ℤ (pos v)) ≡ v)
+signs zero h = absurd (h refl)
+signs (suc v) h = (refl, refl)
+
+magnitude_fits : (v : ℕ) → FitsSigned w64 (neg_ℤ (pos v)) → v < 2 ^ 64
+magnitude_fits zero h = omega arith
+magnitude_fits (suc v) h = omega (arith, ints, h)
+
+pub spelled_number : (n : Number) (bytes : List ℕ) → StaysSpelled n → IsStandardNumber bytes (number_view n) → bytes ≡ number_text (number_view n)
+spelled_number (form.UInt64 n) bytes k (false, whole, parts, is) =
+    let value : n ≡ digits_value 10 whole = ap (λ (m : Num). unsigned_abs m.whole) is.1 in
+    parts.joined ∙ append-nil whole ∙ text_is false (pos n) whole (is_negative-pos n) (digits_text n whole parts.is_whole.digits parts.is_whole.no_needless_zero is.0 value)
+spelled_number (form.UInt64 n) bytes k (true, whole, parts, is) = absurd (other_form (ap (λ (m : Num). m.form) is.1))
+spelled_number (form.Int64 n) bytes k (false, whole, parts, is) = absurd (other_form (sym (ap (λ (m : Num). m.form) is.1)))
+spelled_number (form.Int64 n) bytes k (true, whole, parts, is) =
+    let value : n ≡ neg_ℤ (pos (digits_value 10 whole)) = ap (λ (m : Num). m.whole) is.1 in
+    let told = signs (digits_value 10 whole) (λ e. k (value ∙ e)) in
+    let magnitude : unsigned_abs n ≡ digits_value 10 whole = ap unsigned_abs value ∙ told.1 in
+    parts.joined ∙ ap (λ ds. 45 ∷ ds) (append-nil whole)
+    ∙ text_is true n whole (ap is_negative value ∙ told.0) (digits_text (unsigned_abs n) whole parts.is_whole.digits parts.is_whole.no_needless_zero (magnitude_fits (digits_value 10 whole) is.0) magnitude)
+spelled_number (form.Decimal64 d) bytes k is = absurd k
+spelled_number (form.Decimal128 d) bytes k is = absurd k
+
+-- a string between double quotes that needs no escapes
+pub spelled_string : (text string : List ℕ) (from to : ℕ) → slice_range text from to ≡ in_quotes string → ArePlain (take (length string) (drop (from + 1) text)) → slice_range text from to ≡ quoted_text string
+spelled_string text string from to spelled plain =
+    let rest = drop (to - from) (drop from text) in
+    let split : drop from text ≡ in_quotes string ++ rest = sym (take-append-drop (to - from) (drop from text)) ∙ ap (λ xs. xs ++ rest) spelled in
+    let behind : drop (from + 1) text ≡ string ++ (34 ∷ rest) =
+    sym (drop-drop 1 from text) ∙ ap (drop 1) split ∙ append_assoc string (34 ∷ []) rest in
+    let whole : take (length string) (drop (from + 1) text) ≡ string = ap (take (length string)) behind ∙ take-append_seam string (34 ∷ rest) in
+    let here : flat_map byte_text string ≡ string = subst (λ xs. ArePlain xs) whole plain in
+    spelled ∙ ap (λ xs. 34 ∷ xs ++ 34 ∷ []) (sym here)
+
+-- and it is kept
+pub string_kept : {r s : TextRoom} (string : List ℕ) (from to : ℕ) → ArePlain (take (length string) (drop (from + 1) r.written.text.now)) → Writes (slice_range r.written.text.now from to) r s → slice_range r.written.text.now from to ≡ in_quotes string → Writes (quoted_text string) r s
+string_kept {r = r} {s = s} string from to plain w spelled =
+    subst (λ bytes. Writes bytes r s) (spelled_string r.written.text.now string from to spelled plain) w

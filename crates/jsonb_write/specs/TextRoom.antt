@@ -1,0 +1,208 @@
+-- What stands in the room that serialized text is written to, while arrays and objects are open.
+-- Read for: private.
+use Rattle.std.specs.Prelude.{◌≡◌, ℕ, ◌+◌, ◌<◌, Bool, true, false, List, [], ◌∷◌, ◌++◌, length, map, drop, take, slice_range, codes, Some, None}
+use Rattle.std.specs.Cow.{cow_str_bytes}
+use Rattle.std.specs.Str.{IsUtf8}
+use Rattle.std.specs.declared.alloc.Global.{Global}
+use Rattle.std.specs.declared.borrow.CowStr.{CowStr}
+use Rattle.std.specs.declared.borrow.CowStr.TheVariants.{Borrowed, Owned}
+use Rattle.jsonb_value.specs.Grammar.StandardNumber.{IsStandardNumber}
+use Rattle.jsonb_value.specs.Ascii as ascii
+use Rattle.jsonb_value.specs.Text.{in_quotes, with_commas}
+use Rattle.jsonb_value.specs.Text.NumberText.{number_text}
+use Rattle.jsonb_value.specs.Text.StringText.{quoted_text}
+use Rattle.jsonb_value.specs.View.{mark_view, number_view}
+use Rattle.jsonb_scan.specs.Open.{Open, elements_so_far, members_so_far}
+use Rattle.jsonb_scan.specs.Source.{Found, Source, Spot, null_source, boolean_source, string_source, number_source, first_repeat, object_source_of, sort_by, spot_of}
+use Rattle.jsonb_write.specs.MemberStarts.{AreKept, MemberStart, IsKept}
+use Rattle.jsonb_write.specs.Members.{AreKeyed, SpotsAscend, spot_at, spot_in}
+use Rattle.jsonb_write.specs.OpenText.{is_empty, member_text, open_text, source_text}
+use Rattle.jsonb_write.specs.Written.{bytes_of}
+use Rattle.jsonb_write.specs.declared.members.Member.{Member}
+use Rattle.jsonb_write.specs.declared.text.Part.{Part}
+use Rattle.jsonb_write.specs.declared.text.Part.TheVariants as part
+use Rattle.jsonb_write.specs.declared.text.TextRoom.{TextRoom}
+
+-- ---- values that hold no others
+
+-- the source of a value that isn't written yet
+abbrev pub SeesPart : Part → Source → Type 0
+SeesPart part.Null s = s ≡ null_source
+SeesPart (part.Bool b) s = s ≡ boolean_source b
+SeesPart (part.Number n) s = s ≡ number_source (number_view n)
+SeesPart (part.String t) s = s ≡ string_source (mark_view t) (cow_str_bytes t)
+SeesPart part.Written s = ⊥
+
+-- its text
+abbrev pub part_text : Part → List ℕ
+part_text part.Null = codes "null"
+part_text (part.Bool true) = codes "true"
+part_text (part.Bool false) = codes "false"
+part_text (part.Number n) = number_text (number_view n)
+part_text (part.String t) = quoted_text (cow_str_bytes t)
+part_text part.Written = []
+
+-- a string without escapes stands in double quotes, and nothing is said of others
+abbrev pub SpellsString : CowStr Global → List ℕ → Type 0
+SpellsString (Borrowed t) bytes = bytes ≡ in_quotes t.now
+SpellsString (Owned t) bytes = Unit {0}
+
+-- What is known of bytes that a value was parsed from: a word in small letters, an integer of a standard text, or a
+-- string.
+abbrev pub Spells : Part → List ℕ → Type 0
+Spells part.Null bytes = bytes ≡ codes "null"
+Spells (part.Bool true) bytes = bytes ≡ codes "true"
+Spells (part.Bool false) bytes = bytes ≡ codes "false"
+Spells (part.Number n) bytes = IsStandardNumber bytes (number_view n)
+Spells (part.String t) bytes = SpellsString t bytes
+Spells part.Written bytes = Unit {0}
+
+-- The value was parsed from this range of the text, or from none where it is empty.
+abbrev pub IsSpelled : List ℕ → ℕ → ℕ → Part → Type 0
+IsSpelled text from to p = from < to → Spells p (slice_range text from to)
+
+-- ---- what is open
+
+-- What is kept of an open container: of an array whether it has no items, of an object the index of its first member.
+pub data Held : Type 0 where
+  items : Bool → Held
+  members : ℕ → Held
+
+-- where members begin, of which the first begins at this index
+abbrev pub starts_from : ℕ → List Found → List MemberStart
+starts_from start [] = []
+starts_from start (f ∷ fs) =
+    record { spot = spot_of f; start = start } ∷ starts_from (start + length (member_text f) + 1) fs
+
+-- where the member behind them begins
+abbrev pub next_start : ℕ → List Found → ℕ
+next_start start [] = start
+next_start start (f ∷ fs) = next_start (start + length (member_text f) + 1) fs
+
+-- the members of one container that begins at this index: where a value is due, its key begins one
+abbrev pub own_starts : Bool → ℕ → Open → List MemberStart
+own_starts due start (elements_so_far ss) = []
+own_starts false start (members_so_far fs key place) = starts_from (start + 1) fs
+own_starts true start (members_so_far fs key place) =
+    let spot : Spot = record { key = key.1; place = place } in
+    starts_from (start + 1) fs ++ record { spot = spot; start = next_start (start + 1) fs } ∷ []
+
+-- the members of all that are open, the outermost's first, behind so many bytes
+abbrev pub all_starts : ℕ → Bool → List Open → List MemberStart
+all_starts base due [] = []
+all_starts base due (c ∷ cs) =
+    all_starts base true cs ++ own_starts due (base + length (open_text true cs)) c
+
+-- whether the next item is the first: none is where a value is due, whose comma is written
+abbrev pub none_before : Bool → List Source → Bool
+none_before true ss = false
+none_before false ss = is_empty ss
+
+-- What is kept fits the containers.
+abbrev pub HeldFits : ℕ → Bool → List Held → List Open → Type 0
+HeldFits base due [] [] = Unit {0}
+HeldFits base due (items is_first ∷ held) (elements_so_far ss ∷ cs) =
+    (is_first ≡ none_before due ss) × HeldFits base true held cs
+HeldFits base due (members first ∷ held) (members_so_far fs key place ∷ cs) =
+    (first ≡ length (all_starts base true cs)) × HeldFits base true held cs
+HeldFits base due held cs = ⊥
+
+-- ---- the room
+
+-- the bytes that the buffer held before
+abbrev pub base_of : TextRoom → List ℕ
+base_of room = take room.base room.written.out.items
+
+-- Behind them these bytes are written, and the members are those of what is open.
+pub record IsRoomWith (text : List ℕ) (room : TextRoom) (written : List ℕ)
+    (due : Bool) (held : List Held) (cs : List Open) : Type 0 where
+  pub text_is : room.written.text.now ≡ text
+  pub bytes : bytes_of room.written ≡ base_of room ++ written
+  pub starts : AreKept text room.decoded.items room.members.items (all_starts room.base due cs)
+  pub fits : HeldFits room.base due held cs
+
+-- What is open is written: up to where a value is due, or up to the end of the innermost's last part.
+abbrev pub TextStands : List ℕ → TextRoom → Bool → List Held → List Open → Type 0
+TextStands text room due held cs = IsRoomWith text room (open_text due cs) due held cs
+
+-- A value is written where one was due.
+abbrev pub TextFilled : List ℕ → TextRoom → Source → List Held → List Open → Type 0
+TextFilled text room s held cs = IsRoomWith text room (open_text true cs ++ source_text s) true held cs
+
+-- The room has these bytes more.
+pub record Writes (bytes : List ℕ) (old new : TextRoom) : Type 0 where
+  pub text : new.written.text.now ≡ old.written.text.now
+  pub base : new.base ≡ old.base
+  pub before : base_of new ≡ base_of old
+  pub written : bytes_of new.written ≡ bytes_of old.written ++ bytes
+  pub members : new.members.items ≡ old.members.items
+  pub decoded : new.decoded.items ≡ old.decoded.items
+
+-- The room has this member more, and these bytes of its key.
+pub record HasMember (member : Member) (key : List ℕ) (old new : TextRoom) : Type 0 where
+  pub text : new.written.text.now ≡ old.written.text.now
+  pub base : new.base ≡ old.base
+  pub before : base_of new ≡ base_of old
+  pub written : bytes_of new.written ≡ bytes_of old.written
+  pub members : new.members.items ≡ old.members.items ++ member ∷ []
+  pub decoded : new.decoded.items ≡ old.decoded.items ++ key
+
+-- The room has these bytes more, and a member with this key and place that begins at this index.
+pub record Begins (bytes key : List ℕ) (place start : ℕ) (old new : TextRoom) : Type 0 where
+  pub member : Member
+  pub keys : List ℕ
+  pub text : new.written.text.now ≡ old.written.text.now
+  pub base : new.base ≡ old.base
+  pub before : base_of new ≡ base_of old
+  pub written : bytes_of new.written ≡ bytes_of old.written ++ bytes
+  pub members : new.members.items ≡ old.members.items ++ member ∷ []
+  pub decoded : new.decoded.items ≡ old.decoded.items ++ keys
+  pub kept : IsKept old.written.text.now new.decoded.items member
+      (record { spot = record { key = key; place = place }; start = start })
+
+-- ---- the end of an object
+
+-- The keys of the members from an index on ascend, where their prefixes are those of the keys.
+abbrev pub KeysAscendFrom : TextRoom → ℕ → Type 0
+KeysAscendFrom room first =
+    AreKeyed room.written.text.now room.decoded.items (drop first room.members.items)
+    → SpotsAscend (map (spot_in room.written.text.now room.decoded.items) (drop first room.members.items))
+
+-- the spot of a member, by its index among those from another index on
+abbrev pub spot_among : TextRoom → ℕ → ℕ → Spot
+spot_among room first i =
+    spot_at room.written.text.now room.decoded.items (drop first room.members.items) i
+
+-- The least key that comes twice is that of this member, and is UTF-8.
+pub record TellsRepeatOf (room : TextRoom) (first : ℕ) (fs : List Found) (i : ℕ) : Type 0 where
+  pub repeat : first_repeat (map spot_of fs) ≡ Some (spot_among room first i)
+  pub utf8 : IsUtf8 (spot_among room first i).key
+
+-- The room has the members that it had.
+pub record KeepsMembers (old new : TextRoom) : Type 0 where
+  pub text : new.written.text.now ≡ old.written.text.now
+  pub base : new.base ≡ old.base
+  pub before : base_of new ≡ base_of old
+  pub members : new.members.items ≡ old.members.items
+  pub decoded : new.decoded.items ≡ old.decoded.items
+
+-- No key of these members comes twice, and their texts stand in the order of their keys.
+pub record IsSettled (old new : TextRoom) (fs : List Found) (cs : List Open) : Type 0 where
+  pub written : bytes_of new.written ≡ base_of old
+      ++ (open_text true cs ++ ascii.open_brace ∷ with_commas (map member_text (sort_by spot_of fs)))
+  pub new_keys : first_repeat (map spot_of fs) ≡ None
+
+-- The closing brace is written, and the members from an index on are kept no longer.
+pub record Closes (first : ℕ) (old new : TextRoom) : Type 0 where
+  pub text : new.written.text.now ≡ old.written.text.now
+  pub base : new.base ≡ old.base
+  pub before : base_of new ≡ base_of old
+  pub written : bytes_of new.written ≡ bytes_of old.written ++ ascii.close_brace ∷ []
+  pub members : new.members.items ≡ take first old.members.items
+  pub decoded : new.decoded.items ≡ old.decoded.items
+
+-- No key comes twice, and the object is written.
+pub record EndsObject (text : List ℕ) (room : TextRoom)
+    (fs : List Found) (held : List Held) (cs : List Open) : Type 0 where
+  pub filled : TextFilled text room (object_source_of fs) held cs
+  pub new_keys : first_repeat (map spot_of fs) ≡ None

@@ -1,0 +1,48 @@
+//! The first bytes of a text at the end of a buffer.
+ghost use Rattle.std.specs.Prelude.{◌≡◌, ◌+◌, ◌≤◌, ◌++◌, length, take, OnOk};
+ghost use Rattle.jsonb_value.specs.Text.Appending.{Extends};
+
+use std::alloc::AllocError;
+
+// Appends the first bytes. More are copied where there are so many, since a copy of a fixed length takes no call.
+#[inline(always)]
+pub(crate) fn append_first(bytes: &[u8], count: usize, out: &mut Vec<u8>) -> Result<(), AllocError>
+    requires { count ≤ length bytes.now }
+    ensures bytes { OnOk result (out.new.items ≡ out.old.items ++ take count bytes.now) }
+    ensures kept { Extends out.old.items out.new.items }
+{
+    if count <= 32 {
+        if let Some(chunk) = bytes.first_chunk::<32>() {
+            return append_part(chunk, count, out);
+        }
+    }
+    append_more(bytes, count, out)
+}
+
+// Appends all bytes, and takes back those behind the first ones.
+#[inline(always)]
+pub(crate) fn append_part(bytes: &[u8], count: usize, out: &mut Vec<u8>) -> Result<(), AllocError>
+    requires { count ≤ length bytes.now }
+    ensures bytes { OnOk result (out.new.items ≡ out.old.items ++ take count bytes.now) }
+    ensures kept { Extends out.old.items out.new.items }
+{
+    let len = out.len();
+    out.extend_from_slice(bytes)?;
+    out.truncate(len + count);
+    Ok(())
+}
+
+// Appends the first bytes where they are many, or near the end of the text.
+#[inline(never)]
+fn append_more(bytes: &[u8], count: usize, out: &mut Vec<u8>) -> Result<(), AllocError>
+    requires { count ≤ length bytes.now }
+    ensures bytes { OnOk result (out.new.items ≡ out.old.items ++ take count bytes.now) }
+    ensures kept { Extends out.old.items out.new.items }
+{
+    if count <= 64 {
+        if let Some(chunk) = bytes.first_chunk::<64>() {
+            return append_part(chunk, count, out);
+        }
+    }
+    out.extend_from_slice(&bytes[..count])
+}
