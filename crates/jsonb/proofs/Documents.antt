@@ -2,3 +2,4 @@
 pub mod Agreement
 pub mod Markers
 pub mod Spellings
+pub mod Straight

@@ -1,4 +1,5 @@
 -- Values that hold no others, and keys.
 pub mod Built
 pub mod FirstBytes
+pub mod Spelled
 pub mod Spellings

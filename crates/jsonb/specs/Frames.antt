@@ -1,22 +1,24 @@
 -- The open containers of the parser.
 -- Read for: private.
-use Rattle.std.specs.Prelude.{◌≡◌, ◌⊎◌, ℕ, suc, ◌-◌, Bool, true, false, List, [], ◌∷◌, ◌++◌, length, Option, Result, Ok, if◌then◌else◌}
+use Rattle.std.specs.Prelude.{◌≡◌, ◌⊎◌, ℕ, suc, ◌-◌, Bool, true, false, List, [], ◌∷◌, ◌++◌, length, Option, Result, Ok, reverse, not, if◌then◌else◌}
 use Rattle.jsonb_value.specs.declared.error.Error.{Error}
 use Rattle.jsonb_value.specs.Grammar.{max_depth}
 use Rattle.jsonb_value.specs.Mode.{Mode}
 use Rattle.jsonb_value.specs.Tree.{Mark, Tree}
+use Rattle.jsonb_value.specs.Tree.Mark.{plain}
 use Rattle.jsonb_value.specs.Tree.Tree.{null}
-use Rattle.jsonb.specs.Build.{AreSeen, ElseFails}
+use Rattle.jsonb.specs.Handler.{ElseFails}
 use Rattle.jsonb.specs.declared.parser.Parser.{Parser}
-use Rattle.jsonb.specs.declared.parser.value.Frame.{Frame}
-use Rattle.jsonb.specs.declared.parser.value.Frame.TheVariants as variants
+use Rattle.jsonb.specs.declared.parser.frame.Frame.{Frame}
+use Rattle.jsonb.specs.declared.parser.frame.Frame.TheVariants as variants
+use Rattle.jsonb.specs.declared.parser.frame.OpenObject.{OpenObject}
 use Rattle.jsonb_scan.specs.Answer.{mode_of}
 use Rattle.jsonb.specs.Parser.{rest_of, size_of}
 use Rattle.jsonb_scan.specs.Reading.{Read, begins, ◌>>=◌}
 use Rattle.jsonb_scan.specs.Reading.Container.{is_left_out}
 use Rattle.jsonb_scan.specs.Reading.Scalar.{scalar_at}
 use Rattle.jsonb_scan.specs.Reading.Document.{value_at}
-use Rattle.jsonb_scan.specs.Source.{Source, Found, array_source_of, found, null_source, source_alone}
+use Rattle.jsonb_scan.specs.Source.{Source, Found, found, null_source, source_alone}
 use Rattle.jsonb.specs.Stack.{array_end, finish_open, next_part_at, object_end, resume}
 use Rattle.jsonb_scan.specs.Open.{Open}
 use Rattle.jsonb_scan.specs.Open.{elements_so_far, members_so_far}
@@ -54,74 +56,87 @@ resume_stack size mode depth closed (c ∷ cs) rest =
 
 -- ---- what a step leaves
 
--- This was pushed, and is what is read.
-abbrev pub Pushes : {V F X : Type 0} → (F → Option Error) → (V → Source → Type 0) → Result X F → List V → Read Tree
-    → List V → List ℕ → Type 0
-Pushes {V} told Sees result before read after rest =
-    ElseFails told result read (λ _. (v : V) × (t : Tree) × (after ≡ before ++ v ∷ []) × Sees v (source_alone t)
-    × (read ≡ Ok (t, rest)))
+-- A scalar was put into an array, and is what is read.
+abbrev pub Pushes : {R I M K X F : Type 0} → Bool → Option Error
+    → (List ℕ → R → Bool → List (Frame I M K) → List Open → Type 0) → List ℕ → Result X F → R → I → Read Tree → R → I
+    → List ℕ → Type 0
+Pushes {R} {I} {M} {K} silent told Stands text result old before read new after rest =
+    ElseFails silent told result read (λ _. (t : Tree) × (read ≡ Ok (t, rest)) × ((ss : List Source)
+    → (fs : List (Frame I M K)) → (cs : List Open)
+    → Stands text old false (variants.Array before ∷ fs) (elements_so_far ss ∷ cs)
+    → Stands text new false (variants.Array after ∷ fs) (elements_so_far (ss ++ source_alone t ∷ []) ∷ cs)))
 
--- This was put in under the key, and is what is read.
-abbrev pub PutsIn : {M K F X : Type 0} → (F → Option Error) → (K → Mark × List ℕ → ℕ → Type 0)
-    → (M → List Found → Type 0) → Result X F → M → K → Read Tree → M → List ℕ → Type 0
-PutsIn told Names Holds result before key read after rest =
-    ElseFails told result read (λ _. (t : Tree) × (read ≡ Ok (t, rest)) × ((front : List Found) → (k : Mark × List ℕ)
-    → (place : ℕ) → Holds before front → Names key k place
-    → Holds after (front ++ found k (source_alone t) place ∷ [])))
+-- A scalar was put into an object under a key, and is what is read.
+abbrev pub PutsIn : {R I M K X F : Type 0} → Bool → Option Error
+    → (List ℕ → R → Bool → List (Frame I M K) → List Open → Type 0) → List ℕ → Result X F → R → OpenObject M K → K
+    → Read Tree → R → OpenObject M K → List ℕ → Type 0
+PutsIn {R} {I} {M} {K} silent told Stands text result old before key read new after rest =
+    ElseFails silent told result read (λ _. (t : Tree) × (read ≡ Ok (t, rest)) × ((front : List Found)
+    → (k : Mark × List ℕ) → (place : ℕ) → (fs : List (Frame I M K)) → (cs : List Open)
+    → Stands text old true (variants.Object (record { members = before.members; key = key }) ∷ fs)
+    (members_so_far front k place ∷ cs)
+    → Stands text new false (variants.Object after ∷ fs)
+    (members_so_far (front ++ found k (source_alone t) place ∷ []) (plain, []) 0 ∷ cs)))
 
-module _ {V M K : Type 0} (Sees : V → Source → Type 0) (Names : K → Mark × List ℕ → ℕ → Type 0)
-    (Holds : M → List Found → Type 0) where
-  -- The parts so far are those that were found.
-  abbrev pub FrameHolds : Frame V M K → Open → Type 0
-  FrameHolds (variants.Array v) (elements_so_far ss) = AreSeen Sees v.items ss
-  FrameHolds (variants.Array v) (members_so_far fs key place) = ⊥
-  FrameHolds (variants.Object o) (elements_so_far ss) = ⊥
-  FrameHolds (variants.Object o) (members_so_far fs key place) = Holds o.members fs × Names o.key key place
+-- ---- the containers that are open
 
-  -- The same of all that are open, where those of the parser come from the outermost on.
-  abbrev pub FramesHoldOnto : List Open → List (Frame V M K) → List Open → Type 0
-  FramesHoldOnto below [] cs = cs ≡ below
-  FramesHoldOnto below (f ∷ fs) cs = (c : Open) × FrameHolds f c × FramesHoldOnto (c ∷ below) fs cs
+-- the container is an array
+abbrev pub IsArray : Open → Type 0
+IsArray (elements_so_far ss) = Unit {0}
+IsArray (members_so_far fs key place) = ⊥
 
-  abbrev pub FramesHold : List (Frame V M K) → List Open → Type 0
-  FramesHold = FramesHoldOnto []
+-- the container is an object
+abbrev pub IsObject : Open → Type 0
+IsObject (elements_so_far ss) = ⊥
+IsObject (members_so_far fs key place) = Unit {0}
 
-  -- how deep a value may nest inside of these
-  abbrev pub depth_within : List (Frame V M K) → ℕ
-  depth_within frames = max_depth - length frames
+-- The frame is an array's or an object's, as the container is.
+abbrev pub Fits : {I M K : Type 0} → Frame I M K → Open → Type 0
+Fits (variants.Array items) c = IsArray c
+Fits (variants.Object o) c = IsObject c
 
-  -- Parts were read, up to the end of the container or up to a part that is a container itself.
-  pub record ReadsParts (size : ℕ) (mode : Mode) (depth : ℕ) (whole : Read Source) (closed : Bool) (frame : Frame V M K)
-      (rest : List ℕ) : Type 0 where
+-- Each frame fits its container.
+abbrev pub AllFit : {I M K : Type 0} → List (Frame I M K) → List Open → Type 0
+AllFit [] [] = Unit {0}
+AllFit [] (c ∷ cs) = ⊥
+AllFit (f ∷ fs) [] = ⊥
+AllFit (f ∷ fs) (c ∷ cs) = Fits f c × AllFit fs cs
+
+-- how deep a value may nest inside of these
+abbrev pub depth_within : {I M K : Type 0} → List (Frame I M K) → ℕ
+depth_within frames = max_depth - length frames
+
+module _ {I M K : Type 0} (Stands : Bool → List (Frame I M K) → List Open → Type 0) where
+  -- Parts were read, up to the end of the container or up to a part that is a container itself and is due.
+  pub record ReadsParts (size : ℕ) (mode : Mode) (depth : ℕ) (whole : Read Source) (closed : Bool) (frame : Frame I M K)
+      (fs : List (Frame I M K)) (cs : List Open) (rest : List ℕ) : Type 0 where
     pub so_far : Open
-    pub held : FrameHolds frame so_far
+    pub fits : Fits frame so_far
+    pub held : Stands (not closed) (frame ∷ fs) (so_far ∷ cs)
     pub reads : whole ≡ resume_value size mode depth closed so_far rest
 
-  -- With the containers that are open, this is left to read of the whole.
-  pub record Remains (whole : Read Source) (frames : List (Frame V M K)) (left : List Open → Read Source) : Type 0 where
+  -- With the containers that are open, this is left to read of the whole. The parser's stack has the outermost first.
+  pub record Remains (whole : Read Source) (due : Bool) (stack : List (Frame I M K)) (left : List Open → Read Source)
+      : Type 0 where
     pub opens : List Open
-    pub held : FramesHold frames opens
+    pub fit : AllFit (reverse stack) opens
+    pub held : Stands due (reverse stack) opens
     pub reads : whole ≡ left opens
 
   -- A value is due.
-  abbrev pub BeforeValue : Read Source → Parser → List (Frame V M K) → Type 0
-  BeforeValue whole p frames =
-      Remains whole frames
-      (λ cs. value_at (size_of p) (mode_of p.mode) (depth_within frames) (rest_of p) >>= resume (size_of p)
-      (mode_of p.mode) (depth_within frames) cs)
+  abbrev pub BeforeValue : Read Source → Parser → List (Frame I M K) → Type 0
+  BeforeValue whole p stack =
+      Remains whole true stack
+      (λ cs. value_at (size_of p) (mode_of p.mode) (depth_within stack) (rest_of p) >>= resume (size_of p)
+      (mode_of p.mode) (depth_within stack) cs)
 
   -- The innermost container was read to its end, or a part of it begins.
-  abbrev pub AtPart : Read Source → Parser → List (Frame V M K) → Bool → Type 0
-  AtPart whole p frames closed =
-      Remains whole frames
-      (λ cs. resume_stack (size_of p) (mode_of p.mode) (depth_within frames) closed cs (rest_of p))
+  abbrev pub AtPart : Read Source → Parser → List (Frame I M K) → Bool → Type 0
+  AtPart whole p stack closed =
+      Remains whole false stack
+      (λ cs. resume_stack (size_of p) (mode_of p.mode) (depth_within stack) closed cs (rest_of p))
 
   -- The outermost container was read to its end, and no other is open.
-  abbrev pub IsRead : Read Source → List (Frame V M K) → List ℕ → Type 0
-  IsRead whole frames rest = (f : Frame V M K) × (c : Open) × (frames ≡ f ∷ []) × FrameHolds f c
-      × (whole ≡ finish_container c rest)
-
--- A container that is finished is of this source.
-abbrev pub Completes : {V M K : Type 0} → (V → Source → Type 0) → (M → Source → Type 0) → Frame V M K → Source → Type 0
-Completes Sees Done (variants.Array v) s = (ss : List Source) × AreSeen Sees v.items ss × (s ≡ array_source_of ss)
-Completes Sees Done (variants.Object o) s = Done o.members s
+  abbrev pub IsRead : Read Source → List (Frame I M K) → List ℕ → Type 0
+  IsRead whole stack rest = (f : Frame I M K) × (c : Open) × (stack ≡ f ∷ []) × Fits f c
+      × Stands false (f ∷ []) (c ∷ []) × (whole ≡ finish_container c rest)

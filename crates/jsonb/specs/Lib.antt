@@ -1,5 +1,7 @@
+pub mod Appends
 pub mod AstView
-pub mod Build
+pub mod Handler
+pub mod Held
 pub mod Frames
 pub mod Literals
 pub mod Parser

@@ -1,5 +1,6 @@
 -- The literals: `null`, `true` and `false`.
 -- Read for: private.
+use Rattle.std.specs.Prelude.{ℕ, true, false, List, codes}
 use Rattle.jsonb_value.specs.Tree.{Tree, null, boolean}
 use Rattle.jsonb.specs.declared.parser.scalar.Literal.{Literal}
 use Rattle.jsonb.specs.declared.parser.scalar.Literal.TheVariants as variants
@@ -8,3 +9,9 @@ use Rattle.jsonb.specs.declared.parser.scalar.Literal.TheVariants as variants
 abbrev pub literal_tree : Literal → Tree
 literal_tree variants.Null = null
 literal_tree (variants.Bool value) = boolean value
+
+-- how a literal is spelled
+abbrev pub literal_text : Literal → List ℕ
+literal_text variants.Null = codes "null"
+literal_text (variants.Bool true) = codes "true"
+literal_text (variants.Bool false) = codes "false"

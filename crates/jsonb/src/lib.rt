@@ -14,4 +14,6 @@ pub use jsonb_value::number::{Decimal64, Decimal128, Number};
 pub use jsonb_value::value::{Object, Value};
 pub use jsonb_value::{error, extension, number, value};
 pub use laws::{one_decoding, one_reading};
-pub use parser::{JsonAst, Mode, parse_value, parse_value_standard_mode};
+pub use parser::{
+    JsonAst, Mode, append_sort_key, append_text, parse_value, parse_value_standard_mode,
+};

@@ -1,6 +1,6 @@
 //! The parsers of JSON texts: from left to right, up to the first fault.
 
-ghost use Rattle.std.specs.Prelude.{◌≡◌, ◌≢◌, ◌+◌, ◌<◌, ◌≤◌, [], ◌∷◌, drop, MatchOption, MatchBool, IfOk, IfErr, IfSome, Err, Some, length, take};
+ghost use Rattle.std.specs.Prelude.{◌≡◌, ◌≢◌, ◌+◌, ◌<◌, ◌≤◌, ℕ, List, [], ◌∷◌, drop, ◌⊎◌, MatchOption, MatchBool, MatchResult, IfOk, IfErr, IfSome, OnOk, Err, None, Ok, Some, true, false, length, take};
 ghost use Rattle.jsonb_value.specs.Code.{code_of};
 ghost use Rattle.jsonb_value.specs.Grammar.{IsDocument, IsNoDocument};
 ghost use Rattle.jsonb_value.specs.Mode.{standard, extended};
@@ -15,26 +15,29 @@ ghost use Rattle.jsonb_scan.specs.Reading.{begins, fault_at};
 ghost use Rattle.jsonb_scan.specs.Reading.Blank.{skip_closed_blanks};
 ghost use Rattle.jsonb_scan.specs.Reading.Document.{at_end, comment_at, document_of, source_from, source_of};
 ghost use Rattle.jsonb.specs.Refusals.{IsExplained};
-ghost use Rattle.jsonb_scan.specs.Source.{Source};
-ghost use Rattle.jsonb.specs.Build.{BuildsAll, told_of};
+ghost use Rattle.jsonb_scan.specs.Source.{Source, null_source};
+ghost use Rattle.jsonb.specs.Handler.{BuildsAll, ElseFails, IsWritten, Misses};
 
 mod ast;
 mod blank;
-mod build;
 mod extended_number;
+mod frame;
+mod handler;
 mod key;
 mod members;
 mod number;
 mod scalar;
+mod straight;
 mod string;
 mod value;
 
 pub use ast::JsonAst;
-use build::{Build, NotBuilt};
+use handler::{Failed, Handler};
 pub use jsonb_scan::parser::{Mode, modes_compare};
 use jsonb_value::error::{Error, ParseErrorCode, Result};
 use jsonb_value::value::Value;
-use std::alloc::Global;
+use std::alloc::{AllocError, Global};
+pub use straight::{append_sort_key, append_text};
 
 /// Parses a whole text of standard JSON.
 ///
@@ -76,9 +79,9 @@ pub fn parse_value_standard_mode(alloc: Global, buf: &[u8]) -> Result<Value<'_>>
     // Each standard document is an extended one, of the same value.
     ensures extended { IfOk result (λ v. (u : Tree) × IsDocument extended buf.now u × Same u (view v)) }
 {
-    match read_document::<Value>(alloc, buf, Mode::Standard) {
+    match read_document::<Value>(&mut (), alloc, buf, Mode::Standard) {
         Ok(value) => Ok(value),
-        Err(failure) => value_of_tree(alloc, buf, Mode::Standard, failure),
+        Err(told) => value_of_tree(alloc, buf, Mode::Standard, told),
     }
 }
 
@@ -116,18 +119,19 @@ pub fn parse_value(alloc: Global, buf: &[u8]) -> Result<Value<'_>>
     ensures in_range { IfOk result (λ v. IsInRange (view v)) }
     ensures proper { IfOk result (λ v. IsProper (view v)) }
 {
-    match read_document::<Value>(alloc, buf, Mode::Extended) {
+    match read_document::<Value>(&mut (), alloc, buf, Mode::Extended) {
         Ok(value) => Ok(value),
-        Err(failure) => value_of_tree(alloc, buf, Mode::Extended, failure),
+        Err(told) => value_of_tree(alloc, buf, Mode::Extended, told),
     }
 }
 
-// What is returned of a text where no value was built at once: what is wrong with it, as its tree tells. It is a call of
-// its own, so that no room for a tree is made and cleared before each text.
+// What is returned of a text of which no value was made: the error that was told, or, where a key comes twice, what the
+// text's tree tells. It is a call of its own, so that no room for a tree is made and cleared before each text.
 #[cold]
 #[inline(never)]
-fn value_of_tree(alloc: Global, buf: &[u8], mode: Mode, failure: NotBuilt) -> Result<Value<'_>>
-    requires { told_of failure ≡ Some Error.OutOfMemory → MayAllocate buf.now }
+fn value_of_tree(alloc: Global, buf: &[u8], mode: Mode, told: Option<Error>) -> Result<Value<'_>>
+    requires misses { Misses true told (source_of (mode_of mode) buf.now) }
+    requires memory { told ≡ Some Error.OutOfMemory → MayAllocate buf.now }
     ensures document { IfOk result (λ v. IsDocument (mode_of mode) buf.now (view v)) }
     ensures only { IfOk result (λ v. (t : Tree) → IsDocument (mode_of mode) buf.now t → t ≡ view v) }
     ensures refused { IfErr result (λ e. e ≢ Error.OutOfMemory → IsNoDocument (mode_of mode) buf.now) }
@@ -136,20 +140,24 @@ fn value_of_tree(alloc: Global, buf: &[u8], mode: Mode, failure: NotBuilt) -> Re
     ensures exact { Gives view result (document_of (mode_of mode) buf.now) }
     ensures explained { IfErr result (IsExplained (mode_of mode) buf.now) }
 {
-    match failure {
-        NotBuilt::OutOfMemory => Err(Error::OutOfMemory),
-        NotBuilt::Fault => JsonAst::parse(alloc, buf, mode)?.into_value(alloc),
+    match told {
+        Some(error) => Err(error),
+        None => JsonAst::parse(alloc, buf, mode)?.into_value(alloc),
     }
 }
 
-// What is built of a whole text.
-fn read_document<'a, V: Build<'a>>(
+// What a handler makes of a whole text, or what is wrong with it. Nothing is told only by a handler that is silent.
+fn read_document<'a, V: Handler<'a>>(
+    room: &mut V::Room,
     alloc: Global,
     buf: &'a [u8],
     mode: Mode,
-) -> std::result::Result<V, V::Failure>
-    ensures reads { BuildsAll V.told V.sees result (source_of (mode_of mode) buf.now) }
-    ensures memory { IfErr result (λ f. V.told f ≡ Some Error.OutOfMemory → MayAllocate buf.now) }
+) -> std::result::Result<V, Option<Error>>
+    ensures reads { V.stands buf.now room.old true [] []
+        → BuildsAll V.silent (λ v s. V.filled buf.now room.new v s [] []) result (source_of (mode_of mode) buf.now) }
+    ensures memory { IfErr result (λ told. told ≡ Some Error.OutOfMemory
+        → MayAllocate buf.now ⊎ IsWritten V.writes (source_of (mode_of mode) buf.now)) }
+    ensures base { V.base room.new ≡ V.base room.old }
 {
     // Strings without escapes are cut out of the text, which is tested once. Where a comment isn't UTF-8, each string
     // is tested alone, as none can be cut out.
@@ -159,8 +167,12 @@ fn read_document<'a, V: Build<'a>>(
         mode,
         buf,
         idx: 0,
+        told: None,
     };
-    parser.parse_document(text)
+    match parser.parse_document::<V>(room, text) {
+        Ok(value) => Ok(value),
+        Err(Failed) => Err(parser.told),
+    }
 }
 
 // The bytes as text, where they are UTF-8. The call for long texts looks at 64 bytes at once.
@@ -174,13 +186,15 @@ fn whole_text(bytes: &[u8]) -> Option<&str>
     simdutf8::basic::from_utf8(bytes).ok()
 }
 
-// A reader that stands at the index `idx` of its input.
+// A parser that stands at the index `idx` of its text.
 #[derive(Drop)]
 struct Parser<'a> {
     alloc: Global,
     mode: Mode,
     buf: &'a [u8],
     idx: usize,
+    // What is wrong, once a call failed.
+    told: Option<Error>,
 }
 
 impl<'a> Parser<'a> {
@@ -240,35 +254,118 @@ impl<'a> Parser<'a> {
         }
     }
 
-    // A value with blanks round it, up to the end of the text.
-    fn parse_document<V: Build<'a>>(&mut self, text: &'a str) -> std::result::Result<V, V::Failure>
+    // Fails, and tells why.
+    #[cold]
+    #[inline(never)]
+    fn fail(&mut self, error: Error) -> Failed
+        ensures told { self.new.told ≡ Some error }
+        ensures advances { Advances self.old self.new }
+    {
+        self.told = Some(error);
+        Failed
+    }
+
+    // Fails for want of memory.
+    #[cold]
+    #[inline(never)]
+    fn out_of_memory(&mut self) -> Failed
+        ensures told { self.new.told ≡ Some Error.OutOfMemory }
+        ensures advances { Advances self.old self.new }
+    {
+        self.told = Some(Error::OutOfMemory);
+        Failed
+    }
+
+    // Fails, and tells nothing.
+    #[cold]
+    #[inline(never)]
+    fn untold(&mut self) -> Failed
+        ensures told { self.new.told ≡ None }
+        ensures advances { Advances self.old self.new }
+    {
+        self.told = None;
+        Failed
+    }
+
+    // What a call returns that takes memory.
+    #[inline(always)]
+    fn kept<T>(
+        &mut self,
+        made: std::result::Result<T, AllocError>,
+    ) -> std::result::Result<T, Failed>
+        ensures same { IfOk result (λ x. (made ≡ Ok x) × (self.new ≡ self.old)) }
+        ensures memory { IfErr result (λ _. self.new.told ≡ Some Error.OutOfMemory) }
+        ensures advances { Advances self.old self.new }
+    {
+        match made {
+            Ok(made) => Ok(made),
+            Err(_) => Err(self.out_of_memory()),
+        }
+    }
+
+    // A value with whitespace round it, up to the end of the text.
+    fn parse_document<V: Handler<'a>>(
+        &mut self,
+        room: &mut V::Room,
+        text: &'a str,
+    ) -> std::result::Result<V, Failed>
         requires inside { self.old.idx ≤ size_of self.old }
         requires same { text.now ≡ take (length text.now) self.old.buf.now }
-        ensures reads { BuildsAll V.told V.sees result (source_from (size_of self.old) (mode_of self.old.mode)
-            (skip_closed_blanks (mode_of self.old.mode) (rest_of self.old))) }
-        ensures memory { IfErr result (λ f. V.told f ≡ Some Error.OutOfMemory → MayAllocate self.old.buf.now) }
+        ensures reads { V.stands self.old.buf.now room.old true [] []
+            → ElseFails V.silent self.new.told result (source_from (size_of self.old) (mode_of self.old.mode)
+            (skip_closed_blanks (mode_of self.old.mode) (rest_of self.old))) (λ v. (s : Source)
+            × V.filled self.old.buf.now room.new v s [] [] × (source_from (size_of self.old) (mode_of self.old.mode)
+            (skip_closed_blanks (mode_of self.old.mode) (rest_of self.old)) ≡ Ok s)) }
+        ensures memory { IfErr result (λ _. self.new.told ≡ Some Error.OutOfMemory → MayAllocate self.old.buf.now
+            ⊎ IsWritten V.writes (source_from (size_of self.old) (mode_of self.old.mode)
+            (skip_closed_blanks (mode_of self.old.mode) (rest_of self.old)))) }
+        ensures base { V.base room.new ≡ V.base room.old }
     {
         self.skip_closed_blanks();
         if self.idx >= self.buf.len() {
             return match self.mode {
-                Mode::Standard => Err(V::failure(Error::Syntax(
-                    ParseErrorCode::InvalidEOF,
-                    self.buf.len(),
-                ))),
-                Mode::Extended => Ok(V::null()),
+                Mode::Standard => {
+                    Err(self.fail(Error::Syntax(ParseErrorCode::InvalidEOF, self.buf.len())))
+                }
+                Mode::Extended => self.put_root::<V>(room, V::null()),
             };
         }
         if self.opens_comment() {
             if let Err(error) = self.end_in_comment() {
-                return Err(V::failure(error));
+                return Err(self.fail(error));
             }
-            return Ok(V::null());
+            return self.put_root::<V>(room, V::null());
         }
-        let value = self.parse_value::<V>(text)?;
+        if self.begins_container() {
+            let value = self.parse_container::<V>(room, text)?;
+            if let Err(error) = self.end_document() {
+                value.dismantle();
+                return Err(self.fail(error));
+            }
+            return Ok(value);
+        }
+        let value = self.parse_scalar::<V>(text)?;
         if let Err(error) = self.end_document() {
-            value.dismantle();
-            return Err(V::failure(error));
+            return Err(self.fail(error));
         }
+        self.put_root::<V>(room, value)
+    }
+
+    // Puts in a scalar that is a text's value.
+    #[inline(always)]
+    fn put_root<V: Handler<'a>>(
+        &mut self,
+        room: &mut V::Room,
+        value: V,
+    ) -> std::result::Result<V, Failed>
+        ensures put { IfOk result (λ v. (text : List ℕ) → (s : Source) → V.stands text room.old true [] []
+            → V.sees value s → V.filled text room.new v s [] []) }
+        ensures memory { IfErr result (λ _. (self.new.told ≡ Some Error.OutOfMemory) × (V.writes ≡ true)) }
+        ensures base { V.base room.new ≡ V.base room.old }
+    {
+        let Ok(()) = V::root(room, &value, 0, 0) else {
+            return Err(self.out_of_memory());
+        };
         Ok(value)
     }
 

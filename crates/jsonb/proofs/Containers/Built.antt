@@ -1,5 +1,5 @@
 -- What the two makers build holds what was parsed.
-use Rattle.std.proofs.Common.{◌≡◌, ◌≢◌, ℕ, Bool, true, false, MatchBool, cond, List, [], ◌∷◌, ◌++◌, map, String, Vec, Global, rules, Some, None, Ok, Less, Equal, Greater, is_eq, string_bytes, string_cmp, nat_cmp, refl, sym, ap, ap₂, subst, ◌∙◌}
+use Rattle.std.proofs.Common.{◌≡◌, ◌≢◌, ℕ, Bool, true, false, MatchBool, cond, List, [], ◌∷◌, ◌++◌, map, String, Vec, Global, rules, Option, Result, Some, None, Ok, Err, IfOk, OnOk, Less, Equal, Greater, is_eq, string_bytes, string_cmp, nat_cmp, refl, sym, ap, ap₂, subst, ◌∙◌}
 use Rattle.std.proofs.lemmas.Cmp.{nat_list_cmp_total, tied_itself}
 use Rattle.std.proofs.lemmas.List.{map-append}
 use Rattle.std.specs.BTreeMap.{insert_entry, is_at}
@@ -14,13 +14,12 @@ use Rattle.jsonb_value.specs.View.{members_view, view}
 use Rattle.jsonb_value.specs.declared.value.Value.{Value, the_lemmas}
 use Rattle.jsonb_value.specs.declared.value.Value as value
 use Rattle.jsonb_value.proofs.Values.Members.{Entry, members_view-insert_entry}
-use Rattle.jsonb.specs.Build.{AreSeen, MapHolds, found_keys, names}
-use Rattle.jsonb.specs.Frames.{Completes, FrameHolds, finish_container}
+use Rattle.jsonb_value.specs.declared.error.Error.{Error}
+use Rattle.jsonb.specs.Handler.{AreSeen, ElseFails, MapHolds, found_keys, names}
+use Rattle.jsonb.specs.Frames.{IsObject, finish_container}
 use Rattle.jsonb.specs.Stack.{object_end}
 use Rattle.jsonb_scan.specs.Open.{Open}
 use Rattle.jsonb_scan.specs.Open.{elements_so_far, members_so_far}
-use Rattle.jsonb.specs.declared.parser.value.Frame.{Frame}
-use Rattle.jsonb.specs.declared.parser.value.Frame.TheVariants as variants
 use Rattle.jsonb.specs.Source.{source_view}
 use Rattle.jsonb.specs.declared.parser.ast.JsonAst.{JsonAst}
 use Rattle.jsonb.specs.declared.parser.ast.JsonAst as ast
@@ -53,14 +52,12 @@ array_of_values v w ss same seen =
 pub array_of_asts : (v : Vec JsonAst Global) (ss : List Source) → AreSeen (λ x s. source_view x ≡ s) v.items ss → source_view (ast.Array v) ≡ array_source_of ss
 array_of_asts v ss seen = source-Array v ∙ ap array_source_of (seen_map source_view (λ s. s) v.items ss seen ∙ same-sources ss)
 
--- an array that is open is finished as it stands
-module _ {V M K : Type 0} (Sees : V → Source → Type 0) (Names : K → Mark × List ℕ → ℕ → Type 0) (Holds : M → List Found → Type 0) (Done : M → Source → Type 0) where
-  ends-array : (v : Vec V Global) (c : Open) (rest : List ℕ) → FrameHolds {V = V} {M = M} {K = K} Sees Names Holds (variants.Array v) c → (s : Source) × Completes {V = V} {M = M} {K = K} Sees Done (variants.Array v) s × (finish_container c rest ≡ Ok (s, rest))
-  ends-array v (elements_so_far ss) rest held = (array_source_of ss, (ss, held, refl), refl)
-  ends-array v (members_so_far fs key place) rest held = absurd held
-
-  pub array_end_of : (f : Frame V M K) (v : Vec V Global) (c : Open) (rest : List ℕ) → f ≡ variants.Array v → FrameHolds Sees Names Holds f c → (s : Source) × Completes Sees Done f s × (finish_container c rest ≡ Ok (s, rest))
-  array_end_of f v c rest is = subst (λ g. FrameHolds Sees Names Holds g c → (s : Source) × Completes Sees Done g s × (finish_container c rest ≡ Ok (s, rest))) (sym is) (ends-array v c rest)
+-- an object that is open ends, or its fault is told
+pub object_ended : {X F : Type 0} (Stands : List Open → Type 0) (Done : Source → Type 0) (silent : Bool) (told : Option Error) (result : Result X F) (c : Open) (rest : List ℕ) (cs : List Open) → IsObject c → Stands (c ∷ cs)
+    → ((front : List Found) → (k : Mark × List ℕ) → (place : ℕ) → Stands (members_so_far front k place ∷ cs) → ElseFails silent told result (object_end front rest) (λ _. (s : Source) × Done s × (object_end front rest ≡ Ok (s, rest))))
+    → ElseFails silent told result (finish_container c rest) (λ _. (s : Source) × Done s × (finish_container c rest ≡ Ok (s, rest)))
+object_ended Stands Done silent told result (elements_so_far ss) rest cs is held ends = absurd is
+object_ended Stands Done silent told result (members_so_far fs key place) rest cs is held ends = ends fs key place held
 
 -- ---- the keys of a map
 
@@ -101,6 +98,23 @@ put_all-snoc (n ∷ ms) m done = put_all-snoc ms m (put n.0 n.1 done)
 pub if_new : {P : Type 0} (b : Bool) → b ≡ true → MatchBool b P (Unit {0}) → P
 if_new true e h = h
 if_new false e h = absurd cc
+
+-- what follows for what was put in
+pub on_ok : {X A P Q : Type 0} (r : Result X A) → (P → Q) → OnOk r P → OnOk r Q
+on_ok (Ok x) f h = f h
+on_ok (Err e) f h = tt
+
+-- a member that the map takes, or whose key it has
+pub if_put : {A E M P : Type 0} (r : Result Bool A) → IfOk r (λ _. E) → IfOk r (λ b. MatchBool b M (Unit {0})) → (E → M → P) → IfOk r (λ b. MatchBool b P (true ≡ true))
+if_put (Ok true) e m f = f e m
+if_put (Ok false) e m f = refl
+if_put (Err x) e m f = tt
+
+-- what is so of a member that was put in
+pub put_new : {A P : Type 0} (Q : Type 0) (r : Result Bool A) → r ≡ Ok true → IfOk r (λ b. MatchBool b P Q) → P
+put_new Q (Ok true) e h = h
+put_new Q (Ok false) e h = cc
+put_new Q (Err f) e h = cc
 
 -- one more member, whose key the map does not have
 pub put-more : (fs : List Found) (f : Found) (es more : List Entry) (k : String Global) (v : Value) → MapHolds fs es → more ≡ insert_entry string_cmp es k v → lookup (is_at (string_cmp k)) es ≡ None

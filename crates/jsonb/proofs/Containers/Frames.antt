@@ -1,6 +1,7 @@
 -- The parser's stack parses as the open containers do.
-use Rattle.std.proofs.Common.{◌≡◌, map, inl, inr, ℕ, zero, suc, ◌+◌, ◌-◌, ◌≤◌, Bool, true, false, cond, List, [], ◌∷◌, ◌++◌, length, take, get_or, set, Vec, Global, Option, Result, Ok, Err, IfErr, refl, sym, ap, ap₂, subst, ◌∙◌, arith, length-append, length-drop, drop, drop-drop, eqb, true≢false}
+use Rattle.std.proofs.Common.{◌≡◌, map, inl, inr, ℕ, zero, suc, ◌+◌, ◌-◌, ◌≤◌, Bool, true, false, cond, List, [], ◌∷◌, ◌++◌, length, take, get_or, set, Option, Result, Ok, Err, IfErr, refl, sym, ap, ap₂, subst, ◌∙◌, arith, length-append, length-drop, drop, drop-drop, eqb, true≢false, reverse}
 use Rattle.std.proofs.lemmas.Bool.{eqb-true}
+use Rattle.std.proofs.lemmas.List.{reverse-append}
 use Rattle.jsonb_value.specs.Code.{Code}
 use Rattle.jsonb_value.specs.Code.Code.{depth_limit_exceeded, expected_array_comma_or_end, expected_object_comma_or_end}
 use Rattle.jsonb_value.specs.Grammar.{AreDistinct, max_depth}
@@ -10,11 +11,11 @@ use Rattle.jsonb_value.specs.Tree.Mark.{plain}
 use Rattle.jsonb_value.specs.Tree.Tree.{null}
 use Rattle.jsonb_value.specs.declared.error.Error.{Error}
 use Rattle.jsonb.specs.declared.parser.Parser.{Parser}
-use Rattle.jsonb.specs.declared.parser.value.Frame.{Frame}
-use Rattle.jsonb.specs.declared.parser.value.OpenObject.{OpenObject}
-use Rattle.jsonb.specs.declared.parser.value.Frame.TheVariants as variants
-use Rattle.jsonb.specs.Build.{AreSeen, AsScalar, Builds, ElseFails, Misses, found_keys}
-use Rattle.jsonb.specs.Frames.{AtPart, BeforeValue, FrameHolds, FramesHold, FramesHoldOnto, IsRead, OpensContainer, ReadsParts, Remains, depth_within, finish_container, resume_part, resume_stack, resume_value, scalar_or_null}
+use Rattle.jsonb.specs.declared.parser.frame.Frame.{Frame}
+use Rattle.jsonb.specs.declared.parser.frame.OpenObject.{OpenObject}
+use Rattle.jsonb.specs.declared.parser.frame.Frame.TheVariants as variants
+use Rattle.jsonb.specs.Handler.{AreSeen, AsScalar, Builds, ElseFails, Misses, found_keys}
+use Rattle.jsonb.specs.Frames.{AllFit, AtPart, BeforeValue, Fits, IsArray, IsObject, IsRead, OpensContainer, ReadsParts, depth_within, finish_container, resume_part, resume_stack, resume_value, scalar_or_null}
 use Rattle.jsonb_scan.specs.Answer.{MayAllocate, mode_of}
 use Rattle.jsonb.specs.Parser.{Advances, read_at, rest_of, size_of}
 use Rattle.jsonb_scan.specs.Reading.{Fault, Read, begins, on_byte, refused, ◌>>=◌}
@@ -37,15 +38,15 @@ use Rattle.jsonb_scan.proofs.Steps.Tests.{chosen}
 -- ---- what is returned after a first step
 
 -- A step was built, and what comes after it is the whole; or its fault is that of the whole.
-pub builds_then : {X F Y B : Type 0} (told : F → Option Error) (See : X → Y → Type 0) (r : Result X F) (read : Read Y) (rest : List ℕ) (then : Y × List ℕ → Result B Fault) (whole : Result B Fault) (P : X → Type 0)
-    → Builds told See r read rest → whole ≡ (read >>= then) → ((x : X) (y : Y) → See x y → whole ≡ then (y, rest) → P x) → ElseFails told r whole P
-builds_then told See (Ok x) read rest then whole P b e f = f x b.0 b.1 (e ∙ ap (λ q. q >>= then) b.2)
-builds_then told See (Err t) read rest then whole P b e f = misses_same (told t) (read >>= then) whole e (misses_through (told t) read then b)
+pub builds_then : {X F Y B : Type 0} (silent : Bool) (told : Option Error) (See : X → Y → Type 0) (r : Result X F) (read : Read Y) (rest : List ℕ) (then : Y × List ℕ → Result B Fault) (whole : Result B Fault) (P : X → Type 0)
+    → Builds silent told See r read rest → whole ≡ (read >>= then) → ((x : X) (y : Y) → See x y → whole ≡ then (y, rest) → P x) → ElseFails silent told r whole P
+builds_then silent told See (Ok x) read rest then whole P b e f = f x b.0 b.1 (e ∙ ap (λ q. q >>= then) b.2)
+builds_then silent told See (Err t) read rest then whole P b e f = misses_same silent told (read >>= then) whole e (misses_through silent told read then b)
 
 -- a value that holds no others
-pub builds_alone : {X F : Type 0} (told : F → Option Error) (Sees : X → Source → Type 0) (r : Result X F) (read : Read Tree) (rest : List ℕ) → Builds told (AsScalar Sees) r read rest → Builds told Sees r (alone_at read) rest
-builds_alone told Sees (Ok x) read rest b = (source_alone b.0, b.1, ap alone_at b.2)
-builds_alone told Sees (Err f) read rest b = misses_through (told f) read (λ x. Ok (source_alone x.0, x.1)) b
+pub builds_alone : {X F : Type 0} (silent : Bool) (told : Option Error) (Sees : X → Source → Type 0) (r : Result X F) (read : Read Tree) (rest : List ℕ) → Builds silent told (AsScalar Sees) r read rest → Builds silent told Sees r (alone_at read) rest
+builds_alone silent told Sees (Ok x) read rest b = (source_alone b.0, b.1, ap alone_at b.2)
+builds_alone silent told Sees (Err f) read rest b = misses_through silent told read (λ x. Ok (source_alone x.0, x.1)) b
 
 pub each_error : {X F : Type 0} {P : F → Type 0} (r : Result X F) → ((f : F) → P f) → IfErr r P
 each_error (Ok x) h = tt
@@ -178,6 +179,11 @@ only_one [] e = absurd (omega arith)
 only_one (f ∷ []) e = (f, refl)
 only_one (f ∷ x ∷ fs) e = absurd (omega arith)
 
+pub last_of_one : {A : Type 0} (xs : List A) (x y : A) → xs ++ x ∷ [] ≡ y ∷ [] → x ≡ y
+last_of_one [] x y e = cc e
+last_of_one (z ∷ []) x y e = absurd (omega (arith, ap length e))
+last_of_one (z ∷ w ∷ xs) x y e = absurd (omega (arith, ap length e, length-append xs (x ∷ [])))
+
 -- ---- the byte that opens a container
 
 -- a byte that comes next
@@ -229,90 +235,96 @@ outer-same p q depth closed cs bytes a = sym (ap₂ (λ n m. resume_stack n m de
 
 -- ---- the stack
 
-module _ {V M K : Type 0} (Sees : V → Source → Type 0) (Names : K → Mark × List ℕ → ℕ → Type 0) (Holds : M → List Found → Type 0) where
-  held-push : (below : List Open) (fs : List (Frame V M K)) (cs : List Open) (f : Frame V M K) (c : Open) → FramesHoldOnto Sees Names Holds below fs cs → FrameHolds Sees Names Holds f c → FramesHoldOnto Sees Names Holds below (fs ++ f ∷ []) (c ∷ cs)
-  held-push below [] cs f c h i = (c, i, ap (λ (ds : List Open). c ∷ ds) h)
-  held-push below (g ∷ fs) cs f c h i = (h.0, h.1, held-push (h.0 ∷ below) fs cs f c h.2 i)
+-- The innermost container is the last of the stack, and the first of those that are told.
+pub innermost_first : {A : Type 0} (fs : List A) (f : A) → reverse (fs ++ f ∷ []) ≡ f ∷ reverse fs
+innermost_first fs f = reverse-append fs (f ∷ [])
 
-  -- the innermost, and the others
-  record Innermost (below : List Open) (fs : List (Frame V M K)) (f : Frame V M K) (cs : List Open) : Type 0 where
-    pub inner : Open
-    pub others : List Open
-    pub are : cs ≡ inner ∷ others
-    pub held : FrameHolds Sees Names Holds f inner
-    pub below_held : FramesHoldOnto Sees Names Holds below fs others
+-- the innermost container, and the others
+pub record Innermost {I M K : Type 0} (Stands : Bool → List (Frame I M K) → List Open → Type 0) (due : Bool) (below : List (Frame I M K)) (f : Frame I M K) (cs : List Open) : Type 0 where
+  pub inner : Open
+  pub others : List Open
+  pub are : cs ≡ inner ∷ others
+  pub fits : Fits f inner
+  pub others_fit : AllFit below others
+  pub held : Stands due (f ∷ below) (inner ∷ others)
 
-  held-pop : (below : List Open) (fs : List (Frame V M K)) (f : Frame V M K) (cs : List Open) → FramesHoldOnto Sees Names Holds below (fs ++ f ∷ []) cs → Innermost below fs f cs
-  held-pop below [] f cs h = record { inner = h.0; others = below; are = h.2; held = h.1; below_held = refl }
-  held-pop below (g ∷ fs) f cs h =
-      let r = held-pop (h.0 ∷ below) fs f cs h.2 in
-      record { inner = r.inner; others = r.others; are = r.are; held = r.held; below_held = (h.0, h.1, r.below_held) }
+innermost : {I M K : Type 0} (Stands : Bool → List (Frame I M K) → List Open → Type 0) (due : Bool) (below : List (Frame I M K)) (f : Frame I M K) (cs : List Open) → AllFit (f ∷ below) cs → Stands due (f ∷ below) cs → Innermost Stands due below f cs
+innermost Stands due below f [] fit held = absurd fit
+innermost Stands due below f (c ∷ cs) fit held = record { inner = c; others = cs; are = refl; fits = fit.0; others_fit = fit.1; held = held }
 
-  innermost_of : (fs gs : List (Frame V M K)) (f : Frame V M K) (cs : List Open) → gs ≡ fs ++ f ∷ [] → FramesHold Sees Names Holds gs cs → Innermost [] fs f cs
-  innermost_of fs gs f cs e h = held-pop [] fs f cs (subst (λ hs. FramesHold Sees Names Holds hs cs) e h)
+pub innermost_of : {I M K : Type 0} (Stands : Bool → List (Frame I M K) → List Open → Type 0) (due : Bool) (fs gs : List (Frame I M K)) (f : Frame I M K) (cs : List Open) → gs ≡ fs ++ f ∷ [] → AllFit (reverse gs) cs → Stands due (reverse gs) cs → Innermost Stands due (reverse fs) f cs
+innermost_of Stands due fs gs f cs e fit held =
+    let turned = ap reverse e ∙ innermost_first fs f in
+    innermost Stands due (reverse fs) f cs (subst (λ hs. AllFit hs cs) turned fit) (subst (λ hs. Stands due hs cs) turned held)
 
-  pushed-on : (fs gs : List (Frame V M K)) (f : Frame V M K) (c : Open) (cs : List Open) → gs ≡ fs ++ f ∷ [] → FramesHold Sees Names Holds fs cs → FrameHolds Sees Names Holds f c → FramesHold Sees Names Holds gs (c ∷ cs)
-  pushed-on fs gs f c cs e h i = subst (λ hs. FramesHold Sees Names Holds hs (c ∷ cs)) (sym e) (held-push [] fs cs f c h i)
+-- no other is open
+none_open : (I M K : Type 0) (cs : List Open) → AllFit {I = I} {M = M} {K = K} [] cs → cs ≡ []
+none_open I M K [] fit = refl
+none_open I M K (c ∷ cs) fit = absurd fit
 
-  -- no container is open yet
-  pub outermost_due : (p : Parser) (fs : List (Frame V M K)) → fs ≡ [] → BeforeValue Sees Names Holds (value_at (size_of p) (mode_of p.mode) max_depth (rest_of p)) p fs
-  outermost_due p fs e =
-      subst (λ gs. BeforeValue Sees Names Holds (value_at (size_of p) (mode_of p.mode) max_depth (rest_of p)) p gs) (sym e)
-      (record { opens = []; held = refl; reads = sym (resume-none (size_of p) (mode_of p.mode) max_depth (value_at (size_of p) (mode_of p.mode) max_depth (rest_of p))) })
+-- no container is open yet
+pub outermost_due : {I M K : Type 0} (Stands : Bool → List (Frame I M K) → List Open → Type 0) (p : Parser) (fs : List (Frame I M K)) → fs ≡ [] → Stands true [] [] → BeforeValue Stands (value_at (size_of p) (mode_of p.mode) max_depth (rest_of p)) p fs
+outermost_due Stands p fs e held =
+    subst (λ gs. BeforeValue Stands (value_at (size_of p) (mode_of p.mode) max_depth (rest_of p)) p gs) (sym e)
+    (record { opens = []; fit = tt; held = held; reads = sym (resume-none (size_of p) (mode_of p.mode) max_depth (value_at (size_of p) (mode_of p.mode) max_depth (rest_of p))) })
 
-  -- as many are open as may be
-  pub too_many : (p : Parser) (fs : List (Frame V M K)) (whole : Read Source) → length fs ≡ max_depth → OpensContainer (rest_of p) → BeforeValue Sees Names Holds whole p fs → whole ≡ Err (record { code = depth_limit_exceeded; place = p.idx + 1 })
-  too_many p fs whole full opens due =
-      let none : depth_within Sees Names Holds fs ≡ 0 = omega arith in
-      due.reads
-      ∙ ap (λ n. value_at (size_of p) (mode_of p.mode) n (rest_of p) >>= resume (size_of p) (mode_of p.mode) n due.opens) none
-      ∙ ap (λ (r : Read Source). r >>= resume (size_of p) (mode_of p.mode) 0 due.opens) (refused_here opens)
-    where
-      place-is : (c : ℕ) → rest_of p ≡ c ∷ drop (p.idx + 1) p.buf.now → size_of p - length (drop (p.idx + 1) p.buf.now) ≡ p.idx + 1
-      place-is c e = omega (arith, ap length e, length-drop p.idx p.buf.now, length-drop (p.idx + 1) p.buf.now)
+-- as many are open as may be
+pub too_many : {I M K : Type 0} (Stands : Bool → List (Frame I M K) → List Open → Type 0) (p : Parser) (fs : List (Frame I M K)) (whole : Read Source) → length fs ≡ max_depth → OpensContainer (rest_of p) → BeforeValue Stands whole p fs → whole ≡ Err (record { code = depth_limit_exceeded; place = p.idx + 1 })
+too_many Stands p fs whole full opens due =
+    let none : depth_within fs ≡ 0 = omega arith in
+    due.reads
+    ∙ ap (λ n. value_at (size_of p) (mode_of p.mode) n (rest_of p) >>= resume (size_of p) (mode_of p.mode) n due.opens) none
+    ∙ ap (λ (r : Read Source). r >>= resume (size_of p) (mode_of p.mode) 0 due.opens) (refused_here opens)
+  where
+    place-is : (c : ℕ) → rest_of p ≡ c ∷ drop (p.idx + 1) p.buf.now → size_of p - length (drop (p.idx + 1) p.buf.now) ≡ p.idx + 1
+    place-is c e = omega (arith, ap length e, length-drop p.idx p.buf.now, length-drop (p.idx + 1) p.buf.now)
 
-      refused_here : OpensContainer (rest_of p) → value_at (size_of p) (mode_of p.mode) 0 (rest_of p) ≡ Err (record { code = depth_limit_exceeded; place = p.idx + 1 })
-      refused_here (inl e) =
-          let next = next_found 91 p e in
-          ap (λ r. value_at (size_of p) (mode_of p.mode) 0 r) next
-          ∙ array-value (size_of p) (mode_of p.mode) 0 (drop (p.idx + 1) p.buf.now)
-          ∙ ap (λ n. Err (record { code = depth_limit_exceeded; place = n })) (place-is 91 next)
-      refused_here (inr e) =
-          let next = next_found 123 p e in
-          ap (λ r. value_at (size_of p) (mode_of p.mode) 0 r) next
-          ∙ object-value (size_of p) (mode_of p.mode) 0 (drop (p.idx + 1) p.buf.now)
-          ∙ ap (λ n. Err (record { code = depth_limit_exceeded; place = n })) (place-is 123 next)
+    refused_here : OpensContainer (rest_of p) → value_at (size_of p) (mode_of p.mode) 0 (rest_of p) ≡ Err (record { code = depth_limit_exceeded; place = p.idx + 1 })
+    refused_here (inl e) =
+        let next = next_found 91 p e in
+        ap (λ r. value_at (size_of p) (mode_of p.mode) 0 r) next
+        ∙ array-value (size_of p) (mode_of p.mode) 0 (drop (p.idx + 1) p.buf.now)
+        ∙ ap (λ n. Err (record { code = depth_limit_exceeded; place = n })) (place-is 91 next)
+    refused_here (inr e) =
+        let next = next_found 123 p e in
+        ap (λ r. value_at (size_of p) (mode_of p.mode) 0 r) next
+        ∙ object-value (size_of p) (mode_of p.mode) 0 (drop (p.idx + 1) p.buf.now)
+        ∙ ap (λ n. Err (record { code = depth_limit_exceeded; place = n })) (place-is 123 next)
 
+-- Old and New are what the room stands for before and after a step.
+module _ {I M K : Type 0} (Old New : Bool → List (Frame I M K) → List Open → Type 0) where
   -- a container was pushed that is read from here on
-  opened : (p q : Parser) (fs gs : List (Frame V M K)) (f : Frame V M K) (c : Open) (closed : Bool) (whole : Read Source) → Advances p q → gs ≡ fs ++ f ∷ [] → FrameHolds Sees Names Holds f c → length gs ≤ max_depth
+  opened : (p q : Parser) (fs gs : List (Frame I M K)) (f : Frame I M K) (c : Open) (closed : Bool) (whole : Read Source) → Advances p q → gs ≡ fs ++ f ∷ [] → Fits f c → ((cs : List Open) → Old true (reverse fs) cs → New false (f ∷ reverse fs) (c ∷ cs)) → length gs ≤ max_depth
       → ((depth : ℕ) → value_at (size_of p) (mode_of p.mode) (suc depth) (rest_of p) ≡ resume_part (size_of p) (mode_of p.mode) depth closed c (rest_of q))
-      → BeforeValue Sees Names Holds whole p fs → AtPart Sees Names Holds whole q gs closed
-  opened p q fs gs f c closed whole a e held fits reads due =
-      let deep : depth_within Sees Names Holds fs ≡ suc (depth_within Sees Names Holds gs) = omega (arith, ap length e, length-append fs (f ∷ [])) in
+      → BeforeValue Old whole p fs → AtPart New whole q gs closed
+  opened p q fs gs f c closed whole a e fits held within reads due =
+      let deep : depth_within fs ≡ suc (depth_within gs) = omega (arith, ap length e, length-append fs (f ∷ [])) in
+      let turned = sym (ap reverse e ∙ innermost_first fs f) in
       record {
         opens = c ∷ due.opens;
-        held = pushed-on fs gs f c due.opens e due.held held;
+        fit = subst (λ hs. AllFit hs (c ∷ due.opens)) turned (fits, due.fit);
+        held = subst (λ hs. New false hs (c ∷ due.opens)) turned (held due.opens due.held);
         reads =
             due.reads
             ∙ ap (λ n. value_at (size_of p) (mode_of p.mode) n (rest_of p) >>= resume (size_of p) (mode_of p.mode) n due.opens) deep
-            ∙ ap (λ r. r >>= resume (size_of p) (mode_of p.mode) (suc (depth_within Sees Names Holds gs)) due.opens) (reads (depth_within Sees Names Holds gs))
-            ∙ outer-same p q (depth_within Sees Names Holds gs) closed (c ∷ due.opens) (rest_of q) a;
+            ∙ ap (λ r. r >>= resume (size_of p) (mode_of p.mode) (suc (depth_within gs)) due.opens) (reads (depth_within gs))
+            ∙ outer-same p q (depth_within gs) closed (c ∷ due.opens) (rest_of q) a;
       }
 
-  pub array_opened : (p o s q : Parser) (fs gs : List (Frame V M K)) (v : Vec V Global) (closed : Bool) (whole : Read Source) → Advances p o → Advances p q → rest_of p ≡ 91 ∷ rest_of o → rest_of s ≡ skip_blanks (mode_of o.mode) (rest_of o)
-      → closed ≡ begins 93 (rest_of s) → cond closed (rest_of s ≡ 93 ∷ rest_of q) (q ≡ s) → v.items ≡ [] → gs ≡ fs ++ variants.Array v ∷ [] → length gs ≤ max_depth → BeforeValue Sees Names Holds whole p fs → AtPart Sees Names Holds whole q gs closed
-  array_opened p o s q fs gs v closed whole a b bracket skipped found closes none e fits due =
-      opened p q fs gs (variants.Array v) (elements_so_far []) closed whole b e (subst (λ vs. AreSeen Sees vs []) (sym none) tt) fits
+  pub array_opened : (p o s q : Parser) (fs gs : List (Frame I M K)) (v : I) (closed : Bool) (whole : Read Source) → Advances p o → Advances p q → rest_of p ≡ 91 ∷ rest_of o → rest_of s ≡ skip_blanks (mode_of o.mode) (rest_of o)
+      → closed ≡ begins 93 (rest_of s) → cond closed (rest_of s ≡ 93 ∷ rest_of q) (q ≡ s) → ((cs : List Open) → Old true (reverse fs) cs → New false (variants.Array v ∷ reverse fs) (elements_so_far [] ∷ cs)) → gs ≡ fs ++ variants.Array v ∷ [] → length gs ≤ max_depth → BeforeValue Old whole p fs → AtPart New whole q gs closed
+  array_opened p o s q fs gs v closed whole a b bracket skipped found closes held e fits due =
+      opened p q fs gs (variants.Array v) (elements_so_far []) closed whole b e tt held fits
       (λ depth.
       ap (λ r. value_at (size_of p) (mode_of p.mode) (suc depth) r) bracket
       ∙ array-value (size_of p) (mode_of p.mode) (suc depth) (rest_of o)
       ∙ array-starts (size_of p) (mode_of p.mode) depth (rest_of o) (rest_of q) closed (closing 93 (mode_of p.mode) (rest_of o) s q closed (skipped ∙ sym (skip_same p o (rest_of o) a)) found closes))
       due
 
-  pub object_opened : (p o s q : Parser) (fs gs : List (Frame V M K)) (f : Frame V M K) (key : Mark × List ℕ) (place : ℕ) (closed : Bool) (whole : Read Source) → Advances p o → Advances p q → rest_of p ≡ 123 ∷ rest_of o → rest_of s ≡ skip_blanks (mode_of o.mode) (rest_of o)
-      → closed ≡ begins 125 (rest_of s) → cond closed (rest_of s ≡ 125 ∷ rest_of q) (q ≡ s) → FrameHolds Sees Names Holds f (members_so_far [] key place) → gs ≡ fs ++ f ∷ [] → length gs ≤ max_depth → BeforeValue Sees Names Holds whole p fs → AtPart Sees Names Holds whole q gs closed
-  object_opened p o s q fs gs f key place closed whole a b brace skipped found closes held e fits due =
-      opened p q fs gs f (members_so_far [] key place) closed whole b e held fits
+  pub object_opened : (p o s q : Parser) (fs gs : List (Frame I M K)) (v : OpenObject M K) (key : Mark × List ℕ) (place : ℕ) (closed : Bool) (whole : Read Source) → Advances p o → Advances p q → rest_of p ≡ 123 ∷ rest_of o → rest_of s ≡ skip_blanks (mode_of o.mode) (rest_of o)
+      → closed ≡ begins 125 (rest_of s) → cond closed (rest_of s ≡ 125 ∷ rest_of q) (q ≡ s) → ((cs : List Open) → Old true (reverse fs) cs → New false (variants.Object v ∷ reverse fs) (members_so_far [] key place ∷ cs)) → gs ≡ fs ++ variants.Object v ∷ [] → length gs ≤ max_depth → BeforeValue Old whole p fs → AtPart New whole q gs closed
+  object_opened p o s q fs gs v key place closed whole a b brace skipped found closes held e fits due =
+      opened p q fs gs (variants.Object v) (members_so_far [] key place) closed whole b e tt held fits
       (λ depth.
       ap (λ r. value_at (size_of p) (mode_of p.mode) (suc depth) r) brace
       ∙ object-value (size_of p) (mode_of p.mode) (suc depth) (rest_of o)
@@ -321,149 +333,173 @@ module _ {V M K : Type 0} (Sees : V → Source → Type 0) (Names : K → Mark �
 
   -- ---- parts are read
 
-  same_depth : (fs gs hs : List (Frame V M K)) (f g : Frame V M K) → fs ≡ hs ++ f ∷ [] → gs ≡ hs ++ g ∷ [] → depth_within Sees Names Holds gs ≡ depth_within Sees Names Holds fs
+  same_depth : (fs gs hs : List (Frame I M K)) (f g : Frame I M K) → fs ≡ hs ++ f ∷ [] → gs ≡ hs ++ g ∷ [] → depth_within gs ≡ depth_within fs
   same_depth fs gs hs f g e d = ap (λ n. max_depth - n) (let same : length gs ≡ length fs = omega (arith, ap length e, ap length d, length-append hs (f ∷ []), length-append hs (g ∷ [])) in same)
 
-  module _ (p q : Parser) (fs gs hs : List (Frame V M K)) (f g : Frame V M K) (whole : Read Source) (a : Advances p q) (e : fs ≡ hs ++ f ∷ []) (d : gs ≡ hs ++ g ∷ []) where
-    stopped : (closed : Bool) (ahead : AtPart Sees Names Holds whole p fs false) (i : Innermost [] hs f ahead.opens) (s : ReadsParts Sees Names Holds (size_of p) (mode_of p.mode) (depth_within Sees Names Holds fs) (next_part_at (size_of p) (mode_of p.mode) (depth_within Sees Names Holds fs) i.inner (rest_of p)) closed g (rest_of q))
-        → whole ≡ (resume_value (size_of p) (mode_of p.mode) (depth_within Sees Names Holds fs) closed s.so_far (rest_of q) >>= resume (size_of p) (mode_of p.mode) (suc (depth_within Sees Names Holds fs)) i.others)
+  module _ (p q : Parser) (fs gs hs : List (Frame I M K)) (f g : Frame I M K) (whole : Read Source) (a : Advances p q) (e : fs ≡ hs ++ f ∷ []) (d : gs ≡ hs ++ g ∷ []) where
+    stopped : (closed : Bool) (ahead : AtPart Old whole p fs false) (i : Innermost Old false (reverse hs) f ahead.opens) (s : ReadsParts New (size_of p) (mode_of p.mode) (depth_within fs) (next_part_at (size_of p) (mode_of p.mode) (depth_within fs) i.inner (rest_of p)) closed g (reverse hs) i.others (rest_of q))
+        → whole ≡ (resume_value (size_of p) (mode_of p.mode) (depth_within fs) closed s.so_far (rest_of q) >>= resume (size_of p) (mode_of p.mode) (suc (depth_within fs)) i.others)
     stopped closed ahead i s =
         ahead.reads
-        ∙ ap (λ cs. resume_stack (size_of p) (mode_of p.mode) (depth_within Sees Names Holds fs) false cs (rest_of p)) i.are
-        ∙ ap (λ (r : Read Source). r >>= resume (size_of p) (mode_of p.mode) (suc (depth_within Sees Names Holds fs)) i.others) s.reads
+        ∙ ap (λ cs. resume_stack (size_of p) (mode_of p.mode) (depth_within fs) false cs (rest_of p)) i.are
+        ∙ ap (λ (r : Read Source). r >>= resume (size_of p) (mode_of p.mode) (suc (depth_within fs)) i.others) s.reads
+
+    -- what stands once the innermost was read so far
+    stand_on : (due : Bool) (c : Open) (cs : List Open) → New due (g ∷ reverse hs) (c ∷ cs) → New due (reverse gs) (c ∷ cs)
+    stand_on due c cs h = subst (λ ks. New due ks (c ∷ cs)) (sym (ap reverse d ∙ innermost_first hs g)) h
+
+    fit_on : (c : Open) (cs : List Open) → Fits g c → AllFit (reverse hs) cs → AllFit (reverse gs) (c ∷ cs)
+    fit_on c cs h i = subst (λ ks. AllFit ks (c ∷ cs)) (sym (ap reverse d ∙ innermost_first hs g)) (h, i)
 
     -- up to the end of the container
-    pub filled : ((depth : ℕ) (c : Open) → FrameHolds Sees Names Holds f c → ReadsParts Sees Names Holds (size_of p) (mode_of p.mode) depth (next_part_at (size_of p) (mode_of p.mode) depth c (rest_of p)) true g (rest_of q))
-        → AtPart Sees Names Holds whole p fs false → AtPart Sees Names Holds whole q gs true
-    filled stops ahead =
-        let i = innermost_of hs fs f ahead.opens e ahead.held in
-        let s = stops (depth_within Sees Names Holds fs) i.inner i.held in
+    pub read_to_end : ((depth : ℕ) (c : Open) (ks : List (Frame I M K)) (cs : List Open) → Fits f c → Old false (f ∷ ks) (c ∷ cs) → ReadsParts New (size_of p) (mode_of p.mode) depth (next_part_at (size_of p) (mode_of p.mode) depth c (rest_of p)) true g ks cs (rest_of q))
+        → AtPart Old whole p fs false → AtPart New whole q gs true
+    read_to_end stops ahead =
+        let i = innermost_of Old false hs fs f ahead.opens e ahead.fit ahead.held in
+        let s = stops (depth_within fs) i.inner (reverse hs) i.others i.fits i.held in
         record {
           opens = s.so_far ∷ i.others;
-          held = pushed-on hs gs g s.so_far i.others d i.below_held s.held;
+          fit = fit_on s.so_far i.others s.fits i.others_fit;
+          held = stand_on false s.so_far i.others s.held;
           reads =
               stopped true ahead i s
-              ∙ outer-same p q (depth_within Sees Names Holds fs) true (s.so_far ∷ i.others) (rest_of q) a
+              ∙ outer-same p q (depth_within fs) true (s.so_far ∷ i.others) (rest_of q) a
               ∙ ap (λ n. resume_stack (size_of q) (mode_of q.mode) n true (s.so_far ∷ i.others) (rest_of q)) (sym (same_depth fs gs hs f g e d));
         }
 
     -- up to a part that is a container
-    pub stopped_due : ((depth : ℕ) (c : Open) → FrameHolds Sees Names Holds f c → ReadsParts Sees Names Holds (size_of p) (mode_of p.mode) depth (next_part_at (size_of p) (mode_of p.mode) depth c (rest_of p)) false g (rest_of q))
-        → AtPart Sees Names Holds whole p fs false → BeforeValue Sees Names Holds whole q gs
+    pub stopped_due : ((depth : ℕ) (c : Open) (ks : List (Frame I M K)) (cs : List Open) → Fits f c → Old false (f ∷ ks) (c ∷ cs) → ReadsParts New (size_of p) (mode_of p.mode) depth (next_part_at (size_of p) (mode_of p.mode) depth c (rest_of p)) false g ks cs (rest_of q))
+        → AtPart Old whole p fs false → BeforeValue New whole q gs
     stopped_due stops ahead =
-        let i = innermost_of hs fs f ahead.opens e ahead.held in
-        let s = stops (depth_within Sees Names Holds fs) i.inner i.held in
+        let i = innermost_of Old false hs fs f ahead.opens e ahead.fit ahead.held in
+        let s = stops (depth_within fs) i.inner (reverse hs) i.others i.fits i.held in
         record {
           opens = s.so_far ∷ i.others;
-          held = pushed-on hs gs g s.so_far i.others d i.below_held s.held;
+          fit = fit_on s.so_far i.others s.fits i.others_fit;
+          held = stand_on true s.so_far i.others s.held;
           reads =
               stopped false ahead i s
-              ∙ resume-part (size_of p) (mode_of p.mode) (depth_within Sees Names Holds fs) s.so_far i.others (value_at (size_of p) (mode_of p.mode) (depth_within Sees Names Holds fs) (rest_of q))
-              ∙ ap₂ (λ n m. value_at n m (depth_within Sees Names Holds fs) (rest_of q) >>= resume n m (depth_within Sees Names Holds fs) (s.so_far ∷ i.others)) (sym (same_size p q a)) (ap mode_of (sym a.mode))
+              ∙ resume-part (size_of p) (mode_of p.mode) (depth_within fs) s.so_far i.others (value_at (size_of p) (mode_of p.mode) (depth_within fs) (rest_of q))
+              ∙ ap₂ (λ n m. value_at n m (depth_within fs) (rest_of q) >>= resume n m (depth_within fs) (s.so_far ∷ i.others)) (sym (same_size p q a)) (ap mode_of (sym a.mode))
               ∙ ap (λ n. value_at (size_of q) (mode_of q.mode) n (rest_of q) >>= resume (size_of q) (mode_of q.mode) n (s.so_far ∷ i.others)) (sym (same_depth fs gs hs f g e d));
         }
 
   -- the fault of a part of the innermost
-  pub part_misses : (p : Parser) (fs hs : List (Frame V M K)) (f : Frame V M K) (whole : Read Source) (t : Option Error) → fs ≡ hs ++ f ∷ []
-      → ((depth : ℕ) (c : Open) → FrameHolds Sees Names Holds f c → Misses t (next_part_at (size_of p) (mode_of p.mode) depth c (rest_of p))) → AtPart Sees Names Holds whole p fs false → Misses t whole
-  part_misses p fs hs f whole t is h ahead =
-      let i = innermost_of hs fs f ahead.opens is ahead.held in
-      let part = next_part_at (size_of p) (mode_of p.mode) (depth_within Sees Names Holds fs) i.inner (rest_of p) in
-      misses_same t (part >>= resume (size_of p) (mode_of p.mode) (suc (depth_within Sees Names Holds fs)) i.others) whole
-      (ahead.reads ∙ ap (λ cs. resume_stack (size_of p) (mode_of p.mode) (depth_within Sees Names Holds fs) false cs (rest_of p)) i.are)
-      (misses_through t part (resume (size_of p) (mode_of p.mode) (suc (depth_within Sees Names Holds fs)) i.others) (h (depth_within Sees Names Holds fs) i.inner i.held))
+  pub part_misses : (p : Parser) (fs hs : List (Frame I M K)) (f : Frame I M K) (whole : Read Source) (silent : Bool) (t : Option Error) → fs ≡ hs ++ f ∷ []
+      → ((depth : ℕ) (c : Open) (ks : List (Frame I M K)) (cs : List Open) → Fits f c → Old false (f ∷ ks) (c ∷ cs) → Misses silent t (next_part_at (size_of p) (mode_of p.mode) depth c (rest_of p))) → AtPart Old whole p fs false → Misses silent t whole
+  part_misses p fs hs f whole silent t is h ahead =
+      let i = innermost_of Old false hs fs f ahead.opens is ahead.fit ahead.held in
+      let part = next_part_at (size_of p) (mode_of p.mode) (depth_within fs) i.inner (rest_of p) in
+      misses_same silent t (part >>= resume (size_of p) (mode_of p.mode) (suc (depth_within fs)) i.others) whole
+      (ahead.reads ∙ ap (λ cs. resume_stack (size_of p) (mode_of p.mode) (depth_within fs) false cs (rest_of p)) i.are)
+      (misses_through silent t part (resume (size_of p) (mode_of p.mode) (suc (depth_within fs)) i.others) (h (depth_within fs) i.inner (reverse hs) i.others i.fits i.held))
 
   -- ---- a container ends
 
   -- The innermost was taken off: it is what is read of it, and then the others go on.
-  pub record Ended (whole : Read Source) (p : Parser) (gs : List (Frame V M K)) (f : Frame V M K) : Type 0 where
+  pub record Ended (whole : Read Source) (p : Parser) (gs : List (Frame I M K)) (f : Frame I M K) : Type 0 where
     pub inner : Open
-    pub held : FrameHolds Sees Names Holds f inner
-    pub left : Remains Sees Names Holds whole gs (λ cs. finish_container inner (rest_of p) >>= resume (size_of p) (mode_of p.mode) (depth_within Sees Names Holds gs) cs)
+    pub others : List Open
+    pub fits : Fits f inner
+    pub others_fit : AllFit (reverse gs) others
+    pub held : Old false (f ∷ reverse gs) (inner ∷ others)
+    pub reads : whole ≡ (finish_container inner (rest_of p) >>= resume (size_of p) (mode_of p.mode) (depth_within gs) others)
 
-  pub ended : (p : Parser) (fs gs : List (Frame V M K)) (f : Frame V M K) (whole : Read Source) → fs ≡ gs ++ f ∷ [] → length fs ≤ max_depth → AtPart Sees Names Holds whole p fs true → Ended whole p gs f
+  pub ended : (p : Parser) (fs gs : List (Frame I M K)) (f : Frame I M K) (whole : Read Source) → fs ≡ gs ++ f ∷ [] → length fs ≤ max_depth → AtPart Old whole p fs true → Ended whole p gs f
   ended p fs gs f whole e fits ahead =
-      let i = innermost_of gs fs f ahead.opens e ahead.held in
-      let deep : suc (depth_within Sees Names Holds fs) ≡ depth_within Sees Names Holds gs = omega (arith, ap length e, length-append gs (f ∷ [])) in
+      let i = innermost_of Old false gs fs f ahead.opens e ahead.fit ahead.held in
+      let deep : suc (depth_within fs) ≡ depth_within gs = omega (arith, ap length e, length-append gs (f ∷ [])) in
       record {
         inner = i.inner;
+        others = i.others;
+        fits = i.fits;
+        others_fit = i.others_fit;
         held = i.held;
-        left = record {
-          opens = i.others;
-          held = i.below_held;
-          reads =
-              ahead.reads
-              ∙ ap (λ cs. resume_stack (size_of p) (mode_of p.mode) (depth_within Sees Names Holds fs) true cs (rest_of p)) i.are
-              ∙ ap (λ n. finish_container i.inner (rest_of p) >>= resume (size_of p) (mode_of p.mode) n i.others) deep;
-        };
+        reads =
+            ahead.reads
+            ∙ ap (λ cs. resume_stack (size_of p) (mode_of p.mode) (depth_within fs) true cs (rest_of p)) i.are
+            ∙ ap (λ n. finish_container i.inner (rest_of p) >>= resume (size_of p) (mode_of p.mode) n i.others) deep;
       }
 
-  -- no other is open
-  pub outermost : (p : Parser) (fs : List (Frame V M K)) (f : Frame V M K) (whole : Read Source) → fs ≡ f ∷ [] → AtPart Sees Names Holds whole p fs true → length fs ≤ max_depth → IsRead Sees Names Holds whole fs (rest_of p)
+  pub outermost : (p : Parser) (fs : List (Frame I M K)) (f : Frame I M K) (whole : Read Source) → fs ≡ f ∷ [] → AtPart Old whole p fs true → length fs ≤ max_depth → IsRead Old whole fs (rest_of p)
   outermost p fs f whole e ahead fits =
-      let x = ended p fs [] f whole e fits ahead in (
+      let x = ended p fs [] f whole e fits ahead in
+      let none = none_open I M K x.others x.others_fit in (
         f,
         x.inner,
         e,
-        x.held,
-        x.left.reads
-            ∙ ap (λ cs. finish_container x.inner (rest_of p) >>= resume (size_of p) (mode_of p.mode) (depth_within Sees Names Holds []) cs) x.left.held
-            ∙ resume-none (size_of p) (mode_of p.mode) (depth_within Sees Names Holds []) (finish_container x.inner (rest_of p)),
+        x.fits,
+        subst (λ cs. Old false (f ∷ []) (x.inner ∷ cs)) none x.held,
+        x.reads
+            ∙ ap (λ cs. finish_container x.inner (rest_of p) >>= resume (size_of p) (mode_of p.mode) (depth_within {I = I} {M = M} {K = K} []) cs) none
+            ∙ resume-none (size_of p) (mode_of p.mode) (depth_within {I = I} {M = M} {K = K} []) (finish_container x.inner (rest_of p)),
       )
 
   -- the fault at its end
-  pub end_misses : (p : Parser) (gs : List (Frame V M K)) (f : Frame V M K) (whole : Read Source) (t : Option Error) (x : Ended whole p gs f) → Misses t (finish_container x.inner (rest_of p)) → Misses t whole
-  end_misses p gs f whole t x h =
-      let then = resume (size_of p) (mode_of p.mode) (depth_within Sees Names Holds gs) x.left.opens in
-      misses_same t (finish_container x.inner (rest_of p) >>= then) whole x.left.reads (misses_through t (finish_container x.inner (rest_of p)) then h)
+  pub end_misses : (p : Parser) (gs : List (Frame I M K)) (f : Frame I M K) (whole : Read Source) (silent : Bool) (t : Option Error) (x : Ended whole p gs f) → Misses silent t (finish_container x.inner (rest_of p)) → Misses silent t whole
+  end_misses p gs f whole silent t x h =
+      let then = resume (size_of p) (mode_of p.mode) (depth_within gs) x.others in
+      misses_same silent t (finish_container x.inner (rest_of p) >>= then) whole x.reads (misses_through silent t (finish_container x.inner (rest_of p)) then h)
 
   -- The container around a value, with the value put in, goes on at the end of the part.
-  pub record Joins (size : ℕ) (mode : Mode) (s : Source) (c : Open) (g : Frame V M K) (code : Code) (close : ℕ) : Type 0 where
-    pub held : FrameHolds Sees Names Holds g (add_part c s)
+  pub record Joins (size : ℕ) (mode : Mode) (s : Source) (c : Open) (cs : List Open) (g : Frame I M K) (below : List (Frame I M K)) (code : Code) (close : ℕ) : Type 0 where
+    pub fits : Fits g (add_part c s)
+    pub held : New false (g ∷ below) (add_part c s ∷ cs)
     pub ends : (depth : ℕ) (bytes : List ℕ) → resume_after_part size mode depth (add_part c s) bytes ≡ (part_end size code close bytes >>= λ y. resume_part size mode depth y.0 (add_part c s) y.1)
 
-  module _ (p q : Parser) (gs ks hs : List (Frame V M K)) (f g inner : Frame V M K) (whole : Read Source) (s : Source) (code : Code) (close : ℕ) (a : Advances p q) (e : gs ≡ hs ++ f ∷ []) (d : ks ≡ hs ++ g ∷ []) where
-    pub joined : {F : Type 0} (told : F → Option Error) (r : Result Bool F) (x : Ended whole p gs inner) → finish_container x.inner (rest_of p) ≡ Ok (s, rest_of p) → ((c : Open) → FrameHolds Sees Names Holds f c → Joins (size_of p) (mode_of p.mode) s c g code close)
-        → Builds told (λ b c. b ≡ c) r (part_end (size_of p) code close (skip_blanks (mode_of p.mode) (rest_of p))) (rest_of q) → ElseFails told r whole (AtPart Sees Names Holds whole q ks)
+  module _ (p q : Parser) (gs ks hs : List (Frame I M K)) (f g inner : Frame I M K) (whole : Read Source) (s : Source) (code : Code) (close : ℕ) (a : Advances p q) (e : gs ≡ hs ++ f ∷ []) (d : ks ≡ hs ++ g ∷ []) where
+    -- the container around, where a value stands that was due
+    record Around (x : Ended whole p gs inner) : Type 0 where
+      pub outer : Open
+      pub others : List Open
+      pub are : x.others ≡ outer ∷ others
+      pub others_fit : AllFit (reverse hs) others
+      pub joins : Joins (size_of p) (mode_of p.mode) s outer others g (reverse hs) code close
+
+    around : (x : Ended whole p gs inner) → ((c : Open) (cs : List Open) → Fits f c → x.others ≡ c ∷ cs → Joins (size_of p) (mode_of p.mode) s c cs g (reverse hs) code close) → Around x
+    around x joins = by_cases x.others refl (subst (λ ls. AllFit ls x.others) (ap reverse e ∙ innermost_first hs f) x.others_fit)
+      where
+        by_cases : (cs : List Open) → x.others ≡ cs → AllFit (f ∷ reverse hs) cs → Around x
+        by_cases [] same fit = absurd fit
+        by_cases (c ∷ cs) same fit = record { outer = c; others = cs; are = same; others_fit = fit.1; joins = joins c cs fit.0 same }
+
+    pub joined : {F : Type 0} (silent : Bool) (told : Option Error) (r : Result Bool F) (x : Ended whole p gs inner) → finish_container x.inner (rest_of p) ≡ Ok (s, rest_of p)
+        → ((c : Open) (cs : List Open) → Fits f c → x.others ≡ c ∷ cs → Joins (size_of p) (mode_of p.mode) s c cs g (reverse hs) code close)
+        → Builds silent told (λ b c. b ≡ c) r (part_end (size_of p) code close (skip_blanks (mode_of p.mode) (rest_of p))) (rest_of q) → ElseFails silent told r whole (AtPart New whole q ks)
     unfolding resume
-    joined told r x finished joins built =
-        let i = innermost_of hs gs f x.left.opens e x.left.held in
-        let j = joins i.inner i.held in
-        let depth = depth_within Sees Names Holds gs in
+    joined silent told r x finished joins built =
+        let i = around x joins in
+        let j = i.joins in
+        let depth = depth_within gs in
         let others = resume (size_of p) (mode_of p.mode) (suc depth) i.others in
-        let then : Bool × List ℕ → Read Source = λ y. resume_part (size_of p) (mode_of p.mode) depth y.0 (add_part i.inner s) y.1 >>= others in
+        let then : Bool × List ℕ → Read Source = λ y. resume_part (size_of p) (mode_of p.mode) depth y.0 (add_part i.outer s) y.1 >>= others in
         let read = part_end (size_of p) code close (skip_blanks (mode_of p.mode) (rest_of p)) in
-        builds_then told (λ b c. b ≡ c) r read (rest_of q) then whole (AtPart Sees Names Holds whole q ks) built
-        (x.left.reads
-        ∙ ap (λ (u : Read Source). u >>= resume (size_of p) (mode_of p.mode) depth x.left.opens) finished
+        let turned = sym (ap reverse d ∙ innermost_first hs g) in
+        builds_then silent told (λ b c. b ≡ c) r read (rest_of q) then whole (AtPart New whole q ks) built
+        (x.reads
+        ∙ ap (λ (u : Read Source). u >>= resume (size_of p) (mode_of p.mode) depth x.others) finished
         ∙ ap (λ cs. resume (size_of p) (mode_of p.mode) depth cs (s, rest_of p)) i.are
         ∙ ap (λ (u : Read Source). u >>= others) (j.ends depth (skip_blanks (mode_of p.mode) (rest_of p)))
-        ∙ then-then read (λ (y : Bool × List ℕ). resume_part (size_of p) (mode_of p.mode) depth y.0 (add_part i.inner s) y.1) others)
+        ∙ then-then read (λ (y : Bool × List ℕ). resume_part (size_of p) (mode_of p.mode) depth y.0 (add_part i.outer s) y.1) others)
         (λ closed y same is.
         record {
-          opens = add_part i.inner s ∷ i.others;
-          held = pushed-on hs ks g (add_part i.inner s) i.others d i.below_held j.held;
+          opens = add_part i.outer s ∷ i.others;
+          fit = subst (λ ls. AllFit ls (add_part i.outer s ∷ i.others)) turned (j.fits, i.others_fit);
+          held = subst (λ ls. New false ls (add_part i.outer s ∷ i.others)) turned j.held;
           reads =
               is
-              ∙ ap (λ b. resume_part (size_of p) (mode_of p.mode) depth b (add_part i.inner s) (rest_of q) >>= others) (sym same)
-              ∙ outer-same p q depth closed (add_part i.inner s ∷ i.others) (rest_of q) a
-              ∙ ap (λ n. resume_stack (size_of q) (mode_of q.mode) n closed (add_part i.inner s ∷ i.others) (rest_of q)) (sym (same_depth gs ks hs f g e d));
+              ∙ ap (λ b. resume_part (size_of p) (mode_of p.mode) depth b (add_part i.outer s) (rest_of q) >>= others) (sym same)
+              ∙ outer-same p q depth closed (add_part i.outer s ∷ i.others) (rest_of q) a
+              ∙ ap (λ n. resume_stack (size_of q) (mode_of q.mode) n closed (add_part i.outer s ∷ i.others) (rest_of q)) (sym (same_depth gs ks hs f g e d));
         })
 
   -- an element, and a member
-  pub array-joins : (size : ℕ) (mode : Mode) (v w : Vec V Global) (x : V) (s : Source) → w.items ≡ v.items ++ x ∷ [] → Sees x s → (c : Open) → FrameHolds Sees Names Holds (variants.Array v) c → Joins size mode s c (variants.Array w) expected_array_comma_or_end 93
-  array-joins size mode v w x s put seen (elements_so_far ss) h =
-      record {
-        held = subst (λ vs. AreSeen Sees vs (ss ++ s ∷ [])) (sym put) (seen-snoc Sees v.items ss x s h seen);
-        ends = λ depth bytes. element_ends size mode depth (ss ++ s ∷ []) bytes;
-      }
-  array-joins size mode v w x s put seen (members_so_far fs key place) h = absurd h
+  pub array-joins : (Full : List (Frame I M K) → List Open → Type 0) (size : ℕ) (mode : Mode) (v w : I) (s : Source) (below : List (Frame I M K)) (cs : List Open) → ((ss : List Source) → Full (variants.Array v ∷ below) (elements_so_far ss ∷ cs) → New false (variants.Array w ∷ below) (elements_so_far (ss ++ s ∷ []) ∷ cs))
+      → (c : Open) → IsArray c → Full (variants.Array v ∷ below) (c ∷ cs) → Joins size mode s c cs (variants.Array w) below expected_array_comma_or_end 93
+  array-joins Full size mode v w s below cs put (elements_so_far ss) fits h = record { fits = tt; held = put ss h; ends = λ depth bytes. element_ends size mode depth (ss ++ s ∷ []) bytes }
+  array-joins Full size mode v w s below cs put (members_so_far fs key place) fits h = absurd fits
 
-  pub object-joins : (size : ℕ) (mode : Mode) (v w : OpenObject M K) (s : Source) → ((fs : List Found) (k : Mark × List ℕ) (place : ℕ) → Holds v.members fs → Names v.key k place → Holds w.members (fs ++ found k s place ∷ [])) → Names w.key (plain, []) 0
-      → (c : Open) → FrameHolds Sees Names Holds (variants.Object v) c → Joins size mode s c (variants.Object w) expected_object_comma_or_end 125
-  object-joins size mode v w s put none (elements_so_far ss) h = absurd h
-  object-joins size mode v w s put none (members_so_far fs key place) h =
-      record {
-        held = (put fs key place h.0 h.1, none);
-        ends = λ depth bytes. member_ends size mode depth (fs ++ found key s place ∷ []) (plain, []) 0 bytes;
-      }
+  pub object-joins : (Full : List (Frame I M K) → List Open → Type 0) (size : ℕ) (mode : Mode) (v w : OpenObject M K) (s : Source) (below : List (Frame I M K)) (cs : List Open) → ((fs : List Found) (k : Mark × List ℕ) (place : ℕ) → Full (variants.Object v ∷ below) (members_so_far fs k place ∷ cs) → New false (variants.Object w ∷ below) (members_so_far (fs ++ found k s place ∷ []) (plain, []) 0 ∷ cs))
+      → (c : Open) → IsObject c → Full (variants.Object v ∷ below) (c ∷ cs) → Joins size mode s c cs (variants.Object w) below expected_object_comma_or_end 125
+  object-joins Full size mode v w s below cs put (elements_so_far ss) fits h = absurd fits
+  object-joins Full size mode v w s below cs put (members_so_far fs key place) fits h = record { fits = tt; held = put fs key place h; ends = λ depth bytes. member_ends size mode depth (fs ++ found key s place ∷ []) (plain, []) 0 bytes }

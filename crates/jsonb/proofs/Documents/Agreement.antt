@@ -1,5 +1,5 @@
 -- The clauses of the parsers from the executable specification.
-use Rattle.std.proofs.Common.{◌≡◌, ◌≢◌, ℕ, ◌+◌, ◌-◌, ◌<◌, ◌≤◌, Bool, true, false, cond, ◌⊎◌, inl, inr, get_or, ne_eqb, List, [], ◌∷◌, length, drop, Some, Result, Ok, Err, IfOk, IfErr, refl, sym, ap, ◌∙◌, arith, length-drop, drop-drop}
+use Rattle.std.proofs.Common.{◌≡◌, ◌≢◌, ℕ, ◌+◌, ◌-◌, ◌<◌, ◌≤◌, Bool, true, false, cond, ◌⊎◌, inl, inr, get_or, ne_eqb, List, [], ◌∷◌, length, drop, Result, Ok, Err, IfOk, IfErr, refl, sym, ap, ◌∙◌, arith, length-drop, drop-drop, true≢false}
 use Rattle.std.proofs.lemmas.List.{drop_more}
 use Rattle.std.proofs.lemmas.Bool.{cond-false, cond-true}
 use Rattle.jsonb.specs.declared.parser.Parser.{Parser}
@@ -9,7 +9,7 @@ use Rattle.jsonb.specs.declared.parser.ast.JsonAst.{JsonAst}
 use Rattle.jsonb_value.specs.Code.{code_of}
 use Rattle.jsonb_value.specs.Code.Code.{invalid_eof, unexpected_trailing_characters}
 use Rattle.jsonb_value.specs.Grammar.{IsDocument, max_depth, IsNoDocument}
-use Rattle.jsonb_value.specs.Mode.{Mode}
+use Rattle.jsonb_value.specs.Mode.{Mode, extended}
 use Rattle.jsonb_value.specs.Tree.{Tree}
 use Rattle.jsonb.specs.AstView.{ast_view}
 use Rattle.jsonb_scan.specs.Answer.{Gives, IsTextRefusal, mode_of}
@@ -18,7 +18,7 @@ use Rattle.jsonb_scan.specs.Source.{Source, null_source, tree_of_source}
 use Rattle.jsonb_scan.specs.Reading.{Fault, fault, ◌>>=◌}
 use Rattle.jsonb_scan.specs.Reading.Blank.{opens_comment, skip_closed_blanks}
 use Rattle.jsonb_scan.specs.Reading.Document.{at_end, comment_at, document_of, source_from, source_of, value_at, value_to_end}
-use Rattle.jsonb.specs.Build.{BuildsAll}
+use Rattle.jsonb.specs.Handler.{IsWritten}
 use Rattle.jsonb.specs.Refusals.{IsExplained}
 use Rattle.jsonb.specs.Placed.{IsPlaced}
 use Rattle.jsonb.specs.Source.{source_view}
@@ -53,6 +53,16 @@ document_same p q e a =
 pub document_some : (p q : Parser) → rest_of q ≡ skip_closed_blanks (mode_of p.mode) (rest_of p) → Advances p q → q.idx < size_of q → opens_comment (mode_of q.mode) (rest_of q) ≡ false
     → source_from (size_of p) (mode_of p.mode) (skip_closed_blanks (mode_of p.mode) (rest_of p)) ≡ (value_at (size_of q) (mode_of q.mode) max_depth (rest_of q) >>= ended (size_of q) (mode_of q.mode))
 document_some p q e a within closed = document_same p q e a ∙ from_some (size_of q) (mode_of q.mode) (rest_of q) (omega (arith, length-drop q.idx q.buf.now)) closed
+
+-- a text with no more than whitespace
+pub document_none : (p q : Parser) → rest_of q ≡ skip_closed_blanks (mode_of p.mode) (rest_of p) → Advances p q → size_of q ≤ q.idx → mode_of q.mode ≡ extended
+    → source_from (size_of p) (mode_of p.mode) (skip_closed_blanks (mode_of p.mode) (rest_of p)) ≡ Ok null_source
+document_none p q e a past is = document_same p q e a ∙ ap (λ (m : Mode). source_from (size_of q) m (rest_of q)) is ∙ ap (λ (r : List ℕ). source_from (size_of q) extended r) (nothing_left q.buf.now q.idx past)
+
+-- a text that ends in a comment
+pub document_comment : (p q : Parser) → rest_of q ≡ skip_closed_blanks (mode_of p.mode) (rest_of p) → Advances p q → q.idx < size_of q → opens_comment (mode_of q.mode) (rest_of q) ≡ true
+    → source_from (size_of p) (mode_of p.mode) (skip_closed_blanks (mode_of p.mode) (rest_of p)) ≡ comment_at (size_of q) null_source (drop 1 (rest_of q))
+document_comment p q e a within opens = document_same p q e a ∙ from_comment (size_of q) (mode_of q.mode) (rest_of q) (omega (arith, length-drop q.idx q.buf.now)) opens
 
 -- ---- after the value
 
@@ -108,10 +118,10 @@ comment_open buf i t (inr (within, other)) =
 
 -- ---- what an answer says
 
--- the source of the `JsonAst` that is built
-pub gives_built : (r : Result JsonAst Error) (read : Result Source Fault) → BuildsAll (λ e. Some e) (λ v s. source_view v ≡ s) r read → Gives source_view r read
-gives_built (Ok v) read b = b.2 ∙ ap (λ s. Ok s) (sym b.1)
-gives_built (Err e) read b = b
+-- a maker that takes memory for no scalar
+pub no_scalar : {P : Type 0} (read : Result Source Fault) → P ⊎ IsWritten false read → P
+no_scalar read (inl h) = h
+no_scalar read (inr e) = absurd (true≢false (sym e.0))
 
 -- the tree of the value that is built
 pub document_built : (mode : Mode) (bytes : List ℕ) (t : Tree) (s : Source) → t ≡ tree_of_source s → source_of mode bytes ≡ Ok s → document_of mode bytes ≡ Ok t

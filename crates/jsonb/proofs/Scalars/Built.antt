@@ -1,25 +1,39 @@
 -- A value that holds no others, built of what the steps in it give.
-use Rattle.std.proofs.Common.{◌≡◌, ◌≢◌, ◌-◌, ◌≤◌, ℕ, true, false, List, [], ◌∷◌, ◌++◌, codes, length, Option, Result, Ok, Err, IfOk, IfErr, refl, ap, sym, subst, ◌∙◌, arith, length-drop, eqb, true≢false, inl, inr}
+use Rattle.std.proofs.Common.{◌≡◌, ◌≢◌, pos, neg_ℤ, ◌+◌, ◌-◌, ◌≤◌, ℕ, true, false, List, [], ◌∷◌, ◌++◌, codes, length, Option, Some, Result, Ok, Err, IfOk, IfErr, refl, ap, sym, subst, ◌∙◌, arith, length-drop, length-append, append_assoc, drop, ◌<◌, take, slice_range, ap₂, Bool, OnOk, IfOk, eqb, true≢false, inl, inr}
 use Rattle.std.specs.Prelude.{slice_index}
+use Rattle.std.proofs.Math.Seq.{take-append_seam}
 use Rattle.std.proofs.lemmas.Bool.{cases_Bool, cond-false, cond-true, eqb-true}
 use Rattle.jsonb_value.specs.declared.error.Error.{Error}
 use Rattle.jsonb_value.specs.declared.error.Error.TheVariants.{Syntax, OutOfMemory}
 use Rattle.jsonb_value.specs.Mode.{Mode, standard, extended}
-use Rattle.jsonb_value.specs.Tree.{Mark, Num, Tree, null, boolean, number, string}
+use Rattle.jsonb_scan.specs.declared.parser.number.ShortInteger.{ShortInteger}
+use Rattle.jsonb_value.specs.Tree.{Mark, Num, Tree, int64, uint64, null, boolean, number, string}
 use Rattle.jsonb.specs.declared.parser.Parser.{Parser}
 use Rattle.jsonb_scan.specs.Answer.{Fails, mode_of}
 use Rattle.jsonb_scan.specs.Reading.{Fault, Read, begins, ◌>>=◌}
 use Rattle.jsonb_scan.specs.Reading.Number.{is_number_start, standard_number_at}
 use Rattle.jsonb_scan.specs.Reading.Scalar.{begins_letter, begins_number, false_at, letters_at, null_at, number_at, number_or_fault, number_value_at, or_else, other_scalar_at, quoted_at, scalar_at, true_or_false_at, word_at, words_at}
 use Rattle.jsonb_scan.specs.Reading.String.{string_at}
-use Rattle.jsonb_scan.specs.Source.{Found, Source, found, source_alone}
-use Rattle.jsonb.specs.Build.{AsKey, AsNumber, AsScalar, Builds, Tells}
+use Rattle.jsonb_scan.specs.Open.{Open, elements_so_far, members_so_far}
+use Rattle.jsonb_scan.specs.Source.{Found, Source, found, number_source, source_alone}
+use Rattle.jsonb_value.specs.Grammar.StandardNumber.{IsStandardNumber}
+use Rattle.jsonb_scan.specs.Spelled.{IsSpelled, IsSpelledAt}
+use Rattle.jsonb.specs.Literals.{literal_text, literal_tree}
+use Rattle.jsonb.specs.declared.parser.scalar.Literal.{Literal}
+use Rattle.jsonb.specs.declared.parser.scalar.Literal.TheVariants as literals
+use Rattle.jsonb_value.specs.Tree.Mark.{plain}
+use Rattle.jsonb.specs.declared.parser.frame.Frame.{Frame}
+use Rattle.jsonb.specs.declared.parser.frame.Frame.TheVariants as variants
+use Rattle.jsonb.specs.declared.parser.frame.OpenObject.{OpenObject}
+use Rattle.jsonb.specs.Handler.{AsKey, AsNumber, AsScalar, Builds, IsUntold}
 use Rattle.jsonb.specs.Frames.{Pushes, PutsIn}
-use Rattle.jsonb.specs.Parser.{Advances, rest_of, size_of}
+use Rattle.jsonb.specs.Parser.{Advances, IsBehind, rest_of, size_of}
+use Rattle.jsonb_value.specs.Text.{in_quotes}
+use Rattle.std.proofs.lemmas.List.{drop_more}
 use Rattle.jsonb.proofs.Scalars.FirstBytes.{standard_number}
 use Rattle.jsonb_scan.proofs.Containers.JoinedParts.{on_byte-none}
-use Rattle.jsonb.proofs.Steps.Failures.{memory_misses, misses_through}
-use Rattle.jsonb.proofs.Steps.Outcomes.{scalar_quoted}
+use Rattle.jsonb.proofs.Steps.Failures.{memory_misses, misses_through, untold_misses}
+use Rattle.jsonb.proofs.Steps.Outcomes.{same_size, scalar_quoted}
 
 -- ---- strings
 
@@ -59,39 +73,85 @@ false_read size mode bytes rest n t f read =
 -- ---- numbers
 
 -- a number as a value
-pub number_built : {V F : Type 0} (told : F → Option Error) (Sees : V → Source → Type 0) (result : Result V F) (size : ℕ) (mode : Mode) (bytes rest : List ℕ) → Builds told (AsNumber Sees) result (number_at size mode bytes) rest
-    → Builds told (AsScalar Sees) result (number_value_at size mode bytes) rest
-number_built told Sees (Ok v) size mode bytes rest h = (number h.0, h.1, ap (λ (r : Read Num). r >>= λ x. Ok (number x.0, x.1)) h.2)
-number_built told Sees (Err f) size mode bytes rest h = misses_through (told f) (number_at size mode bytes) (λ x. Ok (number x.0, x.1)) h
+pub number_built : {V F : Type 0} (silent : Bool) (told : Option Error) (Sees : V → Source → Type 0) (result : Result V F) (size : ℕ) (mode : Mode) (bytes rest : List ℕ) → Builds silent told (AsNumber Sees) result (number_at size mode bytes) rest
+    → Builds silent told (AsScalar Sees) result (number_value_at size mode bytes) rest
+number_built silent told Sees (Ok v) size mode bytes rest h = (number h.0, h.1, ap (λ (r : Read Num). r >>= λ x. Ok (number x.0, x.1)) h.2)
+number_built silent told Sees (Err f) size mode bytes rest h = misses_through silent told (number_at size mode bytes) (λ x. Ok (number x.0, x.1)) h
 
 -- ---- what is read is kept
 
--- a value that was read is pushed
-pub read_pushed : {V F X : Type 0} (told : F → Option Error) (Sees : V → Source → Type 0) (result : Result X F) (before : List V) (v : V) (t : Tree) (read : Read Tree) (after : List V) (rest : List ℕ)
-    → IfOk result (λ _. after ≡ before ++ v ∷ []) → IfErr result (λ f. Tells (told f) OutOfMemory) → Sees v (source_alone t) → read ≡ Ok (t, rest) → Pushes told Sees result before read after rest
-read_pushed told Sees (Ok x) before v t read after rest pushed memory sees is = (v, t, pushed, sees, is)
-read_pushed told Sees (Err f) before v t read after rest pushed memory sees is = memory_misses (told f) read memory
+module _ {R I M K F : Type 0} (silent : Bool) (Stands : List ℕ → R → Bool → List (Frame I M K) → List Open → Type 0) (Seen : Source → Type 0) (text : List ℕ) (from : ℕ) (q r : Parser) (old new : R) where
+  -- a scalar that was read is pushed
+  pub read_pushed : (result : Result Unit F) (before : I) (t : Tree) (read : Read Tree) (after : I)
+      → OnOk result ((bytes : List ℕ) → (s : Source) → (ss : List Source) → (fs : List (Frame I M K)) → (cs : List Open) → Stands bytes old false (variants.Array before ∷ fs) (elements_so_far ss ∷ cs) → Seen s → IsSpelledAt bytes from q.idx s → Stands bytes new false (variants.Array after ∷ fs) (elements_so_far (ss ++ s ∷ []) ∷ cs))
+      → OnOk result (r ≡ q) → IfErr result (λ _. r.told ≡ Some OutOfMemory) → Seen (source_alone t) → IsSpelledAt text from q.idx (source_alone t) → read ≡ Ok (t, rest_of q) → Pushes silent r.told Stands text result old before read new after (rest_of r)
+  read_pushed (Ok x) before t read after pushed same memory sees spelled is = (t, is ∙ ap (λ o. Ok (t, rest_of o)) (sym same), λ ss fs cs stands. pushed text (source_alone t) ss fs cs stands sees spelled)
+  read_pushed (Err f) before t read after pushed same memory sees spelled is = memory_misses silent r.told read memory
 
--- the same under a key
-pub read_put : {V M K F X : Type 0} (told : F → Option Error) (Sees : V → Source → Type 0) (Names : K → Mark × List ℕ → ℕ → Type 0) (Holds : M → List Found → Type 0) (result : Result X F) (before : M) (key : K) (v : V) (t : Tree) (read : Read Tree) (after : M) (rest : List ℕ)
-    → IfOk result (λ _. (front : List Found) → (k : Mark × List ℕ) → (s : Source) → (place : ℕ) → Holds before front → Names key k place → Sees v s → Holds after (front ++ found k s place ∷ []))
-    → IfErr result (λ f. Tells (told f) OutOfMemory) → Sees v (source_alone t) → read ≡ Ok (t, rest) → PutsIn told Names Holds result before key read after rest
-read_put told Sees Names Holds (Ok x) before key v t read after rest put memory sees is = (t, is, λ front k place held named. put front k (source_alone t) place held named sees)
-read_put told Sees Names Holds (Err f) before key v t read after rest put memory sees is = memory_misses (told f) read memory
+  -- and put in under a key
+  pub read_put : (result : Result Unit F) (before : OpenObject M K) (key : K) (t : Tree) (read : Read Tree) (after : OpenObject M K)
+      → OnOk result ((bytes : List ℕ) → (s : Source) → (front : List Found) → (k : Mark × List ℕ) → (place : ℕ) → (fs : List (Frame I M K)) → (cs : List Open) → Stands bytes old true (variants.Object (record { members = before.members; key = key }) ∷ fs) (members_so_far front k place ∷ cs) → Seen s → IsSpelledAt bytes from q.idx s → Stands bytes new false (variants.Object after ∷ fs) (members_so_far (front ++ found k s place ∷ []) (plain, []) 0 ∷ cs))
+      → OnOk result (r ≡ q) → IfErr result (λ _. IsUntold silent r.told) → Seen (source_alone t) → IsSpelledAt text from q.idx (source_alone t) → read ≡ Ok (t, rest_of q) → PutsIn silent r.told Stands text result old before key read new after (rest_of r)
+  read_put (Ok x) before key t read after put same memory sees spelled is = (t, is ∙ ap (λ o. Ok (t, rest_of o)) (sym same), λ front k place fs cs stands. put text (source_alone t) front k place fs cs stands sees spelled)
+  read_put (Err f) before key t read after put same memory sees spelled is = untold_misses silent r.told read memory
+
+-- ---- where a scalar stands
+
+-- the bytes between two places of a parser
+pub between : (p q : Parser) (bytes : List ℕ) → Advances p q → p.idx ≤ size_of p → rest_of p ≡ bytes ++ rest_of q → slice_range p.buf.now p.idx q.idx ≡ bytes
+between p q bytes a within e =
+    let same = same_size p q a in
+    let inside = a.inside within in
+    let count : q.idx - p.idx ≡ length bytes = omega (arith, ap length e, length-append bytes (rest_of q), length-drop p.idx p.buf.now, length-drop q.idx q.buf.now, same, inside, within) in
+    ap₂ (λ n xs. take n xs) count e ∙ take-append_seam bytes (rest_of q)
+
+-- the integer that is read, with a minus and without
+abbrev pub negative_of : ShortInteger → Num
+negative_of read = record { form = int64; scale = 0; whole = neg_ℤ (pos read.magnitude) }
+
+abbrev pub positive_of : ShortInteger → Num
+positive_of read = record { form = uint64; scale = 0; whole = pos read.magnitude }
+
+-- an integer in the text
+pub integer_stands : (p q : Parser) (n : Num) → Advances p q → p.idx ≤ size_of p → (bytes : List ℕ) × (rest_of p ≡ bytes ++ rest_of q) × IsStandardNumber bytes n → IsSpelledAt p.buf.now p.idx q.idx (number_source n)
+integer_stands p q n a within h some = subst (λ bs. IsStandardNumber bs n) (sym (between p q h.0 a within h.1)) h.2
+
+-- nothing is said of where a scalar stands
+pub not_spelled : (text : List ℕ) (at : ℕ) (s : Source) → IsSpelledAt text at at s
+not_spelled text at s h = absurd (omega arith)
 
 -- ---- keys
 
--- a key that was made of what was read
-pub key_built : {K F : Type 0} (told : F → Option Error) (Names : K → Mark × List ℕ → ℕ → Type 0) (result : Result K F) (size : ℕ) (p : Parser) (k : Mark × List ℕ) (read : Read (Mark × List ℕ)) → size ≡ size_of p → p.idx ≤ size_of p
-    → IfOk result (λ key. Names key k p.idx) → IfErr result (λ f. Tells (told f) OutOfMemory) → read ≡ Ok (k, rest_of p) → Builds told (AsKey Names size (rest_of p)) result read (rest_of p)
-key_built told Names (Ok key) size p k read same within named memory is = let place : p.idx ≡ size - length (rest_of p) = omega (arith, length-drop p.idx p.buf.now, same, within) in (k, subst (λ i. Names key k i) place named, is)
-key_built told Names (Err f) size p k read same within named memory is = memory_misses (told f) read memory
+-- a key without escapes, behind its opening quote
+pub key_stands : (p q r : Parser) (body : List ℕ) → 0 < q.idx → Advances p q → Advances q r → p.idx ≤ size_of p → IsBehind 34 q → rest_of q ≡ body ++ 34 ∷ rest_of r → slice_range p.buf.now (q.idx - 1) r.idx ≡ in_quotes body
+key_stands p q r body some on a within behind e =
+    let inside = on.inside within in
+    let before : Parser = record q { idx = q.idx - 1 } in
+    let back : q.idx - 1 + 1 ≡ q.idx = omega (arith, some) in
+    let more : rest_of before ≡ 34 ∷ rest_of q =
+    drop_more q.buf.now (q.idx - 1) 0 (omega (arith, inside, some)) ∙ ap₂ (λ b r. b ∷ r) behind.1 (ap (λ n. drop n q.buf.now) back) in
+    let on_before : Advances before r = record { buf = a.buf; mode = a.mode; onward = omega (arith, a.onward); inside = λ h. a.inside inside } in
+    ap (λ b. slice_range b.now (q.idx - 1) r.idx) (sym on.buf)
+    ∙ between before r (34 ∷ body ++ 34 ∷ []) on_before (omega (arith, inside)) (more ∙ ap (λ xs. 34 ∷ xs) (e ∙ sym (append_assoc body (34 ∷ []) (rest_of r))))
+
+-- what is so of a key that stands there
+pub key_begun : {K A : Type 0} (Stands : List ℕ → Type 0) (Begun : List ℕ → K → Type 0) (made : Result K A) → IfOk made (λ key. (bytes : List ℕ) → Stands bytes → Begun bytes key) → (bytes : List ℕ) → Stands bytes → IfOk made (Begun bytes)
+key_begun Stands Begun (Ok key) h bytes stands = h bytes stands
+key_begun Stands Begun (Err e) h bytes stands = tt
+
+-- a key that a handler made of what was read
+pub key_kept : {K A F : Type 0} (silent : Bool) (Names : K → Mark × List ℕ → ℕ → Type 0) (made : Result K A) (result : Result K F) (size : ℕ) (p q : Parser) (k : Mark × List ℕ) (read : Read (Mark × List ℕ)) → size ≡ size_of p → p.idx ≤ size_of p → IfOk made (λ key. Names key k p.idx)
+    → IfOk result (λ x. (made ≡ Ok x) × (q ≡ p)) → IfErr result (λ _. q.told ≡ Some OutOfMemory) → read ≡ Ok (k, rest_of p) → Builds silent q.told (AsKey Names size (rest_of q)) result read (rest_of q)
+key_kept silent Names made (Ok key) size p q k read same within named kept memory is =
+    let place : p.idx ≡ size - length (rest_of q) = omega (arith, length-drop p.idx p.buf.now, same, within, ap (λ o. length (rest_of o)) kept.1) in
+    (k, subst (λ i. Names key k i) place (subst (λ m. IfOk m (λ x. Names x k p.idx)) kept.0 named), is ∙ ap (λ o. Ok (k, rest_of o)) (sym kept.1))
+key_kept silent Names made (Err f) size p q k read same within named kept memory is = memory_misses silent q.told read memory
 
 -- what is built in an input of one size is built in the same
-pub key_same : {K F : Type 0} (told : F → Option Error) (Names : K → Mark × List ℕ → ℕ → Type 0) (result : Result K F) (size other_size : ℕ) (read other : Read (Mark × List ℕ)) (rest : List ℕ) → other_size ≡ size → other ≡ read
-    → Builds told (AsKey Names size rest) result read rest → Builds told (AsKey Names other_size rest) result other rest
-key_same told Names result size other_size read other rest sizes same h =
-    subst (λ n. Builds told (AsKey Names n rest) result other rest) (sym sizes) (subst (λ q. Builds told (AsKey Names size rest) result q rest) (sym same) h)
+pub key_same : {K F : Type 0} (silent : Bool) (told : Option Error) (Names : K → Mark × List ℕ → ℕ → Type 0) (result : Result K F) (size other_size : ℕ) (read other : Read (Mark × List ℕ)) (rest : List ℕ) → other_size ≡ size → other ≡ read
+    → Builds silent told (AsKey Names size rest) result read rest → Builds silent told (AsKey Names other_size rest) result other rest
+key_same silent told Names result size other_size read other rest sizes same h =
+    subst (λ n. Builds silent told (AsKey Names n rest) result other rest) (sym sizes) (subst (λ q. Builds silent told (AsKey Names size rest) result q rest) (sym same) h)
 
 -- ---- what is read at once
 
@@ -133,3 +193,9 @@ integer_at_once size mode bytes n rest is first read =
 -- what the parser reads where it stood still
 pub scalar_still : (p q : Parser) → q ≡ p → scalar_at (size_of p) (mode_of p.mode) (rest_of p) ≡ scalar_at (size_of q) (mode_of q.mode) (rest_of q)
 scalar_still p q same = sym (ap (λ o. scalar_at (size_of o) (mode_of o.mode) (rest_of o)) same)
+
+-- a literal as it is spelled
+pub literal_spelled : (l : Literal) (bytes : List ℕ) → bytes ≡ literal_text l → IsSpelled bytes (source_alone (literal_tree l))
+literal_spelled literals.Null bytes e = e
+literal_spelled (literals.Bool true) bytes e = e
+literal_spelled (literals.Bool false) bytes e = e

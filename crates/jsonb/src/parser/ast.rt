@@ -70,7 +70,13 @@ impl<'a> JsonAst<'a> {
         // its index.
         ensures source { IfOk result (λ v. IsPlaced (mode_of mode) buf.now (source_view v)) }
     {
-        read_document::<JsonAst>(alloc, buf, mode)
+        match read_document::<JsonAst>(&mut (), alloc, buf, mode) {
+            Ok(tree) => Ok(tree),
+            Err(told) => match told {
+                Some(error) => Err(error),
+                None => unreachable!(),
+            },
+        }
     }
 }
 

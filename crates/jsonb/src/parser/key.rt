@@ -3,7 +3,7 @@ ghost use Rattle.std.specs.Prelude.{◌≡◌, ◌≢◌, ◌<◌, ◌≤◌, Co
 ghost use Rattle.std.specs.Cow.{cow_str_bytes};
 ghost use Rattle.jsonb_value.specs.View.{mark_view};
 ghost use Rattle.jsonb_scan.specs.Answer.{Gives};
-ghost use Rattle.jsonb.specs.Build.{AsKey, AsNamed, Builds};
+ghost use Rattle.jsonb.specs.Handler.{AsKey, AsNamed, Begins, Builds};
 ghost use Rattle.jsonb.specs.Parser.{rest_of, size_of, Advances, ReadsAs, read_at};
 ghost use Rattle.jsonb.specs.Stack.{member_start};
 ghost use Rattle.jsonb_scan.specs.Reading.Blank.{skip_blanks};
@@ -12,7 +12,8 @@ ghost use Rattle.jsonb_scan.specs.Answer.{mode_of};
 ghost use Rattle.jsonb_scan.specs.Reading.Scalar.{key_at};
 ghost use Rattle.jsonb_scan.specs.Reading.BareKey.{bare_key_at};
 
-use super::build::Build;
+use super::frame::OpenObject;
+use super::handler::{Failed, Handler};
 use super::{Mode, Parser};
 use jsonb_scan::parser::key::{KeyEnd, find_key_end};
 use jsonb_value::error::{Error, ParseErrorCode, Result};
@@ -21,18 +22,24 @@ use std::borrow::CowStr;
 impl<'a> Parser<'a> {
     // A key with its colon, up to where its value is due.
     #[inline(always)]
-    pub(super) fn begin_member<V: Build<'a>>(
+    pub(super) fn begin_member<V: Handler<'a>>(
         &mut self,
+        room: &mut V::Room,
+        object: &mut OpenObject<V::Members, V::Key>,
         text: &'a str,
-    ) -> std::result::Result<V::Key, V::Failure>
+    ) -> std::result::Result<V::Key, Failed>
         requires inside { self.old.idx ≤ size_of self.old }
         requires same { text.now ≡ take (length text.now) self.old.buf.now }
-        ensures reads { Builds V.told (AsNamed V.names) result (read_at member_start self.old) (rest_of self.new) }
+        ensures reads { Builds V.silent self.new.told
+            (AsNamed (Begins (V.stands self.old.buf.now) room.old object.old room.new object.new)) result (read_at member_start self.old)
+            (rest_of self.new) }
         ensures advances { Advances self.old self.new }
+        ensures base { V.base room.new ≡ V.base room.old }
     {
-        let key = self.parse_member_key::<V>(text)?;
+        let key = self.parse_member_key::<V>(room, object, text)?;
         if !self.take_after_blanks(b':') {
-            return Err(V::failure(self.unexpected(ParseErrorCode::ExpectedColon, 0)));
+            let error = self.unexpected(ParseErrorCode::ExpectedColon, 0);
+            return Err(self.fail(error));
         }
         // Often there is one space.
         self.skip_space();
@@ -42,52 +49,74 @@ impl<'a> Parser<'a> {
 
     // A key, after blanks.
     #[inline(always)]
-    fn parse_member_key<V: Build<'a>>(
+    fn parse_member_key<V: Handler<'a>>(
         &mut self,
+        room: &mut V::Room,
+        object: &mut OpenObject<V::Members, V::Key>,
         text: &'a str,
-    ) -> std::result::Result<V::Key, V::Failure>
+    ) -> std::result::Result<V::Key, Failed>
         requires inside { self.old.idx ≤ size_of self.old }
         requires same { text.now ≡ take (length text.now) self.old.buf.now }
-        ensures reads { Builds V.told (AsKey V.names (size_of self.old) (rest_of self.new)) result
+        ensures reads { Builds V.silent self.new.told
+            (AsKey (Begins (V.stands self.old.buf.now) room.old object.old room.new object.new) (size_of self.old) (rest_of self.new)) result
             (key_at (size_of self.old) (mode_of self.old.mode) (skip_blanks (mode_of self.old.mode) (rest_of self.old)))
             (rest_of self.new) }
         ensures advances { Advances self.old self.new }
+        ensures base { V.base room.new ≡ V.base room.old }
     {
         if !self.take_after_blanks(b'"') {
-            return self.other_key::<V>();
+            return self.other_key::<V>(room, object);
         }
+        let from = self.idx;
         if let Some(body) = self.borrowed_string(b'"', text) {
-            return V::borrowed_key(self.alloc, body, self.idx);
+            let key = V::borrowed_key(room, object, self.alloc, body, from, self.idx);
+            return self.kept(key);
         }
-        self.escaped_key::<V>()
+        self.escaped_key::<V>(room, object)
     }
 
     // A key in double quotes that has escapes, or is refused, from the byte after its opening quote on.
     #[inline(never)]
-    fn escaped_key<V: Build<'a>>(&mut self) -> std::result::Result<V::Key, V::Failure>
+    fn escaped_key<V: Handler<'a>>(
+        &mut self,
+        room: &mut V::Room,
+        object: &mut OpenObject<V::Members, V::Key>,
+    ) -> std::result::Result<V::Key, Failed>
         requires { self.old.idx ≤ size_of self.old }
-        ensures reads { Builds V.told (AsKey V.names (size_of self.old) (rest_of self.new)) result
+        ensures reads { Builds V.silent self.new.told
+            (AsKey (Begins (V.stands self.old.buf.now) room.old object.old room.new object.new) (size_of self.old) (rest_of self.new)) result
             (string_at (size_of self.old) (mode_of self.old.mode) 34 (rest_of self.old)) (rest_of self.new) }
         ensures advances { Advances self.old self.new }
+        ensures base { V.base room.new ≡ V.base room.old }
     {
-        match self.parse_quoted(b'"') {
-            Ok(key) => V::key(self.alloc, key, self.idx),
-            Err(error) => Err(V::failure(error)),
-        }
+        let key = match self.parse_quoted(b'"') {
+            Ok(key) => key,
+            Err(error) => return Err(self.fail(error)),
+        };
+        let key = V::key(room, object, self.alloc, key, self.idx);
+        self.kept(key)
     }
 
     // A key in single quotes or in none.
     #[inline(never)]
-    fn other_key<V: Build<'a>>(&mut self) -> std::result::Result<V::Key, V::Failure>
+    fn other_key<V: Handler<'a>>(
+        &mut self,
+        room: &mut V::Room,
+        object: &mut OpenObject<V::Members, V::Key>,
+    ) -> std::result::Result<V::Key, Failed>
         requires { self.old.idx ≤ size_of self.old }
-        ensures reads { Builds V.told (AsKey V.names (size_of self.old) (rest_of self.new)) result
+        ensures reads { Builds V.silent self.new.told
+            (AsKey (Begins (V.stands self.old.buf.now) room.old object.old room.new object.new) (size_of self.old) (rest_of self.new)) result
             (key_at (size_of self.old) (mode_of self.old.mode) (rest_of self.old)) (rest_of self.new) }
         ensures advances { Advances self.old self.new }
+        ensures base { V.base room.new ≡ V.base room.old }
     {
-        match self.parse_key() {
-            Ok(key) => V::key(self.alloc, key, self.idx),
-            Err(error) => Err(V::failure(error)),
-        }
+        let key = match self.parse_key() {
+            Ok(key) => key,
+            Err(error) => return Err(self.fail(error)),
+        };
+        let key = V::key(room, object, self.alloc, key, self.idx);
+        self.kept(key)
     }
 
     // A key.

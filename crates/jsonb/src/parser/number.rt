@@ -1,10 +1,11 @@
 //! The numbers of standard texts.
-ghost use Rattle.std.specs.Prelude.{◌≡◌, ◌≢◌, ◌+◌, ◌≤◌, ◌<◌, length, slice_index, Err, Some, None, IfNone, IfSome, true, ◌^◌};
+ghost use Rattle.std.specs.Prelude.{◌≡◌, ◌≢◌, ℕ, List, ◌++◌, ◌+◌, ◌≤◌, ◌<◌, length, slice_index, Err, Some, None, IfNone, IfSome, true, ◌^◌};
 ghost use Rattle.jsonb_value.specs.View.{number_view};
 ghost use Rattle.jsonb_value.specs.declared.error.Error.TheVariants.{Syntax, OutOfMemory};
 ghost use Rattle.jsonb_value.specs.declared.error.ParseErrorCode.TheVariants.{InvalidNumberValue};
 ghost use Rattle.jsonb_scan.specs.Answer.{Gives, Fails, mode_of};
 ghost use Rattle.jsonb_value.specs.Mode.{standard};
+ghost use Rattle.jsonb_value.specs.Grammar.StandardNumber.{IsStandardNumber};
 ghost use Rattle.jsonb_value.specs.Tree.{number};
 ghost use Rattle.jsonb.specs.Parser.{rest_of, size_of, Advances, FindsAs};
 ghost use Rattle.jsonb_scan.specs.Reading.Scalar.{scalar_at};
@@ -26,6 +27,8 @@ impl Parser<'_> {
         requires inside { self.old.idx ≤ size_of self.old }
         requires mode { mode_of self.old.mode ≡ standard }
         ensures reads { FindsAs (λ read. number (short_view read)) scalar_at result self.old self.new }
+        ensures spelled { IfSome result (λ read. (bytes : List ℕ) × (rest_of self.old ≡ bytes ++ rest_of self.new)
+            × IsStandardNumber bytes (short_view read)) }
         ensures fits { IfSome result (λ read. read.negative ≡ true → read.magnitude < 2 ^ 63) }
         ensures stays { IfNone result (self.new ≡ self.old) }
         ensures advances { Advances self.old self.new }

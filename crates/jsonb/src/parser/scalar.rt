@@ -1,16 +1,24 @@
 //! Values that hold no others.
-ghost use Rattle.std.specs.Prelude.{◌≡◌, ◌≢◌, ◌<◌, ◌≤◌, [], ◌∷◌, ◌++◌, drop, length, take, Contains, MatchBool, Err, IfErr, IfNone, IfOk, Some, true, false};
+ghost use Rattle.std.specs.Prelude.{◌≡◌, ◌≢◌, ◌<◌, ◌≤◌, [], ◌∷◌, ◌++◌, drop, length, take, Contains, MatchBool, Err, IfErr, IfNone, IfOk, OnOk, IfSome, Some, true, false, ℕ, List, ◌^◌, pos, neg_ℤ};
 ghost use Rattle.jsonb_value.specs.Mode.{standard};
 ghost use Rattle.jsonb_value.specs.View.{number_view};
-ghost use Rattle.jsonb.specs.Build.{AsNumber, AsScalar, Builds, Tells};
+ghost use Rattle.jsonb.specs.Handler.{AsNumber, AsScalar, Builds, IsUntold};
 ghost use Rattle.jsonb.specs.Frames.{Pushes, PutsIn};
 ghost use Rattle.jsonb_scan.specs.Answer.{mode_of, Gives};
-ghost use Rattle.jsonb.specs.Literals.{literal_tree};
+ghost use Rattle.jsonb.specs.Literals.{literal_text, literal_tree};
+ghost use Rattle.jsonb.specs.declared.parser.frame.Frame.{Frame};
+ghost use Rattle.jsonb.specs.declared.parser.frame.Frame.TheVariants.{Array, Object};
+ghost use Rattle.jsonb_value.specs.Tree.{Mark, int64};
+ghost use Rattle.jsonb_value.specs.Tree.Mark.{plain};
+ghost use Rattle.jsonb_scan.specs.Open.{Open, elements_so_far, members_so_far};
+ghost use Rattle.jsonb_scan.specs.Source.{Source, Found, found};
+ghost use Rattle.jsonb_scan.specs.Spelled.{IsSpelledAt};
 ghost use Rattle.jsonb.specs.Parser.{rest_of, size_of, Advances, FindsAs, IsBehind, ReadsAs, read_at};
 ghost use Rattle.jsonb_scan.specs.Reading.{begins};
 ghost use Rattle.jsonb_scan.specs.Reading.Scalar.{begins_letter, begins_number, begins_single_quote, folded, letters_at, null_at, number_at, quoted_at, scalar_at, other_scalar_at, words_at};
 
-use super::build::Build;
+use super::frame::OpenObject;
+use super::handler::{Failed, Handler};
 use super::{Mode, Parser};
 use jsonb_value::error::{Error, ParseErrorCode};
 use jsonb_value::number::Number;
@@ -42,207 +50,284 @@ fn begins_with(bytes: &[u8], word: &[u8]) -> bool
     bytes.len() >= word.len() && &bytes[..word.len()] == word
 }
 
-// Pushes a value, unless memory runs out. Room is made first: a push that may fail would give the value back, and the
-// place for that is cleared before each value.
+// The number below 0, or a 0 with a minus, of these digits.
 #[inline(always)]
-fn push<'a, V: Build<'a>>(items: &mut Vec<V>, value: V) -> Result<(), V::Failure>
-    ensures items { IfOk result (λ _. items.new.items ≡ items.old.items ++ value ∷ []) }
-    ensures memory { IfErr result (λ f. Tells (V.told f) Error.OutOfMemory) }
+fn negative_number(magnitude: u64) -> Number
+    requires { magnitude < 2 ^ 63 }
+    ensures { number_view result ≡ record { form = int64; scale = 0; whole = neg_ℤ (pos magnitude) } }
 {
-    if items.try_reserve(1).is_err() {
-        return Err(V::failure(Error::OutOfMemory));
-    }
-    items.push_reserved(value);
-    Ok(())
+    Number::Int64(-(magnitude as i64))
 }
 
 impl<'a> Parser<'a> {
-    // Pushes a value that holds no others. Strings and numbers are pushed where they are made, since a value that comes
+    // Puts in an element that is a scalar and stands in the text from an index up to here.
+    #[inline(always)]
+    pub(super) fn push<V: Handler<'a>>(
+        &mut self,
+        room: &mut V::Room,
+        items: &mut V::Items,
+        value: V,
+        from: usize,
+    ) -> Result<(), Failed>
+        ensures put { OnOk result ((text : List ℕ) → (s : Source) → (ss : List Source)
+            → (fs : List (Frame V.Items V.Members V.Key)) → (cs : List Open)
+            → V.stands text room.old false (Array items.old ∷ fs) (elements_so_far ss ∷ cs) → V.sees value s
+            → IsSpelledAt text from self.old.idx s
+            → V.stands text room.new false (Array items.new ∷ fs) (elements_so_far (ss ++ s ∷ []) ∷ cs)) }
+        ensures same { OnOk result (self.new ≡ self.old) }
+        ensures memory { IfErr result (λ _. self.new.told ≡ Some Error.OutOfMemory) }
+        ensures advances { Advances self.old self.new }
+        ensures base { V.base room.new ≡ V.base room.old }
+    {
+        if V::push(room, items, value, from, self.idx).is_err() {
+            return Err(self.out_of_memory());
+        }
+        Ok(())
+    }
+
+    // Puts in a member whose value is a scalar and stands in the text from an index up to here.
+    #[inline(always)]
+    fn insert<V: Handler<'a>>(
+        &mut self,
+        room: &mut V::Room,
+        object: &mut OpenObject<V::Members, V::Key>,
+        key: V::Key,
+        value: V,
+        from: usize,
+    ) -> Result<(), Failed>
+        ensures put { OnOk result ((text : List ℕ) → (s : Source) → (front : List Found) → (k : Mark × List ℕ)
+            → (place : ℕ) → (fs : List (Frame V.Items V.Members V.Key)) → (cs : List Open)
+            → V.stands text room.old true (Object (record { members = object.old.members; key = key }) ∷ fs)
+            (members_so_far front k place ∷ cs) → V.sees value s → IsSpelledAt text from self.old.idx s
+            → V.stands text room.new false (Object object.new ∷ fs)
+            (members_so_far (front ++ found k s place ∷ []) (plain, []) 0 ∷ cs)) }
+        ensures same { OnOk result (self.new ≡ self.old) }
+        ensures told { IfErr result (λ _. IsUntold V.silent self.new.told) }
+        ensures advances { Advances self.old self.new }
+        ensures base { V.base room.new ≡ V.base room.old }
+    {
+        let inserted = V::insert(room, object, key, value, from, self.idx);
+        self.inserted(inserted)
+    }
+
+    // Puts in an element that is a scalar. Strings and numbers are put in where they are made, since a value that comes
     // from several arms is copied more than once.
     #[inline(always)]
-    pub(super) fn push_scalar<V: Build<'a>>(
+    pub(super) fn push_scalar<V: Handler<'a>>(
         &mut self,
-        items: &mut Vec<V>,
+        room: &mut V::Room,
+        items: &mut V::Items,
         text: &'a str,
-    ) -> Result<(), V::Failure>
+    ) -> Result<(), Failed>
         requires inside { self.old.idx ≤ size_of self.old }
         requires same { text.now ≡ take (length text.now) self.old.buf.now }
-        ensures reads { Pushes V.told V.sees result items.old.items (read_at scalar_at self.old) items.new.items
-            (rest_of self.new) }
+        ensures reads { Pushes V.silent self.new.told V.stands self.old.buf.now result room.old items.old
+            (read_at scalar_at self.old) room.new items.new (rest_of self.new) }
         ensures advances { Advances self.old self.new }
+        ensures base { V.base room.new ≡ V.base room.old }
     {
+        let from = self.idx;
         if self.take_byte(b'"') {
             if let Some(body) = self.borrowed_string(b'"', text) {
-                return push(items, V::string(CowStr::Borrowed(body)));
+                return self.push::<V>(room, items, V::string(CowStr::Borrowed(body)), from);
             }
-            return self.push_escaped(items);
+            return self.push_escaped::<V>(room, items);
         }
         match self.mode {
-            Mode::Standard => self.push_standard_scalar(items, text),
-            Mode::Extended => self.push_other_scalar(items, text),
+            Mode::Standard => self.push_standard_scalar::<V>(room, items, text),
+            Mode::Extended => self.push_other_scalar::<V>(room, items, text),
         }
     }
 
-    // The same in standard mode, where no string comes next. Most numbers are integers of few digits.
+    // Puts in an element of a standard text that is a scalar and no string. Most numbers are integers of few digits.
     #[inline(always)]
-    fn push_standard_scalar<V: Build<'a>>(
+    fn push_standard_scalar<V: Handler<'a>>(
         &mut self,
-        items: &mut Vec<V>,
+        room: &mut V::Room,
+        items: &mut V::Items,
         text: &'a str,
-    ) -> Result<(), V::Failure>
+    ) -> Result<(), Failed>
         requires inside { self.old.idx ≤ size_of self.old }
         requires same { text.now ≡ take (length text.now) self.old.buf.now }
         requires mode { mode_of self.old.mode ≡ standard }
         requires no_string { begins 34 (rest_of self.old) ≡ false }
-        ensures reads { Pushes V.told V.sees result items.old.items (read_at scalar_at self.old) items.new.items
-            (rest_of self.new) }
+        ensures reads { Pushes V.silent self.new.told V.stands self.old.buf.now result room.old items.old
+            (read_at scalar_at self.old) room.new items.new (rest_of self.new) }
         ensures advances { Advances self.old self.new }
+        ensures base { V.base room.new ≡ V.base room.old }
     {
+        let from = self.idx;
         if let Some(read) = self.short_integer() {
             if read.negative {
-                return push(items, V::number(Number::Int64(-(read.magnitude as i64))));
+                let number = negative_number(read.magnitude);
+                return self.push::<V>(room, items, V::number(number), from);
             }
-            return push(items, V::number(Number::UInt64(read.magnitude)));
+            return self.push::<V>(room, items, V::number(Number::UInt64(read.magnitude)), from);
         }
         match self.short_literal() {
-            Some(Literal::Null) => push(items, V::null()),
-            Some(Literal::Bool(value)) => push(items, V::boolean(value)),
-            None => self.push_other_scalar(items, text),
+            Some(Literal::Null) => self.push::<V>(room, items, V::null(), from),
+            Some(Literal::Bool(value)) => self.push::<V>(room, items, V::boolean(value), from),
+            None => self.push_other_scalar::<V>(room, items, text),
         }
     }
 
     // Pushes a string in double quotes that has escapes, or is refused, from the byte after its opening quote on. It
     // stands apart, since its caller would clear the place of an owned string before each value.
     #[inline(never)]
-    fn push_escaped<V: Build<'a>>(&mut self, items: &mut Vec<V>) -> Result<(), V::Failure>
+    fn push_escaped<V: Handler<'a>>(
+        &mut self,
+        room: &mut V::Room,
+        items: &mut V::Items,
+    ) -> Result<(), Failed>
         requires { self.old.idx ≤ size_of self.old }
-        ensures reads { Pushes V.told V.sees result items.old.items
-            (read_at (λ size mode. quoted_at size mode 34) self.old) items.new.items (rest_of self.new) }
+        ensures reads { Pushes V.silent self.new.told V.stands self.old.buf.now result room.old items.old
+            (read_at (λ size mode. quoted_at size mode 34) self.old) room.new items.new (rest_of self.new) }
         ensures advances { Advances self.old self.new }
+        ensures base { V.base room.new ≡ V.base room.old }
     {
         let string = match self.parse_quoted(b'"') {
             Ok(string) => string,
-            Err(error) => return Err(V::failure(error)),
+            Err(error) => return Err(self.fail(error)),
         };
-        push(items, V::string(string))
+        self.push::<V>(room, items, V::string(string), self.idx)
     }
 
     // Pushes any other value that holds no others, or tells its fault.
     #[inline(never)]
-    fn push_other_scalar<V: Build<'a>>(
+    fn push_other_scalar<V: Handler<'a>>(
         &mut self,
-        items: &mut Vec<V>,
+        room: &mut V::Room,
+        items: &mut V::Items,
         text: &'a str,
-    ) -> Result<(), V::Failure>
+    ) -> Result<(), Failed>
         requires inside { self.old.idx ≤ size_of self.old }
         requires same { text.now ≡ take (length text.now) self.old.buf.now }
-        ensures reads { Pushes V.told V.sees result items.old.items (read_at other_scalar_at self.old) items.new.items
-            (rest_of self.new) }
+        ensures reads { Pushes V.silent self.new.told V.stands self.old.buf.now result room.old items.old
+            (read_at other_scalar_at self.old) room.new items.new (rest_of self.new) }
         ensures advances { Advances self.old self.new }
+        ensures base { V.base room.new ≡ V.base room.old }
     {
-        let value = self.parse_other_scalar(text)?;
-        push(items, value)
+        let value = self.parse_other_scalar::<V>(text)?;
+        self.push::<V>(room, items, value, self.idx)
     }
 
     // Puts in a member whose value holds no others. Here too a value is put in where it is made.
     #[inline(always)]
-    pub(super) fn insert_scalar<V: Build<'a>>(
+    pub(super) fn insert_scalar<V: Handler<'a>>(
         &mut self,
-        members: &mut V::Members,
+        room: &mut V::Room,
+        object: &mut OpenObject<V::Members, V::Key>,
         key: V::Key,
         text: &'a str,
-    ) -> Result<(), V::Failure>
+    ) -> Result<(), Failed>
         requires inside { self.old.idx ≤ size_of self.old }
         requires same { text.now ≡ take (length text.now) self.old.buf.now }
-        ensures reads { PutsIn V.told V.names V.holds result members.old key (read_at scalar_at self.old) members.new
-            (rest_of self.new) }
+        ensures reads { PutsIn V.silent self.new.told V.stands self.old.buf.now result room.old object.old key
+            (read_at scalar_at self.old) room.new object.new (rest_of self.new) }
         ensures advances { Advances self.old self.new }
+        ensures base { V.base room.new ≡ V.base room.old }
     {
+        let from = self.idx;
         if self.take_byte(b'"') {
             if let Some(body) = self.borrowed_string(b'"', text) {
-                return V::insert(members, key, V::string(CowStr::Borrowed(body)));
+                return self.insert::<V>(room, object, key, V::string(CowStr::Borrowed(body)), from);
             }
-            return self.insert_escaped::<V>(members, key);
+            return self.insert_escaped::<V>(room, object, key);
         }
         match self.mode {
-            Mode::Standard => self.insert_standard_scalar::<V>(members, key, text),
-            Mode::Extended => self.insert_other_scalar::<V>(members, key, text),
+            Mode::Standard => self.insert_standard_scalar::<V>(room, object, key, text),
+            Mode::Extended => self.insert_other_scalar::<V>(room, object, key, text),
         }
     }
 
-    // The same in standard mode, where no string comes next.
+    // Puts in a member of a standard text whose value is a scalar and no string.
     #[inline(always)]
-    fn insert_standard_scalar<V: Build<'a>>(
+    fn insert_standard_scalar<V: Handler<'a>>(
         &mut self,
-        members: &mut V::Members,
+        room: &mut V::Room,
+        object: &mut OpenObject<V::Members, V::Key>,
         key: V::Key,
         text: &'a str,
-    ) -> Result<(), V::Failure>
+    ) -> Result<(), Failed>
         requires inside { self.old.idx ≤ size_of self.old }
         requires same { text.now ≡ take (length text.now) self.old.buf.now }
         requires mode { mode_of self.old.mode ≡ standard }
         requires no_string { begins 34 (rest_of self.old) ≡ false }
-        ensures reads { PutsIn V.told V.names V.holds result members.old key (read_at scalar_at self.old) members.new
-            (rest_of self.new) }
+        ensures reads { PutsIn V.silent self.new.told V.stands self.old.buf.now result room.old object.old key
+            (read_at scalar_at self.old) room.new object.new (rest_of self.new) }
         ensures advances { Advances self.old self.new }
+        ensures base { V.base room.new ≡ V.base room.old }
     {
+        let from = self.idx;
         if let Some(read) = self.short_integer() {
             if read.negative {
-                let number = Number::Int64(-(read.magnitude as i64));
-                return V::insert(members, key, V::number(number));
+                let number = negative_number(read.magnitude);
+                return self.insert::<V>(room, object, key, V::number(number), from);
             }
-            return V::insert(members, key, V::number(Number::UInt64(read.magnitude)));
+            let number = Number::UInt64(read.magnitude);
+            return self.insert::<V>(room, object, key, V::number(number), from);
         }
         match self.short_literal() {
-            Some(Literal::Null) => V::insert(members, key, V::null()),
-            Some(Literal::Bool(value)) => V::insert(members, key, V::boolean(value)),
-            None => self.insert_other_scalar::<V>(members, key, text),
+            Some(Literal::Null) => self.insert::<V>(room, object, key, V::null(), from),
+            Some(Literal::Bool(value)) => self.insert::<V>(
+                room,
+                object,
+                key,
+                V::boolean(value),
+                from,
+            ),
+            None => self.insert_other_scalar::<V>(room, object, key, text),
         }
     }
 
-    // The same of a string in double quotes that has escapes, or is refused, from the byte after its opening quote on.
+    // Puts in a member with a string in double quotes that has escapes, or is rejected, from the byte after its opening quote on.
     #[inline(never)]
-    fn insert_escaped<V: Build<'a>>(
+    fn insert_escaped<V: Handler<'a>>(
         &mut self,
-        members: &mut V::Members,
+        room: &mut V::Room,
+        object: &mut OpenObject<V::Members, V::Key>,
         key: V::Key,
-    ) -> Result<(), V::Failure>
+    ) -> Result<(), Failed>
         requires { self.old.idx ≤ size_of self.old }
-        ensures reads { PutsIn V.told V.names V.holds result members.old key
-            (read_at (λ size mode. quoted_at size mode 34) self.old) members.new (rest_of self.new) }
+        ensures reads { PutsIn V.silent self.new.told V.stands self.old.buf.now result room.old object.old key
+            (read_at (λ size mode. quoted_at size mode 34) self.old) room.new object.new (rest_of self.new) }
         ensures advances { Advances self.old self.new }
+        ensures base { V.base room.new ≡ V.base room.old }
     {
-        match self.parse_quoted(b'"') {
-            Ok(string) => V::insert(members, key, V::string(string)),
-            Err(error) => Err(V::failure(error)),
-        }
+        let string = match self.parse_quoted(b'"') {
+            Ok(string) => string,
+            Err(error) => return Err(self.fail(error)),
+        };
+        self.insert::<V>(room, object, key, V::string(string), self.idx)
     }
 
     // Puts in a member with any other value that holds no others, or tells its fault.
     #[inline(never)]
-    fn insert_other_scalar<V: Build<'a>>(
+    fn insert_other_scalar<V: Handler<'a>>(
         &mut self,
-        members: &mut V::Members,
+        room: &mut V::Room,
+        object: &mut OpenObject<V::Members, V::Key>,
         key: V::Key,
         text: &'a str,
-    ) -> Result<(), V::Failure>
+    ) -> Result<(), Failed>
         requires inside { self.old.idx ≤ size_of self.old }
         requires same { text.now ≡ take (length text.now) self.old.buf.now }
-        ensures reads { PutsIn V.told V.names V.holds result members.old key (read_at other_scalar_at self.old)
-            members.new (rest_of self.new) }
+        ensures reads { PutsIn V.silent self.new.told V.stands self.old.buf.now result room.old object.old key
+            (read_at other_scalar_at self.old) room.new object.new (rest_of self.new) }
         ensures advances { Advances self.old self.new }
+        ensures base { V.base room.new ≡ V.base room.old }
     {
-        let value = self.parse_other_scalar(text)?;
-        V::insert(members, key, value)
+        let value = self.parse_other_scalar::<V>(text)?;
+        self.insert::<V>(room, object, key, value, self.idx)
     }
 
     // A value that holds no others.
     #[inline(always)]
-    pub(super) fn parse_scalar<V: Build<'a>>(&mut self, text: &'a str) -> Result<V, V::Failure>
+    pub(super) fn parse_scalar<V: Handler<'a>>(&mut self, text: &'a str) -> Result<V, Failed>
         requires inside { self.old.idx ≤ size_of self.old }
         requires same { text.now ≡ take (length text.now) self.old.buf.now }
-        ensures reads { Builds V.told (AsScalar V.sees) result (read_at scalar_at self.old) (rest_of self.new) }
-        ensures memory { IfErr result (λ f. V.told f ≡ Some Error.OutOfMemory → Contains self.old.buf.now 92) }
+        ensures reads { Builds V.silent self.new.told (AsScalar V.sees) result (read_at scalar_at self.old) (rest_of self.new) }
+        ensures memory { IfErr result (λ _. self.new.told ≡ Some Error.OutOfMemory → Contains self.old.buf.now 92) }
         ensures advances { Advances self.old self.new }
     {
         if self.take_byte(b'"') {
@@ -253,11 +338,11 @@ impl<'a> Parser<'a> {
 
     // A string in single quotes, a word or a number.
     #[inline(always)]
-    fn parse_other_scalar<V: Build<'a>>(&mut self, text: &'a str) -> Result<V, V::Failure>
+    fn parse_other_scalar<V: Handler<'a>>(&mut self, text: &'a str) -> Result<V, Failed>
         requires inside { self.old.idx ≤ size_of self.old }
         requires same { text.now ≡ take (length text.now) self.old.buf.now }
-        ensures reads { Builds V.told (AsScalar V.sees) result (read_at other_scalar_at self.old) (rest_of self.new) }
-        ensures memory { IfErr result (λ f. V.told f ≡ Some Error.OutOfMemory → Contains self.old.buf.now 92) }
+        ensures reads { Builds V.silent self.new.told (AsScalar V.sees) result (read_at other_scalar_at self.old) (rest_of self.new) }
+        ensures memory { IfErr result (λ _. self.new.told ≡ Some Error.OutOfMemory → Contains self.old.buf.now 92) }
         ensures advances { Advances self.old self.new }
     {
         if self.take_single_quote() {
@@ -268,10 +353,10 @@ impl<'a> Parser<'a> {
 
     // A word or a number as a value.
     #[inline(always)]
-    fn parse_word_or_number<V: Build<'a>>(&mut self) -> Result<V, V::Failure>
+    fn parse_word_or_number<V: Handler<'a>>(&mut self) -> Result<V, Failed>
         requires { self.old.idx ≤ size_of self.old }
-        ensures reads { Builds V.told (AsScalar V.sees) result (read_at words_at self.old) (rest_of self.new) }
-        ensures memory { IfErr result (λ f. V.told f ≡ Some Error.OutOfMemory → Contains self.old.buf.now 92) }
+        ensures reads { Builds V.silent self.new.told (AsScalar V.sees) result (read_at words_at self.old) (rest_of self.new) }
+        ensures memory { IfErr result (λ _. self.new.told ≡ Some Error.OutOfMemory → Contains self.old.buf.now 92) }
         ensures advances { Advances self.old self.new }
     {
         if self.next_is_letter(b'n') {
@@ -280,27 +365,28 @@ impl<'a> Parser<'a> {
         if self.next_is_letter(b't') {
             return match self.parse_word(b"true") {
                 Ok(()) => Ok(V::boolean(true)),
-                Err(error) => Err(V::failure(error)),
+                Err(error) => Err(self.fail(error)),
             };
         }
         if self.next_is_letter(b'f') {
             return match self.parse_word(b"false") {
                 Ok(()) => Ok(V::boolean(false)),
-                Err(error) => Err(V::failure(error)),
+                Err(error) => Err(self.fail(error)),
             };
         }
         if !self.begins_number() {
-            return Err(V::failure(self.unexpected(ParseErrorCode::ExpectedSomeValue, 1)));
+            let error = self.unexpected(ParseErrorCode::ExpectedSomeValue, 1);
+            return Err(self.fail(error));
         }
         self.parse_number_value()
     }
 
     // `null`; where that fails, in extended mode a number's word may begin with the same letter.
     #[inline(always)]
-    fn parse_null<V: Build<'a>>(&mut self) -> Result<V, V::Failure>
+    fn parse_null<V: Handler<'a>>(&mut self) -> Result<V, Failed>
         requires { self.old.idx ≤ size_of self.old }
-        ensures reads { Builds V.told (AsScalar V.sees) result (read_at null_at self.old) (rest_of self.new) }
-        ensures memory { IfErr result (λ f. V.told f ≡ Some Error.OutOfMemory → Contains self.old.buf.now 92) }
+        ensures reads { Builds V.silent self.new.told (AsScalar V.sees) result (read_at null_at self.old) (rest_of self.new) }
+        ensures memory { IfErr result (λ _. self.new.told ≡ Some Error.OutOfMemory → Contains self.old.buf.now 92) }
         ensures advances { Advances self.old self.new }
     {
         let start = self.idx;
@@ -309,7 +395,7 @@ impl<'a> Parser<'a> {
             Err(error) => error,
         };
         match self.mode {
-            Mode::Standard => Err(V::failure(error)),
+            Mode::Standard => Err(self.fail(error)),
             Mode::Extended => {
                 self.idx = start;
                 self.parse_number_value()
@@ -319,29 +405,29 @@ impl<'a> Parser<'a> {
 
     // A number as a value.
     #[inline(always)]
-    fn parse_number_value<V: Build<'a>>(&mut self) -> Result<V, V::Failure>
+    fn parse_number_value<V: Handler<'a>>(&mut self) -> Result<V, Failed>
         requires { self.old.idx ≤ size_of self.old }
-        ensures reads { Builds V.told (AsNumber V.sees) result (read_at number_at self.old) (rest_of self.new) }
-        ensures memory { IfErr result (λ f. V.told f ≡ Some Error.OutOfMemory → Contains self.old.buf.now 92) }
+        ensures reads { Builds V.silent self.new.told (AsNumber V.sees) result (read_at number_at self.old) (rest_of self.new) }
+        ensures memory { IfErr result (λ _. self.new.told ≡ Some Error.OutOfMemory → Contains self.old.buf.now 92) }
         ensures advances { Advances self.old self.new }
     {
         match self.parse_number() {
             Ok(number) => Ok(V::number(number)),
-            Err(error) => Err(V::failure(error)),
+            Err(error) => Err(self.fail(error)),
         }
     }
 
     // A string as a value, from the byte after its opening quote on.
     #[inline(always)]
-    fn parse_string<V: Build<'a>>(&mut self, quote: u8, text: &'a str) -> Result<V, V::Failure>
+    fn parse_string<V: Handler<'a>>(&mut self, quote: u8, text: &'a str) -> Result<V, Failed>
         requires no_backslash { quote ≢ 92 }
         requires ascii { quote < 128 }
         requires opened { IsBehind quote self.old }
         requires inside { self.old.idx ≤ size_of self.old }
         requires same { text.now ≡ take (length text.now) self.old.buf.now }
-        ensures reads { Builds V.told (AsScalar V.sees) result
+        ensures reads { Builds V.silent self.new.told (AsScalar V.sees) result
             (read_at (λ size mode. quoted_at size mode quote) self.old) (rest_of self.new) }
-        ensures memory { IfErr result (λ f. V.told f ≡ Some Error.OutOfMemory → Contains self.old.buf.now 92) }
+        ensures memory { IfErr result (λ _. self.new.told ≡ Some Error.OutOfMemory → Contains self.old.buf.now 92) }
         ensures advances { Advances self.old self.new }
     {
         if let Some(body) = self.borrowed_string(quote, text) {
@@ -349,7 +435,7 @@ impl<'a> Parser<'a> {
         }
         match self.parse_escaped(quote) {
             Ok(string) => Ok(V::string(string)),
-            Err(error) => Err(V::failure(error)),
+            Err(error) => Err(self.fail(error)),
         }
     }
 
@@ -373,6 +459,7 @@ impl<'a> Parser<'a> {
     fn short_literal(&mut self) -> Option<Literal>
         requires { self.old.idx ≤ size_of self.old }
         ensures reads { FindsAs literal_tree scalar_at result self.old self.new }
+        ensures spelled { IfSome result (λ l. rest_of self.old ≡ literal_text l ++ rest_of self.new) }
         ensures stays { IfNone result (self.new ≡ self.old) }
         ensures advances { Advances self.old self.new }
     {

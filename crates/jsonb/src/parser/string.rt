@@ -1,5 +1,5 @@
 //! Quoted strings.
-ghost use Rattle.std.specs.Prelude.{◌≡◌, ◌≢◌, ◌+◌, ◌<◌, ◌≤◌, Contains, Err, IfNone, length, take};
+ghost use Rattle.std.specs.Prelude.{◌≡◌, ◌≢◌, ◌+◌, ◌<◌, ◌≤◌, Contains, Err, IfNone, IfSome, length, take, ◌++◌, ◌∷◌};
 ghost use Rattle.std.specs.Cow.{cow_str_bytes};
 ghost use Rattle.jsonb_value.specs.View.{mark_view};
 ghost use Rattle.jsonb_value.specs.Tree.Mark.{plain};
@@ -66,6 +66,7 @@ impl<'a> Parser<'a> {
         requires same { text.now ≡ take (length text.now) self.old.buf.now }
         ensures reads { FindsAs (λ s. (plain, s.now)) (λ size mode. string_at size mode quote) result self.old
             self.new }
+        ensures spelled { IfSome result (λ s. rest_of self.old ≡ s.now ++ quote ∷ rest_of self.new) }
         ensures stays { IfNone result (self.new ≡ self.old) }
         ensures advances { Advances self.old self.new }
     {

@@ -1,12 +1,13 @@
 //! Values with all that is in them, by a loop over the arrays and objects that are open.
-ghost use Rattle.std.specs.Prelude.{◌≡◌, ◌+◌, ◌<◌, ◌≤◌, ℕ, false, true, length, take, List, MatchBool, OnOk, IfOk, IfErr, Some, [], ◌∷◌, ◌++◌, if◌then◌else◌};
+ghost use Rattle.std.specs.Prelude.{◌≡◌, ◌+◌, ◌<◌, ◌≤◌, ℕ, false, true, length, take, List, MatchBool, OnOk, IfOk, IfErr, MatchResult, None, Ok, Some, [], ◌∷◌, ◌++◌, if◌then◌else◌};
 ghost use Rattle.jsonb_value.specs.Code.Code.{expected_array_comma_or_end, expected_object_comma_or_end};
 ghost use Rattle.jsonb_value.specs.Grammar.{max_depth};
 ghost use Rattle.jsonb_value.specs.declared.error.Error.TheVariants.{Syntax};
 ghost use Rattle.jsonb_value.specs.declared.error.ParseErrorCode.TheVariants.{DepthLimitExceeded};
-ghost use Rattle.jsonb.specs.declared.parser.value.Frame.TheVariants.{Array, Object};
-ghost use Rattle.jsonb.specs.Build.{ElseFails, Builds, AreSeen};
-ghost use Rattle.jsonb.specs.Frames.{FrameHolds, Pushes, ReadsParts, BeforeValue, AtPart, IsRead, OpensContainer, Completes, finish_container, scalar_or_null};
+ghost use Rattle.jsonb.specs.declared.parser.frame.Frame.{Frame};
+ghost use Rattle.jsonb.specs.declared.parser.frame.Frame.TheVariants.{Array, Object};
+ghost use Rattle.jsonb.specs.Handler.{ElseFails, Builds};
+ghost use Rattle.jsonb.specs.Frames.{Fits, IsObject, Pushes, ReadsParts, BeforeValue, AtPart, IsRead, OpensContainer, finish_container, scalar_or_null};
 ghost use Rattle.jsonb_scan.specs.Answer.{mode_of, MayAllocate};
 ghost use Rattle.jsonb.specs.Parser.{rest_of, size_of, Advances, IsBehind, read_at};
 ghost use Rattle.jsonb_scan.specs.Reading.{Read, begins};
@@ -15,15 +16,15 @@ ghost use Rattle.jsonb_scan.specs.Reading.Container.{is_left_out};
 ghost use Rattle.jsonb_scan.specs.Reading.Document.{value_at};
 ghost use Rattle.jsonb_scan.specs.Source.{Source, Found};
 ghost use Rattle.jsonb.specs.Stack.{elements_from, next_part_at, part_end};
-ghost use Rattle.jsonb_scan.specs.Open.{Open};
-ghost use Rattle.jsonb_scan.specs.Open.{members_so_far};
+ghost use Rattle.jsonb_scan.specs.Open.{Open, elements_so_far, members_so_far};
+ghost use Rattle.jsonb_value.specs.Tree.{Mark};
 ghost use Rattle.jsonb_value.specs.Tree.Mark.{plain};
 
-use super::build::Build;
+use super::frame::{Frame, OpenObject};
+use super::handler::{Failed, Handler};
 use super::{Mode, Parser};
 use jsonb_value::error::{Error, ParseErrorCode};
 use std::alloc::{AllocError, Global};
-use std::mem;
 
 // How many arrays and objects may be open at once.
 const MAX_DEPTH: usize = 512;
@@ -31,44 +32,18 @@ const MAX_DEPTH: usize = 512;
 // For how many open containers there is room from the first one on.
 const FEW_FRAMES: usize = 4;
 
-// An array or an object that is open, with what was read of it.
-#[derive(Drop)]
-enum Frame<V, M, K> {
-    // The elements so far.
-    Array(Vec<V>),
-    Object(OpenObject<M, K>),
-}
+type FrameOf<'a, V> = Frame<
+    <V as Handler<'a>>::Items,
+    <V as Handler<'a>>::Members,
+    <V as Handler<'a>>::Key,
+>;
 
-// The members so far of an object that is open, and the key that waits for its value while a container inside is open.
-#[derive(Drop)]
-struct OpenObject<M, K> {
-    members: M,
-    key: K,
-}
-
-type FrameOf<'a, V> = Frame<V, <V as Build<'a>>::Members, <V as Build<'a>>::Key>;
-
-type ObjectOf<'a, V> = OpenObject<<V as Build<'a>>::Members, <V as Build<'a>>::Key>;
+type ObjectOf<'a, V> = OpenObject<<V as Handler<'a>>::Members, <V as Handler<'a>>::Key>;
 
 impl<'a> Parser<'a> {
-    // A value that begins here.
-    pub(super) fn parse_value<V: Build<'a>>(&mut self, text: &'a str) -> Result<V, V::Failure>
-        requires inside { self.old.idx ≤ size_of self.old }
-        requires same { text.now ≡ take (length text.now) self.old.buf.now }
-        ensures reads { Builds V.told V.sees result (read_at (λ size mode. value_at size mode max_depth) self.old)
-            (rest_of self.new) }
-        ensures memory { IfErr result (λ f. V.told f ≡ Some Error.OutOfMemory → MayAllocate self.old.buf.now) }
-        ensures advances { Advances self.old self.new }
-    {
-        if self.begins_container() {
-            return self.parse_container(text);
-        }
-        self.parse_scalar(text)
-    }
-
     // Whether an array or an object begins here.
     #[inline(always)]
-    fn begins_container(&self) -> bool
+    pub(super) fn begins_container(&self) -> bool
         ensures other { MatchBool result (is_left_out (mode_of self.now.mode) (rest_of self.now) ≡ false)
             ((begins 91 (rest_of self.now) ≡ false) × (begins 123 (rest_of self.now) ≡ false)) }
         ensures opens { MatchBool result (OpensContainer (rest_of self.now)) (Unit {0}) }
@@ -76,86 +51,108 @@ impl<'a> Parser<'a> {
         matches!(self.peek(), Some(b'[' | b'{'))
     }
 
-    // An array or an object that begins here. What isn't built may nest deep.
-    fn parse_container<V: Build<'a>>(&mut self, text: &'a str) -> Result<V, V::Failure>
+    // An array or an object that begins here. What isn't made of it may nest deep.
+    pub(super) fn parse_container<V: Handler<'a>>(
+        &mut self,
+        room: &mut V::Room,
+        text: &'a str,
+    ) -> Result<V, Failed>
         requires inside { self.old.idx ≤ size_of self.old }
         requires same { text.now ≡ take (length text.now) self.old.buf.now }
         requires opens { OpensContainer (rest_of self.old) }
-        ensures reads { Builds V.told V.sees result (read_at (λ size mode. value_at size mode max_depth) self.old)
-            (rest_of self.new) }
+        ensures reads { V.stands self.old.buf.now room.old true [] []
+            → Builds V.silent self.new.told (λ v s. V.filled self.old.buf.now room.new v s [] []) result
+            (read_at (λ size mode. value_at size mode max_depth) self.old) (rest_of self.new) }
         ensures advances { Advances self.old self.new }
+        ensures base { V.base room.new ≡ V.base room.old }
     {
         let Ok(mut stack) = Vec::with_capacity(self.alloc, FEW_FRAMES) else {
-            return Err(V::failure(Error::OutOfMemory));
+            return Err(self.out_of_memory());
         };
-        if let Err(failure) = self.read_container::<V>(&mut stack, text) {
+        if let Err(failed) = self.read_container::<V>(room, &mut stack, text) {
             dismantle_all::<V>(stack);
-            return Err(failure);
+            return Err(failed);
         }
         let Some(mut frame) = stack.pop() else {
             unreachable!();
         };
-        finish::<V>(self.alloc, &mut frame)?;
-        Ok(frame_value::<V>(frame))
+        finish::<V>(room, self.alloc, &mut frame, &mut self.told)?;
+        Ok(frame_value::<V>(room, frame))
     }
 
-    // The same, by a loop over those that are open. The stack is left with the one container, read to its end.
-    fn read_container<V: Build<'a>>(
+    // Reads a container by a loop over those that are open. The stack is left with the one container, read to its end.
+    fn read_container<V: Handler<'a>>(
         &mut self,
+        room: &mut V::Room,
         stack: &mut Vec<FrameOf<'a, V>>,
         text: &'a str,
-    ) -> Result<(), V::Failure>
+    ) -> Result<(), Failed>
         requires inside { self.old.idx ≤ size_of self.old }
         requires same { text.now ≡ take (length text.now) self.old.buf.now }
         requires opens { OpensContainer (rest_of self.old) }
         requires none { stack.old.items ≡ [] }
-        ensures reads { ElseFails V.told result (read_at (λ size mode. value_at size mode max_depth) self.old)
-            (λ _. IsRead V.sees V.names V.holds (read_at (λ size mode. value_at size mode max_depth) self.old)
-            stack.new.items (rest_of self.new)) }
+        ensures reads { V.stands self.old.buf.now room.old true [] []
+            → ElseFails V.silent self.new.told result (read_at (λ size mode. value_at size mode max_depth) self.old)
+            (λ _. IsRead (V.stands self.old.buf.now room.new)
+            (read_at (λ size mode. value_at size mode max_depth) self.old) stack.new.items (rest_of self.new)) }
+        ensures one { OnOk result (length stack.new.items ≡ 1) }
         ensures advances { Advances self.old self.new }
+        ensures base { V.base room.new ≡ V.base room.old }
     {
-        let mut closed = self.open_container::<V>(stack)?;
+        let mut closed = self.open_container::<V>(room, stack)?;
         'turns: loop {
             if closed {
                 if stack.len() == 1 {
                     return Ok(());
                 }
-                closed = self.close_container::<V>(stack)?;
+                closed = self.close_container::<V>(room, stack)?;
             } else {
-                closed = self.read_parts::<V>(stack, text)?;
+                closed = self.read_parts::<V>(room, stack, text)?;
             }
         }
     }
 
     // Opens an array or an object, up to its first part. True where it has none, and it is read to its end.
     #[inline(always)]
-    fn open_container<V: Build<'a>>(
+    fn open_container<V: Handler<'a>>(
         &mut self,
+        room: &mut V::Room,
         stack: &mut Vec<FrameOf<'a, V>>,
-    ) -> Result<bool, V::Failure>
+    ) -> Result<bool, Failed>
         requires depth { length stack.old.items ≤ max_depth }
         requires inside { self.old.idx ≤ size_of self.old }
         requires opens { OpensContainer (rest_of self.old) }
-        ensures reads { (whole : Read Source) → BeforeValue V.sees V.names V.holds whole self.old stack.old.items
-            → ElseFails V.told result whole (AtPart V.sees V.names V.holds whole self.new stack.new.items) }
+        ensures reads { (whole : Read Source)
+            → BeforeValue (V.stands self.old.buf.now room.old) whole self.old stack.old.items
+            → ElseFails V.silent self.new.told result whole
+            (AtPart (V.stands self.old.buf.now room.new) whole self.new stack.new.items) }
         ensures onward { IfOk result (λ closed. self.old.idx < self.new.idx) }
         ensures depth { IfOk result (λ closed. length stack.new.items ≤ max_depth) }
         ensures open { IfOk result (λ closed. 0 < length stack.new.items) }
         ensures advances { Advances self.old self.new }
+        ensures base { V.base room.new ≡ V.base room.old }
     {
         if stack.len() == MAX_DEPTH {
-            return Err(V::failure(self.too_deep()));
+            let error = self.too_deep();
+            return Err(self.fail(error));
         }
         if self.take_byte(b'[') {
-            let Ok(()) = stack.push(Frame::Array(Vec::new(self.alloc))) else {
-                return Err(V::failure(Error::OutOfMemory));
+            let Ok(items) = V::items(room, self.alloc) else {
+                return Err(self.out_of_memory());
+            };
+            let Ok(()) = stack.push(Frame::Array(items)) else {
+                return Err(self.out_of_memory());
             };
             self.skip_blanks();
             return Ok(self.take_byte(b']'));
         }
         self.idx += 1;
-        let Ok(()) = stack.push(new_object::<V>(self.alloc)) else {
-            return Err(V::failure(Error::OutOfMemory));
+        let Ok(members) = V::members(room, self.alloc) else {
+            return Err(self.out_of_memory());
+        };
+        let key = V::no_key(self.alloc);
+        let Ok(()) = stack.push(Frame::Object(OpenObject { members, key })) else {
+            return Err(self.out_of_memory());
         };
         self.skip_blanks();
         Ok(self.take_byte(b'}'))
@@ -172,106 +169,119 @@ impl<'a> Parser<'a> {
 
     // Reads parts of the innermost container, up to its end, or up to a part that is a container and opens that one.
     // True where a container was read to its end.
-    fn read_parts<V: Build<'a>>(
+    fn read_parts<V: Handler<'a>>(
         &mut self,
+        room: &mut V::Room,
         stack: &mut Vec<FrameOf<'a, V>>,
         text: &'a str,
-    ) -> Result<bool, V::Failure>
+    ) -> Result<bool, Failed>
         requires open { 0 < length stack.old.items }
         requires depth { length stack.old.items ≤ max_depth }
         requires inside { self.old.idx ≤ size_of self.old }
         requires same { text.now ≡ take (length text.now) self.old.buf.now }
-        ensures reads { (whole : Read Source) → AtPart V.sees V.names V.holds whole self.old stack.old.items false
-            → ElseFails V.told result whole (AtPart V.sees V.names V.holds whole self.new stack.new.items) }
+        ensures reads { (whole : Read Source)
+            → AtPart (V.stands self.old.buf.now room.old) whole self.old stack.old.items false
+            → ElseFails V.silent self.new.told result whole
+            (AtPart (V.stands self.old.buf.now room.new) whole self.new stack.new.items) }
         ensures onward { IfOk result (λ closed. self.old.idx < self.new.idx) }
         ensures depth { IfOk result (λ closed. length stack.new.items ≤ max_depth) }
         ensures open { IfOk result (λ closed. 0 < length stack.new.items) }
         ensures advances { Advances self.old self.new }
+        ensures base { V.base room.new ≡ V.base room.old }
     {
         let Some(frame) = stack.last_mut() else {
             unreachable!();
         };
-        if self.fill::<V>(frame, text)? {
+        if self.fill::<V>(room, frame, text)? {
             return Ok(true);
         }
-        self.open_container::<V>(stack)
+        self.open_container::<V>(room, stack)
     }
 
     // Reads parts of a container, up to one that is a container, or up to its end. True at the end.
     #[inline(always)]
-    fn fill<V: Build<'a>>(
+    fn fill<V: Handler<'a>>(
         &mut self,
+        room: &mut V::Room,
         frame: &mut FrameOf<'a, V>,
         text: &'a str,
-    ) -> Result<bool, V::Failure>
+    ) -> Result<bool, Failed>
         requires inside { self.old.idx ≤ size_of self.old }
         requires same { text.now ≡ take (length text.now) self.old.buf.now }
-        ensures reads { (depth : ℕ) → (c : Open) → FrameHolds V.sees V.names V.holds frame.old c
-            → ElseFails V.told result
+        ensures reads { (depth : ℕ) → (c : Open) → (fs : List (Frame V.Items V.Members V.Key)) → (cs : List Open)
+            → Fits frame.old c → V.stands self.old.buf.now room.old false (frame.old ∷ fs) (c ∷ cs)
+            → ElseFails V.silent self.new.told result
             (next_part_at (size_of self.old) (mode_of self.old.mode) depth c (rest_of self.old))
-            (λ closed. ReadsParts V.sees V.names V.holds (size_of self.old) (mode_of self.old.mode) depth
+            (λ closed. ReadsParts (V.stands self.old.buf.now room.new) (size_of self.old) (mode_of self.old.mode) depth
             (next_part_at (size_of self.old) (mode_of self.old.mode) depth c (rest_of self.old))
-            closed frame.new (rest_of self.new)) }
+            closed frame.new fs cs (rest_of self.new)) }
         ensures onward { IfOk result (λ closed. MatchBool closed (self.old.idx < self.new.idx) (Unit {0})) }
         ensures opens { IfOk result (λ closed. MatchBool closed (Unit {0}) (OpensContainer (rest_of self.new))) }
         ensures advances { Advances self.old self.new }
+        ensures base { V.base room.new ≡ V.base room.old }
     {
         match frame {
-            Frame::Array(items) => self.read_elements(items, text),
-            Frame::Object(object) => self.read_members::<V>(object, text),
+            Frame::Array(items) => self.read_elements::<V>(room, items, text),
+            Frame::Object(object) => self.read_members::<V>(room, object, text),
         }
     }
 
-    // The same of an array.
-    fn read_elements<V: Build<'a>>(
+    // Reads elements of an array, up to one that is a container, or up to its end. True at the end.
+    fn read_elements<V: Handler<'a>>(
         &mut self,
-        items: &mut Vec<V>,
+        room: &mut V::Room,
+        items: &mut V::Items,
         text: &'a str,
-    ) -> Result<bool, V::Failure>
+    ) -> Result<bool, Failed>
         requires inside { self.old.idx ≤ size_of self.old }
         requires same { text.now ≡ take (length text.now) self.old.buf.now }
-        ensures reads { (depth : ℕ) → (front : List Source) → AreSeen V.sees items.old.items front
-            → ElseFails V.told result
+        ensures reads { (depth : ℕ) → (front : List Source) → (fs : List (Frame V.Items V.Members V.Key))
+            → (cs : List Open)
+            → V.stands self.old.buf.now room.old false (Array items.old ∷ fs) (elements_so_far front ∷ cs)
+            → ElseFails V.silent self.new.told result
             (elements_from (size_of self.old) (mode_of self.old.mode) depth front (rest_of self.old))
-            (λ closed. ReadsParts V.sees V.names V.holds (size_of self.old) (mode_of self.old.mode) depth
+            (λ closed. ReadsParts (V.stands self.old.buf.now room.new) (size_of self.old) (mode_of self.old.mode) depth
             (elements_from (size_of self.old) (mode_of self.old.mode) depth front (rest_of self.old))
-            closed (Array items.new) (rest_of self.new)) }
+            closed (Array items.new) fs cs (rest_of self.new)) }
         ensures onward { IfOk result (λ closed. MatchBool closed (self.old.idx < self.new.idx) (Unit {0})) }
         ensures opens { IfOk result (λ closed. MatchBool closed (Unit {0}) (OpensContainer (rest_of self.new))) }
         ensures advances { Advances self.old self.new }
+        ensures base { V.base room.new ≡ V.base room.old }
     {
         'elements: loop {
             self.skip_blanks();
             if self.begins_container() {
+                let Ok(()) = V::next_item(room, items) else {
+                    return Err(self.out_of_memory());
+                };
                 return Ok(false);
             }
-            self.push_element(items, text)?;
-            if self.end_element::<V>()? {
+            self.push_element::<V>(room, items, text)?;
+            if self.end_element()? {
                 return Ok(true);
             }
         }
     }
 
-    // Pushes an element that is no container: a value, or null where it is left out.
+    // Puts in an element that is no container: a scalar, or null where it is left out.
     #[inline(always)]
-    fn push_element<V: Build<'a>>(
+    fn push_element<V: Handler<'a>>(
         &mut self,
-        items: &mut Vec<V>,
+        room: &mut V::Room,
+        items: &mut V::Items,
         text: &'a str,
-    ) -> Result<(), V::Failure>
+    ) -> Result<(), Failed>
         requires inside { self.old.idx ≤ size_of self.old }
         requires same { text.now ≡ take (length text.now) self.old.buf.now }
-        ensures reads { Pushes V.told V.sees result items.old.items (read_at scalar_or_null self.old) items.new.items
-            (rest_of self.new) }
+        ensures reads { Pushes V.silent self.new.told V.stands self.old.buf.now result room.old items.old
+            (read_at scalar_or_null self.old) room.new items.new (rest_of self.new) }
         ensures advances { Advances self.old self.new }
+        ensures base { V.base room.new ≡ V.base room.old }
     {
         if !self.is_left_out() {
-            return self.push_scalar(items, text);
+            return self.push_scalar::<V>(room, items, text);
         }
-        let Ok(()) = items.push(V::null()) else {
-            return Err(V::failure(Error::OutOfMemory));
-        };
-        Ok(())
+        self.push::<V>(room, items, V::null(), self.idx)
     }
 
     // Whether an element is left out here.
@@ -284,32 +294,36 @@ impl<'a> Parser<'a> {
         }
     }
 
-    // The same of an object. The key of the part that is a container is kept.
-    fn read_members<V: Build<'a>>(
+    // Reads members of an object, up to one whose value is a container, or up to its end. True at the end. The key of
+    // the member whose value is a container is kept.
+    fn read_members<V: Handler<'a>>(
         &mut self,
+        room: &mut V::Room,
         object: &mut ObjectOf<'a, V>,
         text: &'a str,
-    ) -> Result<bool, V::Failure>
+    ) -> Result<bool, Failed>
         requires inside { self.old.idx ≤ size_of self.old }
         requires same { text.now ≡ take (length text.now) self.old.buf.now }
-        ensures reads { (depth : ℕ) → (c : Open) → FrameHolds V.sees V.names V.holds (Object object.old) c
-            → ElseFails V.told result
+        ensures reads { (depth : ℕ) → (c : Open) → (fs : List (Frame V.Items V.Members V.Key)) → (cs : List Open)
+            → IsObject c → V.stands self.old.buf.now room.old false (Object object.old ∷ fs) (c ∷ cs)
+            → ElseFails V.silent self.new.told result
             (next_part_at (size_of self.old) (mode_of self.old.mode) depth c (rest_of self.old))
-            (λ closed. ReadsParts V.sees V.names V.holds (size_of self.old) (mode_of self.old.mode) depth
+            (λ closed. ReadsParts (V.stands self.old.buf.now room.new) (size_of self.old) (mode_of self.old.mode) depth
             (next_part_at (size_of self.old) (mode_of self.old.mode) depth c (rest_of self.old))
-            closed (Object object.new) (rest_of self.new)) }
+            closed (Object object.new) fs cs (rest_of self.new)) }
         ensures onward { IfOk result (λ closed. MatchBool closed (self.old.idx < self.new.idx) (Unit {0})) }
         ensures opens { IfOk result (λ closed. MatchBool closed (Unit {0}) (OpensContainer (rest_of self.new))) }
         ensures advances { Advances self.old self.new }
+        ensures base { V.base room.new ≡ V.base room.old }
     {
         'members: loop {
-            let key = self.begin_member::<V>(text)?;
+            let key = self.begin_member::<V>(room, object, text)?;
             if self.begins_container() {
                 object.key = key;
                 return Ok(false);
             }
-            self.insert_scalar::<V>(&mut object.members, key, text)?;
-            if self.end_member::<V>()? {
+            self.insert_scalar::<V>(room, object, key, text)?;
+            if self.end_member()? {
                 return Ok(true);
             }
         }
@@ -317,9 +331,9 @@ impl<'a> Parser<'a> {
 
     // Passes the comma or the bracket after an element. True where it is the bracket.
     #[inline(always)]
-    fn end_element<V: Build<'a>>(&mut self) -> Result<bool, V::Failure>
+    fn end_element(&mut self) -> Result<bool, Failed>
         requires { self.old.idx ≤ size_of self.old }
-        ensures reads { Builds V.told (λ x y. x ≡ y) result
+        ensures reads { Builds false self.new.told (λ x y. x ≡ y) result
             (part_end (size_of self.old) expected_array_comma_or_end 93 (skip_blanks (mode_of self.old.mode)
             (rest_of self.old))) (rest_of self.new) }
         ensures onward { IfOk result (λ closed. self.old.idx < self.new.idx) }
@@ -331,14 +345,15 @@ impl<'a> Parser<'a> {
         if self.take_byte(b']') {
             return Ok(true);
         }
-        Err(V::failure(self.unexpected(ParseErrorCode::ExpectedArrayCommaOrEnd, 0)))
+        let error = self.unexpected(ParseErrorCode::ExpectedArrayCommaOrEnd, 0);
+        Err(self.fail(error))
     }
 
     // Passes the comma or the brace after a member. True where it is the brace.
     #[inline(always)]
-    fn end_member<V: Build<'a>>(&mut self) -> Result<bool, V::Failure>
+    fn end_member(&mut self) -> Result<bool, Failed>
         requires { self.old.idx ≤ size_of self.old }
-        ensures reads { Builds V.told (λ x y. x ≡ y) result
+        ensures reads { Builds false self.new.told (λ x y. x ≡ y) result
             (part_end (size_of self.old) expected_object_comma_or_end 125 (skip_blanks (mode_of self.old.mode)
             (rest_of self.old))) (rest_of self.new) }
         ensures onward { IfOk result (λ closed. self.old.idx < self.new.idx) }
@@ -350,7 +365,8 @@ impl<'a> Parser<'a> {
         if self.take_byte(b'}') {
             return Ok(true);
         }
-        Err(V::failure(self.unexpected(ParseErrorCode::ExpectedObjectCommaOrEnd, 0)))
+        let error = self.unexpected(ParseErrorCode::ExpectedObjectCommaOrEnd, 0);
+        Err(self.fail(error))
     }
 
     // Passes blanks and this byte, where it comes next; else the blanks alone. Most often there are none.
@@ -374,108 +390,108 @@ impl<'a> Parser<'a> {
 
     // Puts the innermost container, which was read, into the one around it, up to the next part of that one. True where
     // that one ends there.
-    fn close_container<V: Build<'a>>(
+    fn close_container<V: Handler<'a>>(
         &mut self,
+        room: &mut V::Room,
         stack: &mut Vec<FrameOf<'a, V>>,
-    ) -> Result<bool, V::Failure>
+    ) -> Result<bool, Failed>
         requires open { 1 < length stack.old.items }
         requires depth { length stack.old.items ≤ max_depth }
         requires inside { self.old.idx ≤ size_of self.old }
-        ensures reads { (whole : Read Source) → AtPart V.sees V.names V.holds whole self.old stack.old.items true
-            → ElseFails V.told result whole (AtPart V.sees V.names V.holds whole self.new stack.new.items) }
+        ensures reads { (whole : Read Source)
+            → AtPart (V.stands self.old.buf.now room.old) whole self.old stack.old.items true
+            → ElseFails V.silent self.new.told result whole
+            (AtPart (V.stands self.old.buf.now room.new) whole self.new stack.new.items) }
         ensures onward { IfOk result (λ closed. self.old.idx < self.new.idx) }
         ensures depth { IfOk result (λ closed. length stack.new.items ≤ max_depth) }
         ensures open { IfOk result (λ closed. 0 < length stack.new.items) }
         ensures advances { Advances self.old self.new }
+        ensures base { V.base room.new ≡ V.base room.old }
     {
         let Some(mut inner) = stack.pop() else {
             unreachable!();
         };
-        finish::<V>(self.alloc, &mut inner)?;
+        finish::<V>(room, self.alloc, &mut inner, &mut self.told)?;
+        let value = frame_value::<V>(room, inner);
         let Some(outer) = stack.last_mut() else {
             unreachable!();
         };
         match outer {
             Frame::Array(items) => {
-                make_room(items, self.next_is(b']'));
-                let Ok(()) = push_value(items, frame_value::<V>(inner)) else {
-                    return Err(V::failure(Error::OutOfMemory));
+                let Ok(()) = V::push_inner(room, items, value, self.next_is(b']')) else {
+                    return Err(self.out_of_memory());
                 };
-                self.end_element::<V>()
+                self.end_element()
             }
             Frame::Object(object) => {
-                let key = mem::replace(&mut object.key, V::no_key(self.alloc));
-                V::insert(&mut object.members, key, frame_value::<V>(inner))?;
-                self.end_member::<V>()
+                let inserted = V::insert_inner(room, object, self.alloc, value);
+                self.inserted(inserted)?;
+                self.end_member()
             }
+        }
+    }
+
+    // What an attempt to put in a member returns: where its key is there already and nobody told it, nothing is told.
+    #[inline(always)]
+    pub(super) fn inserted(&mut self, inserted: Result<bool, AllocError>) -> Result<(), Failed>
+        ensures ok { OnOk result ((inserted ≡ Ok true) × (self.new ≡ self.old)) }
+        ensures told { IfErr result (λ _. MatchResult inserted (λ is_new. (is_new ≡ false) × (self.new.told ≡ None))
+            (λ _. self.new.told ≡ Some Error.OutOfMemory)) }
+        ensures advances { Advances self.old self.new }
+    {
+        match inserted {
+            Ok(true) => Ok(()),
+            Ok(false) => Err(self.untold()),
+            Err(_) => Err(self.out_of_memory()),
         }
     }
 }
 
-// An object with no members.
-#[inline(always)]
-fn new_object<'a, V: Build<'a>>(alloc: Global) -> FrameOf<'a, V>
-    ensures { FrameHolds V.sees V.names V.holds result (members_so_far [] (plain, []) 0) }
-{
-    Frame::Object(OpenObject {
-        members: V::members(alloc),
-        key: V::no_key(alloc),
-    })
-}
-
 // What comes at the end of a container: a key that comes twice is told.
 #[inline(always)]
-fn finish<'a, V: Build<'a>>(alloc: Global, frame: &mut FrameOf<'a, V>) -> Result<(), V::Failure>
-    ensures { (c : Open) → (rest : List ℕ) → FrameHolds V.sees V.names V.holds frame.old c
-        → ElseFails V.told result (finish_container c rest) (λ _. (s : Source)
-        × Completes V.sees V.completes frame.new s × (finish_container c rest ≡ Ok (s, rest))) }
+fn finish<'a, V: Handler<'a>>(
+    room: &mut V::Room,
+    alloc: Global,
+    frame: &mut FrameOf<'a, V>,
+    told: &mut Option<Error>,
+) -> Result<(), Failed>
+    ensures ended { (text : List ℕ) → (c : Open) → (rest : List ℕ) → (fs : List (Frame V.Items V.Members V.Key))
+        → (cs : List Open) → Fits frame.old c → V.stands text room.old false (frame.old ∷ fs) (c ∷ cs)
+        → ElseFails V.silent told.new result (finish_container c rest) (λ _. (s : Source)
+        × V.completes text room.new frame.new s fs cs × (finish_container c rest ≡ Ok (s, rest))) }
+    ensures base { V.base room.new ≡ V.base room.old }
 {
     match frame {
-        Frame::Array(_) => Ok(()),
-        Frame::Object(object) => V::finish(alloc, &mut object.members),
+        Frame::Array(items) => {
+            if V::end_items(room, items).is_err() {
+                *told = Some(Error::OutOfMemory);
+                return Err(Failed);
+            }
+            Ok(())
+        }
+        Frame::Object(object) => V::finish(room, alloc, &mut object.members, told),
     }
 }
 
-// The value of a container that is finished.
+// The value of a container that ended.
 #[inline(always)]
-fn frame_value<'a, V: Build<'a>>(frame: FrameOf<'a, V>) -> V
-    ensures { (s : Source) → Completes V.sees V.completes frame s → V.sees result s }
+fn frame_value<'a, V: Handler<'a>>(room: &V::Room, frame: FrameOf<'a, V>) -> V
+    ensures { (text : List ℕ) → (s : Source) → (fs : List (Frame V.Items V.Members V.Key)) → (cs : List Open)
+        → V.completes text room.now frame s fs cs → V.filled text room.now result s fs cs }
 {
     match frame {
-        Frame::Array(items) => V::array(items),
-        Frame::Object(object) => V::object(object.members),
+        Frame::Array(items) => V::array(room, items),
+        Frame::Object(object) => V::object(room, object.members),
     }
-}
-
-// Makes room for a value, and for no other, where it is the array's only one. Arrays in arrays often have but one.
-#[inline(always)]
-fn make_room<V>(items: &mut Vec<V>, is_last: bool)
-    ensures { items.new.items ≡ items.old.items }
-{
-    if is_last && items.capacity() == 0 {
-        let _made = items.reserve_exact(1);
-    }
-}
-
-// Pushes a value. One that is refused may nest deep.
-#[inline(always)]
-fn push_value<'a, V: Build<'a>>(items: &mut Vec<V>, value: V) -> Result<(), AllocError>
-    ensures items { OnOk result (items.new.items ≡ items.old.items ++ value ∷ []) }
-{
-    if let Err(refused) = items.push(value) {
-        refused.value.dismantle();
-        return Err(AllocError);
-    }
-    Ok(())
 }
 
 // Drops the containers that are open. What they hold may nest deep.
 #[cold]
 #[inline(never)]
-fn dismantle_all<'a, V: Build<'a>>(stack: Vec<FrameOf<'a, V>>) {
+fn dismantle_all<'a, V: Handler<'a>>(stack: Vec<FrameOf<'a, V>>) {
     'frames: for frame in stack {
         match frame {
-            Frame::Array(items) => V::array(items).dismantle(),
+            Frame::Array(items) => V::dismantle_items(items),
             Frame::Object(object) => V::dismantle_members(object.members),
         }
     }

@@ -18,8 +18,8 @@ returns-in-Err-clause-proper c = value_has (λ v. IsDocument extended c.args.buf
 
 pub returns-in-Ok-clause-exact : goal.returns-in-Ok-clause-exact
 returns-in-Ok-clause-exact c =
-    let reads = c.in-Ok.ensures.reads in
-    document_built extended c.args.buf.now (view c.in-Ok.value) reads.0 reads.1 reads.2
+    let reads = c.in-Ok.ensures.reads tt in
+    document_built extended c.args.buf.now (view c.in-Ok.value) reads.0 reads.1.0 reads.2
 
 pub returns-in-Ok-clause-document : goal.returns-in-Ok-clause-document
 returns-in-Ok-clause-document c = document_sound extended c.args.buf.now (view c.in-Ok.value) (returns-in-Ok-clause-exact c)

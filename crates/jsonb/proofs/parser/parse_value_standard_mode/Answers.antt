@@ -24,8 +24,8 @@ returns-in-Err-clause-extended c = value_has (λ v. IsDocument standard c.args.b
 
 pub returns-in-Ok-clause-exact : goal.returns-in-Ok-clause-exact
 returns-in-Ok-clause-exact c =
-    let reads = c.in-Ok.ensures.reads in
-    document_built standard c.args.buf.now (view c.in-Ok.value) reads.0 reads.1 reads.2
+    let reads = c.in-Ok.ensures.reads tt in
+    document_built standard c.args.buf.now (view c.in-Ok.value) reads.0 reads.1.0 reads.2
 
 pub returns-in-Ok-clause-document : goal.returns-in-Ok-clause-document
 returns-in-Ok-clause-document c = document_sound standard c.args.buf.now (view c.in-Ok.value) (returns-in-Ok-clause-exact c)

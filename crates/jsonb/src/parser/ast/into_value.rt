@@ -5,7 +5,7 @@ ghost use Rattle.jsonb_value.specs.View.{view, trees_view, members_view};
 ghost use Rattle.jsonb.specs.AstView.{ast_view, asts_view, written_members, IsContainer};
 
 use super::JsonAst;
-use crate::parser::build::put_member;
+use crate::parser::handler::put_member;
 use jsonb_value::error::{Error, Result};
 use jsonb_value::value::{Object, Value};
 use std::alloc::Global;

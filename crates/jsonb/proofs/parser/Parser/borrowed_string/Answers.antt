@@ -1,5 +1,5 @@
-use Rattle.std.proofs.Common.{◌≡◌, ℕ, ◌+◌, ◌-◌, ◌<◌, ◌≤◌, List, Ok, false, length, take, drop, get_or, ap, sym, subst, ◌∙◌, arith, drop-drop}
-use Rattle.std.proofs.lemmas.List.{drop-take, get_or-take, take-take}
+use Rattle.std.proofs.Common.{◌≡◌, ℕ, ◌+◌, ◌-◌, ◌<◌, ◌≤◌, List, Ok, false, length, take, drop, get_or, ap, ap₂, sym, ◌∷◌, ◌++◌, subst, ◌∙◌, arith, drop-drop}
+use Rattle.std.proofs.lemmas.List.{drop-take, drop_more, get_or-take, take-append-drop, take-take}
 use Rattle.std.proofs.lemmas.Str.{IsCharBoundary-after_ascii}
 use Rattle.std.specs.Str.{IsCharBoundary, IsUtf8}
 use Rattle.jsonb_value.specs.Tree.Mark.{plain}
@@ -49,3 +49,25 @@ returns-clause-reads c =
     ∙ string-closed (size_of p) mode quote rest end (plain, take end rest) found (body-raw mode (take end rest) clear is_text)
     ∙ ap (λ (s : List ℕ). Ok ((plain, s), drop (end + 1) rest)) (sym cut)
     ∙ ap (λ (u : List ℕ). Ok ((plain, c.range-body.result.now), u)) (ap (λ (u : List ℕ). drop (end + 1) u) rest-is ∙ drop-drop (end + 1) p.idx p.buf.now ∙ ap (λ (n : ℕ). drop n p.buf.now) after)
+
+pub returns-clause-spelled : goal.returns-clause-spelled
+returns-clause-spelled c =
+    let p = c.args.self.now in
+    let rest-is = c.rest-rest.ensures in
+    let rest : List ℕ = c.rest-rest.result.now in
+    let end : ℕ = c.next_mark-end.result in
+    let within : end < length rest = omega arith in
+    let count : p.idx + end - p.idx ≡ end = omega arith in
+    let all : ℕ = length c.args.text.now in
+    let left : ℕ = all - p.idx in
+    let split : all ≡ p.idx + left = omega (arith, c.if-after-text.false) in
+    let short : end ≤ left = omega (arith, c.if-after-text.false) in
+    let cut : c.range-body.result.now ≡ take end rest =
+    c.range-body.ensures.value ∙ ap (λ (n : ℕ). take n (drop p.idx c.args.text.now)) count
+    ∙ ap (λ (u : List ℕ). take end (drop p.idx u)) (c.requires.same ∙ ap (λ (n : ℕ). take n p.buf.now) split)
+    ∙ ap (λ (u : List ℕ). take end u) (drop-take p.idx left p.buf.now) ∙ take-take end left (drop p.idx p.buf.now) short
+    ∙ ap (λ (u : List ℕ). take end u) (sym rest-is) in
+    let after : p.idx + (end + 1) ≡ p.idx + end + 1 = omega arith in
+    sym rest-is ∙ sym (take-append-drop end rest)
+    ∙ ap₂ (λ (u v : List ℕ). u ++ v) (sym cut)
+    (drop_more rest end 0 within ∙ ap₂ (λ (b : ℕ) (u : List ℕ). b ∷ u) c.if-rest-end.false (ap (λ (u : List ℕ). drop (end + 1) u) rest-is ∙ drop-drop (end + 1) p.idx p.buf.now ∙ ap (λ (n : ℕ). drop n p.buf.now) after))

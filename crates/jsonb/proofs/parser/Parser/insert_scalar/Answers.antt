@@ -1,34 +1,40 @@
-use Rattle.std.proofs.Common.{◌∷◌, ap, sym, subst, ◌∙◌}
+use Rattle.std.proofs.Common.{◌∷◌, ◌++◌, [], append_assoc, ap, sym, subst, ◌∙◌}
 use Rattle.jsonb_value.specs.Tree.{string}
 use Rattle.jsonb_value.specs.Tree.Mark.{plain}
 use Rattle.jsonb.specs.Parser.{Advances, rest_of}
-use Rattle.jsonb.proofs.Scalars.Built.{read_put, scalar_still, scalar_string}
+use Rattle.jsonb.proofs.Scalars.Built.{between, read_put, scalar_still, scalar_string}
 use Rattle.jsonb.proofs.Scalars.FirstBytes.{scalar_other}
+use Rattle.jsonb.proofs.Steps.Advancing.{goes_on}
 use Rattle.jsonb.proofs.Steps.Failures.{puts_in_same}
 use Rattle.jsonb.proofs.Steps.Outcomes.{scalar_quoted}
 use Rattle.jsonb.proofs.parser.Parser.insert_scalar.Goals as goal
 
 pub returns-in-Some-clause-reads : goal.returns-in-Some-clause-reads
 returns-in-Some-clause-reads g c =
+    let p = c.args.self.now in
+    let o = c.take_byte.new.self in
+    let q = c.borrowed_string.new.self in
+    let h = g.V.Handler in
+    let on = goes_on p o q c.take_byte.ensures.advances c.borrowed_string.ensures.advances in
     let body = c.in-Some.body.now in
-    let b = g.V.Build in
-    read_put b.told b.sees b.names b.holds c.insert.result c.args.members.now c.args.key c.string.result (string plain body) _ c.insert.new.members _ c.insert.ensures.put c.insert.ensures.memory c.string.ensures
-    (scalar_string c.args.self.now c.take_byte.new.self (plain, body) _ c.take_byte.ensures.advances c.if-take_byte.ensures.rest c.in-Some.ensures.reads)
+    read_put h.silent h.stands (h.sees c.string.result) p.buf.now p.idx q c.insert.new.self c.args.room.now c.insert.new.room c.insert.result c.args.object.now c.args.key (string plain body) _ c.insert.new.object c.insert.ensures.put c.insert.ensures.same c.insert.ensures.told c.string.ensures
+    (λ some. between p q (34 ∷ body ++ 34 ∷ []) on c.requires.inside (c.if-take_byte.ensures.rest ∙ ap (λ r. 34 ∷ r) (c.in-Some.ensures.spelled ∙ sym (append_assoc body (34 ∷ []) (rest_of q)))))
+    (scalar_string p o (plain, body) _ c.take_byte.ensures.advances c.if-take_byte.ensures.rest c.in-Some.ensures.reads)
 
 pub returns-then-take_byte-clause-reads : goal.returns-then-take_byte-clause-reads
 returns-then-take_byte-clause-reads g c =
     let p = c.args.self.now in
-    let b = g.V.Build in
+    let h = g.V.Handler in
     let stays = sym c.in_default.ensures.stays in
     let quoted = scalar_quoted p c.borrowed_string.new.self (subst (Advances p) stays c.take_byte.ensures.advances) (c.if-take_byte.ensures.rest ∙ ap (λ q. 34 ∷ rest_of q) stays) in
-    puts_in_same b.told b.names b.holds c.insert_escaped.result _ _ _ _ _ _ quoted c.insert_escaped.ensures.reads
+    puts_in_same h.silent c.insert_escaped.new.self.told h.stands c.insert_escaped.result _ _ (sym (ap (λ b. b.now) (subst (Advances p) stays c.take_byte.ensures.advances).buf)) _ c.args.object.now _ _ _ _ _ _ quoted c.insert_escaped.ensures.reads
 
 pub returns-in-Standard-clause-reads : goal.returns-in-Standard-clause-reads
 returns-in-Standard-clause-reads g c =
-    let b = g.V.Build in
-    puts_in_same b.told b.names b.holds c.insert_standard_scalar.result _ _ _ _ _ _ (scalar_still c.args.self.now c.take_byte.new.self c.if-take_byte.ensures.rest) c.insert_standard_scalar.ensures.reads
+    let h = g.V.Handler in
+    puts_in_same h.silent c.insert_standard_scalar.new.self.told h.stands c.insert_standard_scalar.result _ _ (sym (ap (λ o. o.buf.now) c.if-take_byte.ensures.rest)) _ c.args.object.now _ _ _ _ _ _ (scalar_still c.args.self.now c.take_byte.new.self c.if-take_byte.ensures.rest) c.insert_standard_scalar.ensures.reads
 
 pub returns-in-Extended-clause-reads : goal.returns-in-Extended-clause-reads
 returns-in-Extended-clause-reads g c =
-    let b = g.V.Build in
-    puts_in_same b.told b.names b.holds c.insert_other_scalar.result _ _ _ _ _ _ (scalar_other c.args.self.now c.take_byte.new.self c.if-take_byte.ensures.rest (sym c.if-take_byte.ensures.found)) c.insert_other_scalar.ensures.reads
+    let h = g.V.Handler in
+    puts_in_same h.silent c.insert_other_scalar.new.self.told h.stands c.insert_other_scalar.result _ _ (sym (ap (λ o. o.buf.now) c.if-take_byte.ensures.rest)) _ c.args.object.now _ _ _ _ _ _ (scalar_other c.args.self.now c.take_byte.new.self c.if-take_byte.ensures.rest (sym c.if-take_byte.ensures.found)) c.insert_other_scalar.ensures.reads

@@ -1,19 +1,38 @@
-use Rattle.std.proofs.Common.{Ok, ap, ◌∙◌}
-use Rattle.jsonb_value.specs.Tree.{null}
-use Rattle.jsonb.specs.Literals.{literal_tree}
-use Rattle.jsonb.specs.Parser.{rest_of}
-use Rattle.jsonb.proofs.Scalars.Built.{read_put, scalar_still}
+use Rattle.std.proofs.Common.{◌≡◌, Bool, cond, ap, subst, sym, ◌∙◌}
+use Rattle.jsonb_scan.specs.ShortInteger.{short_view}
+use Rattle.jsonb_scan.specs.Source.{number_source}
+use Rattle.jsonb_value.specs.Tree.{number}
+use Rattle.jsonb_value.specs.View.{number_view}
+use Rattle.jsonb.proofs.Scalars.Built.{integer_stands, negative_of, positive_of, read_put}
 use Rattle.jsonb.proofs.Scalars.FirstBytes.{scalar_other}
 use Rattle.jsonb.proofs.Steps.Failures.{puts_in_same}
 use Rattle.jsonb.proofs.parser.Parser.insert_standard_scalar.Goals as goal
 
-pub returns-in-Some-Null-clause-reads : goal.returns-in-Some-Null-clause-reads
-returns-in-Some-Null-clause-reads g c =
-    let b = g.V.Build in
-    read_put b.told b.sees b.names b.holds c.insert-in-Some-Null.result c.args.members.now c.args.key c.null.result null _ c.insert-in-Some-Null.new.members _ c.insert-in-Some-Null.ensures.put c.insert-in-Some-Null.ensures.memory c.null.ensures
-    (scalar_still c.args.self.now c.short_integer.new.self c.in_default.ensures.stays ∙ c.in-Some-Null.ensures.reads ∙ ap (λ l. Ok (literal_tree l, rest_of c.short_literal.new.self)) c.in-Some-Null.field-0-is)
-
 pub returns-in-None-clause-reads : goal.returns-in-None-clause-reads
 returns-in-None-clause-reads g c =
-    let b = g.V.Build in
-    puts_in_same b.told b.names b.holds c.insert_other_scalar.result _ _ _ _ _ _ (scalar_other c.args.self.now c.short_literal.new.self (c.in-None.ensures.stays ∙ c.in_default.ensures.stays) c.requires.no_string) c.insert_other_scalar.ensures.reads
+    let h = g.V.Handler in
+    puts_in_same h.silent c.insert_other_scalar.new.self.told h.stands c.insert_other_scalar.result _ _ (sym (ap (λ o. o.buf.now) (c.in-None.ensures.stays ∙ c.in_default.ensures.stays))) _ c.args.object.now _ _ _ _ _ _ (scalar_other c.args.self.now c.short_literal.new.self (c.in-None.ensures.stays ∙ c.in_default.ensures.stays) c.requires.no_string) c.insert_other_scalar.ensures.reads
+
+pub returns-then-read-clause-reads : goal.returns-then-read-clause-reads
+returns-then-read-clause-reads g c =
+    let p = c.args.self.now in
+    let q = c.short_integer.new.self in
+    let h = g.V.Handler in
+    let read = c.in-Some.read in
+    let n = short_view read in
+    let same : n ≡ number_view c.negative_number-number.result = ap (λ (b : Bool). cond b (negative_of read) (positive_of read)) c.if-read.true ∙ sym c.negative_number-number.ensures in
+    read_put h.silent h.stands (h.sees c.number.result) p.buf.now p.idx q c.insert.new.self c.args.room.now c.insert.new.room c.insert.result c.args.object.now c.args.key (number n) _ c.insert.new.object c.insert.ensures.put c.insert.ensures.same c.insert.ensures.told
+    (subst (λ m. h.sees c.number.result (number_source m)) (sym same) c.number.ensures)
+    (integer_stands p q n c.short_integer.ensures.advances c.requires.inside c.in-Some.ensures.spelled) c.in-Some.ensures.reads
+
+pub returns-in-Some-clause-reads : goal.returns-in-Some-clause-reads
+returns-in-Some-clause-reads g c =
+    let p = c.args.self.now in
+    let q = c.short_integer.new.self in
+    let h = g.V.Handler in
+    let read = c.in-Some.read in
+    let n = short_view read in
+    let same : n ≡ positive_of read = ap (λ (b : Bool). cond b (negative_of read) (positive_of read)) c.if-read.false in
+    read_put h.silent h.stands (h.sees c.number-in-Some.result) p.buf.now p.idx q c.insert-in-Some.new.self c.args.room.now c.insert-in-Some.new.room c.insert-in-Some.result c.args.object.now c.args.key (number n) _ c.insert-in-Some.new.object c.insert-in-Some.ensures.put c.insert-in-Some.ensures.same c.insert-in-Some.ensures.told
+    (subst (λ m. h.sees c.number-in-Some.result (number_source m)) (sym same) c.number-in-Some.ensures)
+    (integer_stands p q n c.short_integer.ensures.advances c.requires.inside c.in-Some.ensures.spelled) c.in-Some.ensures.reads

@@ -1,7 +1,12 @@
-use Rattle.std.proofs.Common.{◌∷◌, ap, subst, sym, ◌∙◌}
+use Rattle.jsonb_value.specs.Tree.{Mark}
+use Rattle.std.proofs.Common.{ℕ, List, ◌∷◌, ap, subst, sym, ◌∙◌}
 use Rattle.jsonb_value.specs.Tree.Mark.{plain}
+use Rattle.jsonb_scan.specs.Answer.{mode_of}
+use Rattle.jsonb_scan.specs.Reading.String.{string_at}
+use Rattle.jsonb.specs.Handler.{AsKey, Begins, Builds}
 use Rattle.jsonb.specs.Parser.{Advances, rest_of, size_of}
-use Rattle.jsonb.proofs.Scalars.Built.{key_built, key_same}
+use Rattle.jsonb_scan.specs.Spelled.{KeyStandsAt}
+use Rattle.jsonb.proofs.Scalars.Built.{key_begun, key_kept, key_same, key_stands}
 use Rattle.jsonb.proofs.Steps.Advancing.{goes_on}
 use Rattle.jsonb.proofs.Steps.Outcomes.{key_quoted, same_size}
 use Rattle.jsonb.proofs.parser.Parser.parse_member_key.Goals as goal
@@ -13,7 +18,9 @@ returns-in-Some-clause-reads g c =
     let r = c.borrowed_string.new.self in
     let on = c.take_after_blanks.ensures.advances in
     let all = goes_on p q r on c.borrowed_string.ensures.advances in
-    key_built g.V.Build.told g.V.Build.names c.borrowed_key.result (size_of p) r (plain, c.in-Some.body.now) _ (sym (same_size p r all)) (all.inside c.requires.inside) c.borrowed_key.ensures.named c.borrowed_key.ensures.memory
+    let body = c.in-Some.body.now in
+    let stands : KeyStandsAt p.buf.now body q.idx r.idx = λ some. key_stands p q r body some on c.borrowed_string.ensures.advances c.requires.inside c.if-not-take_after_blanks.ensures.behind c.in-Some.ensures.spelled in
+    key_kept g.V.Handler.silent (Begins (g.V.Handler.stands p.buf.now) c.args.room.now c.args.object.now c.borrowed_key-key.new.room c.borrowed_key-key.new.object) c.borrowed_key-key.result c.kept.result (size_of p) r c.kept.new.self (plain, c.in-Some.body.now) _ (sym (same_size p r all)) (all.inside c.requires.inside) (key_begun (λ bytes. KeyStandsAt bytes body q.idx r.idx) (λ bytes key. Begins (g.V.Handler.stands bytes) c.args.room.now c.args.object.now c.borrowed_key-key.new.room c.borrowed_key-key.new.object key (plain, body) r.idx) c.borrowed_key-key.result c.borrowed_key-key.ensures.begun p.buf.now stands) c.kept.ensures.same c.kept.ensures.memory
     (key_quoted p q on c.if-not-take_after_blanks.ensures.rest ∙ c.in-Some.ensures.reads)
 
 pub returns-clause-reads : goal.returns-clause-reads
@@ -22,4 +29,6 @@ returns-clause-reads g c =
     let q = c.borrowed_string.new.self in
     let stays = sym c.in_default.ensures.stays in
     let on = subst (Advances p) stays c.take_after_blanks.ensures.advances in
-    key_same g.V.Build.told g.V.Build.names c.escaped_key.result (size_of q) (size_of p) _ _ _ (sym (same_size p q on)) (key_quoted p q on (c.if-not-take_after_blanks.ensures.rest ∙ ap (λ s. 34 ∷ rest_of s) stays)) c.escaped_key.ensures.reads
+    let names : List ℕ → g.row.V-Key.Denot → Mark × List ℕ → ℕ → Type 0 = λ text. Begins (g.V.Handler.stands text) c.args.room.now c.args.object.now c.escaped_key.new.room c.escaped_key.new.object in
+    key_same g.V.Handler.silent c.escaped_key.new.self.told (names p.buf.now) c.escaped_key.result (size_of q) (size_of p) _ _ (rest_of c.escaped_key.new.self) (sym (same_size p q on)) (key_quoted p q on (c.if-not-take_after_blanks.ensures.rest ∙ ap (λ s. 34 ∷ rest_of s) stays))
+    (subst (λ b. Builds g.V.Handler.silent c.escaped_key.new.self.told (AsKey (names b.now) (size_of q) (rest_of c.escaped_key.new.self)) c.escaped_key.result (string_at (size_of q) (mode_of q.mode) 34 (rest_of q)) (rest_of c.escaped_key.new.self)) on.buf c.escaped_key.ensures.reads)

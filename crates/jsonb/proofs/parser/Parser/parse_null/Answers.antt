@@ -2,7 +2,7 @@ use Rattle.std.proofs.Common.{◌≡◌, Err, ap, drop, length, sym, ◌∙◌}
 use Rattle.jsonb_value.specs.Tree.{null}
 use Rattle.jsonb_scan.specs.Answer.{mode_of}
 use Rattle.jsonb_scan.specs.Reading.Scalar.{null_at, number_value_at}
-use Rattle.jsonb.specs.Build.{AsScalar}
+use Rattle.jsonb.specs.Handler.{AsScalar}
 use Rattle.jsonb.specs.Parser.{rest_of, size_of}
 use Rattle.jsonb.proofs.Scalars.Built.{null_missed, null_read, number_built}
 use Rattle.jsonb.proofs.Steps.Failures.{builds_same}
@@ -20,5 +20,5 @@ returns-in-Extended-clause-reads g c =
     let same : null_at (size_of p) (mode_of p.mode) (rest_of p) ≡ number_value_at (size_of q) (mode_of q.mode) left =
     null_missed (size_of p) (mode_of p.mode) (rest_of p) c.in-Err.error (ap mode_of (sym on.mode ∙ c.in-Extended.is)) (λ e. c.in-Err.ensures.takes_no_memory (ap Err e)) c.in-Err.ensures.reads
     ∙ ap (λ b. number_value_at (length b.now) (mode_of p.mode) (drop p.idx b.now)) (sym on.buf) ∙ ap (λ m. number_value_at (size_of q) (mode_of m) left) (sym on.mode) in
-    builds_same g.V.Build.told (AsScalar g.V.Build.sees) c.parse_number_value.result _ _ _ same
-    (number_built g.V.Build.told g.V.Build.sees c.parse_number_value.result (size_of q) (mode_of q.mode) left _ c.parse_number_value.ensures.reads)
+    builds_same g.V.Handler.silent c.parse_number_value.new.self.told (AsScalar g.V.Handler.sees) c.parse_number_value.result _ _ _ same
+    (number_built g.V.Handler.silent c.parse_number_value.new.self.told g.V.Handler.sees c.parse_number_value.result (size_of q) (mode_of q.mode) left _ c.parse_number_value.ensures.reads)

@@ -1,29 +1,40 @@
-use Rattle.std.proofs.Common.{◌∷◌, ap, sym, subst, ◌∙◌}
+use Rattle.std.proofs.Common.{◌∷◌, ◌++◌, [], append_assoc, ap, sym, subst, ◌∙◌}
 use Rattle.jsonb_value.specs.Tree.{string}
 use Rattle.jsonb_value.specs.Tree.Mark.{plain}
 use Rattle.jsonb.specs.Parser.{Advances, rest_of}
-use Rattle.jsonb.proofs.Scalars.Built.{read_pushed, scalar_still, scalar_string}
+use Rattle.jsonb.proofs.Scalars.Built.{between, read_pushed, scalar_still, scalar_string}
 use Rattle.jsonb.proofs.Scalars.FirstBytes.{scalar_other}
+use Rattle.jsonb.proofs.Steps.Advancing.{goes_on}
 use Rattle.jsonb.proofs.Steps.Failures.{pushes_same}
 use Rattle.jsonb.proofs.Steps.Outcomes.{scalar_quoted}
 use Rattle.jsonb.proofs.parser.Parser.push_scalar.Goals as goal
 
 pub returns-in-Some-clause-reads : goal.returns-in-Some-clause-reads
 returns-in-Some-clause-reads g c =
-    read_pushed g.V.Build.told g.V.Build.sees c.push.result c.args.items.now.items c.string.result (string plain c.in-Some.body.now) _ c.push.new.items.items _ c.push.ensures.items c.push.ensures.memory c.string.ensures
-    (scalar_string c.args.self.now c.take_byte.new.self (plain, c.in-Some.body.now) _ c.take_byte.ensures.advances c.if-take_byte.ensures.rest c.in-Some.ensures.reads)
+    let p = c.args.self.now in
+    let o = c.take_byte.new.self in
+    let q = c.borrowed_string.new.self in
+    let h = g.V.Handler in
+    let on = goes_on p o q c.take_byte.ensures.advances c.borrowed_string.ensures.advances in
+    let body = c.in-Some.body.now in
+    read_pushed h.silent h.stands (h.sees c.string.result) p.buf.now p.idx q c.push.new.self c.args.room.now c.push.new.room c.push.result c.args.items.now (string plain body) _ c.push.new.items c.push.ensures.put c.push.ensures.same c.push.ensures.memory c.string.ensures
+    (λ some. between p q (34 ∷ body ++ 34 ∷ []) on c.requires.inside (c.if-take_byte.ensures.rest ∙ ap (λ r. 34 ∷ r) (c.in-Some.ensures.spelled ∙ sym (append_assoc body (34 ∷ []) (rest_of q)))))
+    (scalar_string p o (plain, body) _ c.take_byte.ensures.advances c.if-take_byte.ensures.rest c.in-Some.ensures.reads)
 
 pub returns-then-take_byte-clause-reads : goal.returns-then-take_byte-clause-reads
 returns-then-take_byte-clause-reads g c =
     let p = c.args.self.now in
+    let h = g.V.Handler in
     let stays = sym c.in_default.ensures.stays in
     let quoted = scalar_quoted p c.borrowed_string.new.self (subst (Advances p) stays c.take_byte.ensures.advances) (c.if-take_byte.ensures.rest ∙ ap (λ q. 34 ∷ rest_of q) stays) in
-    pushes_same g.V.Build.told g.V.Build.sees c.push_escaped.result _ _ _ _ _ quoted c.push_escaped.ensures.reads
+    pushes_same h.silent c.push_escaped.new.self.told h.stands c.push_escaped.result _ _ (sym (ap (λ b. b.now) (subst (Advances p) stays c.take_byte.ensures.advances).buf)) _ _ _ _ _ _ _ quoted c.push_escaped.ensures.reads
 
 pub returns-in-Standard-clause-reads : goal.returns-in-Standard-clause-reads
 returns-in-Standard-clause-reads g c =
-    pushes_same g.V.Build.told g.V.Build.sees c.push_standard_scalar.result _ _ _ _ _ (scalar_still c.args.self.now c.take_byte.new.self c.if-take_byte.ensures.rest) c.push_standard_scalar.ensures.reads
+    let h = g.V.Handler in
+    pushes_same h.silent c.push_standard_scalar.new.self.told h.stands c.push_standard_scalar.result _ _ (sym (ap (λ o. o.buf.now) c.if-take_byte.ensures.rest)) _ _ _ _ _ _ _ (scalar_still c.args.self.now c.take_byte.new.self c.if-take_byte.ensures.rest) c.push_standard_scalar.ensures.reads
 
 pub returns-in-Extended-clause-reads : goal.returns-in-Extended-clause-reads
 returns-in-Extended-clause-reads g c =
-    pushes_same g.V.Build.told g.V.Build.sees c.push_other_scalar.result _ _ _ _ _ (scalar_other c.args.self.now c.take_byte.new.self c.if-take_byte.ensures.rest (sym c.if-take_byte.ensures.found)) c.push_other_scalar.ensures.reads
+    let h = g.V.Handler in
+    pushes_same h.silent c.push_other_scalar.new.self.told h.stands c.push_other_scalar.result _ _ (sym (ap (λ o. o.buf.now) c.if-take_byte.ensures.rest)) _ _ _ _ _ _ _ (scalar_other c.args.self.now c.take_byte.new.self c.if-take_byte.ensures.rest (sym c.if-take_byte.ensures.found)) c.push_other_scalar.ensures.reads

@@ -1,18 +1,38 @@
-use Rattle.std.proofs.Common.{Ok, ap, ◌∙◌}
-use Rattle.jsonb_value.specs.Tree.{null}
-use Rattle.jsonb.specs.Literals.{literal_tree}
-use Rattle.jsonb.specs.Parser.{rest_of}
-use Rattle.jsonb.proofs.Scalars.Built.{read_pushed, scalar_still}
+use Rattle.std.proofs.Common.{◌≡◌, Bool, cond, ap, subst, sym, ◌∙◌}
+use Rattle.jsonb_scan.specs.ShortInteger.{short_view}
+use Rattle.jsonb_scan.specs.Source.{number_source}
+use Rattle.jsonb_value.specs.Tree.{number}
+use Rattle.jsonb_value.specs.View.{number_view}
+use Rattle.jsonb.proofs.Scalars.Built.{integer_stands, negative_of, positive_of, read_pushed}
 use Rattle.jsonb.proofs.Scalars.FirstBytes.{scalar_other}
 use Rattle.jsonb.proofs.Steps.Failures.{pushes_same}
 use Rattle.jsonb.proofs.parser.Parser.push_standard_scalar.Goals as goal
 
-pub returns-in-Some-Null-clause-reads : goal.returns-in-Some-Null-clause-reads
-returns-in-Some-Null-clause-reads g c =
-    let b = g.V.Build in
-    read_pushed b.told b.sees c.push-in-Some-Null.result c.args.items.now.items c.null.result null _ c.push-in-Some-Null.new.items.items _ c.push-in-Some-Null.ensures.items c.push-in-Some-Null.ensures.memory c.null.ensures
-    (scalar_still c.args.self.now c.short_integer.new.self c.in_default.ensures.stays ∙ c.in-Some-Null.ensures.reads ∙ ap (λ l. Ok (literal_tree l, rest_of c.short_literal.new.self)) c.in-Some-Null.field-0-is)
-
 pub returns-in-None-clause-reads : goal.returns-in-None-clause-reads
 returns-in-None-clause-reads g c =
-    pushes_same g.V.Build.told g.V.Build.sees c.push_other_scalar.result _ _ _ _ _ (scalar_other c.args.self.now c.short_literal.new.self (c.in-None.ensures.stays ∙ c.in_default.ensures.stays) c.requires.no_string) c.push_other_scalar.ensures.reads
+    let h = g.V.Handler in
+    pushes_same h.silent c.push_other_scalar.new.self.told h.stands c.push_other_scalar.result _ _ (sym (ap (λ o. o.buf.now) (c.in-None.ensures.stays ∙ c.in_default.ensures.stays))) _ _ _ _ _ _ _ (scalar_other c.args.self.now c.short_literal.new.self (c.in-None.ensures.stays ∙ c.in_default.ensures.stays) c.requires.no_string) c.push_other_scalar.ensures.reads
+
+pub returns-then-read-clause-reads : goal.returns-then-read-clause-reads
+returns-then-read-clause-reads g c =
+    let p = c.args.self.now in
+    let q = c.short_integer.new.self in
+    let h = g.V.Handler in
+    let read = c.in-Some.read in
+    let n = short_view read in
+    let same : n ≡ number_view c.negative_number-number.result = ap (λ (b : Bool). cond b (negative_of read) (positive_of read)) c.if-read.true ∙ sym c.negative_number-number.ensures in
+    read_pushed h.silent h.stands (h.sees c.number.result) p.buf.now p.idx q c.push.new.self c.args.room.now c.push.new.room c.push.result c.args.items.now (number n) _ c.push.new.items c.push.ensures.put c.push.ensures.same c.push.ensures.memory
+    (subst (λ m. h.sees c.number.result (number_source m)) (sym same) c.number.ensures)
+    (integer_stands p q n c.short_integer.ensures.advances c.requires.inside c.in-Some.ensures.spelled) c.in-Some.ensures.reads
+
+pub returns-in-Some-clause-reads : goal.returns-in-Some-clause-reads
+returns-in-Some-clause-reads g c =
+    let p = c.args.self.now in
+    let q = c.short_integer.new.self in
+    let h = g.V.Handler in
+    let read = c.in-Some.read in
+    let n = short_view read in
+    let same : n ≡ positive_of read = ap (λ (b : Bool). cond b (negative_of read) (positive_of read)) c.if-read.false in
+    read_pushed h.silent h.stands (h.sees c.number-in-Some.result) p.buf.now p.idx q c.push-in-Some.new.self c.args.room.now c.push-in-Some.new.room c.push-in-Some.result c.args.items.now (number n) _ c.push-in-Some.new.items c.push-in-Some.ensures.put c.push-in-Some.ensures.same c.push-in-Some.ensures.memory
+    (subst (λ m. h.sees c.number-in-Some.result (number_source m)) (sym same) c.number-in-Some.ensures)
+    (integer_stands p q n c.short_integer.ensures.advances c.requires.inside c.in-Some.ensures.spelled) c.in-Some.ensures.reads

@@ -8,11 +8,11 @@ use Rattle.jsonb.proofs.Containers.Frames.{only_one, outermost, outermost_due}
 use Rattle.jsonb.proofs.parser.Parser.read_container.Goals as goal
 
 pub returns-in_err-closed-clause-reads : goal.returns-in_err-closed-clause-reads
-returns-in_err-closed-clause-reads g c =
+returns-in_err-closed-clause-reads g c held =
     let p = c.args.self.now in
     let whole = read_at (λ size mode. value_at size mode max_depth) p in
     let residual = err_from_is_err_and c.from_residual.result c.from_residual.ensures.1 in
-    rw (residual.1, residual.2) (c.in_err-closed.ensures.reads whole (outermost_due g.V.Build.sees g.V.Build.names g.V.Build.holds p c.args.stack.now.items c.requires.none))
+    rw (residual.1) (c.in_err-closed.ensures.reads whole (outermost_due (g.V.Handler.stands p.buf.now c.args.room.now) p c.args.stack.now.items c.requires.none held))
 
 pub turns-init : goal.turns-init
 turns-init g c =
@@ -22,15 +22,17 @@ turns-init g c =
       open-stack = c.in_ok-closed.ensures.open;
       depth = c.in_ok-closed.ensures.depth;
       advances = c.open_container.ensures.advances;
-      ahead = c.in_ok-closed.ensures.reads (read_at (λ size mode. value_at size mode max_depth) p) (outermost_due g.V.Build.sees g.V.Build.names g.V.Build.holds p c.args.stack.now.items c.requires.none);
+      base = c.open_container.ensures.base;
+      ahead = λ held. c.in_ok-closed.ensures.reads (read_at (λ size mode. value_at size mode max_depth) p) (outermost_due (g.V.Handler.stands p.buf.now c.args.room.now) p c.args.stack.now.items c.requires.none held);
     }
 
 pub returns-then-len-eq1-clause-reads : goal.returns-then-len-eq1-clause-reads
-returns-then-len-eq1-clause-reads g c =
+returns-then-len-eq1-clause-reads g c held =
     let p = c.args.self.now in
     let l = c.turns.self in
     let whole = read_at (λ size mode. value_at size mode max_depth) p in
     let i = c.turns.invariant in
     let fs = c.turns.stack.items in
     let one = only_one fs (omega arith) in
-    outermost g.V.Build.sees g.V.Build.names g.V.Build.holds l fs one.0 whole one.1 (subst (λ closed. AtPart g.V.Build.sees g.V.Build.names g.V.Build.holds whole l fs closed) c.if-closed.true i.ahead) i.depth
+    let stands = g.V.Handler.stands p.buf.now c.turns.room in
+    outermost stands stands l fs one.0 whole one.1 (subst (λ closed. AtPart stands whole l fs closed) c.if-closed.true (i.ahead held)) i.depth

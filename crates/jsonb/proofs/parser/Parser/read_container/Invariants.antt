@@ -1,4 +1,4 @@
-use Rattle.std.proofs.Common.{◌-◌, ◌<◌, ◌≤◌, length}
+use Rattle.std.proofs.Common.{◌≡◌, ◌-◌, ◌<◌, ◌≤◌, true, [], length}
 use Rattle.jsonb_value.specs.Grammar.{max_depth}
 use Rattle.jsonb.specs.Frames.{AtPart}
 use Rattle.jsonb_scan.specs.Answer.{mode_of}
@@ -14,7 +14,8 @@ invariant-turns g l =
       open-stack : 0 < length l.stack.items;
       depth : length l.stack.items ≤ max_depth;
       advances : Advances p l.self;
-      ahead : AtPart g.V.Build.sees g.V.Build.names g.V.Build.holds (value_at (size_of p) (mode_of p.mode) max_depth (rest_of p)) l.self l.stack.items l.closed;
+      base : g.V.Handler.base l.room ≡ g.V.Handler.base l.fn.room;
+      ahead : g.V.Handler.stands p.buf.now l.fn.room true [] [] → AtPart (g.V.Handler.stands p.buf.now l.room) (value_at (size_of p) (mode_of p.mode) max_depth (rest_of p)) l.self l.stack.items l.closed;
     }
 
 abbrev pub decreases-turns : goal.decreases-turns

@@ -1,7 +1,7 @@
-use Rattle.std.proofs.Common.{[], ◌∷◌, ◌++◌, sym, ap, subst, ◌∙◌}
+use Rattle.std.proofs.Common.{[], ◌∷◌, ◌++◌, false, refl, sym, ap, subst, ◌∙◌}
 use Rattle.std.proofs.lemmas.Result.{err_from_is_err_and}
-use Rattle.jsonb.specs.Build.{AreSeen}
 use Rattle.jsonb.specs.Frames.{resume_part, scalar_or_null}
+use Rattle.jsonb.specs.declared.parser.frame.Frame.TheVariants as variants
 use Rattle.jsonb_value.specs.Code.Code.{expected_array_comma_or_end}
 use Rattle.jsonb_scan.specs.Answer.{mode_of}
 use Rattle.jsonb_scan.specs.Reading.{◌>>=◌}
@@ -10,74 +10,85 @@ use Rattle.jsonb_scan.specs.Source.{source_alone}
 use Rattle.jsonb.specs.Parser.{read_at, rest_of, size_of}
 use Rattle.jsonb.specs.Stack.{elements_from, part_end}
 use Rattle.jsonb_scan.specs.Open.{elements_so_far}
-use Rattle.jsonb.proofs.Containers.Frames.{after_element, element_stops, element_turn, same_end, seen-snoc}
-use Rattle.jsonb.proofs.Steps.Advancing.{goes_on}
-use Rattle.jsonb.proofs.Steps.Failures.{misses_same, misses_through}
+use Rattle.jsonb.proofs.Containers.Frames.{after_element, element_stops, element_turn, same_end}
+use Rattle.jsonb.proofs.Steps.Advancing.{goes_on, stays}
+use Rattle.jsonb.proofs.Steps.Failures.{misses_same, misses_through, tells_always}
 use Rattle.jsonb.proofs.parser.Parser.read_elements.Goals as goal
 
 pub returns-then-begins_container-clause-reads : goal.returns-then-begins_container-clause-reads
-returns-then-begins_container-clause-reads g c depth front held =
+returns-then-begins_container-clause-reads g c depth front fs cs held =
     let i = c.elements.invariant in
-    let so_far = i.reads depth front held in
+    let so_far = i.reads depth front fs cs held in
     record {
       so_far = elements_so_far so_far.0;
-      held = so_far.1;
+      fits = tt;
+      held = c.in-Ok.ensures.due c.args.self.now.buf.now so_far.0 fs cs so_far.1;
       reads = so_far.2 ∙ element_stops c.args.self.now c.elements.self c.skip_blanks.new.self depth so_far.0 i.advances c.skip_blanks.ensures.advances c.skip_blanks.ensures.rest c.if-begins_container.ensures.other;
     }
 
 pub returns-in_err-push_element-clause-reads : goal.returns-in_err-push_element-clause-reads
-returns-in_err-push_element-clause-reads g c depth front held =
+returns-in_err-push_element-clause-reads g c depth front fs cs held =
     let p = c.args.self.now in
     let s = c.skip_blanks.new.self in
     let i = c.elements.invariant in
-    let so_far = i.reads depth front held in
+    let so_far = i.reads depth front fs cs held in
+    let silent = g.V.Handler.silent in
+    let t = c.push_element.new.self.told in
     let residual = err_from_is_err_and c.from_residual.result c.from_residual.ensures.1 in
-    let t = g.V.Build.told c.in_err-push_element.field-0.0 in
-    rw (residual.1, residual.2) (misses_same t (read_at scalar_or_null s >>= after_element p depth so_far.0) (elements_from (size_of p) (mode_of p.mode) depth front (rest_of p))
+    rw (residual.1) (misses_same silent t (read_at scalar_or_null s >>= after_element p depth so_far.0) (elements_from (size_of p) (mode_of p.mode) depth front (rest_of p))
     (so_far.2 ∙ element_turn p c.elements.self s depth so_far.0 i.advances c.skip_blanks.ensures.advances c.skip_blanks.ensures.rest c.if-begins_container.ensures.other.0 c.if-begins_container.ensures.other.1)
-    (misses_through t (read_at scalar_or_null s) (after_element p depth so_far.0) c.in_err-push_element.ensures.reads))
+    (misses_through silent t (read_at scalar_or_null s) (after_element p depth so_far.0) c.in_err-push_element.ensures.reads))
 
 pub returns-in_err-end_element-clause-reads : goal.returns-in_err-end_element-clause-reads
-returns-in_err-end_element-clause-reads g c depth front held =
+returns-in_err-end_element-clause-reads g c depth front fs cs held =
     let p = c.args.self.now in
     let l = c.elements.self in
     let s = c.skip_blanks.new.self in
     let q = c.push_element.new.self in
     let i = c.elements.invariant in
-    let so_far = i.reads depth front held in
+    let so_far = i.reads depth front fs cs held in
     let pushed = c.in_ok-push_element.ensures.reads in
-    let residual = err_from_is_err_and c.from_residual-in_err-end_element.result c.from_residual-in_err-end_element.ensures.1 in
-    let t = g.V.Build.told c.in_err-end_element.field-0.0 in
+    let silent = g.V.Handler.silent in
+    let t = c.end_element.new.self.told in
     let on = goes_on p s q (goes_on p l s i.advances c.skip_blanks.ensures.advances) c.push_element.ensures.advances in
     let ends = part_end (size_of q) expected_array_comma_or_end 93 (skip_blanks (mode_of q.mode) (rest_of q)) in
-    rw (residual.1, residual.2) (misses_same t (ends >>= λ y. resume_part (size_of p) (mode_of p.mode) depth y.0 (elements_so_far (so_far.0 ++ source_alone pushed.1 ∷ [])) y.1) (elements_from (size_of p) (mode_of p.mode) depth front (rest_of p))
+    let residual = err_from_is_err_and c.from_residual-in_err-end_element.result c.from_residual-in_err-end_element.ensures.1 in
+    rw (residual.1) (misses_same silent t (ends >>= λ y. resume_part (size_of p) (mode_of p.mode) depth y.0 (elements_so_far (so_far.0 ++ source_alone pushed.0 ∷ [])) y.1) (elements_from (size_of p) (mode_of p.mode) depth front (rest_of p))
     (so_far.2 ∙ element_turn p l s depth so_far.0 i.advances c.skip_blanks.ensures.advances c.skip_blanks.ensures.rest c.if-begins_container.ensures.other.0 c.if-begins_container.ensures.other.1
-    ∙ ap (λ r. r >>= after_element p depth so_far.0) pushed.4
-    ∙ ap (λ r. r >>= λ y. resume_part (size_of p) (mode_of p.mode) depth y.0 (elements_so_far (so_far.0 ++ source_alone pushed.1 ∷ [])) y.1) (sym (same_end p q expected_array_comma_or_end 93 on)))
-    (misses_through t ends (λ y. resume_part (size_of p) (mode_of p.mode) depth y.0 (elements_so_far (so_far.0 ++ source_alone pushed.1 ∷ [])) y.1) c.in_err-end_element.ensures.reads))
+    ∙ ap (λ r. r >>= after_element p depth so_far.0) pushed.1
+    ∙ ap (λ r. r >>= λ y. resume_part (size_of p) (mode_of p.mode) depth y.0 (elements_so_far (so_far.0 ++ source_alone pushed.0 ∷ [])) y.1) (sym (same_end p q expected_array_comma_or_end 93 on)))
+    (misses_through silent t ends (λ y. resume_part (size_of p) (mode_of p.mode) depth y.0 (elements_so_far (so_far.0 ++ source_alone pushed.0 ∷ [])) y.1) (tells_always silent t ends c.in_err-end_element.ensures.reads)))
 
 pub returns-then-branch-clause-reads : goal.returns-then-branch-clause-reads
-returns-then-branch-clause-reads g c depth front held =
+returns-then-branch-clause-reads g c depth front fs cs held =
     let p = c.args.self.now in
     let l = c.elements.self in
     let s = c.skip_blanks.new.self in
     let q = c.push_element.new.self in
     let r = c.end_element.new.self in
     let i = c.elements.invariant in
-    let so_far = i.reads depth front held in
+    let so_far = i.reads depth front fs cs held in
     let pushed = c.in_ok-push_element.ensures.reads in
     let ended = c.in_ok-end_element.ensures.reads in
-    let more = elements_so_far (so_far.0 ++ source_alone pushed.1 ∷ []) in
-    let on = goes_on p s q (goes_on p l s i.advances c.skip_blanks.ensures.advances) c.push_element.ensures.advances in
+    let more = elements_so_far (so_far.0 ++ source_alone pushed.0 ∷ []) in
+    let h = g.V.Handler in
+    let before = goes_on p l s i.advances c.skip_blanks.ensures.advances in
+    let on = goes_on p s q before c.push_element.ensures.advances in
     record {
       so_far = more;
-      held = subst (λ vs. AreSeen g.V.Build.sees vs (so_far.0 ++ source_alone pushed.1 ∷ [])) (sym pushed.2) (seen-snoc g.V.Build.sees c.elements.items.items so_far.0 pushed.0 (source_alone pushed.1) so_far.1 pushed.3);
+      fits = tt;
+      held = subst (λ b. h.stands b.now c.elements.room false (variants.Array c.elements.items ∷ fs) (elements_so_far so_far.0 ∷ cs) → h.stands b.now c.push_element.new.room false (variants.Array c.push_element.new.items ∷ fs) (more ∷ cs)) before.buf (pushed.2 so_far.0 fs cs) so_far.1;
       reads =
           so_far.2 ∙ element_turn p l s depth so_far.0 i.advances c.skip_blanks.ensures.advances c.skip_blanks.ensures.rest c.if-begins_container.ensures.other.0 c.if-begins_container.ensures.other.1
-          ∙ ap (λ x. x >>= after_element p depth so_far.0) pushed.4
+          ∙ ap (λ x. x >>= after_element p depth so_far.0) pushed.1
           ∙ ap (λ x. x >>= λ y. resume_part (size_of p) (mode_of p.mode) depth y.0 more y.1) (sym (same_end p q expected_array_comma_or_end 93 on) ∙ ended.2)
           ∙ ap (λ closed. resume_part (size_of p) (mode_of p.mode) depth closed more (rest_of r)) (sym ended.1 ∙ c.if-branch.true);
     }
+
+pub elements-init : goal.elements-init
+elements-init g c =
+    let p = c.args.self.now in
+    record { inside = c.requires.inside; advances = stays p; base = refl; reads = λ depth front fs cs held. (front, held, refl) }
 
 pub elements-preserved : goal.elements-preserved
 elements-preserved g c =
@@ -89,18 +100,21 @@ elements-preserved g c =
     let i = c.elements.invariant in
     let pushed = c.in_ok-push_element.ensures.reads in
     let ended = c.in_ok-end_element.ensures.reads in
-    let on = goes_on p s q (goes_on p l s i.advances c.skip_blanks.ensures.advances) c.push_element.ensures.advances in
+    let h = g.V.Handler in
+    let before = goes_on p l s i.advances c.skip_blanks.ensures.advances in
+    let on = goes_on p s q before c.push_element.ensures.advances in
     let onto = goes_on p q r on c.end_element.ensures.advances in
     record {
       inside = onto.inside c.requires.inside;
       advances = onto;
-      reads = λ depth front held.
-          let so_far = i.reads depth front held in
-          let more = elements_so_far (so_far.0 ++ source_alone pushed.1 ∷ []) in (
-            so_far.0 ++ source_alone pushed.1 ∷ [],
-            subst (λ vs. AreSeen g.V.Build.sees vs (so_far.0 ++ source_alone pushed.1 ∷ [])) (sym pushed.2) (seen-snoc g.V.Build.sees c.elements.items.items so_far.0 pushed.0 (source_alone pushed.1) so_far.1 pushed.3),
+      base = c.push_element.ensures.base ∙ i.base;
+      reads = λ depth front fs cs held.
+          let so_far = i.reads depth front fs cs held in
+          let more = elements_so_far (so_far.0 ++ source_alone pushed.0 ∷ []) in (
+            so_far.0 ++ source_alone pushed.0 ∷ [],
+            subst (λ b. h.stands b.now c.elements.room false (variants.Array c.elements.items ∷ fs) (elements_so_far so_far.0 ∷ cs) → h.stands b.now c.push_element.new.room false (variants.Array c.push_element.new.items ∷ fs) (more ∷ cs)) before.buf (pushed.2 so_far.0 fs cs) so_far.1,
             so_far.2 ∙ element_turn p l s depth so_far.0 i.advances c.skip_blanks.ensures.advances c.skip_blanks.ensures.rest c.if-begins_container.ensures.other.0 c.if-begins_container.ensures.other.1
-                ∙ ap (λ x. x >>= after_element p depth so_far.0) pushed.4
+                ∙ ap (λ x. x >>= after_element p depth so_far.0) pushed.1
                 ∙ ap (λ x. x >>= λ y. resume_part (size_of p) (mode_of p.mode) depth y.0 more y.1) (sym (same_end p q expected_array_comma_or_end 93 on) ∙ ended.2)
                 ∙ ap (λ closed. resume_part (size_of p) (mode_of p.mode) depth closed more (rest_of r)) (sym ended.1 ∙ c.if-branch.false),
           );

@@ -1,7 +1,9 @@
-use Rattle.std.proofs.Common.{◌≡◌, ℕ, ◌-◌, ◌≤◌, List}
-use Rattle.jsonb.specs.Build.{AreSeen}
+use Rattle.std.proofs.Common.{◌≡◌, ℕ, ◌-◌, ◌≤◌, false, List, ◌∷◌}
+use Rattle.jsonb.specs.declared.parser.frame.Frame.{Frame}
+use Rattle.jsonb.specs.declared.parser.frame.Frame.TheVariants as variants
 use Rattle.jsonb_scan.specs.Answer.{mode_of}
 use Rattle.jsonb.specs.Parser.{Advances, rest_of, size_of}
+use Rattle.jsonb_scan.specs.Open.{Open, elements_so_far}
 use Rattle.jsonb_scan.specs.Source.{Source}
 use Rattle.jsonb.specs.Stack.{elements_from}
 use Rattle.jsonb.proofs.parser.Parser.read_elements.Given as goal
@@ -9,10 +11,12 @@ use Rattle.jsonb.proofs.parser.Parser.read_elements.Given as goal
 -- what is read of the elements is what is left to read after those so far
 abbrev pub invariant-elements : goal.invariant-elements
 invariant-elements g l =
-    let p = l.fn.self in record {
+    let p = l.fn.self in
+    let h = g.V.Handler in record {
       inside : l.self.idx ≤ size_of l.self;
       advances : Advances p l.self;
-      reads : (depth : ℕ) (front : List Source) → AreSeen g.V.Build.sees l.fn.items.items front → (ss : List Source) × AreSeen g.V.Build.sees l.items.items ss × (elements_from (size_of p) (mode_of p.mode) depth front (rest_of p) ≡ elements_from (size_of p) (mode_of p.mode) depth ss (rest_of l.self));
+      base : h.base l.room ≡ h.base l.fn.room;
+      reads : (depth : ℕ) (front : List Source) (fs : List (Frame g.row.V-Items.Denot g.row.V-Members.Denot g.row.V-Key.Denot)) (cs : List Open) → h.stands p.buf.now l.fn.room false (variants.Array l.fn.items ∷ fs) (elements_so_far front ∷ cs) → (ss : List Source) × h.stands p.buf.now l.room false (variants.Array l.items ∷ fs) (elements_so_far ss ∷ cs) × (elements_from (size_of p) (mode_of p.mode) depth front (rest_of p) ≡ elements_from (size_of p) (mode_of p.mode) depth ss (rest_of l.self));
     }
 
 abbrev pub decreases-elements : goal.decreases-elements

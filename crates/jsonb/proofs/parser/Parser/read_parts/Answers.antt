@@ -1,11 +1,12 @@
-use Rattle.std.proofs.Common.{◌≡◌, ◌+◌, ◌-◌, ◌<◌, length, take, refl, subst, arith}
+use Rattle.std.proofs.Common.{◌≡◌, ◌+◌, ◌-◌, ◌<◌, length, take, set, refl, subst, arith}
 use Rattle.std.specs.Vec.{vec_len}
 use Rattle.std.proofs.lemmas.Result.{err_from_is_err_and}
-use Rattle.jsonb.specs.Frames.{ReadsParts}
+use Rattle.jsonb.specs.Frames.{AtPart, BeforeValue, ReadsParts}
+use Rattle.jsonb.specs.Handler.{ElseFails}
 use Rattle.jsonb_scan.specs.Answer.{mode_of}
 use Rattle.jsonb.specs.Parser.{rest_of, size_of}
 use Rattle.jsonb.specs.Stack.{next_part_at}
-use Rattle.jsonb.proofs.Containers.Frames.{filled, last-is, last-set, part_misses, stopped_due}
+use Rattle.jsonb.proofs.Containers.Frames.{last-is, last-set, part_misses, read_to_end, stopped_due}
 use Rattle.jsonb.proofs.parser.Parser.read_parts.Goals as goal
 
 pub returns-in_err-fill-clause-reads : goal.returns-in_err-fill-clause-reads
@@ -17,7 +18,7 @@ returns-in_err-fill-clause-reads g c whole ahead =
     let last : n + 1 ≡ length fs = omega arith in
     let f = c.in-Some.frame.now in
     let residual = err_from_is_err_and c.from_residual.result c.from_residual.ensures.1 in
-    rw (residual.1, residual.2) (part_misses g.V.Build.sees g.V.Build.names g.V.Build.holds p fs (take n fs) f whole (g.V.Build.told c.in_err-fill.field-0.0) (last-is fs n f last c.in-Some.ensures.value) c.in_err-fill.ensures.reads ahead)
+    rw (residual.1) (part_misses (g.V.Handler.stands p.buf.now c.args.room.now) (g.V.Handler.stands p.buf.now c.args.room.now) p fs (take n fs) f whole g.V.Handler.silent c.fill.new.self.told (last-is fs n f last c.in-Some.ensures.value) c.in_err-fill.ensures.reads ahead)
 
 pub returns-then-branch-clause-reads : goal.returns-then-branch-clause-reads
 returns-then-branch-clause-reads g c whole ahead =
@@ -29,8 +30,8 @@ returns-then-branch-clause-reads g c whole ahead =
     let last : n + 1 ≡ length fs = omega arith in
     let f = c.in-Some.frame.now in
     let h = c.fill.new.frame in
-    filled g.V.Build.sees g.V.Build.names g.V.Build.holds p q fs _ (take n fs) f h whole c.fill.ensures.advances (last-is fs n f last c.in-Some.ensures.value) (last-set fs n h last)
-    (λ depth o held. subst (λ closed. ReadsParts g.V.Build.sees g.V.Build.names g.V.Build.holds (size_of p) (mode_of p.mode) depth (next_part_at (size_of p) (mode_of p.mode) depth o (rest_of p)) closed h (rest_of q)) c.if-branch.true (c.in_ok-fill.ensures.reads depth o held))
+    read_to_end (g.V.Handler.stands p.buf.now c.args.room.now) (g.V.Handler.stands p.buf.now c.fill.new.room) p q fs _ (take n fs) f h whole c.fill.ensures.advances (last-is fs n f last c.in-Some.ensures.value) (last-set fs n h last)
+    (λ depth o ks cs fits held. subst (λ closed. ReadsParts (g.V.Handler.stands p.buf.now c.fill.new.room) (size_of p) (mode_of p.mode) depth (next_part_at (size_of p) (mode_of p.mode) depth o (rest_of p)) closed h ks cs (rest_of q)) c.if-branch.true (c.in_ok-fill.ensures.reads depth o ks cs fits held))
     ahead
 
 pub returns-clause-reads : goal.returns-clause-reads
@@ -43,7 +44,7 @@ returns-clause-reads g c whole ahead =
     let last : n + 1 ≡ length fs = omega arith in
     let f = c.in-Some.frame.now in
     let h = c.fill.new.frame in
-    c.open_container.ensures.reads whole
-    (stopped_due g.V.Build.sees g.V.Build.names g.V.Build.holds p q fs _ (take n fs) f h whole c.fill.ensures.advances (last-is fs n f last c.in-Some.ensures.value) (last-set fs n h last)
-    (λ depth o held. subst (λ closed. ReadsParts g.V.Build.sees g.V.Build.names g.V.Build.holds (size_of p) (mode_of p.mode) depth (next_part_at (size_of p) (mode_of p.mode) depth o (rest_of p)) closed h (rest_of q)) c.if-branch.false (c.in_ok-fill.ensures.reads depth o held))
+    subst (λ b. BeforeValue (g.V.Handler.stands b.now c.fill.new.room) whole q (set fs n h) → ElseFails g.V.Handler.silent c.open_container.new.self.told c.open_container.result whole (AtPart (g.V.Handler.stands b.now c.open_container.new.room) whole c.open_container.new.self c.open_container.new.stack.items)) c.fill.ensures.advances.buf (c.open_container.ensures.reads whole)
+    (stopped_due (g.V.Handler.stands p.buf.now c.args.room.now) (g.V.Handler.stands p.buf.now c.fill.new.room) p q fs _ (take n fs) f h whole c.fill.ensures.advances (last-is fs n f last c.in-Some.ensures.value) (last-set fs n h last)
+    (λ depth o ks cs fits held. subst (λ closed. ReadsParts (g.V.Handler.stands p.buf.now c.fill.new.room) (size_of p) (mode_of p.mode) depth (next_part_at (size_of p) (mode_of p.mode) depth o (rest_of p)) closed h ks cs (rest_of q)) c.if-branch.false (c.in_ok-fill.ensures.reads depth o ks cs fits held))
     ahead)

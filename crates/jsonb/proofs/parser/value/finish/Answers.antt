@@ -1,6 +1,13 @@
-use Rattle.jsonb.proofs.Containers.Built.{array_end_of}
+use Rattle.std.proofs.Common.{◌∷◌, false, subst}
+use Rattle.jsonb.specs.declared.parser.frame.Frame.TheVariants as variants
+use Rattle.jsonb.specs.Frames.{Fits}
+use Rattle.jsonb.proofs.Containers.Built.{object_ended}
 use Rattle.jsonb.proofs.parser.value.finish.Goals as goal
 
-pub returns-in-Array : goal.returns-in-Array
-returns-in-Array g c = λ o rest held.
-    array_end_of g.V.Build.sees g.V.Build.names g.V.Build.holds g.V.Build.completes c.args.frame.now c.in-Array.field-0 o rest c.in-Array.is held
+pub returns-in-Object-clause-ended : goal.returns-in-Object-clause-ended
+returns-in-Object-clause-ended g c = λ text o rest fs cs fits held.
+    let h = g.V.Handler in
+    let old = c.in-Object.object in
+    object_ended (λ ds. h.stands text c.args.room.now false (variants.Object old ∷ fs) ds) (λ s. h.completes text c.finish.new.room (variants.Object (record { members = c.finish.new.members; key = old.key })) s fs cs) h.silent c.finish.new.told c.finish.result o rest cs
+    (subst (λ f. Fits f o) c.in-Object.is fits) (subst (λ f. h.stands text c.args.room.now false (f ∷ fs) (o ∷ cs)) c.in-Object.is held)
+    (λ front k place here. c.finish.ensures.ended text front old.key k place fs cs rest here)

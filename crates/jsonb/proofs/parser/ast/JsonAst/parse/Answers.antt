@@ -1,30 +1,34 @@
-use Rattle.jsonb.specs.AstView.{ast_view}
+use Rattle.std.proofs.Common.{◌≡◌, false, Ok, Err, sym, ap, subst, ◌∙◌}
+use Rattle.jsonb.specs.Handler.{Misses}
 use Rattle.jsonb.specs.Source.{source_view}
-use Rattle.jsonb_scan.specs.Answer.{Gives, mode_of}
-use Rattle.jsonb_scan.specs.Reading.Document.{document_of, source_of}
-use Rattle.jsonb.proofs.Documents.Agreement.{gives_built, gives_document, gives_errors, gives_explained, gives_only, gives_refused, gives_source, gives_tree}
+use Rattle.jsonb_scan.specs.Answer.{Fails, mode_of}
+use Rattle.jsonb_scan.specs.Reading.Document.{source_of}
+use Rattle.jsonb.proofs.Documents.Agreement.{gives_document, gives_explained, gives_only, gives_refused, gives_source, gives_tree}
 use Rattle.jsonb.proofs.parser.ast.JsonAst.parse.Goals as goal
 
-source_given : (c : goal.After-read_document) → Gives source_view c.read_document.result (source_of (mode_of c.args.mode) c.args.buf.now)
-source_given c = gives_built c.read_document.result (source_of (mode_of c.args.mode) c.args.buf.now) c.read_document.ensures.reads
+source_given : (c : goal.In-Ok) → source_of (mode_of c.args.mode) c.args.buf.now ≡ Ok (source_view c.in-Ok.tree)
+source_given c = let read = c.in-Ok.ensures.reads tt in read.2 ∙ ap (λ s. Ok s) (sym read.1.0)
 
-pub returns-clause-exact : goal.returns-clause-exact
-returns-clause-exact c = gives_tree (mode_of c.args.mode) c.args.buf.now c.read_document.result (source_given c)
+fault_told : (c : goal.In-Some) → Fails c.in-Some.error (source_of (mode_of c.args.mode) c.args.buf.now)
+fault_told c = subst (λ told. Misses false told (source_of (mode_of c.args.mode) c.args.buf.now)) c.in-Some.is (c.in-Err.ensures.reads tt)
 
-pub returns-clause-document : goal.returns-clause-document
-returns-clause-document c = gives_document (mode_of c.args.mode) c.args.buf.now c.read_document.result (returns-clause-exact c)
+pub returns-in-Ok-clause-exact : goal.returns-in-Ok-clause-exact
+returns-in-Ok-clause-exact c = gives_tree (mode_of c.args.mode) c.args.buf.now (Ok c.in-Ok.tree) (source_given c)
 
-pub returns-clause-only : goal.returns-clause-only
-returns-clause-only c = gives_only (mode_of c.args.mode) c.args.buf.now c.read_document.result (returns-clause-exact c)
+pub returns-in-Ok-clause-document : goal.returns-in-Ok-clause-document
+returns-in-Ok-clause-document c = gives_document (mode_of c.args.mode) c.args.buf.now (Ok c.in-Ok.tree) (returns-in-Ok-clause-exact c)
 
-pub returns-clause-refused : goal.returns-clause-refused
-returns-clause-refused c = gives_refused (mode_of c.args.mode) c.args.buf.now c.read_document.result (returns-clause-exact c)
+pub returns-in-Ok-clause-only : goal.returns-in-Ok-clause-only
+returns-in-Ok-clause-only c = gives_only (mode_of c.args.mode) c.args.buf.now (Ok c.in-Ok.tree) (returns-in-Ok-clause-exact c)
 
-pub returns-clause-explained : goal.returns-clause-explained
-returns-clause-explained c = gives_explained (mode_of c.args.mode) c.args.buf.now c.read_document.result (returns-clause-exact c)
+pub returns-in-Ok-clause-source : goal.returns-in-Ok-clause-source
+returns-in-Ok-clause-source c = gives_source (mode_of c.args.mode) c.args.buf.now (Ok c.in-Ok.tree) (source_given c)
 
-pub returns-clause-errors : goal.returns-clause-errors
-returns-clause-errors c = gives_errors ast_view c.read_document.result (document_of (mode_of c.args.mode) c.args.buf.now) (returns-clause-exact c)
+pub returns-in-Some-clause-exact : goal.returns-in-Some-clause-exact
+returns-in-Some-clause-exact c = gives_tree (mode_of c.args.mode) c.args.buf.now (Err c.in-Some.error) (fault_told c)
 
-pub returns-clause-source : goal.returns-clause-source
-returns-clause-source c = gives_source (mode_of c.args.mode) c.args.buf.now c.read_document.result (source_given c)
+pub returns-in-Some-clause-refused : goal.returns-in-Some-clause-refused
+returns-in-Some-clause-refused c = gives_refused (mode_of c.args.mode) c.args.buf.now (Err c.in-Some.error) (returns-in-Some-clause-exact c)
+
+pub returns-in-Some-clause-explained : goal.returns-in-Some-clause-explained
+returns-in-Some-clause-explained c = gives_explained (mode_of c.args.mode) c.args.buf.now (Err c.in-Some.error) (returns-in-Some-clause-exact c)

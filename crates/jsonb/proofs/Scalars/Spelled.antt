@@ -1,0 +1,17 @@
+-- A scalar that stands in the text, as the room for serialized text asks for it.
+use Rattle.std.proofs.Common.{ℕ, true, false, List, subst}
+use Rattle.std.specs.declared.borrow.CowStr.TheVariants.{Borrowed, Owned}
+use Rattle.jsonb_scan.specs.Source.{Source}
+use Rattle.jsonb_scan.specs.Spelled as scan
+use Rattle.jsonb_write.specs.TextRoom.{IsSpelled, SeesPart}
+use Rattle.jsonb_write.specs.declared.text.Part.{Part}
+use Rattle.jsonb_write.specs.declared.text.Part.TheVariants as part
+
+pub spelled_part : (text : List ℕ) (from to : ℕ) (p : Part) (s : Source) → SeesPart p s → scan.IsSpelledAt text from to s → IsSpelled text from to p
+spelled_part text from to part.Null s sees h = subst (λ u. scan.IsSpelledAt text from to u) sees h
+spelled_part text from to (part.Bool true) s sees h = subst (λ u. scan.IsSpelledAt text from to u) sees h
+spelled_part text from to (part.Bool false) s sees h = subst (λ u. scan.IsSpelledAt text from to u) sees h
+spelled_part text from to (part.Number n) s sees h = subst (λ u. scan.IsSpelledAt text from to u) sees h
+spelled_part text from to (part.String (Borrowed t)) s sees h = subst (λ u. scan.IsSpelledAt text from to u) sees h
+spelled_part text from to (part.String (Owned t)) s sees h = λ some. tt
+spelled_part text from to part.Written s sees h = absurd sees

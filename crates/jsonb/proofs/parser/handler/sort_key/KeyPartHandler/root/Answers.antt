@@ -1,0 +1,5 @@
+use Rattle.jsonb.proofs.Containers.Built.{on_ok}
+use Rattle.jsonb.proofs.parser.handler.sort_key.KeyPartHandler.root.Goals as goal
+
+pub returns-clause-filled : goal.returns-clause-filled
+returns-clause-filled c = on_ok c.root.result (λ h text s held sees spelled. h text s held sees) c.root.ensures.stands

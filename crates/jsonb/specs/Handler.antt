@@ -1,0 +1,123 @@
+-- How parsing fails, and what a `Value` and a `JsonAst` hold of what was parsed.
+-- Read for: private.
+use Rattle.std.specs.Prelude.{◌≡◌, ℕ, ◌-◌, Bool, true, false, List, [], ◌∷◌, length, map, Option, Some, None, Result, Ok, Err, String, string_bytes, Vec}
+use Rattle.std.specs.declared.alloc.Global.{Global}
+use Rattle.jsonb_value.specs.declared.error.Error.{Error}
+use Rattle.jsonb_value.specs.declared.error.Error.TheVariants.{OutOfMemory}
+use Rattle.jsonb_value.specs.declared.value.Value.{Value}
+use Rattle.jsonb_value.specs.Grammar.{AreDistinct, IsNew}
+use Rattle.jsonb_value.specs.Tree.{Mark, Num, Tree, put_all}
+use Rattle.jsonb_value.specs.Tree.Members.{no_members}
+use Rattle.jsonb_value.specs.View.{members_view}
+use Rattle.jsonb.specs.declared.parser.frame.Frame.{Frame}
+use Rattle.jsonb.specs.declared.parser.frame.Frame.TheVariants as variants
+use Rattle.jsonb.specs.declared.parser.frame.OpenObject.{OpenObject}
+use Rattle.jsonb_scan.specs.Answer.{Fails}
+use Rattle.jsonb_scan.specs.Open.{Open, elements_so_far, members_so_far}
+use Rattle.jsonb_scan.specs.Reading.{Fault, Read}
+use Rattle.jsonb_scan.specs.Source.{Source, Found, array_source_of, member_of, number_source, source_alone, spot_of}
+
+-- ---- how a call fails
+
+-- What was told is the fault that parsing gives, or want of memory. A handler that is silent may have told nothing.
+abbrev pub Misses : {Y : Type 0} → Bool → Option Error → Result Y Fault → Type 0
+Misses silent None read = silent ≡ true
+Misses silent (Some e) read = Fails e read
+
+-- What was returned is so, or what was told is the fault that parsing gives.
+abbrev pub ElseFails : {X F Y : Type 0} → Bool → Option Error → Result X F → Result Y Fault → (X → Type 0) → Type 0
+ElseFails silent told (Ok x) read IsSo = IsSo x
+ElseFails silent told (Err f) read IsSo = Misses silent told read
+
+-- What was returned is what parsing gives, and these bytes are left.
+abbrev pub Builds : {X F Y : Type 0} → Bool → Option Error → (X → Y → Type 0) → Result X F → Read Y → List ℕ → Type 0
+Builds {X} {F} {Y} silent told Sees result read rest =
+    ElseFails silent told result read (λ x. (y : Y) × Sees x y × (read ≡ Ok (y, rest)))
+
+-- What was returned is what parsing the whole text gives, or the error is its fault.
+abbrev pub BuildsAll : {X Y : Type 0} → Bool → (X → Y → Type 0) → Result X (Option Error) → Result Y Fault → Type 0
+BuildsAll {X} {Y} silent Sees (Ok x) read = (y : Y) × Sees x y × (read ≡ Ok y)
+BuildsAll silent Sees (Err told) read = Misses silent told read
+
+-- Memory ran out, or nothing was told.
+abbrev pub IsUntold : Bool → Option Error → Type 0
+IsUntold silent None = silent ≡ true
+IsUntold silent (Some e) = e ≡ OutOfMemory
+
+-- The text is a document, whose value is written by a handler that takes memory for scalars.
+abbrev pub IsWritten : Bool → Result Source Fault → Type 0
+IsWritten writes read = (writes ≡ true) × ((s : Source) × (read ≡ Ok s))
+
+-- ---- scalars and keys
+
+-- of a value that holds no others
+abbrev pub AsScalar : {V : Type 0} → (V → Source → Type 0) → V → Tree → Type 0
+AsScalar Sees v t = Sees v (source_alone t)
+
+-- of a number
+abbrev pub AsNumber : {V : Type 0} → (V → Source → Type 0) → V → Num → Type 0
+AsNumber Sees v n = Sees v (number_source n)
+
+-- of a key, before these bytes
+abbrev pub AsKey : {K : Type 0} → (K → Mark × List ℕ → ℕ → Type 0) → ℕ → List ℕ → K → Mark × List ℕ → Type 0
+AsKey Names size rest key k = Names key k (size - length rest)
+
+-- of a key and the place after it
+abbrev pub AsNamed : {K : Type 0} → (K → Mark × List ℕ → ℕ → Type 0) → K → (Mark × List ℕ) × ℕ → Type 0
+AsNamed Names key k = Names key k.0 k.1
+
+-- With this key, a member of the object began, and its value is due.
+abbrev pub Begins : {R I M K : Type 0} → (R → Bool → List (Frame I M K) → List Open → Type 0) → R → OpenObject M K → R
+    → OpenObject M K → K → Mark × List ℕ → ℕ → Type 0
+Begins {R} {I} {M} {K} Stands old object new begun key k place =
+    (front : List Found) → (other : Mark × List ℕ) → (other_place : ℕ) → (fs : List (Frame I M K)) → (cs : List Open)
+    → Stands old false (variants.Object object ∷ fs) (members_so_far front other other_place ∷ cs)
+    → Stands new true (variants.Object (record { members = begun.members; key = key }) ∷ fs)
+    (members_so_far front k place ∷ cs)
+
+-- ---- what a value and a tree hold
+
+-- of each value in turn
+abbrev pub AreSeen : {V : Type 0} → (V → Source → Type 0) → List V → List Source → Type 0
+AreSeen Sees [] [] = Unit {0}
+AreSeen Sees [] (s ∷ ss) = ⊥
+AreSeen Sees (v ∷ vs) [] = ⊥
+AreSeen Sees (v ∷ vs) (s ∷ ss) = Sees v s × AreSeen Sees vs ss
+
+module _ {V M K : Type 0} (Sees : V → Source → Type 0) (Names : K → Mark × List ℕ → ℕ → Type 0)
+    (Holds : M → List Found → Type 0) where
+  -- The parts so far are those that were found, and where a value is due, so is the key that waits for it.
+  abbrev pub FrameHolds : Bool → Frame (Vec V Global) M K → Open → Type 0
+  FrameHolds due (variants.Array v) (elements_so_far ss) = AreSeen Sees v.items ss
+  FrameHolds due (variants.Array v) (members_so_far fs key place) = ⊥
+  FrameHolds due (variants.Object o) (elements_so_far ss) = ⊥
+  FrameHolds due (variants.Object o) (members_so_far fs key place) =
+      Holds o.members fs × (due ≡ true → Names o.key key place)
+
+  -- All that are open hold theirs, and each but the innermost waits for a value.
+  abbrev pub FramesHold : Bool → List (Frame (Vec V Global) M K) → List Open → Type 0
+  FramesHold due [] [] = Unit {0}
+  FramesHold due [] (c ∷ cs) = ⊥
+  FramesHold due (f ∷ fs) [] = ⊥
+  FramesHold due (f ∷ fs) (c ∷ cs) = FrameHolds due f c × FramesHold true fs cs
+
+-- A container that ended is of this source.
+abbrev pub Completes : {V M K : Type 0} → (V → Source → Type 0) → (M → Source → Type 0) → Frame (Vec V Global) M K
+    → Source → Type 0
+Completes Sees Done (variants.Array v) s = (ss : List Source) × AreSeen Sees v.items ss × (s ≡ array_source_of ss)
+Completes Sees Done (variants.Object o) s = Done o.members s
+
+-- ---- the members of a map
+
+-- the keys of a map
+abbrev pub names : List (String Global × Value) → List (List ℕ)
+names es = map (λ e. string_bytes e.0) es
+
+abbrev pub found_keys : List Found → List (List ℕ)
+found_keys fs = map (λ s. s.key) (map spot_of fs)
+
+-- The members that were found, each with another key, are those of the map.
+pub record MapHolds (fs : List Found) (es : List (String Global × Value)) : Type 0 where
+  pub put : members_view es ≡ put_all (map member_of fs) no_members
+  pub distinct : AreDistinct (found_keys fs)
+  pub known : (k : List ℕ) → IsNew k (names es) → IsNew k (found_keys fs)

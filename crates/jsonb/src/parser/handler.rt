@@ -1,0 +1,261 @@
+//! What is made of a text while it is parsed. The parser sends the events of the text's value, and a handler makes
+//! something of them: a `Value`, a `JsonAst`, serialized text or a sort key.
+ghost use Rattle.std.specs.Prelude.{◌≡◌, ℕ, Bool, List, [], ◌∷◌, ◌++◌, MatchBool, Ok, IfOk, IfErr, OnOk, Option, true, false};
+ghost use Rattle.std.specs.Cow.{cow_str_bytes};
+ghost use Rattle.jsonb_value.specs.declared.error.Error.{Error};
+ghost use Rattle.jsonb_value.specs.Tree.{Mark};
+ghost use Rattle.jsonb_value.specs.Tree.Mark.{plain};
+ghost use Rattle.jsonb_value.specs.View.{mark_view, number_view};
+ghost use Rattle.jsonb.specs.Handler.{Begins, ElseFails};
+ghost use Rattle.jsonb.specs.Stack.{object_end};
+ghost use Rattle.jsonb.specs.declared.parser.frame.Frame.{Frame};
+ghost use Rattle.jsonb.specs.declared.parser.frame.Frame.TheVariants.{Array, Object};
+ghost use Rattle.jsonb_scan.specs.Open.{Open, elements_so_far, members_so_far};
+ghost use Rattle.jsonb_scan.specs.Source.{Source, Found, found, null_source, boolean_source, string_source, number_source, array_source_of};
+ghost use Rattle.jsonb_scan.specs.Spelled.{IsSpelledAt, KeyStandsAt};
+
+mod ast;
+mod sort_key;
+mod text;
+mod value;
+
+use super::frame::OpenObject;
+use jsonb_value::error::Error;
+use jsonb_value::number::Number;
+pub(super) use sort_key::KeyPart;
+use std::alloc::{AllocError, Global};
+use std::borrow::CowStr;
+pub(super) use value::put_member;
+
+// Nothing is made: what is wrong was told, or the handler is silent about it.
+#[derive(Drop)]
+pub(super) struct Failed;
+
+// What is made of one text: a value of this type for each scalar and each container that ended, with the elements,
+// members and keys of the containers that are open, and the room that all of them are written to.
+//
+// A scalar is made first and put in then, with the indices of the text between which it stands, where these are known.
+pub(super) trait Handler<'a>: Drop + Sized {
+    // What is written of all values.
+    type Room: Drop;
+
+    // The elements so far of an array that is open.
+    type Items: Drop;
+
+    // The members so far of an object that is open.
+    type Members: Drop;
+
+    // A key that waits for its value.
+    type Key: Drop;
+
+    // The scalar is of this source, and isn't put in yet.
+    ghost sees: { Self → Source → Type 0 };
+
+    // Of this text, the room and the open containers, the innermost first, hold what was parsed so far. A value is due
+    // (true), or the innermost was opened or one of its parts ended (false).
+    ghost stands: { List ℕ → Self.Room → Bool → List (Frame Self.Items Self.Members Self.Key) → List Open → Type 0 };
+
+    // The container ended, and is of this source. It stands where a value was due.
+    ghost completes: { List ℕ → Self.Room → Frame Self.Items Self.Members Self.Key → Source → List (Frame Self.Items Self.Members Self.Key) → List Open → Type 0 };
+
+    // The value is of this source, and stands where a value was due.
+    ghost filled: { List ℕ → Self.Room → Self → Source → List (Frame Self.Items Self.Members Self.Key) → List Open → Type 0 };
+
+    // What was in the room before the text, and stays.
+    ghost base: { Self.Room → List ℕ };
+
+    // Whether it may be silent about a repeated key.
+    ghost silent: { Bool };
+
+    // Whether a scalar takes memory.
+    ghost writes: { Bool };
+
+    fn null() -> Self
+        ensures { sees result null_source };
+
+    fn boolean(value: bool) -> Self
+        ensures { sees result (boolean_source value) };
+
+    fn number(value: Number) -> Self
+        ensures { sees result (number_source (number_view value)) };
+
+    fn string(text: CowStr<'a>) -> Self
+        ensures { sees result (string_source (mark_view text.entry) (cow_str_bytes text.entry)) };
+
+    // The whole text is this scalar.
+    fn root(
+        room: &mut Self::Room,
+        value: &Self,
+        from: usize,
+        to: usize,
+    ) -> std::result::Result<(), AllocError>
+        ensures filled { OnOk result ((text : List ℕ) → (s : Source) → stands text room.old true [] []
+            → sees value.now s → IsSpelledAt text from to s → filled text room.new value.now s [] []) }
+        ensures memory { IfErr result (λ _. writes ≡ true) }
+        ensures base { base room.new ≡ base room.old };
+
+    // An array is opened.
+    fn items(room: &mut Self::Room, alloc: Global) -> std::result::Result<Self::Items, AllocError>
+        ensures opened { IfOk result (λ items. (text : List ℕ) → (fs : List (Frame Self.Items Self.Members Self.Key))
+            → (cs : List Open) → stands text room.old true fs cs
+            → stands text room.new false (Array items ∷ fs) (elements_so_far [] ∷ cs)) }
+        ensures base { base room.new ≡ base room.old };
+
+    // An element is due that is a container.
+    fn next_item(
+        room: &mut Self::Room,
+        items: &mut Self::Items,
+    ) -> std::result::Result<(), AllocError>
+        ensures due { OnOk result ((text : List ℕ) → (ss : List Source)
+            → (fs : List (Frame Self.Items Self.Members Self.Key)) → (cs : List Open)
+            → stands text room.old false (Array items.old ∷ fs) (elements_so_far ss ∷ cs)
+            → stands text room.new true (Array items.new ∷ fs) (elements_so_far ss ∷ cs)) }
+        ensures base { base room.new ≡ base room.old };
+
+    // Puts in an element that is a scalar.
+    fn push(
+        room: &mut Self::Room,
+        items: &mut Self::Items,
+        value: Self,
+        from: usize,
+        to: usize,
+    ) -> std::result::Result<(), AllocError>
+        ensures put { OnOk result ((text : List ℕ) → (s : Source) → (ss : List Source)
+            → (fs : List (Frame Self.Items Self.Members Self.Key)) → (cs : List Open)
+            → stands text room.old false (Array items.old ∷ fs) (elements_so_far ss ∷ cs) → sees value s
+            → IsSpelledAt text from to s
+            → stands text room.new false (Array items.new ∷ fs) (elements_so_far (ss ++ s ∷ []) ∷ cs)) }
+        ensures base { base room.new ≡ base room.old };
+
+    // Puts in an element that is a container. Where it is the last one, no other follows.
+    fn push_inner(
+        room: &mut Self::Room,
+        items: &mut Self::Items,
+        value: Self,
+        is_last: bool,
+    ) -> std::result::Result<(), AllocError>
+        ensures put { OnOk result ((text : List ℕ) → (s : Source) → (ss : List Source)
+            → (fs : List (Frame Self.Items Self.Members Self.Key)) → (cs : List Open)
+            → filled text room.old value s (Array items.old ∷ fs) (elements_so_far ss ∷ cs)
+            → stands text room.new false (Array items.new ∷ fs) (elements_so_far (ss ++ s ∷ []) ∷ cs)) }
+        ensures base { base room.new ≡ base room.old };
+
+    // The array ends.
+    fn end_items(
+        room: &mut Self::Room,
+        items: &mut Self::Items,
+    ) -> std::result::Result<(), AllocError>
+        ensures ended { OnOk result ((text : List ℕ) → (ss : List Source)
+            → (fs : List (Frame Self.Items Self.Members Self.Key)) → (cs : List Open)
+            → stands text room.old false (Array items.old ∷ fs) (elements_so_far ss ∷ cs)
+            → completes text room.new (Array items.new) (array_source_of ss) fs cs) }
+        ensures base { base room.new ≡ base room.old };
+
+    // The array of elements that ended.
+    fn array(room: &Self::Room, items: Self::Items) -> Self
+        ensures { (text : List ℕ) → (s : Source) → (fs : List (Frame Self.Items Self.Members Self.Key))
+            → (cs : List Open) → completes text room.now (Array items) s fs cs
+            → filled text room.now result s fs cs };
+
+    // An object is opened.
+    fn members(
+        room: &mut Self::Room,
+        alloc: Global,
+    ) -> std::result::Result<Self::Members, AllocError>
+        ensures opened { IfOk result (λ members. (text : List ℕ) → (key : Self.Key)
+            → (fs : List (Frame Self.Items Self.Members Self.Key)) → (cs : List Open) → stands text room.old true fs cs
+            → stands text room.new false (Object (record { members = members; key = key }) ∷ fs)
+            (members_so_far [] (plain, []) 0 ∷ cs)) }
+        ensures base { base room.new ≡ base room.old };
+
+    // A member begins with a key that was cut out of the text at an index, and the index after it.
+    fn borrowed_key(
+        room: &mut Self::Room,
+        object: &mut OpenObject<Self::Members, Self::Key>,
+        alloc: Global,
+        text: &'a str,
+        from: usize,
+        after: usize,
+    ) -> std::result::Result<Self::Key, AllocError>
+        ensures begun { IfOk result (λ key. (bytes : List ℕ) → KeyStandsAt bytes text.now from after
+            → Begins (stands bytes) room.old object.old room.new object.new key (plain, text.now) after) }
+        ensures base { base room.new ≡ base room.old };
+
+    // A member begins with any other key.
+    fn key(
+        room: &mut Self::Room,
+        object: &mut OpenObject<Self::Members, Self::Key>,
+        alloc: Global,
+        text: CowStr<'a>,
+        after: usize,
+    ) -> std::result::Result<Self::Key, AllocError>
+        ensures begun { IfOk result (λ key. (bytes : List ℕ) → Begins (stands bytes) room.old object.old room.new
+            object.new key (mark_view text.entry, cow_str_bytes text.entry) after) }
+        ensures base { base room.new ≡ base room.old };
+
+    // The key of an object that waits for no value.
+    fn no_key(alloc: Global) -> Self::Key;
+
+    // Puts in a member whose value is a scalar. False where its key is there already, and the handler is silent about it.
+    fn insert(
+        room: &mut Self::Room,
+        object: &mut OpenObject<Self::Members, Self::Key>,
+        key: Self::Key,
+        value: Self,
+        from: usize,
+        to: usize,
+    ) -> std::result::Result<bool, AllocError>
+        ensures put { IfOk result (λ is_new. MatchBool is_new ((text : List ℕ) → (s : Source) → (front : List Found)
+            → (k : Mark × List ℕ) → (place : ℕ) → (fs : List (Frame Self.Items Self.Members Self.Key)) → (cs : List Open)
+            → stands text room.old true (Object (record { members = object.old.members; key = key }) ∷ fs)
+            (members_so_far front k place ∷ cs) → sees value s → IsSpelledAt text from to s
+            → stands text room.new false (Object object.new ∷ fs)
+            (members_so_far (front ++ found k s place ∷ []) (plain, []) 0 ∷ cs)) (silent ≡ true)) }
+        ensures base { base room.new ≡ base room.old };
+
+    // Puts in a member whose value is a container, under the key that waits for it.
+    fn insert_inner(
+        room: &mut Self::Room,
+        object: &mut OpenObject<Self::Members, Self::Key>,
+        alloc: Global,
+        value: Self,
+    ) -> std::result::Result<bool, AllocError>
+        ensures put { IfOk result (λ is_new. MatchBool is_new ((text : List ℕ) → (s : Source) → (front : List Found)
+            → (k : Mark × List ℕ) → (place : ℕ) → (fs : List (Frame Self.Items Self.Members Self.Key)) → (cs : List Open)
+            → filled text room.old value s (Object object.old ∷ fs) (members_so_far front k place ∷ cs)
+            → stands text room.new false (Object object.new ∷ fs)
+            (members_so_far (front ++ found k s place ∷ []) (plain, []) 0 ∷ cs)) (silent ≡ true)) }
+        ensures base { base room.new ≡ base room.old };
+
+    // The object ends. A key that comes twice is told.
+    fn finish(
+        room: &mut Self::Room,
+        alloc: Global,
+        members: &mut Self::Members,
+        told: &mut Option<Error>,
+    ) -> std::result::Result<(), Failed>
+        ensures ended { (text : List ℕ) → (front : List Found) → (key : Self.Key) → (k : Mark × List ℕ) → (place : ℕ)
+            → (fs : List (Frame Self.Items Self.Members Self.Key)) → (cs : List Open) → (rest : List ℕ)
+            → stands text room.old false (Object (record { members = members.old; key = key }) ∷ fs)
+            (members_so_far front k place ∷ cs)
+            → ElseFails silent told.new result (object_end front rest) (λ _. (s : Source)
+            × completes text room.new (Object (record { members = members.new; key = key })) s fs cs
+            × (object_end front rest ≡ Ok (s, rest))) }
+        ensures base { base room.new ≡ base room.old };
+
+    // The object of members that ended.
+    fn object(room: &Self::Room, members: Self::Members) -> Self
+        ensures { (text : List ℕ) → (s : Source) → (key : Self.Key)
+            → (fs : List (Frame Self.Items Self.Members Self.Key)) → (cs : List Open)
+            → completes text room.now (Object (record { members = members; key = key })) s fs cs
+            → filled text room.now result s fs cs };
+
+    // Drops a value that may nest deep.
+    fn dismantle(self);
+
+    // Drops elements whose values may nest deep.
+    fn dismantle_items(items: Self::Items);
+
+    // Drops members whose values may nest deep.
+    fn dismantle_members(members: Self::Members);
+}

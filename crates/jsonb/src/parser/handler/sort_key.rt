@@ -1,0 +1,239 @@
+//! A sort key is written while a text is parsed, and no value is made.
+ghost use Rattle.std.specs.Prelude.{◌≡◌, ℕ, List, true, false, map};
+ghost use Rattle.jsonb.specs.Handler.{Misses};
+ghost use Rattle.jsonb.specs.Held.{key_held};
+ghost use Rattle.jsonb.specs.Stack.{object_end};
+ghost use Rattle.jsonb_scan.specs.Source.{Found};
+ghost use Rattle.jsonb_write.specs.KeyRoom.{KeyFilled, KeyStands, TellsRepeatOf, base_of};
+ghost use Rattle.jsonb_write.specs.TextRoom.{SeesPart};
+
+use super::{Failed, Handler};
+use crate::parser::frame::OpenObject;
+use jsonb_value::error::{Error, ParseErrorCode};
+use jsonb_value::number::Number;
+use jsonb_write::key::KeyRoom;
+use jsonb_write::text::Part;
+use std::alloc::{AllocError, Global};
+use std::borrow::CowStr;
+
+// A scalar whose sort key isn't written yet, or a container whose sort key is.
+#[derive(Drop)]
+pub(in crate::parser) struct KeyPart<'a> {
+    part: Part<'a>,
+}
+
+impl<'a> Handler<'a> for KeyPart<'a> {
+    type Room = KeyRoom<'a>;
+
+    // Nothing is kept of an array.
+    type Items = ();
+
+    // The index of the object's first member among those of the room.
+    type Members = usize;
+
+    type Key = ();
+
+    ghost sees = { λ v s. SeesPart v.part s };
+
+    ghost stands = { λ text room due fs cs. KeyStands text room due (map key_held fs) cs };
+
+    ghost completes = { λ text room f s fs cs. KeyFilled text room s (map key_held fs) cs };
+
+    ghost filled = { λ text room v s fs cs. KeyFilled text room s (map key_held fs) cs };
+
+    ghost base = { λ room. base_of room };
+
+    ghost silent = { false };
+
+    ghost writes = { true };
+
+    #[inline(always)]
+    fn null() -> Self {
+        KeyPart { part: Part::Null }
+    }
+
+    #[inline(always)]
+    fn boolean(value: bool) -> Self {
+        KeyPart {
+            part: Part::Bool(value),
+        }
+    }
+
+    #[inline(always)]
+    fn number(value: Number) -> Self {
+        KeyPart {
+            part: Part::Number(value),
+        }
+    }
+
+    #[inline(always)]
+    fn string(text: CowStr<'a>) -> Self {
+        KeyPart {
+            part: Part::String(text),
+        }
+    }
+
+    #[inline(always)]
+    fn root(
+        room: &mut KeyRoom<'a>,
+        value: &Self,
+        from: usize,
+        to: usize,
+    ) -> Result<(), AllocError> {
+        room.root(&value.part, from, to)
+    }
+
+    #[inline(always)]
+    fn items(room: &mut KeyRoom<'a>, alloc: Global) -> Result<(), AllocError> {
+        room.begin_array()
+    }
+
+    #[inline(always)]
+    fn next_item(room: &mut KeyRoom<'a>, items: &mut ()) -> Result<(), AllocError> {
+        room.next_item()
+    }
+
+    #[inline(always)]
+    fn push(
+        room: &mut KeyRoom<'a>,
+        items: &mut (),
+        value: Self,
+        from: usize,
+        to: usize,
+    ) -> Result<(), AllocError> {
+        room.push(value.part, from, to)
+    }
+
+    #[inline(always)]
+    fn push_inner(
+        room: &mut KeyRoom<'a>,
+        items: &mut (),
+        value: Self,
+        is_last: bool,
+    ) -> Result<(), AllocError> {
+        room.push_inner();
+        Ok(())
+    }
+
+    #[inline(always)]
+    fn end_items(room: &mut KeyRoom<'a>, items: &mut ()) -> Result<(), AllocError> {
+        room.end_array()
+    }
+
+    #[inline(always)]
+    fn array(room: &KeyRoom<'a>, items: ()) -> Self {
+        KeyPart {
+            part: Part::Written,
+        }
+    }
+
+    #[inline(always)]
+    fn members(room: &mut KeyRoom<'a>, alloc: Global) -> Result<usize, AllocError> {
+        room.begin_object()
+    }
+
+    #[inline(always)]
+    fn borrowed_key(
+        room: &mut KeyRoom<'a>,
+        object: &mut OpenObject<usize, ()>,
+        alloc: Global,
+        text: &'a str,
+        from: usize,
+        after: usize,
+    ) -> Result<(), AllocError> {
+        room.borrowed_key(object.members, text, from, after)
+    }
+
+    #[inline(always)]
+    fn key(
+        room: &mut KeyRoom<'a>,
+        object: &mut OpenObject<usize, ()>,
+        alloc: Global,
+        text: CowStr<'a>,
+        after: usize,
+    ) -> Result<(), AllocError> {
+        room.key(object.members, text, after)
+    }
+
+    #[inline(always)]
+    fn no_key(alloc: Global) {}
+
+    #[inline(always)]
+    fn insert(
+        room: &mut KeyRoom<'a>,
+        object: &mut OpenObject<usize, ()>,
+        key: (),
+        value: Self,
+        from: usize,
+        to: usize,
+    ) -> Result<bool, AllocError> {
+        match room.insert(object.members, value.part, from, to) {
+            Ok(()) => Ok(true),
+            Err(failed) => Err(failed),
+        }
+    }
+
+    #[inline(always)]
+    fn insert_inner(
+        room: &mut KeyRoom<'a>,
+        object: &mut OpenObject<usize, ()>,
+        alloc: Global,
+        value: Self,
+    ) -> Result<bool, AllocError> {
+        room.insert_inner(object.members);
+        Ok(true)
+    }
+
+    #[inline(always)]
+    fn finish(
+        room: &mut KeyRoom<'a>,
+        alloc: Global,
+        members: &mut usize,
+        told: &mut Option<Error>,
+    ) -> Result<(), Failed> {
+        let first = *members;
+        match room.end_object(first) {
+            Ok(None) => Ok(()),
+            Ok(Some(index)) => {
+                tell_repeat(room, alloc, first, index, told);
+                Err(Failed)
+            }
+            Err(_) => {
+                *told = Some(Error::OutOfMemory);
+                Err(Failed)
+            }
+        }
+    }
+
+    #[inline(always)]
+    fn object(room: &KeyRoom<'a>, members: usize) -> Self {
+        KeyPart {
+            part: Part::Written,
+        }
+    }
+
+    fn dismantle(self) {}
+
+    fn dismantle_items(items: ()) {}
+
+    fn dismantle_members(members: usize) {}
+}
+
+// Tells the least key that comes twice, and where it comes the second time.
+#[cold]
+#[inline(never)]
+fn tell_repeat(room: &KeyRoom, alloc: Global, first: usize, index: usize, told: &mut Option<Error>)
+    ensures { (fs : List Found) → (rest : List ℕ) → TellsRepeatOf room.now first fs index
+        → Misses false told.new (object_end fs rest) }
+{
+    let Some(key) = room.repeated_key(first, index) else {
+        return;
+    };
+    *told = match String::from_str(alloc, key) {
+        Ok(key) => {
+            let place = room.repeated_place(first, index);
+            Some(Error::Syntax(ParseErrorCode::ObjectDuplicateKey(key), place))
+        }
+        Err(_) => Some(Error::OutOfMemory),
+    };
+}

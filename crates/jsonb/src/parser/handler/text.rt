@@ -1,0 +1,221 @@
+//! Serialized text is written while a text is parsed, and no value is made.
+ghost use Rattle.std.specs.Prelude.{◌≡◌, ℕ, List, true, false, map};
+ghost use Rattle.jsonb.specs.Handler.{Misses};
+ghost use Rattle.jsonb.specs.Held.{text_held};
+ghost use Rattle.jsonb.specs.Stack.{object_end};
+ghost use Rattle.jsonb_scan.specs.Source.{Found};
+ghost use Rattle.jsonb_write.specs.TextRoom.{SeesPart, TellsRepeatOf, TextFilled, TextStands, base_of};
+
+use super::{Failed, Handler};
+use crate::parser::frame::OpenObject;
+use jsonb_value::error::{Error, ParseErrorCode};
+use jsonb_value::number::Number;
+use jsonb_write::text::{Part, TextRoom};
+use std::alloc::{AllocError, Global};
+use std::borrow::CowStr;
+
+impl<'a> Handler<'a> for Part<'a> {
+    type Room = TextRoom<'a>;
+
+    // Whether there is no element yet.
+    type Items = bool;
+
+    // The index of the object's first member among those of the room.
+    type Members = usize;
+
+    type Key = ();
+
+    ghost sees = { SeesPart };
+
+    ghost stands = { λ text room due fs cs. TextStands text room due (map text_held fs) cs };
+
+    ghost completes = { λ text room f s fs cs. TextFilled text room s (map text_held fs) cs };
+
+    ghost filled = { λ text room v s fs cs. TextFilled text room s (map text_held fs) cs };
+
+    ghost base = { λ room. base_of room };
+
+    ghost silent = { false };
+
+    ghost writes = { true };
+
+    #[inline(always)]
+    fn null() -> Self {
+        Part::Null
+    }
+
+    #[inline(always)]
+    fn boolean(value: bool) -> Self {
+        Part::Bool(value)
+    }
+
+    #[inline(always)]
+    fn number(value: Number) -> Self {
+        Part::Number(value)
+    }
+
+    #[inline(always)]
+    fn string(text: CowStr<'a>) -> Self {
+        Part::String(text)
+    }
+
+    #[inline(always)]
+    fn root(
+        room: &mut TextRoom<'a>,
+        value: &Self,
+        from: usize,
+        to: usize,
+    ) -> Result<(), AllocError> {
+        room.root(value, from, to)
+    }
+
+    #[inline(always)]
+    fn items(room: &mut TextRoom<'a>, alloc: Global) -> Result<bool, AllocError> {
+        room.begin_array()
+    }
+
+    #[inline(always)]
+    fn next_item(room: &mut TextRoom<'a>, items: &mut bool) -> Result<(), AllocError> {
+        room.next_item(items)
+    }
+
+    #[inline(always)]
+    fn push(
+        room: &mut TextRoom<'a>,
+        items: &mut bool,
+        value: Self,
+        from: usize,
+        to: usize,
+    ) -> Result<(), AllocError> {
+        room.push(items, value, from, to)
+    }
+
+    #[inline(always)]
+    fn push_inner(
+        room: &mut TextRoom<'a>,
+        items: &mut bool,
+        value: Self,
+        is_last: bool,
+    ) -> Result<(), AllocError> {
+        room.push_inner(items);
+        Ok(())
+    }
+
+    #[inline(always)]
+    fn end_items(room: &mut TextRoom<'a>, items: &mut bool) -> Result<(), AllocError> {
+        room.end_array()
+    }
+
+    #[inline(always)]
+    fn array(room: &TextRoom<'a>, items: bool) -> Self {
+        Part::Written
+    }
+
+    #[inline(always)]
+    fn members(room: &mut TextRoom<'a>, alloc: Global) -> Result<usize, AllocError> {
+        room.begin_object()
+    }
+
+    #[inline(always)]
+    fn borrowed_key(
+        room: &mut TextRoom<'a>,
+        object: &mut OpenObject<usize, ()>,
+        alloc: Global,
+        text: &'a str,
+        from: usize,
+        after: usize,
+    ) -> Result<(), AllocError> {
+        room.borrowed_key(object.members, text, from, after)
+    }
+
+    #[inline(always)]
+    fn key(
+        room: &mut TextRoom<'a>,
+        object: &mut OpenObject<usize, ()>,
+        alloc: Global,
+        text: CowStr<'a>,
+        after: usize,
+    ) -> Result<(), AllocError> {
+        room.key(object.members, text, after)
+    }
+
+    #[inline(always)]
+    fn no_key(alloc: Global) {}
+
+    #[inline(always)]
+    fn insert(
+        room: &mut TextRoom<'a>,
+        object: &mut OpenObject<usize, ()>,
+        key: (),
+        value: Self,
+        from: usize,
+        to: usize,
+    ) -> Result<bool, AllocError> {
+        match room.insert(object.members, value, from, to) {
+            Ok(()) => Ok(true),
+            Err(failed) => Err(failed),
+        }
+    }
+
+    #[inline(always)]
+    fn insert_inner(
+        room: &mut TextRoom<'a>,
+        object: &mut OpenObject<usize, ()>,
+        alloc: Global,
+        value: Self,
+    ) -> Result<bool, AllocError> {
+        room.insert_inner(object.members);
+        Ok(true)
+    }
+
+    #[inline(always)]
+    fn finish(
+        room: &mut TextRoom<'a>,
+        alloc: Global,
+        members: &mut usize,
+        told: &mut Option<Error>,
+    ) -> Result<(), Failed> {
+        let first = *members;
+        match room.end_object(first) {
+            Ok(None) => Ok(()),
+            Ok(Some(index)) => {
+                tell_repeat(room, alloc, first, index, told);
+                Err(Failed)
+            }
+            Err(_) => {
+                *told = Some(Error::OutOfMemory);
+                Err(Failed)
+            }
+        }
+    }
+
+    #[inline(always)]
+    fn object(room: &TextRoom<'a>, members: usize) -> Self {
+        Part::Written
+    }
+
+    fn dismantle(self) {}
+
+    fn dismantle_items(items: bool) {}
+
+    fn dismantle_members(members: usize) {}
+}
+
+// Tells the least key that comes twice, and where it comes the second time.
+#[cold]
+#[inline(never)]
+fn tell_repeat(room: &TextRoom, alloc: Global, first: usize, index: usize, told: &mut Option<Error>)
+    ensures { (fs : List Found) → (rest : List ℕ) → TellsRepeatOf room.now first fs index
+        → Misses false told.new (object_end fs rest) }
+{
+    let Some(key) = room.repeated_key(first, index) else {
+        return;
+    };
+    *told = match String::from_str(alloc, key) {
+        Ok(key) => {
+            let place = room.repeated_place(first, index);
+            Some(Error::Syntax(ParseErrorCode::ObjectDuplicateKey(key), place))
+        }
+        Err(_) => Some(Error::OutOfMemory),
+    };
+}

@@ -1,0 +1,280 @@
+//! A `Value` is made with no `JsonAst` between, and is silent about a repeated key: then the text is parsed again as a
+//! `JsonAst`.
+ghost use Rattle.std.specs.Prelude.{◌≡◌, List, [], ◌∷◌, ◌++◌, false, true, None, Ok, MatchBool, MatchResult, IfOk, OnOk, string_bytes};
+ghost use Rattle.std.specs.BTreeMap.{insert_entry, is_at};
+ghost use Rattle.std.specs.Map.{lookup};
+ghost use Rattle.std.specs.String.{string_cmp};
+ghost use Rattle.jsonb_value.specs.Tree.Tree.{object};
+ghost use Rattle.jsonb_value.specs.View.{members_view, view};
+ghost use Rattle.jsonb.specs.Handler.{Completes, FramesHold, MapHolds};
+ghost use Rattle.jsonb_scan.specs.Source.{tree_of_source};
+
+use super::{Failed, Handler};
+use crate::parser::frame::OpenObject;
+use jsonb_value::error::Error;
+use jsonb_value::number::Number;
+use jsonb_value::value::{Object, Value};
+use std::alloc::{AllocError, AllocFailed, Global};
+use std::borrow::CowStr;
+use std::mem;
+
+impl<'a> Handler<'a> for Value<'a> {
+    type Room = ();
+
+    type Items = Vec<Value<'a>>;
+
+    type Members = Object<'a>;
+
+    type Key = String;
+
+    ghost sees = { λ v s. view v ≡ tree_of_source s };
+
+    ghost stands = { λ text room due fs cs. FramesHold (λ v s. view v ≡ tree_of_source s) (λ key k place. string_bytes key ≡ k.1) (λ ms found. MapHolds found ms.entries) due fs cs };
+
+    ghost completes = { λ text room f s fs cs. Completes (λ v s. view v ≡ tree_of_source s) (λ ms s. object (members_view ms.entries) ≡ tree_of_source s) f s × FramesHold (λ v s. view v ≡ tree_of_source s) (λ key k place. string_bytes key ≡ k.1) (λ ms found. MapHolds found ms.entries) true fs cs };
+
+    ghost filled = { λ text room v s fs cs. (view v ≡ tree_of_source s) × FramesHold (λ v s. view v ≡ tree_of_source s) (λ key k place. string_bytes key ≡ k.1) (λ ms found. MapHolds found ms.entries) true fs cs };
+
+    ghost base = { λ room. [] };
+
+    ghost silent = { true };
+
+    ghost writes = { false };
+
+    #[inline(always)]
+    fn null() -> Self {
+        Value::Null
+    }
+
+    #[inline(always)]
+    fn boolean(value: bool) -> Self {
+        Value::Bool(value)
+    }
+
+    #[inline(always)]
+    fn number(value: Number) -> Self {
+        Value::Number(value)
+    }
+
+    #[inline(always)]
+    fn string(text: CowStr<'a>) -> Self {
+        Value::String(text)
+    }
+
+    #[inline(always)]
+    fn root(room: &mut (), value: &Self, from: usize, to: usize) -> Result<(), AllocError> {
+        Ok(())
+    }
+
+    #[inline(always)]
+    fn items(room: &mut (), alloc: Global) -> Result<Vec<Self>, AllocError> {
+        Ok(Vec::new(alloc))
+    }
+
+    #[inline(always)]
+    fn next_item(room: &mut (), items: &mut Vec<Self>) -> Result<(), AllocError> {
+        Ok(())
+    }
+
+    #[inline(always)]
+    fn push(
+        room: &mut (),
+        items: &mut Vec<Self>,
+        value: Self,
+        from: usize,
+        to: usize,
+    ) -> Result<(), AllocError> {
+        push_scalar(items, value)
+    }
+
+    #[inline(always)]
+    fn push_inner(
+        room: &mut (),
+        items: &mut Vec<Self>,
+        value: Self,
+        is_last: bool,
+    ) -> Result<(), AllocError> {
+        make_room(items, is_last);
+        if let Err(refused) = items.push(value) {
+            refused.value.dismantle();
+            return Err(AllocError);
+        }
+        Ok(())
+    }
+
+    #[inline(always)]
+    fn end_items(room: &mut (), items: &mut Vec<Self>) -> Result<(), AllocError> {
+        give_back(items);
+        Ok(())
+    }
+
+    #[inline(always)]
+    fn array(room: &(), items: Vec<Self>) -> Self {
+        Value::Array(items)
+    }
+
+    #[inline(always)]
+    fn members(room: &mut (), alloc: Global) -> Result<Object<'a>, AllocError> {
+        Ok(Object::new(alloc))
+    }
+
+    #[inline(always)]
+    fn borrowed_key(
+        room: &mut (),
+        object: &mut OpenObject<Object<'a>, String>,
+        alloc: Global,
+        text: &'a str,
+        from: usize,
+        after: usize,
+    ) -> Result<String, AllocError> {
+        String::from_str(alloc, text)
+    }
+
+    #[inline(always)]
+    fn key(
+        room: &mut (),
+        object: &mut OpenObject<Object<'a>, String>,
+        alloc: Global,
+        text: CowStr<'a>,
+        after: usize,
+    ) -> Result<String, AllocError> {
+        text.into_owned(alloc)
+    }
+
+    #[inline(always)]
+    fn no_key(alloc: Global) -> String {
+        String::new(alloc)
+    }
+
+    #[inline(always)]
+    fn insert(
+        room: &mut (),
+        object: &mut OpenObject<Object<'a>, String>,
+        key: String,
+        value: Self,
+        from: usize,
+        to: usize,
+    ) -> Result<bool, AllocError> {
+        put_member(&mut object.members, key, value)
+    }
+
+    #[inline(always)]
+    fn insert_inner(
+        room: &mut (),
+        object: &mut OpenObject<Object<'a>, String>,
+        alloc: Global,
+        value: Self,
+    ) -> Result<bool, AllocError> {
+        let key = mem::replace(&mut object.key, String::new(alloc));
+        put_member(&mut object.members, key, value)
+    }
+
+    #[inline(always)]
+    fn finish(
+        room: &mut (),
+        alloc: Global,
+        members: &mut Object<'a>,
+        told: &mut Option<Error>,
+    ) -> Result<(), Failed> {
+        Ok(())
+    }
+
+    #[inline(always)]
+    fn object(room: &(), members: Object<'a>) -> Self {
+        Value::Object(members)
+    }
+
+    #[inline(always)]
+    fn dismantle(self) {
+        Value::dismantle(self);
+    }
+
+    #[inline(always)]
+    fn dismantle_items(items: Vec<Self>) {
+        Value::Array(items).dismantle();
+    }
+
+    #[inline(always)]
+    fn dismantle_members(members: Object<'a>) {
+        Value::Object(members).dismantle();
+    }
+}
+
+// Pushes a scalar, unless memory runs out. Room is made first: a push that may fail would give the value back, and the
+// place for that is cleared before each value.
+#[inline(always)]
+pub(in crate::parser) fn push_scalar<V: Drop>(
+    items: &mut Vec<V>,
+    value: V,
+) -> Result<(), AllocError>
+    ensures { OnOk result (items.new.items ≡ items.old.items ++ value ∷ []) }
+{
+    items.try_reserve(1)?;
+    items.push_reserved(value);
+    Ok(())
+}
+
+// Makes room for a value, and for no other, where it is the array's only one. Arrays in arrays often have but one.
+#[inline(always)]
+pub(in crate::parser) fn make_room<V: Drop>(items: &mut Vec<V>, is_last: bool)
+    ensures { items.new.items ≡ items.old.items }
+{
+    if is_last && items.capacity() == 0 {
+        let _made = items.reserve_exact(1);
+    }
+}
+
+// An array that was read keeps room for so many values more than it has, and no more.
+const SPARE: usize = 15;
+
+// Gives back room that nothing needs, where there is enough of it to be worth the call.
+fn give_back(items: &mut Vec<Value>)
+    ensures { items.new.items ≡ items.old.items }
+{
+    if items.capacity() - items.len() > SPARE {
+        items.shrink_to_fit();
+    }
+}
+
+// Puts in a member. True where no other had its key; else the other's value is gone. All members are put in here,
+// so that the map's own code stands in this function and in no other, and its answer takes no place in memory.
+#[inline(never)]
+pub(in crate::parser) fn put_member<'a>(
+    members: &mut Object<'a>,
+    key: String,
+    value: Value<'a>,
+) -> Result<bool, AllocError>
+    ensures entries { IfOk result (λ _. members.new.entries
+        ≡ insert_entry string_cmp members.old.entries key value.entry) }
+    ensures missing { IfOk result (λ is_new. MatchBool is_new
+        (lookup (is_at (string_cmp key)) members.old.entries ≡ None) (Unit {0})) }
+{
+    match members.insert(key, value) {
+        Ok(None) => Ok(true),
+        other => drop_refused(other),
+    }
+}
+
+// Drops what the map gave back in the place of a new member: the value that a repeated key had, or the one that there
+// was no memory for. Either may nest deep. It is a call of its own, so that `put_member` makes no room for what it
+// drops.
+#[cold]
+#[inline(never)]
+fn drop_refused<'a>(
+    given: Result<Option<Value<'a>>, AllocFailed<(String, Value<'a>)>>,
+) -> Result<bool, AllocError>
+    ensures { MatchResult given.entry (λ _. result ≡ Ok false) (λ _. IfOk result (λ _. ⊥)) }
+{
+    match given {
+        Ok(Some(old)) => {
+            old.dismantle();
+            Ok(false)
+        }
+        Ok(None) => Ok(false),
+        Err(refused) => {
+            let (_, value) = refused.value;
+            value.dismantle();
+            Err(AllocError)
+        }
+    }
+}
