@@ -12,6 +12,9 @@ use jsonb_value::parts::{append_number_key, append_text_key};
 use std::alloc::{AllocError, Global};
 use std::borrow::CowStr;
 
+// How many times the bytes of the text may be moved.
+const MOST_MOVED: usize = 8;
+
 /// What is written of a sort key, behind the bytes that a buffer held before.
 #[derive(Drop)]
 pub struct KeyRoom<'a> {
@@ -440,6 +443,12 @@ impl<'a> KeyRoom<'a> {
     {
         self.members.truncate(first);
         self.append(&[0, 0])
+    }
+
+    /// Whether so many bytes of members were moved that another way takes less time: several times those of the text.
+    #[inline(always)]
+    pub fn moved_much(&self) -> bool {
+        self.spare.total / MOST_MOVED > self.text.len()
     }
 
     /// The end of an object. Where a key comes twice, what is returned is the index, among the members, of the one

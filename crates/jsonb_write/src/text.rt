@@ -22,6 +22,9 @@ pub enum Part<'a> {
     Written,
 }
 
+// How many times the bytes of the text may be moved.
+const MOST_MOVED: usize = 8;
+
 /// What is written of a text, behind the bytes that a buffer held before.
 #[derive(Drop)]
 pub struct TextRoom<'a> {
@@ -510,6 +513,12 @@ impl<'a> TextRoom<'a> {
     {
         self.members.truncate(first);
         self.put(b'}')
+    }
+
+    /// Whether so many bytes of members were moved that another way takes less time: several times those of the text.
+    #[inline(always)]
+    pub fn moved_much(&self) -> bool {
+        self.spare.total / MOST_MOVED > self.written.text.len()
     }
 
     /// The end of an object. Where a key comes twice, what is returned is the index, among the members, of the one

@@ -64,7 +64,7 @@ pub(super) trait Handler<'a>: Drop + Sized {
     // What was in the room before the text, and stays.
     ghost base: { Self.Room → List ℕ };
 
-    // Whether it may be silent about a repeated key.
+    // Whether it may fail and tell nothing, so that the text is parsed another way.
     ghost silent: { Bool };
 
     // Whether a scalar takes memory.

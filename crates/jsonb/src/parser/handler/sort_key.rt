@@ -43,7 +43,7 @@ impl<'a> Handler<'a> for KeyPart<'a> {
 
     ghost base = { λ room. base_of room };
 
-    ghost silent = { false };
+    ghost silent = { true };
 
     ghost writes = { true };
 
@@ -191,6 +191,10 @@ impl<'a> Handler<'a> for KeyPart<'a> {
         members: &mut usize,
         told: &mut Option<Error>,
     ) -> Result<(), Failed> {
+        if room.moved_much() {
+            *told = None;
+            return Err(Failed);
+        }
         let first = *members;
         match room.end_object(first) {
             Ok(None) => Ok(()),

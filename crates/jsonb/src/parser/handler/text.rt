@@ -35,7 +35,7 @@ impl<'a> Handler<'a> for Part<'a> {
 
     ghost base = { λ room. base_of room };
 
-    ghost silent = { false };
+    ghost silent = { true };
 
     ghost writes = { true };
 
@@ -175,6 +175,10 @@ impl<'a> Handler<'a> for Part<'a> {
         members: &mut usize,
         told: &mut Option<Error>,
     ) -> Result<(), Failed> {
+        if room.moved_much() {
+            *told = None;
+            return Err(Failed);
+        }
         let first = *members;
         match room.end_object(first) {
             Ok(None) => Ok(()),

@@ -1,4 +1,4 @@
-use Rattle.std.proofs.Common.{◌++◌, false, Some, Err, inr, ap, subst, sym, ◌∙◌}
+use Rattle.std.proofs.Common.{true, ◌++◌, false, Some, Err, inr, ap, subst, sym, ◌∙◌}
 use Rattle.jsonb_value.specs.declared.error.Error.TheVariants.{OutOfMemory}
 use Rattle.jsonb_value.specs.Text.{tree_text}
 use Rattle.jsonb_scan.specs.Answer.{Fails, mode_of}
@@ -31,7 +31,7 @@ returns-in-Ok-clause-ok c =
     }
 
 fault_told : (c : goal.In-Some) → Fails c.in-Some.error (source_of (mode_of c.args.mode) c.args.text.now)
-fault_told c = subst (λ told. Misses false told (source_of (mode_of c.args.mode) c.args.text.now)) c.in-Some.is (c.in-Err.ensures.reads c.new-room.ensures.stands)
+fault_told c = subst (λ told. Misses true told (source_of (mode_of c.args.mode) c.args.text.now)) c.in-Some.is (c.in-Err.ensures.reads c.new-room.ensures.stands)
 
 pub returns-in-Some-clause-exact : goal.returns-in-Some-clause-exact
 returns-in-Some-clause-exact c = gives_tree (mode_of c.args.mode) c.args.text.now (Err c.in-Some.error) (fault_told c)

@@ -1,9 +1,10 @@
-use Rattle.std.proofs.Common.{map, ap, subst}
+use Rattle.std.proofs.Common.{true, map, ap, subst}
 use Rattle.std.specs.Prelude.{MatchOption}
 use Rattle.jsonb.specs.Held.{key_held}
 use Rattle.jsonb_scan.specs.Reading.Container.{object_or_fault}
-use Rattle.jsonb_scan.specs.Source.{object_source_of}
+use Rattle.jsonb_scan.specs.Source.{first_repeat, object_source_of, spot_of}
 use Rattle.jsonb_write.specs.KeyRoom.{EndsObject, TellsRepeatOf}
+use Rattle.jsonb.proofs.Steps.Failures.{tells_always}
 use Rattle.jsonb.proofs.parser.handler.sort_key.KeyPartHandler.finish.Goals as goal
 
 pub returns-in-Ok-None-clause-ended : goal.returns-in-Ok-None-clause-ended
@@ -16,4 +17,4 @@ pub returns-in-Ok-Some-clause-ended : goal.returns-in-Ok-Some-clause-ended
 returns-in-Ok-Some-clause-ended c = λ text front key k place fs cs rest held.
     let room = c.end_object.new.self in
     let repeat = subst (λ o. MatchOption o (EndsObject text room front (map key_held fs) cs) (λ i. TellsRepeatOf room c.args.members.now front i)) c.in-Ok-Some.field-0-is (c.in-Ok-Some.ensures.stands text (map key_held fs) front k place cs held) in
-    c.tell_repeat.ensures front rest repeat
+    tells_always true c.tell_repeat.new.told (object_or_fault (first_repeat (map spot_of front)) front rest) (c.tell_repeat.ensures front rest repeat)
