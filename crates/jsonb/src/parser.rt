@@ -42,8 +42,8 @@ pub use straight::{append_sort_key, append_text};
 /// Parses a whole text of standard JSON.
 ///
 /// Strings without escapes are borrowed from `buf`. The time is linear in the text, and in an object of n members each
-/// costs log n comparisons of keys; a rejected text is parsed twice. It allocates for arrays, objects, their keys, and
-/// strings with escapes.
+/// costs log n comparisons of keys; a text with a repeated key is parsed twice. It allocates for arrays, objects, their
+/// keys, and strings with escapes.
 ///
 /// ```
 /// let value = jsonb::parse_value_standard_mode(rt.alloc(), b"{\"a\": [1, true]}")?;
