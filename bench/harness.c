@@ -11,15 +11,16 @@
  *                                that counts from outside
  *   harness --peak FILE..        prints a line for each file: the file, the word peak, how many bytes, the bytes of heap that
  *                                live at most while a document is read, its value among them, added up over the file, and -
+ *   harness --peak-of OP FILE..  prints the same lines of that operation, with its name in the place of the word peak
  *
  * The documents of a file whose name ends in .json5 are of extended mode, and are only read. Those of a .rejected file are
  * no documents, and are only rejected.
  *
  * With NO_COUNTER set it opens no counter. PREFIX is what the names of the measured library's functions begin with.
  * WITH_EXTENDED is defined where the library reads extended mode, WITH_AST where it reads into trees, WITH_SORT_KEY where
- * it writes sort keys, WITH_DOCUMENT where it writes texts and sort keys with no value between, WITH_REJECT where it tells
- * how often it rejects a text, and WITH_MEMORY where memory.c is linked, as --peak needs it and as the times must not have
- * it.
+ * it writes sort keys, WITH_DOCUMENT where it writes texts and sort keys of a tree with no value between, WITH_STRAIGHT
+ * where it writes them while it parses, WITH_REJECT where it tells how often it rejects a text, and WITH_MEMORY where
+ * memory.c is linked, as --peak needs it and as the times must not have it.
  * WITHOUT_VALUES is defined where it compares and clones no values, and WITH_READ_WRITE where it writes only what it has
  * just read. */
 #define _GNU_SOURCE
@@ -66,6 +67,9 @@ operation_t JOIN(PREFIX, sort_key);
 #ifdef WITH_DOCUMENT
 operation_t JOIN(PREFIX, document_text), JOIN(PREFIX, document_key);
 #endif
+#ifdef WITH_STRAIGHT
+operation_t JOIN(PREFIX, straight_text), JOIN(PREFIX, straight_key);
+#endif
 
 /* An operation that does not only read still reads the text where there is no round at all. So its cost is what more
  * rounds cost than none. */
@@ -83,6 +87,10 @@ static const struct operation { const char *name; operation_t *run; int only_rea
 #ifdef WITH_DOCUMENT
   { "document_text", JOIN(PREFIX, document_text), 1, ".json" },
   { "document_key", JOIN(PREFIX, document_key), 1, ".json" },
+#endif
+#ifdef WITH_STRAIGHT
+  { "straight_text", JOIN(PREFIX, straight_text), 1, ".json" },
+  { "straight_key", JOIN(PREFIX, straight_key), 1, ".json" },
 #endif
 #ifdef WITH_READ_WRITE
   { "read_write", JOIN(PREFIX, read_write), 1, ".json" },
@@ -265,16 +273,15 @@ static operation_t *reader_of(const struct file *file) {
   exit(2);
 }
 
-static void measure_peak(const struct file *file) {
-  operation_t *reader = reader_of(file);
+static void measure_peak(const struct file *file, operation_t *run, const char *name) {
   size_t sum = 0;
   for (size_t i = 0; i < file->count; i++) {
     struct file one = { file->name, file->documents[i].len, 1, &file->documents[i] };
     size_t before = memory_peak = memory_live;
-    pass(&one, reader, 1);
+    pass(&one, run, 1);
     sum += memory_peak - before;
   }
-  printf("%s\tpeak\t%zu\t%zu\t-\n", last_part(file->name), file->bytes, sum);
+  printf("%s\t%s\t%zu\t%zu\t-\n", last_part(file->name), name, file->bytes, sum);
 }
 #endif
 
@@ -300,7 +307,15 @@ int main(int argc, char **argv) {
   if (argc > 1 && !strcmp(argv[1], "--peak")) {
     for (int i = 2; i < argc; i++) {
       struct file file = load(argv[i]);
-      measure_peak(&file);
+      measure_peak(&file, reader_of(&file), "peak");
+    }
+    return 0;
+  }
+  if (argc > 3 && !strcmp(argv[1], "--peak-of")) {
+    for (int i = 3; i < argc; i++) {
+      struct file file = load(argv[i]);
+      for (size_t which = 0; which < OPERATIONS; which++)
+        if (!strcmp(operations[which].name, argv[2])) measure_peak(&file, operations[which].run, argv[2]);
     }
     return 0;
   }

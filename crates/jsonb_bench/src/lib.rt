@@ -10,7 +10,9 @@ ghost use Rattle.jsonb_value.specs.Grammar.{IsDocument, IsNoDocument};
 ghost use Rattle.jsonb_value.specs.Mode.{standard, extended};
 ghost use Rattle.jsonb_value.specs.Tree.{Tree};
 
-use jsonb::{JsonAst, Mode, parse_value, parse_value_standard_mode};
+use jsonb::{
+    JsonAst, Mode, append_sort_key, append_text, parse_value, parse_value_standard_mode,
+};
 use jsonb_document::Document;
 use jsonb_value::error::Error;
 use std::alloc::Global;
@@ -118,6 +120,42 @@ pub extern "C" fn jsonb_bench_document_key(alloc: Global, text: &[u8], rounds: u
             return round;
         };
         if document.write_sort_key(&mut key).is_err() {
+            return round;
+        }
+    }
+    rounds
+}
+
+/// Parses the text as standard JSON and appends its serialized form `rounds` times to one buffer that is emptied before,
+/// with no value and no tree. The answer is how many rounds went well before the first that did not.
+#[unsafe(no_mangle)]
+pub extern "C" fn jsonb_bench_straight_text(alloc: Global, text: &[u8], rounds: usize) -> usize
+    ensures most { result ≤ rounds }
+    // Nothing goes well with a text that is no document.
+    ensures refused { IsNoDocument standard text.now → result ≡ 0 }
+{
+    let mut written = Vec::new(alloc);
+    for round in 0..rounds {
+        written.clear();
+        if append_text(alloc, text, Mode::Standard, &mut written).is_err() {
+            return round;
+        }
+    }
+    rounds
+}
+
+/// Parses the text as standard JSON and appends its sort key `rounds` times to one buffer that is emptied before, with no
+/// value and no tree. The answer is how many rounds went well before the first that did not.
+#[unsafe(no_mangle)]
+pub extern "C" fn jsonb_bench_straight_key(alloc: Global, text: &[u8], rounds: usize) -> usize
+    ensures most { result ≤ rounds }
+    // Nothing goes well with a text that is no document.
+    ensures refused { IsNoDocument standard text.now → result ≡ 0 }
+{
+    let mut key = Vec::new(alloc);
+    for round in 0..rounds {
+        key.clear();
+        if append_sort_key(alloc, text, Mode::Standard, &mut key).is_err() {
             return round;
         }
     }
