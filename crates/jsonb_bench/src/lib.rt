@@ -10,9 +10,7 @@ ghost use Rattle.jsonb_value.specs.Grammar.{IsDocument, IsNoDocument};
 ghost use Rattle.jsonb_value.specs.Mode.{standard, extended};
 ghost use Rattle.jsonb_value.specs.Tree.{Tree};
 
-use jsonb::{
-    JsonAst, Mode, append_sort_key, append_text, parse_value, parse_value_standard_mode,
-};
+use jsonb::{JsonAst, Mode, append_sort_key, append_text, parse_value, parse_value_standard_mode};
 use jsonb_document::Document;
 use jsonb_value::error::Error;
 use std::alloc::Global;

@@ -5,9 +5,9 @@
 //! | line | result |
 //! |---|---|
 //! | one text, which is accepted | `ok`, its tree, its serialized form in hexadecimal, and `same` or `differs` |
-//! | one text, which is rejected | `no` and the printed error, in hexadecimal |
+//! | one text, which is rejected | `no` and the printed error, in hexadecimal; and `differs` where a text that is appended straight is rejected otherwise, or changes the buffer |
 //! | two texts, which are accepted | `less`, `equal` or `greater`; `differs` where documents compare otherwise |
-//! | a text for its key | `ok`, the sort key in hexadecimal, and `differs` where the key's value isn't equal, or where a document's key is another; or `no` as above |
+//! | a text for its key | `ok`, the sort key in hexadecimal, and `differs` where the key's value isn't equal, or where a document's key or the key that is appended straight is another; or `no` as above |
 //! | contents | `ok` and their text in hexadecimal, or `no` as above; and the offset that `parse_string` leaves |
 //! | one number | its text, `as_i128`, `as_i64`, `as_u64`, `to_i128`, `to_i64`, `to_u64`, `neg`, and its sort key |
 //! | two numbers | their order, their sum, difference, product and remainder |
@@ -16,11 +16,12 @@
 //! A cast that returns no number is `none`. An error of arithmetic is `no:` and the printed error, in hexadecimal.
 //!
 //! It is `same` where the parsed value is that of the tree, with the same variants of numbers and the same strings
-//! borrowed, where its serialized form is parsed as an equal value with that serialized form, and where a document, of
-//! which no value is built, has that serialized form too and becomes an equal value.
+//! borrowed, where its serialized form is parsed as an equal value with that serialized form, where a document, of
+//! which no value is built, has that serialized form too and becomes an equal value, and where the serialized form and
+//! the sort key that are appended straight from the text are those of the value.
 
 use crate::same::are_same;
-use crate::{numbers, tree};
+use crate::{numbers, straight, tree};
 use jsonb::{Error, JsonAst, Mode, Value};
 use jsonb_document::Document;
 use std::alloc::{AllocError, Global};
@@ -74,7 +75,9 @@ fn sort_key(alloc: Global, text: &[u8]) -> jsonb::Result<(Vec<u8>, bool)> {
     let mut same = Vec::new(alloc);
     Document::parse(alloc, text, Mode::Extended)?.write_sort_key(&mut same)?;
     let decodes = is_key_of(alloc, &key, &value.to_owned_value(alloc)?);
-    let agrees = decodes && key[..] == same[..];
+    let agrees = decodes
+        && key[..] == same[..]
+        && straight::gives_key(alloc, Mode::Extended, text, &key)?;
     Ok((key, agrees))
 }
 
@@ -113,7 +116,15 @@ fn one_text(alloc: Global, mode: Mode, text: &str) -> Result<String, AllocError>
     };
     match described(alloc, mode, &text) {
         Ok(answer) => Ok(answer),
-        Err(e) => refused(alloc, &e),
+        Err(e) => {
+            let answer = refused(alloc, &e)?;
+            let difference = if straight::rejects(alloc, mode, &text, &e)? {
+                ""
+            } else {
+                " differs"
+            };
+            format!(in alloc; "{answer}{difference}")
+        }
     }
 }
 
@@ -186,7 +197,9 @@ fn agree<'a>(alloc: Global, mode: Mode, text: &'a [u8], written: &'a [u8]) -> js
         are_same(&converted, &value)
             && again == value
             && &written_again[..] == written
-            && document_agrees(alloc, mode, text, &value, written)?,
+            && document_agrees(alloc, mode, text, &value, written)?
+            && straight::gives_text(alloc, mode, text, written)?
+            && straight_key_agrees(alloc, mode, text, &value)?,
     )
 }
 
@@ -202,4 +215,16 @@ fn document_agrees<'a>(
     let mut form = Vec::new(alloc);
     document.write_text(&mut form)?;
     Ok(&form[..] == written && are_same(&document.into_value(alloc)?, value))
+}
+
+// Whether the key that is appended straight is the value's.
+fn straight_key_agrees(
+    alloc: Global,
+    mode: Mode,
+    text: &[u8],
+    value: &Value<'_>,
+) -> jsonb::Result<bool> {
+    let mut key = Vec::new(alloc);
+    value.write_sort_key(&mut key)?;
+    straight::gives_key(alloc, mode, text, &key)
 }

@@ -5,6 +5,7 @@
 mod answer;
 mod numbers;
 mod same;
+mod straight;
 mod tree;
 
 use std::io;
