@@ -1,5 +1,6 @@
-//! Worked examples of the calls of `jsonb` that no text alone can tell: of trees and values that are made by hand, and
-//! of indexes near the greatest. What is read of texts `jsonb_driver` is asked, with its file `stdin`.
+//! Worked examples of the calls of `jsonb` that no text alone can tell: of trees and values that are made by hand, of
+//! indexes near the greatest, and of buffers that texts are appended to. What is
+//! read of texts `jsonb_driver` is asked, with its file `stdin`.
 #![tactic(auto)]
 
 #[cfg(test)]
@@ -10,3 +11,5 @@ mod by_hand;
 mod decoding;
 #[cfg(test)]
 mod line;
+#[cfg(test)]
+mod straight;

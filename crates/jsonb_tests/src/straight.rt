@@ -1,0 +1,153 @@
+// Serialized forms and sort keys that are appended straight from a text, beside those of its value.
+use jsonb::{Error, JsonAst, Mode, Value, parse_value, parse_value_standard_mode};
+use std::alloc::Global;
+use std::test::Fail;
+
+fn parsed(alloc: Global, mode: Mode, text: &[u8]) -> Result<Value<'_>, Error> {
+    match mode {
+        Mode::Standard => parse_value_standard_mode(alloc, text),
+        Mode::Extended => parse_value(alloc, text),
+    }
+}
+
+// The serialized form of the text's value, behind a front.
+fn form_of_value(alloc: Global, mode: Mode, text: &[u8]) -> Result<Vec<u8>, Error> {
+    let mut form = Vec::from_slice(alloc, b"front")?;
+    parsed(alloc, mode, text)?.write_text(&mut form)?;
+    Ok(form)
+}
+
+fn key_of_value(alloc: Global, mode: Mode, text: &[u8]) -> Result<Vec<u8>, Error> {
+    let mut key = Vec::from_slice(alloc, b"front")?;
+    parsed(alloc, mode, text)?.write_sort_key(&mut key)?;
+    Ok(key)
+}
+
+// What is appended straight, behind a front.
+fn form(alloc: Global, mode: Mode, text: &[u8]) -> Result<Vec<u8>, Error> {
+    let mut form = Vec::from_slice(alloc, b"front")?;
+    jsonb::append_text(alloc, text, mode, &mut form)?;
+    Ok(form)
+}
+
+fn key(alloc: Global, mode: Mode, text: &[u8]) -> Result<Vec<u8>, Error> {
+    let mut key = Vec::from_slice(alloc, b"front")?;
+    jsonb::append_sort_key(alloc, text, mode, &mut key)?;
+    Ok(key)
+}
+
+// Whether both functions agree with the text's value.
+fn agree(alloc: Global, mode: Mode, text: &[u8]) -> bool {
+    form(alloc, mode, text) == form_of_value(alloc, mode, text)
+        && key(alloc, mode, text) == key_of_value(alloc, mode, text)
+}
+
+#[test]
+fn as_of_the_value_in_both_modes(rt: HostRuntime) {
+    for text in [
+        b"{\"c\":{\"z\":1,\"y\":{\"b\":[],\"a\":{}}},\"b\":[{\"q\":0,\"p\":[{\"2\":0,\"1\":0}]}],\"a\":null}" as &[u8],
+        b"{\"b\\u0000\":1,\"a\\n\":2,\"\\u0061\":3,\"\":4}",
+        b"{\"abcdefghz\":1,\"abcdefgha\":2,\"abcdefgh\":3,\"abcdefghij\":4}",
+        b"{\"abcdefghb\":1,\"abcdefgh\\u0061\":2}",
+        b"{\"abcdefgh\\u0062\":1,\"abcdefgha\":2}",
+        b"{\"b\":1,\"\\u0061\":2,\"\\u0063\":3}",
+        b"[-0,0,-1,18446744073709551615,-9223372036854775808,9223372036854775807,1000000]",
+        b"[\"\\ud83d\\ude00\",\"\\\"\\\\\\/\\b\\f\\n\\r\\t\",\"\\u0000a\",\"\xC3\xA9\"]",
+        b" { \"b\" : [ ] , \"a\" : { } } ",
+        b"[[[[]]],{},[{}],true,false,null,\"\"]",
+    ] {
+        assert!(rt; form(rt.alloc(), Mode::Standard, text).is_ok(), "{text:?}");
+        assert!(rt; agree(rt.alloc(), Mode::Standard, text), "{text:?}");
+        assert!(rt; agree(rt.alloc(), Mode::Extended, text), "{text:?}");
+    }
+}
+
+#[test]
+fn as_of_the_value_in_extended_mode(rt: HostRuntime) {
+    for text in [
+        b"" as &[u8],
+        b" // nothing",
+        b"{b:1,'a':2,\"\\u0061b\":3}",
+        b"{b/* b */:/* 1 */1,// a\na:[,,]}",
+        b"['\\'','\\u{0041}','\\u0000']",
+        b"[-0.0,.5,1.50,+1,0x1F,-0.10,12345678901234567890.12345]",
+        b"[99999999999999999999999999999999999999,-18446744073709551616]",
+        b"{$c:{z_:1,y:.25},_b:[1,],'a':nUll}",
+        b"{'abcdefgh\\u0062':1,abcdefgha:2}",
+    ] {
+        assert!(rt; form(rt.alloc(), Mode::Extended, text).is_ok(), "{text:?}");
+        assert!(rt; agree(rt.alloc(), Mode::Extended, text), "{text:?}");
+    }
+}
+
+// These forms and keys are those of tests/reference.py.
+#[test]
+fn forms_and_keys(rt: HostRuntime) -> Result<(), Fail> {
+    let alloc = rt.alloc();
+    let text = b"{\"b\":[1,{\"d\":-0,\"c\":\"\\u0041\"}],\"\\u0061\":null}";
+    let got = form(alloc, Mode::Standard, text)?;
+    assert!(rt; &got[..] == b"front{\"a\":null,\"b\":[1,{\"c\":\"A\",\"d\":0}]}".as_slice());
+    let got = key(alloc, Mode::Extended, b"{b:.5,a:0x1F}")?;
+    assert!(rt; &got[..] == b"front\xD1a\x00\x01\xA2>b\x00\x01\xA0d\x00\x00".as_slice());
+    Ok(())
+}
+
+// Whether both functions fail as the parser of trees does, and leave the buffer as it was.
+fn fail_as_the_tree(alloc: Global, mode: Mode, text: &[u8]) -> Result<bool, Error> {
+    let Err(error) = JsonAst::parse(alloc, text, mode) else {
+        return Ok(false);
+    };
+    let mut buffer = Vec::from_slice(alloc, b"front")?;
+    let form = jsonb::append_text(alloc, text, mode, &mut buffer);
+    let key = jsonb::append_sort_key(alloc, text, mode, &mut buffer);
+    Ok(form == Err(error.clone()?) && key == Err(error) && &buffer[..] == b"front".as_slice())
+}
+
+#[test]
+fn faults_are_those_of_the_tree(rt: HostRuntime) -> Result<(), Fail> {
+    for text in [
+        b"{\"b\":1,\"a\":2,\"b\":3}" as &[u8],
+        b"{\"b\":{\"c\":1,\"\\u0063\":2},\"b\":3}",
+        b"{\"z\":1,\"y\":2,\"z\":3,\"y\":4}",
+        b"{\"a\":[1,2],\"\\u0061\":{}}",
+        b"[{\"b\":1,\"a\":2},1..2]",
+        b"{\"b\":1,\"a\":2",
+        b"[\"a\\z\"]",
+        b"[\"\xFF\"]",
+        b"[1] 2",
+        &[b'['; 513],
+    ] {
+        assert!(rt;
+            fail_as_the_tree(rt.alloc(), Mode::Standard, text)?,
+            "{text:?}"
+        );
+        assert!(rt;
+            fail_as_the_tree(rt.alloc(), Mode::Extended, text)?,
+            "{text:?}"
+        );
+    }
+    Ok(())
+}
+
+// Objects in each other, each out of order, as deep as may be.
+fn deepest(alloc: Global) -> Result<Vec<u8>, Error> {
+    let mut text = Vec::new(alloc);
+    for _ in 0..511 {
+        text.extend_from_slice(b"{\"b\":0,\"a\":")?;
+    }
+    text.extend_from_slice(b"{}")?;
+    for _ in 0..511 {
+        text.push(b'}')?;
+    }
+    Ok(text)
+}
+
+#[test]
+fn as_deep_as_may_be(rt: HostRuntime) -> Result<(), Fail> {
+    let alloc = rt.alloc();
+    let text = deepest(alloc)?;
+    assert!(rt; form(alloc, Mode::Standard, &text).is_ok());
+    assert!(rt; agree(alloc, Mode::Standard, &text));
+    assert!(rt; agree(alloc, Mode::Extended, &text));
+    Ok(())
+}
