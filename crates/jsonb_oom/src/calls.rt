@@ -44,6 +44,8 @@ pub fn report<W: Write>(alloc: Global, line: &str, out: &mut W) -> io::Result<()
     say(out, "tree_clone", &tree_clone(alloc, mode, &text))?;
     say(out, "document", &document(alloc, mode, &text))?;
     say(out, "document_key", &document_key(alloc, mode, &text))?;
+    say(out, "straight", &straight(alloc, mode, &text))?;
+    say(out, "straight_key", &straight_key(alloc, mode, &text))?;
     say(out, "document_value", &document_value(alloc, mode, &text))?;
     say(out, "decoded", &decoded(alloc, mode, &text))?;
     say(out, "cut_key", &cut_key(alloc, mode, &text))?;
@@ -113,6 +115,22 @@ fn document_key(alloc: Global, mode: Mode, text: &[u8]) -> Result<Vec<u8>> {
     let document = Document::parse(alloc, text, mode)?;
     let mut buffer = Vec::from_slice(alloc, b"x")?;
     let done = document.write_sort_key(&mut buffer);
+    let key = kept(alloc, done, buffer)?;
+    let key = hex::encode(alloc, &key[..])?;
+    Ok(Vec::from_slice(alloc, key.as_bytes())?)
+}
+
+// A text's serialized form, appended straight behind what the buffer held.
+fn straight(alloc: Global, mode: Mode, text: &[u8]) -> Result<Vec<u8>> {
+    let mut buffer = Vec::from_slice(alloc, b"x")?;
+    let done = jsonb::append_text(alloc, text, mode, &mut buffer);
+    kept(alloc, done, buffer)
+}
+
+// Its sort key, in hexadecimal.
+fn straight_key(alloc: Global, mode: Mode, text: &[u8]) -> Result<Vec<u8>> {
+    let mut buffer = Vec::from_slice(alloc, b"x")?;
+    let done = jsonb::append_sort_key(alloc, text, mode, &mut buffer);
     let key = kept(alloc, done, buffer)?;
     let key = hex::encode(alloc, &key[..])?;
     Ok(Vec::from_slice(alloc, key.as_bytes())?)
