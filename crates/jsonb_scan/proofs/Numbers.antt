@@ -3,6 +3,7 @@ pub mod Automaton
 pub mod DecimalScan
 pub mod DecimalScanText
 pub mod DecimalStates
+pub mod DigitRuns
 pub mod DigitValues
 pub mod Ends
 pub mod Extended
@@ -13,6 +14,7 @@ pub mod HexadecimalAnswers
 pub mod HexadecimalMeaning
 pub mod HexadecimalTexts
 pub mod HexadecimalValues
+pub mod Kept
 pub mod Runs
 pub mod Scan
 pub mod ScanStates

@@ -2,7 +2,9 @@
 pub mod BareKeys
 pub mod Bodies
 pub mod ByteMasks
+pub mod Checks
 pub mod Decoding
 pub mod Ends
 pub mod Items
 pub mod NearMarks
+pub mod Utf8

@@ -1,6 +1,6 @@
 -- What the steps of the decoder guarantee.
 -- Read for: private.
-use Rattle.std.specs.Prelude.{◌≡◌, ◌≢◌, ℕ, ◌+◌, ◌≤◌, ◌<◌, ◌^◌, Bool, true, false, List, ◌++◌, length, All, slice_index}
+use Rattle.std.specs.Prelude.{◌≡◌, ◌≢◌, ◌⊎◌, ℕ, ◌+◌, ◌≤◌, ◌<◌, ◌^◌, Bool, true, false, List, ◌++◌, length, All, slice_index}
 use Rattle.std.specs.List.{flat_map, AllByRecursion}
 use Rattle.jsonb_value.specs.Mode.{Mode}
 use Rattle.jsonb_value.specs.Code.{Code}
@@ -28,6 +28,16 @@ pub record DecodesUpTo (mode : Mode) (bytes rest text : List ℕ) : Type 0 where
   pub spelled : bytes ≡ flat_map spelling items ++ rest
   pub meant : (tail : List Item) → rest ≡ flat_map spelling tail → meaning (items ++ tail) ≡ text ++ meaning tail
   pub short : length text + length rest ≤ length bytes
+
+-- The bytes are items, which mean some text, and then the rest.
+pub record IsDecodedUpTo (mode : Mode) (bytes rest : List ℕ) : Type 0 where
+  pub text : List ℕ
+  pub decodes : DecodesUpTo mode bytes rest text
+
+-- the letters of escapes in both modes: `"`, `\`, `/`, b, f, n, r and t
+abbrev pub IsShortLetter : ℕ → Type 0
+IsShortLetter letter = (letter ≡ 0x22) ⊎ ((letter ≡ 0x5C) ⊎ ((letter ≡ 0x2F) ⊎ ((letter ≡ 0x62) ⊎ ((letter ≡ 0x66)
+    ⊎ ((letter ≡ 0x6E) ⊎ ((letter ≡ 0x72) ⊎ (letter ≡ 0x74)))))))
 
 -- new is old with the text that the items before the rest add
 pub record Adds (mode : Mode) (bytes rest old new : List ℕ) : Type 0 where

@@ -1,11 +1,14 @@
 -- What the steps of parsing strings and unquoted keys guarantee.
 -- Read for: private.
-use Rattle.std.specs.Prelude.{◌≡◌, ◌≢◌, ◌⊎◌, ℕ, ◌+◌, ◌<◌, ◌≤◌, List, length, slice_index, Result, Ok, Err}
+use Rattle.std.specs.Prelude.{◌≡◌, ◌≢◌, ◌⊎◌, ℕ, ◌+◌, ◌<◌, ◌≤◌, List, [], length, slice_index, Result, Ok, Err}
 use Rattle.std.specs.Cow.{cow_str_bytes}
 use Rattle.std.specs.Int.{bit_at}
 use Rattle.std.specs.declared.alloc.Global.{Global}
 use Rattle.std.specs.declared.borrow.CowStr.{CowStr}
 use Rattle.jsonb_value.specs.Tree.{Mark}
+use Rattle.jsonb_value.specs.Tree.Mark.{escaped as escaped_mark}
+use Rattle.jsonb_value.specs.Mode.{Mode}
+use Rattle.jsonb_value.specs.Grammar.StringBody.{Item, meaning}
 use Rattle.jsonb_value.specs.Code.{code_of}
 use Rattle.jsonb_value.specs.View.{mark_view}
 use Rattle.jsonb_value.specs.declared.error.Error.{Error}
@@ -16,7 +19,7 @@ use Rattle.jsonb_scan.specs.declared.parser.key.KeyEnd.{KeyEnd}
 use Rattle.jsonb_scan.specs.declared.parser.key.KeyEnd.TheVariants as key_ends
 use Rattle.jsonb_scan.specs.Decoding.{TellsBackslash}
 use Rattle.jsonb_scan.specs.Reading.BareKey.{key_end}
-use Rattle.jsonb_scan.specs.Reading.String.{Body, quote_end}
+use Rattle.jsonb_scan.specs.Reading.String.{Body, items_within, quote_end}
 
 -- the search ends where reading does; and whether a backslash was passed
 abbrev pub EndsString : ℕ → List ℕ → StringEnd → Type 0
@@ -29,6 +32,22 @@ DecodesContents idx (Ok text) read = read ≡ Ok (mark_view text, cow_str_bytes 
 DecodesContents idx (Err (Syntax code place)) read = (count : ℕ) × (read ≡ Err (code_of code, count)) × (place ≡ idx + count)
 DecodesContents idx (Err OutOfMemory) read = Unit {0}
 DecodesContents idx (Err other) read = ⊥
+
+-- what the items mean that are read of a body
+abbrev pub meaning_read : Body (List Item) → List ℕ
+meaning_read (Ok items) = meaning items
+meaning_read (Err f) = []
+
+-- what a body means, UTF-8 or not
+unfoldable pub decoded_text : Mode → List ℕ → List ℕ
+decoded_text mode bytes = meaning_read (items_within (length bytes) mode bytes)
+
+-- This text is read of a body with a backslash, or the fault is, where the check counts from `idx`.
+abbrev pub ChecksContents : ℕ → Result (Unit {0}) Error → List ℕ → Body (Mark × List ℕ) → Type 0
+ChecksContents idx (Ok done) text read = read ≡ Ok (escaped_mark, text)
+ChecksContents idx (Err (Syntax code place)) text read = (count : ℕ) × (read ≡ Err (code_of code, count))
+    × (place ≡ idx + count)
+ChecksContents idx (Err other) text read = ⊥
 
 -- the search for the end of a bare key ends where reading does
 abbrev pub EndsKey : List ℕ → KeyEnd → Type 0

@@ -5,6 +5,7 @@ ghost use Rattle.jsonb_scan.specs.Answer.{mode_of};
 
 pub mod blank;
 pub mod extended_number;
+pub mod integer;
 pub mod key;
 pub mod number;
 pub mod string;

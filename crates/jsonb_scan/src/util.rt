@@ -2,4 +2,4 @@
 
 mod decoder;
 
-pub use decoder::{parse_string, unescape};
+pub use decoder::{check_contents, decode_behind, decode_escape, parse_string, unescape};

@@ -258,7 +258,7 @@ items-step n mode x more is =
     ∙ ap (λ (rest : List ℕ). onto x (items_within n mode rest)) (drop_at (spelling x) more (length (spelling x)) refl)
 
 -- each body's items are read
-items_complete : (mode : Mode) (n : ℕ) (items : List Item) → AllByRecursion (IsItem mode) items → length (flat_map spelling items) ≤ n → items_within n mode (flat_map spelling items) ≡ Ok items
+pub items_complete : (mode : Mode) (n : ℕ) (items : List Item) → AllByRecursion (IsItem mode) items → length (flat_map spelling items) ≤ n → items_within n mode (flat_map spelling items) ≡ Ok items
 unfolding items_within
 items_complete mode n [] each enough = refl
 items_complete mode zero (x ∷ items) each enough = absurd (omega (arith, enough, length-append (spelling x) (flat_map spelling items), length-spelling x))

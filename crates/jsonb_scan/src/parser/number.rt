@@ -91,7 +91,7 @@ fn digit_of(byte: u8) -> u64
 
 // How many of the first `limit` bytes are digits from the first on, and their number.
 #[inline(always)]
-fn digits_within(bytes: &[u8], limit: usize) -> (usize, u64)
+pub(super) fn digits_within(bytes: &[u8], limit: usize) -> (usize, u64)
     requires few { limit ≤ 19 }
     requires inside { limit ≤ length bytes.now }
     ensures within { result.0 ≤ limit }
@@ -112,7 +112,7 @@ fn digits_within(bytes: &[u8], limit: usize) -> (usize, u64)
 // At most 19 digits that the bytes begin with, and their number. Where there are more bytes, the loop is over so many as
 // is known when it is compiled, so that it is unrolled.
 #[inline(always)]
-fn short_digits(bytes: &[u8]) -> (usize, u64)
+pub(super) fn short_digits(bytes: &[u8]) -> (usize, u64)
     ensures few { result.0 ≤ 19 }
     ensures within { result.0 ≤ length bytes.now }
     ensures digits { digits_length bytes.now ≡ result.0 + digits_length (drop result.0 bytes.now) }
@@ -153,7 +153,7 @@ pub fn integer(negative: bool, digits: Option<u64>) -> Option<Number>
 }
 
 // Whether a byte goes on with a number: a digit, a point or an exponent mark.
-fn continues_number(byte: u8) -> bool
+pub(super) fn continues_number(byte: u8) -> bool
     ensures { MatchBool result (ContinuesNumber byte) (¬ ContinuesNumber byte) }
 {
     matches!(byte, b'0'..=b'9' | b'.' | b'e' | b'E')

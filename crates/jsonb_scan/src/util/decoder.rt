@@ -1,17 +1,20 @@
 //! Decodes the contents of a string, escape by escape and run by run.
-ghost use Rattle.std.specs.Prelude.{◌≡◌, ◌≢◌, ◌+◌, ◌*◌, ◌^◌, ◌≤◌, ◌<◌, ◌∷◌, [], length, take, IfOk, IfErr, OnOk, Some, None, Err, string_bytes};
+ghost use Rattle.std.specs.Prelude.{◌≡◌, ◌≢◌, ◌+◌, ◌*◌, ◌^◌, ◌≤◌, ◌<◌, ◌∷◌, ◌++◌, [], length, take, min, IfOk, IfErr, IfSome, OnErr, OnOk, Some, None, Err, string_bytes};
 ghost use Rattle.jsonb_value.specs.Mode.{standard};
 ghost use Rattle.jsonb_value.specs.Code.{code_of};
 ghost use Rattle.jsonb_value.specs.Grammar.StringBody.{escaped_byte, Decodes};
 ghost use Rattle.jsonb_scan.specs.Answer.{mode_of};
 ghost use Rattle.jsonb_scan.specs.StringRefusal.{IsDecodingError};
 ghost use Rattle.jsonb_scan.specs.Decoding.{Adds, DecodesUpTo, StopsAtEscape};
+ghost use Rattle.jsonb_scan.specs.QuotedString.{decoded_text};
 
+mod check;
 mod room;
 mod run;
 mod unit;
 
 use crate::parser::Mode;
+pub use check::check_contents;
 use jsonb_value::error::{Error, ParseErrorCode, Result};
 use room::{give_back, write_byte};
 use run::copy_run;
@@ -33,6 +36,7 @@ struct Decoded<'a> {
 }
 
 // The byte that a backslash and this letter stand for.
+#[inline(always)]
 fn escaped(letter: u8, mode: Mode) -> Option<u8>
     ensures { result ≡ escaped_byte (mode_of mode) letter }
 {
@@ -59,13 +63,15 @@ fn escape<'a>(
     text: &mut [u8],
     len: usize,
 ) -> std::result::Result<Decoded<'a>, DecodingFault>
-    requires { len + 1 + length bytes.now ≤ length text.old }
+    requires { len + min (1 + length bytes.now) 12 ≤ length text.old }
     ensures ok { IfOk result (λ done. Adds (mode_of mode)
         (92 ∷ bytes.now) done.rest.now (take len text.old) (take done.len text.new)) }
     ensures shorter { IfOk result (λ done. length done.rest.now ≤ length bytes.now) }
     ensures room { IfOk result (λ done. done.len + length done.rest.now ≤ len + 1 + length bytes.now) }
+    ensures within { IfOk result (λ done. done.len ≤ length text.new) }
     ensures err { IfErr result (λ fault. StopsAtEscape (mode_of mode) (92 ∷ bytes.now) (code_of fault.code)
         fault.left) }
+    ensures same { OnErr result (text.new ≡ text.old) }
     ensures size { length text.new ≡ length text.old }
 {
     let Some((letter, rest)) = bytes.split_first() else {
@@ -87,17 +93,23 @@ fn escape<'a>(
     Ok(Decoded { rest, len })
 }
 
-// Decodes a whole body into a text of its length, and returns how many bytes of the text are decoded.
-fn decode(bytes: &[u8], mode: Mode, text: &mut [u8]) -> std::result::Result<usize, DecodingFault>
-    requires { length bytes.now ≤ length text.old }
-    ensures ok { IfOk result (λ len. DecodesUpTo (mode_of mode) bytes.now [] (take len text.new)) }
+// Decodes a whole body into a text that has room for its length behind the bytes that are decoded, and returns how many
+// are decoded then.
+#[inline(always)]
+fn decode(
+    bytes: &[u8],
+    mode: Mode,
+    text: &mut [u8],
+    len: usize,
+) -> std::result::Result<usize, DecodingFault>
+    requires { len + length bytes.now ≤ length text.old }
+    ensures ok { IfOk result (λ end. Adds (mode_of mode) bytes.now [] (take len text.old) (take end text.new)) }
+    ensures within { IfOk result (λ end. end ≤ length text.new) }
     ensures err { IfErr result (λ fault. StopsAtEscape (mode_of mode) bytes.now (code_of fault.code) fault.left) }
+    ensures kept { take len text.new ≡ take len text.old }
     ensures size { length text.new ≡ length text.old }
 {
-    let mut done = Decoded {
-        rest: bytes,
-        len: 0,
-    };
+    let mut done = Decoded { rest: bytes, len };
     'items: while !done.rest.is_empty() {
         done = copy_run(done.rest, text, done.len);
         if let Some((_, rest)) = done.rest.split_first() {
@@ -105,6 +117,37 @@ fn decode(bytes: &[u8], mode: Mode, text: &mut [u8]) -> std::result::Result<usiz
         }
     }
     Ok(done.len)
+}
+
+/// Decodes the escape whose backslash stands before the bytes, and returns how many bytes of the text it is, and what
+/// follows it. There is none where no escape of this mode begins the bytes.
+pub fn decode_escape<'a>(bytes: &'a [u8], mode: Mode, text: &mut [u8]) -> Option<(usize, &'a [u8])>
+    requires { 12 ≤ length text.old }
+    ensures some { IfSome result (λ done. DecodesUpTo (mode_of mode) (92 ∷ bytes.now) done.1.now
+        (take done.0 text.new)) }
+    ensures shorter { IfSome result (λ done. length done.1.now ≤ length bytes.now) }
+    ensures within { IfSome result (λ done. done.0 ≤ length text.new) }
+    ensures size { length text.new ≡ length text.old }
+{
+    let Ok(done) = escape(bytes, mode, text, 0) else {
+        return None;
+    };
+    Some((done.len, done.rest))
+}
+
+/// Decodes the contents of a string into a text that has room for their length behind its first `len` bytes, and returns
+/// how many bytes it has then. There is none where the contents are malformed.
+pub fn decode_behind(bytes: &[u8], mode: Mode, text: &mut [u8], len: usize) -> Option<usize>
+    requires { len + length bytes.now ≤ length text.old }
+    ensures some { IfSome result (λ end. take end text.new ≡ take len text.old ++ decoded_text (mode_of mode) bytes.now) }
+    ensures within { IfSome result (λ end. end ≤ length text.new) }
+    ensures kept { take len text.new ≡ take len text.old }
+    ensures size { length text.new ≡ length text.old }
+{
+    let Ok(end) = decode(bytes, mode, text, len) else {
+        return None;
+    };
+    Some(end)
 }
 
 /// Decodes the contents of a string of this mode, and moves the offset past what was decoded.
@@ -121,7 +164,7 @@ pub fn unescape(alloc: Global, bytes: &[u8], mode: Mode, idx: &mut usize) -> Res
         return Err(Error::OutOfMemory);
     };
     let _ = text.extend_from_slice(bytes);
-    match decode(bytes, mode, &mut text) {
+    match decode(bytes, mode, &mut text, 0) {
         Ok(len) => text.truncate(len),
         Err(fault) => {
             *idx += bytes.len() - fault.left;

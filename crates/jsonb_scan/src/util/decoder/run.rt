@@ -21,7 +21,7 @@ fn backslashes(bytes: &[u8]) -> u64
 
 // The index of the first backslash among the first 16 bytes.
 #[inline(always)]
-fn near_backslash(bytes: &[u8]) -> Option<usize>
+pub(super) fn near_backslash(bytes: &[u8]) -> Option<usize>
     requires { 16 ≤ length bytes.now }
     ensures within { IfSome result (λ i. i < 16) }
     ensures before { IfSome result (λ i. SeesNoBackslash bytes.now i) }

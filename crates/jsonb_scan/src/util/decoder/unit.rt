@@ -1,11 +1,11 @@
 //! `\u` escapes: UTF-16 code units of four hexadecimal digits.
-ghost use Rattle.std.specs.Prelude.{List, ◌≡◌, ◌≢◌, ℕ, ◌+◌, ◌*◌, ◌^◌, ◌≤◌, ◌<◌, ◌++◌, ◌∷◌, length, take, All, ◌||◌, IfOk, IfErr, IfSome, IfNone, Some, None, true, false, ◌⊎◌};
+ghost use Rattle.std.specs.Prelude.{List, ◌≡◌, ◌≢◌, ℕ, ◌+◌, ◌*◌, ◌^◌, ◌≤◌, ◌<◌, ◌++◌, ◌∷◌, length, take, min, All, ◌||◌, IfOk, IfErr, OnErr, IfSome, IfNone, Some, None, true, false, ◌⊎◌};
 ghost use Rattle.std.specs.Char.{digit_value, encode_utf8, InScalarRange};
 ghost use Rattle.jsonb_value.specs.Mode.{Mode as GrammarMode};
 ghost use Rattle.jsonb_value.specs.Code.{code_of};
 ghost use Rattle.jsonb_value.specs.Grammar.StringBody.{IsHexDigit, unit_value, is_high, is_low, kept, alone, together};
 ghost use Rattle.jsonb_value.specs.Grammar.StringFault.{IsUnitCut, IsFirstNonDigit};
-ghost use Rattle.jsonb_scan.specs.Decoding.{SplitsUnit, ReadsUnit, Adds, StopsInUnit, StopsAtEscape};
+ghost use Rattle.jsonb_scan.specs.Decoding.{SplitsUnit, ReadsUnit, Adds, IsDecodedUpTo, StopsInUnit, StopsAtEscape};
 
 use super::room::write_all;
 use super::{Decoded, DecodingFault};
@@ -219,13 +219,15 @@ pub(super) fn units<'a>(
     text: &mut [u8],
     len: usize,
 ) -> std::result::Result<Decoded<'a>, DecodingFault>
-    requires { len + 2 + length bytes.now ≤ length text.old }
+    requires { len + min (2 + length bytes.now) 12 ≤ length text.old }
     ensures ok { IfOk result (λ done. (mode : GrammarMode) → Adds mode
         (92 ∷ 117 ∷ bytes.now) done.rest.now (take len text.old) (take done.len text.new)) }
     ensures shorter { IfOk result (λ done. length done.rest.now ≤ length bytes.now) }
     ensures room { IfOk result (λ done. done.len + length done.rest.now ≤ len + 2 + length bytes.now) }
+    ensures within { IfOk result (λ done. done.len ≤ length text.new) }
     ensures err { IfErr result (λ fault. (mode : GrammarMode) → StopsAtEscape mode (92 ∷ 117 ∷ bytes.now)
         (code_of fault.code) fault.left) }
+    ensures same { OnErr result (text.new ≡ text.old) }
     ensures size { length text.new ≡ length text.old }
 {
     let first = read_unit(bytes)?;
@@ -242,4 +244,21 @@ pub(super) fn units<'a>(
         rest: next.rest,
         len,
     })
+}
+
+// Passes the unit whose `\u` stands before the bytes, with the next one where the two are taken together, and returns
+// what follows.
+#[inline(never)]
+pub(super) fn pass_units(bytes: &[u8]) -> std::result::Result<&[u8], DecodingFault>
+    ensures ok { IfOk result (λ rest. (mode : GrammarMode) → IsDecodedUpTo mode (92 ∷ 117 ∷ bytes.now) rest.now) }
+    ensures shorter { IfOk result (λ rest. length rest.now ≤ length bytes.now) }
+    ensures err { IfErr result (λ fault. (mode : GrammarMode) → StopsAtEscape mode (92 ∷ 117 ∷ bytes.now)
+        (code_of fault.code) fault.left) }
+{
+    let first = read_unit(bytes)?;
+    let Some(after) = after_next_mark(&first) else {
+        return Ok(first.rest);
+    };
+    let next = read_unit(after)?;
+    Ok(next.rest)
 }

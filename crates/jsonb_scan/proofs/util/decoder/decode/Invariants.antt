@@ -5,7 +5,7 @@ use Rattle.jsonb_scan.proofs.util.decoder.decode.Given as goal
 
 abbrev pub invariant-items : goal.invariant-items
 invariant-items l =
-    Adds (mode_of l.mode) l.bytes l.done.rest.now (take 0 l.initial.text) (take l.done.len l.text) × (l.done.len + length l.done.rest.now ≤ length l.text)
+    Adds (mode_of l.mode) l.bytes l.done.rest.now (take l.len l.initial.text) (take l.done.len l.text) × (l.done.len + length l.done.rest.now ≤ length l.text)
     × (length l.text ≡ length l.initial.text)
 
 abbrev pub decreases-items : goal.decreases-items
