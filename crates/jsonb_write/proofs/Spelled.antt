@@ -16,6 +16,7 @@ use Rattle.jsonb_value.specs.Text.{in_quotes}
 use Rattle.jsonb_value.specs.Text.StringText.{byte_text, quoted_text}
 use Rattle.jsonb_value.specs.View.{number_view}
 use Rattle.jsonb_value.specs.declared.number.Number.{Number}
+use Rattle.jsonb_scan.specs.ShortInteger.{short_view}
 use Rattle.jsonb_value.specs.declared.number.Number.TheVariants as form
 use Rattle.jsonb_value.proofs.Numbers.InRange.{decimals}
 use Rattle.jsonb_value.proofs.Numbers.Pointed.{is_negative-pos, pointed_whole}
@@ -59,6 +60,16 @@ spelled_number (form.Int64 n) bytes k (true, whole, parts, is) =
     ∙ text_is true n whole (ap is_negative value ∙ told.0) (digits_text (unsigned_abs n) whole parts.is_whole.digits parts.is_whole.no_needless_zero (magnitude_fits (digits_value 10 whole) is.0) magnitude)
 spelled_number (form.Decimal64 d) bytes k is = absurd k
 spelled_number (form.Decimal128 d) bytes k is = absurd k
+
+below_zero : (v : ℕ) → 0 < v → neg_ℤ (pos v) ≢ pos 0
+below_zero zero some e = absurd (omega (arith, some))
+below_zero (suc v) some e = cc
+
+-- an integer that is no 0 with a minus
+pub kept_text : (negative : Bool) (magnitude end : ℕ) (bytes : List ℕ) → (negative ≡ true → 0 < magnitude) → IsStandardNumber bytes (short_view (record { negative = negative; magnitude = magnitude; end = end }))
+    → bytes ≡ number_text (short_view (record { negative = negative; magnitude = magnitude; end = end }))
+kept_text false magnitude end bytes some is = spelled_number (form.UInt64 magnitude) bytes tt is
+kept_text true magnitude end bytes some is = spelled_number (form.Int64 (neg_ℤ (pos magnitude))) bytes (below_zero magnitude (some refl)) is
 
 -- a string between double quotes that needs no escapes
 pub spelled_string : (text string : List ℕ) (from to : ℕ) → slice_range text from to ≡ in_quotes string → ArePlain (take (length string) (drop (from + 1) text)) → slice_range text from to ≡ quoted_text string

@@ -4,10 +4,12 @@ use Rattle.std.specs.Prelude.{◌≡◌, ℕ, ◌+◌, Bool, true, false, List, 
 use Rattle.std.specs.Cow.{cow_str_bytes}
 use Rattle.std.specs.Str.{IsUtf8}
 use Rattle.jsonb_value.specs.SortKey.{key_of}
-use Rattle.jsonb_value.specs.Tree.{null, boolean, string, number}
+use Rattle.jsonb_value.specs.Tree.{plain, null, boolean, string, number}
+use Rattle.jsonb_value.specs.Tree.Mark.{escaped}
 use Rattle.jsonb_value.specs.View.{mark_view, number_view}
 use Rattle.jsonb_scan.specs.Open.{Open, elements_so_far, members_so_far}
 use Rattle.jsonb_scan.specs.Source.{Found, Source, Spot, first_repeat, object_source_of, sort_by, spot_of}
+use Rattle.jsonb_write.specs.Contents.{text_of_contents}
 use Rattle.jsonb_write.specs.MemberStarts.{AreKept, MemberStart, IsKept}
 use Rattle.jsonb_write.specs.Members.{AreKeyed, SpotsAscend, member_key, source_key, spot_at, spot_in}
 use Rattle.jsonb_write.specs.OpenKey.{keys_joined, object_byte, open_key}
@@ -21,7 +23,9 @@ abbrev pub part_key : Part → List ℕ
 part_key part.Null = key_of null
 part_key (part.Bool b) = key_of (boolean b)
 part_key (part.Number n) = key_of (number (number_view n))
+part_key (part.Plain t) = key_of (string plain t.now)
 part_key (part.String t) = key_of (string (mark_view t) (cow_str_bytes t))
+part_key (part.Contents c) = key_of (string escaped (text_of_contents c))
 part_key part.Written = []
 
 -- ---- what is open

@@ -1,8 +1,13 @@
+pub mod CheckRoom
+pub mod Contents
+pub mod Escaped
 pub mod KeyRoom
 pub mod MemberStarts
 pub mod Members
 pub mod OpenKey
 pub mod OpenText
+pub mod PartAt
+pub mod PartRoom
 pub mod PlainText
 pub mod SpelledNumber
 pub mod TextRoom

@@ -11,12 +11,16 @@ use Rattle.jsonb_value.specs.Ascii as ascii
 use Rattle.jsonb_value.specs.Text.{in_quotes, with_commas}
 use Rattle.jsonb_value.specs.Text.NumberText.{number_text}
 use Rattle.jsonb_value.specs.Text.StringText.{quoted_text}
+use Rattle.jsonb_value.specs.Tree.Mark.{escaped}
+use Rattle.jsonb_value.specs.Tree.{plain}
 use Rattle.jsonb_value.specs.View.{mark_view, number_view}
 use Rattle.jsonb_scan.specs.Open.{Open, elements_so_far, members_so_far}
 use Rattle.jsonb_scan.specs.Source.{Found, Source, Spot, null_source, boolean_source, string_source, number_source, first_repeat, object_source_of, sort_by, spot_of}
+use Rattle.jsonb_write.specs.Contents.{BeginsAsWritten, text_of_contents}
 use Rattle.jsonb_write.specs.MemberStarts.{AreKept, MemberStart, IsKept}
 use Rattle.jsonb_write.specs.Members.{AreKeyed, SpotsAscend, spot_at, spot_in}
 use Rattle.jsonb_write.specs.OpenText.{is_empty, member_text, open_text, source_text}
+use Rattle.jsonb_write.specs.PlainText.{ArePlain}
 use Rattle.jsonb_write.specs.Written.{bytes_of}
 use Rattle.jsonb_write.specs.declared.members.Member.{Member}
 use Rattle.jsonb_write.specs.declared.text.Part.{Part}
@@ -30,8 +34,20 @@ abbrev pub SeesPart : Part → Source → Type 0
 SeesPart part.Null s = s ≡ null_source
 SeesPart (part.Bool b) s = s ≡ boolean_source b
 SeesPart (part.Number n) s = s ≡ number_source (number_view n)
+SeesPart (part.Plain t) s = (s ≡ string_source plain t.now) × ArePlain t.now
 SeesPart (part.String t) s = s ≡ string_source (mark_view t) (cow_str_bytes t)
+SeesPart (part.Contents c) s = (s ≡ string_source escaped (text_of_contents c)) × BeginsAsWritten c
 SeesPart part.Written s = ⊥
+
+-- what is said of contents holds
+abbrev pub IsSound : Part → Type 0
+IsSound part.Null = Unit {0}
+IsSound (part.Bool b) = Unit {0}
+IsSound (part.Number n) = Unit {0}
+IsSound (part.String t) = Unit {0}
+IsSound (part.Plain t) = Unit {0}
+IsSound (part.Contents c) = BeginsAsWritten c
+IsSound part.Written = Unit {0}
 
 -- its text
 abbrev pub part_text : Part → List ℕ
@@ -39,7 +55,9 @@ part_text part.Null = codes "null"
 part_text (part.Bool true) = codes "true"
 part_text (part.Bool false) = codes "false"
 part_text (part.Number n) = number_text (number_view n)
+part_text (part.Plain t) = quoted_text t.now
 part_text (part.String t) = quoted_text (cow_str_bytes t)
+part_text (part.Contents c) = quoted_text (text_of_contents c)
 part_text part.Written = []
 
 -- a string without escapes stands in double quotes, and nothing is said of others
@@ -54,7 +72,9 @@ Spells part.Null bytes = bytes ≡ codes "null"
 Spells (part.Bool true) bytes = bytes ≡ codes "true"
 Spells (part.Bool false) bytes = bytes ≡ codes "false"
 Spells (part.Number n) bytes = IsStandardNumber bytes (number_view n)
+Spells (part.Plain t) bytes = (bytes ≡ in_quotes t.now) × ArePlain t.now
 Spells (part.String t) bytes = SpellsString t bytes
+Spells (part.Contents c) bytes = Unit {0}
 Spells part.Written bytes = Unit {0}
 
 -- The value was parsed from this range of the text, or from none where it is empty.

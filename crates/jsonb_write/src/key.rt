@@ -4,9 +4,11 @@ ghost use Rattle.std.specs.Cow.{cow_str_bytes};
 ghost use Rattle.std.specs.Option.{is_some};
 ghost use Rattle.std.specs.Str.{IsUtf8};
 
+use crate::escaped_key::append_escaped_key;
 use crate::key_text::{append_key_text, append_with_kind};
 use crate::members::{Member, Spare, ascend, key_at, prefix_within, put_in_order};
 use crate::text::{Part, members_from};
+use jsonb_scan::parser::Mode;
 use jsonb_value::number::Number;
 use jsonb_value::parts::{append_number_key, append_text_key};
 use std::alloc::{AllocError, Global};
@@ -28,7 +30,9 @@ pub struct KeyRoom<'a> {
 }
 
 impl<'a> KeyRoom<'a> {
+    ghost use Rattle.jsonb_scan.specs.Answer.{mode_of};
     ghost use Rattle.jsonb_scan.specs.Open.{Open};
+    ghost use Rattle.jsonb_scan.specs.QuotedString.{decoded_text};
     ghost use Rattle.jsonb_scan.specs.Open.Open.{elements_so_far, members_so_far};
     ghost use Rattle.jsonb_scan.specs.Source.{Found, Source, array_source_of, found, string_source};
     ghost use Rattle.jsonb_value.specs.SortKey.{key_of, number_key, text_key};
@@ -95,6 +99,16 @@ impl<'a> KeyRoom<'a> {
         self.append_text(string)
     }
 
+    // Writes a string, given its contents, which were checked in this mode.
+    #[inline(never)]
+    fn contents(&mut self, body: &str, mode: Mode) -> Result<(), AllocError>
+        ensures bytes { OnOk result (Writes (0xD0 ∷ text_key (decoded_text (mode_of mode) body.now))
+            self.old self.new) }
+        ensures base { base_of self.new ≡ base_of self.old }
+    {
+        append_escaped_key(body.as_bytes(), mode, &mut self.out, &mut self.decoded)
+    }
+
     // Whether this range of the text has bytes.
     #[inline(always)]
     fn is_range(&self, from: usize, to: usize) -> bool
@@ -118,8 +132,8 @@ impl<'a> KeyRoom<'a> {
     // Writes a string that stands there in the text in double quotes, and none of whose bytes has an escape.
     #[inline(always)]
     fn plain(&mut self, string: &str, from: usize, to: usize) -> Result<(), AllocError>
-        ensures bytes { OnOk result ((from < to → slice_range self.old.text.now from to ≡ in_quotes string.now)
-            → ArePlain string.now → Writes (0xD0 ∷ text_key string.now) self.old self.new) }
+        ensures bytes { OnOk result ((from < to → (slice_range self.old.text.now from to ≡ in_quotes string.now)
+            × ArePlain string.now) → Writes (0xD0 ∷ text_key string.now) self.old self.new) }
         ensures base { base_of self.new ≡ base_of self.old }
     {
         if self.is_range(from, to) && to - from > 1 {
@@ -130,8 +144,9 @@ impl<'a> KeyRoom<'a> {
 
     // Writes a value that holds no others.
     #[inline(always)]
-    fn part(&mut self, part: &Part<'a>) -> Result<(), AllocError>
-        ensures bytes { OnOk result (Writes (part_key part.now) self.old self.new) }
+    fn part(&mut self, part: &Part<'a>, from: usize, to: usize) -> Result<(), AllocError>
+        ensures bytes { OnOk result (IsSpelled self.old.text.now from to part.now
+            → Writes (part_key part.now) self.old self.new) }
         ensures base { base_of self.new ≡ base_of self.old }
     {
         match part {
@@ -140,8 +155,10 @@ impl<'a> KeyRoom<'a> {
             Part::Bool(true) => self.append(&[0x16]),
             Part::Bool(false) => self.append(&[0x15]),
             Part::Number(number) => self.number(number),
+            Part::Plain(string) => self.plain(string, from, to),
             Part::String(CowStr::Borrowed(string)) => self.string(string),
             Part::String(CowStr::Owned(string)) => self.string(string.as_str()),
+            Part::Contents(contents) => self.contents(contents.body, contents.mode),
         }
     }
 
@@ -172,24 +189,11 @@ impl<'a> KeyRoom<'a> {
     pub fn push(&mut self, part: Part<'a>, from: usize, to: usize) -> Result<(), AllocError>
         ensures stands { OnOk result ((text : List ℕ) → (s : Source) → (held : List Held) → (ss : List Source)
             → (cs : List Open) → KeyStands text self.old false (items ∷ held) (elements_so_far ss ∷ cs)
-            → SeesPart part.entry s
+            → SeesPart part.entry s → IsSpelled text from to part.entry
             → KeyStands text self.new false (items ∷ held) (elements_so_far (ss ++ s ∷ []) ∷ cs)) }
         ensures base { base_of self.new ≡ base_of self.old }
     {
-        self.part(&part)
-    }
-
-    /// An item that is a string, which stands there in the text in double quotes, and none of whose bytes has an escape.
-    #[inline(always)]
-    pub fn push_plain(&mut self, string: &'a str, from: usize, to: usize) -> Result<(), AllocError>
-        ensures stands { OnOk result ((text : List ℕ) → (held : List Held) → (ss : List Source) → (cs : List Open)
-            → KeyStands text self.old false (items ∷ held) (elements_so_far ss ∷ cs)
-            → (from < to → slice_range text from to ≡ in_quotes string.now) → ArePlain string.now
-            → KeyStands text self.new false (items ∷ held)
-            (elements_so_far (ss ++ string_source plain string.now ∷ []) ∷ cs)) }
-        ensures base { base_of self.new ≡ base_of self.old }
-    {
-        self.plain(string, from, to)
+        self.part(&part, from, to)
     }
 
     /// An item that is written.
@@ -363,33 +367,12 @@ impl<'a> KeyRoom<'a> {
         ensures stands { OnOk result ((text : List ℕ) → (s : Source) → (held : List Held) → (fs : List Found)
             → (k : Mark × List ℕ) → (place : ℕ) → (cs : List Open) → (next : Mark × List ℕ) → (other : ℕ)
             → KeyStands text self.old true (members first ∷ held) (members_so_far fs k place ∷ cs)
-            → SeesPart part.entry s
+            → SeesPart part.entry s → IsSpelled text from to part.entry
             → KeyStands text self.new false (members first ∷ held)
             (members_so_far (fs ++ found k s place ∷ []) next other ∷ cs)) }
         ensures base { base_of self.new ≡ base_of self.old }
     {
-        self.part(&part)
-    }
-
-    /// A member's value that is a string, which stands there in the text in double quotes, and none of whose bytes has
-    /// an escape.
-    #[inline(always)]
-    pub fn insert_plain(
-        &mut self,
-        first: usize,
-        string: &'a str,
-        from: usize,
-        to: usize,
-    ) -> Result<(), AllocError>
-        ensures stands { OnOk result ((text : List ℕ) → (held : List Held) → (fs : List Found)
-            → (k : Mark × List ℕ) → (place : ℕ) → (cs : List Open) → (next : Mark × List ℕ) → (other : ℕ)
-            → KeyStands text self.old true (members first ∷ held) (members_so_far fs k place ∷ cs)
-            → (from < to → slice_range text from to ≡ in_quotes string.now) → ArePlain string.now
-            → KeyStands text self.new false (members first ∷ held)
-            (members_so_far (fs ++ found k (string_source plain string.now) place ∷ []) next other ∷ cs)) }
-        ensures base { base_of self.new ≡ base_of self.old }
-    {
-        self.plain(string, from, to)
+        self.part(&part, from, to)
     }
 
     /// A member's value that is written.
@@ -494,10 +477,10 @@ impl<'a> KeyRoom<'a> {
     #[inline(always)]
     pub fn root(&mut self, part: &Part<'a>, from: usize, to: usize) -> Result<(), AllocError>
         ensures stands { OnOk result ((text : List ℕ) → (s : Source) → KeyStands text self.old true [] []
-            → SeesPart part.now s → KeyFilled text self.new s [] []) }
+            → SeesPart part.now s → IsSpelled text from to part.now → KeyFilled text self.new s [] []) }
         ensures base { base_of self.new ≡ base_of self.old }
     {
-        self.part(part)
+        self.part(part, from, to)
     }
 
     /// The end of a whole value: all of it is in the buffer.

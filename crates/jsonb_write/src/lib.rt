@@ -1,10 +1,16 @@
 //! What is written while a text is parsed.
 #![tactic(auto)]
 
+pub mod check;
+pub mod contents;
+mod escaped;
+mod escaped_key;
 pub mod key;
 mod key_text;
 pub mod members;
-mod plain;
+mod orders;
+pub mod part;
+pub mod plain;
 mod short;
 pub mod text;
 pub mod written;

@@ -19,9 +19,25 @@ pub(crate) fn is_plain(bytes: &[u8], count: usize) -> bool
     run_len(bytes, count) >= count
 }
 
+/// How many of the first bytes, up to the first that is not, are written as they are.
+#[inline(always)]
+pub fn plain_len(bytes: &[u8]) -> usize
+    ensures within { result ≤ length bytes.now }
+    ensures plain { ArePlain (take result bytes.now) }
+{
+    if bytes.len() < 16 {
+        return run_by_bytes(bytes);
+    }
+    let run = run_of_sixteen(bytes);
+    if run < 16 {
+        return run;
+    }
+    run_len(bytes, bytes.len())
+}
+
 // How many of the first 16 bytes, up to the first that is not, are written as they are.
 #[inline(always)]
-fn run_of_sixteen(bytes: &[u8]) -> usize
+pub(crate) fn run_of_sixteen(bytes: &[u8]) -> usize
     requires { 16 ≤ length bytes.now }
     ensures within { result ≤ 16 }
     ensures plain { ArePlain (take result bytes.now) }
@@ -34,7 +50,7 @@ fn run_of_sixteen(bytes: &[u8]) -> usize
 
 // The index of the lowest bit that is set, or the number of lanes where none is.
 #[inline(always)]
-fn first_set(mask: u64, lanes: usize) -> usize
+pub(crate) fn first_set(mask: u64, lanes: usize) -> usize
     ensures { result ≡ (if mask == 0 then lanes else trailing_zeros w64 mask) }
 {
     if mask == 0 {
@@ -66,7 +82,7 @@ fn run_len(bytes: &[u8], count: usize) -> usize
 
 // How many of the first bytes are written as they are, byte by byte.
 #[inline(never)]
-fn run_by_bytes(bytes: &[u8]) -> usize
+pub(crate) fn run_by_bytes(bytes: &[u8]) -> usize
     ensures within { result ≤ length bytes.now }
     ensures plain { ArePlain (take result bytes.now) }
 {

@@ -4,14 +4,15 @@ ghost use Rattle.jsonb_value.specs.Text.Appending.{Extends};
 
 use std::alloc::AllocError;
 
-// Appends the first bytes. More are copied where there are so many, since a copy of a fixed length takes no call.
+// Appends the first bytes. More are copied where there are so many and there is room, since a copy of a fixed length
+// takes no call.
 #[inline(always)]
 pub(crate) fn append_first(bytes: &[u8], count: usize, out: &mut Vec<u8>) -> Result<(), AllocError>
     requires { count ≤ length bytes.now }
     ensures bytes { OnOk result (out.new.items ≡ out.old.items ++ take count bytes.now) }
     ensures kept { Extends out.old.items out.new.items }
 {
-    if count <= 32 {
+    if count <= 32 && out.capacity() - out.len() >= 32 {
         if let Some(chunk) = bytes.first_chunk::<32>() {
             return append_part(chunk, count, out);
         }

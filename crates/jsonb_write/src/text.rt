@@ -5,6 +5,7 @@ ghost use Rattle.std.specs.Option.{is_some};
 ghost use Rattle.std.specs.Str.{IsUtf8};
 ghost use Rattle.jsonb_write.specs.SpelledNumber.{StaysSpelled};
 
+use crate::contents::Contents;
 use crate::members::{Member, Spare, ascend, key_at, prefix_within};
 use crate::plain::is_plain;
 use crate::written::Written;
@@ -19,6 +20,10 @@ pub enum Part<'a> {
     Bool(bool),
     Number(Number),
     String(CowStr<'a>),
+    // The contents of a string that have escapes and were checked.
+    Contents(Contents<'a>),
+    // A string none of whose bytes has an escape.
+    Plain(&'a str),
     Written,
 }
 
@@ -70,7 +75,7 @@ impl<'a> TextRoom<'a> {
     ghost use Rattle.jsonb_value.specs.View.{mark_view, number_view};
     ghost use Rattle.jsonb_write.specs.OpenText.{source_text, comma_unless};
     ghost use Rattle.jsonb_write.specs.PlainText.{ArePlain};
-    ghost use Rattle.jsonb_write.specs.TextRoom.{Begins, Closes, EndsObject, HasMember, Held, IsSettled, KeepsMembers, KeysAscendFrom, TellsRepeatOf, spot_among, IsSpelled, SeesPart, TextFilled, TextStands, Writes, base_of, part_text};
+    ghost use Rattle.jsonb_write.specs.TextRoom.{Begins, Closes, EndsObject, HasMember, Held, IsSettled, KeepsMembers, KeysAscendFrom, TellsRepeatOf, spot_among, IsSound, IsSpelled, SeesPart, TextFilled, TextStands, Writes, base_of, part_text};
     ghost use Rattle.jsonb_write.specs.TextRoom.Held.{items, members};
     ghost use Rattle.jsonb_write.specs.Written.{bytes_of};
 
@@ -98,15 +103,25 @@ impl<'a> TextRoom<'a> {
         self.written.put(byte)
     }
 
-    /// An array begins where a value is due. What is returned says whether it has no items yet.
+    // Writes a byte that may stand in the text at an index.
     #[inline(always)]
-    pub fn begin_array(&mut self) -> Result<bool, AllocError>
+    fn put_at(&mut self, byte: u8, at: usize) -> Result<(), AllocError>
+        ensures bytes { OnOk result (Writes (byte ∷ []) self.old self.new) }
+        ensures base { base_of self.new ≡ base_of self.old }
+    {
+        self.written.put_at(byte, at)
+    }
+
+    /// An array begins where a value is due, with a bracket that stands in the text at an index. What is returned says
+    /// whether it has no items yet.
+    #[inline(always)]
+    pub fn begin_array(&mut self, at: usize) -> Result<bool, AllocError>
         ensures stands { IfOk result (λ is_first. (text : List ℕ) → (held : List Held) → (cs : List Open)
             → TextStands text self.old true held cs
             → TextStands text self.new false (items is_first ∷ held) (elements_so_far [] ∷ cs)) }
         ensures base { base_of self.new ≡ base_of self.old }
     {
-        self.put(b'[')?;
+        self.put_at(b'[', at)?;
         Ok(true)
     }
 
@@ -179,10 +194,23 @@ impl<'a> TextRoom<'a> {
         self.written.append_string(string)
     }
 
+    // Writes a string that stands there in the text, between double quotes, and none of whose bytes has an escape.
+    #[inline(always)]
+    fn plain(&mut self, string: &str, from: usize, to: usize) -> Result<(), AllocError>
+        ensures bytes { OnOk result ((from < to → (slice_range self.old.written.text.now from to ≡ in_quotes string.now)
+            × ArePlain string.now) → Writes (quoted_text string.now) self.old self.new) }
+        ensures base { base_of self.new ≡ base_of self.old }
+    {
+        if self.is_range(from, to) {
+            return self.keep(from, to);
+        }
+        self.written.append_string(string)
+    }
+
     // Writes a value that stands there in the text.
     #[inline(always)]
     fn part(&mut self, part: &Part<'a>, from: usize, to: usize) -> Result<(), AllocError>
-        ensures bytes { OnOk result (IsSpelled self.old.written.text.now from to part.now
+        ensures bytes { OnOk result (IsSpelled self.old.written.text.now from to part.now → IsSound part.now
             → Writes (part_text part.now) self.old self.new) }
         ensures base { base_of self.new ≡ base_of self.old }
     {
@@ -192,8 +220,10 @@ impl<'a> TextRoom<'a> {
             Part::Bool(true) => self.word(b"true", from, to),
             Part::Bool(false) => self.word(b"false", from, to),
             Part::Number(number) => self.number(number, from, to),
+            Part::Plain(string) => self.plain(string, from, to),
             Part::String(CowStr::Borrowed(string)) => self.string(string, from, to),
             Part::String(CowStr::Owned(string)) => self.written.append_string(string.as_str()),
+            Part::Contents(contents) => self.written.append_escaped(contents, to),
         }
     }
 
@@ -260,26 +290,27 @@ impl<'a> TextRoom<'a> {
         ensures base { base_of self.new ≡ base_of self.old }
     {}
 
-    /// The end of an array.
+    /// The end of an array, whose bracket stands in the text at an index.
     #[inline(always)]
-    pub fn end_array(&mut self) -> Result<(), AllocError>
+    pub fn end_array(&mut self, at: usize) -> Result<(), AllocError>
         ensures stands { OnOk result ((text : List ℕ) → (is_first : Bool) → (held : List Held) → (ss : List Source)
             → (cs : List Open) → TextStands text self.old false (items is_first ∷ held) (elements_so_far ss ∷ cs)
             → TextFilled text self.new (array_source_of ss) held cs) }
         ensures base { base_of self.new ≡ base_of self.old }
     {
-        self.put(b']')
+        self.put_at(b']', at)
     }
 
-    /// An object begins where a value is due. What is returned is the index of its first member.
+    /// An object begins where a value is due, with a brace that stands in the text at an index. What is returned is the
+    /// index of its first member.
     #[inline(always)]
-    pub fn begin_object(&mut self) -> Result<usize, AllocError>
+    pub fn begin_object(&mut self, at: usize) -> Result<usize, AllocError>
         ensures stands { IfOk result (λ first. (text : List ℕ) → (held : List Held) → (cs : List Open)
             → (key : Mark × List ℕ) → (place : ℕ) → TextStands text self.old true held cs
             → TextStands text self.new false (members first ∷ held) (members_so_far [] key place ∷ cs)) }
         ensures base { base_of self.new ≡ base_of self.old }
     {
-        self.put(b'{')?;
+        self.put_at(b'{', at)?;
         Ok(self.members.len())
     }
 
@@ -290,6 +321,7 @@ impl<'a> TextRoom<'a> {
             → Writes (comma_unless false) self.old self.new) }
         ensures none { OnOk result (length self.old.members.items ≤ first
             → Writes (comma_unless true) self.old self.new) }
+        ensures text { OnOk result (self.new.written.text.now ≡ self.old.written.text.now) }
         ensures base { base_of self.new ≡ base_of self.old }
     {
         if self.members.len() > first {
@@ -394,7 +426,7 @@ impl<'a> TextRoom<'a> {
         if 0 < from && self.is_range(from, after) {
             self.next_member(first)?;
             self.begin_member(from, after - 1, after)?;
-            self.keep_range(from - 1, after)?;
+            self.keep(from - 1, after)?;
             return self.put(b':');
         }
         self.decoded_key(first, key, after)
@@ -507,12 +539,12 @@ impl<'a> TextRoom<'a> {
 
     // Writes the end of an object, whose members are kept no longer.
     #[inline(always)]
-    fn close(&mut self, first: usize) -> Result<(), AllocError>
+    fn close(&mut self, first: usize, at: usize) -> Result<(), AllocError>
         ensures end { OnOk result (Closes first self.old self.new) }
         ensures base { base_of self.new ≡ base_of self.old }
     {
         self.members.truncate(first);
-        self.put(b'}')
+        self.put_at(b'}', at)
     }
 
     /// Whether so many bytes of members were moved that another way takes less time: several times those of the text.
@@ -521,10 +553,10 @@ impl<'a> TextRoom<'a> {
         self.spare.total / MOST_MOVED > self.written.text.len()
     }
 
-    /// The end of an object. Where a key comes twice, what is returned is the index, among the members, of the one
-    /// where the least such key comes the second time.
+    /// The end of an object, whose brace stands in the text at an index. Where a key comes twice, what is returned is the
+    /// index, among the members, of the one where the least such key comes the second time.
     #[inline(always)]
-    pub fn end_object(&mut self, first: usize) -> Result<Option<usize>, AllocError>
+    pub fn end_object(&mut self, first: usize, at: usize) -> Result<Option<usize>, AllocError>
         ensures stands { IfOk result (λ repeat. (text : List ℕ) → (held : List Held) → (fs : List Found)
             → (key : Mark × List ℕ) → (place : ℕ) → (cs : List Open)
             → TextStands text self.old false (members first ∷ held) (members_so_far fs key place ∷ cs)
@@ -537,7 +569,7 @@ impl<'a> TextRoom<'a> {
                 return Ok(repeat);
             }
         }
-        self.close(first)?;
+        self.close(first, at)?;
         Ok(None)
     }
 
@@ -568,6 +600,29 @@ impl<'a> TextRoom<'a> {
         ensures base { base_of self.new ≡ base_of self.old }
     {
         self.part(part, from, to)
+    }
+
+    /// A value that holds no others, where one is due, and that stands there in the text.
+    #[inline(always)]
+    pub fn fill(&mut self, part: &Part<'a>, from: usize, to: usize) -> Result<(), AllocError>
+        ensures stands { OnOk result ((text : List ℕ) → (s : Source) → (held : List Held) → (cs : List Open)
+            → TextStands text self.old true held cs → SeesPart part.now s → IsSpelled text from to part.now
+            → TextFilled text self.new s held cs) }
+        ensures base { base_of self.new ≡ base_of self.old }
+    {
+        self.part(part, from, to)
+    }
+
+    /// Copies what is written from an index on.
+    pub fn copy_from(&mut self, start: usize, copy: &mut Vec<u8>) -> Result<(), AllocError>
+        ensures copied { OnOk result (copy.new.items ≡ drop start (bytes_of self.old.written)) }
+        ensures same { OnOk result (Writes [] self.old self.new) }
+        ensures base { base_of self.new ≡ base_of self.old }
+    {
+        self.written.flush()?;
+        copy.clear();
+        let out = self.written.out.as_slice();
+        copy.extend_from_slice(&out[start.min(out.len())..])
     }
 
     /// A whole value that stands in the text as it is to be written.

@@ -2,6 +2,8 @@
 //! stands, and copied when the part ends.
 ghost use Rattle.std.specs.Prelude.{◌≡◌, ◌+◌, ◌<◌, ◌≤◌, ◌++◌, ◌∷◌, [], ℕ, List, true, length, map, take, slice_range, IfOk, OnOk};
 
+use crate::contents::Contents;
+use crate::escaped::append_contents;
 use crate::members::{Member, Spare, put_in_order};
 use crate::short::append_first;
 use jsonb_value::number::Number;
@@ -24,6 +26,7 @@ impl<'a> Written<'a> {
     ghost use Rattle.jsonb_value.specs.Text.NumberText.{number_text};
     ghost use Rattle.jsonb_value.specs.Text.StringText.{quoted_text};
     ghost use Rattle.jsonb_value.specs.View.{number_view};
+    ghost use Rattle.jsonb_write.specs.Contents.{BeginsAsWritten, text_of_contents};
     ghost use Rattle.jsonb_write.specs.Members.{AreInOrder, AreKeyed, AreWritten, Piece, TellsRepeat, bytes_of_pieces, spot_in, spots_of_pieces};
     ghost use Rattle.jsonb_write.specs.Written.{bytes_of};
 
@@ -63,9 +66,32 @@ impl<'a> Written<'a> {
         ensures text { self.new.text ≡ self.old.text }
         ensures kept { Extends self.old.out.items self.new.out.items }
     {
+        self.put_at(byte, self.end)
+    }
+
+    /// Writes a byte that may stand in the text at an index, where it isn't the next one.
+    #[inline(always)]
+    pub fn put_at(&mut self, byte: u8, at: usize) -> Result<(), AllocError>
+        ensures bytes { OnOk result (bytes_of self.new ≡ bytes_of self.old ++ byte ∷ []) }
+        ensures text { self.new.text ≡ self.old.text }
+        ensures kept { Extends self.old.out.items self.new.out.items }
+    {
         if self.end < self.text.len() && self.text[self.end] == byte {
             self.end += 1;
             return Ok(());
+        }
+        self.begin_at(byte, at)
+    }
+
+    // Copies the part of the text, and begins another with the byte at an index, where it stands there.
+    #[inline(never)]
+    fn begin_at(&mut self, byte: u8, at: usize) -> Result<(), AllocError>
+        ensures bytes { OnOk result (bytes_of self.new ≡ bytes_of self.old ++ byte ∷ []) }
+        ensures text { self.new.text ≡ self.old.text }
+        ensures kept { Extends self.old.out.items self.new.out.items }
+    {
+        if at < self.text.len() && self.text[at] == byte {
+            return self.begin_part(at, at + 1);
         }
         self.append(&[byte])
     }
@@ -103,6 +129,42 @@ impl<'a> Written<'a> {
         append_string(string, &mut self.out)
     }
 
+    /// Writes a string so, given its contents. Where it stands in the text, this is the index after it, so that what
+    /// follows it may be written with it; the bytes don't depend on it.
+    #[inline(never)]
+    pub fn append_escaped(
+        &mut self,
+        contents: &Contents<'_>,
+        after: usize,
+    ) -> Result<(), AllocError>
+        ensures bytes { OnOk result (BeginsAsWritten contents.now
+            → bytes_of self.new ≡ bytes_of self.old ++ quoted_text (text_of_contents contents.now)) }
+        ensures text { self.new.text ≡ self.old.text }
+        ensures kept { Extends self.old.out.items self.new.out.items }
+    {
+        self.put(b'"')?;
+        self.flush()?;
+        // With room for the closing quote too, which is copied as the first of 32 bytes, a long string lets the buffer grow
+        // once.
+        self.out.try_reserve(contents.body.len() + 32)?;
+        append_contents(contents, &mut self.out)?;
+        self.go_on(after.max(1) - 1);
+        self.put(b'"')
+    }
+
+    // Goes on at an index of the text, where all that is written is in the buffer.
+    #[inline(always)]
+    fn go_on(&mut self, at: usize)
+        requires { slice_range self.old.text.now self.old.from self.old.end ≡ [] }
+        ensures bytes { bytes_of self.new ≡ bytes_of self.old }
+        ensures text { self.new.text ≡ self.old.text }
+        ensures out { self.new.out ≡ self.old.out }
+    {
+        let at = at.min(self.text.len());
+        self.from = at;
+        self.end = at;
+    }
+
     /// Writes what stands in the text from one index to another.
     #[inline(always)]
     pub fn keep(&mut self, from: usize, to: usize) -> Result<(), AllocError>
@@ -128,10 +190,10 @@ impl<'a> Written<'a> {
         ensures text { self.new.text ≡ self.old.text }
         ensures kept { Extends self.old.out.items self.new.out.items }
     {
-        self.flush()?;
+        let (first, count) = (self.from, self.end - self.from);
         self.from = from;
         self.end = to;
-        Ok(())
+        append_first(&self.text[first..], count, &mut self.out)
     }
 
     /// Puts the members at the end of what is written in the order of their keys, with commas between them, and tells a

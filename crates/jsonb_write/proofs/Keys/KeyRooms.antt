@@ -10,7 +10,7 @@ use Rattle.jsonb_write.specs.KeyRoom.{Held, HeldFits, IsRoomWith, KeyStands, Wri
 use Rattle.jsonb_write.specs.MemberStarts.{AreKept}
 use Rattle.jsonb_write.specs.Members.{source_key}
 use Rattle.jsonb_write.specs.PlainText.{ArePlain}
-use Rattle.jsonb_write.specs.TextRoom.{SeesPart}
+use Rattle.jsonb_write.specs.TextRoom.{IsSpelled, SeesPart}
 use Rattle.jsonb_write.specs.declared.key.KeyRoom.{KeyRoom}
 use Rattle.jsonb_write.specs.declared.text.Part.{Part}
 use Rattle.jsonb_write.specs.declared.text.Part.TheVariants as part
@@ -43,12 +43,16 @@ sees_key : (p : Part) (s : Source) → SeesPart p s → part_key p ≡ source_ke
 sees_key part.Null s h = ap source_key (sym h)
 sees_key (part.Bool b) s h = ap source_key (sym h)
 sees_key (part.Number n) s h = ap source_key (sym h)
+sees_key (part.Plain t) s h = ap source_key (sym h.0)
 sees_key (part.String t) s h = ap source_key (sym h)
+sees_key (part.Contents c) s h = ap source_key (sym h.0)
 sees_key part.Written s h = absurd h
 
--- what is written of a part
-pub part_written : {r s : KeyRoom} (p : Part) (v : Source) → SeesPart p v → Writes (part_key p) r s → Writes (source_key v) r s
-part_written {r = r} {s = s} p v sees wrote = subst (λ bytes. Writes bytes r s) (sees_key p v sees) wrote
+-- what is written of a part that stands there in the text
+pub part_written : {text written : List ℕ} {r s : KeyRoom} {due : Bool} {held : List Held} {cs : List Open} (p : Part) (v : Source) (from to : ℕ) → IsRoomWith text r written due held cs → SeesPart p v → IsSpelled text from to p
+    → (IsSpelled r.text.now from to p → Writes (part_key p) r s) → Writes (source_key v) r s
+part_written {r = r} {s = s} p v from to room sees spelled wrote =
+    subst (λ bytes. Writes bytes r s) (sees_key p v sees) (wrote (subst (λ t. IsSpelled t from to p) (sym room.text_is) spelled))
 
 -- an item behind those before it
 pub item_written : {text : List ℕ} {r s : KeyRoom} {held : List Held} {ss : List Source} {cs : List Open} (v : Source) → KeyStands text r false (items ∷ held) (elements_so_far ss ∷ cs) → Writes (source_key v) r s

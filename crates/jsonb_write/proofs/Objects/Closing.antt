@@ -44,7 +44,7 @@ below_all : (k l : List ℕ) (ms : Members) → slice_cmp nat_cmp k l ≡ Less �
 below_all k l no_members h low = tt
 below_all k l (more_members m u ms) h low = (nat_list_cmp_total.trans k l m h low.0, below_all k l ms h low.1)
 
-listed_ascend : (fs : List Found) → SpotsAscend (map spot_of fs) → KeysAscend (listed fs)
+pub listed_ascend : (fs : List Found) → SpotsAscend (map spot_of fs) → KeysAscend (listed fs)
 listed_ascend [] up = tt
 listed_ascend (f ∷ []) up = (tt, tt)
 listed_ascend (f ∷ g ∷ fs) up =

@@ -7,7 +7,9 @@ use Rattle.jsonb_write.proofs.key.KeyRoom.plain.Goals as goal
 pub returns-then-to-from-gt1-clause-bytes : goal.returns-then-to-from-gt1-clause-bytes
 returns-then-to-from-gt1-clause-bytes c =
     let r = c.args.self.now in
-    on_ok c.append_with_kind.result c.append_with_kind.ensures.bytes (λ e spelled is_plain.
-    let there = string_there r.text.now c.args.string.now c.args.from c.args.to (omega arith) c.if-is_range.ensures.1 (spelled c.if-is_range.ensures.0) in
+    on_ok c.append_with_kind.result c.append_with_kind.ensures.bytes (λ e spelled.
+    let there_plain = spelled c.if-is_range.ensures.0 in
+    let there = string_there r.text.now c.args.string.now c.args.from c.args.to (omega arith) c.if-is_range.ensures.1 there_plain.0 in
+    let is_plain = there_plain.1 in
     wrote refl refl refl refl
     (e ∙ ap (λ xs. r.out.items ++ 208 ∷ xs) (ap (λ xs. drop 1 (take (c.args.to - c.args.from - 1) xs) ++ 0 ∷ 1 ∷ []) (take_rest r.text.now c.args.from) ∙ ap (λ xs. xs ++ 0 ∷ 1 ∷ []) there ∙ sym (plain_text_key c.args.string.now is_plain))))

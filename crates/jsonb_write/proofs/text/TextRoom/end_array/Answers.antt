@@ -5,4 +5,4 @@ use Rattle.jsonb_write.proofs.text.TextRoom.end_array.Goals as goal
 
 pub returns-clause-stands : goal.returns-clause-stands
 returns-clause-stands c =
-    on_ok c.put.result c.put.ensures.bytes (λ w text is_first held ss cs room. goes_on room w (array_ended ss cs) (append-nil _) room.fits.1)
+    on_ok c.put_at.result c.put_at.ensures.bytes (λ w text is_first held ss cs room. goes_on room w (array_ended ss cs) (append-nil _) room.fits.1)

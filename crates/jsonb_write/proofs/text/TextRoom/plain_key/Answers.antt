@@ -1,4 +1,4 @@
-use Rattle.std.proofs.Common.{◌≡◌, ◌-◌, ap, length, length-append, slice_range, subst, sym, [], ◌∙◌}
+use Rattle.std.proofs.Common.{◌≡◌, ◌-◌, ◌≤◌, arith, ap, length, length-append, slice_range, subst, sym, [], ◌∙◌}
 use Rattle.jsonb_value.specs.Text.{in_quotes}
 use Rattle.jsonb_value.specs.Text.StringText.{quoted_text}
 use Rattle.jsonb_value.specs.Tree.{plain}
@@ -7,6 +7,10 @@ use Rattle.jsonb_write.specs.Written.{bytes_of}
 use Rattle.jsonb_write.proofs.Rooms.{on_ok}
 use Rattle.jsonb_write.proofs.RoomMembers.{begins_wrote, comma_led, counted, key_stands, key_there, wrote_begins}
 use Rattle.jsonb_write.proofs.text.TextRoom.plain_key.Goals as goal
+
+pub keep-requires-clause-inside : goal.keep-requires-clause-inside
+keep-requires-clause-inside c =
+    subst (λ t. c.args.after ≤ length t) (sym (c.in_ok-begin_member.ensures.member.text ∙ c.in_ok-next_member.ensures.text)) (omega arith)
 
 pub returns-then-is_range-clause-stands : goal.returns-then-is_range-clause-stands
 returns-then-is_range-clause-stands c =
@@ -21,8 +25,8 @@ returns-then-is_range-clause-stands c =
     let begun = c.in_ok-begin_member.ensures.member in
     let member : Begins [] key c.args.after (length (bytes_of c.next_member.new.self.written)) c.next_member.new.self c.begin_member.new.self =
     subst (λ bytes. Begins [] bytes c.args.after (length (bytes_of c.next_member.new.self.written)) c.next_member.new.self c.begin_member.new.self) (ap (λ t. slice_range t c.args.from (c.args.after - 1)) comma.text ∙ same) begun in
-    let quoted : Writes (quoted_text key) c.begin_member.new.self c.keep_range.new.self =
-    subst (λ bytes. Writes bytes c.begin_member.new.self c.keep_range.new.self) (ap (λ t. slice_range t (c.args.from - 1) c.args.after) (begun.text ∙ comma.text) ∙ there ∙ ap in_quotes (sym is_plain)) c.in_ok-keep_range.ensures.bytes in
+    let quoted : Writes (quoted_text key) c.begin_member.new.self c.keep.new.self =
+    subst (λ bytes. Writes bytes c.begin_member.new.self c.keep.new.self) (ap (λ t. slice_range t (c.args.from - 1) c.args.after) (begun.text ∙ comma.text) ∙ there ∙ ap in_quotes (sym is_plain)) c.in_ok-keep.ensures.bytes in
     key_stands plain key c.args.after _ room (ap length comma.written ∙ length-append _ _) (wrote_begins comma (begins_wrote (begins_wrote member quoted) colon)) c.utf8.key)
 
 pub returns-clause-stands : goal.returns-clause-stands

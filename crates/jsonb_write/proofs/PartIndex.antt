@@ -1,0 +1,76 @@
+-- The index that a key spells is what parsing the key gives.
+use Rattle.std.proofs.Common.{◌≡◌, ◌<◌, ◌^◌, ℕ, Bool, true, false, ◌&&◌, List, [], ◌∷◌, length, drop, cond, Some, None, Result, Ok, Err, refl, sym, ap, subst, ◌∙◌, arith}
+use Rattle.std.proofs.lemmas.Bool.{cond-true, cond-false, lt-ltb, ltb-true}
+use Rattle.std.specs.Bool.{nat_lt, ◌==◌}
+use Rattle.std.specs.Char.{digit_value, is_digit}
+use Rattle.std.specs.Prelude.{slice_index}
+use Rattle.std.specs.Result.{result_ok}
+use Rattle.std.specs.Str.Parse.{AllDigits, IsNumeral, ParsesUnsigned, digits_value, without_leading_plus}
+use Rattle.jsonb_write.specs.PartAt.{all_digits, index_named, leads_well}
+
+pub and_left : (a b : Bool) → (a && b) ≡ true → a ≡ true
+and_left true b e = refl
+and_left false b e = e
+
+pub and_right : (a b : Bool) → (a && b) ≡ true → b ≡ true
+and_right true b e = e
+and_right false b e = absurd cc
+
+pub both : (a b : Bool) → a ≡ true → b ≡ true → (a && b) ≡ true
+both true b d e = e
+both false b d e = absurd cc
+
+pub not_true : (b : Bool) → (b ≡ true → ⊥) → b ≡ false
+not_true true h = absurd (h refl)
+not_true false h = refl
+
+-- ---- digits
+
+pub digits_all : (ds : List ℕ) → all_digits ds ≡ true → AllDigits 10 ds
+digits_all [] e = tt
+digits_all (c ∷ cs) e =
+    (ltb-true (digit_value c) 10 (and_left (is_digit c 10) (all_digits cs) e), digits_all cs (and_right (is_digit c 10) (all_digits cs) e))
+
+pub all_are : (ds : List ℕ) → AllDigits 10 ds → all_digits ds ≡ true
+all_are [] h = refl
+all_are (c ∷ cs) h = both (is_digit c 10) (all_digits cs) (lt-ltb (digit_value c) 10 h.0) (all_are cs h.1)
+
+some_there : (key : List ℕ) → leads_well key ≡ true → 0 < length key
+some_there [] e = absurd cc
+some_there (c ∷ cs) e = omega arith
+
+-- ---- a key
+
+-- what names an index
+abbrev pub names : List ℕ → Bool
+names key = leads_well key && (all_digits key && nat_lt (digits_value 10 key) (2 ^ 64))
+
+-- a key that leads well, with no plus before it
+pub parsed : {E : Type 0} (key : List ℕ) (r : Result ℕ E) → leads_well key ≡ true → (slice_index key 0 == 43) ≡ false → ParsesUnsigned 64 10 key r → result_ok r ≡ index_named key
+parsed key (Ok x) leads plus h =
+    let same : without_leading_plus key ≡ key = ap (λ b. drop (cond b 1 0) key) plus in
+    let num : IsNumeral 10 key × (digits_value 10 key < 2 ^ 64) = subst (λ ds. IsNumeral 10 ds × (digits_value 10 ds < 2 ^ 64)) same h.0 in
+    let fits = both (all_digits key) (nat_lt (digits_value 10 key) (2 ^ 64)) (all_are key num.0.1) (lt-ltb (digits_value 10 key) (2 ^ 64) num.1) in
+    ap Some (h.1 ∙ ap (digits_value 10) same) ∙ sym (cond-true (names key) (Some (digits_value 10 key)) None (both (leads_well key) _ leads fits))
+parsed key (Err e) leads plus h =
+    let same : without_leading_plus key ≡ key = ap (λ b. drop (cond b 1 0) key) plus in
+    sym (cond-false (names key) (Some (digits_value 10 key)) None (not_true (names key) (λ is.
+    let rest = and_right (leads_well key) _ is in
+    h (subst (λ ds. IsNumeral 10 ds × (digits_value 10 ds < 2 ^ 64)) (sym same)
+    ((some_there key leads, digits_all key (and_left (all_digits key) _ rest)), ltb-true (digits_value 10 key) (2 ^ 64) (and_right (all_digits key) _ rest))))))
+
+-- a key that doesn't lead well names none
+pub badly_led : (key : List ℕ) → leads_well key ≡ false → None ≡ index_named key
+badly_led key e = sym (cond-false (names key) (Some (digits_value 10 key)) None (ap (λ b. b && (all_digits key && nat_lt (digits_value 10 key) (2 ^ 64))) e))
+
+-- nor does one with a plus before it
+pub signed : (key : List ℕ) → 0 < length key → (slice_index key 0 == 43) ≡ true → None ≡ index_named key
+signed [] h e = absurd (omega arith)
+signed (c ∷ cs) h e =
+    sym (cond-false (names (c ∷ cs)) (Some (digits_value 10 (c ∷ cs))) None (not_true (names (c ∷ cs)) (λ is. no_digit c (eqb c e) (digits_all (c ∷ cs) (and_left (all_digits (c ∷ cs)) _ (and_right (leads_well (c ∷ cs)) _ is))).0)))
+  where
+    eqb : (c : ℕ) → (c == 43) ≡ true → c ≡ 43
+    eqb c e = grind arith
+
+    no_digit : (c : ℕ) → c ≡ 43 → digit_value c < 10 → ⊥
+    no_digit c is small = let big : digit_value 43 < 10 = subst (λ b. digit_value b < 10) is small in omega (arith, big)

@@ -1,0 +1,32 @@
+use Rattle.std.proofs.Common.{◌≡◌, [], List, ℕ, length, take, drop, subst, sym, eqb-true}
+use Rattle.std.proofs.lemmas.List.{take_rest, nil_from_length}
+use Rattle.jsonb_scan.specs.Answer.{mode_of}
+use Rattle.jsonb_write.specs.Escaped.{WritesItems}
+use Rattle.jsonb_write.proofs.EscapedTexts.{writes_all, writes_behind, writes_then}
+use Rattle.jsonb_write.proofs.Fronts.{extends_on}
+use Rattle.jsonb_write.proofs.escaped.append_rest.Goals as goal
+
+pub parts-preserved : goal.parts-preserved
+parts-preserved c =
+    let mode = mode_of c.args.mode in
+    let body : List ℕ = c.args.body.now in
+    let rest : List ℕ = c.parts.rest.now in
+    let others : List ℕ = c.in_ok-others.others.now in
+    let count : ℕ = c.kept_len-count.result in
+    let first : List ℕ = c.parts.out.items in
+    let second : List ℕ = c.append_next.new.out.items in
+    let third : List ℕ = c.append_first.new.out.items in
+    let run : WritesItems mode others (drop count others) second third =
+    subst (λ (u : List ℕ). WritesItems mode others (drop count others) second u) (sym c.in_ok-append_first.ensures.bytes) (writes_behind mode others (drop count others) second (take count others) (c.kept_len-count.ensures.kept mode)) in record {
+      writes = λ before w.
+          let so_far = writes_then mode body rest others before first second (c.parts.invariant.writes before w) c.in_ok-others.ensures.ok in
+          subst (λ (u : List ℕ). WritesItems mode body u before third) (sym (take_rest others count)) (writes_then mode body others (drop count others) before second third so_far run);
+      kept = extends_on c.parts.invariant.kept (extends_on c.in_ok-others.ensures.kept c.in_ok-append_first.ensures.kept);
+    }
+
+pub returns-clause-ok : goal.returns-clause-ok
+returns-clause-ok c before w =
+    let mode = mode_of c.args.mode in
+    let body : List ℕ = c.args.body.now in
+    let none : c.parts.rest.now ≡ [] = nil_from_length c.parts.rest.now (eqb-true (length c.parts.rest.now) 0 (sym c.parts-test.ensures)) in
+    writes_all mode body before c.parts.out.items (subst (λ (u : List ℕ). WritesItems mode body u before c.parts.out.items) none (c.parts.invariant.writes before w))

@@ -1,0 +1,15 @@
+use Rattle.std.proofs.Common.{List, ℕ, drop, length}
+use Rattle.jsonb_value.specs.Text.Appending.{Extends}
+use Rattle.jsonb_scan.specs.Answer.{mode_of}
+use Rattle.jsonb_write.specs.Escaped.{WritesItems}
+use Rattle.jsonb_write.proofs.escaped.append_rest.Given as goal
+
+-- the items so far are written, where those before were
+abbrev pub invariant-parts : goal.invariant-parts
+invariant-parts l = record {
+  writes : (before : List ℕ) → WritesItems (mode_of l.mode) l.body (drop l.from l.body) before l.fn.out.items → WritesItems (mode_of l.mode) l.body l.rest before l.out.items;
+  kept : Extends l.fn.out.items l.out.items;
+}
+
+abbrev pub decreases-parts : goal.decreases-parts
+decreases-parts l = length l.rest

@@ -1,0 +1,27 @@
+-- Contents of strings with escapes that were checked.
+-- Read for: private.
+use Rattle.std.specs.Prelude.{◌≡◌, ℕ, ◌+◌, List, [], drop, take, Result, Ok, Err}
+use Rattle.jsonb_value.specs.Code.{code_of}
+use Rattle.jsonb_value.specs.Tree.{Mark}
+use Rattle.jsonb_value.specs.Tree.Mark.{escaped}
+use Rattle.jsonb_value.specs.declared.error.Error.{Error}
+use Rattle.jsonb_value.specs.declared.error.Error.TheVariants.{Syntax}
+use Rattle.jsonb_scan.specs.Answer.{mode_of}
+use Rattle.jsonb_scan.specs.QuotedString.{decoded_text}
+use Rattle.jsonb_scan.specs.Reading.String.{Body}
+use Rattle.jsonb_write.specs.Escaped.{WritesItems}
+use Rattle.jsonb_write.specs.declared.contents.Contents.{Contents}
+
+-- what the contents mean
+abbrev pub text_of_contents : Contents → List ℕ
+text_of_contents c = decoded_text (mode_of c.mode) c.body.now
+
+-- The first bytes are written as they stand, as far as that is said.
+abbrev pub BeginsAsWritten : Contents → Type 0
+BeginsAsWritten c = WritesItems (mode_of c.mode) c.body.now (drop c.kept_len c.body.now) [] (take c.kept_len c.body.now)
+
+-- Their text is read of the body, or the fault is, where the check counts from `idx`.
+abbrev pub ChecksAs : ℕ → Result Contents Error → Body (Mark × List ℕ) → Type 0
+ChecksAs idx (Ok c) read = (read ≡ Ok (escaped, text_of_contents c)) × BeginsAsWritten c
+ChecksAs idx (Err (Syntax code place)) read = (count : ℕ) × (read ≡ Err (code_of code, count)) × (place ≡ idx + count)
+ChecksAs idx (Err other) read = ⊥

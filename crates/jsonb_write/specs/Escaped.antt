@@ -1,0 +1,17 @@
+-- What is written of the contents of a string with escapes.
+-- Read for: private.
+use Rattle.std.specs.Prelude.{◌≡◌, ◌⊎◌, ℕ, List, ◌++◌}
+use Rattle.std.specs.List.{flat_map}
+use Rattle.jsonb_value.specs.Mode.{Mode}
+use Rattle.jsonb_value.specs.Text.StringText.{byte_text}
+use Rattle.jsonb_scan.specs.Decoding.{DecodesUpTo}
+
+-- The bytes are items and then the rest, and new is old with what these items mean, as it is written.
+pub record WritesItems (mode : Mode) (bytes rest old new : List ℕ) : Type 0 where
+  pub text : List ℕ
+  pub decodes : DecodesUpTo mode bytes rest text
+  pub written : new ≡ old ++ flat_map byte_text text
+
+-- the letters of the escapes that are written: `"`, `\`, n, r and t
+abbrev pub IsKeptLetter : ℕ → Type 0
+IsKeptLetter letter = (letter ≡ 0x22) ⊎ ((letter ≡ 0x5C) ⊎ ((letter ≡ 0x6E) ⊎ ((letter ≡ 0x72) ⊎ (letter ≡ 0x74))))

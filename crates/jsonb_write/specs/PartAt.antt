@@ -1,0 +1,41 @@
+-- The part of a tree at keys: at each key a member, or an item whose index the key is.
+-- Read for: promises.
+use Rattle.std.specs.Prelude.{ℕ, ◌^◌, Bool, true, false, ◌&&◌, ◌==◌, not, if◌then◌else◌, nat_lt, List, [], ◌∷◌, Option, Some, None}
+use Rattle.std.specs.Char.{is_digit}
+use Rattle.std.specs.Option.{option_and_then}
+use Rattle.std.specs.Str.{bytes_eq}
+use Rattle.std.specs.Str.Parse.{digits_value}
+use Rattle.jsonb_value.specs.Accessors.{find_member, item_at}
+use Rattle.jsonb_value.specs.Tree.{Tree, array, object}
+
+-- whether each byte is a decimal digit
+abbrev pub all_digits : List ℕ → Bool
+all_digits [] = true
+all_digits (c ∷ cs) = is_digit c 10 && all_digits cs
+
+-- the byte of the digit 0
+abbrev pub zero_digit : ℕ
+zero_digit = 0x30
+
+-- whether there is one byte alone, or the first is no 0
+abbrev pub leads_well : List ℕ → Bool
+leads_well [] = false
+leads_well (c ∷ []) = true
+leads_well (c ∷ d ∷ ds) = not (c == zero_digit)
+
+-- The index that a key spells in decimal digits, without a needless leading zero, where it fits a machine's word.
+abbrev pub index_named : List ℕ → Option ℕ
+index_named key =
+    if leads_well key && (all_digits key && nat_lt (digits_value 10 key) (2 ^ 64)) then Some (digits_value 10 key)
+    else None
+
+-- the member of that key, or the item of that index
+abbrev pub child_at : List ℕ → Tree → Option Tree
+child_at key (object ms) = find_member (bytes_eq key) ms
+child_at key (array ts) = option_and_then (item_at ts) (index_named key)
+child_at key other = None
+
+-- the part at the first key, and in it the part at the others
+abbrev pub part_at : List (List ℕ) → Tree → Option Tree
+part_at [] t = Some t
+part_at (key ∷ keys) t = option_and_then (part_at keys) (child_at key t)

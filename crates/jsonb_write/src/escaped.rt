@@ -1,0 +1,254 @@
+//! The contents of a string with escapes as they are written: decoded, and with the escapes that the text needs. Most
+//! of them are written as they stand, and nothing is decoded but an escape at a time.
+ghost use Rattle.std.specs.Prelude.{◌≡◌, List, ℕ, ◌+◌, ◌-◌, ◌≤◌, ◌<◌, ◌++◌, ◌∷◌, [], drop, length, take, IfOk, IfSome, MatchBool, OnOk};
+ghost use Rattle.std.specs.Char.{digit_char};
+ghost use Rattle.std.specs.List.{flat_map};
+ghost use Rattle.jsonb_value.specs.Mode.{Mode as GrammarMode};
+ghost use Rattle.jsonb_value.specs.Text.Appending.{Extends};
+ghost use Rattle.jsonb_value.specs.Text.StringText.{byte_text, control_text};
+ghost use Rattle.jsonb_scan.specs.Answer.{mode_of};
+ghost use Rattle.jsonb_scan.specs.QuotedString.{decoded_text};
+ghost use Rattle.jsonb_write.specs.Contents.{BeginsAsWritten, text_of_contents};
+ghost use Rattle.jsonb_write.specs.Escaped.{IsKeptLetter, WritesItems};
+ghost use Rattle.jsonb_write.specs.PlainText.{ArePlain};
+
+use crate::contents::Contents;
+use crate::plain::{first_set, run_by_bytes, run_of_sixteen};
+use crate::short::append_first;
+use jsonb_scan::parser::Mode;
+use jsonb_scan::util::decode_escape;
+use std::alloc::AllocError;
+use std::simd::prelude::*;
+
+// Whether an escape of this letter is written as it stands.
+#[inline(always)]
+fn is_kept_letter(letter: u8) -> bool
+    ensures { MatchBool result (IsKeptLetter letter) (Unit {0}) }
+{
+    matches!(letter, b'"' | b'\\' | b'n' | b'r' | b't')
+}
+
+// Whether the bytes begin with an escape that is written as it stands.
+#[inline(always)]
+fn begins_kept(bytes: &[u8]) -> bool
+    ensures kept { MatchBool result ((mode : GrammarMode)
+        → WritesItems mode bytes.now (drop 2 bytes.now) [] (take 2 bytes.now)) (Unit {0}) }
+    ensures within { MatchBool result (2 ≤ length bytes.now) (Unit {0}) }
+{
+    if bytes.len() < 2 {
+        return false;
+    }
+    if bytes[0] != b'\\' {
+        return false;
+    }
+    is_kept_letter(bytes[1])
+}
+
+// How many of the first 8 bytes, up to the first that is not, are written as they are.
+#[inline(always)]
+fn run_of_eight(bytes: &[u8]) -> usize
+    requires { 8 ≤ length bytes.now }
+    ensures within { result ≤ 8 }
+    ensures plain { ArePlain (take result bytes.now) }
+{
+    let lanes = u8x8::from_slice(bytes);
+    let below = lanes.simd_lt(u8x8::splat(b' '));
+    let marks = below | lanes.simd_eq(u8x8::splat(b'"')) | lanes.simd_eq(u8x8::splat(b'\\'));
+    first_set(marks.to_bitmask(), 8)
+}
+
+// How many of the first bytes are written as they are, up to the first other.
+#[inline(always)]
+fn run_of_few(bytes: &[u8]) -> usize
+    ensures within { result ≤ length bytes.now }
+    ensures plain { ArePlain (take result bytes.now) }
+{
+    if bytes.len() < 8 {
+        return run_by_bytes(bytes);
+    }
+    let run = run_of_eight(bytes);
+    if run < 8 {
+        return run;
+    }
+    8 + run_by_bytes(&bytes[8..])
+}
+
+// How many of the first bytes are written as they stand: with their escapes, up to what is written another way. Where
+// there are 18 bytes left, the letter of an escape is among them.
+#[inline(always)]
+pub(crate) fn kept_len(bytes: &[u8]) -> usize
+    ensures within { result ≤ length bytes.now }
+    ensures kept { (mode : GrammarMode)
+        → WritesItems mode bytes.now (drop result bytes.now) [] (take result bytes.now) }
+{
+    let mut len = 0;
+    'parts: while bytes.len() - len >= 18 {
+        let run = run_of_sixteen(&bytes[len..]);
+        len += run;
+        if run == 16 {
+            continue;
+        }
+        if !begins_kept(&bytes[len..]) {
+            return len;
+        }
+        len += 2;
+    }
+    len + kept_tail(&bytes[len..])
+}
+
+// Does so where few bytes are left.
+#[inline(never)]
+fn kept_tail(bytes: &[u8]) -> usize
+    ensures within { result ≤ length bytes.now }
+    ensures kept { (mode : GrammarMode)
+        → WritesItems mode bytes.now (drop result bytes.now) [] (take result bytes.now) }
+{
+    let mut len = 0;
+    'parts: while len < bytes.len() {
+        let run = run_of_few(&bytes[len..]);
+        len += run;
+        if !begins_kept(&bytes[len..]) {
+            return len;
+        }
+        len += 2;
+    }
+    len
+}
+
+// The digit of a number below 16.
+fn hexadecimal_digit(value: u8) -> u8
+    requires { value < 16 }
+    ensures { result ≡ digit_char value }
+{
+    if value < 10 {
+        b'0' + value
+    } else {
+        b'a' + (value - 10)
+    }
+}
+
+// The escape of a control byte, by its number.
+fn control_text(byte: u8) -> [u8; 6]
+    ensures { result ≡ control_text byte }
+{
+    [
+        b'\\',
+        b'u',
+        b'0',
+        b'0',
+        hexadecimal_digit(byte / 16),
+        hexadecimal_digit(byte % 16),
+    ]
+}
+
+// Appends a byte of the text, with an escape where it needs one.
+fn append_byte(byte: u8, out: &mut Vec<u8>) -> Result<(), AllocError>
+    ensures ok { OnOk result (out.new.items ≡ out.old.items ++ byte_text byte) }
+    ensures kept { Extends out.old.items out.new.items }
+{
+    match byte {
+        b'"' => out.extend_from_slice(b"\\\""),
+        b'\\' => out.extend_from_slice(b"\\\\"),
+        b'\n' => out.extend_from_slice(b"\\n"),
+        b'\r' => out.extend_from_slice(b"\\r"),
+        b'\t' => out.extend_from_slice(b"\\t"),
+        0..0x20 => out.extend_from_slice(&control_text(byte)),
+        _ => out.extend_from_slice(&[byte]),
+    }
+}
+
+// Appends bytes of the text, with the escapes that they need.
+fn append_bytes(bytes: &[u8], out: &mut Vec<u8>) -> Result<(), AllocError>
+    ensures ok { OnOk result (out.new.items ≡ out.old.items ++ flat_map byte_text bytes.now) }
+    ensures kept { Extends out.old.items out.new.items }
+{
+    if run_by_bytes(bytes) == bytes.len() {
+        return out.extend_from_slice(bytes);
+    }
+    'bytes: for byte in bytes {
+        append_byte(*byte, out)?;
+    }
+    Ok(())
+}
+
+// Appends the first item, which isn't written as it stands, and returns what follows it. Contents that were checked
+// have one wherever any bytes are left.
+#[inline(never)]
+fn append_item<'a>(bytes: &'a [u8], mode: Mode, out: &mut Vec<u8>) -> Result<&'a [u8], AllocError>
+    ensures ok { IfOk result (λ rest. WritesItems (mode_of mode) bytes.now rest.now out.old.items out.new.items) }
+    ensures shorter { IfOk result (λ rest. length rest.now ≤ length bytes.now - 1) }
+    ensures kept { Extends out.old.items out.new.items }
+{
+    let Some((byte, rest)) = bytes.split_first() else {
+        return Ok(bytes);
+    };
+    if *byte != b'\\' {
+        append_byte(*byte, out)?;
+        return Ok(rest);
+    }
+    let mut text = [0; 12];
+    let Some((len, rest)) = decode_escape(rest, mode, &mut text) else {
+        return Err(AllocError);
+    };
+    append_bytes(&text[..len], out)?;
+    Ok(rest)
+}
+
+// What follows `\/`, where the bytes begin with it.
+#[inline(always)]
+fn after_slash(bytes: &[u8]) -> Option<&[u8]>
+    ensures some { IfSome result (λ rest. bytes.now ≡ 0x5C ∷ 0x2F ∷ rest.now) }
+{
+    let (first, rest) = bytes.split_first()?;
+    let (second, rest) = rest.split_first()?;
+    if *first == b'\\' && *second == b'/' {
+        Some(rest)
+    } else {
+        None
+    }
+}
+
+// Appends the first item so, which is often `\/`.
+#[inline(always)]
+fn append_next<'a>(bytes: &'a [u8], mode: Mode, out: &mut Vec<u8>) -> Result<&'a [u8], AllocError>
+    ensures ok { IfOk result (λ rest. WritesItems (mode_of mode) bytes.now rest.now out.old.items out.new.items) }
+    ensures shorter { IfOk result (λ rest. length rest.now ≤ length bytes.now - 1) }
+    ensures kept { Extends out.old.items out.new.items }
+{
+    if let Some(rest) = after_slash(bytes) {
+        out.extend_from_slice(b"/")?;
+        return Ok(rest);
+    }
+    append_item(bytes, mode, out)
+}
+
+// Appends the contents of a string. Mostly all of them are written as they stand.
+#[inline(always)]
+pub(crate) fn append_contents(contents: &Contents<'_>, out: &mut Vec<u8>) -> Result<(), AllocError>
+    ensures ok { OnOk result (BeginsAsWritten contents.now
+        → out.new.items ≡ out.old.items ++ flat_map byte_text (text_of_contents contents.now)) }
+    ensures kept { Extends out.old.items out.new.items }
+{
+    let body = contents.body.as_bytes();
+    append_first(body, contents.kept_len, out)?;
+    append_rest(body, contents.kept_len, contents.mode, out)
+}
+
+// Appends what is left of contents, which are written up to an index.
+#[inline(always)]
+fn append_rest(body: &[u8], from: usize, mode: Mode, out: &mut Vec<u8>) -> Result<(), AllocError>
+    requires { from ≤ length body.now }
+    ensures ok { OnOk result ((before : List ℕ)
+        → WritesItems (mode_of mode) body.now (drop from body.now) before out.old.items
+        → out.new.items ≡ before ++ flat_map byte_text (decoded_text (mode_of mode) body.now)) }
+    ensures kept { Extends out.old.items out.new.items }
+{
+    let mut rest = &body[from..];
+    'parts: while !rest.is_empty() {
+        let others = append_next(rest, mode, out)?;
+        let count = kept_len(others);
+        append_first(others, count, out)?;
+        rest = &others[count..];
+    }
+    Ok(())
+}
