@@ -1,5 +1,6 @@
 -- Values that hold no others, and keys.
 pub mod Built
+pub mod Contents
 pub mod FirstBytes
 pub mod Spelled
 pub mod Spellings

@@ -1,13 +1,14 @@
 -- How parsing fails, and what a `Value` and a `JsonAst` hold of what was parsed.
 -- Read for: private.
-use Rattle.std.specs.Prelude.{◌≡◌, ℕ, ◌-◌, Bool, true, false, List, [], ◌∷◌, length, map, Option, Some, None, Result, Ok, Err, String, string_bytes, Vec}
+use Rattle.std.specs.Prelude.{◌≡◌, ℕ, ◌+◌, ◌-◌, Bool, true, false, List, [], ◌∷◌, length, map, Option, Some, None, Result, Ok, Err, String, string_bytes, Vec}
 use Rattle.std.specs.declared.alloc.Global.{Global}
 use Rattle.jsonb_value.specs.declared.error.Error.{Error}
-use Rattle.jsonb_value.specs.declared.error.Error.TheVariants.{OutOfMemory}
+use Rattle.jsonb_value.specs.declared.error.Error.TheVariants.{Syntax, OutOfMemory}
 use Rattle.jsonb_value.specs.declared.value.Value.{Value}
 use Rattle.jsonb_value.specs.Grammar.{AreDistinct, IsNew}
 use Rattle.jsonb_value.specs.Tree.{Mark, Num, Tree, put_all}
 use Rattle.jsonb_value.specs.Tree.Members.{no_members}
+use Rattle.jsonb_value.specs.Code.{code_of}
 use Rattle.jsonb_value.specs.View.{members_view}
 use Rattle.jsonb.specs.declared.parser.frame.Frame.{Frame}
 use Rattle.jsonb.specs.declared.parser.frame.Frame.TheVariants as variants
@@ -15,7 +16,8 @@ use Rattle.jsonb.specs.declared.parser.frame.OpenObject.{OpenObject}
 use Rattle.jsonb_scan.specs.Answer.{Fails}
 use Rattle.jsonb_scan.specs.Open.{Open, elements_so_far, members_so_far}
 use Rattle.jsonb_scan.specs.Reading.{Fault, Read}
-use Rattle.jsonb_scan.specs.Source.{Source, Found, array_source_of, member_of, number_source, source_alone, spot_of}
+use Rattle.jsonb_scan.specs.Reading.String.{Body}
+use Rattle.jsonb_scan.specs.Source.{Source, Found, array_source_of, member_of, number_source, string_source, source_alone, spot_of}
 
 -- ---- how a call fails
 
@@ -53,6 +55,15 @@ IsWritten writes read = (writes ≡ true) × ((s : Source) × (read ≡ Ok s))
 -- of a value that holds no others
 abbrev pub AsScalar : {V : Type 0} → (V → Source → Type 0) → V → Tree → Type 0
 AsScalar Sees v t = Sees v (source_alone t)
+
+-- What was made is of the text that is read of the contents of a string, or the error is their fault, which counts from
+-- this index.
+abbrev pub SeesContents : {V : Type 0} → (V → Source → Type 0) → ℕ → Result V Error → Body (Mark × List ℕ) → Type 0
+SeesContents Sees idx (Ok v) read = (x : Mark × List ℕ) × Sees v (string_source x.0 x.1) × (read ≡ Ok x)
+SeesContents Sees idx (Err (Syntax code place)) read = (count : ℕ) × (read ≡ Err (code_of code, count))
+    × (place ≡ idx + count)
+SeesContents Sees idx (Err OutOfMemory) read = Unit {0}
+SeesContents Sees idx (Err other) read = ⊥
 
 -- of a number
 abbrev pub AsNumber : {V : Type 0} → (V → Source → Type 0) → V → Num → Type 0

@@ -1,10 +1,15 @@
 -- The remaining input of a parser, and what a call of it leaves; `Answer` of `jsonb_scan` again.
 -- Read for: private.
-use Rattle.std.specs.Prelude.{◌≡◌, ℕ, ◌-◌, ◌<◌, ◌≤◌, List, length, drop, slice_index, Option, IfSome, Result, Ok}
+use Rattle.std.specs.Prelude.{◌≡◌, ℕ, ◌+◌, ◌-◌, ◌<◌, ◌≤◌, true, List, length, drop, take, slice_index, Option, IfSome, Result, Ok, slice_range}
 use Rattle.jsonb_value.specs.Mode.{Mode}
+use Rattle.jsonb_value.specs.Text.NumberText.{number_text}
+use Rattle.jsonb_value.specs.Tree.{Num, number}
 use Rattle.jsonb_value.specs.declared.error.Error.{Error}
 use Rattle.jsonb.specs.declared.parser.Parser.{Parser}
+use Rattle.jsonb_scan.specs.Decoding.{TellsBackslash}
 use Rattle.jsonb_scan.specs.Reading.{Read}
+use Rattle.jsonb_scan.specs.Reading.String.{quote_end}
+use Rattle.jsonb_scan.specs.Reading.Scalar.{scalar_at}
 pub use Rattle.jsonb_scan.specs.Answer.{mode_of, NamesFault, Fails, Gives, IsTextRefusal, MayAllocate}
 
 -- the bytes from the index on
@@ -40,3 +45,17 @@ FindsAs view read result old new =
 -- what this function reads from where the reader is
 abbrev pub read_at : {Y : Type 0} → (ℕ → Mode → List ℕ → Read Y) → Parser → Read Y
 read_at read p = read (size_of p) (mode_of p.mode) (rest_of p)
+
+-- The contents of a string in these quotes were passed, and its closing quote, and a backslash is among them.
+pub record PassesContents (quote : ℕ) (old new : Parser) (body : List ℕ) : Type 0 where
+  pub found : quote_end quote (rest_of old) ≡ Ok (length body)
+  pub is : body ≡ take (length body) (rest_of old)
+  pub escaped : TellsBackslash body (length body) true
+  pub within : length body < length (rest_of old)
+  pub rest : rest_of new ≡ drop (length body + 1) (rest_of old)
+
+-- An integer of a standard text is passed that is written by the same bytes again.
+pub record PassesInteger (old new : Parser) : Type 0 where
+  pub value : Num
+  pub reads : read_at scalar_at old ≡ Ok (number value, rest_of new)
+  pub text : slice_range old.buf.now old.idx new.idx ≡ number_text value

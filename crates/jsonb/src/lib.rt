@@ -15,5 +15,6 @@ pub use jsonb_value::value::{Object, Value};
 pub use jsonb_value::{error, extension, number, value};
 pub use laws::{one_decoding, one_reading};
 pub use parser::{
-    JsonAst, Mode, append_sort_key, append_text, parse_value, parse_value_standard_mode,
+    JsonAst, Mode, append_part, append_sort_key, append_text, check, may_allocate, parse_value,
+    parse_value_standard_mode,
 };

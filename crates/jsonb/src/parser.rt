@@ -26,6 +26,7 @@ mod handler;
 mod key;
 mod members;
 mod number;
+mod part;
 mod scalar;
 mod straight;
 mod string;
@@ -36,8 +37,9 @@ use handler::{Failed, Handler};
 pub use jsonb_scan::parser::{Mode, modes_compare};
 use jsonb_value::error::{Error, ParseErrorCode, Result};
 use jsonb_value::value::Value;
+pub use part::append_part;
 use std::alloc::{AllocError, Global};
-pub use straight::{append_sort_key, append_text};
+pub use straight::{append_sort_key, append_text, check, may_allocate};
 
 /// Parses a whole text of standard JSON.
 ///

@@ -1,8 +1,9 @@
 -- What is appended of a document that is parsed for its text or its sort key.
-use Rattle.std.proofs.Common.{◌≡◌, ◌⊎◌, inl, inr, ℕ, true, false, List, Some, Result, Ok, Err, OnOk, refl, ap}
+use Rattle.std.proofs.Common.{◌≡◌, ◌≢◌, ◌⊎◌, inl, inr, ℕ, ◌+◌, ◌<◌, false, List, length, Some, None, Result, Ok, Err, OnOk, IfErr, IfSome, refl, sym, ap, subst, ◌∙◌, [], ◌∷◌}
+use Rattle.std.specs.Prelude.{IsErrOf}
 use Rattle.std.specs.Result.{is_err}
 use Rattle.jsonb_value.specs.declared.error.Error.{Error}
-use Rattle.jsonb_value.specs.declared.error.Error.TheVariants.{OutOfMemory}
+use Rattle.jsonb_value.specs.declared.error.Error.TheVariants.{OutOfMemory, UnexpectedType}
 use Rattle.jsonb_value.specs.Grammar.{IsDocument}
 use Rattle.jsonb_value.specs.Mode.{Mode}
 use Rattle.jsonb_value.specs.Text.{text_of, tree_text}
@@ -10,11 +11,18 @@ use Rattle.jsonb_value.specs.Tree.{Tree}
 use Rattle.jsonb_value.proofs.Trees.DocumentTexts.{document_has_text, some_text}
 use Rattle.jsonb_scan.specs.Reading.Document.{source_of}
 use Rattle.jsonb_scan.specs.Source.{Source, tree_of_source}
-use Rattle.jsonb.specs.Appends.{IsParsed}
-use Rattle.jsonb.specs.Handler.{IsWritten}
+use Rattle.jsonb.specs.Appends.{IsParsed, LacksRoomForText}
 use Rattle.jsonb.proofs.Containers.Values.{document_sound}
 use Rattle.jsonb.proofs.Documents.Agreement.{document_built}
 use Rattle.jsonb.proofs.Documents.Spellings.{document_unique}
+
+-- the only one of a list
+pub same_only : {xs ys : List ℕ} → (xs ∷ []) ≡ (ys ∷ []) → xs ≡ ys
+same_only e = ap first e
+  where
+    first : List (List ℕ) → List ℕ
+    first [] = []
+    first (x ∷ xs) = x
 
 -- a call that returned no error
 pub returned : {X E P : Type 0} (r : Result X E) → is_err r ≡ false → OnOk r P → P
@@ -40,7 +48,20 @@ source_parsed mode text s e =
 pub text_there : (mode : Mode) (text : List ℕ) (t : Tree) → IsDocument mode text t → text_of t ≡ Some (tree_text t)
 text_there mode text t d = some_text t (document_has_text mode text t d)
 
--- memory ran out in a text that may take some, or in a document
-pub document_there : {P : Type 0} (mode : Mode) (text : List ℕ) → P ⊎ IsWritten true (source_of mode text) → P ⊎ ((t : Tree) × IsDocument mode text t)
-document_there mode text (inl h) = inl h
-document_there mode text (inr w) = inr (tree_of_source w.1.0, (source_parsed mode text w.1.0 w.1.1).document)
+-- memory ran out for the text of a document's tree
+pub text_lacks : (mode : Mode) (text : List ℕ) (t : Tree) (r : Result (Unit {0}) Error) (e : Error) (capacity len : ℕ) → IsDocument mode text t → r ≡ Err e → IfErr r (λ e. (e ≡ UnexpectedType) ⊎ (e ≡ OutOfMemory)) → IfErr r (λ e. e ≢ OutOfMemory → text_of t ≡ None)
+    → (IsErrOf r OutOfMemory → IfSome (text_of t) (λ bytes. capacity < len + length bytes)) → LacksRoomForText mode text capacity len
+text_lacks mode text t r e capacity len document is errors refused full = by_error (subst (λ q. IfErr q (λ e. (e ≡ UnexpectedType) ⊎ (e ≡ OutOfMemory))) is errors)
+  where
+    by_error : (e ≡ UnexpectedType) ⊎ (e ≡ OutOfMemory) → LacksRoomForText mode text capacity len
+    by_error (inl other) =
+        let none : text_of t ≡ None = subst (λ q. IfErr q (λ e. e ≢ OutOfMemory → text_of t ≡ None)) is refused (λ same. let f : UnexpectedType ≡ OutOfMemory = sym other ∙ same in cc) in
+        let some : text_of t ≡ Some (tree_text t) = text_there mode text t document in
+        absurd cc
+    by_error (inr same) =
+        let short : IfSome (text_of t) (λ bytes. capacity < len + length bytes) = full (is ∙ ap (λ e. Err e) same) in
+        record {
+          tree = t;
+          document = document;
+          too_short = subst (λ o. IfSome o (λ bytes. capacity < len + length bytes)) (text_there mode text t document) short;
+        }

@@ -30,6 +30,7 @@ use Rattle.jsonb.specs.Frames.{Pushes, PutsIn}
 use Rattle.jsonb.specs.Parser.{Advances, IsBehind, rest_of, size_of}
 use Rattle.jsonb_value.specs.Text.{in_quotes}
 use Rattle.std.proofs.lemmas.List.{drop_more}
+use Rattle.jsonb_write.specs.OpenText.{source_text}
 use Rattle.jsonb.proofs.Scalars.FirstBytes.{standard_number}
 use Rattle.jsonb_scan.proofs.Containers.JoinedParts.{on_byte-none}
 use Rattle.jsonb.proofs.Steps.Failures.{memory_misses, misses_through, untold_misses}
@@ -95,6 +96,20 @@ module _ {R I M K F : Type 0} (silent : Bool) (Stands : List ℕ → R → Bool 
   read_put (Ok x) before key t read after put same memory sees spelled is = (t, is ∙ ap (λ o. Ok (t, rest_of o)) (sym same), λ front k place fs cs stands. put text (source_alone t) front k place fs cs stands sees spelled)
   read_put (Err f) before key t read after put same memory sees spelled is = untold_misses silent r.told read memory
 
+  -- a value that stands there as it is written is pushed
+  pub kept_pushed : (result : Result Unit F) (before : I) (t : Tree) (read : Read Tree) (after : I)
+      → OnOk result ((bytes : List ℕ) → (s : Source) → (ss : List Source) → (fs : List (Frame I M K)) → (cs : List Open) → Stands bytes old false (variants.Array before ∷ fs) (elements_so_far ss ∷ cs) → slice_range bytes from q.idx ≡ source_text s → Stands bytes new false (variants.Array after ∷ fs) (elements_so_far (ss ++ s ∷ []) ∷ cs))
+      → OnOk result (r ≡ q) → IfErr result (λ _. r.told ≡ Some OutOfMemory) → slice_range text from q.idx ≡ source_text (source_alone t) → read ≡ Ok (t, rest_of q) → Pushes silent r.told Stands text result old before read new after (rest_of r)
+  kept_pushed (Ok x) before t read after pushed same memory there is = (t, is ∙ ap (λ o. Ok (t, rest_of o)) (sym same), λ ss fs cs stands. pushed text (source_alone t) ss fs cs stands there)
+  kept_pushed (Err f) before t read after pushed same memory there is = memory_misses silent r.told read memory
+
+  -- and put in under a key
+  pub kept_put : (result : Result Unit F) (before : OpenObject M K) (key : K) (t : Tree) (read : Read Tree) (after : OpenObject M K)
+      → OnOk result ((bytes : List ℕ) → (s : Source) → (front : List Found) → (k : Mark × List ℕ) → (place : ℕ) → (fs : List (Frame I M K)) → (cs : List Open) → Stands bytes old true (variants.Object (record { members = before.members; key = key }) ∷ fs) (members_so_far front k place ∷ cs) → slice_range bytes from q.idx ≡ source_text s → Stands bytes new false (variants.Object after ∷ fs) (members_so_far (front ++ found k s place ∷ []) (plain, []) 0 ∷ cs))
+      → OnOk result (r ≡ q) → IfErr result (λ _. IsUntold silent r.told) → slice_range text from q.idx ≡ source_text (source_alone t) → read ≡ Ok (t, rest_of q) → PutsIn silent r.told Stands text result old before key read new after (rest_of r)
+  kept_put (Ok x) before key t read after put same memory there is = (t, is ∙ ap (λ o. Ok (t, rest_of o)) (sym same), λ front k place fs cs stands. put text (source_alone t) front k place fs cs stands there)
+  kept_put (Err f) before key t read after put same memory there is = untold_misses silent r.told read memory
+
 -- ---- where a scalar stands
 
 -- the bytes between two places of a parser
@@ -138,6 +153,11 @@ key_stands p q r body some on a within behind e =
 pub key_begun : {K A : Type 0} (Stands : List ℕ → Type 0) (Begun : List ℕ → K → Type 0) (made : Result K A) → IfOk made (λ key. (bytes : List ℕ) → Stands bytes → Begun bytes key) → (bytes : List ℕ) → Stands bytes → IfOk made (Begun bytes)
 key_begun Stands Begun (Ok key) h bytes stands = h bytes stands
 key_begun Stands Begun (Err e) h bytes stands = tt
+
+-- and of one that is plain too
+pub plain_key_begun : {K A P : Type 0} (Stands : List ℕ → Type 0) (Begun : List ℕ → K → Type 0) (made : Result K A) → IfOk made (λ key. (bytes : List ℕ) → Stands bytes → P → Begun bytes key) → P → (bytes : List ℕ) → Stands bytes → IfOk made (Begun bytes)
+plain_key_begun Stands Begun (Ok key) h is_plain bytes stands = h bytes stands is_plain
+plain_key_begun Stands Begun (Err e) h is_plain bytes stands = tt
 
 -- a key that a handler made of what was read
 pub key_kept : {K A F : Type 0} (silent : Bool) (Names : K → Mark × List ℕ → ℕ → Type 0) (made : Result K A) (result : Result K F) (size : ℕ) (p q : Parser) (k : Mark × List ℕ) (read : Read (Mark × List ℕ)) → size ≡ size_of p → p.idx ≤ size_of p → IfOk made (λ key. Names key k p.idx)

@@ -20,10 +20,14 @@ impl Parser<'_> {
         ensures passes { MatchBool result (Unit {0}) (skip_closed_blanks (mode_of self.now.mode) (rest_of self.now)
             ≡ rest_of self.now) }
     {
-        match self.peek() {
-            Some(byte) => byte <= b' ' || byte == b'\\' || byte == b'/',
-            None => false,
+        let Some(byte) = self.peek() else {
+            return false;
+        };
+        // Most bytes up to a quote are quotes or blanks.
+        if byte <= b'"' {
+            return byte != b'"';
         }
+        byte == b'\\' || byte == b'/'
     }
 
     // Passes blanks, and a comment that never ends.

@@ -1,27 +1,37 @@
 //! What is made of a text while it is parsed. The parser sends the events of the text's value, and a handler makes
-//! something of them: a `Value`, a `JsonAst`, serialized text or a sort key.
-ghost use Rattle.std.specs.Prelude.{◌≡◌, ℕ, Bool, List, [], ◌∷◌, ◌++◌, MatchBool, Ok, IfOk, IfErr, OnOk, Option, true, false};
+//! something of them: a `Value`, a `JsonAst`, serialized text, a sort key, or nothing at all.
+ghost use Rattle.std.specs.Prelude.{◌≡◌, ◌+◌, ◌^◌, ◌<◌, ℕ, Bool, List, [], ◌∷◌, ◌++◌, length, MatchBool, Ok, IfOk, IfErr, OnOk, Option, true, false, slice_range};
 ghost use Rattle.std.specs.Cow.{cow_str_bytes};
 ghost use Rattle.jsonb_value.specs.declared.error.Error.{Error};
 ghost use Rattle.jsonb_value.specs.Tree.{Mark};
 ghost use Rattle.jsonb_value.specs.Tree.Mark.{plain};
 ghost use Rattle.jsonb_value.specs.View.{mark_view, number_view};
-ghost use Rattle.jsonb.specs.Handler.{Begins, ElseFails};
+ghost use Rattle.jsonb.specs.Handler.{Begins, ElseFails, SeesContents};
 ghost use Rattle.jsonb.specs.Stack.{object_end};
 ghost use Rattle.jsonb.specs.declared.parser.frame.Frame.{Frame};
 ghost use Rattle.jsonb.specs.declared.parser.frame.Frame.TheVariants.{Array, Object};
+ghost use Rattle.jsonb_scan.specs.Answer.{mode_of};
+ghost use Rattle.jsonb_scan.specs.Decoding.{TellsBackslash};
 ghost use Rattle.jsonb_scan.specs.Open.{Open, elements_so_far, members_so_far};
+ghost use Rattle.jsonb_scan.specs.Reading.String.{body_of};
 ghost use Rattle.jsonb_scan.specs.Source.{Source, Found, found, null_source, boolean_source, string_source, number_source, array_source_of};
 ghost use Rattle.jsonb_scan.specs.Spelled.{IsSpelledAt, KeyStandsAt};
+ghost use Rattle.jsonb_write.specs.OpenText.{source_text};
+ghost use Rattle.jsonb_write.specs.PlainText.{ArePlain};
 
 mod ast;
+mod check;
+mod part;
 mod sort_key;
 mod text;
 mod value;
 
+use super::Mode;
 use super::frame::OpenObject;
+pub(super) use check::Checked;
 use jsonb_value::error::Error;
 use jsonb_value::number::Number;
+pub(super) use part::Sought;
 pub(super) use sort_key::KeyPart;
 use std::alloc::{AllocError, Global};
 use std::borrow::CowStr;
@@ -62,13 +72,16 @@ pub(super) trait Handler<'a>: Drop + Sized {
     ghost filled: { List ℕ → Self.Room → Self → Source → List (Frame Self.Items Self.Members Self.Key) → List Open → Type 0 };
 
     // What was in the room before the text, and stays.
-    ghost base: { Self.Room → List ℕ };
+    ghost base: { Self.Room → List (List ℕ) };
 
     // Whether it may fail and tell nothing, so that the text is parsed another way.
     ghost silent: { Bool };
 
     // Whether a scalar takes memory.
     ghost writes: { Bool };
+
+    // Whether scalars are kept that stand in the text as they are written.
+    ghost keeps: { Bool };
 
     fn null() -> Self
         ensures { sees result null_source };
@@ -82,6 +95,29 @@ pub(super) trait Handler<'a>: Drop + Sized {
     fn string(text: CowStr<'a>) -> Self
         ensures { sees result (string_source (mark_view text.entry) (cow_str_bytes text.entry)) };
 
+    // A string that has escapes, given its contents. An error counts from `idx`: the index after the opening quote, and
+    // one more.
+    fn escaped_string(
+        alloc: Global,
+        body: &'a str,
+        mode: Mode,
+        idx: usize,
+    ) -> std::result::Result<Self, Error>
+        requires escaped { TellsBackslash body.now (length body.now) true }
+        requires room { idx + length body.now < 2 ^ 64 }
+        ensures { SeesContents sees idx result (body_of (mode_of mode) body.now) };
+
+    // Whether strings and keys none of whose bytes has an escape in serialized text are told from others.
+    fn tells_plain() -> bool;
+
+    // A string that is told so.
+    fn plain_string(text: &'a str) -> Self
+        ensures { ArePlain text.now → sees result (string_source plain text.now) };
+
+    // Whether integers are kept that are written by the same bytes again.
+    fn keeps_integers() -> bool
+        ensures { result ≡ keeps };
+
     // The whole text is this scalar.
     fn root(
         room: &mut Self::Room,
@@ -94,8 +130,12 @@ pub(super) trait Handler<'a>: Drop + Sized {
         ensures memory { IfErr result (λ _. writes ≡ true) }
         ensures base { base room.new ≡ base room.old };
 
-    // An array is opened.
-    fn items(room: &mut Self::Room, alloc: Global) -> std::result::Result<Self::Items, AllocError>
+    // An array is opened. Its bracket stands in the text at an index.
+    fn items(
+        room: &mut Self::Room,
+        alloc: Global,
+        at: usize,
+    ) -> std::result::Result<Self::Items, AllocError>
         ensures opened { IfOk result (λ items. (text : List ℕ) → (fs : List (Frame Self.Items Self.Members Self.Key))
             → (cs : List Open) → stands text room.old true fs cs
             → stands text room.new false (Array items ∷ fs) (elements_so_far [] ∷ cs)) }
@@ -127,6 +167,21 @@ pub(super) trait Handler<'a>: Drop + Sized {
             → stands text room.new false (Array items.new ∷ fs) (elements_so_far (ss ++ s ∷ []) ∷ cs)) }
         ensures base { base room.new ≡ base room.old };
 
+    // Puts in an element that stands in the text as it is written.
+    fn push_kept(
+        room: &mut Self::Room,
+        items: &mut Self::Items,
+        from: usize,
+        to: usize,
+    ) -> std::result::Result<(), AllocError>
+        requires { keeps ≡ true }
+        ensures put { OnOk result ((text : List ℕ) → (s : Source) → (ss : List Source)
+            → (fs : List (Frame Self.Items Self.Members Self.Key)) → (cs : List Open)
+            → stands text room.old false (Array items.old ∷ fs) (elements_so_far ss ∷ cs)
+            → slice_range text from to ≡ source_text s
+            → stands text room.new false (Array items.new ∷ fs) (elements_so_far (ss ++ s ∷ []) ∷ cs)) }
+        ensures base { base room.new ≡ base room.old };
+
     // Puts in an element that is a container. Where it is the last one, no other follows.
     fn push_inner(
         room: &mut Self::Room,
@@ -140,10 +195,11 @@ pub(super) trait Handler<'a>: Drop + Sized {
             → stands text room.new false (Array items.new ∷ fs) (elements_so_far (ss ++ s ∷ []) ∷ cs)) }
         ensures base { base room.new ≡ base room.old };
 
-    // The array ends.
+    // The array ends. Its bracket stands in the text at an index.
     fn end_items(
         room: &mut Self::Room,
         items: &mut Self::Items,
+        at: usize,
     ) -> std::result::Result<(), AllocError>
         ensures ended { OnOk result ((text : List ℕ) → (ss : List Source)
             → (fs : List (Frame Self.Items Self.Members Self.Key)) → (cs : List Open)
@@ -157,10 +213,11 @@ pub(super) trait Handler<'a>: Drop + Sized {
             → (cs : List Open) → completes text room.now (Array items) s fs cs
             → filled text room.now result s fs cs };
 
-    // An object is opened.
+    // An object is opened. Its brace stands in the text at an index.
     fn members(
         room: &mut Self::Room,
         alloc: Global,
+        at: usize,
     ) -> std::result::Result<Self::Members, AllocError>
         ensures opened { IfOk result (λ members. (text : List ℕ) → (key : Self.Key)
             → (fs : List (Frame Self.Items Self.Members Self.Key)) → (cs : List Open) → stands text room.old true fs cs
@@ -178,6 +235,19 @@ pub(super) trait Handler<'a>: Drop + Sized {
         after: usize,
     ) -> std::result::Result<Self::Key, AllocError>
         ensures begun { IfOk result (λ key. (bytes : List ℕ) → KeyStandsAt bytes text.now from after
+            → Begins (stands bytes) room.old object.old room.new object.new key (plain, text.now) after) }
+        ensures base { base room.new ≡ base room.old };
+
+    // A member begins with such a key that is told so.
+    fn plain_key(
+        room: &mut Self::Room,
+        object: &mut OpenObject<Self::Members, Self::Key>,
+        alloc: Global,
+        text: &'a str,
+        from: usize,
+        after: usize,
+    ) -> std::result::Result<Self::Key, AllocError>
+        ensures begun { IfOk result (λ key. (bytes : List ℕ) → KeyStandsAt bytes text.now from after → ArePlain text.now
             → Begins (stands bytes) room.old object.old room.new object.new key (plain, text.now) after) }
         ensures base { base room.new ≡ base room.old };
 
@@ -213,6 +283,23 @@ pub(super) trait Handler<'a>: Drop + Sized {
             (members_so_far (front ++ found k s place ∷ []) (plain, []) 0 ∷ cs)) (silent ≡ true)) }
         ensures base { base room.new ≡ base room.old };
 
+    // Puts in a member whose value stands in the text as it is written.
+    fn insert_kept(
+        room: &mut Self::Room,
+        object: &mut OpenObject<Self::Members, Self::Key>,
+        key: Self::Key,
+        from: usize,
+        to: usize,
+    ) -> std::result::Result<bool, AllocError>
+        requires { keeps ≡ true }
+        ensures put { IfOk result (λ is_new. MatchBool is_new ((text : List ℕ) → (s : Source) → (front : List Found)
+            → (k : Mark × List ℕ) → (place : ℕ) → (fs : List (Frame Self.Items Self.Members Self.Key)) → (cs : List Open)
+            → stands text room.old true (Object (record { members = object.old.members; key = key }) ∷ fs)
+            (members_so_far front k place ∷ cs) → slice_range text from to ≡ source_text s
+            → stands text room.new false (Object object.new ∷ fs)
+            (members_so_far (front ++ found k s place ∷ []) (plain, []) 0 ∷ cs)) (silent ≡ true)) }
+        ensures base { base room.new ≡ base room.old };
+
     // Puts in a member whose value is a container, under the key that waits for it.
     fn insert_inner(
         room: &mut Self::Room,
@@ -227,12 +314,13 @@ pub(super) trait Handler<'a>: Drop + Sized {
             (members_so_far (front ++ found k s place ∷ []) (plain, []) 0 ∷ cs)) (silent ≡ true)) }
         ensures base { base room.new ≡ base room.old };
 
-    // The object ends. A key that comes twice is told.
+    // The object ends. A key that comes twice is told. Its brace stands in the text at an index.
     fn finish(
         room: &mut Self::Room,
         alloc: Global,
         members: &mut Self::Members,
         told: &mut Option<Error>,
+        at: usize,
     ) -> std::result::Result<(), Failed>
         ensures ended { (text : List ℕ) → (front : List Found) → (key : Self.Key) → (k : Mark × List ℕ) → (place : ℕ)
             → (fs : List (Frame Self.Items Self.Members Self.Key)) → (cs : List Open) → (rest : List ℕ)

@@ -68,8 +68,12 @@ impl<'a> Parser<'a> {
             return self.other_key::<V>(room, object);
         }
         let from = self.idx;
-        if let Some(body) = self.borrowed_string(b'"', text) {
-            let key = V::borrowed_key(room, object, self.alloc, body, from, self.idx);
+        if let Some(cut) = self.cut_string(V::tells_plain(), text) {
+            if cut.is_plain {
+                let key = V::plain_key(room, object, self.alloc, cut.body, from, self.idx);
+                return self.kept(key);
+            }
+            let key = V::borrowed_key(room, object, self.alloc, cut.body, from, self.idx);
             return self.kept(key);
         }
         self.escaped_key::<V>(room, object)

@@ -1,5 +1,5 @@
 //! The numbers of standard texts.
-ghost use Rattle.std.specs.Prelude.{◌≡◌, ◌≢◌, ℕ, List, ◌++◌, ◌+◌, ◌≤◌, ◌<◌, length, slice_index, Err, Some, None, IfNone, IfSome, true, ◌^◌};
+ghost use Rattle.std.specs.Prelude.{◌≡◌, ◌≢◌, ℕ, List, ◌++◌, ◌+◌, ◌≤◌, ◌<◌, length, slice_index, Err, Some, None, IfNone, IfSome, true, ◌^◌, MatchBool};
 ghost use Rattle.jsonb_value.specs.View.{number_view};
 ghost use Rattle.jsonb_value.specs.declared.error.Error.TheVariants.{Syntax, OutOfMemory};
 ghost use Rattle.jsonb_value.specs.declared.error.ParseErrorCode.TheVariants.{InvalidNumberValue};
@@ -7,12 +7,13 @@ ghost use Rattle.jsonb_scan.specs.Answer.{Gives, Fails, mode_of};
 ghost use Rattle.jsonb_value.specs.Mode.{standard};
 ghost use Rattle.jsonb_value.specs.Grammar.StandardNumber.{IsStandardNumber};
 ghost use Rattle.jsonb_value.specs.Tree.{number};
-ghost use Rattle.jsonb.specs.Parser.{rest_of, size_of, Advances, FindsAs};
+ghost use Rattle.jsonb.specs.Parser.{rest_of, size_of, Advances, FindsAs, PassesInteger};
 ghost use Rattle.jsonb_scan.specs.Reading.Scalar.{scalar_at};
 ghost use Rattle.jsonb_scan.specs.ShortInteger.{short_view};
 ghost use Rattle.jsonb_scan.specs.Reading.Number.{ContinuesAfterInteger, digits_from, exponent_from, fraction_from, whole_start, then_from, number_to, standard_number_at};
 
 use super::Parser;
+use jsonb_scan::parser::integer::kept_integer;
 use jsonb_scan::parser::number::{
     ShortInteger, after_minus, byte_at, continues_after_integer, integer, leading_digits,
     number_end, short_integer,
@@ -21,6 +22,27 @@ use jsonb_value::error::{Error, ParseErrorCode, Result};
 use jsonb_value::number::Number;
 
 impl Parser<'_> {
+    // Passes an integer of a standard text that is written by the same bytes again, if that is asked and one comes next.
+    #[inline(always)]
+    pub(super) fn kept_integer(&mut self, is_asked: bool) -> bool
+        requires inside { self.old.idx ≤ size_of self.old }
+        requires mode { mode_of self.old.mode ≡ standard }
+        ensures passes { MatchBool result (PassesInteger self.old self.new) (self.new ≡ self.old) }
+        ensures asked { MatchBool result (is_asked ≡ true) (Unit {0}) }
+        ensures advances { Advances self.old self.new }
+    {
+        if !is_asked {
+            return false;
+        }
+        match kept_integer(self.rest()) {
+            Some(end) => {
+                self.idx += end;
+                true
+            }
+            None => false,
+        }
+    }
+
     // Reads an integer of a standard text, if one of at most 19 digits comes next.
     #[inline(always)]
     pub(super) fn short_integer(&mut self) -> Option<ShortInteger>

@@ -1,5 +1,5 @@
 //! Values that hold no others.
-ghost use Rattle.std.specs.Prelude.{◌≡◌, ◌≢◌, ◌<◌, ◌≤◌, [], ◌∷◌, ◌++◌, drop, length, take, Contains, MatchBool, Err, IfErr, IfNone, IfOk, OnOk, IfSome, Some, true, false, ℕ, List, ◌^◌, pos, neg_ℤ};
+ghost use Rattle.std.specs.Prelude.{◌≡◌, ◌≢◌, ◌<◌, ◌≤◌, [], ◌∷◌, ◌++◌, drop, length, take, Contains, MatchBool, Err, IfErr, IfNone, IfOk, OnOk, IfSome, Some, true, false, ℕ, List, ◌^◌, pos, neg_ℤ, slice_range};
 ghost use Rattle.jsonb_value.specs.Mode.{standard};
 ghost use Rattle.jsonb_value.specs.View.{number_view};
 ghost use Rattle.jsonb.specs.Handler.{AsNumber, AsScalar, Builds, IsUntold};
@@ -11,14 +11,17 @@ ghost use Rattle.jsonb.specs.declared.parser.frame.Frame.TheVariants.{Array, Obj
 ghost use Rattle.jsonb_value.specs.Tree.{Mark, int64};
 ghost use Rattle.jsonb_value.specs.Tree.Mark.{plain};
 ghost use Rattle.jsonb_scan.specs.Open.{Open, elements_so_far, members_so_far};
-ghost use Rattle.jsonb_scan.specs.Source.{Source, Found, found};
+ghost use Rattle.jsonb_scan.specs.Source.{Source, Found, found, string_source};
 ghost use Rattle.jsonb_scan.specs.Spelled.{IsSpelledAt};
+ghost use Rattle.jsonb_write.specs.OpenText.{source_text};
+ghost use Rattle.jsonb_write.specs.PlainText.{ArePlain};
 ghost use Rattle.jsonb.specs.Parser.{rest_of, size_of, Advances, FindsAs, IsBehind, ReadsAs, read_at};
 ghost use Rattle.jsonb_scan.specs.Reading.{begins};
 ghost use Rattle.jsonb_scan.specs.Reading.Scalar.{begins_letter, begins_number, begins_single_quote, folded, letters_at, null_at, number_at, quoted_at, scalar_at, other_scalar_at, words_at};
 
 use super::frame::OpenObject;
 use super::handler::{Failed, Handler};
+use super::string::Cut;
 use super::{Mode, Parser};
 use jsonb_value::error::{Error, ParseErrorCode};
 use jsonb_value::number::Number;
@@ -110,6 +113,66 @@ impl<'a> Parser<'a> {
         self.inserted(inserted)
     }
 
+    // Puts in an element that is a string that was cut out of the text.
+    #[inline(always)]
+    fn push_cut<V: Handler<'a>>(
+        &mut self,
+        room: &mut V::Room,
+        items: &mut V::Items,
+        cut: Cut<'a>,
+        from: usize,
+    ) -> Result<(), Failed>
+        requires plain { cut.is_plain ≡ true → ArePlain cut.body.now }
+        ensures put { OnOk result ((text : List ℕ) → (s : Source) → (ss : List Source)
+            → (fs : List (Frame V.Items V.Members V.Key)) → (cs : List Open)
+            → V.stands text room.old false (Array items.old ∷ fs) (elements_so_far ss ∷ cs)
+            → s ≡ string_source plain cut.entry.body.now → IsSpelledAt text from self.old.idx s
+            → V.stands text room.new false (Array items.new ∷ fs) (elements_so_far (ss ++ s ∷ []) ∷ cs)) }
+        ensures same { OnOk result (self.new ≡ self.old) }
+        ensures memory { IfErr result (λ _. self.new.told ≡ Some Error.OutOfMemory) }
+        ensures advances { Advances self.old self.new }
+        ensures base { V.base room.new ≡ V.base room.old }
+    {
+        if cut.is_plain {
+            return self.push::<V>(room, items, V::plain_string(cut.body), from);
+        }
+        self.push::<V>(room, items, V::string(CowStr::Borrowed(cut.body)), from)
+    }
+
+    // Puts in a member whose value is a string that was cut out of the text.
+    #[inline(always)]
+    fn insert_cut<V: Handler<'a>>(
+        &mut self,
+        room: &mut V::Room,
+        object: &mut OpenObject<V::Members, V::Key>,
+        key: V::Key,
+        cut: Cut<'a>,
+        from: usize,
+    ) -> Result<(), Failed>
+        requires plain { cut.is_plain ≡ true → ArePlain cut.body.now }
+        ensures put { OnOk result ((text : List ℕ) → (s : Source) → (front : List Found) → (k : Mark × List ℕ)
+            → (place : ℕ) → (fs : List (Frame V.Items V.Members V.Key)) → (cs : List Open)
+            → V.stands text room.old true (Object (record { members = object.old.members; key = key }) ∷ fs)
+            (members_so_far front k place ∷ cs) → s ≡ string_source plain cut.entry.body.now
+            → IsSpelledAt text from self.old.idx s → V.stands text room.new false (Object object.new ∷ fs)
+            (members_so_far (front ++ found k s place ∷ []) (plain, []) 0 ∷ cs)) }
+        ensures same { OnOk result (self.new ≡ self.old) }
+        ensures told { IfErr result (λ _. IsUntold V.silent self.new.told) }
+        ensures advances { Advances self.old self.new }
+        ensures base { V.base room.new ≡ V.base room.old }
+    {
+        if cut.is_plain {
+            return self.insert::<V>(room, object, key, V::plain_string(cut.body), from);
+        }
+        self.insert::<V>(
+            room,
+            object,
+            key,
+            V::string(CowStr::Borrowed(cut.body)),
+            from,
+        )
+    }
+
     // Puts in an element that is a scalar. Strings and numbers are put in where they are made, since a value that comes
     // from several arms is copied more than once.
     #[inline(always)]
@@ -128,15 +191,115 @@ impl<'a> Parser<'a> {
     {
         let from = self.idx;
         if self.take_byte(b'"') {
-            if let Some(body) = self.borrowed_string(b'"', text) {
-                return self.push::<V>(room, items, V::string(CowStr::Borrowed(body)), from);
+            if let Some(cut) = self.cut_string(V::tells_plain(), text) {
+                return self.push_cut::<V>(room, items, cut, from);
             }
-            return self.push_escaped::<V>(room, items);
+            return self.push_escaped::<V>(room, items, text);
         }
         match self.mode {
-            Mode::Standard => self.push_standard_scalar::<V>(room, items, text),
+            Mode::Standard => self.push_standard_value::<V>(room, items, text),
             Mode::Extended => self.push_other_scalar::<V>(room, items, text),
         }
+    }
+
+    // Puts in an element that stands in the text from an index up to here as it is written.
+    #[inline(always)]
+    fn push_kept<V: Handler<'a>>(
+        &mut self,
+        room: &mut V::Room,
+        items: &mut V::Items,
+        from: usize,
+    ) -> Result<(), Failed>
+        requires kept { V.keeps ≡ true }
+        ensures put { OnOk result ((text : List ℕ) → (s : Source) → (ss : List Source)
+            → (fs : List (Frame V.Items V.Members V.Key)) → (cs : List Open)
+            → V.stands text room.old false (Array items.old ∷ fs) (elements_so_far ss ∷ cs)
+            → slice_range text from self.old.idx ≡ source_text s
+            → V.stands text room.new false (Array items.new ∷ fs) (elements_so_far (ss ++ s ∷ []) ∷ cs)) }
+        ensures same { OnOk result (self.new ≡ self.old) }
+        ensures memory { IfErr result (λ _. self.new.told ≡ Some Error.OutOfMemory) }
+        ensures advances { Advances self.old self.new }
+        ensures base { V.base room.new ≡ V.base room.old }
+    {
+        if V::push_kept(room, items, from, self.idx).is_err() {
+            return Err(self.out_of_memory());
+        }
+        Ok(())
+    }
+
+    // Puts in a member whose value stands in the text from an index up to here as it is written.
+    #[inline(always)]
+    fn insert_kept<V: Handler<'a>>(
+        &mut self,
+        room: &mut V::Room,
+        object: &mut OpenObject<V::Members, V::Key>,
+        key: V::Key,
+        from: usize,
+    ) -> Result<(), Failed>
+        requires kept { V.keeps ≡ true }
+        ensures put { OnOk result ((text : List ℕ) → (s : Source) → (front : List Found) → (k : Mark × List ℕ)
+            → (place : ℕ) → (fs : List (Frame V.Items V.Members V.Key)) → (cs : List Open)
+            → V.stands text room.old true (Object (record { members = object.old.members; key = key }) ∷ fs)
+            (members_so_far front k place ∷ cs) → slice_range text from self.old.idx ≡ source_text s
+            → V.stands text room.new false (Object object.new ∷ fs)
+            (members_so_far (front ++ found k s place ∷ []) (plain, []) 0 ∷ cs)) }
+        ensures same { OnOk result (self.new ≡ self.old) }
+        ensures told { IfErr result (λ _. IsUntold V.silent self.new.told) }
+        ensures advances { Advances self.old self.new }
+        ensures base { V.base room.new ≡ V.base room.old }
+    {
+        let inserted = V::insert_kept(room, object, key, from, self.idx);
+        self.inserted(inserted)
+    }
+
+    // Puts in an element of a standard text that is a scalar and no string. Many are integers that are written by the
+    // same bytes again.
+    #[inline(always)]
+    fn push_standard_value<V: Handler<'a>>(
+        &mut self,
+        room: &mut V::Room,
+        items: &mut V::Items,
+        text: &'a str,
+    ) -> Result<(), Failed>
+        requires inside { self.old.idx ≤ size_of self.old }
+        requires same { text.now ≡ take (length text.now) self.old.buf.now }
+        requires mode { mode_of self.old.mode ≡ standard }
+        requires no_string { begins 34 (rest_of self.old) ≡ false }
+        ensures reads { Pushes V.silent self.new.told V.stands self.old.buf.now result room.old items.old
+            (read_at scalar_at self.old) room.new items.new (rest_of self.new) }
+        ensures advances { Advances self.old self.new }
+        ensures base { V.base room.new ≡ V.base room.old }
+    {
+        let from = self.idx;
+        if self.kept_integer(V::keeps_integers()) {
+            return self.push_kept::<V>(room, items, from);
+        }
+        self.push_standard_scalar::<V>(room, items, text)
+    }
+
+    // Puts in a member of a standard text whose value is a scalar and no string.
+    #[inline(always)]
+    fn insert_standard_value<V: Handler<'a>>(
+        &mut self,
+        room: &mut V::Room,
+        object: &mut OpenObject<V::Members, V::Key>,
+        key: V::Key,
+        text: &'a str,
+    ) -> Result<(), Failed>
+        requires inside { self.old.idx ≤ size_of self.old }
+        requires same { text.now ≡ take (length text.now) self.old.buf.now }
+        requires mode { mode_of self.old.mode ≡ standard }
+        requires no_string { begins 34 (rest_of self.old) ≡ false }
+        ensures reads { PutsIn V.silent self.new.told V.stands self.old.buf.now result room.old object.old key
+            (read_at scalar_at self.old) room.new object.new (rest_of self.new) }
+        ensures advances { Advances self.old self.new }
+        ensures base { V.base room.new ≡ V.base room.old }
+    {
+        let from = self.idx;
+        if self.kept_integer(V::keeps_integers()) {
+            return self.insert_kept::<V>(room, object, key, from);
+        }
+        self.insert_standard_scalar::<V>(room, object, key, text)
     }
 
     // Puts in an element of a standard text that is a scalar and no string. Most numbers are integers of few digits.
@@ -171,25 +334,25 @@ impl<'a> Parser<'a> {
         }
     }
 
-    // Pushes a string in double quotes that has escapes, or is refused, from the byte after its opening quote on. It
+    // Pushes a string in double quotes that has escapes, or is rejected, from the byte after its opening quote on. It
     // stands apart, since its caller would clear the place of an owned string before each value.
     #[inline(never)]
     fn push_escaped<V: Handler<'a>>(
         &mut self,
         room: &mut V::Room,
         items: &mut V::Items,
+        text: &'a str,
     ) -> Result<(), Failed>
-        requires { self.old.idx ≤ size_of self.old }
+        requires opened { IsBehind 34 self.old }
+        requires inside { self.old.idx ≤ size_of self.old }
+        requires same { text.now ≡ take (length text.now) self.old.buf.now }
         ensures reads { Pushes V.silent self.new.told V.stands self.old.buf.now result room.old items.old
             (read_at (λ size mode. quoted_at size mode 34) self.old) room.new items.new (rest_of self.new) }
         ensures advances { Advances self.old self.new }
         ensures base { V.base room.new ≡ V.base room.old }
     {
-        let string = match self.parse_quoted(b'"') {
-            Ok(string) => string,
-            Err(error) => return Err(self.fail(error)),
-        };
-        self.push::<V>(room, items, V::string(string), self.idx)
+        let value = self.parse_escaped_string::<V>(b'"', text)?;
+        self.push::<V>(room, items, value, self.idx)
     }
 
     // Pushes any other value that holds no others, or tells its fault.
@@ -229,13 +392,13 @@ impl<'a> Parser<'a> {
     {
         let from = self.idx;
         if self.take_byte(b'"') {
-            if let Some(body) = self.borrowed_string(b'"', text) {
-                return self.insert::<V>(room, object, key, V::string(CowStr::Borrowed(body)), from);
+            if let Some(cut) = self.cut_string(V::tells_plain(), text) {
+                return self.insert_cut::<V>(room, object, key, cut, from);
             }
-            return self.insert_escaped::<V>(room, object, key);
+            return self.insert_escaped::<V>(room, object, key, text);
         }
         match self.mode {
-            Mode::Standard => self.insert_standard_scalar::<V>(room, object, key, text),
+            Mode::Standard => self.insert_standard_value::<V>(room, object, key, text),
             Mode::Extended => self.insert_other_scalar::<V>(room, object, key, text),
         }
     }
@@ -280,25 +443,26 @@ impl<'a> Parser<'a> {
         }
     }
 
-    // Puts in a member with a string in double quotes that has escapes, or is rejected, from the byte after its opening quote on.
+    // Puts in a member with a string in double quotes that has escapes, or is rejected, from the byte after its opening
+    // quote on.
     #[inline(never)]
     fn insert_escaped<V: Handler<'a>>(
         &mut self,
         room: &mut V::Room,
         object: &mut OpenObject<V::Members, V::Key>,
         key: V::Key,
+        text: &'a str,
     ) -> Result<(), Failed>
-        requires { self.old.idx ≤ size_of self.old }
+        requires opened { IsBehind 34 self.old }
+        requires inside { self.old.idx ≤ size_of self.old }
+        requires same { text.now ≡ take (length text.now) self.old.buf.now }
         ensures reads { PutsIn V.silent self.new.told V.stands self.old.buf.now result room.old object.old key
             (read_at (λ size mode. quoted_at size mode 34) self.old) room.new object.new (rest_of self.new) }
         ensures advances { Advances self.old self.new }
         ensures base { V.base room.new ≡ V.base room.old }
     {
-        let string = match self.parse_quoted(b'"') {
-            Ok(string) => string,
-            Err(error) => return Err(self.fail(error)),
-        };
-        self.insert::<V>(room, object, key, V::string(string), self.idx)
+        let value = self.parse_escaped_string::<V>(b'"', text)?;
+        self.insert::<V>(room, object, key, value, self.idx)
     }
 
     // Puts in a member with any other value that holds no others, or tells its fault.
@@ -433,8 +597,35 @@ impl<'a> Parser<'a> {
         if let Some(body) = self.borrowed_string(quote, text) {
             return Ok(V::string(CowStr::Borrowed(body)));
         }
-        match self.parse_escaped(quote) {
-            Ok(string) => Ok(V::string(string)),
+        self.parse_escaped_string(quote, text)
+    }
+
+    // A string that has escapes, or is rejected, as a value.
+    #[inline(always)]
+    fn parse_escaped_string<V: Handler<'a>>(
+        &mut self,
+        quote: u8,
+        text: &'a str,
+    ) -> Result<V, Failed>
+        requires no_backslash { quote ≢ 92 }
+        requires ascii { quote < 128 }
+        requires opened { IsBehind quote self.old }
+        requires inside { self.old.idx ≤ size_of self.old }
+        requires same { text.now ≡ take (length text.now) self.old.buf.now }
+        ensures reads { Builds V.silent self.new.told (AsScalar V.sees) result
+            (read_at (λ size mode. quoted_at size mode quote) self.old) (rest_of self.new) }
+        ensures memory { IfErr result (λ _. self.new.told ≡ Some Error.OutOfMemory → Contains self.old.buf.now 92) }
+        ensures advances { Advances self.old self.new }
+    {
+        let from = self.idx;
+        let Some(body) = self.escaped_contents(quote, text) else {
+            return match self.parse_escaped(quote) {
+                Ok(string) => Ok(V::string(string)),
+                Err(error) => Err(self.fail(error)),
+            };
+        };
+        match V::escaped_string(self.alloc, body, self.mode, from + 1) {
+            Ok(value) => Ok(value),
             Err(error) => Err(self.fail(error)),
         }
     }

@@ -1,27 +1,90 @@
-//! Texts that are parsed for their serialized form or their sort key alone.
-ghost use Rattle.std.specs.Prelude.{◌≡◌, ◌≢◌, ◌⊎◌, IfErr, OnErr, OnOk, Err};
+//! Texts that are parsed for their serialized form or their sort key alone, or only checked.
+ghost use Rattle.std.specs.Prelude.{◌≡◌, ◌≢◌, ◌≤◌, ◌⊎◌, vec_len, IfErr, IfOk, MatchBool, OnErr, OnOk, Err};
+ghost use Rattle.std.specs.Vec.{vec_capacity};
 ghost use Rattle.jsonb_value.specs.Grammar.{IsDocument, IsNoDocument};
 ghost use Rattle.jsonb_value.specs.Tree.{Tree};
-ghost use Rattle.jsonb_scan.specs.Answer.{mode_of, Fails, IsTextRefusal, MayAllocate};
+ghost use Rattle.jsonb_value.specs.View.{view};
+ghost use Rattle.jsonb_scan.specs.Answer.{mode_of, Fails, Gives, IsTextRefusal, MayAllocate};
 ghost use Rattle.jsonb_scan.specs.Reading.Document.{document_of};
-ghost use Rattle.jsonb.specs.Appends.{AppendsKeyOf, AppendsTextOf};
+ghost use Rattle.jsonb.specs.Appends.{AppendsKeyOf, AppendsTextOf, IsParsed, LacksRoomForKey, LacksRoomForText};
 ghost use Rattle.jsonb.specs.Refusals.{IsExplained};
 
-use super::handler::KeyPart;
-use super::{Mode, read_document, value_of_tree};
+use super::handler::{Checked, KeyPart};
+use super::{Mode, parse_value, parse_value_standard_mode, read_document};
 use jsonb_value::error::{Error, Result};
+use jsonb_value::value::Value;
+use jsonb_write::check::CheckRoom;
 use jsonb_write::key::KeyRoom;
 use jsonb_write::text::{Part, TextRoom};
+use memchr::memchr3;
 use std::alloc::Global;
 use std::mem;
 
-/// Parses a whole text, and appends its value's serialized form to a buffer. No value is made. After an error `buf` has the same
-/// bytes as before.
+/// Whether a text holds `[`, `{` or a backslash. Without one it takes no memory to parse it.
+///
+/// ```
+/// assert!(rt; jsonb::may_allocate(b"[1]"));
+/// assert!(rt; !jsonb::may_allocate(b"\"abc\""));
+/// ```
+#[inline]
+pub fn may_allocate(text: &[u8]) -> bool
+    ensures { MatchBool result (MayAllocate text.now) (MayAllocate text.now → ⊥) }
+{
+    matches!(text.first(), Some(b'[' | b'{')) || memchr3(b'[', b'{', b'\\', text).is_some()
+}
+
+/// Parses a whole text, and makes nothing of it.
+///
+/// The time is linear in the text, and where the keys of an object don't ascend, its n members cost n log n comparisons
+/// of keys. It allocates for the arrays and objects that are open, an entry for each member of these objects, and for
+/// strings and keys with escapes. Machine stack doesn't grow with the depth of the text.
+///
+/// ```
+/// jsonb::check(rt.alloc(), b"{b: .5, a: null}", Mode::Extended)?;
+/// assert!(rt; jsonb::check(rt.alloc(), b"[1,", Mode::Standard).is_err());
+/// ```
+///
+/// # Errors
+///
+/// Those of [`JsonAst::parse`].
+///
+/// [`JsonAst::parse`]: crate::JsonAst::parse
+pub fn check(alloc: Global, text: &[u8], mode: Mode) -> Result<()>
+    // What is accepted is a document, of one tree.
+    ensures document { OnOk result ((t : Tree) × IsParsed (mode_of mode) text.now t) }
+
+    // What is refused is no document, unless memory ran out.
+    ensures refused { IfErr result (λ e. e ≢ Error.OutOfMemory → IsNoDocument (mode_of mode) text.now) }
+    ensures memory { result ≡ Err Error.OutOfMemory → MayAllocate text.now }
+
+    // Nothing but these two refuses.
+    ensures errors { IfErr result IsTextRefusal }
+
+    // Which fault it is, and where.
+    ensures exact { IfErr result (λ e. Fails e (document_of (mode_of mode) text.now)) }
+
+    // What stands at the place that is named.
+    ensures explained { IfErr result (IsExplained (mode_of mode) text.now) }
+{
+    let mut room = CheckRoom::new(alloc, text);
+    let read = read_document::<Checked>(&mut room, alloc, text, mode);
+    match read {
+        Ok(_) => Ok(()),
+        Err(told) => match told {
+            Some(error) => Err(error),
+            None => unreachable!(),
+        },
+    }
+}
+
+/// Parses a whole text, and appends its value's serialized form to a buffer. No value is made. After an error `buf` has the
+/// same bytes as before.
 ///
 /// The time is linear in the text, and sorting the n members of an object takes n log n comparisons of keys. Besides the
 /// growth of `buf` it allocates an entry for each member of the objects that are open, a copy of an object that is out of
-/// order, and strings and keys with escapes. Machine stack doesn't grow with the depth of the text, but where objects out
-/// of order stand around most of it at more than eight levels: then a value is made after all.
+/// order, and keys with escapes; and strings with escapes where the text isn't UTF-8. Machine stack doesn't grow with
+/// the depth of the text, but where objects out of order stand around most of it at more than eight levels: then a value
+/// is made after all.
 ///
 /// ```
 /// let mut buf = Vec::new(rt.alloc());
@@ -40,8 +103,12 @@ pub fn append_text(alloc: Global, text: &[u8], mode: Mode, buf: &mut Vec<u8>) ->
 
     // What is refused is no document, unless memory ran out.
     ensures refused { IfErr result (λ e. e ≢ Error.OutOfMemory → IsNoDocument (mode_of mode) text.now) }
-    ensures memory { result ≡ Err Error.OutOfMemory
-        → MayAllocate text.now ⊎ ((t : Tree) × IsDocument (mode_of mode) text.now t) }
+    // Memory runs out only where the text may take some, or where the room for all that is appended is missing.
+    ensures memory { result ≡ Err Error.OutOfMemory → MayAllocate text.now
+        ⊎ LacksRoomForText (mode_of mode) text.now (vec_capacity buf.old) (vec_len buf.old) }
+
+    // A buffer that has room keeps it, where the text takes no memory.
+    ensures capacity { MayAllocate text.now ⊎ (vec_capacity buf.old ≤ vec_capacity buf.new) }
 
     // Nothing but these two refuses.
     ensures errors { IfErr result IsTextRefusal }
@@ -52,6 +119,9 @@ pub fn append_text(alloc: Global, text: &[u8], mode: Mode, buf: &mut Vec<u8>) ->
     // What stands at the place that is named.
     ensures explained { IfErr result (IsExplained (mode_of mode) text.now) }
 {
+    if !may_allocate(text) {
+        return append_text_of_value(alloc, text, mode, buf);
+    }
     let out = mem::replace(buf, Vec::new(alloc));
     let mut room = TextRoom::new(alloc, text, out);
     let read = read_document::<Part>(&mut room, alloc, text, mode);
@@ -74,13 +144,14 @@ pub fn append_text(alloc: Global, text: &[u8], mode: Mode, buf: &mut Vec<u8>) ->
     }
 }
 
-/// Parses a whole text, and appends its value's sort key to a buffer. No value is made. After an error `buf` has the same
-/// bytes as before.
+/// Parses a whole text, and appends its value's sort key to a buffer. No value is made. After an error `buf` has the
+/// same bytes as before.
 ///
 /// The time is linear in the text, and sorting the n members of an object takes n log n comparisons of keys. Besides the
 /// growth of `buf` it allocates an entry for each member of the objects that are open, a copy of an object that is out of
-/// order, and strings and keys with escapes. Machine stack doesn't grow with the depth of the text, but where objects out
-/// of order stand around most of it at more than eight levels: then a value is made after all.
+/// order, and keys with escapes; and strings with escapes where they mean a zero or the text isn't UTF-8. Machine stack
+/// doesn't grow with the depth of the text, but where objects out of order stand around most of it at more than eight
+/// levels: then a value is made after all.
 ///
 /// ```
 /// let mut buf = Vec::new(rt.alloc());
@@ -99,8 +170,12 @@ pub fn append_sort_key(alloc: Global, text: &[u8], mode: Mode, buf: &mut Vec<u8>
 
     // What is refused is no document, unless memory ran out.
     ensures refused { IfErr result (λ e. e ≢ Error.OutOfMemory → IsNoDocument (mode_of mode) text.now) }
-    ensures memory { result ≡ Err Error.OutOfMemory
-        → MayAllocate text.now ⊎ ((t : Tree) × IsDocument (mode_of mode) text.now t) }
+    // Memory runs out only where the text may take some, or where the room for all that is appended is missing.
+    ensures memory { result ≡ Err Error.OutOfMemory → MayAllocate text.now
+        ⊎ LacksRoomForKey (mode_of mode) text.now (vec_capacity buf.old) (vec_len buf.old) }
+
+    // A buffer that has room keeps it, where the text takes no memory.
+    ensures capacity { MayAllocate text.now ⊎ (vec_capacity buf.old ≤ vec_capacity buf.new) }
 
     // Nothing but these two refuses.
     ensures errors { IfErr result IsTextRefusal }
@@ -111,6 +186,9 @@ pub fn append_sort_key(alloc: Global, text: &[u8], mode: Mode, buf: &mut Vec<u8>
     // What stands at the place that is named.
     ensures explained { IfErr result (IsExplained (mode_of mode) text.now) }
 {
+    if !may_allocate(text) {
+        return append_sort_key_of_value(alloc, text, mode, buf);
+    }
     let out = mem::replace(buf, Vec::new(alloc));
     let mut room = KeyRoom::new(alloc, text, out);
     let read = read_document::<KeyPart>(&mut room, alloc, text, mode);
@@ -133,21 +211,39 @@ pub fn append_sort_key(alloc: Global, text: &[u8], mode: Mode, buf: &mut Vec<u8>
     }
 }
 
-// Appends the serialized form of a text's value, which is made first. Where an object holds most of the text at many levels, and
-// its members are out of order at each, this takes less time.
+// The value of a text, by the parser of the mode.
+pub(super) fn value_of(alloc: Global, text: &[u8], mode: Mode) -> Result<Value<'_>>
+    ensures document { IfOk result (λ v. IsDocument (mode_of mode) text.now (view v)) }
+    ensures only { IfOk result (λ v. (t : Tree) → IsDocument (mode_of mode) text.now t → t ≡ view v) }
+    ensures refused { IfErr result (λ e. e ≢ Error.OutOfMemory → IsNoDocument (mode_of mode) text.now) }
+    ensures memory { result ≡ Err Error.OutOfMemory → MayAllocate text.now }
+    ensures errors { IfErr result IsTextRefusal }
+    ensures exact { Gives view result (document_of (mode_of mode) text.now) }
+    ensures explained { IfErr result (IsExplained (mode_of mode) text.now) }
+{
+    match mode {
+        Mode::Standard => parse_value_standard_mode(alloc, text),
+        Mode::Extended => parse_value(alloc, text),
+    }
+}
+
+// Appends the serialized form of a text's value, which is made first. Scalars without escapes go this way, of which it
+// takes no memory but the room that `buf` lacks. So do texts where an object holds most of the text at many levels, and
+// its members are out of order at each: there it takes less time.
 #[cold]
 #[inline(never)]
 fn append_text_of_value(alloc: Global, text: &[u8], mode: Mode, buf: &mut Vec<u8>) -> Result<()>
     ensures ok { OnOk result (AppendsTextOf (mode_of mode) text.now buf.old.items buf.new.items) }
     ensures err { OnErr result (buf.new.items ≡ buf.old.items) }
     ensures refused { IfErr result (λ e. e ≢ Error.OutOfMemory → IsNoDocument (mode_of mode) text.now) }
-    ensures memory { result ≡ Err Error.OutOfMemory
-        → MayAllocate text.now ⊎ ((t : Tree) × IsDocument (mode_of mode) text.now t) }
+    ensures memory { result ≡ Err Error.OutOfMemory → MayAllocate text.now
+        ⊎ LacksRoomForText (mode_of mode) text.now (vec_capacity buf.old) (vec_len buf.old) }
+    ensures capacity { MayAllocate text.now ⊎ (vec_capacity buf.old ≤ vec_capacity buf.new) }
     ensures errors { IfErr result IsTextRefusal }
     ensures exact { IfErr result (λ e. Fails e (document_of (mode_of mode) text.now)) }
     ensures explained { IfErr result (IsExplained (mode_of mode) text.now) }
 {
-    let value = value_of_tree(alloc, text, mode, None)?;
+    let value = value_of(alloc, text, mode)?;
     let written = value.write_text(buf);
     value.dismantle();
     match written {
@@ -156,21 +252,23 @@ fn append_text_of_value(alloc: Global, text: &[u8], mode: Mode, buf: &mut Vec<u8
     }
 }
 
-// Appends the sort key of a text's value, which is made first. Where an object holds most of the text at many levels, and
-// its members are out of order at each, this takes less time.
+// Appends the sort key of a text's value, which is made first. Scalars without escapes go this way, of which it takes no
+// memory but the room that `buf` lacks. So do texts where an object holds most of the text at many levels, and its
+// members are out of order at each: there it takes less time.
 #[cold]
 #[inline(never)]
 fn append_sort_key_of_value(alloc: Global, text: &[u8], mode: Mode, buf: &mut Vec<u8>) -> Result<()>
     ensures ok { OnOk result (AppendsKeyOf (mode_of mode) text.now buf.old.items buf.new.items) }
     ensures err { OnErr result (buf.new.items ≡ buf.old.items) }
     ensures refused { IfErr result (λ e. e ≢ Error.OutOfMemory → IsNoDocument (mode_of mode) text.now) }
-    ensures memory { result ≡ Err Error.OutOfMemory
-        → MayAllocate text.now ⊎ ((t : Tree) × IsDocument (mode_of mode) text.now t) }
+    ensures memory { result ≡ Err Error.OutOfMemory → MayAllocate text.now
+        ⊎ LacksRoomForKey (mode_of mode) text.now (vec_capacity buf.old) (vec_len buf.old) }
+    ensures capacity { MayAllocate text.now ⊎ (vec_capacity buf.old ≤ vec_capacity buf.new) }
     ensures errors { IfErr result IsTextRefusal }
     ensures exact { IfErr result (λ e. Fails e (document_of (mode_of mode) text.now)) }
     ensures explained { IfErr result (IsExplained (mode_of mode) text.now) }
 {
-    let value = value_of_tree(alloc, text, mode, None)?;
+    let value = value_of(alloc, text, mode)?;
     let written = value.write_sort_key(buf);
     value.dismantle();
     match written {

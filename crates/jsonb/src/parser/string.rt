@@ -1,16 +1,26 @@
 //! Quoted strings.
-ghost use Rattle.std.specs.Prelude.{◌≡◌, ◌≢◌, ◌+◌, ◌<◌, ◌≤◌, Contains, Err, IfNone, IfSome, length, take, ◌++◌, ◌∷◌};
+ghost use Rattle.std.specs.Prelude.{◌≡◌, ◌≢◌, ◌+◌, ◌<◌, ◌≤◌, Contains, Err, IfNone, IfSome, length, take, ◌++◌, ◌∷◌, true};
 ghost use Rattle.std.specs.Cow.{cow_str_bytes};
 ghost use Rattle.jsonb_value.specs.View.{mark_view};
 ghost use Rattle.jsonb_value.specs.Tree.Mark.{plain};
-ghost use Rattle.jsonb.specs.Parser.{rest_of, size_of, Advances, FindsAs, IsBehind, ReadsAs};
+ghost use Rattle.jsonb.specs.Parser.{rest_of, size_of, Advances, FindsAs, IsBehind, PassesContents, ReadsAs};
 ghost use Rattle.jsonb_scan.specs.Reading.String.{string_at};
+ghost use Rattle.jsonb_write.specs.PlainText.{ArePlain};
 
 use super::Parser;
 use jsonb_scan::parser::string::{StringEnd, decode_contents, find_end, next_mark};
 use jsonb_value::error::{Error, ParseErrorCode, Result};
+use jsonb_write::plain::plain_len;
 use std::borrow::CowStr;
 use std::simd::prelude::*;
+
+// A string without escapes that was cut out of the text, and whether it is known that none of its bytes is written as an
+// escape.
+#[derive(Clone, Copy)]
+pub(super) struct Cut<'a> {
+    pub(super) body: &'a str,
+    pub(super) is_plain: bool,
+}
 
 impl<'a> Parser<'a> {
     // Reads a string from the byte after its opening quote on. It is borrowed where no backslash is in it.
@@ -42,7 +52,8 @@ impl<'a> Parser<'a> {
         }
     }
 
-    // A string that has escapes, or is refused.
+    // A string of a text that isn't UTF-8, or one that is rejected.
+    #[cold]
     #[inline(never)]
     pub(super) fn parse_escaped(&mut self, quote: u8) -> Result<CowStr<'a>>
         requires no_backslash { quote ≢ 92 }
@@ -87,5 +98,92 @@ impl<'a> Parser<'a> {
         let _bytes = body.as_bytes();
         self.idx = after + 1;
         Some(body)
+    }
+
+    // The contents of a string that has escapes, from the byte after its opening quote on. No character crosses a quote,
+    // so that they are cut out of the text as above.
+    #[inline(always)]
+    pub(super) fn escaped_contents(&mut self, quote: u8, text: &'a str) -> Option<&'a str>
+        requires no_backslash { quote ≢ 92 }
+        requires ascii { quote < 128 }
+        requires opened { IsBehind quote self.old }
+        requires inside { self.old.idx ≤ size_of self.old }
+        requires same { text.now ≡ take (length text.now) self.old.buf.now }
+        ensures passes { IfSome result (λ body. PassesContents quote self.old self.new body.now) }
+        ensures stays { IfNone result (self.new ≡ self.old) }
+        ensures advances { Advances self.old self.new }
+    {
+        let rest = self.rest();
+        let StringEnd::Closed { end, escaped } = find_end(rest, quote) else {
+            return None;
+        };
+        if !escaped {
+            return None;
+        }
+        let close = self.idx + end;
+        if close > text.len() {
+            return None;
+        }
+        let body = &text[self.idx..close];
+        self.idx = close + 1;
+        Some(body)
+    }
+
+    // A string none of whose bytes is written as an escape, from the byte after its opening double quote on.
+    #[inline(always)]
+    fn plain_string(&mut self, text: &'a str) -> Option<&'a str>
+        requires opened { IsBehind 34 self.old }
+        requires inside { self.old.idx ≤ size_of self.old }
+        requires same { text.now ≡ take (length text.now) self.old.buf.now }
+        ensures reads { FindsAs (λ s. (plain, s.now)) (λ size mode. string_at size mode 34) result self.old self.new }
+        ensures spelled { IfSome result (λ s. rest_of self.old ≡ s.now ++ 34 ∷ rest_of self.new) }
+        ensures plain { IfSome result (λ s. ArePlain s.now) }
+        ensures stays { IfNone result (self.new ≡ self.old) }
+        ensures advances { Advances self.old self.new }
+    {
+        let rest = self.rest();
+        let end = plain_len(rest);
+        if end == rest.len() {
+            return None;
+        }
+        if rest[end] != b'"' {
+            return None;
+        }
+        let after = self.idx + end;
+        if after > text.len() {
+            return None;
+        }
+        let body = &text[self.idx..after];
+        // Tells that the body is UTF-8.
+        let _bytes = body.as_bytes();
+        self.idx += end + 1;
+        Some(body)
+    }
+
+    // A string that can be cut out of the text, from the byte after its opening double quote on.
+    #[inline(always)]
+    pub(super) fn cut_string(&mut self, tells_plain: bool, text: &'a str) -> Option<Cut<'a>>
+        requires opened { IsBehind 34 self.old }
+        requires inside { self.old.idx ≤ size_of self.old }
+        requires same { text.now ≡ take (length text.now) self.old.buf.now }
+        ensures reads { FindsAs (λ cut. (plain, cut.body.now)) (λ size mode. string_at size mode 34) result self.old
+            self.new }
+        ensures spelled { IfSome result (λ cut. rest_of self.old ≡ cut.body.now ++ 34 ∷ rest_of self.new) }
+        ensures plain { IfSome result (λ cut. cut.is_plain ≡ true → ArePlain cut.body.now) }
+        ensures stays { IfNone result (self.new ≡ self.old) }
+        ensures advances { Advances self.old self.new }
+    {
+        if tells_plain {
+            let body = self.plain_string(text)?;
+            return Some(Cut {
+                body,
+                is_plain: true,
+            });
+        }
+        let body = self.borrowed_string(b'"', text)?;
+        Some(Cut {
+            body,
+            is_plain: false,
+        })
     }
 }

@@ -76,7 +76,8 @@ impl<'a> Parser<'a> {
         let Some(mut frame) = stack.pop() else {
             unreachable!();
         };
-        finish::<V>(room, self.alloc, &mut frame, &mut self.told)?;
+        let after = self.idx;
+        finish::<V>(room, self.alloc, &mut frame, &mut self.told, after)?;
         Ok(frame_value::<V>(room, frame))
     }
 
@@ -136,8 +137,9 @@ impl<'a> Parser<'a> {
             let error = self.too_deep();
             return Err(self.fail(error));
         }
+        let at = self.idx;
         if self.take_byte(b'[') {
-            let Ok(items) = V::items(room, self.alloc) else {
+            let Ok(items) = V::items(room, self.alloc, at) else {
                 return Err(self.out_of_memory());
             };
             let Ok(()) = stack.push(Frame::Array(items)) else {
@@ -147,7 +149,7 @@ impl<'a> Parser<'a> {
             return Ok(self.take_byte(b']'));
         }
         self.idx += 1;
-        let Ok(members) = V::members(room, self.alloc) else {
+        let Ok(members) = V::members(room, self.alloc, at) else {
             return Err(self.out_of_memory());
         };
         let key = V::no_key(self.alloc);
@@ -411,7 +413,8 @@ impl<'a> Parser<'a> {
         let Some(mut inner) = stack.pop() else {
             unreachable!();
         };
-        finish::<V>(room, self.alloc, &mut inner, &mut self.told)?;
+        let after = self.idx;
+        finish::<V>(room, self.alloc, &mut inner, &mut self.told, after)?;
         let value = frame_value::<V>(room, inner);
         let Some(outer) = stack.last_mut() else {
             unreachable!();
@@ -447,13 +450,14 @@ impl<'a> Parser<'a> {
     }
 }
 
-// What comes at the end of a container: a key that comes twice is told.
+// What comes at the end of a container, whose closing byte stands before an index: a key that comes twice is told.
 #[inline(always)]
 fn finish<'a, V: Handler<'a>>(
     room: &mut V::Room,
     alloc: Global,
     frame: &mut FrameOf<'a, V>,
     told: &mut Option<Error>,
+    after: usize,
 ) -> Result<(), Failed>
     ensures ended { (text : List ℕ) → (c : Open) → (rest : List ℕ) → (fs : List (Frame V.Items V.Members V.Key))
         → (cs : List Open) → Fits frame.old c → V.stands text room.old false (frame.old ∷ fs) (c ∷ cs)
@@ -461,15 +465,16 @@ fn finish<'a, V: Handler<'a>>(
         × V.completes text room.new frame.new s fs cs × (finish_container c rest ≡ Ok (s, rest))) }
     ensures base { V.base room.new ≡ V.base room.old }
 {
+    let at = after.wrapping_sub(1);
     match frame {
         Frame::Array(items) => {
-            if V::end_items(room, items).is_err() {
+            if V::end_items(room, items, at).is_err() {
                 *told = Some(Error::OutOfMemory);
                 return Err(Failed);
             }
             Ok(())
         }
-        Frame::Object(object) => V::finish(room, alloc, &mut object.members, told),
+        Frame::Object(object) => V::finish(room, alloc, &mut object.members, told, at),
     }
 }
 

@@ -8,9 +8,10 @@ ghost use Rattle.jsonb_scan.specs.Source.{object_source, source_members_of};
 
 use super::value::{make_room, push_scalar};
 use super::{Failed, Handler};
-use crate::parser::JsonAst;
 use crate::parser::frame::OpenObject;
 use crate::parser::members::{Member, settle_members};
+use crate::parser::{JsonAst, Mode};
+use jsonb_scan::parser::string::decode_contents;
 use jsonb_value::error::Error;
 use jsonb_value::number::Number;
 use std::alloc::{AllocError, Global};
@@ -40,6 +41,8 @@ impl<'a> Handler<'a> for JsonAst<'a> {
 
     ghost writes = { false };
 
+    ghost keeps = { false };
+
     fn null() -> Self {
         JsonAst::Null
     }
@@ -57,12 +60,35 @@ impl<'a> Handler<'a> for JsonAst<'a> {
     }
 
     #[inline(always)]
+    fn escaped_string(alloc: Global, body: &'a str, mode: Mode, idx: usize) -> Result<Self, Error> {
+        let text = decode_contents(alloc, body.as_bytes(), mode, true, idx)?;
+        Ok(JsonAst::String(text))
+    }
+
+    #[inline(always)]
+    fn tells_plain() -> bool {
+        false
+    }
+
+    #[inline(always)]
+    fn plain_string(text: &'a str) -> Self {
+        JsonAst::String(CowStr::Borrowed(text))
+    }
+
+    #[inline(always)]
+    fn keeps_integers() -> bool
+        ensures { result ≡ false }
+    {
+        false
+    }
+
+    #[inline(always)]
     fn root(room: &mut (), value: &Self, from: usize, to: usize) -> Result<(), AllocError> {
         Ok(())
     }
 
     #[inline(always)]
-    fn items(room: &mut (), alloc: Global) -> Result<Vec<Self>, AllocError> {
+    fn items(room: &mut (), alloc: Global, at: usize) -> Result<Vec<Self>, AllocError> {
         Ok(Vec::new(alloc))
     }
 
@@ -83,6 +109,16 @@ impl<'a> Handler<'a> for JsonAst<'a> {
     }
 
     #[inline(always)]
+    fn push_kept(
+        room: &mut (),
+        items: &mut Vec<Self>,
+        from: usize,
+        to: usize,
+    ) -> Result<(), AllocError> {
+        unreachable!()
+    }
+
+    #[inline(always)]
     fn push_inner(
         room: &mut (),
         items: &mut Vec<Self>,
@@ -94,7 +130,7 @@ impl<'a> Handler<'a> for JsonAst<'a> {
     }
 
     #[inline(always)]
-    fn end_items(room: &mut (), items: &mut Vec<Self>) -> Result<(), AllocError> {
+    fn end_items(room: &mut (), items: &mut Vec<Self>, at: usize) -> Result<(), AllocError> {
         Ok(())
     }
 
@@ -104,12 +140,24 @@ impl<'a> Handler<'a> for JsonAst<'a> {
     }
 
     #[inline(always)]
-    fn members(room: &mut (), alloc: Global) -> Result<Vec<Member<'a>>, AllocError> {
+    fn members(room: &mut (), alloc: Global, at: usize) -> Result<Vec<Member<'a>>, AllocError> {
         Ok(Vec::new(alloc))
     }
 
     #[inline(always)]
     fn borrowed_key(
+        room: &mut (),
+        object: &mut OpenObject<Vec<Member<'a>>, (CowStr<'a>, usize)>,
+        alloc: Global,
+        text: &'a str,
+        from: usize,
+        after: usize,
+    ) -> Result<(CowStr<'a>, usize), AllocError> {
+        Ok((CowStr::Borrowed(text), after))
+    }
+
+    #[inline(always)]
+    fn plain_key(
         room: &mut (),
         object: &mut OpenObject<Vec<Member<'a>>, (CowStr<'a>, usize)>,
         alloc: Global,
@@ -151,6 +199,17 @@ impl<'a> Handler<'a> for JsonAst<'a> {
     }
 
     #[inline(always)]
+    fn insert_kept(
+        room: &mut (),
+        object: &mut OpenObject<Vec<Member<'a>>, (CowStr<'a>, usize)>,
+        key: (CowStr<'a>, usize),
+        from: usize,
+        to: usize,
+    ) -> Result<bool, AllocError> {
+        unreachable!()
+    }
+
+    #[inline(always)]
     fn insert_inner(
         room: &mut (),
         object: &mut OpenObject<Vec<Member<'a>>, (CowStr<'a>, usize)>,
@@ -168,6 +227,7 @@ impl<'a> Handler<'a> for JsonAst<'a> {
         alloc: Global,
         members: &mut Vec<Member<'a>>,
         told: &mut Option<Error>,
+        at: usize,
     ) -> Result<(), Failed> {
         if let Err(error) = settle_members(alloc, members) {
             *told = Some(error);

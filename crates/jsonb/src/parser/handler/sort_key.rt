@@ -1,5 +1,5 @@
 //! A sort key is written while a text is parsed, and no value is made.
-ghost use Rattle.std.specs.Prelude.{◌≡◌, ℕ, List, true, false, map};
+ghost use Rattle.std.specs.Prelude.{◌≡◌, ◌∷◌, [], ℕ, List, true, false, map};
 ghost use Rattle.jsonb.specs.Handler.{Misses};
 ghost use Rattle.jsonb.specs.Held.{key_held};
 ghost use Rattle.jsonb.specs.Stack.{object_end};
@@ -8,9 +8,11 @@ ghost use Rattle.jsonb_write.specs.KeyRoom.{KeyFilled, KeyStands, TellsRepeatOf,
 ghost use Rattle.jsonb_write.specs.TextRoom.{SeesPart};
 
 use super::{Failed, Handler};
+use crate::parser::Mode;
 use crate::parser::frame::OpenObject;
 use jsonb_value::error::{Error, ParseErrorCode};
 use jsonb_value::number::Number;
+use jsonb_write::contents::Contents;
 use jsonb_write::key::KeyRoom;
 use jsonb_write::text::Part;
 use std::alloc::{AllocError, Global};
@@ -41,11 +43,13 @@ impl<'a> Handler<'a> for KeyPart<'a> {
 
     ghost filled = { λ text room v s fs cs. KeyFilled text room s (map key_held fs) cs };
 
-    ghost base = { λ room. base_of room };
+    ghost base = { λ room. base_of room ∷ [] };
 
     ghost silent = { true };
 
     ghost writes = { true };
+
+    ghost keeps = { false };
 
     #[inline(always)]
     fn null() -> Self {
@@ -74,6 +78,33 @@ impl<'a> Handler<'a> for KeyPart<'a> {
     }
 
     #[inline(always)]
+    fn escaped_string(alloc: Global, body: &'a str, mode: Mode, idx: usize) -> Result<Self, Error> {
+        let contents = Contents::for_key(body, mode, idx)?;
+        Ok(KeyPart {
+            part: Part::Contents(contents),
+        })
+    }
+
+    #[inline(always)]
+    fn tells_plain() -> bool {
+        true
+    }
+
+    #[inline(always)]
+    fn plain_string(text: &'a str) -> Self {
+        KeyPart {
+            part: Part::Plain(text),
+        }
+    }
+
+    #[inline(always)]
+    fn keeps_integers() -> bool
+        ensures { result ≡ false }
+    {
+        false
+    }
+
+    #[inline(always)]
     fn root(
         room: &mut KeyRoom<'a>,
         value: &Self,
@@ -84,7 +115,7 @@ impl<'a> Handler<'a> for KeyPart<'a> {
     }
 
     #[inline(always)]
-    fn items(room: &mut KeyRoom<'a>, alloc: Global) -> Result<(), AllocError> {
+    fn items(room: &mut KeyRoom<'a>, alloc: Global, at: usize) -> Result<(), AllocError> {
         room.begin_array()
     }
 
@@ -105,6 +136,16 @@ impl<'a> Handler<'a> for KeyPart<'a> {
     }
 
     #[inline(always)]
+    fn push_kept(
+        room: &mut KeyRoom<'a>,
+        items: &mut (),
+        from: usize,
+        to: usize,
+    ) -> Result<(), AllocError> {
+        unreachable!()
+    }
+
+    #[inline(always)]
     fn push_inner(
         room: &mut KeyRoom<'a>,
         items: &mut (),
@@ -116,7 +157,7 @@ impl<'a> Handler<'a> for KeyPart<'a> {
     }
 
     #[inline(always)]
-    fn end_items(room: &mut KeyRoom<'a>, items: &mut ()) -> Result<(), AllocError> {
+    fn end_items(room: &mut KeyRoom<'a>, items: &mut (), at: usize) -> Result<(), AllocError> {
         room.end_array()
     }
 
@@ -128,7 +169,7 @@ impl<'a> Handler<'a> for KeyPart<'a> {
     }
 
     #[inline(always)]
-    fn members(room: &mut KeyRoom<'a>, alloc: Global) -> Result<usize, AllocError> {
+    fn members(room: &mut KeyRoom<'a>, alloc: Global, at: usize) -> Result<usize, AllocError> {
         room.begin_object()
     }
 
@@ -142,6 +183,18 @@ impl<'a> Handler<'a> for KeyPart<'a> {
         after: usize,
     ) -> Result<(), AllocError> {
         room.borrowed_key(object.members, text, from, after)
+    }
+
+    #[inline(always)]
+    fn plain_key(
+        room: &mut KeyRoom<'a>,
+        object: &mut OpenObject<usize, ()>,
+        alloc: Global,
+        text: &'a str,
+        from: usize,
+        after: usize,
+    ) -> Result<(), AllocError> {
+        room.plain_key(object.members, text, from, after)
     }
 
     #[inline(always)]
@@ -174,6 +227,17 @@ impl<'a> Handler<'a> for KeyPart<'a> {
     }
 
     #[inline(always)]
+    fn insert_kept(
+        room: &mut KeyRoom<'a>,
+        object: &mut OpenObject<usize, ()>,
+        key: (),
+        from: usize,
+        to: usize,
+    ) -> Result<bool, AllocError> {
+        unreachable!()
+    }
+
+    #[inline(always)]
     fn insert_inner(
         room: &mut KeyRoom<'a>,
         object: &mut OpenObject<usize, ()>,
@@ -190,6 +254,7 @@ impl<'a> Handler<'a> for KeyPart<'a> {
         alloc: Global,
         members: &mut usize,
         told: &mut Option<Error>,
+        at: usize,
     ) -> Result<(), Failed> {
         if room.moved_much() {
             *told = None;

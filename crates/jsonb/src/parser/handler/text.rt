@@ -1,5 +1,5 @@
 //! Serialized text is written while a text is parsed, and no value is made.
-ghost use Rattle.std.specs.Prelude.{◌≡◌, ℕ, List, true, false, map};
+ghost use Rattle.std.specs.Prelude.{◌≡◌, ◌∷◌, [], ℕ, List, true, false, map};
 ghost use Rattle.jsonb.specs.Handler.{Misses};
 ghost use Rattle.jsonb.specs.Held.{text_held};
 ghost use Rattle.jsonb.specs.Stack.{object_end};
@@ -7,9 +7,11 @@ ghost use Rattle.jsonb_scan.specs.Source.{Found};
 ghost use Rattle.jsonb_write.specs.TextRoom.{SeesPart, TellsRepeatOf, TextFilled, TextStands, base_of};
 
 use super::{Failed, Handler};
+use crate::parser::Mode;
 use crate::parser::frame::OpenObject;
 use jsonb_value::error::{Error, ParseErrorCode};
 use jsonb_value::number::Number;
+use jsonb_write::contents::Contents;
 use jsonb_write::text::{Part, TextRoom};
 use std::alloc::{AllocError, Global};
 use std::borrow::CowStr;
@@ -33,11 +35,13 @@ impl<'a> Handler<'a> for Part<'a> {
 
     ghost filled = { λ text room v s fs cs. TextFilled text room s (map text_held fs) cs };
 
-    ghost base = { λ room. base_of room };
+    ghost base = { λ room. base_of room ∷ [] };
 
     ghost silent = { true };
 
     ghost writes = { true };
+
+    ghost keeps = { true };
 
     #[inline(always)]
     fn null() -> Self {
@@ -60,6 +64,29 @@ impl<'a> Handler<'a> for Part<'a> {
     }
 
     #[inline(always)]
+    fn escaped_string(alloc: Global, body: &'a str, mode: Mode, idx: usize) -> Result<Self, Error> {
+        let contents = Contents::for_text(body, mode, idx)?;
+        Ok(Part::Contents(contents))
+    }
+
+    #[inline(always)]
+    fn tells_plain() -> bool {
+        true
+    }
+
+    #[inline(always)]
+    fn plain_string(text: &'a str) -> Self {
+        Part::Plain(text)
+    }
+
+    #[inline(always)]
+    fn keeps_integers() -> bool
+        ensures { result ≡ true }
+    {
+        true
+    }
+
+    #[inline(always)]
     fn root(
         room: &mut TextRoom<'a>,
         value: &Self,
@@ -70,8 +97,8 @@ impl<'a> Handler<'a> for Part<'a> {
     }
 
     #[inline(always)]
-    fn items(room: &mut TextRoom<'a>, alloc: Global) -> Result<bool, AllocError> {
-        room.begin_array()
+    fn items(room: &mut TextRoom<'a>, alloc: Global, at: usize) -> Result<bool, AllocError> {
+        room.begin_array(at)
     }
 
     #[inline(always)]
@@ -91,6 +118,16 @@ impl<'a> Handler<'a> for Part<'a> {
     }
 
     #[inline(always)]
+    fn push_kept(
+        room: &mut TextRoom<'a>,
+        items: &mut bool,
+        from: usize,
+        to: usize,
+    ) -> Result<(), AllocError> {
+        room.push_range(items, from, to)
+    }
+
+    #[inline(always)]
     fn push_inner(
         room: &mut TextRoom<'a>,
         items: &mut bool,
@@ -102,8 +139,8 @@ impl<'a> Handler<'a> for Part<'a> {
     }
 
     #[inline(always)]
-    fn end_items(room: &mut TextRoom<'a>, items: &mut bool) -> Result<(), AllocError> {
-        room.end_array()
+    fn end_items(room: &mut TextRoom<'a>, items: &mut bool, at: usize) -> Result<(), AllocError> {
+        room.end_array(at)
     }
 
     #[inline(always)]
@@ -112,8 +149,8 @@ impl<'a> Handler<'a> for Part<'a> {
     }
 
     #[inline(always)]
-    fn members(room: &mut TextRoom<'a>, alloc: Global) -> Result<usize, AllocError> {
-        room.begin_object()
+    fn members(room: &mut TextRoom<'a>, alloc: Global, at: usize) -> Result<usize, AllocError> {
+        room.begin_object(at)
     }
 
     #[inline(always)]
@@ -126,6 +163,18 @@ impl<'a> Handler<'a> for Part<'a> {
         after: usize,
     ) -> Result<(), AllocError> {
         room.borrowed_key(object.members, text, from, after)
+    }
+
+    #[inline(always)]
+    fn plain_key(
+        room: &mut TextRoom<'a>,
+        object: &mut OpenObject<usize, ()>,
+        alloc: Global,
+        text: &'a str,
+        from: usize,
+        after: usize,
+    ) -> Result<(), AllocError> {
+        room.plain_key(object.members, text, from, after)
     }
 
     #[inline(always)]
@@ -158,6 +207,20 @@ impl<'a> Handler<'a> for Part<'a> {
     }
 
     #[inline(always)]
+    fn insert_kept(
+        room: &mut TextRoom<'a>,
+        object: &mut OpenObject<usize, ()>,
+        key: (),
+        from: usize,
+        to: usize,
+    ) -> Result<bool, AllocError> {
+        match room.insert_range(object.members, from, to) {
+            Ok(()) => Ok(true),
+            Err(failed) => Err(failed),
+        }
+    }
+
+    #[inline(always)]
     fn insert_inner(
         room: &mut TextRoom<'a>,
         object: &mut OpenObject<usize, ()>,
@@ -174,13 +237,14 @@ impl<'a> Handler<'a> for Part<'a> {
         alloc: Global,
         members: &mut usize,
         told: &mut Option<Error>,
+        at: usize,
     ) -> Result<(), Failed> {
         if room.moved_much() {
             *told = None;
             return Err(Failed);
         }
         let first = *members;
-        match room.end_object(first) {
+        match room.end_object(first, at) {
             Ok(None) => Ok(()),
             Ok(Some(index)) => {
                 tell_repeat(room, alloc, first, index, told);
@@ -208,7 +272,13 @@ impl<'a> Handler<'a> for Part<'a> {
 // Tells the least key that comes twice, and where it comes the second time.
 #[cold]
 #[inline(never)]
-fn tell_repeat(room: &TextRoom, alloc: Global, first: usize, index: usize, told: &mut Option<Error>)
+pub(super) fn tell_repeat(
+    room: &TextRoom,
+    alloc: Global,
+    first: usize,
+    index: usize,
+    told: &mut Option<Error>,
+)
     ensures { (fs : List Found) → (rest : List ℕ) → TellsRepeatOf room.now first fs index
         → Misses false told.new (object_end fs rest) }
 {

@@ -10,7 +10,9 @@ ghost use Rattle.jsonb.specs.Handler.{Completes, FramesHold, MapHolds};
 ghost use Rattle.jsonb_scan.specs.Source.{tree_of_source};
 
 use super::{Failed, Handler};
+use crate::parser::Mode;
 use crate::parser::frame::OpenObject;
+use jsonb_scan::parser::string::decode_contents;
 use jsonb_value::error::Error;
 use jsonb_value::number::Number;
 use jsonb_value::value::{Object, Value};
@@ -41,6 +43,8 @@ impl<'a> Handler<'a> for Value<'a> {
 
     ghost writes = { false };
 
+    ghost keeps = { false };
+
     #[inline(always)]
     fn null() -> Self {
         Value::Null
@@ -62,12 +66,35 @@ impl<'a> Handler<'a> for Value<'a> {
     }
 
     #[inline(always)]
+    fn escaped_string(alloc: Global, body: &'a str, mode: Mode, idx: usize) -> Result<Self, Error> {
+        let text = decode_contents(alloc, body.as_bytes(), mode, true, idx)?;
+        Ok(Value::String(text))
+    }
+
+    #[inline(always)]
+    fn tells_plain() -> bool {
+        false
+    }
+
+    #[inline(always)]
+    fn plain_string(text: &'a str) -> Self {
+        Value::String(CowStr::Borrowed(text))
+    }
+
+    #[inline(always)]
+    fn keeps_integers() -> bool
+        ensures { result ≡ false }
+    {
+        false
+    }
+
+    #[inline(always)]
     fn root(room: &mut (), value: &Self, from: usize, to: usize) -> Result<(), AllocError> {
         Ok(())
     }
 
     #[inline(always)]
-    fn items(room: &mut (), alloc: Global) -> Result<Vec<Self>, AllocError> {
+    fn items(room: &mut (), alloc: Global, at: usize) -> Result<Vec<Self>, AllocError> {
         Ok(Vec::new(alloc))
     }
 
@@ -88,6 +115,16 @@ impl<'a> Handler<'a> for Value<'a> {
     }
 
     #[inline(always)]
+    fn push_kept(
+        room: &mut (),
+        items: &mut Vec<Self>,
+        from: usize,
+        to: usize,
+    ) -> Result<(), AllocError> {
+        unreachable!()
+    }
+
+    #[inline(always)]
     fn push_inner(
         room: &mut (),
         items: &mut Vec<Self>,
@@ -103,7 +140,7 @@ impl<'a> Handler<'a> for Value<'a> {
     }
 
     #[inline(always)]
-    fn end_items(room: &mut (), items: &mut Vec<Self>) -> Result<(), AllocError> {
+    fn end_items(room: &mut (), items: &mut Vec<Self>, at: usize) -> Result<(), AllocError> {
         give_back(items);
         Ok(())
     }
@@ -114,12 +151,24 @@ impl<'a> Handler<'a> for Value<'a> {
     }
 
     #[inline(always)]
-    fn members(room: &mut (), alloc: Global) -> Result<Object<'a>, AllocError> {
+    fn members(room: &mut (), alloc: Global, at: usize) -> Result<Object<'a>, AllocError> {
         Ok(Object::new(alloc))
     }
 
     #[inline(always)]
     fn borrowed_key(
+        room: &mut (),
+        object: &mut OpenObject<Object<'a>, String>,
+        alloc: Global,
+        text: &'a str,
+        from: usize,
+        after: usize,
+    ) -> Result<String, AllocError> {
+        String::from_str(alloc, text)
+    }
+
+    #[inline(always)]
+    fn plain_key(
         room: &mut (),
         object: &mut OpenObject<Object<'a>, String>,
         alloc: Global,
@@ -159,6 +208,17 @@ impl<'a> Handler<'a> for Value<'a> {
     }
 
     #[inline(always)]
+    fn insert_kept(
+        room: &mut (),
+        object: &mut OpenObject<Object<'a>, String>,
+        key: String,
+        from: usize,
+        to: usize,
+    ) -> Result<bool, AllocError> {
+        unreachable!()
+    }
+
+    #[inline(always)]
     fn insert_inner(
         room: &mut (),
         object: &mut OpenObject<Object<'a>, String>,
@@ -175,6 +235,7 @@ impl<'a> Handler<'a> for Value<'a> {
         alloc: Global,
         members: &mut Object<'a>,
         told: &mut Option<Error>,
+        at: usize,
     ) -> Result<(), Failed> {
         Ok(())
     }

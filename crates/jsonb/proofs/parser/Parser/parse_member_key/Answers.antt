@@ -6,7 +6,7 @@ use Rattle.jsonb_scan.specs.Reading.String.{string_at}
 use Rattle.jsonb.specs.Handler.{AsKey, Begins, Builds}
 use Rattle.jsonb.specs.Parser.{Advances, rest_of, size_of}
 use Rattle.jsonb_scan.specs.Spelled.{KeyStandsAt}
-use Rattle.jsonb.proofs.Scalars.Built.{key_begun, key_kept, key_same, key_stands}
+use Rattle.jsonb.proofs.Scalars.Built.{key_begun, plain_key_begun, key_kept, key_same, key_stands}
 use Rattle.jsonb.proofs.Steps.Advancing.{goes_on}
 use Rattle.jsonb.proofs.Steps.Outcomes.{key_quoted, same_size}
 use Rattle.jsonb.proofs.parser.Parser.parse_member_key.Goals as goal
@@ -15,18 +15,30 @@ pub returns-in-Some-clause-reads : goal.returns-in-Some-clause-reads
 returns-in-Some-clause-reads g c =
     let p = c.args.self.now in
     let q = c.take_after_blanks.new.self in
-    let r = c.borrowed_string.new.self in
+    let r = c.cut_string.new.self in
     let on = c.take_after_blanks.ensures.advances in
-    let all = goes_on p q r on c.borrowed_string.ensures.advances in
-    let body = c.in-Some.body.now in
-    let stands : KeyStandsAt p.buf.now body q.idx r.idx = λ some. key_stands p q r body some on c.borrowed_string.ensures.advances c.requires.inside c.if-not-take_after_blanks.ensures.behind c.in-Some.ensures.spelled in
-    key_kept g.V.Handler.silent (Begins (g.V.Handler.stands p.buf.now) c.args.room.now c.args.object.now c.borrowed_key-key.new.room c.borrowed_key-key.new.object) c.borrowed_key-key.result c.kept.result (size_of p) r c.kept.new.self (plain, c.in-Some.body.now) _ (sym (same_size p r all)) (all.inside c.requires.inside) (key_begun (λ bytes. KeyStandsAt bytes body q.idx r.idx) (λ bytes key. Begins (g.V.Handler.stands bytes) c.args.room.now c.args.object.now c.borrowed_key-key.new.room c.borrowed_key-key.new.object key (plain, body) r.idx) c.borrowed_key-key.result c.borrowed_key-key.ensures.begun p.buf.now stands) c.kept.ensures.same c.kept.ensures.memory
+    let all = goes_on p q r on c.cut_string.ensures.advances in
+    let body = c.in-Some.cut.body.now in
+    let stands : KeyStandsAt p.buf.now body q.idx r.idx = λ some. key_stands p q r body some on c.cut_string.ensures.advances c.requires.inside c.if-not-take_after_blanks.ensures.behind c.in-Some.ensures.spelled in
+    key_kept g.V.Handler.silent (Begins (g.V.Handler.stands p.buf.now) c.args.room.now c.args.object.now c.borrowed_key-key.new.room c.borrowed_key-key.new.object) c.borrowed_key-key.result c.kept-in-Some.result (size_of p) r c.kept-in-Some.new.self (plain, c.in-Some.cut.body.now) _ (sym (same_size p r all)) (all.inside c.requires.inside) (key_begun (λ bytes. KeyStandsAt bytes body q.idx r.idx) (λ bytes key. Begins (g.V.Handler.stands bytes) c.args.room.now c.args.object.now c.borrowed_key-key.new.room c.borrowed_key-key.new.object key (plain, body) r.idx) c.borrowed_key-key.result c.borrowed_key-key.ensures.begun p.buf.now stands) c.kept-in-Some.ensures.same c.kept-in-Some.ensures.memory
+    (key_quoted p q on c.if-not-take_after_blanks.ensures.rest ∙ c.in-Some.ensures.reads)
+
+pub returns-then-cut-clause-reads : goal.returns-then-cut-clause-reads
+returns-then-cut-clause-reads g c =
+    let p = c.args.self.now in
+    let q = c.take_after_blanks.new.self in
+    let r = c.cut_string.new.self in
+    let on = c.take_after_blanks.ensures.advances in
+    let all = goes_on p q r on c.cut_string.ensures.advances in
+    let body = c.in-Some.cut.body.now in
+    let stands : KeyStandsAt p.buf.now body q.idx r.idx = λ some. key_stands p q r body some on c.cut_string.ensures.advances c.requires.inside c.if-not-take_after_blanks.ensures.behind c.in-Some.ensures.spelled in
+    key_kept g.V.Handler.silent (Begins (g.V.Handler.stands p.buf.now) c.args.room.now c.args.object.now c.plain_key-key.new.room c.plain_key-key.new.object) c.plain_key-key.result c.kept.result (size_of p) r c.kept.new.self (plain, c.in-Some.cut.body.now) _ (sym (same_size p r all)) (all.inside c.requires.inside) (plain_key_begun (λ bytes. KeyStandsAt bytes body q.idx r.idx) (λ bytes key. Begins (g.V.Handler.stands bytes) c.args.room.now c.args.object.now c.plain_key-key.new.room c.plain_key-key.new.object key (plain, body) r.idx) c.plain_key-key.result c.plain_key-key.ensures.begun (c.in-Some.ensures.plain c.if-cut.true) p.buf.now stands) c.kept.ensures.same c.kept.ensures.memory
     (key_quoted p q on c.if-not-take_after_blanks.ensures.rest ∙ c.in-Some.ensures.reads)
 
 pub returns-clause-reads : goal.returns-clause-reads
 returns-clause-reads g c =
     let p = c.args.self.now in
-    let q = c.borrowed_string.new.self in
+    let q = c.cut_string.new.self in
     let stays = sym c.in_default.ensures.stays in
     let on = subst (Advances p) stays c.take_after_blanks.ensures.advances in
     let names : List ℕ → g.row.V-Key.Denot → Mark × List ℕ → ℕ → Type 0 = λ text. Begins (g.V.Handler.stands text) c.args.room.now c.args.object.now c.escaped_key.new.room c.escaped_key.new.object in

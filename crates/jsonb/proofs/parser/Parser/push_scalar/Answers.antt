@@ -1,5 +1,6 @@
-use Rattle.std.proofs.Common.{◌∷◌, ◌++◌, [], append_assoc, ap, sym, subst, ◌∙◌}
+use Rattle.std.proofs.Common.{◌≡◌, refl, ◌∷◌, ◌++◌, [], append_assoc, ap, sym, subst, ◌∙◌}
 use Rattle.jsonb_value.specs.Tree.{string}
+use Rattle.jsonb_scan.specs.Source.{string_source}
 use Rattle.jsonb_value.specs.Tree.Mark.{plain}
 use Rattle.jsonb.specs.Parser.{Advances, rest_of}
 use Rattle.jsonb.proofs.Scalars.Built.{between, read_pushed, scalar_still, scalar_string}
@@ -13,11 +14,11 @@ pub returns-in-Some-clause-reads : goal.returns-in-Some-clause-reads
 returns-in-Some-clause-reads g c =
     let p = c.args.self.now in
     let o = c.take_byte.new.self in
-    let q = c.borrowed_string.new.self in
+    let q = c.cut_string.new.self in
     let h = g.V.Handler in
-    let on = goes_on p o q c.take_byte.ensures.advances c.borrowed_string.ensures.advances in
-    let body = c.in-Some.body.now in
-    read_pushed h.silent h.stands (h.sees c.string.result) p.buf.now p.idx q c.push.new.self c.args.room.now c.push.new.room c.push.result c.args.items.now (string plain body) _ c.push.new.items c.push.ensures.put c.push.ensures.same c.push.ensures.memory c.string.ensures
+    let on = goes_on p o q c.take_byte.ensures.advances c.cut_string.ensures.advances in
+    let body = c.in-Some.cut.body.now in
+    read_pushed h.silent h.stands (λ s. s ≡ string_source plain body) p.buf.now p.idx q c.push_cut.new.self c.args.room.now c.push_cut.new.room c.push_cut.result c.args.items.now (string plain body) _ c.push_cut.new.items c.push_cut.ensures.put c.push_cut.ensures.same c.push_cut.ensures.memory refl
     (λ some. between p q (34 ∷ body ++ 34 ∷ []) on c.requires.inside (c.if-take_byte.ensures.rest ∙ ap (λ r. 34 ∷ r) (c.in-Some.ensures.spelled ∙ sym (append_assoc body (34 ∷ []) (rest_of q)))))
     (scalar_string p o (plain, body) _ c.take_byte.ensures.advances c.if-take_byte.ensures.rest c.in-Some.ensures.reads)
 
@@ -26,13 +27,13 @@ returns-then-take_byte-clause-reads g c =
     let p = c.args.self.now in
     let h = g.V.Handler in
     let stays = sym c.in_default.ensures.stays in
-    let quoted = scalar_quoted p c.borrowed_string.new.self (subst (Advances p) stays c.take_byte.ensures.advances) (c.if-take_byte.ensures.rest ∙ ap (λ q. 34 ∷ rest_of q) stays) in
+    let quoted = scalar_quoted p c.cut_string.new.self (subst (Advances p) stays c.take_byte.ensures.advances) (c.if-take_byte.ensures.rest ∙ ap (λ q. 34 ∷ rest_of q) stays) in
     pushes_same h.silent c.push_escaped.new.self.told h.stands c.push_escaped.result _ _ (sym (ap (λ b. b.now) (subst (Advances p) stays c.take_byte.ensures.advances).buf)) _ _ _ _ _ _ _ quoted c.push_escaped.ensures.reads
 
 pub returns-in-Standard-clause-reads : goal.returns-in-Standard-clause-reads
 returns-in-Standard-clause-reads g c =
     let h = g.V.Handler in
-    pushes_same h.silent c.push_standard_scalar.new.self.told h.stands c.push_standard_scalar.result _ _ (sym (ap (λ o. o.buf.now) c.if-take_byte.ensures.rest)) _ _ _ _ _ _ _ (scalar_still c.args.self.now c.take_byte.new.self c.if-take_byte.ensures.rest) c.push_standard_scalar.ensures.reads
+    pushes_same h.silent c.push_standard_value.new.self.told h.stands c.push_standard_value.result _ _ (sym (ap (λ o. o.buf.now) c.if-take_byte.ensures.rest)) _ _ _ _ _ _ _ (scalar_still c.args.self.now c.take_byte.new.self c.if-take_byte.ensures.rest) c.push_standard_value.ensures.reads
 
 pub returns-in-Extended-clause-reads : goal.returns-in-Extended-clause-reads
 returns-in-Extended-clause-reads g c =

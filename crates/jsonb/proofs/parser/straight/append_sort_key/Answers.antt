@@ -1,19 +1,12 @@
-use Rattle.std.proofs.Common.{true, ◌++◌, false, Some, Err, inr, ap, subst, sym, ◌∙◌}
-use Rattle.jsonb_value.specs.declared.error.Error.TheVariants.{OutOfMemory}
+use Rattle.std.proofs.Common.{true, ◌++◌, Err, ap, subst, sym, ◌∙◌}
 use Rattle.jsonb_scan.specs.Answer.{Fails, mode_of}
 use Rattle.jsonb_scan.specs.Reading.Document.{source_of}
 use Rattle.jsonb_scan.specs.Source.{tree_of_source}
 use Rattle.jsonb_write.specs.Members.{source_key}
 use Rattle.jsonb.specs.Handler.{Misses}
 use Rattle.jsonb.proofs.Documents.Agreement.{gives_explained, gives_refused, gives_tree}
-use Rattle.jsonb.proofs.Documents.Straight.{document_there, returned, same_error, source_parsed}
+use Rattle.jsonb.proofs.Documents.Straight.{returned, source_parsed, same_only}
 use Rattle.jsonb.proofs.parser.straight.append_sort_key.Goals as goal
-
-pub returns-then-is_err-clause-memory : goal.returns-then-is_err-clause-memory
-returns-then-is_err-clause-memory c = λ is.
-    let mode = mode_of c.args.mode in
-    let read = c.in-Ok.ensures.reads c.new-room.ensures.stands in
-    inr (tree_of_source read.0, (source_parsed mode c.args.text.now read.0 read.2).document)
 
 pub returns-in-Ok-clause-ok : goal.returns-in-Ok-clause-ok
 returns-in-Ok-clause-ok c =
@@ -21,7 +14,7 @@ returns-in-Ok-clause-ok c =
     let text = c.args.text.now in
     let read = c.in-Ok.ensures.reads c.new-room.ensures.stands in
     let parsed = source_parsed mode text read.0 read.2 in
-    let before = c.in-Ok.ensures.base ∙ c.new-room.ensures.base ∙ ap (λ v. v.items) c.replace-out.ensures.value in
+    let before = same_only c.in-Ok.ensures.base ∙ c.new-room.ensures.base ∙ ap (λ v. v.items) c.replace-out.ensures.value in
     let bytes = c.into_buffer.ensures ∙ returned c.finish.result (sym c.is_err.ensures.value ∙ c.if-is_err.false) c.finish.ensures.ok text read.0 read.1 ∙ ap (λ front. front ++ source_key read.0) before in
     record { tree = tree_of_source read.0; parsed = parsed; appended = bytes }
 
@@ -36,6 +29,3 @@ returns-in-Some-clause-refused c = gives_refused (mode_of c.args.mode) c.args.te
 
 pub returns-in-Some-clause-explained : goal.returns-in-Some-clause-explained
 returns-in-Some-clause-explained c = gives_explained (mode_of c.args.mode) c.args.text.now (Err c.in-Some.error) (returns-in-Some-clause-exact c)
-
-pub returns-in-Some-clause-memory : goal.returns-in-Some-clause-memory
-returns-in-Some-clause-memory c = λ is. document_there (mode_of c.args.mode) c.args.text.now (c.in-Err.ensures.memory (c.in-Some.is ∙ ap (λ e. Some e) (same_error (Err c.in-Some.error) (Err OutOfMemory) is)))

@@ -1,7 +1,8 @@
 use Rattle.std.proofs.Common.{map}
 use Rattle.jsonb.specs.Held.{key_held}
 use Rattle.jsonb.proofs.Containers.Built.{on_ok}
+use Rattle.jsonb.proofs.Scalars.Spelled.{spelled_part}
 use Rattle.jsonb.proofs.parser.handler.sort_key.KeyPartHandler.push.Goals as goal
 
 pub returns-clause-put : goal.returns-clause-put
-returns-clause-put c = on_ok c.push.result (λ h text s ss fs cs held sees spelled. h text s (map key_held fs) ss cs held sees) c.push.ensures.stands
+returns-clause-put c = on_ok c.push.result (λ h text s ss fs cs held sees spelled. h text s (map key_held fs) ss cs held sees (spelled_part text c.args.from c.args.to c.args.value.part s sees spelled)) c.push.ensures.stands

@@ -1,0 +1,29 @@
+use Rattle.std.proofs.Common.{◌≡◌, ◌+◌, true, Ok, length, drop, drop-drop, length-drop, refl, ap, subst, ◌∙◌, arith}
+use Rattle.std.specs.Prelude.{slice_index}
+use Rattle.jsonb.specs.declared.parser.Parser.{Parser}
+use Rattle.jsonb.specs.Parser.{Advances, rest_of, size_of}
+use Rattle.jsonb_scan.specs.Answer.{mode_of}
+use Rattle.jsonb_scan.specs.Reading.Number.{is_number_start, standard_number_at}
+use Rattle.jsonb_scan.specs.ShortInteger.{short_view}
+use Rattle.jsonb_scan.proofs.Numbers.Standard.{number_sound}
+use Rattle.jsonb_write.proofs.Spelled.{kept_text}
+use Rattle.jsonb.proofs.Scalars.Built.{between, integer_at_once}
+use Rattle.jsonb.proofs.parser.Parser.kept_integer.Goals as goal
+
+pub returns-in-Some-clause-passes : goal.returns-in-Some-clause-passes
+returns-in-Some-clause-passes c =
+    let p = c.args.self.now in
+    let end = c.in-Some.end in
+    let q : Parser = record p { idx = p.idx + end } in
+    let kept = c.in-Some.ensures.found in
+    let read = kept.read in
+    let n = short_view read in
+    let same = c.rest.ensures in
+    let found = subst (λ bs. standard_number_at (size_of p) bs ≡ Ok (n, drop end bs)) same (kept.found (size_of p)) ∙ ap (λ r. Ok (n, r)) (drop-drop end p.idx p.buf.now) in
+    let sound = number_sound (size_of p) (rest_of p) n _ found in
+    let on : Advances p q = record { buf = refl; mode = refl; onward = omega arith; inside = λ h. omega (arith, h, c.in-Some.ensures.within, ap length same, length-drop p.idx p.buf.now) } in
+    record {
+      value = n;
+      reads = integer_at_once (size_of p) (mode_of p.mode) (rest_of p) n _ c.requires.mode (subst (λ bs. is_number_start (slice_index bs 0) ≡ true) same c.in-Some.ensures.first) found;
+      text = between p q sound.core on c.requires.inside sound.joined ∙ kept_text read.negative read.magnitude read.end sound.core kept.some sound.number;
+    }

@@ -1,0 +1,53 @@
+use Rattle.std.proofs.Common.{◌≡◌, ◌∙◌, None, Some, Err, true, inr, ap, map, rules, string_bytes, subst, sym}
+use Rattle.std.specs.Option.{option_map}
+use Rattle.jsonb_value.specs.declared.error.Error.TheVariants.{OutOfMemory}
+use Rattle.jsonb_value.specs.Text.{tree_text}
+use Rattle.jsonb_scan.specs.Answer.{mode_of}
+use Rattle.jsonb_scan.specs.Reading.Document.{source_of}
+use Rattle.jsonb_scan.specs.Source.{tree_of_source}
+use Rattle.jsonb_write.specs.PartAt.{part_at}
+use Rattle.jsonb_write.specs.PartRoom.{part_of}
+use Rattle.jsonb.specs.Handler.{Misses}
+use Rattle.jsonb.proofs.Documents.Agreement.{gives_explained, gives_refused, gives_tree}
+use Rattle.jsonb.proofs.Documents.Parts.{document_there, part_appended, part_missing}
+use Rattle.jsonb.proofs.Documents.Straight.{same_error, source_parsed, text_there}
+use Rattle.jsonb.proofs.parser.part.append_part.Goals as goal
+
+pub returns-then-is_err-clause-memory : goal.returns-then-is_err-clause-memory
+returns-then-is_err-clause-memory c = λ is.
+    let read = c.in-Ok.ensures.reads c.new-room.ensures.stands in
+    inr (tree_of_source read.0, (source_parsed (mode_of c.args.mode) c.args.text.now read.0 read.2).document)
+
+pub returns-in-Ok-clause-ok : goal.returns-in-Ok-clause-ok
+returns-in-Ok-clause-ok c =
+    let mode = mode_of c.args.mode in
+    let keys = map string_bytes c.args.path.now in
+    let read = c.in-Ok.ensures.reads c.new-room.ensures.stands in
+    let same = c.in-Ok.ensures.base ∙ c.new-room.ensures.keys in
+    let none : None ≡ part_of c.read_document.new.room = sym (ap (option_map (λ part. part.items)) c.in-None.is) ∙ c.into_part.ensures in
+    part_missing mode c.args.text.now keys (tree_of_source read.0) c.args.buf.now.items (source_parsed mode c.args.text.now read.0 read.2)
+    (none ∙ read.1.part ∙ ap (λ ks. option_map tree_text (part_at ks (tree_of_source read.0))) same)
+
+pub returns-in-Some-clause-ok : goal.returns-in-Some-clause-ok
+returns-in-Some-clause-ok c =
+    let mode = mode_of c.args.mode in
+    let keys = map string_bytes c.args.path.now in
+    let read = c.in-Ok.ensures.reads c.new-room.ensures.stands in
+    let parsed = source_parsed mode c.args.text.now read.0 read.2 in
+    let same = c.in-Ok.ensures.base ∙ c.new-room.ensures.keys in
+    let some : Some c.in-Some.part.items ≡ part_of c.read_document.new.room = sym (ap (option_map (λ part. part.items)) c.in-Some.is) ∙ c.into_part.ensures in
+    part_appended mode c.args.text.now keys (tree_of_source read.0) c.args.buf.now.items c.extend_from_slice.new.self.items c.in-Some.part.items parsed (text_there mode c.args.text.now (tree_of_source read.0) parsed.document)
+    (some ∙ read.1.part ∙ ap (λ ks. option_map tree_text (part_at ks (tree_of_source read.0))) same) (search rules)
+
+pub returns-in-Some-told-clause-exact : goal.returns-in-Some-told-clause-exact
+returns-in-Some-told-clause-exact c = gives_tree (mode_of c.args.mode) c.args.text.now (Err c.in-Some-told.error) (subst (λ told. Misses true told (source_of (mode_of c.args.mode) c.args.text.now)) c.in-Some-told.is (c.in-Err.ensures.reads c.new-room.ensures.stands))
+
+pub returns-in-Some-told-clause-refused : goal.returns-in-Some-told-clause-refused
+returns-in-Some-told-clause-refused c = gives_refused (mode_of c.args.mode) c.args.text.now (Err c.in-Some-told.error) (returns-in-Some-told-clause-exact c)
+
+pub returns-in-Some-told-clause-explained : goal.returns-in-Some-told-clause-explained
+returns-in-Some-told-clause-explained c = gives_explained (mode_of c.args.mode) c.args.text.now (Err c.in-Some-told.error) (returns-in-Some-told-clause-exact c)
+
+pub returns-in-Some-told-clause-memory : goal.returns-in-Some-told-clause-memory
+returns-in-Some-told-clause-memory c = λ is.
+    document_there (mode_of c.args.mode) c.args.text.now (c.in-Err.ensures.memory (c.in-Some-told.is ∙ ap (λ e. Some e) (same_error (Err c.in-Some-told.error) (Err OutOfMemory) is)))

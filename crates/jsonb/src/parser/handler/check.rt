@@ -1,0 +1,295 @@
+//! Nothing is made of a text that is only checked. The keys of the objects that are open are kept, so that one that comes
+//! twice is told.
+ghost use Rattle.std.specs.Prelude.{◌≡◌, ℕ, List, [], false, map, true};
+ghost use Rattle.jsonb_value.specs.View.{number_view};
+ghost use Rattle.jsonb.specs.Handler.{Misses};
+ghost use Rattle.jsonb.specs.Held.{IsAnyValue, key_held};
+ghost use Rattle.jsonb.specs.Stack.{object_end};
+ghost use Rattle.jsonb_scan.specs.Source.{Found, boolean_source, null_source, number_source};
+ghost use Rattle.jsonb_write.specs.CheckRoom.{CheckFilled, CheckStands, TellsRepeatOf};
+
+use super::{Failed, Handler};
+use crate::parser::Mode;
+use crate::parser::frame::OpenObject;
+use jsonb_scan::util::check_contents;
+use jsonb_value::error::{Error, ParseErrorCode};
+use jsonb_value::number::Number;
+use jsonb_write::check::CheckRoom;
+use std::alloc::{AllocError, Global};
+use std::borrow::CowStr;
+
+// A value of the text.
+#[derive(Drop)]
+pub(in crate::parser) struct Checked;
+
+impl<'a> Handler<'a> for Checked {
+    type Room = CheckRoom<'a>;
+
+    // Nothing is kept of an array.
+    type Items = ();
+
+    // The index of the object's first member among those of the room.
+    type Members = usize;
+
+    type Key = ();
+
+    ghost sees = { IsAnyValue };
+
+    ghost stands = { λ text room due fs cs. CheckStands text room due (map key_held fs) cs };
+
+    ghost completes = { λ text room f s fs cs. CheckFilled text room (map key_held fs) cs };
+
+    ghost filled = { λ text room v s fs cs. CheckFilled text room (map key_held fs) cs };
+
+    ghost base = { λ room. [] };
+
+    ghost silent = { false };
+
+    ghost writes = { false };
+
+    ghost keeps = { true };
+
+    #[inline(always)]
+    fn null() -> Self
+        ensures { IsAnyValue result null_source }
+    {
+        Checked
+    }
+
+    #[inline(always)]
+    fn boolean(value: bool) -> Self
+        ensures { IsAnyValue result (boolean_source value) }
+    {
+        Checked
+    }
+
+    #[inline(always)]
+    fn number(value: Number) -> Self
+        ensures { IsAnyValue result (number_source (number_view value)) }
+    {
+        Checked
+    }
+
+    #[inline(always)]
+    fn string(text: CowStr<'a>) -> Self {
+        Checked
+    }
+
+    #[inline(always)]
+    fn escaped_string(alloc: Global, body: &'a str, mode: Mode, idx: usize) -> Result<Self, Error> {
+        check_contents(body, mode, 0, idx)?;
+        Ok(Checked)
+    }
+
+    #[inline(always)]
+    fn tells_plain() -> bool {
+        false
+    }
+
+    #[inline(always)]
+    fn plain_string(text: &'a str) -> Self {
+        Checked
+    }
+
+    #[inline(always)]
+    fn keeps_integers() -> bool
+        ensures { result ≡ true }
+    {
+        true
+    }
+
+    #[inline(always)]
+    fn root(
+        room: &mut CheckRoom<'a>,
+        value: &Self,
+        from: usize,
+        to: usize,
+    ) -> Result<(), AllocError> {
+        Ok(())
+    }
+
+    #[inline(always)]
+    fn items(room: &mut CheckRoom<'a>, alloc: Global, at: usize) -> Result<(), AllocError> {
+        Ok(())
+    }
+
+    #[inline(always)]
+    fn next_item(room: &mut CheckRoom<'a>, items: &mut ()) -> Result<(), AllocError> {
+        Ok(())
+    }
+
+    #[inline(always)]
+    fn push(
+        room: &mut CheckRoom<'a>,
+        items: &mut (),
+        value: Self,
+        from: usize,
+        to: usize,
+    ) -> Result<(), AllocError> {
+        Ok(())
+    }
+
+    #[inline(always)]
+    fn push_kept(
+        room: &mut CheckRoom<'a>,
+        items: &mut (),
+        from: usize,
+        to: usize,
+    ) -> Result<(), AllocError> {
+        Ok(())
+    }
+
+    #[inline(always)]
+    fn push_inner(
+        room: &mut CheckRoom<'a>,
+        items: &mut (),
+        value: Self,
+        is_last: bool,
+    ) -> Result<(), AllocError> {
+        Ok(())
+    }
+
+    #[inline(always)]
+    fn end_items(room: &mut CheckRoom<'a>, items: &mut (), at: usize) -> Result<(), AllocError> {
+        Ok(())
+    }
+
+    #[inline(always)]
+    fn array(room: &CheckRoom<'a>, items: ()) -> Self {
+        Checked
+    }
+
+    #[inline(always)]
+    fn members(room: &mut CheckRoom<'a>, alloc: Global, at: usize) -> Result<usize, AllocError> {
+        Ok(room.begin_object())
+    }
+
+    #[inline(always)]
+    fn borrowed_key(
+        room: &mut CheckRoom<'a>,
+        object: &mut OpenObject<usize, ()>,
+        alloc: Global,
+        text: &'a str,
+        from: usize,
+        after: usize,
+    ) -> Result<(), AllocError> {
+        room.borrowed_key(object.members, text, from, after)
+    }
+
+    #[inline(always)]
+    fn plain_key(
+        room: &mut CheckRoom<'a>,
+        object: &mut OpenObject<usize, ()>,
+        alloc: Global,
+        text: &'a str,
+        from: usize,
+        after: usize,
+    ) -> Result<(), AllocError> {
+        room.borrowed_key(object.members, text, from, after)
+    }
+
+    #[inline(always)]
+    fn key(
+        room: &mut CheckRoom<'a>,
+        object: &mut OpenObject<usize, ()>,
+        alloc: Global,
+        text: CowStr<'a>,
+        after: usize,
+    ) -> Result<(), AllocError> {
+        room.key(object.members, text, after)
+    }
+
+    #[inline(always)]
+    fn no_key(alloc: Global) {}
+
+    #[inline(always)]
+    fn insert(
+        room: &mut CheckRoom<'a>,
+        object: &mut OpenObject<usize, ()>,
+        key: (),
+        value: Self,
+        from: usize,
+        to: usize,
+    ) -> Result<bool, AllocError> {
+        Ok(true)
+    }
+
+    #[inline(always)]
+    fn insert_kept(
+        room: &mut CheckRoom<'a>,
+        object: &mut OpenObject<usize, ()>,
+        key: (),
+        from: usize,
+        to: usize,
+    ) -> Result<bool, AllocError> {
+        Ok(true)
+    }
+
+    #[inline(always)]
+    fn insert_inner(
+        room: &mut CheckRoom<'a>,
+        object: &mut OpenObject<usize, ()>,
+        alloc: Global,
+        value: Self,
+    ) -> Result<bool, AllocError> {
+        Ok(true)
+    }
+
+    #[inline(always)]
+    fn finish(
+        room: &mut CheckRoom<'a>,
+        alloc: Global,
+        members: &mut usize,
+        told: &mut Option<Error>,
+        at: usize,
+    ) -> Result<(), Failed> {
+        let first = *members;
+        match room.end_object(first) {
+            Ok(None) => Ok(()),
+            Ok(Some(index)) => {
+                tell_repeat(room, alloc, first, index, told);
+                Err(Failed)
+            }
+            Err(_) => {
+                *told = Some(Error::OutOfMemory);
+                Err(Failed)
+            }
+        }
+    }
+
+    #[inline(always)]
+    fn object(room: &CheckRoom<'a>, members: usize) -> Self {
+        Checked
+    }
+
+    fn dismantle(self) {}
+
+    fn dismantle_items(items: ()) {}
+
+    fn dismantle_members(members: usize) {}
+}
+
+// Tells the least key that comes twice, and where it comes the second time.
+#[cold]
+#[inline(never)]
+fn tell_repeat(
+    room: &CheckRoom,
+    alloc: Global,
+    first: usize,
+    index: usize,
+    told: &mut Option<Error>,
+)
+    ensures { (fs : List Found) → (rest : List ℕ) → TellsRepeatOf room.now first fs index
+        → Misses false told.new (object_end fs rest) }
+{
+    let Some(key) = room.repeated_key(first, index) else {
+        return;
+    };
+    *told = match String::from_str(alloc, key) {
+        Ok(key) => {
+            let place = room.repeated_place(first, index);
+            Some(Error::Syntax(ParseErrorCode::ObjectDuplicateKey(key), place))
+        }
+        Err(_) => Some(Error::OutOfMemory),
+    };
+}

@@ -1,0 +1,144 @@
+//! The text of one part of a document, with no value made of the document.
+ghost use Rattle.std.specs.Prelude.{◌≡◌, ◌≢◌, ◌⊎◌, map, string_bytes, IfErr, IfOk, OnErr, Err};
+ghost use Rattle.std.specs.Option.{option_map};
+ghost use Rattle.jsonb_value.specs.Grammar.{IsDocument, IsNoDocument};
+ghost use Rattle.jsonb_value.specs.Tree.{Tree};
+ghost use Rattle.jsonb_value.specs.View.{view};
+ghost use Rattle.jsonb_scan.specs.Answer.{mode_of, Fails, IsTextRefusal, MayAllocate};
+ghost use Rattle.jsonb_scan.specs.Reading.Document.{document_of};
+ghost use Rattle.jsonb_write.specs.PartAt.{child_at, part_at};
+ghost use Rattle.jsonb.specs.Appends.{AppendsPartOf};
+ghost use Rattle.jsonb.specs.Refusals.{IsExplained};
+
+use super::handler::Sought;
+use super::straight::value_of;
+use super::{Mode, read_document};
+use jsonb_value::error::{Error, Result};
+use jsonb_value::value::Value;
+use jsonb_write::part::{PartRoom, index_of};
+use std::alloc::Global;
+
+/// Parses a whole text, and appends the serialized form of a part of its value: the member with the first key of the
+/// path, or the item whose index the key is in decimal digits, in it what the second key leads to, and so on. False
+/// where nothing stands there; then, and after an error, `buf` has the same bytes as before. No value is made.
+///
+/// The time is that of [`append_text`], and so is the memory, but for the part.
+///
+/// ```
+/// let path = [String::from_str(rt.alloc(), "b")?, String::from_str(rt.alloc(), "1")?];
+/// let mut buf = Vec::new(rt.alloc());
+/// jsonb::append_part(rt.alloc(), b"{\"b\": [1, 2.50]}", Mode::Extended, &path, &mut buf)?; // appends 2.50
+/// ```
+///
+/// # Errors
+///
+/// Those of [`JsonAst::parse`], and `OutOfMemory` also where `buf` could not grow.
+///
+/// [`append_text`]: crate::append_text
+/// [`JsonAst::parse`]: crate::JsonAst::parse
+pub fn append_part(
+    alloc: Global,
+    text: &[u8],
+    mode: Mode,
+    path: &[String],
+    buf: &mut Vec<u8>,
+) -> Result<bool>
+    // What is appended is the text of the part of the document's one tree.
+    ensures ok { IfOk result (AppendsPartOf (mode_of mode) text.now (map string_bytes path.now) buf.old.items
+        buf.new.items) }
+    ensures err { OnErr result (buf.new.items ≡ buf.old.items) }
+
+    // What is rejected is no document, unless memory ran out.
+    ensures refused { IfErr result (λ e. e ≢ Error.OutOfMemory → IsNoDocument (mode_of mode) text.now) }
+    ensures memory { result ≡ Err Error.OutOfMemory
+        → MayAllocate text.now ⊎ ((t : Tree) × IsDocument (mode_of mode) text.now t) }
+
+    // Nothing but these two refuses.
+    ensures errors { IfErr result IsTextRefusal }
+
+    // Which fault it is, and where.
+    ensures exact { IfErr result (λ e. Fails e (document_of (mode_of mode) text.now)) }
+
+    // What stands at the offset that is named.
+    ensures explained { IfErr result (IsExplained (mode_of mode) text.now) }
+{
+    let mut room = PartRoom::new(alloc, text, path);
+    match read_document::<Sought>(&mut room, alloc, text, mode) {
+        Ok(_) => match room.into_part() {
+            Some(part) => {
+                if buf.extend_from_slice(&part).is_err() {
+                    return Err(Error::OutOfMemory);
+                }
+                Ok(true)
+            }
+            None => Ok(false),
+        },
+        Err(told) => match told {
+            Some(error) => Err(error),
+            None => append_part_of_value(alloc, text, mode, path, buf),
+        },
+    }
+}
+
+// Appends the serialized form of a part of a text's value, which is made first. Where an object holds most of the text
+// at many levels, and its members are out of order at each, this takes less time.
+#[cold]
+#[inline(never)]
+fn append_part_of_value(
+    alloc: Global,
+    text: &[u8],
+    mode: Mode,
+    path: &[String],
+    buf: &mut Vec<u8>,
+) -> Result<bool>
+    ensures ok { IfOk result (AppendsPartOf (mode_of mode) text.now (map string_bytes path.now) buf.old.items
+        buf.new.items) }
+    ensures err { OnErr result (buf.new.items ≡ buf.old.items) }
+    ensures refused { IfErr result (λ e. e ≢ Error.OutOfMemory → IsNoDocument (mode_of mode) text.now) }
+    ensures memory { result ≡ Err Error.OutOfMemory
+        → MayAllocate text.now ⊎ ((t : Tree) × IsDocument (mode_of mode) text.now t) }
+    ensures errors { IfErr result IsTextRefusal }
+    ensures exact { IfErr result (λ e. Fails e (document_of (mode_of mode) text.now)) }
+    ensures explained { IfErr result (IsExplained (mode_of mode) text.now) }
+{
+    let value = value_of(alloc, text, mode)?;
+    let Some(part) = part_of_value(&value, path) else {
+        value.dismantle();
+        return Ok(false);
+    };
+    let written = part.write_text(buf);
+    value.dismantle();
+    match written {
+        Ok(()) => Ok(true),
+        Err(_) => Err(Error::OutOfMemory),
+    }
+}
+
+// The part of a value at the path of these keys.
+fn part_of_value<'v, 'a>(value: &'v Value<'a>, path: &[String]) -> Option<&'v Value<'a>>
+    ensures { option_map (λ part. view part.now) result ≡ part_at (map string_bytes path.now) (view value.now) }
+{
+    let Some((key, others)) = path.split_first() else {
+        return Some(value);
+    };
+    let Some(child) = child_of_value(value, key.as_str()) else {
+        return None;
+    };
+    part_of_value(child, others)
+}
+
+// The member of that key, or the item of that index.
+fn child_of_value<'v, 'a>(value: &'v Value<'a>, key: &str) -> Option<&'v Value<'a>>
+    ensures { option_map (λ part. view part.now) result ≡ child_at key.now (view value.now) }
+{
+    match value {
+        Value::Object(_) => value.get_by_name(key),
+        Value::Array(_) => {
+            let Some(index) = index_of(key) else {
+                return None;
+            };
+            value.get_by_index(index)
+        }
+        _ => None,
+    }
+}
