@@ -1,5 +1,5 @@
 -- What a status says, by its reason.
-use Rattle.std.proofs.Common.{◌≡◌, ◌≢◌, ℕ, ◌≤◌, List, refl, subst, sym, ◌∙◌, arith}
+use Rattle.std.proofs.Common.{◌≡◌, ◌≢◌, ℕ, ◌≤◌, List, Result, Err, refl, ap, subst, sym, ◌∙◌, arith}
 use Rattle.jsonb_value.specs.Code.{code_of}
 use Rattle.jsonb_value.specs.Grammar.{IsDocument, IsNoDocument}
 use Rattle.jsonb_value.specs.Mode.{Mode}
@@ -75,8 +75,12 @@ memory_wanting_of_two number left right (Text refusal) w a b = absurd (one_denie
 memory_wanting_of_two number left right OutOfMemory w a b = refl
 memory_wanting_of_two number left right UnknownMode w a b = absurd (omega (arith, w, within a.read.chosen))
 
--- the status of want of memory is of no other reason
-pub memory_alone : (reason : Refused) → status_of reason ≡ 2 → reason ≡ OutOfMemory
-memory_alone (Text refusal) e = absurd (omega (arith, e))
-memory_alone OutOfMemory e = refl
-memory_alone UnknownMode e = absurd (omega (arith, e))
+-- memory ran out where the error says so
+pub memory_said : {X Y : Type 0} (count : ℕ) (e : Error) (reason : Refused) → SaysError count e reason → ◌≡◌ {A = Result X Refused} (Err reason) (Err OutOfMemory) → ◌≡◌ {A = Result Y Error} (Err e) (Err errors.OutOfMemory)
+memory_said {X = X} count e reason says is =
+    let same : reason ≡ OutOfMemory = one_error is in
+    let memory : e ≡ errors.OutOfMemory = subst (SaysError count e) same says in
+    ap Err memory
+  where
+    one_error : {a b : Refused} → ◌≡◌ {A = Result X Refused} (Err a) (Err b) → a ≡ b
+    one_error e = cc

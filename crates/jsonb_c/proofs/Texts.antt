@@ -2,9 +2,16 @@
 use Rattle.std.proofs.Common.{◌≡◌, ℕ, false, List, [], ◌++◌, Some, Result, Ok, Err, OnOk, ap, sym, ◌∙◌}
 use Rattle.std.specs.Result.{is_err}
 use Rattle.jsonb_value.specs.Text.{text_of, AppendsText}
+use Rattle.jsonb_value.specs.Grammar.{IsDocument}
+use Rattle.jsonb_value.specs.Mode.{Mode}
 use Rattle.jsonb_value.specs.Tree.{Tree}
 use Rattle.jsonb_value.proofs.Trees.RangeTexts.{document_text_reads_back}
-use Rattle.jsonb_c.specs.Interface.{IsDocumentOf, IsTextOf}
+use Rattle.jsonb.specs.Appends.{IsParsed}
+use Rattle.jsonb.proofs.Documents.Spellings.{document_complete, document_unique}
+use Rattle.jsonb_c.specs.declared.Refused.{Refused}
+use Rattle.jsonb_c.specs.declared.Refused.TheVariants.{Text, OutOfMemory, UnknownMode}
+use Rattle.jsonb_c.specs.Interface.{IsAccepted, IsDocumentOf, IsReason, IsRefused, IsTextOf, NumberChooses}
+use Rattle.jsonb_c.proofs.Reasons.{denied}
 
 pub done : {T E : Type 0} (P : Type 0) (r : Result T E) → is_err r ≡ false → OnOk r P → P
 done P (Ok x) e p = p
@@ -16,3 +23,27 @@ text_is number text t old new read none written =
     let all : new ≡ written.bytes = written.appended ∙ ap (λ bytes. bytes ++ written.bytes) none in
     let is_text : text_of t ≡ Some new = written.is_text ∙ ap Some (sym all) in
     record { tree = t; read = read; is_text = is_text; reads_back = document_text_reads_back read.mode text t read.document new is_text }
+
+-- a text that was parsed
+pub parsed_accepted : {mode : Mode} (number : ℕ) (text : List ℕ) (t : Tree) → NumberChooses number mode → IsParsed mode text t → IsDocumentOf number text t
+parsed_accepted {mode = mode} number text t chosen parsed = record { mode = mode; chosen = chosen; document = parsed.document; only = parsed.only; exact = parsed.exact }
+
+-- a text that is a document
+pub document_accepted : {mode : Mode} (number : ℕ) (text : List ℕ) (t : Tree) → NumberChooses number mode → IsDocument mode text t → IsAccepted number text
+document_accepted {mode = mode} number text t chosen document = record {
+  tree = t;
+  read = record {
+    mode = mode;
+    chosen = chosen;
+    document = document;
+    only = λ u d. document_unique mode text u t d document;
+    exact = document_complete mode text t document;
+  };
+}
+
+-- what is written of a text is a document, so it isn't refused
+pub form_reason : (number : ℕ) (text form : List ℕ) (reason : Refused) → IsTextOf number text form → IsReason number (IsRefused number form 1) reason → IsReason number (IsRefused number text 1) reason
+form_reason number text form (Text refusal) t w =
+    absurd (denied number form 1 refusal w.1 (document_accepted number form t.reads_back.tree t.read.chosen t.reads_back.document))
+form_reason number text form OutOfMemory t w = w
+form_reason number text form UnknownMode t w = w

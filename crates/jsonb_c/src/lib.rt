@@ -6,7 +6,7 @@
 //! overlap any other argument. Each call writes to each `&mut` but the buffer.
 #![tactic(auto)]
 
-ghost use Rattle.std.specs.Prelude.{◌≡◌, ◌≢◌, ◌↔◌, ◌⊎◌, ℕ, List, ◌<◌, ◌≤◌, ◌++◌, min, length, drop, pos, string_bytes, MatchOption, IfOk, IfErr, IfNone, IfSome, Err};
+ghost use Rattle.std.specs.Prelude.{◌≡◌, ◌≢◌, ◌↔◌, ◌⊎◌, ℕ, List, [], ◌<◌, ◌≤◌, ◌++◌, min, length, drop, map, pos, string_bytes, MatchOption, IfOk, IfErr, IfNone, IfSome, OnOk, Err};
 ghost use Rattle.jsonb_value.specs.Code.{Code, code_of};
 ghost use Rattle.jsonb_value.specs.Error.ErrorText.{error_text};
 ghost use Rattle.jsonb_value.specs.Grammar.{IsDocument, IsNoDocument};
@@ -17,16 +17,14 @@ ghost use Rattle.jsonb.specs.Line.{column_at, fault_index, line_at};
 ghost use Rattle.jsonb.specs.Parser.{mode_of, Gives, MayAllocate, IsTextRefusal};
 ghost use Rattle.jsonb.specs.Reading.Document.{document_of};
 ghost use Rattle.jsonb.specs.Refusals.{IsExplained};
-ghost use Rattle.jsonb_document.specs.View.{document_view};
 ghost use Rattle.jsonb_pointer.specs.Path.{IsPath, StartsKey};
 ghost use Rattle.jsonb_c.specs.Interface.{NumberChooses, code_number, nothing, sign, status_of, told, HasNoPartAt, HasPartAt, IsAccepted, IsNoDocumentOf, IsNoPath, IsOneRefused, IsOrdered, IsDocumentOf, IsKeyOf, IsMessageOf, IsPartAnswer, IsReason, IsRefused, IsTextOf, NeedsRoom, NeedsRoomForBoth, SaysError, IsPartOf, Writes};
 
 use jsonb::{
-    Error, Mode, ParseErrorCode, Value, fault_index, line_and_column, parse_value,
-    parse_value_standard_mode,
+    Error, Mode, ParseErrorCode, Value, append_part, append_sort_key, append_text, check,
+    fault_index, line_and_column, may_allocate, parse_value, parse_value_standard_mode,
 };
-use jsonb_document::Document;
-use jsonb_pointer::{part_at, read_keys};
+use jsonb_pointer::read_keys;
 use std::alloc::Global;
 use std::cmp::Ordering;
 
@@ -106,8 +104,8 @@ pub extern "C" fn vizhoniku_check(
     ensures refused { result ≡ REFUSED → IsRefused mode text.now 1 refusal.new }
     ensures nothing { result ≢ REFUSED → refusal.new ≡ nothing }
 {
-    match document_in(alloc, mode, text, 1) {
-        Ok(_) => {
+    match check_text(alloc, mode, text) {
+        Ok(()) => {
             *refusal = NOTHING;
             ACCEPTED
         }
@@ -187,7 +185,7 @@ pub extern "C" fn vizhoniku_sort_key(
     ensures refused { result ≡ REFUSED → IsRefused mode text.now 1 refusal.new }
     ensures nothing { result ≢ REFUSED → refusal.new ≡ nothing }
 {
-    match sort_key_of(alloc, mode, text) {
+    match sort_key_of(alloc, mode, text, 1) {
         Ok(bytes) => {
             *refusal = NOTHING;
             *size = bytes.len();
@@ -200,8 +198,8 @@ pub extern "C" fn vizhoniku_sort_key(
     }
 }
 
-/// Writes the text's value as text and as sort key, parsing the text once: each to the start of a buffer of its own,
-/// with its size. Where one of the buffers is too short, both stay as they are, and the sizes are what is needed.
+/// Writes the text's value as text and as sort key, each to the start of a buffer of its own, with its size. Where one of
+/// the buffers is too short, both stay as they are, and the sizes are what is needed.
 #[unsafe(no_mangle)]
 pub extern "C" fn vizhoniku_text_and_key(
     alloc: Global,
@@ -371,21 +369,36 @@ fn part_of(alloc: Global, mode: u32, path: &[u8], text: &[u8]) -> Result<Part, R
         ⊎ HasPartAt mode path.now text.now }
     ensures reason { IfErr result (IsReason mode (IsRefused mode text.now 1)) }
 {
-    let held = value_of(alloc, mode, text)?;
-    let Ok(spelled) = read_keys(alloc, path) else {
-        return Err(Refused::OutOfMemory);
-    };
-    let Some(keys) = spelled else {
-        return Ok(Part::NoPath);
-    };
-    let Some(part) = part_at(&held.value, &keys) else {
-        return Ok(Part::Nothing);
+    match read_keys(alloc, path) {
+        Ok(Some(keys)) => part_at_keys(alloc, mode, &keys, text),
+        Ok(None) => {
+            check_text(alloc, mode, text)?;
+            Ok(Part::NoPath)
+        }
+        Err(_) => {
+            check_text(alloc, mode, text)?;
+            Err(Refused::OutOfMemory)
+        }
+    }
+}
+
+// What stands at the path of these keys in the value of a text, of which no value is made.
+fn part_at_keys(alloc: Global, mode: u32, keys: &[String], text: &[u8]) -> Result<Part, Refused>
+    ensures part { IfOk result (λ part. (path : List ℕ) → IsPath path (map string_bytes keys.now)
+        → IsPartAnswer mode path text.now part) }
+    ensures known { IfOk result (λ _. mode ≤ 1) }
+    ensures memory { result ≡ Err Refused.OutOfMemory → MayAllocate text.now ⊎ IsAccepted mode text.now }
+    ensures reason { IfErr result (IsReason mode (IsRefused mode text.now 1)) }
+{
+    let Some(mode) = choose_mode(mode) else {
+        return Err(Refused::UnknownMode);
     };
     let mut bytes = Vec::new(alloc);
-    if part.write_text(&mut bytes).is_err() {
-        return Err(Refused::OutOfMemory);
+    match append_part(alloc, text, mode, keys, &mut bytes) {
+        Ok(true) => Ok(Part::Text(bytes)),
+        Ok(false) => Ok(Part::Nothing),
+        Err(error) => Err(reason_of(&error, 1)),
     }
-    Ok(Part::Text(bytes))
 }
 
 /// The version of this interface. It grows by one when a function, a status or a code is added.
@@ -509,8 +522,8 @@ fn message_of(alloc: Global, mode: u32, text: &[u8]) -> Result<Option<String>, R
     let Some(mode) = choose_mode(mode) else {
         return Err(Refused::UnknownMode);
     };
-    let error = match Document::parse(alloc, text, mode) {
-        Ok(_) => return Ok(None),
+    let error = match check(alloc, text, mode) {
+        Ok(()) => return Ok(None),
         Err(error) => error,
     };
     match words_of(alloc, &error) {
@@ -562,16 +575,47 @@ fn tell(refused: Refused, refusal: &mut Refusal) -> u32
     }
 }
 
-// The order of the values of two texts.
+// The order of the values of two texts. Where neither may take memory they are scalars, whose values are compared.
 fn order_of(alloc: Global, mode: u32, left: &[u8], right: &[u8]) -> Result<Ordering, Refused>
     ensures ordered { IfOk result (λ order. IsOrdered mode left.now right.now (sign order)) }
     ensures reason { IfErr result (IsReason mode (IsOneRefused mode left.now right.now)) }
     ensures memory { result ≡ Err Refused.OutOfMemory → MayAllocate left.now
         ⊎ (IsAccepted mode left.now × MayAllocate right.now) }
 {
-    let first = document_in(alloc, mode, left, 1)?;
-    let second = document_in(alloc, mode, right, 2)?;
-    Ok(first.cmp(&second))
+    if may_allocate(left) || may_allocate(right) {
+        return order_of_keys(alloc, mode, left, right);
+    }
+    order_of_scalars(alloc, mode, left, right)
+}
+
+// The order of the values of two texts that take no memory.
+fn order_of_scalars(
+    alloc: Global,
+    mode: u32,
+    left: &[u8],
+    right: &[u8],
+) -> Result<Ordering, Refused>
+    ensures ordered { IfOk result (λ order. IsOrdered mode left.now right.now (sign order)) }
+    ensures reason { IfErr result (IsReason mode (IsOneRefused mode left.now right.now)) }
+    ensures memory { result ≡ Err Refused.OutOfMemory → MayAllocate left.now
+        ⊎ (IsAccepted mode left.now × MayAllocate right.now) }
+{
+    let first = value_of(alloc, mode, left, 1)?;
+    let second = value_of(alloc, mode, right, 2)?;
+    Ok(first.value.cmp(&second.value))
+}
+
+// The order of the values of two texts by the bytes of their sort keys.
+fn order_of_keys(alloc: Global, mode: u32, left: &[u8], right: &[u8]) -> Result<Ordering, Refused>
+    requires { MayAllocate left.now ⊎ MayAllocate right.now }
+    ensures ordered { IfOk result (λ order. IsOrdered mode left.now right.now (sign order)) }
+    ensures reason { IfErr result (IsReason mode (IsOneRefused mode left.now right.now)) }
+    ensures memory { result ≡ Err Refused.OutOfMemory → MayAllocate left.now
+        ⊎ (IsAccepted mode left.now × MayAllocate right.now) }
+{
+    let first = sort_key_of(alloc, mode, left, 1)?;
+    let second = sort_key_of(alloc, mode, right, 2)?;
+    Ok(first.as_slice().cmp(second.as_slice()))
 }
 
 // The number of an order.
@@ -622,22 +666,16 @@ struct TextAndKey {
     key: Vec<u8>,
 }
 
-// The text and the sort key of the value of a text.
+// The text and the sort key of the value of a text. The key is made of the text that was written, which has no whitespace
+// and its members in order, so that this takes less time than another parse of the text.
 fn text_and_key_of(alloc: Global, mode: u32, text: &[u8]) -> Result<TextAndKey, Refused>
     ensures text { IfOk result (λ both. IsTextOf mode text.now both.text.items) }
     ensures key { IfOk result (λ both. IsKeyOf mode text.now both.key.items) }
     ensures reason { IfErr result (IsReason mode (IsRefused mode text.now 1)) }
     ensures memory { result ≡ Err Refused.OutOfMemory → MayAllocate text.now ⊎ IsAccepted mode text.now }
 {
-    let document = document_in(alloc, mode, text, 1)?;
-    let mut bytes = Vec::new(alloc);
-    if document.write_text(&mut bytes).is_err() {
-        return Err(Refused::OutOfMemory);
-    }
-    let mut key = Vec::new(alloc);
-    if document.write_sort_key(&mut key).is_err() {
-        return Err(Refused::OutOfMemory);
-    }
+    let bytes = text_of(alloc, mode, text)?;
+    let key = sort_key_of(alloc, mode, &bytes, 1)?;
     Ok(TextAndKey { text: bytes, key })
 }
 
@@ -647,46 +685,58 @@ fn text_of(alloc: Global, mode: u32, text: &[u8]) -> Result<Vec<u8>, Refused>
     ensures reason { IfErr result (IsReason mode (IsRefused mode text.now 1)) }
     ensures memory { result ≡ Err Refused.OutOfMemory → MayAllocate text.now ⊎ IsAccepted mode text.now }
 {
-    let document = document_in(alloc, mode, text, 1)?;
-    let mut bytes = Vec::new(alloc);
-    if document.write_text(&mut bytes).is_err() {
-        return Err(Refused::OutOfMemory);
+    let Some(mode) = choose_mode(mode) else {
+        return Err(Refused::UnknownMode);
+    };
+    let mut bytes = buffer_of(alloc, text.len());
+    match append_text(alloc, text, mode, &mut bytes) {
+        Ok(()) => Ok(bytes),
+        Err(error) => Err(reason_of(&error, 1)),
     }
-    Ok(bytes)
 }
 
-// The sort key of the value of a text.
-fn sort_key_of(alloc: Global, mode: u32, text: &[u8]) -> Result<Vec<u8>, Refused>
+// The sort key of the value of a text, which is the first or the second of those that a call is given.
+fn sort_key_of(alloc: Global, mode: u32, text: &[u8], which: u32) -> Result<Vec<u8>, Refused>
     ensures key { IfOk result (λ bytes. IsKeyOf mode text.now bytes.items) }
-    ensures reason { IfErr result (IsReason mode (IsRefused mode text.now 1)) }
+    ensures reason { IfErr result (IsReason mode (IsRefused mode text.now which)) }
     ensures memory { result ≡ Err Refused.OutOfMemory → MayAllocate text.now ⊎ IsAccepted mode text.now }
 {
-    let document = document_in(alloc, mode, text, 1)?;
-    let mut bytes = Vec::new(alloc);
-    if document.write_sort_key(&mut bytes).is_err() {
-        return Err(Refused::OutOfMemory);
+    let Some(mode) = choose_mode(mode) else {
+        return Err(Refused::UnknownMode);
+    };
+    let mut bytes = buffer_of(alloc, text.len());
+    match append_sort_key(alloc, text, mode, &mut bytes) {
+        Ok(()) => Ok(bytes),
+        Err(error) => Err(reason_of(&error, which)),
     }
-    Ok(bytes)
 }
 
-// The document that a text is, which is the first or the second of those that a call is given. No value is built.
-fn document_in<'a>(
-    alloc: Global,
-    mode: u32,
-    text: &'a [u8],
-    which: u32,
-) -> Result<Document<'a>, Refused>
-    ensures read { IfOk result (λ d. IsDocumentOf mode text.now (document_view d)) }
-    ensures reason { IfErr result (IsReason mode (IsRefused mode text.now which)) }
+// Checks whether a text is a document.
+fn check_text(alloc: Global, mode: u32, text: &[u8]) -> Result<(), Refused>
+    ensures accepted { OnOk result (IsAccepted mode text.now) }
+    ensures reason { IfErr result (IsReason mode (IsRefused mode text.now 1)) }
     ensures memory { result ≡ Err Refused.OutOfMemory → MayAllocate text.now }
 {
     let Some(mode) = choose_mode(mode) else {
         return Err(Refused::UnknownMode);
     };
-    match Document::parse(alloc, text, mode) {
-        Ok(document) => Ok(document),
-        Err(error) => Err(reason_of(&error, which)),
+    match check(alloc, text, mode) {
+        Ok(()) => Ok(()),
+        Err(error) => Err(reason_of(&error, 1)),
     }
+}
+
+// What is appended of a text is copied 64 bytes at a time, and what is too much is taken back.
+const SPARE: usize = 64;
+
+// An empty buffer, with room for the form of a text of so many bytes, where memory allows it and the form isn't longer
+// than the text. The sort key of a standard document is longer by one byte at most.
+fn buffer_of(alloc: Global, text_len: usize) -> Vec<u8>
+    ensures { result.items ≡ [] }
+{
+    let mut buffer = Vec::new(alloc);
+    let _made = buffer.reserve_exact(text_len.saturating_add(SPARE));
+    buffer
 }
 
 // A value that was read, which is dropped within little machine stack.
@@ -701,10 +751,10 @@ impl Drop for Held<'_> {
     }
 }
 
-// The value of a text.
-fn value_of<'a>(alloc: Global, mode: u32, text: &'a [u8]) -> Result<Held<'a>, Refused>
+// The value of a text, which is the first or the second of those that a call is given.
+fn value_of<'a>(alloc: Global, mode: u32, text: &'a [u8], which: u32) -> Result<Held<'a>, Refused>
     ensures read { IfOk result (λ held. IsDocumentOf mode text.now (view held.value)) }
-    ensures reason { IfErr result (IsReason mode (IsRefused mode text.now 1)) }
+    ensures reason { IfErr result (IsReason mode (IsRefused mode text.now which)) }
     ensures memory { result ≡ Err Refused.OutOfMemory → MayAllocate text.now }
 {
     let Some(mode) = choose_mode(mode) else {
@@ -712,7 +762,7 @@ fn value_of<'a>(alloc: Global, mode: u32, text: &'a [u8]) -> Result<Held<'a>, Re
     };
     match read(alloc, mode, text) {
         Ok(value) => Ok(Held { value }),
-        Err(error) => Err(reason_of(&error, 1)),
+        Err(error) => Err(reason_of(&error, which)),
     }
 }
 

@@ -1,3 +1,2 @@
 pub mod BytesRead
-pub mod TextOfDocument
 pub mod LinesAgain

@@ -10,8 +10,7 @@ ghost use Rattle.jsonb.specs.Refusals.{IsExplained};
 ghost use Rattle.jsonb_cat.specs.Program.{WordsChoose, IsLineOf, LacksRoom, IsAccepted, IsAnswered};
 
 use jsonb::parser::Mode;
-use jsonb::{Error, Result};
-use jsonb_document::Document;
+use jsonb::{Error, Result, append_text};
 use std::alloc::Global;
 use std::io;
 use std::io::{Read, Write};
@@ -23,6 +22,9 @@ const MAX_READS: u32 = 1 << 20;
 
 // How many bytes are free at least when the input is read.
 const MIN_ROOM: usize = 4096;
+
+// How many bytes more than the input has are room for the line.
+const SPARE: usize = 64;
 
 /// The mode of the program's arguments, or `None` where it doesn't take them.
 pub fn choose_mode(words: &[String]) -> Option<Mode>
@@ -37,7 +39,6 @@ pub fn choose_mode(words: &[String]) -> Option<Mode>
 }
 
 /// Appends to `out` the text of the document that `input` is, and a line feed. After an error `out` holds what it held.
-#[tactic(auto, using(crate::proofs::TextOfDocument::document_has_text))]
 pub fn convert(alloc: Global, mode: Mode, input: &[u8], out: &mut Vec<u8>) -> Result<()>
     ensures ok { OnOk result ((line : List ℕ) × IsLineOf (mode_of mode) input.now line
         × (out.new.items ≡ out.old.items ++ line)) }
@@ -52,9 +53,8 @@ pub fn convert(alloc: Global, mode: Mode, input: &[u8], out: &mut Vec<u8>) -> Re
     ensures again { OnOk result ((text : List ℕ) → out.new.items ≡ out.old.items ++ (text ++ 10 ∷ [])
         → (line : List ℕ) → IsLineOf (mode_of mode) text line ↔ (line ≡ text ++ 10 ∷ [])) }
 {
-    let document = Document::parse(alloc, input, mode)?;
     let old_len = out.len();
-    document.write_text(out)?;
+    append_text(alloc, input, mode, out)?;
     if out.push(b'\n').is_err() {
         out.truncate(old_len);
         return Err(Error::OutOfMemory);
@@ -105,7 +105,9 @@ fn line_of<R: Read>(alloc: Global, mode: Mode, input: &mut R) -> Result<Vec<u8>>
     ensures end { OnOk result (IsAtEnd (R.remaining input.new)) }
 {
     let bytes = read_input(alloc, input)?;
+    // Mostly the line isn't longer than the input. It is copied 64 bytes at a time, and what is too much is taken back.
     let mut line = Vec::new(alloc);
+    let _made = line.reserve_exact(bytes.len().saturating_add(SPARE));
     convert(alloc, mode, &bytes, &mut line)?;
     Ok(line)
 }

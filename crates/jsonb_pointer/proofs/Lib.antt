@@ -1,3 +1,6 @@
 pub mod PathParts
+pub mod ArraySizes
+pub mod DocumentParts
 pub mod KeySpelling
+pub mod PartsAt
 pub mod PartsReadBack

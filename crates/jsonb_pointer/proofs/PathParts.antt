@@ -4,7 +4,7 @@ use Rattle.jsonb.specs.Accessors.{as_array, item_at, trees_len}
 use Rattle.jsonb.specs.Tree.{Tree, array, Trees, no_trees, more_trees}
 use Rattle.jsonb_pointer.specs.Path.{IsIndex, IsChild}
 
-item_within : (ts : Trees) (i : ℕ) (t : Tree) → item_at ts i ≡ Some t → i < trees_len ts
+pub item_within : (ts : Trees) (i : ℕ) (t : Tree) → item_at ts i ≡ Some t → i < trees_len ts
 item_within no_trees i t e = cc
 item_within (more_trees u ts) zero t e = omega arith
 item_within (more_trees u ts) (suc i) t e = let rest = item_within ts i t e in omega (arith, rest)

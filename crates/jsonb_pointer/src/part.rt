@@ -6,7 +6,7 @@ ghost use Rattle.jsonb.specs.View.{view};
 ghost use Rattle.jsonb_pointer.specs.Path.{IsIndex, IsChild, IsAt, IsPartAt, HasNoPartAt, IsGetRefusal, IsPartText, HasNoPart, IsPathRefusal};
 
 use crate::keys::read_keys;
-use jsonb::{Error, Value};
+use jsonb::{Error, Mode, Value};
 use std::alloc::{AllocError, Global};
 use std::fmt;
 
@@ -84,19 +84,13 @@ pub fn part_text(alloc: Global, path: &[u8], document: &[u8]) -> Result<Option<V
     let Some(keys) = read_keys(alloc, path)? else {
         return Err(Refusal::NoPath);
     };
-    let value = match jsonb::parse_value(alloc, document) {
-        Ok(value) => value,
-        Err(Error::OutOfMemory) => return Err(Refusal::NoMemory),
-        Err(error) => return Err(Refusal::NoDocument(error)),
-    };
-    let Some(part) = part_at(&value, &keys) else {
-        return Ok(None);
-    };
     let mut text = Vec::new(alloc);
-    let Ok(()) = part.write_text(&mut text) else {
-        return Err(Refusal::NoMemory);
-    };
-    Ok(Some(text))
+    match jsonb::append_part(alloc, document, Mode::Extended, &keys, &mut text) {
+        Ok(true) => Ok(Some(text)),
+        Ok(false) => Ok(None),
+        Err(Error::OutOfMemory) => Err(Refusal::NoMemory),
+        Err(error) => Err(Refusal::NoDocument(error)),
+    }
 }
 
 /// The part of the value at the path of these keys.

@@ -1,24 +1,27 @@
-use Rattle.std.proofs.Common.{◌≡◌, ℕ, List, [], ◌++◌, Some, IfSome, map, string_bytes, ap, subst, sym, ◌∙◌}
-use Rattle.jsonb_value.specs.Text.{text_of, AppendsText}
-use Rattle.jsonb_value.specs.Tree.{Tree}
-use Rattle.jsonb_value.specs.View.{view}
-use Rattle.jsonb_pointer.specs.Path.{IsAt, IsPath}
-use Rattle.jsonb_pointer.proofs.PartsReadBack.{part_reads_back}
-use Rattle.jsonb_c.specs.Interface.{IsDocumentOf, HasPartAt, IsPartOf}
-use Rattle.jsonb_c.proofs.Texts.{done}
+use Rattle.std.proofs.Common.{◌⊎◌, ℕ, List, [], ◌∷◌, ◌++◌, IfSome, inl, inr, map, string_bytes, refl, subst, sym}
+use Rattle.std.proofs.lemmas.Result.{IfOk-weaker}
+use Rattle.jsonb.specs.Parser.{MayAllocate}
+use Rattle.jsonb_pointer.specs.Path.{IsPath, StartsKey, spelled_key, spelled_keys}
+use Rattle.jsonb_c.specs.Interface.{IsAccepted, HasPartAt}
 use Rattle.jsonb_c.proofs.part_of.Goals as goal
 
--- what is appended to nothing is the text of the part
-part_is : (number : ℕ) (path text : List ℕ) (keys : List (List ℕ)) (t part : Tree) (old new : List ℕ) → IsPath path keys → IsDocumentOf number text t → IsAt t keys part → old ≡ [] → AppendsText part old new → IsPartOf number path text new
-part_is number path text keys t part old new is_path read at none written =
-    let all : new ≡ written.bytes = written.appended ∙ ap (λ bytes. bytes ++ written.bytes) none in
-    let is_text : text_of part ≡ Some new = written.is_text ∙ ap Some (sym all) in
-    let found : HasPartAt number path text = record { tree = t; read = read; keys = keys; is_path = is_path; part = part; at = at } in
-    record { found = found; is_text = is_text; reads_back = part_reads_back read.mode text t read.document keys part at new is_text }
+-- where memory ran out, the path has a key, or the part is the whole value
+wanted : (number : ℕ) (path text : List ℕ) (keys : List (List ℕ)) → IsPath path keys → MayAllocate text ⊎ IsAccepted number text
+    → MayAllocate text ⊎ (IsAccepted number text × StartsKey path) ⊎ HasPartAt number path text
+wanted number path text keys is_path (inl may) = inl may
+wanted number path text [] is_path (inr accepted) = inr (inr (record { tree = accepted.tree; read = accepted.read; keys = []; is_path = is_path; part = accepted.tree; at = refl }))
+wanted number path text (key ∷ keys) is_path (inr accepted) = inr (inl (accepted, (spelled_key key ++ spelled_keys keys, is_path.spelled)))
 
-pub returns-clause-part : goal.returns-clause-part
-returns-clause-part c =
-    part_is c.args.mode c.args.path.now c.args.text.now (map string_bytes c.in-Some.keys.items) (view c.in_ok-held.held.value) (view c.in-Some-part_at.part.now) c.new-bytes.result.items c.write_text.new.buf.items
-    (subst (λ answer. IfSome answer (λ keys. IsPath c.args.path.now (map string_bytes keys.items))) c.in-Some.is c.in-Ok.ensures.some) c.in_ok-held.ensures.read
-    (subst (λ items. IsAt (view c.in_ok-held.held.value) (map string_bytes items) (view c.in-Some-part_at.part.now)) c.deref.ensures.value c.in-Some-part_at.ensures.some) c.new-bytes.ensures.items
-    (done _ c.write_text.result (sym c.is_err.ensures.value ∙ c.if-is_err.false) c.write_text.ensures.ok)
+pub returns-in-Ok-Some-clause-part : goal.returns-in-Ok-Some-clause-part
+returns-in-Ok-Some-clause-part c =
+    let is_path : IsPath c.args.path.now (map string_bytes c.in-Ok-Some.keys.items) =
+    subst (λ answer. IfSome answer (λ keys. IsPath c.args.path.now (map string_bytes keys.items))) c.in-Ok-Some.field-0-is c.in-Ok-Some.ensures.some in
+    let passed : IsPath c.args.path.now (map string_bytes c.deref.result.now) =
+    subst (λ items. IsPath c.args.path.now (map string_bytes items)) (sym c.deref.ensures.value) is_path in
+    IfOk-weaker c.part_at_keys.result _ _ (λ part answers. answers c.args.path.now passed) c.part_at_keys.ensures.part
+
+pub returns-in-Ok-Some-clause-memory : goal.returns-in-Ok-Some-clause-memory
+returns-in-Ok-Some-clause-memory c = λ is.
+    let is_path : IsPath c.args.path.now (map string_bytes c.in-Ok-Some.keys.items) =
+    subst (λ answer. IfSome answer (λ keys. IsPath c.args.path.now (map string_bytes keys.items))) c.in-Ok-Some.field-0-is c.in-Ok-Some.ensures.some in
+    wanted c.args.mode c.args.path.now c.args.text.now (map string_bytes c.in-Ok-Some.keys.items) is_path (c.part_at_keys.ensures.memory is)

@@ -1,12 +1,28 @@
-use Rattle.std.proofs.Common.{◌++◌, ap, sym, ◌∙◌}
+use Rattle.std.proofs.Common.{◌++◌, ◌⊎◌, inl, inr, ap, ◌∙◌}
+use Rattle.std.specs.Vec.{vec_capacity, vec_len}
 use Rattle.jsonb_value.specs.SortKey.{key_of}
-use Rattle.jsonb_document.specs.View.{document_view}
+use Rattle.jsonb.specs.Appends.{LacksRoomForKey}
+use Rattle.jsonb.specs.Parser.{MayAllocate, mode_of}
 use Rattle.jsonb_c.proofs.Keys.{key_is}
-use Rattle.jsonb_c.proofs.Texts.{done}
+use Rattle.jsonb_c.proofs.Reasons.{memory_said, reason_says}
+use Rattle.jsonb_c.proofs.Texts.{document_accepted, parsed_accepted}
+use Rattle.jsonb_c.specs.Interface.{IsAccepted}
 use Rattle.jsonb_c.proofs.sort_key_of.Goals as goal
 
-pub returns-clause-key : goal.returns-clause-key
-returns-clause-key c =
-    let tree = document_view c.in_ok-document.document in
-    let appended = done _ c.write_sort_key.result (sym c.is_err.ensures.value ∙ c.if-is_err.false) c.write_sort_key.ensures.ok in
-    key_is c.args.mode c.args.text.now c.write_sort_key.new.buf.items tree c.in_ok-document.ensures.read (appended ∙ ap (λ old. old ++ key_of tree) c.new-bytes.ensures.items)
+pub returns-in-Ok-clause-key : goal.returns-in-Ok-clause-key
+returns-in-Ok-clause-key c =
+    let appended = c.in-Ok.ensures.ok in
+    key_is c.args.mode c.args.text.now _ appended.tree (parsed_accepted c.args.mode c.args.text.now appended.tree c.in-Some.ensures appended.parsed) (appended.appended ∙ ap (λ old. old ++ key_of appended.tree) c.buffer_of-bytes.ensures)
+
+pub returns-in-Err-clause-reason : goal.returns-in-Err-clause-reason
+returns-in-Err-clause-reason c =
+    reason_says c.args.mode (mode_of c.in-Some.mode) c.args.text.now c.args.which c.in-Err.error c.reason_of.result c.in-Some.ensures c.in-Err.ensures.refused c.in-Err.ensures.exact c.in-Err.ensures.explained
+    c.reason_of.ensures
+
+pub returns-in-Err-clause-memory : goal.returns-in-Err-clause-memory
+returns-in-Err-clause-memory c = λ is.
+    by_memory (c.in-Err.ensures.memory (memory_said c.args.which c.in-Err.error c.reason_of.result c.reason_of.ensures is))
+  where
+    by_memory : MayAllocate c.args.text.now ⊎ LacksRoomForKey (mode_of c.in-Some.mode) c.args.text.now (vec_capacity c.buffer_of-bytes.result) (vec_len c.buffer_of-bytes.result) → MayAllocate c.args.text.now ⊎ IsAccepted c.args.mode c.args.text.now
+    by_memory (inl may) = inl may
+    by_memory (inr lacks) = inr (document_accepted c.args.mode c.args.text.now lacks.tree c.in-Some.ensures lacks.document)

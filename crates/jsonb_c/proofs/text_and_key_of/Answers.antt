@@ -1,17 +1,20 @@
-use Rattle.std.proofs.Common.{◌++◌, ap, sym, ◌∙◌}
-use Rattle.jsonb_value.specs.SortKey.{key_of}
-use Rattle.jsonb_document.specs.View.{document_view}
-use Rattle.jsonb_c.proofs.Keys.{key_is}
-use Rattle.jsonb_c.proofs.Texts.{done, text_is}
+use Rattle.std.proofs.Common.{inr, subst}
+use Rattle.std.proofs.lemmas.Result.{err_from_is_err_and}
+use Rattle.jsonb_c.specs.Interface.{IsKeyOf, IsReason, IsRefused}
+use Rattle.jsonb_c.proofs.Keys.{key_of_form}
+use Rattle.jsonb_c.proofs.Texts.{form_reason}
 use Rattle.jsonb_c.proofs.text_and_key_of.Goals as goal
-
-pub returns-clause-text : goal.returns-clause-text
-returns-clause-text c =
-    text_is c.args.mode c.args.text.now (document_view c.in_ok-document.document) c.new-bytes.result.items c.write_text.new.buf.items c.in_ok-document.ensures.read c.new-bytes.ensures.items
-    (done _ c.write_text.result (sym c.is_err.ensures.value ∙ c.if-is_err.false) c.write_text.ensures.ok)
 
 pub returns-clause-key : goal.returns-clause-key
 returns-clause-key c =
-    let tree = document_view c.in_ok-document.document in
-    let appended = done _ c.write_sort_key.result (sym c.is_err-2.ensures.value ∙ c.if-is_err-2.false) c.write_sort_key.ensures.ok in
-    key_is c.args.mode c.args.text.now c.write_sort_key.new.buf.items tree c.in_ok-document.ensures.read (appended ∙ ap (λ old. old ++ key_of tree) c.new-key.ensures.items)
+    key_of_form c.args.mode c.args.text.now c.in_ok-bytes.bytes.items c.in_ok-key.key.items c.in_ok-bytes.ensures.text
+    (subst (λ form. IsKeyOf c.args.mode form c.in_ok-key.key.items) c.deref.ensures.value c.in_ok-key.ensures.key)
+
+pub returns-in_err-key-clause-reason : goal.returns-in_err-key-clause-reason
+returns-in_err-key-clause-reason c =
+    let residual = err_from_is_err_and c.from_residual-in_err-key.result c.from_residual-in_err-key.ensures.1 in
+    rw (residual.1, residual.2) (form_reason c.args.mode c.args.text.now c.in_ok-bytes.bytes.items c.in_err-key.field-0.0 c.in_ok-bytes.ensures.text
+    (subst (λ form. IsReason c.args.mode (IsRefused c.args.mode form 1) c.in_err-key.field-0.0) c.deref.ensures.value c.in_err-key.ensures.reason))
+
+pub returns-in_err-key-clause-memory : goal.returns-in_err-key-clause-memory
+returns-in_err-key-clause-memory c = λ is. inr (record { tree = c.in_ok-bytes.ensures.text.tree; read = c.in_ok-bytes.ensures.text.read })

@@ -1,9 +1,26 @@
-use Rattle.std.proofs.Common.{sym, ◌∙◌}
-use Rattle.jsonb_document.specs.View.{document_view}
-use Rattle.jsonb_c.proofs.Texts.{done, text_is}
+use Rattle.std.proofs.Common.{◌⊎◌, inl, inr}
+use Rattle.std.specs.Vec.{vec_capacity, vec_len}
+use Rattle.jsonb.specs.Appends.{LacksRoomForText}
+use Rattle.jsonb.specs.Parser.{MayAllocate, mode_of}
+use Rattle.jsonb_c.proofs.Reasons.{memory_said, reason_says}
+use Rattle.jsonb_c.proofs.Texts.{document_accepted, parsed_accepted, text_is}
+use Rattle.jsonb_c.specs.Interface.{IsAccepted}
 use Rattle.jsonb_c.proofs.text_of.Goals as goal
 
-pub returns-clause-text : goal.returns-clause-text
-returns-clause-text c =
-    text_is c.args.mode c.args.text.now (document_view c.in_ok-document.document) c.new-bytes.result.items c.write_text.new.buf.items c.in_ok-document.ensures.read c.new-bytes.ensures.items
-    (done _ c.write_text.result (sym c.is_err.ensures.value ∙ c.if-is_err.false) c.write_text.ensures.ok)
+pub returns-in-Ok-clause-text : goal.returns-in-Ok-clause-text
+returns-in-Ok-clause-text c =
+    let appended = c.in-Ok.ensures.ok in
+    text_is c.args.mode c.args.text.now appended.tree c.buffer_of-bytes.result.items _ (parsed_accepted c.args.mode c.args.text.now appended.tree c.in-Some.ensures appended.parsed) c.buffer_of-bytes.ensures appended.appended
+
+pub returns-in-Err-clause-reason : goal.returns-in-Err-clause-reason
+returns-in-Err-clause-reason c =
+    reason_says c.args.mode (mode_of c.in-Some.mode) c.args.text.now 1 c.in-Err.error c.reason_of.result c.in-Some.ensures c.in-Err.ensures.refused c.in-Err.ensures.exact c.in-Err.ensures.explained
+    c.reason_of.ensures
+
+pub returns-in-Err-clause-memory : goal.returns-in-Err-clause-memory
+returns-in-Err-clause-memory c = λ is.
+    by_memory (c.in-Err.ensures.memory (memory_said 1 c.in-Err.error c.reason_of.result c.reason_of.ensures is))
+  where
+    by_memory : MayAllocate c.args.text.now ⊎ LacksRoomForText (mode_of c.in-Some.mode) c.args.text.now (vec_capacity c.buffer_of-bytes.result) (vec_len c.buffer_of-bytes.result) → MayAllocate c.args.text.now ⊎ IsAccepted c.args.mode c.args.text.now
+    by_memory (inl may) = inl may
+    by_memory (inr lacks) = inr (document_accepted c.args.mode c.args.text.now lacks.tree c.in-Some.ensures lacks.document)

@@ -1,31 +1,45 @@
-use Rattle.std.proofs.Common.{◌≡◌, ℕ, List, [], ◌++◌, Some, IfSome, map, string_bytes, ap, subst, sym, ◌∙◌}
-use Rattle.jsonb_value.specs.Grammar.{IsDocument}
+use Rattle.std.proofs.Common.{◌<◌, ◌^◌, Err, length, rules, List, ℕ, IfSome, false, true, inl, inr, map, string_bytes, subst, sym, ap}
 use Rattle.jsonb_value.specs.Mode.{extended}
-use Rattle.jsonb_value.specs.Text.{text_of, AppendsText}
-use Rattle.jsonb_value.specs.Tree.{Tree}
-use Rattle.jsonb_value.specs.View.{view}
-use Rattle.jsonb_pointer.specs.Path.{IsAt, IsPath, IsPartText}
-use Rattle.jsonb_pointer.proofs.PartsReadBack.{part_reads_back}
+use Rattle.jsonb.specs.Appends.{AppendsPartOf}
+use Rattle.jsonb_pointer.specs.Path.{IsPath}
+use Rattle.jsonb_pointer.proofs.DocumentParts.{IsNothingThere, IsTextThere, nothing_there, text_there}
 use Rattle.jsonb_pointer.proofs.part.part_text.Goals as goal
 
--- what is appended to nothing is the text of the part
-part_is : (path document : List ℕ) (keys : List (List ℕ)) (t part : Tree) (old new : List ℕ) → IsPath path keys → IsDocument extended document t → IsAt t keys part → old ≡ [] → AppendsText part old new → IsPartText path document new
-part_is path document keys t part old new is_path read at none written =
-    let all : new ≡ written.bytes = written.appended ∙ ap (λ bytes. bytes ++ written.bytes) none in
-    let text : text_of part ≡ Some new = written.is_text ∙ ap Some (sym all) in
+pub returns-in-Ok-true-clause-ok : goal.returns-in-Ok-true-clause-ok
+returns-in-Ok-true-clause-ok c =
+    let text = c.append_part.new.buf.items in
+    let keys = map string_bytes c.in-Some.keys.items in
+    let appends : AppendsPartOf extended c.args.document.now keys c.new-text.result.items text true =
+    subst (λ ks. AppendsPartOf extended c.args.document.now (map string_bytes ks) c.new-text.result.items text true) c.deref.ensures.value
+    (subst (λ b. AppendsPartOf extended c.args.document.now (map string_bytes c.deref.result.now) c.new-text.result.items text b) c.in-Ok-true.field-0-test c.in-Ok-true.ensures.ok) in
+    let there : IsTextThere extended c.args.document.now keys text = text_there extended c.args.document.now keys c.new-text.result.items text c.new-text.ensures.items appends in
     record {
       keys = keys;
-      is_path = is_path;
-      tree = t;
-      is_document = read;
-      part = part;
-      at = at;
-      text = text;
-      reads_back = part_reads_back extended document t read keys part at new text;
+      is_path = subst (λ answer. IfSome answer (λ ks. IsPath c.args.path.now (map string_bytes ks.items))) c.in-Some.is c.in_ok-keys.ensures.some;
+      tree = there.tree;
+      is_document = there.parsed.document;
+      part = there.part;
+      at = there.at;
+      text = there.is_text;
+      reads_back = there.reads_back;
     }
 
-pub returns-clause-ok : goal.returns-clause-ok
-returns-clause-ok c =
-    part_is c.args.path.now c.args.document.now (map string_bytes c.in-Some.keys.items) (view c.in-Ok.value) (view c.in-Some-part_at.part.now) c.new-text.result.items c.write_text.new.buf.items
-    (subst (λ answer. IfSome answer (λ keys. IsPath c.args.path.now (map string_bytes keys.items))) c.in-Some.is c.in_ok-keys.ensures.some) c.in-Ok.ensures.document
-    (subst (λ items. IsAt (view c.in-Ok.value) (map string_bytes items) (view c.in-Some-part_at.part.now)) c.deref.ensures.value c.in-Some-part_at.ensures.some) c.new-text.ensures.items c.in-Ok-write_text.ensures.ok
+pub returns-in-Ok-false-clause-ok : goal.returns-in-Ok-false-clause-ok
+returns-in-Ok-false-clause-ok c =
+    let text = c.append_part.new.buf.items in
+    let keys = map string_bytes c.in-Some.keys.items in
+    let appends : AppendsPartOf extended c.args.document.now keys c.new-text.result.items text false =
+    subst (λ ks. AppendsPartOf extended c.args.document.now (map string_bytes ks) c.new-text.result.items text false) c.deref.ensures.value
+    (subst (λ b. AppendsPartOf extended c.args.document.now (map string_bytes c.deref.result.now) c.new-text.result.items text b) c.in-Ok-false.field-0-test c.in-Ok-false.ensures.ok) in
+    let small : length c.args.document.now < 2 ^ 64 = search rules in
+    let nothing : IsNothingThere extended c.args.document.now keys = nothing_there extended c.args.document.now keys c.new-text.result.items text small appends in
+    record {
+      keys = keys;
+      is_path = subst (λ answer. IfSome answer (λ ks. IsPath c.args.path.now (map string_bytes ks.items))) c.in-Some.is c.in_ok-keys.ensures.some;
+      tree = nothing.tree;
+      is_document = nothing.parsed.document;
+      none = nothing.none;
+    }
+
+pub returns-in-Err-OutOfMemory-clause-refused : goal.returns-in-Err-OutOfMemory-clause-refused
+returns-in-Err-OutOfMemory-clause-refused c = inr (c.in-Err-OutOfMemory.ensures.memory (ap Err c.in-Err-OutOfMemory.field-0-is))

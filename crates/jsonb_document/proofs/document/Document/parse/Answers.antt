@@ -1,7 +1,7 @@
 use Rattle.jsonb_value.proofs.Trees.RangeTexts.{document_in_range}
 use Rattle.jsonb_scan.specs.Answer.{mode_of}
 use Rattle.jsonb_document.proofs.InOrder.{placed_is_listed}
-use Rattle.jsonb_document.proofs.JsonKinds.{document_bounded}
+use Rattle.jsonb.proofs.Documents.Bounds.{document_bounded}
 use Rattle.jsonb_document.proofs.document.Document.parse.Goals as goal
 
 pub invariant_of-result : goal.invariant_of-result
