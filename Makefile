@@ -21,7 +21,7 @@ WITH_BYTES = check text part sort_key text_and_key compare place message
 
 # Of the kit's archives only that of malloc, realloc and free is called.
 KIT = $(shell dirname "$$(rt doc)")
-CRATES = jsonb_value jsonb_scan jsonb_write jsonb jsonb_pointer jsonb_document jsonb_c
+CRATES = jsonb_value jsonb_scan jsonb_write jsonb jsonb_pointer jsonb_c
 SOURCES := crates.txt $(shell find $(CRATES:%=crates/%) -name out -prune -o \( -name '*.rt' -o -name '*.antt' \) -print)
 BUILT = crates/jsonb_c/out/libjsonb_c.a
 

@@ -8,8 +8,9 @@
  *  - No pointer is null, but that of a text, a path or a buffer of size 0, which isn't dereferenced.
  *  - What a call writes to (buffer, size, order, refusal, place) doesn't overlap any other argument.
  *  - No text and no buffer is longer than PTRDIFF_MAX bytes.
- *  - The thread has 112 KB of stack free, where input is untrusted: no call was seen to take more. docs/C.md has
- *    figures. A thread of musl has 128 KB by default.
+ *  - The thread has 112 KB of stack free, where input is untrusted: no call was seen to take more, and
+ *    vizhoniku_check and vizhoniku_message take no more than 32 KB. docs/C.md has figures. A thread of musl has 128 KB
+ *    by default.
  *  - No call comes from a signal handler, or from the child that a process with threads forked.
  *  - malloc, realloc and free are of one allocator, and align a block to each power of two up to 16 that divides its
  *    size.
@@ -116,8 +117,8 @@ uint32_t vizhoniku_part(uint32_t mode, const unsigned char *path, size_t path_si
 uint32_t vizhoniku_sort_key(uint32_t mode, const unsigned char *text, size_t text_size, unsigned char *buffer,
                             size_t buffer_size, size_t *size, struct vizhoniku_refusal *refusal);
 
-/* Writes the text's value as text and as sort key, as vizhoniku_text and vizhoniku_sort_key do, parsing the text once:
- * each to the start of a buffer of its own. The two buffers don't overlap.
+/* Writes the text's value as text and as sort key, as vizhoniku_text and vizhoniku_sort_key do: each to the start of a
+ * buffer of its own. The two buffers don't overlap.
  *
  *  - VIZHONIKU_ACCEPTED: *size and *key_size bytes were written. The rest of both buffers is as before.
  *  - VIZHONIKU_TOO_SHORT: one of the buffers is too short. *size and *key_size bytes are needed, and nothing was
@@ -148,7 +149,7 @@ void vizhoniku_place(const unsigned char *text, size_t text_size, const struct v
                      struct vizhoniku_location *place);
 
 /* Writes the error message of the text to the start of the buffer, as the program jsonb_cat prints it, such as
- * `duplicate object attribute "a", pos 10`. The text is parsed again for that.
+ * `duplicate object attribute "a", pos 10`. The text is parsed for that, so no other call need check it before.
  *
  *  - VIZHONIKU_REFUSED: *size bytes were written, with no zero byte after them. The rest of the buffer is as before.
  *  - VIZHONIKU_TOO_SHORT: *size bytes are needed, and nothing was written.

@@ -12,15 +12,10 @@
 
 #include "vizhoniku.h"
 
-/* Sizes in bytes, on a machine of 64 bits (bench/README.md). A value has 64, as has a node of the tree that is read
- * where no value is built; a member of that tree has 112, with its key and an offset. A node of a map has room for 15
- * members, and for what points to the nodes below it. */
-#define VALUE 64
-#define MEMBER (VALUE + 48)
-#define MAP_NODE (1328 + 16 * 8)
-
-/* An array of values keeps room for so many more than it has, and no more. */
-#define SPARE 15
+/* Sizes in bytes, on a machine of 64 bits (bench/README.md): an entry for each member of the objects that are open, and
+ * of an object whose keys don't ascend so much more for each member when it ends. */
+#define ENTRY 48
+#define RANK 16
 
 /* A vector has room for as many as it has at least, and for 4. */
 #define ROOM(count) ((count) > 2 ? 2 * (count) : 4)
@@ -153,16 +148,11 @@ static struct text make(enum kind kind, int count) {
   return text;
 }
 
-/* The most that a document takes, as a tree and as a value, once it is read or while it is. */
-struct bounds {
-  size_t tree, value;
-};
-
-static struct bounds bounds_of(const struct text *text) {
-  size_t counts[LEVELS] = {0}, widest[LEVELS] = {0}, depth = 0, deepest = 0;
+/* The most that a text takes while it is parsed, beside what is written of it. */
+static size_t bound_of(const struct text *text) {
+  size_t counts[LEVELS] = {0}, depth = 0, deepest = 0;
+  size_t members = 0, most_members = 0, widest_object = 0; /* of the objects that are open */
   int is_object[LEVELS] = {0};
-  /* Strings with escapes are decoded, keys are copied, and both are no longer than the text. */
-  struct bounds bounds = {FIXED + text->size, FIXED + text->size};
   for (size_t i = 0; i < text->size; i++) {
     unsigned char byte = text->bytes[i];
     if (byte == '"') {
@@ -170,23 +160,21 @@ static struct bounds bounds_of(const struct text *text) {
     } else if (byte == '[' || byte == '{') {
       is_object[depth] = byte == '{';
       counts[depth] = text->bytes[i + 1] != byte + 2;
+      if (byte == '{') members += counts[depth];
       depth++;
       if (depth > deepest) deepest = depth;
     } else if (byte == ',') {
       counts[depth - 1]++;
+      if (is_object[depth - 1]) members++;
     } else if (byte == ']' || byte == '}') {
       size_t count = counts[--depth];
-      bounds.tree += ROOM(count) * (is_object[depth] ? MEMBER : VALUE);
-      /* Each node but the root is at least half full. */
-      bounds.value += is_object[depth] ? (1 + count / 7) * MAP_NODE : (count + SPARE) * VALUE;
-      if (!is_object[depth] && count > widest[depth]) widest[depth] = count;
+      if (members > most_members) most_members = members;
+      if (is_object[depth]) members -= count;
+      if (is_object[depth] && count > widest_object) widest_object = count;
     }
   }
-  /* While an array is read it has room for as many again. */
-  for (size_t level = 0; level < deepest; level++) bounds.value += widest[level] * VALUE;
-  bounds.tree += deepest * LEVEL;
-  bounds.value += deepest * LEVEL;
-  return bounds;
+  /* Keys with escapes are decoded, and no longer than the text. */
+  return FIXED + text->size + deepest * LEVEL + ROOM(most_members) * ENTRY + ROOM(widest_object) * RANK;
 }
 
 /* Each function of the library that takes memory, by a number. */
@@ -246,7 +234,7 @@ static void compare(enum function function, enum kind kind, int count, int is_as
 
 /* Each function over one text, with buffers that are long enough and with none. */
 static void measure(enum kind kind, int count, const struct text *text, uint32_t wanted) {
-  struct bounds bounds = bounds_of(text);
+  size_t bound = bound_of(text);
   size_t room = 2 * text->size + 64, written;
   unsigned char *buffer = __real_malloc(room), *key_buffer = __real_malloc(room);
   uint32_t status;
@@ -267,15 +255,15 @@ static void measure(enum kind kind, int count, const struct text *text, uint32_t
       faults++;
       printf("%s kept %zu bytes: %s, %d\n", functions[function], held, kinds[kind], count);
     }
-    /* The tree of one text, or of two, or the value, and what is written, in a vector for each. Where no value is
-     * built, the text is read again as a tree, to say what is wrong. */
-    size_t one = function == PART ? bounds.value : function == COMPARE ? 2 * bounds.tree : bounds.tree;
-    if (function == PART && wanted != VIZHONIKU_ACCEPTED && one < bounds.tree) one = bounds.tree;
+    /* What is written, in a vector for each, and of an object that is out of order once more. Of two texts the sort
+     * keys are held, and of a part two copies beside the whole. */
+    size_t one = bound;
+    if (function != CHECK && function != MESSAGE) one += 2 * (text->size + 1);
+    if (function == COMPARE || function == PART) one += text->size + 1;
+    if (function == PART) one += text->size + 1;
     compare(function, kind, count, 0, most, one + ROOM(written));
-    /* A vector that grows to its room by doubling asks for twice that. An array of values had room for up to twice what
-     * it has, for which it asked four times as much, and once more when it gave back the rest. */
-    if (function == PART && wanted != VIZHONIKU_ACCEPTED) one = bounds.value + bounds.tree;
-    compare(function, kind, count, 1, asked, (function == PART ? 5 : 3) * (one + ROOM(written)));
+    /* A vector that grows to its room by doubling asks for twice that. */
+    compare(function, kind, count, 1, asked, 3 * (one + ROOM(written)));
   }
   __real_free(key_buffer);
   __real_free(buffer);

@@ -2,10 +2,11 @@
  *
  * usage: stack [KB]
  *
- * Each call runs in a thread of its own, whose stack has KB kilobytes (128) and is filled with one byte before. What lies
- * lowest of what no longer is that byte tells how much the call took. A page below the stack ends the process where it is
- * used up. For some texts each request for memory in turn is refused, by the functions below that the linker puts in the
- * place of the C library's (--wrap). Prints the most that each call took. The status is 1 where that is more than LIMIT. */
+ * Each call runs in a thread of its own, whose stack has KB kilobytes (128) and is filled with one byte before. What
+ * lies lowest of what no longer is that byte tells how much the call took. A page below the stack ends the process where
+ * it is used up. For some texts each request for memory in turn is refused, by the functions below that the linker puts
+ * in the place of the C library's (--wrap). Prints the most that each call took, where it makes a value and where it
+ * makes none. The status is 1 where that is more than it may be. */
 #define _GNU_SOURCE
 #include <pthread.h>
 #include <stdint.h>
@@ -16,8 +17,10 @@
 
 #include "vizhoniku.h"
 
-/* What a call may take, in bytes. */
+/* What a call may take, in bytes: where a value is made, and where none is. A value is made where objects out of order
+ * stand around most of a text at more than eight levels. */
 #define LIMIT (112 * 1024)
+#define SMALL_LIMIT (32 * 1024)
 
 /* As many arrays and objects may be open at once. */
 #define LEVELS 512
@@ -60,9 +63,9 @@ static void add(struct text *text, const char *bytes) {
 }
 
 /* What stands in one another. */
-enum kind { ARRAYS, OBJECTS, IN_TURN };
+enum kind { ARRAYS, OBJECTS, IN_TURN, OUT_OF_ORDER };
 
-static const char *const kinds[] = {"arrays", "objects", "arrays and objects in turn"};
+static const char *const kinds[] = {"arrays", "objects", "arrays and objects in turn", "objects out of order"};
 
 /* What stands before or behind the value, or is wrong inside. */
 enum end {
@@ -90,7 +93,12 @@ struct shape {
 };
 
 static int is_object(const struct shape *shape, int level) {
-  return shape->kind == OBJECTS || (shape->kind == IN_TURN && level % 2 == 1);
+  return shape->kind == OBJECTS || shape->kind == OUT_OF_ORDER || (shape->kind == IN_TURN && level % 2 == 1);
+}
+
+/* The key of the deep one, below those of the others or above them. */
+static const char *deep_key(const struct shape *shape) {
+  return (shape->kind == OUT_OF_ORDER) != shape->is_first ? "a" : "z";
 }
 
 /* The members of one level that hold nothing, which stand on one side of the deep one. */
@@ -111,15 +119,19 @@ static void add_shallow(struct text *text, const struct shape *shape, int level)
 static struct text make_path(const struct shape *shape) {
   struct text path = {0};
   char index[16];
-  snprintf(index, sizeof index, "/%d", shape->is_first ? 0 : shape->members - 1);
-  for (int level = 0; level < LEVELS; level++) add(&path, is_object(shape, level) ? (shape->is_first ? "/a" : "/z") : index);
+  snprintf(index, sizeof index, "%d", shape->is_first ? 0 : shape->members - 1);
+  for (int level = 0; level < LEVELS; level++) {
+    add(&path, "/");
+    add(&path, is_object(shape, level) ? deep_key(shape) : index);
+  }
   return path;
 }
 
 static struct text make(const struct shape *shape) {
   struct text text = {0};
   int levels = shape->end == TOO_DEEP ? LEVELS + 1 : LEVELS;
-  const char *key = shape->is_first ? "\"a\":" : "\"z\":";
+  char key[8];
+  snprintf(key, sizeof key, "\"%s\":", deep_key(shape));
   if (shape->end == COMMENT) add(&text, "/*\xff*/");
   for (int level = 0; level < levels; level++) {
     add(&text, is_object(shape, level) ? "{" : "[");
@@ -218,10 +230,14 @@ static size_t taken(struct call *call, const struct stack *stack) {
   return (size_t)(call->top - (const unsigned char *)(stack->words + lowest));
 }
 
-/* The most that each function took, and over which text. */
-static size_t most[FUNCTIONS];
-static struct shape where[FUNCTIONS];
+/* The most that each function took where it made no value and where it made one, and over which text. */
+static size_t most[FUNCTIONS][2];
+static struct shape where[FUNCTIONS][2];
 static long runs, wrong;
+
+static int makes_value(enum function function, const struct shape *shape) {
+  return shape->kind == OUT_OF_ORDER && function != CHECK && function != MESSAGE;
+}
 
 /* Each function over one text, with ample memory, and, in extended mode and with one member, with each request refused in
  * turn. */
@@ -245,9 +261,10 @@ static void measure(const struct shape *shape, const struct stack *stack) {
         last = shape->members == 1 && call.mode == VIZHONIKU_EXTENDED ? asked : 0;
       }
       if (call.status != whole && call.status != VIZHONIKU_OUT_OF_MEMORY) wrong++;
-      if (took > most[call.function]) {
-        most[call.function] = took;
-        where[call.function] = *shape;
+      int is_made = makes_value(call.function, shape);
+      if (took > most[call.function][is_made]) {
+        most[call.function][is_made] = took;
+        where[call.function][is_made] = *shape;
       }
     }
     /* A comment is refused in standard mode, and a fault in both. */
@@ -268,12 +285,13 @@ int main(int count, char **words) {
   stack.words = (uint64_t *)(void *)(room + PAGE);
   fill(&stack, 0);
   static const int members[] = {1, 30, 5001};
-  for (int kind = ARRAYS; kind <= IN_TURN; kind++) {
+  for (int kind = ARRAYS; kind <= OUT_OF_ORDER; kind++) {
     for (int i = 0; i < 3; i++) {
       for (int is_first = 0; is_first < (members[i] > 1 ? 2 : 1); is_first++) {
         for (int end = WHOLE; end < ENDS; end++) {
           struct shape shape = {(enum kind)kind, members[i], is_first, (enum end)end};
           if ((end == KEY_AGAIN || end == KEY_BEFORE) && kind != OBJECTS) continue;
+          if (kind == OUT_OF_ORDER && members[i] != 30) continue;
           if (members[i] > 30 && (kind == IN_TURN || end > TRAILING || (end != WHOLE && !is_first))) continue;
           measure(&shape, &stack);
         }
@@ -281,12 +299,19 @@ int main(int count, char **words) {
     }
   }
   int over = 0;
-  for (int i = 0; i < FUNCTIONS; i++) {
-    const struct shape *shape = &where[i];
-    printf("%s took %zu bytes at most: %s of %d, the deep one %s%s\n", functions[i], most[i], kinds[shape->kind],
-           shape->members, shape->is_first ? "first" : "last", ends[shape->end]);
-    if (most[i] > LIMIT) over++;
+  for (int i = 0; i < 2 * FUNCTIONS; i++) {
+    int is_made = i / FUNCTIONS, function = i % FUNCTIONS, limit = is_made ? LIMIT : SMALL_LIMIT;
+    const struct shape *shape = &where[function][is_made];
+    size_t took = most[function][is_made];
+    if (!took) continue;
+    printf("%s took %zu bytes at most, with %s: %s of %d, the deep one %s%s\n", functions[function], took,
+           is_made ? "a value" : "no value", kinds[shape->kind], shape->members, shape->is_first ? "first" : "last",
+           ends[shape->end]);
+    if (took > (size_t)limit) {
+      over++;
+      printf("that is more than %d\n", limit);
+    }
   }
-  printf("%ld calls, %ld answered otherwise, %d functions took more than %d bytes\n", runs, wrong, over, LIMIT);
+  printf("%ld calls, %ld answered otherwise, %d took more than they may\n", runs, wrong, over);
   return over || wrong;
 }

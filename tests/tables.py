@@ -7,6 +7,14 @@ import itertools
 LENGTHS = range(71)
 ESCAPE = b"\\n"
 
+# Around the ends of vectors of 16 and of 32 bytes, what is written another way than it is read, and what isn't: escapes,
+# units alone and in pairs, a control byte and the quotes.
+NEAR = (*range(13, 18), *range(29, 34))
+OTHERS = [
+    b"\\\\", b'\\"', b"\\/", b"\\b", b"\\'", b"\\u0000", b"\\u001F", b"\\u{00e9}", b"\\uD83D\\uDE00", b"\\uDE00",
+    b"\\uD83D\\u0041", b"\\u00", b"\\z", b"\x00", b"\x1f", b"\xc3\xa9", b'"', b"'",
+]
+
 # Each byte of these is replaced by each byte.
 DOCUMENTS = [b"{b:'x', a:+007}", b"[1/*a*/,//b\n2] //c", b'"\\uD834\\u{DD1E}\\n\\\\"', b"[-1.50,0x1F,+.5,00.]"]
 
@@ -18,8 +26,14 @@ def bodies():
             yield b"a" * before + ESCAPE + b"a" * (length - before)
 
 
+def other_bodies():
+    for length, other in itertools.product(NEAR, OTHERS):
+        for before in range(length + 1):
+            yield b"a" * before + other + b"a" * (length - before)
+
+
 def strings():
-    for body, quote in itertools.product(bodies(), (b'"', b"'")):
+    for body, quote in itertools.product(itertools.chain(bodies(), other_bodies()), (b'"', b"'")):
         yield quote + body
         yield quote + body + quote
 

@@ -287,11 +287,12 @@ class Loading(InAnInterpreter):
         told = self.run_with("""
 import resource
 import vizhoniku
-text = "[" + '{"a":1},' * 400_000 + "1]"
+# Objects out of order at many levels hold the items, so the library makes a value of the text.
+text = '{"b":0,"a":' * 20 + "[" + '{"a":1},' * 400_000 + "1]" + "}" * 20
 size = int(open("/proc/self/statm").read().split()[0]) * resource.getpagesize()
 resource.setrlimit(resource.RLIMIT_AS, (size + 50_000_000, resource.RLIM_INFINITY))
 try:
-    vizhoniku.check(text)
+    vizhoniku.text(text)
 except MemoryError:
     print("MemoryError")
 print(vizhoniku.text("[1, 2]"))

@@ -5,7 +5,7 @@
 //! | line | result |
 //! |---|---|
 //! | one text, which is accepted | `ok`, its tree, its serialized form in hexadecimal, and `same` or `differs` |
-//! | one text, which is rejected | `no` and the printed error, in hexadecimal; and `differs` where a text that is appended straight is rejected otherwise, or changes the buffer |
+//! | one text, which is rejected | `no` and the printed error, in hexadecimal; and `differs` where a text that is checked or appended straight is rejected otherwise, or changes the buffer |
 //! | two texts, which are accepted | `less`, `equal` or `greater`; `differs` where documents compare otherwise |
 //! | a text for its key | `ok`, the sort key in hexadecimal, and `differs` where the key's value isn't equal, or where a document's key or the key that is appended straight is another; or `no` as above |
 //! | contents | `ok` and their text in hexadecimal, or `no` as above; and the offset that `parse_string` leaves |
@@ -18,7 +18,7 @@
 //! It is `same` where the parsed value is that of the tree, with the same variants of numbers and the same strings
 //! borrowed, where its serialized form is parsed as an equal value with that serialized form, where a document, of
 //! which no value is built, has that serialized form too and becomes an equal value, and where the serialized form and
-//! the sort key that are appended straight from the text are those of the value.
+//! the sort key that are appended straight from the text are those of the value. The text is checked alone, too.
 
 use crate::same::are_same;
 use crate::{numbers, straight, tree};

@@ -1,4 +1,5 @@
-//! Serialized forms and sort keys that are appended straight from a text, beside those of its value.
+//! Serialized forms and sort keys that are appended straight from a text, beside those of its value, and texts that are
+//! only checked.
 
 use jsonb::{Error, Mode};
 use std::alloc::{AllocError, Global};
@@ -6,9 +7,10 @@ use std::alloc::{AllocError, Global};
 // What the buffers hold before.
 const FRONT: &[u8] = b"front";
 
-/// Whether this serialized form is appended.
+/// Whether this serialized form is appended. The text is also checked alone.
 pub fn gives_text(alloc: Global, mode: Mode, text: &[u8], form: &[u8]) -> jsonb::Result<bool> {
     let mut buffer = Vec::from_slice(alloc, FRONT)?;
+    jsonb::check(alloc, text, mode)?;
     jsonb::append_text(alloc, text, mode, &mut buffer)?;
     Ok(buffer.strip_prefix(FRONT) == Some(form))
 }
@@ -20,10 +22,16 @@ pub fn gives_key(alloc: Global, mode: Mode, text: &[u8], key: &[u8]) -> jsonb::R
     Ok(buffer.strip_prefix(FRONT) == Some(key))
 }
 
-/// Whether both functions fail with this error, and leave their buffers as they were.
+/// Whether all three functions fail with this error, and leave the buffer as it was.
 pub fn rejects(alloc: Global, mode: Mode, text: &[u8], error: &Error) -> Result<bool, AllocError> {
     let mut buffer = Vec::from_slice(alloc, FRONT)?;
     let form = jsonb::append_text(alloc, text, mode, &mut buffer);
     let key = jsonb::append_sort_key(alloc, text, mode, &mut buffer);
-    Ok(form == Err(error.clone()?) && key == Err(error.clone()?) && &buffer[..] == FRONT)
+    let checked = jsonb::check(alloc, text, mode);
+    Ok(
+        form == Err(error.clone()?)
+            && key == Err(error.clone()?)
+            && checked == Err(error.clone()?)
+            && &buffer[..] == FRONT,
+    )
 }

@@ -37,6 +37,7 @@ pub fn report<W: Write>(alloc: Global, line: &str, out: &mut W) -> io::Result<()
         return Err(io::Error::from(io::ErrorKind::InvalidInput));
     };
     say(out, "reads", &reads(alloc, mode, &text))?;
+    say(out, "checks", &checks(alloc, mode, &text))?;
     say(out, "value", &value(alloc, mode, &text))?;
     say(out, "tree", &tree(alloc, mode, &text))?;
     say(out, "clone", &clone(alloc, mode, &text))?;
@@ -75,6 +76,12 @@ fn written(alloc: Global, value: &Value) -> Result<Vec<u8>> {
 // Nothing but reading.
 fn reads(alloc: Global, mode: Mode, text: &[u8]) -> Result<Vec<u8>> {
     read(alloc, mode, text)?;
+    Ok(Vec::new(alloc))
+}
+
+// Nothing but checking.
+fn checks(alloc: Global, mode: Mode, text: &[u8]) -> Result<Vec<u8>> {
+    jsonb::check(alloc, text, mode)?;
     Ok(Vec::new(alloc))
 }
 

@@ -12,4 +12,6 @@ mod decoding;
 #[cfg(test)]
 mod line;
 #[cfg(test)]
+mod part;
+#[cfg(test)]
 mod straight;

@@ -1,4 +1,5 @@
-// Serialized forms and sort keys that are appended straight from a text, beside those of its value.
+// Serialized forms and sort keys that are appended straight from a text, beside those of its value, and texts that are
+// only checked.
 use jsonb::{Error, JsonAst, Mode, Value, parse_value, parse_value_standard_mode};
 use std::alloc::Global;
 use std::test::Fail;
@@ -36,10 +37,11 @@ fn key(alloc: Global, mode: Mode, text: &[u8]) -> Result<Vec<u8>, Error> {
     Ok(key)
 }
 
-// Whether both functions agree with the text's value.
+// Whether both functions agree with the text's value, and the text is accepted where it is only checked.
 fn agree(alloc: Global, mode: Mode, text: &[u8]) -> bool {
     form(alloc, mode, text) == form_of_value(alloc, mode, text)
         && key(alloc, mode, text) == key_of_value(alloc, mode, text)
+        && jsonb::check(alloc, text, mode).is_ok()
 }
 
 #[test]
@@ -92,7 +94,7 @@ fn forms_and_keys(rt: HostRuntime) -> Result<(), Fail> {
     Ok(())
 }
 
-// Whether both functions fail as the parser of trees does, and leave the buffer as it was.
+// Whether all three functions fail as the parser of trees does, and leave the buffer as it was.
 fn fail_as_the_tree(alloc: Global, mode: Mode, text: &[u8]) -> Result<bool, Error> {
     let Err(error) = JsonAst::parse(alloc, text, mode) else {
         return Ok(false);
@@ -100,7 +102,13 @@ fn fail_as_the_tree(alloc: Global, mode: Mode, text: &[u8]) -> Result<bool, Erro
     let mut buffer = Vec::from_slice(alloc, b"front")?;
     let form = jsonb::append_text(alloc, text, mode, &mut buffer);
     let key = jsonb::append_sort_key(alloc, text, mode, &mut buffer);
-    Ok(form == Err(error.clone()?) && key == Err(error) && &buffer[..] == b"front".as_slice())
+    let checked = jsonb::check(alloc, text, mode);
+    Ok(
+        form == Err(error.clone()?)
+            && key == Err(error.clone()?)
+            && checked == Err(error)
+            && &buffer[..] == b"front".as_slice(),
+    )
 }
 
 #[test]
@@ -150,4 +158,23 @@ fn as_deep_as_may_be(rt: HostRuntime) -> Result<(), Fail> {
     assert!(rt; agree(alloc, Mode::Standard, &text));
     assert!(rt; agree(alloc, Mode::Extended, &text));
     Ok(())
+}
+
+// Whether memory may run out is known by three bytes.
+#[test]
+fn texts_that_may_allocate(rt: HostRuntime) {
+    for text in [
+        b"[]" as &[u8],
+        b" {",
+        b"\"a long string, and behind it \\\"",
+    ] {
+        assert!(rt; jsonb::may_allocate(text), "{text:?}");
+    }
+    for text in [
+        b"" as &[u8],
+        b"-12.5",
+        b" \"a long string, and behind it nothing\" ",
+    ] {
+        assert!(rt; !jsonb::may_allocate(text), "{text:?}");
+    }
 }
