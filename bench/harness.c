@@ -7,6 +7,7 @@
  *   harness --time FILE..        prints the same lines with the processor's time: the median of a pass, and in the place of
  *                                instructions the page faults of all passes that were timed; of reading, of writing with
  *                                and with no value between, of comparing and of cloning alone
+ *   harness --time-of OP FILE..  prints the same lines of that operation
  *   harness --pass OP N FILE     makes one pass over the file with N rounds of the operation on each document, for a tool
  *                                that counts from outside
  *   harness --peak FILE..        prints a line for each file: the file, the word peak, how many bytes, the bytes of heap that
@@ -68,7 +69,7 @@ operation_t JOIN(PREFIX, sort_key);
 operation_t JOIN(PREFIX, document_text), JOIN(PREFIX, document_key);
 #endif
 #ifdef WITH_STRAIGHT
-operation_t JOIN(PREFIX, straight_text), JOIN(PREFIX, straight_key);
+operation_t JOIN(PREFIX, straight_text), JOIN(PREFIX, straight_key), JOIN(PREFIX, straight_extended);
 #endif
 
 /* An operation that does not only read still reads the text where there is no round at all. So its cost is what more
@@ -91,6 +92,7 @@ static const struct operation { const char *name; operation_t *run; int only_rea
 #ifdef WITH_STRAIGHT
   { "straight_text", JOIN(PREFIX, straight_text), 1, ".json" },
   { "straight_key", JOIN(PREFIX, straight_key), 1, ".json" },
+  { "straight_extended", JOIN(PREFIX, straight_extended), 1, ".json5" },
 #endif
 #ifdef WITH_READ_WRITE
   { "read_write", JOIN(PREFIX, read_write), 1, ".json" },
@@ -324,13 +326,14 @@ int main(int argc, char **argv) {
   const char *ms = getenv("BUDGET_MS");
   double budget = (ms ? atof(ms) : 200) * 1e6;
   int timed = argc > 1 && !strcmp(argv[1], "--time");
-  int counter = timed ? -1 : open_counter();
-  for (int i = 1 + timed; i < argc; i++) {
+  const char *only = argc > 3 && !strcmp(argv[1], "--time-of") ? argv[2] : NULL;
+  int counter = timed || only ? -1 : open_counter();
+  for (int i = only ? 3 : 1 + timed; i < argc; i++) {
     struct file file = load(argv[i]);
     for (size_t which = 0; which < OPERATIONS; which++) {
       const struct operation *operation = &operations[which];
-      if (!is_done(operation, &file) || (timed && !is_timed(operation))) continue;
-      if (timed) measure_processor(&file, operation, budget);
+      if (!is_done(operation, &file) || (timed && !is_timed(operation)) || (only && strcmp(operation->name, only))) continue;
+      if (timed || only) measure_processor(&file, operation, budget);
       else measure(&file, operation, counter, budget);
     }
   }

@@ -4,7 +4,7 @@
 With a size in bytes it writes documents of these kinds that are about so long each, as many as are 1 MB together.
 
 Each line of a file is one document. Those of a .json file are standard JSON without a fraction or an exponent, and only
-the catalog has blanks between its tokens, as it is indented. Those of a .json5 file are extended JSON with keys without
+the catalog and the indented objects have blanks between their tokens. Those of a .json5 file are extended JSON with keys without
 quotes, single quotes, comments, decimals and hexadecimals. Those of a .rejected file have a fault at nine tenths. The
 numbers come from a fixed seed, so that every run has the same documents.
 """
@@ -194,23 +194,29 @@ def performance(events, categories):
 
 
 def catalog(many):
-    """A catalogue of events, indented. As a document is one line, a blank stands for each line feed."""
+    """A catalogue of events, indented."""
     events, categories, topics = numbers(many), numbers(60), numbers(20)
-    return json.dumps({
+    return indented({
         "areaNames": by_number(numbers(20), lambda _: words(10, 30)), "blockNames": {},
         "events": by_number(events, event),
         "performances": [performance(events, categories) for _ in range(many)],
         "seatCategoryNames": by_number(categories, lambda _: words(10, 30)),
         "topicNames": by_number(topics, lambda _: words(10, 30)),
         "topicSubTopics": by_number(topics, lambda _: numbers(random.randrange(1, 9))),
-        "venueNames": {it.upper(): words(10, 30) for it in WORDS}}, indent=2, ensure_ascii=False).replace("\n", " ")
+        "venueNames": {it.upper(): words(10, 30) for it in WORDS}})
+
+
+def indented(value):
+    """The text that json.dumps indents. As a document is one line, a blank stands for each line feed."""
+    return json.dumps(value, indent=2, ensure_ascii=False).replace("\n", " ")
 
 
 def shaped_documents():
-    """Standard documents as services answer with them, 600 KB and 1 MB, and 1 MB of short strings."""
+    """Standard documents as services answer with them, 600 KB and 1 MB, 1 MB of short strings, and objects indented."""
     yield "tweets", [answer(100) for _ in range(2)]
     yield "catalog", [catalog(460)]
     yield "short_strings", [text_of([string_of(LETTERS, 2, 13) for _ in range(1000)]) for _ in range(100)]
+    yield "indented", [indented([record(i) for i in range(2800)])]
 
 
 def until(size, part):

@@ -2,7 +2,11 @@
 """Prints the table of the benchmark: table.py NAME=MEASURES.. , a file of the harness's lines for each library."""
 import sys
 
-OPERATIONS = ["read", "reject", "extended", "read_ast", "write", "read_write", "sort_key", "compare", "clone"]
+# The columns, with the names of the harness.
+OPERATIONS = {
+    "read": "read", "reject": "reject", "extended": "extended", "read_ast": "read_ast", "write": "write",
+    "read_write": "read_write", "straight_text": "text", "straight_key": "key", "straight_extended": "ext. text",
+    "sort_key": "sort_key", "compare": "compare", "clone": "clone"}
 
 
 def per_byte(figure, size):
@@ -33,7 +37,7 @@ def main():
     print("Nanoseconds a byte, and instructions a byte (ins), of one operation over all documents of a file.")
     print("The peak is the bytes of heap, for a byte of text, that live at most while a document is read.")
     print("%-13s %8s  %-10s" % ("document", "bytes", "library")
-          + "".join("%11s %7s" % (it, "ins") for it in OPERATIONS) + "   peak")
+          + "".join("%11s %7s" % (it, "ins") for it in OPERATIONS.values()) + "   peak")
     for document in libraries[0][1]:
         for name, documents in libraries:
             if document not in documents:

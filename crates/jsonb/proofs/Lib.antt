@@ -1,3 +1,4 @@
+pub mod Children
 pub mod Containers
 pub mod Documents
 pub mod Places

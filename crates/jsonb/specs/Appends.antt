@@ -39,6 +39,14 @@ pub record LacksRoomForKey (mode : Mode) (text : List ℕ) (capacity len : ℕ) 
   pub document : IsDocument mode text tree
   pub too_short : capacity < len + length (key_of tree)
 
+-- The text is a document, and a buffer of this capacity with this many bytes has no room for the text of its part.
+pub record LacksRoomForPart (mode : Mode) (text : List ℕ) (keys : List (List ℕ)) (capacity len : ℕ) : Type 0 where
+  pub tree : Tree
+  pub document : IsDocument mode text tree
+  pub part : Tree
+  pub there : part_at keys tree ≡ Some part
+  pub too_short : capacity < len + length (tree_text part)
+
 -- new is old with the text of the tree's part at the keys at its end
 pub record AppendsPart (tree : Tree) (keys : List (List ℕ)) (old new : List ℕ) : Type 0 where
   pub part : Tree

@@ -3,10 +3,12 @@
 
 pub mod laws;
 pub mod parser;
+pub mod part;
 pub mod util;
 
 pub use jsonb_scan::line;
 pub use jsonb_scan::line::{fault_index, line_and_column};
+pub use part::part_at;
 pub use jsonb_scan::util::parse_string;
 pub use jsonb_value::error::{Error, ParseErrorCode, Result};
 pub use jsonb_value::extension::{Date, ExtensionValue, Interval, Timestamp, TimestampTz};

@@ -160,6 +160,24 @@ pub extern "C" fn jsonb_bench_straight_key(alloc: Global, text: &[u8], rounds: u
     rounds
 }
 
+/// Parses the text as extended JSON and appends its serialized form `rounds` times to one buffer that is emptied before,
+/// with no value and no tree. The answer is how many rounds went well before the first that did not.
+#[unsafe(no_mangle)]
+pub extern "C" fn jsonb_bench_straight_extended(alloc: Global, text: &[u8], rounds: usize) -> usize
+    ensures most { result ≤ rounds }
+    // Nothing goes well with a text that is no document.
+    ensures refused { IsNoDocument extended text.now → result ≡ 0 }
+{
+    let mut written = Vec::new(alloc);
+    for round in 0..rounds {
+        written.clear();
+        if append_text(alloc, text, Mode::Extended, &mut written).is_err() {
+            return round;
+        }
+    }
+    rounds
+}
+
 /// Reads the text once, and writes the value's text `rounds` times into one buffer. The answer is how many
 /// rounds went well before the first that did not, and 0 where the text is refused.
 #[unsafe(no_mangle)]

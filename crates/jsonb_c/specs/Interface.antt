@@ -19,7 +19,8 @@ use Rattle.jsonb_value.specs.Tree.{Tree}
 use Rattle.jsonb.specs.Reading.Document.{document_of}
 use Rattle.jsonb.specs.Parser.{Fails}
 use Rattle.jsonb.specs.Refusals.{Stands}
-use Rattle.jsonb_pointer.specs.Path.{IsAt, IsPath}
+use Rattle.jsonb_write.specs.PartAt.{IsAt}
+use Rattle.jsonb_pointer.specs.Path.{IsPath}
 use Rattle.jsonb_c.specs.declared.Part.{Part}
 use Rattle.jsonb_c.specs.declared.Part.TheVariants as parts
 use Rattle.jsonb_c.specs.declared.Refusal.{Refusal}

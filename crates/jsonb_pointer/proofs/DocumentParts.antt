@@ -1,12 +1,13 @@
 -- The text of a document's part, and that a document has none at a path.
-use Rattle.std.proofs.Common.{◌≡◌, ℕ, ◌^◌, ◌<◌, ◌≤◌, true, false, List, [], ◌++◌, length, Some, None, ap, sym, ◌∙◌, arith}
+use Rattle.std.proofs.Common.{◌≡◌, ◌⊎◌, inl, inr, ℕ, ◌^◌, ◌<◌, true, false, List, [], ◌++◌, length, Some, None, ap, sym, ◌∙◌, arith}
+use Rattle.jsonb_value.specs.Grammar.{IsDocument}
 use Rattle.jsonb_value.specs.Mode.{Mode}
 use Rattle.jsonb_value.specs.Text.{text_of}
 use Rattle.jsonb_value.specs.Text.ReadsBack.{ReadsBackAs}
 use Rattle.jsonb_value.specs.Tree.{Tree}
-use Rattle.jsonb_write.specs.PartAt.{part_at}
-use Rattle.jsonb.specs.Appends.{AppendsPartOf, IsParsed}
-use Rattle.jsonb_pointer.specs.Path.{IsAt}
+use Rattle.jsonb.specs.Appends.{AppendsPartOf, IsParsed, LacksRoomForPart}
+use Rattle.jsonb.specs.Parser.{MayAllocate}
+use Rattle.jsonb_write.specs.PartAt.{IsAt}
 use Rattle.jsonb_pointer.proofs.ArraySizes.{document_below}
 use Rattle.jsonb_pointer.proofs.PartsAt.{part_found, part_there}
 use Rattle.jsonb_pointer.proofs.PartsReadBack.{part_reads_back}
@@ -50,3 +51,8 @@ nothing_there mode document keys old new small appends = record {
   where
     no_part : (t : Tree) → None ≡ Some t → ⊥
     no_part t e = cc
+
+-- Memory runs out where the document may take some, or where there is one.
+pub document_needs : {mode : Mode} {document : List ℕ} {keys : List (List ℕ)} {capacity len : ℕ} → MayAllocate document ⊎ LacksRoomForPart mode document keys capacity len → MayAllocate document ⊎ ((tree : Tree) × IsDocument mode document tree)
+document_needs (inl may) = inl may
+document_needs (inr lacks) = inr (lacks.tree, lacks.document)

@@ -1,4 +1,3 @@
-pub mod PathParts
 pub mod ArraySizes
 pub mod DocumentParts
 pub mod KeySpelling

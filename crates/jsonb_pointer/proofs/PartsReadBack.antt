@@ -10,7 +10,7 @@ use Rattle.jsonb_value.specs.Text.ReadsBack.{ReadsBackAs}
 use Rattle.jsonb_value.specs.Text.{text_of}
 use Rattle.jsonb_value.specs.Tree.{Num, Tree, null, boolean, string, number, array, object, Trees, no_trees, more_trees, Members, no_members, more_members}
 use Rattle.jsonb_value.proofs.Trees.RangeTexts.{document_in_range, range_reads_back}
-use Rattle.jsonb_pointer.specs.Path.{IsChild, IsAt}
+use Rattle.jsonb_write.specs.PartAt.{IsChild, IsAt}
 
 same_tree : (t u : Tree) → Some t ≡ Some u → t ≡ u
 same_tree t u e = cc

@@ -1,19 +1,17 @@
--- Keys as a path, and the part of a tree at keys.
+-- Keys as a path, and the part of a tree at a path.
 -- Read for: promises.
-use Rattle.std.specs.Prelude.{◌≡◌, ◌≢◌, ◌⊎◌, ℕ, ◌<◌, List, [], ◌∷◌, ◌++◌, length, slice_index, codes, Some, if◌then◌else◌, ◌==◌, IsUtf8}
+use Rattle.std.specs.Prelude.{◌≡◌, ◌≢◌, ◌⊎◌, ℕ, List, [], ◌∷◌, ◌++◌, codes, Some, if◌then◌else◌, ◌==◌, IsUtf8}
 use Rattle.std.specs.List.{AllByRecursion}
-use Rattle.std.specs.Str.{bytes_eq}
-use Rattle.std.specs.Str.Parse.{IsNumeral, digits_value}
 use Rattle.jsonb.specs.ErrorText.{error_text}
 use Rattle.jsonb.specs.Grammar.{IsDocument, IsNoDocument}
 use Rattle.jsonb.specs.Mode.{extended}
 use Rattle.jsonb.specs.Parser.{Fails, MayAllocate}
-use Rattle.jsonb.specs.Accessors.{find_member, item_at}
 use Rattle.jsonb.specs.Reading.Document.{document_of}
-use Rattle.jsonb.specs.Tree.{Tree, array, object, Trees}
+use Rattle.jsonb.specs.Tree.{Tree}
 use Rattle.jsonb_value.specs.Text.ReadsBack.{ReadsBackAs}
 use Rattle.jsonb_value.specs.Text.{text_of}
 use Rattle.jsonb_value.specs.declared.error.Error.TheVariants.{OutOfMemory}
+use Rattle.jsonb_write.specs.PartAt.{IsAt}
 use Rattle.jsonb_pointer.specs.declared.part.Refusal.{Refusal}
 use Rattle.jsonb_pointer.specs.declared.part.Refusal.TheVariants.{NoPath, NoDocument, NoMemory}
 
@@ -39,27 +37,6 @@ pub record IsPath (bytes : List ℕ) (keys : List (List ℕ)) : Type 0 where
 -- the bytes begin as the path of a key does
 abbrev pub StartsKey : List ℕ → Type 0
 StartsKey bytes = (rest : List ℕ) × (bytes ≡ 47 ∷ rest)
-
--- The key is the index in decimal digits, without leading zeros.
-pub record IsIndex (key : List ℕ) (index : ℕ) : Type 0 where
-  pub digits : IsNumeral 10 key
-  pub no_zero : 1 < length key → slice_index key 0 ≢ 48
-  pub value : index ≡ digits_value 10 key
-
--- t is the item whose index the key is
-abbrev pub IsArrayItem : Trees → List ℕ → Tree → Type 0
-IsArrayItem ts key t = (index : ℕ) × IsIndex key index × (item_at ts index ≡ Some t)
-
--- The second tree is the member of that key, or the item of that index.
-abbrev pub IsChild : Tree → List ℕ → Tree → Type 0
-IsChild (object ms) key t = find_member (bytes_eq key) ms ≡ Some t
-IsChild (array ts) key t = IsArrayItem ts key t
-IsChild other key t = ⊥
-
--- The second tree is the part of the first at the path of these keys.
-abbrev pub IsAt : Tree → List (List ℕ) → Tree → Type 0
-IsAt t [] part = t ≡ part
-IsAt t (key ∷ keys) part = (u : Tree) × IsChild t key u × IsAt u keys part
 
 -- The second tree is the part of the first at the path.
 pub record IsPartAt (path : List ℕ) (t part : Tree) : Type 0 where

@@ -4,5 +4,7 @@
 pub mod keys;
 pub mod part;
 
+pub use jsonb::part_at;
+pub use jsonb_write::part::index_of;
 pub use keys::read_keys;
-pub use part::{Refusal, get, part_at, part_text};
+pub use part::{Refusal, get, part_text};

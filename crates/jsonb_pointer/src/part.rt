@@ -1,12 +1,12 @@
 //! The part of a document at a path.
 
-ghost use Rattle.std.specs.Prelude.{◌≡◌, ◌<◌, ◌^◌, ℕ, map, string_bytes, IfOk, IfErr, IfSome, IfNone, MatchOption};
+ghost use Rattle.std.specs.Prelude.{◌≡◌, IfOk, IfErr, IfSome, IfNone, MatchOption};
 ghost use Rattle.jsonb.specs.Tree.{Tree};
 ghost use Rattle.jsonb.specs.View.{view};
-ghost use Rattle.jsonb_pointer.specs.Path.{IsIndex, IsChild, IsAt, IsPartAt, HasNoPartAt, IsGetRefusal, IsPartText, HasNoPart, IsPathRefusal};
+ghost use Rattle.jsonb_pointer.specs.Path.{IsPartAt, HasNoPartAt, IsGetRefusal, IsPartText, HasNoPart, IsPathRefusal};
 
 use crate::keys::read_keys;
-use jsonb::{Error, Mode, Value};
+use jsonb::{Error, Mode, Value, part_at};
 use std::alloc::{AllocError, Global};
 use std::fmt;
 
@@ -91,51 +91,6 @@ pub fn part_text(alloc: Global, path: &[u8], document: &[u8]) -> Result<Option<V
         Err(Error::OutOfMemory) => Err(Refusal::NoMemory),
         Err(error) => Err(Refusal::NoDocument(error)),
     }
-}
-
-/// The part of the value at the path of these keys.
-pub fn part_at<'v, 'a>(value: &'v Value<'a>, keys: &[String]) -> Option<&'v Value<'a>>
-    ensures some { IfSome result (λ part. IsAt (view value.now) (map string_bytes keys.now) (view part.now)) }
-    ensures only { IfSome result (λ part. (t : Tree) → IsAt (view value.now) (map string_bytes keys.now) t
-        → t ≡ view part.now) }
-    ensures none { IfNone result ((t : Tree) → IsAt (view value.now) (map string_bytes keys.now) t → ⊥) }
-{
-    let Some((key, rest)) = keys.split_first() else {
-        return Some(value);
-    };
-    let Some(part) = child(value, key.as_str()) else {
-        return None;
-    };
-    part_at(part, rest)
-}
-
-// The member of that key, or the item of that index.
-fn child<'v, 'a>(value: &'v Value<'a>, key: &str) -> Option<&'v Value<'a>>
-    ensures some { IfSome result (λ part. IsChild (view value.now) key.now (view part.now)) }
-    ensures none { IfNone result ((t : Tree) → IsChild (view value.now) key.now t → ⊥) }
-{
-    let Some(_) = value.array_length() else {
-        return value.get_by_name(key);
-    };
-    let Some(index) = index_of(key) else {
-        return None;
-    };
-    value.get_by_index(index)
-}
-
-// The index that the key spells: decimal digits without leading zeros.
-fn index_of(key: &str) -> Option<usize>
-    ensures some { IfSome result (λ index. IsIndex key.now index) }
-    ensures none { IfNone result ((index : ℕ) → index < 2 ^ 64 → IsIndex key.now index → ⊥) }
-{
-    let bytes = key.as_bytes();
-    if bytes.is_empty() || bytes[0] == b'+' {
-        return None;
-    }
-    if bytes.len() > 1 && bytes[0] == b'0' {
-        return None;
-    }
-    key.parse().ok()
 }
 
 #[cfg(test)]

@@ -1,7 +1,8 @@
 -- Parts of values, found in their keys.
 -- Read for: promises.
 use Rattle.std.specs.Prelude.{◌≡◌, ℕ, ◌<◌, ◌⊎◌, List, ◌++◌, Option, Some, None}
-use Rattle.jsonb_pointer.specs.Path.{IsChild, IsAt, IsPartAt}
+use Rattle.jsonb_write.specs.PartAt.{IsChild, IsAt}
+use Rattle.jsonb_pointer.specs.Path.{IsPartAt}
 use Rattle.jsonb_stored.specs.declared.walk.Kind.{Kind}
 use Rattle.jsonb_stored.specs.declared.walk.Kind.TheVariants as kind
 use Rattle.jsonb_stored.specs.Open.{Open, items, members}

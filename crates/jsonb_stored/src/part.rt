@@ -3,7 +3,8 @@
 ghost use Rattle.std.specs.Prelude.{◌≡◌, ◌<◌, ◌≤◌, ◌^◌, ◌++◌, ◌∷◌, List, ℕ, length, map, string_bytes, IfOk, IfErr, IfSome, IfNone, IsTrue, IsFalse, MatchOption, Some, None, true, false};
 ghost use Rattle.std.specs.Str.{bytes_eq};
 ghost use Rattle.jsonb_key.specs.Readable.{IsReadable, IsAnyNumber};
-ghost use Rattle.jsonb_pointer.specs.Path.{IsIndex, IsChild, IsAt, IsPartAt, HasNoPartAt, IsGetRefusal};
+ghost use Rattle.jsonb_write.specs.PartAt.{IsIndex, IsChild, IsAt};
+ghost use Rattle.jsonb_pointer.specs.Path.{IsPartAt, HasNoPartAt, IsGetRefusal};
 ghost use Rattle.jsonb_stored.specs.Open.{Open, is_object, open_key, IsOpen, end_key};
 ghost use Rattle.jsonb_stored.specs.Parts.{opened_tree, ChildAt, StandsAt, IsKeyAt, IsKeyOfPart};
 ghost use Rattle.jsonb_value.specs.Proper.{AreProper, HaveProperParts};
@@ -14,7 +15,7 @@ ghost use Rattle.jsonb_value.specs.Tree.{Tree, array, object, Trees, Members};
 use crate::skip::{after_end, after_key, after_text, opening};
 use crate::walk::front;
 use jsonb_key::text::{read_byte, skip_pair};
-use jsonb_pointer::{Refusal, read_keys};
+use jsonb_pointer::{Refusal, index_of, read_keys};
 use std::alloc::Global;
 
 /// The key of the part at the path (RFC 6901), which stands within the key, or `None` where there is none. Only the
@@ -193,19 +194,4 @@ fn after_this_name<'k>(bytes: &'k [u8], name: &[u8]) -> Option<&'k [u8]>
         return None;
     };
     Some(after)
-}
-
-// The index that the name spells: decimal digits without leading zeros.
-fn index_of(name: &str) -> Option<usize>
-    ensures some { IfSome result (λ index. IsIndex name.now index) }
-    ensures none { IfNone result ((index : ℕ) → index < 2 ^ 64 → IsIndex name.now index → ⊥) }
-{
-    let bytes = name.as_bytes();
-    if bytes.is_empty() || bytes[0] == b'+' {
-        return None;
-    }
-    if bytes.len() > 1 && bytes[0] == b'0' {
-        return None;
-    }
-    name.parse().ok()
 }

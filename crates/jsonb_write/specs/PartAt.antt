@@ -1,21 +1,44 @@
 -- The part of a tree at keys: at each key a member, or an item whose index the key is.
 -- Read for: promises.
-use Rattle.std.specs.Prelude.{ℕ, ◌^◌, Bool, true, false, ◌&&◌, ◌==◌, not, if◌then◌else◌, nat_lt, List, [], ◌∷◌, Option, Some, None}
+use Rattle.std.specs.Prelude.{◌≡◌, ◌≢◌, ◌<◌, ℕ, ◌^◌, Bool, true, false, ◌&&◌, ◌==◌, not, if◌then◌else◌, nat_lt, List, [], ◌∷◌, length, slice_index, Option, Some, None}
 use Rattle.std.specs.Char.{is_digit}
 use Rattle.std.specs.Option.{option_and_then}
 use Rattle.std.specs.Str.{bytes_eq}
-use Rattle.std.specs.Str.Parse.{digits_value}
+use Rattle.std.specs.Str.Parse.{IsNumeral, digits_value}
 use Rattle.jsonb_value.specs.Accessors.{find_member, item_at}
-use Rattle.jsonb_value.specs.Tree.{Tree, array, object}
+use Rattle.jsonb_value.specs.Tree.{Tree, array, object, Trees}
+
+-- the byte of the digit 0
+abbrev pub zero_digit : ℕ
+zero_digit = 0x30
+
+-- The key is the index in decimal digits, without leading zeros.
+pub record IsIndex (key : List ℕ) (index : ℕ) : Type 0 where
+  pub digits : IsNumeral 10 key
+  pub no_zero : 1 < length key → slice_index key 0 ≢ zero_digit
+  pub value : index ≡ digits_value 10 key
+
+-- t is the item whose index the key is
+abbrev pub IsArrayItem : Trees → List ℕ → Tree → Type 0
+IsArrayItem ts key t = (index : ℕ) × IsIndex key index × (item_at ts index ≡ Some t)
+
+-- The second tree is the member of that key, or the item of that index.
+abbrev pub IsChild : Tree → List ℕ → Tree → Type 0
+IsChild (object ms) key t = find_member (bytes_eq key) ms ≡ Some t
+IsChild (array ts) key t = IsArrayItem ts key t
+IsChild other key t = ⊥
+
+-- The second tree is the part of the first at the path of these keys.
+abbrev pub IsAt : Tree → List (List ℕ) → Tree → Type 0
+IsAt t [] part = t ≡ part
+IsAt t (key ∷ keys) part = (u : Tree) × IsChild t key u × IsAt u keys part
+
+-- ---- computed
 
 -- whether each byte is a decimal digit
 abbrev pub all_digits : List ℕ → Bool
 all_digits [] = true
 all_digits (c ∷ cs) = is_digit c 10 && all_digits cs
-
--- the byte of the digit 0
-abbrev pub zero_digit : ℕ
-zero_digit = 0x30
 
 -- whether there is one byte alone, or the first is no 0
 abbrev pub leads_well : List ℕ → Bool

@@ -1,9 +1,9 @@
 //! The text of one part of a document, which is copied out of the document's text while that is written.
-ghost use Rattle.std.specs.Prelude.{◌≡◌, ◌+◌, ◌-◌, ◌<◌, ◌∷◌, ◌++◌, [], ℕ, List, Some, true, false, length, map, slice_range, string_bytes, IfOk, IfSome, IsTrue, MatchBool, MatchOption, OnOk};
+ghost use Rattle.std.specs.Prelude.{◌≡◌, ◌+◌, ◌-◌, ◌<◌, ◌^◌, ◌∷◌, ◌++◌, [], ℕ, List, Some, true, false, length, map, slice_range, string_bytes, IfNone, IfOk, IfSome, IsTrue, MatchBool, MatchOption, OnOk};
 ghost use Rattle.std.specs.Cow.{cow_str_bytes};
 ghost use Rattle.std.specs.Option.{is_some, option_and_then, option_map};
 ghost use Rattle.std.specs.Str.{IsUtf8};
-ghost use Rattle.jsonb_write.specs.PartAt.{index_named, leads_well};
+ghost use Rattle.jsonb_write.specs.PartAt.{IsIndex, index_named, leads_well};
 ghost use Rattle.jsonb_write.specs.PartRoom.{less};
 
 use crate::text::{Part, TextRoom};
@@ -410,9 +410,11 @@ fn leads_well(bytes: &[u8]) -> bool
     }
 }
 
-/// The index that a key spells in decimal digits, without a needless leading zero.
+/// The index that a key is in decimal digits, without leading zeros.
 pub fn index_of(key: &str) -> Option<usize>
-    ensures { result ≡ index_named key.now }
+    ensures named { result ≡ index_named key.now }
+    ensures some { IfSome result (λ index. IsIndex key.now index) }
+    ensures none { IfNone result ((index : ℕ) → index < 2 ^ 64 → IsIndex key.now index → ⊥) }
 {
     let bytes = key.as_bytes();
     if !leads_well(bytes) {

@@ -1,8 +1,11 @@
 -- What is appended of a document's part.
-use Rattle.std.proofs.Common.{◌⊎◌, inl, inr, ◌≡◌, ℕ, zero, suc, Bool, true, false, List, [], ◌∷◌, ◌++◌, Option, Some, None, refl, ap, subst, ◌∙◌, if◌then◌else◌}
+use Rattle.std.proofs.Common.{◌⊎◌, inl, inr, ◌≡◌, ◌≢◌, ◌+◌, ◌<◌, ℕ, zero, suc, Bool, true, false, List, [], ◌∷◌, ◌++◌, length, Option, Some, None, Result, Err, IfErr, IfSome, refl, sym, ap, subst, ◌∙◌, if◌then◌else◌}
 use Rattle.std.proofs.lemmas.Bool.{and_parts}
 use Rattle.std.specs.Option.{option_and_then, option_map}
+use Rattle.std.specs.Prelude.{IsErrOf}
 use Rattle.std.specs.Str.{bytes_eq}
+use Rattle.jsonb_value.specs.declared.error.Error.{Error}
+use Rattle.jsonb_value.specs.declared.error.Error.TheVariants.{OutOfMemory, UnexpectedType}
 use Rattle.jsonb_value.specs.Accessors.{find_member, item_at}
 use Rattle.jsonb_value.specs.Grammar.{IsDocument}
 use Rattle.jsonb_value.specs.Mode.{Mode}
@@ -10,11 +13,8 @@ use Rattle.jsonb_value.specs.Text.{has_text, items_have_texts, members_have_text
 use Rattle.jsonb_value.specs.Tree.{Tree, array, object, Trees, no_trees, more_trees, Members, no_members, more_members}
 use Rattle.jsonb_value.proofs.Trees.DocumentTexts.{text_of-has_text}
 use Rattle.jsonb_write.specs.PartAt.{child_at, index_named, part_at}
-use Rattle.jsonb_scan.specs.Reading.Document.{source_of}
-use Rattle.jsonb_scan.specs.Source.{tree_of_source}
-use Rattle.jsonb.specs.Appends.{AppendsPart, AppendsPartOf, IsParsed}
-use Rattle.jsonb.specs.Handler.{IsWritten}
-use Rattle.jsonb.proofs.Documents.Straight.{source_parsed}
+use Rattle.jsonb.specs.Appends.{AppendsPart, AppendsPartOf, IsParsed, LacksRoomForPart}
+use Rattle.jsonb.proofs.Documents.Straight.{text_there}
 
 same_tree : (t u : Tree) → Some t ≡ Some u → t ≡ u
 same_tree t u e = cc
@@ -56,21 +56,39 @@ part_has_text (key ∷ keys) t part e h = by (child_at key t) refl e (λ u child
     by None is e others = absurd (no_tree part e)
     by (Some u) is e others = others u is e
 
--- ---- want of memory
-
--- memory ran out in a text that may take some, or in a document
-pub document_there : {P : Type 0} (mode : Mode) (text : List ℕ) → P ⊎ IsWritten true (source_of mode text) → P ⊎ ((t : Tree) × IsDocument mode text t)
-document_there mode text (inl h) = inl h
-document_there mode text (inr w) = inr (tree_of_source w.1.0, (source_parsed mode text w.1.0 w.1.1).document)
-
--- ---- what is appended
-
 with_text : (t : Tree) → text_of t ≡ Some (tree_text t) → has_text t ≡ true
 with_text t e = by (has_text t) e
   where
     by : (b : Bool) → (if b then Some (tree_text t) else None) ≡ Some (tree_text t) → b ≡ true
     by true e = refl
     by false e = absurd cc
+
+-- ---- want of memory
+
+-- memory ran out for the text of a part
+pub part_lacks : (mode : Mode) (text : List ℕ) (t : Tree) (keys : List (List ℕ)) (part : Tree) (r : Result (Unit {0}) Error) (e : Error) (capacity len : ℕ) → IsDocument mode text t → part_at keys t ≡ Some part → r ≡ Err e → IfErr r (λ e. (e ≡ UnexpectedType) ⊎ (e ≡ OutOfMemory)) → IfErr r (λ e. e ≢ OutOfMemory → text_of part ≡ None)
+    → (IsErrOf r OutOfMemory → IfSome (text_of part) (λ bytes. capacity < len + length bytes)) → LacksRoomForPart mode text keys capacity len
+part_lacks mode text t keys part r e capacity len document at is errors refused full = by_error (subst (λ q. IfErr q (λ e. (e ≡ UnexpectedType) ⊎ (e ≡ OutOfMemory))) is errors)
+  where
+    whole : text_of part ≡ Some (tree_text part)
+    whole = text_of-has_text part (part_has_text keys t part at (with_text t (text_there mode text t document)))
+
+    by_error : (e ≡ UnexpectedType) ⊎ (e ≡ OutOfMemory) → LacksRoomForPart mode text keys capacity len
+    by_error (inl other) =
+        let none : text_of part ≡ None = subst (λ q. IfErr q (λ e. e ≢ OutOfMemory → text_of part ≡ None)) is refused (λ same. let f : UnexpectedType ≡ OutOfMemory = sym other ∙ same in cc) in
+        let some : text_of part ≡ Some (tree_text part) = whole in
+        absurd cc
+    by_error (inr same) =
+        let short : IfSome (text_of part) (λ bytes. capacity < len + length bytes) = full (is ∙ ap (λ e. Err e) same) in
+        record {
+          tree = t;
+          document = document;
+          part = part;
+          there = at;
+          too_short = subst (λ o. IfSome o (λ bytes. capacity < len + length bytes)) whole short;
+        }
+
+-- ---- what is appended
 
 -- the part is there
 pub part_appended : (mode : Mode) (text : List ℕ) (keys : List (List ℕ)) (t : Tree) (old new bytes : List ℕ) → IsParsed mode text t → text_of t ≡ Some (tree_text t) → Some bytes ≡ option_map tree_text (part_at keys t) → new ≡ old ++ bytes → AppendsPartOf mode text keys old new true

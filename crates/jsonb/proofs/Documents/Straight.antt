@@ -29,14 +29,6 @@ pub returned : {X E P : Type 0} (r : Result X E) → is_err r ≡ false → OnOk
 returned (Ok x) e p = p
 returned (Err x) e p = cc
 
--- the error of a result
-abbrev pub error_in : {X : Type 0} → Result X Error → Error
-error_in (Ok x) = OutOfMemory
-error_in (Err e) = e
-
-pub same_error : {X : Type 0} (r q : Result X Error) → r ≡ q → error_in r ≡ error_in q
-same_error r q is = ap error_in is
-
 -- the document of a source
 pub source_parsed : (mode : Mode) (text : List ℕ) (s : Source) → source_of mode text ≡ Ok s → IsParsed mode text (tree_of_source s)
 source_parsed mode text s e =

@@ -1,5 +1,5 @@
 //! What is made of a text while it is parsed. The parser sends the events of the text's value, and a handler makes
-//! something of them: a `Value`, a `JsonAst`, serialized text, a sort key, or nothing at all.
+//! something of them: a `Value`, a `JsonAst`, serialized text, that of the part at a path, a sort key, or nothing at all.
 ghost use Rattle.std.specs.Prelude.{◌≡◌, ◌+◌, ◌^◌, ◌<◌, ℕ, Bool, List, [], ◌∷◌, ◌++◌, length, MatchBool, Ok, IfOk, IfErr, OnOk, Option, true, false, slice_range};
 ghost use Rattle.std.specs.Cow.{cow_str_bytes};
 ghost use Rattle.jsonb_value.specs.declared.error.Error.{Error};
@@ -28,10 +28,10 @@ mod value;
 
 use super::Mode;
 use super::frame::OpenObject;
-pub(super) use check::Checked;
+pub(super) use check::CheckedPart;
 use jsonb_value::error::Error;
 use jsonb_value::number::Number;
-pub(super) use part::Sought;
+pub(super) use part::SoughtPart;
 pub(super) use sort_key::KeyPart;
 use std::alloc::{AllocError, Global};
 use std::borrow::CowStr;

@@ -1,21 +1,19 @@
 //! The text of one part of a document, with no value made of the document.
-ghost use Rattle.std.specs.Prelude.{◌≡◌, ◌≢◌, ◌⊎◌, map, string_bytes, IfErr, IfOk, OnErr, Err};
-ghost use Rattle.std.specs.Option.{option_map};
-ghost use Rattle.jsonb_value.specs.Grammar.{IsDocument, IsNoDocument};
-ghost use Rattle.jsonb_value.specs.Tree.{Tree};
-ghost use Rattle.jsonb_value.specs.View.{view};
+ghost use Rattle.std.specs.Prelude.{◌≡◌, ◌≢◌, ◌⊎◌, map, string_bytes, vec_len, IfErr, IfOk, OnErr, Err};
+ghost use Rattle.std.specs.Vec.{vec_capacity};
+ghost use Rattle.jsonb_value.specs.Grammar.{IsNoDocument};
 ghost use Rattle.jsonb_scan.specs.Answer.{mode_of, Fails, IsTextRefusal, MayAllocate};
 ghost use Rattle.jsonb_scan.specs.Reading.Document.{document_of};
-ghost use Rattle.jsonb_write.specs.PartAt.{child_at, part_at};
-ghost use Rattle.jsonb.specs.Appends.{AppendsPartOf};
+ghost use Rattle.jsonb.specs.Appends.{AppendsPartOf, LacksRoomForPart};
 ghost use Rattle.jsonb.specs.Refusals.{IsExplained};
 
-use super::handler::Sought;
-use super::straight::value_of;
+use super::handler::SoughtPart;
+use super::straight::{may_allocate, value_of};
 use super::{Mode, read_document};
+use crate::part::part_at;
 use jsonb_value::error::{Error, Result};
 use jsonb_value::value::Value;
-use jsonb_write::part::{PartRoom, index_of};
+use jsonb_write::part::PartRoom;
 use std::alloc::Global;
 
 /// Parses a whole text, and appends the serialized form of a part of its value: the member with the first key of the
@@ -50,8 +48,9 @@ pub fn append_part(
 
     // What is rejected is no document, unless memory ran out.
     ensures refused { IfErr result (λ e. e ≢ Error.OutOfMemory → IsNoDocument (mode_of mode) text.now) }
-    ensures memory { result ≡ Err Error.OutOfMemory
-        → MayAllocate text.now ⊎ ((t : Tree) × IsDocument (mode_of mode) text.now t) }
+    // Memory runs out only where the text may take some, or where the room for all that is appended is missing.
+    ensures memory { result ≡ Err Error.OutOfMemory → MayAllocate text.now
+        ⊎ LacksRoomForPart (mode_of mode) text.now (map string_bytes path.now) (vec_capacity buf.old) (vec_len buf.old) }
 
     // Nothing but these two refuses.
     ensures errors { IfErr result IsTextRefusal }
@@ -62,8 +61,11 @@ pub fn append_part(
     // What stands at the offset that is named.
     ensures explained { IfErr result (IsExplained (mode_of mode) text.now) }
 {
+    if !may_allocate(text) {
+        return append_part_of_value(alloc, text, mode, path, buf);
+    }
     let mut room = PartRoom::new(alloc, text, path);
-    match read_document::<Sought>(&mut room, alloc, text, mode) {
+    match read_document::<SoughtPart>(&mut room, alloc, text, mode) {
         Ok(_) => match room.into_part() {
             Some(part) => {
                 if buf.extend_from_slice(&part).is_err() {
@@ -80,8 +82,9 @@ pub fn append_part(
     }
 }
 
-// Appends the serialized form of a part of a text's value, which is made first. Where an object holds most of the text
-// at many levels, and its members are out of order at each, this takes less time.
+// Appends the serialized form of a part of a text's value, which is made first. Scalars without escapes go this way, of
+// which it takes no memory but the room that `buf` lacks. So do texts where an object holds most of the text at many
+// levels, and its members are out of order at each: there it takes less time.
 #[cold]
 #[inline(never)]
 fn append_part_of_value(
@@ -95,14 +98,14 @@ fn append_part_of_value(
         buf.new.items) }
     ensures err { OnErr result (buf.new.items ≡ buf.old.items) }
     ensures refused { IfErr result (λ e. e ≢ Error.OutOfMemory → IsNoDocument (mode_of mode) text.now) }
-    ensures memory { result ≡ Err Error.OutOfMemory
-        → MayAllocate text.now ⊎ ((t : Tree) × IsDocument (mode_of mode) text.now t) }
+    ensures memory { result ≡ Err Error.OutOfMemory → MayAllocate text.now
+        ⊎ LacksRoomForPart (mode_of mode) text.now (map string_bytes path.now) (vec_capacity buf.old) (vec_len buf.old) }
     ensures errors { IfErr result IsTextRefusal }
     ensures exact { IfErr result (λ e. Fails e (document_of (mode_of mode) text.now)) }
     ensures explained { IfErr result (IsExplained (mode_of mode) text.now) }
 {
     let value = value_of(alloc, text, mode)?;
-    let Some(part) = part_of_value(&value, path) else {
+    let Some(part) = part_at(&value, path) else {
         value.dismantle();
         return Ok(false);
     };
@@ -111,34 +114,5 @@ fn append_part_of_value(
     match written {
         Ok(()) => Ok(true),
         Err(_) => Err(Error::OutOfMemory),
-    }
-}
-
-// The part of a value at the path of these keys.
-fn part_of_value<'v, 'a>(value: &'v Value<'a>, path: &[String]) -> Option<&'v Value<'a>>
-    ensures { option_map (λ part. view part.now) result ≡ part_at (map string_bytes path.now) (view value.now) }
-{
-    let Some((key, others)) = path.split_first() else {
-        return Some(value);
-    };
-    let Some(child) = child_of_value(value, key.as_str()) else {
-        return None;
-    };
-    part_of_value(child, others)
-}
-
-// The member of that key, or the item of that index.
-fn child_of_value<'v, 'a>(value: &'v Value<'a>, key: &str) -> Option<&'v Value<'a>>
-    ensures { option_map (λ part. view part.now) result ≡ child_at key.now (view value.now) }
-{
-    match value {
-        Value::Object(_) => value.get_by_name(key),
-        Value::Array(_) => {
-            let Some(index) = index_of(key) else {
-                return None;
-            };
-            value.get_by_index(index)
-        }
-        _ => None,
     }
 }

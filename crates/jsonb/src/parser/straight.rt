@@ -9,7 +9,7 @@ ghost use Rattle.jsonb_scan.specs.Reading.Document.{document_of};
 ghost use Rattle.jsonb.specs.Appends.{AppendsKeyOf, AppendsTextOf, IsParsed, LacksRoomForKey, LacksRoomForText};
 ghost use Rattle.jsonb.specs.Refusals.{IsExplained};
 
-use super::handler::{Checked, KeyPart};
+use super::handler::{CheckedPart, KeyPart};
 use super::{Mode, parse_value, parse_value_standard_mode, read_document};
 use jsonb_value::error::{Error, Result};
 use jsonb_value::value::Value;
@@ -67,7 +67,7 @@ pub fn check(alloc: Global, text: &[u8], mode: Mode) -> Result<()>
     ensures explained { IfErr result (IsExplained (mode_of mode) text.now) }
 {
     let mut room = CheckRoom::new(alloc, text);
-    let read = read_document::<Checked>(&mut room, alloc, text, mode);
+    let read = read_document::<CheckedPart>(&mut room, alloc, text, mode);
     match read {
         Ok(_) => Ok(()),
         Err(told) => match told {

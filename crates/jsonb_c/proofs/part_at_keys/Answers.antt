@@ -3,7 +3,7 @@ use Rattle.jsonb_value.specs.Grammar.{IsDocument}
 use Rattle.jsonb_value.specs.Tree.{Tree}
 use Rattle.jsonb.specs.Appends.{AppendsPartOf}
 use Rattle.jsonb.specs.Parser.{MayAllocate, mode_of}
-use Rattle.jsonb_pointer.proofs.DocumentParts.{IsNothingThere, IsTextThere, nothing_there, text_there}
+use Rattle.jsonb_pointer.proofs.DocumentParts.{IsNothingThere, IsTextThere, document_needs, nothing_there, text_there}
 use Rattle.jsonb_c.specs.Interface.{IsAccepted}
 use Rattle.jsonb_c.proofs.Reasons.{memory_said, reason_says}
 use Rattle.jsonb_c.proofs.Texts.{document_accepted}
@@ -56,7 +56,7 @@ returns-in-Err-clause-reason c =
 
 pub returns-in-Err-clause-memory : goal.returns-in-Err-clause-memory
 returns-in-Err-clause-memory c = λ is.
-    by_memory (c.in-Err.ensures.memory (memory_said 1 c.in-Err.error c.reason_of.result c.reason_of.ensures is))
+    by_memory (document_needs (c.in-Err.ensures.memory (memory_said 1 c.in-Err.error c.reason_of.result c.reason_of.ensures is)))
   where
     by_memory : MayAllocate c.args.text.now ⊎ ((t : Tree) × IsDocument (mode_of c.in-Some.mode) c.args.text.now t) → MayAllocate c.args.text.now ⊎ IsAccepted c.args.mode c.args.text.now
     by_memory (inl may) = inl may

@@ -20,9 +20,9 @@ use std::borrow::CowStr;
 
 // A value of the text.
 #[derive(Drop)]
-pub(in crate::parser) struct Checked;
+pub(in crate::parser) struct CheckedPart;
 
-impl<'a> Handler<'a> for Checked {
+impl<'a> Handler<'a> for CheckedPart {
     type Room = CheckRoom<'a>;
 
     // Nothing is kept of an array.
@@ -53,32 +53,32 @@ impl<'a> Handler<'a> for Checked {
     fn null() -> Self
         ensures { IsAnyValue result null_source }
     {
-        Checked
+        CheckedPart
     }
 
     #[inline(always)]
     fn boolean(value: bool) -> Self
         ensures { IsAnyValue result (boolean_source value) }
     {
-        Checked
+        CheckedPart
     }
 
     #[inline(always)]
     fn number(value: Number) -> Self
         ensures { IsAnyValue result (number_source (number_view value)) }
     {
-        Checked
+        CheckedPart
     }
 
     #[inline(always)]
     fn string(text: CowStr<'a>) -> Self {
-        Checked
+        CheckedPart
     }
 
     #[inline(always)]
     fn escaped_string(alloc: Global, body: &'a str, mode: Mode, idx: usize) -> Result<Self, Error> {
         check_contents(body, mode, 0, idx)?;
-        Ok(Checked)
+        Ok(CheckedPart)
     }
 
     #[inline(always)]
@@ -88,7 +88,7 @@ impl<'a> Handler<'a> for Checked {
 
     #[inline(always)]
     fn plain_string(text: &'a str) -> Self {
-        Checked
+        CheckedPart
     }
 
     #[inline(always)]
@@ -156,7 +156,7 @@ impl<'a> Handler<'a> for Checked {
 
     #[inline(always)]
     fn array(room: &CheckRoom<'a>, items: ()) -> Self {
-        Checked
+        CheckedPart
     }
 
     #[inline(always)]
@@ -259,7 +259,7 @@ impl<'a> Handler<'a> for Checked {
 
     #[inline(always)]
     fn object(room: &CheckRoom<'a>, members: usize) -> Self {
-        Checked
+        CheckedPart
     }
 
     fn dismantle(self) {}

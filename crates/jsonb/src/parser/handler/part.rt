@@ -21,11 +21,11 @@ use std::borrow::CowStr;
 
 // A scalar that isn't written yet, or a value that is.
 #[derive(Drop)]
-pub(in crate::parser) struct Sought<'a> {
+pub(in crate::parser) struct SoughtPart<'a> {
     part: Part<'a>,
 }
 
-impl<'a> Handler<'a> for Sought<'a> {
+impl<'a> Handler<'a> for SoughtPart<'a> {
     type Room = PartRoom<'a>;
 
     type Items = PartItems;
@@ -52,26 +52,26 @@ impl<'a> Handler<'a> for Sought<'a> {
 
     #[inline(always)]
     fn null() -> Self {
-        Sought { part: Part::Null }
+        SoughtPart { part: Part::Null }
     }
 
     #[inline(always)]
     fn boolean(value: bool) -> Self {
-        Sought {
+        SoughtPart {
             part: Part::Bool(value),
         }
     }
 
     #[inline(always)]
     fn number(value: Number) -> Self {
-        Sought {
+        SoughtPart {
             part: Part::Number(value),
         }
     }
 
     #[inline(always)]
     fn string(text: CowStr<'a>) -> Self {
-        Sought {
+        SoughtPart {
             part: Part::String(text),
         }
     }
@@ -79,7 +79,7 @@ impl<'a> Handler<'a> for Sought<'a> {
     #[inline(always)]
     fn escaped_string(alloc: Global, body: &'a str, mode: Mode, idx: usize) -> Result<Self, Error> {
         let contents = Contents::for_text(body, mode, idx)?;
-        Ok(Sought {
+        Ok(SoughtPart {
             part: Part::Contents(contents),
         })
     }
@@ -91,7 +91,7 @@ impl<'a> Handler<'a> for Sought<'a> {
 
     #[inline(always)]
     fn plain_string(text: &'a str) -> Self {
-        Sought {
+        SoughtPart {
             part: Part::Plain(text),
         }
     }
@@ -166,7 +166,7 @@ impl<'a> Handler<'a> for Sought<'a> {
 
     #[inline(always)]
     fn array(room: &PartRoom<'a>, items: PartItems) -> Self {
-        Sought {
+        SoughtPart {
             part: Part::Written,
         }
     }
@@ -282,7 +282,7 @@ impl<'a> Handler<'a> for Sought<'a> {
 
     #[inline(always)]
     fn object(room: &PartRoom<'a>, members: PartMembers) -> Self {
-        Sought {
+        SoughtPart {
             part: Part::Written,
         }
     }

@@ -1,8 +1,8 @@
-use Rattle.std.proofs.Common.{◌<◌, ◌^◌, Err, length, rules, List, ℕ, IfSome, false, true, inl, inr, map, string_bytes, subst, sym, ap}
+use Rattle.std.proofs.Common.{◌<◌, ◌^◌, Err, length, rules, IfSome, false, true, inr, map, string_bytes, subst, ap}
 use Rattle.jsonb_value.specs.Mode.{extended}
 use Rattle.jsonb.specs.Appends.{AppendsPartOf}
 use Rattle.jsonb_pointer.specs.Path.{IsPath}
-use Rattle.jsonb_pointer.proofs.DocumentParts.{IsNothingThere, IsTextThere, nothing_there, text_there}
+use Rattle.jsonb_pointer.proofs.DocumentParts.{IsNothingThere, IsTextThere, document_needs, nothing_there, text_there}
 use Rattle.jsonb_pointer.proofs.part.part_text.Goals as goal
 
 pub returns-in-Ok-true-clause-ok : goal.returns-in-Ok-true-clause-ok
@@ -42,4 +42,4 @@ returns-in-Ok-false-clause-ok c =
     }
 
 pub returns-in-Err-OutOfMemory-clause-refused : goal.returns-in-Err-OutOfMemory-clause-refused
-returns-in-Err-OutOfMemory-clause-refused c = inr (c.in-Err-OutOfMemory.ensures.memory (ap Err c.in-Err-OutOfMemory.field-0-is))
+returns-in-Err-OutOfMemory-clause-refused c = inr (document_needs (c.in-Err-OutOfMemory.ensures.memory (ap Err c.in-Err-OutOfMemory.field-0-is)))

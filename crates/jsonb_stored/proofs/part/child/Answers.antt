@@ -1,5 +1,5 @@
 use Rattle.std.proofs.Common.{subst, MatchOption}
-use Rattle.jsonb_pointer.specs.Path.{IsChild}
+use Rattle.jsonb_write.specs.PartAt.{IsChild}
 use Rattle.jsonb_stored.specs.Parts.{ChildAt}
 use Rattle.jsonb_value.specs.Tree.{Tree}
 use Rattle.jsonb_stored.proofs.Finds.{parent_of}

@@ -1,22 +1,16 @@
-use Rattle.std.proofs.Common.{◌≡◌, ◌∙◌, None, Some, Err, true, inr, ap, map, rules, string_bytes, subst, sym}
+use Rattle.std.proofs.Common.{◌≡◌, ◌∙◌, None, Some, Err, true, inl, ap, map, rules, string_bytes, subst, sym}
 use Rattle.std.specs.Option.{option_map}
-use Rattle.jsonb_value.specs.declared.error.Error.TheVariants.{OutOfMemory}
 use Rattle.jsonb_value.specs.Text.{tree_text}
-use Rattle.jsonb_scan.specs.Answer.{mode_of}
+use Rattle.jsonb_scan.specs.Answer.{MayAllocate, mode_of}
 use Rattle.jsonb_scan.specs.Reading.Document.{source_of}
 use Rattle.jsonb_scan.specs.Source.{tree_of_source}
 use Rattle.jsonb_write.specs.PartAt.{part_at}
 use Rattle.jsonb_write.specs.PartRoom.{part_of}
 use Rattle.jsonb.specs.Handler.{Misses}
 use Rattle.jsonb.proofs.Documents.Agreement.{gives_explained, gives_refused, gives_tree}
-use Rattle.jsonb.proofs.Documents.Parts.{document_there, part_appended, part_missing}
-use Rattle.jsonb.proofs.Documents.Straight.{same_error, source_parsed, text_there}
+use Rattle.jsonb.proofs.Documents.Parts.{part_appended, part_missing}
+use Rattle.jsonb.proofs.Documents.Straight.{source_parsed, text_there}
 use Rattle.jsonb.proofs.parser.part.append_part.Goals as goal
-
-pub returns-then-is_err-clause-memory : goal.returns-then-is_err-clause-memory
-returns-then-is_err-clause-memory c = λ is.
-    let read = c.in-Ok.ensures.reads c.new-room.ensures.stands in
-    inr (tree_of_source read.0, (source_parsed (mode_of c.args.mode) c.args.text.now read.0 read.2).document)
 
 pub returns-in-Ok-clause-ok : goal.returns-in-Ok-clause-ok
 returns-in-Ok-clause-ok c =
@@ -48,6 +42,9 @@ returns-in-Some-told-clause-refused c = gives_refused (mode_of c.args.mode) c.ar
 pub returns-in-Some-told-clause-explained : goal.returns-in-Some-told-clause-explained
 returns-in-Some-told-clause-explained c = gives_explained (mode_of c.args.mode) c.args.text.now (Err c.in-Some-told.error) (returns-in-Some-told-clause-exact c)
 
+-- what goes past the test of the text may take memory
 pub returns-in-Some-told-clause-memory : goal.returns-in-Some-told-clause-memory
-returns-in-Some-told-clause-memory c = λ is.
-    document_there (mode_of c.args.mode) c.args.text.now (c.in-Err.ensures.memory (c.in-Some-told.is ∙ ap (λ e. Some e) (same_error (Err c.in-Some-told.error) (Err OutOfMemory) is)))
+returns-in-Some-told-clause-memory c = let may : MayAllocate c.args.text.now = search rules in λ _. inl may
+
+pub returns-then-is_err-clause-memory : goal.returns-then-is_err-clause-memory
+returns-then-is_err-clause-memory c = let may : MayAllocate c.args.text.now = search rules in λ _. inl may

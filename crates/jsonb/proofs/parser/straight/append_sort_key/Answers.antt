@@ -1,5 +1,5 @@
-use Rattle.std.proofs.Common.{true, ◌++◌, Err, ap, subst, sym, ◌∙◌}
-use Rattle.jsonb_scan.specs.Answer.{Fails, mode_of}
+use Rattle.std.proofs.Common.{rules, true, ◌++◌, Err, inl, ap, subst, sym, ◌∙◌}
+use Rattle.jsonb_scan.specs.Answer.{Fails, MayAllocate, mode_of}
 use Rattle.jsonb_scan.specs.Reading.Document.{source_of}
 use Rattle.jsonb_scan.specs.Source.{tree_of_source}
 use Rattle.jsonb_write.specs.Members.{source_key}
@@ -29,3 +29,10 @@ returns-in-Some-clause-refused c = gives_refused (mode_of c.args.mode) c.args.te
 
 pub returns-in-Some-clause-explained : goal.returns-in-Some-clause-explained
 returns-in-Some-clause-explained c = gives_explained (mode_of c.args.mode) c.args.text.now (Err c.in-Some.error) (returns-in-Some-clause-exact c)
+
+-- what goes past the test of the text may take memory
+pub returns-in-Some-clause-memory : goal.returns-in-Some-clause-memory
+returns-in-Some-clause-memory c = let may : MayAllocate c.args.text.now = search rules in λ _. inl may
+
+pub returns-in-Ok-clause-capacity : goal.returns-in-Ok-clause-capacity
+returns-in-Ok-clause-capacity c = let may : MayAllocate c.args.text.now = search rules in inl may

@@ -1,0 +1,44 @@
+/* The operations of the benchmark, done by this library's calls for C. They take and return what those of jsonb_bench do.
+ * The caller's buffer is kept from one call to the next. */
+#include <stdlib.h>
+#include <vizhoniku.h>
+
+static unsigned char *buffer;
+static size_t buffer_size;
+
+/* A buffer that holds the text or the sort key of a text of so many bytes. */
+static void make_room(size_t len) {
+  size_t needed = 4 * len + 64;
+  if (needed <= buffer_size) return;
+  free(buffer);
+  buffer = malloc(needed);
+  if (!buffer) exit(2);
+  buffer_size = needed;
+}
+
+size_t calls_bench_read(const unsigned char *text, size_t len, size_t rounds) {
+  struct vizhoniku_refusal refusal;
+  for (size_t round = 0; round < rounds; round++)
+    if (vizhoniku_check(VIZHONIKU_STANDARD, text, len, &refusal) != VIZHONIKU_ACCEPTED) return round;
+  return rounds;
+}
+
+size_t calls_bench_read_write(const unsigned char *text, size_t len, size_t rounds) {
+  struct vizhoniku_refusal refusal;
+  size_t size;
+  make_room(len);
+  for (size_t round = 0; round < rounds; round++)
+    if (vizhoniku_text(VIZHONIKU_STANDARD, text, len, buffer, buffer_size, &size, &refusal) != VIZHONIKU_ACCEPTED)
+      return round;
+  return rounds;
+}
+
+size_t calls_bench_sort_key(const unsigned char *text, size_t len, size_t rounds) {
+  struct vizhoniku_refusal refusal;
+  size_t size;
+  make_room(len);
+  for (size_t round = 0; round < rounds; round++)
+    if (vizhoniku_sort_key(VIZHONIKU_STANDARD, text, len, buffer, buffer_size, &size, &refusal) != VIZHONIKU_ACCEPTED)
+      return round;
+  return rounds;
+}

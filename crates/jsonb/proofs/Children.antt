@@ -1,0 +1,43 @@
+-- The children of trees, as they are found.
+use Rattle.std.proofs.Common.{◌≡◌, ℕ, zero, suc, ◌<◌, ◌^◌, List, Some, None, option_map, refl, sym, ap, arith}
+use Rattle.std.specs.Option.{option_and_then}
+use Rattle.jsonb_value.specs.Accessors.{as_array, get_by_index, get_by_name, item_at, trees_len}
+use Rattle.jsonb_value.specs.Tree.{Tree, array, object, Trees, no_trees, more_trees}
+use Rattle.jsonb_write.specs.PartAt.{IsIndex, IsChild, child_at, index_named}
+
+pub item_within : (ts : Trees) (i : ℕ) (t : Tree) → item_at ts i ≡ Some t → i < trees_len ts
+item_within no_trees i t e = cc
+item_within (more_trees u ts) zero t e = omega arith
+item_within (more_trees u ts) (suc i) t e = let rest = item_within ts i t e in omega (arith, rest)
+
+no_some : {A : Type 0} (x : A) → Some x ≡ None → ⊥
+no_some x e = cc
+
+same_length : (m n : ℕ) → Some m ≡ Some n → m ≡ n
+same_length m n e = cc
+
+-- the key of an array's item is an index
+pub no_index : (t : Tree) (key : List ℕ) (len : ℕ) → Some len ≡ option_map trees_len (as_array t) → len < 2 ^ 64 → ((index : ℕ) → index < 2 ^ 64 → IsIndex key index → ⊥) → (u : Tree) → IsChild t key u → ⊥
+no_index (array ts) key len some fits none u (i, spells, at) =
+    let within = item_within ts i u at in
+    let same = same_length len (trees_len ts) some in
+    none i (omega (arith, within, same, fits)) spells
+no_index t key len some fits none u child = no_some len some
+
+-- ---- computed
+
+-- in what is no array
+pub named_child : (t : Tree) (key : List ℕ) → None ≡ option_map trees_len (as_array t) → get_by_name key t ≡ child_at key t
+named_child (array ts) key e = absurd (no_some (trees_len ts) (sym e))
+named_child (object ms) key e = refl
+named_child t key e = refl
+
+-- in an array, by a key that names no index
+pub no_child : (t : Tree) (key : List ℕ) (len : ℕ) → Some len ≡ option_map trees_len (as_array t) → None ≡ index_named key → None ≡ child_at key t
+no_child (array ts) key len some e = ap (option_and_then (item_at ts)) e
+no_child t key len some e = absurd (no_some len some)
+
+-- in an array, by a key that names one
+pub indexed_child : (t : Tree) (key : List ℕ) (len index : ℕ) → Some len ≡ option_map trees_len (as_array t) → Some index ≡ index_named key → get_by_index index t ≡ child_at key t
+indexed_child (array ts) key len index some e = ap (option_and_then (item_at ts)) e
+indexed_child t key len index some e = absurd (no_some len some)

@@ -1,0 +1,7 @@
+use Rattle.std.proofs.Common.{[], map}
+use Rattle.jsonb_value.specs.Tree.Mark.{plain}
+use Rattle.jsonb.specs.Held.{key_held}
+use Rattle.jsonb.proofs.parser.handler.check.CheckedPartHandler.members.Goals as goal
+
+pub returns-clause-opened : goal.returns-clause-opened
+returns-clause-opened c = λ text key fs cs held. c.begin_object.ensures.stands text (map key_held fs) cs (plain, []) 0 held

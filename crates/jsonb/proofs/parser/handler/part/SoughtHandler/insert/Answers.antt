@@ -1,8 +1,0 @@
-use Rattle.std.proofs.Common.{[], map}
-use Rattle.jsonb_value.specs.Tree.Mark.{plain}
-use Rattle.jsonb.specs.Held.{part_held}
-use Rattle.jsonb.proofs.Scalars.Spelled.{spelled_part}
-use Rattle.jsonb.proofs.parser.handler.part.SoughtHandler.insert.Goals as goal
-
-pub returns-in-Ok-clause-put : goal.returns-in-Ok-clause-put
-returns-in-Ok-clause-put c = λ text s front k place fs cs held sees spelled. c.in-Ok.ensures.stands text s (map part_held fs) front k place cs (plain, []) 0 held sees (spelled_part text c.args.from c.args.to c.args.value.part s sees spelled)

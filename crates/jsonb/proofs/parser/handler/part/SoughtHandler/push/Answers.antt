@@ -1,8 +1,0 @@
-use Rattle.std.proofs.Common.{map}
-use Rattle.jsonb.specs.Held.{part_held}
-use Rattle.jsonb.proofs.Containers.Built.{on_ok}
-use Rattle.jsonb.proofs.Scalars.Spelled.{spelled_part}
-use Rattle.jsonb.proofs.parser.handler.part.SoughtHandler.push.Goals as goal
-
-pub returns-clause-put : goal.returns-clause-put
-returns-clause-put c = on_ok c.push.result (λ h text s ss fs cs held sees spelled. h text s (map part_held fs) ss cs held sees (spelled_part text c.args.from c.args.to c.args.value.part s sees spelled)) c.push.ensures.stands

@@ -1,5 +1,0 @@
-use Rattle.std.proofs.Common.{length}
-use Rattle.jsonb_pointer.proofs.part.+part_at.Given as goal
-
-abbrev pub decreases-part_at : goal.decreases-part_at
-decreases-part_at l = length l.keys.now
