@@ -8,7 +8,6 @@ pub mod util;
 
 pub use jsonb_scan::line;
 pub use jsonb_scan::line::{fault_index, line_and_column};
-pub use part::part_at;
 pub use jsonb_scan::util::parse_string;
 pub use jsonb_value::error::{Error, ParseErrorCode, Result};
 pub use jsonb_value::extension::{Date, ExtensionValue, Interval, Timestamp, TimestampTz};
@@ -20,3 +19,4 @@ pub use parser::{
     JsonAst, Mode, append_part, append_sort_key, append_text, check, may_allocate, parse_value,
     parse_value_standard_mode,
 };
+pub use part::part_at;
