@@ -2,5 +2,6 @@
 pub mod Built
 pub mod Contents
 pub mod FirstBytes
+pub mod KeptIntegers
 pub mod Spelled
 pub mod Spellings

@@ -11,6 +11,7 @@ use Rattle.jsonb_value.specs.Tree.{Mark, Num, Tree, int64, uint64, null, boolean
 use Rattle.jsonb.specs.declared.parser.Parser.{Parser}
 use Rattle.jsonb_scan.specs.Answer.{Fails, mode_of}
 use Rattle.jsonb_scan.specs.Reading.{Fault, Read, begins, ◌>>=◌}
+use Rattle.jsonb_scan.specs.Reading.ExtendedNumber.{extended_number_at}
 use Rattle.jsonb_scan.specs.Reading.Number.{is_number_start, standard_number_at}
 use Rattle.jsonb_scan.specs.Reading.Scalar.{begins_letter, begins_number, false_at, letters_at, null_at, number_at, number_or_fault, number_value_at, or_else, other_scalar_at, quoted_at, scalar_at, true_or_false_at, word_at, words_at}
 use Rattle.jsonb_scan.specs.Reading.String.{string_at}
@@ -31,7 +32,7 @@ use Rattle.jsonb.specs.Parser.{Advances, IsBehind, rest_of, size_of}
 use Rattle.jsonb_value.specs.Text.{in_quotes}
 use Rattle.std.proofs.lemmas.List.{drop_more}
 use Rattle.jsonb_write.specs.OpenText.{source_text}
-use Rattle.jsonb.proofs.Scalars.FirstBytes.{standard_number}
+use Rattle.jsonb.proofs.Scalars.FirstBytes.{extended_number, standard_number}
 use Rattle.jsonb_scan.proofs.Containers.JoinedParts.{on_byte-none}
 use Rattle.jsonb.proofs.Steps.Failures.{memory_misses, misses_through, untold_misses}
 use Rattle.jsonb.proofs.Steps.Outcomes.{same_size, scalar_quoted}
@@ -209,6 +210,15 @@ integer_at_once size mode bytes n rest is first read =
     let begun = starts_number bytes first in
     on_byte-none 34 bytes (quoted_at size mode 34) (other_scalar_at size mode bytes) begun.0
     ∙ standard_number size mode bytes is begun.1 ∙ ap (λ (r : Read Num). r >>= λ x. Ok (number x.0, x.1)) read
+
+-- a number of an extended text that begins as integers do
+pub extended_at_once : (size : ℕ) (mode : Mode) (bytes : List ℕ) (n : Num) (rest : List ℕ) → mode ≡ extended → is_number_start (slice_index bytes 0) ≡ true → extended_number_at size bytes ≡ Ok (n, rest)
+    → scalar_at size mode bytes ≡ Ok (number n, rest)
+unfolding scalar_at
+extended_at_once size mode bytes n rest is first read =
+    let begun = starts_number bytes first in
+    on_byte-none 34 bytes (quoted_at size mode 34) (other_scalar_at size mode bytes) begun.0
+    ∙ extended_number size mode bytes is begun.1 ∙ ap (λ (r : Read Num). r >>= λ x. Ok (number x.0, x.1)) read
 
 -- what the parser reads where it stood still
 pub scalar_still : (p q : Parser) → q ≡ p → scalar_at (size_of p) (mode_of p.mode) (rest_of p) ≡ scalar_at (size_of q) (mode_of q.mode) (rest_of q)

@@ -1,6 +1,8 @@
 -- Which scalar it is, by the first byte.
 use Rattle.std.proofs.Common.{◌≡◌, ◌≤◌, ℕ, true, false, true≢false, List, [], ◌∷◌, refl, sym, ap, ◌∙◌, arith}
 use Rattle.std.proofs.lemmas.Bool.{cond-false, cond-true}
+use Rattle.std.specs.Char.{to_ascii_lowercase}
+use Rattle.std.specs.Prelude.{◌||◌, ◌==◌}
 use Rattle.jsonb_value.specs.Code.Code.{expected_some_value}
 use Rattle.jsonb_value.specs.Mode.{Mode, standard, extended}
 use Rattle.jsonb.specs.declared.parser.Parser.{Parser}
@@ -46,3 +48,12 @@ pub standard_number : (size : ℕ) (mode : Mode) (bytes : List ℕ) → mode ≡
 standard_number size mode bytes is begun =
     ap (λ m. other_scalar_at size m bytes) is ∙ other_number size standard bytes begun
     ∙ cond-true (begins_number standard bytes) (number_value_at size standard bytes) (refused size expected_some_value 1 bytes) begun
+
+wider_start : (bytes : List ℕ) → begins_number standard bytes ≡ true → begins_number extended bytes ≡ true
+wider_start [] e = absurd (true≢false (sym e))
+wider_start (b ∷ rest) e = ap (λ begins. begins || (b == 43) || (b == 46) || (to_ascii_lowercase b == 105)) e
+
+pub extended_number : (size : ℕ) (mode : Mode) (bytes : List ℕ) → mode ≡ extended → begins_number standard bytes ≡ true → other_scalar_at size mode bytes ≡ number_value_at size extended bytes
+extended_number size mode bytes is begun =
+    ap (λ m. other_scalar_at size m bytes) is ∙ other_number size extended bytes begun
+    ∙ cond-true (begins_number extended bytes) (number_value_at size extended bytes) (refused size expected_some_value 1 bytes) (wider_start bytes begun)

@@ -325,7 +325,7 @@ no_more_digits : (b : ℕ) → 16 ≤ digit_value b → b ≢ 46 → to_ascii_lo
 no_more_digits b digit point mark = ⊎_elim (λ d. omega (arith, d, digit)) (⊎_elim point mark)
 
 -- no byte that may follow a value goes on with an extended number
-break_ends_extended : (b : ℕ) → is_break b ≡ true → ¬ (ContinuesNumberExtended b)
+pub break_ends_extended : (b : ℕ) → is_break b ≡ true → ¬ (ContinuesNumberExtended b)
 break_ends_extended b e =
     break_is b e (λ c. ¬ (ContinuesNumberExtended c))
     (no_more_digits 32 (omega arith) (omega arith) (omega arith))

@@ -1,17 +1,53 @@
 //! The numbers of extended texts: decimals, hexadecimals, `nan` and `infinity`.
-ghost use Rattle.std.specs.Prelude.{◌≡◌, ◌≢◌, ◌+◌, ◌-◌, ◌≤◌, ◌<◌, Err, Some, None};
+ghost use Rattle.std.specs.Prelude.{◌≡◌, ◌≢◌, ◌+◌, ◌-◌, ◌≤◌, ◌<◌, true, Err, MatchBool, Some, None};
+ghost use Rattle.jsonb_value.specs.Mode.{extended};
 ghost use Rattle.jsonb_value.specs.View.{number_view};
 ghost use Rattle.jsonb_value.specs.declared.error.Error.TheVariants.{OutOfMemory};
-ghost use Rattle.jsonb_scan.specs.Answer.{Gives};
-ghost use Rattle.jsonb.specs.Parser.{rest_of, size_of, Advances};
+ghost use Rattle.jsonb_scan.specs.Answer.{Gives, mode_of};
+ghost use Rattle.jsonb.specs.Parser.{rest_of, size_of, Advances, PassesInteger};
+ghost use Rattle.jsonb_scan.specs.Reading.Blank.{is_break};
 ghost use Rattle.jsonb_scan.specs.Reading.ExtendedNumber.{extended_number_at};
 
 use super::Parser;
 use jsonb_scan::parser::extended_number::{scan_number, short_number};
+use jsonb_scan::parser::integer::kept_integer;
+use jsonb_scan::parser::number::byte_at;
 use jsonb_value::error::{Error, ParseErrorCode, Result};
 use jsonb_value::number::Number;
 
+// Whether a byte is whitespace, or what stands behind an element or a member. No number goes on with it.
+#[inline(always)]
+fn is_separator(byte: u8) -> bool
+    ensures { MatchBool result (is_break byte ≡ true) (Unit {0}) }
+{
+    matches!(byte, b',' | b']' | b'}' | b' ' | b'\n' | b'\r' | b'\t')
+}
+
 impl Parser<'_> {
+    // Passes an integer of an extended text that is written by the same bytes again, if that is asked and one comes next,
+    // with a separator behind it.
+    #[inline(always)]
+    pub(super) fn kept_extended_integer(&mut self, is_asked: bool) -> bool
+        requires inside { self.old.idx ≤ size_of self.old }
+        requires mode { mode_of self.old.mode ≡ extended }
+        ensures passes { MatchBool result (PassesInteger self.old self.new) (self.new ≡ self.old) }
+        ensures asked { MatchBool result (is_asked ≡ true) (Unit {0}) }
+        ensures advances { Advances self.old self.new }
+    {
+        if !is_asked {
+            return false;
+        }
+        let bytes = self.rest();
+        let Some(end) = kept_integer(bytes) else {
+            return false;
+        };
+        if !is_separator(byte_at(bytes, end)) {
+            return false;
+        }
+        self.idx += end;
+        true
+    }
+
     // Reads the longest number text, and gives its number.
     pub(super) fn parse_extended_number(&mut self) -> Result<Number>
         requires { self.old.idx ≤ size_of self.old }

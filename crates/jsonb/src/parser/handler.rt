@@ -167,15 +167,14 @@ pub(super) trait Handler<'a>: Drop + Sized {
             → stands text room.new false (Array items.new ∷ fs) (elements_so_far (ss ++ s ∷ []) ∷ cs)) }
         ensures base { base room.new ≡ base room.old };
 
-    // Puts in an element that stands in the text as it is written.
+    // Puts in an element that stands in the text as it is written. A handler that keeps none isn't asked to.
     fn push_kept(
         room: &mut Self::Room,
         items: &mut Self::Items,
         from: usize,
         to: usize,
     ) -> std::result::Result<(), AllocError>
-        requires { keeps ≡ true }
-        ensures put { OnOk result ((text : List ℕ) → (s : Source) → (ss : List Source)
+        ensures put { OnOk result (keeps ≡ true → (text : List ℕ) → (s : Source) → (ss : List Source)
             → (fs : List (Frame Self.Items Self.Members Self.Key)) → (cs : List Open)
             → stands text room.old false (Array items.old ∷ fs) (elements_so_far ss ∷ cs)
             → slice_range text from to ≡ source_text s
@@ -283,7 +282,7 @@ pub(super) trait Handler<'a>: Drop + Sized {
             (members_so_far (front ++ found k s place ∷ []) (plain, []) 0 ∷ cs)) (silent ≡ true)) }
         ensures base { base room.new ≡ base room.old };
 
-    // Puts in a member whose value stands in the text as it is written.
+    // Puts in a member whose value stands in the text as it is written. A handler that keeps none isn't asked to.
     fn insert_kept(
         room: &mut Self::Room,
         object: &mut OpenObject<Self::Members, Self::Key>,
@@ -291,8 +290,7 @@ pub(super) trait Handler<'a>: Drop + Sized {
         from: usize,
         to: usize,
     ) -> std::result::Result<bool, AllocError>
-        requires { keeps ≡ true }
-        ensures put { IfOk result (λ is_new. MatchBool is_new ((text : List ℕ) → (s : Source) → (front : List Found)
+        ensures put { IfOk result (λ is_new. MatchBool is_new (keeps ≡ true → (text : List ℕ) → (s : Source) → (front : List Found)
             → (k : Mark × List ℕ) → (place : ℕ) → (fs : List (Frame Self.Items Self.Members Self.Key)) → (cs : List Open)
             → stands text room.old true (Object (record { members = object.old.members; key = key }) ∷ fs)
             (members_so_far front k place ∷ cs) → slice_range text from to ≡ source_text s

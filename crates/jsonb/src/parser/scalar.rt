@@ -1,6 +1,6 @@
 //! Values that hold no others.
 ghost use Rattle.std.specs.Prelude.{◌≡◌, ◌≢◌, ◌<◌, ◌≤◌, [], ◌∷◌, ◌++◌, drop, length, take, Contains, MatchBool, Err, IfErr, IfNone, IfOk, OnOk, IfSome, Some, true, false, ℕ, List, ◌^◌, pos, neg_ℤ, slice_range};
-ghost use Rattle.jsonb_value.specs.Mode.{standard};
+ghost use Rattle.jsonb_value.specs.Mode.{standard, extended};
 ghost use Rattle.jsonb_value.specs.View.{number_view};
 ghost use Rattle.jsonb.specs.Handler.{AsNumber, AsScalar, Builds, IsUntold};
 ghost use Rattle.jsonb.specs.Frames.{Pushes, PutsIn};
@@ -198,6 +198,9 @@ impl<'a> Parser<'a> {
         }
         match self.mode {
             Mode::Standard => self.push_standard_value::<V>(room, items, text),
+            Mode::Extended if V::keeps_integers() => {
+                self.push_extended_value::<V>(room, items, text)
+            }
             Mode::Extended => self.push_other_scalar::<V>(room, items, text),
         }
     }
@@ -277,6 +280,33 @@ impl<'a> Parser<'a> {
         self.push_standard_scalar::<V>(room, items, text)
     }
 
+    // Puts in an element of an extended text that is a scalar and no string in double quotes.
+    #[inline(never)]
+    fn push_extended_value<V: Handler<'a>>(
+        &mut self,
+        room: &mut V::Room,
+        items: &mut V::Items,
+        text: &'a str,
+    ) -> Result<(), Failed>
+        requires inside { self.old.idx ≤ size_of self.old }
+        requires same { text.now ≡ take (length text.now) self.old.buf.now }
+        requires mode { mode_of self.old.mode ≡ extended }
+        requires no_string { begins 34 (rest_of self.old) ≡ false }
+        ensures reads { Pushes V.silent self.new.told V.stands self.old.buf.now result room.old items.old
+            (read_at scalar_at self.old) room.new items.new (rest_of self.new) }
+        ensures advances { Advances self.old self.new }
+        ensures base { V.base room.new ≡ V.base room.old }
+    {
+        let from = self.idx;
+        if self.kept_extended_integer(V::keeps_integers()) {
+            return self.push_kept::<V>(room, items, from);
+        }
+        if self.may_begin_word() {
+            return self.push_word::<V>(room, items, text);
+        }
+        self.push_other_scalar::<V>(room, items, text)
+    }
+
     // Puts in a member of a standard text whose value is a scalar and no string.
     #[inline(always)]
     fn insert_standard_value<V: Handler<'a>>(
@@ -300,6 +330,34 @@ impl<'a> Parser<'a> {
             return self.insert_kept::<V>(room, object, key, from);
         }
         self.insert_standard_scalar::<V>(room, object, key, text)
+    }
+
+    // Puts in a member of an extended text whose value is a scalar and no string in double quotes.
+    #[inline(never)]
+    fn insert_extended_value<V: Handler<'a>>(
+        &mut self,
+        room: &mut V::Room,
+        object: &mut OpenObject<V::Members, V::Key>,
+        key: V::Key,
+        text: &'a str,
+    ) -> Result<(), Failed>
+        requires inside { self.old.idx ≤ size_of self.old }
+        requires same { text.now ≡ take (length text.now) self.old.buf.now }
+        requires mode { mode_of self.old.mode ≡ extended }
+        requires no_string { begins 34 (rest_of self.old) ≡ false }
+        ensures reads { PutsIn V.silent self.new.told V.stands self.old.buf.now result room.old object.old key
+            (read_at scalar_at self.old) room.new object.new (rest_of self.new) }
+        ensures advances { Advances self.old self.new }
+        ensures base { V.base room.new ≡ V.base room.old }
+    {
+        let from = self.idx;
+        if self.kept_extended_integer(V::keeps_integers()) {
+            return self.insert_kept::<V>(room, object, key, from);
+        }
+        if self.may_begin_word() {
+            return self.insert_word::<V>(room, object, key, text);
+        }
+        self.insert_other_scalar::<V>(room, object, key, text)
     }
 
     // Puts in an element of a standard text that is a scalar and no string. Most numbers are integers of few digits.
@@ -327,6 +385,26 @@ impl<'a> Parser<'a> {
             }
             return self.push::<V>(room, items, V::number(Number::UInt64(read.magnitude)), from);
         }
+        self.push_word::<V>(room, items, text)
+    }
+
+    // Puts in an element that is a scalar and no string in double quotes. Most words are in small letters.
+    #[inline(always)]
+    fn push_word<V: Handler<'a>>(
+        &mut self,
+        room: &mut V::Room,
+        items: &mut V::Items,
+        text: &'a str,
+    ) -> Result<(), Failed>
+        requires inside { self.old.idx ≤ size_of self.old }
+        requires same { text.now ≡ take (length text.now) self.old.buf.now }
+        requires no_string { begins 34 (rest_of self.old) ≡ false }
+        ensures reads { Pushes V.silent self.new.told V.stands self.old.buf.now result room.old items.old
+            (read_at scalar_at self.old) room.new items.new (rest_of self.new) }
+        ensures advances { Advances self.old self.new }
+        ensures base { V.base room.new ≡ V.base room.old }
+    {
+        let from = self.idx;
         match self.short_literal() {
             Some(Literal::Null) => self.push::<V>(room, items, V::null(), from),
             Some(Literal::Bool(value)) => self.push::<V>(room, items, V::boolean(value), from),
@@ -399,6 +477,9 @@ impl<'a> Parser<'a> {
         }
         match self.mode {
             Mode::Standard => self.insert_standard_value::<V>(room, object, key, text),
+            Mode::Extended if V::keeps_integers() => {
+                self.insert_extended_value::<V>(room, object, key, text)
+            }
             Mode::Extended => self.insert_other_scalar::<V>(room, object, key, text),
         }
     }
@@ -430,6 +511,27 @@ impl<'a> Parser<'a> {
             let number = Number::UInt64(read.magnitude);
             return self.insert::<V>(room, object, key, V::number(number), from);
         }
+        self.insert_word::<V>(room, object, key, text)
+    }
+
+    // Puts in a member whose value is a scalar and no string in double quotes. Most words are in small letters.
+    #[inline(always)]
+    fn insert_word<V: Handler<'a>>(
+        &mut self,
+        room: &mut V::Room,
+        object: &mut OpenObject<V::Members, V::Key>,
+        key: V::Key,
+        text: &'a str,
+    ) -> Result<(), Failed>
+        requires inside { self.old.idx ≤ size_of self.old }
+        requires same { text.now ≡ take (length text.now) self.old.buf.now }
+        requires no_string { begins 34 (rest_of self.old) ≡ false }
+        ensures reads { PutsIn V.silent self.new.told V.stands self.old.buf.now result room.old object.old key
+            (read_at scalar_at self.old) room.new object.new (rest_of self.new) }
+        ensures advances { Advances self.old self.new }
+        ensures base { V.base room.new ≡ V.base room.old }
+    {
+        let from = self.idx;
         match self.short_literal() {
             Some(Literal::Null) => self.insert::<V>(room, object, key, V::null(), from),
             Some(Literal::Bool(value)) => self.insert::<V>(
@@ -643,6 +745,12 @@ impl<'a> Parser<'a> {
             Mode::Standard => false,
             Mode::Extended => self.take_byte(b'\''),
         }
+    }
+
+    // Whether the next byte is a small letter, so that it is worth while to look for a literal.
+    #[inline(always)]
+    fn may_begin_word(&self) -> bool {
+        matches!(self.peek(), Some(b'a'..=b'z'))
     }
 
     // Reads a literal in small letters, if one comes next.

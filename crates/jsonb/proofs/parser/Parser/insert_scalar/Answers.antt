@@ -38,4 +38,9 @@ returns-in-Standard-clause-reads g c =
 pub returns-in-Extended-clause-reads : goal.returns-in-Extended-clause-reads
 returns-in-Extended-clause-reads g c =
     let h = g.V.Handler in
+    puts_in_same h.silent c.insert_extended_value.new.self.told h.stands c.insert_extended_value.result _ _ (sym (ap (λ o. o.buf.now) c.if-take_byte.ensures.rest)) _ c.args.object.now _ _ _ _ _ _ (scalar_still c.args.self.now c.take_byte.new.self c.if-take_byte.ensures.rest) c.insert_extended_value.ensures.reads
+
+pub returns-in-Extended-2-clause-reads : goal.returns-in-Extended-2-clause-reads
+returns-in-Extended-2-clause-reads g c =
+    let h = g.V.Handler in
     puts_in_same h.silent c.insert_other_scalar.new.self.told h.stands c.insert_other_scalar.result _ _ (sym (ap (λ o. o.buf.now) c.if-take_byte.ensures.rest)) _ c.args.object.now _ _ _ _ _ _ (scalar_other c.args.self.now c.take_byte.new.self c.if-take_byte.ensures.rest (sym c.if-take_byte.ensures.found)) c.insert_other_scalar.ensures.reads

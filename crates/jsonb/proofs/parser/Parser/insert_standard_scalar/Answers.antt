@@ -3,15 +3,14 @@ use Rattle.jsonb_scan.specs.ShortInteger.{short_view}
 use Rattle.jsonb_scan.specs.Source.{number_source}
 use Rattle.jsonb_value.specs.Tree.{number}
 use Rattle.jsonb_value.specs.View.{number_view}
-use Rattle.jsonb.proofs.Scalars.Built.{integer_stands, negative_of, positive_of, read_put}
-use Rattle.jsonb.proofs.Scalars.FirstBytes.{scalar_other}
+use Rattle.jsonb.proofs.Scalars.Built.{integer_stands, negative_of, positive_of, read_put, scalar_still}
 use Rattle.jsonb.proofs.Steps.Failures.{puts_in_same}
 use Rattle.jsonb.proofs.parser.Parser.insert_standard_scalar.Goals as goal
 
-pub returns-in-None-clause-reads : goal.returns-in-None-clause-reads
-returns-in-None-clause-reads g c =
+pub returns-clause-reads : goal.returns-clause-reads
+returns-clause-reads g c =
     let h = g.V.Handler in
-    puts_in_same h.silent c.insert_other_scalar.new.self.told h.stands c.insert_other_scalar.result _ _ (sym (ap (λ o. o.buf.now) (c.in-None.ensures.stays ∙ c.in_default.ensures.stays))) _ c.args.object.now _ _ _ _ _ _ (scalar_other c.args.self.now c.short_literal.new.self (c.in-None.ensures.stays ∙ c.in_default.ensures.stays) c.requires.no_string) c.insert_other_scalar.ensures.reads
+    puts_in_same h.silent c.insert_word.new.self.told h.stands c.insert_word.result _ _ (sym (ap (λ o. o.buf.now) c.in_default.ensures.stays)) _ c.args.object.now _ _ _ _ _ _ (scalar_still c.args.self.now c.short_integer.new.self c.in_default.ensures.stays) c.insert_word.ensures.reads
 
 pub returns-then-read-clause-reads : goal.returns-then-read-clause-reads
 returns-then-read-clause-reads g c =

@@ -3,15 +3,14 @@ use Rattle.jsonb_scan.specs.ShortInteger.{short_view}
 use Rattle.jsonb_scan.specs.Source.{number_source}
 use Rattle.jsonb_value.specs.Tree.{number}
 use Rattle.jsonb_value.specs.View.{number_view}
-use Rattle.jsonb.proofs.Scalars.Built.{integer_stands, negative_of, positive_of, read_pushed}
-use Rattle.jsonb.proofs.Scalars.FirstBytes.{scalar_other}
+use Rattle.jsonb.proofs.Scalars.Built.{integer_stands, negative_of, positive_of, read_pushed, scalar_still}
 use Rattle.jsonb.proofs.Steps.Failures.{pushes_same}
 use Rattle.jsonb.proofs.parser.Parser.push_standard_scalar.Goals as goal
 
-pub returns-in-None-clause-reads : goal.returns-in-None-clause-reads
-returns-in-None-clause-reads g c =
+pub returns-clause-reads : goal.returns-clause-reads
+returns-clause-reads g c =
     let h = g.V.Handler in
-    pushes_same h.silent c.push_other_scalar.new.self.told h.stands c.push_other_scalar.result _ _ (sym (ap (λ o. o.buf.now) (c.in-None.ensures.stays ∙ c.in_default.ensures.stays))) _ _ _ _ _ _ _ (scalar_other c.args.self.now c.short_literal.new.self (c.in-None.ensures.stays ∙ c.in_default.ensures.stays) c.requires.no_string) c.push_other_scalar.ensures.reads
+    pushes_same h.silent c.push_word.new.self.told h.stands c.push_word.result _ _ (sym (ap (λ o. o.buf.now) c.in_default.ensures.stays)) _ _ _ _ _ _ _ (scalar_still c.args.self.now c.short_integer.new.self c.in_default.ensures.stays) c.push_word.ensures.reads
 
 pub returns-then-read-clause-reads : goal.returns-then-read-clause-reads
 returns-then-read-clause-reads g c =

@@ -1,0 +1,71 @@
+-- Integers of extended texts that are written as they stand.
+use Rattle.std.proofs.Common.{◌≡◌, ℕ, zero, suc, ◌+◌, ◌≤◌, Bool, true, false, List, [], ◌∷◌, ◌++◌, drop, drop-drop, length, length-drop, Ok, refl, sym, ap, ap₂, ◌∙◌, arith}
+use Rattle.std.specs.Prelude.{slice_index}
+use Rattle.jsonb_value.specs.Mode.{Mode, extended}
+use Rattle.jsonb_value.specs.Text.NumberText.{number_text, text_of_parts}
+use Rattle.jsonb_value.specs.Text.Range.{IsInTexts}
+use Rattle.jsonb_value.specs.Tree.{Num, number}
+use Rattle.jsonb_value.proofs.Numbers.InRange.{extended_reads_back, standard_number}
+use Rattle.jsonb_scan.specs.Reading.Blank.{is_break}
+use Rattle.jsonb_scan.specs.Reading.ExtendedNumber.{EndsExtended, extended_number_at}
+use Rattle.jsonb_scan.specs.Reading.Number.{is_number_start}
+use Rattle.jsonb_scan.specs.Reading.Scalar.{scalar_at}
+use Rattle.jsonb_scan.specs.ShortInteger.{IsKeptInteger, short_view}
+use Rattle.jsonb_scan.proofs.Numbers.Extended.{extended_complete}
+use Rattle.jsonb_scan.proofs.Numbers.Standard.{number_sound}
+use Rattle.jsonb_write.proofs.Spelled.{kept_text}
+use Rattle.jsonb.specs.declared.parser.Parser.{Parser}
+use Rattle.jsonb.specs.Parser.{Advances, PassesInteger, mode_of, rest_of, size_of}
+use Rattle.jsonb.proofs.Scalars.Built.{between, extended_at_once}
+use Rattle.jsonb.proofs.Scalars.Spellings.{break_ends_extended}
+
+-- The bytes begin with a number as it is written, and a parser of this mode reads it there.
+pub record IsKeptNumber (size : ℕ) (mode : Mode) (bytes rest : List ℕ) : Type 0 where
+  pub value : Num
+  pub core : List ℕ
+  pub joined : bytes ≡ core ++ rest
+  pub reads : scalar_at size mode bytes ≡ Ok (number value, rest)
+  pub text : core ≡ number_text value
+
+-- a byte after which no extended number goes on
+behind : (bytes : List ℕ) (end : ℕ) → is_break (slice_index bytes end) ≡ true → EndsExtended (drop end bytes)
+behind [] zero e = tt
+behind [] (suc end) e = tt
+behind (b ∷ bytes) zero e = break_ends_extended b e
+behind (b ∷ bytes) (suc end) e = behind bytes end e
+
+pub extended_kept : (size : ℕ) (mode : Mode) (bytes : List ℕ) (end : ℕ) → mode ≡ extended → is_number_start (slice_index bytes 0) ≡ true → IsKeptInteger bytes end → is_break (slice_index bytes end) ≡ true → IsKeptNumber size mode bytes (drop end bytes)
+extended_kept size mode bytes end is first kept ends =
+    let n = short_view kept.read in
+    let rest = drop end bytes in
+    let sound = number_sound size bytes n rest (kept.found size) in
+    let text : sound.core ≡ number_text n = kept_text kept.read.negative kept.read.magnitude kept.read.end sound.core kept.some sound.number in
+    let fits : IsInTexts n = in_texts kept.read.negative in
+    let same = extended_reads_back n (standard_number sound.core n sound.number).1 fits in
+    let at = extended_complete size (number_text n) rest same.read same.is_number (behind bytes end ends) in
+    let found : extended_number_at size bytes ≡ Ok (same.read, rest) = ap (extended_number_at size) (sound.joined ∙ ap (λ core. core ++ rest) text) ∙ at in
+    record {
+      value = same.read;
+      core = sound.core;
+      joined = sound.joined;
+      reads = extended_at_once size mode bytes same.read rest is first found;
+      text = text ∙ sym (ap₂ text_of_parts same.scales same.wholes);
+    }
+  where
+    in_texts : (negative : Bool) → IsInTexts (short_view (record { negative = negative; magnitude = kept.read.magnitude; end = kept.read.end }))
+    in_texts true = tt
+    in_texts false = tt
+
+-- what a parser passes that goes on behind it
+pub kept_passes : (p : Parser) (end : ℕ) → p.idx ≤ size_of p → end ≤ length (rest_of p) → IsKeptNumber (size_of p) (mode_of p.mode) (rest_of p) (drop end (rest_of p)) → PassesInteger p (record p { idx = p.idx + end })
+kept_passes p end within inside kept = record {
+  value = kept.value;
+  reads = kept.reads ∙ ap (λ r. Ok (number kept.value, r)) (drop-drop end p.idx p.buf.now);
+  text = between p o kept.core on within (kept.joined ∙ ap (λ r. kept.core ++ r) (drop-drop end p.idx p.buf.now)) ∙ kept.text;
+}
+  where
+    o : Parser
+    o = record p { idx = p.idx + end }
+
+    on : Advances p o
+    on = record { buf = refl; mode = refl; onward = omega arith; inside = λ h. omega (arith, h, inside, length-drop p.idx p.buf.now) }
