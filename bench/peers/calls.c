@@ -23,22 +23,23 @@ size_t calls_bench_read(const unsigned char *text, size_t len, size_t rounds) {
   return rounds;
 }
 
-size_t calls_bench_read_write(const unsigned char *text, size_t len, size_t rounds) {
+/* What vizhoniku_text and vizhoniku_sort_key are. */
+typedef uint32_t writer_t(uint32_t mode, const unsigned char *text, size_t text_size, unsigned char *buffer,
+                          size_t buffer_size, size_t *size, struct vizhoniku_refusal *refusal);
+
+static size_t repeat(writer_t *write, const unsigned char *text, size_t len, size_t rounds) {
   struct vizhoniku_refusal refusal;
   size_t size;
   make_room(len);
   for (size_t round = 0; round < rounds; round++)
-    if (vizhoniku_text(VIZHONIKU_STANDARD, text, len, buffer, buffer_size, &size, &refusal) != VIZHONIKU_ACCEPTED)
-      return round;
+    if (write(VIZHONIKU_STANDARD, text, len, buffer, buffer_size, &size, &refusal) != VIZHONIKU_ACCEPTED) return round;
   return rounds;
 }
 
+size_t calls_bench_read_write(const unsigned char *text, size_t len, size_t rounds) {
+  return repeat(vizhoniku_text, text, len, rounds);
+}
+
 size_t calls_bench_sort_key(const unsigned char *text, size_t len, size_t rounds) {
-  struct vizhoniku_refusal refusal;
-  size_t size;
-  make_room(len);
-  for (size_t round = 0; round < rounds; round++)
-    if (vizhoniku_sort_key(VIZHONIKU_STANDARD, text, len, buffer, buffer_size, &size, &refusal) != VIZHONIKU_ACCEPTED)
-      return round;
-  return rounds;
+  return repeat(vizhoniku_sort_key, text, len, rounds);
 }
