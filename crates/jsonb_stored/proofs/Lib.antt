@@ -5,3 +5,5 @@ pub mod ByFirstByte
 pub mod Opens
 pub mod Names
 pub mod Finds
+pub mod Standing
+pub mod Strings

@@ -1,10 +1,16 @@
 //! Values that are kept as their sort keys: where a key ends, parts and members, straight from the bytes.
 #![tactic(auto)]
 
+pub mod find;
 pub mod part;
 pub mod skip;
+pub mod text;
 pub mod walk;
 
+pub use find::{
+    NoKey, count_parts, find_item, find_member, find_part, next_part, opened, range_of,
+};
 pub use part::part_of_key;
 pub use skip::after_key;
+pub use text::{put_text, text_of_string, text_size};
 pub use walk::{Kind, items_of, kind_of, members_of, next_item, next_member};

@@ -162,7 +162,7 @@ fn item<'k>(items: &'k [u8], index: usize, name: &str) -> Option<&'k [u8]>
 }
 
 // Whether an object or an array ends here.
-fn is_over(object: bool, bytes: &[u8]) -> bool
+pub(crate) fn is_over(object: bool, bytes: &[u8]) -> bool
     ensures yes { IsTrue result → (tail : List ℕ) × (bytes.now ≡ end_key object ++ tail) }
     ensures no { IsFalse result → (tail : List ℕ) → bytes.now ≡ end_key object ++ tail → ⊥ }
 {

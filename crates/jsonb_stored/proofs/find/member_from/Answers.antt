@@ -1,0 +1,43 @@
+use Rattle.std.proofs.Common.{arith, refl, sym, ◌∙◌}
+use Rattle.std.specs.Str.{bytes_eq}
+use Rattle.jsonb_key.proofs.Texts.{none_some, some_same}
+use Rattle.jsonb_value.specs.Accessors.{find_member}
+use Rattle.jsonb_stored.proofs.Standing.{found_none, found_some, no_member_here, member_here, member_is, member_past, member_stands, member_passed}
+use Rattle.jsonb_stored.proofs.find.member_from.Goals as goal
+
+pub returns-then-is_over-clause-found : goal.returns-then-is_over-clause-found
+returns-then-is_over-clause-found c = λ ms a p w more e.
+    let over = c.is_over.ensures.yes c.if-is_over.true in
+    found_none c.args.members.now (find_member (bytes_eq c.args.name.now) ms) (no_member_here ms c.args.name.now c.args.members.now c.members.rest.now more over.0 (c.members.invariant.walks ms a p w more e) over.1)
+
+pub returns-in-Less-clause-found : goal.returns-in-Less-clause-found
+returns-in-Less-clause-found c = λ ms a p w more e.
+    let n = member_here ms c.args.name.now c.args.members.now c.members.rest.now more (c.members.invariant.walks ms a p w more e) (c.is_over.ensures.no c.if-is_over.false) in
+    let less = sym (c.compare_name-order.ensures.order n.key _ n.stands) ∙ c.in-Less.is in
+    found_none c.args.members.now (find_member (bytes_eq c.args.name.now) ms) (member_past ms c.args.name.now c.args.members.now c.members.rest.now more n less)
+
+pub returns-in-Equal-clause-found : goal.returns-in-Equal-clause-found
+returns-in-Equal-clause-found c = λ ms a p w more e.
+    let n = member_here ms c.args.name.now c.args.members.now c.members.rest.now more (c.members.invariant.walks ms a p w more e) (c.is_over.ensures.no c.if-is_over.false) in
+    let same = sym (c.compare_name-order.ensures.order n.key _ n.stands) ∙ c.in-Equal.is in
+    let value = c.compare_name-order.ensures.behind n.key _ n.stands c.in-Equal.is in
+    found_some c.args.members.now c.compare_name-order.result.1.now c.compare_name-order.result.1 (find_member (bytes_eq c.args.name.now) ms) n.value
+    (member_is ms c.args.name.now c.args.members.now c.members.rest.now more n same) refl
+    (member_stands ms c.args.name.now c.args.members.now c.members.rest.now more c.compare_name-order.result.1.now n value)
+
+pub returns-in_default-after_key-clause-found : goal.returns-in_default-after_key-clause-found
+returns-in_default-after_key-clause-found c = λ ms a p w more e.
+    let n = member_here ms c.args.name.now c.args.members.now c.members.rest.now more (c.members.invariant.walks ms a p w more e) (c.is_over.ensures.no c.if-is_over.false) in
+    let value = some_same c.in-Some.value.now _ (c.in-Some.ensures.found n.key _ n.stands) in
+    absurd (none_some _ (c.in_default-after_key.ensures.found n.value n.readable _ value))
+
+pub members-preserved : goal.members-preserved
+members-preserved c = record {
+  walks = λ ms a p w more e.
+      let n = member_here ms c.args.name.now c.args.members.now c.members.rest.now more (c.members.invariant.walks ms a p w more e) (c.is_over.ensures.no c.if-is_over.false) in
+      let above = sym (c.compare_name-order.ensures.order n.key _ n.stands) ∙ c.in-Greater.is in
+      let value = some_same c.in-Some.value.now _ (c.in-Some.ensures.found n.key _ n.stands) in
+      let others = some_same c.in-Some-after_key.others.now _ (c.in-Some-after_key.ensures.found n.value n.readable _ value) in
+      member_passed ms c.args.name.now c.args.members.now c.members.rest.now more c.in-Some.value.now c.in-Some-after_key.others.now n above value others;
+  within = omega (arith, c.in-Some-after_key.ensures.shorter, c.in-Some.ensures.shorter, c.members.invariant.within);
+}

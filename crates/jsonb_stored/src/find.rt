@@ -1,0 +1,306 @@
+//! Parts of keys where they stand in the bytes, and how many parts there are.
+
+ghost use Rattle.std.specs.Prelude.{◌≡◌, ◌<◌, ◌≤◌, ◌+◌, ◌++◌, ◌∷◌, List, ℕ, length, map, string_bytes, IfOk, IfSome, MatchResult, Ok, Some};
+ghost use Rattle.std.specs.Str.{bytes_eq};
+ghost use Rattle.std.specs.declared.cmp.Ordering.TheVariants.{Equal};
+ghost use Rattle.jsonb_key.specs.Readable.{IsReadable, IsAnyNumber};
+ghost use Rattle.jsonb_write.specs.PartAt.{child_at, part_at};
+ghost use Rattle.jsonb_stored.specs.Found.{count_of, item_back, item_from, open_len, Finds, IsNext, IsRange, Opens, PartStands};
+ghost use Rattle.jsonb_stored.specs.Open.{Open, is_object, open_key, IsOpen, opening_byte};
+ghost use Rattle.jsonb_value.specs.Accessors.{find_member, get_by_name, item_at};
+ghost use Rattle.jsonb_value.specs.Keys.{KeysAscend};
+ghost use Rattle.jsonb_value.specs.Order.{bytes_cmp};
+ghost use Rattle.jsonb_value.specs.Proper.{AreProper, HaveProperParts};
+ghost use Rattle.jsonb_value.specs.SortKey.{key_of, items_key, members_key, text_key};
+ghost use Rattle.jsonb_value.specs.Text.Range.{AreWithin, HaveWithin};
+ghost use Rattle.jsonb_value.specs.Tree.{Tree, Trees, Members};
+
+use crate::part::is_over;
+use crate::skip::{after_key, after_name, after_text, opening};
+use crate::walk::kind_of;
+use jsonb_key::text::{read_byte, skip_pair};
+use jsonb_pointer::index_of;
+use std::cmp::Ordering;
+
+/// The bytes aren't the sort key of a value of JSON's kinds with at most 512 nested arrays and objects.
+#[derive(Clone, Copy, Debug, PartialEq, Eq, Drop)]
+pub struct NoKey;
+
+/// Whether the key is of an object, and what stands behind its first byte; `None` where it is of neither an object nor
+/// an array.
+///
+/// # Errors
+///
+/// `NoKey` where the bytes begin with no key.
+pub fn opened(key: &[u8]) -> Result<Option<(bool, &[u8])>, NoKey>
+    ensures opens { (t : Tree) → IsReadable t → (more : List ℕ) → key.now ≡ key_of t ++ more → Opens t more result }
+    ensures some { IfOk result (λ answer. IfSome answer (λ r. key.now ≡ opening_byte r.0 ∷ r.1.now)) }
+{
+    let Some((first, parts)) = key.split_first() else {
+        return Err(NoKey);
+    };
+    if let Some(object) = opening(*first) {
+        return Ok(Some((object, parts)));
+    }
+    match kind_of(key) {
+        Some(_) => Ok(None),
+        None => Err(NoKey),
+    }
+}
+
+/// How many items an array has, or members an object; `None` of any other value.
+///
+/// # Errors
+///
+/// `NoKey` where the bytes begin with no key.
+pub fn count_parts(key: &[u8]) -> Result<Option<usize>, NoKey>
+    ensures counted { (t : Tree) → IsReadable t → (more : List ℕ) → key.now ≡ key_of t ++ more
+        → result ≡ Ok (count_of t) }
+    ensures within { IfOk result (λ answer. IfSome answer (λ count. count ≤ length key.now)) }
+{
+    let Some((object, parts)) = opened(key)? else {
+        return Ok(None);
+    };
+    let count = count_left(object, parts)?;
+    Ok(Some(count))
+}
+
+// How many parts stand before the end of the object or the array.
+fn count_left(object: bool, bytes: &[u8]) -> Result<usize, NoKey>
+    ensures counted { (o : Open) → is_object o ≡ object → IsOpen o 511 → (more : List ℕ)
+        → bytes.now ≡ open_key o ++ more → result ≡ Ok (open_len o) }
+    ensures within { IfOk result (λ count. count ≤ length bytes.now) }
+{
+    let mut rest = bytes;
+    let mut count: usize = 0;
+    'parts: loop {
+        if is_over(object, rest) {
+            return Ok(count);
+        }
+        let Some(value) = after_name(object, rest) else {
+            return Err(NoKey);
+        };
+        let Some(others) = after_key(value) else {
+            return Err(NoKey);
+        };
+        rest = others;
+        count += 1;
+    }
+}
+
+/// The bytes from the value of the member of that name on; `None` where an object has none, or for any other value.
+///
+/// # Errors
+///
+/// `NoKey` where the bytes begin with no key.
+pub fn find_member<'k>(key: &'k [u8], name: &[u8]) -> Result<Option<&'k [u8]>, NoKey>
+    ensures found { (t : Tree) → IsReadable t → (more : List ℕ) → key.now ≡ key_of t ++ more
+        → Finds key.now (get_by_name name.now t) result }
+    ensures within { IfOk result (λ answer. IfSome answer (λ rest. length rest.now ≤ length key.now)) }
+{
+    let Some((object, parts)) = opened(key)? else {
+        return Ok(None);
+    };
+    if object {
+        return member_from(parts, name);
+    }
+    Ok(None)
+}
+
+/// The bytes from the item of that index on; `None` where an array has none, or for any other value. A negative index
+/// counts from the end, where -1 is the last item.
+///
+/// # Errors
+///
+/// `NoKey` where the bytes begin with no key.
+pub fn find_item(key: &[u8], index: i64) -> Result<Option<&[u8]>, NoKey>
+    ensures found { (t : Tree) → IsReadable t → (more : List ℕ) → key.now ≡ key_of t ++ more
+        → Finds key.now (item_from index t) result }
+    ensures within { IfOk result (λ answer. IfSome answer (λ rest. length rest.now ≤ length key.now)) }
+{
+    let Some((object, parts)) = opened(key)? else {
+        return Ok(None);
+    };
+    if object {
+        return Ok(None);
+    }
+    let steps = index.unsigned_abs() as usize;
+    if index < 0 {
+        item_from_end(parts, steps)
+    } else {
+        item_at(parts, steps)
+    }
+}
+
+/// The bytes from the part at the path of these names on; `None` where there is none.
+///
+/// # Errors
+///
+/// `NoKey` where the bytes begin with no key.
+pub fn find_part<'k>(key: &'k [u8], names: &[String]) -> Result<Option<&'k [u8]>, NoKey>
+    ensures found { (t : Tree) → IsReadable t → (more : List ℕ) → key.now ≡ key_of t ++ more
+        → Finds key.now (part_at (map string_bytes names.now) t) result }
+    ensures within { IfOk result (λ answer. IfSome answer (λ rest. length rest.now ≤ length key.now)) }
+{
+    let mut part = key;
+    let mut left = names;
+    'names: while let Some((name, others)) = left.split_first() {
+        let Some(inner) = find_child(part, name.as_str())? else {
+            return Ok(None);
+        };
+        part = inner;
+        left = others;
+    }
+    Ok(Some(part))
+}
+
+// The bytes from the member of that name on, or from the item of that index on.
+fn find_child<'k>(key: &'k [u8], name: &str) -> Result<Option<&'k [u8]>, NoKey>
+    ensures found { (t : Tree) → IsReadable t → (more : List ℕ) → key.now ≡ key_of t ++ more
+        → Finds key.now (child_at name.now t) result }
+    ensures within { IfOk result (λ answer. IfSome answer (λ rest. length rest.now ≤ length key.now)) }
+{
+    let Some((object, parts)) = opened(key)? else {
+        return Ok(None);
+    };
+    if object {
+        return member_from(parts, name.as_bytes());
+    }
+    match index_of(name) {
+        Some(index) => item_at(parts, index),
+        None => Ok(None),
+    }
+}
+
+// The bytes from the value of the member of that name on. No name behind one that is above it is looked at.
+fn member_from<'k>(members: &'k [u8], name: &[u8]) -> Result<Option<&'k [u8]>, NoKey>
+    ensures found { (ms : Members) → KeysAscend ms → HaveProperParts ms → HaveWithin IsAnyNumber ms 511
+        → (more : List ℕ) → members.now ≡ members_key ms ++ more
+        → Finds members.now (find_member (bytes_eq name.now) ms) result }
+    ensures within { IfOk result (λ answer. IfSome answer (λ rest. length rest.now ≤ length members.now)) }
+{
+    let mut rest = members;
+    'members: loop {
+        if is_over(true, rest) {
+            return Ok(None);
+        }
+        let (order, value) = compare_name(name, rest);
+        match order {
+            Ordering::Less => return Ok(None),
+            Ordering::Equal => return Ok(Some(value)),
+            Ordering::Greater => {}
+        }
+        let Some(value) = after_text(rest) else {
+            return Err(NoKey);
+        };
+        let Some(others) = after_key(value) else {
+            return Err(NoKey);
+        };
+        rest = others;
+    }
+}
+
+// The bytes from that item on.
+fn item_at(items: &[u8], index: usize) -> Result<Option<&[u8]>, NoKey>
+    ensures found { (ts : Trees) → AreProper ts → AreWithin IsAnyNumber ts 511 → (more : List ℕ)
+        → items.now ≡ items_key ts ++ more → Finds items.now (item_at ts index) result }
+    ensures within { IfOk result (λ answer. IfSome answer (λ rest. length rest.now ≤ length items.now)) }
+{
+    let mut rest = items;
+    let mut before = index;
+    'items: loop {
+        if is_over(false, rest) {
+            return Ok(None);
+        }
+        let Some(less) = before.checked_sub(1) else {
+            return Ok(Some(rest));
+        };
+        let Some(others) = after_key(rest) else {
+            return Err(NoKey);
+        };
+        rest = others;
+        before = less;
+    }
+}
+
+// The bytes from that item on, counted from the end: 1 is the last.
+fn item_from_end(items: &[u8], back: usize) -> Result<Option<&[u8]>, NoKey>
+    ensures found { (ts : Trees) → AreProper ts → AreWithin IsAnyNumber ts 511 → (more : List ℕ)
+        → items.now ≡ items_key ts ++ more → Finds items.now (item_back ts back) result }
+    ensures within { IfOk result (λ answer. IfSome answer (λ rest. length rest.now ≤ length items.now)) }
+{
+    let count = count_left(false, items)?;
+    match count.checked_sub(back) {
+        Some(index) => item_at(items, index),
+        None => Ok(None),
+    }
+}
+
+// How the name compares with the one whose key the bytes begin with, and what stands behind that where they are equal.
+fn compare_name<'k>(name: &[u8], bytes: &'k [u8]) -> (Ordering, &'k [u8])
+    ensures order { (text more : List ℕ) → bytes.now ≡ text_key text ++ more
+        → result.0 ≡ bytes_cmp name.now text }
+    ensures behind { (text more : List ℕ) → bytes.now ≡ text_key text ++ more
+        → result.0 ≡ Equal → result.1.now ≡ more }
+    ensures within { length result.1.now ≤ length bytes.now }
+{
+    let mut rest = bytes;
+    let mut left = name;
+    'bytes: while let Some((wanted, others)) = left.split_first() {
+        let Some((byte, more)) = read_byte(rest) else {
+            return (Ordering::Greater, rest);
+        };
+        if *wanted != byte {
+            return (wanted.cmp(&byte), rest);
+        }
+        rest = more;
+        left = others;
+    }
+    match skip_pair(1, rest) {
+        Some(after) => (Ordering::Equal, after),
+        None => (Ordering::Less, rest),
+    }
+}
+
+/// The first part that is left of an object or an array, whose keys the bytes begin with: the bytes from its value on,
+/// before which the name of a member stands, and the bytes behind it. `None` where no part is left.
+///
+/// # Errors
+///
+/// `NoKey` where no key of a part is left, nor the end.
+pub fn next_part(object: bool, left: &[u8]) -> Result<Option<(&[u8], &[u8])>, NoKey>
+    ensures next { (o : Open) → is_object o ≡ object → IsOpen o 511 → (more : List ℕ)
+        → left.now ≡ open_key o ++ more → IsNext o more result }
+    ensures within { IfOk result (λ answer. IfSome answer (λ r. (length r.0.now ≤ length left.now)
+        × (length r.1.now < length r.0.now))) }
+{
+    if is_over(object, left) {
+        return Ok(None);
+    }
+    let Some(value) = after_name(object, left) else {
+        return Err(NoKey);
+    };
+    let Some(others) = after_key(value) else {
+        return Err(NoKey);
+    };
+    Ok(Some((value, others)))
+}
+
+/// Where in the key its last bytes stand, and how long the key is that these begin with: an offset and a size.
+///
+/// # Errors
+///
+/// `NoKey` where the last bytes begin with no key.
+pub fn range_of(key: &[u8], part: &[u8]) -> Result<(usize, usize), NoKey>
+    ensures range { (t : Tree) → PartStands key.now part.now t
+        → MatchResult result (λ r. IsRange key.now r.0 r.1 (key_of t)) (λ e. ⊥) }
+    ensures within { IfOk result (λ r. r.0 + r.1 ≤ length key.now) }
+{
+    let Some(rest) = after_key(part) else {
+        return Err(NoKey);
+    };
+    let Some(offset) = key.len().checked_sub(part.len()) else {
+        return Err(NoKey);
+    };
+    Ok((offset, part.len() - rest.len()))
+}

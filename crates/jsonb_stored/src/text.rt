@@ -1,0 +1,53 @@
+//! Texts of strings and names, from their keys.
+
+ghost use Rattle.std.specs.Prelude.{◌≡◌, ◌≤◌, ◌++◌, ◌∷◌, List, ℕ, length, drop, IfSome, option_map, Some};
+ghost use Rattle.jsonb_value.specs.SortKey.{text_key};
+
+use jsonb_key::text::{read_byte, skip_pair};
+
+/// The key of the text of a string, whose key this is; `None` of any other value.
+pub fn text_of_string(key: &[u8]) -> Option<&[u8]>
+    ensures found { (body : List ℕ) → key.now ≡ 0xD0 ∷ body → option_map (λ rest. rest.now) result ≡ Some body }
+    ensures some { IfSome result (λ rest. key.now ≡ 0xD0 ∷ rest.now) }
+{
+    let (first, rest) = key.split_first()?;
+    if *first != 0xD0 {
+        return None;
+    }
+    Some(rest)
+}
+
+/// How many bytes the text has whose key this is; `None` where it is the key of no text.
+pub fn text_size(key: &[u8]) -> Option<usize>
+    ensures sized { (text : List ℕ) → key.now ≡ text_key text → result ≡ Some (length text) }
+    ensures within { IfSome result (λ size. size ≤ length key.now) }
+{
+    let mut rest = key;
+    let mut size: usize = 0;
+    'bytes: while let Some((_, others)) = read_byte(rest) {
+        size += 1;
+        rest = others;
+    }
+    let after = skip_pair(1, rest)?;
+    if !after.is_empty() {
+        return None;
+    }
+    Some(size)
+}
+
+/// Puts the text whose key this is at the front of the buffer, as far as it has room.
+pub fn put_text(key: &[u8], out: &mut [u8])
+    ensures put { (text more : List ℕ) → key.now ≡ text_key text ++ more → length text ≤ length out.old
+        → out.new ≡ text ++ drop (length text) out.old }
+{
+    let mut rest = key;
+    let mut at: usize = 0;
+    'bytes: while let Some((byte, others)) = read_byte(rest) {
+        if at >= out.len() {
+            return;
+        }
+        out[at] = byte;
+        at += 1;
+        rest = others;
+    }
+}
