@@ -1,4 +1,5 @@
-/* Vizhoniku for C: check JSON texts, write their values as text and as sort keys, compare them, report errors.
+/* Vizhoniku for C: check JSON texts, write their values as text and as sort keys, compare them, report errors; and find
+ * the parts of values in their sort keys.
  *
  * A text is any bytes, with its size; it needs no zero byte at its end. A call keeps nothing: there is no state, a call
  * frees all memory that it allocates, and it writes only to what its caller passes. So calls in different threads need
@@ -31,7 +32,7 @@ extern "C" {
 
 /* The version of this interface. It grows where a function, a status or a code is added. vizhoniku_version returns that
  * of the library. */
-#define VIZHONIKU_VERSION 2
+#define VIZHONIKU_VERSION 3
 
 uint32_t vizhoniku_version(void);
 
@@ -48,8 +49,9 @@ enum vizhoniku_status {
   VIZHONIKU_OUT_OF_MEMORY = 2, /* memory ran out: this doesn't say whether a text is a document */
   VIZHONIKU_UNKNOWN_MODE = 3,  /* no mode has this number */
   VIZHONIKU_TOO_SHORT = 4,     /* the buffer is shorter than the text: the size says what is needed */
-  VIZHONIKU_NO_PART = 5,       /* the document has no part at the path: vizhoniku_part alone */
-  VIZHONIKU_NO_PATH = 6        /* the path isn't a JSON Pointer (RFC 6901): vizhoniku_part alone */
+  VIZHONIKU_NO_PART = 5,       /* the document or the key has no such part */
+  VIZHONIKU_NO_PATH = 6,       /* the path isn't a JSON Pointer (RFC 6901) */
+  VIZHONIKU_NO_KEY = 7         /* the bytes aren't the sort key of a value */
 };
 
 /* What is wrong with a text. docs/GRAMMAR.md says when, and which byte the position means. */
@@ -156,6 +158,35 @@ void vizhoniku_place(const unsigned char *text, size_t text_size, const struct v
  *  - VIZHONIKU_ACCEPTED: the text is a document. *size is 0, as with any other status, and nothing was written. */
 uint32_t vizhoniku_message(uint32_t mode, const unsigned char *text, size_t text_size, unsigned char *buffer,
                            size_t buffer_size, size_t *size);
+
+/* A sort key as a stored document. The calls below take the key of a value, as vizhoniku_sort_key wrote it, and find
+ * where in it the keys of its parts stand: an offset and a size. No text is parsed, no value is made, and nothing is
+ * kept. A part's range is the key of the part, to which each of these calls may be applied again.
+ *
+ * Any bytes may be passed, and a range lies within them. They aren't checked as a whole: of bytes that are no key of a
+ * value a call says VIZHONIKU_NO_KEY, or it finds something in them. The keys of binary data, dates, times and intervals
+ * are none here, which no text has. */
+
+/* The kind of a value. */
+enum vizhoniku_kind {
+  VIZHONIKU_NO_KIND = 0, /* the bytes aren't the sort key of a value */
+  VIZHONIKU_NULL = 1,
+  VIZHONIKU_BOOLEAN = 2,
+  VIZHONIKU_NUMBER = 3,
+  VIZHONIKU_STRING = 4,
+  VIZHONIKU_ARRAY = 5,
+  VIZHONIKU_OBJECT = 6
+};
+
+/* Returns the kind of the value whose key this is, of enum vizhoniku_kind. It looks at the first byte alone. */
+uint32_t vizhoniku_key_kind(const unsigned char *key, size_t key_size);
+
+/* Counts the items of an array, or the members of an object.
+ *
+ *  - VIZHONIKU_ACCEPTED: *count is their number.
+ *  - VIZHONIKU_NO_PART: the value is neither. *count is 0.
+ *  - VIZHONIKU_NO_KEY: *count is 0. */
+uint32_t vizhoniku_key_count(const unsigned char *key, size_t key_size, size_t *count);
 
 #ifdef __cplusplus
 }

@@ -1,3 +1,4 @@
+pub mod KeyParts
 pub mod Keys
 pub mod Parts
 pub mod Reasons

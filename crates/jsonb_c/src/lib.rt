@@ -28,6 +28,8 @@ use jsonb_pointer::read_keys;
 use std::alloc::Global;
 use std::cmp::Ordering;
 
+pub mod key;
+
 /// Success.
 pub const ACCEPTED: u32 = 0;
 
@@ -48,6 +50,9 @@ pub const NO_PART: u32 = 5;
 
 /// The path isn't a JSON Pointer (RFC 6901).
 pub const NO_PATH: u32 = 6;
+
+/// The bytes aren't the sort key of a value of JSON's kinds.
+pub const NO_KEY: u32 = 7;
 
 /// What is reported of a rejected text: the number of the code, which of the texts it is, from 1 on, and the number of
 /// the error. All are 0 where no text is rejected.
@@ -402,7 +407,7 @@ fn part_at_keys(alloc: Global, mode: u32, keys: &[String], text: &[u8]) -> Resul
 }
 
 /// The version of this interface. It grows by one when a function, a status or a code is added.
-pub const VERSION: u32 = 2;
+pub const VERSION: u32 = 3;
 
 /// The version of this interface.
 #[unsafe(no_mangle)]
