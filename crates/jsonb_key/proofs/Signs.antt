@@ -1,5 +1,5 @@
 -- The key of a number by its sign.
-use Rattle.std.proofs.Common.{◌≡◌, ◌≢◌, ℕ, zero, suc, ◌+◌, ◌-◌, ◌^◌, ◌<◌, ◌≤◌, Bool, true, false, Equal, List, [], ◌∷◌, ◌++◌, map, ℤ, pos, negsuc, unsigned_abs, refl, sym, subst, ap, ◌∙◌, arith, append_assoc, length}
+use Rattle.std.proofs.Common.{◌≡◌, ◌≢◌, ℕ, zero, suc, ◌+◌, ◌-◌, ◌*◌, ◌^◌, ◌<◌, ◌≤◌, Bool, true, false, Equal, List, [], ◌∷◌, ◌++◌, map, ℤ, pos, negsuc, unsigned_abs, refl, sym, subst, ap, ◌∙◌, arith, append_assoc, length}
 use Rattle.std.proofs.lemmas.Bool.{lt-ltb, le-ltb}
 use Rattle.std.specs.Bool.{nat_lt}
 use Rattle.std.specs.Int.{is_negative}
@@ -40,6 +40,7 @@ pub record IsSigned (n : Num) (sign : Bool) (bytes more : List ℕ) : Type 0 whe
   pub low : place < 351
   pub is_place : place + n.scale ≡ count + 255
   pub below : unsigned_abs n.whole < 10 ^ count
+  pub least : 10 ^ count ≤ 10 * unsigned_abs n.whole
   pub some : 0 < unsigned_abs n.whole
   pub few : count ≤ 39
   pub stands : bytes ≡ map (turned sign) (place_key place) ++ (map (turned sign) (digits_key count (unsigned_abs n.whole)) ++ more)
@@ -58,6 +59,7 @@ signed_parts n proper sign a bytes more is_sign whole stands =
       low = omega (arith, few);
       is_place = omega (arith, small.scale);
       below = omega (arith, whole, counted.below);
+      least = omega (arith, whole, counted.least);
       some = omega (arith, whole);
       few = few;
       stands = stands ∙ ap (λ k. k ++ more) (magnitude_split sign n.scale (suc a) count place refl refl)
