@@ -1,4 +1,11 @@
+pub mod Appending
+pub mod LastDigits
+pub mod Spares
+pub mod NumberTexts
+pub mod Pairs
+pub mod Spelling
+pub mod KeyNumbers
 pub mod Strings
+pub mod Whole
 pub mod Scalars
 pub mod Walk
-pub mod Whole

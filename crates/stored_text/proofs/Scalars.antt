@@ -1,5 +1,5 @@
--- The texts of words.
-use Rattle.std.proofs.Common.{◌≡◌, ◌≢◌, ℕ, suc, ◌<◌, ◌≤◌, Bool, true, false, List, [], ◌∷◌, ◌++◌, refl, sym, ap, ◌∙◌, arith}
+-- The texts of words, strings and numbers, by the first byte of their keys, and of what is opened.
+use Rattle.std.proofs.Common.{◌≡◌, ◌≢◌, ℕ, suc, ◌≤◌, Bool, true, false, List, ◌∷◌, ◌++◌, refl, sym, ap, ◌∙◌, arith}
 use Rattle.std.specs.Prelude.{codes}
 use Rattle.jsonb_key.specs.Readable.{IsReadableAt}
 use Rattle.jsonb_value.specs.Text.StringText.{quoted_text}
@@ -7,16 +7,19 @@ use Rattle.jsonb_stored.specs.Open.{IsScalar, Open, items, members, is_object, o
 use Rattle.jsonb_stored.proofs.Scalars.{array_open, object_open}
 use Rattle.jsonb_value.specs.Proper.{IsProperNumber}
 use Rattle.jsonb_value.specs.SortKey.{key_of, items_key, members_key, number_key, text_key}
-use Rattle.jsonb_value.specs.Tree.{Num, Tree, null, boolean, string, number, array, object, binary, date, timestamp, timestamp_tz, interval}
+use Rattle.jsonb_value.specs.Tree.{Num, Tree, null, boolean, string, number, array, object}
 use Rattle.jsonb_value.proofs.SortKeys.Kinds.{is_small, number_begins}
 use Rattle.jsonb_value.proofs.Trees.Runs.{heads, tails}
-use Rattle.stored_text.specs.TextFor.{IsTextFor, IsNumberText, EndsOpen, opening_text}
+use Rattle.jsonb_value.specs.Text.NumberText.{number_text}
+use Rattle.stored_text.specs.FewestDigits.{fewest_digits}
+use Rattle.stored_text.specs.Writes.{value_text, open_text, opening_text}
+use Rattle.stored_text.proofs.Whole.{array_text, object_text}
 
 -- what each of the words says of the value
 pub record Word (t : Tree) (first : ℕ) (rest more : List ℕ) : Type 0 where
-  pub is_null : first ≡ 211 → (rest ≡ more) × IsTextFor t (codes "null")
-  pub is_false : first ≡ 21 → (rest ≡ more) × IsTextFor t (codes "false")
-  pub is_true : first ≡ 22 → (rest ≡ more) × IsTextFor t (codes "true")
+  pub is_null : first ≡ 211 → (rest ≡ more) × (value_text t ≡ codes "null")
+  pub is_false : first ≡ 21 → (rest ≡ more) × (value_text t ≡ codes "false")
+  pub is_true : first ≡ 22 → (rest ≡ more) × (value_text t ≡ codes "true")
 
 pub word_of : (depth : ℕ) (t : Tree) → IsReadableAt depth t → IsScalar t → (first : ℕ) (rest bytes more : List ℕ) → bytes ≡ first ∷ rest → bytes ≡ key_of t ++ more → Word t first rest more
 word_of depth null r s first rest bytes more e stands =
@@ -40,11 +43,11 @@ word_of depth (object ms) r s first rest bytes more e stands = absurd s
 word_of depth t r s first rest bytes more e stands = absurd r.within
 
 -- the string that begins here, and its text
-pub string_text : (depth : ℕ) (t : Tree) → IsReadableAt depth t → (first : ℕ) (rest bytes more : List ℕ) → bytes ≡ first ∷ rest → bytes ≡ key_of t ++ more → first ≡ 208 → (text : List ℕ) × (rest ≡ text_key text ++ more) × ((written : List ℕ) → written ≡ quoted_text text → IsTextFor t written)
+pub string_text : (depth : ℕ) (t : Tree) → IsReadableAt depth t → (first : ℕ) (rest bytes more : List ℕ) → bytes ≡ first ∷ rest → bytes ≡ key_of t ++ more → first ≡ 208 → (text : List ℕ) × (rest ≡ text_key text ++ more) × (value_text t ≡ quoted_text text)
 string_text depth null r first rest bytes more e stands is = absurd (omega (arith, is, heads first 211 rest more (sym e ∙ stands)))
 string_text depth (boolean true) r first rest bytes more e stands is = absurd (omega (arith, is, heads first 22 rest more (sym e ∙ stands)))
 string_text depth (boolean false) r first rest bytes more e stands is = absurd (omega (arith, is, heads first 21 rest more (sym e ∙ stands)))
-string_text depth (string mark text) r first rest bytes more e stands is = (text, tails first 208 rest (text_key text ++ more) (sym e ∙ stands), λ written w. w)
+string_text depth (string mark text) r first rest bytes more e stands is = (text, tails first 208 rest (text_key text ++ more) (sym e ∙ stands), refl)
 string_text depth (number n) r first rest bytes more e stands is =
     let b = number_begins n (is_small n r.proper) in
     absurd (omega (arith, is, b.high, heads first b.head rest (b.tail ++ more) (sym e ∙ stands ∙ ap (λ key. key ++ more) b.is)))
@@ -54,12 +57,12 @@ string_text depth t r first rest bytes more e stands is = absurd r.within
 
 -- the number that begins here, and its text
 pub number_text_of : (depth : ℕ) (t : Tree) → IsReadableAt depth t → IsScalar t → (first : ℕ) (rest bytes more : List ℕ) → bytes ≡ first ∷ rest → bytes ≡ key_of t ++ more → first ≢ 208 → first ≢ 211 → first ≢ 21 → first ≢ 22
-    → (n : Num) × IsProperNumber n × (bytes ≡ number_key n ++ more) × ((written : List ℕ) → IsNumberText n written → IsTextFor t written)
+    → (n : Num) × IsProperNumber n × (bytes ≡ number_key n ++ more) × (value_text t ≡ number_text (fewest_digits n))
 number_text_of depth null r s first rest bytes more e stands a b c d = absurd (b (heads first 211 rest more (sym e ∙ stands)))
 number_text_of depth (boolean true) r s first rest bytes more e stands a b c d = absurd (d (heads first 22 rest more (sym e ∙ stands)))
 number_text_of depth (boolean false) r s first rest bytes more e stands a b c d = absurd (c (heads first 21 rest more (sym e ∙ stands)))
 number_text_of depth (string mark text) r s first rest bytes more e stands a b c d = absurd (a (heads first 208 rest (text_key text ++ more) (sym e ∙ stands)))
-number_text_of depth (number n) r s first rest bytes more e stands a b c d = (n, r.proper, stands, λ written w. w)
+number_text_of depth (number n) r s first rest bytes more e stands a b c d = (n, r.proper, stands, refl)
 number_text_of depth (array ts) r s first rest bytes more e stands a b c d = absurd s
 number_text_of depth (object ms) r s first rest bytes more e stands a b c d = absurd s
 number_text_of depth t r s first rest bytes more e stands a b c d = absurd r.within
@@ -72,7 +75,7 @@ pub record OpenedText (t : Tree) (left : ℕ) (b : Bool) (rest more : List ℕ) 
   pub deeper : left ≡ suc inner
   pub fits : IsOpen open_there inner
   pub stands : rest ≡ open_key open_there ++ more
-  pub ends : (v : List ℕ) → EndsOpen true open_there v → IsTextFor t (opening_text b ∷ v)
+  pub text : value_text t ≡ opening_text b ∷ open_text true open_there
 
 between : (b : Bool) → (209 ≤ opening_byte b) × (opening_byte b ≤ 210)
 between true = (omega arith, omega arith)
@@ -89,9 +92,9 @@ opened_text left (number n) r first rest bytes more e stands b is =
 opened_text left (array ts) r first rest bytes more e stands true is = absurd (omega (arith, is, heads first 210 rest (items_key ts ++ more) (sym e ∙ stands)))
 opened_text left (array ts) r first rest bytes more e stands false is =
     let o = array_open ts left r in
-    record { open_there = items ts; is = refl; inner = o.0; deeper = o.1; fits = o.2; stands = tails first 210 rest (items_key ts ++ more) (sym e ∙ stands); ends = λ v h. (v, refl, h) }
+    record { open_there = items ts; is = refl; inner = o.0; deeper = o.1; fits = o.2; stands = tails first 210 rest (items_key ts ++ more) (sym e ∙ stands); text = array_text ts }
 opened_text left (object ms) r first rest bytes more e stands false is = absurd (omega (arith, is, heads first 209 rest (members_key ms ++ more) (sym e ∙ stands)))
 opened_text left (object ms) r first rest bytes more e stands true is =
     let o = object_open ms left r in
-    record { open_there = members ms; is = refl; inner = o.0; deeper = o.1; fits = o.2; stands = tails first 209 rest (members_key ms ++ more) (sym e ∙ stands); ends = λ v h. (v, refl, h) }
+    record { open_there = members ms; is = refl; inner = o.0; deeper = o.1; fits = o.2; stands = tails first 209 rest (members_key ms ++ more) (sym e ∙ stands); text = object_text ms }
 opened_text left t r first rest bytes more e stands b is = absurd r.within

@@ -1,22 +1,18 @@
 -- The text of what is open while a key is walked.
-use Rattle.std.proofs.Common.{◌≡◌, ◌≢◌, ℕ, zero, suc, ◌+◌, ◌<◌, ◌⊎◌, inl, inr, Bool, true, false, List, [], ◌∷◌, ◌++◌, Some, None, get_or, set, length, refl, sym, ap, subst, ◌∙◌, arith, append_assoc, append-nil}
-use Rattle.jsonb_key.specs.Readable.{IsReadableAt}
-use Rattle.jsonb_stored.specs.Open.{Open, items, members, is_object, open_key, IsOpen, end_key, name_key}
+use Rattle.std.proofs.Common.{◌≡◌, ℕ, zero, suc, ◌+◌, ◌<◌, ◌≤◌, ◌⊎◌, inl, inr, Bool, true, false, List, [], ◌∷◌, ◌++◌, Some, None, get_or, set, length, refl, sym, ap, subst, ◌∙◌, arith, append_assoc, append-nil}
+use Rattle.jsonb_stored.specs.Open.{Open, items, members, is_object, open_key, IsOpen, end_key}
 use Rattle.std.proofs.lemmas.List.{get_or-set_same}
 use Rattle.jsonb_stored.proofs.Opens.{opens_key, AreOpen, Stacks, Next, no_end, stack_kept}
 use Rattle.jsonb_value.specs.SortKey.{key_of, items_key, members_key, text_key}
 use Rattle.jsonb_value.specs.Text.Appending.{comma_before}
-use Rattle.jsonb_value.specs.Tree.{Tree, Trees, no_trees, more_trees, Members, no_members, more_members}
-use Rattle.stored_text.specs.TextFor.{IsTextFor, EndsItems, EndsMembers, EndsOpen, name_text, opening_text, closing_text}
+use Rattle.jsonb_value.specs.Tree.{no_trees, more_trees, no_members, more_members}
+use Rattle.jsonb_value.proofs.Appending.Appended.{IsUnderway, goes_on, fits}
+use Rattle.stored_text.specs.Writes.{value_text, items_left, members_left, open_text, name_text, opening_text, closing_text}
 
 -- what is left of the texts of those that are open
-abbrev pub EndsOpens : Bool → List Open → List ℕ → Type 0
-EndsOpens first [] w = w ≡ []
-EndsOpens first (o ∷ os) w = (a : List ℕ) × (b : List ℕ) × (w ≡ a ++ b) × EndsOpen first o a × EndsOpens false os b
-
--- with whatever text may be left, all is a text of what was open at first
-abbrev pub Written : Bool → List Open → Open → List ℕ → List ℕ → Type 0
-Written first opens o start now = (w : List ℕ) → EndsOpens first opens w → (v : List ℕ) × EndsOpen true o v × (now ++ w ≡ start ++ v)
+abbrev pub opens_text : Bool → List Open → List ℕ
+opens_text first [] = []
+opens_text first (o ∷ os) = open_text first o ++ opens_text false os
 
 pub record TextLeft (objects : List Bool) (depth : ℕ) (rest more : List ℕ) (first : Bool) (o : Open) (start now : List ℕ) : Type 0 where
   pub opens : List Open
@@ -25,7 +21,7 @@ pub record TextLeft (objects : List Bool) (depth : ℕ) (rest more : List ℕ) (
   pub are_open : AreOpen opens left
   pub stacked : Stacks opens objects depth
   pub stands : rest ≡ opens_key opens ++ more
-  pub written : Written first opens o start now
+  pub underway : IsUnderway start now (open_text true o) (opens_text first opens)
 
 abbrev pub WritesParts : Bool → List ℕ → List Bool → ℕ → List ℕ → Bool → List ℕ → List ℕ → Type 0
 WritesParts object bytes objects depth rest first start now = (o : Open) → is_object o ≡ object → IsOpen o 511 → (more : List ℕ) → bytes ≡ open_key o ++ more → TextLeft objects depth rest more first o start now
@@ -38,50 +34,47 @@ text_begun objects object bytes start top = λ o is h more e. record {
   are_open = (h, tt);
   stacked = (top ∙ sym is, tt);
   stands = e ∙ ap (λ key. key ++ more) (sym (append-nil (open_key o)));
-  written = λ w ends. (ends.0, ends.3, ap (λ t. start ++ t) (ends.2 ∙ ap (λ b. ends.0 ++ b) ends.4 ∙ append-nil ends.0));
+  underway = record { front = []; appended = sym (append-nil start); whole = sym (append-nil (open_text true o)) };
 }
 
 -- the end of the innermost stands first
 pub record EndsText (objects : List Bool) (top : ℕ) (rest more : List ℕ) (object : Bool) (o : Open) (start now : List ℕ) : Type 0 where
   pub under : List Open
+  pub left : ℕ
+  pub levels : left + top ≡ 512
+  pub are_open : AreOpen under left
+  pub stacked : Stacks under objects top
   pub stands : rest ≡ end_key object ++ (opens_key under ++ more)
-  pub closed : (others new : List ℕ) → others ≡ opens_key under ++ more → new ≡ now ++ closing_text object ∷ [] → TextLeft objects top others more false o start new
+  pub underway : IsUnderway start now (open_text true o) ((closing_text object ∷ []) ++ opens_text false under)
+
+-- what is written before a part
+abbrev pub before_part : Bool → Bool → List ℕ → List ℕ
+before_part first object name = comma_before first ++ name_text object name
 
 -- a part of the innermost stands first
 pub record NextText (objects : List Bool) (depth : ℕ) (rest more : List ℕ) (object first : Bool) (o : Open) (start now : List ℕ) : Type 0 where
   pub next : Next objects depth rest more object
-  pub written : (w a : List ℕ) → IsTextFor next.value a → EndsOpens false (next.others ∷ next.under) w → (v : List ℕ) × EndsOpen true o v × (now ++ (comma_before first ++ (name_text object next.name ++ (a ++ w))) ≡ start ++ v)
+  pub underway : IsUnderway start now (open_text true o) (before_part first object next.name ++ (value_text next.value ++ opens_text false (next.others ∷ next.under)))
 
 regroup : (n k o u more : List ℕ) → ((n ++ (k ++ o)) ++ u) ++ more ≡ n ++ (k ++ ((o ++ u) ++ more))
 regroup n k o u more = simp append_assoc
 
-item_split : (comma a b c : List ℕ) → comma ++ (a ++ (b ++ c)) ≡ (comma ++ (a ++ b)) ++ c
-item_split comma a b c = simp append_assoc
+item_split : (comma a b c : List ℕ) → (comma ++ (a ++ b)) ++ c ≡ (comma ++ []) ++ (a ++ (b ++ c))
+item_split comma a b c = ap (λ t. t ++ c) (sym (ap (λ t. t ++ (a ++ b)) (append-nil comma))) ∙ simp append_assoc
 
-member_split : (comma name a b c : List ℕ) → comma ++ (name ++ (a ++ (b ++ c))) ≡ (comma ++ (name ++ (a ++ b))) ++ c
+member_split : (comma name a b c : List ℕ) → (comma ++ (name ++ (a ++ b))) ++ c ≡ (comma ++ name) ++ (a ++ (b ++ c))
 member_split comma name a b c = simp append_assoc
+
+left_as : {start now whole left : List ℕ} (other : List ℕ) → IsUnderway start now whole left → left ≡ other → IsUnderway start now whole other
+left_as other u e = record { front = u.front; appended = u.appended; whole = u.whole ∙ ap (λ t. u.front ++ t) e }
 
 module _ (objects : List Bool) (top : ℕ) (rest more : List ℕ) (first : Bool) (o : Open) (start now : List ℕ) where
   abbrev Cases : ℕ → Bool → Type 0
   Cases depth object = EndsText objects top rest more object o start now ⊎ NextText objects depth rest more object first o start now
 
-  by_open : (p : Open) (os : List Open) (left d : ℕ) → top ≡ d → left + suc d ≡ 512 → AreOpen (p ∷ os) left → Stacks (p ∷ os) objects (suc d) → rest ≡ opens_key (p ∷ os) ++ more → Written first (p ∷ os) o start now → Cases (suc d) (is_object p)
-  by_open (items no_trees) os left d same levels a s st written = inl (record {
-    under = os;
-    stands = st;
-    closed = λ others new e closing. record {
-      opens = os;
-      left = suc left;
-      levels = omega (arith, levels, same);
-      are_open = a.1;
-      stacked = subst (λ i. Stacks os objects i) (sym same) s.1;
-      stands = e;
-      written = λ w ends.
-          let x = written (93 ∷ w) (93 ∷ [], w, refl, refl, ends) in
-          (x.0, x.1, ap (λ t. t ++ w) closing ∙ append_assoc now (93 ∷ []) w ∙ x.2);
-    };
-  })
-  by_open (items (more_trees t ts)) os left d same levels a s st written = inr (record {
+  by_open : (p : Open) (os : List Open) (left d : ℕ) → top ≡ d → left + suc d ≡ 512 → AreOpen (p ∷ os) left → Stacks (p ∷ os) objects (suc d) → rest ≡ opens_key (p ∷ os) ++ more → IsUnderway start now (open_text true o) (opens_text first (p ∷ os)) → Cases (suc d) (is_object p)
+  by_open (items no_trees) os left d same levels a s st u = inl (record { under = os; left = suc left; levels = omega (arith, levels, same); are_open = a.1; stacked = subst (λ i. Stacks os objects i) (sym same) s.1; stands = st; underway = u })
+  by_open (items (more_trees t ts)) os left d same levels a s st u = inr (record {
     next = record {
       name = [];
       value = t;
@@ -94,27 +87,10 @@ module _ (objects : List Bool) (top : ℕ) (rest more : List ℕ) (first : Bool)
       stacked = s;
       stands = st ∙ regroup [] (key_of t) (items_key ts) (opens_key os) more;
     };
-    written = λ w text is ends.
-        let whole = comma_before first ++ (text ++ ends.0) in
-        let x = written (whole ++ ends.1) (whole, ends.1, refl, (text, ends.0, refl, is, ends.3), ends.4) in
-        (x.0, x.1, ap (λ t. now ++ (comma_before first ++ (text ++ t))) ends.2 ∙ ap (λ t. now ++ t) (item_split (comma_before first) text ends.0 ends.1) ∙ x.2);
+    underway = left_as _ u (item_split (comma_before first) (value_text t) (items_left false ts) (opens_text false os));
   })
-  by_open (members no_members) os left d same levels a s st written = inl (record {
-    under = os;
-    stands = st;
-    closed = λ others new e closing. record {
-      opens = os;
-      left = suc left;
-      levels = omega (arith, levels, same);
-      are_open = a.1;
-      stacked = subst (λ i. Stacks os objects i) (sym same) s.1;
-      stands = e;
-      written = λ w ends.
-          let x = written (125 ∷ w) (125 ∷ [], w, refl, refl, ends) in
-          (x.0, x.1, ap (λ t. t ++ w) closing ∙ append_assoc now (125 ∷ []) w ∙ x.2);
-    };
-  })
-  by_open (members (more_members k t ms)) os left d same levels a s st written = inr (record {
+  by_open (members no_members) os left d same levels a s st u = inl (record { under = os; left = suc left; levels = omega (arith, levels, same); are_open = a.1; stacked = subst (λ i. Stacks os objects i) (sym same) s.1; stands = st; underway = u })
+  by_open (members (more_members k t ms)) os left d same levels a s st u = inr (record {
     next = record {
       name = k;
       value = t;
@@ -127,25 +103,17 @@ module _ (objects : List Bool) (top : ℕ) (rest more : List ℕ) (first : Bool)
       stacked = s;
       stands = st ∙ regroup (text_key k) (key_of t) (members_key ms) (opens_key os) more;
     };
-    written = λ w text is ends.
-        let name = name_text true k in
-        let whole = comma_before first ++ (name ++ (text ++ ends.0)) in
-        let x = written (whole ++ ends.1) (whole, ends.1, refl, (text, ends.0, refl, is, ends.3), ends.4) in
-        (x.0, x.1, ap (λ t. now ++ (comma_before first ++ (name ++ (text ++ t)))) ends.2 ∙ ap (λ t. now ++ t) (member_split (comma_before first) name text ends.0 ends.1) ∙ x.2);
+    underway = left_as _ u (member_split (comma_before first) (name_text true k) (value_text t) (members_left false ms) (opens_text false os));
   })
 
-  by_opens : (opens : List Open) (left depth : ℕ) (object : Bool) → left + depth ≡ 512 → AreOpen opens left → Stacks opens objects depth → rest ≡ opens_key opens ++ more → Written first opens o start now → top + 1 ≡ depth → object ≡ get_or objects top false → Cases depth object
-  by_opens [] left zero object levels a s st written below is_top = absurd (omega (arith, below))
-  by_opens [] left (suc d) object levels a s st written below is_top = absurd s
-  by_opens (p ∷ os) left zero object levels a s st written below is_top = absurd s
-  by_opens (p ∷ os) left (suc d) object levels a s st written below is_top =
+  by_opens : (opens : List Open) (left depth : ℕ) (object : Bool) → left + depth ≡ 512 → AreOpen opens left → Stacks opens objects depth → rest ≡ opens_key opens ++ more → IsUnderway start now (open_text true o) (opens_text first opens) → top + 1 ≡ depth → object ≡ get_or objects top false → Cases depth object
+  by_opens [] left zero object levels a s st u below is_top = absurd (omega (arith, below))
+  by_opens [] left (suc d) object levels a s st u below is_top = absurd s
+  by_opens (p ∷ os) left zero object levels a s st u below is_top = absurd s
+  by_opens (p ∷ os) left (suc d) object levels a s st u below is_top =
       let same : top ≡ d = omega (arith, below) in
       let kind : is_object p ≡ object = sym s.0 ∙ ap (λ i. get_or objects i false) (sym same) ∙ sym is_top in
-      subst (λ b. Cases (suc d) b) kind (by_open p os left d same levels a s st written)
-
-pub end_or_next : (objects : List Bool) (depth top : ℕ) (rest more : List ℕ) (object first : Bool) (o : Open) (start now : List ℕ) → top + 1 ≡ depth → object ≡ get_or objects top false → TextLeft objects depth rest more first o start now
-    → EndsText objects top rest more object o start now ⊎ NextText objects depth rest more object first o start now
-end_or_next objects depth top rest more object first o start now below is_top l = by_opens objects top rest more first o start now l.opens l.left depth object l.levels l.are_open l.stacked l.stands l.written below is_top
+      subst (λ b. Cases (suc d) b) kind (by_open p os left d same levels a s st u)
 
 none_some : (x : List ℕ) → None ≡ Some x → ⊥
 none_some x e = cc
@@ -153,71 +121,104 @@ none_some x e = cc
 some_same : (x y : List ℕ) → Some x ≡ Some y → x ≡ y
 some_same x y e = cc
 
--- where an end was read, and written
-pub end_written : (objects : List Bool) (depth top : ℕ) (rest more others : List ℕ) (object first : Bool) (o : Open) (start now new : List ℕ) → top + 1 ≡ depth → object ≡ get_or objects top false → TextLeft objects depth rest more first o start now
-    → rest ≡ end_key object ++ others → ((tail : List ℕ) → rest ≡ end_key object ++ tail → Some others ≡ Some tail) → new ≡ now ++ closing_text object ∷ [] → TextLeft objects top others more false o start new
-end_written objects depth top rest more others object first o start now new below is_top l read found closing = elim (end_or_next objects depth top rest more object first o start now below is_top l) [
-  | inl x ↦ x.closed others new (some_same others (opens_key x.under ++ more) (found (opens_key x.under ++ more) x.stands)) closing
-  | inr n ↦ absurd (no_end object n.next.name n.next.value n.next.left n.next.readable rest others (opens_key (n.next.others ∷ n.next.under) ++ more) read n.next.stands)
-]
+module _ (objects : List Bool) (depth top : ℕ) (rest more : List ℕ) (object first : Bool) (o : Open) (start now : List ℕ) (below : top + 1 ≡ depth) (is_top : object ≡ get_or objects top false) (l : TextLeft objects depth rest more first o start now) where
+  end_or_next : EndsText objects top rest more object o start now ⊎ NextText objects depth rest more object first o start now
+  end_or_next = by_opens objects top rest more first o start now l.opens l.left depth object l.levels l.are_open l.stacked l.stands l.underway below is_top
 
--- where none was read, a part stands there
-pub part_there : (objects : List Bool) (depth top : ℕ) (rest more : List ℕ) (object first : Bool) (o : Open) (start now : List ℕ) → top + 1 ≡ depth → object ≡ get_or objects top false → TextLeft objects depth rest more first o start now
-    → ((tail : List ℕ) → rest ≡ end_key object ++ tail → None ≡ Some tail) → NextText objects depth rest more object first o start now
-part_there objects depth top rest more object first o start now below is_top l none = elim (end_or_next objects depth top rest more object first o start now below is_top l) [
-  | inl x ↦ absurd (none_some (opens_key x.under ++ more) (none (opens_key x.under ++ more) x.stands))
-  | inr n ↦ n
-]
+  -- where an end was read
+  pub end_there : (others : List ℕ) → rest ≡ end_key object ++ others → EndsText objects top rest more object o start now
+  end_there others read = elim end_or_next [
+    | inl x ↦ x
+    | inr n ↦ absurd (no_end object n.next.name n.next.value n.next.left n.next.readable rest others (opens_key (n.next.others ∷ n.next.under) ++ more) read n.next.stands)
+  ]
 
-pieces : (now comma name a w : List ℕ) → (((now ++ comma) ++ name) ++ a) ++ w ≡ now ++ (comma ++ (name ++ (a ++ w)))
-pieces now comma name a w = simp append_assoc
+  -- where none was read, a part stands there
+  pub part_there : ((tail : List ℕ) → rest ≡ end_key object ++ tail → None ≡ Some tail) → NextText objects depth rest more object first o start now
+  part_there none = elim end_or_next [
+    | inl x ↦ absurd (none_some (opens_key x.under ++ more) (none (opens_key x.under ++ more) x.stands))
+    | inr n ↦ n
+  ]
 
--- a scalar is written
-pub scalar_written : (objects : List Bool) (depth : ℕ) (rest more others : List ℕ) (object first : Bool) (o : Open) (start now with_comma with_name new a : List ℕ) (n : NextText objects depth rest more object first o start now) → others ≡ opens_key (n.next.others ∷ n.next.under) ++ more → IsTextFor n.next.value a
-    → with_comma ≡ now ++ comma_before first → with_name ≡ with_comma ++ name_text object n.next.name → new ≡ with_name ++ a → TextLeft objects depth others more false o start new
-scalar_written objects depth rest more others object first o start now with_comma with_name new a n e is c m t = record {
-  opens = n.next.others ∷ n.next.under;
-  left = n.next.left;
-  levels = n.next.levels;
-  are_open = n.next.are_open;
-  stacked = n.next.stacked;
-  stands = e;
-  written = λ w ends.
-      let x = n.written w a is ends in
-      let all : new ≡ ((now ++ comma_before first) ++ name_text object n.next.name) ++ a = t ∙ ap (λ s. s ++ a) (m ∙ ap (λ s. s ++ name_text object n.next.name) c) in
-      (x.0, x.1, ap (λ s. s ++ w) all ∙ pieces now (comma_before first) (name_text object n.next.name) a w ∙ x.2);
-}
+-- ---- an end
+
+module _ (objects : List Bool) (top : ℕ) (rest more : List ℕ) (object : Bool) (o : Open) (start now : List ℕ) (x : EndsText objects top rest more object o start now) where
+  pub end_fits : length now + length (closing_text object ∷ []) ≤ length start + length (open_text true o)
+  end_fits = fits (closing_text object ∷ []) (opens_text false x.under) x.underway refl
+
+  pub end_written : (others new : List ℕ) → ((tail : List ℕ) → rest ≡ end_key object ++ tail → Some others ≡ Some tail) → new ≡ now ++ closing_text object ∷ [] → TextLeft objects top others more false o start new
+  end_written others new found closing = record {
+    opens = x.under;
+    left = x.left;
+    levels = x.levels;
+    are_open = x.are_open;
+    stacked = x.stacked;
+    stands = some_same others (opens_key x.under ++ more) (found (opens_key x.under ++ more) x.stands);
+    underway = goes_on new (closing_text object ∷ []) (opens_text false x.under) x.underway refl closing;
+  }
+
+-- ---- a part
 
 stack_more : (os : List Open) (p : Open) (objects : List Bool) (depth : ℕ) (b : Bool) → depth < length objects → is_object p ≡ b → Stacks os objects depth → Stacks (p ∷ os) (set objects depth b) (suc depth)
 stack_more os p objects depth b fits is s = (get_or-set_same objects depth b false fits ∙ sym is, stack_kept os objects depth b depth (omega arith) s)
 
--- an array or an object is opened
-pub part_begun : (objects : List Bool) (depth : ℕ) (rest more others : List ℕ) (object first : Bool) (o : Open) (start now with_comma with_name new : List ℕ) (n : NextText objects depth rest more object first o start now) (p : Open) (inner : ℕ) → n.next.left ≡ suc inner → IsOpen p inner → (b : Bool) → is_object p ≡ b
-    → ((v : List ℕ) → EndsOpen true p v → IsTextFor n.next.value (opening_text b ∷ v)) → depth < length objects → others ≡ open_key p ++ (opens_key (n.next.others ∷ n.next.under) ++ more)
-    → with_comma ≡ now ++ comma_before first → with_name ≡ with_comma ++ name_text object n.next.name → new ≡ with_name ++ opening_text b ∷ [] → TextLeft (set objects depth b) (depth + 1) others more true o start new
-part_begun objects depth rest more others object first o start now with_comma with_name new n p inner deeper h b is ends_text fits e c m t =
-    let there : Stacks (p ∷ n.next.others ∷ n.next.under) (set objects depth b) (suc depth) = stack_more (n.next.others ∷ n.next.under) p objects depth b fits is n.next.stacked in
-    let one_more : suc depth ≡ depth + 1 = omega arith in
-    record {
-      opens = p ∷ n.next.others ∷ n.next.under;
-      left = inner;
-      levels = omega (arith, n.next.levels, deeper);
-      are_open = (h, subst (λ d. AreOpen (n.next.others ∷ n.next.under) d) deeper n.next.are_open);
-      stacked = subst (λ d. Stacks (p ∷ n.next.others ∷ n.next.under) (set objects depth b) d) one_more there;
-      stands = e ∙ sym (append_assoc (open_key p) (opens_key (n.next.others ∷ n.next.under)) more);
-      written = λ w ends.
-          let opening = opening_text b in
-          let x = n.written ends.1 (opening ∷ ends.0) (ends_text ends.0 ends.3) ends.4 in
-          let all : new ≡ ((now ++ comma_before first) ++ name_text object n.next.name) ++ opening ∷ [] = t ∙ ap (λ s. s ++ opening ∷ []) (m ∙ ap (λ s. s ++ name_text object n.next.name) c) in
-          (x.0, x.1, ap (λ s. s ++ w) all ∙ pieces now (comma_before first) (name_text object n.next.name) (opening ∷ []) w ∙ ap (λ s. now ++ (comma_before first ++ (name_text object n.next.name ++ opening ∷ s))) ends.2 ∙ x.2);
+module _ (objects : List Bool) (depth : ℕ) (rest more : List ℕ) (object first : Bool) (o : Open) (start now : List ℕ) (n : NextText objects depth rest more object first o start now) where
+  -- what is left behind the value
+  abbrev pub behind : List Open
+  behind = n.next.others ∷ n.next.under
+
+  abbrev pub tail_there : List ℕ
+  tail_there = opens_key (n.next.others ∷ n.next.under) ++ more
+
+  pub name_fits : length now + length (before_part first object n.next.name) ≤ length start + length (open_text true o)
+  name_fits = fits (before_part first object n.next.name) (value_text n.next.value ++ opens_text false (n.next.others ∷ n.next.under)) n.underway refl
+
+  module _ (named : List ℕ) (is_named : named ≡ now ++ before_part first object n.next.name) where
+    pub due : IsUnderway start named (open_text true o) (value_text n.next.value ++ opens_text false (n.next.others ∷ n.next.under))
+    due = goes_on named (before_part first object n.next.name) (value_text n.next.value ++ opens_text false (n.next.others ∷ n.next.under)) n.underway refl is_named
+
+    pub value_fits : length named + length (value_text n.next.value) ≤ length start + length (open_text true o)
+    value_fits = fits (value_text n.next.value) (opens_text false (n.next.others ∷ n.next.under)) due refl
+
+    -- a scalar is written
+    pub scalar_written : (others new : List ℕ) → others ≡ opens_key (n.next.others ∷ n.next.under) ++ more → new ≡ named ++ value_text n.next.value → TextLeft objects depth others more false o start new
+    scalar_written others new e is = record {
+      opens = n.next.others ∷ n.next.under;
+      left = n.next.left;
+      levels = n.next.levels;
+      are_open = n.next.are_open;
+      stacked = n.next.stacked;
+      stands = e;
+      underway = goes_on new (value_text n.next.value) (opens_text false (n.next.others ∷ n.next.under)) due refl is;
     }
 
+    -- an array or an object is opened
+    module _ (p : Open) (b : Bool) (text : value_text n.next.value ≡ opening_text b ∷ open_text true p) where
+      split : value_text n.next.value ++ opens_text false (n.next.others ∷ n.next.under) ≡ (opening_text b ∷ []) ++ (open_text true p ++ opens_text false (n.next.others ∷ n.next.under))
+      split = ap (λ t. t ++ opens_text false (n.next.others ∷ n.next.under)) text
+
+      pub opening_fits : length named + length (opening_text b ∷ []) ≤ length start + length (open_text true o)
+      opening_fits = fits (opening_text b ∷ []) (open_text true p ++ opens_text false (n.next.others ∷ n.next.under)) due split
+
+      pub part_begun : (inner : ℕ) → n.next.left ≡ suc inner → IsOpen p inner → is_object p ≡ b → depth < length objects → (others new : List ℕ) → others ≡ open_key p ++ (opens_key (n.next.others ∷ n.next.under) ++ more) → new ≡ named ++ opening_text b ∷ [] → TextLeft (set objects depth b) (depth + 1) others more true o start new
+      part_begun inner deeper h is room others new e opened =
+          let there : Stacks (p ∷ n.next.others ∷ n.next.under) (set objects depth b) (suc depth) = stack_more (n.next.others ∷ n.next.under) p objects depth b room is n.next.stacked in
+          let one_more : suc depth ≡ depth + 1 = omega arith in
+          record {
+            opens = p ∷ n.next.others ∷ n.next.under;
+            left = inner;
+            levels = omega (arith, n.next.levels, deeper);
+            are_open = (h, subst (λ d. AreOpen (n.next.others ∷ n.next.under) d) deeper n.next.are_open);
+            stacked = subst (λ d. Stacks (p ∷ n.next.others ∷ n.next.under) (set objects depth b) d) one_more there;
+            stands = e ∙ sym (append_assoc (open_key p) (opens_key (n.next.others ∷ n.next.under)) more);
+            underway = goes_on new (opening_text b ∷ []) (open_text true p ++ opens_text false (n.next.others ∷ n.next.under)) due split opened;
+          }
+
 -- with none open all is read, and written
-pub all_written : (objects : List Bool) (rest more : List ℕ) (depth : ℕ) (first : Bool) (o : Open) (start now : List ℕ) → depth ≡ 0 → TextLeft objects depth rest more first o start now → (rest ≡ more) × ((v : List ℕ) × (now ≡ start ++ v) × EndsOpen true o v)
-all_written objects rest more depth first o start now none l = go l.opens depth none l.stacked l.stands l.written
+pub all_written : (objects : List Bool) (rest more : List ℕ) (depth : ℕ) (first : Bool) (o : Open) (start now : List ℕ) → depth ≡ 0 → TextLeft objects depth rest more first o start now → (rest ≡ more) × (now ≡ start ++ open_text true o)
+all_written objects rest more depth first o start now none l = go l.opens depth none l.stacked l.stands l.underway
   where
-    go : (opens : List Open) (depth : ℕ) → depth ≡ 0 → Stacks opens objects depth → rest ≡ opens_key opens ++ more → Written first opens o start now → (rest ≡ more) × ((v : List ℕ) × (now ≡ start ++ v) × EndsOpen true o v)
-    go [] zero n s e written = let x = written [] refl in (e, (x.0, sym (append-nil now) ∙ x.2, x.1))
-    go [] (suc d) n s e written = absurd s
-    go (p ∷ os) zero n s e written = absurd s
-    go (p ∷ os) (suc d) n s e written = absurd (omega (arith, n))
+    go : (opens : List Open) (depth : ℕ) → depth ≡ 0 → Stacks opens objects depth → rest ≡ opens_key opens ++ more → IsUnderway start now (open_text true o) (opens_text first opens) → (rest ≡ more) × (now ≡ start ++ open_text true o)
+    go [] zero n s e u = (e, u.appended ∙ ap (λ t. start ++ t) (sym (u.whole ∙ append-nil u.front)))
+    go [] (suc d) n s e u = absurd s
+    go (p ∷ os) zero n s e u = absurd s
+    go (p ∷ os) (suc d) n s e u = absurd (omega (arith, n))

@@ -1,1 +1,2 @@
-pub mod TextFor
+pub mod FewestDigits
+pub mod Writes

@@ -1,6 +1,8 @@
 //! The text of a value from its key.
 #![tactic(auto)]
 
+pub mod append;
+pub mod number;
 pub mod string;
 pub mod write;
 

@@ -1,47 +1,88 @@
-//! The bytes of strings, with their escapes.
-ghost use Rattle.std.specs.Prelude.{◌≡◌, ◌<◌, ◌≤◌, ◌++◌, length, take, OnOk};
+//! The bytes of a string from its key, with their escapes.
+ghost use Rattle.std.specs.Prelude.{◌≡◌, ◌<◌, ◌≤◌, ◌++◌, ℕ, List, length, IfOk};
 ghost use Rattle.std.specs.Char.{digit_char};
 ghost use Rattle.std.specs.List.{flat_map};
+ghost use Rattle.jsonb_value.specs.SortKey.{text_key};
 ghost use Rattle.jsonb_value.specs.Text.StringText.{byte_text, control_text};
+ghost use Rattle.stored_text.specs.Writes.{Appends, Keeps, Writes, closing_quote};
 
+use crate::append::{append_chunk, append_first};
+use jsonb_key::KeyError;
+use jsonb_key::text::{read_byte, skip_pair};
+use jsonb_write::plain::plain_len;
 use std::alloc::AllocError;
 
-// Appends bytes of a string with the escapes that they need, without quotes.
-pub fn append_escaped(bytes: &[u8], buf: &mut Vec<u8>) -> Result<(), AllocError>
-    ensures ok { OnOk result (buf.new.items ≡ buf.old.items ++ flat_map byte_text bytes.now) }
+// Appends the bytes of the text whose key the bytes begin with, a double quote, and a colon behind a name.
+#[inline(always)]
+pub(crate) fn append_text<'k>(
+    colon: bool,
+    bytes: &'k [u8],
+    buf: &mut Vec<u8>,
+) -> Result<&'k [u8], KeyError>
+    ensures found { (text more : List ℕ) → bytes.now ≡ text_key text ++ more
+        → Writes (λ rest. rest.now) result buf.old buf.new more (flat_map byte_text text ++ closing_quote colon) }
+    ensures shorter { IfOk result (λ rest. length rest.now < length bytes.now) }
+    ensures keeps { Keeps buf.old buf.new }
+{
+    if let Some(chunk) = bytes.first_chunk::<16>() {
+        let run = plain_len(chunk);
+        if run <= 14 && chunk[run] == 0 && chunk[run + 1] == 1 {
+            let mut row = *chunk;
+            row[run] = b'"';
+            row[run + 1] = b':';
+            append_chunk(&row, run + closing_len(colon), buf)?;
+            return Ok(&bytes[run + 2..]);
+        }
+    }
+    append_long(colon, bytes, buf)
+}
+
+// Appends them where they are many, have escapes, or stand near the end of the key.
+#[inline(never)]
+fn append_long<'k>(colon: bool, bytes: &'k [u8], buf: &mut Vec<u8>) -> Result<&'k [u8], KeyError>
+    ensures found { (text more : List ℕ) → bytes.now ≡ text_key text ++ more
+        → Writes (λ rest. rest.now) result buf.old buf.new more (flat_map byte_text text ++ closing_quote colon) }
+    ensures shorter { IfOk result (λ rest. length rest.now < length bytes.now) }
+    ensures keeps { Keeps buf.old buf.new }
 {
     let mut rest = bytes;
     'runs: loop {
-        let (run, others) = rest.split_at(run_len(rest));
-        buf.extend_from_slice(run)?;
-        let Some((byte, more)) = others.split_first() else {
-            return Ok(());
+        let run = plain_len(rest);
+        append_first(rest, run, buf)?;
+        let others = &rest[run..];
+        if let Some(after) = skip_pair(1, others) {
+            append_closing_quote(colon, buf)?;
+            return Ok(after);
+        }
+        let Some((byte, more)) = read_byte(others) else {
+            return Err(KeyError::Invalid);
         };
-        append_byte(*byte, buf)?;
+        append_byte(byte, buf)?;
         rest = more;
     }
 }
 
-// How many of the first bytes are written as they are.
-fn run_len(bytes: &[u8]) -> usize
-    ensures within { result ≤ length bytes.now }
-    ensures plain { flat_map byte_text (take result bytes.now) ≡ take result bytes.now }
+#[inline(always)]
+fn closing_len(colon: bool) -> usize
+    ensures { result ≡ length (closing_quote colon) }
 {
-    'bytes: for (i, byte) in bytes.iter().enumerate() {
-        // Most letters are past all that have an escape.
-        if *byte > b'\\' {
-            continue;
-        }
-        if *byte < 0x20 || *byte == b'"' || *byte == b'\\' {
-            return i;
-        }
+    if colon { 2 } else { 1 }
+}
+
+// Appends a double quote, and a colon behind a name.
+#[inline(always)]
+fn append_closing_quote(colon: bool, buf: &mut Vec<u8>) -> Result<(), AllocError>
+    ensures { Appends result buf.old buf.new (closing_quote colon) }
+{
+    if colon {
+        return buf.extend_from_slice(b"\":");
     }
-    bytes.len()
+    buf.extend_from_slice(b"\"")
 }
 
 // Appends a byte of a string, with an escape where it needs one.
 fn append_byte(byte: u8, buf: &mut Vec<u8>) -> Result<(), AllocError>
-    ensures ok { OnOk result (buf.new.items ≡ buf.old.items ++ byte_text byte) }
+    ensures { Appends result buf.old buf.new (byte_text byte) }
 {
     match byte {
         b'"' => buf.extend_from_slice(b"\\\""),

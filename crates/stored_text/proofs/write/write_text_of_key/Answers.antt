@@ -1,11 +1,32 @@
-use Rattle.std.proofs.Common.{[], sym, ◌∙◌, append-nil}
+use Rattle.std.proofs.Common.{◌≡◌, ◌==◌, true≢false, [], ◌++◌, length, sym, ap, ◌∙◌, arith, append-nil}
+use Rattle.jsonb_key.specs.declared.key.KeyError.TheVariants.{Invalid, OutOfMemory}
 use Rattle.jsonb_value.specs.SortKey.{key_of}
+use Rattle.stored_text.specs.Writes.{value_text}
 use Rattle.stored_text.proofs.Whole.{appended}
 use Rattle.stored_text.proofs.write.write_text_of_key.Goals as goal
 
-pub returns-then-is_empty : goal.returns-then-is_empty
-returns-then-is_empty c = record {
-  ok = λ t r e.
-      let x = c.in-Ok.ensures.found t r [] (e ∙ sym (append-nil (key_of t))) in
-      appended t x.1.0 c.args.buf.now.items c.append_value.new.buf.items x.1.2 x.1.1;
-}
+pub returns-then-is_empty-clause-ok : goal.returns-then-is_empty-clause-ok
+returns-then-is_empty-clause-ok c = λ t r e.
+    let x = c.in-Ok.ensures.found t r [] (e ∙ sym (append-nil (key_of t))) in
+    appended t c.args.buf.now.items c.append_value.new.buf.items r (x.1 ∙ ap (λ items. items ++ value_text t) c.try_reserve-reserved.ensures.items)
+
+pub returns-else-is_empty-clause-invalid : goal.returns-else-is_empty-clause-invalid
+returns-else-is_empty-clause-invalid c = λ is t r e.
+    let x = c.in-Ok.ensures.found t r [] (e ∙ sym (append-nil (key_of t))) in
+    absurd (true≢false (sym (c.is_empty.ensures ∙ ap (λ rest. length rest == 0) x.0) ∙ c.if-is_empty.false))
+
+pub returns-else-is_empty-clause-full : goal.returns-else-is_empty-clause-full
+returns-else-is_empty-clause-full c = λ t r e.
+    let x = c.in-Ok.ensures.found t r [] (e ∙ sym (append-nil (key_of t))) in
+    absurd (true≢false (sym (c.is_empty.ensures ∙ ap (λ rest. length rest == 0) x.0) ∙ c.if-is_empty.false))
+
+pub returns-in-Err-clause-invalid : goal.returns-in-Err-clause-invalid
+returns-in-Err-clause-invalid c = λ is t r e.
+    let x = c.in-Err.ensures.found t r [] (e ∙ sym (append-nil (key_of t))) in
+    let clash : Invalid ≡ OutOfMemory = sym is ∙ x.0 in
+    cc clash
+
+pub returns-in-Err-clause-full : goal.returns-in-Err-clause-full
+returns-in-Err-clause-full c = λ t r e.
+    let x = c.in-Err.ensures.found t r [] (e ∙ sym (append-nil (key_of t))) in
+    omega (arith, x.1, c.try_reserve-reserved.ensures.capacity, ap length c.try_reserve-reserved.ensures.items)

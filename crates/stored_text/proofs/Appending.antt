@@ -1,0 +1,63 @@
+-- Bytes that are appended to a buffer, one piece after the other.
+use Rattle.std.proofs.Common.{◌≡◌, ℕ, ◌+◌, ◌<◌, ◌≤◌, List, [], ◌++◌, length, Result, Ok, Err, is_ok, if◌then◌else◌, OnErr, sym, ap, ◌∙◌, arith, append-nil, append_assoc, length-append}
+use Rattle.std.specs.Prelude.{IsErrAnd, Vec, vec_len, vec_capacity}
+use Rattle.std.specs.declared.alloc.Global.{Global}
+use Rattle.jsonb_key.specs.declared.key.KeyError.{KeyError}
+use Rattle.jsonb_key.specs.declared.key.KeyError.TheVariants.{OutOfMemory}
+use Rattle.stored_text.specs.Writes.{Appends, Keeps, Writes}
+
+-- what a call of `extend_from_slice` appends
+pub extended : {X E : Type 0} (r : Result X E) (old new : Vec ℕ Global) (bytes text : List ℕ) → new.items ≡ (if is_ok r then old.items ++ bytes else old.items) → OnErr r (vec_capacity old < vec_len old + length bytes) → vec_capacity old ≤ vec_capacity new → bytes ≡ text → Appends r old new text
+extended (Ok x) old new bytes text items full capacity same =
+    let is = items ∙ ap (λ t. old.items ++ t) same in
+    record { ok = is; kept = record { more = text; extended = is }; full = tt; capacity = capacity }
+extended (Err x) old new bytes text items full capacity same =
+    record { ok = tt; kept = record { more = []; extended = items ∙ sym (append-nil old.items) }; full = omega (arith, full, ap length same); capacity = capacity }
+
+-- ---- two pieces
+
+pub no_room_first : (old : Vec ℕ Global) (front back : List ℕ) → vec_capacity old < vec_len old + length front → vec_capacity old < vec_len old + length (front ++ back)
+no_room_first old front back h = omega (arith, h, length-append front back)
+
+pub no_room_second : (old now : Vec ℕ Global) (front back : List ℕ) → now.items ≡ old.items ++ front → vec_capacity old ≤ vec_capacity now → vec_capacity now < vec_len now + length back → vec_capacity old < vec_len old + length (front ++ back)
+no_room_second old now front back is most h = omega (arith, h, most, ap length is, length-append old.items front, length-append front back)
+
+pub both : (old now new front back : List ℕ) → now ≡ old ++ front → new ≡ now ++ back → new ≡ old ++ (front ++ back)
+both old now new front back is more = more ∙ ap (λ t. t ++ back) is ∙ append_assoc old front back
+
+-- ---- errors
+
+-- the error of an append
+pub out_of_memory : {X : Type 0} (left : X → List ℕ) (r : Result X KeyError) (old new : Vec ℕ Global) (more text : List ℕ) → IsErrAnd r (λ e. e ≡ OutOfMemory) → vec_capacity old < vec_len old + length text → Writes left r old new more text
+out_of_memory left (Ok x) old new more text h full = absurd h
+out_of_memory left (Err e) old new more text h full = (h, full)
+
+-- the error of a call that appends, passed on
+pub passed_on : {X : Type 0} (left : X → List ℕ) (r : Result X KeyError) (old new : Vec ℕ Global) (more text : List ℕ) (error : KeyError) → IsErrAnd r (λ e. e ≡ error) → error ≡ OutOfMemory → vec_capacity old < vec_len old + length text → Writes left r old new more text
+passed_on left (Ok x) old new more text error h is full = absurd h
+passed_on left (Err e) old new more text error h is full = (h ∙ is, full)
+
+-- ---- what is kept
+
+pub kept : (v : Vec ℕ Global) → Keeps v v
+kept v = record { kept = record { more = []; extended = sym (append-nil v.items) }; capacity = omega arith }
+
+pub keeps_on : (u v w : Vec ℕ Global) → Keeps u v → Keeps v w → Keeps u w
+keeps_on u v w p q = record {
+  kept = record { more = p.kept.more ++ q.kept.more; extended = q.kept.extended ∙ ap (λ t. t ++ q.kept.more) p.kept.extended ∙ append_assoc u.items p.kept.more q.kept.more };
+  capacity = omega (arith, p.capacity, q.capacity);
+}
+
+pub kept_by : {X E : Type 0} {r : Result X E} {bytes : List ℕ} (v w : Vec ℕ Global) → Appends r v w bytes → Keeps v w
+kept_by v w p = record { kept = p.kept; capacity = p.capacity }
+
+-- ---- what follows what was appended
+
+pub behind : {X : Type 0} (left : X → List ℕ) (r : Result X KeyError) (old mid new : Vec ℕ Global) (more front back text : List ℕ) → mid.items ≡ old.items ++ front → vec_capacity old ≤ vec_capacity mid → text ≡ front ++ back → Writes left r mid new more back → Writes left r old new more text
+behind left (Ok x) old mid new more front back text is most split h = (h.0, both old.items mid.items new.items front back is h.1 ∙ ap (λ t. old.items ++ t) (sym split))
+behind left (Err e) old mid new more front back text is most split h = (h.0, omega (arith, no_room_second old mid front back is most h.1, ap length split))
+
+-- the text by another name
+pub as_text : {X : Type 0} (left : X → List ℕ) (r : Result X KeyError) (old new : Vec ℕ Global) (more back text : List ℕ) → text ≡ back → Writes left r old new more back → Writes left r old new more text
+as_text left (Ok x) old new more back text e h = (h.0, h.1 ∙ ap (λ t. old.items ++ t) (sym e))
+as_text left (Err x) old new more back text e h = (h.0, omega (arith, h.1, ap length e))

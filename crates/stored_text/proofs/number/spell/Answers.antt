@@ -1,0 +1,38 @@
+use Rattle.std.proofs.Common.{refl, arith}
+use Rattle.stored_text.proofs.Spelling.{none_spelled, pair_small, two_spelled, one_spelled, pair_spelled, not_over}
+use Rattle.stored_text.proofs.number.spell.Goals as goal
+use Rattle.stored_text.proofs.number.spell.Goals.{then-count-gt38-via-then-count-gt38, then-count-gt38-via-else-count-gt38+then-byte-gt199}
+
+pub pairs-init : goal.pairs-init
+pairs-init c = record { spells = none_spelled c.args.negative c.args.bytes.now c.args.row.now c.requires; within = omega arith; few = omega arith }
+
+pub returns-then-count-gt38-clause-found : goal.returns-then-count-gt38-clause-found
+returns-then-count-gt38-clause-found c = λ C M below some few more e.
+    let small = pair_small c.args.negative c.args.bytes.now c.pairs.count c.pairs.rest.now c.pairs.row c.in-Some.byte.now c.in-Some.others.now c.turned-byte.result c.pairs.invariant.spells c.in-Some.ensures.cases.0 c.turned-byte.ensures C M below some few more e in
+    elim c.then-count-gt38.branch [
+      | then-count-gt38-via-then-count-gt38 w ↦ absurd (omega (arith, small.0, w.if-count-gt38.true))
+      | then-count-gt38-via-else-count-gt38+then-byte-gt199 w ↦ absurd (omega (arith, small.1, w.if-byte-gt199.true))
+    ]
+
+pub returns-then-ones-eq48-clause-found : goal.returns-then-ones-eq48-clause-found
+returns-then-ones-eq48-clause-found c = λ C M below some few more e.
+    one_spelled c.args.negative c.args.bytes.now c.pairs.count c.pairs.rest.now c.pairs.row c.in-Some.byte.now c.in-Some.others.now c.turned-byte.result c.pairs.invariant.spells c.in-Some.ensures.cases.0 c.turned-byte.ensures C M below some few more e
+    _ c.digits_of_pair-tens.result.0 c.digits_of_pair-tens.result.1 c.if-byte-eq0.true (omega (arith, c.digits_of_pair-tens.ensures.1, c.if-ones-eq48.true)) c.digits_of_pair-tens.ensures.0 c.digits_of_pair-tens.ensures.1 refl
+
+pub returns-then-byte-eq0-clause-found : goal.returns-then-byte-eq0-clause-found
+returns-then-byte-eq0-clause-found c = λ C M below some few more e.
+    two_spelled c.args.negative c.args.bytes.now c.pairs.count c.pairs.rest.now c.pairs.row c.in-Some.byte.now c.in-Some.others.now c.turned-byte.result c.pairs.invariant.spells c.in-Some.ensures.cases.0 c.turned-byte.ensures C M below some few more e
+    _ c.digits_of_pair-tens.result.0 c.digits_of_pair-tens.result.1 c.if-byte-eq0.true (λ z. c.if-ones-eq48.false (omega (arith, c.digits_of_pair-tens.ensures.1, z))) c.digits_of_pair-tens.ensures.0 c.digits_of_pair-tens.ensures.1 refl
+
+pub pairs-preserved : goal.pairs-preserved
+pairs-preserved c = record {
+  spells = λ C M below some few more e.
+      pair_spelled c.args.negative c.args.bytes.now c.pairs.count c.pairs.rest.now c.pairs.row c.in-Some.byte.now c.in-Some.others.now c.turned-byte.result c.pairs.invariant.spells c.in-Some.ensures.cases.0 c.turned-byte.ensures C M below some few more e
+      _ c.digits_of_pair-tens.result.0 c.digits_of_pair-tens.result.1 c.if-byte-eq0.false c.digits_of_pair-tens.ensures.0 c.digits_of_pair-tens.ensures.1 refl;
+  within = omega (arith, c.in-Some.ensures.cases.1, c.pairs.invariant.within);
+  few = omega (arith, c.if-count-gt38.false);
+}
+
+pub returns-clause-found : goal.returns-clause-found
+returns-clause-found c = λ C M below some few more e.
+    not_over c.args.negative c.args.bytes.now c.pairs.count c.pairs.rest.now c.pairs.row c.pairs.invariant.spells c.in_default.ensures.cases C M below some few more e

@@ -1,0 +1,15 @@
+use Rattle.std.proofs.Common.{◌≤◌, length}
+use Rattle.stored_text.specs.Writes.{Keeps}
+use Rattle.stored_text.proofs.Strings.{WritesInside}
+use Rattle.stored_text.proofs.string.append_long.Given as goal
+
+-- what is left to write is the text of what is left
+abbrev pub invariant-runs : goal.invariant-runs
+invariant-runs l = record {
+  writes : WritesInside l.colon l.bytes l.rest l.fn.buf.items l.buf.items;
+  keeps : Keeps l.fn.buf l.buf;
+  within : length l.rest ≤ length l.bytes;
+}
+
+abbrev pub decreases-runs : goal.decreases-runs
+decreases-runs l = length l.rest

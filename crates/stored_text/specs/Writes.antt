@@ -1,0 +1,103 @@
+-- What is appended while a key is walked.
+-- Read for: private.
+use Rattle.std.specs.Prelude.{◌≡◌, ◌≢◌, ℕ, zero, suc, ◌+◌, ◌-◌, ◌/◌, ◌%◌, ◌<◌, ◌≤◌, Bool, true, false, nat_lt, if◌then◌else◌, List, [], ◌∷◌, ◌++◌, length, take, replicate, slice_range, OnOk, OnErr, MatchResult, Result, Vec, vec_len, vec_capacity}
+use Rattle.std.specs.declared.alloc.Global.{Global}
+use Rattle.jsonb_key.specs.declared.key.KeyError.{KeyError}
+use Rattle.jsonb_key.specs.declared.key.KeyError.TheVariants.{OutOfMemory}
+use Rattle.jsonb_key.specs.Reading.{IsDigits}
+use Rattle.jsonb_stored.specs.Open.{Open, items, members}
+use Rattle.jsonb_value.specs.Ascii as ascii
+use Rattle.jsonb_value.specs.Text.Appending.{Extends, comma_before}
+use Rattle.jsonb_value.specs.Text.StringText.{quoted_text}
+use Rattle.jsonb_value.specs.Text.{tree_text}
+use Rattle.jsonb_value.specs.Tree.{Tree, Trees, no_trees, more_trees, Members, no_members, more_members}
+use Rattle.jsonb_write.specs.PartAt.{zero_digit}
+use Rattle.stored_text.specs.FewestDigits.{with_fewest_digits}
+
+-- The bytes are appended. Else the capacity for all of them is missing, and a part of them may be there.
+pub record Appends {X E : Type 0} (result : Result X E) (old new : Vec ℕ Global) (bytes : List ℕ) : Type 0 where
+  pub ok : OnOk result (new.items ≡ old.items ++ bytes)
+  pub kept : Extends old.items new.items
+  pub full : OnErr result (vec_capacity old < vec_len old + length bytes)
+  pub capacity : vec_capacity old ≤ vec_capacity new
+
+-- Nothing that was there is lost.
+pub record Keeps (old new : Vec ℕ Global) : Type 0 where
+  pub kept : Extends old.items new.items
+  pub capacity : vec_capacity old ≤ vec_capacity new
+
+-- The text is appended, and these bytes are left. Else memory ran out, as the capacity for all of the text is missing.
+abbrev pub Writes : {X : Type 0} → (X → List ℕ) → Result X KeyError → Vec ℕ Global → Vec ℕ Global → List ℕ → List ℕ
+    → Type 0
+Writes left result old new more text = MatchResult result
+    (λ x. (left x ≡ more) × (new.items ≡ old.items ++ text))
+    (λ e. (e ≡ OutOfMemory) × (vec_capacity old < vec_len old + length text))
+
+-- the text that is written of a value
+abbrev pub value_text : Tree → List ℕ
+value_text t = tree_text (with_fewest_digits t)
+
+-- what is left of an array's text
+abbrev pub items_left : Bool → Trees → List ℕ
+items_left first no_trees = ascii.close_bracket ∷ []
+items_left first (more_trees t ts) = comma_before first ++ (value_text t ++ items_left false ts)
+
+-- a member's name and a colon, which an item has none of
+abbrev pub name_text : Bool → List ℕ → List ℕ
+name_text true name = quoted_text name ++ ascii.colon ∷ []
+name_text false name = []
+
+-- what is left of an object's text
+abbrev pub members_left : Bool → Members → List ℕ
+members_left first no_members = ascii.close_brace ∷ []
+members_left first (more_members k t ms) =
+    comma_before first ++ (name_text true k ++ (value_text t ++ members_left false ms))
+
+-- what is left of the text of what is open
+abbrev pub open_text : Bool → Open → List ℕ
+open_text first (items ts) = items_left first ts
+open_text first (members ms) = members_left first ms
+
+-- what begins and ends a string
+abbrev pub double_quote : ℕ
+double_quote = 34
+
+-- what stands before the digits of a fraction
+abbrev pub point : ℕ
+point = 46
+
+-- the brackets
+abbrev pub opening_text : Bool → ℕ
+opening_text true = ascii.open_brace
+opening_text false = ascii.open_bracket
+
+abbrev pub closing_text : Bool → ℕ
+closing_text true = ascii.close_brace
+closing_text false = ascii.close_bracket
+
+-- the end of a string, or of a name
+abbrev pub closing_quote : Bool → List ℕ
+closing_quote true = double_quote ∷ ascii.colon ∷ []
+closing_quote false = double_quote ∷ []
+
+-- the last digits of a number, as many as are asked for
+unfoldable pub last_digits : ℕ → ℕ → List ℕ
+last_digits zero n = []
+last_digits (suc count) n = last_digits count (n / 10) ++ (48 + n % 10) ∷ []
+
+-- The row has the first digits of a number that has `count` of them, without zeros at the end: there are `read` of
+-- them. All behind them are zeros.
+pub record IsSpelled (count magnitude read : ℕ) (row : List ℕ) : Type 0 where
+  pub digits : ℕ
+  pub is_digits : IsDigits count magnitude digits read
+  pub not_zero : digits % 10 ≢ 0
+  pub spelled : row ≡ last_digits read digits ++ replicate (48 - read) 48
+
+-- The digits that stand first in the row, where the first stands at this place: with zeros behind them, with a point
+-- among them, or behind a point and as many zeros.
+unfoldable pub placed_text : ℕ → ℕ → List ℕ → List ℕ
+placed_text place count row =
+    if nat_lt 255 place then
+    (if nat_lt (place - 255) count then take (place - 255) row ++ point ∷ slice_range row (place - 255) count
+    else take (place - 255) row)
+    else zero_digit ∷ point ∷ (replicate (255 - place) 48 ++ take count row)

@@ -1,0 +1,157 @@
+//! The text of a number from its key: two digits from each byte.
+ghost use Rattle.std.specs.Prelude.{◌≡◌, ◌+◌, ◌*◌, ◌/◌, ◌%◌, ◌^◌, ◌<◌, ◌≤◌, ◌++◌, ◌∷◌, [], ℕ, List, length, map, replicate, IfOk, IfSome, MatchOption};
+ghost use Rattle.std.specs.Fmt.{sign_text};
+ghost use Rattle.jsonb_value.specs.Proper.{IsProperNumber};
+ghost use Rattle.jsonb_value.specs.SortKey.{number_key, digits_key, turned};
+ghost use Rattle.jsonb_value.specs.Text.NumberText.{number_text};
+ghost use Rattle.jsonb_value.specs.Tree.{Num};
+ghost use Rattle.stored_text.specs.FewestDigits.{fewest_digits};
+ghost use Rattle.stored_text.specs.Writes.{Appends, IsSpelled, Keeps, Writes, placed_text};
+
+use crate::append::append_chunk;
+use jsonb_key::KeyError;
+use jsonb_key::number::{read_place, turned};
+use std::alloc::AllocError;
+
+// The two digits of each number below 100.
+static PAIRS: [u8; 200] =
+    *b"00010203040506070809101112131415161718192021222324252627282930313233343536373839\
+    40414243444546474849505152535455565758596061626364656667686970717273747576777879\
+    8081828384858687888990919293949596979899";
+
+// How many digits a number has at most before the point.
+const MAX_FRONT: u32 = 40;
+
+// Appends the text of the number whose key the bytes begin with.
+#[inline(never)]
+pub(crate) fn append_number<'k>(bytes: &'k [u8], buf: &mut Vec<u8>) -> Result<&'k [u8], KeyError>
+    ensures found { (n : Num) → IsProperNumber n → (more : List ℕ) → bytes.now ≡ number_key n ++ more
+        → Writes (λ rest. rest.now) result buf.old buf.new more (number_text (fewest_digits n)) }
+    ensures shorter { IfOk result (λ rest. length rest.now < length bytes.now) }
+    ensures keeps { Keeps buf.old buf.new }
+{
+    let Some((first, others)) = bytes.split_first() else {
+        return Err(KeyError::Invalid);
+    };
+    if *first == 0x80 {
+        buf.extend_from_slice(b"0")?;
+        return Ok(others);
+    }
+    let negative = *first < 0x80;
+    let Some((place, digits)) = read_place(negative, bytes) else {
+        return Err(KeyError::Invalid);
+    };
+    let mut row = [b'0'; 48];
+    let Some((count, rest)) = spell(negative, digits, &mut row) else {
+        return Err(KeyError::Invalid);
+    };
+    if place > 255 + MAX_FRONT {
+        return Err(KeyError::Invalid);
+    }
+    append_sign(negative, buf)?;
+    append_placed(place, count, &row, buf)?;
+    Ok(rest)
+}
+
+#[inline(always)]
+fn append_sign(negative: bool, buf: &mut Vec<u8>) -> Result<(), AllocError>
+    ensures { Appends result buf.old buf.new (sign_text negative) }
+{
+    if negative {
+        return buf.extend_from_slice(b"-");
+    }
+    Ok(())
+}
+
+// Writes the digits to the row, of which the others stay zeros, and returns how many they are without zeros at the end,
+// and the bytes after them.
+#[inline(always)]
+fn spell<'k>(negative: bool, bytes: &'k [u8], row: &mut [u8; 48]) -> Option<(usize, &'k [u8])>
+    requires { row.old ≡ replicate 48 48 }
+    ensures found { (count magnitude : ℕ) → magnitude < 10 ^ count → 0 < magnitude → count ≤ 39 → (more : List ℕ)
+        → bytes.now ≡ map (turned negative) (digits_key count magnitude) ++ more
+        → MatchOption result ⊥ (λ r. IsSpelled count magnitude r.0 row.new × (r.1.now ≡ more)) }
+    ensures few { IfSome result (λ r. r.0 ≤ 40) }
+    ensures shorter { IfSome result (λ r. length r.1.now ≤ length bytes.now) }
+{
+    let mut rest = bytes;
+    let mut count: usize = 0;
+    'pairs: while let Some((byte, others)) = rest.split_first() {
+        let byte = turned(negative, *byte);
+        if count > 38 || byte > 199 {
+            return None;
+        }
+        let (tens, ones) = digits_of_pair(byte / 2);
+        row[count] = tens;
+        row[count + 1] = ones;
+        rest = others;
+        if byte % 2 == 0 {
+            if ones == b'0' {
+                return Some((count + 1, rest));
+            }
+            return Some((count + 2, rest));
+        }
+        count += 2;
+    }
+    None
+}
+
+// The two digits of a number below 100.
+#[inline(always)]
+fn digits_of_pair(pair: u8) -> (u8, u8)
+    requires { pair < 100 }
+    ensures { (result.0 ≡ 48 + pair / 10) × (result.1 ≡ 48 + pair % 10) }
+{
+    let from = usize::from(pair) * 2;
+    (PAIRS[from], PAIRS[from + 1])
+}
+
+// Appends the digits that stand first in the row, of which the first stands at this place. Mostly there is no point.
+#[inline(always)]
+fn append_placed(
+    place: u32,
+    count: usize,
+    row: &[u8; 48],
+    buf: &mut Vec<u8>,
+) -> Result<(), AllocError>
+    requires few { (place ≤ 295) × (count ≤ 40) }
+    ensures { Appends result buf.old buf.new (placed_text place count row.now) }
+{
+    if place > 255 {
+        let front = (place - 255) as usize;
+        if front >= count {
+            return append_chunk(row, front, buf);
+        }
+        return append_with_point(&row[..front], &row[front..count], buf);
+    }
+    append_fraction((255 - place) as usize, &row[..count], buf)
+}
+
+// Appends digits with a point between them.
+#[inline(never)]
+fn append_with_point(front: &[u8], back: &[u8], buf: &mut Vec<u8>) -> Result<(), AllocError>
+    ensures { Appends result buf.old buf.new (front.now ++ 46 ∷ back.now) }
+{
+    buf.extend_from_slice(front)?;
+    buf.extend_from_slice(b".")?;
+    buf.extend_from_slice(back)
+}
+
+// Appends digits behind a point and as many zeros.
+#[inline(never)]
+fn append_fraction(zeros: usize, digits: &[u8], buf: &mut Vec<u8>) -> Result<(), AllocError>
+    requires { zeros ≤ 255 }
+    ensures { Appends result buf.old buf.new (48 ∷ 46 ∷ (replicate zeros 48 ++ digits.now)) }
+{
+    buf.extend_from_slice(b"0.")?;
+    append_zeros(zeros, buf)?;
+    buf.extend_from_slice(digits)
+}
+
+fn append_zeros(zeros: usize, buf: &mut Vec<u8>) -> Result<(), AllocError>
+    requires { zeros ≤ 255 }
+    ensures { Appends result buf.old buf.new (replicate zeros 48) }
+{
+    let row = [b'0'; 255];
+    buf.extend_from_slice(&row[..zeros])
+}
