@@ -6,9 +6,9 @@
  * no lock, as long as none writes to what another uses.
  *
  * What a caller owes:
- *  - No pointer is null, but that of a text, a path or a buffer of size 0, which isn't dereferenced.
+ *  - No pointer is null, but that of a text, a path, a key or a buffer of size 0, which isn't dereferenced.
  *  - What a call writes to (buffer, size, order, refusal, place) doesn't overlap any other argument.
- *  - No text and no buffer is longer than PTRDIFF_MAX bytes.
+ *  - No text, no key and no buffer is longer than PTRDIFF_MAX bytes.
  *  - The thread has 112 KB of stack free, where input is untrusted: no call was seen to take more, and
  *    vizhoniku_check and vizhoniku_message take no more than 32 KB. docs/C.md has figures. A thread of musl has 128 KB
  *    by default.
@@ -118,6 +118,20 @@ uint32_t vizhoniku_part(uint32_t mode, const unsigned char *path, size_t path_si
  *  - any other status: *size is 0, and nothing was written. */
 uint32_t vizhoniku_sort_key(uint32_t mode, const unsigned char *text, size_t text_size, unsigned char *buffer,
                             size_t buffer_size, size_t *size, struct vizhoniku_refusal *refusal);
+
+/* Writes the text of the value whose sort key the bytes are, as vizhoniku_text writes it, with the fewest digits in each
+ * number: the key of 1.50 is that of 1.5, and gives 1.5. No value is built, and the machine stack that is taken is the
+ * same for each key.
+ *
+ *  - VIZHONIKU_ACCEPTED: *size bytes were written, with no zero byte after them. The rest of the buffer is as before.
+ *  - VIZHONIKU_TOO_SHORT: *size bytes are needed, and nothing was written.
+ *  - VIZHONIKU_NO_KEY: the bytes can't be the sort key of a JSON value with at most 512 nested arrays and objects. *size
+ *    is 0, and nothing was written.
+ *  - VIZHONIKU_OUT_OF_MEMORY: *size is 0, and nothing was written.
+ *
+ * It isn't a check of a key: other bytes have a text too, also one that isn't JSON, or VIZHONIKU_NO_KEY. */
+uint32_t vizhoniku_key_text(const unsigned char *key, size_t key_size, unsigned char *buffer, size_t buffer_size,
+                            size_t *size);
 
 /* Writes the text's value as text and as sort key, as vizhoniku_text and vizhoniku_sort_key do: each to the start of a
  * buffer of its own. The two buffers don't overlap.

@@ -15,6 +15,8 @@ uint32_t proved_sort_key(uint32_t mode, const unsigned char *text, size_t text_s
 uint32_t proved_text_and_key(uint32_t mode, const unsigned char *text, size_t text_size, unsigned char *buffer,
                              size_t buffer_size, size_t *size, unsigned char *key_buffer, size_t key_buffer_size,
                              size_t *key_size, struct vizhoniku_refusal *refusal);
+uint32_t proved_key_text(const unsigned char *key, size_t key_size, unsigned char *buffer, size_t buffer_size,
+                         size_t *size);
 uint32_t proved_compare(uint32_t mode, const unsigned char *left, size_t left_size, const unsigned char *right,
                         size_t right_size, int32_t *order, struct vizhoniku_refusal *refusal);
 void proved_place(const unsigned char *text, size_t text_size, const struct vizhoniku_refusal *refusal,
@@ -59,6 +61,11 @@ uint32_t vizhoniku_text_and_key(uint32_t mode, const unsigned char *text, size_t
                                 size_t *key_size, struct vizhoniku_refusal *refusal) {
   return proved_text_and_key(mode, bytes_at(text, text_size), text_size, buffer_at(buffer, buffer_size), buffer_size,
                              size, buffer_at(key_buffer, key_buffer_size), key_buffer_size, key_size, refusal);
+}
+
+uint32_t vizhoniku_key_text(const unsigned char *key, size_t key_size, unsigned char *buffer, size_t buffer_size,
+                            size_t *size) {
+  return proved_key_text(bytes_at(key, key_size), key_size, buffer_at(buffer, buffer_size), buffer_size, size);
 }
 
 uint32_t vizhoniku_compare(uint32_t mode, const unsigned char *left, size_t left_size, const unsigned char *right,

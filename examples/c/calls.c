@@ -76,7 +76,15 @@ static void write_both(uint32_t mode, const char *text, size_t buffer_size, size
   print_refusal(&refusal);
 }
 
-/* A null pointer of size 0 is an empty text, path or buffer. */
+static void write_key_text(const unsigned char *key, size_t key_size, size_t buffer_size) {
+  unsigned char buffer[16];
+  size_t size = 99;
+  memset(buffer, '.', sizeof buffer);
+  uint32_t status = vizhoniku_key_text(key, key_size, buffer, buffer_size, &size);
+  printf("text of a key: status %u size %zu buffer %.16s\n", (unsigned)status, size, (char *)buffer);
+}
+
+/* A null pointer of size 0 is an empty text, path, key or buffer. */
 static void pass_null(uint32_t mode) {
   size_t size = 99, key_size = 99;
   int32_t order = 99;
@@ -90,6 +98,8 @@ static void pass_null(uint32_t mode) {
   printf(" whole %u", (unsigned)vizhoniku_part(mode, NULL, 0, BYTES("[1]"), NULL, 0, &size, &refusal));
   printf(" size %zu,", size);
   printf(" sort key %u", (unsigned)vizhoniku_sort_key(mode, NULL, 0, NULL, 0, &size, &refusal));
+  printf(" size %zu,", size);
+  printf(" key's text %u", (unsigned)vizhoniku_key_text(NULL, 0, NULL, 0, &size));
   printf(" size %zu,", size);
   printf(" both %u", (unsigned)vizhoniku_text_and_key(mode, NULL, 0, NULL, 0, &size, NULL, 0, &key_size, &refusal));
   printf(" sizes %zu %zu,", size, key_size);
@@ -136,6 +146,13 @@ int main(void) {
   write_both(VIZHONIKU_EXTENDED, "[ 1, +2 ]", 12, 5);
   write_both(VIZHONIKU_EXTENDED, "[1", 12, 12);
   write_both(2, "1", 12, 12);
+
+  /* {"a":[1.5,-42]} of docs/SORT_KEYS.md's format, the same with a byte more, and no bytes. */
+  static const unsigned char key[] = {0xD1, 'a', 0, 1, 0xD2, 0xA1, 0x1E, 0x5D, 0xAB, 0, 0, 0, 0};
+  write_key_text(key, sizeof key - 1, 14);
+  write_key_text(key, sizeof key - 1, 15);
+  write_key_text(key, sizeof key, 16);
+  write_key_text(key, 0, 16);
 
   pass_null(VIZHONIKU_STANDARD);
   pass_null(VIZHONIKU_EXTENDED);

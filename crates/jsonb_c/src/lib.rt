@@ -29,6 +29,7 @@ use std::alloc::Global;
 use std::cmp::Ordering;
 
 pub mod key;
+pub mod key_text;
 
 /// Success.
 pub const ACCEPTED: u32 = 0;

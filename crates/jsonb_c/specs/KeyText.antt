@@ -1,0 +1,24 @@
+-- What the statuses of `vizhoniku_key_text` say of a sort key.
+-- Read for: promises, but `key_status_of`.
+use Rattle.std.specs.Prelude.{◌≡◌, ℕ, List, Some}
+use Rattle.jsonb_key.specs.declared.key.KeyError.{KeyError}
+use Rattle.jsonb_key.specs.declared.key.KeyError.TheVariants as errors
+use Rattle.jsonb_value.specs.SortKey.{key_of}
+use Rattle.jsonb_value.specs.Text.{text_of}
+use Rattle.jsonb_value.specs.Tree.{Tree}
+use Rattle.jsonb_c.specs.KeyParts.{IsTreeKey}
+use Rattle.stored_text.specs.FewestDigits.{with_fewest_digits}
+
+-- Whichever value the bytes are the sort key of, the text is that of the value with the fewest digits that has this key.
+abbrev pub IsTextOfKey : List ℕ → List ℕ → Type 0
+IsTextOfKey key text = (t : Tree) → IsTreeKey key t
+    → (text_of (with_fewest_digits t) ≡ Some text) × (key_of (with_fewest_digits t) ≡ key)
+
+-- The bytes are the sort key of no value.
+abbrev pub IsNoKey : List ℕ → Type 0
+IsNoKey key = (t : Tree) → IsTreeKey key t → ⊥
+
+-- the status of an error
+abbrev pub key_status_of : KeyError → ℕ
+key_status_of errors.Invalid = 7
+key_status_of errors.OutOfMemory = 2
