@@ -6,8 +6,9 @@
  * no lock, as long as none writes to what another uses.
  *
  * What a caller owes:
- *  - No pointer is null, but that of a text, a path, a key or a buffer of size 0, which isn't dereferenced.
- *  - What a call writes to (buffer, size, order, refusal, place) doesn't overlap any other argument.
+ *  - No pointer is null, but that of a text, a path, a name, a key or a buffer of size 0, which isn't dereferenced.
+ *  - What a call writes to (buffer, size, order, refusal, place, offset, count, cursor, entry) doesn't overlap any
+ *    other argument.
  *  - No text, no key and no buffer is longer than PTRDIFF_MAX bytes.
  *  - The thread has 112 KB of stack free, where input is untrusted: no call was seen to take more, and
  *    vizhoniku_check and vizhoniku_message take no more than 32 KB. docs/C.md has figures. A thread of musl has 128 KB
@@ -177,9 +178,9 @@ uint32_t vizhoniku_message(uint32_t mode, const unsigned char *text, size_t text
  * where in it the keys of its parts stand: an offset and a size. No text is parsed, no value is made, and nothing is
  * kept. A part's range is the key of the part, to which each of these calls may be applied again.
  *
- * Any bytes may be passed, and a range lies within them. They aren't checked as a whole: of bytes that are no key of a
- * value a call says VIZHONIKU_NO_KEY, or it finds something in them. The keys of binary data, dates, times and intervals
- * are none here, which no text has. */
+ * Any bytes may be passed, and a range lies within them. They aren't checked as a whole: of bytes that are the key of
+ * no value a call says VIZHONIKU_NO_KEY, or finds something in them. The keys of binary data, dates, times and
+ * intervals, which no text has, are none here. Where the status isn't VIZHONIKU_ACCEPTED, what a call writes to is 0. */
 
 /* The kind of a value. */
 enum vizhoniku_kind {
@@ -195,12 +196,59 @@ enum vizhoniku_kind {
 /* Returns the kind of the value whose key this is, of enum vizhoniku_kind. It looks at the first byte alone. */
 uint32_t vizhoniku_key_kind(const unsigned char *key, size_t key_size);
 
-/* Counts the items of an array, or the members of an object.
- *
- *  - VIZHONIKU_ACCEPTED: *count is their number.
- *  - VIZHONIKU_NO_PART: the value is neither. *count is 0.
- *  - VIZHONIKU_NO_KEY: *count is 0. */
+/* Counts the items of an array, or the members of an object. VIZHONIKU_NO_PART: the value is neither. */
 uint32_t vizhoniku_key_count(const unsigned char *key, size_t key_size, size_t *count);
+
+/* Finds the member of an object by its name, which is UTF-8 as it is, with no escapes. VIZHONIKU_NO_PART: the value is
+ * no object, or has no such member. */
+uint32_t vizhoniku_key_member(const unsigned char *key, size_t key_size, const unsigned char *name, size_t name_size,
+                              size_t *offset, size_t *size);
+
+/* Finds the item of an array by its index, from 0 on; a negative one counts from the end, where -1 is the last item.
+ * VIZHONIKU_NO_PART: the value is no array, or has no such item. */
+uint32_t vizhoniku_key_item(const unsigned char *key, size_t key_size, int64_t index, size_t *offset, size_t *size);
+
+/* Finds the part at the path, a JSON Pointer (RFC 6901), as vizhoniku_part does in a text. VIZHONIKU_NO_PART,
+ * VIZHONIKU_NO_PATH and VIZHONIKU_OUT_OF_MEMORY are as there; memory is taken for the names of the path alone. */
+uint32_t vizhoniku_key_part(const unsigned char *key, size_t key_size, const unsigned char *path, size_t path_size,
+                            size_t *offset, size_t *size);
+
+/* Which item or member of an array or an object comes next. It is the caller's, and may be copied. */
+struct vizhoniku_key_cursor {
+  uint32_t kind; /* VIZHONIKU_ARRAY or VIZHONIKU_OBJECT */
+  size_t offset;
+};
+
+/* Where in a key an item stands, or a member: its name, and its value. An item has no name: name_size is 0. */
+struct vizhoniku_key_entry {
+  size_t name_offset;
+  size_t name_size; /* with the two bytes that end a name; vizhoniku_key_name has the name itself */
+  size_t offset;
+  size_t size;
+};
+
+/* Puts the cursor before the first item or member. VIZHONIKU_NO_PART: the value is neither an array nor an object. */
+uint32_t vizhoniku_key_begin(const unsigned char *key, size_t key_size, struct vizhoniku_key_cursor *cursor);
+
+/* Tells where the next item or member stands, in the order of the array or of the names' bytes, and moves the cursor
+ * behind it. The key is that of vizhoniku_key_begin. VIZHONIKU_NO_PART: there is none any more. The cursor stays where
+ * it is then, and with VIZHONIKU_NO_KEY. */
+uint32_t vizhoniku_key_next(const unsigned char *key, size_t key_size, struct vizhoniku_key_cursor *cursor,
+                            struct vizhoniku_key_entry *entry);
+
+/* Writes the text of a string, from its key, to the start of the buffer: UTF-8 as it is, without quotes and escapes, in
+ * which there may be zero bytes.
+ *
+ *  - VIZHONIKU_ACCEPTED: *size bytes were written, with no zero byte after them. The rest of the buffer is as before.
+ *  - VIZHONIKU_TOO_SHORT: *size bytes are needed, and nothing was written. The key is always longer than its text.
+ *  - VIZHONIKU_NO_PART: the value is no string. *size is 0, and nothing was written.
+ *  - VIZHONIKU_NO_KEY: *size is 0, and nothing was written. */
+uint32_t vizhoniku_key_string(const unsigned char *key, size_t key_size, unsigned char *buffer, size_t buffer_size,
+                              size_t *size);
+
+/* Writes the name of a member, from its range in a key, as vizhoniku_key_string writes the text of a string. */
+uint32_t vizhoniku_key_name(const unsigned char *name, size_t name_size, unsigned char *buffer, size_t buffer_size,
+                            size_t *size);
 
 #ifdef __cplusplus
 }

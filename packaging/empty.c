@@ -25,6 +25,18 @@ uint32_t proved_message(uint32_t mode, const unsigned char *text, size_t text_si
                         size_t buffer_size, size_t *size);
 uint32_t proved_key_kind(const unsigned char *key, size_t key_size);
 uint32_t proved_key_count(const unsigned char *key, size_t key_size, size_t *count);
+uint32_t proved_key_member(const unsigned char *key, size_t key_size, const unsigned char *name, size_t name_size,
+                           size_t *offset, size_t *size);
+uint32_t proved_key_item(const unsigned char *key, size_t key_size, int64_t index, size_t *offset, size_t *size);
+uint32_t proved_key_part(const unsigned char *key, size_t key_size, const unsigned char *path, size_t path_size,
+                         size_t *offset, size_t *size);
+uint32_t proved_key_begin(const unsigned char *key, size_t key_size, struct vizhoniku_key_cursor *cursor);
+uint32_t proved_key_next(const unsigned char *key, size_t key_size, struct vizhoniku_key_cursor *cursor,
+                         struct vizhoniku_key_entry *entry);
+uint32_t proved_key_string(const unsigned char *key, size_t key_size, unsigned char *buffer, size_t buffer_size,
+                           size_t *size);
+uint32_t proved_key_name(const unsigned char *name, size_t name_size, unsigned char *buffer, size_t buffer_size,
+                         size_t *size);
 
 static unsigned char none;
 
@@ -90,4 +102,37 @@ uint32_t vizhoniku_key_kind(const unsigned char *key, size_t key_size) {
 
 uint32_t vizhoniku_key_count(const unsigned char *key, size_t key_size, size_t *count) {
   return proved_key_count(bytes_at(key, key_size), key_size, count);
+}
+
+uint32_t vizhoniku_key_member(const unsigned char *key, size_t key_size, const unsigned char *name, size_t name_size,
+                              size_t *offset, size_t *size) {
+  return proved_key_member(bytes_at(key, key_size), key_size, bytes_at(name, name_size), name_size, offset, size);
+}
+
+uint32_t vizhoniku_key_item(const unsigned char *key, size_t key_size, int64_t index, size_t *offset, size_t *size) {
+  return proved_key_item(bytes_at(key, key_size), key_size, index, offset, size);
+}
+
+uint32_t vizhoniku_key_part(const unsigned char *key, size_t key_size, const unsigned char *path, size_t path_size,
+                            size_t *offset, size_t *size) {
+  return proved_key_part(bytes_at(key, key_size), key_size, bytes_at(path, path_size), path_size, offset, size);
+}
+
+uint32_t vizhoniku_key_begin(const unsigned char *key, size_t key_size, struct vizhoniku_key_cursor *cursor) {
+  return proved_key_begin(bytes_at(key, key_size), key_size, cursor);
+}
+
+uint32_t vizhoniku_key_next(const unsigned char *key, size_t key_size, struct vizhoniku_key_cursor *cursor,
+                            struct vizhoniku_key_entry *entry) {
+  return proved_key_next(bytes_at(key, key_size), key_size, cursor, entry);
+}
+
+uint32_t vizhoniku_key_string(const unsigned char *key, size_t key_size, unsigned char *buffer, size_t buffer_size,
+                              size_t *size) {
+  return proved_key_string(bytes_at(key, key_size), key_size, buffer_at(buffer, buffer_size), buffer_size, size);
+}
+
+uint32_t vizhoniku_key_name(const unsigned char *name, size_t name_size, unsigned char *buffer, size_t buffer_size,
+                            size_t *size) {
+  return proved_key_name(bytes_at(name, name_size), name_size, buffer_at(buffer, buffer_size), buffer_size, size);
 }

@@ -1,5 +1,5 @@
 /* Makes calls whose answers main.c doesn't show: an unknown mode, buffers of several sizes, parts and their paths, sort
- * keys, both at once, and null pointers of size 0. Each prints a line. */
+ * keys, both at once, parts of sort keys, and null pointers of size 0. Each prints a line. */
 #include <stdio.h>
 #include <string.h>
 
@@ -84,7 +84,141 @@ static void write_key_text(const unsigned char *key, size_t key_size, size_t buf
   printf("text of a key: status %u size %zu buffer %.16s\n", (unsigned)status, size, (char *)buffer);
 }
 
-/* A null pointer of size 0 is an empty text, path, key or buffer. */
+/* The sort key of a text, whose parts the functions below find. */
+static unsigned char key[200];
+static size_t key_size;
+
+static void make_key(const char *text) {
+  struct vizhoniku_refusal refusal;
+  uint32_t status = vizhoniku_sort_key(VIZHONIKU_EXTENDED, BYTES(text), key, sizeof key, &key_size, &refusal);
+  size_t count = 99;
+  printf("key of %s: status %u size %zu kind %u", text, (unsigned)status, key_size,
+         (unsigned)vizhoniku_key_kind(key, key_size));
+  status = vizhoniku_key_count(key, key_size, &count);
+  printf(" count: status %u %zu\n", (unsigned)status, count);
+}
+
+static void print_range(const char *what, uint32_t status, size_t offset, size_t size) {
+  printf("%s: status %u offset %zu size %zu ", what, (unsigned)status, offset, size);
+  for (size_t i = 0; i < size; i++) printf("%02x", (unsigned)key[offset + i]);
+  printf("\n");
+}
+
+static void find_member(const char *name) {
+  size_t offset = 99, size = 99;
+  uint32_t status = vizhoniku_key_member(key, key_size, BYTES(name), &offset, &size);
+  print_range("member", status, offset, size);
+}
+
+static void find_item(int64_t index) {
+  size_t offset = 99, size = 99;
+  uint32_t status = vizhoniku_key_item(key, key_size, index, &offset, &size);
+  print_range("item", status, offset, size);
+}
+
+static void find_part(const char *path) {
+  size_t offset = 99, size = 99;
+  uint32_t status = vizhoniku_key_part(key, key_size, BYTES(path), &offset, &size);
+  print_range("part", status, offset, size);
+}
+
+static void walk(void) {
+  struct vizhoniku_key_cursor cursor;
+  struct vizhoniku_key_entry entry;
+  unsigned char name[12];
+  size_t name_size;
+  uint32_t status;
+  memset(&cursor, 255, sizeof cursor);
+  status = vizhoniku_key_begin(key, key_size, &cursor);
+  printf("begin: status %u kind %u offset %zu\n", (unsigned)status, (unsigned)cursor.kind, cursor.offset);
+  while (memset(&entry, 255, sizeof entry), status = vizhoniku_key_next(key, key_size, &cursor, &entry), !status) {
+    if (entry.name_size) {
+      status = vizhoniku_key_name(key + entry.name_offset, entry.name_size, name, sizeof name, &name_size);
+      printf("name: status %u size %zu %.*s\n", (unsigned)status, name_size, (int)name_size, (char *)name);
+    }
+    print_range("next", 0, entry.offset, entry.size);
+  }
+  printf("end: status %u cursor %zu entry %zu %zu %zu %zu\n", (unsigned)status, cursor.offset, entry.name_offset,
+         entry.name_size, entry.offset, entry.size);
+}
+
+static void write_string(size_t buffer_size) {
+  unsigned char buffer[12];
+  size_t size = 99;
+  memset(buffer, '.', sizeof buffer);
+  uint32_t status = vizhoniku_key_string(key, key_size, buffer, buffer_size, &size);
+  printf("string: status %u size %zu buffer ", (unsigned)status, size);
+  for (size_t i = 0; i < sizeof buffer; i++) printf("%02x", (unsigned)buffer[i]);
+  printf("\n");
+}
+
+/* Bytes that are no key: each call says so, or finds something within them. */
+static void pass_no_key(void) {
+  static const unsigned char no_keys[][4] = {
+      {0, 0, 0, 0}, {0xD2, 0xD2, 0xD2, 0xD2}, {0xD1, 'a', 0, 2}, {0xD1, 'a', 0, 1}, {0xD0, 'a', 'b', 'c'}, {0xA1, 1, 1, 1}};
+  for (size_t i = 0; i < sizeof no_keys / sizeof no_keys[0]; i++) {
+    struct vizhoniku_key_cursor cursor;
+    struct vizhoniku_key_entry entry;
+    unsigned char buffer[4];
+    size_t offset, size, count;
+    printf("no key: kind %u", (unsigned)vizhoniku_key_kind(no_keys[i], 4));
+    printf(" count %u", (unsigned)vizhoniku_key_count(no_keys[i], 4, &count));
+    printf(" member %u", (unsigned)vizhoniku_key_member(no_keys[i], 4, BYTES("a"), &offset, &size));
+    printf(" item %u", (unsigned)vizhoniku_key_item(no_keys[i], 4, -1, &offset, &size));
+    printf(" part %u", (unsigned)vizhoniku_key_part(no_keys[i], 4, BYTES("/0/0"), &offset, &size));
+    printf(" begin %u", (unsigned)vizhoniku_key_begin(no_keys[i], 4, &cursor));
+    printf(" next %u", (unsigned)vizhoniku_key_next(no_keys[i], 4, &cursor, &entry));
+    cursor.kind = VIZHONIKU_OBJECT;
+    cursor.offset = 5;
+    printf(" past the end %u", (unsigned)vizhoniku_key_next(no_keys[i], 4, &cursor, &entry));
+    printf(" string %u\n", (unsigned)vizhoniku_key_string(no_keys[i], 4, buffer, 4, &size));
+  }
+}
+
+static void find_parts(void) {
+  make_key("{b:[1,-2.5,\"x\"], a:{c:null}, \"~/\":true, \"\":[]}");
+  find_member("a");
+  find_member("b");
+  find_member("~/");
+  find_member("");
+  find_member("aa");
+  find_item(0);
+  find_part("");
+  find_part("/b/1");
+  find_part("/a/c");
+  find_part("/~0~1");
+  find_part("/b/3");
+  find_part("b");
+  write_string(12);
+  walk();
+
+  make_key("[1,-2.5,\"x\"]");
+  find_item(0);
+  find_item(2);
+  find_item(3);
+  find_item(-1);
+  find_item(-3);
+  find_item(-4);
+  find_item(INT64_MAX);
+  find_item(INT64_MIN);
+  find_member("0");
+  find_part("/0");
+  walk();
+
+  make_key("\"x\\u0000\\u00e9\"");
+  write_string(12);
+  write_string(4);
+  write_string(3);
+  write_string(0);
+  find_item(0);
+  find_part("");
+  find_part("/x");
+  walk();
+
+  pass_no_key();
+}
+
+/* A null pointer of size 0 is an empty text, path, name, key or buffer. */
 static void pass_null(uint32_t mode) {
   size_t size = 99, key_size = 99;
   int32_t order = 99;
@@ -109,6 +243,24 @@ static void pass_null(uint32_t mode) {
   printf(" size %zu,", size);
   vizhoniku_place(NULL, 0, &refusal, &place);
   printf(" place %zu %zu %zu\n", place.index, place.line, place.column);
+}
+
+static void pass_null_keys(void) {
+  static const unsigned char object[] = {0xD1, 0, 1, 0x80, 0, 0};
+  struct vizhoniku_key_cursor cursor = {VIZHONIKU_ARRAY, 0};
+  struct vizhoniku_key_entry entry;
+  size_t offset = 99, size = 99, count = 99;
+  printf("null key: kind %u", (unsigned)vizhoniku_key_kind(NULL, 0));
+  printf(" count %u", (unsigned)vizhoniku_key_count(NULL, 0, &count));
+  printf(" member %u", (unsigned)vizhoniku_key_member(NULL, 0, NULL, 0, &offset, &size));
+  printf(" named %u", (unsigned)vizhoniku_key_member(object, sizeof object, NULL, 0, &offset, &size));
+  printf(" offset %zu size %zu", offset, size);
+  printf(" item %u", (unsigned)vizhoniku_key_item(NULL, 0, 0, &offset, &size));
+  printf(" part %u", (unsigned)vizhoniku_key_part(NULL, 0, NULL, 0, &offset, &size));
+  printf(" next %u", (unsigned)vizhoniku_key_next(NULL, 0, &cursor, &entry));
+  printf(" begin %u", (unsigned)vizhoniku_key_begin(NULL, 0, &cursor));
+  printf(" string %u", (unsigned)vizhoniku_key_string(NULL, 0, NULL, 0, &size));
+  printf(" name %u\n", (unsigned)vizhoniku_key_name(NULL, 0, NULL, 0, &size));
 }
 
 int main(void) {
@@ -157,6 +309,9 @@ int main(void) {
   pass_null(VIZHONIKU_STANDARD);
   pass_null(VIZHONIKU_EXTENDED);
   pass_null(2);
+
+  find_parts();
+  pass_null_keys();
 
   printf("version: %u\n", (unsigned)vizhoniku_version());
   return 0;

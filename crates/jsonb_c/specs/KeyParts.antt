@@ -1,12 +1,15 @@
 -- What each status and each out parameter says of a sort key and its parts.
 -- Read for: promises.
-use Rattle.std.specs.Prelude.{◌≡◌, ℕ, List, Option, Some, None}
+use Rattle.std.specs.Prelude.{◌≡◌, ◌⊎◌, ℕ, ◌<◌, List, ◌++◌, length, drop, Option, Some, None}
 use Rattle.jsonb_key.specs.Readable.{IsReadable}
 use Rattle.jsonb_stored.specs.declared.walk.Kind.{Kind}
 use Rattle.jsonb_stored.specs.declared.walk.Kind.TheVariants as kinds
 use Rattle.jsonb_stored.specs.Found.{IsRange}
-use Rattle.jsonb_value.specs.SortKey.{key_of}
-use Rattle.jsonb_value.specs.Tree.{Tree}
+use Rattle.jsonb_stored.specs.Open.{Open, items, members, open_key, IsOpen}
+use Rattle.jsonb_value.specs.SortKey.{key_of, text_key}
+use Rattle.jsonb_value.specs.Tree.{Tree, string, array, object, no_trees, more_trees, no_members, more_members}
+use Rattle.jsonb_c.specs.declared.key.Cursor.{Cursor}
+use Rattle.jsonb_c.specs.declared.key.Entry.{Entry}
 
 -- The bytes are the sort key of the tree of a value of JSON's kinds, with at most 512 arrays and objects nested.
 pub record IsTreeKey (key : List ℕ) (t : Tree) : Type 0 where
@@ -32,3 +35,50 @@ IsCounted None status count = status ≡ 5
 abbrev pub IsFound : List ℕ → Option Tree → ℕ → ℕ → ℕ → Type 0
 IsFound key (Some part) status offset size = (status ≡ 0) × IsRange key offset size (key_of part)
 IsFound key None status offset size = status ≡ 5
+
+-- ---- one part after the other
+
+-- the number of the kind of which this is left
+abbrev pub open_number : Open → ℕ
+open_number (items ts) = 5
+open_number (members ms) = 6
+
+-- The cursor stands in the key where this is left of an array or an object.
+pub record StandsBefore (key : List ℕ) (cursor : Cursor) (left : Open) : Type 0 where
+  pub fits : IsOpen left 511
+  pub kind_is : cursor.kind ≡ open_number left
+  pub before : List ℕ
+  pub stands : key ≡ before ++ open_key left
+  pub offset_is : cursor.offset ≡ length before
+
+-- The status says that the cursor stands before all parts of the value, or that it is neither an array nor an object.
+abbrev pub IsBegun : List ℕ → Tree → ℕ → Cursor → Type 0
+IsBegun key (array ts) status cursor = (status ≡ 0) × StandsBefore key cursor (items ts)
+IsBegun key (object ms) status cursor = (status ≡ 0) × StandsBefore key cursor (members ms)
+IsBegun key t status cursor = status ≡ 5
+
+-- The status says that the first part that is left stands there in the key, and the cursor behind it; or that none is
+-- left. An item has no name.
+abbrev pub IsNextPart : List ℕ → Open → ℕ → Entry → Cursor → Type 0
+IsNextPart key (items no_trees) status entry cursor = status ≡ 5
+IsNextPart key (items (more_trees t ts)) status entry cursor =
+    (status ≡ 0) × (entry.name_size ≡ 0) × IsRange key entry.offset entry.size (key_of t)
+    × StandsBefore key cursor (items ts)
+IsNextPart key (members no_members) status entry cursor = status ≡ 5
+IsNextPart key (members (more_members name t ms)) status entry cursor =
+    (status ≡ 0) × IsRange key entry.name_offset entry.name_size (text_key name)
+    × IsRange key entry.offset entry.size (key_of t) × StandsBefore key cursor (members ms)
+
+-- ---- texts
+
+-- the text of a string
+abbrev pub text_of_tree : Tree → Option (List ℕ)
+text_of_tree (string mark text) = Some text
+text_of_tree t = None
+
+-- The text stands at the front of the buffer, or the buffer is shorter, which the status says; or there is no text.
+abbrev pub IsWritten : Option (List ℕ) → ℕ → ℕ → List ℕ → List ℕ → Type 0
+IsWritten (Some text) status size old new =
+    (size ≡ length text)
+    × (((status ≡ 0) × (new ≡ text ++ drop (length text) old)) ⊎ ((status ≡ 4) × (length old < size)))
+IsWritten None status size old new = status ≡ 5

@@ -3,14 +3,25 @@
 //! Any bytes are safe to pass. What a call answers is promised for the key of a value of JSON's kinds with at most 512
 //! nested arrays and objects; of other bytes it may be `NO_KEY` or any answer within them.
 
-ghost use Rattle.std.specs.Prelude.{◌≡◌, ◌≢◌, ◌⊎◌, ◌≤◌, ◌+◌, ℕ, length, MatchResult, MatchOption};
-ghost use Rattle.jsonb_c.specs.KeyParts.{kind_number, IsCounted, IsFound, IsTreeKey};
-ghost use Rattle.jsonb_stored.specs.Found.{count_of};
+ghost use Rattle.std.specs.Prelude.{◌≡◌, ◌≢◌, ◌⊎◌, ◌<◌, ◌≤◌, ◌+◌, ◌∷◌, ℕ, List, length, Option, None, Some, MatchResult, MatchOption, IfOk, IfSome, if◌then◌else◌};
+ghost use Rattle.jsonb_c.specs.Interface.{IsNoPath};
+ghost use Rattle.jsonb_c.specs.KeyParts.{kind_number, text_of_tree, IsBegun, IsCounted, IsFound, IsNextPart, IsTreeKey, IsWritten, StandsBefore};
+ghost use Rattle.jsonb_pointer.specs.Path.{IsPath, StartsKey};
+ghost use Rattle.jsonb_stored.specs.Found.{count_of, item_from, Finds, IsRange};
+ghost use Rattle.jsonb_stored.specs.Open.{Open};
 ghost use Rattle.jsonb_stored.specs.Parts.{kind_of_tree};
+ghost use Rattle.jsonb_value.specs.Accessors.{get_by_name};
+ghost use Rattle.jsonb_value.specs.SortKey.{key_of, text_key};
 ghost use Rattle.jsonb_value.specs.Tree.{Tree};
+ghost use Rattle.jsonb_write.specs.PartAt.{part_at};
 
-use crate::{ACCEPTED, NO_KEY, NO_PART};
-use jsonb_stored::{Kind, NoKey, count_parts, kind_of};
+use crate::{ACCEPTED, NO_KEY, NO_PART, NO_PATH, OUT_OF_MEMORY, TOO_SHORT};
+use jsonb_pointer::read_keys;
+use jsonb_stored::{
+    Kind, NoKey, count_parts, find_item, find_member, find_part, kind_of, next_part, opened,
+    put_text, range_of, text_of_string, text_size,
+};
+use std::alloc::Global;
 
 /// No kind: the bytes aren't a sort key of a value of JSON's kinds.
 pub const NO_KIND: u32 = 0;
@@ -75,4 +86,337 @@ pub extern "C" fn vizhoniku_key_count(key: &[u8], count: &mut usize) -> u32
             NO_KEY
         }
     }
+}
+
+/// Where in a sort key the member of that name stands: the range of its value, which is the key of that.
+#[unsafe(no_mangle)]
+pub extern "C" fn vizhoniku_key_member(
+    key: &[u8],
+    name: &[u8],
+    offset: &mut usize,
+    size: &mut usize,
+) -> u32
+    ensures status { (result ≡ ACCEPTED) ⊎ (result ≡ NO_PART) ⊎ (result ≡ NO_KEY) }
+
+    // The range is that of the member of the name, and there is none where the value has none.
+    ensures found { (t : Tree) → IsTreeKey key.now t
+        → IsFound key.now (get_by_name name.now t) result offset.new size.new }
+
+    // Of any bytes the range lies within them, and it is empty where nothing is found.
+    ensures within { offset.new + size.new ≤ length key.now }
+    ensures no_range { result ≢ ACCEPTED → (offset.new ≡ 0) × (size.new ≡ 0) }
+{
+    tell_range(key, find_member(key, name), offset, size)
+}
+
+/// Where in a sort key the item of that index stands: its range, which is the key of it. A negative index counts from
+/// the end, where -1 is the last item.
+#[unsafe(no_mangle)]
+pub extern "C" fn vizhoniku_key_item(
+    key: &[u8],
+    index: i64,
+    offset: &mut usize,
+    size: &mut usize,
+) -> u32
+    ensures status { (result ≡ ACCEPTED) ⊎ (result ≡ NO_PART) ⊎ (result ≡ NO_KEY) }
+
+    // The range is that of the item of the index, and there is none where the value has none.
+    ensures found { (t : Tree) → IsTreeKey key.now t
+        → IsFound key.now (item_from index t) result offset.new size.new }
+
+    // Of any bytes the range lies within them, and it is empty where nothing is found.
+    ensures within { offset.new + size.new ≤ length key.now }
+    ensures no_range { result ≢ ACCEPTED → (offset.new ≡ 0) × (size.new ≡ 0) }
+{
+    tell_range(key, find_item(key, index), offset, size)
+}
+
+/// Where in a sort key the part at the path stands, a JSON Pointer (RFC 6901): its range, which is the key of it.
+#[unsafe(no_mangle)]
+pub extern "C" fn vizhoniku_key_part(
+    alloc: Global,
+    key: &[u8],
+    path: &[u8],
+    offset: &mut usize,
+    size: &mut usize,
+) -> u32
+    ensures status { (result ≡ ACCEPTED) ⊎ (result ≡ OUT_OF_MEMORY) ⊎ (result ≡ NO_PART) ⊎ (result ≡ NO_PATH)
+        ⊎ (result ≡ NO_KEY) }
+
+    // The range is that of the part at the path, and there is none where the value has none.
+    ensures found { (t : Tree) → IsTreeKey key.now t → (names : List (List ℕ)) → IsPath path.now names
+        → (result ≡ OUT_OF_MEMORY) ⊎ IsFound key.now (part_at names t) result offset.new size.new }
+
+    // What is wrong with a path is told, unless memory ran out.
+    ensures no_path { result ≡ NO_PATH → IsNoPath path.now }
+    ensures wrong_path { IsNoPath path.now → (result ≡ NO_PATH) ⊎ (result ≡ OUT_OF_MEMORY) }
+    ensures memory { result ≡ OUT_OF_MEMORY → StartsKey path.now }
+
+    // Of any bytes the range lies within them, and it is empty where nothing is found.
+    ensures within { offset.new + size.new ≤ length key.now }
+    ensures no_range { result ≢ ACCEPTED → (offset.new ≡ 0) × (size.new ≡ 0) }
+{
+    match read_keys(alloc, path) {
+        Ok(Some(names)) => tell_range(key, find_part(key, &names), offset, size),
+        Ok(None) => {
+            *offset = 0;
+            *size = 0;
+            NO_PATH
+        }
+        Err(_) => {
+            *offset = 0;
+            *size = 0;
+            OUT_OF_MEMORY
+        }
+    }
+}
+
+// Tells where in the key a part stands, and gives the status of that.
+fn tell_range(
+    key: &[u8],
+    found: Result<Option<&[u8]>, NoKey>,
+    offset: &mut usize,
+    size: &mut usize,
+) -> u32
+    ensures status { (result ≡ ACCEPTED) ⊎ (result ≡ NO_PART) ⊎ (result ≡ NO_KEY) }
+    ensures found { (part : Option Tree) → Finds key.now part found.entry
+        → IsFound key.now part result offset.new size.new }
+    ensures within { offset.new + size.new ≤ length key.now }
+    ensures no_range { result ≢ ACCEPTED → (offset.new ≡ 0) × (size.new ≡ 0) }
+{
+    match place(key, found) {
+        Ok(Some((at, len))) => {
+            *offset = at;
+            *size = len;
+            ACCEPTED
+        }
+        Ok(None) => {
+            *offset = 0;
+            *size = 0;
+            NO_PART
+        }
+        Err(NoKey) => {
+            *offset = 0;
+            *size = 0;
+            NO_KEY
+        }
+    }
+}
+
+// The range of a part that was found.
+fn place(key: &[u8], found: Result<Option<&[u8]>, NoKey>) -> Result<Option<(usize, usize)>, NoKey>
+    ensures found { (part : Option Tree) → Finds key.now part found.entry
+        → MatchResult result (λ answer. MatchOption answer (part ≡ None)
+        (λ r. (t : Tree) × (part ≡ Some t) × IsRange key.now r.0 r.1 (key_of t))) (λ e. ⊥) }
+    ensures within { IfOk result (λ answer. IfSome answer (λ r. r.0 + r.1 ≤ length key.now)) }
+{
+    let Some(part) = found? else {
+        return Ok(None);
+    };
+    let range = range_of(key, part)?;
+    Ok(Some(range))
+}
+
+/// Where the next item or member begins in a sort key, and which of the two: `ARRAY` or `OBJECT`.
+#[repr(C)]
+#[derive(Clone, Copy)]
+pub struct Cursor {
+    pub kind: u32,
+    pub offset: usize,
+}
+
+/// Where in a sort key the name of a member stands, as a text, and where its value does, or an item. An item has no
+/// name, and the size of that is 0.
+#[repr(C)]
+#[derive(Clone, Copy)]
+pub struct Entry {
+    pub name_offset: usize,
+    pub name_size: usize,
+    pub offset: usize,
+    pub size: usize,
+}
+
+const NO_CURSOR: Cursor = Cursor { kind: 0, offset: 0 };
+
+const NO_ENTRY: Entry = Entry {
+    name_offset: 0,
+    name_size: 0,
+    offset: 0,
+    size: 0,
+};
+
+/// Puts the cursor before all items or members of a sort key.
+#[unsafe(no_mangle)]
+pub extern "C" fn vizhoniku_key_begin(key: &[u8], cursor: &mut Cursor) -> u32
+    ensures status { (result ≡ ACCEPTED) ⊎ (result ≡ NO_PART) ⊎ (result ≡ NO_KEY) }
+
+    // The cursor stands before all parts of the value, and a scalar has none.
+    ensures begun { (t : Tree) → IsTreeKey key.now t → IsBegun key.now t result cursor.new }
+    ensures no_cursor { result ≢ ACCEPTED → cursor.new ≡ NO_CURSOR }
+{
+    match opened(key) {
+        Ok(Some(parts)) => {
+            *cursor = Cursor {
+                kind: kind_of_parts(parts.0),
+                offset: 1,
+            };
+            ACCEPTED
+        }
+        Ok(None) => {
+            *cursor = NO_CURSOR;
+            NO_PART
+        }
+        Err(NoKey) => {
+            *cursor = NO_CURSOR;
+            NO_KEY
+        }
+    }
+}
+
+// The number of the kind that has these parts.
+fn kind_of_parts(object: bool) -> u32
+    ensures { result ≡ (if object then OBJECT else ARRAY) }
+{
+    if object { OBJECT } else { ARRAY }
+}
+
+/// Tells where the item or the member stands at the cursor, and moves the cursor behind it.
+#[unsafe(no_mangle)]
+pub extern "C" fn vizhoniku_key_next(key: &[u8], cursor: &mut Cursor, entry: &mut Entry) -> u32
+    ensures status { (result ≡ ACCEPTED) ⊎ (result ≡ NO_PART) ⊎ (result ≡ NO_KEY) }
+
+    // The first part that is left is told, and the cursor stands before the others; or none is left.
+    ensures next { (left : Open) → StandsBefore key.now cursor.old left
+        → IsNextPart key.now left result entry.new cursor.new }
+
+    // Of any bytes and any cursor the ranges lie within the bytes, and the cursor moves only where a part is told.
+    ensures name_within { entry.new.name_offset + entry.new.name_size ≤ length key.now }
+    ensures within { entry.new.offset + entry.new.size ≤ length key.now }
+    ensures still { result ≢ ACCEPTED → (cursor.new ≡ cursor.old) × (entry.new ≡ NO_ENTRY) }
+    ensures further { result ≡ ACCEPTED → cursor.old.offset < cursor.new.offset }
+{
+    match next_entry(key, *cursor) {
+        Ok(Some(told)) => {
+            *entry = told.0;
+            *cursor = told.1;
+            ACCEPTED
+        }
+        Ok(None) => {
+            *entry = NO_ENTRY;
+            NO_PART
+        }
+        Err(NoKey) => {
+            *entry = NO_ENTRY;
+            NO_KEY
+        }
+    }
+}
+
+// Where the item or the member stands at the cursor, and the cursor behind it.
+fn next_entry(key: &[u8], cursor: Cursor) -> Result<Option<(Entry, Cursor)>, NoKey>
+    ensures next { (left : Open) → StandsBefore key.now cursor left
+        → MatchResult result (λ answer. MatchOption answer
+        ((entry : Entry) → (behind : Cursor) → IsNextPart key.now left NO_PART entry behind)
+        (λ told. IsNextPart key.now left ACCEPTED told.0 told.1)) (λ e. ⊥) }
+    ensures name_within { IfOk result (λ answer. IfSome answer
+        (λ told. told.0.name_offset + told.0.name_size ≤ length key.now)) }
+    ensures within { IfOk result (λ answer. IfSome answer (λ told. told.0.offset + told.0.size ≤ length key.now)) }
+    ensures further { IfOk result (λ answer. IfSome answer (λ told. cursor.offset < told.1.offset)) }
+{
+    if cursor.kind != ARRAY && cursor.kind != OBJECT {
+        return Err(NoKey);
+    }
+    if cursor.offset > key.len() {
+        return Err(NoKey);
+    }
+    let (_, left) = key.split_at(cursor.offset);
+    let Some((value, others)) = next_part(cursor.kind == OBJECT, left)? else {
+        return Ok(None);
+    };
+    let entry = Entry {
+        name_offset: cursor.offset,
+        name_size: left.len() - value.len(),
+        offset: key.len() - value.len(),
+        size: value.len() - others.len(),
+    };
+    let behind = Cursor {
+        kind: cursor.kind,
+        offset: key.len() - others.len(),
+    };
+    Ok(Some((entry, behind)))
+}
+
+/// Writes the text of a string's sort key to the start of `out`, and its size to `size`. Where `out` is too short, it
+/// stays as it is, and `size` is what is needed.
+#[unsafe(no_mangle)]
+pub extern "C" fn vizhoniku_key_string(key: &[u8], out: &mut [u8], size: &mut usize) -> u32
+    ensures status { (result ≡ ACCEPTED) ⊎ (result ≡ TOO_SHORT) ⊎ (result ≡ NO_PART) ⊎ (result ≡ NO_KEY) }
+
+    // What is written is the text of the string, and a value of another kind has none.
+    ensures written { (t : Tree) → IsTreeKey key.now t
+        → IsWritten (text_of_tree t) result size.new out.old out.new }
+    ensures untouched { result ≢ ACCEPTED → out.new ≡ out.old }
+    ensures no_size { result ≢ ACCEPTED → result ≢ TOO_SHORT → size.new ≡ 0 }
+{
+    let kind = kind_number(kind_of(key));
+    if kind == STRING {
+        return write_string(key, out, size);
+    }
+    *size = 0;
+    if kind == NO_KIND {
+        return NO_KEY;
+    }
+    NO_PART
+}
+
+// Writes the text of a string's key.
+fn write_string(key: &[u8], out: &mut [u8], size: &mut usize) -> u32
+    ensures status { (result ≡ ACCEPTED) ⊎ (result ≡ TOO_SHORT) ⊎ (result ≡ NO_KEY) }
+    ensures written { (text : List ℕ) → key.now ≡ 0xD0 ∷ text_key text
+        → IsWritten (Some text) result size.new out.old out.new }
+    ensures untouched { result ≢ ACCEPTED → out.new ≡ out.old }
+    ensures no_size { result ≢ ACCEPTED → result ≢ TOO_SHORT → size.new ≡ 0 }
+{
+    match text_of_string(key) {
+        Some(text) => write_text(text, out, size),
+        None => {
+            *size = 0;
+            NO_KEY
+        }
+    }
+}
+
+/// Writes the text of a member's name, as it stands in a sort key, to the start of `out`, and its size to `size`. Where
+/// `out` is too short, it stays as it is, and `size` is what is needed.
+#[unsafe(no_mangle)]
+pub extern "C" fn vizhoniku_key_name(name: &[u8], out: &mut [u8], size: &mut usize) -> u32
+    ensures status { (result ≡ ACCEPTED) ⊎ (result ≡ TOO_SHORT) ⊎ (result ≡ NO_KEY) }
+
+    // What is written is the text of the name.
+    ensures written { (text : List ℕ) → name.now ≡ text_key text
+        → IsWritten (Some text) result size.new out.old out.new }
+    ensures untouched { result ≢ ACCEPTED → out.new ≡ out.old }
+    ensures no_size { result ≢ ACCEPTED → result ≢ TOO_SHORT → size.new ≡ 0 }
+{
+    write_text(name, out, size)
+}
+
+// Writes the text whose key this is.
+fn write_text(key: &[u8], out: &mut [u8], size: &mut usize) -> u32
+    ensures status { (result ≡ ACCEPTED) ⊎ (result ≡ TOO_SHORT) ⊎ (result ≡ NO_KEY) }
+    ensures written { (text : List ℕ) → key.now ≡ text_key text
+        → IsWritten (Some text) result size.new out.old out.new }
+    ensures untouched { result ≢ ACCEPTED → out.new ≡ out.old }
+    ensures no_size { result ≢ ACCEPTED → result ≢ TOO_SHORT → size.new ≡ 0 }
+{
+    let Some(needed) = text_size(key) else {
+        *size = 0;
+        return NO_KEY;
+    };
+    *size = needed;
+    if out.len() < needed {
+        return TOO_SHORT;
+    }
+    put_text(key, out);
+    ACCEPTED
 }
