@@ -6,3 +6,4 @@ pub mod Wholes
 pub mod Signs
 pub mod FirstBytes
 pub mod Decoded
+pub mod Exact

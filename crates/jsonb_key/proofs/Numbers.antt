@@ -11,28 +11,31 @@ use Rattle.jsonb_key.specs.Reading.{place_of, read_as, IsDigits, IsLastPair, IsN
 
 -- ---- the place
 
-turned_twice : (negative : Bool) (byte : ℕ) → byte < 256 → turned negative (turned negative byte) ≡ byte
+pub turned_twice : (negative : Bool) (byte : ℕ) → byte < 256 → turned negative (turned negative byte) ≡ byte
 turned_twice false byte h = refl
 turned_twice true byte h = omega (arith, h)
 
-far_place : (place : ℕ) → place < 225 → place_key place ≡ 129 ∷ place ∷ []
+pub far_place : (place : ℕ) → place < 225 → place_key place ≡ 129 ∷ place ∷ []
 unfolding place_key
 far_place place h = cond-true (nat_lt place 225) _ _ (lt-ltb place 225 h)
 
-near_place : (place : ℕ) → 225 ≤ place → place_key place ≡ (place - 95) ∷ []
+pub near_place : (place : ℕ) → 225 ≤ place → place_key place ≡ (place - 95) ∷ []
 unfolding place_key
 near_place place h = cond-false (nat_lt place 225) _ _ (le-ltb place 225 h)
 
 far_read : (negative : Bool) (place : ℕ) (more : List ℕ) → place < 225 → place_of negative (turned negative 129 ∷ turned negative place ∷ more) ≡ read_as place more
 far_read negative place more h =
+    let twice = turned_twice negative place (omega (arith, h)) in
     cond-true (turned negative (turned negative 129) == 129) _ _ (eq-eqb (turned negative (turned negative 129)) 129 (turned_twice negative 129 (omega arith)))
-    ∙ ap (λ p. read_as p more) (turned_twice negative place (omega (arith, h)))
+    ∙ cond-true (nat_lt (turned negative (turned negative place)) 225) _ _ (lt-ltb (turned negative (turned negative place)) 225 (omega (arith, twice, h)))
+    ∙ ap (λ p. read_as p more) twice
 
 near_read : (negative : Bool) (place : ℕ) (more : List ℕ) → 225 ≤ place → place < 351 → place_of negative (turned negative (place - 95) ∷ more) ≡ read_as place more
 near_read negative place more h high =
     let twice = turned_twice negative (place - 95) (omega (arith, h, high)) in
     let moved : (place - 95) + 95 ≡ place = omega (arith, h) in
     cond-false (turned negative (turned negative (place - 95)) == 129) _ _ (ne_eqb (turned negative (turned negative (place - 95))) 129 (λ e. absurd (omega (arith, sym twice ∙ e, h))))
+    ∙ cond-false (nat_lt (turned negative (turned negative (place - 95))) 130) _ _ (le-ltb (turned negative (turned negative (place - 95))) 130 (omega (arith, twice, h)))
     ∙ ap (λ p. read_as (p + 95) more) twice ∙ ap (λ p. read_as p more) moved
 
 pub place_read : (negative : Bool) (place : ℕ) (more : List ℕ) → place < 351 → place_of negative (map (turned negative) (place_key place) ++ more) ≡ read_as place more
@@ -194,13 +197,12 @@ pair_fits M digits (suc (suc left)) tail pair whole last some single high h =
     too_many (inl k) all = absurd (omega (arith, k, all, high))
     too_many (inr k) all = absurd (omega (arith, k.1, all, high))
 
--- the last pair is none of zeros
-pub no_zeros : (tail pair power : ℕ) → tail * 100 ≡ pair * power → 0 < tail → tail < power → pair % 100 ≡ 0 → ⊥
-no_zeros tail zero power e some below zeros = absurd (omega (arith, e, some))
-no_zeros tail (suc pair) power e some below zeros = elim (cases_lt (suc pair) 100) [
-  | inl small ↦ absurd (omega (arith, small, zeros))
-  | inr large ↦ let more : 100 * power ≤ suc pair * power = mul-le-mul_right power large in absurd (omega (arith, e, below, more))
-]
+-- the last pair is none of zeros, and not past 99
+pub no_zeros : (tail pair power : ℕ) → tail * 100 ≡ pair * power → 0 < tail → pair ≡ 0 → ⊥
+no_zeros tail pair power e some none = absurd (omega (arith, e, some, ap (λ p. p * power) none))
+
+no_more : (tail pair power : ℕ) → tail * 100 ≡ pair * power → tail < power → 99 < pair → ⊥
+no_more tail pair power e below large = let more : 100 * power ≤ pair * power = mul-le-mul_right power (omega (arith, large)) in absurd (omega (arith, e, below, more))
 
 -- with a pair that others follow they are less
 pub pair_below_all : (M digits count rest pair left tail : ℕ) → M ≡ digits * 10 ^ left + tail → left ≡ count + 2 → tail ≡ pair * 10 ^ count + rest → (M ≡ (digits * 100 + pair) * 10 ^ count + rest) × (digits * 100 + pair ≤ M)
@@ -232,8 +234,11 @@ module _ (negative : Bool) (bytes : List ℕ) (digits read : ℕ) (rest : List �
   pub last_none : b % 2 ≡ 0 → (pair : ℕ) → pair ≡ b / 2 → IsNoLastPair digits pair → ⊥
   last_none even pair half (inl zeros) =
       let x = at_end even cases in
-      no_zeros here.tail pair (10 ^ here.left) (x.whole ∙ ap (λ p. p * 10 ^ here.left) (sym half)) here.some here.below zeros
-  last_none even pair half (inr h) =
+      no_zeros here.tail pair (10 ^ here.left) (x.whole ∙ ap (λ p. p * 10 ^ here.left) (sym half)) here.some zeros
+  last_none even pair half (inr (inl large)) =
+      let x = at_end even cases in
+      no_more here.tail pair (10 ^ here.left) (x.whole ∙ ap (λ p. p * 10 ^ here.left) (sym half)) here.below large
+  last_none even pair half (inr (inr h)) =
       let x = at_end even cases in
       pair_fits M digits here.left here.tail pair here.whole (x.whole ∙ ap (λ p. p * 10 ^ here.left) (sym half)) x.some (λ one. ap (λ p. p % 10) half ∙ x.single one) high h
 
@@ -243,6 +248,16 @@ module _ (negative : Bool) (bytes : List ℕ) (digits read : ℕ) (rest : List �
         all_digits C M digits read here.left here.tail pair with_pair last here.counted here.whole (x.whole ∙ ap (λ q. q * 10 ^ here.left) (sym half)) x.some (λ one. ap (λ q. q % 10) half ∙ x.single one) some p,
         x.stands,
       )
+
+  pub pair_small : b % 2 ≢ 0 → (pair : ℕ) → pair ≡ b / 2 → pair < 100
+  pair_small odd pair half =
+      let y = going_on odd cases in
+      let power : 10 ^ here.left ≡ 100 * 10 ^ y.count = ap (λ k. 10 ^ k) (y.counted ∙ omega arith) ∙ hundred y.count in
+      let small : b / 2 * 10 ^ y.count < 100 * 10 ^ y.count = omega (arith, here.below, power, y.whole) in
+      elim (cases_lt pair 100) [
+        | inl less ↦ less
+        | inr large ↦ let more : 100 * 10 ^ y.count ≤ pair * 10 ^ y.count = mul-le-mul_right (10 ^ y.count) large in absurd (omega (arith, more, small, ap (λ p. p * 10 ^ y.count) half))
+      ]
 
   pub few_read : b % 2 ≢ 0 → 38 < read → ⊥
   few_read odd many = let y = going_on odd cases in absurd (omega (arith, here.counted, y.counted, few, many))

@@ -40,7 +40,7 @@ pub record IsSigned (n : Num) (sign : Bool) (bytes more : List ℕ) : Type 0 whe
   pub low : place < 351
   pub is_place : place + n.scale ≡ count + 255
   pub below : unsigned_abs n.whole < 10 ^ count
-  pub least : 10 ^ count ≤ 10 * unsigned_abs n.whole
+  pub least : 10 ^ count ≤ unsigned_abs n.whole * 10
   pub some : 0 < unsigned_abs n.whole
   pub few : count ≤ 39
   pub stands : bytes ≡ map (turned sign) (place_key place) ++ (map (turned sign) (digits_key count (unsigned_abs n.whole)) ++ more)

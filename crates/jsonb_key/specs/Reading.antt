@@ -1,6 +1,6 @@
 -- Parts of keys, parsed from left to right.
 -- Read for: private.
-use Rattle.std.specs.Prelude.{◌≡◌, ◌≢◌, ℕ, ◌+◌, ◌*◌, ◌/◌, ◌%◌, ◌^◌, ◌<◌, ◌≤◌, ◌⊎◌, Bool, List, [], ◌∷◌, Option, Some, None, if◌then◌else◌, ◌==◌, unsigned_abs}
+use Rattle.std.specs.Prelude.{◌≡◌, ◌≢◌, ℕ, ◌+◌, ◌*◌, ◌/◌, ◌%◌, ◌^◌, ◌<◌, ◌≤◌, ◌⊎◌, Bool, List, [], ◌∷◌, Option, Some, None, if◌then◌else◌, ◌==◌, nat_lt, unsigned_abs}
 use Rattle.jsonb_value.specs.Owned.{owned}
 use Rattle.jsonb_value.specs.Proper.{IsProper}
 use Rattle.jsonb_value.specs.SortKey.{turned}
@@ -43,24 +43,29 @@ read_as n rest = Some (n, rest)
 
 -- The digits with the pair behind them, of which `read` are taken: one digit where the second is 0.
 pub record IsLastPair (digits pair with_pair read : ℕ) : Type 0 where
+  pub below : pair < 100
+  pub taken : ((read ≡ 2) × (with_pair ≡ digits * 100 + pair))
+      ⊎ ((read ≡ 1) × (pair % 10 ≡ 0) × (with_pair ≡ digits * 10 + pair / 10))
   pub whole : with_pair * 100 ≡ (digits * 100 + pair) * 10 ^ read
   pub few : read ≤ 2
   pub one : pair % 10 ≡ 0 → read ≡ 1
   pub not_zero : with_pair % 10 ≢ 0
 
--- The pair is of zeros, or the digits with it don't fit 128 bits.
+-- The pair is of zeros or no pair, or the digits with it don't fit 128 bits.
 abbrev pub IsNoLastPair : ℕ → ℕ → Type 0
 IsNoLastPair digits pair =
-    (pair % 100 ≡ 0) ⊎ (2 ^ 128 ≤ digits * 10 + pair / 10)
+    (pair ≡ 0) ⊎ (99 < pair) ⊎ (2 ^ 128 ≤ digits * 10 + pair / 10)
     ⊎ ((pair % 10 ≢ 0) × (2 ^ 128 ≤ digits * 100 + pair))
 
--- the second byte of a place, and the bytes after it
+-- the second byte of a place, which is -31 or less, and the bytes after it
 abbrev pub second_of : Bool → List ℕ → Option (ℕ × List ℕ)
 second_of negative [] = None
-second_of negative (byte ∷ rest) = read_as (turned negative byte) rest
+second_of negative (byte ∷ rest) =
+    if nat_lt (turned negative byte) 225 then read_as (turned negative byte) rest else None
 
 -- the place of a number's first digit, with 255 added, and the bytes after it
 abbrev pub place_of : Bool → List ℕ → Option (ℕ × List ℕ)
 place_of negative [] = None
 place_of negative (byte ∷ rest) =
-    if turned negative byte == 129 then second_of negative rest else read_as (turned negative byte + 95) rest
+    if turned negative byte == 129 then second_of negative rest
+    else (if nat_lt (turned negative byte) 130 then None else read_as (turned negative byte + 95) rest)

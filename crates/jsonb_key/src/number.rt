@@ -1,12 +1,12 @@
 //! The numbers of sort keys.
 
-ghost use Rattle.std.specs.Prelude.{◌≡◌, ◌≢◌, ◌%◌, ◌+◌, ◌*◌, ◌^◌, ◌<◌, ◌≤◌, ◌++◌, List, ℕ, ℤ, length, map, ◌/◌, ◌⊎◌, false, IfSome, MatchOption, option_map, Some, unsigned_abs};
+ghost use Rattle.std.specs.Prelude.{◌≡◌, ◌≢◌, ◌%◌, ◌+◌, ◌*◌, ◌^◌, ◌<◌, ◌≤◌, ◌++◌, ◌∷◌, List, ℕ, ℤ, length, map, ◌/◌, ◌⊎◌, false, IfSome, IsTrue, IsFalse, MatchOption, option_map, Some, unsigned_abs};
 ghost use Rattle.std.specs.Int.{is_negative};
 ghost use Rattle.jsonb_value.specs.Number.Signed.{signed_by};
 ghost use Rattle.jsonb_value.specs.Order.{num_cmp};
 ghost use Rattle.std.specs.declared.cmp.Ordering.TheVariants.{Equal};
 ghost use Rattle.jsonb_value.specs.Proper.{IsProperNumber};
-ghost use Rattle.jsonb_value.specs.SortKey.{number_key, digits_key, turned};
+ghost use Rattle.jsonb_value.specs.SortKey.{number_key, place_key, digits_key, turned};
 ghost use Rattle.jsonb_value.specs.Tree.{Num};
 ghost use Rattle.jsonb_value.specs.View.{number_view};
 ghost use Rattle.jsonb_key.specs.Readable.{HasFewestDigits};
@@ -18,6 +18,7 @@ use jsonb_value::number::{Decimal64, Decimal128, Number};
 pub fn read_number(bytes: &[u8]) -> Option<(Number, &[u8])>
     ensures found { (n : Num) → IsProperNumber n → (more : List ℕ) → bytes.now ≡ number_key n ++ more
         → MatchOption result ⊥ (λ r. (number_key (number_view r.0) ≡ number_key n) × (r.1.now ≡ more)) }
+    ensures read { IfSome result (λ r. bytes.now ≡ number_key (number_view r.0) ++ r.1.now) }
     ensures shorter { IfSome result (λ r. length r.1.now < length bytes.now) }
     ensures proper { IfSome result (λ r. IsProperNumber (number_view r.0)) }
     ensures fewest { IfSome result (λ r. HasFewestDigits (number_view r.0)) }
@@ -28,6 +29,9 @@ pub fn read_number(bytes: &[u8]) -> Option<(Number, &[u8])>
     }
     let negative = *first < 128;
     let (place, rest) = read_place(negative, bytes)?;
+    if !begins_with_digit(negative, rest) {
+        return None;
+    }
     let (digits, count, rest) = read_digits(negative, rest)?;
     Some((number_of(negative, place, digits, count)?, rest))
 }
@@ -42,22 +46,45 @@ pub fn turned(negative: bool, byte: u8) -> u8
 /// The place of the first digit, with 255 added, and the bytes after it.
 pub fn read_place(negative: bool, bytes: &[u8]) -> Option<(u32, &[u8])>
     ensures place { option_map (λ r. (r.0, r.1.now)) result ≡ place_of negative bytes.now }
+    ensures read { IfSome result (λ r. bytes.now ≡ map (turned negative) (place_key r.0) ++ r.1.now) }
     ensures shorter { IfSome result (λ r. (r.0 < 512) × (length r.1.now < length bytes.now)) }
 {
-    let (byte, rest) = bytes.split_first()?;
-    match turned(negative, *byte) {
-        129 => read_second(negative, rest),
-        byte => Some((u32::from(byte) + 95, rest)),
+    let (first, rest) = bytes.split_first()?;
+    let byte = turned(negative, *first);
+    if byte == 129 {
+        return read_second(negative, rest);
     }
+    if byte < 130 {
+        return None;
+    }
+    Some((u32::from(byte) + 95, rest))
 }
 
-// The same of a place of two bytes, after the first.
+// A place of two bytes, by what follows the first.
 fn read_second(negative: bool, bytes: &[u8]) -> Option<(u32, &[u8])>
     ensures place { option_map (λ r. (r.0, r.1.now)) result ≡ second_of negative bytes.now }
+    ensures read { IfSome result (λ r. (bytes.now ≡ turned negative r.0 ∷ r.1.now) × (r.0 < 225)) }
     ensures shorter { IfSome result (λ r. (r.0 < 512) × (length r.1.now < length bytes.now)) }
 {
-    let (byte, rest) = bytes.split_first()?;
-    Some((u32::from(turned(negative, *byte)), rest))
+    let (second, rest) = bytes.split_first()?;
+    let place = turned(negative, *second);
+    if place >= 225 {
+        return None;
+    }
+    Some((u32::from(place), rest))
+}
+
+// The first digit isn't 0.
+fn begins_with_digit(negative: bool, bytes: &[u8]) -> bool
+    ensures yes { IsTrue result → (first : ℕ) × (rest : List ℕ) × (bytes.now ≡ first ∷ rest)
+        × (20 ≤ turned negative first) }
+    ensures no { IsFalse result → (first : ℕ) → (rest : List ℕ) → bytes.now ≡ first ∷ rest
+        → turned negative first < 20 }
+{
+    match bytes.split_first() {
+        Some((byte, _)) => turned(negative, *byte) >= 20,
+        None => false,
+    }
 }
 
 // The digits as a number, how many they are, and the bytes after them. A zero at the end is left out.
@@ -65,6 +92,8 @@ fn read_digits(negative: bool, bytes: &[u8]) -> Option<(u128, u32, &[u8])>
     ensures found { (count magnitude : ℕ) → magnitude < 10 ^ count → 0 < magnitude → magnitude ≤ 2 ^ 127 → count ≤ 39
         → (more : List ℕ) → bytes.now ≡ map (turned negative) (digits_key count magnitude) ++ more
         → MatchOption result ⊥ (λ r. IsDigits count magnitude r.0 r.1 × (r.2.now ≡ more)) }
+    ensures read { IfSome result (λ r. (bytes.now ≡ map (turned negative) (digits_key r.1 r.0) ++ r.2.now)
+        × (r.0 < 10 ^ r.1)) }
     ensures shorter { IfSome result (λ r. (r.1 < 512) × (length r.2.now < length bytes.now)) }
     ensures fewest { IfSome result (λ r. r.0 % 10 ≢ 0) }
 {
@@ -81,6 +110,9 @@ fn read_digits(negative: bool, bytes: &[u8]) -> Option<(u128, u32, &[u8])>
         if count > 38 {
             return None;
         }
+        if pair > 99 {
+            return None;
+        }
         digits = digits.checked_mul(100)?.checked_add(u128::from(pair))?;
         count += 2;
         rest = others;
@@ -89,11 +121,11 @@ fn read_digits(negative: bool, bytes: &[u8]) -> Option<(u128, u32, &[u8])>
 }
 
 // The digits with the last pair of them, and how many digits of the pair are no zeros at the end. A pair of zeros is
-// no last pair.
+// no last pair, nor is one past 99.
 fn last_pair(digits: u128, pair: u8) -> Option<(u128, u32)>
     ensures { MatchOption result (IsNoLastPair digits pair) (λ r. IsLastPair digits pair r.0 r.1) }
 {
-    if pair % 100 == 0 {
+    if pair == 0 || pair > 99 {
         return None;
     }
     let digits = digits.checked_mul(10)?.checked_add(u128::from(pair / 10))?;
@@ -110,6 +142,9 @@ fn last_pair(digits: u128, pair: u8) -> Option<(u128, u32)>
 fn number_of(negative: bool, place: u32, digits: u128, count: u32) -> Option<Number>
     requires few { (place < 512) × (count < 512) }
     requires fewest { digits % 10 ≢ 0 }
+    requires counted { (digits < 10 ^ count) × (10 ^ count ≤ digits * 10) }
+    ensures key { IfSome result (λ x. number_key (number_view x)
+        ≡ map (turned negative) (place_key place ++ digits_key count digits)) }
     ensures same { (n : Num) → IsProperNumber n → is_negative n.whole ≡ negative → HasParts n place digits count
         → MatchOption result ⊥ (λ x. num_cmp (number_view x) n ≡ Equal) }
     ensures proper { IfSome result (λ x. IsProperNumber (number_view x)) }

@@ -87,7 +87,7 @@ module _ (negative : Bool) (bytes : List ℕ) (count : ℕ) (rest row : List ℕ
         let x = at_end even in
         let small = pair_small in
         let D = here.digits * 100 + b / 2 in
-        let pair : IsLastPair here.digits (b / 2) D 2 = record { whole = omega arith; few = omega arith; one = λ z. absurd (last z); not_zero = λ z. last (omega (arith, z)) } in
+        let pair : IsLastPair here.digits (b / 2) D 2 = record { below = small.1; taken = inl (refl, refl); whole = omega arith; few = omega arith; one = λ z. absurd (last z); not_zero = λ z. last (omega (arith, z)) } in
         let next : suc (suc count) ≡ count + 2 = omega arith in
         let left : 46 - count ≡ 48 - (count + 2) = omega arith in (
           record {
@@ -108,8 +108,8 @@ module _ (negative : Bool) (bytes : List ℕ) (count : ℕ) (rest row : List ℕ
         let x = at_end even in
         let small = pair_small in
         let D = here.digits * 10 + b / 2 / 10 in
-        let some_digit : b / 2 % 100 ≢ 0 = λ z. no_zeros here.left.tail (b / 2) (10 ^ here.left.left) x.whole here.left.some here.left.below z in
-        let pair : IsLastPair here.digits (b / 2) D 1 = record { whole = omega (arith, last); few = omega arith; one = λ z. refl; not_zero = λ z. some_digit (omega (arith, z, small.1, last)) } in
+        let some_digit : b / 2 % 100 ≢ 0 = λ z. no_zeros here.left.tail (b / 2) (10 ^ here.left.left) x.whole here.left.some (omega (arith, z, small.1)) in
+        let pair : IsLastPair here.digits (b / 2) D 1 = record { below = small.1; taken = inr (refl, last, refl); whole = omega (arith, last); few = omega arith; one = λ z. refl; not_zero = λ z. some_digit (omega (arith, z, small.1, last)) } in
         let next : suc count ≡ count + 1 = omega arith in
         let left : suc (46 - count) ≡ 48 - (count + 1) = omega (arith, small.0) in
         let one : ones ≡ 48 = omega (arith, o, last) in (

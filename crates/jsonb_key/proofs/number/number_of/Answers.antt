@@ -6,6 +6,7 @@ use Rattle.std.proofs.lemmas.Int.{to_z-of_z}
 use Rattle.jsonb_value.specs.View.{number_view}
 use Rattle.jsonb_value.proofs.Numbers.Nearest.{unsigned_abs-signed}
 use Rattle.jsonb_key.proofs.Wholes.{most, positive_below, digits_most, up_same, up_most, up_power, down_same, same_number}
+use Rattle.jsonb_key.proofs.Exact.{up_key, down_key, at_most_39}
 use Rattle.jsonb_key.proofs.number.number_of.Goals as goal
 
 pub returns-in_err-power-clause-same : goal.returns-in_err-power-clause-same
@@ -55,3 +56,17 @@ returns-clause-fewest c =
     let fits : FitsSigned w128 c.in_ok-signed.signed = search rules in
     let digits = ap unsigned_abs (c.number_with-2.ensures.whole ∙ to_z-of_z w128 c.in_ok-signed.signed fits ∙ c.in_ok-signed.ensures) ∙ unsigned_abs-signed c.args.negative c.args.digits in
     inr (λ zero. c.requires.fewest (ap (λ x. x % 10) (sym digits) ∙ zero))
+
+pub returns-then-place-unit-clause-key : goal.returns-then-place-unit-clause-key
+returns-then-place-unit-clause-key c =
+    let fits : FitsSigned w128 c.in_ok-whole.whole = search rules in
+    let whole = to_z-of_z w128 c.in_ok-whole.whole fits ∙ c.in_ok-whole.ensures in
+    up_key (number_view c.number_with.result) c.args.negative c.args.digits c.args.count c.args.place c.in_ok-power.power c.in_ok-checked_mul.field-0 c.number_with.ensures.scale (c.number_with.ensures.whole ∙ whole) c.in_ok-checked_mul.ensures.1 c.in_ok-power.ensures.1 c.if-place-unit.true (omega (arith, c.requires.fewest)) c.requires.counted.0 c.requires.counted.1
+    (at_most_39 _ c.args.negative c.in_ok-checked_mul.field-0 fits c.in_ok-whole.ensures)
+
+pub returns-clause-key : goal.returns-clause-key
+returns-clause-key c =
+    let fits : FitsSigned w128 c.in_ok-signed.signed = search rules in
+    let whole = to_z-of_z w128 c.in_ok-signed.signed fits ∙ c.in_ok-signed.ensures in
+    down_key (number_view c.number_with-2.result) c.args.negative c.in_ok-scale.scale c.args.digits c.args.count c.args.place c.number_with-2.ensures.scale (c.number_with-2.ensures.whole ∙ whole) (search rules) (omega (arith, c.if-place-unit.false)) (omega (arith, c.requires.fewest)) c.requires.counted.0 c.requires.counted.1
+    (at_most_39 _ c.args.negative c.args.digits fits c.in_ok-signed.ensures)

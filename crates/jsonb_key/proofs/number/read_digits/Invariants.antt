@@ -1,11 +1,13 @@
 use Rattle.std.proofs.Common.{◌≤◌, length}
 use Rattle.jsonb_key.proofs.Numbers.{ReadsDigits}
+use Rattle.jsonb_key.proofs.Exact.{DigitsRead}
 use Rattle.jsonb_key.proofs.number.read_digits.Given as goal
 
 -- what was read stands before what is left
 abbrev pub invariant-pairs : goal.invariant-pairs
 invariant-pairs l = record {
   reads : ReadsDigits l.negative l.bytes l.digits l.count l.rest;
+  read : DigitsRead l.negative l.bytes l.digits l.count l.rest;
   within : length l.rest ≤ length l.bytes;
   few : l.count ≤ 40;
 }
