@@ -54,7 +54,7 @@ zero_not_last (suc b ∷ left) more rest (suc z) e before zero_at none =
     (sym (ap (λ xs. length (drop (suc (suc z)) xs)) is) ∙ none)
 
 -- there is a zero in the key of each text
-some_zero : (left more rest : List ℕ) → rest ≡ text_key left ++ more → ((k : ℕ) → k < length rest → get_or rest k 0 ≢ 0) → ⊥
+pub some_zero : (left more rest : List ℕ) → rest ≡ text_key left ++ more → ((k : ℕ) → k < length rest → get_or rest k 0 ≢ 0) → ⊥
 some_zero [] more rest e none = absurd (none 0 (omega (arith, ap length e)) (ap (λ xs. get_or xs 0 0) e))
 some_zero (zero ∷ left) more rest e none = absurd (none 0 (omega (arith, ap length e)) (ap (λ xs. get_or xs 0 0) e))
 some_zero (suc b ∷ left) more rest e none =
@@ -64,7 +64,7 @@ some_zero (suc b ∷ left) more rest e none =
 -- ---- one step
 
 -- the byte at that place is a zero
-is_zero : (x : ℕ) → x == 0 ≡ true → x ≡ 0
+pub is_zero : (x : ℕ) → x == 0 ≡ true → x ≡ 0
 is_zero x p = elim (cases_eq x 0) [
   | inl e ↦ e
   | inr ne ↦ absurd (true≢false (sym p ∙ ne_eqb x 0 ne))

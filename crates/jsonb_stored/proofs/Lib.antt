@@ -7,3 +7,9 @@ pub mod Names
 pub mod Finds
 pub mod Standing
 pub mod Strings
+pub mod CheckedTexts
+pub mod Checks
+pub mod CheckedScalars
+pub mod Framed
+pub mod Stacked
+pub mod CheckedNames

@@ -1,3 +1,5 @@
 pub mod Found
+pub mod Checked
+pub mod Frames
 pub mod Open
 pub mod Parts

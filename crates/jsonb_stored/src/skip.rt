@@ -56,7 +56,7 @@ pub fn after_scalar(bytes: &[u8]) -> Option<&[u8]>
 }
 
 // The byte is a whole key: false, true, 0 and null.
-fn is_word(byte: u8) -> bool
+pub(crate) fn is_word(byte: u8) -> bool
     ensures yes { IsTrue result → (byte ≡ 0x15) ⊎ ((byte ≡ 0x16) ⊎ ((byte ≡ 0x80) ⊎ (byte ≡ 0xD3))) }
     ensures no { IsFalse result → (byte ≢ 0x15) × (byte ≢ 0x16) × (byte ≢ 0x80) × (byte ≢ 0xD3) }
 {

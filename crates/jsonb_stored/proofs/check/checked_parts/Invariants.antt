@@ -1,0 +1,13 @@
+use Rattle.std.proofs.Common.{◌≡◌, ◌≤◌, length}
+use Rattle.jsonb_stored.proofs.Stacked.{Left}
+use Rattle.jsonb_stored.proofs.check.checked_parts.Given as goal
+
+abbrev pub invariant-parts : goal.invariant-parts
+invariant-parts l = record {
+  parts : Left l.object l.bytes l.frames l.depth l.rest;
+  deep : l.depth ≤ 512;
+  size : length l.frames ≡ 512;
+}
+
+abbrev pub decreases-parts : goal.decreases-parts
+decreases-parts l = length l.rest

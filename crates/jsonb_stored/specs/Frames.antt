@@ -1,0 +1,88 @@
+-- Keys that bytes begin with, and what is known of an array or an object that is open while a key is checked.
+-- Read for: private.
+use Rattle.std.specs.Prelude.{◌≡◌, ℕ, Bool, true, false, List, ◌++◌, Option, Some, None, length, ⊤, IsUtf8}
+use Rattle.std.specs.Ordering.{nat_cmp}
+use Rattle.std.specs.Cmp.Lexicographic.{slice_cmp}
+use Rattle.std.specs.declared.cmp.Ordering.TheVariants.{Less}
+use Rattle.jsonb_key.specs.Readable.{IsReadable, IsReadableAt}
+use Rattle.jsonb_stored.specs.Open.{Open, is_object, open_key, IsScalar}
+use Rattle.jsonb_stored.specs.Parts.{opened_tree}
+use Rattle.jsonb_value.specs.Proper.{IsProperNumber}
+use Rattle.jsonb_value.specs.SortKey.{key_of, number_key, text_key}
+use Rattle.jsonb_value.specs.Tree.{Num, Tree}
+
+-- The bytes begin with the key of a value, and these stand behind it.
+pub record KeyFirst (bytes more : List ℕ) : Type 0 where
+  pub value : Tree
+  pub readable : IsReadable value
+  pub stands : bytes ≡ key_of value ++ more
+
+-- The same of a value that is no array and no object.
+pub record ScalarFirst (bytes more : List ℕ) : Type 0 where
+  pub value : Tree
+  pub scalar : IsScalar value
+  pub readable : (depth : ℕ) → IsReadableAt depth value
+  pub stands : bytes ≡ key_of value ++ more
+
+-- The same of a number.
+pub record NumberFirst (bytes more : List ℕ) : Type 0 where
+  pub value : Num
+  pub proper : IsProperNumber value
+  pub stands : bytes ≡ number_key value ++ more
+
+-- The same of a text.
+pub record TextFirst (bytes more : List ℕ) : Type 0 where
+  pub text : List ℕ
+  pub utf8 : IsUtf8 text
+  pub stands : bytes ≡ text_key text ++ more
+
+-- The same of an array or an object, behind its first byte.
+pub record PartsFirst (object : Bool) (bytes more : List ℕ) : Type 0 where
+  pub opened : Open
+  pub is : is_object opened ≡ object
+  pub readable : IsReadable (opened_tree opened)
+  pub stands : bytes ≡ open_key opened ++ more
+
+-- an array, or an object with the last name of those that were passed
+pub data Frame : Type 0 where
+  in_array : Frame
+  in_object : Option (List ℕ) → Frame
+
+-- whether it is an object
+abbrev pub is_object_frame : Frame → Bool
+is_object_frame in_array = false
+is_object_frame (in_object last) = true
+
+-- an array or an object of which nothing was passed
+abbrev pub new_frame : Bool → Frame
+new_frame true = in_object None
+new_frame false = in_array
+
+-- the name is above the last one
+abbrev pub IsAbove : Option (List ℕ) → List ℕ → Type 0
+IsAbove None name = ⊤
+IsAbove (Some last) name = slice_cmp nat_cmp last name ≡ Less
+
+-- A name in its place stands first, and these bytes behind it; an item has no name.
+abbrev pub NameFirst : Frame → List ℕ → List ℕ → List ℕ → Type 0
+NameFirst in_array name bytes more = bytes ≡ more
+NameFirst (in_object last) name bytes more = IsAbove last name × IsUtf8 name × (bytes ≡ text_key name ++ more)
+
+-- the frame behind that name
+abbrev pub named : Frame → List ℕ → Frame
+named in_array name = in_array
+named (in_object last) name = in_object (Some name)
+
+-- The bytes end with the key of the name and more, which are so many.
+pub record NameAt (bytes name : List ℕ) (size : ℕ) : Type 0 where
+  pub front : List ℕ
+  pub behind : List ℕ
+  pub stands : bytes ≡ front ++ (text_key name ++ behind)
+  pub is_size : size ≡ length (text_key name ++ behind)
+
+-- The frame by a number: 0 for an array, 1 for an object with no name passed, or how many bytes the last name's key and
+-- all behind it are.
+abbrev pub IsFrame : List ℕ → Frame → ℕ → Type 0
+IsFrame bytes in_array size = size ≡ 0
+IsFrame bytes (in_object None) size = size ≡ 1
+IsFrame bytes (in_object (Some name)) size = NameAt bytes name size

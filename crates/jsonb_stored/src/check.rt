@@ -1,0 +1,219 @@
+//! Whether bytes are a sort key.
+
+ghost use Rattle.std.specs.Prelude.{◌≡◌, ◌<◌, ◌≤◌, ◌++◌, ◌↔◌, List, ℕ, length, option_map, get_or, Some, true, IsTrue, IfSome, IsUtf8, Option};
+ghost use Rattle.jsonb_stored.specs.Checked.{IsSortKey};
+ghost use Rattle.jsonb_stored.specs.Frames.{KeyFirst, ScalarFirst, NumberFirst, TextFirst, PartsFirst, Frame, in_object, is_object_frame, new_frame, IsAbove, NameFirst, named, IsFrame};
+ghost use Rattle.jsonb_value.specs.SortKey.{text_key};
+
+use crate::skip::{MAX_DEPTH, after_end, after_text, is_word, opening};
+use crate::walk::front;
+use jsonb_key::number::read_number;
+use memchr::memchr;
+
+// What is kept of each open array and object: that it is an array, that it is an object with no name passed, or else how
+// many bytes there are from the last name on.
+const ARRAY: usize = 0;
+
+const NO_NAME: usize = 1;
+
+/// Whether the bytes are the sort key of a value of JSON's kinds with at most 512 nested arrays and objects: of those
+/// that `value_of_sort_key` decodes. Nothing is allocated, and no function calls itself.
+pub fn is_sort_key(bytes: &[u8]) -> bool
+    ensures { IsTrue result ↔ IsSortKey bytes.now }
+{
+    match checked_key(bytes) {
+        Some(rest) => rest.is_empty(),
+        None => false,
+    }
+}
+
+// The bytes after the key that they begin with, if it is one.
+fn checked_key(bytes: &[u8]) -> Option<&[u8]>
+    ensures { (more : List ℕ) → option_map (λ rest. rest.now) result ≡ Some more ↔ KeyFirst bytes.now more }
+{
+    let Some((first, rest)) = bytes.split_first() else {
+        return None;
+    };
+    match opening(*first) {
+        Some(object) => checked_parts(object, rest),
+        None => checked_scalar(bytes),
+    }
+}
+
+// The same of a value that is no array and no object.
+fn checked_scalar(bytes: &[u8]) -> Option<&[u8]>
+    ensures found { (more : List ℕ) → option_map (λ rest. rest.now) result ≡ Some more ↔ ScalarFirst bytes.now more }
+    ensures shorter { IfSome result (λ rest. length rest.now < length bytes.now) }
+{
+    let Some((first, rest)) = bytes.split_first() else {
+        return None;
+    };
+    if *first == 0xD0 {
+        return checked_text(rest);
+    }
+    if is_word(*first) {
+        return Some(rest);
+    }
+    checked_number(bytes)
+}
+
+// The same of a number.
+fn checked_number(bytes: &[u8]) -> Option<&[u8]>
+    ensures found { (more : List ℕ) → option_map (λ rest. rest.now) result ≡ Some more ↔ NumberFirst bytes.now more }
+    ensures shorter { IfSome result (λ rest. length rest.now < length bytes.now) }
+{
+    let Some((_, rest)) = read_number(bytes) else {
+        return None;
+    };
+    Some(rest)
+}
+
+// The same of a text.
+fn checked_text(bytes: &[u8]) -> Option<&[u8]>
+    ensures found { (more : List ℕ) → option_map (λ rest. rest.now) result ≡ Some more ↔ TextFirst bytes.now more }
+    ensures shorter { IfSome result (λ rest. length rest.now < length bytes.now) }
+{
+    let mut rest = bytes;
+    'zeros: while let Some(zero) = memchr(0, rest) {
+        let (run, _) = rest.split_at(zero);
+        let (_, tail) = rest.split_at(zero + 1);
+        if !is_utf8(run) {
+            return None;
+        }
+        let Some((mark, others)) = tail.split_first() else {
+            return None;
+        };
+        if *mark == 1 {
+            return Some(others);
+        }
+        if *mark != 255 {
+            return None;
+        }
+        rest = others;
+    }
+    None
+}
+
+fn is_utf8(bytes: &[u8]) -> bool
+    ensures { IsTrue result ↔ IsUtf8 bytes.now }
+{
+    simdutf8::basic::from_utf8(bytes).is_ok()
+}
+
+// The bytes after the parts of an object or an array and after its end, if they are in order.
+fn checked_parts(object: bool, bytes: &[u8]) -> Option<&[u8]>
+    ensures { (more : List ℕ) → option_map (λ rest. rest.now) result ≡ Some more ↔ PartsFirst object bytes.now more }
+{
+    let mut frames = outermost(object);
+    let mut depth: usize = 1;
+    let mut rest = bytes;
+    'parts: loop {
+        let Some(top) = depth.checked_sub(1) else {
+            return Some(rest);
+        };
+        let last = frame_at(&frames, top);
+        if let Some(others) = after_end(is_object(last), rest) {
+            depth = top;
+            rest = others;
+            continue;
+        }
+        let Some(value) = checked_name(bytes, last, rest) else {
+            return None;
+        };
+        frames[top] = with_name(last, rest);
+        let Some((first, others)) = value.split_first() else {
+            return None;
+        };
+        match opening(*first) {
+            Some(inner) => {
+                if depth == MAX_DEPTH {
+                    return None;
+                }
+                frames[depth] = opened(inner);
+                depth += 1;
+                rest = others;
+            }
+            None => {
+                let Some(others) = checked_scalar(value) else {
+                    return None;
+                };
+                rest = others;
+            }
+        }
+    }
+}
+
+// The frame of an array or an object of which nothing was passed.
+fn opened(object: bool) -> usize
+    ensures { (bytes : List ℕ) → IsFrame bytes (new_frame object) result }
+{
+    if object { NO_NAME } else { ARRAY }
+}
+
+// The frames where one is open.
+fn outermost(object: bool) -> [usize; MAX_DEPTH]
+    ensures first { (bytes : List ℕ) → IsFrame bytes (new_frame object) (get_or result 0 0) }
+    ensures size { length result ≡ 512 }
+{
+    let mut frames = [ARRAY; MAX_DEPTH];
+    frames[0] = opened(object);
+    frames
+}
+
+fn frame_at(frames: &[usize; MAX_DEPTH], index: usize) -> usize
+    requires { index < 512 }
+    ensures { result ≡ get_or frames.now index 0 }
+{
+    frames[index]
+}
+
+// Whether the frame is of an object.
+fn is_object(last: usize) -> bool
+    ensures { (bytes : List ℕ) → (f : Frame) → IsFrame bytes f last → result ≡ is_object_frame f }
+{
+    last != ARRAY
+}
+
+// The frame with the name that stands first.
+fn with_name(last: usize, rest: &[u8]) -> usize
+    ensures { (bytes front name more : List ℕ) → (f : Frame) → IsFrame bytes f last → NameFirst f name rest.now more
+        → bytes ≡ front ++ rest.now → IsFrame bytes (named f name) result }
+{
+    if last == ARRAY { ARRAY } else { rest.len() }
+}
+
+// The bytes after the next member's name, if it is in its place. An item has no name.
+fn checked_name<'k>(bytes: &'k [u8], last: usize, rest: &'k [u8]) -> Option<&'k [u8]>
+    ensures found { (f : Frame) → IsFrame bytes.now f last → (more : List ℕ)
+        → option_map (λ value. value.now) result ≡ Some more ↔ ((name : List ℕ) × NameFirst f name rest.now more) }
+    ensures within { IfSome result (λ value. length value.now ≤ length rest.now) }
+{
+    if last == ARRAY {
+        return Some(rest);
+    }
+    let Some(value) = checked_text(rest) else {
+        return None;
+    };
+    if !is_above(bytes, last, front(rest, value)) {
+        return None;
+    }
+    Some(value)
+}
+
+// Whether the name with this key is above the last one.
+fn is_above(bytes: &[u8], last: usize, key: &[u8]) -> bool
+    ensures { (before : Option (List ℕ)) → IsFrame bytes.now (in_object before) last → (name : List ℕ)
+        → key.now ≡ text_key name → IsTrue result ↔ IsAbove before name }
+{
+    if last == NO_NAME {
+        return true;
+    }
+    let Some(start) = bytes.len().checked_sub(last) else {
+        return false;
+    };
+    let (_, earlier) = bytes.split_at(start);
+    let Some(rest) = after_text(earlier) else {
+        return false;
+    };
+    front(earlier, rest).cmp(key).is_lt()
+}
