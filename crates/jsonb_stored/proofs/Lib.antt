@@ -13,3 +13,4 @@ pub mod CheckedScalars
 pub mod Framed
 pub mod Stacked
 pub mod CheckedNames
+pub mod CheckedKeys

@@ -1,5 +1,6 @@
 pub mod Found
 pub mod Checked
 pub mod Frames
+pub mod KeyView
 pub mod Open
 pub mod Parts

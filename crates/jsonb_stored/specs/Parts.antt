@@ -47,6 +47,12 @@ pub record StandsAt (t : Tree) (names : List (List ℕ)) (rest : List ℕ) : Typ
   pub behind : List ℕ
   pub stands : rest ≡ key_of part ++ behind
 
+-- The bytes are the key of the member of that name, or of the item of that index.
+pub record IsKeyOfChild (t : Tree) (name key : List ℕ) : Type 0 where
+  pub child : Tree
+  pub is : IsChild t name child
+  pub is_key : key ≡ key_of child
+
 -- The bytes are the key of the part at the path of these names.
 pub record IsKeyAt (t : Tree) (names : List (List ℕ)) (key : List ℕ) : Type 0 where
   pub part : Tree

@@ -1,0 +1,43 @@
+-- Parts of checked keys are such keys.
+use Rattle.std.proofs.Common.{◌≡◌, ℕ, List, [], ◌++◌, Some, None, sym, ap, ◌∙◌, append-nil}
+use Rattle.std.proofs.Math.Logic.{∥∥₁_map}
+use Rattle.jsonb_key.specs.Readable.{IsReadable}
+use Rattle.jsonb_stored.specs.Checked.{IsSortKey}
+use Rattle.jsonb_stored.specs.Parts.{kind_of_tree, ChildAt, IsKeyOfChild, IsKeyAt}
+use Rattle.jsonb_stored.proofs.Finds.{child_readable, part_readable}
+use Rattle.jsonb_key.proofs.Texts.{none_some, some_same}
+use Rattle.jsonb_value.specs.SortKey.{key_of}
+use Rattle.jsonb_value.specs.Tree.{Tree, null, boolean, string, number, array, object}
+
+-- each value of JSON's kinds has a kind
+pub some_kind : (t : Tree) → IsReadable t → None ≡ kind_of_tree t → ⊥
+some_kind null r e = none_some _ e
+some_kind (boolean b) r e = none_some _ e
+some_kind (string mark text) r e = none_some _ e
+some_kind (number n) r e = none_some _ e
+some_kind (array ts) r e = none_some _ e
+some_kind (object ms) r e = none_some _ e
+some_kind t r e = absurd r.within
+
+pub whole : (t : Tree) (bytes : List ℕ) → bytes ≡ key_of t → bytes ≡ key_of t ++ []
+whole t bytes e = e ∙ sym (append-nil (key_of t))
+
+-- the key of a child ends where a key ends that the bytes begin with
+pub no_end_of_child : (t : Tree) → IsReadable t → (name part : List ℕ) → ChildAt t name part → ((u : Tree) → IsReadable u → (more : List ℕ) → part ≡ key_of u ++ more → None ≡ Some more) → ⊥
+no_end_of_child t r name part x none = none_some x.behind (none x.child (child_readable t r name x.child x.is) x.behind x.stands)
+
+pub key_of_child : (t : Tree) → IsReadable t → (name part rest key : List ℕ) → ChildAt t name part → ((u : Tree) → IsReadable u → (more : List ℕ) → part ≡ key_of u ++ more → Some rest ≡ Some more) → ((b : List ℕ) → part ≡ b ++ rest → key ≡ b) → IsKeyOfChild t name key
+key_of_child t r name part rest key x found fronted =
+    let behind = some_same rest x.behind (found x.child (child_readable t r name x.child x.is) x.behind x.stands) in
+    record { child = x.child; is = x.is; is_key = fronted (key_of x.child) (x.stands ∙ ap (λ b. key_of x.child ++ b) (sym behind)) }
+
+-- what is the key of a part is a key
+pub checked_child : (bytes name key : List ℕ) → ∥ IsSortKey bytes ∥₁ → ((t : Tree) → IsReadable t → bytes ≡ key_of t → IsKeyOfChild t name key) → ∥ IsSortKey key ∥₁
+checked_child bytes name key checked child = ∥∥₁_map checked (λ k.
+    let c = child k.value k.readable k.is_key in
+    record { value = c.child; readable = child_readable k.value k.readable name c.child c.is; is_key = c.is_key })
+
+pub checked_part : (bytes : List ℕ) (names : List (List ℕ)) (key : List ℕ) → ∥ IsSortKey bytes ∥₁ → ((t : Tree) → IsReadable t → bytes ≡ key_of t → IsKeyAt t names key) → ∥ IsSortKey key ∥₁
+checked_part bytes names key checked part = ∥∥₁_map checked (λ k.
+    let p = part k.value k.readable k.is_key in
+    record { value = p.part; readable = part_readable k.value k.readable names p.part p.at; is_key = p.is_key })
