@@ -1,0 +1,125 @@
+use jsonb_key::{KeyError, value_of_sort_key};
+use jsonb_stored::is_sort_key;
+use std::alloc::{AllocError, Global};
+use std::process::Abort;
+use std::test::Fail;
+
+// Whether the bytes have a value.
+fn has_value(alloc: Global, bytes: &[u8]) -> Result<bool, AllocError> {
+    match value_of_sort_key(alloc, bytes) {
+        Ok(_) => Ok(true),
+        Err(KeyError::Invalid) => Ok(false),
+        Err(KeyError::OutOfMemory) => Err(AllocError),
+    }
+}
+
+// So many containers in one another, each of which begins and ends with these bytes.
+fn nested(alloc: Global, front: &[u8], back: &[u8], levels: usize) -> Result<Vec<u8>, Fail> {
+    let mut key = Vec::new(alloc);
+    for _ in 1..levels {
+        key.extend_from_slice(front)?;
+    }
+    key.push(0xD2)?;
+    key.push(0)?;
+    for _ in 1..levels {
+        key.extend_from_slice(back)?;
+    }
+    Ok(key)
+}
+
+#[test]
+fn at_most_512_levels_are_a_key(rt: HostRuntime) -> Result<(), Fail> {
+    let alloc = rt.alloc();
+    for (levels, is_key) in [
+        (1, true),
+        (511, true),
+        (512, true),
+        (513, false),
+        (600, false),
+    ] {
+        let arrays = nested(alloc, b"\xD2", b"\x00", levels)?;
+        assert_eq!(rt; is_sort_key(&arrays), is_key);
+        assert_eq!(rt; has_value(alloc, &arrays)?, is_key);
+        let objects = nested(alloc, b"\xD1a\x00\x01", b"\x00\x00", levels)?;
+        assert_eq!(rt; is_sort_key(&objects), is_key);
+        assert_eq!(rt; has_value(alloc, &objects)?, is_key);
+    }
+    Ok(())
+}
+
+// The keys of 123, -0.05, "a\0é", [1,null], {"":[],"a":true,"a\0":{}} and of a number with scale 255.
+const KEYS: [&[u8]; 6] = [
+    b"\xA3\x19\x3C",
+    b"\x60\x9B",
+    b"\xD0a\x00\xFF\xC3\xA9\x00\x01",
+    b"\xD2\xA1\x14\xD3\x00",
+    b"\xD1\x00\x01\xD2\x00a\x00\x01\x16a\x00\xFF\x00\x01\xD1\x00\x00\x00\x00",
+    b"\x81\x01\x14",
+];
+
+// Compares the check with the value, and tells whether the bytes are a key.
+fn expect_same(rt: &(impl AllocGlobal + Abort), bytes: &[u8]) -> Result<bool, AllocError> {
+    let is_key = has_value(rt.alloc(), bytes)?;
+    assert_eq!(rt; is_sort_key(bytes), is_key, "{bytes:?}");
+    Ok(is_key)
+}
+
+#[test]
+fn keys_are_keys_and_cut_ones_are_not(rt: HostRuntime) -> Result<(), Fail> {
+    for key in KEYS {
+        assert!(rt; expect_same(&rt, key)?);
+        for len in 0..key.len() {
+            let (front, _) = key.split_at(len);
+            assert!(rt; !expect_same(&rt, front)?, "{front:?}");
+        }
+    }
+    Ok(())
+}
+
+#[test]
+fn changed_keys_are_keys_where_they_have_a_value(rt: HostRuntime) -> Result<(), Fail> {
+    for key in KEYS {
+        let mut changed = Vec::from_slice(rt.alloc(), key)?;
+        for at in 0..key.len() {
+            for byte in 0..=255 {
+                changed[at] = byte;
+                expect_same(&rt, &changed)?;
+            }
+            changed[at] = key[at];
+        }
+    }
+    Ok(())
+}
+
+#[test]
+fn what_is_no_key(rt: HostRuntime) -> Result<(), Fail> {
+    let cases: [&[u8]; 16] = [
+        // Binary data and a date.
+        b"\x10\x00\x01",
+        b"\x11\x80\x00\x00\x00",
+        // Something left over.
+        b"\x15\x00",
+        b"\xD2\x00\x00",
+        // A string and a name that aren't UTF-8.
+        b"\xD0\xFF\x00\x01",
+        b"\xD1\xFF\x00\x01\x15\x00\x00",
+        // Names that don't ascend, and one that comes twice.
+        b"\xD1b\x00\x01\x16a\x00\x01\x15\x00\x00",
+        b"\xD1a\x00\x01\x16a\x00\x01\x15\x00\x00",
+        // 1 with a pair of zeros behind it, and with the pair 0 and 1 in place of 10; pairs past 99.
+        b"\xA1\x15\x00",
+        b"\xA1\x02",
+        b"\xA1\xC8",
+        b"\xA3\xC9\x3C",
+        // 0.1 and -0.05 with a place in two bytes.
+        b"\x81\xFF\x14",
+        b"\x7E\x01\x9B",
+        // 2 ^ 127, and a number with 256 digits behind the point.
+        b"\xC7\x23\x03\x53\x25\x45\x79\x5D\xB9\x3F\x93\x21\xAF\x3D\x4B\x1F\xB1\x53\x0B\x91\xA0",
+        b"\x81\x00\x14",
+    ];
+    for bytes in cases {
+        assert!(rt; !expect_same(&rt, bytes)?, "{bytes:?}");
+    }
+    Ok(())
+}

@@ -1,0 +1,5 @@
+//! Tests of `jsonb_stored` over public calls.
+#![tactic(auto)]
+
+#[cfg(test)]
+mod check;
