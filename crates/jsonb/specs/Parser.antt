@@ -37,7 +37,7 @@ abbrev pub ReadsAs : {X Y : Type 0} → (X → Y) → (ℕ → Mode → List ℕ
 ReadsAs view read result old new =
     Gives (λ x. (view x, rest_of new)) result (read (size_of old) (mode_of old.mode) (rest_of old))
 
--- The same of a call that answers nothing where it did not read.
+-- What a call returned that returns `None` where it did not read: where it is `Some`, it is seen so.
 abbrev pub FindsAs : {X Y : Type 0} → (X → Y) → (ℕ → Mode → List ℕ → Read Y) → Option X → Parser → Parser → Type 0
 FindsAs view read result old new =
     IfSome result (λ x. read (size_of old) (mode_of old.mode) (rest_of old) ≡ Ok (view x, rest_of new))

@@ -109,7 +109,7 @@ fn compare_items<'a>(left: &Vec<JsonAst<'a>>, right: &Vec<JsonAst<'a>>) -> Order
     }
 }
 
-// The same of members, each by its key and then by its value.
+// Lexicographic over members, each by its key and then by its value; a proper prefix is less.
 #[cycle(compare)]
 fn compare_members<'a>(
     left: &Vec<(CowStr<'a>, JsonAst<'a>, usize)>,

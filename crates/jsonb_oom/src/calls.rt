@@ -117,7 +117,7 @@ fn document(alloc: Global, mode: Mode, text: &[u8]) -> Result<Vec<u8>> {
     kept(alloc, done, buffer)
 }
 
-// The same of its sort key, in hexadecimal.
+// A document's sort key, in hexadecimal, behind what the buffer held, which is there after an error too.
 fn document_key(alloc: Global, mode: Mode, text: &[u8]) -> Result<Vec<u8>> {
     let document = Document::parse(alloc, text, mode)?;
     let mut buffer = Vec::from_slice(alloc, b"x")?;
@@ -168,7 +168,7 @@ fn decoded(alloc: Global, mode: Mode, text: &[u8]) -> Result<Vec<u8>> {
     value_of(alloc, &key)
 }
 
-// The same without the last byte of the key.
+// What a sort key without its last byte is decoded as.
 fn cut_key(alloc: Global, mode: Mode, text: &[u8]) -> Result<Vec<u8>> {
     let mut key = Vec::new(alloc);
     read(alloc, mode, text)?.write_sort_key(&mut key)?;

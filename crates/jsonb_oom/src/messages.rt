@@ -101,7 +101,7 @@ fn interval_value(alloc: Global) -> Result<Vec<u8>> {
     Ok(text)
 }
 
-// The same with no `Value` around it, and so without quotes.
+// The text of an interval with no `Value` around it, and so without quotes.
 fn interval_alone(alloc: Global) -> Result<Vec<u8>> {
     let mut text = Vec::new(alloc);
     ExtensionValue::Interval(INTERVAL).write_text(&mut text)?;

@@ -34,7 +34,7 @@ pub record Left (object : Bool) (bytes frames : List ℕ) (depth : ℕ) (rest : 
   pub suffix : bytes ≡ front ++ rest
   pub whole : (more : List ℕ) → Ends opens left rest more ↔ PartsFirst object bytes more
 
--- The same where at least one is open.
+-- How far the check is, where at least one is open.
 pub record Top (object : Bool) (bytes frames : List ℕ) (top : ℕ) (rest : List ℕ) : Type 0 where
   pub frame : Frame
   pub under : List Frame
@@ -46,7 +46,7 @@ pub record Top (object : Bool) (bytes frames : List ℕ) (top : ℕ) (rest : Lis
   pub suffix : bytes ≡ front ++ rest
   pub whole : (more : List ℕ) → Ends (frame ∷ under) left rest more ↔ PartsFirst object bytes more
 
--- The same where a value is due.
+-- How far the check is, where a value is due.
 pub record ValueDue (object : Bool) (bytes frames : List ℕ) (depth : ℕ) (value : List ℕ) : Type 0 where
   pub opens : List Frame
   pub left : ℕ

@@ -17,26 +17,26 @@ pub record KeyFirst (bytes more : List ℕ) : Type 0 where
   pub readable : IsReadable value
   pub stands : bytes ≡ key_of value ++ more
 
--- The same of a value that is no array and no object.
+-- The bytes begin with the key of a scalar, and these stand behind it.
 pub record ScalarFirst (bytes more : List ℕ) : Type 0 where
   pub value : Tree
   pub scalar : IsScalar value
   pub readable : (depth : ℕ) → IsReadableAt depth value
   pub stands : bytes ≡ key_of value ++ more
 
--- The same of a number.
+-- The bytes begin with the key of a number, and these stand behind it.
 pub record NumberFirst (bytes more : List ℕ) : Type 0 where
   pub value : Num
   pub proper : IsProperNumber value
   pub stands : bytes ≡ number_key value ++ more
 
--- The same of a text.
+-- The bytes begin with the key of a text, without its first byte, and these stand behind it.
 pub record TextFirst (bytes more : List ℕ) : Type 0 where
   pub text : List ℕ
   pub utf8 : IsUtf8 text
   pub stands : bytes ≡ text_key text ++ more
 
--- The same of an array or an object, behind its first byte.
+-- The bytes begin with the key of an array or an object, without its first byte, and these stand behind it.
 pub record PartsFirst (object : Bool) (bytes more : List ℕ) : Type 0 where
   pub opened : Open
   pub is : is_object opened ≡ object

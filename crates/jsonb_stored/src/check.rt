@@ -40,7 +40,7 @@ fn checked_key(bytes: &[u8]) -> Option<&[u8]>
     }
 }
 
-// The same of a value that is no array and no object.
+// The bytes after the key of a scalar that they begin with, if it is one.
 fn checked_scalar(bytes: &[u8]) -> Option<&[u8]>
     ensures found { (more : List ℕ) → option_map (λ rest. rest.now) result ≡ Some more ↔ ScalarFirst bytes.now more }
     ensures shorter { IfSome result (λ rest. length rest.now < length bytes.now) }
@@ -57,7 +57,7 @@ fn checked_scalar(bytes: &[u8]) -> Option<&[u8]>
     checked_number(bytes)
 }
 
-// The same of a number.
+// The bytes after the key of a number that they begin with, if it is one.
 fn checked_number(bytes: &[u8]) -> Option<&[u8]>
     ensures found { (more : List ℕ) → option_map (λ rest. rest.now) result ≡ Some more ↔ NumberFirst bytes.now more }
     ensures shorter { IfSome result (λ rest. length rest.now < length bytes.now) }
@@ -68,7 +68,7 @@ fn checked_number(bytes: &[u8]) -> Option<&[u8]>
     Some(rest)
 }
 
-// The same of a text.
+// The bytes after the key of a text that they begin with, if it is one, from what stands behind its first byte.
 fn checked_text(bytes: &[u8]) -> Option<&[u8]>
     ensures found { (more : List ℕ) → option_map (λ rest. rest.now) result ≡ Some more ↔ TextFirst bytes.now more }
     ensures shorter { IfSome result (λ rest. length rest.now < length bytes.now) }

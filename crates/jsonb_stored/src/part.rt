@@ -81,7 +81,7 @@ pub fn child<'k>(key: &'k [u8], name: &str) -> Option<&'k [u8]>
     }
 }
 
-// The same, from what stands behind the first byte.
+// Finds the child of this name among the parts that stand behind the first byte.
 fn child_of<'k>(object: bool, parts: &'k [u8], name: &str) -> Option<&'k [u8]>
     ensures found { (o : Open) → is_object o ≡ object → IsOpen o 511 → (more : List ℕ)
         → parts.now ≡ open_key o ++ more

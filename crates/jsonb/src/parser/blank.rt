@@ -41,7 +41,7 @@ impl Parser<'_> {
         }
     }
 
-    // The same. Most blanks are ends of lines and the spaces after them.
+    // Passes blanks that are mostly ends of lines and the spaces after them.
     #[inline(never)]
     fn skip_run_of_blanks(&mut self)
         ensures rest { rest_of self.new ≡ skip_blanks (mode_of self.old.mode) (rest_of self.old) }
@@ -58,7 +58,7 @@ impl Parser<'_> {
         }
     }
 
-    // The same of every other blank.
+    // Passes blanks of all kinds, comments among them.
     #[inline(never)]
     fn skip_other_blanks(&mut self)
         ensures rest { rest_of self.new ≡ skip_blanks (mode_of self.old.mode) (rest_of self.old) }
@@ -81,7 +81,7 @@ impl Parser<'_> {
         }
     }
 
-    // The same, blank by blank.
+    // Passes blanks one by one, up to a comment that never ends.
     #[inline(never)]
     fn skip_each_closed_blank(&mut self)
         ensures rest { rest_of self.new ≡ skip_closed_blanks (mode_of self.old.mode) (rest_of self.old) }
@@ -146,7 +146,7 @@ impl Parser<'_> {
         }
     }
 
-    // The same of more spaces than `near_spaces` looks at.
+    // Passes spaces one by one, behind those that `near_spaces` saw.
     #[inline(never)]
     fn skip_more_spaces(&mut self)
         requires { self.old.idx ≤ size_of self.old }

@@ -67,7 +67,7 @@ impl Parser<'_> {
         }
     }
 
-    // The same of every number text.
+    // Reads any number text, also one that `short_number` leaves.
     fn parse_long_number(&mut self, bytes: &[u8]) -> Result<Number>
         requires inside { self.old.idx ≤ size_of self.old }
         requires bytes { bytes.now ≡ rest_of self.old }

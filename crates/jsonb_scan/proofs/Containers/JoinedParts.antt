@@ -95,7 +95,7 @@ pub record Spelled {A : Type 0} (Spells : List ℕ → A → Type 0) (bytes : Li
 abbrev pub IsSound : {A : Type 0} → (List ℕ → A → Type 0) → (List ℕ → Read A) → Type 0
 IsSound {A} Spells read = (bytes : List ℕ) (a : A) (rest : List ℕ) → read bytes ≡ Ok (a, rest) → Spelled Spells bytes a rest
 
--- The same of a reader that passes what may be no blank at the end of the bytes, where some are left.
+-- What is read, where bytes are left behind it, is a spelling: at the end of the bytes what is passed may be no blank.
 abbrev pub IsSoundBefore : {A : Type 0} → (List ℕ → A → Type 0) → (List ℕ → Read A) → Type 0
 IsSoundBefore {A} Spells read = (bytes : List ℕ) (a : A) (rest : List ℕ) → read bytes ≡ Ok (a, rest) → 0 < length rest → Spelled Spells bytes a rest
 
@@ -104,7 +104,7 @@ pub record IsComplete {A : Type 0} (Spells : List ℕ → A → Type 0) (read : 
   pub starts : (core : List ℕ) (a : A) → Spells core a → Starts core
   pub reads : (core : List ℕ) (a : A) (rest : List ℕ) → Spells core a → Ends rest → read (core ++ rest) ≡ Ok (a, rest)
 
--- The same, where what is read shows the spelling's meaning by view.
+-- Each spelling is read, and what is read shows the spelling's meaning by view.
 pub record IsShown {A F : Type 0} (view : F → A) (Spells : List ℕ → A → Type 0) (read : List ℕ → Read F) : Type 0 where
   pub starts : (core : List ℕ) (a : A) → Spells core a → Starts core
   pub reads : (core : List ℕ) (a : A) (rest : List ℕ) → Spells core a → Ends rest → (f : F) × (view f ≡ a) × (read (core ++ rest) ≡ Ok (f, rest))

@@ -41,7 +41,7 @@ fn block_len(bytes: &[u8]) -> usize
     if len == 0 { 0 } else { at + len }
 }
 
-// The same byte by byte.
+// How many bytes there are up to and with the first star and slash, or 0 where there are none, byte by byte.
 fn short_block_len(bytes: &[u8]) -> usize
     ensures value { result ≡ block_length bytes.now }
     ensures within { result ≤ length bytes.now }

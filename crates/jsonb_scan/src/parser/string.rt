@@ -55,7 +55,7 @@ pub fn next_mark(bytes: &[u8], quote: u8, at: usize) -> usize
     far_mark(bytes, quote, at + 32)
 }
 
-// The same byte by byte, where few are left.
+// The index of the first quote or backslash from `at` on, byte by byte, where few are left.
 #[inline(never)]
 fn short_mark(bytes: &[u8], quote: u8, at: usize) -> usize
     requires { at ≤ length bytes.now }
@@ -76,7 +76,7 @@ fn short_mark(bytes: &[u8], quote: u8, at: usize) -> usize
     stop
 }
 
-// The same by a search of all that is left.
+// The index of the first quote or backslash from `at` on, by a search of all that is left.
 #[inline(never)]
 fn far_mark(bytes: &[u8], quote: u8, at: usize) -> usize
     requires { at ≤ length bytes.now }
@@ -137,7 +137,7 @@ fn first_mark(bytes: &[u8], quote: u8, at: usize, marks: u64) -> (usize, u64)
     (at + count, shifted_down(marks, count))
 }
 
-// The same, where no mark is known.
+// The index of the first quote or backslash from `at` on, and the marks from there on, where no mark is known.
 #[inline(always)]
 fn later_mark(bytes: &[u8], quote: u8, at: usize) -> (usize, u64)
     requires { at ≤ length bytes.now }

@@ -39,7 +39,7 @@ pointed_before scale ds some behind =
     let one : suc (length (replicate (scale - length ds) 48 ++ ds)) - scale ≡ 1 = omega arith in
     rw (tested, one_more, one) refl
 
--- The same of the pieces: the digits before the point, the point, the zeros behind it and the other digits.
+-- The pieces are the text: the digits before the point, the point, the zeros behind it and the other digits.
 pub joined_whole : (scale : ℕ) (ds : List ℕ) → scale ≡ 0 → 0 < length ds → ds ++ ([] ++ (replicate 0 48 ++ [])) ≡ with_point scale (zero_padded (scale + 1) ds)
 joined_whole scale ds none some = rw none (append-nil ds ∙ sym (pointed_whole ds some))
 

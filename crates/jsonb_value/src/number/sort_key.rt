@@ -96,7 +96,7 @@ fn append_magnitude(negative: bool, scale: u8, magnitude: u128, buf: &mut Vec<u8
     append_long(negative, scale, magnitude, buf)
 }
 
-// The same of a number of one or two digits, whose key has two bytes but for small fractions.
+// Appends the key of a number of one or two digits, which has two bytes but for small fractions.
 #[inline(always)]
 fn append_small(negative: bool, scale: u8, magnitude: u64, buf: &mut Vec<u8>) -> Appended
     requires few { (0 < magnitude) × (magnitude < 100) }
@@ -128,7 +128,7 @@ fn small_digits(magnitude: u64) -> (u8, u8)
     }
 }
 
-// The same of a number that fits 64 bits, as most do: its bytes are made in a row and appended at once.
+// Appends the key of a number that fits 64 bits, as most do: its bytes are made in a row and appended at once.
 #[inline(always)]
 fn append_short(negative: bool, scale: u8, magnitude: u64, buf: &mut Vec<u8>) -> Appended
     requires { 0 < magnitude }
@@ -146,7 +146,7 @@ fn append_short(negative: bool, scale: u8, magnitude: u64, buf: &mut Vec<u8>) ->
     append_row(&row, start, buf)
 }
 
-// The same of any number.
+// Appends the key of any number above 0 with this sign.
 #[inline(never)]
 fn append_long(negative: bool, scale: u8, magnitude: u128, buf: &mut Vec<u8>) -> Appended
     requires { 0 < magnitude }
@@ -173,7 +173,7 @@ fn digit_count(magnitude: u128) -> u32
     magnitude.ilog10() + 1
 }
 
-// The same of 64 bits.
+// How many digits a number of 64 bits above 0 has.
 #[inline(always)]
 fn short_digit_count(magnitude: u64) -> u32
     requires { 0 < magnitude }

@@ -155,7 +155,7 @@ impl Number {
         }
     }
 
-    // The same by the pieces of the text, apart from the shorter way of integers.
+    // Appends the text of any number, piece by piece.
     #[inline(never)]
     fn append_pieces(&self, buf: &mut Vec<u8>) -> Result<(), AllocError>
         ensures ok { OnOk result (buf.new.items

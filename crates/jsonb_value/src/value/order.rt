@@ -127,7 +127,7 @@ fn compare_items<'a>(left: &Vec<Value<'a>>, right: &Vec<Value<'a>>, levels: u32)
     }
 }
 
-// The same of members, each by its key and then by its value.
+// Lexicographic over members, each by its key and then by its value; a proper prefix is less.
 #[cycle(compare)]
 fn compare_members<'a>(left: &Object<'a>, right: &Object<'a>, levels: u32) -> Ordering
     ensures { result ≡ members_cmp (members_view left.now.entries) (members_view right.now.entries) }
@@ -156,7 +156,7 @@ fn compare_members<'a>(left: &Object<'a>, right: &Object<'a>, levels: u32) -> Or
     }
 }
 
-// The same of members that stand deep. What nests deep mostly has but one member in each object.
+// The order of the members of two objects that stand deep, where most objects have one member.
 #[inline(never)]
 #[cycle(compare)]
 fn compare_deep<'a>(left: &Object<'a>, right: &Object<'a>) -> Ordering
@@ -175,7 +175,7 @@ fn compare_deep<'a>(left: &Object<'a>, right: &Object<'a>) -> Ordering
     compare(value, other_value, 0)
 }
 
-// The same with no iterator while a value is compared, since two of them take much machine stack.
+// The order of members key by key, with no iterator while a value is compared: two of them take much machine stack.
 #[inline(never)]
 #[cycle(compare)]
 fn compare_by_key<'a>(left: &Object<'a>, right: &Object<'a>) -> Ordering

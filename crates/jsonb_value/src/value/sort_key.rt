@@ -211,7 +211,7 @@ fn is_plain(bytes: &[u8]) -> bool
     run_len(bytes) == bytes.len()
 }
 
-// The same of bytes with zeros. Runs between zeros are copied whole.
+// Appends the key of a text's bytes with zeros. Runs between zeros are copied whole.
 #[inline(never)]
 fn append_runs(bytes: &[u8], buf: &mut Vec<u8>) -> Appended
     ensures ok { OnOk result (buf.new.items ≡ buf.old.items ++ flat_map byte_key bytes.now) }
@@ -261,7 +261,7 @@ fn key_of_32_bits(value: i32) -> [u8; 4]
     moved.to_be_bytes()
 }
 
-// The same of 64 bits.
+// The bytes of an integer of 64 bits.
 fn key_of_64_bits(value: i64) -> [u8; 8]
     ensures { result ≡ key_of_64_bits value }
 {

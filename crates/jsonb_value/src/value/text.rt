@@ -302,7 +302,7 @@ fn append_escaped(bytes: &[u8], buf: &mut Vec<u8>) -> Appended
     buf.extend_from_slice(bytes)
 }
 
-// The same of bytes with escapes. Runs between escapes are copied whole.
+// Appends a string's bytes with their escapes. Runs between escapes are copied whole.
 #[inline(never)]
 fn append_runs(bytes: &[u8], buf: &mut Vec<u8>) -> Appended
     ensures ok { OnOk result (buf.new.items ≡ buf.old.items ++ flat_map byte_text bytes.now) }
@@ -340,7 +340,7 @@ pub(super) fn run_len(bytes: &[u8]) -> usize
     len + run_of_few(&bytes[len..])
 }
 
-// The same of bytes that are mostly fewer than 16.
+// How many of the first bytes are written as they are, where there are mostly fewer than 16.
 #[inline(always)]
 fn run_of_few(bytes: &[u8]) -> usize
     ensures within { result ≤ length bytes.now }
@@ -356,7 +356,7 @@ fn run_of_few(bytes: &[u8]) -> usize
     8 + run_by_bytes(&bytes[8..])
 }
 
-// The same, byte by byte.
+// How many of the first bytes are written as they are, byte by byte.
 #[inline(always)]
 fn run_by_bytes(bytes: &[u8]) -> usize
     ensures within { result ≤ length bytes.now }
@@ -387,7 +387,7 @@ fn run_of_sixteen(bytes: &[u8]) -> usize
     first_set(marks.to_bitmask(), 16)
 }
 
-// The same of the first 8 bytes.
+// How many of the first 8 bytes, up to the first that is not, are written as they are.
 #[inline(always)]
 fn run_of_eight(bytes: &[u8]) -> usize
     requires { 8 ≤ length bytes.now }

@@ -80,7 +80,7 @@ fn copy_short(bytes: &[u8], text: &mut [u8], len: usize) -> usize
     count
 }
 
-// The same, where the first backslash is anywhere or nowhere.
+// Copies the bytes before the first backslash, which is anywhere or nowhere.
 #[inline(never)]
 fn copy_many(bytes: &[u8], text: &mut [u8], len: usize) -> usize
     requires { len + length bytes.now ≤ length text.old }
@@ -95,7 +95,7 @@ fn copy_many(bytes: &[u8], text: &mut [u8], len: usize) -> usize
     count
 }
 
-// The same, where the first backslash is likely to be near.
+// Copies the bytes before the first backslash, which is likely to be near.
 #[inline(always)]
 fn copy_near(bytes: &[u8], text: &mut [u8], len: usize) -> usize
     requires { len + length bytes.now ≤ length text.old }
@@ -115,7 +115,7 @@ fn copy_near(bytes: &[u8], text: &mut [u8], len: usize) -> usize
     count
 }
 
-// The same, where no backslash is among the first 16 bytes.
+// Copies the bytes before the first backslash, where none is among the first 16 bytes.
 #[inline(never)]
 fn copy_more(bytes: &[u8], text: &mut [u8], len: usize) -> usize
     requires long { 16 ≤ length bytes.now }
@@ -131,7 +131,7 @@ fn copy_more(bytes: &[u8], text: &mut [u8], len: usize) -> usize
     16 + copy_near(&bytes[16..], text, len + 16)
 }
 
-// The same, where the first backslash is often among the first 16 bytes.
+// Copies the bytes before the first backslash, which is often among the first 16 bytes.
 #[inline(always)]
 fn copy_first(bytes: &[u8], text: &mut [u8], len: usize) -> usize
     requires { len + length bytes.now ≤ length text.old }
