@@ -12,5 +12,6 @@ mod orders;
 pub mod part;
 pub mod plain;
 mod short;
+mod spread;
 pub mod text;
 pub mod written;
