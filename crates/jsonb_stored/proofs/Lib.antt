@@ -14,3 +14,4 @@ pub mod Framed
 pub mod Stacked
 pub mod CheckedNames
 pub mod CheckedKeys
+pub mod CheckedParts

@@ -1,12 +1,62 @@
 -- Which bytes are a sort key.
 -- Read for: promises.
-use Rattle.std.specs.Prelude.{◌≡◌, ℕ, List}
-use Rattle.jsonb_key.specs.Readable.{IsReadable}
-use Rattle.jsonb_value.specs.SortKey.{key_of}
-use Rattle.jsonb_value.specs.Tree.{Tree}
+use Rattle.std.specs.Prelude.{◌≡◌, ℕ, suc, List, ⊤}
+use Rattle.jsonb_key.specs.Readable.{IsAnyNumber, IsReadable}
+use Rattle.jsonb_value.specs.Keys.{KeysAscend}
+use Rattle.jsonb_value.specs.Proper.{AreProper, HaveProperParts}
+use Rattle.jsonb_value.specs.SortKey.{key_of, items_key, members_key, text_key}
+use Rattle.jsonb_value.specs.Text.Range.{AreWithin, HaveWithin}
+use Rattle.jsonb_value.specs.Tree.{Tree, Trees, no_trees, more_trees, Members, no_members, more_members}
 
 -- The bytes are the sort key of a value of JSON's kinds, with at most 512 arrays and objects in one another.
 pub record IsSortKey (bytes : List ℕ) : Type 0 where
   pub value : Tree
   pub readable : IsReadable value
   pub is_key : bytes ≡ key_of value
+
+-- The items of such a value.
+pub record AreReadable (ts : Trees) : Type 0 where
+  pub proper : AreProper ts
+  pub within : AreWithin IsAnyNumber ts 511
+
+-- The members of such a value.
+pub record HaveReadable (ms : Members) : Type 0 where
+  pub ascend : KeysAscend ms
+  pub proper : HaveProperParts ms
+  pub within : HaveWithin IsAnyNumber ms 511
+
+-- The bytes are the keys of such items, and their end.
+pub record AreItems (bytes : List ℕ) : Type 0 where
+  pub items : Trees
+  pub readable : AreReadable items
+  pub are_keys : bytes ≡ items_key items
+
+-- The bytes are the names and keys of such members, and their end.
+pub record AreMembers (bytes : List ℕ) : Type 0 where
+  pub members : Members
+  pub readable : HaveReadable members
+  pub are_keys : bytes ≡ members_key members
+
+-- there are none
+abbrev pub IsNoItem : Trees → Type 0
+IsNoItem no_trees = ⊤
+IsNoItem (more_trees t ts) = ⊥
+
+abbrev pub IsNoMember : Members → Type 0
+IsNoMember no_members = ⊤
+IsNoMember (more_members name t ms) = ⊥
+
+-- the first of them, and those behind it
+abbrev pub IsFirstItem : Trees → List ℕ → List ℕ → Type 0
+IsFirstItem no_trees key rest = ⊥
+IsFirstItem (more_trees t ts) key rest = (key ≡ key_of t) × (rest ≡ items_key ts)
+
+-- the same of members, with the name as a text's key
+abbrev pub IsFirstMember : Members → List ℕ → List ℕ → List ℕ → Type 0
+IsFirstMember no_members name key rest = ⊥
+IsFirstMember (more_members k t ms) name key rest = (name ≡ text_key k) × (key ≡ key_of t) × (rest ≡ members_key ms)
+
+-- how many members there are
+abbrev pub members_len : Members → ℕ
+members_len no_members = 0
+members_len (more_members name t ms) = suc (members_len ms)

@@ -1,7 +1,15 @@
--- The bytes of a checked key.
+-- The bytes of checked keys, items and members.
 -- Read for: promises.
 use Rattle.std.specs.Prelude.{ℕ, List}
+use Rattle.jsonb_stored.specs.declared.checked.Items.{Items}
 use Rattle.jsonb_stored.specs.declared.checked.Key.{Key}
+use Rattle.jsonb_stored.specs.declared.checked.Members.{Members}
 
 abbrev pub key_bytes : Key → List ℕ
 key_bytes key = key.bytes.now
+
+abbrev pub item_bytes : Items → List ℕ
+item_bytes items = items.bytes.now
+
+abbrev pub member_bytes : Members → List ℕ
+member_bytes members = members.bytes.now

@@ -1,11 +1,11 @@
 //! Keys that were checked.
 
-ghost use Rattle.jsonb_stored.specs.Checked.{IsSortKey};
+ghost use Rattle.jsonb_stored.specs.Checked.{IsSortKey, AreItems, AreMembers};
 
 use crate::check::is_sort_key;
 use crate::part;
 use crate::skip::after_key;
-use crate::walk::{Kind, front, kind_of};
+use crate::walk::{Kind, front, items_of, kind_of, members_of, next_item, next_member};
 
 /// The sort key of a value of JSON's kinds with at most 512 nested arrays and objects. So its parts are asked for with
 /// no further check.
@@ -17,13 +17,14 @@ pub struct Key<'k> {
 }
 
 impl<'k> Key<'k> {
-    ghost use Rattle.std.specs.Prelude.{◌≡◌, List, ℕ, map, string_bytes, MatchOption, Some};
+    ghost use Rattle.std.specs.Prelude.{◌≡◌, List, ℕ, map, string_bytes, MatchOption, option_map, Some};
     ghost use Rattle.jsonb_key.specs.Readable.{IsReadable};
     ghost use Rattle.jsonb_write.specs.PartAt.{IsChild, IsAt};
     ghost use Rattle.jsonb_stored.specs.Checked.{IsSortKey};
-    ghost use Rattle.jsonb_stored.specs.KeyView.{key_bytes};
+    ghost use Rattle.jsonb_stored.specs.KeyView.{key_bytes, item_bytes, member_bytes};
     ghost use Rattle.jsonb_stored.specs.Parts.{kind_of_tree, IsKeyOfChild, IsKeyAt};
-    ghost use Rattle.jsonb_value.specs.SortKey.{key_of};
+    ghost use Rattle.jsonb_value.specs.Accessors.{as_array, as_object};
+    ghost use Rattle.jsonb_value.specs.SortKey.{key_of, items_key, members_key};
     ghost use Rattle.jsonb_value.specs.Tree.{Tree};
 
     /// The bytes as a key, if they are one.
@@ -79,5 +80,109 @@ impl<'k> Key<'k> {
             return None;
         };
         Some(Key { bytes })
+    }
+
+    /// The items, if it is an array's key.
+    pub fn items(&self) -> Option<Items<'k>>
+        ensures { (t : Tree) → IsReadable t → key_bytes self.now ≡ key_of t
+            → option_map item_bytes result ≡ option_map items_key (as_array t) }
+    {
+        let Some(bytes) = items_of(self.bytes) else {
+            return None;
+        };
+        Some(Items { bytes })
+    }
+
+    /// The members, if it is an object's key.
+    pub fn members(&self) -> Option<Members<'k>>
+        ensures { (t : Tree) → IsReadable t → key_bytes self.now ≡ key_of t
+            → option_map member_bytes result ≡ option_map members_key (as_object t) }
+    {
+        let Some(bytes) = members_of(self.bytes) else {
+            return None;
+        };
+        Some(Members { bytes })
+    }
+}
+
+/// The items that are left of an array.
+#[derive(Clone, Copy)]
+pub struct Items<'k> {
+    bytes: &'k [u8],
+    // They are the keys of items, and their end.
+    pub ghost checked: { ∥ AreItems bytes.now ∥₁ },
+}
+
+impl<'k> Items<'k> {
+    ghost use Rattle.std.specs.Prelude.{◌≡◌, ◌<◌, ◌≤◌, ◌+◌, length, MatchOption};
+    ghost use Rattle.jsonb_stored.specs.Checked.{AreReadable, IsNoItem, IsFirstItem};
+    ghost use Rattle.jsonb_stored.specs.KeyView.{key_bytes, item_bytes};
+    ghost use Rattle.jsonb_value.specs.Accessors.{trees_len};
+    ghost use Rattle.jsonb_value.specs.SortKey.{items_key};
+    ghost use Rattle.jsonb_value.specs.Tree.{Trees};
+
+    /// The first item, and the others.
+    pub fn split_first(&self) -> Option<(Key<'k>, Items<'k>)>
+        ensures { (ts : Trees) → AreReadable ts → item_bytes self.now ≡ items_key ts
+            → MatchOption result (IsNoItem ts) (λ r. IsFirstItem ts (key_bytes r.0) (item_bytes r.1)) }
+    {
+        let Some((key, rest)) = next_item(self.bytes) else {
+            return None;
+        };
+        Some((Key { bytes: key }, Items { bytes: rest }))
+    }
+
+    /// How many there are.
+    pub fn len(&self) -> usize
+        ensures { (ts : Trees) → AreReadable ts → item_bytes self.now ≡ items_key ts → result ≡ trees_len ts }
+    {
+        let mut count = 0;
+        let mut rest = self.bytes;
+        'items: while let Some((_, others)) = next_item(rest) {
+            count += 1;
+            rest = others;
+        }
+        count
+    }
+}
+
+/// The members that are left of an object, in the order of their names.
+#[derive(Clone, Copy)]
+pub struct Members<'k> {
+    bytes: &'k [u8],
+    // They are the names and keys of members, and their end.
+    pub ghost checked: { ∥ AreMembers bytes.now ∥₁ },
+}
+
+impl<'k> Members<'k> {
+    ghost use Rattle.std.specs.Prelude.{◌≡◌, ◌<◌, ◌≤◌, ◌+◌, length, MatchOption};
+    ghost use Rattle.jsonb_stored.specs.Checked.{HaveReadable, IsNoMember, IsFirstMember, members_len};
+    ghost use Rattle.jsonb_stored.specs.KeyView.{key_bytes, member_bytes};
+    ghost use Rattle.jsonb_value.specs.SortKey.{members_key};
+    ghost use Rattle.jsonb_value.specs.Tree.{Members as TreeMembers};
+
+    /// The first name as it stands in the key, the key of its value, and the other members.
+    pub fn split_first(&self) -> Option<(&'k [u8], Key<'k>, Members<'k>)>
+        ensures { (ms : TreeMembers) → HaveReadable ms → member_bytes self.now ≡ members_key ms
+            → MatchOption result (IsNoMember ms) (λ r. IsFirstMember ms r.0.now (key_bytes r.1) (member_bytes r.2)) }
+    {
+        let Some((name, key, rest)) = next_member(self.bytes) else {
+            return None;
+        };
+        Some((name, Key { bytes: key }, Members { bytes: rest }))
+    }
+
+    /// How many there are.
+    pub fn len(&self) -> usize
+        ensures { (ms : TreeMembers) → HaveReadable ms → member_bytes self.now ≡ members_key ms
+            → result ≡ members_len ms }
+    {
+        let mut count = 0;
+        let mut rest = self.bytes;
+        'members: while let Some((_, _, others)) = next_member(rest) {
+            count += 1;
+            rest = others;
+        }
+        count
     }
 }

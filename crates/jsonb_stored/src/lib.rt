@@ -13,7 +13,7 @@ pub use find::{
     NoKey, count_parts, find_item, find_member, find_part, next_part, opened, range_of,
 };
 pub use check::is_sort_key;
-pub use checked::Key;
+pub use checked::{Items, Key, Members};
 pub use part::part_of_key;
 pub use skip::after_key;
 pub use text::{put_text, text_of_string, text_size};

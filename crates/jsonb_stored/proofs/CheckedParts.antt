@@ -1,0 +1,171 @@
+-- Items and members of checked keys, one after the other.
+use Rattle.std.proofs.Common.{◌≡◌, ℕ, ◌+◌, true, false, List, [], ◌∷◌, ◌++◌, Some, None, refl, sym, ap, ◌∙◌, arith, append-nil}
+use Rattle.std.proofs.Math.Logic.{∥∥₁_map}
+use Rattle.std.specs.Option.{option_map}
+use Rattle.jsonb_key.specs.Readable.{IsReadable}
+use Rattle.jsonb_key.proofs.Texts.{none_some, some_same}
+use Rattle.jsonb_stored.specs.Checked.{IsSortKey, AreReadable, HaveReadable, AreItems, AreMembers, IsNoItem, IsNoMember, IsFirstItem, IsFirstMember, members_len}
+use Rattle.jsonb_stored.proofs.CheckedKeys.{whole}
+use Rattle.jsonb_stored.proofs.Finds.{readable_inside}
+use Rattle.jsonb_value.specs.Accessors.{as_array, as_object, trees_len}
+use Rattle.jsonb_value.specs.SortKey.{key_of, items_key, members_key, text_key}
+use Rattle.jsonb_value.specs.Tree.{Tree, null, boolean, string, number, array, object, Trees, no_trees, more_trees, Members, no_members, more_members}
+use Rattle.jsonb_value.proofs.SortKeys.Kinds.{is_small, number_begins}
+use Rattle.jsonb_value.proofs.Trees.Runs.{heads, tails}
+
+-- ---- the items of an array
+
+pub items_there : (t : Tree) → IsReadable t → (bytes rest : List ℕ) → bytes ≡ key_of t → bytes ≡ 210 ∷ rest → Some rest ≡ option_map items_key (as_array t)
+items_there (array ts) r bytes rest e first = ap (λ bs. Some bs) (tails 210 210 rest (items_key ts) (sym first ∙ e))
+items_there null r bytes rest e first = absurd (omega (arith, heads 210 211 rest [] (sym first ∙ e)))
+items_there (boolean true) r bytes rest e first = absurd (omega (arith, heads 210 22 rest [] (sym first ∙ e)))
+items_there (boolean false) r bytes rest e first = absurd (omega (arith, heads 210 21 rest [] (sym first ∙ e)))
+items_there (string mark text) r bytes rest e first = absurd (omega (arith, heads 210 208 rest (text_key text) (sym first ∙ e)))
+items_there (number n) r bytes rest e first =
+    let b = number_begins n (is_small n r.proper) in
+    absurd (omega (arith, heads 210 b.head rest b.tail (sym first ∙ e ∙ b.is), b.high))
+items_there (object ms) r bytes rest e first = absurd (omega (arith, heads 210 209 rest (members_key ms) (sym first ∙ e)))
+items_there t r bytes rest e first = absurd r.within
+
+pub no_items : (t : Tree) (bytes : List ℕ) → bytes ≡ key_of t → ((ts : Trees) (more : List ℕ) → bytes ≡ key_of (array ts) ++ more → None ≡ Some (items_key ts ++ more)) → None ≡ option_map items_key (as_array t)
+no_items (array ts) bytes e none = absurd (none_some _ (none ts [] (whole (array ts) bytes e)))
+no_items t bytes e none = refl
+
+pub checked_items : (bytes rest : List ℕ) → ∥ IsSortKey bytes ∥₁ → bytes ≡ 210 ∷ rest → ∥ AreItems rest ∥₁
+checked_items bytes rest checked first = ∥∥₁_map checked (λ k. go k.value k.readable (items_there k.value k.readable bytes rest k.is_key first))
+  where
+    go : (t : Tree) → IsReadable t → Some rest ≡ option_map items_key (as_array t) → AreItems rest
+    go (array ts) r e = record { items = ts; readable = record { proper = r.proper; within = r.within }; are_keys = some_same rest (items_key ts) e }
+    go t r e = absurd (none_some rest (sym e))
+
+-- the first of them
+pub no_first : (bytes : List ℕ) → ((t : Tree) → IsReadable t → (ts : Trees) (more : List ℕ) → bytes ≡ items_key (more_trees t ts) ++ more → ⊥) → (ts : Trees) → AreReadable ts → bytes ≡ items_key ts → IsNoItem ts
+no_first bytes none no_trees r e = tt
+no_first bytes none (more_trees t ts) r e =
+    absurd (none t (readable_inside t (record { proper = r.proper.0; within = r.within.0 })) ts [] (e ∙ sym (append-nil (items_key (more_trees t ts)))))
+
+pub first_there : (bytes key rest : List ℕ) → ((more : List ℕ) → bytes ≡ items_key no_trees ++ more → ⊥) → ((t : Tree) → IsReadable t → (ts : Trees) (more : List ℕ) → bytes ≡ items_key (more_trees t ts) ++ more → (key ≡ key_of t) × (rest ≡ items_key ts ++ more))
+    → (ts : Trees) → AreReadable ts → bytes ≡ items_key ts → IsFirstItem ts key rest
+first_there bytes key rest over next no_trees r e = absurd (over [] e)
+first_there bytes key rest over next (more_trees t ts) r e =
+    let n = next t (readable_inside t (record { proper = r.proper.0; within = r.within.0 })) ts [] (e ∙ sym (append-nil (items_key (more_trees t ts)))) in
+    (n.0, n.1 ∙ append-nil (items_key ts))
+
+pub checked_item : (bytes key rest : List ℕ) → ∥ AreItems bytes ∥₁ → ((ts : Trees) → AreReadable ts → bytes ≡ items_key ts → IsFirstItem ts key rest) → ∥ IsSortKey key ∥₁
+checked_item bytes key rest checked first = ∥∥₁_map checked (λ a. go a.items a.readable (first a.items a.readable a.are_keys))
+  where
+    go : (ts : Trees) → AreReadable ts → IsFirstItem ts key rest → IsSortKey key
+    go no_trees r f = absurd f
+    go (more_trees t ts) r f = record { value = t; readable = readable_inside t (record { proper = r.proper.0; within = r.within.0 }); is_key = f.0 }
+
+pub checked_others : (bytes key rest : List ℕ) → ∥ AreItems bytes ∥₁ → ((ts : Trees) → AreReadable ts → bytes ≡ items_key ts → IsFirstItem ts key rest) → ∥ AreItems rest ∥₁
+checked_others bytes key rest checked first = ∥∥₁_map checked (λ a. go a.items a.readable (first a.items a.readable a.are_keys))
+  where
+    go : (ts : Trees) → AreReadable ts → IsFirstItem ts key rest → AreItems rest
+    go no_trees r f = absurd f
+    go (more_trees t ts) r f = record { items = ts; readable = record { proper = r.proper.1; within = r.within.1 }; are_keys = f.1 }
+
+-- how many there are
+pub record ItemsLeft (ts : Trees) (count : ℕ) (rest : List ℕ) : Type 0 where
+  pub left : Trees
+  pub readable : AreReadable left
+  pub stands : rest ≡ items_key left
+  pub counted : trees_len ts ≡ count + trees_len left
+
+abbrev pub CountsItems : List ℕ → ℕ → List ℕ → Type 0
+CountsItems bytes count rest = (ts : Trees) → AreReadable ts → bytes ≡ items_key ts → ItemsLeft ts count rest
+
+pub none_counted : (bytes : List ℕ) → CountsItems bytes 0 bytes
+none_counted bytes = λ ts r e. record { left = ts; readable = r; stands = e; counted = omega arith }
+
+pub one_counted : (bytes key rest others : List ℕ) (count : ℕ) → CountsItems bytes count rest → ((ts : Trees) → AreReadable ts → rest ≡ items_key ts → IsFirstItem ts key others) → CountsItems bytes (count + 1) others
+one_counted bytes key rest others count so_far first = λ ts r e. let l = so_far ts r e in go ts l.left l.readable l.counted (first l.left l.readable l.stands)
+  where
+    go : (ts left : Trees) → AreReadable left → trees_len ts ≡ count + trees_len left → IsFirstItem left key others → ItemsLeft ts (count + 1) others
+    go ts no_trees r c f = absurd f
+    go ts (more_trees t left) r c f = record { left = left; readable = record { proper = r.proper.1; within = r.within.1 }; stands = f.1; counted = omega (arith, c) }
+
+pub all_counted : (bytes rest : List ℕ) (count : ℕ) → CountsItems bytes count rest → ((ts : Trees) → AreReadable ts → rest ≡ items_key ts → IsNoItem ts) → (ts : Trees) → AreReadable ts → bytes ≡ items_key ts → count ≡ trees_len ts
+all_counted bytes rest count so_far none ts r e = let l = so_far ts r e in go l.left l.counted (none l.left l.readable l.stands)
+  where
+    go : (left : Trees) → trees_len ts ≡ count + trees_len left → IsNoItem left → count ≡ trees_len ts
+    go no_trees c n = omega (arith, c)
+    go (more_trees t left) c n = absurd n
+
+-- ---- the members of an object
+
+pub members_there : (t : Tree) → IsReadable t → (bytes rest : List ℕ) → bytes ≡ key_of t → bytes ≡ 209 ∷ rest → Some rest ≡ option_map members_key (as_object t)
+members_there (object ms) r bytes rest e first = ap (λ bs. Some bs) (tails 209 209 rest (members_key ms) (sym first ∙ e))
+members_there null r bytes rest e first = absurd (omega (arith, heads 209 211 rest [] (sym first ∙ e)))
+members_there (boolean true) r bytes rest e first = absurd (omega (arith, heads 209 22 rest [] (sym first ∙ e)))
+members_there (boolean false) r bytes rest e first = absurd (omega (arith, heads 209 21 rest [] (sym first ∙ e)))
+members_there (string mark text) r bytes rest e first = absurd (omega (arith, heads 209 208 rest (text_key text) (sym first ∙ e)))
+members_there (number n) r bytes rest e first =
+    let b = number_begins n (is_small n r.proper) in
+    absurd (omega (arith, heads 209 b.head rest b.tail (sym first ∙ e ∙ b.is), b.high))
+members_there (array ts) r bytes rest e first = absurd (omega (arith, heads 209 210 rest (items_key ts) (sym first ∙ e)))
+members_there t r bytes rest e first = absurd r.within
+
+pub no_members_there : (t : Tree) (bytes : List ℕ) → bytes ≡ key_of t → ((ms : Members) (more : List ℕ) → bytes ≡ key_of (object ms) ++ more → None ≡ Some (members_key ms ++ more)) → None ≡ option_map members_key (as_object t)
+no_members_there (object ms) bytes e none = absurd (none_some _ (none ms [] (whole (object ms) bytes e)))
+no_members_there t bytes e none = refl
+
+pub checked_members : (bytes rest : List ℕ) → ∥ IsSortKey bytes ∥₁ → bytes ≡ 209 ∷ rest → ∥ AreMembers rest ∥₁
+checked_members bytes rest checked first = ∥∥₁_map checked (λ k. go k.value k.readable (members_there k.value k.readable bytes rest k.is_key first))
+  where
+    go : (t : Tree) → IsReadable t → Some rest ≡ option_map members_key (as_object t) → AreMembers rest
+    go (object ms) r e = record { members = ms; readable = record { ascend = r.proper.0; proper = r.proper.1; within = r.within }; are_keys = some_same rest (members_key ms) e }
+    go t r e = absurd (none_some rest (sym e))
+
+pub no_first_member : (bytes : List ℕ) → ((name : List ℕ) (t : Tree) → IsReadable t → (ms : Members) (more : List ℕ) → bytes ≡ members_key (more_members name t ms) ++ more → ⊥) → (ms : Members) → HaveReadable ms → bytes ≡ members_key ms → IsNoMember ms
+no_first_member bytes none no_members r e = tt
+no_first_member bytes none (more_members name t ms) r e =
+    absurd (none name t (readable_inside t (record { proper = r.proper.1; within = r.within.0 })) ms [] (e ∙ sym (append-nil (members_key (more_members name t ms)))))
+
+pub first_member_there : (bytes name key rest : List ℕ) → ((more : List ℕ) → bytes ≡ members_key no_members ++ more → ⊥)
+    → ((k : List ℕ) (t : Tree) → IsReadable t → (ms : Members) (more : List ℕ) → bytes ≡ members_key (more_members k t ms) ++ more → (name ≡ text_key k) × (key ≡ key_of t) × (rest ≡ members_key ms ++ more))
+    → (ms : Members) → HaveReadable ms → bytes ≡ members_key ms → IsFirstMember ms name key rest
+first_member_there bytes name key rest over next no_members r e = absurd (over [] e)
+first_member_there bytes name key rest over next (more_members k t ms) r e =
+    let n = next k t (readable_inside t (record { proper = r.proper.1; within = r.within.0 })) ms [] (e ∙ sym (append-nil (members_key (more_members k t ms)))) in
+    (n.0, n.1, n.2 ∙ append-nil (members_key ms))
+
+pub checked_member : (bytes name key rest : List ℕ) → ∥ AreMembers bytes ∥₁ → ((ms : Members) → HaveReadable ms → bytes ≡ members_key ms → IsFirstMember ms name key rest) → ∥ IsSortKey key ∥₁
+checked_member bytes name key rest checked first = ∥∥₁_map checked (λ a. go a.members a.readable (first a.members a.readable a.are_keys))
+  where
+    go : (ms : Members) → HaveReadable ms → IsFirstMember ms name key rest → IsSortKey key
+    go no_members r f = absurd f
+    go (more_members k t ms) r f = record { value = t; readable = readable_inside t (record { proper = r.proper.1; within = r.within.0 }); is_key = f.1 }
+
+pub checked_other_members : (bytes name key rest : List ℕ) → ∥ AreMembers bytes ∥₁ → ((ms : Members) → HaveReadable ms → bytes ≡ members_key ms → IsFirstMember ms name key rest) → ∥ AreMembers rest ∥₁
+checked_other_members bytes name key rest checked first = ∥∥₁_map checked (λ a. go a.members a.readable (first a.members a.readable a.are_keys))
+  where
+    go : (ms : Members) → HaveReadable ms → IsFirstMember ms name key rest → AreMembers rest
+    go no_members r f = absurd f
+    go (more_members k t ms) r f = record { members = ms; readable = record { ascend = r.ascend.1; proper = r.proper.2; within = r.within.1 }; are_keys = f.2 }
+
+pub record MembersLeft (ms : Members) (count : ℕ) (rest : List ℕ) : Type 0 where
+  pub left : Members
+  pub readable : HaveReadable left
+  pub stands : rest ≡ members_key left
+  pub counted : members_len ms ≡ count + members_len left
+
+abbrev pub CountsMembers : List ℕ → ℕ → List ℕ → Type 0
+CountsMembers bytes count rest = (ms : Members) → HaveReadable ms → bytes ≡ members_key ms → MembersLeft ms count rest
+
+pub no_member_counted : (bytes : List ℕ) → CountsMembers bytes 0 bytes
+no_member_counted bytes = λ ms r e. record { left = ms; readable = r; stands = e; counted = omega arith }
+
+pub one_member_counted : (bytes name key rest others : List ℕ) (count : ℕ) → CountsMembers bytes count rest → ((ms : Members) → HaveReadable ms → rest ≡ members_key ms → IsFirstMember ms name key others) → CountsMembers bytes (count + 1) others
+one_member_counted bytes name key rest others count so_far first = λ ms r e. let l = so_far ms r e in go ms l.left l.readable l.counted (first l.left l.readable l.stands)
+  where
+    go : (ms left : Members) → HaveReadable left → members_len ms ≡ count + members_len left → IsFirstMember left name key others → MembersLeft ms (count + 1) others
+    go ms no_members r c f = absurd f
+    go ms (more_members k t left) r c f = record { left = left; readable = record { ascend = r.ascend.1; proper = r.proper.2; within = r.within.1 }; stands = f.2; counted = omega (arith, c) }
+
+pub all_members_counted : (bytes rest : List ℕ) (count : ℕ) → CountsMembers bytes count rest → ((ms : Members) → HaveReadable ms → rest ≡ members_key ms → IsNoMember ms) → (ms : Members) → HaveReadable ms → bytes ≡ members_key ms → count ≡ members_len ms
+all_members_counted bytes rest count so_far none ms r e = let l = so_far ms r e in go l.left l.counted (none l.left l.readable l.stands)
+  where
+    go : (left : Members) → members_len ms ≡ count + members_len left → IsNoMember left → count ≡ members_len ms
+    go no_members c n = omega (arith, c)
+    go (more_members k t left) c n = absurd n
