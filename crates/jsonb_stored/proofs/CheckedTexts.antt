@@ -1,14 +1,12 @@
 -- The key of a text, checked from zero to zero.
-use Rattle.std.proofs.Common.{◌≡◌, ◌≢◌, ℕ, zero, suc, ◌+◌, ◌<◌, ◌⊎◌, ◌↔◌, inl, inr, List, [], ◌∷◌, ◌++◌, Some, None, get_or, take, drop, length, IsUtf8, refl, sym, subst, ap, ◌∙◌, arith, eq-eqb, append_assoc, append-nil, length-append}
+use Rattle.std.proofs.Common.{◌≡◌, ◌≢◌, ℕ, zero, suc, ◌+◌, ◌<◌, ◌⊎◌, ◌↔◌, inl, inr, List, [], ◌∷◌, ◌++◌, get_or, take, drop, length, IsUtf8, refl, sym, subst, ap, ◌∙◌, arith, append_assoc, append-nil, length-append}
 use Rattle.std.proofs.lemmas.List.{take-append-drop}
 use Rattle.std.proofs.lemmas.Str.{IsUtf8-append, IsUtf8-take, IsUtf8-drop, IsUtf8-from_ascii, IsCharBoundary-before_ascii, IsCharBoundary-after_ascii}
 use Rattle.std.proofs.Math.Seq.{drop-append-add}
-use Rattle.memchr.specs.Find.{IsFirstByte, is_byte}
 use Rattle.jsonb_value.specs.SortKey.{text_key}
 use Rattle.jsonb_value.proofs.SortKeys.Texts.{text_key-other}
 use Rattle.jsonb_value.proofs.Trees.Runs.{heads, tails}
-use Rattle.jsonb_stored.specs.Frames.{TextFirst}
-use Rattle.jsonb_stored.proofs.AfterTexts.{some_zero, is_zero}
+use Rattle.jsonb_stored.specs.Frames.{TextFirst, Utf8UpTo}
 
 -- ---- bytes before the first zero
 
@@ -89,15 +87,13 @@ pub record ZeroAt (rest run tail : List ℕ) : Type 0 where
   pub before : run ≡ take at rest
   pub behind : drop at rest ≡ 0 ∷ tail
 
-pub zero_at : (rest run tail : List ℕ) (z : ℕ) → IsFirstByte (is_byte 0) rest (Some z) → run ≡ take z rest → tail ≡ drop (z + 1) rest → ZeroAt rest run tail
-zero_at rest run tail z found front back =
-    let one_more : z + 1 ≡ suc z = omega arith in
-    record {
-      at = z;
-      none = λ k l h. found.0.before k (omega arith) l (eq-eqb (get_or rest k 0) 0 h);
-      before = front;
-      behind = dropped z rest found.0.high ∙ (λ i. is_zero (get_or rest z 0) found.1 i ∷ sym (back ∙ ap (λ k. drop k rest) one_more) i);
-    }
+pub zero_up_to : (rest : List ℕ) (z : ℕ) → z < length rest → NoneBefore rest z → get_or rest z 0 ≡ 0 → ZeroAt rest (take z rest) (drop (suc z) rest)
+zero_up_to rest z within none here = record { at = z; none = none; before = refl; behind = dropped z rest within ∙ ap (λ b. b ∷ drop (suc z) rest) here }
+
+pub zero_at : (rest tail : List ℕ) (z : ℕ) → Utf8UpTo rest z → tail ≡ drop (z + 1) rest → ZeroAt rest (take z rest) tail
+zero_at rest tail z u back =
+    let one_more : suc z ≡ z + 1 = omega arith in
+    subst (ZeroAt rest (take z rest)) (ap (λ k. drop k rest) one_more ∙ sym back) (zero_up_to rest z u.within u.none_before u.here)
 
 cases : (rest run tail more : List ℕ) → ZeroAt rest run tail → (t : TextFirst rest more) → AtZero run t.text tail more
 cases rest run tail more z t = subst (λ r. AtZero r t.text tail more) (sym z.before) (at_zero z.at rest t.text more tail t.stands z.none z.behind)
@@ -156,7 +152,3 @@ text_goes_on rest run tail others mark z first last u more = (to, λ t. from t (
     from : (t : TextFirst rest more) → AtZero run t.text tail more → TextFirst others more
     from t (inl p) = absurd (omega (arith, last, heads mark 1 others more (sym first ∙ p.1)))
     from t (inr p) = record { text = p.0; utf8 = utf8_behind run p.0 (subst IsUtf8 p.1 t.utf8); stands = tails mark 255 others (text_key p.0 ++ more) (sym first ∙ p.2) }
-
--- there is a zero in the key of each text
-pub zero_there : (rest more : List ℕ) → IsFirstByte (is_byte 0) rest None → TextFirst rest more → ⊥
-zero_there rest more none t = some_zero t.text more rest t.stands (λ k l h. none k (omega arith) l (eq-eqb (get_or rest k 0) 0 h))

@@ -15,3 +15,4 @@ pub mod Stacked
 pub mod CheckedNames
 pub mod CheckedKeys
 pub mod CheckedParts
+pub mod PlainBytes

@@ -1,6 +1,6 @@
 -- Keys that bytes begin with, and what is known of an array or an object that is open while a key is checked.
 -- Read for: private.
-use Rattle.std.specs.Prelude.{◌≡◌, ℕ, Bool, true, false, List, ◌++◌, Option, Some, None, length, ⊤, IsUtf8}
+use Rattle.std.specs.Prelude.{◌≡◌, ◌≢◌, ◌<◌, ℕ, Bool, true, false, List, ◌++◌, Option, Some, None, length, take, get_or, ⊤, IsUtf8}
 use Rattle.std.specs.Ordering.{nat_cmp}
 use Rattle.std.specs.Cmp.Lexicographic.{slice_cmp}
 use Rattle.std.specs.declared.cmp.Ordering.TheVariants.{Less}
@@ -86,3 +86,14 @@ abbrev pub IsFrame : List ℕ → Frame → ℕ → Type 0
 IsFrame bytes in_array size = size ≡ 0
 IsFrame bytes (in_object None) size = size ≡ 1
 IsFrame bytes (in_object (Some name)) size = NameAt bytes name size
+
+-- the first bytes are ASCII and no zeros
+abbrev pub ArePlain : List ℕ → ℕ → Type 0
+ArePlain bytes count = (k : ℕ) → k < count → (get_or bytes k 0 ≢ 0) × (get_or bytes k 0 < 128)
+
+-- The first zero stands at this index, and the bytes before it are UTF-8.
+pub record Utf8UpTo (bytes : List ℕ) (zero : ℕ) : Type 0 where
+  pub within : zero < length bytes
+  pub none_before : (k : ℕ) → k < zero → get_or bytes k 0 ≢ 0
+  pub here : get_or bytes zero 0 ≡ 0
+  pub utf8 : IsUtf8 (take zero bytes)

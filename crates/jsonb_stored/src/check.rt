@@ -1,14 +1,14 @@
 //! Whether bytes are a sort key.
 
-ghost use Rattle.std.specs.Prelude.{◌≡◌, ◌<◌, ◌≤◌, ◌++◌, ◌↔◌, List, ℕ, length, option_map, get_or, Some, true, IsTrue, IfSome, IsUtf8, Option};
+ghost use Rattle.std.specs.Prelude.{◌≡◌, ◌<◌, ◌≤◌, ◌++◌, ◌↔◌, List, ℕ, length, option_map, get_or, Some, true, IsTrue, IfSome, Option};
 ghost use Rattle.jsonb_stored.specs.Checked.{IsSortKey};
 ghost use Rattle.jsonb_stored.specs.Frames.{KeyFirst, ScalarFirst, NumberFirst, TextFirst, PartsFirst, Frame, in_object, is_object_frame, new_frame, IsAbove, NameFirst, named, IsFrame};
 ghost use Rattle.jsonb_value.specs.SortKey.{text_key};
 
+use crate::ascii::utf8_run;
 use crate::skip::{MAX_DEPTH, after_end, after_text, is_word, opening};
 use crate::walk::front;
 use jsonb_key::number::read_number;
-use memchr::memchr;
 
 // What is kept of each open array and object: that it is an array, that it is an object with no name passed, or else how
 // many bytes there are from the last name on.
@@ -74,12 +74,8 @@ fn checked_text(bytes: &[u8]) -> Option<&[u8]>
     ensures shorter { IfSome result (λ rest. length rest.now < length bytes.now) }
 {
     let mut rest = bytes;
-    'zeros: while let Some(zero) = memchr(0, rest) {
-        let (run, _) = rest.split_at(zero);
+    'zeros: while let Some(zero) = utf8_run(rest) {
         let (_, tail) = rest.split_at(zero + 1);
-        if !is_utf8(run) {
-            return None;
-        }
         let Some((mark, others)) = tail.split_first() else {
             return None;
         };
@@ -92,12 +88,6 @@ fn checked_text(bytes: &[u8]) -> Option<&[u8]>
         rest = others;
     }
     None
-}
-
-fn is_utf8(bytes: &[u8]) -> bool
-    ensures { IsTrue result ↔ IsUtf8 bytes.now }
-{
-    simdutf8::basic::from_utf8(bytes).is_ok()
 }
 
 // The bytes after the parts of an object or an array and after its end, if they are in order.

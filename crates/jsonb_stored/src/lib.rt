@@ -1,9 +1,10 @@
 //! Values that are kept as their sort keys: where a key ends, parts and members, straight from the bytes.
 #![tactic(auto)]
 
-pub mod find;
+mod ascii;
 pub mod check;
 pub mod checked;
+pub mod find;
 pub mod part;
 pub mod skip;
 pub mod text;

@@ -1,0 +1,146 @@
+//! Bytes of a text up to its first zero, checked to be UTF-8.
+
+ghost use Rattle.std.specs.Prelude.{◌≡◌, ◌≢◌, ◌<◌, ◌≤◌, ◌↔◌, ◌==◌, ℕ, List, length, get_or, if◌then◌else◌, MatchOption, IsTrue, IsUtf8};
+ghost use Rattle.std.specs.Int.{trailing_zeros, w64};
+ghost use Rattle.jsonb_stored.specs.Frames.{ArePlain, TextFirst, Utf8UpTo};
+
+use memchr::memchr;
+use std::simd::prelude::*;
+
+/// How many bytes stand before the first zero, if they are UTF-8.
+#[inline(always)]
+pub(crate) fn utf8_run(bytes: &[u8]) -> Option<usize>
+    ensures { MatchOption result ((more : List ℕ) → ¬ (TextFirst bytes.now more)) (λ zero. Utf8UpTo bytes.now zero) }
+{
+    let run = plain_run(bytes);
+    let (_, rest) = bytes.split_at(run);
+    let Some((first, _)) = rest.split_first() else {
+        return None;
+    };
+    if *first == 0 {
+        return Some(run);
+    }
+    longer_run(bytes, run)
+}
+
+// The same, where the first `run` bytes are ASCII.
+#[inline(never)]
+fn longer_run(bytes: &[u8], run: usize) -> Option<usize>
+    requires within { run ≤ length bytes.now }
+    requires plain { ArePlain bytes.now run }
+    ensures { MatchOption result ((more : List ℕ) → ¬ (TextFirst bytes.now more)) (λ zero. Utf8UpTo bytes.now zero) }
+{
+    let (_, rest) = bytes.split_at(run);
+    let Some(zero) = memchr(0, rest) else {
+        return None;
+    };
+    let (text, _) = rest.split_at(zero);
+    if !is_utf8(text) {
+        return None;
+    }
+    Some(run + zero)
+}
+
+fn is_utf8(bytes: &[u8]) -> bool
+    ensures { IsTrue result ↔ IsUtf8 bytes.now }
+{
+    simdutf8::basic::from_utf8(bytes).is_ok()
+}
+
+// How many of the first bytes are ASCII and no zeros.
+#[inline(always)]
+fn plain_run(bytes: &[u8]) -> usize
+    ensures within { result ≤ length bytes.now }
+    ensures plain { ArePlain bytes.now result }
+{
+    if bytes.len() < 16 {
+        return run_by_bytes(bytes);
+    }
+    let run = run_of_sixteen(bytes);
+    if run < 16 {
+        return run;
+    }
+    16 + long_run(&bytes[16..])
+}
+
+// The same, where they are many.
+#[inline(never)]
+fn long_run(bytes: &[u8]) -> usize
+    ensures within { result ≤ length bytes.now }
+    ensures plain { ArePlain bytes.now result }
+{
+    let mut len = 0;
+    'wide: while bytes.len() - len >= 64 {
+        if !are_plain(&bytes[len..]) {
+            return len + run_by_vectors(&bytes[len..]);
+        }
+        len += 64;
+    }
+    len + run_by_vectors(&bytes[len..])
+}
+
+// The same, 16 at a time.
+#[inline(always)]
+fn run_by_vectors(bytes: &[u8]) -> usize
+    ensures within { result ≤ length bytes.now }
+    ensures plain { ArePlain bytes.now result }
+{
+    let mut len = 0;
+    'vectors: while bytes.len() - len >= 16 {
+        let run = run_of_sixteen(&bytes[len..]);
+        len += run;
+        if run < 16 {
+            return len;
+        }
+    }
+    len + run_by_bytes(&bytes[len..])
+}
+
+// Whether the first 64 bytes are.
+#[inline(always)]
+fn are_plain(bytes: &[u8]) -> bool
+    requires { 64 ≤ length bytes.now }
+    ensures { IsTrue result → ArePlain bytes.now 64 }
+{
+    let lanes = u8x64::from_slice(bytes);
+    let marks = lanes.simd_eq(u8x64::splat(0)) | lanes.simd_ge(u8x64::splat(128));
+    marks.to_bitmask() == 0
+}
+
+// The same, byte by byte.
+#[inline(always)]
+fn run_by_bytes(bytes: &[u8]) -> usize
+    ensures within { result ≤ length bytes.now }
+    ensures plain { ArePlain bytes.now result }
+{
+    'bytes: for (i, byte) in bytes.iter().enumerate() {
+        if *byte == 0 || *byte >= 128 {
+            return i;
+        }
+    }
+    bytes.len()
+}
+
+// The same of the first 16 bytes.
+#[inline(always)]
+fn run_of_sixteen(bytes: &[u8]) -> usize
+    requires { 16 ≤ length bytes.now }
+    ensures within { result ≤ 16 }
+    ensures plain { ArePlain bytes.now result }
+{
+    let lanes = u8x16::from_slice(bytes);
+    let marks = lanes.simd_eq(u8x16::splat(0)) | lanes.simd_ge(u8x16::splat(128));
+    first_set(marks.to_bitmask(), 16)
+}
+
+// The index of the lowest bit that is set, or the number of lanes where none is.
+#[inline(always)]
+fn first_set(mask: u64, lanes: usize) -> usize
+    ensures { result ≡ (if mask == 0 then lanes else trailing_zeros w64 mask) }
+{
+    if mask == 0 {
+        lanes
+    } else {
+        mask.trailing_zeros() as usize
+    }
+}
