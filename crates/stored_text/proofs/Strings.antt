@@ -1,5 +1,5 @@
 -- The text of a string, from its key.
-use Rattle.std.proofs.Common.{◌≡◌, ◌≢◌, ℕ, zero, suc, ◌+◌, ◌≤◌, Bool, true, false, List, [], ◌∷◌, ◌++◌, Some, None, get_or, set, drop, take, length, refl, sym, ap, ap₂, subst, ◌∙◌, arith, append-nil, append_assoc, drop-cons, length-append}
+use Rattle.std.proofs.Common.{◌≡◌, ◌≢◌, ℕ, zero, suc, ◌+◌, ◌≤◌, Bool, true, false, List, [], ◌∷◌, ◌++◌, Some, None, get_or, set, drop, take, length, refl, sym, ap, ap₂, ◌∙◌, arith, append-nil, append_assoc, drop-cons, length-append}
 use Rattle.std.proofs.Math.Seq.{drop-append_seam, set-append_seam, take-append-add}
 use Rattle.std.proofs.lemmas.List.{take-append-drop, take-take, get_or-take, length-take, length-take-le}
 use Rattle.std.proofs.lemmas.Grind.{flat_map-append}
@@ -167,12 +167,12 @@ closed_row colon chunk run count room is =
     ∙ closing_taken colon front (drop (run + 1 + 1) chunk) count (omega (arith, is, long))
 
 -- the string that begins with these bytes
-pub short_string : (colon : Bool) (bytes chunk : List ℕ) (run : ℕ) → chunk ≡ take 16 bytes → length chunk ≡ 16 → run ≤ 14 → ArePlain (take run chunk) → get_or chunk run 0 ≡ 0 → get_or chunk (run + 1) 0 ≡ 1
+pub short_string : (colon : Bool) (bytes chunk : List ℕ) (run : ℕ) → chunk ≡ take 16 bytes → length chunk ≡ 16 → run ≤ 14 → ArePlain (take run bytes) → get_or chunk run 0 ≡ 0 → get_or chunk (run + 1) 0 ≡ 1
     → (text more : List ℕ) → bytes ≡ text_key text ++ more → (drop (run + 2) bytes ≡ more) × (take run chunk ++ closing_quote colon ≡ flat_map byte_text text ++ closing_quote colon)
 short_string colon bytes chunk run is long few plain zero_there one_there text more e =
     let most : 16 ≤ length bytes = omega (arith, ap length is, long, length-take 16 bytes) in
     let same : take run chunk ≡ take run bytes = ap (take run) is ∙ take-take run 16 bytes (omega (arith, few)) in
-    let p = passed run bytes text more e (omega (arith, most, few)) (subst ArePlain same plain) in
+    let p = passed run bytes text more e (omega (arith, most, few)) plain in
     let first : get_or bytes run 0 ≡ 0 = sym (ap (λ c. get_or c run 0) is ∙ get_or-take 16 bytes run 0 (omega (arith, few))) ∙ zero_there in
     let second : get_or bytes (run + 1) 0 ≡ 1 = sym (ap (λ c. get_or c (run + 1) 0) is ∙ get_or-take 16 bytes (run + 1) 0 (omega (arith, few))) ∙ one_there in
     let one : suc run ≡ run + 1 = omega arith in
@@ -182,4 +182,4 @@ short_string colon bytes chunk run is long few plain zero_there one_there text m
     ∙ ap (λ xs. 0 ∷ xs) (drop-cons bytes (run + 1) 0 (omega (arith, most, few)) ∙ ap₂ (λ x n. x ∷ drop n bytes) second two) in
     let over = text_over p.left (drop run bytes) (drop (run + 2) bytes) more read p.stands in
     let all : text ≡ take run bytes = p.is ∙ ap (λ t. take run bytes ++ t) over.0 ∙ append-nil (take run bytes) in
-    (over.1, ap (λ t. t ++ closing_quote colon) (sym (ap (flat_map byte_text) (all ∙ sym same) ∙ plain)))
+    (over.1, ap (λ t. t ++ closing_quote colon) (same ∙ sym (ap (flat_map byte_text) all ∙ plain)))

@@ -26,10 +26,10 @@ pub(crate) fn append_chunk(bytes: &[u8], count: usize, buf: &mut Vec<u8>) -> Res
     ensures { Appends result buf.old buf.new (take count bytes.now) }
 {
     let len = buf.len();
-    if buf.capacity() - len < bytes.len() {
-        return buf.extend_from_slice(&bytes[..count]);
+    if buf.capacity() - len >= bytes.len() {
+        buf.extend_from_slice(bytes)?;
+        buf.truncate(len + count);
+        return Ok(());
     }
-    buf.extend_from_slice(bytes)?;
-    buf.truncate(len + count);
-    Ok(())
+    buf.extend_from_slice(&bytes[..count])
 }

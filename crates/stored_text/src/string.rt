@@ -1,9 +1,10 @@
 //! The bytes of a string from its key, with their escapes.
-ghost use Rattle.std.specs.Prelude.{◌≡◌, ◌<◌, ◌≤◌, ◌++◌, ℕ, List, length, IfOk};
+ghost use Rattle.std.specs.Prelude.{◌≡◌, ◌<◌, ◌≤◌, ◌++◌, ℕ, List, length, take, IfOk};
 ghost use Rattle.std.specs.Char.{digit_char};
 ghost use Rattle.std.specs.List.{flat_map};
 ghost use Rattle.jsonb_value.specs.SortKey.{text_key};
 ghost use Rattle.jsonb_value.specs.Text.StringText.{byte_text, control_text};
+ghost use Rattle.jsonb_write.specs.PlainText.{ArePlain};
 ghost use Rattle.stored_text.specs.Writes.{Appends, Keeps, Writes, closing_quote};
 
 use crate::append::{append_chunk, append_first};
@@ -24,30 +25,40 @@ pub(crate) fn append_text<'k>(
     ensures shorter { IfOk result (λ rest. length rest.now < length bytes.now) }
     ensures keeps { Keeps buf.old buf.new }
 {
-    if let Some(chunk) = bytes.first_chunk::<16>() {
-        let run = plain_len(chunk);
-        if run <= 14 && chunk[run] == 0 && chunk[run + 1] == 1 {
-            let mut row = *chunk;
-            row[run] = b'"';
-            row[run + 1] = b':';
-            append_chunk(&row, run + closing_len(colon), buf)?;
-            return Ok(&bytes[run + 2..]);
+    let run = plain_len(bytes);
+    if run <= 14 {
+        if let Some(chunk) = bytes.first_chunk::<16>() {
+            if chunk[run] == 0 && chunk[run + 1] == 1 {
+                let mut row = *chunk;
+                row[run] = b'"';
+                row[run + 1] = b':';
+                append_chunk(&row, run + closing_len(colon), buf)?;
+                return Ok(&bytes[run + 2..]);
+            }
         }
     }
-    append_long(colon, bytes, buf)
+    append_long(colon, bytes, run, buf)
 }
 
-// Appends them where they are many, have escapes, or stand near the end of the key.
+// Appends them where they are many, have escapes, or stand near the end of the key. As many of the first bytes as `run`
+// are written as they are.
 #[inline(never)]
-fn append_long<'k>(colon: bool, bytes: &'k [u8], buf: &mut Vec<u8>) -> Result<&'k [u8], KeyError>
+fn append_long<'k>(
+    colon: bool,
+    bytes: &'k [u8],
+    run: usize,
+    buf: &mut Vec<u8>,
+) -> Result<&'k [u8], KeyError>
+    requires within { run ≤ length bytes.now }
+    requires plain { ArePlain (take run bytes.now) }
     ensures found { (text more : List ℕ) → bytes.now ≡ text_key text ++ more
         → Writes (λ rest. rest.now) result buf.old buf.new more (flat_map byte_text text ++ closing_quote colon) }
     ensures shorter { IfOk result (λ rest. length rest.now < length bytes.now) }
     ensures keeps { Keeps buf.old buf.new }
 {
     let mut rest = bytes;
+    let mut run = run;
     'runs: loop {
-        let run = plain_len(rest);
         append_first(rest, run, buf)?;
         let others = &rest[run..];
         if let Some(after) = skip_pair(1, others) {
@@ -59,6 +70,7 @@ fn append_long<'k>(colon: bool, bytes: &'k [u8], buf: &mut Vec<u8>) -> Result<&'
         };
         append_byte(byte, buf)?;
         rest = more;
+        run = plain_len(rest);
     }
 }
 

@@ -1,4 +1,5 @@
-use Rattle.std.proofs.Common.{◌≤◌, length}
+use Rattle.std.proofs.Common.{◌≤◌, length, take}
+use Rattle.jsonb_write.specs.PlainText.{ArePlain}
 use Rattle.stored_text.specs.Writes.{Keeps}
 use Rattle.stored_text.proofs.Strings.{WritesInside}
 use Rattle.stored_text.proofs.string.append_long.Given as goal
@@ -9,6 +10,8 @@ invariant-runs l = record {
   writes : WritesInside l.colon l.bytes l.rest l.fn.buf.items l.buf.items;
   keeps : Keeps l.fn.buf l.buf;
   within : length l.rest ≤ length l.bytes;
+  inside : l.run ≤ length l.rest;
+  plain : ArePlain (take l.run l.rest);
 }
 
 abbrev pub decreases-runs : goal.decreases-runs
