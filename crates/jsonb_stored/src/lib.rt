@@ -10,11 +10,11 @@ pub mod skip;
 pub mod text;
 pub mod walk;
 
+pub use check::is_sort_key;
+pub use checked::{Items, Key, Members};
 pub use find::{
     NoKey, count_parts, find_item, find_member, find_part, next_part, opened, range_of,
 };
-pub use check::is_sort_key;
-pub use checked::{Items, Key, Members};
 pub use part::part_of_key;
 pub use skip::after_key;
 pub use text::{put_text, text_of_string, text_size};
