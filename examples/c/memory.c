@@ -52,6 +52,7 @@ static const char *const texts[] = {
 static uint32_t call(int which, uint32_t mode, const unsigned char *text, size_t text_size, size_t room) {
   static const unsigned char path[] = {'/', 'c', '/', 'k'};
   static const unsigned char key[] = {0xD2, 0xD0, 'a', '\n', 0, 1, 0xA1, 0x1E, 0xD1, 0, 0, 0};
+  static const unsigned char object_key[] = {0xD1, 'c', 0, 1, 0xD1, 'k', 0, 1, 0xD3, 0, 0, 0, 0};
   unsigned char buffer[400], key_buffer[400];
   struct vizhoniku_refusal refusal;
   size_t size, key_size;
@@ -65,16 +66,17 @@ static uint32_t call(int which, uint32_t mode, const unsigned char *text, size_t
     case 5:
       return vizhoniku_text_and_key(mode, text, text_size, buffer, room, &size, key_buffer, room, &key_size, &refusal);
     case 6: return vizhoniku_key_text(key, sizeof key, buffer, room, &size);
+    case 7: return vizhoniku_key_part(object_key, sizeof object_key, path, sizeof path, &size, &key_size);
     default: return vizhoniku_compare(mode, text, text_size, text, text_size, &order, &refusal);
   }
 }
 
 int main(void) {
   long kept = 0, wrong = 0;
-  for (size_t i = 0; i < 2 * 2 * 8 * (sizeof texts / sizeof *texts); i++) {
+  for (size_t i = 0; i < 2 * 2 * 9 * (sizeof texts / sizeof *texts); i++) {
     const unsigned char *text = (const unsigned char *)texts[i / 32];
     size_t text_size = strlen(texts[i / 32]), room = i % 2 ? 400 : 3;
-    int which = (int)(i / 2 % 8);
+    int which = (int)(i / 2 % 9);
     uint32_t mode = (uint32_t)(i / 16 % 2), whole = 0;
     for (refused = -1; refused < 0 || asked >= refused; refused++) {
       long before = held;
