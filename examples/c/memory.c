@@ -74,10 +74,10 @@ static uint32_t call(int which, uint32_t mode, const unsigned char *text, size_t
 int main(void) {
   long kept = 0, wrong = 0;
   for (size_t i = 0; i < 2 * 2 * 9 * (sizeof texts / sizeof *texts); i++) {
-    const unsigned char *text = (const unsigned char *)texts[i / 32];
-    size_t text_size = strlen(texts[i / 32]), room = i % 2 ? 400 : 3;
+    const unsigned char *text = (const unsigned char *)texts[i / 36];
+    size_t text_size = strlen(texts[i / 36]), room = i % 2 ? 400 : 3;
     int which = (int)(i / 2 % 9);
-    uint32_t mode = (uint32_t)(i / 16 % 2), whole = 0;
+    uint32_t mode = (uint32_t)(i / 18 % 2), whole = 0;
     for (refused = -1; refused < 0 || asked >= refused; refused++) {
       long before = held;
       asked = 0;

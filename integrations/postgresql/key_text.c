@@ -1,7 +1,7 @@
 /*-------------------------------------------------------------------------
  *
  * key_text.c
- *	  Writing the text of a value from its sort key, and finding its parts there.
+ *	  Writing the text of a value from its sort key.
  *
  * The format of sort keys is that of docs/SORT_KEYS.md, and the text is the
  * one that the library writes (docs/VALUES.md).  Nothing here is relied on for
@@ -441,7 +441,7 @@ key_text_write(const unsigned char *key, size_t key_size, const unsigned char *z
 }
 
 /*
- * The part of a key at a path
+ * The zeros of a part
  */
 
 /* The end of the text of a string that begins here, behind its 0 and 1. NULL if there is none. */
@@ -460,9 +460,12 @@ string_end(const unsigned char *key, const unsigned char *key_end)
 	return NULL;
 }
 
-/* The end of the value that begins here. NULL if there is none. How many numbers it has is added to *numbers. */
+/*
+ * The end of the value that begins here, or the part of it where to stop.  NULL
+ * if there is none.  How many numbers come before it is added to *numbers.
+ */
 static const unsigned char *
-value_end(const unsigned char *key, const unsigned char *key_end, uint64 *numbers)
+value_end(const unsigned char *key, const unsigned char *key_end, const unsigned char *stop, uint64 *numbers)
 {
 	bool		in_object[MAX_LEVELS];
 	int			depth = 0;
@@ -471,6 +474,8 @@ value_end(const unsigned char *key, const unsigned char *key_end, uint64 *number
 	{
 		unsigned char kind;
 
+		if (key == stop)
+			return key;
 		if (key == key_end)
 			return NULL;
 		kind = *key++;
@@ -536,162 +541,14 @@ value_end(const unsigned char *key, const unsigned char *key_end, uint64 *number
 	}
 }
 
-/* Whether the name, with the 0 and 1 behind it, is that of this step of a path. */
-static bool
-is_step(const unsigned char *name, const unsigned char *name_end, const char *step, const char *step_end)
-{
-	for (name_end -= 2; step < step_end; step++, name++)
-	{
-		unsigned char wanted = *step;
-
-		if (wanted == '~')
-			wanted = *++step == '0' ? '~' : '/';
-		if (name >= name_end || *name != wanted || wanted == 0)
-			return false;
-	}
-	return name == name_end;
-}
-
-/* The number of an item as a step of a path spells it. False if it spells none. */
-static bool
-step_index(const char *step, const char *step_end, uint64 *index)
-{
-	if (step == step_end || (*step == '0' && step + 1 < step_end) || step_end - step > 10)
-		return false;
-	for (*index = 0; step < step_end; step++)
-	{
-		if (*step < '0' || *step > '9')
-			return false;
-		*index = *index * 10 + (*step - '0');
-	}
-	return true;
-}
-
 bool
-key_path_valid(const char *path, size_t path_size)
+key_numbers(const unsigned char *key, size_t key_size, size_t offset, size_t size, uint64 *before, uint64 *numbers)
 {
-	const char *path_end = path + path_size;
+	const unsigned char *part = key + offset;
 
-	if (path_size > 0 && *path != '/')
-		return false;
-	for (; path < path_end; path++)
-	{
-		if (*path == '~' && (++path == path_end || (*path != '0' && *path != '1')))
-			return false;
-	}
-	return true;
-}
-
-KeyPart
-key_part(const unsigned char *key, size_t key_size, const char *path, size_t path_size,
-		 const unsigned char **part, size_t *part_size, uint64 *numbers_before, uint64 *numbers)
-{
-	const unsigned char *key_end = key + key_size;
-	const char *path_end = path + path_size;
-	const unsigned char *end;
-
-	if (!key_path_valid(path, path_size))
-		return KEY_NO_PATH;
-
-	*numbers_before = *numbers = 0;
-	while (path < path_end)
-	{
-		const char *step = ++path;
-		const char *step_end = memchr(step, '/', path_end - step);
-		unsigned char kind;
-
-		if (step_end == NULL)
-			step_end = path_end;
-		path = step_end;
-		if (key == key_end)
-			return KEY_CORRUPTED;
-		kind = *key++;
-		if (kind == KEY_OBJECT)
-		{
-			for (;;)
-			{
-				const unsigned char *name = key;
-
-				if (key_end - key < 2)
-					return KEY_CORRUPTED;
-				if (key[0] == 0 && key[1] == 0)
-					return KEY_NO_PART;
-				key = string_end(name, key_end);
-				if (key == NULL)
-					return KEY_CORRUPTED;
-				if (is_step(name, key, step, step_end))
-					break;
-				key = value_end(key, key_end, numbers_before);
-				if (key == NULL)
-					return KEY_CORRUPTED;
-			}
-		}
-		else if (kind == KEY_ARRAY)
-		{
-			uint64		index;
-
-			if (!step_index(step, step_end, &index))
-				return KEY_NO_PART;
-			for (;; index--)
-			{
-				if (key == key_end)
-					return KEY_CORRUPTED;
-				if (*key == 0)
-					return KEY_NO_PART;
-				if (index == 0)
-					break;
-				key = value_end(key, key_end, numbers_before);
-				if (key == NULL)
-					return KEY_CORRUPTED;
-			}
-		}
-		else
-			return KEY_NO_PART;
-	}
-
-	end = value_end(key, key_end, numbers);
-	if (end == NULL)
-		return KEY_CORRUPTED;
-	*part = key;
-	*part_size = end - key;
-	return KEY_PART;
-}
-
-bool
-key_is_null(const unsigned char *key, size_t key_size)
-{
-	return key_size == 1 && *key == KEY_NULL;
-}
-
-bool
-key_is_string(const unsigned char *key, size_t key_size)
-{
-	return key_size > 0 && *key == KEY_STRING;
-}
-
-char *
-key_string(const unsigned char *key, size_t key_size, size_t *size)
-{
-	const unsigned char *key_end = key + key_size;
-	char	   *string;
-
-	if (!key_is_string(key, key_size) || string_end(key + 1, key_end) != key_end)
-		return NULL;
-	string = palloc_extended(key_size, MCXT_ALLOC_HUGE);
-	*size = 0;
-	for (key++; key < key_end - 2; key++)
-	{
-		const unsigned char *zero = memchr(key, 0, key_end - 2 - key);
-		size_t		run = (zero ? zero + 1 : key_end - 2) - key;
-
-		memcpy(string + *size, key, run);
-		*size += run;
-		if (zero == NULL)
-			break;
-		key = zero + 1;			/* the 0xFF behind it */
-	}
-	string[*size] = '\0';
-	return string;
+	*before = *numbers = 0;
+	return value_end(key, key + key_size, part, before) == part &&
+		value_end(part, key + key_size, NULL, numbers) == part + size;
 }
 
 /* Append how many numbers come before one with zeros. */

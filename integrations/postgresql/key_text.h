@@ -1,7 +1,7 @@
 /*-------------------------------------------------------------------------
  *
  * key_text.h
- *	  Writing the text of a value from its sort key, and finding its parts there.
+ *	  Writing the text of a value from its sort key.
  *
  *-------------------------------------------------------------------------
  */
@@ -32,36 +32,12 @@ extern bool key_text_zeros(const unsigned char *key, size_t key_size, const char
 extern char *key_text_write(const unsigned char *key, size_t key_size, const unsigned char *zeros, size_t zeros_size,
 							size_t *text_size);
 
-/* What there is at a path in a key. */
-typedef enum
-{
-	KEY_PART,					/* a part */
-	KEY_NO_PART,				/* nothing */
-	KEY_NO_PATH,				/* the path isn't spelled as RFC 6901 has it */
-	KEY_CORRUPTED				/* the bytes are no key */
-} KeyPart;
-
-/* Whether it is the key of null. */
-extern bool key_is_null(const unsigned char *key, size_t key_size);
-
-/* Whether it is the key of a string. */
-extern bool key_is_string(const unsigned char *key, size_t key_size);
-
 /*
- * The string of a key, with a zero byte at its end; it may have others.  NULL if
- * it is no key of a string.
+ * Count the numbers of a part of a key, and those before it.  False if the
+ * bytes are no key with such a part.
  */
-extern char *key_string(const unsigned char *key, size_t key_size, size_t *size);
-
-/* Whether the bytes are a path. */
-extern bool key_path_valid(const char *path, size_t path_size);
-
-/*
- * Find the part of a key at a path: its bytes in the key, which are the key of
- * the part, how many numbers come before it, and how many it has.
- */
-extern KeyPart key_part(const unsigned char *key, size_t key_size, const char *path, size_t path_size,
-						const unsigned char **part, size_t *part_size, uint64 *numbers_before, uint64 *numbers);
+extern bool key_numbers(const unsigned char *key, size_t key_size, size_t offset, size_t size,
+						uint64 *before, uint64 *numbers);
 
 /*
  * Find the zeros of a part with these numbers among those of the whole key.  At

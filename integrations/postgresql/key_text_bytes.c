@@ -51,31 +51,25 @@ static void differs(const char *what, const char *text, size_t size) {
 /* A beginning of a key is no key, whatever is asked of it. */
 static void cut(const unsigned char *key, size_t key_size, const char *text, size_t text_size) {
   unsigned char *zeros = NULL;
-  size_t size, zeros_size = 0, part_size;
-  const unsigned char *part;
+  size_t size, zeros_size = 0;
   uint64 before, numbers;
   char *written = key_text_write(key, key_size, NULL, 0, &size);
   if (written) differs("a beginning of its key has a text", text, text_size);
   free(written);
   if (key_text_zeros(key, key_size, text, text_size, &zeros, &zeros_size))
     differs("a beginning of its key has its text", text, text_size);
-  written = key_string(key, key_size, &size);
-  if (written) differs("a beginning of its key has a string", text, text_size);
-  free(written);
-  if (key_part(key, key_size, "", 0, &part, &part_size, &before, &numbers) == KEY_PART)
+  if (key_numbers(key, key_size, 0, key_size, &before, &numbers))
     differs("a beginning of its key has the whole", text, text_size);
-  key_part(key, key_size, "/0", 2, &part, &part_size, &before, &numbers);
-  key_part(key, key_size, "/a", 2, &part, &part_size, &before, &numbers);
+  for (size_t offset = 0; offset < key_size; offset++) key_numbers(key, key_size, offset, 1, &before, &numbers);
 }
 
 /* The text of a document comes back from its key and its zeros. */
 static void try(const char *source) {
   const unsigned char *given = (const unsigned char *)source;
-  size_t source_size = strlen(source), text_size, key_size, size, zeros_size = 0, part_size;
+  size_t source_size = strlen(source), text_size, key_size, size, zeros_size = 0;
   size_t room = 6 * source_size + 64;
   unsigned char *text_room = palloc(room), *key_room = palloc(room), *found = NULL;
   struct vizhoniku_refusal refusal;
-  const unsigned char *part;
   uint64 before, numbers;
   runs++;
   if (vizhoniku_text_and_key(VIZHONIKU_EXTENDED, given, source_size, text_room, room, &text_size, key_room, room,
@@ -105,17 +99,13 @@ static void try(const char *source) {
   if (!written || size != text_size || memcmp(written, text, size) || written[size])
     differs("it doesn't come back", text, text_size);
   free(written);
-  if (key_part(key, key_size, "", 0, &part, &part_size, &before, &numbers) != KEY_PART || part != key ||
-      part_size != key_size || before)
+  if (!key_numbers(key, key_size, 0, key_size, &before, &numbers) || before)
     differs("its whole isn't found", text, text_size);
   else if (key_part_zeros(zeros, zeros_size, 0, numbers, found = palloc(zeros_size ? zeros_size : 1)) != zeros_size ||
            memcmp(zeros, found, zeros_size))
     differs("the zeros of its whole differ", text, text_size);
   else
     free(found);
-  written = key_string(key, key_size, &size);
-  if (!written != (*text != '"') || (written && written[size])) differs("its string differs", text, text_size);
-  free(written);
   for (size_t end = 0; end < key_size && key_size < 100; end++) {
     unsigned char *front = copy(key, end);
     cut(front, end, text, text_size);

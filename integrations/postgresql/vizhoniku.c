@@ -40,19 +40,13 @@
 #include <vizhoniku.h>
 
 #include "key_text.h"
+#include "vjson.h"
 
 #if PG_VERSION_NUM / 10000 != 15
 #error "this extension is for PostgreSQL 15"
 #endif
 
 PG_MODULE_MAGIC;
-
-#define KEY_ALONE		0
-#define KEY_AND_ZEROS	1
-#define KEY_AND_TEXT	2
-
-#define FORM_SIZE		1
-#define KEY_SIZE_SIZE	sizeof(uint32)
 
 /* Room beyond the size of the text that is read; more is asked for if needed. */
 #define SPARE_ROOM		16
@@ -83,16 +77,6 @@ typedef enum
 	READ_INPUT,					/* standard mode, and decimals in JSON */
 	READ_EXTENDED				/* extended mode */
 } ReadAs;
-
-/* The parts of a value. */
-typedef struct
-{
-	int			form;
-	const unsigned char *key;
-	size_t		key_size;
-	const unsigned char *rest;	/* zeros or text */
-	size_t		rest_size;
-} VjsonParts;
 
 /* What a sort with abbreviated keys keeps. */
 typedef struct
@@ -246,8 +230,8 @@ raise_refusal(const char *words, const char *text, size_t size, const struct viz
 			 errcontext("vjson text, line %zu: %s", place.line, shown_line(text, size, &place))));
 }
 
-static void pg_attribute_noreturn()
-raise_out_of_memory(size_t size)
+void
+vjson_raise_out_of_memory(size_t size)
 {
 	ereport(ERROR,
 			(errcode(ERRCODE_OUT_OF_MEMORY),
@@ -255,8 +239,8 @@ raise_out_of_memory(size_t size)
 			 errdetail("Failed while reading a vjson text of %zu bytes.", size)));
 }
 
-static void pg_attribute_noreturn()
-raise_unexpected(uint32 status)
+void
+vjson_raise_unexpected(uint32 status)
 {
 	elog(ERROR, "unexpected status %u of the library vizhoniku", status);
 }
@@ -431,9 +415,9 @@ read_value(const char *server_text, size_t server_size, ReadAs as)
 	if (status == VIZHONIKU_REFUSED)
 		raise_refusal(words_of_refusal(mode, text, size), text, size, &refusal);
 	if (status == VIZHONIKU_OUT_OF_MEMORY)
-		raise_out_of_memory(size);
+		vjson_raise_out_of_memory(size);
 	if (status != VIZHONIKU_ACCEPTED)
-		raise_unexpected(status);
+		vjson_raise_unexpected(status);
 	if (text != server_text)
 		pfree(text);
 	return value;
@@ -444,48 +428,10 @@ read_value(const char *server_text, size_t server_size, ReadAs as)
  * Looking at values
  */
 
-static void pg_attribute_noreturn()
-raise_corrupted(void)
+void
+vjson_raise_corrupted(void)
 {
 	ereport(ERROR, (errcode(ERRCODE_DATA_CORRUPTED), errmsg("vjson value is corrupted")));
-}
-
-/* The parts of the value, or of its first bytes where it is a slice. */
-static inline void
-get_parts(struct varlena *value, bool slice, VjsonParts *parts)
-{
-	const unsigned char *data = (const unsigned char *) VARDATA_ANY(value);
-	size_t		size = VARSIZE_ANY_EXHDR(value);
-	uint32		key_size;
-
-	if (size < FORM_SIZE)
-		raise_corrupted();
-	parts->form = data[0];
-	data += FORM_SIZE;
-	size -= FORM_SIZE;
-	if (likely(parts->form == KEY_ALONE))
-	{
-		parts->key = data;
-		parts->key_size = size;
-		parts->rest = NULL;
-		parts->rest_size = 0;
-		return;
-	}
-	if (parts->form > KEY_AND_TEXT || size < KEY_SIZE_SIZE)
-		raise_corrupted();
-	memcpy(&key_size, data, KEY_SIZE_SIZE);
-	data += KEY_SIZE_SIZE;
-	size -= KEY_SIZE_SIZE;
-	if (key_size > size)
-	{
-		if (!slice)
-			raise_corrupted();
-		key_size = size;
-	}
-	parts->key = data;
-	parts->key_size = key_size;
-	parts->rest = data + key_size;
-	parts->rest_size = size - key_size;
 }
 
 /* The sort key of a value. What is answered is to be freed by free_key. */
@@ -518,13 +464,13 @@ get_text(const VjsonParts *parts, size_t *size)
 	}
 	text = key_text_write(parts->key, parts->key_size, parts->rest, parts->rest_size, size);
 	if (text == NULL)
-		raise_corrupted();
+		vjson_raise_corrupted();
 	return text;
 }
 
 /* The written text in the encoding of the database, with a zero byte at its end. */
-static char *
-get_server_text(const VjsonParts *parts)
+char *
+vjson_server_text(const VjsonParts *parts)
 {
 	size_t		size;
 	char	   *text = get_text(parts, &size);
@@ -544,7 +490,7 @@ checked_for_output(struct varlena *value)
 		VjsonParts	parts;
 
 		get_parts(value, false, &parts);
-		pfree(get_server_text(&parts));
+		pfree(vjson_server_text(&parts));
 	}
 	return value;
 }
@@ -569,7 +515,7 @@ vjson_out(PG_FUNCTION_ARGS)
 	VjsonParts	parts;
 
 	get_parts(value, false, &parts);
-	PG_RETURN_CSTRING(get_server_text(&parts));
+	PG_RETURN_CSTRING(vjson_server_text(&parts));
 }
 
 /* The binary form is the text, as that of json is. */
@@ -592,7 +538,7 @@ vjson_send(PG_FUNCTION_ARGS)
 	StringInfoData buffer;
 
 	get_parts(value, false, &parts);
-	text = get_server_text(&parts);
+	text = vjson_server_text(&parts);
 	pq_begintypsend(&buffer);
 	pq_sendtext(&buffer, text, (int) strlen(text));
 	PG_RETURN_BYTEA_P(pq_endtypsend(&buffer));
@@ -633,13 +579,36 @@ raise_no_path(const char *path)
 			 errdetail("A path is empty or begins with \"/\", and each \"~\" in it is followed by 0 or 1.")));
 }
 
-/* A path is kept as a text, in the encoding of the database. */
+/*
+ * The status of the library for the part at a path, and where it stands in the
+ * key.
+ */
+static uint32
+find_part(const unsigned char *key, size_t key_size, const char *path, size_t path_size, Range *part)
+{
+	size_t		offset;
+	uint32		status = vizhoniku_key_part(key, key_size, (const unsigned char *) path, path_size,
+											&offset, &part->size);
+
+	if (status == VIZHONIKU_NO_KEY)
+		vjson_raise_corrupted();
+	if (status == VIZHONIKU_OUT_OF_MEMORY)
+		vjson_raise_out_of_memory(key_size);
+	if (status != VIZHONIKU_ACCEPTED && status != VIZHONIKU_NO_PART && status != VIZHONIKU_NO_PATH)
+		vjson_raise_unexpected(status);
+	part->at = key + offset;
+	return status;
+}
+
+/* A path is kept as a text, in the encoding of the database. The library tells by any key whether it is one. */
 static Datum
 make_path(const char *path, size_t size)
 {
+	static const unsigned char any_key[] = {0xD3};
 	char	   *utf8 = pg_server_to_any(path, (int) size, PG_UTF8);
+	Range		part;
 
-	if (!key_path_valid(utf8, utf8 == path ? size : strlen(utf8)))
+	if (find_part(any_key, sizeof any_key, utf8, utf8 == path ? size : strlen(utf8), &part) == VIZHONIKU_NO_PATH)
 		raise_no_path(pnstrdup(path, size));
 	return PointerGetDatum(cstring_to_text_with_len(path, (int) size));
 }
@@ -697,9 +666,9 @@ get_part_by_text(const VjsonParts *parts, text *words, const char *path, size_t 
 	if (status == VIZHONIKU_ACCEPTED)
 		status = make_value(VIZHONIKU_EXTENDED, part, part_size, &result, &refusal);
 	if (status == VIZHONIKU_OUT_OF_MEMORY)
-		raise_out_of_memory(whole_size);
+		vjson_raise_out_of_memory(whole_size);
 	if (status != VIZHONIKU_ACCEPTED)
-		raise_unexpected(status);
+		vjson_raise_unexpected(status);
 	pfree(whole);
 	pfree(part);
 	return result;
@@ -717,52 +686,20 @@ get_part(struct varlena *value, text *words)
 	char	   *path = pg_server_to_any(VARDATA_ANY(words), (int) VARSIZE_ANY_EXHDR(words), PG_UTF8);
 	size_t		path_size = path == VARDATA_ANY(words) ? VARSIZE_ANY_EXHDR(words) : strlen(path);
 	VjsonParts	parts;
-	const unsigned char *key;
-	size_t		key_size;
-	uint64		numbers_before;
-	uint64		numbers;
-	uint32		stored_size;
-	struct varlena *result;
-	char	   *into;
-	size_t		zeros_size = 0;
+	Range		part;
 
 	get_parts(value, false, &parts);
 	if (parts.form == KEY_AND_TEXT)
 		return get_part_by_text(&parts, words, path, path_size);
-	switch (key_part(parts.key, parts.key_size, path, path_size, &key, &key_size, &numbers_before, &numbers))
+	switch (find_part(parts.key, parts.key_size, path, path_size, &part))
 	{
-		case KEY_NO_PART:
-			return NULL;
-		case KEY_NO_PATH:
+		case VIZHONIKU_ACCEPTED:
+			return vjson_part(&parts, part);
+		case VIZHONIKU_NO_PATH:
 			raise_no_path(text_to_cstring(words));
-		case KEY_CORRUPTED:
-			raise_corrupted();
-		case KEY_PART:
-			break;
+		default:
+			return NULL;
 	}
-
-	result = (struct varlena *) palloc(VARHDRSZ + FORM_SIZE + KEY_SIZE_SIZE + key_size + parts.rest_size);
-	into = VARDATA(result) + FORM_SIZE;
-	if (parts.form == KEY_AND_ZEROS)
-	{
-		zeros_size = key_part_zeros(parts.rest, parts.rest_size, numbers_before, numbers,
-									(unsigned char *) into + KEY_SIZE_SIZE + key_size);
-		if (zeros_size == SIZE_MAX)
-			raise_corrupted();
-	}
-	if (zeros_size == 0)
-	{
-		*VARDATA(result) = KEY_ALONE;
-		memcpy(into, key, key_size);
-		SET_VARSIZE(result, VARHDRSZ + FORM_SIZE + key_size);
-		return result;
-	}
-	*VARDATA(result) = KEY_AND_ZEROS;
-	stored_size = (uint32) key_size;
-	memcpy(into, &stored_size, KEY_SIZE_SIZE);
-	memcpy(into + KEY_SIZE_SIZE, key, key_size);
-	SET_VARSIZE(result, VARHDRSZ + FORM_SIZE + KEY_SIZE_SIZE + key_size + zeros_size);
-	return result;
 }
 
 Datum
@@ -781,26 +718,18 @@ vjson_get_text(PG_FUNCTION_ARGS)
 {
 	struct varlena *part = get_part(PG_GETARG_VARLENA_PP(0), PG_GETARG_TEXT_PP(1));
 	VjsonParts	parts;
-	char	   *string;
-	size_t		size;
+	Range		whole;
+	text	   *result;
 
 	if (part == NULL)
 		PG_RETURN_NULL();
 	get_parts(part, false, &parts);
-	if (key_is_null(parts.key, parts.key_size))
+	whole.at = parts.key;
+	whole.size = parts.key_size;
+	result = vjson_part_text(&parts, whole);
+	if (result == NULL)
 		PG_RETURN_NULL();
-	if (!key_is_string(parts.key, parts.key_size))
-		PG_RETURN_TEXT_P(cstring_to_text(get_server_text(&parts)));
-	string = key_string(parts.key, parts.key_size, &size);
-	if (string == NULL)
-		raise_corrupted();
-	if (memchr(string, 0, size))
-		ereport(ERROR,
-				(errcode(ERRCODE_UNTRANSLATABLE_CHARACTER),
-				 errmsg("a string with \\u0000 cannot be converted to text")));
-	if (GetDatabaseEncoding() == PG_UTF8)
-		PG_RETURN_TEXT_P(cstring_to_text_with_len(string, (int) size));
-	PG_RETURN_TEXT_P(cstring_to_text(pg_any_to_server(string, (int) size, PG_UTF8)));
+	PG_RETURN_TEXT_P(result);
 }
 
 
@@ -836,7 +765,7 @@ text_of_argument(Datum datum)
 	char	   *text;
 
 	get_parts(value, false, &parts);
-	text = get_server_text(&parts);
+	text = vjson_server_text(&parts);
 	if ((Pointer) value != DatumGetPointer(datum))
 		pfree(value);
 	return text;

@@ -1,0 +1,763 @@
+/*-------------------------------------------------------------------------
+ *
+ * key_parts.c
+ *	  Parts of documents, found in their sort keys by the library.
+ *
+ * The names, the arguments and the NULLs of the functions are those of jsonb.
+ * A part is a range of the bytes of the key, and of the document nothing is
+ * read or written but that.
+ *
+ *-------------------------------------------------------------------------
+ */
+#include "postgres.h"
+
+#include "fmgr.h"
+#include "funcapi.h"
+#include "catalog/pg_type.h"
+#include "mb/pg_wchar.h"
+#include "miscadmin.h"
+#include "utils/array.h"
+#include "utils/builtins.h"
+#include "utils/memutils.h"
+
+#include <vizhoniku.h>
+
+#include "key_text.h"
+#include "vjson.h"
+
+/* How much of a value is looked at for its kind: the form, the size of the key, and its first byte. */
+#define KIND_SLICE		(FORM_SIZE + KEY_SIZE_SIZE + 1)
+
+/* The bytes of a string's key that aren't those of its text: the first, and the two at its end. */
+#define STRING_KEY		0xD0
+#define STRING_EXTRA	3
+
+/* The key of true. */
+#define TRUE_KEY		0x16
+
+PG_FUNCTION_INFO_V1(vjson_object_field);
+PG_FUNCTION_INFO_V1(vjson_object_field_text);
+PG_FUNCTION_INFO_V1(vjson_array_element);
+PG_FUNCTION_INFO_V1(vjson_array_element_text);
+PG_FUNCTION_INFO_V1(vjson_exists);
+PG_FUNCTION_INFO_V1(vjson_exists_any);
+PG_FUNCTION_INFO_V1(vjson_exists_all);
+PG_FUNCTION_INFO_V1(vjson_typeof);
+PG_FUNCTION_INFO_V1(vjson_array_length);
+PG_FUNCTION_INFO_V1(vjson_each);
+PG_FUNCTION_INFO_V1(vjson_each_text);
+PG_FUNCTION_INFO_V1(vjson_object_keys);
+PG_FUNCTION_INFO_V1(vjson_array_elements);
+PG_FUNCTION_INFO_V1(vjson_array_elements_text);
+PG_FUNCTION_INFO_V1(vjson_contains);
+PG_FUNCTION_INFO_V1(vjson_contained);
+PG_FUNCTION_INFO_V1(vjson_to_bool);
+PG_FUNCTION_INFO_V1(vjson_to_numeric);
+PG_FUNCTION_INFO_V1(vjson_to_int2);
+PG_FUNCTION_INFO_V1(vjson_to_int4);
+PG_FUNCTION_INFO_V1(vjson_to_int8);
+PG_FUNCTION_INFO_V1(vjson_to_float4);
+PG_FUNCTION_INFO_V1(vjson_to_float8);
+
+
+/*
+ * Calls of the library
+ */
+
+/* Whether a call found what it was asked for. */
+static inline bool
+is_found(uint32 status)
+{
+	if (likely(status == VIZHONIKU_ACCEPTED))
+		return true;
+	if (status == VIZHONIKU_NO_KEY)
+		vjson_raise_corrupted();
+	if (status != VIZHONIKU_NO_PART)
+		vjson_raise_unexpected(status);
+	return false;
+}
+
+static inline uint32
+kind_of(Range key)
+{
+	uint32		kind = vizhoniku_key_kind(key.at, key.size);
+
+	if (unlikely(kind == VIZHONIKU_NO_KIND))
+		vjson_raise_corrupted();
+	return kind;
+}
+
+static inline bool
+is_scalar(uint32 kind)
+{
+	return kind != VIZHONIKU_ARRAY && kind != VIZHONIKU_OBJECT;
+}
+
+static inline bool
+find_member(Range key, Range name, Range *part)
+{
+	size_t		offset;
+
+	if (!is_found(vizhoniku_key_member(key.at, key.size, name.at, name.size, &offset, &part->size)))
+		return false;
+	part->at = key.at + offset;
+	return true;
+}
+
+static inline bool
+find_item(Range key, int64 index, Range *part)
+{
+	size_t		offset;
+
+	if (!is_found(vizhoniku_key_item(key.at, key.size, index, &offset, &part->size)))
+		return false;
+	part->at = key.at + offset;
+	return true;
+}
+
+/* One item or member after the other. */
+typedef struct
+{
+	Range		key;
+	struct vizhoniku_key_cursor cursor;
+	Range		name;			/* of size 0 for an item */
+	Range		value;
+} Walk;
+
+static inline void
+begin_walk(Walk *walk, Range key)
+{
+	walk->key = key;
+	if (!is_found(vizhoniku_key_begin(key.at, key.size, &walk->cursor)))
+		vjson_raise_corrupted();
+}
+
+static inline bool
+next_in_walk(Walk *walk)
+{
+	struct vizhoniku_key_entry entry;
+
+	if (!is_found(vizhoniku_key_next(walk->key.at, walk->key.size, &walk->cursor, &entry)))
+		return false;
+	walk->name.at = walk->key.at + entry.name_offset;
+	walk->name.size = entry.name_size;
+	walk->value.at = walk->key.at + entry.offset;
+	walk->value.size = entry.size;
+	return true;
+}
+
+
+/*
+ * Values and texts of parts
+ */
+
+static inline Range
+get_whole(struct varlena *value, VjsonParts *parts)
+{
+	Range		key;
+
+	get_parts(value, false, parts);
+	key.at = parts->key;
+	key.size = parts->key_size;
+	return key;
+}
+
+/* Words of the server in UTF-8. */
+static inline Range
+utf8_of(text *words)
+{
+	char	   *utf8 = pg_server_to_any(VARDATA_ANY(words), (int) VARSIZE_ANY_EXHDR(words), PG_UTF8);
+	Range		range;
+
+	range.at = (unsigned char *) utf8;
+	range.size = utf8 == VARDATA_ANY(words) ? VARSIZE_ANY_EXHDR(words) : strlen(utf8);
+	return range;
+}
+
+/* The text of a string's key, or of a name's, in the encoding of the database. */
+static text *
+text_of_string(Range key, bool is_name)
+{
+	text	   *result = (text *) palloc(VARHDRSZ + key.size);
+	unsigned char *bytes = (unsigned char *) VARDATA(result);
+	size_t		size;
+	uint32		status = is_name ? vizhoniku_key_name(key.at, key.size, bytes, key.size, &size) :
+		vizhoniku_key_string(key.at, key.size, bytes, key.size, &size);
+
+	if (!is_found(status))
+		vjson_raise_corrupted();
+	if (memchr(bytes, 0, size))
+		ereport(ERROR,
+				(errcode(ERRCODE_UNTRANSLATABLE_CHARACTER),
+				 errmsg("a string with \\u0000 cannot be converted to text")));
+	SET_VARSIZE(result, VARHDRSZ + size);
+	if (GetDatabaseEncoding() == PG_UTF8)
+		return result;
+	return cstring_to_text(pg_any_to_server(pnstrdup((char *) bytes, size), (int) size, PG_UTF8));
+}
+
+/*
+ * The value of a part, before which there are so many numbers in the whole.
+ * The zeros of its numbers are among those of the whole.
+ */
+static struct varlena *
+make_part(const VjsonParts *whole, Range part, uint64 numbers_before, uint64 numbers)
+{
+	size_t		zeros_room = whole->form == KEY_AND_ZEROS ? whole->rest_size : 0;
+	struct varlena *result = (struct varlena *) palloc(VARHDRSZ + FORM_SIZE + KEY_SIZE_SIZE + part.size + zeros_room);
+	char	   *into = VARDATA(result) + FORM_SIZE;
+	uint32		stored_size = (uint32) part.size;
+	size_t		zeros_size = 0;
+
+	if (zeros_room > 0)
+		zeros_size = key_part_zeros(whole->rest, whole->rest_size, numbers_before, numbers,
+									(unsigned char *) into + KEY_SIZE_SIZE + part.size);
+	if (zeros_size == SIZE_MAX)
+		vjson_raise_corrupted();
+	if (zeros_size == 0)
+	{
+		*VARDATA(result) = KEY_ALONE;
+		memcpy(into, part.at, part.size);
+		SET_VARSIZE(result, VARHDRSZ + FORM_SIZE + part.size);
+		return result;
+	}
+	*VARDATA(result) = KEY_AND_ZEROS;
+	memcpy(into, &stored_size, KEY_SIZE_SIZE);
+	memcpy(into + KEY_SIZE_SIZE, part.at, part.size);
+	SET_VARSIZE(result, VARHDRSZ + FORM_SIZE + KEY_SIZE_SIZE + part.size + zeros_size);
+	return result;
+}
+
+struct varlena *
+vjson_part(const VjsonParts *whole, Range part)
+{
+	uint64		before = 0;
+	uint64		numbers = 0;
+
+	if (whole->form == KEY_AND_ZEROS &&
+		!key_numbers(whole->key, whole->key_size, part.at - whole->key, part.size, &before, &numbers))
+		vjson_raise_corrupted();
+	return make_part(whole, part, before, numbers);
+}
+
+/* The text of a value that isn't a string; NULL where it is null. */
+static text *
+text_of_value(struct varlena *value)
+{
+	VjsonParts	parts;
+	Range		key = get_whole(value, &parts);
+
+	if (kind_of(key) == VIZHONIKU_NULL)
+		return NULL;
+	return cstring_to_text(vjson_server_text(&parts));
+}
+
+text *
+vjson_part_text(const VjsonParts *whole, Range part)
+{
+	if (kind_of(part) == VIZHONIKU_STRING)
+		return text_of_string(part, false);
+	return text_of_value(vjson_part(whole, part));
+}
+
+
+/*
+ * Members and items
+ */
+
+/*
+ * The item of an array. A scalar is taken for an array with it alone, as jsonb
+ * takes it.
+ */
+static bool
+find_element(Range key, int32 index, Range *part)
+{
+	if (!is_scalar(kind_of(key)))
+		return find_item(key, index, part);
+	*part = key;
+	return index == 0 || index == -1;
+}
+
+Datum
+vjson_object_field(PG_FUNCTION_ARGS)
+{
+	VjsonParts	parts;
+	Range		key = get_whole(PG_GETARG_VARLENA_PP(0), &parts);
+	Range		part;
+
+	if (!find_member(key, utf8_of(PG_GETARG_TEXT_PP(1)), &part))
+		PG_RETURN_NULL();
+	PG_RETURN_POINTER(vjson_part(&parts, part));
+}
+
+Datum
+vjson_object_field_text(PG_FUNCTION_ARGS)
+{
+	VjsonParts	parts;
+	Range		key = get_whole(PG_GETARG_VARLENA_PP(0), &parts);
+	Range		part;
+	text	   *result = NULL;
+
+	if (find_member(key, utf8_of(PG_GETARG_TEXT_PP(1)), &part))
+		result = vjson_part_text(&parts, part);
+	if (result == NULL)
+		PG_RETURN_NULL();
+	PG_RETURN_TEXT_P(result);
+}
+
+Datum
+vjson_array_element(PG_FUNCTION_ARGS)
+{
+	VjsonParts	parts;
+	Range		key = get_whole(PG_GETARG_VARLENA_PP(0), &parts);
+	Range		part;
+
+	if (!find_element(key, PG_GETARG_INT32(1), &part))
+		PG_RETURN_NULL();
+	PG_RETURN_POINTER(vjson_part(&parts, part));
+}
+
+Datum
+vjson_array_element_text(PG_FUNCTION_ARGS)
+{
+	VjsonParts	parts;
+	Range		key = get_whole(PG_GETARG_VARLENA_PP(0), &parts);
+	Range		part;
+	text	   *result = NULL;
+
+	if (find_element(key, PG_GETARG_INT32(1), &part))
+		result = vjson_part_text(&parts, part);
+	if (result == NULL)
+		PG_RETURN_NULL();
+	PG_RETURN_TEXT_P(result);
+}
+
+
+/*
+ * Which names there are
+ */
+
+/* Whether a member has the name, or an item or the value itself is that string. */
+static bool
+has_name(Range key, text *words)
+{
+	Range		name = utf8_of(words);
+	uint32		kind = kind_of(key);
+	unsigned char *wanted;
+	size_t		size = name.size + STRING_EXTRA;
+	Walk		walk;
+
+	if (kind == VIZHONIKU_OBJECT)
+		return find_member(key, name, &walk.value);
+	if (kind != VIZHONIKU_ARRAY && kind != VIZHONIKU_STRING)
+		return false;
+
+	/* A text of the server has no zero byte, which alone is escaped in a key. */
+	wanted = palloc(size);
+	wanted[0] = STRING_KEY;
+	memcpy(wanted + 1, name.at, name.size);
+	wanted[size - 2] = 0;
+	wanted[size - 1] = 1;
+	if (kind == VIZHONIKU_STRING)
+		return key.size == size && memcmp(key.at, wanted, size) == 0;
+	begin_walk(&walk, key);
+	while (next_in_walk(&walk))
+	{
+		if (walk.value.size == size && memcmp(walk.value.at, wanted, size) == 0)
+			return true;
+	}
+	return false;
+}
+
+Datum
+vjson_exists(PG_FUNCTION_ARGS)
+{
+	VjsonParts	parts;
+	Range		key = get_whole(PG_GETARG_VARLENA_PP(0), &parts);
+
+	PG_RETURN_BOOL(has_name(key, PG_GETARG_TEXT_PP(1)));
+}
+
+/* Whether one of the names is there as is wanted; a NULL among them is passed over. */
+static bool
+any_name(FunctionCallInfo fcinfo, bool wanted)
+{
+	VjsonParts	parts;
+	Range		key = get_whole(PG_GETARG_VARLENA_PP(0), &parts);
+	Datum	   *names;
+	bool	   *nulls;
+	int			count;
+
+	deconstruct_array(PG_GETARG_ARRAYTYPE_P(1), TEXTOID, -1, false, TYPALIGN_INT, &names, &nulls, &count);
+	for (int i = 0; i < count; i++)
+	{
+		if (!nulls[i] && has_name(key, DatumGetTextPP(names[i])) == wanted)
+			return true;
+	}
+	return false;
+}
+
+Datum
+vjson_exists_any(PG_FUNCTION_ARGS)
+{
+	PG_RETURN_BOOL(any_name(fcinfo, true));
+}
+
+Datum
+vjson_exists_all(PG_FUNCTION_ARGS)
+{
+	PG_RETURN_BOOL(!any_name(fcinfo, false));
+}
+
+
+/*
+ * What a document is
+ */
+
+Datum
+vjson_typeof(PG_FUNCTION_ARGS)
+{
+	static const char *const names[] = {
+		[VIZHONIKU_NULL] = "null",[VIZHONIKU_BOOLEAN] = "boolean",[VIZHONIKU_NUMBER] = "number",
+		[VIZHONIKU_STRING] = "string",[VIZHONIKU_ARRAY] = "array",[VIZHONIKU_OBJECT] = "object"
+	};
+	VjsonParts	parts;
+	Range		key;
+
+	get_parts(PG_DETOAST_DATUM_SLICE(PG_GETARG_DATUM(0), 0, KIND_SLICE), true, &parts);
+	key.at = parts.key;
+	key.size = parts.key_size;
+	PG_RETURN_TEXT_P(cstring_to_text(names[kind_of(key)]));
+}
+
+Datum
+vjson_array_length(PG_FUNCTION_ARGS)
+{
+	VjsonParts	parts;
+	Range		key = get_whole(PG_GETARG_VARLENA_PP(0), &parts);
+	uint32		kind = kind_of(key);
+	size_t		count;
+
+	if (kind != VIZHONIKU_ARRAY)
+		ereport(ERROR,
+				(errcode(ERRCODE_INVALID_PARAMETER_VALUE),
+				 is_scalar(kind) ? errmsg("cannot get array length of a scalar") :
+				 errmsg("cannot get array length of a non-array")));
+	if (!is_found(vizhoniku_key_count(key.at, key.size, &count)))
+		vjson_raise_corrupted();
+	PG_RETURN_INT32((int32) count);
+}
+
+
+/*
+ * All members and all items
+ */
+
+/* What is put out of each part. */
+typedef enum
+{
+	NAMES = 1,
+	VALUES = 2,
+	TEXTS = 4
+} Columns;
+
+/* Put a row for each part of the value into the set that is answered. */
+static void
+put_parts(FunctionCallInfo fcinfo, const VjsonParts *whole, Range key, int columns)
+{
+	ReturnSetInfo *set = (ReturnSetInfo *) fcinfo->resultinfo;
+	MemoryContext rows = AllocSetContextCreate(CurrentMemoryContext, "parts of a vjson", ALLOCSET_DEFAULT_SIZES);
+	MemoryContext caller = MemoryContextSwitchTo(rows);
+	uint64		before = 0;
+	uint64		numbers = 0;
+	Walk		walk;
+
+	begin_walk(&walk, key);
+	while (next_in_walk(&walk))
+	{
+		Datum		values[2];
+		bool		nulls[2] = {false, false};
+		int			column = 0;
+
+		CHECK_FOR_INTERRUPTS();
+		if (columns & NAMES)
+			values[column++] = PointerGetDatum(text_of_string(walk.name, true));
+		if (columns & (VALUES | TEXTS))
+		{
+			uint64		none;
+
+			if (whole->form == KEY_AND_ZEROS &&
+				!key_numbers(walk.value.at, walk.value.size, 0, walk.value.size, &none, &numbers))
+				vjson_raise_corrupted();
+			if ((columns & TEXTS) && kind_of(walk.value) == VIZHONIKU_STRING)
+				values[column] = PointerGetDatum(text_of_string(walk.value, false));
+			else
+			{
+				struct varlena *part = make_part(whole, walk.value, before, numbers);
+
+				values[column] = PointerGetDatum(columns & VALUES ? (void *) part : (void *) text_of_value(part));
+				nulls[column] = DatumGetPointer(values[column]) == NULL;
+			}
+			before += numbers;
+		}
+		tuplestore_putvalues(set->setResult, set->setDesc, values, nulls);
+		MemoryContextReset(rows);
+	}
+	MemoryContextSwitchTo(caller);
+	MemoryContextDelete(rows);
+}
+
+static Datum
+put_members(FunctionCallInfo fcinfo, const char *function, int columns)
+{
+	VjsonParts	parts;
+	Range		key = get_whole(PG_GETARG_VARLENA_PP(0), &parts);
+
+	if (kind_of(key) != VIZHONIKU_OBJECT)
+		ereport(ERROR,
+				(errcode(ERRCODE_INVALID_PARAMETER_VALUE),
+				 errmsg("cannot call %s on a non-object", function)));
+	InitMaterializedSRF(fcinfo, MAT_SRF_BLESS);
+	put_parts(fcinfo, &parts, key, columns);
+	PG_RETURN_NULL();
+}
+
+static Datum
+put_items(FunctionCallInfo fcinfo, int columns)
+{
+	VjsonParts	parts;
+	Range		key = get_whole(PG_GETARG_VARLENA_PP(0), &parts);
+	uint32		kind = kind_of(key);
+
+	if (kind != VIZHONIKU_ARRAY)
+		ereport(ERROR,
+				(errcode(ERRCODE_INVALID_PARAMETER_VALUE),
+				 is_scalar(kind) ? errmsg("cannot extract elements from a scalar") :
+				 errmsg("cannot extract elements from an object")));
+	InitMaterializedSRF(fcinfo, MAT_SRF_USE_EXPECTED_DESC | MAT_SRF_BLESS);
+	put_parts(fcinfo, &parts, key, columns);
+	PG_RETURN_NULL();
+}
+
+Datum
+vjson_each(PG_FUNCTION_ARGS)
+{
+	return put_members(fcinfo, "vjson_each", NAMES | VALUES);
+}
+
+Datum
+vjson_each_text(PG_FUNCTION_ARGS)
+{
+	return put_members(fcinfo, "vjson_each_text", NAMES | TEXTS);
+}
+
+Datum
+vjson_array_elements(PG_FUNCTION_ARGS)
+{
+	return put_items(fcinfo, VALUES);
+}
+
+Datum
+vjson_array_elements_text(PG_FUNCTION_ARGS)
+{
+	return put_items(fcinfo, TEXTS);
+}
+
+Datum
+vjson_object_keys(PG_FUNCTION_ARGS)
+{
+	VjsonParts	parts;
+	Range		key = get_whole(PG_GETARG_VARLENA_PP(0), &parts);
+	uint32		kind = kind_of(key);
+
+	if (kind != VIZHONIKU_OBJECT)
+		ereport(ERROR,
+				(errcode(ERRCODE_INVALID_PARAMETER_VALUE),
+				 is_scalar(kind) ? errmsg("cannot call %s on a scalar", "vjson_object_keys") :
+				 errmsg("cannot call %s on an array", "vjson_object_keys")));
+	InitMaterializedSRF(fcinfo, MAT_SRF_USE_EXPECTED_DESC | MAT_SRF_BLESS);
+	put_parts(fcinfo, &parts, key, NAMES);
+	PG_RETURN_NULL();
+}
+
+
+/*
+ * Containment, as jsonb has it
+ */
+
+static bool contains(Range left, Range right);
+
+static inline bool
+same_bytes(Range left, Range right)
+{
+	return left.size == right.size && memcmp(left.at, right.at, left.size) == 0;
+}
+
+/* Whether an item of the array contains the value. */
+static bool
+has_item(Range array, Range wanted)
+{
+	Walk		walk;
+
+	begin_walk(&walk, array);
+	while (next_in_walk(&walk))
+	{
+		if (contains(walk.value, wanted))
+			return true;
+	}
+	return false;
+}
+
+/* Whether the object has each member of the other, with a value that contains the other's. Names ascend in both. */
+static bool
+has_members(Range left, Range right)
+{
+	Walk		ours;
+	Walk		theirs;
+
+	begin_walk(&ours, left);
+	begin_walk(&theirs, right);
+	while (next_in_walk(&theirs))
+	{
+		int			order;
+
+		do
+		{
+			if (!next_in_walk(&ours))
+				return false;
+			/* No name's key begins another's. */
+			order = memcmp(ours.name.at, theirs.name.at, Min(ours.name.size, theirs.name.size));
+		} while (order < 0);
+		if (order > 0 || !contains(ours.value, theirs.value))
+			return false;
+	}
+	return true;
+}
+
+static bool
+contains(Range left, Range right)
+{
+	uint32		kind = kind_of(left);
+	Walk		walk;
+
+	if (same_bytes(left, right))
+		return true;
+	if (is_scalar(kind) || kind_of(right) != kind)
+		return false;
+	check_stack_depth();
+	CHECK_FOR_INTERRUPTS();
+	if (kind == VIZHONIKU_OBJECT)
+		return has_members(left, right);
+	begin_walk(&walk, right);
+	while (next_in_walk(&walk))
+	{
+		if (!has_item(left, walk.value))
+			return false;
+	}
+	return true;
+}
+
+/* An array contains a scalar that is an item of it; this is so at the top alone. */
+static bool
+contains_at_top(Datum left, Datum right)
+{
+	VjsonParts	parts;
+	Range		ours = get_whole((struct varlena *) PG_DETOAST_DATUM_PACKED(left), &parts);
+	Range		theirs = get_whole((struct varlena *) PG_DETOAST_DATUM_PACKED(right), &parts);
+
+	if (kind_of(ours) == VIZHONIKU_ARRAY && is_scalar(kind_of(theirs)))
+		return has_item(ours, theirs);
+	return contains(ours, theirs);
+}
+
+Datum
+vjson_contains(PG_FUNCTION_ARGS)
+{
+	PG_RETURN_BOOL(contains_at_top(PG_GETARG_DATUM(0), PG_GETARG_DATUM(1)));
+}
+
+Datum
+vjson_contained(PG_FUNCTION_ARGS)
+{
+	PG_RETURN_BOOL(contains_at_top(PG_GETARG_DATUM(1), PG_GETARG_DATUM(0)));
+}
+
+
+/*
+ * Casts of scalars
+ */
+
+static void pg_attribute_noreturn()
+raise_cannot_cast(uint32 kind, const char *type)
+{
+	static const char *const names[] = {
+		[VIZHONIKU_NULL] = "null",[VIZHONIKU_BOOLEAN] = "boolean",[VIZHONIKU_NUMBER] = "numeric",
+		[VIZHONIKU_STRING] = "string",[VIZHONIKU_ARRAY] = "array",[VIZHONIKU_OBJECT] = "object"
+	};
+
+	ereport(ERROR,
+			(errcode(ERRCODE_INVALID_PARAMETER_VALUE),
+			 errmsg("cannot cast vjson %s to type %s", names[kind], type)));
+}
+
+/* The number as a numeric, which keeps its zeros. */
+static Datum
+to_numeric(FunctionCallInfo fcinfo, const char *type)
+{
+	VjsonParts	parts;
+	Range		key = get_whole(PG_GETARG_VARLENA_PP(0), &parts);
+	uint32		kind = kind_of(key);
+
+	if (kind != VIZHONIKU_NUMBER)
+		raise_cannot_cast(kind, type);
+	return DirectFunctionCall3(numeric_in, CStringGetDatum(vjson_server_text(&parts)), ObjectIdGetDatum(InvalidOid),
+							   Int32GetDatum(-1));
+}
+
+Datum
+vjson_to_bool(PG_FUNCTION_ARGS)
+{
+	VjsonParts	parts;
+	Range		key = get_whole(PG_GETARG_VARLENA_PP(0), &parts);
+	uint32		kind = kind_of(key);
+
+	if (kind != VIZHONIKU_BOOLEAN)
+		raise_cannot_cast(kind, "boolean");
+	PG_RETURN_BOOL(key.at[0] == TRUE_KEY);
+}
+
+Datum
+vjson_to_numeric(PG_FUNCTION_ARGS)
+{
+	return to_numeric(fcinfo, "numeric");
+}
+
+Datum
+vjson_to_int2(PG_FUNCTION_ARGS)
+{
+	return DirectFunctionCall1(numeric_int2, to_numeric(fcinfo, "smallint"));
+}
+
+Datum
+vjson_to_int4(PG_FUNCTION_ARGS)
+{
+	return DirectFunctionCall1(numeric_int4, to_numeric(fcinfo, "integer"));
+}
+
+Datum
+vjson_to_int8(PG_FUNCTION_ARGS)
+{
+	return DirectFunctionCall1(numeric_int8, to_numeric(fcinfo, "bigint"));
+}
+
+Datum
+vjson_to_float4(PG_FUNCTION_ARGS)
+{
+	return DirectFunctionCall1(numeric_float4, to_numeric(fcinfo, "real"));
+}
+
+Datum
+vjson_to_float8(PG_FUNCTION_ARGS)
+{
+	return DirectFunctionCall1(numeric_float8, to_numeric(fcinfo, "double precision"));
+}

@@ -1,0 +1,204 @@
+/* The extension vizhoniku, from 0.1.0 to 0.2.0: parts, elements and containment, with the names of jsonb */
+
+-- complain if the script is run by psql rather than by ALTER EXTENSION
+\echo Use "ALTER EXTENSION vizhoniku UPDATE TO '0.2.0'" to load this file. \quit
+
+-- Members and items
+
+CREATE FUNCTION vjson_object_field(vjson, field_name text) RETURNS vjson
+  AS 'MODULE_PATHNAME' LANGUAGE C IMMUTABLE STRICT PARALLEL SAFE COST 2;
+COMMENT ON FUNCTION vjson_object_field(vjson, text) IS 'implementation of -> operator';
+
+CREATE OPERATOR -> (
+  LEFTARG = vjson,
+  RIGHTARG = text,
+  FUNCTION = vjson_object_field
+);
+COMMENT ON OPERATOR -> (vjson, text) IS 'the member of a name, or NULL';
+
+CREATE FUNCTION vjson_object_field_text(vjson, field_name text) RETURNS text
+  AS 'MODULE_PATHNAME' LANGUAGE C IMMUTABLE STRICT PARALLEL SAFE COST 2;
+COMMENT ON FUNCTION vjson_object_field_text(vjson, text) IS 'implementation of ->> operator';
+
+CREATE OPERATOR ->> (
+  LEFTARG = vjson,
+  RIGHTARG = text,
+  FUNCTION = vjson_object_field_text
+);
+COMMENT ON OPERATOR ->> (vjson, text) IS 'the member of a name as text, or NULL';
+
+CREATE FUNCTION vjson_array_element(vjson, element_index integer) RETURNS vjson
+  AS 'MODULE_PATHNAME' LANGUAGE C IMMUTABLE STRICT PARALLEL SAFE COST 2;
+COMMENT ON FUNCTION vjson_array_element(vjson, integer) IS 'implementation of -> operator';
+
+CREATE OPERATOR -> (
+  LEFTARG = vjson,
+  RIGHTARG = integer,
+  FUNCTION = vjson_array_element
+);
+COMMENT ON OPERATOR -> (vjson, integer) IS 'the item of an index, or NULL';
+
+CREATE FUNCTION vjson_array_element_text(vjson, element_index integer) RETURNS text
+  AS 'MODULE_PATHNAME' LANGUAGE C IMMUTABLE STRICT PARALLEL SAFE COST 2;
+COMMENT ON FUNCTION vjson_array_element_text(vjson, integer) IS 'implementation of ->> operator';
+
+CREATE OPERATOR ->> (
+  LEFTARG = vjson,
+  RIGHTARG = integer,
+  FUNCTION = vjson_array_element_text
+);
+COMMENT ON OPERATOR ->> (vjson, integer) IS 'the item of an index as text, or NULL';
+
+-- Which names there are
+
+CREATE FUNCTION vjson_exists(vjson, text) RETURNS boolean
+  AS 'MODULE_PATHNAME' LANGUAGE C IMMUTABLE STRICT PARALLEL SAFE COST 2;
+COMMENT ON FUNCTION vjson_exists(vjson, text) IS 'implementation of ? operator';
+
+CREATE OPERATOR ? (
+  LEFTARG = vjson,
+  RIGHTARG = text,
+  FUNCTION = vjson_exists,
+  RESTRICT = matchingsel,
+  JOIN = matchingjoinsel
+);
+COMMENT ON OPERATOR ? (vjson, text) IS 'whether a member has the name, or an item is that string';
+
+CREATE FUNCTION vjson_exists_any(vjson, text[]) RETURNS boolean
+  AS 'MODULE_PATHNAME' LANGUAGE C IMMUTABLE STRICT PARALLEL SAFE COST 2;
+COMMENT ON FUNCTION vjson_exists_any(vjson, text[]) IS 'implementation of ?| operator';
+
+CREATE OPERATOR ?| (
+  LEFTARG = vjson,
+  RIGHTARG = text[],
+  FUNCTION = vjson_exists_any,
+  RESTRICT = matchingsel,
+  JOIN = matchingjoinsel
+);
+COMMENT ON OPERATOR ?| (vjson, text[]) IS 'whether there is any of the names';
+
+CREATE FUNCTION vjson_exists_all(vjson, text[]) RETURNS boolean
+  AS 'MODULE_PATHNAME' LANGUAGE C IMMUTABLE STRICT PARALLEL SAFE COST 2;
+COMMENT ON FUNCTION vjson_exists_all(vjson, text[]) IS 'implementation of ?& operator';
+
+CREATE OPERATOR ?& (
+  LEFTARG = vjson,
+  RIGHTARG = text[],
+  FUNCTION = vjson_exists_all,
+  RESTRICT = matchingsel,
+  JOIN = matchingjoinsel
+);
+COMMENT ON OPERATOR ?& (vjson, text[]) IS 'whether there are all of the names';
+
+-- What a document is
+
+CREATE FUNCTION vjson_typeof(vjson) RETURNS text
+  AS 'MODULE_PATHNAME' LANGUAGE C IMMUTABLE STRICT PARALLEL SAFE;
+COMMENT ON FUNCTION vjson_typeof(vjson) IS 'the kind of a document, as jsonb_typeof names it';
+
+CREATE FUNCTION vjson_array_length(vjson) RETURNS integer
+  AS 'MODULE_PATHNAME' LANGUAGE C IMMUTABLE STRICT PARALLEL SAFE;
+COMMENT ON FUNCTION vjson_array_length(vjson) IS 'how many items an array has';
+
+-- All members and all items
+
+CREATE FUNCTION vjson_each(vjson, OUT key text, OUT value vjson) RETURNS SETOF record
+  AS 'MODULE_PATHNAME' LANGUAGE C IMMUTABLE STRICT PARALLEL SAFE ROWS 100;
+COMMENT ON FUNCTION vjson_each(vjson) IS 'the members of an object';
+
+CREATE FUNCTION vjson_each_text(vjson, OUT key text, OUT value text) RETURNS SETOF record
+  AS 'MODULE_PATHNAME' LANGUAGE C IMMUTABLE STRICT PARALLEL SAFE ROWS 100;
+COMMENT ON FUNCTION vjson_each_text(vjson) IS 'the members of an object as text';
+
+CREATE FUNCTION vjson_object_keys(vjson) RETURNS SETOF text
+  AS 'MODULE_PATHNAME' LANGUAGE C IMMUTABLE STRICT PARALLEL SAFE ROWS 100;
+COMMENT ON FUNCTION vjson_object_keys(vjson) IS 'the names of the members of an object';
+
+CREATE FUNCTION vjson_array_elements(vjson, OUT value vjson) RETURNS SETOF vjson
+  AS 'MODULE_PATHNAME' LANGUAGE C IMMUTABLE STRICT PARALLEL SAFE ROWS 100;
+COMMENT ON FUNCTION vjson_array_elements(vjson) IS 'the items of an array';
+
+CREATE FUNCTION vjson_array_elements_text(vjson, OUT value text) RETURNS SETOF text
+  AS 'MODULE_PATHNAME' LANGUAGE C IMMUTABLE STRICT PARALLEL SAFE ROWS 100;
+COMMENT ON FUNCTION vjson_array_elements_text(vjson) IS 'the items of an array as text';
+
+-- Containment
+
+CREATE FUNCTION vjson_contains(vjson, vjson) RETURNS boolean
+  AS 'MODULE_PATHNAME' LANGUAGE C IMMUTABLE STRICT PARALLEL SAFE COST 2;
+COMMENT ON FUNCTION vjson_contains(vjson, vjson) IS 'implementation of @> operator';
+
+CREATE FUNCTION vjson_contained(vjson, vjson) RETURNS boolean
+  AS 'MODULE_PATHNAME' LANGUAGE C IMMUTABLE STRICT PARALLEL SAFE COST 2;
+COMMENT ON FUNCTION vjson_contained(vjson, vjson) IS 'implementation of <@ operator';
+
+CREATE OPERATOR @> (
+  LEFTARG = vjson,
+  RIGHTARG = vjson,
+  FUNCTION = vjson_contains,
+  COMMUTATOR = <@,
+  RESTRICT = matchingsel,
+  JOIN = matchingjoinsel
+);
+COMMENT ON OPERATOR @> (vjson, vjson) IS 'contains';
+
+CREATE OPERATOR <@ (
+  LEFTARG = vjson,
+  RIGHTARG = vjson,
+  FUNCTION = vjson_contained,
+  COMMUTATOR = @>,
+  RESTRICT = matchingsel,
+  JOIN = matchingjoinsel
+);
+COMMENT ON OPERATOR <@ (vjson, vjson) IS 'is contained in';
+
+-- Casts of scalars
+
+CREATE FUNCTION vjson_to_bool(vjson) RETURNS boolean
+  AS 'MODULE_PATHNAME' LANGUAGE C IMMUTABLE STRICT PARALLEL SAFE;
+COMMENT ON FUNCTION vjson_to_bool(vjson) IS 'convert vjson to boolean';
+
+CREATE CAST (vjson AS boolean) WITH FUNCTION vjson_to_bool(vjson);
+COMMENT ON CAST (vjson AS boolean) IS 'convert vjson to boolean';
+
+CREATE FUNCTION vjson_to_numeric(vjson) RETURNS numeric
+  AS 'MODULE_PATHNAME' LANGUAGE C IMMUTABLE STRICT PARALLEL SAFE;
+COMMENT ON FUNCTION vjson_to_numeric(vjson) IS 'convert vjson to numeric';
+
+CREATE CAST (vjson AS numeric) WITH FUNCTION vjson_to_numeric(vjson);
+COMMENT ON CAST (vjson AS numeric) IS 'convert vjson to numeric';
+
+CREATE FUNCTION vjson_to_int2(vjson) RETURNS smallint
+  AS 'MODULE_PATHNAME' LANGUAGE C IMMUTABLE STRICT PARALLEL SAFE;
+COMMENT ON FUNCTION vjson_to_int2(vjson) IS 'convert vjson to smallint';
+
+CREATE CAST (vjson AS smallint) WITH FUNCTION vjson_to_int2(vjson);
+COMMENT ON CAST (vjson AS smallint) IS 'convert vjson to smallint';
+
+CREATE FUNCTION vjson_to_int4(vjson) RETURNS integer
+  AS 'MODULE_PATHNAME' LANGUAGE C IMMUTABLE STRICT PARALLEL SAFE;
+COMMENT ON FUNCTION vjson_to_int4(vjson) IS 'convert vjson to integer';
+
+CREATE CAST (vjson AS integer) WITH FUNCTION vjson_to_int4(vjson);
+COMMENT ON CAST (vjson AS integer) IS 'convert vjson to integer';
+
+CREATE FUNCTION vjson_to_int8(vjson) RETURNS bigint
+  AS 'MODULE_PATHNAME' LANGUAGE C IMMUTABLE STRICT PARALLEL SAFE;
+COMMENT ON FUNCTION vjson_to_int8(vjson) IS 'convert vjson to bigint';
+
+CREATE CAST (vjson AS bigint) WITH FUNCTION vjson_to_int8(vjson);
+COMMENT ON CAST (vjson AS bigint) IS 'convert vjson to bigint';
+
+CREATE FUNCTION vjson_to_float4(vjson) RETURNS real
+  AS 'MODULE_PATHNAME' LANGUAGE C IMMUTABLE STRICT PARALLEL SAFE;
+COMMENT ON FUNCTION vjson_to_float4(vjson) IS 'convert vjson to real';
+
+CREATE CAST (vjson AS real) WITH FUNCTION vjson_to_float4(vjson);
+COMMENT ON CAST (vjson AS real) IS 'convert vjson to real';
+
+CREATE FUNCTION vjson_to_float8(vjson) RETURNS double precision
+  AS 'MODULE_PATHNAME' LANGUAGE C IMMUTABLE STRICT PARALLEL SAFE;
+COMMENT ON FUNCTION vjson_to_float8(vjson) IS 'convert vjson to double precision';
+
+CREATE CAST (vjson AS double precision) WITH FUNCTION vjson_to_float8(vjson);
+COMMENT ON CAST (vjson AS double precision) IS 'convert vjson to double precision';

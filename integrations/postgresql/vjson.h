@@ -1,0 +1,86 @@
+/*-------------------------------------------------------------------------
+ *
+ * vjson.h
+ *	  What the files of the extension share: the parts of a stored value.
+ *
+ *-------------------------------------------------------------------------
+ */
+#ifndef VJSON_H
+#define VJSON_H
+
+#define KEY_ALONE		0
+#define KEY_AND_ZEROS	1
+#define KEY_AND_TEXT	2
+
+#define FORM_SIZE		1
+#define KEY_SIZE_SIZE	sizeof(uint32)
+
+/* The parts of a value. */
+typedef struct
+{
+	int			form;
+	const unsigned char *key;
+	size_t		key_size;
+	const unsigned char *rest;	/* zeros or text */
+	size_t		rest_size;
+} VjsonParts;
+
+/* A range of bytes: a key, a name in a key, or a name in UTF-8. */
+typedef struct
+{
+	const unsigned char *at;
+	size_t		size;
+} Range;
+
+extern void vjson_raise_corrupted(void) pg_attribute_noreturn();
+extern void vjson_raise_out_of_memory(size_t size) pg_attribute_noreturn();
+extern void vjson_raise_unexpected(uint32 status) pg_attribute_noreturn();
+
+/* The written text in the encoding of the database, with a zero byte at its end. */
+extern char *vjson_server_text(const VjsonParts *parts);
+
+/* The value of a part of the key, with the zeros of its numbers. */
+extern struct varlena *vjson_part(const VjsonParts *whole, Range part);
+
+/* That as a text: a string without its quotes and escapes, and NULL where it is null. */
+extern text *vjson_part_text(const VjsonParts *whole, Range part);
+
+/* The parts of the value, or of its first bytes where it is a slice. */
+static inline void
+get_parts(struct varlena *value, bool slice, VjsonParts *parts)
+{
+	const unsigned char *data = (const unsigned char *) VARDATA_ANY(value);
+	size_t		size = VARSIZE_ANY_EXHDR(value);
+	uint32		key_size;
+
+	if (size < FORM_SIZE)
+		vjson_raise_corrupted();
+	parts->form = data[0];
+	data += FORM_SIZE;
+	size -= FORM_SIZE;
+	if (likely(parts->form == KEY_ALONE))
+	{
+		parts->key = data;
+		parts->key_size = size;
+		parts->rest = NULL;
+		parts->rest_size = 0;
+		return;
+	}
+	if (parts->form > KEY_AND_TEXT || size < KEY_SIZE_SIZE)
+		vjson_raise_corrupted();
+	memcpy(&key_size, data, KEY_SIZE_SIZE);
+	data += KEY_SIZE_SIZE;
+	size -= KEY_SIZE_SIZE;
+	if (key_size > size)
+	{
+		if (!slice)
+			vjson_raise_corrupted();
+		key_size = size;
+	}
+	parts->key = data;
+	parts->key_size = key_size;
+	parts->rest = data + key_size;
+	parts->rest_size = size - key_size;
+}
+
+#endif							/* VJSON_H */
