@@ -31,5 +31,15 @@ pub(crate) fn append_chunk(bytes: &[u8], count: usize, buf: &mut Vec<u8>) -> Res
         buf.truncate(len + count);
         return Ok(());
     }
+    append_alone(bytes, count, buf)
+}
+
+// Appends the first bytes alone. In a function of its own, which is seldom called.
+#[cold]
+#[inline(never)]
+fn append_alone(bytes: &[u8], count: usize, buf: &mut Vec<u8>) -> Result<(), AllocError>
+    requires { count ≤ length bytes.now }
+    ensures { Appends result buf.old buf.new (take count bytes.now) }
+{
     buf.extend_from_slice(&bytes[..count])
 }

@@ -1,5 +1,5 @@
 //! The text of a number from its key: two digits from each byte.
-ghost use Rattle.std.specs.Prelude.{◌≡◌, ◌+◌, ◌*◌, ◌/◌, ◌%◌, ◌^◌, ◌<◌, ◌≤◌, ◌++◌, ◌∷◌, [], ℕ, List, length, map, replicate, IfOk, IfSome, MatchOption};
+ghost use Rattle.std.specs.Prelude.{◌≡◌, ◌+◌, ◌*◌, ◌/◌, ◌%◌, ◌^◌, ◌<◌, ◌≤◌, ◌++◌, ◌∷◌, [], ℕ, List, length, map, replicate, take, IfOk, IfSome, MatchOption};
 ghost use Rattle.std.specs.Fmt.{sign_text};
 ghost use Rattle.jsonb_value.specs.Proper.{IsProperNumber};
 ghost use Rattle.jsonb_value.specs.SortKey.{number_key, digits_key, turned};
@@ -13,11 +13,12 @@ use jsonb_key::KeyError;
 use jsonb_key::number::{read_place, turned};
 use std::alloc::AllocError;
 
-// The two digits of each number below 100.
-static PAIRS: [u8; 200] =
+// The two digits of each number below 100, and zeros for those below 128.
+static PAIRS: [u8; 256] =
     *b"00010203040506070809101112131415161718192021222324252627282930313233343536373839\
     40414243444546474849505152535455565758596061626364656667686970717273747576777879\
-    8081828384858687888990919293949596979899";
+    80818283848586878889909192939495969798990000000000000000000000000000000000000000\
+    0000000000000000";
 
 // How many digits a number has at most before the point.
 const MAX_FRONT: u32 = 40;
@@ -78,7 +79,7 @@ fn spell<'k>(negative: bool, bytes: &'k [u8], row: &mut [u8; 48]) -> Option<(usi
     let mut count: usize = 0;
     'pairs: while let Some((byte, others)) = rest.split_first() {
         let byte = turned(negative, *byte);
-        if count > 38 || byte > 199 {
+        if count > 38 {
             return None;
         }
         let (tens, ones) = digits_of_pair(byte / 2);
@@ -99,8 +100,8 @@ fn spell<'k>(negative: bool, bytes: &'k [u8], row: &mut [u8; 48]) -> Option<(usi
 // The two digits of a number below 100.
 #[inline(always)]
 fn digits_of_pair(pair: u8) -> (u8, u8)
-    requires { pair < 100 }
-    ensures { (result.0 ≡ 48 + pair / 10) × (result.1 ≡ 48 + pair % 10) }
+    requires { pair < 128 }
+    ensures { pair < 100 → (result.0 ≡ 48 + pair / 10) × (result.1 ≡ 48 + pair % 10) }
 {
     let from = usize::from(pair) * 2;
     (PAIRS[from], PAIRS[from + 1])
@@ -120,11 +121,20 @@ fn append_placed(
     if place > 255 {
         let front = (place - 255) as usize;
         if front >= count {
-            return append_chunk(row, front, buf);
+            return append_row(*row, front, buf);
         }
         return append_with_point(&row[..front], &row[front..count], buf);
     }
     append_fraction((255 - place) as usize, &row[..count], buf)
+}
+
+// Appends the first digits of the row. A function of its own, in which the copy of a fixed length takes no call.
+#[inline(never)]
+fn append_row(row: [u8; 48], count: usize, buf: &mut Vec<u8>) -> Result<(), AllocError>
+    requires { count ≤ 48 }
+    ensures { Appends result buf.old buf.new (take count row) }
+{
+    append_chunk(&row, count, buf)
 }
 
 // Appends digits with a point between them.

@@ -5,7 +5,7 @@ use Rattle.stored_text.proofs.number.append_placed.Goals as goal
 
 pub returns-then-front-count : goal.returns-then-front-count
 returns-then-front-count c =
-    subst (Appends c.append_chunk.result c.args.buf.now c.append_chunk.new.buf) (sym (no_point c.args.place c.args.count c.args.row.now (omega arith) (omega arith))) c.append_chunk.ensures
+    subst (Appends c.append_row.result c.args.buf.now c.append_row.new.buf) (sym (no_point c.args.place c.args.count c.args.row.now (omega arith) (omega arith))) c.append_row.ensures
 
 pub returns-then-place-gt255 : goal.returns-then-place-gt255
 returns-then-place-gt255 c =

@@ -4,7 +4,7 @@ use Rattle.stored_text.proofs.Pairs.{tens_at, ones_at}
 use Rattle.stored_text.proofs.number.digits_of_pair.Goals as goal
 
 pub returns : goal.returns
-returns c = (
-  ap (λ k. get_or PAIRS (k * 2) 0) c.from-from.ensures ∙ tens_at c.args.pair c.requires,
-  ap (λ k. get_or PAIRS (k * 2 + 1) 0) c.from-from.ensures ∙ ones_at c.args.pair c.requires,
+returns c = λ below. (
+  ap (λ k. get_or PAIRS (k * 2) 0) c.from-from.ensures ∙ tens_at c.args.pair below,
+  ap (λ k. get_or PAIRS (k * 2 + 1) 0) c.from-from.ensures ∙ ones_at c.args.pair below,
 )

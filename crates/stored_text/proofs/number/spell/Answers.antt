@@ -1,7 +1,6 @@
 use Rattle.std.proofs.Common.{refl, arith}
 use Rattle.stored_text.proofs.Spelling.{none_spelled, pair_small, two_spelled, one_spelled, pair_spelled, not_over}
 use Rattle.stored_text.proofs.number.spell.Goals as goal
-use Rattle.stored_text.proofs.number.spell.Goals.{then-count-gt38-via-then-count-gt38, then-count-gt38-via-else-count-gt38+then-byte-gt199}
 
 pub pairs-init : goal.pairs-init
 pairs-init c = record { spells = none_spelled c.args.negative c.args.bytes.now c.args.row.now c.requires; within = omega arith; few = omega arith }
@@ -9,26 +8,26 @@ pairs-init c = record { spells = none_spelled c.args.negative c.args.bytes.now c
 pub returns-then-count-gt38-clause-found : goal.returns-then-count-gt38-clause-found
 returns-then-count-gt38-clause-found c = λ C M below some few more e.
     let small = pair_small c.args.negative c.args.bytes.now c.pairs.count c.pairs.rest.now c.pairs.row c.in-Some.byte.now c.in-Some.others.now c.turned-byte.result c.pairs.invariant.spells c.in-Some.ensures.cases.0 c.turned-byte.ensures C M below some few more e in
-    elim c.then-count-gt38.branch [
-      | then-count-gt38-via-then-count-gt38 w ↦ absurd (omega (arith, small.0, w.if-count-gt38.true))
-      | then-count-gt38-via-else-count-gt38+then-byte-gt199 w ↦ absurd (omega (arith, small.1, w.if-byte-gt199.true))
-    ]
+    absurd (omega (arith, small.0, c.if-count-gt38.true))
 
 pub returns-then-ones-eq48-clause-found : goal.returns-then-ones-eq48-clause-found
 returns-then-ones-eq48-clause-found c = λ C M below some few more e.
+    let digits = c.digits_of_pair-tens.ensures (pair_small c.args.negative c.args.bytes.now c.pairs.count c.pairs.rest.now c.pairs.row c.in-Some.byte.now c.in-Some.others.now c.turned-byte.result c.pairs.invariant.spells c.in-Some.ensures.cases.0 c.turned-byte.ensures C M below some few more e).1 in
     one_spelled c.args.negative c.args.bytes.now c.pairs.count c.pairs.rest.now c.pairs.row c.in-Some.byte.now c.in-Some.others.now c.turned-byte.result c.pairs.invariant.spells c.in-Some.ensures.cases.0 c.turned-byte.ensures C M below some few more e
-    _ c.digits_of_pair-tens.result.0 c.digits_of_pair-tens.result.1 c.if-byte-eq0.true (omega (arith, c.digits_of_pair-tens.ensures.1, c.if-ones-eq48.true)) c.digits_of_pair-tens.ensures.0 c.digits_of_pair-tens.ensures.1 refl
+    _ c.digits_of_pair-tens.result.0 c.digits_of_pair-tens.result.1 c.if-byte-eq0.true (omega (arith, digits.1, c.if-ones-eq48.true)) digits.0 digits.1 refl
 
 pub returns-then-byte-eq0-clause-found : goal.returns-then-byte-eq0-clause-found
 returns-then-byte-eq0-clause-found c = λ C M below some few more e.
+    let digits = c.digits_of_pair-tens.ensures (pair_small c.args.negative c.args.bytes.now c.pairs.count c.pairs.rest.now c.pairs.row c.in-Some.byte.now c.in-Some.others.now c.turned-byte.result c.pairs.invariant.spells c.in-Some.ensures.cases.0 c.turned-byte.ensures C M below some few more e).1 in
     two_spelled c.args.negative c.args.bytes.now c.pairs.count c.pairs.rest.now c.pairs.row c.in-Some.byte.now c.in-Some.others.now c.turned-byte.result c.pairs.invariant.spells c.in-Some.ensures.cases.0 c.turned-byte.ensures C M below some few more e
-    _ c.digits_of_pair-tens.result.0 c.digits_of_pair-tens.result.1 c.if-byte-eq0.true (λ z. c.if-ones-eq48.false (omega (arith, c.digits_of_pair-tens.ensures.1, z))) c.digits_of_pair-tens.ensures.0 c.digits_of_pair-tens.ensures.1 refl
+    _ c.digits_of_pair-tens.result.0 c.digits_of_pair-tens.result.1 c.if-byte-eq0.true (λ z. c.if-ones-eq48.false (omega (arith, digits.1, z))) digits.0 digits.1 refl
 
 pub pairs-preserved : goal.pairs-preserved
 pairs-preserved c = record {
   spells = λ C M below some few more e.
+      let digits = c.digits_of_pair-tens.ensures (pair_small c.args.negative c.args.bytes.now c.pairs.count c.pairs.rest.now c.pairs.row c.in-Some.byte.now c.in-Some.others.now c.turned-byte.result c.pairs.invariant.spells c.in-Some.ensures.cases.0 c.turned-byte.ensures C M below some few more e).1 in
       pair_spelled c.args.negative c.args.bytes.now c.pairs.count c.pairs.rest.now c.pairs.row c.in-Some.byte.now c.in-Some.others.now c.turned-byte.result c.pairs.invariant.spells c.in-Some.ensures.cases.0 c.turned-byte.ensures C M below some few more e
-      _ c.digits_of_pair-tens.result.0 c.digits_of_pair-tens.result.1 c.if-byte-eq0.false c.digits_of_pair-tens.ensures.0 c.digits_of_pair-tens.ensures.1 refl;
+      _ c.digits_of_pair-tens.result.0 c.digits_of_pair-tens.result.1 c.if-byte-eq0.false digits.0 digits.1 refl;
   within = omega (arith, c.in-Some.ensures.cases.1, c.pairs.invariant.within);
   few = omega (arith, c.if-count-gt38.false);
 }
