@@ -193,6 +193,10 @@ enum vizhoniku_kind {
   VIZHONIKU_OBJECT = 6
 };
 
+/* Checks whether bytes are the sort key of a value. VIZHONIKU_NO_KEY: they aren't. The calls below don't check a key as a
+ * whole, so a key from outside is checked by this first. It takes no memory, and its time is linear in the size. */
+uint32_t vizhoniku_key_check(const unsigned char *key, size_t key_size);
+
 /* Returns the kind of the value whose key this is, of enum vizhoniku_kind. It looks at the first byte alone. */
 uint32_t vizhoniku_key_kind(const unsigned char *key, size_t key_size);
 

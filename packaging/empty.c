@@ -23,6 +23,7 @@ void proved_place(const unsigned char *text, size_t text_size, const struct vizh
                   struct vizhoniku_location *place);
 uint32_t proved_message(uint32_t mode, const unsigned char *text, size_t text_size, unsigned char *buffer,
                         size_t buffer_size, size_t *size);
+uint32_t proved_key_check(const unsigned char *key, size_t key_size);
 uint32_t proved_key_kind(const unsigned char *key, size_t key_size);
 uint32_t proved_key_count(const unsigned char *key, size_t key_size, size_t *count);
 uint32_t proved_key_member(const unsigned char *key, size_t key_size, const unsigned char *name, size_t name_size,
@@ -94,6 +95,10 @@ void vizhoniku_place(const unsigned char *text, size_t text_size, const struct v
 uint32_t vizhoniku_message(uint32_t mode, const unsigned char *text, size_t text_size, unsigned char *buffer,
                            size_t buffer_size, size_t *size) {
   return proved_message(mode, bytes_at(text, text_size), text_size, buffer_at(buffer, buffer_size), buffer_size, size);
+}
+
+uint32_t vizhoniku_key_check(const unsigned char *key, size_t key_size) {
+  return proved_key_check(bytes_at(key, key_size), key_size);
 }
 
 uint32_t vizhoniku_key_kind(const unsigned char *key, size_t key_size) {

@@ -92,8 +92,8 @@ static void make_key(const char *text) {
   struct vizhoniku_refusal refusal;
   uint32_t status = vizhoniku_sort_key(VIZHONIKU_EXTENDED, BYTES(text), key, sizeof key, &key_size, &refusal);
   size_t count = 99;
-  printf("key of %s: status %u size %zu kind %u", text, (unsigned)status, key_size,
-         (unsigned)vizhoniku_key_kind(key, key_size));
+  printf("key of %s: status %u size %zu check %u kind %u", text, (unsigned)status, key_size,
+         (unsigned)vizhoniku_key_check(key, key_size), (unsigned)vizhoniku_key_kind(key, key_size));
   status = vizhoniku_key_count(key, key_size, &count);
   printf(" count: status %u %zu\n", (unsigned)status, count);
 }
@@ -161,7 +161,8 @@ static void pass_no_key(void) {
     struct vizhoniku_key_entry entry;
     unsigned char buffer[4];
     size_t offset, size, count;
-    printf("no key: kind %u", (unsigned)vizhoniku_key_kind(no_keys[i], 4));
+    printf("no key: check %u", (unsigned)vizhoniku_key_check(no_keys[i], 4));
+    printf(" kind %u", (unsigned)vizhoniku_key_kind(no_keys[i], 4));
     printf(" count %u", (unsigned)vizhoniku_key_count(no_keys[i], 4, &count));
     printf(" member %u", (unsigned)vizhoniku_key_member(no_keys[i], 4, BYTES("a"), &offset, &size));
     printf(" item %u", (unsigned)vizhoniku_key_item(no_keys[i], 4, -1, &offset, &size));
@@ -250,7 +251,8 @@ static void pass_null_keys(void) {
   struct vizhoniku_key_cursor cursor = {VIZHONIKU_ARRAY, 0};
   struct vizhoniku_key_entry entry;
   size_t offset = 99, size = 99, count = 99;
-  printf("null key: kind %u", (unsigned)vizhoniku_key_kind(NULL, 0));
+  printf("null key: check %u", (unsigned)vizhoniku_key_check(NULL, 0));
+  printf(" kind %u", (unsigned)vizhoniku_key_kind(NULL, 0));
   printf(" count %u", (unsigned)vizhoniku_key_count(NULL, 0, &count));
   printf(" member %u", (unsigned)vizhoniku_key_member(NULL, 0, NULL, 0, &offset, &size));
   printf(" named %u", (unsigned)vizhoniku_key_member(object, sizeof object, NULL, 0, &offset, &size));

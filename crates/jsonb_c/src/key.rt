@@ -3,10 +3,11 @@
 //! Any bytes are safe to pass. What a call answers is promised for the key of a value of JSON's kinds with at most 512
 //! nested arrays and objects; of other bytes it may be `NO_KEY` or any answer within them.
 
-ghost use Rattle.std.specs.Prelude.{◌≡◌, ◌≢◌, ◌⊎◌, ◌<◌, ◌≤◌, ◌+◌, ◌∷◌, ℕ, List, length, Option, None, Some, MatchResult, MatchOption, IfOk, IfSome, if◌then◌else◌};
+ghost use Rattle.std.specs.Prelude.{◌≡◌, ◌≢◌, ◌↔◌, ◌⊎◌, ◌<◌, ◌≤◌, ◌+◌, ◌∷◌, ℕ, List, length, Option, None, Some, MatchResult, MatchOption, IfOk, IfSome, if◌then◌else◌};
 ghost use Rattle.jsonb_c.specs.Interface.{IsNoPath};
 ghost use Rattle.jsonb_c.specs.KeyParts.{kind_number, text_of_tree, IsBegun, IsCounted, IsFound, IsNextPart, IsTreeKey, IsWritten, StandsBefore};
 ghost use Rattle.jsonb_pointer.specs.Path.{IsPath, StartsKey};
+ghost use Rattle.jsonb_stored.specs.Checked.{IsSortKey};
 ghost use Rattle.jsonb_stored.specs.Found.{count_of, item_from, Finds, IsRange};
 ghost use Rattle.jsonb_stored.specs.Open.{Open};
 ghost use Rattle.jsonb_stored.specs.Parts.{kind_of_tree};
@@ -18,8 +19,8 @@ ghost use Rattle.jsonb_write.specs.PartAt.{part_at};
 use crate::{ACCEPTED, NO_KEY, NO_PART, NO_PATH, OUT_OF_MEMORY, TOO_SHORT};
 use jsonb_pointer::read_keys;
 use jsonb_stored::{
-    Kind, NoKey, count_parts, find_item, find_member, find_part, kind_of, next_part, opened,
-    put_text, range_of, text_of_string, text_size,
+    Kind, NoKey, count_parts, find_item, find_member, find_part, is_sort_key, kind_of, next_part,
+    opened, put_text, range_of, text_of_string, text_size,
 };
 use std::alloc::Global;
 
@@ -38,6 +39,15 @@ pub const STRING: u32 = 4;
 pub const ARRAY: u32 = 5;
 
 pub const OBJECT: u32 = 6;
+
+/// Whether bytes are the sort key of a value of JSON's kinds with at most 512 nested arrays and objects.
+#[unsafe(no_mangle)]
+pub extern "C" fn vizhoniku_key_check(key: &[u8]) -> u32
+    ensures accepted { result ≡ ACCEPTED ↔ IsSortKey key.now }
+    ensures status { (result ≡ ACCEPTED) ⊎ (result ≡ NO_KEY) }
+{
+    if is_sort_key(key) { ACCEPTED } else { NO_KEY }
+}
 
 /// The kind of the value of a sort key, from its first byte alone.
 #[unsafe(no_mangle)]
