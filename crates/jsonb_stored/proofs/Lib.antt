@@ -16,3 +16,4 @@ pub mod CheckedNames
 pub mod CheckedKeys
 pub mod CheckedParts
 pub mod PlainBytes
+pub mod ShortNumbers

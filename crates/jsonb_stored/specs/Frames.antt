@@ -1,6 +1,6 @@
 -- Keys that bytes begin with, and what is known of an array or an object that is open while a key is checked.
 -- Read for: private.
-use Rattle.std.specs.Prelude.{◌≡◌, ◌≢◌, ◌<◌, ℕ, Bool, true, false, List, ◌++◌, Option, Some, None, length, take, get_or, ⊤, IsUtf8}
+use Rattle.std.specs.Prelude.{◌≡◌, ◌≢◌, ◌<◌, ◌≤◌, ◌*◌, ◌^◌, ℕ, Bool, true, false, List, ◌++◌, Option, Some, None, length, map, take, get_or, ⊤, IsUtf8}
 use Rattle.std.specs.Ordering.{nat_cmp}
 use Rattle.std.specs.Cmp.Lexicographic.{slice_cmp}
 use Rattle.std.specs.declared.cmp.Ordering.TheVariants.{Less}
@@ -8,7 +8,7 @@ use Rattle.jsonb_key.specs.Readable.{IsReadable, IsReadableAt}
 use Rattle.jsonb_stored.specs.Open.{Open, is_object, open_key, IsScalar}
 use Rattle.jsonb_stored.specs.Parts.{opened_tree}
 use Rattle.jsonb_value.specs.Proper.{IsProperNumber}
-use Rattle.jsonb_value.specs.SortKey.{key_of, number_key, text_key}
+use Rattle.jsonb_value.specs.SortKey.{key_of, number_key, digits_key, text_key, turned}
 use Rattle.jsonb_value.specs.Tree.{Num, Tree}
 
 -- The bytes begin with the key of a value, and these stand behind it.
@@ -97,3 +97,10 @@ pub record Utf8UpTo (bytes : List ℕ) (zero : ℕ) : Type 0 where
   pub none_before : (k : ℕ) → k < zero → get_or bytes k 0 ≢ 0
   pub here : get_or bytes zero 0 ≡ 0
   pub utf8 : IsUtf8 (take zero bytes)
+
+-- The bytes begin with the key of so many digits, of which the first isn't 0, and these stand behind it.
+pub record DigitsFirst (negative : Bool) (bytes : List ℕ) (count : ℕ) (more : List ℕ) : Type 0 where
+  pub digits : ℕ
+  pub below : digits < 10 ^ count
+  pub least : 10 ^ count ≤ digits * 10
+  pub stands : bytes ≡ map (turned negative) (digits_key count digits) ++ more

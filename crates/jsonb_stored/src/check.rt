@@ -6,6 +6,7 @@ ghost use Rattle.jsonb_stored.specs.Frames.{KeyFirst, ScalarFirst, NumberFirst, 
 ghost use Rattle.jsonb_value.specs.SortKey.{text_key};
 
 use crate::ascii::utf8_run;
+use crate::digits::short_number;
 use crate::skip::{MAX_DEPTH, after_end, after_text, is_word, opening};
 use crate::walk::front;
 use jsonb_key::number::read_number;
@@ -62,6 +63,9 @@ fn checked_number(bytes: &[u8]) -> Option<&[u8]>
     ensures found { (more : List ℕ) → option_map (λ rest. rest.now) result ≡ Some more ↔ NumberFirst bytes.now more }
     ensures shorter { IfSome result (λ rest. length rest.now < length bytes.now) }
 {
+    if let Some(rest) = short_number(bytes) {
+        return Some(rest);
+    }
     let Some((_, rest)) = read_number(bytes) else {
         return None;
     };

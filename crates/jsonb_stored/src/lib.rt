@@ -4,6 +4,7 @@
 mod ascii;
 pub mod check;
 pub mod checked;
+mod digits;
 pub mod find;
 pub mod part;
 pub mod skip;

@@ -1,0 +1,13 @@
+use Rattle.std.proofs.Common.{◌≤◌, length}
+use Rattle.jsonb_stored.proofs.ShortNumbers.{SomeRead}
+use Rattle.jsonb_stored.proofs.digits.short_digits.Given as goal
+
+abbrev pub invariant-pairs : goal.invariant-pairs
+invariant-pairs l = record {
+  read : SomeRead l.negative l.bytes l.count l.rest;
+  few : l.count ≤ 36;
+  within : length l.rest ≤ length l.bytes;
+}
+
+abbrev pub decreases-pairs : goal.decreases-pairs
+decreases-pairs l = length l.rest
