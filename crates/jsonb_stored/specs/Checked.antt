@@ -46,12 +46,12 @@ abbrev pub IsNoMember : Members → Type 0
 IsNoMember no_members = ⊤
 IsNoMember (more_members name t ms) = ⊥
 
--- the first of them, and those behind it
+-- the first item, and those behind it
 abbrev pub IsFirstItem : Trees → List ℕ → List ℕ → Type 0
 IsFirstItem no_trees key rest = ⊥
 IsFirstItem (more_trees t ts) key rest = (key ≡ key_of t) × (rest ≡ items_key ts)
 
--- the same of members, with the name as a text's key
+-- the first member, with the name as a text's key, and those behind it
 abbrev pub IsFirstMember : Members → List ℕ → List ℕ → List ℕ → Type 0
 IsFirstMember no_members name key rest = ⊥
 IsFirstMember (more_members k t ms) name key rest = (name ≡ text_key k) × (key ≡ key_of t) × (rest ≡ members_key ms)

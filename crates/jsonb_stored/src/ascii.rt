@@ -7,7 +7,7 @@ ghost use Rattle.jsonb_stored.specs.Frames.{ArePlain, TextFirst, Utf8UpTo};
 use memchr::memchr;
 use std::simd::prelude::*;
 
-/// How many bytes stand before the first zero, if they are UTF-8.
+// How many bytes stand before the first zero, if they are UTF-8.
 #[inline(always)]
 pub(crate) fn utf8_run(bytes: &[u8]) -> Option<usize>
     ensures { MatchOption result ((more : List ℕ) → ¬ (TextFirst bytes.now more)) (λ zero. Utf8UpTo bytes.now zero) }
@@ -23,7 +23,7 @@ pub(crate) fn utf8_run(bytes: &[u8]) -> Option<usize>
     longer_run(bytes, run)
 }
 
-// The same, where the first `run` bytes are ASCII.
+// How many bytes stand before the first zero, if they are UTF-8, where the first `run` of them are ASCII.
 #[inline(never)]
 fn longer_run(bytes: &[u8], run: usize) -> Option<usize>
     requires within { run ≤ length bytes.now }
@@ -47,7 +47,7 @@ fn is_utf8(bytes: &[u8]) -> bool
     simdutf8::basic::from_utf8(bytes).is_ok()
 }
 
-// How many of the first bytes are ASCII and no zeros.
+// How many of the first bytes are plain: ASCII and no zeros.
 #[inline(always)]
 fn plain_run(bytes: &[u8]) -> usize
     ensures within { result ≤ length bytes.now }
@@ -63,7 +63,7 @@ fn plain_run(bytes: &[u8]) -> usize
     16 + long_run(&bytes[16..])
 }
 
-// The same, where they are many.
+// How many of the first bytes are plain, 64 at a time.
 #[inline(never)]
 fn long_run(bytes: &[u8]) -> usize
     ensures within { result ≤ length bytes.now }
@@ -79,7 +79,7 @@ fn long_run(bytes: &[u8]) -> usize
     len + run_by_vectors(&bytes[len..])
 }
 
-// The same, 16 at a time.
+// How many of the first bytes are plain, 16 at a time.
 #[inline(always)]
 fn run_by_vectors(bytes: &[u8]) -> usize
     ensures within { result ≤ length bytes.now }
@@ -96,7 +96,7 @@ fn run_by_vectors(bytes: &[u8]) -> usize
     len + run_by_bytes(&bytes[len..])
 }
 
-// Whether the first 64 bytes are.
+// Whether the first 64 bytes are plain.
 #[inline(always)]
 fn are_plain(bytes: &[u8]) -> bool
     requires { 64 ≤ length bytes.now }
@@ -107,7 +107,7 @@ fn are_plain(bytes: &[u8]) -> bool
     marks.to_bitmask() == 0
 }
 
-// The same, byte by byte.
+// How many of the first bytes are plain, byte by byte.
 #[inline(always)]
 fn run_by_bytes(bytes: &[u8]) -> usize
     ensures within { result ≤ length bytes.now }
@@ -121,7 +121,7 @@ fn run_by_bytes(bytes: &[u8]) -> usize
     bytes.len()
 }
 
-// The same of the first 16 bytes.
+// How many of the first bytes are plain, up to 16.
 #[inline(always)]
 fn run_of_sixteen(bytes: &[u8]) -> usize
     requires { 16 ≤ length bytes.now }

@@ -11,8 +11,8 @@ use crate::skip::{MAX_DEPTH, after_end, after_text, is_word, opening};
 use crate::walk::front;
 use jsonb_key::number::read_number;
 
-// What is kept of each open array and object: that it is an array, that it is an object with no name passed, or else how
-// many bytes there are from the last name on.
+// What is kept of each open array and object: that it is an array, that it is an object with no name passed, or else
+// how many bytes there are from the last name on.
 const ARRAY: usize = 0;
 
 const NO_NAME: usize = 1;

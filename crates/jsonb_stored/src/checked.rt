@@ -57,7 +57,8 @@ impl<'k> Key<'k> {
     /// The key of the member of that name, or of the item of that index.
     pub fn child(&self, name: &str) -> Option<Key<'k>>
         ensures { (t : Tree) → IsReadable t → key_bytes self.now ≡ key_of t
-            → MatchOption result ((u : Tree) → ¬ (IsChild t name.now u)) (λ key. IsKeyOfChild t name.now (key_bytes key)) }
+            → MatchOption result ((u : Tree) → ¬ (IsChild t name.now u))
+            (λ key. IsKeyOfChild t name.now (key_bytes key)) }
     {
         let Some(part) = part::child(self.bytes, name) else {
             return None;

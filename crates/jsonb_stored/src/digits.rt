@@ -5,8 +5,8 @@ ghost use Rattle.jsonb_stored.specs.Frames.{NumberFirst, DigitsFirst};
 
 use jsonb_key::number::{read_place, turned};
 
-/// The bytes after the number whose key they begin with, where it has at most 38 digits. Where it has more, or the bytes
-/// begin with no number's key, it is `None`.
+// The bytes after the number whose key they begin with, where it has at most 38 digits. Where it has more, or the bytes
+// begin with no number's key, it is `None`.
 pub(crate) fn short_number(bytes: &[u8]) -> Option<&[u8]>
     ensures found { IfSome result (λ rest. NumberFirst bytes.now rest.now) }
     ensures shorter { IfSome result (λ rest. length rest.now < length bytes.now) }
@@ -22,13 +22,15 @@ pub(crate) fn short_number(bytes: &[u8]) -> Option<&[u8]>
     Some(rest)
 }
 
-// How many digits there are, of which the last isn't 0, and the bytes after them.
+// How many digits there are, neither the first nor the last of which is 0, and the bytes after them. There are at most
+// 38, else it is `None`.
 fn short_digits(negative: bool, bytes: &[u8]) -> Option<(u32, &[u8])>
     ensures found { IfSome result (λ r. DigitsFirst negative bytes.now r.0 r.1.now) }
     ensures few { IfSome result (λ r. r.0 ≤ 38) }
     ensures shorter { IfSome result (λ r. length r.1.now < length bytes.now) }
 {
     let (first, _) = bytes.split_first()?;
+    // The least byte of a pair that begins with a digit other than 0 is that of 10.
     if turned(negative, *first) < 20 {
         return None;
     }
@@ -36,6 +38,7 @@ fn short_digits(negative: bool, bytes: &[u8]) -> Option<(u32, &[u8])>
     let mut rest = bytes;
     'pairs: while let Some((byte, others)) = rest.split_first() {
         let byte = turned(negative, *byte);
+        // Twice 99, and 1 where digits follow, is the greatest byte of a pair.
         if byte > 199 {
             return None;
         }
