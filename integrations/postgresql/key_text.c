@@ -1,20 +1,22 @@
 /*-------------------------------------------------------------------------
  *
  * key_text.c
- *	  Writing the text of a value from its sort key.
+ *	  The text of a value from its sort key and its zeros.
  *
- * The format of sort keys is that of docs/SORT_KEYS.md, and the text is the
- * one that the library writes (docs/VALUES.md).  Nothing here is relied on for
- * that: a key is stored without its text only where this code, when the value
- * was made, gave the library's text again.
+ * The library writes the text of a key, with the fewest digits in each number
+ * (vizhoniku_key_text).  What is here finds the zeros that a text has beside
+ * that, and puts them into it.
  *
  *-------------------------------------------------------------------------
  */
 #include "postgres.h"
 
+#include <vizhoniku.h>
+
 #include "utils/memutils.h"
 
 #include "key_text.h"
+#include "vjson.h"
 
 #define KEY_FALSE		0x15
 #define KEY_TRUE		0x16
@@ -26,375 +28,135 @@
 #define KEY_ARRAY		0xD2
 #define KEY_NULL		0xD3
 
-/* Of the place of a number that isn't negative: 0xA0 and how many digits stand before the point. */
-#define PLACE_SMALL		0x81	/* a byte with 255 less the zeros behind the point follows */
-#define PLACE_BASE		0xA0
+/* A place of two bytes, of a number that isn't negative. */
+#define PLACE_SMALL		0x81
 
 #define MAX_LEVELS		512
-#define MAX_DIGITS		64
 #define MAX_ZEROS		255
 
+/*
+ * The text of a key with the fewest digits in each number, in a block with room
+ * for a zero byte behind it.  NULL if the bytes are no key.
+ */
+static char *
+shortest_text(const unsigned char *key, size_t key_size, size_t *text_size)
+{
+	size_t		room = key_size + key_size / 4 + 64;
+
+	for (;;)
+	{
+		char	   *text = palloc_extended(room + 1, MCXT_ALLOC_HUGE);
+		uint32		status = vizhoniku_key_text(key, key_size, (unsigned char *) text, room, text_size);
+
+		if (status == VIZHONIKU_ACCEPTED)
+			return text;
+		pfree(text);
+		if (status == VIZHONIKU_OUT_OF_MEMORY)
+			vjson_raise_out_of_memory(key_size);
+		if (status != VIZHONIKU_TOO_SHORT)
+			return NULL;
+		room = *text_size;
+	}
+}
+
+/* Where the next number of a text begins, or the text's end. */
+static const char *
+next_number(const char *at, const char *end)
+{
+	while (at < end && *at != '-' && (*at < '0' || *at > '9'))
+	{
+		if (*at++ != '"')
+			continue;
+		while (at < end && *at != '"')
+			at += *at == '\\' ? 2 : 1;
+		at++;
+	}
+	return Min(at, end);
+}
+
+/* The end of the number that begins here, and whether it has a point. */
+static const char *
+number_end(const char *at, const char *end, bool *has_point)
+{
+	*has_point = false;
+	while (at < end && (*at == '-' || *at == '.' || (*at >= '0' && *at <= '9')))
+	{
+		if (*at++ == '.')
+			*has_point = true;
+	}
+	return at;
+}
+
+/* Append how many numbers come before one with zeros. */
+static size_t
+put_gap(unsigned char *into, size_t size, uint64 gap)
+{
+	for (; gap >= 0x80; gap >>= 7)
+		into[size++] = 0x80 | (gap & 0x7F);
+	into[size++] = gap;
+	return size;
+}
+
+/* Bytes that are collected. */
 typedef struct
 {
-	const unsigned char *key;	/* what is left of the key */
-	const unsigned char *key_end;
-
-	/* Comparing with a text, if that isn't NULL, and collecting zeros. */
-	const char *text;
-	size_t		text_size;
-	unsigned char *found;
-	size_t		found_size;
-	size_t		found_room;
-
-	/* Writing, otherwise. */
-	char	   *written;
+	unsigned char *bytes;
+	size_t		size;
 	size_t		room;
-	const unsigned char *zeros; /* what is left of the zeros */
-	const unsigned char *zeros_end;
-	uint64		gap;			/* numbers before the one with the next zeros */
-
-	size_t		size;			/* bytes of the text so far */
-	uint64		plain;			/* numbers without zeros since the last with some */
-} Writer;
+} Collected;
 
 static void
-make_room(Writer *writer, size_t size)
+collect(Collected *found, uint64 gap, size_t zeros)
 {
-	size_t		room = Max(writer->room * 2, writer->size + size);
-
-	writer->written = repalloc_huge(writer->written, room);
-	writer->room = room;
+	if (found->room - found->size < 16)
+	{
+		found->room = Max(found->room * 2, 64);
+		found->bytes = found->bytes ? repalloc_huge(found->bytes, found->room) : palloc(found->room);
+	}
+	found->size = put_gap(found->bytes, found->size, gap);
+	found->bytes[found->size++] = zeros;
 }
 
-/* Put bytes into the text, or compare them with it. */
-static inline bool
-put(Writer *writer, const void *bytes, size_t size)
-{
-	if (writer->text)
-	{
-		if (writer->text_size - writer->size < size || memcmp(writer->text + writer->size, bytes, size) != 0)
-			return false;
-	}
-	else
-	{
-		if (writer->room - writer->size < size)
-			make_room(writer, size);
-		memcpy(writer->written + writer->size, bytes, size);
-	}
-	writer->size += size;
-	return true;
-}
-
-static inline bool
-put_byte(Writer *writer, char byte)
-{
-	if (writer->text)
-	{
-		if (writer->size == writer->text_size || writer->text[writer->size] != byte)
-			return false;
-	}
-	else
-	{
-		if (writer->size == writer->room)
-			make_room(writer, 1);
-		writer->written[writer->size] = byte;
-	}
-	writer->size++;
-	return true;
-}
-
+/* Find the zeros that a text has beside those of the shortest text. False if anything else differs. */
 static bool
-put_escaped(Writer *writer, unsigned char byte)
+find_zeros(const char *shortest, const char *shortest_end, const char *text, const char *text_end, Collected *found)
 {
-	static const char hex[] = "0123456789abcdef";
-	char		unit[] = "\\u0000";
+	uint64		plain = 0;		/* numbers without zeros since the last with some */
 
-	switch (byte)
-	{
-		case '"':
-			return put(writer, "\\\"", 2);
-		case '\\':
-			return put(writer, "\\\\", 2);
-		case '\n':
-			return put(writer, "\\n", 2);
-		case '\r':
-			return put(writer, "\\r", 2);
-		case '\t':
-			return put(writer, "\\t", 2);
-		default:
-			unit[4] = hex[byte >> 4];
-			unit[5] = hex[byte & 15];
-			return put(writer, unit, 6);
-	}
-}
-
-/* Put the bytes of a string up to its end, or up to one that is written with an escape. */
-static inline bool
-put_run(Writer *writer)
-{
-	const unsigned char *run = writer->key;
-	const unsigned char *key = run;
-	const unsigned char *key_end = writer->key_end;
-
-	if (writer->text)
-	{
-		const char *at = writer->text + writer->size;
-		const char *end = writer->text + writer->text_size;
-
-		for (; key < key_end && *key >= 0x20 && *key != '"' && *key != '\\'; key++)
-		{
-			if (at == end || (unsigned char) *at++ != *key)
-				return false;
-		}
-		writer->size += key - run;
-		writer->key = key;
-		return true;
-	}
-	while (key < key_end && *key >= 0x20 && *key != '"' && *key != '\\')
-		key++;
-	writer->key = key;
-	return put(writer, run, key - run);
-}
-
-/* A string: its bytes, of which a zero is followed by 0xFF, and at the end 0 and 1. */
-static bool
-put_string(Writer *writer)
-{
-	if (!put_byte(writer, '"'))
-		return false;
 	for (;;)
 	{
-		if (!put_run(writer))
+		const char *number = next_number(shortest, shortest_end);
+		bool		has_point;
+		const char *end = number_end(number, shortest_end, &has_point);
+		const char *zeros;
+
+		if (text_end - text < end - shortest || memcmp(text, shortest, end - shortest) != 0)
 			return false;
-		if (writer->key == writer->key_end)
-			return false;
-		if (*writer->key != 0)
+		text += end - shortest;
+		shortest = end;
+		if (number == shortest_end)
+			return text == text_end;
+		if (!has_point && text < text_end && *text == '.')
+			text++;
+		else if (!has_point)
 		{
-			if (!put_escaped(writer, *writer->key++))
-				return false;
+			plain++;
 			continue;
 		}
-		if (writer->key_end - writer->key < 2)
+		zeros = text;
+		while (text < text_end && *text == '0')
+			text++;
+		if (text == zeros && !has_point)
 			return false;
-		writer->key += 2;
-		if (writer->key[-1] == 0x01)
-			return put_byte(writer, '"');
-		if (writer->key[-1] != 0xFF || !put_escaped(writer, 0))
+		if (text - zeros > MAX_ZEROS)
 			return false;
-	}
-}
-
-/* Read how many numbers come before the one with the next zeros. */
-static bool
-next_gap(Writer *writer)
-{
-	uint64		gap = 0;
-
-	writer->gap = PG_UINT64_MAX;
-	if (writer->zeros == writer->zeros_end)
-		return true;
-	for (int shift = 0; shift < 63; shift += 7)
-	{
-		unsigned char byte;
-
-		if (writer->zeros == writer->zeros_end)
-			return false;
-		byte = *writer->zeros++;
-		gap |= (uint64) (byte & 0x7F) << shift;
-		if (byte < 0x80)
+		if (text == zeros)
+			plain++;
+		else
 		{
-			writer->gap = gap;
-			return writer->zeros < writer->zeros_end;
+			collect(found, plain, text - zeros);
+			plain = 0;
 		}
-	}
-	return false;
-}
-
-static void
-collect(Writer *writer, unsigned char byte)
-{
-	if (writer->found_size == writer->found_room)
-	{
-		writer->found_room = Max(writer->found_room * 2, 64);
-		writer->found = writer->found ? repalloc_huge(writer->found, writer->found_room) :
-			palloc(writer->found_room);
-	}
-	writer->found[writer->found_size++] = byte;
-}
-
-/* The zeros behind a number: those that the text has, or those that were told. */
-static bool
-put_zeros(Writer *writer, bool has_point)
-{
-	size_t		zeros = 0;
-
-	if (!writer->text)
-	{
-		if (writer->plain++ != writer->gap)
-			return true;
-		if (!has_point && !put_byte(writer, '.'))
-			return false;
-		for (zeros = *writer->zeros++; zeros > 0; zeros--)
-		{
-			if (!put_byte(writer, '0'))
-				return false;
-		}
-		writer->plain = 0;
-		return next_gap(writer);
-	}
-
-	if (!has_point && writer->size < writer->text_size && writer->text[writer->size] == '.')
-	{
-		writer->size++;
-		has_point = true;
-	}
-	if (has_point)
-	{
-		while (writer->size < writer->text_size && writer->text[writer->size] == '0')
-		{
-			writer->size++;
-			zeros++;
-		}
-	}
-	if (zeros == 0)
-	{
-		writer->plain++;
-		return true;
-	}
-	if (zeros > MAX_ZEROS)
-		return false;
-	for (; writer->plain >= 0x80; writer->plain >>= 7)
-		collect(writer, 0x80 | (writer->plain & 0x7F));
-	collect(writer, writer->plain);
-	collect(writer, zeros);
-	writer->plain = 0;
-	return true;
-}
-
-/* A number: its place, and its digits in pairs; each byte of a negative one is 255 less that. */
-static bool
-put_number(Writer *writer, unsigned char first)
-{
-	unsigned char flip = first < KEY_ZERO ? 0xFF : 0;
-	int			place = first ^ flip;
-	char		digits[MAX_DIGITS + 2];
-	int			count = 0;
-	int			before;
-	unsigned char byte;
-
-	if (first == KEY_ZERO)
-		return put_byte(writer, '0') && put_zeros(writer, false);
-	if (place == PLACE_SMALL)
-	{
-		if (writer->key == writer->key_end)
-			return false;
-		before = (*writer->key++ ^ flip) - 255;
-	}
-	else
-		before = place - PLACE_BASE;
-	do
-	{
-		if (writer->key == writer->key_end || count >= MAX_DIGITS)
-			return false;
-		byte = *writer->key++ ^ flip;
-		if (byte >= 200)
-			return false;
-		digits[count++] = '0' + byte / 20;
-		digits[count++] = '0' + byte / 2 % 10;
-	} while (byte & 1);
-	if (digits[count - 1] == '0')
-		count--;
-
-	if (flip && !put_byte(writer, '-'))
-		return false;
-	if (before >= count)
-	{
-		if (!put(writer, digits, count))
-			return false;
-		for (; before > count; before--)
-		{
-			if (!put_byte(writer, '0'))
-				return false;
-		}
-		return put_zeros(writer, false);
-	}
-	if (before > 0)
-		return put(writer, digits, before) && put_byte(writer, '.') &&
-			put(writer, digits + before, count - before) && put_zeros(writer, true);
-	if (!put(writer, "0.", 2))
-		return false;
-	for (; before < 0; before++)
-	{
-		if (!put_byte(writer, '0'))
-			return false;
-	}
-	return put(writer, digits, count) && put_zeros(writer, true);
-}
-
-/* The whole text. */
-static bool
-put_document(Writer *writer)
-{
-	char		closing[MAX_LEVELS];
-	int			depth = 0;
-
-	for (;;)
-	{
-		bool		first = false;
-		unsigned char kind;
-
-		/* A value begins here. */
-		if (writer->key == writer->key_end)
-			return false;
-		kind = *writer->key++;
-		if (kind == KEY_STRING)
-		{
-			if (!put_string(writer))
-				return false;
-		}
-		else if (kind >= KEY_NUMBER_LOW && kind <= KEY_NUMBER_HIGH)
-		{
-			if (!put_number(writer, kind))
-				return false;
-		}
-		else if (kind == KEY_OBJECT || kind == KEY_ARRAY)
-		{
-			if (depth == MAX_LEVELS || !put_byte(writer, kind == KEY_OBJECT ? '{' : '['))
-				return false;
-			closing[depth++] = kind == KEY_OBJECT ? '}' : ']';
-			first = true;
-		}
-		else if (kind == KEY_NULL || kind == KEY_TRUE)
-		{
-			if (!put(writer, kind == KEY_NULL ? "null" : "true", 4))
-				return false;
-		}
-		else if (kind != KEY_FALSE || !put(writer, "false", 5))
-			return false;
-
-		/* Behind a value, or at the beginning of an array or an object. */
-		for (;;)
-		{
-			size_t		left = writer->key_end - writer->key;
-			size_t		end = 1;
-
-			if (depth == 0)
-				return left == 0;
-			if (closing[depth - 1] == '}')
-				end = 2;
-			if (left < end)
-				return false;
-			if (writer->key[0] != 0 || writer->key[end - 1] != 0)
-				break;
-			if (!put_byte(writer, closing[--depth]))
-				return false;
-			writer->key += end;
-			first = false;
-		}
-		if (!first && !put_byte(writer, ','))
-			return false;
-		if (closing[depth - 1] == '}' && !(put_string(writer) && put_byte(writer, ':')))
-			return false;
 	}
 }
 
@@ -402,42 +164,126 @@ bool
 key_text_zeros(const unsigned char *key, size_t key_size, const char *text, size_t text_size,
 			   unsigned char **zeros, size_t *zeros_size)
 {
-	Writer		writer = {0};
+	Collected	found = {0};
+	size_t		size;
+	char	   *shortest = shortest_text(key, key_size, &size);
+	bool		same;
 
-	writer.key = key;
-	writer.key_end = key + key_size;
-	writer.text = text;
-	writer.text_size = text_size;
-	if (!put_document(&writer) || writer.size != text_size)
+	if (shortest == NULL)
+		return false;
+	if (size == text_size)
+		same = memcmp(shortest, text, size) == 0;
+	else
+		same = find_zeros(shortest, shortest + size, text, text + text_size, &found);
+	pfree(shortest);
+	if (!same)
 	{
-		if (writer.found)
-			pfree(writer.found);
+		if (found.bytes)
+			pfree(found.bytes);
 		return false;
 	}
-	*zeros = writer.found;
-	*zeros_size = writer.found_size;
+	*zeros = found.bytes;
+	*zeros_size = found.size;
 	return true;
+}
+
+/*
+ * Read the next number with zeros: how many numbers come before it, and how
+ * many zeros it has.  False if the bytes are no zeros of a key.
+ */
+static bool
+next_zeros(const unsigned char **zeros, const unsigned char *zeros_end, uint64 *gap, size_t *count)
+{
+	int			shift = 0;
+
+	*gap = 0;
+	for (; *zeros < zeros_end && **zeros >= 0x80 && shift < 56; shift += 7)
+		*gap |= (uint64) (*(*zeros)++ & 0x7F) << shift;
+	if (zeros_end - *zeros < 2 || **zeros >= 0x80)
+		return false;
+	*gap |= (uint64) *(*zeros)++ << shift;
+	*count = *(*zeros)++;
+	return true;
+}
+
+/* Copy the shortest text, with its zeros. NULL if there aren't as many numbers. */
+static char *
+copy_with_zeros(const char *shortest, const char *shortest_end, const unsigned char *zeros,
+				const unsigned char *zeros_end, char *into)
+{
+	const char *at = shortest;
+	uint64		gap;
+	size_t		count;
+
+	while (zeros < zeros_end)
+	{
+		bool		has_point = false;
+
+		if (!next_zeros(&zeros, zeros_end, &gap, &count))
+			return NULL;
+		for (uint64 i = 0; i <= gap; i++)
+		{
+			at = next_number(at, shortest_end);
+			if (at == shortest_end)
+				return NULL;
+			at = number_end(at, shortest_end, &has_point);
+		}
+		memcpy(into, shortest, at - shortest);
+		into += at - shortest;
+		shortest = at;
+		if (!has_point)
+			*into++ = '.';
+		memset(into, '0', count);
+		into += count;
+	}
+	memcpy(into, shortest, shortest_end - shortest);
+	return into + (shortest_end - shortest);
+}
+
+/* How many bytes the zeros add to a text at most. SIZE_MAX if the bytes are no zeros of a key. */
+static size_t
+zeros_room(const unsigned char *zeros, const unsigned char *zeros_end)
+{
+	size_t		room = 0;
+	uint64		gap;
+	size_t		count;
+
+	while (zeros < zeros_end)
+	{
+		if (!next_zeros(&zeros, zeros_end, &gap, &count))
+			return SIZE_MAX;
+		room += count + 1;
+	}
+	return room;
 }
 
 char *
 key_text_write(const unsigned char *key, size_t key_size, const unsigned char *zeros, size_t zeros_size,
 			   size_t *text_size)
 {
-	Writer		writer = {0};
+	const unsigned char *zeros_end = zeros + zeros_size;
+	size_t		size;
+	size_t		more = zeros_room(zeros, zeros_end);
+	char	   *shortest = shortest_text(key, key_size, &size);
+	char	   *text = shortest;
+	char	   *end = text + size;
 
-	writer.key = key;
-	writer.key_end = key + key_size;
-	writer.zeros = zeros;
-	writer.zeros_end = zeros + zeros_size;
-	writer.room = key_size + key_size / 8 + 64;
-	writer.written = palloc_extended(writer.room, MCXT_ALLOC_HUGE);
-	if (!next_gap(&writer) || !put_document(&writer) || !put_byte(&writer, '\0'))
-	{
-		pfree(writer.written);
+	if (shortest == NULL || more == SIZE_MAX)
 		return NULL;
+	if (more > 0)
+	{
+		text = palloc_extended(size + more + 1, MCXT_ALLOC_HUGE);
+		end = copy_with_zeros(shortest, shortest + size, zeros, zeros_end, text);
+		pfree(shortest);
+		if (end == NULL)
+		{
+			pfree(text);
+			return NULL;
+		}
 	}
-	*text_size = writer.size - 1;
-	return writer.written;
+	*end = '\0';
+	*text_size = end - text;
+	return text;
 }
 
 /*
@@ -551,16 +397,6 @@ key_numbers(const unsigned char *key, size_t key_size, size_t offset, size_t siz
 		value_end(part, key + key_size, NULL, numbers) == part + size;
 }
 
-/* Append how many numbers come before one with zeros. */
-static size_t
-put_gap(unsigned char *into, size_t size, uint64 gap)
-{
-	for (; gap >= 0x80; gap >>= 7)
-		into[size++] = 0x80 | (gap & 0x7F);
-	into[size++] = gap;
-	return size;
-}
-
 size_t
 key_part_zeros(const unsigned char *zeros, size_t zeros_size, uint64 numbers_before, uint64 numbers,
 			   unsigned char *part_zeros)
@@ -572,24 +408,20 @@ key_part_zeros(const unsigned char *zeros, size_t zeros_size, uint64 numbers_bef
 
 	while (zeros < zeros_end)
 	{
-		uint64		gap = 0;
-		int			shift = 0;
+		uint64		gap;
+		size_t		count;
 
-		for (; zeros < zeros_end && *zeros >= 0x80 && shift < 56; shift += 7)
-			gap |= (uint64) (*zeros++ & 0x7F) << shift;
-		if (zeros_end - zeros < 2 || *zeros >= 0x80)
+		if (!next_zeros(&zeros, zeros_end, &gap, &count))
 			return SIZE_MAX;
-		gap |= (uint64) *zeros++ << shift;
 		number += gap;
 		if (number >= numbers_before + numbers)
 			break;
 		if (number >= numbers_before)
 		{
 			size = put_gap(part_zeros, size, number - next);
-			part_zeros[size++] = *zeros;
+			part_zeros[size++] = count;
 			next = number + 1;
 		}
-		zeros++;
 		number++;
 	}
 	return size;

@@ -1,7 +1,7 @@
 /*-------------------------------------------------------------------------
  *
  * key_text.h
- *	  Writing the text of a value from its sort key.
+ *	  The text of a value from its sort key and its zeros.
  *
  *-------------------------------------------------------------------------
  */

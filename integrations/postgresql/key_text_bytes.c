@@ -35,6 +35,13 @@ void *repalloc_huge(void *block, size_t size) { return block_of(realloc(block, s
 
 void pfree(void *block) { free(block); }
 
+void vjson_raise_out_of_memory(size_t size);
+
+void vjson_raise_out_of_memory(size_t size) {
+  (void)size;
+  block_of(NULL);
+}
+
 /* The bytes in a block of their own. One of no bytes has a byte, which isn't read. */
 static unsigned char *copy(const void *bytes, size_t size) {
   unsigned char *block = palloc(size ? size : 1);
