@@ -16,11 +16,11 @@ ghost use Rattle.jsonb_value.specs.SortKey.{key_of, text_key};
 ghost use Rattle.jsonb_value.specs.Tree.{Tree};
 ghost use Rattle.jsonb_write.specs.PartAt.{part_at};
 
-use crate::{ACCEPTED, NO_KEY, NO_PART, NO_PATH, OUT_OF_MEMORY, TOO_SHORT};
+use crate::{ACCEPTED, NO_KEY, NO_PART, NO_PATH, OUT_OF_MEMORY, TOO_SHORT, put};
 use jsonb_pointer::read_keys;
 use jsonb_stored::{
     Kind, NoKey, count_parts, find_item, find_member, find_part, is_sort_key, kind_of, next_part,
-    opened, put_text, range_of, text_of_string, text_size,
+    opened, plain_text, put_text, range_of, text_of_string, text_size,
 };
 use std::alloc::Global;
 
@@ -411,7 +411,7 @@ pub extern "C" fn vizhoniku_key_name(name: &[u8], out: &mut [u8], size: &mut usi
     write_text(name, out, size)
 }
 
-// Writes the text whose key this is.
+// Writes the text whose key this is. One without zeros stands in the key as it is.
 fn write_text(key: &[u8], out: &mut [u8], size: &mut usize) -> u32
     ensures status { (result ≡ ACCEPTED) ⊎ (result ≡ TOO_SHORT) ⊎ (result ≡ NO_KEY) }
     ensures written { (text : List ℕ) → key.now ≡ text_key text
@@ -419,6 +419,10 @@ fn write_text(key: &[u8], out: &mut [u8], size: &mut usize) -> u32
     ensures untouched { result ≢ ACCEPTED → out.new ≡ out.old }
     ensures no_size { result ≢ ACCEPTED → result ≢ TOO_SHORT → size.new ≡ 0 }
 {
+    if let Some(text) = plain_text(key) {
+        *size = text.len();
+        return put(text, out);
+    }
     let Some(needed) = text_size(key) else {
         *size = 0;
         return NO_KEY;

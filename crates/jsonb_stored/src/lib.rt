@@ -18,5 +18,5 @@ pub use find::{
 };
 pub use part::part_of_key;
 pub use skip::after_key;
-pub use text::{put_text, text_of_string, text_size};
+pub use text::{plain_text, put_text, text_of_string, text_size};
 pub use walk::{Kind, items_of, kind_of, members_of, next_item, next_member};

@@ -4,6 +4,7 @@ ghost use Rattle.std.specs.Prelude.{◌≡◌, ◌≤◌, ◌++◌, ◌∷◌, L
 ghost use Rattle.jsonb_value.specs.SortKey.{text_key};
 
 use jsonb_key::text::{read_byte, skip_pair};
+use memchr::memchr;
 
 /// The key of the text of a string, whose key this is; `None` of any other value.
 pub fn text_of_string(key: &[u8]) -> Option<&[u8]>
@@ -15,6 +16,19 @@ pub fn text_of_string(key: &[u8]) -> Option<&[u8]>
         return None;
     }
     Some(rest)
+}
+
+/// The text whose key this is, as it stands in it; `None` where the text has a zero.
+pub fn plain_text(key: &[u8]) -> Option<&[u8]>
+    ensures plain { (text : List ℕ) → key.now ≡ text_key text → IfSome result (λ plain. plain.now ≡ text) }
+    ensures within { IfSome result (λ plain. length plain.now ≤ length key.now) }
+{
+    let zero = memchr(0, key)?;
+    let (text, end) = key.split_at(zero);
+    match end {
+        [_, 1] => Some(text),
+        _ => None,
+    }
 }
 
 /// How many bytes the text has whose key this is; `None` where it is the key of no text.

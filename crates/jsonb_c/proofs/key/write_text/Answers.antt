@@ -4,9 +4,9 @@ use Rattle.jsonb_value.specs.SortKey.{text_key}
 use Rattle.jsonb_c.proofs.key.write_text.Goals as goal
 
 pub returns-then-out-needed-clause-written : goal.returns-then-out-needed-clause-written
-returns-then-out-needed-clause-written c = λ text e. (some_same c.in-Some.needed (length text) (c.in-Some.ensures.sized text e), inr (refl, omega (arith, c.if-out-needed.true)))
+returns-then-out-needed-clause-written c = λ text e. (some_same c.in-Some-text_size.needed (length text) (c.in-Some-text_size.ensures.sized text e), inr (refl, omega (arith, c.if-out-needed.true)))
 
 pub returns-clause-written : goal.returns-clause-written
 returns-clause-written c = λ text e.
-    let same = some_same c.in-Some.needed (length text) (c.in-Some.ensures.sized text e) in
+    let same = some_same c.in-Some-text_size.needed (length text) (c.in-Some-text_size.ensures.sized text e) in
     (same, inl (refl, c.put_text.ensures.put text [] (e ∙ sym (append-nil (text_key text))) (omega (arith, same, c.if-out-needed.false))))
