@@ -228,36 +228,53 @@ make_part(const VjsonParts *whole, Range part, uint64 numbers_before, uint64 num
 	return result;
 }
 
+/* The text of a part, as make_part has it as a value: a string without its quotes, and NULL where it is null. */
+static text *
+make_text(const VjsonParts *whole, Range part, uint64 numbers_before, uint64 numbers)
+{
+	VjsonParts	parts = {KEY_ALONE, part.at, part.size, NULL, 0};
+
+	switch (kind_of(part))
+	{
+		case VIZHONIKU_NULL:
+			return NULL;
+		case VIZHONIKU_STRING:
+			return text_of_string(part, false);
+		default:
+			if (numbers > 0)
+				get_parts(make_part(whole, part, numbers_before, numbers), false, &parts);
+			return cstring_to_text(vjson_server_text(&parts));
+	}
+}
+
+/* How many numbers stand before the part, and in it, where the whole has zeros of numbers; else 0. */
+static void
+count_numbers(const VjsonParts *whole, Range part, uint64 *before, uint64 *numbers)
+{
+	*before = *numbers = 0;
+	if (whole->form == KEY_AND_ZEROS &&
+		!key_numbers(whole->key, whole->key_size, part.at - whole->key, part.size, before, numbers))
+		vjson_raise_corrupted();
+}
+
 struct varlena *
 vjson_part(const VjsonParts *whole, Range part)
 {
-	uint64		before = 0;
-	uint64		numbers = 0;
+	uint64		before;
+	uint64		numbers;
 
-	if (whole->form == KEY_AND_ZEROS &&
-		!key_numbers(whole->key, whole->key_size, part.at - whole->key, part.size, &before, &numbers))
-		vjson_raise_corrupted();
+	count_numbers(whole, part, &before, &numbers);
 	return make_part(whole, part, before, numbers);
-}
-
-/* The text of a value that isn't a string; NULL where it is null. */
-static text *
-text_of_value(struct varlena *value)
-{
-	VjsonParts	parts;
-	Range		key = get_whole(value, &parts);
-
-	if (kind_of(key) == VIZHONIKU_NULL)
-		return NULL;
-	return cstring_to_text(vjson_server_text(&parts));
 }
 
 text *
 vjson_part_text(const VjsonParts *whole, Range part)
 {
-	if (kind_of(part) == VIZHONIKU_STRING)
-		return text_of_string(part, false);
-	return text_of_value(vjson_part(whole, part));
+	uint64		before;
+	uint64		numbers;
+
+	count_numbers(whole, part, &before, &numbers);
+	return make_text(whole, part, before, numbers);
 }
 
 
@@ -489,14 +506,14 @@ put_parts(FunctionCallInfo fcinfo, const VjsonParts *whole, Range key, int colum
 			if (whole->form == KEY_AND_ZEROS &&
 				!key_numbers(walk.value.at, walk.value.size, 0, walk.value.size, &none, &numbers))
 				vjson_raise_corrupted();
-			if ((columns & TEXTS) && kind_of(walk.value) == VIZHONIKU_STRING)
-				values[column] = PointerGetDatum(text_of_string(walk.value, false));
+			if (columns & VALUES)
+				values[column] = PointerGetDatum(make_part(whole, walk.value, before, numbers));
 			else
 			{
-				struct varlena *part = make_part(whole, walk.value, before, numbers);
+				text	   *words = make_text(whole, walk.value, before, numbers);
 
-				values[column] = PointerGetDatum(columns & VALUES ? (void *) part : (void *) text_of_value(part));
-				nulls[column] = DatumGetPointer(values[column]) == NULL;
+				values[column] = PointerGetDatum(words);
+				nulls[column] = words == NULL;
 			}
 			before += numbers;
 		}
