@@ -232,14 +232,6 @@ part_readable t r names part at = record { proper = part_proper t names part at 
 pub readable_inside : (t : Tree) → IsReadableAt 511 t → IsReadable t
 readable_inside t r = record { proper = r.proper; within = deeper IsAnyNumber t 511 r.within }
 
--- nothing is left of the path
-pub path_over : (t : Tree) (names : List (List ℕ)) (rest more : List ℕ) → length names ≡ 0 → rest ≡ key_of t ++ more → StandsAt t names rest
-path_over t [] rest more over e = record { part = t; at = refl; behind = more; stands = e }
-path_over t (name ∷ names) rest more over e = absurd (omega (arith, over))
-
-pub path_step : (t : Tree) (name : List ℕ) (names : List (List ℕ)) (all : List (List ℕ)) (key rest : List ℕ) → all ≡ name ∷ names → (x : ChildAt t name key) → StandsAt x.child names rest → StandsAt t all rest
-path_step t name names all key rest is x s = subst (λ a. StandsAt t a rest) (sym is) (record { part = s.part; at = (x.child, x.is, s.at); behind = s.behind; stands = s.stands })
-
 one_child : (t : Tree) (name : List ℕ) (u v : Tree) → IsChild t name u → IsChild t name v → u ≡ v
 one_child (object ms) name u v a b = let both : Some u ≡ Some v = sym a ∙ b in cc
 one_child (array ts) name u v (i, spells, at) (j, others, there) =
@@ -247,8 +239,40 @@ one_child (array ts) name u v (i, spells, at) (j, others, there) =
     cc
 one_child t name u v a b = absurd a
 
-pub path_goes_on : (r : Option (Bor (List ℕ))) (t : Tree) (name key : List ℕ) (names all : List (List ℕ)) → all ≡ name ∷ names → (x : ChildAt t name key) → MatchOption r ((u : Tree) → IsAt x.child names u → ⊥) (λ rest. StandsAt x.child names rest.now)
-    → MatchOption r ((u : Tree) → IsAt t all u → ⊥) (λ rest. StandsAt t all rest.now)
-path_goes_on None t name key names all is x none =
-    subst (λ a. (u : Tree) → IsAt t a u → ⊥) (sym is) (λ u at. none u (subst (λ v. IsAt v names u) (one_child t name at.0 x.child at.1 x.is) at.2))
-path_goes_on (Some rest) t name key names all is x some = path_step t name names all key rest.now is x some
+-- the part at the names so far, whose parts at the others are those of all
+pub record PartHere (t : Tree) (names left : List (List ℕ)) (rest : List ℕ) : Type 0 where
+  pub inner : Tree
+  pub readable : IsReadable inner
+  pub behind : List ℕ
+  pub stands : rest ≡ key_of inner ++ behind
+  pub up : (u : Tree) → IsAt inner left u → IsAt t names u
+  pub down : (u : Tree) → IsAt t names u → IsAt inner left u
+
+abbrev pub FollowsPath : List ℕ → List (List ℕ) → List (List ℕ) → List ℕ → Type 0
+FollowsPath key names left rest = (t : Tree) → IsReadable t → (more : List ℕ) → key ≡ key_of t ++ more → PartHere t names left rest
+
+pub following : (key : List ℕ) (names : List (List ℕ)) → FollowsPath key names names key
+following key names = λ t r more e. record { inner = t; readable = r; behind = more; stands = e; up = λ u at. at; down = λ u at. at }
+
+pub followed : (t : Tree) (names left others : List (List ℕ)) (name rest key : List ℕ) (p : PartHere t names left rest) → left ≡ name ∷ others → ChildAt p.inner name key → PartHere t names others key
+followed t names left others name rest key p first x = record {
+  inner = x.child;
+  readable = child_readable p.inner p.readable name x.child x.is;
+  behind = x.behind;
+  stands = x.stands;
+  up = λ u at. p.up u (subst (λ path. IsAt p.inner path u) (sym first) (x.child, x.is, at));
+  down = λ u at. inside u (subst (λ path. IsAt p.inner path u) first (p.down u at));
+}
+  where
+    inside : (u : Tree) → IsAt p.inner (name ∷ others) u → IsAt x.child others u
+    inside u at = subst (λ v. IsAt v others u) (one_child p.inner name at.0 x.child at.1 x.is) at.2
+
+pub lost : (t : Tree) (names left others : List (List ℕ)) (name rest : List ℕ) (p : PartHere t names left rest) → left ≡ name ∷ others → ((u : Tree) → IsChild p.inner name u → ⊥) → (u : Tree) → IsAt t names u → ⊥
+lost t names left others name rest p first none u at = step (subst (λ path. IsAt p.inner path u) first (p.down u at))
+  where
+    step : IsAt p.inner (name ∷ others) u → ⊥
+    step x = none x.0 x.1
+
+pub arrived : (t : Tree) (names left : List (List ℕ)) (rest : List ℕ) → PartHere t names left rest → length left ≡ 0 → StandsAt t names rest
+arrived t names [] rest p over = record { part = p.inner; at = p.up p.inner refl; behind = p.behind; stands = p.stands }
+arrived t names (name ∷ left) rest p over = absurd (omega (arith, over))

@@ -60,13 +60,16 @@ fn part_from<'k>(key: &'k [u8], names: &[String]) -> Option<&'k [u8]>
         → MatchOption result ((u : Tree) → IsAt t (map string_bytes names.now) u → ⊥)
         (λ rest. StandsAt t (map string_bytes names.now) rest.now) }
 {
-    let Some((name, others)) = names.split_first() else {
-        return Some(key);
-    };
-    let Some(part) = child(key, name.as_str()) else {
-        return None;
-    };
-    part_from(part, others)
+    let mut part = key;
+    let mut left = names;
+    'names: while let Some((name, others)) = left.split_first() {
+        let Some(inner) = child(part, name.as_str()) else {
+            return None;
+        };
+        part = inner;
+        left = others;
+    }
+    Some(part)
 }
 
 /// The bytes from the member of that name on, or from the item of that index on.
