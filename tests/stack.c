@@ -1,4 +1,5 @@
-/* Measures how much machine stack the functions of the library take, over texts that nest as deep as texts may.
+/* Measures how much machine stack the functions of the library take, over texts that nest as deep as texts may, and
+ * over the sort keys of these.
  *
  * usage: stack [KB]
  *
@@ -158,20 +159,23 @@ static struct text make(const struct shape *shape) {
   return text;
 }
 
-/* Each function of the library that reads a text, by a number. */
-enum function { CHECK, TEXT, SORT_KEY, TEXT_AND_KEY, PART, COMPARE, MESSAGE, FUNCTIONS };
+/* Each function of the library that reads a text, and then those that read a sort key, by a number. */
+enum function {
+  CHECK, TEXT, SORT_KEY, TEXT_AND_KEY, PART, COMPARE, MESSAGE, KEY_CHECK, KEY_TEXT, KEY_PART, KEY_COUNT, FUNCTIONS
+};
 
 static const char *const functions[] = {
     "vizhoniku_check", "vizhoniku_text", "vizhoniku_sort_key", "vizhoniku_text_and_key", "vizhoniku_part",
-    "vizhoniku_compare", "vizhoniku_message",
+    "vizhoniku_compare", "vizhoniku_message", "vizhoniku_key_check", "vizhoniku_key_text", "vizhoniku_key_part",
+    "vizhoniku_key_count",
 };
 
 struct call {
   enum function function;
   uint32_t mode;
   const struct text *text, *path;
-  unsigned char *buffer, *key_buffer;
-  size_t room;
+  unsigned char *buffer, *key_buffer, *key;
+  size_t room, key_size; /* the key has no bytes where the text is refused */
   uint32_t status;
   const unsigned char *top; /* the machine stack where the call began */
 };
@@ -200,6 +204,15 @@ static void *run(void *given) {
                                     call->room, &size, &refusal);
       break;
     case COMPARE: call->status = vizhoniku_compare(call->mode, bytes, text_size, bytes, text_size, &order, &refusal); break;
+    case KEY_CHECK: call->status = vizhoniku_key_check(call->key, call->key_size); break;
+    case KEY_TEXT:
+      call->status = vizhoniku_key_text(call->key, call->key_size, call->buffer, call->room, &size);
+      break;
+    case KEY_PART:
+      call->status = vizhoniku_key_part(call->key, call->key_size, call->path->bytes, call->path->size, &size,
+                                        &key_size);
+      break;
+    case KEY_COUNT: call->status = vizhoniku_key_count(call->key, call->key_size, &size); break;
     default: call->status = vizhoniku_message(call->mode, bytes, text_size, call->buffer, call->room, &size); break;
   }
   return NULL;
@@ -236,7 +249,7 @@ static struct shape where[FUNCTIONS][2];
 static long runs, wrong;
 
 static int makes_value(enum function function, const struct shape *shape) {
-  return shape->kind == OUT_OF_ORDER && function != CHECK && function != MESSAGE;
+  return shape->kind == OUT_OF_ORDER && function != CHECK && function != MESSAGE && function < KEY_CHECK;
 }
 
 /* Each function over one text, with ample memory, and, in extended mode and with one member, with each request refused in
@@ -246,10 +259,14 @@ static void measure(const struct shape *shape, const struct stack *stack) {
   struct call call = {.text = &text, .path = &path, .room = 2 * text.size + 64};
   call.buffer = checked(__real_malloc(call.room));
   call.key_buffer = checked(__real_malloc(call.room));
+  call.key = checked(__real_malloc(call.room));
+  struct vizhoniku_refusal refusal;
+  vizhoniku_sort_key(VIZHONIKU_EXTENDED, text.bytes, text.size, call.key, call.room, &call.key_size, &refusal);
   for (int i = 0; i < 2 * FUNCTIONS; i++) {
     uint32_t whole = VIZHONIKU_ACCEPTED;
     call.function = (enum function)(i / 2);
     call.mode = (uint32_t)(i % 2);
+    if (call.function >= KEY_CHECK && (call.mode != VIZHONIKU_EXTENDED || !call.key_size)) continue;
     /* The longest texts have 25 megabytes, so not each call reads them. */
     if (shape->members > 30 && (call.mode != (shape->end == COMMENT) || (shape->end != WHOLE && i > 1))) continue;
     long last = 0;
@@ -272,6 +289,7 @@ static void measure(const struct shape *shape, const struct stack *stack) {
     if (whole != (is_read ? VIZHONIKU_ACCEPTED : VIZHONIKU_REFUSED)) wrong++;
   }
   refused = -1;
+  free(call.key);
   free(call.key_buffer);
   free(call.buffer);
   free(path.bytes);
