@@ -64,9 +64,12 @@ static void add(struct text *text, const char *bytes) {
 }
 
 /* What stands in one another. */
-enum kind { ARRAYS, OBJECTS, IN_TURN, OUT_OF_ORDER };
+enum kind { ARRAYS, OBJECTS, IN_TURN, OUT_OF_ORDER, ALIKE };
 
-static const char *const kinds[] = {"arrays", "objects", "arrays and objects in turn", "objects out of order"};
+static const char *const kinds[] = {
+    "arrays", "objects", "arrays and objects in turn", "objects out of order",
+    "an object whose keys are alike in front",
+};
 
 /* What stands before or behind the value, or is wrong inside. */
 enum end {
@@ -116,9 +119,32 @@ static void add_shallow(struct text *text, const struct shape *shape, int level)
   }
 }
 
+/* One object with some 600 members in no order, most of whose keys differ from the eighth byte on, and one in each byte
+ * before. */
+static struct text make_alike(void) {
+  struct text text = {0};
+  char member[24];
+  add(&text, "{");
+  for (char letter = 'z'; letter >= 'A'; letter--) {
+    for (int digit = 9; digit >= 0 && letter != '\\'; digit--) {
+      snprintf(member, sizeof member, "\"aaaaaaa%c%d\":0,", letter, digit);
+      add(&text, member);
+    }
+  }
+  for (int same = 7; same >= 0; same--) {
+    snprintf(member, sizeof member, "\"%.*sb\":0%s", same, "aaaaaaa", same ? "," : "}");
+    add(&text, member);
+  }
+  return text;
+}
+
 /* The path of the innermost value. */
 static struct text make_path(const struct shape *shape) {
   struct text path = {0};
+  if (shape->kind == ALIKE) {
+    add(&path, "/aaaaaaaA0");
+    return path;
+  }
   char index[16];
   snprintf(index, sizeof index, "%d", shape->is_first ? 0 : shape->members - 1);
   for (int level = 0; level < LEVELS; level++) {
@@ -129,6 +155,7 @@ static struct text make_path(const struct shape *shape) {
 }
 
 static struct text make(const struct shape *shape) {
+  if (shape->kind == ALIKE) return make_alike();
   struct text text = {0};
   int levels = shape->end == TOO_DEEP ? LEVELS + 1 : LEVELS;
   char key[8];
@@ -316,6 +343,8 @@ int main(int count, char **words) {
       }
     }
   }
+  struct shape alike = {ALIKE, 1, 1, WHOLE};
+  measure(&alike, &stack);
   int over = 0;
   for (int i = 0; i < 2 * FUNCTIONS; i++) {
     int is_made = i / FUNCTIONS, function = i % FUNCTIONS, limit = is_made ? LIMIT : SMALL_LIMIT;
