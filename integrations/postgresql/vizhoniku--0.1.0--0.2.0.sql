@@ -1,4 +1,4 @@
-/* The extension vizhoniku, from 0.1.0 to 0.2.0: parts, elements and containment, with the names of jsonb */
+/* The extension vizhoniku, from 0.1.0 to 0.2.0: parts, elements, containment and GIN, with the names of jsonb */
 
 -- complain if the script is run by psql rather than by ALTER EXTENSION
 \echo Use "ALTER EXTENSION vizhoniku UPDATE TO '0.2.0'" to load this file. \quit
@@ -151,6 +151,42 @@ CREATE OPERATOR <@ (
   JOIN = matchingjoinsel
 );
 COMMENT ON OPERATOR <@ (vjson, vjson) IS 'is contained in';
+
+-- GIN indexes: an entry is a hash of the names that lead to a scalar, and of the scalar.
+
+CREATE FUNCTION gin_extract_vjson_path(vjson, internal, internal) RETURNS internal
+  AS 'MODULE_PATHNAME' LANGUAGE C IMMUTABLE STRICT PARALLEL SAFE;
+COMMENT ON FUNCTION gin_extract_vjson_path(vjson, internal, internal) IS 'GIN support';
+
+CREATE FUNCTION gin_extract_vjson_query_path(vjson, internal, smallint, internal, internal, internal, internal)
+  RETURNS internal AS 'MODULE_PATHNAME' LANGUAGE C IMMUTABLE STRICT PARALLEL SAFE;
+COMMENT ON FUNCTION gin_extract_vjson_query_path(vjson, internal, smallint, internal, internal, internal, internal)
+  IS 'GIN support';
+
+CREATE FUNCTION gin_consistent_vjson_path(internal, smallint, vjson, integer, internal, internal, internal, internal)
+  RETURNS boolean AS 'MODULE_PATHNAME' LANGUAGE C IMMUTABLE STRICT PARALLEL SAFE;
+COMMENT ON FUNCTION
+  gin_consistent_vjson_path(internal, smallint, vjson, integer, internal, internal, internal, internal)
+  IS 'GIN support';
+
+CREATE FUNCTION gin_triconsistent_vjson_path(internal, smallint, vjson, integer, internal, internal, internal)
+  RETURNS "char" AS 'MODULE_PATHNAME' LANGUAGE C IMMUTABLE STRICT PARALLEL SAFE;
+COMMENT ON FUNCTION gin_triconsistent_vjson_path(internal, smallint, vjson, integer, internal, internal, internal)
+  IS 'GIN support';
+
+CREATE OPERATOR FAMILY vjson_path_ops USING gin;
+COMMENT ON OPERATOR FAMILY vjson_path_ops USING gin IS 'documents by their scalars and the names before them';
+
+CREATE OPERATOR CLASS vjson_path_ops DEFAULT FOR TYPE vjson USING gin FAMILY vjson_path_ops AS
+  OPERATOR 7 @> (vjson, vjson),
+  OPERATOR 18 = (vjson, vjson),
+  FUNCTION 1 btint4cmp(integer, integer),
+  FUNCTION 2 gin_extract_vjson_path(vjson, internal, internal),
+  FUNCTION 3 gin_extract_vjson_query_path(vjson, internal, smallint, internal, internal, internal, internal),
+  FUNCTION 4 gin_consistent_vjson_path(internal, smallint, vjson, integer, internal, internal, internal, internal),
+  FUNCTION 6 gin_triconsistent_vjson_path(internal, smallint, vjson, integer, internal, internal, internal),
+  STORAGE integer;
+COMMENT ON OPERATOR CLASS vjson_path_ops USING gin IS 'documents by their scalars and the names before them';
 
 -- Casts of scalars
 

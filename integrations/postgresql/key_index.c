@@ -1,0 +1,148 @@
+/*-------------------------------------------------------------------------
+ *
+ * key_index.c
+ *	  Support for GIN: the operator class vjson_path_ops.
+ *
+ * An entry is a hash of a scalar's key and of the names of the members that
+ * lead to it.  Items have no index in it, so that an array leads to the same
+ * entries in whatever order its items are.  A document that contains another
+ * has all of the other's entries, and so has one that is equal to it; which of
+ * those that have them do is told by the operator.  Empty arrays and objects
+ * have no entries: what has none is looked for in the whole index.
+ *
+ *-------------------------------------------------------------------------
+ */
+#include "postgres.h"
+
+#include "access/gin.h"
+#include "access/stratnum.h"
+#include "common/hashfn.h"
+#include "fmgr.h"
+#include "miscadmin.h"
+
+#include "key_walk.h"
+#include "vjson.h"
+
+/* Entries for which there is room at first. */
+#define FIRST_ROOM		16
+
+PG_FUNCTION_INFO_V1(gin_extract_vjson_path);
+PG_FUNCTION_INFO_V1(gin_extract_vjson_query_path);
+PG_FUNCTION_INFO_V1(gin_consistent_vjson_path);
+PG_FUNCTION_INFO_V1(gin_triconsistent_vjson_path);
+
+typedef struct
+{
+	Datum	   *at;
+	int32		count;
+	int32		room;
+} Entries;
+
+/* The hash of a path and of what comes next on it: a name's key, or a scalar's. */
+static inline uint64
+hash_on(uint64 path, Range key)
+{
+	return hash_bytes_extended(key.at, (int) key.size, path);
+}
+
+static inline void
+add_entry(Entries *entries, uint64 hash)
+{
+	if (entries->count == entries->room)
+	{
+		entries->room *= 2;
+		entries->at = repalloc_huge(entries->at, entries->room * sizeof(Datum));
+	}
+	entries->at[entries->count++] = Int32GetDatum((int32) hash);
+}
+
+/* Add the entries of a part, to which the path leads. */
+static void
+add_entries(Entries *entries, uint64 path, Range key)
+{
+	Walk		walk;
+
+	if (is_scalar(kind_of(key)))
+	{
+		add_entry(entries, hash_on(path, key));
+		return;
+	}
+	check_stack_depth();
+	CHECK_FOR_INTERRUPTS();
+	begin_walk(&walk, key);
+	while (next_in_walk(&walk))
+		add_entries(entries, walk.name.size > 0 ? hash_on(path, walk.name) : path, walk.value);
+}
+
+/* The entries of a document.  Those that come twice are the server's to drop. */
+static Datum *
+entries_of(Datum document, int32 *count)
+{
+	VjsonParts	parts;
+	Entries		entries = {palloc(FIRST_ROOM * sizeof(Datum)), 0, FIRST_ROOM};
+
+	add_entries(&entries, 0, get_whole((struct varlena *) PG_DETOAST_DATUM_PACKED(document), &parts));
+	*count = entries.count;
+	return entries.at;
+}
+
+Datum
+gin_extract_vjson_path(PG_FUNCTION_ARGS)
+{
+	int32	   *count = (int32 *) PG_GETARG_POINTER(1);
+
+	PG_RETURN_POINTER(entries_of(PG_GETARG_DATUM(0), count));
+}
+
+Datum
+gin_extract_vjson_query_path(PG_FUNCTION_ARGS)
+{
+	int32	   *count = (int32 *) PG_GETARG_POINTER(1);
+	int32	   *search_mode = (int32 *) PG_GETARG_POINTER(6);
+	Datum	   *entries = entries_of(PG_GETARG_DATUM(0), count);
+
+	if (*count == 0)
+		*search_mode = GIN_SEARCH_MODE_ALL;
+	PG_RETURN_POINTER(entries);
+}
+
+static void
+check_strategy(StrategyNumber strategy)
+{
+	if (strategy != RTContainsStrategyNumber && strategy != RTEqualStrategyNumber)
+		elog(ERROR, "unrecognized strategy number: %d", strategy);
+}
+
+/* Whether a document with some of the query's entries may be one that is asked for: where it has all of them. */
+Datum
+gin_consistent_vjson_path(PG_FUNCTION_ARGS)
+{
+	bool	   *is_there = (bool *) PG_GETARG_POINTER(0);
+	int32		count = PG_GETARG_INT32(3);
+	bool	   *recheck = (bool *) PG_GETARG_POINTER(5);
+
+	check_strategy(PG_GETARG_UINT16(1));
+	*recheck = true;
+	for (int32 i = 0; i < count; i++)
+	{
+		if (!is_there[i])
+			PG_RETURN_BOOL(false);
+	}
+	PG_RETURN_BOOL(true);
+}
+
+/* That, where of some entries it isn't known whether they are there. */
+Datum
+gin_triconsistent_vjson_path(PG_FUNCTION_ARGS)
+{
+	GinTernaryValue *is_there = (GinTernaryValue *) PG_GETARG_POINTER(0);
+	int32		count = PG_GETARG_INT32(3);
+
+	check_strategy(PG_GETARG_UINT16(1));
+	for (int32 i = 0; i < count; i++)
+	{
+		if (is_there[i] == GIN_FALSE)
+			PG_RETURN_GIN_TERNARY_VALUE(GIN_FALSE);
+	}
+	PG_RETURN_GIN_TERNARY_VALUE(GIN_MAYBE);
+}
