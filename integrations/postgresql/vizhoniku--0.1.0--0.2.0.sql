@@ -1,4 +1,5 @@
-/* The extension vizhoniku, from 0.1.0 to 0.2.0: parts, elements, containment and GIN, with the names of jsonb */
+/* The extension vizhoniku, from 0.1.0 to 0.2.0: parts, elements, containment, GIN
+   and documents of SQL values, with the names of jsonb */
 
 -- complain if the script is run by psql rather than by ALTER EXTENSION
 \echo Use "ALTER EXTENSION vizhoniku UPDATE TO '0.2.0'" to load this file. \quit
@@ -187,6 +188,60 @@ CREATE OPERATOR CLASS vjson_path_ops DEFAULT FOR TYPE vjson USING gin FAMILY vjs
   FUNCTION 6 gin_triconsistent_vjson_path(internal, smallint, vjson, integer, internal, internal, internal),
   STORAGE integer;
 COMMENT ON OPERATOR CLASS vjson_path_ops USING gin IS 'documents by their scalars and the names before them';
+
+-- Documents of values of SQL. They are as stable as the output functions of types are.
+
+CREATE FUNCTION to_vjson(anyelement) RETURNS vjson
+  AS 'MODULE_PATHNAME' LANGUAGE C STABLE STRICT PARALLEL SAFE;
+COMMENT ON FUNCTION to_vjson(anyelement) IS 'the document of a value';
+
+CREATE FUNCTION vjson_build_array() RETURNS vjson
+  AS 'MODULE_PATHNAME' LANGUAGE C STABLE PARALLEL SAFE;
+COMMENT ON FUNCTION vjson_build_array() IS 'an empty array';
+
+CREATE FUNCTION vjson_build_array(VARIADIC "any") RETURNS vjson
+  AS 'MODULE_PATHNAME' LANGUAGE C STABLE PARALLEL SAFE;
+COMMENT ON FUNCTION vjson_build_array("any") IS 'an array of values';
+
+CREATE FUNCTION vjson_build_object() RETURNS vjson
+  AS 'MODULE_PATHNAME' LANGUAGE C STABLE PARALLEL SAFE;
+COMMENT ON FUNCTION vjson_build_object() IS 'an empty object';
+
+CREATE FUNCTION vjson_build_object(VARIADIC "any") RETURNS vjson
+  AS 'MODULE_PATHNAME' LANGUAGE C STABLE PARALLEL SAFE;
+COMMENT ON FUNCTION vjson_build_object("any") IS 'an object of names and values in turn';
+
+CREATE FUNCTION vjson_agg_transfn(internal, anyelement) RETURNS internal
+  AS 'MODULE_PATHNAME' LANGUAGE C STABLE PARALLEL SAFE;
+COMMENT ON FUNCTION vjson_agg_transfn(internal, anyelement) IS 'vjson_agg transition function';
+
+CREATE FUNCTION vjson_agg_finalfn(internal) RETURNS vjson
+  AS 'MODULE_PATHNAME' LANGUAGE C STABLE PARALLEL SAFE;
+COMMENT ON FUNCTION vjson_agg_finalfn(internal) IS 'vjson_agg final function';
+
+CREATE AGGREGATE vjson_agg(anyelement) (
+  SFUNC = vjson_agg_transfn,
+  STYPE = internal,
+  FINALFUNC = vjson_agg_finalfn,
+  PARALLEL = SAFE
+);
+COMMENT ON AGGREGATE vjson_agg(anyelement) IS 'an array of the values';
+
+CREATE FUNCTION vjson_object_agg_transfn(internal, "any", "any") RETURNS internal
+  AS 'MODULE_PATHNAME' LANGUAGE C STABLE PARALLEL SAFE;
+COMMENT ON FUNCTION vjson_object_agg_transfn(internal, "any", "any") IS 'vjson_object_agg transition function';
+
+CREATE FUNCTION vjson_object_agg_finalfn(internal) RETURNS vjson
+  AS 'MODULE_PATHNAME' LANGUAGE C STABLE PARALLEL SAFE;
+COMMENT ON FUNCTION vjson_object_agg_finalfn(internal) IS 'vjson_object_agg final function';
+
+CREATE AGGREGATE vjson_object_agg("any", "any") (
+  SFUNC = vjson_object_agg_transfn,
+  STYPE = internal,
+  FINALFUNC = vjson_object_agg_finalfn,
+  PARALLEL = SAFE
+);
+COMMENT ON AGGREGATE vjson_object_agg("any", "any") IS 'an object of the names and their values';
 
 -- Casts of scalars
 

@@ -389,7 +389,7 @@ check_json(const char *text, size_t size)
 }
 
 /*
- * Read a text in the encoding of the database.
+ * Read a text in UTF-8.
  *
  * Input is of standard mode.  Extended mode has more numbers, which must be
  * read back where their text was dumped; so a text whose fault in standard
@@ -397,11 +397,9 @@ check_json(const char *text, size_t size)
  * extended mode carries all of its numbers.
  */
 static struct varlena *
-read_value(const char *server_text, size_t server_size, ReadAs as)
+read_utf8(const char *text, size_t size, ReadAs as)
 {
 	uint32		mode = as == READ_EXTENDED ? VIZHONIKU_EXTENDED : VIZHONIKU_STANDARD;
-	char	   *text = pg_server_to_any(server_text, (int) server_size, PG_UTF8);
-	size_t		size = text == server_text ? server_size : strlen(text);
 	struct vizhoniku_refusal refusal;
 	struct varlena *value = NULL;
 	uint32		status = make_value(mode, text, size, &value, &refusal);
@@ -418,9 +416,26 @@ read_value(const char *server_text, size_t server_size, ReadAs as)
 		vjson_raise_out_of_memory(size);
 	if (status != VIZHONIKU_ACCEPTED)
 		vjson_raise_unexpected(status);
+	return value;
+}
+
+/* Read a text in the encoding of the database. */
+static struct varlena *
+read_value(const char *server_text, size_t server_size, ReadAs as)
+{
+	char	   *text = pg_server_to_any(server_text, (int) server_size, PG_UTF8);
+	size_t		size = text == server_text ? server_size : strlen(text);
+	struct varlena *value = read_utf8(text, size, as);
+
 	if (text != server_text)
 		pfree(text);
 	return value;
+}
+
+struct varlena *
+vjson_of_text(const char *text, size_t size)
+{
+	return read_utf8(text, size, READ_EXTENDED);
 }
 
 
@@ -452,8 +467,8 @@ free_key(struct varlena *value, Datum datum)
 }
 
 /* The written text in UTF-8, with a zero byte at its end. */
-static char *
-get_text(const VjsonParts *parts, size_t *size)
+char *
+vjson_text(const VjsonParts *parts, size_t *size)
 {
 	char	   *text;
 
@@ -473,7 +488,7 @@ char *
 vjson_server_text(const VjsonParts *parts)
 {
 	size_t		size;
-	char	   *text = get_text(parts, &size);
+	char	   *text = vjson_text(parts, &size);
 
 	return GetDatabaseEncoding() == PG_UTF8 ? text : pg_any_to_server(text, (int) size, PG_UTF8);
 }
@@ -652,7 +667,7 @@ get_part_by_text(const VjsonParts *parts, text *words, const char *path, size_t 
 	uint32		status;
 
 	/* A written text is of extended mode, and that of a part is no longer than that of the whole. */
-	whole = get_text(parts, &whole_size);
+	whole = vjson_text(parts, &whole_size);
 	CHECK_FOR_INTERRUPTS();
 	check_stack_room(whole, whole_size);
 	part = palloc_extended(whole_size + SPARE_ROOM, MCXT_ALLOC_HUGE);

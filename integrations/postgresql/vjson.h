@@ -36,6 +36,12 @@ extern void vjson_raise_corrupted(void) pg_attribute_noreturn();
 extern void vjson_raise_out_of_memory(size_t size) pg_attribute_noreturn();
 extern void vjson_raise_unexpected(uint32 status) pg_attribute_noreturn();
 
+/* The value of a text in UTF-8, which is JSON but for numbers that aren't carried. */
+extern struct varlena *vjson_of_text(const char *text, size_t size);
+
+/* The written text in UTF-8, with a zero byte at its end. */
+extern char *vjson_text(const VjsonParts *parts, size_t *size);
+
 /* The written text in the encoding of the database, with a zero byte at its end. */
 extern char *vjson_server_text(const VjsonParts *parts);
 
