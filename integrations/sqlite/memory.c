@@ -93,6 +93,18 @@ static const char *const statements[] = {
     "INSERT INTO docs(body) VALUES ('[7]'), ('[1.0]')",
     "INSERT INTO docs(body) VALUES ('[8]'), ('[1')",
     "DELETE FROM docs WHERE vjson_key(body) >= vjson_key('{}') RETURNING body",
+    "SELECT hex(vjson_key_get(vjson_key(body), '')), vjson_key_value(vjson_key(body)), vjson_key_type(vjson_key(body)),"
+    " vjson_key_text(vjson_key(body), ''), vjson_key_valid(vjson_key(body)) FROM docs",
+    "SELECT hex(vjson_key_get(vjson_key('{\"a~/\":[1,2.5]}'), '/a~0~1/1')), vjson_key_text(x'00')",
+    "SELECT length(vjson_key_text(k)), length(vjson_key_value(k)) FROM"
+    " (SELECT vjson_key('\"' || hex(zeroblob(700)) || '\"') AS k)",
+    "SELECT key, value, type, atom, id, parent, fullkey, path, hex(part), root FROM docs, vjson_each(vjson_key(body))",
+    "SELECT key, value, type, atom, id, parent, fullkey, path, hex(part), hex(source) FROM"
+    " vjson_tree(vjson_key('{\"a~/\":[1,{\"b\":[[2.5,\"x\"]]}]}'), '/a~0~1/1')",
+    "SELECT count(*), max(length(fullkey)) FROM vjson_tree(vjson_key("
+    "replace(hex(zeroblob(20)), '00', '{\"a\":[') || replace(hex(zeroblob(20)), '00', ']}')))",
+    "SELECT * FROM vjson_tree(vjson_key('[1]'), '0')",
+    "SELECT * FROM vjson_each('[1]')",
 };
 
 static char told[2][2000];

@@ -8,6 +8,8 @@
  *   vjson_key(X [, MODE])             the sort key of X's value, a BLOB: for indexes on expressions
  *   COLLATE VJSON                     texts in the order of their values
  *
+ * vjson_key.c has what takes a sort key apart.
+ *
  * A mode is 'extended', also where none is given, or 'standard'. Each function returns NULL where X is NULL. A number
  * is taken as its text, and a BLOB as the bytes of a text in UTF-8. */
 #include <stdint.h>
@@ -19,11 +21,9 @@ SQLITE_EXTENSION_INIT1
 
 #include <vizhoniku.h>
 
-/* The subtype that json1 gives its own results, so that its functions take a text as JSON and don't quote it. */
-#define JSON_SUBTYPE 74
+#include "vjson.h"
 
-/* Reads an argument's bytes. Returns 0 where there is no memory for them, which has been told. */
-static int read_bytes(sqlite3_context *context, sqlite3_value *value, const unsigned char **bytes, size_t *size) {
+int vjson_read_bytes(sqlite3_context *context, sqlite3_value *value, const unsigned char **bytes, size_t *size) {
   int is_blob = sqlite3_value_type(value) == SQLITE_BLOB;
   *bytes = is_blob ? sqlite3_value_blob(value) : sqlite3_value_text(value);
   *size = (size_t)sqlite3_value_bytes(value);
@@ -48,7 +48,7 @@ static int read_mode(sqlite3_context *context, int count, sqlite3_value **values
 static int read_arguments(sqlite3_context *context, int count, sqlite3_value **values, const unsigned char **text,
                           size_t *size, uint32_t *mode) {
   if (sqlite3_value_type(values[0]) == SQLITE_NULL) return 0;
-  return read_mode(context, count, values, 1, mode) && read_bytes(context, values[0], text, size);
+  return read_mode(context, count, values, 1, mode) && vjson_read_bytes(context, values[0], text, size);
 }
 
 /* How many characters begin in the bytes. */
@@ -187,7 +187,7 @@ static void give_written(sqlite3_context *context, enum what what, uint32_t mode
   }
   if (buffer != small) sqlite3_free(buffer);
   if (status == VIZHONIKU_NO_PATH)
-    sqlite3_result_error(context, "malformed path: it is empty or begins with /, and ~ stands only in ~0 and ~1", -1);
+    sqlite3_result_error(context, MALFORMED_PATH, -1);
   else if (status != VIZHONIKU_NO_PART)
     tell(context, mode, status, &refusal, text, size, 1);
 }
@@ -213,8 +213,8 @@ static void call_get(sqlite3_context *context, int count, sqlite3_value **values
   size_t size, path_size;
   const unsigned char *text, *path;
   if (sqlite3_value_type(values[0]) == SQLITE_NULL || sqlite3_value_type(values[1]) == SQLITE_NULL) return;
-  if (read_mode(context, count, values, 2, &mode) && read_bytes(context, values[0], &text, &size) &&
-      read_bytes(context, values[1], &path, &path_size))
+  if (read_mode(context, count, values, 2, &mode) && vjson_read_bytes(context, values[0], &text, &size) &&
+      vjson_read_bytes(context, values[1], &path, &path_size))
     give_written(context, PART, mode, path, path_size, text, size);
 }
 
@@ -240,10 +240,6 @@ static int collate(void *database, int left_length, const void *left, int right_
   if (status == VIZHONIKU_OUT_OF_MEMORY) sqlite3_interrupt(database);
   return compare_bytes(left, left_size, right, right_size);
 }
-
-#ifndef SQLITE_RESULT_SUBTYPE
-#define SQLITE_RESULT_SUBTYPE 0 /* from 3.45 on a function says that its results have subtypes */
-#endif
 
 #ifdef _WIN32
 __declspec(dllexport)
@@ -277,5 +273,5 @@ int sqlite3_vjson_init(sqlite3 *database, char **message, const sqlite3_api_rout
                                         NULL, functions[i / 2].call, NULL, NULL, NULL);
   if (status == SQLITE_OK)
     status = sqlite3_create_collation_v2(database, "VJSON", SQLITE_UTF8, database, collate, NULL);
-  return status;
+  return status == SQLITE_OK ? vjson_add_key_functions(database) : status;
 }
