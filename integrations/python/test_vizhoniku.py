@@ -1,11 +1,15 @@
 """Tries the module, and documents in LMDB: python3 test_vizhoniku.py
 
-Needs libvizhoniku.so.0 where the package vizhoniku looks for it. The tests of LMDB are skipped where python3-lmdb is
-missing, and those over a library that stands in for it where cc is.
+Tries the package in the folder that the environment variable VIZHONIKU_PACKAGES names, or in that of this file. Where
+that has no module in C, libvizhoniku.so.0 is needed where the package looks for it. The tests of LMDB are skipped where
+python3-lmdb is missing, and those over a library that stands in for it where cc is.
 """
 
+import ast
 import doctest
 import functools
+import importlib.util
+import inspect
 import json
 import os
 import pickle
@@ -15,8 +19,13 @@ import subprocess
 import sys
 import tempfile
 import threading
+import time
 import unittest
-from typing import Any, List
+from typing import Any, Callable, List, Tuple
+
+HERE = os.path.dirname(os.path.abspath(__file__))
+PACKAGES = os.environ.get("VIZHONIKU_PACKAGES", HERE)
+sys.path.insert(0, PACKAGES)
 
 import vizhoniku as v
 
@@ -26,7 +35,7 @@ try:
 except ImportError:
     lmdb = None
 
-HERE = os.path.dirname(os.path.abspath(__file__))
+VERSION = 3  # of the interface that is needed
 VECTORS = os.path.join(HERE, "..", "..", "tests", "vectors.jsonl")
 
 # Documents in the order of their values; those of one line are equal.
@@ -255,13 +264,295 @@ class Calls(unittest.TestCase):
         self.assertRaises(TypeError, v.compare, "1", None)
 
 
+class Keys(unittest.TestCase):
+    """Sort keys as documents."""
+
+    def test_kinds(self) -> None:
+        for text, kind in (("null", "null"), ("true", "boolean"), ("-1.50", "number"), ('"x"', "string"),
+                           ("[]", "array"), ("{}", "object")):
+            key = v.Key(text)
+            self.assertEqual((key.kind, bytes(key), type(bytes(key))), (kind, v.sort_key(text), bytes))
+
+    def test_text(self) -> None:
+        self.assertEqual(v.Key('{"b": 1.50, "a": [2.0, "\\u00e9"]}').text(), '{"a":[2,"é"],"b":1.5}')
+        self.assertEqual(v.Key('"' + "\x01" * 5000 + '"').text(), '"' + "\\u0001" * 5000 + '"')
+        self.assertEqual(v.Key(b"[1]", v.STANDARD).text(), "[1]")
+        self.assertEqual(v.Key(text="[1]", mode=v.STANDARD).text(), "[1]")
+        self.assertEqual(repr(v.Key("{a: ''}")), """Key('{"a":""}')""")
+        with self.assertRaises(v.RejectedText) as raised:
+            v.Key("[1,\n1.5]", v.STANDARD)
+        self.assertEqual(str(raised.exception), "line 2, column 3: number not carried")
+
+    def test_order(self) -> None:
+        keys = [[v.Key(text) for text in line] for line in IN_ORDER]
+        for i, left in enumerate(keys):
+            for j, right in enumerate(keys):
+                one, two = left[0], right[-1]
+                self.assertEqual((one < two, one <= two, one == two, one != two, one >= two, one > two),
+                                 (i < j, i <= j, i == j, i != j, i >= j, i > j))
+                self.assertEqual(hash(one) == hash(two), i == j)
+        shuffled = [key for line in keys for key in line]
+        random.Random(4).shuffle(shuffled)
+        self.assertEqual(sorted(shuffled), [key for line in keys for key in line])
+        self.assertEqual(len(set(shuffled)), len(IN_ORDER))
+        self.assertNotEqual(v.Key("1"), v.sort_key("1"))
+        self.assertNotEqual(v.Key('"1"'), "1")
+        for other in ("1", b"1", None, 1):
+            with self.assertRaises(TypeError):
+                v.Key("1") < other  # type: ignore[operator]
+
+    def test_get(self) -> None:
+        key = v.Key('{"a": [0, {"b/c": [true, 0x10], "~": 1}], "": {"": 2}, "é": null}')
+        paths: List[Tuple[v.Text, str]] = [("/a/1/b~1c", "[true,16]"), ("/a/1/~0", "1"), ("//", "2"), ("", key.text()),
+                                           ("/é", "null"), (b"/a/0", "0")]
+        for path, text in paths:
+            part = key.get(path)
+            assert part is not None
+            self.assertEqual((part.text(), part), (text, v.Key(text)))
+        for absent in ("/a/2", "/a/-", "/b", "/a/01", "/a/0/0"):
+            self.assertIsNone(key.get(absent))
+        for malformed in ("a", "/~", "/a~2"):
+            with self.assertRaises(v.PathError) as raised:
+                key.get(malformed)
+            self.assertIn("RFC 6901", str(raised.exception))
+        wrongs: List[Any] = [None, 0, ["a"]]
+        for wrong in wrongs:
+            self.assertRaises(TypeError, key.get, wrong)
+
+    def test_items_and_members(self) -> None:
+        array, whole = v.Key("[1, 'x', [2]]"), v.Key('{"b": 1, "a": [2], "": null, "b\\u0000": 3}')
+        self.assertEqual((array[0], array[-1], array[1]), (v.Key("1.0"), v.Key("[2]"), v.Key('"x"')))
+        self.assertEqual((whole["b"], whole[""], whole["b\0"]), (v.Key("1"), v.Key("null"), v.Key("3")))
+        for index in (3, -4, 2**63, -2**63 - 1, 2**200):
+            self.assertRaises(IndexError, lambda: array[index])
+        with self.assertRaises(KeyError) as raised:
+            whole["zz"]
+        self.assertEqual(raised.exception.args, ("zz",))
+        self.assertEqual(([part.text() for part in array], list(whole)), (["1", '"x"', "[2]"], ["", "a", "b", "b\0"]))
+        self.assertEqual([(name, part.text()) for name, part in whole.items()],
+                         [("", "null"), ("a", "[2]"), ("b", "1"), ("b\0", "3")])
+        self.assertEqual((len(array), len(whole), len(v.Key("[]")), len(v.Key("{}"))), (3, 4, 0, 0))
+        self.assertEqual((v.Key("1.00") in array, v.Key("2") in array), (True, False))
+        self.assertEqual(("a" in whole, "zz" in whole), (True, False))
+        self.assertTrue(v.Key("[]") and v.Key("null") and v.Key("0") and v.Key("{}"))
+        self.assertEqual(list(v.Key("[]")) + list(v.Key("{}")) + list(v.Key("{}").items()), [])
+
+    def test_what_has_no_parts(self) -> None:
+        number, array, whole = v.Key("1"), v.Key("[1]"), v.Key('{"a":1}')
+        none: Any = None
+        calls: List[Tuple[Callable[[], Any], str]] = [
+            (lambda: len(number), "number is no array and no object"),
+            (lambda: iter(number), "number is no array and no object"),
+            (lambda: 1 in v.Key("null"), "null is no array and no object"),
+            (lambda: array.items(), "array is no object"), (lambda: array["a"], "array is no object"),
+            (lambda: whole[0], "object is no array"), (lambda: v.Key('""')[0], "string is no array"),
+            (lambda: 1 in array, "an item is a Key, and not int"),
+            (lambda: v.Key("1") in whole, "a name is a str, and not Key"),
+            (lambda: array[none], "a name is a str and an index an int, and not NoneType")]
+        for call, words in calls:
+            with self.assertRaises(TypeError) as raised:
+                call()
+            self.assertEqual(str(raised.exception), words)
+
+    def test_bytes(self) -> None:
+        for line in IN_ORDER:
+            key = v.Key(line[0])
+            for data in (bytes(key), bytearray(bytes(key)), memoryview(b"x" + bytes(key))[1:]):
+                self.assertEqual(v.Key.from_bytes(data), key)
+            again = pickle.loads(pickle.dumps(key))
+            self.assertEqual((again, type(again)), (key, v.Key))
+            for data in (bytes(key)[:-1], bytes(key) + b"\0", b"\xff" + bytes(key)):
+                with self.assertRaises(ValueError) as raised:
+                    v.Key.from_bytes(data)
+                self.assertEqual(str(raised.exception), "the bytes aren't a sort key")
+        for wrong in ("1", 1, None, [0x80]):
+            self.assertRaises(TypeError, v.Key.from_bytes, wrong)
+        with self.assertRaises(AttributeError):
+            v.Key("1").kind = "x"  # type: ignore[misc]
+        with self.assertRaises(AttributeError):
+            v.Key("1").other = "x"  # type: ignore[attr-defined]
+
+    def test_against_json(self) -> None:
+        """Parts, names and lengths are those of the module json's values."""
+        draw = random.Random(5)
+
+        def value(depth: int) -> Any:
+            kind = draw.randrange(6 if depth else 4)
+            if kind == 4:
+                return [value(depth - 1) for _ in range(draw.randrange(5))]
+            if kind == 5:
+                return {"".join(draw.choices('ab/~é"𝄞', k=2)): value(depth - 1) for _ in range(draw.randrange(5))}
+            return (None, draw.random() < .5, draw.randrange(-2**63, 2**64),
+                    "".join(draw.choices('ab"\\/\n\té𝄞', k=3)))[kind]
+
+        def compare(one: Any, key: v.Key) -> int:
+            dumped = json.dumps(one, separators=(",", ":"), sort_keys=True, ensure_ascii=False)
+            self.assertEqual(key.text(), dumped)
+            if isinstance(one, list):
+                self.assertEqual(len(key), len(one))
+                return 1 + sum(compare(part, found) + compare(part, key[i]) + compare(part, key[i - len(one)])
+                               for i, (part, found) in enumerate(zip(one, key)))
+            if isinstance(one, dict):
+                self.assertEqual((len(key), list(key)), (len(one), sorted(one)))
+                self.assertTrue(all(name in key for name in one) and "zzz" not in key)
+                paths = {name: "/" + name.replace("~", "~0").replace("/", "~1") for name in one}
+                return 1 + sum(compare(one[name], found) + compare(one[name], key[name]) + compare(one[name], part)
+                               for name, found in key.items() for part in [key.get(paths[name])] if part is not None)
+            return 1
+
+        for _ in range(200):
+            one = value(3)
+            text = json.dumps(one, ensure_ascii=draw.random() < .5)
+            self.assertGreater(compare(one, v.Key(text)), 0)
+
+    def test_deep_and_long(self) -> None:
+        for front, back in (("[", "]"), ('{"a":', "}")):
+            key = v.Key(front * 512 + back * 512 if front == "[" else front * 512 + "1" + back * 512)
+            self.assertEqual(v.Key.from_bytes(bytes(key)).text(), key.text())
+            depth = 0
+            while key.kind in ("array", "object") and len(key):
+                key, depth = key[0] if key.kind == "array" else key["a"], depth + 1
+            self.assertEqual(depth, 511 if front == "[" else 512)
+        key = v.Key(json.dumps([{"n": n} for n in range(20000)]))
+        self.assertEqual(sum(int(part["n"].text()) for part in key), 199990000)
+        self.assertEqual(v.Key.from_bytes(bytes(key)), key)
+
+    def test_parts_outlive_the_whole(self) -> None:
+        parts = iter(v.Key("[1, [2, 'x'], {a: 3}]"))
+        self.assertEqual([part.text() for part in parts], ["1", '[2,"x"]', '{"a":3}'])
+        self.assertRaises(StopIteration, next, parts)
+
+    def test_damaged_bytes(self) -> None:
+        """Bytes that pass the check are walked through, and others aren't taken."""
+        whole = bytes(v.Key('{"a":[1,-2.5,"x",null,true,{"b":[[]]}],"é":{"c":12345678901234567890}}'))
+        taken = 0
+        for i in range(len(whole)):
+            for byte in (0, 1, 0x14, 0x80, 0xA1, 0xD0, 0xD1, 0xD2, 0xFF):
+                try:
+                    key = v.Key.from_bytes(whole[:i] + bytes([byte]) + whole[i + 1:])
+                except ValueError:
+                    continue
+                taken += 1
+                self.assertEqual(v.sort_key(key.text()), bytes(key))
+        self.assertGreater(taken, 20)
+
+
+class Both(unittest.TestCase):
+    """The module in C and that by ctypes."""
+
+    def test_which_is_tried(self) -> None:
+        self.assertEqual(v.NATIVE, PACKAGES != HERE)
+        self.assertEqual(v.Key.__module__, "vizhoniku" if v.NATIVE else "vizhoniku._by_ctypes")
+
+    def test_names_of_arguments(self) -> None:
+        self.assertEqual(v.text(text="1", mode=v.STANDARD), "1")
+        self.assertEqual(v.get(mode=v.EXTENDED, path="/0", text="[1]"), "1")
+        self.assertEqual(v.compare("1", right="2"), -1)
+        self.assertEqual(v.sort_key("1", 0), v.sort_key("1", True))  # modes are numbers
+        for call in (lambda: v.text(), lambda: v.text("1", 1, 1), lambda: v.text("1", other=1),  # type: ignore
+                     lambda: v.text("1", text="1"), lambda: v.get("1"), lambda: v.compare(left="1"),  # type: ignore
+                     lambda: v.Key(), lambda: v.Key("1", 1, 1)):  # type: ignore[call-arg]
+            self.assertRaises(TypeError, call)
+        for mode in ("standard", 2, None, -1, 2**64):
+            self.assertRaises(ValueError, v.text, "1", mode)
+
+    def test_the_stub_is_of_both(self) -> None:
+        with open(os.path.join(PACKAGES, "vizhoniku", "_native.pyi"), encoding="utf-8") as file:
+            stub = ast.parse(file.read())
+
+        def compare(body: List[ast.stmt], calls: Any) -> None:
+            for entry in body:
+                if isinstance(entry, ast.ClassDef):
+                    compare(entry.body, getattr(v, entry.name))
+                elif isinstance(entry, ast.FunctionDef):
+                    found = getattr(calls, entry.name)
+                    self.assertTrue(isinstance(found, property) or callable(found) or entry.name == "kind", entry.name)
+                    if not v.NATIVE and inspect.isfunction(found):
+                        self.assertEqual([argument.arg for argument in entry.args.args],
+                                         list(inspect.signature(found).parameters), entry.name)
+
+        compare(stub.body, v)
+
+    def test_types(self) -> None:
+        """Where mypy is installed it finds nothing wrong."""
+        if importlib.util.find_spec("mypy") is None or v.NATIVE:
+            return
+        with tempfile.TemporaryDirectory() as folder:
+            ran = subprocess.run([sys.executable, "-m", "mypy", "--strict", "--cache-dir", folder, "-p", "vizhoniku"],
+                                 cwd=PACKAGES, stdout=subprocess.PIPE, stderr=subprocess.STDOUT, check=False)
+        self.assertIn(b"Success: no issues found", ran.stdout, ran.stdout.decode())
+
+    def test_other_threads_go_on_in_a_long_text(self) -> None:
+        text = json.dumps([{"name": str(i), "n": i} for i in range(400_000)])
+        turns: List[float] = []
+        is_over = threading.Event()
+
+        def turn() -> None:
+            while not is_over.wait(0.001):
+                turns.append(time.monotonic())
+
+        thread = threading.Thread(target=turn)
+        thread.start()
+        calls: List[Callable[[str], Any]] = [v.check, v.text, v.sort_key, v.text_and_key, v.is_valid, v.Key,
+                                             lambda one: v.get(one, "/7/n"), lambda one: v.compare(one, one)]
+        try:
+            for call in calls:
+                begin = time.monotonic()
+                call(text)
+                end = time.monotonic()
+                self.assertTrue(any(begin + 0.002 < at < end - 0.002 for at in turns), call)
+        finally:
+            is_over.set()
+            thread.join()
+
+    def test_references(self) -> None:
+        """Calls keep nothing of their arguments, nor of what they make."""
+        text, path, key = "[%s]" % ",".join("1" * 400), "/1", v.Key('{"a":[1,2],"b":"x"}')
+        number: Any = 5
+        wrongs: List[Callable[[], Any]] = [
+            lambda: v.text("[x"), lambda: v.text(number), lambda: v.text("1", 7), lambda: key["zz"], lambda: key[0],
+            lambda: key.get("a"), lambda: v.Key.from_bytes(b"1"), lambda: len(v.Key("1"))]
+        held = [sys.getrefcount(one) for one in (text, path, key, v.Key, v.EXTENDED, v.STANDARD, None)]
+        for _ in range(3000):
+            v.text(text), v.sort_key(text, v.STANDARD), v.get(text, path), v.compare(text, text), v.text_and_key(text)
+            key.text(), key.get("/a"), key.get("/c"), key["a"][0], list(key.items()), list(key["a"]), len(key)
+            "a" in key, hash(key), key == key, repr(key), v.Key.from_bytes(bytes(key)), key.kind, v.Key(text)
+            iter(key), key.items()
+            for wrong in wrongs:
+                try:
+                    wrong()
+                except (ValueError, TypeError, KeyError):
+                    pass
+        now = [sys.getrefcount(one) for one in (text, path, key, v.Key, v.EXTENDED, v.STANDARD, None)]
+        self.assertLess(max(abs(one - two) for one, two in zip(held, now)), 100)
+
+
 class InAnInterpreter(unittest.TestCase):
     def run_with(self, code: str, **environment: str) -> str:
-        ran = subprocess.run([sys.executable, "-c", code], cwd=HERE, env={**os.environ, **environment},
+        ran = subprocess.run([sys.executable, "-c", code], cwd=PACKAGES, env={**os.environ, **environment},
                              stdout=subprocess.PIPE, stderr=subprocess.STDOUT, check=False)
         return ran.stdout.decode().strip()
 
 
+class Memory(InAnInterpreter):
+    def test_out_of_memory(self) -> None:
+        """A call that has no memory for the value raises MemoryError, and the process goes on."""
+        told = self.run_with("""
+import resource
+import vizhoniku
+# Objects out of order at many levels hold the items, so the library makes a value of the text.
+text = '{"b":0,"a":' * 20 + "[" + '{"a":1},' * 400_000 + "1]" + "}" * 20
+size = int(open("/proc/self/statm").read().split()[0]) * resource.getpagesize()
+resource.setrlimit(resource.RLIMIT_AS, (size + 50_000_000, resource.RLIM_INFINITY))
+try:
+    vizhoniku.text(text)
+except MemoryError:
+    print("MemoryError")
+print(vizhoniku.text("[1, 2]"))
+""")
+        self.assertEqual(told, "MemoryError\n[1,2]")
+
+@unittest.skipIf(v.NATIVE, "")
 class Loading(InAnInterpreter):
     """How the library is found, each time in an interpreter of its own."""
 
@@ -281,23 +572,6 @@ class Loading(InAnInterpreter):
     def test_another_library_is_told(self) -> None:
         told = self.run_with("import vizhoniku", VIZHONIKU="libc.so.6")
         self.assertIn("ImportError: the library lacks a function: ", told)
-
-    def test_out_of_memory(self) -> None:
-        """A call that has no memory for the value raises MemoryError, and the process goes on."""
-        told = self.run_with("""
-import resource
-import vizhoniku
-# Objects out of order at many levels hold the items, so the library makes a value of the text.
-text = '{"b":0,"a":' * 20 + "[" + '{"a":1},' * 400_000 + "1]" + "}" * 20
-size = int(open("/proc/self/statm").read().split()[0]) * resource.getpagesize()
-resource.setrlimit(resource.RLIMIT_AS, (size + 50_000_000, resource.RLIM_INFINITY))
-try:
-    vizhoniku.text(text)
-except MemoryError:
-    print("MemoryError")
-print(vizhoniku.text("[1, 2]"))
-""")
-        self.assertEqual(told, "MemoryError\n[1,2]")
 
 
 # A library that stands in for the real one. Each call answers `status`, and rejects a text at its start. Where `waits`
@@ -369,6 +643,10 @@ uint32_t vizhoniku_message(uint32_t mode, const char *text, size_t text_size, ch
   return message_status;
 }
 
+/* Calls on keys, whose arguments don't matter. */
+#define KEY(name) uint32_t vizhoniku_key_##name(void) { return status; }
+KEY(check) KEY(kind) KEY(count) KEY(member) KEY(item) KEY(part) KEY(begin) KEY(next) KEY(name) KEY(text)
+
 void vizhoniku_place(const char *text, size_t text_size, const struct refusal *refusal, struct place *place) {
   (void)text, (void)text_size, (void)refusal;
   place->index = 0, place->line = place->column = 1;
@@ -380,10 +658,11 @@ OVER_STAND_IN = """
 import ctypes
 import threading
 import vizhoniku as v
+from vizhoniku._by_ctypes import _library
 
-status = ctypes.c_uint32.in_dll(v._library, "status")
-message_status = ctypes.c_uint32.in_dll(v._library, "message_status")
-waits, is_waiting, goes_on = (ctypes.c_int.in_dll(v._library, name) for name in ("waits", "is_waiting", "goes_on"))
+status = ctypes.c_uint32.in_dll(_library, "status")
+message_status = ctypes.c_uint32.in_dll(_library, "message_status")
+waits, is_waiting, goes_on = (ctypes.c_int.in_dll(_library, name) for name in ("waits", "is_waiting", "goes_on"))
 calls = {"check": lambda: v.check("1"), "is_valid": lambda: v.is_valid("1"), "text": lambda: v.text("1"),
          "sort_key": lambda: v.sort_key("1"), "text_and_key": lambda: v.text_and_key("1"),
          "get": lambda: v.get("1", ""), "compare": lambda: v.compare("1", "1")}
@@ -416,6 +695,7 @@ for name, call in calls.items():
 """
 
 
+@unittest.skipIf(v.NATIVE, "")
 @unittest.skipIf(shutil.which("cc") is None, "cc is missing")
 class StandIn(InAnInterpreter):
     """What the module makes of statuses, of other versions and of places of the library."""
@@ -425,7 +705,7 @@ class StandIn(InAnInterpreter):
     @classmethod
     def setUpClass(cls) -> None:
         cls.folder = tempfile.TemporaryDirectory()
-        for version in (v._VERSION - 1, v._VERSION, v._VERSION + 1):
+        for version in (VERSION - 1, VERSION, VERSION + 1):
             os.mkdir(os.path.join(cls.folder.name, str(version)))
             subprocess.run(["cc", "-std=c99", "-Wall", "-Wextra", "-Werror", "-pedantic", "-shared", "-fPIC",
                             f"-DINTERFACE={version}", "-x", "c", "-", "-o", cls.library_of(version)],
@@ -444,12 +724,12 @@ class StandIn(InAnInterpreter):
         return os.path.join(cls.folder_of(version), "libvizhoniku.so.0")
 
     def test_an_older_library_is_refused(self) -> None:
-        for version, wanted in ((v._VERSION, "0"), (v._VERSION + 1, "0")):
+        for version, wanted in ((VERSION, "0"), (VERSION + 1, "0")):
             self.assertEqual(self.run_with("import vizhoniku; print(vizhoniku.compare('', ''))",
                                            VIZHONIKU=self.library_of(version)), wanted)
-        told = self.run_with("import vizhoniku", VIZHONIKU=self.library_of(v._VERSION - 1))
-        self.assertEqual(told.splitlines()[-1], f"ImportError: libvizhoniku has interface version {v._VERSION - 1}, "
-                                                f"and {v._VERSION} is needed")
+        told = self.run_with("import vizhoniku", VIZHONIKU=self.library_of(VERSION - 1))
+        self.assertEqual(told.splitlines()[-1], f"ImportError: libvizhoniku has interface version {VERSION - 1}, "
+                                                f"and {VERSION} is needed")
 
     def test_statuses(self) -> None:
         """Each call without memory, with a status that there isn't, and a rejected text without memory for words."""
@@ -459,7 +739,7 @@ for status.value in (2, 3, 4_000_000_000):
 status.value = 1
 for message_status.value in (1, 2):
     print(*(told(call) for call in calls.values()))
-""", VIZHONIKU=self.library_of(v._VERSION))
+""", VIZHONIKU=self.library_of(VERSION))
         self.assertEqual(told.splitlines(), [
             "2 MemoryError", "3 RuntimeError", "4000000000 RuntimeError",
             "RejectedText False" + " RejectedText" * 5, "MemoryError False" + " MemoryError" * 5,
@@ -471,8 +751,8 @@ for message_status.value in (1, 2):
                                              "text_and_key ('', b'')", "get ", "compare 0"])
 
     def test_other_threads_go_on(self) -> None:
-        self.goes_on(VIZHONIKU=self.library_of(v._VERSION))
-        self.goes_on(VIZHONIKU="", LD_LIBRARY_PATH=self.folder_of(v._VERSION), PKG_CONFIG_PATH="")
+        self.goes_on(VIZHONIKU=self.library_of(VERSION))
+        self.goes_on(VIZHONIKU="", LD_LIBRARY_PATH=self.folder_of(VERSION), PKG_CONFIG_PATH="")
 
     @unittest.skipIf(shutil.which("pkg-config") is None, "pkg-config is missing")
     def test_where_pkg_config_tells(self) -> None:
@@ -485,9 +765,9 @@ for message_status.value in (1, 2):
                     file.write(f"prefix={folder}\nincludedir={folder}\nlibdir={libdir}\n\n"
                                "Name: vizhoniku\nDescription: stands in\nVersion: 0\n")
 
-            tell(self.folder_of(v._VERSION))
+            tell(self.folder_of(VERSION))
             self.goes_on(VIZHONIKU="", LD_LIBRARY_PATH="", PKG_CONFIG_PATH=folder)
-            shutil.copy(self.library_of(v._VERSION), folder)
+            shutil.copy(self.library_of(VERSION), folder)
             tell(folder)
             self.goes_on(VIZHONIKU="", LD_LIBRARY_PATH="", PKG_CONFIG_PATH=folder)
             tell(os.path.join(folder, "nowhere"))

@@ -1,0 +1,31 @@
+"""Builds the module in C where pkg-config finds the library, which is linked in. Else the package goes by ctypes."""
+
+import os
+import subprocess
+from typing import Any, Dict
+
+from setuptools import Extension, setup
+
+
+def told(variable: str) -> str:
+    """What pkg-config tells of the library, or nothing."""
+    try:
+        ran = subprocess.run(["pkg-config", "--variable=" + variable, "vizhoniku"], stdin=subprocess.DEVNULL,
+                             stdout=subprocess.PIPE, stderr=subprocess.DEVNULL, check=True)
+    except (OSError, subprocess.CalledProcessError):
+        return ""
+    return os.fsdecode(ran.stdout.rstrip(b"\n"))
+
+
+def options() -> Dict[str, Any]:
+    library = os.path.join(told("libdir"), "libvizhoniku.a")
+    if not os.path.isabs(library) or not os.path.exists(library):
+        return {}
+    module = Extension("vizhoniku._native", ["vizhoniku/_native.c"], include_dirs=[told("includedir")],
+                       define_macros=[("Py_LIMITED_API", "0x030A0000")], py_limited_api=True, extra_objects=[library],
+                       extra_compile_args=["-std=c99", "-Wall", "-Wextra", "-fvisibility=hidden"],
+                       extra_link_args=["-Wl,--exclude-libs,ALL"], depends=[library])
+    return {"ext_modules": [module], "options": {"bdist_wheel": {"py_limited_api": "cp310"}}}
+
+
+setup(**options())

@@ -1,0 +1,411 @@
+"""The calls of the library by ctypes: for where the module in C isn't built.
+
+The library is looked for at the path in the environment variable VIZHONIKU, then as libvizhoniku.so.0 where the system
+looks for shared libraries, then in the folder that pkg-config tells.
+"""
+
+import ctypes
+import os
+import subprocess
+from typing import Any, Iterator, List, Optional, Tuple, Union
+
+from ._common import BAD_PATH, EXTENDED, NO_KEY, Mode, PathError, RejectedText, Text, rejection
+
+_SONAME = "libvizhoniku.so.0"
+_VERSION = 3  # the version of the interface, VIZHONIKU_VERSION of the header; a later one only adds to it
+
+_ACCEPTED, _REFUSED, _OUT_OF_MEMORY, _UNKNOWN_MODE, _TOO_SHORT, _NO_PART, _NO_PATH, _NO_KEY = range(8)
+_KINDS = ("", "null", "boolean", "number", "string", "array", "object")
+
+
+class _Refusal(ctypes.Structure):
+    _fields_ = [("code", ctypes.c_uint32), ("which", ctypes.c_uint32), ("position", ctypes.c_size_t)]
+
+
+class _Place(ctypes.Structure):
+    _fields_ = [("index", ctypes.c_size_t), ("line", ctypes.c_size_t), ("column", ctypes.c_size_t)]
+
+
+class _Cursor(ctypes.Structure):
+    _fields_ = [("kind", ctypes.c_uint32), ("offset", ctypes.c_size_t)]
+
+
+class _Entry(ctypes.Structure):
+    _fields_ = [(name, ctypes.c_size_t) for name in ("name_offset", "name_size", "offset", "size")]
+
+
+def _open() -> ctypes.CDLL:
+    named = os.environ.get("VIZHONIKU")
+    if named:
+        try:
+            return ctypes.CDLL(named)
+        except OSError as error:
+            raise ImportError(f"the library that VIZHONIKU names can't be loaded: {error}") from None
+    try:
+        return ctypes.CDLL(_SONAME)
+    except OSError:
+        pass
+    try:
+        told = subprocess.run(["pkg-config", "--variable=libdir", "vizhoniku"], stdin=subprocess.DEVNULL,
+                              stdout=subprocess.PIPE, stderr=subprocess.DEVNULL, check=True)
+        return ctypes.CDLL(os.path.join(os.fsdecode(told.stdout.rstrip(b"\n")), _SONAME))
+    except (OSError, subprocess.CalledProcessError):
+        raise ImportError(f"{_SONAME} is not found: name its path in the environment variable VIZHONIKU") from None
+
+
+def _load() -> ctypes.CDLL:
+    library = _open()
+    mode, size, status = ctypes.c_uint32, ctypes.c_size_t, ctypes.c_uint32
+    text_in: List[Any] = [ctypes.c_char_p, size]
+    text_out: List[Any] = [ctypes.c_void_p, size, ctypes.POINTER(size)]
+    refusal, place = ctypes.POINTER(_Refusal), ctypes.POINTER(_Place)
+    try:
+        library.vizhoniku_version.argtypes = []
+        library.vizhoniku_version.restype = ctypes.c_uint32
+        version = library.vizhoniku_version()
+        if version < _VERSION:
+            raise ImportError(f"libvizhoniku has interface version {version}, and {_VERSION} is needed")
+        library.vizhoniku_check.argtypes = [mode, *text_in, refusal]
+        library.vizhoniku_text.argtypes = [mode, *text_in, *text_out, refusal]
+        library.vizhoniku_part.argtypes = [mode, *text_in, *text_in, *text_out, refusal]
+        library.vizhoniku_sort_key.argtypes = [mode, *text_in, *text_out, refusal]
+        library.vizhoniku_text_and_key.argtypes = [mode, *text_in, *text_out, *text_out, refusal]
+        library.vizhoniku_compare.argtypes = [mode, *text_in, *text_in, ctypes.POINTER(ctypes.c_int32), refusal]
+        library.vizhoniku_message.argtypes = [mode, *text_in, *text_out]
+        library.vizhoniku_place.argtypes = [*text_in, refusal, place]
+        found = [ctypes.POINTER(size), ctypes.POINTER(size)]
+        library.vizhoniku_key_check.argtypes = text_in
+        library.vizhoniku_key_kind.argtypes = text_in
+        library.vizhoniku_key_count.argtypes = [*text_in, ctypes.POINTER(size)]
+        library.vizhoniku_key_member.argtypes = [*text_in, *text_in, *found]
+        library.vizhoniku_key_item.argtypes = [*text_in, ctypes.c_int64, *found]
+        library.vizhoniku_key_part.argtypes = [*text_in, *text_in, *found]
+        library.vizhoniku_key_begin.argtypes = [*text_in, ctypes.POINTER(_Cursor)]
+        library.vizhoniku_key_next.argtypes = [*text_in, ctypes.POINTER(_Cursor), ctypes.POINTER(_Entry)]
+        library.vizhoniku_key_name.argtypes = [*text_in, *text_out]
+        library.vizhoniku_key_text.argtypes = [*text_in, *text_out]
+        for name in ("check", "text", "part", "sort_key", "text_and_key", "compare", "message", "key_check", "key_kind",
+                     "key_count", "key_member", "key_item", "key_part", "key_begin", "key_next", "key_name",
+                     "key_text"):
+            getattr(library, "vizhoniku_" + name).restype = status
+        library.vizhoniku_place.restype = None
+    except AttributeError as error:
+        raise ImportError(f"the library lacks a function: {error}") from None
+    return library
+
+
+_library = _load()
+
+
+def _bytes(text: Text) -> bytes:
+    # Half of a surrogate pair in a str becomes three bytes that aren't UTF-8, which the library rejects at their place.
+    if isinstance(text, str):
+        return text.encode("utf-8", "surrogatepass")
+    if isinstance(text, (bytes, bytearray, memoryview)):
+        return bytes(text)
+    raise TypeError(f"a text is a str, bytes, a bytearray or a memoryview, and not {type(text).__name__}")
+
+
+def _mode(mode: int) -> int:
+    return Mode(mode).value  # ValueError where there is none
+
+
+def _words(mode: int, data: bytes) -> bytes:
+    room = 256
+    while True:
+        buffer, size = ctypes.create_string_buffer(room), ctypes.c_size_t()
+        status = _library.vizhoniku_message(mode, data, len(data), buffer, room, size)
+        if status != _TOO_SHORT:
+            break
+        room = size.value
+    if status == _OUT_OF_MEMORY:
+        raise MemoryError
+    return ctypes.string_at(buffer, size.value)
+
+
+def _rejected(mode: int, refusal: _Refusal, text: Text, data: bytes) -> RejectedText:
+    place = _Place()
+    _library.vizhoniku_place(data, len(data), refusal, place)
+    return rejection(text, data, _words(mode, data), refusal.code, refusal.which, refusal.position, place.index,
+                     place.line, place.column)
+
+
+def _raise(status: int, mode: int, refusal: _Refusal, texts: List[Tuple[Text, bytes]]) -> None:
+    """Raises what the status says, or returns where it is accepted."""
+    if status == _ACCEPTED:
+        return
+    if status == _REFUSED:
+        raise _rejected(mode, refusal, *texts[refusal.which - 1])
+    if status == _OUT_OF_MEMORY:
+        raise MemoryError
+    raise RuntimeError(f"unknown status {status}")
+
+
+def check(text: Text, mode: int = EXTENDED) -> None:
+    """Raises RejectedText where the text is no document."""
+    mode, data, refusal = _mode(mode), _bytes(text), _Refusal()
+    _raise(_library.vizhoniku_check(mode, data, len(data), refusal), mode, refusal, [(text, data)])
+
+
+def is_valid(text: Text, mode: int = EXTENDED) -> bool:
+    """Whether the text is a document."""
+    mode, data, refusal = _mode(mode), _bytes(text), _Refusal()
+    status = _library.vizhoniku_check(mode, data, len(data), refusal)
+    if status != _REFUSED:
+        _raise(status, mode, refusal, [(text, data)])
+    return bool(status == _ACCEPTED)
+
+
+def text(text: Text, mode: int = EXTENDED) -> str:
+    """The text of the document's value: no whitespace, and members in the order of their keys' bytes."""
+    mode, data, refusal, size = _mode(mode), _bytes(text), _Refusal(), ctypes.c_size_t()
+    room = len(data) + 16
+    while True:
+        buffer = ctypes.create_string_buffer(room)
+        status = _library.vizhoniku_text(mode, data, len(data), buffer, room, size, refusal)
+        if status != _TOO_SHORT:
+            break
+        room = size.value
+    _raise(status, mode, refusal, [(text, data)])
+    return ctypes.string_at(buffer, size.value).decode()
+
+
+def sort_key(text: Text, mode: int = EXTENDED) -> bytes:
+    """Bytes that compare as the values of documents do: equal for equal values, and none the beginning of others."""
+    mode, data, refusal, size = _mode(mode), _bytes(text), _Refusal(), ctypes.c_size_t()
+    room = len(data) + 64
+    while True:
+        buffer = ctypes.create_string_buffer(room)
+        status = _library.vizhoniku_sort_key(mode, data, len(data), buffer, room, size, refusal)
+        if status != _TOO_SHORT:
+            break
+        room = size.value
+    _raise(status, mode, refusal, [(text, data)])
+    return ctypes.string_at(buffer, size.value)
+
+
+def text_and_key(text: Text, mode: int = EXTENDED) -> Tuple[str, bytes]:
+    """What text and sort_key return, of one reading."""
+    mode, data, refusal = _mode(mode), _bytes(text), _Refusal()
+    size, key_size = ctypes.c_size_t(), ctypes.c_size_t()
+    room, key_room = len(data) + 16, len(data) + 64
+    while True:
+        buffer, key_buffer = ctypes.create_string_buffer(room), ctypes.create_string_buffer(key_room)
+        status = _library.vizhoniku_text_and_key(mode, data, len(data), buffer, room, size, key_buffer, key_room,
+                                                 key_size, refusal)
+        if status != _TOO_SHORT:
+            break
+        room, key_room = size.value, key_size.value
+    _raise(status, mode, refusal, [(text, data)])
+    return ctypes.string_at(buffer, size.value).decode(), ctypes.string_at(key_buffer, key_size.value)
+
+
+def get(text: Text, path: Text, mode: int = EXTENDED) -> Optional[str]:
+    """The text of the part at the path, as RFC 6901 spells it, or None where nothing stands there.
+
+    The path "" is the whole document, and "/a/0" the first item of the member "a". PathError is raised where the path
+    isn't spelled so.
+    """
+    mode, data, path_data, refusal = _mode(mode), _bytes(text), _bytes(path), _Refusal()
+    size, room = ctypes.c_size_t(), 256
+    while True:
+        buffer = ctypes.create_string_buffer(room)
+        status = _library.vizhoniku_part(mode, path_data, len(path_data), data, len(data), buffer, room, size, refusal)
+        if status != _TOO_SHORT:
+            break
+        room = size.value
+    if status == _NO_PART:
+        return None
+    if status == _NO_PATH:
+        raise PathError(BAD_PATH)
+    _raise(status, mode, refusal, [(text, data)])
+    return ctypes.string_at(buffer, size.value).decode()
+
+
+def compare(left: Text, right: Text, mode: int = EXTENDED) -> int:
+    """-1, 0 or 1: the first document's value is below the second's, equal to it, or above it."""
+    mode, left_data, right_data = _mode(mode), _bytes(left), _bytes(right)
+    refusal, order = _Refusal(), ctypes.c_int32()
+    status = _library.vizhoniku_compare(mode, left_data, len(left_data), right_data, len(right_data), order, refusal)
+    _raise(status, mode, refusal, [(left, left_data), (right, right_data)])
+    return order.value
+
+
+class Key:
+    """A document as its sort key: bytes that compare as the values do. Its parts are found in them.
+
+    Keys are compared and hashed by their bytes, so by value. An array is iterated over its items, which are keys, and
+    an object over the names of its members, which are str; len counts either. A key is always true.
+    """
+
+    __slots__ = ("_data",)
+    _data: bytes
+
+    def __new__(cls, text: Text, mode: int = EXTENDED) -> "Key":
+        return cls._of(sort_key(text, mode))
+
+    @classmethod
+    def _of(cls, data: bytes) -> "Key":
+        self = object.__new__(cls)
+        object.__setattr__(self, "_data", data)
+        return self
+
+    @classmethod
+    def from_bytes(cls, data: Union[bytes, bytearray, memoryview]) -> "Key":
+        """The key that bytes(key) was. Raises ValueError where the bytes aren't a sort key."""
+        if not isinstance(data, (bytes, bytearray, memoryview)):
+            raise TypeError(f"a key is bytes, a bytearray or a memoryview, and not {type(data).__name__}")
+        data = bytes(data)
+        if _library.vizhoniku_key_check(data, len(data)) != _ACCEPTED:
+            raise ValueError(NO_KEY)
+        return cls._of(data)
+
+    def __setattr__(self, name: str, value: Any) -> None:
+        raise AttributeError(f"a key's attribute {name!r} can't be set")
+
+    def __reduce__(self) -> Tuple[Any, Tuple[bytes]]:
+        return Key.from_bytes, (self._data,)
+
+    @property
+    def kind(self) -> str:
+        """null, boolean, number, string, array or object."""
+        return _KINDS[_library.vizhoniku_key_kind(self._data, len(self._data))]
+
+    def __bytes__(self) -> bytes:
+        return self._data
+
+    def text(self) -> str:
+        """The text of the value, with the fewest digits in each number."""
+        room, size = len(self._data) + 64, ctypes.c_size_t()
+        while True:
+            buffer = ctypes.create_string_buffer(room)
+            status = _library.vizhoniku_key_text(self._data, len(self._data), buffer, room, size)
+            if status != _TOO_SHORT:
+                break
+            room = size.value
+        _raise_of_key(status)
+        return ctypes.string_at(buffer, size.value).decode()
+
+    def get(self, path: Text) -> "Optional[Key]":
+        """The part at the path, as RFC 6901 spells it, or None. Raises PathError where the path isn't spelled so."""
+        offset, size, path_data = ctypes.c_size_t(), ctypes.c_size_t(), _bytes(path)
+        status = _library.vizhoniku_key_part(self._data, len(self._data), path_data, len(path_data), offset, size)
+        return self._found(status, offset, size)
+
+    def _found(self, status: int, offset: ctypes.c_size_t, size: ctypes.c_size_t) -> "Optional[Key]":
+        if status == _NO_PART:
+            return None
+        _raise_of_key(status)
+        return Key._of(self._data[offset.value:offset.value + size.value])
+
+    def _needs(self, *kinds: str) -> str:
+        kind = self.kind
+        if kind not in kinds:
+            raise TypeError(f"{kind} is no {' and no '.join(kinds)}")
+        return kind
+
+    def _member(self, name: str) -> "Optional[Key]":
+        offset, size, data = ctypes.c_size_t(), ctypes.c_size_t(), _bytes(name)
+        return self._found(_library.vizhoniku_key_member(self._data, len(self._data), data, len(data), offset, size),
+                           offset, size)
+
+    def _item(self, index: int) -> "Optional[Key]":
+        if not -2**63 <= index < 2**63:
+            return None
+        offset, size = ctypes.c_size_t(), ctypes.c_size_t()
+        return self._found(_library.vizhoniku_key_item(self._data, len(self._data), index, offset, size), offset, size)
+
+    def __getitem__(self, which: Union[str, int]) -> "Key":
+        if isinstance(which, str):
+            self._needs("object")
+            part = self._member(which)
+            if part is None:
+                raise KeyError(which)
+        elif isinstance(which, int):
+            self._needs("array")
+            part = self._item(which)
+            if part is None:
+                raise IndexError("the array has no such item")
+        else:
+            raise TypeError(f"a name is a str and an index an int, and not {type(which).__name__}")
+        return part
+
+    def _parts(self) -> "Iterator[Tuple[bytes, Key]]":
+        cursor, entry = _Cursor(), _Entry()
+        status = _library.vizhoniku_key_begin(self._data, len(self._data), cursor)
+        while status == _ACCEPTED:
+            status = _library.vizhoniku_key_next(self._data, len(self._data), cursor, entry)
+            if status == _ACCEPTED:
+                yield (self._data[entry.name_offset:entry.name_offset + entry.name_size],
+                       Key._of(self._data[entry.offset:entry.offset + entry.size]))
+        if status != _NO_PART:
+            _raise_of_key(status)
+
+    def __iter__(self) -> "Iterator[Any]":
+        if self._needs("array", "object") == "object":
+            return (_name(name) for name, _ in self._parts())
+        return (part for _, part in self._parts())
+
+    def items(self) -> "Iterator[Tuple[str, Key]]":
+        """The members of an object, in the order of their names' bytes."""
+        self._needs("object")
+        return ((_name(name), part) for name, part in self._parts())
+
+    def __len__(self) -> int:
+        self._needs("array", "object")
+        count = ctypes.c_size_t()
+        _raise_of_key(_library.vizhoniku_key_count(self._data, len(self._data), count))
+        return count.value
+
+    def __bool__(self) -> bool:
+        return True
+
+    def __contains__(self, part: object) -> bool:
+        """Whether an object has the name, or an array an item that equals the key."""
+        if self._needs("array", "object") == "object":
+            if not isinstance(part, str):
+                raise TypeError(f"a name is a str, and not {type(part).__name__}")
+            return self._member(part) is not None
+        if not isinstance(part, Key):
+            raise TypeError(f"an item is a Key, and not {type(part).__name__}")
+        return any(part._data == item._data for _, item in self._parts())
+
+    def __eq__(self, other: object) -> bool:
+        if not isinstance(other, Key):
+            return NotImplemented
+        return self._data == other._data
+
+    def __lt__(self, other: "Key") -> bool:
+        return self._data < other._data if isinstance(other, Key) else NotImplemented
+
+    def __le__(self, other: "Key") -> bool:
+        return self._data <= other._data if isinstance(other, Key) else NotImplemented
+
+    def __gt__(self, other: "Key") -> bool:
+        return self._data > other._data if isinstance(other, Key) else NotImplemented
+
+    def __ge__(self, other: "Key") -> bool:
+        return self._data >= other._data if isinstance(other, Key) else NotImplemented
+
+    def __hash__(self) -> int:
+        return hash(self._data)
+
+    def __repr__(self) -> str:
+        return f"Key({self.text()!r})"
+
+
+def _raise_of_key(status: int) -> None:
+    if status == _OUT_OF_MEMORY:
+        raise MemoryError
+    if status == _NO_PATH:
+        raise PathError(BAD_PATH)
+    if status == _NO_KEY:
+        raise ValueError(NO_KEY)
+    if status != _ACCEPTED:
+        raise RuntimeError(f"unknown status {status}")
+
+
+def _name(data: bytes) -> str:
+    buffer, size = ctypes.create_string_buffer(len(data)), ctypes.c_size_t()
+    _raise_of_key(_library.vizhoniku_key_name(data, len(data), buffer, len(data), size))
+    return ctypes.string_at(buffer, size.value).decode()

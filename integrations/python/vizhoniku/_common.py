@@ -1,0 +1,66 @@
+"""What both ways to call the library share: modes, texts and errors."""
+
+import enum
+from typing import Union
+
+Text = Union[str, bytes, bytearray, memoryview]
+
+BAD_PATH = ("the path isn't spelled as RFC 6901 has it: it is empty or begins with /, and ~ stands only in ~0 and ~1")
+NO_KEY = "the bytes aren't a sort key"
+
+
+class Mode(enum.IntEnum):
+    """Which grammar a text is read by."""
+
+    STANDARD = 0  # JSON as RFC 8259 has it, numbers as integers of 64 bits alone
+    EXTENDED = 1  # also decimals, hexadecimals, comments, single quotes, keys without quotes and more
+
+
+STANDARD = Mode.STANDARD
+EXTENDED = Mode.EXTENDED
+
+
+class RejectedText(ValueError):
+    """A text that is no document of its mode.
+
+    index, line and column tell the place of the fault: the index is counted from 0, line and column from 1. They count
+    characters where the text is a str, and bytes otherwise. message says what is wrong, code is its number, and which
+    is 1, or 2 where the second text of a comparison is rejected.
+    """
+
+    def __init__(self, message: str, code: int, which: int, index: int, line: int, column: int) -> None:
+        super().__init__(message, code, which, index, line, column)
+        self.message = message
+        self.code = code
+        self.which = which
+        self.index = index
+        self.line = line
+        self.column = column
+
+    def __str__(self) -> str:
+        second = "second text, " if self.which == 2 else ""
+        return f"{second}line {self.line}, column {self.column}: {self.message}"
+
+
+class PathError(ValueError):
+    """A path that isn't spelled as RFC 6901 has it."""
+
+
+def _characters(data: bytes) -> int:
+    """How many characters begin in bytes that came from a str."""
+    return sum(byte & 0xC0 != 0x80 for byte in data)
+
+
+def rejection(text: Text, data: bytes, words: bytes, code: int, which: int, position: int, index: int, line: int,
+              column: int) -> RejectedText:
+    """The error for a text, whose bytes are the data: with the words and the place in bytes that the library tells."""
+    if isinstance(text, str):
+        begins = index - (column - 1)  # of the line
+        until = index + 1 if index < len(data) else index
+        past = 0 if index < len(data) else 1
+        column = _characters(data[begins:until]) + past
+        index = _characters(data[:until]) + past - 1
+    # The words end with the position, which is told as line and column instead.
+    message, end = words.decode("utf-8", "replace"), f", pos {position}"
+    message = message[:-len(end)] if message.endswith(end) else message
+    return RejectedText(message, code, which, index, line, column)

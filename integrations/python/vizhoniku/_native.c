@@ -1,0 +1,894 @@
+/* The calls of the library for Python, as _by_ctypes.py has them: the same names, arguments, results and errors.
+ *
+ * It keeps to the limited API of Python 3.10, so that one build serves each later version. The static library is linked
+ * in. Other threads run while a text of RELEASED bytes or more is read. */
+#define PY_SSIZE_T_CLEAN
+#include <Python.h>
+
+#include <stdint.h>
+#include <string.h>
+
+#include <vizhoniku.h>
+
+/* From how many bytes on other threads run while they are read. */
+#define RELEASED 2000
+
+/* Bytes of the stack that a result is written to at first. */
+#define SMALL 2048
+
+/* How many parameters a function has at most. */
+#define MOST 3
+
+/* What the functions need of Python: the module's own, since there may be several interpreters. */
+struct state {
+  PyObject *mode;      /* the class Mode */
+  PyObject *standard;  /* its members */
+  PyObject *extended;
+  PyObject *path_error;
+  PyObject *rejection; /* makes a RejectedText */
+  PyObject *bad_path;  /* words */
+  PyObject *no_key;
+  PyObject *key_type;
+  PyObject *parts_type;
+  PyObject *kinds[VIZHONIKU_OBJECT + 1]; /* names of kinds */
+};
+
+/* The bytes of a text, and the object that holds them. */
+struct text {
+  const unsigned char *at;
+  size_t size;
+  PyObject *holder; /* or NULL where the text itself does */
+};
+
+static void free_text(struct text *text) { Py_CLEAR(text->holder); }
+
+/* Raises TypeError, with the name of the object's type in the words. */
+static void raise_type(const char *words, PyObject *object) {
+  PyObject *type = PyObject_GetAttrString((PyObject *)Py_TYPE(object), "__name__");
+  if (type) PyErr_Format(PyExc_TypeError, words, type);
+  Py_XDECREF(type);
+}
+
+/* Reads a text. Half of a surrogate pair in a str becomes three bytes that aren't UTF-8, which the library rejects at
+ * their place. Bytes that another thread can change are copied. Returns 0 where an exception is raised. */
+static int read_text(PyObject *object, const char *words, struct text *text) {
+  Py_ssize_t size;
+  text->holder = NULL;
+  if (PyUnicode_Check(object)) {
+    text->at = (const unsigned char *)PyUnicode_AsUTF8AndSize(object, &size);
+    if (text->at) {
+      text->size = (size_t)size;
+      return 1;
+    }
+    if (!PyErr_ExceptionMatches(PyExc_UnicodeEncodeError)) return 0;
+    PyErr_Clear();
+    text->holder = PyUnicode_AsEncodedString(object, "utf-8", "surrogatepass");
+  } else if (PyBytes_Check(object)) {
+    Py_INCREF(object);
+    text->holder = object;
+  } else if (PyByteArray_Check(object) || PyMemoryView_Check(object)) {
+    text->holder = PyBytes_FromObject(object);
+  } else {
+    raise_type(words, object);
+  }
+  if (!text->holder) return 0;
+  text->at = (const unsigned char *)PyBytes_AsString(text->holder);
+  text->size = (size_t)PyBytes_Size(text->holder);
+  return 1;
+}
+
+#define A_TEXT "a text is a str, bytes, a bytearray or a memoryview, and not %U"
+#define A_KEY "a key is bytes, a bytearray or a memoryview, and not %U"
+
+/* Sorts the arguments of a call by the names of the parameters; those that aren't given are NULL. Returns 0 where an
+ * exception is raised. */
+static int sort_arguments(const char *function, const char *const *names, Py_ssize_t least, PyObject *const *given,
+                          Py_ssize_t count, PyObject *keywords, PyObject **arguments) {
+  Py_ssize_t most = 0, named = keywords ? PyTuple_Size(keywords) : 0;
+  while (names[most]) arguments[most++] = NULL;
+  if (count > most) {
+    PyErr_Format(PyExc_TypeError, "%s() takes at most %zd arguments (%zd given)", function, most, count + named);
+    return 0;
+  }
+  for (Py_ssize_t i = 0; i < count; i++) arguments[i] = given[i];
+  for (Py_ssize_t i = 0; i < named; i++) {
+    PyObject *name = PyTuple_GetItem(keywords, i);
+    Py_ssize_t at = 0;
+    while (at < most && PyUnicode_CompareWithASCIIString(name, names[at])) at++;
+    if (at == most || arguments[at]) {
+      const char *words = at == most ? "%s() got an unexpected keyword argument '%U'"
+                                     : "%s() got multiple values for argument '%U'";
+      PyErr_Format(PyExc_TypeError, words, function, name);
+      return 0;
+    }
+    arguments[at] = given[count + i];
+  }
+  for (Py_ssize_t i = 0; i < least; i++) {
+    if (!arguments[i]) {
+      PyErr_Format(PyExc_TypeError, "%s() missing required argument '%s'", function, names[i]);
+      return 0;
+    }
+  }
+  return 1;
+}
+
+/* Reads a mode: Mode(2) raises the error of what is none. Returns 0 where an exception is raised. */
+static int read_mode(const struct state *state, PyObject *object, uint32_t *mode) {
+  *mode = VIZHONIKU_EXTENDED;
+  if (!object || object == state->extended) return 1;
+  *mode = VIZHONIKU_STANDARD;
+  if (object == state->standard) return 1;
+  PyObject *member = PyObject_CallFunctionObjArgs(state->mode, object, NULL);
+  if (!member) return 0;
+  *mode = (uint32_t)PyLong_AsUnsignedLong(member);
+  Py_DECREF(member);
+  return !PyErr_Occurred();
+}
+
+/* The words of the library for a rejected text, as bytes. */
+static PyObject *words_of(uint32_t mode, const struct text *text) {
+  unsigned char small[256], *words = small;
+  size_t room = sizeof small, size;
+  uint32_t status;
+  for (;;) {
+    status = vizhoniku_message(mode, text->at, text->size, words, room, &size);
+    if (status != VIZHONIKU_TOO_SHORT) break;
+    if (words != small) PyMem_Free(words);
+    room = size;
+    if (!(words = PyMem_Malloc(room))) return PyErr_NoMemory();
+  }
+  PyObject *result = status == VIZHONIKU_OUT_OF_MEMORY ? PyErr_NoMemory()
+                                                       : PyBytes_FromStringAndSize((char *)words, (Py_ssize_t)size);
+  if (words != small) PyMem_Free(words);
+  return result;
+}
+
+/* Raises RejectedText. */
+static void raise_rejected(const struct state *state, uint32_t mode, const struct vizhoniku_refusal *refusal,
+                           PyObject *object, const struct text *text) {
+  struct vizhoniku_location place;
+  vizhoniku_place(text->at, text->size, refusal, &place);
+  PyObject *words = words_of(mode, text);
+  if (!words) return;
+  PyObject *error = PyObject_CallFunction(
+      state->rejection, "Oy#OIInnnn", object, (const char *)text->at, (Py_ssize_t)text->size, words, refusal->code,
+      refusal->which, (Py_ssize_t)refusal->position, (Py_ssize_t)place.index, (Py_ssize_t)place.line,
+      (Py_ssize_t)place.column);
+  Py_DECREF(words);
+  if (!error) return;
+  PyErr_SetObject((PyObject *)Py_TYPE(error), error);
+  Py_DECREF(error);
+}
+
+/* Raises what a status says that is neither success nor about a text. */
+static void raise_status(const struct state *state, uint32_t status) {
+  if (status == VIZHONIKU_OUT_OF_MEMORY)
+    PyErr_NoMemory();
+  else if (status == VIZHONIKU_NO_PATH)
+    PyErr_SetObject(state->path_error, state->bad_path);
+  else if (status == VIZHONIKU_NO_KEY)
+    PyErr_SetObject(PyExc_ValueError, state->no_key);
+  else
+    PyErr_Format(PyExc_RuntimeError, "unknown status %u", (unsigned)status);
+}
+
+/* Bytes that are written: in `small`, or in memory of Python's. */
+struct written {
+  unsigned char small[SMALL];
+  unsigned char *at;
+  size_t room, size;
+};
+
+static void begin_written(struct written *written) {
+  written->at = written->small;
+  written->room = SMALL;
+  written->size = 0;
+}
+
+static void free_written(struct written *written) {
+  if (written->at != written->small) PyMem_Free(written->at);
+}
+
+/* Makes room for so many bytes, which needn't be the same as before. Returns 0 where an exception is raised. */
+static int make_room(struct written *written, size_t room) {
+  if (room <= written->room) return 1;
+  free_written(written);
+  written->at = PyMem_Malloc(room);
+  if (written->at) {
+    written->room = room;
+    return 1;
+  }
+  begin_written(written);
+  PyErr_NoMemory();
+  return 0;
+}
+
+static PyObject *str_of(const struct written *written) {
+  return PyUnicode_FromStringAndSize((const char *)written->at, (Py_ssize_t)written->size);
+}
+
+static PyObject *bytes_of(const struct written *written) {
+  return PyBytes_FromStringAndSize((const char *)written->at, (Py_ssize_t)written->size);
+}
+
+/* What a call of the library does with a text. */
+enum what { CHECK, TEXT, SORT_KEY, TEXT_AND_KEY, PART };
+
+/* Calls the library once. */
+static uint32_t call_once(enum what what, uint32_t mode, const struct text *path, const struct text *text,
+                          struct written *written, struct written *key, struct vizhoniku_refusal *refusal) {
+  switch (what) {
+  case CHECK:
+    return vizhoniku_check(mode, text->at, text->size, refusal);
+  case TEXT:
+    return vizhoniku_text(mode, text->at, text->size, written->at, written->room, &written->size, refusal);
+  case SORT_KEY:
+    return vizhoniku_sort_key(mode, text->at, text->size, key->at, key->room, &key->size, refusal);
+  case TEXT_AND_KEY:
+    return vizhoniku_text_and_key(mode, text->at, text->size, written->at, written->room, &written->size, key->at,
+                                  key->room, &key->size, refusal);
+  default:
+    return vizhoniku_part(mode, path->at, path->size, text->at, text->size, written->at, written->room,
+                          &written->size, refusal);
+  }
+}
+
+/* Calls the library until the buffers are long enough, and raises what the status says unless it is success, or
+ * VIZHONIKU_NO_PART, or VIZHONIKU_REFUSED of a call that only checks. Returns the status, or -1 where an exception is
+ * raised. */
+static int64_t call_library(const struct state *state, enum what what, uint32_t mode, const struct text *path,
+                            PyObject *object, const struct text *text, struct written *written, struct written *key,
+                            int tells_refusal) {
+  struct vizhoniku_refusal refusal;
+  uint32_t status;
+  if (what != PART && written && !make_room(written, text->size + 16)) return -1;
+  if (key && !make_room(key, text->size + 64)) return -1;
+  for (;;) {
+    if (text->size >= RELEASED) {
+      Py_BEGIN_ALLOW_THREADS
+      status = call_once(what, mode, path, text, written, key, &refusal);
+      Py_END_ALLOW_THREADS
+    } else {
+      status = call_once(what, mode, path, text, written, key, &refusal);
+    }
+    if (status != VIZHONIKU_TOO_SHORT) break;
+    if (written && !make_room(written, written->size)) return -1;
+    if (key && !make_room(key, key->size)) return -1;
+  }
+  if (status == VIZHONIKU_ACCEPTED || status == VIZHONIKU_NO_PART) return status;
+  if (status == VIZHONIKU_REFUSED) {
+    if (tells_refusal) return status;
+    raise_rejected(state, mode, &refusal, object, text);
+  } else {
+    raise_status(state, status);
+  }
+  return -1;
+}
+
+static const char *const text_and_mode[] = {"text", "mode", NULL};
+
+/* Reads the arguments of a call of a text and perhaps a mode. Returns 0 where an exception is raised. */
+static int read_call(const struct state *state, const char *function, PyObject *const *given, Py_ssize_t count,
+                     PyObject *keywords, PyObject **object, struct text *text, uint32_t *mode) {
+  PyObject *arguments[MOST];
+  if (!sort_arguments(function, text_and_mode, 1, given, count, keywords, arguments)) return 0;
+  *object = arguments[0];
+  return read_mode(state, arguments[1], mode) && read_text(*object, A_TEXT, text);
+}
+
+static PyObject *py_check(PyObject *module, PyObject *const *given, Py_ssize_t count, PyObject *keywords) {
+  const struct state *state = PyModule_GetState(module);
+  PyObject *object;
+  struct text text;
+  uint32_t mode;
+  if (!read_call(state, "check", given, count, keywords, &object, &text, &mode)) return NULL;
+  int64_t status = call_library(state, CHECK, mode, NULL, object, &text, NULL, NULL, 0);
+  free_text(&text);
+  if (status < 0) return NULL;
+  Py_RETURN_NONE;
+}
+
+static PyObject *py_is_valid(PyObject *module, PyObject *const *given, Py_ssize_t count, PyObject *keywords) {
+  const struct state *state = PyModule_GetState(module);
+  PyObject *object;
+  struct text text;
+  uint32_t mode;
+  if (!read_call(state, "is_valid", given, count, keywords, &object, &text, &mode)) return NULL;
+  int64_t status = call_library(state, CHECK, mode, NULL, object, &text, NULL, NULL, 1);
+  free_text(&text);
+  return status < 0 ? NULL : PyBool_FromLong(status == VIZHONIKU_ACCEPTED);
+}
+
+static PyObject *py_text(PyObject *module, PyObject *const *given, Py_ssize_t count, PyObject *keywords) {
+  const struct state *state = PyModule_GetState(module);
+  PyObject *object, *result = NULL;
+  struct text text;
+  struct written written;
+  uint32_t mode;
+  if (!read_call(state, "text", given, count, keywords, &object, &text, &mode)) return NULL;
+  begin_written(&written);
+  if (call_library(state, TEXT, mode, NULL, object, &text, &written, NULL, 0) >= 0) result = str_of(&written);
+  free_written(&written);
+  free_text(&text);
+  return result;
+}
+
+/* The sort key of a text, as bytes. */
+static PyObject *key_of_text(const struct state *state, PyObject *object, uint32_t mode) {
+  PyObject *result = NULL;
+  struct text text;
+  struct written key;
+  if (!read_text(object, A_TEXT, &text)) return NULL;
+  begin_written(&key);
+  if (call_library(state, SORT_KEY, mode, NULL, object, &text, NULL, &key, 0) >= 0) result = bytes_of(&key);
+  free_written(&key);
+  free_text(&text);
+  return result;
+}
+
+static PyObject *py_sort_key(PyObject *module, PyObject *const *given, Py_ssize_t count, PyObject *keywords) {
+  const struct state *state = PyModule_GetState(module);
+  PyObject *arguments[MOST];
+  uint32_t mode;
+  if (!sort_arguments("sort_key", text_and_mode, 1, given, count, keywords, arguments)) return NULL;
+  return read_mode(state, arguments[1], &mode) ? key_of_text(state, arguments[0], mode) : NULL;
+}
+
+static PyObject *py_text_and_key(PyObject *module, PyObject *const *given, Py_ssize_t count, PyObject *keywords) {
+  const struct state *state = PyModule_GetState(module);
+  PyObject *object, *result = NULL;
+  struct text text;
+  struct written written, key;
+  uint32_t mode;
+  if (!read_call(state, "text_and_key", given, count, keywords, &object, &text, &mode)) return NULL;
+  begin_written(&written);
+  begin_written(&key);
+  if (call_library(state, TEXT_AND_KEY, mode, NULL, object, &text, &written, &key, 0) >= 0)
+    result = Py_BuildValue("(NN)", str_of(&written), bytes_of(&key));
+  free_written(&written);
+  free_written(&key);
+  free_text(&text);
+  return result;
+}
+
+static PyObject *py_get(PyObject *module, PyObject *const *given, Py_ssize_t count, PyObject *keywords) {
+  static const char *const names[] = {"text", "path", "mode", NULL};
+  const struct state *state = PyModule_GetState(module);
+  PyObject *arguments[MOST], *result = NULL;
+  struct text text, path;
+  struct written written;
+  uint32_t mode;
+  if (!sort_arguments("get", names, 2, given, count, keywords, arguments)) return NULL;
+  if (!read_mode(state, arguments[2], &mode) || !read_text(arguments[0], A_TEXT, &text)) return NULL;
+  if (read_text(arguments[1], A_TEXT, &path)) {
+    begin_written(&written);
+    int64_t status = call_library(state, PART, mode, &path, arguments[0], &text, &written, NULL, 0);
+    if (status == VIZHONIKU_NO_PART) {
+      result = Py_None;
+      Py_INCREF(result);
+    } else if (status >= 0) {
+      result = str_of(&written);
+    }
+    free_written(&written);
+    free_text(&path);
+  }
+  free_text(&text);
+  return result;
+}
+
+static PyObject *py_compare(PyObject *module, PyObject *const *given, Py_ssize_t count, PyObject *keywords) {
+  static const char *const names[] = {"left", "right", "mode", NULL};
+  const struct state *state = PyModule_GetState(module);
+  PyObject *arguments[MOST], *result = NULL;
+  struct text left, right;
+  struct vizhoniku_refusal refusal;
+  int32_t order;
+  uint32_t mode, status;
+  if (!sort_arguments("compare", names, 2, given, count, keywords, arguments)) return NULL;
+  if (!read_mode(state, arguments[2], &mode) || !read_text(arguments[0], A_TEXT, &left)) return NULL;
+  if (read_text(arguments[1], A_TEXT, &right)) {
+    if (left.size + right.size >= RELEASED) {
+      Py_BEGIN_ALLOW_THREADS
+      status = vizhoniku_compare(mode, left.at, left.size, right.at, right.size, &order, &refusal);
+      Py_END_ALLOW_THREADS
+    } else {
+      status = vizhoniku_compare(mode, left.at, left.size, right.at, right.size, &order, &refusal);
+    }
+    if (status == VIZHONIKU_ACCEPTED)
+      result = PyLong_FromLong(order);
+    else if (status == VIZHONIKU_REFUSED)
+      raise_rejected(state, mode, &refusal, arguments[refusal.which - 1], refusal.which == 1 ? &left : &right);
+    else
+      raise_status(state, status);
+    free_text(&right);
+  }
+  free_text(&left);
+  return result;
+}
+
+/* A document as its sort key. */
+struct key {
+  PyObject_HEAD
+  PyObject *data; /* bytes, which are a sort key */
+};
+
+/* An array or an object that is walked through. */
+struct parts {
+  PyObject_HEAD
+  PyObject *data;
+  struct vizhoniku_key_cursor next;
+  int has_values; /* whether members come with their values */
+};
+
+static const struct state *state_of(PyObject *self) { return PyType_GetModuleState(Py_TYPE(self)); }
+
+/* The bytes of a key. */
+static struct text key_text(PyObject *data) {
+  struct text key = {(const unsigned char *)PyBytes_AsString(data), (size_t)PyBytes_Size(data), NULL};
+  return key;
+}
+
+/* Makes a key of bytes, to which it takes the caller's reference. */
+static PyObject *make_key(const struct state *state, PyObject *data) {
+  if (!data) return NULL;
+  allocfunc allocate = (allocfunc)PyType_GetSlot((PyTypeObject *)state->key_type, Py_tp_alloc);
+  PyObject *self = allocate((PyTypeObject *)state->key_type, 0);
+  if (self)
+    ((struct key *)self)->data = data;
+  else
+    Py_DECREF(data);
+  return self;
+}
+
+static PyObject *make_key_of(const struct state *state, const unsigned char *at, size_t size) {
+  return make_key(state, PyBytes_FromStringAndSize((const char *)at, (Py_ssize_t)size));
+}
+
+static PyObject *key_new(PyTypeObject *type, PyObject *given, PyObject *keywords) {
+  static char *names[] = {"text", "mode", NULL};
+  const struct state *state = PyType_GetModuleState(type);
+  PyObject *object, *mode_object = NULL;
+  uint32_t mode;
+  if (!PyArg_ParseTupleAndKeywords(given, keywords, "O|O:Key", names, &object, &mode_object)) return NULL;
+  return read_mode(state, mode_object, &mode) ? make_key(state, key_of_text(state, object, mode)) : NULL;
+}
+
+/* What holds an object of bytes, and no cycle. */
+static void free_with_data(PyObject *self, PyObject *data) {
+  PyTypeObject *type = Py_TYPE(self);
+  Py_XDECREF(data);
+  ((freefunc)PyType_GetSlot(type, Py_tp_free))(self);
+  Py_DECREF(type);
+}
+
+static void key_free(PyObject *self) { free_with_data(self, ((struct key *)self)->data); }
+
+static void parts_free(PyObject *self) { free_with_data(self, ((struct parts *)self)->data); }
+
+static PyObject *key_from_bytes(PyObject *type, PyObject *object) {
+  const struct state *state = PyType_GetModuleState((PyTypeObject *)type);
+  struct text text = {NULL, 0, NULL};
+  uint32_t status = VIZHONIKU_NO_KEY;
+  if (PyUnicode_Check(object)) {
+    raise_type(A_KEY, object);
+    return NULL;
+  }
+  if (!read_text(object, A_KEY, &text)) return NULL;
+  if (text.size >= RELEASED) {
+    Py_BEGIN_ALLOW_THREADS
+    status = vizhoniku_key_check(text.at, text.size);
+    Py_END_ALLOW_THREADS
+  } else {
+    status = vizhoniku_key_check(text.at, text.size);
+  }
+  if (status == VIZHONIKU_ACCEPTED) return make_key(state, text.holder);
+  free_text(&text);
+  raise_status(state, status);
+  return NULL;
+}
+
+static PyObject *key_bytes(PyObject *self, PyObject *none) {
+  (void)none;
+  Py_INCREF(((struct key *)self)->data);
+  return ((struct key *)self)->data;
+}
+
+static PyObject *key_reduce(PyObject *self, PyObject *none) {
+  (void)none;
+  PyObject *from_bytes = PyObject_GetAttrString((PyObject *)Py_TYPE(self), "from_bytes");
+  return from_bytes ? Py_BuildValue("N(O)", from_bytes, ((struct key *)self)->data) : NULL;
+}
+
+static uint32_t kind_of(PyObject *self) {
+  struct text key = key_text(((struct key *)self)->data);
+  return vizhoniku_key_kind(key.at, key.size);
+}
+
+static PyObject *key_kind(PyObject *self, void *unused) {
+  (void)unused;
+  PyObject *kind = state_of(self)->kinds[kind_of(self)];
+  Py_INCREF(kind);
+  return kind;
+}
+
+static PyObject *key_py_text(PyObject *self, PyObject *none) {
+  struct text key = key_text(((struct key *)self)->data);
+  struct written written;
+  PyObject *result = NULL;
+  uint32_t status;
+  (void)none;
+  begin_written(&written);
+  if (!make_room(&written, key.size + 64)) return NULL;
+  for (;;) {
+    if (key.size >= RELEASED) {
+      Py_BEGIN_ALLOW_THREADS
+      status = vizhoniku_key_text(key.at, key.size, written.at, written.room, &written.size);
+      Py_END_ALLOW_THREADS
+    } else {
+      status = vizhoniku_key_text(key.at, key.size, written.at, written.room, &written.size);
+    }
+    if (status != VIZHONIKU_TOO_SHORT) break;
+    if (!make_room(&written, written.size)) return NULL;
+  }
+  if (status == VIZHONIKU_ACCEPTED)
+    result = str_of(&written);
+  else
+    raise_status(state_of(self), status);
+  free_written(&written);
+  return result;
+}
+
+/* The part that a call found, or None. */
+static PyObject *found(const struct state *state, struct text key, uint32_t status, size_t offset, size_t size) {
+  if (status == VIZHONIKU_ACCEPTED) return make_key_of(state, key.at + offset, size);
+  if (status == VIZHONIKU_NO_PART) Py_RETURN_NONE;
+  raise_status(state, status);
+  return NULL;
+}
+
+static PyObject *key_get(PyObject *self, PyObject *object) {
+  struct text key = key_text(((struct key *)self)->data), path;
+  size_t offset = 0, size = 0;
+  if (!read_text(object, A_TEXT, &path)) return NULL;
+  uint32_t status = vizhoniku_key_part(key.at, key.size, path.at, path.size, &offset, &size);
+  free_text(&path);
+  return found(state_of(self), key, status, offset, size);
+}
+
+/* Raises TypeError unless the key's kind is one of two. Returns the kind, or 0 where an exception is raised. */
+static uint32_t need_kind(PyObject *self, uint32_t one, uint32_t other) {
+  const struct state *state = state_of(self);
+  uint32_t kind = kind_of(self);
+  if (kind == one || kind == other) return kind;
+  if (one == other)
+    PyErr_Format(PyExc_TypeError, "%U is no %U", state->kinds[kind], state->kinds[one]);
+  else
+    PyErr_Format(PyExc_TypeError, "%U is no %U and no %U", state->kinds[kind], state->kinds[one], state->kinds[other]);
+  return VIZHONIKU_NO_KIND;
+}
+
+/* The member of a name, or None. */
+static PyObject *member_of(PyObject *self, PyObject *object) {
+  struct text key = key_text(((struct key *)self)->data), name;
+  size_t offset = 0, size = 0;
+  if (!read_text(object, A_TEXT, &name)) return NULL;
+  uint32_t status = vizhoniku_key_member(key.at, key.size, name.at, name.size, &offset, &size);
+  free_text(&name);
+  return found(state_of(self), key, status, offset, size);
+}
+
+/* The item of an index, or None. */
+static PyObject *item_of(PyObject *self, PyObject *object) {
+  struct text key = key_text(((struct key *)self)->data);
+  size_t offset = 0, size = 0;
+  long long index = PyLong_AsLongLong(object);
+  if (index == -1 && PyErr_Occurred()) {
+    if (!PyErr_ExceptionMatches(PyExc_OverflowError)) return NULL;
+    PyErr_Clear();
+    Py_RETURN_NONE;
+  }
+  uint32_t status = vizhoniku_key_item(key.at, key.size, index, &offset, &size);
+  return found(state_of(self), key, status, offset, size);
+}
+
+static PyObject *key_subscript(PyObject *self, PyObject *which) {
+  PyObject *part;
+  int is_name = PyUnicode_Check(which);
+  uint32_t wanted = is_name ? VIZHONIKU_OBJECT : VIZHONIKU_ARRAY;
+  if (!is_name && !PyLong_Check(which)) {
+    raise_type("a name is a str and an index an int, and not %U", which);
+    return NULL;
+  }
+  if (!need_kind(self, wanted, wanted)) return NULL;
+  part = is_name ? member_of(self, which) : item_of(self, which);
+  if (part != Py_None) return part;
+  Py_DECREF(part);
+  if (is_name)
+    PyErr_SetObject(PyExc_KeyError, which);
+  else
+    PyErr_SetString(PyExc_IndexError, "the array has no such item");
+  return NULL;
+}
+
+static Py_ssize_t key_length(PyObject *self) {
+  struct text key = key_text(((struct key *)self)->data);
+  size_t count;
+  if (!need_kind(self, VIZHONIKU_ARRAY, VIZHONIKU_OBJECT)) return -1;
+  uint32_t status = vizhoniku_key_count(key.at, key.size, &count);
+  if (status == VIZHONIKU_ACCEPTED) return (Py_ssize_t)count;
+  raise_status(state_of(self), status);
+  return -1;
+}
+
+static int key_truth(PyObject *self) {
+  (void)self;
+  return 1;
+}
+
+static int key_contains(PyObject *self, PyObject *part) {
+  const struct state *state = state_of(self);
+  struct text key = key_text(((struct key *)self)->data);
+  struct vizhoniku_key_cursor cursor;
+  struct vizhoniku_key_entry entry;
+  uint32_t kind = need_kind(self, VIZHONIKU_ARRAY, VIZHONIKU_OBJECT);
+  if (!kind) return -1;
+  if (kind == VIZHONIKU_OBJECT) {
+    if (!PyUnicode_Check(part)) {
+      raise_type("a name is a str, and not %U", part);
+      return -1;
+    }
+    PyObject *member = member_of(self, part);
+    if (!member) return -1;
+    int is_there = member != Py_None;
+    Py_DECREF(member);
+    return is_there;
+  }
+  if (Py_TYPE(part) != (PyTypeObject *)state->key_type) {
+    raise_type("an item is a Key, and not %U", part);
+    return -1;
+  }
+  struct text wanted = key_text(((struct key *)part)->data);
+  uint32_t status = vizhoniku_key_begin(key.at, key.size, &cursor);
+  while (status == VIZHONIKU_ACCEPTED) {
+    status = vizhoniku_key_next(key.at, key.size, &cursor, &entry);
+    if (status == VIZHONIKU_ACCEPTED && entry.size == wanted.size &&
+        !memcmp(key.at + entry.offset, wanted.at, wanted.size))
+      return 1;
+  }
+  if (status == VIZHONIKU_NO_PART) return 0;
+  raise_status(state, status);
+  return -1;
+}
+
+static PyObject *key_compare(PyObject *self, PyObject *other, int operator) {
+  if (Py_TYPE(other) != Py_TYPE(self)) Py_RETURN_NOTIMPLEMENTED;
+  return PyObject_RichCompare(((struct key *)self)->data, ((struct key *)other)->data, operator);
+}
+
+static Py_hash_t key_hash(PyObject *self) { return PyObject_Hash(((struct key *)self)->data); }
+
+static PyObject *key_repr(PyObject *self) {
+  PyObject *text = key_py_text(self, NULL);
+  if (!text) return NULL;
+  PyObject *result = PyUnicode_FromFormat("Key(%R)", text);
+  Py_DECREF(text);
+  return result;
+}
+
+static PyObject *make_parts(PyObject *self, int has_values) {
+  const struct state *state = state_of(self);
+  struct text key = key_text(((struct key *)self)->data);
+  struct vizhoniku_key_cursor next;
+  uint32_t status = vizhoniku_key_begin(key.at, key.size, &next);
+  if (status != VIZHONIKU_ACCEPTED) {
+    raise_status(state, status);
+    return NULL;
+  }
+  allocfunc allocate = (allocfunc)PyType_GetSlot((PyTypeObject *)state->parts_type, Py_tp_alloc);
+  struct parts *parts = (struct parts *)allocate((PyTypeObject *)state->parts_type, 0);
+  if (!parts) return NULL;
+  Py_INCREF(((struct key *)self)->data);
+  parts->data = ((struct key *)self)->data;
+  parts->next = next;
+  parts->has_values = has_values;
+  return (PyObject *)parts;
+}
+
+static PyObject *key_iterate(PyObject *self) {
+  return need_kind(self, VIZHONIKU_ARRAY, VIZHONIKU_OBJECT) ? make_parts(self, 0) : NULL;
+}
+
+static PyObject *key_items(PyObject *self, PyObject *none) {
+  (void)none;
+  return need_kind(self, VIZHONIKU_OBJECT, VIZHONIKU_OBJECT) ? make_parts(self, 1) : NULL;
+}
+
+static PyObject *parts_iterate(PyObject *self) {
+  Py_INCREF(self);
+  return self;
+}
+
+static PyObject *name_of(const struct state *state, const unsigned char *at, size_t size) {
+  struct written name;
+  PyObject *result = NULL;
+  begin_written(&name);
+  if (!make_room(&name, size)) return NULL;
+  uint32_t status = vizhoniku_key_name(at, size, name.at, name.room, &name.size);
+  if (status == VIZHONIKU_ACCEPTED)
+    result = str_of(&name);
+  else
+    raise_status(state, status);
+  free_written(&name);
+  return result;
+}
+
+static PyObject *parts_next(PyObject *self) {
+  const struct state *state = state_of(self);
+  struct parts *parts = (struct parts *)self;
+  struct text key = key_text(parts->data);
+  struct vizhoniku_key_entry entry;
+  uint32_t status = vizhoniku_key_next(key.at, key.size, &parts->next, &entry);
+  if (status == VIZHONIKU_NO_PART) return NULL;
+  if (status != VIZHONIKU_ACCEPTED) {
+    raise_status(state, status);
+    return NULL;
+  }
+  if (!entry.name_size) return make_key_of(state, key.at + entry.offset, entry.size);
+  PyObject *name = name_of(state, key.at + entry.name_offset, entry.name_size);
+  if (!name || !parts->has_values) return name;
+  PyObject *value = make_key_of(state, key.at + entry.offset, entry.size);
+  if (value) return Py_BuildValue("(NN)", name, value);
+  Py_DECREF(name);
+  return NULL;
+}
+
+static PyMethodDef key_methods[] = {
+    {"from_bytes", key_from_bytes, METH_O | METH_CLASS,
+     "The key that bytes(key) was. Raises ValueError where the bytes aren't a sort key."},
+    {"__bytes__", key_bytes, METH_NOARGS, NULL},
+    {"__reduce__", key_reduce, METH_NOARGS, NULL},
+    {"text", key_py_text, METH_NOARGS, "The text of the value, with the fewest digits in each number."},
+    {"get", key_get, METH_O,
+     "The part at the path, as RFC 6901 spells it, or None. Raises PathError where the path isn't spelled so."},
+    {"items", key_items, METH_NOARGS, "The members of an object, in the order of their names' bytes."},
+    {NULL, NULL, 0, NULL},
+};
+
+static PyGetSetDef key_properties[] = {
+    {"kind", key_kind, NULL, "null, boolean, number, string, array or object.", NULL},
+    {NULL, NULL, NULL, NULL, NULL},
+};
+
+/* ISO C has no pointer to void for a function; Python's slots ask for it, as POSIX does. */
+#define SLOT(call) ((void *)(uintptr_t)(call))
+
+static PyType_Slot key_slots[] = {
+    {Py_tp_doc, "A document as its sort key: bytes that compare as the values do. Its parts are found in them.\n\n"
+                "Keys are compared and hashed by their bytes, so by value. An array is iterated over its items, which\n"
+                "are keys, and an object over the names of its members, which are str; len counts either. A key is\n"
+                "always true."},
+    {Py_tp_new, SLOT(key_new)},
+    {Py_tp_dealloc, SLOT(key_free)},
+    {Py_tp_methods, key_methods},
+    {Py_tp_getset, key_properties},
+    {Py_tp_richcompare, SLOT(key_compare)},
+    {Py_tp_hash, SLOT(key_hash)},
+    {Py_tp_repr, SLOT(key_repr)},
+    {Py_tp_iter, SLOT(key_iterate)},
+    {Py_mp_subscript, SLOT(key_subscript)},
+    {Py_mp_length, SLOT(key_length)},
+    {Py_sq_contains, SLOT(key_contains)},
+    {Py_nb_bool, SLOT(key_truth)},
+    {0, NULL},
+};
+
+static PyType_Spec key_spec = {"vizhoniku.Key", sizeof(struct key), 0,
+                               Py_TPFLAGS_DEFAULT | Py_TPFLAGS_IMMUTABLETYPE, key_slots};
+
+static PyType_Slot parts_slots[] = {
+    {Py_tp_dealloc, SLOT(parts_free)},
+    {Py_tp_iter, SLOT(parts_iterate)},
+    {Py_tp_iternext, SLOT(parts_next)},
+    {0, NULL},
+};
+
+static PyType_Spec parts_spec = {"vizhoniku._native.Parts", sizeof(struct parts), 0,
+                                 Py_TPFLAGS_DEFAULT | Py_TPFLAGS_DISALLOW_INSTANTIATION | Py_TPFLAGS_IMMUTABLETYPE,
+                                 parts_slots};
+
+#define CALL(call) ((PyCFunction)(void (*)(void))(call))
+
+static PyMethodDef functions[] = {
+    {"check", CALL(py_check), METH_FASTCALL | METH_KEYWORDS, "Raises RejectedText where the text is no document."},
+    {"is_valid", CALL(py_is_valid), METH_FASTCALL | METH_KEYWORDS, "Whether the text is a document."},
+    {"text", CALL(py_text), METH_FASTCALL | METH_KEYWORDS,
+     "The text of the document's value: no whitespace, and members in the order of their keys' bytes."},
+    {"sort_key", CALL(py_sort_key), METH_FASTCALL | METH_KEYWORDS,
+     "Bytes that compare as the values of documents do: equal for equal values, and none the beginning of others."},
+    {"text_and_key", CALL(py_text_and_key), METH_FASTCALL | METH_KEYWORDS,
+     "What text and sort_key return, of one reading."},
+    {"get", CALL(py_get), METH_FASTCALL | METH_KEYWORDS,
+     "The text of the part at the path, as RFC 6901 spells it, or None where nothing stands there."},
+    {"compare", CALL(py_compare), METH_FASTCALL | METH_KEYWORDS,
+     "-1, 0 or 1: the first document's value is below the second's, equal to it, or above it."},
+    {NULL, NULL, 0, NULL},
+};
+
+/* Takes what the module needs from its package. */
+static int fill_state(PyObject *module, struct state *state) {
+  static const char *const kinds[] = {"", "null", "boolean", "number", "string", "array", "object"};
+  PyObject *common = PyImport_ImportModule("vizhoniku._common");
+  if (!common) return -1;
+  state->mode = PyObject_GetAttrString(common, "Mode");
+  state->standard = PyObject_GetAttrString(common, "STANDARD");
+  state->extended = PyObject_GetAttrString(common, "EXTENDED");
+  state->path_error = PyObject_GetAttrString(common, "PathError");
+  state->rejection = PyObject_GetAttrString(common, "rejection");
+  state->bad_path = PyObject_GetAttrString(common, "BAD_PATH");
+  state->no_key = PyObject_GetAttrString(common, "NO_KEY");
+  Py_DECREF(common);
+  for (size_t i = 0; i < sizeof kinds / sizeof *kinds; i++) {
+    if (!(state->kinds[i] = PyUnicode_InternFromString(kinds[i]))) return -1;
+  }
+  if (PyErr_Occurred()) return -1;
+  state->key_type = PyType_FromModuleAndSpec(module, &key_spec, NULL);
+  state->parts_type = PyType_FromModuleAndSpec(module, &parts_spec, NULL);
+  if (!state->key_type || !state->parts_type) return -1;
+  return PyModule_AddObjectRef(module, "Key", state->key_type);
+}
+
+static int execute(PyObject *module) {
+  if (vizhoniku_version() < VIZHONIKU_VERSION) {
+    PyErr_Format(PyExc_ImportError, "libvizhoniku has interface version %u, and %u is needed",
+                 (unsigned)vizhoniku_version(), (unsigned)VIZHONIKU_VERSION);
+    return -1;
+  }
+  return fill_state(module, PyModule_GetState(module));
+}
+
+static int traverse(PyObject *module, visitproc visit, void *arg) {
+  struct state *state = PyModule_GetState(module);
+  Py_VISIT(state->mode);
+  Py_VISIT(state->standard);
+  Py_VISIT(state->extended);
+  Py_VISIT(state->path_error);
+  Py_VISIT(state->rejection);
+  Py_VISIT(state->key_type);
+  Py_VISIT(state->parts_type);
+  return 0;
+}
+
+static int clear(PyObject *module) {
+  struct state *state = PyModule_GetState(module);
+  Py_CLEAR(state->mode);
+  Py_CLEAR(state->standard);
+  Py_CLEAR(state->extended);
+  Py_CLEAR(state->path_error);
+  Py_CLEAR(state->rejection);
+  Py_CLEAR(state->bad_path);
+  Py_CLEAR(state->no_key);
+  Py_CLEAR(state->key_type);
+  Py_CLEAR(state->parts_type);
+  for (size_t i = 0; i < sizeof state->kinds / sizeof *state->kinds; i++) Py_CLEAR(state->kinds[i]);
+  return 0;
+}
+
+static void free_module(void *module) { clear(module); }
+
+static PyModuleDef_Slot slots[] = {{Py_mod_exec, SLOT(execute)}, {0, NULL}};
+
+static struct PyModuleDef definition = {
+    PyModuleDef_HEAD_INIT,
+    .m_name = "vizhoniku._native",
+    .m_doc = "The calls of the library by a module in C.",
+    .m_size = sizeof(struct state),
+    .m_methods = functions,
+    .m_slots = slots,
+    .m_traverse = traverse,
+    .m_clear = clear,
+    .m_free = free_module,
+};
+
+PyMODINIT_FUNC PyInit__native(void);
+
+PyMODINIT_FUNC PyInit__native(void) { return PyModuleDef_Init(&definition); }
