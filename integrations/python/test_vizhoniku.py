@@ -442,7 +442,8 @@ class Both(unittest.TestCase):
 
     def test_which_is_tried(self) -> None:
         self.assertEqual(v.NATIVE, PACKAGES != HERE)
-        self.assertEqual(v.Key.__module__, "vizhoniku" if v.NATIVE else "vizhoniku._by_ctypes")
+        self.assertEqual(inspect.isbuiltin(v.check), v.NATIVE)
+        self.assertEqual(v.Key.__module__, "vizhoniku")
 
     def test_names_of_arguments(self) -> None:
         self.assertEqual(v.text(text="1", mode=v.STANDARD), "1")

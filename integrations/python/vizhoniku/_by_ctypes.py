@@ -238,6 +238,7 @@ class Key:
     an object over the names of its members, which are str; len counts either. A key is always true.
     """
 
+    __module__ = "vizhoniku"  # for pickles, which either way to call the library takes
     __slots__ = ("_data",)
     _data: bytes
 
