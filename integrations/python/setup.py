@@ -1,7 +1,11 @@
-"""Builds the module in C where pkg-config finds the library, which is linked in. Else the package goes by ctypes."""
+"""Builds the module in C where pkg-config finds the library, which is linked in, for Python 3.10 and all that follow.
+
+Else the package goes by ctypes.
+"""
 
 import os
 import subprocess
+import sys
 from typing import Any, Dict
 
 from setuptools import Extension, setup
@@ -19,7 +23,7 @@ def told(variable: str) -> str:
 
 def options() -> Dict[str, Any]:
     library = os.path.join(told("libdir"), "libvizhoniku.a")
-    if not os.path.isabs(library) or not os.path.exists(library):
+    if sys.version_info < (3, 10) or not os.path.isabs(library) or not os.path.exists(library):
         return {}
     module = Extension("vizhoniku._native", ["vizhoniku/_native.c"], include_dirs=[told("includedir")],
                        define_macros=[("Py_LIMITED_API", "0x030A0000")], py_limited_api=True, extra_objects=[library],
