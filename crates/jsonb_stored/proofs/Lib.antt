@@ -5,6 +5,7 @@ pub mod ByFirstByte
 pub mod Opens
 pub mod Names
 pub mod Finds
+pub mod FirstZeros
 pub mod Standing
 pub mod Strings
 pub mod CheckedTexts

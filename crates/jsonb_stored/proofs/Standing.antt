@@ -117,6 +117,13 @@ all_counted o of_object count rest more tail l over = elim (over_or_here o of_ob
   | inr n ↦ absurd (no_end of_object n.name n.value 512 n.readable rest tail (open_key n.others ++ more) over n.stands)
 ]
 
+-- where an end was read, all parts are behind it
+pub end_here : (o : Open) (of_object : Bool) (count : ℕ) (rest more others : List ℕ) → PartsLeft o of_object count rest more → rest ≡ end_key of_object ++ others → ((tail : List ℕ) → rest ≡ end_key of_object ++ tail → Some others ≡ Some tail) → others ≡ more
+end_here o of_object count rest more others l read found = elim (over_or_here o of_object count rest more l) [
+  | inl x ↦ some_same others more (found more x.0)
+  | inr n ↦ absurd (no_end of_object n.name n.value 512 n.readable rest others (open_key n.others ++ more) read n.stands)
+]
+
 pub part_here : (o : Open) (of_object : Bool) (count : ℕ) (rest more : List ℕ) → PartsLeft o of_object count rest more → ((tail : List ℕ) → rest ≡ end_key of_object ++ tail → ⊥) → PartHere o of_object count rest more
 part_here o of_object count rest more l not_over = elim (over_or_here o of_object count rest more l) [
   | inl x ↦ absurd (not_over more x.0)

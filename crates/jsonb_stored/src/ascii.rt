@@ -2,10 +2,39 @@
 
 ghost use Rattle.std.specs.Prelude.{◌≡◌, ◌≢◌, ◌<◌, ◌≤◌, ◌↔◌, ◌==◌, ℕ, List, length, get_or, if◌then◌else◌, MatchOption, IsTrue, IsUtf8};
 ghost use Rattle.std.specs.Int.{trailing_zeros, w64};
+ghost use Rattle.memchr.specs.Find.{IsFirstByte, is_byte};
 ghost use Rattle.jsonb_stored.specs.Frames.{ArePlain, TextFirst, Utf8UpTo};
 
 use memchr::memchr;
 use std::simd::prelude::*;
+
+/// The index of the first zero. Most texts are short and ASCII, so 16 bytes are looked at before `memchr` is called.
+#[inline(always)]
+pub(crate) fn first_zero(bytes: &[u8]) -> Option<usize>
+    ensures { IsFirstByte (is_byte 0) bytes.now result }
+{
+    let run = if bytes.len() < 16 {
+        run_by_bytes(bytes)
+    } else {
+        run_of_sixteen(bytes)
+    };
+    if run < bytes.len() && bytes[run] == 0 {
+        return Some(run);
+    }
+    zero_behind(bytes, run)
+}
+
+// The index of the first zero, which isn't among the first `run` bytes.
+#[inline(never)]
+fn zero_behind(bytes: &[u8], run: usize) -> Option<usize>
+    requires within { run ≤ length bytes.now }
+    requires plain { ArePlain bytes.now run }
+    ensures { IsFirstByte (is_byte 0) bytes.now result }
+{
+    let (_, rest) = bytes.split_at(run);
+    let zero = memchr(0, rest)?;
+    Some(run + zero)
+}
 
 // How many bytes stand before the first zero, if they are UTF-8.
 #[inline(always)]

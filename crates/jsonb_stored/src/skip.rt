@@ -7,9 +7,9 @@ ghost use Rattle.jsonb_value.specs.Proper.{IsProperNumber};
 ghost use Rattle.jsonb_value.specs.SortKey.{key_of, number_key, digits_key, text_key, turned};
 ghost use Rattle.jsonb_value.specs.Tree.{Tree, Num};
 
+use crate::ascii::first_zero;
 use jsonb_key::number::{read_place, turned};
 use jsonb_key::text::skip_pair;
-use memchr::memchr;
 
 /// How many arrays and objects may be open at once.
 pub const MAX_DEPTH: usize = 512;
@@ -70,7 +70,7 @@ pub fn after_text(bytes: &[u8]) -> Option<&[u8]>
     ensures shorter { IfSome result (λ rest. length rest.now < length bytes.now) }
 {
     let mut rest = bytes;
-    'zeros: while let Some(zero) = memchr(0, rest) {
+    'zeros: while let Some(zero) = first_zero(rest) {
         let (_, end) = rest.split_at(zero + 1);
         let (mark, others) = end.split_first()?;
         if *mark == 1 {
@@ -142,9 +142,30 @@ pub fn after_name(object: bool, bytes: &[u8]) -> Option<&[u8]>
     }
 }
 
+// The bytes after the parts of an object or an array, and after its end. Most have scalars alone, for which nothing is
+// kept of what is open.
+fn after_parts(object: bool, bytes: &[u8]) -> Option<&[u8]>
+    ensures found { (o : Open) → is_object o ≡ object → IsOpen o 511 → (more : List ℕ)
+        → bytes.now ≡ open_key o ++ more → option_map (λ rest. rest.now) result ≡ Some more }
+    ensures shorter { IfSome result (λ rest. length rest.now < length bytes.now) }
+{
+    let mut rest = bytes;
+    'scalars: loop {
+        if let Some(others) = after_end(object, rest) {
+            return Some(others);
+        }
+        let value = after_name(object, rest)?;
+        let (first, _) = value.split_first()?;
+        match opening(*first) {
+            Some(_) => return after_open(object, rest),
+            None => rest = after_scalar(value)?,
+        }
+    }
+}
+
 // The bytes after the parts of an object or an array, and after its end. Which of the open ones are objects stands in
 // an array, outermost first.
-fn after_parts(object: bool, bytes: &[u8]) -> Option<&[u8]>
+fn after_open(object: bool, bytes: &[u8]) -> Option<&[u8]>
     ensures found { (o : Open) → is_object o ≡ object → IsOpen o 511 → (more : List ℕ)
         → bytes.now ≡ open_key o ++ more → option_map (λ rest. rest.now) result ≡ Some more }
     ensures shorter { IfSome result (λ rest. length rest.now < length bytes.now) }

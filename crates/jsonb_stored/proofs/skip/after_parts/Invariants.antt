@@ -1,15 +1,9 @@
-use Rattle.std.proofs.Common.{◌≡◌, ◌≤◌, ◌⊎◌, ◌<◌, length}
-use Rattle.jsonb_stored.proofs.Opens.{SkipsParts}
+use Rattle.std.proofs.Common.{ℕ, ◌≤◌, length}
+use Rattle.jsonb_stored.proofs.Standing.{CountsParts}
 use Rattle.jsonb_stored.proofs.skip.after_parts.Given as goal
 
-abbrev pub invariant-parts : goal.invariant-parts
-invariant-parts l = record {
-  skips : SkipsParts l.object l.bytes l.objects l.depth l.rest;
-  within : length l.rest ≤ length l.bytes;
-  shorter : (0 < l.depth) ⊎ (length l.rest < length l.bytes);
-  deep : l.depth ≤ 512;
-  size : length l.objects ≡ 512;
-}
+abbrev pub invariant-scalars : goal.invariant-scalars
+invariant-scalars l = record { passed : (n : ℕ) × CountsParts l.object l.bytes n l.rest; within : length l.rest ≤ length l.bytes }
 
-abbrev pub decreases-parts : goal.decreases-parts
-decreases-parts l = length l.rest
+abbrev pub decreases-scalars : goal.decreases-scalars
+decreases-scalars l = length l.rest
