@@ -18,3 +18,8 @@ pub mod CheckedKeys
 pub mod CheckedParts
 pub mod PlainBytes
 pub mod ShortNumbers
+pub mod Holding
+pub mod Naming
+pub mod Walked
+pub mod Beside
+pub mod Turns

@@ -68,7 +68,7 @@ over_or_first (items (more_trees t ts)) h = inr (record { name = []; value = t; 
 over_or_first (members no_members) h = inl (refl, refl)
 over_or_first (members (more_members k t ms)) h = inr (record { name = k; value = t; readable = readable_inside t (record { proper = h.0.1; within = h.1.0 }); others = members ms; same = refl; fits = (h.0.2, h.1.1); is = refl; longer = refl })
 
-regroup : (name value others more : List ℕ) → (name ++ (value ++ others)) ++ more ≡ name ++ (value ++ (others ++ more))
+pub regroup : (name value others more : List ℕ) → (name ++ (value ++ others)) ++ more ≡ name ++ (value ++ (others ++ more))
 regroup name value others more = simp append_assoc
 
 -- what is left behind so many parts
@@ -186,7 +186,7 @@ names_begun name bytes = λ text more e. record { tail = text; same = refl; stan
 pub equal_names : (name text : List ℕ) → bytes_eq name text ≡ is_eq (bytes_cmp name text)
 equal_names name text = sym (is_eq-slice_cmp name text)
 
-below_all : (k l : List ℕ) (ms : Members) → slice_cmp nat_cmp k l ≡ Less → IsBelowKeys l ms → find_member (bytes_eq k) ms ≡ None
+pub below_all : (k l : List ℕ) (ms : Members) → slice_cmp nat_cmp k l ≡ Less → IsBelowKeys l ms → find_member (bytes_eq k) ms ≡ None
 below_all k l no_members h below = refl
 below_all k l (more_members m u ms) h below =
     let less : bytes_cmp k m ≡ Less = nat_list_cmp_total.trans k l m h below.0 in

@@ -4,6 +4,7 @@
 mod ascii;
 pub mod check;
 pub mod checked;
+mod containment;
 mod digits;
 pub mod find;
 pub mod part;
@@ -13,6 +14,7 @@ pub mod walk;
 
 pub use check::is_sort_key;
 pub use checked::{Items, Key, Members};
+pub use containment::contains;
 pub use find::{
     NoKey, count_parts, find_item, find_member, find_part, next_part, opened, range_of,
 };

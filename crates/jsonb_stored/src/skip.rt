@@ -144,7 +144,7 @@ pub fn after_name(object: bool, bytes: &[u8]) -> Option<&[u8]>
 
 // The bytes after the parts of an object or an array, and after its end. Most have scalars alone, for which nothing is
 // kept of what is open.
-fn after_parts(object: bool, bytes: &[u8]) -> Option<&[u8]>
+pub(crate) fn after_parts(object: bool, bytes: &[u8]) -> Option<&[u8]>
     ensures found { (o : Open) → is_object o ≡ object → IsOpen o 511 → (more : List ℕ)
         → bytes.now ≡ open_key o ++ more → option_map (λ rest. rest.now) result ≡ Some more }
     ensures shorter { IfSome result (λ rest. length rest.now < length bytes.now) }

@@ -1,0 +1,328 @@
+-- One turn of each loop over two keys that are walked side by side.
+use Rattle.std.proofs.Common.{◌≡◌, ◌≢◌, ℕ, zero, suc, ◌≤◌, ◌⊎◌, inl, inr, Bool, true, false, ◌&&◌, List, [], ◌∷◌, ◌++◌, None, Result, Ok, Err, length, refl, sym, ap, subst, ◌∙◌, arith, append_assoc}
+use Rattle.std.specs.Option.{option_map_or}
+use Rattle.std.specs.Str.{bytes_eq}
+use Rattle.jsonb_key.specs.Readable.{IsReadableAt}
+use Rattle.jsonb_stored.specs.declared.containment.Walk.{Walk}
+use Rattle.jsonb_stored.specs.declared.find.NoKey.{NoKey}
+use Rattle.jsonb_stored.specs.Containment.{any_item, contains, holds, holds_items, holds_members}
+use Rattle.jsonb_stored.specs.Open.{Open, items, members, is_object, end_key, IsScalar, opening_byte}
+use Rattle.jsonb_stored.specs.Parts.{opened_tree}
+use Rattle.jsonb_stored.specs.SideBySide.{AreReadableAt, HaveReadableAt, EndsWith, IsLeft, Stands, StandsInside, Told, MemberFound, FindsMember}
+use Rattle.jsonb_stored.proofs.Beside.{ItemsAhead}
+use Rattle.jsonb_stored.proofs.Opens.{no_end}
+use Rattle.jsonb_stored.proofs.Scalars.{scalar_begins}
+use Rattle.jsonb_stored.proofs.Standing.{regroup, true_false}
+use Rattle.jsonb_stored.proofs.Walked.{passed}
+use Rattle.jsonb_value.specs.Accessors.{find_member}
+use Rattle.jsonb_value.specs.Keys.{IsBelowKeys}
+use Rattle.jsonb_value.specs.SortKey.{key_of, items_key, members_key, text_key}
+use Rattle.jsonb_value.specs.Tree.{Tree, array, object, Trees, no_trees, more_trees, Members, no_members, more_members}
+use Rattle.jsonb_value.proofs.Trees.Runs.{heads, tails}
+
+-- ---- an array or an object, by its first byte
+
+pub record ObjectThere (depth : ℕ) (t : Tree) (rest more : List ℕ) : Type 0 where
+  pub ms : Members
+  pub is : t ≡ object ms
+  pub inner : ℕ
+  pub deeper : depth ≡ suc inner
+  pub have_readable : HaveReadableAt inner ms
+  pub stands : rest ≡ members_key ms ++ more
+
+pub record ArrayThere (depth : ℕ) (t : Tree) (rest more : List ℕ) : Type 0 where
+  pub ts : Trees
+  pub is : t ≡ array ts
+  pub inner : ℕ
+  pub deeper : depth ≡ suc inner
+  pub are_readable : AreReadableAt inner ts
+  pub stands : rest ≡ items_key ts ++ more
+
+pub object_in : (depth : ℕ) (t : Tree) → IsReadableAt depth t → (first : ℕ) (rest bytes more : List ℕ) → bytes ≡ first ∷ rest → bytes ≡ key_of t ++ more → first ≡ 0xD1 → ObjectThere depth t rest more
+object_in zero (object ms) r first rest bytes more e stands is = absurd r.within
+object_in (suc inner) (object ms) r first rest bytes more e stands is = record {
+  ms = ms;
+  is = refl;
+  inner = inner;
+  deeper = refl;
+  have_readable = record { ascend = r.proper.0; proper = r.proper.1; within = r.within };
+  stands = tails first 0xD1 rest (members_key ms ++ more) (sym e ∙ stands);
+}
+object_in depth (array ts) r first rest bytes more e stands is = absurd (omega (arith, is, heads first 0xD2 rest (items_key ts ++ more) (sym e ∙ stands)))
+object_in depth t r first rest bytes more e stands is = absurd ((scalar_begins depth t r tt first rest bytes more e stands).0 is)
+
+pub array_in : (depth : ℕ) (t : Tree) → IsReadableAt depth t → (first : ℕ) (rest bytes more : List ℕ) → bytes ≡ first ∷ rest → bytes ≡ key_of t ++ more → first ≡ 0xD2 → ArrayThere depth t rest more
+array_in zero (array ts) r first rest bytes more e stands is = absurd r.within
+array_in (suc inner) (array ts) r first rest bytes more e stands is = record {
+  ts = ts;
+  is = refl;
+  inner = inner;
+  deeper = refl;
+  are_readable = record { proper = r.proper; within = r.within };
+  stands = tails first 0xD2 rest (items_key ts ++ more) (sym e ∙ stands);
+}
+array_in depth (object ms) r first rest bytes more e stands is = absurd (omega (arith, is, heads first 0xD1 rest (members_key ms ++ more) (sym e ∙ stands)))
+array_in depth t r first rest bytes more e stands is = absurd ((scalar_begins depth t r tt first rest bytes more e stands).1 is)
+
+-- a value whose key begins with another byte doesn't hold an object or an array
+pub unlike : (depth : ℕ) (t : Tree) (o : Open) → IsReadableAt depth t → (first other : ℕ) (rest bytes more : List ℕ) → bytes ≡ first ∷ rest → bytes ≡ key_of t ++ more → other ≡ opening_byte (is_object o) → first ≢ other → holds t (opened_tree o) ≡ false
+unlike depth (object ms) (members ns) r first other rest bytes more e stands is differs = absurd (differs (heads first 0xD1 rest (members_key ms ++ more) (sym e ∙ stands) ∙ sym is))
+unlike depth (object ms) (items us) r first other rest bytes more e stands is differs = refl
+unlike depth (array ts) (items us) r first other rest bytes more e stands is differs = absurd (differs (heads first 0xD2 rest (items_key ts ++ more) (sym e ∙ stands) ∙ sym is))
+unlike depth (array ts) (members ns) r first other rest bytes more e stands is differs = refl
+unlike depth t (items us) r first other rest bytes more e stands is differs = refl
+unlike depth t (members ns) r first other rest bytes more e stands is differs = refl
+
+-- an array or an object begins there
+pub record ContainerThere (u : Tree) (b : Bool) : Type 0 where
+  pub all : Open
+  pub whole : opened_tree all ≡ u
+  pub is : is_object all ≡ b
+
+pub container_there : (depth : ℕ) (u : Tree) → IsReadableAt depth u → (first : ℕ) (rest bytes more : List ℕ) → bytes ≡ first ∷ rest → bytes ≡ key_of u ++ more → (b : Bool) → first ≡ opening_byte b → ContainerThere u b
+container_there depth u r first rest bytes more e stands true is = let x = object_in depth u r first rest bytes more e stands is in record { all = members x.ms; whole = sym x.is; is = refl }
+container_there depth u r first rest bytes more e stands false is = let x = array_in depth u r first rest bytes more e stands is in record { all = items x.ts; whole = sym x.is; is = refl }
+
+pub record BothObjects (inner : ℕ) (t : Tree) (o : Open) (ours theirs more behind : List ℕ) : Type 0 where
+  pub ms : Members
+  pub ns : Members
+  pub we_have : HaveReadableAt inner ms
+  pub they_have : HaveReadableAt inner ns
+  pub whole : holds t (opened_tree o) ≡ holds_members ms ns
+  pub ours_are : ours ≡ members_key ms ++ more
+  pub theirs_are : theirs ≡ members_key ns ++ behind
+
+pub both_objects : (depth inner : ℕ) → depth ≡ suc inner → (t : Tree) (o : Open) → is_object o ≡ true → IsReadableAt depth t → IsReadableAt depth (opened_tree o) → (mine other : ℕ) (left right ours theirs more behind : List ℕ)
+    → left ≡ mine ∷ ours → left ≡ key_of t ++ more → right ≡ other ∷ theirs → right ≡ key_of (opened_tree o) ++ behind → mine ≡ other → BothObjects inner t o ours theirs more behind
+both_objects depth inner deeper t (items us) is p q mine other left right ours theirs more behind cut stands other_cut other_stands same = absurd (true_false (sym is))
+both_objects depth inner deeper t (members ns) is p q mine other left right ours theirs more behind cut stands other_cut other_stands same =
+    let first = heads other 0xD1 theirs (members_key ns ++ behind) (sym other_cut ∙ other_stands) in
+    let x = object_in depth t p mine ours left more cut stands (same ∙ first) in
+    let y = object_in depth (object ns) q other theirs right behind other_cut other_stands first in
+    let mine_in : x.inner ≡ inner = omega (arith, x.deeper, deeper) in
+    let other_in : y.inner ≡ inner = omega (arith, y.deeper, deeper) in
+    record {
+      ms = x.ms;
+      ns = y.ms;
+      we_have = subst (λ d. HaveReadableAt d x.ms) mine_in x.have_readable;
+      they_have = subst (λ d. HaveReadableAt d y.ms) other_in y.have_readable;
+      whole = λ i. holds (x.is i) (y.is i);
+      ours_are = x.stands;
+      theirs_are = y.stands;
+    }
+
+pub record BothArrays (inner : ℕ) (t : Tree) (o : Open) (ours theirs more behind : List ℕ) : Type 0 where
+  pub ts : Trees
+  pub us : Trees
+  pub ours_readable : AreReadableAt inner ts
+  pub theirs_readable : AreReadableAt inner us
+  pub whole : holds t (opened_tree o) ≡ holds_items ts us
+  pub ours_are : ours ≡ items_key ts ++ more
+  pub theirs_are : theirs ≡ items_key us ++ behind
+
+pub both_arrays : (depth inner : ℕ) → depth ≡ suc inner → (t : Tree) (o : Open) → is_object o ≡ false → IsReadableAt depth t → IsReadableAt depth (opened_tree o) → (mine other : ℕ) (left right ours theirs more behind : List ℕ)
+    → left ≡ mine ∷ ours → left ≡ key_of t ++ more → right ≡ other ∷ theirs → right ≡ key_of (opened_tree o) ++ behind → mine ≡ other → BothArrays inner t o ours theirs more behind
+both_arrays depth inner deeper t (members ns) is p q mine other left right ours theirs more behind cut stands other_cut other_stands same = absurd (true_false is)
+both_arrays depth inner deeper t (items us) is p q mine other left right ours theirs more behind cut stands other_cut other_stands same =
+    let first = heads other 0xD2 theirs (items_key us ++ behind) (sym other_cut ∙ other_stands) in
+    let x = array_in depth t p mine ours left more cut stands (same ∙ first) in
+    let y = array_in depth (array us) q other theirs right behind other_cut other_stands first in
+    let mine_in : x.inner ≡ inner = omega (arith, x.deeper, deeper) in
+    let other_in : y.inner ≡ inner = omega (arith, y.deeper, deeper) in
+    record {
+      ts = x.ts;
+      us = y.ts;
+      ours_readable = subst (λ d. AreReadableAt d x.ts) mine_in x.are_readable;
+      theirs_readable = subst (λ d. AreReadableAt d y.ts) other_in y.are_readable;
+      whole = λ i. holds (x.is i) (y.is i);
+      ours_are = x.stands;
+      theirs_are = y.stands;
+    }
+
+-- behind the first byte
+pub inside : (key left bytes ours more : List ℕ) (first : ℕ) → IsLeft key left bytes → left ≡ first ∷ ours → ours ≡ more → IsLeft key ours more
+inside key left bytes ours more first l cut is = passed key left bytes (first ∷ []) ours more l (cut ∙ ap (λ b. first ∷ b) is) cut
+
+pub told_as : (b d : Bool) (object_is object_told : Bool) (walk : Walk) (more behind : List ℕ) (r : Result Bool NoKey) → b ≡ d → object_told ≡ object_is → Told d (StandsInside object_is walk more behind) r → Told b (StandsInside object_told walk more behind) r
+told_as b d object_is object_told walk more behind r same kind told = subst (λ x. Told x (StandsInside object_told walk more behind) r) (sym same) (subst (λ k. Told d (StandsInside k walk more behind) r) (sym kind) told)
+
+pub told_is : (b : Bool) (B : Type 0) (r : Result Bool NoKey) → Told b B r → r ≡ Ok b
+told_is b B (Ok x) told = ap Ok told.0
+told_is b B (Err e) told = absurd told
+
+pub no_ok : {A : Type 0} (e : NoKey) (x : A) → ◌≡◌ {A = Result A NoKey} (Err e) (Ok x) → ⊥
+no_ok e x is = cc
+
+-- ---- at the top
+
+pub whole_left : (key bytes : List ℕ) → key ≡ bytes → IsLeft key key bytes
+whole_left key bytes e = record { ends = ([], e); is = e }
+
+pub contains_held : (t : Tree) (o : Open) → contains t (opened_tree o) ≡ holds t (opened_tree o)
+contains_held t (items us) = refl
+contains_held t (members ns) = refl
+
+pub contains_item : (ts : Trees) (u : Tree) → IsScalar u → contains (array ts) u ≡ any_item (λ t. holds t u) ts
+contains_item ts (object ns) s = absurd s
+contains_item ts (array us) s = absurd s
+contains_item ts u s = refl
+
+pub contains_equal : (t u : Tree) → IsScalar u → ((ts : Trees) → t ≡ array ts → ⊥) → contains t u ≡ holds t u
+contains_equal t (object ns) s n = absurd s
+contains_equal t (array us) s n = absurd s
+contains_equal (array ts) u s n = absurd (n ts refl)
+contains_equal t u s n = refl
+
+-- ---- members
+
+pub record MembersBoth (depth : ℕ) (ms ns : Members) (walk : Walk) (more behind : List ℕ) : Type 0 where
+  pub ours : Members
+  pub theirs : Members
+  pub we_have : HaveReadableAt depth ours
+  pub they_have : HaveReadableAt depth theirs
+  pub same : holds_members ms ns ≡ holds_members ours theirs
+  pub stands : Stands walk (members_key ours ++ more) (members_key theirs ++ behind)
+
+abbrev pub HoldsMembers : ℕ → Walk → Walk → Type 0
+HoldsMembers depth start now = depth ≤ 511 → (ms ns : Members) → HaveReadableAt depth ms → HaveReadableAt depth ns → (more behind : List ℕ) → Stands start (members_key ms ++ more) (members_key ns ++ behind) → MembersBoth depth ms ns now more behind
+
+-- their first member, which is looked for among ours
+pub record OneSought (depth : ℕ) (ms ns : Members) (walk : Walk) (more behind : List ℕ) : Type 0 where
+  pub ours : Members
+  pub we_have : HaveReadableAt depth ours
+  pub name : List ℕ
+  pub value : Tree
+  pub readable : IsReadableAt depth value
+  pub others : Members
+  pub below : IsBelowKeys name others
+  pub they_have : HaveReadableAt depth others
+  pub same : holds_members ms ns ≡ holds_members ours (more_members name value others)
+  pub stands : Stands walk (members_key ours ++ more) (text_key name ++ (key_of value ++ (members_key others ++ behind)))
+
+all_or_one : (depth : ℕ) (ms ns : Members) (walk : Walk) (more behind : List ℕ) → MembersBoth depth ms ns walk more behind
+    → ((holds_members ms ns ≡ true) × (walk.theirs.now ≡ end_key true ++ behind)) ⊎ OneSought depth ms ns walk more behind
+all_or_one depth ms ns walk more behind b = go b.theirs b.they_have b.same b.stands.1
+  where
+    go : (theirs : Members) → HaveReadableAt depth theirs → holds_members ms ns ≡ holds_members b.ours theirs → IsLeft walk.other.now walk.theirs.now (members_key theirs ++ behind)
+        → ((holds_members ms ns ≡ true) × (walk.theirs.now ≡ end_key true ++ behind)) ⊎ OneSought depth ms ns walk more behind
+    go no_members h same stands = inl (same, stands.is)
+    go (more_members k t others) h same stands = inr (record {
+      ours = b.ours;
+      we_have = b.we_have;
+      name = k;
+      value = t;
+      readable = record { proper = h.proper.1; within = h.within.0 };
+      others = others;
+      below = h.ascend.0;
+      they_have = record { ascend = h.ascend.1; proper = h.proper.2; within = h.within.1 };
+      same = same;
+      stands = (b.stands.0, subst (IsLeft walk.other.now walk.theirs.now) (regroup (text_key k) (key_of t) (members_key others) behind) stands);
+    })
+
+pub one_sought : (depth : ℕ) (ms ns : Members) (walk : Walk) (more behind : List ℕ) → MembersBoth depth ms ns walk more behind → ((tail : List ℕ) → walk.theirs.now ≡ end_key true ++ tail → ⊥) → OneSought depth ms ns walk more behind
+one_sought depth ms ns walk more behind b not_over = elim (all_or_one depth ms ns walk more behind b) [
+  | inl x ↦ absurd (not_over behind x.1)
+  | inr n ↦ n
+]
+
+pub all_held : (depth : ℕ) (ms ns : Members) (walk : Walk) (more behind tail : List ℕ) → MembersBoth depth ms ns walk more behind → walk.theirs.now ≡ end_key true ++ tail → (holds_members ms ns ≡ true) × (walk.theirs.now ≡ end_key true ++ behind)
+all_held depth ms ns walk more behind tail b over = elim (all_or_one depth ms ns walk more behind b) [
+  | inl x ↦ x
+  | inr n ↦ absurd (no_end true n.name n.value depth n.readable walk.theirs.now tail (members_key n.others ++ behind) over n.stands.1.is)
+]
+
+pub finds_none : (depth : ℕ) (ms : Members) (name : List ℕ) (walk : Walk) (more behind : List ℕ) (b : Bool) → b ≡ false → FindsMember depth ms name walk more behind (Ok b) → find_member (bytes_eq name) ms ≡ None
+finds_none depth ms name walk more behind true e f = absurd (true_false e)
+finds_none depth ms name walk more behind false e f = f
+
+pub finds_one : (depth : ℕ) (ms : Members) (name : List ℕ) (walk : Walk) (more behind : List ℕ) (b : Bool) → b ≡ true → FindsMember depth ms name walk more behind (Ok b) → MemberFound depth ms name walk more behind
+finds_one depth ms name walk more behind true e f = f
+finds_one depth ms name walk more behind false e f = absurd (true_false (sym e))
+
+pub one_missing : (depth : ℕ) (ms ns : Members) (walk : Walk) (more behind : List ℕ) (n : OneSought depth ms ns walk more behind) → find_member (bytes_eq n.name) n.ours ≡ None → holds_members ms ns ≡ false
+one_missing depth ms ns walk more behind n none = n.same ∙ ap (λ m. option_map_or (λ t. holds t n.value) m false && holds_members n.ours n.others) none
+
+pub one_not_held : (depth : ℕ) (ms ns : Members) (walk after : Walk) (more behind rest : List ℕ) (n : OneSought depth ms ns walk more behind) (f : MemberFound depth n.ours n.name after more rest) → holds f.value n.value ≡ false → holds_members ms ns ≡ false
+one_not_held depth ms ns walk after more behind rest n f isnt = n.same ∙ f.same n.value n.others n.below ∙ ap (λ b. b && holds_members f.others n.others) isnt
+
+pub one_held : (depth : ℕ) (ms ns : Members) (walk after last : Walk) (more behind rest : List ℕ) (n : OneSought depth ms ns walk more behind) (f : MemberFound depth n.ours n.name after more rest) → holds f.value n.value ≡ true → Stands last (members_key f.others ++ more) (members_key n.others ++ behind)
+    → MembersBoth depth ms ns last more behind
+one_held depth ms ns walk after last more behind rest n f is stands = record {
+  ours = f.others;
+  theirs = n.others;
+  we_have = f.have_readable;
+  they_have = n.they_have;
+  same = n.same ∙ f.same n.value n.others n.below ∙ ap (λ b. b && holds_members f.others n.others) is;
+  stands = stands;
+}
+
+-- ---- items
+
+pub record ItemsBoth (depth : ℕ) (ts us : Trees) (walk : Walk) (more behind : List ℕ) : Type 0 where
+  pub theirs : Trees
+  pub are_readable : AreReadableAt depth theirs
+  pub same : holds_items ts us ≡ holds_items ts theirs
+  pub inside : StandsInside false walk more (items_key theirs ++ behind)
+
+abbrev pub HoldsItems : ℕ → Walk → Walk → Type 0
+HoldsItems depth start now = depth ≤ 511 → (ts us : Trees) → AreReadableAt depth ts → AreReadableAt depth us → (more behind : List ℕ) → Stands start (items_key ts ++ more) (items_key us ++ behind) → ItemsBoth depth ts us now more behind
+
+pub record ItemSought (depth : ℕ) (ts us : Trees) (walk : Walk) (more behind : List ℕ) : Type 0 where
+  pub item : Tree
+  pub readable : IsReadableAt depth item
+  pub others : Trees
+  pub are_readable : AreReadableAt depth others
+  pub same : holds_items ts us ≡ (any_item (λ t. holds t item) ts && holds_items ts others)
+  pub stands : IsLeft walk.other.now walk.theirs.now (key_of item ++ (items_key others ++ behind))
+
+all_or_item : (depth : ℕ) (ts us : Trees) (walk : Walk) (more behind : List ℕ) → ItemsBoth depth ts us walk more behind
+    → ((holds_items ts us ≡ true) × (walk.theirs.now ≡ end_key false ++ behind)) ⊎ ItemSought depth ts us walk more behind
+all_or_item depth ts us walk more behind b = go b.theirs b.are_readable b.same b.inside.stands.1
+  where
+    go : (theirs : Trees) → AreReadableAt depth theirs → holds_items ts us ≡ holds_items ts theirs → IsLeft walk.other.now walk.theirs.now (items_key theirs ++ behind)
+        → ((holds_items ts us ≡ true) × (walk.theirs.now ≡ end_key false ++ behind)) ⊎ ItemSought depth ts us walk more behind
+    go no_trees h same stands = inl (same, stands.is)
+    go (more_trees u others) h same stands = inr (record {
+      item = u;
+      readable = record { proper = h.proper.0; within = h.within.0 };
+      others = others;
+      are_readable = record { proper = h.proper.1; within = h.within.1 };
+      same = same;
+      stands = subst (IsLeft walk.other.now walk.theirs.now) (append_assoc (key_of u) (items_key others) behind) stands;
+    })
+
+pub item_sought : (depth : ℕ) (ts us : Trees) (walk : Walk) (more behind : List ℕ) → ItemsBoth depth ts us walk more behind → ((tail : List ℕ) → walk.theirs.now ≡ end_key false ++ tail → ⊥) → ItemSought depth ts us walk more behind
+item_sought depth ts us walk more behind b not_over = elim (all_or_item depth ts us walk more behind b) [
+  | inl x ↦ absurd (not_over behind x.1)
+  | inr n ↦ n
+]
+
+pub all_items_held : (depth : ℕ) (ts us : Trees) (walk : Walk) (more behind tail : List ℕ) → ItemsBoth depth ts us walk more behind → walk.theirs.now ≡ end_key false ++ tail → (holds_items ts us ≡ true) × (walk.theirs.now ≡ end_key false ++ behind)
+all_items_held depth ts us walk more behind tail b over = elim (all_or_item depth ts us walk more behind b) [
+  | inl x ↦ x
+  | inr n ↦ absurd (no_end false [] n.item depth n.readable walk.theirs.now tail (items_key n.others ++ behind) over n.stands.is)
+]
+
+pub item_not_held : (depth : ℕ) (ts us : Trees) (walk : Walk) (more behind : List ℕ) (n : ItemSought depth ts us walk more behind) → any_item (λ t. holds t n.item) ts ≡ false → holds_items ts us ≡ false
+item_not_held depth ts us walk more behind n isnt = n.same ∙ ap (λ b. b && holds_items ts n.others) isnt
+
+pub item_held : (depth : ℕ) (ts us : Trees) (walk last : Walk) (more behind : List ℕ) (n : ItemSought depth ts us walk more behind) → any_item (λ t. holds t n.item) ts ≡ true → StandsInside false last more (items_key n.others ++ behind) → ItemsBoth depth ts us last more behind
+item_held depth ts us walk last more behind n is inside = record { theirs = n.others; are_readable = n.are_readable; same = n.same ∙ ap (λ b. b && holds_items ts n.others) is; inside = inside }
+
+-- ---- one item
+
+-- Ours are walked to an item, so many bytes from the end of the key; theirs to the value that is looked for.
+pub record ItemLookedFor (depth : ℕ) (ts : Trees) (u : Tree) (walk : Walk) (item : ℕ) (more behind : List ℕ) : Type 0 where
+  pub left : Trees
+  pub are_readable : AreReadableAt depth left
+  pub same : any_item (λ t. holds t u) ts ≡ any_item (λ t. holds t u) left
+  pub ends : EndsWith walk.key.now (items_key left ++ more)
+  pub size : item ≡ length (items_key left ++ more)
+  pub theirs : IsLeft walk.other.now walk.theirs.now (key_of u ++ behind)
+
+abbrev pub LooksForItem : ℕ → Walk → Walk → ℕ → ℕ → Type 0
+LooksForItem depth start now all item = depth ≤ 511 → (ts : Trees) → (u : Tree) → AreReadableAt depth ts → IsReadableAt depth u → (more behind : List ℕ) → EndsWith start.key.now (items_key ts ++ more) → all ≡ length (items_key ts ++ more)
+    → IsLeft start.other.now start.theirs.now (key_of u ++ behind) → ItemLookedFor depth ts u now item more behind
+
+pub item_there : (depth : ℕ) (ts : Trees) (u : Tree) (walk : Walk) (item : ℕ) (more behind ours : List ℕ) (l : ItemLookedFor depth ts u walk item more behind) → ours ≡ items_key l.left ++ more → ItemsAhead depth ts u walk.key.now ours more
+item_there depth ts u walk item more behind ours l is = record { left = l.left; are_readable = l.are_readable; same = l.same; stands = record { ends = l.ends; is = is } }

@@ -1,0 +1,71 @@
+-- Two keys that are walked side by side.
+-- Read for: private.
+use Rattle.std.specs.Prelude.{◌≡◌, ℕ, Bool, true, false, List, ◌++◌, ◌&&◌, None, Result, Ok, Err, IsTrue}
+use Rattle.std.specs.Str.{bytes_eq}
+use Rattle.jsonb_key.specs.Readable.{IsAnyNumber, IsReadableAt}
+use Rattle.jsonb_stored.specs.declared.containment.Walk.{Walk}
+use Rattle.jsonb_stored.specs.declared.find.NoKey.{NoKey}
+use Rattle.jsonb_stored.specs.Containment.{holds, holds_members}
+use Rattle.jsonb_stored.specs.Open.{Open, is_object, open_key, IsOpen}
+use Rattle.jsonb_value.specs.Accessors.{find_member}
+use Rattle.jsonb_value.specs.Keys.{IsBelowKeys, KeysAscend}
+use Rattle.jsonb_value.specs.Proper.{AreProper, HaveProperParts}
+use Rattle.jsonb_value.specs.SortKey.{key_of, members_key}
+use Rattle.jsonb_value.specs.Text.Range.{AreWithin, HaveWithin}
+use Rattle.jsonb_value.specs.Tree.{Tree, Trees, Members, more_members}
+
+-- the items of a value that is readable, with as many levels left
+pub record AreReadableAt (depth : ℕ) (ts : Trees) : Type 0 where
+  pub proper : AreProper ts
+  pub within : AreWithin IsAnyNumber ts depth
+
+-- the members of such a value
+pub record HaveReadableAt (depth : ℕ) (ms : Members) : Type 0 where
+  pub ascend : KeysAscend ms
+  pub proper : HaveProperParts ms
+  pub within : HaveWithin IsAnyNumber ms depth
+
+-- The bytes end with these.
+abbrev pub EndsWith : List ℕ → List ℕ → Type 0
+EndsWith bytes last = (before : List ℕ) × (bytes ≡ before ++ last)
+
+-- What is left of the key are these bytes.
+pub record IsLeft (key left bytes : List ℕ) : Type 0 where
+  pub ends : EndsWith key bytes
+  pub is : left ≡ bytes
+
+-- Ours are these bytes of the first key, and theirs are these of the other.
+abbrev pub Stands : Walk → List ℕ → List ℕ → Type 0
+Stands walk ours theirs = IsLeft walk.key.now walk.ours.now ours × IsLeft walk.other.now walk.theirs.now theirs
+
+-- Ours are some parts of an object or an array, and what stands behind it.
+pub record StandsInside (object : Bool) (walk : Walk) (more behind : List ℕ) : Type 0 where
+  pub parts : Open
+  pub is : is_object parts ≡ object
+  pub fits : IsOpen parts 511
+  pub stands : Stands walk (open_key parts ++ more) behind
+
+-- The keys as a whole are the same.
+abbrev pub SameKeys : Walk → Walk → Type 0
+SameKeys old new = (new.key.now ≡ old.key.now) × (new.other.now ≡ old.other.now)
+
+-- This is what is told, and where it is yes, the walk stands there.
+abbrev pub Told : Bool → Type 0 → Result Bool NoKey → Type 0
+Told answer Behind (Ok told) = (told ≡ answer) × (IsTrue answer → Behind)
+Told answer Behind (Err e) = ⊥
+
+-- The member of that name, and those behind it, among which all names are looked for that are above.
+pub record MemberFound (depth : ℕ) (ms : Members) (name : List ℕ) (walk : Walk) (more behind : List ℕ) : Type 0 where
+  pub value : Tree
+  pub readable : IsReadableAt depth value
+  pub others : Members
+  pub have_readable : HaveReadableAt depth others
+  pub same : (u : Tree) → (ns : Members) → IsBelowKeys name ns
+      → holds_members ms (more_members name u ns) ≡ (holds value u && holds_members others ns)
+  pub stands : Stands walk (key_of value ++ (members_key others ++ more)) behind
+
+-- It is told whether one of the members has the name.
+abbrev pub FindsMember : ℕ → Members → List ℕ → Walk → List ℕ → List ℕ → Result Bool NoKey → Type 0
+FindsMember depth ms name walk more behind (Ok true) = MemberFound depth ms name walk more behind
+FindsMember depth ms name walk more behind (Ok false) = find_member (bytes_eq name) ms ≡ None
+FindsMember depth ms name walk more behind (Err e) = ⊥
