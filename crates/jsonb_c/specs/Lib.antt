@@ -1,3 +1,4 @@
 pub mod Interface
+pub mod KeyContains
 pub mod KeyParts
 pub mod KeyText

@@ -29,6 +29,7 @@ use std::alloc::Global;
 use std::cmp::Ordering;
 
 pub mod key;
+pub mod key_contains;
 pub mod key_text;
 
 /// Success.

@@ -3,6 +3,8 @@
 ghost use Rattle.jsonb_stored.specs.Checked.{IsSortKey, AreItems, AreMembers};
 
 use crate::check::is_sort_key;
+use crate::containment;
+use crate::find::NoKey;
 use crate::part;
 use crate::skip::after_key;
 use crate::walk::{Kind, front, items_of, kind_of, members_of, next_item, next_member};
@@ -21,6 +23,7 @@ impl<'k> Key<'k> {
     ghost use Rattle.jsonb_key.specs.Readable.{IsReadable};
     ghost use Rattle.jsonb_write.specs.PartAt.{IsChild, IsAt};
     ghost use Rattle.jsonb_stored.specs.Checked.{IsSortKey};
+    ghost use Rattle.jsonb_stored.specs.Containment.{contains};
     ghost use Rattle.jsonb_stored.specs.KeyView.{key_bytes, item_bytes, member_bytes};
     ghost use Rattle.jsonb_stored.specs.Parts.{kind_of_tree, IsKeyOfChild, IsKeyAt};
     ghost use Rattle.jsonb_value.specs.Accessors.{as_array, as_object};
@@ -81,6 +84,17 @@ impl<'k> Key<'k> {
             return None;
         };
         Some(Key { bytes })
+    }
+
+    /// Whether the value contains that of the other key, as [`contains`](crate::contains) has it.
+    pub fn contains(&self, other: Key<'k>) -> bool
+        ensures { (t u : Tree) → IsReadable t → IsReadable u → key_bytes self.now ≡ key_of t
+            → key_bytes other.entry ≡ key_of u → result ≡ contains t u }
+    {
+        match containment::contains(self.bytes, other.bytes) {
+            Ok(contained) => contained,
+            Err(NoKey) => false,
+        }
     }
 
     /// The items, if it is an array's key.
