@@ -18,7 +18,7 @@ VERSION = $(shell sed -n 's/^\#define VIZHONIKU_VERSION_STRING "\(.*\)"/\1/p' in
 
 # The functions that take bytes: packaging/empty.c stands before the proved ones.
 WITH_BYTES = check text part sort_key text_and_key key_text compare place message key_check key_kind key_count \
-    key_member key_item key_part key_begin key_next key_string key_name
+    key_member key_item key_part key_begin key_next key_string key_name key_contains
 
 # Of the kit's archives only that of malloc, realloc and free is called.
 KIT = $(shell dirname "$$(rt doc)")

@@ -33,7 +33,7 @@ extern "C" {
 
 /* The version of this interface. It grows where a function, a status or a code is added. vizhoniku_version returns that
  * of the library. */
-#define VIZHONIKU_VERSION 3
+#define VIZHONIKU_VERSION 4
 
 uint32_t vizhoniku_version(void);
 
@@ -253,6 +253,16 @@ uint32_t vizhoniku_key_string(const unsigned char *key, size_t key_size, unsigne
 /* Writes the name of a member, from its range in a key, as vizhoniku_key_string writes the text of a string. */
 uint32_t vizhoniku_key_name(const unsigned char *name, size_t name_size, unsigned char *buffer, size_t buffer_size,
                             size_t *size);
+
+/* Tells whether a value contains another, from their keys, as @> of PostgreSQL's jsonb does: an object contains an
+ * object where for each member of that it has one of that name whose value contains the other's, an array an array where
+ * for each item of that it has one that contains it, and a scalar an equal one. Only where the whole of the first is an
+ * array, it also contains a scalar that is one of its items. VIZHONIKU_NO_PART: it doesn't contain it.
+ *
+ * No memory is taken. The members of two objects are passed once, but each item of the other's arrays is looked for
+ * among all items. */
+uint32_t vizhoniku_key_contains(const unsigned char *key, size_t key_size, const unsigned char *other,
+                                size_t other_size);
 
 #ifdef __cplusplus
 }

@@ -38,6 +38,7 @@ uint32_t proved_key_string(const unsigned char *key, size_t key_size, unsigned c
                            size_t *size);
 uint32_t proved_key_name(const unsigned char *name, size_t name_size, unsigned char *buffer, size_t buffer_size,
                          size_t *size);
+uint32_t proved_key_contains(const unsigned char *key, size_t key_size, const unsigned char *other, size_t other_size);
 
 static unsigned char none;
 
@@ -140,4 +141,9 @@ uint32_t vizhoniku_key_string(const unsigned char *key, size_t key_size, unsigne
 uint32_t vizhoniku_key_name(const unsigned char *name, size_t name_size, unsigned char *buffer, size_t buffer_size,
                             size_t *size) {
   return proved_key_name(bytes_at(name, name_size), name_size, buffer_at(buffer, buffer_size), buffer_size, size);
+}
+
+uint32_t vizhoniku_key_contains(const unsigned char *key, size_t key_size, const unsigned char *other,
+                                size_t other_size) {
+  return proved_key_contains(bytes_at(key, key_size), key_size, bytes_at(other, other_size), other_size);
 }

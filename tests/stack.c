@@ -188,13 +188,14 @@ static struct text make(const struct shape *shape) {
 
 /* Each function of the library that reads a text, and then those that read a sort key, by a number. */
 enum function {
-  CHECK, TEXT, SORT_KEY, TEXT_AND_KEY, PART, COMPARE, MESSAGE, KEY_CHECK, KEY_TEXT, KEY_PART, KEY_COUNT, FUNCTIONS
+  CHECK, TEXT, SORT_KEY, TEXT_AND_KEY, PART, COMPARE, MESSAGE, KEY_CHECK, KEY_TEXT, KEY_PART, KEY_COUNT,
+  KEY_CONTAINS, FUNCTIONS
 };
 
 static const char *const functions[] = {
     "vizhoniku_check", "vizhoniku_text", "vizhoniku_sort_key", "vizhoniku_text_and_key", "vizhoniku_part",
     "vizhoniku_compare", "vizhoniku_message", "vizhoniku_key_check", "vizhoniku_key_text", "vizhoniku_key_part",
-    "vizhoniku_key_count",
+    "vizhoniku_key_count", "vizhoniku_key_contains",
 };
 
 struct call {
@@ -240,6 +241,9 @@ static void *run(void *given) {
                                         &key_size);
       break;
     case KEY_COUNT: call->status = vizhoniku_key_count(call->key, call->key_size, &size); break;
+    case KEY_CONTAINS:
+      call->status = vizhoniku_key_contains(call->key, call->key_size, call->key, call->key_size);
+      break;
     default: call->status = vizhoniku_message(call->mode, bytes, text_size, call->buffer, call->room, &size); break;
   }
   return NULL;

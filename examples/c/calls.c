@@ -1,6 +1,7 @@
 /* Makes calls whose answers main.c doesn't show: an unknown mode, buffers of several sizes, parts and their paths, sort
  * keys, both at once, parts of sort keys, and null pointers of size 0. Each prints a line. */
 #include <stdio.h>
+#include <stdlib.h>
 #include <string.h>
 
 #include "vizhoniku.h"
@@ -172,7 +173,8 @@ static void pass_no_key(void) {
     cursor.kind = VIZHONIKU_OBJECT;
     cursor.offset = 5;
     printf(" past the end %u", (unsigned)vizhoniku_key_next(no_keys[i], 4, &cursor, &entry));
-    printf(" string %u\n", (unsigned)vizhoniku_key_string(no_keys[i], 4, buffer, 4, &size));
+    printf(" string %u", (unsigned)vizhoniku_key_string(no_keys[i], 4, buffer, 4, &size));
+    printf(" contains %u\n", (unsigned)vizhoniku_key_contains(no_keys[i], 4, no_keys[i], 4));
   }
 }
 
@@ -219,6 +221,17 @@ static void find_parts(void) {
   pass_no_key();
 }
 
+/* Whether the value of a text contains that of another. */
+static void contain(const char *text, const char *other) {
+  unsigned char other_key[99];
+  size_t size;
+  struct vizhoniku_refusal refusal;
+  make_key(text);
+  if (vizhoniku_sort_key(VIZHONIKU_EXTENDED, BYTES(other), other_key, sizeof other_key, &size, &refusal)) exit(1);
+  printf("%s contains %s: %u", text, other, (unsigned)vizhoniku_key_contains(key, key_size, other_key, size));
+  printf(", and is contained: %u\n", (unsigned)vizhoniku_key_contains(other_key, size, key, key_size));
+}
+
 /* A null pointer of size 0 is an empty text, path, name, key or buffer. */
 static void pass_null(uint32_t mode) {
   size_t size = 99, key_size = 99;
@@ -262,7 +275,8 @@ static void pass_null_keys(void) {
   printf(" next %u", (unsigned)vizhoniku_key_next(NULL, 0, &cursor, &entry));
   printf(" begin %u", (unsigned)vizhoniku_key_begin(NULL, 0, &cursor));
   printf(" string %u", (unsigned)vizhoniku_key_string(NULL, 0, NULL, 0, &size));
-  printf(" name %u\n", (unsigned)vizhoniku_key_name(NULL, 0, NULL, 0, &size));
+  printf(" name %u", (unsigned)vizhoniku_key_name(NULL, 0, NULL, 0, &size));
+  printf(" contains %u\n", (unsigned)vizhoniku_key_contains(NULL, 0, NULL, 0));
 }
 
 int main(void) {
@@ -313,6 +327,10 @@ int main(void) {
   pass_null(2);
 
   find_parts();
+  contain("{a: [1, {b: 2}], c: null}", "{a: [{b: 2.0}]}");
+  contain("{a: 1, c: null}", "{b: null}");
+  contain("[[1]]", "[1]");
+  contain("[1.0]", "1");
   pass_null_keys();
 
   printf("version: %u\n", (unsigned)vizhoniku_version());

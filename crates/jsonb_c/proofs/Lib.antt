@@ -1,3 +1,4 @@
+pub mod Contained
 pub mod KeyParts
 pub mod Keys
 pub mod Parts

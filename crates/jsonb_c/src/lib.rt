@@ -409,7 +409,7 @@ fn part_at_keys(alloc: Global, mode: u32, keys: &[String], text: &[u8]) -> Resul
 }
 
 /// The version of this interface. It grows by one when a function, a status or a code is added.
-pub const VERSION: u32 = 3;
+pub const VERSION: u32 = 4;
 
 /// The version of this interface.
 #[unsafe(no_mangle)]

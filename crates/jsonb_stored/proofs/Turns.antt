@@ -1,12 +1,12 @@
 -- One turn of each loop over two keys that are walked side by side.
-use Rattle.std.proofs.Common.{◌≡◌, ◌≢◌, ℕ, zero, suc, ◌≤◌, ◌⊎◌, inl, inr, Bool, true, false, ◌&&◌, List, [], ◌∷◌, ◌++◌, None, Result, Ok, Err, length, refl, sym, ap, subst, ◌∙◌, arith, append_assoc}
+use Rattle.std.proofs.Common.{◌≡◌, ℕ, zero, suc, ◌≤◌, ◌⊎◌, inl, inr, Bool, true, false, ◌&&◌, List, [], ◌∷◌, ◌++◌, None, Result, Ok, Err, length, refl, sym, ap, subst, ◌∙◌, arith, append_assoc}
 use Rattle.std.specs.Option.{option_map_or}
 use Rattle.std.specs.Str.{bytes_eq}
 use Rattle.jsonb_key.specs.Readable.{IsReadableAt}
 use Rattle.jsonb_stored.specs.declared.containment.Walk.{Walk}
 use Rattle.jsonb_stored.specs.declared.find.NoKey.{NoKey}
 use Rattle.jsonb_stored.specs.Containment.{any_item, contains, holds, holds_items, holds_members}
-use Rattle.jsonb_stored.specs.Open.{Open, items, members, is_object, end_key, IsScalar, opening_byte}
+use Rattle.jsonb_stored.specs.Open.{Open, items, members, is_object, open_key, end_key, IsScalar, opening_byte}
 use Rattle.jsonb_stored.specs.Parts.{opened_tree}
 use Rattle.jsonb_stored.specs.SideBySide.{AreReadableAt, HaveReadableAt, EndsWith, IsLeft, Stands, StandsInside, Told, MemberFound, FindsMember}
 use Rattle.jsonb_stored.proofs.Beside.{ItemsAhead}
@@ -64,15 +64,6 @@ array_in (suc inner) (array ts) r first rest bytes more e stands is = record {
 array_in depth (object ms) r first rest bytes more e stands is = absurd (omega (arith, is, heads first 0xD1 rest (members_key ms ++ more) (sym e ∙ stands)))
 array_in depth t r first rest bytes more e stands is = absurd ((scalar_begins depth t r tt first rest bytes more e stands).1 is)
 
--- a value whose key begins with another byte doesn't hold an object or an array
-pub unlike : (depth : ℕ) (t : Tree) (o : Open) → IsReadableAt depth t → (first other : ℕ) (rest bytes more : List ℕ) → bytes ≡ first ∷ rest → bytes ≡ key_of t ++ more → other ≡ opening_byte (is_object o) → first ≢ other → holds t (opened_tree o) ≡ false
-unlike depth (object ms) (members ns) r first other rest bytes more e stands is differs = absurd (differs (heads first 0xD1 rest (members_key ms ++ more) (sym e ∙ stands) ∙ sym is))
-unlike depth (object ms) (items us) r first other rest bytes more e stands is differs = refl
-unlike depth (array ts) (items us) r first other rest bytes more e stands is differs = absurd (differs (heads first 0xD2 rest (items_key ts ++ more) (sym e ∙ stands) ∙ sym is))
-unlike depth (array ts) (members ns) r first other rest bytes more e stands is differs = refl
-unlike depth t (items us) r first other rest bytes more e stands is differs = refl
-unlike depth t (members ns) r first other rest bytes more e stands is differs = refl
-
 -- an array or an object begins there
 pub record ContainerThere (u : Tree) (b : Bool) : Type 0 where
   pub all : Open
@@ -83,68 +74,48 @@ pub container_there : (depth : ℕ) (u : Tree) → IsReadableAt depth u → (fir
 container_there depth u r first rest bytes more e stands true is = let x = object_in depth u r first rest bytes more e stands is in record { all = members x.ms; whole = sym x.is; is = refl }
 container_there depth u r first rest bytes more e stands false is = let x = array_in depth u r first rest bytes more e stands is in record { all = items x.ts; whole = sym x.is; is = refl }
 
-pub record BothObjects (inner : ℕ) (t : Tree) (o : Open) (ours theirs more behind : List ℕ) : Type 0 where
-  pub ms : Members
-  pub ns : Members
-  pub we_have : HaveReadableAt inner ms
-  pub they_have : HaveReadableAt inner ns
-  pub whole : holds t (opened_tree o) ≡ holds_members ms ns
-  pub ours_are : ours ≡ members_key ms ++ more
-  pub theirs_are : theirs ≡ members_key ns ++ behind
+-- an object or an array, and one of its kind, behind their first bytes
+pub record BothOpen (inner : ℕ) (b : Bool) (t : Tree) (o : Open) (ours theirs more behind : List ℕ) : Type 0 where
+  pub mine : Open
+  pub is : is_object mine ≡ b
+  pub readable : IsReadableAt (suc inner) (opened_tree mine)
+  pub whole : t ≡ opened_tree mine
+  pub other_readable : IsReadableAt (suc inner) (opened_tree o)
+  pub ours_are : ours ≡ open_key mine ++ more
+  pub theirs_are : theirs ≡ open_key o ++ behind
 
-pub both_objects : (depth inner : ℕ) → depth ≡ suc inner → (t : Tree) (o : Open) → is_object o ≡ true → IsReadableAt depth t → IsReadableAt depth (opened_tree o) → (mine other : ℕ) (left right ours theirs more behind : List ℕ)
-    → left ≡ mine ∷ ours → left ≡ key_of t ++ more → right ≡ other ∷ theirs → right ≡ key_of (opened_tree o) ++ behind → mine ≡ other → BothObjects inner t o ours theirs more behind
-both_objects depth inner deeper t (items us) is p q mine other left right ours theirs more behind cut stands other_cut other_stands same = absurd (true_false (sym is))
-both_objects depth inner deeper t (members ns) is p q mine other left right ours theirs more behind cut stands other_cut other_stands same =
+pub both_open : (depth inner : ℕ) → depth ≡ suc inner → (b : Bool) (t : Tree) (o : Open) → is_object o ≡ b → IsReadableAt depth t → IsReadableAt depth (opened_tree o) → (mine other : ℕ) (left right ours theirs more behind : List ℕ)
+    → left ≡ mine ∷ ours → left ≡ key_of t ++ more → right ≡ other ∷ theirs → right ≡ key_of (opened_tree o) ++ behind → mine ≡ other → BothOpen inner b t o ours theirs more behind
+both_open depth inner deeper true t (items us) is p q mine other left right ours theirs more behind cut stands other_cut other_stands same = absurd (true_false (sym is))
+both_open depth inner deeper false t (members ns) is p q mine other left right ours theirs more behind cut stands other_cut other_stands same = absurd (true_false is)
+both_open depth inner deeper true t (members ns) is p q mine other left right ours theirs more behind cut stands other_cut other_stands same =
     let first = heads other 0xD1 theirs (members_key ns ++ behind) (sym other_cut ∙ other_stands) in
     let x = object_in depth t p mine ours left more cut stands (same ∙ first) in
-    let y = object_in depth (object ns) q other theirs right behind other_cut other_stands first in
-    let mine_in : x.inner ≡ inner = omega (arith, x.deeper, deeper) in
-    let other_in : y.inner ≡ inner = omega (arith, y.deeper, deeper) in
     record {
-      ms = x.ms;
-      ns = y.ms;
-      we_have = subst (λ d. HaveReadableAt d x.ms) mine_in x.have_readable;
-      they_have = subst (λ d. HaveReadableAt d y.ms) other_in y.have_readable;
-      whole = λ i. holds (x.is i) (y.is i);
+      mine = members x.ms;
+      is = refl;
+      readable = subst (λ d. IsReadableAt d (object x.ms)) deeper (subst (IsReadableAt depth) x.is p);
+      whole = x.is;
+      other_readable = subst (λ d. IsReadableAt d (object ns)) deeper q;
       ours_are = x.stands;
-      theirs_are = y.stands;
+      theirs_are = tails other 0xD1 theirs (members_key ns ++ behind) (sym other_cut ∙ other_stands);
     }
-
-pub record BothArrays (inner : ℕ) (t : Tree) (o : Open) (ours theirs more behind : List ℕ) : Type 0 where
-  pub ts : Trees
-  pub us : Trees
-  pub ours_readable : AreReadableAt inner ts
-  pub theirs_readable : AreReadableAt inner us
-  pub whole : holds t (opened_tree o) ≡ holds_items ts us
-  pub ours_are : ours ≡ items_key ts ++ more
-  pub theirs_are : theirs ≡ items_key us ++ behind
-
-pub both_arrays : (depth inner : ℕ) → depth ≡ suc inner → (t : Tree) (o : Open) → is_object o ≡ false → IsReadableAt depth t → IsReadableAt depth (opened_tree o) → (mine other : ℕ) (left right ours theirs more behind : List ℕ)
-    → left ≡ mine ∷ ours → left ≡ key_of t ++ more → right ≡ other ∷ theirs → right ≡ key_of (opened_tree o) ++ behind → mine ≡ other → BothArrays inner t o ours theirs more behind
-both_arrays depth inner deeper t (members ns) is p q mine other left right ours theirs more behind cut stands other_cut other_stands same = absurd (true_false is)
-both_arrays depth inner deeper t (items us) is p q mine other left right ours theirs more behind cut stands other_cut other_stands same =
+both_open depth inner deeper false t (items us) is p q mine other left right ours theirs more behind cut stands other_cut other_stands same =
     let first = heads other 0xD2 theirs (items_key us ++ behind) (sym other_cut ∙ other_stands) in
     let x = array_in depth t p mine ours left more cut stands (same ∙ first) in
-    let y = array_in depth (array us) q other theirs right behind other_cut other_stands first in
-    let mine_in : x.inner ≡ inner = omega (arith, x.deeper, deeper) in
-    let other_in : y.inner ≡ inner = omega (arith, y.deeper, deeper) in
     record {
-      ts = x.ts;
-      us = y.ts;
-      ours_readable = subst (λ d. AreReadableAt d x.ts) mine_in x.are_readable;
-      theirs_readable = subst (λ d. AreReadableAt d y.ts) other_in y.are_readable;
-      whole = λ i. holds (x.is i) (y.is i);
+      mine = items x.ts;
+      is = refl;
+      readable = subst (λ d. IsReadableAt d (array x.ts)) deeper (subst (IsReadableAt depth) x.is p);
+      whole = x.is;
+      other_readable = subst (λ d. IsReadableAt d (array us)) deeper q;
       ours_are = x.stands;
-      theirs_are = y.stands;
+      theirs_are = tails other 0xD2 theirs (items_key us ++ behind) (sym other_cut ∙ other_stands);
     }
 
 -- behind the first byte
 pub inside : (key left bytes ours more : List ℕ) (first : ℕ) → IsLeft key left bytes → left ≡ first ∷ ours → ours ≡ more → IsLeft key ours more
 inside key left bytes ours more first l cut is = passed key left bytes (first ∷ []) ours more l (cut ∙ ap (λ b. first ∷ b) is) cut
-
-pub told_as : (b d : Bool) (object_is object_told : Bool) (walk : Walk) (more behind : List ℕ) (r : Result Bool NoKey) → b ≡ d → object_told ≡ object_is → Told d (StandsInside object_is walk more behind) r → Told b (StandsInside object_told walk more behind) r
-told_as b d object_is object_told walk more behind r same kind told = subst (λ x. Told x (StandsInside object_told walk more behind) r) (sym same) (subst (λ k. Told d (StandsInside k walk more behind) r) (sym kind) told)
 
 pub told_is : (b : Bool) (B : Type 0) (r : Result Bool NoKey) → Told b B r → r ≡ Ok b
 told_is b B (Ok x) told = ap Ok told.0
@@ -170,12 +141,6 @@ contains_item ts (object ns) s = absurd s
 contains_item ts (array us) s = absurd s
 contains_item ts u s = refl
 
-pub contains_equal : (t u : Tree) → IsScalar u → ((ts : Trees) → t ≡ array ts → ⊥) → contains t u ≡ holds t u
-contains_equal t (object ns) s n = absurd s
-contains_equal t (array us) s n = absurd s
-contains_equal (array ts) u s n = absurd (n ts refl)
-contains_equal t u s n = refl
-
 -- ---- members
 
 pub record MembersBoth (depth : ℕ) (ms ns : Members) (walk : Walk) (more behind : List ℕ) : Type 0 where
@@ -186,8 +151,8 @@ pub record MembersBoth (depth : ℕ) (ms ns : Members) (walk : Walk) (more behin
   pub same : holds_members ms ns ≡ holds_members ours theirs
   pub stands : Stands walk (members_key ours ++ more) (members_key theirs ++ behind)
 
-abbrev pub HoldsMembers : ℕ → Walk → Walk → Type 0
-HoldsMembers depth start now = depth ≤ 511 → (ms ns : Members) → HaveReadableAt depth ms → HaveReadableAt depth ns → (more behind : List ℕ) → Stands start (members_key ms ++ more) (members_key ns ++ behind) → MembersBoth depth ms ns now more behind
+abbrev pub HoldsMembers : Walk → Walk → Type 0
+HoldsMembers start now = (depth : ℕ) → start.depth ≡ depth → depth ≤ 511 → (ms ns : Members) → HaveReadableAt depth ms → HaveReadableAt depth ns → (more behind : List ℕ) → Stands start (members_key ms ++ more) (members_key ns ++ behind) → MembersBoth depth ms ns now more behind
 
 -- their first member, which is looked for among ours
 pub record OneSought (depth : ℕ) (ms ns : Members) (walk : Walk) (more behind : List ℕ) : Type 0 where
@@ -267,8 +232,8 @@ pub record ItemsBoth (depth : ℕ) (ts us : Trees) (walk : Walk) (more behind : 
   pub same : holds_items ts us ≡ holds_items ts theirs
   pub inside : StandsInside false walk more (items_key theirs ++ behind)
 
-abbrev pub HoldsItems : ℕ → Walk → Walk → Type 0
-HoldsItems depth start now = depth ≤ 511 → (ts us : Trees) → AreReadableAt depth ts → AreReadableAt depth us → (more behind : List ℕ) → Stands start (items_key ts ++ more) (items_key us ++ behind) → ItemsBoth depth ts us now more behind
+abbrev pub HoldsItems : Walk → Walk → Type 0
+HoldsItems start now = (depth : ℕ) → start.depth ≡ depth → depth ≤ 511 → (ts us : Trees) → AreReadableAt depth ts → AreReadableAt depth us → (more behind : List ℕ) → Stands start (items_key ts ++ more) (items_key us ++ behind) → ItemsBoth depth ts us now more behind
 
 pub record ItemSought (depth : ℕ) (ts us : Trees) (walk : Walk) (more behind : List ℕ) : Type 0 where
   pub item : Tree
@@ -323,8 +288,8 @@ pub record ItemLookedFor (depth : ℕ) (ts : Trees) (u : Tree) (walk : Walk) (it
   pub size : item ≡ length (items_key left ++ more)
   pub theirs : IsLeft walk.other.now walk.theirs.now (key_of u ++ behind)
 
-abbrev pub LooksForItem : ℕ → Walk → Walk → ℕ → ℕ → Type 0
-LooksForItem depth start now all item = depth ≤ 511 → (ts : Trees) → (u : Tree) → AreReadableAt depth ts → IsReadableAt depth u → (more behind : List ℕ) → EndsWith start.key.now (items_key ts ++ more) → all ≡ length (items_key ts ++ more)
+abbrev pub LooksForItem : Walk → Walk → ℕ → ℕ → Type 0
+LooksForItem start now all item = (depth : ℕ) → start.depth ≡ depth → depth ≤ 511 → (ts : Trees) → (u : Tree) → AreReadableAt depth ts → IsReadableAt depth u → (more behind : List ℕ) → EndsWith start.key.now (items_key ts ++ more) → all ≡ length (items_key ts ++ more)
     → IsLeft start.other.now start.theirs.now (key_of u ++ behind) → ItemLookedFor depth ts u now item more behind
 
 pub item_there : (depth : ℕ) (ts : Trees) (u : Tree) (walk : Walk) (item : ℕ) (more behind ours : List ℕ) (l : ItemLookedFor depth ts u walk item more behind) → ours ≡ items_key l.left ++ more → ItemsAhead depth ts u walk.key.now ours more

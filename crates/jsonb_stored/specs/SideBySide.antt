@@ -45,9 +45,14 @@ pub record StandsInside (object : Bool) (walk : Walk) (more behind : List ℕ) :
   pub fits : IsOpen parts 511
   pub stands : Stands walk (open_key parts ++ more) behind
 
--- The keys as a whole are the same.
+-- Ours stand so, and it is kept of which kind the object or the array is.
+pub record EndsInside (object : Bool) (walk : Walk) (more behind : List ℕ) : Type 0 where
+  pub inside : StandsInside object walk more behind
+  pub kind : walk.in_object ≡ object
+
+-- The keys as a whole are the same, and as many arrays and objects may be opened.
 abbrev pub SameKeys : Walk → Walk → Type 0
-SameKeys old new = (new.key.now ≡ old.key.now) × (new.other.now ≡ old.other.now)
+SameKeys old new = (new.key.now ≡ old.key.now) × (new.other.now ≡ old.other.now) × (new.depth ≡ old.depth)
 
 -- This is what is told, and where it is yes, the walk stands there.
 abbrev pub Told : Bool → Type 0 → Result Bool NoKey → Type 0

@@ -3,11 +3,10 @@
 ghost use Rattle.jsonb_stored.specs.Checked.{IsSortKey, AreItems, AreMembers};
 
 use crate::check::is_sort_key;
-use crate::containment;
 use crate::find::NoKey;
-use crate::part;
 use crate::skip::after_key;
 use crate::walk::{Kind, front, items_of, kind_of, members_of, next_item, next_member};
+use crate::{containment, part};
 
 /// The sort key of a value of JSON's kinds with at most 512 nested arrays and objects. So its parts are asked for with
 /// no further check.

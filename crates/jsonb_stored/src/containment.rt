@@ -1,12 +1,12 @@
 //! Whether a value contains another, straight from their keys.
 
-ghost use Rattle.std.specs.Prelude.{◌≡◌, ◌<◌, ◌≤◌, ◌++◌, List, ℕ, length, true, false, IsTrue, IfOk, IfSome, Ok, Some, option_map};
+ghost use Rattle.std.specs.Prelude.{Bool, ◌≡◌, ◌<◌, ◌≤◌, ◌++◌, List, ℕ, suc, length, true, false, IsTrue, IfOk, IfSome, Ok, Some, option_map};
 ghost use Rattle.std.specs.declared.cmp.Ordering.TheVariants.{Equal};
 ghost use Rattle.jsonb_key.specs.Readable.{IsReadable, IsReadableAt};
 ghost use Rattle.jsonb_stored.specs.Containment.{contains, holds, holds_items, holds_members, any_item};
 ghost use Rattle.jsonb_stored.specs.Open.{Open, is_object, open_key, IsOpen, IsScalar};
 ghost use Rattle.jsonb_stored.specs.Parts.{opened_tree};
-ghost use Rattle.jsonb_stored.specs.SideBySide.{AreReadableAt, HaveReadableAt, EndsWith, IsLeft, FindsMember, SameKeys, Stands, StandsInside, Told};
+ghost use Rattle.jsonb_stored.specs.SideBySide.{AreReadableAt, HaveReadableAt, EndsWith, IsLeft, FindsMember, SameKeys, Stands, StandsInside, EndsInside, Told};
 ghost use Rattle.jsonb_value.specs.Order.{bytes_cmp};
 ghost use Rattle.jsonb_value.specs.SortKey.{key_of, items_key, members_key, text_key};
 ghost use Rattle.jsonb_value.specs.Tree.{Tree, Trees, Members};
@@ -40,9 +40,11 @@ pub fn contains<'k>(key: &'k [u8], other: &'k [u8]) -> Result<bool, NoKey>
         other,
         ours: key,
         theirs: other,
+        depth: MAX_DEPTH,
+        in_object: false,
     };
     if let Some(object) = opening(*first) {
-        return walk.has_parts(object, MAX_DEPTH);
+        return walk.has_parts(object);
     }
     if let Some(items) = items_of(key) {
         walk.ours = items;
@@ -52,24 +54,29 @@ pub fn contains<'k>(key: &'k [u8], other: &'k [u8]) -> Result<bool, NoKey>
 }
 
 // Two keys that are walked side by side, and what of each is still to come. The value that their bytes begin with is
-// looked for in the one that our bytes begin with. Where it is found, both go on behind it.
+// looked for in the one that our bytes begin with. Where it is found, both go on behind it. What stands here takes no
+// machine stack for each level.
 #[derive(Drop)]
 struct Walk<'k> {
     key: &'k [u8],
     other: &'k [u8],
     ours: &'k [u8],
     theirs: &'k [u8],
+    // How many arrays and objects may be opened.
+    depth: usize,
+    // Of which kind the last of ours is in which all of theirs was found.
+    in_object: bool,
 }
 
 impl<'k> Walk<'k> {
     // Whether the value holds the other.
     #[inline(always)]
     #[cycle(walk)]
-    fn has_value(&mut self, depth: usize) -> Result<bool, NoKey>
-        ensures held { depth ≤ 512 → (t u : Tree) → IsReadableAt depth t → IsReadableAt depth u
+    fn has_value(&mut self) -> Result<bool, NoKey>
+        ensures held { (depth : ℕ) → self.old.depth ≡ depth → depth ≤ 512 → (t u : Tree) → IsReadableAt depth t → IsReadableAt depth u
             → (more behind : List ℕ) → Stands self.old (key_of t ++ more) (key_of u ++ behind)
             → Told (holds t u) (Stands self.new more behind) result }
-        ensures keys { SameKeys self.old self.new }
+        ensures keys { IfOk result (λ found. SameKeys self.old self.new) }
         ensures shorter { IfOk result (λ found. IsTrue found → length self.new.theirs.now < length self.old.theirs.now) }
     {
         let Some((first, _)) = self.theirs.split_first() else {
@@ -78,22 +85,22 @@ impl<'k> Walk<'k> {
         let Some(object) = opening(*first) else {
             return self.has_equal();
         };
-        if !self.has_parts(object, depth)? {
+        if !self.has_parts(object)? {
             return Ok(false);
         }
-        self.close(object)?;
+        self.close()?;
         Ok(true)
     }
 
     // Whether the value holds the object, or the array. Where it does, ours are some of its parts and what follows it.
     #[inline(always)]
     #[cycle(walk)]
-    fn has_parts(&mut self, object: bool, depth: usize) -> Result<bool, NoKey>
-        ensures held { depth ≤ 512 → (t : Tree) → (o : Open) → is_object o ≡ object → IsReadableAt depth t
+    fn has_parts(&mut self, object: bool) -> Result<bool, NoKey>
+        ensures held { (depth : ℕ) → self.old.depth ≡ depth → depth ≤ 512 → (t : Tree) → (o : Open) → is_object o ≡ object → IsReadableAt depth t
             → IsReadableAt depth (opened_tree o) → (more behind : List ℕ)
             → Stands self.old (key_of t ++ more) (key_of (opened_tree o) ++ behind)
-            → Told (holds t (opened_tree o)) (StandsInside object self.new more behind) result }
-        ensures keys { SameKeys self.old self.new }
+            → Told (holds t (opened_tree o)) (EndsInside object self.new more behind) result }
+        ensures keys { IfOk result (λ found. SameKeys self.old self.new) }
         ensures shorter { IfOk result (λ found. IsTrue found → length self.new.theirs.now < length self.old.theirs.now) }
     {
         let Some((mine, ours)) = self.ours.split_first() else {
@@ -105,37 +112,56 @@ impl<'k> Walk<'k> {
         if *mine != *other {
             return Ok(false);
         }
-        let Some(inner) = depth.checked_sub(1) else {
+        let Some(inner) = self.depth.checked_sub(1) else {
             return Err(NoKey);
         };
+        self.depth = inner;
         self.ours = ours;
         self.theirs = theirs;
+        let found = self.has_open(object)?;
+        self.depth += 1;
+        Ok(found)
+    }
+
+    // Whether what is left of the object, or of the array, holds all of the other.
+    #[inline(always)]
+    #[cycle(walk)]
+    fn has_open(&mut self, object: bool) -> Result<bool, NoKey>
+        ensures held { (depth : ℕ) → self.old.depth ≡ depth → depth ≤ 511 → (a b : Open) → is_object a ≡ object
+            → is_object b ≡ object → IsReadableAt (suc depth) (opened_tree a)
+            → IsReadableAt (suc depth) (opened_tree b) → (more behind : List ℕ)
+            → Stands self.old (open_key a ++ more) (open_key b ++ behind)
+            → Told (holds (opened_tree a) (opened_tree b)) (EndsInside object self.new more behind) result }
+        ensures keys { IfOk result (λ found. SameKeys self.old self.new) }
+        ensures shorter { IfOk result (λ found. IsTrue found → length self.new.theirs.now < length self.old.theirs.now) }
+    {
         if object {
-            self.has_members(inner)
+            self.has_members()
         } else {
-            self.has_items(inner)
+            self.has_items()
         }
     }
 
     // Whether the members hold the others. Both are in the order of their names.
     #[inline(never)]
     #[cycle(walk)]
-    fn has_members(&mut self, depth: usize) -> Result<bool, NoKey>
-        ensures held { depth ≤ 511 → (ms ns : Members) → HaveReadableAt depth ms → HaveReadableAt depth ns
+    fn has_members(&mut self) -> Result<bool, NoKey>
+        ensures held { (depth : ℕ) → self.old.depth ≡ depth → depth ≤ 511 → (ms ns : Members) → HaveReadableAt depth ms → HaveReadableAt depth ns
             → (more behind : List ℕ) → Stands self.old (members_key ms ++ more) (members_key ns ++ behind)
-            → Told (holds_members ms ns) (StandsInside true self.new more behind) result }
-        ensures keys { SameKeys self.old self.new }
+            → Told (holds_members ms ns) (EndsInside true self.new more behind) result }
+        ensures keys { IfOk result (λ found. SameKeys self.old self.new) }
         ensures shorter { IfOk result (λ found. IsTrue found → length self.new.theirs.now < length self.old.theirs.now) }
     {
         'members: loop {
             if let Some(theirs) = after_end(true, self.theirs) {
                 self.theirs = theirs;
+                self.in_object = true;
                 return Ok(true);
             }
             if !self.find_member()? {
                 return Ok(false);
             }
-            if !self.has_value(depth)? {
+            if !self.has_value()? {
                 return Ok(false);
             }
         }
@@ -144,20 +170,21 @@ impl<'k> Walk<'k> {
     // Whether the items hold the others.
     #[inline(never)]
     #[cycle(walk)]
-    fn has_items(&mut self, depth: usize) -> Result<bool, NoKey>
-        ensures held { depth ≤ 511 → (ts us : Trees) → AreReadableAt depth ts → AreReadableAt depth us
+    fn has_items(&mut self) -> Result<bool, NoKey>
+        ensures held { (depth : ℕ) → self.old.depth ≡ depth → depth ≤ 511 → (ts us : Trees) → AreReadableAt depth ts → AreReadableAt depth us
             → (more behind : List ℕ) → Stands self.old (items_key ts ++ more) (items_key us ++ behind)
-            → Told (holds_items ts us) (StandsInside false self.new more behind) result }
-        ensures keys { SameKeys self.old self.new }
+            → Told (holds_items ts us) (EndsInside false self.new more behind) result }
+        ensures keys { IfOk result (λ found. SameKeys self.old self.new) }
         ensures shorter { IfOk result (λ found. IsTrue found → length self.new.theirs.now < length self.old.theirs.now) }
     {
         let items = self.ours.len();
         'others: loop {
             if let Some(theirs) = after_end(false, self.theirs) {
                 self.theirs = theirs;
+                self.in_object = false;
                 return Ok(true);
             }
-            if !self.has_item(items, depth)? {
+            if !self.has_item(items)? {
                 return Ok(false);
             }
         }
@@ -166,13 +193,13 @@ impl<'k> Walk<'k> {
     // Whether one of the items holds the other value. The key ends with the items and what follows, so many bytes.
     #[inline(always)]
     #[cycle(walk)]
-    fn has_item(&mut self, items: usize, depth: usize) -> Result<bool, NoKey>
-        ensures held { depth ≤ 511 → (ts : Trees) → (u : Tree) → AreReadableAt depth ts → IsReadableAt depth u
+    fn has_item(&mut self, items: usize) -> Result<bool, NoKey>
+        ensures held { (depth : ℕ) → self.old.depth ≡ depth → depth ≤ 511 → (ts : Trees) → (u : Tree) → AreReadableAt depth ts → IsReadableAt depth u
             → (more behind : List ℕ) → EndsWith self.old.key.now (items_key ts ++ more)
             → items ≡ length (items_key ts ++ more)
             → IsLeft self.old.other.now self.old.theirs.now (key_of u ++ behind)
             → Told (any_item (λ t. holds t u) ts) (StandsInside false self.new more behind) result }
-        ensures keys { SameKeys self.old self.new }
+        ensures keys { IfOk result (λ found. SameKeys self.old self.new) }
         ensures shorter { IfOk result (λ found. IsTrue found → length self.new.theirs.now < length self.old.theirs.now) }
     {
         let wanted = self.theirs.len();
@@ -182,7 +209,7 @@ impl<'k> Walk<'k> {
             if is_over(false, self.ours) {
                 return Ok(false);
             }
-            if self.has_value(depth)? {
+            if self.has_value()? {
                 return Ok(true);
             }
             let Some(others) = self.behind_item(item) else {
@@ -278,13 +305,13 @@ impl<'k> Walk<'k> {
 
     // Passes what is left of our object or array.
     #[inline(never)]
-    fn close(&mut self, object: bool) -> Result<(), NoKey>
-        ensures closed { (more behind : List ℕ) → StandsInside object self.old more behind
+    fn close(&mut self) -> Result<(), NoKey>
+        ensures closed { (object : Bool) → (more behind : List ℕ) → EndsInside object self.old more behind
             → (result ≡ Ok tt) × Stands self.new more behind }
         ensures keys { SameKeys self.old self.new }
         ensures theirs { self.new.theirs.now ≡ self.old.theirs.now }
     {
-        let Some(ours) = behind(object, self.ours) else {
+        let Some(ours) = behind(self.in_object, self.ours) else {
             return Err(NoKey);
         };
         self.ours = ours;

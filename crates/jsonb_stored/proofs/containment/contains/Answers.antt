@@ -15,7 +15,7 @@ returns-in_default c = λ t u p q more behind e f. absurd (no_key 512 u q c.args
 pub returns-in-Some-opening : goal.returns-in-Some-opening
 returns-in-Some-opening c = λ t u p q more behind e f.
     let o = container_there 512 u q c.in-Some.first.now _ c.args.other.now behind c.in-Some.ensures.cases.0 f c.in-Some-opening.object c.in-Some-opening.ensures in
-    told_is _ _ c.has_parts.result (c.has_parts.ensures.held (omega arith) t o.all o.is p (subst IsReadable (sym o.whole) q) more behind
+    told_is _ _ c.has_parts.result (c.has_parts.ensures.held 512 refl (omega arith) t o.all o.is p (subst IsReadable (sym o.whole) q) more behind
     (whole_left c.args.key.now (key_of t ++ more) e, whole_left c.args.other.now (key_of (opened_tree o.all) ++ behind) (f ∙ ap (λ v. key_of v ++ behind) (sym o.whole))))
     ∙ ap Ok (sym (contains_held t o.all) ∙ ap (contains t) o.whole)
 

@@ -1,14 +1,14 @@
-use Rattle.std.proofs.Common.{◌++◌, true, false, length, refl, sym, ap, subst, ◌∙◌, arith}
+use Rattle.std.proofs.Common.{◌≡◌, ◌++◌, true, false, length, refl, sym, ap, subst, ◌∙◌, arith}
 use Rattle.jsonb_key.specs.Readable.{IsReadableAt}
 use Rattle.jsonb_key.proofs.FirstBytes.{no_key}
 use Rattle.jsonb_key.proofs.Texts.{none_some}
-use Rattle.jsonb_stored.specs.Containment.{holds, holds_items, holds_members}
-use Rattle.jsonb_stored.specs.Open.{members, end_key}
+use Rattle.jsonb_stored.specs.Containment.{holds}
+use Rattle.jsonb_stored.specs.Open.{members, open_key, end_key}
 use Rattle.jsonb_stored.specs.Parts.{opened_tree}
 use Rattle.jsonb_stored.specs.SideBySide.{IsLeft}
 use Rattle.jsonb_stored.proofs.Beside.{item_ahead, no_item_ahead, item_is, item_passed, item_inside}
 use Rattle.jsonb_stored.proofs.Holding.{members_open, readable_up}
-use Rattle.jsonb_stored.proofs.Turns.{item_there, all_items_held, item_sought, item_not_held, item_held, all_held, one_sought, one_missing, one_not_held, one_held, finds_none, finds_one, both_objects, both_arrays, container_there, inside, told_as, no_ok}
+use Rattle.jsonb_stored.proofs.Turns.{item_there, all_items_held, item_sought, item_not_held, item_held, all_held, one_sought, one_missing, one_not_held, one_held, finds_none, finds_one, both_open, container_there, inside, no_ok}
 use Rattle.jsonb_stored.proofs.Walked.{told_no, told_yes, passed, same_end, some_number, no_number}
 use Rattle.jsonb_value.specs.SortKey.{key_of, items_key, members_key}
 use Rattle.jsonb_stored.proofs.containment.Walk.+walk.Goals as goal
@@ -16,47 +16,47 @@ use Rattle.jsonb_stored.proofs.containment.Walk.+walk.Goals as goal
 -- ---- one item
 
 pub has_item-returns-then-is_over-clause-held : goal.has_item-returns-then-is_over-clause-held
-has_item-returns-then-is_over-clause-held m c = λ l ts u h r more behind ends size theirs.
-    let x = c.items.invariant.looks l ts u h r more behind ends size theirs in
+has_item-returns-then-is_over-clause-held m c = λ depth at l ts u h r more behind ends size theirs.
+    let x = c.items.invariant.looks depth at l ts u h r more behind ends size theirs in
     let ours = c.last_bytes-self.ensures.last (items_key x.left ++ more) x.ends x.size in
     let over = c.is_over.ensures.yes c.if-is_over.true in
-    told_no _ (no_item_ahead c.args.depth ts u c.items.self.key.now c.last_bytes-self.result.now more over.0 (item_there c.args.depth ts u c.items.self c.items.item more behind c.last_bytes-self.result.now x ours) over.1)
+    told_no _ (no_item_ahead depth ts u c.items.self.key.now c.last_bytes-self.result.now more over.0 (item_there depth ts u c.items.self c.items.item more behind c.last_bytes-self.result.now x ours) over.1)
 
 pub has_item-returns-in_err-has_value-clause-held : goal.has_item-returns-in_err-has_value-clause-held
-has_item-returns-in_err-has_value-clause-held m c = λ l ts u h r more behind ends size theirs.
-    let x = c.items.invariant.looks l ts u h r more behind ends size theirs in
+has_item-returns-in_err-has_value-clause-held m c = λ depth at l ts u h r more behind ends size theirs.
+    let x = c.items.invariant.looks depth at l ts u h r more behind ends size theirs in
     let ours = c.last_bytes-self.ensures.last (items_key x.left ++ more) x.ends x.size in
-    let n = item_ahead c.args.depth ts u c.items.self.key.now c.last_bytes-self.result.now more (item_there c.args.depth ts u c.items.self c.items.item more behind c.last_bytes-self.result.now x ours) (c.is_over.ensures.no c.if-is_over.false) in
-    absurd (c.in_err-has_value.ensures.held (omega (arith, l)) n.item u n.readable r (items_key n.others ++ more) behind (n.stands, x.theirs))
+    let n = item_ahead depth ts u c.items.self.key.now c.last_bytes-self.result.now more (item_there depth ts u c.items.self c.items.item more behind c.last_bytes-self.result.now x ours) (c.is_over.ensures.no c.if-is_over.false) in
+    absurd (c.in_err-has_value.ensures.held depth (c.items.invariant.keys.2 ∙ at) (omega (arith, l)) n.item u n.readable r (items_key n.others ++ more) behind (n.stands, x.theirs))
 
 pub has_item-returns-then-branch-clause-held : goal.has_item-returns-then-branch-clause-held
-has_item-returns-then-branch-clause-held m c = λ l ts u h r more behind ends size theirs.
-    let x = c.items.invariant.looks l ts u h r more behind ends size theirs in
+has_item-returns-then-branch-clause-held m c = λ depth at l ts u h r more behind ends size theirs.
+    let x = c.items.invariant.looks depth at l ts u h r more behind ends size theirs in
     let ours = c.last_bytes-self.ensures.last (items_key x.left ++ more) x.ends x.size in
-    let n = item_ahead c.args.depth ts u c.items.self.key.now c.last_bytes-self.result.now more (item_there c.args.depth ts u c.items.self c.items.item more behind c.last_bytes-self.result.now x ours) (c.is_over.ensures.no c.if-is_over.false) in
-    let told = c.in_ok-has_value.ensures.held (omega (arith, l)) n.item u n.readable r (items_key n.others ++ more) behind (n.stands, x.theirs) in
+    let n = item_ahead depth ts u c.items.self.key.now c.last_bytes-self.result.now more (item_there depth ts u c.items.self c.items.item more behind c.last_bytes-self.result.now x ours) (c.is_over.ensures.no c.if-is_over.false) in
+    let told = c.in_ok-has_value.ensures.held depth (c.items.invariant.keys.2 ∙ at) (omega (arith, l)) n.item u n.readable r (items_key n.others ++ more) behind (n.stands, x.theirs) in
     let is = sym told.0 ∙ c.if-branch.true in
-    told_yes _ (item_is c.args.depth ts u c.items.self.key.now c.last_bytes-self.result.now more n is) (item_inside c.args.depth n.others more behind c.has_value.new.self l n.are_readable (told.1 is))
+    told_yes _ (item_is depth ts u c.items.self.key.now c.last_bytes-self.result.now more n is) (item_inside depth n.others more behind c.has_value.new.self l n.are_readable (told.1 is))
 
 pub has_item-returns-in_default-clause-held : goal.has_item-returns-in_default-clause-held
-has_item-returns-in_default-clause-held m c = λ l ts u h r more behind ends size theirs.
-    let x = c.items.invariant.looks l ts u h r more behind ends size theirs in
+has_item-returns-in_default-clause-held m c = λ depth at l ts u h r more behind ends size theirs.
+    let x = c.items.invariant.looks depth at l ts u h r more behind ends size theirs in
     let ours = c.last_bytes-self.ensures.last (items_key x.left ++ more) x.ends x.size in
-    let n = item_ahead c.args.depth ts u c.items.self.key.now c.last_bytes-self.result.now more (item_there c.args.depth ts u c.items.self c.items.item more behind c.last_bytes-self.result.now x ours) (c.is_over.ensures.no c.if-is_over.false) in
-    absurd (no_number _ (c.in_default.ensures.found n.item (readable_up n.item c.args.depth 512 (omega (arith, l)) n.readable) (items_key n.others ++ more)
+    let n = item_ahead depth ts u c.items.self.key.now c.last_bytes-self.result.now more (item_there depth ts u c.items.self c.items.item more behind c.last_bytes-self.result.now x ours) (c.is_over.ensures.no c.if-is_over.false) in
+    absurd (no_number _ (c.in_default.ensures.found n.item (readable_up n.item depth 512 (omega (arith, l)) n.readable) (items_key n.others ++ more)
     (same_end c.items.self.key.now c.has_value.new.self.key.now _ c.in_ok-has_value.ensures.keys.0 n.stands.ends) (x.size ∙ ap length (sym ours ∙ n.stands.is))))
 
 pub has_item-items-preserved : goal.has_item-items-preserved
 has_item-items-preserved m c = record {
-  looks = λ l ts u h r more behind ends size theirs.
-      let x = c.items.invariant.looks l ts u h r more behind ends size theirs in
+  looks = λ depth at l ts u h r more behind ends size theirs.
+      let x = c.items.invariant.looks depth at l ts u h r more behind ends size theirs in
       let ours = c.last_bytes-self.ensures.last (items_key x.left ++ more) x.ends x.size in
-      let n = item_ahead c.args.depth ts u c.items.self.key.now c.last_bytes-self.result.now more (item_there c.args.depth ts u c.items.self c.items.item more behind c.last_bytes-self.result.now x ours) (c.is_over.ensures.no c.if-is_over.false) in
-      let told = c.in_ok-has_value.ensures.held (omega (arith, l)) n.item u n.readable r (items_key n.others ++ more) behind (n.stands, x.theirs) in
+      let n = item_ahead depth ts u c.items.self.key.now c.last_bytes-self.result.now more (item_there depth ts u c.items.self c.items.item more behind c.last_bytes-self.result.now x ours) (c.is_over.ensures.no c.if-is_over.false) in
+      let told = c.in_ok-has_value.ensures.held depth (c.items.invariant.keys.2 ∙ at) (omega (arith, l)) n.item u n.readable r (items_key n.others ++ more) behind (n.stands, x.theirs) in
       let isnt = sym told.0 ∙ c.if-branch.false in
-      let others = some_number c.in-Some.others _ (c.in-Some.ensures.found n.item (readable_up n.item c.args.depth 512 (omega (arith, l)) n.readable) (items_key n.others ++ more)
+      let others = some_number c.in-Some.others _ (c.in-Some.ensures.found n.item (readable_up n.item depth 512 (omega (arith, l)) n.readable) (items_key n.others ++ more)
       (same_end c.items.self.key.now c.has_value.new.self.key.now _ c.in_ok-has_value.ensures.keys.0 n.stands.ends) (x.size ∙ ap length (sym ours ∙ n.stands.is))) in
-      let p = item_passed c.args.depth ts u c.items.self.key.now c.last_bytes-self.result.now more (items_key n.others ++ more) n isnt refl in
+      let p = item_passed depth ts u c.items.self.key.now c.last_bytes-self.result.now more (items_key n.others ++ more) n isnt refl in
       let there = same_end c.items.self.other.now c.has_value.new.self.other.now _ c.in_ok-has_value.ensures.keys.1 x.theirs.ends in
       record {
         left = p.left;
@@ -66,7 +66,7 @@ has_item-items-preserved m c = record {
         size = others ∙ ap length p.stands.is;
         theirs = record { ends = there; is = c.last_bytes-self-in-items.ensures.last (key_of u ++ behind) there (ap length theirs.is) };
       };
-  keys = (c.in_ok-has_value.ensures.keys.0 ∙ c.items.invariant.keys.0, c.in_ok-has_value.ensures.keys.1 ∙ c.items.invariant.keys.1);
+  keys = (c.in_ok-has_value.ensures.keys.0 ∙ c.items.invariant.keys.0, c.in_ok-has_value.ensures.keys.1 ∙ c.items.invariant.keys.1, c.in_ok-has_value.ensures.keys.2 ∙ c.items.invariant.keys.2);
   within = c.last_bytes-self-in-items.ensures.within;
 }
 
@@ -74,44 +74,47 @@ has_item-items-preserved m c = record {
 
 pub has_items-others-init : goal.has_items-others-init
 has_items-others-init m c = record {
-  held = λ l ts us h g more behind w. record { theirs = us; are_readable = g; same = refl; inside = item_inside c.args.depth ts more (items_key us ++ behind) c.args.self.now l h w };
-  keys = (refl, refl);
+  held = λ depth at l ts us h g more behind w. record { theirs = us; are_readable = g; same = refl; inside = item_inside depth ts more (items_key us ++ behind) c.args.self.now l h w };
+  keys = (refl, refl, refl);
   within = omega arith;
 }
 
 pub has_items-returns-in-Some-clause-held : goal.has_items-returns-in-Some-clause-held
-has_items-returns-in-Some-clause-held m c = λ l ts us h g more behind w.
-    let x = c.others.invariant.held l ts us h g more behind w in
-    let all = all_items_held c.args.depth ts us c.others.self more behind c.in-Some.theirs.now x c.in-Some.ensures.some in
+has_items-returns-in-Some-clause-held m c = λ depth at l ts us h g more behind w.
+    let x = c.others.invariant.held depth at l ts us h g more behind w in
+    let all = all_items_held depth ts us c.others.self more behind c.in-Some.theirs.now x c.in-Some.ensures.some in
     told_yes _ all.0 (record {
-      parts = x.inside.parts;
-      is = x.inside.is;
-      fits = x.inside.fits;
-      stands = (x.inside.stands.0, passed _ _ _ (end_key false) c.in-Some.theirs.now behind x.inside.stands.1 all.1 c.in-Some.ensures.some);
+      inside = record {
+        parts = x.inside.parts;
+        is = x.inside.is;
+        fits = x.inside.fits;
+        stands = (x.inside.stands.0, passed _ _ _ (end_key false) c.in-Some.theirs.now behind x.inside.stands.1 all.1 c.in-Some.ensures.some);
+      };
+      kind = refl;
     })
 
 pub has_items-returns-in_err-has_item-clause-held : goal.has_items-returns-in_err-has_item-clause-held
-has_items-returns-in_err-has_item-clause-held m c = λ l ts us h g more behind w.
-    let x = c.others.invariant.held l ts us h g more behind w in
-    let n = item_sought c.args.depth ts us c.others.self more behind x (λ tail e. absurd (none_some tail (c.in_default.ensures.found tail e))) in
-    absurd (c.in_err-has_item.ensures.held l ts n.item h n.readable more (items_key n.others ++ behind) (same_end c.args.self.now.key.now c.others.self.key.now _ c.others.invariant.keys.0 w.0.ends) (ap length w.0.is) n.stands)
+has_items-returns-in_err-has_item-clause-held m c = λ depth at l ts us h g more behind w.
+    let x = c.others.invariant.held depth at l ts us h g more behind w in
+    let n = item_sought depth ts us c.others.self more behind x (λ tail e. absurd (none_some tail (c.in_default.ensures.found tail e))) in
+    absurd (c.in_err-has_item.ensures.held depth (c.others.invariant.keys.2 ∙ at) l ts n.item h n.readable more (items_key n.others ++ behind) (same_end c.args.self.now.key.now c.others.self.key.now _ c.others.invariant.keys.0 w.0.ends) (ap length w.0.is) n.stands)
 
 pub has_items-returns-then-not-branch-clause-held : goal.has_items-returns-then-not-branch-clause-held
-has_items-returns-then-not-branch-clause-held m c = λ l ts us h g more behind w.
-    let x = c.others.invariant.held l ts us h g more behind w in
-    let n = item_sought c.args.depth ts us c.others.self more behind x (λ tail e. absurd (none_some tail (c.in_default.ensures.found tail e))) in
-    let told = c.in_ok-has_item.ensures.held l ts n.item h n.readable more (items_key n.others ++ behind) (same_end c.args.self.now.key.now c.others.self.key.now _ c.others.invariant.keys.0 w.0.ends) (ap length w.0.is) n.stands in
-    told_no _ (item_not_held c.args.depth ts us c.others.self more behind n (sym told.0 ∙ c.if-not-branch.true))
+has_items-returns-then-not-branch-clause-held m c = λ depth at l ts us h g more behind w.
+    let x = c.others.invariant.held depth at l ts us h g more behind w in
+    let n = item_sought depth ts us c.others.self more behind x (λ tail e. absurd (none_some tail (c.in_default.ensures.found tail e))) in
+    let told = c.in_ok-has_item.ensures.held depth (c.others.invariant.keys.2 ∙ at) l ts n.item h n.readable more (items_key n.others ++ behind) (same_end c.args.self.now.key.now c.others.self.key.now _ c.others.invariant.keys.0 w.0.ends) (ap length w.0.is) n.stands in
+    told_no _ (item_not_held depth ts us c.others.self more behind n (sym told.0 ∙ c.if-not-branch.true))
 
 pub has_items-others-preserved : goal.has_items-others-preserved
 has_items-others-preserved m c = record {
-  held = λ l ts us h g more behind w.
-      let x = c.others.invariant.held l ts us h g more behind w in
-      let n = item_sought c.args.depth ts us c.others.self more behind x (λ tail e. absurd (none_some tail (c.in_default.ensures.found tail e))) in
-      let told = c.in_ok-has_item.ensures.held l ts n.item h n.readable more (items_key n.others ++ behind) (same_end c.args.self.now.key.now c.others.self.key.now _ c.others.invariant.keys.0 w.0.ends) (ap length w.0.is) n.stands in
+  held = λ depth at l ts us h g more behind w.
+      let x = c.others.invariant.held depth at l ts us h g more behind w in
+      let n = item_sought depth ts us c.others.self more behind x (λ tail e. absurd (none_some tail (c.in_default.ensures.found tail e))) in
+      let told = c.in_ok-has_item.ensures.held depth (c.others.invariant.keys.2 ∙ at) l ts n.item h n.readable more (items_key n.others ++ behind) (same_end c.args.self.now.key.now c.others.self.key.now _ c.others.invariant.keys.0 w.0.ends) (ap length w.0.is) n.stands in
       let is = sym told.0 ∙ c.if-not-branch.false in
-      item_held c.args.depth ts us c.others.self c.has_item.new.self more behind n is (told.1 is);
-  keys = (c.in_ok-has_item.ensures.keys.0 ∙ c.others.invariant.keys.0, c.in_ok-has_item.ensures.keys.1 ∙ c.others.invariant.keys.1);
+      item_held depth ts us c.others.self c.has_item.new.self more behind n is (told.1 is);
+  keys = (c.in_ok-has_item.ensures.keys.0 ∙ c.others.invariant.keys.0, c.in_ok-has_item.ensures.keys.1 ∙ c.others.invariant.keys.1, c.in_ok-has_item.ensures.keys.2 ∙ c.others.invariant.keys.2);
   within = omega (arith, c.in_ok-has_item.ensures.shorter c.if-not-branch.false, c.others.invariant.within);
 }
 
@@ -119,116 +122,117 @@ has_items-others-preserved m c = record {
 
 pub has_members-members-init : goal.has_members-members-init
 has_members-members-init m c = record {
-  held = λ l ms ns h g more behind w. record { ours = ms; theirs = ns; we_have = h; they_have = g; same = refl; stands = w };
-  keys = (refl, refl);
+  held = λ depth at l ms ns h g more behind w. record { ours = ms; theirs = ns; we_have = h; they_have = g; same = refl; stands = w };
+  keys = (refl, refl, refl);
   within = omega arith;
 }
 
 pub has_members-returns-in-Some-clause-held : goal.has_members-returns-in-Some-clause-held
-has_members-returns-in-Some-clause-held m c = λ l ms ns h g more behind w.
-    let x = c.members.invariant.held l ms ns h g more behind w in
-    let all = all_held c.args.depth ms ns c.members.self more behind c.in-Some.theirs.now x c.in-Some.ensures.some in
+has_members-returns-in-Some-clause-held m c = λ depth at l ms ns h g more behind w.
+    let x = c.members.invariant.held depth at l ms ns h g more behind w in
+    let all = all_held depth ms ns c.members.self more behind c.in-Some.theirs.now x c.in-Some.ensures.some in
     told_yes _ all.0 (record {
-      parts = members x.ours;
-      is = refl;
-      fits = members_open x.ours c.args.depth 511 l x.we_have;
-      stands = (x.stands.0, passed _ _ _ (end_key true) c.in-Some.theirs.now behind x.stands.1 all.1 c.in-Some.ensures.some);
+      inside = record {
+        parts = members x.ours;
+        is = refl;
+        fits = members_open x.ours depth 511 l x.we_have;
+        stands = (x.stands.0, passed _ _ _ (end_key true) c.in-Some.theirs.now behind x.stands.1 all.1 c.in-Some.ensures.some);
+      };
+      kind = refl;
     })
 
 pub has_members-returns-in_err-find_member-clause-held : goal.has_members-returns-in_err-find_member-clause-held
-has_members-returns-in_err-find_member-clause-held m c = λ l ms ns h g more behind w.
-    let x = c.members.invariant.held l ms ns h g more behind w in
-    let n = one_sought c.args.depth ms ns c.members.self more behind x (λ tail e. absurd (none_some tail (c.in_default.ensures.found tail e))) in
-    absurd (c.in_err-find_member.ensures.found c.args.depth l n.ours n.we_have n.name more (key_of n.value ++ (members_key n.others ++ behind)) n.stands)
+has_members-returns-in_err-find_member-clause-held m c = λ depth at l ms ns h g more behind w.
+    let x = c.members.invariant.held depth at l ms ns h g more behind w in
+    let n = one_sought depth ms ns c.members.self more behind x (λ tail e. absurd (none_some tail (c.in_default.ensures.found tail e))) in
+    absurd (c.in_err-find_member.ensures.found depth l n.ours n.we_have n.name more (key_of n.value ++ (members_key n.others ++ behind)) n.stands)
 
 pub has_members-returns-then-not-branch-clause-held : goal.has_members-returns-then-not-branch-clause-held
-has_members-returns-then-not-branch-clause-held m c = λ l ms ns h g more behind w.
-    let x = c.members.invariant.held l ms ns h g more behind w in
-    let n = one_sought c.args.depth ms ns c.members.self more behind x (λ tail e. absurd (none_some tail (c.in_default.ensures.found tail e))) in
-    let f = c.in_ok-find_member.ensures.found c.args.depth l n.ours n.we_have n.name more (key_of n.value ++ (members_key n.others ++ behind)) n.stands in
-    told_no _ (one_missing c.args.depth ms ns c.members.self more behind n (finds_none c.args.depth n.ours n.name c.find_member.new.self more _ c.in_ok-find_member.field-0 c.if-not-branch.true f))
+has_members-returns-then-not-branch-clause-held m c = λ depth at l ms ns h g more behind w.
+    let x = c.members.invariant.held depth at l ms ns h g more behind w in
+    let n = one_sought depth ms ns c.members.self more behind x (λ tail e. absurd (none_some tail (c.in_default.ensures.found tail e))) in
+    let f = c.in_ok-find_member.ensures.found depth l n.ours n.we_have n.name more (key_of n.value ++ (members_key n.others ++ behind)) n.stands in
+    told_no _ (one_missing depth ms ns c.members.self more behind n (finds_none depth n.ours n.name c.find_member.new.self more _ c.in_ok-find_member.field-0 c.if-not-branch.true f))
 
 pub has_members-returns-in_err-has_value-clause-held : goal.has_members-returns-in_err-has_value-clause-held
-has_members-returns-in_err-has_value-clause-held m c = λ l ms ns h g more behind w.
-    let x = c.members.invariant.held l ms ns h g more behind w in
-    let n = one_sought c.args.depth ms ns c.members.self more behind x (λ tail e. absurd (none_some tail (c.in_default.ensures.found tail e))) in
-    let f = c.in_ok-find_member.ensures.found c.args.depth l n.ours n.we_have n.name more (key_of n.value ++ (members_key n.others ++ behind)) n.stands in
-    let one = finds_one c.args.depth n.ours n.name c.find_member.new.self more _ c.in_ok-find_member.field-0 c.if-not-branch.false f in
-    absurd (c.in_err-has_value.ensures.held (omega (arith, l)) one.value n.value one.readable n.readable (members_key one.others ++ more) (members_key n.others ++ behind) one.stands)
+has_members-returns-in_err-has_value-clause-held m c = λ depth at l ms ns h g more behind w.
+    let x = c.members.invariant.held depth at l ms ns h g more behind w in
+    let n = one_sought depth ms ns c.members.self more behind x (λ tail e. absurd (none_some tail (c.in_default.ensures.found tail e))) in
+    let f = c.in_ok-find_member.ensures.found depth l n.ours n.we_have n.name more (key_of n.value ++ (members_key n.others ++ behind)) n.stands in
+    let one = finds_one depth n.ours n.name c.find_member.new.self more _ c.in_ok-find_member.field-0 c.if-not-branch.false f in
+    absurd (c.in_err-has_value.ensures.held depth (c.in_ok-find_member.ensures.keys.2 ∙ (c.members.invariant.keys.2 ∙ at)) (omega (arith, l)) one.value n.value one.readable n.readable (members_key one.others ++ more) (members_key n.others ++ behind) one.stands)
 
 pub has_members-returns-then-not-branch-2-clause-held : goal.has_members-returns-then-not-branch-2-clause-held
-has_members-returns-then-not-branch-2-clause-held m c = λ l ms ns h g more behind w.
-    let x = c.members.invariant.held l ms ns h g more behind w in
-    let n = one_sought c.args.depth ms ns c.members.self more behind x (λ tail e. absurd (none_some tail (c.in_default.ensures.found tail e))) in
-    let f = c.in_ok-find_member.ensures.found c.args.depth l n.ours n.we_have n.name more (key_of n.value ++ (members_key n.others ++ behind)) n.stands in
-    let one = finds_one c.args.depth n.ours n.name c.find_member.new.self more _ c.in_ok-find_member.field-0 c.if-not-branch.false f in
-    let told = c.in_ok-has_value.ensures.held (omega (arith, l)) one.value n.value one.readable n.readable (members_key one.others ++ more) (members_key n.others ++ behind) one.stands in
-    told_no _ (one_not_held c.args.depth ms ns c.members.self c.find_member.new.self more behind _ n one (sym told.0 ∙ c.if-not-branch-2.true))
+has_members-returns-then-not-branch-2-clause-held m c = λ depth at l ms ns h g more behind w.
+    let x = c.members.invariant.held depth at l ms ns h g more behind w in
+    let n = one_sought depth ms ns c.members.self more behind x (λ tail e. absurd (none_some tail (c.in_default.ensures.found tail e))) in
+    let f = c.in_ok-find_member.ensures.found depth l n.ours n.we_have n.name more (key_of n.value ++ (members_key n.others ++ behind)) n.stands in
+    let one = finds_one depth n.ours n.name c.find_member.new.self more _ c.in_ok-find_member.field-0 c.if-not-branch.false f in
+    let told = c.in_ok-has_value.ensures.held depth (c.in_ok-find_member.ensures.keys.2 ∙ (c.members.invariant.keys.2 ∙ at)) (omega (arith, l)) one.value n.value one.readable n.readable (members_key one.others ++ more) (members_key n.others ++ behind) one.stands in
+    told_no _ (one_not_held depth ms ns c.members.self c.find_member.new.self more behind _ n one (sym told.0 ∙ c.if-not-branch-2.true))
 
 pub has_members-members-preserved : goal.has_members-members-preserved
 has_members-members-preserved m c = record {
-  held = λ l ms ns h g more behind w.
-      let x = c.members.invariant.held l ms ns h g more behind w in
-      let n = one_sought c.args.depth ms ns c.members.self more behind x (λ tail e. absurd (none_some tail (c.in_default.ensures.found tail e))) in
-      let f = c.in_ok-find_member.ensures.found c.args.depth l n.ours n.we_have n.name more (key_of n.value ++ (members_key n.others ++ behind)) n.stands in
-      let one = finds_one c.args.depth n.ours n.name c.find_member.new.self more _ c.in_ok-find_member.field-0 c.if-not-branch.false f in
-      let told = c.in_ok-has_value.ensures.held (omega (arith, l)) one.value n.value one.readable n.readable (members_key one.others ++ more) (members_key n.others ++ behind) one.stands in
+  held = λ depth at l ms ns h g more behind w.
+      let x = c.members.invariant.held depth at l ms ns h g more behind w in
+      let n = one_sought depth ms ns c.members.self more behind x (λ tail e. absurd (none_some tail (c.in_default.ensures.found tail e))) in
+      let f = c.in_ok-find_member.ensures.found depth l n.ours n.we_have n.name more (key_of n.value ++ (members_key n.others ++ behind)) n.stands in
+      let one = finds_one depth n.ours n.name c.find_member.new.self more _ c.in_ok-find_member.field-0 c.if-not-branch.false f in
+      let told = c.in_ok-has_value.ensures.held depth (c.in_ok-find_member.ensures.keys.2 ∙ (c.members.invariant.keys.2 ∙ at)) (omega (arith, l)) one.value n.value one.readable n.readable (members_key one.others ++ more) (members_key n.others ++ behind) one.stands in
       let is = sym told.0 ∙ c.if-not-branch-2.false in
-      one_held c.args.depth ms ns c.members.self c.find_member.new.self c.has_value.new.self more behind _ n one is (told.1 is);
-  keys = (c.in_ok-has_value.ensures.keys.0 ∙ (c.in_ok-find_member.ensures.keys.0 ∙ c.members.invariant.keys.0), c.in_ok-has_value.ensures.keys.1 ∙ (c.in_ok-find_member.ensures.keys.1 ∙ c.members.invariant.keys.1));
+      one_held depth ms ns c.members.self c.find_member.new.self c.has_value.new.self more behind _ n one is (told.1 is);
+  keys = (c.in_ok-has_value.ensures.keys.0 ∙ (c.in_ok-find_member.ensures.keys.0 ∙ c.members.invariant.keys.0), c.in_ok-has_value.ensures.keys.1 ∙ (c.in_ok-find_member.ensures.keys.1 ∙ c.members.invariant.keys.1), c.in_ok-has_value.ensures.keys.2 ∙ (c.in_ok-find_member.ensures.keys.2 ∙ c.members.invariant.keys.2));
   within = omega (arith, c.in_ok-has_value.ensures.shorter c.if-not-branch-2.false, c.in_ok-find_member.ensures.within c.if-not-branch.false, c.members.invariant.within);
 }
 
 -- ---- an object or an array
 
 pub has_parts-returns-in_default-clause-held : goal.has_parts-returns-in_default-clause-held
-has_parts-returns-in_default-clause-held m c = λ l t o is p q more behind w. absurd (no_key c.args.depth t p c.args.self.now.ours.now more w.0.is c.in_default.ensures.cases)
+has_parts-returns-in_default-clause-held m c = λ depth at l t o is p q more behind w. absurd (no_key depth t p c.args.self.now.ours.now more w.0.is c.in_default.ensures.cases)
 
-pub has_parts-returns-then-object-clause-held : goal.has_parts-returns-then-object-clause-held
-has_parts-returns-then-object-clause-held m c = λ l t o is p q more behind w.
-    let x = both_objects c.args.depth c.in-Some-checked_sub.inner (omega (arith, c.in-Some-checked_sub.ensures)) t o (is ∙ c.if-object.true) p q c.in-Some.mine.now c.in-Some-split_first.other.now
+pub has_parts-returns-in_err-found-clause-held : goal.has_parts-returns-in_err-found-clause-held
+has_parts-returns-in_err-found-clause-held m c = λ depth at l t o is p q more behind w.
+    let x = both_open depth c.in-Some-checked_sub.inner (omega (arith, at, c.in-Some-checked_sub.ensures)) c.args.object t o is p q c.in-Some.mine.now c.in-Some-split_first.other.now
     c.args.self.now.ours.now c.args.self.now.theirs.now c.in-Some.ours.now c.in-Some-split_first.theirs.now more behind c.in-Some.ensures.cases.0 w.0.is c.in-Some-split_first.ensures.cases.0 w.1.is c.if-mine-other.false in
-    told_as (holds t (opened_tree o)) (holds_members x.ms x.ns) true c.args.object c.has_members.new.self more behind c.has_members.result x.whole c.if-object.true
-    (c.has_members.ensures.held (omega (arith, l, c.in-Some-checked_sub.ensures)) x.ms x.ns x.we_have x.they_have more behind (
-      inside c.args.self.now.key.now c.args.self.now.ours.now (key_of t ++ more) c.in-Some.ours.now (members_key x.ms ++ more) c.in-Some.mine.now w.0 c.in-Some.ensures.cases.0 x.ours_are,
-      inside c.args.self.now.other.now c.args.self.now.theirs.now (key_of (opened_tree o) ++ behind) c.in-Some-split_first.theirs.now (members_key x.ns ++ behind) c.in-Some-split_first.other.now w.1 c.in-Some-split_first.ensures.cases.0 x.theirs_are,
-    ))
+    let ours = inside c.args.self.now.key.now c.args.self.now.ours.now (key_of t ++ more) c.in-Some.ours.now (open_key x.mine ++ more) c.in-Some.mine.now w.0 c.in-Some.ensures.cases.0 x.ours_are in
+    let theirs = inside c.args.self.now.other.now c.args.self.now.theirs.now (key_of (opened_tree o) ++ behind) c.in-Some-split_first.theirs.now (open_key o ++ behind) c.in-Some-split_first.other.now w.1 c.in-Some-split_first.ensures.cases.0 x.theirs_are in
+    absurd (c.in_err-found.ensures.held c.in-Some-checked_sub.inner refl (omega (arith, at, l, c.in-Some-checked_sub.ensures)) x.mine o x.is is x.readable x.other_readable more behind (ours, theirs))
 
-pub has_parts-returns-else-object-clause-held : goal.has_parts-returns-else-object-clause-held
-has_parts-returns-else-object-clause-held m c = λ l t o is p q more behind w.
-    let x = both_arrays c.args.depth c.in-Some-checked_sub.inner (omega (arith, c.in-Some-checked_sub.ensures)) t o (is ∙ c.if-object.false) p q c.in-Some.mine.now c.in-Some-split_first.other.now
+pub has_parts-returns-clause-held : goal.has_parts-returns-clause-held
+has_parts-returns-clause-held m c = λ depth at l t o is p q more behind w.
+    let x = both_open depth c.in-Some-checked_sub.inner (omega (arith, at, c.in-Some-checked_sub.ensures)) c.args.object t o is p q c.in-Some.mine.now c.in-Some-split_first.other.now
     c.args.self.now.ours.now c.args.self.now.theirs.now c.in-Some.ours.now c.in-Some-split_first.theirs.now more behind c.in-Some.ensures.cases.0 w.0.is c.in-Some-split_first.ensures.cases.0 w.1.is c.if-mine-other.false in
-    told_as (holds t (opened_tree o)) (holds_items x.ts x.us) false c.args.object c.has_items.new.self more behind c.has_items.result x.whole c.if-object.false
-    (c.has_items.ensures.held (omega (arith, l, c.in-Some-checked_sub.ensures)) x.ts x.us x.ours_readable x.theirs_readable more behind (
-      inside c.args.self.now.key.now c.args.self.now.ours.now (key_of t ++ more) c.in-Some.ours.now (items_key x.ts ++ more) c.in-Some.mine.now w.0 c.in-Some.ensures.cases.0 x.ours_are,
-      inside c.args.self.now.other.now c.args.self.now.theirs.now (key_of (opened_tree o) ++ behind) c.in-Some-split_first.theirs.now (items_key x.us ++ behind) c.in-Some-split_first.other.now w.1 c.in-Some-split_first.ensures.cases.0 x.theirs_are,
-    ))
+    let ours = inside c.args.self.now.key.now c.args.self.now.ours.now (key_of t ++ more) c.in-Some.ours.now (open_key x.mine ++ more) c.in-Some.mine.now w.0 c.in-Some.ensures.cases.0 x.ours_are in
+    let theirs = inside c.args.self.now.other.now c.args.self.now.theirs.now (key_of (opened_tree o) ++ behind) c.in-Some-split_first.theirs.now (open_key o ++ behind) c.in-Some-split_first.other.now w.1 c.in-Some-split_first.ensures.cases.0 x.theirs_are in
+    let told = c.in_ok-found.ensures.held c.in-Some-checked_sub.inner refl (omega (arith, at, l, c.in-Some-checked_sub.ensures)) x.mine o x.is is x.readable x.other_readable more behind (ours, theirs) in
+    let same : holds t (opened_tree o) ≡ holds (opened_tree x.mine) (opened_tree o) = ap (λ v. holds v (opened_tree o)) x.whole in
+    (told.0 ∙ sym same, λ held. let s = told.1 (sym same ∙ held) in record { inside = record { parts = s.inside.parts; is = s.inside.is; fits = s.inside.fits; stands = s.inside.stands }; kind = s.kind })
 
 -- ---- a value
 
 pub has_value-returns-in_default-clause-held : goal.has_value-returns-in_default-clause-held
-has_value-returns-in_default-clause-held m c = λ l t u p q more behind w. absurd (no_key c.args.depth u q c.args.self.now.theirs.now behind w.1.is c.in_default.ensures.cases)
+has_value-returns-in_default-clause-held m c = λ depth at l t u p q more behind w. absurd (no_key depth u q c.args.self.now.theirs.now behind w.1.is c.in_default.ensures.cases)
 
 pub has_value-returns-in_err-has_parts-clause-held : goal.has_value-returns-in_err-has_parts-clause-held
-has_value-returns-in_err-has_parts-clause-held m c = λ l t u p q more behind w.
-    let o = container_there c.args.depth u q c.in-Some.first.now _ c.args.self.now.theirs.now behind c.in-Some.ensures.cases.0 w.1.is c.in-Some-opening.object c.in-Some-opening.ensures in
-    absurd (c.in_err-has_parts.ensures.held l t o.all o.is p (subst (IsReadableAt c.args.depth) (sym o.whole) q) more behind (w.0, subst (λ v. IsLeft c.args.self.now.other.now c.args.self.now.theirs.now (key_of v ++ behind)) (sym o.whole) w.1))
+has_value-returns-in_err-has_parts-clause-held m c = λ depth at l t u p q more behind w.
+    let o = container_there depth u q c.in-Some.first.now _ c.args.self.now.theirs.now behind c.in-Some.ensures.cases.0 w.1.is c.in-Some-opening.object c.in-Some-opening.ensures in
+    absurd (c.in_err-has_parts.ensures.held depth at l t o.all o.is p (subst (IsReadableAt depth) (sym o.whole) q) more behind (w.0, subst (λ v. IsLeft c.args.self.now.other.now c.args.self.now.theirs.now (key_of v ++ behind)) (sym o.whole) w.1))
 
 pub has_value-returns-then-not-branch-clause-held : goal.has_value-returns-then-not-branch-clause-held
-has_value-returns-then-not-branch-clause-held m c = λ l t u p q more behind w.
-    let o = container_there c.args.depth u q c.in-Some.first.now _ c.args.self.now.theirs.now behind c.in-Some.ensures.cases.0 w.1.is c.in-Some-opening.object c.in-Some-opening.ensures in
-    let told = c.in_ok-has_parts.ensures.held l t o.all o.is p (subst (IsReadableAt c.args.depth) (sym o.whole) q) more behind (w.0, subst (λ v. IsLeft c.args.self.now.other.now c.args.self.now.theirs.now (key_of v ++ behind)) (sym o.whole) w.1) in
+has_value-returns-then-not-branch-clause-held m c = λ depth at l t u p q more behind w.
+    let o = container_there depth u q c.in-Some.first.now _ c.args.self.now.theirs.now behind c.in-Some.ensures.cases.0 w.1.is c.in-Some-opening.object c.in-Some-opening.ensures in
+    let told = c.in_ok-has_parts.ensures.held depth at l t o.all o.is p (subst (IsReadableAt depth) (sym o.whole) q) more behind (w.0, subst (λ v. IsLeft c.args.self.now.other.now c.args.self.now.theirs.now (key_of v ++ behind)) (sym o.whole) w.1) in
     told_no (holds t u) (sym (ap (holds t) o.whole) ∙ (sym told.0 ∙ c.if-not-branch.true))
 
 pub has_value-returns-in_err-close-clause-held : goal.has_value-returns-in_err-close-clause-held
-has_value-returns-in_err-close-clause-held m c = λ l t u p q more behind w.
-    let o = container_there c.args.depth u q c.in-Some.first.now _ c.args.self.now.theirs.now behind c.in-Some.ensures.cases.0 w.1.is c.in-Some-opening.object c.in-Some-opening.ensures in
-    let told = c.in_ok-has_parts.ensures.held l t o.all o.is p (subst (IsReadableAt c.args.depth) (sym o.whole) q) more behind (w.0, subst (λ v. IsLeft c.args.self.now.other.now c.args.self.now.theirs.now (key_of v ++ behind)) (sym o.whole) w.1) in
-    absurd (no_ok _ _ (c.in_err-close.ensures.closed more behind (told.1 (sym told.0 ∙ c.if-not-branch.false))).0)
+has_value-returns-in_err-close-clause-held m c = λ depth at l t u p q more behind w.
+    let o = container_there depth u q c.in-Some.first.now _ c.args.self.now.theirs.now behind c.in-Some.ensures.cases.0 w.1.is c.in-Some-opening.object c.in-Some-opening.ensures in
+    let told = c.in_ok-has_parts.ensures.held depth at l t o.all o.is p (subst (IsReadableAt depth) (sym o.whole) q) more behind (w.0, subst (λ v. IsLeft c.args.self.now.other.now c.args.self.now.theirs.now (key_of v ++ behind)) (sym o.whole) w.1) in
+    absurd (no_ok _ _ (c.in_err-close.ensures.closed c.in-Some-opening.object more behind (told.1 (sym told.0 ∙ c.if-not-branch.false))).0)
 
 pub has_value-returns-clause-held : goal.has_value-returns-clause-held
-has_value-returns-clause-held m c = λ l t u p q more behind w.
-    let o = container_there c.args.depth u q c.in-Some.first.now _ c.args.self.now.theirs.now behind c.in-Some.ensures.cases.0 w.1.is c.in-Some-opening.object c.in-Some-opening.ensures in
-    let told = c.in_ok-has_parts.ensures.held l t o.all o.is p (subst (IsReadableAt c.args.depth) (sym o.whole) q) more behind (w.0, subst (λ v. IsLeft c.args.self.now.other.now c.args.self.now.theirs.now (key_of v ++ behind)) (sym o.whole) w.1) in
+has_value-returns-clause-held m c = λ depth at l t u p q more behind w.
+    let o = container_there depth u q c.in-Some.first.now _ c.args.self.now.theirs.now behind c.in-Some.ensures.cases.0 w.1.is c.in-Some-opening.object c.in-Some-opening.ensures in
+    let told = c.in_ok-has_parts.ensures.held depth at l t o.all o.is p (subst (IsReadableAt depth) (sym o.whole) q) more behind (w.0, subst (λ v. IsLeft c.args.self.now.other.now c.args.self.now.theirs.now (key_of v ++ behind)) (sym o.whole) w.1) in
     let is = sym told.0 ∙ c.if-not-branch.false in
-    told_yes (holds t u) (sym (ap (holds t) o.whole) ∙ is) (c.in_ok-close.ensures.closed more behind (told.1 is)).1
+    told_yes (holds t u) (sym (ap (holds t) o.whole) ∙ is) (c.in_ok-close.ensures.closed c.in-Some-opening.object more behind (told.1 is)).1

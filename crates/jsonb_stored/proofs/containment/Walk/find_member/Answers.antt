@@ -9,7 +9,7 @@ use Rattle.jsonb_stored.proofs.containment.Walk.find_member.Goals as goal
 pub members-init : goal.members-init
 members-init c = record {
   passes = λ depth l ms h name more named stands. members_ahead depth ms name _ _ more h stands;
-  keys = (refl, refl);
+  keys = (refl, refl, refl);
   theirs = refl;
 }
 

@@ -10,7 +10,7 @@ use Rattle.jsonb_stored.proofs.containment.Walk.has_scalar_item.Goals as goal
 pub items-init : goal.items-init
 items-init c = record {
   passes = λ u s e r is depth l ts h more stands. items_ahead depth ts u _ _ more h stands;
-  keys = (refl, refl);
+  keys = (refl, refl, refl);
   theirs = refl;
 }
 

@@ -1,0 +1,150 @@
+use jsonb::{Mode, append_sort_key};
+use jsonb_stored::{Key, NoKey, contains};
+use std::alloc::Global;
+use std::test::Fail;
+
+fn key_of(alloc: Global, text: &str) -> Result<Vec<u8>, Fail> {
+    let mut key = Vec::new(alloc);
+    append_sort_key(alloc, text.as_bytes(), Mode::Extended, &mut key)?;
+    Ok(key)
+}
+
+// What PostgreSQL 15 answers to `'..'::jsonb @> '..'::jsonb`. The first ten are those of its documentation.
+const ANSWERS: [(&str, &str, bool); 40] = [
+    (r#""foo""#, r#""foo""#, true),
+    ("[1, 2, 3]", "[1, 3]", true),
+    ("[1, 2, 3]", "[3, 1]", true),
+    ("[1, 2, 3]", "[1, 2, 2]", true),
+    (
+        r#"{"product": "PostgreSQL", "version": 9.4, "jsonb": true}"#,
+        r#"{"version": 9.4}"#,
+        true,
+    ),
+    ("[1, 2, [1, 3]]", "[1, 3]", false),
+    ("[1, 2, [1, 3]]", "[[1, 3]]", true),
+    (r#"{"foo": {"bar": "baz"}}"#, r#"{"bar": "baz"}"#, false),
+    (
+        r#"{"foo": {"bar": "baz", "zig": "zag"}}"#,
+        r#"{"foo": {}}"#,
+        true,
+    ),
+    (r#"["foo", "bar"]"#, r#""bar""#, true),
+    (r#""bar""#, r#"["bar"]"#, false),
+    ("1", "1.0", true),
+    ("[1.0]", "1", true),
+    ("[[1]]", "1", false),
+    ("[[1]]", "[]", true),
+    ("1", "[]", false),
+    ("[]", "[]", true),
+    ("{}", "{}", true),
+    ("{}", "[]", false),
+    ("[]", "{}", false),
+    (r#"{"a": [1]}"#, r#"{"a": 1}"#, false),
+    (r#"{"a": 1}"#, r#"{"a": [1]}"#, false),
+    (r#"{"a": []}"#, r#"{"a": {}}"#, false),
+    ("[[]]", "[{}]", false),
+    ("[1, [2]]", "[[]]", true),
+    ("[1, 2]", "[[]]", false),
+    ("[null]", "null", true),
+    (r#"{"a": null}"#, "{}", true),
+    (r#"{"b": 1}"#, r#"{"a": null}"#, false),
+    (
+        r#"[{"a": [1, {"b": 2}], "c": 3}]"#,
+        r#"[{"a": [{"b": 2.0}]}, {"c": 3}]"#,
+        true,
+    ),
+    (r#"[{"a": 1}, {"b": 2}]"#, r#"[{"a": 1, "b": 2}]"#, false),
+    ("true", "false", false),
+    (r#""1""#, "1", false),
+    ("[[[1, 2]], [[3]]]", "[[[3]], [[2]]]", true),
+    (
+        r#"{"a": {"b": 1, "c": [1, 2]}, "d": 1}"#,
+        r#"{"a": {"c": [2]}, "d": 1}"#,
+        true,
+    ),
+    (
+        r#"{"a": {"b": 1, "c": [1, 2]}, "d": 1}"#,
+        r#"{"a": {"c": [2]}, "e": 1}"#,
+        false,
+    ),
+    (r#"{"": 1, "a": 2}"#, r#"{"a": 2}"#, true),
+    (r#"{"aa": 1, "ab": 2}"#, r#"{"a": 1}"#, false),
+    (r#"{"a": 1, "ab": 2}"#, r#"{"ab": 2}"#, true),
+    ("-0.05", "-0.050", true),
+];
+
+#[test]
+fn contains_what_jsonb_contains(rt: HostRuntime) -> Result<(), Fail> {
+    let alloc = rt.alloc();
+    for (left, right, answer) in ANSWERS {
+        let key = key_of(alloc, left)?;
+        let other = key_of(alloc, right)?;
+        assert!(rt; contains(&key, &other) == Ok(answer), "{left} @> {right}");
+        let Some(whole) = Key::new(&key) else {
+            return Err(Fail::new("no key"));
+        };
+        let Some(part) = Key::new(&other) else {
+            return Err(Fail::new("no key"));
+        };
+        assert_eq!(rt; whole.contains(part), answer, "{left} @> {right}");
+    }
+    Ok(())
+}
+
+// So many arrays or objects in one another.
+fn nested(alloc: Global, front: &[u8], back: &[u8], levels: usize) -> Result<Vec<u8>, Fail> {
+    let mut key = Vec::new(alloc);
+    for _ in 0..levels {
+        key.extend_from_slice(front)?;
+    }
+    key.push(0xD3)?;
+    for _ in 0..levels {
+        key.extend_from_slice(back)?;
+    }
+    Ok(key)
+}
+
+#[test]
+fn contains_itself_up_to_512_levels(rt: HostRuntime) -> Result<(), Fail> {
+    let alloc = rt.alloc();
+    for (levels, answer) in [
+        (0, Ok(true)),
+        (511, Ok(true)),
+        (512, Ok(true)),
+        (513, Err(NoKey)),
+        (5000, Err(NoKey)),
+    ] {
+        let arrays = nested(alloc, b"\xD2", b"\x00", levels)?;
+        assert!(rt; contains(&arrays, &arrays) == answer, "{levels}");
+        let objects = nested(alloc, b"\xD1a\x00\x01", b"\x00\x00", levels)?;
+        assert!(rt; contains(&objects, &objects) == answer, "{levels}");
+    }
+    Ok(())
+}
+
+#[test]
+fn answers_to_any_bytes(rt: HostRuntime) -> Result<(), Fail> {
+    let alloc = rt.alloc();
+    let key = key_of(alloc, r#"{"a": [1, "x", [2, {"b": null}]], "c": {"d": -1.5}}"#)?;
+    let mut changed = Vec::from_slice(alloc, &key)?;
+    let mut refused = 0;
+    for at in 0..key.len() {
+        for byte in [0, 1, 0x61, 0xD0, 0xD1, 0xD2, 0xFF] {
+            changed[at] = byte;
+            for answer in [
+                contains(&key, &changed),
+                contains(&changed, &key),
+                contains(&changed, &changed),
+            ] {
+                if answer.is_err() {
+                    refused += 1;
+                }
+            }
+        }
+        changed[at] = key[at];
+        let (front, _) = key.split_at(at);
+        assert!(rt; contains(&key, front) != Ok(true), "{front:?}");
+    }
+    assert!(rt; refused > 100);
+    Ok(())
+}
