@@ -505,101 +505,28 @@ vjson_object_keys(PG_FUNCTION_ARGS)
  * Containment, as jsonb has it
  */
 
-static bool contains(Range left, Range right);
-
-static inline bool
-same_bytes(Range left, Range right)
-{
-	return left.size == right.size && memcmp(left.at, right.at, left.size) == 0;
-}
-
-/* Whether an item of the array contains the value. */
+/* The machine stack of a call is bounded, and looked at once. */
 static bool
-has_item(Range array, Range wanted)
-{
-	Walk		walk;
-
-	begin_walk(&walk, array);
-	while (next_in_walk(&walk))
-	{
-		if (contains(walk.value, wanted))
-			return true;
-	}
-	return false;
-}
-
-/* Whether the object has each member of the other, with a value that contains the other's. Names ascend in both. */
-static bool
-has_members(Range left, Range right)
-{
-	Walk		ours;
-	Walk		theirs;
-
-	begin_walk(&ours, left);
-	begin_walk(&theirs, right);
-	while (next_in_walk(&theirs))
-	{
-		int			order;
-
-		do
-		{
-			if (!next_in_walk(&ours))
-				return false;
-			/* No name's key begins another's. */
-			order = memcmp(ours.name.at, theirs.name.at, Min(ours.name.size, theirs.name.size));
-		} while (order < 0);
-		if (order > 0 || !contains(ours.value, theirs.value))
-			return false;
-	}
-	return true;
-}
-
-static bool
-contains(Range left, Range right)
-{
-	uint32		kind = kind_of(left);
-	Walk		walk;
-
-	if (same_bytes(left, right))
-		return true;
-	if (is_scalar(kind) || kind_of(right) != kind)
-		return false;
-	check_stack_depth();
-	CHECK_FOR_INTERRUPTS();
-	if (kind == VIZHONIKU_OBJECT)
-		return has_members(left, right);
-	begin_walk(&walk, right);
-	while (next_in_walk(&walk))
-	{
-		if (!has_item(left, walk.value))
-			return false;
-	}
-	return true;
-}
-
-/* An array contains a scalar that is an item of it; this is so at the top alone. */
-static bool
-contains_at_top(Datum left, Datum right)
+contains(Datum left, Datum right)
 {
 	VjsonParts	parts;
 	Range		ours = get_whole((struct varlena *) PG_DETOAST_DATUM_PACKED(left), &parts);
 	Range		theirs = get_whole((struct varlena *) PG_DETOAST_DATUM_PACKED(right), &parts);
 
-	if (kind_of(ours) == VIZHONIKU_ARRAY && is_scalar(kind_of(theirs)))
-		return has_item(ours, theirs);
-	return contains(ours, theirs);
+	check_stack_depth();
+	return is_found(vizhoniku_key_contains(ours.at, ours.size, theirs.at, theirs.size));
 }
 
 Datum
 vjson_contains(PG_FUNCTION_ARGS)
 {
-	PG_RETURN_BOOL(contains_at_top(PG_GETARG_DATUM(0), PG_GETARG_DATUM(1)));
+	PG_RETURN_BOOL(contains(PG_GETARG_DATUM(0), PG_GETARG_DATUM(1)));
 }
 
 Datum
 vjson_contained(PG_FUNCTION_ARGS)
 {
-	PG_RETURN_BOOL(contains_at_top(PG_GETARG_DATUM(1), PG_GETARG_DATUM(0)));
+	PG_RETURN_BOOL(contains(PG_GETARG_DATUM(1), PG_GETARG_DATUM(0)));
 }
 
 

@@ -1,6 +1,6 @@
 -- One turn of each loop over two keys that are walked side by side.
-use Rattle.std.proofs.Common.{◌≡◌, ℕ, zero, suc, ◌≤◌, ◌⊎◌, inl, inr, Bool, true, false, ◌&&◌, List, [], ◌∷◌, ◌++◌, None, Result, Ok, Err, length, refl, sym, ap, subst, ◌∙◌, arith, append_assoc}
-use Rattle.std.specs.Option.{option_map_or}
+use Rattle.std.proofs.Common.{◌≡◌, ◌≢◌, ℕ, zero, suc, ◌≤◌, ◌⊎◌, inl, inr, Bool, true, false, ◌&&◌, List, [], ◌∷◌, ◌++◌, Option, Some, None, Result, Ok, Err, length, refl, sym, ap, subst, ◌∙◌, arith, append_assoc}
+use Rattle.std.specs.Option.{MatchOption, is_some, option_map_or}
 use Rattle.std.specs.Str.{bytes_eq}
 use Rattle.jsonb_key.specs.Readable.{IsReadableAt}
 use Rattle.jsonb_stored.specs.declared.containment.Walk.{Walk}
@@ -63,6 +63,10 @@ array_in (suc inner) (array ts) r first rest bytes more e stands is = record {
 }
 array_in depth (object ms) r first rest bytes more e stands is = absurd (omega (arith, is, heads first 0xD1 rest (members_key ms ++ more) (sym e ∙ stands)))
 array_in depth t r first rest bytes more e stands is = absurd ((scalar_begins depth t r tt first rest bytes more e stands).1 is)
+
+pub no_container : (first : ℕ) (r : Option Bool) → is_some r ≡ false → MatchOption r ((first ≢ 0xD1) × (first ≢ 0xD2)) (λ b. first ≡ opening_byte b) → (first ≢ 0xD1) × (first ≢ 0xD2)
+no_container first None none told = told
+no_container first (Some b) none told = absurd (true_false none)
 
 -- an array or an object begins there
 pub record ContainerThere (u : Tree) (b : Bool) : Type 0 where

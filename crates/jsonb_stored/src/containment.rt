@@ -202,6 +202,13 @@ impl<'k> Walk<'k> {
         ensures keys { IfOk result (λ found. SameKeys self.old self.new) }
         ensures shorter { IfOk result (λ found. IsTrue found → length self.new.theirs.now < length self.old.theirs.now) }
     {
+        let Some((first, _)) = self.theirs.split_first() else {
+            return Err(NoKey);
+        };
+        if opening(*first).is_none() {
+            self.ours = last_bytes(self.key, items);
+            return self.has_scalar_item();
+        }
         let wanted = self.theirs.len();
         let mut item = items;
         'items: loop {

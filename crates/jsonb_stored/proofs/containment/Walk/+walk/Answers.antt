@@ -8,55 +8,66 @@ use Rattle.jsonb_stored.specs.Parts.{opened_tree}
 use Rattle.jsonb_stored.specs.SideBySide.{IsLeft}
 use Rattle.jsonb_stored.proofs.Beside.{item_ahead, no_item_ahead, item_is, item_passed, item_inside}
 use Rattle.jsonb_stored.proofs.Holding.{members_open, readable_up}
-use Rattle.jsonb_stored.proofs.Turns.{item_there, all_items_held, item_sought, item_not_held, item_held, all_held, one_sought, one_missing, one_not_held, one_held, finds_none, finds_one, both_open, container_there, inside, no_ok}
+use Rattle.jsonb_stored.proofs.Scalars.{scalar_there}
+use Rattle.jsonb_stored.proofs.Turns.{item_there, all_items_held, item_sought, item_not_held, item_held, all_held, one_sought, one_missing, one_not_held, one_held, finds_none, finds_one, no_container, both_open, container_there, inside, no_ok}
 use Rattle.jsonb_stored.proofs.Walked.{told_no, told_yes, passed, same_end, some_number, no_number}
 use Rattle.jsonb_value.specs.SortKey.{key_of, items_key, members_key}
 use Rattle.jsonb_stored.proofs.containment.Walk.+walk.Goals as goal
 
 -- ---- one item
 
+pub has_item-returns-in_default-clause-held : goal.has_item-returns-in_default-clause-held
+has_item-returns-in_default-clause-held m c = λ depth at l ts u h r more behind ends size theirs. absurd (no_key depth u r c.args.self.now.theirs.now behind theirs.is c.in_default.ensures.cases)
+
+pub has_item-returns-then-is_none-clause-held : goal.has_item-returns-then-is_none-clause-held
+has_item-returns-then-is_none-clause-held m c = λ depth at l ts u h r more behind ends size theirs.
+    let ours = c.last_bytes-self.ensures.last (items_key ts ++ more) ends size in
+    let other = no_container c.in-Some.first.now c.opening.result c.if-is_none.ensures c.opening.ensures in
+    let s = scalar_there depth u r c.in-Some.first.now _ c.args.self.now.theirs.now behind c.in-Some.ensures.cases.0 theirs.is other.0 other.1 in
+    c.has_scalar_item.ensures.held depth depth l ts u h r s more behind (record { ends = ends; is = ours }, theirs)
+
 pub has_item-returns-then-is_over-clause-held : goal.has_item-returns-then-is_over-clause-held
 has_item-returns-then-is_over-clause-held m c = λ depth at l ts u h r more behind ends size theirs.
     let x = c.items.invariant.looks depth at l ts u h r more behind ends size theirs in
-    let ours = c.last_bytes-self.ensures.last (items_key x.left ++ more) x.ends x.size in
+    let ours = c.last_bytes-self-in-items.ensures.last (items_key x.left ++ more) x.ends x.size in
     let over = c.is_over.ensures.yes c.if-is_over.true in
-    told_no _ (no_item_ahead depth ts u c.items.self.key.now c.last_bytes-self.result.now more over.0 (item_there depth ts u c.items.self c.items.item more behind c.last_bytes-self.result.now x ours) over.1)
+    told_no _ (no_item_ahead depth ts u c.items.self.key.now c.last_bytes-self-in-items.result.now more over.0 (item_there depth ts u c.items.self c.items.item more behind c.last_bytes-self-in-items.result.now x ours) over.1)
 
 pub has_item-returns-in_err-has_value-clause-held : goal.has_item-returns-in_err-has_value-clause-held
 has_item-returns-in_err-has_value-clause-held m c = λ depth at l ts u h r more behind ends size theirs.
     let x = c.items.invariant.looks depth at l ts u h r more behind ends size theirs in
-    let ours = c.last_bytes-self.ensures.last (items_key x.left ++ more) x.ends x.size in
-    let n = item_ahead depth ts u c.items.self.key.now c.last_bytes-self.result.now more (item_there depth ts u c.items.self c.items.item more behind c.last_bytes-self.result.now x ours) (c.is_over.ensures.no c.if-is_over.false) in
+    let ours = c.last_bytes-self-in-items.ensures.last (items_key x.left ++ more) x.ends x.size in
+    let n = item_ahead depth ts u c.items.self.key.now c.last_bytes-self-in-items.result.now more (item_there depth ts u c.items.self c.items.item more behind c.last_bytes-self-in-items.result.now x ours) (c.is_over.ensures.no c.if-is_over.false) in
     absurd (c.in_err-has_value.ensures.held depth (c.items.invariant.keys.2 ∙ at) (omega (arith, l)) n.item u n.readable r (items_key n.others ++ more) behind (n.stands, x.theirs))
 
 pub has_item-returns-then-branch-clause-held : goal.has_item-returns-then-branch-clause-held
 has_item-returns-then-branch-clause-held m c = λ depth at l ts u h r more behind ends size theirs.
     let x = c.items.invariant.looks depth at l ts u h r more behind ends size theirs in
-    let ours = c.last_bytes-self.ensures.last (items_key x.left ++ more) x.ends x.size in
-    let n = item_ahead depth ts u c.items.self.key.now c.last_bytes-self.result.now more (item_there depth ts u c.items.self c.items.item more behind c.last_bytes-self.result.now x ours) (c.is_over.ensures.no c.if-is_over.false) in
+    let ours = c.last_bytes-self-in-items.ensures.last (items_key x.left ++ more) x.ends x.size in
+    let n = item_ahead depth ts u c.items.self.key.now c.last_bytes-self-in-items.result.now more (item_there depth ts u c.items.self c.items.item more behind c.last_bytes-self-in-items.result.now x ours) (c.is_over.ensures.no c.if-is_over.false) in
     let told = c.in_ok-has_value.ensures.held depth (c.items.invariant.keys.2 ∙ at) (omega (arith, l)) n.item u n.readable r (items_key n.others ++ more) behind (n.stands, x.theirs) in
     let is = sym told.0 ∙ c.if-branch.true in
-    told_yes _ (item_is depth ts u c.items.self.key.now c.last_bytes-self.result.now more n is) (item_inside depth n.others more behind c.has_value.new.self l n.are_readable (told.1 is))
+    told_yes _ (item_is depth ts u c.items.self.key.now c.last_bytes-self-in-items.result.now more n is) (item_inside depth n.others more behind c.has_value.new.self l n.are_readable (told.1 is))
 
-pub has_item-returns-in_default-clause-held : goal.has_item-returns-in_default-clause-held
-has_item-returns-in_default-clause-held m c = λ depth at l ts u h r more behind ends size theirs.
+pub has_item-returns-in_default-behind_item-clause-held : goal.has_item-returns-in_default-behind_item-clause-held
+has_item-returns-in_default-behind_item-clause-held m c = λ depth at l ts u h r more behind ends size theirs.
     let x = c.items.invariant.looks depth at l ts u h r more behind ends size theirs in
-    let ours = c.last_bytes-self.ensures.last (items_key x.left ++ more) x.ends x.size in
-    let n = item_ahead depth ts u c.items.self.key.now c.last_bytes-self.result.now more (item_there depth ts u c.items.self c.items.item more behind c.last_bytes-self.result.now x ours) (c.is_over.ensures.no c.if-is_over.false) in
-    absurd (no_number _ (c.in_default.ensures.found n.item (readable_up n.item depth 512 (omega (arith, l)) n.readable) (items_key n.others ++ more)
+    let ours = c.last_bytes-self-in-items.ensures.last (items_key x.left ++ more) x.ends x.size in
+    let n = item_ahead depth ts u c.items.self.key.now c.last_bytes-self-in-items.result.now more (item_there depth ts u c.items.self c.items.item more behind c.last_bytes-self-in-items.result.now x ours) (c.is_over.ensures.no c.if-is_over.false) in
+    absurd (no_number _ (c.in_default-behind_item.ensures.found n.item (readable_up n.item depth 512 (omega (arith, l)) n.readable) (items_key n.others ++ more)
     (same_end c.items.self.key.now c.has_value.new.self.key.now _ c.in_ok-has_value.ensures.keys.0 n.stands.ends) (x.size ∙ ap length (sym ours ∙ n.stands.is))))
 
 pub has_item-items-preserved : goal.has_item-items-preserved
 has_item-items-preserved m c = record {
   looks = λ depth at l ts u h r more behind ends size theirs.
       let x = c.items.invariant.looks depth at l ts u h r more behind ends size theirs in
-      let ours = c.last_bytes-self.ensures.last (items_key x.left ++ more) x.ends x.size in
-      let n = item_ahead depth ts u c.items.self.key.now c.last_bytes-self.result.now more (item_there depth ts u c.items.self c.items.item more behind c.last_bytes-self.result.now x ours) (c.is_over.ensures.no c.if-is_over.false) in
+      let ours = c.last_bytes-self-in-items.ensures.last (items_key x.left ++ more) x.ends x.size in
+      let n = item_ahead depth ts u c.items.self.key.now c.last_bytes-self-in-items.result.now more (item_there depth ts u c.items.self c.items.item more behind c.last_bytes-self-in-items.result.now x ours) (c.is_over.ensures.no c.if-is_over.false) in
       let told = c.in_ok-has_value.ensures.held depth (c.items.invariant.keys.2 ∙ at) (omega (arith, l)) n.item u n.readable r (items_key n.others ++ more) behind (n.stands, x.theirs) in
       let isnt = sym told.0 ∙ c.if-branch.false in
-      let others = some_number c.in-Some.others _ (c.in-Some.ensures.found n.item (readable_up n.item depth 512 (omega (arith, l)) n.readable) (items_key n.others ++ more)
+      let others = some_number c.in-Some-behind_item.others _ (c.in-Some-behind_item.ensures.found n.item (readable_up n.item depth 512 (omega (arith, l)) n.readable) (items_key n.others ++ more)
       (same_end c.items.self.key.now c.has_value.new.self.key.now _ c.in_ok-has_value.ensures.keys.0 n.stands.ends) (x.size ∙ ap length (sym ours ∙ n.stands.is))) in
-      let p = item_passed depth ts u c.items.self.key.now c.last_bytes-self.result.now more (items_key n.others ++ more) n isnt refl in
+      let p = item_passed depth ts u c.items.self.key.now c.last_bytes-self-in-items.result.now more (items_key n.others ++ more) n isnt refl in
       let there = same_end c.items.self.other.now c.has_value.new.self.other.now _ c.in_ok-has_value.ensures.keys.1 x.theirs.ends in
       record {
         left = p.left;
@@ -64,10 +75,10 @@ has_item-items-preserved m c = record {
         same = p.same;
         ends = same_end c.items.self.key.now c.has_value.new.self.key.now (items_key p.left ++ more) c.in_ok-has_value.ensures.keys.0 p.stands.ends;
         size = others ∙ ap length p.stands.is;
-        theirs = record { ends = there; is = c.last_bytes-self-in-items.ensures.last (key_of u ++ behind) there (ap length theirs.is) };
+        theirs = record { ends = there; is = c.last_bytes-self-in-items-2.ensures.last (key_of u ++ behind) there (ap length theirs.is) };
       };
   keys = (c.in_ok-has_value.ensures.keys.0 ∙ c.items.invariant.keys.0, c.in_ok-has_value.ensures.keys.1 ∙ c.items.invariant.keys.1, c.in_ok-has_value.ensures.keys.2 ∙ c.items.invariant.keys.2);
-  within = c.last_bytes-self-in-items.ensures.within;
+  within = c.last_bytes-self-in-items-2.ensures.within;
 }
 
 -- ---- items
