@@ -1,6 +1,6 @@
 //! Whether bytes are a sort key.
 
-ghost use Rattle.std.specs.Prelude.{◌≡◌, ◌<◌, ◌≤◌, ◌++◌, ◌↔◌, List, ℕ, length, option_map, get_or, Some, true, IsTrue, IfSome, Option};
+ghost use Rattle.std.specs.Prelude.{◌≡◌, ◌<◌, ◌≤◌, ◌++◌, ◌↔◌, List, ℕ, length, option_map, get_or, Some, true, IsTrue, IfOk, IfErr, IfSome, Option};
 ghost use Rattle.jsonb_stored.specs.Checked.{IsSortKey};
 ghost use Rattle.jsonb_stored.specs.Frames.{KeyFirst, ScalarFirst, NumberFirst, TextFirst, PartsFirst, Frame, in_object, is_object_frame, new_frame, IsAbove, NameFirst, named, IsFrame};
 ghost use Rattle.jsonb_value.specs.SortKey.{text_key};
@@ -16,6 +16,10 @@ use jsonb_key::number::read_number;
 const ARRAY: usize = 0;
 
 const NO_NAME: usize = 1;
+
+// For how many open arrays and objects there is room at first: room for all takes longer to fill than most keys take to
+// check.
+const FEW: usize = 8;
 
 /// Whether the bytes are the sort key of a value of JSON's kinds with at most 512 nested arrays and objects: of those
 /// that `value_of_sort_key` decodes. Nothing is allocated, and no function calls itself.
@@ -98,30 +102,69 @@ fn checked_text(bytes: &[u8]) -> Option<&[u8]>
 fn checked_parts(object: bool, bytes: &[u8]) -> Option<&[u8]>
     ensures { (more : List ℕ) → option_map (λ rest. rest.now) result ≡ Some more ↔ PartsFirst object bytes.now more }
 {
-    let mut frames = outermost(object);
+    let mut frames = [ARRAY; FEW];
+    match checked_within(object, bytes, &mut frames) {
+        Ok(rest) => rest,
+        Err(NoRoom) => checked_deep(object, bytes),
+    }
+}
+
+// The bytes after such parts, with room for as many open arrays and objects as there may be.
+#[inline(never)]
+fn checked_deep(object: bool, bytes: &[u8]) -> Option<&[u8]>
+    ensures { (more : List ℕ) → option_map (λ rest. rest.now) result ≡ Some more ↔ PartsFirst object bytes.now more }
+{
+    let mut frames = [ARRAY; MAX_DEPTH];
+    match checked_within(object, bytes, &mut frames) {
+        Ok(rest) => rest,
+        Err(NoRoom) => None,
+    }
+}
+
+// More arrays and objects are open at once than there is room for.
+#[derive(Drop)]
+struct NoRoom;
+
+// The bytes after such parts, with this room for the open arrays and objects.
+#[inline(never)]
+fn checked_within<'k>(
+    object: bool,
+    bytes: &'k [u8],
+    frames: &mut [usize],
+) -> Result<Option<&'k [u8]>, NoRoom>
+    requires some { 0 < length frames.old }
+    requires few { length frames.old ≤ 512 }
+    ensures checked { IfOk result (λ rest. (more : List ℕ) → option_map (λ rest. rest.now) rest ≡ Some more
+        ↔ PartsFirst object bytes.now more) }
+    ensures no_room { IfErr result (λ e. length frames.old < 512) }
+{
+    frames[0] = opened(object);
     let mut depth: usize = 1;
     let mut rest = bytes;
     'parts: loop {
         let Some(top) = depth.checked_sub(1) else {
-            return Some(rest);
+            return Ok(Some(rest));
         };
-        let last = frame_at(&frames, top);
+        let last = frame_at(frames, top);
         if let Some(others) = after_end(is_object(last), rest) {
             depth = top;
             rest = others;
             continue;
         }
         let Some(value) = checked_name(bytes, last, rest) else {
-            return None;
+            return Ok(None);
         };
         frames[top] = with_name(last, rest);
         let Some((first, others)) = value.split_first() else {
-            return None;
+            return Ok(None);
         };
         match opening(*first) {
             Some(inner) => {
                 if depth == MAX_DEPTH {
-                    return None;
+                    return Ok(None);
+                }
+                if depth == frames.len() {
+                    return Err(NoRoom);
                 }
                 frames[depth] = opened(inner);
                 depth += 1;
@@ -129,7 +172,7 @@ fn checked_parts(object: bool, bytes: &[u8]) -> Option<&[u8]>
             }
             None => {
                 let Some(others) = checked_scalar(value) else {
-                    return None;
+                    return Ok(None);
                 };
                 rest = others;
             }
@@ -144,18 +187,8 @@ fn opened(object: bool) -> usize
     if object { NO_NAME } else { ARRAY }
 }
 
-// The frames where one is open.
-fn outermost(object: bool) -> [usize; MAX_DEPTH]
-    ensures first { (bytes : List ℕ) → IsFrame bytes (new_frame object) (get_or result 0 0) }
-    ensures size { length result ≡ 512 }
-{
-    let mut frames = [ARRAY; MAX_DEPTH];
-    frames[0] = opened(object);
-    frames
-}
-
-fn frame_at(frames: &[usize; MAX_DEPTH], index: usize) -> usize
-    requires { index < 512 }
+fn frame_at(frames: &[usize], index: usize) -> usize
+    requires { index < length frames.now }
     ensures { result ≡ get_or frames.now index 0 }
 {
     frames[index]

@@ -1,12 +1,13 @@
 use Rattle.std.proofs.Common.{◌≡◌, ◌≤◌, length}
 use Rattle.jsonb_stored.proofs.Stacked.{Left}
-use Rattle.jsonb_stored.proofs.check.checked_parts.Given as goal
+use Rattle.jsonb_stored.proofs.check.checked_within.Given as goal
 
 abbrev pub invariant-parts : goal.invariant-parts
 invariant-parts l = record {
   parts : Left l.object l.bytes l.frames l.depth l.rest;
-  deep : l.depth ≤ 512;
-  size : length l.frames ≡ 512;
+  deep : l.depth ≤ length l.frames;
+  few : length l.frames ≤ 512;
+  size : length l.frames ≡ length l.fn.frames;
 }
 
 abbrev pub decreases-parts : goal.decreases-parts

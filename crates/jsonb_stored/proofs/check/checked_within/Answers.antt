@@ -1,39 +1,41 @@
-use Rattle.std.proofs.Common.{arith, set}
-use Rattle.std.proofs.lemmas.List.{length-set}
-use Rattle.jsonb_stored.specs.Frames.{PartsFirst}
+use Rattle.std.proofs.Common.{arith, set, subst, sym}
+use Rattle.std.proofs.lemmas.List.{get_or-set_same, length-set}
+use Rattle.jsonb_stored.specs.Frames.{IsFrame, PartsFirst, new_frame}
 use Rattle.jsonb_stored.proofs.Checks.{never, exactly}
 use Rattle.jsonb_stored.proofs.Stacked.{begun, all_passed, end_step, name_step, no_name_step, none_due, none_deeper, opened_next, scalar_step, no_scalar_step}
-use Rattle.jsonb_stored.proofs.check.checked_parts.Goals as goal
+use Rattle.jsonb_stored.proofs.check.checked_within.Goals as goal
 
 pub parts-init : goal.parts-init
 parts-init c = record {
-  parts = begun c.args.object c.args.bytes.now c.outermost-frames.result (c.outermost-frames.ensures.first c.args.bytes.now);
-  deep = omega arith;
-  size = c.outermost-frames.ensures.size;
+  parts = begun c.args.object c.args.bytes.now (set c.args.frames.now 0 c.opened.result) (subst (IsFrame c.args.bytes.now (new_frame c.args.object)) (sym (get_or-set_same c.args.frames.now 0 c.opened.result 0 c.requires.some)) (c.opened.ensures c.args.bytes.now));
+  deep = simp length-set c.requires.some;
+  few = simp length-set c.requires.few;
+  size = length-set c.args.frames.now 0 c.opened.result;
 }
 
-pub returns-in_default : goal.returns-in_default
-returns-in_default c =
+pub returns-in_default-clause-checked : goal.returns-in_default-clause-checked
+returns-in_default-clause-checked c =
     exactly (PartsFirst c.args.object c.args.bytes.now) c.parts.rest.now (all_passed c.args.object c.args.bytes.now c.parts.frames c.parts.depth c.parts.rest.now (omega (arith, c.in_default.ensures)) c.parts.invariant.parts)
 
 pub parts-preserved-in-Some-after_end : goal.parts-preserved-in-Some-after_end
 parts-preserved-in-Some-after_end c = record {
   parts = end_step c.args.object c.args.bytes.now c.parts.frames c.parts.depth c.in-Some.top c.frame_at-last.result c.parts.rest.now c.is_object.result (omega (arith, c.in-Some.ensures)) c.parts.invariant.parts c.frame_at-last.ensures c.is_object.ensures c.in-Some-after_end.others.now c.in-Some-after_end.ensures.some;
   deep = omega (arith, c.parts.invariant.deep, c.in-Some.ensures);
+  few = c.parts.invariant.few;
   size = c.parts.invariant.size;
 }
 
-pub returns-in_default-checked_name : goal.returns-in_default-checked_name
-returns-in_default-checked_name c =
+pub returns-in_default-checked_name-clause-checked : goal.returns-in_default-checked_name-clause-checked
+returns-in_default-checked_name-clause-checked c =
     never (PartsFirst c.args.object c.args.bytes.now) (no_name_step c.args.object c.args.bytes.now c.parts.frames c.parts.depth c.in-Some.top c.frame_at-last.result c.parts.rest.now c.is_object.result (omega (arith, c.in-Some.ensures)) c.parts.invariant.parts c.frame_at-last.ensures c.is_object.ensures c.in_default-after_end.ensures.found c.in_default-checked_name.ensures.found)
 
-pub returns-in_default-split_first : goal.returns-in_default-split_first
-returns-in_default-split_first c =
+pub returns-in_default-split_first-clause-checked : goal.returns-in_default-split_first-clause-checked
+returns-in_default-split_first-clause-checked c =
     let due = name_step c.args.object c.args.bytes.now c.parts.frames c.parts.depth c.in-Some.top c.frame_at-last.result c.parts.rest.now c.is_object.result (omega (arith, c.in-Some.ensures)) c.parts.invariant.parts c.frame_at-last.ensures c.is_object.ensures c.in-Some-checked_name.value.now c.with_name.result c.in_default-after_end.ensures.found (omega (arith, c.in-Some.ensures, c.parts.invariant.deep, c.parts.invariant.size)) c.in-Some-checked_name.ensures.found c.with_name.ensures in
     never (PartsFirst c.args.object c.args.bytes.now) (none_due c.args.object c.args.bytes.now (set c.parts.frames c.in-Some.top c.with_name.result) c.parts.depth c.in-Some-checked_name.value.now due c.in_default-split_first.ensures.cases)
 
-pub returns-then-depth-eq-MAX_DEPTH : goal.returns-then-depth-eq-MAX_DEPTH
-returns-then-depth-eq-MAX_DEPTH c =
+pub returns-then-depth-eq-MAX_DEPTH-clause-checked : goal.returns-then-depth-eq-MAX_DEPTH-clause-checked
+returns-then-depth-eq-MAX_DEPTH-clause-checked c =
     let due = name_step c.args.object c.args.bytes.now c.parts.frames c.parts.depth c.in-Some.top c.frame_at-last.result c.parts.rest.now c.is_object.result (omega (arith, c.in-Some.ensures)) c.parts.invariant.parts c.frame_at-last.ensures c.is_object.ensures c.in-Some-checked_name.value.now c.with_name.result c.in_default-after_end.ensures.found (omega (arith, c.in-Some.ensures, c.parts.invariant.deep, c.parts.invariant.size)) c.in-Some-checked_name.ensures.found c.with_name.ensures in
     never (PartsFirst c.args.object c.args.bytes.now)
     (none_deeper c.args.object c.args.bytes.now (set c.parts.frames c.in-Some.top c.with_name.result) c.parts.depth c.in-Some-split_first.first.now c.in-Some-opening.inner c.in-Some-checked_name.value.now c.in-Some-split_first.others.now due c.in-Some-split_first.ensures.cases.0 c.in-Some-opening.ensures c.if-depth-eq-MAX_DEPTH.true)
@@ -45,14 +47,15 @@ pub parts-preserved-in-Some-opening : goal.parts-preserved-in-Some-opening
 parts-preserved-in-Some-opening c = record {
   parts =
       let due = name_step c.args.object c.args.bytes.now c.parts.frames c.parts.depth c.in-Some.top c.frame_at-last.result c.parts.rest.now c.is_object.result (omega (arith, c.in-Some.ensures)) c.parts.invariant.parts c.frame_at-last.ensures c.is_object.ensures c.in-Some-checked_name.value.now c.with_name.result c.in_default-after_end.ensures.found (omega (arith, c.in-Some.ensures, c.parts.invariant.deep, c.parts.invariant.size)) c.in-Some-checked_name.ensures.found c.with_name.ensures in
-      opened_next c.args.object c.args.bytes.now (set c.parts.frames c.in-Some.top c.with_name.result) c.parts.depth c.in-Some-split_first.first.now c.opened.result c.in-Some-opening.inner c.in-Some-checked_name.value.now c.in-Some-split_first.others.now due c.in-Some-split_first.ensures.cases.0 c.in-Some-opening.ensures
-      (omega (arith, c.parts.invariant.deep, c.if-depth-eq-MAX_DEPTH.false)) (simp length-set (omega (arith, c.parts.invariant.deep, c.parts.invariant.size, c.if-depth-eq-MAX_DEPTH.false))) (c.opened.ensures c.args.bytes.now);
-  deep = omega (arith, c.parts.invariant.deep, c.if-depth-eq-MAX_DEPTH.false);
+      opened_next c.args.object c.args.bytes.now (set c.parts.frames c.in-Some.top c.with_name.result) c.parts.depth c.in-Some-split_first.first.now c.opened-in-Some-opening.result c.in-Some-opening.inner c.in-Some-checked_name.value.now c.in-Some-split_first.others.now due c.in-Some-split_first.ensures.cases.0 c.in-Some-opening.ensures
+      (omega (arith, c.parts.invariant.deep, c.parts.invariant.few, c.if-depth-eq-MAX_DEPTH.false)) (simp length-set (omega (arith, c.parts.invariant.deep, c.if-depth-frames.false, length-set c.parts.frames c.in-Some.top c.with_name.result))) (c.opened-in-Some-opening.ensures c.args.bytes.now);
+  deep = simp length-set (omega (arith, c.parts.invariant.deep, c.if-depth-frames.false, length-set c.parts.frames c.in-Some.top c.with_name.result));
+  few = simp length-set c.parts.invariant.few;
   size = simp length-set c.parts.invariant.size;
 }
 
-pub returns-in_default-checked_scalar : goal.returns-in_default-checked_scalar
-returns-in_default-checked_scalar c =
+pub returns-in_default-checked_scalar-clause-checked : goal.returns-in_default-checked_scalar-clause-checked
+returns-in_default-checked_scalar-clause-checked c =
     let due = name_step c.args.object c.args.bytes.now c.parts.frames c.parts.depth c.in-Some.top c.frame_at-last.result c.parts.rest.now c.is_object.result (omega (arith, c.in-Some.ensures)) c.parts.invariant.parts c.frame_at-last.ensures c.is_object.ensures c.in-Some-checked_name.value.now c.with_name.result c.in_default-after_end.ensures.found (omega (arith, c.in-Some.ensures, c.parts.invariant.deep, c.parts.invariant.size)) c.in-Some-checked_name.ensures.found c.with_name.ensures in
     never (PartsFirst c.args.object c.args.bytes.now)
     (no_scalar_step c.args.object c.args.bytes.now (set c.parts.frames c.in-Some.top c.with_name.result) c.parts.depth c.in-Some-split_first.first.now c.in-Some-checked_name.value.now c.in-Some-split_first.others.now due c.in-Some-split_first.ensures.cases.0 (c.in-None.ensures.0, c.in-None.ensures.1) c.in_default-checked_scalar.ensures.found)
@@ -65,6 +68,7 @@ parts-preserved c = record {
   parts =
       let due = name_step c.args.object c.args.bytes.now c.parts.frames c.parts.depth c.in-Some.top c.frame_at-last.result c.parts.rest.now c.is_object.result (omega (arith, c.in-Some.ensures)) c.parts.invariant.parts c.frame_at-last.ensures c.is_object.ensures c.in-Some-checked_name.value.now c.with_name.result c.in_default-after_end.ensures.found (omega (arith, c.in-Some.ensures, c.parts.invariant.deep, c.parts.invariant.size)) c.in-Some-checked_name.ensures.found c.with_name.ensures in
       scalar_step c.args.object c.args.bytes.now (set c.parts.frames c.in-Some.top c.with_name.result) c.parts.depth c.in-Some-split_first.first.now c.in-Some-checked_name.value.now c.in-Some-split_first.others.now c.in-Some-checked_scalar.others.now due c.in-Some-split_first.ensures.cases.0 (c.in-None.ensures.0, c.in-None.ensures.1) c.in-Some-checked_scalar.ensures.found;
-  deep = c.parts.invariant.deep;
+  deep = simp length-set c.parts.invariant.deep;
+  few = simp length-set c.parts.invariant.few;
   size = simp length-set c.parts.invariant.size;
 }
