@@ -1,13 +1,13 @@
 -- Items and members of checked keys, one after the other.
-use Rattle.std.proofs.Common.{◌≡◌, ℕ, ◌+◌, true, false, List, [], ◌∷◌, ◌++◌, Some, None, refl, sym, ap, ◌∙◌, arith, append-nil}
+use Rattle.std.proofs.Common.{◌≡◌, ℕ, true, false, List, [], ◌∷◌, ◌++◌, Some, None, refl, sym, ap, ◌∙◌, arith, append-nil}
 use Rattle.std.proofs.Math.Logic.{∥∥₁_map}
 use Rattle.std.specs.Option.{option_map}
 use Rattle.jsonb_key.specs.Readable.{IsReadable}
 use Rattle.jsonb_key.proofs.Texts.{none_some, some_same}
-use Rattle.jsonb_stored.specs.Checked.{IsSortKey, AreReadable, HaveReadable, AreItems, AreMembers, IsNoItem, IsNoMember, IsFirstItem, IsFirstMember, members_len}
+use Rattle.jsonb_stored.specs.Checked.{IsSortKey, AreReadable, HaveReadable, AreItems, AreMembers, IsNoItem, IsNoMember, IsFirstItem, IsFirstMember}
 use Rattle.jsonb_stored.proofs.CheckedKeys.{whole}
 use Rattle.jsonb_stored.proofs.Finds.{readable_inside}
-use Rattle.jsonb_value.specs.Accessors.{as_array, as_object, trees_len}
+use Rattle.jsonb_value.specs.Accessors.{as_array, as_object}
 use Rattle.jsonb_value.specs.SortKey.{key_of, items_key, members_key, text_key}
 use Rattle.jsonb_value.specs.Tree.{Tree, null, boolean, string, number, array, object, Trees, no_trees, more_trees, Members, no_members, more_members}
 use Rattle.jsonb_value.proofs.SortKeys.Kinds.{is_small, number_begins}
@@ -66,32 +66,6 @@ checked_others bytes key rest checked first = ∥∥₁_map checked (λ a. go a.
     go (more_trees t ts) r f = record { items = ts; readable = record { proper = r.proper.1; within = r.within.1 }; are_keys = f.1 }
 
 -- how many there are
-pub record ItemsLeft (ts : Trees) (count : ℕ) (rest : List ℕ) : Type 0 where
-  pub left : Trees
-  pub readable : AreReadable left
-  pub stands : rest ≡ items_key left
-  pub counted : trees_len ts ≡ count + trees_len left
-
-abbrev pub CountsItems : List ℕ → ℕ → List ℕ → Type 0
-CountsItems bytes count rest = (ts : Trees) → AreReadable ts → bytes ≡ items_key ts → ItemsLeft ts count rest
-
-pub none_counted : (bytes : List ℕ) → CountsItems bytes 0 bytes
-none_counted bytes = λ ts r e. record { left = ts; readable = r; stands = e; counted = omega arith }
-
-pub one_counted : (bytes key rest others : List ℕ) (count : ℕ) → CountsItems bytes count rest → ((ts : Trees) → AreReadable ts → rest ≡ items_key ts → IsFirstItem ts key others) → CountsItems bytes (count + 1) others
-one_counted bytes key rest others count so_far first = λ ts r e. let l = so_far ts r e in go ts l.left l.readable l.counted (first l.left l.readable l.stands)
-  where
-    go : (ts left : Trees) → AreReadable left → trees_len ts ≡ count + trees_len left → IsFirstItem left key others → ItemsLeft ts (count + 1) others
-    go ts no_trees r c f = absurd f
-    go ts (more_trees t left) r c f = record { left = left; readable = record { proper = r.proper.1; within = r.within.1 }; stands = f.1; counted = omega (arith, c) }
-
-pub all_counted : (bytes rest : List ℕ) (count : ℕ) → CountsItems bytes count rest → ((ts : Trees) → AreReadable ts → rest ≡ items_key ts → IsNoItem ts) → (ts : Trees) → AreReadable ts → bytes ≡ items_key ts → count ≡ trees_len ts
-all_counted bytes rest count so_far none ts r e = let l = so_far ts r e in go l.left l.counted (none l.left l.readable l.stands)
-  where
-    go : (left : Trees) → trees_len ts ≡ count + trees_len left → IsNoItem left → count ≡ trees_len ts
-    go no_trees c n = omega (arith, c)
-    go (more_trees t left) c n = absurd n
-
 -- ---- the members of an object
 
 pub members_there : (t : Tree) → IsReadable t → (bytes rest : List ℕ) → bytes ≡ key_of t → bytes ≡ 209 ∷ rest → Some rest ≡ option_map members_key (as_object t)
@@ -143,29 +117,3 @@ checked_other_members bytes name key rest checked first = ∥∥₁_map checked 
     go : (ms : Members) → HaveReadable ms → IsFirstMember ms name key rest → AreMembers rest
     go no_members r f = absurd f
     go (more_members k t ms) r f = record { members = ms; readable = record { ascend = r.ascend.1; proper = r.proper.2; within = r.within.1 }; are_keys = f.2 }
-
-pub record MembersLeft (ms : Members) (count : ℕ) (rest : List ℕ) : Type 0 where
-  pub left : Members
-  pub readable : HaveReadable left
-  pub stands : rest ≡ members_key left
-  pub counted : members_len ms ≡ count + members_len left
-
-abbrev pub CountsMembers : List ℕ → ℕ → List ℕ → Type 0
-CountsMembers bytes count rest = (ms : Members) → HaveReadable ms → bytes ≡ members_key ms → MembersLeft ms count rest
-
-pub no_member_counted : (bytes : List ℕ) → CountsMembers bytes 0 bytes
-no_member_counted bytes = λ ms r e. record { left = ms; readable = r; stands = e; counted = omega arith }
-
-pub one_member_counted : (bytes name key rest others : List ℕ) (count : ℕ) → CountsMembers bytes count rest → ((ms : Members) → HaveReadable ms → rest ≡ members_key ms → IsFirstMember ms name key others) → CountsMembers bytes (count + 1) others
-one_member_counted bytes name key rest others count so_far first = λ ms r e. let l = so_far ms r e in go ms l.left l.readable l.counted (first l.left l.readable l.stands)
-  where
-    go : (ms left : Members) → HaveReadable left → members_len ms ≡ count + members_len left → IsFirstMember left name key others → MembersLeft ms (count + 1) others
-    go ms no_members r c f = absurd f
-    go ms (more_members k t left) r c f = record { left = left; readable = record { ascend = r.ascend.1; proper = r.proper.2; within = r.within.1 }; stands = f.2; counted = omega (arith, c) }
-
-pub all_members_counted : (bytes rest : List ℕ) (count : ℕ) → CountsMembers bytes count rest → ((ms : Members) → HaveReadable ms → rest ≡ members_key ms → IsNoMember ms) → (ms : Members) → HaveReadable ms → bytes ≡ members_key ms → count ≡ members_len ms
-all_members_counted bytes rest count so_far none ms r e = let l = so_far ms r e in go l.left l.counted (none l.left l.readable l.stands)
-  where
-    go : (left : Members) → members_len ms ≡ count + members_len left → IsNoMember left → count ≡ members_len ms
-    go no_members c n = omega (arith, c)
-    go (more_members k t left) c n = absurd n

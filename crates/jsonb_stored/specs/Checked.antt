@@ -1,6 +1,6 @@
 -- Which bytes are a sort key.
 -- Read for: promises.
-use Rattle.std.specs.Prelude.{◌≡◌, ℕ, suc, List, ⊤}
+use Rattle.std.specs.Prelude.{◌≡◌, ℕ, List, ⊤}
 use Rattle.jsonb_key.specs.Readable.{IsAnyNumber, IsReadable}
 use Rattle.jsonb_value.specs.Keys.{KeysAscend}
 use Rattle.jsonb_value.specs.Proper.{AreProper, HaveProperParts}
@@ -55,8 +55,3 @@ IsFirstItem (more_trees t ts) key rest = (key ≡ key_of t) × (rest ≡ items_k
 abbrev pub IsFirstMember : Members → List ℕ → List ℕ → List ℕ → Type 0
 IsFirstMember no_members name key rest = ⊥
 IsFirstMember (more_members k t ms) name key rest = (name ≡ text_key k) × (key ≡ key_of t) × (rest ≡ members_key ms)
-
--- how many members there are
-abbrev pub members_len : Members → ℕ
-members_len no_members = 0
-members_len (more_members name t ms) = suc (members_len ms)

@@ -3,7 +3,7 @@
 ghost use Rattle.jsonb_stored.specs.Checked.{IsSortKey, AreItems, AreMembers};
 
 use crate::check::is_sort_key;
-use crate::find::NoKey;
+use crate::find::{NoKey, count_left};
 use crate::skip::after_key;
 use crate::walk::{Kind, front, items_of, kind_of, members_of, next_item, next_member};
 use crate::{containment, part};
@@ -150,13 +150,10 @@ impl<'k> Items<'k> {
     pub fn len(&self) -> usize
         ensures { (ts : Trees) → AreReadable ts → item_bytes self.now ≡ items_key ts → result ≡ trees_len ts }
     {
-        let mut count = 0;
-        let mut rest = self.bytes;
-        'items: while let Some((_, others)) = next_item(rest) {
-            count += 1;
-            rest = others;
+        match count_left(false, self.bytes) {
+            Ok(count) => count,
+            Err(NoKey) => 0,
         }
-        count
     }
 }
 
@@ -170,7 +167,8 @@ pub struct Members<'k> {
 
 impl<'k> Members<'k> {
     ghost use Rattle.std.specs.Prelude.{◌≡◌, ◌<◌, ◌≤◌, ◌+◌, length, MatchOption};
-    ghost use Rattle.jsonb_stored.specs.Checked.{HaveReadable, IsNoMember, IsFirstMember, members_len};
+    ghost use Rattle.jsonb_stored.specs.Checked.{HaveReadable, IsNoMember, IsFirstMember};
+    ghost use Rattle.jsonb_stored.specs.Found.{members_len};
     ghost use Rattle.jsonb_stored.specs.KeyView.{key_bytes, member_bytes};
     ghost use Rattle.jsonb_value.specs.SortKey.{members_key};
     ghost use Rattle.jsonb_value.specs.Tree.{Members as TreeMembers};
@@ -191,12 +189,9 @@ impl<'k> Members<'k> {
         ensures { (ms : TreeMembers) → HaveReadable ms → member_bytes self.now ≡ members_key ms
             → result ≡ members_len ms }
     {
-        let mut count = 0;
-        let mut rest = self.bytes;
-        'members: while let Some((_, _, others)) = next_member(rest) {
-            count += 1;
-            rest = others;
+        match count_left(true, self.bytes) {
+            Ok(count) => count,
+            Err(NoKey) => 0,
         }
-        count
     }
 }

@@ -66,7 +66,7 @@ pub fn count_parts(key: &[u8]) -> Result<Option<usize>, NoKey>
 }
 
 // How many parts stand before the end of the object or the array.
-fn count_left(object: bool, bytes: &[u8]) -> Result<usize, NoKey>
+pub(crate) fn count_left(object: bool, bytes: &[u8]) -> Result<usize, NoKey>
     ensures counted { (o : Open) → is_object o ≡ object → IsOpen o 511 → (more : List ℕ)
         → bytes.now ≡ open_key o ++ more → result ≡ Ok (open_len o) }
     ensures within { IfOk result (λ count. count ≤ length bytes.now) }
