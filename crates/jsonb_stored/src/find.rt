@@ -65,8 +65,12 @@ pub fn count_parts(key: &[u8]) -> Result<Option<usize>, NoKey>
     Ok(Some(count))
 }
 
-// How many parts stand before the end of the object or the array.
-pub(crate) fn count_left(object: bool, bytes: &[u8]) -> Result<usize, NoKey>
+/// How many parts stand before the end of the object or the array.
+///
+/// # Errors
+///
+/// `NoKey` where a part's key or the end is missing.
+pub fn count_left(object: bool, bytes: &[u8]) -> Result<usize, NoKey>
     ensures counted { (o : Open) → is_object o ≡ object → IsOpen o 511 → (more : List ℕ)
         → bytes.now ≡ open_key o ++ more → result ≡ Ok (open_len o) }
     ensures within { IfOk result (λ count. count ≤ length bytes.now) }
@@ -236,8 +240,8 @@ fn item_from_end(items: &[u8], back: usize) -> Result<Option<&[u8]>, NoKey>
     }
 }
 
-// How the name compares with the one whose key the bytes begin with, and what stands behind that where they are equal.
-fn compare_name<'k>(name: &[u8], bytes: &'k [u8]) -> (Ordering, &'k [u8])
+/// How the name compares with the one whose key the bytes begin with, and what stands behind that where they are equal.
+pub fn compare_name<'k>(name: &[u8], bytes: &'k [u8]) -> (Ordering, &'k [u8])
     ensures order { (text more : List ℕ) → bytes.now ≡ text_key text ++ more
         → result.0 ≡ bytes_cmp name.now text }
     ensures behind { (text more : List ℕ) → bytes.now ≡ text_key text ++ more

@@ -133,8 +133,8 @@ fn member_of(members: &[u8]) -> Option<(&[u8], &[u8], &[u8])>
     Some((name, part, rest))
 }
 
-// The bytes before what is left of them.
-pub(crate) fn front<'k>(bytes: &'k [u8], rest: &[u8]) -> &'k [u8]
+/// The bytes before what is left of them.
+pub fn front<'k>(bytes: &'k [u8], rest: &[u8]) -> &'k [u8]
     ensures { (before : List ℕ) → bytes.now ≡ before ++ rest.now → result.now ≡ before }
 {
     let Some(len) = bytes.len().checked_sub(rest.len()) else {

@@ -1,0 +1,9 @@
+pub mod Lifting
+pub mod Spotted
+pub mod Placed
+pub mod Depths
+pub mod Putting
+pub mod Merged
+pub mod Joined
+pub mod ProperChanges
+pub mod Built

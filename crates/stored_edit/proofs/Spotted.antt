@@ -1,0 +1,388 @@
+-- Where a part stands among the parts of an array or an object: the walk to it.
+use Rattle.std.proofs.Common.{◌≡◌, ℕ, suc, ◌+◌, ◌-◌, ◌<◌, Bool, true, false, List, [], ◌++◌, Bor, Option, Some, None, option_map, Result, MatchResult, Ok, Err, Ordering, Less, Equal, Greater, if◌then◌else◌, refl, sym, ap, subst, ◌∙◌, arith, append_assoc, append-nil}
+use Rattle.std.proofs.lemmas.Bool.{le-ltb, lt-ltb}
+use Rattle.std.specs.Option.{option_and_then}
+use Rattle.std.specs.Ordering.{match_ordering}
+use Rattle.jsonb_key.specs.Readable.{IsAnyNumber, IsReadable}
+use Rattle.jsonb_stored.specs.Found.{IsNext}
+use Rattle.jsonb_stored.specs.Open.{Open, items, members, is_object, open_key, IsOpen}
+use Rattle.jsonb_stored.specs.declared.find.NoKey.{NoKey}
+use Rattle.jsonb_stored.proofs.Finds.{readable_inside}
+use Rattle.jsonb_value.specs.Accessors.{trees_len}
+use Rattle.jsonb_value.specs.Order.{bytes_cmp}
+use Rattle.jsonb_value.specs.Proper.{AreProper, HaveProperParts}
+use Rattle.jsonb_value.specs.SortKey.{key_of, items_key, members_key, text_key}
+use Rattle.jsonb_value.specs.Text.Range.{IsWithin, AreWithin, HaveWithin}
+use Rattle.jsonb_value.specs.Tree.{Tree, Trees, no_trees, more_trees, Members, no_members, more_members}
+use Rattle.stored_edit.specs.Edit.{Outcome, stays, goes, becomes, changed_at_step, changed_item, changed_item_back, changed_member, item_before, member_before, step_named}
+use Rattle.stored_edit.specs.Spots.{Answers, OpenWithin, SpotIn, changed_open}
+use Rattle.stored_edit.specs.declared.spot.Spot.{Spot}
+use Rattle.stored_edit.proofs.Lifting.{Lifts, lifted, lifts_same, lifts_through}
+
+-- what is left of an array or an object, and these bytes behind it
+abbrev pub key_before : List ℕ → Open → List ℕ
+key_before more o = open_key o ++ more
+
+abbrev pub fits_in : ℕ → Open → Type 0
+fits_in room o = OpenWithin o room
+
+abbrev pub LeftLifts : List ℕ → ℕ → List ℕ → Option Open → Option Open → Type 0
+LeftLifts more room before x y = Lifts (key_before more) (fits_in room) (key_before more) (fits_in room) before x y
+
+regroup : (name value others more : List ℕ) → (name ++ (value ++ others)) ++ more ≡ name ++ (value ++ (others ++ more))
+regroup name value others more = simp append_assoc
+
+-- what is left of an array or an object is a key
+pub no_next : (o : Open) (more : List ℕ) (e : NoKey) → IsNext o more (Err e) → ⊥
+no_next (items no_trees) more e n = n
+no_next (items (more_trees t ts)) more e n = n
+no_next (members no_members) more e n = n
+no_next (members (more_members k t ms)) more e n = n
+
+-- ---- what becomes of the first part
+
+first_member : (name behind more : List ℕ) (room : ℕ) (ms : Members) → HaveWithin IsAnyNumber ms room → behind ≡ members_key ms ++ more → (outcome : Outcome) → Answers (key_before more) (fits_in room) true name [] behind room outcome (option_map members (member_before name outcome ms))
+first_member name behind more room ms w e stays = tt
+first_member name behind more room ms w e goes = (sym e, w)
+first_member name behind more room ms w e (becomes t) = (regroup (text_key name) (key_of t) (members_key ms) more ∙ ap (λ key. text_key name ++ (key_of t ++ key)) (sym e), (λ h. h.0, λ h. (h, w)))
+
+first_item : (name behind more : List ℕ) (room : ℕ) (ts : Trees) → AreWithin IsAnyNumber ts room → behind ≡ items_key ts ++ more → (outcome : Outcome) → Answers (key_before more) (fits_in room) false name [] behind room outcome (option_map items (item_before outcome ts))
+first_item name behind more room ts w e stays = tt
+first_item name behind more room ts w e goes = (sym e, w)
+first_item name behind more room ts w e (becomes t) = (append_assoc (key_of t) (items_key ts) more ∙ ap (λ key. key_of t ++ key) (sym e), (λ h. h.0, λ h. (h, w)))
+
+-- what becomes of a part that is behind others
+behind_parts : (object : Bool) (name front behind more : List ℕ) (room : ℕ) (outcome : Outcome) (x y : Option Open) → LeftLifts more room front x y → Answers (key_before more) (fits_in room) object name [] behind room outcome x → Answers (key_before more) (fits_in room) object name front behind room outcome y
+behind_parts object name front behind more room outcome x y l h = subst (λ f. Answers (key_before more) (fits_in room) object name f behind room outcome y) (append-nil front) (lifted (key_before more) (fits_in room) (key_before more) (fits_in room) object name front [] behind room outcome x y l h)
+
+-- ---- members
+
+-- the members that are left, whose change is that of all
+pub record MembersLeft (ms : Members) (name bytes rest more : List ℕ) (room : ℕ) : Type 0 where
+  pub left : Members
+  pub proper : HaveProperParts left
+  pub within : HaveWithin IsAnyNumber left 511
+  pub fits : HaveWithin IsAnyNumber left room
+  pub front : List ℕ
+  pub inside : bytes ≡ front ++ rest
+  pub stands : rest ≡ members_key left ++ more
+  pub lifts : (change : Option Tree → Outcome) → LeftLifts more room front (option_map members (changed_member change name left)) (option_map members (changed_member change name ms))
+
+abbrev pub WalksMembers : List ℕ → List ℕ → List ℕ → Type 0
+WalksMembers bytes name rest = (ms : Members) → HaveProperParts ms → HaveWithin IsAnyNumber ms 511 → (more : List ℕ) → bytes ≡ members_key ms ++ more → (room : ℕ) → HaveWithin IsAnyNumber ms room → MembersLeft ms name bytes rest more room
+
+pub members_begun : (bytes name : List ℕ) → WalksMembers bytes name bytes
+members_begun bytes name = λ ms p w more e room f. record { left = ms; proper = p; within = w; fits = f; front = []; inside = refl; stands = e; lifts = λ change. lifts_same (key_before more) (fits_in room) (option_map members (changed_member change name ms)) }
+
+-- the first of them
+pub record MemberNext (ms : Members) (name bytes rest more : List ℕ) (room : ℕ) (value behind : List ℕ) : Type 0 where
+  pub key : List ℕ
+  pub tree : Tree
+  pub others : Members
+  pub readable : IsReadable tree
+  pub proper : HaveProperParts others
+  pub within : HaveWithin IsAnyNumber others 511
+  pub fits : IsWithin IsAnyNumber tree room
+  pub others_fit : HaveWithin IsAnyNumber others room
+  pub front : List ℕ
+  pub inside : bytes ≡ front ++ rest
+  pub entry : rest ≡ text_key key ++ value
+  pub value_is : value ≡ key_of tree ++ behind
+  pub behind_is : behind ≡ members_key others ++ more
+  pub lifts : (change : Option Tree → Outcome) → LeftLifts more room front
+      (option_map members (match_ordering (bytes_cmp name key) (member_before name (change None) (more_members key tree others)) (member_before key (change (Some tree)) others) (option_map (more_members key tree) (changed_member change name others))))
+      (option_map members (changed_member change name ms))
+
+pub member_next : (ms : Members) (name bytes rest more : List ℕ) (room : ℕ) (v w : Bor (List ℕ)) (l : MembersLeft ms name bytes rest more room) → IsNext (members l.left) more (Ok (Some (v, w))) → MemberNext ms name bytes rest more room v.now w.now
+member_next ms name bytes rest more room v w l n = go l.left l.proper l.within l.fits l.stands l.lifts n
+  where
+    go : (left : Members) → HaveProperParts left → HaveWithin IsAnyNumber left 511 → HaveWithin IsAnyNumber left room → rest ≡ members_key left ++ more → ((change : Option Tree → Outcome) → LeftLifts more room l.front (option_map members (changed_member change name left)) (option_map members (changed_member change name ms)))
+        → IsNext (members left) more (Ok (Some (v, w))) → MemberNext ms name bytes rest more room v.now w.now
+    go no_members p h f stands lifts n = absurd n
+    go (more_members k t others) p h f stands lifts n = record {
+      key = k;
+      tree = t;
+      others = others;
+      readable = readable_inside t (record { proper = p.1; within = h.0 });
+      proper = p.2;
+      within = h.1;
+      fits = f.0;
+      others_fit = f.1;
+      front = l.front;
+      inside = l.inside;
+      entry = stands ∙ regroup (text_key k) (key_of t) (members_key others) more ∙ ap (λ key. text_key k ++ key) (sym n.0);
+      value_is = n.0 ∙ ap (λ key. key_of t ++ key) (sym n.1);
+      behind_is = n.1;
+      lifts = lifts;
+    }
+
+-- none is left
+pub members_over : (ms : Members) (name bytes rest more : List ℕ) (room : ℕ) (spot : Spot) (l : MembersLeft ms name bytes rest more room) → IsNext (members l.left) more (Ok None) → (spot.found ≡ false) × (spot.entry.now ≡ rest) × (spot.value.now ≡ rest) × (spot.behind.now ≡ rest)
+    → SpotIn (key_before more) (fits_in room) (λ change. option_map members (changed_member change name ms)) true name bytes room spot
+members_over ms name bytes rest more room spot l n s = go l.left l.fits l.stands l.lifts n
+  where
+    go : (left : Members) → HaveWithin IsAnyNumber left room → rest ≡ members_key left ++ more → ((change : Option Tree → Outcome) → LeftLifts more room l.front (option_map members (changed_member change name left)) (option_map members (changed_member change name ms))) → IsNext (members left) more (Ok None)
+        → SpotIn (key_before more) (fits_in room) (λ change. option_map members (changed_member change name ms)) true name bytes room spot
+    go no_members f stands lifts n = record {
+      there = None;
+      name = name;
+      front = l.front;
+      inside = l.inside ∙ ap (λ key. l.front ++ key) (sym s.1);
+      stands = (s.0, s.1 ∙ sym s.3);
+      named = λ e. refl;
+      readable = tt;
+      fits = tt;
+      answers = λ change. behind_parts true name l.front spot.behind.now more room (change None) _ _ (lifts change) (first_member name spot.behind.now more room no_members f (s.3 ∙ stands) (change None));
+    }
+    go (more_members k t others) f stands lifts n = absurd n
+
+abbrev ordered : List ℕ → List ℕ → Tree → Members → (Option Tree → Outcome) → Ordering → Option Open
+ordered name key tree others change o = option_map members (match_ordering o (member_before name (change None) (more_members key tree others)) (member_before key (change (Some tree)) others) (option_map (more_members key tree) (changed_member change name others)))
+
+-- the name is below the first
+pub member_missed : (ms : Members) (name bytes rest more : List ℕ) (room : ℕ) (value behind : List ℕ) (spot : Spot) (n : MemberNext ms name bytes rest more room value behind) → bytes_cmp name n.key ≡ Less → (spot.found ≡ false) × (spot.entry.now ≡ rest) × (spot.value.now ≡ rest) × (spot.behind.now ≡ rest)
+    → SpotIn (key_before more) (fits_in room) (λ change. option_map members (changed_member change name ms)) true name bytes room spot
+member_missed ms name bytes rest more room value behind spot n less s = record {
+  there = None;
+  name = name;
+  front = n.front;
+  inside = n.inside ∙ ap (λ key. n.front ++ key) (sym s.1);
+  stands = (s.0, s.1 ∙ sym s.3);
+  named = λ e. refl;
+  readable = tt;
+  fits = tt;
+  answers = λ change.
+      let l = subst (λ o. LeftLifts more room n.front (ordered name n.key n.tree n.others change o) (option_map members (changed_member change name ms))) less (n.lifts change) in
+      behind_parts true name n.front spot.behind.now more room (change None) _ _ l
+      (first_member name spot.behind.now more room (more_members n.key n.tree n.others) (n.fits, n.others_fit) here (change None));
+}
+  where
+    here : spot.behind.now ≡ members_key (more_members n.key n.tree n.others) ++ more
+    here = s.3 ∙ n.entry ∙ ap (λ key. text_key n.key ++ key) (n.value_is ∙ ap (λ key. key_of n.tree ++ key) n.behind_is) ∙ sym (regroup (text_key n.key) (key_of n.tree) (members_key n.others) more)
+
+-- it is the first
+pub member_met : (ms : Members) (name bytes rest more : List ℕ) (room : ℕ) (value behind : List ℕ) (spot : Spot) (n : MemberNext ms name bytes rest more room value behind) → bytes_cmp name n.key ≡ Equal → spot.found ≡ true → spot.entry.now ≡ rest → spot.value.now ≡ value → spot.behind.now ≡ behind
+    → SpotIn (key_before more) (fits_in room) (λ change. option_map members (changed_member change name ms)) true name bytes room spot
+member_met ms name bytes rest more room value behind spot n equal found entry value_there behind_there = record {
+  there = Some n.tree;
+  name = n.key;
+  front = n.front;
+  inside = n.inside ∙ ap (λ key. n.front ++ key) (sym entry);
+  stands = (found, entry ∙ n.entry ∙ ap (λ key. text_key n.key ++ key) (sym value_there), value_there ∙ n.value_is ∙ ap (λ key. key_of n.tree ++ key) (sym behind_there));
+  named = λ e. absurd (some_none n.tree e);
+  readable = n.readable;
+  fits = n.fits;
+  answers = λ change.
+      let l = subst (λ o. LeftLifts more room n.front (ordered name n.key n.tree n.others change o) (option_map members (changed_member change name ms))) equal (n.lifts change) in
+      behind_parts true n.key n.front spot.behind.now more room (change (Some n.tree)) _ _ l (first_member n.key spot.behind.now more room n.others n.others_fit (behind_there ∙ n.behind_is) (change (Some n.tree)));
+}
+  where
+    some_none : (t : Tree) → Some t ≡ None → ⊥
+    some_none t e = cc
+
+more_lifts : (k : List ℕ) (t : Tree) (more : List ℕ) (room : ℕ) → IsWithin IsAnyNumber t room → (x : Option Members) → LeftLifts more room (text_key k ++ key_of t) (option_map members x) (option_map members (option_map (more_members k t) x))
+more_lifts k t more room w None = tt
+more_lifts k t more room w (Some ms) = (grouped (text_key k) (key_of t) (members_key ms) more, (λ h. h.1, λ h. (w, h)))
+  where
+    grouped : (a b c d : List ℕ) → (a ++ (b ++ c)) ++ d ≡ (a ++ b) ++ (c ++ d)
+    grouped a b c d = simp append_assoc
+
+-- it is behind the first
+pub member_passed : (ms : Members) (name bytes rest more : List ℕ) (room : ℕ) (value behind : List ℕ) → (n : MemberNext ms name bytes rest more room value behind) → bytes_cmp name n.key ≡ Greater → MembersLeft ms name bytes behind more room
+member_passed ms name bytes rest more room value behind n greater = record {
+  left = n.others;
+  proper = n.proper;
+  within = n.within;
+  fits = n.others_fit;
+  front = n.front ++ (text_key n.key ++ key_of n.tree);
+  inside = n.inside ∙ ap (λ key. n.front ++ key) (n.entry ∙ ap (λ key. text_key n.key ++ key) n.value_is) ∙ moved n.front (text_key n.key) (key_of n.tree) behind;
+  stands = n.behind_is;
+  lifts = λ change.
+      let l = subst (λ o. LeftLifts more room n.front (ordered name n.key n.tree n.others change o) (option_map members (changed_member change name ms))) greater (n.lifts change) in
+      lifts_through (key_before more) (fits_in room) (key_before more) (fits_in room) (key_before more) (fits_in room) (text_key n.key ++ key_of n.tree) n.front _ _ _ (more_lifts n.key n.tree more room n.fits (changed_member change name n.others)) l;
+}
+  where
+    moved : (a b c d : List ℕ) → a ++ (b ++ (c ++ d)) ≡ (a ++ (b ++ c)) ++ d
+    moved a b c d = simp append_assoc
+
+-- ---- items
+
+-- the items that are left, whose change is that of all
+pub record ItemsLeft (ts : Trees) (index before : ℕ) (bytes rest more : List ℕ) (room : ℕ) : Type 0 where
+  pub left : Trees
+  pub proper : AreProper left
+  pub within : AreWithin IsAnyNumber left 511
+  pub fits : AreWithin IsAnyNumber left room
+  pub front : List ℕ
+  pub inside : bytes ≡ front ++ rest
+  pub stands : rest ≡ items_key left ++ more
+  pub lifts : (change : Option Tree → Outcome) → LeftLifts more room front (option_map items (changed_item change before left)) (option_map items (changed_item change index ts))
+
+abbrev pub WalksItems : List ℕ → ℕ → ℕ → List ℕ → Type 0
+WalksItems bytes index before rest = (ts : Trees) → AreProper ts → AreWithin IsAnyNumber ts 511 → (more : List ℕ) → bytes ≡ items_key ts ++ more → (room : ℕ) → AreWithin IsAnyNumber ts room → ItemsLeft ts index before bytes rest more room
+
+pub items_begun : (bytes : List ℕ) (index : ℕ) → WalksItems bytes index index bytes
+items_begun bytes index = λ ts p w more e room f. record { left = ts; proper = p; within = w; fits = f; front = []; inside = refl; stands = e; lifts = λ change. lifts_same (key_before more) (fits_in room) (option_map items (changed_item change index ts)) }
+
+-- the first of them
+pub record ItemNext (ts : Trees) (index before : ℕ) (bytes rest more : List ℕ) (room : ℕ) (value behind : List ℕ) : Type 0 where
+  pub tree : Tree
+  pub others : Trees
+  pub readable : IsReadable tree
+  pub proper : AreProper others
+  pub within : AreWithin IsAnyNumber others 511
+  pub fits : IsWithin IsAnyNumber tree room
+  pub others_fit : AreWithin IsAnyNumber others room
+  pub front : List ℕ
+  pub inside : bytes ≡ front ++ rest
+  pub entry : rest ≡ value
+  pub value_is : value ≡ key_of tree ++ behind
+  pub behind_is : behind ≡ items_key others ++ more
+  pub lifts : (change : Option Tree → Outcome) → LeftLifts more room front (option_map items (changed_item change before (more_trees tree others))) (option_map items (changed_item change index ts))
+
+pub item_next : (ts : Trees) (index before : ℕ) (bytes rest more : List ℕ) (room : ℕ) (v w : Bor (List ℕ)) (l : ItemsLeft ts index before bytes rest more room) → IsNext (items l.left) more (Ok (Some (v, w))) → ItemNext ts index before bytes rest more room v.now w.now
+item_next ts index before bytes rest more room v w l n = go l.left l.proper l.within l.fits l.stands l.lifts n
+  where
+    go : (left : Trees) → AreProper left → AreWithin IsAnyNumber left 511 → AreWithin IsAnyNumber left room → rest ≡ items_key left ++ more → ((change : Option Tree → Outcome) → LeftLifts more room l.front (option_map items (changed_item change before left)) (option_map items (changed_item change index ts)))
+        → IsNext (items left) more (Ok (Some (v, w))) → ItemNext ts index before bytes rest more room v.now w.now
+    go no_trees p h f stands lifts n = absurd n
+    go (more_trees t others) p h f stands lifts n = record {
+      tree = t;
+      others = others;
+      readable = readable_inside t (record { proper = p.0; within = h.0 });
+      proper = p.1;
+      within = h.1;
+      fits = f.0;
+      others_fit = f.1;
+      front = l.front;
+      inside = l.inside;
+      entry = stands ∙ append_assoc (key_of t) (items_key others) more ∙ sym n.0;
+      value_is = n.0 ∙ ap (λ key. key_of t ++ key) (sym n.1);
+      behind_is = n.1;
+      lifts = lifts;
+    }
+
+-- none is left
+pub items_over : (ts : Trees) (index before : ℕ) (name bytes rest more : List ℕ) (room : ℕ) (spot : Spot) (l : ItemsLeft ts index before bytes rest more room) → IsNext (items l.left) more (Ok None) → (spot.found ≡ false) × (spot.entry.now ≡ rest) × (spot.value.now ≡ rest) × (spot.behind.now ≡ rest)
+    → SpotIn (key_before more) (fits_in room) (λ change. option_map items (changed_item change index ts)) false name bytes room spot
+items_over ts index before name bytes rest more room spot l n s = go l.left l.fits l.stands l.lifts n
+  where
+    go : (left : Trees) → AreWithin IsAnyNumber left room → rest ≡ items_key left ++ more → ((change : Option Tree → Outcome) → LeftLifts more room l.front (option_map items (changed_item change before left)) (option_map items (changed_item change index ts))) → IsNext (items left) more (Ok None)
+        → SpotIn (key_before more) (fits_in room) (λ change. option_map items (changed_item change index ts)) false name bytes room spot
+    go no_trees f stands lifts n = record {
+      there = None;
+      name = name;
+      front = l.front;
+      inside = l.inside ∙ ap (λ key. l.front ++ key) (sym s.1);
+      stands = (s.0, s.1 ∙ sym s.3);
+      named = λ e. refl;
+      readable = tt;
+      fits = tt;
+      answers = λ change. behind_parts false name l.front spot.behind.now more room (change None) _ _ (lifts change) (first_item name spot.behind.now more room no_trees f (s.3 ∙ stands) (change None));
+    }
+    go (more_trees t others) f stands lifts n = absurd n
+
+-- it is the first
+pub item_met : (ts : Trees) (index before : ℕ) (name bytes rest more : List ℕ) (room : ℕ) (value behind : List ℕ) (spot : Spot) (n : ItemNext ts index before bytes rest more room value behind) → before ≡ 0 → spot.found ≡ true → spot.entry.now ≡ rest → spot.value.now ≡ value → spot.behind.now ≡ behind
+    → SpotIn (key_before more) (fits_in room) (λ change. option_map items (changed_item change index ts)) false name bytes room spot
+item_met ts index before name bytes rest more room value behind spot n over found entry value_there behind_there = record {
+  there = Some n.tree;
+  name = name;
+  front = n.front;
+  inside = n.inside ∙ ap (λ key. n.front ++ key) (sym entry);
+  stands = (found, entry ∙ n.entry ∙ sym value_there, value_there ∙ n.value_is ∙ ap (λ key. key_of n.tree ++ key) (sym behind_there));
+  named = λ e. refl;
+  readable = n.readable;
+  fits = n.fits;
+  answers = λ change.
+      let l = subst (λ i. LeftLifts more room n.front (option_map items (changed_item change i (more_trees n.tree n.others))) (option_map items (changed_item change index ts))) over (n.lifts change) in
+      behind_parts false name n.front spot.behind.now more room (change (Some n.tree)) _ _ l (first_item name spot.behind.now more room n.others n.others_fit (behind_there ∙ n.behind_is) (change (Some n.tree)));
+}
+
+more_items_lift : (t : Tree) (more : List ℕ) (room : ℕ) → IsWithin IsAnyNumber t room → (x : Option Trees) → LeftLifts more room (key_of t) (option_map items x) (option_map items (option_map (more_trees t) x))
+more_items_lift t more room w None = tt
+more_items_lift t more room w (Some ts) = (append_assoc (key_of t) (items_key ts) more, (λ h. h.1, λ h. (w, h)))
+
+-- it is behind the first
+pub item_passed : (ts : Trees) (index before less : ℕ) (bytes rest more : List ℕ) (room : ℕ) (value behind : List ℕ) → ItemNext ts index before bytes rest more room value behind → less + 1 ≡ before → ItemsLeft ts index less bytes behind more room
+item_passed ts index before less bytes rest more room value behind n one = record {
+  left = n.others;
+  proper = n.proper;
+  within = n.within;
+  fits = n.others_fit;
+  front = n.front ++ key_of n.tree;
+  inside = n.inside ∙ ap (λ key. n.front ++ key) (n.entry ∙ n.value_is) ∙ sym (append_assoc n.front (key_of n.tree) behind);
+  stands = n.behind_is;
+  lifts = λ change.
+      let is : before ≡ suc less = omega (arith, one) in
+      let l = subst (λ i. LeftLifts more room n.front (option_map items (changed_item change i (more_trees n.tree n.others))) (option_map items (changed_item change index ts))) is (n.lifts change) in
+      lifts_through (key_before more) (fits_in room) (key_before more) (fits_in room) (key_before more) (fits_in room) (key_of n.tree) n.front _ _ _ (more_items_lift n.tree more room n.fits (changed_item change less n.others)) l;
+}
+
+-- ---- items from the end
+
+-- a spot of changes that are the same
+pub spot_as : {A : Type 0} (key : A → List ℕ) (Fits : A → Type 0) (f g : (Option Tree → Outcome) → Option A) (object : Bool) (name bytes : List ℕ) (room : ℕ) (spot : Spot) → ((change : Option Tree → Outcome) → f change ≡ g change) → SpotIn key Fits f object name bytes room spot → SpotIn key Fits g object name bytes room spot
+spot_as key Fits f g object name bytes room spot same s = record {
+  there = s.there;
+  name = s.name;
+  front = s.front;
+  inside = s.inside;
+  stands = s.stands;
+  named = s.named;
+  readable = s.readable;
+  fits = s.fits;
+  answers = λ change. subst (Answers key Fits object s.name s.front spot.behind.now room (change s.there)) (same change) (s.answers change);
+}
+
+pub some_back : (ts : Trees) (back index : ℕ) → index + back ≡ trees_len ts → (change : Option Tree → Outcome) → changed_item_back change back ts ≡ changed_item change index ts
+some_back ts back index e change =
+    let same : trees_len ts - back ≡ index = omega (arith, e) in
+    ap (λ b. if b then item_before (change None) ts else changed_item change (trees_len ts - back) ts) (le-ltb (trees_len ts) back (omega (arith, e))) ∙ ap (λ i. changed_item change i ts) same
+
+pub none_back : (ts : Trees) (back : ℕ) → trees_len ts < back → (change : Option Tree → Outcome) → changed_item_back change back ts ≡ item_before (change None) ts
+none_back ts back h change = ap (λ b. if b then item_before (change None) ts else changed_item change (trees_len ts - back) ts) (lt-ltb (trees_len ts) back h)
+
+-- before the first
+pub items_front : (ts : Trees) (back : ℕ) (name bytes more : List ℕ) (room : ℕ) (spot : Spot) → AreWithin IsAnyNumber ts room → bytes ≡ items_key ts ++ more → trees_len ts < back → (spot.found ≡ false) × (spot.entry.now ≡ bytes) × (spot.value.now ≡ bytes) × (spot.behind.now ≡ bytes)
+    → SpotIn (key_before more) (fits_in room) (λ change. option_map items (changed_item_back change back ts)) false name bytes room spot
+items_front ts back name bytes more room spot f e h s = record {
+  there = None;
+  name = name;
+  front = [];
+  inside = sym s.1;
+  stands = (s.0, s.1 ∙ sym s.3);
+  named = λ e. refl;
+  readable = tt;
+  fits = tt;
+  answers = λ change. subst (λ x. Answers (key_before more) (fits_in room) false name [] spot.behind.now room (change None) (option_map items x)) (sym (none_back ts back h change)) (first_item name spot.behind.now more room ts f (s.3 ∙ e) (change None));
+}
+
+abbrev pub ToldSpot : {A : Type 0} → (A → List ℕ) → (A → Type 0) → ((Option Tree → Outcome) → Option A) → Bool → List ℕ → List ℕ → ℕ → Result Spot NoKey → Type 0
+ToldSpot key Fits changed object name bytes room told = MatchResult told (SpotIn key Fits changed object name bytes room) (λ e. ⊥)
+
+pub told_as : {A : Type 0} (key : A → List ℕ) (Fits : A → Type 0) (f g : (Option Tree → Outcome) → Option A) (object : Bool) (name bytes : List ℕ) (room : ℕ) (told : Result Spot NoKey) → ((change : Option Tree → Outcome) → f change ≡ g change) → ToldSpot key Fits f object name bytes room told → ToldSpot key Fits g object name bytes room told
+told_as key Fits f g object name bytes room (Ok spot) same s = spot_as key Fits f g object name bytes room spot same s
+told_as key Fits f g object name bytes room (Err e) same s = s
+
+-- ---- an array or an object
+
+false_true : false ≡ true → ⊥
+false_true e = cc
+
+pub of_object : (o : Open) (object : Bool) (name asked parts more : List ℕ) (room : ℕ) (spot : Spot) → object ≡ true → asked ≡ name → is_object o ≡ object → IsOpen o 511 → parts ≡ open_key o ++ more → OpenWithin o room
+    → ((ms : Members) → HaveProperParts ms → HaveWithin IsAnyNumber ms 511 → (more : List ℕ) → parts ≡ members_key ms ++ more → (room : ℕ) → HaveWithin IsAnyNumber ms room → SpotIn (key_before more) (fits_in room) (λ change. option_map members (changed_member change asked ms)) true asked parts room spot)
+    → SpotIn (key_before more) (fits_in room) (λ change. changed_open change name o) object name parts room spot
+of_object (items ts) object name asked parts more room spot there same is h e f s = absurd (false_true (is ∙ there))
+of_object (members ms) object name asked parts more room spot there same is h e f s =
+    subst (λ b. SpotIn (key_before more) (fits_in room) (λ change. changed_open change name (members ms)) b name parts room spot) (sym there)
+    (subst (λ n. SpotIn (key_before more) (fits_in room) (λ change. changed_open change n (members ms)) true n parts room spot) same (s ms h.0 h.1 more e room f))
+
+pub of_array : (o : Open) (object : Bool) (name parts more : List ℕ) (room : ℕ) (spot : Spot) (step : Bool × ℕ) → object ≡ false → step_named name ≡ Some step → is_object o ≡ object → IsOpen o 511 → parts ≡ open_key o ++ more → OpenWithin o room
+    → ((ts : Trees) → AreProper ts → AreWithin IsAnyNumber ts 511 → (more : List ℕ) → parts ≡ items_key ts ++ more → (room : ℕ) → AreWithin IsAnyNumber ts room → (name : List ℕ) → SpotIn (key_before more) (fits_in room) (λ change. option_map items (changed_at_step change ts step)) false name parts room spot)
+    → SpotIn (key_before more) (fits_in room) (λ change. changed_open change name o) object name parts room spot
+of_array (members ms) object name parts more room spot step there named is h e f s = absurd (false_true (sym there ∙ sym is))
+of_array (items ts) object name parts more room spot step there named is h e f s =
+    subst (λ b. SpotIn (key_before more) (fits_in room) (λ change. changed_open change name (items ts)) b name parts room spot) (sym there)
+    (spot_as (key_before more) (fits_in room) (λ change. option_map items (changed_at_step change ts step)) (λ change. changed_open change name (items ts)) false name parts room spot
+    (λ change. ap (λ x. option_map items (option_and_then (changed_at_step change ts) x)) (sym named)) (s ts h.0 h.1 more e room f name))

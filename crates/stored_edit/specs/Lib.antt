@@ -1,0 +1,3 @@
+pub mod Edit
+pub mod Spots
+pub mod Merging

@@ -1,0 +1,60 @@
+-- Where in the bytes a part stands, or would stand.
+-- Read for: private.
+use Rattle.std.specs.Prelude.{◌≡◌, ℕ, ◌↔◌, Bool, true, false, List, ◌++◌, Option, Some, None, option_map, IfSome, ⊤, Result, OnOk, OnErr, Vec, vec_len, ◌+◌, ◌<◌, ◌≤◌, length}
+use Rattle.std.specs.Vec.{vec_capacity}
+use Rattle.std.specs.declared.alloc.Global.{Global}
+use Rattle.jsonb_key.specs.Readable.{IsAnyNumber, IsReadable}
+use Rattle.jsonb_stored.specs.Open.{Open, items, members, name_key}
+use Rattle.jsonb_value.specs.SortKey.{key_of}
+use Rattle.jsonb_value.specs.Text.Range.{IsWithin, AreWithin, HaveWithin}
+use Rattle.jsonb_value.specs.Tree.{Tree}
+use Rattle.stored_edit.specs.Edit.{Outcome, stays, goes, becomes, changed_member, changed_items}
+use Rattle.stored_edit.specs.declared.spot.Spot.{Spot}
+
+-- what is left has no more arrays and objects in one another than the number
+abbrev pub OpenWithin : Open → ℕ → Type 0
+OpenWithin (items ts) depth = AreWithin IsAnyNumber ts depth
+OpenWithin (members ms) depth = HaveWithin IsAnyNumber ms depth
+
+-- the array or the object, changed at the member of that name, or at the item of that index
+abbrev pub changed_open : (Option Tree → Outcome) → List ℕ → Open → Option Open
+changed_open change name (items ts) = option_map items (changed_items change name ts)
+changed_open change name (members ms) = option_map members (changed_member change name ms)
+
+-- The part stands there, with its name and what is behind it; or it would stand there, where none is.
+abbrev pub Stands : Bool → List ℕ → Spot → Option Tree → Type 0
+Stands object name spot None = (spot.found ≡ false) × (spot.entry.now ≡ spot.behind.now)
+Stands object name spot (Some t) = (spot.found ≡ true) × (spot.entry.now ≡ name_key object name ++ spot.value.now)
+    × (spot.value.now ≡ key_of t ++ spot.behind.now)
+
+-- The answer by what becomes of the part there: its key is the front, what stands there then, and what is behind.
+abbrev pub Answers : {A : Type 0} → (A → List ℕ) → (A → Type 0) → Bool → List ℕ → List ℕ → List ℕ → ℕ → Outcome
+    → Option A → Type 0
+Answers key Fits object name front behind room stays None = ⊤
+Answers key Fits object name front behind room stays (Some a) = ⊥
+Answers key Fits object name front behind room goes None = ⊥
+Answers key Fits object name front behind room goes (Some a) = (key a ≡ front ++ behind) × Fits a
+Answers key Fits object name front behind room (becomes t) None = ⊥
+Answers key Fits object name front behind room (becomes t) (Some a) =
+    (key a ≡ front ++ (name_key object name ++ (key_of t ++ behind))) × (Fits a ↔ IsWithin IsAnyNumber t room)
+
+-- The spot in the bytes at which changes are made: whatever becomes of the part there, what is answered is so.
+pub record SpotIn {A : Type 0} (key : A → List ℕ) (Fits : A → Type 0) (changed : (Option Tree → Outcome) → Option A)
+    (object : Bool) (asked bytes : List ℕ) (room : ℕ) (spot : Spot) : Type 0 where
+  pub there : Option Tree
+  pub name : List ℕ
+  pub front : List ℕ
+  pub inside : bytes ≡ front ++ spot.entry.now
+  pub stands : Stands object name spot there
+  pub named : there ≡ None → name ≡ asked
+  pub readable : IfSome there IsReadable
+  pub fits : IfSome there (λ t. IsWithin IsAnyNumber t room)
+  pub answers : (change : Option Tree → Outcome)
+      → Answers key Fits object name front spot.behind.now room (change there) (changed change)
+
+-- The bytes are appended. Else the capacity for all of them is missing, and the buffer is as before.
+pub record Appends {X E : Type 0} (result : Result X E) (old new : Vec ℕ Global) (bytes : List ℕ) : Type 0 where
+  pub ok : OnOk result (new.items ≡ old.items ++ bytes)
+  pub err : OnErr result (new.items ≡ old.items)
+  pub full : OnErr result (vec_capacity old < vec_len old + length bytes)
+  pub capacity : vec_capacity old ≤ vec_capacity new

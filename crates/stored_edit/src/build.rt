@@ -1,0 +1,110 @@
+//! Objects and arrays with a part more.
+
+ghost use Rattle.std.specs.Prelude.{◌≡◌, ◌≤◌, Ok, OnErr, false};
+ghost use Rattle.std.specs.Vec.{vec_capacity};
+ghost use Rattle.jsonb_key.specs.Readable.{IsAnyNumber, IsReadable};
+ghost use Rattle.jsonb_value.specs.SortKey.{key_of, items_key};
+ghost use Rattle.jsonb_value.specs.Text.Range.{AreWithin};
+ghost use Rattle.jsonb_value.specs.Tree.{Tree, Trees, array, more_trees, no_trees};
+ghost use Rattle.stored_edit.specs.Edit.{joined_items, with_item, with_member, AppendsKey, Edits};
+
+use crate::edit::put_part;
+use crate::error::EditError;
+use crate::merge::{as_item, without_end};
+use crate::place::Place;
+use crate::splice::splice;
+use crate::spot::member_spot;
+use jsonb_stored::skip::MAX_DEPTH;
+use jsonb_stored::walk::{items_of, kind_of, members_of};
+
+/// The sort key of an object without members.
+pub const EMPTY_OBJECT: [u8; 3] = [0xD1, 0, 0];
+
+/// The sort key of an array without items.
+pub const EMPTY_ARRAY: [u8; 2] = [0xD2, 0];
+
+/// Appends the key of the object with this member, of whose value the key is passed, and tells whether it is an object.
+/// A member of that name is replaced. Where it is none, nothing is appended.
+///
+/// # Errors
+///
+/// As of `append_with_part`.
+pub fn append_with_member(
+    out: &mut Vec<u8>,
+    key: &[u8],
+    name: &str,
+    value: &[u8],
+) -> Result<bool, EditError>
+    ensures edits { (t : Tree) → IsReadable t → key.now ≡ key_of t → (u : Tree) → IsReadable u → value.now ≡ key_of u
+        → Edits (with_member name.now u t) result out.old out.new }
+    ensures err { OnErr result (out.new.items ≡ out.old.items) }
+    ensures capacity { vec_capacity out.old ≤ vec_capacity out.new }
+{
+    let Some(members) = members_of(key) else {
+        return other_value(key);
+    };
+    let spot = member_spot(members, name.as_bytes())?;
+    let place = Place {
+        spot,
+        object: true,
+        name,
+        room: MAX_DEPTH - 1,
+    };
+    match put_part(out, key, &place, value) {
+        Ok(()) => Ok(true),
+        Err(error) => Err(error),
+    }
+}
+
+/// Appends the key of the array with this item at its end, of which the key is passed, and tells whether it is an array.
+/// Where it is none, nothing is appended.
+///
+/// # Errors
+///
+/// As of `append_with_part`.
+pub fn append_with_item(out: &mut Vec<u8>, key: &[u8], item: &[u8]) -> Result<bool, EditError>
+    ensures edits { (t : Tree) → IsReadable t → key.now ≡ key_of t → (u : Tree) → IsReadable u → item.now ≡ key_of u
+        → Edits (with_item u t) result out.old out.new }
+    ensures err { OnErr result (out.new.items ≡ out.old.items) }
+    ensures capacity { vec_capacity out.old ≤ vec_capacity out.new }
+{
+    let Some(items) = items_of(key) else {
+        return other_value(key);
+    };
+    match push_item(out, items, item) {
+        Ok(()) => Ok(true),
+        Err(error) => Err(error),
+    }
+}
+
+// What is told of a value that is no object, or no array.
+fn other_value(key: &[u8]) -> Result<bool, EditError>
+    ensures { (t : Tree) → IsReadable t → key.now ≡ key_of t → result ≡ Ok false }
+{
+    match kind_of(key) {
+        Some(_) => Ok(false),
+        None => Err(EditError::NoKey),
+    }
+}
+
+// Appends the key of an array with the items, and one more.
+fn push_item(out: &mut Vec<u8>, items: &[u8], item: &[u8]) -> Result<(), EditError>
+    ensures pushed { (ts : Trees) → AreWithin IsAnyNumber ts 511 → items.now ≡ items_key ts → (u : Tree) → IsReadable u
+        → item.now ≡ key_of u
+        → AppendsKey (array (joined_items ts (more_trees u no_trees))) result out.old out.new }
+    ensures err { OnErr result (out.new.items ≡ out.old.items) }
+    ensures capacity { vec_capacity out.old ≤ vec_capacity out.new }
+{
+    let items = match without_end(items) {
+        Ok(items) => items,
+        Err(error) => return Err(error),
+    };
+    let item = match as_item(item) {
+        Ok(item) => item,
+        Err(error) => return Err(error),
+    };
+    if splice(out, &[0xD2], items, item, &[0]).is_err() {
+        return Err(EditError::OutOfMemory);
+    }
+    Ok(())
+}

@@ -1,0 +1,135 @@
+//! Parts of keys, set and removed.
+
+ghost use Rattle.std.specs.Prelude.{◌≡◌, ◌≤◌, ◌++◌, List, ℕ, map, string_bytes, Option, None, MatchOption, OnErr};
+ghost use Rattle.std.specs.Vec.{vec_capacity};
+ghost use Rattle.jsonb_key.specs.Readable.{IsAnyNumber, IsReadable};
+ghost use Rattle.jsonb_value.specs.Grammar.{max_depth};
+ghost use Rattle.jsonb_value.specs.SortKey.{key_of};
+ghost use Rattle.jsonb_value.specs.Text.Range.{IsWithin};
+ghost use Rattle.jsonb_value.specs.Tree.{Tree};
+ghost use Rattle.stored_edit.specs.Edit.{Outcome, becomes, with_part, without_part, AppendsKey, Edits};
+ghost use Rattle.jsonb_stored.specs.Open.{name_key};
+ghost use Rattle.stored_edit.specs.Spots.{Appends, SpotIn, Stands};
+
+use crate::error::EditError;
+use crate::fit::fits;
+use crate::place::{Place, find_place};
+use crate::splice::{splice, splice_named};
+use jsonb_stored::walk::front;
+use std::alloc::AllocError;
+
+/// Appends the key of the value without its part at the path of these names, and tells whether there is one. Where
+/// there is none, nothing is appended. A name is that of a member, or in an array an index: decimal digits, after which
+/// -1 is the last item.
+///
+/// # Errors
+///
+/// `NoKey` only where the bytes are no sort key, and `OutOfMemory` only where the buffer lacks the capacity for the
+/// whole key. After an error the buffer is as before.
+pub fn append_without_part(
+    out: &mut Vec<u8>,
+    key: &[u8],
+    names: &[String],
+) -> Result<bool, EditError>
+    ensures edits { (t : Tree) → IsReadable t → key.now ≡ key_of t
+        → Edits (without_part (map string_bytes names.now) t) result out.old out.new }
+    ensures err { OnErr result (out.new.items ≡ out.old.items) }
+    ensures capacity { vec_capacity out.old ≤ vec_capacity out.new }
+{
+    let Some(place) = find_place(key, names)? else {
+        return Ok(false);
+    };
+    if !place.spot.found {
+        return Ok(false);
+    }
+    if splice(
+        out,
+        front(key, place.spot.entry),
+        &[],
+        &[],
+        place.spot.behind,
+    )
+    .is_err()
+    {
+        return Err(EditError::OutOfMemory);
+    }
+    Ok(true)
+}
+
+/// Appends the key of the value with this part, of which the key is passed, at the path of these names, and tells
+/// whether there is such a place. Where there is none, nothing is appended. A part that is there is replaced. Where
+/// only the last name leads nowhere, and `create` is true, a member is added to an object, and an item to an array: at
+/// its end, or at its front for an index that counts from the end.
+///
+/// # Errors
+///
+/// `TooDeep` only where the answer would have more than 512 arrays and objects in one another, `NoKey` only where the
+/// bytes are no sort key or the part's are none, and `OutOfMemory` only where the buffer lacks the capacity for the
+/// whole key. After an error the buffer is as before.
+pub fn append_with_part(
+    out: &mut Vec<u8>,
+    key: &[u8],
+    names: &[String],
+    part: &[u8],
+    create: bool,
+) -> Result<bool, EditError>
+    ensures edits { (t : Tree) → IsReadable t → key.now ≡ key_of t → (u : Tree) → IsReadable u → part.now ≡ key_of u
+        → Edits (with_part (map string_bytes names.now) u create t) result out.old out.new }
+    ensures err { OnErr result (out.new.items ≡ out.old.items) }
+    ensures capacity { vec_capacity out.old ≤ vec_capacity out.new }
+{
+    let Some(place) = find_place(key, names)? else {
+        return Ok(false);
+    };
+    if !place.spot.found && !create {
+        return Ok(false);
+    }
+    match put_part(out, key, &place, part) {
+        Ok(()) => Ok(true),
+        Err(error) => Err(error),
+    }
+}
+
+// Appends the key with the part at the place.
+pub(crate) fn put_part(
+    out: &mut Vec<u8>,
+    key: &[u8],
+    place: &Place,
+    part: &[u8],
+) -> Result<(), EditError>
+    requires { place.now.room ≤ 511 }
+    ensures put { (changed : (Option Tree → Outcome) → Option Tree)
+        → (s : SpotIn key_of (λ v. IsWithin IsAnyNumber v max_depth) changed place.now.object place.now.name.now key.now
+        place.now.room place.now.spot)
+        → (u : Tree) → IsReadable u → part.now ≡ key_of u → (change : Option Tree → Outcome)
+        → change s.there ≡ becomes u → MatchOption (changed change) ⊥ (λ v. AppendsKey v result out.old out.new) }
+    ensures err { OnErr result (out.new.items ≡ out.old.items) }
+    ensures capacity { vec_capacity out.old ≤ vec_capacity out.new }
+{
+    if !fits(part, place.room)? {
+        return Err(EditError::TooDeep);
+    }
+    if write_part(out, key, place, part).is_err() {
+        return Err(EditError::OutOfMemory);
+    }
+    Ok(())
+}
+
+// Appends what stands before the place, the part with its name, and what stands behind the place.
+fn write_part(out: &mut Vec<u8>, key: &[u8], place: &Place, part: &[u8]) -> Result<(), AllocError>
+    ensures written { (there : Option Tree) → (name front : List ℕ) → key.now ≡ front ++ place.now.spot.entry.now
+        → Stands place.now.object name place.now.spot there → (there ≡ None → name ≡ place.now.name.now)
+        → Appends result out.old out.new
+        (front ++ (name_key place.now.object name ++ (part.now ++ place.now.spot.behind.now))) }
+    ensures err { OnErr result (out.new.items ≡ out.old.items) }
+    ensures capacity { vec_capacity out.old ≤ vec_capacity out.new }
+{
+    let spot = place.spot;
+    if spot.found {
+        return splice(out, front(key, spot.value), &[], part, spot.behind);
+    }
+    if place.object {
+        return splice_named(out, front(key, spot.entry), place.name, part, spot.behind);
+    }
+    splice(out, front(key, spot.entry), &[], part, spot.behind)
+}

@@ -1,0 +1,75 @@
+//! How deep a value is.
+
+ghost use Rattle.std.specs.Prelude.{◌≡◌, ◌<◌, ◌≤◌, ◌++◌, ◌+◌, List, ℕ, MatchBool, MatchResult};
+ghost use Rattle.jsonb_key.specs.Readable.{IsAnyNumber, IsReadable};
+ghost use Rattle.jsonb_stored.specs.Open.{Open, is_object, open_key, IsOpen};
+ghost use Rattle.jsonb_value.specs.SortKey.{key_of};
+ghost use Rattle.jsonb_value.specs.Text.Range.{IsWithin};
+ghost use Rattle.jsonb_value.specs.Tree.{Tree};
+ghost use Rattle.stored_edit.specs.Spots.{OpenWithin};
+
+use jsonb_stored::find::NoKey;
+use jsonb_stored::skip::{after_end, after_name, after_scalar, kind_at, opening, outermost};
+
+/// Whether the value whose key this is has at most so many arrays and objects in one another.
+pub(crate) fn fits(key: &[u8], room: usize) -> Result<bool, NoKey>
+    requires { room ≤ 511 }
+    ensures { (t : Tree) → IsReadable t → (more : List ℕ) → key.now ≡ key_of t ++ more → MatchResult result
+        (λ fits. MatchBool fits (IsWithin IsAnyNumber t room) (IsWithin IsAnyNumber t room → ⊥)) (λ e. ⊥) }
+{
+    let Some((first, parts)) = key.split_first() else {
+        return Err(NoKey);
+    };
+    match opening(*first) {
+        Some(object) => match room.checked_sub(1) {
+            Some(inner) => parts_fit(object, parts, inner),
+            None => Ok(false),
+        },
+        None => Ok(true),
+    }
+}
+
+// Whether the parts of an object or an array have at most so many arrays and objects in one another. Which of the open
+// ones are objects stands in an array, outermost first.
+fn parts_fit(object: bool, bytes: &[u8], inner: usize) -> Result<bool, NoKey>
+    requires { inner < 511 }
+    ensures { (o : Open) → is_object o ≡ object → IsOpen o 511 → (more : List ℕ) → bytes.now ≡ open_key o ++ more
+        → MatchResult result (λ fits. MatchBool fits (OpenWithin o inner) (OpenWithin o inner → ⊥)) (λ e. ⊥) }
+{
+    let mut objects = outermost(object);
+    let mut depth: usize = 1;
+    let mut rest = bytes;
+    'parts: loop {
+        let Some(top) = depth.checked_sub(1) else {
+            return Ok(true);
+        };
+        let inside = kind_at(&objects, top);
+        if let Some(others) = after_end(inside, rest) {
+            depth = top;
+            rest = others;
+            continue;
+        }
+        let Some(value) = after_name(inside, rest) else {
+            return Err(NoKey);
+        };
+        let Some((first, others)) = value.split_first() else {
+            return Err(NoKey);
+        };
+        match opening(*first) {
+            Some(kind) => {
+                if depth > inner {
+                    return Ok(false);
+                }
+                objects[depth] = kind;
+                depth += 1;
+                rest = others;
+            }
+            None => {
+                let Some(others) = after_scalar(value) else {
+                    return Err(NoKey);
+                };
+                rest = others;
+            }
+        }
+    }
+}

@@ -1,0 +1,75 @@
+//! The place in a key that a path leads to.
+
+ghost use Rattle.std.specs.Prelude.{◌≡◌, ◌≤◌, length, map, string_bytes, Option, None, IfOk, IfSome, MatchBool, MatchResult, MatchOption};
+ghost use Rattle.jsonb_key.specs.Readable.{IsAnyNumber, IsReadable};
+ghost use Rattle.jsonb_value.specs.Grammar.{max_depth};
+ghost use Rattle.jsonb_value.specs.SortKey.{key_of};
+ghost use Rattle.jsonb_value.specs.Text.Range.{IsWithin};
+ghost use Rattle.jsonb_value.specs.Tree.{Tree};
+ghost use Rattle.stored_edit.specs.Edit.{Outcome, changed_at};
+ghost use Rattle.stored_edit.specs.Spots.{SpotIn};
+
+use crate::spot::{Spot, part_spot};
+use jsonb_stored::find::{NoKey, opened};
+use jsonb_stored::skip::MAX_DEPTH;
+
+/// Where in a key the part at a path stands, or would stand; whether that is in an object; the last name of the path;
+/// and how many arrays and objects a part may have in one another there.
+#[derive(Clone, Copy)]
+pub(crate) struct Place<'k, 'n> {
+    pub(crate) spot: Spot<'k>,
+    pub(crate) object: bool,
+    pub(crate) name: &'n str,
+    pub(crate) room: usize,
+}
+
+/// The place that the path leads to; `None` where there is none, since an earlier name leads nowhere, the last one is
+/// no index of an array, or there is no name.
+pub(crate) fn find_place<'k, 'n>(
+    key: &'k [u8],
+    names: &'n [String],
+) -> Result<Option<Place<'k, 'n>>, NoKey>
+    ensures place { (t : Tree) → IsReadable t → key.now ≡ key_of t → MatchResult result
+        (λ answer. MatchOption answer
+        ((change : Option Tree → Outcome) → changed_at change (map string_bytes names.now) t ≡ None)
+        (λ place. SpotIn key_of (λ u. IsWithin IsAnyNumber u max_depth)
+        (λ change. changed_at change (map string_bytes names.now) t) place.object place.name.now key.now place.room
+        place.spot)) (λ e. ⊥) }
+    ensures room { IfOk result (λ answer. IfSome answer (λ place. place.room ≤ 511)) }
+{
+    let mut part = key;
+    let mut left = names;
+    let mut room = MAX_DEPTH;
+    'names: while let Some((name, others)) = left.split_first() {
+        let Some((object, parts)) = opened(part)? else {
+            return Ok(None);
+        };
+        let Some(inner) = room.checked_sub(1) else {
+            return Err(NoKey);
+        };
+        let Some(spot) = part_spot(object, parts, name.as_str())? else {
+            return Ok(None);
+        };
+        if are_none(others) {
+            return Ok(Some(Place {
+                spot,
+                object,
+                name: name.as_str(),
+                room: inner,
+            }));
+        }
+        if !spot.found {
+            return Ok(None);
+        }
+        part = spot.value;
+        left = others;
+        room = inner;
+    }
+    Ok(None)
+}
+
+fn are_none(names: &[String]) -> bool
+    ensures { MatchBool result (length names.now ≡ 0) (length names.now ≡ 0 → ⊥) }
+{
+    names.is_empty()
+}

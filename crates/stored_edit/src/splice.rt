@@ -1,0 +1,104 @@
+//! Bytes with others between them, at the end of a buffer.
+
+ghost use Rattle.std.specs.Prelude.{◌≡◌, ◌+◌, ◌<◌, ◌≤◌, ◌++◌, length, OnOk, OnErr, vec_len};
+ghost use Rattle.std.specs.Vec.{vec_capacity};
+ghost use Rattle.jsonb_value.specs.SortKey.{text_key};
+ghost use Rattle.jsonb_value.specs.Text.Appending.{Extends};
+ghost use Rattle.stored_edit.specs.Spots.{Appends};
+
+use jsonb_value::parts::append_text_key;
+use std::alloc::AllocError;
+
+/// Appends the bytes.
+pub(crate) fn append(out: &mut Vec<u8>, bytes: &[u8]) -> Result<(), AllocError>
+    ensures { Appends result out.old out.new bytes.now }
+{
+    out.extend_from_slice(bytes)
+}
+
+/// Appends the four, one after the other.
+pub(crate) fn splice(
+    out: &mut Vec<u8>,
+    front: &[u8],
+    first: &[u8],
+    second: &[u8],
+    behind: &[u8],
+) -> Result<(), AllocError>
+    ensures { Appends result out.old out.new (front.now ++ (first.now ++ (second.now ++ behind.now))) }
+{
+    let old_len = out.len();
+    let parts = first.len().saturating_add(second.len());
+    let room = front
+        .len()
+        .saturating_add(parts)
+        .saturating_add(behind.len());
+    let _reserved = out.try_reserve(room);
+    if append_four(out, front, first, second, behind).is_err() {
+        out.truncate(old_len);
+        return Err(AllocError);
+    }
+    Ok(())
+}
+
+fn append_four(
+    out: &mut Vec<u8>,
+    front: &[u8],
+    first: &[u8],
+    second: &[u8],
+    behind: &[u8],
+) -> Result<(), AllocError>
+    ensures ok { OnOk result
+        (out.new.items ≡ out.old.items ++ (front.now ++ (first.now ++ (second.now ++ behind.now)))) }
+    ensures kept { Extends out.old.items out.new.items }
+    ensures full { OnErr result (vec_capacity out.old
+        < vec_len out.old + length (front.now ++ (first.now ++ (second.now ++ behind.now)))) }
+    ensures capacity { vec_capacity out.old ≤ vec_capacity out.new }
+{
+    out.extend_from_slice(front)?;
+    out.extend_from_slice(first)?;
+    out.extend_from_slice(second)?;
+    out.extend_from_slice(behind)
+}
+
+/// Appends a part with its name, and with what stands in front of them and behind them.
+pub(crate) fn splice_named(
+    out: &mut Vec<u8>,
+    front: &[u8],
+    name: &str,
+    part: &[u8],
+    behind: &[u8],
+) -> Result<(), AllocError>
+    ensures { Appends result out.old out.new (front.now ++ (text_key name.now ++ (part.now ++ behind.now))) }
+{
+    let old_len = out.len();
+    let room = front
+        .len()
+        .saturating_add(part.len())
+        .saturating_add(behind.len());
+    let _reserved = out.try_reserve(room.saturating_add(name.len()).saturating_add(2));
+    if append_named(out, front, name, part, behind).is_err() {
+        out.truncate(old_len);
+        return Err(AllocError);
+    }
+    Ok(())
+}
+
+fn append_named(
+    out: &mut Vec<u8>,
+    front: &[u8],
+    name: &str,
+    part: &[u8],
+    behind: &[u8],
+) -> Result<(), AllocError>
+    ensures ok { OnOk result
+        (out.new.items ≡ out.old.items ++ (front.now ++ (text_key name.now ++ (part.now ++ behind.now)))) }
+    ensures kept { Extends out.old.items out.new.items }
+    ensures full { OnErr result (vec_capacity out.old
+        < vec_len out.old + length (front.now ++ (text_key name.now ++ (part.now ++ behind.now)))) }
+    ensures capacity { vec_capacity out.old ≤ vec_capacity out.new }
+{
+    out.extend_from_slice(front)?;
+    append_text_key(name, out)?;
+    out.extend_from_slice(part)?;
+    out.extend_from_slice(behind)
+}
