@@ -1,5 +1,5 @@
-/* Vizhoniku for C: check JSON texts, write their values as text and as sort keys, compare them, report errors; and find
- * the parts of values in their sort keys.
+/* Vizhoniku for C: check JSON texts, write their values as text and as sort keys, compare them, report errors; find the
+ * parts of values in their sort keys, and change these.
  *
  * A text is any bytes, with its size; it needs no zero byte at its end. A call keeps nothing: there is no state, a call
  * frees all memory that it allocates, and it writes only to what its caller passes. So calls in different threads need
@@ -52,7 +52,8 @@ enum vizhoniku_status {
   VIZHONIKU_TOO_SHORT = 4,     /* the buffer is shorter than the text: the size says what is needed */
   VIZHONIKU_NO_PART = 5,       /* the document or the key has no such part */
   VIZHONIKU_NO_PATH = 6,       /* the path isn't a JSON Pointer (RFC 6901) */
-  VIZHONIKU_NO_KEY = 7         /* the bytes aren't the sort key of a value */
+  VIZHONIKU_NO_KEY = 7,        /* the bytes aren't the sort key of a value */
+  VIZHONIKU_TOO_DEEP = 8       /* the value would have more than 512 nested arrays and objects */
 };
 
 /* What is wrong with a text. docs/GRAMMAR.md says when, and which byte the position means. */
@@ -263,6 +264,52 @@ uint32_t vizhoniku_key_name(const unsigned char *name, size_t name_size, unsigne
  * among all items. */
 uint32_t vizhoniku_key_contains(const unsigned char *key, size_t key_size, const unsigned char *other,
                                 size_t other_size);
+
+/* A sort key changed. The calls below take whole keys, as vizhoniku_sort_key or these calls wrote them, and write the key
+ * of another value to the start of the buffer. No text is parsed and no value is made: what stays is copied as it is.
+ *
+ *  - VIZHONIKU_ACCEPTED: *size bytes were written. The rest of the buffer is as before.
+ *  - VIZHONIKU_TOO_SHORT: *size bytes are needed, and nothing was written.
+ *  - VIZHONIKU_NO_PART: nothing changes, so the key that was passed is the answer. *size is 0, and nothing was written.
+ *  - VIZHONIKU_TOO_DEEP, VIZHONIKU_NO_PATH, VIZHONIKU_NO_KEY, VIZHONIKU_OUT_OF_MEMORY: *size is 0, and nothing was
+ *    written.
+ *
+ * Any bytes may be passed; they aren't checked as a whole, and of bytes that are no key any bytes may be written.
+ *
+ * The bytes D1 00 00 are the key of an object with no members, and D2 00 that of an array with no items.
+ *
+ * A path is a JSON Pointer (RFC 6901), as of vizhoniku_key_part. In an array a step is the index of an item in decimal
+ * digits without leading zeros; with a minus sign before them it counts from the end, where -1 is the last item. */
+
+/* Sets the part at the path, as jsonb_set of PostgreSQL does: the part that is there is replaced. Where only the last
+ * step leads nowhere and create isn't 0, a member is added to an object; to an array an item is added at its end, or at
+ * its front for an index that counts from the end. VIZHONIKU_NO_PART: the path has no steps, an earlier step leads
+ * nowhere or is in no array and no object, a step in an array is no index, or the last step leads nowhere and create is
+ * 0. */
+uint32_t vizhoniku_key_set(const unsigned char *key, size_t key_size, const unsigned char *path, size_t path_size,
+                           const unsigned char *part, size_t part_size, uint32_t create, unsigned char *buffer,
+                           size_t buffer_size, size_t *size);
+
+/* Removes the part at the path, as the operator #- of PostgreSQL's jsonb does. VIZHONIKU_NO_PART: there is no such part,
+ * or the path has no steps. The status is never VIZHONIKU_TOO_DEEP. */
+uint32_t vizhoniku_key_remove(const unsigned char *key, size_t key_size, const unsigned char *path, size_t path_size,
+                              unsigned char *buffer, size_t buffer_size, size_t *size);
+
+/* Puts a member into an object, in place of the one of that name where there is one. The name is UTF-8 as it is, with no
+ * escapes. VIZHONIKU_NO_PART: the value is no object. VIZHONIKU_NO_PATH: the name isn't UTF-8. */
+uint32_t vizhoniku_key_put(const unsigned char *key, size_t key_size, const unsigned char *name, size_t name_size,
+                           const unsigned char *value, size_t value_size, unsigned char *buffer, size_t buffer_size,
+                           size_t *size);
+
+/* Puts an item at the end of an array. VIZHONIKU_NO_PART: the value is no array. */
+uint32_t vizhoniku_key_push(const unsigned char *key, size_t key_size, const unsigned char *item, size_t item_size,
+                            unsigned char *buffer, size_t buffer_size, size_t *size);
+
+/* Merges two values, as the operator || of PostgreSQL's jsonb does: two objects to one with the members of both, where
+ * those of the right one win; else two arrays to one, for which a value that is no array is an array of itself. The
+ * status is neither VIZHONIKU_NO_PART nor VIZHONIKU_NO_PATH. */
+uint32_t vizhoniku_key_merge(const unsigned char *left, size_t left_size, const unsigned char *right, size_t right_size,
+                             unsigned char *buffer, size_t buffer_size, size_t *size);
 
 #ifdef __cplusplus
 }

@@ -67,17 +67,25 @@ static uint32_t call(int which, uint32_t mode, const unsigned char *text, size_t
       return vizhoniku_text_and_key(mode, text, text_size, buffer, room, &size, key_buffer, room, &key_size, &refusal);
     case 6: return vizhoniku_key_text(key, sizeof key, buffer, room, &size);
     case 7: return vizhoniku_key_part(object_key, sizeof object_key, path, sizeof path, &size, &key_size);
+    case 8:
+      return vizhoniku_key_set(object_key, sizeof object_key, path, sizeof path, key, sizeof key, 1, buffer, room, &size);
+    case 9: return vizhoniku_key_remove(object_key, sizeof object_key, path, sizeof path, buffer, room, &size);
+    case 10: return vizhoniku_key_merge(object_key, sizeof object_key, key, sizeof key, buffer, room, &size);
+    case 12: return vizhoniku_key_put(object_key, sizeof object_key, path, 2, key, sizeof key, buffer, room, &size);
+    case 13: return vizhoniku_key_push(key, sizeof key, key, sizeof key, buffer, room, &size);
+    case 11:
+      return vizhoniku_key_merge(object_key, sizeof object_key, object_key, sizeof object_key, buffer, room, &size);
     default: return vizhoniku_compare(mode, text, text_size, text, text_size, &order, &refusal);
   }
 }
 
 int main(void) {
   long kept = 0, wrong = 0;
-  for (size_t i = 0; i < 2 * 2 * 9 * (sizeof texts / sizeof *texts); i++) {
-    const unsigned char *text = (const unsigned char *)texts[i / 36];
-    size_t text_size = strlen(texts[i / 36]), room = i % 2 ? 400 : 3;
-    int which = (int)(i / 2 % 9);
-    uint32_t mode = (uint32_t)(i / 18 % 2), whole = 0;
+  for (size_t i = 0; i < 2 * 2 * 15 * (sizeof texts / sizeof *texts); i++) {
+    const unsigned char *text = (const unsigned char *)texts[i / 60];
+    size_t text_size = strlen(texts[i / 60]), room = i % 2 ? 400 : 3;
+    int which = (int)(i / 2 % 15);
+    uint32_t mode = (uint32_t)(i / 30 % 2), whole = 0;
     for (refused = -1; refused < 0 || asked >= refused; refused++) {
       long before = held;
       asked = 0;

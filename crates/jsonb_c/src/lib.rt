@@ -30,6 +30,7 @@ use std::cmp::Ordering;
 
 pub mod key;
 pub mod key_contains;
+pub mod key_edit;
 pub mod key_text;
 
 /// Success.
@@ -55,6 +56,9 @@ pub const NO_PATH: u32 = 6;
 
 /// The bytes aren't the sort key of a value of JSON's kinds.
 pub const NO_KEY: u32 = 7;
+
+/// The value would have more than 512 nested arrays and objects.
+pub const TOO_DEEP: u32 = 8;
 
 /// What is reported of a rejected text: the number of the code, which of the texts it is, from 1 on, and the number of
 /// the error. All are 0 where no text is rejected.

@@ -1,0 +1,25 @@
+-- What the statuses say of a sort key that is changed.
+-- Read for: promises, but `edit_status_of`.
+use Rattle.std.specs.Prelude.{◌≡◌, ◌⊎◌, ℕ, List, Option, Some, None}
+use Rattle.jsonb_key.specs.Readable.{IsAnyNumber}
+use Rattle.jsonb_value.specs.Grammar.{max_depth}
+use Rattle.jsonb_value.specs.SortKey.{key_of}
+use Rattle.jsonb_value.specs.Text.Range.{IsWithin}
+use Rattle.jsonb_value.specs.Tree.{Tree}
+use Rattle.jsonb_c.specs.KeyParts.{IsWritten}
+use Rattle.stored_edit.specs.declared.error.EditError.{EditError}
+use Rattle.stored_edit.specs.declared.error.EditError.TheVariants as errors
+
+-- The key of the answer stands at the front of the buffer, or the buffer is shorter, which the status says, and so it
+-- does where the answer has more than 512 arrays and objects in one another, or where nothing changes.
+abbrev pub IsEdited : Option Tree → ℕ → ℕ → List ℕ → List ℕ → Type 0
+IsEdited (Some t) status size old new =
+    (IsWithin IsAnyNumber t max_depth × IsWritten (Some (key_of t)) status size old new)
+    ⊎ ((status ≡ 8) × (IsWithin IsAnyNumber t max_depth → ⊥))
+IsEdited None status size old new = status ≡ 5
+
+-- the status of an error
+abbrev pub edit_status_of : EditError → ℕ
+edit_status_of errors.NoKey = 7
+edit_status_of errors.TooDeep = 8
+edit_status_of errors.OutOfMemory = 2

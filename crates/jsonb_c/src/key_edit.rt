@@ -1,0 +1,259 @@
+//! Sort keys changed by splicing: parts set, removed and added, and two values merged.
+//!
+//! Any bytes are safe to pass. What a call writes is promised for the keys of values of JSON's kinds with at most 512
+//! nested arrays and objects; of other bytes it may be `NO_KEY` or any bytes.
+ghost use Rattle.std.specs.Prelude.{◌≡◌, ◌≢◌, ◌↔◌, ◌⊎◌, ◌==◌, IsUtf8, ℕ, List, [], not, map, string_bytes, Option, Some, Vec};
+ghost use Rattle.std.specs.declared.alloc.Global.{Global as GlobalAlloc};
+ghost use Rattle.jsonb_c.specs.Interface.{IsNoPath};
+ghost use Rattle.jsonb_c.specs.KeyEdit.{edit_status_of, IsEdited};
+ghost use Rattle.jsonb_c.specs.KeyParts.{IsTreeKey};
+ghost use Rattle.jsonb_pointer.specs.Path.{IsPath};
+ghost use Rattle.jsonb_value.specs.Tree.{Tree};
+ghost use Rattle.stored_edit.specs.Edit.{merged, with_item, with_member, with_part, without_part, AppendsKey, Edits};
+
+use crate::{ACCEPTED, NO_KEY, NO_PART, NO_PATH, OUT_OF_MEMORY, TOO_DEEP, TOO_SHORT, put};
+use jsonb_pointer::read_keys;
+use std::alloc::Global;
+use stored_edit::{
+    EditError, append_merged, append_with_item, append_with_member, append_with_part,
+    append_without_part,
+};
+
+/// Writes the sort key of a value with a part at the path, of which the key is passed, to the start of `out`, and its
+/// size to `size`. Where `out` is too short, it stays as it is, and `size` is what is needed. The part that is there is
+/// replaced. Where the last name leads nowhere, it is added if `create` isn't 0.
+#[unsafe(no_mangle)]
+pub extern "C" fn vizhoniku_key_set(
+    alloc: Global,
+    key: &[u8],
+    path: &[u8],
+    part: &[u8],
+    create: u32,
+    out: &mut [u8],
+    size: &mut usize,
+) -> u32
+    ensures status { (result ≡ ACCEPTED) ⊎ (result ≡ OUT_OF_MEMORY) ⊎ (result ≡ TOO_SHORT) ⊎ (result ≡ NO_PART)
+        ⊎ (result ≡ NO_PATH) ⊎ (result ≡ NO_KEY) ⊎ (result ≡ TOO_DEEP) }
+
+    // What is written is the key of the value with the part; or there is no such place, or it would be too deep.
+    ensures written { (t : Tree) → IsTreeKey key.now t → (u : Tree) → IsTreeKey part.now u → (names : List (List ℕ))
+        → IsPath path.now names → (result ≡ OUT_OF_MEMORY)
+        ⊎ IsEdited (with_part names u (not (create == 0)) t) result size.new out.old out.new }
+
+    // What is wrong with a path is told, unless memory ran out.
+    ensures no_path { result ≡ NO_PATH → IsNoPath path.now }
+    ensures wrong_path { IsNoPath path.now → (result ≡ NO_PATH) ⊎ (result ≡ OUT_OF_MEMORY) }
+    ensures untouched { result ≢ ACCEPTED → out.new ≡ out.old }
+    ensures no_size { result ≢ ACCEPTED → result ≢ TOO_SHORT → size.new ≡ 0 }
+{
+    match read_keys(alloc, path) {
+        Ok(Some(names)) => set_part(alloc, key, &names, part, create != 0, out, size),
+        Ok(None) => {
+            *size = 0;
+            NO_PATH
+        }
+        Err(_) => {
+            *size = 0;
+            OUT_OF_MEMORY
+        }
+    }
+}
+
+// Writes the key with the part at the path of these names.
+fn set_part(
+    alloc: Global,
+    key: &[u8],
+    names: &[String],
+    part: &[u8],
+    create: bool,
+    out: &mut [u8],
+    size: &mut usize,
+) -> u32
+    ensures status { (result ≡ ACCEPTED) ⊎ (result ≡ OUT_OF_MEMORY) ⊎ (result ≡ TOO_SHORT) ⊎ (result ≡ NO_PART)
+        ⊎ (result ≡ NO_KEY) ⊎ (result ≡ TOO_DEEP) }
+    ensures written { (t : Tree) → IsTreeKey key.now t → (u : Tree) → IsTreeKey part.now u → (result ≡ OUT_OF_MEMORY)
+        ⊎ IsEdited (with_part (map string_bytes names.now) u create t) result size.new out.old out.new }
+    ensures untouched { result ≢ ACCEPTED → out.new ≡ out.old }
+    ensures no_size { result ≢ ACCEPTED → result ≢ TOO_SHORT → size.new ≡ 0 }
+{
+    let mut bytes = Vec::new(alloc);
+    let told = append_with_part(&mut bytes, key, names, part, create);
+    tell_key(told, &bytes, out, size)
+}
+
+/// Writes the sort key of a value without its part at the path to the start of `out`, and its size to `size`. Where
+/// `out` is too short, it stays as it is, and `size` is what is needed.
+#[unsafe(no_mangle)]
+pub extern "C" fn vizhoniku_key_remove(
+    alloc: Global,
+    key: &[u8],
+    path: &[u8],
+    out: &mut [u8],
+    size: &mut usize,
+) -> u32
+    ensures status { (result ≡ ACCEPTED) ⊎ (result ≡ OUT_OF_MEMORY) ⊎ (result ≡ TOO_SHORT) ⊎ (result ≡ NO_PART)
+        ⊎ (result ≡ NO_PATH) ⊎ (result ≡ NO_KEY) ⊎ (result ≡ TOO_DEEP) }
+
+    // What is written is the key of the value without the part; or there is no such part.
+    ensures written { (t : Tree) → IsTreeKey key.now t → (names : List (List ℕ)) → IsPath path.now names
+        → (result ≡ OUT_OF_MEMORY) ⊎ IsEdited (without_part names t) result size.new out.old out.new }
+
+    // What is wrong with a path is told, unless memory ran out.
+    ensures no_path { result ≡ NO_PATH → IsNoPath path.now }
+    ensures wrong_path { IsNoPath path.now → (result ≡ NO_PATH) ⊎ (result ≡ OUT_OF_MEMORY) }
+    ensures untouched { result ≢ ACCEPTED → out.new ≡ out.old }
+    ensures no_size { result ≢ ACCEPTED → result ≢ TOO_SHORT → size.new ≡ 0 }
+{
+    match read_keys(alloc, path) {
+        Ok(Some(names)) => remove_part(alloc, key, &names, out, size),
+        Ok(None) => {
+            *size = 0;
+            NO_PATH
+        }
+        Err(_) => {
+            *size = 0;
+            OUT_OF_MEMORY
+        }
+    }
+}
+
+// Writes the key without the part at the path of these names.
+fn remove_part(alloc: Global, key: &[u8], names: &[String], out: &mut [u8], size: &mut usize) -> u32
+    ensures status { (result ≡ ACCEPTED) ⊎ (result ≡ OUT_OF_MEMORY) ⊎ (result ≡ TOO_SHORT) ⊎ (result ≡ NO_PART)
+        ⊎ (result ≡ NO_KEY) ⊎ (result ≡ TOO_DEEP) }
+    ensures written { (t : Tree) → IsTreeKey key.now t → (result ≡ OUT_OF_MEMORY)
+        ⊎ IsEdited (without_part (map string_bytes names.now) t) result size.new out.old out.new }
+    ensures untouched { result ≢ ACCEPTED → out.new ≡ out.old }
+    ensures no_size { result ≢ ACCEPTED → result ≢ TOO_SHORT → size.new ≡ 0 }
+{
+    let mut bytes = Vec::new(alloc);
+    let told = append_without_part(&mut bytes, key, names);
+    tell_key(told, &bytes, out, size)
+}
+
+/// Writes the sort key of an object with a member, of whose value the key is passed, to the start of `out`, and its size
+/// to `size`. Where `out` is too short, it stays as it is, and `size` is what is needed. A member of that name is
+/// replaced.
+#[unsafe(no_mangle)]
+pub extern "C" fn vizhoniku_key_put(
+    alloc: Global,
+    key: &[u8],
+    name: &[u8],
+    value: &[u8],
+    out: &mut [u8],
+    size: &mut usize,
+) -> u32
+    ensures status { (result ≡ ACCEPTED) ⊎ (result ≡ OUT_OF_MEMORY) ⊎ (result ≡ TOO_SHORT) ⊎ (result ≡ NO_PART)
+        ⊎ (result ≡ NO_PATH) ⊎ (result ≡ NO_KEY) ⊎ (result ≡ TOO_DEEP) }
+
+    // What is written is the key of the object with the member; or the value is none, or would be too deep.
+    ensures written { IsUtf8 name.now → (t : Tree) → IsTreeKey key.now t → (u : Tree) → IsTreeKey value.now u
+        → (result ≡ OUT_OF_MEMORY) ⊎ IsEdited (with_member name.now u t) result size.new out.old out.new }
+    ensures no_path { result ≡ NO_PATH ↔ (IsUtf8 name.now → ⊥) }
+    ensures untouched { result ≢ ACCEPTED → out.new ≡ out.old }
+    ensures no_size { result ≢ ACCEPTED → result ≢ TOO_SHORT → size.new ≡ 0 }
+{
+    let Ok(name) = str::from_utf8(name) else {
+        *size = 0;
+        return NO_PATH;
+    };
+    let mut bytes = Vec::new(alloc);
+    let told = append_with_member(&mut bytes, key, name, value);
+    tell_key(told, &bytes, out, size)
+}
+
+/// Writes the sort key of an array with an item more, of which the key is passed, to the start of `out`, and its size to
+/// `size`. Where `out` is too short, it stays as it is, and `size` is what is needed.
+#[unsafe(no_mangle)]
+pub extern "C" fn vizhoniku_key_push(
+    alloc: Global,
+    key: &[u8],
+    item: &[u8],
+    out: &mut [u8],
+    size: &mut usize,
+) -> u32
+    ensures status { (result ≡ ACCEPTED) ⊎ (result ≡ OUT_OF_MEMORY) ⊎ (result ≡ TOO_SHORT) ⊎ (result ≡ NO_PART)
+        ⊎ (result ≡ NO_KEY) ⊎ (result ≡ TOO_DEEP) }
+
+    // What is written is the key of the array with the item; or the value is none, or would be too deep.
+    ensures written { (t : Tree) → IsTreeKey key.now t → (u : Tree) → IsTreeKey item.now u
+        → (result ≡ OUT_OF_MEMORY) ⊎ IsEdited (with_item u t) result size.new out.old out.new }
+    ensures untouched { result ≢ ACCEPTED → out.new ≡ out.old }
+    ensures no_size { result ≢ ACCEPTED → result ≢ TOO_SHORT → size.new ≡ 0 }
+{
+    let mut bytes = Vec::new(alloc);
+    let told = append_with_item(&mut bytes, key, item);
+    tell_key(told, &bytes, out, size)
+}
+
+/// Writes the sort key of both values in one to the start of `out`, and its size to `size`: an object with the members
+/// of both, or else an array with the items of both. Where `out` is too short, it stays as it is, and `size` is what is
+/// needed.
+#[unsafe(no_mangle)]
+pub extern "C" fn vizhoniku_key_merge(
+    alloc: Global,
+    left: &[u8],
+    right: &[u8],
+    out: &mut [u8],
+    size: &mut usize,
+) -> u32
+    ensures status { (result ≡ ACCEPTED) ⊎ (result ≡ OUT_OF_MEMORY) ⊎ (result ≡ TOO_SHORT) ⊎ (result ≡ NO_PART)
+        ⊎ (result ≡ NO_KEY) ⊎ (result ≡ TOO_DEEP) }
+
+    // What is written is the key of both values in one; or it would be too deep.
+    ensures written { (t : Tree) → IsTreeKey left.now t → (u : Tree) → IsTreeKey right.now u
+        → (result ≡ OUT_OF_MEMORY) ⊎ IsEdited (Some (merged t u)) result size.new out.old out.new }
+    ensures untouched { result ≢ ACCEPTED → out.new ≡ out.old }
+    ensures no_size { result ≢ ACCEPTED → result ≢ TOO_SHORT → size.new ≡ 0 }
+{
+    let mut bytes = Vec::new(alloc);
+    let told = changed(append_merged(&mut bytes, left, right));
+    tell_key(told, &bytes, out, size)
+}
+
+// What is told of a call that always changes a key.
+fn changed(told: Result<(), EditError>) -> Result<bool, EditError>
+    ensures { (t : Tree) → (old new : Vec ℕ GlobalAlloc) → AppendsKey t told old new → Edits (Some t) result old new }
+{
+    match told {
+        Ok(()) => Ok(true),
+        Err(error) => Err(error),
+    }
+}
+
+// Writes the bytes that were appended, and gives the status of what was told.
+fn tell_key(told: Result<bool, EditError>, bytes: &[u8], out: &mut [u8], size: &mut usize) -> u32
+    ensures status { (result ≡ ACCEPTED) ⊎ (result ≡ OUT_OF_MEMORY) ⊎ (result ≡ TOO_SHORT) ⊎ (result ≡ NO_PART)
+        ⊎ (result ≡ NO_KEY) ⊎ (result ≡ TOO_DEEP) }
+    ensures written { (answer : Option Tree) → (old new : Vec ℕ GlobalAlloc) → old.items ≡ [] → new.items ≡ bytes.now
+        → Edits answer told old new
+        → (result ≡ OUT_OF_MEMORY) ⊎ IsEdited answer result size.new out.old out.new }
+    ensures untouched { result ≢ ACCEPTED → out.new ≡ out.old }
+    ensures no_size { result ≢ ACCEPTED → result ≢ TOO_SHORT → size.new ≡ 0 }
+{
+    match told {
+        Ok(true) => {
+            *size = bytes.len();
+            put(bytes, out)
+        }
+        Ok(false) => {
+            *size = 0;
+            NO_PART
+        }
+        Err(error) => {
+            *size = 0;
+            edit_status(&error)
+        }
+    }
+}
+
+// The status of an error.
+fn edit_status(error: &EditError) -> u32
+    ensures { result ≡ edit_status_of error.now }
+{
+    match error {
+        EditError::NoKey => NO_KEY,
+        EditError::TooDeep => TOO_DEEP,
+        EditError::OutOfMemory => OUT_OF_MEMORY,
+    }
+}
