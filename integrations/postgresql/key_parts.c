@@ -29,10 +29,6 @@
 /* How much of a value is looked at for its kind: the form, the size of the key, and its first byte. */
 #define KIND_SLICE		(FORM_SIZE + KEY_SIZE_SIZE + 1)
 
-/* The bytes of a string's key that aren't those of its text: the first, and the two at its end. */
-#define STRING_KEY		0xD0
-#define STRING_EXTRA	3
-
 /* The key of true. */
 #define TRUE_KEY		0x16
 
@@ -64,18 +60,6 @@ PG_FUNCTION_INFO_V1(vjson_to_float8);
 /*
  * Values and texts of parts
  */
-
-/* Words of the server in UTF-8. */
-static inline Range
-utf8_of(text *words)
-{
-	char	   *utf8 = pg_server_to_any(VARDATA_ANY(words), (int) VARSIZE_ANY_EXHDR(words), PG_UTF8);
-	Range		range;
-
-	range.at = (unsigned char *) utf8;
-	range.size = utf8 == VARDATA_ANY(words) ? VARSIZE_ANY_EXHDR(words) : strlen(utf8);
-	return range;
-}
 
 /* The text of a string's key, or of a name's, in the encoding of the database. */
 static text *
@@ -263,27 +247,20 @@ has_name(Range key, text *words)
 {
 	Range		name = utf8_of(words);
 	uint32		kind = kind_of(key);
-	unsigned char *wanted;
-	size_t		size = name.size + STRING_EXTRA;
+	Range		wanted;
 	Walk		walk;
 
 	if (kind == VIZHONIKU_OBJECT)
 		return find_member(key, name, &walk.value);
 	if (kind != VIZHONIKU_ARRAY && kind != VIZHONIKU_STRING)
 		return false;
-
-	/* A text of the server has no zero byte, which alone is escaped in a key. */
-	wanted = palloc(size);
-	wanted[0] = STRING_KEY;
-	memcpy(wanted + 1, name.at, name.size);
-	wanted[size - 2] = 0;
-	wanted[size - 1] = 1;
+	wanted = key_of_string(name);
 	if (kind == VIZHONIKU_STRING)
-		return key.size == size && memcmp(key.at, wanted, size) == 0;
+		return same_bytes(key, wanted);
 	begin_walk(&walk, key);
 	while (next_in_walk(&walk))
 	{
-		if (walk.value.size == size && memcmp(walk.value.at, wanted, size) == 0)
+		if (same_bytes(walk.value, wanted))
 			return true;
 	}
 	return false;

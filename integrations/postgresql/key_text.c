@@ -426,3 +426,36 @@ key_part_zeros(const unsigned char *zeros, size_t zeros_size, uint64 numbers_bef
 	}
 	return size;
 }
+
+bool
+key_zeros_append(KeyZeros *into, const unsigned char *zeros, size_t zeros_size, uint64 first, uint64 numbers)
+{
+	const unsigned char *zeros_end = zeros + zeros_size;
+	Collected	found = {into->bytes, into->size, into->room};
+	uint64		number = 0;		/* the number that comes next */
+	uint64		next = first;	/* the number of those asked for that comes next */
+
+	while (zeros < zeros_end)
+	{
+		uint64		gap;
+		size_t		count;
+
+		if (!next_zeros(&zeros, zeros_end, &gap, &count))
+			return false;
+		number += gap;
+		if (number >= first + numbers)
+			break;
+		if (number >= first)
+		{
+			collect(&found, into->plain + number - next, count);
+			into->plain = 0;
+			next = number + 1;
+		}
+		number++;
+	}
+	into->plain += first + numbers - next;
+	into->bytes = found.bytes;
+	into->size = found.size;
+	into->room = found.room;
+	return true;
+}

@@ -47,4 +47,20 @@ extern bool key_numbers(const unsigned char *key, size_t key_size, size_t offset
 extern size_t key_part_zeros(const unsigned char *zeros, size_t zeros_size, uint64 numbers_before, uint64 numbers,
 							 unsigned char *part_zeros);
 
+/* Zeros that are put together of those of several keys. It begins with zero bytes. */
+typedef struct
+{
+	unsigned char *bytes;
+	size_t		size;
+	size_t		room;
+	uint64		plain;			/* numbers without zeros since the last with some */
+} KeyZeros;
+
+/*
+ * Append the zeros of so many numbers of a key, from the first of them on.
+ * False if the bytes are no zeros of a key.
+ */
+extern bool key_zeros_append(KeyZeros *into, const unsigned char *zeros, size_t zeros_size, uint64 first,
+							 uint64 numbers);
+
 #endif							/* KEY_TEXT_H */

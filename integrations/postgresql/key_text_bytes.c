@@ -113,6 +113,14 @@ static void try(const char *source) {
     differs("the zeros of its whole differ", text, text_size);
   else
     free(found);
+  for (uint64 first = 0; first <= numbers; first += numbers / 3 + 1) {
+    KeyZeros joined = {0};
+    if (!key_zeros_append(&joined, zeros, zeros_size, 0, first) ||
+        !key_zeros_append(&joined, zeros, zeros_size, first, numbers - first) || joined.size != zeros_size ||
+        (zeros_size && memcmp(joined.bytes, zeros, zeros_size)))
+      differs("the zeros of its parts aren't those of the whole", text, text_size);
+    free(joined.bytes);
+  }
   for (size_t end = 0; end < key_size && key_size < 100; end++) {
     unsigned char *front = copy(key, end);
     cut(front, end, text, text_size);

@@ -9,9 +9,15 @@
 #ifndef KEY_WALK_H
 #define KEY_WALK_H
 
+#include "mb/pg_wchar.h"
+
 #include <vizhoniku.h>
 
 #include "vjson.h"
+
+/* The bytes of a string's key that aren't those of its text: the first, and the two at its end. */
+#define STRING_KEY		0xD0
+#define STRING_EXTRA	3
 
 /* The parts of a value, and its key. */
 static inline Range
@@ -23,6 +29,39 @@ get_whole(struct varlena *value, VjsonParts *parts)
 	key.at = parts->key;
 	key.size = parts->key_size;
 	return key;
+}
+
+static inline bool
+same_bytes(Range left, Range right)
+{
+	return left.size == right.size && memcmp(left.at, right.at, left.size) == 0;
+}
+
+/* Words of the server in UTF-8. */
+static inline Range
+utf8_of(text *words)
+{
+	char	   *utf8 = pg_server_to_any(VARDATA_ANY(words), (int) VARSIZE_ANY_EXHDR(words), PG_UTF8);
+	Range		range;
+
+	range.at = (unsigned char *) utf8;
+	range.size = utf8 == VARDATA_ANY(words) ? VARSIZE_ANY_EXHDR(words) : strlen(utf8);
+	return range;
+}
+
+/* The key of a string, whose text is of the server: so it has no zero byte, which alone is escaped in a key. */
+static inline Range
+key_of_string(Range words)
+{
+	size_t		size = words.size + STRING_EXTRA;
+	unsigned char *key = palloc(size);
+	Range		result = {key, size};
+
+	key[0] = STRING_KEY;
+	memcpy(key + 1, words.at, words.size);
+	key[size - 2] = 0;
+	key[size - 1] = 1;
+	return result;
 }
 
 /* Whether a call found what it was asked for. */

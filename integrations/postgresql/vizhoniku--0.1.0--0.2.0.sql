@@ -1,5 +1,5 @@
-/* The extension vizhoniku, from 0.1.0 to 0.2.0: parts, elements, containment, GIN
-   and documents of SQL values, with the names of jsonb */
+/* The extension vizhoniku, from 0.1.0 to 0.2.0: parts, elements, containment, GIN,
+   documents of SQL values, and changes, with the names of jsonb */
 
 -- complain if the script is run by psql rather than by ALTER EXTENSION
 \echo Use "ALTER EXTENSION vizhoniku UPDATE TO '0.2.0'" to load this file. \quit
@@ -242,6 +242,67 @@ CREATE AGGREGATE vjson_object_agg("any", "any") (
   PARALLEL = SAFE
 );
 COMMENT ON AGGREGATE vjson_object_agg("any", "any") IS 'an object of the names and their values';
+
+-- Changes
+
+CREATE FUNCTION vjson_concat(vjson, vjson) RETURNS vjson
+  AS 'MODULE_PATHNAME' LANGUAGE C IMMUTABLE STRICT PARALLEL SAFE;
+COMMENT ON FUNCTION vjson_concat(vjson, vjson) IS 'implementation of || operator';
+
+CREATE OPERATOR || (
+  LEFTARG = vjson,
+  RIGHTARG = vjson,
+  FUNCTION = vjson_concat
+);
+COMMENT ON OPERATOR || (vjson, vjson) IS 'the members of both, or the items of both';
+
+CREATE FUNCTION vjson_delete(vjson, text) RETURNS vjson
+  AS 'MODULE_PATHNAME' LANGUAGE C IMMUTABLE STRICT PARALLEL SAFE;
+COMMENT ON FUNCTION vjson_delete(vjson, text) IS 'implementation of - operator';
+
+CREATE OPERATOR - (
+  LEFTARG = vjson,
+  RIGHTARG = text,
+  FUNCTION = vjson_delete
+);
+COMMENT ON OPERATOR - (vjson, text) IS 'without the member of a name, or the items that are that string';
+
+CREATE FUNCTION vjson_delete(from_json vjson, VARIADIC path_elems text[]) RETURNS vjson
+  AS 'MODULE_PATHNAME', 'vjson_delete_array' LANGUAGE C IMMUTABLE STRICT PARALLEL SAFE;
+COMMENT ON FUNCTION vjson_delete(vjson, text[]) IS 'implementation of - operator';
+
+CREATE OPERATOR - (
+  LEFTARG = vjson,
+  RIGHTARG = text[],
+  FUNCTION = vjson_delete
+);
+COMMENT ON OPERATOR - (vjson, text[]) IS 'without the members of some names, or the items that are those strings';
+
+CREATE FUNCTION vjson_delete(vjson, integer) RETURNS vjson
+  AS 'MODULE_PATHNAME', 'vjson_delete_idx' LANGUAGE C IMMUTABLE STRICT PARALLEL SAFE;
+COMMENT ON FUNCTION vjson_delete(vjson, integer) IS 'implementation of - operator';
+
+CREATE OPERATOR - (
+  LEFTARG = vjson,
+  RIGHTARG = integer,
+  FUNCTION = vjson_delete
+);
+COMMENT ON OPERATOR - (vjson, integer) IS 'without the item of an index';
+
+CREATE FUNCTION vjson_delete_path(vjson, vjson_path) RETURNS vjson
+  AS 'MODULE_PATHNAME' LANGUAGE C IMMUTABLE STRICT PARALLEL SAFE;
+COMMENT ON FUNCTION vjson_delete_path(vjson, vjson_path) IS 'implementation of #- operator';
+
+CREATE OPERATOR #- (
+  LEFTARG = vjson,
+  RIGHTARG = vjson_path,
+  FUNCTION = vjson_delete_path
+);
+COMMENT ON OPERATOR #- (vjson, vjson_path) IS 'without the part at a path';
+
+CREATE FUNCTION vjson_set(vjson_in vjson, path vjson_path, replacement vjson, create_if_missing boolean DEFAULT true)
+  RETURNS vjson AS 'MODULE_PATHNAME' LANGUAGE C IMMUTABLE STRICT PARALLEL SAFE;
+COMMENT ON FUNCTION vjson_set(vjson, vjson_path, vjson, boolean) IS 'with another part at a path';
 
 -- Casts of scalars
 
