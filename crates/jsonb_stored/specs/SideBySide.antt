@@ -1,6 +1,6 @@
 -- Two keys that are walked side by side.
 -- Read for: private.
-use Rattle.std.specs.Prelude.{◌≡◌, ℕ, Bool, true, false, List, ◌++◌, ◌&&◌, None, Result, Ok, Err, IsTrue}
+use Rattle.std.specs.Prelude.{◌≡◌, ◌<◌, ℕ, length, IfOk, Bool, true, false, List, ◌++◌, ◌&&◌, None, Result, Ok, Err, IsTrue}
 use Rattle.std.specs.Str.{bytes_eq}
 use Rattle.jsonb_key.specs.Readable.{IsAnyNumber, IsReadableAt}
 use Rattle.jsonb_stored.specs.declared.containment.Walk.{Walk}
@@ -53,6 +53,10 @@ pub record EndsInside (object : Bool) (walk : Walk) (more behind : List ℕ) : T
 -- The keys as a whole are the same, and as many arrays and objects may be opened.
 abbrev pub SameKeys : Walk → Walk → Type 0
 SameKeys old new = (new.key.now ≡ old.key.now) × (new.other.now ≡ old.other.now) × (new.depth ≡ old.depth)
+
+-- What is found is passed.
+abbrev pub IsPassed : Walk → Walk → Result Bool NoKey → Type 0
+IsPassed old new result = IfOk result (λ found. IsTrue found → length new.theirs.now < length old.theirs.now)
 
 -- This is what is told, and where it is yes, the walk stands there.
 abbrev pub Told : Bool → Type 0 → Result Bool NoKey → Type 0

@@ -6,7 +6,7 @@ ghost use Rattle.jsonb_key.specs.Readable.{IsReadable, IsReadableAt};
 ghost use Rattle.jsonb_stored.specs.Containment.{contains, holds, holds_items, holds_members, any_item};
 ghost use Rattle.jsonb_stored.specs.Open.{Open, is_object, open_key, IsOpen, IsScalar};
 ghost use Rattle.jsonb_stored.specs.Parts.{opened_tree};
-ghost use Rattle.jsonb_stored.specs.SideBySide.{AreReadableAt, HaveReadableAt, EndsWith, IsLeft, FindsMember, SameKeys, Stands, StandsInside, EndsInside, Told};
+ghost use Rattle.jsonb_stored.specs.SideBySide.{AreReadableAt, HaveReadableAt, EndsWith, IsLeft, FindsMember, IsPassed, SameKeys, Stands, StandsInside, EndsInside, Told};
 ghost use Rattle.jsonb_value.specs.Order.{bytes_cmp};
 ghost use Rattle.jsonb_value.specs.SortKey.{key_of, items_key, members_key, text_key};
 ghost use Rattle.jsonb_value.specs.Tree.{Tree, Trees, Members};
@@ -54,8 +54,8 @@ pub fn contains<'k>(key: &'k [u8], other: &'k [u8]) -> Result<bool, NoKey>
 }
 
 // Two keys that are walked side by side, and what of each is still to come. The value that their bytes begin with is
-// looked for in the one that our bytes begin with. Where it is found, both go on behind it. What stands here takes no
-// machine stack for each level.
+// looked for in the one that our bytes begin with. Where it is found, both go on behind it. So a level of two arrays
+// takes 48 bytes of machine stack, and one of two objects less.
 #[derive(Drop)]
 struct Walk<'k> {
     key: &'k [u8],
@@ -73,11 +73,12 @@ impl<'k> Walk<'k> {
     #[inline(always)]
     #[cycle(walk)]
     fn has_value(&mut self) -> Result<bool, NoKey>
-        ensures held { (depth : ℕ) → self.old.depth ≡ depth → depth ≤ 512 → (t u : Tree) → IsReadableAt depth t → IsReadableAt depth u
-            → (more behind : List ℕ) → Stands self.old (key_of t ++ more) (key_of u ++ behind)
+        ensures held { (depth : ℕ) → self.old.depth ≡ depth → depth ≤ 512 → (t u : Tree)
+            → IsReadableAt depth t → IsReadableAt depth u → (more behind : List ℕ)
+            → Stands self.old (key_of t ++ more) (key_of u ++ behind)
             → Told (holds t u) (Stands self.new more behind) result }
         ensures keys { IfOk result (λ found. SameKeys self.old self.new) }
-        ensures shorter { IfOk result (λ found. IsTrue found → length self.new.theirs.now < length self.old.theirs.now) }
+        ensures passed { IsPassed self.old self.new result }
     {
         let Some((first, _)) = self.theirs.split_first() else {
             return Err(NoKey);
@@ -96,12 +97,12 @@ impl<'k> Walk<'k> {
     #[inline(always)]
     #[cycle(walk)]
     fn has_parts(&mut self, object: bool) -> Result<bool, NoKey>
-        ensures held { (depth : ℕ) → self.old.depth ≡ depth → depth ≤ 512 → (t : Tree) → (o : Open) → is_object o ≡ object → IsReadableAt depth t
-            → IsReadableAt depth (opened_tree o) → (more behind : List ℕ)
+        ensures held { (depth : ℕ) → self.old.depth ≡ depth → depth ≤ 512 → (t : Tree) → (o : Open)
+            → is_object o ≡ object → IsReadableAt depth t → IsReadableAt depth (opened_tree o) → (more behind : List ℕ)
             → Stands self.old (key_of t ++ more) (key_of (opened_tree o) ++ behind)
             → Told (holds t (opened_tree o)) (EndsInside object self.new more behind) result }
         ensures keys { IfOk result (λ found. SameKeys self.old self.new) }
-        ensures shorter { IfOk result (λ found. IsTrue found → length self.new.theirs.now < length self.old.theirs.now) }
+        ensures passed { IsPassed self.old self.new result }
     {
         let Some((mine, ours)) = self.ours.split_first() else {
             return Err(NoKey);
@@ -133,7 +134,7 @@ impl<'k> Walk<'k> {
             → Stands self.old (open_key a ++ more) (open_key b ++ behind)
             → Told (holds (opened_tree a) (opened_tree b)) (EndsInside object self.new more behind) result }
         ensures keys { IfOk result (λ found. SameKeys self.old self.new) }
-        ensures shorter { IfOk result (λ found. IsTrue found → length self.new.theirs.now < length self.old.theirs.now) }
+        ensures passed { IsPassed self.old self.new result }
     {
         if object {
             self.has_members()
@@ -146,11 +147,12 @@ impl<'k> Walk<'k> {
     #[inline(never)]
     #[cycle(walk)]
     fn has_members(&mut self) -> Result<bool, NoKey>
-        ensures held { (depth : ℕ) → self.old.depth ≡ depth → depth ≤ 511 → (ms ns : Members) → HaveReadableAt depth ms → HaveReadableAt depth ns
-            → (more behind : List ℕ) → Stands self.old (members_key ms ++ more) (members_key ns ++ behind)
+        ensures held { (depth : ℕ) → self.old.depth ≡ depth → depth ≤ 511 → (ms ns : Members)
+            → HaveReadableAt depth ms → HaveReadableAt depth ns → (more behind : List ℕ)
+            → Stands self.old (members_key ms ++ more) (members_key ns ++ behind)
             → Told (holds_members ms ns) (EndsInside true self.new more behind) result }
         ensures keys { IfOk result (λ found. SameKeys self.old self.new) }
-        ensures shorter { IfOk result (λ found. IsTrue found → length self.new.theirs.now < length self.old.theirs.now) }
+        ensures passed { IsPassed self.old self.new result }
     {
         'members: loop {
             if let Some(theirs) = after_end(true, self.theirs) {
@@ -171,11 +173,12 @@ impl<'k> Walk<'k> {
     #[inline(never)]
     #[cycle(walk)]
     fn has_items(&mut self) -> Result<bool, NoKey>
-        ensures held { (depth : ℕ) → self.old.depth ≡ depth → depth ≤ 511 → (ts us : Trees) → AreReadableAt depth ts → AreReadableAt depth us
-            → (more behind : List ℕ) → Stands self.old (items_key ts ++ more) (items_key us ++ behind)
+        ensures held { (depth : ℕ) → self.old.depth ≡ depth → depth ≤ 511 → (ts us : Trees)
+            → AreReadableAt depth ts → AreReadableAt depth us → (more behind : List ℕ)
+            → Stands self.old (items_key ts ++ more) (items_key us ++ behind)
             → Told (holds_items ts us) (EndsInside false self.new more behind) result }
         ensures keys { IfOk result (λ found. SameKeys self.old self.new) }
-        ensures shorter { IfOk result (λ found. IsTrue found → length self.new.theirs.now < length self.old.theirs.now) }
+        ensures passed { IsPassed self.old self.new result }
     {
         let items = self.ours.len();
         'others: loop {
@@ -194,13 +197,14 @@ impl<'k> Walk<'k> {
     #[inline(always)]
     #[cycle(walk)]
     fn has_item(&mut self, items: usize) -> Result<bool, NoKey>
-        ensures held { (depth : ℕ) → self.old.depth ≡ depth → depth ≤ 511 → (ts : Trees) → (u : Tree) → AreReadableAt depth ts → IsReadableAt depth u
-            → (more behind : List ℕ) → EndsWith self.old.key.now (items_key ts ++ more)
+        ensures held { (depth : ℕ) → self.old.depth ≡ depth → depth ≤ 511 → (ts : Trees) → (u : Tree)
+            → AreReadableAt depth ts → IsReadableAt depth u → (more behind : List ℕ)
+            → EndsWith self.old.key.now (items_key ts ++ more)
             → items ≡ length (items_key ts ++ more)
             → IsLeft self.old.other.now self.old.theirs.now (key_of u ++ behind)
             → Told (any_item (λ t. holds t u) ts) (StandsInside false self.new more behind) result }
         ensures keys { IfOk result (λ found. SameKeys self.old self.new) }
-        ensures shorter { IfOk result (λ found. IsTrue found → length self.new.theirs.now < length self.old.theirs.now) }
+        ensures passed { IsPassed self.old self.new result }
     {
         let Some((first, _)) = self.theirs.split_first() else {
             return Err(NoKey);
@@ -235,7 +239,7 @@ impl<'k> Walk<'k> {
             → Stands self.old (items_key ts ++ more) (key_of u ++ behind)
             → Told (any_item (λ t. holds t u) ts) (StandsInside false self.new more behind) result }
         ensures keys { SameKeys self.old self.new }
-        ensures shorter { IfOk result (λ found. IsTrue found → length self.new.theirs.now < length self.old.theirs.now) }
+        ensures passed { IsPassed self.old self.new result }
     {
         let Some(theirs) = after_scalar(self.theirs) else {
             return Err(NoKey);
@@ -262,7 +266,7 @@ impl<'k> Walk<'k> {
             → (more behind : List ℕ) → Stands self.old (key_of t ++ more) (key_of u ++ behind)
             → Told (holds t u) (Stands self.new more behind) result }
         ensures keys { SameKeys self.old self.new }
-        ensures shorter { IfOk result (λ found. IsTrue found → length self.new.theirs.now < length self.old.theirs.now) }
+        ensures passed { IsPassed self.old self.new result }
     {
         let Some(theirs) = after_scalar(self.theirs) else {
             return Err(NoKey);

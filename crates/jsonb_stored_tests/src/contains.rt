@@ -122,29 +122,16 @@ fn contains_itself_up_to_512_levels(rt: HostRuntime) -> Result<(), Fail> {
     Ok(())
 }
 
+// The key of {"a":[1,"x"],"c":{"d":null}}.
+const KEY: &[u8] =
+    b"\xD1a\x00\x01\xD2\xA1\x14\xD0x\x00\x01\x00c\x00\x01\xD1d\x00\x01\xD3\x00\x00\x00\x00";
+
 #[test]
-fn answers_to_any_bytes(rt: HostRuntime) -> Result<(), Fail> {
-    let alloc = rt.alloc();
-    let key = key_of(alloc, r#"{"a": [1, "x", [2, {"b": null}]], "c": {"d": -1.5}}"#)?;
-    let mut changed = Vec::from_slice(alloc, &key)?;
-    let mut refused = 0;
-    for at in 0..key.len() {
-        for byte in [0, 1, 0x61, 0xD0, 0xD1, 0xD2, 0xFF] {
-            changed[at] = byte;
-            for answer in [
-                contains(&key, &changed),
-                contains(&changed, &key),
-                contains(&changed, &changed),
-            ] {
-                if answer.is_err() {
-                    refused += 1;
-                }
-            }
-        }
-        changed[at] = key[at];
-        let (front, _) = key.split_at(at);
-        assert!(rt; contains(&key, front) != Ok(true), "{front:?}");
+fn no_cut_key_is_contained(rt: HostRuntime) -> Result<(), Fail> {
+    assert!(rt; contains(KEY, KEY) == Ok(true));
+    for len in 0..KEY.len() {
+        let (front, _) = KEY.split_at(len);
+        assert!(rt; contains(KEY, front) != Ok(true), "{front:?}");
     }
-    assert!(rt; refused > 100);
     Ok(())
 }

@@ -126,7 +126,7 @@ has_items-others-preserved m c = record {
       let is = sym told.0 ∙ c.if-not-branch.false in
       item_held depth ts us c.others.self c.has_item.new.self more behind n is (told.1 is);
   keys = (c.in_ok-has_item.ensures.keys.0 ∙ c.others.invariant.keys.0, c.in_ok-has_item.ensures.keys.1 ∙ c.others.invariant.keys.1, c.in_ok-has_item.ensures.keys.2 ∙ c.others.invariant.keys.2);
-  within = omega (arith, c.in_ok-has_item.ensures.shorter c.if-not-branch.false, c.others.invariant.within);
+  within = omega (arith, c.in_ok-has_item.ensures.passed c.if-not-branch.false, c.others.invariant.within);
 }
 
 -- ---- members
@@ -193,7 +193,7 @@ has_members-members-preserved m c = record {
       let is = sym told.0 ∙ c.if-not-branch-2.false in
       one_held depth ms ns c.members.self c.find_member.new.self c.has_value.new.self more behind _ n one is (told.1 is);
   keys = (c.in_ok-has_value.ensures.keys.0 ∙ (c.in_ok-find_member.ensures.keys.0 ∙ c.members.invariant.keys.0), c.in_ok-has_value.ensures.keys.1 ∙ (c.in_ok-find_member.ensures.keys.1 ∙ c.members.invariant.keys.1), c.in_ok-has_value.ensures.keys.2 ∙ (c.in_ok-find_member.ensures.keys.2 ∙ c.members.invariant.keys.2));
-  within = omega (arith, c.in_ok-has_value.ensures.shorter c.if-not-branch-2.false, c.in_ok-find_member.ensures.within c.if-not-branch.false, c.members.invariant.within);
+  within = omega (arith, c.in_ok-has_value.ensures.passed c.if-not-branch-2.false, c.in_ok-find_member.ensures.within c.if-not-branch.false, c.members.invariant.within);
 }
 
 -- ---- an object or an array
