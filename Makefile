@@ -5,6 +5,7 @@
 #   make uninstall [PREFIX=/usr/local] [DESTDIR=]
 #
 # Needs the Rattle kit, cc, ld and objcopy. The library is proved before it is built, so the first time takes minutes.
+# With PROVED=FILE no kit is needed: the file is the build/proved.o of a folder where the library was proved.
 PREFIX ?= /usr/local
 INCLUDEDIR ?= $(PREFIX)/include
 LIBDIR ?= $(PREFIX)/lib
@@ -20,6 +21,9 @@ VERSION = $(shell sed -n 's/^\#define VIZHONIKU_VERSION_STRING "\(.*\)"/\1/p' in
 WITH_BYTES = check text part sort_key text_and_key key_text compare place message key_check key_kind key_count \
     key_member key_item key_part key_begin key_next key_string key_name key_contains key_set key_remove key_put \
     key_push key_merge
+
+# What is proved, as one object.
+PROVED ?= build/proved.o
 
 # Of the kit's archives only that of malloc, realloc and free is called.
 KIT = $(shell dirname "$$(rt doc)")
@@ -44,10 +48,10 @@ build/proved.o: $(BUILT) Makefile
 
 build/empty.o: packaging/empty.c include/vizhoniku.h Makefile
 	@mkdir -p build
-	$(CC) $(CFLAGS) -std=c99 -Wall -Wextra -Werror -pedantic -fPIC -fno-lto -Iinclude -c -o $@ $<
+	$(CC) $(CPPFLAGS) $(CFLAGS) -std=c99 -Wall -Wextra -Werror -pedantic -fPIC -fno-lto -Iinclude -c -o $@ $<
 
 # One object, whose only global names are those of the header.
-build/vizhoniku.o: build/proved.o build/empty.o
+build/vizhoniku.o: $(PROVED) build/empty.o
 	$(LD) -r -o $@ $^
 	$(OBJCOPY) --wildcard --keep-global-symbol='vizhoniku_*' $@
 

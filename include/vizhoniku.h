@@ -29,7 +29,7 @@ extern "C" {
 #endif
 
 /* The version of the library that this header belongs to. */
-#define VIZHONIKU_VERSION_STRING "0.1.0"
+#define VIZHONIKU_VERSION_STRING "0.2.0"
 
 /* The version of this interface. It grows where a function, a status or a code is added. vizhoniku_version returns that
  * of the library. */
