@@ -72,11 +72,13 @@ class Installed:
             source = config(option)
             ignore = shutil.ignore_patterns(left_out) if left_out else None
             shutil.copytree(source, self.folder + source, symlinks=True, ignore=ignore)
-        build = os.path.join(self.folder, "build")
+        build = self.build = os.path.join(self.folder, "build")
         os.mkdir(build)
         for name in os.listdir(HERE):
             if name == "Makefile" or name.endswith((".c", ".h", ".control", ".sql")):
                 shutil.copy(os.path.join(HERE, name), build)
+        for name in ("sql", "expected"):
+            shutil.copytree(os.path.join(HERE, name), os.path.join(build, name))
         command = ["make", "-s", "PG_CONFIG=" + PG_CONFIG, "DESTDIR=" + self.folder,
                    "COPT=-Wextra -Wno-unused-parameter -Werror"]
         run(command, cwd=build)
