@@ -243,6 +243,11 @@ CREATE AGGREGATE vjson_object_agg("any", "any") (
 );
 COMMENT ON AGGREGATE vjson_object_agg("any", "any") IS 'an object of the names and their values';
 
+-- CREATE AGGREGATE has no word for STABLE. Without it postgres_fdw would have these made at the foreign server, where
+-- TimeZone is UTC.
+UPDATE pg_catalog.pg_proc SET provolatile = 's'
+  WHERE oid IN ('vjson_agg(anyelement)'::regprocedure, 'vjson_object_agg("any", "any")'::regprocedure);
+
 -- Changes
 
 CREATE FUNCTION vjson_concat(vjson, vjson) RETURNS vjson

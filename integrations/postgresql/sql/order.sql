@@ -29,6 +29,10 @@ SELECT NULL::vjson = '1' AS eq, NULL::vjson < '1' AS lt, vjson_cmp('1', NULL) AS
 -- Two documents are equal where jsonb has them equal.
 SELECT a.v, b.v FROM documents a, documents b WHERE (a.v = b.v) <> (a.j = b.j);
 
+-- Arrays are a range of values, and objects are.
+SELECT v FROM documents WHERE (v >= '[]' AND v < 'null') <> (jsonb_typeof(j) = 'array')
+  OR (v >= '{}' AND v < '[]') <> (jsonb_typeof(j) = 'object');
+
 -- Sorting, hashing and joins in every way find the same.
 SET enable_hashagg = off;
 EXPLAIN (COSTS OFF) SELECT DISTINCT doc FROM ordered;
