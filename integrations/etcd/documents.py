@@ -6,6 +6,8 @@
     documents.py ... delete TEXT            removes it
     documents.py ... between LOW HIGH       prints the documents from LOW up to and without HIGH
     documents.py ... list                   prints all
+    documents.py ... where PATH LOW [HIGH]  prints those whose part at the path equals LOW, or is from LOW up to HIGH
+    documents.py ... parts PATH             prints the part at the path of each document that has one
 
 A document is stored under a prefix and its sort key; what is stored is the text of its value. It speaks to etcd's JSON
 gateway (etcd 3.4 and later) by plain HTTP, without user names. The status is 0, or 1 where nothing is found, or 2 where
@@ -20,7 +22,7 @@ import sys
 import time
 import urllib.error
 import urllib.request
-from typing import Any, Dict, Iterator, List, Optional, Sequence
+from typing import Any, Dict, Iterator, List, Optional, Sequence, Tuple
 
 sys.path.insert(0, os.path.join(os.path.dirname(os.path.abspath(__file__)), "..", "python"))
 import vizhoniku  # noqa: E402
@@ -43,7 +45,10 @@ def _to_json(data: bytes) -> str:
 
 
 class Documents:
-    """The documents under one prefix. A request that a member doesn't answer goes to the next one, until time is up."""
+    """The documents under one prefix. A request that a member doesn't answer goes to the next one, until time is up.
+
+    A sort key is a document too (vizhoniku.Key): keys and part read no text of a document, and where parses none.
+    """
 
     def __init__(self, endpoints: Sequence[str], prefix: bytes = b"documents/", mode: int = vizhoniku.EXTENDED,
                  timeout: float = 10.0) -> None:
@@ -113,24 +118,65 @@ class Documents:
 
     def between(self, low: vizhoniku.Text, high: vizhoniku.Text) -> Iterator[str]:
         """The documents from low up to and without high, in the order of their values, as of one moment."""
-        return self._range(self._key(low), self._key(high))
+        return (text for _, text in self._range(low, high))
 
     def __iter__(self) -> Iterator[str]:
         """All documents, in the order of their values, as of one moment."""
-        front = self._prefix.rstrip(b"\xff")
-        return self._range(self._prefix, front[:-1] + bytes([front[-1] + 1]))
+        return (text for _, text in self._range(None, None))
 
-    def _range(self, first: bytes, end: bytes) -> Iterator[str]:
+    def keys(self, low: Optional[vizhoniku.Text] = None, high: Optional[vizhoniku.Text] = None
+             ) -> Iterator[vizhoniku.Key]:
+        """The documents from low up to and without high, as keys, as of one moment. No text is sent.
+
+        ValueError is raised where something else is stored under the prefix.
+        """
+        return (vizhoniku.Key.from_bytes(key) for key, _ in self._range(low, high, keys_only=True))
+
+    def part(self, key: vizhoniku.Key, path: vizhoniku.Text) -> Optional[vizhoniku.Key]:
+        """The part at the path of the stored document whose key this is. None where either isn't there."""
+        part = key.get(path)
+        if part is None:
+            return None
+        answer = self._ask("/v3/kv/range", {"key": _to_json(self._prefix + bytes(key)), "count_only": True})
+        return part if int(answer.get("count", 0)) > 0 else None
+
+    def where(self, path: vizhoniku.Text, low: vizhoniku.Text, high: Optional[vizhoniku.Text] = None) -> Iterator[str]:
+        """The documents whose part at the path equals low or, with high, is from low up to and without high.
+
+        They are in the order of their values, as of one moment. All documents are sent, and no text is parsed.
+        """
+        first = vizhoniku.Key(low, self._mode)
+        last = None if high is None else vizhoniku.Key(high, self._mode)
+        first.get(path)  # so that a path that is none is rejected here, and not when the first document is asked for
+
+        def is_wanted(key: bytes) -> bool:
+            part = vizhoniku.Key.from_bytes(key).get(path)
+            return part is not None and (part == first if last is None else first <= part < last)
+
+        return (text for key, text in self._range(None, None) if is_wanted(key))
+
+    def _end(self) -> bytes:
+        front = self._prefix.rstrip(b"\xff")
+        return front[:-1] + bytes([front[-1] + 1])
+
+    def _range(self, low: Optional[vizhoniku.Text], high: Optional[vizhoniku.Text], keys_only: bool = False
+               ) -> Iterator[Tuple[bytes, str]]:
+        first = self._prefix if low is None else self._key(low)
+        end = self._end() if high is None else self._key(high)
+        return self._pages(first, end, keys_only)
+
+    def _pages(self, first: bytes, end: bytes, keys_only: bool) -> Iterator[Tuple[bytes, str]]:
         revision = "0"  # the newest, for the first page; the later pages are of the same one
         more = first < end
         while more:
             answer = self._ask("/v3/kv/range", {"key": _to_json(first), "range_end": _to_json(end), "limit": str(_PAGE),
-                                                "revision": revision})
+                                                "revision": revision, "keys_only": keys_only})
             if revision == "0":
                 revision = answer["header"]["revision"]
             found = answer.get("kvs", [])
             for entry in found:
-                yield base64.b64decode(entry["value"]).decode()
+                yield (base64.b64decode(entry["key"])[len(self._prefix):],
+                       base64.b64decode(entry.get("value", "")).decode())
             more = bool(answer.get("more", False)) and bool(found)
             if more:
                 first = base64.b64decode(found[-1]["key"]) + b"\x00"
@@ -141,11 +187,16 @@ def main() -> int:
     parser.add_argument("--endpoints", default="http://127.0.0.1:2379", help="the members, with commas between them")
     parser.add_argument("--prefix", default="documents/")
     parser.add_argument("--standard", action="store_true", help="read texts in standard mode")
-    calls = parser.add_subparsers(dest="call", required=True, metavar="put|get|delete|between|list")
+    calls = parser.add_subparsers(dest="call", required=True, metavar="put|get|delete|between|list|where|parts")
     calls.add_parser("put").add_argument("texts", nargs="+", metavar="TEXT")
     for name, texts in (("get", 1), ("delete", 1), ("between", 2)):
         calls.add_parser(name).add_argument("texts", nargs=texts, metavar="TEXT")
     calls.add_parser("list")
+    where = calls.add_parser("where")
+    where.add_argument("path", metavar="PATH")
+    where.add_argument("low", metavar="LOW")
+    where.add_argument("high", nargs="?", metavar="HIGH")
+    calls.add_parser("parts").add_argument("path", metavar="PATH")
     given = parser.parse_args()
     mode = vizhoniku.STANDARD if given.standard else vizhoniku.EXTENDED
     try:
@@ -163,6 +214,15 @@ def main() -> int:
             return 0 if found is not None else 1
         if given.call == "delete":
             return 0 if documents.delete(given.texts[0]) else 1
+        if given.call == "where":
+            for text in documents.where(given.path, given.low, given.high):
+                print(text)
+            return 0
+        if given.call == "parts":
+            for part in (key.get(given.path) for key in documents.keys()):
+                if part is not None:
+                    print(part.text())
+            return 0
         for text in documents.between(*given.texts) if given.call == "between" else iter(documents):
             print(text)
         return 0

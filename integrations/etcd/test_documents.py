@@ -1,6 +1,7 @@
 """Tries documents in a cluster of three. integrations/etcd/test runs this."""
 
 import functools
+import json
 import os
 import random
 import shutil
@@ -9,10 +10,10 @@ import sys
 import threading
 import unittest
 import unittest.mock
-from typing import List, Tuple
+from typing import Any, Dict, List, Tuple
 
 from cluster import Cluster
-from documents import Documents, EtcdError, Unavailable
+from documents import Documents, EtcdError, Unavailable, _to_json
 
 import vizhoniku  # in the folder that documents.py adds
 
@@ -118,6 +119,65 @@ class InTheCluster(unittest.TestCase):
                 self.assertEqual(list(self.documents.between(low[-1], high[-1])), wanted[i:5 * j])
         self.assertEqual(list(self.documents.between("0.25", "9.5")), ["0.5", "1", "9"])
 
+    def put_orders(self) -> List[Dict[str, Any]]:
+        orders = [{"customer": number % 5, "number": number, "tags": ["a", f"t{number % 2}"]} for number in range(30)]
+        for order in random.Random(3).sample(orders, len(orders)):
+            self.assertTrue(self.documents.put(json.dumps(order)))
+        for text in ("1", "[]", '{"number": 2}', '{"customer": "3"}'):
+            self.assertTrue(self.documents.put(text))
+        return sorted(orders, key=lambda order: (order["customer"], order["number"]))
+
+    def test_keys(self) -> None:
+        self.assertEqual(list(self.documents.keys()), [])
+        self.put_orders()
+        with unittest.mock.patch("documents._PAGE", 10), unittest.mock.patch.object(
+                self.documents, "_ask", wraps=self.documents._ask) as asked:
+            self.assertEqual(list(self.documents.keys()), [vizhoniku.Key(text) for text in self.by_member(1)])
+            self.assertEqual([call.args[1]["keys_only"] for call in asked.call_args_list], [True] * 4)
+        answer = self.documents._ask("/v3/kv/range", asked.call_args_list[0].args[1])
+        self.assertEqual({"value" in entry for entry in answer["kvs"]}, {False})
+        self.assertEqual([key.text() for key in self.documents.keys("0", "{}")], ["1"])
+        self.assertEqual([key.text() for key in self.documents.keys(low="[]")], ["[]"])
+        self.assertEqual([key.text() for key in self.documents.keys(high="2")], ["1"])
+        self.assertEqual(list(self.documents.keys("2", "1")), [])
+
+    def test_where(self) -> None:
+        orders = self.put_orders()
+
+        def texts(of: List[Dict[str, Any]]) -> List[str]:
+            return [json.dumps(order, sort_keys=True, separators=(",", ":")) for order in of]
+
+        for number in range(-1, 6):
+            self.assertEqual(list(self.documents.where("/customer", f"{number}.0")),
+                             texts([order for order in orders if order["customer"] == number]))
+            self.assertEqual(list(self.documents.where("/customer", f"{number}.0", "4")),
+                             texts([order for order in orders if number <= order["customer"] < 4]))
+        self.assertEqual(list(self.documents.where("/tags/1", '"t1"')),
+                         texts([order for order in orders if order["number"] % 2 == 1]))
+        self.assertEqual(list(self.documents.where("/customer", '""', "{}")), ['{"customer":"3"}'])
+        self.assertEqual(list(self.documents.where("/nobody", "null")), [])
+        self.assertRaises(vizhoniku.PathError, self.documents.where, "customer", "1")
+        self.assertRaises(vizhoniku.RejectedText, self.documents.where, "/customer", "1", "[1")
+
+    def test_part(self) -> None:
+        for order in self.put_orders()[::6]:
+            key = vizhoniku.Key(json.dumps(order))
+            self.assertEqual(self.documents.part(key, "/number"), vizhoniku.Key(str(order["number"])))
+            self.assertEqual(self.documents.part(key, "/tags"), vizhoniku.Key('["a", "t%d"]' % (order["number"] % 2)))
+            self.assertIsNone(self.documents.part(key, "/tags/2"))
+            order["number"] += 1000
+            self.assertIsNone(self.documents.part(vizhoniku.Key(json.dumps(order)), "/number"))  # it isn't stored
+        with unittest.mock.patch.object(self.documents, "_ask", wraps=self.documents._ask) as asked:
+            self.assertEqual(self.documents.part(vizhoniku.Key("1.0"), ""), vizhoniku.Key("1"))
+        answer = self.documents._ask("/v3/kv/range", asked.call_args.args[1])
+        self.assertEqual((answer["count"], answer.get("kvs", [])), ("1", []))
+        self.assertRaises(vizhoniku.PathError, self.documents.part, vizhoniku.Key("1"), "a")
+
+    def test_what_is_no_document(self) -> None:
+        self.documents._ask("/v3/kv/put", {"key": _to_json(self.prefix + b"x"), "value": _to_json(b"1")})
+        self.assertRaises(ValueError, list, self.documents.keys())
+        self.assertRaises(ValueError, list, self.documents.where("/a", "1"))
+
     def test_prefixes_lie_apart(self) -> None:
         other = Documents(cluster.endpoints, self.prefix[:-1] + b"0")  # the byte behind the slash
         self.documents.put("1")
@@ -215,6 +275,12 @@ class InTheCluster(unittest.TestCase):
         self.assertEqual(told("get", "7")[0], 1)
         self.assertEqual(told("--standard", "put", "1.5"),
                          (2, "", "documents.py: line 1, column 3: number not carried\n"))
+        self.assertEqual(told("where", "/a", "2.00"), (0, '{"a":2,"b":1}\n', ""))
+        self.assertEqual(told("where", "/a", "2.5"), (0, "", ""))
+        self.assertEqual(told("where", "", "-5", "9.5"), (0, "-1\n", ""))
+        self.assertEqual(told("parts", "/b"), (0, "1\n", ""))
+        self.assertEqual(told("parts", ""), (0, '-1\n9.5\n{"a":2,"b":1}\n[10]\n', ""))
+        self.assertEqual(told("parts", "b")[:2], (2, ""))
         self.assertEqual(told("delete", "9.50"), (0, "", ""))
         self.assertEqual(told("delete", "9.50"), (1, "", ""))
 

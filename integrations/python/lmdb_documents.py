@@ -4,10 +4,12 @@ A document is stored under its sort key. LMDB bounds its keys, at 511 bytes as D
 bound is cut, and the beginning of a hash of the whole key stands behind what is left. A cut key that differs from
 another key still has the order of the values; documents whose cut keys are equal are sorted by their whole keys when
 they are read.
+
+A sort key is a document too (vizhoniku.Key), so that parts are found in the keys, with no text read or parsed.
 """
 
 import hashlib
-from typing import Iterator, List, Optional, Tuple
+from typing import Iterator, List, Optional
 
 import lmdb
 
@@ -51,33 +53,78 @@ class Documents:
 
     def between(self, low: vizhoniku.Text, high: vizhoniku.Text) -> Iterator[str]:
         """The documents from low up to and without high, in the order of their values."""
-        first, last = vizhoniku.sort_key(low, self._mode), vizhoniku.sort_key(high, self._mode)
-        for whole, document in self._from(first[:self._bound - _HASH]):
-            if whole >= last:
-                return
-            if whole >= first:
-                yield document
+        with self._environment.begin() as transaction:
+            for whole in self._keys(transaction, low, high):
+                yield self._text(transaction, whole)
 
     def __iter__(self) -> Iterator[str]:
         """All documents, in the order of their values."""
-        return (document for _, document in self._from(b""))
+        with self._environment.begin() as transaction:
+            for whole in self._keys(transaction, None, None):
+                yield self._text(transaction, whole)
 
-    def _from(self, first: bytes) -> Iterator[Tuple[bytes, str]]:
-        run: List[Tuple[bytes, str]] = []  # documents whose cut keys are equal
-        front = b""
+    def keys(self, low: Optional[vizhoniku.Text] = None, high: Optional[vizhoniku.Text] = None
+             ) -> Iterator[vizhoniku.Key]:
+        """The documents from low up to and without high, as keys. No text is read but those of cut keys."""
+        with self._environment.begin() as transaction:
+            for whole in self._keys(transaction, low, high):
+                yield vizhoniku.Key.from_bytes(whole)
+
+    def part(self, key: vizhoniku.Key, path: vizhoniku.Text) -> Optional[vizhoniku.Key]:
+        """The part at the path of the stored document whose key this is. None where either isn't there."""
+        part, whole = key.get(path), bytes(key)
+        if part is None:
+            return None
         with self._environment.begin() as transaction, transaction.cursor() as cursor:
+            if not cursor.set_key(self._stored(whole)):
+                return None
+            if self._is_cut(cursor.key()):
+                self._same(cursor.value(), whole)
+            return part
+
+    def where(self, path: vizhoniku.Text, low: vizhoniku.Text, high: Optional[vizhoniku.Text] = None) -> Iterator[str]:
+        """The documents whose part at the path equals low or, with high, is from low up to and without high.
+
+        They are in the order of their values. All keys are read, and the texts of these documents.
+        """
+        first = vizhoniku.Key(low, self._mode)
+        last = None if high is None else vizhoniku.Key(high, self._mode)
+        first.get(path)  # so that a path that is none is rejected where nothing is stored too
+        with self._environment.begin() as transaction:
+            for whole in self._keys(transaction, None, None):
+                part = vizhoniku.Key.from_bytes(whole).get(path)
+                if part is not None and (part == first if last is None else first <= part < last):
+                    yield self._text(transaction, whole)
+
+    def _text(self, transaction: lmdb.Transaction, whole: bytes) -> str:
+        document: str = transaction.get(self._stored(whole)).decode()
+        return document
+
+    def _keys(self, transaction: lmdb.Transaction, low: Optional[vizhoniku.Text], high: Optional[vizhoniku.Text]
+              ) -> Iterator[bytes]:
+        first = b"" if low is None else vizhoniku.sort_key(low, self._mode)
+        last = None if high is None else vizhoniku.sort_key(high, self._mode)
+        for whole in self._from(transaction, first[:self._bound - _HASH]):
+            if last is not None and whole >= last:
+                return
+            if whole >= first:
+                yield whole
+
+    def _from(self, transaction: lmdb.Transaction, first: bytes) -> Iterator[bytes]:
+        run: List[bytes] = []  # whole keys of documents whose cut keys are equal
+        front = b""
+        with transaction.cursor() as cursor:
             if not cursor.set_range(first):
                 return
-            for stored, value in cursor:
-                document = value.decode()
+            for stored in cursor.iternext(keys=True, values=False):
                 if run and not (self._is_cut(stored) and stored.startswith(front)):
                     yield from sorted(run)
                     run = []
                 if self._is_cut(stored):
                     front = stored[:-_HASH]
-                    run.append((vizhoniku.sort_key(document, self._mode), document))
+                    run.append(vizhoniku.sort_key(cursor.value().decode(), self._mode))
                 else:
-                    yield stored, document
+                    yield stored
         yield from sorted(run)
 
     def _same(self, found: bytes, whole: bytes) -> str:

@@ -21,7 +21,8 @@ import tempfile
 import threading
 import time
 import unittest
-from typing import Any, Callable, List, Tuple
+import unittest.mock
+from typing import Any, Callable, Dict, List, Tuple
 
 HERE = os.path.dirname(os.path.abspath(__file__))
 PACKAGES = os.environ.get("VIZHONIKU_PACKAGES", HERE)
@@ -822,6 +823,97 @@ class InLmdb(unittest.TestCase):
                 self.assertEqual(list(self.documents.between(different[i][1], different[j][1])),
                                  [text for _, text in different[i:j]])
         self.assertIsNone(self.documents.get(f'"{front}zzz"'))
+
+    def put_orders(self) -> List[Dict[str, Any]]:
+        """Orders of which each third has a key past the bound; they are in the order of their values."""
+        long = "x" * 600
+        orders: List[Dict[str, Any]] = [{"customer": number % 7 - 3, "number": number, "tags": ["a", f"t{number % 2}"]}
+                                        for number in range(60)]
+        for order in orders[::3]:
+            order["text"] = long
+        for order in random.Random(4).sample(orders, len(orders)):
+            self.assertTrue(self.documents.put(json.dumps(order)))
+        for text in ("1", "[]", '{"number": 2}', '{"customer": "3"}', '{"customer": null}'):
+            self.assertTrue(self.documents.put(text))
+        return sorted(orders, key=lambda order: (order["customer"], order["number"]))
+
+    def test_keys(self) -> None:
+        self.assertEqual(list(self.documents.keys()), [])
+        self.put_orders()
+        self.assertEqual(list(self.documents.keys()), [v.Key(text) for text in self.documents])
+        self.assertEqual(len(list(self.documents.keys())), 65)
+        self.assertEqual([key.text() for key in self.documents.keys("0", "{}")], ["1"])
+        self.assertEqual([key.text() for key in self.documents.keys(low="[]")], ["[]"])
+        self.assertEqual([key.text() for key in self.documents.keys(high="2")], ["1"])
+        self.assertEqual(list(self.documents.keys("2", "1")), [])
+
+    def test_where(self) -> None:
+        orders = self.put_orders()
+
+        def texts(of: List[Dict[str, Any]]) -> List[str]:
+            return [json.dumps(order, sort_keys=True, separators=(",", ":")) for order in of]
+
+        for number in range(-4, 5):
+            self.assertEqual(list(self.documents.where("/customer", f"{number}.0")),
+                             texts([order for order in orders if order["customer"] == number]))
+            for end in range(-4, 5):
+                self.assertEqual(list(self.documents.where("/customer", f"{number}.0", f"{end}")),
+                                 texts([order for order in orders if number <= order["customer"] < end]))
+        self.assertEqual(list(self.documents.where("/tags/1", '"t1"')),
+                         texts([order for order in orders if order["number"] % 2 == 1]))
+        self.assertEqual(list(self.documents.where("/customer", '""')), [])
+        self.assertEqual(list(self.documents.where("/customer", '""', "{}")), ['{"customer":"3"}'])
+        self.assertEqual(list(self.documents.where("/customer", "")), ['{"customer":null}'])
+        self.assertEqual(list(self.documents.where("", "0x1")), ["1"])
+        self.assertEqual(list(self.documents.where("/nobody", "null", "null")), [])
+
+    def test_part(self) -> None:
+        for order in self.put_orders():
+            key = v.Key(json.dumps(order))
+            self.assertEqual(self.documents.part(key, "/number"), v.Key(str(order["number"])))
+            self.assertEqual(self.documents.part(key, "/tags"), v.Key(json.dumps(order["tags"])))
+            self.assertEqual(self.documents.part(key, ""), key)
+            self.assertIsNone(self.documents.part(key, "/tags/2"))
+            order["number"] += 1000
+            self.assertIsNone(self.documents.part(v.Key(json.dumps(order)), "/number"))  # it isn't stored
+
+    def test_parts_are_of_keys(self) -> None:
+        """What a text says doesn't matter where its key isn't cut."""
+        self.documents.put('{"a": 1}')
+        with self.environment.begin(write=True) as transaction:
+            transaction.put(v.sort_key('{"a": 1}'), b"\xff")
+        self.assertEqual([key.text() for key in self.documents.keys()], ['{"a":1}'])
+        self.assertEqual(self.documents.part(v.Key('{"a": 1}'), "/a"), v.Key("1"))
+        self.assertEqual(list(self.documents.where("/a", "2")), [])
+        with self.environment.begin(write=True) as transaction:
+            transaction.put(b"no key", b"1")
+        self.assertRaises(ValueError, list, self.documents.keys())
+
+    def test_hashes_that_are_equal(self) -> None:
+        one, two = (f'{{"a":"{"x" * 600}{end}"}}' for end in "12")
+        with unittest.mock.patch("lmdb_documents.hashlib.sha256") as hash_of:
+            hash_of.return_value.digest.return_value = bytes(32)
+            self.assertTrue(self.documents.put(one))
+            self.assertEqual(self.documents.part(v.Key(one), ""), v.Key(one))
+            for call in (self.documents.put, self.documents.get, lambda text: self.documents.part(v.Key(text), "/a")):
+                with self.assertRaisesRegex(RuntimeError, "two documents that differ have one hash"):
+                    call(two)
+
+    def test_no_path(self) -> None:
+        self.assertRaises(v.PathError, self.documents.part, v.Key("1"), "a")
+        self.assertRaises(v.PathError, list, self.documents.where("a", "1"))
+        self.assertRaises(v.RejectedText, list, self.documents.where("/a", "[1"))
+        self.assertRaises(v.RejectedText, list, self.documents.where("/a", "1", "[1"))
+
+    def test_readers_that_stop_early(self) -> None:
+        self.put_orders()
+        readers = [self.documents.keys(), self.documents.where("/customer", "1"), iter(self.documents)]
+        for reader in readers:
+            next(reader)
+        self.assertTrue(self.documents.put("2"))  # beside readers of what was before
+        self.assertNotIn(v.Key("2"), list(readers[0]))
+        del readers
+        self.assertEqual(list(self.documents)[:2], ["1", "2"])
 
 
 class Page(unittest.TestCase):
