@@ -30,12 +30,13 @@ impl Drop for Document<'_> {
 }
 
 impl<'a> Document<'a> {
-    ghost use Rattle.std.specs.Prelude.{◌≡◌, ◌≢◌, ◌+◌, ◌<◌, ◌≤◌, ◌++◌, length, IfOk, IfErr, OnOk, OnErr, Err, vec_len};
+    ghost use Rattle.std.specs.Prelude.{◌≡◌, ◌≢◌, ◌+◌, ◌<◌, ◌≤◌, length, IfOk, IfErr, OnOk, OnErr, Err, vec_len};
     ghost use Rattle.std.specs.Vec.{vec_capacity};
     ghost use Rattle.jsonb_value.specs.Grammar.{IsDocument, IsNoDocument};
     ghost use Rattle.jsonb_value.specs.Proper.{IsProper};
     ghost use Rattle.jsonb_value.specs.SortKey.{key_of, IsBounded};
     ghost use Rattle.jsonb_value.specs.Text.{AppendsText, tree_text};
+    ghost use Rattle.jsonb_value.specs.Text.Appending.{AppendsAllOrNothing};
     ghost use Rattle.jsonb_value.specs.Text.Range.{IsInRangeOf};
     ghost use Rattle.jsonb_value.specs.Tree.{Tree};
     ghost use Rattle.jsonb_value.specs.View.{view};
@@ -119,13 +120,8 @@ impl<'a> Document<'a> {
     ///
     /// `OutOfMemory` only where `buf` lacks the capacity for the whole key.
     pub fn write_sort_key(&self, buf: &mut Vec<u8>) -> Result<()>
-        ensures ok { OnOk result (buf.new.items ≡ buf.old.items ++ key_of (document_view self.now)) }
-        ensures err { OnErr result (buf.new.items ≡ buf.old.items) }
+        ensures appends { AppendsAllOrNothing result buf.old buf.new (key_of (document_view self.now)) }
         ensures errors { IfErr result (λ e. e ≡ Error.OutOfMemory) }
-        // Memory runs out only where the capacity for the whole key is missing.
-        ensures full { OnErr result
-            (vec_capacity buf.old < vec_len buf.old + length (key_of (document_view self.now))) }
-        ensures capacity { vec_capacity buf.old ≤ vec_capacity buf.new }
     {
         let old_len = buf.len();
         if sort_key::append(self.tree(), buf).is_err() {

@@ -1,9 +1,8 @@
 //! The sort key of a parsed text, in the order of its members.
-ghost use Rattle.std.specs.Prelude.{◌≡◌, ◌+◌, ◌<◌, ◌≤◌, ◌++◌, ◌∷◌, length, OnOk, OnErr, vec_len};
+ghost use Rattle.std.specs.Prelude.{◌∷◌};
 ghost use Rattle.std.specs.Cow.{cow_str_bytes};
-ghost use Rattle.std.specs.Vec.{vec_capacity};
 ghost use Rattle.jsonb_value.specs.SortKey.{text_key, key_of, items_key, members_key};
-ghost use Rattle.jsonb_value.specs.Text.Appending.{Extends};
+ghost use Rattle.jsonb_value.specs.Text.Appending.{Appends};
 ghost use Rattle.jsonb_document.specs.Listed.{listed_view, listed_items, listed_members};
 
 use jsonb::JsonAst;
@@ -18,11 +17,7 @@ type Appended = Result<(), AllocError>;
 #[inline(always)]
 #[cycle(append)]
 pub(crate) fn append<'a>(tree: &JsonAst<'a>, buf: &mut Vec<u8>) -> Appended
-    ensures ok { OnOk result (buf.new.items ≡ buf.old.items ++ key_of (listed_view tree.now)) }
-    ensures kept { Extends buf.old.items buf.new.items }
-    ensures full { OnErr result
-        (vec_capacity buf.old < vec_len buf.old + length (key_of (listed_view tree.now))) }
-    ensures capacity { vec_capacity buf.old ≤ vec_capacity buf.new }
+    ensures appends { Appends result buf.old buf.new (key_of (listed_view tree.now)) }
 {
     match tree {
         JsonAst::Null => buf.extend_from_slice(&[0xD3]),
@@ -37,10 +32,7 @@ pub(crate) fn append<'a>(tree: &JsonAst<'a>, buf: &mut Vec<u8>) -> Appended
 
 // Appends a string: its kind and its text.
 fn append_string(text: &str, buf: &mut Vec<u8>) -> Appended
-    ensures ok { OnOk result (buf.new.items ≡ buf.old.items ++ 0xD0 ∷ text_key text.now) }
-    ensures kept { Extends buf.old.items buf.new.items }
-    ensures full { OnErr result (vec_capacity buf.old < vec_len buf.old + length (0xD0 ∷ text_key text.now)) }
-    ensures capacity { vec_capacity buf.old ≤ vec_capacity buf.new }
+    ensures appends { Appends result buf.old buf.new (0xD0 ∷ text_key text.now) }
 {
     buf.extend_from_slice(&[0xD0])?;
     append_text_key(text, buf)
@@ -48,12 +40,7 @@ fn append_string(text: &str, buf: &mut Vec<u8>) -> Appended
 
 #[cycle(append)]
 fn append_items<'a>(items: &Vec<JsonAst<'a>>, buf: &mut Vec<u8>) -> Appended
-    ensures ok { OnOk result (buf.new.items
-        ≡ buf.old.items ++ 0xD2 ∷ items_key (listed_items items.now.items)) }
-    ensures kept { Extends buf.old.items buf.new.items }
-    ensures full { OnErr result (vec_capacity buf.old
-        < vec_len buf.old + length (0xD2 ∷ items_key (listed_items items.now.items))) }
-    ensures capacity { vec_capacity buf.old ≤ vec_capacity buf.new }
+    ensures appends { Appends result buf.old buf.new (0xD2 ∷ items_key (listed_items items.now.items)) }
 {
     buf.extend_from_slice(&[0xD2])?;
     'items: for item in items {
@@ -67,12 +54,7 @@ fn append_members<'a>(
     members: &Vec<(CowStr<'a>, JsonAst<'a>, usize)>,
     buf: &mut Vec<u8>,
 ) -> Appended
-    ensures ok { OnOk result (buf.new.items
-        ≡ buf.old.items ++ 0xD1 ∷ members_key (listed_members members.now.items)) }
-    ensures kept { Extends buf.old.items buf.new.items }
-    ensures full { OnErr result (vec_capacity buf.old
-        < vec_len buf.old + length (0xD1 ∷ members_key (listed_members members.now.items))) }
-    ensures capacity { vec_capacity buf.old ≤ vec_capacity buf.new }
+    ensures appends { Appends result buf.old buf.new (0xD1 ∷ members_key (listed_members members.now.items)) }
 {
     buf.extend_from_slice(&[0xD1])?;
     'members: for member in members {
@@ -85,11 +67,7 @@ fn append_members<'a>(
 // Appends a member's key.
 #[inline(always)]
 fn append_key(key: &CowStr, buf: &mut Vec<u8>) -> Appended
-    ensures ok { OnOk result (buf.new.items ≡ buf.old.items ++ text_key (cow_str_bytes key.now)) }
-    ensures kept { Extends buf.old.items buf.new.items }
-    ensures full { OnErr result
-        (vec_capacity buf.old < vec_len buf.old + length (text_key (cow_str_bytes key.now))) }
-    ensures capacity { vec_capacity buf.old ≤ vec_capacity buf.new }
+    ensures appends { Appends result buf.old buf.new (text_key (cow_str_bytes key.now)) }
 {
     append_text_key(key.as_str(), buf)
 }

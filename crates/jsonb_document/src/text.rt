@@ -1,8 +1,7 @@
 //! The serialized form of a parsed text, in the order of its members.
-ghost use Rattle.std.specs.Prelude.{◌≡◌, ◌+◌, ◌<◌, ◌≤◌, ◌++◌, ◌∷◌, [], length, OnOk, OnErr, vec_len};
+ghost use Rattle.std.specs.Prelude.{◌++◌, ◌∷◌, []};
 ghost use Rattle.std.specs.Cow.{cow_str_bytes};
-ghost use Rattle.std.specs.Vec.{vec_capacity};
-ghost use Rattle.jsonb_value.specs.Text.Appending.{Extends, comma_before};
+ghost use Rattle.jsonb_value.specs.Text.Appending.{Appends, AppendsAllOrNothing, comma_before};
 ghost use Rattle.jsonb_value.specs.Text.StringText.{quoted_text};
 ghost use Rattle.jsonb_value.specs.Text.{tree_text, with_commas, item_texts, member_texts};
 ghost use Rattle.jsonb_document.specs.Listed.{listed_view, listed_items, listed_members};
@@ -19,11 +18,7 @@ type Appended = Result<(), AllocError>;
 #[inline(always)]
 #[cycle(append)]
 pub(crate) fn append<'a>(tree: &JsonAst<'a>, buf: &mut Vec<u8>) -> Appended
-    ensures ok { OnOk result (buf.new.items ≡ buf.old.items ++ tree_text (listed_view tree.now)) }
-    ensures kept { Extends buf.old.items buf.new.items }
-    ensures full { OnErr result
-        (vec_capacity buf.old < vec_len buf.old + length (tree_text (listed_view tree.now))) }
-    ensures capacity { vec_capacity buf.old ≤ vec_capacity buf.new }
+    ensures appends { Appends result buf.old buf.new (tree_text (listed_view tree.now)) }
 {
     match tree {
         JsonAst::Null => buf.extend_from_slice(b"null"),
@@ -38,12 +33,8 @@ pub(crate) fn append<'a>(tree: &JsonAst<'a>, buf: &mut Vec<u8>) -> Appended
 
 #[cycle(append)]
 fn append_items<'a>(items: &Vec<JsonAst<'a>>, buf: &mut Vec<u8>) -> Appended
-    ensures ok { OnOk result (buf.new.items
-        ≡ buf.old.items ++ (91 ∷ with_commas (item_texts (listed_items items.now.items)) ++ 93 ∷ [])) }
-    ensures kept { Extends buf.old.items buf.new.items }
-    ensures full { OnErr result (vec_capacity buf.old < vec_len buf.old
-        + length (91 ∷ with_commas (item_texts (listed_items items.now.items)) ++ 93 ∷ [])) }
-    ensures capacity { vec_capacity buf.old ≤ vec_capacity buf.new }
+    ensures appends { Appends result buf.old buf.new
+        (91 ∷ with_commas (item_texts (listed_items items.now.items)) ++ 93 ∷ []) }
 {
     buf.extend_from_slice(b"[")?;
     let mut is_first = true;
@@ -60,12 +51,8 @@ fn append_members<'a>(
     members: &Vec<(CowStr<'a>, JsonAst<'a>, usize)>,
     buf: &mut Vec<u8>,
 ) -> Appended
-    ensures ok { OnOk result (buf.new.items ≡ buf.old.items
-        ++ (123 ∷ with_commas (member_texts (listed_members members.now.items)) ++ 125 ∷ [])) }
-    ensures kept { Extends buf.old.items buf.new.items }
-    ensures full { OnErr result (vec_capacity buf.old < vec_len buf.old
-        + length (123 ∷ with_commas (member_texts (listed_members members.now.items)) ++ 125 ∷ [])) }
-    ensures capacity { vec_capacity buf.old ≤ vec_capacity buf.new }
+    ensures appends { Appends result buf.old buf.new
+        (123 ∷ with_commas (member_texts (listed_members members.now.items)) ++ 125 ∷ []) }
 {
     buf.extend_from_slice(b"{")?;
     let mut is_first = true;
@@ -80,11 +67,7 @@ fn append_members<'a>(
 
 // Appends the comma before an item or a member. The first has none.
 fn append_comma(is_first: bool, buf: &mut Vec<u8>) -> Appended
-    ensures ok { OnOk result (buf.new.items ≡ buf.old.items ++ comma_before is_first) }
-    ensures err { OnErr result (buf.new.items ≡ buf.old.items) }
-    ensures full { OnErr result
-        (vec_capacity buf.old < vec_len buf.old + length (comma_before is_first)) }
-    ensures capacity { vec_capacity buf.old ≤ vec_capacity buf.new }
+    ensures appends { AppendsAllOrNothing result buf.old buf.new (comma_before is_first) }
 {
     if is_first {
         Ok(())
@@ -95,12 +78,7 @@ fn append_comma(is_first: bool, buf: &mut Vec<u8>) -> Appended
 
 // Appends a member's key and the colon after it.
 fn append_key(key: &CowStr, buf: &mut Vec<u8>) -> Appended
-    ensures ok { OnOk result (buf.new.items
-        ≡ buf.old.items ++ (quoted_text (cow_str_bytes key.now) ++ 58 ∷ [])) }
-    ensures kept { Extends buf.old.items buf.new.items }
-    ensures full { OnErr result (vec_capacity buf.old < vec_len buf.old
-        + length (quoted_text (cow_str_bytes key.now) ++ 58 ∷ [])) }
-    ensures capacity { vec_capacity buf.old ≤ vec_capacity buf.new }
+    ensures appends { Appends result buf.old buf.new (quoted_text (cow_str_bytes key.now) ++ 58 ∷ []) }
 {
     append_string(key.as_str(), buf)?;
     buf.extend_from_slice(b":")

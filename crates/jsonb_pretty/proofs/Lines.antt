@@ -1,5 +1,5 @@
 -- Lines that are appended one after the other.
-use Rattle.std.proofs.Common.{◌≡◌, ◌≢◌, ℕ, ◌+◌, ◌<◌, ◌≤◌, Bool, true, false, Result, Ok, Err, OnOk, OnErr, is_ok, if◌then◌else◌, List, [], ◌∷◌, ◌++◌, length, get_or, drop, drop-cons, add-one, string_bytes, refl, sym, ap, ◌∙◌, append_assoc, append-nil, length-append, arith}
+use Rattle.std.proofs.Common.{◌≡◌, ◌≢◌, ℕ, ◌+◌, ◌<◌, ◌≤◌, Bool, true, false, List, [], ◌∷◌, ◌++◌, length, get_or, drop, drop-cons, add-one, string_bytes, refl, sym, ap, ◌∙◌, append_assoc, append-nil, length-append, arith}
 use Rattle.std.proofs.lemmas.List.{length-replicate}
 use Rattle.std.specs.List.{flat_map}
 use Rattle.jsonb_value.specs.Text.StringText.{quoted_text}
@@ -73,23 +73,3 @@ pub object_long : (indent margin : ℕ) (es : List Entry) → length es ≢ 0 �
 object_long indent margin [] h = absurd (h refl)
 object_long indent margin (e ∷ es) h =
     enclosed_long 123 125 margin (margin + indent) (quoted_text (string_bytes e.0) ++ 58 ∷ 32 ∷ indented indent (margin + indent) (view e.1)) (member_lines indent (margin + indent) (members_view es))
-
-pub enclosed_done : (old now1 now2 now3 now4 : List ℕ) (first last : ℕ) (lines close : List ℕ) → now1 ≡ old ++ first ∷ [] → now2 ≡ now1 ++ lines → now3 ≡ now2 ++ close → now4 ≡ now3 ++ last ∷ []
-    → now4 ≡ old ++ (first ∷ (lines ++ (close ++ last ∷ [])))
-enclosed_done old now1 now2 now3 now4 first last lines close e1 e2 e3 e4 =
-    e4 ∙ ap (λ now. now ++ last ∷ []) (e3 ∙ ap (λ now. now ++ close) (e2 ∙ ap (λ now. now ++ lines) e1))
-    ∙ append_assoc ((old ++ first ∷ []) ++ lines) close (last ∷ []) ∙ append_assoc (old ++ first ∷ []) lines (close ++ last ∷ []) ∙ append_assoc old (first ∷ []) (lines ++ (close ++ last ∷ []))
-
-pub enclosed_length : (first last : ℕ) (lines close : List ℕ) → length (first ∷ (lines ++ (close ++ last ∷ []))) ≡ length lines + length close + 2
-enclosed_length first last lines close = omega (arith, length-append lines (close ++ last ∷ []), length-append close (last ∷ []))
-
--- a weaker fact holds after a refusal
-pub err_weaker : {T E P Q : Type 0} (r : Result T E) → (P → Q) → OnErr r P → OnErr r Q
-err_weaker (Ok x) f p = tt
-err_weaker (Err e) f p = f p
-
--- the last byte is written, or nothing is said
-pub appended_last : {E : Type 0} (old now1 now2 now3 : List ℕ) (first last : ℕ) (lines close text : List ℕ) {now4 : List ℕ} (r : Result (Unit {0}) E) → text ≡ first ∷ (lines ++ (close ++ last ∷ []))
-    → now1 ≡ old ++ first ∷ [] → now2 ≡ now1 ++ lines → now3 ≡ now2 ++ close → now4 ≡ (if is_ok r then now3 ++ last ∷ [] else now3) → OnOk r (now4 ≡ old ++ text)
-appended_last old now1 now2 now3 first last lines close text {now4 = now4} (Ok x) e e1 e2 e3 e4 = enclosed_done old now1 now2 now3 now4 first last lines close e1 e2 e3 e4 ∙ ap (λ whole. old ++ whole) (sym e)
-appended_last old now1 now2 now3 first last lines close text (Err x) e e1 e2 e3 e4 = tt

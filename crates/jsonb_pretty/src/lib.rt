@@ -7,13 +7,12 @@ ghost use Rattle.std.specs.Vec.{vec_capacity};
 ghost use Rattle.jsonb_value.specs.Keys.{KeysAscend};
 ghost use Rattle.jsonb_value.specs.Mode.{Mode};
 ghost use Rattle.jsonb_value.specs.Proper.{IsProper, AreProper, HaveProperParts};
-ghost use Rattle.jsonb_value.specs.Text.Appending.{Extends, comma_before};
+ghost use Rattle.jsonb_value.specs.Text.Appending.{Appends, AppendsIf, comma_before};
 ghost use Rattle.jsonb_value.specs.Text.Range.{IsInRangeOf};
 ghost use Rattle.jsonb_value.specs.Text.StringText.{quoted_text};
 ghost use Rattle.jsonb_value.specs.Text.{has_text, items_have_texts, members_have_texts, tree_text, with_commas, text_of};
 ghost use Rattle.jsonb_value.specs.Tree.{array, object};
 ghost use Rattle.jsonb_value.specs.View.{view, trees_view, members_view};
-ghost use Rattle.jsonb_pretty.specs.Appends.{Appends};
 ghost use Rattle.jsonb_pretty.specs.Indented.{new_line, indented, item_lines, member_lines, StandsFor};
 
 use jsonb_value::error::{Error, Result};
@@ -84,15 +83,9 @@ type Appended = std::result::Result<(), AllocError>;
 // Appends a value, whose lines begin with `margin` spaces.
 #[cycle(append)]
 fn append<'a>(value: &Value<'a>, indent: usize, margin: usize, buf: &mut Vec<u8>) -> Appended
-    ensures ok { OnOk result (buf.new.items
-        ≡ buf.old.items ++ indented indent margin (view value.now)) }
-    ensures texts { OnOk result (has_text (view value.now) ≡ true) }
+    ensures appends { AppendsIf (has_text (view value.now)) result buf.old buf.new
+        (indented indent margin (view value.now)) }
     ensures proper { OnOk result (IsProper (view value.now)) }
-    ensures kept { Extends buf.old.items buf.new.items }
-    // Of a value that has a text, an error says that the capacity for the whole text is missing.
-    ensures full { OnErr result (has_text (view value.now) ≡ true
-        → vec_capacity buf.old < vec_len buf.old + length (indented indent margin (view value.now))) }
-    ensures capacity { vec_capacity buf.old ≤ vec_capacity buf.new }
 {
     match value {
         Value::Array(items) => append_items(items, indent, margin, buf),
@@ -115,14 +108,9 @@ fn append_items<'a>(
     margin: usize,
     buf: &mut Vec<u8>,
 ) -> Appended
-    ensures ok { OnOk result (buf.new.items
-        ≡ buf.old.items ++ indented indent margin (array (trees_view items.now.items))) }
-    ensures texts { OnOk result (items_have_texts (trees_view items.now.items) ≡ true) }
+    ensures appends { AppendsIf (items_have_texts (trees_view items.now.items)) result buf.old buf.new
+        (indented indent margin (array (trees_view items.now.items))) }
     ensures proper { OnOk result (AreProper (trees_view items.now.items)) }
-    ensures kept { Extends buf.old.items buf.new.items }
-    ensures full { OnErr result (items_have_texts (trees_view items.now.items) ≡ true → vec_capacity buf.old
-        < vec_len buf.old + length (indented indent margin (array (trees_view items.now.items)))) }
-    ensures capacity { vec_capacity buf.old ≤ vec_capacity buf.new }
 {
     if items.is_empty() {
         return buf.extend_from_slice(b"[]");
@@ -141,15 +129,9 @@ fn append_item_lines<'a>(
     margin: usize,
     buf: &mut Vec<u8>,
 ) -> Appended
-    ensures ok { OnOk result (buf.new.items ≡ buf.old.items
-        ++ with_commas (item_lines indent margin (trees_view items.now.items))) }
-    ensures texts { OnOk result (items_have_texts (trees_view items.now.items) ≡ true) }
+    ensures appends { AppendsIf (items_have_texts (trees_view items.now.items)) result buf.old buf.new
+        (with_commas (item_lines indent margin (trees_view items.now.items))) }
     ensures proper { OnOk result (AreProper (trees_view items.now.items)) }
-    ensures kept { Extends buf.old.items buf.new.items }
-    ensures full { OnErr result (items_have_texts (trees_view items.now.items) ≡ true
-        → vec_capacity buf.old < vec_len buf.old
-        + length (with_commas (item_lines indent margin (trees_view items.now.items)))) }
-    ensures capacity { vec_capacity buf.old ≤ vec_capacity buf.new }
 {
     let mut is_first = true;
     'items: for item in items {
@@ -168,16 +150,10 @@ fn append_members<'a>(
     margin: usize,
     buf: &mut Vec<u8>,
 ) -> Appended
-    ensures ok { OnOk result (buf.new.items
-        ≡ buf.old.items ++ indented indent margin (object (members_view members.now.entries))) }
-    ensures texts { OnOk result (members_have_texts (members_view members.now.entries) ≡ true) }
+    ensures appends { AppendsIf (members_have_texts (members_view members.now.entries)) result buf.old buf.new
+        (indented indent margin (object (members_view members.now.entries))) }
     ensures proper { OnOk result (KeysAscend (members_view members.now.entries)
         × HaveProperParts (members_view members.now.entries)) }
-    ensures kept { Extends buf.old.items buf.new.items }
-    ensures full { OnErr result (members_have_texts (members_view members.now.entries) ≡ true
-        → vec_capacity buf.old < vec_len buf.old
-        + length (indented indent margin (object (members_view members.now.entries)))) }
-    ensures capacity { vec_capacity buf.old ≤ vec_capacity buf.new }
 {
     if members.is_empty() {
         return buf.extend_from_slice(b"{}");
@@ -196,16 +172,10 @@ fn append_member_lines<'a>(
     margin: usize,
     buf: &mut Vec<u8>,
 ) -> Appended
-    ensures ok { OnOk result (buf.new.items ≡ buf.old.items
-        ++ with_commas (member_lines indent margin (members_view members.now.entries))) }
-    ensures texts { OnOk result (members_have_texts (members_view members.now.entries) ≡ true) }
+    ensures appends { AppendsIf (members_have_texts (members_view members.now.entries)) result buf.old buf.new
+        (with_commas (member_lines indent margin (members_view members.now.entries))) }
     ensures proper { OnOk result (KeysAscend (members_view members.now.entries)
         × HaveProperParts (members_view members.now.entries)) }
-    ensures kept { Extends buf.old.items buf.new.items }
-    ensures full { OnErr result (members_have_texts (members_view members.now.entries) ≡ true
-        → vec_capacity buf.old < vec_len buf.old
-        + length (with_commas (member_lines indent margin (members_view members.now.entries)))) }
-    ensures capacity { vec_capacity buf.old ≤ vec_capacity buf.new }
 {
     let mut is_first = true;
     'members: for (key, value) in members.iter() {
@@ -237,12 +207,8 @@ fn inner_margin(
 // Appends the text of a value that is no array and no object.
 fn append_scalar(value: &Value<'_>, buf: &mut Vec<u8>) -> Appended
     requires { has_text (view value.now) ≡ true }
-    ensures ok { OnOk result (buf.new.items ≡ buf.old.items ++ tree_text (view value.now)) }
+    ensures appends { Appends result buf.old buf.new (tree_text (view value.now)) }
     ensures proper { OnOk result (IsProper (view value.now)) }
-    ensures kept { Extends buf.old.items buf.new.items }
-    ensures full { OnErr result
-        (vec_capacity buf.old < vec_len buf.old + length (tree_text (view value.now))) }
-    ensures capacity { vec_capacity buf.old ≤ vec_capacity buf.new }
 {
     if value.write_text(buf).is_err() {
         return Err(AllocError);

@@ -7,7 +7,6 @@ pub mod Kinds
 pub mod Numbers
 pub mod Pairs
 pub mod Parts
-pub mod Pieces
 pub mod Sizes
 pub mod Texts
 pub mod Trees

@@ -3,6 +3,7 @@ ghost use Rattle.std.specs.Prelude.{◌≡◌, ◌↔◌, ◌⊎◌, ◌+◌, �
 ghost use Rattle.std.specs.Fmt.{decimal};
 ghost use Rattle.std.specs.Fmt.InlineText.{inline_text};
 ghost use Rattle.std.specs.Vec.{vec_capacity};
+ghost use Rattle.jsonb_value.specs.Text.Appending.{AppendsAllOrNothing};
 ghost use Rattle.jsonb_value.specs.Text.BinaryText.{hexadecimal_pair, binary_text};
 ghost use Rattle.jsonb_value.specs.Text.ExtensionText.{extension_text, AppendsExtensionText};
 ghost use Rattle.jsonb_value.specs.Text.IntervalText.{amount_text, microseconds_text, clock_text, time_text, with_blank, beside, interval_text};
@@ -133,12 +134,8 @@ impl Interval {
 
     // Appends the text that `{}` writes.
     pub(crate) fn append_text(&self, buf: &mut Vec<u8>) -> std::result::Result<(), AllocError>
-        ensures ok { OnOk result (buf.new.items
-            ≡ buf.old.items ++ interval_text self.now.months self.now.days self.now.micros) }
-        ensures err { OnErr result (buf.new.items ≡ buf.old.items) }
-        ensures full { OnErr result (vec_capacity buf.old < vec_len buf.old
-            + length (interval_text self.now.months self.now.days self.now.micros)) }
-        ensures capacity { vec_capacity buf.old ≤ vec_capacity buf.new }
+        ensures appends { AppendsAllOrNothing result buf.old buf.new
+            (interval_text self.now.months self.now.days self.now.micros) }
     {
         buf.extend_from_slice(self.text().as_str().as_bytes())
     }
@@ -164,11 +161,7 @@ fn hexadecimal_pair(byte: u8) -> [u8; 2]
 
 // Appends two digits for each byte.
 pub(crate) fn append_binary(bytes: &[u8], buf: &mut Vec<u8>) -> std::result::Result<(), AllocError>
-    ensures ok { OnOk result (buf.new.items ≡ buf.old.items ++ binary_text bytes.now) }
-    ensures err { OnErr result (buf.new.items ≡ buf.old.items) }
-    ensures full { OnErr result
-        (vec_capacity buf.old < vec_len buf.old + length (binary_text bytes.now)) }
-    ensures capacity { vec_capacity buf.old ≤ vec_capacity buf.new }
+    ensures appends { AppendsAllOrNothing result buf.old buf.new (binary_text bytes.now) }
 {
     buf.reserve(bytes.len() * 2)?;
     'bytes: for byte in bytes {

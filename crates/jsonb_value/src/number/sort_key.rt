@@ -1,9 +1,8 @@
 //! The sort key of a number: its sign, its exponent, and its digits.
-ghost use Rattle.std.specs.Prelude.{◌≡◌, ◌+◌, ◌*◌, ◌/◌, ◌%◌, ◌^◌, ◌<◌, ◌≤◌, ◌++◌, ◌↔◌, ◌-◌, ◌∷◌, [], length, map, drop, OnOk, OnErr, vec_len};
-ghost use Rattle.std.specs.Vec.{vec_capacity};
+ghost use Rattle.std.specs.Prelude.{◌≡◌, ◌*◌, ◌/◌, ◌%◌, ◌^◌, ◌<◌, ◌≤◌, ◌++◌, ◌↔◌, ◌-◌, ◌∷◌, [], map, drop};
 ghost use Rattle.jsonb_value.specs.Proper.{IsProperNumber};
 ghost use Rattle.jsonb_value.specs.SortKey.{digit_count, place_key, digits_key, magnitude_key, number_key, turned};
-ghost use Rattle.jsonb_value.specs.Text.Appending.{Extends};
+ghost use Rattle.jsonb_value.specs.Text.Appending.{Appends};
 ghost use Rattle.jsonb_value.specs.View.{number_view};
 
 use super::Number;
@@ -15,12 +14,7 @@ type Appended = Result<(), AllocError>;
 impl Number {
     // Appends the number's key, whatever its variant is.
     pub(crate) fn append_sort_key(&self, buf: &mut Vec<u8>) -> Appended
-        ensures ok { OnOk result (buf.new.items
-            ≡ buf.old.items ++ number_key (number_view self.now)) }
-        ensures kept { Extends buf.old.items buf.new.items }
-        ensures full { OnErr result
-            (vec_capacity buf.old < vec_len buf.old + length (number_key (number_view self.now))) }
-        ensures capacity { vec_capacity buf.old ≤ vec_capacity buf.new }
+        ensures appends { Appends result buf.old buf.new (number_key (number_view self.now)) }
         ensures proper { IsProperNumber (number_view self.now) }
     {
         let scale = self.scale();
@@ -35,10 +29,7 @@ impl Number {
 // Appends a byte of a key.
 #[inline(always)]
 fn append_byte(byte: u8, buf: &mut Vec<u8>) -> Appended
-    ensures ok { OnOk result (buf.new.items ≡ buf.old.items ++ byte ∷ []) }
-    ensures kept { Extends buf.old.items buf.new.items }
-    ensures full { OnErr result (vec_capacity buf.old < vec_len buf.old + length (byte ∷ [])) }
-    ensures capacity { vec_capacity buf.old ≤ vec_capacity buf.new }
+    ensures appends { Appends result buf.old buf.new (byte ∷ []) }
 {
     if buf.push(byte).is_err() {
         return Err(AllocError);
@@ -49,10 +40,7 @@ fn append_byte(byte: u8, buf: &mut Vec<u8>) -> Appended
 // Appends two bytes of a key.
 #[inline(always)]
 fn append_two(first: u8, second: u8, buf: &mut Vec<u8>) -> Appended
-    ensures ok { OnOk result (buf.new.items ≡ buf.old.items ++ first ∷ second ∷ []) }
-    ensures kept { Extends buf.old.items buf.new.items }
-    ensures full { OnErr result (vec_capacity buf.old < vec_len buf.old + length (first ∷ second ∷ [])) }
-    ensures capacity { vec_capacity buf.old ≤ vec_capacity buf.new }
+    ensures appends { Appends result buf.old buf.new (first ∷ second ∷ []) }
 {
     buf.extend_from_slice(&[first, second])
 }
@@ -61,10 +49,7 @@ fn append_two(first: u8, second: u8, buf: &mut Vec<u8>) -> Appended
 #[inline(always)]
 fn append_row(row: &[u8; 12], start: usize, buf: &mut Vec<u8>) -> Appended
     requires { start ≤ 12 }
-    ensures ok { OnOk result (buf.new.items ≡ buf.old.items ++ drop start row.now) }
-    ensures kept { Extends buf.old.items buf.new.items }
-    ensures full { OnErr result (vec_capacity buf.old < vec_len buf.old + length (drop start row.now)) }
-    ensures capacity { vec_capacity buf.old ≤ vec_capacity buf.new }
+    ensures appends { Appends result buf.old buf.new (drop start row.now) }
 {
     buf.extend_from_slice(&row[start..])
 }
@@ -80,12 +65,7 @@ fn turned(negative: bool, byte: u8) -> u8
 // Appends the key of a number above 0 with this sign.
 fn append_magnitude(negative: bool, scale: u8, magnitude: u128, buf: &mut Vec<u8>) -> Appended
     requires { 0 < magnitude }
-    ensures ok { OnOk result (buf.new.items
-        ≡ buf.old.items ++ map (turned negative) (magnitude_key scale magnitude)) }
-    ensures kept { Extends buf.old.items buf.new.items }
-    ensures full { OnErr result (vec_capacity buf.old < vec_len buf.old
-        + length (map (turned negative) (magnitude_key scale magnitude))) }
-    ensures capacity { vec_capacity buf.old ≤ vec_capacity buf.new }
+    ensures appends { Appends result buf.old buf.new (map (turned negative) (magnitude_key scale magnitude)) }
 {
     if magnitude < 100 && scale < 31 {
         return append_small(negative, scale, magnitude as u64, buf);
@@ -101,12 +81,7 @@ fn append_magnitude(negative: bool, scale: u8, magnitude: u128, buf: &mut Vec<u8
 fn append_small(negative: bool, scale: u8, magnitude: u64, buf: &mut Vec<u8>) -> Appended
     requires few { (0 < magnitude) × (magnitude < 100) }
     requires near { scale < 31 }
-    ensures ok { OnOk result (buf.new.items
-        ≡ buf.old.items ++ map (turned negative) (magnitude_key scale magnitude)) }
-    ensures kept { Extends buf.old.items buf.new.items }
-    ensures full { OnErr result (vec_capacity buf.old < vec_len buf.old
-        + length (map (turned negative) (magnitude_key scale magnitude))) }
-    ensures capacity { vec_capacity buf.old ≤ vec_capacity buf.new }
+    ensures appends { Appends result buf.old buf.new (map (turned negative) (magnitude_key scale magnitude)) }
 {
     let (count, digits) = small_digits(magnitude);
     let place = turned(negative, count + 160 - scale);
@@ -132,12 +107,7 @@ fn small_digits(magnitude: u64) -> (u8, u8)
 #[inline(always)]
 fn append_short(negative: bool, scale: u8, magnitude: u64, buf: &mut Vec<u8>) -> Appended
     requires { 0 < magnitude }
-    ensures ok { OnOk result (buf.new.items
-        ≡ buf.old.items ++ map (turned negative) (magnitude_key scale magnitude)) }
-    ensures kept { Extends buf.old.items buf.new.items }
-    ensures full { OnErr result (vec_capacity buf.old < vec_len buf.old
-        + length (map (turned negative) (magnitude_key scale magnitude))) }
-    ensures capacity { vec_capacity buf.old ≤ vec_capacity buf.new }
+    ensures appends { Appends result buf.old buf.new (map (turned negative) (magnitude_key scale magnitude)) }
 {
     let count = short_digit_count(magnitude);
     let mut row = [0; 12];
@@ -150,12 +120,7 @@ fn append_short(negative: bool, scale: u8, magnitude: u64, buf: &mut Vec<u8>) ->
 #[inline(never)]
 fn append_long(negative: bool, scale: u8, magnitude: u128, buf: &mut Vec<u8>) -> Appended
     requires { 0 < magnitude }
-    ensures ok { OnOk result (buf.new.items
-        ≡ buf.old.items ++ map (turned negative) (magnitude_key scale magnitude)) }
-    ensures kept { Extends buf.old.items buf.new.items }
-    ensures full { OnErr result (vec_capacity buf.old < vec_len buf.old
-        + length (map (turned negative) (magnitude_key scale magnitude))) }
-    ensures capacity { vec_capacity buf.old ≤ vec_capacity buf.new }
+    ensures appends { Appends result buf.old buf.new (map (turned negative) (magnitude_key scale magnitude)) }
 {
     let count = digit_count(magnitude);
     append_place(negative, count + 255 - u32::from(scale), buf)?;
@@ -205,12 +170,7 @@ fn write_place(negative: bool, place: u32, end: usize, row: &mut [u8; 12]) -> us
 // Appends the place of the first digit.
 fn append_place(negative: bool, place: u32, buf: &mut Vec<u8>) -> Appended
     requires { place < 295 }
-    ensures ok { OnOk result (buf.new.items
-        ≡ buf.old.items ++ map (turned negative) (place_key place)) }
-    ensures kept { Extends buf.old.items buf.new.items }
-    ensures full { OnErr result (vec_capacity buf.old
-        < vec_len buf.old + length (map (turned negative) (place_key place))) }
-    ensures capacity { vec_capacity buf.old ≤ vec_capacity buf.new }
+    ensures appends { Appends result buf.old buf.new (map (turned negative) (place_key place)) }
 {
     let mut row = [0; 12];
     let start = write_place(negative, place, 12, &mut row);
@@ -269,12 +229,7 @@ fn append_short_digits(negative: bool, count: u32, magnitude: u64, buf: &mut Vec
     requires some { 0 < count }
     requires few { count ≤ 20 }
     requires below { magnitude < 10 ^ count }
-    ensures ok { OnOk result (buf.new.items
-        ≡ buf.old.items ++ map (turned negative) (digits_key count magnitude)) }
-    ensures kept { Extends buf.old.items buf.new.items }
-    ensures full { OnErr result (vec_capacity buf.old
-        < vec_len buf.old + length (map (turned negative) (digits_key count magnitude))) }
-    ensures capacity { vec_capacity buf.old ≤ vec_capacity buf.new }
+    ensures appends { Appends result buf.old buf.new (map (turned negative) (digits_key count magnitude)) }
 {
     let mut row = [0; 12];
     let start = write_digits(negative, count, magnitude, &mut row);
@@ -299,12 +254,7 @@ fn append_digits(negative: bool, count: u32, magnitude: u128, buf: &mut Vec<u8>)
     requires some { 0 < magnitude }
     requires few { count ≤ 39 }
     requires below { magnitude < 10 ^ count }
-    ensures ok { OnOk result (buf.new.items
-        ≡ buf.old.items ++ map (turned negative) (digits_key count magnitude)) }
-    ensures kept { Extends buf.old.items buf.new.items }
-    ensures full { OnErr result (vec_capacity buf.old
-        < vec_len buf.old + length (map (turned negative) (digits_key count magnitude))) }
-    ensures capacity { vec_capacity buf.old ≤ vec_capacity buf.new }
+    ensures appends { Appends result buf.old buf.new (map (turned negative) (digits_key count magnitude)) }
 {
     if count <= 20 && magnitude < 0x1_0000_0000_0000_0000 {
         return append_short_digits(negative, count, magnitude as u64, buf);

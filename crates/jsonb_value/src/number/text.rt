@@ -1,7 +1,8 @@
 //! The text of a number.
-ghost use Rattle.std.specs.Prelude.{◌≡◌, ◌+◌, ◌≤◌, ◌<◌, ◌++◌, ◌^◌, length, replicate, pos, Some, IsAscii, IsOk, OnOk, OnErr, vec_len};
+ghost use Rattle.std.specs.Prelude.{◌≡◌, ◌+◌, ◌≤◌, ◌<◌, ◌++◌, ◌^◌, length, replicate, pos, Some, IsAscii, IsOk, vec_len};
 ghost use Rattle.std.specs.Vec.{vec_capacity};
 ghost use Rattle.std.specs.Fmt.{sign_text, WritesOnOk};
+ghost use Rattle.jsonb_value.specs.Text.Appending.{AppendsAllOrNothing};
 ghost use Rattle.jsonb_value.specs.Text.NumberText.{number_text, text_of_parts, with_point, zero_padded};
 ghost use Rattle.jsonb_value.specs.Proper.{IsProperNumber};
 ghost use Rattle.jsonb_value.specs.Text.TextParts.{joined};
@@ -134,12 +135,7 @@ impl Number {
 
     // Appends the text that `{}` writes. An integer takes one copy of its digits.
     pub(crate) fn append_text(&self, buf: &mut Vec<u8>) -> Result<(), AllocError>
-        ensures ok { OnOk result (buf.new.items
-            ≡ buf.old.items ++ number_text (number_view self.now)) }
-        ensures err { OnErr result (buf.new.items ≡ buf.old.items) }
-        ensures full { OnErr result
-            (vec_capacity buf.old < vec_len buf.old + length (number_text (number_view self.now))) }
-        ensures capacity { vec_capacity buf.old ≤ vec_capacity buf.new }
+        ensures appends { AppendsAllOrNothing result buf.old buf.new (number_text (number_view self.now)) }
         ensures proper { IsProperNumber (number_view self.now) }
     {
         match self {
@@ -158,12 +154,7 @@ impl Number {
     // Appends the text of any number, piece by piece.
     #[inline(never)]
     fn append_pieces(&self, buf: &mut Vec<u8>) -> Result<(), AllocError>
-        ensures ok { OnOk result (buf.new.items
-            ≡ buf.old.items ++ number_text (number_view self.now)) }
-        ensures err { OnErr result (buf.new.items ≡ buf.old.items) }
-        ensures full { OnErr result
-            (vec_capacity buf.old < vec_len buf.old + length (number_text (number_view self.now))) }
-        ensures capacity { vec_capacity buf.old ≤ vec_capacity buf.new }
+        ensures appends { AppendsAllOrNothing result buf.old buf.new (number_text (number_view self.now)) }
         ensures proper { IsProperNumber (number_view self.now) }
     {
         let mut buffer = Buffer::new();

@@ -1,14 +1,13 @@
 //! Sort keys: bytes that compare as the values do.
-ghost use Rattle.std.specs.Prelude.{ℕ, List, ◌≡◌, ◌↔◌, ◌+◌, ◌/◌, ◌^◌, ◌<◌, ◌≤◌, ◌++◌, ◌∷◌, [], length, take, unsigned_abs, IfErr, OnOk, OnErr, vec_len, string_bytes, IsTrue};
+ghost use Rattle.std.specs.Prelude.{ℕ, List, ◌≡◌, ◌↔◌, ◌+◌, ◌/◌, ◌^◌, ◌<◌, ◌≤◌, ◌++◌, ◌∷◌, [], length, take, unsigned_abs, IfErr, OnOk, string_bytes, IsTrue};
 ghost use Rattle.std.specs.List.{flat_map, sum_by};
 ghost use Rattle.std.specs.Ordering.{ordering_then};
-ghost use Rattle.std.specs.Vec.{vec_capacity};
 ghost use Rattle.jsonb_value.specs.Order.{bytes_cmp, tree_cmp, Same};
 ghost use Rattle.jsonb_value.specs.Order.ByContent.{items_of, pairs_of};
 ghost use Rattle.jsonb_value.specs.Proper.{IsProperNumber};
 ghost use Rattle.jsonb_value.specs.SortKey.{byte_key, text_key, key_of_32_bits, key_of_64_bits, key_of, items_key, members_key, IsBounded, AreBounded, HaveBounds};
 ghost use Rattle.jsonb_value.specs.SortKey.Size.{exponent_len, member_len, most_pairs, zero_count};
-ghost use Rattle.jsonb_value.specs.Text.Appending.{Extends};
+ghost use Rattle.jsonb_value.specs.Text.Appending.{Appends, AppendsAllOrNothing};
 ghost use Rattle.jsonb_value.specs.Tree.{Mark, Num, Tree, Trees, Members, number, string, array, object};
 ghost use Rattle.jsonb_value.specs.View.{view, trees_view, members_view};
 
@@ -64,13 +63,8 @@ impl Value<'_> {
     ///
     /// `OutOfMemory` only where `buf` lacks the capacity for the whole key.
     pub fn write_sort_key(&self, buf: &mut Vec<u8>) -> Result<()>
-        ensures ok { OnOk result (buf.new.items ≡ buf.old.items ++ key_of (view self.now)) }
-        ensures err { OnErr result (buf.new.items ≡ buf.old.items) }
+        ensures appends { AppendsAllOrNothing result buf.old buf.new (key_of (view self.now)) }
         ensures errors { IfErr result (λ e. e ≡ Error.OutOfMemory) }
-        // Memory is refused only where the room for the whole key is missing.
-        ensures full { OnErr result
-            (vec_capacity buf.old < vec_len buf.old + length (key_of (view self.now))) }
-        ensures capacity { vec_capacity buf.old ≤ vec_capacity buf.new }
         ensures bounded { OnOk result (IsBounded (view self.now)) }
         // The key compares with that of any other value as the values do.
         ensures order { OnOk result ((u : Tree) → IsBounded u
@@ -89,12 +83,8 @@ impl Value<'_> {
 #[inline(always)]
 #[cycle(append)]
 fn append<'a>(value: &Value<'a>, buf: &mut Vec<u8>) -> Appended
-    ensures ok { OnOk result (buf.new.items ≡ buf.old.items ++ key_of (view value.now)) }
+    ensures appends { Appends result buf.old buf.new (key_of (view value.now)) }
     ensures bounded { OnOk result (IsBounded (view value.now)) }
-    ensures kept { Extends buf.old.items buf.new.items }
-    ensures full { OnErr result
-        (vec_capacity buf.old < vec_len buf.old + length (key_of (view value.now))) }
-    ensures capacity { vec_capacity buf.old ≤ vec_capacity buf.new }
 {
     match value {
         Value::Binary(bytes) => append_text(0x10, *bytes, buf),
@@ -119,13 +109,8 @@ fn append<'a>(value: &Value<'a>, buf: &mut Vec<u8>) -> Appended
 
 #[cycle(append)]
 fn append_items<'a>(items: &Vec<Value<'a>>, buf: &mut Vec<u8>) -> Appended
-    ensures ok { OnOk result (buf.new.items
-        ≡ buf.old.items ++ 0xD2 ∷ items_key (trees_view items.now.items)) }
+    ensures appends { Appends result buf.old buf.new (0xD2 ∷ items_key (trees_view items.now.items)) }
     ensures bounded { OnOk result (AreBounded (trees_view items.now.items)) }
-    ensures kept { Extends buf.old.items buf.new.items }
-    ensures full { OnErr result (vec_capacity buf.old
-        < vec_len buf.old + length (0xD2 ∷ items_key (trees_view items.now.items))) }
-    ensures capacity { vec_capacity buf.old ≤ vec_capacity buf.new }
 {
     buf.extend_from_slice(&[0xD2])?;
     'items: for item in items {
@@ -136,13 +121,8 @@ fn append_items<'a>(items: &Vec<Value<'a>>, buf: &mut Vec<u8>) -> Appended
 
 #[cycle(append)]
 fn append_members<'a>(members: &Object<'a>, buf: &mut Vec<u8>) -> Appended
-    ensures ok { OnOk result (buf.new.items
-        ≡ buf.old.items ++ 0xD1 ∷ members_key (members_view members.now.entries)) }
+    ensures appends { Appends result buf.old buf.new (0xD1 ∷ members_key (members_view members.now.entries)) }
     ensures bounded { OnOk result (HaveBounds (members_view members.now.entries)) }
-    ensures kept { Extends buf.old.items buf.new.items }
-    ensures full { OnErr result (vec_capacity buf.old
-        < vec_len buf.old + length (0xD1 ∷ members_key (members_view members.now.entries))) }
-    ensures capacity { vec_capacity buf.old ≤ vec_capacity buf.new }
 {
     buf.extend_from_slice(&[0xD1])?;
     'members: for (key, value) in members.iter() {
@@ -154,11 +134,7 @@ fn append_members<'a>(members: &Object<'a>, buf: &mut Vec<u8>) -> Appended
 
 // Appends the kind and a text.
 fn append_text(kind: u8, bytes: &[u8], buf: &mut Vec<u8>) -> Appended
-    ensures ok { OnOk result (buf.new.items ≡ buf.old.items ++ kind ∷ text_key bytes.now) }
-    ensures kept { Extends buf.old.items buf.new.items }
-    ensures full { OnErr result
-        (vec_capacity buf.old < vec_len buf.old + length (kind ∷ text_key bytes.now)) }
-    ensures capacity { vec_capacity buf.old ≤ vec_capacity buf.new }
+    ensures appends { Appends result buf.old buf.new (kind ∷ text_key bytes.now) }
 {
     buf.extend_from_slice(&[kind])?;
     append_closed(bytes, buf)
@@ -166,11 +142,7 @@ fn append_text(kind: u8, bytes: &[u8], buf: &mut Vec<u8>) -> Appended
 
 // Appends a text and what closes it.
 pub(crate) fn append_closed(bytes: &[u8], buf: &mut Vec<u8>) -> Appended
-    ensures ok { OnOk result (buf.new.items ≡ buf.old.items ++ text_key bytes.now) }
-    ensures kept { Extends buf.old.items buf.new.items }
-    ensures full { OnErr result
-        (vec_capacity buf.old < vec_len buf.old + length (text_key bytes.now)) }
-    ensures capacity { vec_capacity buf.old ≤ vec_capacity buf.new }
+    ensures appends { Appends result buf.old buf.new (text_key bytes.now) }
 {
     append_escaped(bytes, buf)?;
     buf.extend_from_slice(&[0, 1])
@@ -179,11 +151,7 @@ pub(crate) fn append_closed(bytes: &[u8], buf: &mut Vec<u8>) -> Appended
 // Appends a member's key.
 #[inline(always)]
 fn append_key(key: &String, buf: &mut Vec<u8>) -> Appended
-    ensures ok { OnOk result (buf.new.items ≡ buf.old.items ++ text_key (string_bytes key.now)) }
-    ensures kept { Extends buf.old.items buf.new.items }
-    ensures full { OnErr result
-        (vec_capacity buf.old < vec_len buf.old + length (text_key (string_bytes key.now))) }
-    ensures capacity { vec_capacity buf.old ≤ vec_capacity buf.new }
+    ensures appends { Appends result buf.old buf.new (text_key (string_bytes key.now)) }
 {
     append_closed(key.as_bytes(), buf)
 }
@@ -191,11 +159,7 @@ fn append_key(key: &String, buf: &mut Vec<u8>) -> Appended
 // Appends a text's bytes. Most texts have no byte that their JSON text escapes, and so no zero.
 #[inline(always)]
 fn append_escaped(bytes: &[u8], buf: &mut Vec<u8>) -> Appended
-    ensures ok { OnOk result (buf.new.items ≡ buf.old.items ++ flat_map byte_key bytes.now) }
-    ensures kept { Extends buf.old.items buf.new.items }
-    ensures full { OnErr result
-        (vec_capacity buf.old < vec_len buf.old + length (flat_map byte_key bytes.now)) }
-    ensures capacity { vec_capacity buf.old ≤ vec_capacity buf.new }
+    ensures appends { Appends result buf.old buf.new (flat_map byte_key bytes.now) }
 {
     if !is_plain(bytes) {
         return append_runs(bytes, buf);
@@ -214,11 +178,7 @@ fn is_plain(bytes: &[u8]) -> bool
 // Appends the key of a text's bytes with zeros. Runs between zeros are copied whole.
 #[inline(never)]
 fn append_runs(bytes: &[u8], buf: &mut Vec<u8>) -> Appended
-    ensures ok { OnOk result (buf.new.items ≡ buf.old.items ++ flat_map byte_key bytes.now) }
-    ensures kept { Extends buf.old.items buf.new.items }
-    ensures full { OnErr result
-        (vec_capacity buf.old < vec_len buf.old + length (flat_map byte_key bytes.now)) }
-    ensures capacity { vec_capacity buf.old ≤ vec_capacity buf.new }
+    ensures appends { Appends result buf.old buf.new (flat_map byte_key bytes.now) }
 {
     let mut rest = bytes;
     'runs: loop {
@@ -241,10 +201,7 @@ fn first_zero(bytes: &[u8]) -> usize
 }
 
 fn append_byte(byte: u8, buf: &mut Vec<u8>) -> Appended
-    ensures ok { OnOk result (buf.new.items ≡ buf.old.items ++ byte_key byte) }
-    ensures kept { Extends buf.old.items buf.new.items }
-    ensures full { OnErr result (vec_capacity buf.old < vec_len buf.old + length (byte_key byte)) }
-    ensures capacity { vec_capacity buf.old ≤ vec_capacity buf.new }
+    ensures appends { Appends result buf.old buf.new (byte_key byte) }
 {
     if byte == 0 {
         buf.extend_from_slice(&[0, 255])
@@ -271,46 +228,29 @@ fn key_of_64_bits(value: i64) -> [u8; 8]
 
 // Appends the kind and an integer.
 fn append_32_bits(kind: u8, value: i32, buf: &mut Vec<u8>) -> Appended
-    ensures ok { OnOk result (buf.new.items ≡ buf.old.items ++ kind ∷ key_of_32_bits value) }
-    ensures kept { Extends buf.old.items buf.new.items }
-    ensures full { OnErr result
-        (vec_capacity buf.old < vec_len buf.old + length (kind ∷ key_of_32_bits value)) }
-    ensures capacity { vec_capacity buf.old ≤ vec_capacity buf.new }
+    ensures appends { Appends result buf.old buf.new (kind ∷ key_of_32_bits value) }
 {
     buf.extend_from_slice(&[kind])?;
     buf.extend_from_slice(&key_of_32_bits(value))
 }
 
 fn append_64_bits(kind: u8, value: i64, buf: &mut Vec<u8>) -> Appended
-    ensures ok { OnOk result (buf.new.items ≡ buf.old.items ++ kind ∷ key_of_64_bits value) }
-    ensures kept { Extends buf.old.items buf.new.items }
-    ensures full { OnErr result
-        (vec_capacity buf.old < vec_len buf.old + length (kind ∷ key_of_64_bits value)) }
-    ensures capacity { vec_capacity buf.old ≤ vec_capacity buf.new }
+    ensures appends { Appends result buf.old buf.new (kind ∷ key_of_64_bits value) }
 {
     buf.extend_from_slice(&[kind])?;
     buf.extend_from_slice(&key_of_64_bits(value))
 }
 
 fn append_zoned(offset: i32, micros: i64, buf: &mut Vec<u8>) -> Appended
-    ensures ok { OnOk result
-        (buf.new.items ≡ buf.old.items ++ 0x13 ∷ key_of_32_bits offset ++ key_of_64_bits micros) }
-    ensures kept { Extends buf.old.items buf.new.items }
-    ensures full { OnErr result (vec_capacity buf.old < vec_len buf.old
-        + length (0x13 ∷ key_of_32_bits offset ++ key_of_64_bits micros)) }
-    ensures capacity { vec_capacity buf.old ≤ vec_capacity buf.new }
+    ensures appends { Appends result buf.old buf.new (0x13 ∷ key_of_32_bits offset ++ key_of_64_bits micros) }
 {
     append_32_bits(0x13, offset, buf)?;
     buf.extend_from_slice(&key_of_64_bits(micros))
 }
 
 fn append_interval(months: i32, days: i32, micros: i64, buf: &mut Vec<u8>) -> Appended
-    ensures ok { OnOk result (buf.new.items ≡ buf.old.items
-        ++ 0x14 ∷ key_of_32_bits months ++ (key_of_32_bits days ++ key_of_64_bits micros)) }
-    ensures kept { Extends buf.old.items buf.new.items }
-    ensures full { OnErr result (vec_capacity buf.old < vec_len buf.old
-        + length (0x14 ∷ key_of_32_bits months ++ (key_of_32_bits days ++ key_of_64_bits micros))) }
-    ensures capacity { vec_capacity buf.old ≤ vec_capacity buf.new }
+    ensures appends { Appends result buf.old buf.new
+        (0x14 ∷ key_of_32_bits months ++ (key_of_32_bits days ++ key_of_64_bits micros)) }
 {
     append_32_bits(0x14, months, buf)?;
     buf.extend_from_slice(&key_of_32_bits(days))?;

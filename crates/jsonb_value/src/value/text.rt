@@ -1,11 +1,11 @@
 //! The serialized form of a value: JSON without whitespace.
-ghost use Rattle.std.specs.Prelude.{ℕ, List, true, ◌≡◌, ◌≢◌, ◌↔◌, ◌⊎◌, ◌+◌, ◌<◌, ◌≤◌, ◌++◌, ◌∷◌, [], ◌==◌, if◌then◌else◌, length, take, Some, None, IfErr, IfSome, IsErrOf, OnOk, OnErr, vec_len, string_bytes};
+ghost use Rattle.std.specs.Prelude.{ℕ, List, ◌≡◌, ◌≢◌, ◌↔◌, ◌⊎◌, ◌+◌, ◌<◌, ◌≤◌, ◌++◌, ◌∷◌, [], ◌==◌, if◌then◌else◌, length, take, Some, None, IfErr, IfSome, IsErrOf, OnOk, OnErr, vec_len, string_bytes};
 ghost use Rattle.std.specs.Char.{digit_char};
 ghost use Rattle.std.specs.Int.{w64, trailing_zeros};
 ghost use Rattle.std.specs.List.{flat_map};
 ghost use Rattle.std.specs.Str.{IsUtf8};
 ghost use Rattle.std.specs.Vec.{vec_capacity};
-ghost use Rattle.jsonb_value.specs.Text.Appending.{Extends, comma_before};
+ghost use Rattle.jsonb_value.specs.Text.Appending.{Appends, AppendsAllOrNothing, AppendsIf, comma_before};
 ghost use Rattle.jsonb_value.specs.Text.BinaryText.{binary_text};
 ghost use Rattle.jsonb_value.specs.Text.IntervalText.{interval_text};
 ghost use Rattle.jsonb_value.specs.Keys.{KeysAscend};
@@ -149,14 +149,8 @@ fn members_have_texts<'a>(members: &Object<'a>) -> bool
 #[inline(always)]
 #[cycle(append)]
 fn append<'a>(value: &Value<'a>, buf: &mut Vec<u8>) -> Appended
-    ensures ok { OnOk result (buf.new.items ≡ buf.old.items ++ tree_text (view value.now)) }
-    ensures texts { OnOk result (has_text (view value.now) ≡ true) }
+    ensures appends { AppendsIf (has_text (view value.now)) result buf.old buf.new (tree_text (view value.now)) }
     ensures proper { OnOk result (IsProper (view value.now)) }
-    ensures kept { Extends buf.old.items buf.new.items }
-    // Of a value that has a text, an error says that the capacity for the whole text is missing.
-    ensures full { OnErr result (has_text (view value.now) ≡ true
-        → vec_capacity buf.old < vec_len buf.old + length (tree_text (view value.now))) }
-    ensures capacity { vec_capacity buf.old ≤ vec_capacity buf.new }
 {
     match value {
         Value::Null => buf.extend_from_slice(b"null"),
@@ -175,15 +169,9 @@ fn append<'a>(value: &Value<'a>, buf: &mut Vec<u8>) -> Appended
 
 #[cycle(append)]
 fn append_items<'a>(items: &Vec<Value<'a>>, buf: &mut Vec<u8>) -> Appended
-    ensures ok { OnOk result (buf.new.items
-        ≡ buf.old.items ++ (91 ∷ with_commas (item_texts (trees_view items.now.items)) ++ 93 ∷ [])) }
-    ensures texts { OnOk result (items_have_texts (trees_view items.now.items) ≡ true) }
+    ensures appends { AppendsIf (items_have_texts (trees_view items.now.items)) result buf.old buf.new
+        (91 ∷ with_commas (item_texts (trees_view items.now.items)) ++ 93 ∷ []) }
     ensures proper { OnOk result (AreProper (trees_view items.now.items)) }
-    ensures kept { Extends buf.old.items buf.new.items }
-    ensures full { OnErr result (items_have_texts (trees_view items.now.items) ≡ true
-        → vec_capacity buf.old < vec_len buf.old
-        + length (91 ∷ with_commas (item_texts (trees_view items.now.items)) ++ 93 ∷ [])) }
-    ensures capacity { vec_capacity buf.old ≤ vec_capacity buf.new }
 {
     buf.extend_from_slice(b"[")?;
     let mut is_first = true;
@@ -197,16 +185,10 @@ fn append_items<'a>(items: &Vec<Value<'a>>, buf: &mut Vec<u8>) -> Appended
 
 #[cycle(append)]
 fn append_members<'a>(members: &Object<'a>, buf: &mut Vec<u8>) -> Appended
-    ensures ok { OnOk result (buf.new.items ≡ buf.old.items
-        ++ (123 ∷ with_commas (member_texts (members_view members.now.entries)) ++ 125 ∷ [])) }
-    ensures texts { OnOk result (members_have_texts (members_view members.now.entries) ≡ true) }
+    ensures appends { AppendsIf (members_have_texts (members_view members.now.entries)) result buf.old buf.new
+        (123 ∷ with_commas (member_texts (members_view members.now.entries)) ++ 125 ∷ []) }
     ensures proper { OnOk result (KeysAscend (members_view members.now.entries)
         × HaveProperParts (members_view members.now.entries)) }
-    ensures kept { Extends buf.old.items buf.new.items }
-    ensures full { OnErr result (members_have_texts (members_view members.now.entries) ≡ true
-        → vec_capacity buf.old < vec_len buf.old
-        + length (123 ∷ with_commas (member_texts (members_view members.now.entries)) ++ 125 ∷ [])) }
-    ensures capacity { vec_capacity buf.old ≤ vec_capacity buf.new }
 {
     buf.extend_from_slice(b"{")?;
     let mut is_first = true;
@@ -221,11 +203,7 @@ fn append_members<'a>(members: &Object<'a>, buf: &mut Vec<u8>) -> Appended
 
 // Appends the comma before an item or a member. The first has none.
 fn append_comma(is_first: bool, buf: &mut Vec<u8>) -> Appended
-    ensures ok { OnOk result (buf.new.items ≡ buf.old.items ++ comma_before is_first) }
-    ensures err { OnErr result (buf.new.items ≡ buf.old.items) }
-    ensures full { OnErr result
-        (vec_capacity buf.old < vec_len buf.old + length (comma_before is_first)) }
-    ensures capacity { vec_capacity buf.old ≤ vec_capacity buf.new }
+    ensures appends { AppendsAllOrNothing result buf.old buf.new (comma_before is_first) }
 {
     if is_first {
         Ok(())
@@ -236,24 +214,15 @@ fn append_comma(is_first: bool, buf: &mut Vec<u8>) -> Appended
 
 // Appends a member's key and the colon after it.
 fn append_key(key: &String, buf: &mut Vec<u8>) -> Appended
-    ensures ok { OnOk result (buf.new.items
-        ≡ buf.old.items ++ (quoted_text (string_bytes key.now) ++ 58 ∷ [])) }
+    ensures appends { Appends result buf.old buf.new (quoted_text (string_bytes key.now) ++ 58 ∷ []) }
     ensures utf8 { IsUtf8 (string_bytes key.now) }
-    ensures kept { Extends buf.old.items buf.new.items }
-    ensures full { OnErr result (vec_capacity buf.old < vec_len buf.old
-        + length (quoted_text (string_bytes key.now) ++ 58 ∷ [])) }
-    ensures capacity { vec_capacity buf.old ≤ vec_capacity buf.new }
 {
     append_string(key.as_str(), buf)?;
     buf.extend_from_slice(b":")
 }
 
 fn append_quoted_binary(bytes: &[u8], buf: &mut Vec<u8>) -> Appended
-    ensures ok { OnOk result (buf.new.items ≡ buf.old.items ++ in_quotes (binary_text bytes.now)) }
-    ensures kept { Extends buf.old.items buf.new.items }
-    ensures full { OnErr result
-        (vec_capacity buf.old < vec_len buf.old + length (in_quotes (binary_text bytes.now))) }
-    ensures capacity { vec_capacity buf.old ≤ vec_capacity buf.new }
+    ensures appends { Appends result buf.old buf.new (in_quotes (binary_text bytes.now)) }
 {
     buf.extend_from_slice(b"\"")?;
     append_binary(bytes, buf)?;
@@ -261,12 +230,8 @@ fn append_quoted_binary(bytes: &[u8], buf: &mut Vec<u8>) -> Appended
 }
 
 fn append_quoted_interval(interval: &Interval, buf: &mut Vec<u8>) -> Appended
-    ensures ok { OnOk result (buf.new.items ≡ buf.old.items
-        ++ in_quotes (interval_text interval.now.months interval.now.days interval.now.micros)) }
-    ensures kept { Extends buf.old.items buf.new.items }
-    ensures full { OnErr result (vec_capacity buf.old < vec_len buf.old + length
-        (in_quotes (interval_text interval.now.months interval.now.days interval.now.micros))) }
-    ensures capacity { vec_capacity buf.old ≤ vec_capacity buf.new }
+    ensures appends { Appends result buf.old buf.new
+        (in_quotes (interval_text interval.now.months interval.now.days interval.now.micros)) }
 {
     buf.extend_from_slice(b"\"")?;
     interval.append_text(buf)?;
@@ -275,12 +240,8 @@ fn append_quoted_interval(interval: &Interval, buf: &mut Vec<u8>) -> Appended
 
 // Appends a string or a key in double quotes.
 pub(crate) fn append_string(text: &str, buf: &mut Vec<u8>) -> Appended
-    ensures ok { OnOk result (buf.new.items ≡ buf.old.items ++ quoted_text text.now) }
+    ensures appends { Appends result buf.old buf.new (quoted_text text.now) }
     ensures utf8 { IsUtf8 text.now }
-    ensures kept { Extends buf.old.items buf.new.items }
-    ensures full { OnErr result
-        (vec_capacity buf.old < vec_len buf.old + length (quoted_text text.now)) }
-    ensures capacity { vec_capacity buf.old ≤ vec_capacity buf.new }
 {
     buf.extend_from_slice(b"\"")?;
     append_escaped(text.as_bytes(), buf)?;
@@ -290,11 +251,7 @@ pub(crate) fn append_string(text: &str, buf: &mut Vec<u8>) -> Appended
 // Appends a string's bytes, which mostly need no escape.
 #[inline(always)]
 fn append_escaped(bytes: &[u8], buf: &mut Vec<u8>) -> Appended
-    ensures ok { OnOk result (buf.new.items ≡ buf.old.items ++ flat_map byte_text bytes.now) }
-    ensures kept { Extends buf.old.items buf.new.items }
-    ensures full { OnErr result
-        (vec_capacity buf.old < vec_len buf.old + length (flat_map byte_text bytes.now)) }
-    ensures capacity { vec_capacity buf.old ≤ vec_capacity buf.new }
+    ensures appends { Appends result buf.old buf.new (flat_map byte_text bytes.now) }
 {
     if run_len(bytes) < bytes.len() {
         return append_runs(bytes, buf);
@@ -305,11 +262,7 @@ fn append_escaped(bytes: &[u8], buf: &mut Vec<u8>) -> Appended
 // Appends a string's bytes with their escapes. Runs between escapes are copied whole.
 #[inline(never)]
 fn append_runs(bytes: &[u8], buf: &mut Vec<u8>) -> Appended
-    ensures ok { OnOk result (buf.new.items ≡ buf.old.items ++ flat_map byte_text bytes.now) }
-    ensures kept { Extends buf.old.items buf.new.items }
-    ensures full { OnErr result
-        (vec_capacity buf.old < vec_len buf.old + length (flat_map byte_text bytes.now)) }
-    ensures capacity { vec_capacity buf.old ≤ vec_capacity buf.new }
+    ensures appends { Appends result buf.old buf.new (flat_map byte_text bytes.now) }
 {
     let mut rest = bytes;
     'runs: loop {
@@ -414,10 +367,7 @@ fn first_set(mask: u64, lanes: usize) -> usize
 
 // Appends a byte of a string, with an escape where it needs one.
 fn append_byte(byte: u8, buf: &mut Vec<u8>) -> Appended
-    ensures ok { OnOk result (buf.new.items ≡ buf.old.items ++ byte_text byte) }
-    ensures err { OnErr result (buf.new.items ≡ buf.old.items) }
-    ensures full { OnErr result (vec_capacity buf.old < vec_len buf.old + length (byte_text byte)) }
-    ensures capacity { vec_capacity buf.old ≤ vec_capacity buf.new }
+    ensures appends { AppendsAllOrNothing result buf.old buf.new (byte_text byte) }
 {
     match byte {
         b'"' => buf.extend_from_slice(b"\\\""),

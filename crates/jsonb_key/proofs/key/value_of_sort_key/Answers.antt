@@ -31,7 +31,7 @@ pub returns-then-ne-clause-invalid : goal.returns-then-ne-clause-invalid
 returns-then-ne-clause-invalid c = λ invalid t readable e.
     let found = c.in_ok-value.ensures.found t readable [] (sym e ∙ sym (append-nil (key_of t))) in
     let key : key_of (view c.in_ok-value.value) ≡ c.args.key.now = found.0 ∙ e in
-    let written = done c.write_sort_key.result (sym c.is_err.ensures.value ∙ c.if-is_err.false) c.write_sort_key.ensures.ok in
+    let written = done c.write_sort_key.result (sym c.is_err.ensures.value ∙ c.if-is_err.false) c.write_sort_key.ensures.appends.ok in
     let same : c.as_slice.result.now ≡ c.args.key.now = c.as_slice.ensures.value ∙ written ∙ ap (λ old. old ++ key_of (view c.in_ok-value.value)) c.in_ok-again.ensures.items ∙ key in
     let clash : true ≡ not true = c.if-ne.ensures ∙ ap (λ bytes. not (bytes_eq bytes c.args.key.now)) same ∙ ap not (equals_itself c.args.key.now) in
     cc

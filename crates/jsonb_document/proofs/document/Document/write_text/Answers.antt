@@ -18,5 +18,5 @@ returns-clause-ok c =
     record {
       bytes = tree_text t;
       is_text = cond-true (has_text t) _ _ has;
-      appended = done c.append.result (sym c.is_err.ensures.value ∙ c.if-is_err.false) c.append.ensures.ok ∙ ap (λ bytes. c.args.buf.now.items ++ bytes) (same_text _ _ c.tree.ensures);
+      appended = done c.append.result (sym c.is_err.ensures.value ∙ c.if-is_err.false) c.append.ensures.appends.ok ∙ ap (λ bytes. c.args.buf.now.items ++ bytes) (same_text _ _ c.tree.ensures);
     }

@@ -1,10 +1,10 @@
-use Rattle.std.proofs.Common.{◌≡◌, ◌+◌, length, take, length-append, length-take, ap, ◌∙◌, arith}
+use Rattle.std.proofs.Common.{◌≡◌, ◌+◌, length, take, length-append, length-take, ap, ◌∙◌, arith, rules}
 use Rattle.jsonb_value.specs.Text.BinaryText.{binary_text}
 use Rattle.jsonb_value.proofs.Appending.BinaryTexts.{length-binary_text}
 use Rattle.jsonb_value.proofs.extension.text.append_binary.Goals as goal
 
-pub returns-in_err-reserve-clause-full : goal.returns-in_err-reserve-clause-full
-returns-in_err-reserve-clause-full c = grind (arith, length-binary_text c.args.bytes.now)
+pub returns-in_err-reserve : goal.returns-in_err-reserve
+returns-in_err-reserve c = record { appends = record { ok = search rules; err = search rules; full = grind (arith, length-binary_text c.args.bytes.now); capacity = search rules } }
 
 -- there is room for the pair, so this exit is never taken
 refused : (c : goal.After-from_residual-in_err-extend_from_slice) → ⊥
@@ -14,8 +14,5 @@ refused c =
     ap length c.bytes.invariant.written ∙ length-append c.args.buf.now.items (binary_text done) in
     omega (arith, count, length-binary_text done, length-take c.bytes.byte-index c.args.bytes.now, c.bytes.invariant.room, c.in_err-extend_from_slice.ensures.full, ap length c.hexadecimal_pair.ensures)
 
-pub returns-in_err-extend_from_slice-clause-err : goal.returns-in_err-extend_from_slice-clause-err
-returns-in_err-extend_from_slice-clause-err c = absurd (refused c)
-
-pub returns-in_err-extend_from_slice-clause-full : goal.returns-in_err-extend_from_slice-clause-full
-returns-in_err-extend_from_slice-clause-full c = absurd (refused c)
+pub returns-in_err-extend_from_slice : goal.returns-in_err-extend_from_slice
+returns-in_err-extend_from_slice c = record { appends = absurd (refused c) }

@@ -17,7 +17,7 @@ done (Ok x) e p = p
 done (Err x) e p = cc
 
 written : (c : Then-is_ok) → c.append.new.buf.items ≡ c.args.buf.now.items ++ tree_text (view c.args.self.now)
-written c = done c.append.result (sym c.is_ok.ensures.value ∙ c.if-is_ok.true) c.append.ensures.ok
+written c = done c.append.result (sym c.is_ok.ensures.value ∙ c.if-is_ok.true) c.append.ensures.appends.ok
 
 proper_tree : (c : Then-is_ok) → IsProper (view c.args.self.now)
 proper_tree c = done c.append.result (sym c.is_ok.ensures.value ∙ c.if-is_ok.true) c.append.ensures.proper

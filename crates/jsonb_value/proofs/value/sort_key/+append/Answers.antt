@@ -1,7 +1,7 @@
 use Rattle.std.proofs.Common.{◌≡◌, List, ◌+◌, [], ◌∷◌, ◌++◌, drop, refl, sym, subst, ap, ◌∙◌, arith, rules, string_bytes}
 use Rattle.jsonb_value.specs.SortKey.{text_key, key_of, items_key, members_key, HaveBounds}
 use Rattle.jsonb_value.specs.View.{view, trees_view, members_view}
-use Rattle.jsonb_value.proofs.Appending.Appended.{begun, goes_on, fits, on_err}
+use Rattle.jsonb_value.proofs.Appending.Appended.{begun, goes_on, fits, on_err, kept_on, appends_rest, extended}
 use Rattle.jsonb_value.proofs.SortKeys.Parts.{next_item, next_member, next_bounded, next_bounded_member}
 use Rattle.jsonb_value.proofs.Values.Members.{Entry}
 use Rattle.jsonb_value.proofs.value.sort_key.+append.Goals as goal
@@ -12,18 +12,18 @@ append_items-items-preserved t c =
     let item = c.item-item.result in
     let rest = items_key (trees_view (drop (c.items.item-index + 1) all)) in
     record {
-      underway = goes_on c.append.new.buf.items (key_of (view item)) rest c.items.invariant.underway (next_item all c.items.item-index item (search rules) (search rules)) c.in_ok-append.ensures.ok;
+      underway = goes_on c.append.new.buf.items (key_of (view item)) rest c.items.invariant.underway (next_item all c.items.item-index item (search rules) (search rules)) c.in_ok-append.ensures.appends.ok;
       bounded = λ others. c.items.invariant.bounded (next_bounded all c.items.item-index item (search rules) (search rules) c.in_ok-append.ensures.bounded others);
       room = omega arith;
     }
 
-pub append_items-returns-in_err-append-clause-full : goal.append_items-returns-in_err-append-clause-full
-append_items-returns-in_err-append-clause-full t c =
+pub append_items-returns-in_err-append-clause-appends : goal.append_items-returns-in_err-append-clause-appends
+append_items-returns-in_err-append-clause-appends t c =
     let all = c.args.items.now.items in
     let item = c.item-item.result in
     let rest = items_key (trees_view (drop (c.items.item-index + 1) all)) in
     let room = fits (key_of (view item)) rest c.items.invariant.underway (next_item all c.items.item-index item (search rules) (search rules)) in
-    on_err c.from_residual-in_err-append.result (omega (arith, room, c.in_err-append.ensures.full))
+    record { ok = search rules; kept = kept_on c.items.invariant.underway c.in_err-append.ensures.appends.kept; full = on_err c.from_residual-in_err-append.result (omega (arith, room, c.in_err-append.ensures.appends.full)); capacity = search rules }
 
 pub append_members-members-preserved : goal.append_members-members-preserved
 append_members-members-preserved t c =
@@ -31,31 +31,31 @@ append_members-members-preserved t c =
     let value = key_of (view c.in-Some.value.now) in
     let rest = members_key (members_view c.next.new.self) in
     let next = next_member c.members.key-iterator c.next.new.self (c.in-Some.key.now, c.in-Some.value.now) c.in-Some.ensures.steps in
-    let due = goes_on c.append_key.new.buf.items key (value ++ rest) c.members.invariant.underway next c.in_ok-append_key.ensures.ok in
+    let due = goes_on c.append_key.new.buf.items key (value ++ rest) c.members.invariant.underway next c.in_ok-append_key.ensures.appends.ok in
     record {
-      underway = goes_on c.append.new.buf.items value rest due refl c.in_ok-append.ensures.ok;
+      underway = goes_on c.append.new.buf.items value rest due refl c.in_ok-append.ensures.appends.ok;
       bounded = λ others. c.members.invariant.bounded (next_bounded_member c.members.key-iterator c.next.new.self (c.in-Some.key.now, c.in-Some.value.now) c.in-Some.ensures.steps c.in_ok-append.ensures.bounded others);
       room = omega arith;
     }
 
-pub append_members-returns-in_err-append_key-clause-full : goal.append_members-returns-in_err-append_key-clause-full
-append_members-returns-in_err-append_key-clause-full t c =
+pub append_members-returns-in_err-append_key-clause-appends : goal.append_members-returns-in_err-append_key-clause-appends
+append_members-returns-in_err-append_key-clause-appends t c =
     let key = text_key (string_bytes c.in-Some.key.now) in
     let value = key_of (view c.in-Some.value.now) in
     let rest = members_key (members_view c.next.new.self) in
     let next = next_member c.members.key-iterator c.next.new.self (c.in-Some.key.now, c.in-Some.value.now) c.in-Some.ensures.steps in
     let room = fits key (value ++ rest) c.members.invariant.underway next in
-    on_err c.from_residual-in_err-append_key.result (omega (arith, room, c.in_err-append_key.ensures.full))
+    record { ok = search rules; kept = kept_on c.members.invariant.underway c.in_err-append_key.ensures.appends.kept; full = on_err c.from_residual-in_err-append_key.result (omega (arith, room, c.in_err-append_key.ensures.appends.full)); capacity = search rules }
 
-pub append_members-returns-in_err-append-clause-full : goal.append_members-returns-in_err-append-clause-full
-append_members-returns-in_err-append-clause-full t c =
+pub append_members-returns-in_err-append-clause-appends : goal.append_members-returns-in_err-append-clause-appends
+append_members-returns-in_err-append-clause-appends t c =
     let key = text_key (string_bytes c.in-Some.key.now) in
     let value = key_of (view c.in-Some.value.now) in
     let rest = members_key (members_view c.next.new.self) in
     let next = next_member c.members.key-iterator c.next.new.self (c.in-Some.key.now, c.in-Some.value.now) c.in-Some.ensures.steps in
-    let due = goes_on c.append_key.new.buf.items key (value ++ rest) c.members.invariant.underway next c.in_ok-append_key.ensures.ok in
+    let due = goes_on c.append_key.new.buf.items key (value ++ rest) c.members.invariant.underway next c.in_ok-append_key.ensures.appends.ok in
     let room = fits value rest due refl in
-    on_err c.from_residual-in_err-append.result (omega (arith, room, c.in_err-append.ensures.full))
+    record { ok = search rules; kept = kept_on due c.in_err-append.ensures.appends.kept; full = on_err c.from_residual-in_err-append.result (omega (arith, room, c.in_err-append.ensures.appends.full)); capacity = search rules }
 
 pub append_members-members-init : goal.append_members-members-init
 append_members-members-init t c =
@@ -67,3 +67,9 @@ append_members-members-init t c =
       bounded = λ parts. subst (λ es. HaveBounds (members_view es)) whole parts;
       room = omega (arith, c.in_ok-extend_from_slice.ensures.capacity);
     }
+
+pub append_members-returns-clause-appends : goal.append_members-returns-clause-appends
+append_members-returns-clause-appends t c =
+    let last = c.extend_from_slice-2.ensures in
+    let end = ap (λ (es : List Entry). members_key (members_view es)) (sym c.in-None.ensures.steps.0) in
+    appends_rest _ c.args.buf.now c.members.buf _ _ _ c.members.invariant.underway c.members.invariant.room (extended c.extend_from_slice-2.result c.members.buf c.extend_from_slice-2.new.self _ _ last.items last.full last.capacity end)

@@ -3,18 +3,18 @@ use Rattle.jsonb_value.specs.Proper.{HaveProperParts}
 use Rattle.jsonb_value.specs.Text.StringText.{quoted_text}
 use Rattle.jsonb_value.specs.Text.{with_commas, item_texts, member_texts, tree_text, members_have_texts}
 use Rattle.jsonb_value.specs.View.{view, trees_view, members_view}
-use Rattle.jsonb_value.proofs.Appending.Appended.{begun, goes_on, fits, on_err}
+use Rattle.jsonb_value.proofs.Appending.Appended.{begun, goes_on, fits, on_err, kept_on}
 use Rattle.jsonb_value.proofs.Values.Accessors.{view-Array, view-Object}
 use Rattle.jsonb_value.proofs.Values.Keys.{KeysAscend-members_view}
 use Rattle.jsonb_value.proofs.Values.Members.{Entry}
 use Rattle.jsonb_value.proofs.Appending.Pieces.{texts_left, comma_done, comma_fits, key_split, key_done, next_item, next_member, next_text, next_member_text, texts_left_have, first_has_text, next_proper, next_proper_member}
 use Rattle.jsonb_value.proofs.value.text.+append.Goals as goal
 
-pub append-returns-in-Array-clause-full : goal.append-returns-in-Array-clause-full
-append-returns-in-Array-clause-full t c = rw (ap view c.in-Array.is ∙ view-Array c.in-Array.items) c.append_items.ensures.full
+pub append-returns-in-Array-clause-appends : goal.append-returns-in-Array-clause-appends
+append-returns-in-Array-clause-appends t c = rw (ap view c.in-Array.is ∙ view-Array c.in-Array.items) c.append_items.ensures.appends
 
-pub append-returns-in-Object-clause-full : goal.append-returns-in-Object-clause-full
-append-returns-in-Object-clause-full t c = rw (ap view c.in-Object.is ∙ view-Object c.in-Object.members) c.append_members.ensures.full
+pub append-returns-in-Object-clause-appends : goal.append-returns-in-Object-clause-appends
+append-returns-in-Object-clause-appends t c = rw (ap view c.in-Object.is ∙ view-Object c.in-Object.members) c.append_members.ensures.appends
 
 pub append_items-items-preserved : goal.append_items-items-preserved
 append_items-items-preserved t c =
@@ -22,24 +22,24 @@ append_items-items-preserved t c =
     let item = c.item-item.result in
     let rest = texts_left false (item_texts (trees_view (drop (c.items.item-index + 1) all))) ++ 93 ∷ [] in
     let next = next_item all c.items.item-index item (search rules) (search rules) in
-    let due = comma_done c.items.is_first _ _ _ _ (93 ∷ []) c.append_comma.new.buf.items _ _ next c.items.invariant.underway c.in_ok-append_comma.ensures.ok in
+    let due = comma_done c.items.is_first _ _ _ _ (93 ∷ []) c.append_comma.new.buf.items _ _ next c.items.invariant.underway c.in_ok-append_comma.ensures.appends.ok in
     record {
-      underway = goes_on c.append.new.buf.items (tree_text (view item)) rest due refl c.in_ok-append.ensures.ok;
-      texts = texts_left_have _ _ _ _ c.items.invariant.texts (next_text all c.items.item-index item (search rules) (search rules)) c.in_ok-append.ensures.texts;
+      underway = goes_on c.append.new.buf.items (tree_text (view item)) rest due refl c.in_ok-append.ensures.appends.ok;
+      texts = texts_left_have _ _ _ _ c.items.invariant.texts (next_text all c.items.item-index item (search rules) (search rules)) c.in_ok-append.ensures.appends.holds;
       proper = λ others. c.items.invariant.proper (next_proper all c.items.item-index item (search rules) (search rules) c.in_ok-append.ensures.proper others);
       room = omega arith;
     }
 
-pub append_items-returns-in_err-append-clause-full : goal.append_items-returns-in_err-append-clause-full
-append_items-returns-in_err-append-clause-full t c =
+pub append_items-returns-in_err-append-clause-appends : goal.append_items-returns-in_err-append-clause-appends
+append_items-returns-in_err-append-clause-appends t c =
     let all = c.args.items.now.items in
     let item = c.item-item.result in
     let rest = texts_left false (item_texts (trees_view (drop (c.items.item-index + 1) all))) ++ 93 ∷ [] in
     let next = next_item all c.items.item-index item (search rules) (search rules) in
-    let due = comma_done c.items.is_first _ _ _ _ (93 ∷ []) c.append_comma.new.buf.items _ _ next c.items.invariant.underway c.in_ok-append_comma.ensures.ok in
+    let due = comma_done c.items.is_first _ _ _ _ (93 ∷ []) c.append_comma.new.buf.items _ _ next c.items.invariant.underway c.in_ok-append_comma.ensures.appends.ok in
     let room = fits (tree_text (view item)) rest due refl in
     let first = next_text all c.items.item-index item (search rules) (search rules) in
-    on_err c.from_residual-in_err-append.result (λ texts. omega (arith, room, c.in_err-append.ensures.full (first_has_text _ _ _ _ c.items.invariant.texts first texts)))
+    record { ok = search rules; holds = search rules; kept = kept_on due c.in_err-append.ensures.appends.kept; full = on_err c.from_residual-in_err-append.result (λ texts. omega (arith, room, c.in_err-append.ensures.appends.full (first_has_text _ _ _ _ c.items.invariant.texts first texts))); capacity = search rules }
 
 pub append_members-members-preserved : goal.append_members-members-preserved
 append_members-members-preserved t c =
@@ -47,36 +47,36 @@ append_members-members-preserved t c =
     let value = tree_text (view c.in-Some.value.now) in
     let rest = texts_left false (member_texts (members_view c.next.new.self)) ++ 125 ∷ [] in
     let next = next_member c.members.key-iterator c.next.new.self (c.in-Some.key.now, c.in-Some.value.now) c.in-Some.ensures.steps in
-    let due = comma_done c.members.is_first _ _ _ _ (125 ∷ []) c.append_comma.new.buf.items _ _ next c.members.invariant.underway c.in_ok-append_comma.ensures.ok in
-    let due = key_done _ _ _ (quoted_text key) value rest c.append_key.new.buf.items due c.in_ok-append_key.ensures.ok in
+    let due = comma_done c.members.is_first _ _ _ _ (125 ∷ []) c.append_comma.new.buf.items _ _ next c.members.invariant.underway c.in_ok-append_comma.ensures.appends.ok in
+    let due = key_done _ _ _ (quoted_text key) value rest c.append_key.new.buf.items due c.in_ok-append_key.ensures.appends.ok in
     record {
-      underway = goes_on c.append.new.buf.items value rest due refl c.in_ok-append.ensures.ok;
-      texts = texts_left_have _ _ _ _ c.members.invariant.texts (next_member_text c.members.key-iterator c.next.new.self (c.in-Some.key.now, c.in-Some.value.now) c.in-Some.ensures.steps) c.in_ok-append.ensures.texts;
+      underway = goes_on c.append.new.buf.items value rest due refl c.in_ok-append.ensures.appends.ok;
+      texts = texts_left_have _ _ _ _ c.members.invariant.texts (next_member_text c.members.key-iterator c.next.new.self (c.in-Some.key.now, c.in-Some.value.now) c.in-Some.ensures.steps) c.in_ok-append.ensures.appends.holds;
       proper = λ others. c.members.invariant.proper (next_proper_member c.members.key-iterator c.next.new.self (c.in-Some.key.now, c.in-Some.value.now) c.in-Some.ensures.steps c.in_ok-append_key.ensures.utf8 c.in_ok-append.ensures.proper others);
       room = omega arith;
     }
 
-pub append_members-returns-in_err-append_key-clause-full : goal.append_members-returns-in_err-append_key-clause-full
-append_members-returns-in_err-append_key-clause-full t c =
+pub append_members-returns-in_err-append_key-clause-appends : goal.append_members-returns-in_err-append_key-clause-appends
+append_members-returns-in_err-append_key-clause-appends t c =
     let key = string_bytes c.in-Some.key.now in
     let value = tree_text (view c.in-Some.value.now) in
     let rest = texts_left false (member_texts (members_view c.next.new.self)) ++ 125 ∷ [] in
     let next = next_member c.members.key-iterator c.next.new.self (c.in-Some.key.now, c.in-Some.value.now) c.in-Some.ensures.steps in
-    let due = comma_done c.members.is_first _ _ _ _ (125 ∷ []) c.append_comma.new.buf.items _ _ next c.members.invariant.underway c.in_ok-append_comma.ensures.ok in
+    let due = comma_done c.members.is_first _ _ _ _ (125 ∷ []) c.append_comma.new.buf.items _ _ next c.members.invariant.underway c.in_ok-append_comma.ensures.appends.ok in
     let room = fits (quoted_text key ++ 58 ∷ []) (value ++ rest) due (key_split (quoted_text key) value rest) in
-    on_err c.from_residual-in_err-append_key.result (λ texts. omega (arith, room, c.in_err-append_key.ensures.full))
+    record { ok = search rules; holds = search rules; kept = kept_on due c.in_err-append_key.ensures.appends.kept; full = on_err c.from_residual-in_err-append_key.result (λ texts. omega (arith, room, c.in_err-append_key.ensures.appends.full)); capacity = search rules }
 
-pub append_members-returns-in_err-append-clause-full : goal.append_members-returns-in_err-append-clause-full
-append_members-returns-in_err-append-clause-full t c =
+pub append_members-returns-in_err-append-clause-appends : goal.append_members-returns-in_err-append-clause-appends
+append_members-returns-in_err-append-clause-appends t c =
     let key = string_bytes c.in-Some.key.now in
     let value = tree_text (view c.in-Some.value.now) in
     let rest = texts_left false (member_texts (members_view c.next.new.self)) ++ 125 ∷ [] in
     let next = next_member c.members.key-iterator c.next.new.self (c.in-Some.key.now, c.in-Some.value.now) c.in-Some.ensures.steps in
-    let due = comma_done c.members.is_first _ _ _ _ (125 ∷ []) c.append_comma.new.buf.items _ _ next c.members.invariant.underway c.in_ok-append_comma.ensures.ok in
-    let due = key_done _ _ _ (quoted_text key) value rest c.append_key.new.buf.items due c.in_ok-append_key.ensures.ok in
+    let due = comma_done c.members.is_first _ _ _ _ (125 ∷ []) c.append_comma.new.buf.items _ _ next c.members.invariant.underway c.in_ok-append_comma.ensures.appends.ok in
+    let due = key_done _ _ _ (quoted_text key) value rest c.append_key.new.buf.items due c.in_ok-append_key.ensures.appends.ok in
     let room = fits value rest due refl in
     let first = next_member_text c.members.key-iterator c.next.new.self (c.in-Some.key.now, c.in-Some.value.now) c.in-Some.ensures.steps in
-    on_err c.from_residual-in_err-append.result (λ texts. omega (arith, room, c.in_err-append.ensures.full (first_has_text _ _ _ _ c.members.invariant.texts first texts)))
+    record { ok = search rules; holds = search rules; kept = kept_on due c.in_err-append.ensures.appends.kept; full = on_err c.from_residual-in_err-append.result (λ texts. omega (arith, room, c.in_err-append.ensures.appends.full (first_has_text _ _ _ _ c.members.invariant.texts first texts))); capacity = search rules }
 
 pub append_members-members-init : goal.append_members-members-init
 append_members-members-init t c =
@@ -91,8 +91,8 @@ append_members-members-init t c =
       room = omega (arith, c.in_ok-extend_from_slice.ensures.capacity);
     }
 
-pub append_members-returns-in_err-append_comma-clause-full : goal.append_members-returns-in_err-append_comma-clause-full
-append_members-returns-in_err-append_comma-clause-full t c =
+pub append_members-returns-in_err-append_comma-clause-appends : goal.append_members-returns-in_err-append_comma-clause-appends
+append_members-returns-in_err-append_comma-clause-appends t c =
     let next = next_member c.members.key-iterator c.next.new.self (c.in-Some.key.now, c.in-Some.value.now) c.in-Some.ensures.steps in
     let room = comma_fits c.members.is_first _ _ _ _ (125 ∷ []) _ _ next c.members.invariant.underway in
-    on_err c.from_residual-in_err-append_comma.result (λ texts. omega (arith, room, c.in_err-append_comma.ensures.full))
+    record { ok = search rules; holds = search rules; kept = search rules; full = on_err c.from_residual-in_err-append_comma.result (λ texts. omega (arith, room, c.in_err-append_comma.ensures.appends.full)); capacity = search rules }
