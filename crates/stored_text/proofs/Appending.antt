@@ -1,18 +1,11 @@
 -- Bytes that are appended to a buffer, one piece after the other.
-use Rattle.std.proofs.Common.{◌≡◌, ℕ, ◌+◌, ◌<◌, ◌≤◌, List, [], ◌++◌, length, Result, Ok, Err, is_ok, if◌then◌else◌, OnErr, sym, ap, ◌∙◌, arith, append-nil, append_assoc, length-append}
+use Rattle.std.proofs.Common.{◌≡◌, ℕ, ◌+◌, ◌<◌, ◌≤◌, List, [], ◌++◌, length, Result, Ok, Err, sym, ap, ◌∙◌, arith, append-nil, append_assoc, length-append}
 use Rattle.std.specs.Prelude.{IsErrAnd, Vec, vec_len, vec_capacity}
 use Rattle.std.specs.declared.alloc.Global.{Global}
 use Rattle.jsonb_key.specs.declared.key.KeyError.{KeyError}
 use Rattle.jsonb_key.specs.declared.key.KeyError.TheVariants.{OutOfMemory}
-use Rattle.stored_text.specs.Writes.{Appends, Keeps, Writes}
-
--- what a call of `extend_from_slice` appends
-pub extended : {X E : Type 0} (r : Result X E) (old new : Vec ℕ Global) (bytes text : List ℕ) → new.items ≡ (if is_ok r then old.items ++ bytes else old.items) → OnErr r (vec_capacity old < vec_len old + length bytes) → vec_capacity old ≤ vec_capacity new → bytes ≡ text → Appends r old new text
-extended (Ok x) old new bytes text items full capacity same =
-    let is = items ∙ ap (λ t. old.items ++ t) same in
-    record { ok = is; kept = record { more = text; extended = is }; full = tt; capacity = capacity }
-extended (Err x) old new bytes text items full capacity same =
-    record { ok = tt; kept = record { more = []; extended = items ∙ sym (append-nil old.items) }; full = omega (arith, full, ap length same); capacity = capacity }
+use Rattle.jsonb_value.specs.Text.Appending.{Appends}
+use Rattle.stored_text.specs.Writes.{Keeps, Writes}
 
 -- ---- two pieces
 

@@ -1,6 +1,6 @@
 -- What is appended while a key is walked.
 -- Read for: private.
-use Rattle.std.specs.Prelude.{◌≡◌, ◌≢◌, ℕ, zero, suc, ◌+◌, ◌-◌, ◌/◌, ◌%◌, ◌<◌, ◌≤◌, Bool, true, false, nat_lt, if◌then◌else◌, List, [], ◌∷◌, ◌++◌, length, take, replicate, slice_range, OnOk, OnErr, MatchResult, Result, Vec, vec_len, vec_capacity}
+use Rattle.std.specs.Prelude.{◌≡◌, ◌≢◌, ℕ, zero, suc, ◌+◌, ◌-◌, ◌/◌, ◌%◌, ◌<◌, ◌≤◌, Bool, true, false, nat_lt, if◌then◌else◌, List, [], ◌∷◌, ◌++◌, length, take, replicate, slice_range, MatchResult, Result, Vec, vec_len, vec_capacity}
 use Rattle.std.specs.declared.alloc.Global.{Global}
 use Rattle.jsonb_key.specs.declared.key.KeyError.{KeyError}
 use Rattle.jsonb_key.specs.declared.key.KeyError.TheVariants.{OutOfMemory}
@@ -13,13 +13,6 @@ use Rattle.jsonb_value.specs.Text.{tree_text}
 use Rattle.jsonb_value.specs.Tree.{Tree, Trees, no_trees, more_trees, Members, no_members, more_members}
 use Rattle.jsonb_write.specs.PartAt.{zero_digit}
 use Rattle.stored_text.specs.FewestDigits.{with_fewest_digits}
-
--- The bytes are appended. Else the capacity for all of them is missing, and a part of them may be there.
-pub record Appends {X E : Type 0} (result : Result X E) (old new : Vec ℕ Global) (bytes : List ℕ) : Type 0 where
-  pub ok : OnOk result (new.items ≡ old.items ++ bytes)
-  pub kept : Extends old.items new.items
-  pub full : OnErr result (vec_capacity old < vec_len old + length bytes)
-  pub capacity : vec_capacity old ≤ vec_capacity new
 
 -- Nothing that was there is lost.
 pub record Keeps (old new : Vec ℕ Global) : Type 0 where

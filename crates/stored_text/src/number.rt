@@ -3,10 +3,11 @@ ghost use Rattle.std.specs.Prelude.{◌≡◌, ◌+◌, ◌*◌, ◌/◌, ◌%�
 ghost use Rattle.std.specs.Fmt.{sign_text};
 ghost use Rattle.jsonb_value.specs.Proper.{IsProperNumber};
 ghost use Rattle.jsonb_value.specs.SortKey.{number_key, digits_key, turned};
+ghost use Rattle.jsonb_value.specs.Text.Appending.{Appends};
 ghost use Rattle.jsonb_value.specs.Text.NumberText.{number_text};
 ghost use Rattle.jsonb_value.specs.Tree.{Num};
 ghost use Rattle.stored_text.specs.FewestDigits.{fewest_digits};
-ghost use Rattle.stored_text.specs.Writes.{Appends, IsSpelled, Keeps, Writes, placed_text};
+ghost use Rattle.stored_text.specs.Writes.{IsSpelled, Keeps, Writes, placed_text};
 
 use crate::append::append_chunk;
 use jsonb_key::KeyError;

@@ -3,9 +3,10 @@ ghost use Rattle.std.specs.Prelude.{◌≡◌, ◌<◌, ◌≤◌, ◌++◌, ℕ
 ghost use Rattle.std.specs.Char.{digit_char};
 ghost use Rattle.std.specs.List.{flat_map};
 ghost use Rattle.jsonb_value.specs.SortKey.{text_key};
+ghost use Rattle.jsonb_value.specs.Text.Appending.{Appends};
 ghost use Rattle.jsonb_value.specs.Text.StringText.{byte_text, control_text};
 ghost use Rattle.jsonb_write.specs.PlainText.{ArePlain};
-ghost use Rattle.stored_text.specs.Writes.{Appends, Keeps, Writes, closing_quote};
+ghost use Rattle.stored_text.specs.Writes.{Keeps, Writes, closing_quote};
 
 use crate::append::{append_chunk, append_first};
 use jsonb_key::KeyError;

@@ -6,10 +6,10 @@ ghost use Rattle.jsonb_key.specs.Readable.{IsReadable, IsReadableAt};
 ghost use Rattle.jsonb_stored.specs.Open.{Open, is_object, open_key, IsOpen, name_key, IsScalar};
 ghost use Rattle.jsonb_value.specs.SortKey.{key_of};
 ghost use Rattle.jsonb_value.specs.Text.{tree_text};
-ghost use Rattle.jsonb_value.specs.Text.Appending.{comma_before};
+ghost use Rattle.jsonb_value.specs.Text.Appending.{Appends, comma_before};
 ghost use Rattle.jsonb_value.specs.Tree.{Tree};
 ghost use Rattle.stored_text.specs.FewestDigits.{AppendsTextOf, with_fewest_digits};
-ghost use Rattle.stored_text.specs.Writes.{Appends, Keeps, Writes, name_text, opening_text, open_text, closing_text, value_text};
+ghost use Rattle.stored_text.specs.Writes.{Keeps, Writes, name_text, opening_text, open_text, closing_text, value_text};
 
 use crate::number::append_number;
 use crate::string::append_text;
