@@ -6,10 +6,11 @@ use Rattle.jsonb_key.specs.Readable.{IsAnyNumber}
 use Rattle.jsonb_stored.specs.Open.{name_key}
 use Rattle.jsonb_value.specs.Grammar.{max_depth}
 use Rattle.jsonb_value.specs.SortKey.{key_of}
+use Rattle.jsonb_value.specs.Text.Appending.{AppendsAllOrNothing}
 use Rattle.jsonb_value.specs.Text.Range.{IsWithin}
 use Rattle.jsonb_value.specs.Tree.{Tree}
 use Rattle.stored_edit.specs.Edit.{Outcome, becomes, changed_at, set_to, AppendsKey, Edits}
-use Rattle.stored_edit.specs.Spots.{Answers, Appends, SpotIn, Stands}
+use Rattle.stored_edit.specs.Spots.{Answers, SpotIn, Stands}
 use Rattle.stored_edit.specs.declared.error.EditError.{EditError}
 use Rattle.stored_edit.specs.declared.place.Place.{Place}
 use Rattle.stored_edit.specs.declared.spot.Spot.{Spot}
@@ -38,11 +39,11 @@ put_answered P changed object asked key room spot s u change is then = go (chang
     go None h = h
     go (Some v) h = then v h.0 h.1
 
-pub appended : (r : Result (Unit {0}) AllocError) (old new : Vec ℕ Global) (bytes : List ℕ) → is_err r ≡ false → Appends r old new bytes → new.items ≡ old.items ++ bytes
+pub appended : (r : Result (Unit {0}) AllocError) (old new : Vec ℕ Global) (bytes : List ℕ) → is_err r ≡ false → AppendsAllOrNothing r old new bytes → new.items ≡ old.items ++ bytes
 appended (Ok x) old new bytes e a = a.ok
 appended (Err x) old new bytes e a = absurd (false_true (sym e))
 
-pub lacking : (r : Result (Unit {0}) AllocError) (old new : Vec ℕ Global) (bytes : List ℕ) → is_err r ≡ true → Appends r old new bytes → vec_capacity old < vec_len old + length bytes
+pub lacking : (r : Result (Unit {0}) AllocError) (old new : Vec ℕ Global) (bytes : List ℕ) → is_err r ≡ true → AppendsAllOrNothing r old new bytes → vec_capacity old < vec_len old + length bytes
 lacking (Ok x) old new bytes e a = absurd (false_true e)
 lacking (Err x) old new bytes e a = a.full
 

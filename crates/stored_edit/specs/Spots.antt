@@ -1,8 +1,6 @@
 -- Where in the bytes a part stands, or would stand.
 -- Read for: private.
-use Rattle.std.specs.Prelude.{◌≡◌, ℕ, ◌↔◌, Bool, true, false, List, ◌++◌, Option, Some, None, option_map, IfSome, ⊤, Result, OnOk, OnErr, Vec, vec_len, ◌+◌, ◌<◌, ◌≤◌, length}
-use Rattle.std.specs.Vec.{vec_capacity}
-use Rattle.std.specs.declared.alloc.Global.{Global}
+use Rattle.std.specs.Prelude.{◌≡◌, ℕ, ◌↔◌, Bool, true, false, List, ◌++◌, Option, Some, None, option_map, IfSome, ⊤}
 use Rattle.jsonb_key.specs.Readable.{IsAnyNumber, IsReadable}
 use Rattle.jsonb_stored.specs.Open.{Open, items, members, name_key}
 use Rattle.jsonb_value.specs.SortKey.{key_of}
@@ -51,10 +49,3 @@ pub record SpotIn {A : Type 0} (key : A → List ℕ) (Fits : A → Type 0) (cha
   pub fits : IfSome there (λ t. IsWithin IsAnyNumber t room)
   pub answers : (change : Option Tree → Outcome)
       → Answers key Fits object name front spot.behind.now room (change there) (changed change)
-
--- The bytes are appended. Else the capacity for all of them is missing, and the buffer is as before.
-pub record Appends {X E : Type 0} (result : Result X E) (old new : Vec ℕ Global) (bytes : List ℕ) : Type 0 where
-  pub ok : OnOk result (new.items ≡ old.items ++ bytes)
-  pub err : OnErr result (new.items ≡ old.items)
-  pub full : OnErr result (vec_capacity old < vec_len old + length bytes)
-  pub capacity : vec_capacity old ≤ vec_capacity new

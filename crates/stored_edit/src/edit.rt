@@ -5,11 +5,12 @@ ghost use Rattle.std.specs.Vec.{vec_capacity};
 ghost use Rattle.jsonb_key.specs.Readable.{IsAnyNumber, IsReadable};
 ghost use Rattle.jsonb_value.specs.Grammar.{max_depth};
 ghost use Rattle.jsonb_value.specs.SortKey.{key_of};
+ghost use Rattle.jsonb_value.specs.Text.Appending.{AppendsAllOrNothing};
 ghost use Rattle.jsonb_value.specs.Text.Range.{IsWithin};
 ghost use Rattle.jsonb_value.specs.Tree.{Tree};
 ghost use Rattle.stored_edit.specs.Edit.{Outcome, becomes, with_part, without_part, AppendsKey, Edits};
 ghost use Rattle.jsonb_stored.specs.Open.{name_key};
-ghost use Rattle.stored_edit.specs.Spots.{Appends, SpotIn, Stands};
+ghost use Rattle.stored_edit.specs.Spots.{SpotIn, Stands};
 
 use crate::error::EditError;
 use crate::fit::fits;
@@ -119,7 +120,7 @@ pub(crate) fn put_part(
 fn write_part(out: &mut Vec<u8>, key: &[u8], place: &Place, part: &[u8]) -> Result<(), AllocError>
     ensures written { (there : Option Tree) → (name front : List ℕ) → key.now ≡ front ++ place.now.spot.entry.now
         → Stands place.now.object name place.now.spot there → (there ≡ None → name ≡ place.now.name.now)
-        → Appends result out.old out.new
+        → AppendsAllOrNothing result out.old out.new
         (front ++ (name_key place.now.object name ++ (part.now ++ place.now.spot.behind.now))) }
     ensures err { OnErr result (out.new.items ≡ out.old.items) }
     ensures capacity { vec_capacity out.old ≤ vec_capacity out.new }

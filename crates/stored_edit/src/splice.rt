@@ -1,17 +1,15 @@
 //! Bytes with others between them, at the end of a buffer.
 
-ghost use Rattle.std.specs.Prelude.{◌≡◌, ◌+◌, ◌<◌, ◌≤◌, ◌++◌, length, OnOk, OnErr, vec_len};
-ghost use Rattle.std.specs.Vec.{vec_capacity};
+ghost use Rattle.std.specs.Prelude.{◌++◌};
 ghost use Rattle.jsonb_value.specs.SortKey.{text_key};
-ghost use Rattle.jsonb_value.specs.Text.Appending.{Extends};
-ghost use Rattle.stored_edit.specs.Spots.{Appends};
+ghost use Rattle.jsonb_value.specs.Text.Appending.{Appends, AppendsAllOrNothing};
 
 use jsonb_value::parts::append_text_key;
 use std::alloc::AllocError;
 
 /// Appends the bytes.
 pub(crate) fn append(out: &mut Vec<u8>, bytes: &[u8]) -> Result<(), AllocError>
-    ensures { Appends result out.old out.new bytes.now }
+    ensures { AppendsAllOrNothing result out.old out.new bytes.now }
 {
     out.extend_from_slice(bytes)
 }
@@ -24,7 +22,7 @@ pub(crate) fn splice(
     second: &[u8],
     behind: &[u8],
 ) -> Result<(), AllocError>
-    ensures { Appends result out.old out.new (front.now ++ (first.now ++ (second.now ++ behind.now))) }
+    ensures { AppendsAllOrNothing result out.old out.new (front.now ++ (first.now ++ (second.now ++ behind.now))) }
 {
     let old_len = out.len();
     let parts = first.len().saturating_add(second.len());
@@ -47,12 +45,7 @@ fn append_four(
     second: &[u8],
     behind: &[u8],
 ) -> Result<(), AllocError>
-    ensures ok { OnOk result
-        (out.new.items ≡ out.old.items ++ (front.now ++ (first.now ++ (second.now ++ behind.now)))) }
-    ensures kept { Extends out.old.items out.new.items }
-    ensures full { OnErr result (vec_capacity out.old
-        < vec_len out.old + length (front.now ++ (first.now ++ (second.now ++ behind.now)))) }
-    ensures capacity { vec_capacity out.old ≤ vec_capacity out.new }
+    ensures appends { Appends result out.old out.new (front.now ++ (first.now ++ (second.now ++ behind.now))) }
 {
     out.extend_from_slice(front)?;
     out.extend_from_slice(first)?;
@@ -68,7 +61,7 @@ pub(crate) fn splice_named(
     part: &[u8],
     behind: &[u8],
 ) -> Result<(), AllocError>
-    ensures { Appends result out.old out.new (front.now ++ (text_key name.now ++ (part.now ++ behind.now))) }
+    ensures { AppendsAllOrNothing result out.old out.new (front.now ++ (text_key name.now ++ (part.now ++ behind.now))) }
 {
     let old_len = out.len();
     let room = front
@@ -90,12 +83,7 @@ fn append_named(
     part: &[u8],
     behind: &[u8],
 ) -> Result<(), AllocError>
-    ensures ok { OnOk result
-        (out.new.items ≡ out.old.items ++ (front.now ++ (text_key name.now ++ (part.now ++ behind.now)))) }
-    ensures kept { Extends out.old.items out.new.items }
-    ensures full { OnErr result (vec_capacity out.old
-        < vec_len out.old + length (front.now ++ (text_key name.now ++ (part.now ++ behind.now)))) }
-    ensures capacity { vec_capacity out.old ≤ vec_capacity out.new }
+    ensures appends { Appends result out.old out.new (front.now ++ (text_key name.now ++ (part.now ++ behind.now))) }
 {
     out.extend_from_slice(front)?;
     append_text_key(name, out)?;

@@ -1,6 +1,6 @@
 use Rattle.std.proofs.Common.{◌++◌, ap, append_assoc, subst, ◌∙◌}
 use Rattle.jsonb_stored.specs.Open.{name_key}
-use Rattle.stored_edit.specs.Spots.{Appends}
+use Rattle.jsonb_value.specs.Text.Appending.{AppendsAllOrNothing}
 use Rattle.stored_edit.proofs.Putting.{value_front}
 use Rattle.stored_edit.proofs.edit.write_part.Goals as goal
 
@@ -9,4 +9,4 @@ returns-then-spot-clause-written c = λ there name front e st named.
     let object = c.args.place.now.object in
     let spot = c.args.place.now.spot in
     let is = c.front.ensures (front ++ name_key object name) (value_front object name front c.args.key.now spot there e st c.if-spot.true) in
-    subst (Appends c.splice.result c.args.out.now c.splice.new.out) (ap (λ f. f ++ (c.args.part.now ++ spot.behind.now)) is ∙ append_assoc front (name_key object name) (c.args.part.now ++ spot.behind.now)) c.splice.ensures
+    subst (AppendsAllOrNothing c.splice.result c.args.out.now c.splice.new.out) (ap (λ f. f ++ (c.args.part.now ++ spot.behind.now)) is ∙ append_assoc front (name_key object name) (c.args.part.now ++ spot.behind.now)) c.splice.ensures
