@@ -2,6 +2,7 @@
 -- Read for: promises.
 use Rattle.std.specs.Prelude.{◌≡◌, ◌≢◌, ◌⊎◌, ℕ, ◌<◌, ◌≤◌, ◌^◌, List, [], ◌∷◌, ◌++◌, length, map, codes, Some, None, Vec}
 use Rattle.std.specs.declared.alloc.Global.{Global}
+use Rattle.jsonb_value.specs.Ascii as ascii
 use Rattle.jsonb.specs.ErrorText.{error_text}
 use Rattle.jsonb.specs.Grammar.{IsDocument, IsNoDocument}
 use Rattle.jsonb.specs.Mode.{extended}
@@ -92,7 +93,7 @@ pub record EncodeLinesRefuses (lines : List (List ℕ)) (refusal : Refusal) : Ty
 pub record AppendsLine (t : Tree) (old new : List ℕ) : Type 0 where
   pub text : List ℕ
   pub is_text : text_of t ≡ Some text
-  pub appended : new ≡ old ++ (text ++ 10 ∷ [])
+  pub appended : new ≡ old ++ (text ++ ascii.line_feed ∷ [])
 
 -- The bytes begin with a frame that the rest follows, and new is old with the line of the frame's tree at its end.
 pub record DecodesLine (bytes rest old new : List ℕ) : Type 0 where

@@ -1,6 +1,7 @@
 -- The open containers of the parser.
 -- Read for: private.
 use Rattle.std.specs.Prelude.{◌≡◌, ◌⊎◌, ℕ, suc, ◌-◌, Bool, true, false, List, [], ◌∷◌, ◌++◌, length, Option, Result, Ok, reverse, not, if◌then◌else◌}
+use Rattle.jsonb_value.specs.Ascii as ascii
 use Rattle.jsonb_value.specs.declared.error.Error.{Error}
 use Rattle.jsonb_value.specs.Grammar.{max_depth}
 use Rattle.jsonb_value.specs.Mode.{Mode}
@@ -25,7 +26,7 @@ use Rattle.jsonb_scan.specs.Open.{elements_so_far, members_so_far}
 
 -- an array or an object begins here
 abbrev pub OpensContainer : List ℕ → Type 0
-OpensContainer bytes = (begins 91 bytes ≡ true) ⊎ (begins 123 bytes ≡ true)
+OpensContainer bytes = (begins ascii.open_bracket bytes ≡ true) ⊎ (begins ascii.open_brace bytes ≡ true)
 
 -- a value that holds no others, or null where an element is left out
 abbrev pub scalar_or_null : ℕ → Mode → List ℕ → Read Tree

@@ -4,6 +4,7 @@ use Rattle.std.specs.Prelude.{◌≡◌, ℕ, ◌+◌, List, [], ◌∷◌, ◌+
 use Rattle.std.specs.Ordering.{nat_cmp}
 use Rattle.std.specs.Cmp.Lexicographic.{slice_cmp}
 use Rattle.std.specs.declared.cmp.Ordering.TheVariants.{Less}
+use Rattle.jsonb_value.specs.Ascii as ascii
 use Rattle.jsonb_value.specs.Grammar.Blanks.{AreLastBlanks, IsBlanks}
 use Rattle.jsonb_value.specs.Mode.{Mode, extended}
 use Rattle.jsonb_value.specs.Grammar.Scalar.{IsKey, IsScalar}
@@ -42,15 +43,18 @@ mutual
   pub data IsValueAt (mode : Mode) (input : List ℕ) : ℕ → Source → ℕ → Type 0 where
     scalar : {from to : ℕ} {t : Tree} → Has input (λ bytes. IsScalar mode bytes t) from to
         → IsValueAt mode input from (source_alone t) to
-    empty_array : {from to : ℕ} → HasByte input 91 from → HasBlanks mode input (from + 1) to → HasByte input 93 to
+    empty_array : {from to : ℕ} → HasByte input ascii.open_bracket from → HasBlanks mode input (from + 1) to
+        → HasByte input ascii.close_bracket to
         → IsValueAt mode input from (array_source_of []) (to + 1)
-    full_array : {from to : ℕ} {ss : List Source} → HasByte input 91 from → AreElementsAt mode input (from + 1) ss to
-        → (HasBlanks mode input (from + 1) to → ⊥) → HasByte input 93 to
+    full_array : {from to : ℕ} {ss : List Source} → HasByte input ascii.open_bracket from
+        → AreElementsAt mode input (from + 1) ss to
+        → (HasBlanks mode input (from + 1) to → ⊥) → HasByte input ascii.close_bracket to
         → IsValueAt mode input from (array_source_of ss) (to + 1)
-    empty_object : {from to : ℕ} → HasByte input 123 from → HasBlanks mode input (from + 1) to → HasByte input 125 to
+    empty_object : {from to : ℕ} → HasByte input ascii.open_brace from → HasBlanks mode input (from + 1) to
+        → HasByte input ascii.close_brace to
         → IsValueAt mode input from (object_source (source_members_of [])) (to + 1)
-    full_object : {from to : ℕ} {written sorted : List Found} → HasByte input 123 from
-        → AreMembersAt mode input (from + 1) written to → HasByte input 125 to
+    full_object : {from to : ℕ} {written sorted : List Found} → HasByte input ascii.open_brace from
+        → AreMembersAt mode input (from + 1) written to → HasByte input ascii.close_brace to
         → IsPermutation written sorted → SourceKeysAscend (source_members_of sorted)
         → IsValueAt mode input from (object_source (source_members_of sorted)) (to + 1)
 
@@ -59,7 +63,7 @@ mutual
     one_element : {from to : ℕ} {s : Source} → IsElementAt mode input from s to
         → AreElementsAt mode input from (s ∷ []) to
     more_elements : {from comma to : ℕ} {s : Source} {others : List Source} → IsElementAt mode input from s comma
-        → HasByte input 44 comma → AreElementsAt mode input (comma + 1) others to
+        → HasByte input ascii.comma comma → AreElementsAt mode input (comma + 1) others to
         → AreElementsAt mode input from (s ∷ others) to
 
   -- A value with blanks round it. In extended mode blanks alone stand for null.
@@ -73,7 +77,7 @@ mutual
   pub data AreMembersAt (mode : Mode) (input : List ℕ) : ℕ → List Found → ℕ → Type 0 where
     one_member : {from to : ℕ} {m : Found} → IsMemberAt mode input from m to → AreMembersAt mode input from (m ∷ []) to
     more_members : {from comma to : ℕ} {m : Found} {others : List Found} → IsMemberAt mode input from m comma
-        → HasByte input 44 comma → AreMembersAt mode input (comma + 1) others to
+        → HasByte input ascii.comma comma → AreMembersAt mode input (comma + 1) others to
         → AreMembersAt mode input from (m ∷ others) to
 
   -- A key, a colon and a value, with blanks round the key and round the value. The index of the member is where its own
@@ -81,7 +85,7 @@ mutual
   pub data IsMemberAt (mode : Mode) (input : List ℕ) : ℕ → Found → ℕ → Type 0 where
     key_and_value : {from begin index colon due end to : ℕ} {key : Mark × List ℕ} {s : Source}
         → HasBlanks mode input from begin → HasKey mode input begin key index → HasBlanks mode input index colon
-        → HasByte input 58 colon → HasBlanks mode input (colon + 1) due → IsValueAt mode input due s end
+        → HasByte input ascii.colon colon → HasBlanks mode input (colon + 1) due → IsValueAt mode input due s end
         → HasBlanks mode input end to → IsMemberAt mode input from (found key s index) to
 
 -- The whole text: a value with blanks round it. In extended mode blanks alone stand for null.

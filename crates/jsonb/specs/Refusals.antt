@@ -4,6 +4,7 @@ use Rattle.std.specs.Prelude.{◌≡◌, ℕ, suc, ◌+◌, ◌<◌, ◌≤◌, 
 use Rattle.std.specs.declared.cmp.Ordering.TheVariants.{Less}
 use Rattle.std.specs.Ordering.{nat_cmp, is_eq}
 use Rattle.std.specs.Cmp.Lexicographic.{slice_cmp}
+use Rattle.jsonb_value.specs.Ascii as ascii
 use Rattle.jsonb_value.specs.declared.error.Error.{Error}
 use Rattle.jsonb_value.specs.declared.error.Error.TheVariants.{Syntax}
 use Rattle.jsonb_value.specs.Grammar.Blanks.{IsBlank, IsBlanks}
@@ -30,7 +31,7 @@ IsSpelling mode bytes t = (depth : ℕ) × Derives mode depth bytes t
 pub data ArePassed {A : Type 0} (Spells : List ℕ → A → Type 0) : List ℕ → List A → Type 0 where
   no_parts : ArePassed Spells [] []
   part_passed : {first rest : List ℕ} {a : A} {others : List A} → Spells first a → ArePassed Spells rest others
-      → ArePassed Spells (first ++ 44 ∷ rest) (a ∷ others)
+      → ArePassed Spells (first ++ ascii.comma ∷ rest) (a ∷ others)
 
 -- The bytes up to where a value is due, with this many arrays and objects open: blanks, and then for each of these its
 -- opening byte, what is passed of it, and blanks. Of an array elements are passed, and of an object members and then a
@@ -39,11 +40,11 @@ pub data IsFront (mode : Mode) : List ℕ → ℕ → Type 0 where
   front_of_blanks : {bytes : List ℕ} → IsBlanks mode bytes → IsFront mode bytes 0
   in_array : {before elements rest : List ℕ} {ts : List Tree} {count : ℕ} → IsBlanks mode before
       → ArePassed (IsElement mode (IsSpelling mode)) elements ts → IsFront mode rest count
-      → IsFront mode (before ++ 91 ∷ (elements ++ rest)) (suc count)
+      → IsFront mode (before ++ ascii.open_bracket ∷ (elements ++ rest)) (suc count)
   in_object : {before members left rest : List ℕ} {key : Mark × List ℕ} {ms : List Member} {count : ℕ}
       → IsBlanks mode before → ArePassed (IsMember mode (IsSpelling mode)) members ms
       → IsPadded mode (IsKey mode) left key → IsFront mode rest count
-      → IsFront mode (before ++ 123 ∷ (members ++ (left ++ 58 ∷ rest))) (suc count)
+      → IsFront mode (before ++ ascii.open_brace ∷ (members ++ (left ++ ascii.colon ∷ rest))) (suc count)
 
 -- A value is due at a byte that begins none, and no blank begins there. The place counts from 1.
 pub record LacksValue (mode : Mode) (input : List ℕ) (place : ℕ) : Type 0 where
@@ -66,7 +67,7 @@ pub record IsTooDeep (mode : Mode) (input : List ℕ) (place : ℕ) : Type 0 whe
   pub whole : input ≡ front ++ byte ∷ others
   pub at_byte : place ≡ length front + 1
   pub is_front : IsFront mode front max_depth
-  pub opens : (byte ≡ 91) ⊎ (byte ≡ 123)
+  pub opens : (byte ≡ ascii.open_bracket) ⊎ (byte ≡ ascii.open_brace)
 
 -- What stands before the place is a document that is no blanks alone. No blank begins at the place, and no longer
 -- beginning of the input is a document.
@@ -114,7 +115,7 @@ pub record RepeatsKey (mode : Mode) (input key : List ℕ) (place : ℕ) : Type 
   pub front : List ℕ
   pub body : List ℕ
   pub others : List ℕ
-  pub whole : input ≡ front ++ 123 ∷ (body ++ 125 ∷ others)
+  pub whole : input ≡ front ++ ascii.open_brace ∷ (body ++ ascii.close_brace ∷ others)
   pub count : ℕ
   pub within : count < max_depth
   pub is_front : IsFront mode front count

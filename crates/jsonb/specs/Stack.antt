@@ -1,6 +1,7 @@
 -- Parsing by the open containers: what remains once a value inside them was parsed.
 -- Read for: private.
 use Rattle.std.specs.Prelude.{ℕ, zero, suc, ◌-◌, Bool, true, false, List, [], ◌∷◌, ◌++◌, length, Ok, map}
+use Rattle.jsonb_value.specs.Ascii as ascii
 use Rattle.jsonb_value.specs.Code.{Code}
 use Rattle.jsonb_value.specs.Code.Code.{expected_array_comma_or_end, expected_colon, expected_object_comma_or_end}
 use Rattle.jsonb_value.specs.Mode.{Mode}
@@ -24,12 +25,12 @@ module _ {A : Type 0} (size : ℕ) (code : Code) (close : ℕ) (part : List ℕ 
   -- from the end of a part on
   abbrev pub parts_after : List A → List ℕ → Read Source
   parts_after front bytes =
-      on_byte 44 bytes (parts_from front) (on_byte close bytes (finish front) (refused size code 0 bytes))
+      on_byte ascii.comma bytes (parts_from front) (on_byte close bytes (finish front) (refused size code 0 bytes))
 
 -- the comma after a part, or the closing byte
 abbrev pub part_end : ℕ → Code → ℕ → List ℕ → Read Bool
 part_end size code close bytes =
-    on_byte 44 bytes (λ rest. Ok (false, rest)) (on_byte close bytes (λ rest. Ok (true, rest))
+    on_byte ascii.comma bytes (λ rest. Ok (false, rest)) (on_byte close bytes (λ rest. Ok (true, rest))
     (refused size code 0 bytes))
 
 abbrev pub array_end : List Source → List ℕ → Read Source
@@ -41,24 +42,29 @@ object_end fs rest = object_or_fault (first_repeat (map spot_of fs)) fs rest
 -- a key with its colon, the place after the key, and what comes after the blanks after the colon
 abbrev pub member_start : ℕ → Mode → List ℕ → Read ((Mark × List ℕ) × ℕ)
 member_start size mode bytes =
-    key_at size mode (skip_blanks mode bytes) >>= λ k. on_byte 58 (skip_blanks mode k.1)
+    key_at size mode (skip_blanks mode bytes) >>= λ k. on_byte ascii.colon (skip_blanks mode k.1)
     (λ rest. Ok ((k.0, size - length k.1), skip_blanks mode rest))
     (refused size expected_colon 0 (skip_blanks mode k.1))
 
 module _ (size : ℕ) (mode : Mode) (depth : ℕ) where
   abbrev pub elements_from : List Source → List ℕ → Read Source
-  elements_from = parts_from size expected_array_comma_or_end 93 (element_at mode (value_at size mode depth)) array_end
+  elements_from =
+      parts_from size expected_array_comma_or_end ascii.close_bracket (element_at mode (value_at size mode depth))
+      array_end
 
   abbrev pub read_members_from : List Found → List ℕ → Read Source
   read_members_from =
-      parts_from size expected_object_comma_or_end 125 (member_at size mode (value_at size mode depth)) object_end
+      parts_from size expected_object_comma_or_end ascii.close_brace (member_at size mode (value_at size mode depth))
+      object_end
 
   -- the rest of a container, from the end of a part on
   abbrev pub resume_after_part : Open → List ℕ → Read Source
   resume_after_part (elements_so_far front) =
-      parts_after size expected_array_comma_or_end 93 (element_at mode (value_at size mode depth)) array_end front
+      parts_after size expected_array_comma_or_end ascii.close_bracket (element_at mode (value_at size mode depth))
+      array_end front
   resume_after_part (members_so_far front key place) =
-      parts_after size expected_object_comma_or_end 125 (member_at size mode (value_at size mode depth)) object_end
+      parts_after size expected_object_comma_or_end ascii.close_brace (member_at size mode (value_at size mode depth))
+      object_end
       front
 
   -- the container, once the value that it waits for was read

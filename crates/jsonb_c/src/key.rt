@@ -13,6 +13,7 @@ ghost use Rattle.jsonb_stored.specs.Open.{Open};
 ghost use Rattle.jsonb_stored.specs.Parts.{kind_of_tree};
 ghost use Rattle.jsonb_value.specs.Accessors.{get_by_name};
 ghost use Rattle.jsonb_value.specs.SortKey.{key_of, text_key};
+ghost use Rattle.jsonb_value.specs.SortKey.Kind as kind;
 ghost use Rattle.jsonb_value.specs.Tree.{Tree};
 ghost use Rattle.jsonb_write.specs.PartAt.{part_at};
 
@@ -382,7 +383,7 @@ pub extern "C" fn vizhoniku_key_string(key: &[u8], out: &mut [u8], size: &mut us
 // Writes the text of a string's key.
 fn write_string(key: &[u8], out: &mut [u8], size: &mut usize) -> u32
     ensures status { (result ≡ ACCEPTED) ⊎ (result ≡ TOO_SHORT) ⊎ (result ≡ NO_KEY) }
-    ensures written { (text : List ℕ) → key.now ≡ 0xD0 ∷ text_key text
+    ensures written { (text : List ℕ) → key.now ≡ kind.string ∷ text_key text
         → IsWritten (Some text) result size.new out.old out.new }
     ensures untouched { result ≢ ACCEPTED → out.new ≡ out.old }
     ensures no_size { result ≢ ACCEPTED → result ≢ TOO_SHORT → size.new ≡ 0 }

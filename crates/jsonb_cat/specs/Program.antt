@@ -2,6 +2,7 @@
 -- Read for: promises.
 use Rattle.std.specs.Prelude.{◌≡◌, ℕ, ◌+◌, ◌<◌, List, [], ◌∷◌, ◌++◌, length, Option, Some, codes}
 use Rattle.std.specs.Io.KnownBytes.{Appends}
+use Rattle.jsonb_value.specs.Ascii as ascii
 use Rattle.jsonb_value.specs.Mode.{Mode, standard, extended}
 use Rattle.jsonb_value.specs.Tree.{Tree}
 use Rattle.jsonb_value.specs.Grammar.{IsDocument}
@@ -18,7 +19,7 @@ pub record IsLineOf (mode : Mode) (input line : List ℕ) : Type 0 where
   pub document : IsDocument mode input tree
   pub text : List ℕ
   pub is_text : text_of tree ≡ Some text
-  pub ended : line ≡ text ++ 10 ∷ []
+  pub ended : line ≡ text ++ ascii.line_feed ∷ []
 
 -- The input is a document, and a buffer of this capacity with this many bytes has no room for its line.
 pub record LacksRoom (mode : Mode) (input : List ℕ) (capacity len : ℕ) : Type 0 where

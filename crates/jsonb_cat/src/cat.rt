@@ -2,6 +2,7 @@
 
 ghost use Rattle.std.specs.Prelude.{◌≡◌, ◌≢◌, ◌↔◌, ◌⊎◌, ℕ, ◌+◌, ◌≤◌, List, [], ◌∷◌, ◌++◌, take, map, vec_len, vec_capacity, string_bytes, MatchOption, OnOk, OnErr, IfOk, IfErr, IfSome, Err};
 ghost use Rattle.std.specs.Io.KnownBytes.{Appends, IsAtEnd};
+ghost use Rattle.jsonb_value.specs.Ascii as ascii;
 ghost use Rattle.jsonb_value.specs.Grammar.{IsNoDocument};
 ghost use Rattle.jsonb_value.specs.Mode.{Mode as GrammarMode};
 ghost use Rattle.jsonb.specs.Parser.{mode_of, Fails, MayAllocate};
@@ -50,8 +51,8 @@ pub fn convert(alloc: Global, mode: Mode, input: &[u8], out: &mut Vec<u8>) -> Re
     ensures exact { IfErr result (λ e. Fails e (document_of (mode_of mode) input.now)) }
     ensures explained { IfErr result (IsExplained (mode_of mode) input.now) }
     // Where the input is what was appended, without the line feed, the same is appended again.
-    ensures again { OnOk result ((text : List ℕ) → out.new.items ≡ out.old.items ++ (text ++ 10 ∷ [])
-        → (line : List ℕ) → IsLineOf (mode_of mode) text line ↔ (line ≡ text ++ 10 ∷ [])) }
+    ensures again { OnOk result ((text : List ℕ) → out.new.items ≡ out.old.items ++ (text ++ ascii.line_feed ∷ [])
+        → (line : List ℕ) → IsLineOf (mode_of mode) text line ↔ (line ≡ text ++ ascii.line_feed ∷ [])) }
 {
     let old_len = out.len();
     append_text(alloc, input, mode, out)?;

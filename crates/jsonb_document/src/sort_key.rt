@@ -2,11 +2,13 @@
 ghost use Rattle.std.specs.Prelude.{◌∷◌};
 ghost use Rattle.std.specs.Cow.{cow_str_bytes};
 ghost use Rattle.jsonb_value.specs.SortKey.{text_key, key_of, items_key, members_key};
+ghost use Rattle.jsonb_value.specs.SortKey.Kind as kind;
 ghost use Rattle.jsonb_value.specs.Text.Appending.{Appends};
 ghost use Rattle.jsonb_document.specs.Listed.{listed_view, listed_items, listed_members};
 
 use jsonb::JsonAst;
 use jsonb_value::parts::{append_number_key, append_text_key};
+use jsonb_value::sort_key::kind;
 use std::alloc::AllocError;
 use std::borrow::CowStr;
 
@@ -20,9 +22,9 @@ pub(crate) fn append<'a>(tree: &JsonAst<'a>, buf: &mut Vec<u8>) -> Appended
     ensures appends { Appends result buf.old buf.new (key_of (listed_view tree.now)) }
 {
     match tree {
-        JsonAst::Null => buf.extend_from_slice(&[0xD3]),
-        JsonAst::Bool(false) => buf.extend_from_slice(&[0x15]),
-        JsonAst::Bool(true) => buf.extend_from_slice(&[0x16]),
+        JsonAst::Null => buf.extend_from_slice(&[kind::NULL]),
+        JsonAst::Bool(false) => buf.extend_from_slice(&[kind::FALSE]),
+        JsonAst::Bool(true) => buf.extend_from_slice(&[kind::TRUE]),
         JsonAst::Number(number) => append_number_key(number, buf),
         JsonAst::String(text) => append_string(text.as_str(), buf),
         JsonAst::Array(items) => append_items(items, buf),
@@ -32,21 +34,21 @@ pub(crate) fn append<'a>(tree: &JsonAst<'a>, buf: &mut Vec<u8>) -> Appended
 
 // Appends a string: its kind and its text.
 fn append_string(text: &str, buf: &mut Vec<u8>) -> Appended
-    ensures appends { Appends result buf.old buf.new (0xD0 ∷ text_key text.now) }
+    ensures appends { Appends result buf.old buf.new (kind.string ∷ text_key text.now) }
 {
-    buf.extend_from_slice(&[0xD0])?;
+    buf.extend_from_slice(&[kind::STRING])?;
     append_text_key(text, buf)
 }
 
 #[cycle(append)]
 fn append_items<'a>(items: &Vec<JsonAst<'a>>, buf: &mut Vec<u8>) -> Appended
-    ensures appends { Appends result buf.old buf.new (0xD2 ∷ items_key (listed_items items.now.items)) }
+    ensures appends { Appends result buf.old buf.new (kind.array ∷ items_key (listed_items items.now.items)) }
 {
-    buf.extend_from_slice(&[0xD2])?;
+    buf.extend_from_slice(&[kind::ARRAY])?;
     'items: for item in items {
         append(item, buf)?;
     }
-    buf.extend_from_slice(&[0])
+    buf.extend_from_slice(&[kind::TERMINATOR])
 }
 
 #[cycle(append)]
@@ -54,14 +56,14 @@ fn append_members<'a>(
     members: &Vec<(CowStr<'a>, JsonAst<'a>, usize)>,
     buf: &mut Vec<u8>,
 ) -> Appended
-    ensures appends { Appends result buf.old buf.new (0xD1 ∷ members_key (listed_members members.now.items)) }
+    ensures appends { Appends result buf.old buf.new (kind.object ∷ members_key (listed_members members.now.items)) }
 {
-    buf.extend_from_slice(&[0xD1])?;
+    buf.extend_from_slice(&[kind::OBJECT])?;
     'members: for member in members {
         append_key(&member.0, buf)?;
         append(&member.1, buf)?;
     }
-    buf.extend_from_slice(&[0, 0])
+    buf.extend_from_slice(&[kind::TERMINATOR, kind::TERMINATOR])
 }
 
 // Appends a member's key.

@@ -1,6 +1,7 @@
 //! The serialized form of a parsed text, in the order of its members.
 ghost use Rattle.std.specs.Prelude.{◌++◌, ◌∷◌, []};
 ghost use Rattle.std.specs.Cow.{cow_str_bytes};
+ghost use Rattle.jsonb_value.specs.Ascii as ascii;
 ghost use Rattle.jsonb_value.specs.Text.Appending.{Appends, AppendsAllOrNothing, comma_before};
 ghost use Rattle.jsonb_value.specs.Text.StringText.{quoted_text};
 ghost use Rattle.jsonb_value.specs.Text.{tree_text, with_commas, item_texts, member_texts};
@@ -34,7 +35,7 @@ pub(crate) fn append<'a>(tree: &JsonAst<'a>, buf: &mut Vec<u8>) -> Appended
 #[cycle(append)]
 fn append_items<'a>(items: &Vec<JsonAst<'a>>, buf: &mut Vec<u8>) -> Appended
     ensures appends { Appends result buf.old buf.new
-        (91 ∷ with_commas (item_texts (listed_items items.now.items)) ++ 93 ∷ []) }
+        (ascii.open_bracket ∷ with_commas (item_texts (listed_items items.now.items)) ++ ascii.close_bracket ∷ []) }
 {
     buf.extend_from_slice(b"[")?;
     let mut is_first = true;
@@ -52,7 +53,7 @@ fn append_members<'a>(
     buf: &mut Vec<u8>,
 ) -> Appended
     ensures appends { Appends result buf.old buf.new
-        (123 ∷ with_commas (member_texts (listed_members members.now.items)) ++ 125 ∷ []) }
+        (ascii.open_brace ∷ with_commas (member_texts (listed_members members.now.items)) ++ ascii.close_brace ∷ []) }
 {
     buf.extend_from_slice(b"{")?;
     let mut is_first = true;
@@ -78,7 +79,7 @@ fn append_comma(is_first: bool, buf: &mut Vec<u8>) -> Appended
 
 // Appends a member's key and the colon after it.
 fn append_key(key: &CowStr, buf: &mut Vec<u8>) -> Appended
-    ensures appends { Appends result buf.old buf.new (quoted_text (cow_str_bytes key.now) ++ 58 ∷ []) }
+    ensures appends { Appends result buf.old buf.new (quoted_text (cow_str_bytes key.now) ++ ascii.colon ∷ []) }
 {
     append_string(key.as_str(), buf)?;
     buf.extend_from_slice(b":")

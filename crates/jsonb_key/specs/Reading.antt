@@ -4,6 +4,7 @@ use Rattle.std.specs.Prelude.{◌≡◌, ◌≢◌, ℕ, ◌+◌, ◌*◌, ◌/�
 use Rattle.jsonb_value.specs.Owned.{owned}
 use Rattle.jsonb_value.specs.Proper.{IsProper}
 use Rattle.jsonb_value.specs.SortKey.{turned}
+use Rattle.jsonb_value.specs.SortKey.Kind as kind
 use Rattle.jsonb_value.specs.Text.Range.{IsWithin}
 use Rattle.jsonb_value.specs.Tree.{Num, Tree}
 use Rattle.jsonb_key.specs.Readable.{HasFewestDigits}
@@ -18,7 +19,7 @@ pub record IsDecodedAt (depth : ℕ) (t : Tree) : Type 0 where
 -- a zero of a text by what follows its first byte, and the bytes after it
 abbrev pub escape_of : List ℕ → Option (ℕ × List ℕ)
 escape_of [] = None
-escape_of (mark ∷ rest) = if mark == 255 then Some (0, rest) else None
+escape_of (mark ∷ rest) = if mark == kind.escaped then Some (0, rest) else None
 
 -- the byte of a text whose key the bytes begin with, and the bytes after it
 abbrev pub byte_of : List ℕ → Option (ℕ × List ℕ)
@@ -63,9 +64,10 @@ second_of negative [] = None
 second_of negative (byte ∷ rest) =
     if nat_lt (turned negative byte) 225 then read_as (turned negative byte) rest else None
 
--- the place of a number's first digit, with 255 added, and the bytes after it
+-- The place of a number's first digit, with 255 added, and the bytes after it. 0x82 stands for 30 zeros behind the
+-- point.
 abbrev pub place_of : Bool → List ℕ → Option (ℕ × List ℕ)
 place_of negative [] = None
 place_of negative (byte ∷ rest) =
-    if turned negative byte == 129 then second_of negative rest
-    else (if nat_lt (turned negative byte) 130 then None else read_as (turned negative byte + 95) rest)
+    if turned negative byte == kind.far_place then second_of negative rest
+    else (if nat_lt (turned negative byte) 0x82 then None else read_as (turned negative byte + 95) rest)

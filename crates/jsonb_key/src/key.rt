@@ -8,6 +8,7 @@ ghost use Rattle.std.specs.List.{All};
 ghost use Rattle.std.specs.Str.{IsUtf8};
 ghost use Rattle.jsonb_value.specs.Grammar.{max_depth};
 ghost use Rattle.jsonb_value.specs.Owned.{owned};
+ghost use Rattle.jsonb_value.specs.SortKey.Kind as kind;
 ghost use Rattle.jsonb_value.specs.Text.Range.{IsWithin};
 ghost use Rattle.jsonb_value.specs.Tree.{Tree, Trees, Members, array, object};
 ghost use Rattle.jsonb_value.specs.View.{view, members_view};
@@ -16,6 +17,7 @@ ghost use Rattle.jsonb_key.specs.Reading.{IsDecodedAt};
 
 use crate::number::read_number;
 use crate::text::{read_text, skip_pair};
+use jsonb_value::sort_key::kind;
 use jsonb_value::value::{Object, Value};
 use std::alloc::{AllocError, AllocFailed, Global};
 use std::borrow::CowStr;
@@ -118,12 +120,12 @@ fn read_value(alloc: Global, depth: u32, bytes: &[u8]) -> Result<(Value<'static>
         return Err(KeyError::Invalid);
     };
     match *first {
-        0x15 => Ok((Value::from(false), rest)),
-        0x16 => Ok((Value::from(true), rest)),
-        0xD0 => read_string(alloc, rest),
-        0xD1 => read_object(alloc, depth, rest),
-        0xD2 => read_array(alloc, depth, rest),
-        0xD3 => Ok((Value::default(), rest)),
+        kind::FALSE => Ok((Value::from(false), rest)),
+        kind::TRUE => Ok((Value::from(true), rest)),
+        kind::STRING => read_string(alloc, rest),
+        kind::OBJECT => read_object(alloc, depth, rest),
+        kind::ARRAY => read_array(alloc, depth, rest),
+        kind::NULL => Ok((Value::default(), rest)),
         _ => match read_number(bytes) {
             Some((number, rest)) => Ok((Value::Number(number), rest)),
             None => Err(KeyError::Invalid),
@@ -133,7 +135,7 @@ fn read_value(alloc: Global, depth: u32, bytes: &[u8]) -> Result<(Value<'static>
 
 fn read_string(alloc: Global, bytes: &[u8]) -> Result<(Value<'static>, &[u8]), KeyError>
     ensures found { (text : List ℕ) → IsUtf8 text → (more : List ℕ) → bytes.now ≡ text_key text ++ more
-        → MatchResult result (λ r. (key_of (view r.0) ≡ 0xD0 ∷ text_key text) × (r.1.now ≡ more))
+        → MatchResult result (λ r. (key_of (view r.0) ≡ kind.string ∷ text_key text) × (r.1.now ≡ more))
         (λ e. e ≡ KeyError.OutOfMemory) }
     ensures shorter { IfOk result (λ r. length r.1.now < length bytes.now) }
     ensures decoded { (depth : ℕ) → IfOk result (λ r. IsDecodedAt depth (view r.0)) }
@@ -145,7 +147,7 @@ fn read_string(alloc: Global, bytes: &[u8]) -> Result<(Value<'static>, &[u8]), K
 #[cycle(read_value)]
 fn read_array(alloc: Global, depth: u32, bytes: &[u8]) -> Result<(Value<'static>, &[u8]), KeyError>
     ensures found { (ts : Trees) → IsReadableAt depth (array ts) → (more : List ℕ) → bytes.now ≡ items_key ts ++ more
-        → MatchResult result (λ r. (key_of (view r.0) ≡ 0xD2 ∷ items_key ts) × (r.1.now ≡ more))
+        → MatchResult result (λ r. (key_of (view r.0) ≡ kind.array ∷ items_key ts) × (r.1.now ≡ more))
         (λ e. e ≡ KeyError.OutOfMemory) }
     ensures shorter { IfOk result (λ r. length r.1.now < length bytes.now) }
     ensures decoded { IfOk result (λ r. IsDecodedAt depth (view r.0)) }
@@ -156,7 +158,7 @@ fn read_array(alloc: Global, depth: u32, bytes: &[u8]) -> Result<(Value<'static>
     let mut items = Vec::new(alloc);
     let mut rest = bytes;
     'items: while let Some((first, others)) = rest.split_first() {
-        if *first == 0 {
+        if *first == kind::TERMINATOR {
             return Ok((Value::from(items), others));
         }
         let (item, others) = read_value(alloc, inner, rest)?;
@@ -170,7 +172,7 @@ fn read_array(alloc: Global, depth: u32, bytes: &[u8]) -> Result<(Value<'static>
 fn read_object(alloc: Global, depth: u32, bytes: &[u8]) -> Result<(Value<'static>, &[u8]), KeyError>
     ensures found { (ms : Members) → IsReadableAt depth (object ms) → (more : List ℕ)
         → bytes.now ≡ members_key ms ++ more
-        → MatchResult result (λ r. (key_of (view r.0) ≡ 0xD1 ∷ members_key ms) × (r.1.now ≡ more))
+        → MatchResult result (λ r. (key_of (view r.0) ≡ kind.object ∷ members_key ms) × (r.1.now ≡ more))
         (λ e. e ≡ KeyError.OutOfMemory) }
     ensures shorter { IfOk result (λ r. length r.1.now < length bytes.now) }
     ensures decoded { IfOk result (λ r. IsDecodedAt depth (view r.0)) }

@@ -13,6 +13,7 @@ ghost use Rattle.jsonb_key.specs.Readable.{HasFewestDigits};
 ghost use Rattle.jsonb_key.specs.Reading.{HasParts, IsDigits, IsLastPair, IsNoLastPair, place_of, second_of};
 
 use jsonb_value::number::{Decimal64, Decimal128, Number};
+use jsonb_value::sort_key::kind;
 
 /// The number whose key the bytes begin with, and the bytes after it.
 pub fn read_number(bytes: &[u8]) -> Option<(Number, &[u8])>
@@ -24,10 +25,10 @@ pub fn read_number(bytes: &[u8]) -> Option<(Number, &[u8])>
     ensures fewest { IfSome result (λ r. HasFewestDigits (number_view r.0)) }
 {
     let (first, rest) = bytes.split_first()?;
-    if *first == 128 {
+    if *first == kind::ZERO {
         return Some((Number::UInt64(0), rest));
     }
-    let negative = *first < 128;
+    let negative = *first < kind::ZERO;
     let (place, rest) = read_place(negative, bytes)?;
     if !begins_with_digit(negative, rest) {
         return None;
@@ -51,10 +52,11 @@ pub fn read_place(negative: bool, bytes: &[u8]) -> Option<(u32, &[u8])>
 {
     let (first, rest) = bytes.split_first()?;
     let byte = turned(negative, *first);
-    if byte == 129 {
+    if byte == kind::FAR_PLACE {
         return read_second(negative, rest);
     }
-    if byte < 130 {
+    // 0x82 stands for 30 zeros behind the point.
+    if byte < 0x82 {
         return None;
     }
     Some((u32::from(byte) + 95, rest))

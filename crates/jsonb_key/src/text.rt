@@ -6,6 +6,7 @@ ghost use Rattle.jsonb_value.specs.SortKey.{text_key};
 ghost use Rattle.jsonb_key.specs.Reading.{byte_of, escape_of};
 
 use crate::key::KeyError;
+use jsonb_value::sort_key::kind;
 use std::alloc::Global;
 
 // The text whose key the bytes begin with, and the bytes after it.
@@ -20,7 +21,7 @@ pub(crate) fn read_text(alloc: Global, bytes: &[u8]) -> Result<(String, &[u8]), 
         text.push(byte)?;
         rest = others;
     }
-    let Some(rest) = skip_pair(1, rest) else {
+    let Some(rest) = skip_pair(kind::TEXT_END, rest) else {
         return Err(KeyError::Invalid);
     };
     let Ok(text) = String::from_utf8(text) else {
@@ -48,7 +49,7 @@ fn read_escape(bytes: &[u8]) -> Option<(u8, &[u8])>
 {
     let (mark, rest) = bytes.split_first()?;
     match *mark {
-        255 => Some((0, rest)),
+        kind::ESCAPED => Some((0, rest)),
         _ => None,
     }
 }

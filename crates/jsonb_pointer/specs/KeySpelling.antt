@@ -1,17 +1,22 @@
 -- A path parsed from left to right.
 -- Read for: private.
 use Rattle.std.specs.Prelude.{◌≡◌, ℕ, List, [], ◌∷◌, ◌++◌, Option, Some, None, if◌then◌else◌, ◌==◌}
+use Rattle.jsonb_value.specs.Ascii as ascii
 use Rattle.jsonb_pointer.specs.Path.{spelled_keys}
 
 -- the byte that an escape stands for by what follows its `~`, and what is left
 abbrev pub escape_of : List ℕ → Option (ℕ × List ℕ)
 escape_of [] = None
-escape_of (letter ∷ rest) = if letter == 48 then Some (126, rest) else if letter == 49 then Some (47, rest) else None
+escape_of (letter ∷ rest) =
+    if letter == ascii.digit_zero then Some (ascii.tilde, rest)
+    else if letter == ascii.digit_one then Some (ascii.slash, rest)
+    else None
 
 -- the byte of a key whose spelling the bytes begin with, and what is left
 abbrev pub byte_of : List ℕ → Option (ℕ × List ℕ)
 byte_of [] = None
-byte_of (byte ∷ rest) = if byte == 47 then None else if byte == 126 then escape_of rest else Some (byte, rest)
+byte_of (byte ∷ rest) =
+    if byte == ascii.slash then None else if byte == ascii.tilde then escape_of rest else Some (byte, rest)
 
 -- The bytes begin with the spelling of these keys, and each path that the bytes spell begins with these keys and goes
 -- on with what the rest spells.

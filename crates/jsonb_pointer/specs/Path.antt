@@ -2,6 +2,7 @@
 -- Read for: promises.
 use Rattle.std.specs.Prelude.{◌≡◌, ◌≢◌, ◌⊎◌, ℕ, List, [], ◌∷◌, ◌++◌, codes, Some, if◌then◌else◌, ◌==◌, IsUtf8}
 use Rattle.std.specs.List.{AllByRecursion}
+use Rattle.jsonb_value.specs.Ascii as ascii
 use Rattle.jsonb.specs.ErrorText.{error_text}
 use Rattle.jsonb.specs.Grammar.{IsDocument, IsNoDocument}
 use Rattle.jsonb.specs.Mode.{extended}
@@ -17,7 +18,7 @@ use Rattle.jsonb_pointer.specs.declared.part.Refusal.TheVariants.{NoPath, NoDocu
 
 -- how a byte of a key is spelled: `~0` is `~`, and `~1` is `/`
 abbrev pub spelled_byte : ℕ → List ℕ
-spelled_byte byte = if byte == 126 then codes "~0" else if byte == 47 then codes "~1" else byte ∷ []
+spelled_byte byte = if byte == ascii.tilde then codes "~0" else if byte == ascii.slash then codes "~1" else byte ∷ []
 
 -- how a key is spelled
 abbrev pub spelled_key : List ℕ → List ℕ
@@ -27,7 +28,7 @@ spelled_key (byte ∷ bytes) = spelled_byte byte ++ spelled_key bytes
 -- how a path is spelled: a slash before each key
 abbrev pub spelled_keys : List (List ℕ) → List ℕ
 spelled_keys [] = []
-spelled_keys (key ∷ keys) = 47 ∷ (spelled_key key ++ spelled_keys keys)
+spelled_keys (key ∷ keys) = ascii.slash ∷ (spelled_key key ++ spelled_keys keys)
 
 -- The bytes spell the path of these keys, each of which is a text.
 pub record IsPath (bytes : List ℕ) (keys : List (List ℕ)) : Type 0 where
@@ -36,7 +37,7 @@ pub record IsPath (bytes : List ℕ) (keys : List (List ℕ)) : Type 0 where
 
 -- the bytes begin as the path of a key does
 abbrev pub StartsKey : List ℕ → Type 0
-StartsKey bytes = (rest : List ℕ) × (bytes ≡ 47 ∷ rest)
+StartsKey bytes = (rest : List ℕ) × (bytes ≡ ascii.slash ∷ rest)
 
 -- The second tree is the part of the first at the path.
 pub record IsPartAt (path : List ℕ) (t part : Tree) : Type 0 where

@@ -1,6 +1,7 @@
 -- The text of a value over lines, and that bytes stand for a value in a mode.
 -- Read for: promises.
 use Rattle.std.specs.Prelude.{ℕ, ◌+◌, List, [], ◌∷◌, ◌++◌, replicate}
+use Rattle.jsonb_value.specs.Ascii as ascii
 use Rattle.jsonb_value.specs.Grammar.{IsDocument}
 use Rattle.jsonb_value.specs.Mode.{Mode}
 use Rattle.jsonb_value.specs.Order.{Same}
@@ -10,7 +11,7 @@ use Rattle.jsonb_value.specs.Tree.{Tree, array, object, Trees, no_trees, more_tr
 
 -- a line feed, and the spaces that the next line begins with
 abbrev pub new_line : ℕ → List ℕ
-new_line margin = 10 ∷ replicate margin 32
+new_line margin = ascii.line_feed ∷ replicate margin ascii.space
 
 -- the lines between two brackets or braces, of which the second is on a line of its own; no lines are `[]` or `{}`
 abbrev pub enclosed : ℕ → ℕ → ℕ → List (List ℕ) → List ℕ
@@ -21,8 +22,10 @@ abbrev mutual
   -- The text of a tree that has one, whose lines but the first begin with the margin or more: that of `tree_text`, with
   -- each item and each member on a line of its own, at `indent` spaces more.
   pub indented : ℕ → ℕ → Tree → List ℕ
-  indented indent margin (array ts) = enclosed 91 93 margin (item_lines indent (margin + indent) ts)
-  indented indent margin (object ms) = enclosed 123 125 margin (member_lines indent (margin + indent) ms)
+  indented indent margin (array ts) =
+      enclosed ascii.open_bracket ascii.close_bracket margin (item_lines indent (margin + indent) ts)
+  indented indent margin (object ms) =
+      enclosed ascii.open_brace ascii.close_brace margin (member_lines indent (margin + indent) ms)
   indented indent margin t = tree_text t
 
   -- the lines of an array's items
@@ -34,7 +37,8 @@ abbrev mutual
   pub member_lines : ℕ → ℕ → Members → List (List ℕ)
   member_lines indent margin no_members = []
   member_lines indent margin (more_members key t ms) =
-      (new_line margin ++ (quoted_text key ++ 58 ∷ 32 ∷ indented indent margin t)) ∷ member_lines indent margin ms
+      (new_line margin ++ (quoted_text key ++ ascii.colon ∷ ascii.space ∷ indented indent margin t))
+      ∷ member_lines indent margin ms
 
 -- The bytes are a document of a tree that is the same as t.
 pub record StandsFor (mode : Mode) (bytes : List ℕ) (t : Tree) : Type 0 where

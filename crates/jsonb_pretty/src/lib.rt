@@ -4,6 +4,7 @@
 ghost use Rattle.std.specs.Prelude.{◌≡◌, ◌⊎◌, ◌↔◌, ◌+◌, ◌<◌, ◌≤◌, ◌++◌, ◌∷◌, [], true, length, None, IfOk, IfErr, IsErrOf, OnOk, OnErr, vec_len, string_bytes};
 ghost use Rattle.std.specs.Str.{IsUtf8};
 ghost use Rattle.std.specs.Vec.{vec_capacity};
+ghost use Rattle.jsonb_value.specs.Ascii as ascii;
 ghost use Rattle.jsonb_value.specs.Keys.{KeysAscend};
 ghost use Rattle.jsonb_value.specs.Mode.{Mode};
 ghost use Rattle.jsonb_value.specs.Proper.{IsProper, AreProper, HaveProperParts};
@@ -238,7 +239,8 @@ fn append_line(margin: usize, buf: &mut Vec<u8>) -> Appended
 
 // Appends a member's key, and the colon and the space after it.
 fn append_key(key: &String, buf: &mut Vec<u8>) -> Appended
-    ensures appends { Appends result buf.old buf.new (quoted_text (string_bytes key.now) ++ 58 ∷ 32 ∷ []) }
+    ensures appends { Appends result buf.old buf.new
+        (quoted_text (string_bytes key.now) ++ ascii.colon ∷ ascii.space ∷ []) }
     ensures utf8 { IsUtf8 (string_bytes key.now) }
 {
     append_string(key.as_str(), buf)?;

@@ -1,6 +1,7 @@
 -- The grammar of a mode, and how a result relates to the executable specification.
 -- Read for: promises: `mode_of`, `IsTextRefusal`, `MayAllocate`; `exact`: `Gives`, `Fails`; the rest private.
 use Rattle.std.specs.Prelude.{◌≡◌, ◌⊎◌, ℕ, List, Contains, Result, Ok, Err}
+use Rattle.jsonb_value.specs.Ascii as ascii
 use Rattle.jsonb_value.specs.Mode.{Mode, standard, extended}
 use Rattle.jsonb_value.specs.Code.{code_of}
 use Rattle.jsonb_value.specs.declared.error.Error.{Error}
@@ -38,4 +39,5 @@ IsTextRefusal other = ⊥
 
 -- The input holds a bracket or a brace that opens, or a backslash: a reader that asks for memory has met one.
 abbrev pub MayAllocate : List ℕ → Type 0
-MayAllocate input = Contains input 91 ⊎ (Contains input 123 ⊎ Contains input 92)
+MayAllocate input =
+    Contains input ascii.open_bracket ⊎ (Contains input ascii.open_brace ⊎ Contains input ascii.backslash)

@@ -2,6 +2,7 @@
 -- Read for: private.
 use Rattle.std.specs.Prelude.{◌≡◌, ◌≢◌, ◌⊎◌, ℕ, ◌+◌, ◌≤◌, ◌<◌, ◌^◌, Bool, true, false, List, ◌++◌, length, All, slice_index}
 use Rattle.std.specs.List.{flat_map, AllByRecursion}
+use Rattle.jsonb_value.specs.Ascii as ascii
 use Rattle.jsonb_value.specs.Mode.{Mode}
 use Rattle.jsonb_value.specs.Code.{Code}
 use Rattle.jsonb_value.specs.Grammar.StringBody.{Item, after_u, spelling, IsItem, IsHexDigit, unit_value, meaning}
@@ -12,7 +13,7 @@ pub record SplitsUnit (bytes digits rest : List ℕ) : Type 0 where
   pub braces : Bool
   pub split : bytes ≡ after_u braces digits ++ rest
   pub four : length digits ≡ 4
-  pub bare : braces ≡ false → slice_index digits 0 ≢ 123
+  pub bare : braces ≡ false → slice_index digits 0 ≢ ascii.open_brace
 
 -- the same, where the four bytes are the digits of this value
 pub record ReadsUnit (bytes digits rest : List ℕ) (value : ℕ) : Type 0 where
@@ -36,8 +37,9 @@ pub record IsDecodedUpTo (mode : Mode) (bytes rest : List ℕ) : Type 0 where
 
 -- the letters of escapes in both modes: `"`, `\`, `/`, b, f, n, r and t
 abbrev pub IsShortLetter : ℕ → Type 0
-IsShortLetter letter = (letter ≡ 0x22) ⊎ ((letter ≡ 0x5C) ⊎ ((letter ≡ 0x2F) ⊎ ((letter ≡ 0x62) ⊎ ((letter ≡ 0x66)
-    ⊎ ((letter ≡ 0x6E) ⊎ ((letter ≡ 0x72) ⊎ (letter ≡ 0x74)))))))
+IsShortLetter letter =
+    (letter ≡ ascii.quote) ⊎ ((letter ≡ ascii.backslash) ⊎ ((letter ≡ ascii.slash) ⊎ ((letter ≡ ascii.lower_b)
+    ⊎ ((letter ≡ ascii.lower_f) ⊎ ((letter ≡ ascii.lower_n) ⊎ ((letter ≡ ascii.lower_r) ⊎ (letter ≡ ascii.lower_t)))))))
 
 -- new is old with the text that the items before the rest add
 pub record Adds (mode : Mode) (bytes rest old new : List ℕ) : Type 0 where
@@ -59,11 +61,11 @@ pub record StopsAtEscape (mode : Mode) (bytes : List ℕ) (code : Code) (left : 
 
 -- a backslash is among the first bytes
 abbrev pub SeesBackslash : List ℕ → ℕ → Type 0
-SeesBackslash bytes count = (k : ℕ) × (k < count) × (slice_index bytes k ≡ 92)
+SeesBackslash bytes count = (k : ℕ) × (k < count) × (slice_index bytes k ≡ ascii.backslash)
 
 -- no backslash is among the first bytes
 abbrev pub SeesNoBackslash : List ℕ → ℕ → Type 0
-SeesNoBackslash bytes count = (k : ℕ) → k < count → slice_index bytes k ≢ 92
+SeesNoBackslash bytes count = (k : ℕ) → k < count → slice_index bytes k ≢ ascii.backslash
 
 -- new is old with the bytes before the first backslash, and the rest begins with it or is empty
 pub record CopiesRun (bytes rest old new : List ℕ) : Type 0 where
@@ -71,7 +73,7 @@ pub record CopiesRun (bytes rest old new : List ℕ) : Type 0 where
   pub split : bytes ≡ run ++ rest
   pub clear : SeesNoBackslash run (length run)
   pub appended : new ≡ old ++ run
-  pub begins : 0 < length rest → slice_index rest 0 ≡ 92
+  pub begins : 0 < length rest → slice_index rest 0 ≡ ascii.backslash
 
 -- whether a backslash is among the first bytes
 abbrev pub TellsBackslash : List ℕ → ℕ → Bool → Type 0

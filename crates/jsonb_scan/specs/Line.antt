@@ -2,12 +2,13 @@
 -- Read for: promises.
 use Rattle.std.specs.Prelude.{ℕ, suc, ◌-◌, min, Bool, not, ◌==◌, List, length, take}
 use Rattle.std.specs.List.{count_by, suffix_len}
+use Rattle.jsonb_value.specs.Ascii as ascii
 use Rattle.jsonb_value.specs.Code.{Code}
 use Rattle.jsonb_value.specs.Code.Code.{depth_limit_exceeded, expected_some_ident, expected_some_value, invalid_escaped, invalid_hex, invalid_number_value, invalid_string_value, number_not_carried, object_duplicate_key, object_key_invalid_number, unexpected_end_of_hex_escape, unexpected_trailing_characters}
 
 -- whether a byte is a line feed
 abbrev pub is_line_feed : ℕ → Bool
-is_line_feed byte = byte == 10
+is_line_feed byte = byte == ascii.line_feed
 
 -- one more than the line feeds before the position
 abbrev pub line_at : List ℕ → ℕ → ℕ

@@ -5,6 +5,7 @@ use Rattle.std.specs.Cow.{cow_str_bytes}
 use Rattle.std.specs.Int.{bit_at}
 use Rattle.std.specs.declared.alloc.Global.{Global}
 use Rattle.std.specs.declared.borrow.CowStr.{CowStr}
+use Rattle.jsonb_value.specs.Ascii as ascii
 use Rattle.jsonb_value.specs.Tree.{Mark}
 use Rattle.jsonb_value.specs.Tree.Mark.{escaped as escaped_mark}
 use Rattle.jsonb_value.specs.Mode.{Mode}
@@ -55,11 +56,12 @@ EndsKey bytes (key_ends.At end) = key_end bytes ≡ Ok end
 EndsKey bytes (key_ends.Past at) = (key_end bytes ≡ Err at) × (at < length bytes + 4)
 
 abbrev pub IsQuoteOrBackslash : ℕ → ℕ → Type 0
-IsQuoteOrBackslash quote b = (b ≡ quote) ⊎ (b ≡ 92)
+IsQuoteOrBackslash quote b = (b ≡ quote) ⊎ (b ≡ ascii.backslash)
 
 -- neither is from one index up to another
 abbrev pub IsClear : ℕ → List ℕ → ℕ → ℕ → Type 0
-IsClear quote bytes from to = (k : ℕ) → from ≤ k → k < to → (slice_index bytes k ≢ quote) × (slice_index bytes k ≢ 92)
+IsClear quote bytes from to = (k : ℕ) → from ≤ k → k < to
+    → (slice_index bytes k ≢ quote) × (slice_index bytes k ≢ ascii.backslash)
 
 -- bit k tells whether the byte at + k is the quote or a backslash, of those before end
 pub record TellsMarks (quote : ℕ) (bytes : List ℕ) (at end bits : ℕ) : Type 0 where

@@ -4,6 +4,7 @@ use Rattle.std.specs.Prelude.{◌≡◌, ◌≢◌, ◌<◌, ◌≤◌, ◌*◌,
 use Rattle.std.specs.Ordering.{nat_cmp}
 use Rattle.std.specs.Cmp.Lexicographic.{slice_cmp}
 use Rattle.std.specs.declared.cmp.Ordering.TheVariants.{Less}
+use Rattle.jsonb_value.specs.Ascii as ascii
 use Rattle.jsonb_key.specs.Readable.{IsReadable, IsReadableAt}
 use Rattle.jsonb_stored.specs.Open.{Open, is_object, open_key, IsScalar}
 use Rattle.jsonb_stored.specs.Parts.{opened_tree}
@@ -89,7 +90,7 @@ IsFrame bytes (in_object (Some name)) size = NameAt bytes name size
 
 -- the first bytes are ASCII and no zeros
 abbrev pub ArePlain : List ℕ → ℕ → Type 0
-ArePlain bytes count = (k : ℕ) → k < count → (get_or bytes k 0 ≢ 0) × (get_or bytes k 0 < 128)
+ArePlain bytes count = (k : ℕ) → k < count → (get_or bytes k 0 ≢ 0) × (get_or bytes k 0 < ascii.end)
 
 -- The first zero stands at this index, and the bytes before it are UTF-8.
 pub record Utf8UpTo (bytes : List ℕ) (zero : ℕ) : Type 0 where

@@ -4,6 +4,7 @@ use Rattle.std.specs.Prelude.{ℕ, Bool, true, false, List, [], ◌∷◌, ⊤}
 use Rattle.jsonb_key.specs.Readable.{IsAnyNumber}
 use Rattle.jsonb_value.specs.Proper.{AreProper, HaveProperParts}
 use Rattle.jsonb_value.specs.SortKey.{items_key, members_key, text_key}
+use Rattle.jsonb_value.specs.SortKey.Kind as kind
 use Rattle.jsonb_value.specs.Text.Range.{AreWithin, HaveWithin}
 use Rattle.jsonb_value.specs.Tree.{Tree, array, object, Trees, Members}
 
@@ -29,8 +30,8 @@ IsOpen (members ms) depth = HaveProperParts ms × HaveWithin IsAnyNumber ms dept
 
 -- how an object or an array ends
 abbrev pub end_key : Bool → List ℕ
-end_key true = 0 ∷ 0 ∷ []
-end_key false = 0 ∷ []
+end_key true = kind.terminator ∷ kind.terminator ∷ []
+end_key false = kind.terminator ∷ []
 
 -- the key of a member's name, which an item has none of
 abbrev pub name_key : Bool → List ℕ → List ℕ
@@ -45,5 +46,5 @@ IsScalar t = ⊤
 
 -- the first byte of the key of an object, or of an array
 abbrev pub opening_byte : Bool → ℕ
-opening_byte true = 0xD1
-opening_byte false = 0xD2
+opening_byte true = kind.object
+opening_byte false = kind.array

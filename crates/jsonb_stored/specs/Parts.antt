@@ -4,29 +4,30 @@ use Rattle.std.specs.Prelude.{◌≡◌, ℕ, ◌<◌, ◌⊎◌, List, ◌++◌
 use Rattle.jsonb_write.specs.PartAt.{IsChild, IsAt}
 use Rattle.jsonb_pointer.specs.Path.{IsPartAt}
 use Rattle.jsonb_stored.specs.declared.walk.Kind.{Kind}
-use Rattle.jsonb_stored.specs.declared.walk.Kind.TheVariants as kind
+use Rattle.jsonb_stored.specs.declared.walk.Kind.TheVariants as variants
 use Rattle.jsonb_stored.specs.Open.{Open, items, members}
 use Rattle.jsonb_value.specs.SortKey.{key_of}
+use Rattle.jsonb_value.specs.SortKey.Kind as kind
 use Rattle.jsonb_value.specs.Tree.{Tree, null, boolean, string, number, array, object}
 
 -- the kind of a value of JSON's kinds
 abbrev pub kind_of_tree : Tree → Option Kind
-kind_of_tree null = Some kind.Null
-kind_of_tree (boolean b) = Some kind.Bool
-kind_of_tree (number n) = Some kind.Number
-kind_of_tree (string mark bytes) = Some kind.String
-kind_of_tree (array ts) = Some kind.Array
-kind_of_tree (object ms) = Some kind.Object
+kind_of_tree null = Some variants.Null
+kind_of_tree (boolean b) = Some variants.Bool
+kind_of_tree (number n) = Some variants.Number
+kind_of_tree (string mark bytes) = Some variants.String
+kind_of_tree (array ts) = Some variants.Array
+kind_of_tree (object ms) = Some variants.Object
 kind_of_tree t = None
 
 -- The keys of the kind begin with this byte.
 abbrev pub IsFirstByte : Kind → ℕ → Type 0
-IsFirstByte kind.Bool first = (first ≡ 0x15) ⊎ (first ≡ 0x16)
-IsFirstByte kind.Number first = (0x16 < first) × (first < 0xD0)
-IsFirstByte kind.String first = first ≡ 0xD0
-IsFirstByte kind.Object first = first ≡ 0xD1
-IsFirstByte kind.Array first = first ≡ 0xD2
-IsFirstByte kind.Null first = first ≡ 0xD3
+IsFirstByte variants.Bool first = (first ≡ kind.false) ⊎ (first ≡ kind.true)
+IsFirstByte variants.Number first = (kind.true < first) × (first < kind.string)
+IsFirstByte variants.String first = first ≡ kind.string
+IsFirstByte variants.Object first = first ≡ kind.object
+IsFirstByte variants.Array first = first ≡ kind.array
+IsFirstByte variants.Null first = first ≡ kind.null
 
 -- the array or the object of which all is left
 abbrev pub opened_tree : Open → Tree

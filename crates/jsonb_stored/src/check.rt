@@ -10,6 +10,7 @@ use crate::digits::short_number;
 use crate::skip::{MAX_DEPTH, after_end, after_text, is_word, opening};
 use crate::walk::front;
 use jsonb_key::number::read_number;
+use jsonb_value::sort_key::kind;
 
 // What is kept of each open array and object: that it is an array, that it is an object with no name passed, or else
 // how many bytes there are from the last name on.
@@ -53,7 +54,7 @@ fn checked_scalar(bytes: &[u8]) -> Option<&[u8]>
     let Some((first, rest)) = bytes.split_first() else {
         return None;
     };
-    if *first == 0xD0 {
+    if *first == kind::STRING {
         return checked_text(rest);
     }
     if is_word(*first) {
@@ -87,10 +88,10 @@ fn checked_text(bytes: &[u8]) -> Option<&[u8]>
         let Some((mark, others)) = tail.split_first() else {
             return None;
         };
-        if *mark == 1 {
+        if *mark == kind::TEXT_END {
             return Some(others);
         }
-        if *mark != 255 {
+        if *mark != kind::ESCAPED {
             return None;
         }
         rest = others;

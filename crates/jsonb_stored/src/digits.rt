@@ -4,6 +4,7 @@ ghost use Rattle.std.specs.Prelude.{◌≡◌, ◌<◌, ◌≤◌, ◌⊎◌, �
 ghost use Rattle.jsonb_stored.specs.Frames.{NumberFirst, DigitsFirst};
 
 use jsonb_key::number::{read_place, turned};
+use jsonb_value::sort_key::kind;
 
 // The bytes after the number whose key they begin with, where it has at most 38 digits. Where it has more, or the bytes
 // begin with no number's key, it is `None`.
@@ -12,7 +13,7 @@ pub(crate) fn short_number(bytes: &[u8]) -> Option<&[u8]>
     ensures shorter { IfSome result (λ rest. length rest.now < length bytes.now) }
 {
     let (first, _) = bytes.split_first()?;
-    let negative = *first < 128;
+    let negative = *first < kind::ZERO;
     let (place, digits) = read_place(negative, bytes)?;
     let (count, rest) = short_digits(negative, digits)?;
     // At most 38 digits stand before the point, and at most 255 behind it.

@@ -5,11 +5,13 @@ ghost use Rattle.jsonb_key.specs.Readable.{IsReadable, IsReadableAt};
 ghost use Rattle.jsonb_stored.specs.Open.{Open, is_object, open_key, IsOpen, end_key, name_key, opening_byte, IsScalar};
 ghost use Rattle.jsonb_value.specs.Proper.{IsProperNumber};
 ghost use Rattle.jsonb_value.specs.SortKey.{key_of, number_key, digits_key, text_key, turned};
+ghost use Rattle.jsonb_value.specs.SortKey.Kind as kind;
 ghost use Rattle.jsonb_value.specs.Tree.{Tree, Num};
 
 use crate::ascii::first_zero;
 use jsonb_key::number::{read_place, turned};
 use jsonb_key::text::skip_pair;
+use jsonb_value::sort_key::kind;
 
 /// How many arrays and objects may be open at once.
 pub const MAX_DEPTH: usize = 512;
@@ -30,11 +32,12 @@ pub fn after_key(bytes: &[u8]) -> Option<&[u8]>
 
 /// Whether the first byte of a key is that of an object, where it is that of an object or an array.
 pub fn opening(first: u8) -> Option<bool>
-    ensures { MatchOption result ((first ≢ 0xD1) × (first ≢ 0xD2)) (λ object. first ≡ opening_byte object) }
+    ensures { MatchOption result ((first ≢ kind.object) × (first ≢ kind.array))
+        (λ object. first ≡ opening_byte object) }
 {
     match first {
-        0xD1 => Some(true),
-        0xD2 => Some(false),
+        kind::OBJECT => Some(true),
+        kind::ARRAY => Some(false),
         _ => None,
     }
 }
@@ -46,21 +49,22 @@ pub fn after_scalar(bytes: &[u8]) -> Option<&[u8]>
     ensures shorter { IfSome result (λ rest. length rest.now < length bytes.now) }
 {
     let (first, rest) = bytes.split_first()?;
-    if *first == 0xD0 {
+    if *first == kind::STRING {
         return after_text(rest);
     }
     if is_word(*first) {
         return Some(rest);
     }
-    after_number(*first < 0x80, bytes)
+    after_number(*first < kind::ZERO, bytes)
 }
 
 // The byte is a whole key: false, true, 0 and null.
 pub(crate) fn is_word(byte: u8) -> bool
-    ensures yes { IsTrue result → (byte ≡ 0x15) ⊎ ((byte ≡ 0x16) ⊎ ((byte ≡ 0x80) ⊎ (byte ≡ 0xD3))) }
-    ensures no { IsFalse result → (byte ≢ 0x15) × (byte ≢ 0x16) × (byte ≢ 0x80) × (byte ≢ 0xD3) }
+    ensures yes { IsTrue result
+        → (byte ≡ kind.false) ⊎ ((byte ≡ kind.true) ⊎ ((byte ≡ kind.zero) ⊎ (byte ≡ kind.null))) }
+    ensures no { IsFalse result → (byte ≢ kind.false) × (byte ≢ kind.true) × (byte ≢ kind.zero) × (byte ≢ kind.null) }
 {
-    byte == 0x15 || byte == 0x16 || byte == 0x80 || byte == 0xD3
+    byte == kind::FALSE || byte == kind::TRUE || byte == kind::ZERO || byte == kind::NULL
 }
 
 /// The bytes after the key of a text that they begin with.
@@ -73,10 +77,10 @@ pub fn after_text(bytes: &[u8]) -> Option<&[u8]>
     'zeros: while let Some(zero) = first_zero(rest) {
         let (_, end) = rest.split_at(zero + 1);
         let (mark, others) = end.split_first()?;
-        if *mark == 1 {
+        if *mark == kind::TEXT_END {
             return Some(others);
         }
-        if *mark != 255 {
+        if *mark != kind::ESCAPED {
             return None;
         }
         rest = others;
@@ -87,7 +91,7 @@ pub fn after_text(bytes: &[u8]) -> Option<&[u8]>
 // The bytes after a number that isn't 0.
 fn after_number(negative: bool, bytes: &[u8]) -> Option<&[u8]>
     ensures found { (n : Num) → IsProperNumber n → (first : ℕ) → (tail : List ℕ) → bytes.now ≡ first ∷ tail
-        → first ≢ 128 → negative ≡ nat_lt first 128 → (more : List ℕ) → bytes.now ≡ number_key n ++ more
+        → first ≢ kind.zero → negative ≡ nat_lt first kind.zero → (more : List ℕ) → bytes.now ≡ number_key n ++ more
         → option_map (λ rest. rest.now) result ≡ Some more }
     ensures shorter { IfSome result (λ rest. length rest.now < length bytes.now) }
 {

@@ -2,17 +2,19 @@
 
 ghost use Rattle.std.specs.Prelude.{◌≡◌, ◌≤◌, ◌++◌, ◌∷◌, List, ℕ, length, drop, IfSome, option_map, Some};
 ghost use Rattle.jsonb_value.specs.SortKey.{text_key};
+ghost use Rattle.jsonb_value.specs.SortKey.Kind as kind;
 
 use jsonb_key::text::{read_byte, skip_pair};
+use jsonb_value::sort_key::kind;
 use memchr::memchr;
 
 /// The key of the text of a string, whose key this is; `None` of any other value.
 pub fn text_of_string(key: &[u8]) -> Option<&[u8]>
-    ensures found { (body : List ℕ) → key.now ≡ 0xD0 ∷ body → option_map (λ rest. rest.now) result ≡ Some body }
-    ensures some { IfSome result (λ rest. key.now ≡ 0xD0 ∷ rest.now) }
+    ensures found { (body : List ℕ) → key.now ≡ kind.string ∷ body → option_map (λ rest. rest.now) result ≡ Some body }
+    ensures some { IfSome result (λ rest. key.now ≡ kind.string ∷ rest.now) }
 {
     let (first, rest) = key.split_first()?;
-    if *first != 0xD0 {
+    if *first != kind::STRING {
         return None;
     }
     Some(rest)
@@ -26,7 +28,7 @@ pub fn plain_text(key: &[u8]) -> Option<&[u8]>
     let zero = memchr(0, key)?;
     let (text, end) = key.split_at(zero);
     match end {
-        [_, 1] => Some(text),
+        [_, kind::TEXT_END] => Some(text),
         _ => None,
     }
 }
@@ -42,7 +44,7 @@ pub fn text_size(key: &[u8]) -> Option<usize>
         size += 1;
         rest = others;
     }
-    let after = skip_pair(1, rest)?;
+    let after = skip_pair(kind::TEXT_END, rest)?;
     if !after.is_empty() {
         return None;
     }

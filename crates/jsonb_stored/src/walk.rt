@@ -4,9 +4,11 @@ ghost use Rattle.std.specs.Prelude.{◌≡◌, ◌<◌, ◌++◌, ◌∷◌, ◌
 ghost use Rattle.jsonb_key.specs.Readable.{IsReadable};
 ghost use Rattle.jsonb_stored.specs.Parts.{IsFirstByte, kind_of_tree};
 ghost use Rattle.jsonb_value.specs.SortKey.{key_of, items_key, members_key, text_key};
+ghost use Rattle.jsonb_value.specs.SortKey.Kind as kind;
 ghost use Rattle.jsonb_value.specs.Tree.{Tree, array, object, Trees, no_trees, more_trees, Members, no_members, more_members};
 
 use crate::skip::{after_end, after_key, after_text};
+use jsonb_value::sort_key::kind;
 
 /// What kind of value a key is of.
 #[derive(Clone, Copy, Debug, PartialEq, Eq, Drop)]
@@ -29,21 +31,21 @@ pub fn kind_of(key: &[u8]) -> Option<Kind>
 
 // The kind whose keys begin with this byte.
 fn kind_by_byte(first: u8) -> Option<Kind>
-    ensures { MatchOption result ((first < 0x15) ⊎ (0xD3 < first)) (λ kind. IsFirstByte kind first) }
+    ensures { MatchOption result ((first < kind.false) ⊎ (kind.null < first)) (λ kind. IsFirstByte kind first) }
 {
-    if first < 0x15 || first > 0xD3 {
+    if first < kind::FALSE || first > kind::NULL {
         return None;
     }
-    if first <= 0x16 {
+    if first <= kind::TRUE {
         return Some(Kind::Bool);
     }
-    if first < 0xD0 {
+    if first < kind::STRING {
         return Some(Kind::Number);
     }
     match first {
-        0xD0 => Some(Kind::String),
-        0xD1 => Some(Kind::Object),
-        0xD2 => Some(Kind::Array),
+        kind::STRING => Some(Kind::String),
+        kind::OBJECT => Some(Kind::Object),
+        kind::ARRAY => Some(Kind::Array),
         _ => Some(Kind::Null),
     }
 }
@@ -53,9 +55,9 @@ fn kind_by_byte(first: u8) -> Option<Kind>
 pub fn items_of(key: &[u8]) -> Option<&[u8]>
     ensures array { (ts : Trees) → (more : List ℕ) → key.now ≡ key_of (array ts) ++ more
         → option_map (λ rest. rest.now) result ≡ Some (items_key ts ++ more) }
-    ensures some { IfSome result (λ rest. key.now ≡ 0xD2 ∷ rest.now) }
+    ensures some { IfSome result (λ rest. key.now ≡ kind.array ∷ rest.now) }
 {
-    body_of(0xD2, key)
+    body_of(kind::ARRAY, key)
 }
 
 /// What stands behind the first byte of an object's key: its members, and what follows the object. `None` for any other
@@ -63,9 +65,9 @@ pub fn items_of(key: &[u8]) -> Option<&[u8]>
 pub fn members_of(key: &[u8]) -> Option<&[u8]>
     ensures object { (ms : Members) → (more : List ℕ) → key.now ≡ key_of (object ms) ++ more
         → option_map (λ rest. rest.now) result ≡ Some (members_key ms ++ more) }
-    ensures some { IfSome result (λ rest. key.now ≡ 0xD1 ∷ rest.now) }
+    ensures some { IfSome result (λ rest. key.now ≡ kind.object ∷ rest.now) }
 {
-    body_of(0xD1, key)
+    body_of(kind::OBJECT, key)
 }
 
 fn body_of(kind: u8, key: &[u8]) -> Option<&[u8]>

@@ -1,5 +1,6 @@
 use jsonb_key::{KeyError, value_of_sort_key};
 use jsonb_stored::is_sort_key;
+use jsonb_value::sort_key::kind;
 use std::alloc::{AllocError, Global};
 use std::process::Abort;
 use std::test::Fail;
@@ -19,8 +20,8 @@ fn nested(alloc: Global, front: &[u8], back: &[u8], levels: usize) -> Result<Vec
     for _ in 1..levels {
         key.extend_from_slice(front)?;
     }
-    key.push(0xD2)?;
-    key.push(0)?;
+    key.push(kind::ARRAY)?;
+    key.push(kind::TERMINATOR)?;
     for _ in 1..levels {
         key.extend_from_slice(back)?;
     }

@@ -1,5 +1,6 @@
 use jsonb::{Mode, append_sort_key};
 use jsonb_stored::{Key, NoKey, contains};
+use jsonb_value::sort_key::kind;
 use std::alloc::Global;
 use std::test::Fail;
 
@@ -97,7 +98,7 @@ fn nested(alloc: Global, front: &[u8], back: &[u8], levels: usize) -> Result<Vec
     for _ in 0..levels {
         key.extend_from_slice(front)?;
     }
-    key.push(0xD3)?;
+    key.push(kind::NULL)?;
     for _ in 0..levels {
         key.extend_from_slice(back)?;
     }

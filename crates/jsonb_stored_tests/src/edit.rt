@@ -1,6 +1,7 @@
 use jsonb::parse_value;
 use jsonb_pointer::read_keys;
 use jsonb_stored::is_sort_key;
+use jsonb_value::sort_key::kind;
 use std::alloc::Global;
 use std::process::Abort;
 use std::test::Fail;
@@ -339,10 +340,10 @@ fn objects_and_arrays_are_built_as_in_jsonb(rt: HostRuntime) -> Result<(), Fail>
 fn nested(rt: &(impl AllocGlobal + Abort), levels: usize) -> Result<Vec<u8>, Fail> {
     let mut key = Vec::new(rt.alloc());
     for _ in 0..levels {
-        key.push(0xD2)?;
+        key.push(kind::ARRAY)?;
     }
     for _ in 0..levels {
-        key.push(0)?;
+        key.push(kind::TERMINATOR)?;
     }
     Ok(key)
 }

@@ -1,19 +1,21 @@
 -- The sort key of a tree; what each value's tree has by its types, as far as keys rest on it.
 -- Read for: promises.
+pub mod Kind
 pub mod Size
 use Rattle.std.specs.Prelude.{ℕ, zero, suc, ◌+◌, ◌-◌, ◌*◌, ◌/◌, ◌%◌, ◌^◌, ◌==◌, nat_lt, Bool, if◌then◌else◌, ⊤, ℤ, pos, ◌+ℤ◌, unsigned_abs, FitsSigned, List, [], ◌∷◌, ◌++◌, map}
 use Rattle.std.specs.Int.{w32, w64, is_negative, bytes_high_first}
 use Rattle.std.specs.List.{flat_map}
 use Rattle.jsonb_value.specs.Proper.{IsProperNumber}
+use Rattle.jsonb_value.specs.SortKey.Kind as kind
 use Rattle.jsonb_value.specs.Tree.{Num, Tree, null, boolean, string, number, array, object, binary, date, timestamp, timestamp_tz, interval, Trees, no_trees, more_trees, Members, no_members, more_members}
 
--- a byte of a text: 0 is followed by 255
+-- a byte of a text: a zero is followed by `escaped`
 abbrev pub byte_key : ℕ → List ℕ
-byte_key byte = if byte == 0 then 0 ∷ 255 ∷ [] else byte ∷ []
+byte_key byte = if byte == 0 then 0 ∷ kind.escaped ∷ [] else byte ∷ []
 
--- the bytes of a text, and 0 1, which is below all bytes that a longer text goes on with
+-- the bytes of a text, and its end, which is below all bytes that a longer text goes on with
 abbrev pub text_key : List ℕ → List ℕ
-text_key bytes = flat_map byte_key bytes ++ 0 ∷ 1 ∷ []
+text_key bytes = flat_map byte_key bytes ++ kind.terminator ∷ kind.text_end ∷ []
 
 -- a whole number of 32 bits, moved up so that none is negative, the highest byte first
 unfoldable pub key_of_32_bits : ℤ → List ℕ
@@ -32,10 +34,10 @@ digits_within (suc most) magnitude = if nat_lt magnitude (10 ^ most) then digits
 unfoldable pub digit_count : ℕ → ℕ
 digit_count magnitude = digits_within 39 magnitude
 
--- The place of the first digit: one byte, 160 and the number of digits before the point, where that is -30 or more (-1
--- is one zero behind the point); else 129 and a byte more. It is given as that number and 255.
+-- The place of the first digit: one byte, 0xA0 and the number of digits before the point, where that is -30 or more (-1
+-- is one zero behind the point); else `far_place` and a byte more. It is given as that number and 255.
 unfoldable pub place_key : ℕ → List ℕ
-place_key place = if nat_lt place 225 then 129 ∷ place ∷ [] else (place - 95) ∷ []
+place_key place = if nat_lt place 225 then kind.far_place ∷ place ∷ [] else (place - 95) ∷ []
 
 -- The digits of a number, of which there are `count`, in pairs from the first on: twice the pair, and one more where
 -- not all digits behind it are zeros; those that are zeros are left out. A single last digit stands for a pair with 0.
@@ -56,33 +58,33 @@ turned negative byte = if negative then 255 - byte else byte
 
 -- a number: its sign, its place and its digits
 unfoldable pub number_key : Num → List ℕ
-number_key n = if unsigned_abs n.whole == 0 then 128 ∷ []
+number_key n = if unsigned_abs n.whole == 0 then kind.zero ∷ []
     else map (turned (is_negative n.whole)) (magnitude_key n.scale (unsigned_abs n.whole))
 
 abbrev mutual
   -- The kind, which a number's first byte says too, and then what the value holds.
   pub key_of : Tree → List ℕ
-  key_of (binary bytes) = 0x10 ∷ text_key bytes
-  key_of (date days) = 0x11 ∷ key_of_32_bits days
-  key_of (timestamp micros) = 0x12 ∷ key_of_64_bits micros
-  key_of (timestamp_tz offset micros) = 0x13 ∷ key_of_32_bits offset ++ key_of_64_bits micros
+  key_of (binary bytes) = kind.binary ∷ text_key bytes
+  key_of (date days) = kind.date ∷ key_of_32_bits days
+  key_of (timestamp micros) = kind.timestamp ∷ key_of_64_bits micros
+  key_of (timestamp_tz offset micros) = kind.timestamp_tz ∷ key_of_32_bits offset ++ key_of_64_bits micros
   key_of (interval months days micros) =
-      0x14 ∷ key_of_32_bits months ++ (key_of_32_bits days ++ key_of_64_bits micros)
-  key_of (boolean b) = (if b then 0x16 else 0x15) ∷ []
+      kind.interval ∷ key_of_32_bits months ++ (key_of_32_bits days ++ key_of_64_bits micros)
+  key_of (boolean b) = (if b then kind.true else kind.false) ∷ []
   key_of (number n) = number_key n
-  key_of (string mark bytes) = 0xD0 ∷ text_key bytes
-  key_of (object ms) = 0xD1 ∷ members_key ms
-  key_of (array ts) = 0xD2 ∷ items_key ts
-  key_of null = 0xD3 ∷ []
+  key_of (string mark bytes) = kind.string ∷ text_key bytes
+  key_of (object ms) = kind.object ∷ members_key ms
+  key_of (array ts) = kind.array ∷ items_key ts
+  key_of null = kind.null ∷ []
 
-  -- the items one after the other, and a 0, which is below the first byte of each
+  -- the items one after the other, and a terminator, which is below the first byte of each
   pub items_key : Trees → List ℕ
-  items_key no_trees = 0 ∷ []
+  items_key no_trees = kind.terminator ∷ []
   items_key (more_trees t ts) = key_of t ++ items_key ts
 
-  -- keys and values in turn, and 0 0, which is below the first bytes of each
+  -- keys and values in turn, and two terminators, which are below the first bytes of each
   pub members_key : Members → List ℕ
-  members_key no_members = 0 ∷ 0 ∷ []
+  members_key no_members = kind.terminator ∷ kind.terminator ∷ []
   members_key (more_members key t ms) = text_key key ++ (key_of t ++ members_key ms)
 
 abbrev mutual

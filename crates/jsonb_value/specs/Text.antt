@@ -11,6 +11,7 @@ pub mod StringText
 pub mod TextParts
 use Rattle.std.specs.Prelude.{◌≡◌, ℕ, Bool, true, false, ◌&&◌, if◌then◌else◌, List, [], ◌∷◌, ◌++◌, codes, Option, Some, None}
 use Rattle.std.specs.List.{flat_map}
+use Rattle.jsonb_value.specs.Ascii as ascii
 use Rattle.jsonb_value.specs.Tree.{Tree, null, boolean, string, number, array, object, binary, date, timestamp, timestamp_tz, interval, Trees, no_trees, more_trees, Members, no_members, more_members}
 use Rattle.jsonb_value.specs.Text.StringText.{quoted_text}
 use Rattle.jsonb_value.specs.Text.NumberText.{number_text}
@@ -40,11 +41,11 @@ abbrev mutual
 -- the texts one after the other, each but the first with a comma before it
 abbrev pub with_commas : List (List ℕ) → List ℕ
 with_commas [] = []
-with_commas (text ∷ texts) = text ++ flat_map (λ other. 44 ∷ other) texts
+with_commas (text ∷ texts) = text ++ flat_map (λ other. ascii.comma ∷ other) texts
 
 -- a text between double quotes
 abbrev pub in_quotes : List ℕ → List ℕ
-in_quotes text = 34 ∷ text ++ 34 ∷ []
+in_quotes text = ascii.quote ∷ text ++ ascii.quote ∷ []
 
 abbrev mutual
   -- The text of a tree that has one: a word, a string, a number, items in brackets, members in braces.
@@ -54,8 +55,8 @@ abbrev mutual
   tree_text (boolean false) = codes "false"
   tree_text (string mark bytes) = quoted_text bytes
   tree_text (number n) = number_text n
-  tree_text (array ts) = 91 ∷ with_commas (item_texts ts) ++ 93 ∷ []
-  tree_text (object ms) = 123 ∷ with_commas (member_texts ms) ++ 125 ∷ []
+  tree_text (array ts) = ascii.open_bracket ∷ with_commas (item_texts ts) ++ ascii.close_bracket ∷ []
+  tree_text (object ms) = ascii.open_brace ∷ with_commas (member_texts ms) ++ ascii.close_brace ∷ []
   tree_text (binary bytes) = in_quotes (binary_text bytes)
   tree_text (interval months days micros) = in_quotes (interval_text months days micros)
   tree_text t = []
@@ -68,7 +69,7 @@ abbrev mutual
   -- the texts of an object's members: each key, a colon and the value's text
   pub member_texts : Members → List (List ℕ)
   member_texts no_members = []
-  member_texts (more_members key t ms) = (quoted_text key ++ 58 ∷ tree_text t) ∷ member_texts ms
+  member_texts (more_members key t ms) = (quoted_text key ++ ascii.colon ∷ tree_text t) ∷ member_texts ms
 
 -- the text of a tree, or nothing where it has none
 abbrev pub text_of : Tree → Option (List ℕ)

@@ -5,4 +5,5 @@ pub mod error;
 pub mod extension;
 pub mod number;
 pub mod parts;
+pub mod sort_key;
 pub mod value;

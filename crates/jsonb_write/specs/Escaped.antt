@@ -2,6 +2,7 @@
 -- Read for: private.
 use Rattle.std.specs.Prelude.{◌≡◌, ◌⊎◌, ℕ, List, ◌++◌}
 use Rattle.std.specs.List.{flat_map}
+use Rattle.jsonb_value.specs.Ascii as ascii
 use Rattle.jsonb_value.specs.Mode.{Mode}
 use Rattle.jsonb_value.specs.Text.StringText.{byte_text}
 use Rattle.jsonb_scan.specs.Decoding.{DecodesUpTo}
@@ -14,4 +15,6 @@ pub record WritesItems (mode : Mode) (bytes rest old new : List ℕ) : Type 0 wh
 
 -- the letters of the escapes that are written: `"`, `\`, n, r and t
 abbrev pub IsKeptLetter : ℕ → Type 0
-IsKeptLetter letter = (letter ≡ 0x22) ⊎ ((letter ≡ 0x5C) ⊎ ((letter ≡ 0x6E) ⊎ ((letter ≡ 0x72) ⊎ (letter ≡ 0x74))))
+IsKeptLetter letter =
+    (letter ≡ ascii.quote) ⊎ ((letter ≡ ascii.backslash) ⊎ ((letter ≡ ascii.lower_n) ⊎ ((letter ≡ ascii.lower_r)
+    ⊎ (letter ≡ ascii.lower_t))))

@@ -4,6 +4,7 @@ use Rattle.std.specs.Prelude.{◌≡◌, ℕ, ◌+◌, Bool, true, false, List, 
 use Rattle.std.specs.Cow.{cow_str_bytes}
 use Rattle.std.specs.Str.{IsUtf8}
 use Rattle.jsonb_value.specs.SortKey.{key_of}
+use Rattle.jsonb_value.specs.SortKey.Kind as kind
 use Rattle.jsonb_value.specs.Tree.{plain, null, boolean, string, number}
 use Rattle.jsonb_value.specs.Tree.Mark.{escaped}
 use Rattle.jsonb_value.specs.View.{mark_view, number_view}
@@ -12,7 +13,7 @@ use Rattle.jsonb_scan.specs.Source.{Found, Source, Spot, first_repeat, object_so
 use Rattle.jsonb_write.specs.Contents.{text_of_contents}
 use Rattle.jsonb_write.specs.MemberStarts.{AreKept, MemberStart, IsKept}
 use Rattle.jsonb_write.specs.Members.{AreKeyed, SpotsAscend, member_key, source_key, spot_at, spot_in}
-use Rattle.jsonb_write.specs.OpenKey.{keys_joined, object_byte, open_key}
+use Rattle.jsonb_write.specs.OpenKey.{keys_joined, open_key}
 use Rattle.jsonb_write.specs.declared.key.KeyRoom.{KeyRoom}
 use Rattle.jsonb_write.specs.declared.members.Member.{Member}
 use Rattle.jsonb_write.specs.declared.text.Part.{Part}
@@ -148,7 +149,7 @@ pub record KeepsMembers (old new : KeyRoom) : Type 0 where
 -- No key of these members comes twice, and they stand in the order of their keys.
 pub record IsSettled (old new : KeyRoom) (fs : List Found) (cs : List Open) : Type 0 where
   pub written : new.out.items ≡ base_of old
-      ++ (open_key true cs ++ object_byte ∷ keys_joined (map member_key (sort_by spot_of fs)))
+      ++ (open_key true cs ++ kind.object ∷ keys_joined (map member_key (sort_by spot_of fs)))
   pub new_keys : first_repeat (map spot_of fs) ≡ None
 
 -- The two zeros at an object's end are written, and the members from an index on are kept no longer.
@@ -156,7 +157,7 @@ pub record Closes (first : ℕ) (old new : KeyRoom) : Type 0 where
   pub text : new.text.now ≡ old.text.now
   pub base : new.base ≡ old.base
   pub before : base_of new ≡ base_of old
-  pub written : new.out.items ≡ old.out.items ++ 0 ∷ 0 ∷ []
+  pub written : new.out.items ≡ old.out.items ++ kind.terminator ∷ kind.terminator ∷ []
   pub members : new.members.items ≡ take first old.members.items
   pub decoded : new.decoded.items ≡ old.decoded.items
 

@@ -2,16 +2,9 @@
 -- Read for: private.
 use Rattle.std.specs.Prelude.{ℕ, Bool, true, false, List, [], ◌∷◌, ◌++◌, map}
 use Rattle.jsonb_value.specs.SortKey.{text_key}
+use Rattle.jsonb_value.specs.SortKey.Kind as kind
 use Rattle.jsonb_scan.specs.Open.{Open, elements_so_far, members_so_far}
 use Rattle.jsonb_write.specs.Members.{joined, member_key, source_key}
-
--- the byte that an array's key begins with
-abbrev pub array_byte : ℕ
-array_byte = 0xD2
-
--- the byte that an object's key begins with
-abbrev pub object_byte : ℕ
-object_byte = 0xD1
 
 -- the parts' keys one after the other
 abbrev pub keys_joined : List (List ℕ) → List ℕ
@@ -19,8 +12,8 @@ keys_joined keys = joined false keys
 
 -- from the first byte to the end of the last part, in the order of the source
 abbrev pub parts_key : Open → List ℕ
-parts_key (elements_so_far ss) = array_byte ∷ keys_joined (map source_key ss)
-parts_key (members_so_far fs key place) = object_byte ∷ keys_joined (map member_key fs)
+parts_key (elements_so_far ss) = kind.array ∷ keys_joined (map source_key ss)
+parts_key (members_so_far fs key place) = kind.object ∷ keys_joined (map member_key fs)
 
 -- from there to where a value is due: in an object the key that waits for its value
 abbrev pub lead_key : Open → List ℕ

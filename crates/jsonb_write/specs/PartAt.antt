@@ -6,16 +6,13 @@ use Rattle.std.specs.Option.{option_and_then}
 use Rattle.std.specs.Str.{bytes_eq}
 use Rattle.std.specs.Str.Parse.{IsNumeral, digits_value}
 use Rattle.jsonb_value.specs.Accessors.{find_member, item_at}
+use Rattle.jsonb_value.specs.Ascii as ascii
 use Rattle.jsonb_value.specs.Tree.{Tree, array, object, Trees}
-
--- the byte of the digit 0
-abbrev pub zero_digit : ℕ
-zero_digit = 0x30
 
 -- The key is the index in decimal digits, without leading zeros.
 pub record IsIndex (key : List ℕ) (index : ℕ) : Type 0 where
   pub digits : IsNumeral 10 key
-  pub no_zero : 1 < length key → slice_index key 0 ≢ zero_digit
+  pub no_zero : 1 < length key → slice_index key 0 ≢ ascii.digit_zero
   pub value : index ≡ digits_value 10 key
 
 -- t is the item whose index the key is
@@ -44,7 +41,7 @@ all_digits (c ∷ cs) = is_digit c 10 && all_digits cs
 abbrev pub leads_well : List ℕ → Bool
 leads_well [] = false
 leads_well (c ∷ []) = true
-leads_well (c ∷ d ∷ ds) = not (c == zero_digit)
+leads_well (c ∷ d ∷ ds) = not (c == ascii.digit_zero)
 
 -- The index that a key spells in decimal digits, without a needless leading zero, where it fits a machine's word.
 abbrev pub index_named : List ℕ → Option ℕ

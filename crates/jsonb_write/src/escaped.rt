@@ -3,6 +3,7 @@
 ghost use Rattle.std.specs.Prelude.{◌≡◌, List, ℕ, ◌+◌, ◌-◌, ◌≤◌, ◌<◌, ◌++◌, ◌∷◌, [], drop, length, take, IfOk, IfSome, MatchBool, OnOk};
 ghost use Rattle.std.specs.Char.{digit_char};
 ghost use Rattle.std.specs.List.{flat_map};
+ghost use Rattle.jsonb_value.specs.Ascii as ascii;
 ghost use Rattle.jsonb_value.specs.Mode.{Mode as GrammarMode};
 ghost use Rattle.jsonb_value.specs.Text.Appending.{Extends};
 ghost use Rattle.jsonb_value.specs.Text.StringText.{byte_text, control_text};
@@ -152,7 +153,7 @@ fn append_byte(byte: u8, out: &mut Vec<u8>) -> Result<(), AllocError>
         b'\n' => out.extend_from_slice(b"\\n"),
         b'\r' => out.extend_from_slice(b"\\r"),
         b'\t' => out.extend_from_slice(b"\\t"),
-        0..0x20 => out.extend_from_slice(&control_text(byte)),
+        0..b' ' => out.extend_from_slice(&control_text(byte)),
         _ => out.extend_from_slice(&[byte]),
     }
 }
@@ -197,7 +198,7 @@ fn append_item<'a>(bytes: &'a [u8], mode: Mode, out: &mut Vec<u8>) -> Result<&'a
 // What follows `\/`, where the bytes begin with it.
 #[inline(always)]
 fn after_slash(bytes: &[u8]) -> Option<&[u8]>
-    ensures some { IfSome result (λ rest. bytes.now ≡ 0x5C ∷ 0x2F ∷ rest.now) }
+    ensures some { IfSome result (λ rest. bytes.now ≡ ascii.backslash ∷ ascii.slash ∷ rest.now) }
 {
     let (first, rest) = bytes.split_first()?;
     let (second, rest) = rest.split_first()?;

@@ -1,6 +1,7 @@
 //! The contents of a string with escapes in a sort key. They are decoded where they are written.
 ghost use Rattle.std.specs.Prelude.{◌≡◌, ◌≤◌, ◌++◌, ◌∷◌, [], drop, length, take, OnOk};
 ghost use Rattle.jsonb_value.specs.SortKey.{text_key};
+ghost use Rattle.jsonb_value.specs.SortKey.Kind as kind;
 ghost use Rattle.jsonb_value.specs.Text.Appending.{Extends};
 ghost use Rattle.jsonb_scan.specs.Answer.{mode_of};
 ghost use Rattle.jsonb_scan.specs.QuotedString.{decoded_text};
@@ -8,6 +9,7 @@ ghost use Rattle.jsonb_scan.specs.QuotedString.{decoded_text};
 use jsonb_scan::parser::Mode;
 use jsonb_scan::util::decode_behind;
 use jsonb_value::parts::append_text_key;
+use jsonb_value::sort_key::kind;
 use memchr::memchr;
 use std::alloc::AllocError;
 
@@ -50,10 +52,10 @@ fn double_zeros(from: usize, out: &mut Vec<u8>, spare: &mut Vec<u8>) -> Result<(
 // Appends the end of a text.
 #[inline(always)]
 fn append_end(out: &mut Vec<u8>) -> Result<(), AllocError>
-    ensures bytes { OnOk result (out.new.items ≡ out.old.items ++ 0 ∷ 1 ∷ []) }
+    ensures bytes { OnOk result (out.new.items ≡ out.old.items ++ kind.terminator ∷ kind.text_end ∷ []) }
     ensures kept { Extends out.old.items out.new.items }
 {
-    out.extend_from_slice(&[0, 1])
+    out.extend_from_slice(&[kind::TERMINATOR, kind::TEXT_END])
 }
 
 // Ends a text that stands in the buffer from an index on. Hardly any has a zero.
@@ -79,11 +81,11 @@ pub(crate) fn append_escaped_key(
     spare: &mut Vec<u8>,
 ) -> Result<(), AllocError>
     ensures bytes { OnOk result (out.new.items
-        ≡ out.old.items ++ (0xD0 ∷ text_key (decoded_text (mode_of mode) body.now))) }
+        ≡ out.old.items ++ (kind.string ∷ text_key (decoded_text (mode_of mode) body.now))) }
     ensures kept { Extends out.old.items out.new.items }
     ensures spare { OnOk result (spare.new.items ≡ spare.old.items) }
 {
-    out.extend_from_slice(&[0xD0])?;
+    out.extend_from_slice(&[kind::STRING])?;
     let from = out.len();
     append_decoded(body, mode, out)?;
     close_text(from, out, spare)

@@ -11,6 +11,7 @@ use crate::text::{Part, members_from};
 use jsonb_scan::parser::Mode;
 use jsonb_value::number::Number;
 use jsonb_value::parts::{append_number_key, append_text_key};
+use jsonb_value::sort_key::kind;
 use std::alloc::{AllocError, Global};
 use std::borrow::CowStr;
 
@@ -35,6 +36,7 @@ impl<'a> KeyRoom<'a> {
     ghost use Rattle.jsonb_scan.specs.QuotedString.{decoded_text};
     ghost use Rattle.jsonb_scan.specs.Open.Open.{elements_so_far, members_so_far};
     ghost use Rattle.jsonb_scan.specs.Source.{Found, Source, array_source_of, found, string_source};
+    ghost use Rattle.jsonb_value.specs.SortKey.Kind as kind;
     ghost use Rattle.jsonb_value.specs.SortKey.{key_of, number_key, text_key};
     ghost use Rattle.jsonb_value.specs.Text.{in_quotes};
     ghost use Rattle.jsonb_value.specs.Tree.{Mark};
@@ -92,17 +94,17 @@ impl<'a> KeyRoom<'a> {
     // Writes a string.
     #[inline(never)]
     fn string(&mut self, string: &str) -> Result<(), AllocError>
-        ensures bytes { OnOk result (Writes (0xD0 ∷ text_key string.now) self.old self.new) }
+        ensures bytes { OnOk result (Writes (kind.string ∷ text_key string.now) self.old self.new) }
         ensures base { base_of self.new ≡ base_of self.old }
     {
-        self.append(&[0xD0])?;
+        self.append(&[kind::STRING])?;
         self.append_text(string)
     }
 
     // Writes a string, given its contents, which were checked in this mode.
     #[inline(never)]
     fn contents(&mut self, body: &str, mode: Mode) -> Result<(), AllocError>
-        ensures bytes { OnOk result (Writes (0xD0 ∷ text_key (decoded_text (mode_of mode) body.now))
+        ensures bytes { OnOk result (Writes (kind.string ∷ text_key (decoded_text (mode_of mode) body.now))
             self.old self.new) }
         ensures base { base_of self.new ≡ base_of self.old }
     {
@@ -133,11 +135,16 @@ impl<'a> KeyRoom<'a> {
     #[inline(always)]
     fn plain(&mut self, string: &str, from: usize, to: usize) -> Result<(), AllocError>
         ensures bytes { OnOk result ((from < to → (slice_range self.old.text.now from to ≡ in_quotes string.now)
-            × ArePlain string.now) → Writes (0xD0 ∷ text_key string.now) self.old self.new) }
+            × ArePlain string.now) → Writes (kind.string ∷ text_key string.now) self.old self.new) }
         ensures base { base_of self.new ≡ base_of self.old }
     {
         if self.is_range(from, to) && to - from > 1 {
-            return append_with_kind(0xD0, &self.text[from..], to - from - 1, &mut self.out);
+            return append_with_kind(
+                kind::STRING,
+                &self.text[from..],
+                to - from - 1,
+                &mut self.out,
+            );
         }
         self.string(string)
     }
@@ -151,9 +158,9 @@ impl<'a> KeyRoom<'a> {
     {
         match part {
             Part::Written => Ok(()),
-            Part::Null => self.append(&[0xD3]),
-            Part::Bool(true) => self.append(&[0x16]),
-            Part::Bool(false) => self.append(&[0x15]),
+            Part::Null => self.append(&[kind::NULL]),
+            Part::Bool(true) => self.append(&[kind::TRUE]),
+            Part::Bool(false) => self.append(&[kind::FALSE]),
             Part::Number(number) => self.number(number),
             Part::Plain(string) => self.plain(string, from, to),
             Part::String(CowStr::Borrowed(string)) => self.string(string),
@@ -170,7 +177,7 @@ impl<'a> KeyRoom<'a> {
             → KeyStands text self.new false (items ∷ held) (elements_so_far [] ∷ cs)) }
         ensures base { base_of self.new ≡ base_of self.old }
     {
-        self.append(&[0xD2])
+        self.append(&[kind::ARRAY])
     }
 
     /// What stands before an item: nothing.
@@ -213,7 +220,7 @@ impl<'a> KeyRoom<'a> {
             → KeyFilled text self.new (array_source_of ss) held cs) }
         ensures base { base_of self.new ≡ base_of self.old }
     {
-        self.append(&[0])
+        self.append(&[kind::TERMINATOR])
     }
 
     /// An object begins where a value is due. What is returned is the index of its first member.
@@ -224,7 +231,7 @@ impl<'a> KeyRoom<'a> {
             → KeyStands text self.new false (members first ∷ held) (members_so_far [] key place ∷ cs)) }
         ensures base { base_of self.new ≡ base_of self.old }
     {
-        self.append(&[0xD1])?;
+        self.append(&[kind::OBJECT])?;
         Ok(self.members.len())
     }
 
@@ -425,7 +432,7 @@ impl<'a> KeyRoom<'a> {
         ensures base { base_of self.new ≡ base_of self.old }
     {
         self.members.truncate(first);
-        self.append(&[0, 0])
+        self.append(&[kind::TERMINATOR, kind::TERMINATOR])
     }
 
     /// Whether so many bytes of members were moved that another way takes less time: several times those of the text.

@@ -87,7 +87,7 @@ pub(crate) fn run_by_bytes(bytes: &[u8]) -> usize
     ensures plain { ArePlain (take result bytes.now) }
 {
     'bytes: for (i, byte) in bytes.iter().enumerate() {
-        if *byte < 0x20 || *byte == b'"' || *byte == b'\\' {
+        if *byte < b' ' || *byte == b'"' || *byte == b'\\' {
             return i;
         }
     }

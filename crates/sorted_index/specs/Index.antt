@@ -7,6 +7,7 @@ use Rattle.std.specs.List.Sorted.{IsStrictlySortedBy}
 use Rattle.std.specs.declared.alloc.Global.{Global}
 use Rattle.std.specs.declared.cmp.Ordering.{Ordering}
 use Rattle.std.specs.declared.cmp.Ordering.TheVariants.{Equal}
+use Rattle.jsonb_value.specs.Ascii as ascii
 use Rattle.jsonb.specs.ErrorText.{error_text}
 use Rattle.jsonb.specs.Grammar.{IsDocument, IsNoDocument}
 use Rattle.jsonb.specs.Mode.{extended}
@@ -47,7 +48,7 @@ pub record IsIndexOf (given index : List Value) : Type 0 where
 pub data AreTexts : List Value → List ℕ → Type 0 where
   no_texts : AreTexts [] []
   more_texts : {value : Value} {text rest : List ℕ} {values : List Value} → text_of (view value) ≡ Some text
-      → AreTexts values rest → AreTexts (value ∷ values) (text ++ 10 ∷ rest)
+      → AreTexts values rest → AreTexts (value ∷ values) (text ++ ascii.line_feed ∷ rest)
 
 -- The lines are documents, and the bytes are the texts of the index of their values.
 pub record IsIndexText (lines : List (List ℕ)) (bytes : List ℕ) : Type 0 where

@@ -7,6 +7,7 @@ use Rattle.std.specs.Vec.{vec_capacity}
 use Rattle.std.specs.declared.alloc.Global.{Global}
 use Rattle.jsonb_key.specs.Readable.{IsAnyNumber}
 use Rattle.jsonb_value.specs.Accessors.{trees_len}
+use Rattle.jsonb_value.specs.Ascii as ascii
 use Rattle.jsonb_value.specs.Grammar.{max_depth}
 use Rattle.jsonb_value.specs.Order.{bytes_cmp}
 use Rattle.jsonb_value.specs.SortKey.{key_of}
@@ -54,10 +55,6 @@ abbrev pub changed_item_back : (Option Tree → Outcome) → ℕ → Trees → O
 changed_item_back change back ts = if nat_lt (trees_len ts) back then item_before (change None) ts
     else changed_item change (trees_len ts - back) ts
 
--- the sign of an index that counts from the end
-abbrev pub minus : ℕ
-minus = 0x2D
-
 -- how many from the end, as the bytes behind the minus sign spell it; there is no minus 0
 abbrev pub back_named : List ℕ → Option ℕ
 back_named digits = option_and_then (λ back. if back == 0 then None else Some back) (index_named digits)
@@ -65,7 +62,7 @@ back_named digits = option_and_then (λ back. if back == 0 then None else Some b
 -- an index as the step of a path spells it: whether it counts from the end, and the number
 abbrev pub step_named : List ℕ → Option (Bool × ℕ)
 step_named [] = None
-step_named (c ∷ cs) = if c == minus then option_map (λ back. (true, back)) (back_named cs)
+step_named (c ∷ cs) = if c == ascii.minus then option_map (λ back. (true, back)) (back_named cs)
     else option_map (λ index. (false, index)) (index_named (c ∷ cs))
 
 -- the items, changed at that index

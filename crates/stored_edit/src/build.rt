@@ -16,12 +16,13 @@ use crate::splice::splice;
 use crate::spot::member_spot;
 use jsonb_stored::skip::MAX_DEPTH;
 use jsonb_stored::walk::{items_of, kind_of, members_of};
+use jsonb_value::sort_key::kind;
 
 /// The sort key of an object without members.
-pub const EMPTY_OBJECT: [u8; 3] = [0xD1, 0, 0];
+pub const EMPTY_OBJECT: [u8; 3] = [kind::OBJECT, kind::TERMINATOR, kind::TERMINATOR];
 
 /// The sort key of an array without items.
-pub const EMPTY_ARRAY: [u8; 2] = [0xD2, 0];
+pub const EMPTY_ARRAY: [u8; 2] = [kind::ARRAY, kind::TERMINATOR];
 
 /// Appends the key of the object with this member, of whose value the key is passed, and tells whether it is an object.
 /// A member of that name is replaced. Where it is none, nothing is appended.
@@ -103,7 +104,7 @@ fn push_item(out: &mut Vec<u8>, items: &[u8], item: &[u8]) -> Result<(), EditErr
         Ok(item) => item,
         Err(error) => return Err(error),
     };
-    if splice(out, &[0xD2], items, item, &[0]).is_err() {
+    if splice(out, &[kind::ARRAY], items, item, &[kind::TERMINATOR]).is_err() {
         return Err(EditError::OutOfMemory);
     }
     Ok(())

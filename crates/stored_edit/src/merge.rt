@@ -6,6 +6,7 @@ ghost use Rattle.jsonb_key.specs.Readable.{IsAnyNumber, IsReadable};
 ghost use Rattle.jsonb_stored.specs.Checked.{HaveReadable};
 ghost use Rattle.jsonb_value.specs.Order.{bytes_cmp};
 ghost use Rattle.jsonb_value.specs.SortKey.{key_of, members_key, text_key};
+ghost use Rattle.jsonb_value.specs.SortKey.Kind as kind;
 ghost use Rattle.jsonb_value.specs.Text.Appending.{Extends};
 ghost use Rattle.jsonb_value.specs.Text.Range.{IsWithin, AreWithin};
 ghost use Rattle.jsonb_value.specs.Tree.{Tree, Members, array, no_members, object};
@@ -18,6 +19,7 @@ use crate::splice::{append, splice};
 use jsonb_stored::find::NoKey;
 use jsonb_stored::skip::{after_end, after_key, after_text};
 use jsonb_stored::walk::{front, items_of, members_of};
+use jsonb_value::sort_key::kind;
 use std::cmp::Ordering;
 
 /// Appends the key of both values in one. Two objects are one with the members of both, where those of the right one
@@ -45,7 +47,7 @@ pub fn append_merged(out: &mut Vec<u8>, left: &[u8], right: &[u8]) -> Result<(),
 fn both_members<'k, 'l>(left: &'k [u8], right: &'l [u8]) -> Option<(&'k [u8], &'l [u8])>
     ensures { MatchOption result
         ((ms ns : Members) → left.now ≡ key_of (object ms) → right.now ≡ key_of (object ns) → ⊥)
-        (λ r. (left.now ≡ 0xD1 ∷ r.0.now) × (right.now ≡ 0xD1 ∷ r.1.now)) }
+        (λ r. (left.now ≡ kind.object ∷ r.0.now) × (right.now ≡ kind.object ∷ r.1.now)) }
 {
     let Some(members) = members_of(left) else {
         return None;
@@ -84,7 +86,7 @@ fn append_members(out: &mut Vec<u8>, left: &[u8], right: &[u8]) -> Result<(), Ed
     ensures kept { Extends out.old.items out.new.items }
     ensures capacity { vec_capacity out.old ≤ vec_capacity out.new }
 {
-    if append(out, &[0xD1]).is_err() {
+    if append(out, &[kind::OBJECT]).is_err() {
         return Err(EditError::OutOfMemory);
     }
     let mut members = left;
@@ -225,7 +227,7 @@ fn join_items(out: &mut Vec<u8>, left: &[u8], right: &[u8]) -> Result<(), EditEr
         Ok(items) => items,
         Err(error) => return Err(error),
     };
-    if splice(out, &[0xD2], items, others, &[0]).is_err() {
+    if splice(out, &[kind::ARRAY], items, others, &[kind::TERMINATOR]).is_err() {
         return Err(EditError::OutOfMemory);
     }
     Ok(())

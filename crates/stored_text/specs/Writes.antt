@@ -11,7 +11,6 @@ use Rattle.jsonb_value.specs.Text.Appending.{Extends, comma_before}
 use Rattle.jsonb_value.specs.Text.StringText.{quoted_text}
 use Rattle.jsonb_value.specs.Text.{tree_text}
 use Rattle.jsonb_value.specs.Tree.{Tree, Trees, no_trees, more_trees, Members, no_members, more_members}
-use Rattle.jsonb_write.specs.PartAt.{zero_digit}
 use Rattle.stored_text.specs.FewestDigits.{with_fewest_digits}
 
 -- Nothing that was there is lost.
@@ -51,14 +50,6 @@ abbrev pub open_text : Bool → Open → List ℕ
 open_text first (items ts) = items_left first ts
 open_text first (members ms) = members_left first ms
 
--- what begins and ends a string
-abbrev pub double_quote : ℕ
-double_quote = 34
-
--- what stands before the digits of a fraction
-abbrev pub point : ℕ
-point = 46
-
 -- the brackets
 abbrev pub opening_text : Bool → ℕ
 opening_text true = ascii.open_brace
@@ -70,13 +61,13 @@ closing_text false = ascii.close_bracket
 
 -- the end of a string, or of a name
 abbrev pub closing_quote : Bool → List ℕ
-closing_quote true = double_quote ∷ ascii.colon ∷ []
-closing_quote false = double_quote ∷ []
+closing_quote true = ascii.quote ∷ ascii.colon ∷ []
+closing_quote false = ascii.quote ∷ []
 
 -- the last digits of a number, as many as are asked for
 unfoldable pub last_digits : ℕ → ℕ → List ℕ
 last_digits zero n = []
-last_digits (suc count) n = last_digits count (n / 10) ++ (48 + n % 10) ∷ []
+last_digits (suc count) n = last_digits count (n / 10) ++ (ascii.digit_zero + n % 10) ∷ []
 
 -- The row has the first digits of a number that has `count` of them, without zeros at the end: there are `read` of
 -- them. All behind them are zeros.
@@ -84,13 +75,13 @@ pub record IsSpelled (count magnitude read : ℕ) (row : List ℕ) : Type 0 wher
   pub digits : ℕ
   pub is_digits : IsDigits count magnitude digits read
   pub not_zero : digits % 10 ≢ 0
-  pub spelled : row ≡ last_digits read digits ++ replicate (48 - read) 48
+  pub spelled : row ≡ last_digits read digits ++ replicate (48 - read) ascii.digit_zero
 
 -- The digits that stand first in the row, where the first stands at this place: with zeros behind them, with a point
 -- among them, or behind a point and as many zeros.
 unfoldable pub placed_text : ℕ → ℕ → List ℕ → List ℕ
 placed_text place count row =
     if nat_lt 255 place then
-    (if nat_lt (place - 255) count then take (place - 255) row ++ point ∷ slice_range row (place - 255) count
+    (if nat_lt (place - 255) count then take (place - 255) row ++ ascii.point ∷ slice_range row (place - 255) count
     else take (place - 255) row)
-    else zero_digit ∷ point ∷ (replicate (255 - place) 48 ++ take count row)
+    else ascii.digit_zero ∷ ascii.point ∷ (replicate (255 - place) ascii.digit_zero ++ take count row)

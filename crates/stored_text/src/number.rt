@@ -1,6 +1,7 @@
 //! The text of a number from its key: two digits from each byte.
 ghost use Rattle.std.specs.Prelude.{◌≡◌, ◌+◌, ◌*◌, ◌/◌, ◌%◌, ◌^◌, ◌<◌, ◌≤◌, ◌++◌, ◌∷◌, [], ℕ, List, length, map, replicate, take, IfOk, IfSome, MatchOption};
 ghost use Rattle.std.specs.Fmt.{sign_text};
+ghost use Rattle.jsonb_value.specs.Ascii as ascii;
 ghost use Rattle.jsonb_value.specs.Proper.{IsProperNumber};
 ghost use Rattle.jsonb_value.specs.SortKey.{number_key, digits_key, turned};
 ghost use Rattle.jsonb_value.specs.Text.Appending.{Appends};
@@ -12,6 +13,7 @@ ghost use Rattle.stored_text.specs.Writes.{IsSpelled, Keeps, Writes, placed_text
 use crate::append::append_chunk;
 use jsonb_key::KeyError;
 use jsonb_key::number::{read_place, turned};
+use jsonb_value::sort_key::kind;
 use std::alloc::AllocError;
 
 // The two digits of each number below 100, and zeros for those below 128.
@@ -35,11 +37,11 @@ pub(crate) fn append_number<'k>(bytes: &'k [u8], buf: &mut Vec<u8>) -> Result<&'
     let Some((first, others)) = bytes.split_first() else {
         return Err(KeyError::Invalid);
     };
-    if *first == 0x80 {
+    if *first == kind::ZERO {
         buf.extend_from_slice(b"0")?;
         return Ok(others);
     }
-    let negative = *first < 0x80;
+    let negative = *first < kind::ZERO;
     let Some((place, digits)) = read_place(negative, bytes) else {
         return Err(KeyError::Invalid);
     };
@@ -69,7 +71,7 @@ fn append_sign(negative: bool, buf: &mut Vec<u8>) -> Result<(), AllocError>
 // and the bytes after them.
 #[inline(always)]
 fn spell<'k>(negative: bool, bytes: &'k [u8], row: &mut [u8; 48]) -> Option<(usize, &'k [u8])>
-    requires { row.old ≡ replicate 48 48 }
+    requires { row.old ≡ replicate 48 ascii.digit_zero }
     ensures found { (count magnitude : ℕ) → magnitude < 10 ^ count → 0 < magnitude → count ≤ 39 → (more : List ℕ)
         → bytes.now ≡ map (turned negative) (digits_key count magnitude) ++ more
         → MatchOption result ⊥ (λ r. IsSpelled count magnitude r.0 row.new × (r.1.now ≡ more)) }
@@ -102,7 +104,7 @@ fn spell<'k>(negative: bool, bytes: &'k [u8], row: &mut [u8; 48]) -> Option<(usi
 #[inline(always)]
 fn digits_of_pair(pair: u8) -> (u8, u8)
     requires { pair < 128 }
-    ensures { pair < 100 → (result.0 ≡ 48 + pair / 10) × (result.1 ≡ 48 + pair % 10) }
+    ensures { pair < 100 → (result.0 ≡ ascii.digit_zero + pair / 10) × (result.1 ≡ ascii.digit_zero + pair % 10) }
 {
     let from = usize::from(pair) * 2;
     (PAIRS[from], PAIRS[from + 1])
@@ -141,7 +143,7 @@ fn append_row(row: [u8; 48], count: usize, buf: &mut Vec<u8>) -> Result<(), Allo
 // Appends digits with a point between them.
 #[inline(never)]
 fn append_with_point(front: &[u8], back: &[u8], buf: &mut Vec<u8>) -> Result<(), AllocError>
-    ensures { Appends result buf.old buf.new (front.now ++ 46 ∷ back.now) }
+    ensures { Appends result buf.old buf.new (front.now ++ ascii.point ∷ back.now) }
 {
     buf.extend_from_slice(front)?;
     buf.extend_from_slice(b".")?;
@@ -152,7 +154,8 @@ fn append_with_point(front: &[u8], back: &[u8], buf: &mut Vec<u8>) -> Result<(),
 #[inline(never)]
 fn append_fraction(zeros: usize, digits: &[u8], buf: &mut Vec<u8>) -> Result<(), AllocError>
     requires { zeros ≤ 255 }
-    ensures { Appends result buf.old buf.new (48 ∷ 46 ∷ (replicate zeros 48 ++ digits.now)) }
+    ensures { Appends result buf.old buf.new
+        (ascii.digit_zero ∷ ascii.point ∷ (replicate zeros ascii.digit_zero ++ digits.now)) }
 {
     buf.extend_from_slice(b"0.")?;
     append_zeros(zeros, buf)?;
@@ -161,7 +164,7 @@ fn append_fraction(zeros: usize, digits: &[u8], buf: &mut Vec<u8>) -> Result<(),
 
 fn append_zeros(zeros: usize, buf: &mut Vec<u8>) -> Result<(), AllocError>
     requires { zeros ≤ 255 }
-    ensures { Appends result buf.old buf.new (replicate zeros 48) }
+    ensures { Appends result buf.old buf.new (replicate zeros ascii.digit_zero) }
 {
     let row = [b'0'; 255];
     buf.extend_from_slice(&row[..zeros])

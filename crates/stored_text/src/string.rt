@@ -11,6 +11,7 @@ ghost use Rattle.stored_text.specs.Writes.{Keeps, Writes, closing_quote};
 use crate::append::{append_chunk, append_first};
 use jsonb_key::KeyError;
 use jsonb_key::text::{read_byte, skip_pair};
+use jsonb_value::sort_key::kind;
 use jsonb_write::plain::plain_len;
 use std::alloc::AllocError;
 
@@ -29,7 +30,7 @@ pub(crate) fn append_text<'k>(
     let run = plain_len(bytes);
     if run <= 14 {
         if let Some(chunk) = bytes.first_chunk::<16>() {
-            if chunk[run] == 0 && chunk[run + 1] == 1 {
+            if chunk[run] == kind::TERMINATOR && chunk[run + 1] == kind::TEXT_END {
                 let mut row = *chunk;
                 row[run] = b'"';
                 row[run + 1] = b':';
@@ -62,7 +63,7 @@ fn append_long<'k>(
     'runs: loop {
         append_first(rest, run, buf)?;
         let others = &rest[run..];
-        if let Some(after) = skip_pair(1, others) {
+        if let Some(after) = skip_pair(kind::TEXT_END, others) {
             append_closing_quote(colon, buf)?;
             return Ok(after);
         }
@@ -103,7 +104,7 @@ fn append_byte(byte: u8, buf: &mut Vec<u8>) -> Result<(), AllocError>
         b'\n' => buf.extend_from_slice(b"\\n"),
         b'\r' => buf.extend_from_slice(b"\\r"),
         b'\t' => buf.extend_from_slice(b"\\t"),
-        0..0x20 => buf.extend_from_slice(&control_text(byte)),
+        0..b' ' => buf.extend_from_slice(&control_text(byte)),
         _ => buf.extend_from_slice(&[byte]),
     }
 }

@@ -4,6 +4,7 @@ ghost use Rattle.std.specs.Prelude.{◌≡◌, ◌+◌, ◌<◌, ◌≤◌, ◌+
 ghost use Rattle.std.specs.Vec.{vec_capacity};
 ghost use Rattle.jsonb_key.specs.Readable.{IsReadable, IsReadableAt};
 ghost use Rattle.jsonb_stored.specs.Open.{Open, is_object, open_key, IsOpen, name_key, IsScalar};
+ghost use Rattle.jsonb_value.specs.Ascii as ascii;
 ghost use Rattle.jsonb_value.specs.SortKey.{key_of};
 ghost use Rattle.jsonb_value.specs.Text.{tree_text};
 ghost use Rattle.jsonb_value.specs.Text.Appending.{Appends, comma_before};
@@ -15,6 +16,7 @@ use crate::number::append_number;
 use crate::string::append_text;
 use jsonb_key::KeyError;
 use jsonb_stored::skip::{MAX_DEPTH, after_end, kind_at, opening, outermost};
+use jsonb_value::sort_key::kind;
 use std::alloc::AllocError;
 
 /// Appends the serialized form of the value whose sort key the bytes are. A number has the fewest digits: for the key
@@ -85,19 +87,19 @@ fn append_scalar<'k>(bytes: &'k [u8], buf: &mut Vec<u8>) -> Result<&'k [u8], Key
     let Some((first, rest)) = bytes.split_first() else {
         return Err(KeyError::Invalid);
     };
-    if *first == 0xD0 {
+    if *first == kind::STRING {
         buf.extend_from_slice(b"\"")?;
         return append_text(false, rest, buf);
     }
-    if *first == 0xD3 {
+    if *first == kind::NULL {
         buf.extend_from_slice(b"null")?;
         return Ok(rest);
     }
-    if *first == 0x15 {
+    if *first == kind::FALSE {
         buf.extend_from_slice(b"false")?;
         return Ok(rest);
     }
-    if *first == 0x16 {
+    if *first == kind::TRUE {
         buf.extend_from_slice(b"true")?;
         return Ok(rest);
     }
@@ -138,7 +140,7 @@ fn append_comma(is_first: bool, buf: &mut Vec<u8>) -> Result<(), AllocError>
 // Appends a comma, but for the first name, and the double quote that a name begins with.
 #[inline(always)]
 fn append_first_quote(is_first: bool, buf: &mut Vec<u8>) -> Result<(), AllocError>
-    ensures { Appends result buf.old buf.new (comma_before is_first ++ 34 ∷ []) }
+    ensures { Appends result buf.old buf.new (comma_before is_first ++ ascii.quote ∷ []) }
 {
     if is_first {
         return buf.extend_from_slice(b"\"");

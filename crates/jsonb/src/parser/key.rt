@@ -1,6 +1,7 @@
 //! Keys, in quotes and without.
 ghost use Rattle.std.specs.Prelude.{◌≡◌, ◌≢◌, ◌<◌, ◌≤◌, Contains, Err, ◌+◌, Ok, length, take};
 ghost use Rattle.std.specs.Cow.{cow_str_bytes};
+ghost use Rattle.jsonb_value.specs.Ascii as ascii;
 ghost use Rattle.jsonb_value.specs.View.{mark_view};
 ghost use Rattle.jsonb_scan.specs.Answer.{Gives};
 ghost use Rattle.jsonb.specs.Handler.{AsKey, AsNamed, Begins, Builds};
@@ -89,7 +90,7 @@ impl<'a> Parser<'a> {
         requires { self.old.idx ≤ size_of self.old }
         ensures reads { Builds V.silent self.new.told
             (AsKey (Begins (V.stands self.old.buf.now) room.old object.old room.new object.new) (size_of self.old) (rest_of self.new)) result
-            (string_at (size_of self.old) (mode_of self.old.mode) 34 (rest_of self.old)) (rest_of self.new) }
+            (string_at (size_of self.old) (mode_of self.old.mode) ascii.quote (rest_of self.old)) (rest_of self.new) }
         ensures advances { Advances self.old self.new }
         ensures base { V.base room.new ≡ V.base room.old }
     {
@@ -127,7 +128,7 @@ impl<'a> Parser<'a> {
     fn parse_key(&mut self) -> Result<CowStr<'a>>
         requires { self.old.idx ≤ size_of self.old }
         ensures reads { ReadsAs (λ s. (mark_view s, cow_str_bytes s)) key_at result self.old self.new }
-        ensures memory { result ≡ Err Error.OutOfMemory → Contains self.old.buf.now 92 }
+        ensures memory { result ≡ Err Error.OutOfMemory → Contains self.old.buf.now ascii.backslash }
         ensures advances { Advances self.old self.new }
     {
         if self.take_byte(b'"') {

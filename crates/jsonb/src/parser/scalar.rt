@@ -1,5 +1,6 @@
 //! Values that hold no others.
 ghost use Rattle.std.specs.Prelude.{◌≡◌, ◌≢◌, ◌<◌, ◌≤◌, [], ◌∷◌, ◌++◌, drop, length, take, Contains, MatchBool, Err, IfErr, IfNone, IfOk, OnOk, IfSome, Some, true, false, ℕ, List, ◌^◌, pos, neg_ℤ, slice_range};
+ghost use Rattle.jsonb_value.specs.Ascii as ascii;
 ghost use Rattle.jsonb_value.specs.Mode.{standard, extended};
 ghost use Rattle.jsonb_value.specs.View.{number_view};
 ghost use Rattle.jsonb.specs.Handler.{AsNumber, AsScalar, Builds, IsUntold};
@@ -267,7 +268,7 @@ impl<'a> Parser<'a> {
         requires inside { self.old.idx ≤ size_of self.old }
         requires same { text.now ≡ take (length text.now) self.old.buf.now }
         requires mode { mode_of self.old.mode ≡ standard }
-        requires no_string { begins 34 (rest_of self.old) ≡ false }
+        requires no_string { begins ascii.quote (rest_of self.old) ≡ false }
         ensures reads { Pushes V.silent self.new.told V.stands self.old.buf.now result room.old items.old
             (read_at scalar_at self.old) room.new items.new (rest_of self.new) }
         ensures advances { Advances self.old self.new }
@@ -291,7 +292,7 @@ impl<'a> Parser<'a> {
         requires inside { self.old.idx ≤ size_of self.old }
         requires same { text.now ≡ take (length text.now) self.old.buf.now }
         requires mode { mode_of self.old.mode ≡ extended }
-        requires no_string { begins 34 (rest_of self.old) ≡ false }
+        requires no_string { begins ascii.quote (rest_of self.old) ≡ false }
         ensures reads { Pushes V.silent self.new.told V.stands self.old.buf.now result room.old items.old
             (read_at scalar_at self.old) room.new items.new (rest_of self.new) }
         ensures advances { Advances self.old self.new }
@@ -319,7 +320,7 @@ impl<'a> Parser<'a> {
         requires inside { self.old.idx ≤ size_of self.old }
         requires same { text.now ≡ take (length text.now) self.old.buf.now }
         requires mode { mode_of self.old.mode ≡ standard }
-        requires no_string { begins 34 (rest_of self.old) ≡ false }
+        requires no_string { begins ascii.quote (rest_of self.old) ≡ false }
         ensures reads { PutsIn V.silent self.new.told V.stands self.old.buf.now result room.old object.old key
             (read_at scalar_at self.old) room.new object.new (rest_of self.new) }
         ensures advances { Advances self.old self.new }
@@ -344,7 +345,7 @@ impl<'a> Parser<'a> {
         requires inside { self.old.idx ≤ size_of self.old }
         requires same { text.now ≡ take (length text.now) self.old.buf.now }
         requires mode { mode_of self.old.mode ≡ extended }
-        requires no_string { begins 34 (rest_of self.old) ≡ false }
+        requires no_string { begins ascii.quote (rest_of self.old) ≡ false }
         ensures reads { PutsIn V.silent self.new.told V.stands self.old.buf.now result room.old object.old key
             (read_at scalar_at self.old) room.new object.new (rest_of self.new) }
         ensures advances { Advances self.old self.new }
@@ -371,7 +372,7 @@ impl<'a> Parser<'a> {
         requires inside { self.old.idx ≤ size_of self.old }
         requires same { text.now ≡ take (length text.now) self.old.buf.now }
         requires mode { mode_of self.old.mode ≡ standard }
-        requires no_string { begins 34 (rest_of self.old) ≡ false }
+        requires no_string { begins ascii.quote (rest_of self.old) ≡ false }
         ensures reads { Pushes V.silent self.new.told V.stands self.old.buf.now result room.old items.old
             (read_at scalar_at self.old) room.new items.new (rest_of self.new) }
         ensures advances { Advances self.old self.new }
@@ -398,7 +399,7 @@ impl<'a> Parser<'a> {
     ) -> Result<(), Failed>
         requires inside { self.old.idx ≤ size_of self.old }
         requires same { text.now ≡ take (length text.now) self.old.buf.now }
-        requires no_string { begins 34 (rest_of self.old) ≡ false }
+        requires no_string { begins ascii.quote (rest_of self.old) ≡ false }
         ensures reads { Pushes V.silent self.new.told V.stands self.old.buf.now result room.old items.old
             (read_at scalar_at self.old) room.new items.new (rest_of self.new) }
         ensures advances { Advances self.old self.new }
@@ -421,11 +422,11 @@ impl<'a> Parser<'a> {
         items: &mut V::Items,
         text: &'a str,
     ) -> Result<(), Failed>
-        requires opened { IsBehind 34 self.old }
+        requires opened { IsBehind ascii.quote self.old }
         requires inside { self.old.idx ≤ size_of self.old }
         requires same { text.now ≡ take (length text.now) self.old.buf.now }
         ensures reads { Pushes V.silent self.new.told V.stands self.old.buf.now result room.old items.old
-            (read_at (λ size mode. quoted_at size mode 34) self.old) room.new items.new (rest_of self.new) }
+            (read_at (λ size mode. quoted_at size mode ascii.quote) self.old) room.new items.new (rest_of self.new) }
         ensures advances { Advances self.old self.new }
         ensures base { V.base room.new ≡ V.base room.old }
     {
@@ -496,7 +497,7 @@ impl<'a> Parser<'a> {
         requires inside { self.old.idx ≤ size_of self.old }
         requires same { text.now ≡ take (length text.now) self.old.buf.now }
         requires mode { mode_of self.old.mode ≡ standard }
-        requires no_string { begins 34 (rest_of self.old) ≡ false }
+        requires no_string { begins ascii.quote (rest_of self.old) ≡ false }
         ensures reads { PutsIn V.silent self.new.told V.stands self.old.buf.now result room.old object.old key
             (read_at scalar_at self.old) room.new object.new (rest_of self.new) }
         ensures advances { Advances self.old self.new }
@@ -525,7 +526,7 @@ impl<'a> Parser<'a> {
     ) -> Result<(), Failed>
         requires inside { self.old.idx ≤ size_of self.old }
         requires same { text.now ≡ take (length text.now) self.old.buf.now }
-        requires no_string { begins 34 (rest_of self.old) ≡ false }
+        requires no_string { begins ascii.quote (rest_of self.old) ≡ false }
         ensures reads { PutsIn V.silent self.new.told V.stands self.old.buf.now result room.old object.old key
             (read_at scalar_at self.old) room.new object.new (rest_of self.new) }
         ensures advances { Advances self.old self.new }
@@ -555,11 +556,11 @@ impl<'a> Parser<'a> {
         key: V::Key,
         text: &'a str,
     ) -> Result<(), Failed>
-        requires opened { IsBehind 34 self.old }
+        requires opened { IsBehind ascii.quote self.old }
         requires inside { self.old.idx ≤ size_of self.old }
         requires same { text.now ≡ take (length text.now) self.old.buf.now }
         ensures reads { PutsIn V.silent self.new.told V.stands self.old.buf.now result room.old object.old key
-            (read_at (λ size mode. quoted_at size mode 34) self.old) room.new object.new (rest_of self.new) }
+            (read_at (λ size mode. quoted_at size mode ascii.quote) self.old) room.new object.new (rest_of self.new) }
         ensures advances { Advances self.old self.new }
         ensures base { V.base room.new ≡ V.base room.old }
     {
@@ -593,7 +594,8 @@ impl<'a> Parser<'a> {
         requires inside { self.old.idx ≤ size_of self.old }
         requires same { text.now ≡ take (length text.now) self.old.buf.now }
         ensures reads { Builds V.silent self.new.told (AsScalar V.sees) result (read_at scalar_at self.old) (rest_of self.new) }
-        ensures memory { IfErr result (λ _. self.new.told ≡ Some Error.OutOfMemory → Contains self.old.buf.now 92) }
+        ensures memory { IfErr result (λ _. self.new.told ≡ Some Error.OutOfMemory
+            → Contains self.old.buf.now ascii.backslash) }
         ensures advances { Advances self.old self.new }
     {
         if self.take_byte(b'"') {
@@ -608,7 +610,8 @@ impl<'a> Parser<'a> {
         requires inside { self.old.idx ≤ size_of self.old }
         requires same { text.now ≡ take (length text.now) self.old.buf.now }
         ensures reads { Builds V.silent self.new.told (AsScalar V.sees) result (read_at other_scalar_at self.old) (rest_of self.new) }
-        ensures memory { IfErr result (λ _. self.new.told ≡ Some Error.OutOfMemory → Contains self.old.buf.now 92) }
+        ensures memory { IfErr result (λ _. self.new.told ≡ Some Error.OutOfMemory
+            → Contains self.old.buf.now ascii.backslash) }
         ensures advances { Advances self.old self.new }
     {
         if self.take_single_quote() {
@@ -622,7 +625,8 @@ impl<'a> Parser<'a> {
     fn parse_word_or_number<V: Handler<'a>>(&mut self) -> Result<V, Failed>
         requires { self.old.idx ≤ size_of self.old }
         ensures reads { Builds V.silent self.new.told (AsScalar V.sees) result (read_at words_at self.old) (rest_of self.new) }
-        ensures memory { IfErr result (λ _. self.new.told ≡ Some Error.OutOfMemory → Contains self.old.buf.now 92) }
+        ensures memory { IfErr result (λ _. self.new.told ≡ Some Error.OutOfMemory
+            → Contains self.old.buf.now ascii.backslash) }
         ensures advances { Advances self.old self.new }
     {
         if self.next_is_letter(b'n') {
@@ -652,7 +656,8 @@ impl<'a> Parser<'a> {
     fn parse_null<V: Handler<'a>>(&mut self) -> Result<V, Failed>
         requires { self.old.idx ≤ size_of self.old }
         ensures reads { Builds V.silent self.new.told (AsScalar V.sees) result (read_at null_at self.old) (rest_of self.new) }
-        ensures memory { IfErr result (λ _. self.new.told ≡ Some Error.OutOfMemory → Contains self.old.buf.now 92) }
+        ensures memory { IfErr result (λ _. self.new.told ≡ Some Error.OutOfMemory
+            → Contains self.old.buf.now ascii.backslash) }
         ensures advances { Advances self.old self.new }
     {
         let start = self.idx;
@@ -674,7 +679,8 @@ impl<'a> Parser<'a> {
     fn parse_number_value<V: Handler<'a>>(&mut self) -> Result<V, Failed>
         requires { self.old.idx ≤ size_of self.old }
         ensures reads { Builds V.silent self.new.told (AsNumber V.sees) result (read_at number_at self.old) (rest_of self.new) }
-        ensures memory { IfErr result (λ _. self.new.told ≡ Some Error.OutOfMemory → Contains self.old.buf.now 92) }
+        ensures memory { IfErr result (λ _. self.new.told ≡ Some Error.OutOfMemory
+            → Contains self.old.buf.now ascii.backslash) }
         ensures advances { Advances self.old self.new }
     {
         match self.parse_number() {
@@ -686,14 +692,15 @@ impl<'a> Parser<'a> {
     // A string as a value, from the byte after its opening quote on.
     #[inline(always)]
     fn parse_string<V: Handler<'a>>(&mut self, quote: u8, text: &'a str) -> Result<V, Failed>
-        requires no_backslash { quote ≢ 92 }
-        requires ascii { quote < 128 }
+        requires no_backslash { quote ≢ ascii.backslash }
+        requires ascii { quote < ascii.end }
         requires opened { IsBehind quote self.old }
         requires inside { self.old.idx ≤ size_of self.old }
         requires same { text.now ≡ take (length text.now) self.old.buf.now }
         ensures reads { Builds V.silent self.new.told (AsScalar V.sees) result
             (read_at (λ size mode. quoted_at size mode quote) self.old) (rest_of self.new) }
-        ensures memory { IfErr result (λ _. self.new.told ≡ Some Error.OutOfMemory → Contains self.old.buf.now 92) }
+        ensures memory { IfErr result (λ _. self.new.told ≡ Some Error.OutOfMemory
+            → Contains self.old.buf.now ascii.backslash) }
         ensures advances { Advances self.old self.new }
     {
         if let Some(body) = self.borrowed_string(quote, text) {
@@ -709,14 +716,15 @@ impl<'a> Parser<'a> {
         quote: u8,
         text: &'a str,
     ) -> Result<V, Failed>
-        requires no_backslash { quote ≢ 92 }
-        requires ascii { quote < 128 }
+        requires no_backslash { quote ≢ ascii.backslash }
+        requires ascii { quote < ascii.end }
         requires opened { IsBehind quote self.old }
         requires inside { self.old.idx ≤ size_of self.old }
         requires same { text.now ≡ take (length text.now) self.old.buf.now }
         ensures reads { Builds V.silent self.new.told (AsScalar V.sees) result
             (read_at (λ size mode. quoted_at size mode quote) self.old) (rest_of self.new) }
-        ensures memory { IfErr result (λ _. self.new.told ≡ Some Error.OutOfMemory → Contains self.old.buf.now 92) }
+        ensures memory { IfErr result (λ _. self.new.told ≡ Some Error.OutOfMemory
+            → Contains self.old.buf.now ascii.backslash) }
         ensures advances { Advances self.old self.new }
     {
         let from = self.idx;
@@ -736,9 +744,10 @@ impl<'a> Parser<'a> {
     #[inline(always)]
     pub(super) fn take_single_quote(&mut self) -> bool
         ensures found { result ≡ begins_single_quote (mode_of self.old.mode) (rest_of self.old) }
-        ensures rest { MatchBool result (rest_of self.old ≡ 39 ∷ rest_of self.new) (self.new ≡ self.old) }
+        ensures rest { MatchBool result (rest_of self.old ≡ ascii.single_quote ∷ rest_of self.new)
+            (self.new ≡ self.old) }
         ensures inside { MatchBool result (self.new.idx ≤ size_of self.new) (self.new ≡ self.old) }
-        ensures behind { MatchBool result (IsBehind 39 self.new) (Unit {0}) }
+        ensures behind { MatchBool result (IsBehind ascii.single_quote self.new) (Unit {0}) }
         ensures advances { Advances self.old self.new }
     {
         match self.mode {

@@ -1,6 +1,7 @@
 //! Quoted strings.
 ghost use Rattle.std.specs.Prelude.{◌≡◌, ◌≢◌, ◌+◌, ◌<◌, ◌≤◌, Contains, Err, IfNone, IfSome, length, take, ◌++◌, ◌∷◌, true};
 ghost use Rattle.std.specs.Cow.{cow_str_bytes};
+ghost use Rattle.jsonb_value.specs.Ascii as ascii;
 ghost use Rattle.jsonb_value.specs.View.{mark_view};
 ghost use Rattle.jsonb_value.specs.Tree.Mark.{plain};
 ghost use Rattle.jsonb.specs.Parser.{rest_of, size_of, Advances, FindsAs, IsBehind, PassesContents, ReadsAs};
@@ -26,11 +27,11 @@ impl<'a> Parser<'a> {
     // Reads a string from the byte after its opening quote on. It is borrowed where no backslash is in it.
     #[inline(always)]
     pub(super) fn parse_quoted(&mut self, quote: u8) -> Result<CowStr<'a>>
-        requires no_backslash { quote ≢ 92 }
+        requires no_backslash { quote ≢ ascii.backslash }
         requires inside { self.old.idx ≤ size_of self.old }
         ensures reads { ReadsAs (λ s. (mark_view s, cow_str_bytes s)) (λ size mode. string_at size mode quote) result
             self.old self.new }
-        ensures memory { result ≡ Err Error.OutOfMemory → Contains self.old.buf.now 92 }
+        ensures memory { result ≡ Err Error.OutOfMemory → Contains self.old.buf.now ascii.backslash }
         ensures advances { Advances self.old self.new }
     {
         let rest = self.rest();
@@ -56,11 +57,11 @@ impl<'a> Parser<'a> {
     #[cold]
     #[inline(never)]
     pub(super) fn parse_escaped(&mut self, quote: u8) -> Result<CowStr<'a>>
-        requires no_backslash { quote ≢ 92 }
+        requires no_backslash { quote ≢ ascii.backslash }
         requires inside { self.old.idx ≤ size_of self.old }
         ensures reads { ReadsAs (λ s. (mark_view s, cow_str_bytes s)) (λ size mode. string_at size mode quote) result
             self.old self.new }
-        ensures memory { result ≡ Err Error.OutOfMemory → Contains self.old.buf.now 92 }
+        ensures memory { result ≡ Err Error.OutOfMemory → Contains self.old.buf.now ascii.backslash }
         ensures advances { Advances self.old self.new }
     {
         self.parse_quoted(quote)
@@ -70,8 +71,8 @@ impl<'a> Parser<'a> {
     // text is cut at both without a look at the bytes there.
     #[inline(always)]
     pub(super) fn borrowed_string(&mut self, quote: u8, text: &'a str) -> Option<&'a str>
-        requires no_backslash { quote ≢ 92 }
-        requires ascii { quote < 128 }
+        requires no_backslash { quote ≢ ascii.backslash }
+        requires ascii { quote < ascii.end }
         requires opened { IsBehind quote self.old }
         requires inside { self.old.idx ≤ size_of self.old }
         requires same { text.now ≡ take (length text.now) self.old.buf.now }
@@ -104,8 +105,8 @@ impl<'a> Parser<'a> {
     // so that they are cut out of the text as above.
     #[inline(always)]
     pub(super) fn escaped_contents(&mut self, quote: u8, text: &'a str) -> Option<&'a str>
-        requires no_backslash { quote ≢ 92 }
-        requires ascii { quote < 128 }
+        requires no_backslash { quote ≢ ascii.backslash }
+        requires ascii { quote < ascii.end }
         requires opened { IsBehind quote self.old }
         requires inside { self.old.idx ≤ size_of self.old }
         requires same { text.now ≡ take (length text.now) self.old.buf.now }
@@ -132,11 +133,12 @@ impl<'a> Parser<'a> {
     // A string none of whose bytes is written as an escape, from the byte after its opening double quote on.
     #[inline(always)]
     fn plain_string(&mut self, text: &'a str) -> Option<&'a str>
-        requires opened { IsBehind 34 self.old }
+        requires opened { IsBehind ascii.quote self.old }
         requires inside { self.old.idx ≤ size_of self.old }
         requires same { text.now ≡ take (length text.now) self.old.buf.now }
-        ensures reads { FindsAs (λ s. (plain, s.now)) (λ size mode. string_at size mode 34) result self.old self.new }
-        ensures spelled { IfSome result (λ s. rest_of self.old ≡ s.now ++ 34 ∷ rest_of self.new) }
+        ensures reads { FindsAs (λ s. (plain, s.now)) (λ size mode. string_at size mode ascii.quote) result self.old
+            self.new }
+        ensures spelled { IfSome result (λ s. rest_of self.old ≡ s.now ++ ascii.quote ∷ rest_of self.new) }
         ensures plain { IfSome result (λ s. ArePlain s.now) }
         ensures stays { IfNone result (self.new ≡ self.old) }
         ensures advances { Advances self.old self.new }
@@ -163,12 +165,12 @@ impl<'a> Parser<'a> {
     // A string that can be cut out of the text, from the byte after its opening double quote on.
     #[inline(always)]
     pub(super) fn cut_string(&mut self, tells_plain: bool, text: &'a str) -> Option<Cut<'a>>
-        requires opened { IsBehind 34 self.old }
+        requires opened { IsBehind ascii.quote self.old }
         requires inside { self.old.idx ≤ size_of self.old }
         requires same { text.now ≡ take (length text.now) self.old.buf.now }
-        ensures reads { FindsAs (λ cut. (plain, cut.body.now)) (λ size mode. string_at size mode 34) result self.old
-            self.new }
-        ensures spelled { IfSome result (λ cut. rest_of self.old ≡ cut.body.now ++ 34 ∷ rest_of self.new) }
+        ensures reads { FindsAs (λ cut. (plain, cut.body.now)) (λ size mode. string_at size mode ascii.quote) result
+            self.old self.new }
+        ensures spelled { IfSome result (λ cut. rest_of self.old ≡ cut.body.now ++ ascii.quote ∷ rest_of self.new) }
         ensures plain { IfSome result (λ cut. cut.is_plain ≡ true → ArePlain cut.body.now) }
         ensures stays { IfNone result (self.new ≡ self.old) }
         ensures advances { Advances self.old self.new }

@@ -1,5 +1,6 @@
 //! Values with all that is in them, by a loop over the arrays and objects that are open.
 ghost use Rattle.std.specs.Prelude.{◌≡◌, ◌+◌, ◌<◌, ◌≤◌, ℕ, false, true, length, take, List, MatchBool, OnOk, IfOk, IfErr, MatchResult, None, Ok, Some, [], ◌∷◌, ◌++◌, if◌then◌else◌};
+ghost use Rattle.jsonb_value.specs.Ascii as ascii;
 ghost use Rattle.jsonb_value.specs.Code.Code.{expected_array_comma_or_end, expected_object_comma_or_end};
 ghost use Rattle.jsonb_value.specs.Grammar.{max_depth};
 ghost use Rattle.jsonb_value.specs.declared.error.Error.TheVariants.{Syntax};
@@ -45,7 +46,8 @@ impl<'a> Parser<'a> {
     #[inline(always)]
     pub(super) fn begins_container(&self) -> bool
         ensures other { MatchBool result (is_left_out (mode_of self.now.mode) (rest_of self.now) ≡ false)
-            ((begins 91 (rest_of self.now) ≡ false) × (begins 123 (rest_of self.now) ≡ false)) }
+            ((begins ascii.open_bracket (rest_of self.now) ≡ false)
+            × (begins ascii.open_brace (rest_of self.now) ≡ false)) }
         ensures opens { MatchBool result (OpensContainer (rest_of self.now)) (Unit {0}) }
     {
         matches!(self.peek(), Some(b'[' | b'{'))
@@ -336,8 +338,8 @@ impl<'a> Parser<'a> {
     fn end_element(&mut self) -> Result<bool, Failed>
         requires { self.old.idx ≤ size_of self.old }
         ensures reads { Builds false self.new.told (λ x y. x ≡ y) result
-            (part_end (size_of self.old) expected_array_comma_or_end 93 (skip_blanks (mode_of self.old.mode)
-            (rest_of self.old))) (rest_of self.new) }
+            (part_end (size_of self.old) expected_array_comma_or_end ascii.close_bracket
+            (skip_blanks (mode_of self.old.mode) (rest_of self.old))) (rest_of self.new) }
         ensures onward { IfOk result (λ closed. self.old.idx < self.new.idx) }
         ensures advances { Advances self.old self.new }
     {
@@ -356,8 +358,8 @@ impl<'a> Parser<'a> {
     fn end_member(&mut self) -> Result<bool, Failed>
         requires { self.old.idx ≤ size_of self.old }
         ensures reads { Builds false self.new.told (λ x y. x ≡ y) result
-            (part_end (size_of self.old) expected_object_comma_or_end 125 (skip_blanks (mode_of self.old.mode)
-            (rest_of self.old))) (rest_of self.new) }
+            (part_end (size_of self.old) expected_object_comma_or_end ascii.close_brace
+            (skip_blanks (mode_of self.old.mode) (rest_of self.old))) (rest_of self.new) }
         ensures onward { IfOk result (λ closed. self.old.idx < self.new.idx) }
         ensures advances { Advances self.old self.new }
     {

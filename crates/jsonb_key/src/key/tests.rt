@@ -1,6 +1,7 @@
 use super::*;
 use jsonb_value::extension::{Date, Interval, Timestamp, TimestampTz};
 use jsonb_value::number::{Decimal64, Number};
+use jsonb_value::sort_key::kind;
 use std::process::Abort;
 use std::test::Fail;
 
@@ -153,8 +154,8 @@ fn at_most_512_levels_are_decoded(rt: HostRuntime) -> Result<(), Fail> {
     let alloc = rt.alloc();
     for (levels, size, is_key) in [(512, 1024, true), (513, 1026, false), (20000, 40000, false)] {
         let mut key = Vec::new(alloc);
-        key.resize(levels, 210)?;
-        key.resize(size, 0)?;
+        key.resize(levels, kind::ARRAY)?;
+        key.resize(size, kind::TERMINATOR)?;
         match value_of_sort_key(alloc, &key) {
             Ok(_) => assert!(rt; is_key, "{levels} levels"),
             Err(KeyError::Invalid) => assert!(rt; !is_key, "{levels} levels"),

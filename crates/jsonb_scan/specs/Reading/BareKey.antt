@@ -3,6 +3,7 @@
 use Rattle.std.specs.Prelude.{ℕ, zero, suc, ◌+◌, ◌-◌, Bool, ◌||◌, List, [], ◌∷◌, length, take, drop, slice_index, nat_lt, nat_le, Result, Ok, Err, ◌==◌, if◌then◌else◌}
 use Rattle.std.specs.Str.{is_utf8}
 use Rattle.std.specs.Char.{is_ascii_digit, is_ascii_alphanumeric}
+use Rattle.jsonb_value.specs.Ascii as ascii
 use Rattle.jsonb_value.specs.Tree.{Mark, plain}
 use Rattle.jsonb_value.specs.Code.{invalid_eof, invalid_string_value, object_key_invalid_number, object_key_invalid_character}
 use Rattle.jsonb_scan.specs.Reading.{Read, fault}
@@ -10,12 +11,13 @@ use Rattle.jsonb_scan.specs.Reading.String.{further}
 
 -- a letter or a digit of ASCII, `_` or `$`
 abbrev pub is_key_ascii : ℕ → Bool
-is_key_ascii b = is_ascii_alphanumeric b || ((b == 95) || (b == 36))
+is_key_ascii b = is_ascii_alphanumeric b || ((b == ascii.underscore) || (b == ascii.dollar))
 
--- how many bytes a character of a key takes whose first byte is this, or 0 where no key has one
+-- How many bytes a character of a key takes whose first byte is this, or 0 where no key has one. 0xC0, 0xE0 and 0xF0
+-- are the least first bytes of characters of two, three and four bytes in UTF-8.
 abbrev pub key_step : ℕ → ℕ
 key_step b = if is_key_ascii b then 1
-    else (if nat_lt b 192 then 0 else (if nat_lt b 224 then 2 else (if nat_lt b 240 then 3 else 4)))
+    else (if nat_lt b 0xC0 then 0 else (if nat_lt b 0xE0 then 2 else (if nat_lt b 0xF0 then 3 else 4)))
 
 abbrev pub key_chosen : ℕ → Result ℕ ℕ → Result ℕ ℕ
 key_chosen zero later = Ok 0
@@ -38,7 +40,7 @@ text_key size bytes end = if is_utf8 (take end bytes) then Ok ((plain, take end 
     else fault invalid_string_value (size - length bytes + end)
 
 abbrev pub key_to : ℕ → List ℕ → Result ℕ ℕ → Read (Mark × List ℕ)
-key_to size bytes (Ok end) = if (end == 0) || nat_le 128 (slice_index bytes end)
+key_to size bytes (Ok end) = if (end == 0) || nat_le ascii.end (slice_index bytes end)
     then fault object_key_invalid_character (size - length bytes + end) else text_key size bytes end
 key_to size bytes (Err at) = fault invalid_eof (size - length bytes + at)
 

@@ -1,28 +1,33 @@
 -- Skipping whitespace.
 -- Read for: `exact`.
 use Rattle.std.specs.Prelude.{ℕ, zero, suc, ◌+◌, ◌-◌, Bool, false, ◌||◌, ◌&&◌, List, [], ◌∷◌, ◌==◌, if◌then◌else◌}
+use Rattle.jsonb_value.specs.Ascii as ascii
 use Rattle.jsonb_value.specs.Mode.{Mode, standard, extended}
 use Rattle.jsonb_scan.specs.Reading.{on_byte, begins}
 
 -- a byte at which a blank may begin
 abbrev pub is_blank_start : ℕ → Bool
-is_blank_start b = (b == 32) || (b == 9) || (b == 10) || (b == 12) || (b == 13) || (b == 92) || (b == 47)
+is_blank_start b =
+    (b == ascii.space) || (b == ascii.tab) || (b == ascii.line_feed) || (b == ascii.form_feed)
+    || (b == ascii.carriage_return) || (b == ascii.backslash) || (b == ascii.slash)
 
 -- A byte that may follow a value or a bare key, and begins none.
 abbrev pub is_break : ℕ → Bool
-is_break b = is_blank_start b || (b == 44) || (b == 58) || (b == 93) || (b == 125)
+is_break b =
+    is_blank_start b || (b == ascii.comma) || (b == ascii.colon) || (b == ascii.close_bracket)
+    || (b == ascii.close_brace)
 
 -- how many bytes the blank takes whose first bytes are a backslash and x, from the byte after these on, or 0
 abbrev pub form_feed_length : List ℕ → ℕ
 form_feed_length [] = 0
 form_feed_length (c ∷ []) = 0
-form_feed_length (c ∷ d ∷ rest) = if (c == 48) && (d == 67) then 4 else 0
+form_feed_length (c ∷ d ∷ rest) = if (c == ascii.digit_zero) && (d == ascii.upper_c) then 4 else 0
 
 -- how many bytes the blank takes whose first byte is a backslash, from the byte after it on, or 0
 abbrev pub written_length : List ℕ → ℕ
 written_length [] = 0
-written_length (b ∷ bytes) = if (b == 110) || (b == 114) || (b == 116) then 2
-    else (if b == 120 then form_feed_length bytes else 0)
+written_length (b ∷ bytes) = if (b == ascii.lower_n) || (b == ascii.lower_r) || (b == ascii.lower_t) then 2
+    else (if b == ascii.lower_x then form_feed_length bytes else 0)
 
 -- so many bytes more, where there are any
 abbrev pub longer_by : ℕ → ℕ → ℕ
@@ -32,19 +37,20 @@ longer_by more (suc n) = more + suc n
 -- how many bytes there are up to and with the first star and slash, or 0 where there are none
 unfoldable pub block_length : List ℕ → ℕ
 block_length [] = 0
-block_length (b ∷ bytes) = if (b == 42) && begins 47 bytes then 2 else longer_by 1 (block_length bytes)
+block_length (b ∷ bytes) = if (b == ascii.star) && begins ascii.slash bytes then 2 else longer_by 1 (block_length bytes)
 
 -- how many bytes there are up to and with the first end of a line, or 0 where there is none
 unfoldable pub line_length : List ℕ → ℕ
 line_length [] = 0
-line_length (b ∷ bytes) = if (b == 10) || (b == 13) then 1 else longer_by 1 (line_length bytes)
+line_length (b ∷ bytes) =
+    if (b == ascii.line_feed) || (b == ascii.carriage_return) then 1 else longer_by 1 (line_length bytes)
 
 -- how many bytes the comment takes whose first byte is a slash, from the byte after it on, or 0 where none begins or
 -- ends
 abbrev pub comment_length : List ℕ → ℕ
 comment_length [] = 0
-comment_length (b ∷ bytes) = if b == 42 then longer_by 2 (block_length bytes)
-    else (if b == 47 then longer_by 2 (line_length bytes) else 0)
+comment_length (b ∷ bytes) = if b == ascii.star then longer_by 2 (block_length bytes)
+    else (if b == ascii.slash then longer_by 2 (line_length bytes) else 0)
 
 abbrev pub slash_length : Mode → List ℕ → ℕ
 slash_length standard bytes = 0
@@ -54,9 +60,10 @@ slash_length extended bytes = comment_length bytes
 abbrev pub blank_length : Mode → List ℕ → ℕ
 blank_length mode [] = 0
 blank_length mode (b ∷ bytes) =
-    if (b == 32) || (b == 9) || (b == 10) || (b == 12) || (b == 13) then 1
-    else (if b == 92 then written_length bytes
-    else (if b == 47 then slash_length mode bytes else 0))
+    if (b == ascii.space) || (b == ascii.tab) || (b == ascii.line_feed) || (b == ascii.form_feed)
+    || (b == ascii.carriage_return) then 1
+    else (if b == ascii.backslash then written_length bytes
+    else (if b == ascii.slash then slash_length mode bytes else 0))
 
 abbrev pub pass_chosen : ℕ → List ℕ → List ℕ → List ℕ
 pass_chosen zero here later = here
@@ -76,7 +83,8 @@ skip_closed_blanks mode bytes = pass_from mode 0 bytes
 -- whether a comment begins here, closed or not
 abbrev pub opens_comment : Mode → List ℕ → Bool
 opens_comment standard bytes = false
-opens_comment extended bytes = on_byte 47 bytes (λ rest. begins 42 rest || begins 47 rest) false
+opens_comment extended bytes =
+    on_byte ascii.slash bytes (λ rest. begins ascii.star rest || begins ascii.slash rest) false
 
 -- nothing where a comment begins, which is then one without its end
 abbrev pub past_comment : Mode → List ℕ → List ℕ

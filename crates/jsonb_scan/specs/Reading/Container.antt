@@ -1,6 +1,7 @@
 -- Parts joined by commas, arrays, objects, repeated keys.
 -- Read for: `exact`.
 use Rattle.std.specs.Prelude.{ℕ, zero, suc, ◌-◌, Bool, false, ◌||◌, List, [], ◌∷◌, length, Option, Some, None, Ok, map, ◌==◌, if◌then◌else◌}
+use Rattle.jsonb_value.specs.Ascii as ascii
 use Rattle.jsonb_value.specs.Mode.{Mode, standard, extended}
 use Rattle.jsonb_value.specs.Tree.{Mark}
 use Rattle.jsonb_value.specs.Code.{Code, invalid_eof, expected_colon, expected_array_comma_or_end, expected_object_comma_or_end, object_duplicate_key}
@@ -14,7 +15,7 @@ use Rattle.jsonb_scan.specs.Reading.Scalar.{key_at}
 module _ {A : Type 0} (size : ℕ) (code : Code) (close : ℕ) (part : List ℕ → Read A) where
   abbrev pub after_part : (List ℕ → Read (List A)) → A → List ℕ → Read (List A)
   after_part others a bytes =
-      on_byte 44 bytes (λ rest. others rest >>= λ x. Ok (a ∷ x.0, x.1))
+      on_byte ascii.comma bytes (λ rest. others rest >>= λ x. Ok (a ∷ x.0, x.1))
       (on_byte close bytes (λ rest. Ok (a ∷ [], rest)) (refused size code 0 bytes))
 
   -- The number bounds the parts. One more than the bytes is always enough.
@@ -30,7 +31,7 @@ padded_at mode read bytes = read (skip_blanks mode bytes) >>= λ x. Ok (x.0, ski
 
 abbrev pub ends_element : List ℕ → Bool
 ends_element [] = false
-ends_element (b ∷ bytes) = (b == 44) || (b == 93)
+ends_element (b ∷ bytes) = (b == ascii.comma) || (b == ascii.close_bracket)
 
 -- whether an element is left out here
 abbrev pub is_left_out : Mode → List ℕ → Bool
@@ -45,13 +46,14 @@ element_at mode value = padded_at mode (value_or_null mode value)
 
 abbrev pub elements_at : ℕ → Mode → (List ℕ → Read Source) → List ℕ → Read Source
 elements_at size mode value bytes =
-    joined_at size expected_array_comma_or_end 93 (element_at mode value) (suc (length bytes))
+    joined_at size expected_array_comma_or_end ascii.close_bracket (element_at mode value) (suc (length bytes))
     (skip_blanks mode bytes) >>= λ x. Ok (array_source_of x.0, x.1)
 
 -- an array, from the byte after the bracket on
 abbrev pub array_at : ℕ → Mode → (List ℕ → Read Source) → List ℕ → Read Source
 array_at size mode value bytes =
-    on_byte 93 (skip_blanks mode bytes) (λ rest. Ok (array_source no_sources, rest)) (elements_at size mode value bytes)
+    on_byte ascii.close_bracket (skip_blanks mode bytes) (λ rest. Ok (array_source no_sources, rest))
+    (elements_at size mode value bytes)
 
 -- ---- objects
 
@@ -60,7 +62,8 @@ found_at key place x = Ok (found key x.0 place, x.1)
 
 abbrev pub after_key : ℕ → Mode → (List ℕ → Read Source) → Mark × List ℕ → ℕ → List ℕ → Read Found
 after_key size mode value key place bytes =
-    on_byte 58 bytes (λ rest. padded_at mode value rest >>= found_at key place) (refused size expected_colon 0 bytes)
+    on_byte ascii.colon bytes (λ rest. padded_at mode value rest >>= found_at key place)
+    (refused size expected_colon 0 bytes)
 
 abbrev pub member_at : ℕ → Mode → (List ℕ → Read Source) → List ℕ → Read Found
 member_at size mode value bytes =
@@ -73,11 +76,11 @@ object_or_fault (Some s) fs rest = fault (object_duplicate_key s.key) s.place
 
 abbrev pub members_at : ℕ → Mode → (List ℕ → Read Source) → List ℕ → Read Source
 members_at size mode value bytes =
-    joined_at size expected_object_comma_or_end 125 (member_at size mode value) (suc (length bytes))
+    joined_at size expected_object_comma_or_end ascii.close_brace (member_at size mode value) (suc (length bytes))
     (skip_blanks mode bytes) >>= λ x. object_or_fault (first_repeat (map spot_of x.0)) x.0 x.1
 
 -- an object, from the byte after the brace on
 abbrev pub object_at : ℕ → Mode → (List ℕ → Read Source) → List ℕ → Read Source
 object_at size mode value bytes =
-    on_byte 125 (skip_blanks mode bytes) (λ rest. Ok (object_source no_source_members, rest))
+    on_byte ascii.close_brace (skip_blanks mode bytes) (λ rest. Ok (object_source no_source_members, rest))
     (members_at size mode value bytes)

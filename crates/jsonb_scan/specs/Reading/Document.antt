@@ -1,6 +1,7 @@
 -- Values by depth, and whole documents (`source_of`, `document_of`).
 -- Read for: `exact`.
 use Rattle.std.specs.Prelude.{ℕ, zero, suc, ◌+◌, ◌-◌, List, [], ◌∷◌, length, Result, Ok, if◌then◌else◌}
+use Rattle.jsonb_value.specs.Ascii as ascii
 use Rattle.jsonb_value.specs.Mode.{Mode, standard, extended}
 use Rattle.jsonb_value.specs.Tree.{Tree}
 use Rattle.jsonb_value.specs.Code.{invalid_eof, unexpected_trailing_characters, depth_limit_exceeded}
@@ -17,7 +18,8 @@ alone_at read = read >>= λ x. Ok (source_alone x.0, x.1)
 
 abbrev pub value_with : ℕ → Mode → (List ℕ → Read Source) → (List ℕ → Read Source) → List ℕ → Read Source
 value_with size mode array object bytes =
-    on_byte 91 bytes array (on_byte 123 bytes object (alone_at (scalar_at size mode bytes)))
+    on_byte ascii.open_bracket bytes array
+    (on_byte ascii.open_brace bytes object (alone_at (scalar_at size mode bytes)))
 
 abbrev pub too_deep : ℕ → List ℕ → Read Source
 too_deep size rest = fault depth_limit_exceeded (size - length rest)
@@ -31,7 +33,7 @@ value_at size mode (suc depth) =
 
 -- the end of a text in a comment without its end, from the byte after the slash on: a line comment ends with the text
 abbrev pub comment_at : ℕ → Source → List ℕ → Result Source Fault
-comment_at size s bytes = if begins 47 bytes then Ok s else fault invalid_eof size
+comment_at size s bytes = if begins ascii.slash bytes then Ok s else fault invalid_eof size
 
 abbrev pub at_end : ℕ → Mode → Source → List ℕ → Result Source Fault
 at_end size mode s [] = Ok s

@@ -4,6 +4,7 @@ use Rattle.std.specs.Prelude.{◌≡◌, ⊤, ◌⊎◌, ℕ, ◌+◌, ◌-◌, 
 use Rattle.std.specs.Char.{digit_value, to_ascii_lowercase}
 use Rattle.std.specs.List.{prefix_len}
 use Rattle.std.specs.Str.Parse.{digits_value}
+use Rattle.jsonb_value.specs.Ascii as ascii
 use Rattle.jsonb_value.specs.Code.{Code, invalid_eof, invalid_number_value, expected_some_ident}
 use Rattle.jsonb_value.specs.Grammar.ExtendedNumber.{is_minus, decimal_number, hexadecimal_number}
 use Rattle.jsonb_value.specs.Number.Signed.{signed_by}
@@ -32,7 +33,7 @@ core_byte bytes = slice_index bytes (core_start bytes)
 
 -- how many zeros the bytes begin with
 unfoldable pub zeros_length : List ℕ → ℕ
-zeros_length bytes = prefix_len (λ b. b == 48) bytes
+zeros_length bytes = prefix_len (λ b. b == ascii.digit_zero) bytes
 
 -- the index after the zeros from start on
 abbrev pub zeros_from : List ℕ → ℕ → ℕ
@@ -40,11 +41,11 @@ zeros_from bytes start = start + zeros_length (drop start bytes)
 
 -- the index after a point, if one is there
 abbrev pub point_from : List ℕ → ℕ → ℕ
-point_from bytes start = if slice_index bytes start == 46 then start + 1 else start
+point_from bytes start = if slice_index bytes start == ascii.point then start + 1 else start
 
 -- the index after the digits behind a point, if one is there
 abbrev pub behind_from : List ℕ → ℕ → ℕ
-behind_from bytes start = if slice_index bytes start == 46 then digits_from bytes (start + 1) else start
+behind_from bytes start = if slice_index bytes start == ascii.point then digits_from bytes (start + 1) else start
 
 -- where the parts of a decimal end: its zeros, all digits before the point, the point, and the digits behind it
 abbrev pub zeros_end : List ℕ → ℕ
@@ -74,7 +75,7 @@ lacks_digits bytes = front_end bytes - core_start bytes + scale_at bytes == 0
 -- whether a second point follows, before so many digits were read that it ends the number
 abbrev pub has_second_point : List ℕ → Bool
 has_second_point bytes = nat_lt (front_end bytes) (point_end bytes)
-    && (nat_lt (precision_at bytes) 76 && (slice_index bytes (behind_end bytes) == 46))
+    && (nat_lt (precision_at bytes) 76 && (slice_index bytes (behind_end bytes) == ascii.point))
 
 -- the index after a decimal number text that the bytes begin with
 unfoldable pub decimal_end : List ℕ → End
@@ -133,7 +134,7 @@ fraction_scan place whole_fits bytes =
 unfoldable pub hexadecimal_scan : ℕ → Bool → List ℕ → Scanned
 hexadecimal_scan place negative bytes =
     if hexadecimal_length bytes == 0 then Err (invalid_number_value, place)
-    else (if slice_index bytes (hexadecimal_length bytes) == 46
+    else (if slice_index bytes (hexadecimal_length bytes) == ascii.point
     then fraction_scan (place + hexadecimal_length bytes + 1)
     (hexadecimal_fits (take (hexadecimal_length bytes) bytes)) (drop (hexadecimal_length bytes + 1) bytes)
     else hexadecimal_whole (place + hexadecimal_length bytes) negative (take (hexadecimal_length bytes) bytes))
@@ -160,7 +161,7 @@ invalid_word (Err f) = Err f
 -- a word from its first letter on, after a minus or not
 unfoldable pub word_scan : ℕ → Bool → List ℕ → Scanned
 word_scan place negative bytes =
-    if to_ascii_lowercase (slice_index bytes 0) == 110
+    if to_ascii_lowercase (slice_index bytes 0) == ascii.lower_n
     then (if negative then invalid_word (spelled_from place (codes "nan") bytes)
     else uncarried_word (spelled_from place (codes "nan") bytes))
     else uncarried_word (spelled_from place (codes "infinity") bytes)
@@ -169,12 +170,12 @@ word_scan place negative bytes =
 
 -- `n` or `i` in either case
 abbrev pub is_word_start : ℕ → Bool
-is_word_start b = (to_ascii_lowercase b == 110) || (to_ascii_lowercase b == 105)
+is_word_start b = (to_ascii_lowercase b == ascii.lower_n) || (to_ascii_lowercase b == ascii.lower_i)
 
 -- whether a zero and an x stand here
 abbrev pub hexadecimal_starts : List ℕ → ℕ → Bool
-hexadecimal_starts bytes start = (slice_index bytes start == 48)
-    && (to_ascii_lowercase (slice_index bytes (start + 1)) == 120)
+hexadecimal_starts bytes start = (slice_index bytes start == ascii.digit_zero)
+    && (to_ascii_lowercase (slice_index bytes (start + 1)) == ascii.lower_x)
 
 -- whether a zero and an x stand after the sign
 abbrev pub is_hexadecimal_start : List ℕ → Bool
@@ -197,15 +198,16 @@ extended_number_at size bytes = scanned_to size bytes (extended_scan bytes)
 
 -- A byte at which an extended number may begin, or a word but `nan`, which is tried where `null` fails.
 abbrev pub is_extended_start : ℕ → Bool
-is_extended_start b = is_number_start b || (b == 43) || (b == 46) || (to_ascii_lowercase b == 105)
+is_extended_start b =
+    is_number_start b || (b == ascii.plus) || (b == ascii.point) || (to_ascii_lowercase b == ascii.lower_i)
 
 -- a byte that goes on with a number after digits: a point, an exponent mark or an x
 abbrev pub FollowsDigits : ℕ → Type 0
-FollowsDigits b = ContinuesAfterInteger b ⊎ ((b ≡ 120) ⊎ (b ≡ 88))
+FollowsDigits b = ContinuesAfterInteger b ⊎ ((b ≡ ascii.lower_x) ⊎ (b ≡ ascii.upper_x))
 
 -- a byte that goes on with an extended number: a hexadecimal digit, a point or an x
 abbrev pub ContinuesNumberExtended : ℕ → Type 0
-ContinuesNumberExtended b = (digit_value b < 16) ⊎ ((b ≡ 46) ⊎ (to_ascii_lowercase b ≡ 120))
+ContinuesNumberExtended b = (digit_value b < 16) ⊎ ((b ≡ ascii.point) ⊎ (to_ascii_lowercase b ≡ ascii.lower_x))
 
 -- the bytes don't go on with an extended number
 abbrev pub EndsExtended : List ℕ → Type 0

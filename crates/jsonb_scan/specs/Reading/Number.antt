@@ -1,10 +1,11 @@
 -- Where a standard number ends, and which number it is.
 -- Read for: `exact`.
 use Rattle.std.specs.Prelude.{◌≡◌, ⊤, ◌⊎◌, ℕ, ◌+◌, ◌-◌, ◌==◌, ◌||◌, ◌&&◌, ◌^◌, Bool, true, false, List, [], ◌∷◌, take, drop, length, nat_lt, nat_le, pos, neg_ℤ, slice_index, if◌then◌else◌, Option, Some, None, Result, Ok, Err}
-use Rattle.std.specs.Char.{is_ascii_digit}
-use Rattle.std.specs.Int.{IsInRange, from_bool}
+use Rattle.std.specs.Char.{IsAsciiDigit, is_ascii_digit}
+use Rattle.std.specs.Int.{from_bool}
 use Rattle.std.specs.List.{prefix_len}
 use Rattle.std.specs.Str.Parse.{digits_value}
+use Rattle.jsonb_value.specs.Ascii as ascii
 use Rattle.jsonb_value.specs.Code.{invalid_number_value, number_not_carried}
 use Rattle.jsonb_value.specs.Grammar.StandardNumber.{IsExponentMark}
 use Rattle.jsonb_value.specs.Tree.{int64, uint64, Num}
@@ -31,12 +32,13 @@ digits_from bytes start = start + digits_length (drop start bytes)
 
 -- the index after a sign, if one is there
 abbrev pub sign_end : List ℕ → ℕ → ℕ
-sign_end bytes start = if (slice_index bytes start == 43) || (slice_index bytes start == 45) then start + 1 else start
+sign_end bytes start =
+    if (slice_index bytes start == ascii.plus) || (slice_index bytes start == ascii.minus) then start + 1 else start
 
 -- the index after an exponent, if one is there: a digit is due behind its mark and sign
 unfoldable pub exponent_from : List ℕ → ℕ → End
 exponent_from bytes start =
-    if (slice_index bytes start == 101) || (slice_index bytes start == 69)
+    if (slice_index bytes start == ascii.lower_e) || (slice_index bytes start == ascii.upper_e)
     then (if digits_length (drop (sign_end bytes (start + 1)) bytes) == 0 then Err (sign_end bytes (start + 1))
     else Ok (digits_from bytes (sign_end bytes (start + 1))))
     else Ok start
@@ -44,7 +46,7 @@ exponent_from bytes start =
 -- the index after a fraction, if one is there: a digit is due behind its point
 unfoldable pub fraction_from : List ℕ → ℕ → End
 fraction_from bytes start =
-    if slice_index bytes start == 46
+    if slice_index bytes start == ascii.point
     then (if digits_length (drop (start + 1) bytes) == 0 then Err (start + 2)
     else Ok (digits_from bytes (start + 1))) else Ok start
 
@@ -52,12 +54,13 @@ fraction_from bytes start =
 unfoldable pub whole_from : List ℕ → ℕ → End
 whole_from bytes start =
     if digits_length (drop start bytes) == 0 then Err start
-    else (if (slice_index bytes start == 48) && nat_lt 1 (digits_length (drop start bytes)) then Err (start + 2)
+    else (if (slice_index bytes start == ascii.digit_zero) && nat_lt 1 (digits_length (drop start bytes))
+    then Err (start + 2)
     else Ok (digits_from bytes start))
 
 -- whether the bytes begin with a minus
 abbrev pub has_minus : List ℕ → Bool
-has_minus bytes = slice_index bytes 0 == 45
+has_minus bytes = slice_index bytes 0 == ascii.minus
 
 -- the index at which the whole part is due
 abbrev pub whole_start : List ℕ → ℕ
@@ -103,15 +106,15 @@ standard_number_at size bytes = number_to size bytes (standard_end bytes)
 
 -- a byte at which a standard number may begin: a digit or a minus
 abbrev pub is_number_start : ℕ → Bool
-is_number_start b = is_ascii_digit b || (b == 45)
+is_number_start b = is_ascii_digit b || (b == ascii.minus)
 
 -- a byte that goes on with a number after its whole part: a point or an exponent mark
 abbrev pub ContinuesAfterInteger : ℕ → Type 0
-ContinuesAfterInteger b = (b ≡ 46) ⊎ IsExponentMark b
+ContinuesAfterInteger b = (b ≡ ascii.point) ⊎ IsExponentMark b
 
 -- a byte that goes on with a number: a digit, a point or an exponent mark
 abbrev pub ContinuesNumber : ℕ → Type 0
-ContinuesNumber b = IsInRange 48 57 b ⊎ ContinuesAfterInteger b
+ContinuesNumber b = IsAsciiDigit b ⊎ ContinuesAfterInteger b
 
 -- the bytes don't go on with a number
 abbrev pub IsNumberBoundary : List ℕ → Type 0

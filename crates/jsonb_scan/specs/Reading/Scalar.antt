@@ -2,6 +2,7 @@
 -- Read for: `exact`.
 use Rattle.std.specs.Prelude.{ℕ, Bool, true, false, List, [], ◌∷◌, codes, Result, Ok, Err, ◌==◌, if◌then◌else◌}
 use Rattle.std.specs.Char.{to_ascii_lowercase}
+use Rattle.jsonb_value.specs.Ascii as ascii
 use Rattle.jsonb_value.specs.Mode.{Mode, standard, extended}
 use Rattle.jsonb_value.specs.Tree.{Mark, Num, Tree, null, boolean, string, number}
 use Rattle.jsonb_value.specs.Code.{expected_some_ident, expected_some_value}
@@ -42,7 +43,7 @@ word_at size mode word t bytes = letters_at size mode word bytes >>= λ rest. Ok
 -- the one where the bytes begin with a single quote in extended mode, of the bytes after it, and else the other
 abbrev pub on_single_quote : {X : Type 0} → Mode → List ℕ → (List ℕ → X) → X → X
 on_single_quote standard bytes found other = other
-on_single_quote extended bytes found other = on_byte 39 bytes found other
+on_single_quote extended bytes found other = on_byte ascii.single_quote bytes found other
 
 -- a string as a value, from the byte after the opening quote on
 abbrev pub quoted_at : ℕ → Mode → ℕ → List ℕ → Read Tree
@@ -77,11 +78,11 @@ number_or_fault size mode bytes = if begins_number mode bytes then number_value_
 -- ---- scalars and keys
 
 abbrev pub false_at : ℕ → Mode → List ℕ → Read Tree
-false_at size mode bytes = if begins_letter mode 102 bytes
+false_at size mode bytes = if begins_letter mode ascii.lower_f bytes
     then word_at size mode (codes "false") (boolean false) bytes else number_or_fault size mode bytes
 
 abbrev pub true_or_false_at : ℕ → Mode → List ℕ → Read Tree
-true_or_false_at size mode bytes = if begins_letter mode 116 bytes
+true_or_false_at size mode bytes = if begins_letter mode ascii.lower_t bytes
     then word_at size mode (codes "true") (boolean true) bytes else false_at size mode bytes
 
 -- the first, or where it fails the other
@@ -96,16 +97,18 @@ null_at size extended bytes =
     or_else (word_at size extended (codes "null") null bytes) (number_value_at size extended bytes)
 
 abbrev pub words_at : ℕ → Mode → List ℕ → Read Tree
-words_at size mode bytes = if begins_letter mode 110 bytes then null_at size mode bytes
+words_at size mode bytes = if begins_letter mode ascii.lower_n bytes then null_at size mode bytes
     else true_or_false_at size mode bytes
 
 -- a string in single quotes, a word or a number
 abbrev pub other_scalar_at : ℕ → Mode → List ℕ → Read Tree
-other_scalar_at size mode bytes = on_single_quote mode bytes (quoted_at size mode 39) (words_at size mode bytes)
+other_scalar_at size mode bytes =
+    on_single_quote mode bytes (quoted_at size mode ascii.single_quote) (words_at size mode bytes)
 
 -- a word, a string or a number
 unfoldable pub scalar_at : ℕ → Mode → List ℕ → Read Tree
-scalar_at size mode bytes = on_byte 34 bytes (quoted_at size mode 34) (other_scalar_at size mode bytes)
+scalar_at size mode bytes =
+    on_byte ascii.quote bytes (quoted_at size mode ascii.quote) (other_scalar_at size mode bytes)
 
 -- a key without quotes
 abbrev pub unquoted_at : ℕ → Mode → List ℕ → Read (Mark × List ℕ)
@@ -115,5 +118,5 @@ unquoted_at size extended bytes = bare_key_at size bytes
 -- a key, with its mark
 unfoldable pub key_at : ℕ → Mode → List ℕ → Read (Mark × List ℕ)
 key_at size mode bytes =
-    on_byte 34 bytes (string_at size mode 34)
-    (on_single_quote mode bytes (string_at size mode 39) (unquoted_at size mode bytes))
+    on_byte ascii.quote bytes (string_at size mode ascii.quote)
+    (on_single_quote mode bytes (string_at size mode ascii.single_quote) (unquoted_at size mode bytes))

@@ -3,6 +3,7 @@
 use Rattle.std.specs.Prelude.{ℕ, zero, suc, ◌+◌, ◌-◌, Bool, true, false, List, [], ◌∷◌, length, take, drop, slice_index, nat_lt, Option, Some, None, Result, Ok, Err, ◌==◌, if◌then◌else◌}
 use Rattle.std.specs.Str.{is_utf8}
 use Rattle.std.specs.Char.{digit_value}
+use Rattle.jsonb_value.specs.Ascii as ascii
 use Rattle.jsonb_value.specs.Mode.{Mode}
 use Rattle.jsonb_value.specs.Tree.{Mark}
 use Rattle.jsonb_value.specs.Code.{Code, invalid_eof, invalid_string_value, invalid_escaped, invalid_hex, unexpected_end_of_hex_escape}
@@ -34,8 +35,8 @@ unit_of braces digits = checked_unit braces digits (non_digit digits)
 unfoldable pub unit_at : List ℕ → Body Item
 unit_at bytes =
     if nat_lt (length bytes) 4 then Err (unexpected_end_of_hex_escape, 2)
-    else (if slice_index bytes 0 == 123
-    then (if slice_index bytes 5 == 125 then unit_of true (take 4 (drop 1 bytes))
+    else (if slice_index bytes 0 == ascii.open_brace
+    then (if slice_index bytes 5 == ascii.close_brace then unit_of true (take 4 (drop 1 bytes))
     else Err (unexpected_end_of_hex_escape, 2)) else unit_of false (take 4 bytes))
 
 abbrev pub known_escape : ℕ → Option ℕ → Body Item
@@ -45,12 +46,12 @@ known_escape letter (Some byte) = Ok (escape letter byte)
 -- an escape, from the byte after the backslash on
 unfoldable pub escape_at : Mode → List ℕ → Body Item
 escape_at mode [] = Err (unexpected_end_of_hex_escape, 1)
-escape_at mode (letter ∷ bytes) = if letter == 117 then unit_at bytes
+escape_at mode (letter ∷ bytes) = if letter == ascii.lower_u then unit_at bytes
     else known_escape letter (escaped_byte mode letter)
 
 -- the first item of a body
 unfoldable pub item_at : Mode → ℕ → List ℕ → Body Item
-item_at mode byte bytes = if byte == 92 then escape_at mode bytes else Ok (raw byte)
+item_at mode byte bytes = if byte == ascii.backslash then escape_at mode bytes else Ok (raw byte)
 
 abbrev pub onto : Item → Body (List Item) → Body (List Item)
 onto item (Ok items) = Ok (item ∷ items)

@@ -3,6 +3,7 @@ ghost use Rattle.std.specs.Prelude.{◌≡◌, ◌↔◌, ℕ, ◌+◌, ◌<◌,
 ghost use Rattle.std.specs.Int.{bit_at};
 ghost use Rattle.jsonb_scan.specs.Answer.{mode_of};
 ghost use Rattle.jsonb_scan.specs.Reading.Blank.{block_length, line_length, comment_length, blank_length};
+ghost use Rattle.jsonb_value.specs.Ascii as ascii;
 
 use super::Mode;
 use super::vector::{both, equal_to, load, lowest, top_bits};
@@ -13,8 +14,8 @@ use std::simd::prelude::*;
 #[inline(always)]
 fn block_ends(bytes: &[u8], at: usize) -> u64
     requires { at + 33 ≤ length bytes.now }
-    ensures { (k : ℕ) → (bit_at result k ≡ 1) ↔ ((k < 32) × (slice_index bytes.now (at + k) ≡ 42)
-        × (slice_index bytes.now (at + 1 + k) ≡ 47)) }
+    ensures { (k : ℕ) → (bit_at result k ≡ 1) ↔ ((k < 32) × (slice_index bytes.now (at + k) ≡ ascii.star)
+        × (slice_index bytes.now (at + 1 + k) ≡ ascii.slash)) }
 {
     let here = load(bytes, at);
     let stars = equal_to(here, b'*');
@@ -86,7 +87,7 @@ pub fn blank_len(bytes: &[u8], mode: Mode) -> usize
     ensures within { result ≤ length bytes.now }
 {
     match bytes {
-        [b' ' | b'\t' | b'\n' | 0x0C | b'\r', ..] => 1,
+        [b' ' | b'\t' | b'\n' | b'\x0C' | b'\r', ..] => 1,
         [b'\\', b'n' | b'r' | b't', ..] => 2,
         [b'\\', b'x', b'0', b'C', ..] => 4,
         [b'/', ..] => match mode {
@@ -101,7 +102,7 @@ pub fn blank_len(bytes: &[u8], mode: Mode) -> usize
 #[inline(always)]
 fn space_bits(bytes: &[u8]) -> u64
     requires { 16 ≤ length bytes.now }
-    ensures spaces { (k : ℕ) → bit_at result k ≡ 1 → slice_index bytes.now k ≡ 32 }
+    ensures spaces { (k : ℕ) → bit_at result k ≡ 1 → slice_index bytes.now k ≡ ascii.space }
     ensures bound { result < 2 ^ 16 }
 {
     u8x16::from_slice(bytes)
@@ -113,7 +114,7 @@ fn space_bits(bytes: &[u8]) -> u64
 #[inline(always)]
 pub fn near_spaces(bytes: &[u8]) -> usize
     ensures within { result ≤ length bytes.now }
-    ensures spaces { (k : ℕ) → k < result → slice_index bytes.now k ≡ 32 }
+    ensures spaces { (k : ℕ) → k < result → slice_index bytes.now k ≡ ascii.space }
 {
     if bytes.len() < 16 {
         return 0;

@@ -4,6 +4,7 @@ ghost use Rattle.std.specs.Char.{is_ascii_digit};
 ghost use Rattle.std.specs.Int.{w64, trailing_zeros};
 ghost use Rattle.jsonb_scan.specs.Reading.Number.{digits_length, is_number_start};
 ghost use Rattle.jsonb_scan.specs.ShortInteger.{IsKeptInteger};
+ghost use Rattle.jsonb_value.specs.Ascii as ascii;
 
 use super::number::{after_minus, byte_at, continues_number, digits_within, short_digits};
 use std::simd::prelude::*;
@@ -74,7 +75,7 @@ fn digits_len(bytes: &[u8]) -> usize
 // Whether an integer of so many bytes, with its sign, may have this first digit.
 #[inline(always)]
 fn may_begin(digit: u8, len: usize) -> bool
-    ensures { MatchBool result ((digit ≡ 48 → ⊥) ⊎ (len ≤ 1)) (Unit {0}) }
+    ensures { MatchBool result ((digit ≡ ascii.digit_zero → ⊥) ⊎ (len ≤ 1)) (Unit {0}) }
 {
     if digit != b'0' {
         return true;

@@ -1,10 +1,10 @@
 //! The numbers of standard texts.
 ghost use Rattle.std.specs.Prelude.{◌≡◌, ℕ, ◌+◌, ◌*◌, ◌≤◌, ◌<◌, ◌^◌, ◌-◌, true, false, length, take, drop, slice_index, Err, Some, None, MatchOption, IfOk, IfErr, IfSome, Ok};
-ghost use Rattle.std.specs.Char.{digit_value, is_ascii_digit};
+ghost use Rattle.std.specs.Char.{IsAsciiDigit, digit_value, is_ascii_digit};
 ghost use Rattle.std.specs.Bool.{MatchBool};
-ghost use Rattle.std.specs.Int.{IsInRange};
 ghost use Rattle.std.specs.Option.{SomeIff};
 ghost use Rattle.std.specs.Str.Parse.{AllDigits, digits_value};
+ghost use Rattle.jsonb_value.specs.Ascii as ascii;
 ghost use Rattle.jsonb_value.specs.View.{number_view};
 ghost use Rattle.jsonb_scan.specs.ShortInteger.{short_view};
 ghost use Rattle.jsonb_scan.specs.Reading.Number.{ContinuesAfterInteger, ContinuesNumber, is_number_start, standard_number_at, digits_length, digits_from, sign_end, exponent_from, fraction_from, whole_start, then_from, integer_of};
@@ -44,7 +44,7 @@ pub(super) fn digits_end(bytes: &[u8], start: usize) -> usize
 
 // The number with one digit more, where 64 bits hold it.
 fn appended(number: u64, digit: u8) -> Option<u64>
-    requires { IsInRange 48 57 digit }
+    requires { IsAsciiDigit digit }
     ensures { SomeIff result (number * 10 + digit_value digit < 2 ^ 64) (number * 10 + digit_value digit) }
 {
     number.checked_mul(10)?.checked_add(u64::from(digit - b'0'))
@@ -83,7 +83,7 @@ pub fn leading_digits(bytes: &[u8]) -> Digits
 #[inline(always)]
 fn digit_of(byte: u8) -> u64
     ensures digit { result < 10 → is_ascii_digit byte ≡ true }
-    ensures value { is_ascii_digit byte ≡ true → result ≡ byte - 48 }
+    ensures value { is_ascii_digit byte ≡ true → result ≡ byte - ascii.digit_zero }
     ensures other { 10 ≤ result → is_ascii_digit byte ≡ false }
 {
     u64::from(byte).wrapping_sub(48)

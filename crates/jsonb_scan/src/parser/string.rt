@@ -1,5 +1,6 @@
 //! Quoted strings.
 ghost use Rattle.std.specs.Prelude.{◌≡◌, ◌≢◌, ◌==◌, IfSome, IfNone, ℕ, ◌+◌, ◌<◌, ◌≤◌, ◌^◌, length, slice_index, Err, true};
+ghost use Rattle.jsonb_value.specs.Ascii as ascii;
 ghost use Rattle.jsonb_value.specs.Grammar.StringStep.{escape_step};
 ghost use Rattle.jsonb_scan.specs.Decoding.{TellsBackslash};
 ghost use Rattle.jsonb_scan.specs.Answer.{mode_of};
@@ -160,7 +161,7 @@ fn later_mark(bytes: &[u8], quote: u8, at: usize) -> (usize, u64)
 /// Looks for the quote that ends a string. An escape is stepped over by its first bytes, without a look at the others.
 #[inline(always)]
 pub fn find_end(bytes: &[u8], quote: u8) -> StringEnd
-    requires { quote ≢ 92 }
+    requires { quote ≢ ascii.backslash }
     ensures { EndsString quote bytes.now result }
 {
     let mut at = 0;

@@ -1,5 +1,6 @@
 //! Decodes the contents of a string, escape by escape and run by run.
 ghost use Rattle.std.specs.Prelude.{◌≡◌, ◌≢◌, ◌+◌, ◌*◌, ◌^◌, ◌≤◌, ◌<◌, ◌∷◌, ◌++◌, [], length, take, min, IfOk, IfErr, IfSome, OnErr, OnOk, Some, None, Err, string_bytes};
+ghost use Rattle.jsonb_value.specs.Ascii as ascii;
 ghost use Rattle.jsonb_value.specs.Mode.{standard};
 ghost use Rattle.jsonb_value.specs.Code.{code_of};
 ghost use Rattle.jsonb_value.specs.Grammar.StringBody.{escaped_byte, Decodes};
@@ -42,8 +43,8 @@ fn escaped(letter: u8, mode: Mode) -> Option<u8>
 {
     match letter {
         b'"' | b'\\' | b'/' => Some(letter),
-        b'b' => Some(0x08),
-        b'f' => Some(0x0C),
+        b'b' => Some(b'\x08'),
+        b'f' => Some(b'\x0C'),
         b'n' => Some(b'\n'),
         b'r' => Some(b'\r'),
         b't' => Some(b'\t'),
@@ -65,11 +66,11 @@ fn escape<'a>(
 ) -> std::result::Result<Decoded<'a>, DecodingFault>
     requires { len + min (1 + length bytes.now) 12 ≤ length text.old }
     ensures ok { IfOk result (λ done. Adds (mode_of mode)
-        (92 ∷ bytes.now) done.rest.now (take len text.old) (take done.len text.new)) }
+        (ascii.backslash ∷ bytes.now) done.rest.now (take len text.old) (take done.len text.new)) }
     ensures shorter { IfOk result (λ done. length done.rest.now ≤ length bytes.now) }
     ensures room { IfOk result (λ done. done.len + length done.rest.now ≤ len + 1 + length bytes.now) }
     ensures within { IfOk result (λ done. done.len ≤ length text.new) }
-    ensures err { IfErr result (λ fault. StopsAtEscape (mode_of mode) (92 ∷ bytes.now) (code_of fault.code)
+    ensures err { IfErr result (λ fault. StopsAtEscape (mode_of mode) (ascii.backslash ∷ bytes.now) (code_of fault.code)
         fault.left) }
     ensures same { OnErr result (text.new ≡ text.old) }
     ensures size { length text.new ≡ length text.old }
@@ -123,7 +124,7 @@ fn decode(
 /// follows it. There is none where no escape of this mode begins the bytes.
 pub fn decode_escape<'a>(bytes: &'a [u8], mode: Mode, text: &mut [u8]) -> Option<(usize, &'a [u8])>
     requires { 12 ≤ length text.old }
-    ensures some { IfSome result (λ done. DecodesUpTo (mode_of mode) (92 ∷ bytes.now) done.1.now
+    ensures some { IfSome result (λ done. DecodesUpTo (mode_of mode) (ascii.backslash ∷ bytes.now) done.1.now
         (take done.0 text.new)) }
     ensures shorter { IfSome result (λ done. length done.1.now ≤ length bytes.now) }
     ensures within { IfSome result (λ done. done.0 ≤ length text.new) }

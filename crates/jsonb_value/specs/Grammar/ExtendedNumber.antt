@@ -3,12 +3,13 @@
 use Rattle.std.specs.Prelude.{◌≡◌, ◌≢◌, ◌⊎◌, ℕ, ◌+◌, ◌<◌, ◌≤◌, ◌^◌, ◌==◌, ◌&&◌, Bool, true, false, List, [], ◌∷◌, ◌++◌, length, map, replicate, codes, Option, Some, None, IfSome, ℤ, pos, negsuc, neg_ℤ, nat_lt, nat_le, slice_index, if◌then◌else◌}
 use Rattle.std.specs.Char.{to_ascii_lowercase}
 use Rattle.std.specs.Str.Parse.{AllDigits, IsNumeral, digits_value}
+use Rattle.jsonb_value.specs.Ascii as ascii
 use Rattle.jsonb_value.specs.Number.Signed.{signed_by}
 use Rattle.jsonb_value.specs.Grammar.StandardNumber.{IsSign, IsExponent}
 use Rattle.jsonb_value.specs.Tree.{Form, int64, uint64, decimal64, decimal128, Num}
 
 abbrev pub is_minus : List ℕ → Bool
-is_minus sign = slice_index sign 0 == 45
+is_minus sign = slice_index sign 0 == ascii.minus
 
 -- the digits behind the point, none where there is no point
 abbrev pub fraction_digits : Option (List ℕ) → List ℕ
@@ -18,7 +19,7 @@ fraction_digits (Some ds) = ds
 -- nothing, or a point and the digits behind it
 abbrev pub fraction_text : Option (List ℕ) → List ℕ
 fraction_text None = []
-fraction_text (Some ds) = 46 ∷ ds
+fraction_text (Some ds) = ascii.point ∷ ds
 
 -- ---- decimals
 
@@ -28,9 +29,9 @@ pub record HasDecimalParts (bytes sign zeros whole : List ℕ) (fraction : Optio
   where
     pub joined : bytes ≡ sign ++ (zeros ++ (whole ++ (fraction_text fraction ++ exponent)))
     pub is_sign : IsSign sign
-    pub are_zeros : zeros ≡ replicate (length zeros) 48
+    pub are_zeros : zeros ≡ replicate (length zeros) ascii.digit_zero
     pub whole_digits : AllDigits 10 whole
-    pub no_zero_first : slice_index whole 0 ≢ 48
+    pub no_zero_first : slice_index whole 0 ≢ ascii.digit_zero
     pub digits_behind : AllDigits 10 (fraction_digits fraction)
     pub some_digit : 0 < length zeros + length whole + length (fraction_digits fraction)
     pub is_exponent : IsExponent exponent
@@ -91,9 +92,9 @@ FitsHexadecimal ds = digits_value 16 ds < 2 ^ 128
 -- the parts of a hexadecimal number text: a sign or none, a zero and an x, digits, and a point with digits or none
 pub record HasHexadecimalParts (bytes sign : List ℕ) (mark : ℕ) (whole : List ℕ) (fraction : Option (List ℕ)) : Type 0
   where
-    pub joined : bytes ≡ sign ++ (48 ∷ mark ∷ (whole ++ fraction_text fraction))
+    pub joined : bytes ≡ sign ++ (ascii.digit_zero ∷ mark ∷ (whole ++ fraction_text fraction))
     pub is_sign : IsSign sign
-    pub is_mark : to_ascii_lowercase mark ≡ 120
+    pub is_mark : to_ascii_lowercase mark ≡ ascii.lower_x
     pub are_digits : IsNumeral 16 whole
     pub digits_behind : IfSome fraction (IsNumeral 16)
     pub whole_fits : FitsHexadecimal whole

@@ -1,6 +1,7 @@
 -- Literals, quotes, numbers and keys, by mode.
 -- Read for: promises.
 use Rattle.std.specs.Prelude.{◌≡◌, ◌⊎◌, ℕ, true, false, List, codes}
+use Rattle.jsonb_value.specs.Ascii as ascii
 use Rattle.jsonb_value.specs.Grammar.BareKey.{IsBareKey}
 use Rattle.jsonb_value.specs.Grammar.ExtendedNumber.{Spells, IsExtendedNumber, IsExtendedUncarried}
 use Rattle.jsonb_value.specs.Mode.{Mode, standard, extended}
@@ -21,8 +22,8 @@ pub data IsLiteral (mode : Mode) : List ℕ → Tree → Type 0 where
 
 -- the quotes of strings: double quotes, or in extended mode single ones
 abbrev pub IsQuote : Mode → ℕ → Type 0
-IsQuote standard quote = quote ≡ 34
-IsQuote extended quote = (quote ≡ 34) ⊎ (quote ≡ 39)
+IsQuote standard quote = quote ≡ ascii.quote
+IsQuote extended quote = (quote ≡ ascii.quote) ⊎ (quote ≡ ascii.single_quote)
 
 -- the bytes are a number text whose number is n
 abbrev pub IsNumber : Mode → List ℕ → Num → Type 0

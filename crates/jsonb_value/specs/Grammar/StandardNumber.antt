@@ -4,24 +4,25 @@ use Rattle.std.specs.Prelude.{◌≡◌, ◌≢◌, ◌⊎◌, ℕ, ◌<◌, ◌
 use Rattle.std.specs.Int.{w64}
 use Rattle.std.specs.Fmt.{sign_text}
 use Rattle.std.specs.Str.Parse.{IsNumeral, digits_value}
+use Rattle.jsonb_value.specs.Ascii as ascii
 use Rattle.jsonb_value.specs.Tree.{int64, uint64, Num}
 
 -- digits with no needless zero in front
 pub record IsWhole (bytes : List ℕ) : Type 0 where
   pub digits : IsNumeral 10 bytes
-  pub no_needless_zero : slice_index bytes 0 ≡ 48 → length bytes ≡ 1
+  pub no_needless_zero : slice_index bytes 0 ≡ ascii.digit_zero → length bytes ≡ 1
 
 -- nothing, or a point and digits
 abbrev pub IsFraction : List ℕ → Type 0
-IsFraction bytes = (bytes ≡ []) ⊎ ((ds : List ℕ) × (bytes ≡ 46 ∷ ds) × IsNumeral 10 ds)
+IsFraction bytes = (bytes ≡ []) ⊎ ((ds : List ℕ) × (bytes ≡ ascii.point ∷ ds) × IsNumeral 10 ds)
 
 -- `e` or `E`
 abbrev pub IsExponentMark : ℕ → Type 0
-IsExponentMark b = (b ≡ 101) ⊎ (b ≡ 69)
+IsExponentMark b = (b ≡ ascii.lower_e) ⊎ (b ≡ ascii.upper_e)
 
 -- nothing, a plus or a minus
 abbrev pub IsSign : List ℕ → Type 0
-IsSign bytes = (bytes ≡ []) ⊎ ((bytes ≡ 43 ∷ []) ⊎ (bytes ≡ 45 ∷ []))
+IsSign bytes = (bytes ≡ []) ⊎ ((bytes ≡ ascii.plus ∷ []) ⊎ (bytes ≡ ascii.minus ∷ []))
 
 -- an exponent mark, a sign or none, and digits
 pub record IsMarkedExponent (bytes : List ℕ) : Type 0 where

@@ -5,6 +5,7 @@ use Rattle.std.specs.List.{flat_map, AllByRecursion}
 use Rattle.std.specs.Int.{is_in_range}
 use Rattle.std.specs.Str.{IsUtf8}
 use Rattle.std.specs.Char.{digit_value, encode_utf8}
+use Rattle.jsonb_value.specs.Ascii as ascii
 use Rattle.jsonb_value.specs.Mode.{Mode}
 use Rattle.jsonb_value.specs.Mode.{standard, extended}
 
@@ -18,22 +19,25 @@ pub data Item : Type 0 where
 -- what follows `\u`: the digits, in braces or not
 abbrev pub after_u : Bool → List ℕ → List ℕ
 after_u false digits = digits
-after_u true digits = 123 ∷ digits ++ 125 ∷ []
+after_u true digits = ascii.open_brace ∷ digits ++ ascii.close_brace ∷ []
 
 -- an item's bytes
 abbrev pub spelling : Item → List ℕ
 spelling (raw byte) = byte ∷ []
-spelling (escape letter byte) = 92 ∷ letter ∷ []
-spelling (unit braces digits) = 92 ∷ 117 ∷ after_u braces digits
+spelling (escape letter byte) = ascii.backslash ∷ letter ∷ []
+spelling (unit braces digits) = ascii.backslash ∷ ascii.lower_u ∷ after_u braces digits
 
 -- The letters that may follow a backslash, each with the byte that the two stand for: `"`, `\` and `/` themselves,
 -- and b, f, n, r, t. Extended mode has the single quote too.
 abbrev pub standard_escapes : List (ℕ × ℕ)
-standard_escapes = (34, 34) ∷ (92, 92) ∷ (47, 47) ∷ (98, 8) ∷ (102, 12) ∷ (110, 10) ∷ (114, 13) ∷ (116, 9) ∷ []
+standard_escapes =
+    (ascii.quote, ascii.quote) ∷ (ascii.backslash, ascii.backslash) ∷ (ascii.slash, ascii.slash)
+    ∷ (ascii.lower_b, ascii.backspace) ∷ (ascii.lower_f, ascii.form_feed) ∷ (ascii.lower_n, ascii.line_feed)
+    ∷ (ascii.lower_r, ascii.carriage_return) ∷ (ascii.lower_t, ascii.tab) ∷ []
 
 abbrev pub escapes : Mode → List (ℕ × ℕ)
 escapes standard = standard_escapes
-escapes extended = (39, 39) ∷ standard_escapes
+escapes extended = (ascii.single_quote, ascii.single_quote) ∷ standard_escapes
 
 -- the byte that stands beside a letter
 abbrev pub byte_beside : ℕ → List (ℕ × ℕ) → Option ℕ
@@ -49,7 +53,7 @@ IsHexDigit byte = digit_value byte < 16
 
 -- an item that a body of this mode may have
 abbrev pub IsItem : Mode → Item → Type 0
-IsItem mode (raw byte) = byte ≢ 92
+IsItem mode (raw byte) = byte ≢ ascii.backslash
 IsItem mode (escape letter byte) = escaped_byte mode letter ≡ Some byte
 IsItem mode (unit braces digits) = (length digits ≡ 4) × All IsHexDigit digits
 
@@ -72,7 +76,7 @@ paired high low = 0x10000 + (high - 0xD800) * 0x400 + (low - 0xDC00)
 
 -- a unit that is kept as text: six characters, the digits as they were spelled
 abbrev pub kept : List ℕ → List ℕ
-kept digits = 92 ∷ 117 ∷ digits
+kept digits = ascii.backslash ∷ ascii.lower_u ∷ digits
 
 -- a unit alone: its character, or the unit as text where it is half of a pair
 unfoldable pub alone : List ℕ → List ℕ

@@ -3,13 +3,15 @@
 use Rattle.std.specs.Prelude.{◌≡◌, ◌≢◌, ℕ, ◌+◌, ◌<◌, Bool, false, ◌⊎◌, List, [], ◌∷◌, ◌++◌, length, All, None, slice_index}
 use Rattle.std.specs.List.{flat_map, AllByRecursion}
 use Rattle.std.specs.Str.{IsUtf8}
+use Rattle.jsonb_value.specs.Ascii as ascii
 use Rattle.jsonb_value.specs.Mode.{Mode}
 use Rattle.jsonb_value.specs.Code.{Code, invalid_string_value, invalid_escaped, invalid_hex, unexpected_end_of_hex_escape}
 use Rattle.jsonb_value.specs.Grammar.StringBody.{Item, after_u, spelling, IsItem, IsHexDigit, IsBody, escaped_byte, meaning}
 
 -- Fewer than four bytes; or an opening brace, and five bytes on no closing brace.
 abbrev pub IsUnitCut : List ℕ → Type 0
-IsUnitCut bytes = (length bytes < 4) ⊎ ((slice_index bytes 0 ≡ 123) × (slice_index bytes 5 ≢ 125))
+IsUnitCut bytes =
+    (length bytes < 4) ⊎ ((slice_index bytes 0 ≡ ascii.open_brace) × (slice_index bytes 5 ≢ ascii.close_brace))
 
 -- the first of the bytes that is no hexadecimal digit
 pub record IsFirstNonDigit (bytes : List ℕ) (byte : ℕ) : Type 0 where
@@ -23,16 +25,17 @@ pub record IsFirstNonDigit (bytes : List ℕ) (byte : ℕ) : Type 0 where
 pub data BadUnit (bytes : List ℕ) (code : Code) (read : ℕ) : Type 0 where
   cut_unit : IsUnitCut bytes → code ≡ unexpected_end_of_hex_escape → read ≡ 0 → BadUnit bytes code read
   bad_digit : (braces : Bool) (digits rest : List ℕ) (byte : ℕ) → bytes ≡ after_u braces digits ++ rest
-      → length digits ≡ 4 → (braces ≡ false → slice_index digits 0 ≢ 123) → IsFirstNonDigit digits byte
+      → length digits ≡ 4 → (braces ≡ false → slice_index digits 0 ≢ ascii.open_brace) → IsFirstNonDigit digits byte
       → code ≡ invalid_hex byte → read ≡ length (after_u braces digits) → BadUnit bytes code read
 
 -- The bytes begin with a backslash and with no item: what is wrong, and how many of them are read then.
 pub data BadEscape (mode : Mode) (bytes : List ℕ) (code : Code) (read : ℕ) : Type 0 where
-  cut_escape : bytes ≡ 92 ∷ [] → code ≡ unexpected_end_of_hex_escape → read ≡ 1 → BadEscape mode bytes code read
-  unknown_escape : (letter : ℕ) (rest : List ℕ) → bytes ≡ 92 ∷ letter ∷ rest → letter ≢ 117
-      → escaped_byte mode letter ≡ None → code ≡ invalid_escaped letter → read ≡ 2 → BadEscape mode bytes code read
-  bad_unit : (rest : List ℕ) (steps : ℕ) → bytes ≡ 92 ∷ 117 ∷ rest → BadUnit rest code steps → read ≡ 2 + steps
+  cut_escape : bytes ≡ ascii.backslash ∷ [] → code ≡ unexpected_end_of_hex_escape → read ≡ 1
       → BadEscape mode bytes code read
+  unknown_escape : (letter : ℕ) (rest : List ℕ) → bytes ≡ ascii.backslash ∷ letter ∷ rest → letter ≢ ascii.lower_u
+      → escaped_byte mode letter ≡ None → code ≡ invalid_escaped letter → read ≡ 2 → BadEscape mode bytes code read
+  bad_unit : (rest : List ℕ) (steps : ℕ) → bytes ≡ ascii.backslash ∷ ascii.lower_u ∷ rest → BadUnit rest code steps
+      → read ≡ 2 + steps → BadEscape mode bytes code read
 
 -- items, and then a bad escape
 pub record IsCutShort (mode : Mode) (bytes : List ℕ) (code : Code) (read : ℕ) : Type 0 where

@@ -2,6 +2,7 @@
 -- Read for: promises.
 use Rattle.std.specs.Prelude.{◌≡◌, ℕ, ◌+◌, ◌<◌, ◌≤◌, Bool, true, false, List, [], ◌∷◌, ◌++◌, length, OnOk, OnErr, Result, Vec, vec_len, vec_capacity}
 use Rattle.std.specs.declared.alloc.Global.{Global}
+use Rattle.jsonb_value.specs.Ascii as ascii
 
 -- new is old with some bytes at its end
 pub record Extends (old new : List ℕ) : Type 0 where
@@ -36,4 +37,4 @@ pub record AppendsIf {X E : Type 0} (test : Bool) (result : Result X E) (old new
 -- the comma before a part, which the first part has not
 abbrev pub comma_before : Bool → List ℕ
 comma_before true = []
-comma_before false = 44 ∷ []
+comma_before false = ascii.comma ∷ []

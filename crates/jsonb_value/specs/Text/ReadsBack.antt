@@ -2,6 +2,7 @@
 -- Read for: promises.
 use Rattle.std.specs.Prelude.{◌≡◌, ℕ, ◌<◌, ◌≤◌, ◌^◌, List, Some, ℤ, unsigned_abs, if◌then◌else◌}
 use Rattle.std.specs.Int.{is_negative}
+use Rattle.jsonb_value.specs.Ascii as ascii
 use Rattle.jsonb_value.specs.Grammar.{IsDocument}
 use Rattle.jsonb_value.specs.Mode.{Mode}
 use Rattle.jsonb_value.specs.Order.{Same}
@@ -31,7 +32,7 @@ HasFewDigits x = (x.scale ≤ 38) × (unsigned_abs x.whole < 10 ^ 38)
 
 -- What is written of a text is a string in double quotes that means the text, in that mode.
 abbrev pub StringReadsBack : Mode → List ℕ → Type 0
-StringReadsBack mode text = (mark : Mark) × Quoted mode 34 (quoted_text text) text mark
+StringReadsBack mode text = (mark : Mark) × Quoted mode ascii.quote (quoted_text text) text mark
 
 -- The bytes are a document of a tree that is the same as t, and its text is the bytes again.
 pub record ReadsBackAs (mode : Mode) (bytes : List ℕ) (t : Tree) : Type 0 where

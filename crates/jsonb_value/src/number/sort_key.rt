@@ -6,6 +6,7 @@ ghost use Rattle.jsonb_value.specs.Text.Appending.{Appends};
 ghost use Rattle.jsonb_value.specs.View.{number_view};
 
 use super::Number;
+use crate::sort_key::kind;
 use std::alloc::AllocError;
 
 // The result of a function that appends. After an error the buffer may hold a part of the key.
@@ -20,7 +21,7 @@ impl Number {
         let scale = self.scale();
         let (negative, magnitude) = self.sign_and_magnitude();
         if magnitude == 0 {
-            return append_byte(128, buf);
+            return append_byte(kind::ZERO, buf);
         }
         append_magnitude(negative, scale, magnitude, buf)
     }
@@ -84,7 +85,7 @@ fn append_small(negative: bool, scale: u8, magnitude: u64, buf: &mut Vec<u8>) ->
     ensures appends { Appends result buf.old buf.new (map (turned negative) (magnitude_key scale magnitude)) }
 {
     let (count, digits) = small_digits(magnitude);
-    let place = turned(negative, count + 160 - scale);
+    let place = turned(negative, count + 0xA0 - scale);
     append_two(place, turned(negative, digits), buf)
 }
 
@@ -160,7 +161,7 @@ fn write_place(negative: bool, place: u32, end: usize, row: &mut [u8; 12]) -> us
 {
     if place < 225 {
         row[end - 1] = turned(negative, place as u8);
-        row[end - 2] = turned(negative, 129);
+        row[end - 2] = turned(negative, kind::FAR_PLACE);
         return end - 2;
     }
     row[end - 1] = turned(negative, (place - 95) as u8);

@@ -2,6 +2,7 @@
 ghost use Rattle.std.specs.Prelude.{◌≡◌, ◌+◌, ◌≤◌, ◌<◌, ◌++◌, ◌^◌, length, replicate, pos, Some, IsAscii, IsOk, vec_len};
 ghost use Rattle.std.specs.Vec.{vec_capacity};
 ghost use Rattle.std.specs.Fmt.{sign_text, WritesOnOk};
+ghost use Rattle.jsonb_value.specs.Ascii as ascii;
 ghost use Rattle.jsonb_value.specs.Text.Appending.{AppendsAllOrNothing};
 ghost use Rattle.jsonb_value.specs.Text.NumberText.{number_text, text_of_parts, with_point, zero_padded};
 ghost use Rattle.jsonb_value.specs.Proper.{IsProperNumber};
@@ -165,7 +166,7 @@ impl Number {
 }
 
 fn write_zeros<W: fmt::Write>(f: &mut fmt::Formatter<W>, count: usize) -> fmt::Result
-    ensures { WritesOnOk W.write_str_gives f.old result (replicate count 48) f.new }
+    ensures { WritesOnOk W.write_str_gives f.old result (replicate count ascii.digit_zero) f.new }
 {
     'zeros: for _ in 0..count {
         f.write_str("0")?;

@@ -6,6 +6,7 @@ ghost use Rattle.jsonb_value.specs.Order.{bytes_cmp, tree_cmp, Same};
 ghost use Rattle.jsonb_value.specs.Order.ByContent.{items_of, pairs_of};
 ghost use Rattle.jsonb_value.specs.Proper.{IsProperNumber};
 ghost use Rattle.jsonb_value.specs.SortKey.{byte_key, text_key, key_of_32_bits, key_of_64_bits, key_of, items_key, members_key, IsBounded, AreBounded, HaveBounds};
+ghost use Rattle.jsonb_value.specs.SortKey.Kind as kind;
 ghost use Rattle.jsonb_value.specs.SortKey.Size.{exponent_len, member_len, most_pairs, zero_count};
 ghost use Rattle.jsonb_value.specs.Text.Appending.{Appends, AppendsAllOrNothing};
 ghost use Rattle.jsonb_value.specs.Tree.{Mark, Num, Tree, Trees, Members, number, string, array, object};
@@ -14,6 +15,7 @@ ghost use Rattle.jsonb_value.specs.View.{view, trees_view, members_view};
 use super::text::run_len;
 use super::{Object, Value};
 use crate::error::{Error, Result};
+use crate::sort_key::kind;
 use memchr::memchr;
 use std::alloc::AllocError;
 
@@ -87,9 +89,9 @@ fn append<'a>(value: &Value<'a>, buf: &mut Vec<u8>) -> Appended
     ensures bounded { OnOk result (IsBounded (view value.now)) }
 {
     match value {
-        Value::Binary(bytes) => append_text(0x10, *bytes, buf),
-        Value::Date(date) => append_32_bits(0x11, date.value, buf),
-        Value::Timestamp(time) => append_64_bits(0x12, time.value, buf),
+        Value::Binary(bytes) => append_text(kind::BINARY, *bytes, buf),
+        Value::Date(date) => append_32_bits(kind::DATE, date.value, buf),
+        Value::Timestamp(time) => append_64_bits(kind::TIMESTAMP, time.value, buf),
         Value::TimestampTz(time) => append_zoned(time.offset, time.value, buf),
         Value::Interval(interval) => append_interval(
             interval.months,
@@ -97,39 +99,39 @@ fn append<'a>(value: &Value<'a>, buf: &mut Vec<u8>) -> Appended
             interval.micros,
             buf,
         ),
-        Value::Bool(false) => buf.extend_from_slice(&[0x15]),
-        Value::Bool(true) => buf.extend_from_slice(&[0x16]),
+        Value::Bool(false) => buf.extend_from_slice(&[kind::FALSE]),
+        Value::Bool(true) => buf.extend_from_slice(&[kind::TRUE]),
         Value::Number(number) => number.append_sort_key(buf),
-        Value::String(text) => append_text(0xD0, text.as_bytes(), buf),
+        Value::String(text) => append_text(kind::STRING, text.as_bytes(), buf),
         Value::Object(members) => append_members(members, buf),
         Value::Array(items) => append_items(items, buf),
-        Value::Null => buf.extend_from_slice(&[0xD3]),
+        Value::Null => buf.extend_from_slice(&[kind::NULL]),
     }
 }
 
 #[cycle(append)]
 fn append_items<'a>(items: &Vec<Value<'a>>, buf: &mut Vec<u8>) -> Appended
-    ensures appends { Appends result buf.old buf.new (0xD2 ∷ items_key (trees_view items.now.items)) }
+    ensures appends { Appends result buf.old buf.new (kind.array ∷ items_key (trees_view items.now.items)) }
     ensures bounded { OnOk result (AreBounded (trees_view items.now.items)) }
 {
-    buf.extend_from_slice(&[0xD2])?;
+    buf.extend_from_slice(&[kind::ARRAY])?;
     'items: for item in items {
         append(item, buf)?;
     }
-    buf.extend_from_slice(&[0])
+    buf.extend_from_slice(&[kind::TERMINATOR])
 }
 
 #[cycle(append)]
 fn append_members<'a>(members: &Object<'a>, buf: &mut Vec<u8>) -> Appended
-    ensures appends { Appends result buf.old buf.new (0xD1 ∷ members_key (members_view members.now.entries)) }
+    ensures appends { Appends result buf.old buf.new (kind.object ∷ members_key (members_view members.now.entries)) }
     ensures bounded { OnOk result (HaveBounds (members_view members.now.entries)) }
 {
-    buf.extend_from_slice(&[0xD1])?;
+    buf.extend_from_slice(&[kind::OBJECT])?;
     'members: for (key, value) in members.iter() {
         append_key(key, buf)?;
         append(value, buf)?;
     }
-    buf.extend_from_slice(&[0, 0])
+    buf.extend_from_slice(&[kind::TERMINATOR, kind::TERMINATOR])
 }
 
 // Appends the kind and a text.
@@ -145,7 +147,7 @@ pub(crate) fn append_closed(bytes: &[u8], buf: &mut Vec<u8>) -> Appended
     ensures appends { Appends result buf.old buf.new (text_key bytes.now) }
 {
     append_escaped(bytes, buf)?;
-    buf.extend_from_slice(&[0, 1])
+    buf.extend_from_slice(&[kind::TERMINATOR, kind::TEXT_END])
 }
 
 // Appends a member's key.
@@ -204,7 +206,7 @@ fn append_byte(byte: u8, buf: &mut Vec<u8>) -> Appended
     ensures appends { Appends result buf.old buf.new (byte_key byte) }
 {
     if byte == 0 {
-        buf.extend_from_slice(&[0, 255])
+        buf.extend_from_slice(&[0, kind::ESCAPED])
     } else {
         buf.extend_from_slice(&[byte])
     }
@@ -242,17 +244,17 @@ fn append_64_bits(kind: u8, value: i64, buf: &mut Vec<u8>) -> Appended
 }
 
 fn append_zoned(offset: i32, micros: i64, buf: &mut Vec<u8>) -> Appended
-    ensures appends { Appends result buf.old buf.new (0x13 ∷ key_of_32_bits offset ++ key_of_64_bits micros) }
+    ensures appends { Appends result buf.old buf.new (kind.timestamp_tz ∷ key_of_32_bits offset ++ key_of_64_bits micros) }
 {
-    append_32_bits(0x13, offset, buf)?;
+    append_32_bits(kind::TIMESTAMP_TZ, offset, buf)?;
     buf.extend_from_slice(&key_of_64_bits(micros))
 }
 
 fn append_interval(months: i32, days: i32, micros: i64, buf: &mut Vec<u8>) -> Appended
     ensures appends { Appends result buf.old buf.new
-        (0x14 ∷ key_of_32_bits months ++ (key_of_32_bits days ++ key_of_64_bits micros)) }
+        (kind.interval ∷ key_of_32_bits months ++ (key_of_32_bits days ++ key_of_64_bits micros)) }
 {
-    append_32_bits(0x14, months, buf)?;
+    append_32_bits(kind::INTERVAL, months, buf)?;
     buf.extend_from_slice(&key_of_32_bits(days))?;
     buf.extend_from_slice(&key_of_64_bits(micros))
 }

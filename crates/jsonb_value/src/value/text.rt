@@ -5,6 +5,7 @@ ghost use Rattle.std.specs.Int.{w64, trailing_zeros};
 ghost use Rattle.std.specs.List.{flat_map};
 ghost use Rattle.std.specs.Str.{IsUtf8};
 ghost use Rattle.std.specs.Vec.{vec_capacity};
+ghost use Rattle.jsonb_value.specs.Ascii as ascii;
 ghost use Rattle.jsonb_value.specs.Text.Appending.{Appends, AppendsAllOrNothing, AppendsIf, comma_before};
 ghost use Rattle.jsonb_value.specs.Text.BinaryText.{binary_text};
 ghost use Rattle.jsonb_value.specs.Text.IntervalText.{interval_text};
@@ -170,7 +171,7 @@ fn append<'a>(value: &Value<'a>, buf: &mut Vec<u8>) -> Appended
 #[cycle(append)]
 fn append_items<'a>(items: &Vec<Value<'a>>, buf: &mut Vec<u8>) -> Appended
     ensures appends { AppendsIf (items_have_texts (trees_view items.now.items)) result buf.old buf.new
-        (91 ∷ with_commas (item_texts (trees_view items.now.items)) ++ 93 ∷ []) }
+        (ascii.open_bracket ∷ with_commas (item_texts (trees_view items.now.items)) ++ ascii.close_bracket ∷ []) }
     ensures proper { OnOk result (AreProper (trees_view items.now.items)) }
 {
     buf.extend_from_slice(b"[")?;
@@ -186,7 +187,7 @@ fn append_items<'a>(items: &Vec<Value<'a>>, buf: &mut Vec<u8>) -> Appended
 #[cycle(append)]
 fn append_members<'a>(members: &Object<'a>, buf: &mut Vec<u8>) -> Appended
     ensures appends { AppendsIf (members_have_texts (members_view members.now.entries)) result buf.old buf.new
-        (123 ∷ with_commas (member_texts (members_view members.now.entries)) ++ 125 ∷ []) }
+        (ascii.open_brace ∷ with_commas (member_texts (members_view members.now.entries)) ++ ascii.close_brace ∷ []) }
     ensures proper { OnOk result (KeysAscend (members_view members.now.entries)
         × HaveProperParts (members_view members.now.entries)) }
 {
@@ -214,7 +215,7 @@ fn append_comma(is_first: bool, buf: &mut Vec<u8>) -> Appended
 
 // Appends a member's key and the colon after it.
 fn append_key(key: &String, buf: &mut Vec<u8>) -> Appended
-    ensures appends { Appends result buf.old buf.new (quoted_text (string_bytes key.now) ++ 58 ∷ []) }
+    ensures appends { Appends result buf.old buf.new (quoted_text (string_bytes key.now) ++ ascii.colon ∷ []) }
     ensures utf8 { IsUtf8 (string_bytes key.now) }
 {
     append_string(key.as_str(), buf)?;
@@ -320,7 +321,7 @@ fn run_by_bytes(bytes: &[u8]) -> usize
         if *byte > b'\\' {
             continue;
         }
-        if *byte < 0x20 || *byte == b'"' || *byte == b'\\' {
+        if *byte < b' ' || *byte == b'"' || *byte == b'\\' {
             return i;
         }
     }
@@ -375,7 +376,7 @@ fn append_byte(byte: u8, buf: &mut Vec<u8>) -> Appended
         b'\n' => buf.extend_from_slice(b"\\n"),
         b'\r' => buf.extend_from_slice(b"\\r"),
         b'\t' => buf.extend_from_slice(b"\\t"),
-        0..0x20 => buf.extend_from_slice(&control_text(byte)),
+        0..b' ' => buf.extend_from_slice(&control_text(byte)),
         _ => buf.extend_from_slice(&[byte]),
     }
 }

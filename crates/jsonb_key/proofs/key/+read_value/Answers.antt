@@ -13,16 +13,16 @@ use Rattle.jsonb_key.proofs.FirstBytes.{one_byte, string_there, array_there, obj
 use Rattle.jsonb_key.proofs.Texts.{none_some}
 use Rattle.jsonb_key.proofs.key.+read_value.Goals as goal
 
-pub read_array-returns-then-first-eq0-clause-found : goal.read_array-returns-then-first-eq0-clause-found
-read_array-returns-then-first-eq0-clause-found t c = λ ts readable more e.
+pub read_array-returns-then-first-eq-TERMINATOR-clause-found : goal.read_array-returns-then-first-eq-TERMINATOR-clause-found
+read_array-returns-then-first-eq-TERMINATOR-clause-found t c = λ ts readable more e.
     let within = one_deeper (AreWithin IsAnyNumber ts) c.args.depth c.in-Some.inner readable.within (omega (arith, c.in-Some.ensures)) in
-    let done = items_ended c.in-Some.inner c.args.bytes.now c.items.items.items c.items.rest.now c.in-Some-split_first.first.now c.in-Some-split_first.others.now c.items.invariant.reads c.in-Some-split_first.ensures.cases.0 c.if-first-eq0.true ts readable.proper within more e in
+    let done = items_ended c.in-Some.inner c.args.bytes.now c.items.items.items c.items.rest.now c.in-Some-split_first.first.now c.in-Some-split_first.others.now c.items.invariant.reads c.in-Some-split_first.ensures.cases.0 c.if-first-eq-TERMINATOR.true ts readable.proper within more e in
     (ap key_of c.from.ensures ∙ ap (λ key. 210 ∷ key) done.0, done.1)
 
 pub read_array-returns-in_err-item-clause-found : goal.read_array-returns-in_err-item-clause-found
 read_array-returns-in_err-item-clause-found t c = λ ts readable more e.
     let within = one_deeper (AreWithin IsAnyNumber ts) c.args.depth c.in-Some.inner readable.within (omega (arith, c.in-Some.ensures)) in
-    let next = next_item c.in-Some.inner c.args.bytes.now c.items.items.items c.items.rest.now c.in-Some-split_first.first.now c.in-Some-split_first.others.now c.items.invariant.reads c.in-Some-split_first.ensures.cases.0 c.if-first-eq0.false ts readable.proper within more e in
+    let next = next_item c.in-Some.inner c.args.bytes.now c.items.items.items c.items.rest.now c.in-Some-split_first.first.now c.in-Some-split_first.others.now c.items.invariant.reads c.in-Some-split_first.ensures.cases.0 c.if-first-eq-TERMINATOR.false ts readable.proper within more e in
     let memory = c.in_err-item.ensures.found next.item next.readable _ next.stands in
     let p = err_from_is_err_and c.from_residual.result c.from_residual.ensures.1 in
     rw p.1 (p.2 ∙ memory)
@@ -30,7 +30,7 @@ read_array-returns-in_err-item-clause-found t c = λ ts readable more e.
 pub read_array-items-preserved : goal.read_array-items-preserved
 read_array-items-preserved t c = record {
   reads = λ ts p w more e.
-      let next = next_item c.in-Some.inner c.args.bytes.now c.items.items.items c.items.rest.now c.in-Some-split_first.first.now c.in-Some-split_first.others.now c.items.invariant.reads c.in-Some-split_first.ensures.cases.0 c.if-first-eq0.false ts p w more e in
+      let next = next_item c.in-Some.inner c.args.bytes.now c.items.items.items c.items.rest.now c.in-Some-split_first.first.now c.in-Some-split_first.others.now c.items.invariant.reads c.in-Some-split_first.ensures.cases.0 c.if-first-eq-TERMINATOR.false ts p w more e in
       let read = c.in_ok-item.ensures.found next.item next.readable _ next.stands in
       subst (λ items. ItemsLeft c.in-Some.inner ts items c.in_ok-item.others.now more) (sym c.in_ok-push.ensures.items)
       (item_read c.in-Some.inner ts c.items.items.items c.items.rest.now more c.in_ok-item.item c.in_ok-item.others.now next read.0 read.1);
@@ -111,8 +111,8 @@ read_value-returns-in-211-clause-found t c = λ u readable more e.
     let x = one_byte c.args.depth u readable c.in-Some.first.now c.in-Some.rest.now c.args.bytes.now more c.in-Some.ensures.cases.0 e 211 c.in-211.is (λ head low high is. omega (arith, high, is)) in
     (ap key_of c.default.ensures ∙ sym x.0, x.1)
 
-pub read_array-returns-then-first-eq0-clause-decoded : goal.read_array-returns-then-first-eq0-clause-decoded
-read_array-returns-then-first-eq0-clause-decoded t c =
+pub read_array-returns-then-first-eq-TERMINATOR-clause-decoded : goal.read_array-returns-then-first-eq-TERMINATOR-clause-decoded
+read_array-returns-then-first-eq-TERMINATOR-clause-decoded t c =
     subst (IsDecodedAt c.args.depth) (sym c.from.ensures) (array_decoded c.args.depth c.in-Some.inner c.items.items.items (omega (arith, c.in-Some.ensures)) c.items.invariant.decoded)
 
 pub read_object-returns-in-Some-skip_pair-clause-decoded : goal.read_object-returns-in-Some-skip_pair-clause-decoded

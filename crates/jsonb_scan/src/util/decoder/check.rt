@@ -1,5 +1,6 @@
 //! Checks the contents of a string, and decodes nothing.
 ghost use Rattle.std.specs.Prelude.{◌≡◌, ◌≢◌, ◌+◌, ◌^◌, ◌≤◌, ◌<◌, ◌∷◌, [], drop, length, slice_index, IfErr, IfOk, MatchBool, OnOk, true};
+ghost use Rattle.jsonb_value.specs.Ascii as ascii;
 ghost use Rattle.jsonb_value.specs.Mode.{Mode as GrammarMode};
 ghost use Rattle.jsonb_value.specs.Code.{code_of};
 ghost use Rattle.jsonb_scan.specs.Answer.{mode_of};
@@ -19,7 +20,7 @@ use memchr::memchr;
 fn short_search(bytes: &[u8]) -> usize
     ensures within { result ≤ length bytes.now }
     ensures before { SeesNoBackslash bytes.now result }
-    ensures here { result < length bytes.now → slice_index bytes.now result ≡ 0x5C }
+    ensures here { result < length bytes.now → slice_index bytes.now result ≡ ascii.backslash }
 {
     'bytes: for (i, byte) in bytes.iter().enumerate() {
         if *byte == b'\\' {
@@ -34,7 +35,7 @@ fn short_search(bytes: &[u8]) -> usize
 fn far_search(bytes: &[u8]) -> usize
     ensures within { result ≤ length bytes.now }
     ensures before { SeesNoBackslash bytes.now result }
-    ensures here { result < length bytes.now → slice_index bytes.now result ≡ 0x5C }
+    ensures here { result < length bytes.now → slice_index bytes.now result ≡ ascii.backslash }
 {
     memchr(b'\\', bytes).unwrap_or(bytes.len())
 }
@@ -44,7 +45,7 @@ fn far_search(bytes: &[u8]) -> usize
 fn next_backslash(bytes: &[u8]) -> usize
     ensures within { result ≤ length bytes.now }
     ensures before { SeesNoBackslash bytes.now result }
-    ensures here { result < length bytes.now → slice_index bytes.now result ≡ 0x5C }
+    ensures here { result < length bytes.now → slice_index bytes.now result ≡ ascii.backslash }
 {
     if bytes.len() < 16 {
         return short_search(bytes);
@@ -58,9 +59,9 @@ fn next_backslash(bytes: &[u8]) -> usize
 // Passes the escape whose backslash stands before the bytes, and returns what follows.
 #[inline(always)]
 fn pass_escape(bytes: &[u8], mode: Mode) -> std::result::Result<&[u8], DecodingFault>
-    ensures ok { IfOk result (λ rest. IsDecodedUpTo (mode_of mode) (0x5C ∷ bytes.now) rest.now) }
+    ensures ok { IfOk result (λ rest. IsDecodedUpTo (mode_of mode) (ascii.backslash ∷ bytes.now) rest.now) }
     ensures shorter { IfOk result (λ rest. length rest.now ≤ length bytes.now) }
-    ensures err { IfErr result (λ fault. StopsAtEscape (mode_of mode) (0x5C ∷ bytes.now) (code_of fault.code)
+    ensures err { IfErr result (λ fault. StopsAtEscape (mode_of mode) (ascii.backslash ∷ bytes.now) (code_of fault.code)
         fault.left) }
 {
     let Some((letter, rest)) = bytes.split_first() else {
@@ -113,7 +114,7 @@ fn is_short_letter(letter: u8) -> bool
 fn short_len(bytes: &[u8]) -> usize
     ensures within { result ≤ length bytes.now }
     ensures passed { (mode : GrammarMode) → IsDecodedUpTo mode bytes.now (drop result bytes.now) }
-    ensures here { result < length bytes.now → slice_index bytes.now result ≡ 0x5C }
+    ensures here { result < length bytes.now → slice_index bytes.now result ≡ ascii.backslash }
 {
     let mut len = 0;
     'escapes: while len < bytes.len() {

@@ -2,6 +2,7 @@
 ghost use Rattle.std.specs.Prelude.{◌≡◌, ℕ, ◌+◌, ◌≤◌, ◌<◌, ◌++◌, length, take, slice_index, IfSome, IfNone, Some, None, ◌↔◌};
 ghost use Rattle.std.specs.Int.{bit_at};
 ghost use Rattle.jsonb_scan.specs.Decoding.{SeesNoBackslash, CopiesRun};
+ghost use Rattle.jsonb_value.specs.Ascii as ascii;
 
 use super::Decoded;
 use super::room::{write_all, write_byte};
@@ -12,7 +13,7 @@ use std::simd::prelude::*;
 #[inline(always)]
 fn backslashes(bytes: &[u8]) -> u64
     requires { 16 ≤ length bytes.now }
-    ensures { (k : ℕ) → (bit_at result k ≡ 1) ↔ ((k < 16) × (slice_index bytes.now k ≡ 92)) }
+    ensures { (k : ℕ) → (bit_at result k ≡ 1) ↔ ((k < 16) × (slice_index bytes.now k ≡ ascii.backslash)) }
 {
     u8x16::from_slice(bytes)
         .simd_eq(u8x16::splat(b'\\'))
@@ -25,7 +26,7 @@ pub(super) fn near_backslash(bytes: &[u8]) -> Option<usize>
     requires { 16 ≤ length bytes.now }
     ensures within { IfSome result (λ i. i < 16) }
     ensures before { IfSome result (λ i. SeesNoBackslash bytes.now i) }
-    ensures here { IfSome result (λ i. slice_index bytes.now i ≡ 92) }
+    ensures here { IfSome result (λ i. slice_index bytes.now i ≡ ascii.backslash) }
     ensures none { IfNone result (SeesNoBackslash bytes.now 16) }
 {
     let marks = backslashes(bytes);
@@ -65,7 +66,7 @@ fn copy_short(bytes: &[u8], text: &mut [u8], len: usize) -> usize
     requires { len + length bytes.now ≤ length text.old }
     ensures bound { result ≤ length bytes.now }
     ensures before { SeesNoBackslash bytes.now result }
-    ensures here { result < length bytes.now → slice_index bytes.now result ≡ 92 }
+    ensures here { result < length bytes.now → slice_index bytes.now result ≡ ascii.backslash }
     ensures written { take (len + result) text.new ≡ take len text.old ++ take result bytes.now }
     ensures size { length text.new ≡ length text.old }
 {
@@ -86,7 +87,7 @@ fn copy_many(bytes: &[u8], text: &mut [u8], len: usize) -> usize
     requires { len + length bytes.now ≤ length text.old }
     ensures bound { result ≤ length bytes.now }
     ensures before { SeesNoBackslash bytes.now result }
-    ensures here { result < length bytes.now → slice_index bytes.now result ≡ 92 }
+    ensures here { result < length bytes.now → slice_index bytes.now result ≡ ascii.backslash }
     ensures written { take (len + result) text.new ≡ take len text.old ++ take result bytes.now }
     ensures size { length text.new ≡ length text.old }
 {
@@ -101,7 +102,7 @@ fn copy_near(bytes: &[u8], text: &mut [u8], len: usize) -> usize
     requires { len + length bytes.now ≤ length text.old }
     ensures bound { result ≤ length bytes.now }
     ensures before { SeesNoBackslash bytes.now result }
-    ensures here { result < length bytes.now → slice_index bytes.now result ≡ 92 }
+    ensures here { result < length bytes.now → slice_index bytes.now result ≡ ascii.backslash }
     ensures written { take (len + result) text.new ≡ take len text.old ++ take result bytes.now }
     ensures size { length text.new ≡ length text.old }
 {
@@ -123,7 +124,7 @@ fn copy_more(bytes: &[u8], text: &mut [u8], len: usize) -> usize
     requires room { len + length bytes.now ≤ length text.old }
     ensures bound { result ≤ length bytes.now }
     ensures before { SeesNoBackslash bytes.now result }
-    ensures here { result < length bytes.now → slice_index bytes.now result ≡ 92 }
+    ensures here { result < length bytes.now → slice_index bytes.now result ≡ ascii.backslash }
     ensures written { take (len + result) text.new ≡ take len text.old ++ take result bytes.now }
     ensures size { length text.new ≡ length text.old }
 {
@@ -137,7 +138,7 @@ fn copy_first(bytes: &[u8], text: &mut [u8], len: usize) -> usize
     requires { len + length bytes.now ≤ length text.old }
     ensures bound { result ≤ length bytes.now }
     ensures before { SeesNoBackslash bytes.now result }
-    ensures here { result < length bytes.now → slice_index bytes.now result ≡ 92 }
+    ensures here { result < length bytes.now → slice_index bytes.now result ≡ ascii.backslash }
     ensures written { take (len + result) text.new ≡ take len text.old ++ take result bytes.now }
     ensures size { length text.new ≡ length text.old }
 {

@@ -1,6 +1,7 @@
 //! `\u` escapes: UTF-16 code units of four hexadecimal digits.
 ghost use Rattle.std.specs.Prelude.{List, ◌≡◌, ◌≢◌, ℕ, ◌+◌, ◌*◌, ◌^◌, ◌≤◌, ◌<◌, ◌++◌, ◌∷◌, length, take, min, All, ◌||◌, IfOk, IfErr, OnErr, IfSome, IfNone, Some, None, true, false, ◌⊎◌};
 ghost use Rattle.std.specs.Char.{digit_value, encode_utf8, InScalarRange};
+ghost use Rattle.jsonb_value.specs.Ascii as ascii;
 ghost use Rattle.jsonb_value.specs.Mode.{Mode as GrammarMode};
 ghost use Rattle.jsonb_value.specs.Code.{code_of};
 ghost use Rattle.jsonb_value.specs.Grammar.StringBody.{IsHexDigit, unit_value, is_high, is_low, kept, alone, together};
@@ -185,9 +186,9 @@ fn push_together(text: &mut [u8], len: usize, high: &HexUnit<'_>, next: &HexUnit
 
 // What follows the `\u` that the bytes begin with.
 fn after_unit_mark(bytes: &[u8]) -> Option<&[u8]>
-    ensures some { IfSome result (λ rest. bytes.now ≡ 92 ∷ 117 ∷ rest.now) }
+    ensures some { IfSome result (λ rest. bytes.now ≡ ascii.backslash ∷ ascii.lower_u ∷ rest.now) }
     ensures len { IfSome result (λ rest. length rest.now + 2 ≡ length bytes.now) }
-    ensures none { IfNone result ((rest : List ℕ) → bytes.now ≢ 92 ∷ 117 ∷ rest) }
+    ensures none { IfNone result ((rest : List ℕ) → bytes.now ≢ ascii.backslash ∷ ascii.lower_u ∷ rest) }
 {
     let (first, rest) = bytes.split_first()?;
     let (second, rest) = rest.split_first()?;
@@ -200,10 +201,11 @@ fn after_unit_mark(bytes: &[u8]) -> Option<&[u8]>
 
 // What follows the next `\u`, where it stands right after a high unit.
 fn after_next_mark<'a>(unit: &HexUnit<'a>) -> Option<&'a [u8]>
-    ensures some { IfSome result (λ rest. (is_high unit.now.value ≡ true) × (unit.now.rest.now ≡ 92 ∷ 117 ∷ rest.now)) }
+    ensures some { IfSome result (λ rest. (is_high unit.now.value ≡ true)
+        × (unit.now.rest.now ≡ ascii.backslash ∷ ascii.lower_u ∷ rest.now)) }
     ensures len { IfSome result (λ rest. length rest.now + 2 ≡ length unit.now.rest.now) }
     ensures none { IfNone result ((is_high unit.now.value ≡ false)
-        ⊎ ((rest : List ℕ) → unit.now.rest.now ≢ 92 ∷ 117 ∷ rest)) }
+        ⊎ ((rest : List ℕ) → unit.now.rest.now ≢ ascii.backslash ∷ ascii.lower_u ∷ rest)) }
 {
     if is_surrogate_high(unit.value) {
         after_unit_mark(unit.rest)
@@ -221,12 +223,12 @@ pub(super) fn units<'a>(
 ) -> std::result::Result<Decoded<'a>, DecodingFault>
     requires { len + min (2 + length bytes.now) 12 ≤ length text.old }
     ensures ok { IfOk result (λ done. (mode : GrammarMode) → Adds mode
-        (92 ∷ 117 ∷ bytes.now) done.rest.now (take len text.old) (take done.len text.new)) }
+        (ascii.backslash ∷ ascii.lower_u ∷ bytes.now) done.rest.now (take len text.old) (take done.len text.new)) }
     ensures shorter { IfOk result (λ done. length done.rest.now ≤ length bytes.now) }
     ensures room { IfOk result (λ done. done.len + length done.rest.now ≤ len + 2 + length bytes.now) }
     ensures within { IfOk result (λ done. done.len ≤ length text.new) }
-    ensures err { IfErr result (λ fault. (mode : GrammarMode) → StopsAtEscape mode (92 ∷ 117 ∷ bytes.now)
-        (code_of fault.code) fault.left) }
+    ensures err { IfErr result (λ fault. (mode : GrammarMode) → StopsAtEscape mode
+        (ascii.backslash ∷ ascii.lower_u ∷ bytes.now) (code_of fault.code) fault.left) }
     ensures same { OnErr result (text.new ≡ text.old) }
     ensures size { length text.new ≡ length text.old }
 {
@@ -250,10 +252,11 @@ pub(super) fn units<'a>(
 // what follows.
 #[inline(never)]
 pub(super) fn pass_units(bytes: &[u8]) -> std::result::Result<&[u8], DecodingFault>
-    ensures ok { IfOk result (λ rest. (mode : GrammarMode) → IsDecodedUpTo mode (92 ∷ 117 ∷ bytes.now) rest.now) }
+    ensures ok { IfOk result (λ rest. (mode : GrammarMode) → IsDecodedUpTo mode
+        (ascii.backslash ∷ ascii.lower_u ∷ bytes.now) rest.now) }
     ensures shorter { IfOk result (λ rest. length rest.now ≤ length bytes.now) }
-    ensures err { IfErr result (λ fault. (mode : GrammarMode) → StopsAtEscape mode (92 ∷ 117 ∷ bytes.now)
-        (code_of fault.code) fault.left) }
+    ensures err { IfErr result (λ fault. (mode : GrammarMode) → StopsAtEscape mode
+        (ascii.backslash ∷ ascii.lower_u ∷ bytes.now) (code_of fault.code) fault.left) }
 {
     let first = read_unit(bytes)?;
     let Some(after) = after_next_mark(&first) else {

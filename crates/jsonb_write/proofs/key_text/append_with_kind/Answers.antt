@@ -10,8 +10,8 @@ returns-in-Some-clause-bytes c =
     let n = c.args.count in
     let bytes = c.args.bytes.now in
     let some : 0 < length c.in-Some.chunk.now = omega (arith, ap length c.in-Some.ensures.cases.same, length-take-le 32 bytes c.in-Some.ensures.cases.enough) in
-    e ∙ ap (λ xs. c.args.out.now.items ++ (xs ++ 0 ∷ 1 ∷ [])) (replaced c.args.kind c.in-Some.chunk.now n c.requires.some some)
-    ∙ ap (λ xs. c.args.out.now.items ++ c.args.kind ∷ (drop 1 xs ++ 0 ∷ 1 ∷ [])) (ap (take n) c.in-Some.ensures.cases.same ∙ take-take n 32 bytes (omega arith)))
+    e ∙ ap (λ xs. c.args.out.now.items ++ (xs ++ 0 ∷ 1 ∷ [])) (replaced c.args.first c.in-Some.chunk.now n c.requires.some some)
+    ∙ ap (λ xs. c.args.out.now.items ++ c.args.first ∷ (drop 1 xs ++ 0 ∷ 1 ∷ [])) (ap (take n) c.in-Some.ensures.cases.same ∙ take-take n 32 bytes (omega arith)))
 
 pub returns-clause-bytes : goal.returns-clause-bytes
 returns-clause-bytes c =
@@ -20,5 +20,5 @@ returns-clause-bytes c =
     let bytes = c.args.bytes.now in
     let ends = λ (xs : List ℕ). xs ++ 0 ∷ 1 ∷ [] in
     e ∙ ap (λ old. old ++ ends (take (n - 1) (take (length bytes - 1) (drop 1 bytes)))) c.in_ok-extend_from_slice.ensures.items
-    ∙ append_assoc c.args.out.now.items (c.args.kind ∷ []) _
-    ∙ ap (λ xs. c.args.out.now.items ++ c.args.kind ∷ ends xs) (ap (take (n - 1)) (take_rest bytes 1) ∙ behind_first n bytes c.requires.some))
+    ∙ append_assoc c.args.out.now.items (c.args.first ∷ []) _
+    ∙ ap (λ xs. c.args.out.now.items ++ c.args.first ∷ ends xs) (ap (take (n - 1)) (take_rest bytes 1) ∙ behind_first n bytes c.requires.some))

@@ -32,25 +32,25 @@ returns-then-first-2-clause-found c = λ depth t r s more e.
 
 pub returns-in_err-extend_from_slice-3-clause-found : goal.returns-in_err-extend_from_slice-3-clause-found
 returns-in_err-extend_from_slice-3-clause-found c = λ depth t r s more e.
-    let w = (word_of depth t r s c.in-Some.first.now c.in-Some.rest.now c.args.bytes.now more c.in-Some.ensures.cases.0 e).is_false c.if-first-eq21.true in
-    out_of_memory (λ rest. rest.now) c.from_residual-in_err-extend_from_slice-3.result c.args.buf.now c.extend_from_slice-then-first-eq21.new.self more _ c.from_residual-in_err-extend_from_slice-3.ensures.1 (omega (arith, c.in_err-extend_from_slice-3.ensures.full, ap length w.1))
+    let w = (word_of depth t r s c.in-Some.first.now c.in-Some.rest.now c.args.bytes.now more c.in-Some.ensures.cases.0 e).is_false c.if-first-eq-FALSE.true in
+    out_of_memory (λ rest. rest.now) c.from_residual-in_err-extend_from_slice-3.result c.args.buf.now c.extend_from_slice-then-first-eq-FALSE.new.self more _ c.from_residual-in_err-extend_from_slice-3.ensures.1 (omega (arith, c.in_err-extend_from_slice-3.ensures.full, ap length w.1))
 
-pub returns-then-first-eq21-clause-found : goal.returns-then-first-eq21-clause-found
-returns-then-first-eq21-clause-found c = λ depth t r s more e.
-    let w = (word_of depth t r s c.in-Some.first.now c.in-Some.rest.now c.args.bytes.now more c.in-Some.ensures.cases.0 e).is_false c.if-first-eq21.true in
+pub returns-then-first-eq-FALSE-clause-found : goal.returns-then-first-eq-FALSE-clause-found
+returns-then-first-eq-FALSE-clause-found c = λ depth t r s more e.
+    let w = (word_of depth t r s c.in-Some.first.now c.in-Some.rest.now c.args.bytes.now more c.in-Some.ensures.cases.0 e).is_false c.if-first-eq-FALSE.true in
     (w.0, c.in_ok-extend_from_slice-3.ensures.items ∙ ap (λ t. c.args.buf.now.items ++ t) (sym w.1))
 
 pub returns-in_err-extend_from_slice-4-clause-found : goal.returns-in_err-extend_from_slice-4-clause-found
 returns-in_err-extend_from_slice-4-clause-found c = λ depth t r s more e.
-    let w = (word_of depth t r s c.in-Some.first.now c.in-Some.rest.now c.args.bytes.now more c.in-Some.ensures.cases.0 e).is_true c.if-first-eq22.true in
-    out_of_memory (λ rest. rest.now) c.from_residual-in_err-extend_from_slice-4.result c.args.buf.now c.extend_from_slice-then-first-eq22.new.self more _ c.from_residual-in_err-extend_from_slice-4.ensures.1 (omega (arith, c.in_err-extend_from_slice-4.ensures.full, ap length w.1))
+    let w = (word_of depth t r s c.in-Some.first.now c.in-Some.rest.now c.args.bytes.now more c.in-Some.ensures.cases.0 e).is_true c.if-first-eq-TRUE.true in
+    out_of_memory (λ rest. rest.now) c.from_residual-in_err-extend_from_slice-4.result c.args.buf.now c.extend_from_slice-then-first-eq-TRUE.new.self more _ c.from_residual-in_err-extend_from_slice-4.ensures.1 (omega (arith, c.in_err-extend_from_slice-4.ensures.full, ap length w.1))
 
-pub returns-then-first-eq22-clause-found : goal.returns-then-first-eq22-clause-found
-returns-then-first-eq22-clause-found c = λ depth t r s more e.
-    let w = (word_of depth t r s c.in-Some.first.now c.in-Some.rest.now c.args.bytes.now more c.in-Some.ensures.cases.0 e).is_true c.if-first-eq22.true in
+pub returns-then-first-eq-TRUE-clause-found : goal.returns-then-first-eq-TRUE-clause-found
+returns-then-first-eq-TRUE-clause-found c = λ depth t r s more e.
+    let w = (word_of depth t r s c.in-Some.first.now c.in-Some.rest.now c.args.bytes.now more c.in-Some.ensures.cases.0 e).is_true c.if-first-eq-TRUE.true in
     (w.0, c.in_ok-extend_from_slice-4.ensures.items ∙ ap (λ t. c.args.buf.now.items ++ t) (sym w.1))
 
 pub returns-clause-found : goal.returns-clause-found
 returns-clause-found c = λ depth t r s more e.
-    let n = number_text_of depth t r s c.in-Some.first.now c.in-Some.rest.now c.args.bytes.now more c.in-Some.ensures.cases.0 e c.if-first.false c.if-first-2.false c.if-first-eq21.false c.if-first-eq22.false in
+    let n = number_text_of depth t r s c.in-Some.first.now c.in-Some.rest.now c.args.bytes.now more c.in-Some.ensures.cases.0 e c.if-first.false c.if-first-2.false c.if-first-eq-FALSE.false c.if-first-eq-TRUE.false in
     as_text (λ rest. rest.now) c.append_number.result c.args.buf.now c.append_number.new.buf more _ _ n.3 (c.append_number.ensures.found n.0 n.1 more n.2)
