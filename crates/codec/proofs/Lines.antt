@@ -1,9 +1,9 @@
 -- Frames one after the other, and the lines that they came from or become.
 use Rattle.std.proofs.Common.{◌≡◌, ℕ, ◌+◌, ◌<◌, List, [], ◌∷◌, ◌++◌, length, take, get_or, ◌≤◌, Vec, Global, refl, sym, subst, ap, ◌∙◌, append_assoc, append-nil, add-one, take-suc, length-append, arith}
 use Rattle.std.proofs.lemmas.List.{map-append, take_all}
-use Rattle.jsonb.specs.Grammar.{IsDocument}
-use Rattle.jsonb.specs.Mode.{extended}
-use Rattle.jsonb.specs.Tree.{Tree}
+use Rattle.jsonb_spec.specs.Grammar.{IsDocument}
+use Rattle.jsonb_spec.specs.Mode.{extended}
+use Rattle.jsonb_spec.specs.Tree.{Tree}
 use Rattle.codec.specs.Frame.{frame_of}
 use Rattle.codec.specs.Values.{contents, IsFrame, AppendsFrame, DecodesAs, AreEncoded, more_lines, no_lines, DecodesLine, AreDecoded, no_frames, more_frames}
 

@@ -1,10 +1,10 @@
 -- The first line or frame that is rejected, and where a frame exceeds the capacity.
 use Rattle.std.proofs.Common.{◌≡◌, ◌≢◌, ◌⊎◌, inl, inr, ℕ, ◌+◌, ◌<◌, List, [], ◌∷◌, ◌++◌, length, take, drop, get_or, true, Option, Some, None, IsSome, MatchOption, Result, Ok, Err, OnErr, is_err, Vec, Global, refl, sym, subst, ap, ◌∙◌, add-one, append-nil, drop-cons, take-append-drop, arith}
-use Rattle.jsonb.specs.Grammar.{IsDocument}
-use Rattle.jsonb.specs.Mode.{extended}
-use Rattle.jsonb.specs.Tree.{Tree}
+use Rattle.jsonb_spec.specs.Grammar.{IsDocument}
+use Rattle.jsonb_spec.specs.Mode.{extended}
+use Rattle.jsonb_spec.specs.Tree.{Tree}
 use Rattle.jsonb_value.proofs.Trees.DocumentTexts.{document_has_text}
-use Rattle.jsonb_value.specs.Text.{text_of}
+use Rattle.jsonb_spec.specs.Text.{text_of}
 use Rattle.jsonb_value.specs.declared.error.Error.{Error}
 use Rattle.jsonb_value.specs.declared.error.Error.TheVariants as error
 use Rattle.codec.specs.Frame.{frame_of}

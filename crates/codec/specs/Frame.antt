@@ -1,5 +1,4 @@
 -- The frame of a text, and the bytes that begin with it.
--- Read for: promises.
 use Rattle.std.specs.Prelude.{◌≡◌, ℕ, ◌<◌, ◌^◌, List, ◌++◌, length}
 use Rattle.std.specs.Int.{w32, to_be_bytes}
 

@@ -1,16 +1,15 @@
 -- Frames of values, one and many, as they are written and parsed, and the errors.
--- Read for: promises.
 use Rattle.std.specs.Prelude.{◌≡◌, ◌≢◌, ◌⊎◌, ℕ, ◌<◌, ◌≤◌, ◌^◌, List, [], ◌∷◌, ◌++◌, length, map, codes, Some, None, Vec}
 use Rattle.std.specs.declared.alloc.Global.{Global}
-use Rattle.jsonb_value.specs.Ascii as ascii
-use Rattle.jsonb.specs.ErrorText.{error_text}
-use Rattle.jsonb.specs.Grammar.{IsDocument, IsNoDocument}
-use Rattle.jsonb.specs.Mode.{extended}
-use Rattle.jsonb.specs.Parser.{Fails, MayAllocate}
-use Rattle.jsonb.specs.Reading.Document.{document_of}
-use Rattle.jsonb.specs.Tree.{Tree}
-use Rattle.jsonb_value.specs.Order.{Same}
-use Rattle.jsonb_value.specs.Text.{text_of}
+use Rattle.jsonb_spec.specs.Ascii as ascii
+use Rattle.jsonb_value.specs.Error.ErrorText.{error_text}
+use Rattle.jsonb_spec.specs.Grammar.{IsDocument, IsNoDocument}
+use Rattle.jsonb_spec.specs.Mode.{extended}
+use Rattle.jsonb_scan.specs.Answer.{Fails, MayAllocate}
+use Rattle.jsonb_scan.specs.Reading.Document.{document_of}
+use Rattle.jsonb_spec.specs.Tree.{Tree}
+use Rattle.jsonb_spec.specs.Order.{Same}
+use Rattle.jsonb_spec.specs.Text.{text_of}
 use Rattle.jsonb_value.specs.declared.error.Error.TheVariants as error
 use Rattle.codec.specs.Frame.{frame_of, BeginsWith}
 use Rattle.codec.specs.declared.values.Refusal.{Refusal}

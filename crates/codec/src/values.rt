@@ -1,10 +1,10 @@
 //! Values in frames.
 
 ghost use Rattle.std.specs.Prelude.{◌≡◌, ◌≢◌, ◌⊎◌, ◌+◌, ◌<◌, ◌++◌, ℕ, List, length, None, vec_len, vec_capacity, OnOk, OnErr, IfOk, IfErr, MatchOption, IsErrOf};
-ghost use Rattle.jsonb.specs.Tree.{Tree};
-ghost use Rattle.jsonb.specs.View.{view};
-ghost use Rattle.jsonb_value.specs.Text.{text_of};
-ghost use Rattle.jsonb_value.specs.Text.Range.{IsInRange};
+ghost use Rattle.jsonb_spec.specs.Tree.{Tree};
+ghost use Rattle.jsonb_value.specs.View.{view};
+ghost use Rattle.jsonb_spec.specs.Text.{text_of};
+ghost use Rattle.jsonb_spec.specs.Text.Range.{IsInRange};
 ghost use Rattle.codec.specs.Frame.{frame_of};
 ghost use Rattle.codec.specs.Values.{contents, IsFrame, AppendsFrame, DecodesAs, AreEncoded, AppendsLine, DecodesLine, AreDecoded, EncodeRefuses, DecodeRefuses, DecodeLineRefuses, EncodeLinesRefuses, DecodeLinesRefuses};
 

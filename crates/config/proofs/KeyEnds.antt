@@ -3,9 +3,10 @@ use Rattle.std.proofs.Common.{◌≡◌, inl, inr, ℕ, zero, suc, ◌<◌, List
 use Rattle.std.specs.Cow.{cow_str_bytes}
 use Rattle.jsonb.specs.AstView.{Written}
 use Rattle.std.specs.Str.{bytes_eq}
-use Rattle.jsonb.specs.Mode.{Mode}
-use Rattle.jsonb.specs.Placed.{IsPlaced}
-use Rattle.jsonb.specs.Source.{object_source, source_members_view, source_view}
+use Rattle.jsonb_spec.specs.Mode.{Mode}
+use Rattle.jsonb_spec.specs.Placed.{IsPlaced}
+use Rattle.jsonb_spec.specs.Source.{object_source}
+use Rattle.jsonb.specs.Source.{source_members_view, source_view}
 use Rattle.jsonb.specs.declared.parser.ast.JsonAst.{JsonAst, the_lemmas}
 use Rattle.jsonb.specs.declared.parser.ast.JsonAst.TheVariants as ast
 use Rattle.config.specs.Config.{HasKeyEnd}

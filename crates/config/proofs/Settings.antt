@@ -5,13 +5,13 @@ use Rattle.std.specs.Cmp.Lexicographic.{slice_cmp}
 use Rattle.std.specs.Cow.{cow_str_bytes}
 use Rattle.std.specs.Ordering.{match_ordering, is_eq}
 use Rattle.std.specs.Str.{bytes_eq}
-use Rattle.jsonb.specs.Accessors.{as_object, find_member}
+use Rattle.jsonb_spec.specs.Accessors.{as_object, find_member}
 use Rattle.jsonb.specs.AstView.{Written, ast_view, written_members, written_pairs}
-use Rattle.jsonb.specs.Grammar.{IsDocument}
-use Rattle.jsonb.specs.Mode.{extended}
-use Rattle.jsonb.specs.Placed.{IsPlaced}
+use Rattle.jsonb_spec.specs.Grammar.{IsDocument}
+use Rattle.jsonb_spec.specs.Mode.{extended}
+use Rattle.jsonb_spec.specs.Placed.{IsPlaced}
 use Rattle.jsonb.specs.Source.{source_members_view, source_view}
-use Rattle.jsonb.specs.Tree.{Member, Members, no_members, more_members, object, put, put_all, Tree}
+use Rattle.jsonb_spec.specs.Tree.{Member, Members, no_members, more_members, object, put, put_all, Tree}
 use Rattle.jsonb.specs.declared.parser.ast.JsonAst.{JsonAst, the_lemmas}
 use Rattle.jsonb.specs.declared.parser.ast.JsonAst.TheVariants as ast
 use Rattle.config.proofs.KeyEnds.{key_found, object_placed, same_bytes}

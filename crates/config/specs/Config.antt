@@ -1,18 +1,18 @@
 -- Which settings a tree gives, with the defaults, and what is rejected.
--- Read for: promises, but `IsSettingRefusal`.
 use Rattle.std.specs.Prelude.{◌≡◌, ◌≢◌, ◌⊎◌, ℕ, ◌<◌, ◌^◌, List, Bool, false, Option, Some, None, codes, string_bytes, pos}
 use Rattle.std.specs.Str.{bytes_eq}
 use Rattle.jsonb.specs.AstView.{Written, written_members}
-use Rattle.jsonb.specs.Code.{code_of}
-use Rattle.jsonb.specs.Grammar.{IsDocument, IsNoDocument}
-use Rattle.jsonb.specs.Mode.{extended}
-use Rattle.jsonb.specs.Parser.{Fails, MayAllocate}
-use Rattle.jsonb.specs.Accessors.{as_boolean, as_object, as_string, find_member, IsWholeNumber}
-use Rattle.jsonb.specs.Line.{column_at, fault_index, line_at}
-use Rattle.jsonb.specs.Placed.{IsPlaced}
-use Rattle.jsonb.specs.Reading.Document.{document_of}
-use Rattle.jsonb.specs.Source.{object_source, SourceMembers, no_source_members, more_source_members, source_members_view}
-use Rattle.jsonb.specs.Tree.{Mark, Tree, Members}
+use Rattle.jsonb_value.specs.Error.CodeView.{code_of}
+use Rattle.jsonb_spec.specs.Grammar.{IsDocument, IsNoDocument}
+use Rattle.jsonb_spec.specs.Mode.{extended}
+use Rattle.jsonb_scan.specs.Answer.{Fails, MayAllocate}
+use Rattle.jsonb_spec.specs.Accessors.{as_boolean, as_object, as_string, find_member, IsWholeNumber}
+use Rattle.jsonb_spec.specs.Line.{column_at, fault_index, line_at}
+use Rattle.jsonb_spec.specs.Placed.{IsPlaced}
+use Rattle.jsonb_scan.specs.Reading.Document.{document_of}
+use Rattle.jsonb_spec.specs.Source.{object_source, SourceMembers, no_source_members, more_source_members}
+use Rattle.jsonb.specs.Source.{source_members_view}
+use Rattle.jsonb_spec.specs.Tree.{Mark, Tree, Members}
 use Rattle.jsonb_value.specs.declared.error.Error.{Error}
 use Rattle.jsonb_value.specs.declared.error.Error.TheVariants as error
 use Rattle.config.specs.declared.config.Config.{Config}

@@ -1,13 +1,13 @@
 //! The settings of a server.
 
 ghost use Rattle.std.specs.Prelude.{◌≡◌, ◌↔◌, ℕ, ◌<◌, ◌^◌, pos, Some, None, option_map, IfOk, IfErr, IfSome, IfNone};
-ghost use Rattle.jsonb.specs.Accessors.{IsWholeNumber, as_boolean, as_string};
+ghost use Rattle.jsonb_spec.specs.Accessors.{IsWholeNumber, as_boolean, as_string};
 ghost use Rattle.jsonb.specs.AstView.{ast_view, written_members};
-ghost use Rattle.jsonb.specs.Grammar.{IsDocument};
-ghost use Rattle.jsonb.specs.Line.{line_at, column_at};
-ghost use Rattle.jsonb.specs.Mode.{extended};
+ghost use Rattle.jsonb_spec.specs.Grammar.{IsDocument};
+ghost use Rattle.jsonb_spec.specs.Line.{line_at, column_at};
+ghost use Rattle.jsonb_spec.specs.Mode.{extended};
 ghost use Rattle.jsonb.specs.Source.{source_members_view};
-ghost use Rattle.jsonb.specs.Tree.{Mark, Tree};
+ghost use Rattle.jsonb_spec.specs.Tree.{Mark, Tree};
 ghost use Rattle.config.specs.Config.{key_of, setting_of, shown_index, IsHost, IsPort, IsWorkers, IsVerbose, IsConfig, IsConfigOf, HasKeyEnd, IsSettingRefusal, IsConfigRefusal};
 
 use jsonb::{Error, JsonAst, Mode, fault_index, line_and_column};

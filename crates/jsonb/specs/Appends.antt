@@ -1,13 +1,12 @@
 -- What is appended of a text that is parsed for its serialized form or its sort key.
--- Read for: promises.
 use Rattle.std.specs.Prelude.{◌≡◌, ℕ, ◌+◌, ◌<◌, List, ◌++◌, length, Ok, Bool, MatchBool, None, Some}
-use Rattle.jsonb_value.specs.Grammar.{IsDocument}
-use Rattle.jsonb_value.specs.Mode.{Mode}
-use Rattle.jsonb_value.specs.SortKey.{key_of}
-use Rattle.jsonb_value.specs.Text.{AppendsText, tree_text}
-use Rattle.jsonb_value.specs.Tree.{Tree}
+use Rattle.jsonb_spec.specs.Grammar.{IsDocument}
+use Rattle.jsonb_spec.specs.Mode.{Mode}
+use Rattle.jsonb_spec.specs.SortKey.{key_of}
+use Rattle.jsonb_spec.specs.Text.{AppendsText, tree_text}
+use Rattle.jsonb_spec.specs.Tree.{Tree}
 use Rattle.jsonb_scan.specs.Reading.Document.{document_of}
-use Rattle.jsonb_write.specs.PartAt.{part_at}
+use Rattle.jsonb_spec.specs.PartAt.{part_at}
 
 -- The text is a document of this tree and of no other, which is what reading gives.
 pub record IsParsed (mode : Mode) (text : List ℕ) (tree : Tree) : Type 0 where

@@ -1,13 +1,12 @@
 -- The open containers of the parser.
--- Read for: private.
 use Rattle.std.specs.Prelude.{◌≡◌, ◌⊎◌, ℕ, suc, ◌-◌, Bool, true, false, List, [], ◌∷◌, ◌++◌, length, Option, Result, Ok, reverse, not, if◌then◌else◌}
-use Rattle.jsonb_value.specs.Ascii as ascii
+use Rattle.jsonb_spec.specs.Ascii as ascii
 use Rattle.jsonb_value.specs.declared.error.Error.{Error}
-use Rattle.jsonb_value.specs.Grammar.{max_depth}
-use Rattle.jsonb_value.specs.Mode.{Mode}
-use Rattle.jsonb_value.specs.Tree.{Mark, Tree}
-use Rattle.jsonb_value.specs.Tree.Mark.{plain}
-use Rattle.jsonb_value.specs.Tree.Tree.{null}
+use Rattle.jsonb_spec.specs.Grammar.{max_depth}
+use Rattle.jsonb_spec.specs.Mode.{Mode}
+use Rattle.jsonb_spec.specs.Tree.{Mark, Tree}
+use Rattle.jsonb_spec.specs.Tree.Mark.{plain}
+use Rattle.jsonb_spec.specs.Tree.Tree.{null}
 use Rattle.jsonb.specs.Handler.{ElseFails}
 use Rattle.jsonb.specs.declared.parser.Parser.{Parser}
 use Rattle.jsonb.specs.declared.parser.frame.Frame.{Frame}
@@ -19,7 +18,7 @@ use Rattle.jsonb_scan.specs.Reading.{Read, begins, ◌>>=◌}
 use Rattle.jsonb_scan.specs.Reading.Container.{is_left_out}
 use Rattle.jsonb_scan.specs.Reading.Scalar.{scalar_at}
 use Rattle.jsonb_scan.specs.Reading.Document.{value_at}
-use Rattle.jsonb_scan.specs.Source.{Source, Found, found, null_source, source_alone}
+use Rattle.jsonb_spec.specs.Source.{Source, Found, found, null_source, source_alone}
 use Rattle.jsonb.specs.Stack.{array_end, finish_open, next_part_at, object_end, resume}
 use Rattle.jsonb_scan.specs.Open.{Open}
 use Rattle.jsonb_scan.specs.Open.{elements_so_far, members_so_far}

@@ -1,14 +1,13 @@
 -- How parsing fails, and what a `Value` and a `JsonAst` hold of what was parsed.
--- Read for: private.
 use Rattle.std.specs.Prelude.{◌≡◌, ℕ, ◌+◌, ◌-◌, Bool, true, false, List, [], ◌∷◌, length, map, Option, Some, None, Result, Ok, Err, String, string_bytes, Vec}
 use Rattle.std.specs.declared.alloc.Global.{Global}
 use Rattle.jsonb_value.specs.declared.error.Error.{Error}
 use Rattle.jsonb_value.specs.declared.error.Error.TheVariants.{Syntax, OutOfMemory}
 use Rattle.jsonb_value.specs.declared.value.Value.{Value}
-use Rattle.jsonb_value.specs.Grammar.{AreDistinct, IsNew}
-use Rattle.jsonb_value.specs.Tree.{Mark, Num, Tree, put_all}
-use Rattle.jsonb_value.specs.Tree.Members.{no_members}
-use Rattle.jsonb_value.specs.Code.{code_of}
+use Rattle.jsonb_spec.specs.Grammar.{AreDistinct, IsNew}
+use Rattle.jsonb_spec.specs.Tree.{Mark, Num, Tree, put_all}
+use Rattle.jsonb_spec.specs.Tree.Members.{no_members}
+use Rattle.jsonb_value.specs.Error.CodeView.{code_of}
 use Rattle.jsonb_value.specs.View.{members_view}
 use Rattle.jsonb.specs.declared.parser.frame.Frame.{Frame}
 use Rattle.jsonb.specs.declared.parser.frame.Frame.TheVariants as variants
@@ -17,7 +16,7 @@ use Rattle.jsonb_scan.specs.Answer.{Fails}
 use Rattle.jsonb_scan.specs.Open.{Open, elements_so_far, members_so_far}
 use Rattle.jsonb_scan.specs.Reading.{Fault, Read}
 use Rattle.jsonb_scan.specs.Reading.String.{Body}
-use Rattle.jsonb_scan.specs.Source.{Source, Found, array_source_of, member_of, number_source, string_source, source_alone, spot_of}
+use Rattle.jsonb_spec.specs.Source.{Source, Found, array_source_of, member_of, number_source, string_source, source_alone, spot_of}
 
 -- ---- how a call fails
 

@@ -1,7 +1,6 @@
 -- The literals: `null`, `true` and `false`.
--- Read for: private.
 use Rattle.std.specs.Prelude.{ℕ, true, false, List, codes}
-use Rattle.jsonb_value.specs.Tree.{Tree, null, boolean}
+use Rattle.jsonb_spec.specs.Tree.{Tree, null, boolean}
 use Rattle.jsonb.specs.declared.parser.scalar.Literal.{Literal}
 use Rattle.jsonb.specs.declared.parser.scalar.Literal.TheVariants as variants
 

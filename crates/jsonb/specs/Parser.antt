@@ -1,16 +1,15 @@
 -- The remaining input of a parser, and what a call of it leaves; `Answer` of `jsonb_scan` again.
--- Read for: private.
 use Rattle.std.specs.Prelude.{◌≡◌, ℕ, ◌+◌, ◌-◌, ◌<◌, ◌≤◌, true, List, length, drop, take, slice_index, Option, IfSome, Result, Ok, slice_range}
-use Rattle.jsonb_value.specs.Mode.{Mode}
-use Rattle.jsonb_value.specs.Text.NumberText.{number_text}
-use Rattle.jsonb_value.specs.Tree.{Num, number}
+use Rattle.jsonb_spec.specs.Mode.{Mode}
+use Rattle.jsonb_spec.specs.Text.NumberText.{number_text}
+use Rattle.jsonb_spec.specs.Tree.{Num, number}
 use Rattle.jsonb_value.specs.declared.error.Error.{Error}
 use Rattle.jsonb.specs.declared.parser.Parser.{Parser}
 use Rattle.jsonb_scan.specs.Decoding.{TellsBackslash}
 use Rattle.jsonb_scan.specs.Reading.{Read}
 use Rattle.jsonb_scan.specs.Reading.String.{quote_end}
 use Rattle.jsonb_scan.specs.Reading.Scalar.{scalar_at}
-pub use Rattle.jsonb_scan.specs.Answer.{mode_of, NamesFault, Fails, Gives, IsTextRefusal, MayAllocate}
+use Rattle.jsonb_scan.specs.Answer.{mode_of, NamesFault, Fails, Gives, IsTextRefusal, MayAllocate}
 
 -- the bytes from the index on
 abbrev pub rest_of : Parser → List ℕ

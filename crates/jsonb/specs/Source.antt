@@ -1,18 +1,17 @@
 -- A `JsonAst` with its order and offsets, and what is borrowed; equality by parts.
--- Read for: promises, but `sources_view`, `source_members_view`, `found_of`.
 use Rattle.std.specs.Prelude.{ℕ, List, map, Bool, true, false, ◌&&◌, ◌==◌, bytes_eq, ⊤}
 use Rattle.std.specs.Cow.{cow_str_bytes}
 use Rattle.std.specs.Ordering.{bool_cmp, eq_by_cmp}
 use Rattle.std.specs.declared.alloc.Global.{Global}
 use Rattle.std.specs.declared.borrow.CowStr.{CowStr}
-use Rattle.jsonb_value.specs.Order.{num_cmp}
-use Rattle.jsonb_value.specs.Tree.{escaped}
+use Rattle.jsonb_spec.specs.Order.{num_cmp}
+use Rattle.jsonb_spec.specs.Tree.{escaped}
 use Rattle.jsonb_value.specs.View.{number_view, mark_view}
 use Rattle.jsonb.specs.AstView.{Written}
 use Rattle.jsonb.specs.declared.parser.ast.JsonAst.{JsonAst, fold-JsonAst}
 use Rattle.jsonb.specs.declared.parser.ast.JsonAst.TheOpen.{JsonAst-F}
-use Rattle.jsonb_scan.specs.Source.{Found, array_source_of, source_members_of, sources_of}
-pub use Rattle.jsonb_scan.specs.Source.{Source, null_source, boolean_source, string_source, number_source, array_source, object_source, Sources, no_sources, more_sources, SourceMembers, no_source_members, more_source_members}
+use Rattle.jsonb_spec.specs.Source.{Found, array_source_of, source_members_of, sources_of}
+use Rattle.jsonb_spec.specs.Source.{Source, null_source, boolean_source, string_source, number_source, array_source, object_source, Sources, no_sources, more_sources, SourceMembers, no_source_members, more_source_members}
 
 -- it holds no other source and no text of its own, so that a copy takes no memory
 abbrev pub SourceHoldsNoMemory : Source → Type 0

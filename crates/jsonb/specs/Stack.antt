@@ -1,13 +1,12 @@
 -- Parsing by the open containers: what remains once a value inside them was parsed.
--- Read for: private.
 use Rattle.std.specs.Prelude.{ℕ, zero, suc, ◌-◌, Bool, true, false, List, [], ◌∷◌, ◌++◌, length, Ok, map}
-use Rattle.jsonb_value.specs.Ascii as ascii
-use Rattle.jsonb_value.specs.Code.{Code}
-use Rattle.jsonb_value.specs.Code.Code.{expected_array_comma_or_end, expected_colon, expected_object_comma_or_end}
-use Rattle.jsonb_value.specs.Mode.{Mode}
-use Rattle.jsonb_value.specs.Tree.{Mark}
+use Rattle.jsonb_spec.specs.Ascii as ascii
+use Rattle.jsonb_spec.specs.Code.{Code}
+use Rattle.jsonb_spec.specs.Code.Code.{expected_array_comma_or_end, expected_colon, expected_object_comma_or_end}
+use Rattle.jsonb_spec.specs.Mode.{Mode}
+use Rattle.jsonb_spec.specs.Tree.{Mark}
 use Rattle.jsonb_scan.specs.Open.{Open, add_part, elements_so_far, members_so_far}
-use Rattle.jsonb_scan.specs.Source.{Source, Found, spot_of, first_repeat, array_source_of}
+use Rattle.jsonb_spec.specs.Source.{Source, Found, spot_of, first_repeat, array_source_of}
 use Rattle.jsonb_scan.specs.Reading.{Read, on_byte, refused, ◌>>=◌}
 use Rattle.jsonb_scan.specs.Reading.Blank.{skip_blanks}
 use Rattle.jsonb_scan.specs.Reading.Container.{array_at, element_at, joined_at, member_at, object_at, object_or_fault}

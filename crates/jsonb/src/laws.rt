@@ -1,13 +1,13 @@
 //! Laws of the grammar. Each is the contract of a function that does nothing.
 
 ghost use Rattle.std.specs.Prelude.{◌≡◌, ◌≢◌, ◌++◌, ℕ, List, [], None};
-ghost use Rattle.jsonb_value.specs.Code.{Code};
-ghost use Rattle.jsonb_value.specs.Grammar.{Derives, IsDocument};
-ghost use Rattle.jsonb_value.specs.Grammar.StringBody.{Decodes};
-ghost use Rattle.jsonb_value.specs.Grammar.StringFault.{IsFaultyBody};
-ghost use Rattle.jsonb_value.specs.Mode.{Mode};
-ghost use Rattle.jsonb_value.specs.Accessors.{as_number};
-ghost use Rattle.jsonb_value.specs.Tree.{Tree};
+ghost use Rattle.jsonb_spec.specs.Code.{Code};
+ghost use Rattle.jsonb_spec.specs.Grammar.{Derives, IsDocument};
+ghost use Rattle.jsonb_spec.specs.Grammar.StringBody.{Decodes};
+ghost use Rattle.jsonb_spec.specs.Grammar.StringFault.{IsFaultyBody};
+ghost use Rattle.jsonb_spec.specs.Mode.{Mode};
+ghost use Rattle.jsonb_spec.specs.Accessors.{as_number};
+ghost use Rattle.jsonb_spec.specs.Tree.{Tree};
 
 /// A text is a document of at most one tree. Where the text of a value is a proper prefix of that of another, both are
 /// numbers.

@@ -1,21 +1,21 @@
 //! The parsers of JSON texts: from left to right, up to the first fault.
 
 ghost use Rattle.std.specs.Prelude.{◌≡◌, ◌≢◌, ◌+◌, ◌<◌, ◌≤◌, ℕ, List, [], ◌∷◌, drop, ◌⊎◌, MatchOption, MatchBool, MatchResult, IfOk, IfErr, IfSome, OnOk, Err, None, Ok, Some, true, false, length, take};
-ghost use Rattle.jsonb_value.specs.Code.{code_of};
-ghost use Rattle.jsonb_value.specs.Grammar.{IsDocument, IsNoDocument};
-ghost use Rattle.jsonb_value.specs.Mode.{standard, extended};
-ghost use Rattle.jsonb_value.specs.Order.{Same};
-ghost use Rattle.jsonb_value.specs.Proper.{IsProper};
-ghost use Rattle.jsonb_value.specs.Text.Range.{IsInRange, IsIntegerRange};
-ghost use Rattle.jsonb_value.specs.Tree.{Tree};
+ghost use Rattle.jsonb_value.specs.Error.CodeView.{code_of};
+ghost use Rattle.jsonb_spec.specs.Grammar.{IsDocument, IsNoDocument};
+ghost use Rattle.jsonb_spec.specs.Mode.{standard, extended};
+ghost use Rattle.jsonb_spec.specs.Order.{Same};
+ghost use Rattle.jsonb_spec.specs.Proper.{IsProper};
+ghost use Rattle.jsonb_spec.specs.Text.Range.{IsInRange, IsIntegerRange};
+ghost use Rattle.jsonb_spec.specs.Tree.{Tree};
 ghost use Rattle.jsonb_value.specs.View.{view};
 ghost use Rattle.jsonb_scan.specs.Answer.{mode_of, NamesFault, IsTextRefusal, Gives, MayAllocate};
 ghost use Rattle.jsonb.specs.Parser.{rest_of, size_of, Advances, IsBehind};
 ghost use Rattle.jsonb_scan.specs.Reading.{begins, fault_at};
 ghost use Rattle.jsonb_scan.specs.Reading.Blank.{skip_closed_blanks};
 ghost use Rattle.jsonb_scan.specs.Reading.Document.{at_end, comment_at, document_of, source_from, source_of};
-ghost use Rattle.jsonb.specs.Refusals.{IsExplained};
-ghost use Rattle.jsonb_scan.specs.Source.{Source, null_source};
+ghost use Rattle.jsonb.specs.Explained.{IsExplained};
+ghost use Rattle.jsonb_spec.specs.Source.{Source, null_source};
 ghost use Rattle.jsonb.specs.Handler.{BuildsAll, ElseFails, IsWritten, Misses};
 
 mod ast;

@@ -1,9 +1,9 @@
 //! The part of a value at the keys of a path.
 ghost use Rattle.std.specs.Prelude.{◌≡◌, map, string_bytes, IfNone, IfSome};
 ghost use Rattle.std.specs.Option.{option_map};
-ghost use Rattle.jsonb_value.specs.Tree.{Tree};
+ghost use Rattle.jsonb_spec.specs.Tree.{Tree};
 ghost use Rattle.jsonb_value.specs.View.{view};
-ghost use Rattle.jsonb_write.specs.PartAt.{IsAt, IsChild, child_at, part_at};
+ghost use Rattle.jsonb_spec.specs.PartAt.{IsAt, IsChild, child_at, part_at};
 
 use jsonb_value::value::Value;
 use jsonb_write::part::index_of;

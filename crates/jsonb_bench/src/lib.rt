@@ -6,9 +6,9 @@
 #![tactic(auto)]
 
 ghost use Rattle.std.specs.Prelude.{◌≡◌, ◌≤◌};
-ghost use Rattle.jsonb_value.specs.Grammar.{IsDocument, IsNoDocument};
-ghost use Rattle.jsonb_value.specs.Mode.{standard, extended};
-ghost use Rattle.jsonb_value.specs.Tree.{Tree};
+ghost use Rattle.jsonb_spec.specs.Grammar.{IsDocument, IsNoDocument};
+ghost use Rattle.jsonb_spec.specs.Mode.{standard, extended};
+ghost use Rattle.jsonb_spec.specs.Tree.{Tree};
 
 use jsonb::{JsonAst, Mode, append_sort_key, append_text, parse_value, parse_value_standard_mode};
 use jsonb_document::Document;

@@ -3,8 +3,8 @@ use Rattle.std.proofs.Common.{◌≡◌, ℕ, ◌+◌, ◌-◌, Bool, List, [], 
 use Rattle.std.proofs.Math.Seq.{drop-append_seam}
 use Rattle.std.proofs.lemmas.List.{length-append}
 use Rattle.jsonb_key.specs.Readable.{IsReadable}
-use Rattle.jsonb_value.specs.SortKey.{key_of, items_key, members_key, text_key}
-use Rattle.jsonb_value.specs.Tree.{Tree, null, boolean, string, number, array, object, no_trees, more_trees, no_members, more_members}
+use Rattle.jsonb_spec.specs.SortKey.{key_of, items_key, members_key, text_key}
+use Rattle.jsonb_spec.specs.Tree.{Tree, null, boolean, string, number, array, object, no_trees, more_trees, no_members, more_members}
 use Rattle.jsonb_stored.specs.declared.find.NoKey.{NoKey}
 use Rattle.jsonb_stored.specs.Found.{IsLeftOf, IsNext}
 use Rattle.jsonb_stored.specs.Open.{Open, items, members, is_object, open_key, opening_byte, IsOpen, IsScalar}

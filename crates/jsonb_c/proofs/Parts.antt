@@ -1,8 +1,8 @@
 -- What is at a path of a document: a part or nothing, and not both.
 use Rattle.std.proofs.Common.{◌≡◌, ℕ, List, subst, sym, ◌∙◌}
-use Rattle.jsonb_value.specs.Grammar.{IsDocument}
-use Rattle.jsonb_value.specs.Tree.{Tree}
-use Rattle.jsonb_write.specs.PartAt.{IsAt}
+use Rattle.jsonb_spec.specs.Grammar.{IsDocument}
+use Rattle.jsonb_spec.specs.Tree.{Tree}
+use Rattle.jsonb_spec.specs.PartAt.{IsAt}
 use Rattle.jsonb_pointer.proofs.KeySpelling.{one_path}
 use Rattle.jsonb_c.specs.Interface.{IsAccepted, IsDocumentOf, HasPartAt, HasNoPartAt}
 use Rattle.jsonb_c.proofs.Reasons.{one_mode}

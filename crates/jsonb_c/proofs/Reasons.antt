@@ -1,13 +1,13 @@
 -- What a status says, by its reason.
 use Rattle.std.proofs.Common.{◌≡◌, ◌≢◌, ℕ, ◌≤◌, List, Result, Err, refl, ap, subst, sym, ◌∙◌, arith}
-use Rattle.jsonb_value.specs.Code.{code_of}
-use Rattle.jsonb_value.specs.Grammar.{IsDocument, IsNoDocument}
-use Rattle.jsonb_value.specs.Mode.{Mode}
+use Rattle.jsonb_value.specs.Error.CodeView.{code_of}
+use Rattle.jsonb_spec.specs.Grammar.{IsDocument, IsNoDocument}
+use Rattle.jsonb_spec.specs.Mode.{Mode}
 use Rattle.jsonb_value.specs.declared.error.Error.{Error}
 use Rattle.jsonb_value.specs.declared.error.Error.TheVariants as errors
-use Rattle.jsonb.specs.Parser.{Fails}
-use Rattle.jsonb.specs.Reading.Document.{document_of}
-use Rattle.jsonb.specs.Refusals.{IsExplained}
+use Rattle.jsonb_scan.specs.Answer.{Fails}
+use Rattle.jsonb_scan.specs.Reading.Document.{document_of}
+use Rattle.jsonb.specs.Explained.{IsExplained}
 use Rattle.jsonb_c.specs.declared.Refusal.{Refusal}
 use Rattle.jsonb_c.specs.declared.Refused.{Refused}
 use Rattle.jsonb_c.specs.declared.Refused.TheVariants.{Text, OutOfMemory, UnknownMode}

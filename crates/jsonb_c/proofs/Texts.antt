@@ -1,10 +1,10 @@
 -- What is appended to an empty buffer is the text of a tree.
 use Rattle.std.proofs.Common.{◌≡◌, ℕ, false, List, [], ◌++◌, Some, Result, Ok, Err, OnOk, ap, sym, ◌∙◌}
 use Rattle.std.specs.Result.{is_err}
-use Rattle.jsonb_value.specs.Text.{text_of, AppendsText}
-use Rattle.jsonb_value.specs.Grammar.{IsDocument}
-use Rattle.jsonb_value.specs.Mode.{Mode}
-use Rattle.jsonb_value.specs.Tree.{Tree}
+use Rattle.jsonb_spec.specs.Text.{text_of, AppendsText}
+use Rattle.jsonb_spec.specs.Grammar.{IsDocument}
+use Rattle.jsonb_spec.specs.Mode.{Mode}
+use Rattle.jsonb_spec.specs.Tree.{Tree}
 use Rattle.jsonb_value.proofs.Trees.RangeTexts.{document_text_reads_back}
 use Rattle.jsonb.specs.Appends.{IsParsed}
 use Rattle.jsonb.proofs.Documents.Spellings.{document_complete, document_unique}

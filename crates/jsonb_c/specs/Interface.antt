@@ -1,25 +1,25 @@
 -- What each status and each out parameter says of the texts.
--- Read for: promises, but `IsReason`, `SaysError`, `status_of`, `told`.
 use Rattle.std.specs.Prelude.{◌≡◌, ◌≢◌, ◌⊎◌, ℕ, ◌<◌, ◌≤◌, ℤ, pos, negsuc, List, [], ◌++◌, length, drop, Some, Ok, Err}
 use Rattle.std.specs.declared.cmp.Ordering.{Ordering}
 use Rattle.std.specs.declared.cmp.Ordering.TheVariants.{Less, Equal, Greater}
 use Rattle.jsonb_value.specs.declared.error.Error.{Error}
 use Rattle.jsonb_value.specs.declared.error.Error.TheVariants as errors
 use Rattle.jsonb_value.specs.declared.error.ParseErrorCode.{ParseErrorCode}
-use Rattle.jsonb_value.specs.Code.{Code, code_of}
-use Rattle.jsonb_value.specs.Code.Code.{control_character_while_parsing_string, depth_limit_exceeded, expected_array_comma_or_end, expected_colon, expected_object_comma_or_end, expected_some_ident, expected_some_value, invalid_eof, invalid_escaped, invalid_hex, invalid_lone_leading_surrogate_in_hex_escape, invalid_number_value, invalid_string_value, invalid_surrogate_in_hex_escape, key_must_be_a_string, number_not_carried, object_duplicate_key, object_key_invalid_character, object_key_invalid_number, unexpected_end_of_hex_escape, unexpected_trailing_characters}
+use Rattle.jsonb_spec.specs.Code.{Code}
+use Rattle.jsonb_value.specs.Error.CodeView.{code_of}
+use Rattle.jsonb_spec.specs.Code.Code.{control_character_while_parsing_string, depth_limit_exceeded, expected_array_comma_or_end, expected_colon, expected_object_comma_or_end, expected_some_ident, expected_some_value, invalid_eof, invalid_escaped, invalid_hex, invalid_lone_leading_surrogate_in_hex_escape, invalid_number_value, invalid_string_value, invalid_surrogate_in_hex_escape, key_must_be_a_string, number_not_carried, object_duplicate_key, object_key_invalid_character, object_key_invalid_number, unexpected_end_of_hex_escape, unexpected_trailing_characters}
 use Rattle.jsonb_value.specs.Error.ErrorText.{error_text}
-use Rattle.jsonb_value.specs.Grammar.{IsDocument, IsNoDocument}
-use Rattle.jsonb_value.specs.Mode.{Mode, standard, extended}
-use Rattle.jsonb_value.specs.Order.{bytes_cmp, tree_cmp}
-use Rattle.jsonb_value.specs.SortKey.{key_of}
-use Rattle.jsonb_value.specs.Text.ReadsBack.{ReadsBackAs}
-use Rattle.jsonb_value.specs.Text.{text_of}
-use Rattle.jsonb_value.specs.Tree.{Tree}
-use Rattle.jsonb.specs.Reading.Document.{document_of}
-use Rattle.jsonb.specs.Parser.{Fails}
-use Rattle.jsonb.specs.Refusals.{Stands}
-use Rattle.jsonb_write.specs.PartAt.{IsAt}
+use Rattle.jsonb_spec.specs.Grammar.{IsDocument, IsNoDocument}
+use Rattle.jsonb_spec.specs.Mode.{Mode, standard, extended}
+use Rattle.jsonb_spec.specs.Order.{bytes_cmp, tree_cmp}
+use Rattle.jsonb_spec.specs.SortKey.{key_of}
+use Rattle.jsonb_spec.specs.Text.ReadsBack.{ReadsBackAs}
+use Rattle.jsonb_spec.specs.Text.{text_of}
+use Rattle.jsonb_spec.specs.Tree.{Tree}
+use Rattle.jsonb_scan.specs.Reading.Document.{document_of}
+use Rattle.jsonb_scan.specs.Answer.{Fails}
+use Rattle.jsonb_spec.specs.Refusals.{Stands}
+use Rattle.jsonb_spec.specs.PartAt.{IsAt}
 use Rattle.jsonb_pointer.specs.Path.{IsPath}
 use Rattle.jsonb_c.specs.declared.Part.{Part}
 use Rattle.jsonb_c.specs.declared.Part.TheVariants as parts

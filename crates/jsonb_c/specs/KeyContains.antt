@@ -1,5 +1,4 @@
 -- What the statuses of `vizhoniku_key_contains` say.
--- Read for: promises.
 use Rattle.std.specs.Prelude.{◌≡◌, ℕ, Bool, true, false}
 
 -- The status says whether the value is contained: accepted, or no such part.

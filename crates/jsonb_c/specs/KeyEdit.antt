@@ -1,11 +1,10 @@
 -- What the statuses say of a sort key that is changed.
--- Read for: promises, but `edit_status_of`.
 use Rattle.std.specs.Prelude.{◌≡◌, ◌⊎◌, ℕ, List, Option, Some, None}
 use Rattle.jsonb_key.specs.Readable.{IsAnyNumber}
-use Rattle.jsonb_value.specs.Grammar.{max_depth}
-use Rattle.jsonb_value.specs.SortKey.{key_of}
-use Rattle.jsonb_value.specs.Text.Range.{IsWithin}
-use Rattle.jsonb_value.specs.Tree.{Tree}
+use Rattle.jsonb_spec.specs.Grammar.{max_depth}
+use Rattle.jsonb_spec.specs.SortKey.{key_of}
+use Rattle.jsonb_spec.specs.Text.Range.{IsWithin}
+use Rattle.jsonb_spec.specs.Tree.{Tree}
 use Rattle.jsonb_c.specs.KeyParts.{IsWritten}
 use Rattle.stored_edit.specs.declared.error.EditError.{EditError}
 use Rattle.stored_edit.specs.declared.error.EditError.TheVariants as errors

@@ -1,11 +1,10 @@
 -- What the statuses of `vizhoniku_key_text` say of a sort key.
--- Read for: promises, but `key_status_of`.
 use Rattle.std.specs.Prelude.{◌≡◌, ℕ, List, Some}
 use Rattle.jsonb_key.specs.declared.key.KeyError.{KeyError}
 use Rattle.jsonb_key.specs.declared.key.KeyError.TheVariants as errors
-use Rattle.jsonb_value.specs.SortKey.{key_of}
-use Rattle.jsonb_value.specs.Text.{text_of}
-use Rattle.jsonb_value.specs.Tree.{Tree}
+use Rattle.jsonb_spec.specs.SortKey.{key_of}
+use Rattle.jsonb_spec.specs.Text.{text_of}
+use Rattle.jsonb_spec.specs.Tree.{Tree}
 use Rattle.jsonb_c.specs.KeyParts.{IsTreeKey}
 use Rattle.stored_text.specs.FewestDigits.{with_fewest_digits}
 

@@ -11,11 +11,11 @@ ghost use Rattle.jsonb_stored.specs.Checked.{IsSortKey};
 ghost use Rattle.jsonb_stored.specs.Found.{count_of, item_from, Finds, IsRange};
 ghost use Rattle.jsonb_stored.specs.Open.{Open};
 ghost use Rattle.jsonb_stored.specs.Parts.{kind_of_tree};
-ghost use Rattle.jsonb_value.specs.Accessors.{get_by_name};
-ghost use Rattle.jsonb_value.specs.SortKey.{key_of, text_key};
-ghost use Rattle.jsonb_value.specs.SortKey.Kind as kind;
-ghost use Rattle.jsonb_value.specs.Tree.{Tree};
-ghost use Rattle.jsonb_write.specs.PartAt.{part_at};
+ghost use Rattle.jsonb_spec.specs.Accessors.{get_by_name};
+ghost use Rattle.jsonb_spec.specs.SortKey.{key_of, text_key};
+ghost use Rattle.jsonb_spec.specs.SortKey.Kind as kind;
+ghost use Rattle.jsonb_spec.specs.Tree.{Tree};
+ghost use Rattle.jsonb_spec.specs.PartAt.{part_at};
 
 use crate::{ACCEPTED, NO_KEY, NO_PART, NO_PATH, OUT_OF_MEMORY, TOO_SHORT, put};
 use jsonb_pointer::read_keys;

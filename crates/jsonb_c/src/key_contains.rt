@@ -2,8 +2,8 @@
 ghost use Rattle.std.specs.Prelude.{◌≡◌, ◌⊎◌};
 ghost use Rattle.jsonb_c.specs.KeyContains.{IsContained};
 ghost use Rattle.jsonb_c.specs.KeyParts.{IsTreeKey};
-ghost use Rattle.jsonb_stored.specs.Containment.{contains};
-ghost use Rattle.jsonb_value.specs.Tree.{Tree};
+ghost use Rattle.jsonb_spec.specs.Containment.{contains};
+ghost use Rattle.jsonb_spec.specs.Tree.{Tree};
 
 use crate::{ACCEPTED, NO_KEY, NO_PART};
 use jsonb_stored::{NoKey, contains};

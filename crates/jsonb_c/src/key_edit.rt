@@ -8,7 +8,7 @@ ghost use Rattle.jsonb_c.specs.Interface.{IsNoPath};
 ghost use Rattle.jsonb_c.specs.KeyEdit.{edit_status_of, IsEdited};
 ghost use Rattle.jsonb_c.specs.KeyParts.{IsTreeKey};
 ghost use Rattle.jsonb_pointer.specs.Path.{IsPath};
-ghost use Rattle.jsonb_value.specs.Tree.{Tree};
+ghost use Rattle.jsonb_spec.specs.Tree.{Tree};
 ghost use Rattle.stored_edit.specs.Edit.{merged, with_item, with_member, with_part, without_part, AppendsKey, Edits};
 
 use crate::{ACCEPTED, NO_KEY, NO_PART, NO_PATH, OUT_OF_MEMORY, TOO_DEEP, TOO_SHORT, put};

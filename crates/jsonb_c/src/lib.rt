@@ -7,16 +7,17 @@
 #![tactic(auto)]
 
 ghost use Rattle.std.specs.Prelude.{◌≡◌, ◌≢◌, ◌↔◌, ◌⊎◌, ℕ, List, [], ◌<◌, ◌≤◌, ◌++◌, min, length, drop, map, pos, string_bytes, MatchOption, IfOk, IfErr, IfNone, IfSome, OnOk, Err};
-ghost use Rattle.jsonb_value.specs.Code.{Code, code_of};
+ghost use Rattle.jsonb_spec.specs.Code.{Code};
+ghost use Rattle.jsonb_value.specs.Error.CodeView.{code_of};
 ghost use Rattle.jsonb_value.specs.Error.ErrorText.{error_text};
-ghost use Rattle.jsonb_value.specs.Grammar.{IsDocument, IsNoDocument};
-ghost use Rattle.jsonb_value.specs.Order.{bytes_cmp};
-ghost use Rattle.jsonb_value.specs.Tree.{Tree};
+ghost use Rattle.jsonb_spec.specs.Grammar.{IsDocument, IsNoDocument};
+ghost use Rattle.jsonb_spec.specs.Order.{bytes_cmp};
+ghost use Rattle.jsonb_spec.specs.Tree.{Tree};
 ghost use Rattle.jsonb_value.specs.View.{view};
-ghost use Rattle.jsonb.specs.Line.{column_at, fault_index, line_at};
-ghost use Rattle.jsonb.specs.Parser.{mode_of, Gives, MayAllocate, IsTextRefusal};
-ghost use Rattle.jsonb.specs.Reading.Document.{document_of};
-ghost use Rattle.jsonb.specs.Refusals.{IsExplained};
+ghost use Rattle.jsonb_spec.specs.Line.{column_at, fault_index, line_at};
+ghost use Rattle.jsonb_scan.specs.Answer.{mode_of, Gives, MayAllocate, IsTextRefusal};
+ghost use Rattle.jsonb_scan.specs.Reading.Document.{document_of};
+ghost use Rattle.jsonb.specs.Explained.{IsExplained};
 ghost use Rattle.jsonb_pointer.specs.Path.{IsPath, StartsKey};
 ghost use Rattle.jsonb_c.specs.Interface.{NumberChooses, code_number, nothing, sign, status_of, told, HasNoPartAt, HasPartAt, IsAccepted, IsNoDocumentOf, IsNoPath, IsOneRefused, IsOrdered, IsDocumentOf, IsKeyOf, IsMessageOf, IsPartAnswer, IsReason, IsRefused, IsTextOf, NeedsRoom, NeedsRoomForBoth, SaysError, IsPartOf, Writes};
 

@@ -1,13 +1,13 @@
 -- What is written for an input is written again for what was written.
 use Rattle.std.proofs.Common.{◌≡◌, ◌↔◌, ℕ, List, [], ◌∷◌, ◌++◌, Some, sym, subst, ap, ◌∙◌}
 use Rattle.std.proofs.lemmas.List.{append_cancel_left, append_cancel_right}
-use Rattle.jsonb_value.specs.Mode.{Mode}
-use Rattle.jsonb_value.specs.Text.ReadsBack.{ReadsBackAs}
-use Rattle.jsonb_value.specs.Text.{text_of}
-use Rattle.jsonb_value.specs.Tree.{Tree}
+use Rattle.jsonb_spec.specs.Mode.{Mode}
+use Rattle.jsonb_spec.specs.Text.ReadsBack.{ReadsBackAs}
+use Rattle.jsonb_spec.specs.Text.{text_of}
+use Rattle.jsonb_spec.specs.Tree.{Tree}
 use Rattle.jsonb_value.proofs.Trees.RangeTexts.{document_text_reads_back}
 use Rattle.jsonb.proofs.Documents.Spellings.{document_unique}
-use Rattle.jsonb_cat.specs.Program.{IsLineOf}
+use Rattle.jsonb_spec.specs.Program.{IsLineOf}
 
 same_text : (t u : Tree) (xs ys : List ℕ) → t ≡ u → text_of t ≡ Some xs → text_of u ≡ Some ys → xs ≡ ys
 same_text t u xs ys e p q = let both : Some xs ≡ Some ys = sym p ∙ ap text_of e ∙ q in cc

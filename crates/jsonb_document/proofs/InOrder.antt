@@ -6,20 +6,20 @@ use Rattle.std.specs.Ordering.{nat_cmp}
 use Rattle.std.specs.Cmp.Lexicographic.{slice_cmp, nat_list_cmp_total}
 use Rattle.std.specs.declared.alloc.Global.{Global}
 use Rattle.std.specs.declared.borrow.CowStr.{CowStr}
-use Rattle.jsonb_value.specs.Keys.{IsBelowKeys, KeysAscend}
-use Rattle.jsonb_value.specs.Mode.{Mode}
-use Rattle.jsonb_value.specs.Order.ByContent.{pairs_of}
-use Rattle.jsonb_value.specs.Tree.{Tree, null, boolean, string, number, array, object, binary, date, timestamp, timestamp_tz, interval, Trees, no_trees, more_trees, trees_of, Members, no_members, more_members, put, put_all}
+use Rattle.jsonb_spec.specs.Keys.{IsBelowKeys, KeysAscend}
+use Rattle.jsonb_spec.specs.Mode.{Mode}
+use Rattle.jsonb_spec.specs.Order.ByContent.{pairs_of}
+use Rattle.jsonb_spec.specs.Tree.{Tree, null, boolean, string, number, array, object, binary, date, timestamp, timestamp_tz, interval, Trees, no_trees, more_trees, trees_of, Members, no_members, more_members, put, put_all}
 use Rattle.jsonb_value.proofs.Trees.MembersInOrder.{put_all-ascending}
-use Rattle.jsonb_scan.specs.Source.{Source, null_source, boolean_source, string_source, number_source, array_source, object_source, Sources, no_sources, more_sources, SourceMembers, no_source_members, more_source_members, Found, source_alone, source_members_of, sources_of, tree_of_source, trees_of_sources, put_source_members}
+use Rattle.jsonb_spec.specs.Source.{Source, null_source, boolean_source, string_source, number_source, array_source, object_source, Sources, no_sources, more_sources, SourceMembers, no_source_members, more_source_members, Found, source_alone, source_members_of, sources_of, tree_of_source, trees_of_sources, put_source_members}
 use Rattle.jsonb.specs.AstView.{Written, ast_view}
-use Rattle.jsonb.specs.Placed.{AreElementsAt, AreMembersAt, IsElementAt, IsMemberAt, IsPlaced, IsValueAt, SourceKeysAscend}
-use Rattle.jsonb.specs.Placed.AreElementsAt.{more_elements, one_element}
-use Rattle.jsonb.specs.Placed.AreMembersAt.{more_members as more_found, one_member}
-use Rattle.jsonb.specs.Placed.IsElementAt.{empty_element, whole_element}
-use Rattle.jsonb.specs.Placed.IsMemberAt.{key_and_value}
-use Rattle.jsonb.specs.Placed.IsPlaced.{blanks_alone, value_alone}
-use Rattle.jsonb.specs.Placed.IsValueAt.{empty_array, empty_object, full_array, full_object, scalar}
+use Rattle.jsonb_spec.specs.Placed.{AreElementsAt, AreMembersAt, IsElementAt, IsMemberAt, IsPlaced, IsValueAt, SourceKeysAscend}
+use Rattle.jsonb_spec.specs.Placed.AreElementsAt.{more_elements, one_element}
+use Rattle.jsonb_spec.specs.Placed.AreMembersAt.{more_members as more_found, one_member}
+use Rattle.jsonb_spec.specs.Placed.IsElementAt.{empty_element, whole_element}
+use Rattle.jsonb_spec.specs.Placed.IsMemberAt.{key_and_value}
+use Rattle.jsonb_spec.specs.Placed.IsPlaced.{blanks_alone, value_alone}
+use Rattle.jsonb_spec.specs.Placed.IsValueAt.{empty_array, empty_object, full_array, full_object, scalar}
 use Rattle.jsonb.specs.Source.{found_from, source_step, source_view}
 use Rattle.jsonb.specs.declared.parser.ast.JsonAst.{JsonAst, fold-roll-JsonAst, map-JsonAst, ind-JsonAst}
 use Rattle.jsonb.specs.declared.parser.ast.JsonAst.TheOpen.{JsonAst-F}

@@ -2,8 +2,8 @@
 use Rattle.std.proofs.Common.{◌≡◌, ◌&&◌, ℕ, true, List, [], ◌∷◌, map, refl, ap, ap₂, subst, ◌∙◌}
 use Rattle.std.specs.declared.alloc.Global.{Global}
 use Rattle.std.specs.declared.borrow.CowStr.{CowStr}
-use Rattle.jsonb_value.specs.Text.{has_text, items_have_texts, members_have_texts}
-use Rattle.jsonb_value.specs.Tree.{Tree, trees_of}
+use Rattle.jsonb_spec.specs.Text.{has_text, items_have_texts, members_have_texts}
+use Rattle.jsonb_spec.specs.Tree.{Tree, trees_of}
 use Rattle.jsonb.specs.AstView.{Written}
 use Rattle.jsonb.specs.declared.parser.ast.JsonAst.{JsonAst, fold-roll-JsonAst, map-JsonAst, ind-JsonAst}
 use Rattle.jsonb.specs.declared.parser.ast.JsonAst.TheOpen.{JsonAst-F}

@@ -3,10 +3,10 @@ use Rattle.std.proofs.Common.{◌≡◌, List, [], ◌∷◌, ◌++◌, ℕ, ◌
 use Rattle.std.proofs.lemmas.List.{drop_all}
 use Rattle.std.specs.Cow.{cow_str_bytes}
 use Rattle.std.specs.declared.cmp.Ordering.TheVariants.{Less}
-use Rattle.jsonb_value.specs.Order.{members_cmp, trees_cmp}
-use Rattle.jsonb_value.specs.SortKey.{text_key, key_of, items_key, members_key}
-use Rattle.jsonb_value.specs.Text.StringText.{quoted_text}
-use Rattle.jsonb_value.specs.Text.{item_texts, member_texts, tree_text}
+use Rattle.jsonb_spec.specs.Order.{members_cmp, trees_cmp}
+use Rattle.jsonb_spec.specs.SortKey.{text_key, key_of, items_key, members_key}
+use Rattle.jsonb_spec.specs.Text.StringText.{quoted_text}
+use Rattle.jsonb_spec.specs.Text.{item_texts, member_texts, tree_text}
 use Rattle.jsonb.specs.AstView.{Written}
 use Rattle.jsonb.specs.declared.parser.ast.JsonAst.{JsonAst}
 use Rattle.jsonb_document.specs.Listed.{listed_items, listed_members, listed_view}

@@ -2,10 +2,10 @@
 use Rattle.std.proofs.Common.{◌≡◌, ap, ap₂}
 use Rattle.std.proofs.Math.Logic.{∥∥₁_elim}
 use Rattle.std.proofs.Props.{props}
-use Rattle.jsonb_value.specs.Order.{tree_cmp}
-use Rattle.jsonb_value.specs.SortKey.{key_of}
-use Rattle.jsonb_value.specs.Text.{has_text, tree_text}
-use Rattle.jsonb_value.specs.Tree.{Tree}
+use Rattle.jsonb_spec.specs.Order.{tree_cmp}
+use Rattle.jsonb_spec.specs.SortKey.{key_of}
+use Rattle.jsonb_spec.specs.Text.{has_text, tree_text}
+use Rattle.jsonb_spec.specs.Tree.{Tree}
 
 pub same_text : (t u : Tree) → ∥ t ≡ u ∥₁ → tree_text t ≡ tree_text u
 same_text t u same = ∥∥₁_elim same (Prim.hlevel props) (ap tree_text)

@@ -1,10 +1,9 @@
 -- The tree of a `JsonAst` with the members of each object as they are listed.
--- Read for: private.
 use Rattle.std.specs.Prelude.{ℕ, List, [], ◌∷◌, map}
 use Rattle.std.specs.Cow.{cow_str_bytes}
 use Rattle.std.specs.declared.alloc.Global.{Global}
 use Rattle.std.specs.declared.borrow.CowStr.{CowStr}
-use Rattle.jsonb_value.specs.Tree.{Tree, null, boolean, string, number, array, object, Trees, trees_of, Members, no_members, more_members}
+use Rattle.jsonb_spec.specs.Tree.{Tree, null, boolean, string, number, array, object, Trees, trees_of, Members, no_members, more_members}
 use Rattle.jsonb_value.specs.View.{number_view, mark_view}
 use Rattle.jsonb.specs.AstView.{Written}
 use Rattle.jsonb.specs.declared.parser.ast.JsonAst.{JsonAst, fold-JsonAst}

@@ -1,6 +1,5 @@
 -- The tree of a `Document`.
--- Read for: promises.
-use Rattle.jsonb_value.specs.Tree.{Tree}
+use Rattle.jsonb_spec.specs.Tree.{Tree}
 use Rattle.jsonb.specs.AstView.{ast_view}
 use Rattle.jsonb_document.specs.declared.document.Document.{Document}
 

@@ -32,18 +32,18 @@ impl Drop for Document<'_> {
 impl<'a> Document<'a> {
     ghost use Rattle.std.specs.Prelude.{◌≡◌, ◌≢◌, ◌+◌, ◌<◌, ◌≤◌, length, IfOk, IfErr, OnOk, OnErr, Err, vec_len};
     ghost use Rattle.std.specs.Vec.{vec_capacity};
-    ghost use Rattle.jsonb_value.specs.Grammar.{IsDocument, IsNoDocument};
-    ghost use Rattle.jsonb_value.specs.Proper.{IsProper};
-    ghost use Rattle.jsonb_value.specs.SortKey.{key_of, IsBounded};
-    ghost use Rattle.jsonb_value.specs.Text.{AppendsText, tree_text};
-    ghost use Rattle.jsonb_value.specs.Text.Appending.{AppendsAllOrNothing};
-    ghost use Rattle.jsonb_value.specs.Text.Range.{IsInRangeOf};
-    ghost use Rattle.jsonb_value.specs.Tree.{Tree};
+    ghost use Rattle.jsonb_spec.specs.Grammar.{IsDocument, IsNoDocument};
+    ghost use Rattle.jsonb_spec.specs.Proper.{IsProper};
+    ghost use Rattle.jsonb_spec.specs.SortKey.{key_of, IsBounded};
+    ghost use Rattle.jsonb_spec.specs.Text.{AppendsText, tree_text};
+    ghost use Rattle.jsonb_spec.specs.Text.Appending.{AppendsAllOrNothing};
+    ghost use Rattle.jsonb_spec.specs.Text.Range.{IsInRangeOf};
+    ghost use Rattle.jsonb_spec.specs.Tree.{Tree};
     ghost use Rattle.jsonb_value.specs.View.{view};
     ghost use Rattle.jsonb_scan.specs.Answer.{mode_of, Gives, IsTextRefusal, MayAllocate};
     ghost use Rattle.jsonb_scan.specs.Reading.Document.{document_of};
     ghost use Rattle.jsonb.specs.AstView.{IsContainer};
-    ghost use Rattle.jsonb.specs.Refusals.{IsExplained};
+    ghost use Rattle.jsonb.specs.Explained.{IsExplained};
     ghost use Rattle.jsonb_document.specs.Listed.{listed_view};
     ghost use Rattle.jsonb_document.specs.View.{document_view};
 

@@ -2,7 +2,7 @@
 ghost use Rattle.std.specs.Prelude.{◌≡◌, refl};
 ghost use Rattle.std.specs.Cmp.{on_equiv, on_per, on_po, on_total, partial_equiv_from_equiv, eq_by_cmp_equiv, po};
 ghost use Rattle.std.specs.Ordering.{on, eq_by_cmp, as_partial_cmp};
-ghost use Rattle.jsonb_value.specs.Order.{rank, tree_cmp, trees_cmp, members_cmp};
+ghost use Rattle.jsonb_spec.specs.Order.{rank, tree_cmp, trees_cmp, members_cmp};
 ghost use Rattle.jsonb_value.specs.Order.Laws.{tree_cmp_total};
 ghost use Rattle.jsonb_document.specs.Listed.{listed_view, listed_items, listed_members};
 

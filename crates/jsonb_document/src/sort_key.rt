@@ -1,9 +1,9 @@
 //! The sort key of a parsed text, in the order of its members.
 ghost use Rattle.std.specs.Prelude.{◌∷◌};
 ghost use Rattle.std.specs.Cow.{cow_str_bytes};
-ghost use Rattle.jsonb_value.specs.SortKey.{text_key, key_of, items_key, members_key};
-ghost use Rattle.jsonb_value.specs.SortKey.Kind as kind;
-ghost use Rattle.jsonb_value.specs.Text.Appending.{Appends};
+ghost use Rattle.jsonb_spec.specs.SortKey.{text_key, key_of, items_key, members_key};
+ghost use Rattle.jsonb_spec.specs.SortKey.Kind as kind;
+ghost use Rattle.jsonb_spec.specs.Text.Appending.{Appends};
 ghost use Rattle.jsonb_document.specs.Listed.{listed_view, listed_items, listed_members};
 
 use jsonb::JsonAst;

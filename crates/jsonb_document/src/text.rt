@@ -1,10 +1,10 @@
 //! The serialized form of a parsed text, in the order of its members.
 ghost use Rattle.std.specs.Prelude.{◌++◌, ◌∷◌, []};
 ghost use Rattle.std.specs.Cow.{cow_str_bytes};
-ghost use Rattle.jsonb_value.specs.Ascii as ascii;
-ghost use Rattle.jsonb_value.specs.Text.Appending.{Appends, AppendsAllOrNothing, comma_before};
-ghost use Rattle.jsonb_value.specs.Text.StringText.{quoted_text};
-ghost use Rattle.jsonb_value.specs.Text.{tree_text, with_commas, item_texts, member_texts};
+ghost use Rattle.jsonb_spec.specs.Ascii as ascii;
+ghost use Rattle.jsonb_spec.specs.Text.Appending.{Appends, AppendsAllOrNothing, comma_before};
+ghost use Rattle.jsonb_spec.specs.Text.StringText.{quoted_text};
+ghost use Rattle.jsonb_spec.specs.Text.{tree_text, with_commas, item_texts, member_texts};
 ghost use Rattle.jsonb_document.specs.Listed.{listed_view, listed_items, listed_members};
 
 use jsonb::JsonAst;

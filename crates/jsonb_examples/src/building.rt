@@ -1,8 +1,8 @@
 //! Making a value.
 
 ghost use Rattle.std.specs.Prelude.{◌≡◌, pos, [], ◌∷◌, IfOk};
-ghost use Rattle.jsonb.specs.Tree.{array, number, uint64, trees_of};
-ghost use Rattle.jsonb.specs.View.{view};
+ghost use Rattle.jsonb_spec.specs.Tree.{array, number, uint64, trees_of};
+ghost use Rattle.jsonb_value.specs.View.{view};
 
 use jsonb::{Decimal64, Number, Object, Result, Value};
 use std::alloc::Global;

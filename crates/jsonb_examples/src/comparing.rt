@@ -2,12 +2,12 @@
 
 ghost use Rattle.std.specs.Prelude.{◌≡◌, ◌↔◌, ◌++◌, IfOk, IsTrue};
 ghost use Rattle.std.specs.Ordering.{ordering_then};
-ghost use Rattle.jsonb.specs.Grammar.{IsDocument};
-ghost use Rattle.jsonb.specs.Mode.{extended};
-ghost use Rattle.jsonb.specs.Order.{bytes_cmp, tree_cmp, Same};
-ghost use Rattle.jsonb.specs.SortKey.{key_of, IsBounded};
-ghost use Rattle.jsonb.specs.Tree.{Tree};
-ghost use Rattle.jsonb.specs.View.{view};
+ghost use Rattle.jsonb_spec.specs.Grammar.{IsDocument};
+ghost use Rattle.jsonb_spec.specs.Mode.{extended};
+ghost use Rattle.jsonb_spec.specs.Order.{bytes_cmp, tree_cmp, Same};
+ghost use Rattle.jsonb_spec.specs.SortKey.{key_of, IsBounded};
+ghost use Rattle.jsonb_spec.specs.Tree.{Tree};
+ghost use Rattle.jsonb_value.specs.View.{view};
 
 use jsonb::value::sort_keys_order;
 use jsonb::{Result, Value};

@@ -1,11 +1,11 @@
 //! Keeping values, beside the texts that they were read from or without them.
 
 ghost use Rattle.std.specs.Prelude.{◌≡◌, IfOk};
-ghost use Rattle.jsonb.specs.Grammar.{IsDocument};
-ghost use Rattle.jsonb.specs.Mode.{extended};
-ghost use Rattle.jsonb.specs.Owned.{owned};
-ghost use Rattle.jsonb.specs.Tree.{Tree};
-ghost use Rattle.jsonb.specs.View.{view};
+ghost use Rattle.jsonb_spec.specs.Grammar.{IsDocument};
+ghost use Rattle.jsonb_spec.specs.Mode.{extended};
+ghost use Rattle.jsonb_spec.specs.Owned.{owned};
+ghost use Rattle.jsonb_spec.specs.Tree.{Tree};
+ghost use Rattle.jsonb_value.specs.View.{view};
 
 use jsonb::{Result, Value};
 use std::alloc::Global;

@@ -1,11 +1,11 @@
 //! Parsing a text, and reporting why it is rejected.
 
 ghost use Rattle.std.specs.Prelude.{◌≡◌, ◌≢◌, false, true, IfOk, IfErr};
-ghost use Rattle.jsonb.specs.Grammar.{IsDocument, IsNoDocument};
-ghost use Rattle.jsonb.specs.Mode.{standard};
-ghost use Rattle.jsonb.specs.Parser.{mode_of};
-ghost use Rattle.jsonb.specs.Tree.{Tree};
-ghost use Rattle.jsonb.specs.View.{view};
+ghost use Rattle.jsonb_spec.specs.Grammar.{IsDocument, IsNoDocument};
+ghost use Rattle.jsonb_spec.specs.Mode.{standard};
+ghost use Rattle.jsonb_scan.specs.Answer.{mode_of};
+ghost use Rattle.jsonb_spec.specs.Tree.{Tree};
+ghost use Rattle.jsonb_value.specs.View.{view};
 
 use jsonb::{Error, Mode, ParseErrorCode, Result, Value};
 use std::alloc::Global;

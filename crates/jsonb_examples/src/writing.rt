@@ -1,11 +1,11 @@
 //! Writing a value's text.
 
 ghost use Rattle.std.specs.Prelude.{◌≡◌, Some, IfOk, OnErr};
-ghost use Rattle.jsonb.specs.Grammar.{IsDocument};
-ghost use Rattle.jsonb.specs.Mode.{extended};
-ghost use Rattle.jsonb.specs.Text.{text_of};
-ghost use Rattle.jsonb.specs.Tree.{Tree};
-ghost use Rattle.jsonb_pretty.specs.Indented.{indented};
+ghost use Rattle.jsonb_spec.specs.Grammar.{IsDocument};
+ghost use Rattle.jsonb_spec.specs.Mode.{extended};
+ghost use Rattle.jsonb_spec.specs.Text.{text_of};
+ghost use Rattle.jsonb_spec.specs.Tree.{Tree};
+ghost use Rattle.jsonb_spec.specs.Indented.{indented};
 
 use jsonb::{Error, Mode, Result, Value};
 use jsonb_document::Document;

@@ -8,15 +8,15 @@ use Rattle.std.proofs.lemmas.Int.{ints}
 use Rattle.std.specs.Int.{w128}
 use Rattle.std.specs.Prelude.{FitsSigned}
 use Rattle.jsonb_value.proofs.Numbers.Nearest.{unsigned_abs-signed}
-use Rattle.jsonb_value.specs.Number.Signed.{signed_by}
-use Rattle.jsonb_value.specs.SortKey.{number_key, place_key, digits_key, digit_count, magnitude_key, turned}
-use Rattle.jsonb_value.specs.Tree.{Num}
+use Rattle.jsonb_spec.specs.Number.Signed.{signed_by}
+use Rattle.jsonb_spec.specs.SortKey.{number_key, place_key, digits_key, digit_count, magnitude_key, turned}
+use Rattle.jsonb_spec.specs.Tree.{Num}
 use Rattle.jsonb_value.proofs.SortKeys.Counts.{digit_count-is, power_le}
 use Rattle.jsonb_value.proofs.SortKeys.Digits.{ten, hundred, more_pairs, last_pair, digits_compare, mul-pos}
 use Rattle.jsonb_value.proofs.SortKeys.Numbers.{positive, negative, magnitude_split}
 use Rattle.jsonb_value.proofs.SortKeys.Pairs.{two_digits, single_digit}
 use Rattle.jsonb_value.proofs.SortKeys.Comparing.{is_equal}
-use Rattle.jsonb_value.specs.Order.{bytes_cmp}
+use Rattle.jsonb_spec.specs.Order.{bytes_cmp}
 use Rattle.std.specs.Ordering.{nat_cmp, ordering_then}
 use Rattle.std.specs.declared.cmp.Ordering.TheVariants.{Equal}
 use Rattle.std.proofs.lemmas.Map.Lookups.{exact_bytes}

@@ -1,8 +1,8 @@
 -- The kind of a value by the first byte of its key.
 use Rattle.std.proofs.Common.{◌≡◌, ◌≢◌, ℕ, ◌<◌, true, false, List, [], ◌∷◌, ◌++◌, length, IsUtf8, refl, sym, ap, ◌∙◌, arith}
-use Rattle.jsonb_value.specs.Proper.{IsProperNumber}
-use Rattle.jsonb_value.specs.SortKey.{number_key, text_key, key_of, items_key, members_key}
-use Rattle.jsonb_value.specs.Tree.{Num, Tree, null, boolean, string, number, array, object, Trees, Members}
+use Rattle.jsonb_spec.specs.Proper.{IsProperNumber}
+use Rattle.jsonb_spec.specs.SortKey.{number_key, text_key, key_of, items_key, members_key}
+use Rattle.jsonb_spec.specs.Tree.{Num, Tree, null, boolean, string, number, array, object, Trees, Members}
 use Rattle.jsonb_value.proofs.SortKeys.Kinds.{begins, is_small, number_begins}
 use Rattle.jsonb_value.proofs.Trees.Runs.{heads, tails}
 use Rattle.jsonb_key.specs.Readable.{IsReadableAt}

@@ -1,10 +1,10 @@
 -- Items decoded from the key of an array, one after the other.
 use Rattle.std.proofs.Common.{◌≡◌, ◌≢◌, ℕ, zero, suc, ◌+◌, List, [], ◌∷◌, ◌++◌, refl, sym, ap, subst, ◌∙◌, arith, append_assoc, append-nil, length}
 use Rattle.std.specs.List.{flat_map}
-use Rattle.jsonb_value.specs.Proper.{IsProper, AreProper, HaveProperParts}
-use Rattle.jsonb_value.specs.SortKey.{key_of, items_key, IsBounded, AreBounded, HaveBounds}
-use Rattle.jsonb_value.specs.Text.Range.{IsOneDeeper, IsWithin, AreWithin, HaveWithin}
-use Rattle.jsonb_value.specs.Tree.{Tree, null, boolean, string, number, array, object, Trees, no_trees, more_trees, Members, no_members, more_members}
+use Rattle.jsonb_spec.specs.Proper.{IsProper, AreProper, HaveProperParts}
+use Rattle.jsonb_spec.specs.SortKey.{key_of, items_key, IsBounded, AreBounded, HaveBounds}
+use Rattle.jsonb_spec.specs.Text.Range.{IsOneDeeper, IsWithin, AreWithin, HaveWithin}
+use Rattle.jsonb_spec.specs.Tree.{Tree, null, boolean, string, number, array, object, Trees, no_trees, more_trees, Members, no_members, more_members}
 use Rattle.jsonb_value.specs.View.{view, trees_view}
 use Rattle.jsonb_value.specs.declared.value.Value.{Value}
 use Rattle.jsonb_value.proofs.SortKeys.Kinds.{begins}

@@ -2,11 +2,11 @@
 use Rattle.std.proofs.Common.{◌≡◌, ℕ, zero, suc, List, [], ◌∷◌, ◌++◌, map, Less, string_bytes, nat_cmp, refl, sym, ap, subst, ◌∙◌, arith, append_assoc, append-nil, IsUtf8}
 use Rattle.std.specs.Cmp.Lexicographic.{slice_cmp}
 use Rattle.std.specs.List.{flat_map}
-use Rattle.jsonb_value.specs.Keys.{IsBelowKeys, KeysAscend}
-use Rattle.jsonb_value.specs.Proper.{HaveProperParts}
-use Rattle.jsonb_value.specs.SortKey.{key_of, members_key, text_key}
-use Rattle.jsonb_value.specs.Text.Range.{HaveWithin}
-use Rattle.jsonb_value.specs.Tree.{Tree, Members, no_members, more_members}
+use Rattle.jsonb_spec.specs.Keys.{IsBelowKeys, KeysAscend}
+use Rattle.jsonb_spec.specs.Proper.{HaveProperParts}
+use Rattle.jsonb_spec.specs.SortKey.{key_of, members_key, text_key}
+use Rattle.jsonb_spec.specs.Text.Range.{HaveWithin}
+use Rattle.jsonb_spec.specs.Tree.{Tree, Members, no_members, more_members}
 use Rattle.jsonb_value.specs.View.{view, members_view}
 use Rattle.jsonb_value.proofs.SortKeys.Texts.{text_key-other}
 use Rattle.jsonb_value.proofs.Trees.Runs.{heads, tails}

@@ -4,7 +4,7 @@ use Rattle.std.proofs.Math.Nat.{mul-lt-mul_of_pos_right, mul-le-mul_left, mul-le
 use Rattle.std.proofs.lemmas.Bool.{cond-true, cond-false, ne_eqb, lt-ltb, le-ltb, cases_lt, cases_eq}
 use Rattle.std.proofs.lemmas.Nat.{div-add-mod', mod_below, div_below, pow-add}
 use Rattle.std.specs.Bool.{nat_lt}
-use Rattle.jsonb_value.specs.SortKey.{turned, place_key, digits_key}
+use Rattle.jsonb_spec.specs.SortKey.{turned, place_key, digits_key}
 use Rattle.jsonb_value.proofs.SortKeys.Digits.{ten, hundred, mul-pos, last_pair, more_pairs}
 use Rattle.jsonb_value.proofs.Trees.Runs.{heads, tails}
 use Rattle.jsonb_key.specs.Reading.{place_of, read_as, IsDigits, IsLastPair, IsNoLastPair}

@@ -3,10 +3,10 @@ use Rattle.std.proofs.Common.{◌≡◌, ◌≢◌, ℕ, zero, suc, ◌+◌, ◌
 use Rattle.std.proofs.lemmas.Bool.{lt-ltb, le-ltb}
 use Rattle.std.specs.Bool.{nat_lt}
 use Rattle.std.specs.Int.{is_negative}
-use Rattle.jsonb_value.specs.Order.{num_cmp}
-use Rattle.jsonb_value.specs.Proper.{IsProperNumber}
-use Rattle.jsonb_value.specs.SortKey.{number_key, magnitude_key, place_key, digits_key, digit_count, turned}
-use Rattle.jsonb_value.specs.Tree.{Num, number}
+use Rattle.jsonb_spec.specs.Order.{num_cmp}
+use Rattle.jsonb_spec.specs.Proper.{IsProperNumber}
+use Rattle.jsonb_spec.specs.SortKey.{number_key, magnitude_key, place_key, digits_key, digit_count, turned}
+use Rattle.jsonb_spec.specs.Tree.{Num, number}
 use Rattle.jsonb_value.proofs.Numbers.Pointed.{is_negative-pos}
 use Rattle.jsonb_value.proofs.SortKeys.Counts.{digits_counted, digit_count-le}
 use Rattle.jsonb_value.proofs.SortKeys.Kinds.{is_small, number_begins}

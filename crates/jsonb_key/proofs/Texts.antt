@@ -1,7 +1,7 @@
 -- Texts decoded from keys, byte by byte.
 use Rattle.std.proofs.Common.{◌≡◌, ℕ, zero, suc, List, [], ◌∷◌, ◌++◌, Option, Some, None, refl, sym, ap, ◌∙◌, arith, ◌==◌, append_assoc, append-nil}
 use Rattle.std.proofs.lemmas.Bool.{ne_eqb, cond-false}
-use Rattle.jsonb_value.specs.SortKey.{text_key}
+use Rattle.jsonb_spec.specs.SortKey.{text_key}
 use Rattle.jsonb_value.proofs.SortKeys.Texts.{text_key-other}
 use Rattle.jsonb_key.specs.Reading.{byte_of, read_as}
 

@@ -9,10 +9,10 @@ use Rattle.std.specs.Cmp.{int_cmp_is}
 use borrow.Author.Differences.{product_is}
 use Rattle.jsonb_value.proofs.Numbers.Pointed.{is_negative-pos}
 use Rattle.std.specs.Ordering.{int_cmp}
-use Rattle.jsonb_value.specs.Number.Signed.{signed_by}
-use Rattle.jsonb_value.specs.Order.{decimal_cmp, num_cmp}
-use Rattle.jsonb_value.specs.Proper.{FitsWhole, IsProperNumber}
-use Rattle.jsonb_value.specs.Tree.{Form, int64, uint64, decimal64, decimal128, Num}
+use Rattle.jsonb_spec.specs.Number.Signed.{signed_by}
+use Rattle.jsonb_spec.specs.Order.{decimal_cmp, num_cmp}
+use Rattle.jsonb_spec.specs.Proper.{FitsWhole, IsProperNumber}
+use Rattle.jsonb_spec.specs.Tree.{Form, int64, uint64, decimal64, decimal128, Num}
 use Rattle.jsonb_value.proofs.SortKeys.Digits.{ten}
 use Rattle.jsonb_value.proofs.SortKeys.Kinds.{is_small}
 use Rattle.jsonb_key.specs.Reading.{HasParts}

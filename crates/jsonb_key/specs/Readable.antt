@@ -1,10 +1,9 @@
 -- Which values are decoded from their keys, and what they are.
--- Read for: promises.
 use Rattle.std.specs.Prelude.{◌≡◌, ◌≢◌, ◌%◌, ◌⊎◌, ℕ, List, codes, unsigned_abs, ⊤}
-use Rattle.jsonb_value.specs.Grammar.{max_depth}
-use Rattle.jsonb_value.specs.Proper.{IsProper}
-use Rattle.jsonb_value.specs.Text.Range.{IsWithin}
-use Rattle.jsonb_value.specs.Tree.{Num, Tree}
+use Rattle.jsonb_spec.specs.Grammar.{max_depth}
+use Rattle.jsonb_spec.specs.Proper.{IsProper}
+use Rattle.jsonb_spec.specs.Text.Range.{IsWithin}
+use Rattle.jsonb_spec.specs.Tree.{Num, Tree}
 use Rattle.jsonb_key.specs.declared.key.KeyError.{KeyError}
 use Rattle.jsonb_key.specs.declared.key.KeyError.TheVariants.{Invalid, OutOfMemory}
 

@@ -1,12 +1,11 @@
 -- Parts of keys, parsed from left to right.
--- Read for: private.
 use Rattle.std.specs.Prelude.{◌≡◌, ◌≢◌, ℕ, ◌+◌, ◌*◌, ◌/◌, ◌%◌, ◌^◌, ◌<◌, ◌≤◌, ◌⊎◌, Bool, List, [], ◌∷◌, Option, Some, None, if◌then◌else◌, ◌==◌, nat_lt, unsigned_abs}
-use Rattle.jsonb_value.specs.Owned.{owned}
-use Rattle.jsonb_value.specs.Proper.{IsProper}
-use Rattle.jsonb_value.specs.SortKey.{turned}
-use Rattle.jsonb_value.specs.SortKey.Kind as kind
-use Rattle.jsonb_value.specs.Text.Range.{IsWithin}
-use Rattle.jsonb_value.specs.Tree.{Num, Tree}
+use Rattle.jsonb_spec.specs.Owned.{owned}
+use Rattle.jsonb_spec.specs.Proper.{IsProper}
+use Rattle.jsonb_spec.specs.SortKey.{turned}
+use Rattle.jsonb_spec.specs.SortKey.Kind as kind
+use Rattle.jsonb_spec.specs.Text.Range.{IsWithin}
+use Rattle.jsonb_spec.specs.Tree.{Num, Tree}
 use Rattle.jsonb_key.specs.Readable.{HasFewestDigits}
 
 -- The tree of a decoded value: of JSON's kinds, with arrays and objects nested no deeper than the number, its numbers

@@ -1,16 +1,16 @@
 //! The value of a sort key.
 
 ghost use Rattle.std.specs.Prelude.{◌≡◌, ◌<◌, ◌++◌, ◌∷◌, List, ℕ, suc, length, IfOk, IfErr, IfSome, MatchResult, option_map, Some};
-ghost use Rattle.jsonb_value.specs.Order.{Same};
-ghost use Rattle.jsonb_value.specs.SortKey.{key_of, items_key, members_key, text_key, IsBounded};
-ghost use Rattle.jsonb_value.specs.Keys.{KeysAscend};
+ghost use Rattle.jsonb_spec.specs.Order.{Same};
+ghost use Rattle.jsonb_spec.specs.SortKey.{key_of, items_key, members_key, text_key, IsBounded};
+ghost use Rattle.jsonb_spec.specs.Keys.{KeysAscend};
 ghost use Rattle.std.specs.List.{All};
 ghost use Rattle.std.specs.Str.{IsUtf8};
-ghost use Rattle.jsonb_value.specs.Grammar.{max_depth};
-ghost use Rattle.jsonb_value.specs.Owned.{owned};
-ghost use Rattle.jsonb_value.specs.SortKey.Kind as kind;
-ghost use Rattle.jsonb_value.specs.Text.Range.{IsWithin};
-ghost use Rattle.jsonb_value.specs.Tree.{Tree, Trees, Members, array, object};
+ghost use Rattle.jsonb_spec.specs.Grammar.{max_depth};
+ghost use Rattle.jsonb_spec.specs.Owned.{owned};
+ghost use Rattle.jsonb_spec.specs.SortKey.Kind as kind;
+ghost use Rattle.jsonb_spec.specs.Text.Range.{IsWithin};
+ghost use Rattle.jsonb_spec.specs.Tree.{Tree, Trees, Members, array, object};
 ghost use Rattle.jsonb_value.specs.View.{view, members_view};
 ghost use Rattle.jsonb_key.specs.Readable.{HasFewestDigits, IsReadable, IsReadableAt};
 ghost use Rattle.jsonb_key.specs.Reading.{IsDecodedAt};

@@ -2,12 +2,12 @@
 
 ghost use Rattle.std.specs.Prelude.{◌≡◌, ◌≢◌, ◌%◌, ◌+◌, ◌*◌, ◌^◌, ◌<◌, ◌≤◌, ◌++◌, ◌∷◌, List, ℕ, ℤ, length, map, ◌/◌, ◌⊎◌, false, IfSome, IsTrue, IsFalse, MatchOption, option_map, Some, unsigned_abs};
 ghost use Rattle.std.specs.Int.{is_negative};
-ghost use Rattle.jsonb_value.specs.Number.Signed.{signed_by};
-ghost use Rattle.jsonb_value.specs.Order.{num_cmp};
+ghost use Rattle.jsonb_spec.specs.Number.Signed.{signed_by};
+ghost use Rattle.jsonb_spec.specs.Order.{num_cmp};
 ghost use Rattle.std.specs.declared.cmp.Ordering.TheVariants.{Equal};
-ghost use Rattle.jsonb_value.specs.Proper.{IsProperNumber};
-ghost use Rattle.jsonb_value.specs.SortKey.{number_key, place_key, digits_key, turned};
-ghost use Rattle.jsonb_value.specs.Tree.{Num};
+ghost use Rattle.jsonb_spec.specs.Proper.{IsProperNumber};
+ghost use Rattle.jsonb_spec.specs.SortKey.{number_key, place_key, digits_key, turned};
+ghost use Rattle.jsonb_spec.specs.Tree.{Num};
 ghost use Rattle.jsonb_value.specs.View.{number_view};
 ghost use Rattle.jsonb_key.specs.Readable.{HasFewestDigits};
 ghost use Rattle.jsonb_key.specs.Reading.{HasParts, IsDigits, IsLastPair, IsNoLastPair, place_of, second_of};

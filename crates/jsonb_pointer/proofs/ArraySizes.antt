@@ -5,11 +5,11 @@ use Rattle.std.specs.List.{AllByRecursion}
 use Rattle.std.specs.Ordering.{nat_cmp, match_ordering}
 use Rattle.std.specs.declared.cmp.Ordering.{Ordering}
 use Rattle.std.specs.declared.cmp.Ordering.TheVariants.{Less, Equal, Greater}
-use Rattle.jsonb_value.specs.Accessors.{trees_len}
-use Rattle.jsonb_value.specs.Grammar.{IsPadded, padded, IsJoined, one_part, more_parts, IsElement, whole_element, empty_element, IsMember, key_and_value, IsValue, scalar, empty_array, full_array, empty_object, full_object, Derives, max_depth, IsDocument, value_alone, blanks_alone}
-use Rattle.jsonb_value.specs.Grammar.Scalar.{IsScalar, literal_value, string_value, number_value, null_word, true_word, false_word}
-use Rattle.jsonb_value.specs.Mode.{Mode}
-use Rattle.jsonb_value.specs.Tree.{Tree, array, object, Trees, no_trees, more_trees, Members, no_members, more_members, Member, trees_of, put, put_all}
+use Rattle.jsonb_spec.specs.Accessors.{trees_len}
+use Rattle.jsonb_spec.specs.Grammar.{IsPadded, padded, IsJoined, one_part, more_parts, IsElement, whole_element, empty_element, IsMember, key_and_value, IsValue, scalar, empty_array, full_array, empty_object, full_object, Derives, max_depth, IsDocument, value_alone, blanks_alone}
+use Rattle.jsonb_spec.specs.Grammar.Scalar.{IsScalar, literal_value, string_value, number_value, null_word, true_word, false_word}
+use Rattle.jsonb_spec.specs.Mode.{Mode}
+use Rattle.jsonb_spec.specs.Tree.{Tree, array, object, Trees, no_trees, more_trees, Members, no_members, more_members, Member, trees_of, put, put_all}
 
 -- each array in the tree has at most so many items
 abbrev mutual

@@ -1,13 +1,13 @@
 -- The text of a document's part, and that a document has none at a path.
 use Rattle.std.proofs.Common.{◌≡◌, ◌⊎◌, inl, inr, ℕ, ◌^◌, ◌<◌, true, false, List, [], ◌++◌, length, Some, None, ap, sym, ◌∙◌, arith}
-use Rattle.jsonb_value.specs.Grammar.{IsDocument}
-use Rattle.jsonb_value.specs.Mode.{Mode}
-use Rattle.jsonb_value.specs.Text.{text_of}
-use Rattle.jsonb_value.specs.Text.ReadsBack.{ReadsBackAs}
-use Rattle.jsonb_value.specs.Tree.{Tree}
+use Rattle.jsonb_spec.specs.Grammar.{IsDocument}
+use Rattle.jsonb_spec.specs.Mode.{Mode}
+use Rattle.jsonb_spec.specs.Text.{text_of}
+use Rattle.jsonb_spec.specs.Text.ReadsBack.{ReadsBackAs}
+use Rattle.jsonb_spec.specs.Tree.{Tree}
 use Rattle.jsonb.specs.Appends.{AppendsPartOf, IsParsed, LacksRoomForPart}
-use Rattle.jsonb.specs.Parser.{MayAllocate}
-use Rattle.jsonb_write.specs.PartAt.{IsAt}
+use Rattle.jsonb_scan.specs.Answer.{MayAllocate}
+use Rattle.jsonb_spec.specs.PartAt.{IsAt}
 use Rattle.jsonb_pointer.proofs.ArraySizes.{document_below}
 use Rattle.jsonb_pointer.proofs.PartsAt.{part_found, part_there}
 use Rattle.jsonb_pointer.proofs.PartsReadBack.{part_reads_back}

@@ -2,9 +2,9 @@
 use Rattle.std.proofs.Common.{◌≡◌, ℕ, zero, suc, ◌^◌, ◌<◌, Bool, true, false, List, [], ◌∷◌, Option, Some, None, refl, ap, subst, ◌∙◌, arith, if◌then◌else◌}
 use Rattle.std.specs.Option.{option_and_then}
 use Rattle.std.specs.Str.{bytes_eq}
-use Rattle.jsonb_value.specs.Accessors.{find_member, item_at}
-use Rattle.jsonb_value.specs.Tree.{Tree, array, object, Trees, no_trees, more_trees, Members, no_members, more_members}
-use Rattle.jsonb_write.specs.PartAt.{IsAt, IsChild, child_at, index_named, part_at}
+use Rattle.jsonb_spec.specs.Accessors.{find_member, item_at}
+use Rattle.jsonb_spec.specs.Tree.{Tree, array, object, Trees, no_trees, more_trees, Members, no_members, more_members}
+use Rattle.jsonb_spec.specs.PartAt.{IsAt, IsChild, child_at, index_named, part_at}
 use Rattle.jsonb_write.proofs.PartIndex.{is_named, names_index}
 use Rattle.jsonb_pointer.proofs.ArraySizes.{AreBelow, ItemsBelow, MembersBelow}
 use Rattle.jsonb.proofs.Children.{item_within}

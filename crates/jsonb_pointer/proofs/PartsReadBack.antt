@@ -1,16 +1,16 @@
 -- Each part of a tree in range is in range and round-trips.
 use Rattle.std.proofs.Common.{◌≡◌, ℕ, zero, suc, Bool, true, false, ◌⊎◌, inl, inr, if◌then◌else◌, Option, List, [], ◌∷◌, Some, None, subst}
 use Rattle.std.specs.Str.{bytes_eq}
-use Rattle.jsonb_value.specs.Accessors.{find_member, item_at}
-use Rattle.jsonb_value.specs.Grammar.{max_depth, IsDocument}
-use Rattle.jsonb_value.specs.Mode.{Mode, standard, extended}
-use Rattle.jsonb_value.specs.Proper.{IsProper, AreProper, HaveProperParts}
-use Rattle.jsonb_value.specs.Text.Range.{IsWithin, AreWithin, HaveWithin, IsInTexts, IsIntegral, IsInRangeOf}
-use Rattle.jsonb_value.specs.Text.ReadsBack.{ReadsBackAs}
-use Rattle.jsonb_value.specs.Text.{text_of}
-use Rattle.jsonb_value.specs.Tree.{Num, Tree, null, boolean, string, number, array, object, Trees, no_trees, more_trees, Members, no_members, more_members}
+use Rattle.jsonb_spec.specs.Accessors.{find_member, item_at}
+use Rattle.jsonb_spec.specs.Grammar.{max_depth, IsDocument}
+use Rattle.jsonb_spec.specs.Mode.{Mode, standard, extended}
+use Rattle.jsonb_spec.specs.Proper.{IsProper, AreProper, HaveProperParts}
+use Rattle.jsonb_spec.specs.Text.Range.{IsWithin, AreWithin, HaveWithin, IsInTexts, IsIntegral, IsInRangeOf}
+use Rattle.jsonb_spec.specs.Text.ReadsBack.{ReadsBackAs}
+use Rattle.jsonb_spec.specs.Text.{text_of}
+use Rattle.jsonb_spec.specs.Tree.{Num, Tree, null, boolean, string, number, array, object, Trees, no_trees, more_trees, Members, no_members, more_members}
 use Rattle.jsonb_value.proofs.Trees.RangeTexts.{document_in_range, range_reads_back}
-use Rattle.jsonb_write.specs.PartAt.{IsChild, IsAt}
+use Rattle.jsonb_spec.specs.PartAt.{IsChild, IsAt}
 
 same_tree : (t u : Tree) → Some t ≡ Some u → t ≡ u
 same_tree t u e = cc

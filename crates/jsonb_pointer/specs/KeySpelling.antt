@@ -1,7 +1,6 @@
 -- A path parsed from left to right.
--- Read for: private.
 use Rattle.std.specs.Prelude.{◌≡◌, ℕ, List, [], ◌∷◌, ◌++◌, Option, Some, None, if◌then◌else◌, ◌==◌}
-use Rattle.jsonb_value.specs.Ascii as ascii
+use Rattle.jsonb_spec.specs.Ascii as ascii
 use Rattle.jsonb_pointer.specs.Path.{spelled_keys}
 
 -- the byte that an escape stands for by what follows its `~`, and what is left

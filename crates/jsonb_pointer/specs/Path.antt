@@ -1,18 +1,17 @@
 -- Keys as a path, and the part of a tree at a path.
--- Read for: promises.
 use Rattle.std.specs.Prelude.{◌≡◌, ◌≢◌, ◌⊎◌, ℕ, List, [], ◌∷◌, ◌++◌, codes, Some, if◌then◌else◌, ◌==◌, IsUtf8}
 use Rattle.std.specs.List.{AllByRecursion}
-use Rattle.jsonb_value.specs.Ascii as ascii
-use Rattle.jsonb.specs.ErrorText.{error_text}
-use Rattle.jsonb.specs.Grammar.{IsDocument, IsNoDocument}
-use Rattle.jsonb.specs.Mode.{extended}
-use Rattle.jsonb.specs.Parser.{Fails, MayAllocate}
-use Rattle.jsonb.specs.Reading.Document.{document_of}
-use Rattle.jsonb.specs.Tree.{Tree}
-use Rattle.jsonb_value.specs.Text.ReadsBack.{ReadsBackAs}
-use Rattle.jsonb_value.specs.Text.{text_of}
+use Rattle.jsonb_spec.specs.Ascii as ascii
+use Rattle.jsonb_value.specs.Error.ErrorText.{error_text}
+use Rattle.jsonb_spec.specs.Grammar.{IsDocument, IsNoDocument}
+use Rattle.jsonb_spec.specs.Mode.{extended}
+use Rattle.jsonb_scan.specs.Answer.{Fails, MayAllocate}
+use Rattle.jsonb_scan.specs.Reading.Document.{document_of}
+use Rattle.jsonb_spec.specs.Tree.{Tree}
+use Rattle.jsonb_spec.specs.Text.ReadsBack.{ReadsBackAs}
+use Rattle.jsonb_spec.specs.Text.{text_of}
 use Rattle.jsonb_value.specs.declared.error.Error.TheVariants.{OutOfMemory}
-use Rattle.jsonb_write.specs.PartAt.{IsAt}
+use Rattle.jsonb_spec.specs.PartAt.{IsAt}
 use Rattle.jsonb_pointer.specs.declared.part.Refusal.{Refusal}
 use Rattle.jsonb_pointer.specs.declared.part.Refusal.TheVariants.{NoPath, NoDocument, NoMemory}
 

@@ -2,15 +2,15 @@
 use Rattle.std.proofs.Common.{◌≡◌, ◌≢◌, ℕ, ◌+◌, ◌<◌, ◌≤◌, Bool, true, false, List, [], ◌∷◌, ◌++◌, length, get_or, drop, drop-cons, add-one, string_bytes, refl, sym, ap, ◌∙◌, append_assoc, append-nil, length-append, arith}
 use Rattle.std.proofs.lemmas.List.{length-replicate}
 use Rattle.std.specs.List.{flat_map}
-use Rattle.jsonb_value.specs.Text.StringText.{quoted_text}
-use Rattle.jsonb_value.specs.Text.{with_commas}
-use Rattle.jsonb_value.specs.Tree.{array, object}
+use Rattle.jsonb_spec.specs.Text.StringText.{quoted_text}
+use Rattle.jsonb_spec.specs.Text.{with_commas}
+use Rattle.jsonb_spec.specs.Tree.{array, object}
 use Rattle.jsonb_value.specs.View.{view, trees_view, members_view}
 use Rattle.jsonb_value.specs.declared.value.Value.{Value}
 use Rattle.jsonb_value.proofs.Appending.Appended.{IsUnderway, goes_on, fits}
 use Rattle.jsonb_value.proofs.Appending.Pieces.{texts_left}
 use Rattle.jsonb_value.proofs.Values.Members.{Entry}
-use Rattle.jsonb_pretty.specs.Indented.{new_line, enclosed, indented, item_lines, member_lines}
+use Rattle.jsonb_spec.specs.Indented.{new_line, enclosed, indented, item_lines, member_lines}
 
 -- an item's line stands first in what is left
 pub next_item : (indent margin : ℕ) (vs : List Value) (i : ℕ) (v : Value) → i < length vs → v ≡ get_or vs i v

@@ -3,19 +3,19 @@ use Rattle.std.proofs.Common.{◌≡◌, ℕ, zero, suc, ◌+◌, ◌<◌, List,
 use Rattle.std.specs.List.{flat_map}
 use Rattle.std.specs.Ordering.{ordering_then}
 use Rattle.std.specs.Str.{IsUtf8}
-use Rattle.jsonb_value.specs.Grammar.Blanks.{IsBlank, space, tab, line_feed, form_feed, carriage_return, written_line_feed, written_carriage_return, written_tab, written_form_feed, block_comment, line_comment, IsBlanks, no_blanks, more_blanks, blanks_to_end}
-use Rattle.jsonb_value.specs.Grammar.Scalar.{IsKey, quoted_key}
-use Rattle.jsonb_value.specs.Grammar.{IsPadded, padded, IsJoined, one_part, more_parts, IsElement, whole_element, empty_element, IsMember, key_and_value, full_array, full_object, Derives, max_depth, IsDocument, value_alone}
-use Rattle.jsonb_value.specs.Keys.{KeysAscend}
-use Rattle.jsonb_value.specs.Mode.{Mode, standard, extended}
-use Rattle.jsonb_value.specs.Order.ByContent.{pairs_of}
-use Rattle.jsonb_value.specs.Order.{bytes_cmp, tree_cmp, trees_cmp, members_cmp}
-use Rattle.jsonb_value.specs.Proper.{IsProperNumber, IsProper, AreProper, HaveProperParts}
-use Rattle.jsonb_value.specs.Text.Range.{IsWithin, AreWithin, HaveWithin, IsInTexts, IsIntegral, IsInRangeOf}
-use Rattle.jsonb_value.specs.Text.NumberText.{number_text}
-use Rattle.jsonb_value.specs.Text.StringText.{quoted_text}
-use Rattle.jsonb_value.specs.Text.{tree_text, with_commas}
-use Rattle.jsonb_value.specs.Tree.{Num, Tree, null, boolean, string, number, array, object, Trees, no_trees, more_trees, trees_of, Members, no_members, more_members, Member}
+use Rattle.jsonb_spec.specs.Grammar.Blanks.{IsBlank, space, tab, line_feed, form_feed, carriage_return, written_line_feed, written_carriage_return, written_tab, written_form_feed, block_comment, line_comment, IsBlanks, no_blanks, more_blanks, blanks_to_end}
+use Rattle.jsonb_spec.specs.Grammar.Scalar.{IsKey, quoted_key}
+use Rattle.jsonb_spec.specs.Grammar.{IsPadded, padded, IsJoined, one_part, more_parts, IsElement, whole_element, empty_element, IsMember, key_and_value, full_array, full_object, Derives, max_depth, IsDocument, value_alone}
+use Rattle.jsonb_spec.specs.Keys.{KeysAscend}
+use Rattle.jsonb_spec.specs.Mode.{Mode, standard, extended}
+use Rattle.jsonb_spec.specs.Order.ByContent.{pairs_of}
+use Rattle.jsonb_spec.specs.Order.{bytes_cmp, tree_cmp, trees_cmp, members_cmp}
+use Rattle.jsonb_spec.specs.Proper.{IsProperNumber, IsProper, AreProper, HaveProperParts}
+use Rattle.jsonb_spec.specs.Text.Range.{IsWithin, AreWithin, HaveWithin, IsInTexts, IsIntegral, IsInRangeOf}
+use Rattle.jsonb_spec.specs.Text.NumberText.{number_text}
+use Rattle.jsonb_spec.specs.Text.StringText.{quoted_text}
+use Rattle.jsonb_spec.specs.Text.{tree_text, with_commas}
+use Rattle.jsonb_spec.specs.Tree.{Num, Tree, null, boolean, string, number, array, object, Trees, no_trees, more_trees, trees_of, Members, no_members, more_members, Member}
 use Rattle.jsonb_value.proofs.Numbers.InRange.{in_texts_short, integral_short, integer_reads_back, extended_reads_back}
 use Rattle.jsonb_value.proofs.Numbers.Texts.{Begins}
 use Rattle.jsonb_value.proofs.Strings.Writing.{reads_back}
@@ -24,7 +24,7 @@ use Rattle.jsonb_value.proofs.Trees.OneText.{same_bytes, both_equal, IsShort, Is
 use Rattle.jsonb_value.proofs.Trees.Ranges.{widened}
 use Rattle.jsonb_value.proofs.Trees.Runs.{heads, tails}
 use Rattle.jsonb_value.proofs.Trees.TextsReadBack.{no_blanks_alone, double_quote, SpellsSameNumber, HaveSpelled, same_ascent, read_tree}
-use Rattle.jsonb_pretty.specs.Indented.{new_line, indented, item_lines, member_lines, StandsFor}
+use Rattle.jsonb_spec.specs.Indented.{new_line, indented, item_lines, member_lines, StandsFor}
 
 -- ---- blanks
 

@@ -4,17 +4,17 @@
 ghost use Rattle.std.specs.Prelude.{◌≡◌, ◌⊎◌, ◌↔◌, ◌+◌, ◌<◌, ◌≤◌, ◌++◌, ◌∷◌, [], true, length, None, IfOk, IfErr, IsErrOf, OnOk, OnErr, vec_len, string_bytes};
 ghost use Rattle.std.specs.Str.{IsUtf8};
 ghost use Rattle.std.specs.Vec.{vec_capacity};
-ghost use Rattle.jsonb_value.specs.Ascii as ascii;
-ghost use Rattle.jsonb_value.specs.Keys.{KeysAscend};
-ghost use Rattle.jsonb_value.specs.Mode.{Mode};
-ghost use Rattle.jsonb_value.specs.Proper.{IsProper, AreProper, HaveProperParts};
-ghost use Rattle.jsonb_value.specs.Text.Appending.{Appends, AppendsIf, comma_before};
-ghost use Rattle.jsonb_value.specs.Text.Range.{IsInRangeOf};
-ghost use Rattle.jsonb_value.specs.Text.StringText.{quoted_text};
-ghost use Rattle.jsonb_value.specs.Text.{has_text, items_have_texts, members_have_texts, tree_text, with_commas, text_of};
-ghost use Rattle.jsonb_value.specs.Tree.{array, object};
+ghost use Rattle.jsonb_spec.specs.Ascii as ascii;
+ghost use Rattle.jsonb_spec.specs.Keys.{KeysAscend};
+ghost use Rattle.jsonb_spec.specs.Mode.{Mode};
+ghost use Rattle.jsonb_spec.specs.Proper.{IsProper, AreProper, HaveProperParts};
+ghost use Rattle.jsonb_spec.specs.Text.Appending.{Appends, AppendsIf, comma_before};
+ghost use Rattle.jsonb_spec.specs.Text.Range.{IsInRangeOf};
+ghost use Rattle.jsonb_spec.specs.Text.StringText.{quoted_text};
+ghost use Rattle.jsonb_spec.specs.Text.{has_text, items_have_texts, members_have_texts, tree_text, with_commas, text_of};
+ghost use Rattle.jsonb_spec.specs.Tree.{array, object};
 ghost use Rattle.jsonb_value.specs.View.{view, trees_view, members_view};
-ghost use Rattle.jsonb_pretty.specs.Indented.{new_line, indented, item_lines, member_lines, StandsFor};
+ghost use Rattle.jsonb_spec.specs.Indented.{new_line, indented, item_lines, member_lines, StandsFor};
 
 use jsonb_value::error::{Error, Result};
 use jsonb_value::value::{Object, Value};

@@ -1,12 +1,11 @@
 -- What the steps of the decoder guarantee.
--- Read for: private.
 use Rattle.std.specs.Prelude.{◌≡◌, ◌≢◌, ◌⊎◌, ℕ, ◌+◌, ◌≤◌, ◌<◌, ◌^◌, Bool, true, false, List, ◌++◌, length, All, slice_index}
 use Rattle.std.specs.List.{flat_map, AllByRecursion}
-use Rattle.jsonb_value.specs.Ascii as ascii
-use Rattle.jsonb_value.specs.Mode.{Mode}
-use Rattle.jsonb_value.specs.Code.{Code}
-use Rattle.jsonb_value.specs.Grammar.StringBody.{Item, after_u, spelling, IsItem, IsHexDigit, unit_value, meaning}
-use Rattle.jsonb_value.specs.Grammar.StringFault.{BadUnit, IsCutShort}
+use Rattle.jsonb_spec.specs.Ascii as ascii
+use Rattle.jsonb_spec.specs.Mode.{Mode}
+use Rattle.jsonb_spec.specs.Code.{Code}
+use Rattle.jsonb_spec.specs.Grammar.StringBody.{Item, after_u, spelling, IsItem, IsHexDigit, unit_value, meaning}
+use Rattle.jsonb_spec.specs.Grammar.StringFault.{BadUnit, IsCutShort}
 
 -- what follows `\u` is four bytes, in braces or not, and then the rest
 pub record SplitsUnit (bytes digits rest : List ℕ) : Type 0 where

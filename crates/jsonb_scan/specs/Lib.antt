@@ -1,11 +1,9 @@
 pub mod Answer
 pub mod Decoding
-pub mod Line
 pub mod Open
 pub mod QuotedString
 pub mod Reading
 pub mod ScannedNumber
 pub mod ShortInteger
-pub mod Source
 pub mod Spelled
 pub mod StringRefusal

@@ -1,9 +1,8 @@
 -- Arrays and objects that are open while a text is parsed.
--- Read for: private.
 use Rattle.std.specs.Prelude.{ℕ, List, [], ◌∷◌, ◌++◌}
-use Rattle.jsonb_value.specs.Tree.{Mark}
-use Rattle.jsonb_value.specs.Tree.Mark.{plain}
-use Rattle.jsonb_scan.specs.Source.{Source, Found, found}
+use Rattle.jsonb_spec.specs.Tree.{Mark}
+use Rattle.jsonb_spec.specs.Tree.Mark.{plain}
+use Rattle.jsonb_spec.specs.Source.{Source, Found, found}
 
 -- An array or an object that is open: its parts so far, and in an object the key that waits for its value, with the
 -- place after it.

@@ -1,16 +1,15 @@
 -- What the steps of parsing strings and unquoted keys guarantee.
--- Read for: private.
 use Rattle.std.specs.Prelude.{◌≡◌, ◌≢◌, ◌⊎◌, ℕ, ◌+◌, ◌<◌, ◌≤◌, List, [], length, slice_index, Result, Ok, Err}
 use Rattle.std.specs.Cow.{cow_str_bytes}
 use Rattle.std.specs.Int.{bit_at}
 use Rattle.std.specs.declared.alloc.Global.{Global}
 use Rattle.std.specs.declared.borrow.CowStr.{CowStr}
-use Rattle.jsonb_value.specs.Ascii as ascii
-use Rattle.jsonb_value.specs.Tree.{Mark}
-use Rattle.jsonb_value.specs.Tree.Mark.{escaped as escaped_mark}
-use Rattle.jsonb_value.specs.Mode.{Mode}
-use Rattle.jsonb_value.specs.Grammar.StringBody.{Item, meaning}
-use Rattle.jsonb_value.specs.Code.{code_of}
+use Rattle.jsonb_spec.specs.Ascii as ascii
+use Rattle.jsonb_spec.specs.Tree.{Mark}
+use Rattle.jsonb_spec.specs.Tree.Mark.{escaped as escaped_mark}
+use Rattle.jsonb_spec.specs.Mode.{Mode}
+use Rattle.jsonb_spec.specs.Grammar.StringBody.{Item, meaning}
+use Rattle.jsonb_value.specs.Error.CodeView.{code_of}
 use Rattle.jsonb_value.specs.View.{mark_view}
 use Rattle.jsonb_value.specs.declared.error.Error.{Error}
 use Rattle.jsonb_value.specs.declared.error.Error.TheVariants.{Syntax, OutOfMemory}

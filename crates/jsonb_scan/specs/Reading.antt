@@ -1,6 +1,5 @@
 -- Results of the executable specification, faults, and sequencing. It connects the code of the parsers with the
 -- grammar.
--- Read for: `exact`.
 pub mod BareKey
 pub mod Blank
 pub mod Container
@@ -10,7 +9,7 @@ pub mod Number
 pub mod Scalar
 pub mod String
 use Rattle.std.specs.Prelude.{ℕ, ◌+◌, ◌-◌, Bool, true, false, List, [], ◌∷◌, length, Result, Ok, Err, ◌==◌, if◌then◌else◌}
-use Rattle.jsonb_value.specs.Code.{Code, invalid_eof}
+use Rattle.jsonb_spec.specs.Code.{Code, invalid_eof}
 
 -- A fault, and the place in the whole input that it names.
 pub record Fault : Type 0 where

@@ -1,10 +1,9 @@
 -- Scalars that stand in the text as they are serialized, or nearly so.
--- Read for: private.
 use Rattle.std.specs.Prelude.{◌≡◌, ℕ, ◌<◌, ◌-◌, true, false, List, slice_range, codes}
-use Rattle.jsonb_value.specs.Grammar.StandardNumber.{IsStandardNumber}
-use Rattle.jsonb_value.specs.Text.{in_quotes}
-use Rattle.jsonb_value.specs.Tree.{plain, escaped}
-use Rattle.jsonb_scan.specs.Source.{Source, null_source, boolean_source, string_source, number_source, array_source, object_source}
+use Rattle.jsonb_spec.specs.Grammar.StandardNumber.{IsStandardNumber}
+use Rattle.jsonb_spec.specs.Text.{in_quotes}
+use Rattle.jsonb_spec.specs.Tree.{plain, escaped}
+use Rattle.jsonb_spec.specs.Source.{Source, null_source, boolean_source, string_source, number_source, array_source, object_source}
 
 -- These bytes are a word in small letters, an integer of a standard text, or a string in double quotes without escapes.
 abbrev pub IsSpelled : List ℕ → Source → Type 0

@@ -1,9 +1,8 @@
 -- The errors of `parse_string`.
--- Read for: promises.
 use Rattle.std.specs.Prelude.{◌≡◌, ℕ, ◌+◌, List}
-use Rattle.jsonb_value.specs.Mode.{Mode}
-use Rattle.jsonb_value.specs.Code.{code_of}
-use Rattle.jsonb_value.specs.Grammar.StringFault.{IsFaultyBody}
+use Rattle.jsonb_spec.specs.Mode.{Mode}
+use Rattle.jsonb_value.specs.Error.CodeView.{code_of}
+use Rattle.jsonb_spec.specs.Grammar.StringFault.{IsFaultyBody}
 use Rattle.jsonb_value.specs.declared.error.Error.{Error}
 use Rattle.jsonb_value.specs.declared.error.Error.TheVariants.{Syntax, OutOfMemory}
 

@@ -1,8 +1,8 @@
 //! Lines and columns of offsets, and the byte to show of an error.
 ghost use Rattle.std.specs.Prelude.{◌≡◌, ◌≤◌, length, not};
 ghost use Rattle.std.specs.List.{count_by, suffix_len};
-ghost use Rattle.jsonb_value.specs.Code.{code_of};
-ghost use Rattle.jsonb_scan.specs.Line.{bytes_past, column_at, fault_index, is_line_feed, line_at};
+ghost use Rattle.jsonb_value.specs.Error.CodeView.{code_of};
+ghost use Rattle.jsonb_spec.specs.Line.{bytes_past, column_at, fault_index, is_line_feed, line_at};
 
 use jsonb_value::error::ParseErrorCode;
 use memchr::{memchr_iter, memrchr};

@@ -1,6 +1,6 @@
 -- Where the digits of a number end.
 use Rattle.std.proofs.Common.{◌≡◌, ◌≢◌, ℕ, ◌%◌, ◌^◌, ◌<◌, ◌⊎◌, inl, inr, Bool, List, [], ◌∷◌, ◌++◌, length, map, subst, sym, arith}
-use Rattle.jsonb_value.specs.SortKey.{turned, digits_key}
+use Rattle.jsonb_spec.specs.SortKey.{turned, digits_key}
 use Rattle.jsonb_key.proofs.Numbers.{Ends, GoesOn, next_pair, no_bytes}
 
 -- the key of digits that are left stands first

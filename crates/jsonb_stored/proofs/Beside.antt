@@ -3,18 +3,18 @@ use Rattle.std.proofs.Common.{◌≡◌, ℕ, ◌≤◌, ◌⊎◌, inl, inr, tr
 use Rattle.std.specs.Str.{bytes_eq}
 use Rattle.jsonb_key.specs.Readable.{IsReadableAt}
 use Rattle.jsonb_stored.specs.declared.containment.Walk.{Walk}
-use Rattle.jsonb_stored.specs.Containment.{any_item, holds, holds_members}
+use Rattle.jsonb_spec.specs.Containment.{any_item, holds, holds_members}
 use Rattle.jsonb_stored.specs.Open.{items, members, end_key}
 use Rattle.jsonb_stored.specs.SideBySide.{AreReadableAt, HaveReadableAt, IsLeft, Stands, StandsInside}
 use Rattle.jsonb_stored.proofs.Holding.{below_more, drop_below, none_past, one_passed, first_found, items_open, members_open}
 use Rattle.jsonb_stored.proofs.Opens.{no_end}
 use Rattle.jsonb_stored.proofs.Standing.{regroup}
 use Rattle.jsonb_stored.proofs.Walked.{moved_on}
-use Rattle.jsonb_value.specs.Accessors.{find_member}
-use Rattle.jsonb_value.specs.Keys.{IsBelowKeys}
-use Rattle.jsonb_value.specs.Order.{bytes_cmp}
-use Rattle.jsonb_value.specs.SortKey.{key_of, items_key, members_key, text_key}
-use Rattle.jsonb_value.specs.Tree.{Tree, Trees, no_trees, more_trees, Members, no_members, more_members}
+use Rattle.jsonb_spec.specs.Accessors.{find_member}
+use Rattle.jsonb_spec.specs.Keys.{IsBelowKeys}
+use Rattle.jsonb_spec.specs.Order.{bytes_cmp}
+use Rattle.jsonb_spec.specs.SortKey.{key_of, items_key, members_key, text_key}
+use Rattle.jsonb_spec.specs.Tree.{Tree, Trees, no_trees, more_trees, Members, no_members, more_members}
 
 -- ---- our members, up to a name
 

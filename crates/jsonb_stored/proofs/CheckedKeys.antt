@@ -6,8 +6,8 @@ use Rattle.jsonb_stored.specs.Checked.{IsSortKey}
 use Rattle.jsonb_stored.specs.Parts.{kind_of_tree, ChildAt, IsKeyOfChild, IsKeyAt}
 use Rattle.jsonb_stored.proofs.Finds.{child_readable, part_readable}
 use Rattle.jsonb_key.proofs.Texts.{none_some, some_same}
-use Rattle.jsonb_value.specs.SortKey.{key_of}
-use Rattle.jsonb_value.specs.Tree.{Tree, null, boolean, string, number, array, object}
+use Rattle.jsonb_spec.specs.SortKey.{key_of}
+use Rattle.jsonb_spec.specs.Tree.{Tree, null, boolean, string, number, array, object}
 
 -- each value of JSON's kinds has a kind
 pub some_kind : (t : Tree) → IsReadable t → None ≡ kind_of_tree t → ⊥

@@ -9,7 +9,7 @@ use Rattle.std.specs.declared.cmp.Ordering.TheVariants.{Less, Equal, Greater}
 use Rattle.jsonb_key.proofs.Texts.{none_some, some_same}
 use Rattle.jsonb_stored.specs.Frames.{TextFirst, Frame, in_array, in_object, IsAbove, NameFirst, IsFrame}
 use Rattle.jsonb_stored.proofs.Framed.{one_name, names_compare}
-use Rattle.jsonb_value.specs.SortKey.{text_key}
+use Rattle.jsonb_spec.specs.SortKey.{text_key}
 
 less : (r : Ordering) → (is_lt r ≡ true) ↔ (r ≡ Less)
 less Less = (λ e. refl, λ e. refl)

@@ -7,9 +7,9 @@ use Rattle.jsonb_key.proofs.Texts.{none_some, some_same}
 use Rattle.jsonb_stored.specs.Checked.{IsSortKey, AreReadable, HaveReadable, AreItems, AreMembers, IsNoItem, IsNoMember, IsFirstItem, IsFirstMember}
 use Rattle.jsonb_stored.proofs.CheckedKeys.{whole}
 use Rattle.jsonb_stored.proofs.Finds.{readable_inside}
-use Rattle.jsonb_value.specs.Accessors.{as_array, as_object}
-use Rattle.jsonb_value.specs.SortKey.{key_of, items_key, members_key, text_key}
-use Rattle.jsonb_value.specs.Tree.{Tree, null, boolean, string, number, array, object, Trees, no_trees, more_trees, Members, no_members, more_members}
+use Rattle.jsonb_spec.specs.Accessors.{as_array, as_object}
+use Rattle.jsonb_spec.specs.SortKey.{key_of, items_key, members_key, text_key}
+use Rattle.jsonb_spec.specs.Tree.{Tree, null, boolean, string, number, array, object, Trees, no_trees, more_trees, Members, no_members, more_members}
 use Rattle.jsonb_value.proofs.SortKeys.Kinds.{is_small, number_begins}
 use Rattle.jsonb_value.proofs.Trees.Runs.{heads, tails}
 

@@ -3,7 +3,7 @@ use Rattle.std.proofs.Common.{◌≡◌, ◌≢◌, ◌⊎◌, ◌↔◌, inl, i
 use Rattle.jsonb_key.proofs.FirstBytes.{no_key, string_there, number_there}
 use Rattle.jsonb_stored.specs.Frames.{ScalarFirst, NumberFirst, TextFirst}
 use Rattle.jsonb_stored.proofs.Scalars.{scalar_begins, word_skipped}
-use Rattle.jsonb_value.specs.Tree.{null, boolean, string, number, plain, uint64}
+use Rattle.jsonb_spec.specs.Tree.{null, boolean, string, number, plain, uint64}
 use Rattle.jsonb_value.proofs.SortKeys.Numbers.{nothing_there}
 
 pub no_scalar : (bytes more : List ℕ) → length bytes ≡ 0 → ScalarFirst bytes more → ⊥

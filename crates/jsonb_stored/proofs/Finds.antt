@@ -4,16 +4,16 @@ use Rattle.std.proofs.lemmas.List.{length-append}
 use Rattle.std.specs.Str.{bytes_eq}
 use Rattle.jsonb_key.specs.Readable.{IsAnyNumber, IsReadable, IsReadableAt}
 use Rattle.jsonb_key.proofs.Items.{readable_bounded}
-use Rattle.jsonb_write.specs.PartAt.{IsIndex, IsChild, IsAt}
+use Rattle.jsonb_spec.specs.PartAt.{IsIndex, IsChild, IsAt}
 use Rattle.jsonb_pointer.proofs.PartsReadBack.{part_within, part_proper, deeper}
 use Rattle.jsonb_stored.specs.Open.{Open, items, members, is_object, open_key, IsOpen, end_key, opening_byte, IsScalar}
 use Rattle.jsonb_stored.specs.Parts.{opened_tree, ChildAt, StandsAt}
 use Rattle.jsonb_stored.proofs.Opens.{no_end}
-use Rattle.jsonb_value.specs.Accessors.{find_member, item_at, trees_len}
-use Rattle.jsonb_value.specs.Proper.{AreProper, HaveProperParts}
-use Rattle.jsonb_value.specs.SortKey.{key_of, items_key, members_key, text_key}
-use Rattle.jsonb_value.specs.Text.Range.{AreWithin, HaveWithin}
-use Rattle.jsonb_value.specs.Tree.{Tree, null, boolean, string, number, array, object, Trees, no_trees, more_trees, Members, no_members, more_members}
+use Rattle.jsonb_spec.specs.Accessors.{find_member, item_at, trees_len}
+use Rattle.jsonb_spec.specs.Proper.{AreProper, HaveProperParts}
+use Rattle.jsonb_spec.specs.SortKey.{key_of, items_key, members_key, text_key}
+use Rattle.jsonb_spec.specs.Text.Range.{AreWithin, HaveWithin}
+use Rattle.jsonb_spec.specs.Tree.{Tree, null, boolean, string, number, array, object, Trees, no_trees, more_trees, Members, no_members, more_members}
 use Rattle.jsonb_value.proofs.SortKeys.Kinds.{begins, is_small, number_begins}
 use Rattle.jsonb_value.proofs.Trees.Runs.{heads, tails}
 

@@ -17,10 +17,10 @@ use Rattle.jsonb_stored.specs.Open.{Open, items, members, is_object, open_key, I
 use Rattle.jsonb_stored.specs.Parts.{opened_tree}
 use Rattle.jsonb_stored.proofs.Opens.{no_end}
 use Rattle.jsonb_stored.proofs.Scalars.{scalar_there}
-use Rattle.jsonb_value.specs.Keys.{IsBelowKeys, KeysAscend}
-use Rattle.jsonb_value.specs.Order.{bytes_cmp}
-use Rattle.jsonb_value.specs.SortKey.{key_of, items_key, members_key, text_key}
-use Rattle.jsonb_value.specs.Tree.{Tree, null, boolean, string, number, array, object, no_trees, more_trees, Members, no_members, more_members}
+use Rattle.jsonb_spec.specs.Keys.{IsBelowKeys, KeysAscend}
+use Rattle.jsonb_spec.specs.Order.{bytes_cmp}
+use Rattle.jsonb_spec.specs.SortKey.{key_of, items_key, members_key, text_key}
+use Rattle.jsonb_spec.specs.Tree.{Tree, null, boolean, string, number, array, object, no_trees, more_trees, Members, no_members, more_members}
 use Rattle.jsonb_value.proofs.SortKeys.Texts.{text_compares}
 use Rattle.jsonb_value.proofs.Trees.Runs.{tails}
 

@@ -7,15 +7,15 @@ use Rattle.std.specs.Option.{option_map_or}
 use Rattle.std.specs.Str.{bytes_eq}
 use Rattle.jsonb_key.specs.Readable.{IsAnyNumber, IsReadableAt}
 use Rattle.jsonb_pointer.proofs.PartsReadBack.{deeper}
-use Rattle.jsonb_stored.specs.Containment.{holds, holds_members}
+use Rattle.jsonb_spec.specs.Containment.{holds, holds_members}
 use Rattle.jsonb_stored.specs.Open.{items, members, IsOpen}
 use Rattle.jsonb_stored.specs.SideBySide.{AreReadableAt, HaveReadableAt}
 use Rattle.jsonb_stored.proofs.Standing.{equal_names, below_all}
-use Rattle.jsonb_value.specs.Accessors.{find_member}
-use Rattle.jsonb_value.specs.Keys.{IsBelowKeys}
-use Rattle.jsonb_value.specs.Order.{bytes_cmp}
-use Rattle.jsonb_value.specs.Text.Range.{IsWithin, AreWithin, HaveWithin}
-use Rattle.jsonb_value.specs.Tree.{Tree, array, object, Trees, Members, no_members, more_members}
+use Rattle.jsonb_spec.specs.Accessors.{find_member}
+use Rattle.jsonb_spec.specs.Keys.{IsBelowKeys}
+use Rattle.jsonb_spec.specs.Order.{bytes_cmp}
+use Rattle.jsonb_spec.specs.Text.Range.{IsWithin, AreWithin, HaveWithin}
+use Rattle.jsonb_spec.specs.Tree.{Tree, array, object, Trees, Members, no_members, more_members}
 
 -- ---- names
 

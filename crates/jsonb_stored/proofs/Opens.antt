@@ -6,8 +6,8 @@ use Rattle.jsonb_key.specs.Readable.{IsReadableAt}
 use Rattle.jsonb_key.proofs.Items.{no_zero}
 use Rattle.jsonb_key.proofs.Members.{no_pair}
 use Rattle.jsonb_stored.specs.Open.{Open, items, members, is_object, open_key, IsOpen, end_key, name_key}
-use Rattle.jsonb_value.specs.SortKey.{key_of}
-use Rattle.jsonb_value.specs.Tree.{Tree, no_trees, more_trees, no_members, more_members}
+use Rattle.jsonb_spec.specs.SortKey.{key_of}
+use Rattle.jsonb_spec.specs.Tree.{Tree, no_trees, more_trees, no_members, more_members}
 
 -- what is left of those that are open, the innermost first
 abbrev pub opens_key : List Open → List ℕ

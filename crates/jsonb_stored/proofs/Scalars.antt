@@ -2,8 +2,8 @@
 use Rattle.std.proofs.Common.{◌≡◌, ◌≢◌, ◌⊎◌, inl, inr, Bool, true, false, ℕ, zero, suc, ◌∷◌, ◌++◌, List, refl, sym, ap, subst, ◌∙◌, arith}
 use Rattle.jsonb_key.specs.Readable.{IsReadableAt}
 use Rattle.jsonb_stored.specs.Open.{IsScalar, Open, items, members, IsOpen, is_object, open_key, opening_byte}
-use Rattle.jsonb_value.specs.SortKey.{key_of, items_key, members_key, text_key}
-use Rattle.jsonb_value.specs.Tree.{Tree, null, boolean, string, number, array, object, Trees, Members}
+use Rattle.jsonb_spec.specs.SortKey.{key_of, items_key, members_key, text_key}
+use Rattle.jsonb_spec.specs.Tree.{Tree, null, boolean, string, number, array, object, Trees, Members}
 use Rattle.jsonb_key.proofs.FirstBytes.{one_byte, number_there, array_there, object_there}
 use Rattle.jsonb_key.proofs.Signs.{zero_read}
 use Rattle.jsonb_value.proofs.SortKeys.Kinds.{is_small, number_begins}

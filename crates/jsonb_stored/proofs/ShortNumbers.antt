@@ -14,10 +14,10 @@ use Rattle.std.specs.declared.cmp.Ordering.TheVariants.{Less, Equal, Greater}
 use Rattle.jsonb_key.specs.Reading.{IsLastPair}
 use Rattle.jsonb_key.proofs.Exact.{DigitsRead, none_read, one_pair_read, last_pair_read, first_digit, up_key, down_key}
 use Rattle.jsonb_stored.specs.Frames.{NumberFirst, DigitsFirst}
-use Rattle.jsonb_value.specs.Number.Signed.{signed_by}
-use Rattle.jsonb_value.specs.Order.{bytes_cmp, num_cmp}
-use Rattle.jsonb_value.specs.SortKey.{number_key, place_key, digits_key, turned}
-use Rattle.jsonb_value.specs.Tree.{Num, decimal128}
+use Rattle.jsonb_spec.specs.Number.Signed.{signed_by}
+use Rattle.jsonb_spec.specs.Order.{bytes_cmp, num_cmp}
+use Rattle.jsonb_spec.specs.SortKey.{number_key, place_key, digits_key, turned}
+use Rattle.jsonb_spec.specs.Tree.{Num, decimal128}
 use Rattle.jsonb_value.proofs.SortKeys.Counts.{power_le}
 use Rattle.jsonb_value.proofs.SortKeys.Digits.{ten}
 use Rattle.jsonb_value.proofs.SortKeys.Kinds.{is_small}

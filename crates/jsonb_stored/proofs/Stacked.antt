@@ -7,7 +7,7 @@ use Rattle.jsonb_stored.specs.Frames.{ScalarFirst, PartsFirst, Frame, in_array, 
 use Rattle.jsonb_stored.specs.Open.{end_key, opening_byte}
 use Rattle.jsonb_stored.proofs.Checks.{through}
 use Rattle.jsonb_stored.proofs.Framed.{Ends, Due, parts_first, end_passed, name_passed, no_name, scalar_passed, no_scalar_due, no_value, opening_passed, too_deep_due}
-use Rattle.jsonb_value.specs.SortKey.{key_of, text_key}
+use Rattle.jsonb_spec.specs.SortKey.{key_of, text_key}
 
 -- the innermost is the last of the list
 abbrev pub Stacked : List ℕ → List Frame → List ℕ → ℕ → Type 0

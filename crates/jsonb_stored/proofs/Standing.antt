@@ -10,7 +10,7 @@ use Rattle.std.specs.Ordering.{is_eq, nat_cmp}
 use Rattle.std.specs.Str.{bytes_eq}
 use Rattle.jsonb_key.specs.Readable.{IsAnyNumber, IsReadable}
 use Rattle.jsonb_key.proofs.Texts.{none_some, some_same}
-use Rattle.jsonb_write.specs.PartAt.{child_at, part_at}
+use Rattle.jsonb_spec.specs.PartAt.{child_at, part_at}
 use Rattle.jsonb_stored.specs.declared.find.NoKey.{NoKey}
 use Rattle.jsonb_stored.specs.declared.walk.Kind.TheVariants as kind
 use Rattle.jsonb_stored.specs.Found.{count_of, item_back, item_from, open_len, Finds, IsLeftOf, IsNext, IsRange, PartStands}
@@ -18,13 +18,13 @@ use Rattle.jsonb_stored.specs.Open.{Open, items, members, is_object, open_key, I
 use Rattle.jsonb_stored.specs.Parts.{kind_of_tree, opened_tree}
 use Rattle.jsonb_stored.proofs.Finds.{Parent, readable_inside}
 use Rattle.jsonb_stored.proofs.Opens.{no_end}
-use Rattle.jsonb_value.specs.Accessors.{find_member, item_at, trees_len}
-use Rattle.jsonb_value.specs.Keys.{IsBelowKeys, KeysAscend}
-use Rattle.jsonb_value.specs.Order.{bytes_cmp}
-use Rattle.jsonb_value.specs.Proper.{AreProper, HaveProperParts}
-use Rattle.jsonb_value.specs.SortKey.{key_of, items_key, members_key, text_key}
-use Rattle.jsonb_value.specs.Text.Range.{AreWithin, HaveWithin}
-use Rattle.jsonb_value.specs.Tree.{Tree, null, boolean, string, number, array, object, Trees, no_trees, more_trees, Members, no_members, more_members}
+use Rattle.jsonb_spec.specs.Accessors.{find_member, item_at, trees_len}
+use Rattle.jsonb_spec.specs.Keys.{IsBelowKeys, KeysAscend}
+use Rattle.jsonb_spec.specs.Order.{bytes_cmp}
+use Rattle.jsonb_spec.specs.Proper.{AreProper, HaveProperParts}
+use Rattle.jsonb_spec.specs.SortKey.{key_of, items_key, members_key, text_key}
+use Rattle.jsonb_spec.specs.Text.Range.{AreWithin, HaveWithin}
+use Rattle.jsonb_spec.specs.Tree.{Tree, null, boolean, string, number, array, object, Trees, no_trees, more_trees, Members, no_members, more_members}
 
 -- ---- what a key is of
 

@@ -5,7 +5,7 @@ use Rattle.std.proofs.lemmas.List.{length-append}
 use Rattle.jsonb_key.specs.Reading.{byte_of}
 use Rattle.jsonb_key.proofs.Texts.{ReadsText, text_ended}
 use Rattle.std.specs.List.{flat_map}
-use Rattle.jsonb_value.specs.SortKey.{byte_key, text_key}
+use Rattle.jsonb_spec.specs.SortKey.{byte_key, text_key}
 use Rattle.jsonb_value.proofs.SortKeys.Texts.{text_key-other}
 
 -- one byte more is put behind those that were

@@ -5,7 +5,7 @@ use Rattle.std.specs.Str.{bytes_eq}
 use Rattle.jsonb_key.specs.Readable.{IsReadableAt}
 use Rattle.jsonb_stored.specs.declared.containment.Walk.{Walk}
 use Rattle.jsonb_stored.specs.declared.find.NoKey.{NoKey}
-use Rattle.jsonb_stored.specs.Containment.{any_item, contains, holds, holds_items, holds_members}
+use Rattle.jsonb_spec.specs.Containment.{any_item, contains, holds, holds_items, holds_members}
 use Rattle.jsonb_stored.specs.Open.{Open, items, members, is_object, open_key, end_key, IsScalar, opening_byte}
 use Rattle.jsonb_stored.specs.Parts.{opened_tree}
 use Rattle.jsonb_stored.specs.SideBySide.{AreReadableAt, HaveReadableAt, EndsWith, IsLeft, Stands, StandsInside, Told, MemberFound, FindsMember}
@@ -14,10 +14,10 @@ use Rattle.jsonb_stored.proofs.Opens.{no_end}
 use Rattle.jsonb_stored.proofs.Scalars.{scalar_begins}
 use Rattle.jsonb_stored.proofs.Standing.{regroup, true_false}
 use Rattle.jsonb_stored.proofs.Walked.{passed}
-use Rattle.jsonb_value.specs.Accessors.{find_member}
-use Rattle.jsonb_value.specs.Keys.{IsBelowKeys}
-use Rattle.jsonb_value.specs.SortKey.{key_of, items_key, members_key, text_key}
-use Rattle.jsonb_value.specs.Tree.{Tree, array, object, Trees, no_trees, more_trees, Members, no_members, more_members}
+use Rattle.jsonb_spec.specs.Accessors.{find_member}
+use Rattle.jsonb_spec.specs.Keys.{IsBelowKeys}
+use Rattle.jsonb_spec.specs.SortKey.{key_of, items_key, members_key, text_key}
+use Rattle.jsonb_spec.specs.Tree.{Tree, array, object, Trees, no_trees, more_trees, Members, no_members, more_members}
 use Rattle.jsonb_value.proofs.Trees.Runs.{heads, tails}
 
 -- ---- an array or an object, by its first byte

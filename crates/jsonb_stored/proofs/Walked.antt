@@ -8,14 +8,14 @@ use Rattle.std.specs.declared.cmp.Ordering.{Ordering}
 use Rattle.std.specs.Ordering.{is_eq, ordering_then}
 use Rattle.jsonb_key.specs.Readable.{IsReadableAt}
 use Rattle.jsonb_key.proofs.Items.{readable_bounded}
-use Rattle.jsonb_stored.specs.Containment.{holds}
+use Rattle.jsonb_spec.specs.Containment.{holds}
 use Rattle.jsonb_stored.specs.Open.{Open, is_object, open_key, IsOpen, end_key, IsScalar}
 use Rattle.jsonb_stored.specs.SideBySide.{EndsWith, IsLeft}
 use Rattle.jsonb_stored.proofs.Opens.{no_end}
 use Rattle.jsonb_stored.proofs.Standing.{over_or_first, regroup, true_false}
-use Rattle.jsonb_value.specs.Order.{bytes_cmp, tree_cmp}
-use Rattle.jsonb_value.specs.SortKey.{key_of, IsBounded}
-use Rattle.jsonb_value.specs.Tree.{Tree, array, object}
+use Rattle.jsonb_spec.specs.Order.{bytes_cmp, tree_cmp}
+use Rattle.jsonb_spec.specs.SortKey.{key_of, IsBounded}
+use Rattle.jsonb_spec.specs.Tree.{Tree, array, object}
 use Rattle.jsonb_value.proofs.SortKeys.Trees.{tree_compares, keys_same}
 
 -- ---- what is told

@@ -1,12 +1,11 @@
 -- Which bytes are a sort key.
--- Read for: promises.
 use Rattle.std.specs.Prelude.{◌≡◌, ℕ, List, ⊤}
 use Rattle.jsonb_key.specs.Readable.{IsAnyNumber, IsReadable}
-use Rattle.jsonb_value.specs.Keys.{KeysAscend}
-use Rattle.jsonb_value.specs.Proper.{AreProper, HaveProperParts}
-use Rattle.jsonb_value.specs.SortKey.{key_of, items_key, members_key, text_key}
-use Rattle.jsonb_value.specs.Text.Range.{AreWithin, HaveWithin}
-use Rattle.jsonb_value.specs.Tree.{Tree, Trees, no_trees, more_trees, Members, no_members, more_members}
+use Rattle.jsonb_spec.specs.Keys.{KeysAscend}
+use Rattle.jsonb_spec.specs.Proper.{AreProper, HaveProperParts}
+use Rattle.jsonb_spec.specs.SortKey.{key_of, items_key, members_key, text_key}
+use Rattle.jsonb_spec.specs.Text.Range.{AreWithin, HaveWithin}
+use Rattle.jsonb_spec.specs.Tree.{Tree, Trees, no_trees, more_trees, Members, no_members, more_members}
 
 -- The bytes are the sort key of a value of JSON's kinds, with at most 512 arrays and objects in one another.
 pub record IsSortKey (bytes : List ℕ) : Type 0 where

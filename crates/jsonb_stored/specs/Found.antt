@@ -1,14 +1,13 @@
 -- Parts of keys where they stand in the bytes, and how many parts there are.
--- Read for: promises.
 use Rattle.std.specs.Prelude.{◌≡◌, ℕ, suc, ◌-◌, ℤ, pos, negsuc, nat_lt, Bool, List, ◌++◌, length, Option, Some, None, Result, Ok, Err, if◌then◌else◌, ⊤}
 use Rattle.std.specs.Borrow.{Bor}
 use Rattle.jsonb_key.specs.Readable.{IsReadable}
 use Rattle.jsonb_stored.specs.declared.find.NoKey.{NoKey}
 use Rattle.jsonb_stored.specs.Open.{Open, items, members, is_object, open_key, IsOpen, IsScalar}
 use Rattle.jsonb_stored.specs.Parts.{opened_tree}
-use Rattle.jsonb_value.specs.Accessors.{item_at, trees_len}
-use Rattle.jsonb_value.specs.SortKey.{key_of, items_key, members_key}
-use Rattle.jsonb_value.specs.Tree.{Tree, array, object, Trees, no_trees, more_trees, Members, no_members, more_members}
+use Rattle.jsonb_spec.specs.Accessors.{item_at, trees_len}
+use Rattle.jsonb_spec.specs.SortKey.{key_of, items_key, members_key}
+use Rattle.jsonb_spec.specs.Tree.{Tree, array, object, Trees, no_trees, more_trees, Members, no_members, more_members}
 
 -- how many members there are
 abbrev pub members_len : Members → ℕ

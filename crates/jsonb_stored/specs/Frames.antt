@@ -1,16 +1,15 @@
 -- Keys that bytes begin with, and what is known of an array or an object that is open while a key is checked.
--- Read for: private.
 use Rattle.std.specs.Prelude.{◌≡◌, ◌≢◌, ◌<◌, ◌≤◌, ◌*◌, ◌^◌, ℕ, Bool, true, false, List, ◌++◌, Option, Some, None, length, map, take, get_or, ⊤, IsUtf8}
 use Rattle.std.specs.Ordering.{nat_cmp}
 use Rattle.std.specs.Cmp.Lexicographic.{slice_cmp}
 use Rattle.std.specs.declared.cmp.Ordering.TheVariants.{Less}
-use Rattle.jsonb_value.specs.Ascii as ascii
+use Rattle.jsonb_spec.specs.Ascii as ascii
 use Rattle.jsonb_key.specs.Readable.{IsReadable, IsReadableAt}
 use Rattle.jsonb_stored.specs.Open.{Open, is_object, open_key, IsScalar}
 use Rattle.jsonb_stored.specs.Parts.{opened_tree}
-use Rattle.jsonb_value.specs.Proper.{IsProperNumber}
-use Rattle.jsonb_value.specs.SortKey.{key_of, number_key, digits_key, text_key, turned}
-use Rattle.jsonb_value.specs.Tree.{Num, Tree}
+use Rattle.jsonb_spec.specs.Proper.{IsProperNumber}
+use Rattle.jsonb_spec.specs.SortKey.{key_of, number_key, digits_key, text_key, turned}
+use Rattle.jsonb_spec.specs.Tree.{Num, Tree}
 
 -- The bytes begin with the key of a value, and these stand behind it.
 pub record KeyFirst (bytes more : List ℕ) : Type 0 where

@@ -1,5 +1,4 @@
 -- The bytes of checked keys, items and members.
--- Read for: promises.
 use Rattle.std.specs.Prelude.{ℕ, List}
 use Rattle.jsonb_stored.specs.declared.checked.Items.{Items}
 use Rattle.jsonb_stored.specs.declared.checked.Key.{Key}

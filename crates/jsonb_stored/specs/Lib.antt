@@ -1,6 +1,5 @@
 pub mod Found
 pub mod Checked
-pub mod Containment
 pub mod Frames
 pub mod KeyView
 pub mod Open

@@ -1,12 +1,11 @@
 -- What stands in a key behind the beginning of an array or an object: parts, and an end.
--- Read for: private.
 use Rattle.std.specs.Prelude.{ℕ, Bool, true, false, List, [], ◌∷◌, ⊤}
 use Rattle.jsonb_key.specs.Readable.{IsAnyNumber}
-use Rattle.jsonb_value.specs.Proper.{AreProper, HaveProperParts}
-use Rattle.jsonb_value.specs.SortKey.{items_key, members_key, text_key}
-use Rattle.jsonb_value.specs.SortKey.Kind as kind
-use Rattle.jsonb_value.specs.Text.Range.{AreWithin, HaveWithin}
-use Rattle.jsonb_value.specs.Tree.{Tree, array, object, Trees, Members}
+use Rattle.jsonb_spec.specs.Proper.{AreProper, HaveProperParts}
+use Rattle.jsonb_spec.specs.SortKey.{items_key, members_key, text_key}
+use Rattle.jsonb_spec.specs.SortKey.Kind as kind
+use Rattle.jsonb_spec.specs.Text.Range.{AreWithin, HaveWithin}
+use Rattle.jsonb_spec.specs.Tree.{Tree, array, object, Trees, Members}
 
 -- an array or an object that is open: the items or the members that are left of it
 pub data Open : Type 0 where

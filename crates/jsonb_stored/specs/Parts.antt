@@ -1,14 +1,13 @@
 -- Parts of values, found in their keys.
--- Read for: promises.
 use Rattle.std.specs.Prelude.{◌≡◌, ℕ, ◌<◌, ◌⊎◌, List, ◌++◌, Option, Some, None}
-use Rattle.jsonb_write.specs.PartAt.{IsChild, IsAt}
+use Rattle.jsonb_spec.specs.PartAt.{IsChild, IsAt}
 use Rattle.jsonb_pointer.specs.Path.{IsPartAt}
 use Rattle.jsonb_stored.specs.declared.walk.Kind.{Kind}
 use Rattle.jsonb_stored.specs.declared.walk.Kind.TheVariants as variants
 use Rattle.jsonb_stored.specs.Open.{Open, items, members}
-use Rattle.jsonb_value.specs.SortKey.{key_of}
-use Rattle.jsonb_value.specs.SortKey.Kind as kind
-use Rattle.jsonb_value.specs.Tree.{Tree, null, boolean, string, number, array, object}
+use Rattle.jsonb_spec.specs.SortKey.{key_of}
+use Rattle.jsonb_spec.specs.SortKey.Kind as kind
+use Rattle.jsonb_spec.specs.Tree.{Tree, null, boolean, string, number, array, object}
 
 -- the kind of a value of JSON's kinds
 abbrev pub kind_of_tree : Tree → Option Kind

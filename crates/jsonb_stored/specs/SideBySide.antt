@@ -1,18 +1,17 @@
 -- Two keys that are walked side by side.
--- Read for: private.
 use Rattle.std.specs.Prelude.{◌≡◌, ◌<◌, ℕ, length, IfOk, Bool, true, false, List, ◌++◌, ◌&&◌, None, Result, Ok, Err, IsTrue}
 use Rattle.std.specs.Str.{bytes_eq}
 use Rattle.jsonb_key.specs.Readable.{IsAnyNumber, IsReadableAt}
 use Rattle.jsonb_stored.specs.declared.containment.Walk.{Walk}
 use Rattle.jsonb_stored.specs.declared.find.NoKey.{NoKey}
-use Rattle.jsonb_stored.specs.Containment.{holds, holds_members}
+use Rattle.jsonb_spec.specs.Containment.{holds, holds_members}
 use Rattle.jsonb_stored.specs.Open.{Open, is_object, open_key, IsOpen}
-use Rattle.jsonb_value.specs.Accessors.{find_member}
-use Rattle.jsonb_value.specs.Keys.{IsBelowKeys, KeysAscend}
-use Rattle.jsonb_value.specs.Proper.{AreProper, HaveProperParts}
-use Rattle.jsonb_value.specs.SortKey.{key_of, members_key}
-use Rattle.jsonb_value.specs.Text.Range.{AreWithin, HaveWithin}
-use Rattle.jsonb_value.specs.Tree.{Tree, Trees, Members, more_members}
+use Rattle.jsonb_spec.specs.Accessors.{find_member}
+use Rattle.jsonb_spec.specs.Keys.{IsBelowKeys, KeysAscend}
+use Rattle.jsonb_spec.specs.Proper.{AreProper, HaveProperParts}
+use Rattle.jsonb_spec.specs.SortKey.{key_of, members_key}
+use Rattle.jsonb_spec.specs.Text.Range.{AreWithin, HaveWithin}
+use Rattle.jsonb_spec.specs.Tree.{Tree, Trees, Members, more_members}
 
 -- the items of a value that is readable, with as many levels left
 pub record AreReadableAt (depth : ℕ) (ts : Trees) : Type 0 where

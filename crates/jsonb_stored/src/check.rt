@@ -3,7 +3,7 @@
 ghost use Rattle.std.specs.Prelude.{◌≡◌, ◌<◌, ◌≤◌, ◌++◌, ◌↔◌, List, ℕ, length, option_map, get_or, Some, true, IsTrue, IfOk, IfErr, IfSome, Option};
 ghost use Rattle.jsonb_stored.specs.Checked.{IsSortKey};
 ghost use Rattle.jsonb_stored.specs.Frames.{KeyFirst, ScalarFirst, NumberFirst, TextFirst, PartsFirst, Frame, in_object, is_object_frame, new_frame, IsAbove, NameFirst, named, IsFrame};
-ghost use Rattle.jsonb_value.specs.SortKey.{text_key};
+ghost use Rattle.jsonb_spec.specs.SortKey.{text_key};
 
 use crate::ascii::utf8_run;
 use crate::digits::short_number;

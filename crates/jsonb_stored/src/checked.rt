@@ -20,14 +20,14 @@ pub struct Key<'k> {
 impl<'k> Key<'k> {
     ghost use Rattle.std.specs.Prelude.{◌≡◌, List, ℕ, map, string_bytes, MatchOption, option_map, Some};
     ghost use Rattle.jsonb_key.specs.Readable.{IsReadable};
-    ghost use Rattle.jsonb_write.specs.PartAt.{IsChild, IsAt};
+    ghost use Rattle.jsonb_spec.specs.PartAt.{IsChild, IsAt};
     ghost use Rattle.jsonb_stored.specs.Checked.{IsSortKey};
-    ghost use Rattle.jsonb_stored.specs.Containment.{contains};
+    ghost use Rattle.jsonb_spec.specs.Containment.{contains};
     ghost use Rattle.jsonb_stored.specs.KeyView.{key_bytes, item_bytes, member_bytes};
     ghost use Rattle.jsonb_stored.specs.Parts.{kind_of_tree, IsKeyOfChild, IsKeyAt};
-    ghost use Rattle.jsonb_value.specs.Accessors.{as_array, as_object};
-    ghost use Rattle.jsonb_value.specs.SortKey.{key_of, items_key, members_key};
-    ghost use Rattle.jsonb_value.specs.Tree.{Tree};
+    ghost use Rattle.jsonb_spec.specs.Accessors.{as_array, as_object};
+    ghost use Rattle.jsonb_spec.specs.SortKey.{key_of, items_key, members_key};
+    ghost use Rattle.jsonb_spec.specs.Tree.{Tree};
 
     /// The bytes as a key, if they are one.
     pub fn new(bytes: &'k [u8]) -> Option<Key<'k>>
@@ -131,9 +131,9 @@ impl<'k> Items<'k> {
     ghost use Rattle.std.specs.Prelude.{◌≡◌, ◌<◌, ◌≤◌, ◌+◌, length, MatchOption};
     ghost use Rattle.jsonb_stored.specs.Checked.{AreReadable, IsNoItem, IsFirstItem};
     ghost use Rattle.jsonb_stored.specs.KeyView.{key_bytes, item_bytes};
-    ghost use Rattle.jsonb_value.specs.Accessors.{trees_len};
-    ghost use Rattle.jsonb_value.specs.SortKey.{items_key};
-    ghost use Rattle.jsonb_value.specs.Tree.{Trees};
+    ghost use Rattle.jsonb_spec.specs.Accessors.{trees_len};
+    ghost use Rattle.jsonb_spec.specs.SortKey.{items_key};
+    ghost use Rattle.jsonb_spec.specs.Tree.{Trees};
 
     /// The first item, and the others.
     pub fn split_first(&self) -> Option<(Key<'k>, Items<'k>)>
@@ -170,8 +170,8 @@ impl<'k> Members<'k> {
     ghost use Rattle.jsonb_stored.specs.Checked.{HaveReadable, IsNoMember, IsFirstMember};
     ghost use Rattle.jsonb_stored.specs.Found.{members_len};
     ghost use Rattle.jsonb_stored.specs.KeyView.{key_bytes, member_bytes};
-    ghost use Rattle.jsonb_value.specs.SortKey.{members_key};
-    ghost use Rattle.jsonb_value.specs.Tree.{Members as TreeMembers};
+    ghost use Rattle.jsonb_spec.specs.SortKey.{members_key};
+    ghost use Rattle.jsonb_spec.specs.Tree.{Members as TreeMembers};
 
     /// The first name as it stands in the key, the key of its value, and the other members.
     pub fn split_first(&self) -> Option<(&'k [u8], Key<'k>, Members<'k>)>

@@ -3,13 +3,13 @@
 ghost use Rattle.std.specs.Prelude.{Bool, ◌≡◌, ◌<◌, ◌≤◌, ◌++◌, List, ℕ, suc, length, true, false, IsTrue, IfOk, IfSome, Ok, Some, option_map};
 ghost use Rattle.std.specs.declared.cmp.Ordering.TheVariants.{Equal};
 ghost use Rattle.jsonb_key.specs.Readable.{IsReadable, IsReadableAt};
-ghost use Rattle.jsonb_stored.specs.Containment.{contains, holds, holds_items, holds_members, any_item};
+ghost use Rattle.jsonb_spec.specs.Containment.{contains, holds, holds_items, holds_members, any_item};
 ghost use Rattle.jsonb_stored.specs.Open.{Open, is_object, open_key, IsOpen, IsScalar};
 ghost use Rattle.jsonb_stored.specs.Parts.{opened_tree};
 ghost use Rattle.jsonb_stored.specs.SideBySide.{AreReadableAt, HaveReadableAt, EndsWith, IsLeft, FindsMember, IsPassed, SameKeys, Stands, StandsInside, EndsInside, Told};
-ghost use Rattle.jsonb_value.specs.Order.{bytes_cmp};
-ghost use Rattle.jsonb_value.specs.SortKey.{key_of, items_key, members_key, text_key};
-ghost use Rattle.jsonb_value.specs.Tree.{Tree, Trees, Members};
+ghost use Rattle.jsonb_spec.specs.Order.{bytes_cmp};
+ghost use Rattle.jsonb_spec.specs.SortKey.{key_of, items_key, members_key, text_key};
+ghost use Rattle.jsonb_spec.specs.Tree.{Tree, Trees, Members};
 
 use crate::find::NoKey;
 use crate::part::is_over;

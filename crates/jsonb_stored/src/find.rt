@@ -4,16 +4,16 @@ ghost use Rattle.std.specs.Prelude.{◌≡◌, ◌<◌, ◌≤◌, ◌+◌, ◌+
 ghost use Rattle.std.specs.Str.{bytes_eq};
 ghost use Rattle.std.specs.declared.cmp.Ordering.TheVariants.{Equal};
 ghost use Rattle.jsonb_key.specs.Readable.{IsReadable, IsAnyNumber};
-ghost use Rattle.jsonb_write.specs.PartAt.{child_at, part_at};
+ghost use Rattle.jsonb_spec.specs.PartAt.{child_at, part_at};
 ghost use Rattle.jsonb_stored.specs.Found.{count_of, item_back, item_from, open_len, Finds, IsNext, IsRange, Opens, PartStands};
 ghost use Rattle.jsonb_stored.specs.Open.{Open, is_object, open_key, IsOpen, opening_byte};
-ghost use Rattle.jsonb_value.specs.Accessors.{find_member, get_by_name, item_at};
-ghost use Rattle.jsonb_value.specs.Keys.{KeysAscend};
-ghost use Rattle.jsonb_value.specs.Order.{bytes_cmp};
-ghost use Rattle.jsonb_value.specs.Proper.{AreProper, HaveProperParts};
-ghost use Rattle.jsonb_value.specs.SortKey.{key_of, items_key, members_key, text_key};
-ghost use Rattle.jsonb_value.specs.Text.Range.{AreWithin, HaveWithin};
-ghost use Rattle.jsonb_value.specs.Tree.{Tree, Trees, Members};
+ghost use Rattle.jsonb_spec.specs.Accessors.{find_member, get_by_name, item_at};
+ghost use Rattle.jsonb_spec.specs.Keys.{KeysAscend};
+ghost use Rattle.jsonb_spec.specs.Order.{bytes_cmp};
+ghost use Rattle.jsonb_spec.specs.Proper.{AreProper, HaveProperParts};
+ghost use Rattle.jsonb_spec.specs.SortKey.{key_of, items_key, members_key, text_key};
+ghost use Rattle.jsonb_spec.specs.Text.Range.{AreWithin, HaveWithin};
+ghost use Rattle.jsonb_spec.specs.Tree.{Tree, Trees, Members};
 
 use crate::part::is_over;
 use crate::skip::{after_key, after_name, after_text, opening};

@@ -3,14 +3,14 @@
 ghost use Rattle.std.specs.Prelude.{◌≡◌, ◌<◌, ◌≤◌, ◌^◌, ◌++◌, ◌∷◌, List, ℕ, length, map, string_bytes, IfOk, IfErr, IfSome, IfNone, IsTrue, IsFalse, MatchOption, Some, None, true, false};
 ghost use Rattle.std.specs.Str.{bytes_eq};
 ghost use Rattle.jsonb_key.specs.Readable.{IsReadable, IsAnyNumber};
-ghost use Rattle.jsonb_write.specs.PartAt.{IsIndex, IsChild, IsAt};
+ghost use Rattle.jsonb_spec.specs.PartAt.{IsIndex, IsChild, IsAt};
 ghost use Rattle.jsonb_pointer.specs.Path.{IsPartAt, HasNoPartAt, IsGetRefusal};
 ghost use Rattle.jsonb_stored.specs.Open.{Open, is_object, open_key, IsOpen, end_key};
 ghost use Rattle.jsonb_stored.specs.Parts.{opened_tree, ChildAt, StandsAt, IsKeyAt, IsKeyOfPart};
-ghost use Rattle.jsonb_value.specs.Proper.{AreProper, HaveProperParts};
-ghost use Rattle.jsonb_value.specs.SortKey.{key_of, items_key, members_key, text_key};
-ghost use Rattle.jsonb_value.specs.Text.Range.{AreWithin, HaveWithin};
-ghost use Rattle.jsonb_value.specs.Tree.{Tree, array, object, Trees, Members};
+ghost use Rattle.jsonb_spec.specs.Proper.{AreProper, HaveProperParts};
+ghost use Rattle.jsonb_spec.specs.SortKey.{key_of, items_key, members_key, text_key};
+ghost use Rattle.jsonb_spec.specs.Text.Range.{AreWithin, HaveWithin};
+ghost use Rattle.jsonb_spec.specs.Tree.{Tree, array, object, Trees, Members};
 
 use crate::skip::{after_end, after_key, after_text, opening};
 use crate::walk::front;

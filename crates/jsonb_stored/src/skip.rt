@@ -3,10 +3,10 @@
 ghost use Rattle.std.specs.Prelude.{◌≡◌, ◌<◌, ◌≤◌, ◌^◌, ◌++◌, ◌∷◌, ◌≢◌, ◌⊎◌, List, ℕ, length, map, nat_lt, IfSome, option_map, Some, IsTrue, IsFalse, MatchOption, get_or, false};
 ghost use Rattle.jsonb_key.specs.Readable.{IsReadable, IsReadableAt};
 ghost use Rattle.jsonb_stored.specs.Open.{Open, is_object, open_key, IsOpen, end_key, name_key, opening_byte, IsScalar};
-ghost use Rattle.jsonb_value.specs.Proper.{IsProperNumber};
-ghost use Rattle.jsonb_value.specs.SortKey.{key_of, number_key, digits_key, text_key, turned};
-ghost use Rattle.jsonb_value.specs.SortKey.Kind as kind;
-ghost use Rattle.jsonb_value.specs.Tree.{Tree, Num};
+ghost use Rattle.jsonb_spec.specs.Proper.{IsProperNumber};
+ghost use Rattle.jsonb_spec.specs.SortKey.{key_of, number_key, digits_key, text_key, turned};
+ghost use Rattle.jsonb_spec.specs.SortKey.Kind as kind;
+ghost use Rattle.jsonb_spec.specs.Tree.{Tree, Num};
 
 use crate::ascii::first_zero;
 use jsonb_key::number::{read_place, turned};

@@ -1,8 +1,8 @@
 //! Texts of strings and names, from their keys.
 
 ghost use Rattle.std.specs.Prelude.{◌≡◌, ◌≤◌, ◌++◌, ◌∷◌, List, ℕ, length, drop, IfSome, option_map, Some};
-ghost use Rattle.jsonb_value.specs.SortKey.{text_key};
-ghost use Rattle.jsonb_value.specs.SortKey.Kind as kind;
+ghost use Rattle.jsonb_spec.specs.SortKey.{text_key};
+ghost use Rattle.jsonb_spec.specs.SortKey.Kind as kind;
 
 use jsonb_key::text::{read_byte, skip_pair};
 use jsonb_value::sort_key::kind;

@@ -3,9 +3,9 @@
 ghost use Rattle.std.specs.Prelude.{◌≡◌, ◌<◌, ◌++◌, ◌∷◌, ◌⊎◌, List, ℕ, length, IfSome, MatchOption, option_map, Some, None};
 ghost use Rattle.jsonb_key.specs.Readable.{IsReadable};
 ghost use Rattle.jsonb_stored.specs.Parts.{IsFirstByte, kind_of_tree};
-ghost use Rattle.jsonb_value.specs.SortKey.{key_of, items_key, members_key, text_key};
-ghost use Rattle.jsonb_value.specs.SortKey.Kind as kind;
-ghost use Rattle.jsonb_value.specs.Tree.{Tree, array, object, Trees, no_trees, more_trees, Members, no_members, more_members};
+ghost use Rattle.jsonb_spec.specs.SortKey.{key_of, items_key, members_key, text_key};
+ghost use Rattle.jsonb_spec.specs.SortKey.Kind as kind;
+ghost use Rattle.jsonb_spec.specs.Tree.{Tree, array, object, Trees, no_trees, more_trees, Members, no_members, more_members};
 
 use crate::skip::{after_end, after_key, after_text};
 use jsonb_value::sort_key::kind;

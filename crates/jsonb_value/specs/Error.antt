@@ -1,4 +1,4 @@
 -- Errors and their texts.
--- Read for: what its files are.
+pub mod CodeView
 pub mod ErrorText
 pub mod ErrorView

@@ -1,11 +1,10 @@
 -- The tree of a `Value`, a `Number` or an `ExtensionValue`.
--- Read for: promises, but `pairs_view`.
 use Rattle.std.specs.Prelude.{ℕ, List, [], ◌∷◌, map, String, string_bytes, pos}
 use Rattle.std.specs.Cow.{cow_str_bytes}
 use Rattle.std.specs.declared.alloc.Global.{Global}
 use Rattle.std.specs.declared.borrow.CowStr.{CowStr}
 use Rattle.std.specs.declared.borrow.CowStr.TheVariants.{Borrowed, Owned}
-use Rattle.jsonb_value.specs.Tree.{int64, uint64, decimal64, decimal128, Num, Mark, plain, escaped, Tree, null, boolean, number, string, array, object, binary, date, timestamp, timestamp_tz, interval, Trees, trees_of, Members, no_members, more_members}
+use Rattle.jsonb_spec.specs.Tree.{int64, uint64, decimal64, decimal128, Num, Mark, plain, escaped, Tree, null, boolean, number, string, array, object, binary, date, timestamp, timestamp_tz, interval, Trees, trees_of, Members, no_members, more_members}
 use Rattle.jsonb_value.specs.declared.extension.ExtensionValue.{ExtensionValue}
 use Rattle.jsonb_value.specs.declared.extension.ExtensionValue.TheVariants as extension
 use Rattle.jsonb_value.specs.declared.number.Number.{Number}

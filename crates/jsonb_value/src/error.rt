@@ -1,7 +1,7 @@
 //! Why a call failed.
 
 ghost use Rattle.std.specs.Prelude.{◌≡◌, ◌↔◌, IsTrue};
-ghost use Rattle.jsonb_value.specs.Code.{code_of};
+ghost use Rattle.jsonb_value.specs.Error.CodeView.{code_of};
 ghost use Rattle.jsonb_value.specs.Error.ErrorView.{error_view};
 
 mod clone;
@@ -117,7 +117,7 @@ impl From<Utf8Error> for Error {
 
 impl fmt::Display for ParseErrorCode {
     ghost use Rattle.std.specs.Prelude.{Some};
-    ghost use Rattle.jsonb_value.specs.Code.{code_of};
+    ghost use Rattle.jsonb_value.specs.Error.CodeView.{code_of};
     ghost use Rattle.jsonb_value.specs.Error.ErrorText.{code_text};
 
     ghost output = { λ code. Some (code_text (code_of code)) };

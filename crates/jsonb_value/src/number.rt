@@ -37,7 +37,7 @@ pub enum Number {
 impl Number {
     ghost use Rattle.std.specs.Prelude.{◌≡◌, ◌<◌, ◌≤◌, ◌^◌, false, unsigned_abs};
     ghost use Rattle.std.specs.Int.{is_negative};
-    ghost use Rattle.jsonb_value.specs.Proper.{FitsWhole};
+    ghost use Rattle.jsonb_spec.specs.Proper.{FitsWhole};
     ghost use Rattle.jsonb_value.specs.View.{number_view};
 
     pub(crate) fn scale(&self) -> u8

@@ -3,11 +3,11 @@
 //! A call appends to a buffer, and its only error is that the buffer couldn't grow. A part of what was to be appended
 //! may be there then.
 ghost use Rattle.std.specs.Str.{IsUtf8};
-ghost use Rattle.jsonb_value.specs.Proper.{IsProperNumber};
-ghost use Rattle.jsonb_value.specs.SortKey.{number_key, text_key};
-ghost use Rattle.jsonb_value.specs.Text.Appending.{Appends, AppendsAllOrNothing};
-ghost use Rattle.jsonb_value.specs.Text.NumberText.{number_text};
-ghost use Rattle.jsonb_value.specs.Text.StringText.{quoted_text};
+ghost use Rattle.jsonb_spec.specs.Proper.{IsProperNumber};
+ghost use Rattle.jsonb_spec.specs.SortKey.{number_key, text_key};
+ghost use Rattle.jsonb_spec.specs.Text.Appending.{Appends, AppendsAllOrNothing};
+ghost use Rattle.jsonb_spec.specs.Text.NumberText.{number_text};
+ghost use Rattle.jsonb_spec.specs.Text.StringText.{quoted_text};
 ghost use Rattle.jsonb_value.specs.View.{number_view};
 
 use crate::number::Number;

@@ -57,7 +57,7 @@ impl Drop for Value<'_> {
 
 impl Default for Value<'_> {
     ghost use Rattle.std.specs.Prelude.{◌≡◌};
-    ghost use Rattle.jsonb_value.specs.Tree.{null};
+    ghost use Rattle.jsonb_spec.specs.Tree.{null};
     ghost use Rattle.jsonb_value.specs.View.{view};
 
     ghost is_default = { λ v. view v ≡ null };

@@ -1,9 +1,9 @@
 -- The room for a text that is only checked: its events, and the end of an object.
 use Rattle.std.proofs.Common.{◌≡◌, ℕ, Bool, true, false, List, [], ◌∷◌, ◌++◌, map, length, take, drop, Option, Some, None, refl, sym, ap, subst, ◌∙◌, append_assoc, append-nil}
 use Rattle.std.specs.Str.{IsUtf8}
-use Rattle.jsonb_value.specs.Tree.{Mark}
+use Rattle.jsonb_spec.specs.Tree.{Mark}
 use Rattle.jsonb_scan.specs.Open.{Open, members_so_far}
-use Rattle.jsonb_scan.specs.Source.{Found, Spot, first_repeat, found, spot_of}
+use Rattle.jsonb_spec.specs.Source.{Found, Spot, first_repeat, found, spot_of}
 use Rattle.jsonb_write.specs.CheckRoom.{Begins, CheckStands, EndsObject, HeldFits, TellsRepeatOf, all_members, all_unwritten, spot_among, unwritten}
 use Rattle.jsonb_write.specs.KeyRoom.{Held}
 use Rattle.jsonb_write.specs.KeyRoom.Held.{members}

@@ -4,9 +4,9 @@ use Rattle.std.proofs.lemmas.List.{append_assoc, append-nil, take-append-drop, d
 use Rattle.std.proofs.lemmas.List.Concat.{flat_map-append}
 use Rattle.std.proofs.Math.Seq.{take-add, drop-append_seam}
 use Rattle.std.specs.List.{flat_map}
-use Rattle.jsonb_value.specs.Mode.{Mode, standard, extended}
-use Rattle.jsonb_value.specs.Grammar.StringBody.{escaped_byte}
-use Rattle.jsonb_value.specs.Text.StringText.{byte_text}
+use Rattle.jsonb_spec.specs.Mode.{Mode, standard, extended}
+use Rattle.jsonb_spec.specs.Grammar.StringBody.{escaped_byte}
+use Rattle.jsonb_spec.specs.Text.StringText.{byte_text}
 use Rattle.jsonb_scan.specs.Decoding.{DecodesUpTo, IsDecodedUpTo, SeesNoBackslash}
 use Rattle.jsonb_scan.specs.QuotedString.{decoded_text}
 use Rattle.jsonb_scan.proofs.Strings.Checks.{decoded_text-is}

@@ -4,7 +4,7 @@ use Rattle.std.specs.Prelude.{All}
 use Rattle.std.proofs.lemmas.Bool.{cases_lt}
 use Rattle.std.proofs.lemmas.List.{drop-append-le, take-append-le}
 use Rattle.std.specs.Str.{IsUtf8}
-use Rattle.jsonb_scan.specs.Source.{Spot}
+use Rattle.jsonb_spec.specs.Source.{Spot}
 use Rattle.jsonb_write.specs.MemberStarts.{AreKept, MemberStart, IsKept}
 use Rattle.jsonb_write.specs.Members.{AreKeyed, IsKeyed, key_in, prefix_of, spot_at, spot_in}
 use Rattle.jsonb_write.specs.declared.members.Member.{Member}

@@ -1,10 +1,10 @@
 -- The text of an object whose members are in the order of their keys.
 use Rattle.std.proofs.Common.{◌≡◌, ℕ, true, List, [], ◌∷◌, ◌++◌, map, None, refl, sym, ap, ap₂, ◌∙◌, append_assoc}
-use Rattle.jsonb_value.specs.Text.{member_texts, tree_text, with_commas}
-use Rattle.jsonb_value.specs.Text.StringText.{quoted_text}
-use Rattle.jsonb_value.specs.Tree.{object}
+use Rattle.jsonb_spec.specs.Text.{member_texts, tree_text, with_commas}
+use Rattle.jsonb_spec.specs.Text.StringText.{quoted_text}
+use Rattle.jsonb_spec.specs.Tree.{object}
 use Rattle.jsonb_scan.specs.Open.{Open}
-use Rattle.jsonb_scan.specs.Source.{Found, first_repeat, object_source, object_source_of, sort_by, source_members_of, spot_of}
+use Rattle.jsonb_spec.specs.Source.{Found, first_repeat, object_source, object_source_of, sort_by, source_members_of, spot_of}
 use Rattle.jsonb_write.specs.Members.{Piece, SpotsAscend, joined}
 use Rattle.jsonb_write.specs.OpenText.{member_text, open_text, source_text}
 use Rattle.jsonb_write.proofs.Objects.Closing as closing

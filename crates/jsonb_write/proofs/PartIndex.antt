@@ -6,7 +6,7 @@ use Rattle.std.specs.Char.{digit_value, is_digit}
 use Rattle.std.specs.Prelude.{not, slice_index}
 use Rattle.std.specs.Result.{result_ok}
 use Rattle.std.specs.Str.Parse.{AllDigits, IsNumeral, ParsesUnsigned, digits_value, without_leading_plus}
-use Rattle.jsonb_write.specs.PartAt.{IsIndex, all_digits, index_named, leads_well}
+use Rattle.jsonb_spec.specs.PartAt.{IsIndex, all_digits, index_named, leads_well}
 
 pub and_left : (a b : Bool) → (a && b) ≡ true → a ≡ true
 and_left true b e = refl

@@ -8,15 +8,15 @@ use Rattle.std.specs.Option.{option_and_then, option_map_or, option_or}
 use Rattle.std.specs.Prelude.{if◌then◌else◌, String}
 use Rattle.std.specs.Str.{bytes_eq}
 use Rattle.std.specs.declared.alloc.Global.{Global}
-use Rattle.jsonb_value.specs.Accessors.{find_member, item_at}
-use Rattle.jsonb_value.specs.Grammar.{AreDistinct, IsNew}
-use Rattle.jsonb_value.specs.Tree.{Mark, Tree}
+use Rattle.jsonb_spec.specs.Accessors.{find_member, item_at}
+use Rattle.jsonb_spec.specs.Grammar.{AreDistinct, IsNew}
+use Rattle.jsonb_spec.specs.Tree.{Mark, Tree}
 use Rattle.jsonb_value.proofs.Trees.MembersInOrder.{distinct_keys}
-use Rattle.jsonb_value.specs.Order.ByContent.{pairs_of}
+use Rattle.jsonb_spec.specs.Order.ByContent.{pairs_of}
 use Rattle.jsonb_scan.specs.Open.{Open, add_part, elements_so_far, members_so_far}
-use Rattle.jsonb_scan.specs.Source.{Found, Source, array_source_of, first_repeat, insert_by, object_source_of, sort_by, sources_of, spot_cmp, spot_of, tree_of_source, trees_of_sources}
+use Rattle.jsonb_spec.specs.Source.{Found, Source, array_source_of, first_repeat, insert_by, object_source_of, sort_by, sources_of, spot_cmp, spot_of, tree_of_source, trees_of_sources}
 use Rattle.jsonb_write.specs.Members.{SpotsAscend}
-use Rattle.jsonb_write.specs.PartAt.{index_named, part_at}
+use Rattle.jsonb_spec.specs.PartAt.{index_named, part_at}
 use Rattle.jsonb_write.specs.PartRoom.{first_key, follow, in_items, in_members, left, other_keys, part_inside, picked, picked_inside, picked_with, within}
 use Rattle.jsonb_write.proofs.Objects.Closing.{listed, listed_ascend, put_listed, sort_ascends}
 use Rattle.jsonb_write.proofs.Objects.Shuffles.{IsShuffle, distinct-shuffle, shuffle-map, same, keep, exchange, follow as in_turn}

@@ -5,13 +5,13 @@ use Rattle.std.proofs.lemmas.Bool.{cond-false, cond-true}
 use Rattle.std.specs.Option.{is_none, option_and_then, option_map, option_or, option_map_or}
 use Rattle.std.specs.Prelude.{if◌then◌else◌}
 use Rattle.std.specs.declared.alloc.Global.{Global}
-use Rattle.jsonb_value.specs.Text.{tree_text}
-use Rattle.jsonb_value.specs.Tree.{Mark, Tree}
-use Rattle.jsonb_value.specs.Tree.Mark.{plain}
+use Rattle.jsonb_spec.specs.Text.{tree_text}
+use Rattle.jsonb_spec.specs.Tree.{Mark, Tree}
+use Rattle.jsonb_spec.specs.Tree.Mark.{plain}
 use Rattle.jsonb_scan.specs.Open.{Open, elements_so_far, members_so_far}
-use Rattle.jsonb_scan.specs.Source.{Found, Source, array_source_of, first_repeat, found, object_source_of, spot_of, tree_of_source}
+use Rattle.jsonb_spec.specs.Source.{Found, Source, array_source_of, first_repeat, found, object_source_of, spot_of, tree_of_source}
 use Rattle.jsonb_write.specs.OpenText.{open_text, source_text}
-use Rattle.jsonb_write.specs.PartAt.{index_named, part_at}
+use Rattle.jsonb_spec.specs.PartAt.{index_named, part_at}
 use Rattle.jsonb_write.specs.PartRoom.{HeldFits, IsAhead, Leads, PartEnds, PartFilled, PartHeld, PartStands, first_index, follow, follow_key, array_held, keys_of, left, object_held, other_keys, part_inside, part_of, picked, less, rest_at, text_held, waits_at, within}
 use Rattle.jsonb_write.specs.TextRoom.{Held, SeesPart, TextFilled, TextStands, Writes, base_of}
 use Rattle.jsonb_write.specs.Written.{bytes_of}

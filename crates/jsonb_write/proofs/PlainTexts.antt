@@ -4,7 +4,7 @@ use Rattle.std.proofs.Math.Seq.{take-add, take-append_seam}
 use Rattle.std.proofs.lemmas.Bool.{leb-true}
 use Rattle.std.proofs.lemmas.List.Concat.{flat_map-append}
 use Rattle.std.specs.List.{flat_map}
-use Rattle.jsonb_value.specs.Text.StringText.{byte_text}
+use Rattle.jsonb_spec.specs.Text.StringText.{byte_text}
 use Rattle.jsonb_write.specs.PlainText.{ArePlain}
 
 chosen_some : (t : Bool) (xs ys : List ℕ) → 0 < length xs → 0 < length ys → 0 < length (cond t xs ys)

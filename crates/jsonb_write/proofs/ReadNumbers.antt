@@ -1,8 +1,8 @@
 -- A number that is read of a standard text stands there as an integer text.
 use Rattle.std.proofs.Common.{◌≡◌, ℕ, ◌-◌, ◌≤◌, List, length, take, drop, slice_range, Ok, sym, ap, ap₂, subst, ◌∙◌, arith, length-append, length-drop}
 use Rattle.std.proofs.Math.Seq.{take-append_seam}
-use Rattle.jsonb_value.specs.Grammar.StandardNumber.{IsStandardNumber}
-use Rattle.jsonb_value.specs.Tree.{Num}
+use Rattle.jsonb_spec.specs.Grammar.StandardNumber.{IsStandardNumber}
+use Rattle.jsonb_spec.specs.Tree.{Num}
 use Rattle.jsonb_scan.specs.Reading.Number.{standard_number_at}
 use Rattle.jsonb_scan.proofs.Numbers.Standard.{number_sound}
 

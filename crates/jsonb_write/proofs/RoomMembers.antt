@@ -4,10 +4,10 @@ use Rattle.std.proofs.Math.Seq.{take-append_seam}
 use Rattle.std.proofs.lemmas.List.{length-take-le, take-append-drop}
 use Rattle.std.specs.List.{flat_map}
 use Rattle.std.specs.Str.{IsUtf8}
-use Rattle.jsonb_value.specs.Text.{in_quotes, with_commas}
-use Rattle.jsonb_value.specs.Tree.{Mark}
+use Rattle.jsonb_spec.specs.Text.{in_quotes, with_commas}
+use Rattle.jsonb_spec.specs.Tree.{Mark}
 use Rattle.jsonb_scan.specs.Open.{Open, members_so_far}
-use Rattle.jsonb_scan.specs.Source.{Found, Source, found, spot_of}
+use Rattle.jsonb_spec.specs.Source.{Found, Source, found, spot_of}
 use Rattle.jsonb_write.specs.MemberStarts.{AreKept, MemberStart, IsKept}
 use Rattle.jsonb_write.specs.OpenText.{comma_after, comma_unless, key_text, member_text, open_text, source_text}
 use Rattle.jsonb_write.specs.TextRoom.{Begins, Held, HeldFits, IsRoomWith, TextStands, Writes, base_of, next_start, starts_from, members, all_starts}

@@ -1,7 +1,7 @@
 -- The room after bytes were written.
 use Rattle.std.proofs.Common.{◌≡◌, ℕ, Bool, true, false, List, [], ◌∷◌, ◌++◌, Result, Ok, Err, OnOk, refl, sym, ap, ap₂, subst, ◌∙◌, append_assoc, append-nil, slice_range}
 use Rattle.jsonb_scan.specs.Open.{Open, elements_so_far}
-use Rattle.jsonb_scan.specs.Source.{Source}
+use Rattle.jsonb_spec.specs.Source.{Source}
 use Rattle.jsonb_write.specs.MemberStarts.{AreKept}
 use Rattle.jsonb_write.specs.OpenText.{comma_unless, open_text, source_text}
 use Rattle.jsonb_write.specs.Written.{bytes_of}

@@ -9,11 +9,11 @@ use Rattle.std.proofs.lemmas.List.{take-append-drop}
 use Rattle.std.specs.List.{flat_map}
 use Rattle.std.proofs.lemmas.Fmt.{decimal-digits_value}
 use Rattle.std.proofs.lemmas.Int.{ints}
-use Rattle.jsonb_value.specs.Grammar.StandardNumber.{IsStandardNumber}
-use Rattle.jsonb_value.specs.Tree.{Num, int64, uint64}
-use Rattle.jsonb_value.specs.Text.NumberText.{number_text, text_of_parts, with_point, zero_padded}
-use Rattle.jsonb_value.specs.Text.{in_quotes}
-use Rattle.jsonb_value.specs.Text.StringText.{byte_text, quoted_text}
+use Rattle.jsonb_spec.specs.Grammar.StandardNumber.{IsStandardNumber}
+use Rattle.jsonb_spec.specs.Tree.{Num, int64, uint64}
+use Rattle.jsonb_spec.specs.Text.NumberText.{number_text, text_of_parts, with_point, zero_padded}
+use Rattle.jsonb_spec.specs.Text.{in_quotes}
+use Rattle.jsonb_spec.specs.Text.StringText.{byte_text, quoted_text}
 use Rattle.jsonb_value.specs.View.{number_view}
 use Rattle.jsonb_value.specs.declared.number.Number.{Number}
 use Rattle.jsonb_scan.specs.ShortInteger.{short_view}

@@ -1,9 +1,8 @@
 -- What is kept of a text that is only checked, while arrays and objects are open.
--- Read for: private.
 use Rattle.std.specs.Prelude.{◌≡◌, ℕ, Bool, true, false, List, [], ◌∷◌, ◌++◌, length, map, drop, Some, None}
 use Rattle.std.specs.Str.{IsUtf8}
 use Rattle.jsonb_scan.specs.Open.{Open, elements_so_far, members_so_far}
-use Rattle.jsonb_scan.specs.Source.{Found, Spot, first_repeat, spot_of}
+use Rattle.jsonb_spec.specs.Source.{Found, Spot, first_repeat, spot_of}
 use Rattle.jsonb_write.specs.KeyRoom.{Held}
 use Rattle.jsonb_write.specs.KeyRoom.Held.{items, members}
 use Rattle.jsonb_write.specs.MemberStarts.{AreKept, MemberStart, IsKept}

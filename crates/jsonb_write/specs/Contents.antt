@@ -1,9 +1,8 @@
 -- Contents of strings with escapes that were checked.
--- Read for: private.
 use Rattle.std.specs.Prelude.{◌≡◌, ℕ, ◌+◌, List, [], drop, take, Result, Ok, Err}
-use Rattle.jsonb_value.specs.Code.{code_of}
-use Rattle.jsonb_value.specs.Tree.{Mark}
-use Rattle.jsonb_value.specs.Tree.Mark.{escaped}
+use Rattle.jsonb_value.specs.Error.CodeView.{code_of}
+use Rattle.jsonb_spec.specs.Tree.{Mark}
+use Rattle.jsonb_spec.specs.Tree.Mark.{escaped}
 use Rattle.jsonb_value.specs.declared.error.Error.{Error}
 use Rattle.jsonb_value.specs.declared.error.Error.TheVariants.{Syntax}
 use Rattle.jsonb_scan.specs.Answer.{mode_of}

@@ -1,10 +1,9 @@
 -- What is written of the contents of a string with escapes.
--- Read for: private.
 use Rattle.std.specs.Prelude.{◌≡◌, ◌⊎◌, ℕ, List, ◌++◌}
 use Rattle.std.specs.List.{flat_map}
-use Rattle.jsonb_value.specs.Ascii as ascii
-use Rattle.jsonb_value.specs.Mode.{Mode}
-use Rattle.jsonb_value.specs.Text.StringText.{byte_text}
+use Rattle.jsonb_spec.specs.Ascii as ascii
+use Rattle.jsonb_spec.specs.Mode.{Mode}
+use Rattle.jsonb_spec.specs.Text.StringText.{byte_text}
 use Rattle.jsonb_scan.specs.Decoding.{DecodesUpTo}
 
 -- The bytes are items and then the rest, and new is old with what these items mean, as it is written.

@@ -1,15 +1,14 @@
 -- What stands in the room that a sort key is written to, while arrays and objects are open.
--- Read for: private.
 use Rattle.std.specs.Prelude.{◌≡◌, ℕ, ◌+◌, Bool, true, false, List, [], ◌∷◌, ◌++◌, length, map, drop, take, Some, None}
 use Rattle.std.specs.Cow.{cow_str_bytes}
 use Rattle.std.specs.Str.{IsUtf8}
-use Rattle.jsonb_value.specs.SortKey.{key_of}
-use Rattle.jsonb_value.specs.SortKey.Kind as kind
-use Rattle.jsonb_value.specs.Tree.{plain, null, boolean, string, number}
-use Rattle.jsonb_value.specs.Tree.Mark.{escaped}
+use Rattle.jsonb_spec.specs.SortKey.{key_of}
+use Rattle.jsonb_spec.specs.SortKey.Kind as kind
+use Rattle.jsonb_spec.specs.Tree.{plain, null, boolean, string, number}
+use Rattle.jsonb_spec.specs.Tree.Mark.{escaped}
 use Rattle.jsonb_value.specs.View.{mark_view, number_view}
 use Rattle.jsonb_scan.specs.Open.{Open, elements_so_far, members_so_far}
-use Rattle.jsonb_scan.specs.Source.{Found, Source, Spot, first_repeat, object_source_of, sort_by, spot_of}
+use Rattle.jsonb_spec.specs.Source.{Found, Source, Spot, first_repeat, object_source_of, sort_by, spot_of}
 use Rattle.jsonb_write.specs.Contents.{text_of_contents}
 use Rattle.jsonb_write.specs.MemberStarts.{AreKept, MemberStart, IsKept}
 use Rattle.jsonb_write.specs.Members.{AreKeyed, SpotsAscend, member_key, source_key, spot_at, spot_in}

@@ -6,7 +6,6 @@ pub mod MemberStarts
 pub mod Members
 pub mod OpenKey
 pub mod OpenText
-pub mod PartAt
 pub mod PartRoom
 pub mod PlainText
 pub mod SpelledNumber

@@ -1,8 +1,7 @@
 -- Members that are begun in what is written, and what is kept of each.
--- Read for: private.
 use Rattle.std.specs.Prelude.{◌≡◌, ℕ, ◌≤◌, true, List, [], ◌∷◌, length}
 use Rattle.std.specs.Str.{IsUtf8}
-use Rattle.jsonb_scan.specs.Source.{Spot}
+use Rattle.jsonb_spec.specs.Source.{Spot}
 use Rattle.jsonb_write.specs.Members.{IsKeyed, spot_in}
 use Rattle.jsonb_write.specs.declared.members.Member.{Member}
 

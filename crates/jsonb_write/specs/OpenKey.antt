@@ -1,8 +1,7 @@
 -- The sort key of arrays and objects that are open, as far as it is written.
--- Read for: private.
 use Rattle.std.specs.Prelude.{ℕ, Bool, true, false, List, [], ◌∷◌, ◌++◌, map}
-use Rattle.jsonb_value.specs.SortKey.{text_key}
-use Rattle.jsonb_value.specs.SortKey.Kind as kind
+use Rattle.jsonb_spec.specs.SortKey.{text_key}
+use Rattle.jsonb_spec.specs.SortKey.Kind as kind
 use Rattle.jsonb_scan.specs.Open.{Open, elements_so_far, members_so_far}
 use Rattle.jsonb_write.specs.Members.{joined, member_key, source_key}
 

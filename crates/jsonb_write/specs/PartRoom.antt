@@ -1,14 +1,13 @@
 -- What stands in the room from which the text of a part is copied, while arrays and objects are open.
--- Read for: private.
 use Rattle.std.specs.Prelude.{◌≡◌, ℕ, zero, suc, ◌+◌, ◌<◌, Bool, true, false, ◌==◌, if◌then◌else◌, List, [], ◌∷◌, length, map, drop, string_bytes, Option, Some, None, MatchOption}
 use Rattle.std.specs.Option.{option_and_then, option_map, option_map_or, option_or}
 use Rattle.std.specs.Str.{bytes_eq}
-use Rattle.jsonb_value.specs.Text.{tree_text}
-use Rattle.jsonb_value.specs.Tree.{Tree}
+use Rattle.jsonb_spec.specs.Text.{tree_text}
+use Rattle.jsonb_spec.specs.Tree.{Tree}
 use Rattle.jsonb_scan.specs.Open.{Open, elements_so_far, members_so_far}
-use Rattle.jsonb_scan.specs.Source.{Found, Source, first_repeat, object_source_of, spot_of, tree_of_source}
+use Rattle.jsonb_spec.specs.Source.{Found, Source, first_repeat, object_source_of, spot_of, tree_of_source}
 use Rattle.jsonb_write.specs.OpenText.{open_text}
-use Rattle.jsonb_write.specs.PartAt.{index_named, part_at}
+use Rattle.jsonb_spec.specs.PartAt.{index_named, part_at}
 use Rattle.jsonb_write.specs.TextRoom as text
 use Rattle.jsonb_write.specs.TextRoom.{TextFilled, TextStands, base_of}
 use Rattle.jsonb_write.specs.declared.part.PartItems.{PartItems}

@@ -1,8 +1,7 @@
 -- Text that is written as it is.
--- Read for: private.
 use Rattle.std.specs.Prelude.{◌≡◌, ℕ, List}
 use Rattle.std.specs.List.{flat_map}
-use Rattle.jsonb_value.specs.Text.StringText.{byte_text}
+use Rattle.jsonb_spec.specs.Text.StringText.{byte_text}
 
 -- none of the bytes has an escape
 abbrev pub ArePlain : List ℕ → Type 0

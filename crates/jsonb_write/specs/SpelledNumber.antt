@@ -1,5 +1,4 @@
 -- Numbers that are written by their digits in a text.
--- Read for: private.
 use Rattle.std.specs.Prelude.{◌≢◌, pos}
 use Rattle.jsonb_value.specs.declared.number.Number.{Number}
 use Rattle.jsonb_value.specs.declared.number.Number.TheVariants as form

@@ -1,21 +1,20 @@
 -- What stands in the room that serialized text is written to, while arrays and objects are open.
--- Read for: private.
 use Rattle.std.specs.Prelude.{◌≡◌, ℕ, ◌+◌, ◌<◌, Bool, true, false, List, [], ◌∷◌, ◌++◌, length, map, drop, take, slice_range, codes, Some, None}
 use Rattle.std.specs.Cow.{cow_str_bytes}
 use Rattle.std.specs.Str.{IsUtf8}
 use Rattle.std.specs.declared.alloc.Global.{Global}
 use Rattle.std.specs.declared.borrow.CowStr.{CowStr}
 use Rattle.std.specs.declared.borrow.CowStr.TheVariants.{Borrowed, Owned}
-use Rattle.jsonb_value.specs.Grammar.StandardNumber.{IsStandardNumber}
-use Rattle.jsonb_value.specs.Ascii as ascii
-use Rattle.jsonb_value.specs.Text.{in_quotes, with_commas}
-use Rattle.jsonb_value.specs.Text.NumberText.{number_text}
-use Rattle.jsonb_value.specs.Text.StringText.{quoted_text}
-use Rattle.jsonb_value.specs.Tree.Mark.{escaped}
-use Rattle.jsonb_value.specs.Tree.{plain}
+use Rattle.jsonb_spec.specs.Grammar.StandardNumber.{IsStandardNumber}
+use Rattle.jsonb_spec.specs.Ascii as ascii
+use Rattle.jsonb_spec.specs.Text.{in_quotes, with_commas}
+use Rattle.jsonb_spec.specs.Text.NumberText.{number_text}
+use Rattle.jsonb_spec.specs.Text.StringText.{quoted_text}
+use Rattle.jsonb_spec.specs.Tree.Mark.{escaped}
+use Rattle.jsonb_spec.specs.Tree.{plain}
 use Rattle.jsonb_value.specs.View.{mark_view, number_view}
 use Rattle.jsonb_scan.specs.Open.{Open, elements_so_far, members_so_far}
-use Rattle.jsonb_scan.specs.Source.{Found, Source, Spot, null_source, boolean_source, string_source, number_source, first_repeat, object_source_of, sort_by, spot_of}
+use Rattle.jsonb_spec.specs.Source.{Found, Source, Spot, null_source, boolean_source, string_source, number_source, first_repeat, object_source_of, sort_by, spot_of}
 use Rattle.jsonb_write.specs.Contents.{BeginsAsWritten, text_of_contents}
 use Rattle.jsonb_write.specs.MemberStarts.{AreKept, MemberStart, IsKept}
 use Rattle.jsonb_write.specs.Members.{AreKeyed, SpotsAscend, spot_at, spot_in}

@@ -1,5 +1,4 @@
 -- What is written: a buffer, and behind it a part of the text.
--- Read for: private.
 use Rattle.std.specs.Prelude.{ℕ, List, ◌++◌, slice_range}
 use Rattle.jsonb_write.specs.declared.written.Written.{Written}
 

@@ -21,10 +21,10 @@ pub struct CheckRoom<'a> {
 impl<'a> CheckRoom<'a> {
     ghost use Rattle.jsonb_scan.specs.Open.{Open};
     ghost use Rattle.jsonb_scan.specs.Open.Open.{members_so_far};
-    ghost use Rattle.jsonb_scan.specs.Source.{Found};
-    ghost use Rattle.jsonb_value.specs.Text.{in_quotes};
-    ghost use Rattle.jsonb_value.specs.Tree.{Mark};
-    ghost use Rattle.jsonb_value.specs.Tree.Mark.{plain};
+    ghost use Rattle.jsonb_spec.specs.Source.{Found};
+    ghost use Rattle.jsonb_spec.specs.Text.{in_quotes};
+    ghost use Rattle.jsonb_spec.specs.Tree.{Mark};
+    ghost use Rattle.jsonb_spec.specs.Tree.Mark.{plain};
     ghost use Rattle.jsonb_value.specs.View.{mark_view};
     ghost use Rattle.jsonb_write.specs.CheckRoom.{Begins, CheckFilled, CheckStands, EndsObject, HasMember, TellsRepeatOf, spot_among};
     ghost use Rattle.jsonb_write.specs.KeyRoom.{Held};

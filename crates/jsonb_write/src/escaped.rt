@@ -3,10 +3,10 @@
 ghost use Rattle.std.specs.Prelude.{◌≡◌, List, ℕ, ◌+◌, ◌-◌, ◌≤◌, ◌<◌, ◌++◌, ◌∷◌, [], drop, length, take, IfOk, IfSome, MatchBool, OnOk};
 ghost use Rattle.std.specs.Char.{digit_char};
 ghost use Rattle.std.specs.List.{flat_map};
-ghost use Rattle.jsonb_value.specs.Ascii as ascii;
-ghost use Rattle.jsonb_value.specs.Mode.{Mode as GrammarMode};
-ghost use Rattle.jsonb_value.specs.Text.Appending.{Extends};
-ghost use Rattle.jsonb_value.specs.Text.StringText.{byte_text, control_text};
+ghost use Rattle.jsonb_spec.specs.Ascii as ascii;
+ghost use Rattle.jsonb_spec.specs.Mode.{Mode as GrammarMode};
+ghost use Rattle.jsonb_spec.specs.Text.Appending.{Extends};
+ghost use Rattle.jsonb_spec.specs.Text.StringText.{byte_text, control_text};
 ghost use Rattle.jsonb_scan.specs.Answer.{mode_of};
 ghost use Rattle.jsonb_scan.specs.QuotedString.{decoded_text};
 ghost use Rattle.jsonb_write.specs.Contents.{BeginsAsWritten, text_of_contents};

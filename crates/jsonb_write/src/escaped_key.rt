@@ -1,8 +1,8 @@
 //! The contents of a string with escapes in a sort key. They are decoded where they are written.
 ghost use Rattle.std.specs.Prelude.{◌≡◌, ◌≤◌, ◌++◌, ◌∷◌, [], drop, length, take, OnOk};
-ghost use Rattle.jsonb_value.specs.SortKey.{text_key};
-ghost use Rattle.jsonb_value.specs.SortKey.Kind as kind;
-ghost use Rattle.jsonb_value.specs.Text.Appending.{Extends};
+ghost use Rattle.jsonb_spec.specs.SortKey.{text_key};
+ghost use Rattle.jsonb_spec.specs.SortKey.Kind as kind;
+ghost use Rattle.jsonb_spec.specs.Text.Appending.{Extends};
 ghost use Rattle.jsonb_scan.specs.Answer.{mode_of};
 ghost use Rattle.jsonb_scan.specs.QuotedString.{decoded_text};
 

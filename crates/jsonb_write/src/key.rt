@@ -35,12 +35,12 @@ impl<'a> KeyRoom<'a> {
     ghost use Rattle.jsonb_scan.specs.Open.{Open};
     ghost use Rattle.jsonb_scan.specs.QuotedString.{decoded_text};
     ghost use Rattle.jsonb_scan.specs.Open.Open.{elements_so_far, members_so_far};
-    ghost use Rattle.jsonb_scan.specs.Source.{Found, Source, array_source_of, found, string_source};
-    ghost use Rattle.jsonb_value.specs.SortKey.Kind as kind;
-    ghost use Rattle.jsonb_value.specs.SortKey.{key_of, number_key, text_key};
-    ghost use Rattle.jsonb_value.specs.Text.{in_quotes};
-    ghost use Rattle.jsonb_value.specs.Tree.{Mark};
-    ghost use Rattle.jsonb_value.specs.Tree.Mark.{plain};
+    ghost use Rattle.jsonb_spec.specs.Source.{Found, Source, array_source_of, found, string_source};
+    ghost use Rattle.jsonb_spec.specs.SortKey.Kind as kind;
+    ghost use Rattle.jsonb_spec.specs.SortKey.{key_of, number_key, text_key};
+    ghost use Rattle.jsonb_spec.specs.Text.{in_quotes};
+    ghost use Rattle.jsonb_spec.specs.Tree.{Mark};
+    ghost use Rattle.jsonb_spec.specs.Tree.Mark.{plain};
     ghost use Rattle.jsonb_value.specs.View.{mark_view, number_view};
     ghost use Rattle.jsonb_write.specs.KeyRoom.{Begins, Closes, EndsObject, HasMember, Held, IsSettled, KeepsMembers, KeyFilled, KeyStands, KeysAscendFrom, TellsRepeatOf, Writes, base_of, part_key, spot_among};
     ghost use Rattle.jsonb_write.specs.KeyRoom.Held.{items, members};

@@ -1,7 +1,7 @@
 //! Texts of a sort key at the end of a buffer: their bytes, and their end.
 ghost use Rattle.std.specs.Prelude.{◌≡◌, ◌<◌, ◌≤◌, ◌++◌, ◌∷◌, [], length, drop, take, OnOk};
-ghost use Rattle.jsonb_value.specs.SortKey.Kind as kind;
-ghost use Rattle.jsonb_value.specs.Text.Appending.{Extends};
+ghost use Rattle.jsonb_spec.specs.SortKey.Kind as kind;
+ghost use Rattle.jsonb_spec.specs.Text.Appending.{Extends};
 
 use crate::short::{append_first, append_part};
 use jsonb_value::sort_key::kind;

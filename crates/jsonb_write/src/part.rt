@@ -3,7 +3,7 @@ ghost use Rattle.std.specs.Prelude.{◌≡◌, ◌+◌, ◌-◌, ◌<◌, ◌^�
 ghost use Rattle.std.specs.Cow.{cow_str_bytes};
 ghost use Rattle.std.specs.Option.{is_some, option_and_then, option_map};
 ghost use Rattle.std.specs.Str.{IsUtf8};
-ghost use Rattle.jsonb_write.specs.PartAt.{IsIndex, index_named, leads_well};
+ghost use Rattle.jsonb_spec.specs.PartAt.{IsIndex, index_named, leads_well};
 ghost use Rattle.jsonb_write.specs.PartRoom.{less};
 
 use crate::text::{Part, TextRoom};
@@ -48,10 +48,10 @@ pub struct PartRoom<'a> {
 impl<'a> PartRoom<'a> {
     ghost use Rattle.jsonb_scan.specs.Open.{Open};
     ghost use Rattle.jsonb_scan.specs.Open.Open.{elements_so_far, members_so_far};
-    ghost use Rattle.jsonb_scan.specs.Source.{Found, Source, array_source_of, found};
-    ghost use Rattle.jsonb_value.specs.Text.{in_quotes};
-    ghost use Rattle.jsonb_value.specs.Tree.{Mark};
-    ghost use Rattle.jsonb_value.specs.Tree.Mark.{plain};
+    ghost use Rattle.jsonb_spec.specs.Source.{Found, Source, array_source_of, found};
+    ghost use Rattle.jsonb_spec.specs.Text.{in_quotes};
+    ghost use Rattle.jsonb_spec.specs.Tree.{Mark};
+    ghost use Rattle.jsonb_spec.specs.Tree.Mark.{plain};
     ghost use Rattle.jsonb_value.specs.View.{mark_view};
     ghost use Rattle.jsonb_write.specs.PartRoom.{EndsObject, IsAhead, Leads, PartEnds, PartFilled, PartHeld, PartStands, first_index, first_key, follow_key, keys_of, left, other_keys, part_of, rest_at};
     ghost use Rattle.jsonb_write.specs.PartRoom.PartHeld.{array_held, object_held};

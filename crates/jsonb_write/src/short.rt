@@ -1,6 +1,6 @@
 //! The first bytes of a text at the end of a buffer.
 ghost use Rattle.std.specs.Prelude.{◌≡◌, ◌+◌, ◌≤◌, ◌++◌, length, take, OnOk};
-ghost use Rattle.jsonb_value.specs.Text.Appending.{Extends};
+ghost use Rattle.jsonb_spec.specs.Text.Appending.{Extends};
 
 use std::alloc::AllocError;
 

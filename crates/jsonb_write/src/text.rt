@@ -65,13 +65,13 @@ pub(crate) fn members_from(members: &Vec<Member>, first: usize) -> &[Member]
 impl<'a> TextRoom<'a> {
     ghost use Rattle.jsonb_scan.specs.Open.{Open};
     ghost use Rattle.jsonb_scan.specs.Open.Open.{elements_so_far, members_so_far};
-    ghost use Rattle.jsonb_scan.specs.Source.{Found, Source, array_source_of, found};
-    ghost use Rattle.jsonb_value.specs.Grammar.StandardNumber.{IsStandardNumber};
-    ghost use Rattle.jsonb_value.specs.Text.{in_quotes};
-    ghost use Rattle.jsonb_value.specs.Text.NumberText.{number_text};
-    ghost use Rattle.jsonb_value.specs.Text.StringText.{quoted_text};
-    ghost use Rattle.jsonb_value.specs.Tree.{Mark};
-    ghost use Rattle.jsonb_value.specs.Tree.Mark.{plain};
+    ghost use Rattle.jsonb_spec.specs.Source.{Found, Source, array_source_of, found};
+    ghost use Rattle.jsonb_spec.specs.Grammar.StandardNumber.{IsStandardNumber};
+    ghost use Rattle.jsonb_spec.specs.Text.{in_quotes};
+    ghost use Rattle.jsonb_spec.specs.Text.NumberText.{number_text};
+    ghost use Rattle.jsonb_spec.specs.Text.StringText.{quoted_text};
+    ghost use Rattle.jsonb_spec.specs.Tree.{Mark};
+    ghost use Rattle.jsonb_spec.specs.Tree.Mark.{plain};
     ghost use Rattle.jsonb_value.specs.View.{mark_view, number_view};
     ghost use Rattle.jsonb_write.specs.OpenText.{source_text, comma_unless};
     ghost use Rattle.jsonb_write.specs.PlainText.{ArePlain};

@@ -22,9 +22,9 @@ pub struct Written<'a> {
 }
 
 impl<'a> Written<'a> {
-    ghost use Rattle.jsonb_value.specs.Text.Appending.{Extends};
-    ghost use Rattle.jsonb_value.specs.Text.NumberText.{number_text};
-    ghost use Rattle.jsonb_value.specs.Text.StringText.{quoted_text};
+    ghost use Rattle.jsonb_spec.specs.Text.Appending.{Extends};
+    ghost use Rattle.jsonb_spec.specs.Text.NumberText.{number_text};
+    ghost use Rattle.jsonb_spec.specs.Text.StringText.{quoted_text};
     ghost use Rattle.jsonb_value.specs.View.{number_view};
     ghost use Rattle.jsonb_write.specs.Contents.{BeginsAsWritten, text_of_contents};
     ghost use Rattle.jsonb_write.specs.Members.{AreInOrder, AreKeyed, AreWritten, Piece, TellsRepeat, bytes_of_pieces, spot_in, spots_of_pieces};

@@ -1,7 +1,7 @@
 -- Texts written one after the other.
 use Rattle.std.proofs.Common.{◌≡◌, ℕ, ◌+◌, ◌<◌, List, [], ◌∷◌, ◌++◌, length, take, get_or, Some, sym, subst, ap, ◌∙◌, append_assoc, add-one, take-suc}
-use Rattle.jsonb.specs.View.{view}
-use Rattle.jsonb_value.specs.Text.{text_of, AppendsText}
+use Rattle.jsonb_value.specs.View.{view}
+use Rattle.jsonb_spec.specs.Text.{text_of, AppendsText}
 use Rattle.jsonb_value.specs.declared.value.Value.{Value}
 use Rattle.sorted_index.specs.Index.{AreTexts, no_texts, more_texts}
 

@@ -1,11 +1,11 @@
 -- Documents parsed one after the other.
 use Rattle.std.proofs.Common.{◌≡◌, ◌≢◌, ℕ, zero, suc, ◌+◌, ◌<◌, List, [], ◌∷◌, ◌++◌, length, take, drop, get_or, Vec, Global, Result, Ok, Err, IfErr, OnErr, refl, sym, subst, ap, ◌∙◌, add-one, drop-cons, take-suc, take-append-drop, length-take-le, arith}
 use Rattle.std.proofs.lemmas.List.{map-append, length-map}
-use Rattle.jsonb.specs.Grammar.{IsDocument, IsNoDocument}
-use Rattle.jsonb.specs.Mode.{extended}
-use Rattle.jsonb.specs.Parser.{Fails, MayAllocate}
-use Rattle.jsonb.specs.Reading.Document.{document_of}
-use Rattle.jsonb.specs.View.{view}
+use Rattle.jsonb_spec.specs.Grammar.{IsDocument, IsNoDocument}
+use Rattle.jsonb_spec.specs.Mode.{extended}
+use Rattle.jsonb_scan.specs.Answer.{Fails, MayAllocate}
+use Rattle.jsonb_scan.specs.Reading.Document.{document_of}
+use Rattle.jsonb_value.specs.View.{view}
 use Rattle.jsonb_value.specs.declared.error.Error.{Error}
 use Rattle.jsonb_value.specs.declared.error.Error.TheVariants.{OutOfMemory}
 use Rattle.jsonb_value.specs.declared.value.Value.{Value}

@@ -5,8 +5,8 @@ use Rattle.std.proofs.lemmas.List.Sorted.{Contains-permutation, IsPermutation-sy
 use Rattle.std.specs.Cmp.{on_total, on_equiv, eq_by_cmp_equiv}
 use Rattle.std.specs.List.{dedup}
 use Rattle.std.specs.Ordering.{on, eq_by_cmp}
-use Rattle.jsonb.specs.View.{view}
-use Rattle.jsonb_value.specs.Order.{tree_cmp}
+use Rattle.jsonb_value.specs.View.{view}
+use Rattle.jsonb_spec.specs.Order.{tree_cmp}
 use Rattle.jsonb_value.specs.Order.Laws.{tree_cmp_total}
 use Rattle.jsonb_value.specs.declared.value.Value.{Value}
 use Rattle.sorted_index.specs.Index.{IsIndexOf, value_cmp}

@@ -1,5 +1,4 @@
 -- Which values are the index of others, its text, and which line is rejected.
--- Read for: promises.
 use Rattle.std.specs.Prelude.{◌≡◌, ◌≢◌, ℕ, ◌+◌, List, [], ◌∷◌, ◌++◌, length, map, codes, Contains, Some, Vec}
 use Rattle.std.specs.Fmt.{decimal}
 use Rattle.std.specs.List.{Any}
@@ -7,16 +6,16 @@ use Rattle.std.specs.List.Sorted.{IsStrictlySortedBy}
 use Rattle.std.specs.declared.alloc.Global.{Global}
 use Rattle.std.specs.declared.cmp.Ordering.{Ordering}
 use Rattle.std.specs.declared.cmp.Ordering.TheVariants.{Equal}
-use Rattle.jsonb_value.specs.Ascii as ascii
-use Rattle.jsonb.specs.ErrorText.{error_text}
-use Rattle.jsonb.specs.Grammar.{IsDocument, IsNoDocument}
-use Rattle.jsonb.specs.Mode.{extended}
-use Rattle.jsonb.specs.Parser.{Fails, MayAllocate}
-use Rattle.jsonb.specs.Reading.Document.{document_of}
-use Rattle.jsonb.specs.Tree.{Tree}
-use Rattle.jsonb.specs.View.{view}
-use Rattle.jsonb_value.specs.Order.{tree_cmp}
-use Rattle.jsonb_value.specs.Text.{text_of}
+use Rattle.jsonb_spec.specs.Ascii as ascii
+use Rattle.jsonb_value.specs.Error.ErrorText.{error_text}
+use Rattle.jsonb_spec.specs.Grammar.{IsDocument, IsNoDocument}
+use Rattle.jsonb_spec.specs.Mode.{extended}
+use Rattle.jsonb_scan.specs.Answer.{Fails, MayAllocate}
+use Rattle.jsonb_scan.specs.Reading.Document.{document_of}
+use Rattle.jsonb_spec.specs.Tree.{Tree}
+use Rattle.jsonb_value.specs.View.{view}
+use Rattle.jsonb_spec.specs.Order.{tree_cmp}
+use Rattle.jsonb_spec.specs.Text.{text_of}
 use Rattle.jsonb_value.specs.declared.error.Error.{Error}
 use Rattle.jsonb_value.specs.declared.error.Error.TheVariants.{OutOfMemory}
 use Rattle.jsonb_value.specs.declared.value.Value.{Value}

@@ -3,10 +3,10 @@ use Rattle.std.proofs.Common.{◌≡◌, ℕ, Bool, true, false, List, [], ◌�
 use Rattle.std.specs.Ordering.{match_ordering}
 use Rattle.jsonb_key.proofs.Texts.{none_some}
 use Rattle.jsonb_stored.specs.Open.{members}
-use Rattle.jsonb_value.specs.Grammar.{max_depth}
-use Rattle.jsonb_value.specs.Order.{bytes_cmp}
-use Rattle.jsonb_value.specs.SortKey.{key_of, items_key, members_key}
-use Rattle.jsonb_value.specs.Tree.{Tree, array, object, Trees, no_trees, more_trees, Members, no_members, more_members, put}
+use Rattle.jsonb_spec.specs.Grammar.{max_depth}
+use Rattle.jsonb_spec.specs.Order.{bytes_cmp}
+use Rattle.jsonb_spec.specs.SortKey.{key_of, items_key, members_key}
+use Rattle.jsonb_spec.specs.Tree.{Tree, array, object, Trees, no_trees, more_trees, Members, no_members, more_members, put}
 use Rattle.stored_edit.specs.Edit.{Outcome, becomes, changed_member, joined_items, set_to, with_item, with_member, AppendsKey, Edits}
 use Rattle.stored_edit.specs.Spots.{SpotIn}
 use Rattle.stored_edit.specs.declared.error.EditError.{EditError}

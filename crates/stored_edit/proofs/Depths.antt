@@ -8,9 +8,9 @@ use Rattle.jsonb_stored.specs.declared.find.NoKey.{NoKey}
 use Rattle.jsonb_stored.specs.Open.{Open, items, members, is_object, open_key, IsOpen, end_key, name_key, IsScalar}
 use Rattle.jsonb_stored.specs.Parts.{opened_tree}
 use Rattle.jsonb_stored.proofs.Opens.{Stacks, no_end, opens_key, stack_kept}
-use Rattle.jsonb_value.specs.SortKey.{key_of}
-use Rattle.jsonb_value.specs.Text.Range.{IsWithin}
-use Rattle.jsonb_value.specs.Tree.{Tree, null, boolean, string, number, array, object, no_trees, more_trees, no_members, more_members}
+use Rattle.jsonb_spec.specs.SortKey.{key_of}
+use Rattle.jsonb_spec.specs.Text.Range.{IsWithin}
+use Rattle.jsonb_spec.specs.Tree.{Tree, null, boolean, string, number, array, object, no_trees, more_trees, no_members, more_members}
 use Rattle.stored_edit.specs.Spots.{OpenWithin}
 
 -- each is well-formed

@@ -7,9 +7,9 @@ use Rattle.jsonb_stored.specs.Open.{Open, items, members, is_object, open_key, I
 use Rattle.jsonb_stored.specs.Parts.{opened_tree}
 use Rattle.jsonb_stored.proofs.Finds.{parent_of}
 use Rattle.jsonb_stored.proofs.Standing.{left_of, object_left}
-use Rattle.jsonb_value.specs.SortKey.{key_of, items_key, members_key}
-use Rattle.jsonb_value.specs.Text.Range.{IsWithin, AreWithin}
-use Rattle.jsonb_value.specs.Tree.{Tree, array, object, Trees, no_trees, more_trees, Members}
+use Rattle.jsonb_spec.specs.SortKey.{key_of, items_key, members_key}
+use Rattle.jsonb_spec.specs.Text.Range.{IsWithin, AreWithin}
+use Rattle.jsonb_spec.specs.Tree.{Tree, array, object, Trees, no_trees, more_trees, Members}
 use Rattle.stored_edit.specs.Edit.{as_items, joined_items, merged, merged_members}
 use Rattle.stored_edit.specs.Merging.{keys_of_items}
 use Rattle.stored_edit.specs.declared.error.EditError.{EditError}

@@ -8,11 +8,11 @@ use Rattle.jsonb_stored.specs.declared.find.NoKey.{NoKey}
 use Rattle.jsonb_stored.specs.Open.{end_key}
 use Rattle.jsonb_stored.proofs.Finds.{readable_inside}
 use Rattle.jsonb_stored.proofs.Opens.{no_end}
-use Rattle.jsonb_value.specs.Keys.{IsBelowKeys, KeysAscend}
-use Rattle.jsonb_value.specs.Order.{bytes_cmp}
-use Rattle.jsonb_value.specs.SortKey.{key_of, members_key, text_key}
-use Rattle.jsonb_value.specs.Text.Range.{IsWithin, HaveWithin}
-use Rattle.jsonb_value.specs.Tree.{Tree, Members, no_members, more_members, put}
+use Rattle.jsonb_spec.specs.Keys.{IsBelowKeys, KeysAscend}
+use Rattle.jsonb_spec.specs.Order.{bytes_cmp}
+use Rattle.jsonb_spec.specs.SortKey.{key_of, members_key, text_key}
+use Rattle.jsonb_spec.specs.Text.Range.{IsWithin, HaveWithin}
+use Rattle.jsonb_spec.specs.Tree.{Tree, Members, no_members, more_members, put}
 use Rattle.jsonb_value.proofs.Values.Members.{turned}
 use Rattle.jsonb_write.proofs.Objects.Repeats.{same_key}
 use Rattle.stored_edit.specs.Edit.{merged_members}

@@ -4,10 +4,10 @@ use Rattle.jsonb_key.specs.Readable.{IsAnyNumber, IsReadable}
 use Rattle.jsonb_stored.specs.Found.{IsLeftOf}
 use Rattle.jsonb_stored.specs.Open.{Open, items, members, is_object, open_key, name_key, opening_byte, IsOpen, IsScalar}
 use Rattle.jsonb_stored.specs.Parts.{opened_tree}
-use Rattle.jsonb_value.specs.Grammar.{max_depth}
-use Rattle.jsonb_value.specs.SortKey.{key_of}
-use Rattle.jsonb_value.specs.Text.Range.{IsWithin}
-use Rattle.jsonb_value.specs.Tree.{Tree, array, object, Trees, Members}
+use Rattle.jsonb_spec.specs.Grammar.{max_depth}
+use Rattle.jsonb_spec.specs.SortKey.{key_of}
+use Rattle.jsonb_spec.specs.Text.Range.{IsWithin}
+use Rattle.jsonb_spec.specs.Tree.{Tree, array, object, Trees, Members}
 use Rattle.stored_edit.specs.Edit.{Outcome, stays, changed_at, changed_items, changed_member, changed_part, part_with, within}
 use Rattle.stored_edit.specs.Spots.{Answers, OpenWithin, SpotIn, Stands, changed_open}
 use Rattle.stored_edit.specs.declared.spot.Spot.{Spot}

@@ -6,11 +6,11 @@ use Rattle.std.specs.List.{AllByRecursion}
 use Rattle.std.specs.Option.{option_and_then}
 use Rattle.std.specs.Ordering.{match_ordering, ordering_reverse}
 use Rattle.std.specs.Str.{IsUtf8}
-use Rattle.jsonb_value.specs.Accessors.{trees_len}
-use Rattle.jsonb_value.specs.Keys.{IsBelowKeys, KeysAscend}
-use Rattle.jsonb_value.specs.Order.{bytes_cmp}
-use Rattle.jsonb_value.specs.Proper.{IsProper, AreProper, HaveProperParts}
-use Rattle.jsonb_value.specs.Tree.{Tree, array, object, Trees, no_trees, more_trees, Members, no_members, more_members, put}
+use Rattle.jsonb_spec.specs.Accessors.{trees_len}
+use Rattle.jsonb_spec.specs.Keys.{IsBelowKeys, KeysAscend}
+use Rattle.jsonb_spec.specs.Order.{bytes_cmp}
+use Rattle.jsonb_spec.specs.Proper.{IsProper, AreProper, HaveProperParts}
+use Rattle.jsonb_spec.specs.Tree.{Tree, array, object, Trees, no_trees, more_trees, Members, no_members, more_members, put}
 use Rattle.stored_edit.specs.Edit.{Outcome, stays, goes, becomes, as_items, changed_at, changed_at_step, changed_item, changed_member, changed_part, item_before, joined_items, member_before, merged, merged_members, part_with, remove, set_to, step_named, with_item, with_member, with_part, within, without_part}
 
 -- what a change makes of a well-formed part is well-formed

@@ -4,11 +4,11 @@ use Rattle.std.specs.Vec.{vec_capacity}
 use Rattle.std.specs.declared.alloc.AllocError.{AllocError}
 use Rattle.jsonb_key.specs.Readable.{IsAnyNumber}
 use Rattle.jsonb_stored.specs.Open.{name_key}
-use Rattle.jsonb_value.specs.Grammar.{max_depth}
-use Rattle.jsonb_value.specs.SortKey.{key_of}
-use Rattle.jsonb_value.specs.Text.Appending.{AppendsAllOrNothing}
-use Rattle.jsonb_value.specs.Text.Range.{IsWithin}
-use Rattle.jsonb_value.specs.Tree.{Tree}
+use Rattle.jsonb_spec.specs.Grammar.{max_depth}
+use Rattle.jsonb_spec.specs.SortKey.{key_of}
+use Rattle.jsonb_spec.specs.Text.Appending.{AppendsAllOrNothing}
+use Rattle.jsonb_spec.specs.Text.Range.{IsWithin}
+use Rattle.jsonb_spec.specs.Tree.{Tree}
 use Rattle.stored_edit.specs.Edit.{Outcome, becomes, changed_at, set_to, AppendsKey, Edits}
 use Rattle.stored_edit.specs.Spots.{Answers, SpotIn, Stands}
 use Rattle.stored_edit.specs.declared.error.EditError.{EditError}

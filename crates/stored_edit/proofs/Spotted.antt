@@ -8,12 +8,12 @@ use Rattle.jsonb_stored.specs.Found.{IsNext}
 use Rattle.jsonb_stored.specs.Open.{Open, items, members, is_object, open_key, IsOpen}
 use Rattle.jsonb_stored.specs.declared.find.NoKey.{NoKey}
 use Rattle.jsonb_stored.proofs.Finds.{readable_inside}
-use Rattle.jsonb_value.specs.Accessors.{trees_len}
-use Rattle.jsonb_value.specs.Order.{bytes_cmp}
-use Rattle.jsonb_value.specs.Proper.{AreProper, HaveProperParts}
-use Rattle.jsonb_value.specs.SortKey.{key_of, items_key, members_key, text_key}
-use Rattle.jsonb_value.specs.Text.Range.{IsWithin, AreWithin, HaveWithin}
-use Rattle.jsonb_value.specs.Tree.{Tree, Trees, no_trees, more_trees, Members, no_members, more_members}
+use Rattle.jsonb_spec.specs.Accessors.{trees_len}
+use Rattle.jsonb_spec.specs.Order.{bytes_cmp}
+use Rattle.jsonb_spec.specs.Proper.{AreProper, HaveProperParts}
+use Rattle.jsonb_spec.specs.SortKey.{key_of, items_key, members_key, text_key}
+use Rattle.jsonb_spec.specs.Text.Range.{IsWithin, AreWithin, HaveWithin}
+use Rattle.jsonb_spec.specs.Tree.{Tree, Trees, no_trees, more_trees, Members, no_members, more_members}
 use Rattle.stored_edit.specs.Edit.{Outcome, stays, goes, becomes, changed_at_step, changed_item, changed_item_back, changed_member, item_before, member_before, step_named}
 use Rattle.stored_edit.specs.Spots.{Answers, OpenWithin, SpotIn, changed_open}
 use Rattle.stored_edit.specs.declared.spot.Spot.{Spot}

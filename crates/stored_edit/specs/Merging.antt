@@ -1,9 +1,8 @@
 -- One step of a merge of members, and the keys of items.
--- Read for: private.
 use Rattle.std.specs.Prelude.{◌≡◌, List, [], ℕ, ◌++◌, MatchBool}
 use Rattle.jsonb_stored.specs.Checked.{HaveReadable}
-use Rattle.jsonb_value.specs.SortKey.{key_of, members_key}
-use Rattle.jsonb_value.specs.Tree.{Trees, no_trees, more_trees, Members}
+use Rattle.jsonb_spec.specs.SortKey.{key_of, members_key}
+use Rattle.jsonb_spec.specs.Tree.{Trees, no_trees, more_trees, Members}
 use Rattle.stored_edit.specs.Edit.{merged_members}
 use Rattle.stored_edit.specs.declared.merge.Step.{Step}
 

@@ -1,11 +1,10 @@
 -- Where in the bytes a part stands, or would stand.
--- Read for: private.
 use Rattle.std.specs.Prelude.{◌≡◌, ℕ, ◌↔◌, Bool, true, false, List, ◌++◌, Option, Some, None, option_map, IfSome, ⊤}
 use Rattle.jsonb_key.specs.Readable.{IsAnyNumber, IsReadable}
 use Rattle.jsonb_stored.specs.Open.{Open, items, members, name_key}
-use Rattle.jsonb_value.specs.SortKey.{key_of}
-use Rattle.jsonb_value.specs.Text.Range.{IsWithin, AreWithin, HaveWithin}
-use Rattle.jsonb_value.specs.Tree.{Tree}
+use Rattle.jsonb_spec.specs.SortKey.{key_of}
+use Rattle.jsonb_spec.specs.Text.Range.{IsWithin, AreWithin, HaveWithin}
+use Rattle.jsonb_spec.specs.Tree.{Tree}
 use Rattle.stored_edit.specs.Edit.{Outcome, stays, goes, becomes, changed_member, changed_items}
 use Rattle.stored_edit.specs.declared.spot.Spot.{Spot}
 

@@ -3,9 +3,9 @@
 ghost use Rattle.std.specs.Prelude.{◌≡◌, ◌≤◌, Ok, OnErr, false};
 ghost use Rattle.std.specs.Vec.{vec_capacity};
 ghost use Rattle.jsonb_key.specs.Readable.{IsAnyNumber, IsReadable};
-ghost use Rattle.jsonb_value.specs.SortKey.{key_of, items_key};
-ghost use Rattle.jsonb_value.specs.Text.Range.{AreWithin};
-ghost use Rattle.jsonb_value.specs.Tree.{Tree, Trees, array, more_trees, no_trees};
+ghost use Rattle.jsonb_spec.specs.SortKey.{key_of, items_key};
+ghost use Rattle.jsonb_spec.specs.Text.Range.{AreWithin};
+ghost use Rattle.jsonb_spec.specs.Tree.{Tree, Trees, array, more_trees, no_trees};
 ghost use Rattle.stored_edit.specs.Edit.{joined_items, with_item, with_member, AppendsKey, Edits};
 
 use crate::edit::put_part;

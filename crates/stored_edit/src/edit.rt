@@ -3,11 +3,11 @@
 ghost use Rattle.std.specs.Prelude.{◌≡◌, ◌≤◌, ◌++◌, List, ℕ, map, string_bytes, Option, None, MatchOption, OnErr};
 ghost use Rattle.std.specs.Vec.{vec_capacity};
 ghost use Rattle.jsonb_key.specs.Readable.{IsAnyNumber, IsReadable};
-ghost use Rattle.jsonb_value.specs.Grammar.{max_depth};
-ghost use Rattle.jsonb_value.specs.SortKey.{key_of};
-ghost use Rattle.jsonb_value.specs.Text.Appending.{AppendsAllOrNothing};
-ghost use Rattle.jsonb_value.specs.Text.Range.{IsWithin};
-ghost use Rattle.jsonb_value.specs.Tree.{Tree};
+ghost use Rattle.jsonb_spec.specs.Grammar.{max_depth};
+ghost use Rattle.jsonb_spec.specs.SortKey.{key_of};
+ghost use Rattle.jsonb_spec.specs.Text.Appending.{AppendsAllOrNothing};
+ghost use Rattle.jsonb_spec.specs.Text.Range.{IsWithin};
+ghost use Rattle.jsonb_spec.specs.Tree.{Tree};
 ghost use Rattle.stored_edit.specs.Edit.{Outcome, becomes, with_part, without_part, AppendsKey, Edits};
 ghost use Rattle.jsonb_stored.specs.Open.{name_key};
 ghost use Rattle.stored_edit.specs.Spots.{SpotIn, Stands};

@@ -3,9 +3,9 @@
 ghost use Rattle.std.specs.Prelude.{◌≡◌, ◌<◌, ◌≤◌, ◌++◌, ◌+◌, List, ℕ, MatchBool, MatchResult};
 ghost use Rattle.jsonb_key.specs.Readable.{IsAnyNumber, IsReadable};
 ghost use Rattle.jsonb_stored.specs.Open.{Open, is_object, open_key, IsOpen};
-ghost use Rattle.jsonb_value.specs.SortKey.{key_of};
-ghost use Rattle.jsonb_value.specs.Text.Range.{IsWithin};
-ghost use Rattle.jsonb_value.specs.Tree.{Tree};
+ghost use Rattle.jsonb_spec.specs.SortKey.{key_of};
+ghost use Rattle.jsonb_spec.specs.Text.Range.{IsWithin};
+ghost use Rattle.jsonb_spec.specs.Tree.{Tree};
 ghost use Rattle.stored_edit.specs.Spots.{OpenWithin};
 
 use jsonb_stored::find::NoKey;

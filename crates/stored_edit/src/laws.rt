@@ -2,8 +2,8 @@
 
 ghost use Rattle.std.specs.Prelude.{◌≡◌, Bool, List, ℕ, Some, IsUtf8};
 ghost use Rattle.std.specs.List.{AllByRecursion};
-ghost use Rattle.jsonb_value.specs.Proper.{IsProper};
-ghost use Rattle.jsonb_value.specs.Tree.{Tree};
+ghost use Rattle.jsonb_spec.specs.Proper.{IsProper};
+ghost use Rattle.jsonb_spec.specs.Tree.{Tree};
 ghost use Rattle.stored_edit.specs.Edit.{merged, with_item, with_member, with_part, without_part};
 
 /// A well-formed value is well-formed when it is changed: its texts are UTF-8, its numbers fit their forms, and the

@@ -4,12 +4,12 @@ ghost use Rattle.std.specs.Prelude.{◌≡◌, ◌+◌, ◌<◌, ◌≤◌, ◌+
 ghost use Rattle.std.specs.Vec.{vec_capacity};
 ghost use Rattle.jsonb_key.specs.Readable.{IsAnyNumber, IsReadable};
 ghost use Rattle.jsonb_stored.specs.Checked.{HaveReadable};
-ghost use Rattle.jsonb_value.specs.Order.{bytes_cmp};
-ghost use Rattle.jsonb_value.specs.SortKey.{key_of, members_key, text_key};
-ghost use Rattle.jsonb_value.specs.SortKey.Kind as kind;
-ghost use Rattle.jsonb_value.specs.Text.Appending.{Extends};
-ghost use Rattle.jsonb_value.specs.Text.Range.{IsWithin, AreWithin};
-ghost use Rattle.jsonb_value.specs.Tree.{Tree, Members, array, no_members, object};
+ghost use Rattle.jsonb_spec.specs.Order.{bytes_cmp};
+ghost use Rattle.jsonb_spec.specs.SortKey.{key_of, members_key, text_key};
+ghost use Rattle.jsonb_spec.specs.SortKey.Kind as kind;
+ghost use Rattle.jsonb_spec.specs.Text.Appending.{Extends};
+ghost use Rattle.jsonb_spec.specs.Text.Range.{IsWithin, AreWithin};
+ghost use Rattle.jsonb_spec.specs.Tree.{Tree, Members, array, no_members, object};
 ghost use Rattle.stored_edit.specs.Edit.{as_items, joined_items, merged, merged_members, AppendsKey};
 ghost use Rattle.stored_edit.specs.Merging.{keys_of_items, IsStep};
 

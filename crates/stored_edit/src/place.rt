@@ -2,10 +2,10 @@
 
 ghost use Rattle.std.specs.Prelude.{◌≡◌, ◌≤◌, length, map, string_bytes, Option, None, IfOk, IfSome, MatchBool, MatchResult, MatchOption};
 ghost use Rattle.jsonb_key.specs.Readable.{IsAnyNumber, IsReadable};
-ghost use Rattle.jsonb_value.specs.Grammar.{max_depth};
-ghost use Rattle.jsonb_value.specs.SortKey.{key_of};
-ghost use Rattle.jsonb_value.specs.Text.Range.{IsWithin};
-ghost use Rattle.jsonb_value.specs.Tree.{Tree};
+ghost use Rattle.jsonb_spec.specs.Grammar.{max_depth};
+ghost use Rattle.jsonb_spec.specs.SortKey.{key_of};
+ghost use Rattle.jsonb_spec.specs.Text.Range.{IsWithin};
+ghost use Rattle.jsonb_spec.specs.Tree.{Tree};
 ghost use Rattle.stored_edit.specs.Edit.{Outcome, changed_at};
 ghost use Rattle.stored_edit.specs.Spots.{SpotIn};
 

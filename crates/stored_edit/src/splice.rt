@@ -1,8 +1,8 @@
 //! Bytes with others between them, at the end of a buffer.
 
 ghost use Rattle.std.specs.Prelude.{◌++◌};
-ghost use Rattle.jsonb_value.specs.SortKey.{text_key};
-ghost use Rattle.jsonb_value.specs.Text.Appending.{Appends, AppendsAllOrNothing};
+ghost use Rattle.jsonb_spec.specs.SortKey.{text_key};
+ghost use Rattle.jsonb_spec.specs.Text.Appending.{Appends, AppendsAllOrNothing};
 
 use jsonb_value::parts::append_text_key;
 use std::alloc::AllocError;

@@ -3,10 +3,10 @@
 ghost use Rattle.std.specs.Prelude.{◌≡◌, ◌++◌, List, ℕ, option_map, true, false, None, Option, MatchResult, MatchOption};
 ghost use Rattle.jsonb_key.specs.Readable.{IsAnyNumber};
 ghost use Rattle.jsonb_stored.specs.Open.{Open, items, members, is_object, open_key, IsOpen};
-ghost use Rattle.jsonb_value.specs.Proper.{AreProper, HaveProperParts};
-ghost use Rattle.jsonb_value.specs.SortKey.{items_key, members_key};
-ghost use Rattle.jsonb_value.specs.Text.Range.{AreWithin, HaveWithin};
-ghost use Rattle.jsonb_value.specs.Tree.{Tree, Trees, Members};
+ghost use Rattle.jsonb_spec.specs.Proper.{AreProper, HaveProperParts};
+ghost use Rattle.jsonb_spec.specs.SortKey.{items_key, members_key};
+ghost use Rattle.jsonb_spec.specs.Text.Range.{AreWithin, HaveWithin};
+ghost use Rattle.jsonb_spec.specs.Tree.{Tree, Trees, Members};
 ghost use Rattle.stored_edit.specs.Edit.{Outcome, changed_at_step, changed_item, changed_item_back, changed_member};
 ghost use Rattle.stored_edit.specs.Spots.{OpenWithin, SpotIn, changed_open};
 

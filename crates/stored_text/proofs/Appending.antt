@@ -4,7 +4,7 @@ use Rattle.std.specs.Prelude.{IsErrAnd, Vec, vec_len, vec_capacity}
 use Rattle.std.specs.declared.alloc.Global.{Global}
 use Rattle.jsonb_key.specs.declared.key.KeyError.{KeyError}
 use Rattle.jsonb_key.specs.declared.key.KeyError.TheVariants.{OutOfMemory}
-use Rattle.jsonb_value.specs.Text.Appending.{Appends}
+use Rattle.jsonb_spec.specs.Text.Appending.{Appends}
 use Rattle.stored_text.specs.Writes.{Keeps, Writes}
 
 -- ---- two pieces

@@ -1,9 +1,9 @@
 -- The number that a key begins with: its sign, its place and its digits.
 use Rattle.std.proofs.Common.{◌≡◌, ◌≢◌, ℕ, zero, suc, ◌-◌, ◌≤◌, Bool, true, false, List, ◌∷◌, ◌++◌, map, None, ℤ, pos, negsuc, unsigned_abs, refl, sym, ap, ◌∙◌, arith}
 use Rattle.std.specs.Bool.{nat_lt}
-use Rattle.jsonb_value.specs.Proper.{IsProperNumber}
-use Rattle.jsonb_value.specs.SortKey.{number_key, digits_key, turned}
-use Rattle.jsonb_value.specs.Tree.{Num}
+use Rattle.jsonb_spec.specs.Proper.{IsProperNumber}
+use Rattle.jsonb_spec.specs.SortKey.{number_key, digits_key, turned}
+use Rattle.jsonb_spec.specs.Tree.{Num}
 use Rattle.jsonb_value.proofs.SortKeys.Kinds.{is_small}
 use Rattle.jsonb_value.proofs.SortKeys.Numbers.{positive, negative, head_of}
 use Rattle.jsonb_value.proofs.Trees.Runs.{heads}

@@ -9,9 +9,9 @@ use Rattle.std.specs.Bool.{nat_lt}
 use Rattle.std.specs.Fmt.{decimal, sign_text}
 use Rattle.std.specs.Int.{is_negative}
 use Rattle.std.specs.Prelude.{slice_range}
-use Rattle.jsonb_value.specs.Number.Signed.{signed_by}
-use Rattle.jsonb_value.specs.Text.NumberText.{number_text, text_of_parts, with_point, zero_padded}
-use Rattle.jsonb_value.specs.Tree.{Num}
+use Rattle.jsonb_spec.specs.Number.Signed.{signed_by}
+use Rattle.jsonb_spec.specs.Text.NumberText.{number_text, text_of_parts, with_point, zero_padded}
+use Rattle.jsonb_spec.specs.Tree.{Num}
 use Rattle.jsonb_value.proofs.Numbers.Nearest.{unsigned_abs-signed}
 use Rattle.jsonb_value.proofs.Numbers.Pointed.{is_negative-pos, pointed_whole, pointed_inside, pointed_before, unsigned_is_text}
 use Rattle.jsonb_value.proofs.SortKeys.Digits.{ten, mul-pos}

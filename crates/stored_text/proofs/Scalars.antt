@@ -2,15 +2,15 @@
 use Rattle.std.proofs.Common.{◌≡◌, ◌≢◌, ℕ, suc, ◌≤◌, Bool, true, false, List, ◌∷◌, ◌++◌, refl, sym, ap, ◌∙◌, arith}
 use Rattle.std.specs.Prelude.{codes}
 use Rattle.jsonb_key.specs.Readable.{IsReadableAt}
-use Rattle.jsonb_value.specs.Text.StringText.{quoted_text}
+use Rattle.jsonb_spec.specs.Text.StringText.{quoted_text}
 use Rattle.jsonb_stored.specs.Open.{IsScalar, Open, items, members, is_object, open_key, IsOpen, opening_byte}
 use Rattle.jsonb_stored.proofs.Scalars.{array_open, object_open}
-use Rattle.jsonb_value.specs.Proper.{IsProperNumber}
-use Rattle.jsonb_value.specs.SortKey.{key_of, items_key, members_key, number_key, text_key}
-use Rattle.jsonb_value.specs.Tree.{Num, Tree, null, boolean, string, number, array, object}
+use Rattle.jsonb_spec.specs.Proper.{IsProperNumber}
+use Rattle.jsonb_spec.specs.SortKey.{key_of, items_key, members_key, number_key, text_key}
+use Rattle.jsonb_spec.specs.Tree.{Num, Tree, null, boolean, string, number, array, object}
 use Rattle.jsonb_value.proofs.SortKeys.Kinds.{is_small, number_begins}
 use Rattle.jsonb_value.proofs.Trees.Runs.{heads, tails}
-use Rattle.jsonb_value.specs.Text.NumberText.{number_text}
+use Rattle.jsonb_spec.specs.Text.NumberText.{number_text}
 use Rattle.stored_text.specs.FewestDigits.{fewest_digits}
 use Rattle.stored_text.specs.Writes.{value_text, open_text, opening_text}
 use Rattle.stored_text.proofs.Whole.{array_text, object_text}

@@ -4,10 +4,10 @@ use Rattle.std.proofs.Math.Nat.{pow-suc, pow-zero, div-div-eq-div-mul, div-mul-l
 use Rattle.std.proofs.lemmas.Bool.{cond-true, cond-false, ne_eqb, cases_eq}
 use Rattle.std.proofs.lemmas.Nat.{pow-add}
 use Rattle.std.specs.Int.{Width, w64, w128, is_negative}
-use Rattle.jsonb_value.specs.Number.Signed.{signed_by}
-use Rattle.jsonb_value.specs.Proper.{IsProperNumber, FitsScale, FitsWhole, FitsUnsigned}
-use Rattle.jsonb_value.specs.SortKey.{number_key}
-use Rattle.jsonb_value.specs.Tree.{Form, int64, uint64, decimal64, decimal128, Num}
+use Rattle.jsonb_spec.specs.Number.Signed.{signed_by}
+use Rattle.jsonb_spec.specs.Proper.{IsProperNumber, FitsScale, FitsWhole, FitsUnsigned}
+use Rattle.jsonb_spec.specs.SortKey.{number_key}
+use Rattle.jsonb_spec.specs.Tree.{Form, int64, uint64, decimal64, decimal128, Num}
 use Rattle.jsonb_value.proofs.Numbers.Nearest.{unsigned_abs-signed}
 use Rattle.jsonb_value.proofs.Numbers.Pointed.{is_negative-pos}
 use Rattle.jsonb_key.specs.Readable.{HasFewestDigits}

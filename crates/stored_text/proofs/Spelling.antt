@@ -1,7 +1,7 @@
 -- The digits of a number, spelled pair by pair.
 use Rattle.std.proofs.Common.{◌≡◌, ◌≢◌, ℕ, suc, ◌+◌, ◌-◌, ◌*◌, ◌/◌, ◌%◌, ◌^◌, ◌<◌, ◌≤◌, ◌⊎◌, inl, inr, Bool, List, [], ◌∷◌, ◌++◌, map, set, length, replicate, refl, sym, ap, ap₂, subst, ◌∙◌, arith, append_assoc, length-append}
 use Rattle.std.proofs.Math.Seq.{set-append_seam}
-use Rattle.jsonb_value.specs.SortKey.{digits_key, turned}
+use Rattle.jsonb_spec.specs.SortKey.{digits_key, turned}
 use Rattle.jsonb_value.proofs.SortKeys.Digits.{ten, hundred}
 use Rattle.jsonb_key.specs.Reading.{IsLastPair}
 use Rattle.jsonb_key.proofs.Numbers.{DigitsLeft, Ends, GoesOn, next_pair, all_digits as digits_ended, no_zeros, pair_below_all, no_bytes}

@@ -3,9 +3,9 @@ use Rattle.std.proofs.Common.{◌≡◌, ℕ, zero, suc, ◌+◌, ◌<◌, ◌�
 use Rattle.jsonb_stored.specs.Open.{Open, items, members, is_object, open_key, IsOpen, end_key}
 use Rattle.std.proofs.lemmas.List.{get_or-set_same}
 use Rattle.jsonb_stored.proofs.Opens.{opens_key, AreOpen, Stacks, Next, no_end, stack_kept}
-use Rattle.jsonb_value.specs.SortKey.{key_of, items_key, members_key, text_key}
-use Rattle.jsonb_value.specs.Text.Appending.{comma_before}
-use Rattle.jsonb_value.specs.Tree.{no_trees, more_trees, no_members, more_members}
+use Rattle.jsonb_spec.specs.SortKey.{key_of, items_key, members_key, text_key}
+use Rattle.jsonb_spec.specs.Text.Appending.{comma_before}
+use Rattle.jsonb_spec.specs.Tree.{no_trees, more_trees, no_members, more_members}
 use Rattle.jsonb_value.proofs.Appending.Appended.{IsUnderway, goes_on, fits}
 use Rattle.stored_text.specs.Writes.{value_text, items_left, members_left, open_text, name_text, opening_text, closing_text}
 

@@ -1,14 +1,14 @@
 -- The text of a tree with the fewest digits, piece by piece, and its key.
 use Rattle.std.proofs.Common.{◌≡◌, ℕ, zero, suc, Bool, true, false, ◌&&◌, List, [], ◌∷◌, ◌++◌, Some, None, if◌then◌else◌, refl, ap, ap₂, ◌∙◌, append_assoc}
 use Rattle.jsonb_key.specs.Readable.{HasFewestDigits, IsAnyNumber, IsReadable}
-use Rattle.jsonb_value.specs.Grammar.{max_depth}
-use Rattle.jsonb_value.specs.Proper.{IsProper, AreProper, HaveProperParts}
-use Rattle.jsonb_value.specs.SortKey.{key_of, items_key, members_key, text_key}
-use Rattle.jsonb_value.specs.Text.{has_text, items_have_texts, members_have_texts, item_texts, member_texts}
-use Rattle.jsonb_value.specs.Text.Appending.{comma_before}
-use Rattle.jsonb_value.specs.Text.Range.{IsWithin, AreWithin, HaveWithin}
-use Rattle.jsonb_value.specs.Text.StringText.{quoted_text}
-use Rattle.jsonb_value.specs.Tree.{Tree, null, boolean, string, number, array, object, binary, date, timestamp, timestamp_tz, interval, Trees, no_trees, more_trees, Members, no_members, more_members}
+use Rattle.jsonb_spec.specs.Grammar.{max_depth}
+use Rattle.jsonb_spec.specs.Proper.{IsProper, AreProper, HaveProperParts}
+use Rattle.jsonb_spec.specs.SortKey.{key_of, items_key, members_key, text_key}
+use Rattle.jsonb_spec.specs.Text.{has_text, items_have_texts, members_have_texts, item_texts, member_texts}
+use Rattle.jsonb_spec.specs.Text.Appending.{comma_before}
+use Rattle.jsonb_spec.specs.Text.Range.{IsWithin, AreWithin, HaveWithin}
+use Rattle.jsonb_spec.specs.Text.StringText.{quoted_text}
+use Rattle.jsonb_spec.specs.Tree.{Tree, null, boolean, string, number, array, object, binary, date, timestamp, timestamp_tz, interval, Trees, no_trees, more_trees, Members, no_members, more_members}
 use Rattle.jsonb_value.proofs.Appending.Pieces.{texts_left, texts_left-comma, key_split}
 use Rattle.stored_text.specs.FewestDigits.{with_fewest_digits, items_with_fewest_digits, members_with_fewest_digits, AppendsTextOf}
 use Rattle.stored_text.specs.Writes.{value_text, items_left, members_left, name_text}

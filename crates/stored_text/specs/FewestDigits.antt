@@ -1,14 +1,13 @@
 -- Of the values with one sort key the one whose numbers have the fewest digits: `1.50` is 1.5 there.
--- Read for: promises.
 use Rattle.std.specs.Prelude.{◌≡◌, ℕ, zero, suc, ◌-◌, ◌/◌, ◌%◌, ◌^◌, ◌==◌, if◌then◌else◌, List, unsigned_abs}
 use Rattle.std.specs.Int.{is_negative}
 use Rattle.jsonb_key.specs.Readable.{HasFewestDigits}
-use Rattle.jsonb_value.specs.Grammar.{max_depth}
-use Rattle.jsonb_value.specs.Number.Signed.{signed_by}
-use Rattle.jsonb_value.specs.SortKey.{key_of}
-use Rattle.jsonb_value.specs.Text.{AppendsText}
-use Rattle.jsonb_value.specs.Text.Range.{IsWithin}
-use Rattle.jsonb_value.specs.Tree.{Num, Tree, number, array, object, Trees, no_trees, more_trees, Members, no_members, more_members}
+use Rattle.jsonb_spec.specs.Grammar.{max_depth}
+use Rattle.jsonb_spec.specs.Number.Signed.{signed_by}
+use Rattle.jsonb_spec.specs.SortKey.{key_of}
+use Rattle.jsonb_spec.specs.Text.{AppendsText}
+use Rattle.jsonb_spec.specs.Text.Range.{IsWithin}
+use Rattle.jsonb_spec.specs.Tree.{Num, Tree, number, array, object, Trees, no_trees, more_trees, Members, no_members, more_members}
 
 -- how many of the last digits are zeros, of those behind the point
 unfoldable pub spare_zeros : ℕ → ℕ → ℕ

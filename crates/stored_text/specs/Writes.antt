@@ -1,16 +1,15 @@
 -- What is appended while a key is walked.
--- Read for: private.
 use Rattle.std.specs.Prelude.{◌≡◌, ◌≢◌, ℕ, zero, suc, ◌+◌, ◌-◌, ◌/◌, ◌%◌, ◌<◌, ◌≤◌, Bool, true, false, nat_lt, if◌then◌else◌, List, [], ◌∷◌, ◌++◌, length, take, replicate, slice_range, MatchResult, Result, Vec, vec_len, vec_capacity}
 use Rattle.std.specs.declared.alloc.Global.{Global}
 use Rattle.jsonb_key.specs.declared.key.KeyError.{KeyError}
 use Rattle.jsonb_key.specs.declared.key.KeyError.TheVariants.{OutOfMemory}
 use Rattle.jsonb_key.specs.Reading.{IsDigits}
 use Rattle.jsonb_stored.specs.Open.{Open, items, members}
-use Rattle.jsonb_value.specs.Ascii as ascii
-use Rattle.jsonb_value.specs.Text.Appending.{Extends, comma_before}
-use Rattle.jsonb_value.specs.Text.StringText.{quoted_text}
-use Rattle.jsonb_value.specs.Text.{tree_text}
-use Rattle.jsonb_value.specs.Tree.{Tree, Trees, no_trees, more_trees, Members, no_members, more_members}
+use Rattle.jsonb_spec.specs.Ascii as ascii
+use Rattle.jsonb_spec.specs.Text.Appending.{Extends, comma_before}
+use Rattle.jsonb_spec.specs.Text.StringText.{quoted_text}
+use Rattle.jsonb_spec.specs.Text.{tree_text}
+use Rattle.jsonb_spec.specs.Tree.{Tree, Trees, no_trees, more_trees, Members, no_members, more_members}
 use Rattle.stored_text.specs.FewestDigits.{with_fewest_digits}
 
 -- Nothing that was there is lost.

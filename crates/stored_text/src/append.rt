@@ -1,6 +1,6 @@
 //! Bytes at the end of a buffer.
 ghost use Rattle.std.specs.Prelude.{◌≤◌, length, take};
-ghost use Rattle.jsonb_value.specs.Text.Appending.{Appends};
+ghost use Rattle.jsonb_spec.specs.Text.Appending.{Appends};
 
 use std::alloc::AllocError;
 

@@ -1,12 +1,12 @@
 //! The text of a number from its key: two digits from each byte.
 ghost use Rattle.std.specs.Prelude.{◌≡◌, ◌+◌, ◌*◌, ◌/◌, ◌%◌, ◌^◌, ◌<◌, ◌≤◌, ◌++◌, ◌∷◌, [], ℕ, List, length, map, replicate, take, IfOk, IfSome, MatchOption};
 ghost use Rattle.std.specs.Fmt.{sign_text};
-ghost use Rattle.jsonb_value.specs.Ascii as ascii;
-ghost use Rattle.jsonb_value.specs.Proper.{IsProperNumber};
-ghost use Rattle.jsonb_value.specs.SortKey.{number_key, digits_key, turned};
-ghost use Rattle.jsonb_value.specs.Text.Appending.{Appends};
-ghost use Rattle.jsonb_value.specs.Text.NumberText.{number_text};
-ghost use Rattle.jsonb_value.specs.Tree.{Num};
+ghost use Rattle.jsonb_spec.specs.Ascii as ascii;
+ghost use Rattle.jsonb_spec.specs.Proper.{IsProperNumber};
+ghost use Rattle.jsonb_spec.specs.SortKey.{number_key, digits_key, turned};
+ghost use Rattle.jsonb_spec.specs.Text.Appending.{Appends};
+ghost use Rattle.jsonb_spec.specs.Text.NumberText.{number_text};
+ghost use Rattle.jsonb_spec.specs.Tree.{Num};
 ghost use Rattle.stored_text.specs.FewestDigits.{fewest_digits};
 ghost use Rattle.stored_text.specs.Writes.{IsSpelled, Keeps, Writes, placed_text};
 

@@ -2,9 +2,9 @@
 ghost use Rattle.std.specs.Prelude.{◌≡◌, ◌<◌, ◌≤◌, ◌++◌, ℕ, List, length, take, IfOk};
 ghost use Rattle.std.specs.Char.{digit_char};
 ghost use Rattle.std.specs.List.{flat_map};
-ghost use Rattle.jsonb_value.specs.SortKey.{text_key};
-ghost use Rattle.jsonb_value.specs.Text.Appending.{Appends};
-ghost use Rattle.jsonb_value.specs.Text.StringText.{byte_text, control_text};
+ghost use Rattle.jsonb_spec.specs.SortKey.{text_key};
+ghost use Rattle.jsonb_spec.specs.Text.Appending.{Appends};
+ghost use Rattle.jsonb_spec.specs.Text.StringText.{byte_text, control_text};
 ghost use Rattle.jsonb_write.specs.PlainText.{ArePlain};
 ghost use Rattle.stored_text.specs.Writes.{Keeps, Writes, closing_quote};
 

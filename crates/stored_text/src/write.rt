@@ -4,11 +4,11 @@ ghost use Rattle.std.specs.Prelude.{◌≡◌, ◌+◌, ◌<◌, ◌≤◌, ◌+
 ghost use Rattle.std.specs.Vec.{vec_capacity};
 ghost use Rattle.jsonb_key.specs.Readable.{IsReadable, IsReadableAt};
 ghost use Rattle.jsonb_stored.specs.Open.{Open, is_object, open_key, IsOpen, name_key, IsScalar};
-ghost use Rattle.jsonb_value.specs.Ascii as ascii;
-ghost use Rattle.jsonb_value.specs.SortKey.{key_of};
-ghost use Rattle.jsonb_value.specs.Text.{tree_text};
-ghost use Rattle.jsonb_value.specs.Text.Appending.{Appends, comma_before};
-ghost use Rattle.jsonb_value.specs.Tree.{Tree};
+ghost use Rattle.jsonb_spec.specs.Ascii as ascii;
+ghost use Rattle.jsonb_spec.specs.SortKey.{key_of};
+ghost use Rattle.jsonb_spec.specs.Text.{tree_text};
+ghost use Rattle.jsonb_spec.specs.Text.Appending.{Appends, comma_before};
+ghost use Rattle.jsonb_spec.specs.Tree.{Tree};
 ghost use Rattle.stored_text.specs.FewestDigits.{AppendsTextOf, with_fewest_digits};
 ghost use Rattle.stored_text.specs.Writes.{Keeps, Writes, name_text, opening_text, open_text, closing_text, value_text};
 

@@ -6,10 +6,10 @@ use Rattle.std.specs.BTreeMap.{insert_entry, is_at}
 use Rattle.std.specs.Cmp.Lexicographic.{slice_cmp}
 use Rattle.std.specs.Map.{lookup}
 use Rattle.std.specs.Ordering.{match_ordering}
-use Rattle.jsonb_value.specs.Grammar.{AreDistinct, IsNew}
-use Rattle.jsonb_value.specs.Tree.{Mark, Member, Members, put, put_all, trees_of}
-use Rattle.jsonb_value.specs.Tree.Members.{no_members}
-use Rattle.jsonb_value.specs.Tree.Tree.{array, object}
+use Rattle.jsonb_spec.specs.Grammar.{AreDistinct, IsNew}
+use Rattle.jsonb_spec.specs.Tree.{Mark, Member, Members, put, put_all, trees_of}
+use Rattle.jsonb_spec.specs.Tree.Members.{no_members}
+use Rattle.jsonb_spec.specs.Tree.Tree.{array, object}
 use Rattle.jsonb_value.specs.View.{members_view, view}
 use Rattle.jsonb_value.specs.declared.value.Value.{Value, the_lemmas}
 use Rattle.jsonb_value.specs.declared.value.Value as value
@@ -24,7 +24,7 @@ use Rattle.jsonb.specs.Source.{source_view}
 use Rattle.jsonb.specs.declared.parser.ast.JsonAst.{JsonAst}
 use Rattle.jsonb.specs.declared.parser.ast.JsonAst as ast
 use Rattle.jsonb_scan.specs.Reading.Container.{object_or_fault}
-use Rattle.jsonb_scan.specs.Source.{Found, Source, Spot, array_source_of, member_of, object_source_of, spot_of, tree_of_source}
+use Rattle.jsonb_spec.specs.Source.{Found, Source, Spot, array_source_of, member_of, object_source_of, spot_of, tree_of_source}
 use Rattle.jsonb.proofs.Containers.Repeats.{no_repeat}
 use Rattle.jsonb.proofs.Containers.Sources.{array_tree, object_tree}
 use Rattle.jsonb.proofs.Containers.Values.{same_keys}

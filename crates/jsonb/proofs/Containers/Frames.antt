@@ -2,13 +2,13 @@
 use Rattle.std.proofs.Common.{◌≡◌, map, inl, inr, ℕ, zero, suc, ◌+◌, ◌-◌, ◌≤◌, Bool, true, false, cond, List, [], ◌∷◌, ◌++◌, length, take, get_or, set, Option, Result, Ok, Err, IfErr, refl, sym, ap, ap₂, subst, ◌∙◌, arith, length-append, length-drop, drop, drop-drop, eqb, true≢false, reverse}
 use Rattle.std.proofs.lemmas.Bool.{eqb-true}
 use Rattle.std.proofs.lemmas.List.{reverse-append}
-use Rattle.jsonb_value.specs.Code.{Code}
-use Rattle.jsonb_value.specs.Code.Code.{depth_limit_exceeded, expected_array_comma_or_end, expected_object_comma_or_end}
-use Rattle.jsonb_value.specs.Grammar.{AreDistinct, max_depth}
-use Rattle.jsonb_value.specs.Mode.{Mode}
-use Rattle.jsonb_value.specs.Tree.{Mark, Tree}
-use Rattle.jsonb_value.specs.Tree.Mark.{plain}
-use Rattle.jsonb_value.specs.Tree.Tree.{null}
+use Rattle.jsonb_spec.specs.Code.{Code}
+use Rattle.jsonb_spec.specs.Code.Code.{depth_limit_exceeded, expected_array_comma_or_end, expected_object_comma_or_end}
+use Rattle.jsonb_spec.specs.Grammar.{AreDistinct, max_depth}
+use Rattle.jsonb_spec.specs.Mode.{Mode}
+use Rattle.jsonb_spec.specs.Tree.{Mark, Tree}
+use Rattle.jsonb_spec.specs.Tree.Mark.{plain}
+use Rattle.jsonb_spec.specs.Tree.Tree.{null}
 use Rattle.jsonb_value.specs.declared.error.Error.{Error}
 use Rattle.jsonb.specs.declared.parser.Parser.{Parser}
 use Rattle.jsonb.specs.declared.parser.frame.Frame.{Frame}
@@ -21,7 +21,7 @@ use Rattle.jsonb.specs.Parser.{Advances, read_at, rest_of, size_of}
 use Rattle.jsonb_scan.specs.Reading.{Fault, Read, begins, on_byte, refused, ◌>>=◌}
 use Rattle.jsonb_scan.specs.Reading.Blank.{skip_blanks}
 use Rattle.jsonb_scan.specs.Reading.Container.{array_at, elements_at, is_left_out, members_at, object_at, object_or_fault, value_or_null}
-use Rattle.jsonb_scan.specs.Source.{Found, Source, array_source, found, no_source_members, no_sources, null_source, object_source, object_source_of, source_alone, spot_of}
+use Rattle.jsonb_spec.specs.Source.{Found, Source, array_source, found, no_source_members, no_sources, null_source, object_source, object_source_of, source_alone, spot_of}
 use Rattle.jsonb_scan.specs.Reading.Document.{alone_at, value_at}
 use Rattle.jsonb_scan.specs.Reading.Scalar.{scalar_at}
 use Rattle.jsonb.specs.Stack.{elements_from, finish_open, member_start, next_part_at, object_end, part_end, read_members_from, resume, resume_after_part}

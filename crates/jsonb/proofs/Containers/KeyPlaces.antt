@@ -3,22 +3,22 @@ use Rattle.std.proofs.Common.{◌≡◌, ℕ, zero, suc, ◌+◌, ◌-◌, ◌<�
 use Rattle.std.specs.Cmp.Lexicographic.{slice_cmp}
 use Rattle.std.proofs.lemmas.List.Recursion.{is_count_by}
 use Rattle.std.proofs.lemmas.Bool.{cond-false}
-use Rattle.jsonb_value.specs.Grammar.Blanks.{IsBlanks}
-use Rattle.jsonb_value.specs.Code.Code.{expected_colon, expected_object_comma_or_end}
-use Rattle.jsonb_value.specs.Grammar.{IsJoined, IsMember}
-use Rattle.jsonb_value.specs.Grammar.IsJoined.{more_parts, one_part}
-use Rattle.jsonb_value.specs.Grammar.IsMember.{key_and_value}
-use Rattle.jsonb_value.specs.Grammar.IsPadded.{padded}
-use Rattle.jsonb_value.specs.Mode.{Mode}
-use Rattle.jsonb_value.specs.Grammar.Scalar.{IsKey}
-use Rattle.jsonb_value.specs.Tree.{Mark, Member}
+use Rattle.jsonb_spec.specs.Grammar.Blanks.{IsBlanks}
+use Rattle.jsonb_spec.specs.Code.Code.{expected_colon, expected_object_comma_or_end}
+use Rattle.jsonb_spec.specs.Grammar.{IsJoined, IsMember}
+use Rattle.jsonb_spec.specs.Grammar.IsJoined.{more_parts, one_part}
+use Rattle.jsonb_spec.specs.Grammar.IsMember.{key_and_value}
+use Rattle.jsonb_spec.specs.Grammar.IsPadded.{padded}
+use Rattle.jsonb_spec.specs.Mode.{Mode}
+use Rattle.jsonb_spec.specs.Grammar.Scalar.{IsKey}
+use Rattle.jsonb_spec.specs.Tree.{Mark, Member}
 use Rattle.jsonb_scan.specs.Reading.{Read, on_byte, refused, ◌>>=◌}
 use Rattle.jsonb_scan.specs.Reading.Blank.{skip_blanks}
 use Rattle.jsonb_scan.specs.Reading.Container.{after_key, after_part, found_at, joined_at, member_at, padded_at}
-use Rattle.jsonb_scan.specs.Source.{Found, Source, Spot, first_repeat, member_of, spot_of, tree_of_source}
+use Rattle.jsonb_spec.specs.Source.{Found, Source, Spot, first_repeat, member_of, spot_of, tree_of_source}
 use Rattle.jsonb_scan.specs.Reading.Scalar.{key_at}
-use Rattle.jsonb.specs.Refusals.{ArePassed, IsSpelling, Repeats, times}
-use Rattle.jsonb.specs.Refusals.ArePassed.{no_parts, part_passed}
+use Rattle.jsonb_spec.specs.Refusals.{ArePassed, IsSpelling, Repeats, times}
+use Rattle.jsonb_spec.specs.Refusals.ArePassed.{no_parts, part_passed}
 use Rattle.jsonb_scan.proofs.Steps.Tests.{bind_ok, refused_fails, same_read}
 use Rattle.jsonb_scan.proofs.Containers.JoinedParts.{IsSound, on_byte_cases, padded_seen, padded_sound}
 use Rattle.jsonb.proofs.Containers.Values.{Seen}

@@ -1,15 +1,15 @@
 -- Where the text of a value is a proper prefix of that of another, both are numbers.
 use Rattle.std.proofs.Common.{◌≡◌, ◌≢◌, ℕ, zero, suc, ◌≤◌, true≢false, List, [], ◌∷◌, ◌++◌, codes, None, ⊎_elim, refl, sym, ap, subst, ◌∙◌, eq-eqb, arith}
-use Rattle.jsonb_value.specs.Grammar.{Derives, IsValue}
-use Rattle.jsonb_value.specs.Grammar.IsValue.{empty_array, empty_object, full_array, full_object, scalar}
-use Rattle.jsonb_value.specs.Mode.{Mode}
-use Rattle.jsonb_value.specs.Mode.Mode.{extended}
-use Rattle.jsonb_value.specs.Accessors.{as_number}
-use Rattle.jsonb_value.specs.Grammar.Scalar.{IsQuote, IsScalar}
-use Rattle.jsonb_value.specs.Grammar.Scalar.IsLiteral.{false_word, null_word, true_word}
-use Rattle.jsonb_value.specs.Grammar.Scalar.IsScalar.{literal_value, number_value, string_value}
-use Rattle.jsonb_value.specs.Tree.{Tree}
-use Rattle.jsonb_value.specs.Tree.Tree.{number}
+use Rattle.jsonb_spec.specs.Grammar.{Derives, IsValue}
+use Rattle.jsonb_spec.specs.Grammar.IsValue.{empty_array, empty_object, full_array, full_object, scalar}
+use Rattle.jsonb_spec.specs.Mode.{Mode}
+use Rattle.jsonb_spec.specs.Mode.Mode.{extended}
+use Rattle.jsonb_spec.specs.Accessors.{as_number}
+use Rattle.jsonb_spec.specs.Grammar.Scalar.{IsQuote, IsScalar}
+use Rattle.jsonb_spec.specs.Grammar.Scalar.IsLiteral.{false_word, null_word, true_word}
+use Rattle.jsonb_spec.specs.Grammar.Scalar.IsScalar.{literal_value, number_value, string_value}
+use Rattle.jsonb_spec.specs.Tree.{Tree}
+use Rattle.jsonb_spec.specs.Tree.Tree.{number}
 use Rattle.jsonb_scan.specs.Reading.Scalar.{folded}
 use Rattle.jsonb.proofs.Documents.Spellings.{whole_if_no_number}
 use Rattle.jsonb.proofs.Scalars.Spellings.{IsApart, IsNumberTree, StartsNumber, StartsWord, number_opens, quote_is, quoted_starts, word_starts}

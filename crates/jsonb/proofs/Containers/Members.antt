@@ -1,11 +1,11 @@
 -- The object of members that were put in the order of their keys.
 use Rattle.std.proofs.Common.{◌≡◌, ℕ, ◌-◌, ◌≤◌, List, [], ◌∷◌, length, drop, map, Some, None, Ok, Err, IsPermutation, refl, ap, subst, ◌∙◌, arith}
-use Rattle.jsonb_value.specs.Code.Code.{object_duplicate_key}
-use Rattle.jsonb_value.specs.Grammar.{AreDistinct}
+use Rattle.jsonb_spec.specs.Code.Code.{object_duplicate_key}
+use Rattle.jsonb_spec.specs.Grammar.{AreDistinct}
 use Rattle.jsonb.specs.AstView.{Written}
 use Rattle.jsonb.specs.Source.{found_of}
 use Rattle.jsonb_scan.specs.Reading.Container.{object_or_fault}
-use Rattle.jsonb_scan.specs.Source.{Found, SpotsAreSorted, Spot, adjacent_repeat, first_repeat, object_source, sort_by, source_members_of, spot_of}
+use Rattle.jsonb_spec.specs.Source.{Found, SpotsAreSorted, Spot, adjacent_repeat, first_repeat, object_source, sort_by, source_members_of, spot_of}
 use Rattle.jsonb.proofs.Containers.Repeats.{distinct}
 use Rattle.jsonb.proofs.Containers.Shuffles.{first_repeat-sorted, none_left, shuffle-map, shuffled, sort-ascending, sort-distinct}
 use Rattle.jsonb.proofs.Places.Views.{fuse}

@@ -1,24 +1,24 @@
 -- From parsing the values in arrays and objects to parsing these, at any depth.
 use Rattle.std.proofs.Common.{◌≡◌, ℕ, zero, suc, ◌+◌, ◌-◌, ◌≤◌, Bool, true, false, true≢false, ◌||◌, ◌⊎◌, inl, inr, List, [], ◌∷◌, ◌++◌, length, map, Option, Some, None, Result, Ok, refl, sym, ap, subst, subst₂, ◌∙◌, append_assoc, length-append, arith, eqb, eqb-true}
 use Rattle.std.proofs.lemmas.Bool.{cond-false, cond-true}
-use Rattle.jsonb_value.specs.Grammar.Blanks.{AreLastBlanks, IsBlanks}
-use Rattle.jsonb_value.specs.Code.Code.{expected_array_comma_or_end, expected_colon, expected_object_comma_or_end, invalid_eof, unexpected_trailing_characters}
-use Rattle.jsonb_value.specs.Grammar.{AreDistinct, Derives, HaveDistinctKeys, IsDocument, IsElement, IsJoined, IsMember, IsPadded, IsValue, max_depth}
-use Rattle.jsonb_value.specs.Grammar.IsDocument.{blanks_alone, value_alone}
-use Rattle.jsonb_value.specs.Grammar.IsElement.{empty_element, whole_element}
-use Rattle.jsonb_value.specs.Grammar.IsJoined.{more_parts, one_part}
-use Rattle.jsonb_value.specs.Grammar.IsMember.{key_and_value}
-use Rattle.jsonb_value.specs.Grammar.IsValue.{empty_array, empty_object, full_array, full_object, scalar}
-use Rattle.jsonb_value.specs.Mode.{Mode}
-use Rattle.jsonb_value.specs.Mode.Mode.{extended, standard}
-use Rattle.jsonb_value.specs.Grammar.Scalar.{IsKey, IsScalar}
-use Rattle.jsonb_value.specs.Tree.{Mark, Member, Tree, put_all, trees_of}
-use Rattle.jsonb_value.specs.Tree.Members.{no_members}
-use Rattle.jsonb_value.specs.Tree.Tree.{array, object}
+use Rattle.jsonb_spec.specs.Grammar.Blanks.{AreLastBlanks, IsBlanks}
+use Rattle.jsonb_spec.specs.Code.Code.{expected_array_comma_or_end, expected_colon, expected_object_comma_or_end, invalid_eof, unexpected_trailing_characters}
+use Rattle.jsonb_spec.specs.Grammar.{AreDistinct, Derives, HaveDistinctKeys, IsDocument, IsElement, IsJoined, IsMember, IsPadded, IsValue, max_depth}
+use Rattle.jsonb_spec.specs.Grammar.IsDocument.{blanks_alone, value_alone}
+use Rattle.jsonb_spec.specs.Grammar.IsElement.{empty_element, whole_element}
+use Rattle.jsonb_spec.specs.Grammar.IsJoined.{more_parts, one_part}
+use Rattle.jsonb_spec.specs.Grammar.IsMember.{key_and_value}
+use Rattle.jsonb_spec.specs.Grammar.IsValue.{empty_array, empty_object, full_array, full_object, scalar}
+use Rattle.jsonb_spec.specs.Mode.{Mode}
+use Rattle.jsonb_spec.specs.Mode.Mode.{extended, standard}
+use Rattle.jsonb_spec.specs.Grammar.Scalar.{IsKey, IsScalar}
+use Rattle.jsonb_spec.specs.Tree.{Mark, Member, Tree, put_all, trees_of}
+use Rattle.jsonb_spec.specs.Tree.Members.{no_members}
+use Rattle.jsonb_spec.specs.Tree.Tree.{array, object}
 use Rattle.jsonb_scan.specs.Reading.{Fault, Read, begins, fault, on_byte, refused, ◌>>=◌}
 use Rattle.jsonb_scan.specs.Reading.Blank.{is_blank_start, is_break, opens_comment, skip_closed_blanks, skip_blanks}
 use Rattle.jsonb_scan.specs.Reading.Container.{after_key, array_at, element_at, elements_at, found_at, is_left_out, joined_at, member_at, members_at, object_at, object_or_fault, padded_at, value_or_null}
-use Rattle.jsonb_scan.specs.Source.{Found, Source, Spot, array_source, array_source_of, first_repeat, found, member_of, no_source_members, no_sources, null_source, object_source, object_source_of, source_alone, spot_of, tree_of_source}
+use Rattle.jsonb_spec.specs.Source.{Found, Source, Spot, array_source, array_source_of, first_repeat, found, member_of, no_source_members, no_sources, null_source, object_source, object_source_of, source_alone, spot_of, tree_of_source}
 use Rattle.jsonb.proofs.Containers.Sources.{alone_tree, array_tree, object_tree}
 use Rattle.jsonb_scan.specs.Reading.Document.{alone_at, at_end, comment_at, document_of, source_from, source_of, nothing_at, too_deep, value_at, value_to_end, value_with}
 use Rattle.jsonb_scan.specs.Reading.Scalar.{key_at, scalar_at}

@@ -6,21 +6,21 @@ use Rattle.jsonb.specs.declared.parser.Parser.{Parser}
 use Rattle.jsonb_value.specs.declared.error.Error.{Error}
 use Rattle.jsonb_value.specs.declared.error.Error.TheVariants.{Syntax, OutOfMemory}
 use Rattle.jsonb.specs.declared.parser.ast.JsonAst.{JsonAst}
-use Rattle.jsonb_value.specs.Code.{code_of}
-use Rattle.jsonb_value.specs.Code.Code.{invalid_eof, unexpected_trailing_characters}
-use Rattle.jsonb_value.specs.Grammar.{IsDocument, max_depth, IsNoDocument}
-use Rattle.jsonb_value.specs.Mode.{Mode, extended}
-use Rattle.jsonb_value.specs.Tree.{Tree}
+use Rattle.jsonb_value.specs.Error.CodeView.{code_of}
+use Rattle.jsonb_spec.specs.Code.Code.{invalid_eof, unexpected_trailing_characters}
+use Rattle.jsonb_spec.specs.Grammar.{IsDocument, max_depth, IsNoDocument}
+use Rattle.jsonb_spec.specs.Mode.{Mode, extended}
+use Rattle.jsonb_spec.specs.Tree.{Tree}
 use Rattle.jsonb.specs.AstView.{ast_view}
 use Rattle.jsonb_scan.specs.Answer.{Gives, IsTextRefusal, mode_of}
 use Rattle.jsonb.specs.Parser.{Advances, rest_of, size_of}
-use Rattle.jsonb_scan.specs.Source.{Source, null_source, tree_of_source}
+use Rattle.jsonb_spec.specs.Source.{Source, null_source, tree_of_source}
 use Rattle.jsonb_scan.specs.Reading.{Fault, fault, ◌>>=◌}
 use Rattle.jsonb_scan.specs.Reading.Blank.{opens_comment, skip_closed_blanks}
 use Rattle.jsonb_scan.specs.Reading.Document.{at_end, comment_at, document_of, source_from, source_of, value_at, value_to_end}
 use Rattle.jsonb.specs.Handler.{IsWritten}
-use Rattle.jsonb.specs.Refusals.{IsExplained}
-use Rattle.jsonb.specs.Placed.{IsPlaced}
+use Rattle.jsonb.specs.Explained.{IsExplained}
+use Rattle.jsonb_spec.specs.Placed.{IsPlaced}
 use Rattle.jsonb.specs.Source.{source_view}
 use Rattle.jsonb.proofs.Places.Placed.{source_placed}
 use Rattle.jsonb.proofs.Places.Views.{tree_of_view}

@@ -1,11 +1,11 @@
 -- The tree of a document has a sort key that compares: its kinds are those of JSON, and its numbers fit their forms.
 use Rattle.std.proofs.Common.{ℕ, zero, suc, List}
-use Rattle.jsonb_value.specs.Grammar.{IsDocument}
-use Rattle.jsonb_value.specs.Mode.{Mode, standard, extended}
-use Rattle.jsonb_value.specs.Proper.{IsProper, AreProper, HaveProperParts}
-use Rattle.jsonb_value.specs.SortKey.{IsBounded, AreBounded, HaveBounds}
-use Rattle.jsonb_value.specs.Text.Range.{IsWithin, AreWithin, HaveWithin, IsInTexts, IsIntegral}
-use Rattle.jsonb_value.specs.Tree.{Num, Tree, null, boolean, string, number, array, object, binary, date, timestamp, timestamp_tz, interval, Trees, no_trees, more_trees, Members, no_members, more_members}
+use Rattle.jsonb_spec.specs.Grammar.{IsDocument}
+use Rattle.jsonb_spec.specs.Mode.{Mode, standard, extended}
+use Rattle.jsonb_spec.specs.Proper.{IsProper, AreProper, HaveProperParts}
+use Rattle.jsonb_spec.specs.SortKey.{IsBounded, AreBounded, HaveBounds}
+use Rattle.jsonb_spec.specs.Text.Range.{IsWithin, AreWithin, HaveWithin, IsInTexts, IsIntegral}
+use Rattle.jsonb_spec.specs.Tree.{Num, Tree, null, boolean, string, number, array, object, binary, date, timestamp, timestamp_tz, interval, Trees, no_trees, more_trees, Members, no_members, more_members}
 use Rattle.jsonb_value.proofs.Trees.RangeTexts.{document_in_range}
 
 module _ (IsIn : Num → Type 0) where

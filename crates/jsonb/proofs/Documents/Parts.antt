@@ -6,13 +6,13 @@ use Rattle.std.specs.Prelude.{IsErrOf}
 use Rattle.std.specs.Str.{bytes_eq}
 use Rattle.jsonb_value.specs.declared.error.Error.{Error}
 use Rattle.jsonb_value.specs.declared.error.Error.TheVariants.{OutOfMemory, UnexpectedType}
-use Rattle.jsonb_value.specs.Accessors.{find_member, item_at}
-use Rattle.jsonb_value.specs.Grammar.{IsDocument}
-use Rattle.jsonb_value.specs.Mode.{Mode}
-use Rattle.jsonb_value.specs.Text.{has_text, items_have_texts, members_have_texts, text_of, tree_text}
-use Rattle.jsonb_value.specs.Tree.{Tree, array, object, Trees, no_trees, more_trees, Members, no_members, more_members}
+use Rattle.jsonb_spec.specs.Accessors.{find_member, item_at}
+use Rattle.jsonb_spec.specs.Grammar.{IsDocument}
+use Rattle.jsonb_spec.specs.Mode.{Mode}
+use Rattle.jsonb_spec.specs.Text.{has_text, items_have_texts, members_have_texts, text_of, tree_text}
+use Rattle.jsonb_spec.specs.Tree.{Tree, array, object, Trees, no_trees, more_trees, Members, no_members, more_members}
 use Rattle.jsonb_value.proofs.Trees.DocumentTexts.{text_of-has_text}
-use Rattle.jsonb_write.specs.PartAt.{child_at, index_named, part_at}
+use Rattle.jsonb_spec.specs.PartAt.{child_at, index_named, part_at}
 use Rattle.jsonb.specs.Appends.{AppendsPart, AppendsPartOf, IsParsed, LacksRoomForPart}
 use Rattle.jsonb.proofs.Documents.Straight.{text_there}
 

@@ -1,21 +1,21 @@
 -- A text is accepted exactly where it is a document, and it is a document of one tree.
 use Rattle.std.proofs.Common.{◌≡◌, ℕ, zero, suc, ◌+◌, ◌-◌, arith, false, true, List, [], ◌∷◌, ◌++◌, length, Ok, Err, refl, sym, ap, subst, ◌∙◌, append-nil, append_assoc}
 use Rattle.std.proofs.lemmas.Bool.{cond-false, cond-true}
-use Rattle.jsonb_value.specs.Grammar.Blanks.{AreLastBlanks, IsBlanks}
-use Rattle.jsonb_value.specs.Grammar.Blanks.AreLastBlanks.{blanks_to_end, line_to_end}
-use Rattle.jsonb_value.specs.Grammar.Blanks.IsBlanks.{more_blanks, no_blanks}
-use Rattle.jsonb_value.specs.Grammar.{Derives, IsDocument, IsElement, IsJoined, IsMember, IsPadded, IsValue, max_depth, IsNoDocument}
-use Rattle.jsonb_value.specs.Grammar.IsDocument.{blanks_alone, value_alone}
-use Rattle.jsonb_value.specs.Grammar.IsElement.{empty_element, whole_element}
-use Rattle.jsonb_value.specs.Grammar.IsJoined.{more_parts, one_part}
-use Rattle.jsonb_value.specs.Grammar.IsMember.{key_and_value}
-use Rattle.jsonb_value.specs.Grammar.IsPadded.{padded}
-use Rattle.jsonb_value.specs.Grammar.IsValue.{empty_array, empty_object, full_array, full_object, scalar}
-use Rattle.jsonb_value.specs.Code.Code.{unexpected_trailing_characters}
-use Rattle.jsonb_value.specs.Mode.{Mode}
-use Rattle.jsonb_value.specs.Mode.Mode.{extended}
-use Rattle.jsonb_value.specs.Tree.{Member, Tree}
-use Rattle.jsonb_scan.specs.Source.{Source, null_source, tree_of_source}
+use Rattle.jsonb_spec.specs.Grammar.Blanks.{AreLastBlanks, IsBlanks}
+use Rattle.jsonb_spec.specs.Grammar.Blanks.AreLastBlanks.{blanks_to_end, line_to_end}
+use Rattle.jsonb_spec.specs.Grammar.Blanks.IsBlanks.{more_blanks, no_blanks}
+use Rattle.jsonb_spec.specs.Grammar.{Derives, IsDocument, IsElement, IsJoined, IsMember, IsPadded, IsValue, max_depth, IsNoDocument}
+use Rattle.jsonb_spec.specs.Grammar.IsDocument.{blanks_alone, value_alone}
+use Rattle.jsonb_spec.specs.Grammar.IsElement.{empty_element, whole_element}
+use Rattle.jsonb_spec.specs.Grammar.IsJoined.{more_parts, one_part}
+use Rattle.jsonb_spec.specs.Grammar.IsMember.{key_and_value}
+use Rattle.jsonb_spec.specs.Grammar.IsPadded.{padded}
+use Rattle.jsonb_spec.specs.Grammar.IsValue.{empty_array, empty_object, full_array, full_object, scalar}
+use Rattle.jsonb_spec.specs.Code.Code.{unexpected_trailing_characters}
+use Rattle.jsonb_spec.specs.Mode.{Mode}
+use Rattle.jsonb_spec.specs.Mode.Mode.{extended}
+use Rattle.jsonb_spec.specs.Tree.{Member, Tree}
+use Rattle.jsonb_spec.specs.Source.{Source, null_source, tree_of_source}
 use Rattle.jsonb_scan.specs.Reading.{Fault, Read, fault, ◌>>=◌}
 use Rattle.jsonb_scan.specs.Reading.Blank.{is_blank_start, opens_comment, skip_closed_blanks}
 use Rattle.jsonb_scan.specs.Reading.Document.{at_end, comment_at, document_of, nothing_at, source_from, source_of, value_at, value_to_end}

@@ -4,13 +4,13 @@ use Rattle.std.specs.Prelude.{IsErrOf}
 use Rattle.std.specs.Result.{is_err}
 use Rattle.jsonb_value.specs.declared.error.Error.{Error}
 use Rattle.jsonb_value.specs.declared.error.Error.TheVariants.{OutOfMemory, UnexpectedType}
-use Rattle.jsonb_value.specs.Grammar.{IsDocument}
-use Rattle.jsonb_value.specs.Mode.{Mode}
-use Rattle.jsonb_value.specs.Text.{text_of, tree_text}
-use Rattle.jsonb_value.specs.Tree.{Tree}
+use Rattle.jsonb_spec.specs.Grammar.{IsDocument}
+use Rattle.jsonb_spec.specs.Mode.{Mode}
+use Rattle.jsonb_spec.specs.Text.{text_of, tree_text}
+use Rattle.jsonb_spec.specs.Tree.{Tree}
 use Rattle.jsonb_value.proofs.Trees.DocumentTexts.{document_has_text, some_text}
 use Rattle.jsonb_scan.specs.Reading.Document.{source_of}
-use Rattle.jsonb_scan.specs.Source.{Source, tree_of_source}
+use Rattle.jsonb_spec.specs.Source.{Source, tree_of_source}
 use Rattle.jsonb.specs.Appends.{IsParsed, LacksRoomForText}
 use Rattle.jsonb.proofs.Containers.Values.{document_sound}
 use Rattle.jsonb.proofs.Documents.Agreement.{document_built}

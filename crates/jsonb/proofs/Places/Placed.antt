@@ -2,27 +2,27 @@
 use Rattle.std.proofs.Common.{◌≡◌, true≢false, inl, inr, ℕ, zero, suc, ◌+◌, ◌-◌, ◌<◌, true, List, [], ◌∷◌, ◌++◌, length, drop, map, None, Ok, nat_cmp, refl, sym, ap, subst, subst₂, ◌∙◌, append-nil, append_assoc, arith, length-append}
 use Rattle.std.proofs.Math.Seq.{drop-append_seam}
 use Rattle.std.specs.Cmp.Lexicographic.{slice_cmp}
-use Rattle.jsonb_value.specs.Code.{Code}
-use Rattle.jsonb_value.specs.Code.Code.{expected_array_comma_or_end, expected_colon, expected_object_comma_or_end}
-use Rattle.jsonb_value.specs.Grammar.{Derives, IsElement, max_depth}
-use Rattle.jsonb_value.specs.Grammar.Blanks.{AreLastBlanks}
-use Rattle.jsonb_value.specs.Mode.{Mode}
-use Rattle.jsonb_value.specs.Mode.Mode.{extended, standard}
-use Rattle.jsonb_value.specs.Grammar.Scalar.{IsKey}
-use Rattle.jsonb_value.specs.Tree.{Mark, Tree}
-use Rattle.jsonb.specs.Placed.{AreElementsAt, AreMembersAt, Has, HasBlanks, HasByte, IsElementAt, IsMemberAt, IsPlaced, IsValueAt, SourceKeysAscend}
-use Rattle.jsonb.specs.Placed.AreElementsAt.{more_elements, one_element}
-use Rattle.jsonb.specs.Placed.AreMembersAt.{more_members, one_member}
-use Rattle.jsonb.specs.Placed.IsElementAt.{empty_element, whole_element}
-use Rattle.jsonb.specs.Placed.IsMemberAt.{key_and_value}
-use Rattle.jsonb.specs.Placed.IsPlaced.{blanks_alone, value_alone}
-use Rattle.jsonb.specs.Placed.IsValueAt.{empty_array, empty_object, full_array, full_object, scalar}
+use Rattle.jsonb_spec.specs.Code.{Code}
+use Rattle.jsonb_spec.specs.Code.Code.{expected_array_comma_or_end, expected_colon, expected_object_comma_or_end}
+use Rattle.jsonb_spec.specs.Grammar.{Derives, IsElement, max_depth}
+use Rattle.jsonb_spec.specs.Grammar.Blanks.{AreLastBlanks}
+use Rattle.jsonb_spec.specs.Mode.{Mode}
+use Rattle.jsonb_spec.specs.Mode.Mode.{extended, standard}
+use Rattle.jsonb_spec.specs.Grammar.Scalar.{IsKey}
+use Rattle.jsonb_spec.specs.Tree.{Mark, Tree}
+use Rattle.jsonb_spec.specs.Placed.{AreElementsAt, AreMembersAt, Has, HasBlanks, HasByte, IsElementAt, IsMemberAt, IsPlaced, IsValueAt, SourceKeysAscend}
+use Rattle.jsonb_spec.specs.Placed.AreElementsAt.{more_elements, one_element}
+use Rattle.jsonb_spec.specs.Placed.AreMembersAt.{more_members, one_member}
+use Rattle.jsonb_spec.specs.Placed.IsElementAt.{empty_element, whole_element}
+use Rattle.jsonb_spec.specs.Placed.IsMemberAt.{key_and_value}
+use Rattle.jsonb_spec.specs.Placed.IsPlaced.{blanks_alone, value_alone}
+use Rattle.jsonb_spec.specs.Placed.IsValueAt.{empty_array, empty_object, full_array, full_object, scalar}
 use Rattle.jsonb_scan.specs.Reading.{Read, begins, on_byte, refused, ◌>>=◌}
 use Rattle.jsonb_scan.specs.Reading.Blank.{opens_comment, skip_blanks, skip_closed_blanks}
 use Rattle.jsonb_scan.specs.Reading.Container.{after_key, after_part, array_at, element_at, elements_at, found_at, is_left_out, joined_at, member_at, members_at, object_at, object_or_fault, padded_at, value_or_null}
 use Rattle.jsonb_scan.specs.Reading.Document.{alone_at, at_end, comment_at, nothing_at, source_from, source_of, too_deep, value_at, value_to_end}
 use Rattle.jsonb_scan.specs.Reading.Scalar.{key_at, scalar_at}
-use Rattle.jsonb_scan.specs.Source.{Found, Source, adjacent_repeat, array_source, array_source_of, first_repeat, found, no_source_members, no_sources, null_source, object_source, sort_by, source_alone, source_members_of, spot_of}
+use Rattle.jsonb_spec.specs.Source.{Found, Source, adjacent_repeat, array_source, array_source_of, first_repeat, found, no_source_members, no_sources, null_source, object_source, sort_by, source_alone, source_members_of, spot_of}
 use Rattle.jsonb_scan.proofs.Containers.JoinedParts.{IsSound, IsSoundBefore, joined-skip, joined_sound, on_byte_cases}
 use Rattle.jsonb_scan.proofs.Steps.Tests.{bind_ok, chosen, refused_fails, same_ok, same_read}
 use Rattle.jsonb_scan.proofs.Text.Blanks.{ends_all, passes, skip-blanks, skip-skip, skip-stop, skips}

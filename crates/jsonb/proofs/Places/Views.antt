@@ -5,12 +5,12 @@ use Rattle.std.specs.declared.borrow.CowStr.{CowStr}
 use Rattle.jsonb.specs.declared.parser.ast.JsonAst.{JsonAst, fold-roll-JsonAst, map-JsonAst, the_lemmas, ind-JsonAst}
 use Rattle.jsonb.specs.declared.parser.ast.JsonAst as ast
 use Rattle.jsonb.specs.declared.parser.ast.JsonAst.TheOpen.{JsonAst-F}
-use Rattle.jsonb_value.specs.Tree.{Members, Tree, more_trees, put, put_all, trees_of}
-use Rattle.jsonb_value.specs.Tree.Members.{no_members}
-use Rattle.jsonb_value.specs.Tree.Tree.{array, object}
+use Rattle.jsonb_spec.specs.Tree.{Members, Tree, more_trees, put, put_all, trees_of}
+use Rattle.jsonb_spec.specs.Tree.Members.{no_members}
+use Rattle.jsonb_spec.specs.Tree.Tree.{array, object}
 use Rattle.jsonb.specs.AstView.{Written, ast_step, ast_view, keyed_trees}
 use Rattle.jsonb.specs.Source.{found_from, found_of, source_step, source_view}
-use Rattle.jsonb_scan.specs.Source.{Source, array_source_of, object_source, put_source_members, source_members_of, sources_of, tree_of_source, trees_of_sources}
+use Rattle.jsonb_spec.specs.Source.{Source, array_source_of, object_source, put_source_members, source_members_of, sources_of, tree_of_source, trees_of_sources}
 
 pub fuse : {A B C : Type 0} (f : A → B) (g : B → C) (xs : List A) → map g (map f xs) ≡ map (λ x. g (f x)) xs
 fuse f g [] = refl

@@ -1,7 +1,7 @@
 -- In which of two steps the fault was, and the codes of which something is said.
 use Rattle.std.proofs.Common.{◌≡◌, ℕ, ◌+◌, ◌-◌, ◌⊎◌, inl, inr, List, [], ◌∷◌, length, Result, Ok, Err, refl, sym, ap, subst}
-use Rattle.jsonb_value.specs.Code.{Code}
-use Rattle.jsonb_value.specs.Code.Code.{depth_limit_exceeded, expected_some_value, invalid_eof, number_not_carried, object_duplicate_key, unexpected_trailing_characters}
+use Rattle.jsonb_spec.specs.Code.{Code}
+use Rattle.jsonb_spec.specs.Code.Code.{depth_limit_exceeded, expected_some_value, invalid_eof, number_not_carried, object_duplicate_key, unexpected_trailing_characters}
 use Rattle.jsonb_scan.specs.Reading.{Fault, fault, refused, ◌>>=◌}
 
 -- the codes of which `Stands` says something

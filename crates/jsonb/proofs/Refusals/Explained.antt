@@ -1,23 +1,23 @@
 -- What a fault says of the bytes that were parsed, at any depth.
 use Rattle.std.proofs.Common.{◌≡◌, ℕ, zero, suc, ◌+◌, ◌-◌, ◌<◌, ◌≤◌, false, ◌⊎◌, inl, inr, List, [], ◌∷◌, ◌++◌, length, map, Option, Some, None, Ok, Err, refl, sym, ap, subst, ◌∙◌, append_assoc, length-append, arith}
-use Rattle.jsonb_value.specs.Grammar.Blanks.{IsBlanks}
-use Rattle.jsonb_value.specs.Grammar.Blanks.IsBlanks.{more_blanks, no_blanks}
-use Rattle.jsonb_value.specs.Code.{Code}
-use Rattle.jsonb_value.specs.Code.Code.{depth_limit_exceeded, expected_array_comma_or_end, expected_colon, expected_object_comma_or_end, expected_some_value, invalid_eof, number_not_carried, object_duplicate_key}
-use Rattle.jsonb_value.specs.Grammar.{Derives, IsElement, IsMember, IsPadded, IsValue}
-use Rattle.jsonb_value.specs.Grammar.IsValue.{empty_array, empty_object, full_array, full_object, scalar}
-use Rattle.jsonb_value.specs.Mode.{Mode}
-use Rattle.jsonb_value.specs.Grammar.Scalar.{IsKey, IsScalar}
-use Rattle.jsonb_value.specs.Tree.{Mark, Member, Tree}
+use Rattle.jsonb_spec.specs.Grammar.Blanks.{IsBlanks}
+use Rattle.jsonb_spec.specs.Grammar.Blanks.IsBlanks.{more_blanks, no_blanks}
+use Rattle.jsonb_spec.specs.Code.{Code}
+use Rattle.jsonb_spec.specs.Code.Code.{depth_limit_exceeded, expected_array_comma_or_end, expected_colon, expected_object_comma_or_end, expected_some_value, invalid_eof, number_not_carried, object_duplicate_key}
+use Rattle.jsonb_spec.specs.Grammar.{Derives, IsElement, IsMember, IsPadded, IsValue}
+use Rattle.jsonb_spec.specs.Grammar.IsValue.{empty_array, empty_object, full_array, full_object, scalar}
+use Rattle.jsonb_spec.specs.Mode.{Mode}
+use Rattle.jsonb_spec.specs.Grammar.Scalar.{IsKey, IsScalar}
+use Rattle.jsonb_spec.specs.Tree.{Mark, Member, Tree}
 use Rattle.jsonb_scan.specs.Reading.{Fault, Read, begins, on_byte, refused, ◌>>=◌}
 use Rattle.jsonb_scan.specs.Reading.Blank.{skip_blanks}
 use Rattle.jsonb_scan.specs.Reading.Container.{after_key, after_part, array_at, element_at, elements_at, found_at, is_left_out, joined_at, member_at, members_at, object_at, object_or_fault, padded_at, value_or_null}
-use Rattle.jsonb_scan.specs.Source.{Found, Source, Spot, array_source, array_source_of, first_repeat, member_of, no_source_members, no_sources, null_source, object_source, object_source_of, source_alone, spot_of, tree_of_source}
+use Rattle.jsonb_spec.specs.Source.{Found, Source, Spot, array_source, array_source_of, first_repeat, member_of, no_source_members, no_sources, null_source, object_source, object_source_of, source_alone, spot_of, tree_of_source}
 use Rattle.jsonb_scan.specs.Reading.Document.{alone_at, too_deep, value_at, value_with}
 use Rattle.jsonb_scan.specs.Reading.Scalar.{key_at, scalar_at}
-use Rattle.jsonb.specs.Refusals.{ArePassed, IsFront, IsSpelling, Repeats}
-use Rattle.jsonb.specs.Refusals.ArePassed.{no_parts, part_passed}
-use Rattle.jsonb.specs.Refusals.IsFront.{front_of_blanks, in_array, in_object}
+use Rattle.jsonb_spec.specs.Refusals.{ArePassed, IsFront, IsSpelling, Repeats}
+use Rattle.jsonb_spec.specs.Refusals.ArePassed.{no_parts, part_passed}
+use Rattle.jsonb_spec.specs.Refusals.IsFront.{front_of_blanks, in_array, in_object}
 use Rattle.jsonb_scan.proofs.Steps.Tests.{chosen}
 use Rattle.jsonb.proofs.Refusals.Codes.{IsTold, bind_err, same_err, silent_fault, silent_refused}
 use Rattle.jsonb.proofs.Containers.KeyPlaces.{laid_repeats, members_laid}

@@ -4,21 +4,21 @@ use Rattle.std.specs.Char.{is_ascii_digit}
 use Rattle.std.specs.Str.{is_utf8}
 use Rattle.std.specs.Bool.{nat_lt}
 use Rattle.std.proofs.lemmas.Bool.{cases_lt, cond-true}
-use Rattle.jsonb_value.specs.Code.{Code}
-use Rattle.jsonb_value.specs.Code.Code.{expected_some_ident, expected_some_value, invalid_eof, invalid_string_value, number_not_carried, object_key_invalid_character, object_key_invalid_number}
-use Rattle.jsonb_value.specs.Mode.{Mode}
-use Rattle.jsonb_value.specs.Mode.Mode.{extended, standard}
-use Rattle.jsonb_value.specs.Grammar.Scalar.{IsNumber, IsQuote, IsScalar, IsUncarried}
-use Rattle.jsonb_value.specs.Grammar.Scalar.IsLiteral.{false_word, null_word, true_word}
-use Rattle.jsonb_value.specs.Grammar.Scalar.IsScalar.{literal_value, number_value, string_value}
-use Rattle.jsonb_value.specs.Grammar.StringBody.{Item, escaped_byte, meaning, spelling}
-use Rattle.jsonb_value.specs.Tree.{Mark, plain, Num, Tree}
-use Rattle.jsonb_value.specs.Tree.Tree.{boolean, null, number, string}
+use Rattle.jsonb_spec.specs.Code.{Code}
+use Rattle.jsonb_spec.specs.Code.Code.{expected_some_ident, expected_some_value, invalid_eof, invalid_string_value, number_not_carried, object_key_invalid_character, object_key_invalid_number}
+use Rattle.jsonb_spec.specs.Mode.{Mode}
+use Rattle.jsonb_spec.specs.Mode.Mode.{extended, standard}
+use Rattle.jsonb_spec.specs.Grammar.Scalar.{IsNumber, IsQuote, IsScalar, IsUncarried}
+use Rattle.jsonb_spec.specs.Grammar.Scalar.IsLiteral.{false_word, null_word, true_word}
+use Rattle.jsonb_spec.specs.Grammar.Scalar.IsScalar.{literal_value, number_value, string_value}
+use Rattle.jsonb_spec.specs.Grammar.StringBody.{Item, escaped_byte, meaning, spelling}
+use Rattle.jsonb_spec.specs.Tree.{Mark, plain, Num, Tree}
+use Rattle.jsonb_spec.specs.Tree.Tree.{boolean, null, number, string}
 use Rattle.jsonb_scan.specs.Reading.{Fault, Read, begins, fault, fault_at, refused}
 use Rattle.jsonb_scan.specs.Reading.BareKey.{bare_key_at, key_end, key_to, text_key}
 use Rattle.jsonb_scan.specs.Reading.Scalar.{begins_letter, begins_number, false_at, folded, key_at, letters_at, null_at, number_at, number_or_fault, number_value_at, on_single_quote, or_else, quoted_at, scalar_at, true_or_false_at, unquoted_at, word_at, words_at}
 use Rattle.jsonb_scan.specs.Reading.String.{Body, body_of, checked_unit, closed, decoded, escape_at, item_at, items_within, known_escape, meaning_of, non_digit, onto, quote_end, string_at, then_items, unit_at}
-use Rattle.jsonb.specs.Refusals.{IsNumberSpelling}
+use Rattle.jsonb_spec.specs.Refusals.{IsNumberSpelling}
 use Rattle.jsonb_scan.proofs.Steps.Tests.{bind_ok, chosen, same_read}
 use Rattle.jsonb.proofs.Refusals.Codes.{IsTold, bind_err, same_err, silent_fault, silent_refused}
 use Rattle.jsonb_scan.proofs.Containers.JoinedParts.{on_byte_cases}

@@ -1,25 +1,25 @@
 -- What the fault of a whole text says of it.
 use Rattle.std.proofs.Common.{◌≡◌, ℕ, zero, suc, ◌+◌, ◌-◌, ◌<◌, ◌≤◌, false, true≢false, ◌⊎◌, inl, inr, List, [], ◌∷◌, ◌++◌, length, Result, Ok, Err, refl, sym, ap, subst, ◌∙◌, append_assoc, length-append, arith}
 use Rattle.std.proofs.lemmas.Bool.{cond-true}
-use Rattle.jsonb_value.specs.Grammar.Blanks.{AreLastBlanks, IsBlank, IsBlanks}
-use Rattle.jsonb_value.specs.Grammar.Blanks.AreLastBlanks.{blanks_to_end, line_to_end}
-use Rattle.jsonb_value.specs.Grammar.Blanks.IsBlanks.{more_blanks, no_blanks}
-use Rattle.jsonb_value.specs.Code.{Code}
-use Rattle.jsonb_value.specs.Code.Code.{depth_limit_exceeded, expected_some_value, invalid_eof, number_not_carried, object_duplicate_key, unexpected_trailing_characters}
-use Rattle.jsonb_value.specs.Grammar.{Derives, IsDocument, IsValue, max_depth}
-use Rattle.jsonb_value.specs.Grammar.IsDocument.{blanks_alone, value_alone}
-use Rattle.jsonb_value.specs.Grammar.IsValue.{empty_array, empty_object, full_array, full_object, scalar}
-use Rattle.jsonb_value.specs.Mode.{Mode}
-use Rattle.jsonb_value.specs.Mode.Mode.{extended, standard}
-use Rattle.jsonb_value.specs.Grammar.Scalar.{IsScalar}
-use Rattle.jsonb_value.specs.Tree.{Tree}
-use Rattle.jsonb_scan.specs.Source.{Source, null_source, source_alone, tree_of_source}
+use Rattle.jsonb_spec.specs.Grammar.Blanks.{AreLastBlanks, IsBlank, IsBlanks}
+use Rattle.jsonb_spec.specs.Grammar.Blanks.AreLastBlanks.{blanks_to_end, line_to_end}
+use Rattle.jsonb_spec.specs.Grammar.Blanks.IsBlanks.{more_blanks, no_blanks}
+use Rattle.jsonb_spec.specs.Code.{Code}
+use Rattle.jsonb_spec.specs.Code.Code.{depth_limit_exceeded, expected_some_value, invalid_eof, number_not_carried, object_duplicate_key, unexpected_trailing_characters}
+use Rattle.jsonb_spec.specs.Grammar.{Derives, IsDocument, IsValue, max_depth}
+use Rattle.jsonb_spec.specs.Grammar.IsDocument.{blanks_alone, value_alone}
+use Rattle.jsonb_spec.specs.Grammar.IsValue.{empty_array, empty_object, full_array, full_object, scalar}
+use Rattle.jsonb_spec.specs.Mode.{Mode}
+use Rattle.jsonb_spec.specs.Mode.Mode.{extended, standard}
+use Rattle.jsonb_spec.specs.Grammar.Scalar.{IsScalar}
+use Rattle.jsonb_spec.specs.Tree.{Tree}
+use Rattle.jsonb_spec.specs.Source.{Source, null_source, source_alone, tree_of_source}
 use Rattle.jsonb_scan.specs.Reading.{Fault, Read, begins, fault, on_byte, ◌>>=◌}
 use Rattle.jsonb_scan.specs.Reading.Blank.{opens_comment, skip_closed_blanks, skip_blanks}
 use Rattle.jsonb_scan.specs.Reading.Container.{array_at, object_at}
 use Rattle.jsonb_scan.specs.Reading.Document.{alone_at, at_end, comment_at, document_of, nothing_at, source_from, source_of, too_deep, value_at, value_to_end, value_with}
 use Rattle.jsonb_scan.specs.Reading.Scalar.{scalar_at}
-use Rattle.jsonb.specs.Refusals.{IsFront, Stands, Trails}
+use Rattle.jsonb_spec.specs.Refusals.{IsFront, Stands, Trails}
 use Rattle.jsonb_scan.proofs.Steps.Tests.{bind_ok, chosen, same_read}
 use Rattle.jsonb.proofs.Refusals.Codes.{IsTold, bind_err, same_err, silent_fault}
 use Rattle.jsonb_scan.proofs.Containers.JoinedParts.{Ends, Starts, ends-blank, ends_at, on_byte-other, skip-starts, starts-append}

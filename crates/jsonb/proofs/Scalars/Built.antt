@@ -5,9 +5,9 @@ use Rattle.std.proofs.Math.Seq.{take-append_seam}
 use Rattle.std.proofs.lemmas.Bool.{cases_Bool, cond-false, cond-true, eqb-true}
 use Rattle.jsonb_value.specs.declared.error.Error.{Error}
 use Rattle.jsonb_value.specs.declared.error.Error.TheVariants.{Syntax, OutOfMemory}
-use Rattle.jsonb_value.specs.Mode.{Mode, standard, extended}
+use Rattle.jsonb_spec.specs.Mode.{Mode, standard, extended}
 use Rattle.jsonb_scan.specs.declared.parser.number.ShortInteger.{ShortInteger}
-use Rattle.jsonb_value.specs.Tree.{Mark, Num, Tree, int64, uint64, null, boolean, number, string}
+use Rattle.jsonb_spec.specs.Tree.{Mark, Num, Tree, int64, uint64, null, boolean, number, string}
 use Rattle.jsonb.specs.declared.parser.Parser.{Parser}
 use Rattle.jsonb_scan.specs.Answer.{Fails, mode_of}
 use Rattle.jsonb_scan.specs.Reading.{Fault, Read, begins, ◌>>=◌}
@@ -16,20 +16,20 @@ use Rattle.jsonb_scan.specs.Reading.Number.{is_number_start, standard_number_at}
 use Rattle.jsonb_scan.specs.Reading.Scalar.{begins_letter, begins_number, false_at, letters_at, null_at, number_at, number_or_fault, number_value_at, or_else, other_scalar_at, quoted_at, scalar_at, true_or_false_at, word_at, words_at}
 use Rattle.jsonb_scan.specs.Reading.String.{string_at}
 use Rattle.jsonb_scan.specs.Open.{Open, elements_so_far, members_so_far}
-use Rattle.jsonb_scan.specs.Source.{Found, Source, found, number_source, source_alone}
-use Rattle.jsonb_value.specs.Grammar.StandardNumber.{IsStandardNumber}
+use Rattle.jsonb_spec.specs.Source.{Found, Source, found, number_source, source_alone}
+use Rattle.jsonb_spec.specs.Grammar.StandardNumber.{IsStandardNumber}
 use Rattle.jsonb_scan.specs.Spelled.{IsSpelled, IsSpelledAt}
 use Rattle.jsonb.specs.Literals.{literal_text, literal_tree}
 use Rattle.jsonb.specs.declared.parser.scalar.Literal.{Literal}
 use Rattle.jsonb.specs.declared.parser.scalar.Literal.TheVariants as literals
-use Rattle.jsonb_value.specs.Tree.Mark.{plain}
+use Rattle.jsonb_spec.specs.Tree.Mark.{plain}
 use Rattle.jsonb.specs.declared.parser.frame.Frame.{Frame}
 use Rattle.jsonb.specs.declared.parser.frame.Frame.TheVariants as variants
 use Rattle.jsonb.specs.declared.parser.frame.OpenObject.{OpenObject}
 use Rattle.jsonb.specs.Handler.{AsKey, AsNumber, AsScalar, Builds, IsUntold}
 use Rattle.jsonb.specs.Frames.{Pushes, PutsIn}
 use Rattle.jsonb.specs.Parser.{Advances, IsBehind, rest_of, size_of}
-use Rattle.jsonb_value.specs.Text.{in_quotes}
+use Rattle.jsonb_spec.specs.Text.{in_quotes}
 use Rattle.std.proofs.lemmas.List.{drop_more}
 use Rattle.jsonb_write.specs.OpenText.{source_text}
 use Rattle.jsonb.proofs.Scalars.FirstBytes.{extended_number, standard_number}

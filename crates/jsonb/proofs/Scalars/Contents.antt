@@ -4,13 +4,13 @@ use Rattle.std.proofs.Math.Seq.{get_or-append_seam}
 use Rattle.std.proofs.lemmas.List.{get_or-take, length-take-le}
 use Rattle.jsonb_value.specs.declared.error.Error.{Error}
 use Rattle.jsonb_value.specs.declared.error.Error.TheVariants.{Syntax, OutOfMemory}
-use Rattle.jsonb_value.specs.Tree.{Mark, string}
+use Rattle.jsonb_spec.specs.Tree.{Mark, string}
 use Rattle.jsonb_scan.specs.Answer.{Fails, mode_of}
 use Rattle.jsonb_scan.specs.Decoding.{SeesBackslash}
 use Rattle.jsonb_scan.specs.QuotedString.{DecodesContents}
 use Rattle.jsonb_scan.specs.Reading.Scalar.{quoted_at}
 use Rattle.jsonb_scan.specs.Reading.String.{Body, body_of, quote_end, string_at}
-use Rattle.jsonb_scan.specs.Source.{Source}
+use Rattle.jsonb_spec.specs.Source.{Source}
 use Rattle.jsonb_scan.proofs.Strings.Bodies.{body_fails, contains_after, string-closed}
 use Rattle.jsonb_scan.proofs.Strings.Ends.{quote_split, quote_within}
 use Rattle.jsonb.specs.declared.parser.Parser.{Parser}

@@ -3,8 +3,8 @@ use Rattle.std.proofs.Common.{◌≡◌, ◌≤◌, ℕ, true, false, true≢fal
 use Rattle.std.proofs.lemmas.Bool.{cond-false, cond-true}
 use Rattle.std.specs.Char.{to_ascii_lowercase}
 use Rattle.std.specs.Prelude.{◌||◌, ◌==◌}
-use Rattle.jsonb_value.specs.Code.Code.{expected_some_value}
-use Rattle.jsonb_value.specs.Mode.{Mode, standard, extended}
+use Rattle.jsonb_spec.specs.Code.Code.{expected_some_value}
+use Rattle.jsonb_spec.specs.Mode.{Mode, standard, extended}
 use Rattle.jsonb.specs.declared.parser.Parser.{Parser}
 use Rattle.jsonb_scan.specs.Answer.{mode_of}
 use Rattle.jsonb.specs.Parser.{rest_of, size_of}

@@ -1,10 +1,10 @@
 -- Integers of extended texts that are written as they stand.
 use Rattle.std.proofs.Common.{◌≡◌, ℕ, zero, suc, ◌+◌, ◌≤◌, Bool, true, false, List, [], ◌∷◌, ◌++◌, drop, drop-drop, length, length-drop, Ok, refl, sym, ap, ap₂, ◌∙◌, arith}
 use Rattle.std.specs.Prelude.{slice_index}
-use Rattle.jsonb_value.specs.Mode.{Mode, extended}
-use Rattle.jsonb_value.specs.Text.NumberText.{number_text, text_of_parts}
-use Rattle.jsonb_value.specs.Text.Range.{IsInTexts}
-use Rattle.jsonb_value.specs.Tree.{Num, number}
+use Rattle.jsonb_spec.specs.Mode.{Mode, extended}
+use Rattle.jsonb_spec.specs.Text.NumberText.{number_text, text_of_parts}
+use Rattle.jsonb_spec.specs.Text.Range.{IsInTexts}
+use Rattle.jsonb_spec.specs.Tree.{Num, number}
 use Rattle.jsonb_value.proofs.Numbers.InRange.{extended_reads_back, standard_number}
 use Rattle.jsonb_scan.specs.Reading.Blank.{is_break}
 use Rattle.jsonb_scan.specs.Reading.ExtendedNumber.{EndsExtended, extended_number_at}
@@ -15,7 +15,8 @@ use Rattle.jsonb_scan.proofs.Numbers.Extended.{extended_complete}
 use Rattle.jsonb_scan.proofs.Numbers.Standard.{number_sound}
 use Rattle.jsonb_write.proofs.Spelled.{kept_text}
 use Rattle.jsonb.specs.declared.parser.Parser.{Parser}
-use Rattle.jsonb.specs.Parser.{Advances, PassesInteger, mode_of, rest_of, size_of}
+use Rattle.jsonb.specs.Parser.{Advances, PassesInteger, rest_of, size_of}
+use Rattle.jsonb_scan.specs.Answer.{mode_of}
 use Rattle.jsonb.proofs.Scalars.Built.{between, extended_at_once}
 use Rattle.jsonb.proofs.Scalars.Spellings.{break_ends_extended}
 

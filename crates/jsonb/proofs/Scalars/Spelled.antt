@@ -1,7 +1,7 @@
 -- A scalar that stands in the text, as the room for serialized text asks for it.
 use Rattle.std.proofs.Common.{ℕ, true, false, List, subst}
 use Rattle.std.specs.declared.borrow.CowStr.TheVariants.{Borrowed, Owned}
-use Rattle.jsonb_scan.specs.Source.{Source}
+use Rattle.jsonb_spec.specs.Source.{Source}
 use Rattle.jsonb_scan.specs.Spelled as scan
 use Rattle.jsonb_write.specs.TextRoom.{IsSpelled, SeesPart}
 use Rattle.jsonb_write.specs.declared.text.Part.{Part}

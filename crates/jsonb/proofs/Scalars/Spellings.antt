@@ -3,18 +3,18 @@ use Rattle.std.proofs.Common.{◌≡◌, ◌≢◌, ℕ, true, false, true≢fal
 use Rattle.std.proofs.lemmas.Bool.Decides.{nat_tests}
 use Rattle.std.proofs.lemmas.Bool.{cases_Bool, cond-false, cond-true, or_cases, or_from}
 use Rattle.std.specs.Char.{digit_value, is_ascii_digit, to_ascii_lowercase}
-use Rattle.jsonb_value.specs.Grammar.BareKey.{IsBareKey}
-use Rattle.jsonb_value.specs.Code.Code.{expected_some_ident, expected_some_value}
-use Rattle.jsonb_value.specs.Mode.{Mode}
-use Rattle.jsonb_value.specs.Mode.Mode.{extended, standard}
-use Rattle.jsonb_value.specs.Grammar.Quoted.{Quoted}
-use Rattle.jsonb_value.specs.Grammar.Scalar.{IsKey, IsLiteral, IsNumber, IsQuote, IsScalar, IsWord}
-use Rattle.jsonb_value.specs.Grammar.Scalar.IsKey.{bare_key, quoted_key}
-use Rattle.jsonb_value.specs.Grammar.Scalar.IsLiteral.{false_word, null_word, true_word}
-use Rattle.jsonb_value.specs.Grammar.Scalar.IsScalar.{literal_value, number_value, string_value}
-use Rattle.jsonb_value.specs.Grammar.StandardNumber.{IsExponentMark}
-use Rattle.jsonb_value.specs.Tree.{Mark, plain, Num, Tree}
-use Rattle.jsonb_value.specs.Tree.Tree.{boolean, null, number, string}
+use Rattle.jsonb_spec.specs.Grammar.BareKey.{IsBareKey}
+use Rattle.jsonb_spec.specs.Code.Code.{expected_some_ident, expected_some_value}
+use Rattle.jsonb_spec.specs.Mode.{Mode}
+use Rattle.jsonb_spec.specs.Mode.Mode.{extended, standard}
+use Rattle.jsonb_spec.specs.Grammar.Quoted.{Quoted}
+use Rattle.jsonb_spec.specs.Grammar.Scalar.{IsKey, IsLiteral, IsNumber, IsQuote, IsScalar, IsWord}
+use Rattle.jsonb_spec.specs.Grammar.Scalar.IsKey.{bare_key, quoted_key}
+use Rattle.jsonb_spec.specs.Grammar.Scalar.IsLiteral.{false_word, null_word, true_word}
+use Rattle.jsonb_spec.specs.Grammar.Scalar.IsScalar.{literal_value, number_value, string_value}
+use Rattle.jsonb_spec.specs.Grammar.StandardNumber.{IsExponentMark}
+use Rattle.jsonb_spec.specs.Tree.{Mark, plain, Num, Tree}
+use Rattle.jsonb_spec.specs.Tree.Tree.{boolean, null, number, string}
 use Rattle.jsonb_scan.specs.Reading.{Fault, Read, begins, on_byte, refused, ◌>>=◌}
 use Rattle.jsonb_scan.specs.Reading.BareKey.{bare_key_at, key_step}
 use Rattle.jsonb_scan.specs.Reading.Blank.{is_blank_start, is_break}

@@ -1,11 +1,11 @@
 -- A parser that goes on in the same input.
 use Rattle.std.proofs.Common.{◌≡◌, ℕ, ◌+◌, true, false, true≢false, eqb, inl, inr, List, [], ◌∷◌, length, drop, Result, Err, Contains, get_or, refl, sym, ap, ◌∙◌, arith, length-drop}
-use Rattle.jsonb_value.specs.Code.Code.{expected_some_ident}
+use Rattle.jsonb_spec.specs.Code.Code.{expected_some_ident}
 use Rattle.jsonb_scan.specs.Answer.{Fails, NamesFault}
 use Rattle.jsonb.specs.Parser.{Advances}
 use Rattle.jsonb_scan.specs.Reading.{Fault, refused}
 use Rattle.jsonb_scan.specs.Reading.Scalar.{begins_letter, begins_single_quote, folded, letters_at, on_letter, on_single_quote}
-use Rattle.jsonb_value.specs.Mode.{Mode, standard, extended}
+use Rattle.jsonb_spec.specs.Mode.{Mode, standard, extended}
 use Rattle.jsonb_scan.proofs.Steps.Tests.{chosen}
 use Rattle.jsonb_scan.proofs.Containers.JoinedParts.{on_byte-none}
 use Rattle.std.proofs.lemmas.List.{get_or-drop}

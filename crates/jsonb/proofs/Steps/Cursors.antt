@@ -1,7 +1,7 @@
 -- The bytes of an input from an offset on.
 use Rattle.std.proofs.Common.{◌≡◌, ℕ, ◌+◌, ◌-◌, ◌<◌, ◌≤◌, List, [], ◌∷◌, length, drop, ap, arith, length-drop}
 use Rattle.std.proofs.lemmas.List.{nil_from_length}
-use Rattle.jsonb_value.specs.Code.{Code}
+use Rattle.jsonb_spec.specs.Code.{Code}
 use Rattle.jsonb_scan.specs.Reading.{fault_at}
 
 fault-here : (size : ℕ) (code : Code) (step i : ℕ) (bytes : List ℕ) → length bytes + i ≡ size → 0 < length bytes → fault_at size code step bytes ≡ record { code = code; place = i + step }

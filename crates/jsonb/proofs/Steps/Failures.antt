@@ -3,10 +3,10 @@ use Rattle.std.proofs.Common.{◌≡◌, Bool, true, false, List, ℕ, Option, N
 use Rattle.jsonb_value.specs.declared.error.Error.{Error}
 use Rattle.jsonb_value.specs.declared.error.Error.TheVariants.{OutOfMemory}
 use Rattle.jsonb_scan.specs.Answer.{Fails}
-use Rattle.jsonb_value.specs.Tree.{Tree}
+use Rattle.jsonb_spec.specs.Tree.{Tree}
 use Rattle.jsonb_scan.specs.Open.{Open}
 use Rattle.jsonb_scan.specs.Reading.{Fault, Read, ◌>>=◌}
-use Rattle.jsonb_scan.specs.Source.{Source}
+use Rattle.jsonb_spec.specs.Source.{Source}
 use Rattle.jsonb.specs.Handler.{Builds, ElseFails, IsUntold, IsWritten, Misses}
 use Rattle.jsonb.specs.Frames.{Pushes, PutsIn}
 use Rattle.jsonb.specs.declared.parser.frame.Frame.{Frame}

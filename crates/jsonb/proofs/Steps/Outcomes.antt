@@ -4,8 +4,8 @@ use Rattle.std.proofs.lemmas.Bool.{cond-false}
 use Rattle.jsonb.specs.declared.parser.Parser.{Parser}
 use Rattle.jsonb_value.specs.declared.error.Error.{Error}
 use Rattle.jsonb_value.specs.declared.error.Error.TheVariants.{Syntax, OutOfMemory}
-use Rattle.jsonb_value.specs.Mode.{Mode}
-use Rattle.jsonb_value.specs.Tree.Tree.{boolean}
+use Rattle.jsonb_spec.specs.Mode.{Mode}
+use Rattle.jsonb_spec.specs.Tree.Tree.{boolean}
 use Rattle.jsonb_value.specs.declared.value.Value.{Value}
 use Rattle.jsonb_scan.specs.Answer.{Fails, mode_of}
 use Rattle.jsonb.specs.Parser.{Advances, rest_of, size_of}

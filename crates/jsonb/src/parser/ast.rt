@@ -1,12 +1,12 @@
 //! JSON values as they were written.
 ghost use Rattle.std.specs.Prelude.{◌≡◌, ◌≢◌, ◌<◌, IfOk, IfErr, Err};
-ghost use Rattle.jsonb_value.specs.Grammar.{IsDocument, IsNoDocument};
-ghost use Rattle.jsonb_value.specs.Tree.{Tree};
+ghost use Rattle.jsonb_spec.specs.Grammar.{IsDocument, IsNoDocument};
+ghost use Rattle.jsonb_spec.specs.Tree.{Tree};
 ghost use Rattle.jsonb.specs.AstView.{ast_view};
 ghost use Rattle.jsonb_scan.specs.Answer.{mode_of, IsTextRefusal, Gives, MayAllocate};
-ghost use Rattle.jsonb.specs.Placed.{IsPlaced};
+ghost use Rattle.jsonb_spec.specs.Placed.{IsPlaced};
 ghost use Rattle.jsonb_scan.specs.Reading.Document.{document_of};
-ghost use Rattle.jsonb.specs.Refusals.{IsExplained};
+ghost use Rattle.jsonb.specs.Explained.{IsExplained};
 ghost use Rattle.jsonb.specs.Source.{source_view};
 
 mod clone;

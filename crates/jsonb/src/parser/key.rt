@@ -1,7 +1,7 @@
 //! Keys, in quotes and without.
 ghost use Rattle.std.specs.Prelude.{◌≡◌, ◌≢◌, ◌<◌, ◌≤◌, Contains, Err, ◌+◌, Ok, length, take};
 ghost use Rattle.std.specs.Cow.{cow_str_bytes};
-ghost use Rattle.jsonb_value.specs.Ascii as ascii;
+ghost use Rattle.jsonb_spec.specs.Ascii as ascii;
 ghost use Rattle.jsonb_value.specs.View.{mark_view};
 ghost use Rattle.jsonb_scan.specs.Answer.{Gives};
 ghost use Rattle.jsonb.specs.Handler.{AsKey, AsNamed, Begins, Builds};

@@ -2,7 +2,7 @@
 ghost use Rattle.std.specs.Prelude.{◌≡◌, map, ℕ, List, IsPermutation};
 ghost use Rattle.jsonb_scan.specs.Answer.{Gives};
 ghost use Rattle.jsonb_scan.specs.Reading.Container.{object_or_fault};
-ghost use Rattle.jsonb_scan.specs.Source.{first_repeat, object_source, source_members_of, spot_of, spot_cmp, SpotsAreSorted};
+ghost use Rattle.jsonb_spec.specs.Source.{first_repeat, object_source, source_members_of, spot_of, spot_cmp, SpotsAreSorted};
 ghost use Rattle.jsonb.specs.Source.{found_of};
 
 use super::JsonAst;

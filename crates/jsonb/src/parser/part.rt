@@ -1,11 +1,11 @@
 //! The text of one part of a document, with no value made of the document.
 ghost use Rattle.std.specs.Prelude.{◌≡◌, ◌≢◌, ◌⊎◌, map, string_bytes, vec_len, IfErr, IfOk, OnErr, Err};
 ghost use Rattle.std.specs.Vec.{vec_capacity};
-ghost use Rattle.jsonb_value.specs.Grammar.{IsNoDocument};
+ghost use Rattle.jsonb_spec.specs.Grammar.{IsNoDocument};
 ghost use Rattle.jsonb_scan.specs.Answer.{mode_of, Fails, IsTextRefusal, MayAllocate};
 ghost use Rattle.jsonb_scan.specs.Reading.Document.{document_of};
 ghost use Rattle.jsonb.specs.Appends.{AppendsPartOf, LacksRoomForPart};
-ghost use Rattle.jsonb.specs.Refusals.{IsExplained};
+ghost use Rattle.jsonb.specs.Explained.{IsExplained};
 
 use super::handler::SoughtPart;
 use super::straight::{may_allocate, value_of};

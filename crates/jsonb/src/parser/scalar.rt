@@ -1,7 +1,7 @@
 //! Values that hold no others.
 ghost use Rattle.std.specs.Prelude.{◌≡◌, ◌≢◌, ◌<◌, ◌≤◌, [], ◌∷◌, ◌++◌, drop, length, take, Contains, MatchBool, Err, IfErr, IfNone, IfOk, OnOk, IfSome, Some, true, false, ℕ, List, ◌^◌, pos, neg_ℤ, slice_range};
-ghost use Rattle.jsonb_value.specs.Ascii as ascii;
-ghost use Rattle.jsonb_value.specs.Mode.{standard, extended};
+ghost use Rattle.jsonb_spec.specs.Ascii as ascii;
+ghost use Rattle.jsonb_spec.specs.Mode.{standard, extended};
 ghost use Rattle.jsonb_value.specs.View.{number_view};
 ghost use Rattle.jsonb.specs.Handler.{AsNumber, AsScalar, Builds, IsUntold};
 ghost use Rattle.jsonb.specs.Frames.{Pushes, PutsIn};
@@ -9,10 +9,10 @@ ghost use Rattle.jsonb_scan.specs.Answer.{mode_of, Gives};
 ghost use Rattle.jsonb.specs.Literals.{literal_text, literal_tree};
 ghost use Rattle.jsonb.specs.declared.parser.frame.Frame.{Frame};
 ghost use Rattle.jsonb.specs.declared.parser.frame.Frame.TheVariants.{Array, Object};
-ghost use Rattle.jsonb_value.specs.Tree.{Mark, int64};
-ghost use Rattle.jsonb_value.specs.Tree.Mark.{plain};
+ghost use Rattle.jsonb_spec.specs.Tree.{Mark, int64};
+ghost use Rattle.jsonb_spec.specs.Tree.Mark.{plain};
 ghost use Rattle.jsonb_scan.specs.Open.{Open, elements_so_far, members_so_far};
-ghost use Rattle.jsonb_scan.specs.Source.{Source, Found, found, string_source};
+ghost use Rattle.jsonb_spec.specs.Source.{Source, Found, found, string_source};
 ghost use Rattle.jsonb_scan.specs.Spelled.{IsSpelledAt};
 ghost use Rattle.jsonb_write.specs.OpenText.{source_text};
 ghost use Rattle.jsonb_write.specs.PlainText.{ArePlain};

@@ -1,13 +1,13 @@
 //! Texts that are parsed for their serialized form or their sort key alone, or only checked.
 ghost use Rattle.std.specs.Prelude.{◌≡◌, ◌≢◌, ◌≤◌, ◌⊎◌, vec_len, IfErr, IfOk, MatchBool, OnErr, OnOk, Err};
 ghost use Rattle.std.specs.Vec.{vec_capacity};
-ghost use Rattle.jsonb_value.specs.Grammar.{IsDocument, IsNoDocument};
-ghost use Rattle.jsonb_value.specs.Tree.{Tree};
+ghost use Rattle.jsonb_spec.specs.Grammar.{IsDocument, IsNoDocument};
+ghost use Rattle.jsonb_spec.specs.Tree.{Tree};
 ghost use Rattle.jsonb_value.specs.View.{view};
 ghost use Rattle.jsonb_scan.specs.Answer.{mode_of, Fails, Gives, IsTextRefusal, MayAllocate};
 ghost use Rattle.jsonb_scan.specs.Reading.Document.{document_of};
 ghost use Rattle.jsonb.specs.Appends.{AppendsKeyOf, AppendsTextOf, IsParsed, LacksRoomForKey, LacksRoomForText};
-ghost use Rattle.jsonb.specs.Refusals.{IsExplained};
+ghost use Rattle.jsonb.specs.Explained.{IsExplained};
 
 use super::handler::{CheckedPart, KeyPart};
 use super::{Mode, parse_value, parse_value_standard_mode, read_document};

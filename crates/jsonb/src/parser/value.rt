@@ -1,8 +1,8 @@
 //! Values with all that is in them, by a loop over the arrays and objects that are open.
 ghost use Rattle.std.specs.Prelude.{◌≡◌, ◌+◌, ◌<◌, ◌≤◌, ℕ, false, true, length, take, List, MatchBool, OnOk, IfOk, IfErr, MatchResult, None, Ok, Some, [], ◌∷◌, ◌++◌, if◌then◌else◌};
-ghost use Rattle.jsonb_value.specs.Ascii as ascii;
-ghost use Rattle.jsonb_value.specs.Code.Code.{expected_array_comma_or_end, expected_object_comma_or_end};
-ghost use Rattle.jsonb_value.specs.Grammar.{max_depth};
+ghost use Rattle.jsonb_spec.specs.Ascii as ascii;
+ghost use Rattle.jsonb_spec.specs.Code.Code.{expected_array_comma_or_end, expected_object_comma_or_end};
+ghost use Rattle.jsonb_spec.specs.Grammar.{max_depth};
 ghost use Rattle.jsonb_value.specs.declared.error.Error.TheVariants.{Syntax};
 ghost use Rattle.jsonb_value.specs.declared.error.ParseErrorCode.TheVariants.{DepthLimitExceeded};
 ghost use Rattle.jsonb.specs.declared.parser.frame.Frame.{Frame};
@@ -15,11 +15,11 @@ ghost use Rattle.jsonb_scan.specs.Reading.{Read, begins};
 ghost use Rattle.jsonb_scan.specs.Reading.Blank.{is_blank_start, skip_blanks};
 ghost use Rattle.jsonb_scan.specs.Reading.Container.{is_left_out};
 ghost use Rattle.jsonb_scan.specs.Reading.Document.{value_at};
-ghost use Rattle.jsonb_scan.specs.Source.{Source, Found};
+ghost use Rattle.jsonb_spec.specs.Source.{Source, Found};
 ghost use Rattle.jsonb.specs.Stack.{elements_from, next_part_at, part_end};
 ghost use Rattle.jsonb_scan.specs.Open.{Open, elements_so_far, members_so_far};
-ghost use Rattle.jsonb_value.specs.Tree.{Mark};
-ghost use Rattle.jsonb_value.specs.Tree.Mark.{plain};
+ghost use Rattle.jsonb_spec.specs.Tree.{Mark};
+ghost use Rattle.jsonb_spec.specs.Tree.Mark.{plain};
 
 use super::frame::{Frame, OpenObject};
 use super::handler::{Failed, Handler};

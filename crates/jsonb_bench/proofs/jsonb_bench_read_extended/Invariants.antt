@@ -1,7 +1,7 @@
 use Rattle.std.proofs.Common.{◌≡◌}
-use Rattle.jsonb_value.specs.Grammar.{IsDocument, IsNoDocument}
-use Rattle.jsonb_value.specs.Mode.{extended}
-use Rattle.jsonb_value.specs.Tree.{Tree}
+use Rattle.jsonb_spec.specs.Grammar.{IsDocument, IsNoDocument}
+use Rattle.jsonb_spec.specs.Mode.{extended}
+use Rattle.jsonb_spec.specs.Tree.{Tree}
 use Rattle.jsonb_bench.proofs.jsonb_bench_read_extended.Given as goal
 
 -- No round has gone well, where the text is no document.

@@ -1,7 +1,7 @@
 use Rattle.std.proofs.Common.{◌≡◌}
-use Rattle.jsonb_value.specs.Grammar.{IsDocument}
-use Rattle.jsonb_value.specs.Mode.{standard}
-use Rattle.jsonb_value.specs.Tree.{Tree}
+use Rattle.jsonb_spec.specs.Grammar.{IsDocument}
+use Rattle.jsonb_spec.specs.Mode.{standard}
+use Rattle.jsonb_spec.specs.Tree.{Tree}
 use Rattle.jsonb_bench.proofs.jsonb_bench_reject.Given as goal
 
 -- No round has rejected the text, where it is a document.

@@ -1,4 +1,4 @@
-use Rattle.jsonb.specs.Parser.{mode_of}
+use Rattle.jsonb_scan.specs.Answer.{mode_of}
 use Rattle.jsonb_c.proofs.Reasons.{reason_says}
 use Rattle.jsonb_c.proofs.value_of.Goals as goal
 

@@ -1,14 +1,14 @@
 use Rattle.std.proofs.Common.{◌≡◌, List, false, ◌+◌, [], ◌∷◌, ◌++◌, drop, refl, sym, subst, ap, ◌∙◌, arith, rules, string_bytes, append-nil, length, ◌≢◌}
-use Rattle.jsonb_value.specs.Proper.{HaveProperParts}
-use Rattle.jsonb_value.specs.Text.StringText.{quoted_text}
-use Rattle.jsonb_value.specs.Text.{with_commas, members_have_texts}
+use Rattle.jsonb_spec.specs.Proper.{HaveProperParts}
+use Rattle.jsonb_spec.specs.Text.StringText.{quoted_text}
+use Rattle.jsonb_spec.specs.Text.{with_commas, members_have_texts}
 use Rattle.jsonb_value.specs.View.{view, trees_view, members_view}
 use Rattle.jsonb_value.proofs.Appending.Appended.{begun, goes_on, fits, on_ok, on_err, kept_on, appends_then, lacks_first, extended, appends_if}
 use Rattle.jsonb_value.proofs.Appending.Pieces.{texts_left, comma_done, comma_fits, next_text, next_member_text, texts_left_have, first_has_text, next_proper, next_proper_member}
 use Rattle.jsonb_value.proofs.Values.Accessors.{view-Array, view-Object}
 use Rattle.jsonb_value.proofs.Values.Keys.{KeysAscend-members_view}
 use Rattle.jsonb_value.proofs.Values.Members.{Entry}
-use Rattle.jsonb_pretty.specs.Indented.{new_line, indented, item_lines, member_lines}
+use Rattle.jsonb_spec.specs.Indented.{new_line, indented, item_lines, member_lines}
 use Rattle.jsonb_pretty.proofs.Lines.{next_item, next_member, line_done, line_fits, key_split, key_done, array_is, object_is, array_long, object_long}
 use Rattle.jsonb_pretty.proofs.+append.Goals as goal
 

@@ -1,12 +1,12 @@
 use Rattle.std.proofs.Common.{◌≡◌, ◌≤◌, [], ◌++◌, drop}
 use Rattle.std.specs.Vec.{vec_capacity}
-use Rattle.jsonb_value.specs.Keys.{KeysAscend}
-use Rattle.jsonb_value.specs.Proper.{AreProper, HaveProperParts}
-use Rattle.jsonb_value.specs.Text.{with_commas, items_have_texts, members_have_texts}
+use Rattle.jsonb_spec.specs.Keys.{KeysAscend}
+use Rattle.jsonb_spec.specs.Proper.{AreProper, HaveProperParts}
+use Rattle.jsonb_spec.specs.Text.{with_commas, items_have_texts, members_have_texts}
 use Rattle.jsonb_value.specs.View.{trees_view, members_view}
 use Rattle.jsonb_value.proofs.Appending.Appended.{IsUnderway}
 use Rattle.jsonb_value.proofs.Appending.Pieces.{texts_left}
-use Rattle.jsonb_pretty.specs.Indented.{item_lines, member_lines}
+use Rattle.jsonb_spec.specs.Indented.{item_lines, member_lines}
 use Rattle.jsonb_pretty.proofs.+append.Given as goal
 
 -- what is left to write is the lines of the rest of the items, if those left have texts, all do, and if they are proper, all are

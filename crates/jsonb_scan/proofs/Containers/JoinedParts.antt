@@ -1,14 +1,14 @@
 -- From parsing parts to parsing parts joined by commas.
 use Rattle.std.proofs.Common.{◌≡◌, ℕ, zero, suc, ◌<◌, ◌≤◌, Bool, true, false, cond, ◌||◌, ◌⊎◌, ⊎_elim, inl, inr, List, [], ◌∷◌, ◌++◌, length, Ok, refl, sym, ap, ap₂, map, subst, ◌∙◌, append_assoc, length-append, arith, eqb, eqb-true}
 use Rattle.std.proofs.lemmas.Bool.{cond-false, cond-true, or_cases, or_parts}
-use Rattle.jsonb_value.specs.Grammar.Blanks.{IsBlank, IsBlanks}
-use Rattle.jsonb_value.specs.Grammar.Blanks.IsBlank.{block_comment, carriage_return, form_feed, line_comment, line_feed, space, tab, written_carriage_return, written_form_feed, written_line_feed, written_tab}
-use Rattle.jsonb_value.specs.Grammar.Blanks.IsBlanks.{more_blanks, no_blanks}
-use Rattle.jsonb_value.specs.Code.{Code}
-use Rattle.jsonb_value.specs.Grammar.{IsJoined, IsPadded}
-use Rattle.jsonb_value.specs.Grammar.IsJoined.{more_parts, one_part}
-use Rattle.jsonb_value.specs.Grammar.IsPadded.{padded}
-use Rattle.jsonb_value.specs.Mode.{Mode}
+use Rattle.jsonb_spec.specs.Grammar.Blanks.{IsBlank, IsBlanks}
+use Rattle.jsonb_spec.specs.Grammar.Blanks.IsBlank.{block_comment, carriage_return, form_feed, line_comment, line_feed, space, tab, written_carriage_return, written_form_feed, written_line_feed, written_tab}
+use Rattle.jsonb_spec.specs.Grammar.Blanks.IsBlanks.{more_blanks, no_blanks}
+use Rattle.jsonb_spec.specs.Code.{Code}
+use Rattle.jsonb_spec.specs.Grammar.{IsJoined, IsPadded}
+use Rattle.jsonb_spec.specs.Grammar.IsJoined.{more_parts, one_part}
+use Rattle.jsonb_spec.specs.Grammar.IsPadded.{padded}
+use Rattle.jsonb_spec.specs.Mode.{Mode}
 use Rattle.jsonb_scan.specs.Reading.{Read, begins, on_byte, refused, ◌>>=◌}
 use Rattle.jsonb_scan.specs.Reading.Blank.{is_blank_start, is_break, skip_blanks}
 use Rattle.jsonb_scan.specs.Reading.Container.{after_part, joined_at, padded_at}

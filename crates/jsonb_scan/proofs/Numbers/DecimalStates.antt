@@ -7,8 +7,8 @@ use Rattle.std.proofs.lemmas.Str.Parse.{digit_from_value}
 use Rattle.std.proofs.lemmas.Bool.{cases_lt, cases_Bool, false≢true}
 use Rattle.std.proofs.lemmas.List.{append-nil, append_assoc, length-append}
 use Rattle.jsonb_value.proofs.Numbers.DecimalTexts.{digits-after_zeros}
-use Rattle.jsonb_value.specs.Grammar.StandardNumber.{IsSign}
-use Rattle.jsonb_value.specs.Grammar.ExtendedNumber.{fraction_digits, fraction_text, IsDecimalText}
+use Rattle.jsonb_spec.specs.Grammar.StandardNumber.{IsSign}
+use Rattle.jsonb_spec.specs.Grammar.ExtendedNumber.{fraction_digits, fraction_text, IsDecimalText}
 use Rattle.jsonb_scan.specs.Reading.Number.{sign_end, ContinuesNumber}
 use Rattle.jsonb_scan.proofs.Numbers.Steps.{differs, is_digit, is_no_digit}
 use Rattle.jsonb_scan.proofs.Numbers.Scan.{IsDigitRun, IsBareMark}

@@ -9,10 +9,10 @@ use Rattle.std.proofs.lemmas.Bool.{cases_Bool, cases_lt, false≢true, cond-fals
 use Rattle.std.proofs.lemmas.Bool.Decides.{nat_tests}
 use Rattle.std.proofs.lemmas.List.{take-append-drop, length-append, length-drop, length-take-le, drop_more, get_or_past}
 use Rattle.std.proofs.Math.Seq.{take-append_seam, drop-append_seam}
-use Rattle.jsonb_value.specs.Code.{number_not_carried}
-use Rattle.jsonb_value.specs.Grammar.StandardNumber.{IsSign}
-use Rattle.jsonb_value.specs.Grammar.ExtendedNumber.{fraction_digits, fraction_text, is_minus, IsDecimalNumber, IsUncarriedDecimal, IsExtendedNumber, IsExtendedUncarried, IsExtendedText}
-use Rattle.jsonb_value.specs.Tree.{Num}
+use Rattle.jsonb_spec.specs.Code.{number_not_carried}
+use Rattle.jsonb_spec.specs.Grammar.StandardNumber.{IsSign}
+use Rattle.jsonb_spec.specs.Grammar.ExtendedNumber.{fraction_digits, fraction_text, is_minus, IsDecimalNumber, IsUncarriedDecimal, IsExtendedNumber, IsExtendedUncarried, IsExtendedText}
+use Rattle.jsonb_spec.specs.Tree.{Num}
 use Rattle.jsonb_scan.specs.Reading.{Fault, Read}
 use Rattle.jsonb_scan.specs.Reading.Number.{End, sign_end}
 use Rattle.jsonb_scan.specs.Reading.ExtendedNumber.{Scanned, scanned_to, core_start, core_byte, front_end, point_end, behind_end, decimal_end, decimal_at, decimal_to, decimal_scan, hexadecimal_scan, word_scan, is_word_start, hexadecimal_starts, is_hexadecimal_start, extended_scan, extended_number_at, is_extended_start, ContinuesNumberExtended, EndsExtended}

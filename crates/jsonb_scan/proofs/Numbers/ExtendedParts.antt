@@ -5,9 +5,9 @@ use Rattle.std.specs.Char.{digit_value}
 use Rattle.std.specs.Str.Parse.{AllDigits, digits_value}
 use Rattle.std.proofs.lemmas.Str.Parse.{digit_from_value}
 use Rattle.std.proofs.lemmas.List.{append-nil, take_all}
-use Rattle.jsonb_value.specs.Grammar.StandardNumber.{IsSign, IsExponent, IsExponentMark}
-use Rattle.jsonb_value.specs.Grammar.ExtendedNumber.{is_minus, fraction_digits, fraction_text, HasDecimalParts, precision_of, value_of, decimal_number, IsDecimalNumber, IsDecimalText, IsUncarriedDecimal, HasHexadecimalParts, hexadecimal_number, IsHexadecimalNumber, IsHexadecimalText, IsUncarriedHexadecimal, IsWordText, IsExtendedNumber, IsExtendedUncarried, IsExtendedText}
-use Rattle.jsonb_value.specs.Tree.{Num}
+use Rattle.jsonb_spec.specs.Grammar.StandardNumber.{IsSign, IsExponent, IsExponentMark}
+use Rattle.jsonb_spec.specs.Grammar.ExtendedNumber.{is_minus, fraction_digits, fraction_text, HasDecimalParts, precision_of, value_of, decimal_number, IsDecimalNumber, IsDecimalText, IsUncarriedDecimal, HasHexadecimalParts, hexadecimal_number, IsHexadecimalNumber, IsHexadecimalText, IsUncarriedHexadecimal, IsWordText, IsExtendedNumber, IsExtendedUncarried, IsExtendedText}
+use Rattle.jsonb_spec.specs.Tree.{Num}
 use Rattle.jsonb_scan.specs.Reading.ExtendedNumber.{core_byte}
 use Rattle.jsonb_scan.proofs.Numbers.DecimalScan.{core_within}
 use Rattle.jsonb_scan.proofs.Numbers.HexadecimalTexts.{runs_end, same_front}

@@ -6,9 +6,9 @@ use Rattle.std.proofs.lemmas.Bool.{cases_eq, cases_lt, false≢true}
 use Rattle.std.proofs.lemmas.Str.Ascii.{lowercase_is}
 use Rattle.std.proofs.lemmas.List.{append_assoc, take-append-drop, length-append, length-take-le, get_or-append-add}
 use Rattle.std.proofs.lemmas.Str.{digit_value_digit}
-use Rattle.jsonb_value.specs.Code.{Code, invalid_eof, invalid_number_value, expected_some_ident}
-use Rattle.jsonb_value.specs.Grammar.StandardNumber.{IsSign}
-use Rattle.jsonb_value.specs.Grammar.ExtendedNumber.{is_minus, fraction_text, IsDecimalText, IsHexadecimalText, IsWordText, Spells, IsExtendedNumber, IsExtendedUncarried, IsExtendedText}
+use Rattle.jsonb_spec.specs.Code.{Code, invalid_eof, invalid_number_value, expected_some_ident}
+use Rattle.jsonb_spec.specs.Grammar.StandardNumber.{IsSign}
+use Rattle.jsonb_spec.specs.Grammar.ExtendedNumber.{is_minus, fraction_text, IsDecimalText, IsHexadecimalText, IsWordText, Spells, IsExtendedNumber, IsExtendedUncarried, IsExtendedText}
 use Rattle.jsonb_scan.specs.Reading.Number.{sign_end, ContinuesNumber}
 use Rattle.jsonb_scan.specs.Reading.ExtendedNumber.{Scanned, core_byte, ContinuesNumberExtended}
 use Rattle.jsonb_scan.proofs.Numbers.Steps.{differs}

@@ -5,9 +5,9 @@ use Rattle.std.specs.Int.{w64}
 use Rattle.std.proofs.lemmas.Bool.{cases_lt}
 use Rattle.std.proofs.lemmas.Bool.Decides.{nat_tests}
 use Rattle.std.proofs.Math.Nat.{pow-le-pow_right}
-use Rattle.jsonb_value.specs.Grammar.ExtendedNumber.{decimal_form, decimal_number}
-use Rattle.jsonb_value.specs.Number.Signed.{signed_by}
-use Rattle.jsonb_value.specs.Tree.{int64, uint64, decimal64, decimal128, Num}
+use Rattle.jsonb_spec.specs.Grammar.ExtendedNumber.{decimal_form, decimal_number}
+use Rattle.jsonb_spec.specs.Number.Signed.{signed_by}
+use Rattle.jsonb_spec.specs.Tree.{int64, uint64, decimal64, decimal128, Num}
 use Rattle.jsonb_scan.proofs.Numbers.Steps.{is_below, is_not_below}
 
 at_most : (a b : ℕ) → a ≤ b → nat_le a b ≡ true

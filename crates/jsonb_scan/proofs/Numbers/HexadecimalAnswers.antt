@@ -6,8 +6,8 @@ use Rattle.std.specs.Option.{SomeIff}
 use Rattle.std.specs.Str.Parse.{AllDigits, digits_value}
 use Rattle.std.proofs.lemmas.Bool.{cases_lt}
 use Rattle.std.proofs.lemmas.Bool.Decides.{nat_tests}
-use Rattle.jsonb_value.specs.Tree.{Num}
-use Rattle.jsonb_value.specs.Grammar.ExtendedNumber.{hexadecimal_number}
+use Rattle.jsonb_spec.specs.Tree.{Num}
+use Rattle.jsonb_spec.specs.Grammar.ExtendedNumber.{hexadecimal_number}
 use Rattle.jsonb_scan.specs.Reading.ExtendedNumber.{invalid, Scanned, hexadecimal_length, hexadecimal_fits, fraction_scan, hexadecimal_scan}
 use Rattle.jsonb_scan.proofs.Numbers.Steps.{is_below, is_not_below, is_zero}
 

@@ -5,9 +5,9 @@ use Rattle.std.specs.Char.{digit_value, to_ascii_lowercase}
 use Rattle.std.specs.Str.Parse.{AllDigits, digits_value}
 use Rattle.std.proofs.lemmas.Bool.{cases_eq, cases_lt}
 use Rattle.std.proofs.lemmas.List.{append_assoc, take-append-drop, length-append, length-take-le, drop_more, get_or-drop, take-append-le, take_all, get_or_past}
-use Rattle.jsonb_value.specs.Grammar.StandardNumber.{IsSign}
-use Rattle.jsonb_value.specs.Grammar.ExtendedNumber.{is_minus, fraction_text, hexadecimal_number, HasHexadecimalParts, IsExtendedText}
-use Rattle.jsonb_value.specs.Tree.{Num}
+use Rattle.jsonb_spec.specs.Grammar.StandardNumber.{IsSign}
+use Rattle.jsonb_spec.specs.Grammar.ExtendedNumber.{is_minus, fraction_text, hexadecimal_number, HasHexadecimalParts, IsExtendedText}
+use Rattle.jsonb_spec.specs.Tree.{Num}
 use Rattle.jsonb_scan.specs.Reading.ExtendedNumber.{invalid, core_byte, hexadecimal_length, hexadecimal_fits, fraction_scan, hexadecimal_scan, ContinuesNumberExtended}
 use Rattle.jsonb_scan.proofs.Numbers.HexadecimalAnswers.{without_number, taken_digits, fraction_without_digits, fraction_after_past, fraction_not_carried, fraction_past, hexadecimal_without_digits, hexadecimal_with_point, hexadecimal_past, hexadecimal_whole_at}
 use Rattle.jsonb_scan.proofs.Numbers.HexadecimalTexts.{IsHexadecimalScan, AreGood, scan_length, hexadecimal_ends}

@@ -4,8 +4,8 @@ use Rattle.std.specs.Prelude.{slice_index, IfSome}
 use Rattle.std.specs.Char.{digit_value, to_ascii_lowercase}
 use Rattle.std.specs.Str.Parse.{AllDigits, IsNumeral}
 use Rattle.std.proofs.lemmas.List.{append_assoc, take-append-drop, length-append, length-take-le, get_or-drop}
-use Rattle.jsonb_value.specs.Grammar.StandardNumber.{IsSign}
-use Rattle.jsonb_value.specs.Grammar.ExtendedNumber.{fraction_digits, fraction_text, FitsHexadecimal, IsHexadecimalText}
+use Rattle.jsonb_spec.specs.Grammar.StandardNumber.{IsSign}
+use Rattle.jsonb_spec.specs.Grammar.ExtendedNumber.{fraction_digits, fraction_text, FitsHexadecimal, IsHexadecimalText}
 use Rattle.jsonb_scan.specs.Reading.ExtendedNumber.{ContinuesNumberExtended}
 
 -- ---- runs of digits

@@ -4,7 +4,7 @@ use Rattle.std.specs.Prelude.{slice_index, ◌==◌}
 use Rattle.std.specs.Int.{IsInRange, from_bool}
 use Rattle.std.proofs.lemmas.Bool.{cases_eq, cases_Bool, false≢true}
 use Rattle.std.proofs.lemmas.Bool.Decides.{nat_tests}
-use Rattle.jsonb_value.specs.Grammar.StandardNumber.{IsExponentMark}
+use Rattle.jsonb_spec.specs.Grammar.StandardNumber.{IsExponentMark}
 use Rattle.jsonb_scan.proofs.Numbers.Scan.{IsDigitRun, IsFractionEnd, IsBarePoint, IsExponentEnd, IsBareMark}
 use Rattle.jsonb_scan.specs.Reading.Number.{sign_end, ContinuesNumber}
 use Rattle.jsonb_scan.proofs.Numbers.Steps.{differs, is_no_digit, is_no_mark, sign_end_ge}

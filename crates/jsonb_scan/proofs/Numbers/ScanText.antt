@@ -10,8 +10,8 @@ use Rattle.std.proofs.lemmas.Bool.Decides.{nat_tests}
 use Rattle.std.proofs.lemmas.List.{take-append-drop, take-take, drop-take, drop-drop, drop_more}
 use Rattle.std.proofs.lemmas.Slice.{between_from_start}
 use Rattle.std.proofs.lemmas.List.Edits.{length-between, get_or-between, between_none}
-use Rattle.jsonb_value.specs.Tree.{Num}
-use Rattle.jsonb_value.specs.Grammar.StandardNumber.{IsWhole, IsFraction, IsSign, IsExponent, HasParts, IsInteger, IsStandardNumber, IsStandardUncarried}
+use Rattle.jsonb_spec.specs.Tree.{Num}
+use Rattle.jsonb_spec.specs.Grammar.StandardNumber.{IsWhole, IsFraction, IsSign, IsExponent, HasParts, IsInteger, IsStandardNumber, IsStandardUncarried}
 use Rattle.jsonb_scan.specs.Reading.Number.{sign_end, has_minus, whole_start}
 use Rattle.jsonb_scan.proofs.Numbers.Steps.{sign_end_ge}
 use Rattle.jsonb_scan.proofs.Numbers.Scan.{IsDigitRun, IsFractionEnd, IsExponentEnd, IsScan}

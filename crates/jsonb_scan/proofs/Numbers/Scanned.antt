@@ -8,10 +8,10 @@ use Rattle.std.proofs.lemmas.List.Edits.{length-between}
 use Rattle.std.proofs.lemmas.Nat.{pow-add}
 use Rattle.std.proofs.Math.Nat.{pow-le-pow_right, mul-le-mul_right}
 use Rattle.std.proofs.lemmas.Bool.{cond-false, cond-true}
-use Rattle.jsonb_value.specs.Code.{Code, number_not_carried}
-use Rattle.jsonb_value.specs.Grammar.ExtendedNumber.{is_minus, decimal_number}
-use Rattle.jsonb_value.specs.Number.Signed.{signed_by}
-use Rattle.jsonb_value.specs.Tree.{Num}
+use Rattle.jsonb_spec.specs.Code.{Code, number_not_carried}
+use Rattle.jsonb_spec.specs.Grammar.ExtendedNumber.{is_minus, decimal_number}
+use Rattle.jsonb_spec.specs.Number.Signed.{signed_by}
+use Rattle.jsonb_spec.specs.Tree.{Num}
 use Rattle.jsonb_scan.specs.Reading.{fault}
 use Rattle.jsonb_scan.specs.Reading.Number.{End, digits_from, exponent_from, sign_end}
 use Rattle.jsonb_scan.specs.Reading.ExtendedNumber.{zeros_from, core_start, zeros_end, front_end, point_end, behind_end, scale_at, precision_at, lacks_digits, has_second_point, decimal_end, all_digits, decimal_at, scanned_to, extended_scan, extended_number_at}

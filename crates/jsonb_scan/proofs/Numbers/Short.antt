@@ -8,10 +8,10 @@ use Rattle.std.proofs.lemmas.Bool.{cases_Bool, cases_lt, cond-false, cond-true, 
 use Rattle.std.proofs.lemmas.Bool.Decides.{nat_tests}
 use Rattle.std.proofs.lemmas.List.{append-nil, length-append}
 use Rattle.std.proofs.lemmas.List.Edits.{length-between}
-use Rattle.jsonb_value.specs.Grammar.StandardNumber.{IsExponentMark}
-use Rattle.jsonb_value.specs.Grammar.ExtendedNumber.{is_minus, decimal_number}
-use Rattle.jsonb_value.specs.Number.Signed.{signed_by}
-use Rattle.jsonb_value.specs.Tree.{Num}
+use Rattle.jsonb_spec.specs.Grammar.StandardNumber.{IsExponentMark}
+use Rattle.jsonb_spec.specs.Grammar.ExtendedNumber.{is_minus, decimal_number}
+use Rattle.jsonb_spec.specs.Number.Signed.{signed_by}
+use Rattle.jsonb_spec.specs.Tree.{Num}
 use Rattle.jsonb_scan.specs.Reading.Number.{ContinuesAfterInteger, digits_length, digits_from, sign_end}
 use Rattle.jsonb_scan.specs.Reading.ExtendedNumber.{FollowsDigits, core_start, core_byte, zeros_end, front_end, point_end, behind_end, scale_at, precision_at, lacks_digits, has_second_point, decimal_end, all_digits, decimal_at, decimal_to, decimal_scan, is_word_start, is_hexadecimal_start, extended_scan}
 use Rattle.jsonb_scan.proofs.Numbers.DecimalScan.{HasDigits, core_zeros, core_digits, counted_digits, point_here, point_ordered, digits_tested}

@@ -6,9 +6,9 @@ use Rattle.std.specs.Str.Parse.{AllDigits, digits_value}
 use Rattle.std.proofs.lemmas.Str.Parse.{digit_from_value}
 use Rattle.std.proofs.lemmas.List.{take-append-drop, length-append, length-drop, append-nil}
 use Rattle.std.proofs.Math.Seq.{take-append_seam, drop-append_seam}
-use Rattle.jsonb_value.specs.Code.{invalid_number_value, number_not_carried}
-use Rattle.jsonb_value.specs.Tree.{Num}
-use Rattle.jsonb_value.specs.Grammar.StandardNumber.{IsWhole, IsFraction, IsExponent, HasParts, IsNumberText, IsInteger, IsStandardNumber, IsStandardUncarried}
+use Rattle.jsonb_spec.specs.Code.{invalid_number_value, number_not_carried}
+use Rattle.jsonb_spec.specs.Tree.{Num}
+use Rattle.jsonb_spec.specs.Grammar.StandardNumber.{IsWhole, IsFraction, IsExponent, HasParts, IsNumberText, IsInteger, IsStandardNumber, IsStandardUncarried}
 use Rattle.jsonb_scan.specs.Reading.{Fault, Read}
 use Rattle.jsonb_scan.specs.Reading.Number.{ContinuesAfterInteger, ContinuesNumber, IsNumberBoundary, is_number_start, End, standard_end, integer_at, carried_at, number_to, standard_number_at}
 use Rattle.jsonb_scan.proofs.Numbers.Steps.{is_digit, read_fault}

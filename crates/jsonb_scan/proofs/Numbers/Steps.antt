@@ -12,9 +12,9 @@ use Rattle.std.proofs.lemmas.List.Sums.{prefix_len-drop_all, prefix_len-le-lengt
 use Rattle.std.proofs.Math.Nat.{pow-suc, pow-le-pow_right}
 use Rattle.std.proofs.lemmas.Bool.{cases_Bool, cases_eq, false≢true, and_right}
 use Rattle.std.proofs.lemmas.Bool.Decides.{nat_tests}
-use Rattle.jsonb_value.specs.Code.{invalid_number_value, number_not_carried}
-use Rattle.jsonb_value.specs.Grammar.StandardNumber.{IsExponentMark}
-use Rattle.jsonb_value.specs.Tree.{Num}
+use Rattle.jsonb_spec.specs.Code.{invalid_number_value, number_not_carried}
+use Rattle.jsonb_spec.specs.Grammar.StandardNumber.{IsExponentMark}
+use Rattle.jsonb_spec.specs.Tree.{Num}
 use Rattle.jsonb_scan.specs.Reading.{fault}
 use Rattle.jsonb_scan.specs.Reading.Number.{ContinuesAfterInteger, ContinuesNumber, is_number_start, End, then_from, digits_length, digits_from, sign_end, exponent_from, fraction_from, whole_from, has_minus, whole_start, standard_end, integer_of, whole_digits, integer_at, carried_at, number_to, standard_number_at}
 use Rattle.jsonb_scan.specs.ShortInteger.{short_view}

@@ -5,8 +5,8 @@ use Rattle.std.proofs.lemmas.Bool.{cases_eq}
 use Rattle.std.proofs.lemmas.Bool.Decides.{nat_tests}
 use Rattle.std.specs.Char.{to_ascii_lowercase}
 use Rattle.std.proofs.lemmas.List.{drop_more, drop_all}
-use Rattle.jsonb_value.specs.Code.{Code, invalid_eof, expected_some_ident}
-use Rattle.jsonb_value.specs.Grammar.ExtendedNumber.{Spells}
+use Rattle.jsonb_spec.specs.Code.{Code, invalid_eof, expected_some_ident}
+use Rattle.jsonb_spec.specs.Grammar.ExtendedNumber.{Spells}
 use Rattle.jsonb_scan.specs.Reading.ExtendedNumber.{spelled_from, word_scan, uncarried_word, invalid_word}
 
 -- the index after a word, or a fault and its place

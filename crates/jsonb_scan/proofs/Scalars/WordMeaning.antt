@@ -4,8 +4,8 @@ use Rattle.std.specs.Prelude.{slice_index, codes}
 use Rattle.std.specs.Char.{to_ascii_lowercase}
 use Rattle.std.proofs.lemmas.Bool.{cases_eq, cases_Bool, false≢true}
 use Rattle.std.proofs.lemmas.List.{append_assoc, take-append-drop, length-append, length-take-le, length-map, get_or-drop, drop-append-le, drop_all, take-append-le, take_all}
-use Rattle.jsonb_value.specs.Code.{Code}
-use Rattle.jsonb_value.specs.Grammar.ExtendedNumber.{is_minus, Spells, IsNumberWord, IsExtendedText}
+use Rattle.jsonb_spec.specs.Code.{Code}
+use Rattle.jsonb_spec.specs.Grammar.ExtendedNumber.{is_minus, Spells, IsNumberWord, IsExtendedText}
 use Rattle.jsonb_scan.specs.Reading.Number.{sign_end}
 use Rattle.jsonb_scan.specs.Reading.ExtendedNumber.{core_byte, spelled_from, word_scan, uncarried_word, invalid_word, ContinuesNumberExtended}
 use Rattle.jsonb_scan.proofs.Scalars.WordLetters.{Letters, IsWordCode, WordAnswer, word_answer, words_nan_minus, words_nan_plus, words_infinity}

@@ -1,6 +1,6 @@
 -- Conditions and steps that may fail, by their outcome.
 use Rattle.std.proofs.Common.{◌≡◌, ℕ, Bool, true, false, cond, ◌⊎◌, inl, inr, List, Result, Ok, Err, refl, ap, eqb, eq-eqb}
-use Rattle.jsonb_value.specs.Code.{Code}
+use Rattle.jsonb_spec.specs.Code.{Code}
 use Rattle.jsonb_scan.specs.Reading.{Fault, Read, refused, ◌>>=◌}
 
 -- which way a choice went

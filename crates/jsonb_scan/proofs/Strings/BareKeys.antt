@@ -8,9 +8,9 @@ use lib.Utf8.{next, scalar, scalars}
 use Rattle.std.specs.List.{AllByRecursion}
 use Rattle.std.specs.Str.{encode_utf8_all, IsUtf8, is_utf8}
 use Rattle.std.specs.Char.{IsScalar, IsAsciiDigit, encode_utf8, is_ascii_digit}
-use Rattle.jsonb_value.specs.Grammar.BareKey.{IsBareKey, IsKeyAscii, IsKeyCharacter}
-use Rattle.jsonb_value.specs.Code.{invalid_eof, invalid_string_value, object_key_invalid_number, object_key_invalid_character}
-use Rattle.jsonb_value.specs.Tree.{Mark, plain}
+use Rattle.jsonb_spec.specs.Grammar.BareKey.{IsBareKey, IsKeyAscii, IsKeyCharacter}
+use Rattle.jsonb_spec.specs.Code.{invalid_eof, invalid_string_value, object_key_invalid_number, object_key_invalid_character}
+use Rattle.jsonb_spec.specs.Tree.{Mark, plain}
 use Rattle.jsonb_scan.specs.Reading.{Read, fault}
 use Rattle.jsonb_scan.specs.Reading.BareKey.{bare_key_at, is_key_ascii, key_chosen, key_end, key_from, key_step, key_to, text_key}
 use Rattle.jsonb_scan.specs.Reading.Blank.{is_break}

@@ -5,12 +5,13 @@ use Rattle.std.proofs.lemmas.Bool.{cases_lt, cond-false}
 use Rattle.memchr.specs.Find.{is_byte2}
 use Rattle.std.specs.Str.{IsUtf8}
 use Rattle.std.specs.List.{flat_map, AllByRecursion}
-use Rattle.jsonb_value.specs.Mode.{Mode}
-use Rattle.jsonb_value.specs.Tree.{Mark, plain, escaped}
-use Rattle.jsonb_value.specs.Code.{code_of, invalid_eof, invalid_string_value}
-use Rattle.jsonb_value.specs.Grammar.StringBody.{Item, raw, escape, unit, spelling, IsItem, IsBody, Decodes, meaning}
-use Rattle.jsonb_value.specs.Grammar.StringStep.{escape_step, item_step}
-use Rattle.jsonb_value.specs.Grammar.Quoted.{mark_of}
+use Rattle.jsonb_spec.specs.Mode.{Mode}
+use Rattle.jsonb_spec.specs.Tree.{Mark, plain, escaped}
+use Rattle.jsonb_value.specs.Error.CodeView.{code_of}
+use Rattle.jsonb_spec.specs.Code.{invalid_eof, invalid_string_value}
+use Rattle.jsonb_spec.specs.Grammar.StringBody.{Item, raw, escape, unit, spelling, IsItem, IsBody, Decodes, meaning}
+use Rattle.jsonb_value.specs.StringStep.{escape_step, item_step}
+use Rattle.jsonb_spec.specs.Grammar.Quoted.{mark_of}
 use Rattle.jsonb_scan.specs.Decoding.{SeesBackslash, SeesNoBackslash, TellsBackslash}
 use Rattle.jsonb_value.specs.declared.error.Error.{Error}
 use Rattle.jsonb_value.specs.declared.error.Error.TheVariants.{Syntax, OutOfMemory}

@@ -3,9 +3,9 @@ use Rattle.std.proofs.Common.{◌+◌, Bool, true, false, MatchBool, ◌∷◌, 
 use Rattle.std.proofs.lemmas.List.{append-nil, get_or-take, length-take-le, take-append-drop, take-append-le, take-take}
 use Rattle.std.specs.List.{flat_map}
 use Rattle.std.specs.Str.{IsUtf8}
-use Rattle.jsonb_value.specs.Mode.{Mode, standard, extended}
-use Rattle.jsonb_value.specs.Tree.{escaped}
-use Rattle.jsonb_value.specs.Grammar.StringBody.{spelling, escaped_byte}
+use Rattle.jsonb_spec.specs.Mode.{Mode, standard, extended}
+use Rattle.jsonb_spec.specs.Tree.{escaped}
+use Rattle.jsonb_spec.specs.Grammar.StringBody.{spelling, escaped_byte}
 use Rattle.jsonb_scan.specs.Decoding.{DecodesUpTo, IsDecodedUpTo, IsShortLetter, SeesBackslash, SeesNoBackslash}
 use Rattle.jsonb_scan.specs.QuotedString.{decoded_text, meaning_read}
 use Rattle.jsonb_scan.specs.Reading.String.{body_of, items_within}

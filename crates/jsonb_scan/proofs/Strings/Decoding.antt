@@ -4,11 +4,11 @@ use Rattle.std.proofs.lemmas.List.{append_assoc, append-nil}
 use Rattle.std.proofs.lemmas.Grind.{flat_map-append}
 use Rattle.std.specs.Str.{IsUtf8}
 use Rattle.std.specs.List.{flat_map, AllByRecursion}
-use Rattle.jsonb_value.specs.Mode.{Mode}
-use Rattle.jsonb_value.specs.Code.{Code}
-use Rattle.jsonb_value.specs.Code.{invalid_hex, invalid_escaped, invalid_string_value, unexpected_end_of_hex_escape}
-use Rattle.jsonb_value.specs.Grammar.StringBody.{Item, raw, escape, unit, after_u, spelling, IsItem, IsBody, Decodes, escaped_byte, is_high, alone, together, meaning}
-use Rattle.jsonb_value.specs.Grammar.StringFault.{IsFirstNonDigit, bad_digit, cut_escape, unknown_escape, bad_unit, IsFaultyBody}
+use Rattle.jsonb_spec.specs.Mode.{Mode}
+use Rattle.jsonb_spec.specs.Code.{Code}
+use Rattle.jsonb_spec.specs.Code.{invalid_hex, invalid_escaped, invalid_string_value, unexpected_end_of_hex_escape}
+use Rattle.jsonb_spec.specs.Grammar.StringBody.{Item, raw, escape, unit, after_u, spelling, IsItem, IsBody, Decodes, escaped_byte, is_high, alone, together, meaning}
+use Rattle.jsonb_spec.specs.Grammar.StringFault.{IsFirstNonDigit, bad_digit, cut_escape, unknown_escape, bad_unit, IsFaultyBody}
 use Rattle.jsonb_scan.specs.Decoding.{SeesNoBackslash}
 use Rattle.jsonb_scan.specs.Decoding.{SplitsUnit, ReadsUnit, DecodesUpTo, Adds, StopsInUnit, StopsAtEscape}
 use Rattle.jsonb_value.proofs.Strings.Units.{length-alone, length-together, length-after_u}

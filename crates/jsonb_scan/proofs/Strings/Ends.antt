@@ -4,12 +4,12 @@ use Rattle.std.proofs.lemmas.List.{append_assoc, take_at, drop_at, drop_more, ta
 use Rattle.std.specs.List.{flat_map, AllByRecursion}
 use Rattle.std.specs.Str.{IsUtf8}
 use Rattle.std.proofs.lemmas.Bool.{cond-false, cond-true}
-use Rattle.jsonb_value.specs.Mode.{Mode}
-use Rattle.jsonb_value.specs.Tree.{Mark}
-use Rattle.jsonb_value.specs.Code.{invalid_eof}
-use Rattle.jsonb_value.specs.Grammar.StringBody.{Item, raw, escape, unit, after_u, spelling, IsItem, meaning}
-use Rattle.jsonb_value.specs.Grammar.StringStep.{item_step}
-use Rattle.jsonb_value.specs.Grammar.Quoted.{MayStandIn, Quoted}
+use Rattle.jsonb_spec.specs.Mode.{Mode}
+use Rattle.jsonb_spec.specs.Tree.{Mark}
+use Rattle.jsonb_spec.specs.Code.{invalid_eof}
+use Rattle.jsonb_spec.specs.Grammar.StringBody.{Item, raw, escape, unit, after_u, spelling, IsItem, meaning}
+use Rattle.jsonb_value.specs.StringStep.{item_step}
+use Rattle.jsonb_spec.specs.Grammar.Quoted.{MayStandIn, Quoted}
 use Rattle.jsonb_value.proofs.Strings.Spelling.{item_step-spelling}
 use Rattle.jsonb_scan.specs.Reading.{Read, fault}
 use Rattle.jsonb_scan.specs.Reading.String.{Body, body_of, further, quote_from, quote_end, decoded, closed, string_at}

@@ -9,8 +9,8 @@ use Rattle.std.proofs.lemmas.Str.{IsUtf8-append, IsUtf8-drop, IsUtf8-encode, IsU
 use Rattle.std.specs.Char.{encode_utf8}
 use Rattle.std.specs.List.{flat_map, AllByRecursion}
 use Rattle.std.specs.Str.{IsAscii, IsUtf8}
-use Rattle.jsonb_value.specs.Mode.{Mode, standard, extended}
-use Rattle.jsonb_value.specs.Grammar.StringBody.{Item, raw, escape, unit, after_u, spelling, IsItem, IsHexDigit, byte_beside, escapes, standard_escapes, escaped_byte, unit_value, is_high, is_low, paired, kept, alone, together, meaning}
+use Rattle.jsonb_spec.specs.Mode.{Mode, standard, extended}
+use Rattle.jsonb_spec.specs.Grammar.StringBody.{Item, raw, escape, unit, after_u, spelling, IsItem, IsHexDigit, byte_beside, escapes, standard_escapes, escaped_byte, unit_value, is_high, is_low, paired, kept, alone, together, meaning}
 use Rattle.jsonb_value.proofs.Strings.Units.{alone-kept, alone-character, together-kept, together-character}
 
 -- ---- ASCII bytes in UTF-8

@@ -2,11 +2,11 @@
 use Rattle.std.proofs.Common.{◌≡◌, MatchBool, ne_eqb, ℕ, zero, suc, ◌+◌, ◌-◌, ◌<◌, ◌≤◌, Bool, true, false, cond, ◌||◌, ◌&&◌, ◌⊎◌, inl, inr, List, [], ◌∷◌, ◌++◌, length, get_or, drop, refl, sym, ap, subst, ◌∙◌, append_assoc, append-nil, length-append, arith, eqb, eqb-true}
 use Rattle.std.proofs.lemmas.List.{drop_at, length-drop}
 use Rattle.std.proofs.lemmas.Bool.{cond-false, cond-true, or_cases, and_parts, or_parts}
-use Rattle.jsonb_value.specs.Grammar.Blanks.{AreLastBlanks, EndsLine, IsBlank, IsBlanks, IsOneLine, LacksCommentEnd}
-use Rattle.jsonb_value.specs.Grammar.Blanks.AreLastBlanks.{blanks_to_end, line_to_end}
-use Rattle.jsonb_value.specs.Grammar.Blanks.IsBlank.{space, tab, line_feed, form_feed, carriage_return, written_line_feed, written_carriage_return, written_tab, written_form_feed, block_comment, line_comment}
-use Rattle.jsonb_value.specs.Grammar.Blanks.IsBlanks.{no_blanks, more_blanks}
-use Rattle.jsonb_value.specs.Mode.{Mode, standard, extended}
+use Rattle.jsonb_spec.specs.Grammar.Blanks.{AreLastBlanks, EndsLine, IsBlank, IsBlanks, IsOneLine, LacksCommentEnd}
+use Rattle.jsonb_spec.specs.Grammar.Blanks.AreLastBlanks.{blanks_to_end, line_to_end}
+use Rattle.jsonb_spec.specs.Grammar.Blanks.IsBlank.{space, tab, line_feed, form_feed, carriage_return, written_line_feed, written_carriage_return, written_tab, written_form_feed, block_comment, line_comment}
+use Rattle.jsonb_spec.specs.Grammar.Blanks.IsBlanks.{no_blanks, more_blanks}
+use Rattle.jsonb_spec.specs.Mode.{Mode, standard, extended}
 use Rattle.jsonb_scan.specs.Reading.{begins}
 use Rattle.jsonb_scan.specs.Reading.Blank.{is_blank_start, blank_length, block_length, line_length, slash_length, written_length, form_feed_length, longer_by, opens_comment, past_comment, pass_chosen, pass_from, skip_closed_blanks, skip_blanks}
 use Rattle.jsonb_scan.proofs.Steps.Tests.{chosen}

@@ -1,11 +1,10 @@
 -- The search for the end of an unquoted key, and what it finds.
--- Read for: `exact`.
 use Rattle.std.specs.Prelude.{ℕ, zero, suc, ◌+◌, ◌-◌, Bool, ◌||◌, List, [], ◌∷◌, length, take, drop, slice_index, nat_lt, nat_le, Result, Ok, Err, ◌==◌, if◌then◌else◌}
 use Rattle.std.specs.Str.{is_utf8}
 use Rattle.std.specs.Char.{is_ascii_digit, is_ascii_alphanumeric}
-use Rattle.jsonb_value.specs.Ascii as ascii
-use Rattle.jsonb_value.specs.Tree.{Mark, plain}
-use Rattle.jsonb_value.specs.Code.{invalid_eof, invalid_string_value, object_key_invalid_number, object_key_invalid_character}
+use Rattle.jsonb_spec.specs.Ascii as ascii
+use Rattle.jsonb_spec.specs.Tree.{Mark, plain}
+use Rattle.jsonb_spec.specs.Code.{invalid_eof, invalid_string_value, object_key_invalid_number, object_key_invalid_character}
 use Rattle.jsonb_scan.specs.Reading.{Read, fault}
 use Rattle.jsonb_scan.specs.Reading.String.{further}
 

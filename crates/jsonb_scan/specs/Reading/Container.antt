@@ -1,11 +1,10 @@
 -- Parts joined by commas, arrays, objects, repeated keys.
--- Read for: `exact`.
 use Rattle.std.specs.Prelude.{ℕ, zero, suc, ◌-◌, Bool, false, ◌||◌, List, [], ◌∷◌, length, Option, Some, None, Ok, map, ◌==◌, if◌then◌else◌}
-use Rattle.jsonb_value.specs.Ascii as ascii
-use Rattle.jsonb_value.specs.Mode.{Mode, standard, extended}
-use Rattle.jsonb_value.specs.Tree.{Mark}
-use Rattle.jsonb_value.specs.Code.{Code, invalid_eof, expected_colon, expected_array_comma_or_end, expected_object_comma_or_end, object_duplicate_key}
-use Rattle.jsonb_scan.specs.Source.{Source, null_source, array_source, object_source, no_sources, no_source_members, Found, Spot, found, spot_of, first_repeat, array_source_of, object_source_of}
+use Rattle.jsonb_spec.specs.Ascii as ascii
+use Rattle.jsonb_spec.specs.Mode.{Mode, standard, extended}
+use Rattle.jsonb_spec.specs.Tree.{Mark}
+use Rattle.jsonb_spec.specs.Code.{Code, invalid_eof, expected_colon, expected_array_comma_or_end, expected_object_comma_or_end, object_duplicate_key}
+use Rattle.jsonb_spec.specs.Source.{Source, null_source, array_source, object_source, no_sources, no_source_members, Found, Spot, found, spot_of, first_repeat, array_source_of, object_source_of}
 use Rattle.jsonb_scan.specs.Reading.{Read, ◌>>=◌, on_byte, fault, refused}
 use Rattle.jsonb_scan.specs.Reading.Blank.{skip_blanks}
 use Rattle.jsonb_scan.specs.Reading.Scalar.{key_at}

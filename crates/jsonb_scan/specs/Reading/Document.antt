@@ -1,12 +1,11 @@
 -- Values by depth, and whole documents (`source_of`, `document_of`).
--- Read for: `exact`.
 use Rattle.std.specs.Prelude.{ℕ, zero, suc, ◌+◌, ◌-◌, List, [], ◌∷◌, length, Result, Ok, if◌then◌else◌}
-use Rattle.jsonb_value.specs.Ascii as ascii
-use Rattle.jsonb_value.specs.Mode.{Mode, standard, extended}
-use Rattle.jsonb_value.specs.Tree.{Tree}
-use Rattle.jsonb_value.specs.Code.{invalid_eof, unexpected_trailing_characters, depth_limit_exceeded}
-use Rattle.jsonb_value.specs.Grammar.{max_depth}
-use Rattle.jsonb_scan.specs.Source.{Source, null_source, source_alone, tree_of_source}
+use Rattle.jsonb_spec.specs.Ascii as ascii
+use Rattle.jsonb_spec.specs.Mode.{Mode, standard, extended}
+use Rattle.jsonb_spec.specs.Tree.{Tree}
+use Rattle.jsonb_spec.specs.Code.{invalid_eof, unexpected_trailing_characters, depth_limit_exceeded}
+use Rattle.jsonb_spec.specs.Grammar.{max_depth}
+use Rattle.jsonb_spec.specs.Source.{Source, null_source, source_alone, tree_of_source}
 use Rattle.jsonb_scan.specs.Reading.{Fault, Read, ◌>>=◌, on_byte, begins, fault}
 use Rattle.jsonb_scan.specs.Reading.Blank.{opens_comment, skip_closed_blanks}
 use Rattle.jsonb_scan.specs.Reading.Scalar.{scalar_at}

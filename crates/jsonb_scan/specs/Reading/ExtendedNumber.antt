@@ -1,14 +1,13 @@
 -- Where an extended number ends, and which number it is.
--- Read for: `exact`.
 use Rattle.std.specs.Prelude.{◌≡◌, ⊤, ◌⊎◌, ℕ, ◌+◌, ◌-◌, ◌<◌, ◌^◌, ◌==◌, ◌||◌, ◌&&◌, Bool, List, [], ◌∷◌, ◌++◌, take, drop, length, codes, nat_lt, nat_le, slice_index, slice_range, if◌then◌else◌, Option, Some, None, Result, Ok, Err}
 use Rattle.std.specs.Char.{digit_value, to_ascii_lowercase}
 use Rattle.std.specs.List.{prefix_len}
 use Rattle.std.specs.Str.Parse.{digits_value}
-use Rattle.jsonb_value.specs.Ascii as ascii
-use Rattle.jsonb_value.specs.Code.{Code, invalid_eof, invalid_number_value, expected_some_ident}
-use Rattle.jsonb_value.specs.Grammar.ExtendedNumber.{is_minus, decimal_number, hexadecimal_number}
-use Rattle.jsonb_value.specs.Number.Signed.{signed_by}
-use Rattle.jsonb_value.specs.Tree.{Num}
+use Rattle.jsonb_spec.specs.Ascii as ascii
+use Rattle.jsonb_spec.specs.Code.{Code, invalid_eof, invalid_number_value, expected_some_ident}
+use Rattle.jsonb_spec.specs.Grammar.ExtendedNumber.{is_minus, decimal_number, hexadecimal_number}
+use Rattle.jsonb_spec.specs.Number.Signed.{signed_by}
+use Rattle.jsonb_spec.specs.Tree.{Num}
 use Rattle.jsonb_scan.specs.Reading.{Read, fault}
 use Rattle.jsonb_scan.specs.Reading.Number.{End, ContinuesAfterInteger, sign_end, digits_from, exponent_from, carried_at, is_number_start}
 

@@ -1,14 +1,13 @@
 -- Where a standard number ends, and which number it is.
--- Read for: `exact`.
 use Rattle.std.specs.Prelude.{◌≡◌, ⊤, ◌⊎◌, ℕ, ◌+◌, ◌-◌, ◌==◌, ◌||◌, ◌&&◌, ◌^◌, Bool, true, false, List, [], ◌∷◌, take, drop, length, nat_lt, nat_le, pos, neg_ℤ, slice_index, if◌then◌else◌, Option, Some, None, Result, Ok, Err}
 use Rattle.std.specs.Char.{IsAsciiDigit, is_ascii_digit}
 use Rattle.std.specs.Int.{from_bool}
 use Rattle.std.specs.List.{prefix_len}
 use Rattle.std.specs.Str.Parse.{digits_value}
-use Rattle.jsonb_value.specs.Ascii as ascii
-use Rattle.jsonb_value.specs.Code.{invalid_number_value, number_not_carried}
-use Rattle.jsonb_value.specs.Grammar.StandardNumber.{IsExponentMark}
-use Rattle.jsonb_value.specs.Tree.{int64, uint64, Num}
+use Rattle.jsonb_spec.specs.Ascii as ascii
+use Rattle.jsonb_spec.specs.Code.{invalid_number_value, number_not_carried}
+use Rattle.jsonb_spec.specs.Grammar.StandardNumber.{IsExponentMark}
+use Rattle.jsonb_spec.specs.Tree.{int64, uint64, Num}
 use Rattle.jsonb_scan.specs.Reading.{Read, fault}
 
 -- ---- where a number text ends

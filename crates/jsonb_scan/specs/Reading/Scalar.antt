@@ -1,11 +1,10 @@
 -- Literals, strings, numbers, keys.
--- Read for: `exact`.
 use Rattle.std.specs.Prelude.{ℕ, Bool, true, false, List, [], ◌∷◌, codes, Result, Ok, Err, ◌==◌, if◌then◌else◌}
 use Rattle.std.specs.Char.{to_ascii_lowercase}
-use Rattle.jsonb_value.specs.Ascii as ascii
-use Rattle.jsonb_value.specs.Mode.{Mode, standard, extended}
-use Rattle.jsonb_value.specs.Tree.{Mark, Num, Tree, null, boolean, string, number}
-use Rattle.jsonb_value.specs.Code.{expected_some_ident, expected_some_value}
+use Rattle.jsonb_spec.specs.Ascii as ascii
+use Rattle.jsonb_spec.specs.Mode.{Mode, standard, extended}
+use Rattle.jsonb_spec.specs.Tree.{Mark, Num, Tree, null, boolean, string, number}
+use Rattle.jsonb_spec.specs.Code.{expected_some_ident, expected_some_value}
 use Rattle.jsonb_scan.specs.Reading.{Fault, Read, ◌>>=◌, on_byte, refused}
 use Rattle.jsonb_scan.specs.Reading.BareKey.{bare_key_at}
 use Rattle.jsonb_scan.specs.Reading.ExtendedNumber.{is_extended_start, extended_number_at}

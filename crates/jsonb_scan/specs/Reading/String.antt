@@ -1,15 +1,14 @@
 -- The search for a string's end, and decoding its contents.
--- Read for: `exact`.
 use Rattle.std.specs.Prelude.{ℕ, zero, suc, ◌+◌, ◌-◌, Bool, true, false, List, [], ◌∷◌, length, take, drop, slice_index, nat_lt, Option, Some, None, Result, Ok, Err, ◌==◌, if◌then◌else◌}
 use Rattle.std.specs.Str.{is_utf8}
 use Rattle.std.specs.Char.{digit_value}
-use Rattle.jsonb_value.specs.Ascii as ascii
-use Rattle.jsonb_value.specs.Mode.{Mode}
-use Rattle.jsonb_value.specs.Tree.{Mark}
-use Rattle.jsonb_value.specs.Code.{Code, invalid_eof, invalid_string_value, invalid_escaped, invalid_hex, unexpected_end_of_hex_escape}
-use Rattle.jsonb_value.specs.Grammar.StringBody.{Item, raw, escape, unit, after_u, spelling, escaped_byte, meaning}
-use Rattle.jsonb_value.specs.Grammar.StringStep.{item_step}
-use Rattle.jsonb_value.specs.Grammar.Quoted.{mark_of}
+use Rattle.jsonb_spec.specs.Ascii as ascii
+use Rattle.jsonb_spec.specs.Mode.{Mode}
+use Rattle.jsonb_spec.specs.Tree.{Mark}
+use Rattle.jsonb_spec.specs.Code.{Code, invalid_eof, invalid_string_value, invalid_escaped, invalid_hex, unexpected_end_of_hex_escape}
+use Rattle.jsonb_spec.specs.Grammar.StringBody.{Item, raw, escape, unit, after_u, spelling, escaped_byte, meaning}
+use Rattle.jsonb_value.specs.StringStep.{item_step}
+use Rattle.jsonb_spec.specs.Grammar.Quoted.{mark_of}
 use Rattle.jsonb_scan.specs.Reading.{Read, fault}
 
 -- ---- the body

@@ -3,7 +3,7 @@ ghost use Rattle.std.specs.Prelude.{◌≡◌, ◌↔◌, ℕ, ◌+◌, ◌<◌,
 ghost use Rattle.std.specs.Int.{bit_at};
 ghost use Rattle.jsonb_scan.specs.Answer.{mode_of};
 ghost use Rattle.jsonb_scan.specs.Reading.Blank.{block_length, line_length, comment_length, blank_length};
-ghost use Rattle.jsonb_value.specs.Ascii as ascii;
+ghost use Rattle.jsonb_spec.specs.Ascii as ascii;
 
 use super::Mode;
 use super::vector::{both, equal_to, load, lowest, top_bits};

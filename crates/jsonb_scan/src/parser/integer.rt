@@ -4,7 +4,7 @@ ghost use Rattle.std.specs.Char.{is_ascii_digit};
 ghost use Rattle.std.specs.Int.{w64, trailing_zeros};
 ghost use Rattle.jsonb_scan.specs.Reading.Number.{digits_length, is_number_start};
 ghost use Rattle.jsonb_scan.specs.ShortInteger.{IsKeptInteger};
-ghost use Rattle.jsonb_value.specs.Ascii as ascii;
+ghost use Rattle.jsonb_spec.specs.Ascii as ascii;
 
 use super::number::{after_minus, byte_at, continues_number, digits_within, short_digits};
 use std::simd::prelude::*;

@@ -1,9 +1,9 @@
 //! Decodes the contents of a string, escape by escape and run by run.
 ghost use Rattle.std.specs.Prelude.{◌≡◌, ◌≢◌, ◌+◌, ◌*◌, ◌^◌, ◌≤◌, ◌<◌, ◌∷◌, ◌++◌, [], length, take, min, IfOk, IfErr, IfSome, OnErr, OnOk, Some, None, Err, string_bytes};
-ghost use Rattle.jsonb_value.specs.Ascii as ascii;
-ghost use Rattle.jsonb_value.specs.Mode.{standard};
-ghost use Rattle.jsonb_value.specs.Code.{code_of};
-ghost use Rattle.jsonb_value.specs.Grammar.StringBody.{escaped_byte, Decodes};
+ghost use Rattle.jsonb_spec.specs.Ascii as ascii;
+ghost use Rattle.jsonb_spec.specs.Mode.{standard};
+ghost use Rattle.jsonb_value.specs.Error.CodeView.{code_of};
+ghost use Rattle.jsonb_spec.specs.Grammar.StringBody.{escaped_byte, Decodes};
 ghost use Rattle.jsonb_scan.specs.Answer.{mode_of};
 ghost use Rattle.jsonb_scan.specs.StringRefusal.{IsDecodingError};
 ghost use Rattle.jsonb_scan.specs.Decoding.{Adds, DecodesUpTo, StopsAtEscape};

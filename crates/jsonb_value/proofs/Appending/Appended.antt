@@ -2,7 +2,7 @@
 use Rattle.std.proofs.Common.{◌≡◌, ℕ, ◌+◌, ◌<◌, ◌≤◌, List, [], ◌++◌, length, refl, sym, subst, ap, ◌∙◌, append_assoc, append-nil, length-append, arith, Result, Ok, Err, OnErr, OnOk, Bool, true, is_ok, if◌then◌else◌}
 use Rattle.std.specs.Prelude.{IsErr, Vec, vec_len, vec_capacity}
 use Rattle.std.specs.declared.alloc.Global.{Global}
-use Rattle.jsonb_value.specs.Text.Appending.{Extends, Appends, AppendsIf}
+use Rattle.jsonb_spec.specs.Text.Appending.{Extends, Appends, AppendsIf}
 
 -- old became now by a front of the text, of which the rest is left
 pub record IsUnderway (old now text left : List ℕ) : Type 0 where

@@ -1,6 +1,6 @@
 -- The text of binary data, byte by byte.
 use Rattle.std.proofs.Common.{◌≡◌, ℕ, ◌*◌, List, [], ◌∷◌, length, refl, arith}
-use Rattle.jsonb_value.specs.Text.BinaryText.{binary_text}
+use Rattle.jsonb_spec.specs.Text.BinaryText.{binary_text}
 
 pub length-binary_text : (bytes : List ℕ) → length (binary_text bytes) ≡ length bytes * 2
 length-binary_text [] = refl

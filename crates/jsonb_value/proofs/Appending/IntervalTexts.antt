@@ -7,8 +7,8 @@ use Rattle.std.specs.Fmt.{sign_text, signed_decimal, decimal}
 use Rattle.std.specs.Fmt.Cut.{cut_to}
 use Rattle.std.proofs.lemmas.Int.{ints}
 use Rattle.std.specs.Int.{w32, is_negative}
-use Rattle.jsonb_value.specs.Text.IntervalText.{amount_text, microseconds_text, clock_text, time_text, with_blank, beside, interval_text}
-use Rattle.jsonb_value.specs.Text.NumberText.{zero_padded}
+use Rattle.jsonb_spec.specs.Text.IntervalText.{amount_text, microseconds_text, clock_text, time_text, with_blank, beside, interval_text}
+use Rattle.jsonb_spec.specs.Text.NumberText.{zero_padded}
 
 -- a text that fits is not cut
 cut_to-whole : (room : ℕ) (text : List ℕ) → length text ≤ room → cut_to room text ≡ text

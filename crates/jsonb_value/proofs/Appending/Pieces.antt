@@ -2,10 +2,10 @@
 use Rattle.std.proofs.Common.{◌≡◌, Bool, true, false, ◌&&◌, List, [], ◌∷◌, ◌++◌, ℕ, ◌+◌, ◌<◌, ◌≤◌, length, get_or, drop, drop-cons, add-one, string_bytes, refl, sym, subst, ap, ◌∙◌, append_assoc}
 use Rattle.std.specs.List.{flat_map}
 use Rattle.std.specs.Str.{IsUtf8}
-use Rattle.jsonb_value.specs.Text.Appending.{comma_before}
-use Rattle.jsonb_value.specs.Proper.{IsProper, AreProper, HaveProperParts}
-use Rattle.jsonb_value.specs.Text.StringText.{quoted_text}
-use Rattle.jsonb_value.specs.Text.{with_commas, item_texts, member_texts, tree_text, has_text, items_have_texts, members_have_texts}
+use Rattle.jsonb_spec.specs.Text.Appending.{comma_before}
+use Rattle.jsonb_spec.specs.Proper.{IsProper, AreProper, HaveProperParts}
+use Rattle.jsonb_spec.specs.Text.StringText.{quoted_text}
+use Rattle.jsonb_spec.specs.Text.{with_commas, item_texts, member_texts, tree_text, has_text, items_have_texts, members_have_texts}
 use Rattle.jsonb_value.specs.View.{view, trees_view, members_view}
 use Rattle.jsonb_value.specs.declared.value.Value.{Value}
 use Rattle.jsonb_value.proofs.Appending.Appended.{IsUnderway, goes_on, fits}

@@ -7,12 +7,12 @@ use Rattle.std.specs.Str.Parse.{AllDigits, digits_value}
 use Rattle.std.proofs.lemmas.Bool.{cases_lt, cases_eq}
 use Rattle.std.proofs.lemmas.List.{append-nil, take-append-drop, length-take-le, length-drop, length-append, length-replicate, get_or-take, get_or_append_left}
 use Rattle.std.proofs.lemmas.Fmt.{decimal_is_IsNumeral_wide, decimal_digit, decimal_by_steps_wide, length-decimal-le_wide}
-use Rattle.jsonb_value.specs.Tree.{Num}
-use Rattle.jsonb_value.specs.Number.Signed.{signed_by}
-use Rattle.jsonb_value.specs.Text.NumberText.{text_of_parts, with_point, zero_padded}
-use Rattle.jsonb_value.specs.Grammar.StandardNumber.{IsSign}
-use Rattle.jsonb_value.specs.Grammar.ExtendedNumber.{fraction_digits, fraction_text, precision_of, value_of, decimal_number}
-use Rattle.jsonb_value.specs.Text.ReadsBack.{ReadsBackAsDecimal, HasFewDigits}
+use Rattle.jsonb_spec.specs.Tree.{Num}
+use Rattle.jsonb_spec.specs.Number.Signed.{signed_by}
+use Rattle.jsonb_spec.specs.Text.NumberText.{text_of_parts, with_point, zero_padded}
+use Rattle.jsonb_spec.specs.Grammar.StandardNumber.{IsSign}
+use Rattle.jsonb_spec.specs.Grammar.ExtendedNumber.{fraction_digits, fraction_text, precision_of, value_of, decimal_number}
+use Rattle.jsonb_spec.specs.Text.ReadsBack.{ReadsBackAsDecimal, HasFewDigits}
 use Rattle.jsonb_value.proofs.Numbers.Pointed.{pointed_whole, pointed_inside, pointed_before}
 use Rattle.jsonb_value.proofs.Numbers.Nearest.{signed_parts}
 

@@ -5,15 +5,15 @@ use Rattle.std.specs.Int.{w64, w128}
 use Rattle.std.specs.Str.Parse.{AllDigits, digits_value}
 use Rattle.std.proofs.lemmas.Bool.{leb-true, and_parts}
 use Rattle.std.proofs.lemmas.Str.Parse.{IsNumeralModel, numerals_by_value, tells_digits, digits_value_short}
-use Rattle.jsonb_value.specs.Grammar.ExtendedNumber.{is_minus, fraction_digits, precision_of, fits_u64, fits_i64, decimal_form, decimal_number, IsDecimalNumber, hexadecimal_number, IsExtendedNumber}
-use Rattle.jsonb_value.specs.Mode.{standard, extended}
-use Rattle.jsonb_value.specs.Text.NumberText.{text_of_parts, number_text}
-use Rattle.jsonb_value.specs.Proper.{FitsUnsigned, FitsScale, FitsWhole, IsProperNumber}
-use Rattle.jsonb_value.specs.Text.Range.{FitsText, IsInTexts, IsIntegerForm, IsIntegral}
-use Rattle.jsonb_value.specs.Text.ReadsBack.{integer_number, HasFewDigits}
-use Rattle.jsonb_value.specs.Grammar.StandardNumber.{IsInteger, IsStandardNumber}
-use Rattle.jsonb_value.specs.Number.Signed.{signed_by}
-use Rattle.jsonb_value.specs.Tree.{Form, int64, uint64, decimal64, decimal128, Num}
+use Rattle.jsonb_spec.specs.Grammar.ExtendedNumber.{is_minus, fraction_digits, precision_of, fits_u64, fits_i64, decimal_form, decimal_number, IsDecimalNumber, hexadecimal_number, IsExtendedNumber}
+use Rattle.jsonb_spec.specs.Mode.{standard, extended}
+use Rattle.jsonb_spec.specs.Text.NumberText.{text_of_parts, number_text}
+use Rattle.jsonb_spec.specs.Proper.{FitsUnsigned, FitsScale, FitsWhole, IsProperNumber}
+use Rattle.jsonb_spec.specs.Text.Range.{FitsText, IsInTexts, IsIntegerForm, IsIntegral}
+use Rattle.jsonb_spec.specs.Text.ReadsBack.{integer_number, HasFewDigits}
+use Rattle.jsonb_spec.specs.Grammar.StandardNumber.{IsInteger, IsStandardNumber}
+use Rattle.jsonb_spec.specs.Number.Signed.{signed_by}
+use Rattle.jsonb_spec.specs.Tree.{Form, int64, uint64, decimal64, decimal128, Num}
 use Rattle.jsonb_value.proofs.Numbers.DecimalTexts.{reads_back_as_decimal}
 use Rattle.jsonb_value.proofs.Numbers.Nearest.{unsigned_abs-signed}
 use Rattle.jsonb_value.proofs.Trees.OneText.{IsShort}

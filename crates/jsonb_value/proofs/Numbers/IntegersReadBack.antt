@@ -7,10 +7,10 @@ use Rattle.std.specs.Str.Parse.{digits_value}
 use Rattle.std.proofs.lemmas.Bool.{cases_eq}
 use Rattle.std.proofs.lemmas.List.{append-nil}
 use Rattle.std.proofs.lemmas.Fmt.{decimal_is_IsNumeral_wide, decimal_digit, first_decimal}
-use Rattle.jsonb_value.specs.Tree.{int64, uint64}
-use Rattle.jsonb_value.specs.Text.NumberText.{text_of_parts, with_point, zero_padded}
-use Rattle.jsonb_value.specs.Grammar.StandardNumber.{IsWhole, HasParts, IsStandardNumber}
-use Rattle.jsonb_value.specs.Text.ReadsBack.{integer_number}
+use Rattle.jsonb_spec.specs.Tree.{int64, uint64}
+use Rattle.jsonb_spec.specs.Text.NumberText.{text_of_parts, with_point, zero_padded}
+use Rattle.jsonb_spec.specs.Grammar.StandardNumber.{IsWhole, HasParts, IsStandardNumber}
+use Rattle.jsonb_spec.specs.Text.ReadsBack.{integer_number}
 use Rattle.jsonb_value.proofs.Numbers.Pointed.{is_negative-pos, pointed_whole}
 
 pub decimal_whole : (n : ℕ) → n < 2 ^ 64 → IsWhole (decimal n)

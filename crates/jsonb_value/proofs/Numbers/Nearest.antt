@@ -4,8 +4,8 @@ use Rattle.std.specs.Prelude.{unsigned_abs}
 use Rattle.std.specs.Int.{is_negative}
 use Rattle.std.proofs.lemmas.Int.{ints, by_lt_z}
 use Rattle.std.proofs.Math.Nat.{mul-le-mul_right, zero-mul, suc-mul, le-mul_of_pos_right}
-use Rattle.jsonb_value.specs.Number.Cast.{IsExactly, IsNearest, IsRounded}
-use Rattle.jsonb_value.specs.Number.Signed.{signed_by}
+use Rattle.jsonb_spec.specs.Number.Cast.{IsExactly, IsNearest, IsRounded}
+use Rattle.jsonb_spec.specs.Number.Signed.{signed_by}
 use Rattle.jsonb_value.proofs.Numbers.Pointed.{is_negative-pos}
 use Rattle.jsonb_value.proofs.Numbers.Quotients.{ten_positive}
 

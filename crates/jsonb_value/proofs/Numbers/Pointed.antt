@@ -6,9 +6,9 @@ use Rattle.std.specs.Fmt.{decimal, signed_decimal, sign_text}
 use Rattle.std.proofs.lemmas.Fmt.{decimal_is_IsNumeral_wide}
 use Rattle.std.proofs.lemmas.Bool.Decides.{nat_tests}
 use Rattle.std.proofs.lemmas.List.{append-nil, length-append, length-replicate}
-use Rattle.jsonb_value.specs.Text.NumberText.{zero_padded, with_point, text_of_parts}
+use Rattle.jsonb_spec.specs.Text.NumberText.{zero_padded, with_point, text_of_parts}
 use Rattle.jsonb_value.specs.declared.number.text.TextParts.{TextParts}
-use Rattle.jsonb_value.specs.Text.TextParts.{joined}
+use Rattle.jsonb_value.specs.TextParts.{joined}
 
 -- no zeros are missing
 pub zero_padded-enough : (least : ℕ) (ds : List ℕ) → least ≤ length ds → zero_padded least ds ≡ ds

@@ -7,7 +7,7 @@ use Rattle.std.specs.Option.{SomeIff, IfSome, IfNone}
 use Rattle.std.specs.Int.{from_bool}
 use Rattle.std.specs.Prelude.{nat_le}
 use Rattle.std.proofs.lemmas.Bool.Decides.{nat_tests}
-use Rattle.jsonb_value.specs.Number.Cast.{IsRounded}
+use Rattle.jsonb_spec.specs.Number.Cast.{IsRounded}
 
 pub ten_positive : (scale : ℕ) → 0 < 10 ^ scale
 ten_positive scale = omega (arith, one-le-pow scale 10 (omega arith))

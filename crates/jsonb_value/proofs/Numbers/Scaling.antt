@@ -8,7 +8,7 @@ use Rattle.std.specs.Ordering.{int_cmp, ordering_reverse}
 use Rattle.std.specs.Cmp.{int_cmp_total}
 use borrow.Author.Differences.{product_is}
 use Rattle.jsonb_value.specs.Order.NumberLaws.{scaled_twice, int_cmp-scaled}
-use Rattle.jsonb_value.specs.Order.{decimal_cmp}
+use Rattle.jsonb_spec.specs.Order.{decimal_cmp}
 use Rattle.jsonb_value.proofs.Numbers.Quotients.{ten_positive}
 
 -- where the multiple fits, the number does

@@ -9,9 +9,9 @@ use Rattle.std.proofs.lemmas.Bool.{cases_lt}
 use Rattle.std.proofs.lemmas.List.{append-nil, take-append-drop, length-take-le, length-drop, length-append, length-replicate, nil_from_length}
 use Rattle.std.proofs.lemmas.Fmt.{decimal_is_IsNumeral_wide}
 use Rattle.std.proofs.lemmas.Str.Parse.{digit_from_value}
-use Rattle.jsonb_value.specs.Tree.{Num}
-use Rattle.jsonb_value.specs.Number.Signed.{signed_by}
-use Rattle.jsonb_value.specs.Text.NumberText.{text_of_parts, with_point, zero_padded, number_text}
+use Rattle.jsonb_spec.specs.Tree.{Num}
+use Rattle.jsonb_spec.specs.Number.Signed.{signed_by}
+use Rattle.jsonb_spec.specs.Text.NumberText.{text_of_parts, with_point, zero_padded, number_text}
 use Rattle.jsonb_value.proofs.Numbers.DecimalTexts.{digits-take, digits-drop, digits-after_zeros, value-after_zeros}
 use Rattle.jsonb_value.proofs.Numbers.Nearest.{signed_parts}
 use Rattle.jsonb_value.proofs.Numbers.Pointed.{pointed_whole, pointed_inside, pointed_before}

@@ -3,10 +3,10 @@ use Rattle.std.proofs.Common.{◌≡◌, inl, inr, ◌↔◌, ℕ, zero, suc, �
 use Rattle.std.specs.Cmp.{int_ranks, int_cmp_is, ranks, nat_cmp_is, tied_itself}
 use Rattle.std.specs.Cmp.Lexicographic.{slice_cmp, nat_list_cmp_total}
 use Rattle.std.specs.Ordering.{int_cmp, ordering_then, MatchOrdering}
-use Rattle.jsonb_value.specs.Order.{bytes_cmp, rank, tree_cmp, Below, Same}
-use Rattle.jsonb_value.specs.Order.ByContent.{SameAt, BelowAt, SameByPlaces, BelowByPlaces, BelowBytes, BelowPair, SamePair, items_of, pairs_of, crossed, AsLists, IsByContent}
+use Rattle.jsonb_spec.specs.Order.{bytes_cmp, rank, tree_cmp, Below, Same}
+use Rattle.jsonb_spec.specs.Order.ByContent.{SameAt, BelowAt, SameByPlaces, BelowByPlaces, BelowBytes, BelowPair, SamePair, items_of, pairs_of, crossed, AsLists, IsByContent}
 use Rattle.jsonb_value.specs.Order.Laws.{trees_cmp-list, members_cmp-list, entry_cmp, then_equal, tree_cmp-parts}
-use Rattle.jsonb_value.specs.Tree.{Tree, string, array, object, binary, date, timestamp, timestamp_tz, interval}
+use Rattle.jsonb_spec.specs.Tree.{Tree, string, array, object, binary, date, timestamp, timestamp_tz, interval}
 
 -- an answer of `cmp` at two values says what relation holds between them
 pub record Decides {X : Type 0} (R : X → X → Ordering) (below same : X → X → Type 0) : Type 0 where

@@ -5,7 +5,7 @@ use Rattle.std.specs.Cmp.{nat_cmp_is, ranked}
 use Rattle.std.specs.Ordering.{nat_cmp, ordering_then, MatchOrdering}
 use Rattle.std.specs.declared.cmp.Ordering.{Ordering}
 use Rattle.std.specs.declared.cmp.Ordering.TheVariants.{Less, Equal, Greater}
-use Rattle.jsonb_value.specs.Order.{bytes_cmp}
+use Rattle.jsonb_spec.specs.Order.{bytes_cmp}
 
 pub is_less : (a b : ℕ) → a < b → nat_cmp a b ≡ Less
 is_less a b h = sym (nat_cmp_is a b Less h)

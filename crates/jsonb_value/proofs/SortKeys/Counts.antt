@@ -7,7 +7,7 @@ use Rattle.std.specs.Bool.{nat_lt}
 use Rattle.std.specs.Ordering.{nat_cmp, ordering_then, MatchOrdering}
 use Rattle.std.specs.declared.cmp.Ordering.{Ordering}
 use Rattle.std.specs.declared.cmp.Ordering.TheVariants.{Less, Equal, Greater}
-use Rattle.jsonb_value.specs.SortKey.{digits_within, digit_count, place_key, turned}
+use Rattle.jsonb_spec.specs.SortKey.{digits_within, digit_count, place_key, turned}
 use Rattle.jsonb_value.proofs.SortKeys.Comparing.{Compares, same_bytes, is_less, is_greater, ranks, nat_cmp-scaled}
 use Rattle.jsonb_value.proofs.SortKeys.Digits.{signed_order, signed_equal, turned_below, turned_above, turned_same, ten}
 

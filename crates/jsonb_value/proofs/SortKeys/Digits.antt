@@ -7,7 +7,7 @@ use Rattle.std.proofs.lemmas.Nat.{div-add-mod', mod_below, div_below}
 use Rattle.std.specs.Ordering.{nat_cmp, ordering_then, ordering_reverse, MatchOrdering}
 use Rattle.std.specs.declared.cmp.Ordering.{Ordering}
 use Rattle.std.specs.declared.cmp.Ordering.TheVariants.{Less, Equal, Greater}
-use Rattle.jsonb_value.specs.SortKey.{digits_key, turned}
+use Rattle.jsonb_spec.specs.SortKey.{digits_key, turned}
 use Rattle.jsonb_value.proofs.SortKeys.Comparing.{Compares, nothing, is_less, is_equal, is_greater, ranks, nat_cmp-scaled, nat_cmp-digits, byte_then, byte_below, byte_above}
 
 -- an answer about numbers of that sign, from the answer about them without it

@@ -9,7 +9,7 @@ use Rattle.std.specs.Ordering.{nat_cmp, int_cmp, ordering_then, MatchOrdering}
 use Rattle.std.specs.Prelude.{◌+ℤ◌}
 use Rattle.std.specs.declared.cmp.Ordering.{Ordering}
 use Rattle.std.specs.declared.cmp.Ordering.TheVariants.{Less, Equal, Greater}
-use Rattle.jsonb_value.specs.SortKey.{key_of_32_bits, key_of_64_bits}
+use Rattle.jsonb_spec.specs.SortKey.{key_of_32_bits, key_of_64_bits}
 use Rattle.jsonb_value.proofs.SortKeys.Comparing.{Compares, nothing, is_equal, ranks, nat_cmp-digits, byte_then}
 
 mod_split : (n a b : ℕ) → 0 < a → 0 < b → n % (b * a) ≡ n / a % b * a + n % a

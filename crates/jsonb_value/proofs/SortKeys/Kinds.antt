@@ -1,9 +1,9 @@
 -- The first byte of a key, by the kind.
 use Rattle.std.proofs.Common.{◌≡◌, ℕ, zero, suc, ◌-◌, ◌^◌, ◌<◌, true, false, List, [], ◌∷◌, map, ℤ, pos, negsuc, unsigned_abs, refl, ap, ◌∙◌, arith}
 use Rattle.std.proofs.lemmas.Int.{ints}
-use Rattle.jsonb_value.specs.Proper.{FitsScale, FitsWhole, IsProperNumber}
-use Rattle.jsonb_value.specs.SortKey.{number_key, key_of, IsBounded, turned}
-use Rattle.jsonb_value.specs.Tree.{Form, int64, uint64, decimal64, decimal128, Num, Tree, null, boolean, string, number, array, object, binary, date, timestamp, timestamp_tz, interval}
+use Rattle.jsonb_spec.specs.Proper.{FitsScale, FitsWhole, IsProperNumber}
+use Rattle.jsonb_spec.specs.SortKey.{number_key, key_of, IsBounded, turned}
+use Rattle.jsonb_spec.specs.Tree.{Form, int64, uint64, decimal64, decimal128, Num, Tree, null, boolean, string, number, array, object, binary, date, timestamp, timestamp_tz, interval}
 use Rattle.jsonb_value.proofs.SortKeys.Numbers.{IsSmall, positive, negative, nothing_there, head_of}
 
 small_scale : (form : Form) (scale : ℕ) → FitsScale form scale → scale < 256

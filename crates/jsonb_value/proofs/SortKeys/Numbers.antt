@@ -10,9 +10,9 @@ use Rattle.std.specs.Prelude.{◌<ℤ◌}
 use Rattle.std.specs.declared.cmp.Ordering.{Ordering}
 use Rattle.std.specs.declared.cmp.Ordering.TheVariants.{Less, Equal, Greater}
 use borrow.Author.Differences.{product_is}
-use Rattle.jsonb_value.specs.Order.{num_cmp, decimal_cmp}
-use Rattle.jsonb_value.specs.SortKey.{magnitude_key, number_key, place_key, digits_key, digit_count, turned}
-use Rattle.jsonb_value.specs.Tree.{Num}
+use Rattle.jsonb_spec.specs.Order.{num_cmp, decimal_cmp}
+use Rattle.jsonb_spec.specs.SortKey.{magnitude_key, number_key, place_key, digits_key, digit_count, turned}
+use Rattle.jsonb_spec.specs.Tree.{Num}
 use Rattle.jsonb_value.proofs.SortKeys.Comparing.{Compares, ranks, same_bytes, byte_below, byte_above, then_compares}
 use Rattle.jsonb_value.proofs.SortKeys.Counts.{digits_counted, digit_count-le, places_compare, placed, places_and_digits}
 use Rattle.jsonb_value.proofs.SortKeys.Digits.{signed_order, digits_compare, ten, mul-pos}

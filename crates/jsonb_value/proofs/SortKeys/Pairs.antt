@@ -5,7 +5,7 @@ use Rattle.std.proofs.Math.Nat.{div-div-eq-div-mul, pow-suc, pow-zero}
 use Rattle.std.proofs.lemmas.Bool.{cases_eq}
 use Rattle.std.proofs.lemmas.List.{drop-set, drop_all, length-set}
 use Rattle.std.proofs.lemmas.Nat.{div-add-mod', mod_below, mod-mul-add, div-mul-add}
-use Rattle.jsonb_value.specs.SortKey.{digit_count, digits_key, magnitude_key, place_key, turned}
+use Rattle.jsonb_spec.specs.SortKey.{digit_count, digits_key, magnitude_key, place_key, turned}
 use Rattle.jsonb_value.proofs.SortKeys.Counts.{near, far}
 use Rattle.jsonb_value.proofs.SortKeys.Numbers.{magnitude_split}
 use Rattle.jsonb_value.proofs.SortKeys.Digits.{hundred, last_pair, more_pairs, mul-pos, ten}

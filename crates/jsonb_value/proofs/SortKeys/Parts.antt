@@ -1,6 +1,6 @@
 -- The keys of items and members, of which some are written and some remain.
 use Rattle.std.proofs.Common.{◌≡◌, List, ◌∷◌, ◌++◌, ℕ, ◌+◌, ◌<◌, length, get_or, drop, drop-cons, add-one, string_bytes, sym, subst, ap, ◌∙◌}
-use Rattle.jsonb_value.specs.SortKey.{text_key, key_of, items_key, members_key, IsBounded, AreBounded, HaveBounds}
+use Rattle.jsonb_spec.specs.SortKey.{text_key, key_of, items_key, members_key, IsBounded, AreBounded, HaveBounds}
 use Rattle.jsonb_value.specs.View.{view, trees_view, members_view}
 use Rattle.jsonb_value.specs.declared.value.Value.{Value}
 use Rattle.jsonb_value.proofs.Values.Members.{Entry}

@@ -9,11 +9,11 @@ use Rattle.std.proofs.lemmas.Nat.{pow-add}
 use Rattle.std.specs.Bool.{if◌then◌else◌, nat_lt}
 use Rattle.std.specs.Int.{is_negative}
 use Rattle.std.specs.List.{flat_map, sum_by}
-use Rattle.jsonb_value.specs.Order.ByContent.{items_of, pairs_of}
-use Rattle.jsonb_value.specs.Proper.{FitsWhole, IsProperNumber}
-use Rattle.jsonb_value.specs.SortKey.{byte_key, digit_count, digits_key, items_key, key_of, magnitude_key, members_key, number_key, place_key, text_key, turned}
-use Rattle.jsonb_value.specs.SortKey.Size.{exponent_len, member_len, most_pairs, zero_count}
-use Rattle.jsonb_value.specs.Tree.{Form, int64, uint64, decimal64, decimal128, Mark, Num, string, array, object, Trees, no_trees, more_trees, Members, no_members, more_members}
+use Rattle.jsonb_spec.specs.Order.ByContent.{items_of, pairs_of}
+use Rattle.jsonb_spec.specs.Proper.{FitsWhole, IsProperNumber}
+use Rattle.jsonb_spec.specs.SortKey.{byte_key, digit_count, digits_key, items_key, key_of, magnitude_key, members_key, number_key, place_key, text_key, turned}
+use Rattle.jsonb_spec.specs.SortKey.Size.{exponent_len, member_len, most_pairs, zero_count}
+use Rattle.jsonb_spec.specs.Tree.{Form, int64, uint64, decimal64, decimal128, Mark, Num, string, array, object, Trees, no_trees, more_trees, Members, no_members, more_members}
 use Rattle.jsonb_value.proofs.SortKeys.Counts.{HasDigits, digits_counted, far, near, power_le}
 use Rattle.jsonb_value.proofs.SortKeys.Digits.{last_pair, more_pairs, ten}
 use Rattle.jsonb_value.proofs.SortKeys.Kinds.{is_small}

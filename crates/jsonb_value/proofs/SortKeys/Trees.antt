@@ -6,9 +6,9 @@ use Rattle.std.specs.Cmp.Lexicographic.{nat_list_cmp_total}
 use Rattle.std.specs.Ordering.{nat_cmp, ordering_then}
 use Rattle.std.specs.declared.cmp.Ordering.{Ordering}
 use Rattle.std.specs.declared.cmp.Ordering.TheVariants.{Less, Equal, Greater}
-use Rattle.jsonb_value.specs.Order.{bytes_cmp, tree_cmp, trees_cmp, members_cmp, Same}
-use Rattle.jsonb_value.specs.SortKey.{number_key, text_key, key_of, items_key, members_key, IsBounded, AreBounded, HaveBounds}
-use Rattle.jsonb_value.specs.Tree.{Num, Tree, null, boolean, string, number, array, object, binary, date, timestamp, timestamp_tz, interval, Trees, no_trees, more_trees, Members, no_members, more_members}
+use Rattle.jsonb_spec.specs.Order.{bytes_cmp, tree_cmp, trees_cmp, members_cmp, Same}
+use Rattle.jsonb_spec.specs.SortKey.{number_key, text_key, key_of, items_key, members_key, IsBounded, AreBounded, HaveBounds}
+use Rattle.jsonb_spec.specs.Tree.{Num, Tree, null, boolean, string, number, array, object, binary, date, timestamp, timestamp_tz, interval, Trees, no_trees, more_trees, Members, no_members, more_members}
 use Rattle.jsonb_value.proofs.SortKeys.Comparing.{Compares, same_bytes, then_compares, byte_then, byte_below, byte_above}
 use Rattle.jsonb_value.proofs.SortKeys.Fixed.{compares_32_bits, compares_64_bits}
 use Rattle.jsonb_value.proofs.SortKeys.Kinds.{is_small, number_begins, begins}

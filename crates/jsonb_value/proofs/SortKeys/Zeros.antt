@@ -5,8 +5,8 @@ use Rattle.std.specs.List.{flat_map}
 use Rattle.std.specs.Option.{unwrap_or}
 use Rattle.std.proofs.lemmas.Bool.{ne_eqb, cond-false}
 use Rattle.memchr.specs.Find.{IsFirstByte, is_byte}
-use Rattle.jsonb_value.specs.SortKey.{byte_key}
-use Rattle.jsonb_value.specs.Text.StringText.{byte_text, control_text}
+use Rattle.jsonb_spec.specs.SortKey.{byte_key}
+use Rattle.jsonb_spec.specs.Text.StringText.{byte_text, control_text}
 
 some_byte : (b : ℕ) → b ≢ 0 → byte_key b ≡ b ∷ []
 some_byte b h = cond-false (b == 0) _ _ (ne_eqb b 0 h)

@@ -3,10 +3,10 @@ use Rattle.std.proofs.Common.{List, [], ◌∷◌, ◌≡◌, ◌≢◌, ℕ, �
 use Rattle.std.proofs.lemmas.List.{append_assoc, take_at, get_or_at, get_or_append_left}
 use Rattle.std.specs.Str.{IsUtf8}
 use Rattle.std.specs.List.{flat_map, AllByRecursion}
-use Rattle.jsonb_value.specs.Mode.{Mode}
-use Rattle.jsonb_value.specs.Code.{Code}
-use Rattle.jsonb_value.specs.Grammar.StringBody.{Item, raw, escape, unit, after_u, spelling, IsItem, IsHexDigit, IsBody, Decodes, escaped_byte, meaning}
-use Rattle.jsonb_value.specs.Grammar.StringFault.{IsFirstNonDigit, BadUnit, cut_unit, bad_digit, BadEscape, cut_escape, unknown_escape, bad_unit, IsCutShort, IsFaultyBody}
+use Rattle.jsonb_spec.specs.Mode.{Mode}
+use Rattle.jsonb_spec.specs.Code.{Code}
+use Rattle.jsonb_spec.specs.Grammar.StringBody.{Item, raw, escape, unit, after_u, spelling, IsItem, IsHexDigit, IsBody, Decodes, escaped_byte, meaning}
+use Rattle.jsonb_spec.specs.Grammar.StringFault.{IsFirstNonDigit, BadUnit, cut_unit, bad_digit, BadEscape, cut_escape, unknown_escape, bad_unit, IsCutShort, IsFaultyBody}
 use Rattle.jsonb_value.proofs.Strings.Units.{length-after_u}
 use Rattle.jsonb_value.proofs.Strings.Spelling.{same_items, same_front, escape_is_not_u}
 

@@ -1,8 +1,8 @@
 -- What the first items of contents mean.
 use Rattle.std.proofs.Common.{List, [], ◌∷◌, ◌≡◌, ◌≢◌, ℕ, ◌++◌, Bool, true, false, cond, ap, refl}
 use Rattle.std.specs.List.{flat_map, AllByRecursion}
-use Rattle.jsonb_value.specs.Mode.{Mode}
-use Rattle.jsonb_value.specs.Grammar.StringBody.{Item, raw, escape, unit, after_u, spelling, IsItem, unit_value, is_high, alone, together, meaning}
+use Rattle.jsonb_spec.specs.Mode.{Mode}
+use Rattle.jsonb_spec.specs.Grammar.StringBody.{Item, raw, escape, unit, after_u, spelling, IsItem, unit_value, is_high, alone, together, meaning}
 
 pub each-append : (mode : Mode) (xs ys : List Item) → AllByRecursion (IsItem mode) xs → AllByRecursion (IsItem mode) ys → AllByRecursion (IsItem mode) (xs ++ ys)
 each-append mode [] ys h k = k

@@ -8,7 +8,7 @@ use Rattle.std.proofs.lemmas.Simd.{map-map, mask_l-mod, length-chunk, first_set_
 use Rattle.std.specs.Int.{trailing_zeros, w64}
 use Rattle.std.specs.List.{flat_map, prefix_len}
 use Rattle.std.specs.Simd.Lanes.{chunk, mask_l, top}
-use Rattle.jsonb_value.specs.Text.StringText.{byte_text}
+use Rattle.jsonb_spec.specs.Text.StringText.{byte_text}
 
 abbrev pub ArePlain : List ℕ → Type 0
 ArePlain bytes = flat_map byte_text bytes ≡ bytes

@@ -2,11 +2,11 @@
 use Rattle.std.proofs.Common.{List, [], ◌∷◌, ◌≡◌, ◌≢◌, ℕ, ◌+◌, ◌<◌, ◌++◌, length, take, drop, get_or, Bool, true, false, cond, eqb, Some, None, sym, ap, ◌∙◌, subst, arith, refl, length-append, ne_eqb}
 use Rattle.std.proofs.lemmas.List.{append_assoc, append-nil, take_at, drop_at, append_cancel_right}
 use Rattle.std.specs.List.{flat_map, AllByRecursion}
-use Rattle.jsonb_value.specs.Mode.{Mode}
-use Rattle.jsonb_value.specs.Mode.{standard, extended}
-use Rattle.jsonb_value.specs.Grammar.StringBody.{Item, raw, escape, unit, after_u, spelling, IsItem, IsHexDigit, escaped_byte}
+use Rattle.jsonb_spec.specs.Mode.{Mode}
+use Rattle.jsonb_spec.specs.Mode.{standard, extended}
+use Rattle.jsonb_spec.specs.Grammar.StringBody.{Item, raw, escape, unit, after_u, spelling, IsItem, IsHexDigit, escaped_byte}
 use Rattle.jsonb_value.proofs.Strings.Units.{length-after_u}
-use Rattle.jsonb_value.specs.Grammar.StringStep.{unit_step, escape_step, item_step}
+use Rattle.jsonb_value.specs.StringStep.{unit_step, escape_step, item_step}
 
 u_is_no_escape : (mode : Mode) → escaped_byte mode 117 ≡ None
 u_is_no_escape standard = refl

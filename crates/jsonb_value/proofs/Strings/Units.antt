@@ -3,8 +3,8 @@ use Rattle.std.proofs.Common.{List, ◌≡◌, ℕ, ◌+◌, ◌<◌, ◌≤◌,
 use Rattle.std.proofs.lemmas.List.{take-append-drop, drop_more, length-take-le, get_or-take, get_or_default}
 use Rattle.std.proofs.lemmas.Str.{length-encode, len_utf8_bounds}
 use Rattle.std.specs.Char.{digit_value, encode_utf8}
-use Rattle.jsonb_value.specs.Grammar.StringBody.{IsHexDigit, after_u, unit_value, is_high, is_low, paired, kept, alone, together}
-use Rattle.jsonb_value.specs.Grammar.StringFault.{IsFirstNonDigit}
+use Rattle.jsonb_spec.specs.Grammar.StringBody.{IsHexDigit, after_u, unit_value, is_high, is_low, paired, kept, alone, together}
+use Rattle.jsonb_spec.specs.Grammar.StringFault.{IsFirstNonDigit}
 
 pub first_non_digit_at : (bytes : List ℕ) (i : ℕ) → i < length bytes → ((k : ℕ) → k < i → digit_value (get_or bytes k 0) < 16) → ¬ (IsHexDigit (get_or bytes i 0)) → IsFirstNonDigit bytes (get_or bytes i 0)
 first_non_digit_at bytes i within before here = record {

@@ -7,12 +7,12 @@ use Rattle.std.proofs.lemmas.Bool.{eqb-false}
 use Rattle.std.specs.Str.{IsUtf8}
 use Rattle.std.specs.Char.{digit_char, digit_value, encode_utf8}
 use Rattle.std.specs.List.{flat_map, AllByRecursion}
-use Rattle.jsonb_value.specs.Mode.{Mode}
-use Rattle.jsonb_value.specs.Mode.{standard, extended}
-use Rattle.jsonb_value.specs.Grammar.StringBody.{Item, raw, escape, unit, spelling, escaped_byte, IsItem, IsHexDigit, unit_value, is_high, is_low, alone, meaning}
-use Rattle.jsonb_value.specs.Grammar.Quoted.{mark_of, MayStandIn, Quoted}
-use Rattle.jsonb_value.specs.Tree.{Mark}
-use Rattle.jsonb_value.specs.Text.StringText.{control_text, byte_text, quoted_text}
+use Rattle.jsonb_spec.specs.Mode.{Mode}
+use Rattle.jsonb_spec.specs.Mode.{standard, extended}
+use Rattle.jsonb_spec.specs.Grammar.StringBody.{Item, raw, escape, unit, spelling, escaped_byte, IsItem, IsHexDigit, unit_value, is_high, is_low, alone, meaning}
+use Rattle.jsonb_spec.specs.Grammar.Quoted.{mark_of, MayStandIn, Quoted}
+use Rattle.jsonb_spec.specs.Tree.{Mark}
+use Rattle.jsonb_spec.specs.Text.StringText.{control_text, byte_text, quoted_text}
 use Rattle.jsonb_value.proofs.Strings.Units.{alone-character}
 use Rattle.jsonb_value.proofs.Strings.Meaning.{meaning-raw, meaning-escape, meaning-alone}
 

@@ -6,13 +6,13 @@ use Rattle.std.specs.Ordering.{nat_cmp, ordering_reverse, match_ordering}
 use Rattle.std.specs.Char.{IsScalar as IsCharacter, encode_utf8}
 use Rattle.std.specs.Str.{IsUtf8, encode_utf8_all}
 use Rattle.std.proofs.lemmas.Str.{IsUtf8-nil, IsUtf8-append, IsUtf8-encode}
-use Rattle.jsonb_value.specs.Grammar.{IsPadded, padded, IsElement, whole_element, empty_element, IsMember, key_and_value, IsValue, scalar, empty_array, full_array, empty_object, full_object, Derives, max_depth, IsDocument, value_alone, blanks_alone}
-use Rattle.jsonb_value.specs.Keys.{IsBelowKeys, KeysAscend}
-use Rattle.jsonb_value.specs.Mode.{Mode, standard, extended}
-use Rattle.jsonb_value.specs.Proper.{IsProperNumber, IsProper, AreProper, HaveProperParts}
-use Rattle.jsonb_value.specs.Text.Range.{IsWithin, AreWithin, HaveWithin, IsInTexts, IsIntegral, IsInRange, IsIntegerRange}
-use Rattle.jsonb_value.specs.Grammar.Scalar.{IsNumber, IsScalar, literal_value, string_value, number_value, null_word, true_word, false_word, IsKey, quoted_key, bare_key}
-use Rattle.jsonb_value.specs.Tree.{Mark, Num, Tree, trees_of, Members, no_members, more_members, Member, put, put_all}
+use Rattle.jsonb_spec.specs.Grammar.{IsPadded, padded, IsElement, whole_element, empty_element, IsMember, key_and_value, IsValue, scalar, empty_array, full_array, empty_object, full_object, Derives, max_depth, IsDocument, value_alone, blanks_alone}
+use Rattle.jsonb_spec.specs.Keys.{IsBelowKeys, KeysAscend}
+use Rattle.jsonb_spec.specs.Mode.{Mode, standard, extended}
+use Rattle.jsonb_spec.specs.Proper.{IsProperNumber, IsProper, AreProper, HaveProperParts}
+use Rattle.jsonb_spec.specs.Text.Range.{IsWithin, AreWithin, HaveWithin, IsInTexts, IsIntegral, IsInRange, IsIntegerRange}
+use Rattle.jsonb_spec.specs.Grammar.Scalar.{IsNumber, IsScalar, literal_value, string_value, number_value, null_word, true_word, false_word, IsKey, quoted_key, bare_key}
+use Rattle.jsonb_spec.specs.Tree.{Mark, Num, Tree, trees_of, Members, no_members, more_members, Member, put, put_all}
 use Rattle.jsonb_value.proofs.Trees.DocumentTexts.{joined-all}
 use Rattle.jsonb_value.proofs.Numbers.InRange.{standard_number, extended_number}
 

@@ -1,12 +1,12 @@
 -- Trees of integers that are the same have one text.
 use Rattle.std.proofs.Common.{[], ◌∷◌, ◌≡◌, ℕ, zero, suc, ◌<◌, ◌^◌, ◌++◌, true, false, Equal, refl, sym, ap, ◌∙◌, arith, pos, ◌*ℤ◌}
 use Rattle.std.specs.Ordering.{ordering_then}
-use Rattle.jsonb_value.specs.Text.NumberText.{text_of_parts, number_text}
-use Rattle.jsonb_value.specs.Order.{num_cmp, bytes_cmp, tree_cmp, trees_cmp, members_cmp, rank}
-use Rattle.jsonb_value.specs.Text.Range.{IsWithin, AreWithin, HaveWithin}
-use Rattle.jsonb_value.specs.Text.StringText.{quoted_text}
-use Rattle.jsonb_value.specs.Text.{tree_text, with_commas, item_texts, member_texts}
-use Rattle.jsonb_value.specs.Tree.{Num, Tree, null, boolean, string, number, array, object, Trees, no_trees, more_trees, Members, no_members, more_members}
+use Rattle.jsonb_spec.specs.Text.NumberText.{text_of_parts, number_text}
+use Rattle.jsonb_spec.specs.Order.{num_cmp, bytes_cmp, tree_cmp, trees_cmp, members_cmp, rank}
+use Rattle.jsonb_spec.specs.Text.Range.{IsWithin, AreWithin, HaveWithin}
+use Rattle.jsonb_spec.specs.Text.StringText.{quoted_text}
+use Rattle.jsonb_spec.specs.Text.{tree_text, with_commas, item_texts, member_texts}
+use Rattle.jsonb_spec.specs.Tree.{Num, Tree, null, boolean, string, number, array, object, Trees, no_trees, more_trees, Members, no_members, more_members}
 use Rattle.jsonb_value.proofs.Order.ByContent.{same_bytes, both_tie, by_content}
 use Rattle.jsonb_value.proofs.Numbers.Nearest.{multiple_injective}
 

@@ -3,10 +3,10 @@ use Rattle.std.proofs.Common.{List, ◌≡◌, ℕ, Less, Equal, refl, sym, ap, 
 use Rattle.std.specs.Cmp.{tied_itself}
 use Rattle.std.specs.Cmp.Lexicographic.{slice_cmp, nat_list_cmp_total}
 use Rattle.std.specs.Ordering.{nat_cmp, match_ordering}
-use Rattle.jsonb_value.specs.Grammar.{IsNew, HaveDistinctKeys}
-use Rattle.jsonb_value.specs.Keys.{IsBelowKeys, KeysAscend}
-use Rattle.jsonb_value.specs.Order.ByContent.{pairs_of}
-use Rattle.jsonb_value.specs.Tree.{Tree, Members, no_members, more_members, put, put_all}
+use Rattle.jsonb_spec.specs.Grammar.{IsNew, HaveDistinctKeys}
+use Rattle.jsonb_spec.specs.Keys.{IsBelowKeys, KeysAscend}
+use Rattle.jsonb_spec.specs.Order.ByContent.{pairs_of}
+use Rattle.jsonb_spec.specs.Tree.{Tree, Members, no_members, more_members, put, put_all}
 use Rattle.jsonb_value.proofs.Values.Members.{turned}
 
 is_new : (k : List ℕ) (ms : Members) → IsBelowKeys k ms → IsNew k (map (λ m. m.0) (pairs_of ms))

@@ -5,15 +5,15 @@ use Rattle.std.specs.List.{flat_map}
 use Rattle.std.specs.Cmp.{tied_itself}
 use Rattle.std.specs.Cmp.Lexicographic.{nat_list_cmp_total}
 use Rattle.std.specs.Ordering.{ordering_then}
-use Rattle.jsonb_value.specs.Mode.{standard}
+use Rattle.jsonb_spec.specs.Mode.{standard}
 use Rattle.jsonb_value.specs.Order.NumberLaws.{num_cmp_total}
-use Rattle.jsonb_value.specs.Order.{decimal_cmp, num_cmp, bytes_cmp, tree_cmp, trees_cmp, members_cmp}
-use Rattle.jsonb_value.specs.Text.Range.{IsWithin, AreWithin, HaveWithin}
-use Rattle.jsonb_value.specs.Grammar.StringBody.{Item, raw, escape, unit, after_u, spelling}
-use Rattle.jsonb_value.specs.Text.StringText.{byte_text, quoted_text}
-use Rattle.jsonb_value.specs.Grammar.Quoted.{MayStandIn as IsInsideQuotes}
-use Rattle.jsonb_value.specs.Text.{tree_text, with_commas, item_texts, member_texts}
-use Rattle.jsonb_value.specs.Tree.{Num, Tree, null, boolean, string, number, array, object, Trees, no_trees, more_trees, Members, no_members, more_members}
+use Rattle.jsonb_spec.specs.Order.{decimal_cmp, num_cmp, bytes_cmp, tree_cmp, trees_cmp, members_cmp}
+use Rattle.jsonb_spec.specs.Text.Range.{IsWithin, AreWithin, HaveWithin}
+use Rattle.jsonb_spec.specs.Grammar.StringBody.{Item, raw, escape, unit, after_u, spelling}
+use Rattle.jsonb_spec.specs.Text.StringText.{byte_text, quoted_text}
+use Rattle.jsonb_spec.specs.Grammar.Quoted.{MayStandIn as IsInsideQuotes}
+use Rattle.jsonb_spec.specs.Text.{tree_text, with_commas, item_texts, member_texts}
+use Rattle.jsonb_spec.specs.Tree.{Num, Tree, null, boolean, string, number, array, object, Trees, no_trees, more_trees, Members, no_members, more_members}
 use Rattle.jsonb_value.proofs.Numbers.Texts.{IsNumberByte, Begins, number_first, same_number_before}
 use Rattle.jsonb_value.proofs.Trees.Runs.{BeginsOther, heads, tails}
 use Rattle.jsonb_value.proofs.Strings.Spelling.{same_first}

@@ -1,13 +1,13 @@
 -- A value in range round-trips, and its text determines it.
 use Rattle.std.proofs.Common.{List, [], ◌≡◌, ◌≢◌, ◌↔◌, ℕ, Some, None, sym, subst, ap, ◌∙◌, append-nil}
-use Rattle.jsonb_value.specs.Grammar.{max_depth, IsDocument}
-use Rattle.jsonb_value.specs.Mode.{Mode, standard, extended}
-use Rattle.jsonb_value.specs.Order.{Same}
-use Rattle.jsonb_value.specs.Proper.{IsProper}
-use Rattle.jsonb_value.specs.Text.Range.{IsWithin, IsInTexts, IsIntegral, IsInRange, IsIntegerRange, IsInRangeOf}
-use Rattle.jsonb_value.specs.Text.ReadsBack.{ReadsBackAs}
-use Rattle.jsonb_value.specs.Text.{tree_text, text_of}
-use Rattle.jsonb_value.specs.Tree.{Num, Tree}
+use Rattle.jsonb_spec.specs.Grammar.{max_depth, IsDocument}
+use Rattle.jsonb_spec.specs.Mode.{Mode, standard, extended}
+use Rattle.jsonb_spec.specs.Order.{Same}
+use Rattle.jsonb_spec.specs.Proper.{IsProper}
+use Rattle.jsonb_spec.specs.Text.Range.{IsWithin, IsInTexts, IsIntegral, IsInRange, IsIntegerRange, IsInRangeOf}
+use Rattle.jsonb_spec.specs.Text.ReadsBack.{ReadsBackAs}
+use Rattle.jsonb_spec.specs.Text.{tree_text, text_of}
+use Rattle.jsonb_spec.specs.Tree.{Num, Tree}
 use Rattle.jsonb_value.proofs.Trees.DocumentTexts.{text_of-has_text}
 use Rattle.jsonb_value.proofs.Trees.DocumentsInRange.{standard_in_range, extended_in_range}
 use Rattle.jsonb_value.proofs.Trees.IntegerTexts.{IsUnscaled, same_tree_text}

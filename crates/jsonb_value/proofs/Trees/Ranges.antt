@@ -1,10 +1,10 @@
 -- Trees within a range: they are in a wider range, and have a text.
 use Rattle.std.proofs.Common.{◌≡◌, ℕ, zero, suc, true, refl}
 use Rattle.std.proofs.lemmas.Bool.{and_from}
-use Rattle.jsonb_value.specs.Proper.{IsProperNumber, IsProper, AreProper, HaveProperParts}
-use Rattle.jsonb_value.specs.Text.Range.{IsWithin, AreWithin, HaveWithin}
-use Rattle.jsonb_value.specs.Text.{has_text, items_have_texts, members_have_texts}
-use Rattle.jsonb_value.specs.Tree.{Num, Tree, null, boolean, string, number, array, object, Trees, no_trees, more_trees, Members, no_members, more_members}
+use Rattle.jsonb_spec.specs.Proper.{IsProperNumber, IsProper, AreProper, HaveProperParts}
+use Rattle.jsonb_spec.specs.Text.Range.{IsWithin, AreWithin, HaveWithin}
+use Rattle.jsonb_spec.specs.Text.{has_text, items_have_texts, members_have_texts}
+use Rattle.jsonb_spec.specs.Tree.{Num, Tree, null, boolean, string, number, array, object, Trees, no_trees, more_trees, Members, no_members, more_members}
 
 -- numbers of one kind are numbers of a wider kind
 module _ (P Q : Num → Type 0) (wider : (n : Num) → IsProperNumber n → P n → Q n) where

@@ -12,18 +12,18 @@ use Rattle.std.specs.Str.Parse.{AllDigits, digits_value}
 use Rattle.std.proofs.lemmas.Bool.{cases_eq}
 use Rattle.std.proofs.lemmas.Fmt.{decimal-digits_value, length-decimal-le}
 use Rattle.std.proofs.lemmas.List.{nil_from_length}
-use Rattle.jsonb_value.specs.Grammar.Blanks.{IsBlank, space, tab, line_feed, form_feed, carriage_return, written_line_feed, written_carriage_return, written_tab, written_form_feed, block_comment, line_comment, IsBlanks, no_blanks, more_blanks, AreLastBlanks, blanks_to_end, line_to_end}
-use Rattle.jsonb_value.specs.Grammar.ExtendedNumber.{is_minus, decimal_number}
-use Rattle.jsonb_value.specs.Grammar.{IsPadded, padded, IsJoined, one_part, more_parts, IsElement, whole_element, empty_element, IsMember, key_and_value, AreDistinct, IsValue, scalar, empty_array, full_array, empty_object, full_object, Derives, max_depth, IsDocument, value_alone, blanks_alone}
-use Rattle.jsonb_value.specs.Mode.{standard, extended}
-use Rattle.jsonb_value.specs.Order.{bytes_cmp, tree_cmp, trees_cmp, members_cmp, Same}
+use Rattle.jsonb_spec.specs.Grammar.Blanks.{IsBlank, space, tab, line_feed, form_feed, carriage_return, written_line_feed, written_carriage_return, written_tab, written_form_feed, block_comment, line_comment, IsBlanks, no_blanks, more_blanks, AreLastBlanks, blanks_to_end, line_to_end}
+use Rattle.jsonb_spec.specs.Grammar.ExtendedNumber.{is_minus, decimal_number}
+use Rattle.jsonb_spec.specs.Grammar.{IsPadded, padded, IsJoined, one_part, more_parts, IsElement, whole_element, empty_element, IsMember, key_and_value, AreDistinct, IsValue, scalar, empty_array, full_array, empty_object, full_object, Derives, max_depth, IsDocument, value_alone, blanks_alone}
+use Rattle.jsonb_spec.specs.Mode.{standard, extended}
+use Rattle.jsonb_spec.specs.Order.{bytes_cmp, tree_cmp, trees_cmp, members_cmp, Same}
 use Rattle.jsonb_value.specs.Order.Laws.{tree_cmp_total}
-use Rattle.jsonb_value.specs.Grammar.Quoted.{Quoted}
-use Rattle.jsonb_value.specs.Grammar.Scalar.{IsLiteral, IsScalar, literal_value, string_value, number_value, null_word, true_word, false_word, IsKey, quoted_key, bare_key}
-use Rattle.jsonb_value.specs.Number.Signed.{signed_by}
-use Rattle.jsonb_value.specs.Grammar.StandardNumber.{IsWhole, IsInteger, IsStandardNumber}
-use Rattle.jsonb_value.specs.Grammar.StringBody.{Item, raw, escape, unit, spelling, escaped_byte, byte_beside, standard_escapes, IsItem}
-use Rattle.jsonb_value.specs.Tree.{Mark, Num, Tree, number, array, object, trees_of, Members, no_members, more_members, Member, put, put_all}
+use Rattle.jsonb_spec.specs.Grammar.Quoted.{Quoted}
+use Rattle.jsonb_spec.specs.Grammar.Scalar.{IsLiteral, IsScalar, literal_value, string_value, number_value, null_word, true_word, false_word, IsKey, quoted_key, bare_key}
+use Rattle.jsonb_spec.specs.Number.Signed.{signed_by}
+use Rattle.jsonb_spec.specs.Grammar.StandardNumber.{IsWhole, IsInteger, IsStandardNumber}
+use Rattle.jsonb_spec.specs.Grammar.StringBody.{Item, raw, escape, unit, spelling, escaped_byte, byte_beside, standard_escapes, IsItem}
+use Rattle.jsonb_spec.specs.Tree.{Mark, Num, Tree, number, array, object, trees_of, Members, no_members, more_members, Member, put, put_all}
 use Rattle.jsonb_value.proofs.Order.ByContent.{both_tie, same_bytes as known_bytes}
 use Rattle.jsonb_value.proofs.Numbers.DecimalTexts.{sign_is}
 use Rattle.jsonb_value.proofs.Numbers.InRange.{decimals}

@@ -6,20 +6,20 @@ use Rattle.std.specs.List.{flat_map}
 use Rattle.std.specs.Ordering.{nat_cmp, ordering_then}
 use Rattle.std.specs.Cmp.Lexicographic.{slice_cmp}
 use Rattle.std.specs.Str.{IsUtf8}
-use Rattle.jsonb_value.specs.Grammar.Blanks.{IsBlank, space, tab, line_feed, form_feed, carriage_return, written_line_feed, written_carriage_return, written_tab, written_form_feed, block_comment, line_comment, IsBlanks, no_blanks, more_blanks, blanks_to_end}
-use Rattle.jsonb_value.specs.Grammar.{IsPadded, padded, IsJoined, one_part, more_parts, IsElement, whole_element, IsMember, key_and_value, scalar, empty_array, full_array, empty_object, full_object, Derives, max_depth, IsDocument, value_alone}
-use Rattle.jsonb_value.specs.Keys.{IsBelowKeys, KeysAscend}
-use Rattle.jsonb_value.specs.Mode.{Mode, standard, extended}
-use Rattle.jsonb_value.specs.Text.NumberText.{text_of_parts, number_text}
-use Rattle.jsonb_value.specs.Order.{bytes_cmp, tree_cmp, trees_cmp, members_cmp}
-use Rattle.jsonb_value.specs.Order.ByContent.{items_of, pairs_of}
-use Rattle.jsonb_value.specs.Proper.{IsProperNumber, IsProper, AreProper, HaveProperParts}
-use Rattle.jsonb_value.specs.Text.Range.{IsWithin, AreWithin, HaveWithin}
-use Rattle.jsonb_value.specs.Text.ReadsBack.{ReadsBackAs}
-use Rattle.jsonb_value.specs.Grammar.Scalar.{IsWord, IsQuote, IsNumber, IsScalar, literal_value, string_value, number_value, null_word, true_word, false_word, IsKey, quoted_key}
-use Rattle.jsonb_value.specs.Text.StringText.{quoted_text}
-use Rattle.jsonb_value.specs.Text.{tree_text, with_commas, item_texts, member_texts}
-use Rattle.jsonb_value.specs.Tree.{Mark, Num, Tree, null, boolean, string, number, array, object, Trees, no_trees, more_trees, trees_of, Members, no_members, more_members}
+use Rattle.jsonb_spec.specs.Grammar.Blanks.{IsBlank, space, tab, line_feed, form_feed, carriage_return, written_line_feed, written_carriage_return, written_tab, written_form_feed, block_comment, line_comment, IsBlanks, no_blanks, more_blanks, blanks_to_end}
+use Rattle.jsonb_spec.specs.Grammar.{IsPadded, padded, IsJoined, one_part, more_parts, IsElement, whole_element, IsMember, key_and_value, scalar, empty_array, full_array, empty_object, full_object, Derives, max_depth, IsDocument, value_alone}
+use Rattle.jsonb_spec.specs.Keys.{IsBelowKeys, KeysAscend}
+use Rattle.jsonb_spec.specs.Mode.{Mode, standard, extended}
+use Rattle.jsonb_spec.specs.Text.NumberText.{text_of_parts, number_text}
+use Rattle.jsonb_spec.specs.Order.{bytes_cmp, tree_cmp, trees_cmp, members_cmp}
+use Rattle.jsonb_spec.specs.Order.ByContent.{items_of, pairs_of}
+use Rattle.jsonb_spec.specs.Proper.{IsProperNumber, IsProper, AreProper, HaveProperParts}
+use Rattle.jsonb_spec.specs.Text.Range.{IsWithin, AreWithin, HaveWithin}
+use Rattle.jsonb_spec.specs.Text.ReadsBack.{ReadsBackAs}
+use Rattle.jsonb_spec.specs.Grammar.Scalar.{IsWord, IsQuote, IsNumber, IsScalar, literal_value, string_value, number_value, null_word, true_word, false_word, IsKey, quoted_key}
+use Rattle.jsonb_spec.specs.Text.StringText.{quoted_text}
+use Rattle.jsonb_spec.specs.Text.{tree_text, with_commas, item_texts, member_texts}
+use Rattle.jsonb_spec.specs.Tree.{Mark, Num, Tree, null, boolean, string, number, array, object, Trees, no_trees, more_trees, trees_of, Members, no_members, more_members}
 use Rattle.jsonb_value.proofs.Trees.DocumentTexts.{document_has_text, some_text}
 use Rattle.jsonb_value.proofs.Trees.MembersInOrder.{distinct_keys, put_all-ascending}
 use Rattle.jsonb_value.proofs.Numbers.Texts.{Begins}

@@ -5,8 +5,8 @@ use Rattle.std.specs.BTreeMap.{is_at}
 use Rattle.std.specs.Cmp.Lexicographic.{slice_cmp}
 use Rattle.std.specs.Map.{keys_of, lookup}
 use Rattle.std.specs.Slice.{IsItemAt}
-use Rattle.jsonb_value.specs.Accessors.{trees_len, find_member, item_at, key_trees}
-use Rattle.jsonb_value.specs.Tree.{string, array, object, escaped, more_trees, trees_of}
+use Rattle.jsonb_spec.specs.Accessors.{trees_len, find_member, item_at, key_trees}
+use Rattle.jsonb_spec.specs.Tree.{string, array, object, escaped, more_trees, trees_of}
 use Rattle.jsonb_value.specs.View.{view, trees_view, members_view}
 use Rattle.jsonb_value.specs.declared.value.Value.{Value, Array, Object, the_lemmas}
 use Rattle.jsonb_value.proofs.Values.Members.{Entry}

@@ -7,7 +7,7 @@ use Rattle.std.specs.List.{AllByRecursion}
 use Rattle.std.specs.List.Sorted.{IsStrictlySortedBy}
 use Rattle.std.specs.Map.{keys_of}
 use Rattle.std.specs.Ordering.{match_ordering, ordering_reverse}
-use Rattle.jsonb_value.specs.Tree.{no_members, more_members, put, put_all}
+use Rattle.jsonb_spec.specs.Tree.{no_members, more_members, put, put_all}
 use Rattle.jsonb_value.specs.View.{view, members_view, pairs_view}
 use Rattle.jsonb_value.specs.declared.value.Value.{Value}
 

@@ -1,8 +1,8 @@
 -- What a copy whose strings are owned has of its source: items, members, keys that ascend.
 use Rattle.std.proofs.Common.{◌≡◌, ℕ, List, [], ◌∷◌, map, string_bytes, refl, ap, ◌∙◌}
-use Rattle.jsonb_value.specs.Keys.{IsBelowKeys, KeysAscend}
-use Rattle.jsonb_value.specs.Owned.{owned, owned_items, owned_members}
-use Rattle.jsonb_value.specs.Tree.{Member, Members, no_members, more_members, trees_of, more_trees}
+use Rattle.jsonb_spec.specs.Keys.{IsBelowKeys, KeysAscend}
+use Rattle.jsonb_spec.specs.Owned.{owned, owned_items, owned_members}
+use Rattle.jsonb_spec.specs.Tree.{Member, Members, no_members, more_members, trees_of, more_trees}
 use Rattle.jsonb_value.specs.View.{view, trees_view, members_view, pairs_view}
 use Rattle.jsonb_value.specs.declared.value.Value.{Value}
 use Rattle.jsonb_value.proofs.Values.Built.{members_of_pairs, members_view-pairs_view}

@@ -1,10 +1,10 @@
 -- The messages of codes and errors.
--- Read for: promises.
 use Rattle.std.specs.Prelude.{ℕ, true, List, ◌++◌, codes, string_bytes}
 use Rattle.std.specs.Fmt.{decimal, digits}
 use Rattle.jsonb_value.specs.declared.error.Error.{Error}
 use Rattle.jsonb_value.specs.declared.error.Error.TheVariants as variants
-use Rattle.jsonb_value.specs.Code.{Code, invalid_eof, invalid_number_value, invalid_string_value, expected_some_ident, expected_some_value, expected_colon, expected_array_comma_or_end, expected_object_comma_or_end, unexpected_trailing_characters, key_must_be_a_string, control_character_while_parsing_string, invalid_escaped, invalid_hex, invalid_lone_leading_surrogate_in_hex_escape, invalid_surrogate_in_hex_escape, unexpected_end_of_hex_escape, object_duplicate_key, object_key_invalid_number, object_key_invalid_character, number_not_carried, depth_limit_exceeded, code_of}
+use Rattle.jsonb_spec.specs.Code.{Code, invalid_eof, invalid_number_value, invalid_string_value, expected_some_ident, expected_some_value, expected_colon, expected_array_comma_or_end, expected_object_comma_or_end, unexpected_trailing_characters, key_must_be_a_string, control_character_while_parsing_string, invalid_escaped, invalid_hex, invalid_lone_leading_surrogate_in_hex_escape, invalid_surrogate_in_hex_escape, unexpected_end_of_hex_escape, object_duplicate_key, object_key_invalid_number, object_key_invalid_character, number_not_carried, depth_limit_exceeded}
+use Rattle.jsonb_value.specs.Error.CodeView.{code_of}
 
 -- a number in uppercase hexadecimal, with no zeros in front
 abbrev pub hexadecimal : ℕ → List ℕ

@@ -1,7 +1,7 @@
 -- Errors, independent of representation.
--- Read for: promises.
 use Rattle.std.specs.Prelude.{ℕ, List, string_bytes, ⊤}
-use Rattle.jsonb_value.specs.Code.{Code, code_of, NamesNoKey}
+use Rattle.jsonb_spec.specs.Code.{Code, NamesNoKey}
+use Rattle.jsonb_value.specs.Error.CodeView.{code_of}
 use Rattle.jsonb_value.specs.declared.error.Error.{Error}
 use Rattle.jsonb_value.specs.declared.error.Error.TheVariants as variants
 

@@ -1,5 +1,4 @@
 -- Sums, differences, products, remainders, negations.
--- Read for: promises, but `IsWithin65Bits`.
 use Rattle.std.specs.Prelude.{◌≡◌, ◌≢◌, ◌⊎◌, ℕ, ◌<◌, ◌≤◌, ◌^◌, List, codes, if◌then◌else◌, ℤ, pos, neg_ℤ, ◌+ℤ◌, ◌-ℤ◌, ◌*ℤ◌, ◌<ℤ◌, ◌≤ℤ◌, unsigned_abs, Option, Some, None, MatchOption, Result, Ok, Err, IsErrAnd, ⊤, FitsSigned, string_bytes}
 use Rattle.std.specs.Int.{w64, w128, is_negative, FitsUnsigned}
 use Rattle.jsonb_value.specs.declared.number.Number.{Number}

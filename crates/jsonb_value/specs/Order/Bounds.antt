@@ -1,5 +1,4 @@
 -- What a map has from a bound on.
--- Read for: private.
 use Rattle.std.specs.Prelude.{List, String}
 use Rattle.std.specs.BTreeMap.Range.{entries_between}
 use Rattle.std.specs.String.{string_cmp}

@@ -1,5 +1,4 @@
 -- The order of trees is total. The laws of `Ord` cite this.
--- Read for: private.
 use Rattle.std.proofs.Common.{◌≡◌, ℕ, ℤ, pos, List, [], ◌∷◌, Bool, true, false, refl, sym, ap, ◌∙◌, ◌⊎◌, inl, inr}
 use Rattle.std.specs.Ordering.{nat_cmp, int_cmp, bool_cmp, ordering_reverse, ordering_then, on, then_cmp}
 use Rattle.std.specs.declared.cmp.Ordering.{Ordering}
@@ -7,9 +6,9 @@ use Rattle.std.specs.declared.cmp.Ordering.TheVariants.{Less, Equal, Greater}
 use Rattle.std.specs.Cmp.{IsTotalOrder, alike_right, tied_itself, tied_back, nat_cmp_total, int_cmp_total}
 use Rattle.std.specs.Cmp.Lexicographic.{slice_cmp, lists_total, nat_list_cmp_total}
 use Rattle.jsonb_value.specs.Order.NumberLaws.{num_cmp_total}
-use Rattle.jsonb_value.specs.Order.{num_cmp, bytes_cmp, rank, tree_cmp, trees_cmp, members_cmp, Below, Same, IsOneOrder}
-use Rattle.jsonb_value.specs.Order.ByContent.{items_of, pairs_of}
-use Rattle.jsonb_value.specs.Tree.{Num, int64, Tree, null, boolean, number, string, array, object, binary, date, timestamp, timestamp_tz, interval, Trees, no_trees, more_trees, Members, no_members, more_members}
+use Rattle.jsonb_spec.specs.Order.{num_cmp, bytes_cmp, rank, tree_cmp, trees_cmp, members_cmp, Below, Same, IsOneOrder}
+use Rattle.jsonb_spec.specs.Order.ByContent.{items_of, pairs_of}
+use Rattle.jsonb_spec.specs.Tree.{Num, int64, Tree, null, boolean, number, string, array, object, binary, date, timestamp, timestamp_tz, interval, Trees, no_trees, more_trees, Members, no_members, more_members}
 
 -- the laws of an order where its first value is x. So a law of trees goes by induction on one tree
 record IsTotalAt {K : Type 0} (R : K → K → Ordering) (x : K) : Type 0 where

@@ -1,6 +1,7 @@
 //! `clone` of errors. Its only error is an allocation failure.
 ghost use Rattle.std.specs.Prelude.{◌≡◌};
-ghost use Rattle.jsonb_value.specs.Code.{code_of, NamesNoKey};
+ghost use Rattle.jsonb_value.specs.Error.CodeView.{code_of};
+ghost use Rattle.jsonb_spec.specs.Code.{NamesNoKey};
 ghost use Rattle.jsonb_value.specs.Error.ErrorView.{error_view, HoldsNoText};
 
 use super::{Error, ParseErrorCode};

@@ -3,11 +3,11 @@ ghost use Rattle.std.specs.Prelude.{◌≡◌, ◌↔◌, ◌⊎◌, ◌+◌, �
 ghost use Rattle.std.specs.Fmt.{decimal};
 ghost use Rattle.std.specs.Fmt.InlineText.{inline_text};
 ghost use Rattle.std.specs.Vec.{vec_capacity};
-ghost use Rattle.jsonb_value.specs.Text.Appending.{AppendsAllOrNothing};
-ghost use Rattle.jsonb_value.specs.Text.BinaryText.{hexadecimal_pair, binary_text};
-ghost use Rattle.jsonb_value.specs.Text.ExtensionText.{extension_text, AppendsExtensionText};
-ghost use Rattle.jsonb_value.specs.Text.IntervalText.{amount_text, microseconds_text, clock_text, time_text, with_blank, beside, interval_text};
-ghost use Rattle.jsonb_value.specs.Text.NumberText.{zero_padded};
+ghost use Rattle.jsonb_spec.specs.Text.Appending.{AppendsAllOrNothing};
+ghost use Rattle.jsonb_spec.specs.Text.BinaryText.{hexadecimal_pair, binary_text};
+ghost use Rattle.jsonb_spec.specs.Text.ExtensionText.{extension_text, AppendsExtensionText};
+ghost use Rattle.jsonb_spec.specs.Text.IntervalText.{amount_text, microseconds_text, clock_text, time_text, with_blank, beside, interval_text};
+ghost use Rattle.jsonb_spec.specs.Text.NumberText.{zero_padded};
 ghost use Rattle.jsonb_value.specs.View.{extension_view};
 
 use super::{ExtensionValue, Interval};

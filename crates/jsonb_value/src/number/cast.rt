@@ -1,8 +1,8 @@
 //! Numbers as integers.
 ghost use Rattle.std.specs.Prelude.{◌≡◌, ℕ, ℤ, ◌+◌, ◌*◌, ◌^◌, ◌<◌, ◌≤◌, ◌↔◌, Some, pos, false, IsSome, IfSome, IfNone, FitsSigned};
 ghost use Rattle.std.specs.Int.{w64};
-ghost use Rattle.jsonb_value.specs.Number.Cast.{HasValue, HasNearest, IsRounded};
-ghost use Rattle.jsonb_value.specs.Number.Signed.{signed_by};
+ghost use Rattle.jsonb_spec.specs.Number.Cast.{HasValue, HasNearest, IsRounded};
+ghost use Rattle.jsonb_spec.specs.Number.Signed.{signed_by};
 ghost use Rattle.jsonb_value.specs.View.{number_view};
 
 use crate::number::Number;

@@ -2,9 +2,9 @@
 
 ghost use Rattle.std.specs.Prelude.{ℕ, ℤ, ◌≡◌, ◌<◌, ◌^◌, FitsSigned};
 ghost use Rattle.std.specs.Int.{w64};
-ghost use Rattle.jsonb_value.specs.Number.Cast.{HasValue, HasNearest};
-ghost use Rattle.jsonb_value.specs.Text.ReadsBack.{ReadsBack, ReadsBackAsDecimal, HasFewDigits};
-ghost use Rattle.jsonb_value.specs.Tree.{Num};
+ghost use Rattle.jsonb_spec.specs.Number.Cast.{HasValue, HasNearest};
+ghost use Rattle.jsonb_spec.specs.Text.ReadsBack.{ReadsBack, ReadsBackAsDecimal, HasFewDigits};
+ghost use Rattle.jsonb_spec.specs.Tree.{Num};
 ghost use Rattle.jsonb_value.specs.View.{number_view};
 ghost use Rattle.jsonb_value.specs.declared.number.Decimal64.{Decimal64};
 ghost use Rattle.jsonb_value.specs.declared.number.Decimal128.{Decimal128};

@@ -4,7 +4,7 @@ ghost use Rattle.std.specs.Cmp.{on_equiv, on_per, on_po, on_total, partial_equiv
 ghost use Rattle.std.specs.Int.{w128};
 ghost use Rattle.std.specs.Ordering.{int_cmp, on, eq_by_cmp, as_partial_cmp};
 ghost use Rattle.jsonb_value.specs.Order.NumberLaws.{num_cmp_total};
-ghost use Rattle.jsonb_value.specs.Order.{num_cmp};
+ghost use Rattle.jsonb_spec.specs.Order.{num_cmp};
 ghost use Rattle.jsonb_value.specs.View.{number_view};
 
 use super::Number;

@@ -1,8 +1,8 @@
 //! The sort key of a number: its sign, its exponent, and its digits.
 ghost use Rattle.std.specs.Prelude.{◌≡◌, ◌*◌, ◌/◌, ◌%◌, ◌^◌, ◌<◌, ◌≤◌, ◌++◌, ◌↔◌, ◌-◌, ◌∷◌, [], map, drop};
-ghost use Rattle.jsonb_value.specs.Proper.{IsProperNumber};
-ghost use Rattle.jsonb_value.specs.SortKey.{digit_count, place_key, digits_key, magnitude_key, number_key, turned};
-ghost use Rattle.jsonb_value.specs.Text.Appending.{Appends};
+ghost use Rattle.jsonb_spec.specs.Proper.{IsProperNumber};
+ghost use Rattle.jsonb_spec.specs.SortKey.{digit_count, place_key, digits_key, magnitude_key, number_key, turned};
+ghost use Rattle.jsonb_spec.specs.Text.Appending.{Appends};
 ghost use Rattle.jsonb_value.specs.View.{number_view};
 
 use super::Number;

@@ -2,10 +2,10 @@
 ghost use Rattle.std.specs.Prelude.{◌≡◌, ◌↔◌, ℕ, ◌<◌, ◌^◌, ℤ, pos, FitsSigned, ◌==◌, ◌&&◌, is_some, is_none, option_map, IfOk, IfErr, IsTrue};
 ghost use Rattle.std.specs.Str.{str_eq_ignore_ascii_case};
 ghost use Rattle.std.specs.Cow.{cow_str_bytes};
-ghost use Rattle.jsonb_value.specs.Order.{rank};
+ghost use Rattle.jsonb_spec.specs.Order.{rank};
 ghost use Rattle.std.specs.Int.{w64};
-ghost use Rattle.jsonb_value.specs.Accessors.{IsWholeNumber, as_null, as_boolean, as_number, as_string, as_array, as_object, as_binary, as_date, as_timestamp, as_timestamp_tz, as_interval, trees_len, find_member, get_by_name, get_by_index, get_ignore_case, key_trees};
-ghost use Rattle.jsonb_value.specs.Tree.{array};
+ghost use Rattle.jsonb_spec.specs.Accessors.{IsWholeNumber, as_null, as_boolean, as_number, as_string, as_array, as_object, as_binary, as_date, as_timestamp, as_timestamp_tz, as_interval, trees_len, find_member, get_by_name, get_by_index, get_ignore_case, key_trees};
+ghost use Rattle.jsonb_spec.specs.Tree.{array};
 ghost use Rattle.jsonb_value.specs.View.{view, trees_view, members_view, number_view, mark_view};
 
 use super::order::rank;

@@ -1,9 +1,9 @@
 //! `clone` of a value, member by member. What is borrowed stays borrowed.
 ghost use Rattle.std.specs.Prelude.{◌≡◌, IfOk, IfErr};
-ghost use Rattle.jsonb_value.specs.Accessors.{HoldsNoMemory};
-ghost use Rattle.jsonb_value.specs.Tree.{escaped};
+ghost use Rattle.jsonb_spec.specs.Accessors.{HoldsNoMemory};
+ghost use Rattle.jsonb_spec.specs.Tree.{escaped};
 ghost use Rattle.std.specs.Cow.{cow_str_bytes};
-ghost use Rattle.jsonb_value.specs.Keys.{KeysAscend};
+ghost use Rattle.jsonb_spec.specs.Keys.{KeysAscend};
 ghost use Rattle.jsonb_value.specs.View.{view, trees_view, members_view, mark_view};
 
 use super::{Object, Value};

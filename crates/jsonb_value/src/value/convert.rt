@@ -6,7 +6,7 @@ use std::borrow::CowStr;
 
 impl From<bool> for Value<'_> {
     ghost use Rattle.std.specs.Prelude.{◌≡◌};
-    ghost use Rattle.jsonb_value.specs.Tree.{boolean};
+    ghost use Rattle.jsonb_spec.specs.Tree.{boolean};
     ghost use Rattle.jsonb_value.specs.View.{view};
 
     ghost from_gives = { λ truth v. view v ≡ boolean truth };
@@ -18,7 +18,7 @@ impl From<bool> for Value<'_> {
 
 impl From<i32> for Value<'_> {
     ghost use Rattle.std.specs.Prelude.{◌≡◌};
-    ghost use Rattle.jsonb_value.specs.Tree.{number, int64};
+    ghost use Rattle.jsonb_spec.specs.Tree.{number, int64};
     ghost use Rattle.jsonb_value.specs.View.{view};
 
     ghost from_gives = { λ n v. view v ≡ number (record { form = int64; scale = 0; whole = n }) };
@@ -30,7 +30,7 @@ impl From<i32> for Value<'_> {
 
 impl From<u32> for Value<'_> {
     ghost use Rattle.std.specs.Prelude.{◌≡◌, pos};
-    ghost use Rattle.jsonb_value.specs.Tree.{number, uint64};
+    ghost use Rattle.jsonb_spec.specs.Tree.{number, uint64};
     ghost use Rattle.jsonb_value.specs.View.{view};
 
     ghost from_gives = { λ n v. view v ≡ number (record { form = uint64; scale = 0; whole = pos n }) };
@@ -42,7 +42,7 @@ impl From<u32> for Value<'_> {
 
 impl From<i64> for Value<'_> {
     ghost use Rattle.std.specs.Prelude.{◌≡◌};
-    ghost use Rattle.jsonb_value.specs.Tree.{number, int64};
+    ghost use Rattle.jsonb_spec.specs.Tree.{number, int64};
     ghost use Rattle.jsonb_value.specs.View.{view};
 
     ghost from_gives = { λ n v. view v ≡ number (record { form = int64; scale = 0; whole = n }) };
@@ -54,7 +54,7 @@ impl From<i64> for Value<'_> {
 
 impl From<u64> for Value<'_> {
     ghost use Rattle.std.specs.Prelude.{◌≡◌, pos};
-    ghost use Rattle.jsonb_value.specs.Tree.{number, uint64};
+    ghost use Rattle.jsonb_spec.specs.Tree.{number, uint64};
     ghost use Rattle.jsonb_value.specs.View.{view};
 
     ghost from_gives = { λ n v. view v ≡ number (record { form = uint64; scale = 0; whole = pos n }) };
@@ -66,7 +66,7 @@ impl From<u64> for Value<'_> {
 
 impl<'a> From<&'a str> for Value<'a> {
     ghost use Rattle.std.specs.Prelude.{◌≡◌};
-    ghost use Rattle.jsonb_value.specs.Tree.{string, plain};
+    ghost use Rattle.jsonb_spec.specs.Tree.{string, plain};
     ghost use Rattle.jsonb_value.specs.View.{view};
 
     ghost from_gives = { λ text v. view v ≡ string plain text.now };
@@ -78,7 +78,7 @@ impl<'a> From<&'a str> for Value<'a> {
 
 impl From<String> for Value<'_> {
     ghost use Rattle.std.specs.Prelude.{◌≡◌, string_bytes};
-    ghost use Rattle.jsonb_value.specs.Tree.{string, escaped};
+    ghost use Rattle.jsonb_spec.specs.Tree.{string, escaped};
     ghost use Rattle.jsonb_value.specs.View.{view};
 
     ghost from_gives = { λ text v. view v ≡ string escaped (string_bytes text) };
@@ -90,7 +90,7 @@ impl From<String> for Value<'_> {
 
 impl<'a> From<Vec<Value<'a>>> for Value<'a> {
     ghost use Rattle.std.specs.Prelude.{◌≡◌};
-    ghost use Rattle.jsonb_value.specs.Tree.{array};
+    ghost use Rattle.jsonb_spec.specs.Tree.{array};
     ghost use Rattle.jsonb_value.specs.View.{view, trees_view};
 
     ghost from_gives = { λ items v. view v ≡ array (trees_view items.items) };
@@ -102,7 +102,7 @@ impl<'a> From<Vec<Value<'a>>> for Value<'a> {
 
 impl<'a> From<Object<'a>> for Value<'a> {
     ghost use Rattle.std.specs.Prelude.{◌≡◌};
-    ghost use Rattle.jsonb_value.specs.Tree.{object};
+    ghost use Rattle.jsonb_spec.specs.Tree.{object};
     ghost use Rattle.jsonb_value.specs.View.{view, members_view};
 
     ghost from_gives = { λ members v. view v ≡ object (members_view members.entries) };

@@ -1,6 +1,6 @@
 //! Values taken apart: what they own is moved out.
 ghost use Rattle.std.specs.Prelude.{◌≡◌, IfOk, IfErr, None};
-ghost use Rattle.jsonb_value.specs.Accessors.{as_string, as_array, as_object};
+ghost use Rattle.jsonb_spec.specs.Accessors.{as_string, as_array, as_object};
 ghost use Rattle.jsonb_value.specs.View.{view};
 
 use super::{Object, Value};

@@ -1,14 +1,14 @@
 //! Laws of the texts of values and of documents. Each is the contract of a function that does nothing.
 
 ghost use Rattle.std.specs.Prelude.{◌≡◌, ◌≢◌, ◌↔◌, ℕ, List, Some, None};
-ghost use Rattle.jsonb_value.specs.Grammar.{IsDocument};
-ghost use Rattle.jsonb_value.specs.Mode.{Mode, standard, extended};
-ghost use Rattle.jsonb_value.specs.Order.{Same};
-ghost use Rattle.jsonb_value.specs.Proper.{IsProper};
-ghost use Rattle.jsonb_value.specs.Text.Range.{IsInRange, IsIntegerRange, IsInRangeOf};
-ghost use Rattle.jsonb_value.specs.Text.ReadsBack.{ReadsBackAs};
-ghost use Rattle.jsonb_value.specs.Text.{text_of};
-ghost use Rattle.jsonb_value.specs.Tree.{Tree};
+ghost use Rattle.jsonb_spec.specs.Grammar.{IsDocument};
+ghost use Rattle.jsonb_spec.specs.Mode.{Mode, standard, extended};
+ghost use Rattle.jsonb_spec.specs.Order.{Same};
+ghost use Rattle.jsonb_spec.specs.Proper.{IsProper};
+ghost use Rattle.jsonb_spec.specs.Text.Range.{IsInRange, IsIntegerRange, IsInRangeOf};
+ghost use Rattle.jsonb_spec.specs.Text.ReadsBack.{ReadsBackAs};
+ghost use Rattle.jsonb_spec.specs.Text.{text_of};
+ghost use Rattle.jsonb_spec.specs.Tree.{Tree};
 
 /// A value in range has a text, and what is written of it reads back as the same value. Values in range with one text
 /// are the same, and of values whose numbers are all integers the same ones have one text.

@@ -2,9 +2,9 @@
 ghost use Rattle.std.specs.Prelude.{◌≡◌, ◌⊎◌, IfOk, IfErr, true, false};
 ghost use Rattle.std.specs.Cow.{cow_str_bytes};
 ghost use Rattle.std.specs.Result.{IsErrOf};
-ghost use Rattle.jsonb_value.specs.Owned.{owned, owned_items, owned_members, holds_binary, items_hold_binary, members_hold_binary};
-ghost use Rattle.jsonb_value.specs.Accessors.{HoldsNoMemory};
-ghost use Rattle.jsonb_value.specs.Tree.{escaped};
+ghost use Rattle.jsonb_spec.specs.Owned.{owned, owned_items, owned_members, holds_binary, items_hold_binary, members_hold_binary};
+ghost use Rattle.jsonb_spec.specs.Accessors.{HoldsNoMemory};
+ghost use Rattle.jsonb_spec.specs.Tree.{escaped};
 ghost use Rattle.jsonb_value.specs.View.{view, trees_view, members_view, mark_view};
 
 use super::clone::build;

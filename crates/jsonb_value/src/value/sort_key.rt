@@ -2,14 +2,14 @@
 ghost use Rattle.std.specs.Prelude.{ℕ, List, ◌≡◌, ◌↔◌, ◌+◌, ◌/◌, ◌^◌, ◌<◌, ◌≤◌, ◌++◌, ◌∷◌, [], length, take, unsigned_abs, IfErr, OnOk, string_bytes, IsTrue};
 ghost use Rattle.std.specs.List.{flat_map, sum_by};
 ghost use Rattle.std.specs.Ordering.{ordering_then};
-ghost use Rattle.jsonb_value.specs.Order.{bytes_cmp, tree_cmp, Same};
-ghost use Rattle.jsonb_value.specs.Order.ByContent.{items_of, pairs_of};
-ghost use Rattle.jsonb_value.specs.Proper.{IsProperNumber};
-ghost use Rattle.jsonb_value.specs.SortKey.{byte_key, text_key, key_of_32_bits, key_of_64_bits, key_of, items_key, members_key, IsBounded, AreBounded, HaveBounds};
-ghost use Rattle.jsonb_value.specs.SortKey.Kind as kind;
-ghost use Rattle.jsonb_value.specs.SortKey.Size.{exponent_len, member_len, most_pairs, zero_count};
-ghost use Rattle.jsonb_value.specs.Text.Appending.{Appends, AppendsAllOrNothing};
-ghost use Rattle.jsonb_value.specs.Tree.{Mark, Num, Tree, Trees, Members, number, string, array, object};
+ghost use Rattle.jsonb_spec.specs.Order.{bytes_cmp, tree_cmp, Same};
+ghost use Rattle.jsonb_spec.specs.Order.ByContent.{items_of, pairs_of};
+ghost use Rattle.jsonb_spec.specs.Proper.{IsProperNumber};
+ghost use Rattle.jsonb_spec.specs.SortKey.{byte_key, text_key, key_of_32_bits, key_of_64_bits, key_of, items_key, members_key, IsBounded, AreBounded, HaveBounds};
+ghost use Rattle.jsonb_spec.specs.SortKey.Kind as kind;
+ghost use Rattle.jsonb_spec.specs.SortKey.Size.{exponent_len, member_len, most_pairs, zero_count};
+ghost use Rattle.jsonb_spec.specs.Text.Appending.{Appends, AppendsAllOrNothing};
+ghost use Rattle.jsonb_spec.specs.Tree.{Mark, Num, Tree, Trees, Members, number, string, array, object};
 ghost use Rattle.jsonb_value.specs.View.{view, trees_view, members_view};
 
 use super::text::run_len;

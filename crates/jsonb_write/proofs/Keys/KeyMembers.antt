@@ -2,10 +2,10 @@
 use Rattle.std.proofs.Common.{◌≡◌, ℕ, ◌+◌, true, false, List, [], ◌∷◌, ◌++◌, map, length, refl, sym, ap, ap₂, subst, ◌∙◌, arith, append_assoc, append-nil, length-append}
 use Rattle.std.proofs.lemmas.List.{length-take-le}
 use Rattle.std.specs.Str.{IsUtf8}
-use Rattle.jsonb_value.specs.SortKey.{text_key}
-use Rattle.jsonb_value.specs.Tree.{Mark}
+use Rattle.jsonb_spec.specs.SortKey.{text_key}
+use Rattle.jsonb_spec.specs.Tree.{Mark}
 use Rattle.jsonb_scan.specs.Open.{Open, members_so_far}
-use Rattle.jsonb_scan.specs.Source.{Found, Source, found, spot_of}
+use Rattle.jsonb_spec.specs.Source.{Found, Source, found, spot_of}
 use Rattle.jsonb_write.specs.KeyRoom.{Begins, Held, HeldFits, IsRoomWith, KeyStands, Writes, all_starts, base_of, members, next_start, starts_from}
 use Rattle.jsonb_write.specs.MemberStarts.{AreKept, MemberStart, IsKept}
 use Rattle.jsonb_write.specs.Members.{member_key, others_joined, source_key}

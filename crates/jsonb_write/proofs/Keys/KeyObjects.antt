@@ -3,9 +3,9 @@ use Rattle.std.proofs.Common.{◌≡◌, ℕ, ◌+◌, ◌≤◌, true, false, L
 use Rattle.std.proofs.lemmas.List.{length-take-le}
 use Rattle.std.specs.Option.{is_some}
 use Rattle.std.specs.Str.{IsUtf8}
-use Rattle.jsonb_value.specs.Tree.{Mark}
+use Rattle.jsonb_spec.specs.Tree.{Mark}
 use Rattle.jsonb_scan.specs.Open.{Open, members_so_far}
-use Rattle.jsonb_scan.specs.Source.{Found, Spot, first_repeat, sort_by, spot_of}
+use Rattle.jsonb_spec.specs.Source.{Found, Spot, first_repeat, sort_by, spot_of}
 use Rattle.jsonb_write.specs.KeyRoom.{Closes, EndsObject, Held, HeldFits, IsSettled, KeepsMembers, KeyStands, KeysAscendFrom, TellsRepeatOf, all_starts, base_of, members, spot_among, starts_from}
 use Rattle.jsonb_write.specs.MemberStarts.{AreKept, MemberStart}
 use Rattle.jsonb_write.specs.Members.{AreInOrder, AreKeyed, AreWritten, Piece, SpotsAscend, StandFrom, TellsRepeat, bytes_of_pieces, member_key, pieces_of, spot_at, spot_in, spots_of_pieces}

@@ -1,11 +1,11 @@
 -- The room for a sort key after bytes were written.
 use Rattle.std.proofs.Common.{◌≡◌, ℕ, ◌+◌, ◌-◌, ◌<◌, ◌≤◌, Bool, false, List, [], ◌∷◌, ◌++◌, length, take, drop, drop-drop, slice_range, refl, sym, ap, ap₂, subst, ◌∙◌, arith, append_assoc, append-nil}
 use Rattle.std.proofs.lemmas.List.{take-append-le}
-use Rattle.jsonb_value.specs.SortKey.{text_key}
-use Rattle.jsonb_value.specs.Text.{in_quotes}
+use Rattle.jsonb_spec.specs.SortKey.{text_key}
+use Rattle.jsonb_spec.specs.Text.{in_quotes}
 use Rattle.jsonb_value.proofs.SortKeys.Zeros.{plain_key}
 use Rattle.jsonb_scan.specs.Open.{Open, elements_so_far}
-use Rattle.jsonb_scan.specs.Source.{Source}
+use Rattle.jsonb_spec.specs.Source.{Source}
 use Rattle.jsonb_write.specs.KeyRoom.{Held, HeldFits, IsRoomWith, KeyStands, Writes, all_starts, base_of, items, part_key}
 use Rattle.jsonb_write.specs.MemberStarts.{AreKept}
 use Rattle.jsonb_write.specs.Members.{source_key}

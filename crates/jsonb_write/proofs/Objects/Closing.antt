@@ -3,13 +3,13 @@ use Rattle.std.proofs.Common.{◌≡◌, ℕ, ◌+◌, Bool, true, false, cond, 
 use Rattle.std.specs.Cmp.Lexicographic.{slice_cmp}
 use Rattle.std.proofs.lemmas.Cmp.{nat_list_cmp_total}
 use Rattle.std.proofs.lemmas.Grind.{flat_map-append}
-use Rattle.jsonb_value.specs.Keys.{IsBelowKeys, KeysAscend}
-use Rattle.jsonb_value.specs.Order.ByContent.{pairs_of}
-use Rattle.jsonb_value.specs.SortKey.{key_of, text_key, members_key}
-use Rattle.jsonb_value.specs.Text.{with_commas}
-use Rattle.jsonb_value.specs.Tree.{Members, no_members, more_members, put, put_all, object}
+use Rattle.jsonb_spec.specs.Keys.{IsBelowKeys, KeysAscend}
+use Rattle.jsonb_spec.specs.Order.ByContent.{pairs_of}
+use Rattle.jsonb_spec.specs.SortKey.{key_of, text_key, members_key}
+use Rattle.jsonb_spec.specs.Text.{with_commas}
+use Rattle.jsonb_spec.specs.Tree.{Members, no_members, more_members, put, put_all, object}
 use Rattle.jsonb_value.proofs.Trees.MembersInOrder.{put_all-ascending}
-use Rattle.jsonb_scan.specs.Source.{Found, Spot, spot_of, spot_cmp, tree_of_source, source_members_of, object_source, put_source_members, sort_by, insert_by, adjacent_repeat, first_repeat}
+use Rattle.jsonb_spec.specs.Source.{Found, Spot, spot_of, spot_cmp, tree_of_source, source_members_of, object_source, put_source_members, sort_by, insert_by, adjacent_repeat, first_repeat}
 use Rattle.jsonb_write.specs.Members.{SpotsAscend, between, between_after, joined, others_joined, StandFrom, Piece, pieces_of, spots_of_pieces, bytes_of_pieces, pieces_in_order, source_key, member_key}
 use Rattle.jsonb_write.specs.declared.members.Member.{Member}
 use Rattle.jsonb_write.proofs.Objects.Ascending.{ascending_sorted}

@@ -1,4 +1,4 @@
-use Rattle.jsonb.specs.View.{view}
+use Rattle.jsonb_value.specs.View.{view}
 use Rattle.codec.proofs.Refusals.{unwritten}
 use Rattle.codec.proofs.values.decode_line.Goals as goal
 

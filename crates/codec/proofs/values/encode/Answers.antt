@@ -1,8 +1,8 @@
 use Rattle.std.proofs.Common.{vec_len, vec_capacity, sym, arith}
 use Rattle.std.proofs.lemmas.Grind.{common_steps}
-use Rattle.jsonb.specs.Mode.{extended}
-use Rattle.jsonb.specs.View.{view}
-use Rattle.jsonb_value.specs.Text.{text_of}
+use Rattle.jsonb_spec.specs.Mode.{extended}
+use Rattle.jsonb_value.specs.View.{view}
+use Rattle.jsonb_spec.specs.Text.{text_of}
 use Rattle.codec.specs.Values.{AppendsFrame}
 use Rattle.codec.proofs.Encoded.{decodes_again}
 use Rattle.codec.proofs.Refusals.{no_room, refused_growth}

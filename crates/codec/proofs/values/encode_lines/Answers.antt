@@ -1,8 +1,8 @@
 use Rattle.std.proofs.Common.{◌≡◌, ◌∙◌, inl, Err, ap, subst, arith}
-use Rattle.jsonb.specs.Grammar.{IsDocument}
-use Rattle.jsonb.specs.Mode.{extended}
-use Rattle.jsonb.specs.Parser.{MayAllocate}
-use Rattle.jsonb.specs.View.{view}
+use Rattle.jsonb_spec.specs.Grammar.{IsDocument}
+use Rattle.jsonb_spec.specs.Mode.{extended}
+use Rattle.jsonb_scan.specs.Answer.{MayAllocate}
+use Rattle.jsonb_value.specs.View.{view}
 use Rattle.jsonb_value.specs.declared.error.Error.TheVariants.{OutOfMemory}
 use Rattle.codec.proofs.Lines.{next_encoded, all_encoded}
 use Rattle.std.proofs.lemmas.Result.{err_from_is_err_and}

@@ -1,9 +1,9 @@
-use Rattle.jsonb_value.specs.Grammar.{IsDocument}
-use Rattle.jsonb_value.specs.Mode.{standard, extended}
-use Rattle.jsonb_value.specs.Order.{Same}
-use Rattle.jsonb_value.specs.Proper.{IsProper}
-use Rattle.jsonb_value.specs.Text.Range.{IsIntegerRange}
-use Rattle.jsonb_value.specs.Tree.{Tree}
+use Rattle.jsonb_spec.specs.Grammar.{IsDocument}
+use Rattle.jsonb_spec.specs.Mode.{standard, extended}
+use Rattle.jsonb_spec.specs.Order.{Same}
+use Rattle.jsonb_spec.specs.Proper.{IsProper}
+use Rattle.jsonb_spec.specs.Text.Range.{IsIntegerRange}
+use Rattle.jsonb_spec.specs.Tree.{Tree}
 use Rattle.jsonb_value.specs.View.{view}
 use Rattle.jsonb_value.proofs.Trees.DocumentsInRange.{standard_in_range}
 use Rattle.jsonb_value.proofs.Trees.StandardInExtended.{standard_is_extended}

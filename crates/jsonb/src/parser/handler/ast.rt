@@ -4,7 +4,7 @@ ghost use Rattle.std.specs.Cow.{cow_str_bytes};
 ghost use Rattle.jsonb_value.specs.View.{mark_view};
 ghost use Rattle.jsonb.specs.Handler.{Completes, FramesHold};
 ghost use Rattle.jsonb.specs.Source.{found_of, source_view};
-ghost use Rattle.jsonb_scan.specs.Source.{object_source, source_members_of};
+ghost use Rattle.jsonb_spec.specs.Source.{object_source, source_members_of};
 
 use super::value::{make_room, push_scalar};
 use super::{Failed, Handler};

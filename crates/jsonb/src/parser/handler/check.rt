@@ -5,7 +5,7 @@ ghost use Rattle.jsonb_value.specs.View.{number_view};
 ghost use Rattle.jsonb.specs.Handler.{Misses};
 ghost use Rattle.jsonb.specs.Held.{IsAnyValue, key_held};
 ghost use Rattle.jsonb.specs.Stack.{object_end};
-ghost use Rattle.jsonb_scan.specs.Source.{Found, boolean_source, null_source, number_source};
+ghost use Rattle.jsonb_spec.specs.Source.{Found, boolean_source, null_source, number_source};
 ghost use Rattle.jsonb_write.specs.CheckRoom.{CheckFilled, CheckStands, TellsRepeatOf};
 
 use super::{Failed, Handler};

@@ -3,7 +3,7 @@ ghost use Rattle.std.specs.Prelude.{◌≡◌, ◌∷◌, [], ℕ, List, true, f
 ghost use Rattle.jsonb.specs.Handler.{Misses};
 ghost use Rattle.jsonb.specs.Held.{key_held};
 ghost use Rattle.jsonb.specs.Stack.{object_end};
-ghost use Rattle.jsonb_scan.specs.Source.{Found};
+ghost use Rattle.jsonb_spec.specs.Source.{Found};
 ghost use Rattle.jsonb_write.specs.KeyRoom.{KeyFilled, KeyStands, TellsRepeatOf, base_of};
 ghost use Rattle.jsonb_write.specs.TextRoom.{SeesPart};
 

@@ -4,10 +4,10 @@ ghost use Rattle.std.specs.Prelude.{◌≡◌, List, [], ◌∷◌, ◌++◌, fa
 ghost use Rattle.std.specs.BTreeMap.{insert_entry, is_at};
 ghost use Rattle.std.specs.Map.{lookup};
 ghost use Rattle.std.specs.String.{string_cmp};
-ghost use Rattle.jsonb_value.specs.Tree.Tree.{object};
+ghost use Rattle.jsonb_spec.specs.Tree.Tree.{object};
 ghost use Rattle.jsonb_value.specs.View.{members_view, view};
 ghost use Rattle.jsonb.specs.Handler.{Completes, FramesHold, MapHolds};
-ghost use Rattle.jsonb_scan.specs.Source.{tree_of_source};
+ghost use Rattle.jsonb_spec.specs.Source.{tree_of_source};
 
 use super::{Failed, Handler};
 use crate::parser::Mode;

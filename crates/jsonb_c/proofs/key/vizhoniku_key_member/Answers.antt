@@ -1,5 +1,5 @@
 use Rattle.std.proofs.Common.{[]}
-use Rattle.jsonb_value.specs.Accessors.{get_by_name}
+use Rattle.jsonb_spec.specs.Accessors.{get_by_name}
 use Rattle.jsonb_c.proofs.KeyParts.{all_of_it}
 use Rattle.jsonb_c.proofs.key.vizhoniku_key_member.Goals as goal
 

@@ -1,6 +1,6 @@
 use Rattle.std.proofs.Common.{[], length, inl, inr, refl, sym, arith, ◌∙◌, append-nil}
 use Rattle.jsonb_key.proofs.Texts.{some_same}
-use Rattle.jsonb_value.specs.SortKey.{text_key}
+use Rattle.jsonb_spec.specs.SortKey.{text_key}
 use Rattle.jsonb_c.proofs.key.write_text.Goals as goal
 
 pub returns-then-out-needed-clause-written : goal.returns-then-out-needed-clause-written

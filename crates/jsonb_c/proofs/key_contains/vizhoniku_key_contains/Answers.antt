@@ -1,7 +1,7 @@
 use Rattle.std.proofs.Common.{[]}
 use Rattle.jsonb_c.proofs.Contained.{contained, not_contained, no_answer}
 use Rattle.jsonb_c.proofs.KeyParts.{all_of_it}
-use Rattle.jsonb_stored.specs.Containment.{contains}
+use Rattle.jsonb_spec.specs.Containment.{contains}
 use Rattle.jsonb_c.proofs.key_contains.vizhoniku_key_contains.Goals as goal
 
 pub returns-in-Ok-true-clause-contained : goal.returns-in-Ok-true-clause-contained

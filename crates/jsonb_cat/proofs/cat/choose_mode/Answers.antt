@@ -1,7 +1,7 @@
 -- A slice of no words is none, and one of one word is that word alone.
 use Rattle.std.proofs.Common.{◌≡◌, ◌<◌, ◌≤◌, map, string_bytes, List, [], ◌∷◌, length, get_or, arith, refl, ap, sym, ◌∙◌}
 use Rattle.std.specs.Cmp.Lexicographic.{same_text}
-use Rattle.jsonb_cat.specs.Program.{no_words, standard_word}
+use Rattle.jsonb_spec.specs.Program.{no_words, standard_word}
 use Rattle.jsonb_cat.proofs.cat.choose_mode.Goals as goal
 
 only_one : {A : Type 0} (xs : List A) (x : A) → 1 ≤ length xs → length xs < 2 → x ≡ get_or xs 0 x → xs ≡ x ∷ []

@@ -3,14 +3,14 @@ use Rattle.std.specs.Result.{is_err, is_ok}
 use Rattle.std.specs.Vec.{vec_len, vec_capacity}
 use Rattle.std.proofs.lemmas.Result.{err_from_is_err_and}
 use Rattle.jsonb_value.specs.declared.error.Error.TheVariants.{OutOfMemory}
-use Rattle.jsonb_value.specs.Grammar.{IsDocument}
-use Rattle.jsonb_value.specs.Mode.{Mode}
-use Rattle.jsonb_value.specs.Text.{AppendsText, tree_text}
-use Rattle.jsonb_value.specs.Tree.{Tree}
+use Rattle.jsonb_spec.specs.Grammar.{IsDocument}
+use Rattle.jsonb_spec.specs.Mode.{Mode}
+use Rattle.jsonb_spec.specs.Text.{AppendsText, tree_text}
+use Rattle.jsonb_spec.specs.Tree.{Tree}
 use Rattle.jsonb.specs.Appends.{LacksRoomForText}
 use Rattle.jsonb.proofs.Documents.Straight.{text_there}
 use Rattle.jsonb_scan.specs.Answer.{MayAllocate, mode_of}
-use Rattle.jsonb_cat.specs.Program.{IsLineOf, LacksRoom}
+use Rattle.jsonb_spec.specs.Program.{IsLineOf, LacksRoom}
 use Rattle.jsonb_cat.proofs.LinesAgain.{appended_again}
 use Rattle.jsonb_cat.proofs.cat.convert.Goals as goal
 

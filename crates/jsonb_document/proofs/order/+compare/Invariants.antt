@@ -1,5 +1,5 @@
 use Rattle.std.proofs.Common.{◌≡◌, drop}
-use Rattle.jsonb_value.specs.Order.{trees_cmp, members_cmp}
+use Rattle.jsonb_spec.specs.Order.{trees_cmp, members_cmp}
 use Rattle.jsonb_document.specs.Listed.{listed_items, listed_members}
 use Rattle.jsonb_document.proofs.order.+compare.Given as goal
 

@@ -1,7 +1,7 @@
 use Rattle.std.proofs.Common.{◌≤◌, ◌+◌, ◌++◌, length, drop, refl, sym, ap, arith, rules}
 use Rattle.std.proofs.lemmas.List.{drop_all}
 use Rattle.std.specs.Cow.{cow_str_bytes}
-use Rattle.jsonb_value.specs.SortKey.{text_key, key_of, items_key, members_key}
+use Rattle.jsonb_spec.specs.SortKey.{text_key, key_of, items_key, members_key}
 use Rattle.jsonb_value.proofs.Appending.Appended.{goes_on, fits, on_err, kept_on, appends_rest, extended}
 use Rattle.jsonb_document.specs.Listed.{listed_view, listed_items, listed_members}
 use Rattle.jsonb_document.proofs.Listing.{next_key, next_member_key}

@@ -1,6 +1,6 @@
 use Rattle.std.proofs.Common.{◌≤◌, ◌∷◌, drop}
 use Rattle.std.specs.Vec.{vec_capacity}
-use Rattle.jsonb_value.specs.SortKey.{items_key, members_key}
+use Rattle.jsonb_spec.specs.SortKey.{items_key, members_key}
 use Rattle.jsonb_value.proofs.Appending.Appended.{IsUnderway}
 use Rattle.jsonb_document.specs.Listed.{listed_items, listed_members}
 use Rattle.jsonb_document.proofs.sort_key.+append.Given as goal

@@ -1,7 +1,7 @@
 use Rattle.std.proofs.Common.{◌+◌, false, [], ◌∷◌, ◌++◌, drop, refl, arith, rules}
 use Rattle.std.specs.Cow.{cow_str_bytes}
-use Rattle.jsonb_value.specs.Text.StringText.{quoted_text}
-use Rattle.jsonb_value.specs.Text.{item_texts, member_texts, tree_text}
+use Rattle.jsonb_spec.specs.Text.StringText.{quoted_text}
+use Rattle.jsonb_spec.specs.Text.{item_texts, member_texts, tree_text}
 use Rattle.jsonb_value.proofs.Appending.Appended.{goes_on, fits, on_err, kept_on}
 use Rattle.jsonb_value.proofs.Appending.Pieces.{texts_left, comma_done, comma_fits, key_split, key_done}
 use Rattle.jsonb_document.specs.Listed.{listed_view, listed_items, listed_members}

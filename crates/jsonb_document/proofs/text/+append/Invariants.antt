@@ -1,6 +1,6 @@
 use Rattle.std.proofs.Common.{◌≤◌, [], ◌∷◌, ◌++◌, drop}
 use Rattle.std.specs.Vec.{vec_capacity}
-use Rattle.jsonb_value.specs.Text.{with_commas, item_texts, member_texts}
+use Rattle.jsonb_spec.specs.Text.{with_commas, item_texts, member_texts}
 use Rattle.jsonb_value.proofs.Appending.Appended.{IsUnderway}
 use Rattle.jsonb_value.proofs.Appending.Pieces.{texts_left}
 use Rattle.jsonb_document.specs.Listed.{listed_items, listed_members}

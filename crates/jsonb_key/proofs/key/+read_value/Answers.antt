@@ -1,11 +1,11 @@
 use Rattle.std.proofs.Common.{◌∷◌, arith, sym, subst, ap, ◌∙◌}
-use Rattle.jsonb_value.specs.Text.Range.{AreWithin, HaveWithin}
+use Rattle.jsonb_spec.specs.Text.Range.{AreWithin, HaveWithin}
 use Rattle.std.proofs.lemmas.Result.{err_from_is_err_and}
-use Rattle.jsonb_value.specs.SortKey.{key_of, members_key}
+use Rattle.jsonb_spec.specs.SortKey.{key_of, members_key}
 use Rattle.jsonb_key.specs.Readable.{IsAnyNumber}
 use Rattle.jsonb_key.specs.Reading.{IsDecodedAt}
 use Rattle.jsonb_key.proofs.Decoded.{array_decoded, items_pushed, members_pushed, one_deeper_decoded}
-use Rattle.jsonb_value.specs.Tree.{object}
+use Rattle.jsonb_spec.specs.Tree.{object}
 use Rattle.jsonb_value.specs.View.{members_view}
 use Rattle.jsonb_key.proofs.Items.{ItemsLeft, items_not_over, items_ended, next_item, item_read, one_deeper}
 use Rattle.jsonb_key.proofs.Members.{MembersLeft, members_ended, next_member, member_read}

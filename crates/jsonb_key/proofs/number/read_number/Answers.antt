@@ -1,6 +1,6 @@
 use Rattle.std.proofs.Common.{◌++◌, ◌∷◌, map, arith, refl, sym, ap, ◌∙◌, unsigned_abs}
 use Rattle.std.specs.Bool.{nat_lt}
-use Rattle.jsonb_value.specs.SortKey.{digits_key, turned}
+use Rattle.jsonb_spec.specs.SortKey.{digits_key, turned}
 use Rattle.jsonb_value.specs.View.{number_view}
 use Rattle.jsonb_value.proofs.SortKeys.Numbers.{nothing_there}
 use Rattle.jsonb_key.specs.Reading.{place_of}

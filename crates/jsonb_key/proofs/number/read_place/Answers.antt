@@ -1,5 +1,5 @@
 use Rattle.std.proofs.Common.{◌+◌, ◌++◌, map, arith, rules, sym, ap, ◌∙◌}
-use Rattle.jsonb_value.specs.SortKey.{place_key, turned}
+use Rattle.jsonb_spec.specs.SortKey.{place_key, turned}
 use Rattle.jsonb_key.proofs.Exact.{far_exact, near_exact, if_some}
 use Rattle.jsonb_key.proofs.number.read_place.Goals as goal
 

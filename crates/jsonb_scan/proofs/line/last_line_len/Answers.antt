@@ -1,5 +1,5 @@
 use Rattle.std.proofs.Common.{◌≡◌, ◌-◌, ◌+◌, length, sym, ◌∙◌, arith}
-use Rattle.jsonb_scan.specs.Line.{is_line_feed}
+use Rattle.jsonb_spec.specs.Line.{is_line_feed}
 use Rattle.jsonb_scan.proofs.Places.Lines.{behind_none, behind_last}
 use Rattle.jsonb_scan.proofs.line.last_line_len.Goals as goal
 

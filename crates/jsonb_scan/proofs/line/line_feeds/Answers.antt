@@ -1,5 +1,5 @@
 use Rattle.std.proofs.Common.{length, ap, ◌∙◌}
-use Rattle.jsonb_scan.specs.Line.{is_line_feed}
+use Rattle.jsonb_spec.specs.Line.{is_line_feed}
 use Rattle.jsonb_scan.proofs.Places.Lines.{length-places}
 use Rattle.jsonb_scan.proofs.line.line_feeds.Goals as goal
 

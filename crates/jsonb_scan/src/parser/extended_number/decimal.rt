@@ -1,7 +1,7 @@
 //! Decimals of any length.
 ghost use Rattle.std.specs.Prelude.{◌≡◌, ◌+◌, ◌-◌, ◌*◌, ◌≤◌, ◌<◌, ◌^◌, length, Err, Some, None, IfOk, IfErr};
 ghost use Rattle.std.specs.Str.Parse.{AllDigits, digits_value_after};
-ghost use Rattle.jsonb_value.specs.Grammar.ExtendedNumber.{decimal_number};
+ghost use Rattle.jsonb_spec.specs.Grammar.ExtendedNumber.{decimal_number};
 ghost use Rattle.jsonb_scan.specs.Reading.Number.{sign_end};
 ghost use Rattle.jsonb_scan.specs.Reading.ExtendedNumber.{zeros_from, zeros_end, front_end, point_end, behind_end, decimal_end, decimal_at, decimal_scan};
 ghost use Rattle.jsonb_scan.specs.ScannedNumber.{AreEnds, number_views, scanned_view};

@@ -1,7 +1,7 @@
 //! The number of a sign, digits and a scale, in the first form that carries it.
 ghost use Rattle.std.specs.Prelude.{◌≡◌, ℕ, ◌-◌, ◌≤◌, ◌<◌, ◌^◌, Err};
-ghost use Rattle.jsonb_value.specs.Grammar.ExtendedNumber.{decimal_number};
-ghost use Rattle.jsonb_value.specs.Number.Signed.{signed_by};
+ghost use Rattle.jsonb_spec.specs.Grammar.ExtendedNumber.{decimal_number};
+ghost use Rattle.jsonb_spec.specs.Number.Signed.{signed_by};
 ghost use Rattle.jsonb_value.specs.View.{number_view};
 
 use jsonb_value::number::{Decimal64, Decimal128, Number};

@@ -1,8 +1,8 @@
 //! Checks the contents of a string, and decodes nothing.
 ghost use Rattle.std.specs.Prelude.{◌≡◌, ◌≢◌, ◌+◌, ◌^◌, ◌≤◌, ◌<◌, ◌∷◌, [], drop, length, slice_index, IfErr, IfOk, MatchBool, OnOk, true};
-ghost use Rattle.jsonb_value.specs.Ascii as ascii;
-ghost use Rattle.jsonb_value.specs.Mode.{Mode as GrammarMode};
-ghost use Rattle.jsonb_value.specs.Code.{code_of};
+ghost use Rattle.jsonb_spec.specs.Ascii as ascii;
+ghost use Rattle.jsonb_spec.specs.Mode.{Mode as GrammarMode};
+ghost use Rattle.jsonb_value.specs.Error.CodeView.{code_of};
 ghost use Rattle.jsonb_scan.specs.Answer.{mode_of};
 ghost use Rattle.jsonb_scan.specs.Decoding.{IsDecodedUpTo, IsShortLetter, SeesNoBackslash, StopsAtEscape, TellsBackslash};
 ghost use Rattle.jsonb_scan.specs.QuotedString.{ChecksContents, decoded_text};

@@ -2,7 +2,7 @@
 ghost use Rattle.std.specs.Prelude.{◌≡◌, ℕ, ◌+◌, ◌≤◌, ◌<◌, ◌++◌, length, take, slice_index, IfSome, IfNone, Some, None, ◌↔◌};
 ghost use Rattle.std.specs.Int.{bit_at};
 ghost use Rattle.jsonb_scan.specs.Decoding.{SeesNoBackslash, CopiesRun};
-ghost use Rattle.jsonb_value.specs.Ascii as ascii;
+ghost use Rattle.jsonb_spec.specs.Ascii as ascii;
 
 use super::Decoded;
 use super::room::{write_all, write_byte};

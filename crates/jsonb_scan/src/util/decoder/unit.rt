@@ -1,11 +1,11 @@
 //! `\u` escapes: UTF-16 code units of four hexadecimal digits.
 ghost use Rattle.std.specs.Prelude.{List, ◌≡◌, ◌≢◌, ℕ, ◌+◌, ◌*◌, ◌^◌, ◌≤◌, ◌<◌, ◌++◌, ◌∷◌, length, take, min, All, ◌||◌, IfOk, IfErr, OnErr, IfSome, IfNone, Some, None, true, false, ◌⊎◌};
 ghost use Rattle.std.specs.Char.{digit_value, encode_utf8, InScalarRange};
-ghost use Rattle.jsonb_value.specs.Ascii as ascii;
-ghost use Rattle.jsonb_value.specs.Mode.{Mode as GrammarMode};
-ghost use Rattle.jsonb_value.specs.Code.{code_of};
-ghost use Rattle.jsonb_value.specs.Grammar.StringBody.{IsHexDigit, unit_value, is_high, is_low, kept, alone, together};
-ghost use Rattle.jsonb_value.specs.Grammar.StringFault.{IsUnitCut, IsFirstNonDigit};
+ghost use Rattle.jsonb_spec.specs.Ascii as ascii;
+ghost use Rattle.jsonb_spec.specs.Mode.{Mode as GrammarMode};
+ghost use Rattle.jsonb_value.specs.Error.CodeView.{code_of};
+ghost use Rattle.jsonb_spec.specs.Grammar.StringBody.{IsHexDigit, unit_value, is_high, is_low, kept, alone, together};
+ghost use Rattle.jsonb_spec.specs.Grammar.StringFault.{IsUnitCut, IsFirstNonDigit};
 ghost use Rattle.jsonb_scan.specs.Decoding.{SplitsUnit, ReadsUnit, Adds, IsDecodedUpTo, StopsInUnit, StopsAtEscape};
 
 use super::room::write_all;

@@ -1,12 +1,12 @@
 use Rattle.std.proofs.Common.{◌≡◌, ◌++◌, Ok, refl, sym, ap, subst, ◌∙◌, arith}
 use Rattle.jsonb_key.specs.Readable.{IsReadable}
 use Rattle.jsonb_key.proofs.FirstBytes.{no_key}
-use Rattle.jsonb_stored.specs.Containment.{contains}
+use Rattle.jsonb_spec.specs.Containment.{contains}
 use Rattle.jsonb_stored.specs.Parts.{opened_tree}
 use Rattle.jsonb_stored.specs.SideBySide.{AreReadableAt}
 use Rattle.jsonb_stored.proofs.Scalars.{scalar_there}
 use Rattle.jsonb_stored.proofs.Turns.{array_in, container_there, inside, told_is, whole_left, contains_held, contains_item}
-use Rattle.jsonb_value.specs.SortKey.{key_of, items_key}
+use Rattle.jsonb_spec.specs.SortKey.{key_of, items_key}
 use Rattle.jsonb_stored.proofs.containment.contains.Goals as goal
 
 pub returns-in_default : goal.returns-in_default

@@ -3,8 +3,8 @@ use Rattle.std.specs.Option.{option_and_then}
 use Rattle.std.specs.Str.{bytes_eq}
 use Rattle.jsonb_stored.specs.Found.{Finds, Opens}
 use Rattle.jsonb_stored.specs.Open.{opening_byte}
-use Rattle.jsonb_value.specs.Accessors.{find_member, item_at}
-use Rattle.jsonb_write.specs.PartAt.{child_at}
+use Rattle.jsonb_spec.specs.Accessors.{find_member, item_at}
+use Rattle.jsonb_spec.specs.PartAt.{child_at}
 use Rattle.jsonb_stored.proofs.Standing.{array_left, found_behind, object_left}
 use Rattle.jsonb_stored.proofs.find.find_child.Goals as goal
 

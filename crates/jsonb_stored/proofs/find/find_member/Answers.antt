@@ -1,7 +1,7 @@
 use Rattle.std.proofs.Common.{◌≡◌, ◌∷◌, IfSome, Ok, subst}
 use Rattle.jsonb_stored.specs.Found.{Finds, Opens}
 use Rattle.jsonb_stored.specs.Open.{opening_byte}
-use Rattle.jsonb_value.specs.Accessors.{get_by_name}
+use Rattle.jsonb_spec.specs.Accessors.{get_by_name}
 use Rattle.jsonb_stored.proofs.Standing.{found_behind, object_left}
 use Rattle.jsonb_stored.proofs.find.find_member.Goals as goal
 

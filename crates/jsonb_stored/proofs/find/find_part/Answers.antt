@@ -1,6 +1,6 @@
 use Rattle.std.proofs.Common.{◌∷◌, ◌≤◌, IfSome, Ok, ap, arith, length, map, string_bytes, subst, sym, ◌∙◌}
 use Rattle.jsonb_stored.specs.Found.{Finds}
-use Rattle.jsonb_write.specs.PartAt.{child_at}
+use Rattle.jsonb_spec.specs.PartAt.{child_at}
 use Rattle.jsonb_stored.proofs.Standing.{path_begun, path_walked, says_some}
 use Rattle.jsonb_stored.proofs.find.find_part.Goals as goal
 

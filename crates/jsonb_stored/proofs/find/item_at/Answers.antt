@@ -1,6 +1,6 @@
 use Rattle.std.proofs.Common.{arith, refl}
 use Rattle.jsonb_key.proofs.Texts.{none_some, some_same}
-use Rattle.jsonb_value.specs.Accessors.{item_at}
+use Rattle.jsonb_spec.specs.Accessors.{item_at}
 use Rattle.jsonb_stored.proofs.Standing.{found_none, found_some, no_item_here, item_here, item_is, item_stands, item_passed}
 use Rattle.jsonb_stored.proofs.find.item_at.Goals as goal
 

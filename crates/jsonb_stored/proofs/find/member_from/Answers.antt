@@ -1,7 +1,7 @@
 use Rattle.std.proofs.Common.{arith, refl, sym, ◌∙◌}
 use Rattle.std.specs.Str.{bytes_eq}
 use Rattle.jsonb_key.proofs.Texts.{none_some, some_same}
-use Rattle.jsonb_value.specs.Accessors.{find_member}
+use Rattle.jsonb_spec.specs.Accessors.{find_member}
 use Rattle.jsonb_stored.proofs.Standing.{found_none, found_some, no_member_here, member_here, member_is, member_past, member_stands, member_passed}
 use Rattle.jsonb_stored.proofs.find.member_from.Goals as goal
 

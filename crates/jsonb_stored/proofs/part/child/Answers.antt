@@ -1,7 +1,7 @@
 use Rattle.std.proofs.Common.{subst, MatchOption}
-use Rattle.jsonb_write.specs.PartAt.{IsChild}
+use Rattle.jsonb_spec.specs.PartAt.{IsChild}
 use Rattle.jsonb_stored.specs.Parts.{ChildAt}
-use Rattle.jsonb_value.specs.Tree.{Tree}
+use Rattle.jsonb_spec.specs.Tree.{Tree}
 use Rattle.jsonb_stored.proofs.Finds.{parent_of}
 use Rattle.jsonb_stored.proofs.part.child.Goals as goal
 

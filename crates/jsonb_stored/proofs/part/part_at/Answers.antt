@@ -1,6 +1,6 @@
 use Rattle.std.proofs.Common.{◌++◌, [], sym, ap, ◌∙◌, append-nil, map, string_bytes}
 use Rattle.jsonb_key.proofs.Texts.{none_some, some_same}
-use Rattle.jsonb_value.specs.SortKey.{key_of}
+use Rattle.jsonb_spec.specs.SortKey.{key_of}
 use Rattle.jsonb_stored.proofs.Finds.{part_readable}
 use Rattle.jsonb_stored.proofs.part.part_at.Goals as goal
 

@@ -1,6 +1,6 @@
 use Rattle.std.proofs.Common.{◌++◌, map, sym, ap, ◌∙◌, unsigned_abs}
 use Rattle.std.specs.Bool.{nat_lt}
-use Rattle.jsonb_value.specs.SortKey.{digits_key, turned}
+use Rattle.jsonb_spec.specs.SortKey.{digits_key, turned}
 use Rattle.jsonb_key.specs.Reading.{place_of}
 use Rattle.jsonb_key.proofs.Numbers.{place_read}
 use Rattle.jsonb_key.proofs.Signs.{signed_read}

@@ -1,6 +1,6 @@
 use Rattle.std.proofs.Common.{◌++◌, sym, ap, ◌∙◌}
 use Rattle.jsonb_key.proofs.Texts.{none_some, some_same}
-use Rattle.jsonb_value.specs.SortKey.{key_of}
+use Rattle.jsonb_spec.specs.SortKey.{key_of}
 use Rattle.jsonb_stored.proofs.walk.item_of.Goals as goal
 
 pub returns-in_err-rest-clause-next : goal.returns-in_err-rest-clause-next

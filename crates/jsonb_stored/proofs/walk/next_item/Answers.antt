@@ -1,6 +1,6 @@
 use Rattle.std.proofs.Common.{◌++◌, [], false, ◌∙◌, append_assoc}
 use Rattle.jsonb_key.proofs.Texts.{none_some}
-use Rattle.jsonb_value.specs.SortKey.{key_of, items_key}
+use Rattle.jsonb_spec.specs.SortKey.{key_of, items_key}
 use Rattle.jsonb_stored.proofs.Opens.{no_end}
 use Rattle.jsonb_stored.proofs.walk.next_item.Goals as goal
 

@@ -1,6 +1,6 @@
 use Rattle.std.proofs.Common.{◌≡◌, ◌++◌, List, ℕ, true, ◌∙◌, append_assoc}
 use Rattle.jsonb_key.proofs.Texts.{none_some}
-use Rattle.jsonb_value.specs.SortKey.{key_of, members_key, text_key}
+use Rattle.jsonb_spec.specs.SortKey.{key_of, members_key, text_key}
 use Rattle.jsonb_stored.proofs.Opens.{no_end}
 use Rattle.jsonb_stored.proofs.walk.next_member.Goals as goal
 

@@ -1,6 +1,7 @@
 -- Errors are equal where their views are: by cases on the variants, with equality of codes as a lemma.
 use Rattle.std.proofs.Common.{◌≡◌, ◌↔◌, ℕ, ◌==◌, ◌&&◌, Bool, IsTrue, rules}
-use Rattle.jsonb_value.specs.Code.{Code, code_of}
+use Rattle.jsonb_spec.specs.Code.{Code}
+use Rattle.jsonb_value.specs.Error.CodeView.{code_of}
 use Rattle.jsonb_value.specs.Error.ErrorView.{error_view, syntax}
 use Rattle.jsonb_value.specs.contracts.error.ErrorPartialEq.TheImpl as derived
 use Rattle.jsonb_value.specs.contracts.error.ParseErrorCodePartialEq.TheImpl as derived_code

@@ -1,6 +1,6 @@
 use Rattle.std.proofs.Common.{◌≡◌, ◌++◌, take}
 use Rattle.std.specs.List.{flat_map}
-use Rattle.jsonb_value.specs.Text.StringText.{byte_text}
+use Rattle.jsonb_spec.specs.Text.StringText.{byte_text}
 use Rattle.jsonb_write.proofs.escaped.append_bytes.Given as goal
 
 -- the bytes so far are written

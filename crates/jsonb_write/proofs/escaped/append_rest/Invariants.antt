@@ -1,5 +1,5 @@
 use Rattle.std.proofs.Common.{List, ℕ, drop, length}
-use Rattle.jsonb_value.specs.Text.Appending.{Extends}
+use Rattle.jsonb_spec.specs.Text.Appending.{Extends}
 use Rattle.jsonb_scan.specs.Answer.{mode_of}
 use Rattle.jsonb_write.specs.Escaped.{WritesItems}
 use Rattle.jsonb_write.proofs.escaped.append_rest.Given as goal

@@ -1,5 +1,5 @@
 use Rattle.std.proofs.Common.{◌≤◌, ◌-◌, [], length, take, drop}
-use Rattle.jsonb_value.specs.Mode.{Mode}
+use Rattle.jsonb_spec.specs.Mode.{Mode}
 use Rattle.jsonb_write.specs.Escaped.{WritesItems}
 use Rattle.jsonb_write.proofs.escaped.kept_tail.Given as goal
 

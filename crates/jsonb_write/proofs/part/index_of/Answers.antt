@@ -1,6 +1,6 @@
 use Rattle.std.proofs.Common.{rules, ◌∙◌, ◌≡◌, true, false}
 use Rattle.std.specs.Prelude.{slice_index, ◌==◌}
-use Rattle.jsonb_write.specs.PartAt.{leads_well}
+use Rattle.jsonb_spec.specs.PartAt.{leads_well}
 use Rattle.jsonb_write.proofs.PartIndex.{index_there, no_index_there, parsed}
 use Rattle.jsonb_write.proofs.part.index_of.Goals as goal
 

@@ -1,8 +1,8 @@
 use Rattle.std.proofs.Common.{◌≡◌, ◌+◌, ◌∙◌, [], take, Err, ap, sym, subst, arith}
-use Rattle.jsonb.specs.Grammar.{IsDocument}
-use Rattle.jsonb.specs.Mode.{extended}
-use Rattle.jsonb.specs.Parser.{MayAllocate}
-use Rattle.jsonb.specs.View.{view}
+use Rattle.jsonb_spec.specs.Grammar.{IsDocument}
+use Rattle.jsonb_spec.specs.Mode.{extended}
+use Rattle.jsonb_scan.specs.Answer.{MayAllocate}
+use Rattle.jsonb_value.specs.View.{view}
 use Rattle.jsonb_value.specs.declared.error.Error.TheVariants.{OutOfMemory}
 use Rattle.sorted_index.specs.Index.{contents, AreDocuments, no_documents}
 use Rattle.sorted_index.proofs.LinesRead.{next_document, first_read, first_fault}

@@ -1,6 +1,6 @@
 use Rattle.std.proofs.Common.{[], Ok, Err, append-nil, option_map, subst, sym, true, ◌∙◌}
 use Rattle.jsonb_stored.specs.Open.{members}
-use Rattle.jsonb_value.specs.SortKey.{members_key}
+use Rattle.jsonb_spec.specs.SortKey.{members_key}
 use Rattle.stored_edit.specs.Edit.{changed_member, set_to, with_member}
 use Rattle.stored_edit.specs.Spots.{SpotIn}
 use Rattle.stored_edit.proofs.Built.{changed_object, member_told, no_object, nothing_told, object_spot, set_always}

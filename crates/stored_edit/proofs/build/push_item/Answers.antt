@@ -1,7 +1,7 @@
 use Rattle.std.proofs.Common.{◌+◌, ◌<◌, ◌++◌, ◌∷◌, [], length, vec_len, ap, append-nil, subst, sym, ◌∙◌}
 use Rattle.std.specs.Vec.{vec_capacity}
-use Rattle.jsonb_value.specs.SortKey.{key_of}
-use Rattle.jsonb_value.specs.Tree.{array, more_trees, no_trees}
+use Rattle.jsonb_spec.specs.SortKey.{key_of}
+use Rattle.jsonb_spec.specs.Tree.{array, more_trees, no_trees}
 use Rattle.stored_edit.specs.Edit.{joined_items, IsLacking}
 use Rattle.stored_edit.specs.Merging.{keys_of_items}
 use Rattle.stored_edit.proofs.Joined.{items_end, joined_is, joined_within, second_within}

@@ -1,7 +1,7 @@
 use Rattle.std.proofs.Common.{◌≡◌, ◌+◌, ◌<◌, ◌++◌, [], Ok, Err, length, vec_len, ap, append-nil, subst, sym, ◌∙◌}
 use Rattle.std.specs.Vec.{vec_capacity}
 use Rattle.jsonb_stored.specs.Open.{name_key}
-use Rattle.jsonb_value.specs.SortKey.{key_of}
+use Rattle.jsonb_spec.specs.SortKey.{key_of}
 use Rattle.stored_edit.specs.Edit.{AppendsKey}
 use Rattle.stored_edit.specs.declared.error.EditError.TheVariants as errors
 use Rattle.stored_edit.proofs.Putting.{appended, it_fits, lacking, not_fits, put_answered}

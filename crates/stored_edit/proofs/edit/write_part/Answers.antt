@@ -1,6 +1,6 @@
 use Rattle.std.proofs.Common.{◌++◌, ap, append_assoc, subst, ◌∙◌}
 use Rattle.jsonb_stored.specs.Open.{name_key}
-use Rattle.jsonb_value.specs.Text.Appending.{AppendsAllOrNothing}
+use Rattle.jsonb_spec.specs.Text.Appending.{AppendsAllOrNothing}
 use Rattle.stored_edit.proofs.Putting.{value_front}
 use Rattle.stored_edit.proofs.edit.write_part.Goals as goal
 

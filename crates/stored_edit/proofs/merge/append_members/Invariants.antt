@@ -1,6 +1,6 @@
 use Rattle.std.proofs.Common.{◌+◌, ◌≤◌, length}
 use Rattle.std.specs.Vec.{vec_capacity}
-use Rattle.jsonb_value.specs.Text.Appending.{Extends}
+use Rattle.jsonb_spec.specs.Text.Appending.{Extends}
 use Rattle.stored_edit.proofs.Merged.{WalksBoth}
 use Rattle.stored_edit.proofs.merge.append_members.Given as goal
 

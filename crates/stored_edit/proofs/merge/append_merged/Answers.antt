@@ -1,5 +1,5 @@
 use Rattle.std.proofs.Common.{ap, subst, ◌∙◌}
-use Rattle.jsonb_value.specs.SortKey.{key_of}
+use Rattle.jsonb_spec.specs.SortKey.{key_of}
 use Rattle.stored_edit.specs.Edit.{AppendsKey}
 use Rattle.stored_edit.proofs.Joined.{members_there, merged_items, merged_objects}
 use Rattle.stored_edit.proofs.merge.append_merged.Goals as goal

@@ -1,5 +1,5 @@
 use Rattle.std.proofs.Common.{[], append-nil, refl, sym, ◌∙◌}
-use Rattle.jsonb_value.specs.SortKey.{key_of}
+use Rattle.jsonb_spec.specs.SortKey.{key_of}
 use Rattle.stored_edit.proofs.Putting.{it_fits, not_fits}
 use Rattle.stored_edit.proofs.merge.as_item.Goals as goal
 

@@ -1,7 +1,7 @@
 use Rattle.std.proofs.Common.{[], append-nil, sym, ◌∙◌}
 use Rattle.jsonb_key.proofs.Texts.{none_some}
-use Rattle.jsonb_value.specs.SortKey.{key_of}
-use Rattle.jsonb_value.specs.Tree.{object}
+use Rattle.jsonb_spec.specs.SortKey.{key_of}
+use Rattle.jsonb_spec.specs.Tree.{object}
 use Rattle.stored_edit.proofs.merge.both_members.Goals as goal
 
 pub returns-in_default : goal.returns-in_default

@@ -1,6 +1,6 @@
 use Rattle.std.proofs.Common.{◌+◌, ◌<◌, ◌++◌, ◌∷◌, [], length, vec_len, ap, subst, sym, ◌∙◌}
 use Rattle.std.specs.Vec.{vec_capacity}
-use Rattle.jsonb_value.specs.Tree.{array}
+use Rattle.jsonb_spec.specs.Tree.{array}
 use Rattle.stored_edit.specs.Edit.{as_items, joined_items, IsLacking}
 use Rattle.stored_edit.proofs.Joined.{joined_is, joined_within, second_within}
 use Rattle.stored_edit.proofs.Putting.{appended, lacking}

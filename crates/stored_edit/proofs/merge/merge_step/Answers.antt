@@ -1,6 +1,6 @@
 use Rattle.std.proofs.Common.{◌++◌, ◌∙◌}
-use Rattle.jsonb_value.specs.Order.{bytes_cmp}
-use Rattle.jsonb_value.specs.SortKey.{key_of, members_key, text_key}
+use Rattle.jsonb_spec.specs.Order.{bytes_cmp}
+use Rattle.jsonb_spec.specs.SortKey.{key_of, members_key, text_key}
 use Rattle.stored_edit.proofs.Merged.{equal_step, first_bytes, greater_step, left_over, less_step, member_first, no_order, one_order, right_over}
 use Rattle.stored_edit.proofs.merge.merge_step.Goals as goal
 

@@ -3,7 +3,7 @@ use Rattle.std.specs.Cmp.Lexicographic.{slice_cmp}
 use Rattle.std.specs.Ordering.{nat_cmp}
 use Rattle.jsonb_key.proofs.Texts.{some_same}
 use Rattle.jsonb_stored.proofs.Framed.{names_compare}
-use Rattle.jsonb_value.specs.SortKey.{text_key}
+use Rattle.jsonb_spec.specs.SortKey.{text_key}
 use Rattle.stored_edit.proofs.merge.order_of_names.Goals as goal
 
 pub returns : goal.returns

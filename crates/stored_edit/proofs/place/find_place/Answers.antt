@@ -1,9 +1,9 @@
 use Rattle.std.proofs.Common.{◌≡◌, ◌∷◌, IfSome, MatchOption, None, Ok, Option, Global, ap, arith, map, string_bytes, subst, sym, ◌∙◌}
 use Rattle.jsonb_stored.specs.Found.{Opens}
 use Rattle.jsonb_stored.specs.Open.{opening_byte}
-use Rattle.jsonb_value.specs.Grammar.{max_depth}
-use Rattle.jsonb_value.specs.SortKey.{key_of}
-use Rattle.jsonb_value.specs.Tree.{Tree}
+use Rattle.jsonb_spec.specs.Grammar.{max_depth}
+use Rattle.jsonb_spec.specs.SortKey.{key_of}
+use Rattle.jsonb_spec.specs.Tree.{Tree}
 use Rattle.std.proofs.lemmas.List.{length-map}
 use Rattle.stored_edit.specs.Edit.{Outcome, changed_at}
 use Rattle.stored_edit.specs.Spots.{SpotIn, changed_open}

@@ -1,7 +1,7 @@
 use Rattle.std.proofs.Common.{◌≡◌, ◌+◌, ◌<◌, option_map, false, ap, sym, refl, arith}
 use Rattle.jsonb_stored.specs.Open.{items}
 use Rattle.jsonb_stored.proofs.Standing.{no_count, same_count}
-use Rattle.jsonb_value.specs.Accessors.{trees_len}
+use Rattle.jsonb_spec.specs.Accessors.{trees_len}
 use Rattle.stored_edit.specs.Edit.{changed_item, changed_item_back}
 use Rattle.stored_edit.proofs.Spotted.{fits_in, items_front, key_before, some_back, told_as}
 use Rattle.stored_edit.proofs.spot.item_spot_back.Goals as goal

@@ -1,6 +1,6 @@
 use Rattle.std.proofs.Common.{take, ap, subst, ◌∙◌, arith}
 use Rattle.std.proofs.lemmas.List.{take-take}
-use Rattle.jsonb_value.specs.Text.Appending.{Appends}
+use Rattle.jsonb_spec.specs.Text.Appending.{Appends}
 use Rattle.stored_text.proofs.append.append_first.Goals as goal
 
 pub returns-in-Some : goal.returns-in-Some

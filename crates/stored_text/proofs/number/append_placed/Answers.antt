@@ -1,5 +1,5 @@
 use Rattle.std.proofs.Common.{subst, sym, arith}
-use Rattle.jsonb_value.specs.Text.Appending.{Appends}
+use Rattle.jsonb_spec.specs.Text.Appending.{Appends}
 use Rattle.stored_text.proofs.NumberTexts.{no_point, point_inside, point_before}
 use Rattle.stored_text.proofs.number.append_placed.Goals as goal
 

@@ -1,7 +1,7 @@
 use Rattle.std.proofs.Common.{false, ◌∷◌, [], ◌++◌, length, sym, ap, ◌∙◌, arith}
 use Rattle.std.specs.List.{flat_map}
 use Rattle.jsonb_key.proofs.FirstBytes.{no_key}
-use Rattle.jsonb_value.specs.Text.StringText.{byte_text}
+use Rattle.jsonb_spec.specs.Text.StringText.{byte_text}
 use Rattle.stored_text.specs.Writes.{closing_quote}
 use Rattle.stored_text.proofs.Appending.{out_of_memory, behind, as_text}
 use Rattle.stored_text.proofs.Scalars.{word_of, string_text, number_text_of}

@@ -1,6 +1,6 @@
 use Rattle.std.proofs.Common.{◌≡◌, ◌==◌, true≢false, [], ◌++◌, length, sym, ap, ◌∙◌, arith, append-nil}
 use Rattle.jsonb_key.specs.declared.key.KeyError.TheVariants.{Invalid, OutOfMemory}
-use Rattle.jsonb_value.specs.SortKey.{key_of}
+use Rattle.jsonb_spec.specs.SortKey.{key_of}
 use Rattle.stored_text.specs.Writes.{value_text}
 use Rattle.stored_text.proofs.Whole.{appended}
 use Rattle.stored_text.proofs.write.write_text_of_key.Goals as goal

@@ -1,6 +1,6 @@
 use Rattle.std.proofs.Common.{ℕ, ◌-◌, List, ◌∷◌, Ok, length, ap, sym, ◌∙◌}
-use Rattle.jsonb_value.specs.Code.Code.{expected_colon}
-use Rattle.jsonb_value.specs.Tree.{Mark}
+use Rattle.jsonb_spec.specs.Code.Code.{expected_colon}
+use Rattle.jsonb_spec.specs.Tree.{Mark}
 use Rattle.jsonb_scan.specs.Answer.{mode_of}
 use Rattle.jsonb.specs.Parser.{rest_of, size_of}
 use Rattle.jsonb_scan.specs.Reading.{Read, on_byte, refused, ◌>>=◌}

@@ -1,5 +1,5 @@
 use Rattle.std.proofs.Common.{ap, sym}
-use Rattle.jsonb_value.specs.Tree.{number}
+use Rattle.jsonb_spec.specs.Tree.{number}
 use Rattle.jsonb.proofs.Scalars.Built.{kept_put, scalar_still}
 use Rattle.jsonb.proofs.Scalars.FirstBytes.{scalar_other}
 use Rattle.jsonb.proofs.Steps.Failures.{puts_in_same}

@@ -1,7 +1,7 @@
 use Rattle.std.proofs.Common.{◌≡◌, Bool, cond, ap, subst, sym, ◌∙◌}
 use Rattle.jsonb_scan.specs.ShortInteger.{short_view}
-use Rattle.jsonb_scan.specs.Source.{number_source}
-use Rattle.jsonb_value.specs.Tree.{number}
+use Rattle.jsonb_spec.specs.Source.{number_source}
+use Rattle.jsonb_spec.specs.Tree.{number}
 use Rattle.jsonb_value.specs.View.{number_view}
 use Rattle.jsonb.proofs.Scalars.Built.{integer_stands, negative_of, positive_of, read_put, scalar_still}
 use Rattle.jsonb.proofs.Steps.Failures.{puts_in_same}

@@ -1,6 +1,6 @@
 use Rattle.std.proofs.Common.{◌≡◌, ℕ, ◌<◌, Bool, true, false, not, MatchBool, List, ◌∷◌, nat_eq, ne_eqb, refl, sym, ap, ◌∙◌, ◌||◌, arith}
 use Rattle.std.proofs.lemmas.Bool.{eqb-true}
-use Rattle.jsonb_value.specs.Mode.{Mode}
+use Rattle.jsonb_spec.specs.Mode.{Mode}
 use Rattle.jsonb_scan.specs.Reading.Blank.{skip_closed_blanks, skip_blanks}
 use Rattle.jsonb_scan.specs.Answer.{mode_of}
 use Rattle.jsonb.specs.Parser.{rest_of}

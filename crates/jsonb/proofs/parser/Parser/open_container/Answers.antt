@@ -1,6 +1,6 @@
 use Rattle.std.proofs.Common.{◌≡◌, subst, ◌+◌, ◌∷◌, [], refl, ap, sym, ◌∙◌, arith, length, length-drop, reverse}
 use Rattle.jsonb_scan.specs.Answer.{Fails}
-use Rattle.jsonb_value.specs.Tree.Mark.{plain}
+use Rattle.jsonb_spec.specs.Tree.Mark.{plain}
 use Rattle.jsonb.specs.declared.parser.Parser.{Parser}
 use Rattle.jsonb.specs.declared.parser.frame.OpenObject.{OpenObject}
 use Rattle.jsonb.specs.Parser.{Advances, rest_of, size_of}

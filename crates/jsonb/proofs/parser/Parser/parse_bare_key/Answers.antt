@@ -1,7 +1,7 @@
 use Rattle.std.proofs.Common.{◌≡◌, ◌<◌, length, take, drop, get_or, Ok, inl, inr, sym, ap, subst, ◌∙◌, refl, arith, length-drop, drop-drop}
 use Rattle.std.proofs.lemmas.List.{length-take-le}
 use Rattle.std.specs.Str.{IsUtf8}
-use Rattle.jsonb_value.specs.Tree.{plain}
+use Rattle.jsonb_spec.specs.Tree.{plain}
 use Rattle.jsonb.specs.Parser.{rest_of, size_of}
 use Rattle.jsonb_scan.specs.Reading.BareKey.{key_end}
 use Rattle.jsonb_scan.proofs.Strings.BareKeys.{BeginsBare, bare-character, bare-digit, bare-no_text, bare-nothing, bare-past, bare-text, key_within}

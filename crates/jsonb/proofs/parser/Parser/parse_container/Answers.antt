@@ -1,6 +1,6 @@
 use Rattle.std.proofs.Common.{◌≡◌, ◌∷◌, [], false, sym, subst, ◌∙◌}
 use Rattle.std.proofs.lemmas.Result.{err_from_is_err_and}
-use Rattle.jsonb_value.specs.Grammar.{max_depth}
+use Rattle.jsonb_spec.specs.Grammar.{max_depth}
 use Rattle.jsonb_scan.specs.Reading.Document.{value_at}
 use Rattle.jsonb.specs.Frames.{Fits, finish_container}
 use Rattle.jsonb.specs.Parser.{read_at, rest_of}

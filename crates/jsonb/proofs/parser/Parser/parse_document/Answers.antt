@@ -1,13 +1,13 @@
 use Rattle.std.proofs.Common.{◌≡◌, inl, [], Ok, true, ap, sym, subst, ◌∙◌}
 use Rattle.std.proofs.lemmas.Result.{err_from_is_err_and}
-use Rattle.jsonb_value.specs.Grammar.{max_depth}
+use Rattle.jsonb_spec.specs.Grammar.{max_depth}
 use Rattle.jsonb_scan.specs.Answer.{MayAllocate, mode_of}
 use Rattle.jsonb.specs.Parser.{read_at, rest_of, size_of}
 use Rattle.jsonb_scan.specs.Reading.{◌>>=◌}
 use Rattle.jsonb_scan.specs.Reading.Blank.{skip_closed_blanks}
 use Rattle.jsonb_scan.specs.Reading.Document.{alone_at, at_end, source_from, value_at}
 use Rattle.jsonb_scan.specs.Reading.Scalar.{scalar_at}
-use Rattle.jsonb_scan.specs.Source.{null_source, source_alone}
+use Rattle.jsonb_spec.specs.Source.{null_source, source_alone}
 use Rattle.jsonb.proofs.Containers.Frames.{each_error, opens_allocates}
 use Rattle.jsonb.proofs.Containers.OpenOnLists.{value_plain}
 use Rattle.jsonb.proofs.Steps.Failures.{if_ok, misses_same, misses_through, root_put, tells_fault, written_memory}

@@ -1,6 +1,6 @@
 use Rattle.std.proofs.Common.{◌+◌, Err, ap, sym, subst, ◌∙◌}
 use Rattle.std.specs.Cow.{cow_str_bytes}
-use Rattle.jsonb_value.specs.Tree.{string}
+use Rattle.jsonb_spec.specs.Tree.{string}
 use Rattle.jsonb_value.specs.View.{mark_view}
 use Rattle.jsonb_scan.specs.Answer.{mode_of}
 use Rattle.jsonb_scan.specs.Reading.Scalar.{quoted_at}

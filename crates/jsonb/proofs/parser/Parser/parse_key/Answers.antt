@@ -1,5 +1,5 @@
 use Rattle.std.proofs.Common.{ap, sym, ◌∙◌}
-use Rattle.jsonb_value.specs.Code.Code.{expected_some_ident}
+use Rattle.jsonb_spec.specs.Code.Code.{expected_some_ident}
 use Rattle.jsonb_scan.specs.Answer.{mode_of}
 use Rattle.jsonb.specs.Parser.{rest_of, size_of}
 use Rattle.jsonb_scan.specs.Reading.{fault_at}

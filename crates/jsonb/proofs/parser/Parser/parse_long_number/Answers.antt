@@ -1,5 +1,5 @@
 use Rattle.std.proofs.Common.{sym, ap, ◌∙◌, Ok}
-use Rattle.jsonb_value.specs.Code.{code_of}
+use Rattle.jsonb_value.specs.Error.CodeView.{code_of}
 use Rattle.jsonb_scan.specs.ScannedNumber.{number_views}
 use Rattle.jsonb_scan.proofs.Numbers.Scanned.{scanned_number, scanned_missing, scanned_fault}
 use Rattle.jsonb.proofs.parser.Parser.parse_long_number.Goals as goal

@@ -1,6 +1,6 @@
-use Rattle.jsonb_value.specs.Tree.{Mark}
+use Rattle.jsonb_spec.specs.Tree.{Mark}
 use Rattle.std.proofs.Common.{ℕ, List, ◌∷◌, ap, subst, sym, ◌∙◌}
-use Rattle.jsonb_value.specs.Tree.Mark.{plain}
+use Rattle.jsonb_spec.specs.Tree.Mark.{plain}
 use Rattle.jsonb_scan.specs.Answer.{mode_of}
 use Rattle.jsonb_scan.specs.Reading.String.{string_at}
 use Rattle.jsonb.specs.Handler.{AsKey, Begins, Builds}

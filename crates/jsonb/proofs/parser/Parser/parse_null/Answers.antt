@@ -1,5 +1,5 @@
 use Rattle.std.proofs.Common.{◌≡◌, Err, ap, drop, length, sym, ◌∙◌}
-use Rattle.jsonb_value.specs.Tree.{null}
+use Rattle.jsonb_spec.specs.Tree.{null}
 use Rattle.jsonb_scan.specs.Answer.{mode_of}
 use Rattle.jsonb_scan.specs.Reading.Scalar.{null_at, number_value_at}
 use Rattle.jsonb.specs.Handler.{AsScalar}

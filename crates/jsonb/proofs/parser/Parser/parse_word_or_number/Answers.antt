@@ -1,5 +1,5 @@
 use Rattle.std.proofs.Common.{true, false, sym}
-use Rattle.jsonb_value.specs.Tree.{boolean}
+use Rattle.jsonb_spec.specs.Tree.{boolean}
 use Rattle.jsonb_scan.specs.Answer.{mode_of}
 use Rattle.jsonb.specs.Parser.{rest_of, size_of}
 use Rattle.jsonb.proofs.Scalars.Built.{false_read, true_read}

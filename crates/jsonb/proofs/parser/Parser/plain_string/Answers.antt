@@ -2,7 +2,7 @@ use Rattle.std.proofs.Common.{◌≡◌, ◌≢◌, ℕ, ◌+◌, ◌-◌, ◌<�
 use Rattle.std.proofs.lemmas.List.{drop-take, drop_more, get_or-take, length-take-le, take-append-drop, take-take}
 use Rattle.std.proofs.lemmas.Str.{IsCharBoundary-after_ascii}
 use Rattle.std.specs.Str.{IsCharBoundary, IsUtf8}
-use Rattle.jsonb_value.specs.Tree.Mark.{plain}
+use Rattle.jsonb_spec.specs.Tree.Mark.{plain}
 use Rattle.jsonb_scan.specs.Decoding.{TellsBackslash}
 use Rattle.jsonb_scan.specs.Answer.{mode_of}
 use Rattle.jsonb.specs.Parser.{size_of}

@@ -1,10 +1,10 @@
 use Rattle.std.proofs.Common.{Ok, sym}
 use Rattle.std.proofs.lemmas.Bool.{cond-true}
-use Rattle.jsonb_value.specs.Tree.{null}
+use Rattle.jsonb_spec.specs.Tree.{null}
 use Rattle.jsonb_scan.specs.Answer.{mode_of}
 use Rattle.jsonb_scan.specs.Reading.Container.{is_left_out}
 use Rattle.jsonb_scan.specs.Reading.Scalar.{scalar_at}
-use Rattle.jsonb_scan.specs.Source.{null_source}
+use Rattle.jsonb_spec.specs.Source.{null_source}
 use Rattle.jsonb.specs.Parser.{rest_of, size_of}
 use Rattle.jsonb.proofs.Scalars.Built.{not_spelled, read_pushed}
 use Rattle.jsonb.proofs.parser.Parser.push_element.Goals as goal

@@ -1,7 +1,7 @@
 use Rattle.std.proofs.Common.{◌≡◌, refl, ◌∷◌, ◌++◌, [], append_assoc, ap, sym, subst, ◌∙◌}
-use Rattle.jsonb_value.specs.Tree.{string}
-use Rattle.jsonb_scan.specs.Source.{string_source}
-use Rattle.jsonb_value.specs.Tree.Mark.{plain}
+use Rattle.jsonb_spec.specs.Tree.{string}
+use Rattle.jsonb_spec.specs.Source.{string_source}
+use Rattle.jsonb_spec.specs.Tree.Mark.{plain}
 use Rattle.jsonb.specs.Parser.{Advances, rest_of}
 use Rattle.jsonb.proofs.Scalars.Built.{between, read_pushed, scalar_still, scalar_string}
 use Rattle.jsonb.proofs.Scalars.FirstBytes.{scalar_other}

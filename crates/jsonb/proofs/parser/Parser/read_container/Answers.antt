@@ -1,6 +1,6 @@
 use Rattle.std.proofs.Common.{subst, arith}
 use Rattle.std.proofs.lemmas.Result.{err_from_is_err_and}
-use Rattle.jsonb_value.specs.Grammar.{max_depth}
+use Rattle.jsonb_spec.specs.Grammar.{max_depth}
 use Rattle.jsonb.specs.Frames.{AtPart}
 use Rattle.jsonb.specs.Parser.{read_at}
 use Rattle.jsonb_scan.specs.Reading.Document.{value_at}

@@ -1,5 +1,5 @@
 use Rattle.std.proofs.Common.{◌≡◌, ◌-◌, ◌<◌, ◌≤◌, true, [], length}
-use Rattle.jsonb_value.specs.Grammar.{max_depth}
+use Rattle.jsonb_spec.specs.Grammar.{max_depth}
 use Rattle.jsonb.specs.Frames.{AtPart}
 use Rattle.jsonb_scan.specs.Answer.{mode_of}
 use Rattle.jsonb.specs.Parser.{Advances, rest_of, size_of}

@@ -2,11 +2,11 @@ use Rattle.std.proofs.Common.{[], ◌∷◌, ◌++◌, false, refl, sym, ap, sub
 use Rattle.std.proofs.lemmas.Result.{err_from_is_err_and}
 use Rattle.jsonb.specs.Frames.{resume_part, scalar_or_null}
 use Rattle.jsonb.specs.declared.parser.frame.Frame.TheVariants as variants
-use Rattle.jsonb_value.specs.Code.Code.{expected_array_comma_or_end}
+use Rattle.jsonb_spec.specs.Code.Code.{expected_array_comma_or_end}
 use Rattle.jsonb_scan.specs.Answer.{mode_of}
 use Rattle.jsonb_scan.specs.Reading.{◌>>=◌}
 use Rattle.jsonb_scan.specs.Reading.Blank.{skip_blanks}
-use Rattle.jsonb_scan.specs.Source.{source_alone}
+use Rattle.jsonb_spec.specs.Source.{source_alone}
 use Rattle.jsonb.specs.Parser.{read_at, rest_of, size_of}
 use Rattle.jsonb.specs.Stack.{elements_from, part_end}
 use Rattle.jsonb_scan.specs.Open.{elements_so_far}

@@ -4,7 +4,7 @@ use Rattle.jsonb.specs.declared.parser.frame.Frame.TheVariants as variants
 use Rattle.jsonb_scan.specs.Answer.{mode_of}
 use Rattle.jsonb.specs.Parser.{Advances, rest_of, size_of}
 use Rattle.jsonb_scan.specs.Open.{Open, elements_so_far}
-use Rattle.jsonb_scan.specs.Source.{Source}
+use Rattle.jsonb_spec.specs.Source.{Source}
 use Rattle.jsonb.specs.Stack.{elements_from}
 use Rattle.jsonb.proofs.parser.Parser.read_elements.Given as goal
 

@@ -4,14 +4,14 @@ use Rattle.jsonb.specs.Handler.{Begins}
 use Rattle.jsonb.specs.Frames.{IsObject, resume_part}
 use Rattle.jsonb.specs.declared.parser.frame.Frame.{Frame}
 use Rattle.jsonb.specs.declared.parser.frame.Frame.TheVariants as variants
-use Rattle.jsonb_value.specs.Tree.{Mark}
-use Rattle.jsonb_value.specs.Tree.Mark.{plain}
-use Rattle.jsonb_value.specs.Code.Code.{expected_object_comma_or_end}
+use Rattle.jsonb_spec.specs.Tree.{Mark}
+use Rattle.jsonb_spec.specs.Tree.Mark.{plain}
+use Rattle.jsonb_spec.specs.Code.Code.{expected_object_comma_or_end}
 use Rattle.jsonb_scan.specs.Answer.{mode_of}
 use Rattle.jsonb_scan.specs.Reading.{◌>>=◌}
 use Rattle.jsonb_scan.specs.Reading.Blank.{skip_blanks}
 use Rattle.jsonb_scan.specs.Reading.Scalar.{scalar_at}
-use Rattle.jsonb_scan.specs.Source.{Found, found, source_alone}
+use Rattle.jsonb_spec.specs.Source.{Found, found, source_alone}
 use Rattle.jsonb.specs.Parser.{read_at, rest_of, size_of}
 use Rattle.jsonb.specs.Stack.{member_start, next_part_at, part_end, read_members_from}
 use Rattle.jsonb_scan.specs.Open.{Open}

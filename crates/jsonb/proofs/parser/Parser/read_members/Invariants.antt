@@ -2,11 +2,11 @@ use Rattle.std.proofs.Common.{◌≡◌, ℕ, ◌-◌, ◌≤◌, false, List, �
 use Rattle.jsonb.specs.Frames.{IsObject}
 use Rattle.jsonb.specs.declared.parser.frame.Frame.{Frame}
 use Rattle.jsonb.specs.declared.parser.frame.Frame.TheVariants as variants
-use Rattle.jsonb_value.specs.Tree.{Mark}
+use Rattle.jsonb_spec.specs.Tree.{Mark}
 use Rattle.jsonb_scan.specs.Answer.{mode_of}
 use Rattle.jsonb.specs.Parser.{Advances, rest_of, size_of}
 use Rattle.jsonb_scan.specs.Open.{Open, members_so_far}
-use Rattle.jsonb_scan.specs.Source.{Found}
+use Rattle.jsonb_spec.specs.Source.{Found}
 use Rattle.jsonb.specs.Stack.{next_part_at, read_members_from}
 use Rattle.jsonb.proofs.parser.Parser.read_members.Given as goal
 

@@ -1,5 +1,5 @@
 use Rattle.std.proofs.Common.{Ok, true, false, drop, ap, sym, ◌∙◌, drop-drop}
-use Rattle.jsonb_value.specs.Tree.{null, boolean}
+use Rattle.jsonb_spec.specs.Tree.{null, boolean}
 use Rattle.jsonb_scan.specs.Answer.{mode_of}
 use Rattle.jsonb_scan.specs.Reading.Scalar.{scalar_at}
 use Rattle.jsonb.specs.Parser.{size_of}

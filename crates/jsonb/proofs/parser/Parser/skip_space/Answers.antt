@@ -1,6 +1,6 @@
 use Rattle.std.proofs.Common.{◌≡◌, Bool, true, false, ◌∷◌, MatchBool, ap, sym, ◌∙◌}
-use Rattle.jsonb_value.specs.Grammar.Blanks.IsBlank.{space}
-use Rattle.jsonb_value.specs.Mode.{Mode}
+use Rattle.jsonb_spec.specs.Grammar.Blanks.IsBlank.{space}
+use Rattle.jsonb_spec.specs.Mode.{Mode}
 use Rattle.jsonb_scan.specs.Answer.{mode_of}
 use Rattle.jsonb_scan.specs.Reading.Blank.{skip_blanks}
 use Rattle.jsonb.specs.Parser.{rest_of}

@@ -1,5 +1,5 @@
 use Rattle.std.proofs.Common.{◌≡◌, ℕ, ◌+◌, ◌<◌, ◌≤◌, List, ap, sym, ◌∙◌, arith, drop, drop-drop, get_or, length}
-use Rattle.jsonb_value.specs.Mode.{Mode}
+use Rattle.jsonb_spec.specs.Mode.{Mode}
 use Rattle.jsonb_scan.specs.Reading.Blank.{skip_closed_blanks}
 use Rattle.jsonb_scan.specs.Answer.{mode_of}
 use Rattle.jsonb.specs.Parser.{rest_of}

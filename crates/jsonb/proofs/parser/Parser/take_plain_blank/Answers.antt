@@ -1,6 +1,6 @@
 use Rattle.std.proofs.Common.{◌≡◌, ℕ, [], ◌∷◌, refl, sym, ap, ◌∙◌}
-use Rattle.jsonb_value.specs.Grammar.Blanks.{IsBlank}
-use Rattle.jsonb_value.specs.Grammar.Blanks.IsBlank.{space, tab, line_feed, carriage_return}
+use Rattle.jsonb_spec.specs.Grammar.Blanks.{IsBlank}
+use Rattle.jsonb_spec.specs.Grammar.Blanks.IsBlank.{space, tab, line_feed, carriage_return}
 use Rattle.jsonb_scan.specs.Answer.{mode_of}
 use Rattle.jsonb.specs.Parser.{rest_of}
 use Rattle.jsonb_scan.specs.Reading.Blank.{skip_closed_blanks}

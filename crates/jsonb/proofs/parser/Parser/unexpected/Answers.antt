@@ -1,4 +1,4 @@
-use Rattle.jsonb_value.specs.Code.{code_of}
+use Rattle.jsonb_value.specs.Error.CodeView.{code_of}
 use Rattle.jsonb.proofs.Steps.Cursors.{fault_at-inside}
 use Rattle.jsonb.proofs.parser.Parser.unexpected.Goals as goal
 

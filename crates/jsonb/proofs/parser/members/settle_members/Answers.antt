@@ -1,8 +1,8 @@
 use Rattle.std.proofs.Common.{◌≡◌, ◌+◌, ◌-◌, ◌<◌, List, ℕ, length, drop, Some, Err, ap, sym, subst, ◌∙◌, arith}
-use Rattle.jsonb_value.specs.Code.Code.{object_duplicate_key}
+use Rattle.jsonb_spec.specs.Code.Code.{object_duplicate_key}
 use Rattle.jsonb.specs.AstView.{Written}
 use Rattle.jsonb.specs.Source.{found_of}
-use Rattle.jsonb_scan.specs.Source.{Spot, adjacent_repeat, spot_of}
+use Rattle.jsonb_spec.specs.Source.{Spot, adjacent_repeat, spot_of}
 use Rattle.jsonb.proofs.Containers.Members.{no_more_left, not_repeated, repeated, spots}
 use Rattle.jsonb.proofs.Containers.Shuffles.{agree_if, differ_if, neighbours_agree, neighbours_differ}
 use Rattle.jsonb.proofs.Places.Views.{fuse}

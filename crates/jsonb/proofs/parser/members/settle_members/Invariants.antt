@@ -1,6 +1,6 @@
 use Rattle.std.proofs.Common.{◌≡◌, ◌-◌, drop, map}
 use Rattle.jsonb.specs.Source.{found_of}
-use Rattle.jsonb_scan.specs.Source.{adjacent_repeat, spot_of}
+use Rattle.jsonb_spec.specs.Source.{adjacent_repeat, spot_of}
 use Rattle.jsonb.proofs.parser.members.settle_members.Given as goal
 
 abbrev pub invariant-loop-i : goal.invariant-loop-i

@@ -1,10 +1,10 @@
 use Rattle.std.proofs.Common.{◌≡◌, ◌∙◌, None, Some, Err, true, inl, ap, map, rules, string_bytes, subst, sym}
 use Rattle.std.specs.Option.{option_map}
-use Rattle.jsonb_value.specs.Text.{tree_text}
+use Rattle.jsonb_spec.specs.Text.{tree_text}
 use Rattle.jsonb_scan.specs.Answer.{MayAllocate, mode_of}
 use Rattle.jsonb_scan.specs.Reading.Document.{source_of}
-use Rattle.jsonb_scan.specs.Source.{tree_of_source}
-use Rattle.jsonb_write.specs.PartAt.{part_at}
+use Rattle.jsonb_spec.specs.Source.{tree_of_source}
+use Rattle.jsonb_spec.specs.PartAt.{part_at}
 use Rattle.jsonb_write.specs.PartRoom.{part_of}
 use Rattle.jsonb.specs.Handler.{Misses}
 use Rattle.jsonb.proofs.Documents.Agreement.{gives_explained, gives_refused, gives_tree}

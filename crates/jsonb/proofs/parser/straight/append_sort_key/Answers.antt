@@ -1,7 +1,7 @@
 use Rattle.std.proofs.Common.{rules, true, ◌++◌, Err, inl, ap, subst, sym, ◌∙◌}
 use Rattle.jsonb_scan.specs.Answer.{Fails, MayAllocate, mode_of}
 use Rattle.jsonb_scan.specs.Reading.Document.{source_of}
-use Rattle.jsonb_scan.specs.Source.{tree_of_source}
+use Rattle.jsonb_spec.specs.Source.{tree_of_source}
 use Rattle.jsonb_write.specs.Members.{source_key}
 use Rattle.jsonb.specs.Handler.{Misses}
 use Rattle.jsonb.proofs.Documents.Agreement.{gives_explained, gives_refused, gives_tree}

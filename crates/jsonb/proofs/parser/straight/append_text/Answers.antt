@@ -1,8 +1,8 @@
 use Rattle.std.proofs.Common.{rules, true, ◌++◌, Err, inl, ap, subst, sym, ◌∙◌}
-use Rattle.jsonb_value.specs.Text.{tree_text}
+use Rattle.jsonb_spec.specs.Text.{tree_text}
 use Rattle.jsonb_scan.specs.Answer.{Fails, MayAllocate, mode_of}
 use Rattle.jsonb_scan.specs.Reading.Document.{source_of}
-use Rattle.jsonb_scan.specs.Source.{tree_of_source}
+use Rattle.jsonb_spec.specs.Source.{tree_of_source}
 use Rattle.jsonb_write.specs.OpenText.{source_text}
 use Rattle.jsonb.specs.Handler.{Misses}
 use Rattle.jsonb.proofs.Documents.Agreement.{gives_explained, gives_refused, gives_tree}

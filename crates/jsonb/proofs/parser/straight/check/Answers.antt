@@ -1,7 +1,7 @@
 use Rattle.std.proofs.Common.{false, Err, subst}
 use Rattle.jsonb_scan.specs.Answer.{Fails, mode_of}
 use Rattle.jsonb_scan.specs.Reading.Document.{source_of}
-use Rattle.jsonb_scan.specs.Source.{tree_of_source}
+use Rattle.jsonb_spec.specs.Source.{tree_of_source}
 use Rattle.jsonb.specs.Handler.{Misses}
 use Rattle.jsonb.proofs.Documents.Agreement.{gives_explained, gives_refused, gives_tree}
 use Rattle.jsonb.proofs.Documents.Straight.{source_parsed}

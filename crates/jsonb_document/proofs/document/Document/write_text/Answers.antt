@@ -1,7 +1,7 @@
 use Rattle.std.proofs.Common.{◌≡◌, ◌++◌, false, true, Result, Ok, Err, OnOk, ap, sym, ◌∙◌}
 use Rattle.std.proofs.lemmas.Bool.{cond-true}
 use Rattle.std.specs.Result.{is_err}
-use Rattle.jsonb_value.specs.Text.{has_text, tree_text}
+use Rattle.jsonb_spec.specs.Text.{has_text, tree_text}
 use Rattle.jsonb_document.specs.View.{document_view}
 use Rattle.jsonb_document.proofs.JsonKinds.{listed_has_text}
 use Rattle.jsonb_document.proofs.Same.{same_has_text, same_text}

@@ -1,6 +1,6 @@
 use Rattle.std.proofs.Common.{length, ℕ, List, Ok, sym, ap, subst, ◌∙◌, refl}
 use Rattle.std.proofs.lemmas.Result.{err_from_is_err_and}
-use Rattle.jsonb_value.specs.Tree.{plain}
+use Rattle.jsonb_spec.specs.Tree.{plain}
 use Rattle.jsonb_scan.specs.Answer.{mode_of}
 use Rattle.jsonb_scan.specs.Decoding.{TellsBackslash}
 use Rattle.jsonb_scan.proofs.Strings.Bodies.{body-raw, body-raw_fault, body-decoded, reads_refused}

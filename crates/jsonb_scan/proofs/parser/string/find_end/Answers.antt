@@ -1,6 +1,6 @@
 use Rattle.std.proofs.Common.{◌≡◌, ◌+◌, ◌<◌, length, get_or, ⊎_elim, ap, ◌∙◌, arith}
 use Rattle.std.proofs.lemmas.List.{take_rest}
-use Rattle.jsonb_value.specs.Grammar.StringStep.{escape_step}
+use Rattle.jsonb_value.specs.StringStep.{escape_step}
 use Rattle.jsonb_scan.proofs.Strings.NearMarks.{knows_later, knows_none}
 use Rattle.jsonb_scan.proofs.Strings.Bodies.{search_start, search_escape, search_to, found_end, no_end, tells_run}
 use Rattle.jsonb_scan.proofs.parser.string.find_end.Goals as goal

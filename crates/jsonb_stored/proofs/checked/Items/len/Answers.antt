@@ -1,7 +1,7 @@
 use Rattle.std.proofs.Common.{[], refl, sym, ◌∙◌, append-nil}
 use Rattle.jsonb_stored.specs.Open.{items}
 use Rattle.jsonb_stored.proofs.Standing.{same_count, no_count}
-use Rattle.jsonb_value.specs.SortKey.{items_key}
+use Rattle.jsonb_spec.specs.SortKey.{items_key}
 use Rattle.jsonb_stored.proofs.checked.Items.len.Goals as goal
 
 pub returns-in-Ok : goal.returns-in-Ok

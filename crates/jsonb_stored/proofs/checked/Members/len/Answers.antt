@@ -1,7 +1,7 @@
 use Rattle.std.proofs.Common.{[], refl, sym, ◌∙◌, append-nil}
 use Rattle.jsonb_stored.specs.Open.{members}
 use Rattle.jsonb_stored.proofs.Standing.{same_count, no_count}
-use Rattle.jsonb_value.specs.SortKey.{members_key}
+use Rattle.jsonb_spec.specs.SortKey.{members_key}
 use Rattle.jsonb_stored.proofs.checked.Members.len.Goals as goal
 
 pub returns-in-Ok : goal.returns-in-Ok

@@ -2,7 +2,7 @@ use Rattle.std.proofs.Common.{◌≡◌, ◌++◌, true, false, length, refl, sy
 use Rattle.jsonb_key.specs.Readable.{IsReadableAt}
 use Rattle.jsonb_key.proofs.FirstBytes.{no_key}
 use Rattle.jsonb_key.proofs.Texts.{none_some}
-use Rattle.jsonb_stored.specs.Containment.{holds}
+use Rattle.jsonb_spec.specs.Containment.{holds}
 use Rattle.jsonb_stored.specs.Open.{members, open_key, end_key}
 use Rattle.jsonb_stored.specs.Parts.{opened_tree}
 use Rattle.jsonb_stored.specs.SideBySide.{IsLeft}
@@ -11,7 +11,7 @@ use Rattle.jsonb_stored.proofs.Holding.{members_open, readable_up}
 use Rattle.jsonb_stored.proofs.Scalars.{scalar_there}
 use Rattle.jsonb_stored.proofs.Turns.{item_there, all_items_held, item_sought, item_not_held, item_held, all_held, one_sought, one_missing, one_not_held, one_held, finds_none, finds_one, no_container, both_open, container_there, inside, no_ok}
 use Rattle.jsonb_stored.proofs.Walked.{told_no, told_yes, passed, same_end, some_number, no_number}
-use Rattle.jsonb_value.specs.SortKey.{key_of, items_key, members_key}
+use Rattle.jsonb_spec.specs.SortKey.{key_of, items_key, members_key}
 use Rattle.jsonb_stored.proofs.containment.Walk.+walk.Goals as goal
 
 -- ---- one item

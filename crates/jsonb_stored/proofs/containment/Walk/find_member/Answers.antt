@@ -3,7 +3,7 @@ use Rattle.jsonb_key.proofs.Texts.{none_some, some_same}
 use Rattle.jsonb_stored.proofs.Beside.{members_ahead, no_member_ahead, member_ahead, member_passed, member_past, member_is}
 use Rattle.jsonb_stored.proofs.Holding.{readable_up}
 use Rattle.jsonb_stored.proofs.Walked.{moved_on, same_key}
-use Rattle.jsonb_value.specs.SortKey.{text_key}
+use Rattle.jsonb_spec.specs.SortKey.{text_key}
 use Rattle.jsonb_stored.proofs.containment.Walk.find_member.Goals as goal
 
 pub members-init : goal.members-init

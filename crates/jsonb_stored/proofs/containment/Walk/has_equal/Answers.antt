@@ -1,8 +1,8 @@
 use Rattle.std.proofs.Common.{◌++◌, ap, ◌∙◌, sym}
 use Rattle.jsonb_key.proofs.Texts.{some_same}
-use Rattle.jsonb_stored.specs.Containment.{holds}
+use Rattle.jsonb_spec.specs.Containment.{holds}
 use Rattle.jsonb_stored.proofs.Walked.{told_no, told_yes, moved_on, stripped, not_stripped}
-use Rattle.jsonb_value.specs.SortKey.{key_of}
+use Rattle.jsonb_spec.specs.SortKey.{key_of}
 use Rattle.jsonb_stored.proofs.containment.Walk.has_equal.Goals as goal
 
 pub returns-in_default-strip_prefix-clause-held : goal.returns-in_default-strip_prefix-clause-held

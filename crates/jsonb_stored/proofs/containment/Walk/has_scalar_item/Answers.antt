@@ -4,7 +4,7 @@ use Rattle.jsonb_stored.proofs.Beside.{items_ahead, no_item_ahead, item_ahead, i
 use Rattle.jsonb_stored.proofs.Holding.{items_open, readable_up}
 use Rattle.jsonb_stored.specs.Open.{items}
 use Rattle.jsonb_stored.proofs.Walked.{moved_on, same_key, told_no, told_yes, stripped, not_stripped}
-use Rattle.jsonb_value.specs.SortKey.{key_of}
+use Rattle.jsonb_spec.specs.SortKey.{key_of}
 use Rattle.jsonb_stored.proofs.containment.Walk.has_scalar_item.Goals as goal
 
 pub items-init : goal.items-init

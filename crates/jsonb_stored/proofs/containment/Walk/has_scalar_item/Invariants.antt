@@ -3,8 +3,8 @@ use Rattle.jsonb_key.specs.Readable.{IsReadableAt}
 use Rattle.jsonb_stored.specs.SideBySide.{SameKeys}
 use Rattle.jsonb_stored.proofs.Beside.{PassesItems}
 use Rattle.jsonb_stored.specs.Open.{IsScalar}
-use Rattle.jsonb_value.specs.Tree.{Tree}
-use Rattle.jsonb_value.specs.SortKey.{key_of}
+use Rattle.jsonb_spec.specs.Tree.{Tree}
+use Rattle.jsonb_spec.specs.SortKey.{key_of}
 use Rattle.jsonb_stored.proofs.containment.Walk.has_scalar_item.Given as goal
 
 abbrev pub invariant-items : goal.invariant-items

@@ -1,7 +1,7 @@
 use Rattle.std.proofs.Common.{◌≡◌, ◌-◌, ◌++◌, length, slice_range, replicate, codes, ap, ◌∙◌, append_assoc, arith}
 use Rattle.std.specs.Fmt.{decimal}
 use Rattle.std.specs.Fmt.InlineText.{inline_text}
-use Rattle.jsonb_value.specs.Text.NumberText.{zero_padded}
+use Rattle.jsonb_spec.specs.Text.NumberText.{zero_padded}
 use Rattle.jsonb_value.proofs.Appending.IntervalTexts.{zeros_taken}
 use Rattle.jsonb_value.proofs.extension.text.and_digits.Goals as goal
 

@@ -1,7 +1,7 @@
 use Rattle.std.proofs.Common.{◌++◌, ap, sym, ◌∙◌, append_assoc, append-nil}
 use Rattle.std.specs.Fmt.{decimal}
 use Rattle.std.specs.Fmt.InlineText.{inline_text}
-use Rattle.jsonb_value.specs.Text.NumberText.{zero_padded}
+use Rattle.jsonb_spec.specs.Text.NumberText.{zero_padded}
 use Rattle.jsonb_value.proofs.Appending.IntervalTexts.{fraction_text-none, fraction_text-some}
 use Rattle.jsonb_value.proofs.extension.text.and_fraction.Goals as goal
 

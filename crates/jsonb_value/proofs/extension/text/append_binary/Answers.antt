@@ -1,5 +1,5 @@
 use Rattle.std.proofs.Common.{◌≡◌, ◌+◌, length, take, length-append, length-take, ap, ◌∙◌, arith, rules}
-use Rattle.jsonb_value.specs.Text.BinaryText.{binary_text}
+use Rattle.jsonb_spec.specs.Text.BinaryText.{binary_text}
 use Rattle.jsonb_value.proofs.Appending.BinaryTexts.{length-binary_text}
 use Rattle.jsonb_value.proofs.extension.text.append_binary.Goals as goal
 

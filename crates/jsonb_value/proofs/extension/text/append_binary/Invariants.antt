@@ -1,6 +1,6 @@
 use Rattle.std.proofs.Common.{◌≡◌, ◌+◌, ◌*◌, ◌≤◌, ◌++◌, length, take, vec_len}
 use Rattle.std.specs.Vec.{vec_capacity}
-use Rattle.jsonb_value.specs.Text.BinaryText.{binary_text}
+use Rattle.jsonb_spec.specs.Text.BinaryText.{binary_text}
 use Rattle.jsonb_value.proofs.extension.text.append_binary.Given as goal
 
 -- the digits so far are written, and there is room for all of them

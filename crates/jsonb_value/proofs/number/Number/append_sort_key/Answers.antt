@@ -1,5 +1,5 @@
 use Rattle.std.proofs.Common.{map, sym, ◌∙◌}
-use Rattle.jsonb_value.specs.SortKey.{magnitude_key, turned}
+use Rattle.jsonb_spec.specs.SortKey.{magnitude_key, turned}
 use Rattle.jsonb_value.specs.View.{number_view}
 use Rattle.jsonb_value.proofs.Appending.Appended.{appends_as}
 use Rattle.jsonb_value.proofs.SortKeys.Numbers.{key_of_zero, key_of_some}

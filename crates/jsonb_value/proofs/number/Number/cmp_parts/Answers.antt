@@ -2,7 +2,7 @@ use Rattle.std.proofs.Common.{◌∙◌, ap, arith, rules, FitsSigned}
 use Rattle.std.proofs.lemmas.Int.{to_z-of_z}
 use Rattle.std.specs.Int.{w128}
 use Rattle.std.specs.Ordering.{ordering_reverse}
-use Rattle.jsonb_value.specs.Order.{decimal_cmp}
+use Rattle.jsonb_spec.specs.Order.{decimal_cmp}
 use Rattle.jsonb_value.proofs.Numbers.Scaling.{decimal_cmp-raised, decimal_cmp-lowered}
 use Rattle.jsonb_value.proofs.number.Number.cmp_parts.Goals as goal
 

@@ -1,6 +1,6 @@
 use Rattle.std.proofs.Common.{arith, ap, length}
 use Rattle.std.proofs.lemmas.Fmt.{decimal_is_IsNumeral_wide}
-use Rattle.jsonb_value.specs.Text.NumberText.{text_of_parts}
+use Rattle.jsonb_spec.specs.Text.NumberText.{text_of_parts}
 use Rattle.jsonb_value.proofs.number.Number.text_parts.Goals as goal
 
 pub decimal_parts-requires-clause-some_digit : goal.decimal_parts-requires-clause-some_digit

@@ -3,7 +3,7 @@ use Rattle.std.specs.Int.{w128}
 use Rattle.std.specs.Prelude.{FitsSigned}
 use Rattle.std.proofs.lemmas.Int.{to_z-of_z}
 use Rattle.jsonb_value.specs.View.{number_view}
-use Rattle.jsonb_value.specs.Number.Cast.{HasNearest}
+use Rattle.jsonb_spec.specs.Number.Cast.{HasNearest}
 use Rattle.jsonb_value.proofs.Numbers.Narrowed.{unsigned_none, unsigned_some}
 use Rattle.jsonb_value.proofs.number.Number.to_u64.Goals as goal
 

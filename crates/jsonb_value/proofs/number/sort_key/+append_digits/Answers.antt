@@ -1,5 +1,5 @@
 use Rattle.std.proofs.Common.{◌-◌, [], ◌∷◌, map, arith}
-use Rattle.jsonb_value.specs.SortKey.{digits_key, turned}
+use Rattle.jsonb_spec.specs.SortKey.{digits_key, turned}
 use Rattle.jsonb_value.proofs.Appending.Appended.{appends_as, appends_then, lacks_first}
 use Rattle.jsonb_value.proofs.SortKeys.Digits.{below_hundred, last_two, two_and_more}
 use Rattle.jsonb_value.proofs.SortKeys.Pairs.{two_or_more}

@@ -1,5 +1,5 @@
 use Rattle.std.proofs.Common.{◌-◌, ◌+◌, ◌++◌, map, sym, ap, ◌∙◌, arith}
-use Rattle.jsonb_value.specs.SortKey.{place_key, turned}
+use Rattle.jsonb_spec.specs.SortKey.{place_key, turned}
 use Rattle.jsonb_value.proofs.Appending.Appended.{appends_as}
 use Rattle.jsonb_value.proofs.SortKeys.Numbers.{magnitude_split}
 use Rattle.jsonb_value.proofs.number.sort_key.append_short.Goals as goal

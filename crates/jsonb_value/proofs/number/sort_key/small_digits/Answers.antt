@@ -1,6 +1,6 @@
 use Rattle.std.proofs.Common.{sym, ap, ◌∙◌, arith}
 use Rattle.std.proofs.Math.Nat.{pow-suc, pow-zero}
-use Rattle.jsonb_value.specs.SortKey.{digits_key}
+use Rattle.jsonb_spec.specs.SortKey.{digits_key}
 use Rattle.jsonb_value.proofs.SortKeys.Counts.{digit_count-is}
 use Rattle.jsonb_value.proofs.SortKeys.Pairs.{single_digit, two_digits}
 use Rattle.jsonb_value.proofs.number.sort_key.small_digits.Goals as goal

@@ -2,7 +2,7 @@ use Rattle.std.proofs.Common.{◌≡◌, ◌≢◌, suc, ◌-◌, ◌*◌, ◌/�
 use Rattle.std.proofs.Math.Nat.{mod-eq_of_lt}
 use Rattle.std.proofs.lemmas.Bool.{cases_eq}
 use Rattle.std.proofs.lemmas.List.{length-set}
-use Rattle.jsonb_value.specs.SortKey.{digits_key, turned}
+use Rattle.jsonb_spec.specs.SortKey.{digits_key, turned}
 use Rattle.jsonb_value.proofs.SortKeys.Pairs.{begin_digits, next_pair}
 use Rattle.jsonb_value.proofs.number.sort_key.write_digits.Goals.{then-last-ne0, else-last-ne0, then-pair-ne0, else-pair-ne0}
 use Rattle.jsonb_value.proofs.number.sort_key.write_digits.Goals as goal

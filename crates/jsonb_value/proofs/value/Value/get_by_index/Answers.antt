@@ -1,6 +1,6 @@
 use Rattle.std.proofs.Common.{sym, subst, ap, ◌∙◌}
 use Rattle.std.specs.Slice.{IsItemAt}
-use Rattle.jsonb_value.specs.Accessors.{get_by_index}
+use Rattle.jsonb_spec.specs.Accessors.{get_by_index}
 use Rattle.jsonb_value.specs.View.{view}
 use Rattle.jsonb_value.proofs.Values.Accessors.{view-Array, item_lent}
 use Rattle.jsonb_value.proofs.value.Value.get_by_index.Goals as goal

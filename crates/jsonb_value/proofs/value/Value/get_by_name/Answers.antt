@@ -1,5 +1,5 @@
 use Rattle.std.proofs.Common.{option_map, sym, ap, ◌∙◌}
-use Rattle.jsonb_value.specs.Accessors.{get_by_name}
+use Rattle.jsonb_spec.specs.Accessors.{get_by_name}
 use Rattle.jsonb_value.specs.View.{view}
 use Rattle.jsonb_value.proofs.Values.Accessors.{seen, view-Object, option_map-lookup}
 use Rattle.jsonb_value.proofs.value.Value.get_by_name.Goals as goal

@@ -1,5 +1,5 @@
 use Rattle.std.proofs.Common.{◌<◌, ◌^◌, pos, IsTrue, subst, sym}
-use Rattle.jsonb_value.specs.Accessors.{IsWholeNumber}
+use Rattle.jsonb_spec.specs.Accessors.{IsWholeNumber}
 use Rattle.jsonb_value.specs.View.{view}
 use Rattle.jsonb_value.proofs.Values.Accessors.{some_exactly}
 use Rattle.jsonb_value.proofs.value.Value.is_u64.Goals as goal

@@ -1,9 +1,9 @@
 use Rattle.std.proofs.Common.{◌≡◌, ℕ, List, ◌++◌, true, is_ok, Some, Result, Ok, Err, OnOk, sym, ap, ◌∙◌}
 use Rattle.std.proofs.lemmas.List.{append_cancel_left}
-use Rattle.jsonb_value.specs.Proper.{IsProper}
-use Rattle.jsonb_value.specs.Text.{tree_text}
+use Rattle.jsonb_spec.specs.Proper.{IsProper}
+use Rattle.jsonb_spec.specs.Text.{tree_text}
 use Rattle.jsonb_value.specs.View.{view}
-use Rattle.jsonb_value.specs.Text.Range.{IsIntegral}
+use Rattle.jsonb_spec.specs.Text.Range.{IsIntegral}
 use Rattle.jsonb_value.proofs.Trees.RangeTexts.{text_in_range, range_reads_back, mode_range_text, text_of_integers}
 use Rattle.jsonb_value.proofs.value.Value.write_text.Goals as goal
 use Rattle.jsonb_value.proofs.value.Value.write_text.Goals.{Then-is_ok}

@@ -1,5 +1,5 @@
 use Rattle.std.proofs.Common.{◌≡◌, [], sym, ap, ◌∙◌, append-nil, rules}
-use Rattle.jsonb_value.specs.Tree.{trees_of}
+use Rattle.jsonb_spec.specs.Tree.{trees_of}
 use Rattle.jsonb_value.proofs.Values.Accessors.{key_trees-members_view}
 use Rattle.jsonb_value.proofs.value.access.keys_of.Goals as goal
 

@@ -1,6 +1,6 @@
 use Rattle.std.proofs.Common.{◌≡◌, [], ◌∙◌, sym, subst, append-nil, rules}
 use Rattle.std.proofs.lemmas.Result.{IfOk-weaker}
-use Rattle.jsonb_value.specs.Keys.{KeysAscend}
+use Rattle.jsonb_spec.specs.Keys.{KeysAscend}
 use Rattle.jsonb_value.specs.View.{members_view}
 use Rattle.jsonb_value.proofs.Values.Built.{members_view-alike}
 use Rattle.jsonb_value.proofs.Values.Keys.{KeysAscend-members_view}

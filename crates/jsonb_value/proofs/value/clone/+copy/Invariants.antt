@@ -1,5 +1,5 @@
 use Rattle.std.proofs.Common.{◌≡◌, ◌≤◌, ◌++◌, length, take, map, vec_len, vec_capacity}
-use Rattle.jsonb_value.specs.Tree.{put_all}
+use Rattle.jsonb_spec.specs.Tree.{put_all}
 use Rattle.jsonb_value.specs.View.{view, members_view, pairs_view}
 use Rattle.jsonb_value.proofs.value.clone.+copy.Given as goal
 

@@ -1,8 +1,8 @@
 use Rattle.std.proofs.Common.{◌≡◌, [], map, ◌∙◌, sym, ap, subst, append-nil, rules}
 use Rattle.std.proofs.lemmas.List.{take_all}
-use Rattle.jsonb_value.specs.Keys.{KeysAscend}
-use Rattle.jsonb_value.specs.Owned.{owned}
-use Rattle.jsonb_value.specs.Tree.{trees_of}
+use Rattle.jsonb_spec.specs.Keys.{KeysAscend}
+use Rattle.jsonb_spec.specs.Owned.{owned}
+use Rattle.jsonb_spec.specs.Tree.{trees_of}
 use Rattle.jsonb_value.specs.View.{view, members_view}
 use Rattle.jsonb_value.proofs.Values.Keys.{KeysAscend-members_view}
 use Rattle.jsonb_value.proofs.Values.OwnedCopies.{owned_items-trees_view, members_view-owned, KeysAscend-owned}

@@ -1,5 +1,5 @@
 use Rattle.std.proofs.Common.{◌≡◌, ◌++◌, take, drop, map}
-use Rattle.jsonb_value.specs.Owned.{owned, items_hold_binary, members_hold_binary}
+use Rattle.jsonb_spec.specs.Owned.{owned, items_hold_binary, members_hold_binary}
 use Rattle.jsonb_value.specs.View.{view, trees_view, members_view, pairs_view}
 use Rattle.jsonb_value.proofs.Values.OwnedCopies.{owned_pairs}
 use Rattle.jsonb_value.proofs.value.owned.+own.Given as goal

@@ -1,5 +1,5 @@
 use Rattle.std.proofs.Common.{◌≡◌, List, ◌+◌, [], ◌∷◌, ◌++◌, drop, refl, sym, subst, ap, ◌∙◌, arith, rules, string_bytes}
-use Rattle.jsonb_value.specs.SortKey.{text_key, key_of, items_key, members_key, HaveBounds}
+use Rattle.jsonb_spec.specs.SortKey.{text_key, key_of, items_key, members_key, HaveBounds}
 use Rattle.jsonb_value.specs.View.{view, trees_view, members_view}
 use Rattle.jsonb_value.proofs.Appending.Appended.{begun, goes_on, fits, on_err, kept_on, appends_rest, extended}
 use Rattle.jsonb_value.proofs.SortKeys.Parts.{next_item, next_member, next_bounded, next_bounded_member}

@@ -1,6 +1,6 @@
 use Rattle.std.proofs.Common.{◌≤◌, ◌∷◌, drop}
 use Rattle.std.specs.Vec.{vec_capacity}
-use Rattle.jsonb_value.specs.SortKey.{items_key, members_key, AreBounded, HaveBounds}
+use Rattle.jsonb_spec.specs.SortKey.{items_key, members_key, AreBounded, HaveBounds}
 use Rattle.jsonb_value.specs.View.{trees_view, members_view}
 use Rattle.jsonb_value.proofs.Appending.Appended.{IsUnderway}
 use Rattle.jsonb_value.proofs.value.sort_key.+append.Given as goal

@@ -2,7 +2,7 @@ use Rattle.std.proofs.Common.{◌≡◌, pos, unsigned_abs, ap, ◌∙◌, arith
 use Rattle.std.proofs.lemmas.Int.{ints}
 use Rattle.std.specs.Int.{bytes_high_first}
 use Rattle.std.specs.Prelude.{◌+ℤ◌}
-use Rattle.jsonb_value.specs.SortKey.{key_of_64_bits}
+use Rattle.jsonb_spec.specs.SortKey.{key_of_64_bits}
 use Rattle.jsonb_value.proofs.value.sort_key.key_of_64_bits.Goals as goal
 
 pub returns : goal.returns

@@ -1,7 +1,7 @@
 use Rattle.std.proofs.Common.{◌≡◌, List, false, ◌+◌, [], ◌∷◌, ◌++◌, drop, refl, sym, subst, ap, ◌∙◌, arith, rules, string_bytes}
-use Rattle.jsonb_value.specs.Proper.{HaveProperParts}
-use Rattle.jsonb_value.specs.Text.StringText.{quoted_text}
-use Rattle.jsonb_value.specs.Text.{with_commas, item_texts, member_texts, tree_text, members_have_texts}
+use Rattle.jsonb_spec.specs.Proper.{HaveProperParts}
+use Rattle.jsonb_spec.specs.Text.StringText.{quoted_text}
+use Rattle.jsonb_spec.specs.Text.{with_commas, item_texts, member_texts, tree_text, members_have_texts}
 use Rattle.jsonb_value.specs.View.{view, trees_view, members_view}
 use Rattle.jsonb_value.proofs.Appending.Appended.{begun, goes_on, fits, on_err, kept_on}
 use Rattle.jsonb_value.proofs.Values.Accessors.{view-Array, view-Object}

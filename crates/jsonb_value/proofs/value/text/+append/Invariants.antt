@@ -1,8 +1,8 @@
 use Rattle.std.proofs.Common.{◌≡◌, ◌≤◌, [], ◌∷◌, ◌++◌, drop}
 use Rattle.std.specs.Vec.{vec_capacity}
-use Rattle.jsonb_value.specs.Keys.{KeysAscend}
-use Rattle.jsonb_value.specs.Proper.{AreProper, HaveProperParts}
-use Rattle.jsonb_value.specs.Text.{with_commas, item_texts, member_texts, items_have_texts, members_have_texts}
+use Rattle.jsonb_spec.specs.Keys.{KeysAscend}
+use Rattle.jsonb_spec.specs.Proper.{AreProper, HaveProperParts}
+use Rattle.jsonb_spec.specs.Text.{with_commas, item_texts, member_texts, items_have_texts, members_have_texts}
 use Rattle.jsonb_value.specs.View.{trees_view, members_view}
 use Rattle.jsonb_value.proofs.Appending.Appended.{IsUnderway}
 use Rattle.jsonb_value.proofs.Appending.Pieces.{texts_left}

@@ -1,5 +1,5 @@
 use Rattle.std.proofs.Common.{◌≡◌, drop}
-use Rattle.jsonb_value.specs.Text.{items_have_texts, members_have_texts}
+use Rattle.jsonb_spec.specs.Text.{items_have_texts, members_have_texts}
 use Rattle.jsonb_value.specs.View.{trees_view, members_view}
 use Rattle.jsonb_value.proofs.value.text.+has_text.Given as goal
 

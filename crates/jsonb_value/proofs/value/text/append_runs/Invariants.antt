@@ -1,7 +1,7 @@
 use Rattle.std.proofs.Common.{◌≤◌, length}
 use Rattle.std.specs.List.{flat_map}
 use Rattle.std.specs.Vec.{vec_capacity}
-use Rattle.jsonb_value.specs.Text.StringText.{byte_text}
+use Rattle.jsonb_spec.specs.Text.StringText.{byte_text}
 use Rattle.jsonb_value.proofs.Appending.Appended.{IsUnderway}
 use Rattle.jsonb_value.proofs.value.text.append_runs.Given as goal
 

@@ -1,6 +1,6 @@
 use Rattle.std.proofs.Common.{◌≡◌, ◌-◌, ap, slice_range, subst, ◌∙◌}
-use Rattle.jsonb_value.specs.Text.{in_quotes}
-use Rattle.jsonb_value.specs.Tree.{plain}
+use Rattle.jsonb_spec.specs.Text.{in_quotes}
+use Rattle.jsonb_spec.specs.Tree.{plain}
 use Rattle.jsonb_write.specs.CheckRoom.{Begins}
 use Rattle.jsonb_write.proofs.Checks.{key_begun}
 use Rattle.jsonb_write.proofs.RoomMembers.{key_there}

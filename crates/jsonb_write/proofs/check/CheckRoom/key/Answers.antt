@@ -1,7 +1,7 @@
 use Rattle.std.proofs.Common.{◌∷◌, true, Global, subst, sym}
 use Rattle.std.specs.Cow.{cow_str_bytes}
 use Rattle.std.specs.declared.borrow.CowStr.{CowStr}
-use Rattle.jsonb_value.specs.Tree.{escaped, plain}
+use Rattle.jsonb_spec.specs.Tree.{escaped, plain}
 use Rattle.jsonb_value.specs.View.{mark_view}
 use Rattle.jsonb_scan.specs.Open.{members_so_far}
 use Rattle.jsonb_write.specs.CheckRoom.{CheckStands}

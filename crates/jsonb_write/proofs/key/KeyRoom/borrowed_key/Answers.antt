@@ -1,6 +1,6 @@
 use Rattle.std.proofs.Common.{◌≡◌, ◌-◌, ap, length, slice_range, subst, [], ◌∙◌}
-use Rattle.jsonb_value.specs.Text.{in_quotes}
-use Rattle.jsonb_value.specs.Tree.{plain}
+use Rattle.jsonb_spec.specs.Text.{in_quotes}
+use Rattle.jsonb_spec.specs.Tree.{plain}
 use Rattle.jsonb_write.specs.KeyRoom.{Begins}
 use Rattle.jsonb_write.proofs.Keys.KeyMembers.{begins_wrote, key_stands}
 use Rattle.jsonb_write.proofs.RoomMembers.{key_there}

@@ -1,7 +1,7 @@
 use Rattle.std.proofs.Common.{◌≡◌, ◌-◌, ◌≤◌, ap, length, slice_range, subst, sym, [], ◌∙◌, arith}
-use Rattle.jsonb_value.specs.SortKey.{text_key}
-use Rattle.jsonb_value.specs.Text.{in_quotes}
-use Rattle.jsonb_value.specs.Tree.{plain}
+use Rattle.jsonb_spec.specs.SortKey.{text_key}
+use Rattle.jsonb_spec.specs.Text.{in_quotes}
+use Rattle.jsonb_spec.specs.Tree.{plain}
 use Rattle.jsonb_write.specs.KeyRoom.{Begins, Writes}
 use Rattle.jsonb_write.specs.PlainText.{ArePlain}
 use Rattle.jsonb_write.proofs.Keys.KeyMembers.{begins_wrote, key_stands}

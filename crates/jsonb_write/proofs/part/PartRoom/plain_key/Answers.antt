@@ -1,5 +1,5 @@
 use Rattle.std.proofs.Common.{map}
-use Rattle.jsonb_value.specs.Tree.Mark.{plain}
+use Rattle.jsonb_spec.specs.Tree.Mark.{plain}
 use Rattle.jsonb_write.specs.PartRoom.{text_held}
 use Rattle.jsonb_write.proofs.PartRooms.{key_begun}
 use Rattle.jsonb_write.proofs.Rooms.{on_ok}

@@ -1,6 +1,6 @@
 use Rattle.std.proofs.Common.{◌≡◌, ◌-◌, ap, length, length-append, slice_range, subst, [], ◌∙◌}
-use Rattle.jsonb_value.specs.Text.{in_quotes}
-use Rattle.jsonb_value.specs.Tree.{plain}
+use Rattle.jsonb_spec.specs.Text.{in_quotes}
+use Rattle.jsonb_spec.specs.Tree.{plain}
 use Rattle.jsonb_write.specs.TextRoom.{Begins}
 use Rattle.jsonb_write.specs.Written.{bytes_of}
 use Rattle.jsonb_write.proofs.Rooms.{on_ok}

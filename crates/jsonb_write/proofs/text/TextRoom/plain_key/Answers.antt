@@ -1,7 +1,7 @@
 use Rattle.std.proofs.Common.{◌≡◌, ◌-◌, ◌≤◌, arith, ap, length, length-append, slice_range, subst, sym, [], ◌∙◌}
-use Rattle.jsonb_value.specs.Text.{in_quotes}
-use Rattle.jsonb_value.specs.Text.StringText.{quoted_text}
-use Rattle.jsonb_value.specs.Tree.{plain}
+use Rattle.jsonb_spec.specs.Text.{in_quotes}
+use Rattle.jsonb_spec.specs.Text.StringText.{quoted_text}
+use Rattle.jsonb_spec.specs.Tree.{plain}
 use Rattle.jsonb_write.specs.TextRoom.{Begins, Writes}
 use Rattle.jsonb_write.specs.Written.{bytes_of}
 use Rattle.jsonb_write.proofs.Rooms.{on_ok}

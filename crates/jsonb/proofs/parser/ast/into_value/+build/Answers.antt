@@ -1,5 +1,5 @@
 use Rattle.std.proofs.Common.{[], ◌∷◌, ◌++◌, sym, ap, ◌∙◌, append_assoc}
-use Rattle.jsonb_value.specs.Tree.{put, put_all}
+use Rattle.jsonb_spec.specs.Tree.{put, put_all}
 use Rattle.jsonb_value.specs.View.{members_view}
 use Rattle.jsonb_value.proofs.Values.Members.{members_view-insert_entry}
 use Rattle.jsonb.specs.AstView.{Written, written_pairs}

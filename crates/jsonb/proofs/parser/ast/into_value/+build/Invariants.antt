@@ -1,6 +1,6 @@
 use Rattle.std.proofs.Common.{◌≡◌, ◌++◌, List, map}
 use Rattle.std.specs.Vec.Iter.{into_iter_items}
-use Rattle.jsonb_value.specs.Tree.{put_all}
+use Rattle.jsonb_spec.specs.Tree.{put_all}
 use Rattle.jsonb_value.specs.View.{view, members_view}
 use Rattle.jsonb.specs.AstView.{Written, ast_view, written_pairs, written_members}
 use Rattle.jsonb.proofs.parser.ast.into_value.+build.Given as goal

@@ -2,8 +2,8 @@ use Rattle.std.proofs.Common.{arith, ap, ◌∙◌, rules}
 use Rattle.std.specs.Prelude.{FitsSigned}
 use Rattle.std.specs.Int.{w128}
 use Rattle.std.proofs.lemmas.Int.{to_z-of_z}
-use Rattle.jsonb_value.specs.Number.Signed.{signed_by}
-use Rattle.jsonb_value.specs.Tree.{decimal128}
+use Rattle.jsonb_spec.specs.Number.Signed.{signed_by}
+use Rattle.jsonb_spec.specs.Tree.{decimal128}
 use Rattle.jsonb_scan.proofs.Numbers.Forms.{below_power, form_scaled_wide}
 use Rattle.jsonb_scan.proofs.parser.extended_number.form.decimal.Goals as goal
 

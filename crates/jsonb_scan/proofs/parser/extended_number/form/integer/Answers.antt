@@ -2,7 +2,7 @@ use Rattle.std.proofs.Common.{arith, ap, ◌∙◌, rules}
 use Rattle.std.specs.Prelude.{FitsSigned}
 use Rattle.std.specs.Int.{w128}
 use Rattle.std.proofs.lemmas.Int.{to_z-of_z}
-use Rattle.jsonb_value.specs.Tree.{decimal128}
+use Rattle.jsonb_spec.specs.Tree.{decimal128}
 use Rattle.jsonb_scan.proofs.Numbers.Forms.{form_wide_signed}
 use Rattle.jsonb_scan.proofs.parser.extended_number.form.integer.Goals as goal
 

@@ -2,8 +2,8 @@ use Rattle.std.proofs.Common.{arith, sym, ap, ◌∙◌, subst, rules}
 use Rattle.std.specs.Prelude.{FitsSigned}
 use Rattle.std.specs.Int.{w64, w128, cast_signed, cast_unsigned}
 use Rattle.std.proofs.lemmas.Int.{to_z-of_z}
-use Rattle.jsonb_value.specs.Number.Signed.{signed_by}
-use Rattle.jsonb_value.specs.Tree.{decimal64}
+use Rattle.jsonb_spec.specs.Number.Signed.{signed_by}
+use Rattle.jsonb_spec.specs.Tree.{decimal64}
 use Rattle.jsonb_scan.proofs.Numbers.Forms.{form_scaled}
 use Rattle.jsonb_scan.proofs.parser.extended_number.form.short_decimal.Goals as goal
 use Rattle.jsonb_value.proofs.Numbers.InRange.{small_signed}

@@ -2,9 +2,9 @@ use Rattle.std.proofs.Common.{true, arith, sym, ap, ◌∙◌, subst, rules, ⊎
 use Rattle.std.specs.Prelude.{FitsSigned, pos}
 use Rattle.std.specs.Int.{w64, w128}
 use Rattle.std.proofs.lemmas.Int.{to_z-of_z}
-use Rattle.jsonb_value.specs.Number.Signed.{signed_by}
-use Rattle.jsonb_value.specs.Grammar.ExtendedNumber.{decimal_number}
-use Rattle.jsonb_value.specs.Tree.{int64, decimal128}
+use Rattle.jsonb_spec.specs.Number.Signed.{signed_by}
+use Rattle.jsonb_spec.specs.Grammar.ExtendedNumber.{decimal_number}
+use Rattle.jsonb_spec.specs.Tree.{int64, decimal128}
 use Rattle.jsonb_scan.proofs.Numbers.Forms.{form_unsigned, form_signed, form_wide, negated_large, negated_small}
 use Rattle.jsonb_scan.proofs.parser.extended_number.form.short_integer.Goals as goal
 

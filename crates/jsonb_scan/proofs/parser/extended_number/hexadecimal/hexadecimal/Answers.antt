@@ -2,8 +2,8 @@ use Rattle.std.proofs.Common.{arith, sym, ap, subst, ◌∙◌, Some, rules}
 use Rattle.std.specs.Int.{w64, w128, cast_signed, cast_unsigned}
 use Rattle.std.specs.Prelude.{FitsSigned, pos}
 use Rattle.std.proofs.lemmas.Int.{to_z-of_z}
-use Rattle.jsonb_value.specs.Tree.{uint64, int64}
-use Rattle.jsonb_value.specs.Grammar.ExtendedNumber.{hexadecimal_number}
+use Rattle.jsonb_spec.specs.Tree.{uint64, int64}
+use Rattle.jsonb_spec.specs.Grammar.ExtendedNumber.{hexadecimal_number}
 use Rattle.jsonb_scan.proofs.Numbers.HexadecimalValues.{hexadecimal-unsigned, hexadecimal-unsigned_none, hexadecimal-signed, hexadecimal-signed_none, signed_fits_64, unsigned_wide_answer, signed_wide_answer}
 use Rattle.jsonb_scan.proofs.parser.extended_number.hexadecimal.hexadecimal.Goals as goal
 use Rattle.jsonb_scan.proofs.parser.extended_number.hexadecimal.hexadecimal.Goals.{then-not-negative+in_default, else-not-negative+else-magnitude}

@@ -1,5 +1,5 @@
 use Rattle.std.proofs.Common.{◌≤◌, ◌-◌, length, drop}
-use Rattle.jsonb_value.specs.Mode.{Mode}
+use Rattle.jsonb_spec.specs.Mode.{Mode}
 use Rattle.jsonb_scan.specs.Decoding.{IsDecodedUpTo}
 use Rattle.jsonb_scan.proofs.util.decoder.check.short_len.Given as goal
 

@@ -1,6 +1,6 @@
 use Rattle.std.proofs.Common.{take, ◌≡◌, true, false, sym, ap, ◌∙◌, ◌++◌, ◌||◌}
 use Rattle.std.specs.Char.{encode_utf8}
-use Rattle.jsonb_value.specs.Grammar.StringBody.{is_high, is_low, unit_value}
+use Rattle.jsonb_spec.specs.Grammar.StringBody.{is_high, is_low, unit_value}
 use Rattle.jsonb_value.proofs.Strings.Units.{alone-kept, alone-character}
 use Rattle.jsonb_scan.proofs.util.decoder.unit.push_alone.Goals as goal
 

@@ -1,7 +1,7 @@
 use Rattle.std.proofs.Common.{take, ◌≡◌, true, false, sym, ap, ◌∙◌, ◌++◌}
 use Rattle.std.proofs.lemmas.List.{append_assoc}
 use Rattle.std.specs.Char.{encode_utf8}
-use Rattle.jsonb_value.specs.Grammar.StringBody.{is_low, unit_value, paired, kept}
+use Rattle.jsonb_spec.specs.Grammar.StringBody.{is_low, unit_value, paired, kept}
 use Rattle.jsonb_value.proofs.Strings.Units.{together-kept, together-character}
 use Rattle.jsonb_scan.proofs.util.decoder.unit.push_together.Goals as goal
 

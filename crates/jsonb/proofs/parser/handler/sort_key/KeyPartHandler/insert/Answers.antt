@@ -1,5 +1,5 @@
 use Rattle.std.proofs.Common.{[], map}
-use Rattle.jsonb_value.specs.Tree.Mark.{plain}
+use Rattle.jsonb_spec.specs.Tree.Mark.{plain}
 use Rattle.jsonb.specs.Held.{key_held}
 use Rattle.jsonb.proofs.Scalars.Spelled.{spelled_part}
 use Rattle.jsonb.proofs.parser.handler.sort_key.KeyPartHandler.insert.Goals as goal

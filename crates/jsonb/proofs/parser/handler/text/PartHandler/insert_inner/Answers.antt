@@ -1,5 +1,5 @@
 use Rattle.std.proofs.Common.{[], map}
-use Rattle.jsonb_value.specs.Tree.Mark.{plain}
+use Rattle.jsonb_spec.specs.Tree.Mark.{plain}
 use Rattle.jsonb.specs.Held.{text_held}
 use Rattle.jsonb.proofs.parser.handler.text.PartHandler.insert_inner.Goals as goal
 

@@ -1,5 +1,5 @@
 use Rattle.std.proofs.Common.{refl, ap, sym, ◌∙◌}
-use Rattle.jsonb_scan.specs.Source.{tree_of_source}
+use Rattle.jsonb_spec.specs.Source.{tree_of_source}
 use Rattle.jsonb.proofs.Containers.Built.{array_of_values}
 use Rattle.jsonb.proofs.parser.handler.value.ValueHandler.array.Goals as goal
 

@@ -1,5 +1,5 @@
 use Rattle.std.proofs.Common.{refl, sym, true≢false}
-use Rattle.jsonb_scan.specs.Source.{found}
+use Rattle.jsonb_spec.specs.Source.{found}
 use Rattle.jsonb.proofs.Containers.Built.{if_put, put-more}
 use Rattle.jsonb.proofs.parser.handler.value.ValueHandler.insert.Goals as goal
 

@@ -1,5 +1,5 @@
 use Rattle.std.proofs.Common.{refl, ap, sym, ◌∙◌, true≢false, string_bytes}
-use Rattle.jsonb_scan.specs.Source.{found}
+use Rattle.jsonb_spec.specs.Source.{found}
 use Rattle.jsonb.proofs.Containers.Built.{if_put, put-more}
 use Rattle.jsonb.proofs.parser.handler.value.ValueHandler.insert_inner.Goals as goal
 

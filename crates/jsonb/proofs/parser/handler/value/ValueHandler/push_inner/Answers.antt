@@ -1,6 +1,6 @@
 use Rattle.std.proofs.Common.{◌≡◌, [], ◌∷◌, ◌++◌, ap, sym, subst, ◌∙◌}
 use Rattle.jsonb_value.specs.View.{view}
-use Rattle.jsonb_scan.specs.Source.{tree_of_source}
+use Rattle.jsonb_spec.specs.Source.{tree_of_source}
 use Rattle.jsonb.specs.Handler.{AreSeen}
 use Rattle.jsonb.proofs.Containers.Frames.{seen-snoc}
 use Rattle.jsonb.proofs.parser.handler.value.ValueHandler.push_inner.Goals as goal

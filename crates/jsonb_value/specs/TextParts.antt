@@ -1,0 +1,8 @@
+-- The parts of a number's text.
+use Rattle.std.specs.Prelude.{List, ℕ, ◌++◌, replicate}
+use Rattle.jsonb_spec.specs.Ascii as ascii
+use Rattle.jsonb_value.specs.declared.number.text.TextParts.{TextParts}
+
+-- the pieces joined, with zeros before the last
+abbrev pub joined : TextParts → List ℕ
+joined p = p.sign.now ++ (p.front.now ++ (p.point.now ++ (replicate p.zeros ascii.digit_zero ++ p.back.now)))
