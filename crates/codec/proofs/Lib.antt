@@ -1,4 +1,4 @@
 pub mod Encoded
 pub mod Frames
 pub mod Lines
-pub mod Refusals
+pub mod Errors

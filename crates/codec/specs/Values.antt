@@ -12,8 +12,8 @@ use Rattle.jsonb_spec.specs.Order.{Same}
 use Rattle.jsonb_spec.specs.Text.{text_of}
 use Rattle.jsonb_value.specs.declared.error.Error.TheVariants as error
 use Rattle.codec.specs.Frame.{frame_of, BeginsWith}
-use Rattle.codec.specs.declared.values.Refusal.{Refusal}
-use Rattle.codec.specs.declared.values.Refusal.TheVariants.{TooLong, CutShort, Refused}
+use Rattle.codec.specs.declared.values.FrameError.{FrameError}
+use Rattle.codec.specs.declared.values.FrameError.TheVariants.{TooLong, CutShort, Json}
 
 -- The bytes begin with the frame of a text that is a document of the tree, and the rest follows the frame.
 pub record IsFrame (bytes : List ℕ) (t : Tree) (rest : List ℕ) : Type 0 where
@@ -35,24 +35,24 @@ pub record DecodesAs (bytes : List ℕ) (t : Tree) (rest : List ℕ) : Type 0 wh
   pub same : Same tree t
   pub text : text_of tree ≡ text_of t
 
--- what is printed of a refusal
-abbrev pub refusal_text : Refusal → List ℕ
-refusal_text TooLong = codes "text too long"
-refusal_text CutShort = codes "frame cut short"
-refusal_text (Refused e) = error_text e
+-- what is printed of an error
+abbrev pub frame_error_text : FrameError → List ℕ
+frame_error_text TooLong = codes "text too long"
+frame_error_text CutShort = codes "frame cut short"
+frame_error_text (Json e) = error_text e
 
 -- The text is too long for a frame, or there is no text, or memory ran out.
-abbrev pub EncodeRefuses : Tree → Refusal → Type 0
-EncodeRefuses t TooLong = (text : List ℕ) × (text_of t ≡ Some text) × (2 ^ 32 ≤ length text)
-EncodeRefuses t CutShort = ⊥
-EncodeRefuses t (Refused e) = ((e ≡ error.UnexpectedType) × (text_of t ≡ None)) ⊎ (e ≡ error.OutOfMemory)
+abbrev pub EncodeRejects : Tree → FrameError → Type 0
+EncodeRejects t TooLong = (text : List ℕ) × (text_of t ≡ Some text) × (2 ^ 32 ≤ length text)
+EncodeRejects t CutShort = ⊥
+EncodeRejects t (Json e) = ((e ≡ error.UnexpectedType) × (text_of t ≡ None)) ⊎ (e ≡ error.OutOfMemory)
 
 -- The bytes begin with no frame, or with the frame of a text that is no document, or memory ran out. The fault of the
 -- text is as reading tells it, which asks for memory only where the text holds a marker.
-abbrev pub DecodeRefuses : List ℕ → Refusal → Type 0
-DecodeRefuses bytes TooLong = ⊥
-DecodeRefuses bytes CutShort = (text rest : List ℕ) → BeginsWith bytes text rest → ⊥
-DecodeRefuses bytes (Refused e) =
+abbrev pub DecodeRejects : List ℕ → FrameError → Type 0
+DecodeRejects bytes TooLong = ⊥
+DecodeRejects bytes CutShort = (text rest : List ℕ) → BeginsWith bytes text rest → ⊥
+DecodeRejects bytes (Json e) =
     (text : List ℕ) × (rest : List ℕ) × BeginsWith bytes text rest
     × (e ≢ error.OutOfMemory → IsNoDocument extended text) × (e ≡ error.OutOfMemory → MayAllocate text)
     × Fails e (document_of extended text)
@@ -71,22 +71,22 @@ pub data AreEncoded : List (List ℕ) → List ℕ → Type 0 where
 
 -- The line is no document, and the fault is as reading tells it, or the text of its tree is too long for a frame, or
 -- memory ran out: for what the line holds, or for the frame of its tree.
-abbrev pub LineRefuses : List ℕ → Refusal → Type 0
-LineRefuses line TooLong = (t : Tree) × IsDocument extended line t × EncodeRefuses t TooLong
-LineRefuses line CutShort = ⊥
-LineRefuses line (Refused e) = (e ≢ error.OutOfMemory → IsNoDocument extended line)
+abbrev pub LineRejects : List ℕ → FrameError → Type 0
+LineRejects line TooLong = (t : Tree) × IsDocument extended line t × EncodeRejects t TooLong
+LineRejects line CutShort = ⊥
+LineRejects line (Json e) = (e ≢ error.OutOfMemory → IsNoDocument extended line)
     × (e ≡ error.OutOfMemory → MayAllocate line ⊎ ((t : Tree) × IsDocument extended line t))
     × Fails e (document_of extended line)
 
--- The lines before this one are documents that have frames, and this one is refused.
-pub record EncodeLinesRefuses (lines : List (List ℕ)) (refusal : Refusal) : Type 0 where
+-- The lines before this one are documents that have frames, and this one is rejected.
+pub record EncodeLinesRejects (lines : List (List ℕ)) (error : FrameError) : Type 0 where
   pub before : List (List ℕ)
   pub line : List ℕ
   pub after : List (List ℕ)
   pub split : lines ≡ before ++ line ∷ after
   pub bytes : List ℕ
   pub encoded : AreEncoded before bytes
-  pub refused : LineRefuses line refusal
+  pub rejected : LineRejects line error
 
 -- new is old with the tree's text and a line feed at its end
 pub record AppendsLine (t : Tree) (old new : List ℕ) : Type 0 where
@@ -106,17 +106,17 @@ pub data AreDecoded : List ℕ → List ℕ → Type 0 where
   more_frames : {bytes rest line others : List ℕ} → DecodesLine bytes rest [] line → AreDecoded rest others
       → AreDecoded bytes (line ++ others)
 
--- The first frame is refused as `decode` refuses it, or memory ran out for the line of its tree.
-abbrev pub DecodeLineRefuses : List ℕ → Refusal → Type 0
-DecodeLineRefuses bytes refusal = DecodeRefuses bytes refusal
-    ⊎ ((refusal ≡ Refused error.OutOfMemory) × (t : Tree) × (rest : List ℕ) × IsFrame bytes t rest)
+-- The first frame is rejected as `decode` rejects it, or memory ran out for the line of its tree.
+abbrev pub DecodeLineRejects : List ℕ → FrameError → Type 0
+DecodeLineRejects bytes error = DecodeRejects bytes error
+    ⊎ ((error ≡ Json error.OutOfMemory) × (t : Tree) × (rest : List ℕ) × IsFrame bytes t rest)
 
--- The bytes are frames with their lines, and more behind them, of which the first frame is refused.
-pub record DecodeLinesRefuses (bytes : List ℕ) (refusal : Refusal) : Type 0 where
+-- The bytes are frames with their lines, and more behind them, of which the first frame is rejected.
+pub record DecodeLinesRejects (bytes : List ℕ) (error : FrameError) : Type 0 where
   pub front : List ℕ
   pub text : List ℕ
   pub decoded : AreDecoded front text
   pub left : List ℕ
   pub split : bytes ≡ front ++ left
   pub more : left ≢ []
-  pub refused : DecodeLineRefuses left refusal
+  pub rejected : DecodeLineRejects left error

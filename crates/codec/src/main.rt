@@ -10,7 +10,7 @@ use std::io::{BufRead, BufReader, Read, Write};
 use std::process::ExitCode;
 use std::rt::Env;
 use std::{env, io};
-use values::Refusal;
+use values::FrameError;
 
 // The lines of the input that are more than whitespace, without their line feeds, and the number of each, from 1.
 #[derive(Drop)]
@@ -36,7 +36,7 @@ fn read_lines<R: Read + Drop>(alloc: Global, input: R) -> io::Result<Input> {
 }
 
 // The texts of the documents that the lines are, by way of their frames.
-fn recoded(alloc: Global, lines: &[Vec<u8>]) -> Result<Vec<u8>, Refusal> {
+fn recoded(alloc: Global, lines: &[Vec<u8>]) -> Result<Vec<u8>, FrameError> {
     let frames = values::encode_lines(alloc, lines)?;
     values::decode_lines(alloc, &frames)
 }
@@ -76,10 +76,10 @@ fn main(rt: HostRuntime) -> ExitCode {
             Ok(()) => ExitCode::SUCCESS,
             Err(_) => ExitCode::FAILURE,
         },
-        Err(refusal) => {
+        Err(error) => {
             let _ = match rejected_line(rt.alloc(), &lines) {
-                Some(number) => writeln!(rt.stderr(), "line {number}: {refusal}"),
-                None => writeln!(rt.stderr(), "{refusal}"),
+                Some(number) => writeln!(rt.stderr(), "line {number}: {error}"),
+                None => writeln!(rt.stderr(), "{error}"),
             };
             ExitCode::FAILURE
         }

@@ -15,10 +15,10 @@ use Rattle.jsonb_spec.specs.Tree.{Member, Members, no_members, more_members, obj
 use Rattle.jsonb.specs.declared.parser.ast.JsonAst.{JsonAst, the_lemmas}
 use Rattle.jsonb.specs.declared.parser.ast.JsonAst.TheVariants as ast
 use Rattle.config.proofs.KeyEnds.{key_found, object_placed, same_bytes}
-use Rattle.config.specs.Config.{HasKeyEnd, IsConfig, IsConfigOf, IsConfigRefusal, IsSettingRefusal, key_of, setting_of}
+use Rattle.config.specs.Config.{HasKeyEnd, IsConfig, IsConfigOf, IsConfigError, IsSettingError, key_of, setting_of}
 use Rattle.config.specs.declared.config.Config.{Config}
-use Rattle.config.specs.declared.config.Refusal.{Refusal}
-use Rattle.config.specs.declared.config.Refusal.TheVariants as refusal
+use Rattle.config.specs.declared.config.ConfigError.{ConfigError}
+use Rattle.config.specs.declared.config.ConfigError.TheVariants as error
 use Rattle.config.specs.declared.config.Setting.{Setting}
 
 -- ---- one more member put in
@@ -127,21 +127,21 @@ pub as_members : (read : JsonAst) (v : Vec Written Global) → read ≡ ast.Obje
 as_members read v is = ap as_object (ap ast_view is ∙ view-Object v)
 
 -- settings of the object that was read
-pub settings : (text : List ℕ) (read : JsonAst) (v : Vec Written Global) (r : Result Config Refusal) → read ≡ ast.Object v → IsDocument extended text (ast_view read)
+pub settings : (text : List ℕ) (read : JsonAst) (v : Vec Written Global) (r : Result Config ConfigError) → read ≡ ast.Object v → IsDocument extended text (ast_view read)
     → IfOk r (IsConfig (written_members v.items)) → IfOk r (λ c. (t : Tree) × IsDocument extended text t × IsConfigOf t c)
 settings text read v (Ok c) is document config = (ast_view read, document, (written_members v.items, as_members read v is, config))
 settings text read v (Err e) is document config = tt
 
-pub only_settings : (text : List ℕ) (read : JsonAst) (v : Vec Written Global) (r : Result Config Refusal) → read ≡ ast.Object v → ((t : Tree) → IsDocument extended text t → t ≡ ast_view read)
+pub only_settings : (text : List ℕ) (read : JsonAst) (v : Vec Written Global) (r : Result Config ConfigError) → read ≡ ast.Object v → ((t : Tree) → IsDocument extended text t → t ≡ ast_view read)
     → IfOk r (IsConfig (written_members v.items)) → IfOk r (λ c. (t : Tree) → IsDocument extended text t → IsConfigOf t c)
 only_settings text read v (Ok c) is one config = λ t document. (written_members v.items, ap as_object (one t document) ∙ as_members read v is, config)
 only_settings text read v (Err e) is one config = tt
 
--- the refusal of a setting of the object that was read
-pub no_settings : (text : List ℕ) (read : JsonAst) (v : Vec Written Global) (r : Result Config Refusal) → read ≡ ast.Object v → IsDocument extended text (ast_view read) → IsPlaced extended text (source_view read)
-    → IfErr r (IsSettingRefusal text v.items) → IfErr r (IsConfigRefusal text)
+-- the error of a setting of the object that was read
+pub no_settings : (text : List ℕ) (read : JsonAst) (v : Vec Written Global) (r : Result Config ConfigError) → read ≡ ast.Object v → IsDocument extended text (ast_view read) → IsPlaced extended text (source_view read)
+    → IfErr r (IsSettingError text v.items) → IfErr r (IsConfigError text)
 no_settings text read v (Ok c) is document placed told = tt
-no_settings text read v (Err (refusal.Wrong setting line column)) is document placed told = (
+no_settings text read v (Err (error.Wrong setting line column)) is document placed told = (
   ast_view read,
   document,
   written_members v.items,
@@ -156,6 +156,6 @@ no_settings text read v (Err (refusal.Wrong setting line column)) is document pl
     column_there = told.4;
   },
 )
-no_settings text read v (Err refusal.NoMemory) is document placed told = (ast_view read, document, written_members v.items, as_members read v is, told)
-no_settings text read v (Err (refusal.NoDocument e line column)) is document placed told = absurd told
-no_settings text read v (Err refusal.NoObject) is document placed told = absurd told
+no_settings text read v (Err error.NoMemory) is document placed told = (ast_view read, document, written_members v.items, as_members read v is, told)
+no_settings text read v (Err (error.NoDocument e line column)) is document placed told = absurd told
+no_settings text read v (Err error.NoObject) is document placed told = absurd told

@@ -18,8 +18,8 @@ use Rattle.jsonb_value.specs.declared.error.Error.TheVariants as error
 use Rattle.config.specs.declared.config.Config.{Config}
 use Rattle.config.specs.declared.config.Setting.{Setting}
 use Rattle.config.specs.declared.config.Setting.TheVariants.{Host, Port, Workers, Verbose}
-use Rattle.config.specs.declared.config.Refusal.{Refusal}
-use Rattle.config.specs.declared.config.Refusal.TheVariants as refusal
+use Rattle.config.specs.declared.config.ConfigError.{ConfigError}
+use Rattle.config.specs.declared.config.ConfigError.TheVariants as error
 
 -- the key of a setting
 abbrev pub key_of : Setting → List ℕ
@@ -70,7 +70,7 @@ IsWrong Port t = (port : ℕ) → IsPort t port → ⊥
 IsWrong Workers t = (workers : ℕ) → IsWorkers t workers → ⊥
 IsWrong Verbose t = (verbose : Bool) → IsVerbose t verbose → ⊥
 
--- the index of the byte to show of a refusal
+-- the index of the byte to show of an error
 abbrev pub shown_index : List ℕ → Error → ℕ
 shown_index text (error.Syntax code position) = fault_index text (code_of code) position
 shown_index text other = 0
@@ -95,26 +95,26 @@ GiveSettings ms = (host : List ℕ) × IsHost (setting_of Host ms) host × (port
     × (workers : ℕ) × IsWorkers (setting_of Workers ms) workers
     × (verbose : Bool) × IsVerbose (setting_of Verbose ms) verbose
 
--- The refusal names a setting of the members that is wrong, and where its key ends, or there is no memory for the host,
+-- The error names a setting of the members that is wrong, and where its key ends, or there is no memory for the host,
 -- and none is wrong.
-abbrev pub IsSettingRefusal : List ℕ → List Written → Refusal → Type 0
-IsSettingRefusal text members (refusal.Wrong setting line column) =
+abbrev pub IsSettingError : List ℕ → List Written → ConfigError → Type 0
+IsSettingError text members (error.Wrong setting line column) =
     IsWrong setting (setting_of setting (written_members members))
     × (index : ℕ) × HasKeyEnd (source_members_view members) (key_of setting) index
     × (line ≡ line_at text index) × (column ≡ column_at text index)
-IsSettingRefusal text members refusal.NoMemory = GiveSettings (written_members members)
-IsSettingRefusal text members other = ⊥
+IsSettingError text members error.NoMemory = GiveSettings (written_members members)
+IsSettingError text members other = ⊥
 
 -- The text is no document, or one of no object, or a setting of its object is wrong, or none is and there is no memory
 -- for the host.
-abbrev pub IsConfigRefusal : List ℕ → Refusal → Type 0
-IsConfigRefusal text (refusal.NoDocument e line column) =
+abbrev pub IsConfigError : List ℕ → ConfigError → Type 0
+IsConfigError text (error.NoDocument e line column) =
     (e ≢ error.OutOfMemory → IsNoDocument extended text) × (e ≡ error.OutOfMemory → MayAllocate text)
     × Fails e (document_of extended text)
     × (line ≡ line_at text (shown_index text e)) × (column ≡ column_at text (shown_index text e))
-IsConfigRefusal text refusal.NoObject = (t : Tree) × IsDocument extended text t × (as_object t ≡ None)
-IsConfigRefusal text (refusal.Wrong setting line column) =
+IsConfigError text error.NoObject = (t : Tree) × IsDocument extended text t × (as_object t ≡ None)
+IsConfigError text (error.Wrong setting line column) =
     (t : Tree) × IsDocument extended text t × (ms : Members) × (as_object t ≡ Some ms)
     × IsWrong setting (setting_of setting ms) × EndsKey text setting line column
-IsConfigRefusal text refusal.NoMemory =
+IsConfigError text error.NoMemory =
     (t : Tree) × IsDocument extended text t × (ms : Members) × (as_object t ≡ Some ms) × GiveSettings ms

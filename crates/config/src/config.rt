@@ -8,7 +8,7 @@ ghost use Rattle.jsonb_spec.specs.Line.{line_at, column_at};
 ghost use Rattle.jsonb_spec.specs.Mode.{extended};
 ghost use Rattle.jsonb.specs.Source.{source_members_view};
 ghost use Rattle.jsonb_spec.specs.Tree.{Mark, Tree};
-ghost use Rattle.config.specs.Config.{key_of, setting_of, shown_index, IsHost, IsPort, IsWorkers, IsVerbose, IsConfig, IsConfigOf, HasKeyEnd, IsSettingRefusal, IsConfigRefusal};
+ghost use Rattle.config.specs.Config.{key_of, setting_of, shown_index, IsHost, IsPort, IsWorkers, IsVerbose, IsConfig, IsConfigOf, HasKeyEnd, IsSettingError, IsConfigError};
 
 use jsonb::{Error, JsonAst, Mode, fault_index, line_and_column};
 use std::alloc::Global;
@@ -66,7 +66,7 @@ impl Setting {
 
 /// Why a text gives no settings.
 #[derive(Debug, Drop)]
-pub enum Refusal {
+pub enum ConfigError {
     /// The text is rejected; the line and the column are those of the byte to show.
     NoDocument(Error, usize, usize),
     /// The document is no object.
@@ -77,18 +77,18 @@ pub enum Refusal {
     NoMemory,
 }
 
-impl fmt::Display for Refusal {
+impl fmt::Display for ConfigError {
     fn fmt<W: fmt::Write>(&self, f: &mut fmt::Formatter<W>) -> fmt::Result {
         match self {
-            Refusal::NoDocument(error, line, column) => {
+            ConfigError::NoDocument(error, line, column) => {
                 write!(f, "line {line}, column {column}: {error}")
             }
-            Refusal::NoObject => write!(f, "the settings aren't an object"),
-            Refusal::Wrong(setting, line, column) => {
+            ConfigError::NoObject => write!(f, "the settings aren't an object"),
+            ConfigError::Wrong(setting, line, column) => {
                 let (key, wanted) = (setting.key(), setting.wanted());
                 write!(f, "line {line}, column {column}: {key} isn't {wanted}")
             }
-            Refusal::NoMemory => write!(f, "out of memory"),
+            ConfigError::NoMemory => write!(f, "out of memory"),
         }
     }
 }
@@ -103,25 +103,25 @@ type Member<'a> = (CowStr<'a>, JsonAst<'a>, usize);
 /// `NoDocument` where the text is no document of extended mode, `NoObject` where it is one of another value, `Wrong`
 /// with a setting of the wrong kind or out of range, and `NoMemory` where none is wrong and there is no memory for the
 /// host.
-pub fn read_config(alloc: Global, text: &[u8]) -> Result<Config, Refusal>
+pub fn read_config(alloc: Global, text: &[u8]) -> Result<Config, ConfigError>
     ensures config { IfOk result (λ c. (t : Tree) × IsDocument extended text.now t × IsConfigOf t c) }
     ensures only { IfOk result (λ c. (t : Tree) → IsDocument extended text.now t → IsConfigOf t c) }
-    ensures refused { IfErr result (IsConfigRefusal text.now) }
+    ensures rejected { IfErr result (IsConfigError text.now) }
 {
     let document = match JsonAst::parse(alloc, text, Mode::Extended) {
         Ok(document) => document,
         Err(error) => {
             let (line, column) = line_and_column(text, shown_index(text, &error));
-            return Err(Refusal::NoDocument(error, line, column));
+            return Err(ConfigError::NoDocument(error, line, column));
         }
     };
     let JsonAst::Object(members) = &document else {
-        return Err(Refusal::NoObject);
+        return Err(ConfigError::NoObject);
     };
     config_of(alloc, text, members)
 }
 
-// The index of the byte to show of a refusal.
+// The index of the byte to show of an error.
 fn shown_index(text: &[u8], error: &Error) -> usize
     ensures { result ≡ shown_index text.now error.now }
 {
@@ -132,16 +132,16 @@ fn shown_index(text: &[u8], error: &Error) -> usize
 }
 
 // The settings of an object with these members of the text.
-fn config_of(alloc: Global, text: &[u8], members: &[Member]) -> Result<Config, Refusal>
+fn config_of(alloc: Global, text: &[u8], members: &[Member]) -> Result<Config, ConfigError>
     ensures ok { IfOk result (IsConfig (written_members members.now)) }
-    ensures refused { IfErr result (IsSettingRefusal text.now members.now) }
+    ensures rejected { IfErr result (IsSettingError text.now members.now) }
 {
     let port = port_of(text, members)?;
     let workers = workers_of(text, members)?;
     let verbose = verbose_of(text, members)?;
     let host = host_of(text, members)?;
     let Ok(host) = String::from_str(alloc, host) else {
-        return Err(Refusal::NoMemory);
+        return Err(ConfigError::NoMemory);
     };
     Ok(Config {
         host,
@@ -152,9 +152,9 @@ fn config_of(alloc: Global, text: &[u8], members: &[Member]) -> Result<Config, R
 }
 
 // The text of the host.
-fn host_of<'m>(text: &[u8], members: &'m [Member]) -> Result<&'m str, Refusal>
+fn host_of<'m>(text: &[u8], members: &'m [Member]) -> Result<&'m str, ConfigError>
     ensures ok { IfOk result (λ host. IsHost (setting_of Setting.Host (written_members members.now)) host.now) }
-    ensures refused { IfErr result (IsSettingRefusal text.now members.now) }
+    ensures rejected { IfErr result (IsSettingError text.now members.now) }
 {
     let Some((value, end)) = member_of(members, Setting::Host) else {
         return Ok("localhost");
@@ -166,9 +166,9 @@ fn host_of<'m>(text: &[u8], members: &'m [Member]) -> Result<&'m str, Refusal>
 }
 
 // The number of the port.
-fn port_of(text: &[u8], members: &[Member]) -> Result<u16, Refusal>
+fn port_of(text: &[u8], members: &[Member]) -> Result<u16, ConfigError>
     ensures ok { IfOk result (IsPort (setting_of Setting.Port (written_members members.now))) }
-    ensures refused { IfErr result (IsSettingRefusal text.now members.now) }
+    ensures rejected { IfErr result (IsSettingError text.now members.now) }
 {
     let Some((value, end)) = member_of(members, Setting::Port) else {
         return Ok(8080);
@@ -180,9 +180,9 @@ fn port_of(text: &[u8], members: &[Member]) -> Result<u16, Refusal>
 }
 
 // The number of workers.
-fn workers_of(text: &[u8], members: &[Member]) -> Result<u64, Refusal>
+fn workers_of(text: &[u8], members: &[Member]) -> Result<u64, ConfigError>
     ensures ok { IfOk result (IsWorkers (setting_of Setting.Workers (written_members members.now))) }
-    ensures refused { IfErr result (IsSettingRefusal text.now members.now) }
+    ensures rejected { IfErr result (IsSettingError text.now members.now) }
 {
     let Some((value, end)) = member_of(members, Setting::Workers) else {
         return Ok(4);
@@ -194,9 +194,9 @@ fn workers_of(text: &[u8], members: &[Member]) -> Result<u64, Refusal>
 }
 
 // Whether more is told.
-fn verbose_of(text: &[u8], members: &[Member]) -> Result<bool, Refusal>
+fn verbose_of(text: &[u8], members: &[Member]) -> Result<bool, ConfigError>
     ensures ok { IfOk result (IsVerbose (setting_of Setting.Verbose (written_members members.now))) }
-    ensures refused { IfErr result (IsSettingRefusal text.now members.now) }
+    ensures rejected { IfErr result (IsSettingError text.now members.now) }
 {
     let Some((value, end)) = member_of(members, Setting::Verbose) else {
         return Ok(false);
@@ -207,12 +207,12 @@ fn verbose_of(text: &[u8], members: &[Member]) -> Result<bool, Refusal>
     Ok(verbose)
 }
 
-// The refusal of this setting, whose key ends at the index.
-fn wrong(text: &[u8], setting: Setting, end: usize) -> Refusal
-    ensures { result ≡ Refusal.Wrong setting (line_at text.now end) (column_at text.now end) }
+// The error of this setting, whose key ends at the index.
+fn wrong(text: &[u8], setting: Setting, end: usize) -> ConfigError
+    ensures { result ≡ ConfigError.Wrong setting (line_at text.now end) (column_at text.now end) }
 {
     let (line, column) = line_and_column(text, end);
-    Refusal::Wrong(setting, line, column)
+    ConfigError::Wrong(setting, line, column)
 }
 
 // The value at the setting's key, and the index where the key ends.

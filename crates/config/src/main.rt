@@ -81,8 +81,8 @@ fn main(rt: HostRuntime) -> ExitCode {
                 Err(_) => ExitCode::FAILURE,
             }
         }
-        Err(refusal) => {
-            let _ = writeln!(rt.stderr(), "{refusal}");
+        Err(error) => {
+            let _ = writeln!(rt.stderr(), "{error}");
             ExitCode::FAILURE
         }
     }

@@ -2,6 +2,6 @@ pub mod Children
 pub mod Containers
 pub mod Documents
 pub mod Places
-pub mod Refusals
+pub mod Errors
 pub mod Scalars
 pub mod Steps

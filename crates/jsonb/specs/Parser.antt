@@ -9,7 +9,7 @@ use Rattle.jsonb_scan.specs.Decoding.{TellsBackslash}
 use Rattle.jsonb_scan.specs.Reading.{Read}
 use Rattle.jsonb_scan.specs.Reading.String.{quote_end}
 use Rattle.jsonb_scan.specs.Reading.Scalar.{scalar_at}
-use Rattle.jsonb_scan.specs.Answer.{mode_of, NamesFault, Fails, Gives, IsTextRefusal, MayAllocate}
+use Rattle.jsonb_scan.specs.Answer.{mode_of, NamesFault, Fails, Gives, IsTextError, MayAllocate}
 
 -- the bytes from the index on
 abbrev pub rest_of : Parser → List ℕ

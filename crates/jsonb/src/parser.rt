@@ -9,7 +9,7 @@ ghost use Rattle.jsonb_spec.specs.Proper.{IsProper};
 ghost use Rattle.jsonb_spec.specs.Text.Range.{IsInRange, IsIntegerRange};
 ghost use Rattle.jsonb_spec.specs.Tree.{Tree};
 ghost use Rattle.jsonb_value.specs.View.{view};
-ghost use Rattle.jsonb_scan.specs.Answer.{mode_of, NamesFault, IsTextRefusal, Gives, MayAllocate};
+ghost use Rattle.jsonb_scan.specs.Answer.{mode_of, NamesFault, IsTextError, Gives, MayAllocate};
 ghost use Rattle.jsonb.specs.Parser.{rest_of, size_of, Advances, IsBehind};
 ghost use Rattle.jsonb_scan.specs.Reading.{begins, fault_at};
 ghost use Rattle.jsonb_scan.specs.Reading.Blank.{skip_closed_blanks};
@@ -61,12 +61,12 @@ pub fn parse_value_standard_mode(alloc: Global, buf: &[u8]) -> Result<Value<'_>>
     ensures document { IfOk result (λ v. IsDocument standard buf.now (view v)) }
     ensures only { IfOk result (λ v. (t : Tree) → IsDocument standard buf.now t → t ≡ view v) }
 
-    // What is refused is no document, unless memory ran out.
-    ensures refused { IfErr result (λ e. e ≢ Error.OutOfMemory → IsNoDocument standard buf.now) }
+    // What is rejected is no document, unless memory ran out.
+    ensures rejected { IfErr result (λ e. e ≢ Error.OutOfMemory → IsNoDocument standard buf.now) }
     ensures memory { result ≡ Err Error.OutOfMemory → MayAllocate buf.now }
 
-    // Nothing but these two refuses.
-    ensures errors { IfErr result IsTextRefusal }
+    // No other error is returned.
+    ensures errors { IfErr result IsTextError }
 
     // Which fault it is, and where.
     ensures exact { Gives view result (document_of standard buf.now) }
@@ -104,12 +104,12 @@ pub fn parse_value(alloc: Global, buf: &[u8]) -> Result<Value<'_>>
     ensures document { IfOk result (λ v. IsDocument extended buf.now (view v)) }
     ensures only { IfOk result (λ v. (t : Tree) → IsDocument extended buf.now t → t ≡ view v) }
 
-    // What is refused is no document, unless memory ran out.
-    ensures refused { IfErr result (λ e. e ≢ Error.OutOfMemory → IsNoDocument extended buf.now) }
+    // What is rejected is no document, unless memory ran out.
+    ensures rejected { IfErr result (λ e. e ≢ Error.OutOfMemory → IsNoDocument extended buf.now) }
     ensures memory { result ≡ Err Error.OutOfMemory → MayAllocate buf.now }
 
-    // Nothing but these two refuses.
-    ensures errors { IfErr result IsTextRefusal }
+    // No other error is returned.
+    ensures errors { IfErr result IsTextError }
 
     // Which fault it is, and where.
     ensures exact { Gives view result (document_of extended buf.now) }
@@ -136,9 +136,9 @@ fn value_of_tree(alloc: Global, buf: &[u8], mode: Mode, told: Option<Error>) -> 
     requires memory { told ≡ Some Error.OutOfMemory → MayAllocate buf.now }
     ensures document { IfOk result (λ v. IsDocument (mode_of mode) buf.now (view v)) }
     ensures only { IfOk result (λ v. (t : Tree) → IsDocument (mode_of mode) buf.now t → t ≡ view v) }
-    ensures refused { IfErr result (λ e. e ≢ Error.OutOfMemory → IsNoDocument (mode_of mode) buf.now) }
+    ensures rejected { IfErr result (λ e. e ≢ Error.OutOfMemory → IsNoDocument (mode_of mode) buf.now) }
     ensures memory { result ≡ Err Error.OutOfMemory → MayAllocate buf.now }
-    ensures errors { IfErr result IsTextRefusal }
+    ensures errors { IfErr result IsTextError }
     ensures exact { Gives view result (document_of (mode_of mode) buf.now) }
     ensures explained { IfErr result (IsExplained (mode_of mode) buf.now) }
 {

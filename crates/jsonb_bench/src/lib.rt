@@ -21,7 +21,7 @@ use std::alloc::Global;
 pub extern "C" fn jsonb_bench_read(alloc: Global, text: &[u8], rounds: usize) -> usize
     ensures most { result ≤ rounds }
     // Nothing goes well with a text that is no document.
-    ensures refused { IsNoDocument standard text.now → result ≡ 0 }
+    ensures rejected { IsNoDocument standard text.now → result ≡ 0 }
 {
     for round in 0..rounds {
         if parse_value_standard_mode(alloc, text).is_err() {
@@ -56,7 +56,7 @@ pub extern "C" fn jsonb_bench_reject(alloc: Global, text: &[u8], rounds: usize) 
 pub extern "C" fn jsonb_bench_read_extended(alloc: Global, text: &[u8], rounds: usize) -> usize
     ensures most { result ≤ rounds }
     // Nothing goes well with a text that is no document.
-    ensures refused { IsNoDocument extended text.now → result ≡ 0 }
+    ensures rejected { IsNoDocument extended text.now → result ≡ 0 }
 {
     for round in 0..rounds {
         if parse_value(alloc, text).is_err() {
@@ -72,7 +72,7 @@ pub extern "C" fn jsonb_bench_read_extended(alloc: Global, text: &[u8], rounds: 
 pub extern "C" fn jsonb_bench_read_ast(alloc: Global, text: &[u8], rounds: usize) -> usize
     ensures most { result ≤ rounds }
     // Nothing goes well with a text that is no document.
-    ensures refused { IsNoDocument standard text.now → result ≡ 0 }
+    ensures rejected { IsNoDocument standard text.now → result ≡ 0 }
 {
     for round in 0..rounds {
         if JsonAst::parse(alloc, text, Mode::Standard).is_err() {
@@ -88,7 +88,7 @@ pub extern "C" fn jsonb_bench_read_ast(alloc: Global, text: &[u8], rounds: usize
 pub extern "C" fn jsonb_bench_document_text(alloc: Global, text: &[u8], rounds: usize) -> usize
     ensures most { result ≤ rounds }
     // Nothing goes well with a text that is no document.
-    ensures refused { IsNoDocument standard text.now → result ≡ 0 }
+    ensures rejected { IsNoDocument standard text.now → result ≡ 0 }
 {
     let mut written = Vec::new(alloc);
     for round in 0..rounds {
@@ -109,7 +109,7 @@ pub extern "C" fn jsonb_bench_document_text(alloc: Global, text: &[u8], rounds: 
 pub extern "C" fn jsonb_bench_document_key(alloc: Global, text: &[u8], rounds: usize) -> usize
     ensures most { result ≤ rounds }
     // Nothing goes well with a text that is no document.
-    ensures refused { IsNoDocument standard text.now → result ≡ 0 }
+    ensures rejected { IsNoDocument standard text.now → result ≡ 0 }
 {
     let mut key = Vec::new(alloc);
     for round in 0..rounds {
@@ -130,7 +130,7 @@ pub extern "C" fn jsonb_bench_document_key(alloc: Global, text: &[u8], rounds: u
 pub extern "C" fn jsonb_bench_straight_text(alloc: Global, text: &[u8], rounds: usize) -> usize
     ensures most { result ≤ rounds }
     // Nothing goes well with a text that is no document.
-    ensures refused { IsNoDocument standard text.now → result ≡ 0 }
+    ensures rejected { IsNoDocument standard text.now → result ≡ 0 }
 {
     let mut written = Vec::new(alloc);
     for round in 0..rounds {
@@ -148,7 +148,7 @@ pub extern "C" fn jsonb_bench_straight_text(alloc: Global, text: &[u8], rounds: 
 pub extern "C" fn jsonb_bench_straight_key(alloc: Global, text: &[u8], rounds: usize) -> usize
     ensures most { result ≤ rounds }
     // Nothing goes well with a text that is no document.
-    ensures refused { IsNoDocument standard text.now → result ≡ 0 }
+    ensures rejected { IsNoDocument standard text.now → result ≡ 0 }
 {
     let mut key = Vec::new(alloc);
     for round in 0..rounds {
@@ -166,7 +166,7 @@ pub extern "C" fn jsonb_bench_straight_key(alloc: Global, text: &[u8], rounds: u
 pub extern "C" fn jsonb_bench_straight_extended(alloc: Global, text: &[u8], rounds: usize) -> usize
     ensures most { result ≤ rounds }
     // Nothing goes well with a text that is no document.
-    ensures refused { IsNoDocument extended text.now → result ≡ 0 }
+    ensures rejected { IsNoDocument extended text.now → result ≡ 0 }
 {
     let mut written = Vec::new(alloc);
     for round in 0..rounds {
@@ -179,12 +179,12 @@ pub extern "C" fn jsonb_bench_straight_extended(alloc: Global, text: &[u8], roun
 }
 
 /// Reads the text once, and writes the value's text `rounds` times into one buffer. The answer is how many
-/// rounds went well before the first that did not, and 0 where the text is refused.
+/// rounds went well before the first that did not, and 0 where the text is rejected.
 #[unsafe(no_mangle)]
 pub extern "C" fn jsonb_bench_write(alloc: Global, text: &[u8], rounds: usize) -> usize
     ensures most { result ≤ rounds }
     // Nothing goes well with a text that is no document.
-    ensures refused { IsNoDocument standard text.now → result ≡ 0 }
+    ensures rejected { IsNoDocument standard text.now → result ≡ 0 }
 {
     let Ok(value) = parse_value_standard_mode(alloc, text) else {
         return 0;
@@ -200,12 +200,12 @@ pub extern "C" fn jsonb_bench_write(alloc: Global, text: &[u8], rounds: usize) -
 }
 
 /// Reads the text once, and writes the value's sort key `rounds` times into one buffer. The answer is how many rounds
-/// went well before the first that did not, and 0 where the text is refused.
+/// went well before the first that did not, and 0 where the text is rejected.
 #[unsafe(no_mangle)]
 pub extern "C" fn jsonb_bench_sort_key(alloc: Global, text: &[u8], rounds: usize) -> usize
     ensures most { result ≤ rounds }
     // Nothing goes well with a text that is no document.
-    ensures refused { IsNoDocument standard text.now → result ≡ 0 }
+    ensures rejected { IsNoDocument standard text.now → result ≡ 0 }
 {
     let Ok(value) = parse_value_standard_mode(alloc, text) else {
         return 0;
@@ -221,12 +221,12 @@ pub extern "C" fn jsonb_bench_sort_key(alloc: Global, text: &[u8], rounds: usize
 }
 
 /// Reads the text twice, and compares the two values with `==` `rounds` times. The answer is how many rounds
-/// found them equal before the first that did not, and 0 where the text is refused.
+/// found them equal before the first that did not, and 0 where the text is rejected.
 #[unsafe(no_mangle)]
 pub extern "C" fn jsonb_bench_compare(alloc: Global, text: &[u8], rounds: usize) -> usize
     ensures most { result ≤ rounds }
     // Nothing goes well with a text that is no document.
-    ensures refused { IsNoDocument standard text.now → result ≡ 0 }
+    ensures rejected { IsNoDocument standard text.now → result ≡ 0 }
 {
     let Ok(left) = parse_value_standard_mode(alloc, text) else {
         return 0;
@@ -243,12 +243,12 @@ pub extern "C" fn jsonb_bench_compare(alloc: Global, text: &[u8], rounds: usize)
 }
 
 /// Reads the text once, and clones the value `rounds` times, dropping each clone. The answer is how many rounds
-/// went well before the first that did not, and 0 where the text is refused.
+/// went well before the first that did not, and 0 where the text is rejected.
 #[unsafe(no_mangle)]
 pub extern "C" fn jsonb_bench_clone(alloc: Global, text: &[u8], rounds: usize) -> usize
     ensures most { result ≤ rounds }
     // Nothing goes well with a text that is no document.
-    ensures refused { IsNoDocument standard text.now → result ≡ 0 }
+    ensures rejected { IsNoDocument standard text.now → result ≡ 0 }
 {
     let Ok(original) = parse_value_standard_mode(alloc, text) else {
         return 0;

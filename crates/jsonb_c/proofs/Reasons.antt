@@ -9,9 +9,9 @@ use Rattle.jsonb_scan.specs.Answer.{Fails}
 use Rattle.jsonb_scan.specs.Reading.Document.{document_of}
 use Rattle.jsonb.specs.Explained.{IsExplained}
 use Rattle.jsonb_c.specs.declared.Refusal.{Refusal}
-use Rattle.jsonb_c.specs.declared.Refused.{Refused}
-use Rattle.jsonb_c.specs.declared.Refused.TheVariants.{Text, OutOfMemory, UnknownMode}
-use Rattle.jsonb_c.specs.Interface.{NumberChooses, standard_mode, extended_mode, status_of, IsAccepted, IsOneRefused, first_refused, second_refused, IsReason, IsRefused, SaysError}
+use Rattle.jsonb_c.specs.declared.Failure.{Failure}
+use Rattle.jsonb_c.specs.declared.Failure.TheVariants.{Text, OutOfMemory, UnknownMode}
+use Rattle.jsonb_c.specs.Interface.{NumberChooses, standard_mode, extended_mode, status_of, IsAccepted, IsOneRejected, first_rejected, second_rejected, IsReason, IsRejected, SaysError}
 
 -- ---- modes
 
@@ -29,9 +29,9 @@ one_mode (extended_mode e) (extended_mode f) = refl
 -- ---- from errors to reasons
 
 -- a fault of the text that a reader told, in other words
-refused_text : (number : ℕ) (mode : Mode) (text : List ℕ) (count : ℕ) (e : Error) (refusal : Refusal) → NumberChooses number mode
-    → (e ≢ errors.OutOfMemory → IsNoDocument mode text) → Fails e (document_of mode text) → IsExplained mode text e → SaysError count e (Text refusal) → IsRefused number text count refusal
-refused_text number mode text count e refusal chosen none fails explained says =
+rejected_text : (number : ℕ) (mode : Mode) (text : List ℕ) (count : ℕ) (e : Error) (refusal : Refusal) → NumberChooses number mode
+    → (e ≢ errors.OutOfMemory → IsNoDocument mode text) → Fails e (document_of mode text) → IsExplained mode text e → SaysError count e (Text refusal) → IsRejected number text count refusal
+rejected_text number mode text count e refusal chosen none fails explained says =
     let code = says.0 in
     let is : e ≡ errors.Syntax code refusal.position = says.1 in
     record {
@@ -45,42 +45,42 @@ refused_text number mode text count e refusal chosen none fails explained says =
       explained = subst (IsExplained mode text) is explained;
     }
 
-pub reason_says : (number : ℕ) (mode : Mode) (text : List ℕ) (count : ℕ) (e : Error) (reason : Refused) → NumberChooses number mode
+pub reason_says : (number : ℕ) (mode : Mode) (text : List ℕ) (count : ℕ) (e : Error) (reason : Failure) → NumberChooses number mode
     → (e ≢ errors.OutOfMemory → IsNoDocument mode text) → Fails e (document_of mode text) → IsExplained mode text e → SaysError count e reason
-    → IsReason number (IsRefused number text count) reason
-reason_says number mode text count e (Text refusal) chosen none fails explained says = (within chosen, refused_text number mode text count e refusal chosen none fails explained says)
+    → IsReason number (IsRejected number text count) reason
+reason_says number mode text count e (Text refusal) chosen none fails explained says = (within chosen, rejected_text number mode text count e refusal chosen none fails explained says)
 reason_says number mode text count e OutOfMemory chosen none fails explained says = within chosen
 reason_says number mode text count e UnknownMode chosen none fails explained says = absurd says
 
 -- ---- what is accepted
 
--- a text that is refused isn't accepted
-pub denied : (number : ℕ) (text : List ℕ) (count : ℕ) (refusal : Refusal) → IsRefused number text count refusal → IsAccepted number text → ⊥
+-- a text that is rejected isn't accepted
+pub denied : (number : ℕ) (text : List ℕ) (count : ℕ) (refusal : Refusal) → IsRejected number text count refusal → IsAccepted number text → ⊥
 denied number text count refusal w a = w.no_document a.tree (subst (λ mode. IsDocument mode text a.tree) (one_mode a.read.chosen w.chosen) a.read.document)
 
--- nor are both of two texts of which one is refused
-pub one_denied : (number : ℕ) (left right : List ℕ) (refusal : Refusal) → IsOneRefused number left right refusal → IsAccepted number left → IsAccepted number right → ⊥
-one_denied number left right refusal (first_refused w) a b = denied number left 1 refusal w a
-one_denied number left right refusal (second_refused first w) a b = denied number right 2 refusal w b
+-- nor are both of two texts of which one is rejected
+pub one_denied : (number : ℕ) (left right : List ℕ) (refusal : Refusal) → IsOneRejected number left right refusal → IsAccepted number left → IsAccepted number right → ⊥
+one_denied number left right refusal (first_rejected w) a b = denied number left 1 refusal w a
+one_denied number left right refusal (second_rejected first w) a b = denied number right 2 refusal w b
 
 -- where a text is accepted, memory ran out
-pub memory_wanting : (number : ℕ) (text : List ℕ) (reason : Refused) → IsReason number (IsRefused number text 1) reason → IsAccepted number text → status_of reason ≡ 2
+pub memory_wanting : (number : ℕ) (text : List ℕ) (reason : Failure) → IsReason number (IsRejected number text 1) reason → IsAccepted number text → status_of reason ≡ 2
 memory_wanting number text (Text refusal) w a = absurd (denied number text 1 refusal w.1 a)
 memory_wanting number text OutOfMemory w a = refl
 memory_wanting number text UnknownMode w a = absurd (omega (arith, w, within a.read.chosen))
 
 -- the same of two texts
-pub memory_wanting_of_two : (number : ℕ) (left right : List ℕ) (reason : Refused) → IsReason number (IsOneRefused number left right) reason → IsAccepted number left → IsAccepted number right → status_of reason ≡ 2
+pub memory_wanting_of_two : (number : ℕ) (left right : List ℕ) (reason : Failure) → IsReason number (IsOneRejected number left right) reason → IsAccepted number left → IsAccepted number right → status_of reason ≡ 2
 memory_wanting_of_two number left right (Text refusal) w a b = absurd (one_denied number left right refusal w.1 a b)
 memory_wanting_of_two number left right OutOfMemory w a b = refl
 memory_wanting_of_two number left right UnknownMode w a b = absurd (omega (arith, w, within a.read.chosen))
 
 -- memory ran out where the error says so
-pub memory_said : {X Y : Type 0} (count : ℕ) (e : Error) (reason : Refused) → SaysError count e reason → ◌≡◌ {A = Result X Refused} (Err reason) (Err OutOfMemory) → ◌≡◌ {A = Result Y Error} (Err e) (Err errors.OutOfMemory)
+pub memory_said : {X Y : Type 0} (count : ℕ) (e : Error) (reason : Failure) → SaysError count e reason → ◌≡◌ {A = Result X Failure} (Err reason) (Err OutOfMemory) → ◌≡◌ {A = Result Y Error} (Err e) (Err errors.OutOfMemory)
 memory_said {X = X} count e reason says is =
     let same : reason ≡ OutOfMemory = one_error is in
     let memory : e ≡ errors.OutOfMemory = subst (SaysError count e) same says in
     ap Err memory
   where
-    one_error : {a b : Refused} → ◌≡◌ {A = Result X Refused} (Err a) (Err b) → a ≡ b
+    one_error : {a b : Failure} → ◌≡◌ {A = Result X Failure} (Err a) (Err b) → a ≡ b
     one_error e = cc

@@ -8,9 +8,9 @@ use Rattle.jsonb_spec.specs.Tree.{Tree}
 use Rattle.jsonb_value.proofs.Trees.RangeTexts.{document_text_reads_back}
 use Rattle.jsonb.specs.Appends.{IsParsed}
 use Rattle.jsonb.proofs.Documents.Spellings.{document_complete, document_unique}
-use Rattle.jsonb_c.specs.declared.Refused.{Refused}
-use Rattle.jsonb_c.specs.declared.Refused.TheVariants.{Text, OutOfMemory, UnknownMode}
-use Rattle.jsonb_c.specs.Interface.{IsAccepted, IsDocumentOf, IsReason, IsRefused, IsTextOf, NumberChooses}
+use Rattle.jsonb_c.specs.declared.Failure.{Failure}
+use Rattle.jsonb_c.specs.declared.Failure.TheVariants.{Text, OutOfMemory, UnknownMode}
+use Rattle.jsonb_c.specs.Interface.{IsAccepted, IsDocumentOf, IsReason, IsRejected, IsTextOf, NumberChooses}
 use Rattle.jsonb_c.proofs.Reasons.{denied}
 
 pub done : {T E : Type 0} (P : Type 0) (r : Result T E) → is_err r ≡ false → OnOk r P → P
@@ -41,8 +41,8 @@ document_accepted {mode = mode} number text t chosen document = record {
   };
 }
 
--- what is written of a text is a document, so it isn't refused
-pub form_reason : (number : ℕ) (text form : List ℕ) (reason : Refused) → IsTextOf number text form → IsReason number (IsRefused number form 1) reason → IsReason number (IsRefused number text 1) reason
+-- what is written of a text is a document, so it isn't rejected
+pub form_reason : (number : ℕ) (text form : List ℕ) (reason : Failure) → IsTextOf number text form → IsReason number (IsRejected number form 1) reason → IsReason number (IsRejected number text 1) reason
 form_reason number text form (Text refusal) t w =
     absurd (denied number form 1 refusal w.1 (document_accepted number form t.reads_back.tree t.read.chosen t.reads_back.document))
 form_reason number text form OutOfMemory t w = w

@@ -18,14 +18,14 @@ use Rattle.jsonb_spec.specs.Text.{text_of}
 use Rattle.jsonb_spec.specs.Tree.{Tree}
 use Rattle.jsonb_scan.specs.Reading.Document.{document_of}
 use Rattle.jsonb_scan.specs.Answer.{Fails}
-use Rattle.jsonb_spec.specs.Refusals.{Stands}
+use Rattle.jsonb_spec.specs.Errors.{Stands}
 use Rattle.jsonb_spec.specs.PartAt.{IsAt}
 use Rattle.jsonb_pointer.specs.Path.{IsPath}
 use Rattle.jsonb_c.specs.declared.Part.{Part}
 use Rattle.jsonb_c.specs.declared.Part.TheVariants as parts
 use Rattle.jsonb_c.specs.declared.Refusal.{Refusal}
-use Rattle.jsonb_c.specs.declared.Refused.{Refused}
-use Rattle.jsonb_c.specs.declared.Refused.TheVariants.{Text, OutOfMemory, UnknownMode}
+use Rattle.jsonb_c.specs.declared.Failure.{Failure}
+use Rattle.jsonb_c.specs.declared.Failure.TheVariants.{Text, OutOfMemory, UnknownMode}
 
 -- Which number chooses which mode.
 pub data NumberChooses (number : ℕ) : Mode → Type 0 where
@@ -56,7 +56,7 @@ code_number object_key_invalid_character = 19
 code_number number_not_carried = 20
 code_number depth_limit_exceeded = 21
 
--- what is told where no text is refused
+-- what is told where no text is rejected
 abbrev pub nothing : Refusal
 nothing = record { code = 0; which = 0; position = 0 }
 
@@ -82,7 +82,7 @@ pub record IsAccepted (number : ℕ) (text : List ℕ) : Type 0 where
 
 -- The number chooses a mode in which the text is no document. What is told is the fault that reading meets, and which
 -- of the texts it is.
-pub record IsRefused (number : ℕ) (text : List ℕ) (count : ℕ) (refusal : Refusal) : Type 0 where
+pub record IsRejected (number : ℕ) (text : List ℕ) (count : ℕ) (refusal : Refusal) : Type 0 where
   pub mode : Mode
   pub chosen : NumberChooses number mode
   pub no_document : IsNoDocument mode text
@@ -92,10 +92,10 @@ pub record IsRefused (number : ℕ) (text : List ℕ) (count : ℕ) (refusal : R
   pub exact : document_of mode text ≡ Err (record { code = code; place = refusal.position })
   pub explained : Stands mode text code refusal.position
 
--- One of two texts is refused, the first that is no document.
-pub data IsOneRefused (number : ℕ) (left right : List ℕ) (refusal : Refusal) : Type 0 where
-  first_refused : IsRefused number left 1 refusal → IsOneRefused number left right refusal
-  second_refused : IsAccepted number left → IsRefused number right 2 refusal → IsOneRefused number left right refusal
+-- One of two texts is rejected, the first that is no document.
+pub data IsOneRejected (number : ℕ) (left right : List ℕ) (refusal : Refusal) : Type 0 where
+  first_rejected : IsRejected number left 1 refusal → IsOneRejected number left right refusal
+  second_rejected : IsAccepted number left → IsRejected number right 2 refusal → IsOneRejected number left right refusal
 
 -- Bytes that are these stand at the front of the buffer, whose other bytes are as before.
 pub record Writes (Are : List ℕ → Type 0) (size : ℕ) (old new : List ℕ) : Type 0 where
@@ -197,27 +197,27 @@ IsPartAnswer number path text (parts.Text bytes) = IsPartOf number path text byt
 IsPartAnswer number path text parts.Nothing = HasNoPartAt number path text
 IsPartAnswer number path text parts.NoPath = IsAccepted number text × IsNoPath path
 
--- Why there is no answer: a text is refused, of which this is told; memory ran out; or the number chooses no mode.
-abbrev pub IsReason : ℕ → (Refusal → Type 0) → Refused → Type 0
+-- Why there is no answer: a text is rejected, of which this is told; memory ran out; or the number chooses no mode.
+abbrev pub IsReason : ℕ → (Refusal → Type 0) → Failure → Type 0
 IsReason number IsTold (Text refusal) = (number ≤ 1) × IsTold refusal
 IsReason number IsTold OutOfMemory = number ≤ 1
 IsReason number IsTold UnknownMode = 1 < number
 
 -- The reason says what the error of a reader does: the fault is told, of this one of the texts, or memory ran out.
-abbrev pub SaysError : ℕ → Error → Refused → Type 0
+abbrev pub SaysError : ℕ → Error → Failure → Type 0
 SaysError count error (Text refusal) = (code : ParseErrorCode) × (error ≡ errors.Syntax code refusal.position)
     × (refusal.code ≡ code_number (code_of code)) × (refusal.which ≡ count)
 SaysError count error OutOfMemory = error ≡ errors.OutOfMemory
 SaysError count error UnknownMode = ⊥
 
 -- the status of a reason
-abbrev pub status_of : Refused → ℕ
+abbrev pub status_of : Failure → ℕ
 status_of (Text refusal) = 1
 status_of OutOfMemory = 2
 status_of UnknownMode = 3
 
 -- what is told of a reason
-abbrev pub told : Refused → Refusal
+abbrev pub told : Failure → Refusal
 told (Text refusal) = refusal
 told OutOfMemory = nothing
 told UnknownMode = nothing

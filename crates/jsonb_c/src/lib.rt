@@ -15,11 +15,11 @@ ghost use Rattle.jsonb_spec.specs.Order.{bytes_cmp};
 ghost use Rattle.jsonb_spec.specs.Tree.{Tree};
 ghost use Rattle.jsonb_value.specs.View.{view};
 ghost use Rattle.jsonb_spec.specs.Line.{column_at, fault_index, line_at};
-ghost use Rattle.jsonb_scan.specs.Answer.{mode_of, Gives, MayAllocate, IsTextRefusal};
+ghost use Rattle.jsonb_scan.specs.Answer.{mode_of, Gives, MayAllocate, IsTextError};
 ghost use Rattle.jsonb_scan.specs.Reading.Document.{document_of};
 ghost use Rattle.jsonb.specs.Explained.{IsExplained};
 ghost use Rattle.jsonb_pointer.specs.Path.{IsPath, StartsKey};
-ghost use Rattle.jsonb_c.specs.Interface.{NumberChooses, code_number, nothing, sign, status_of, told, HasNoPartAt, HasPartAt, IsAccepted, IsNoDocumentOf, IsNoPath, IsOneRefused, IsOrdered, IsDocumentOf, IsKeyOf, IsMessageOf, IsPartAnswer, IsReason, IsRefused, IsTextOf, NeedsRoom, NeedsRoomForBoth, SaysError, IsPartOf, Writes};
+ghost use Rattle.jsonb_c.specs.Interface.{NumberChooses, code_number, nothing, sign, status_of, told, HasNoPartAt, HasPartAt, IsAccepted, IsNoDocumentOf, IsNoPath, IsOneRejected, IsOrdered, IsDocumentOf, IsKeyOf, IsMessageOf, IsPartAnswer, IsReason, IsRejected, IsTextOf, NeedsRoom, NeedsRoomForBoth, SaysError, IsPartOf, Writes};
 
 use jsonb::{
     Error, Mode, ParseErrorCode, Value, append_part, append_sort_key, append_text, check,
@@ -89,7 +89,7 @@ const NOTHING: Refusal = Refusal {
 
 // Why a call has no answer.
 #[derive(Clone, Copy)]
-enum Refused {
+enum Failure {
     Text(Refusal),
     OutOfMemory,
     UnknownMode,
@@ -113,7 +113,7 @@ pub extern "C" fn vizhoniku_check(
     ensures memory { result ≡ OUT_OF_MEMORY → MayAllocate text.now }
 
     // Which fault it is, and where.
-    ensures refused { result ≡ REFUSED → IsRefused mode text.now 1 refusal.new }
+    ensures rejected { result ≡ REFUSED → IsRejected mode text.now 1 refusal.new }
     ensures nothing { result ≢ REFUSED → refusal.new ≡ nothing }
 {
     match check_text(alloc, mode, text) {
@@ -121,7 +121,7 @@ pub extern "C" fn vizhoniku_check(
             *refusal = NOTHING;
             ACCEPTED
         }
-        Err(refused) => tell(refused, refusal),
+        Err(rejected) => tell(rejected, refusal),
     }
 }
 
@@ -151,7 +151,7 @@ pub extern "C" fn vizhoniku_text(
     ensures memory { result ≡ OUT_OF_MEMORY → MayAllocate text.now ⊎ IsAccepted mode text.now }
 
     // Which fault it is, and where.
-    ensures refused { result ≡ REFUSED → IsRefused mode text.now 1 refusal.new }
+    ensures rejected { result ≡ REFUSED → IsRejected mode text.now 1 refusal.new }
     ensures nothing { result ≢ REFUSED → refusal.new ≡ nothing }
 {
     match text_of(alloc, mode, text) {
@@ -160,9 +160,9 @@ pub extern "C" fn vizhoniku_text(
             *size = bytes.len();
             put(&bytes, out)
         }
-        Err(refused) => {
+        Err(rejected) => {
             *size = 0;
-            tell(refused, refusal)
+            tell(rejected, refusal)
         }
     }
 }
@@ -194,7 +194,7 @@ pub extern "C" fn vizhoniku_sort_key(
     ensures memory { result ≡ OUT_OF_MEMORY → MayAllocate text.now ⊎ IsAccepted mode text.now }
 
     // Which fault it is, and where.
-    ensures refused { result ≡ REFUSED → IsRefused mode text.now 1 refusal.new }
+    ensures rejected { result ≡ REFUSED → IsRejected mode text.now 1 refusal.new }
     ensures nothing { result ≢ REFUSED → refusal.new ≡ nothing }
 {
     match sort_key_of(alloc, mode, text, 1) {
@@ -203,9 +203,9 @@ pub extern "C" fn vizhoniku_sort_key(
             *size = bytes.len();
             put(&bytes, out)
         }
-        Err(refused) => {
+        Err(rejected) => {
             *size = 0;
-            tell(refused, refusal)
+            tell(rejected, refusal)
         }
     }
 }
@@ -240,7 +240,7 @@ pub extern "C" fn vizhoniku_text_and_key(
     ensures memory { result ≡ OUT_OF_MEMORY → MayAllocate text.now ⊎ IsAccepted mode text.now }
 
     // Which fault it is, and where.
-    ensures refused { result ≡ REFUSED → IsRefused mode text.now 1 refusal.new }
+    ensures rejected { result ≡ REFUSED → IsRejected mode text.now 1 refusal.new }
     ensures nothing { result ≢ REFUSED → refusal.new ≡ nothing }
 {
     match text_and_key_of(alloc, mode, text) {
@@ -250,10 +250,10 @@ pub extern "C" fn vizhoniku_text_and_key(
             *key_size = both.key.len();
             put_both(&both.text, &both.key, out, key_out)
         }
-        Err(refused) => {
+        Err(rejected) => {
             *size = 0;
             *key_size = 0;
-            tell(refused, refusal)
+            tell(rejected, refusal)
         }
     }
 }
@@ -286,8 +286,8 @@ pub extern "C" fn vizhoniku_compare(
     ensures memory { result ≡ OUT_OF_MEMORY → MayAllocate left.now
         ⊎ (IsAccepted mode left.now × MayAllocate right.now) }
 
-    // Which of the two it is that is refused, which fault, and where.
-    ensures refused { result ≡ REFUSED → IsOneRefused mode left.now right.now refusal.new }
+    // Which of the two it is that is rejected, which fault, and where.
+    ensures rejected { result ≡ REFUSED → IsOneRejected mode left.now right.now refusal.new }
     ensures nothing { result ≢ REFUSED → refusal.new ≡ nothing }
 {
     match order_of(alloc, mode, left, right) {
@@ -296,9 +296,9 @@ pub extern "C" fn vizhoniku_compare(
             *order = sign(is);
             ACCEPTED
         }
-        Err(refused) => {
+        Err(rejected) => {
             *order = 0;
-            tell(refused, refusal)
+            tell(rejected, refusal)
         }
     }
 }
@@ -338,7 +338,7 @@ pub extern "C" fn vizhoniku_part(
         ⊎ HasPartAt mode path.now text.now }
 
     // Which fault it is, and where.
-    ensures refused { result ≡ REFUSED → IsRefused mode text.now 1 refusal.new }
+    ensures rejected { result ≡ REFUSED → IsRejected mode text.now 1 refusal.new }
     ensures nothing { result ≢ REFUSED → refusal.new ≡ nothing }
 {
     match part_of(alloc, mode, path, text) {
@@ -357,9 +357,9 @@ pub extern "C" fn vizhoniku_part(
             *size = 0;
             NO_PATH
         }
-        Err(refused) => {
+        Err(rejected) => {
             *size = 0;
-            tell(refused, refusal)
+            tell(rejected, refusal)
         }
     }
 }
@@ -373,13 +373,13 @@ enum Part {
 }
 
 // What stands at the path in the value of a text.
-fn part_of(alloc: Global, mode: u32, path: &[u8], text: &[u8]) -> Result<Part, Refused>
+fn part_of(alloc: Global, mode: u32, path: &[u8], text: &[u8]) -> Result<Part, Failure>
     ensures part { IfOk result (IsPartAnswer mode path.now text.now) }
     ensures known { IfOk result (λ _. mode ≤ 1) }
-    ensures memory { result ≡ Err Refused.OutOfMemory → MayAllocate text.now
+    ensures memory { result ≡ Err Failure.OutOfMemory → MayAllocate text.now
         ⊎ (IsAccepted mode text.now × StartsKey path.now)
         ⊎ HasPartAt mode path.now text.now }
-    ensures reason { IfErr result (IsReason mode (IsRefused mode text.now 1)) }
+    ensures reason { IfErr result (IsReason mode (IsRejected mode text.now 1)) }
 {
     match read_keys(alloc, path) {
         Ok(Some(keys)) => part_at_keys(alloc, mode, &keys, text),
@@ -389,21 +389,21 @@ fn part_of(alloc: Global, mode: u32, path: &[u8], text: &[u8]) -> Result<Part, R
         }
         Err(_) => {
             check_text(alloc, mode, text)?;
-            Err(Refused::OutOfMemory)
+            Err(Failure::OutOfMemory)
         }
     }
 }
 
 // What stands at the path of these keys in the value of a text, of which no value is made.
-fn part_at_keys(alloc: Global, mode: u32, keys: &[String], text: &[u8]) -> Result<Part, Refused>
+fn part_at_keys(alloc: Global, mode: u32, keys: &[String], text: &[u8]) -> Result<Part, Failure>
     ensures part { IfOk result (λ part. (path : List ℕ) → IsPath path (map string_bytes keys.now)
         → IsPartAnswer mode path text.now part) }
     ensures known { IfOk result (λ _. mode ≤ 1) }
-    ensures memory { result ≡ Err Refused.OutOfMemory → MayAllocate text.now ⊎ IsAccepted mode text.now }
-    ensures reason { IfErr result (IsReason mode (IsRefused mode text.now 1)) }
+    ensures memory { result ≡ Err Failure.OutOfMemory → MayAllocate text.now ⊎ IsAccepted mode text.now }
+    ensures reason { IfErr result (IsReason mode (IsRejected mode text.now 1)) }
 {
     let Some(mode) = choose_mode(mode) else {
-        return Err(Refused::UnknownMode);
+        return Err(Failure::UnknownMode);
     };
     let mut bytes = Vec::new(alloc);
     match append_part(alloc, text, mode, keys, &mut bytes) {
@@ -424,7 +424,7 @@ pub extern "C" fn vizhoniku_version() -> u32
     VERSION
 }
 
-/// Returns the byte to show of a refusal of this text.
+/// Returns the byte to show of an error of this text.
 #[unsafe(no_mangle)]
 pub extern "C" fn vizhoniku_place(alloc: Global, text: &[u8], refusal: &Refusal, place: &mut Place)
     // The index is that of the code with the number, and where there is none the position, within the text.
@@ -517,22 +517,22 @@ pub extern "C" fn vizhoniku_message(
             *size = 0;
             ACCEPTED
         }
-        Err(refused) => {
+        Err(rejected) => {
             *size = 0;
-            status(refused)
+            status(rejected)
         }
     }
 }
 
 // What is wrong with a text in words, or `None` where it is a document.
-fn message_of(alloc: Global, mode: u32, text: &[u8]) -> Result<Option<String>, Refused>
+fn message_of(alloc: Global, mode: u32, text: &[u8]) -> Result<Option<String>, Failure>
     ensures message { IfOk result (λ answer. MatchOption answer (IsAccepted mode text.now)
         (λ message. IsMessageOf mode text.now (string_bytes message))) }
     ensures reason { IfErr result (IsReason mode (λ _. ⊥)) }
-    ensures memory { result ≡ Err Refused.OutOfMemory → MayAllocate text.now ⊎ IsNoDocumentOf mode text.now }
+    ensures memory { result ≡ Err Failure.OutOfMemory → MayAllocate text.now ⊎ IsNoDocumentOf mode text.now }
 {
     let Some(mode) = choose_mode(mode) else {
-        return Err(Refused::UnknownMode);
+        return Err(Failure::UnknownMode);
     };
     let error = match check(alloc, text, mode) {
         Ok(()) => return Ok(None),
@@ -540,7 +540,7 @@ fn message_of(alloc: Global, mode: u32, text: &[u8]) -> Result<Option<String>, R
     };
     match words_of(alloc, &error) {
         Some(message) => Ok(Some(message)),
-        None => Err(Refused::OutOfMemory),
+        None => Err(Failure::OutOfMemory),
     }
 }
 
@@ -556,31 +556,31 @@ fn words_of(alloc: Global, error: &Error) -> Option<String>
 }
 
 // The status of a reason.
-fn status(refused: Refused) -> u32
-    ensures { result ≡ status_of refused }
+fn status(rejected: Failure) -> u32
+    ensures { result ≡ status_of rejected }
 {
-    match refused {
-        Refused::Text(_) => REFUSED,
-        Refused::OutOfMemory => OUT_OF_MEMORY,
-        Refused::UnknownMode => UNKNOWN_MODE,
+    match rejected {
+        Failure::Text(_) => REFUSED,
+        Failure::OutOfMemory => OUT_OF_MEMORY,
+        Failure::UnknownMode => UNKNOWN_MODE,
     }
 }
 
 // Tells why a call has no answer, and gives the status of that.
-fn tell(refused: Refused, refusal: &mut Refusal) -> u32
-    ensures status { result ≡ status_of refused }
-    ensures told { refusal.new ≡ told refused }
+fn tell(rejected: Failure, refusal: &mut Refusal) -> u32
+    ensures status { result ≡ status_of rejected }
+    ensures told { refusal.new ≡ told rejected }
 {
-    match refused {
-        Refused::Text(told) => {
+    match rejected {
+        Failure::Text(told) => {
             *refusal = told;
             REFUSED
         }
-        Refused::OutOfMemory => {
+        Failure::OutOfMemory => {
             *refusal = NOTHING;
             OUT_OF_MEMORY
         }
-        Refused::UnknownMode => {
+        Failure::UnknownMode => {
             *refusal = NOTHING;
             UNKNOWN_MODE
         }
@@ -588,10 +588,10 @@ fn tell(refused: Refused, refusal: &mut Refusal) -> u32
 }
 
 // The order of the values of two texts. Where neither may take memory they are scalars, whose values are compared.
-fn order_of(alloc: Global, mode: u32, left: &[u8], right: &[u8]) -> Result<Ordering, Refused>
+fn order_of(alloc: Global, mode: u32, left: &[u8], right: &[u8]) -> Result<Ordering, Failure>
     ensures ordered { IfOk result (λ order. IsOrdered mode left.now right.now (sign order)) }
-    ensures reason { IfErr result (IsReason mode (IsOneRefused mode left.now right.now)) }
-    ensures memory { result ≡ Err Refused.OutOfMemory → MayAllocate left.now
+    ensures reason { IfErr result (IsReason mode (IsOneRejected mode left.now right.now)) }
+    ensures memory { result ≡ Err Failure.OutOfMemory → MayAllocate left.now
         ⊎ (IsAccepted mode left.now × MayAllocate right.now) }
 {
     if may_allocate(left) || may_allocate(right) {
@@ -606,10 +606,10 @@ fn order_of_scalars(
     mode: u32,
     left: &[u8],
     right: &[u8],
-) -> Result<Ordering, Refused>
+) -> Result<Ordering, Failure>
     ensures ordered { IfOk result (λ order. IsOrdered mode left.now right.now (sign order)) }
-    ensures reason { IfErr result (IsReason mode (IsOneRefused mode left.now right.now)) }
-    ensures memory { result ≡ Err Refused.OutOfMemory → MayAllocate left.now
+    ensures reason { IfErr result (IsReason mode (IsOneRejected mode left.now right.now)) }
+    ensures memory { result ≡ Err Failure.OutOfMemory → MayAllocate left.now
         ⊎ (IsAccepted mode left.now × MayAllocate right.now) }
 {
     let first = value_of(alloc, mode, left, 1)?;
@@ -618,11 +618,11 @@ fn order_of_scalars(
 }
 
 // The order of the values of two texts by the bytes of their sort keys.
-fn order_of_keys(alloc: Global, mode: u32, left: &[u8], right: &[u8]) -> Result<Ordering, Refused>
+fn order_of_keys(alloc: Global, mode: u32, left: &[u8], right: &[u8]) -> Result<Ordering, Failure>
     requires { MayAllocate left.now ⊎ MayAllocate right.now }
     ensures ordered { IfOk result (λ order. IsOrdered mode left.now right.now (sign order)) }
-    ensures reason { IfErr result (IsReason mode (IsOneRefused mode left.now right.now)) }
-    ensures memory { result ≡ Err Refused.OutOfMemory → MayAllocate left.now
+    ensures reason { IfErr result (IsReason mode (IsOneRejected mode left.now right.now)) }
+    ensures memory { result ≡ Err Failure.OutOfMemory → MayAllocate left.now
         ⊎ (IsAccepted mode left.now × MayAllocate right.now) }
 {
     let first = sort_key_of(alloc, mode, left, 1)?;
@@ -680,11 +680,11 @@ struct TextAndKey {
 
 // The text and the sort key of the value of a text. The key is made of the text that was written, which has no whitespace
 // and its members in order, so that this takes less time than another parse of the text.
-fn text_and_key_of(alloc: Global, mode: u32, text: &[u8]) -> Result<TextAndKey, Refused>
+fn text_and_key_of(alloc: Global, mode: u32, text: &[u8]) -> Result<TextAndKey, Failure>
     ensures text { IfOk result (λ both. IsTextOf mode text.now both.text.items) }
     ensures key { IfOk result (λ both. IsKeyOf mode text.now both.key.items) }
-    ensures reason { IfErr result (IsReason mode (IsRefused mode text.now 1)) }
-    ensures memory { result ≡ Err Refused.OutOfMemory → MayAllocate text.now ⊎ IsAccepted mode text.now }
+    ensures reason { IfErr result (IsReason mode (IsRejected mode text.now 1)) }
+    ensures memory { result ≡ Err Failure.OutOfMemory → MayAllocate text.now ⊎ IsAccepted mode text.now }
 {
     let bytes = text_of(alloc, mode, text)?;
     let key = sort_key_of(alloc, mode, &bytes, 1)?;
@@ -692,13 +692,13 @@ fn text_and_key_of(alloc: Global, mode: u32, text: &[u8]) -> Result<TextAndKey, 
 }
 
 // The text of the value of a text.
-fn text_of(alloc: Global, mode: u32, text: &[u8]) -> Result<Vec<u8>, Refused>
+fn text_of(alloc: Global, mode: u32, text: &[u8]) -> Result<Vec<u8>, Failure>
     ensures text { IfOk result (λ bytes. IsTextOf mode text.now bytes.items) }
-    ensures reason { IfErr result (IsReason mode (IsRefused mode text.now 1)) }
-    ensures memory { result ≡ Err Refused.OutOfMemory → MayAllocate text.now ⊎ IsAccepted mode text.now }
+    ensures reason { IfErr result (IsReason mode (IsRejected mode text.now 1)) }
+    ensures memory { result ≡ Err Failure.OutOfMemory → MayAllocate text.now ⊎ IsAccepted mode text.now }
 {
     let Some(mode) = choose_mode(mode) else {
-        return Err(Refused::UnknownMode);
+        return Err(Failure::UnknownMode);
     };
     let mut bytes = buffer_of(alloc, text.len());
     match append_text(alloc, text, mode, &mut bytes) {
@@ -708,13 +708,13 @@ fn text_of(alloc: Global, mode: u32, text: &[u8]) -> Result<Vec<u8>, Refused>
 }
 
 // The sort key of the value of a text, which is the first or the second of those that a call is given.
-fn sort_key_of(alloc: Global, mode: u32, text: &[u8], which: u32) -> Result<Vec<u8>, Refused>
+fn sort_key_of(alloc: Global, mode: u32, text: &[u8], which: u32) -> Result<Vec<u8>, Failure>
     ensures key { IfOk result (λ bytes. IsKeyOf mode text.now bytes.items) }
-    ensures reason { IfErr result (IsReason mode (IsRefused mode text.now which)) }
-    ensures memory { result ≡ Err Refused.OutOfMemory → MayAllocate text.now ⊎ IsAccepted mode text.now }
+    ensures reason { IfErr result (IsReason mode (IsRejected mode text.now which)) }
+    ensures memory { result ≡ Err Failure.OutOfMemory → MayAllocate text.now ⊎ IsAccepted mode text.now }
 {
     let Some(mode) = choose_mode(mode) else {
-        return Err(Refused::UnknownMode);
+        return Err(Failure::UnknownMode);
     };
     let mut bytes = buffer_of(alloc, text.len());
     match append_sort_key(alloc, text, mode, &mut bytes) {
@@ -724,13 +724,13 @@ fn sort_key_of(alloc: Global, mode: u32, text: &[u8], which: u32) -> Result<Vec<
 }
 
 // Checks whether a text is a document.
-fn check_text(alloc: Global, mode: u32, text: &[u8]) -> Result<(), Refused>
+fn check_text(alloc: Global, mode: u32, text: &[u8]) -> Result<(), Failure>
     ensures accepted { OnOk result (IsAccepted mode text.now) }
-    ensures reason { IfErr result (IsReason mode (IsRefused mode text.now 1)) }
-    ensures memory { result ≡ Err Refused.OutOfMemory → MayAllocate text.now }
+    ensures reason { IfErr result (IsReason mode (IsRejected mode text.now 1)) }
+    ensures memory { result ≡ Err Failure.OutOfMemory → MayAllocate text.now }
 {
     let Some(mode) = choose_mode(mode) else {
-        return Err(Refused::UnknownMode);
+        return Err(Failure::UnknownMode);
     };
     match check(alloc, text, mode) {
         Ok(()) => Ok(()),
@@ -764,13 +764,13 @@ impl Drop for Held<'_> {
 }
 
 // The value of a text, which is the first or the second of those that a call is given.
-fn value_of<'a>(alloc: Global, mode: u32, text: &'a [u8], which: u32) -> Result<Held<'a>, Refused>
+fn value_of<'a>(alloc: Global, mode: u32, text: &'a [u8], which: u32) -> Result<Held<'a>, Failure>
     ensures read { IfOk result (λ held. IsDocumentOf mode text.now (view held.value)) }
-    ensures reason { IfErr result (IsReason mode (IsRefused mode text.now which)) }
-    ensures memory { result ≡ Err Refused.OutOfMemory → MayAllocate text.now }
+    ensures reason { IfErr result (IsReason mode (IsRejected mode text.now which)) }
+    ensures memory { result ≡ Err Failure.OutOfMemory → MayAllocate text.now }
 {
     let Some(mode) = choose_mode(mode) else {
-        return Err(Refused::UnknownMode);
+        return Err(Failure::UnknownMode);
     };
     match read(alloc, mode, text) {
         Ok(value) => Ok(Held { value }),
@@ -793,10 +793,10 @@ fn choose_mode(number: u32) -> Option<Mode>
 fn read<'a>(alloc: Global, mode: Mode, text: &'a [u8]) -> jsonb::Result<Value<'a>>
     ensures document { IfOk result (λ v. IsDocument (mode_of mode) text.now (view v)) }
     ensures only { IfOk result (λ v. (t : Tree) → IsDocument (mode_of mode) text.now t → t ≡ view v) }
-    ensures refused { IfErr result (λ e. e ≢ Error.OutOfMemory
+    ensures rejected { IfErr result (λ e. e ≢ Error.OutOfMemory
         → IsNoDocument (mode_of mode) text.now) }
     ensures memory { result ≡ Err Error.OutOfMemory → MayAllocate text.now }
-    ensures errors { IfErr result IsTextRefusal }
+    ensures errors { IfErr result IsTextError }
     ensures exact { Gives view result (document_of (mode_of mode) text.now) }
     ensures explained { IfErr result (IsExplained (mode_of mode) text.now) }
 {
@@ -807,17 +807,17 @@ fn read<'a>(alloc: Global, mode: Mode, text: &'a [u8]) -> jsonb::Result<Value<'a
 }
 
 // What is told of an error of a reader.
-fn reason_of(error: &Error, which: u32) -> Refused
-    requires { IsTextRefusal error.now }
+fn reason_of(error: &Error, which: u32) -> Failure
+    requires { IsTextError error.now }
     ensures { SaysError which error.now result }
 {
     match error {
-        Error::Syntax(code, position) => Refused::Text(Refusal {
+        Error::Syntax(code, position) => Failure::Text(Refusal {
             code: code_number(code),
             which,
             position: *position,
         }),
-        _ => Refused::OutOfMemory,
+        _ => Failure::OutOfMemory,
     }
 }
 

@@ -43,7 +43,7 @@ pub fn choose_mode(words: &[String]) -> Option<Mode>
 pub fn convert(alloc: Global, mode: Mode, input: &[u8], out: &mut Vec<u8>) -> Result<()>
     ensures ok { OnOk result ((line : List ℕ) × IsLineOf (mode_of mode) input.now line
         × (out.new.items ≡ out.old.items ++ line)) }
-    ensures refused { IfErr result (λ e. e ≢ Error.OutOfMemory → IsNoDocument (mode_of mode) input.now) }
+    ensures rejected { IfErr result (λ e. e ≢ Error.OutOfMemory → IsNoDocument (mode_of mode) input.now) }
     ensures memory { result ≡ Err Error.OutOfMemory → MayAllocate input.now
         ⊎ LacksRoom (mode_of mode) input.now (vec_capacity out.old) (vec_len out.old) }
     ensures err { OnErr result (out.new.items ≡ out.old.items) }

@@ -40,7 +40,7 @@ impl<'a> Document<'a> {
     ghost use Rattle.jsonb_spec.specs.Text.Range.{IsInRangeOf};
     ghost use Rattle.jsonb_spec.specs.Tree.{Tree};
     ghost use Rattle.jsonb_value.specs.View.{view};
-    ghost use Rattle.jsonb_scan.specs.Answer.{mode_of, Gives, IsTextRefusal, MayAllocate};
+    ghost use Rattle.jsonb_scan.specs.Answer.{mode_of, Gives, IsTextError, MayAllocate};
     ghost use Rattle.jsonb_scan.specs.Reading.Document.{document_of};
     ghost use Rattle.jsonb.specs.AstView.{IsContainer};
     ghost use Rattle.jsonb.specs.Explained.{IsExplained};
@@ -64,12 +64,12 @@ impl<'a> Document<'a> {
         ensures document { IfOk result (λ d. IsDocument (mode_of mode) buf.now (document_view d)) }
         ensures only { IfOk result (λ d. (t : Tree) → IsDocument (mode_of mode) buf.now t → t ≡ document_view d) }
 
-        // What is refused is no document, unless memory ran out.
-        ensures refused { IfErr result (λ e. e ≢ Error.OutOfMemory → IsNoDocument (mode_of mode) buf.now) }
+        // What is rejected is no document, unless memory ran out.
+        ensures rejected { IfErr result (λ e. e ≢ Error.OutOfMemory → IsNoDocument (mode_of mode) buf.now) }
         ensures memory { result ≡ Err Error.OutOfMemory → MayAllocate buf.now }
 
-        // Nothing but these two refuses.
-        ensures errors { IfErr result IsTextRefusal }
+        // No other error is returned.
+        ensures errors { IfErr result IsTextError }
 
         // Which fault it is, and where.
         ensures exact { Gives document_view result (document_of (mode_of mode) buf.now) }

@@ -63,7 +63,7 @@ fn of_key(alloc: Global, text: &str) -> Result<String, AllocError> {
             let difference = if agrees { "" } else { " differs" };
             format!(in alloc; "ok {key}{difference}")
         }
-        Err(e) => refused(alloc, &e),
+        Err(e) => rejected(alloc, &e),
     }
 }
 
@@ -99,12 +99,12 @@ fn of_body(alloc: Global, body: &str) -> Result<String, AllocError> {
             let text = hex::encode(alloc, text.as_bytes())?;
             format!(in alloc; "ok {text}")?
         }
-        Err(e) => refused(alloc, &e)?,
+        Err(e) => rejected(alloc, &e)?,
     };
     format!(in alloc; "{answer} {idx}")
 }
 
-fn refused(alloc: Global, e: &Error) -> Result<String, AllocError> {
+fn rejected(alloc: Global, e: &Error) -> Result<String, AllocError> {
     let printed = format!(in alloc; "{e}")?;
     let printed = hex::encode(alloc, printed.as_bytes())?;
     format!(in alloc; "no {printed}")
@@ -117,7 +117,7 @@ fn one_text(alloc: Global, mode: Mode, text: &str) -> Result<String, AllocError>
     match described(alloc, mode, &text) {
         Ok(answer) => Ok(answer),
         Err(e) => {
-            let answer = refused(alloc, &e)?;
+            let answer = rejected(alloc, &e)?;
             let difference = if straight::rejects(alloc, mode, &text, &e)? {
                 ""
             } else {

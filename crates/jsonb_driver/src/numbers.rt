@@ -79,7 +79,7 @@ fn put_cast(out: &mut String, cast: Option<i128>) -> Result<(), AllocError> {
     }
 }
 
-// A number as in a tree, or what is printed of the refusal in hexadecimal.
+// A number as in a tree, or what is printed of the error in hexadecimal.
 fn put_result(
     alloc: Global,
     out: &mut String,

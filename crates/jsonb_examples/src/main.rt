@@ -33,8 +33,8 @@ fn show_reading(rt: &impl Print, alloc: Global) -> Result<()> {
     ] {
         match reading::read(alloc, mode, text.as_bytes()) {
             Ok(value) => show(rt, alloc, &value)?,
-            Err(refusal) => {
-                let described = reading::describe_error(alloc, &refusal)?;
+            Err(error) => {
+                let described = reading::describe_error(alloc, &error)?;
                 println!(rt; "{described}")?;
             }
         }

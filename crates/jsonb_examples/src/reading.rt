@@ -14,7 +14,7 @@ use std::alloc::Global;
 pub fn read(alloc: Global, mode: Mode, text: &[u8]) -> Result<Value<'_>>
     ensures document { IfOk result (λ v. IsDocument (mode_of mode) text.now (view v)) }
     ensures only { IfOk result (λ v. (t : Tree) → IsDocument (mode_of mode) text.now t → t ≡ view v) }
-    ensures refused { IfErr result (λ e. e ≢ Error.OutOfMemory → IsNoDocument (mode_of mode) text.now) }
+    ensures rejected { IfErr result (λ e. e ≢ Error.OutOfMemory → IsNoDocument (mode_of mode) text.now) }
 {
     match mode {
         Mode::Standard => jsonb::parse_value_standard_mode(alloc, text),

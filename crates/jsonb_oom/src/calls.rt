@@ -1,11 +1,11 @@
 //! The calls on a text. A line of the input is a letter, `s` for standard or `e` for extended mode, a blank, and the
 //! text in hexadecimal. Each call has a line of its own: its name, a blank, and the text of its answer or what is
-//! printed of the refusal.
+//! printed of the error.
 
 use jsonb::{Error, JsonAst, Mode, Result, Value};
 use jsonb_document::Document;
 use jsonb_key::{KeyError, value_of_sort_key};
-use jsonb_pointer::Refusal;
+use jsonb_pointer::PathError;
 use jsonb_pretty::write_text_indented;
 use std::alloc::Global;
 use std::borrow::CowStr;
@@ -200,7 +200,7 @@ fn part(alloc: Global, mode: Mode, text: &[u8], path: &[u8]) -> Result<Vec<u8>> 
     match jsonb_pointer::get(alloc, &value, path) {
         Ok(Some(part)) => written(alloc, part),
         Ok(None) => Ok(Vec::from_slice(alloc, b"no part")?),
-        Err(Refusal::NoMemory) => Err(Error::OutOfMemory),
+        Err(PathError::NoMemory) => Err(Error::OutOfMemory),
         Err(_) => Ok(Vec::from_slice(alloc, b"no path")?),
     }
 }

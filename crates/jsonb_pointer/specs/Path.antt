@@ -12,8 +12,8 @@ use Rattle.jsonb_spec.specs.Text.ReadsBack.{ReadsBackAs}
 use Rattle.jsonb_spec.specs.Text.{text_of}
 use Rattle.jsonb_value.specs.declared.error.Error.TheVariants.{OutOfMemory}
 use Rattle.jsonb_spec.specs.PartAt.{IsAt}
-use Rattle.jsonb_pointer.specs.declared.part.Refusal.{Refusal}
-use Rattle.jsonb_pointer.specs.declared.part.Refusal.TheVariants.{NoPath, NoDocument, NoMemory}
+use Rattle.jsonb_pointer.specs.declared.part.PathError.{PathError}
+use Rattle.jsonb_pointer.specs.declared.part.PathError.TheVariants.{NoPath, NoDocument, NoMemory}
 
 -- how a byte of a key is spelled: `~0` is `~`, and `~1` is `/`
 abbrev pub spelled_byte : ℕ → List ℕ
@@ -51,10 +51,10 @@ pub record HasNoPartAt (path : List ℕ) (t : Tree) : Type 0 where
   pub none : (part : Tree) → IsAt t keys part → ⊥
 
 -- The path is none, or memory ran out for a key.
-abbrev pub IsGetRefusal : List ℕ → Refusal → Type 0
-IsGetRefusal path NoPath = (keys : List (List ℕ)) → IsPath path keys → ⊥
-IsGetRefusal path (NoDocument error) = ⊥
-IsGetRefusal path NoMemory = StartsKey path
+abbrev pub IsGetError : List ℕ → PathError → Type 0
+IsGetError path NoPath = (keys : List (List ℕ)) → IsPath path keys → ⊥
+IsGetError path (NoDocument error) = ⊥
+IsGetError path NoMemory = StartsKey path
 
 -- The bytes are the text of the document's part at the path, and they read back as a document of the same part with
 -- this text.
@@ -78,15 +78,15 @@ pub record HasNoPart (path document : List ℕ) : Type 0 where
 
 -- The path is none, the document is none, or memory ran out: for a key, for the document, or for the text of a part. A
 -- document's fault is as reading tells it.
-abbrev pub IsPathRefusal : List ℕ → List ℕ → Refusal → Type 0
-IsPathRefusal path document NoPath = (keys : List (List ℕ)) → IsPath path keys → ⊥
-IsPathRefusal path document (NoDocument error) = (error ≢ OutOfMemory) × IsNoDocument extended document
+abbrev pub IsPathError : List ℕ → List ℕ → PathError → Type 0
+IsPathError path document NoPath = (keys : List (List ℕ)) → IsPath path keys → ⊥
+IsPathError path document (NoDocument error) = (error ≢ OutOfMemory) × IsNoDocument extended document
     × Fails error (document_of extended document)
-IsPathRefusal path document NoMemory = StartsKey path ⊎ MayAllocate document
+IsPathError path document NoMemory = StartsKey path ⊎ MayAllocate document
     ⊎ ((tree : Tree) × IsDocument extended document tree)
 
--- what is printed of a refusal
-abbrev pub refusal_text : Refusal → List ℕ
-refusal_text NoPath = codes "not a JSON Pointer (RFC 6901)"
-refusal_text (NoDocument error) = error_text error
-refusal_text NoMemory = codes "out of memory"
+-- what is printed of an error
+abbrev pub path_error_text : PathError → List ℕ
+path_error_text NoPath = codes "not a JSON Pointer (RFC 6901)"
+path_error_text (NoDocument error) = error_text error
+path_error_text NoMemory = codes "out of memory"

@@ -7,4 +7,4 @@ pub mod part;
 pub use jsonb::part_at;
 pub use jsonb_write::part::index_of;
 pub use keys::read_keys;
-pub use part::{Refusal, get, part_text};
+pub use part::{PathError, get, part_text};

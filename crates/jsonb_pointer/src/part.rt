@@ -3,7 +3,7 @@
 ghost use Rattle.std.specs.Prelude.{◌≡◌, IfOk, IfErr, IfSome, IfNone, MatchOption};
 ghost use Rattle.jsonb_spec.specs.Tree.{Tree};
 ghost use Rattle.jsonb_value.specs.View.{view};
-ghost use Rattle.jsonb_pointer.specs.Path.{IsPartAt, HasNoPartAt, IsGetRefusal, IsPartText, HasNoPart, IsPathRefusal};
+ghost use Rattle.jsonb_pointer.specs.Path.{IsPartAt, HasNoPartAt, IsGetError, IsPartText, HasNoPart, IsPathError};
 
 use crate::keys::read_keys;
 use jsonb::{Error, Mode, Value, part_at};
@@ -12,7 +12,7 @@ use std::fmt;
 
 /// Why a path and a document have no result.
 #[derive(Debug, Drop)]
-pub enum Refusal {
+pub enum PathError {
     /// The path isn't a JSON Pointer.
     NoPath,
     /// The document is rejected, with the error of the parser, which is never `OutOfMemory`.
@@ -21,29 +21,29 @@ pub enum Refusal {
     NoMemory,
 }
 
-impl fmt::Display for Refusal {
+impl fmt::Display for PathError {
     ghost use Rattle.std.specs.Prelude.{Some};
-    ghost use Rattle.jsonb_pointer.specs.Path.{refusal_text};
+    ghost use Rattle.jsonb_pointer.specs.Path.{path_error_text};
 
-    ghost output = { λ refusal. Some (refusal_text refusal) };
+    ghost output = { λ error. Some (path_error_text error) };
 
     fn fmt<W: fmt::Write>(&self, f: &mut fmt::Formatter<W>) -> fmt::Result {
         match self {
-            Refusal::NoPath => write!(f, "not a JSON Pointer (RFC 6901)"),
-            Refusal::NoDocument(error) => write!(f, "{error}"),
-            Refusal::NoMemory => write!(f, "out of memory"),
+            PathError::NoPath => write!(f, "not a JSON Pointer (RFC 6901)"),
+            PathError::NoDocument(error) => write!(f, "{error}"),
+            PathError::NoMemory => write!(f, "out of memory"),
         }
     }
 }
 
-impl From<AllocError> for Refusal {
+impl From<AllocError> for PathError {
     ghost use Rattle.std.specs.Prelude.{◌≡◌};
-    ghost use Rattle.jsonb_pointer.specs.declared.part.Refusal.TheVariants.{NoMemory};
+    ghost use Rattle.jsonb_pointer.specs.declared.part.PathError.TheVariants.{NoMemory};
 
     ghost from_gives = { λ _ e. e ≡ NoMemory };
 
-    fn from(_: AllocError) -> Refusal {
-        Refusal::NoMemory
+    fn from(_: AllocError) -> PathError {
+        PathError::NoMemory
     }
 }
 
@@ -57,17 +57,17 @@ pub fn get<'v, 'a>(
     alloc: Global,
     value: &'v Value<'a>,
     path: &[u8],
-) -> Result<Option<&'v Value<'a>>, Refusal>
+) -> Result<Option<&'v Value<'a>>, PathError>
     ensures some { IfOk result (λ answer. IfSome answer
         (λ part. IsPartAt path.now (view value.now) (view part.now))) }
     ensures only { IfOk result (λ answer. IfSome answer (λ part. (t : Tree) → IsPartAt path.now (view value.now) t
         → t ≡ view part.now)) }
     ensures none { IfOk result (λ answer. IfNone answer (HasNoPartAt path.now (view value.now))) }
-    ensures refused { IfErr result (IsGetRefusal path.now) }
+    ensures rejected { IfErr result (IsGetError path.now) }
 {
     match read_keys(alloc, path)? {
         Some(keys) => Ok(part_at(value, &keys)),
-        None => Err(Refusal::NoPath),
+        None => Err(PathError::NoPath),
     }
 }
 
@@ -76,20 +76,20 @@ pub fn get<'v, 'a>(
 /// # Errors
 ///
 /// `NoPath` and `NoDocument` where one of the two isn't what it should be, and `NoMemory`.
-pub fn part_text(alloc: Global, path: &[u8], document: &[u8]) -> Result<Option<Vec<u8>>, Refusal>
+pub fn part_text(alloc: Global, path: &[u8], document: &[u8]) -> Result<Option<Vec<u8>>, PathError>
     ensures ok { IfOk result (λ answer. MatchOption answer (HasNoPart path.now document.now)
         (λ text. IsPartText path.now document.now text.items)) }
-    ensures refused { IfErr result (IsPathRefusal path.now document.now) }
+    ensures rejected { IfErr result (IsPathError path.now document.now) }
 {
     let Some(keys) = read_keys(alloc, path)? else {
-        return Err(Refusal::NoPath);
+        return Err(PathError::NoPath);
     };
     let mut text = Vec::new(alloc);
     match jsonb::append_part(alloc, document, Mode::Extended, &keys, &mut text) {
         Ok(true) => Ok(Some(text)),
         Ok(false) => Ok(None),
-        Err(Error::OutOfMemory) => Err(Refusal::NoMemory),
-        Err(error) => Err(Refusal::NoDocument(error)),
+        Err(Error::OutOfMemory) => Err(PathError::NoMemory),
+        Err(error) => Err(PathError::NoDocument(error)),
     }
 }
 

@@ -60,13 +60,13 @@ pub fn write_text_indented(value: &Value<'_>, indent: usize, buf: &mut Vec<u8>) 
         return Ok(());
     }
     buf.truncate(old_len);
-    Err(refusal(value))
+    Err(text_error(value))
 }
 
 // The error of a value that was not appended. Only here is the value walked once more.
 #[cold]
 #[inline(never)]
-fn refusal(value: &Value<'_>) -> Error
+fn text_error(value: &Value<'_>) -> Error
     ensures unexpected { (result ≡ Error.UnexpectedType) ↔ (text_of (view value.now) ≡ None) }
     ensures errors { (result ≡ Error.UnexpectedType) ⊎ (result ≡ Error.OutOfMemory) }
 {

@@ -31,10 +31,10 @@ Gives view (Ok x) read = read ≡ Ok (view x)
 Gives view (Err e) read = Fails e read
 
 -- a fault of the text, or want of memory
-abbrev pub IsTextRefusal : Error → Type 0
-IsTextRefusal (Syntax code place) = Unit {0}
-IsTextRefusal OutOfMemory = Unit {0}
-IsTextRefusal other = ⊥
+abbrev pub IsTextError : Error → Type 0
+IsTextError (Syntax code place) = Unit {0}
+IsTextError OutOfMemory = Unit {0}
+IsTextError other = ⊥
 
 -- The input holds a bracket or a brace that opens, or a backslash: a reader that asks for memory has met one.
 abbrev pub MayAllocate : List ℕ → Type 0

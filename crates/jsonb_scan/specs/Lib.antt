@@ -6,4 +6,4 @@ pub mod Reading
 pub mod ScannedNumber
 pub mod ShortInteger
 pub mod Spelled
-pub mod StringRefusal
+pub mod StringError

@@ -13,7 +13,7 @@ pub mod Accessors
 pub mod Owned
 pub mod Source
 pub mod Placed
-pub mod Refusals
+pub mod Errors
 pub mod Line
 pub mod PartAt
 pub mod Containment

@@ -4,7 +4,7 @@ ghost use Rattle.std.specs.Prelude.{◌≡◌, ◌<◌, ◌≤◌, ◌^◌, ◌+
 ghost use Rattle.std.specs.Str.{bytes_eq};
 ghost use Rattle.jsonb_key.specs.Readable.{IsReadable, IsAnyNumber};
 ghost use Rattle.jsonb_spec.specs.PartAt.{IsIndex, IsChild, IsAt};
-ghost use Rattle.jsonb_pointer.specs.Path.{IsPartAt, HasNoPartAt, IsGetRefusal};
+ghost use Rattle.jsonb_pointer.specs.Path.{IsPartAt, HasNoPartAt, IsGetError};
 ghost use Rattle.jsonb_stored.specs.Open.{Open, is_object, open_key, IsOpen, end_key};
 ghost use Rattle.jsonb_stored.specs.Parts.{opened_tree, ChildAt, StandsAt, IsKeyAt, IsKeyOfPart};
 ghost use Rattle.jsonb_spec.specs.Proper.{AreProper, HaveProperParts};
@@ -15,7 +15,7 @@ ghost use Rattle.jsonb_spec.specs.Tree.{Tree, array, object, Trees, Members};
 use crate::skip::{after_end, after_key, after_text, opening};
 use crate::walk::front;
 use jsonb_key::text::{read_byte, skip_pair};
-use jsonb_pointer::{Refusal, index_of, read_keys};
+use jsonb_pointer::{PathError, index_of, read_keys};
 use std::alloc::Global;
 
 /// The key of the part at the path (RFC 6901), which stands within the key, or `None` where there is none. Only the
@@ -28,14 +28,14 @@ pub fn part_of_key<'k>(
     alloc: Global,
     key: &'k [u8],
     path: &[u8],
-) -> Result<Option<&'k [u8]>, Refusal>
+) -> Result<Option<&'k [u8]>, PathError>
     ensures found { IfOk result (λ answer. (t : Tree) → IsReadable t → key.now ≡ key_of t
         → MatchOption answer (HasNoPartAt path.now t) (λ part. IsKeyOfPart path.now t part.now)) }
-    ensures refused { IfErr result (IsGetRefusal path.now) }
+    ensures rejected { IfErr result (IsGetError path.now) }
 {
     match read_keys(alloc, path)? {
         Some(names) => Ok(part_at(key, &names)),
-        None => Err(Refusal::NoPath),
+        None => Err(PathError::NoPath),
     }
 }
 

@@ -28,7 +28,7 @@ fn text_of(alloc: Global, mode: Mode, input: &[u8]) -> Result<Vec<u8>, Error> {
     written(alloc, &value)
 }
 
-// The text of the document's value, or that of the refusal.
+// The text of the document's value, or that of the error.
 fn answer(alloc: Global, mode: Mode, input: &[u8]) -> Result<String, Fail> {
     match text_of(alloc, mode, input) {
         Ok(text) => Ok(String::from_utf8(text)?),
@@ -101,8 +101,8 @@ fn nested_arrays(rt: HostRuntime) -> Result<(), Fail> {
     assert_eq!(rt; deepest.len(), 1024);
     for mode in [Mode::Standard, Mode::Extended] {
         assert!(rt; text_of(alloc, mode, &deepest)? == deepest);
-        let refused = answer(alloc, mode, &too_deep)?;
-        assert_eq!(rt; refused.as_str(), "depth limit exceeded, pos 513");
+        let rejected = answer(alloc, mode, &too_deep)?;
+        assert_eq!(rt; rejected.as_str(), "depth limit exceeded, pos 513");
     }
     Ok(())
 }

@@ -198,8 +198,8 @@ fn clones_are_equal(rt: HostRuntime) -> Result<(), Fail> {
     assert_eq!(rt; wide.clone()?, wide);
 
     let key = ParseErrorCode::ObjectDuplicateKey(String::from_str(alloc, "a")?);
-    let refusal = Error::Syntax(key, 16);
-    assert_eq!(rt; refusal.clone()?, refusal);
+    let error = Error::Syntax(key, 16);
+    assert_eq!(rt; error.clone()?, error);
     Ok(())
 }
 

@@ -49,8 +49,8 @@ fn main(rt: HostRuntime) -> ExitCode {
             let _ = writeln!(rt.stderr(), "the document has nothing at this path");
             ExitCode::FAILURE
         }
-        Err(refusal) => {
-            let _ = writeln!(rt.stderr(), "{refusal}");
+        Err(error) => {
+            let _ = writeln!(rt.stderr(), "{error}");
             ExitCode::FAILURE
         }
     }

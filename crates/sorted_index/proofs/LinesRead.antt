@@ -10,9 +10,9 @@ use Rattle.jsonb_value.specs.declared.error.Error.{Error}
 use Rattle.jsonb_value.specs.declared.error.Error.TheVariants.{OutOfMemory}
 use Rattle.jsonb_value.specs.declared.value.Value.{Value}
 use Rattle.sorted_index.proofs.Sorting.{some_given}
-use Rattle.sorted_index.specs.Index.{contents, AreDocuments, IsIndexOf, no_documents, more_documents, BeginsWithDocument, IsFirstFault, IsLineRefusal}
-use Rattle.sorted_index.specs.declared.index.Refusal.{Refusal}
-use Rattle.sorted_index.specs.declared.index.Refusal.TheVariants.{NoMemory}
+use Rattle.sorted_index.specs.Index.{contents, AreDocuments, IsIndexOf, no_documents, more_documents, BeginsWithDocument, IsFirstFault, IsLineError}
+use Rattle.sorted_index.specs.declared.index.LineError.{LineError}
+use Rattle.sorted_index.specs.declared.index.LineError.TheVariants.{NoMemory}
 
 documents_push : {lines : List (List ℕ)} {values : List Value} (line : List ℕ) (v : Value) → AreDocuments lines values → IsDocument extended line (view v) → AreDocuments (lines ++ line ∷ []) (values ++ v ∷ [])
 documents_push line v no_documents document = more_documents document no_documents
@@ -49,11 +49,11 @@ pub first_read : (lines : List (Vec ℕ Global)) (i : ℕ) (line : Vec ℕ Globa
 first_read lines i line values v within is so_far document =
     first_taken lines (i + 1) (first_document (next_document lines i line values v within is so_far document) (some_pushed values v))
 
--- the first line that is refused
+-- the first line that is rejected
 pub first_fault : (lines : List (Vec ℕ Global)) (i : ℕ) (line : Vec ℕ Global) (values : List Value) (e : Error) → i < length lines → line ≡ get_or lines i line
     → AreDocuments (contents (take i lines)) values → (e ≢ OutOfMemory → IsNoDocument extended line.items) → (e ≡ OutOfMemory → MayAllocate line.items) → Fails e (document_of extended line.items)
     → IsFirstFault (contents lines) (i + 1) e
-first_fault lines i line values e within is so_far refused memory fault =
+first_fault lines i line values e within is so_far rejected memory fault =
     let rest : drop i lines ≡ line ∷ drop (i + 1) lines = rw add-one (drop-cons lines i line within) ∙ ap (λ x. x ∷ drop (i + 1) lines) (sym is) in
     let whole : lines ≡ take i lines ++ line ∷ drop (i + 1) lines = sym (take-append-drop i lines) ∙ ap (λ ls. take i lines ++ ls) rest in
     let count : length (contents (take i lines)) ≡ i = length-map (take i lines) _ ∙ length-take-le i lines (omega arith) in
@@ -65,12 +65,12 @@ first_fault lines i line values e within is so_far refused memory fault =
       counted = omega (arith, count);
       given = values;
       documents = so_far;
-      no_document = refused;
+      no_document = rejected;
       memory = memory;
       fault = fault;
     }
 
 -- where memory ran out for the index of values that were read
-pub ran_out : {T : Type 0} (lines : List (List ℕ)) (values index : List Value) (r : Result T Refusal) → AreDocuments lines values → IsIndexOf values index → IfErr r (λ e. e ≡ NoMemory) → OnErr r (index ≢ []) → IfErr r (IsLineRefusal lines)
+pub ran_out : {T : Type 0} (lines : List (List ℕ)) (values index : List Value) (r : Result T LineError) → AreDocuments lines values → IsIndexOf values index → IfErr r (λ e. e ≡ NoMemory) → OnErr r (index ≢ []) → IfErr r (IsLineError lines)
 ran_out lines values index (Ok x) read is none some = tt
-ran_out lines values index (Err e) read is none some = subst (IsLineRefusal lines) (sym none) (first_document read (some_given values index is some))
+ran_out lines values index (Err e) read is none some = subst (IsLineError lines) (sym none) (first_document read (some_given values index is some))

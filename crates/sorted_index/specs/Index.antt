@@ -19,8 +19,8 @@ use Rattle.jsonb_spec.specs.Text.{text_of}
 use Rattle.jsonb_value.specs.declared.error.Error.{Error}
 use Rattle.jsonb_value.specs.declared.error.Error.TheVariants.{OutOfMemory}
 use Rattle.jsonb_value.specs.declared.value.Value.{Value}
-use Rattle.sorted_index.specs.declared.index.Refusal.{Refusal}
-use Rattle.sorted_index.specs.declared.index.Refusal.TheVariants.{Line, NoMemory}
+use Rattle.sorted_index.specs.declared.index.LineError.{LineError}
+use Rattle.sorted_index.specs.declared.index.LineError.TheVariants.{Line, NoMemory}
 
 -- the bytes of each line
 abbrev pub contents : List (Vec ℕ Global) → List (List ℕ)
@@ -76,12 +76,12 @@ abbrev pub BeginsWithDocument : List (List ℕ) → Type 0
 BeginsWithDocument [] = ⊥
 BeginsWithDocument (line ∷ others) = (tree : Tree) × IsDocument extended line tree
 
--- A line is refused, or memory ran out, which is asked for once there is a value to keep.
-abbrev pub IsLineRefusal : List (List ℕ) → Refusal → Type 0
-IsLineRefusal lines (Line number error) = IsFirstFault lines number error
-IsLineRefusal lines NoMemory = BeginsWithDocument lines
+-- A line is rejected, or memory ran out, which is asked for once there is a value to keep.
+abbrev pub IsLineError : List (List ℕ) → LineError → Type 0
+IsLineError lines (Line number error) = IsFirstFault lines number error
+IsLineError lines NoMemory = BeginsWithDocument lines
 
--- what is printed of a refusal
-abbrev pub refusal_text : Refusal → List ℕ
-refusal_text (Line number error) = codes "line " ++ decimal number ++ codes ": " ++ error_text error
-refusal_text NoMemory = codes "out of memory"
+-- what is printed of an error
+abbrev pub line_error_text : LineError → List ℕ
+line_error_text (Line number error) = codes "line " ++ decimal number ++ codes ": " ++ error_text error
+line_error_text NoMemory = codes "out of memory"

@@ -4,7 +4,7 @@
 
 pub mod index;
 
-use index::Refusal;
+use index::LineError;
 use std::alloc::Global;
 use std::io::{BufRead, BufReader, Read, Write};
 use std::process::ExitCode;
@@ -59,13 +59,13 @@ fn main(rt: HostRuntime) -> ExitCode {
             Ok(()) => ExitCode::SUCCESS,
             Err(_) => ExitCode::FAILURE,
         },
-        Err(Refusal::Line(index, error)) => {
+        Err(LineError::Line(index, error)) => {
             let number = lines.numbers.get(index.saturating_sub(1)).unwrap_or(&index);
             let _ = writeln!(rt.stderr(), "line {number}: {error}");
             ExitCode::FAILURE
         }
-        Err(refusal) => {
-            let _ = writeln!(rt.stderr(), "{refusal}");
+        Err(error) => {
+            let _ = writeln!(rt.stderr(), "{error}");
             ExitCode::FAILURE
         }
     }

@@ -36,7 +36,7 @@ pub fn write_text_of_key(key: &[u8], buf: &mut Vec<u8>) -> Result<(), KeyError>
     ensures ok { IfOk result (λ _. (t : Tree) → IsReadable t → key.now ≡ key_of t
         → AppendsTextOf t buf.old.items buf.new.items) }
     ensures err { OnErr result (buf.new.items ≡ buf.old.items) }
-    // A key is refused only where the capacity for the whole text is missing.
+    // A key fails only where the capacity for the whole text is missing.
     ensures invalid { IfErr result (λ e. e ≡ KeyError.Invalid → (t : Tree) → IsReadable t → key.now ≡ key_of t → ⊥) }
     ensures full { OnErr result ((t : Tree) → IsReadable t → key.now ≡ key_of t
         → vec_capacity buf.old < vec_len buf.old + length (tree_text (with_fewest_digits t))) }

@@ -3,7 +3,7 @@ use std::alloc::AllocError;
 use std::process::Abort;
 use std::test::Fail;
 
-// Compares the frames of the text's lines, or what is printed of the refusal.
+// Compares the frames of the text's lines, or what is printed of the error.
 fn expect_frames(
     rt: &(impl AllocGlobal + Abort),
     text: &str,
@@ -15,15 +15,15 @@ fn expect_frames(
     }
     match encode_lines(rt.alloc(), &lines) {
         Ok(got) => assert_eq!(rt; got.as_slice(), told, "frames of {text:?}"),
-        Err(refusal) => {
-            let got = format!(in rt.alloc(); "{refusal}")?;
+        Err(error) => {
+            let got = format!(in rt.alloc(); "{error}")?;
             assert_eq!(rt; got.as_bytes(), told, "refusal of {text:?}");
         }
     }
     Ok(())
 }
 
-// Compares the lines of the frames, or what is printed of the refusal.
+// Compares the lines of the frames, or what is printed of the error.
 fn expect_lines(
     rt: &(impl AllocGlobal + Abort),
     frames: &[u8],
@@ -31,8 +31,8 @@ fn expect_lines(
 ) -> Result<(), AllocError> {
     match decode_lines(rt.alloc(), frames) {
         Ok(got) => assert_eq!(rt; got.as_slice(), told.as_bytes(), "lines of {frames:?}"),
-        Err(refusal) => {
-            let got = format!(in rt.alloc(); "{refusal}")?;
+        Err(error) => {
+            let got = format!(in rt.alloc(); "{error}")?;
             assert_eq!(rt; got.as_str(), told, "refusal of {frames:?}");
         }
     }

@@ -3,7 +3,7 @@ use std::alloc::AllocError;
 use std::process::Abort;
 use std::test::Fail;
 
-// Compares the settings, or what is printed of the refusal.
+// Compares the settings, or what is printed of the error.
 fn expect(rt: &(impl AllocGlobal + Abort), text: &str, told: &str) -> Result<(), AllocError> {
     let got = match read_config(rt.alloc(), text.as_bytes()) {
         Ok(config) => {
@@ -13,7 +13,7 @@ fn expect(rt: &(impl AllocGlobal + Abort), text: &str, told: &str) -> Result<(),
             let verbose = config.verbose;
             format!(in rt.alloc(); "{host} {port} {workers} {verbose}")?
         }
-        Err(refusal) => format!(in rt.alloc(); "{refusal}")?,
+        Err(error) => format!(in rt.alloc(); "{error}")?,
     };
     assert_eq!(rt; got.as_str(), told, "settings of {text:?}");
     Ok(())
@@ -36,7 +36,7 @@ fn missing_settings_have_their_defaults(rt: HostRuntime) -> Result<(), Fail> {
 }
 
 #[test]
-fn refusals_name_the_place_and_the_key(rt: HostRuntime) -> Result<(), Fail> {
+fn errors_name_the_place_and_the_key(rt: HostRuntime) -> Result<(), Fail> {
     for (text, told) in [
         (
             "{\n  host: 'a',\n  port: 65536\n}",

@@ -18,7 +18,7 @@ use Rattle.jsonb.specs.Handler.{AreSeen, AsScalar, Builds, ElseFails, Misses, fo
 use Rattle.jsonb.specs.Frames.{AllFit, AtPart, BeforeValue, Fits, IsArray, IsObject, IsRead, OpensContainer, ReadsParts, depth_within, finish_container, resume_part, resume_stack, resume_value, scalar_or_null}
 use Rattle.jsonb_scan.specs.Answer.{MayAllocate, mode_of}
 use Rattle.jsonb.specs.Parser.{Advances, read_at, rest_of, size_of}
-use Rattle.jsonb_scan.specs.Reading.{Fault, Read, begins, on_byte, refused, ◌>>=◌}
+use Rattle.jsonb_scan.specs.Reading.{Fault, Read, begins, on_byte, rejected, ◌>>=◌}
 use Rattle.jsonb_scan.specs.Reading.Blank.{skip_blanks}
 use Rattle.jsonb_scan.specs.Reading.Container.{array_at, elements_at, is_left_out, members_at, object_at, object_or_fault, value_or_null}
 use Rattle.jsonb_spec.specs.Source.{Found, Source, array_source, found, no_source_members, no_sources, null_source, object_source, object_source_of, source_alone, spot_of}
@@ -80,17 +80,17 @@ module _ (size : ℕ) (mode : Mode) (depth : ℕ) where
       → resume_after_part size mode depth (elements_so_far front) bytes ≡ (part_end size expected_array_comma_or_end 93 bytes >>= λ x. resume_part size mode depth x.0 (elements_so_far front) x.1)
   element_ends front bytes =
       let g : Bool × List ℕ → Read Source = λ x. resume_part size mode depth x.0 (elements_so_far front) x.1 in
-      let last : Read Bool = on_byte 93 bytes (λ rest. Ok (true, rest)) (refused size expected_array_comma_or_end 0 bytes) in
+      let last : Read Bool = on_byte 93 bytes (λ rest. Ok (true, rest)) (rejected size expected_array_comma_or_end 0 bytes) in
       sym (on_byte-then 44 bytes (λ rest. Ok (false, rest)) last g
-      ∙ ap (λ (o : Read Source). on_byte 44 bytes (λ rest. g (false, rest)) o) (on_byte-then 93 bytes (λ rest. Ok (true, rest)) (refused size expected_array_comma_or_end 0 bytes) g))
+      ∙ ap (λ (o : Read Source). on_byte 44 bytes (λ rest. g (false, rest)) o) (on_byte-then 93 bytes (λ rest. Ok (true, rest)) (rejected size expected_array_comma_or_end 0 bytes) g))
 
   pub member_ends : (front : List Found) (key : Mark × List ℕ) (place : ℕ) (bytes : List ℕ)
       → resume_after_part size mode depth (members_so_far front key place) bytes ≡ (part_end size expected_object_comma_or_end 125 bytes >>= λ x. resume_part size mode depth x.0 (members_so_far front key place) x.1)
   member_ends front key place bytes =
       let g : Bool × List ℕ → Read Source = λ x. resume_part size mode depth x.0 (members_so_far front key place) x.1 in
-      let last : Read Bool = on_byte 125 bytes (λ rest. Ok (true, rest)) (refused size expected_object_comma_or_end 0 bytes) in
+      let last : Read Bool = on_byte 125 bytes (λ rest. Ok (true, rest)) (rejected size expected_object_comma_or_end 0 bytes) in
       sym (on_byte-then 44 bytes (λ rest. Ok (false, rest)) last g
-      ∙ ap (λ (o : Read Source). on_byte 44 bytes (λ rest. g (false, rest)) o) (on_byte-then 125 bytes (λ rest. Ok (true, rest)) (refused size expected_object_comma_or_end 0 bytes) g))
+      ∙ ap (λ (o : Read Source). on_byte 44 bytes (λ rest. g (false, rest)) o) (on_byte-then 125 bytes (λ rest. Ok (true, rest)) (rejected size expected_object_comma_or_end 0 bytes) g))
 
 -- ---- a turn of the loops over parts
 
@@ -274,18 +274,18 @@ too_many Stands p fs whole full opens due =
     let none : depth_within fs ≡ 0 = omega arith in
     due.reads
     ∙ ap (λ n. value_at (size_of p) (mode_of p.mode) n (rest_of p) >>= resume (size_of p) (mode_of p.mode) n due.opens) none
-    ∙ ap (λ (r : Read Source). r >>= resume (size_of p) (mode_of p.mode) 0 due.opens) (refused_here opens)
+    ∙ ap (λ (r : Read Source). r >>= resume (size_of p) (mode_of p.mode) 0 due.opens) (rejected_here opens)
   where
     place-is : (c : ℕ) → rest_of p ≡ c ∷ drop (p.idx + 1) p.buf.now → size_of p - length (drop (p.idx + 1) p.buf.now) ≡ p.idx + 1
     place-is c e = omega (arith, ap length e, length-drop p.idx p.buf.now, length-drop (p.idx + 1) p.buf.now)
 
-    refused_here : OpensContainer (rest_of p) → value_at (size_of p) (mode_of p.mode) 0 (rest_of p) ≡ Err (record { code = depth_limit_exceeded; place = p.idx + 1 })
-    refused_here (inl e) =
+    rejected_here : OpensContainer (rest_of p) → value_at (size_of p) (mode_of p.mode) 0 (rest_of p) ≡ Err (record { code = depth_limit_exceeded; place = p.idx + 1 })
+    rejected_here (inl e) =
         let next = next_found 91 p e in
         ap (λ r. value_at (size_of p) (mode_of p.mode) 0 r) next
         ∙ array-value (size_of p) (mode_of p.mode) 0 (drop (p.idx + 1) p.buf.now)
         ∙ ap (λ n. Err (record { code = depth_limit_exceeded; place = n })) (place-is 91 next)
-    refused_here (inr e) =
+    rejected_here (inr e) =
         let next = next_found 123 p e in
         ap (λ r. value_at (size_of p) (mode_of p.mode) 0 r) next
         ∙ object-value (size_of p) (mode_of p.mode) 0 (drop (p.idx + 1) p.buf.now)

@@ -15,14 +15,14 @@ use Rattle.jsonb_spec.specs.Grammar.Scalar.{IsKey, IsScalar}
 use Rattle.jsonb_spec.specs.Tree.{Mark, Member, Tree, put_all, trees_of}
 use Rattle.jsonb_spec.specs.Tree.Members.{no_members}
 use Rattle.jsonb_spec.specs.Tree.Tree.{array, object}
-use Rattle.jsonb_scan.specs.Reading.{Fault, Read, begins, fault, on_byte, refused, ◌>>=◌}
+use Rattle.jsonb_scan.specs.Reading.{Fault, Read, begins, fault, on_byte, rejected, ◌>>=◌}
 use Rattle.jsonb_scan.specs.Reading.Blank.{is_blank_start, is_break, opens_comment, skip_closed_blanks, skip_blanks}
 use Rattle.jsonb_scan.specs.Reading.Container.{after_key, array_at, element_at, elements_at, found_at, is_left_out, joined_at, member_at, members_at, object_at, object_or_fault, padded_at, value_or_null}
 use Rattle.jsonb_spec.specs.Source.{Found, Source, Spot, array_source, array_source_of, first_repeat, found, member_of, no_source_members, no_sources, null_source, object_source, object_source_of, source_alone, spot_of, tree_of_source}
 use Rattle.jsonb.proofs.Containers.Sources.{alone_tree, array_tree, object_tree}
 use Rattle.jsonb_scan.specs.Reading.Document.{alone_at, at_end, comment_at, document_of, source_from, source_of, nothing_at, too_deep, value_at, value_to_end, value_with}
 use Rattle.jsonb_scan.specs.Reading.Scalar.{key_at, scalar_at}
-use Rattle.jsonb_scan.proofs.Steps.Tests.{SameRead, bind_ok, chosen, refused_fails, same_ok, same_read}
+use Rattle.jsonb_scan.proofs.Steps.Tests.{SameRead, bind_ok, chosen, rejected_fails, same_ok, same_read}
 use Rattle.jsonb_scan.proofs.Containers.JoinedParts.{IsOther, IsPartComplete, IsShown, IsSound, IsSoundBefore, SeenBy, Spelled, Starts, ends-blanks, ends_at, joined-skip, joined_complete, joined_seen, joined_sound, length-joined, on_byte-none, on_byte-other, on_byte_cases, other, padded_complete, padded_seen, padded_sound, skip-padded}
 use Rattle.jsonb.proofs.Containers.Repeats.{distinct, no_repeat}
 use Rattle.jsonb.proofs.Scalars.Spellings.{Follows, IsNumberTree, key_complete, key_sound, scalar_complete, scalar_sound, scalar_starts}
@@ -194,7 +194,7 @@ module _ (mode : Mode) (Value : List ℕ → Tree → Type 0) (read : List ℕ �
       let place : ℕ = size - length b.0.1 in
       let colon : List ℕ = skip_blanks mode b.0.1 in
       let key_read : padded_at mode (key_at size mode) bytes ≡ Ok (k, colon) = ap (λ (r : Read (Mark × List ℕ)). r >>= λ (x : (Mark × List ℕ) × List ℕ). Ok (x.0, skip_blanks mode x.1)) b.1 in
-      elim (on_byte_cases 58 colon (λ (r : List ℕ). padded_at mode read r >>= λ (x : Source × List ℕ). found_at k place x) (refused size expected_colon 0 colon) (Ok (f, rest)) b.2) [
+      elim (on_byte_cases 58 colon (λ (r : List ℕ). padded_at mode read r >>= λ (x : Source × List ℕ). found_at k place x) (rejected size expected_colon 0 colon) (Ok (f, rest)) b.2) [
         | inl t ↦
             let v = bind_ok (padded_at mode read t.0) (λ (x : Source × List ℕ). found_at k place x) (f, rest) t.2 in
             let left = padded_sound mode (IsKey mode) (key_at size mode) (key_sound size mode) bytes k colon key_read (omega (arith, ap length t.1)) in
@@ -207,7 +207,7 @@ module _ (mode : Mode) (Value : List ℕ → Tree → Type 0) (read : List ℕ �
                   left.whole ∙ ap (λ (u : List ℕ). left.core ++ u) (t.1 ∙ ap (λ (u : List ℕ). 58 ∷ u) (right.whole ∙ ap (λ (u : List ℕ). right.core ++ u) same.rest))
                   ∙ sym (append_assoc left.core (58 ∷ right.core) rest);
             }
-        | inr g ↦ absurd (refused_fails size expected_colon 0 colon (f, rest) g.1)
+        | inr g ↦ absurd (rejected_fails size expected_colon 0 colon (f, rest) g.1)
       ]
 
   -- ---- how arrays and objects that are not empty begin

@@ -12,7 +12,7 @@ use Rattle.jsonb_spec.specs.Grammar.{IsDocument, max_depth, IsNoDocument}
 use Rattle.jsonb_spec.specs.Mode.{Mode, extended}
 use Rattle.jsonb_spec.specs.Tree.{Tree}
 use Rattle.jsonb.specs.AstView.{ast_view}
-use Rattle.jsonb_scan.specs.Answer.{Gives, IsTextRefusal, mode_of}
+use Rattle.jsonb_scan.specs.Answer.{Gives, IsTextError, mode_of}
 use Rattle.jsonb.specs.Parser.{Advances, rest_of, size_of}
 use Rattle.jsonb_spec.specs.Source.{Source, null_source, tree_of_source}
 use Rattle.jsonb_scan.specs.Reading.{Fault, fault, ◌>>=◌}
@@ -25,9 +25,9 @@ use Rattle.jsonb.specs.Source.{source_view}
 use Rattle.jsonb.proofs.Places.Placed.{source_placed}
 use Rattle.jsonb.proofs.Places.Views.{tree_of_view}
 use Rattle.jsonb.proofs.Steps.Cursors.{nothing_left}
-use Rattle.jsonb.proofs.Documents.Spellings.{document_unique, refused_is_none}
+use Rattle.jsonb.proofs.Documents.Spellings.{document_unique, rejected_is_none}
 use Rattle.jsonb.proofs.Steps.Outcomes.{same_size}
-use Rattle.jsonb.proofs.Refusals.OfTexts.{document_stands}
+use Rattle.jsonb.proofs.Errors.OfTexts.{document_stands}
 use Rattle.jsonb.proofs.Containers.Values.{document_sound}
 
 -- the end of a document
@@ -149,11 +149,11 @@ pub gives_only : (mode : Mode) (bytes : List ℕ) (r : Result JsonAst Error) →
 gives_only mode bytes (Ok v) g = λ t d. document_unique mode bytes t (ast_view v) d (document_sound mode bytes (ast_view v) g)
 gives_only mode bytes (Err e) g = tt
 
-pub gives_refused : (mode : Mode) (bytes : List ℕ) (r : Result JsonAst Error) → Gives ast_view r (document_of mode bytes) → IfErr r (λ e. e ≢ OutOfMemory → IsNoDocument mode bytes)
-gives_refused mode bytes (Ok v) g = tt
-gives_refused mode bytes (Err (Syntax code place)) g = λ n t d. refused_is_none mode bytes (record { code = code_of code; place = place }) g t d
-gives_refused mode bytes (Err OutOfMemory) g = λ n. absurd (n refl)
-gives_refused mode bytes (Err other) g = absurd g
+pub gives_rejected : (mode : Mode) (bytes : List ℕ) (r : Result JsonAst Error) → Gives ast_view r (document_of mode bytes) → IfErr r (λ e. e ≢ OutOfMemory → IsNoDocument mode bytes)
+gives_rejected mode bytes (Ok v) g = tt
+gives_rejected mode bytes (Err (Syntax code place)) g = λ n t d. rejected_is_none mode bytes (record { code = code_of code; place = place }) g t d
+gives_rejected mode bytes (Err OutOfMemory) g = λ n. absurd (n refl)
+gives_rejected mode bytes (Err other) g = absurd g
 
 pub gives_explained : (mode : Mode) (bytes : List ℕ) (r : Result JsonAst Error) → Gives ast_view r (document_of mode bytes) → IfErr r (IsExplained mode bytes)
 gives_explained mode bytes (Ok v) g = tt
@@ -161,8 +161,8 @@ gives_explained mode bytes (Err (Syntax code place)) g = document_stands mode by
 gives_explained mode bytes (Err OutOfMemory) g = tt
 gives_explained mode bytes (Err other) g = absurd g
 
--- a text is refused by a fault or for want of memory
-pub gives_errors : {X Y : Type 0} (view : X → Y) (r : Result X Error) (read : Result Y Fault) → Gives view r read → IfErr r IsTextRefusal
+-- a text is rejected by a fault or for want of memory
+pub gives_errors : {X Y : Type 0} (view : X → Y) (r : Result X Error) (read : Result Y Fault) → Gives view r read → IfErr r IsTextError
 gives_errors view (Ok x) read g = tt
 gives_errors view (Err (Syntax code place)) read g = tt
 gives_errors view (Err OutOfMemory) read g = tt

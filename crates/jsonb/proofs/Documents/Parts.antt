@@ -68,14 +68,14 @@ with_text t e = by (has_text t) e
 -- memory ran out for the text of a part
 pub part_lacks : (mode : Mode) (text : List ℕ) (t : Tree) (keys : List (List ℕ)) (part : Tree) (r : Result (Unit {0}) Error) (e : Error) (capacity len : ℕ) → IsDocument mode text t → part_at keys t ≡ Some part → r ≡ Err e → IfErr r (λ e. (e ≡ UnexpectedType) ⊎ (e ≡ OutOfMemory)) → IfErr r (λ e. e ≢ OutOfMemory → text_of part ≡ None)
     → (IsErrOf r OutOfMemory → IfSome (text_of part) (λ bytes. capacity < len + length bytes)) → LacksRoomForPart mode text keys capacity len
-part_lacks mode text t keys part r e capacity len document at is errors refused full = by_error (subst (λ q. IfErr q (λ e. (e ≡ UnexpectedType) ⊎ (e ≡ OutOfMemory))) is errors)
+part_lacks mode text t keys part r e capacity len document at is errors rejected full = by_error (subst (λ q. IfErr q (λ e. (e ≡ UnexpectedType) ⊎ (e ≡ OutOfMemory))) is errors)
   where
     whole : text_of part ≡ Some (tree_text part)
     whole = text_of-has_text part (part_has_text keys t part at (with_text t (text_there mode text t document)))
 
     by_error : (e ≡ UnexpectedType) ⊎ (e ≡ OutOfMemory) → LacksRoomForPart mode text keys capacity len
     by_error (inl other) =
-        let none : text_of part ≡ None = subst (λ q. IfErr q (λ e. e ≢ OutOfMemory → text_of part ≡ None)) is refused (λ same. let f : UnexpectedType ≡ OutOfMemory = sym other ∙ same in cc) in
+        let none : text_of part ≡ None = subst (λ q. IfErr q (λ e. e ≢ OutOfMemory → text_of part ≡ None)) is rejected (λ same. let f : UnexpectedType ≡ OutOfMemory = sym other ∙ same in cc) in
         let some : text_of part ≡ Some (tree_text part) = whole in
         absurd cc
     by_error (inr same) =

@@ -83,9 +83,9 @@ document_complete mode bytes t d =
     let c = source_complete mode bytes t d in
     ap (λ r. r >>= λ s. Ok (tree_of_source s)) c.2 ∙ ap (λ u. Ok u) c.1
 
--- what is refused is no document
-pub refused_is_none : (mode : Mode) (bytes : List ℕ) (f : Fault) → document_of mode bytes ≡ Err f → IsNoDocument mode bytes
-refused_is_none mode bytes f e t d = let read : document_of mode bytes ≡ Ok t = document_complete mode bytes t d in cc
+-- what is rejected is no document
+pub rejected_is_none : (mode : Mode) (bytes : List ℕ) (f : Fault) → document_of mode bytes ≡ Err f → IsNoDocument mode bytes
+rejected_is_none mode bytes f e t d = let read : document_of mode bytes ≡ Ok t = document_complete mode bytes t d in cc
 
 -- a text is a document of at most one tree
 pub document_unique : (mode : Mode) (bytes : List ℕ) (t u : Tree) → IsDocument mode bytes t → IsDocument mode bytes u → t ≡ u

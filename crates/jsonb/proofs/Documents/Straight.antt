@@ -43,11 +43,11 @@ text_there mode text t d = some_text t (document_has_text mode text t d)
 -- memory ran out for the text of a document's tree
 pub text_lacks : (mode : Mode) (text : List ℕ) (t : Tree) (r : Result (Unit {0}) Error) (e : Error) (capacity len : ℕ) → IsDocument mode text t → r ≡ Err e → IfErr r (λ e. (e ≡ UnexpectedType) ⊎ (e ≡ OutOfMemory)) → IfErr r (λ e. e ≢ OutOfMemory → text_of t ≡ None)
     → (IsErrOf r OutOfMemory → IfSome (text_of t) (λ bytes. capacity < len + length bytes)) → LacksRoomForText mode text capacity len
-text_lacks mode text t r e capacity len document is errors refused full = by_error (subst (λ q. IfErr q (λ e. (e ≡ UnexpectedType) ⊎ (e ≡ OutOfMemory))) is errors)
+text_lacks mode text t r e capacity len document is errors rejected full = by_error (subst (λ q. IfErr q (λ e. (e ≡ UnexpectedType) ⊎ (e ≡ OutOfMemory))) is errors)
   where
     by_error : (e ≡ UnexpectedType) ⊎ (e ≡ OutOfMemory) → LacksRoomForText mode text capacity len
     by_error (inl other) =
-        let none : text_of t ≡ None = subst (λ q. IfErr q (λ e. e ≢ OutOfMemory → text_of t ≡ None)) is refused (λ same. let f : UnexpectedType ≡ OutOfMemory = sym other ∙ same in cc) in
+        let none : text_of t ≡ None = subst (λ q. IfErr q (λ e. e ≢ OutOfMemory → text_of t ≡ None)) is rejected (λ same. let f : UnexpectedType ≡ OutOfMemory = sym other ∙ same in cc) in
         let some : text_of t ≡ Some (tree_text t) = text_there mode text t document in
         absurd cc
     by_error (inr same) =

@@ -15,7 +15,7 @@ use Rattle.jsonb_spec.specs.Grammar.Scalar.IsScalar.{literal_value, number_value
 use Rattle.jsonb_spec.specs.Grammar.StandardNumber.{IsExponentMark}
 use Rattle.jsonb_spec.specs.Tree.{Mark, plain, Num, Tree}
 use Rattle.jsonb_spec.specs.Tree.Tree.{boolean, null, number, string}
-use Rattle.jsonb_scan.specs.Reading.{Fault, Read, begins, on_byte, refused, ◌>>=◌}
+use Rattle.jsonb_scan.specs.Reading.{Fault, Read, begins, on_byte, rejected, ◌>>=◌}
 use Rattle.jsonb_scan.specs.Reading.BareKey.{bare_key_at, key_step}
 use Rattle.jsonb_scan.specs.Reading.Blank.{is_blank_start, is_break}
 use Rattle.jsonb_scan.specs.Reading.ExtendedNumber.{EndsExtended, ContinuesNumberExtended}
@@ -23,7 +23,7 @@ use Rattle.jsonb_scan.specs.Reading.Number.{IsNumberBoundary, ContinuesNumber, i
 use Rattle.jsonb_scan.specs.Reading.Scalar.{begins_letter, begins_number, false_at, folded, key_at, letters_at, null_at, number_at, number_or_fault, number_value_at, on_letter, on_single_quote, or_else, quoted_at, scalar_at, true_or_false_at, unquoted_at, word_at, words_at}
 use Rattle.jsonb_scan.specs.Reading.String.{string_at}
 use Rattle.jsonb_scan.proofs.Strings.BareKeys.{bare_complete, bare_sound, bare_starts, break_stops}
-use Rattle.jsonb_scan.proofs.Steps.Tests.{bind_ok, chosen, refused_fails, same_read}
+use Rattle.jsonb_scan.proofs.Steps.Tests.{bind_ok, chosen, rejected_fails, same_read}
 use Rattle.jsonb_scan.proofs.Numbers.Extended.{OpensNumber, extended_complete, extended_sound, extended_starts, opens_extended}
 use Rattle.jsonb_scan.proofs.Containers.JoinedParts.{Ends, IsComplete, IsSound, Spelled, Starts, break_is, on_byte-found, on_byte-other, on_byte_cases}
 use Rattle.jsonb_scan.proofs.Numbers.Standard.{number_complete, number_sound, number_starts}
@@ -91,11 +91,11 @@ letters_folded : (size : ℕ) (mode : Mode) (word bytes rest : List ℕ) → let
 unfolding AreFolded
 letters_folded size mode [] bytes rest e = ([], refl, cc)
 letters_folded size mode (c ∷ cs) bytes rest e =
-    elim (on_letter_cases mode c bytes (letters_at size mode cs) (refused size expected_some_ident 1 bytes) (Ok rest) e) [
+    elim (on_letter_cases mode c bytes (letters_at size mode cs) (rejected size expected_some_ident 1 bytes) (Ok rest) e) [
       | inl t ↦
           let later = letters_folded size mode cs t.1 rest t.4 in
           (t.0 ∷ later.0, ap₂ (λ (b : ℕ) (u : List ℕ). b ∷ u) t.3 later.1, t.2 ∙ ap (λ (u : List ℕ). t.0 ∷ u) later.2)
-      | inr f ↦ absurd (refused_fails size expected_some_ident 1 bytes rest f.1)
+      | inr f ↦ absurd (rejected_fails size expected_some_ident 1 bytes rest f.1)
     ]
 
 letters_sound : (size : ℕ) (mode : Mode) (word bytes rest : List ℕ) → letters_at size mode word bytes ≡ Ok rest → LettersRead mode word bytes rest
@@ -111,7 +111,7 @@ letters_read size mode (c ∷ cs) [] rest is = cc
 letters_read size mode (c ∷ cs) (b ∷ letters) rest is =
     let here : folded mode b ≡ c = cc in
     let later : map (folded mode) letters ≡ cs = cc in
-    on_letter-found mode c b (letters ++ rest) (letters_at size mode cs) (refused size expected_some_ident 1 (b ∷ (letters ++ rest))) here ∙ letters_read size mode cs letters rest later
+    on_letter-found mode c b (letters ++ rest) (letters_at size mode cs) (rejected size expected_some_ident 1 (b ∷ (letters ++ rest))) here ∙ letters_read size mode cs letters rest later
 
 -- each word is read
 pub word_read : (size : ℕ) (mode : Mode) (word letters : List ℕ) (t : Tree) (rest : List ℕ) → IsWord mode word letters → word_at size mode word t (letters ++ rest) ≡ Ok (t, rest)
@@ -356,9 +356,9 @@ number_value_sound size mode bytes t rest e =
 
 number_scalar_sound : (size : ℕ) (mode : Mode) (bytes : List ℕ) (t : Tree) (rest : List ℕ) → number_or_fault size mode bytes ≡ Ok (t, rest) → Spelled (IsScalar mode) bytes t rest
 number_scalar_sound size mode bytes t rest e =
-    elim (chosen (begins_number mode bytes) (number_value_at size mode bytes) (refused size expected_some_value 1 bytes) (Ok (t, rest)) e) [
+    elim (chosen (begins_number mode bytes) (number_value_at size mode bytes) (rejected size expected_some_value 1 bytes) (Ok (t, rest)) e) [
       | inl h ↦ number_value_sound size mode bytes t rest h.1
-      | inr h ↦ absurd (refused_fails size expected_some_value 1 bytes (t, rest) h.1)
+      | inr h ↦ absurd (rejected_fails size expected_some_value 1 bytes (t, rest) h.1)
     ]
 
 or_else_ok : {A : Type 0} (r other : Result A Fault) (x : A) → or_else r other ≡ Ok x → (r ≡ Ok x) ⊎ (other ≡ Ok x)
@@ -451,7 +451,7 @@ number_reads size mode core n rest is f =
     let s = number_opens mode core n is in
     let opened : core ++ rest ≡ s.first ∷ (s.others ++ rest) = ap (λ (u : List ℕ). u ++ rest) s.whole in
     ap (λ (u : List ℕ). scalar_at size mode u) opened ∙ number_first size mode s.first (s.others ++ rest) s.apart
-    ∙ cond-true (begins_number mode (s.first ∷ (s.others ++ rest))) (number_value_at size mode (s.first ∷ (s.others ++ rest))) (refused size expected_some_value 1 (s.first ∷ (s.others ++ rest))) (s.begun (s.others ++ rest))
+    ∙ cond-true (begins_number mode (s.first ∷ (s.others ++ rest))) (number_value_at size mode (s.first ∷ (s.others ++ rest))) (rejected size expected_some_value 1 (s.first ∷ (s.others ++ rest))) (s.begun (s.others ++ rest))
     ∙ ap (λ (u : List ℕ). number_value_at size mode u) (sym opened)
     ∙ ap (λ (r : Read Num). r >>= λ (x : Num × List ℕ). Ok (number x.0, x.1)) (by_mode mode is)
   where
@@ -512,7 +512,7 @@ quoted_key_sound size mode quote bytes k rest is e =
     record { core = quote ∷ s.inner; spells = quoted_key is s.quoted; whole = ap (λ (u : List ℕ). quote ∷ u) s.whole }
 
 unquoted_sound : (size : ℕ) (mode : Mode) (bytes : List ℕ) (k : Mark × List ℕ) (rest : List ℕ) → unquoted_at size mode bytes ≡ Ok (k, rest) → Spelled (IsKey mode) bytes k rest
-unquoted_sound size standard bytes k rest e = absurd (refused_fails size expected_some_ident 1 bytes (k, rest) e)
+unquoted_sound size standard bytes k rest e = absurd (rejected_fails size expected_some_ident 1 bytes (k, rest) e)
 unquoted_sound size extended bytes k rest e =
     let s = bare_sound size bytes k rest e in
     record { core = s.core; spells = subst (λ (x : Mark × List ℕ). IsKey extended s.core x) s.meant (bare_key refl s.is_key); whole = s.whole }

@@ -3,7 +3,7 @@ use Rattle.std.proofs.Common.{◌≡◌, ℕ, ◌+◌, true, false, true≢false
 use Rattle.jsonb_spec.specs.Code.Code.{expected_some_ident}
 use Rattle.jsonb_scan.specs.Answer.{Fails, NamesFault}
 use Rattle.jsonb.specs.Parser.{Advances}
-use Rattle.jsonb_scan.specs.Reading.{Fault, refused}
+use Rattle.jsonb_scan.specs.Reading.{Fault, rejected}
 use Rattle.jsonb_scan.specs.Reading.Scalar.{begins_letter, begins_single_quote, folded, letters_at, on_letter, on_single_quote}
 use Rattle.jsonb_spec.specs.Mode.{Mode, standard, extended}
 use Rattle.jsonb_scan.proofs.Steps.Tests.{chosen}
@@ -39,7 +39,7 @@ on_letter-true mode c (b ∷ bytes) found other e =
     ]
 
 pub letters-step : (size : ℕ) (mode : Mode) (c : ℕ) (cs bytes : List ℕ) → begins_letter mode c bytes ≡ true → letters_at size mode (c ∷ cs) bytes ≡ letters_at size mode cs (drop 1 bytes)
-letters-step size mode c cs bytes e = on_letter-true mode c bytes (letters_at size mode cs) (refused size expected_some_ident 1 bytes) e
+letters-step size mode c cs bytes e = on_letter-true mode c bytes (letters_at size mode cs) (rejected size expected_some_ident 1 bytes) e
 
 -- ---- single quotes
 

@@ -85,10 +85,10 @@ module _ (size : ℕ) (mode : Mode) (bytes : List ℕ) where
       ∙ cond-false (begins_letter mode 116 bytes) (word_at size mode (codes "true") (boolean true) bytes) (false_at size mode bytes) t
       ∙ cond-false (begins_letter mode 102 bytes) (word_at size mode (codes "false") (boolean false) bytes) (number_or_fault size mode bytes) f
 
--- what a refusal for want of memory says beside its code
-pub refused_container : {A : Type 0} (Q : Type 0) (r : Result A Error) → IfErr r (λ e. (e ≡ OutOfMemory) × Q) → r ≡ Err OutOfMemory → Q
-refused_container Q (Ok x) h is = cc
-refused_container Q (Err e) h is = h.1
+-- what an error for want of memory says beside its code
+pub rejected_container : {A : Type 0} (Q : Type 0) (r : Result A Error) → IfErr r (λ e. (e ≡ OutOfMemory) × Q) → r ≡ Err OutOfMemory → Q
+rejected_container Q (Ok x) h is = cc
+rejected_container Q (Err e) h is = h.1
 
 -- what follows for each value follows for the one that is returned
 pub value_has : {E : Type 0} (P Q : Value → Type 0) (r : Result Value E) → ((v : Value) → P v → Q v) → IfOk r P → IfOk r Q

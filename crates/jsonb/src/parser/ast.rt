@@ -3,7 +3,7 @@ ghost use Rattle.std.specs.Prelude.{◌≡◌, ◌≢◌, ◌<◌, IfOk, IfErr, 
 ghost use Rattle.jsonb_spec.specs.Grammar.{IsDocument, IsNoDocument};
 ghost use Rattle.jsonb_spec.specs.Tree.{Tree};
 ghost use Rattle.jsonb.specs.AstView.{ast_view};
-ghost use Rattle.jsonb_scan.specs.Answer.{mode_of, IsTextRefusal, Gives, MayAllocate};
+ghost use Rattle.jsonb_scan.specs.Answer.{mode_of, IsTextError, Gives, MayAllocate};
 ghost use Rattle.jsonb_spec.specs.Placed.{IsPlaced};
 ghost use Rattle.jsonb_scan.specs.Reading.Document.{document_of};
 ghost use Rattle.jsonb.specs.Explained.{IsExplained};
@@ -52,17 +52,17 @@ impl<'a> JsonAst<'a> {
         ensures document { IfOk result (λ v. IsDocument (mode_of mode) buf.now (ast_view v)) }
         ensures only { IfOk result (λ v. (t : Tree) → IsDocument (mode_of mode) buf.now t → t ≡ ast_view v) }
 
-        // What is refused is no document, unless memory ran out.
-        ensures refused { IfErr result (λ e. e ≢ Error.OutOfMemory → IsNoDocument (mode_of mode) buf.now) }
+        // What is rejected is no document, unless memory ran out.
+        ensures rejected { IfErr result (λ e. e ≢ Error.OutOfMemory → IsNoDocument (mode_of mode) buf.now) }
         ensures memory { result ≡ Err Error.OutOfMemory → MayAllocate buf.now }
 
-        // Nothing but these two refuses.
-        ensures errors { IfErr result IsTextRefusal }
+        // No other error is returned.
+        ensures errors { IfErr result IsTextError }
 
         // Which fault it is, and where.
         ensures exact { Gives ast_view result (document_of (mode_of mode) buf.now) }
 
-        // What stands at the place that is named, for the refusals that speak of a value, of what follows it, of depth,
+        // What stands at the place that is named, for the errors that speak of a value, of what follows it, of depth,
         // of a number and of a key.
         ensures explained { IfErr result (IsExplained (mode_of mode) buf.now) }
 

@@ -80,7 +80,7 @@ impl<'a> Parser<'a> {
         self.escaped_key::<V>(room, object)
     }
 
-    // A key in double quotes that has escapes, or is refused, from the byte after its opening quote on.
+    // A key in double quotes that has escapes, or is rejected, from the byte after its opening quote on.
     #[inline(never)]
     fn escaped_key<V: Handler<'a>>(
         &mut self,

@@ -2,7 +2,7 @@
 ghost use Rattle.std.specs.Prelude.{◌≡◌, ◌≢◌, ◌⊎◌, map, string_bytes, vec_len, IfErr, IfOk, OnErr, Err};
 ghost use Rattle.std.specs.Vec.{vec_capacity};
 ghost use Rattle.jsonb_spec.specs.Grammar.{IsNoDocument};
-ghost use Rattle.jsonb_scan.specs.Answer.{mode_of, Fails, IsTextRefusal, MayAllocate};
+ghost use Rattle.jsonb_scan.specs.Answer.{mode_of, Fails, IsTextError, MayAllocate};
 ghost use Rattle.jsonb_scan.specs.Reading.Document.{document_of};
 ghost use Rattle.jsonb.specs.Appends.{AppendsPartOf, LacksRoomForPart};
 ghost use Rattle.jsonb.specs.Explained.{IsExplained};
@@ -47,13 +47,13 @@ pub fn append_part(
     ensures err { OnErr result (buf.new.items ≡ buf.old.items) }
 
     // What is rejected is no document, unless memory ran out.
-    ensures refused { IfErr result (λ e. e ≢ Error.OutOfMemory → IsNoDocument (mode_of mode) text.now) }
+    ensures rejected { IfErr result (λ e. e ≢ Error.OutOfMemory → IsNoDocument (mode_of mode) text.now) }
     // Memory runs out only where the text may take some, or where the room for all that is appended is missing.
     ensures memory { result ≡ Err Error.OutOfMemory → MayAllocate text.now
         ⊎ LacksRoomForPart (mode_of mode) text.now (map string_bytes path.now) (vec_capacity buf.old) (vec_len buf.old) }
 
-    // Nothing but these two refuses.
-    ensures errors { IfErr result IsTextRefusal }
+    // No other error is returned.
+    ensures errors { IfErr result IsTextError }
 
     // Which fault it is, and where.
     ensures exact { IfErr result (λ e. Fails e (document_of (mode_of mode) text.now)) }
@@ -97,10 +97,10 @@ fn append_part_of_value(
     ensures ok { IfOk result (AppendsPartOf (mode_of mode) text.now (map string_bytes path.now) buf.old.items
         buf.new.items) }
     ensures err { OnErr result (buf.new.items ≡ buf.old.items) }
-    ensures refused { IfErr result (λ e. e ≢ Error.OutOfMemory → IsNoDocument (mode_of mode) text.now) }
+    ensures rejected { IfErr result (λ e. e ≢ Error.OutOfMemory → IsNoDocument (mode_of mode) text.now) }
     ensures memory { result ≡ Err Error.OutOfMemory → MayAllocate text.now
         ⊎ LacksRoomForPart (mode_of mode) text.now (map string_bytes path.now) (vec_capacity buf.old) (vec_len buf.old) }
-    ensures errors { IfErr result IsTextRefusal }
+    ensures errors { IfErr result IsTextError }
     ensures exact { IfErr result (λ e. Fails e (document_of (mode_of mode) text.now)) }
     ensures explained { IfErr result (IsExplained (mode_of mode) text.now) }
 {

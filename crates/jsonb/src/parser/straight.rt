@@ -4,7 +4,7 @@ ghost use Rattle.std.specs.Vec.{vec_capacity};
 ghost use Rattle.jsonb_spec.specs.Grammar.{IsDocument, IsNoDocument};
 ghost use Rattle.jsonb_spec.specs.Tree.{Tree};
 ghost use Rattle.jsonb_value.specs.View.{view};
-ghost use Rattle.jsonb_scan.specs.Answer.{mode_of, Fails, Gives, IsTextRefusal, MayAllocate};
+ghost use Rattle.jsonb_scan.specs.Answer.{mode_of, Fails, Gives, IsTextError, MayAllocate};
 ghost use Rattle.jsonb_scan.specs.Reading.Document.{document_of};
 ghost use Rattle.jsonb.specs.Appends.{AppendsKeyOf, AppendsTextOf, IsParsed, LacksRoomForKey, LacksRoomForText};
 ghost use Rattle.jsonb.specs.Explained.{IsExplained};
@@ -53,12 +53,12 @@ pub fn check(alloc: Global, text: &[u8], mode: Mode) -> Result<()>
     // What is accepted is a document, of one tree.
     ensures document { OnOk result ((t : Tree) × IsParsed (mode_of mode) text.now t) }
 
-    // What is refused is no document, unless memory ran out.
-    ensures refused { IfErr result (λ e. e ≢ Error.OutOfMemory → IsNoDocument (mode_of mode) text.now) }
+    // What is rejected is no document, unless memory ran out.
+    ensures rejected { IfErr result (λ e. e ≢ Error.OutOfMemory → IsNoDocument (mode_of mode) text.now) }
     ensures memory { result ≡ Err Error.OutOfMemory → MayAllocate text.now }
 
-    // Nothing but these two refuses.
-    ensures errors { IfErr result IsTextRefusal }
+    // No other error is returned.
+    ensures errors { IfErr result IsTextError }
 
     // Which fault it is, and where.
     ensures exact { IfErr result (λ e. Fails e (document_of (mode_of mode) text.now)) }
@@ -101,8 +101,8 @@ pub fn append_text(alloc: Global, text: &[u8], mode: Mode, buf: &mut Vec<u8>) ->
     ensures ok { OnOk result (AppendsTextOf (mode_of mode) text.now buf.old.items buf.new.items) }
     ensures err { OnErr result (buf.new.items ≡ buf.old.items) }
 
-    // What is refused is no document, unless memory ran out.
-    ensures refused { IfErr result (λ e. e ≢ Error.OutOfMemory → IsNoDocument (mode_of mode) text.now) }
+    // What is rejected is no document, unless memory ran out.
+    ensures rejected { IfErr result (λ e. e ≢ Error.OutOfMemory → IsNoDocument (mode_of mode) text.now) }
     // Memory runs out only where the text may take some, or where the room for all that is appended is missing.
     ensures memory { result ≡ Err Error.OutOfMemory → MayAllocate text.now
         ⊎ LacksRoomForText (mode_of mode) text.now (vec_capacity buf.old) (vec_len buf.old) }
@@ -110,8 +110,8 @@ pub fn append_text(alloc: Global, text: &[u8], mode: Mode, buf: &mut Vec<u8>) ->
     // A buffer that has room keeps it, where the text takes no memory.
     ensures capacity { MayAllocate text.now ⊎ (vec_capacity buf.old ≤ vec_capacity buf.new) }
 
-    // Nothing but these two refuses.
-    ensures errors { IfErr result IsTextRefusal }
+    // No other error is returned.
+    ensures errors { IfErr result IsTextError }
 
     // Which fault it is, and where.
     ensures exact { IfErr result (λ e. Fails e (document_of (mode_of mode) text.now)) }
@@ -168,8 +168,8 @@ pub fn append_sort_key(alloc: Global, text: &[u8], mode: Mode, buf: &mut Vec<u8>
     ensures ok { OnOk result (AppendsKeyOf (mode_of mode) text.now buf.old.items buf.new.items) }
     ensures err { OnErr result (buf.new.items ≡ buf.old.items) }
 
-    // What is refused is no document, unless memory ran out.
-    ensures refused { IfErr result (λ e. e ≢ Error.OutOfMemory → IsNoDocument (mode_of mode) text.now) }
+    // What is rejected is no document, unless memory ran out.
+    ensures rejected { IfErr result (λ e. e ≢ Error.OutOfMemory → IsNoDocument (mode_of mode) text.now) }
     // Memory runs out only where the text may take some, or where the room for all that is appended is missing.
     ensures memory { result ≡ Err Error.OutOfMemory → MayAllocate text.now
         ⊎ LacksRoomForKey (mode_of mode) text.now (vec_capacity buf.old) (vec_len buf.old) }
@@ -177,8 +177,8 @@ pub fn append_sort_key(alloc: Global, text: &[u8], mode: Mode, buf: &mut Vec<u8>
     // A buffer that has room keeps it, where the text takes no memory.
     ensures capacity { MayAllocate text.now ⊎ (vec_capacity buf.old ≤ vec_capacity buf.new) }
 
-    // Nothing but these two refuses.
-    ensures errors { IfErr result IsTextRefusal }
+    // No other error is returned.
+    ensures errors { IfErr result IsTextError }
 
     // Which fault it is, and where.
     ensures exact { IfErr result (λ e. Fails e (document_of (mode_of mode) text.now)) }
@@ -215,9 +215,9 @@ pub fn append_sort_key(alloc: Global, text: &[u8], mode: Mode, buf: &mut Vec<u8>
 pub(super) fn value_of(alloc: Global, text: &[u8], mode: Mode) -> Result<Value<'_>>
     ensures document { IfOk result (λ v. IsDocument (mode_of mode) text.now (view v)) }
     ensures only { IfOk result (λ v. (t : Tree) → IsDocument (mode_of mode) text.now t → t ≡ view v) }
-    ensures refused { IfErr result (λ e. e ≢ Error.OutOfMemory → IsNoDocument (mode_of mode) text.now) }
+    ensures rejected { IfErr result (λ e. e ≢ Error.OutOfMemory → IsNoDocument (mode_of mode) text.now) }
     ensures memory { result ≡ Err Error.OutOfMemory → MayAllocate text.now }
-    ensures errors { IfErr result IsTextRefusal }
+    ensures errors { IfErr result IsTextError }
     ensures exact { Gives view result (document_of (mode_of mode) text.now) }
     ensures explained { IfErr result (IsExplained (mode_of mode) text.now) }
 {
@@ -235,11 +235,11 @@ pub(super) fn value_of(alloc: Global, text: &[u8], mode: Mode) -> Result<Value<'
 fn append_text_of_value(alloc: Global, text: &[u8], mode: Mode, buf: &mut Vec<u8>) -> Result<()>
     ensures ok { OnOk result (AppendsTextOf (mode_of mode) text.now buf.old.items buf.new.items) }
     ensures err { OnErr result (buf.new.items ≡ buf.old.items) }
-    ensures refused { IfErr result (λ e. e ≢ Error.OutOfMemory → IsNoDocument (mode_of mode) text.now) }
+    ensures rejected { IfErr result (λ e. e ≢ Error.OutOfMemory → IsNoDocument (mode_of mode) text.now) }
     ensures memory { result ≡ Err Error.OutOfMemory → MayAllocate text.now
         ⊎ LacksRoomForText (mode_of mode) text.now (vec_capacity buf.old) (vec_len buf.old) }
     ensures capacity { MayAllocate text.now ⊎ (vec_capacity buf.old ≤ vec_capacity buf.new) }
-    ensures errors { IfErr result IsTextRefusal }
+    ensures errors { IfErr result IsTextError }
     ensures exact { IfErr result (λ e. Fails e (document_of (mode_of mode) text.now)) }
     ensures explained { IfErr result (IsExplained (mode_of mode) text.now) }
 {
@@ -260,11 +260,11 @@ fn append_text_of_value(alloc: Global, text: &[u8], mode: Mode, buf: &mut Vec<u8
 fn append_sort_key_of_value(alloc: Global, text: &[u8], mode: Mode, buf: &mut Vec<u8>) -> Result<()>
     ensures ok { OnOk result (AppendsKeyOf (mode_of mode) text.now buf.old.items buf.new.items) }
     ensures err { OnErr result (buf.new.items ≡ buf.old.items) }
-    ensures refused { IfErr result (λ e. e ≢ Error.OutOfMemory → IsNoDocument (mode_of mode) text.now) }
+    ensures rejected { IfErr result (λ e. e ≢ Error.OutOfMemory → IsNoDocument (mode_of mode) text.now) }
     ensures memory { result ≡ Err Error.OutOfMemory → MayAllocate text.now
         ⊎ LacksRoomForKey (mode_of mode) text.now (vec_capacity buf.old) (vec_len buf.old) }
     ensures capacity { MayAllocate text.now ⊎ (vec_capacity buf.old ≤ vec_capacity buf.new) }
-    ensures errors { IfErr result IsTextRefusal }
+    ensures errors { IfErr result IsTextError }
     ensures exact { IfErr result (λ e. Fails e (document_of (mode_of mode) text.now)) }
     ensures explained { IfErr result (IsExplained (mode_of mode) text.now) }
 {

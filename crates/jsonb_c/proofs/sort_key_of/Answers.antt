@@ -16,7 +16,7 @@ returns-in-Ok-clause-key c =
 
 pub returns-in-Err-clause-reason : goal.returns-in-Err-clause-reason
 returns-in-Err-clause-reason c =
-    reason_says c.args.mode (mode_of c.in-Some.mode) c.args.text.now c.args.which c.in-Err.error c.reason_of.result c.in-Some.ensures c.in-Err.ensures.refused c.in-Err.ensures.exact c.in-Err.ensures.explained
+    reason_says c.args.mode (mode_of c.in-Some.mode) c.args.text.now c.args.which c.in-Err.error c.reason_of.result c.in-Some.ensures c.in-Err.ensures.rejected c.in-Err.ensures.exact c.in-Err.ensures.explained
     c.reason_of.ensures
 
 pub returns-in-Err-clause-memory : goal.returns-in-Err-clause-memory

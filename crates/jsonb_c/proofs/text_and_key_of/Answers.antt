@@ -1,6 +1,6 @@
 use Rattle.std.proofs.Common.{inr, subst}
 use Rattle.std.proofs.lemmas.Result.{err_from_is_err_and}
-use Rattle.jsonb_c.specs.Interface.{IsKeyOf, IsReason, IsRefused}
+use Rattle.jsonb_c.specs.Interface.{IsKeyOf, IsReason, IsRejected}
 use Rattle.jsonb_c.proofs.Keys.{key_of_form}
 use Rattle.jsonb_c.proofs.Texts.{form_reason}
 use Rattle.jsonb_c.proofs.text_and_key_of.Goals as goal
@@ -14,7 +14,7 @@ pub returns-in_err-key-clause-reason : goal.returns-in_err-key-clause-reason
 returns-in_err-key-clause-reason c =
     let residual = err_from_is_err_and c.from_residual-in_err-key.result c.from_residual-in_err-key.ensures.1 in
     rw (residual.1, residual.2) (form_reason c.args.mode c.args.text.now c.in_ok-bytes.bytes.items c.in_err-key.field-0.0 c.in_ok-bytes.ensures.text
-    (subst (λ form. IsReason c.args.mode (IsRefused c.args.mode form 1) c.in_err-key.field-0.0) c.deref.ensures.value c.in_err-key.ensures.reason))
+    (subst (λ form. IsReason c.args.mode (IsRejected c.args.mode form 1) c.in_err-key.field-0.0) c.deref.ensures.value c.in_err-key.ensures.reason))
 
 pub returns-in_err-key-clause-memory : goal.returns-in_err-key-clause-memory
 returns-in_err-key-clause-memory c = λ is. inr (record { tree = c.in_ok-bytes.ensures.text.tree; read = c.in_ok-bytes.ensures.text.read })

@@ -4,4 +4,4 @@ use Rattle.jsonb_c.proofs.vizhoniku_check.Goals as goal
 
 pub returns-in-Err-clause-accepted : goal.returns-in-Err-clause-accepted
 returns-in-Err-clause-accepted c = λ accepted.
-    inr (c.tell.ensures.status ∙ memory_wanting c.args.mode c.args.text.now c.in-Err.refused c.in-Err.ensures.reason accepted)
+    inr (c.tell.ensures.status ∙ memory_wanting c.args.mode c.args.text.now c.in-Err.rejected c.in-Err.ensures.reason accepted)

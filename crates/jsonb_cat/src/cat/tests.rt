@@ -160,7 +160,7 @@ fn wrong_words_give_the_usage_line_before_reading(
 }
 
 #[test]
-fn a_reader_that_fails_refuses(rt: HostRuntime) -> std::result::Result<(), Fail> {
+fn a_reader_that_fails_is_an_error(rt: HostRuntime) -> std::result::Result<(), Fail> {
     for bytes in ["", "[", "[1", "[1]"] {
         for words in ["", "--standard"] {
             let mut input = Failing {
@@ -269,16 +269,16 @@ fn no_words_choose_extended_mode(rt: HostRuntime) -> std::result::Result<(), Fai
 fn the_mode_of_the_words_reads(rt: HostRuntime) -> std::result::Result<(), Fail> {
     let input = b"[1,]";
     expect_run(&rt, "", &mut input.as_slice(), 0, "[1,null]\n", "")?;
-    let refusal = "expected value, pos 4\n";
-    expect_run(&rt, "--standard", &mut input.as_slice(), 1, "", refusal)?;
+    let error = "expected value, pos 4\n";
+    expect_run(&rt, "--standard", &mut input.as_slice(), 1, "", error)?;
     let usage = "usage: jsonb_cat [--standard]\n";
     expect_run(&rt, "--x", &mut input.as_slice(), 2, "", usage)?;
     Ok(())
 }
 
 #[test]
-fn texts_that_are_cut_off_are_refused(rt: HostRuntime) -> std::result::Result<(), Fail> {
-    for (input, refusal) in [
+fn texts_that_are_cut_off_are_rejected(rt: HostRuntime) -> std::result::Result<(), Fail> {
+    for (input, error) in [
         (r#""\"#, "EOF while parsing a value, pos 2\n"),
         (r#""\u"#, "EOF while parsing a value, pos 3\n"),
         (r#""\u{"#, "EOF while parsing a value, pos 9\n"),
@@ -286,23 +286,23 @@ fn texts_that_are_cut_off_are_refused(rt: HostRuntime) -> std::result::Result<()
         (r#""\u1""#, "EOF while parsing a value, pos 7\n"),
     ] {
         for words in ["", "--standard"] {
-            expect_run(&rt, words, &mut input.as_bytes(), 1, "", refusal)?;
+            expect_run(&rt, words, &mut input.as_bytes(), 1, "", error)?;
         }
     }
-    for (input, refusal) in [
+    for (input, error) in [
         (&b"{\xE4"[..], "EOF while parsing a value, pos 4\n"),
         (&b"{\xF0"[..], "EOF while parsing a value, pos 5\n"),
         (&br"{'a\u"[..], "EOF while parsing a value, pos 5\n"),
     ] {
         let mut bytes = input;
-        expect_run(&rt, "", &mut bytes, 1, "", refusal)?;
+        expect_run(&rt, "", &mut bytes, 1, "", error)?;
     }
     Ok(())
 }
 
 #[test]
-fn texts_that_are_too_deep_are_refused(rt: HostRuntime) -> std::result::Result<(), Fail> {
-    for (words, part, times, refusal) in [
+fn texts_that_are_too_deep_are_rejected(rt: HostRuntime) -> std::result::Result<(), Fail> {
+    for (words, part, times, error) in [
         ("", "[", 100_000, "depth limit exceeded, pos 513\n"),
         (
             "--standard",
@@ -322,7 +322,7 @@ fn texts_that_are_too_deep_are_refused(rt: HostRuntime) -> std::result::Result<(
         for _ in 0..times {
             input.extend_from_slice(part.as_bytes())?;
         }
-        expect_run(&rt, words, &mut input.as_slice(), 1, "", refusal)?;
+        expect_run(&rt, words, &mut input.as_slice(), 1, "", error)?;
     }
     Ok(())
 }

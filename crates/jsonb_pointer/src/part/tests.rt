@@ -2,7 +2,7 @@ use super::*;
 use std::process::Abort;
 use std::test::Fail;
 
-// Compares what stands at the path of the document, or `none`, or what is printed of the refusal.
+// Compares what stands at the path of the document, or `none`, or what is printed of the error.
 fn expect(
     rt: &(impl AllocGlobal + Abort),
     path: &[u8],
@@ -12,8 +12,8 @@ fn expect(
     let got = match part_text(rt.alloc(), path, document.as_bytes()) {
         Ok(Some(text)) => text,
         Ok(None) => Vec::from_slice(rt.alloc(), b"none")?,
-        Err(refusal) => {
-            let printed = format!(in rt.alloc(); "{refusal}")?;
+        Err(error) => {
+            let printed = format!(in rt.alloc(); "{error}")?;
             Vec::from_slice(rt.alloc(), printed.as_bytes())?
         }
     };
@@ -104,8 +104,8 @@ fn get_finds_the_part_itself(rt: HostRuntime) -> Result<(), Fail> {
             Ok(Some(part)) if part.write_text(&mut got).is_ok() => {}
             Ok(Some(_)) => return Err(Fail::from(AllocError)),
             Ok(None) => got.extend_from_slice(b"none")?,
-            Err(refusal) => {
-                let printed = format!(in alloc; "{refusal}")?;
+            Err(error) => {
+                let printed = format!(in alloc; "{error}")?;
                 got.extend_from_slice(printed.as_bytes())?;
             }
         }

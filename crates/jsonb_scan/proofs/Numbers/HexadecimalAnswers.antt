@@ -74,10 +74,10 @@ hexadecimal_whole_at place n m negative r bs e some no_point small value number 
     rw (← e, some_tested n some, point_tested (slice_index bs n) no_point, is_below (digits_value 16 (take n bs)) (2 ^ 128) small, there) refl
 
 -- the same by what was tested of the digits' values
-pub fraction_refused : (place n : ℕ) (fits : Bool) (r : Option ℕ) (bs : List ℕ) → n ≡ hexadecimal_length bs → n ≢ 0 → SomeIff r (digits_value 16 (take n bs) < 2 ^ 128) (digits_value 16 (take n bs)) → (fits ≡ false) ⊎ ((fits ≡ true) × (r ≡ None)) → invalid (place + n) ≡ fraction_scan place fits bs
-fraction_refused place n fits r bs e some h (inl past) = fraction_after_past place n fits bs e some past
-fraction_refused place n fits None bs e some h (inr (whole, none)) = fraction_past place n fits bs e some whole h
-fraction_refused place n fits (Some v) bs e some h (inr (whole, none)) = absurd (cc)
+pub fraction_rejected : (place n : ℕ) (fits : Bool) (r : Option ℕ) (bs : List ℕ) → n ≡ hexadecimal_length bs → n ≢ 0 → SomeIff r (digits_value 16 (take n bs) < 2 ^ 128) (digits_value 16 (take n bs)) → (fits ≡ false) ⊎ ((fits ≡ true) × (r ≡ None)) → invalid (place + n) ≡ fraction_scan place fits bs
+fraction_rejected place n fits r bs e some h (inl past) = fraction_after_past place n fits bs e some past
+fraction_rejected place n fits None bs e some h (inr (whole, none)) = fraction_past place n fits bs e some whole h
+fraction_rejected place n fits (Some v) bs e some h (inr (whole, none)) = absurd (cc)
 
 pub fraction_without_number : (place n : ℕ) (fits : Bool) (r : Option ℕ) (bs : List ℕ) → n ≡ hexadecimal_length bs → n ≢ 0 → SomeIff r (digits_value 16 (take n bs) < 2 ^ 128) (digits_value 16 (take n bs)) → fits ≡ true → (r ≡ None → ⊥) → without_number (place + n) ≡ fraction_scan place fits bs
 fraction_without_number place n fits (Some v) bs e some h whole found = fraction_not_carried place n fits bs e some whole h.0

@@ -56,10 +56,10 @@ reads_letters bytes word front only is_word (Ok end) (letters, rest, joined, spe
 reads_letters bytes word front only is_word (Err f) (code, none) =
     (word_code f.0 code, none_in_word bytes front (λ k found. none found.letters (drop k bytes) (after_sign bytes k found) (only k found)))
 
--- where no word text begins, each refusal is right
-refuses_letters : (bytes : List ℕ) (place : ℕ) (word rest : List ℕ) → NoExtendedEnds bytes → (r : Letters) → WordAnswer place word rest r → ScansExtended bytes (invalid_word r)
-refuses_letters bytes place word rest none (Ok end) h = (inl refl, none)
-refuses_letters bytes place word rest none (Err f) h = (word_code f.0 h.0, none)
+-- where no word text begins, each error is right
+rejects_letters : (bytes : List ℕ) (place : ℕ) (word rest : List ℕ) → NoExtendedEnds bytes → (r : Letters) → WordAnswer place word rest r → ScansExtended bytes (invalid_word r)
+rejects_letters bytes place word rest none (Ok end) h = (inl refl, none)
+rejects_letters bytes place word rest none (Err f) h = (word_code f.0 h.0, none)
 
 only_nan : (bytes : List ℕ) (k : ℕ) (f : WordFound bytes k) → to_ascii_lowercase (core_byte bytes) ≡ 110 → Spells (codes "nan") f.letters × (is_minus bytes ≡ false)
 only_nan bytes k f n = ⊎_elim (λ i. absurd (omega (arith, i.1, n))) (λ nan. (nan.0, f.minus ∙ nan.1)) f.kind
@@ -76,7 +76,7 @@ reads_word bytes front =
     (λ n. let letter : to_ascii_lowercase (slice_index (drop (sign_end bytes 0) bytes) 0) ≡ 110 = ap to_ascii_lowercase (first_byte bytes) ∙ n in
     ⊎_elim
     (λ minus. subst (ScansExtended bytes) (sym (words_nan_minus (sign_end bytes 0) (is_minus bytes) (drop (sign_end bytes 0) bytes) letter minus))
-    (refuses_letters bytes (sign_end bytes 0) (codes "nan") (drop (sign_end bytes 0) bytes) (none_in_word bytes front (λ k f. false≢true (sym (only_nan bytes k f n).1 ∙ minus))) (spelled_from (sign_end bytes 0) (codes "nan") (drop (sign_end bytes 0) bytes)) (word_answer (sign_end bytes 0) (codes "nan") (drop (sign_end bytes 0) bytes))))
+    (rejects_letters bytes (sign_end bytes 0) (codes "nan") (drop (sign_end bytes 0) bytes) (none_in_word bytes front (λ k f. false≢true (sym (only_nan bytes k f n).1 ∙ minus))) (spelled_from (sign_end bytes 0) (codes "nan") (drop (sign_end bytes 0) bytes)) (word_answer (sign_end bytes 0) (codes "nan") (drop (sign_end bytes 0) bytes))))
     (λ plus. subst (ScansExtended bytes) (sym (words_nan_plus (sign_end bytes 0) (is_minus bytes) (drop (sign_end bytes 0) bytes) letter plus))
     (reads_letters bytes (codes "nan") front (λ k f. (only_nan bytes k f n).0) (λ letters spells. inr (spells, (sign_front bytes).minus ∙ plus)) (spelled_from (sign_end bytes 0) (codes "nan") (drop (sign_end bytes 0) bytes)) (word_answer (sign_end bytes 0) (codes "nan") (drop (sign_end bytes 0) bytes)))) (cases_Bool (is_minus bytes)))
     (λ other. subst (ScansExtended bytes) (sym (words_infinity (sign_end bytes 0) (is_minus bytes) (drop (sign_end bytes 0) bytes) (λ n. other (sym (ap to_ascii_lowercase (first_byte bytes)) ∙ n))))

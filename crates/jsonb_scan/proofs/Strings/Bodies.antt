@@ -15,7 +15,7 @@ use Rattle.jsonb_spec.specs.Grammar.Quoted.{mark_of}
 use Rattle.jsonb_scan.specs.Decoding.{SeesBackslash, SeesNoBackslash, TellsBackslash}
 use Rattle.jsonb_value.specs.declared.error.Error.{Error}
 use Rattle.jsonb_value.specs.declared.error.Error.TheVariants.{Syntax, OutOfMemory}
-use Rattle.jsonb_scan.specs.StringRefusal.{IsDecodingError}
+use Rattle.jsonb_scan.specs.StringError.{IsDecodingError}
 use Rattle.jsonb_scan.specs.QuotedString.{DecodesContents}
 use Rattle.jsonb_scan.specs.Answer.{Fails}
 use Rattle.jsonb_scan.specs.Reading.{fault}
@@ -173,11 +173,11 @@ pub string-unclosed : (size : ℕ) (mode : Mode) (quote : ℕ) (bytes : List ℕ
 unfolding string_at
 string-unclosed size mode quote bytes at none = ap (closed size mode bytes) none
 
--- what a decoder refuses is what reading the body refuses
-pub reads_refused : (mode : Mode) (bytes : List ℕ) (before after : ℕ) (e : Error) → IsDecodingError mode bytes before after e → DecodesContents before (Err e) (body_of mode bytes)
-reads_refused mode bytes before after (Syntax code place) r = (r.0, body_faulty mode bytes (code_of code) r.0 r.1, r.3 ∙ r.2)
-reads_refused mode bytes before after OutOfMemory r = tt
-reads_refused mode bytes before after other r = r
+-- what a decoder rejects is what reading the body rejects
+pub reads_rejected : (mode : Mode) (bytes : List ℕ) (before after : ℕ) (e : Error) → IsDecodingError mode bytes before after e → DecodesContents before (Err e) (body_of mode bytes)
+reads_rejected mode bytes before after (Syntax code place) r = (r.0, body_faulty mode bytes (code_of code) r.0 r.1, r.3 ∙ r.2)
+reads_rejected mode bytes before after OutOfMemory r = tt
+reads_rejected mode bytes before after other r = r
 
 pub body_fails : (size : ℕ) (mode : Mode) (quote : ℕ) (bytes : List ℕ) (end idx : ℕ) (e : Error) → quote_end quote bytes ≡ Ok end → size - length bytes ≡ idx → DecodesContents (idx + 1) (Err e) (body_of mode (take end bytes)) → Fails e (string_at size mode quote bytes)
 unfolding string_at

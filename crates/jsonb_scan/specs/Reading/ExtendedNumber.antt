@@ -152,7 +152,7 @@ abbrev pub uncarried_word : Result ℕ (Code × ℕ) → Scanned
 uncarried_word (Ok end) = Ok (None, end)
 uncarried_word (Err f) = Err f
 
--- a word that is refused where it is spelled
+-- a word that is rejected where it is spelled
 abbrev pub invalid_word : Result ℕ (Code × ℕ) → Scanned
 invalid_word (Ok end) = Err (invalid_number_value, end)
 invalid_word (Err f) = Err f

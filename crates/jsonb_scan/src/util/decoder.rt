@@ -5,7 +5,7 @@ ghost use Rattle.jsonb_spec.specs.Mode.{standard};
 ghost use Rattle.jsonb_value.specs.Error.CodeView.{code_of};
 ghost use Rattle.jsonb_spec.specs.Grammar.StringBody.{escaped_byte, Decodes};
 ghost use Rattle.jsonb_scan.specs.Answer.{mode_of};
-ghost use Rattle.jsonb_scan.specs.StringRefusal.{IsDecodingError};
+ghost use Rattle.jsonb_scan.specs.StringError.{IsDecodingError};
 ghost use Rattle.jsonb_scan.specs.Decoding.{Adds, DecodesUpTo, StopsAtEscape};
 ghost use Rattle.jsonb_scan.specs.QuotedString.{decoded_text};
 

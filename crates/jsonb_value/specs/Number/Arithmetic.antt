@@ -19,19 +19,19 @@ IsMessage text (Message s) = string_bytes s ≡ text
 IsMessage text OutOfMemory = ⊤
 IsMessage text other = ⊥
 
--- the answer is a refusal with this message
-abbrev pub RefusesWith : List ℕ → Result Number Error → Type 0
-RefusesWith text r = IsErrAnd r (IsMessage text)
+-- the answer is an error with this message
+abbrev pub FailsWith : List ℕ → Result Number Error → Type 0
+FailsWith text r = IsErrAnd r (IsMessage text)
 
 -- z as an `Int64` where that fits, and else the message
 pub record AnswersInt64 (overflow : List ℕ) (z : ℤ) (r : Result Number Error) : Type 0 where
   pub fits : FitsSigned w64 z → r ≡ Ok (Int64 z)
-  pub overflows : ¬ FitsSigned w64 z → RefusesWith overflow r
+  pub overflows : ¬ FitsSigned w64 z → FailsWith overflow r
 
 -- z as a `UInt64` where that fits, and else the message
 pub record AnswersUInt64 (overflow : List ℕ) (z : ℤ) (r : Result Number Error) : Type 0 where
   pub fits : FitsUnsigned w64 z → r ≡ Ok (UInt64 (unsigned_abs z))
-  pub overflows : ¬ FitsUnsigned w64 z → RefusesWith overflow r
+  pub overflows : ¬ FitsUnsigned w64 z → FailsWith overflow r
 
 -- z in the variant of this kind where that fits, and else the kind's message
 abbrev pub AnswersAs : Kind → ℤ → Result Number Error → Type 0
@@ -55,7 +55,7 @@ common_kind (UInt64 a) (Decimal128 e) = None
 common_kind (Decimal64 d) y = None
 common_kind (Decimal128 d) y = None
 
--- a decimal operand is refused, and else the answer is as Q says for the common kind
+-- a decimal operand is rejected, and else the answer is as Q says for the common kind
 abbrev pub OfIntegers : Number → Number → Result Number Error → (Kind → Type 0) → Type 0
 OfIntegers x y r Q = MatchOption (common_kind x y) (r ≡ Err UnexpectedType) Q
 
@@ -92,8 +92,8 @@ IsLeastByMinusOne a b = (a ≡ neg_ℤ (pos (2 ^ 63))) × (b ≡ neg_ℤ (pos 1)
 
 -- the remainder of a by b, in this order: no divisor, the quotient's overflow, the remainder
 pub record AnswersRemainder (k : Kind) (a b : ℤ) (r : Result Number Error) : Type 0 where
-  pub no_divisor : b ≡ pos 0 → RefusesWith (codes "Division by zero") r
-  pub overflows : IsLeastByMinusOne a b → RefusesWith (codes "Int64 overflow") r
+  pub no_divisor : b ≡ pos 0 → FailsWith (codes "Division by zero") r
+  pub overflows : IsLeastByMinusOne a b → FailsWith (codes "Int64 overflow") r
   pub divides : b ≢ pos 0 → ¬ IsLeastByMinusOne a b → (rest : ℤ) × IsRemainder a b rest × AnswersAs k rest r
 
 abbrev pub IsRest : Number → Number → Result Number Error → Type 0
@@ -103,13 +103,13 @@ IsRest x y r = OfIntegers x y r (λ k. AnswersRemainder k (whole_of x) (whole_of
 abbrev pub IsNegation : Number → Result Number Error → Type 0
 IsNegation (Int64 a) r = AnswersInt64 (codes "Int64 overflow") (neg_ℤ a) r
 IsNegation (UInt64 a) r = (a < 2 ^ 63 → r ≡ Ok (Int64 (neg_ℤ (pos a))))
-    × (2 ^ 63 ≤ a → RefusesWith (codes "Int64 overflow") r)
+    × (2 ^ 63 ≤ a → FailsWith (codes "Int64 overflow") r)
 IsNegation (Decimal64 d) r =
     (FitsSigned w64 (neg_ℤ d.value) → r ≡ Ok (Decimal64 (record d { value = neg_ℤ d.value })))
-    × (¬ FitsSigned w64 (neg_ℤ d.value) → RefusesWith (codes "Decimal64 overflow") r)
+    × (¬ FitsSigned w64 (neg_ℤ d.value) → FailsWith (codes "Decimal64 overflow") r)
 IsNegation (Decimal128 d) r =
     (FitsSigned w128 (neg_ℤ d.value) → r ≡ Ok (Decimal128 (record d { value = neg_ℤ d.value })))
-    × (¬ FitsSigned w128 (neg_ℤ d.value) → RefusesWith (codes "Decimal128 overflow") r)
+    × (¬ FitsSigned w128 (neg_ℤ d.value) → FailsWith (codes "Decimal128 overflow") r)
 
 -- z is in the range of an `Int64` or of a `UInt64`
 abbrev pub IsWithin65Bits : ℤ → Type 0

@@ -39,7 +39,7 @@ impl<'a> Value<'a> {
     }
 }
 
-// The copy, or a refusal.
+// The copy, or an error.
 #[cycle(own)]
 fn own<'a, 'b>(alloc: Global, value: &Value<'a>) -> Result<Value<'b>>
     ensures ok { IfOk result (λ v. view v ≡ owned (view value.now)) }

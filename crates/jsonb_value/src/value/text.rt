@@ -65,7 +65,7 @@ impl Value<'_> {
         ensures err { OnErr result (buf.new.items ≡ buf.old.items) }
         ensures unexpected { IsErrOf result Error.UnexpectedType ↔ (text_of (view self.now) ≡ None) }
         ensures errors { IfErr result (λ e. (e ≡ Error.UnexpectedType) ⊎ (e ≡ Error.OutOfMemory)) }
-        ensures refused { IfErr result (λ e. e ≢ Error.OutOfMemory → text_of (view self.now) ≡ None) }
+        ensures rejected { IfErr result (λ e. e ≢ Error.OutOfMemory → text_of (view self.now) ≡ None) }
         // Memory runs out only where the capacity for the whole text is missing.
         ensures full { IsErrOf result Error.OutOfMemory → IfSome (text_of (view self.now))
             (λ bytes. vec_capacity buf.old < vec_len buf.old + length bytes) }
@@ -85,14 +85,14 @@ impl Value<'_> {
             return Ok(());
         }
         buf.truncate(old_len);
-        Err(refusal(self))
+        Err(text_error(self))
     }
 }
 
 // The error of a value that was not appended. Only here is the value walked once more.
 #[cold]
 #[inline(never)]
-fn refusal(value: &Value<'_>) -> Error
+fn text_error(value: &Value<'_>) -> Error
     ensures unexpected { (result ≡ Error.UnexpectedType) ↔ (text_of (view value.now) ≡ None) }
     ensures errors { (result ≡ Error.UnexpectedType) ⊎ (result ≡ Error.OutOfMemory) }
 {

@@ -10,8 +10,8 @@ fn expect(rt: &(impl AllocGlobal + Abort), text: &str, told: &str) -> Result<(),
     }
     match index_text(rt.alloc(), &lines) {
         Ok(got) => assert_eq!(rt; got.as_slice(), told.as_bytes(), "index of {text:?}"),
-        Err(refusal) => {
-            let got = format!(in rt.alloc(); "{refusal}")?;
+        Err(error) => {
+            let got = format!(in rt.alloc(); "{error}")?;
             assert_eq!(rt; got.as_str(), told, "refusal of {text:?}");
         }
     }

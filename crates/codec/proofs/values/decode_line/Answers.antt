@@ -1,7 +1,7 @@
 use Rattle.jsonb_value.specs.View.{view}
-use Rattle.codec.proofs.Refusals.{unwritten}
+use Rattle.codec.proofs.Errors.{unwritten}
 use Rattle.codec.proofs.values.decode_line.Goals as goal
 
-pub returns-in-Err-clause-refused : goal.returns-in-Err-clause-refused
-returns-in-Err-clause-refused c =
-    unwritten c.args.frames.now (view c.in_ok-value.value) c.in_ok-value.rest.now c.in-Err.error c.in_ok-value.ensures.ok c.in-Err.ensures.refused
+pub returns-in-Err-clause-rejected : goal.returns-in-Err-clause-rejected
+returns-in-Err-clause-rejected c =
+    unwritten c.args.frames.now (view c.in_ok-value.value) c.in_ok-value.rest.now c.in-Err.error c.in_ok-value.ensures.ok c.in-Err.ensures.rejected

@@ -11,7 +11,7 @@ returns-clause-only c =
     let ok = rw c.deref.ensures.value at c.config_of.ensures.ok in
     only_settings c.args.text.now c.in-Ok.document c.in-Object.members c.config_of.result c.in-Object.is c.in-Ok.ensures.only ok
 
-pub returns-clause-refused : goal.returns-clause-refused
-returns-clause-refused c =
-    let refused = rw c.deref.ensures.value at c.config_of.ensures.refused in
-    no_settings c.args.text.now c.in-Ok.document c.in-Object.members c.config_of.result c.in-Object.is c.in-Ok.ensures.document c.in-Ok.ensures.source refused
+pub returns-clause-rejected : goal.returns-clause-rejected
+returns-clause-rejected c =
+    let rejected = rw c.deref.ensures.value at c.config_of.ensures.rejected in
+    no_settings c.args.text.now c.in-Ok.document c.in-Object.members c.config_of.result c.in-Object.is c.in-Ok.ensures.document c.in-Ok.ensures.source rejected

@@ -132,8 +132,8 @@ impl<'a> Handler<'a> for Value<'a> {
         is_last: bool,
     ) -> Result<(), AllocError> {
         make_room(items, is_last);
-        if let Err(refused) = items.push(value) {
-            refused.value.dismantle();
+        if let Err(rejected) = items.push(value) {
+            rejected.value.dismantle();
             return Err(AllocError);
         }
         Ok(())
@@ -312,7 +312,7 @@ pub(in crate::parser) fn put_member<'a>(
 {
     match members.insert(key, value) {
         Ok(None) => Ok(true),
-        other => drop_refused(other),
+        other => drop_after_error(other),
     }
 }
 
@@ -321,7 +321,7 @@ pub(in crate::parser) fn put_member<'a>(
 // drops.
 #[cold]
 #[inline(never)]
-fn drop_refused<'a>(
+fn drop_after_error<'a>(
     given: Result<Option<Value<'a>>, AllocFailed<(String, Value<'a>)>>,
 ) -> Result<bool, AllocError>
     ensures { MatchResult given.entry (λ _. result ≡ Ok false) (λ _. IfOk result (λ _. ⊥)) }
@@ -332,8 +332,8 @@ fn drop_refused<'a>(
             Ok(false)
         }
         Ok(None) => Ok(false),
-        Err(refused) => {
-            let (_, value) = refused.value;
+        Err(rejected) => {
+            let (_, value) = rejected.value;
             value.dismantle();
             Err(AllocError)
         }

@@ -38,10 +38,10 @@ text_lacks : (mode : Mode) (input : List ℕ) (capacity len : ℕ) → MayAlloca
 text_lacks mode input capacity len (inl may) = inl may
 text_lacks mode input capacity len (inr lacks) = inr (lacking mode input lacks.tree capacity len lacks.document (omega (arith, lacks.too_short)))
 
--- the clause of a call that was refused
-grown_refused : {T E P : Type 0} (r : Result T E) → OnErr r P → is_err r ≡ true → P
-grown_refused (Ok x) told refused = cc
-grown_refused (Err e) told refused = told
+-- the clause of a call that was rejected
+grown_failed : {T E P : Type 0} (r : Result T E) → OnErr r P → is_err r ≡ true → P
+grown_failed (Ok x) told rejected = cc
+grown_failed (Err e) told rejected = told
 
 -- the line feed alone doesn't fit
 feed_lacks : (mode : Mode) (input : List ℕ) (t : Tree) (old now : List ℕ) (capacity after : ℕ) → IsDocument mode input t → AppendsText t old now → after ≤ length now → MayAllocate input ⊎ (capacity ≤ after) → MayAllocate input ⊎ LacksRoom mode input capacity (length old)
@@ -64,7 +64,7 @@ returns-in_err-append_text-clause-memory c = λ is.
 pub returns-then-is_err-clause-memory : goal.returns-then-is_err-clause-memory
 returns-then-is_err-clause-memory c = λ is.
     let appended = c.in_ok-append_text.ensures.ok in
-    let full : vec_capacity c.append_text.new.buf ≤ vec_len c.append_text.new.buf = grown_refused c.push.result c.push.ensures.full (sym c.if-is_err.ensures.value) in
+    let full : vec_capacity c.append_text.new.buf ≤ vec_len c.append_text.new.buf = grown_failed c.push.result c.push.ensures.full (sym c.if-is_err.ensures.value) in
     let within : vec_capacity c.append_text.new.buf ≤ length c.append_text.new.buf.items = omega (arith, full, c.append_text.new.buf.ok.0) in
     subst (λ len. MayAllocate c.args.input.now ⊎ LacksRoom (mode_of c.args.mode) c.args.input.now (vec_capacity c.args.out.now) len) (sym c.args.out.now.ok.0)
     (feed_lacks (mode_of c.args.mode) c.args.input.now appended.tree c.args.out.now.items c.append_text.new.buf.items (vec_capacity c.args.out.now) (vec_capacity c.append_text.new.buf) appended.parsed.document appended.appended within c.append_text.ensures.capacity)

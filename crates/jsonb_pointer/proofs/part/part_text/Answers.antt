@@ -41,5 +41,5 @@ returns-in-Ok-false-clause-ok c =
       none = nothing.none;
     }
 
-pub returns-in-Err-OutOfMemory-clause-refused : goal.returns-in-Err-OutOfMemory-clause-refused
-returns-in-Err-OutOfMemory-clause-refused c = inr (document_needs (c.in-Err-OutOfMemory.ensures.memory (ap Err c.in-Err-OutOfMemory.field-0-is)))
+pub returns-in-Err-OutOfMemory-clause-rejected : goal.returns-in-Err-OutOfMemory-clause-rejected
+returns-in-Err-OutOfMemory-clause-rejected c = inr (document_needs (c.in-Err-OutOfMemory.ensures.memory (ap Err c.in-Err-OutOfMemory.field-0-is)))

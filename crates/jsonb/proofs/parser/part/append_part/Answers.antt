@@ -7,7 +7,7 @@ use Rattle.jsonb_spec.specs.Source.{tree_of_source}
 use Rattle.jsonb_spec.specs.PartAt.{part_at}
 use Rattle.jsonb_write.specs.PartRoom.{part_of}
 use Rattle.jsonb.specs.Handler.{Misses}
-use Rattle.jsonb.proofs.Documents.Agreement.{gives_explained, gives_refused, gives_tree}
+use Rattle.jsonb.proofs.Documents.Agreement.{gives_explained, gives_rejected, gives_tree}
 use Rattle.jsonb.proofs.Documents.Parts.{part_appended, part_missing}
 use Rattle.jsonb.proofs.Documents.Straight.{source_parsed, text_there}
 use Rattle.jsonb.proofs.parser.part.append_part.Goals as goal
@@ -36,8 +36,8 @@ returns-in-Some-clause-ok c =
 pub returns-in-Some-told-clause-exact : goal.returns-in-Some-told-clause-exact
 returns-in-Some-told-clause-exact c = gives_tree (mode_of c.args.mode) c.args.text.now (Err c.in-Some-told.error) (subst (λ told. Misses true told (source_of (mode_of c.args.mode) c.args.text.now)) c.in-Some-told.is (c.in-Err.ensures.reads c.new-room.ensures.stands))
 
-pub returns-in-Some-told-clause-refused : goal.returns-in-Some-told-clause-refused
-returns-in-Some-told-clause-refused c = gives_refused (mode_of c.args.mode) c.args.text.now (Err c.in-Some-told.error) (returns-in-Some-told-clause-exact c)
+pub returns-in-Some-told-clause-rejected : goal.returns-in-Some-told-clause-rejected
+returns-in-Some-told-clause-rejected c = gives_rejected (mode_of c.args.mode) c.args.text.now (Err c.in-Some-told.error) (returns-in-Some-told-clause-exact c)
 
 pub returns-in-Some-told-clause-explained : goal.returns-in-Some-told-clause-explained
 returns-in-Some-told-clause-explained c = gives_explained (mode_of c.args.mode) c.args.text.now (Err c.in-Some-told.error) (returns-in-Some-told-clause-exact c)

@@ -3,13 +3,13 @@ use Rattle.std.proofs.lemmas.Result.{err_from_is_err_and}
 use Rattle.jsonb_spec.specs.Tree.{plain}
 use Rattle.jsonb_scan.specs.Answer.{mode_of}
 use Rattle.jsonb_scan.specs.Decoding.{TellsBackslash}
-use Rattle.jsonb_scan.proofs.Strings.Bodies.{body-raw, body-raw_fault, body-decoded, reads_refused}
+use Rattle.jsonb_scan.proofs.Strings.Bodies.{body-raw, body-raw_fault, body-decoded, reads_rejected}
 use Rattle.jsonb_scan.proofs.parser.string.decode_contents.Goals as goal
 
 pub returns-in_err-text-clause-reads : goal.returns-in_err-text-clause-reads
 returns-in_err-text-clause-reads c =
     let p = err_from_is_err_and c.from_residual.result c.from_residual.ensures.1 in
-    rw (p.1, p.2) (reads_refused (mode_of c.args.mode) c.args.body.now _ _ _ c.in_err-text.ensures.err)
+    rw (p.1, p.2) (reads_rejected (mode_of c.args.mode) c.args.body.now _ _ _ c.in_err-text.ensures.err)
 
 pub returns-then-escaped-clause-reads : goal.returns-then-escaped-clause-reads
 returns-then-escaped-clause-reads c =

@@ -3,7 +3,7 @@ use Rattle.jsonb.specs.Handler.{Misses}
 use Rattle.jsonb.specs.Source.{source_view}
 use Rattle.jsonb_scan.specs.Answer.{Fails, mode_of}
 use Rattle.jsonb_scan.specs.Reading.Document.{source_of}
-use Rattle.jsonb.proofs.Documents.Agreement.{gives_document, gives_explained, gives_only, gives_refused, gives_source, gives_tree}
+use Rattle.jsonb.proofs.Documents.Agreement.{gives_document, gives_explained, gives_only, gives_rejected, gives_source, gives_tree}
 use Rattle.jsonb.proofs.parser.ast.JsonAst.parse.Goals as goal
 
 source_given : (c : goal.In-Ok) → source_of (mode_of c.args.mode) c.args.buf.now ≡ Ok (source_view c.in-Ok.tree)
@@ -27,8 +27,8 @@ returns-in-Ok-clause-source c = gives_source (mode_of c.args.mode) c.args.buf.no
 pub returns-in-Some-clause-exact : goal.returns-in-Some-clause-exact
 returns-in-Some-clause-exact c = gives_tree (mode_of c.args.mode) c.args.buf.now (Err c.in-Some.error) (fault_told c)
 
-pub returns-in-Some-clause-refused : goal.returns-in-Some-clause-refused
-returns-in-Some-clause-refused c = gives_refused (mode_of c.args.mode) c.args.buf.now (Err c.in-Some.error) (returns-in-Some-clause-exact c)
+pub returns-in-Some-clause-rejected : goal.returns-in-Some-clause-rejected
+returns-in-Some-clause-rejected c = gives_rejected (mode_of c.args.mode) c.args.buf.now (Err c.in-Some.error) (returns-in-Some-clause-exact c)
 
 pub returns-in-Some-clause-explained : goal.returns-in-Some-clause-explained
 returns-in-Some-clause-explained c = gives_explained (mode_of c.args.mode) c.args.buf.now (Err c.in-Some.error) (returns-in-Some-clause-exact c)

@@ -1,5 +1,5 @@
 use Rattle.std.proofs.Common.{◌∙◌, ◌≡◌, ◌⊎◌, ap, inl, inr, true, false, None, not}
-use Rattle.jsonb_scan.proofs.Numbers.HexadecimalAnswers.{digits_of_length, fraction_without_digits, fraction_refused, fraction_without_number, no_value, some_value}
+use Rattle.jsonb_scan.proofs.Numbers.HexadecimalAnswers.{digits_of_length, fraction_without_digits, fraction_rejected, fraction_without_number, no_value, some_value}
 use Rattle.jsonb_scan.proofs.parser.extended_number.hexadecimal.scan_fraction.Goals as goal
 use Rattle.jsonb_scan.proofs.parser.extended_number.hexadecimal.scan_fraction.Goals.{then-not-whole_fits-via-then-not-whole_fits, then-not-whole_fits-via-else-not-whole_fits+then-is_none}
 
@@ -15,7 +15,7 @@ returns-then-not-whole_fits-clause-scan c =
       | then-not-whole_fits-via-then-not-whole_fits w ↦ inl w.if-not-whole_fits.true
       | then-not-whole_fits-via-else-not-whole_fits+then-is_none w ↦ inr (w.if-not-whole_fits.false, no_value c.hexadecimal_value-fraction.result (w.is_none.ensures ∙ ap not w.if-is_none.true))
     ] in
-    c.invalid-then-not-whole_fits.ensures.scan ∙ fraction_refused c.args.place c.hexadecimal_length-len.result c.args.whole_fits c.hexadecimal_value-fraction.result c.args.bytes.now c.hexadecimal_length-len.ensures.value c.if-len-eq0.false c.hexadecimal_value-fraction.ensures why
+    c.invalid-then-not-whole_fits.ensures.scan ∙ fraction_rejected c.args.place c.hexadecimal_length-len.result c.args.whole_fits c.hexadecimal_value-fraction.result c.args.bytes.now c.hexadecimal_length-len.ensures.value c.if-len-eq0.false c.hexadecimal_value-fraction.ensures why
 
 pub returns-clause-scan : goal.returns-clause-scan
 returns-clause-scan c =

@@ -14,13 +14,13 @@ use Rattle.jsonb_spec.specs.Grammar.Scalar.IsScalar.{literal_value, number_value
 use Rattle.jsonb_spec.specs.Grammar.StringBody.{Item, escaped_byte, meaning, spelling}
 use Rattle.jsonb_spec.specs.Tree.{Mark, plain, Num, Tree}
 use Rattle.jsonb_spec.specs.Tree.Tree.{boolean, null, number, string}
-use Rattle.jsonb_scan.specs.Reading.{Fault, Read, begins, fault, fault_at, refused}
+use Rattle.jsonb_scan.specs.Reading.{Fault, Read, begins, fault, fault_at, rejected}
 use Rattle.jsonb_scan.specs.Reading.BareKey.{bare_key_at, key_end, key_to, text_key}
 use Rattle.jsonb_scan.specs.Reading.Scalar.{begins_letter, begins_number, false_at, folded, key_at, letters_at, null_at, number_at, number_or_fault, number_value_at, on_single_quote, or_else, quoted_at, scalar_at, true_or_false_at, unquoted_at, word_at, words_at}
 use Rattle.jsonb_scan.specs.Reading.String.{Body, body_of, checked_unit, closed, decoded, escape_at, item_at, items_within, known_escape, meaning_of, non_digit, onto, quote_end, string_at, then_items, unit_at}
-use Rattle.jsonb_spec.specs.Refusals.{IsNumberSpelling}
+use Rattle.jsonb_spec.specs.Errors.{IsNumberSpelling}
 use Rattle.jsonb_scan.proofs.Steps.Tests.{bind_ok, chosen, same_read}
-use Rattle.jsonb.proofs.Refusals.Codes.{IsTold, bind_err, same_err, silent_fault, silent_refused}
+use Rattle.jsonb.proofs.Errors.Codes.{IsTold, bind_err, same_err, silent_fault, silent_rejected}
 use Rattle.jsonb_scan.proofs.Containers.JoinedParts.{on_byte_cases}
 use Rattle.jsonb_scan.proofs.Numbers.Extended.{ExtendedFault, ExtendedUncarried, extended_faults, extended_sound}
 use Rattle.jsonb_scan.proofs.Numbers.Extended.ExtendedFault.{no_text, uncarried_text}
@@ -35,9 +35,9 @@ use Rattle.jsonb_scan.proofs.Numbers.Standard.FaultRead.{no_number, not_carried}
 letters_silent : (size : ℕ) (mode : Mode) (word bytes : List ℕ) (f : Fault) → letters_at size mode word bytes ≡ Err f → IsTold f.code → ⊥
 letters_silent size mode [] bytes f e told = absurd cc
 letters_silent size mode (c ∷ cs) bytes f e told =
-    elim (on_letter_cases mode c bytes (letters_at size mode cs) (refused size expected_some_ident 1 bytes) (Err f) e) [
+    elim (on_letter_cases mode c bytes (letters_at size mode cs) (rejected size expected_some_ident 1 bytes) (Err f) e) [
       | inl t ↦ letters_silent size mode cs t.1 f t.4 told
-      | inr g ↦ silent_refused {B = List ℕ} size expected_some_ident 1 bytes f g.1 (λ n. n) told
+      | inr g ↦ silent_rejected {B = List ℕ} size expected_some_ident 1 bytes f g.1 (λ n. n) told
     ]
 
 word_silent : (size : ℕ) (mode : Mode) (word : List ℕ) (t : Tree) (bytes : List ℕ) (f : Fault) → word_at size mode word t bytes ≡ Err f → IsTold f.code → ⊥
@@ -137,7 +137,7 @@ bare_silent size (b ∷ bytes) f e told =
         ]
 
 unquoted_silent : (size : ℕ) (mode : Mode) (bytes : List ℕ) (f : Fault) → unquoted_at size mode bytes ≡ Err f → IsTold f.code → ⊥
-unquoted_silent size standard bytes f e told = silent_refused {B = (Mark × List ℕ) × List ℕ} size expected_some_ident 1 bytes f e (λ n. n) told
+unquoted_silent size standard bytes f e told = silent_rejected {B = (Mark × List ℕ) × List ℕ} size expected_some_ident 1 bytes f e (λ n. n) told
 unquoted_silent size extended bytes f e told = bare_silent size bytes f e told
 
 pub key_silent : (size : ℕ) (mode : Mode) (bytes : List ℕ) (f : Fault) → key_at size mode bytes ≡ Err f → IsTold f.code → ⊥
@@ -231,7 +231,7 @@ same_first mode b rest more n =
       number_byte = begins_other mode b more rest ∙ n.number_byte;
     }
 
-no_scalar : (mode : Mode) (size : ℕ) (bytes : List ℕ) (f : Fault) → BeginsNoScalar mode bytes → ◌≡◌ {A = Read Tree} (refused size expected_some_value 1 bytes) (Err f) → IsTold f.code → WrongScalar mode size bytes f.code f.place
+no_scalar : (mode : Mode) (size : ℕ) (bytes : List ℕ) (f : Fault) → BeginsNoScalar mode bytes → ◌≡◌ {A = Read Tree} (rejected size expected_some_value 1 bytes) (Err f) → IsTold f.code → WrongScalar mode size bytes f.code f.place
 no_scalar mode size [] f n e told = absurd (silent_fault {B = Tree × List ℕ} invalid_eof size f e (λ x. x) told)
 no_scalar mode size (b ∷ bytes) f n e told =
     subst (λ (h : Fault). WrongScalar mode size (b ∷ bytes) h.code h.place) (same_err {B = Tree × List ℕ} (fault_at size expected_some_value 1 (b ∷ bytes)) f e)
@@ -299,9 +299,9 @@ quoted_silent size mode quote bytes f e told =
     ]
 
 -- A fault of a scalar says what is wrong with the bytes, if it is told of.
-pub scalar_refused : (size : ℕ) (mode : Mode) (bytes : List ℕ) (f : Fault) → scalar_at size mode bytes ≡ Err f → IsTold f.code → WrongScalar mode size bytes f.code f.place
+pub scalar_rejected : (size : ℕ) (mode : Mode) (bytes : List ℕ) (f : Fault) → scalar_at size mode bytes ≡ Err f → IsTold f.code → WrongScalar mode size bytes f.code f.place
 unfolding scalar_at
-scalar_refused size mode bytes f e told =
+scalar_rejected size mode bytes f e told =
     elim (on_byte_cases 34 bytes (quoted_at size mode 34) (on_single_quote mode bytes (quoted_at size mode 39) (words_at size mode bytes)) (Err f) e) [
       | inl q ↦ absurd (quoted_silent size mode 34 q.0 f q.2 told)
       | inr d ↦ elim (single_cases mode bytes (quoted_at size mode 39) (words_at size mode bytes) (Err f) d.1) [
@@ -312,7 +312,7 @@ scalar_refused size mode bytes f e told =
             | inl w ↦ absurd (word_silent size mode (codes "true") (boolean true) bytes f w.1 told)
             | inr t ↦ elim (chosen (begins_letter mode 102 bytes) (word_at size mode (codes "false") (boolean false) bytes) (number_or_fault size mode bytes) (Err f) t.1) [
               | inl w ↦ absurd (word_silent size mode (codes "false") (boolean false) bytes f w.1 told)
-              | inr g ↦ elim (chosen (begins_number mode bytes) (number_value_at size mode bytes) (refused size expected_some_value 1 bytes) (Err f) g.1) [
+              | inr g ↦ elim (chosen (begins_number mode bytes) (number_value_at size mode bytes) (rejected size expected_some_value 1 bytes) (Err f) g.1) [
                 | inl m ↦ number_value_wrong size mode bytes f m.1 told
                 | inr m ↦
                     no_scalar mode size bytes f
@@ -345,7 +345,7 @@ number_past size mode core n rest t after is e =
     let opened : core ++ rest ≡ s.first ∷ (s.others ++ rest) = ap (λ (u : List ℕ). u ++ rest) s.whole in
     let begun : begins_number mode (core ++ rest) ≡ true = ap (λ (u : List ℕ). begins_number mode u) opened ∙ s.begun (s.others ++ rest) in
     let read : number_or_fault size mode (core ++ rest) ≡ Ok (t, after) = sym (scalar-number size mode core n rest is) ∙ e in
-    elim (chosen (begins_number mode (core ++ rest)) (number_value_at size mode (core ++ rest)) (refused size expected_some_value 1 (core ++ rest)) (Ok (t, after)) read) [
+    elim (chosen (begins_number mode (core ++ rest)) (number_value_at size mode (core ++ rest)) (rejected size expected_some_value 1 (core ++ rest)) (Ok (t, after)) read) [
       | inl m ↦
           let b = bind_ok (number_at size mode (core ++ rest)) (λ (x : Num × List ℕ). Ok (number x.0, x.1)) (t, after) m.1 in
           let same = same_read (number b.0.0) t b.0.1 after b.2 in

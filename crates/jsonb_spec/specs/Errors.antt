@@ -135,7 +135,7 @@ pub record IsNotCarried (mode : Mode) (input : List ℕ) (place : ℕ) : Type 0 
       → IsNumberSpelling mode longer → ⊥
   pub after_text : place ≡ length front + length text
 
--- What a refusal with this code at this place says of the input. Of other codes nothing is said.
+-- What an error with this code at this place says of the input. Of other codes nothing is said.
 abbrev pub Stands : Mode → List ℕ → Code → ℕ → Type 0
 Stands mode input expected_some_value place = LacksValue mode input place
 Stands mode input unexpected_trailing_characters place = Trails mode input place

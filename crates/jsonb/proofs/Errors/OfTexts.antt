@@ -19,12 +19,12 @@ use Rattle.jsonb_scan.specs.Reading.Blank.{opens_comment, skip_closed_blanks, sk
 use Rattle.jsonb_scan.specs.Reading.Container.{array_at, object_at}
 use Rattle.jsonb_scan.specs.Reading.Document.{alone_at, at_end, comment_at, document_of, nothing_at, source_from, source_of, too_deep, value_at, value_to_end, value_with}
 use Rattle.jsonb_scan.specs.Reading.Scalar.{scalar_at}
-use Rattle.jsonb_spec.specs.Refusals.{IsFront, Stands, Trails}
+use Rattle.jsonb_spec.specs.Errors.{IsFront, Stands, Trails}
 use Rattle.jsonb_scan.proofs.Steps.Tests.{bind_ok, chosen, same_read}
-use Rattle.jsonb.proofs.Refusals.Codes.{IsTold, bind_err, same_err, silent_fault}
+use Rattle.jsonb.proofs.Errors.Codes.{IsTold, bind_err, same_err, silent_fault}
 use Rattle.jsonb_scan.proofs.Containers.JoinedParts.{Ends, Starts, ends-blank, ends_at, on_byte-other, skip-starts, starts-append}
-use Rattle.jsonb.proofs.Refusals.Explained.{Wrong, stops_after_blanks, value_explains}
-use Rattle.jsonb.proofs.Refusals.OfScalars.{scalar_longest}
+use Rattle.jsonb.proofs.Errors.Explained.{Wrong, stops_after_blanks, value_explains}
+use Rattle.jsonb.proofs.Errors.OfScalars.{scalar_longest}
 use Rattle.jsonb.proofs.Scalars.Spellings.{Follows, IsNumberTree, scalar_starts}
 use Rattle.jsonb.proofs.Scalars.Spellings.Follows.{before}
 use Rattle.jsonb_scan.proofs.Text.Blanks.{last_within, length-pass, length-past, length-skip, pass-pass, passes, skip-blank, skip-blanks, skip-nil, skip-passed, skip-skip, skips}

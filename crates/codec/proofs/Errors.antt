@@ -8,9 +8,9 @@ use Rattle.jsonb_spec.specs.Text.{text_of}
 use Rattle.jsonb_value.specs.declared.error.Error.{Error}
 use Rattle.jsonb_value.specs.declared.error.Error.TheVariants as error
 use Rattle.codec.specs.Frame.{frame_of}
-use Rattle.codec.specs.declared.values.Refusal.{Refusal}
-use Rattle.codec.specs.declared.values.Refusal.TheVariants.{TooLong, CutShort, Refused}
-use Rattle.codec.specs.Values.{contents, IsFrame, AreEncoded, no_lines, EncodeRefuses, DecodeLineRefuses, LineRefuses, EncodeLinesRefuses, DecodeLinesRefuses}
+use Rattle.codec.specs.declared.values.FrameError.{FrameError}
+use Rattle.codec.specs.declared.values.FrameError.TheVariants.{TooLong, CutShort, Json}
+use Rattle.codec.specs.Values.{contents, IsFrame, AreEncoded, no_lines, EncodeRejects, DecodeLineRejects, LineRejects, EncodeLinesRejects, DecodeLinesRejects}
 use Rattle.codec.proofs.Lines.{contents-append, Reaches, front_decoded}
 
 -- a document has a text
@@ -20,22 +20,22 @@ has_text bytes t document none =
     cc
 
 -- the value of a frame that can't be written
-pub unwritten : (bytes : List ℕ) (t : Tree) (rest : List ℕ) (e : Error) → IsFrame bytes t rest → ((e ≡ error.UnexpectedType) × (text_of t ≡ None)) ⊎ (e ≡ error.OutOfMemory) → DecodeLineRefuses bytes (Refused e)
+pub unwritten : (bytes : List ℕ) (t : Tree) (rest : List ℕ) (e : Error) → IsFrame bytes t rest → ((e ≡ error.UnexpectedType) × (text_of t ≡ None)) ⊎ (e ≡ error.OutOfMemory) → DecodeLineRejects bytes (Json e)
 unwritten bytes t rest e frame (inl p) = absurd (has_text frame.text t frame.document p.1)
-unwritten bytes t rest e frame (inr memory) = inr (ap Refused memory, t, rest, frame)
+unwritten bytes t rest e frame (inr memory) = inr (ap Json memory, t, rest, frame)
 
 -- the value of a line that has no frame
-pub unframed : (line : List ℕ) (t : Tree) (r : Refusal) → IsDocument extended line t → EncodeRefuses t r → LineRefuses line r
-unframed line t TooLong document refused = (t, document, refused)
-unframed line t CutShort document refused = refused
-unframed line t (Refused e) document (inl p) = absurd (has_text line t document p.1)
-unframed line t (Refused e) document (inr memory) =
-    subst (λ x. LineRefuses line (Refused x)) (sym memory) ((λ other. absurd (other refl)), (λ same. inr (t, document)), tt)
+pub unframed : (line : List ℕ) (t : Tree) (r : FrameError) → IsDocument extended line t → EncodeRejects t r → LineRejects line r
+unframed line t TooLong document rejected = (t, document, rejected)
+unframed line t CutShort document rejected = rejected
+unframed line t (Json e) document (inl p) = absurd (has_text line t document p.1)
+unframed line t (Json e) document (inr memory) =
+    subst (λ x. LineRejects line (Json x)) (sym memory) ((λ other. absurd (other refl)), (λ same. inr (t, document)), tt)
 
--- the first line that is refused
-pub first_refused : (lines : List (Vec ℕ Global)) (i : ℕ) (line : Vec ℕ Global) (bytes : List ℕ) (r : Refusal) → i < length lines → line ≡ get_or lines i line
-    → ((others : List (List ℕ)) (rest : List ℕ) → AreEncoded others rest → AreEncoded (contents (take i lines) ++ others) (bytes ++ rest)) → LineRefuses line.items r → EncodeLinesRefuses (contents lines) r
-first_refused lines i line bytes r within is so_far refused =
+-- the first line that is rejected
+pub first_rejected : (lines : List (Vec ℕ Global)) (i : ℕ) (line : Vec ℕ Global) (bytes : List ℕ) (r : FrameError) → i < length lines → line ≡ get_or lines i line
+    → ((others : List (List ℕ)) (rest : List ℕ) → AreEncoded others rest → AreEncoded (contents (take i lines) ++ others) (bytes ++ rest)) → LineRejects line.items r → EncodeLinesRejects (contents lines) r
+first_rejected lines i line bytes r within is so_far rejected =
     let rest : drop i lines ≡ line ∷ drop (i + 1) lines = rw add-one (drop-cons lines i line within) ∙ ap (λ x. x ∷ drop (i + 1) lines) (sym is) in
     let whole : lines ≡ take i lines ++ line ∷ drop (i + 1) lines = sym (take-append-drop i lines) ∙ ap (λ ls. take i lines ++ ls) rest in
     record {
@@ -45,25 +45,25 @@ first_refused lines i line bytes r within is so_far refused =
       split = ap contents whole ∙ contents-append (take i lines) (line ∷ drop (i + 1) lines);
       bytes = bytes;
       encoded = subst (λ bs. AreEncoded (contents (take i lines)) bs) (append-nil bytes) (subst (λ ls. AreEncoded ls (bytes ++ [])) (append-nil (contents (take i lines))) (so_far [] [] no_lines));
-      refused = refused;
+      rejected = rejected;
     }
 
--- the frames that are left are refused
-pub frames_refused : (frames left text : List ℕ) (r : Refusal) → Reaches frames left text → length left ≢ 0 → DecodeLineRefuses left r → DecodeLinesRefuses frames r
-frames_refused frames left text r so_far some refused = record {
+-- the frames that are left are rejected
+pub frames_rejected : (frames left text : List ℕ) (r : FrameError) → Reaches frames left text → length left ≢ 0 → DecodeLineRejects left r → DecodeLinesRejects frames r
+frames_rejected frames left text r so_far some rejected = record {
   front = so_far.front;
   text = text;
   decoded = front_decoded frames left text so_far;
   left = left;
   split = so_far.split;
   more = λ nothing. some (ap length nothing);
-  refused = refused;
+  rejected = rejected;
 }
 
--- the clause of a call that was refused
-pub refused_growth : {T E : Type 0} {P : Type 0} (r : Result T E) → OnErr r P → is_err r ≡ true → P
-refused_growth (Ok x) told refused = cc
-refused_growth (Err e) told refused = told
+-- the clause of a call that was rejected
+pub failed_growth : {T E : Type 0} {P : Type 0} (r : Result T E) → OnErr r P → is_err r ≡ true → P
+failed_growth (Ok x) told rejected = cc
+failed_growth (Err e) told rejected = told
 
 -- where a length doesn't fit, no frame does
 pub no_room : (text : Option (List ℕ)) (capacity len : ℕ) → capacity < len + 4 → MatchOption text (capacity < len + 4) (λ bytes. capacity < len + length (frame_of bytes))

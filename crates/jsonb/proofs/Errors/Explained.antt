@@ -9,20 +9,20 @@ use Rattle.jsonb_spec.specs.Grammar.IsValue.{empty_array, empty_object, full_arr
 use Rattle.jsonb_spec.specs.Mode.{Mode}
 use Rattle.jsonb_spec.specs.Grammar.Scalar.{IsKey, IsScalar}
 use Rattle.jsonb_spec.specs.Tree.{Mark, Member, Tree}
-use Rattle.jsonb_scan.specs.Reading.{Fault, Read, begins, on_byte, refused, ◌>>=◌}
+use Rattle.jsonb_scan.specs.Reading.{Fault, Read, begins, on_byte, rejected, ◌>>=◌}
 use Rattle.jsonb_scan.specs.Reading.Blank.{skip_blanks}
 use Rattle.jsonb_scan.specs.Reading.Container.{after_key, after_part, array_at, element_at, elements_at, found_at, is_left_out, joined_at, member_at, members_at, object_at, object_or_fault, padded_at, value_or_null}
 use Rattle.jsonb_spec.specs.Source.{Found, Source, Spot, array_source, array_source_of, first_repeat, member_of, no_source_members, no_sources, null_source, object_source, object_source_of, source_alone, spot_of, tree_of_source}
 use Rattle.jsonb_scan.specs.Reading.Document.{alone_at, too_deep, value_at, value_with}
 use Rattle.jsonb_scan.specs.Reading.Scalar.{key_at, scalar_at}
-use Rattle.jsonb_spec.specs.Refusals.{ArePassed, IsFront, IsSpelling, Repeats}
-use Rattle.jsonb_spec.specs.Refusals.ArePassed.{no_parts, part_passed}
-use Rattle.jsonb_spec.specs.Refusals.IsFront.{front_of_blanks, in_array, in_object}
+use Rattle.jsonb_spec.specs.Errors.{ArePassed, IsFront, IsSpelling, Repeats}
+use Rattle.jsonb_spec.specs.Errors.ArePassed.{no_parts, part_passed}
+use Rattle.jsonb_spec.specs.Errors.IsFront.{front_of_blanks, in_array, in_object}
 use Rattle.jsonb_scan.proofs.Steps.Tests.{chosen}
-use Rattle.jsonb.proofs.Refusals.Codes.{IsTold, bind_err, same_err, silent_fault, silent_refused}
+use Rattle.jsonb.proofs.Errors.Codes.{IsTold, bind_err, same_err, silent_fault, silent_rejected}
 use Rattle.jsonb.proofs.Containers.KeyPlaces.{laid_repeats, members_laid}
 use Rattle.jsonb_scan.proofs.Containers.JoinedParts.{IsSound, IsSoundBefore, SeenBy, joined-skip, on_byte_cases, padded_sound}
-use Rattle.jsonb.proofs.Refusals.OfScalars.{NotCarried, WrongScalar, key_silent, scalar_refused, scalar_some}
+use Rattle.jsonb.proofs.Errors.OfScalars.{NotCarried, WrongScalar, key_silent, scalar_rejected, scalar_some}
 use Rattle.jsonb.proofs.Scalars.Spellings.{key_sound}
 use Rattle.jsonb_scan.proofs.Text.Blanks.{length-skip, skip-skip, skips}
 use Rattle.jsonb.proofs.Containers.Values.{Seen, element_sound, member_sound, value_sound}
@@ -80,7 +80,7 @@ Wrong mode left size rest (object_duplicate_key k) place = RepeatsHere mode left
 Wrong mode left size rest other place = ⊥
 
 -- The bytes are a front and a rest, and with the rest that is wrong which the fault names.
-pub record IsRefusedAt (mode : Mode) (depth size : ℕ) (bytes : List ℕ) (f : Fault) : Type 0 where
+pub record IsRejectedAt (mode : Mode) (depth size : ℕ) (bytes : List ℕ) (f : Fault) : Type 0 where
   pub front : List ℕ
   pub rest : List ℕ
   pub whole : bytes ≡ front ++ rest
@@ -93,16 +93,16 @@ pub record IsRefusedAt (mode : Mode) (depth size : ℕ) (bytes : List ℕ) (f : 
 
 -- Each fault of the reader that is told of says what is wrong with the bytes, which are no more than the whole input and begin with no blank.
 abbrev pub Explains : Mode → ℕ → ℕ → (List ℕ → Read Source) → Type 0
-Explains mode depth size read = (bytes : List ℕ) (f : Fault) → length bytes ≤ size → skip_blanks mode bytes ≡ bytes → read bytes ≡ Err f → IsTold f.code → IsRefusedAt mode depth size bytes f
+Explains mode depth size read = (bytes : List ℕ) (f : Fault) → length bytes ≤ size → skip_blanks mode bytes ≡ bytes → read bytes ≡ Err f → IsTold f.code → IsRejectedAt mode depth size bytes f
 
 -- what is wrong with the bytes at once
-stops_here : (mode : Mode) (depth size : ℕ) (bytes : List ℕ) (f : Fault) → 0 < length bytes → Wrong mode depth size bytes f.code f.place → IsRefusedAt mode depth size bytes f
+stops_here : (mode : Mode) (depth size : ℕ) (bytes : List ℕ) (f : Fault) → 0 < length bytes → Wrong mode depth size bytes f.code f.place → IsRejectedAt mode depth size bytes f
 stops_here mode depth size bytes f some w =
     let sum : 0 + depth ≡ depth = omega arith in
     record { front = []; rest = bytes; whole = refl; count = 0; left = depth; sum = sum; is_front = front_of_blanks no_blanks; some = some; wrong = w }
 
 -- what is wrong after the blanks
-pub stops_after_blanks : (mode : Mode) (depth size : ℕ) (bytes : List ℕ) (f : Fault) → IsRefusedAt mode depth size (skip_blanks mode bytes) f → IsRefusedAt mode depth size bytes f
+pub stops_after_blanks : (mode : Mode) (depth size : ℕ) (bytes : List ℕ) (f : Fault) → IsRejectedAt mode depth size (skip_blanks mode bytes) f → IsRejectedAt mode depth size bytes f
 stops_after_blanks mode depth size bytes f s =
     let p = skips mode bytes (omega (arith, s.some, ap length s.whole, length-append s.front s.rest)) in
     record {
@@ -122,7 +122,7 @@ rest_within size bytes first rest h whole = omega (arith, h, ap length whole, le
 
 -- what is wrong in an array, after the elements that are passed
 stops_in_array : (mode : Mode) (depth size : ℕ) (bytes passed rest : List ℕ) {ts : List Tree} (f : Fault) → ArePassed (IsElement mode (IsSpelling mode)) passed ts → bytes ≡ passed ++ rest
-    → IsRefusedAt mode depth size rest f → IsRefusedAt mode (suc depth) size (91 ∷ bytes) f
+    → IsRejectedAt mode depth size rest f → IsRejectedAt mode (suc depth) size (91 ∷ bytes) f
 stops_in_array mode depth size bytes passed rest f are_passed whole s =
     let more : suc s.count + s.left ≡ suc depth = omega (arith, s.sum) in
     record {
@@ -139,7 +139,7 @@ stops_in_array mode depth size bytes passed rest f are_passed whole s =
 
 -- what is wrong in an object, after the members that are passed, a key and a colon
 stops_in_object : (mode : Mode) (depth size : ℕ) (bytes passed middle left rest : List ℕ) {key : Mark × List ℕ} {ms : List Member} (f : Fault) → ArePassed (IsMember mode (IsSpelling mode)) passed ms → bytes ≡ passed ++ middle
-    → IsPadded mode (IsKey mode) left key → middle ≡ left ++ 58 ∷ rest → IsRefusedAt mode depth size rest f → IsRefusedAt mode (suc depth) size (123 ∷ bytes) f
+    → IsPadded mode (IsKey mode) left key → middle ≡ left ++ 58 ∷ rest → IsRejectedAt mode depth size rest f → IsRejectedAt mode (suc depth) size (123 ∷ bytes) f
 stops_in_object mode depth size bytes passed middle left rest f are_passed whole is_key colon s =
     let more : suc s.count + s.left ≡ suc depth = omega (arith, s.sum) in
     let from_key : middle ≡ (left ++ 58 ∷ s.front) ++ s.rest = colon ∙ ap (λ (u : List ℕ). left ++ 58 ∷ u) s.whole ∙ sym (append_assoc left (58 ∷ s.front) s.rest) in
@@ -176,7 +176,7 @@ wrong_scalar mode left size bytes expected_some_value place none p q w =
     record { byte = w.byte; others = w.others; whole = w.whole; at_byte = w.at_byte; begins_none = λ m more t d. w.begins_none more t (derived_alone mode m (w.byte ∷ more) t d bracket brace); none_skipped = none }
 wrong_scalar mode left size bytes other place none p q w = absurd w
 
-no_value : (mode : Mode) (depth size : ℕ) (bytes : List ℕ) (f : Fault) → 0 < length bytes → skip_blanks mode bytes ≡ bytes → begins 91 bytes ≡ false → begins 123 bytes ≡ false → WrongScalar mode size bytes f.code f.place → IsRefusedAt mode depth size bytes f
+no_value : (mode : Mode) (depth size : ℕ) (bytes : List ℕ) (f : Fault) → 0 < length bytes → skip_blanks mode bytes ≡ bytes → begins 91 bytes ≡ false → begins 123 bytes ≡ false → WrongScalar mode size bytes f.code f.place → IsRejectedAt mode depth size bytes f
 no_value mode depth size bytes f some none p q w = stops_here mode depth size bytes f some (wrong_scalar mode depth size bytes f.code f.place none p q w)
 
 -- ---- parts joined by commas
@@ -191,20 +191,20 @@ pub record StopsInPart {A : Type 0} (Spells : List ℕ → A → Type 0) (part :
   pub fails : part rest ≡ Err f
 
 module _ {A : Type 0} (size : ℕ) (code : Code) (close : ℕ) (Spells : List ℕ → A → Type 0) (part : List ℕ → Read A) where
-  pub joined_refused : IsSoundBefore Spells part → (IsTold code → ⊥) → (n : ℕ) (bytes : List ℕ) (f : Fault) → joined_at size code close part n bytes ≡ Err f → IsTold f.code → StopsInPart Spells part bytes f
+  pub joined_rejected : IsSoundBefore Spells part → (IsTold code → ⊥) → (n : ℕ) (bytes : List ℕ) (f : Fault) → joined_at size code close part n bytes ≡ Err f → IsTold f.code → StopsInPart Spells part bytes f
   unfolding joined_at
-  joined_refused sound silent zero bytes f e told = absurd (silent_fault {B = List A × List ℕ} invalid_eof size f e (λ m. m) told)
-  joined_refused sound silent (suc n) bytes f e told =
+  joined_rejected sound silent zero bytes f e told = absurd (silent_fault {B = List A × List ℕ} invalid_eof size f e (λ m. m) told)
+  joined_rejected sound silent (suc n) bytes f e told =
       elim (bind_err (part bytes) (λ (x : A × List ℕ). after_part size code close part (joined_at size code close part n) x.0 x.1) f e) [
         | inl h ↦ record { passed = []; rest = bytes; parts = []; are_passed = no_parts; whole = refl; fails = h }
         | inr h ↦
             let a : A = h.0.0 in
             let middle : List ℕ = h.0.1 in
-            elim (on_byte_cases 44 middle (λ (t : List ℕ). joined_at size code close part n t >>= λ (x : List A × List ℕ). Ok (a ∷ x.0, x.1)) (on_byte close middle (λ (t : List ℕ). Ok (a ∷ [], t)) (refused size code 0 middle)) (Err f) h.2) [
+            elim (on_byte_cases 44 middle (λ (t : List ℕ). joined_at size code close part n t >>= λ (x : List A × List ℕ). Ok (a ∷ x.0, x.1)) (on_byte close middle (λ (t : List ℕ). Ok (a ∷ [], t)) (rejected size code 0 middle)) (Err f) h.2) [
               | inl t ↦ elim (bind_err (joined_at size code close part n t.0) (λ (x : List A × List ℕ). Ok (a ∷ x.0, x.1)) f t.2) [
                 | inl g ↦
                     let s = sound bytes a middle h.1 (omega (arith, ap length t.1)) in
-                    let r = joined_refused sound silent n t.0 f g told in
+                    let r = joined_rejected sound silent n t.0 f g told in
                     record {
                       passed = s.core ++ 44 ∷ r.passed;
                       rest = r.rest;
@@ -215,9 +215,9 @@ module _ {A : Type 0} (size : ℕ) (code : Code) (close : ℕ) (Spells : List �
                     }
                 | inr g ↦ absurd (let never : ◌≡◌ {A = Read (List A)} (Ok (a ∷ g.0.0, g.0.1)) (Err f) = g.2 in cc)
               ]
-              | inr t ↦ elim (on_byte_cases close middle (λ (u : List ℕ). Ok (a ∷ [], u)) (refused size code 0 middle) (Err f) t.1) [
+              | inr t ↦ elim (on_byte_cases close middle (λ (u : List ℕ). Ok (a ∷ [], u)) (rejected size code 0 middle) (Err f) t.1) [
                 | inl g ↦ absurd (let never : ◌≡◌ {A = Read (List A)} (Ok (a ∷ [], g.0)) (Err f) = g.2 in cc)
-                | inr g ↦ absurd (silent_refused {B = List A × List ℕ} size code 0 middle f g.1 silent told)
+                | inr g ↦ absurd (silent_rejected {B = List A × List ℕ} size code 0 middle f g.1 silent told)
               ]
             ]
       ]
@@ -236,29 +236,29 @@ passed_seen view Spells (part_passed s p) = part_passed s (passed_seen view Spel
 
 module _ (mode : Mode) (depth size : ℕ) (read : List ℕ → Read Source) (sound : IsSound (Seen (IsSpelling mode)) read) (explains : Explains mode depth size read) where
   -- a value after blanks
-  value_refused : (bytes : List ℕ) (f : Fault) → length bytes ≤ size → read (skip_blanks mode bytes) ≡ Err f → IsTold f.code → IsRefusedAt mode depth size bytes f
-  value_refused bytes f h e told = stops_after_blanks mode depth size bytes f (explains (skip_blanks mode bytes) f (omega (arith, h, length-skip mode bytes)) (skip-skip mode bytes) e told)
+  value_rejected : (bytes : List ℕ) (f : Fault) → length bytes ≤ size → read (skip_blanks mode bytes) ≡ Err f → IsTold f.code → IsRejectedAt mode depth size bytes f
+  value_rejected bytes f h e told = stops_after_blanks mode depth size bytes f (explains (skip_blanks mode bytes) f (omega (arith, h, length-skip mode bytes)) (skip-skip mode bytes) e told)
 
-  element_refused : (bytes : List ℕ) (f : Fault) → length bytes ≤ size → element_at mode read bytes ≡ Err f → IsTold f.code → IsRefusedAt mode depth size bytes f
-  element_refused bytes f h e told =
+  element_rejected : (bytes : List ℕ) (f : Fault) → length bytes ≤ size → element_at mode read bytes ≡ Err f → IsTold f.code → IsRejectedAt mode depth size bytes f
+  element_rejected bytes f h e told =
       elim (bind_err (value_or_null mode read (skip_blanks mode bytes)) (λ (x : Source × List ℕ). Ok (x.0, skip_blanks mode x.1)) f e) [
         | inl g ↦ elim (chosen (is_left_out mode (skip_blanks mode bytes)) (Ok (null_source, skip_blanks mode bytes)) (read (skip_blanks mode bytes)) (Err f) g) [
           | inl k ↦ absurd (let never : ◌≡◌ {A = Read Source} (Ok (null_source, skip_blanks mode bytes)) (Err f) = k.1 in cc)
-          | inr k ↦ value_refused bytes f h k.1 told
+          | inr k ↦ value_rejected bytes f h k.1 told
         ]
         | inr g ↦ absurd (let never : ◌≡◌ {A = Read Source} (Ok (g.0.0, skip_blanks mode g.0.1)) (Err f) = g.2 in cc)
       ]
 
-  array_refused : (bytes : List ℕ) (f : Fault) → length (91 ∷ bytes) ≤ size → array_at size mode read bytes ≡ Err f → IsTold f.code → IsRefusedAt mode (suc depth) size (91 ∷ bytes) f
-  array_refused bytes f h e told =
+  array_rejected : (bytes : List ℕ) (f : Fault) → length (91 ∷ bytes) ≤ size → array_at size mode read bytes ≡ Err f → IsTold f.code → IsRejectedAt mode (suc depth) size (91 ∷ bytes) f
+  array_rejected bytes f h e told =
       elim (on_byte_cases 93 (skip_blanks mode bytes) (λ (r : List ℕ). Ok (array_source no_sources, r)) (elements_at size mode read bytes) (Err f) e) [
         | inl g ↦ absurd (let never : ◌≡◌ {A = Read Source} (Ok (array_source no_sources, g.0)) (Err f) = g.2 in cc)
         | inr g ↦ elim (bind_err (joined_at size expected_array_comma_or_end 93 (element_at mode read) (suc (length bytes)) (skip_blanks mode bytes)) (λ (x : List Source × List ℕ). Ok (array_source_of x.0, x.1)) f g.1) [
           | inl k ↦
               let again = sym (joined-skip size expected_array_comma_or_end 93 (Seen (IsElement mode (IsSpelling mode))) (element_at mode read) mode (λ u. ap (λ (w : List ℕ). value_or_null mode read w >>= λ (x : Source × List ℕ). Ok (x.0, skip_blanks mode x.1)) (skip-skip mode u)) (suc (length bytes)) bytes) ∙ k in
-              let p = joined_refused size expected_array_comma_or_end 93 (Seen (IsElement mode (IsSpelling mode))) (element_at mode read) (element_sound mode (IsSpelling mode) read sound) (λ n. n) (suc (length bytes)) bytes f again told in
+              let p = joined_rejected size expected_array_comma_or_end 93 (Seen (IsElement mode (IsSpelling mode))) (element_at mode read) (element_sound mode (IsSpelling mode) read sound) (λ n. n) (suc (length bytes)) bytes f again told in
               let within : length p.rest ≤ size = rest_within size bytes p.passed p.rest (omega (arith, h)) p.whole in
-              stops_in_array mode depth size bytes p.passed p.rest f (passed_seen tree_of_source (IsElement mode (IsSpelling mode)) p.are_passed) p.whole (element_refused p.rest f within p.fails told)
+              stops_in_array mode depth size bytes p.passed p.rest f (passed_seen tree_of_source (IsElement mode (IsSpelling mode)) p.are_passed) p.whole (element_rejected p.rest f within p.fails told)
           | inr k ↦ absurd (let never : ◌≡◌ {A = Read Source} (Ok (array_source_of k.0.0, k.0.1)) (Err f) = k.2 in cc)
         ]
       ]
@@ -272,8 +272,8 @@ module _ (mode : Mode) (depth size : ℕ) (read : List ℕ → Read Source) (sou
     pub whole : bytes ≡ left ++ 58 ∷ rest
     pub fails : read (skip_blanks mode rest) ≡ Err f
 
-  member_refused : (bytes : List ℕ) (f : Fault) → member_at size mode read bytes ≡ Err f → IsTold f.code → StopsInMember bytes f
-  member_refused bytes f e told =
+  member_rejected : (bytes : List ℕ) (f : Fault) → member_at size mode read bytes ≡ Err f → IsTold f.code → StopsInMember bytes f
+  member_rejected bytes f e told =
       elim (bind_err (key_at size mode (skip_blanks mode bytes)) (λ (x : (Mark × List ℕ) × List ℕ). after_key size mode read x.0 (size - length x.1) (skip_blanks mode x.1)) f e) [
         | inl g ↦ absurd (key_silent size mode (skip_blanks mode bytes) f g told)
         | inr g ↦
@@ -281,7 +281,7 @@ module _ (mode : Mode) (depth size : ℕ) (read : List ℕ → Read Source) (sou
             let place : ℕ = size - length g.0.1 in
             let colon : List ℕ = skip_blanks mode g.0.1 in
             let key_read : padded_at mode (key_at size mode) bytes ≡ Ok (k, colon) = ap (λ (r : Read (Mark × List ℕ)). r >>= λ (x : (Mark × List ℕ) × List ℕ). Ok (x.0, skip_blanks mode x.1)) g.1 in
-            elim (on_byte_cases 58 colon (λ (r : List ℕ). padded_at mode read r >>= λ (x : Source × List ℕ). found_at k place x) (refused size expected_colon 0 colon) (Err f) g.2) [
+            elim (on_byte_cases 58 colon (λ (r : List ℕ). padded_at mode read r >>= λ (x : Source × List ℕ). found_at k place x) (rejected size expected_colon 0 colon) (Err f) g.2) [
               | inl t ↦ elim (bind_err (padded_at mode read t.0) (λ (x : Source × List ℕ). found_at k place x) f t.2) [
                 | inl v ↦ elim (bind_err (read (skip_blanks mode t.0)) (λ (x : Source × List ℕ). Ok (x.0, skip_blanks mode x.1)) f v) [
                   | inl w ↦
@@ -291,41 +291,41 @@ module _ (mode : Mode) (depth size : ℕ) (read : List ℕ → Read Source) (sou
                 ]
                 | inr v ↦ absurd (let never : found_at k place v.0 ≡ Err f = v.2 in cc)
               ]
-              | inr t ↦ absurd (silent_refused {B = Found × List ℕ} size expected_colon 0 colon f t.1 (λ n. n) told)
+              | inr t ↦ absurd (silent_rejected {B = Found × List ℕ} size expected_colon 0 colon f t.1 (λ n. n) told)
             ]
       ]
 
   -- the members have a key that comes twice
-  repeat_refused : (o : Option Spot) (fs : List Found) (bytes rest : List ℕ) (f : Fault) → length (123 ∷ bytes) ≤ size → first_repeat (map spot_of fs) ≡ o
-      → joined_at size expected_object_comma_or_end 125 (member_at size mode read) (suc (length bytes)) bytes ≡ Ok (fs, rest) → object_or_fault o fs rest ≡ Err f → IsRefusedAt mode (suc depth) size (123 ∷ bytes) f
-  repeat_refused None fs bytes rest f h found j e = absurd (let never : ◌≡◌ {A = Read Source} (Ok (object_source_of fs, rest)) (Err f) = e in cc)
-  repeat_refused (Some s) fs bytes rest f h found j e =
+  repeat_rejected : (o : Option Spot) (fs : List Found) (bytes rest : List ℕ) (f : Fault) → length (123 ∷ bytes) ≤ size → first_repeat (map spot_of fs) ≡ o
+      → joined_at size expected_object_comma_or_end 125 (member_at size mode read) (suc (length bytes)) bytes ≡ Ok (fs, rest) → object_or_fault o fs rest ≡ Err f → IsRejectedAt mode (suc depth) size (123 ∷ bytes) f
+  repeat_rejected None fs bytes rest f h found j e = absurd (let never : ◌≡◌ {A = Read Source} (Ok (object_source_of fs, rest)) (Err f) = e in cc)
+  repeat_rejected (Some s) fs bytes rest f h found j e =
       let is : record { code = object_duplicate_key s.key; place = s.place } ≡ f = same_err {B = Source × List ℕ} (record { code = object_duplicate_key s.key; place = s.place }) f e in
       let l = members_laid mode size read sound (suc (length bytes)) bytes fs rest j in
       let within : length (l.0 ++ 125 ∷ rest) ≤ size = omega (arith, h, ap length l.2) in
       let r = laid_repeats mode size l.1 s found within in
       let some : 1 ≤ suc depth = omega arith in
       let after_key : s.place ≡ size - length (123 ∷ bytes) + 1 + r.0 = omega (arith, r.2, h, ap length l.2) in
-      subst (λ (g : Fault). IsRefusedAt mode (suc depth) size (123 ∷ bytes) g) is
+      subst (λ (g : Fault). IsRejectedAt mode (suc depth) size (123 ∷ bytes) g) is
       (stops_here mode (suc depth) size (123 ∷ bytes) (record { code = object_duplicate_key s.key; place = s.place }) (omega arith)
       (record { body = l.0; others = rest; whole = ap (λ (u : List ℕ). 123 ∷ u) l.2; some_left = some; length_upto = r.0; repeats = r.1; after_key = after_key }))
 
-  object_refused : (bytes : List ℕ) (f : Fault) → length (123 ∷ bytes) ≤ size → object_at size mode read bytes ≡ Err f → IsTold f.code → IsRefusedAt mode (suc depth) size (123 ∷ bytes) f
-  object_refused bytes f h e told =
+  object_rejected : (bytes : List ℕ) (f : Fault) → length (123 ∷ bytes) ≤ size → object_at size mode read bytes ≡ Err f → IsTold f.code → IsRejectedAt mode (suc depth) size (123 ∷ bytes) f
+  object_rejected bytes f h e told =
       elim (on_byte_cases 125 (skip_blanks mode bytes) (λ (r : List ℕ). Ok (object_source no_source_members, r)) (members_at size mode read bytes) (Err f) e) [
         | inl g ↦ absurd (let never : ◌≡◌ {A = Read Source} (Ok (object_source no_source_members, g.0)) (Err f) = g.2 in cc)
         | inr g ↦ elim (bind_err (joined_at size expected_object_comma_or_end 125 (member_at size mode read) (suc (length bytes)) (skip_blanks mode bytes)) (λ (x : List Found × List ℕ). object_or_fault (first_repeat (map spot_of x.0)) x.0 x.1) f g.1) [
           | inl k ↦
               let again = sym (joined-skip size expected_object_comma_or_end 125 IsFound (member_at size mode read) mode member_skip (suc (length bytes)) bytes) ∙ k in
-              let p = joined_refused size expected_object_comma_or_end 125 IsFound (member_at size mode read) (member_sound mode (IsSpelling mode) read size sound) (λ n. n) (suc (length bytes)) bytes f again told in
-              let m = member_refused p.rest f p.fails told in
+              let p = joined_rejected size expected_object_comma_or_end 125 IsFound (member_at size mode read) (member_sound mode (IsSpelling mode) read size sound) (λ n. n) (suc (length bytes)) bytes f again told in
+              let m = member_rejected p.rest f p.fails told in
               let from_key : length p.rest ≤ size = rest_within size bytes p.passed p.rest (omega (arith, h)) p.whole in
               let from_colon : length (58 ∷ m.rest) ≤ size = rest_within size p.rest m.left (58 ∷ m.rest) from_key m.whole in
               let within : length m.rest ≤ size = omega (arith, from_colon) in
-              stops_in_object mode depth size bytes p.passed p.rest m.left m.rest f (passed_seen member_of (IsMember mode (IsSpelling mode)) p.are_passed) p.whole m.is_key m.whole (value_refused m.rest f within m.fails told)
+              stops_in_object mode depth size bytes p.passed p.rest m.left m.rest f (passed_seen member_of (IsMember mode (IsSpelling mode)) p.are_passed) p.whole m.is_key m.whole (value_rejected m.rest f within m.fails told)
           | inr k ↦
               let again = sym (joined-skip size expected_object_comma_or_end 125 IsFound (member_at size mode read) mode member_skip (suc (length bytes)) bytes) ∙ k.1 in
-              repeat_refused (first_repeat (map spot_of k.0.0)) k.0.0 bytes k.0.1 f h refl again k.2
+              repeat_rejected (first_repeat (map spot_of k.0.0)) k.0.0 bytes k.0.1 f h refl again k.2
         ]
       ]
     where
@@ -335,31 +335,31 @@ module _ (mode : Mode) (depth size : ℕ) (read : List ℕ → Read Source) (sou
       member_skip : (u : List ℕ) → member_at size mode read (skip_blanks mode u) ≡ member_at size mode read u
       member_skip u = ap (λ (w : List ℕ). key_at size mode w >>= λ (x : (Mark × List ℕ) × List ℕ). after_key size mode read x.0 (size - length x.1) (skip_blanks mode x.1)) (skip-skip mode u)
 
-  pub containers_refused : Explains mode (suc depth) size (value_with size mode (array_at size mode read) (object_at size mode read))
-  containers_refused bytes f h none e told =
+  pub containers_rejected : Explains mode (suc depth) size (value_with size mode (array_at size mode read) (object_at size mode read))
+  containers_rejected bytes f h none e told =
       elim (on_byte_cases 91 bytes (array_at size mode read) (on_byte 123 bytes (object_at size mode read) (alone_at (scalar_at size mode bytes))) (Err f) e) [
-        | inl g ↦ subst (λ (u : List ℕ). IsRefusedAt mode (suc depth) size u f) (sym g.1) (array_refused g.0 f (subst (λ (u : List ℕ). length u ≤ size) g.1 h) g.2 told)
+        | inl g ↦ subst (λ (u : List ℕ). IsRejectedAt mode (suc depth) size u f) (sym g.1) (array_rejected g.0 f (subst (λ (u : List ℕ). length u ≤ size) g.1 h) g.2 told)
         | inr g ↦ elim (on_byte_cases 123 bytes (object_at size mode read) (alone_at (scalar_at size mode bytes)) (Err f) g.1) [
-          | inl k ↦ subst (λ (u : List ℕ). IsRefusedAt mode (suc depth) size u f) (sym k.1) (object_refused k.0 f (subst (λ (u : List ℕ). length u ≤ size) k.1 h) k.2 told)
-          | inr k ↦ no_value mode (suc depth) size bytes f (scalar_some size mode bytes f (alone_fault (scalar_at size mode bytes) f k.1) told) none g.0 k.0 (scalar_refused size mode bytes f (alone_fault (scalar_at size mode bytes) f k.1) told)
+          | inl k ↦ subst (λ (u : List ℕ). IsRejectedAt mode (suc depth) size u f) (sym k.1) (object_rejected k.0 f (subst (λ (u : List ℕ). length u ≤ size) k.1 h) k.2 told)
+          | inr k ↦ no_value mode (suc depth) size bytes f (scalar_some size mode bytes f (alone_fault (scalar_at size mode bytes) f k.1) told) none g.0 k.0 (scalar_rejected size mode bytes f (alone_fault (scalar_at size mode bytes) f k.1) told)
         ]
       ]
 
 -- ---- values of any depth
 
-too_deep_refused : (mode : Mode) (size b : ℕ) (rest : List ℕ) (f : Fault) → (b ≡ 91) ⊎ (b ≡ 123) → too_deep size rest ≡ Err f → IsRefusedAt mode 0 size (b ∷ rest) f
-too_deep_refused mode size b rest f opens e =
+too_deep_rejected : (mode : Mode) (size b : ℕ) (rest : List ℕ) (f : Fault) → (b ≡ 91) ⊎ (b ≡ 123) → too_deep size rest ≡ Err f → IsRejectedAt mode 0 size (b ∷ rest) f
+too_deep_rejected mode size b rest f opens e =
     let is : record { code = depth_limit_exceeded; place = size - length rest } ≡ f = same_err {B = Source × List ℕ} (record { code = depth_limit_exceeded; place = size - length rest }) f e in
-    subst (λ (g : Fault). IsRefusedAt mode 0 size (b ∷ rest) g) is
+    subst (λ (g : Fault). IsRejectedAt mode 0 size (b ∷ rest) g) is
     (stops_here mode 0 size (b ∷ rest) (record { code = depth_limit_exceeded; place = size - length rest }) (omega arith) (record { byte = b; others = rest; whole = refl; at_byte = refl; opens = opens; none_left = refl }))
 
-none_left_refused : (size : ℕ) (mode : Mode) → Explains mode 0 size (value_with size mode (too_deep size) (too_deep size))
-none_left_refused size mode bytes f h none e told =
+none_left_rejected : (size : ℕ) (mode : Mode) → Explains mode 0 size (value_with size mode (too_deep size) (too_deep size))
+none_left_rejected size mode bytes f h none e told =
     elim (on_byte_cases 91 bytes (too_deep size) (on_byte 123 bytes (too_deep size) (alone_at (scalar_at size mode bytes))) (Err f) e) [
-      | inl g ↦ subst (λ (u : List ℕ). IsRefusedAt mode 0 size u f) (sym g.1) (too_deep_refused mode size 91 g.0 f (inl refl) g.2)
+      | inl g ↦ subst (λ (u : List ℕ). IsRejectedAt mode 0 size u f) (sym g.1) (too_deep_rejected mode size 91 g.0 f (inl refl) g.2)
       | inr g ↦ elim (on_byte_cases 123 bytes (too_deep size) (alone_at (scalar_at size mode bytes)) (Err f) g.1) [
-        | inl k ↦ subst (λ (u : List ℕ). IsRefusedAt mode 0 size u f) (sym k.1) (too_deep_refused mode size 123 k.0 f (inr refl) k.2)
-        | inr k ↦ no_value mode 0 size bytes f (scalar_some size mode bytes f (alone_fault (scalar_at size mode bytes) f k.1) told) none g.0 k.0 (scalar_refused size mode bytes f (alone_fault (scalar_at size mode bytes) f k.1) told)
+        | inl k ↦ subst (λ (u : List ℕ). IsRejectedAt mode 0 size u f) (sym k.1) (too_deep_rejected mode size 123 k.0 f (inr refl) k.2)
+        | inr k ↦ no_value mode 0 size bytes f (scalar_some size mode bytes f (alone_fault (scalar_at size mode bytes) f k.1) told) none g.0 k.0 (scalar_rejected size mode bytes f (alone_fault (scalar_at size mode bytes) f k.1) told)
       ]
     ]
 
@@ -369,5 +369,5 @@ spelling_sound size mode depth bytes t rest e = let s = value_sound size mode de
 -- what a fault that is told of says of a value of any depth
 pub value_explains : (size : ℕ) (mode : Mode) (depth : ℕ) → Explains mode depth size (value_at size mode depth)
 unfolding value_at
-value_explains size mode zero = none_left_refused size mode
-value_explains size mode (suc depth) = containers_refused mode depth size (value_at size mode depth) (spelling_sound size mode depth) (value_explains size mode depth)
+value_explains size mode zero = none_left_rejected size mode
+value_explains size mode (suc depth) = containers_rejected mode depth size (value_at size mode depth) (spelling_sound size mode depth) (value_explains size mode depth)
