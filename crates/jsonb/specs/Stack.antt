@@ -8,7 +8,7 @@ use Rattle.jsonb_spec.specs.Tree.{Mark}
 use Rattle.jsonb_scan.specs.Open.{Open, add_part, elements_so_far, members_so_far}
 use Rattle.jsonb_spec.specs.Source.{Source, Found, spot_of, first_repeat, array_source_of}
 use Rattle.jsonb_scan.specs.Reading.{Read, on_byte, rejected, ◌>>=◌}
-use Rattle.jsonb_scan.specs.Reading.Blank.{skip_blanks}
+use Rattle.jsonb_scan.specs.Reading.Whitespace.{skip_whitespace}
 use Rattle.jsonb_scan.specs.Reading.Container.{array_at, element_at, joined_at, member_at, object_at, object_or_fault}
 use Rattle.jsonb_scan.specs.Reading.Document.{too_deep, value_at}
 use Rattle.jsonb_scan.specs.Reading.Scalar.{key_at}
@@ -38,12 +38,12 @@ array_end ss rest = Ok (array_source_of ss, rest)
 abbrev pub object_end : List Found → List ℕ → Read Source
 object_end fs rest = object_or_fault (first_repeat (map spot_of fs)) fs rest
 
--- a key with its colon, the place after the key, and what comes after the blanks after the colon
+-- a key with its colon, the place after the key, and what comes after the whitespace after the colon
 abbrev pub member_start : ℕ → Mode → List ℕ → Read ((Mark × List ℕ) × ℕ)
 member_start size mode bytes =
-    key_at size mode (skip_blanks mode bytes) >>= λ k. on_byte ascii.colon (skip_blanks mode k.1)
-    (λ rest. Ok ((k.0, size - length k.1), skip_blanks mode rest))
-    (rejected size expected_colon 0 (skip_blanks mode k.1))
+    key_at size mode (skip_whitespace mode bytes) >>= λ k. on_byte ascii.colon (skip_whitespace mode k.1)
+    (λ rest. Ok ((k.0, size - length k.1), skip_whitespace mode rest))
+    (rejected size expected_colon 0 (skip_whitespace mode k.1))
 
 module _ (size : ℕ) (mode : Mode) (depth : ℕ) where
   abbrev pub elements_from : List Source → List ℕ → Read Source
@@ -68,7 +68,7 @@ module _ (size : ℕ) (mode : Mode) (depth : ℕ) where
 
   -- the container, once the value that it waits for was read
   abbrev pub finish_open : Open → Source × List ℕ → Read Source
-  finish_open c x = resume_after_part (add_part c x.0) (skip_blanks mode x.1)
+  finish_open c x = resume_after_part (add_part c x.0) (skip_whitespace mode x.1)
 
 -- The outermost value, once the value that the innermost container waits for was read. The innermost container comes
 -- first, and the number is how deep what is in it may nest.

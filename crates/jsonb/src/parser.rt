@@ -12,14 +12,13 @@ ghost use Rattle.jsonb_value.specs.View.{view};
 ghost use Rattle.jsonb_scan.specs.Answer.{mode_of, NamesFault, IsTextError, Gives, MayAllocate};
 ghost use Rattle.jsonb.specs.Parser.{rest_of, size_of, Advances, IsBehind};
 ghost use Rattle.jsonb_scan.specs.Reading.{begins, fault_at};
-ghost use Rattle.jsonb_scan.specs.Reading.Blank.{skip_closed_blanks};
+ghost use Rattle.jsonb_scan.specs.Reading.Whitespace.{skip_closed_whitespace};
 ghost use Rattle.jsonb_scan.specs.Reading.Document.{at_end, comment_at, document_of, source_from, source_of};
 ghost use Rattle.jsonb.specs.Explained.{IsExplained};
 ghost use Rattle.jsonb_spec.specs.Source.{Source, null_source};
 ghost use Rattle.jsonb.specs.Handler.{BuildsAll, ElseFails, IsWritten, Misses};
 
 mod ast;
-mod blank;
 mod extended_number;
 mod frame;
 mod handler;
@@ -31,6 +30,7 @@ mod scalar;
 mod straight;
 mod string;
 mod value;
+mod whitespace;
 
 pub use ast::JsonAst;
 use handler::{Failed, Handler};
@@ -315,15 +315,15 @@ impl<'a> Parser<'a> {
         requires same { text.now ≡ take (length text.now) self.old.buf.now }
         ensures reads { V.stands self.old.buf.now room.old true [] []
             → ElseFails V.silent self.new.told result (source_from (size_of self.old) (mode_of self.old.mode)
-            (skip_closed_blanks (mode_of self.old.mode) (rest_of self.old))) (λ v. (s : Source)
+            (skip_closed_whitespace (mode_of self.old.mode) (rest_of self.old))) (λ v. (s : Source)
             × V.filled self.old.buf.now room.new v s [] [] × (source_from (size_of self.old) (mode_of self.old.mode)
-            (skip_closed_blanks (mode_of self.old.mode) (rest_of self.old)) ≡ Ok s)) }
+            (skip_closed_whitespace (mode_of self.old.mode) (rest_of self.old)) ≡ Ok s)) }
         ensures memory { IfErr result (λ _. self.new.told ≡ Some Error.OutOfMemory → MayAllocate self.old.buf.now
             ⊎ IsWritten V.writes (source_from (size_of self.old) (mode_of self.old.mode)
-            (skip_closed_blanks (mode_of self.old.mode) (rest_of self.old)))) }
+            (skip_closed_whitespace (mode_of self.old.mode) (rest_of self.old)))) }
         ensures base { V.base room.new ≡ V.base room.old }
     {
-        self.skip_closed_blanks();
+        self.skip_closed_whitespace();
         if self.idx >= self.buf.len() {
             return match self.mode {
                 Mode::Standard => {
@@ -375,10 +375,10 @@ impl<'a> Parser<'a> {
     fn end_document(&mut self) -> Result<()>
         requires { self.old.idx ≤ size_of self.old }
         ensures reads { (s : Source) → Gives (λ _. s) result (at_end (size_of self.old) (mode_of self.old.mode) s
-            (skip_closed_blanks (mode_of self.old.mode) (rest_of self.old))) }
+            (skip_closed_whitespace (mode_of self.old.mode) (rest_of self.old))) }
         ensures takes_no_memory { result ≢ Err Error.OutOfMemory }
     {
-        self.skip_closed_blanks();
+        self.skip_closed_whitespace();
         if self.idx >= self.buf.len() {
             return Ok(());
         }

@@ -18,7 +18,7 @@ use Rattle.jsonb_spec.specs.Placed.AreElementsAt.{more_elements, one_element}
 use Rattle.jsonb_spec.specs.Placed.AreMembersAt.{more_members as more_found, one_member}
 use Rattle.jsonb_spec.specs.Placed.IsElementAt.{empty_element, whole_element}
 use Rattle.jsonb_spec.specs.Placed.IsMemberAt.{key_and_value}
-use Rattle.jsonb_spec.specs.Placed.IsPlaced.{blanks_alone, value_alone}
+use Rattle.jsonb_spec.specs.Placed.IsPlaced.{whitespace_alone, value_alone}
 use Rattle.jsonb_spec.specs.Placed.IsValueAt.{empty_array, empty_object, full_array, full_object, scalar}
 use Rattle.jsonb.specs.Source.{found_from, source_step, source_view}
 use Rattle.jsonb.specs.declared.parser.ast.JsonAst.{JsonAst, fold-roll-JsonAst, map-JsonAst, ind-JsonAst}
@@ -102,7 +102,7 @@ module _ {mode : Mode} {input : List ℕ} where
 
   placed_in_order : {s : Source} → IsPlaced mode input s → IsInOrder s
   placed_in_order (value_alone a v b) = value_in_order v
-  placed_in_order (blanks_alone e b) = tt
+  placed_in_order (whitespace_alone e b) = tt
 
 -- ---- the tree as it is listed
 

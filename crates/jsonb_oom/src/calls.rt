@@ -1,5 +1,5 @@
-//! The calls on a text. A line of the input is a letter, `s` for standard or `e` for extended mode, a blank, and the
-//! text in hexadecimal. Each call has a line of its own: its name, a blank, and the text of its answer or what is
+//! The calls on a text. A line of the input is a letter, `s` for standard or `e` for extended mode, a space, and the
+//! text in hexadecimal. Each call has a line of its own: its name, a space, and the text of its answer or what is
 //! printed of the error.
 
 use jsonb::{Error, JsonAst, Mode, Result, Value};

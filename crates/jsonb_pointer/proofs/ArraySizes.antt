@@ -6,7 +6,7 @@ use Rattle.std.specs.Ordering.{nat_cmp, match_ordering}
 use Rattle.std.specs.declared.cmp.Ordering.{Ordering}
 use Rattle.std.specs.declared.cmp.Ordering.TheVariants.{Less, Equal, Greater}
 use Rattle.jsonb_spec.specs.Accessors.{trees_len}
-use Rattle.jsonb_spec.specs.Grammar.{IsPadded, padded, IsJoined, one_part, more_parts, IsElement, whole_element, empty_element, IsMember, key_and_value, IsValue, scalar, empty_array, full_array, empty_object, full_object, Derives, max_depth, IsDocument, value_alone, blanks_alone}
+use Rattle.jsonb_spec.specs.Grammar.{IsPadded, padded, IsJoined, one_part, more_parts, IsElement, whole_element, empty_element, IsMember, key_and_value, IsValue, scalar, empty_array, full_array, empty_object, full_object, Derives, max_depth, IsDocument, value_alone, whitespace_alone}
 use Rattle.jsonb_spec.specs.Grammar.Scalar.{IsScalar, literal_value, string_value, number_value, null_word, true_word, false_word}
 use Rattle.jsonb_spec.specs.Mode.{Mode}
 use Rattle.jsonb_spec.specs.Tree.{Tree, array, object, Trees, no_trees, more_trees, Members, no_members, more_members, Member, trees_of, put, put_all}
@@ -103,4 +103,4 @@ module _ (n : ℕ) where
   pub document_below : (mode : Mode) (bytes : List ℕ) (t : Tree) → IsDocument mode bytes t → length bytes ≤ n → AreBelow n t
   document_below mode bytes t (value_alone {before = before} {core = core} {after = after} b d a) h =
       derived_below mode max_depth core t d (omega (arith, h, length-append before (core ++ after), length-append core after))
-  document_below mode bytes t (blanks_alone m b) h = tt
+  document_below mode bytes t (whitespace_alone m b) h = tt

@@ -3,7 +3,7 @@ use Rattle.std.proofs.Common.{◌≡◌, ℕ, zero, suc, ◌+◌, ◌<◌, List,
 use Rattle.std.specs.List.{flat_map}
 use Rattle.std.specs.Ordering.{ordering_then}
 use Rattle.std.specs.Str.{IsUtf8}
-use Rattle.jsonb_spec.specs.Grammar.Blanks.{IsBlank, space, tab, line_feed, form_feed, carriage_return, written_line_feed, written_carriage_return, written_tab, written_form_feed, block_comment, line_comment, IsBlanks, no_blanks, more_blanks, blanks_to_end}
+use Rattle.jsonb_spec.specs.Grammar.Whitespace.{IsWhitespacePiece, space, tab, line_feed, form_feed, carriage_return, written_line_feed, written_carriage_return, written_tab, written_form_feed, block_comment, line_comment, IsWhitespace, no_whitespace, more_whitespace, whitespace_to_end}
 use Rattle.jsonb_spec.specs.Grammar.Scalar.{IsKey, quoted_key}
 use Rattle.jsonb_spec.specs.Grammar.{IsPadded, padded, IsJoined, one_part, more_parts, IsElement, whole_element, empty_element, IsMember, key_and_value, full_array, full_object, Derives, max_depth, IsDocument, value_alone}
 use Rattle.jsonb_spec.specs.Keys.{KeysAscend}
@@ -23,46 +23,46 @@ use Rattle.jsonb_value.proofs.Trees.MembersInOrder.{distinct_keys, put_all-ascen
 use Rattle.jsonb_value.proofs.Trees.OneText.{same_bytes, both_equal, IsShort, IsTextByte, text_first}
 use Rattle.jsonb_value.proofs.Trees.Ranges.{widened}
 use Rattle.jsonb_value.proofs.Trees.Runs.{heads, tails}
-use Rattle.jsonb_value.proofs.Trees.TextsReadBack.{no_blanks_alone, double_quote, SpellsSameNumber, HaveSpelled, same_ascent, read_tree}
+use Rattle.jsonb_value.proofs.Trees.TextsReadBack.{no_whitespace_alone, double_quote, SpellsSameNumber, HaveSpelled, same_ascent, read_tree}
 use Rattle.jsonb_spec.specs.Indented.{new_line, indented, item_lines, member_lines, StandsFor}
 
--- ---- blanks
+-- ---- whitespace
 
-spaces : (mode : Mode) (n : ℕ) → IsBlanks mode (replicate n 32)
-spaces mode zero = no_blanks
-spaces mode (suc n) = more_blanks space (spaces mode n)
+spaces : (mode : Mode) (n : ℕ) → IsWhitespace mode (replicate n 32)
+spaces mode zero = no_whitespace
+spaces mode (suc n) = more_whitespace space (spaces mode n)
 
-line_is_blank : (mode : Mode) (margin : ℕ) → IsBlanks mode (new_line margin)
-line_is_blank mode margin = more_blanks line_feed (spaces mode margin)
+line_is_piece : (mode : Mode) (margin : ℕ) → IsWhitespace mode (new_line margin)
+line_is_piece mode margin = more_whitespace line_feed (spaces mode margin)
 
-more_after : (mode : Mode) (xs ys : List ℕ) → IsBlanks mode xs → IsBlanks mode ys → IsBlanks mode (xs ++ ys)
-more_after mode xs ys no_blanks q = q
-more_after mode xs ys (more_blanks {blank = blank} {rest = rest} one others) q =
-    subst (IsBlanks mode) (sym (append_assoc blank rest ys)) (more_blanks one (more_after mode rest ys others q))
+more_after : (mode : Mode) (xs ys : List ℕ) → IsWhitespace mode xs → IsWhitespace mode ys → IsWhitespace mode (xs ++ ys)
+more_after mode xs ys no_whitespace q = q
+more_after mode xs ys (more_whitespace {piece = piece} {rest = rest} one others) q =
+    subst (IsWhitespace mode) (sym (append_assoc piece rest ys)) (more_whitespace one (more_after mode rest ys others q))
 
--- what follows a first space or line feed of blanks is blanks
-behind_blank : (mode : Mode) (blank rest : List ℕ) (b : ℕ) (bytes : List ℕ) → IsBlank mode blank → blank ++ rest ≡ b ∷ bytes → b < 47 → IsBlanks mode rest → IsBlanks mode bytes
-behind_blank mode blank rest b bytes space e low others = subst (IsBlanks mode) (tails 32 b rest bytes e) others
-behind_blank mode blank rest b bytes tab e low others = subst (IsBlanks mode) (tails 9 b rest bytes e) others
-behind_blank mode blank rest b bytes line_feed e low others = subst (IsBlanks mode) (tails 10 b rest bytes e) others
-behind_blank mode blank rest b bytes form_feed e low others = subst (IsBlanks mode) (tails 12 b rest bytes e) others
-behind_blank mode blank rest b bytes carriage_return e low others = subst (IsBlanks mode) (tails 13 b rest bytes e) others
-behind_blank mode blank rest b bytes written_line_feed e low others = absurd (omega (arith, heads 92 b (110 ∷ rest) bytes e, low))
-behind_blank mode blank rest b bytes written_carriage_return e low others = absurd (omega (arith, heads 92 b (114 ∷ rest) bytes e, low))
-behind_blank mode blank rest b bytes written_tab e low others = absurd (omega (arith, heads 92 b (116 ∷ rest) bytes e, low))
-behind_blank mode blank rest b bytes written_form_feed e low others = absurd (omega (arith, heads 92 b (120 ∷ 48 ∷ 67 ∷ rest) bytes e, low))
-behind_blank mode blank rest b bytes (block_comment inside m lacks) e low others = absurd (omega (arith, heads 47 b (42 ∷ ((inside ++ 42 ∷ 47 ∷ []) ++ rest)) bytes e, low))
-behind_blank mode blank rest b bytes (line_comment inside last m one ends) e low others = absurd (omega (arith, heads 47 b (47 ∷ ((inside ++ last ∷ []) ++ rest)) bytes e, low))
+-- what follows a first space or line feed of whitespace is whitespace
+behind_piece : (mode : Mode) (piece rest : List ℕ) (b : ℕ) (bytes : List ℕ) → IsWhitespacePiece mode piece → piece ++ rest ≡ b ∷ bytes → b < 47 → IsWhitespace mode rest → IsWhitespace mode bytes
+behind_piece mode piece rest b bytes space e low others = subst (IsWhitespace mode) (tails 32 b rest bytes e) others
+behind_piece mode piece rest b bytes tab e low others = subst (IsWhitespace mode) (tails 9 b rest bytes e) others
+behind_piece mode piece rest b bytes line_feed e low others = subst (IsWhitespace mode) (tails 10 b rest bytes e) others
+behind_piece mode piece rest b bytes form_feed e low others = subst (IsWhitespace mode) (tails 12 b rest bytes e) others
+behind_piece mode piece rest b bytes carriage_return e low others = subst (IsWhitespace mode) (tails 13 b rest bytes e) others
+behind_piece mode piece rest b bytes written_line_feed e low others = absurd (omega (arith, heads 92 b (110 ∷ rest) bytes e, low))
+behind_piece mode piece rest b bytes written_carriage_return e low others = absurd (omega (arith, heads 92 b (114 ∷ rest) bytes e, low))
+behind_piece mode piece rest b bytes written_tab e low others = absurd (omega (arith, heads 92 b (116 ∷ rest) bytes e, low))
+behind_piece mode piece rest b bytes written_form_feed e low others = absurd (omega (arith, heads 92 b (120 ∷ 48 ∷ 67 ∷ rest) bytes e, low))
+behind_piece mode piece rest b bytes (block_comment inside m lacks) e low others = absurd (omega (arith, heads 47 b (42 ∷ ((inside ++ 42 ∷ 47 ∷ []) ++ rest)) bytes e, low))
+behind_piece mode piece rest b bytes (line_comment inside last m one ends) e low others = absurd (omega (arith, heads 47 b (47 ∷ ((inside ++ last ∷ []) ++ rest)) bytes e, low))
 
-behind_first : (mode : Mode) (b : ℕ) (bytes whole : List ℕ) → b < 47 → whole ≡ b ∷ bytes → IsBlanks mode whole → IsBlanks mode bytes
-behind_first mode b bytes whole low e no_blanks = let clash : [] ≡ b ∷ bytes = e in cc
-behind_first mode b bytes whole low e (more_blanks {blank = blank} {rest = rest} one others) = behind_blank mode blank rest b bytes one e low others
+behind_first : (mode : Mode) (b : ℕ) (bytes whole : List ℕ) → b < 47 → whole ≡ b ∷ bytes → IsWhitespace mode whole → IsWhitespace mode bytes
+behind_first mode b bytes whole low e no_whitespace = let clash : [] ≡ b ∷ bytes = e in cc
+behind_first mode b bytes whole low e (more_whitespace {piece = piece} {rest = rest} one others) = behind_piece mode piece rest b bytes one e low others
 
-behind_spaces : (mode : Mode) (n : ℕ) (bytes : List ℕ) → IsBlanks mode (replicate n 32 ++ bytes) → IsBlanks mode bytes
+behind_spaces : (mode : Mode) (n : ℕ) (bytes : List ℕ) → IsWhitespace mode (replicate n 32 ++ bytes) → IsWhitespace mode bytes
 behind_spaces mode zero bytes h = h
 behind_spaces mode (suc n) bytes h = behind_spaces mode n bytes (behind_first mode 32 (replicate n 32 ++ bytes) _ (omega arith) refl h)
 
-behind_line : (mode : Mode) (margin : ℕ) (bytes : List ℕ) → IsBlanks mode (new_line margin ++ bytes) → IsBlanks mode bytes
+behind_line : (mode : Mode) (margin : ℕ) (bytes : List ℕ) → IsWhitespace mode (new_line margin ++ bytes) → IsWhitespace mode bytes
 behind_line mode margin bytes h = behind_spaces mode margin bytes (behind_first mode 10 (replicate margin 32 ++ bytes) _ (omega arith) refl h)
 
 -- ---- parts over lines
@@ -85,27 +85,27 @@ joined_lines Spells close closes line (other ∷ lines) x (y ∷ xs) h k =
     subst (λ bytes. IsJoined Spells bytes (x ∷ y ∷ xs)) (sym (append_assoc line (44 ∷ with_commas (other ∷ lines)) close))
     (more_parts {first = line} {rest = with_commas (other ∷ lines) ++ close} h (joined_lines Spells close closes other lines y xs k.0 k.1))
 
-padded_more : {A : Type 0} (mode : Mode) (Spells : List ℕ → A → Type 0) (close : List ℕ) → IsBlanks mode close → (bytes : List ℕ) (a : A) → IsPadded mode Spells bytes a → IsPadded mode Spells (bytes ++ close) a
-padded_more mode Spells close blank bytes a (padded {before = before} {core = core} {after = after} p h q) =
+padded_more : {A : Type 0} (mode : Mode) (Spells : List ℕ → A → Type 0) (close : List ℕ) → IsWhitespace mode close → (bytes : List ℕ) (a : A) → IsPadded mode Spells bytes a → IsPadded mode Spells (bytes ++ close) a
+padded_more mode Spells close piece bytes a (padded {before = before} {core = core} {after = after} p h q) =
     subst (λ b. IsPadded mode Spells b a) (sym (append_assoc before (core ++ after) close ∙ ap (λ b. before ++ b) (append_assoc core after close)))
-    (padded {before = before} {core = core} {after = after ++ close} p h (more_after mode after close q blank))
+    (padded {before = before} {core = core} {after = after ++ close} p h (more_after mode after close q piece))
 
-element_more : (mode : Mode) (Value : List ℕ → Tree → Type 0) (close : List ℕ) → IsBlanks mode close → (bytes : List ℕ) (t : Tree) → IsElement mode Value bytes t → IsElement mode Value (bytes ++ close) t
-element_more mode Value close blank bytes t (whole_element p) = whole_element (padded_more mode Value close blank bytes t p)
-element_more mode Value close blank bytes t (empty_element m p) = empty_element m (more_after mode bytes close p blank)
+element_more : (mode : Mode) (Value : List ℕ → Tree → Type 0) (close : List ℕ) → IsWhitespace mode close → (bytes : List ℕ) (t : Tree) → IsElement mode Value bytes t → IsElement mode Value (bytes ++ close) t
+element_more mode Value close piece bytes t (whole_element p) = whole_element (padded_more mode Value close piece bytes t p)
+element_more mode Value close piece bytes t (empty_element m p) = empty_element m (more_after mode bytes close p piece)
 
-member_more : (mode : Mode) (Value : List ℕ → Tree → Type 0) (close : List ℕ) → IsBlanks mode close → (bytes : List ℕ) (m : Member) → IsMember mode Value bytes m → IsMember mode Value (bytes ++ close) m
-member_more mode Value close blank bytes m (key_and_value {left = left} {right = right} {key = key} {t = t} k v) =
+member_more : (mode : Mode) (Value : List ℕ → Tree → Type 0) (close : List ℕ) → IsWhitespace mode close → (bytes : List ℕ) (m : Member) → IsMember mode Value bytes m → IsMember mode Value (bytes ++ close) m
+member_more mode Value close piece bytes m (key_and_value {left = left} {right = right} {key = key} {t = t} k v) =
     subst (λ b. IsMember mode Value b (key.1, t)) (sym (append_assoc left (58 ∷ right) close))
-    (key_and_value {left = left} {right = right ++ close} {key = key} {t = t} k (padded_more mode Value close blank right t v))
+    (key_and_value {left = left} {right = right ++ close} {key = key} {t = t} k (padded_more mode Value close piece right t v))
 
--- blanks before what is padded
-pad_before : {A : Type 0} (mode : Mode) (Spells : List ℕ → A → Type 0) (before core : List ℕ) (a : A) → IsBlanks mode before → Spells core a → IsPadded mode Spells (before ++ core) a
-pad_before mode Spells before core a blank h =
-    subst (λ bytes. IsPadded mode Spells (before ++ bytes) a) (append-nil core) (padded {before = before} {core = core} {after = []} blank h no_blanks)
+-- whitespace before what is padded
+pad_before : {A : Type 0} (mode : Mode) (Spells : List ℕ → A → Type 0) (before core : List ℕ) (a : A) → IsWhitespace mode before → Spells core a → IsPadded mode Spells (before ++ core) a
+pad_before mode Spells before core a piece h =
+    subst (λ bytes. IsPadded mode Spells (before ++ bytes) a) (append-nil core) (padded {before = before} {core = core} {after = []} piece h no_whitespace)
 
 item_line : (mode : Mode) (Value : List ℕ → Tree → Type 0) (margin : ℕ) (bytes : List ℕ) (t : Tree) → Value bytes t → IsElement mode Value (new_line margin ++ bytes) t
-item_line mode Value margin bytes t h = whole_element (pad_before mode Value (new_line margin) bytes t (line_is_blank mode margin) h)
+item_line mode Value margin bytes t h = whole_element (pad_before mode Value (new_line margin) bytes t (line_is_piece mode margin) h)
 
 member_line : (mode : Mode) (Value : List ℕ → Tree → Type 0) (margin : ℕ) (k bytes : List ℕ) (t : Tree) → IsUtf8 k → Value bytes t
     → IsMember mode Value (new_line margin ++ (quoted_text k ++ 58 ∷ 32 ∷ bytes)) (k, t)
@@ -113,8 +113,8 @@ member_line mode Value margin k bytes t utf8 h =
     let key = reads_back mode k utf8 in
     subst (λ b. IsMember mode Value b (k, t)) (append_assoc (new_line margin) (quoted_text k) (58 ∷ 32 ∷ bytes))
     (key_and_value {left = new_line margin ++ quoted_text k} {right = 32 ∷ bytes} {key = (key.0, k)} {t = t}
-    (pad_before mode (IsKey mode) (new_line margin) (quoted_text k) (key.0, k) (line_is_blank mode margin) (quoted_key {quote = 34} (double_quote mode) key.1))
-    (pad_before mode Value (32 ∷ []) bytes t (more_blanks space no_blanks) h))
+    (pad_before mode (IsKey mode) (new_line margin) (quoted_text k) (key.0, k) (line_is_piece mode margin) (quoted_key {quote = 34} (double_quote mode) key.1))
+    (pad_before mode Value (32 ∷ []) bytes t (more_whitespace space no_whitespace) h))
 
 -- ---- values
 
@@ -161,14 +161,14 @@ module _ (mode : Mode) (IsIn : Num → Type 0) (short : (n : Num) → IsProperNu
   begins_more : (bytes more : List ℕ) → Begins IsTextByte bytes → Begins IsTextByte (bytes ++ more)
   begins_more bytes more b = record { first = b.first; rest = b.rest ++ more; joined = ap (λ text. text ++ more) b.joined; is = b.is }
 
-  -- the lines of items aren't blanks alone
-  no_blank_lines : (margin : ℕ) (text : List ℕ) (lines : List (List ℕ)) (close : List ℕ) → Begins IsTextByte text → IsBlanks mode (with_commas ((new_line margin ++ text) ∷ lines) ++ close) → ⊥
-  no_blank_lines margin text lines close b blank =
+  -- the lines of items isn't whitespace alone
+  no_whitespace_lines : (margin : ℕ) (text : List ℕ) (lines : List (List ℕ)) (close : List ℕ) → Begins IsTextByte text → IsWhitespace mode (with_commas ((new_line margin ++ text) ∷ lines) ++ close) → ⊥
+  no_whitespace_lines margin text lines close b piece =
       let others : List ℕ = flat_map (λ (other : List ℕ). 44 ∷ other) lines in
       let parts : ((new_line margin ++ text) ++ others) ++ close ≡ new_line margin ++ ((text ++ others) ++ close) =
       ap (λ bytes. bytes ++ close) (append_assoc (new_line margin) text others) ∙ append_assoc (new_line margin) (text ++ others) close in
-      no_blanks_alone mode ((text ++ others) ++ close) (begins_more (text ++ others) close (begins_more text others b))
-      (behind_line mode margin ((text ++ others) ++ close) (subst (IsBlanks mode) parts blank))
+      no_whitespace_alone mode ((text ++ others) ++ close) (begins_more (text ++ others) close (begins_more text others b))
+      (behind_line mode margin ((text ++ others) ++ close) (subst (IsWhitespace mode) parts piece))
 
   read_items : (t : Tree) (ts : Trees) (us : List Tree) (margin depth : ℕ) → IsProper t → IsWithin IsIn t depth → Each (IsElement mode (Derives mode depth)) (item_lines indent (margin + indent) (more_trees t ts)) us
       → trees_cmp (trees_of us) (more_trees t ts) ≡ Equal → IsReadAs (suc depth) (indented indent margin (array (more_trees t ts))) (array (more_trees t ts))
@@ -177,11 +177,11 @@ module _ (mode : Mode) (IsIn : Num → Type 0) (short : (n : Num) → IsProperNu
       let line = new_line (margin + indent) ++ indented indent (margin + indent) t in
       let lines = item_lines indent (margin + indent) ts in
       let body = with_commas (line ∷ lines) ++ new_line margin in
-      let joined = joined_lines (IsElement mode (Derives mode depth)) (new_line margin) (element_more mode (Derives mode depth) (new_line margin) (line_is_blank mode margin)) line lines u us each.0 each.1 in
+      let joined = joined_lines (IsElement mode (Derives mode depth)) (new_line margin) (element_more mode (Derives mode depth) (new_line margin) (line_is_piece mode margin)) line lines u us each.0 each.1 in
       record {
         tree = array (trees_of (u ∷ us));
         derived = subst (λ bytes. Derives mode (suc depth) (91 ∷ bytes) (array (trees_of (u ∷ us)))) (append_assoc (with_commas (line ∷ lines)) (new_line margin) (93 ∷ []))
-            (full_array {body = body} {ts = u ∷ us} joined (no_blank_lines (margin + indent) (indented indent (margin + indent) t) lines (new_line margin) (begins t (margin + indent) depth p w)));
+            (full_array {body = body} {ts = u ∷ us} joined (no_whitespace_lines (margin + indent) (indented indent (margin + indent) t) lines (new_line margin) (begins t (margin + indent) depth p w)));
         same = same;
       }
 
@@ -193,7 +193,7 @@ module _ (mode : Mode) (IsIn : Num → Type 0) (short : (n : Num) → IsProperNu
       let lines = member_lines indent (margin + indent) ms in
       let body = with_commas (line ∷ lines) ++ new_line margin in
       let rising = same_ascent (λ bytes t. Unit {0}) (more_members k t ms) (more_members l u ns) keys a in
-      let joined = joined_lines (IsMember mode (Derives mode depth)) (new_line margin) (member_more mode (Derives mode depth) (new_line margin) (line_is_blank mode margin)) line lines (l, u) (pairs_of ns) each.0 each.1 in
+      let joined = joined_lines (IsMember mode (Derives mode depth)) (new_line margin) (member_more mode (Derives mode depth) (new_line margin) (line_is_piece mode margin)) line lines (l, u) (pairs_of ns) each.0 each.1 in
       record {
         tree = object (more_members l u ns);
         derived = subst (λ bytes. Derives mode (suc depth) (123 ∷ bytes) (object (more_members l u ns))) (append_assoc (with_commas (line ∷ lines)) (new_line margin) (125 ∷ []))
@@ -253,7 +253,7 @@ module _ (mode : Mode) (IsIn : Num → Type 0) (short : (n : Num) → IsProperNu
       let r = read_lines t 0 max_depth p w in
       record {
         tree = r.tree;
-        document = subst (λ bytes. IsDocument mode bytes r.tree) (append-nil (indented indent 0 t)) (value_alone {core = indented indent 0 t} no_blanks r.derived (blanks_to_end no_blanks));
+        document = subst (λ bytes. IsDocument mode bytes r.tree) (append-nil (indented indent 0 t)) (value_alone {core = indented indent 0 t} no_whitespace r.derived (whitespace_to_end no_whitespace));
         same = r.same;
       }
 

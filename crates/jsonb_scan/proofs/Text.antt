@@ -1,3 +1,3 @@
 -- Whitespace and comments.
-pub mod Blanks
+pub mod Whitespace
 pub mod Comments

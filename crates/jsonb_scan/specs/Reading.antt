@@ -1,7 +1,7 @@
 -- Results of the executable specification, faults, and sequencing. It connects the code of the parsers with the
 -- grammar.
 pub mod BareKey
-pub mod Blank
+pub mod Whitespace
 pub mod Container
 pub mod Document
 pub mod ExtendedNumber

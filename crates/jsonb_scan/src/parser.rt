@@ -3,13 +3,13 @@
 ghost use Rattle.std.specs.Prelude.{◌≡◌, ◌↔◌, IsTrue};
 ghost use Rattle.jsonb_scan.specs.Answer.{mode_of};
 
-pub mod blank;
 pub mod extended_number;
 pub mod integer;
 pub mod key;
 pub mod number;
 pub mod string;
 mod vector;
+pub mod whitespace;
 
 /// The grammar of a text.
 #[derive(Clone, Copy, Debug, PartialEq, Eq)]

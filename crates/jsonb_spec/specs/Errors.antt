@@ -4,7 +4,7 @@ use Rattle.std.specs.declared.cmp.Ordering.TheVariants.{Less}
 use Rattle.std.specs.Ordering.{nat_cmp, is_eq}
 use Rattle.std.specs.Cmp.Lexicographic.{slice_cmp}
 use Rattle.jsonb_spec.specs.Ascii as ascii
-use Rattle.jsonb_spec.specs.Grammar.Blanks.{IsBlank, IsBlanks}
+use Rattle.jsonb_spec.specs.Grammar.Whitespace.{IsWhitespacePiece, IsWhitespace}
 use Rattle.jsonb_spec.specs.Code.{Code}
 use Rattle.jsonb_spec.specs.Code.Code.{depth_limit_exceeded, expected_some_value, number_not_carried, object_duplicate_key, unexpected_trailing_characters}
 use Rattle.jsonb_spec.specs.Grammar.{Derives, IsDocument, IsElement, IsJoined, IsMember, IsPadded, max_depth}
@@ -30,20 +30,20 @@ pub data ArePassed {A : Type 0} (Spells : List ℕ → A → Type 0) : List ℕ 
   part_passed : {first rest : List ℕ} {a : A} {others : List A} → Spells first a → ArePassed Spells rest others
       → ArePassed Spells (first ++ ascii.comma ∷ rest) (a ∷ others)
 
--- The bytes up to where a value is due, with this many arrays and objects open: blanks, and then for each of these its
--- opening byte, what is passed of it, and blanks. Of an array elements are passed, and of an object members and then a
+-- The bytes up to where a value is due, with this many arrays and objects open: whitespace, and then for each of these its
+-- opening byte, what is passed of it, and whitespace. Of an array elements are passed, and of an object members and then a
 -- key and a colon.
 pub data IsFront (mode : Mode) : List ℕ → ℕ → Type 0 where
-  front_of_blanks : {bytes : List ℕ} → IsBlanks mode bytes → IsFront mode bytes 0
-  in_array : {before elements rest : List ℕ} {ts : List Tree} {count : ℕ} → IsBlanks mode before
+  front_of_whitespace : {bytes : List ℕ} → IsWhitespace mode bytes → IsFront mode bytes 0
+  in_array : {before elements rest : List ℕ} {ts : List Tree} {count : ℕ} → IsWhitespace mode before
       → ArePassed (IsElement mode (IsSpelling mode)) elements ts → IsFront mode rest count
       → IsFront mode (before ++ ascii.open_bracket ∷ (elements ++ rest)) (suc count)
   in_object : {before members left rest : List ℕ} {key : Mark × List ℕ} {ms : List Member} {count : ℕ}
-      → IsBlanks mode before → ArePassed (IsMember mode (IsSpelling mode)) members ms
+      → IsWhitespace mode before → ArePassed (IsMember mode (IsSpelling mode)) members ms
       → IsPadded mode (IsKey mode) left key → IsFront mode rest count
       → IsFront mode (before ++ ascii.open_brace ∷ (members ++ (left ++ ascii.colon ∷ rest))) (suc count)
 
--- A value is due at a byte that begins none, and no blank begins there. The place counts from 1.
+-- A value is due at a byte that begins none, and no whitespace begins there. The place counts from 1.
 pub record LacksValue (mode : Mode) (input : List ℕ) (place : ℕ) : Type 0 where
   pub front : List ℕ
   pub byte : ℕ
@@ -54,7 +54,7 @@ pub record LacksValue (mode : Mode) (input : List ℕ) (place : ℕ) : Type 0 wh
   pub within : count ≤ max_depth
   pub is_front : IsFront mode front count
   pub begins_none : (depth : ℕ) (rest : List ℕ) (t : Tree) → Derives mode depth (byte ∷ rest) t → ⊥
-  pub no_blank : (blank rest : List ℕ) → IsBlank mode blank → byte ∷ others ≡ blank ++ rest → ⊥
+  pub no_piece : (piece rest : List ℕ) → IsWhitespacePiece mode piece → byte ∷ others ≡ piece ++ rest → ⊥
 
 -- An array or an object begins where as many are open as may be.
 pub record IsTooDeep (mode : Mode) (input : List ℕ) (place : ℕ) : Type 0 where
@@ -66,7 +66,7 @@ pub record IsTooDeep (mode : Mode) (input : List ℕ) (place : ℕ) : Type 0 whe
   pub is_front : IsFront mode front max_depth
   pub opens : (byte ≡ ascii.open_bracket) ⊎ (byte ≡ ascii.open_brace)
 
--- What stands before the place is a document that is no blanks alone. No blank begins at the place, and no longer
+-- What stands before the place is a document that is not whitespace alone. No whitespace begins at the place, and no longer
 -- beginning of the input is a document.
 pub record Trails (mode : Mode) (input : List ℕ) (place : ℕ) : Type 0 where
   pub before : List ℕ
@@ -76,8 +76,8 @@ pub record Trails (mode : Mode) (input : List ℕ) (place : ℕ) : Type 0 where
   pub at_byte : place ≡ length before + 1
   pub tree : Tree
   pub document : IsDocument mode before tree
-  pub not_blank : IsBlanks mode before → ⊥
-  pub no_blank : (blank rest : List ℕ) → IsBlank mode blank → byte ∷ others ≡ blank ++ rest → ⊥
+  pub not_piece : IsWhitespace mode before → ⊥
+  pub no_piece : (piece rest : List ℕ) → IsWhitespacePiece mode piece → byte ∷ others ≡ piece ++ rest → ⊥
   pub longest : (longer rest : List ℕ) (t : Tree) → input ≡ longer ++ rest → length before < length longer
       → IsDocument mode longer t → ⊥
 
@@ -89,22 +89,22 @@ times key ms = count_by (λ m. is_eq (slice_cmp nat_cmp m.0 key)) ms
 -- the later ones. No lesser key comes twice, by the bytes, and the second spelling ends after this many bytes.
 pub record Repeats (mode : Mode) (body key : List ℕ) (length_upto : ℕ) : Type 0 where
   pub passed : List ℕ
-  pub blanks : List ℕ
+  pub whitespace : List ℕ
   pub spelled : List ℕ
   pub after : List ℕ
-  pub whole : body ≡ passed ++ (blanks ++ (spelled ++ after))
+  pub whole : body ≡ passed ++ (whitespace ++ (spelled ++ after))
   pub earlier : List Member
   pub again : Member
   pub later : List Member
   pub are_passed : ArePassed (IsMember mode (IsSpelling mode)) passed earlier
-  pub are_joined : IsJoined (IsMember mode (IsSpelling mode)) (blanks ++ (spelled ++ after)) (again ∷ later)
-  pub are_blanks : IsBlanks mode blanks
+  pub are_joined : IsJoined (IsMember mode (IsSpelling mode)) (whitespace ++ (spelled ++ after)) (again ∷ later)
+  pub is_whitespace : IsWhitespace mode whitespace
   pub mark : Mark
   pub is_key : IsKey mode spelled (mark, key)
   pub same_key : again.0 ≡ key
   pub second : times key earlier ≡ 1
   pub least : (k : List ℕ) → slice_cmp nat_cmp k key ≡ Less → times k (earlier ++ again ∷ later) ≤ 1
-  pub ends : length_upto ≡ length (passed ++ (blanks ++ spelled))
+  pub ends : length_upto ≡ length (passed ++ (whitespace ++ spelled))
 
 -- Where a value is due stands an object in which a key comes twice. The place is the index after the second spelling of
 -- the least such key.

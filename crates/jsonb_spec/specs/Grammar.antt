@@ -1,7 +1,7 @@
 -- Documents: whitespace around values, parts joined by commas, elements, members, values by depth (RFC 8259, sections
 -- 2, 4 and 5, for the standard ones).
 pub mod BareKey
-pub mod Blanks
+pub mod Whitespace
 pub mod ExtendedNumber
 pub mod Quoted
 pub mod Scalar
@@ -12,12 +12,12 @@ use Rattle.std.specs.Prelude.{◌≡◌, ◌≢◌, ℕ, zero, suc, List, [], �
 use Rattle.jsonb_spec.specs.Ascii as ascii
 use Rattle.jsonb_spec.specs.Mode.{Mode, extended}
 use Rattle.jsonb_spec.specs.Tree.{Mark, Tree, null, array, object, no_members, trees_of, Member, put_all}
-use Rattle.jsonb_spec.specs.Grammar.Blanks.{IsBlanks, AreLastBlanks}
+use Rattle.jsonb_spec.specs.Grammar.Whitespace.{IsWhitespace, IsLastWhitespace}
 use Rattle.jsonb_spec.specs.Grammar.Scalar.{IsScalar, IsKey}
 
--- `Spells bytes a` says that the bytes spell a. Blanks may stand before and after what is padded.
+-- `Spells bytes a` says that the bytes spell a. Whitespace may stand before and after what is padded.
 pub data IsPadded {A : Type 0} (mode : Mode) (Spells : List ℕ → A → Type 0) : List ℕ → A → Type 0 where
-  padded : {before core after : List ℕ} {a : A} → IsBlanks mode before → Spells core a → IsBlanks mode after
+  padded : {before core after : List ℕ} {a : A} → IsWhitespace mode before → Spells core a → IsWhitespace mode after
       → IsPadded mode Spells (before ++ (core ++ after)) a
 
 -- one part, or more with a comma after each but the last
@@ -26,12 +26,12 @@ pub data IsJoined {A : Type 0} (Spells : List ℕ → A → Type 0) : List ℕ �
   more_parts : {first rest : List ℕ} {a : A} {others : List A} → Spells first a → IsJoined Spells rest others
       → IsJoined Spells (first ++ ascii.comma ∷ rest) (a ∷ others)
 
--- An element of an array: a value with blanks round it. In extended mode blanks alone stand for null.
+-- An element of an array: a value with whitespace round it. In extended mode whitespace alone stands for null.
 pub data IsElement (mode : Mode) (Value : List ℕ → Tree → Type 0) : List ℕ → Tree → Type 0 where
   whole_element : {bytes : List ℕ} {t : Tree} → IsPadded mode Value bytes t → IsElement mode Value bytes t
-  empty_element : {bytes : List ℕ} → mode ≡ extended → IsBlanks mode bytes → IsElement mode Value bytes null
+  empty_element : {bytes : List ℕ} → mode ≡ extended → IsWhitespace mode bytes → IsElement mode Value bytes null
 
--- A member of an object: a key, a colon and a value, with blanks round the key and round the value.
+-- A member of an object: a key, a colon and a value, with whitespace round the key and round the value.
 pub data IsMember (mode : Mode) (Value : List ℕ → Tree → Type 0) : List ℕ → Member → Type 0 where
   key_and_value : {left right : List ℕ} {key : Mark × List ℕ} {t : Tree} → IsPadded mode (IsKey mode) left key
       → IsPadded mode Value right t → IsMember mode Value (left ++ ascii.colon ∷ right) (key.1, t)
@@ -50,15 +50,15 @@ AreDistinct (k ∷ ks) = IsNew k ks × AreDistinct ks
 abbrev pub HaveDistinctKeys : List Member → Type 0
 HaveDistinctKeys ms = AreDistinct (map (λ m. m.0) ms)
 
--- A value, where Value says which values may stand inside of it. One element alone is not blanks alone.
+-- A value, where Value says which values may stand inside of it. One element alone is not whitespace alone.
 pub data IsValue (mode : Mode) (Value : List ℕ → Tree → Type 0) : List ℕ → Tree → Type 0 where
   scalar : {bytes : List ℕ} {t : Tree} → IsScalar mode bytes t → IsValue mode Value bytes t
-  empty_array : {blanks : List ℕ} → IsBlanks mode blanks
-      → IsValue mode Value (ascii.open_bracket ∷ (blanks ++ ascii.close_bracket ∷ [])) (array (trees_of []))
-  full_array : {body : List ℕ} {ts : List Tree} → IsJoined (IsElement mode Value) body ts → (IsBlanks mode body → ⊥)
+  empty_array : {whitespace : List ℕ} → IsWhitespace mode whitespace
+      → IsValue mode Value (ascii.open_bracket ∷ (whitespace ++ ascii.close_bracket ∷ [])) (array (trees_of []))
+  full_array : {body : List ℕ} {ts : List Tree} → IsJoined (IsElement mode Value) body ts → (IsWhitespace mode body → ⊥)
       → IsValue mode Value (ascii.open_bracket ∷ (body ++ ascii.close_bracket ∷ [])) (array (trees_of ts))
-  empty_object : {blanks : List ℕ} → IsBlanks mode blanks
-      → IsValue mode Value (ascii.open_brace ∷ (blanks ++ ascii.close_brace ∷ [])) (object no_members)
+  empty_object : {whitespace : List ℕ} → IsWhitespace mode whitespace
+      → IsValue mode Value (ascii.open_brace ∷ (whitespace ++ ascii.close_brace ∷ [])) (object no_members)
   full_object : {body : List ℕ} {ms : List Member} → IsJoined (IsMember mode Value) body ms → HaveDistinctKeys ms
       → IsValue mode Value (ascii.open_brace ∷ (body ++ ascii.close_brace ∷ [])) (object (put_all ms no_members))
 
@@ -71,11 +71,11 @@ Derives mode (suc depth) bytes t = IsValue mode (Derives mode depth) bytes t
 abbrev pub max_depth : ℕ
 max_depth = 512
 
--- A whole text: a value with blanks round it. In extended mode blanks alone stand for null.
+-- A whole text: a value with whitespace round it. In extended mode whitespace alone stands for null.
 pub data IsDocument (mode : Mode) : List ℕ → Tree → Type 0 where
-  value_alone : {before core after : List ℕ} {t : Tree} → IsBlanks mode before → Derives mode max_depth core t
-      → AreLastBlanks mode after → IsDocument mode (before ++ (core ++ after)) t
-  blanks_alone : {bytes : List ℕ} → mode ≡ extended → AreLastBlanks mode bytes → IsDocument mode bytes null
+  value_alone : {before core after : List ℕ} {t : Tree} → IsWhitespace mode before → Derives mode max_depth core t
+      → IsLastWhitespace mode after → IsDocument mode (before ++ (core ++ after)) t
+  whitespace_alone : {bytes : List ℕ} → mode ≡ extended → IsLastWhitespace mode bytes → IsDocument mode bytes null
 
 -- the text is a document of no tree
 abbrev pub IsNoDocument : Mode → List ℕ → Type 0

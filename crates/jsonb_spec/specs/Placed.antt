@@ -4,7 +4,7 @@ use Rattle.std.specs.Ordering.{nat_cmp}
 use Rattle.std.specs.Cmp.Lexicographic.{slice_cmp}
 use Rattle.std.specs.declared.cmp.Ordering.TheVariants.{Less}
 use Rattle.jsonb_spec.specs.Ascii as ascii
-use Rattle.jsonb_spec.specs.Grammar.Blanks.{AreLastBlanks, IsBlanks}
+use Rattle.jsonb_spec.specs.Grammar.Whitespace.{IsLastWhitespace, IsWhitespace}
 use Rattle.jsonb_spec.specs.Mode.{Mode, extended}
 use Rattle.jsonb_spec.specs.Grammar.Scalar.{IsKey, IsScalar}
 use Rattle.jsonb_spec.specs.Tree.{Mark, Tree}
@@ -23,8 +23,8 @@ pub record Has (input : List ℕ) (Kind : List ℕ → Type 0) (from to : ℕ) :
 abbrev pub HasByte : List ℕ → ℕ → ℕ → Type 0
 HasByte input byte at = Has input (λ bytes. bytes ≡ byte ∷ []) at (at + 1)
 
-abbrev pub HasBlanks : Mode → List ℕ → ℕ → ℕ → Type 0
-HasBlanks mode input from to = Has input (IsBlanks mode) from to
+abbrev pub HasWhitespace : Mode → List ℕ → ℕ → ℕ → Type 0
+HasWhitespace mode input from to = Has input (IsWhitespace mode) from to
 
 -- The bytes spell the key. It is plain exactly where the spelling has no escapes.
 abbrev pub HasKey : Mode → List ℕ → ℕ → Mark × List ℕ → ℕ → Type 0
@@ -42,14 +42,14 @@ mutual
   pub data IsValueAt (mode : Mode) (input : List ℕ) : ℕ → Source → ℕ → Type 0 where
     scalar : {from to : ℕ} {t : Tree} → Has input (λ bytes. IsScalar mode bytes t) from to
         → IsValueAt mode input from (source_alone t) to
-    empty_array : {from to : ℕ} → HasByte input ascii.open_bracket from → HasBlanks mode input (from + 1) to
+    empty_array : {from to : ℕ} → HasByte input ascii.open_bracket from → HasWhitespace mode input (from + 1) to
         → HasByte input ascii.close_bracket to
         → IsValueAt mode input from (array_source_of []) (to + 1)
     full_array : {from to : ℕ} {ss : List Source} → HasByte input ascii.open_bracket from
         → AreElementsAt mode input (from + 1) ss to
-        → (HasBlanks mode input (from + 1) to → ⊥) → HasByte input ascii.close_bracket to
+        → (HasWhitespace mode input (from + 1) to → ⊥) → HasByte input ascii.close_bracket to
         → IsValueAt mode input from (array_source_of ss) (to + 1)
-    empty_object : {from to : ℕ} → HasByte input ascii.open_brace from → HasBlanks mode input (from + 1) to
+    empty_object : {from to : ℕ} → HasByte input ascii.open_brace from → HasWhitespace mode input (from + 1) to
         → HasByte input ascii.close_brace to
         → IsValueAt mode input from (object_source (source_members_of [])) (to + 1)
     full_object : {from to : ℕ} {written sorted : List Found} → HasByte input ascii.open_brace from
@@ -65,11 +65,11 @@ mutual
         → HasByte input ascii.comma comma → AreElementsAt mode input (comma + 1) others to
         → AreElementsAt mode input from (s ∷ others) to
 
-  -- A value with blanks round it. In extended mode blanks alone stand for null.
+  -- A value with whitespace round it. In extended mode whitespace alone stands for null.
   pub data IsElementAt (mode : Mode) (input : List ℕ) : ℕ → Source → ℕ → Type 0 where
-    whole_element : {from begin end to : ℕ} {s : Source} → HasBlanks mode input from begin
-        → IsValueAt mode input begin s end → HasBlanks mode input end to → IsElementAt mode input from s to
-    empty_element : {from to : ℕ} → mode ≡ extended → HasBlanks mode input from to
+    whole_element : {from begin end to : ℕ} {s : Source} → HasWhitespace mode input from begin
+        → IsValueAt mode input begin s end → HasWhitespace mode input end to → IsElementAt mode input from s to
+    empty_element : {from to : ℕ} → mode ≡ extended → HasWhitespace mode input from to
         → IsElementAt mode input from null_source to
 
   -- members with commas between
@@ -79,16 +79,16 @@ mutual
         → HasByte input ascii.comma comma → AreMembersAt mode input (comma + 1) others to
         → AreMembersAt mode input from (m ∷ others) to
 
-  -- A key, a colon and a value, with blanks round the key and round the value. The index of the member is where its own
+  -- A key, a colon and a value, with whitespace round the key and round the value. The index of the member is where its own
   -- key ends.
   pub data IsMemberAt (mode : Mode) (input : List ℕ) : ℕ → Found → ℕ → Type 0 where
     key_and_value : {from begin index colon due end to : ℕ} {key : Mark × List ℕ} {s : Source}
-        → HasBlanks mode input from begin → HasKey mode input begin key index → HasBlanks mode input index colon
-        → HasByte input ascii.colon colon → HasBlanks mode input (colon + 1) due → IsValueAt mode input due s end
-        → HasBlanks mode input end to → IsMemberAt mode input from (found key s index) to
+        → HasWhitespace mode input from begin → HasKey mode input begin key index → HasWhitespace mode input index colon
+        → HasByte input ascii.colon colon → HasWhitespace mode input (colon + 1) due → IsValueAt mode input due s end
+        → HasWhitespace mode input end to → IsMemberAt mode input from (found key s index) to
 
--- The whole text: a value with blanks round it. In extended mode blanks alone stand for null.
+-- The whole text: a value with whitespace round it. In extended mode whitespace alone stands for null.
 pub data IsPlaced (mode : Mode) (input : List ℕ) : Source → Type 0 where
-  value_alone : {from to : ℕ} {s : Source} → HasBlanks mode input 0 from → IsValueAt mode input from s to
-      → Has input (AreLastBlanks mode) to (length input) → IsPlaced mode input s
-  blanks_alone : mode ≡ extended → AreLastBlanks mode input → IsPlaced mode input null_source
+  value_alone : {from to : ℕ} {s : Source} → HasWhitespace mode input 0 from → IsValueAt mode input from s to
+      → Has input (IsLastWhitespace mode) to (length input) → IsPlaced mode input s
+  whitespace_alone : mode ≡ extended → IsLastWhitespace mode input → IsPlaced mode input null_source

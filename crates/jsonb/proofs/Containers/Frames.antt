@@ -19,7 +19,7 @@ use Rattle.jsonb.specs.Frames.{AllFit, AtPart, BeforeValue, Fits, IsArray, IsObj
 use Rattle.jsonb_scan.specs.Answer.{MayAllocate, mode_of}
 use Rattle.jsonb.specs.Parser.{Advances, read_at, rest_of, size_of}
 use Rattle.jsonb_scan.specs.Reading.{Fault, Read, begins, on_byte, rejected, ◌>>=◌}
-use Rattle.jsonb_scan.specs.Reading.Blank.{skip_blanks}
+use Rattle.jsonb_scan.specs.Reading.Whitespace.{skip_whitespace}
 use Rattle.jsonb_scan.specs.Reading.Container.{array_at, elements_at, is_left_out, members_at, object_at, object_or_fault, value_or_null}
 use Rattle.jsonb_spec.specs.Source.{Found, Source, array_source, found, no_source_members, no_sources, null_source, object_source, object_source_of, source_alone, spot_of}
 use Rattle.jsonb_scan.specs.Reading.Document.{alone_at, value_at}
@@ -57,8 +57,8 @@ each_error (Err f) h = h f
 pub value_same : (p q : Parser) (depth : ℕ) (bytes : List ℕ) → Advances p q → value_at (size_of p) (mode_of p.mode) depth bytes ≡ value_at (size_of q) (mode_of q.mode) depth bytes
 value_same p q depth bytes a = sym (ap₂ (λ n m. value_at n m depth bytes) (same_size p q a) (ap mode_of a.mode))
 
-pub skip_same : (p q : Parser) (bytes : List ℕ) → Advances p q → skip_blanks (mode_of p.mode) bytes ≡ skip_blanks (mode_of q.mode) bytes
-skip_same p q bytes a = ap (λ m. skip_blanks (mode_of m) bytes) (sym a.mode)
+pub skip_same : (p q : Parser) (bytes : List ℕ) → Advances p q → skip_whitespace (mode_of p.mode) bytes ≡ skip_whitespace (mode_of q.mode) bytes
+skip_same p q bytes a = ap (λ m. skip_whitespace (mode_of m) bytes) (sym a.mode)
 
 -- a value that holds no others, at any depth
 pub value_alone : (p q : Parser) (depth : ℕ) → Advances p q → begins 91 (rest_of q) ≡ false → begins 123 (rest_of q) ≡ false
@@ -95,29 +95,29 @@ module _ (size : ℕ) (mode : Mode) (depth : ℕ) where
 -- ---- a turn of the loops over parts
 
 -- an element is due
-pub element_stops : (p l s : Parser) (depth : ℕ) (front : List Source) → Advances p l → Advances l s → rest_of s ≡ skip_blanks (mode_of l.mode) (rest_of l) → is_left_out (mode_of s.mode) (rest_of s) ≡ false
+pub element_stops : (p l s : Parser) (depth : ℕ) (front : List Source) → Advances p l → Advances l s → rest_of s ≡ skip_whitespace (mode_of l.mode) (rest_of l) → is_left_out (mode_of s.mode) (rest_of s) ≡ false
     → elements_from (size_of p) (mode_of p.mode) depth front (rest_of l) ≡ (value_at (size_of p) (mode_of p.mode) depth (rest_of s) >>= finish_open (size_of p) (mode_of p.mode) depth (elements_so_far front))
 element_stops p l s depth front a b skipped due =
-    let here : rest_of s ≡ skip_blanks (mode_of p.mode) (rest_of l) = skipped ∙ sym (skip_same p l (rest_of l) a) in
+    let here : rest_of s ≡ skip_whitespace (mode_of p.mode) (rest_of l) = skipped ∙ sym (skip_same p l (rest_of l) a) in
     element-due (size_of p) (mode_of p.mode) depth front (rest_of l) (ap₂ (λ m r. is_left_out m r) (sym (ap mode_of (goes_on p l s a b).mode)) (sym here) ∙ due)
     ∙ ap (λ r. value_at (size_of p) (mode_of p.mode) depth r >>= finish_open (size_of p) (mode_of p.mode) depth (elements_so_far front)) (sym here)
 
 -- the part that ends here, and what is left of the container
 abbrev pub after_element : Parser → ℕ → List Source → Tree × List ℕ → Read Source
 after_element p depth front x =
-    part_end (size_of p) expected_array_comma_or_end 93 (skip_blanks (mode_of p.mode) x.1) >>= λ y. resume_part (size_of p) (mode_of p.mode) depth y.0 (elements_so_far (front ++ source_alone x.0 ∷ [])) y.1
+    part_end (size_of p) expected_array_comma_or_end 93 (skip_whitespace (mode_of p.mode) x.1) >>= λ y. resume_part (size_of p) (mode_of p.mode) depth y.0 (elements_so_far (front ++ source_alone x.0 ∷ [])) y.1
 
 abbrev pub after_member : Parser → ℕ → List Found → Mark × List ℕ → ℕ → Tree × List ℕ → Read Source
 after_member p depth front k place x =
-    part_end (size_of p) expected_object_comma_or_end 125 (skip_blanks (mode_of p.mode) x.1) >>= λ y. resume_part (size_of p) (mode_of p.mode) depth y.0 (members_so_far (front ++ found k (source_alone x.0) place ∷ []) (plain, []) 0) y.1
+    part_end (size_of p) expected_object_comma_or_end 125 (skip_whitespace (mode_of p.mode) x.1) >>= λ y. resume_part (size_of p) (mode_of p.mode) depth y.0 (members_so_far (front ++ found k (source_alone x.0) place ∷ []) (plain, []) 0) y.1
 
 -- an element that holds no others is due, or none
-pub element_turn : (p l s : Parser) (depth : ℕ) (front : List Source) → Advances p l → Advances l s → rest_of s ≡ skip_blanks (mode_of l.mode) (rest_of l) → begins 91 (rest_of s) ≡ false → begins 123 (rest_of s) ≡ false
+pub element_turn : (p l s : Parser) (depth : ℕ) (front : List Source) → Advances p l → Advances l s → rest_of s ≡ skip_whitespace (mode_of l.mode) (rest_of l) → begins 91 (rest_of s) ≡ false → begins 123 (rest_of s) ≡ false
     → elements_from (size_of p) (mode_of p.mode) depth front (rest_of l) ≡ (read_at scalar_or_null s >>= after_element p depth front)
 element_turn p l s depth front a b skipped no_array no_object =
     let on = goes_on p l s a b in
     let read : Read Tree = scalar_or_null (size_of s) (mode_of s.mode) (rest_of s) in
-    let here : rest_of s ≡ skip_blanks (mode_of p.mode) (rest_of l) = skipped ∙ sym (skip_same p l (rest_of l) a) in
+    let here : rest_of s ≡ skip_whitespace (mode_of p.mode) (rest_of l) = skipped ∙ sym (skip_same p l (rest_of l) a) in
     elements-turn (size_of p) (mode_of p.mode) depth front (rest_of l)
     ∙ ap (λ x. x >>= finish_open (size_of p) (mode_of p.mode) depth (elements_so_far front))
     (ap (λ u. value_or_null (mode_of p.mode) (value_at (size_of p) (mode_of p.mode) depth) u) (sym here)
@@ -126,7 +126,7 @@ element_turn p l s depth front a b skipped no_array no_object =
     ∙ or_null_alone (is_left_out (mode_of s.mode) (rest_of s)) (rest_of s) (scalar_at (size_of s) (mode_of s.mode) (rest_of s)))
     ∙ then-then read (λ (x : Tree × List ℕ). Ok (source_alone x.0, x.1)) (finish_open (size_of p) (mode_of p.mode) depth (elements_so_far front))
     ∙ then-same read (λ (x : Tree × List ℕ). finish_open (size_of p) (mode_of p.mode) depth (elements_so_far front) (source_alone x.0, x.1)) (after_element p depth front)
-    (λ x. element_ends (size_of p) (mode_of p.mode) depth (front ++ source_alone x.0 ∷ []) (skip_blanks (mode_of p.mode) x.1))
+    (λ x. element_ends (size_of p) (mode_of p.mode) depth (front ++ source_alone x.0 ∷ []) (skip_whitespace (mode_of p.mode) x.1))
 
 -- a member is due
 abbrev pub waits : Parser → ℕ → List Found → ((Mark × List ℕ) × ℕ) × List ℕ → Read Source
@@ -146,11 +146,11 @@ member_turn p s depth front k place a no_array no_object =
     ap (λ (r : Read Source). r >>= finish_open (size_of p) (mode_of p.mode) depth (members_so_far front k place)) (value_alone p s depth a no_array no_object)
     ∙ then-then read (λ (x : Tree × List ℕ). Ok (source_alone x.0, x.1)) (finish_open (size_of p) (mode_of p.mode) depth (members_so_far front k place))
     ∙ then-same read (λ (x : Tree × List ℕ). finish_open (size_of p) (mode_of p.mode) depth (members_so_far front k place) (source_alone x.0, x.1)) (after_member p depth front k place)
-    (λ x. member_ends (size_of p) (mode_of p.mode) depth (front ++ found k (source_alone x.0) place ∷ []) (plain, []) 0 (skip_blanks (mode_of p.mode) x.1))
+    (λ x. member_ends (size_of p) (mode_of p.mode) depth (front ++ found k (source_alone x.0) place ∷ []) (plain, []) 0 (skip_whitespace (mode_of p.mode) x.1))
 
 -- the end of a part, told of the parser that stands there
-pub same_end : (p q : Parser) (code : Code) (close : ℕ) → Advances p q → part_end (size_of q) code close (skip_blanks (mode_of q.mode) (rest_of q)) ≡ part_end (size_of p) code close (skip_blanks (mode_of p.mode) (rest_of q))
-same_end p q code close a = ap₂ (λ n m. part_end n code close (skip_blanks m (rest_of q))) (same_size p q a) (ap mode_of a.mode)
+pub same_end : (p q : Parser) (code : Code) (close : ℕ) → Advances p q → part_end (size_of q) code close (skip_whitespace (mode_of q.mode) (rest_of q)) ≡ part_end (size_of p) code close (skip_whitespace (mode_of p.mode) (rest_of q))
+same_end p q code close a = ap₂ (λ n m. part_end n code close (skip_whitespace m (rest_of q))) (same_size p q a) (ap mode_of a.mode)
 
 -- ---- values in turn
 
@@ -209,20 +209,20 @@ opens_allocates p (inl e) = inl (contains_next p.buf.now p.idx 91 (drop (p.idx +
 opens_allocates p (inr e) = inr (inl (contains_next p.buf.now p.idx 123 (drop (p.idx + 1) p.buf.now) (next_found 123 p e)))
 
 -- whether the closing byte comes next
-closing : (c : ℕ) (mode : Mode) (bytes : List ℕ) (s q : Parser) (closed : Bool) → rest_of s ≡ skip_blanks mode bytes → closed ≡ begins c (rest_of s) → cond closed (rest_of s ≡ c ∷ rest_of q) (q ≡ s)
-    → cond closed (skip_blanks mode bytes ≡ c ∷ rest_of q) ((begins c (skip_blanks mode bytes) ≡ false) × (skip_blanks mode bytes ≡ rest_of q))
+closing : (c : ℕ) (mode : Mode) (bytes : List ℕ) (s q : Parser) (closed : Bool) → rest_of s ≡ skip_whitespace mode bytes → closed ≡ begins c (rest_of s) → cond closed (rest_of s ≡ c ∷ rest_of q) (q ≡ s)
+    → cond closed (skip_whitespace mode bytes ≡ c ∷ rest_of q) ((begins c (skip_whitespace mode bytes) ≡ false) × (skip_whitespace mode bytes ≡ rest_of q))
 closing c mode bytes s q true e f r = sym e ∙ r
 closing c mode bytes s q false e f r = (ap (λ u. begins c u) (sym e) ∙ sym f, sym e ∙ ap (λ o. rest_of o) (sym r))
 
 module _ (size : ℕ) (mode : Mode) (depth : ℕ) (bytes rest : List ℕ) where
-  array-starts : (closed : Bool) → cond closed (skip_blanks mode bytes ≡ 93 ∷ rest) ((begins 93 (skip_blanks mode bytes) ≡ false) × (skip_blanks mode bytes ≡ rest))
+  array-starts : (closed : Bool) → cond closed (skip_whitespace mode bytes ≡ 93 ∷ rest) ((begins 93 (skip_whitespace mode bytes) ≡ false) × (skip_whitespace mode bytes ≡ rest))
       → array_at size mode (value_at size mode depth) bytes ≡ resume_part size mode depth closed (elements_so_far []) rest
   array-starts true e =
       ap (λ (u : List ℕ). on_byte 93 u (λ (r : List ℕ). Ok (array_source no_sources, r)) (elements_at size mode (value_at size mode depth) bytes)) e
       ∙ on_byte-found 93 rest (λ (r : List ℕ). Ok (array_source no_sources, r)) (elements_at size mode (value_at size mode depth) bytes)
   array-starts false e = array-begun size mode depth bytes e.0 ∙ ap (λ (u : List ℕ). elements_from size mode depth [] u) e.1
 
-  object-starts : (key : Mark × List ℕ) (place : ℕ) (closed : Bool) → cond closed (skip_blanks mode bytes ≡ 125 ∷ rest) ((begins 125 (skip_blanks mode bytes) ≡ false) × (skip_blanks mode bytes ≡ rest))
+  object-starts : (key : Mark × List ℕ) (place : ℕ) (closed : Bool) → cond closed (skip_whitespace mode bytes ≡ 125 ∷ rest) ((begins 125 (skip_whitespace mode bytes) ≡ false) × (skip_whitespace mode bytes ≡ rest))
       → object_at size mode (value_at size mode depth) bytes ≡ resume_part size mode depth closed (members_so_far [] key place) rest
   object-starts key place true e =
       ap (λ (u : List ℕ). on_byte 125 u (λ (r : List ℕ). Ok (object_source no_source_members, r)) (members_at size mode (value_at size mode depth) bytes)) e
@@ -311,7 +311,7 @@ module _ {I M K : Type 0} (Old New : Bool → List (Frame I M K) → List Open �
             ∙ outer-same p q (depth_within gs) closed (c ∷ due.opens) (rest_of q) a;
       }
 
-  pub array_opened : (p o s q : Parser) (fs gs : List (Frame I M K)) (v : I) (closed : Bool) (whole : Read Source) → Advances p o → Advances p q → rest_of p ≡ 91 ∷ rest_of o → rest_of s ≡ skip_blanks (mode_of o.mode) (rest_of o)
+  pub array_opened : (p o s q : Parser) (fs gs : List (Frame I M K)) (v : I) (closed : Bool) (whole : Read Source) → Advances p o → Advances p q → rest_of p ≡ 91 ∷ rest_of o → rest_of s ≡ skip_whitespace (mode_of o.mode) (rest_of o)
       → closed ≡ begins 93 (rest_of s) → cond closed (rest_of s ≡ 93 ∷ rest_of q) (q ≡ s) → ((cs : List Open) → Old true (reverse fs) cs → New false (variants.Array v ∷ reverse fs) (elements_so_far [] ∷ cs)) → gs ≡ fs ++ variants.Array v ∷ [] → length gs ≤ max_depth → BeforeValue Old whole p fs → AtPart New whole q gs closed
   array_opened p o s q fs gs v closed whole a b bracket skipped found closes held e fits due =
       opened p q fs gs (variants.Array v) (elements_so_far []) closed whole b e tt held fits
@@ -321,7 +321,7 @@ module _ {I M K : Type 0} (Old New : Bool → List (Frame I M K) → List Open �
       ∙ array-starts (size_of p) (mode_of p.mode) depth (rest_of o) (rest_of q) closed (closing 93 (mode_of p.mode) (rest_of o) s q closed (skipped ∙ sym (skip_same p o (rest_of o) a)) found closes))
       due
 
-  pub object_opened : (p o s q : Parser) (fs gs : List (Frame I M K)) (v : OpenObject M K) (key : Mark × List ℕ) (place : ℕ) (closed : Bool) (whole : Read Source) → Advances p o → Advances p q → rest_of p ≡ 123 ∷ rest_of o → rest_of s ≡ skip_blanks (mode_of o.mode) (rest_of o)
+  pub object_opened : (p o s q : Parser) (fs gs : List (Frame I M K)) (v : OpenObject M K) (key : Mark × List ℕ) (place : ℕ) (closed : Bool) (whole : Read Source) → Advances p o → Advances p q → rest_of p ≡ 123 ∷ rest_of o → rest_of s ≡ skip_whitespace (mode_of o.mode) (rest_of o)
       → closed ≡ begins 125 (rest_of s) → cond closed (rest_of s ≡ 125 ∷ rest_of q) (q ≡ s) → ((cs : List Open) → Old true (reverse fs) cs → New false (variants.Object v ∷ reverse fs) (members_so_far [] key place ∷ cs)) → gs ≡ fs ++ variants.Object v ∷ [] → length gs ≤ max_depth → BeforeValue Old whole p fs → AtPart New whole q gs closed
   object_opened p o s q fs gs v key place closed whole a b brace skipped found closes held e fits due =
       opened p q fs gs (variants.Object v) (members_so_far [] key place) closed whole b e tt held fits
@@ -465,7 +465,7 @@ module _ {I M K : Type 0} (Old New : Bool → List (Frame I M K) → List Open �
 
     pub joined : {F : Type 0} (silent : Bool) (told : Option Error) (r : Result Bool F) (x : Ended whole p gs inner) → finish_container x.inner (rest_of p) ≡ Ok (s, rest_of p)
         → ((c : Open) (cs : List Open) → Fits f c → x.others ≡ c ∷ cs → Joins (size_of p) (mode_of p.mode) s c cs g (reverse hs) code close)
-        → Builds silent told (λ b c. b ≡ c) r (part_end (size_of p) code close (skip_blanks (mode_of p.mode) (rest_of p))) (rest_of q) → ElseFails silent told r whole (AtPart New whole q ks)
+        → Builds silent told (λ b c. b ≡ c) r (part_end (size_of p) code close (skip_whitespace (mode_of p.mode) (rest_of p))) (rest_of q) → ElseFails silent told r whole (AtPart New whole q ks)
     unfolding resume
     joined silent told r x finished joins built =
         let i = around x joins in
@@ -473,13 +473,13 @@ module _ {I M K : Type 0} (Old New : Bool → List (Frame I M K) → List Open �
         let depth = depth_within gs in
         let others = resume (size_of p) (mode_of p.mode) (suc depth) i.others in
         let then : Bool × List ℕ → Read Source = λ y. resume_part (size_of p) (mode_of p.mode) depth y.0 (add_part i.outer s) y.1 >>= others in
-        let read = part_end (size_of p) code close (skip_blanks (mode_of p.mode) (rest_of p)) in
+        let read = part_end (size_of p) code close (skip_whitespace (mode_of p.mode) (rest_of p)) in
         let turned = sym (ap reverse d ∙ innermost_first hs g) in
         builds_then silent told (λ b c. b ≡ c) r read (rest_of q) then whole (AtPart New whole q ks) built
         (x.reads
         ∙ ap (λ (u : Read Source). u >>= resume (size_of p) (mode_of p.mode) depth x.others) finished
         ∙ ap (λ cs. resume (size_of p) (mode_of p.mode) depth cs (s, rest_of p)) i.are
-        ∙ ap (λ (u : Read Source). u >>= others) (j.ends depth (skip_blanks (mode_of p.mode) (rest_of p)))
+        ∙ ap (λ (u : Read Source). u >>= others) (j.ends depth (skip_whitespace (mode_of p.mode) (rest_of p)))
         ∙ then-then read (λ (y : Bool × List ℕ). resume_part (size_of p) (mode_of p.mode) depth y.0 (add_part i.outer s) y.1) others)
         (λ closed y same is.
         record {

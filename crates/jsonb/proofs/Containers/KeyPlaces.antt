@@ -3,7 +3,7 @@ use Rattle.std.proofs.Common.{◌≡◌, ℕ, zero, suc, ◌+◌, ◌-◌, ◌<�
 use Rattle.std.specs.Cmp.Lexicographic.{slice_cmp}
 use Rattle.std.proofs.lemmas.List.Recursion.{is_count_by}
 use Rattle.std.proofs.lemmas.Bool.{cond-false}
-use Rattle.jsonb_spec.specs.Grammar.Blanks.{IsBlanks}
+use Rattle.jsonb_spec.specs.Grammar.Whitespace.{IsWhitespace}
 use Rattle.jsonb_spec.specs.Code.Code.{expected_colon, expected_object_comma_or_end}
 use Rattle.jsonb_spec.specs.Grammar.{IsJoined, IsMember}
 use Rattle.jsonb_spec.specs.Grammar.IsJoined.{more_parts, one_part}
@@ -13,7 +13,7 @@ use Rattle.jsonb_spec.specs.Mode.{Mode}
 use Rattle.jsonb_spec.specs.Grammar.Scalar.{IsKey}
 use Rattle.jsonb_spec.specs.Tree.{Mark, Member}
 use Rattle.jsonb_scan.specs.Reading.{Read, on_byte, rejected, ◌>>=◌}
-use Rattle.jsonb_scan.specs.Reading.Blank.{skip_blanks}
+use Rattle.jsonb_scan.specs.Reading.Whitespace.{skip_whitespace}
 use Rattle.jsonb_scan.specs.Reading.Container.{after_key, after_part, found_at, joined_at, member_at, padded_at}
 use Rattle.jsonb_spec.specs.Source.{Found, Source, Spot, first_repeat, member_of, spot_of, tree_of_source}
 use Rattle.jsonb_scan.specs.Reading.Scalar.{key_at}
@@ -24,18 +24,18 @@ use Rattle.jsonb_scan.proofs.Containers.JoinedParts.{IsSound, on_byte_cases, pad
 use Rattle.jsonb.proofs.Containers.Values.{Seen}
 use Rattle.jsonb.proofs.Scalars.Spellings.{key_sound, key_starts}
 use Rattle.jsonb.proofs.Containers.SecondPlaces.{AreRising, IsSecond, alike, count, has, once_before, rising-weaken, second_found, stands_there}
-use Rattle.jsonb_scan.proofs.Text.Blanks.{skips}
+use Rattle.jsonb_scan.proofs.Text.Whitespace.{skips}
 
 -- ---- one member
 
--- The bytes of a member begin with blanks and its key. Its place is after the key, where these bytes follow the member.
+-- The bytes of a member begin with whitespace and its key. Its place is after the key, where these bytes follow the member.
 pub record KeyAt (mode : Mode) (size : ℕ) (tail bytes : List ℕ) (f : Found) : Type 0 where
-  pub blanks : List ℕ
+  pub whitespace : List ℕ
   pub spelled : List ℕ
   pub after : List ℕ
-  pub are_blanks : IsBlanks mode blanks
+  pub is_whitespace : IsWhitespace mode whitespace
   pub is_key : IsKey mode spelled (f.mark, f.key)
-  pub whole : bytes ≡ blanks ++ (spelled ++ after)
+  pub whole : bytes ≡ whitespace ++ (spelled ++ after)
   pub some : 0 < length spelled
   pub place : f.place ≡ size - length (after ++ tail)
 
@@ -49,11 +49,11 @@ record MemberRead (mode : Mode) (size : ℕ) (bytes : List ℕ) (f : Found) (res
 module _ (mode : Mode) (size : ℕ) (read : List ℕ → Read Source) (sound : IsSound (Seen (IsSpelling mode)) read) where
   member_read : (bytes : List ℕ) (f : Found) (rest : List ℕ) → member_at size mode read bytes ≡ Ok (f, rest) → 0 < length rest → MemberRead mode size bytes f rest
   member_read bytes f rest e left =
-      let b = bind_ok (key_at size mode (skip_blanks mode bytes)) (λ (x : (Mark × List ℕ) × List ℕ). after_key size mode read x.0 (size - length x.1) (skip_blanks mode x.1)) (f, rest) e in
+      let b = bind_ok (key_at size mode (skip_whitespace mode bytes)) (λ (x : (Mark × List ℕ) × List ℕ). after_key size mode read x.0 (size - length x.1) (skip_whitespace mode x.1)) (f, rest) e in
       let k : Mark × List ℕ = b.0.0 in
       let place : ℕ = size - length b.0.1 in
-      let colon : List ℕ = skip_blanks mode b.0.1 in
-      let s = key_sound size mode (skip_blanks mode bytes) k b.0.1 b.1 in
+      let colon : List ℕ = skip_whitespace mode b.0.1 in
+      let s = key_sound size mode (skip_whitespace mode bytes) k b.0.1 b.1 in
       let st = key_starts mode s.core k s.spells in
       elim (on_byte_cases 58 colon (λ (r : List ℕ). padded_at mode read r >>= λ (x : Source × List ℕ). found_at k place x) (rejected size expected_colon 0 colon) (Ok (f, rest)) b.2) [
         | inl t ↦
@@ -63,25 +63,25 @@ module _ (mode : Mode) (size : ℕ) (read : List ℕ → Read Source) (sound : I
             let right = padded_sound mode (Seen (IsSpelling mode)) read sound t.0 v.0.0 v.0.1 v.1 (omega (arith, left, ap length same.rest)) in
             let back = skips mode b.0.1 (omega (arith, ap length t.1)) in
             let front = skips mode bytes (omega (arith, ap length s.whole, length-append s.core b.0.1, ap length st.whole)) in
-            let after : List ℕ = back.blanks ++ 58 ∷ right.core in
-            let core : List ℕ = (front.blanks ++ (s.core ++ back.blanks)) ++ 58 ∷ right.core in
-            let after-is : b.0.1 ≡ after ++ v.0.1 = back.whole ∙ ap (λ (u : List ℕ). back.blanks ++ u) (t.1 ∙ ap (λ (u : List ℕ). 58 ∷ u) right.whole) ∙ sym (append_assoc back.blanks (58 ∷ right.core) v.0.1) in
-            let core-is : core ≡ front.blanks ++ (s.core ++ after) = append_assoc front.blanks (s.core ++ back.blanks) (58 ∷ right.core) ∙ ap (λ (u : List ℕ). front.blanks ++ u) (append_assoc s.core back.blanks (58 ∷ right.core)) in
+            let after : List ℕ = back.whitespace ++ 58 ∷ right.core in
+            let core : List ℕ = (front.whitespace ++ (s.core ++ back.whitespace)) ++ 58 ∷ right.core in
+            let after-is : b.0.1 ≡ after ++ v.0.1 = back.whole ∙ ap (λ (u : List ℕ). back.whitespace ++ u) (t.1 ∙ ap (λ (u : List ℕ). 58 ∷ u) right.whole) ∙ sym (append_assoc back.whitespace (58 ∷ right.core) v.0.1) in
+            let core-is : core ≡ front.whitespace ++ (s.core ++ after) = append_assoc front.whitespace (s.core ++ back.whitespace) (58 ∷ right.core) ∙ ap (λ (u : List ℕ). front.whitespace ++ u) (append_assoc s.core back.whitespace (58 ∷ right.core)) in
             let whole : bytes ≡ core ++ v.0.1 =
-            front.whole ∙ ap (λ (u : List ℕ). front.blanks ++ u) (s.whole ∙ ap (λ (u : List ℕ). s.core ++ u) after-is ∙ sym (append_assoc s.core after v.0.1))
-            ∙ sym (append_assoc front.blanks (s.core ++ after) v.0.1) ∙ ap (λ (u : List ℕ). u ++ v.0.1) (sym core-is) in
+            front.whole ∙ ap (λ (u : List ℕ). front.whitespace ++ u) (s.whole ∙ ap (λ (u : List ℕ). s.core ++ u) after-is ∙ sym (append_assoc s.core after v.0.1))
+            ∙ sym (append_assoc front.whitespace (s.core ++ after) v.0.1) ∙ ap (λ (u : List ℕ). u ++ v.0.1) (sym core-is) in
             let some : 0 < length s.core = omega (arith, ap length st.whole) in
             let k_at : KeyAt mode size v.0.1 core g = record {
-              blanks = front.blanks;
+              whitespace = front.whitespace;
               spelled = s.core;
               after = after;
-              are_blanks = front.are_blanks;
+              is_whitespace = front.is_whitespace;
               is_key = s.spells;
               whole = core-is;
               some = some;
               place = ap (λ (u : List ℕ). size - length u) after-is;
             } in
-            let m : MemberRead mode size bytes g v.0.1 = record { core = core; spells = key_and_value (padded front.are_blanks s.spells back.are_blanks) (padded_seen tree_of_source (IsSpelling mode) right.spells); whole = whole; key_at = k_at } in
+            let m : MemberRead mode size bytes g v.0.1 = record { core = core; spells = key_and_value (padded front.is_whitespace s.spells back.is_whitespace) (padded_seen tree_of_source (IsSpelling mode) right.spells); whole = whole; key_at = k_at } in
             subst₂ (λ (h : Found) (r : List ℕ). MemberRead mode size bytes h r) same.value same.rest m
         | inr g ↦ absurd (rejected_fails size expected_colon 0 colon (f, rest) g.1)
       ]
@@ -114,13 +114,13 @@ module _ (mode : Mode) (size : ℕ) (read : List ℕ → Read Source) (sound : I
             let middle-is : middle ≡ 44 ∷ (h.0 ++ 125 ∷ c.0.1) = t.1 ∙ ap (λ (u : List ℕ). 44 ∷ u) h.2 in
             let after : List ℕ = k.after ++ 44 ∷ h.0 in
             let after-is : k.after ++ middle ≡ after ++ 125 ∷ c.0.1 = ap (λ (u : List ℕ). k.after ++ u) middle-is ∙ sym (append_assoc k.after (44 ∷ h.0) (125 ∷ c.0.1)) in
-            let core-is : m.core ++ 44 ∷ h.0 ≡ k.blanks ++ (k.spelled ++ after) =
-            ap (λ (u : List ℕ). u ++ 44 ∷ h.0) k.whole ∙ append_assoc k.blanks (k.spelled ++ k.after) (44 ∷ h.0) ∙ ap (λ (u : List ℕ). k.blanks ++ u) (append_assoc k.spelled k.after (44 ∷ h.0)) in
+            let core-is : m.core ++ 44 ∷ h.0 ≡ k.whitespace ++ (k.spelled ++ after) =
+            ap (λ (u : List ℕ). u ++ 44 ∷ h.0) k.whole ∙ append_assoc k.whitespace (k.spelled ++ k.after) (44 ∷ h.0) ∙ ap (λ (u : List ℕ). k.whitespace ++ u) (append_assoc k.spelled k.after (44 ∷ h.0)) in
             let k_at : KeyAt mode size (125 ∷ c.0.1) (m.core ++ 44 ∷ h.0) f = record {
-              blanks = k.blanks;
+              whitespace = k.whitespace;
               spelled = k.spelled;
               after = after;
-              are_blanks = k.are_blanks;
+              is_whitespace = k.is_whitespace;
               is_key = k.is_key;
               whole = core-is;
               some = k.some;
@@ -152,12 +152,12 @@ module _ (mode : Mode) (size : ℕ) where
 
   laid_rising : {tail bytes : List ℕ} {fs : List Found} (l : AreLaid mode size tail bytes fs) → length (bytes ++ tail) ≤ size → AreRising (size - length (bytes ++ tail)) (map spot_of fs)
   laid_rising {tail} (last_laid {bytes = bytes} s k) h =
-      (omega (arith, h, k.place, k.some, ap length k.whole, length-append bytes tail, length-append k.after tail, length-append k.blanks (k.spelled ++ k.after), length-append k.spelled k.after), tt)
+      (omega (arith, h, k.place, k.some, ap length k.whole, length-append bytes tail, length-append k.after tail, length-append k.whitespace (k.spelled ++ k.after), length-append k.spelled k.after), tt)
   laid_rising {tail} (more_laid {first = first} {rest = rest} {f = f} {fs = fs} s k o l) h =
       let bytes : List ℕ = first ++ 44 ∷ rest in
       let within : length (rest ++ tail) ≤ size = omega (arith, h, length-append bytes tail, length-append rest tail, length-append first (44 ∷ rest)) in
       let onward : f.place ≤ size - length (rest ++ tail) = omega (arith, k.place, o, length-append k.after tail, length-append rest tail) in (
-        omega (arith, h, k.place, k.some, ap length k.whole, length-append bytes tail, length-append k.after tail, length-append k.blanks (k.spelled ++ k.after), length-append k.spelled k.after),
+        omega (arith, h, k.place, k.some, ap length k.whole, length-append bytes tail, length-append k.after tail, length-append k.whitespace (k.spelled ++ k.after), length-append k.spelled k.after),
         rising-weaken f.place (size - length (rest ++ tail)) (map spot_of fs) onward (laid_rising l within),
       )
 
@@ -245,12 +245,12 @@ laid_repeats mode size {tail} {body} {fs} l s e h =
     let members-are : map member_of fs ≡ map member_of p.earlier ++ member_of p.found ∷ map member_of p.later = ap (λ (gs : List Found). map member_of gs) p.all ∙ map_parts member_of p.earlier p.found p.later in
     let rising : AreRising (size - length (body ++ tail)) (left ++ s ∷ right) = subst (λ (ss : List Spot). AreRising (size - length (body ++ tail)) ss) spots-are (laid_rising mode size l h) in
     let once : count (has s.key) left ≡ 1 = once_before (size - length (body ++ tail)) left s right rising (subst (λ (ss : List Spot). IsSecond s ss) spots-are i) in
-    let ends : s.place ≡ size - length (body ++ tail) + length (p.passed ++ (k.blanks ++ k.spelled)) =
-    omega (arith, h, place-is, k.place, ap length p.whole, ap length k.whole, length-append body tail, length-append k.after tail, length-append p.passed p.rest, length-append p.passed (k.blanks ++ k.spelled), length-append k.blanks (k.spelled ++ k.after), length-append k.blanks k.spelled, length-append k.spelled k.after) in (
-      length (p.passed ++ (k.blanks ++ k.spelled)),
+    let ends : s.place ≡ size - length (body ++ tail) + length (p.passed ++ (k.whitespace ++ k.spelled)) =
+    omega (arith, h, place-is, k.place, ap length p.whole, ap length k.whole, length-append body tail, length-append k.after tail, length-append p.passed p.rest, length-append p.passed (k.whitespace ++ k.spelled), length-append k.whitespace (k.spelled ++ k.after), length-append k.whitespace k.spelled, length-append k.spelled k.after) in (
+      length (p.passed ++ (k.whitespace ++ k.spelled)),
       record {
         passed = p.passed;
-        blanks = k.blanks;
+        whitespace = k.whitespace;
         spelled = k.spelled;
         after = k.after;
         whole = p.whole ∙ ap (λ (u : List ℕ). p.passed ++ u) k.whole;
@@ -259,7 +259,7 @@ laid_repeats mode size {tail} {body} {fs} l s e h =
         later = map member_of p.later;
         are_passed = p.are_passed;
         are_joined = subst (λ (u : List ℕ). IsJoined (IsMember mode (IsSpelling mode)) u (member_of p.found ∷ map member_of p.later)) k.whole p.are_joined;
-        are_blanks = k.are_blanks;
+        is_whitespace = k.is_whitespace;
         mark = p.found.mark;
         is_key = subst (λ (m : List ℕ). IsKey mode k.spelled (p.found.mark, m)) key-is k.is_key;
         same_key = key-is;

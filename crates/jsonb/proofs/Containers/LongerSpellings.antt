@@ -70,9 +70,9 @@ scalar_other mode bytes t (number_value is) e = absurd (let never : as_number t 
 
 value_other : (mode : Mode) (Value : List ℕ → Tree → Type 0) (bytes : List ℕ) (t : Tree) → IsValue mode Value bytes t → as_number t ≡ None → BeginsOther mode bytes
 value_other mode Value bytes t (scalar s) e = scalar_other mode bytes t s e
-value_other mode Value bytes t (empty_array {blanks = blanks} b) e = other_first mode 91 (blanks ++ 93 ∷ []) (λ a. true≢false a.no_bracket)
+value_other mode Value bytes t (empty_array {whitespace = whitespace} b) e = other_first mode 91 (whitespace ++ 93 ∷ []) (λ a. true≢false a.no_bracket)
 value_other mode Value bytes t (full_array {body = body} j n) e = other_first mode 91 (body ++ 93 ∷ []) (λ a. true≢false a.no_bracket)
-value_other mode Value bytes t (empty_object {blanks = blanks} b) e = other_first mode 123 (blanks ++ 125 ∷ []) (λ a. true≢false a.no_brace)
+value_other mode Value bytes t (empty_object {whitespace = whitespace} b) e = other_first mode 123 (whitespace ++ 125 ∷ []) (λ a. true≢false a.no_brace)
 value_other mode Value bytes t (full_object {body = body} j d) e = other_first mode 123 (body ++ 125 ∷ []) (λ a. true≢false a.no_brace)
 
 derived_other : (mode : Mode) (depth : ℕ) (bytes : List ℕ) (t : Tree) → Derives mode depth bytes t → as_number t ≡ None → BeginsOther mode bytes

@@ -7,7 +7,7 @@ use Rattle.jsonb_spec.specs.Grammar.{Derives, IsElement}
 use Rattle.jsonb_spec.specs.Mode.{Mode}
 use Rattle.jsonb_spec.specs.Tree.{Mark}
 use Rattle.jsonb_scan.specs.Reading.{Fault, Read, begins, on_byte, rejected, ◌>>=◌}
-use Rattle.jsonb_scan.specs.Reading.Blank.{skip_blanks}
+use Rattle.jsonb_scan.specs.Reading.Whitespace.{skip_whitespace}
 use Rattle.jsonb_scan.specs.Reading.Container.{after_key, after_part, array_at, element_at, elements_at, found_at, is_left_out, joined_at, member_at, members_at, object_at, padded_at, value_or_null}
 use Rattle.jsonb_spec.specs.Source.{Found, Source, array_source, no_source_members, no_sources, null_source, object_source}
 use Rattle.jsonb_scan.specs.Reading.Document.{alone_at, too_deep, value_at, value_with}
@@ -16,7 +16,7 @@ use Rattle.jsonb.specs.Stack.{array_end, array_within, elements_from, finish_ope
 use Rattle.jsonb_scan.specs.Open.{Open}
 use Rattle.jsonb_scan.specs.Open.{elements_so_far, members_so_far}
 use Rattle.jsonb_scan.proofs.Containers.JoinedParts.{IsSoundBefore, on_byte-none}
-use Rattle.jsonb_scan.proofs.Text.Blanks.{length-skip}
+use Rattle.jsonb_scan.proofs.Text.Whitespace.{length-skip}
 use Rattle.jsonb.proofs.Containers.Values.{IsFound, Seen, element_sound, member_sound, value_sound}
 
 -- ---- steps one after the other
@@ -109,41 +109,41 @@ module _ (size : ℕ) (mode : Mode) (depth : ℕ) where
   member-shrinks = sound-shrinks (IsFound mode (Derives mode depth) (value_at size mode depth)) (member_at size mode (value_at size mode depth)) (member_sound mode (Derives mode depth) (value_at size mode depth) size (value_sound size mode depth))
 
   pub elements-turn : (front : List Source) (bytes : List ℕ) → elements_from size mode depth front bytes
-      ≡ (value_or_null mode (value_at size mode depth) (skip_blanks mode bytes) >>= finish_open size mode depth (elements_so_far front))
+      ≡ (value_or_null mode (value_at size mode depth) (skip_whitespace mode bytes) >>= finish_open size mode depth (elements_so_far front))
   elements-turn front bytes =
       parts-turn size expected_array_comma_or_end 93 (element_at mode (value_at size mode depth)) element-shrinks array_end front bytes
-      ∙ then-then (value_or_null mode (value_at size mode depth) (skip_blanks mode bytes)) (λ (x : Source × List ℕ). Ok (x.0, skip_blanks mode x.1))
+      ∙ then-then (value_or_null mode (value_at size mode depth) (skip_whitespace mode bytes)) (λ (x : Source × List ℕ). Ok (x.0, skip_whitespace mode x.1))
       (λ (x : Source × List ℕ). parts_after size expected_array_comma_or_end 93 (element_at mode (value_at size mode depth)) array_end (front ++ x.0 ∷ []) x.1)
 
-  pub element-due : (front : List Source) (bytes : List ℕ) → is_left_out mode (skip_blanks mode bytes) ≡ false
-      → elements_from size mode depth front bytes ≡ (value_at size mode depth (skip_blanks mode bytes) >>= finish_open size mode depth (elements_so_far front))
+  pub element-due : (front : List Source) (bytes : List ℕ) → is_left_out mode (skip_whitespace mode bytes) ≡ false
+      → elements_from size mode depth front bytes ≡ (value_at size mode depth (skip_whitespace mode bytes) >>= finish_open size mode depth (elements_so_far front))
   element-due front bytes e =
       elements-turn front bytes
-      ∙ ap (λ (r : Read Source). r >>= finish_open size mode depth (elements_so_far front)) (cond-false (is_left_out mode (skip_blanks mode bytes)) (Ok (null_source, skip_blanks mode bytes)) (value_at size mode depth (skip_blanks mode bytes)) e)
+      ∙ ap (λ (r : Read Source). r >>= finish_open size mode depth (elements_so_far front)) (cond-false (is_left_out mode (skip_whitespace mode bytes)) (Ok (null_source, skip_whitespace mode bytes)) (value_at size mode depth (skip_whitespace mode bytes)) e)
 
-  pub array-begun : (bytes : List ℕ) → begins 93 (skip_blanks mode bytes) ≡ false → array_at size mode (value_at size mode depth) bytes ≡ elements_from size mode depth [] (skip_blanks mode bytes)
+  pub array-begun : (bytes : List ℕ) → begins 93 (skip_whitespace mode bytes) ≡ false → array_at size mode (value_at size mode depth) bytes ≡ elements_from size mode depth [] (skip_whitespace mode bytes)
   array-begun bytes e =
-      let fits : length (skip_blanks mode bytes) ≤ length bytes = length-skip mode bytes in
-      on_byte-none 93 (skip_blanks mode bytes) (λ (r : List ℕ). Ok (array_source no_sources, r)) (elements_at size mode (value_at size mode depth) bytes) e
+      let fits : length (skip_whitespace mode bytes) ≤ length bytes = length-skip mode bytes in
+      on_byte-none 93 (skip_whitespace mode bytes) (λ (r : List ℕ). Ok (array_source no_sources, r)) (elements_at size mode (value_at size mode depth) bytes) e
       ∙ ap (λ (r : Read (List Source)). r >>= λ (x : List Source × List ℕ). array_end x.0 x.1)
-      (enough_turns size expected_array_comma_or_end 93 (element_at mode (value_at size mode depth)) element-shrinks (suc (length bytes)) (suc (length (skip_blanks mode bytes))) (skip_blanks mode bytes) (omega arith) (omega arith))
+      (enough_turns size expected_array_comma_or_end 93 (element_at mode (value_at size mode depth)) element-shrinks (suc (length bytes)) (suc (length (skip_whitespace mode bytes))) (skip_whitespace mode bytes) (omega arith) (omega arith))
 
-  pub object-begun : (bytes : List ℕ) → begins 125 (skip_blanks mode bytes) ≡ false → object_at size mode (value_at size mode depth) bytes ≡ read_members_from size mode depth [] (skip_blanks mode bytes)
+  pub object-begun : (bytes : List ℕ) → begins 125 (skip_whitespace mode bytes) ≡ false → object_at size mode (value_at size mode depth) bytes ≡ read_members_from size mode depth [] (skip_whitespace mode bytes)
   object-begun bytes e =
-      let fits : length (skip_blanks mode bytes) ≤ length bytes = length-skip mode bytes in
-      on_byte-none 125 (skip_blanks mode bytes) (λ (r : List ℕ). Ok (object_source no_source_members, r)) (members_at size mode (value_at size mode depth) bytes) e
+      let fits : length (skip_whitespace mode bytes) ≤ length bytes = length-skip mode bytes in
+      on_byte-none 125 (skip_whitespace mode bytes) (λ (r : List ℕ). Ok (object_source no_source_members, r)) (members_at size mode (value_at size mode depth) bytes) e
       ∙ ap (λ (r : Read (List Found)). r >>= λ (x : List Found × List ℕ). object_end x.0 x.1)
-      (enough_turns size expected_object_comma_or_end 125 (member_at size mode (value_at size mode depth)) member-shrinks (suc (length bytes)) (suc (length (skip_blanks mode bytes))) (skip_blanks mode bytes) (omega arith) (omega arith))
+      (enough_turns size expected_object_comma_or_end 125 (member_at size mode (value_at size mode depth)) member-shrinks (suc (length bytes)) (suc (length (skip_whitespace mode bytes))) (skip_whitespace mode bytes) (omega arith) (omega arith))
 
   -- the key, and then the value that it waits for
   pub members-turn : (front : List Found) (bytes : List ℕ) → read_members_from size mode depth front bytes
       ≡ (member_start size mode bytes >>= λ k. value_at size mode depth k.1 >>= finish_open size mode depth (members_so_far front k.0.0 k.0.1))
   members-turn front bytes =
       parts-turn size expected_object_comma_or_end 125 (member_at size mode (value_at size mode depth)) member-shrinks object_end front bytes
-      ∙ then-then (key_at size mode (skip_blanks mode bytes)) (λ (k : (Mark × List ℕ) × List ℕ). after_key size mode (value_at size mode depth) k.0 (size - length k.1) (skip_blanks mode k.1)) added
-      ∙ then-same (key_at size mode (skip_blanks mode bytes)) (λ (k : (Mark × List ℕ) × List ℕ). after_key size mode (value_at size mode depth) k.0 (size - length k.1) (skip_blanks mode k.1) >>= added)
+      ∙ then-then (key_at size mode (skip_whitespace mode bytes)) (λ (k : (Mark × List ℕ) × List ℕ). after_key size mode (value_at size mode depth) k.0 (size - length k.1) (skip_whitespace mode k.1)) added
+      ∙ then-same (key_at size mode (skip_whitespace mode bytes)) (λ (k : (Mark × List ℕ) × List ℕ). after_key size mode (value_at size mode depth) k.0 (size - length k.1) (skip_whitespace mode k.1) >>= added)
       (λ (k : (Mark × List ℕ) × List ℕ). colon k >>= waits) keyed
-      ∙ sym (then-then (key_at size mode (skip_blanks mode bytes)) colon waits)
+      ∙ sym (then-then (key_at size mode (skip_whitespace mode bytes)) colon waits)
     where
       added : Found × List ℕ → Read Source
       added x = parts_after size expected_object_comma_or_end 125 (member_at size mode (value_at size mode depth)) object_end (front ++ x.0 ∷ []) x.1
@@ -152,18 +152,18 @@ module _ (size : ℕ) (mode : Mode) (depth : ℕ) where
       waits k = value_at size mode depth k.1 >>= finish_open size mode depth (members_so_far front k.0.0 k.0.1)
 
       colon : (Mark × List ℕ) × List ℕ → Read ((Mark × List ℕ) × ℕ)
-      colon k = on_byte 58 (skip_blanks mode k.1) (λ rest. Ok ((k.0, size - length k.1), skip_blanks mode rest)) (rejected size expected_colon 0 (skip_blanks mode k.1))
+      colon k = on_byte 58 (skip_whitespace mode k.1) (λ rest. Ok ((k.0, size - length k.1), skip_whitespace mode rest)) (rejected size expected_colon 0 (skip_whitespace mode k.1))
 
-      padded-found : (key : Mark × List ℕ) (place : ℕ) (r : Read Source) → (r >>= (λ (x : Source × List ℕ). Ok (x.0, skip_blanks mode x.1)) >>= found_at key place >>= added) ≡ (r >>= finish_open size mode depth (members_so_far front key place))
+      padded-found : (key : Mark × List ℕ) (place : ℕ) (r : Read Source) → (r >>= (λ (x : Source × List ℕ). Ok (x.0, skip_whitespace mode x.1)) >>= found_at key place >>= added) ≡ (r >>= finish_open size mode depth (members_so_far front key place))
       padded-found key place (Ok x) = refl
       padded-found key place (Err f) = refl
 
-      keyed : (k : (Mark × List ℕ) × List ℕ) → (after_key size mode (value_at size mode depth) k.0 (size - length k.1) (skip_blanks mode k.1) >>= added) ≡ (colon k >>= waits)
+      keyed : (k : (Mark × List ℕ) × List ℕ) → (after_key size mode (value_at size mode depth) k.0 (size - length k.1) (skip_whitespace mode k.1) >>= added) ≡ (colon k >>= waits)
       keyed k =
-          on_byte-then 58 (skip_blanks mode k.1) (λ (r : List ℕ). padded_at mode (value_at size mode depth) r >>= found_at k.0 (size - length k.1)) (rejected size expected_colon 0 (skip_blanks mode k.1)) added
-          ∙ on_byte-same 58 (skip_blanks mode k.1) (λ (r : List ℕ). padded_at mode (value_at size mode depth) r >>= found_at k.0 (size - length k.1) >>= added) (λ (r : List ℕ). value_at size mode depth (skip_blanks mode r) >>= finish_open size mode depth (members_so_far front k.0 (size - length k.1)))
-          (rejected size expected_colon 0 (skip_blanks mode k.1)) (rejected size expected_colon 0 (skip_blanks mode k.1)) (λ r less. padded-found k.0 (size - length k.1) (value_at size mode depth (skip_blanks mode r))) refl
-          ∙ sym (on_byte-then 58 (skip_blanks mode k.1) (λ (rest : List ℕ). Ok ((k.0, size - length k.1), skip_blanks mode rest)) (rejected size expected_colon 0 (skip_blanks mode k.1)) waits)
+          on_byte-then 58 (skip_whitespace mode k.1) (λ (r : List ℕ). padded_at mode (value_at size mode depth) r >>= found_at k.0 (size - length k.1)) (rejected size expected_colon 0 (skip_whitespace mode k.1)) added
+          ∙ on_byte-same 58 (skip_whitespace mode k.1) (λ (r : List ℕ). padded_at mode (value_at size mode depth) r >>= found_at k.0 (size - length k.1) >>= added) (λ (r : List ℕ). value_at size mode depth (skip_whitespace mode r) >>= finish_open size mode depth (members_so_far front k.0 (size - length k.1)))
+          (rejected size expected_colon 0 (skip_whitespace mode k.1)) (rejected size expected_colon 0 (skip_whitespace mode k.1)) (λ r less. padded-found k.0 (size - length k.1) (value_at size mode depth (skip_whitespace mode r))) refl
+          ∙ sym (on_byte-then 58 (skip_whitespace mode k.1) (λ (rest : List ℕ). Ok ((k.0, size - length k.1), skip_whitespace mode rest)) (rejected size expected_colon 0 (skip_whitespace mode k.1)) waits)
 
 -- ---- values
 

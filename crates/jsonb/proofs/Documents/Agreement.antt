@@ -16,7 +16,7 @@ use Rattle.jsonb_scan.specs.Answer.{Gives, IsTextError, mode_of}
 use Rattle.jsonb.specs.Parser.{Advances, rest_of, size_of}
 use Rattle.jsonb_spec.specs.Source.{Source, null_source, tree_of_source}
 use Rattle.jsonb_scan.specs.Reading.{Fault, fault, ◌>>=◌}
-use Rattle.jsonb_scan.specs.Reading.Blank.{opens_comment, skip_closed_blanks}
+use Rattle.jsonb_scan.specs.Reading.Whitespace.{opens_comment, skip_closed_whitespace}
 use Rattle.jsonb_scan.specs.Reading.Document.{at_end, comment_at, document_of, source_from, source_of, value_at, value_to_end}
 use Rattle.jsonb.specs.Handler.{IsWritten}
 use Rattle.jsonb.specs.Explained.{IsExplained}
@@ -32,7 +32,7 @@ use Rattle.jsonb.proofs.Containers.Values.{document_sound}
 
 -- the end of a document
 abbrev pub ended : ℕ → Mode → Source × List ℕ → Result Source Fault
-ended size mode x = at_end size mode x.0 (skip_closed_blanks mode x.1)
+ended size mode x = at_end size mode x.0 (skip_closed_whitespace mode x.1)
 
 from_some : (size : ℕ) (mode : Mode) (r : List ℕ) → 0 < length r → opens_comment mode r ≡ false → source_from size mode r ≡ value_to_end size mode r
 from_some size mode [] h e = absurd (omega arith)
@@ -42,33 +42,33 @@ from_comment : (size : ℕ) (mode : Mode) (r : List ℕ) → 0 < length r → op
 from_comment size mode [] h e = absurd (omega arith)
 from_comment size mode (b ∷ r) h e = cond-true (opens_comment mode (b ∷ r)) (comment_at size null_source r) (value_to_end size mode (b ∷ r)) e
 
--- what is left after the blanks, in the same input
-document_same : (p q : Parser) → rest_of q ≡ skip_closed_blanks (mode_of p.mode) (rest_of p) → Advances p q
-    → source_from (size_of p) (mode_of p.mode) (skip_closed_blanks (mode_of p.mode) (rest_of p)) ≡ source_from (size_of q) (mode_of q.mode) (rest_of q)
+-- what is left after the whitespace, in the same input
+document_same : (p q : Parser) → rest_of q ≡ skip_closed_whitespace (mode_of p.mode) (rest_of p) → Advances p q
+    → source_from (size_of p) (mode_of p.mode) (skip_closed_whitespace (mode_of p.mode) (rest_of p)) ≡ source_from (size_of q) (mode_of q.mode) (rest_of q)
 document_same p q e a =
     ap (λ (r : List ℕ). source_from (size_of p) (mode_of p.mode) r) (sym e)
     ∙ ap (λ (n : ℕ). source_from n (mode_of p.mode) (rest_of q)) (sym (same_size p q a)) ∙ ap (λ (m : Mode). source_from (size_of q) m (rest_of q)) (sym (ap mode_of a.mode))
 
--- a text with more than blanks
-pub document_some : (p q : Parser) → rest_of q ≡ skip_closed_blanks (mode_of p.mode) (rest_of p) → Advances p q → q.idx < size_of q → opens_comment (mode_of q.mode) (rest_of q) ≡ false
-    → source_from (size_of p) (mode_of p.mode) (skip_closed_blanks (mode_of p.mode) (rest_of p)) ≡ (value_at (size_of q) (mode_of q.mode) max_depth (rest_of q) >>= ended (size_of q) (mode_of q.mode))
+-- a text with more than whitespace
+pub document_some : (p q : Parser) → rest_of q ≡ skip_closed_whitespace (mode_of p.mode) (rest_of p) → Advances p q → q.idx < size_of q → opens_comment (mode_of q.mode) (rest_of q) ≡ false
+    → source_from (size_of p) (mode_of p.mode) (skip_closed_whitespace (mode_of p.mode) (rest_of p)) ≡ (value_at (size_of q) (mode_of q.mode) max_depth (rest_of q) >>= ended (size_of q) (mode_of q.mode))
 document_some p q e a within closed = document_same p q e a ∙ from_some (size_of q) (mode_of q.mode) (rest_of q) (omega (arith, length-drop q.idx q.buf.now)) closed
 
 -- a text with no more than whitespace
-pub document_none : (p q : Parser) → rest_of q ≡ skip_closed_blanks (mode_of p.mode) (rest_of p) → Advances p q → size_of q ≤ q.idx → mode_of q.mode ≡ extended
-    → source_from (size_of p) (mode_of p.mode) (skip_closed_blanks (mode_of p.mode) (rest_of p)) ≡ Ok null_source
+pub document_none : (p q : Parser) → rest_of q ≡ skip_closed_whitespace (mode_of p.mode) (rest_of p) → Advances p q → size_of q ≤ q.idx → mode_of q.mode ≡ extended
+    → source_from (size_of p) (mode_of p.mode) (skip_closed_whitespace (mode_of p.mode) (rest_of p)) ≡ Ok null_source
 document_none p q e a past is = document_same p q e a ∙ ap (λ (m : Mode). source_from (size_of q) m (rest_of q)) is ∙ ap (λ (r : List ℕ). source_from (size_of q) extended r) (nothing_left q.buf.now q.idx past)
 
 -- a text that ends in a comment
-pub document_comment : (p q : Parser) → rest_of q ≡ skip_closed_blanks (mode_of p.mode) (rest_of p) → Advances p q → q.idx < size_of q → opens_comment (mode_of q.mode) (rest_of q) ≡ true
-    → source_from (size_of p) (mode_of p.mode) (skip_closed_blanks (mode_of p.mode) (rest_of p)) ≡ comment_at (size_of q) null_source (drop 1 (rest_of q))
+pub document_comment : (p q : Parser) → rest_of q ≡ skip_closed_whitespace (mode_of p.mode) (rest_of p) → Advances p q → q.idx < size_of q → opens_comment (mode_of q.mode) (rest_of q) ≡ true
+    → source_from (size_of p) (mode_of p.mode) (skip_closed_whitespace (mode_of p.mode) (rest_of p)) ≡ comment_at (size_of q) null_source (drop 1 (rest_of q))
 document_comment p q e a within opens = document_same p q e a ∙ from_comment (size_of q) (mode_of q.mode) (rest_of q) (omega (arith, length-drop q.idx q.buf.now)) opens
 
 -- ---- after the value
 
--- what is left after the blanks, in the same input
-ending_same : (p q : Parser) (t : Source) → rest_of q ≡ skip_closed_blanks (mode_of p.mode) (rest_of p) → Advances p q
-    → at_end (size_of p) (mode_of p.mode) t (skip_closed_blanks (mode_of p.mode) (rest_of p)) ≡ at_end (size_of q) (mode_of q.mode) t (rest_of q)
+-- what is left after the whitespace, in the same input
+ending_same : (p q : Parser) (t : Source) → rest_of q ≡ skip_closed_whitespace (mode_of p.mode) (rest_of p) → Advances p q
+    → at_end (size_of p) (mode_of p.mode) t (skip_closed_whitespace (mode_of p.mode) (rest_of p)) ≡ at_end (size_of q) (mode_of q.mode) t (rest_of q)
 ending_same p q t e a =
     ap (λ (r : List ℕ). at_end (size_of p) (mode_of p.mode) t r) (sym e)
     ∙ ap (λ (n : ℕ). at_end n (mode_of p.mode) t (rest_of q)) (sym (same_size p q a)) ∙ ap (λ (m : Mode). at_end (size_of q) m t (rest_of q)) (sym (ap mode_of a.mode))
@@ -83,23 +83,23 @@ comment_end : (size : ℕ) (mode : Mode) (t : Source) (r : List ℕ) → 0 < len
 comment_end size mode t [] h opens = absurd (omega arith)
 comment_end size mode t (b ∷ r) h opens = cond-true (opens_comment mode (b ∷ r)) (comment_at size t r) (fault unexpected_trailing_characters (size - length (b ∷ r) + 1)) opens
 
-pub ends_trailing : (p q : Parser) (t : Source) → rest_of q ≡ skip_closed_blanks (mode_of p.mode) (rest_of p) → Advances p q → q.idx < size_of q → opens_comment (mode_of q.mode) (rest_of q) ≡ false
-    → at_end (size_of p) (mode_of p.mode) t (skip_closed_blanks (mode_of p.mode) (rest_of p)) ≡ Err (record { code = unexpected_trailing_characters; place = q.idx + 1 })
+pub ends_trailing : (p q : Parser) (t : Source) → rest_of q ≡ skip_closed_whitespace (mode_of p.mode) (rest_of p) → Advances p q → q.idx < size_of q → opens_comment (mode_of q.mode) (rest_of q) ≡ false
+    → at_end (size_of p) (mode_of p.mode) t (skip_closed_whitespace (mode_of p.mode) (rest_of p)) ≡ Err (record { code = unexpected_trailing_characters; place = q.idx + 1 })
 ends_trailing p q t e a within closed =
     ending_same p q t e a ∙ past_end (size_of q) (mode_of q.mode) t (rest_of q) q.idx (omega (arith, length-drop q.idx q.buf.now)) (omega (arith, length-drop q.idx q.buf.now)) closed
 
-pub ends_comment : (p q : Parser) (t : Source) → rest_of q ≡ skip_closed_blanks (mode_of p.mode) (rest_of p) → Advances p q → q.idx < size_of q → opens_comment (mode_of q.mode) (rest_of q) ≡ true
-    → at_end (size_of p) (mode_of p.mode) t (skip_closed_blanks (mode_of p.mode) (rest_of p)) ≡ comment_at (size_of q) t (drop 1 (rest_of q))
+pub ends_comment : (p q : Parser) (t : Source) → rest_of q ≡ skip_closed_whitespace (mode_of p.mode) (rest_of p) → Advances p q → q.idx < size_of q → opens_comment (mode_of q.mode) (rest_of q) ≡ true
+    → at_end (size_of p) (mode_of p.mode) t (skip_closed_whitespace (mode_of p.mode) (rest_of p)) ≡ comment_at (size_of q) t (drop 1 (rest_of q))
 ends_comment p q t e a within opens = ending_same p q t e a ∙ comment_end (size_of q) (mode_of q.mode) t (rest_of q) (omega (arith, length-drop q.idx q.buf.now)) opens
 
-pub ends_well : (p q : Parser) (t : Source) → rest_of q ≡ skip_closed_blanks (mode_of p.mode) (rest_of p) → Advances p q → size_of q ≤ q.idx
-    → at_end (size_of p) (mode_of p.mode) t (skip_closed_blanks (mode_of p.mode) (rest_of p)) ≡ Ok t
+pub ends_well : (p q : Parser) (t : Source) → rest_of q ≡ skip_closed_whitespace (mode_of p.mode) (rest_of p) → Advances p q → size_of q ≤ q.idx
+    → at_end (size_of p) (mode_of p.mode) t (skip_closed_whitespace (mode_of p.mode) (rest_of p)) ≡ Ok t
 ends_well p q t e a past = ending_same p q t e a ∙ ap (at_end (size_of q) (mode_of q.mode) t) (nothing_left q.buf.now q.idx past)
 
 -- the end of the text is that of the same input further on
-pub ended_same : (q m : Parser) (t : Source) → Advances q m → ended (size_of q) (mode_of q.mode) (t, rest_of m) ≡ at_end (size_of m) (mode_of m.mode) t (skip_closed_blanks (mode_of m.mode) (rest_of m))
+pub ended_same : (q m : Parser) (t : Source) → Advances q m → ended (size_of q) (mode_of q.mode) (t, rest_of m) ≡ at_end (size_of m) (mode_of m.mode) t (skip_closed_whitespace (mode_of m.mode) (rest_of m))
 ended_same q m t a =
-    sym (ap (λ (n : ℕ). at_end n (mode_of m.mode) t (skip_closed_blanks (mode_of m.mode) (rest_of m))) (same_size q m a) ∙ ap (λ (k : Mode). at_end (size_of q) k t (skip_closed_blanks k (rest_of m))) (ap mode_of a.mode))
+    sym (ap (λ (n : ℕ). at_end n (mode_of m.mode) t (skip_closed_whitespace (mode_of m.mode) (rest_of m))) (same_size q m a) ∙ ap (λ (k : Mode). at_end (size_of q) k t (skip_closed_whitespace k (rest_of m))) (ap mode_of a.mode))
 
 -- ---- a comment at the end
 

@@ -1,11 +1,11 @@
 -- A text is accepted exactly where it is a document, and it is a document of one tree.
 use Rattle.std.proofs.Common.{◌≡◌, ℕ, zero, suc, ◌+◌, ◌-◌, arith, false, true, List, [], ◌∷◌, ◌++◌, length, Ok, Err, refl, sym, ap, subst, ◌∙◌, append-nil, append_assoc}
 use Rattle.std.proofs.lemmas.Bool.{cond-false, cond-true}
-use Rattle.jsonb_spec.specs.Grammar.Blanks.{AreLastBlanks, IsBlanks}
-use Rattle.jsonb_spec.specs.Grammar.Blanks.AreLastBlanks.{blanks_to_end, line_to_end}
-use Rattle.jsonb_spec.specs.Grammar.Blanks.IsBlanks.{more_blanks, no_blanks}
+use Rattle.jsonb_spec.specs.Grammar.Whitespace.{IsLastWhitespace, IsWhitespace}
+use Rattle.jsonb_spec.specs.Grammar.Whitespace.IsLastWhitespace.{whitespace_to_end, line_to_end}
+use Rattle.jsonb_spec.specs.Grammar.Whitespace.IsWhitespace.{more_whitespace, no_whitespace}
 use Rattle.jsonb_spec.specs.Grammar.{Derives, IsDocument, IsElement, IsJoined, IsMember, IsPadded, IsValue, max_depth, IsNoDocument}
-use Rattle.jsonb_spec.specs.Grammar.IsDocument.{blanks_alone, value_alone}
+use Rattle.jsonb_spec.specs.Grammar.IsDocument.{whitespace_alone, value_alone}
 use Rattle.jsonb_spec.specs.Grammar.IsElement.{empty_element, whole_element}
 use Rattle.jsonb_spec.specs.Grammar.IsJoined.{more_parts, one_part}
 use Rattle.jsonb_spec.specs.Grammar.IsMember.{key_and_value}
@@ -17,56 +17,56 @@ use Rattle.jsonb_spec.specs.Mode.Mode.{extended}
 use Rattle.jsonb_spec.specs.Tree.{Member, Tree}
 use Rattle.jsonb_spec.specs.Source.{Source, null_source, tree_of_source}
 use Rattle.jsonb_scan.specs.Reading.{Fault, Read, fault, ◌>>=◌}
-use Rattle.jsonb_scan.specs.Reading.Blank.{is_blank_start, opens_comment, skip_closed_blanks}
+use Rattle.jsonb_scan.specs.Reading.Whitespace.{is_whitespace_start, opens_comment, skip_closed_whitespace}
 use Rattle.jsonb_scan.specs.Reading.Document.{at_end, comment_at, document_of, nothing_at, source_from, source_of, value_at, value_to_end}
 use Rattle.jsonb_scan.proofs.Steps.Tests.{same_ok, same_read}
-use Rattle.jsonb_scan.proofs.Containers.JoinedParts.{Ends, ends-blank, ends_at, other}
+use Rattle.jsonb_scan.proofs.Containers.JoinedParts.{Ends, ends-piece, ends_at, other}
 use Rattle.jsonb.proofs.Scalars.Spellings.{Follows, IsNumberTree}
 use Rattle.jsonb.proofs.Scalars.Spellings.Follows.{before, no_more}
-use Rattle.jsonb_scan.proofs.Text.Blanks.{EndsPassed, all_passed, line_left, ends_passed, opens-stop, pass-blanks, pass-stop}
+use Rattle.jsonb_scan.proofs.Text.Whitespace.{EndsPassed, all_passed, line_left, ends_passed, opens-stop, pass-whitespace, pass-stop}
 use Rattle.jsonb.proofs.Containers.Values.{value_is_complete}
 
-follows-blanks : {mode : Mode} {after : List ℕ} (b : AreLastBlanks mode after) → Follows after
-follows-blanks (blanks_to_end no_blanks) = no_more
-follows-blanks (blanks_to_end (more_blanks {rest = others} b bs)) = before (ends-blank b others)
-follows-blanks (line_to_end inside is no_blanks one) = before (ends_at 47 (47 ∷ inside) refl)
-follows-blanks (line_to_end inside is (more_blanks {blank = blank} {rest = others} b bs) one) = before (subst Ends (sym (append_assoc blank others (47 ∷ 47 ∷ inside))) (ends-blank b (others ++ 47 ∷ 47 ∷ inside)))
+follows-whitespace : {mode : Mode} {after : List ℕ} (b : IsLastWhitespace mode after) → Follows after
+follows-whitespace (whitespace_to_end no_whitespace) = no_more
+follows-whitespace (whitespace_to_end (more_whitespace {rest = others} b bs)) = before (ends-piece b others)
+follows-whitespace (line_to_end inside is no_whitespace one) = before (ends_at 47 (47 ∷ inside) refl)
+follows-whitespace (line_to_end inside is (more_whitespace {piece = piece} {rest = others} b bs) one) = before (subst Ends (sym (append_assoc piece others (47 ∷ 47 ∷ inside))) (ends-piece b (others ++ 47 ∷ 47 ∷ inside)))
 
 -- a line comment that ends a text
 comment_line : (size : ℕ) (mode : Mode) (t : Source) (line : List ℕ) → opens_comment mode (47 ∷ 47 ∷ line) ≡ true → at_end size mode t (47 ∷ 47 ∷ line) ≡ Ok t
 comment_line size mode t line opens = cond-true (opens_comment mode (47 ∷ 47 ∷ line)) (comment_at size t (47 ∷ line)) (fault unexpected_trailing_characters (size - length (47 ∷ 47 ∷ line) + 1)) opens
 
-end_read : (size : ℕ) (mode : Mode) (t : Source) {after : List ℕ} (b : AreLastBlanks mode after) → at_end size mode t (skip_closed_blanks mode after) ≡ Ok t
+end_read : (size : ℕ) (mode : Mode) (t : Source) {after : List ℕ} (b : IsLastWhitespace mode after) → at_end size mode t (skip_closed_whitespace mode after) ≡ Ok t
 end_read size mode t {after} b = by_end (ends_passed b)
   where
-    by_end : EndsPassed mode after → at_end size mode t (skip_closed_blanks mode after) ≡ Ok t
+    by_end : EndsPassed mode after → at_end size mode t (skip_closed_whitespace mode after) ≡ Ok t
     by_end (all_passed e) = ap (at_end size mode t) e
     by_end (line_left line opens e) = ap (at_end size mode t) e ∙ comment_line size mode t line opens
 
 -- a text with a value
-value_document : (mode : Mode) (size : ℕ) {front after : List ℕ} (core : List ℕ) (t : Tree) → IsBlanks mode front → Derives mode max_depth core t → AreLastBlanks mode after
-    → (s : Source) × (tree_of_source s ≡ t) × (source_from size mode (skip_closed_blanks mode (front ++ (core ++ after))) ≡ Ok s)
+value_document : (mode : Mode) (size : ℕ) {front after : List ℕ} (core : List ℕ) (t : Tree) → IsWhitespace mode front → Derives mode max_depth core t → IsLastWhitespace mode after
+    → (s : Source) × (tree_of_source s ≡ t) × (source_from size mode (skip_closed_whitespace mode (front ++ (core ++ after))) ≡ Ok s)
 value_document mode size {front} {after} core t b d c =
     let complete = value_is_complete size mode max_depth in
     let st = complete.starts core t d in
-    let r = complete.reads core t after d (λ n. follows-blanks c) in
-    let blank : is_blank_start st.first ≡ false = (other st.first st.is_start).blank in
+    let r = complete.reads core t after d (λ n. follows-whitespace c) in
+    let piece : is_whitespace_start st.first ≡ false = (other st.first st.is_start).piece in
     let opened : core ++ after ≡ st.first ∷ (st.others ++ after) = ap (λ (u : List ℕ). u ++ after) st.whole in
-    let passed : skip_closed_blanks mode (front ++ (core ++ after)) ≡ st.first ∷ (st.others ++ after) =
-    pass-blanks b (core ++ after) ∙ ap (skip_closed_blanks mode) opened ∙ pass-stop mode st.first (st.others ++ after) blank in (
+    let passed : skip_closed_whitespace mode (front ++ (core ++ after)) ≡ st.first ∷ (st.others ++ after) =
+    pass-whitespace b (core ++ after) ∙ ap (skip_closed_whitespace mode) opened ∙ pass-stop mode st.first (st.others ++ after) piece in (
       r.0,
       r.1,
       ap (source_from size mode) passed
-          ∙ cond-false (opens_comment mode (st.first ∷ (st.others ++ after))) (comment_at size null_source (st.others ++ after)) (value_to_end size mode (st.first ∷ (st.others ++ after))) (opens-stop mode st.first (st.others ++ after) blank)
+          ∙ cond-false (opens_comment mode (st.first ∷ (st.others ++ after))) (comment_at size null_source (st.others ++ after)) (value_to_end size mode (st.first ∷ (st.others ++ after))) (opens-stop mode st.first (st.others ++ after) piece)
           ∙ ap (value_to_end size mode) (sym opened)
-          ∙ ap (λ (q : Read Source). q >>= λ (x : Source × List ℕ). at_end size mode x.0 (skip_closed_blanks mode x.1)) r.2
+          ∙ ap (λ (q : Read Source). q >>= λ (x : Source × List ℕ). at_end size mode x.0 (skip_closed_whitespace mode x.1)) r.2
           ∙ end_read size mode r.0 c,
     )
 
-blank_document : (mode : Mode) (size : ℕ) {bytes : List ℕ} → mode ≡ extended → AreLastBlanks mode bytes → source_from size mode (skip_closed_blanks mode bytes) ≡ Ok null_source
-blank_document mode size {bytes} is b = by_end (ends_passed b)
+whitespace_document : (mode : Mode) (size : ℕ) {bytes : List ℕ} → mode ≡ extended → IsLastWhitespace mode bytes → source_from size mode (skip_closed_whitespace mode bytes) ≡ Ok null_source
+whitespace_document mode size {bytes} is b = by_end (ends_passed b)
   where
-    by_end : EndsPassed mode bytes → source_from size mode (skip_closed_blanks mode bytes) ≡ Ok null_source
+    by_end : EndsPassed mode bytes → source_from size mode (skip_closed_whitespace mode bytes) ≡ Ok null_source
     by_end (all_passed e) = ap (source_from size mode) e ∙ ap (λ (m : Mode). nothing_at size m) is
     by_end (line_left line opens e) =
         ap (source_from size mode) e ∙ cond-true (opens_comment mode (47 ∷ 47 ∷ line)) (comment_at size null_source (47 ∷ line)) (value_to_end size mode (47 ∷ 47 ∷ line)) opens
@@ -74,7 +74,7 @@ blank_document mode size {bytes} is b = by_end (ends_passed b)
 source_complete : (mode : Mode) (bytes : List ℕ) (t : Tree) → IsDocument mode bytes t → (s : Source) × (tree_of_source s ≡ t) × (source_of mode bytes ≡ Ok s)
 unfolding source_of
 source_complete mode bytes t (value_alone {core = core} b d c) = value_document mode (length bytes) core t b d c
-source_complete mode bytes t (blanks_alone is b) = (null_source, refl, blank_document mode (length bytes) is b)
+source_complete mode bytes t (whitespace_alone is b) = (null_source, refl, whitespace_document mode (length bytes) is b)
 
 -- each document is read, as its tree
 pub document_complete : (mode : Mode) (bytes : List ℕ) (t : Tree) → IsDocument mode bytes t → document_of mode bytes ≡ Ok t

@@ -1,7 +1,7 @@
 -- What a fault says of the bytes that were parsed, at any depth.
 use Rattle.std.proofs.Common.{◌≡◌, ℕ, zero, suc, ◌+◌, ◌-◌, ◌<◌, ◌≤◌, false, ◌⊎◌, inl, inr, List, [], ◌∷◌, ◌++◌, length, map, Option, Some, None, Ok, Err, refl, sym, ap, subst, ◌∙◌, append_assoc, length-append, arith}
-use Rattle.jsonb_spec.specs.Grammar.Blanks.{IsBlanks}
-use Rattle.jsonb_spec.specs.Grammar.Blanks.IsBlanks.{more_blanks, no_blanks}
+use Rattle.jsonb_spec.specs.Grammar.Whitespace.{IsWhitespace}
+use Rattle.jsonb_spec.specs.Grammar.Whitespace.IsWhitespace.{more_whitespace, no_whitespace}
 use Rattle.jsonb_spec.specs.Code.{Code}
 use Rattle.jsonb_spec.specs.Code.Code.{depth_limit_exceeded, expected_array_comma_or_end, expected_colon, expected_object_comma_or_end, expected_some_value, invalid_eof, number_not_carried, object_duplicate_key}
 use Rattle.jsonb_spec.specs.Grammar.{Derives, IsElement, IsMember, IsPadded, IsValue}
@@ -10,47 +10,47 @@ use Rattle.jsonb_spec.specs.Mode.{Mode}
 use Rattle.jsonb_spec.specs.Grammar.Scalar.{IsKey, IsScalar}
 use Rattle.jsonb_spec.specs.Tree.{Mark, Member, Tree}
 use Rattle.jsonb_scan.specs.Reading.{Fault, Read, begins, on_byte, rejected, ◌>>=◌}
-use Rattle.jsonb_scan.specs.Reading.Blank.{skip_blanks}
+use Rattle.jsonb_scan.specs.Reading.Whitespace.{skip_whitespace}
 use Rattle.jsonb_scan.specs.Reading.Container.{after_key, after_part, array_at, element_at, elements_at, found_at, is_left_out, joined_at, member_at, members_at, object_at, object_or_fault, padded_at, value_or_null}
 use Rattle.jsonb_spec.specs.Source.{Found, Source, Spot, array_source, array_source_of, first_repeat, member_of, no_source_members, no_sources, null_source, object_source, object_source_of, source_alone, spot_of, tree_of_source}
 use Rattle.jsonb_scan.specs.Reading.Document.{alone_at, too_deep, value_at, value_with}
 use Rattle.jsonb_scan.specs.Reading.Scalar.{key_at, scalar_at}
 use Rattle.jsonb_spec.specs.Errors.{ArePassed, IsFront, IsSpelling, Repeats}
 use Rattle.jsonb_spec.specs.Errors.ArePassed.{no_parts, part_passed}
-use Rattle.jsonb_spec.specs.Errors.IsFront.{front_of_blanks, in_array, in_object}
+use Rattle.jsonb_spec.specs.Errors.IsFront.{front_of_whitespace, in_array, in_object}
 use Rattle.jsonb_scan.proofs.Steps.Tests.{chosen}
 use Rattle.jsonb.proofs.Errors.Codes.{IsTold, bind_err, same_err, silent_fault, silent_rejected}
 use Rattle.jsonb.proofs.Containers.KeyPlaces.{laid_repeats, members_laid}
 use Rattle.jsonb_scan.proofs.Containers.JoinedParts.{IsSound, IsSoundBefore, SeenBy, joined-skip, on_byte_cases, padded_sound}
 use Rattle.jsonb.proofs.Errors.OfScalars.{NotCarried, WrongScalar, key_silent, scalar_rejected, scalar_some}
 use Rattle.jsonb.proofs.Scalars.Spellings.{key_sound}
-use Rattle.jsonb_scan.proofs.Text.Blanks.{length-skip, skip-skip, skips}
+use Rattle.jsonb_scan.proofs.Text.Whitespace.{length-skip, skip-skip, skips}
 use Rattle.jsonb.proofs.Containers.Values.{Seen, element_sound, member_sound, value_sound}
 
 -- ---- fronts
 
-blanks_append : {mode : Mode} {first : List ℕ} (b : IsBlanks mode first) {second : List ℕ} (c : IsBlanks mode second) → IsBlanks mode (first ++ second)
-blanks_append no_blanks c = c
-blanks_append {mode} (more_blanks {blank = blank} {rest = rest} b bs) {second} c = subst (IsBlanks mode) (sym (append_assoc blank rest second)) (more_blanks b (blanks_append bs c))
+whitespace_append : {mode : Mode} {first : List ℕ} (b : IsWhitespace mode first) {second : List ℕ} (c : IsWhitespace mode second) → IsWhitespace mode (first ++ second)
+whitespace_append no_whitespace c = c
+whitespace_append {mode} (more_whitespace {piece = piece} {rest = rest} b bs) {second} c = subst (IsWhitespace mode) (sym (append_assoc piece rest second)) (more_whitespace b (whitespace_append bs c))
 
--- blanks before a front belong to it
-pub blanks_front : {mode : Mode} {first : List ℕ} (b : IsBlanks mode first) {rest : List ℕ} {count : ℕ} (h : IsFront mode rest count) → IsFront mode (first ++ rest) count
-blanks_front b (front_of_blanks c) = front_of_blanks (blanks_append b c)
-blanks_front {mode} {first} b (in_array {before = before} {elements = elements} {rest = rest} {count = count} c p h) =
-    subst (λ (u : List ℕ). IsFront mode u (suc count)) (append_assoc first before (91 ∷ (elements ++ rest))) (in_array (blanks_append b c) p h)
-blanks_front {mode} {first} b (in_object {before = before} {members = members} {left = left} {rest = rest} {count = count} c p k h) =
-    subst (λ (u : List ℕ). IsFront mode u (suc count)) (append_assoc first before (123 ∷ (members ++ (left ++ 58 ∷ rest)))) (in_object (blanks_append b c) p k h)
+-- whitespace before a front belong to it
+pub whitespace_front : {mode : Mode} {first : List ℕ} (b : IsWhitespace mode first) {rest : List ℕ} {count : ℕ} (h : IsFront mode rest count) → IsFront mode (first ++ rest) count
+whitespace_front b (front_of_whitespace c) = front_of_whitespace (whitespace_append b c)
+whitespace_front {mode} {first} b (in_array {before = before} {elements = elements} {rest = rest} {count = count} c p h) =
+    subst (λ (u : List ℕ). IsFront mode u (suc count)) (append_assoc first before (91 ∷ (elements ++ rest))) (in_array (whitespace_append b c) p h)
+whitespace_front {mode} {first} b (in_object {before = before} {members = members} {left = left} {rest = rest} {count = count} c p k h) =
+    subst (λ (u : List ℕ). IsFront mode u (suc count)) (append_assoc first before (123 ∷ (members ++ (left ++ 58 ∷ rest)))) (in_object (whitespace_append b c) p k h)
 
 -- ---- where a reader of values stops
 
--- A value is due at a byte that begins none, and no blanks stand there.
+-- A value is due at a byte that begins none, and no whitespace stands there.
 pub record BeginsNone (mode : Mode) (size : ℕ) (rest : List ℕ) (place : ℕ) : Type 0 where
   pub byte : ℕ
   pub others : List ℕ
   pub whole : rest ≡ byte ∷ others
   pub at_byte : place ≡ size - length rest + 1
   pub begins_none : (depth : ℕ) (more : List ℕ) (t : Tree) → Derives mode depth (byte ∷ more) t → ⊥
-  pub none_skipped : skip_blanks mode rest ≡ rest
+  pub none_skipped : skip_whitespace mode rest ≡ rest
 
 -- An array or an object begins, and no more may be opened.
 pub record Opens (left size : ℕ) (rest : List ℕ) (place : ℕ) : Type 0 where
@@ -91,28 +91,28 @@ pub record IsRejectedAt (mode : Mode) (depth size : ℕ) (bytes : List ℕ) (f :
   pub some : 0 < length rest
   pub wrong : Wrong mode left size rest f.code f.place
 
--- Each fault of the reader that is told of says what is wrong with the bytes, which are no more than the whole input and begin with no blank.
+-- Each fault of the reader that is told of says what is wrong with the bytes, which are no more than the whole input and begin with no whitespace.
 abbrev pub Explains : Mode → ℕ → ℕ → (List ℕ → Read Source) → Type 0
-Explains mode depth size read = (bytes : List ℕ) (f : Fault) → length bytes ≤ size → skip_blanks mode bytes ≡ bytes → read bytes ≡ Err f → IsTold f.code → IsRejectedAt mode depth size bytes f
+Explains mode depth size read = (bytes : List ℕ) (f : Fault) → length bytes ≤ size → skip_whitespace mode bytes ≡ bytes → read bytes ≡ Err f → IsTold f.code → IsRejectedAt mode depth size bytes f
 
 -- what is wrong with the bytes at once
 stops_here : (mode : Mode) (depth size : ℕ) (bytes : List ℕ) (f : Fault) → 0 < length bytes → Wrong mode depth size bytes f.code f.place → IsRejectedAt mode depth size bytes f
 stops_here mode depth size bytes f some w =
     let sum : 0 + depth ≡ depth = omega arith in
-    record { front = []; rest = bytes; whole = refl; count = 0; left = depth; sum = sum; is_front = front_of_blanks no_blanks; some = some; wrong = w }
+    record { front = []; rest = bytes; whole = refl; count = 0; left = depth; sum = sum; is_front = front_of_whitespace no_whitespace; some = some; wrong = w }
 
--- what is wrong after the blanks
-pub stops_after_blanks : (mode : Mode) (depth size : ℕ) (bytes : List ℕ) (f : Fault) → IsRejectedAt mode depth size (skip_blanks mode bytes) f → IsRejectedAt mode depth size bytes f
-stops_after_blanks mode depth size bytes f s =
+-- what is wrong after the whitespace
+pub stops_after_whitespace : (mode : Mode) (depth size : ℕ) (bytes : List ℕ) (f : Fault) → IsRejectedAt mode depth size (skip_whitespace mode bytes) f → IsRejectedAt mode depth size bytes f
+stops_after_whitespace mode depth size bytes f s =
     let p = skips mode bytes (omega (arith, s.some, ap length s.whole, length-append s.front s.rest)) in
     record {
-      front = p.blanks ++ s.front;
+      front = p.whitespace ++ s.front;
       rest = s.rest;
-      whole = p.whole ∙ ap (λ (u : List ℕ). p.blanks ++ u) s.whole ∙ sym (append_assoc p.blanks s.front s.rest);
+      whole = p.whole ∙ ap (λ (u : List ℕ). p.whitespace ++ u) s.whole ∙ sym (append_assoc p.whitespace s.front s.rest);
       count = s.count;
       left = s.left;
       sum = s.sum;
-      is_front = blanks_front p.are_blanks s.is_front;
+      is_front = whitespace_front p.is_whitespace s.is_front;
       some = s.some;
       wrong = s.wrong;
     }
@@ -132,7 +132,7 @@ stops_in_array mode depth size bytes passed rest f are_passed whole s =
       count = suc s.count;
       left = s.left;
       sum = more;
-      is_front = in_array no_blanks are_passed s.is_front;
+      is_front = in_array no_whitespace are_passed s.is_front;
       some = s.some;
       wrong = s.wrong;
     }
@@ -150,7 +150,7 @@ stops_in_object mode depth size bytes passed middle left rest f are_passed whole
       count = suc s.count;
       left = s.left;
       sum = more;
-      is_front = in_object no_blanks are_passed is_key s.is_front;
+      is_front = in_object no_whitespace are_passed is_key s.is_front;
       some = s.some;
       wrong = s.wrong;
     }
@@ -168,7 +168,7 @@ derived_alone mode zero bytes t d p q = d
 derived_alone mode (suc depth) bytes t d p q = scalar_alone mode (Derives mode depth) bytes t d p q
 
 -- what is wrong with a scalar is wrong with a value that is neither an array nor an object
-wrong_scalar : (mode : Mode) (left size : ℕ) (bytes : List ℕ) (code : Code) (place : ℕ) → skip_blanks mode bytes ≡ bytes → begins 91 bytes ≡ false → begins 123 bytes ≡ false → WrongScalar mode size bytes code place → Wrong mode left size bytes code place
+wrong_scalar : (mode : Mode) (left size : ℕ) (bytes : List ℕ) (code : Code) (place : ℕ) → skip_whitespace mode bytes ≡ bytes → begins 91 bytes ≡ false → begins 123 bytes ≡ false → WrongScalar mode size bytes code place → Wrong mode left size bytes code place
 wrong_scalar mode left size bytes number_not_carried place none p q w = w
 wrong_scalar mode left size bytes expected_some_value place none p q w =
     let bracket : begins 91 (w.byte ∷ w.others) ≡ false = subst (λ (u : List ℕ). begins 91 u ≡ false) w.whole p in
@@ -176,7 +176,7 @@ wrong_scalar mode left size bytes expected_some_value place none p q w =
     record { byte = w.byte; others = w.others; whole = w.whole; at_byte = w.at_byte; begins_none = λ m more t d. w.begins_none more t (derived_alone mode m (w.byte ∷ more) t d bracket brace); none_skipped = none }
 wrong_scalar mode left size bytes other place none p q w = absurd w
 
-no_value : (mode : Mode) (depth size : ℕ) (bytes : List ℕ) (f : Fault) → 0 < length bytes → skip_blanks mode bytes ≡ bytes → begins 91 bytes ≡ false → begins 123 bytes ≡ false → WrongScalar mode size bytes f.code f.place → IsRejectedAt mode depth size bytes f
+no_value : (mode : Mode) (depth size : ℕ) (bytes : List ℕ) (f : Fault) → 0 < length bytes → skip_whitespace mode bytes ≡ bytes → begins 91 bytes ≡ false → begins 123 bytes ≡ false → WrongScalar mode size bytes f.code f.place → IsRejectedAt mode depth size bytes f
 no_value mode depth size bytes f some none p q w = stops_here mode depth size bytes f some (wrong_scalar mode depth size bytes f.code f.place none p q w)
 
 -- ---- parts joined by commas
@@ -235,27 +235,27 @@ passed_seen view Spells (part_passed s p) = part_passed s (passed_seen view Spel
 -- ---- one level
 
 module _ (mode : Mode) (depth size : ℕ) (read : List ℕ → Read Source) (sound : IsSound (Seen (IsSpelling mode)) read) (explains : Explains mode depth size read) where
-  -- a value after blanks
-  value_rejected : (bytes : List ℕ) (f : Fault) → length bytes ≤ size → read (skip_blanks mode bytes) ≡ Err f → IsTold f.code → IsRejectedAt mode depth size bytes f
-  value_rejected bytes f h e told = stops_after_blanks mode depth size bytes f (explains (skip_blanks mode bytes) f (omega (arith, h, length-skip mode bytes)) (skip-skip mode bytes) e told)
+  -- a value after whitespace
+  value_rejected : (bytes : List ℕ) (f : Fault) → length bytes ≤ size → read (skip_whitespace mode bytes) ≡ Err f → IsTold f.code → IsRejectedAt mode depth size bytes f
+  value_rejected bytes f h e told = stops_after_whitespace mode depth size bytes f (explains (skip_whitespace mode bytes) f (omega (arith, h, length-skip mode bytes)) (skip-skip mode bytes) e told)
 
   element_rejected : (bytes : List ℕ) (f : Fault) → length bytes ≤ size → element_at mode read bytes ≡ Err f → IsTold f.code → IsRejectedAt mode depth size bytes f
   element_rejected bytes f h e told =
-      elim (bind_err (value_or_null mode read (skip_blanks mode bytes)) (λ (x : Source × List ℕ). Ok (x.0, skip_blanks mode x.1)) f e) [
-        | inl g ↦ elim (chosen (is_left_out mode (skip_blanks mode bytes)) (Ok (null_source, skip_blanks mode bytes)) (read (skip_blanks mode bytes)) (Err f) g) [
-          | inl k ↦ absurd (let never : ◌≡◌ {A = Read Source} (Ok (null_source, skip_blanks mode bytes)) (Err f) = k.1 in cc)
+      elim (bind_err (value_or_null mode read (skip_whitespace mode bytes)) (λ (x : Source × List ℕ). Ok (x.0, skip_whitespace mode x.1)) f e) [
+        | inl g ↦ elim (chosen (is_left_out mode (skip_whitespace mode bytes)) (Ok (null_source, skip_whitespace mode bytes)) (read (skip_whitespace mode bytes)) (Err f) g) [
+          | inl k ↦ absurd (let never : ◌≡◌ {A = Read Source} (Ok (null_source, skip_whitespace mode bytes)) (Err f) = k.1 in cc)
           | inr k ↦ value_rejected bytes f h k.1 told
         ]
-        | inr g ↦ absurd (let never : ◌≡◌ {A = Read Source} (Ok (g.0.0, skip_blanks mode g.0.1)) (Err f) = g.2 in cc)
+        | inr g ↦ absurd (let never : ◌≡◌ {A = Read Source} (Ok (g.0.0, skip_whitespace mode g.0.1)) (Err f) = g.2 in cc)
       ]
 
   array_rejected : (bytes : List ℕ) (f : Fault) → length (91 ∷ bytes) ≤ size → array_at size mode read bytes ≡ Err f → IsTold f.code → IsRejectedAt mode (suc depth) size (91 ∷ bytes) f
   array_rejected bytes f h e told =
-      elim (on_byte_cases 93 (skip_blanks mode bytes) (λ (r : List ℕ). Ok (array_source no_sources, r)) (elements_at size mode read bytes) (Err f) e) [
+      elim (on_byte_cases 93 (skip_whitespace mode bytes) (λ (r : List ℕ). Ok (array_source no_sources, r)) (elements_at size mode read bytes) (Err f) e) [
         | inl g ↦ absurd (let never : ◌≡◌ {A = Read Source} (Ok (array_source no_sources, g.0)) (Err f) = g.2 in cc)
-        | inr g ↦ elim (bind_err (joined_at size expected_array_comma_or_end 93 (element_at mode read) (suc (length bytes)) (skip_blanks mode bytes)) (λ (x : List Source × List ℕ). Ok (array_source_of x.0, x.1)) f g.1) [
+        | inr g ↦ elim (bind_err (joined_at size expected_array_comma_or_end 93 (element_at mode read) (suc (length bytes)) (skip_whitespace mode bytes)) (λ (x : List Source × List ℕ). Ok (array_source_of x.0, x.1)) f g.1) [
           | inl k ↦
-              let again = sym (joined-skip size expected_array_comma_or_end 93 (Seen (IsElement mode (IsSpelling mode))) (element_at mode read) mode (λ u. ap (λ (w : List ℕ). value_or_null mode read w >>= λ (x : Source × List ℕ). Ok (x.0, skip_blanks mode x.1)) (skip-skip mode u)) (suc (length bytes)) bytes) ∙ k in
+              let again = sym (joined-skip size expected_array_comma_or_end 93 (Seen (IsElement mode (IsSpelling mode))) (element_at mode read) mode (λ u. ap (λ (w : List ℕ). value_or_null mode read w >>= λ (x : Source × List ℕ). Ok (x.0, skip_whitespace mode x.1)) (skip-skip mode u)) (suc (length bytes)) bytes) ∙ k in
               let p = joined_rejected size expected_array_comma_or_end 93 (Seen (IsElement mode (IsSpelling mode))) (element_at mode read) (element_sound mode (IsSpelling mode) read sound) (λ n. n) (suc (length bytes)) bytes f again told in
               let within : length p.rest ≤ size = rest_within size bytes p.passed p.rest (omega (arith, h)) p.whole in
               stops_in_array mode depth size bytes p.passed p.rest f (passed_seen tree_of_source (IsElement mode (IsSpelling mode)) p.are_passed) p.whole (element_rejected p.rest f within p.fails told)
@@ -270,24 +270,24 @@ module _ (mode : Mode) (depth size : ℕ) (read : List ℕ → Read Source) (sou
     pub rest : List ℕ
     pub is_key : IsPadded mode (IsKey mode) left key
     pub whole : bytes ≡ left ++ 58 ∷ rest
-    pub fails : read (skip_blanks mode rest) ≡ Err f
+    pub fails : read (skip_whitespace mode rest) ≡ Err f
 
   member_rejected : (bytes : List ℕ) (f : Fault) → member_at size mode read bytes ≡ Err f → IsTold f.code → StopsInMember bytes f
   member_rejected bytes f e told =
-      elim (bind_err (key_at size mode (skip_blanks mode bytes)) (λ (x : (Mark × List ℕ) × List ℕ). after_key size mode read x.0 (size - length x.1) (skip_blanks mode x.1)) f e) [
-        | inl g ↦ absurd (key_silent size mode (skip_blanks mode bytes) f g told)
+      elim (bind_err (key_at size mode (skip_whitespace mode bytes)) (λ (x : (Mark × List ℕ) × List ℕ). after_key size mode read x.0 (size - length x.1) (skip_whitespace mode x.1)) f e) [
+        | inl g ↦ absurd (key_silent size mode (skip_whitespace mode bytes) f g told)
         | inr g ↦
             let k : Mark × List ℕ = g.0.0 in
             let place : ℕ = size - length g.0.1 in
-            let colon : List ℕ = skip_blanks mode g.0.1 in
-            let key_read : padded_at mode (key_at size mode) bytes ≡ Ok (k, colon) = ap (λ (r : Read (Mark × List ℕ)). r >>= λ (x : (Mark × List ℕ) × List ℕ). Ok (x.0, skip_blanks mode x.1)) g.1 in
+            let colon : List ℕ = skip_whitespace mode g.0.1 in
+            let key_read : padded_at mode (key_at size mode) bytes ≡ Ok (k, colon) = ap (λ (r : Read (Mark × List ℕ)). r >>= λ (x : (Mark × List ℕ) × List ℕ). Ok (x.0, skip_whitespace mode x.1)) g.1 in
             elim (on_byte_cases 58 colon (λ (r : List ℕ). padded_at mode read r >>= λ (x : Source × List ℕ). found_at k place x) (rejected size expected_colon 0 colon) (Err f) g.2) [
               | inl t ↦ elim (bind_err (padded_at mode read t.0) (λ (x : Source × List ℕ). found_at k place x) f t.2) [
-                | inl v ↦ elim (bind_err (read (skip_blanks mode t.0)) (λ (x : Source × List ℕ). Ok (x.0, skip_blanks mode x.1)) f v) [
+                | inl v ↦ elim (bind_err (read (skip_whitespace mode t.0)) (λ (x : Source × List ℕ). Ok (x.0, skip_whitespace mode x.1)) f v) [
                   | inl w ↦
                       let s = padded_sound mode (IsKey mode) (key_at size mode) (key_sound size mode) bytes k colon key_read (omega (arith, ap length t.1)) in
                       record { left = s.core; key = k; rest = t.0; is_key = s.spells; whole = s.whole ∙ ap (λ (u : List ℕ). s.core ++ u) t.1; fails = w }
-                  | inr w ↦ absurd (let never : ◌≡◌ {A = Read Source} (Ok (w.0.0, skip_blanks mode w.0.1)) (Err f) = w.2 in cc)
+                  | inr w ↦ absurd (let never : ◌≡◌ {A = Read Source} (Ok (w.0.0, skip_whitespace mode w.0.1)) (Err f) = w.2 in cc)
                 ]
                 | inr v ↦ absurd (let never : found_at k place v.0 ≡ Err f = v.2 in cc)
               ]
@@ -312,9 +312,9 @@ module _ (mode : Mode) (depth size : ℕ) (read : List ℕ → Read Source) (sou
 
   object_rejected : (bytes : List ℕ) (f : Fault) → length (123 ∷ bytes) ≤ size → object_at size mode read bytes ≡ Err f → IsTold f.code → IsRejectedAt mode (suc depth) size (123 ∷ bytes) f
   object_rejected bytes f h e told =
-      elim (on_byte_cases 125 (skip_blanks mode bytes) (λ (r : List ℕ). Ok (object_source no_source_members, r)) (members_at size mode read bytes) (Err f) e) [
+      elim (on_byte_cases 125 (skip_whitespace mode bytes) (λ (r : List ℕ). Ok (object_source no_source_members, r)) (members_at size mode read bytes) (Err f) e) [
         | inl g ↦ absurd (let never : ◌≡◌ {A = Read Source} (Ok (object_source no_source_members, g.0)) (Err f) = g.2 in cc)
-        | inr g ↦ elim (bind_err (joined_at size expected_object_comma_or_end 125 (member_at size mode read) (suc (length bytes)) (skip_blanks mode bytes)) (λ (x : List Found × List ℕ). object_or_fault (first_repeat (map spot_of x.0)) x.0 x.1) f g.1) [
+        | inr g ↦ elim (bind_err (joined_at size expected_object_comma_or_end 125 (member_at size mode read) (suc (length bytes)) (skip_whitespace mode bytes)) (λ (x : List Found × List ℕ). object_or_fault (first_repeat (map spot_of x.0)) x.0 x.1) f g.1) [
           | inl k ↦
               let again = sym (joined-skip size expected_object_comma_or_end 125 IsFound (member_at size mode read) mode member_skip (suc (length bytes)) bytes) ∙ k in
               let p = joined_rejected size expected_object_comma_or_end 125 IsFound (member_at size mode read) (member_sound mode (IsSpelling mode) read size sound) (λ n. n) (suc (length bytes)) bytes f again told in
@@ -332,8 +332,8 @@ module _ (mode : Mode) (depth size : ℕ) (read : List ℕ → Read Source) (sou
       IsFound : List ℕ → Found → Type 0
       IsFound u g = IsMember mode (IsSpelling mode) u (member_of g)
 
-      member_skip : (u : List ℕ) → member_at size mode read (skip_blanks mode u) ≡ member_at size mode read u
-      member_skip u = ap (λ (w : List ℕ). key_at size mode w >>= λ (x : (Mark × List ℕ) × List ℕ). after_key size mode read x.0 (size - length x.1) (skip_blanks mode x.1)) (skip-skip mode u)
+      member_skip : (u : List ℕ) → member_at size mode read (skip_whitespace mode u) ≡ member_at size mode read u
+      member_skip u = ap (λ (w : List ℕ). key_at size mode w >>= λ (x : (Mark × List ℕ) × List ℕ). after_key size mode read x.0 (size - length x.1) (skip_whitespace mode x.1)) (skip-skip mode u)
 
   pub containers_rejected : Explains mode (suc depth) size (value_with size mode (array_at size mode read) (object_at size mode read))
   containers_rejected bytes f h none e told =

@@ -1,13 +1,13 @@
 -- What the fault of a whole text says of it.
 use Rattle.std.proofs.Common.{◌≡◌, ℕ, zero, suc, ◌+◌, ◌-◌, ◌<◌, ◌≤◌, false, true≢false, ◌⊎◌, inl, inr, List, [], ◌∷◌, ◌++◌, length, Result, Ok, Err, refl, sym, ap, subst, ◌∙◌, append_assoc, length-append, arith}
 use Rattle.std.proofs.lemmas.Bool.{cond-true}
-use Rattle.jsonb_spec.specs.Grammar.Blanks.{AreLastBlanks, IsBlank, IsBlanks}
-use Rattle.jsonb_spec.specs.Grammar.Blanks.AreLastBlanks.{blanks_to_end, line_to_end}
-use Rattle.jsonb_spec.specs.Grammar.Blanks.IsBlanks.{more_blanks, no_blanks}
+use Rattle.jsonb_spec.specs.Grammar.Whitespace.{IsLastWhitespace, IsWhitespacePiece, IsWhitespace}
+use Rattle.jsonb_spec.specs.Grammar.Whitespace.IsLastWhitespace.{whitespace_to_end, line_to_end}
+use Rattle.jsonb_spec.specs.Grammar.Whitespace.IsWhitespace.{more_whitespace, no_whitespace}
 use Rattle.jsonb_spec.specs.Code.{Code}
 use Rattle.jsonb_spec.specs.Code.Code.{depth_limit_exceeded, expected_some_value, invalid_eof, number_not_carried, object_duplicate_key, unexpected_trailing_characters}
 use Rattle.jsonb_spec.specs.Grammar.{Derives, IsDocument, IsValue, max_depth}
-use Rattle.jsonb_spec.specs.Grammar.IsDocument.{blanks_alone, value_alone}
+use Rattle.jsonb_spec.specs.Grammar.IsDocument.{whitespace_alone, value_alone}
 use Rattle.jsonb_spec.specs.Grammar.IsValue.{empty_array, empty_object, full_array, full_object, scalar}
 use Rattle.jsonb_spec.specs.Mode.{Mode}
 use Rattle.jsonb_spec.specs.Mode.Mode.{extended, standard}
@@ -15,29 +15,29 @@ use Rattle.jsonb_spec.specs.Grammar.Scalar.{IsScalar}
 use Rattle.jsonb_spec.specs.Tree.{Tree}
 use Rattle.jsonb_spec.specs.Source.{Source, null_source, source_alone, tree_of_source}
 use Rattle.jsonb_scan.specs.Reading.{Fault, Read, begins, fault, on_byte, ◌>>=◌}
-use Rattle.jsonb_scan.specs.Reading.Blank.{opens_comment, skip_closed_blanks, skip_blanks}
+use Rattle.jsonb_scan.specs.Reading.Whitespace.{opens_comment, skip_closed_whitespace, skip_whitespace}
 use Rattle.jsonb_scan.specs.Reading.Container.{array_at, object_at}
 use Rattle.jsonb_scan.specs.Reading.Document.{alone_at, at_end, comment_at, document_of, nothing_at, source_from, source_of, too_deep, value_at, value_to_end, value_with}
 use Rattle.jsonb_scan.specs.Reading.Scalar.{scalar_at}
 use Rattle.jsonb_spec.specs.Errors.{IsFront, Stands, Trails}
 use Rattle.jsonb_scan.proofs.Steps.Tests.{bind_ok, chosen, same_read}
 use Rattle.jsonb.proofs.Errors.Codes.{IsTold, bind_err, same_err, silent_fault}
-use Rattle.jsonb_scan.proofs.Containers.JoinedParts.{Ends, Starts, ends-blank, ends_at, on_byte-other, skip-starts, starts-append}
-use Rattle.jsonb.proofs.Errors.Explained.{Wrong, stops_after_blanks, value_explains}
+use Rattle.jsonb_scan.proofs.Containers.JoinedParts.{Ends, Starts, ends-piece, ends_at, on_byte-other, skip-starts, starts-append}
+use Rattle.jsonb.proofs.Errors.Explained.{Wrong, stops_after_whitespace, value_explains}
 use Rattle.jsonb.proofs.Errors.OfScalars.{scalar_longest}
 use Rattle.jsonb.proofs.Scalars.Spellings.{Follows, IsNumberTree, scalar_starts}
 use Rattle.jsonb.proofs.Scalars.Spellings.Follows.{before}
-use Rattle.jsonb_scan.proofs.Text.Blanks.{last_within, length-pass, length-past, length-skip, pass-pass, passes, skip-blank, skip-blanks, skip-nil, skip-passed, skip-skip, skips}
+use Rattle.jsonb_scan.proofs.Text.Whitespace.{last_within, length-pass, length-past, length-skip, pass-pass, passes, skip-piece, skip-whitespace, skip-nil, skip-passed, skip-skip, skips}
 use Rattle.jsonb.proofs.Containers.Values.{value_is_complete, value_sound}
 
 -- ---- where a value is due
 
--- where no blanks are passed none begins
-no_blank_at : {mode : Mode} (bytes : List ℕ) → skip_blanks mode bytes ≡ bytes → (blank rest : List ℕ) → IsBlank mode blank → bytes ≡ blank ++ rest → ⊥
-no_blank_at {mode} bytes none blank rest b whole =
-    let one = ends-blank b [] in
-    let skipped : bytes ≡ skip_blanks mode rest = sym none ∙ ap (λ (w : List ℕ). skip_blanks mode w) whole ∙ skip-blank b rest in
-    omega (arith, ap length skipped, length-skip mode rest, ap length whole, length-append blank rest, ap length one.whole, length-append blank [])
+-- where no whitespace is passed none begins
+no_piece_at : {mode : Mode} (bytes : List ℕ) → skip_whitespace mode bytes ≡ bytes → (piece rest : List ℕ) → IsWhitespacePiece mode piece → bytes ≡ piece ++ rest → ⊥
+no_piece_at {mode} bytes none piece rest b whole =
+    let one = ends-piece b [] in
+    let skipped : bytes ≡ skip_whitespace mode rest = sym none ∙ ap (λ (w : List ℕ). skip_whitespace mode w) whole ∙ skip-piece b rest in
+    omega (arith, ap length skipped, length-skip mode rest, ap length whole, length-append piece rest, ap length one.whole, length-append piece [])
 
 -- what is wrong where a reader stops, in the whole text
 stands_at : (mode : Mode) (input front rest : List ℕ) (count left : ℕ) (code : Code) (place : ℕ) → input ≡ front ++ rest → count + left ≡ max_depth → IsFront mode front count
@@ -85,7 +85,7 @@ stands_at mode input front rest count left expected_some_value place whole sum h
       within = within;
       is_front = h;
       begins_none = w.begins_none;
-      no_blank = no_blank_at (w.byte ∷ w.others) (ap (λ (u : List ℕ). skip_blanks mode u) (sym w.whole) ∙ w.none_skipped ∙ w.whole);
+      no_piece = no_piece_at (w.byte ∷ w.others) (ap (λ (u : List ℕ). skip_whitespace mode u) (sym w.whole) ∙ w.none_skipped ∙ w.whole);
     }
 stands_at mode input front rest count left depth_limit_exceeded place whole sum h w =
     let at_byte : place ≡ length front + 1 = omega (arith, w.at_byte, ap length whole, length-append front rest, ap length w.whole) in
@@ -133,17 +133,17 @@ value_longest size mode (suc depth) core u rest t after d e = by_kind core u d e
     by_kind core u (full_object j k) e complete = let c = complete core u rest (full_object j k) (λ n. absurd n) in let same = same_read c.0 t rest after (sym c.2 ∙ e) in omega (arith, ap length same.rest)
 
 -- a document's value, or what follows it
-follows_last : {mode : Mode} {last : List ℕ} (b : AreLastBlanks mode last) (rest : List ℕ) → (last ≡ []) ⊎ Ends (last ++ rest)
-follows_last (blanks_to_end no_blanks) rest = inl refl
-follows_last (blanks_to_end (more_blanks {blank = blank} {rest = others} b bs)) rest = inr (subst Ends (sym (append_assoc blank others rest)) (ends-blank b (others ++ rest)))
-follows_last (line_to_end inside is no_blanks one) rest = inr (ends_at 47 (47 ∷ (inside ++ rest)) refl)
-follows_last (line_to_end inside is (more_blanks {blank = blank} {rest = others} b bs) one) rest =
-    inr (subst Ends (sym (ap (λ (w : List ℕ). w ++ rest) (append_assoc blank others (47 ∷ 47 ∷ inside)) ∙ append_assoc blank (others ++ 47 ∷ 47 ∷ inside) rest)) (ends-blank b ((others ++ 47 ∷ 47 ∷ inside) ++ rest)))
+follows_last : {mode : Mode} {last : List ℕ} (b : IsLastWhitespace mode last) (rest : List ℕ) → (last ≡ []) ⊎ Ends (last ++ rest)
+follows_last (whitespace_to_end no_whitespace) rest = inl refl
+follows_last (whitespace_to_end (more_whitespace {piece = piece} {rest = others} b bs)) rest = inr (subst Ends (sym (append_assoc piece others rest)) (ends-piece b (others ++ rest)))
+follows_last (line_to_end inside is no_whitespace one) rest = inr (ends_at 47 (47 ∷ (inside ++ rest)) refl)
+follows_last (line_to_end inside is (more_whitespace {piece = piece} {rest = others} b bs) one) rest =
+    inr (subst Ends (sym (ap (λ (w : List ℕ). w ++ rest) (append_assoc piece others (47 ∷ 47 ∷ inside)) ∙ append_assoc piece (others ++ 47 ∷ 47 ∷ inside) rest)) (ends-piece b ((others ++ 47 ∷ 47 ∷ inside) ++ rest)))
 
--- Nor does one with blanks after it go past the blanks after what is read.
-blanks_within : (size : ℕ) (mode : Mode) (depth : ℕ) (core : List ℕ) (u : Tree) (rest : List ℕ) (t : Source) (after : List ℕ) {last : List ℕ} → AreLastBlanks mode last → Derives mode depth core u
-    → value_at size mode depth (core ++ (last ++ rest)) ≡ Ok (t, after) → opens_comment mode (skip_closed_blanks mode after) ≡ false → length (skip_closed_blanks mode after) ≤ length rest
-blanks_within size mode depth core u rest t after {last} b d e closed =
+-- Nor does one with whitespace after it go past the whitespace after what is read.
+whitespace_within : (size : ℕ) (mode : Mode) (depth : ℕ) (core : List ℕ) (u : Tree) (rest : List ℕ) (t : Source) (after : List ℕ) {last : List ℕ} → IsLastWhitespace mode last → Derives mode depth core u
+    → value_at size mode depth (core ++ (last ++ rest)) ≡ Ok (t, after) → opens_comment mode (skip_closed_whitespace mode after) ≡ false → length (skip_closed_whitespace mode after) ≤ length rest
+whitespace_within size mode depth core u rest t after {last} b d e closed =
     elim (follows_last b rest) [
       | inl none ↦
           let longest : length after ≤ length (last ++ rest) = value_longest size mode depth core u (last ++ rest) t after d e in
@@ -152,60 +152,60 @@ blanks_within size mode depth core u rest t after {last} b d e closed =
           let c = (value_is_complete size mode depth).reads core u (last ++ rest) d (λ n. before ends) in
           let same = same_read c.0 t (last ++ rest) after (sym c.2 ∙ e) in
           elim (last_within b rest) [
-            | inl within ↦ omega (arith, within, ap length (ap (λ (w : List ℕ). skip_closed_blanks mode w) same.rest))
-            | inr opens ↦ absurd (true≢false (sym opens ∙ ap (λ (w : List ℕ). opens_comment mode (skip_closed_blanks mode w)) same.rest ∙ closed))
+            | inl within ↦ omega (arith, within, ap length (ap (λ (w : List ℕ). skip_closed_whitespace mode w) same.rest))
+            | inr opens ↦ absurd (true≢false (sym opens ∙ ap (λ (w : List ℕ). opens_comment mode (skip_closed_whitespace mode w)) same.rest ∙ closed))
           ]
     ]
 
--- a document's value without the blanks before it
-skip-front : (mode : Mode) {front : List ℕ} (core last rest : List ℕ) → IsBlanks mode front → Starts core → skip_blanks mode ((front ++ (core ++ last)) ++ rest) ≡ core ++ (last ++ rest)
+-- a document's value without the whitespace before it
+skip-front : (mode : Mode) {front : List ℕ} (core last rest : List ℕ) → IsWhitespace mode front → Starts core → skip_whitespace mode ((front ++ (core ++ last)) ++ rest) ≡ core ++ (last ++ rest)
 skip-front mode {front} core last rest b s =
-    ap (λ (w : List ℕ). skip_blanks mode w) (append_assoc front (core ++ last) rest) ∙ skip-blanks b ((core ++ last) ++ rest)
-    ∙ ap (λ (w : List ℕ). skip_blanks mode w) (append_assoc core last rest) ∙ skip-starts mode (core ++ (last ++ rest)) (starts-append core (last ++ rest) s)
+    ap (λ (w : List ℕ). skip_whitespace mode w) (append_assoc front (core ++ last) rest) ∙ skip-whitespace b ((core ++ last) ++ rest)
+    ∙ ap (λ (w : List ℕ). skip_whitespace mode w) (append_assoc core last rest) ∙ skip-starts mode (core ++ (last ++ rest)) (starts-append core (last ++ rest) s)
 
-value_within : (size : ℕ) (mode : Mode) (depth : ℕ) {front last : List ℕ} (core : List ℕ) (u : Tree) (rest : List ℕ) (t : Source) (after : List ℕ) → IsBlanks mode front → Derives mode depth core u → AreLastBlanks mode last
-    → value_at size mode depth (skip_blanks mode ((front ++ (core ++ last)) ++ rest)) ≡ Ok (t, after) → opens_comment mode (skip_closed_blanks mode after) ≡ false → length (skip_closed_blanks mode after) ≤ length rest
+value_within : (size : ℕ) (mode : Mode) (depth : ℕ) {front last : List ℕ} (core : List ℕ) (u : Tree) (rest : List ℕ) (t : Source) (after : List ℕ) → IsWhitespace mode front → Derives mode depth core u → IsLastWhitespace mode last
+    → value_at size mode depth (skip_whitespace mode ((front ++ (core ++ last)) ++ rest)) ≡ Ok (t, after) → opens_comment mode (skip_closed_whitespace mode after) ≡ false → length (skip_closed_whitespace mode after) ≤ length rest
 value_within size mode depth {front} {last} core u rest t after b d c e closed =
     let skipped = skip-front mode core last rest b ((value_is_complete size mode depth).starts core u d) in
-    blanks_within size mode depth core u rest t after c d (subst (λ (w : List ℕ). value_at size mode depth w ≡ Ok (t, after)) skipped e) closed
+    whitespace_within size mode depth core u rest t after c d (subst (λ (w : List ℕ). value_at size mode depth w ≡ Ok (t, after)) skipped e) closed
 
--- a document with a value is more than blanks
-value_some : (mode : Mode) (depth : ℕ) {front : List ℕ} (core last : List ℕ) (u : Tree) (rest : List ℕ) → IsBlanks mode front → Derives mode depth core u → length rest < length (skip_blanks mode ((front ++ (core ++ last)) ++ rest))
+-- a document with a value is more than whitespace
+value_some : (mode : Mode) (depth : ℕ) {front : List ℕ} (core last : List ℕ) (u : Tree) (rest : List ℕ) → IsWhitespace mode front → Derives mode depth core u → length rest < length (skip_whitespace mode ((front ++ (core ++ last)) ++ rest))
 value_some mode depth core last u rest b d =
     let st = (value_is_complete 0 mode depth).starts core u d in
     omega (arith, ap length (skip-front mode core last rest b st), length-append core (last ++ rest), length-append last rest, ap length st.whole)
 
--- blanks at the end of a text, and more bytes, skip to no more than these
-last_skipped : (mode : Mode) {last : List ℕ} (b : AreLastBlanks mode last) (more : List ℕ) → length (skip_blanks mode (last ++ more)) ≤ length more
+-- whitespace at the end of a text, and more bytes, skip to no more than these
+last_skipped : (mode : Mode) {last : List ℕ} (b : IsLastWhitespace mode last) (more : List ℕ) → length (skip_whitespace mode (last ++ more)) ≤ length more
 last_skipped mode {last} b more =
     elim (last_within b more) [
-      | inl within ↦ omega (arith, within, length-past mode (skip_closed_blanks mode (last ++ more)))
-      | inr opens ↦ omega (arith, ap length (cond-true (opens_comment mode (skip_closed_blanks mode (last ++ more))) [] (skip_closed_blanks mode (last ++ more)) opens))
+      | inl within ↦ omega (arith, within, length-past mode (skip_closed_whitespace mode (last ++ more)))
+      | inr opens ↦ omega (arith, ap length (cond-true (opens_comment mode (skip_closed_whitespace mode (last ++ more))) [] (skip_closed_whitespace mode (last ++ more)) opens))
     ]
 
-document_within : (mode : Mode) (input first rest longer more : List ℕ) (t : Source) (u : Tree) (after : List ℕ) → input ≡ first ++ rest → length rest < length (skip_blanks mode input) → skip_closed_blanks mode after ≡ rest → opens_comment mode rest ≡ false
-    → value_at (length input) mode max_depth (skip_blanks mode input) ≡ Ok (t, after) → input ≡ longer ++ more → length first < length longer → IsDocument mode longer u → ⊥
+document_within : (mode : Mode) (input first rest longer more : List ℕ) (t : Source) (u : Tree) (after : List ℕ) → input ≡ first ++ rest → length rest < length (skip_whitespace mode input) → skip_closed_whitespace mode after ≡ rest → opens_comment mode rest ≡ false
+    → value_at (length input) mode max_depth (skip_whitespace mode input) ≡ Ok (t, after) → input ≡ longer ++ more → length first < length longer → IsDocument mode longer u → ⊥
 document_within mode input first rest longer more t u after whole some end closed e split long (value_alone {core = core} b d c) =
-    let least : length (skip_closed_blanks mode after) ≤ length more =
-    value_within (length input) mode max_depth core u more t after b d c (subst (λ (w : List ℕ). value_at (length input) mode max_depth (skip_blanks mode w) ≡ Ok (t, after)) split e) (ap (opens_comment mode) end ∙ closed) in
+    let least : length (skip_closed_whitespace mode after) ≤ length more =
+    value_within (length input) mode max_depth core u more t after b d c (subst (λ (w : List ℕ). value_at (length input) mode max_depth (skip_whitespace mode w) ≡ Ok (t, after)) split e) (ap (opens_comment mode) end ∙ closed) in
     omega (arith, least, long, ap length end, ap length whole, ap length split, length-append first rest, length-append longer more)
-document_within mode input first rest longer more t u after whole some end closed e split long (blanks_alone is b) =
-    omega (arith, some, long, ap length (ap (λ (w : List ℕ). skip_blanks mode w) split), last_skipped mode b more, ap length whole, ap length split, length-append first rest, length-append longer more)
+document_within mode input first rest longer more t u after whole some end closed e split long (whitespace_alone is b) =
+    omega (arith, some, long, ap length (ap (λ (w : List ℕ). skip_whitespace mode w) split), last_skipped mode b more, ap length whole, ap length split, length-append first rest, length-append longer more)
 
-trails : (mode : Mode) (input : List ℕ) (t : Source) (after : List ℕ) (c : ℕ) (others : List ℕ) → value_at (length input) mode max_depth (skip_blanks mode input) ≡ Ok (t, after) → 0 < length (skip_blanks mode input) → skip_closed_blanks mode after ≡ c ∷ others → opens_comment mode (c ∷ others) ≡ false
+trails : (mode : Mode) (input : List ℕ) (t : Source) (after : List ℕ) (c : ℕ) (others : List ℕ) → value_at (length input) mode max_depth (skip_whitespace mode input) ≡ Ok (t, after) → 0 < length (skip_whitespace mode input) → skip_closed_whitespace mode after ≡ c ∷ others → opens_comment mode (c ∷ others) ≡ false
     → Trails mode input (length input - length (c ∷ others) + 1)
 trails mode input t after c others e left end closed =
     let front = skips mode input left in
     let back = passes mode after in
-    let s = value_sound (length input) mode max_depth (skip_blanks mode input) t after e in
-    let first : List ℕ = front.blanks ++ (s.core ++ back.blanks) in
+    let s = value_sound (length input) mode max_depth (skip_whitespace mode input) t after e in
+    let first : List ℕ = front.whitespace ++ (s.core ++ back.whitespace) in
     let whole : input ≡ first ++ c ∷ others =
-    front.whole ∙ ap (λ (w : List ℕ). front.blanks ++ w) (s.whole ∙ ap (λ (w : List ℕ). s.core ++ w) (back.whole ∙ ap (λ (w : List ℕ). back.blanks ++ w) end) ∙ sym (append_assoc s.core back.blanks (c ∷ others)))
-    ∙ sym (append_assoc front.blanks (s.core ++ back.blanks) (c ∷ others)) in
+    front.whole ∙ ap (λ (w : List ℕ). front.whitespace ++ w) (s.whole ∙ ap (λ (w : List ℕ). s.core ++ w) (back.whole ∙ ap (λ (w : List ℕ). back.whitespace ++ w) end) ∙ sym (append_assoc s.core back.whitespace (c ∷ others)))
+    ∙ sym (append_assoc front.whitespace (s.core ++ back.whitespace) (c ∷ others)) in
     let at_byte : length input - length (c ∷ others) + 1 ≡ length first + 1 = omega (arith, ap length whole, length-append first (c ∷ others)) in
-    let more : length (c ∷ others) < length (skip_blanks mode input) =
-    subst (λ (w : List ℕ). length (c ∷ others) < length (skip_blanks mode w)) (sym whole) (value_some mode max_depth s.core back.blanks (tree_of_source t) (c ∷ others) front.are_blanks s.spells) in
-    let stays : skip_blanks mode (c ∷ others) ≡ c ∷ others = skip-passed mode (c ∷ others) c others (ap (skip_closed_blanks mode) (sym end) ∙ pass-pass mode after ∙ end) closed in
+    let more : length (c ∷ others) < length (skip_whitespace mode input) =
+    subst (λ (w : List ℕ). length (c ∷ others) < length (skip_whitespace mode w)) (sym whole) (value_some mode max_depth s.core back.whitespace (tree_of_source t) (c ∷ others) front.is_whitespace s.spells) in
+    let stays : skip_whitespace mode (c ∷ others) ≡ c ∷ others = skip-passed mode (c ∷ others) c others (ap (skip_closed_whitespace mode) (sym end) ∙ pass-pass mode after ∙ end) closed in
     record {
       before = first;
       byte = c;
@@ -213,9 +213,9 @@ trails mode input t after c others e left end closed =
       whole = whole;
       at_byte = at_byte;
       tree = tree_of_source t;
-      document = value_alone front.are_blanks s.spells (blanks_to_end back.are_blanks);
-      not_blank = λ b. let some : 0 < length (skip_blanks mode (first ++ [])) = value_some mode max_depth s.core back.blanks (tree_of_source t) [] front.are_blanks s.spells in omega (arith, some, ap length (skip-blanks b []), ap length (skip-nil mode));
-      no_blank = no_blank_at (c ∷ others) stays;
+      document = value_alone front.is_whitespace s.spells (whitespace_to_end back.is_whitespace);
+      not_piece = λ b. let some : 0 < length (skip_whitespace mode (first ++ [])) = value_some mode max_depth s.core back.whitespace (tree_of_source t) [] front.is_whitespace s.spells in omega (arith, some, ap length (skip-whitespace b []), ap length (skip-nil mode));
+      no_piece = no_piece_at (c ∷ others) stays;
       longest = λ longer rest u split long d. document_within mode input first (c ∷ others) longer rest t u after whole more end closed e split long d;
     }
 
@@ -229,7 +229,7 @@ comment_silent size t bytes f e told =
       | inr h ↦ silent_fault {B = Source} invalid_eof size f h.1 (λ n. n) told
     ]
 
-stands_after : (mode : Mode) (input : List ℕ) (t : Source) (after rest : List ℕ) (f : Fault) → value_at (length input) mode max_depth (skip_blanks mode input) ≡ Ok (t, after) → 0 < length (skip_blanks mode input) → skip_closed_blanks mode after ≡ rest
+stands_after : (mode : Mode) (input : List ℕ) (t : Source) (after rest : List ℕ) (f : Fault) → value_at (length input) mode max_depth (skip_whitespace mode input) ≡ Ok (t, after) → 0 < length (skip_whitespace mode input) → skip_closed_whitespace mode after ≡ rest
     → at_end (length input) mode t rest ≡ Err f → IsTold f.code → Stands mode input f.code f.place
 stands_after mode input t after [] f e left end g told = absurd cc
 stands_after mode input t after (c ∷ others) f e left end g told =
@@ -244,20 +244,20 @@ nothing_silent : (mode : Mode) (size : ℕ) (f : Fault) → nothing_at size mode
 nothing_silent standard size f e told = silent_fault {B = Source} invalid_eof size f e (λ n. n) told
 nothing_silent extended size f e told = absurd (let never : ◌≡◌ {A = Result Source Fault} (Ok null_source) (Err f) = e in cc)
 
-value_told : (mode : Mode) (input : List ℕ) (b : ℕ) (rest : List ℕ) (f : Fault) → skip_blanks mode input ≡ b ∷ rest → value_to_end (length input) mode (b ∷ rest) ≡ Err f → IsTold f.code → Stands mode input f.code f.place
+value_told : (mode : Mode) (input : List ℕ) (b : ℕ) (rest : List ℕ) (f : Fault) → skip_whitespace mode input ≡ b ∷ rest → value_to_end (length input) mode (b ∷ rest) ≡ Err f → IsTold f.code → Stands mode input f.code f.place
 value_told mode input b rest f skipped e told =
-    elim (bind_err (value_at (length input) mode max_depth (b ∷ rest)) (λ (x : Source × List ℕ). at_end (length input) mode x.0 (skip_closed_blanks mode x.1)) f e) [
+    elim (bind_err (value_at (length input) mode max_depth (b ∷ rest)) (λ (x : Source × List ℕ). at_end (length input) mode x.0 (skip_closed_whitespace mode x.1)) f e) [
       | inl h ↦
-          let within : length (skip_blanks mode input) ≤ length input = length-skip mode input in
-          let s = stops_after_blanks mode max_depth (length input) input f
-          (value_explains (length input) mode max_depth (skip_blanks mode input) f within (skip-skip mode input) (ap (λ (w : List ℕ). value_at (length input) mode max_depth w) skipped ∙ h) told) in
+          let within : length (skip_whitespace mode input) ≤ length input = length-skip mode input in
+          let s = stops_after_whitespace mode max_depth (length input) input f
+          (value_explains (length input) mode max_depth (skip_whitespace mode input) f within (skip-skip mode input) (ap (λ (w : List ℕ). value_at (length input) mode max_depth w) skipped ∙ h) told) in
           stands_at mode input s.front s.rest s.count s.left f.code f.place s.whole s.sum s.is_front s.wrong
       | inr h ↦
-          let left : 0 < length (skip_blanks mode input) = omega (arith, ap length skipped) in
-          stands_after mode input h.0.0 h.0.1 (skip_closed_blanks mode h.0.1) f (ap (λ (w : List ℕ). value_at (length input) mode max_depth w) skipped ∙ h.1) left refl h.2 told
+          let left : 0 < length (skip_whitespace mode input) = omega (arith, ap length skipped) in
+          stands_after mode input h.0.0 h.0.1 (skip_closed_whitespace mode h.0.1) f (ap (λ (w : List ℕ). value_at (length input) mode max_depth w) skipped ∙ h.1) left refl h.2 told
     ]
 
-document_told : (mode : Mode) (input rest : List ℕ) (f : Fault) → skip_closed_blanks mode input ≡ rest → source_from (length input) mode rest ≡ Err f → IsTold f.code → Stands mode input f.code f.place
+document_told : (mode : Mode) (input rest : List ℕ) (f : Fault) → skip_closed_whitespace mode input ≡ rest → source_from (length input) mode rest ≡ Err f → IsTold f.code → Stands mode input f.code f.place
 document_told mode input [] f passed e told = absurd (nothing_silent mode (length input) f e told)
 document_told mode input (b ∷ rest) f passed e told =
     elim (chosen (opens_comment mode (b ∷ rest)) (comment_at (length input) null_source rest) (value_to_end (length input) mode (b ∷ rest)) (Err f) e) [
@@ -281,7 +281,7 @@ tree_fault (Err d) f e = ap (λ (g : Fault). Err g) (same_err {B = Tree} d f e)
 
 source_stands : (mode : Mode) (input : List ℕ) (f : Fault) → source_of mode input ≡ Err f → Stands mode input f.code f.place
 unfolding source_of
-source_stands mode input f e = untold mode input f.code f.place (λ told. document_told mode input (skip_closed_blanks mode input) f refl e told)
+source_stands mode input f e = untold mode input f.code f.place (λ told. document_told mode input (skip_closed_whitespace mode input) f refl e told)
 
 -- What the fault of a text says of it.
 pub document_stands : (mode : Mode) (input : List ℕ) (f : Fault) → document_of mode input ≡ Err f → Stands mode input f.code f.place

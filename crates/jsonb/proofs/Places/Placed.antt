@@ -5,27 +5,27 @@ use Rattle.std.specs.Cmp.Lexicographic.{slice_cmp}
 use Rattle.jsonb_spec.specs.Code.{Code}
 use Rattle.jsonb_spec.specs.Code.Code.{expected_array_comma_or_end, expected_colon, expected_object_comma_or_end}
 use Rattle.jsonb_spec.specs.Grammar.{Derives, IsElement, max_depth}
-use Rattle.jsonb_spec.specs.Grammar.Blanks.{AreLastBlanks}
+use Rattle.jsonb_spec.specs.Grammar.Whitespace.{IsLastWhitespace}
 use Rattle.jsonb_spec.specs.Mode.{Mode}
 use Rattle.jsonb_spec.specs.Mode.Mode.{extended, standard}
 use Rattle.jsonb_spec.specs.Grammar.Scalar.{IsKey}
 use Rattle.jsonb_spec.specs.Tree.{Mark, Tree}
-use Rattle.jsonb_spec.specs.Placed.{AreElementsAt, AreMembersAt, Has, HasBlanks, HasByte, IsElementAt, IsMemberAt, IsPlaced, IsValueAt, SourceKeysAscend}
+use Rattle.jsonb_spec.specs.Placed.{AreElementsAt, AreMembersAt, Has, HasWhitespace, HasByte, IsElementAt, IsMemberAt, IsPlaced, IsValueAt, SourceKeysAscend}
 use Rattle.jsonb_spec.specs.Placed.AreElementsAt.{more_elements, one_element}
 use Rattle.jsonb_spec.specs.Placed.AreMembersAt.{more_members, one_member}
 use Rattle.jsonb_spec.specs.Placed.IsElementAt.{empty_element, whole_element}
 use Rattle.jsonb_spec.specs.Placed.IsMemberAt.{key_and_value}
-use Rattle.jsonb_spec.specs.Placed.IsPlaced.{blanks_alone, value_alone}
+use Rattle.jsonb_spec.specs.Placed.IsPlaced.{whitespace_alone, value_alone}
 use Rattle.jsonb_spec.specs.Placed.IsValueAt.{empty_array, empty_object, full_array, full_object, scalar}
 use Rattle.jsonb_scan.specs.Reading.{Read, begins, on_byte, rejected, ◌>>=◌}
-use Rattle.jsonb_scan.specs.Reading.Blank.{opens_comment, skip_blanks, skip_closed_blanks}
+use Rattle.jsonb_scan.specs.Reading.Whitespace.{opens_comment, skip_whitespace, skip_closed_whitespace}
 use Rattle.jsonb_scan.specs.Reading.Container.{after_key, after_part, array_at, element_at, elements_at, found_at, is_left_out, joined_at, member_at, members_at, object_at, object_or_fault, padded_at, value_or_null}
 use Rattle.jsonb_scan.specs.Reading.Document.{alone_at, at_end, comment_at, nothing_at, source_from, source_of, too_deep, value_at, value_to_end}
 use Rattle.jsonb_scan.specs.Reading.Scalar.{key_at, scalar_at}
 use Rattle.jsonb_spec.specs.Source.{Found, Source, adjacent_repeat, array_source, array_source_of, first_repeat, found, no_source_members, no_sources, null_source, object_source, sort_by, source_alone, source_members_of, spot_of}
 use Rattle.jsonb_scan.proofs.Containers.JoinedParts.{IsSound, IsSoundBefore, joined-skip, joined_sound, on_byte_cases}
 use Rattle.jsonb_scan.proofs.Steps.Tests.{bind_ok, chosen, rejected_fails, same_ok, same_read}
-use Rattle.jsonb_scan.proofs.Text.Blanks.{ends_all, passes, skip-blanks, skip-skip, skip-stop, skips}
+use Rattle.jsonb_scan.proofs.Text.Whitespace.{ends_all, passes, skip-whitespace, skip-skip, skip-stop, skips}
 use Rattle.jsonb.proofs.Containers.Repeats.{AreSorted, apart, below, sorted-sort}
 use Rattle.jsonb.proofs.Containers.Shuffles.{permutes, sort-shuffles, spots-sort}
 use Rattle.jsonb.proofs.Containers.Values.{IsFound, Seen, comment_ends, element_sound, ended, is_extended_if, member_skip, member_sound, object_of, value_sound}
@@ -91,30 +91,30 @@ module _ (mode : Mode) (input : List ℕ) where
   after_byte : {bytes : List ℕ} → IsRest bytes → (c : ℕ) (rest : List ℕ) → bytes ≡ c ∷ rest → IsRest rest
   after_byte r c rest e = rest_after r (c ∷ []) rest e
 
-  -- ---- what is read, with blanks round it
+  -- ---- what is read, with whitespace round it
 
   record IsRound {A : Type 0} (Spells : List ℕ → A → Type 0) (bytes : List ℕ) (a : A) (after rest : List ℕ) : Type 0 where
-    pub front : HasBlanks mode input (at bytes) (at (skip_blanks mode bytes))
-    pub begins_at : IsRest (skip_blanks mode bytes)
-    pub is : Has input (λ core. Spells core a) (at (skip_blanks mode bytes)) (at after)
-    pub back : HasBlanks mode input (at after) (at rest)
+    pub front : HasWhitespace mode input (at bytes) (at (skip_whitespace mode bytes))
+    pub begins_at : IsRest (skip_whitespace mode bytes)
+    pub is : Has input (λ core. Spells core a) (at (skip_whitespace mode bytes)) (at after)
+    pub back : HasWhitespace mode input (at after) (at rest)
     pub ends_at : IsRest rest
 
-  round : {A : Type 0} (Spells : List ℕ → A → Type 0) (read : List ℕ → Read A) → IsSound Spells read → {bytes : List ℕ} → IsRest bytes → (a : A) (after rest : List ℕ) → read (skip_blanks mode bytes) ≡ Ok (a, after) → skip_blanks mode after ≡ rest
+  round : {A : Type 0} (Spells : List ℕ → A → Type 0) (read : List ℕ → Read A) → IsSound Spells read → {bytes : List ℕ} → IsRest bytes → (a : A) (after rest : List ℕ) → read (skip_whitespace mode bytes) ≡ Ok (a, after) → skip_whitespace mode after ≡ rest
       → 0 < length rest → IsRound Spells bytes a after rest
   round Spells read sound {bytes} r a after rest e skipped left =
-      let s = sound (skip_blanks mode bytes) a after e in
+      let s = sound (skip_whitespace mode bytes) a after e in
       let back = skips mode after (omega (arith, left, ap length skipped)) in
-      let front = skips mode bytes (omega (arith, left, ap length skipped, ap length back.whole, ap length s.whole, length-append s.core after, length-append back.blanks (skip_blanks mode after))) in
-      let here : IsRest (skip_blanks mode bytes) = rest_after r front.blanks (skip_blanks mode bytes) front.whole in
+      let front = skips mode bytes (omega (arith, left, ap length skipped, ap length back.whole, ap length s.whole, length-append s.core after, length-append back.whitespace (skip_whitespace mode after))) in
+      let here : IsRest (skip_whitespace mode bytes) = rest_after r front.whitespace (skip_whitespace mode bytes) front.whole in
       let there : IsRest after = rest_after here s.core after s.whole in
-      let back_is : after ≡ back.blanks ++ rest = back.whole ∙ ap (λ (u : List ℕ). back.blanks ++ u) skipped in
+      let back_is : after ≡ back.whitespace ++ rest = back.whole ∙ ap (λ (u : List ℕ). back.whitespace ++ u) skipped in
       record {
-        front = has r front.blanks (skip_blanks mode bytes) front.whole front.are_blanks;
+        front = has r front.whitespace (skip_whitespace mode bytes) front.whole front.is_whitespace;
         begins_at = here;
         is = has here s.core after s.whole s.spells;
-        back = has there back.blanks rest back_is back.are_blanks;
-        ends_at = rest_after there back.blanks rest back_is;
+        back = has there back.whitespace rest back_is back.is_whitespace;
+        ends_at = rest_after there back.whitespace rest back_is;
       }
 
   -- ---- parts joined by commas
@@ -159,16 +159,16 @@ module _ (mode : Mode) (input : List ℕ) where
   module _ (Value : List ℕ → Tree → Type 0) (read : List ℕ → Read Source) (sound : IsSound (Seen Value) read) (places : Places read) where
     element_placed : (bytes : List ℕ) (s : Source) (rest : List ℕ) → IsRest bytes → element_at mode read bytes ≡ Ok (s, rest) → 0 < length rest → IsElementAt mode input (at bytes) s (at rest)
     element_placed bytes s rest r e left =
-        let here : List ℕ = skip_blanks mode bytes in
-        let b = bind_ok (value_or_null mode read here) (λ (x : Source × List ℕ). Ok (x.0, skip_blanks mode x.1)) (s, rest) e in
-        let out = same_read b.0.0 s (skip_blanks mode b.0.1) rest b.2 in
+        let here : List ℕ = skip_whitespace mode bytes in
+        let b = bind_ok (value_or_null mode read here) (λ (x : Source × List ℕ). Ok (x.0, skip_whitespace mode x.1)) (s, rest) e in
+        let out = same_read b.0.0 s (skip_whitespace mode b.0.1) rest b.2 in
         elim (chosen (is_left_out mode here) (Ok (null_source, here)) (read here) (Ok b.0) b.1) [
           | inl h ↦
               let same = same_read null_source b.0.0 here b.0.1 h.1 in
-              let rest-is : here ≡ rest = sym (skip-skip mode bytes) ∙ ap (λ (u : List ℕ). skip_blanks mode u) same.rest ∙ out.rest in
+              let rest-is : here ≡ rest = sym (skip-skip mode bytes) ∙ ap (λ (u : List ℕ). skip_whitespace mode u) same.rest ∙ out.rest in
               let front = skips mode bytes (omega (arith, left, ap length rest-is)) in
-              let blanks = has r front.blanks rest (front.whole ∙ ap (λ (u : List ℕ). front.blanks ++ u) rest-is) front.are_blanks in
-              subst (λ (v : Source). IsElementAt mode input (at bytes) v (at rest)) (same.value ∙ out.value) (empty_element (is_extended_if mode here h.0) blanks)
+              let whitespace = has r front.whitespace rest (front.whole ∙ ap (λ (u : List ℕ). front.whitespace ++ u) rest-is) front.is_whitespace in
+              subst (λ (v : Source). IsElementAt mode input (at bytes) v (at rest)) (same.value ∙ out.value) (empty_element (is_extended_if mode here h.0) whitespace)
           | inr h ↦
               let p = round (Seen Value) read sound r b.0.0 b.0.1 rest h.1 out.rest left in
               subst (λ (v : Source). IsElementAt mode input (at bytes) v (at rest)) out.value (whole_element p.front (places here b.0.0 b.0.1 p.begins_at h.1) p.back)
@@ -176,22 +176,22 @@ module _ (mode : Mode) (input : List ℕ) where
 
     member_placed : (bytes : List ℕ) (f : Found) (rest : List ℕ) → IsRest bytes → member_at (length input) mode read bytes ≡ Ok (f, rest) → 0 < length rest → IsMemberAt mode input (at bytes) f (at rest)
     member_placed bytes f rest r e left =
-        let b = bind_ok (key_at (length input) mode (skip_blanks mode bytes)) (λ (x : (Mark × List ℕ) × List ℕ). after_key (length input) mode read x.0 (length input - length x.1) (skip_blanks mode x.1)) (f, rest) e in
+        let b = bind_ok (key_at (length input) mode (skip_whitespace mode bytes)) (λ (x : (Mark × List ℕ) × List ℕ). after_key (length input) mode read x.0 (length input - length x.1) (skip_whitespace mode x.1)) (f, rest) e in
         let k : Mark × List ℕ = b.0.0 in
         let place : ℕ = at b.0.1 in
-        let colon : List ℕ = skip_blanks mode b.0.1 in
+        let colon : List ℕ = skip_whitespace mode b.0.1 in
         elim (on_byte_cases 58 colon (λ (u : List ℕ). padded_at mode read u >>= λ (x : Source × List ℕ). found_at k place x) (rejected (length input) expected_colon 0 colon) (Ok (f, rest)) b.2) [
           | inl t ↦
               let v = bind_ok (padded_at mode read t.0) (λ (x : Source × List ℕ). found_at k place x) (f, rest) t.2 in
-              let w = bind_ok (read (skip_blanks mode t.0)) (λ (x : Source × List ℕ). Ok (x.0, skip_blanks mode x.1)) v.0 v.1 in
+              let w = bind_ok (read (skip_whitespace mode t.0)) (λ (x : Source × List ℕ). Ok (x.0, skip_whitespace mode x.1)) v.0 v.1 in
               let s : Source = w.0.0 in
               let made = same_read (found k v.0.0 place) f v.0.1 rest v.2 in
-              let out = same_read s v.0.0 (skip_blanks mode w.0.1) v.0.1 w.2 in
+              let out = same_read s v.0.0 (skip_whitespace mode w.0.1) v.0.1 w.2 in
               let left_part = round (IsKey mode) (key_at (length input) mode) (key_sound (length input) mode) r k b.0.1 colon b.1 refl (omega (arith, ap length t.1)) in
               let there : IsRest t.0 = after_byte left_part.ends_at 58 t.0 t.1 in
               let right_part = round (Seen Value) read sound there s w.0.1 rest w.1 (out.rest ∙ made.rest) left in
-              let due = subst (λ (n : ℕ). HasBlanks mode input n (at (skip_blanks mode t.0))) (next left_part.ends_at 58 t.0 t.1) right_part.front in
-              let member = key_and_value left_part.front left_part.is left_part.back (has_byte left_part.ends_at 58 t.0 t.1) due (places (skip_blanks mode t.0) s w.0.1 right_part.begins_at w.1) right_part.back in
+              let due = subst (λ (n : ℕ). HasWhitespace mode input n (at (skip_whitespace mode t.0))) (next left_part.ends_at 58 t.0 t.1) right_part.front in
+              let member = key_and_value left_part.front left_part.is left_part.back (has_byte left_part.ends_at 58 t.0 t.1) due (places (skip_whitespace mode t.0) s w.0.1 right_part.begins_at w.1) right_part.back in
               let same : found k s place ≡ f = ap (λ (u : Source). found k u place) out.value ∙ made.value in
               subst (λ (g : Found). IsMemberAt mode input (at bytes) g (at rest)) same member
           | inr g ↦ absurd (rejected_fails (length input) expected_colon 0 colon (f, rest) g.1)
@@ -202,29 +202,29 @@ module _ (mode : Mode) (input : List ℕ) where
         let from : ℕ = at (91 ∷ bytes) in
         let inside : IsRest bytes = after_byte r 91 bytes refl in
         let begun : at bytes ≡ from + 1 = next r 91 bytes refl in
-        elim (on_byte_cases 93 (skip_blanks mode bytes) (λ (u : List ℕ). Ok (array_source no_sources, u)) (elements_at (length input) mode read bytes) (Ok (s, rest)) e) [
+        elim (on_byte_cases 93 (skip_whitespace mode bytes) (λ (u : List ℕ). Ok (array_source no_sources, u)) (elements_at (length input) mode read bytes) (Ok (s, rest)) e) [
           | inl h ↦
               let front = skips mode bytes (omega (arith, ap length h.1)) in
-              let there : IsRest (skip_blanks mode bytes) = rest_after inside front.blanks (skip_blanks mode bytes) front.whole in
+              let there : IsRest (skip_whitespace mode bytes) = rest_after inside front.whitespace (skip_whitespace mode bytes) front.whole in
               let same = same_read (array_source no_sources) s h.0 rest h.2 in
-              let blanks = subst (λ (n : ℕ). HasBlanks mode input n (at (skip_blanks mode bytes))) begun (has inside front.blanks (skip_blanks mode bytes) front.whole front.are_blanks) in
-              let ends : at (skip_blanks mode bytes) + 1 ≡ at rest = sym (next there 93 h.0 h.1) ∙ ap at same.rest in
-              subst₂ (λ (v : Source) (n : ℕ). IsValueAt mode input from v n) same.value ends (empty_array (has_byte r 91 bytes refl) blanks (has_byte there 93 h.0 h.1))
+              let whitespace = subst (λ (n : ℕ). HasWhitespace mode input n (at (skip_whitespace mode bytes))) begun (has inside front.whitespace (skip_whitespace mode bytes) front.whole front.is_whitespace) in
+              let ends : at (skip_whitespace mode bytes) + 1 ≡ at rest = sym (next there 93 h.0 h.1) ∙ ap at same.rest in
+              subst₂ (λ (v : Source) (n : ℕ). IsValueAt mode input from v n) same.value ends (empty_array (has_byte r 91 bytes refl) whitespace (has_byte there 93 h.0 h.1))
           | inr h ↦
               let element : List ℕ → Read Source = element_at mode read in
-              let b = bind_ok (joined_at (length input) expected_array_comma_or_end 93 element (suc (length bytes)) (skip_blanks mode bytes)) (λ (x : List Source × List ℕ). Ok (array_source_of x.0, x.1)) (s, rest) h.1 in
-              let again = sym (joined-skip (length input) expected_array_comma_or_end 93 (Seen (IsElement mode Value)) element mode (λ u. ap (λ (w : List ℕ). value_or_null mode read w >>= λ (x : Source × List ℕ). Ok (x.0, skip_blanks mode x.1)) (skip-skip mode u)) (suc (length bytes)) bytes) ∙ b.1 in
+              let b = bind_ok (joined_at (length input) expected_array_comma_or_end 93 element (suc (length bytes)) (skip_whitespace mode bytes)) (λ (x : List Source × List ℕ). Ok (array_source_of x.0, x.1)) (s, rest) h.1 in
+              let again = sym (joined-skip (length input) expected_array_comma_or_end 93 (Seen (IsElement mode Value)) element mode (λ u. ap (λ (w : List ℕ). value_or_null mode read w >>= λ (x : Source × List ℕ). Ok (x.0, skip_whitespace mode x.1)) (skip-skip mode u)) (suc (length bytes)) bytes) ∙ b.1 in
               let j = joined_sound (length input) expected_array_comma_or_end 93 (Seen (IsElement mode Value)) element (element_sound mode Value read sound) (suc (length bytes)) bytes b.0.0 b.0.1 again in
               let all = joined_placed (AreElementsAt mode input) (IsElementAt mode input) (λ from to a h. one_element h) (λ from comma to a others h c hs. more_elements h c hs) (length input) expected_array_comma_or_end 93 (Seen (IsElement mode Value)) element (element_sound mode Value read sound) element_placed (suc (length bytes)) bytes b.0.0 b.0.1 inside again in
               let same = same_read (array_source_of b.0.0) s b.0.1 rest b.2 in
               let there : IsRest (93 ∷ b.0.1) = rest_after inside j.0 (93 ∷ b.0.1) j.2 in
               let elements = subst (λ (n : ℕ). AreElementsAt mode input n b.0.0 (at (93 ∷ b.0.1))) begun all in
-              let not_blank : HasBlanks mode input (from + 1) (at (93 ∷ b.0.1)) → ⊥ = λ k.
-              let blank : bytes ≡ k.bytes ++ 93 ∷ b.0.1 = sym (dropped inside) ∙ ap (λ (n : ℕ). drop n input) begun ∙ has_dropped k ∙ ap (λ (u : List ℕ). k.bytes ++ u) (dropped there) in
-              let found : begins 93 (skip_blanks mode bytes) ≡ true = ap (λ (u : List ℕ). begins 93 (skip_blanks mode u)) blank ∙ ap (λ (u : List ℕ). begins 93 u) (skip-blanks k.is (93 ∷ b.0.1) ∙ skip-stop mode 93 b.0.1 refl) in
+              let not_piece : HasWhitespace mode input (from + 1) (at (93 ∷ b.0.1)) → ⊥ = λ k.
+              let piece : bytes ≡ k.bytes ++ 93 ∷ b.0.1 = sym (dropped inside) ∙ ap (λ (n : ℕ). drop n input) begun ∙ has_dropped k ∙ ap (λ (u : List ℕ). k.bytes ++ u) (dropped there) in
+              let found : begins 93 (skip_whitespace mode bytes) ≡ true = ap (λ (u : List ℕ). begins 93 (skip_whitespace mode u)) piece ∙ ap (λ (u : List ℕ). begins 93 u) (skip-whitespace k.is (93 ∷ b.0.1) ∙ skip-stop mode 93 b.0.1 refl) in
               true≢false (sym found ∙ h.0) in
               let ends : at (93 ∷ b.0.1) + 1 ≡ at rest = sym (next there 93 b.0.1 refl) ∙ ap at same.rest in
-              subst₂ (λ (v : Source) (n : ℕ). IsValueAt mode input from v n) same.value ends (full_array (has_byte r 91 bytes refl) elements not_blank (has_byte there 93 b.0.1 refl))
+              subst₂ (λ (v : Source) (n : ℕ). IsValueAt mode input from v n) same.value ends (full_array (has_byte r 91 bytes refl) elements not_piece (has_byte there 93 b.0.1 refl))
         ]
 
     object_placed : (bytes : List ℕ) (s : Source) (rest : List ℕ) → IsRest (123 ∷ bytes) → object_at (length input) mode read bytes ≡ Ok (s, rest) → IsValueAt mode input (at (123 ∷ bytes)) s (at rest)
@@ -232,19 +232,19 @@ module _ (mode : Mode) (input : List ℕ) where
         let from : ℕ = at (123 ∷ bytes) in
         let inside : IsRest bytes = after_byte r 123 bytes refl in
         let begun : at bytes ≡ from + 1 = next r 123 bytes refl in
-        elim (on_byte_cases 125 (skip_blanks mode bytes) (λ (u : List ℕ). Ok (object_source no_source_members, u)) (members_at (length input) mode read bytes) (Ok (s, rest)) e) [
+        elim (on_byte_cases 125 (skip_whitespace mode bytes) (λ (u : List ℕ). Ok (object_source no_source_members, u)) (members_at (length input) mode read bytes) (Ok (s, rest)) e) [
           | inl h ↦
               let front = skips mode bytes (omega (arith, ap length h.1)) in
-              let there : IsRest (skip_blanks mode bytes) = rest_after inside front.blanks (skip_blanks mode bytes) front.whole in
+              let there : IsRest (skip_whitespace mode bytes) = rest_after inside front.whitespace (skip_whitespace mode bytes) front.whole in
               let same = same_read (object_source no_source_members) s h.0 rest h.2 in
-              let blanks = subst (λ (n : ℕ). HasBlanks mode input n (at (skip_blanks mode bytes))) begun (has inside front.blanks (skip_blanks mode bytes) front.whole front.are_blanks) in
-              let ends : at (skip_blanks mode bytes) + 1 ≡ at rest = sym (next there 125 h.0 h.1) ∙ ap at same.rest in
-              subst₂ (λ (v : Source) (n : ℕ). IsValueAt mode input from v n) same.value ends (empty_object (has_byte r 123 bytes refl) blanks (has_byte there 125 h.0 h.1))
+              let whitespace = subst (λ (n : ℕ). HasWhitespace mode input n (at (skip_whitespace mode bytes))) begun (has inside front.whitespace (skip_whitespace mode bytes) front.whole front.is_whitespace) in
+              let ends : at (skip_whitespace mode bytes) + 1 ≡ at rest = sym (next there 125 h.0 h.1) ∙ ap at same.rest in
+              subst₂ (λ (v : Source) (n : ℕ). IsValueAt mode input from v n) same.value ends (empty_object (has_byte r 123 bytes refl) whitespace (has_byte there 125 h.0 h.1))
           | inr h ↦
               let member : List ℕ → Read Found = member_at (length input) mode read in
               let IsOne : List ℕ → Found → Type 0 = IsFound mode Value read in
               let member_is_sound : IsSoundBefore IsOne member = member_sound mode Value read (length input) sound in
-              let b = bind_ok (joined_at (length input) expected_object_comma_or_end 125 member (suc (length bytes)) (skip_blanks mode bytes)) (λ (x : List Found × List ℕ). object_or_fault (first_repeat (map spot_of x.0)) x.0 x.1) (s, rest) h.1 in
+              let b = bind_ok (joined_at (length input) expected_object_comma_or_end 125 member (suc (length bytes)) (skip_whitespace mode bytes)) (λ (x : List Found × List ℕ). object_or_fault (first_repeat (map spot_of x.0)) x.0 x.1) (s, rest) h.1 in
               let again = sym (joined-skip (length input) expected_object_comma_or_end 125 IsOne member mode (member_skip mode Value read (length input)) (suc (length bytes)) bytes) ∙ b.1 in
               let j = joined_sound (length input) expected_object_comma_or_end 125 IsOne member member_is_sound (suc (length bytes)) bytes b.0.0 b.0.1 again in
               let all = joined_placed (AreMembersAt mode input) (IsMemberAt mode input) (λ from to a h. one_member h) (λ from comma to a others h c hs. more_members h c hs) (length input) expected_object_comma_or_end 125 IsOne member member_is_sound member_placed (suc (length bytes)) bytes b.0.0 b.0.1 inside again in
@@ -290,34 +290,34 @@ module _ (mode : Mode) (input : List ℕ) where
 
 -- ---- whole texts
 
-nothing_placed : (mode : Mode) (input : List ℕ) (s : Source) (size : ℕ) → AreLastBlanks mode input → nothing_at size mode ≡ Ok s → IsPlaced mode input s
+nothing_placed : (mode : Mode) (input : List ℕ) (s : Source) (size : ℕ) → IsLastWhitespace mode input → nothing_at size mode ≡ Ok s → IsPlaced mode input s
 nothing_placed standard input s size b e = absurd cc
-nothing_placed extended input s size b e = subst (λ (u : Source). IsPlaced extended input u) (same_ok null_source s e) (blanks_alone refl b)
+nothing_placed extended input s size b e = subst (λ (u : Source). IsPlaced extended input u) (same_ok null_source s e) (whitespace_alone refl b)
 
 pub source_placed : (mode : Mode) (input : List ℕ) (s : Source) → source_of mode input ≡ Ok s → IsPlaced mode input s
 unfolding source_of
-source_placed mode input s e = go (skip_closed_blanks mode input) refl e
+source_placed mode input s e = go (skip_closed_whitespace mode input) refl e
   where
-    value_read : (b : ℕ) (rest : List ℕ) → skip_closed_blanks mode input ≡ b ∷ rest → value_to_end (length input) mode (b ∷ rest) ≡ Ok s → IsPlaced mode input s
+    value_read : (b : ℕ) (rest : List ℕ) → skip_closed_whitespace mode input ≡ b ∷ rest → value_to_end (length input) mode (b ∷ rest) ≡ Ok s → IsPlaced mode input s
     value_read b rest passed e =
-        let r = bind_ok (value_at (length input) mode max_depth (b ∷ rest)) (λ (x : Source × List ℕ). at_end (length input) mode x.0 (skip_closed_blanks mode x.1)) s e in
+        let r = bind_ok (value_at (length input) mode max_depth (b ∷ rest)) (λ (x : Source × List ℕ). at_end (length input) mode x.0 (skip_closed_whitespace mode x.1)) s e in
         let front = passes mode input in
-        let front_is : input ≡ front.blanks ++ b ∷ rest = front.whole ∙ ap (λ (u : List ℕ). front.blanks ++ u) passed in
+        let front_is : input ≡ front.whitespace ++ b ∷ rest = front.whole ∙ ap (λ (u : List ℕ). front.whitespace ++ u) passed in
         let k = value_sound (length input) mode max_depth (b ∷ rest) r.0.0 r.0.1 r.1 in
-        let end = ended (length input) mode r.0.0 r.0.1 (skip_closed_blanks mode r.0.1) s refl r.2 in
+        let end = ended (length input) mode r.0.0 r.0.1 (skip_closed_whitespace mode r.0.1) s refl r.2 in
         let all : IsRest mode input input = ([], refl) in
-        let here : IsRest mode input (b ∷ rest) = rest_after mode input all front.blanks (b ∷ rest) front_is in
+        let here : IsRest mode input (b ∷ rest) = rest_after mode input all front.whitespace (b ∷ rest) front_is in
         let there : IsRest mode input r.0.1 = rest_after mode input here k.core r.0.1 k.whole in
         let first : length input - length input ≡ 0 = omega arith in
         let last : length input - 0 ≡ length input = omega arith in
-        let before = subst (λ (n : ℕ). HasBlanks mode input n (at mode input (b ∷ rest))) first (has mode input all front.blanks (b ∷ rest) front_is front.are_blanks) in
-        let after = subst (λ (n : ℕ). Has input (AreLastBlanks mode) (at mode input r.0.1) n) last (has mode input there r.0.1 [] (sym (append-nil r.0.1)) end.0) in
+        let before = subst (λ (n : ℕ). HasWhitespace mode input n (at mode input (b ∷ rest))) first (has mode input all front.whitespace (b ∷ rest) front_is front.is_whitespace) in
+        let after = subst (λ (n : ℕ). Has input (IsLastWhitespace mode) (at mode input r.0.1) n) last (has mode input there r.0.1 [] (sym (append-nil r.0.1)) end.0) in
         subst (λ (v : Source). IsPlaced mode input v) end.1 (value_alone before (value_placed mode input max_depth (b ∷ rest) r.0.0 r.0.1 here r.1) after)
 
-    go : (rest : List ℕ) → skip_closed_blanks mode input ≡ rest → source_from (length input) mode rest ≡ Ok s → IsPlaced mode input s
+    go : (rest : List ℕ) → skip_closed_whitespace mode input ≡ rest → source_from (length input) mode rest ≡ Ok s → IsPlaced mode input s
     go [] passed e = nothing_placed mode input s (length input) (ends_all mode input passed) e
     go (b ∷ rest) passed e =
         elim (chosen (opens_comment mode (b ∷ rest)) (comment_at (length input) null_source rest) (value_to_end (length input) mode (b ∷ rest)) (Ok s) e) [
-          | inl h ↦ let c = comment_ends mode (length input) input b rest null_source s passed h.0 h.1 in subst (λ (u : Source). IsPlaced mode input u) c.2 (blanks_alone c.0 c.1)
+          | inl h ↦ let c = comment_ends mode (length input) input b rest null_source s passed h.0 h.1 in subst (λ (u : Source). IsPlaced mode input u) c.2 (whitespace_alone c.0 c.1)
           | inr h ↦ value_read b rest passed h.1
         ]

@@ -6,7 +6,7 @@ use Rattle.jsonb_spec.specs.Text.NumberText.{number_text, text_of_parts}
 use Rattle.jsonb_spec.specs.Text.Range.{IsInTexts}
 use Rattle.jsonb_spec.specs.Tree.{Num, number}
 use Rattle.jsonb_value.proofs.Numbers.InRange.{extended_reads_back, standard_number}
-use Rattle.jsonb_scan.specs.Reading.Blank.{is_break}
+use Rattle.jsonb_scan.specs.Reading.Whitespace.{is_break}
 use Rattle.jsonb_scan.specs.Reading.ExtendedNumber.{EndsExtended, extended_number_at}
 use Rattle.jsonb_scan.specs.Reading.Number.{is_number_start}
 use Rattle.jsonb_scan.specs.Reading.Scalar.{scalar_at}

@@ -17,7 +17,7 @@ use Rattle.jsonb_spec.specs.Tree.{Mark, plain, Num, Tree}
 use Rattle.jsonb_spec.specs.Tree.Tree.{boolean, null, number, string}
 use Rattle.jsonb_scan.specs.Reading.{Fault, Read, begins, on_byte, rejected, ◌>>=◌}
 use Rattle.jsonb_scan.specs.Reading.BareKey.{bare_key_at, key_step}
-use Rattle.jsonb_scan.specs.Reading.Blank.{is_blank_start, is_break}
+use Rattle.jsonb_scan.specs.Reading.Whitespace.{is_whitespace_start, is_break}
 use Rattle.jsonb_scan.specs.Reading.ExtendedNumber.{EndsExtended, ContinuesNumberExtended}
 use Rattle.jsonb_scan.specs.Reading.Number.{IsNumberBoundary, ContinuesNumber, is_number_start}
 use Rattle.jsonb_scan.specs.Reading.Scalar.{begins_letter, begins_number, false_at, folded, key_at, letters_at, null_at, number_at, number_or_fault, number_value_at, on_letter, on_single_quote, or_else, quoted_at, scalar_at, true_or_false_at, unquoted_at, word_at, words_at}
@@ -267,10 +267,10 @@ apart_from b h =
     let no_slash : b ≢ 47 = λ e. ⊎_elim (λ (m : b ≡ 45). omega (arith, m, e)) (λ (d : (48 ≤ b) × (b ≤ 57)). omega (arith, d.0, e)) h in
     record {
       no_break =
-          or_from (is_blank_start b || eqb b 44 || eqb b 58 || eqb b 93) (eqb b 125)
-          (or_from (is_blank_start b || eqb b 44 || eqb b 58) (eqb b 93)
-          (or_from (is_blank_start b || eqb b 44) (eqb b 58)
-          (or_from (is_blank_start b) (eqb b 44)
+          or_from (is_whitespace_start b || eqb b 44 || eqb b 58 || eqb b 93) (eqb b 125)
+          (or_from (is_whitespace_start b || eqb b 44 || eqb b 58) (eqb b 93)
+          (or_from (is_whitespace_start b || eqb b 44) (eqb b 58)
+          (or_from (is_whitespace_start b) (eqb b 44)
           (or_from (eqb b 32 || eqb b 9 || eqb b 10 || eqb b 12 || eqb b 13 || eqb b 92) (eqb b 47)
           (or_from (eqb b 32 || eqb b 9 || eqb b 10 || eqb b 12 || eqb b 13) (eqb b 92)
           (or_from (eqb b 32 || eqb b 9 || eqb b 10 || eqb b 12) (eqb b 13)

@@ -5,7 +5,7 @@ ghost use Rattle.jsonb_value.specs.View.{number_view};
 ghost use Rattle.jsonb_value.specs.declared.error.Error.TheVariants.{OutOfMemory};
 ghost use Rattle.jsonb_scan.specs.Answer.{Gives, mode_of};
 ghost use Rattle.jsonb.specs.Parser.{rest_of, size_of, Advances, PassesInteger};
-ghost use Rattle.jsonb_scan.specs.Reading.Blank.{is_break};
+ghost use Rattle.jsonb_scan.specs.Reading.Whitespace.{is_break};
 ghost use Rattle.jsonb_scan.specs.Reading.ExtendedNumber.{extended_number_at};
 
 use super::Parser;

@@ -7,7 +7,7 @@ ghost use Rattle.jsonb_scan.specs.Answer.{Gives};
 ghost use Rattle.jsonb.specs.Handler.{AsKey, AsNamed, Begins, Builds};
 ghost use Rattle.jsonb.specs.Parser.{rest_of, size_of, Advances, ReadsAs, read_at};
 ghost use Rattle.jsonb.specs.Stack.{member_start};
-ghost use Rattle.jsonb_scan.specs.Reading.Blank.{skip_blanks};
+ghost use Rattle.jsonb_scan.specs.Reading.Whitespace.{skip_whitespace};
 ghost use Rattle.jsonb_scan.specs.Reading.String.{string_at};
 ghost use Rattle.jsonb_scan.specs.Answer.{mode_of};
 ghost use Rattle.jsonb_scan.specs.Reading.Scalar.{key_at};
@@ -38,17 +38,17 @@ impl<'a> Parser<'a> {
         ensures base { V.base room.new ≡ V.base room.old }
     {
         let key = self.parse_member_key::<V>(room, object, text)?;
-        if !self.take_after_blanks(b':') {
+        if !self.take_after_whitespace(b':') {
             let error = self.unexpected(ParseErrorCode::ExpectedColon, 0);
             return Err(self.fail(error));
         }
         // Often there is one space.
         self.skip_space();
-        self.skip_blanks();
+        self.skip_whitespace();
         Ok(key)
     }
 
-    // A key, after blanks.
+    // A key, after whitespace.
     #[inline(always)]
     fn parse_member_key<V: Handler<'a>>(
         &mut self,
@@ -60,12 +60,12 @@ impl<'a> Parser<'a> {
         requires same { text.now ≡ take (length text.now) self.old.buf.now }
         ensures reads { Builds V.silent self.new.told
             (AsKey (Begins (V.stands self.old.buf.now) room.old object.old room.new object.new) (size_of self.old) (rest_of self.new)) result
-            (key_at (size_of self.old) (mode_of self.old.mode) (skip_blanks (mode_of self.old.mode) (rest_of self.old)))
+            (key_at (size_of self.old) (mode_of self.old.mode) (skip_whitespace (mode_of self.old.mode) (rest_of self.old)))
             (rest_of self.new) }
         ensures advances { Advances self.old self.new }
         ensures base { V.base room.new ≡ V.base room.old }
     {
-        if !self.take_after_blanks(b'"') {
+        if !self.take_after_whitespace(b'"') {
             return self.other_key::<V>(room, object);
         }
         let from = self.idx;

@@ -12,7 +12,7 @@ ghost use Rattle.jsonb.specs.Frames.{Fits, IsObject, Pushes, ReadsParts, BeforeV
 ghost use Rattle.jsonb_scan.specs.Answer.{mode_of, MayAllocate};
 ghost use Rattle.jsonb.specs.Parser.{rest_of, size_of, Advances, IsBehind, read_at};
 ghost use Rattle.jsonb_scan.specs.Reading.{Read, begins};
-ghost use Rattle.jsonb_scan.specs.Reading.Blank.{is_blank_start, skip_blanks};
+ghost use Rattle.jsonb_scan.specs.Reading.Whitespace.{is_whitespace_start, skip_whitespace};
 ghost use Rattle.jsonb_scan.specs.Reading.Container.{is_left_out};
 ghost use Rattle.jsonb_scan.specs.Reading.Document.{value_at};
 ghost use Rattle.jsonb_spec.specs.Source.{Source, Found};
@@ -147,7 +147,7 @@ impl<'a> Parser<'a> {
             let Ok(()) = stack.push(Frame::Array(items)) else {
                 return Err(self.out_of_memory());
             };
-            self.skip_blanks();
+            self.skip_whitespace();
             return Ok(self.take_byte(b']'));
         }
         self.idx += 1;
@@ -158,7 +158,7 @@ impl<'a> Parser<'a> {
         let Ok(()) = stack.push(Frame::Object(OpenObject { members, key })) else {
             return Err(self.out_of_memory());
         };
-        self.skip_blanks();
+        self.skip_whitespace();
         Ok(self.take_byte(b'}'))
     }
 
@@ -253,7 +253,7 @@ impl<'a> Parser<'a> {
         ensures base { V.base room.new ≡ V.base room.old }
     {
         'elements: loop {
-            self.skip_blanks();
+            self.skip_whitespace();
             if self.begins_container() {
                 let Ok(()) = V::next_item(room, items) else {
                     return Err(self.out_of_memory());
@@ -339,11 +339,11 @@ impl<'a> Parser<'a> {
         requires { self.old.idx ≤ size_of self.old }
         ensures reads { Builds false self.new.told (λ x y. x ≡ y) result
             (part_end (size_of self.old) expected_array_comma_or_end ascii.close_bracket
-            (skip_blanks (mode_of self.old.mode) (rest_of self.old))) (rest_of self.new) }
+            (skip_whitespace (mode_of self.old.mode) (rest_of self.old))) (rest_of self.new) }
         ensures onward { IfOk result (λ closed. self.old.idx < self.new.idx) }
         ensures advances { Advances self.old self.new }
     {
-        if self.take_after_blanks(b',') {
+        if self.take_after_whitespace(b',') {
             return Ok(false);
         }
         if self.take_byte(b']') {
@@ -359,11 +359,11 @@ impl<'a> Parser<'a> {
         requires { self.old.idx ≤ size_of self.old }
         ensures reads { Builds false self.new.told (λ x y. x ≡ y) result
             (part_end (size_of self.old) expected_object_comma_or_end ascii.close_brace
-            (skip_blanks (mode_of self.old.mode) (rest_of self.old))) (rest_of self.new) }
+            (skip_whitespace (mode_of self.old.mode) (rest_of self.old))) (rest_of self.new) }
         ensures onward { IfOk result (λ closed. self.old.idx < self.new.idx) }
         ensures advances { Advances self.old self.new }
     {
-        if self.take_after_blanks(b',') {
+        if self.take_after_whitespace(b',') {
             return Ok(false);
         }
         if self.take_byte(b'}') {
@@ -373,12 +373,12 @@ impl<'a> Parser<'a> {
         Err(self.fail(error))
     }
 
-    // Passes blanks and this byte, where it comes next; else the blanks alone. Most often there are none.
+    // Passes whitespace and this byte, where it comes next; else the whitespace alone. Most often there are none.
     #[inline(always)]
-    pub(super) fn take_after_blanks(&mut self, byte: u8) -> bool
-        requires stop { is_blank_start byte ≡ false }
+    pub(super) fn take_after_whitespace(&mut self, byte: u8) -> bool
+        requires stop { is_whitespace_start byte ≡ false }
         requires inside { self.old.idx ≤ size_of self.old }
-        ensures rest { skip_blanks (mode_of self.old.mode) (rest_of self.old)
+        ensures rest { skip_whitespace (mode_of self.old.mode) (rest_of self.old)
             ≡ (if result then byte ∷ rest_of self.new else rest_of self.new) }
         ensures other { MatchBool result (Unit {0}) (begins byte (rest_of self.new) ≡ false) }
         ensures onward { MatchBool result (self.old.idx < self.new.idx) (Unit {0}) }
@@ -388,7 +388,7 @@ impl<'a> Parser<'a> {
         if self.take_byte(byte) {
             return true;
         }
-        self.skip_blanks();
+        self.skip_whitespace();
         self.take_byte(byte)
     }
 

@@ -40,7 +40,7 @@ impl Read for Slow<'_> {
     }
 }
 
-// Gives one blank at each read, with no end, and notes how often it is read and into how few bytes.
+// Gives one space at each read, with no end, and notes how often it is read and into how few bytes.
 #[derive(Drop)]
 struct Endless {
     reads: u64,
@@ -59,13 +59,13 @@ impl Read for Endless {
     }
 }
 
-// Gives so many blanks, one at each read, and then tells its end.
+// Gives so many spaces, one at each read, and then tells its end.
 #[derive(Drop)]
-struct Blanks {
+struct Whitespace {
     left: u32,
 }
 
-impl Read for Blanks {
+impl Read for Whitespace {
     fn read(&mut self, buf: &mut [u8]) -> io::Result<usize> {
         if self.left == 0 || buf.is_empty() {
             return Ok(0);
@@ -197,11 +197,11 @@ fn a_reader_without_an_end_is_left(rt: HostRuntime) -> std::result::Result<(), F
 
 #[test]
 fn the_last_read_may_tell_the_end(rt: HostRuntime) -> std::result::Result<(), Fail> {
-    let mut input = Blanks {
+    let mut input = Whitespace {
         left: (1 << 20) - 1,
     };
     expect_run(&rt, "", &mut input, 0, "null\n", "")?;
-    let mut longer = Blanks { left: 1 << 20 };
+    let mut longer = Whitespace { left: 1 << 20 };
     expect_run(&rt, "", &mut longer, 1, "", "InvalidUtf8\n")?;
     Ok(())
 }

@@ -1,23 +1,23 @@
 -- From parsing parts to parsing parts joined by commas.
 use Rattle.std.proofs.Common.{◌≡◌, ℕ, zero, suc, ◌<◌, ◌≤◌, Bool, true, false, cond, ◌||◌, ◌⊎◌, ⊎_elim, inl, inr, List, [], ◌∷◌, ◌++◌, length, Ok, refl, sym, ap, ap₂, map, subst, ◌∙◌, append_assoc, length-append, arith, eqb, eqb-true}
 use Rattle.std.proofs.lemmas.Bool.{cond-false, cond-true, or_cases, or_parts}
-use Rattle.jsonb_spec.specs.Grammar.Blanks.{IsBlank, IsBlanks}
-use Rattle.jsonb_spec.specs.Grammar.Blanks.IsBlank.{block_comment, carriage_return, form_feed, line_comment, line_feed, space, tab, written_carriage_return, written_form_feed, written_line_feed, written_tab}
-use Rattle.jsonb_spec.specs.Grammar.Blanks.IsBlanks.{more_blanks, no_blanks}
+use Rattle.jsonb_spec.specs.Grammar.Whitespace.{IsWhitespacePiece, IsWhitespace}
+use Rattle.jsonb_spec.specs.Grammar.Whitespace.IsWhitespacePiece.{block_comment, carriage_return, form_feed, line_comment, line_feed, space, tab, written_carriage_return, written_form_feed, written_line_feed, written_tab}
+use Rattle.jsonb_spec.specs.Grammar.Whitespace.IsWhitespace.{more_whitespace, no_whitespace}
 use Rattle.jsonb_spec.specs.Code.{Code}
 use Rattle.jsonb_spec.specs.Grammar.{IsJoined, IsPadded}
 use Rattle.jsonb_spec.specs.Grammar.IsJoined.{more_parts, one_part}
 use Rattle.jsonb_spec.specs.Grammar.IsPadded.{padded}
 use Rattle.jsonb_spec.specs.Mode.{Mode}
 use Rattle.jsonb_scan.specs.Reading.{Read, begins, on_byte, rejected, ◌>>=◌}
-use Rattle.jsonb_scan.specs.Reading.Blank.{is_blank_start, is_break, skip_blanks}
+use Rattle.jsonb_scan.specs.Reading.Whitespace.{is_whitespace_start, is_break, skip_whitespace}
 use Rattle.jsonb_scan.specs.Reading.Container.{after_part, joined_at, padded_at}
 use Rattle.jsonb_scan.proofs.Steps.Tests.{bind_ok, chosen, eqb_self, rejected_fails, same_read}
-use Rattle.jsonb_scan.proofs.Text.Blanks.{skip-blanks, skip-stop, skips}
+use Rattle.jsonb_scan.proofs.Text.Whitespace.{skip-whitespace, skip-stop, skips}
 
 -- ---- bytes that begin and that end something
 
--- The text begins with a byte that no blank, comma, colon or closing bracket begins with.
+-- The text begins with a byte that no whitespace, comma, colon or closing bracket begins with.
 pub record Starts (bytes : List ℕ) : Type 0 where
   pub first : ℕ
   pub others : List ℕ
@@ -33,7 +33,7 @@ pub record Ends (bytes : List ℕ) : Type 0 where
 
 -- which bytes a byte that begins a value is not
 pub record IsOther (b : ℕ) : Type 0 where
-  pub blank : is_blank_start b ≡ false
+  pub piece : is_whitespace_start b ≡ false
   pub comma : eqb b 44 ≡ false
   pub colon : eqb b 58 ≡ false
   pub bracket : eqb b 93 ≡ false
@@ -41,19 +41,19 @@ pub record IsOther (b : ℕ) : Type 0 where
 
 pub other : (b : ℕ) → is_break b ≡ false → IsOther b
 other b e =
-    let p = or_parts (is_blank_start b || eqb b 44 || eqb b 58 || eqb b 93) (eqb b 125) e in
-    let q = or_parts (is_blank_start b || eqb b 44 || eqb b 58) (eqb b 93) p.0 in
-    let r = or_parts (is_blank_start b || eqb b 44) (eqb b 58) q.0 in
-    let s = or_parts (is_blank_start b) (eqb b 44) r.0 in
-    record { blank = s.0; comma = s.1; colon = r.1; bracket = q.1; brace = p.1 }
+    let p = or_parts (is_whitespace_start b || eqb b 44 || eqb b 58 || eqb b 93) (eqb b 125) e in
+    let q = or_parts (is_whitespace_start b || eqb b 44 || eqb b 58) (eqb b 93) p.0 in
+    let r = or_parts (is_whitespace_start b || eqb b 44) (eqb b 58) q.0 in
+    let s = or_parts (is_whitespace_start b) (eqb b 44) r.0 in
+    record { piece = s.0; comma = s.1; colon = r.1; bracket = q.1; brace = p.1 }
 
 -- what holds of each byte that may follow a value
 pub break_is : (b : ℕ) → is_break b ≡ true → (P : ℕ → Type 0) → P 32 → P 9 → P 10 → P 12 → P 13 → P 92 → P 47 → P 44 → P 58 → P 93 → P 125 → P b
 break_is b e P p32 p9 p10 p12 p13 p92 p47 p44 p58 p93 p125 =
-    or (is_blank_start b || eqb b 44 || eqb b 58 || eqb b 93) 125 e p125 (λ f.
-    or (is_blank_start b || eqb b 44 || eqb b 58) 93 f p93 (λ g.
-    or (is_blank_start b || eqb b 44) 58 g p58 (λ h.
-    or (is_blank_start b) 44 h p44 (λ i.
+    or (is_whitespace_start b || eqb b 44 || eqb b 58 || eqb b 93) 125 e p125 (λ f.
+    or (is_whitespace_start b || eqb b 44 || eqb b 58) 93 f p93 (λ g.
+    or (is_whitespace_start b || eqb b 44) 58 g p58 (λ h.
+    or (is_whitespace_start b) 44 h p44 (λ i.
     or (eqb b 32 || eqb b 9 || eqb b 10 || eqb b 12 || eqb b 13 || eqb b 92) 47 i p47 (λ j.
     or (eqb b 32 || eqb b 9 || eqb b 10 || eqb b 12 || eqb b 13) 92 j p92 (λ k.
     or (eqb b 32 || eqb b 9 || eqb b 10 || eqb b 12) 13 k p13 (λ l.
@@ -67,22 +67,22 @@ break_is b e P p32 p9 p10 p12 p13 p92 p47 p44 p58 p93 p125 =
 pub ends_at : (b : ℕ) (bytes : List ℕ) → is_break b ≡ true → Ends (b ∷ bytes)
 ends_at b bytes e = record { first = b; others = bytes; whole = refl; is_end = e }
 
-pub ends-blank : {mode : Mode} {blank : List ℕ} (b : IsBlank mode blank) (rest : List ℕ) → Ends (blank ++ rest)
-ends-blank space rest = ends_at 32 rest refl
-ends-blank tab rest = ends_at 9 rest refl
-ends-blank line_feed rest = ends_at 10 rest refl
-ends-blank form_feed rest = ends_at 12 rest refl
-ends-blank carriage_return rest = ends_at 13 rest refl
-ends-blank written_line_feed rest = ends_at 92 (110 ∷ rest) refl
-ends-blank written_carriage_return rest = ends_at 92 (114 ∷ rest) refl
-ends-blank written_tab rest = ends_at 92 (116 ∷ rest) refl
-ends-blank written_form_feed rest = ends_at 92 (120 ∷ 48 ∷ 67 ∷ rest) refl
-ends-blank (block_comment inside is lacks) rest = ends_at 47 (42 ∷ ((inside ++ 42 ∷ 47 ∷ []) ++ rest)) refl
-ends-blank (line_comment inside last is one ends) rest = ends_at 47 (47 ∷ ((inside ++ last ∷ []) ++ rest)) refl
+pub ends-piece : {mode : Mode} {piece : List ℕ} (b : IsWhitespacePiece mode piece) (rest : List ℕ) → Ends (piece ++ rest)
+ends-piece space rest = ends_at 32 rest refl
+ends-piece tab rest = ends_at 9 rest refl
+ends-piece line_feed rest = ends_at 10 rest refl
+ends-piece form_feed rest = ends_at 12 rest refl
+ends-piece carriage_return rest = ends_at 13 rest refl
+ends-piece written_line_feed rest = ends_at 92 (110 ∷ rest) refl
+ends-piece written_carriage_return rest = ends_at 92 (114 ∷ rest) refl
+ends-piece written_tab rest = ends_at 92 (116 ∷ rest) refl
+ends-piece written_form_feed rest = ends_at 92 (120 ∷ 48 ∷ 67 ∷ rest) refl
+ends-piece (block_comment inside is lacks) rest = ends_at 47 (42 ∷ ((inside ++ 42 ∷ 47 ∷ []) ++ rest)) refl
+ends-piece (line_comment inside last is one ends) rest = ends_at 47 (47 ∷ ((inside ++ last ∷ []) ++ rest)) refl
 
-pub ends-blanks : {mode : Mode} {before : List ℕ} (b : IsBlanks mode before) (rest : List ℕ) → Ends rest → Ends (before ++ rest)
-ends-blanks no_blanks rest h = h
-ends-blanks (more_blanks {blank = blank} {rest = others} b bs) rest h = subst Ends (sym (append_assoc blank others rest)) (ends-blank b (others ++ rest))
+pub ends-whitespace : {mode : Mode} {before : List ℕ} (b : IsWhitespace mode before) (rest : List ℕ) → Ends rest → Ends (before ++ rest)
+ends-whitespace no_whitespace rest h = h
+ends-whitespace (more_whitespace {piece = piece} {rest = others} b bs) rest h = subst Ends (sym (append_assoc piece others rest)) (ends-piece b (others ++ rest))
 
 -- ---- readers
 
@@ -95,7 +95,7 @@ pub record Spelled {A : Type 0} (Spells : List ℕ → A → Type 0) (bytes : Li
 abbrev pub IsSound : {A : Type 0} → (List ℕ → A → Type 0) → (List ℕ → Read A) → Type 0
 IsSound {A} Spells read = (bytes : List ℕ) (a : A) (rest : List ℕ) → read bytes ≡ Ok (a, rest) → Spelled Spells bytes a rest
 
--- What is read, where bytes are left behind it, is a spelling: at the end of the bytes what is passed may be no blank.
+-- What is read, where bytes are left behind it, is a spelling: at the end of the bytes what is passed may be no whitespace.
 abbrev pub IsSoundBefore : {A : Type 0} → (List ℕ → A → Type 0) → (List ℕ → Read A) → Type 0
 IsSoundBefore {A} Spells read = (bytes : List ℕ) (a : A) (rest : List ℕ) → read bytes ≡ Ok (a, rest) → 0 < length rest → Spelled Spells bytes a rest
 
@@ -122,39 +122,39 @@ module _ {A F : Type 0} (view : F → A) (Spells : List ℕ → A → Type 0) wh
   joined_seen (one_part s) = one_part s
   joined_seen (more_parts s j) = more_parts s (joined_seen j)
 
--- ---- blanks round what is read
+-- ---- whitespace round what is read
 
 pub starts-append : (core rest : List ℕ) → Starts core → Starts (core ++ rest)
 starts-append core rest s = record { first = s.first; others = s.others ++ rest; whole = ap (λ (t : List ℕ). t ++ rest) s.whole; is_start = s.is_start }
 
-pub skip-starts : (mode : Mode) (bytes : List ℕ) → Starts bytes → skip_blanks mode bytes ≡ bytes
-skip-starts mode bytes s = ap (λ (t : List ℕ). skip_blanks mode t) s.whole ∙ skip-stop mode s.first s.others (other s.first s.is_start).blank ∙ sym s.whole
+pub skip-starts : (mode : Mode) (bytes : List ℕ) → Starts bytes → skip_whitespace mode bytes ≡ bytes
+skip-starts mode bytes s = ap (λ (t : List ℕ). skip_whitespace mode t) s.whole ∙ skip-stop mode s.first s.others (other s.first s.is_start).piece ∙ sym s.whole
 
 module _ {A : Type 0} (mode : Mode) (Spells : List ℕ → A → Type 0) (read : List ℕ → Read A) where
   pub padded_sound : IsSound Spells read → IsSoundBefore (IsPadded mode Spells) (padded_at mode read)
   padded_sound sound bytes a rest e left =
-      let b = bind_ok (read (skip_blanks mode bytes)) (λ (x : A × List ℕ). Ok (x.0, skip_blanks mode x.1)) (a, rest) e in
-      let same = same_read b.0.0 a (skip_blanks mode b.0.1) rest b.2 in
+      let b = bind_ok (read (skip_whitespace mode bytes)) (λ (x : A × List ℕ). Ok (x.0, skip_whitespace mode x.1)) (a, rest) e in
+      let same = same_read b.0.0 a (skip_whitespace mode b.0.1) rest b.2 in
       let back = skips mode b.0.1 (omega (arith, left, ap length same.rest)) in
-      let s = sound (skip_blanks mode bytes) b.0.0 b.0.1 b.1 in
-      let front = skips mode bytes (omega (arith, left, ap length same.rest, ap length back.whole, ap length s.whole, length-append s.core b.0.1, length-append back.blanks (skip_blanks mode b.0.1))) in
-      let regrouped : bytes ≡ (front.blanks ++ (s.core ++ back.blanks)) ++ skip_blanks mode b.0.1 =
-      front.whole ∙ ap (λ (t : List ℕ). front.blanks ++ t) (s.whole ∙ ap (λ (t : List ℕ). s.core ++ t) back.whole ∙ sym (append_assoc s.core back.blanks (skip_blanks mode b.0.1)))
-      ∙ sym (append_assoc front.blanks (s.core ++ back.blanks) (skip_blanks mode b.0.1)) in
+      let s = sound (skip_whitespace mode bytes) b.0.0 b.0.1 b.1 in
+      let front = skips mode bytes (omega (arith, left, ap length same.rest, ap length back.whole, ap length s.whole, length-append s.core b.0.1, length-append back.whitespace (skip_whitespace mode b.0.1))) in
+      let regrouped : bytes ≡ (front.whitespace ++ (s.core ++ back.whitespace)) ++ skip_whitespace mode b.0.1 =
+      front.whole ∙ ap (λ (t : List ℕ). front.whitespace ++ t) (s.whole ∙ ap (λ (t : List ℕ). s.core ++ t) back.whole ∙ sym (append_assoc s.core back.whitespace (skip_whitespace mode b.0.1)))
+      ∙ sym (append_assoc front.whitespace (s.core ++ back.whitespace) (skip_whitespace mode b.0.1)) in
       record {
-        core = front.blanks ++ (s.core ++ back.blanks);
-        spells = subst (λ (v : A). IsPadded mode Spells (front.blanks ++ (s.core ++ back.blanks)) v) same.value (padded front.are_blanks s.spells back.are_blanks);
-        whole = subst (λ (t : List ℕ). bytes ≡ (front.blanks ++ (s.core ++ back.blanks)) ++ t) same.rest regrouped;
+        core = front.whitespace ++ (s.core ++ back.whitespace);
+        spells = subst (λ (v : A). IsPadded mode Spells (front.whitespace ++ (s.core ++ back.whitespace)) v) same.value (padded front.is_whitespace s.spells back.is_whitespace);
+        whole = subst (λ (t : List ℕ). bytes ≡ (front.whitespace ++ (s.core ++ back.whitespace)) ++ t) same.rest regrouped;
       }
 
 module _ {A : Type 0} (mode : Mode) (Spells : List ℕ → A → Type 0) where
-  -- the bytes of a padded value after the blanks before it
+  -- the bytes of a padded value after the whitespace before it
   pub record Padded (bytes : List ℕ) (a : A) (rest : List ℕ) : Type 0 where
     pub core : List ℕ
     pub after : List ℕ
     pub spells : Spells core a
-    pub are_blanks : IsBlanks mode after
-    pub skipped : skip_blanks mode (bytes ++ rest) ≡ core ++ (after ++ rest)
+    pub is_whitespace : IsWhitespace mode after
+    pub skipped : skip_whitespace mode (bytes ++ rest) ≡ core ++ (after ++ rest)
 
   pub skip-padded : ((core : List ℕ) (a : A) → Spells core a → Starts core) → (bytes : List ℕ) (a : A) (rest : List ℕ) → IsPadded mode Spells bytes a → Padded bytes a rest
   skip-padded starts bytes a rest (padded {before = before} {core = core} {after = after} b s c) =
@@ -162,23 +162,23 @@ module _ {A : Type 0} (mode : Mode) (Spells : List ℕ → A → Type 0) where
         core = core;
         after = after;
         spells = s;
-        are_blanks = c;
+        is_whitespace = c;
         skipped =
-            ap (λ (t : List ℕ). skip_blanks mode t) (append_assoc before (core ++ after) rest) ∙ skip-blanks b ((core ++ after) ++ rest)
-            ∙ ap (λ (t : List ℕ). skip_blanks mode t) (append_assoc core after rest) ∙ skip-starts mode (core ++ (after ++ rest)) (starts-append core (after ++ rest) (starts core a s));
+            ap (λ (t : List ℕ). skip_whitespace mode t) (append_assoc before (core ++ after) rest) ∙ skip-whitespace b ((core ++ after) ++ rest)
+            ∙ ap (λ (t : List ℕ). skip_whitespace mode t) (append_assoc core after rest) ∙ skip-starts mode (core ++ (after ++ rest)) (starts-append core (after ++ rest) (starts core a s));
       }
 
 module _ {A F : Type 0} (view : F → A) (mode : Mode) (Spells : List ℕ → A → Type 0) (read : List ℕ → Read F) where
-  pub padded_complete : IsShown view Spells read → (bytes : List ℕ) (a : A) (c : ℕ) (rest : List ℕ) → IsPadded mode Spells bytes a → is_break c ≡ true → is_blank_start c ≡ false
+  pub padded_complete : IsShown view Spells read → (bytes : List ℕ) (a : A) (c : ℕ) (rest : List ℕ) → IsPadded mode Spells bytes a → is_break c ≡ true → is_whitespace_start c ≡ false
       → (f : F) × (view f ≡ a) × (padded_at mode read (bytes ++ c ∷ rest) ≡ Ok (f, c ∷ rest))
   padded_complete complete bytes a c rest p is_end is_none =
       let s = skip-padded mode Spells complete.starts bytes a (c ∷ rest) p in
-      let r = complete.reads s.core a (s.after ++ c ∷ rest) s.spells (ends-blanks s.are_blanks (c ∷ rest) (ends_at c rest is_end)) in
-      let k : skip_blanks mode (s.after ++ c ∷ rest) ≡ c ∷ rest = skip-blanks s.are_blanks (c ∷ rest) ∙ skip-stop mode c rest is_none in (
+      let r = complete.reads s.core a (s.after ++ c ∷ rest) s.spells (ends-whitespace s.is_whitespace (c ∷ rest) (ends_at c rest is_end)) in
+      let k : skip_whitespace mode (s.after ++ c ∷ rest) ≡ c ∷ rest = skip-whitespace s.is_whitespace (c ∷ rest) ∙ skip-stop mode c rest is_none in (
         r.0,
         r.1,
-        ap (λ (t : List ℕ). read t >>= λ (x : F × List ℕ). Ok (x.0, skip_blanks mode x.1)) s.skipped
-            ∙ ap (λ (q : Read F). q >>= λ (x : F × List ℕ). Ok (x.0, skip_blanks mode x.1)) r.2
+        ap (λ (t : List ℕ). read t >>= λ (x : F × List ℕ). Ok (x.0, skip_whitespace mode x.1)) s.skipped
+            ∙ ap (λ (q : Read F). q >>= λ (x : F × List ℕ). Ok (x.0, skip_whitespace mode x.1)) r.2
             ∙ ap (λ (t : List ℕ). Ok (r.0, t)) k,
       )
 
@@ -272,8 +272,8 @@ module _ {A : Type 0} (size : ℕ) (code : Code) (close : ℕ) (Spells : List �
             ]
       ]
 
-  -- blanks before the first part are passed by its reader
-  pub joined-skip : (mode : Mode) → ((bytes : List ℕ) → part (skip_blanks mode bytes) ≡ part bytes) → (n : ℕ) (bytes : List ℕ) → joined_at size code close part n (skip_blanks mode bytes) ≡ joined_at size code close part n bytes
+  -- whitespace before the first part are passed by its reader
+  pub joined-skip : (mode : Mode) → ((bytes : List ℕ) → part (skip_whitespace mode bytes) ≡ part bytes) → (n : ℕ) (bytes : List ℕ) → joined_at size code close part n (skip_whitespace mode bytes) ≡ joined_at size code close part n bytes
   unfolding joined_at
   joined-skip mode same zero bytes = refl
   joined-skip mode same (suc n) bytes = ap (λ (r : Read A). r >>= λ (x : A × List ℕ). after_part size code close part (joined_at size code close part n) x.0 x.1) (same bytes)

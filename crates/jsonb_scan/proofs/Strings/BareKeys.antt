@@ -13,7 +13,7 @@ use Rattle.jsonb_spec.specs.Code.{invalid_eof, invalid_string_value, object_key_
 use Rattle.jsonb_spec.specs.Tree.{Mark, plain}
 use Rattle.jsonb_scan.specs.Reading.{Read, fault}
 use Rattle.jsonb_scan.specs.Reading.BareKey.{bare_key_at, is_key_ascii, key_chosen, key_end, key_from, key_step, key_to, text_key}
-use Rattle.jsonb_scan.specs.Reading.Blank.{is_break}
+use Rattle.jsonb_scan.specs.Reading.Whitespace.{is_break}
 use Rattle.jsonb_scan.specs.Reading.String.{further}
 use Rattle.jsonb_scan.proofs.Steps.Tests.{chosen, same_read}
 use Rattle.jsonb_scan.proofs.Containers.JoinedParts.{break_is}

@@ -3,9 +3,9 @@ use Rattle.std.proofs.Common.{◌≡◌, ℕ, zero, suc, ◌+◌, ◌<◌, ◌�
 use Rattle.std.proofs.lemmas.Bool.{cases_Bool, cases_eq, cond-false, cond-true, or_cases, and_parts}
 use Rattle.std.proofs.lemmas.List.{drop_more, length-drop}
 use Rattle.memchr.specs.Find.{is_byte2}
-use Rattle.jsonb_spec.specs.Grammar.Blanks.{EndsLine, IsOneLine, LacksCommentEnd}
+use Rattle.jsonb_spec.specs.Grammar.Whitespace.{EndsLine, IsOneLine, LacksCommentEnd}
 use Rattle.jsonb_scan.specs.Reading.{begins}
-use Rattle.jsonb_scan.specs.Reading.Blank.{longer_by, block_length, line_length}
+use Rattle.jsonb_scan.specs.Reading.Whitespace.{longer_by, block_length, line_length}
 use Rattle.jsonb_scan.proofs.Steps.Tests.{chosen}
 
 -- ---- lengths

@@ -6,7 +6,7 @@ use Rattle.jsonb_spec.specs.Tree.{Mark}
 use Rattle.jsonb_spec.specs.Code.{Code, invalid_eof, expected_colon, expected_array_comma_or_end, expected_object_comma_or_end, object_duplicate_key}
 use Rattle.jsonb_spec.specs.Source.{Source, null_source, array_source, object_source, no_sources, no_source_members, Found, Spot, found, spot_of, first_repeat, array_source_of, object_source_of}
 use Rattle.jsonb_scan.specs.Reading.{Read, ◌>>=◌, on_byte, fault, rejected}
-use Rattle.jsonb_scan.specs.Reading.Blank.{skip_blanks}
+use Rattle.jsonb_scan.specs.Reading.Whitespace.{skip_whitespace}
 use Rattle.jsonb_scan.specs.Reading.Scalar.{key_at}
 
 -- ---- parts joined by commas, up to the closing byte
@@ -22,9 +22,9 @@ module _ {A : Type 0} (size : ℕ) (code : Code) (close : ℕ) (part : List ℕ 
   joined_at zero bytes = fault invalid_eof size
   joined_at (suc turns) bytes = part bytes >>= λ x. after_part (joined_at turns) x.0 x.1
 
--- what is read, with the blanks round it passed
+-- what is read, with the whitespace round it passed
 abbrev pub padded_at : {A : Type 0} → Mode → (List ℕ → Read A) → List ℕ → Read A
-padded_at mode read bytes = read (skip_blanks mode bytes) >>= λ x. Ok (x.0, skip_blanks mode x.1)
+padded_at mode read bytes = read (skip_whitespace mode bytes) >>= λ x. Ok (x.0, skip_whitespace mode x.1)
 
 -- ---- arrays
 
@@ -46,12 +46,12 @@ element_at mode value = padded_at mode (value_or_null mode value)
 abbrev pub elements_at : ℕ → Mode → (List ℕ → Read Source) → List ℕ → Read Source
 elements_at size mode value bytes =
     joined_at size expected_array_comma_or_end ascii.close_bracket (element_at mode value) (suc (length bytes))
-    (skip_blanks mode bytes) >>= λ x. Ok (array_source_of x.0, x.1)
+    (skip_whitespace mode bytes) >>= λ x. Ok (array_source_of x.0, x.1)
 
 -- an array, from the byte after the bracket on
 abbrev pub array_at : ℕ → Mode → (List ℕ → Read Source) → List ℕ → Read Source
 array_at size mode value bytes =
-    on_byte ascii.close_bracket (skip_blanks mode bytes) (λ rest. Ok (array_source no_sources, rest))
+    on_byte ascii.close_bracket (skip_whitespace mode bytes) (λ rest. Ok (array_source no_sources, rest))
     (elements_at size mode value bytes)
 
 -- ---- objects
@@ -66,8 +66,8 @@ after_key size mode value key place bytes =
 
 abbrev pub member_at : ℕ → Mode → (List ℕ → Read Source) → List ℕ → Read Found
 member_at size mode value bytes =
-    key_at size mode (skip_blanks mode bytes) >>= λ k. after_key size mode value k.0 (size - length k.1)
-    (skip_blanks mode k.1)
+    key_at size mode (skip_whitespace mode bytes) >>= λ k. after_key size mode value k.0 (size - length k.1)
+    (skip_whitespace mode k.1)
 
 abbrev pub object_or_fault : Option Spot → List Found → List ℕ → Read Source
 object_or_fault None fs rest = Ok (object_source_of fs, rest)
@@ -76,10 +76,10 @@ object_or_fault (Some s) fs rest = fault (object_duplicate_key s.key) s.place
 abbrev pub members_at : ℕ → Mode → (List ℕ → Read Source) → List ℕ → Read Source
 members_at size mode value bytes =
     joined_at size expected_object_comma_or_end ascii.close_brace (member_at size mode value) (suc (length bytes))
-    (skip_blanks mode bytes) >>= λ x. object_or_fault (first_repeat (map spot_of x.0)) x.0 x.1
+    (skip_whitespace mode bytes) >>= λ x. object_or_fault (first_repeat (map spot_of x.0)) x.0 x.1
 
 -- an object, from the byte after the brace on
 abbrev pub object_at : ℕ → Mode → (List ℕ → Read Source) → List ℕ → Read Source
 object_at size mode value bytes =
-    on_byte ascii.close_brace (skip_blanks mode bytes) (λ rest. Ok (object_source no_source_members, rest))
+    on_byte ascii.close_brace (skip_whitespace mode bytes) (λ rest. Ok (object_source no_source_members, rest))
     (members_at size mode value bytes)

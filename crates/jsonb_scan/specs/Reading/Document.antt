@@ -7,7 +7,7 @@ use Rattle.jsonb_spec.specs.Code.{invalid_eof, unexpected_trailing_characters, d
 use Rattle.jsonb_spec.specs.Grammar.{max_depth}
 use Rattle.jsonb_spec.specs.Source.{Source, null_source, source_alone, tree_of_source}
 use Rattle.jsonb_scan.specs.Reading.{Fault, Read, ◌>>=◌, on_byte, begins, fault}
-use Rattle.jsonb_scan.specs.Reading.Blank.{opens_comment, skip_closed_blanks}
+use Rattle.jsonb_scan.specs.Reading.Whitespace.{opens_comment, skip_closed_whitespace}
 use Rattle.jsonb_scan.specs.Reading.Scalar.{scalar_at}
 use Rattle.jsonb_scan.specs.Reading.Container.{array_at, object_at}
 
@@ -39,15 +39,15 @@ at_end size mode s [] = Ok s
 at_end size mode s (b ∷ bytes) = if opens_comment mode (b ∷ bytes) then comment_at size s bytes
     else fault unexpected_trailing_characters (size - length (b ∷ bytes) + 1)
 
--- a text of blanks alone
+-- a text of whitespace alone
 abbrev pub nothing_at : ℕ → Mode → Result Source Fault
 nothing_at size standard = fault invalid_eof size
 nothing_at size extended = Ok null_source
 
--- a value with blanks after it, up to the end of the text
+-- a value with whitespace after it, up to the end of the text
 abbrev pub value_to_end : ℕ → Mode → List ℕ → Result Source Fault
 value_to_end size mode bytes =
-    value_at size mode max_depth bytes >>= λ x. at_end size mode x.0 (skip_closed_blanks mode x.1)
+    value_at size mode max_depth bytes >>= λ x. at_end size mode x.0 (skip_closed_whitespace mode x.1)
 
 abbrev pub source_from : ℕ → Mode → List ℕ → Result Source Fault
 source_from size mode [] = nothing_at size mode
@@ -56,7 +56,7 @@ source_from size mode (b ∷ bytes) = if opens_comment mode (b ∷ bytes) then c
 
 -- the source of a whole text
 unfoldable pub source_of : Mode → List ℕ → Result Source Fault
-source_of mode bytes = source_from (length bytes) mode (skip_closed_blanks mode bytes)
+source_of mode bytes = source_from (length bytes) mode (skip_closed_whitespace mode bytes)
 
 -- the tree of a whole text
 unfoldable pub document_of : Mode → List ℕ → Result Tree Fault

@@ -7,7 +7,7 @@ use Rattle.std.specs.Fmt.{sign_text, signed_decimal, decimal}
 use Rattle.std.specs.Fmt.Cut.{cut_to}
 use Rattle.std.proofs.lemmas.Int.{ints}
 use Rattle.std.specs.Int.{w32, is_negative}
-use Rattle.jsonb_spec.specs.Text.IntervalText.{amount_text, microseconds_text, clock_text, time_text, with_blank, beside, interval_text}
+use Rattle.jsonb_spec.specs.Text.IntervalText.{amount_text, microseconds_text, clock_text, time_text, with_piece, beside, interval_text}
 use Rattle.jsonb_spec.specs.Text.NumberText.{zero_padded}
 
 -- a text that fits is not cut
@@ -28,22 +28,22 @@ appended_whole n old part now within to_end room =
 pub zeros_taken : (k : ℕ) → k ≤ 6 → slice_range (codes "000000") 0 k ≡ replicate k 48
 zeros_taken k h = let whole : k - 0 ≡ k = omega arith in rw whole (take-replicate k 6 48 h)
 
-pub with_blank-none : (text : List ℕ) → length text ≡ 0 → text ≡ with_blank text
-unfolding with_blank
-with_blank-none [] h = refl
-with_blank-none (b ∷ text) h = absurd (omega arith)
+pub with_piece-none : (text : List ℕ) → length text ≡ 0 → text ≡ with_piece text
+unfolding with_piece
+with_piece-none [] h = refl
+with_piece-none (b ∷ text) h = absurd (omega arith)
 
-pub with_blank-some : (text : List ℕ) → length text ≢ 0 → text ++ 32 ∷ [] ≡ with_blank text
-unfolding with_blank
-with_blank-some [] h = absurd (h refl)
-with_blank-some (b ∷ text) h = refl
+pub with_piece-some : (text : List ℕ) → length text ≢ 0 → text ++ 32 ∷ [] ≡ with_piece text
+unfolding with_piece
+with_piece-some [] h = absurd (h refl)
+with_piece-some (b ∷ text) h = refl
 
-pub length-with_blank : (text : List ℕ) → length (with_blank text) ≤ length text + 1
-unfolding with_blank
-length-with_blank [] = omega arith
-length-with_blank (b ∷ text) = omega (arith, length-append text (32 ∷ []))
+pub length-with_piece : (text : List ℕ) → length (with_piece text) ≤ length text + 1
+unfolding with_piece
+length-with_piece [] = omega arith
+length-with_piece (b ∷ text) = omega (arith, length-append text (32 ∷ []))
 
-beside-some : (before text : List ℕ) → 0 < length text → beside before text ≡ with_blank before ++ text
+beside-some : (before text : List ℕ) → 0 < length text → beside before text ≡ with_piece before ++ text
 unfolding beside
 beside-some before [] h = absurd (omega arith)
 beside-some before (c ∷ text) h = refl
@@ -54,7 +54,7 @@ beside-none before [] h = refl
 beside-none before (c ∷ text) h = cc h
 
 beside-first : (text : List ℕ) → beside [] text ≡ text
-unfolding beside with_blank
+unfolding beside with_piece
 beside-first [] = refl
 beside-first (c ∷ text) = refl
 
@@ -73,11 +73,11 @@ amount_text-is a name h = cond-false (unsigned_abs a == 0) _ _ (ne_eqb (unsigned
 
 -- an amount that is there, with the unit's plural or not
 pub beside_amount : (before : List ℕ) (a : ℤ) (name last now : List ℕ) → unsigned_abs a ≢ 0 → ending (unsigned_abs a) ≡ last
-    → now ≡ (((with_blank before ++ signed_decimal a) ++ 32 ∷ []) ++ name) ++ last → now ≡ beside before (amount_text a name)
+    → now ≡ (((with_piece before ++ signed_decimal a) ++ 32 ∷ []) ++ name) ++ last → now ≡ beside before (amount_text a name)
 beside_amount before a name last now h e w =
     let is : amount_text a name ≡ signed_decimal a ++ 32 ∷ name ++ last = amount_text-is a name h ∙ ap (λ s. signed_decimal a ++ 32 ∷ name ++ s) e in
     let some : 0 < length (amount_text a name) = omega (arith, ap length is, length-append (signed_decimal a ++ 32 ∷ name) last, length-append (signed_decimal a) (32 ∷ name)) in
-    w ∙ sym (beside-some before (amount_text a name) some ∙ ap (λ t. with_blank before ++ t) is ∙ simp append_assoc)
+    w ∙ sym (beside-some before (amount_text a name) some ∙ ap (λ t. with_piece before ++ t) is ∙ simp append_assoc)
 
 pub one_ends : (n : ℕ) → n ≡ 1 → ending n ≡ []
 one_ends n h = cond-true (n == 1) _ _ (eq-eqb n 1 h)
@@ -123,11 +123,11 @@ clock_text-some micros =
 
 -- a time that is there
 pub beside_time : (before : List ℕ) (micros : ℤ) (now : List ℕ) → unsigned_abs micros ≢ 0
-    → now ≡ (with_blank before ++ sign_text (is_negative micros)) ++ clock_text (unsigned_abs micros) → now ≡ beside before (time_text micros)
+    → now ≡ (with_piece before ++ sign_text (is_negative micros)) ++ clock_text (unsigned_abs micros) → now ≡ beside before (time_text micros)
 beside_time before micros now h w =
     let is = time_text-is micros h in
     let some : 0 < length (time_text micros) = omega (arith, ap length is, length-append (sign_text (is_negative micros)) (clock_text (unsigned_abs micros)), clock_text-some (unsigned_abs micros)) in
-    w ∙ append_assoc (with_blank before) (sign_text (is_negative micros)) (clock_text (unsigned_abs micros)) ∙ sym (beside-some before (time_text micros) some ∙ ap (λ t. with_blank before ++ t) is)
+    w ∙ append_assoc (with_piece before) (sign_text (is_negative micros)) (clock_text (unsigned_abs micros)) ∙ sym (beside-some before (time_text micros) some ∙ ap (λ t. with_piece before ++ t) is)
 
 -- the two cases of the whole text
 pub interval_text-none : (months days micros : ℤ) → unsigned_abs months ≡ 0 → unsigned_abs days ≡ 0 → unsigned_abs micros ≡ 0 → interval_text months days micros ≡ codes "00:00:00"

@@ -9,7 +9,7 @@ use Rattle.std.proofs.lemmas.Bool.{and_parts, and_from}
 use Rattle.jsonb_spec.specs.Mode.{Mode}
 use Rattle.jsonb_spec.specs.Tree.{Tree, Members, no_members, more_members, Member, trees_of, put, put_all}
 use Rattle.jsonb_spec.specs.Grammar.Scalar.{IsScalar, literal_value, string_value, number_value, null_word, true_word, false_word}
-use Rattle.jsonb_spec.specs.Grammar.{IsPadded, padded, IsJoined, one_part, more_parts, IsElement, whole_element, empty_element, IsMember, key_and_value, IsValue, scalar, empty_array, full_array, empty_object, full_object, Derives, max_depth, IsDocument, value_alone, blanks_alone}
+use Rattle.jsonb_spec.specs.Grammar.{IsPadded, padded, IsJoined, one_part, more_parts, IsElement, whole_element, empty_element, IsMember, key_and_value, IsValue, scalar, empty_array, full_array, empty_object, full_object, Derives, max_depth, IsDocument, value_alone, whitespace_alone}
 use Rattle.jsonb_spec.specs.Text.{has_text, items_have_texts, members_have_texts, tree_text, text_of}
 
 -- ---- items and members
@@ -83,7 +83,7 @@ text_of-has_text t h = ap (λ b. if b then Some (tree_text t) else None) h
 pub document_has_text : (mode : Mode) (bytes : List ℕ) (t : Tree) → IsDocument mode bytes t → IsSome (text_of t)
 document_has_text mode bytes t (value_alone {core = core} before d after) =
     subst IsSome (sym (text_of-has_text t (derived_has_text mode max_depth core t d))) refl
-document_has_text mode bytes t (blanks_alone m _) = refl
+document_has_text mode bytes t (whitespace_alone m _) = refl
 
 -- a tree that has a text has this one
 pub some_text : (t : Tree) → IsSome (text_of t) → text_of t ≡ Some (tree_text t)

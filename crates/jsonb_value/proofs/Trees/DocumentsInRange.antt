@@ -6,7 +6,7 @@ use Rattle.std.specs.Ordering.{nat_cmp, ordering_reverse, match_ordering}
 use Rattle.std.specs.Char.{IsScalar as IsCharacter, encode_utf8}
 use Rattle.std.specs.Str.{IsUtf8, encode_utf8_all}
 use Rattle.std.proofs.lemmas.Str.{IsUtf8-nil, IsUtf8-append, IsUtf8-encode}
-use Rattle.jsonb_spec.specs.Grammar.{IsPadded, padded, IsElement, whole_element, empty_element, IsMember, key_and_value, IsValue, scalar, empty_array, full_array, empty_object, full_object, Derives, max_depth, IsDocument, value_alone, blanks_alone}
+use Rattle.jsonb_spec.specs.Grammar.{IsPadded, padded, IsElement, whole_element, empty_element, IsMember, key_and_value, IsValue, scalar, empty_array, full_array, empty_object, full_object, Derives, max_depth, IsDocument, value_alone, whitespace_alone}
 use Rattle.jsonb_spec.specs.Keys.{IsBelowKeys, KeysAscend}
 use Rattle.jsonb_spec.specs.Mode.{Mode, standard, extended}
 use Rattle.jsonb_spec.specs.Proper.{IsProperNumber, IsProper, AreProper, HaveProperParts}
@@ -134,7 +134,7 @@ module _ (mode : Mode) (IsIn : Num → Type 0) (is_in : (bytes : List ℕ) (n : 
 
   pub document_holds : HoldsOf max_depth (IsDocument mode)
   document_holds bytes t (value_alone {core = core} before d after) = derived_holds max_depth core t d
-  document_holds bytes t (blanks_alone m _) = (tt, tt)
+  document_holds bytes t (whitespace_alone m _) = (tt, tt)
 
 -- ---- documents
 

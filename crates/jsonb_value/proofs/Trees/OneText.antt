@@ -119,7 +119,7 @@ first_of_tree (array ts) depth w = record { first = 91; rest = with_commas (item
 first_of_tree (object ms) depth w = record { first = 123; rest = with_commas (member_texts ms) ++ 125 ∷ []; joined = refl; is = refl }
 first_of_tree t depth w = absurd w
 
--- no tree's text begins with a byte that closes a container, with a comma, with a blank or with a backslash
+-- no tree's text begins with a byte that closes a container, with a comma, with whitespace or with a backslash
 abbrev pub IsTextByte : ℕ → Type 0
 IsTextByte b = (32 < b) × (b ≢ 44) × (b ≢ 47) × (b ≢ 92) × (b ≢ 93) × (b ≢ 125)
 

@@ -12,9 +12,9 @@ use Rattle.std.specs.Str.Parse.{AllDigits, digits_value}
 use Rattle.std.proofs.lemmas.Bool.{cases_eq}
 use Rattle.std.proofs.lemmas.Fmt.{decimal-digits_value, length-decimal-le}
 use Rattle.std.proofs.lemmas.List.{nil_from_length}
-use Rattle.jsonb_spec.specs.Grammar.Blanks.{IsBlank, space, tab, line_feed, form_feed, carriage_return, written_line_feed, written_carriage_return, written_tab, written_form_feed, block_comment, line_comment, IsBlanks, no_blanks, more_blanks, AreLastBlanks, blanks_to_end, line_to_end}
+use Rattle.jsonb_spec.specs.Grammar.Whitespace.{IsWhitespacePiece, space, tab, line_feed, form_feed, carriage_return, written_line_feed, written_carriage_return, written_tab, written_form_feed, block_comment, line_comment, IsWhitespace, no_whitespace, more_whitespace, IsLastWhitespace, whitespace_to_end, line_to_end}
 use Rattle.jsonb_spec.specs.Grammar.ExtendedNumber.{is_minus, decimal_number}
-use Rattle.jsonb_spec.specs.Grammar.{IsPadded, padded, IsJoined, one_part, more_parts, IsElement, whole_element, empty_element, IsMember, key_and_value, AreDistinct, IsValue, scalar, empty_array, full_array, empty_object, full_object, Derives, max_depth, IsDocument, value_alone, blanks_alone}
+use Rattle.jsonb_spec.specs.Grammar.{IsPadded, padded, IsJoined, one_part, more_parts, IsElement, whole_element, empty_element, IsMember, key_and_value, AreDistinct, IsValue, scalar, empty_array, full_array, empty_object, full_object, Derives, max_depth, IsDocument, value_alone, whitespace_alone}
 use Rattle.jsonb_spec.specs.Mode.{standard, extended}
 use Rattle.jsonb_spec.specs.Order.{bytes_cmp, tree_cmp, trees_cmp, members_cmp, Same}
 use Rattle.jsonb_value.specs.Order.Laws.{tree_cmp_total}
@@ -30,98 +30,98 @@ use Rattle.jsonb_value.proofs.Numbers.InRange.{decimals}
 use Rattle.jsonb_value.proofs.Numbers.Texts.{IsDigit, Begins, begun, digit_bytes}
 use Rattle.jsonb_value.proofs.Trees.OneText.{same_numbers, same_bytes, both_equal, IsTextByte}
 use Rattle.jsonb_value.proofs.Trees.Runs.{heads}
-use Rattle.jsonb_value.proofs.Trees.TextsReadBack.{SpellsSameNumber, no_blanks_alone}
+use Rattle.jsonb_value.proofs.Trees.TextsReadBack.{SpellsSameNumber, no_whitespace_alone}
 
 -- the modes differ
 two_modes : {A : Type 0} → standard ≡ extended → A
 two_modes e = cc
 
--- ---- blanks
+-- ---- whitespace
 
-wider_blank : (blank : List ℕ) → IsBlank standard blank → IsBlank extended blank
-wider_blank blank space = space
-wider_blank blank tab = tab
-wider_blank blank line_feed = line_feed
-wider_blank blank form_feed = form_feed
-wider_blank blank carriage_return = carriage_return
-wider_blank blank written_line_feed = written_line_feed
-wider_blank blank written_carriage_return = written_carriage_return
-wider_blank blank written_tab = written_tab
-wider_blank blank written_form_feed = written_form_feed
-wider_blank blank (block_comment inside m lacks) = two_modes m
-wider_blank blank (line_comment inside last m one ends) = two_modes m
+wider_piece : (piece : List ℕ) → IsWhitespacePiece standard piece → IsWhitespacePiece extended piece
+wider_piece piece space = space
+wider_piece piece tab = tab
+wider_piece piece line_feed = line_feed
+wider_piece piece form_feed = form_feed
+wider_piece piece carriage_return = carriage_return
+wider_piece piece written_line_feed = written_line_feed
+wider_piece piece written_carriage_return = written_carriage_return
+wider_piece piece written_tab = written_tab
+wider_piece piece written_form_feed = written_form_feed
+wider_piece piece (block_comment inside m lacks) = two_modes m
+wider_piece piece (line_comment inside last m one ends) = two_modes m
 
-wider_blanks : (blanks : List ℕ) → IsBlanks standard blanks → IsBlanks extended blanks
-wider_blanks blanks no_blanks = no_blanks
-wider_blanks blanks (more_blanks {blank = blank} {rest = rest} one others) = more_blanks (wider_blank blank one) (wider_blanks rest others)
+wider_whitespace : (whitespace : List ℕ) → IsWhitespace standard whitespace → IsWhitespace extended whitespace
+wider_whitespace whitespace no_whitespace = no_whitespace
+wider_whitespace whitespace (more_whitespace {piece = piece} {rest = rest} one others) = more_whitespace (wider_piece piece one) (wider_whitespace rest others)
 
-wider_last : (blanks : List ℕ) → AreLastBlanks standard blanks → AreLastBlanks extended blanks
-wider_last blanks (blanks_to_end b) = blanks_to_end (wider_blanks blanks b)
-wider_last blanks (line_to_end inside m b one) = two_modes m
+wider_last : (whitespace : List ℕ) → IsLastWhitespace standard whitespace → IsLastWhitespace extended whitespace
+wider_last whitespace (whitespace_to_end b) = whitespace_to_end (wider_whitespace whitespace b)
+wider_last whitespace (line_to_end inside m b one) = two_modes m
 
--- the bytes behind a blank that is no comment
+-- the bytes behind a piece that is no comment
 after_backslash : List ℕ → List ℕ
 after_backslash [] = []
 after_backslash (b ∷ bytes) = cond (eqb b 120) (drop 2 bytes) bytes
 
-after_blank : List ℕ → List ℕ
-after_blank [] = []
-after_blank (b ∷ bytes) = cond (eqb b 92) (after_backslash bytes) bytes
+after_piece : List ℕ → List ℕ
+after_piece [] = []
+after_piece (b ∷ bytes) = cond (eqb b 92) (after_backslash bytes) bytes
 
--- a blank of standard mode, by its first byte and by what is behind it
-record IsPlainBlank (blank rest : List ℕ) : Type 0 where
+-- a piece of standard mode, by its first byte and by what is behind it
+record IsPlainWhitespacePiece (piece rest : List ℕ) : Type 0 where
   first : ℕ
   others : List ℕ
-  joined : blank ++ rest ≡ first ∷ others
+  joined : piece ++ rest ≡ first ∷ others
   no_slash : first ≢ 47
-  after : after_blank (blank ++ rest) ≡ rest
+  after : after_piece (piece ++ rest) ≡ rest
 
-plain_blank : (blank rest : List ℕ) → IsBlank standard blank → IsPlainBlank blank rest
-unfolding after_blank after_backslash
-plain_blank blank rest space = record { first = 32; others = rest; joined = refl; no_slash = λ e. absurd (omega (arith, e)); after = refl }
-plain_blank blank rest tab = record { first = 9; others = rest; joined = refl; no_slash = λ e. absurd (omega (arith, e)); after = refl }
-plain_blank blank rest line_feed = record { first = 10; others = rest; joined = refl; no_slash = λ e. absurd (omega (arith, e)); after = refl }
-plain_blank blank rest form_feed = record { first = 12; others = rest; joined = refl; no_slash = λ e. absurd (omega (arith, e)); after = refl }
-plain_blank blank rest carriage_return = record { first = 13; others = rest; joined = refl; no_slash = λ e. absurd (omega (arith, e)); after = refl }
-plain_blank blank rest written_line_feed = record { first = 92; others = 110 ∷ rest; joined = refl; no_slash = λ e. absurd (omega (arith, e)); after = refl }
-plain_blank blank rest written_carriage_return = record { first = 92; others = 114 ∷ rest; joined = refl; no_slash = λ e. absurd (omega (arith, e)); after = refl }
-plain_blank blank rest written_tab = record { first = 92; others = 116 ∷ rest; joined = refl; no_slash = λ e. absurd (omega (arith, e)); after = refl }
-plain_blank blank rest written_form_feed = record { first = 92; others = 120 ∷ 48 ∷ 67 ∷ rest; joined = refl; no_slash = λ e. absurd (omega (arith, e)); after = refl }
-plain_blank blank rest (block_comment inside m lacks) = two_modes m
-plain_blank blank rest (line_comment inside last m one ends) = two_modes m
+plain_piece : (piece rest : List ℕ) → IsWhitespacePiece standard piece → IsPlainWhitespacePiece piece rest
+unfolding after_piece after_backslash
+plain_piece piece rest space = record { first = 32; others = rest; joined = refl; no_slash = λ e. absurd (omega (arith, e)); after = refl }
+plain_piece piece rest tab = record { first = 9; others = rest; joined = refl; no_slash = λ e. absurd (omega (arith, e)); after = refl }
+plain_piece piece rest line_feed = record { first = 10; others = rest; joined = refl; no_slash = λ e. absurd (omega (arith, e)); after = refl }
+plain_piece piece rest form_feed = record { first = 12; others = rest; joined = refl; no_slash = λ e. absurd (omega (arith, e)); after = refl }
+plain_piece piece rest carriage_return = record { first = 13; others = rest; joined = refl; no_slash = λ e. absurd (omega (arith, e)); after = refl }
+plain_piece piece rest written_line_feed = record { first = 92; others = 110 ∷ rest; joined = refl; no_slash = λ e. absurd (omega (arith, e)); after = refl }
+plain_piece piece rest written_carriage_return = record { first = 92; others = 114 ∷ rest; joined = refl; no_slash = λ e. absurd (omega (arith, e)); after = refl }
+plain_piece piece rest written_tab = record { first = 92; others = 116 ∷ rest; joined = refl; no_slash = λ e. absurd (omega (arith, e)); after = refl }
+plain_piece piece rest written_form_feed = record { first = 92; others = 120 ∷ 48 ∷ 67 ∷ rest; joined = refl; no_slash = λ e. absurd (omega (arith, e)); after = refl }
+plain_piece piece rest (block_comment inside m lacks) = two_modes m
+plain_piece piece rest (line_comment inside last m one ends) = two_modes m
 
--- a blank of extended mode is a comment or one of standard mode
-extended_blank : (blank rest : List ℕ) → IsBlank extended blank → (after_blank (blank ++ rest) ≡ rest) ⊎ ((tail : List ℕ) × (blank ++ rest ≡ 47 ∷ tail))
-unfolding after_blank after_backslash
-extended_blank blank rest space = inl refl
-extended_blank blank rest tab = inl refl
-extended_blank blank rest line_feed = inl refl
-extended_blank blank rest form_feed = inl refl
-extended_blank blank rest carriage_return = inl refl
-extended_blank blank rest written_line_feed = inl refl
-extended_blank blank rest written_carriage_return = inl refl
-extended_blank blank rest written_tab = inl refl
-extended_blank blank rest written_form_feed = inl refl
-extended_blank blank rest (block_comment inside m lacks) = inr (42 ∷ ((inside ++ 42 ∷ 47 ∷ []) ++ rest), refl)
-extended_blank blank rest (line_comment inside last m one ends) = inr (47 ∷ ((inside ++ last ∷ []) ++ rest), refl)
+-- a piece of extended mode is a comment or one of standard mode
+extended_piece : (piece rest : List ℕ) → IsWhitespacePiece extended piece → (after_piece (piece ++ rest) ≡ rest) ⊎ ((tail : List ℕ) × (piece ++ rest ≡ 47 ∷ tail))
+unfolding after_piece after_backslash
+extended_piece piece rest space = inl refl
+extended_piece piece rest tab = inl refl
+extended_piece piece rest line_feed = inl refl
+extended_piece piece rest form_feed = inl refl
+extended_piece piece rest carriage_return = inl refl
+extended_piece piece rest written_line_feed = inl refl
+extended_piece piece rest written_carriage_return = inl refl
+extended_piece piece rest written_tab = inl refl
+extended_piece piece rest written_form_feed = inl refl
+extended_piece piece rest (block_comment inside m lacks) = inr (42 ∷ ((inside ++ 42 ∷ 47 ∷ []) ++ rest), refl)
+extended_piece piece rest (line_comment inside last m one ends) = inr (47 ∷ ((inside ++ last ∷ []) ++ rest), refl)
 
--- standard blanks and a value are no blanks of extended mode
-blank_first : (blank more whole : List ℕ) → IsBlank standard blank → ((left : List ℕ) → left ≡ more → IsBlanks extended left → ⊥) → whole ≡ blank ++ more → IsBlanks extended whole → ⊥
-blank_first blank more whole one again e no_blanks =
-    let p = plain_blank blank more one in
+-- standard whitespace and a value are no whitespace of extended mode
+piece_first : (piece more whole : List ℕ) → IsWhitespacePiece standard piece → ((left : List ℕ) → left ≡ more → IsWhitespace extended left → ⊥) → whole ≡ piece ++ more → IsWhitespace extended whole → ⊥
+piece_first piece more whole one again e no_whitespace =
+    let p = plain_piece piece more one in
     let clash : [] ≡ p.first ∷ p.others = e ∙ p.joined in
     cc
-blank_first blank more whole one again e (more_blanks {blank = comment} {rest = left} first others) =
-    let p = plain_blank blank more one in
+piece_first piece more whole one again e (more_whitespace {piece = comment} {rest = left} first others) =
+    let p = plain_piece piece more one in
     ⊎_elim
-    (λ plain. again left (sym plain ∙ ap after_blank e ∙ p.after) others)
+    (λ plain. again left (sym plain ∙ ap after_piece e ∙ p.after) others)
     (λ slash. p.no_slash (heads p.first 47 p.others slash.0 (sym (e ∙ p.joined) ∙ slash.1)))
-    (extended_blank comment left first)
+    (extended_piece comment left first)
 
-begins_value : (before bytes whole : List ℕ) → IsBlanks standard before → Begins IsTextByte bytes → whole ≡ before ++ bytes → IsBlanks extended whole → ⊥
-begins_value before bytes whole no_blanks b e all = no_blanks_alone extended bytes b (subst (IsBlanks extended) e all)
-begins_value before bytes whole (more_blanks {blank = blank} {rest = rest} one others) b e all =
-    blank_first blank (rest ++ bytes) whole one (λ left f. begins_value rest bytes left others b f) (e ∙ append_assoc blank rest bytes) all
+begins_value : (before bytes whole : List ℕ) → IsWhitespace standard before → Begins IsTextByte bytes → whole ≡ before ++ bytes → IsWhitespace extended whole → ⊥
+begins_value before bytes whole no_whitespace b e all = no_whitespace_alone extended bytes b (subst (IsWhitespace extended) e all)
+begins_value before bytes whole (more_whitespace {piece = piece} {rest = rest} one others) b e all =
+    piece_first piece (rest ++ bytes) whole one (λ left f. begins_value rest bytes left others b f) (e ∙ append_assoc piece rest bytes) all
 
 -- ---- numbers
 
@@ -217,7 +217,7 @@ wider_key bytes key (quoted_key {quote = quote} {text = text} {mark = mark} q s)
 wider_key bytes key (bare_key m k) = two_modes m
 
 wider_padded_key : (bytes : List ℕ) (key : Mark × List ℕ) → IsPadded standard (IsKey standard) bytes key → IsPadded extended (IsKey extended) bytes key
-wider_padded_key bytes key (padded {before = before} {core = core} {after = after} b k a) = padded (wider_blanks before b) (wider_key core key k) (wider_blanks after a)
+wider_padded_key bytes key (padded {before = before} {core = core} {after = after} b k a) = padded (wider_whitespace before b) (wider_key core key k) (wider_whitespace after a)
 
 wider_literal : (bytes : List ℕ) (t : Tree) → IsLiteral standard bytes t → IsLiteral extended bytes t
 wider_literal bytes t (null_word w) = null_word (ap (map to_ascii_lowercase) w)
@@ -269,9 +269,9 @@ scalar_first bytes t (number_value {n = n} (negative, whole, parts, is)) =
 value_first : (depth : ℕ) (bytes : List ℕ) (t : Tree) → Derives standard depth bytes t → Begins IsTextByte bytes
 value_first zero bytes t d = scalar_first bytes t d
 value_first (suc depth) bytes t (scalar s) = scalar_first bytes t s
-value_first (suc depth) bytes t (empty_array {blanks = blanks} b) = first_is 91 (blanks ++ 93 ∷ []) _ refl (omega arith, omega arith, omega arith, omega arith, omega arith, omega arith)
+value_first (suc depth) bytes t (empty_array {whitespace = whitespace} b) = first_is 91 (whitespace ++ 93 ∷ []) _ refl (omega arith, omega arith, omega arith, omega arith, omega arith, omega arith)
 value_first (suc depth) bytes t (full_array {body = body} items some) = first_is 91 (body ++ 93 ∷ []) _ refl (omega arith, omega arith, omega arith, omega arith, omega arith, omega arith)
-value_first (suc depth) bytes t (empty_object {blanks = blanks} b) = first_is 123 (blanks ++ 125 ∷ []) _ refl (omega arith, omega arith, omega arith, omega arith, omega arith, omega arith)
+value_first (suc depth) bytes t (empty_object {whitespace = whitespace} b) = first_is 123 (whitespace ++ 125 ∷ []) _ refl (omega arith, omega arith, omega arith, omega arith, omega arith, omega arith)
 value_first (suc depth) bytes t (full_object {body = body} members distinct) = first_is 123 (body ++ 125 ∷ []) _ refl (omega arith, omega arith, omega arith, omega arith, omega arith, omega arith)
 
 -- ---- members that are put in
@@ -326,7 +326,7 @@ module _ (Value Other : List ℕ → Tree → Type 0) (wider : (bytes : List ℕ
   wider_padded : (bytes : List ℕ) (t : Tree) → IsPadded standard Value bytes t → SpellSame (IsPadded extended Other) bytes t
   wider_padded bytes t (padded {before = before} {core = core} {after = after} b v a) =
       let w = wider core t v in
-      record { tree = w.tree; is = padded (wider_blanks before b) w.is (wider_blanks after a); same = w.same }
+      record { tree = w.tree; is = padded (wider_whitespace before b) w.is (wider_whitespace after a); same = w.same }
 
   wider_element : (bytes : List ℕ) (t : Tree) → IsElement standard Value bytes t → SpellSame (IsElement extended Other) bytes t
   wider_element bytes t (whole_element p) = let w = wider_padded bytes t p in record { tree = w.tree; is = whole_element w.is; same = w.same }
@@ -346,17 +346,17 @@ module _ (Value Other : List ℕ → Tree → Type 0) (wider : (bytes : List ℕ
       let more = wider_elements rest us others in
       record { trees = w.tree ∷ more.trees; joined = more_parts w.is more.joined; same = both_equal (tree_cmp w.tree t) (trees_cmp (trees_of more.trees) (trees_of us)) w.same more.same }
 
-  -- elements are no blanks of extended mode
-  no_blank_element : (bytes tail : List ℕ) (t : Tree) → IsElement standard Value bytes t → IsBlanks extended (bytes ++ tail) → ⊥
-  no_blank_element bytes tail t (whole_element (padded {before = before} {core = core} {after = after} b v a)) all =
+  -- elements are no whitespace of extended mode
+  no_whitespace_element : (bytes tail : List ℕ) (t : Tree) → IsElement standard Value bytes t → IsWhitespace extended (bytes ++ tail) → ⊥
+  no_whitespace_element bytes tail t (whole_element (padded {before = before} {core = core} {after = after} b v a)) all =
       let f = first core t v in
       begins_value before (core ++ (after ++ tail)) _ b (first_is f.first (f.rest ++ (after ++ tail)) (core ++ (after ++ tail)) (ap (λ front. front ++ (after ++ tail)) f.joined) f.is)
       (append_assoc before (core ++ after) tail ∙ ap (λ more. before ++ more) (append_assoc core after tail)) all
-  no_blank_element bytes tail t (empty_element m b) all = two_modes m
+  no_whitespace_element bytes tail t (empty_element m b) all = two_modes m
 
-  no_blank_elements : (bytes : List ℕ) (ts : List Tree) → IsJoined (IsElement standard Value) bytes ts → IsBlanks extended bytes → ⊥
-  no_blank_elements bytes ts (one_part {a = t} e) all = no_blank_element bytes [] t e (subst (IsBlanks extended) (sym (append-nil bytes)) all)
-  no_blank_elements bytes ts (more_parts {first = front} {rest = rest} {a = t} e others) all = no_blank_element front (44 ∷ rest) t e all
+  no_whitespace_elements : (bytes : List ℕ) (ts : List Tree) → IsJoined (IsElement standard Value) bytes ts → IsWhitespace extended bytes → ⊥
+  no_whitespace_elements bytes ts (one_part {a = t} e) all = no_whitespace_element bytes [] t e (subst (IsWhitespace extended) (sym (append-nil bytes)) all)
+  no_whitespace_elements bytes ts (more_parts {first = front} {rest = rest} {a = t} e others) all = no_whitespace_element front (44 ∷ rest) t e all
 
   record MemberSame (bytes : List ℕ) (m : Member) : Type 0 where
     tree : Tree
@@ -384,11 +384,11 @@ module _ (Value Other : List ℕ → Tree → Type 0) (wider : (bytes : List ℕ
 
   wider_value : (bytes : List ℕ) (t : Tree) → IsValue standard Value bytes t → SpellSame (IsValue extended Other) bytes t
   wider_value bytes t (scalar s) = let w = wider_scalar bytes t s in record { tree = w.tree; is = scalar w.is; same = w.same }
-  wider_value bytes t (empty_array {blanks = blanks} b) = record { tree = t; is = empty_array (wider_blanks blanks b); same = refl }
+  wider_value bytes t (empty_array {whitespace = whitespace} b) = record { tree = t; is = empty_array (wider_whitespace whitespace b); same = refl }
   wider_value bytes t (full_array {body = body} {ts = ts} items some) =
       let w = wider_elements body ts items in
-      record { tree = array (trees_of w.trees); is = full_array w.joined (no_blank_elements body ts items); same = w.same }
-  wider_value bytes t (empty_object {blanks = blanks} b) = record { tree = t; is = empty_object (wider_blanks blanks b); same = refl }
+      record { tree = array (trees_of w.trees); is = full_array w.joined (no_whitespace_elements body ts items); same = w.same }
+  wider_value bytes t (empty_object {whitespace = whitespace} b) = record { tree = t; is = empty_object (wider_whitespace whitespace b); same = refl }
   wider_value bytes t (full_object {body = body} {ms = ms} members distinct) =
       let w = wider_members body ms members in
       record { tree = object (put_all w.members no_members); is = full_object w.joined (subst AreDistinct (same_keys w.members ms w.same) distinct); same = put_all_same w.members ms no_members no_members w.same refl }
@@ -401,5 +401,5 @@ wider_derived (suc depth) bytes t d = wider_value (Derives standard depth) (Deri
 pub standard_is_extended : (bytes : List ℕ) (t : Tree) → IsDocument standard bytes t → (u : Tree) × IsDocument extended bytes u × Same u t
 standard_is_extended bytes t (value_alone {before = before} {core = core} {after = after} b d a) =
     let w = wider_derived max_depth core t d in
-    (w.tree, value_alone (wider_blanks before b) w.is (wider_last after a), w.same)
-standard_is_extended bytes t (blanks_alone m b) = two_modes m
+    (w.tree, value_alone (wider_whitespace before b) w.is (wider_last after a), w.same)
+standard_is_extended bytes t (whitespace_alone m b) = two_modes m

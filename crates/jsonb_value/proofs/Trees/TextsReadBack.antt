@@ -6,7 +6,7 @@ use Rattle.std.specs.List.{flat_map}
 use Rattle.std.specs.Ordering.{nat_cmp, ordering_then}
 use Rattle.std.specs.Cmp.Lexicographic.{slice_cmp}
 use Rattle.std.specs.Str.{IsUtf8}
-use Rattle.jsonb_spec.specs.Grammar.Blanks.{IsBlank, space, tab, line_feed, form_feed, carriage_return, written_line_feed, written_carriage_return, written_tab, written_form_feed, block_comment, line_comment, IsBlanks, no_blanks, more_blanks, blanks_to_end}
+use Rattle.jsonb_spec.specs.Grammar.Whitespace.{IsWhitespacePiece, space, tab, line_feed, form_feed, carriage_return, written_line_feed, written_carriage_return, written_tab, written_form_feed, block_comment, line_comment, IsWhitespace, no_whitespace, more_whitespace, whitespace_to_end}
 use Rattle.jsonb_spec.specs.Grammar.{IsPadded, padded, IsJoined, one_part, more_parts, IsElement, whole_element, IsMember, key_and_value, scalar, empty_array, full_array, empty_object, full_object, Derives, max_depth, IsDocument, value_alone}
 use Rattle.jsonb_spec.specs.Keys.{IsBelowKeys, KeysAscend}
 use Rattle.jsonb_spec.specs.Mode.{Mode, standard, extended}
@@ -28,30 +28,30 @@ use Rattle.jsonb_value.proofs.Trees.Ranges.{widened}
 use Rattle.jsonb_value.proofs.Trees.Runs.{heads}
 use Rattle.jsonb_value.proofs.Strings.Writing.{reads_back}
 
--- ---- blanks
+-- ---- whitespace
 
--- the bytes do not begin as a blank does
-blank_is_no_text : (mode : Mode) (blank rest : List ℕ) (b : ℕ) (bytes : List ℕ) → IsBlank mode blank → blank ++ rest ≡ b ∷ bytes → IsTextByte b → ⊥
-blank_is_no_text mode blank rest b bytes space e text = absurd (omega (arith, heads 32 b rest bytes e, text))
-blank_is_no_text mode blank rest b bytes tab e text = absurd (omega (arith, heads 9 b rest bytes e, text))
-blank_is_no_text mode blank rest b bytes line_feed e text = absurd (omega (arith, heads 10 b rest bytes e, text))
-blank_is_no_text mode blank rest b bytes form_feed e text = absurd (omega (arith, heads 12 b rest bytes e, text))
-blank_is_no_text mode blank rest b bytes carriage_return e text = absurd (omega (arith, heads 13 b rest bytes e, text))
-blank_is_no_text mode blank rest b bytes written_line_feed e text = absurd (omega (arith, heads 92 b (110 ∷ rest) bytes e, text))
-blank_is_no_text mode blank rest b bytes written_carriage_return e text = absurd (omega (arith, heads 92 b (114 ∷ rest) bytes e, text))
-blank_is_no_text mode blank rest b bytes written_tab e text = absurd (omega (arith, heads 92 b (116 ∷ rest) bytes e, text))
-blank_is_no_text mode blank rest b bytes written_form_feed e text = absurd (omega (arith, heads 92 b (120 ∷ 48 ∷ 67 ∷ rest) bytes e, text))
-blank_is_no_text mode blank rest b bytes (block_comment inside m lacks) e text = absurd (omega (arith, heads 47 b (42 ∷ ((inside ++ 42 ∷ 47 ∷ []) ++ rest)) bytes e, text))
-blank_is_no_text mode blank rest b bytes (line_comment inside last m one ends) e text = absurd (omega (arith, heads 47 b (47 ∷ ((inside ++ last ∷ []) ++ rest)) bytes e, text))
+-- the bytes do not begin as whitespace does
+piece_is_no_text : (mode : Mode) (piece rest : List ℕ) (b : ℕ) (bytes : List ℕ) → IsWhitespacePiece mode piece → piece ++ rest ≡ b ∷ bytes → IsTextByte b → ⊥
+piece_is_no_text mode piece rest b bytes space e text = absurd (omega (arith, heads 32 b rest bytes e, text))
+piece_is_no_text mode piece rest b bytes tab e text = absurd (omega (arith, heads 9 b rest bytes e, text))
+piece_is_no_text mode piece rest b bytes line_feed e text = absurd (omega (arith, heads 10 b rest bytes e, text))
+piece_is_no_text mode piece rest b bytes form_feed e text = absurd (omega (arith, heads 12 b rest bytes e, text))
+piece_is_no_text mode piece rest b bytes carriage_return e text = absurd (omega (arith, heads 13 b rest bytes e, text))
+piece_is_no_text mode piece rest b bytes written_line_feed e text = absurd (omega (arith, heads 92 b (110 ∷ rest) bytes e, text))
+piece_is_no_text mode piece rest b bytes written_carriage_return e text = absurd (omega (arith, heads 92 b (114 ∷ rest) bytes e, text))
+piece_is_no_text mode piece rest b bytes written_tab e text = absurd (omega (arith, heads 92 b (116 ∷ rest) bytes e, text))
+piece_is_no_text mode piece rest b bytes written_form_feed e text = absurd (omega (arith, heads 92 b (120 ∷ 48 ∷ 67 ∷ rest) bytes e, text))
+piece_is_no_text mode piece rest b bytes (block_comment inside m lacks) e text = absurd (omega (arith, heads 47 b (42 ∷ ((inside ++ 42 ∷ 47 ∷ []) ++ rest)) bytes e, text))
+piece_is_no_text mode piece rest b bytes (line_comment inside last m one ends) e text = absurd (omega (arith, heads 47 b (47 ∷ ((inside ++ last ∷ []) ++ rest)) bytes e, text))
 
-pub no_blanks_alone : (mode : Mode) (bytes : List ℕ) → Begins IsTextByte bytes → IsBlanks mode bytes → ⊥
-no_blanks_alone mode bytes b no_blanks = let clash : [] ≡ b.first ∷ b.rest = b.joined in cc
-no_blanks_alone mode bytes b (more_blanks {blank = blank} {rest = rest} one others) = blank_is_no_text mode blank rest b.first b.rest one b.joined b.is
+pub no_whitespace_alone : (mode : Mode) (bytes : List ℕ) → Begins IsTextByte bytes → IsWhitespace mode bytes → ⊥
+no_whitespace_alone mode bytes b no_whitespace = let clash : [] ≡ b.first ∷ b.rest = b.joined in cc
+no_whitespace_alone mode bytes b (more_whitespace {piece = piece} {rest = rest} one others) = piece_is_no_text mode piece rest b.first b.rest one b.joined b.is
 
 -- ---- parts of a text
 
 pub pad : {A : Type 0} (mode : Mode) (Spells : List ℕ → A → Type 0) (bytes : List ℕ) (a : A) → Spells bytes a → IsPadded mode Spells bytes a
-pad mode Spells bytes a h = subst (λ padded_bytes. IsPadded mode Spells padded_bytes a) (append-nil bytes) (padded {core = bytes} no_blanks h no_blanks)
+pad mode Spells bytes a h = subst (λ padded_bytes. IsPadded mode Spells padded_bytes a) (append-nil bytes) (padded {core = bytes} no_whitespace h no_whitespace)
 
 trees_of-items_of : (ts : Trees) → trees_of (items_of ts) ≡ ts
 trees_of-items_of no_trees = refl
@@ -181,7 +181,7 @@ module _ (mode : Mode) (IsIn : Num → Type 0) (short : (n : Num) → IsProperNu
         text = λ i. text_of_parts (r.scales i) (r.wholes i);
       }
 
-  -- the items' texts do not look like blanks
+  -- the items' texts do not look like whitespace
   items_begin : (t : Tree) (ts : Trees) (depth : ℕ) → IsProper t → IsWithin IsIn t depth → Begins IsTextByte (with_commas (item_texts (more_trees t ts)))
   items_begin t ts depth p w =
       let others : List ℕ = flat_map (λ (text : List ℕ). 44 ∷ text) (item_texts ts) in
@@ -194,13 +194,13 @@ module _ (mode : Mode) (IsIn : Num → Type 0) (short : (n : Num) → IsProperNu
   read_items t ts (more_trees u us) depth b spelled same texts = record {
     tree = array (more_trees u us);
     derived = subst (λ vs. Derives mode (suc depth) (tree_text (array (more_trees t ts))) (array vs)) (trees_of-items_of (more_trees u us))
-        (full_array {body = with_commas (item_texts (more_trees t ts))} {ts = u ∷ items_of us} (joined_items mode (Derives mode depth) t ts u us spelled.0 spelled.1) (no_blanks_alone mode (with_commas (item_texts (more_trees t ts))) b));
+        (full_array {body = with_commas (item_texts (more_trees t ts))} {ts = u ∷ items_of us} (joined_items mode (Derives mode depth) t ts u us spelled.0 spelled.1) (no_whitespace_alone mode (with_commas (item_texts (more_trees t ts))) b));
     same = same;
     text = ap (λ parts. 91 ∷ with_commas parts ++ 93 ∷ []) texts;
   }
 
   read_array : (ts : Trees) (depth : ℕ) → AreProper ts → AreWithin IsIn ts depth → AreReadAt mode depth ts → SpellsSameTree mode (suc depth) (array ts)
-  read_array no_trees depth p w r = record { tree = array no_trees; derived = empty_array {blanks = []} no_blanks; same = refl; text = refl }
+  read_array no_trees depth p w r = record { tree = array no_trees; derived = empty_array {whitespace = []} no_whitespace; same = refl; text = refl }
   read_array (more_trees t ts) depth p w r = read_items t ts r.trees depth (items_begin t ts depth p.0 w.0) r.spelled r.same r.texts
 
   read_members : (k : List ℕ) (t : Tree) (ms ns : Members) (depth : ℕ) → KeysAscend (more_members k t ms) → HaveProperParts (more_members k t ms) → HaveSpelled (Derives mode depth) (more_members k t ms) ns
@@ -217,7 +217,7 @@ module _ (mode : Mode) (IsIn : Num → Type 0) (short : (n : Num) → IsProperNu
       }
 
   read_object : (ms : Members) (depth : ℕ) → IsProper (object ms) → HaveReadAt mode depth ms → SpellsSameTree mode (suc depth) (object ms)
-  read_object no_members depth p r = record { tree = object no_members; derived = empty_object {blanks = []} no_blanks; same = refl; text = refl }
+  read_object no_members depth p r = record { tree = object no_members; derived = empty_object {whitespace = []} no_whitespace; same = refl; text = refl }
   read_object (more_members k t ms) depth p r = read_members k t ms r.members depth p.0 p.1 r.spelled r.same r.texts
 
   read_next : (t : Tree) (ts : Trees) (depth : ℕ) → SpellsSameTree mode depth t → AreReadAt mode depth ts → AreReadAt mode depth (more_trees t ts)
@@ -260,7 +260,7 @@ module _ (mode : Mode) (IsIn : Num → Type 0) (short : (n : Num) → IsProperNu
   pub text_reads_back : (t : Tree) → IsProper t → IsWithin IsIn t max_depth → ReadsBackAs mode (tree_text t) t
   text_reads_back t p w =
       let r = read_tree t max_depth p w in
-      let document : IsDocument mode (tree_text t) r.tree = subst (λ bytes. IsDocument mode bytes r.tree) (append-nil (tree_text t)) (value_alone {core = tree_text t} no_blanks r.derived (blanks_to_end no_blanks)) in
+      let document : IsDocument mode (tree_text t) r.tree = subst (λ bytes. IsDocument mode bytes r.tree) (append-nil (tree_text t)) (value_alone {core = tree_text t} no_whitespace r.derived (whitespace_to_end no_whitespace)) in
       record {
         tree = r.tree;
         document = document;

@@ -6,7 +6,7 @@ ghost use Rattle.std.specs.Vec.{vec_capacity};
 ghost use Rattle.jsonb_spec.specs.Text.Appending.{AppendsAllOrNothing};
 ghost use Rattle.jsonb_spec.specs.Text.BinaryText.{hexadecimal_pair, binary_text};
 ghost use Rattle.jsonb_spec.specs.Text.ExtensionText.{extension_text, AppendsExtensionText};
-ghost use Rattle.jsonb_spec.specs.Text.IntervalText.{amount_text, microseconds_text, clock_text, time_text, with_blank, beside, interval_text};
+ghost use Rattle.jsonb_spec.specs.Text.IntervalText.{amount_text, microseconds_text, clock_text, time_text, with_piece, beside, interval_text};
 ghost use Rattle.jsonb_spec.specs.Text.NumberText.{zero_padded};
 ghost use Rattle.jsonb_value.specs.View.{extension_view};
 
@@ -39,10 +39,10 @@ fn and(text: IntervalText, part: &str) -> IntervalText
     text.and_str(part, part.len())
 }
 
-// The text, and a blank after it where it is not empty.
-fn and_blank(text: IntervalText) -> IntervalText
+// The text, and a space after it where it is not empty.
+fn and_space(text: IntervalText) -> IntervalText
     requires { length (inline_text text) < 160 }
-    ensures { inline_text result ≡ with_blank (inline_text text) }
+    ensures { inline_text result ≡ with_piece (inline_text text) }
 {
     if text.as_str().is_empty() {
         text
@@ -75,7 +75,7 @@ fn and_amount(text: IntervalText, amount: i32, unit: &str) -> IntervalText
         return text;
     }
     let mut buffer = Buffer::new();
-    let number = and(and_blank(text), buffer.format(amount));
+    let number = and(and_space(text), buffer.format(amount));
     let named = and(and(number, " "), unit);
     if amount.unsigned_abs() == 1 {
         named
@@ -115,7 +115,7 @@ fn and_time(text: IntervalText, micros: i64) -> IntervalText
     if micros == 0 {
         return text;
     }
-    let signed = and(and_blank(text), sign_of(micros < 0));
+    let signed = and(and_space(text), sign_of(micros < 0));
     and_clock(signed, micros.unsigned_abs())
 }
 

@@ -4,7 +4,7 @@ use Rattle.jsonb_spec.specs.Tree.{Mark}
 use Rattle.jsonb_scan.specs.Answer.{mode_of}
 use Rattle.jsonb.specs.Parser.{rest_of, size_of}
 use Rattle.jsonb_scan.specs.Reading.{Read, on_byte, rejected, ◌>>=◌}
-use Rattle.jsonb_scan.specs.Reading.Blank.{skip_blanks}
+use Rattle.jsonb_scan.specs.Reading.Whitespace.{skip_whitespace}
 use Rattle.jsonb_scan.proofs.Containers.JoinedParts.{on_byte-found}
 use Rattle.jsonb.proofs.Steps.Advancing.{goes_on}
 use Rattle.jsonb.proofs.parser.Parser.begin_member.Goals as goal
@@ -13,18 +13,18 @@ pub returns-clause-reads : goal.returns-clause-reads
 returns-clause-reads g c =
     let p = c.args.self.now in
     let r = c.parse_member_key.new.self in
-    let u = c.take_after_blanks.new.self in
+    let u = c.take_after_whitespace.new.self in
     let n = size_of p in
     let m = mode_of p.mode in
     let on_r = c.parse_member_key.ensures.advances in
-    let on_u = goes_on p r u on_r c.take_after_blanks.ensures.advances in
+    let on_u = goes_on p r u on_r c.take_after_whitespace.ensures.advances in
     let read = c.in_ok-key.ensures.reads in
     let key : Mark × List ℕ = read.0 in
     let place : ℕ = n - length (rest_of r) in (
       (key, place),
       read.1,
-      ap (λ (x : Read (Mark × List ℕ)). x >>= λ (k : (Mark × List ℕ) × List ℕ). on_byte 58 (skip_blanks m k.1) (λ rest. Ok ((k.0, n - length k.1), skip_blanks m rest)) (rejected n expected_colon 0 (skip_blanks m k.1))) read.2
-          ∙ ap (λ (v : List ℕ). on_byte 58 v (λ rest. Ok ((key, place), skip_blanks m rest)) (rejected n expected_colon 0 v)) (ap (λ k. skip_blanks (mode_of k) (rest_of r)) (sym on_r.mode) ∙ c.if-not-take_after_blanks.ensures.rest)
-          ∙ on_byte-found 58 (rest_of u) (λ rest. Ok ((key, place), skip_blanks m rest)) (rejected n expected_colon 0 (58 ∷ rest_of u))
-          ∙ ap (λ (v : List ℕ). Ok ((key, place), v)) (ap (λ k. skip_blanks (mode_of k) (rest_of u)) (sym on_u.mode) ∙ sym c.skip_space.ensures.rest ∙ ap (λ k. skip_blanks (mode_of k) (rest_of c.skip_space.new.self)) (sym c.skip_space.ensures.advances.mode) ∙ sym c.skip_blanks.ensures.rest),
+      ap (λ (x : Read (Mark × List ℕ)). x >>= λ (k : (Mark × List ℕ) × List ℕ). on_byte 58 (skip_whitespace m k.1) (λ rest. Ok ((k.0, n - length k.1), skip_whitespace m rest)) (rejected n expected_colon 0 (skip_whitespace m k.1))) read.2
+          ∙ ap (λ (v : List ℕ). on_byte 58 v (λ rest. Ok ((key, place), skip_whitespace m rest)) (rejected n expected_colon 0 v)) (ap (λ k. skip_whitespace (mode_of k) (rest_of r)) (sym on_r.mode) ∙ c.if-not-take_after_whitespace.ensures.rest)
+          ∙ on_byte-found 58 (rest_of u) (λ rest. Ok ((key, place), skip_whitespace m rest)) (rejected n expected_colon 0 (58 ∷ rest_of u))
+          ∙ ap (λ (v : List ℕ). Ok ((key, place), v)) (ap (λ k. skip_whitespace (mode_of k) (rest_of u)) (sym on_u.mode) ∙ sym c.skip_space.ensures.rest ∙ ap (λ k. skip_whitespace (mode_of k) (rest_of c.skip_space.new.self)) (sym c.skip_space.ensures.advances.mode) ∙ sym c.skip_whitespace.ensures.rest),
     )

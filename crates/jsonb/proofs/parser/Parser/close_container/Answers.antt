@@ -6,7 +6,7 @@ use Rattle.jsonb_scan.specs.Answer.{mode_of}
 use Rattle.jsonb.specs.Parser.{Advances, rest_of, size_of}
 use Rattle.jsonb.specs.declared.parser.frame.Frame.TheVariants as variants
 use Rattle.jsonb.proofs.Containers.Frames.{array-joins, end_misses, ended, innermost_first, joined, last-is, last-set, object-joins}
-use Rattle.jsonb_scan.specs.Reading.Blank.{skip_blanks}
+use Rattle.jsonb_scan.specs.Reading.Whitespace.{skip_whitespace}
 use Rattle.jsonb.specs.Handler.{Builds}
 use Rattle.jsonb.specs.Stack.{part_end}
 use Rattle.jsonb.proofs.Containers.Built.{put_new}
@@ -87,4 +87,4 @@ returns-in_ok-inserted-in-Object-clause-reads g c whole ahead =
     (λ o cs fits same. object-joins before after (λ fs ds. h.filled text c.finish.new.room value s fs ds) (size_of p) (mode_of p.mode) v w s below cs (λ front k place full. put text s front k place below cs full) o fits
     (subst (λ ds. h.filled text c.finish.new.room value s (variants.Object v ∷ below) ds) same (subst (λ fs. h.filled text c.finish.new.room value s fs x.others) turned filled)))
     (builds_always h.silent q.told (λ b d. b ≡ d) c.end_member.result _ (rest_of q)
-    (subst (λ m. Builds false q.told (λ b d. b ≡ d) c.end_member.result (part_end (size_of m) expected_object_comma_or_end 125 (skip_blanks (mode_of m.mode) (rest_of m))) (rest_of q)) ok.1 c.end_member.ensures.reads))
+    (subst (λ m. Builds false q.told (λ b d. b ≡ d) c.end_member.result (part_end (size_of m) expected_object_comma_or_end 125 (skip_whitespace (mode_of m.mode) (rest_of m))) (rest_of q)) ok.1 c.end_member.ensures.reads))

@@ -2,7 +2,7 @@ use Rattle.std.proofs.Common.{◌≡◌, ◌≤◌, true, length, ap, subst, ◌
 use Rattle.std.specs.Prelude.{slice_index}
 use Rattle.jsonb_scan.specs.Answer.{mode_of}
 use Rattle.jsonb.specs.Parser.{rest_of, size_of}
-use Rattle.jsonb_scan.specs.Reading.Blank.{is_break}
+use Rattle.jsonb_scan.specs.Reading.Whitespace.{is_break}
 use Rattle.jsonb_scan.specs.Reading.Number.{is_number_start}
 use Rattle.jsonb_scan.specs.ShortInteger.{IsKeptInteger}
 use Rattle.jsonb.proofs.Scalars.KeptIntegers.{extended_kept, kept_passes}

@@ -19,20 +19,20 @@ pub returns-then-take_byte-clause-reads : goal.returns-then-take_byte-clause-rea
 returns-then-take_byte-clause-reads g c whole due =
     let p = c.args.self.now in
     let o = c.take_byte.new.self in
-    let s = c.skip_blanks.new.self in
+    let s = c.skip_whitespace.new.self in
     let q = c.take_byte-then-take_byte.new.self in
     let a = c.take_byte.ensures.advances in
     let h = g.V.Handler in
     let fs = c.args.stack.now.items in
-    array_opened (h.stands p.buf.now c.args.room.now) (h.stands p.buf.now c.items.new.room) p o s q fs c.push.new.self.items c.in-Ok.items c.take_byte-then-take_byte.result whole a (goes_on p o q a (goes_on o s q c.skip_blanks.ensures.advances c.take_byte-then-take_byte.ensures.advances))
-    c.if-take_byte.ensures.rest c.skip_blanks.ensures.rest c.take_byte-then-take_byte.ensures.found c.take_byte-then-take_byte.ensures.rest (λ cs. c.in-Ok.ensures.opened p.buf.now (reverse fs) cs) c.in-Ok-push.ensures.items (omega arith) due
+    array_opened (h.stands p.buf.now c.args.room.now) (h.stands p.buf.now c.items.new.room) p o s q fs c.push.new.self.items c.in-Ok.items c.take_byte-then-take_byte.result whole a (goes_on p o q a (goes_on o s q c.skip_whitespace.ensures.advances c.take_byte-then-take_byte.ensures.advances))
+    c.if-take_byte.ensures.rest c.skip_whitespace.ensures.rest c.take_byte-then-take_byte.ensures.found c.take_byte-then-take_byte.ensures.rest (λ cs. c.in-Ok.ensures.opened p.buf.now (reverse fs) cs) c.in-Ok-push.ensures.items (omega arith) due
 
 pub returns-clause-reads : goal.returns-clause-reads
 returns-clause-reads g c whole due =
     let p = c.args.self.now in
     let n = c.take_byte.new.self in
     let o : Parser = record n { idx = n.idx + 1 } in
-    let s = c.skip_blanks-2.new.self in
+    let s = c.skip_whitespace-2.new.self in
     let q = c.take_byte-2.new.self in
     let unmoved : n ≡ p = c.if-take_byte.ensures.rest in
     let brace = after_brace p c.requires.opens (sym c.if-take_byte.ensures.found) ∙ ap (λ r. 123 ∷ rest_of (record r { idx = r.idx + 1 })) (sym unmoved) in
@@ -41,5 +41,5 @@ returns-clause-reads g c whole due =
     let h = g.V.Handler in
     let fs = c.args.stack.now.items in
     let v : OpenObject g.row.V-Members.Denot g.row.V-Key.Denot = record { members = c.in-Ok-members.members; key = c.no_key-key.result } in
-    object_opened (h.stands p.buf.now c.args.room.now) (h.stands p.buf.now c.members.new.room) p o s q fs c.push-2.new.self.items v (plain, []) 0 c.take_byte-2.result whole a (goes_on p o q a (goes_on o s q c.skip_blanks-2.ensures.advances c.take_byte-2.ensures.advances))
-    brace c.skip_blanks-2.ensures.rest c.take_byte-2.ensures.found c.take_byte-2.ensures.rest (λ cs. c.in-Ok-members.ensures.opened p.buf.now c.no_key-key.result (reverse fs) cs) c.in-Ok-push-2.ensures.items (omega arith) due
+    object_opened (h.stands p.buf.now c.args.room.now) (h.stands p.buf.now c.members.new.room) p o s q fs c.push-2.new.self.items v (plain, []) 0 c.take_byte-2.result whole a (goes_on p o q a (goes_on o s q c.skip_whitespace-2.ensures.advances c.take_byte-2.ensures.advances))
+    brace c.skip_whitespace-2.ensures.rest c.take_byte-2.ensures.found c.take_byte-2.ensures.rest (λ cs. c.in-Ok-members.ensures.opened p.buf.now c.no_key-key.result (reverse fs) cs) c.in-Ok-push-2.ensures.items (omega arith) due

@@ -9,7 +9,7 @@ use Rattle.jsonb_spec.specs.Tree.Mark.{plain}
 use Rattle.jsonb_spec.specs.Code.Code.{expected_object_comma_or_end}
 use Rattle.jsonb_scan.specs.Answer.{mode_of}
 use Rattle.jsonb_scan.specs.Reading.{◌>>=◌}
-use Rattle.jsonb_scan.specs.Reading.Blank.{skip_blanks}
+use Rattle.jsonb_scan.specs.Reading.Whitespace.{skip_whitespace}
 use Rattle.jsonb_scan.specs.Reading.Scalar.{scalar_at}
 use Rattle.jsonb_spec.specs.Source.{Found, found, source_alone}
 use Rattle.jsonb.specs.Parser.{read_at, rest_of, size_of}
@@ -79,7 +79,7 @@ returns-in_err-end_member-clause-reads g c depth o fs cs fits held =
     let t = c.end_member.new.self.told in
     let on = goes_on p l s i.advances c.begin_member.ensures.advances in
     let more = members_so_far (so_far.0 ++ found key.0.0 (source_alone put.0) key.0.1 ∷ []) (plain, []) 0 in
-    let ends = part_end (size_of q) expected_object_comma_or_end 125 (skip_blanks (mode_of q.mode) (rest_of q)) in
+    let ends = part_end (size_of q) expected_object_comma_or_end 125 (skip_whitespace (mode_of q.mode) (rest_of q)) in
     let residual = err_from_is_err_and c.from_residual-in_err-end_member.result c.from_residual-in_err-end_member.ensures.1 in
     rw (residual.1) (misses_same silent t (ends >>= λ y. resume_part (size_of p) (mode_of p.mode) depth y.0 more y.1) (next_part_at (size_of p) (mode_of p.mode) depth o (rest_of p))
     (so_far.4 ∙ member_due p l depth so_far.0 i.advances ∙ ap (λ x. x >>= waits p depth so_far.0) key.2

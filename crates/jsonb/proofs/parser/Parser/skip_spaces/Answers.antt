@@ -1,19 +1,19 @@
 use Rattle.std.proofs.Common.{◌≡◌, ℕ, ◌+◌, ◌<◌, ◌≤◌, List, ap, sym, ◌∙◌, arith, drop, drop-drop, get_or, length}
 use Rattle.jsonb_spec.specs.Mode.{Mode}
-use Rattle.jsonb_scan.specs.Reading.Blank.{skip_closed_blanks}
+use Rattle.jsonb_scan.specs.Reading.Whitespace.{skip_closed_whitespace}
 use Rattle.jsonb_scan.specs.Answer.{mode_of}
 use Rattle.jsonb.specs.Parser.{rest_of}
 use Rattle.jsonb.specs.declared.parser.Parser.{Parser}
-use Rattle.jsonb_scan.proofs.Text.Blanks.{pass-spaces}
+use Rattle.jsonb_scan.proofs.Text.Whitespace.{pass-spaces}
 use Rattle.jsonb.proofs.parser.Parser.skip_spaces.Goals as goal
 
 -- So many spaces are passed, as these bytes from the index on show.
-passed : (p : Parser) (rest : List ℕ) (count : ℕ) → rest ≡ rest_of p → count ≤ length rest → ((k : ℕ) → k < count → get_or rest k 0 ≡ 32) → skip_closed_blanks (mode_of p.mode) (drop (p.idx + count) p.buf.now) ≡ skip_closed_blanks (mode_of p.mode) (rest_of p)
+passed : (p : Parser) (rest : List ℕ) (count : ℕ) → rest ≡ rest_of p → count ≤ length rest → ((k : ℕ) → k < count → get_or rest k 0 ≡ 32) → skip_closed_whitespace (mode_of p.mode) (drop (p.idx + count) p.buf.now) ≡ skip_closed_whitespace (mode_of p.mode) (rest_of p)
 passed p rest count same within spaces =
     let mode : Mode = mode_of p.mode in
     let fits : count ≤ length (rest_of p) = omega (arith, within, ap length same) in
     let are : (k : ℕ) → k < count → get_or (rest_of p) k 0 ≡ 32 = λ k low. sym (ap (λ u. get_or u k 0) same) ∙ spaces k low in
-    sym (ap (skip_closed_blanks mode) (drop-drop count p.idx p.buf.now)) ∙ pass-spaces mode count (rest_of p) fits are
+    sym (ap (skip_closed_whitespace mode) (drop-drop count p.idx p.buf.now)) ∙ pass-spaces mode count (rest_of p) fits are
 
 pub returns-then-count-eq-NEAR-clause-rest : goal.returns-then-count-eq-NEAR-clause-rest
 returns-then-count-eq-NEAR-clause-rest c =
