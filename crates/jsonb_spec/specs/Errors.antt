@@ -10,12 +10,12 @@ use Rattle.jsonb_spec.specs.Code.Code.{depth_limit_exceeded, expected_some_value
 use Rattle.jsonb_spec.specs.Grammar.{Derives, IsDocument, IsElement, IsJoined, IsMember, IsPadded, max_depth}
 use Rattle.jsonb_spec.specs.Mode.{Mode}
 use Rattle.jsonb_spec.specs.Mode.Mode.{extended, standard}
-use Rattle.jsonb_spec.specs.Grammar.Scalar.{IsKey, IsUncarried}
+use Rattle.jsonb_spec.specs.Grammar.Scalar.{IsKey, IsUnrepresentable}
 use Rattle.jsonb_spec.specs.Grammar.ExtendedNumber.{IsExtendedText}
 use Rattle.jsonb_spec.specs.Grammar.StandardNumber.{IsNumberText}
 use Rattle.jsonb_spec.specs.Tree.{Mark, Member, Tree}
 
--- a text of a number, carried or not
+-- a text of a number, representable or not
 abbrev pub IsNumberSpelling : Mode → List ℕ → Type 0
 IsNumberSpelling standard bytes = IsNumberText bytes
 IsNumberSpelling extended bytes = IsExtendedText bytes
@@ -122,7 +122,7 @@ pub record RepeatsKey (mode : Mode) (input key : List ℕ) (place : ℕ) : Type 
 
 -- Where a value is due stands a number that no tree carries, and no longer spelling of a number. The place is the index
 -- after it.
-pub record IsNotCarried (mode : Mode) (input : List ℕ) (place : ℕ) : Type 0 where
+pub record IsNotRepresentable (mode : Mode) (input : List ℕ) (place : ℕ) : Type 0 where
   pub front : List ℕ
   pub text : List ℕ
   pub others : List ℕ
@@ -130,7 +130,7 @@ pub record IsNotCarried (mode : Mode) (input : List ℕ) (place : ℕ) : Type 0 
   pub count : ℕ
   pub within : count ≤ max_depth
   pub is_front : IsFront mode front count
-  pub is_uncarried : IsUncarried mode text
+  pub is_unrepresentable : IsUnrepresentable mode text
   pub longest : (longer rest : List ℕ) → text ++ others ≡ longer ++ rest → length text < length longer
       → IsNumberSpelling mode longer → ⊥
   pub after_text : place ≡ length front + length text
@@ -140,6 +140,6 @@ abbrev pub Stands : Mode → List ℕ → Code → ℕ → Type 0
 Stands mode input expected_some_value place = LacksValue mode input place
 Stands mode input unexpected_trailing_characters place = Trails mode input place
 Stands mode input depth_limit_exceeded place = IsTooDeep mode input place
-Stands mode input number_not_carried place = IsNotCarried mode input place
+Stands mode input number_not_carried place = IsNotRepresentable mode input place
 Stands mode input (object_duplicate_key key) place = RepeatsKey mode input key place
 Stands mode input other place = Unit {0}

@@ -22,7 +22,7 @@ use Rattle.jsonb_scan.proofs.Steps.Tests.{chosen}
 use Rattle.jsonb.proofs.Errors.Codes.{IsTold, bind_err, same_err, silent_fault, silent_rejected}
 use Rattle.jsonb.proofs.Containers.KeyPlaces.{laid_repeats, members_laid}
 use Rattle.jsonb_scan.proofs.Containers.JoinedParts.{IsSound, IsSoundBefore, SeenBy, joined-skip, on_byte_cases, padded_sound}
-use Rattle.jsonb.proofs.Errors.OfScalars.{NotCarried, WrongScalar, key_silent, scalar_rejected, scalar_some}
+use Rattle.jsonb.proofs.Errors.OfScalars.{NotRepresentable, WrongScalar, key_silent, scalar_rejected, scalar_some}
 use Rattle.jsonb.proofs.Scalars.Spellings.{key_sound}
 use Rattle.jsonb_scan.proofs.Text.Whitespace.{length-skip, skip-skip, skips}
 use Rattle.jsonb.proofs.Containers.Values.{Seen, element_sound, member_sound, value_sound}
@@ -74,7 +74,7 @@ pub record RepeatsHere (mode : Mode) (left size : ℕ) (rest key : List ℕ) (pl
 -- what is wrong with the bytes from a value on, where this many more arrays and objects may be open
 abbrev pub Wrong : Mode → ℕ → ℕ → List ℕ → Code → ℕ → Type 0
 Wrong mode left size rest expected_some_value place = BeginsNone mode size rest place
-Wrong mode left size rest number_not_carried place = NotCarried mode size rest place
+Wrong mode left size rest number_not_carried place = NotRepresentable mode size rest place
 Wrong mode left size rest depth_limit_exceeded place = Opens left size rest place
 Wrong mode left size rest (object_duplicate_key k) place = RepeatsHere mode left size rest k place
 Wrong mode left size rest other place = ⊥

@@ -8,7 +8,7 @@ use Rattle.jsonb_spec.specs.Code.{Code}
 use Rattle.jsonb_spec.specs.Code.Code.{expected_some_ident, expected_some_value, invalid_eof, invalid_string_value, number_not_carried, object_key_invalid_character, object_key_invalid_number}
 use Rattle.jsonb_spec.specs.Mode.{Mode}
 use Rattle.jsonb_spec.specs.Mode.Mode.{extended, standard}
-use Rattle.jsonb_spec.specs.Grammar.Scalar.{IsNumber, IsQuote, IsScalar, IsUncarried}
+use Rattle.jsonb_spec.specs.Grammar.Scalar.{IsNumber, IsQuote, IsScalar, IsUnrepresentable}
 use Rattle.jsonb_spec.specs.Grammar.Scalar.IsLiteral.{false_word, null_word, true_word}
 use Rattle.jsonb_spec.specs.Grammar.Scalar.IsScalar.{literal_value, number_value, string_value}
 use Rattle.jsonb_spec.specs.Grammar.StringBody.{Item, escaped_byte, meaning, spelling}
@@ -22,13 +22,13 @@ use Rattle.jsonb_spec.specs.Errors.{IsNumberSpelling}
 use Rattle.jsonb_scan.proofs.Steps.Tests.{bind_ok, chosen, same_read}
 use Rattle.jsonb.proofs.Errors.Codes.{IsTold, bind_err, same_err, silent_fault, silent_rejected}
 use Rattle.jsonb_scan.proofs.Containers.JoinedParts.{on_byte_cases}
-use Rattle.jsonb_scan.proofs.Numbers.Extended.{ExtendedFault, ExtendedUncarried, extended_faults, extended_sound}
-use Rattle.jsonb_scan.proofs.Numbers.Extended.ExtendedFault.{no_text, uncarried_text}
+use Rattle.jsonb_scan.proofs.Numbers.Extended.{ExtendedFault, ExtendedUnrepresentable, extended_faults, extended_sound}
+use Rattle.jsonb_scan.proofs.Numbers.Extended.ExtendedFault.{no_text, unrepresentable_text}
 use Rattle.jsonb_scan.proofs.Numbers.ExtendedParts.{extended_is_text}
 use Rattle.jsonb_scan.proofs.Numbers.ExtendedTexts.{IsNumberCode}
 use Rattle.jsonb.proofs.Scalars.Spellings.{IsNumberTree, StartsWord, number_opens, on_letter_cases, quote_is, quoted_starts, scalar-number, scalar_complete, single_cases, word_starts}
-use Rattle.jsonb_scan.proofs.Numbers.Standard.{FaultRead, UncarriedRead, number_faults, number_longest, standard_is_text}
-use Rattle.jsonb_scan.proofs.Numbers.Standard.FaultRead.{no_number, not_carried}
+use Rattle.jsonb_scan.proofs.Numbers.Standard.{FaultRead, UnrepresentableRead, number_faults, number_longest, standard_is_text}
+use Rattle.jsonb_scan.proofs.Numbers.Standard.FaultRead.{no_number, not_representable}
 
 -- ---- words, strings and keys are silent
 
@@ -162,18 +162,18 @@ pub record NoScalar (mode : Mode) (size : ℕ) (bytes : List ℕ) (place : ℕ) 
   pub begins_none : (rest : List ℕ) (t : Tree) → IsScalar mode (byte ∷ rest) t → ⊥
 
 -- The bytes begin with a number that no tree carries, and with no longer spelling of a number.
-pub record NotCarried (mode : Mode) (size : ℕ) (bytes : List ℕ) (place : ℕ) : Type 0 where
+pub record NotRepresentable (mode : Mode) (size : ℕ) (bytes : List ℕ) (place : ℕ) : Type 0 where
   pub text : List ℕ
   pub others : List ℕ
   pub whole : bytes ≡ text ++ others
-  pub is_uncarried : IsUncarried mode text
+  pub is_unrepresentable : IsUnrepresentable mode text
   pub longest : (longer rest : List ℕ) → text ++ others ≡ longer ++ rest → length text < length longer → IsNumberSpelling mode longer → ⊥
   pub after_text : place ≡ size - length others
 
 -- what a fault of a scalar says of the bytes
 abbrev pub WrongScalar : Mode → ℕ → List ℕ → Code → ℕ → Type 0
 WrongScalar mode size bytes expected_some_value place = NoScalar mode size bytes place
-WrongScalar mode size bytes number_not_carried place = NotCarried mode size bytes place
+WrongScalar mode size bytes number_not_carried place = NotRepresentable mode size bytes place
 WrongScalar mode size bytes other place = ⊥
 
 -- how a scalar begins
@@ -241,12 +241,12 @@ no_scalar mode size (b ∷ bytes) f n e told =
 number_wrong : (size : ℕ) (mode : Mode) (bytes : List ℕ) (f : Fault) → number_at size mode bytes ≡ Err f → IsTold f.code → WrongScalar mode size bytes f.code f.place
 number_wrong size extended bytes f e told = by_fault (extended_faults size bytes f e)
   where
-    wrong : ExtendedUncarried size bytes f.place → NotCarried extended size bytes f.place
+    wrong : ExtendedUnrepresentable size bytes f.place → NotRepresentable extended size bytes f.place
     wrong u = record {
       text = u.text;
       others = u.rest;
       whole = u.joined;
-      is_uncarried = u.uncarried;
+      is_unrepresentable = u.unrepresentable;
       longest = λ longer rest same more text. u.longest longer rest (u.joined ∙ same) (omega (arith, more, ap length same, length-append u.text u.rest, length-append longer rest)) text;
       after_text = u.place_is;
     }
@@ -257,22 +257,22 @@ number_wrong size extended bytes f e told = by_fault (extended_faults size bytes
     silent code (inr (inr is)) h = subst IsTold is h
 
     by_fault : ExtendedFault size bytes f → WrongScalar extended size bytes f.code f.place
-    by_fault (uncarried_text is u) = subst (λ (c : Code). WrongScalar extended size bytes c f.place) (sym is) (wrong u)
+    by_fault (unrepresentable_text is u) = subst (λ (c : Code). WrongScalar extended size bytes c f.place) (sym is) (wrong u)
     by_fault (no_text is none) = absurd (silent f.code is told)
 number_wrong size standard bytes f e told = by_fault (number_faults size bytes f e)
   where
-    wrong : UncarriedRead size bytes f.place → NotCarried standard size bytes f.place
+    wrong : UnrepresentableRead size bytes f.place → NotRepresentable standard size bytes f.place
     wrong u = record {
       text = u.text;
       others = u.rest;
       whole = u.joined;
-      is_uncarried = u.uncarried;
+      is_unrepresentable = u.unrepresentable;
       longest = λ longer rest same more text. u.longest longer rest (u.joined ∙ same) (omega (arith, more, ap length same, length-append u.text u.rest, length-append longer rest)) text;
       after_text = u.place_is;
     }
 
     by_fault : FaultRead size bytes f → WrongScalar standard size bytes f.code f.place
-    by_fault (not_carried is u) = subst (λ (c : Code). WrongScalar standard size bytes c f.place) (sym is) (wrong u)
+    by_fault (not_representable is u) = subst (λ (c : Code). WrongScalar standard size bytes c f.place) (sym is) (wrong u)
     by_fault (no_number is none) = absurd (subst IsTold is told)
 
 number_value_wrong : (size : ℕ) (mode : Mode) (bytes : List ℕ) (f : Fault) → number_value_at size mode bytes ≡ Err f → IsTold f.code → WrongScalar mode size bytes f.code f.place

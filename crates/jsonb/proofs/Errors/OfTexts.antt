@@ -53,7 +53,7 @@ stands_at mode input front rest count left number_not_carried place whole sum h 
       count = count;
       within = within;
       is_front = h;
-      is_uncarried = w.is_uncarried;
+      is_unrepresentable = w.is_unrepresentable;
       longest = w.longest;
       after_text = after_text;
     }

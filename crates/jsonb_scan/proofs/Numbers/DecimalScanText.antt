@@ -8,7 +8,7 @@ use Rattle.std.proofs.lemmas.List.{append_assoc}
 use Rattle.std.proofs.lemmas.Slice.{between_from_start}
 use Rattle.std.proofs.lemmas.List.Edits.{length-between, get_or-between}
 use Rattle.jsonb_value.proofs.Numbers.DecimalTexts.{value-after_zeros}
-use Rattle.jsonb_spec.specs.Grammar.ExtendedNumber.{is_minus, fraction_digits, fraction_text, HasDecimalParts, precision_of, value_of, decimal_number, IsDecimalNumber, IsUncarriedDecimal}
+use Rattle.jsonb_spec.specs.Grammar.ExtendedNumber.{is_minus, fraction_digits, fraction_text, HasDecimalParts, precision_of, value_of, decimal_number, IsDecimalNumber, IsUnrepresentableDecimal}
 use Rattle.jsonb_spec.specs.Number.Signed.{signed_by}
 use Rattle.jsonb_scan.specs.Reading.Number.{sign_end}
 use Rattle.jsonb_scan.specs.Reading.ExtendedNumber.{core_start, zeros_end, front_end, point_end, behind_end, scale_at, precision_at, decimal_end, all_digits, decimal_at}
@@ -156,8 +156,8 @@ digits_value_same bytes fraction same =
     ∙ ap (digits_value 10) (sym (append_assoc (slice_range bytes (core_start bytes) (zeros_end bytes)) (slice_range bytes (zeros_end bytes) (front_end bytes)) (slice_range bytes (point_end bytes) (behind_end bytes))))
     ∙ ap (λ f. digits_value 10 (f ++ slice_range bytes (point_end bytes) (behind_end bytes))) (sym front)
 
-carried : (bytes : List ℕ) (end : ℕ) → DecimalText bytes end → behind_end bytes ≡ end → precision_at bytes ≤ 38 → IsDecimalNumber (take end bytes) (decimal_number (scale_at bytes) (precision_at bytes) (signed_by (is_minus bytes) (digits_value 10 (all_digits bytes))))
-carried bytes end t no_exponent few =
+representable : (bytes : List ℕ) (end : ℕ) → DecimalText bytes end → behind_end bytes ≡ end → precision_at bytes ≤ 38 → IsDecimalNumber (take end bytes) (decimal_number (scale_at bytes) (precision_at bytes) (signed_by (is_minus bytes) (digits_value 10 (all_digits bytes))))
+representable bytes end t no_exponent few =
     let whole : List ℕ = slice_range bytes (zeros_end bytes) (front_end bytes) in
     let signed : signed_by (is_minus bytes) (digits_value 10 (all_digits bytes)) ≡ value_of (slice_range bytes 0 (core_start bytes)) (slice_range bytes (zeros_end bytes) (front_end bytes)) t.fraction =
     ap (λ b. signed_by b (digits_value 10 (all_digits bytes))) (sym (sign_value bytes (core_start bytes) refl)) ∙ ap (signed_by (is_minus (slice_range bytes 0 (core_start bytes)))) (sym (digits_value_same bytes t.fraction t.digits)) in (
@@ -172,8 +172,8 @@ carried bytes end t no_exponent few =
           ∙ ap (decimal_number (length (fraction_digits t.fraction)) (precision_of (slice_range bytes (zeros_end bytes) (front_end bytes)) t.fraction)) signed,
     )
 
-uncarried : (bytes : List ℕ) (end : ℕ) → DecimalText bytes end → (behind_end bytes ≢ end) ⊎ (38 < precision_at bytes) → IsUncarriedDecimal (take end bytes)
-uncarried bytes end t why = (
+unrepresentable : (bytes : List ℕ) (end : ℕ) → DecimalText bytes end → (behind_end bytes ≢ end) ⊎ (38 < precision_at bytes) → IsUnrepresentableDecimal (take end bytes)
+unrepresentable bytes end t why = (
   slice_range bytes 0 (core_start bytes),
   slice_range bytes (core_start bytes) (zeros_end bytes),
   slice_range bytes (zeros_end bytes) (front_end bytes),
@@ -183,13 +183,13 @@ uncarried bytes end t why = (
   ⊎_elim (λ other. inl (λ none. other (omega (arith, ap length none, length-between bytes (behind_end bytes) end t.within, t.ordered)))) (λ many. inr (omega (arith, t.precision, many))) why,
 )
 
--- the number of the text that ends here, or that it is not carried
-pub decimal_at_end : (bytes : List ℕ) (end : ℕ) → DecimalText bytes end → MatchOption (decimal_at bytes end) (IsUncarriedDecimal (take end bytes)) (IsDecimalNumber (take end bytes))
+-- the number of the text that ends here, or that it is not representable
+pub decimal_at_end : (bytes : List ℕ) (end : ℕ) → DecimalText bytes end → MatchOption (decimal_at bytes end) (IsUnrepresentableDecimal (take end bytes)) (IsDecimalNumber (take end bytes))
 unfolding decimal_at
 decimal_at_end bytes end t =
     ⊎_elim
     (λ last. let tested : (behind_end bytes == end) ≡ true = grind (arith, nat_tests) in
     ⊎_elim
-    (λ below. let few : precision_at bytes ≤ 38 = omega (arith, below) in let small : nat_le (precision_at bytes) 38 ≡ true = grind (arith, nat_tests) in rw (tested, small) (carried bytes end t last few))
-    (λ above. let many : 38 < precision_at bytes = omega (arith, above) in let large : nat_le (precision_at bytes) 38 ≡ false = grind (arith, nat_tests) in rw (tested, large) (uncarried bytes end t (inr many))) (cases_lt (precision_at bytes) 39))
-    (λ other. rw (differs (behind_end bytes) end other) (uncarried bytes end t (inl other))) (cases_eq (behind_end bytes) end)
+    (λ below. let few : precision_at bytes ≤ 38 = omega (arith, below) in let small : nat_le (precision_at bytes) 38 ≡ true = grind (arith, nat_tests) in rw (tested, small) (representable bytes end t last few))
+    (λ above. let many : 38 < precision_at bytes = omega (arith, above) in let large : nat_le (precision_at bytes) 38 ≡ false = grind (arith, nat_tests) in rw (tested, large) (unrepresentable bytes end t (inr many))) (cases_lt (precision_at bytes) 39))
+    (λ other. rw (differs (behind_end bytes) end other) (unrepresentable bytes end t (inl other))) (cases_eq (behind_end bytes) end)

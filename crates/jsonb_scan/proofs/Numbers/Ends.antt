@@ -5,13 +5,13 @@ use Rattle.std.specs.Str.Parse.{digits_value}
 use Rattle.std.proofs.lemmas.Bool.{cases_eq, cases_lt, cases_Bool}
 use Rattle.std.proofs.lemmas.Bool.Decides.{nat_tests}
 use Rattle.jsonb_spec.specs.Tree.{Num}
-use Rattle.jsonb_spec.specs.Grammar.StandardNumber.{IsInteger, IsStandardNumber, IsStandardUncarried}
+use Rattle.jsonb_spec.specs.Grammar.StandardNumber.{IsInteger, IsStandardNumber, IsStandardUnrepresentable}
 use Rattle.jsonb_scan.specs.Reading.Number.{End, then_from, digits_length, sign_end, exponent_from, fraction_from, has_minus, whole_start, standard_end, integer_of, whole_digits, integer_at}
 use Rattle.jsonb_scan.proofs.Numbers.Steps.{differs, digits_more, ok_no_err, then_ok, by_digits, whole_end, HasWhole, whole_missing, whole_needless, whole_found}
 use Rattle.jsonb_scan.proofs.Numbers.Scan.{IsDigitRun, IsScan, inside_of, digits_run, fraction_is, fraction_fault_is, exponent_is, exponent_fault_is}
 use Rattle.jsonb_scan.proofs.Numbers.Automaton.{Start, state_at, NoneEnds, EndsWhole}
 use Rattle.jsonb_scan.proofs.Numbers.ScanStates.{due, fault_no_digit, fault_needless_zero, whole_state, fraction_state, fault_bare_point, fault_bare_mark}
-use Rattle.jsonb_scan.proofs.Numbers.ScanText.{fraction_within, scan_number_text, scan_uncarried}
+use Rattle.jsonb_scan.proofs.Numbers.ScanText.{fraction_within, scan_number_text, scan_unrepresentable}
 use Rattle.jsonb_scan.proofs.Numbers.Forms.{negated_small}
 use Rattle.jsonb_scan.proofs.Numbers.HexadecimalValues.{signed_fits_64}
 
@@ -108,8 +108,8 @@ integer_is true v =
     (λ small. let low : v ≤ 2 ^ 63 = omega (arith, small) in let tested : nat_le v (2 ^ 63) ≡ true = grind (arith, nat_tests) in rw tested (signed_fits_64 v low, refl))
     (λ great. let tested : nat_le v (2 ^ 63) ≡ false = grind (arith, nat_tests) in rw tested (λ n h. absurd (omega (arith, great, negated_small v h.0)))) (cases_lt v (2 ^ 63 + 1))
 
--- the number of the text that ends here, or that it is not carried
-pub number_at_end : (bs : List ℕ) (end : ℕ) → ScannedTo bs end → MatchOption (integer_at bs end) (IsStandardUncarried (take end bs)) (IsStandardNumber (take end bs))
+-- the number of the text that ends here, or that it is not representable
+pub number_at_end : (bs : List ℕ) (end : ℕ) → ScannedTo bs end → MatchOption (integer_at bs end) (IsStandardUnrepresentable (take end bs)) (IsStandardNumber (take end bs))
 unfolding integer_at
 number_at_end bs end s =
     let count : whole_end bs - whole_start bs ≡ digits_length (drop (whole_start bs) bs) = omega arith in
@@ -118,9 +118,9 @@ number_at_end bs end s =
     (λ last.
     let tested : (whole_end bs == end) ≡ true = grind (arith, nat_tests) in
     rw tested (by_option (integer_of (has_minus bs) (digits_value 10 (whole_digits bs))) (integer_is (has_minus bs) (digits_value 10 (whole_digits bs)))
-    (λ none. scan_uncarried bs (whole_start bs) (whole_end bs) s.fraction end s.scan (inr (subst (λ ds. (n : Num) → ¬ IsInteger (has_minus bs) (digits_value 10 ds) n) (sym digits) none)))
+    (λ none. scan_unrepresentable bs (whole_start bs) (whole_end bs) s.fraction end s.scan (inr (subst (λ ds. (n : Num) → ¬ IsInteger (has_minus bs) (digits_value 10 ds) n) (sym digits) none)))
     (λ n is_integer. scan_number_text bs (whole_start bs) (whole_end bs) s.fraction end n s.scan last (subst (λ ds. IsInteger (has_minus bs) (digits_value 10 ds) n) (sym digits) is_integer))))
-    (λ other. rw (differs (whole_end bs) end other) (scan_uncarried bs (whole_start bs) (whole_end bs) s.fraction end s.scan (inl other))) (cases_eq (whole_end bs) end)
+    (λ other. rw (differs (whole_end bs) end other) (scan_unrepresentable bs (whole_start bs) (whole_end bs) s.fraction end s.scan (inl other))) (cases_eq (whole_end bs) end)
   where
     by_option : {P : Type 0} {Q : Num → Type 0} {P' : Type 0} {Q' : Num → Type 0} (o : Option Num) → MatchOption o P Q → (P → P') → ((n : Num) → Q n → Q' n) → MatchOption o P' Q'
     by_option None h none some = none h

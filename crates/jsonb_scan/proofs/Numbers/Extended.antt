@@ -11,7 +11,7 @@ use Rattle.std.proofs.lemmas.List.{take-append-drop, length-append, length-drop,
 use Rattle.std.proofs.Math.Seq.{take-append_seam, drop-append_seam}
 use Rattle.jsonb_spec.specs.Code.{number_not_carried}
 use Rattle.jsonb_spec.specs.Grammar.StandardNumber.{IsSign}
-use Rattle.jsonb_spec.specs.Grammar.ExtendedNumber.{fraction_digits, fraction_text, is_minus, IsDecimalNumber, IsUncarriedDecimal, IsExtendedNumber, IsExtendedUncarried, IsExtendedText}
+use Rattle.jsonb_spec.specs.Grammar.ExtendedNumber.{fraction_digits, fraction_text, is_minus, IsDecimalNumber, IsUnrepresentableDecimal, IsExtendedNumber, IsExtendedUnrepresentable, IsExtendedText}
 use Rattle.jsonb_spec.specs.Tree.{Num}
 use Rattle.jsonb_scan.specs.Reading.{Fault, Read}
 use Rattle.jsonb_scan.specs.Reading.Number.{End, sign_end}
@@ -24,7 +24,7 @@ use Rattle.jsonb_scan.proofs.Numbers.DecimalStates.{IsDecimalDue, NoDecimalEnds,
 use Rattle.jsonb_scan.proofs.Numbers.ExtendedTexts.{IsWordStart, IsLongestExtended, NoExtendedEnds, IsNumberCode, ScansExtended, goes_on_more, only_decimals, sign_front}
 use Rattle.jsonb_scan.proofs.Numbers.HexadecimalMeaning.{IsHexadecimalFront, reads_hexadecimal}
 use Rattle.jsonb_scan.proofs.Scalars.WordMeaning.{reads_word}
-use Rattle.jsonb_scan.proofs.Numbers.ExtendedParts.{extended_unique, extended_carried, extended_is_text}
+use Rattle.jsonb_scan.proofs.Numbers.ExtendedParts.{extended_unique, extended_representable, extended_is_text}
 
 -- ---- decimals
 
@@ -58,9 +58,9 @@ reads_decimal : (bytes : List ℕ) → IsDecimalHere bytes → ScansExtended byt
 unfolding decimal_scan
 reads_decimal bytes here = by_end (decimal_end bytes) refl
   where
-    by_number : (end : ℕ) (o : Option Num) → DecimalText bytes end → MatchOption o (IsUncarriedDecimal (take end bytes)) (IsDecimalNumber (take end bytes)) → ScansExtended bytes (Ok (o, end))
+    by_number : (end : ℕ) (o : Option Num) → DecimalText bytes end → MatchOption o (IsUnrepresentableDecimal (take end bytes)) (IsDecimalNumber (take end bytes)) → ScansExtended bytes (Ok (o, end))
     by_number end (Some n) t number = record { within = t.within; text = inl number; longest = decimal_longest bytes end here t }
-    by_number end None t uncarried = record { within = t.within; text = inl uncarried; longest = decimal_longest bytes end here t }
+    by_number end None t unrepresentable = record { within = t.within; text = inl unrepresentable; longest = decimal_longest bytes end here t }
 
     by_end : (r : End) → decimal_end bytes ≡ r → ScansExtended bytes (decimal_to bytes r)
     by_end (Ok end) at = let t = decimal_text bytes end at in by_number end (decimal_at bytes end) t (decimal_at_end bytes end t)
@@ -162,12 +162,12 @@ pub record ExtendedRead (bytes : List ℕ) (n : Num) (rest : List ℕ) : Type 0 
   pub number : IsExtendedNumber core n
   pub longest : NoLongerExtended bytes rest
 
--- a number text was met whose number is not carried
-pub record ExtendedUncarried (size : ℕ) (bytes : List ℕ) (place : ℕ) : Type 0 where
+-- a number text was met whose number is not representable
+pub record ExtendedUnrepresentable (size : ℕ) (bytes : List ℕ) (place : ℕ) : Type 0 where
   pub text : List ℕ
   pub rest : List ℕ
   pub joined : bytes ≡ text ++ rest
-  pub uncarried : IsExtendedUncarried text
+  pub unrepresentable : IsExtendedUnrepresentable text
   pub place_is : place ≡ size - length rest
   pub longest : NoLongerExtended bytes rest
 
@@ -177,7 +177,7 @@ NoExtendedText bytes = (core after : List ℕ) → bytes ≡ core ++ after → I
 
 -- what a fault of reading says
 pub data ExtendedFault (size : ℕ) (bytes : List ℕ) (f : Fault) : Type 0 where
-  uncarried_text : f.code ≡ number_not_carried → ExtendedUncarried size bytes f.place → ExtendedFault size bytes f
+  unrepresentable_text : f.code ≡ number_not_carried → ExtendedUnrepresentable size bytes f.place → ExtendedFault size bytes f
   no_text : IsNumberCode f.code → NoExtendedText bytes → ExtendedFault size bytes f
 
 -- a byte after a number text that doesn't go on with it
@@ -204,11 +204,11 @@ scanned_answer size bytes (Ok (Some n, end)) t = record {
   number = t.text;
   longest = no_longer bytes end t.within t.longest;
 }
-scanned_answer size bytes (Ok (None, end)) t = uncarried_text refl (record {
+scanned_answer size bytes (Ok (None, end)) t = unrepresentable_text refl (record {
   text = take end bytes;
   rest = drop end bytes;
   joined = sym (take-append-drop end bytes);
-  uncarried = t.text;
+  unrepresentable = t.text;
   place_is = refl;
   longest = no_longer bytes end t.within t.longest;
 })
@@ -252,7 +252,7 @@ extended_complete size core rest n number ends = by_scan (extended_scan (core ++
         ap (λ xs. Ok (m, xs)) back ∙ ap (λ k. Ok (k, rest)) (extended_unique core m n (subst (λ xs. IsExtendedNumber xs m) (front end same) t.text) number)
     by_scan (Ok (None, end)) t =
         let same = ends_here end t.longest in
-        absurd (extended_carried core n number (subst IsExtendedUncarried (front end same) t.text))
+        absurd (extended_representable core n number (subst IsExtendedUnrepresentable (front end same) t.text))
     by_scan (Err f) (code, none) = absurd (stops_after core rest ends (none (length core) within text))
 
 -- ---- how a number text begins

@@ -6,7 +6,7 @@ use Rattle.std.specs.Str.Parse.{AllDigits, digits_value}
 use Rattle.std.proofs.lemmas.Str.Parse.{digit_from_value}
 use Rattle.std.proofs.lemmas.List.{append-nil, take_all}
 use Rattle.jsonb_spec.specs.Grammar.StandardNumber.{IsSign, IsExponent, IsExponentMark}
-use Rattle.jsonb_spec.specs.Grammar.ExtendedNumber.{is_minus, fraction_digits, fraction_text, HasDecimalParts, precision_of, value_of, decimal_number, IsDecimalNumber, IsDecimalText, IsUncarriedDecimal, HasHexadecimalParts, hexadecimal_number, IsHexadecimalNumber, IsHexadecimalText, IsUncarriedHexadecimal, IsWordText, IsExtendedNumber, IsExtendedUncarried, IsExtendedText}
+use Rattle.jsonb_spec.specs.Grammar.ExtendedNumber.{is_minus, fraction_digits, fraction_text, HasDecimalParts, precision_of, value_of, decimal_number, IsDecimalNumber, IsDecimalText, IsUnrepresentableDecimal, HasHexadecimalParts, hexadecimal_number, IsHexadecimalNumber, IsHexadecimalText, IsUnrepresentableHexadecimal, IsWordText, IsExtendedNumber, IsExtendedUnrepresentable, IsExtendedText}
 use Rattle.jsonb_spec.specs.Tree.{Num}
 use Rattle.jsonb_scan.specs.Reading.ExtendedNumber.{core_byte}
 use Rattle.jsonb_scan.proofs.Numbers.DecimalScan.{core_within}
@@ -118,16 +118,16 @@ decimal_unique core m n (sign, zeros, whole, fraction, p, few, first) (other, mo
     let s = same_decimal core sign zeros whole fraction [] other more digits behind [] p q in
     first ∙ ap (λ x. number_by x whole fraction) s.sign_same ∙ ap (λ x. number_by other x fraction) s.whole_same ∙ ap (λ x. number_by other digits x) s.fraction_same ∙ sym second
 
-decimal_carried : (core : List ℕ) (n : Num) → IsDecimalNumber core n → IsUncarriedDecimal core → ⊥
-decimal_carried core n (sign, zeros, whole, fraction, p, few, first) (other, more, digits, behind, last, q, why) =
+decimal_representable : (core : List ℕ) (n : Num) → IsDecimalNumber core n → IsUnrepresentableDecimal core → ⊥
+decimal_representable core n (sign, zeros, whole, fraction, p, few, first) (other, more, digits, behind, last, q, why) =
     let s = same_decimal core sign zeros whole fraction [] other more digits behind last p q in
     ⊎_elim (λ some. some (sym s.exponent_same)) (λ many. omega (arith, few, many, ap length s.whole_same, ap (λ f. length (fraction_digits f)) s.fraction_same)) why
 
 decimal_is_text : (core : List ℕ) (n : Num) → IsDecimalNumber core n → IsDecimalText core
 decimal_is_text core n (sign, zeros, whole, fraction, p, few, first) = (sign, zeros, whole, fraction, [], p)
 
-uncarried_decimal_is_text : (core : List ℕ) → IsUncarriedDecimal core → IsDecimalText core
-uncarried_decimal_is_text core (sign, zeros, whole, fraction, exponent, p, why) = (sign, zeros, whole, fraction, exponent, p)
+unrepresentable_decimal_is_text : (core : List ℕ) → IsUnrepresentableDecimal core → IsDecimalText core
+unrepresentable_decimal_is_text core (sign, zeros, whole, fraction, exponent, p, why) = (sign, zeros, whole, fraction, exponent, p)
 
 -- ---- hexadecimals
 
@@ -158,8 +158,8 @@ hexadecimal_unique core m n (sign, mark, whole, p, first) (other, letter, digits
 no_number : (n : Num) → ◌≡◌ {A = Option Num} (Some n) None → ⊥
 no_number n e = absurd cc
 
-hexadecimal_carried : (core : List ℕ) (n : Num) → IsHexadecimalNumber core n → IsUncarriedHexadecimal core → ⊥
-hexadecimal_carried core n (sign, mark, whole, p, first) (other, letter, digits, behind, q, why) =
+hexadecimal_representable : (core : List ℕ) (n : Num) → IsHexadecimalNumber core n → IsUnrepresentableHexadecimal core → ⊥
+hexadecimal_representable core n (sign, mark, whole, p, first) (other, letter, digits, behind, q, why) =
     let s = same_hexadecimal core sign mark whole other letter digits behind p q in
     ⊎_elim (λ some. some s.no_fraction)
     (λ none. no_number n (sym first ∙ ap (λ x. hexadecimal_number (is_minus x) (digits_value 16 whole)) s.sign_same ∙ ap (λ x. hexadecimal_number (is_minus other) (digits_value 16 x)) s.whole_same ∙ none)) why
@@ -167,8 +167,8 @@ hexadecimal_carried core n (sign, mark, whole, p, first) (other, letter, digits,
 hexadecimal_is_text : (core : List ℕ) (n : Num) → IsHexadecimalNumber core n → IsHexadecimalText core
 hexadecimal_is_text core n (sign, mark, whole, p, first) = (sign, mark, whole, None, p)
 
-uncarried_hexadecimal_is_text : (core : List ℕ) → IsUncarriedHexadecimal core → IsHexadecimalText core
-uncarried_hexadecimal_is_text core (sign, mark, whole, fraction, p, why) = (sign, mark, whole, fraction, p)
+unrepresentable_hexadecimal_is_text : (core : List ℕ) → IsUnrepresentableHexadecimal core → IsHexadecimalText core
+unrepresentable_hexadecimal_is_text core (sign, mark, whole, fraction, p, why) = (sign, mark, whole, fraction, p)
 
 -- ---- of two kinds no text is
 
@@ -201,14 +201,14 @@ extended_unique core m n (inl p) (inr q) = absurd (no_decimal_hexadecimal core (
 extended_unique core m n (inr p) (inl q) = absurd (no_decimal_hexadecimal core (decimal_is_text core n q) (hexadecimal_is_text core m p))
 extended_unique core m n (inr p) (inr q) = hexadecimal_unique core m n p q
 
--- a text with a number is carried
-pub extended_carried : (core : List ℕ) (n : Num) → IsExtendedNumber core n → IsExtendedUncarried core → ⊥
-extended_carried core n (inl p) (inl q) = decimal_carried core n p q
-extended_carried core n (inl p) (inr (inl q)) = no_decimal_hexadecimal core (decimal_is_text core n p) (uncarried_hexadecimal_is_text core q)
-extended_carried core n (inl p) (inr (inr q)) = no_decimal_word core (decimal_is_text core n p) q
-extended_carried core n (inr p) (inl q) = no_decimal_hexadecimal core (uncarried_decimal_is_text core q) (hexadecimal_is_text core n p)
-extended_carried core n (inr p) (inr (inl q)) = hexadecimal_carried core n p q
-extended_carried core n (inr p) (inr (inr q)) = no_hexadecimal_word core (hexadecimal_is_text core n p) q
+-- a text with a number is representable
+pub extended_representable : (core : List ℕ) (n : Num) → IsExtendedNumber core n → IsExtendedUnrepresentable core → ⊥
+extended_representable core n (inl p) (inl q) = decimal_representable core n p q
+extended_representable core n (inl p) (inr (inl q)) = no_decimal_hexadecimal core (decimal_is_text core n p) (unrepresentable_hexadecimal_is_text core q)
+extended_representable core n (inl p) (inr (inr q)) = no_decimal_word core (decimal_is_text core n p) q
+extended_representable core n (inr p) (inl q) = no_decimal_hexadecimal core (unrepresentable_decimal_is_text core q) (hexadecimal_is_text core n p)
+extended_representable core n (inr p) (inr (inl q)) = hexadecimal_representable core n p q
+extended_representable core n (inr p) (inr (inr q)) = no_hexadecimal_word core (hexadecimal_is_text core n p) q
 
 pub extended_is_text : (core : List ℕ) (n : Num) → IsExtendedNumber core n → IsExtendedText core
 extended_is_text core n (inl p) = inl (decimal_is_text core n p)

@@ -8,7 +8,7 @@ use Rattle.std.proofs.lemmas.List.{append_assoc, take-append-drop, length-append
 use Rattle.std.proofs.lemmas.Str.{digit_value_digit}
 use Rattle.jsonb_spec.specs.Code.{Code, invalid_eof, invalid_number_value, expected_some_ident}
 use Rattle.jsonb_spec.specs.Grammar.StandardNumber.{IsSign}
-use Rattle.jsonb_spec.specs.Grammar.ExtendedNumber.{is_minus, fraction_text, IsDecimalText, IsHexadecimalText, IsWordText, Spells, IsExtendedNumber, IsExtendedUncarried, IsExtendedText}
+use Rattle.jsonb_spec.specs.Grammar.ExtendedNumber.{is_minus, fraction_text, IsDecimalText, IsHexadecimalText, IsWordText, Spells, IsExtendedNumber, IsExtendedUnrepresentable, IsExtendedText}
 use Rattle.jsonb_scan.specs.Reading.Number.{sign_end, ContinuesNumber}
 use Rattle.jsonb_scan.specs.Reading.ExtendedNumber.{Scanned, core_byte, ContinuesNumberExtended}
 use Rattle.jsonb_scan.proofs.Numbers.Steps.{differs}
@@ -41,7 +41,7 @@ IsNumberCode code = (code ≡ invalid_number_value) ⊎ ((code ≡ invalid_eof) 
 -- what a scan says of the bytes
 abbrev pub ScansExtended : List ℕ → Scanned → Type 0
 ScansExtended bytes (Ok (Some n, end)) = ReadsText bytes end (λ text. IsExtendedNumber text n)
-ScansExtended bytes (Ok (None, end)) = ReadsText bytes end IsExtendedUncarried
+ScansExtended bytes (Ok (None, end)) = ReadsText bytes end IsExtendedUnrepresentable
 ScansExtended bytes (Err f) = IsNumberCode f.0 × NoExtendedEnds bytes
 
 -- ---- the first byte after the sign

@@ -44,9 +44,9 @@ pub fraction_after_past : (place n : ℕ) (fits : Bool) (bs : List ℕ) → n �
 unfolding fraction_scan
 fraction_after_past place n fits bs e some past = rw (← e, some_tested n some, past) refl
 
-pub fraction_not_carried : (place n : ℕ) (fits : Bool) (bs : List ℕ) → n ≡ hexadecimal_length bs → n ≢ 0 → fits ≡ true → digits_value 16 (take n bs) < 2 ^ 128 → without_number (place + n) ≡ fraction_scan place fits bs
+pub fraction_not_representable : (place n : ℕ) (fits : Bool) (bs : List ℕ) → n ≡ hexadecimal_length bs → n ≢ 0 → fits ≡ true → digits_value 16 (take n bs) < 2 ^ 128 → without_number (place + n) ≡ fraction_scan place fits bs
 unfolding fraction_scan
-fraction_not_carried place n fits bs e some whole small = rw (← e, some_tested n some, whole, is_below (digits_value 16 (take n bs)) (2 ^ 128) small) refl
+fraction_not_representable place n fits bs e some whole small = rw (← e, some_tested n some, whole, is_below (digits_value 16 (take n bs)) (2 ^ 128) small) refl
 
 pub fraction_past : (place n : ℕ) (fits : Bool) (bs : List ℕ) → n ≡ hexadecimal_length bs → n ≢ 0 → fits ≡ true → ¬ (digits_value 16 (take n bs) < 2 ^ 128) → invalid (place + n) ≡ fraction_scan place fits bs
 unfolding fraction_scan
@@ -80,7 +80,7 @@ fraction_rejected place n fits None bs e some h (inr (whole, none)) = fraction_p
 fraction_rejected place n fits (Some v) bs e some h (inr (whole, none)) = absurd (cc)
 
 pub fraction_without_number : (place n : ℕ) (fits : Bool) (r : Option ℕ) (bs : List ℕ) → n ≡ hexadecimal_length bs → n ≢ 0 → SomeIff r (digits_value 16 (take n bs) < 2 ^ 128) (digits_value 16 (take n bs)) → fits ≡ true → (r ≡ None → ⊥) → without_number (place + n) ≡ fraction_scan place fits bs
-fraction_without_number place n fits (Some v) bs e some h whole found = fraction_not_carried place n fits bs e some whole h.0
+fraction_without_number place n fits (Some v) bs e some h whole found = fraction_not_representable place n fits bs e some whole h.0
 fraction_without_number place n fits None bs e some h whole found = absurd (found refl)
 
 pub no_value : (r : Option ℕ) → is_some r ≡ false → r ≡ None

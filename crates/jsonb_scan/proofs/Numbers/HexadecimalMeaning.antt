@@ -9,7 +9,7 @@ use Rattle.jsonb_spec.specs.Grammar.StandardNumber.{IsSign}
 use Rattle.jsonb_spec.specs.Grammar.ExtendedNumber.{is_minus, fraction_text, hexadecimal_number, HasHexadecimalParts, IsExtendedText}
 use Rattle.jsonb_spec.specs.Tree.{Num}
 use Rattle.jsonb_scan.specs.Reading.ExtendedNumber.{invalid, core_byte, hexadecimal_length, hexadecimal_fits, fraction_scan, hexadecimal_scan, ContinuesNumberExtended}
-use Rattle.jsonb_scan.proofs.Numbers.HexadecimalAnswers.{without_number, taken_digits, fraction_without_digits, fraction_after_past, fraction_not_carried, fraction_past, hexadecimal_without_digits, hexadecimal_with_point, hexadecimal_past, hexadecimal_whole_at}
+use Rattle.jsonb_scan.proofs.Numbers.HexadecimalAnswers.{without_number, taken_digits, fraction_without_digits, fraction_after_past, fraction_not_representable, fraction_past, hexadecimal_without_digits, hexadecimal_with_point, hexadecimal_past, hexadecimal_whole_at}
 use Rattle.jsonb_scan.proofs.Numbers.HexadecimalTexts.{IsHexadecimalScan, AreGood, scan_length, hexadecimal_ends}
 use Rattle.jsonb_scan.proofs.Numbers.ExtendedTexts.{IsWordStart, IsLongestExtended, NoExtendedEnds, ScansExtended, core_of, letter_is, word_found, found_letter, decimals_before_mark}
 use Rattle.jsonb_scan.proofs.Numbers.Steps.{is_below, is_not_below}
@@ -133,7 +133,7 @@ reads_fraction bytes sign mark rest place n m fits behind front start count some
       text = inr (inl (sign, mark, take n rest, Some (take m behind), parts.1, inl (λ e. absurd (cc))));
       longest = longest_in_scan bytes sign mark (take n rest) (Some (take m behind)) (drop m behind) scan;
     }) in
-    subst (ScansExtended bytes) (fraction_not_carried (place + n + 1) m fits behind more digits (fits_is ∙ is_below (digits_value 16 (take n rest)) (2 ^ 128) small) small_too) found)
+    subst (ScansExtended bytes) (fraction_not_representable (place + n + 1) m fits behind more digits (fits_is ∙ is_below (digits_value 16 (take n rest)) (2 ^ 128) small) small_too) found)
     (λ large. subst (ScansExtended bytes) (fraction_past (place + n + 1) m fits behind more digits (fits_is ∙ is_below (digits_value 16 (take n rest)) (2 ^ 128) small) (λ less. omega (arith, less, large))) (none (λ good. omega (arith, good.fraction_fits, large)) (place + n + 1 + m)))
     (cases_lt (digits_value 16 (take m behind)) (2 ^ 128)))
     (λ large. subst (ScansExtended bytes) (fraction_after_past (place + n + 1) m fits behind more digits (fits_is ∙ is_not_below (digits_value 16 (take n rest)) (2 ^ 128) (omega (arith, large)))) (none (λ good. omega (arith, good.whole_fits, large)) (place + n + 1 + m)))

@@ -11,7 +11,7 @@ use Rattle.std.proofs.lemmas.List.{take-append-drop, take-take, drop-take, drop-
 use Rattle.std.proofs.lemmas.Slice.{between_from_start}
 use Rattle.std.proofs.lemmas.List.Edits.{length-between, get_or-between, between_none}
 use Rattle.jsonb_spec.specs.Tree.{Num}
-use Rattle.jsonb_spec.specs.Grammar.StandardNumber.{IsWhole, IsFraction, IsSign, IsExponent, HasParts, IsInteger, IsStandardNumber, IsStandardUncarried}
+use Rattle.jsonb_spec.specs.Grammar.StandardNumber.{IsWhole, IsFraction, IsSign, IsExponent, HasParts, IsInteger, IsStandardNumber, IsStandardUnrepresentable}
 use Rattle.jsonb_scan.specs.Reading.Number.{sign_end, has_minus, whole_start}
 use Rattle.jsonb_scan.proofs.Numbers.Steps.{sign_end_ge}
 use Rattle.jsonb_scan.proofs.Numbers.Scan.{IsDigitRun, IsFractionEnd, IsExponentEnd, IsScan}
@@ -157,8 +157,8 @@ scan_number_text bytes start whole fraction end n scan last is_integer =
       is_integer,
     )
 
-pub scan_uncarried : (bytes : List ℕ) (start whole fraction end : ℕ) → IsScan bytes start whole fraction end → (whole ≢ end) ⊎ ((n : Num) → ¬ IsInteger (has_minus bytes) (digits_value 10 (slice_range bytes start whole)) n) → IsStandardUncarried (take end bytes)
-scan_uncarried bytes start whole fraction end scan why =
+pub scan_unrepresentable : (bytes : List ℕ) (start whole fraction end : ℕ) → IsScan bytes start whole fraction end → (whole ≢ end) ⊎ ((n : Num) → ¬ IsInteger (has_minus bytes) (digits_value 10 (slice_range bytes start whole)) n) → IsStandardUnrepresentable (take end bytes)
+scan_unrepresentable bytes start whole fraction end scan why =
     let f = fraction_within bytes whole fraction scan.digits.within scan.fraction_end in
     let e = exponent_within bytes fraction end f.1 scan.exponent_end in
     let reason : (slice_range bytes whole fraction ++ slice_range bytes fraction end ≢ []) ⊎ ((n : Num) → ¬ IsInteger (has_minus bytes) (digits_value 10 (slice_range bytes start whole)) n) =

@@ -179,11 +179,11 @@ small_number bytes e w m are small behind =
     let same : length (slice_range bytes e.zeros_end e.front_end) + length (slice_range bytes e.point_end e.behind_end) ≡ e.front_end - e.zeros_end + (e.behind_end - e.point_end) = omega (arith, front_long bytes e are, back_long bytes e are) in
     subst (λ j. m < 10 ^ j) same (omega (arith, behind, mul-le-mul_right (10 ^ length (slice_range bytes e.point_end e.behind_end)) below, pow-add 10 (length (slice_range bytes e.zeros_end e.front_end)) (length (slice_range bytes e.point_end e.behind_end))))
 
-pub not_carried : (bytes : List ℕ) (e : DecimalEnds) (end : ℕ) → AreEnds bytes e → ((e.behind_end ≡ end → ⊥) ⊎ (38 < e.front_end - e.zeros_end + (e.behind_end - e.point_end))) → None ≡ decimal_at bytes end
+pub not_representable : (bytes : List ℕ) (e : DecimalEnds) (end : ℕ) → AreEnds bytes e → ((e.behind_end ≡ end → ⊥) ⊎ (38 < e.front_end - e.zeros_end + (e.behind_end - e.point_end))) → None ≡ decimal_at bytes end
 unfolding decimal_at
-not_carried bytes e end are (inl other) =
+not_representable bytes e end are (inl other) =
     let test : (behind_end bytes == end) ≡ false = differs (behind_end bytes) end (λ same. other (are.behind ∙ same)) in rw test refl
-not_carried bytes e end are (inr many) =
+not_representable bytes e end are (inr many) =
     let large : 38 < precision_at bytes = omega (arith, many, are.zeros, are.front, are.point, are.behind) in
     let test : nat_le (precision_at bytes) 38 ≡ false = grind (arith, nat_tests) in
     sym (cond-false ((behind_end bytes == end) && nat_le (precision_at bytes) 38) _ _ (and_false (behind_end bytes == end) (nat_le (precision_at bytes) 38) test))
@@ -192,10 +192,10 @@ not_carried bytes e end are (inr many) =
     and_false true b h = h
     and_false false b h = refl
 
-pub carried : (bytes : List ℕ) (e : DecimalEnds) (end minus w m : ℕ) (n : Num) → AreEnds bytes e → e.behind_end ≡ end → e.front_end - e.zeros_end + (e.behind_end - e.point_end) ≤ 38 → w ≡ digits_value_after 10 0 (slice_range bytes e.zeros_end e.front_end) → m ≡ digits_value_after 10 w (slice_range bytes e.point_end e.behind_end) → minus ≡ slice_index bytes 0 →
+pub representable : (bytes : List ℕ) (e : DecimalEnds) (end minus w m : ℕ) (n : Num) → AreEnds bytes e → e.behind_end ≡ end → e.front_end - e.zeros_end + (e.behind_end - e.point_end) ≤ 38 → w ≡ digits_value_after 10 0 (slice_range bytes e.zeros_end e.front_end) → m ≡ digits_value_after 10 w (slice_range bytes e.point_end e.behind_end) → minus ≡ slice_index bytes 0 →
     n ≡ decimal_number (e.behind_end - e.point_end) (e.front_end - e.zeros_end + (e.behind_end - e.point_end)) (signed_by (minus == 45) m) → Some n ≡ decimal_at bytes end
 unfolding decimal_at
-carried bytes e end minus w m n are last few front back sign number =
+representable bytes e end minus w m n are last few front back sign number =
     let here : behind_end bytes ≡ end = sym are.behind ∙ last in
     let test : (behind_end bytes == end) ≡ true = grind (arith, nat_tests) in
     let small : precision_at bytes ≤ 38 = omega (arith, few, are.zeros, are.front, are.point, are.behind) in

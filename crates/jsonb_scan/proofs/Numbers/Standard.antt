@@ -8,9 +8,9 @@ use Rattle.std.proofs.lemmas.List.{take-append-drop, length-append, length-drop,
 use Rattle.std.proofs.Math.Seq.{take-append_seam, drop-append_seam}
 use Rattle.jsonb_spec.specs.Code.{invalid_number_value, number_not_carried}
 use Rattle.jsonb_spec.specs.Tree.{Num}
-use Rattle.jsonb_spec.specs.Grammar.StandardNumber.{IsWhole, IsFraction, IsExponent, HasParts, IsNumberText, IsInteger, IsStandardNumber, IsStandardUncarried}
+use Rattle.jsonb_spec.specs.Grammar.StandardNumber.{IsWhole, IsFraction, IsExponent, HasParts, IsNumberText, IsInteger, IsStandardNumber, IsStandardUnrepresentable}
 use Rattle.jsonb_scan.specs.Reading.{Fault, Read}
-use Rattle.jsonb_scan.specs.Reading.Number.{ContinuesAfterInteger, ContinuesNumber, IsNumberBoundary, is_number_start, End, standard_end, integer_at, carried_at, number_to, standard_number_at}
+use Rattle.jsonb_scan.specs.Reading.Number.{ContinuesAfterInteger, ContinuesNumber, IsNumberBoundary, is_number_start, End, standard_end, integer_at, representable_at, number_to, standard_number_at}
 use Rattle.jsonb_scan.proofs.Numbers.Steps.{is_digit, read_fault}
 use Rattle.jsonb_scan.proofs.Numbers.Automaton.{NoneEnds, IsLongest}
 use Rattle.jsonb_scan.proofs.Numbers.ScanText.{scan_longest, scan_end_within}
@@ -110,9 +110,9 @@ number_unique core m n (negative, whole, parts, is_integer) (other, digits, othe
     let moved : IsInteger negative (digits_value 10 whole) n = subst (λ ds. IsInteger negative (digits_value 10 ds) n) (sym same.whole_same) (subst (λ b. IsInteger b (digits_value 10 digits) n) (sym same.sign) is_other) in
     integer_unique negative (digits_value 10 whole) m n is_integer moved
 
--- a text with a number is carried
-pub number_carried : (core : List ℕ) (n : Num) → IsStandardNumber core n → IsStandardUncarried core → ⊥
-number_carried core n (negative, whole, parts, is_integer) (other, digits, fraction, exponent, others, why) =
+-- a text with a number is representable
+pub number_representable : (core : List ℕ) (n : Num) → IsStandardNumber core n → IsStandardUnrepresentable core → ⊥
+number_representable core n (negative, whole, parts, is_integer) (other, digits, fraction, exponent, others, why) =
     let same = same_parts core negative other whole digits fraction exponent parts others in
     ⊎_elim (λ more. more same.no_tail)
     (λ none. none n (subst (λ ds. IsInteger other (digits_value 10 ds) n) same.whole_same (subst (λ b. IsInteger b (digits_value 10 whole) n) same.sign is_integer))) why
@@ -135,8 +135,8 @@ no_longer bytes end within longest longer after joined short text =
 record ReadTo (size : ℕ) (bytes : List ℕ) (end : ℕ) : Type 0 where
   within : end ≤ length bytes
   longest : IsLongest bytes end
-  number : MatchOption (integer_at bytes end) (IsStandardUncarried (take end bytes)) (IsStandardNumber (take end bytes))
-  answer : standard_number_at size bytes ≡ carried_at size (drop end bytes) (integer_at bytes end)
+  number : MatchOption (integer_at bytes end) (IsStandardUnrepresentable (take end bytes)) (IsStandardNumber (take end bytes))
+  answer : standard_number_at size bytes ≡ representable_at size (drop end bytes) (integer_at bytes end)
 
 read_to : (size : ℕ) (bytes : List ℕ) (end : ℕ) → standard_end bytes ≡ Ok end → ReadTo size bytes end
 unfolding standard_number_at
@@ -156,12 +156,12 @@ pub record NumberRead (bytes : List ℕ) (n : Num) (rest : List ℕ) : Type 0 wh
   pub number : IsStandardNumber core n
   pub longest : NoLongerText bytes rest
 
--- a number text was met whose number is not carried
-pub record UncarriedRead (size : ℕ) (bytes : List ℕ) (place : ℕ) : Type 0 where
+-- a number text was met whose number is not representable
+pub record UnrepresentableRead (size : ℕ) (bytes : List ℕ) (place : ℕ) : Type 0 where
   pub text : List ℕ
   pub rest : List ℕ
   pub joined : bytes ≡ text ++ rest
-  pub uncarried : IsStandardUncarried text
+  pub unrepresentable : IsStandardUnrepresentable text
   pub place_is : place ≡ size - length rest
   pub longest : NoLongerText bytes rest
 
@@ -171,7 +171,7 @@ NoNumberEnds bytes = (core after : List ℕ) → bytes ≡ core ++ after → IsN
 
 -- what a fault of reading says
 pub data FaultRead (size : ℕ) (bytes : List ℕ) (f : Fault) : Type 0 where
-  not_carried : f.code ≡ number_not_carried → UncarriedRead size bytes f.place → FaultRead size bytes f
+  not_representable : f.code ≡ number_not_carried → UnrepresentableRead size bytes f.place → FaultRead size bytes f
   no_number : f.code ≡ invalid_number_value → NoNumberEnds bytes → FaultRead size bytes f
 
 -- a byte after a number text that doesn't go on with it
@@ -191,18 +191,18 @@ abbrev IsAnswer : ℕ → List ℕ → Read Num → Type 0
 IsAnswer size bytes (Ok (n, rest)) = NumberRead bytes n rest
 IsAnswer size bytes (Err f) = FaultRead size bytes f
 
-carried_answer : (size end : ℕ) (bytes : List ℕ) (o : Option Num) → end ≤ length bytes → IsLongest bytes end → MatchOption o (IsStandardUncarried (take end bytes)) (IsStandardNumber (take end bytes)) → IsAnswer size bytes (carried_at size (drop end bytes) o)
-carried_answer size end bytes (Some n) within longest number = record {
+representable_answer : (size end : ℕ) (bytes : List ℕ) (o : Option Num) → end ≤ length bytes → IsLongest bytes end → MatchOption o (IsStandardUnrepresentable (take end bytes)) (IsStandardNumber (take end bytes)) → IsAnswer size bytes (representable_at size (drop end bytes) o)
+representable_answer size end bytes (Some n) within longest number = record {
   core = take end bytes;
   joined = sym (take-append-drop end bytes);
   number = number;
   longest = no_longer bytes end within longest;
 }
-carried_answer size end bytes None within longest uncarried = not_carried refl (record {
+representable_answer size end bytes None within longest unrepresentable = not_representable refl (record {
   text = take end bytes;
   rest = drop end bytes;
   joined = sym (take-append-drop end bytes);
-  uncarried = uncarried;
+  unrepresentable = unrepresentable;
   place_is = refl;
   longest = no_longer bytes end within longest;
 })
@@ -210,7 +210,7 @@ carried_answer size end bytes None within longest uncarried = not_carried refl (
 answer_by : (size : ℕ) (bytes : List ℕ) (r : End) → standard_end bytes ≡ r → IsAnswer size bytes (standard_number_at size bytes)
 answer_by size bytes (Ok end) at =
     let read = read_to size bytes end at in
-    subst (IsAnswer size bytes) (sym read.answer) (carried_answer size end bytes (integer_at bytes end) read.within read.longest read.number)
+    subst (IsAnswer size bytes) (sym read.answer) (representable_answer size end bytes (integer_at bytes end) read.within read.longest read.number)
 answer_by size bytes (Err place) at =
     subst (IsAnswer size bytes) (sym (read_fault size bytes place at)) (no_number refl (nothing_ends bytes (none_ends bytes place at)))
 
@@ -240,14 +240,14 @@ number_complete size core rest n number ends = by_end (standard_end (core ++ res
     within : length core ≤ length (core ++ rest)
     within = omega (arith, length-append core rest)
 
-    is_read : (end : ℕ) (o : Option Num) → length core ≡ end → MatchOption o (IsStandardUncarried (take end (core ++ rest))) (IsStandardNumber (take end (core ++ rest))) → carried_at size (drop end (core ++ rest)) o ≡ Ok (n, rest)
+    is_read : (end : ℕ) (o : Option Num) → length core ≡ end → MatchOption o (IsStandardUnrepresentable (take end (core ++ rest))) (IsStandardNumber (take end (core ++ rest))) → representable_at size (drop end (core ++ rest)) o ≡ Ok (n, rest)
     is_read end (Some m) same found =
         let front : take end (core ++ rest) ≡ core = ap (λ i. take i (core ++ rest)) (sym same) ∙ take-append_seam core rest in
         let back : drop end (core ++ rest) ≡ rest = ap (λ i. drop i (core ++ rest)) (sym same) ∙ drop-append_seam core rest in
         ap (λ xs. Ok (m, xs)) back ∙ ap (λ k. Ok (k, rest)) (number_unique core m n (subst (λ xs. IsStandardNumber xs m) front found) number)
     is_read end None same found =
         let front : take end (core ++ rest) ≡ core = ap (λ i. take i (core ++ rest)) (sym same) ∙ take-append_seam core rest in
-        absurd (number_carried core n number (subst IsStandardUncarried front found))
+        absurd (number_representable core n number (subst IsStandardUnrepresentable front found))
 
     by_end : (r : End) → standard_end (core ++ rest) ≡ r → standard_number_at size (core ++ rest) ≡ Ok (n, rest)
     by_end (Ok end) at =

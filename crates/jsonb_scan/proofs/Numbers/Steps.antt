@@ -16,7 +16,7 @@ use Rattle.jsonb_spec.specs.Code.{invalid_number_value, number_not_carried}
 use Rattle.jsonb_spec.specs.Grammar.StandardNumber.{IsExponentMark}
 use Rattle.jsonb_spec.specs.Tree.{Num}
 use Rattle.jsonb_scan.specs.Reading.{fault}
-use Rattle.jsonb_scan.specs.Reading.Number.{ContinuesAfterInteger, ContinuesNumber, is_number_start, End, then_from, digits_length, digits_from, sign_end, exponent_from, fraction_from, whole_from, has_minus, whole_start, standard_end, integer_of, whole_digits, integer_at, carried_at, number_to, standard_number_at}
+use Rattle.jsonb_scan.specs.Reading.Number.{ContinuesAfterInteger, ContinuesNumber, is_number_start, End, then_from, digits_length, digits_from, sign_end, exponent_from, fraction_from, whole_from, has_minus, whole_start, standard_end, integer_of, whole_digits, integer_at, representable_at, number_to, standard_number_at}
 use Rattle.jsonb_scan.specs.ShortInteger.{short_view}
 use Rattle.jsonb_scan.proofs.Numbers.Runs.{run_more, run_stop}
 
@@ -146,7 +146,7 @@ pub read_fault : (size : ℕ) (bs : List ℕ) (place : ℕ) → standard_end bs 
 unfolding standard_number_at
 read_fault size bs place at = ap (number_to size bs) at
 
-pub read_integer : (size : ℕ) (bs : List ℕ) → standard_end bs ≡ Ok (whole_end bs) → standard_number_at size bs ≡ carried_at size (drop (whole_end bs) bs) (integer_of (has_minus bs) (digits_value 10 (whole_digits bs)))
+pub read_integer : (size : ℕ) (bs : List ℕ) → standard_end bs ≡ Ok (whole_end bs) → standard_number_at size bs ≡ representable_at size (drop (whole_end bs) bs) (integer_of (has_minus bs) (digits_value 10 (whole_digits bs)))
 unfolding standard_number_at integer_at
 read_integer size bs at =
     let same : (whole_end bs == whole_end bs) ≡ true = grind (arith, nat_tests) in
@@ -286,27 +286,27 @@ unfolding standard_number_at
 read_past size end bs has_whole at =
     ap (number_to size bs) (whole_found bs has_whole ∙ ap (λ i. then_from (fraction_from bs i) (exponent_from bs)) (sym at))
 
-uncarried_in : (idx end last : ℕ) (buf : List ℕ) → idx ≤ length buf → end ≡ whole_end (drop idx buf) → ContinuesAfterInteger (slice_index (drop idx buf) end) → then_from (fraction_from (drop idx buf) end) (exponent_from (drop idx buf)) ≡ Ok last → last ≤ length (drop idx buf) → number_to (length buf) (drop idx buf) (Ok last) ≡ Err (record { code = number_not_carried; place = idx + last })
+unrepresentable_in : (idx end last : ℕ) (buf : List ℕ) → idx ≤ length buf → end ≡ whole_end (drop idx buf) → ContinuesAfterInteger (slice_index (drop idx buf) end) → then_from (fraction_from (drop idx buf) end) (exponent_from (drop idx buf)) ≡ Ok last → last ≤ length (drop idx buf) → number_to (length buf) (drop idx buf) (Ok last) ≡ Err (record { code = number_not_carried; place = idx + last })
 unfolding integer_at
-uncarried_in idx end last buf inside at goes_on found within =
+unrepresentable_in idx end last buf inside at goes_on found within =
     let later = past_whole (drop idx buf) end last goes_on found in
     let there : length buf - length (drop last (drop idx buf)) ≡ idx + last = omega (arith, length-drop idx buf, length-drop last (drop idx buf), within) in
     rw (differs (whole_end (drop idx buf)) last (λ same. omega (arith, at, later))) (ap (λ p. fault number_not_carried p) there)
 
-pub uncarried_at : (idx end last : ℕ) (buf bs : List ℕ) → idx ≤ length buf → bs ≡ drop idx buf → end ≡ whole_end bs → ContinuesAfterInteger (slice_index bs end) → then_from (fraction_from bs end) (exponent_from bs) ≡ Ok last → last ≤ length bs → number_to (length buf) (drop idx buf) (then_from (fraction_from (drop idx buf) end) (exponent_from (drop idx buf))) ≡ Err (record { code = number_not_carried; place = idx + last })
-uncarried_at idx end last buf bs inside same at goes_on found within =
+pub unrepresentable_at : (idx end last : ℕ) (buf bs : List ℕ) → idx ≤ length buf → bs ≡ drop idx buf → end ≡ whole_end bs → ContinuesAfterInteger (slice_index bs end) → then_from (fraction_from bs end) (exponent_from bs) ≡ Ok last → last ≤ length bs → number_to (length buf) (drop idx buf) (then_from (fraction_from (drop idx buf) end) (exponent_from (drop idx buf))) ≡ Err (record { code = number_not_carried; place = idx + last })
+unrepresentable_at idx end last buf bs inside same at goes_on found within =
     let found_in = subst (λ xs. then_from (fraction_from xs end) (exponent_from xs) ≡ Ok last) same found in
     ap (number_to (length buf) (drop idx buf)) found_in
-    ∙ uncarried_in idx end last buf inside (subst (λ xs. end ≡ whole_end xs) same at) (subst (λ xs. ContinuesAfterInteger (slice_index xs end)) same goes_on) found_in (subst (λ xs. last ≤ length xs) same within)
+    ∙ unrepresentable_in idx end last buf inside (subst (λ xs. end ≡ whole_end xs) same at) (subst (λ xs. ContinuesAfterInteger (slice_index xs end)) same goes_on) found_in (subst (λ xs. last ≤ length xs) same within)
 
 -- a whole part and no more
-pub integer_read : (idx end : ℕ) (buf bs : List ℕ) (r : Option Num) → bs ≡ drop idx buf → HasWhole bs → end ≡ whole_end bs → ¬ ContinuesAfterInteger (slice_index bs end) → integer_of (has_minus bs) (digits_value 10 (whole_digits bs)) ≡ r → standard_number_at (length buf) (drop idx buf) ≡ carried_at (length buf) (drop (idx + end) buf) r
+pub integer_read : (idx end : ℕ) (buf bs : List ℕ) (r : Option Num) → bs ≡ drop idx buf → HasWhole bs → end ≡ whole_end bs → ¬ ContinuesAfterInteger (slice_index bs end) → integer_of (has_minus bs) (digits_value 10 (whole_digits bs)) ≡ r → standard_number_at (length buf) (drop idx buf) ≡ representable_at (length buf) (drop (idx + end) buf) r
 integer_read idx end buf bs r same has_whole at stops is_integer =
     let alone : standard_end bs ≡ Ok (whole_end bs) = whole_alone bs has_whole (λ point. stops (inl (ap (slice_index bs) at ∙ point))) (λ mark. stops (inr (subst (λ i. IsExponentMark (slice_index bs i)) (sym at) mark))) in
     let rest : drop (whole_end bs) bs ≡ drop (idx + end) buf = ap (λ i. drop i bs) (sym at) ∙ (ap (drop end) same ∙ drop-drop end idx buf) in
     sym (ap (standard_number_at (length buf)) same)
     ∙ (read_integer (length buf) bs alone
-    ∙ (ap (λ xs. carried_at (length buf) xs (integer_of (has_minus bs) (digits_value 10 (whole_digits bs)))) rest ∙ ap (carried_at (length buf) (drop (idx + end) buf)) is_integer))
+    ∙ (ap (λ xs. representable_at (length buf) xs (integer_of (has_minus bs) (digits_value 10 (whole_digits bs)))) rest ∙ ap (representable_at (length buf) (drop (idx + end) buf)) is_integer))
 
 -- ---- the whole part that a reader found
 
@@ -378,7 +378,7 @@ short_read size bs ds start len value first minus n after byte at some all stops
     let alone : standard_end bs ≡ Ok (whole_end bs) = whole_alone bs has_whole (λ point. stops (inr (inl (here ∙ point)))) (λ mark. stops (inr (inr (subst IsExponentMark (sym here) mark)))) in
     let digits : value ≡ digits_value 10 (whole_digits bs) = is_value ∙ ap (λ k. digits_value 10 (take k ds)) all ∙ ap (λ xs. digits_value 10 (take (digits_length xs) xs)) after in
     read_integer size bs alone
-    ∙ ap (carried_at size (drop (whole_end bs) bs)) (ap (λ v. integer_of (has_minus bs) v) (sym digits) ∙ ap (λ b. integer_of (b == 45) value) (sym byte) ∙ is_integer)
+    ∙ ap (representable_at size (drop (whole_end bs) bs)) (ap (λ v. integer_of (has_minus bs) v) (sym digits) ∙ ap (λ b. integer_of (b == 45) value) (sym byte) ∙ is_integer)
     ∙ ap (λ i. Ok (n, drop i bs)) (sym end)
 
 -- the integer that a magnitude gives that its type holds

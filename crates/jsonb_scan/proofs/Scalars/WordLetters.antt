@@ -7,7 +7,7 @@ use Rattle.std.specs.Char.{to_ascii_lowercase}
 use Rattle.std.proofs.lemmas.List.{drop_more, drop_all}
 use Rattle.jsonb_spec.specs.Code.{Code, invalid_eof, expected_some_ident}
 use Rattle.jsonb_spec.specs.Grammar.ExtendedNumber.{Spells}
-use Rattle.jsonb_scan.specs.Reading.ExtendedNumber.{spelled_from, word_scan, uncarried_word, invalid_word}
+use Rattle.jsonb_scan.specs.Reading.ExtendedNumber.{spelled_from, word_scan, unrepresentable_word, invalid_word}
 
 -- the index after a word, or a fault and its place
 abbrev pub Letters : Type 0
@@ -33,12 +33,12 @@ pub word_done : (place i j : ℕ) (word bytes : List ℕ) → length word ≤ i 
 unfolding spelled_from
 word_done place i j word bytes done = rw (drop_all i word done) refl
 
-pub words_nan : (place : ℕ) (negative : Bool) (bytes : List ℕ) → to_ascii_lowercase (slice_index bytes 0) ≡ 110 → word_scan place negative bytes ≡ (if negative then invalid_word (spelled_from place (codes "nan") bytes) else uncarried_word (spelled_from place (codes "nan") bytes))
+pub words_nan : (place : ℕ) (negative : Bool) (bytes : List ℕ) → to_ascii_lowercase (slice_index bytes 0) ≡ 110 → word_scan place negative bytes ≡ (if negative then invalid_word (spelled_from place (codes "nan") bytes) else unrepresentable_word (spelled_from place (codes "nan") bytes))
 unfolding word_scan
 words_nan place negative bytes n =
     let tested : (to_ascii_lowercase (slice_index bytes 0) == 110) ≡ true = grind (arith, nat_tests) in rw tested refl
 
-pub words_infinity : (place : ℕ) (negative : Bool) (bytes : List ℕ) → to_ascii_lowercase (slice_index bytes 0) ≢ 110 → word_scan place negative bytes ≡ uncarried_word (spelled_from place (codes "infinity") bytes)
+pub words_infinity : (place : ℕ) (negative : Bool) (bytes : List ℕ) → to_ascii_lowercase (slice_index bytes 0) ≢ 110 → word_scan place negative bytes ≡ unrepresentable_word (spelled_from place (codes "infinity") bytes)
 unfolding word_scan
 words_infinity place negative bytes other =
     let tested : (to_ascii_lowercase (slice_index bytes 0) == 110) ≡ false = grind (arith, nat_tests) in rw tested refl
@@ -46,13 +46,13 @@ words_infinity place negative bytes other =
 pub words_nan_minus : (place : ℕ) (negative : Bool) (bytes : List ℕ) → to_ascii_lowercase (slice_index bytes 0) ≡ 110 → negative ≡ true → word_scan place negative bytes ≡ invalid_word (spelled_from place (codes "nan") bytes)
 words_nan_minus place negative bytes n minus = ap (λ b. word_scan place b bytes) minus ∙ words_nan place true bytes n
 
-pub words_nan_plus : (place : ℕ) (negative : Bool) (bytes : List ℕ) → to_ascii_lowercase (slice_index bytes 0) ≡ 110 → negative ≡ false → word_scan place negative bytes ≡ uncarried_word (spelled_from place (codes "nan") bytes)
+pub words_nan_plus : (place : ℕ) (negative : Bool) (bytes : List ℕ) → to_ascii_lowercase (slice_index bytes 0) ≡ 110 → negative ≡ false → word_scan place negative bytes ≡ unrepresentable_word (spelled_from place (codes "nan") bytes)
 words_nan_plus place negative bytes n plus = ap (λ b. word_scan place b bytes) plus ∙ words_nan place false bytes n
 
 -- a word that is misspelled, after a minus or not
 pub words_misspelled : (place : ℕ) (negative : Bool) (bytes : List ℕ) (f : Code × ℕ) → to_ascii_lowercase (slice_index bytes 0) ≡ 110 → spelled_from place (codes "nan") bytes ≡ Err f → word_scan place negative bytes ≡ Err f
 words_misspelled place true bytes f n at = words_nan_minus place true bytes n refl ∙ ap invalid_word at
-words_misspelled place false bytes f n at = words_nan_plus place false bytes n refl ∙ ap uncarried_word at
+words_misspelled place false bytes f n at = words_nan_plus place false bytes n refl ∙ ap unrepresentable_word at
 
 -- ---- what is read is a spelling, and what is not read is none
 

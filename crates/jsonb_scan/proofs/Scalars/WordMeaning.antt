@@ -7,7 +7,7 @@ use Rattle.std.proofs.lemmas.List.{append_assoc, take-append-drop, length-append
 use Rattle.jsonb_spec.specs.Code.{Code}
 use Rattle.jsonb_spec.specs.Grammar.ExtendedNumber.{is_minus, Spells, IsNumberWord, IsExtendedText}
 use Rattle.jsonb_scan.specs.Reading.Number.{sign_end}
-use Rattle.jsonb_scan.specs.Reading.ExtendedNumber.{core_byte, spelled_from, word_scan, uncarried_word, invalid_word, ContinuesNumberExtended}
+use Rattle.jsonb_scan.specs.Reading.ExtendedNumber.{core_byte, spelled_from, word_scan, unrepresentable_word, invalid_word, ContinuesNumberExtended}
 use Rattle.jsonb_scan.proofs.Scalars.WordLetters.{Letters, IsWordCode, WordAnswer, word_answer, words_nan_minus, words_nan_plus, words_infinity}
 use Rattle.jsonb_scan.proofs.Numbers.ExtendedTexts.{IsWordStart, NoExtendedEnds, IsNumberCode, ScansExtended, letter_is, sign_front, WordFound, word_found, hexadecimal_core, decimals_before_letter}
 
@@ -41,7 +41,7 @@ word_code code (inr e) = inr (inr e)
 
 -- where each word text here has these letters, what is read of them is the longest text, and no text ends where they can't be read
 reads_letters : (bytes word : List ℕ) → IsWordFront bytes → ((k : ℕ) → (f : WordFound bytes k) → Spells word f.letters) →
-    ((letters : List ℕ) → Spells word letters → IsNumberWord (take (sign_end bytes 0) bytes) letters) → (r : Letters) → WordAnswer (sign_end bytes 0) word (drop (sign_end bytes 0) bytes) r → ScansExtended bytes (uncarried_word r)
+    ((letters : List ℕ) → Spells word letters → IsNumberWord (take (sign_end bytes 0) bytes) letters) → (r : Letters) → WordAnswer (sign_end bytes 0) word (drop (sign_end bytes 0) bytes) r → ScansExtended bytes (unrepresentable_word r)
 reads_letters bytes word front only is_word (Ok end) (letters, rest, joined, spells, ends) =
     let all : bytes ≡ (take (sign_end bytes 0) bytes ++ letters) ++ rest = sym (take-append-drop (sign_end bytes 0) bytes) ∙ (ap (λ z. take (sign_end bytes 0) bytes ++ z) joined ∙ sym (append_assoc (take (sign_end bytes 0) bytes) letters rest)) in
     let long_sign = length-take-le (sign_end bytes 0) bytes front.inside in

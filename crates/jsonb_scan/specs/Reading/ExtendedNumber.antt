@@ -9,7 +9,7 @@ use Rattle.jsonb_spec.specs.Grammar.ExtendedNumber.{is_minus, decimal_number, he
 use Rattle.jsonb_spec.specs.Number.Signed.{signed_by}
 use Rattle.jsonb_spec.specs.Tree.{Num}
 use Rattle.jsonb_scan.specs.Reading.{Read, fault}
-use Rattle.jsonb_scan.specs.Reading.Number.{End, ContinuesAfterInteger, sign_end, digits_from, exponent_from, carried_at, is_number_start}
+use Rattle.jsonb_scan.specs.Reading.Number.{End, ContinuesAfterInteger, sign_end, digits_from, exponent_from, representable_at, is_number_start}
 
 -- A number text's number, if a form holds it, and the index after the text; or the fault and its place.
 abbrev pub Scanned : Type 0
@@ -17,7 +17,7 @@ Scanned = Result (Option Num × ℕ) (Code × ℕ)
 
 -- the number and the bytes after it, or a fault
 abbrev pub scanned_to : ℕ → List ℕ → Scanned → Read Num
-scanned_to size bytes (Ok x) = carried_at size (drop x.1 bytes) x.0
+scanned_to size bytes (Ok x) = representable_at size (drop x.1 bytes) x.0
 scanned_to size bytes (Err f) = fault f.0 (size - length bytes + f.1)
 
 -- the index after the sign, if one is there
@@ -148,9 +148,9 @@ spelled_from place (c ∷ word) (b ∷ bytes) = if to_ascii_lowercase b == c the
     else Err (expected_some_ident, place + 1)
 
 -- a word that names no finite number
-abbrev pub uncarried_word : Result ℕ (Code × ℕ) → Scanned
-uncarried_word (Ok end) = Ok (None, end)
-uncarried_word (Err f) = Err f
+abbrev pub unrepresentable_word : Result ℕ (Code × ℕ) → Scanned
+unrepresentable_word (Ok end) = Ok (None, end)
+unrepresentable_word (Err f) = Err f
 
 -- a word that is rejected where it is spelled
 abbrev pub invalid_word : Result ℕ (Code × ℕ) → Scanned
@@ -162,8 +162,8 @@ unfoldable pub word_scan : ℕ → Bool → List ℕ → Scanned
 word_scan place negative bytes =
     if to_ascii_lowercase (slice_index bytes 0) == ascii.lower_n
     then (if negative then invalid_word (spelled_from place (codes "nan") bytes)
-    else uncarried_word (spelled_from place (codes "nan") bytes))
-    else uncarried_word (spelled_from place (codes "infinity") bytes)
+    else unrepresentable_word (spelled_from place (codes "nan") bytes))
+    else unrepresentable_word (spelled_from place (codes "infinity") bytes)
 
 -- ---- all of them
 

@@ -89,12 +89,12 @@ integer_at bytes end = if digits_from bytes (whole_start bytes) == end
     then integer_of (has_minus bytes) (digits_value 10 (whole_digits bytes)) else None
 
 -- the number and the bytes after it; without a number the fault at these
-abbrev pub carried_at : ℕ → List ℕ → Option Num → Read Num
-carried_at size rest (Some n) = Ok (n, rest)
-carried_at size rest None = fault number_not_carried (size - length rest)
+abbrev pub representable_at : ℕ → List ℕ → Option Num → Read Num
+representable_at size rest (Some n) = Ok (n, rest)
+representable_at size rest None = fault number_not_carried (size - length rest)
 
 abbrev pub number_to : ℕ → List ℕ → End → Read Num
-number_to size bytes (Ok end) = carried_at size (drop end bytes) (integer_at bytes end)
+number_to size bytes (Ok end) = representable_at size (drop end bytes) (integer_at bytes end)
 number_to size bytes (Err place) = fault invalid_number_value (size - length bytes + place)
 
 -- the number of the longest standard number text that the bytes begin with

@@ -30,7 +30,7 @@ pub struct NumberFault {
     pub place: usize,
 }
 
-// The most digits of a number that is carried.
+// The most digits of a number that is representable.
 const MOST_DIGITS: usize = 38;
 
 // The fault inside of a number text, at this place.
@@ -71,7 +71,7 @@ fn word_end(bytes: &[u8], place: usize, word: &[u8]) -> std::result::Result<usiz
     Ok(place + index)
 }
 
-// A word whose first letter has this place: no number, but a text that is not carried, or a fault.
+// A word whose first letter has this place: no number, but a text that is not representable, or a fault.
 #[cold]
 fn scan_word(
     bytes: &[u8],

@@ -76,8 +76,8 @@ IsDecimalText bytes = (sign : List ℕ) × (zeros : List ℕ) × (whole : List �
     × (exponent : List ℕ) × HasDecimalParts bytes sign zeros whole fraction exponent
 
 -- the bytes are a decimal number text with an exponent or with 39 digits or more
-abbrev pub IsUncarriedDecimal : List ℕ → Type 0
-IsUncarriedDecimal bytes =
+abbrev pub IsUnrepresentableDecimal : List ℕ → Type 0
+IsUnrepresentableDecimal bytes =
     (sign : List ℕ) × (zeros : List ℕ) × (whole : List ℕ) × (fraction : Option (List ℕ)) × (exponent : List ℕ)
     × HasDecimalParts bytes sign zeros whole fraction exponent
     × ((exponent ≢ []) ⊎ (38 < precision_of whole fraction))
@@ -118,8 +118,8 @@ IsHexadecimalText bytes = (sign : List ℕ) × (mark : ℕ) × (whole : List ℕ
     × HasHexadecimalParts bytes sign mark whole fraction
 
 -- the bytes are a hexadecimal number text with a fraction or with a number that no form holds
-abbrev pub IsUncarriedHexadecimal : List ℕ → Type 0
-IsUncarriedHexadecimal bytes =
+abbrev pub IsUnrepresentableHexadecimal : List ℕ → Type 0
+IsUnrepresentableHexadecimal bytes =
     (sign : List ℕ) × (mark : ℕ) × (whole : List ℕ) × (fraction : Option (List ℕ))
     × HasHexadecimalParts bytes sign mark whole fraction
     × ((fraction ≢ None) ⊎ (hexadecimal_number (is_minus sign) (digits_value 16 whole) ≡ None))
@@ -146,8 +146,8 @@ abbrev pub IsExtendedNumber : List ℕ → Num → Type 0
 IsExtendedNumber bytes n = IsDecimalNumber bytes n ⊎ IsHexadecimalNumber bytes n
 
 -- the bytes are a number text without a number that a form holds
-abbrev pub IsExtendedUncarried : List ℕ → Type 0
-IsExtendedUncarried bytes = IsUncarriedDecimal bytes ⊎ (IsUncarriedHexadecimal bytes ⊎ IsWordText bytes)
+abbrev pub IsExtendedUnrepresentable : List ℕ → Type 0
+IsExtendedUnrepresentable bytes = IsUnrepresentableDecimal bytes ⊎ (IsUnrepresentableHexadecimal bytes ⊎ IsWordText bytes)
 
 -- the bytes are a number text
 abbrev pub IsExtendedText : List ℕ → Type 0

@@ -2,11 +2,11 @@
 use Rattle.std.specs.Prelude.{◌≡◌, ◌⊎◌, ℕ, true, false, List, codes}
 use Rattle.jsonb_spec.specs.Ascii as ascii
 use Rattle.jsonb_spec.specs.Grammar.BareKey.{IsBareKey}
-use Rattle.jsonb_spec.specs.Grammar.ExtendedNumber.{Spells, IsExtendedNumber, IsExtendedUncarried}
+use Rattle.jsonb_spec.specs.Grammar.ExtendedNumber.{Spells, IsExtendedNumber, IsExtendedUnrepresentable}
 use Rattle.jsonb_spec.specs.Mode.{Mode, standard, extended}
 use Rattle.jsonb_spec.specs.Tree.{Mark, plain, Num, Tree, null, boolean, string, number}
 use Rattle.jsonb_spec.specs.Grammar.Quoted.{Quoted}
-use Rattle.jsonb_spec.specs.Grammar.StandardNumber.{IsStandardNumber, IsStandardUncarried}
+use Rattle.jsonb_spec.specs.Grammar.StandardNumber.{IsStandardNumber, IsStandardUnrepresentable}
 
 -- the letters of a word: in lower case, or in extended mode each in either case
 abbrev pub IsWord : Mode → List ℕ → List ℕ → Type 0
@@ -30,9 +30,9 @@ IsNumber standard bytes n = IsStandardNumber bytes n
 IsNumber extended bytes n = IsExtendedNumber bytes n
 
 -- the bytes are a number text whose number no tree has
-abbrev pub IsUncarried : Mode → List ℕ → Type 0
-IsUncarried standard bytes = IsStandardUncarried bytes
-IsUncarried extended bytes = IsExtendedUncarried bytes
+abbrev pub IsUnrepresentable : Mode → List ℕ → Type 0
+IsUnrepresentable standard bytes = IsStandardUnrepresentable bytes
+IsUnrepresentable extended bytes = IsExtendedUnrepresentable bytes
 
 -- a word, a string in quotes or a number
 pub data IsScalar (mode : Mode) : List ℕ → Tree → Type 0 where

@@ -62,8 +62,8 @@ IsStandardNumber bytes n = (negative : Bool) × (whole : List ℕ) × HasParts b
     × IsInteger negative (digits_value 10 whole) n
 
 -- the bytes are a number text with a fraction, an exponent or a value that its type does not hold
-abbrev pub IsStandardUncarried : List ℕ → Type 0
-IsStandardUncarried bytes =
+abbrev pub IsStandardUnrepresentable : List ℕ → Type 0
+IsStandardUnrepresentable bytes =
     (negative : Bool) × (whole : List ℕ) × (fraction : List ℕ) × (exponent : List ℕ)
     × HasParts bytes negative whole fraction exponent
     × ((fraction ++ exponent ≢ []) ⊎ ((n : Num) → ¬ IsInteger negative (digits_value 10 whole) n))

@@ -1,9 +1,9 @@
-use Rattle.jsonb_scan.proofs.Numbers.Scanned.{front_is, back_is, front_room, back_room, small_number, not_carried, carried}
+use Rattle.jsonb_scan.proofs.Numbers.Scanned.{front_is, back_is, front_room, back_room, small_number, not_representable, representable}
 use Rattle.std.proofs.Common.{inl, inr, ⊎_elim}
 use Rattle.jsonb_scan.proofs.parser.extended_number.decimal.decimal_number.Goals as goal
 
 pub returns-then-ends-end : goal.returns-then-ends-end
-returns-then-ends-end c = not_carried c.args.bytes.now c.args.ends c.args.end c.requires (⊎_elim inl (λ both. inr both.1) c.then-ends-end.either)
+returns-then-ends-end c = not_representable c.args.bytes.now c.args.ends c.args.end c.requires (⊎_elim inl (λ both. inr both.1) c.then-ends-end.either)
 
 pub digits_onto-front-requires-clause-are_digits : goal.digits_onto-front-requires-clause-are_digits
 digits_onto-front-requires-clause-are_digits c = front_is c.args.bytes.now c.args.ends c.requires
@@ -21,4 +21,4 @@ pub decimal-requires-clause-small : goal.decimal-requires-clause-small
 decimal-requires-clause-small c = small_number c.args.bytes.now c.args.ends c.digits_onto-front.result c.digits_onto-magnitude.result c.requires c.digits_onto-front.ensures.bound c.digits_onto-magnitude.ensures.bound
 
 pub returns : goal.returns
-returns c = carried c.args.bytes.now c.args.ends c.args.end c.byte_at-negative.result c.digits_onto-front.result c.digits_onto-magnitude.result _ c.requires c.if-ends-end.false c.if-precision-gt-MOST_DIGITS.false c.digits_onto-front.ensures.value c.digits_onto-magnitude.ensures.value c.byte_at-negative.ensures c.decimal.ensures
+returns c = representable c.args.bytes.now c.args.ends c.args.end c.byte_at-negative.result c.digits_onto-front.result c.digits_onto-magnitude.result _ c.requires c.if-ends-end.false c.if-precision-gt-MOST_DIGITS.false c.digits_onto-front.ensures.value c.digits_onto-magnitude.ensures.value c.byte_at-negative.ensures c.decimal.ensures
