@@ -58,11 +58,11 @@ AsScalar Sees v t = Sees v (source_alone t)
 -- What was made is of the text that is read of the contents of a string, or the error is their fault, which counts from
 -- this index.
 abbrev pub SeesContents : {V : Type 0} → (V → Source → Type 0) → ℕ → Result V Error → Body (Mark × List ℕ) → Type 0
-SeesContents Sees idx (Ok v) read = (x : Mark × List ℕ) × Sees v (string_source x.0 x.1) × (read ≡ Ok x)
-SeesContents Sees idx (Err (Syntax code place)) read = (count : ℕ) × (read ≡ Err (code_of code, count))
-    × (place ≡ idx + count)
-SeesContents Sees idx (Err OutOfMemory) read = Unit {0}
-SeesContents Sees idx (Err other) read = ⊥
+SeesContents Sees offset (Ok v) read = (x : Mark × List ℕ) × Sees v (string_source x.0 x.1) × (read ≡ Ok x)
+SeesContents Sees offset (Err (Syntax code place)) read = (count : ℕ) × (read ≡ Err (code_of code, count))
+    × (place ≡ offset + count)
+SeesContents Sees offset (Err OutOfMemory) read = Unit {0}
+SeesContents Sees offset (Err other) read = ⊥
 
 -- of a number
 abbrev pub AsNumber : {V : Type 0} → (V → Source → Type 0) → V → Num → Type 0

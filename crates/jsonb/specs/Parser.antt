@@ -13,7 +13,7 @@ use Rattle.jsonb_scan.specs.Answer.{mode_of, NamesFault, Fails, Gives, IsTextErr
 
 -- the bytes from the index on
 abbrev pub rest_of : Parser → List ℕ
-rest_of p = drop p.idx p.buf.now
+rest_of p = drop p.offset p.buf.now
 
 -- the length of the whole input
 abbrev pub size_of : Parser → ℕ
@@ -21,14 +21,14 @@ size_of p = length p.buf.now
 
 -- The byte before the reader's index is this one.
 abbrev pub IsBehind : ℕ → Parser → Type 0
-IsBehind byte p = (0 < p.idx) × (slice_index p.buf.now (p.idx - 1) ≡ byte)
+IsBehind byte p = (0 < p.offset) × (slice_index p.buf.now (p.offset - 1) ≡ byte)
 
 -- The reader has gone on in the same input, and not past its end.
 pub record Advances (old new : Parser) : Type 0 where
   pub buf : new.buf ≡ old.buf
   pub mode : new.mode ≡ old.mode
-  pub onward : old.idx ≤ new.idx
-  pub inside : old.idx ≤ size_of old → new.idx ≤ size_of new
+  pub onward : old.offset ≤ new.offset
+  pub inside : old.offset ≤ size_of old → new.offset ≤ size_of new
 
 -- What a call returned, seen by view, and the bytes that it left are what this function reads from the reader's index
 -- on.
@@ -57,4 +57,4 @@ pub record PassesContents (quote : ℕ) (old new : Parser) (body : List ℕ) : T
 pub record PassesInteger (old new : Parser) : Type 0 where
   pub value : Num
   pub reads : read_at scalar_at old ≡ Ok (number value, rest_of new)
-  pub text : slice_range old.buf.now old.idx new.idx ≡ number_text value
+  pub text : slice_range old.buf.now old.offset new.offset ≡ number_text value

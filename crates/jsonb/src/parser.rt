@@ -168,7 +168,7 @@ fn read_document<'a, V: Handler<'a>>(
         alloc,
         mode,
         buf,
-        idx: 0,
+        offset: 0,
         told: None,
     };
     match parser.parse_document::<V>(room, text) {
@@ -188,13 +188,13 @@ fn whole_text(bytes: &[u8]) -> Option<&str>
     simdutf8::basic::from_utf8(bytes).ok()
 }
 
-// A parser that stands at the index `idx` of its text.
+// A parser that stands at the index `offset` of its text.
 #[derive(Drop)]
 struct Parser<'a> {
     alloc: Global,
     mode: Mode,
     buf: &'a [u8],
-    idx: usize,
+    offset: usize,
     // What is wrong, once a call failed.
     told: Option<Error>,
 }
@@ -203,11 +203,11 @@ impl<'a> Parser<'a> {
     // The next byte.
     fn peek(&self) -> Option<u8>
         ensures next { MatchOption result (rest_of self.now ≡ [])
-            (λ b. rest_of self.now ≡ b ∷ drop (self.now.idx + 1) self.now.buf.now) }
-        ensures within { MatchOption result (size_of self.now ≤ self.now.idx) (λ b. self.now.idx < size_of self.now) }
+            (λ b. rest_of self.now ≡ b ∷ drop (self.now.offset + 1) self.now.buf.now) }
+        ensures within { MatchOption result (size_of self.now ≤ self.now.offset) (λ b. self.now.offset < size_of self.now) }
     {
-        if self.idx < self.buf.len() {
-            Some(self.buf[self.idx])
+        if self.offset < self.buf.len() {
+            Some(self.buf[self.offset])
         } else {
             None
         }
@@ -224,24 +224,24 @@ impl<'a> Parser<'a> {
     fn take_byte(&mut self, byte: u8) -> bool
         ensures found { result ≡ begins byte (rest_of self.old) }
         ensures rest { MatchBool result (rest_of self.old ≡ byte ∷ rest_of self.new) (self.new ≡ self.old) }
-        ensures inside { MatchBool result (self.old.idx < self.new.idx × self.new.idx ≤ size_of self.new)
+        ensures inside { MatchBool result (self.old.offset < self.new.offset × self.new.offset ≤ size_of self.new)
             (self.new ≡ self.old) }
         ensures behind { MatchBool result (IsBehind byte self.new) (Unit {0}) }
         ensures advances { Advances self.old self.new }
     {
         let found = self.next_is(byte);
         if found {
-            self.idx += 1;
+            self.offset += 1;
         }
         found
     }
 
     // The bytes that are still to be read.
     fn rest(&self) -> &'a [u8]
-        requires { self.now.idx ≤ size_of self.now }
+        requires { self.now.offset ≤ size_of self.now }
         ensures { result.now ≡ rest_of self.now }
     {
-        &self.buf[self.idx..]
+        &self.buf[self.offset..]
     }
 
     // The fault at the next byte, named by its index and a step, or at the end of the text.
@@ -249,8 +249,8 @@ impl<'a> Parser<'a> {
         requires { step ≤ 1 }
         ensures { NamesFault result (fault_at (size_of self.now) (code_of code) step (rest_of self.now)) }
     {
-        if self.idx < self.buf.len() {
-            Error::Syntax(code, self.idx + step)
+        if self.offset < self.buf.len() {
+            Error::Syntax(code, self.offset + step)
         } else {
             Error::Syntax(ParseErrorCode::InvalidEOF, self.buf.len())
         }
@@ -311,7 +311,7 @@ impl<'a> Parser<'a> {
         room: &mut V::Room,
         text: &'a str,
     ) -> std::result::Result<V, Failed>
-        requires inside { self.old.idx ≤ size_of self.old }
+        requires inside { self.old.offset ≤ size_of self.old }
         requires same { text.now ≡ take (length text.now) self.old.buf.now }
         ensures reads { V.stands self.old.buf.now room.old true [] []
             → ElseFails V.silent self.new.told result (source_from (size_of self.old) (mode_of self.old.mode)
@@ -324,7 +324,7 @@ impl<'a> Parser<'a> {
         ensures base { V.base room.new ≡ V.base room.old }
     {
         self.skip_closed_whitespace();
-        if self.idx >= self.buf.len() {
+        if self.offset >= self.buf.len() {
             return match self.mode {
                 Mode::Standard => {
                     Err(self.fail(Error::Syntax(ParseErrorCode::InvalidEOF, self.buf.len())))
@@ -373,29 +373,30 @@ impl<'a> Parser<'a> {
 
     // The end of a text, after its value.
     fn end_document(&mut self) -> Result<()>
-        requires { self.old.idx ≤ size_of self.old }
+        requires { self.old.offset ≤ size_of self.old }
         ensures reads { (s : Source) → Gives (λ _. s) result (at_end (size_of self.old) (mode_of self.old.mode) s
             (skip_closed_whitespace (mode_of self.old.mode) (rest_of self.old))) }
         ensures takes_no_memory { result ≢ Err Error.OutOfMemory }
     {
         self.skip_closed_whitespace();
-        if self.idx >= self.buf.len() {
+        if self.offset >= self.buf.len() {
             return Ok(());
         }
         if self.opens_comment() {
             return self.end_in_comment();
         }
-        Err(Error::Syntax(ParseErrorCode::UnexpectedTrailingCharacters, self.idx + 1))
+        let after = self.offset + 1;
+        Err(Error::Syntax(ParseErrorCode::UnexpectedTrailingCharacters, after))
     }
 
     // A text may end in a line comment without its end, and in no other comment.
     fn end_in_comment(&self) -> Result<()>
-        requires { self.now.idx < size_of self.now }
+        requires { self.now.offset < size_of self.now }
         ensures reads { (s : Source) → Gives (λ _. s) result (comment_at (size_of self.now) s
             (drop 1 (rest_of self.now))) }
         ensures takes_no_memory { result ≢ Err Error.OutOfMemory }
     {
-        let next = self.idx + 1;
+        let next = self.offset + 1;
         if next < self.buf.len() && self.buf[next] == b'/' {
             Ok(())
         } else {

@@ -187,8 +187,8 @@ last_of_one (z ∷ w ∷ xs) x y e = absurd (omega (arith, ap length e, length-a
 -- ---- the byte that opens a container
 
 -- a byte that comes next
-next_found : (c : ℕ) (p : Parser) → begins c (rest_of p) ≡ true → rest_of p ≡ c ∷ drop (p.idx + 1) p.buf.now
-next_found c p e = found_next c (rest_of p) e ∙ ap (λ r. c ∷ r) (drop-drop 1 p.idx p.buf.now)
+next_found : (c : ℕ) (p : Parser) → begins c (rest_of p) ≡ true → rest_of p ≡ c ∷ drop (p.offset + 1) p.buf.now
+next_found c p e = found_next c (rest_of p) e ∙ ap (λ r. c ∷ r) (drop-drop 1 p.offset p.buf.now)
   where
     found_next : (c : ℕ) (bytes : List ℕ) → begins c bytes ≡ true → bytes ≡ c ∷ drop 1 bytes
     found_next c [] e = absurd (true≢false (sym e))
@@ -199,14 +199,14 @@ next_found c p e = found_next c (rest_of p) e ∙ ap (λ r. c ∷ r) (drop-drop 
         ]
 
 -- after the brace, where it comes next
-pub after_brace : (p : Parser) → OpensContainer (rest_of p) → begins 91 (rest_of p) ≡ false → rest_of p ≡ 123 ∷ drop (p.idx + 1) p.buf.now
+pub after_brace : (p : Parser) → OpensContainer (rest_of p) → begins 91 (rest_of p) ≡ false → rest_of p ≡ 123 ∷ drop (p.offset + 1) p.buf.now
 after_brace p (inl e) none = absurd (true≢false (sym e ∙ none))
 after_brace p (inr e) none = next_found 123 p e
 
 -- The byte that opens a container is in the input.
 pub opens_allocates : (p : Parser) → OpensContainer (rest_of p) → MayAllocate p.buf.now
-opens_allocates p (inl e) = inl (contains_next p.buf.now p.idx 91 (drop (p.idx + 1) p.buf.now) (next_found 91 p e))
-opens_allocates p (inr e) = inr (inl (contains_next p.buf.now p.idx 123 (drop (p.idx + 1) p.buf.now) (next_found 123 p e)))
+opens_allocates p (inl e) = inl (contains_next p.buf.now p.offset 91 (drop (p.offset + 1) p.buf.now) (next_found 91 p e))
+opens_allocates p (inr e) = inr (inl (contains_next p.buf.now p.offset 123 (drop (p.offset + 1) p.buf.now) (next_found 123 p e)))
 
 -- whether the closing byte comes next
 closing : (c : ℕ) (mode : Mode) (bytes : List ℕ) (s q : Parser) (closed : Bool) → rest_of s ≡ skip_whitespace mode bytes → closed ≡ begins c (rest_of s) → cond closed (rest_of s ≡ c ∷ rest_of q) (q ≡ s)
@@ -269,26 +269,26 @@ outermost_due Stands p fs e held =
     (record { opens = []; fit = tt; held = held; reads = sym (resume-none (size_of p) (mode_of p.mode) max_depth (value_at (size_of p) (mode_of p.mode) max_depth (rest_of p))) })
 
 -- as many are open as may be
-pub too_many : {I M K : Type 0} (Stands : Bool → List (Frame I M K) → List Open → Type 0) (p : Parser) (fs : List (Frame I M K)) (whole : Read Source) → length fs ≡ max_depth → OpensContainer (rest_of p) → BeforeValue Stands whole p fs → whole ≡ Err (record { code = depth_limit_exceeded; place = p.idx + 1 })
+pub too_many : {I M K : Type 0} (Stands : Bool → List (Frame I M K) → List Open → Type 0) (p : Parser) (fs : List (Frame I M K)) (whole : Read Source) → length fs ≡ max_depth → OpensContainer (rest_of p) → BeforeValue Stands whole p fs → whole ≡ Err (record { code = depth_limit_exceeded; place = p.offset + 1 })
 too_many Stands p fs whole full opens due =
     let none : depth_within fs ≡ 0 = omega arith in
     due.reads
     ∙ ap (λ n. value_at (size_of p) (mode_of p.mode) n (rest_of p) >>= resume (size_of p) (mode_of p.mode) n due.opens) none
     ∙ ap (λ (r : Read Source). r >>= resume (size_of p) (mode_of p.mode) 0 due.opens) (rejected_here opens)
   where
-    place-is : (c : ℕ) → rest_of p ≡ c ∷ drop (p.idx + 1) p.buf.now → size_of p - length (drop (p.idx + 1) p.buf.now) ≡ p.idx + 1
-    place-is c e = omega (arith, ap length e, length-drop p.idx p.buf.now, length-drop (p.idx + 1) p.buf.now)
+    place-is : (c : ℕ) → rest_of p ≡ c ∷ drop (p.offset + 1) p.buf.now → size_of p - length (drop (p.offset + 1) p.buf.now) ≡ p.offset + 1
+    place-is c e = omega (arith, ap length e, length-drop p.offset p.buf.now, length-drop (p.offset + 1) p.buf.now)
 
-    rejected_here : OpensContainer (rest_of p) → value_at (size_of p) (mode_of p.mode) 0 (rest_of p) ≡ Err (record { code = depth_limit_exceeded; place = p.idx + 1 })
+    rejected_here : OpensContainer (rest_of p) → value_at (size_of p) (mode_of p.mode) 0 (rest_of p) ≡ Err (record { code = depth_limit_exceeded; place = p.offset + 1 })
     rejected_here (inl e) =
         let next = next_found 91 p e in
         ap (λ r. value_at (size_of p) (mode_of p.mode) 0 r) next
-        ∙ array-value (size_of p) (mode_of p.mode) 0 (drop (p.idx + 1) p.buf.now)
+        ∙ array-value (size_of p) (mode_of p.mode) 0 (drop (p.offset + 1) p.buf.now)
         ∙ ap (λ n. Err (record { code = depth_limit_exceeded; place = n })) (place-is 91 next)
     rejected_here (inr e) =
         let next = next_found 123 p e in
         ap (λ r. value_at (size_of p) (mode_of p.mode) 0 r) next
-        ∙ object-value (size_of p) (mode_of p.mode) 0 (drop (p.idx + 1) p.buf.now)
+        ∙ object-value (size_of p) (mode_of p.mode) 0 (drop (p.offset + 1) p.buf.now)
         ∙ ap (λ n. Err (record { code = depth_limit_exceeded; place = n })) (place-is 123 next)
 
 -- Old and New are what the room stands for before and after a step.

@@ -50,19 +50,19 @@ document_same p q e a =
     ∙ ap (λ (n : ℕ). source_from n (mode_of p.mode) (rest_of q)) (sym (same_size p q a)) ∙ ap (λ (m : Mode). source_from (size_of q) m (rest_of q)) (sym (ap mode_of a.mode))
 
 -- a text with more than whitespace
-pub document_some : (p q : Parser) → rest_of q ≡ skip_closed_whitespace (mode_of p.mode) (rest_of p) → Advances p q → q.idx < size_of q → opens_comment (mode_of q.mode) (rest_of q) ≡ false
+pub document_some : (p q : Parser) → rest_of q ≡ skip_closed_whitespace (mode_of p.mode) (rest_of p) → Advances p q → q.offset < size_of q → opens_comment (mode_of q.mode) (rest_of q) ≡ false
     → source_from (size_of p) (mode_of p.mode) (skip_closed_whitespace (mode_of p.mode) (rest_of p)) ≡ (value_at (size_of q) (mode_of q.mode) max_depth (rest_of q) >>= ended (size_of q) (mode_of q.mode))
-document_some p q e a within closed = document_same p q e a ∙ from_some (size_of q) (mode_of q.mode) (rest_of q) (omega (arith, length-drop q.idx q.buf.now)) closed
+document_some p q e a within closed = document_same p q e a ∙ from_some (size_of q) (mode_of q.mode) (rest_of q) (omega (arith, length-drop q.offset q.buf.now)) closed
 
 -- a text with no more than whitespace
-pub document_none : (p q : Parser) → rest_of q ≡ skip_closed_whitespace (mode_of p.mode) (rest_of p) → Advances p q → size_of q ≤ q.idx → mode_of q.mode ≡ extended
+pub document_none : (p q : Parser) → rest_of q ≡ skip_closed_whitespace (mode_of p.mode) (rest_of p) → Advances p q → size_of q ≤ q.offset → mode_of q.mode ≡ extended
     → source_from (size_of p) (mode_of p.mode) (skip_closed_whitespace (mode_of p.mode) (rest_of p)) ≡ Ok null_source
-document_none p q e a past is = document_same p q e a ∙ ap (λ (m : Mode). source_from (size_of q) m (rest_of q)) is ∙ ap (λ (r : List ℕ). source_from (size_of q) extended r) (nothing_left q.buf.now q.idx past)
+document_none p q e a past is = document_same p q e a ∙ ap (λ (m : Mode). source_from (size_of q) m (rest_of q)) is ∙ ap (λ (r : List ℕ). source_from (size_of q) extended r) (nothing_left q.buf.now q.offset past)
 
 -- a text that ends in a comment
-pub document_comment : (p q : Parser) → rest_of q ≡ skip_closed_whitespace (mode_of p.mode) (rest_of p) → Advances p q → q.idx < size_of q → opens_comment (mode_of q.mode) (rest_of q) ≡ true
+pub document_comment : (p q : Parser) → rest_of q ≡ skip_closed_whitespace (mode_of p.mode) (rest_of p) → Advances p q → q.offset < size_of q → opens_comment (mode_of q.mode) (rest_of q) ≡ true
     → source_from (size_of p) (mode_of p.mode) (skip_closed_whitespace (mode_of p.mode) (rest_of p)) ≡ comment_at (size_of q) null_source (drop 1 (rest_of q))
-document_comment p q e a within opens = document_same p q e a ∙ from_comment (size_of q) (mode_of q.mode) (rest_of q) (omega (arith, length-drop q.idx q.buf.now)) opens
+document_comment p q e a within opens = document_same p q e a ∙ from_comment (size_of q) (mode_of q.mode) (rest_of q) (omega (arith, length-drop q.offset q.buf.now)) opens
 
 -- ---- after the value
 
@@ -83,18 +83,18 @@ comment_end : (size : ℕ) (mode : Mode) (t : Source) (r : List ℕ) → 0 < len
 comment_end size mode t [] h opens = absurd (omega arith)
 comment_end size mode t (b ∷ r) h opens = cond-true (opens_comment mode (b ∷ r)) (comment_at size t r) (fault unexpected_trailing_characters (size - length (b ∷ r) + 1)) opens
 
-pub ends_trailing : (p q : Parser) (t : Source) → rest_of q ≡ skip_closed_whitespace (mode_of p.mode) (rest_of p) → Advances p q → q.idx < size_of q → opens_comment (mode_of q.mode) (rest_of q) ≡ false
-    → at_end (size_of p) (mode_of p.mode) t (skip_closed_whitespace (mode_of p.mode) (rest_of p)) ≡ Err (record { code = unexpected_trailing_characters; place = q.idx + 1 })
+pub ends_trailing : (p q : Parser) (t : Source) → rest_of q ≡ skip_closed_whitespace (mode_of p.mode) (rest_of p) → Advances p q → q.offset < size_of q → opens_comment (mode_of q.mode) (rest_of q) ≡ false
+    → at_end (size_of p) (mode_of p.mode) t (skip_closed_whitespace (mode_of p.mode) (rest_of p)) ≡ Err (record { code = unexpected_trailing_characters; place = q.offset + 1 })
 ends_trailing p q t e a within closed =
-    ending_same p q t e a ∙ past_end (size_of q) (mode_of q.mode) t (rest_of q) q.idx (omega (arith, length-drop q.idx q.buf.now)) (omega (arith, length-drop q.idx q.buf.now)) closed
+    ending_same p q t e a ∙ past_end (size_of q) (mode_of q.mode) t (rest_of q) q.offset (omega (arith, length-drop q.offset q.buf.now)) (omega (arith, length-drop q.offset q.buf.now)) closed
 
-pub ends_comment : (p q : Parser) (t : Source) → rest_of q ≡ skip_closed_whitespace (mode_of p.mode) (rest_of p) → Advances p q → q.idx < size_of q → opens_comment (mode_of q.mode) (rest_of q) ≡ true
+pub ends_comment : (p q : Parser) (t : Source) → rest_of q ≡ skip_closed_whitespace (mode_of p.mode) (rest_of p) → Advances p q → q.offset < size_of q → opens_comment (mode_of q.mode) (rest_of q) ≡ true
     → at_end (size_of p) (mode_of p.mode) t (skip_closed_whitespace (mode_of p.mode) (rest_of p)) ≡ comment_at (size_of q) t (drop 1 (rest_of q))
-ends_comment p q t e a within opens = ending_same p q t e a ∙ comment_end (size_of q) (mode_of q.mode) t (rest_of q) (omega (arith, length-drop q.idx q.buf.now)) opens
+ends_comment p q t e a within opens = ending_same p q t e a ∙ comment_end (size_of q) (mode_of q.mode) t (rest_of q) (omega (arith, length-drop q.offset q.buf.now)) opens
 
-pub ends_well : (p q : Parser) (t : Source) → rest_of q ≡ skip_closed_whitespace (mode_of p.mode) (rest_of p) → Advances p q → size_of q ≤ q.idx
+pub ends_well : (p q : Parser) (t : Source) → rest_of q ≡ skip_closed_whitespace (mode_of p.mode) (rest_of p) → Advances p q → size_of q ≤ q.offset
     → at_end (size_of p) (mode_of p.mode) t (skip_closed_whitespace (mode_of p.mode) (rest_of p)) ≡ Ok t
-ends_well p q t e a past = ending_same p q t e a ∙ ap (at_end (size_of q) (mode_of q.mode) t) (nothing_left q.buf.now q.idx past)
+ends_well p q t e a past = ending_same p q t e a ∙ ap (at_end (size_of q) (mode_of q.mode) t) (nothing_left q.buf.now q.offset past)
 
 -- the end of the text is that of the same input further on
 pub ended_same : (q m : Parser) (t : Source) → Advances q m → ended (size_of q) (mode_of q.mode) (t, rest_of m) ≡ at_end (size_of m) (mode_of m.mode) t (skip_closed_whitespace (mode_of m.mode) (rest_of m))

@@ -85,40 +85,40 @@ number_built silent told Sees (Err f) size mode bytes rest h = misses_through si
 module _ {R I M K F : Type 0} (silent : Bool) (Stands : List ℕ → R → Bool → List (Frame I M K) → List Open → Type 0) (Seen : Source → Type 0) (text : List ℕ) (from : ℕ) (q r : Parser) (old new : R) where
   -- a scalar that was read is pushed
   pub read_pushed : (result : Result Unit F) (before : I) (t : Tree) (read : Read Tree) (after : I)
-      → OnOk result ((bytes : List ℕ) → (s : Source) → (ss : List Source) → (fs : List (Frame I M K)) → (cs : List Open) → Stands bytes old false (variants.Array before ∷ fs) (elements_so_far ss ∷ cs) → Seen s → IsSpelledAt bytes from q.idx s → Stands bytes new false (variants.Array after ∷ fs) (elements_so_far (ss ++ s ∷ []) ∷ cs))
-      → OnOk result (r ≡ q) → IfErr result (λ _. r.told ≡ Some OutOfMemory) → Seen (source_alone t) → IsSpelledAt text from q.idx (source_alone t) → read ≡ Ok (t, rest_of q) → Pushes silent r.told Stands text result old before read new after (rest_of r)
+      → OnOk result ((bytes : List ℕ) → (s : Source) → (ss : List Source) → (fs : List (Frame I M K)) → (cs : List Open) → Stands bytes old false (variants.Array before ∷ fs) (elements_so_far ss ∷ cs) → Seen s → IsSpelledAt bytes from q.offset s → Stands bytes new false (variants.Array after ∷ fs) (elements_so_far (ss ++ s ∷ []) ∷ cs))
+      → OnOk result (r ≡ q) → IfErr result (λ _. r.told ≡ Some OutOfMemory) → Seen (source_alone t) → IsSpelledAt text from q.offset (source_alone t) → read ≡ Ok (t, rest_of q) → Pushes silent r.told Stands text result old before read new after (rest_of r)
   read_pushed (Ok x) before t read after pushed same memory sees spelled is = (t, is ∙ ap (λ o. Ok (t, rest_of o)) (sym same), λ ss fs cs stands. pushed text (source_alone t) ss fs cs stands sees spelled)
   read_pushed (Err f) before t read after pushed same memory sees spelled is = memory_misses silent r.told read memory
 
   -- and put in under a key
   pub read_put : (result : Result Unit F) (before : OpenObject M K) (key : K) (t : Tree) (read : Read Tree) (after : OpenObject M K)
-      → OnOk result ((bytes : List ℕ) → (s : Source) → (front : List Found) → (k : Mark × List ℕ) → (place : ℕ) → (fs : List (Frame I M K)) → (cs : List Open) → Stands bytes old true (variants.Object (record { members = before.members; key = key }) ∷ fs) (members_so_far front k place ∷ cs) → Seen s → IsSpelledAt bytes from q.idx s → Stands bytes new false (variants.Object after ∷ fs) (members_so_far (front ++ found k s place ∷ []) (plain, []) 0 ∷ cs))
-      → OnOk result (r ≡ q) → IfErr result (λ _. IsUntold silent r.told) → Seen (source_alone t) → IsSpelledAt text from q.idx (source_alone t) → read ≡ Ok (t, rest_of q) → PutsIn silent r.told Stands text result old before key read new after (rest_of r)
+      → OnOk result ((bytes : List ℕ) → (s : Source) → (front : List Found) → (k : Mark × List ℕ) → (place : ℕ) → (fs : List (Frame I M K)) → (cs : List Open) → Stands bytes old true (variants.Object (record { members = before.members; key = key }) ∷ fs) (members_so_far front k place ∷ cs) → Seen s → IsSpelledAt bytes from q.offset s → Stands bytes new false (variants.Object after ∷ fs) (members_so_far (front ++ found k s place ∷ []) (plain, []) 0 ∷ cs))
+      → OnOk result (r ≡ q) → IfErr result (λ _. IsUntold silent r.told) → Seen (source_alone t) → IsSpelledAt text from q.offset (source_alone t) → read ≡ Ok (t, rest_of q) → PutsIn silent r.told Stands text result old before key read new after (rest_of r)
   read_put (Ok x) before key t read after put same memory sees spelled is = (t, is ∙ ap (λ o. Ok (t, rest_of o)) (sym same), λ front k place fs cs stands. put text (source_alone t) front k place fs cs stands sees spelled)
   read_put (Err f) before key t read after put same memory sees spelled is = untold_misses silent r.told read memory
 
   -- a value that stands there as it is written is pushed
   pub kept_pushed : (result : Result Unit F) (before : I) (t : Tree) (read : Read Tree) (after : I)
-      → OnOk result ((bytes : List ℕ) → (s : Source) → (ss : List Source) → (fs : List (Frame I M K)) → (cs : List Open) → Stands bytes old false (variants.Array before ∷ fs) (elements_so_far ss ∷ cs) → slice_range bytes from q.idx ≡ source_text s → Stands bytes new false (variants.Array after ∷ fs) (elements_so_far (ss ++ s ∷ []) ∷ cs))
-      → OnOk result (r ≡ q) → IfErr result (λ _. r.told ≡ Some OutOfMemory) → slice_range text from q.idx ≡ source_text (source_alone t) → read ≡ Ok (t, rest_of q) → Pushes silent r.told Stands text result old before read new after (rest_of r)
+      → OnOk result ((bytes : List ℕ) → (s : Source) → (ss : List Source) → (fs : List (Frame I M K)) → (cs : List Open) → Stands bytes old false (variants.Array before ∷ fs) (elements_so_far ss ∷ cs) → slice_range bytes from q.offset ≡ source_text s → Stands bytes new false (variants.Array after ∷ fs) (elements_so_far (ss ++ s ∷ []) ∷ cs))
+      → OnOk result (r ≡ q) → IfErr result (λ _. r.told ≡ Some OutOfMemory) → slice_range text from q.offset ≡ source_text (source_alone t) → read ≡ Ok (t, rest_of q) → Pushes silent r.told Stands text result old before read new after (rest_of r)
   kept_pushed (Ok x) before t read after pushed same memory there is = (t, is ∙ ap (λ o. Ok (t, rest_of o)) (sym same), λ ss fs cs stands. pushed text (source_alone t) ss fs cs stands there)
   kept_pushed (Err f) before t read after pushed same memory there is = memory_misses silent r.told read memory
 
   -- and put in under a key
   pub kept_put : (result : Result Unit F) (before : OpenObject M K) (key : K) (t : Tree) (read : Read Tree) (after : OpenObject M K)
-      → OnOk result ((bytes : List ℕ) → (s : Source) → (front : List Found) → (k : Mark × List ℕ) → (place : ℕ) → (fs : List (Frame I M K)) → (cs : List Open) → Stands bytes old true (variants.Object (record { members = before.members; key = key }) ∷ fs) (members_so_far front k place ∷ cs) → slice_range bytes from q.idx ≡ source_text s → Stands bytes new false (variants.Object after ∷ fs) (members_so_far (front ++ found k s place ∷ []) (plain, []) 0 ∷ cs))
-      → OnOk result (r ≡ q) → IfErr result (λ _. IsUntold silent r.told) → slice_range text from q.idx ≡ source_text (source_alone t) → read ≡ Ok (t, rest_of q) → PutsIn silent r.told Stands text result old before key read new after (rest_of r)
+      → OnOk result ((bytes : List ℕ) → (s : Source) → (front : List Found) → (k : Mark × List ℕ) → (place : ℕ) → (fs : List (Frame I M K)) → (cs : List Open) → Stands bytes old true (variants.Object (record { members = before.members; key = key }) ∷ fs) (members_so_far front k place ∷ cs) → slice_range bytes from q.offset ≡ source_text s → Stands bytes new false (variants.Object after ∷ fs) (members_so_far (front ++ found k s place ∷ []) (plain, []) 0 ∷ cs))
+      → OnOk result (r ≡ q) → IfErr result (λ _. IsUntold silent r.told) → slice_range text from q.offset ≡ source_text (source_alone t) → read ≡ Ok (t, rest_of q) → PutsIn silent r.told Stands text result old before key read new after (rest_of r)
   kept_put (Ok x) before key t read after put same memory there is = (t, is ∙ ap (λ o. Ok (t, rest_of o)) (sym same), λ front k place fs cs stands. put text (source_alone t) front k place fs cs stands there)
   kept_put (Err f) before key t read after put same memory there is = untold_misses silent r.told read memory
 
 -- ---- where a scalar stands
 
 -- the bytes between two places of a parser
-pub between : (p q : Parser) (bytes : List ℕ) → Advances p q → p.idx ≤ size_of p → rest_of p ≡ bytes ++ rest_of q → slice_range p.buf.now p.idx q.idx ≡ bytes
+pub between : (p q : Parser) (bytes : List ℕ) → Advances p q → p.offset ≤ size_of p → rest_of p ≡ bytes ++ rest_of q → slice_range p.buf.now p.offset q.offset ≡ bytes
 between p q bytes a within e =
     let same = same_size p q a in
     let inside = a.inside within in
-    let count : q.idx - p.idx ≡ length bytes = omega (arith, ap length e, length-append bytes (rest_of q), length-drop p.idx p.buf.now, length-drop q.idx q.buf.now, same, inside, within) in
+    let count : q.offset - p.offset ≡ length bytes = omega (arith, ap length e, length-append bytes (rest_of q), length-drop p.offset p.buf.now, length-drop q.offset q.buf.now, same, inside, within) in
     ap₂ (λ n xs. take n xs) count e ∙ take-append_seam bytes (rest_of q)
 
 -- the integer that is read, with a minus and without
@@ -129,7 +129,7 @@ abbrev pub positive_of : ShortInteger → Num
 positive_of read = record { form = uint64; scale = 0; whole = pos read.magnitude }
 
 -- an integer in the text
-pub integer_stands : (p q : Parser) (n : Num) → Advances p q → p.idx ≤ size_of p → (bytes : List ℕ) × (rest_of p ≡ bytes ++ rest_of q) × IsStandardNumber bytes n → IsSpelledAt p.buf.now p.idx q.idx (number_source n)
+pub integer_stands : (p q : Parser) (n : Num) → Advances p q → p.offset ≤ size_of p → (bytes : List ℕ) × (rest_of p ≡ bytes ++ rest_of q) × IsStandardNumber bytes n → IsSpelledAt p.buf.now p.offset q.offset (number_source n)
 integer_stands p q n a within h some = subst (λ bs. IsStandardNumber bs n) (sym (between p q h.0 a within h.1)) h.2
 
 -- nothing is said of where a scalar stands
@@ -139,15 +139,15 @@ not_spelled text at s h = absurd (omega arith)
 -- ---- keys
 
 -- a key without escapes, behind its opening quote
-pub key_stands : (p q r : Parser) (body : List ℕ) → 0 < q.idx → Advances p q → Advances q r → p.idx ≤ size_of p → IsBehind 34 q → rest_of q ≡ body ++ 34 ∷ rest_of r → slice_range p.buf.now (q.idx - 1) r.idx ≡ in_quotes body
+pub key_stands : (p q r : Parser) (body : List ℕ) → 0 < q.offset → Advances p q → Advances q r → p.offset ≤ size_of p → IsBehind 34 q → rest_of q ≡ body ++ 34 ∷ rest_of r → slice_range p.buf.now (q.offset - 1) r.offset ≡ in_quotes body
 key_stands p q r body some on a within behind e =
     let inside = on.inside within in
-    let before : Parser = record q { idx = q.idx - 1 } in
-    let back : q.idx - 1 + 1 ≡ q.idx = omega (arith, some) in
+    let before : Parser = record q { offset = q.offset - 1 } in
+    let back : q.offset - 1 + 1 ≡ q.offset = omega (arith, some) in
     let more : rest_of before ≡ 34 ∷ rest_of q =
-    drop_more q.buf.now (q.idx - 1) 0 (omega (arith, inside, some)) ∙ ap₂ (λ b r. b ∷ r) behind.1 (ap (λ n. drop n q.buf.now) back) in
+    drop_more q.buf.now (q.offset - 1) 0 (omega (arith, inside, some)) ∙ ap₂ (λ b r. b ∷ r) behind.1 (ap (λ n. drop n q.buf.now) back) in
     let on_before : Advances before r = record { buf = a.buf; mode = a.mode; onward = omega (arith, a.onward); inside = λ h. a.inside inside } in
-    ap (λ b. slice_range b.now (q.idx - 1) r.idx) (sym on.buf)
+    ap (λ b. slice_range b.now (q.offset - 1) r.offset) (sym on.buf)
     ∙ between before r (34 ∷ body ++ 34 ∷ []) on_before (omega (arith, inside)) (more ∙ ap (λ xs. 34 ∷ xs) (e ∙ sym (append_assoc body (34 ∷ []) (rest_of r))))
 
 -- what is so of a key that stands there
@@ -161,11 +161,11 @@ plain_key_begun Stands Begun (Ok key) h is_plain bytes stands = h bytes stands i
 plain_key_begun Stands Begun (Err e) h is_plain bytes stands = tt
 
 -- a key that a handler made of what was read
-pub key_kept : {K A F : Type 0} (silent : Bool) (Names : K → Mark × List ℕ → ℕ → Type 0) (made : Result K A) (result : Result K F) (size : ℕ) (p q : Parser) (k : Mark × List ℕ) (read : Read (Mark × List ℕ)) → size ≡ size_of p → p.idx ≤ size_of p → IfOk made (λ key. Names key k p.idx)
+pub key_kept : {K A F : Type 0} (silent : Bool) (Names : K → Mark × List ℕ → ℕ → Type 0) (made : Result K A) (result : Result K F) (size : ℕ) (p q : Parser) (k : Mark × List ℕ) (read : Read (Mark × List ℕ)) → size ≡ size_of p → p.offset ≤ size_of p → IfOk made (λ key. Names key k p.offset)
     → IfOk result (λ x. (made ≡ Ok x) × (q ≡ p)) → IfErr result (λ _. q.told ≡ Some OutOfMemory) → read ≡ Ok (k, rest_of p) → Builds silent q.told (AsKey Names size (rest_of q)) result read (rest_of q)
 key_kept silent Names made (Ok key) size p q k read same within named kept memory is =
-    let place : p.idx ≡ size - length (rest_of q) = omega (arith, length-drop p.idx p.buf.now, same, within, ap (λ o. length (rest_of o)) kept.1) in
-    (k, subst (λ i. Names key k i) place (subst (λ m. IfOk m (λ x. Names x k p.idx)) kept.0 named), is ∙ ap (λ o. Ok (k, rest_of o)) (sym kept.1))
+    let place : p.offset ≡ size - length (rest_of q) = omega (arith, length-drop p.offset p.buf.now, same, within, ap (λ o. length (rest_of o)) kept.1) in
+    (k, subst (λ i. Names key k i) place (subst (λ m. IfOk m (λ x. Names x k p.offset)) kept.0 named), is ∙ ap (λ o. Ok (k, rest_of o)) (sym kept.1))
 key_kept silent Names made (Err f) size p q k read same within named kept memory is = memory_misses silent q.told read memory
 
 -- what is built in an input of one size is built in the same

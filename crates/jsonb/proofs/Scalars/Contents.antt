@@ -34,19 +34,19 @@ module _ (quote : ℕ) (p q : Parser) (body : List ℕ) (c : PassesContents quot
       string_read (size_of p) mode quote (rest_of p) x (rest_of q)
       (string-closed (size_of p) mode quote (rest_of p) (length body) x c.found (ap (body_of mode) (sym c.is) ∙ read) ∙ ap (λ (u : List ℕ). Ok (x, u)) (sym c.rest))
 
-  rejected : {V : Type 0} (Sees : V → Source → Type 0) (idx : ℕ) (e : Error) (read : Body (Mark × List ℕ)) → SeesContents Sees idx (Err e) read → DecodesContents idx (Err e) read
-  rejected Sees idx (Syntax code place) read h = h
-  rejected Sees idx OutOfMemory read h = h
-  rejected Sees idx other read h = h
+  rejected : {V : Type 0} (Sees : V → Source → Type 0) (offset : ℕ) (e : Error) (read : Body (Mark × List ℕ)) → SeesContents Sees offset (Err e) read → DecodesContents offset (Err e) read
+  rejected Sees offset (Syntax code place) read h = h
+  rejected Sees offset OutOfMemory read h = h
+  rejected Sees offset other read h = h
 
   -- and their fault is its fault
-  pub contents_fail : {V : Type 0} (Sees : V → Source → Type 0) (silent : _) (told : Option Error) (e : Error) → p.idx ≤ size_of p → told ≡ Some e → SeesContents Sees (p.idx + 1) (Err e) (body_of (mode_of p.mode) body)
+  pub contents_fail : {V : Type 0} (Sees : V → Source → Type 0) (silent : _) (told : Option Error) (e : Error) → p.offset ≤ size_of p → told ≡ Some e → SeesContents Sees (p.offset + 1) (Err e) (body_of (mode_of p.mode) body)
       → Misses silent told (quoted_at (size_of p) (mode_of p.mode) quote (rest_of p))
   contents_fail Sees silent told e inside is h =
       let mode = mode_of p.mode in
-      let at : size_of p - length (rest_of p) ≡ p.idx = omega (arith, length-drop p.idx p.buf.now, inside) in
+      let at : size_of p - length (rest_of p) ≡ p.offset = omega (arith, length-drop p.offset p.buf.now, inside) in
       let fails : Fails e (string_at (size_of p) mode quote (rest_of p)) =
-      body_fails (size_of p) mode quote (rest_of p) (length body) p.idx e c.found at (subst (λ (u : List ℕ). DecodesContents (p.idx + 1) (Err e) (body_of mode u)) c.is (rejected Sees (p.idx + 1) e (body_of mode body) h)) in
+      body_fails (size_of p) mode quote (rest_of p) (length body) p.offset e c.found at (subst (λ (u : List ℕ). DecodesContents (p.offset + 1) (Err e) (body_of mode u)) c.is (rejected Sees (p.offset + 1) e (body_of mode body) h)) in
       misses_through silent told (string_at (size_of p) mode quote (rest_of p)) (λ s. Ok (string s.0.0 s.0.1, s.1)) (subst (λ (t : Option Error). Misses silent t (string_at (size_of p) mode quote (rest_of p))) (sym is) fails)
 
   -- a backslash is in the text
@@ -55,4 +55,4 @@ module _ (quote : ℕ) (p q : Parser) (body : List ℕ) (c : PassesContents quot
       let sees = c.escaped in
       let low : sees.0 < length body = sees.1 in
       let there : SeesBackslash (rest_of p) (length body) = (sees.0, low, sym (get_or-take (length body) (rest_of p) sees.0 0 low) ∙ ap (λ (u : List ℕ). get_or u sees.0 0) (sym c.is) ∙ sees.2) in
-      contains_after p.buf.now p.idx (length body) there (omega (arith, c.within))
+      contains_after p.buf.now p.offset (length body) there (omega (arith, c.within))

@@ -95,17 +95,17 @@ pub(super) trait Handler<'a>: Drop + Sized {
     fn string(text: CowStr<'a>) -> Self
         ensures { sees result (string_source (mark_view text.entry) (cow_str_bytes text.entry)) };
 
-    // A string that has escapes, given its contents. An error counts from `idx`: the index after the opening quote, and
+    // A string that has escapes, given its contents. An error counts from `offset`: the index after the opening quote, and
     // one more.
     fn escaped_string(
         alloc: Global,
         body: &'a str,
         mode: Mode,
-        idx: usize,
+        offset: usize,
     ) -> std::result::Result<Self, Error>
         requires escaped { TellsBackslash body.now (length body.now) true }
-        requires room { idx + length body.now < 2 ^ 64 }
-        ensures { SeesContents sees idx result (body_of (mode_of mode) body.now) };
+        requires room { offset + length body.now < 2 ^ 64 }
+        ensures { SeesContents sees offset result (body_of (mode_of mode) body.now) };
 
     // Whether strings and keys none of whose bytes has an escape in serialized text are told from others.
     fn tells_plain() -> bool;

@@ -29,7 +29,7 @@ impl<'a> Parser<'a> {
         object: &mut OpenObject<V::Members, V::Key>,
         text: &'a str,
     ) -> std::result::Result<V::Key, Failed>
-        requires inside { self.old.idx ≤ size_of self.old }
+        requires inside { self.old.offset ≤ size_of self.old }
         requires same { text.now ≡ take (length text.now) self.old.buf.now }
         ensures reads { Builds V.silent self.new.told
             (AsNamed (Begins (V.stands self.old.buf.now) room.old object.old room.new object.new)) result (read_at member_start self.old)
@@ -56,7 +56,7 @@ impl<'a> Parser<'a> {
         object: &mut OpenObject<V::Members, V::Key>,
         text: &'a str,
     ) -> std::result::Result<V::Key, Failed>
-        requires inside { self.old.idx ≤ size_of self.old }
+        requires inside { self.old.offset ≤ size_of self.old }
         requires same { text.now ≡ take (length text.now) self.old.buf.now }
         ensures reads { Builds V.silent self.new.told
             (AsKey (Begins (V.stands self.old.buf.now) room.old object.old room.new object.new) (size_of self.old) (rest_of self.new)) result
@@ -68,13 +68,13 @@ impl<'a> Parser<'a> {
         if !self.take_after_whitespace(b'"') {
             return self.other_key::<V>(room, object);
         }
-        let from = self.idx;
+        let from = self.offset;
         if let Some(cut) = self.cut_string(V::tells_plain(), text) {
             if cut.is_plain {
-                let key = V::plain_key(room, object, self.alloc, cut.body, from, self.idx);
+                let key = V::plain_key(room, object, self.alloc, cut.body, from, self.offset);
                 return self.kept(key);
             }
-            let key = V::borrowed_key(room, object, self.alloc, cut.body, from, self.idx);
+            let key = V::borrowed_key(room, object, self.alloc, cut.body, from, self.offset);
             return self.kept(key);
         }
         self.escaped_key::<V>(room, object)
@@ -87,7 +87,7 @@ impl<'a> Parser<'a> {
         room: &mut V::Room,
         object: &mut OpenObject<V::Members, V::Key>,
     ) -> std::result::Result<V::Key, Failed>
-        requires { self.old.idx ≤ size_of self.old }
+        requires { self.old.offset ≤ size_of self.old }
         ensures reads { Builds V.silent self.new.told
             (AsKey (Begins (V.stands self.old.buf.now) room.old object.old room.new object.new) (size_of self.old) (rest_of self.new)) result
             (string_at (size_of self.old) (mode_of self.old.mode) ascii.quote (rest_of self.old)) (rest_of self.new) }
@@ -98,7 +98,7 @@ impl<'a> Parser<'a> {
             Ok(key) => key,
             Err(error) => return Err(self.fail(error)),
         };
-        let key = V::key(room, object, self.alloc, key, self.idx);
+        let key = V::key(room, object, self.alloc, key, self.offset);
         self.kept(key)
     }
 
@@ -109,7 +109,7 @@ impl<'a> Parser<'a> {
         room: &mut V::Room,
         object: &mut OpenObject<V::Members, V::Key>,
     ) -> std::result::Result<V::Key, Failed>
-        requires { self.old.idx ≤ size_of self.old }
+        requires { self.old.offset ≤ size_of self.old }
         ensures reads { Builds V.silent self.new.told
             (AsKey (Begins (V.stands self.old.buf.now) room.old object.old room.new object.new) (size_of self.old) (rest_of self.new)) result
             (key_at (size_of self.old) (mode_of self.old.mode) (rest_of self.old)) (rest_of self.new) }
@@ -120,13 +120,13 @@ impl<'a> Parser<'a> {
             Ok(key) => key,
             Err(error) => return Err(self.fail(error)),
         };
-        let key = V::key(room, object, self.alloc, key, self.idx);
+        let key = V::key(room, object, self.alloc, key, self.offset);
         self.kept(key)
     }
 
     // A key.
     fn parse_key(&mut self) -> Result<CowStr<'a>>
-        requires { self.old.idx ≤ size_of self.old }
+        requires { self.old.offset ≤ size_of self.old }
         ensures reads { ReadsAs (λ s. (mark_view s, cow_str_bytes s)) key_at result self.old self.new }
         ensures memory { result ≡ Err Error.OutOfMemory → Contains self.old.buf.now ascii.backslash }
         ensures advances { Advances self.old self.new }
@@ -145,7 +145,7 @@ impl<'a> Parser<'a> {
 
     // Reads a key without quotes. It is borrowed.
     fn parse_bare_key(&mut self) -> Result<CowStr<'a>>
-        requires { self.old.idx ≤ size_of self.old }
+        requires { self.old.offset ≤ size_of self.old }
         ensures reads { Gives (λ s. ((mark_view s, cow_str_bytes s), rest_of self.new)) result
             (bare_key_at (size_of self.old) (rest_of self.old)) }
         ensures takes_no_memory { result ≢ Err Error.OutOfMemory }
@@ -155,19 +155,19 @@ impl<'a> Parser<'a> {
             return Err(Error::Syntax(ParseErrorCode::InvalidEOF, self.buf.len()));
         };
         if byte.is_ascii_digit() {
-            return Err(Error::Syntax(ParseErrorCode::ObjectKeyInvalidNumber, self.idx + 1));
+            return Err(Error::Syntax(ParseErrorCode::ObjectKeyInvalidNumber, self.offset + 1));
         }
         let rest = self.rest();
         match find_key_end(rest) {
-            KeyEnd::Past(at) => Err(Error::Syntax(ParseErrorCode::InvalidEOF, self.idx + at)),
+            KeyEnd::Past(at) => Err(Error::Syntax(ParseErrorCode::InvalidEOF, self.offset + at)),
             KeyEnd::At(end) => {
-                let after = self.idx + end;
+                let after = self.offset + end;
                 if end == 0 || rest[end] >= 0x80 {
                     return Err(Error::Syntax(ParseErrorCode::ObjectKeyInvalidCharacter, after));
                 }
                 match std::str::from_utf8(&rest[..end]) {
                     Ok(text) => {
-                        self.idx = after;
+                        self.offset = after;
                         Ok(CowStr::Borrowed(text))
                     }
                     Err(_) => Err(Error::Syntax(ParseErrorCode::InvalidStringValue, after)),

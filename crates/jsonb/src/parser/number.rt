@@ -25,7 +25,7 @@ impl Parser<'_> {
     // Passes an integer of a standard text that is written by the same bytes again, if that is asked and one comes next.
     #[inline(always)]
     pub(super) fn kept_integer(&mut self, is_asked: bool) -> bool
-        requires inside { self.old.idx ≤ size_of self.old }
+        requires inside { self.old.offset ≤ size_of self.old }
         requires mode { mode_of self.old.mode ≡ standard }
         ensures passes { MatchBool result (PassesInteger self.old self.new) (self.new ≡ self.old) }
         ensures asked { MatchBool result (is_asked ≡ true) (Unit {0}) }
@@ -36,7 +36,7 @@ impl Parser<'_> {
         }
         match kept_integer(self.rest()) {
             Some(end) => {
-                self.idx += end;
+                self.offset += end;
                 true
             }
             None => false,
@@ -46,7 +46,7 @@ impl Parser<'_> {
     // Reads an integer of a standard text, if one of at most 19 digits comes next.
     #[inline(always)]
     pub(super) fn short_integer(&mut self) -> Option<ShortInteger>
-        requires inside { self.old.idx ≤ size_of self.old }
+        requires inside { self.old.offset ≤ size_of self.old }
         requires mode { mode_of self.old.mode ≡ standard }
         ensures reads { FindsAs (λ read. number (short_view read)) scalar_at result self.old self.new }
         ensures spelled { IfSome result (λ read. (bytes : List ℕ) × (rest_of self.old ≡ bytes ++ rest_of self.new)
@@ -56,19 +56,19 @@ impl Parser<'_> {
         ensures advances { Advances self.old self.new }
     {
         let read = short_integer(self.rest())?;
-        self.idx += read.end;
+        self.offset += read.end;
         Some(read)
     }
 
     // Reads the longest number text, and gives its number.
     #[inline(never)]
     pub(super) fn parse_standard_number(&mut self) -> Result<Number>
-        requires { self.old.idx ≤ size_of self.old }
+        requires { self.old.offset ≤ size_of self.old }
         ensures reads { Gives (λ n. (number_view n, rest_of self.new)) result
             (standard_number_at (size_of self.old) (rest_of self.old)) }
         ensures takes_no_memory { result ≢ Err OutOfMemory }
         ensures advances { Advances self.old self.new }
-        ensures inside { self.new.idx ≤ size_of self.new }
+        ensures inside { self.new.offset ≤ size_of self.new }
     {
         let bytes = self.rest();
         let negative = byte_at(bytes, 0) == b'-';
@@ -85,25 +85,25 @@ impl Parser<'_> {
         if continues_after_integer(byte_at(bytes, end)) {
             return Err(self.number_without_integer(bytes, end));
         }
-        self.idx += end;
+        self.offset += end;
         match integer(negative, digits.value) {
             Some(number) => Ok(number),
-            None => Err(Error::Syntax(ParseErrorCode::NumberNotCarried, self.idx)),
+            None => Err(Error::Syntax(ParseErrorCode::NumberNotCarried, self.offset)),
         }
     }
 
     // The fault in a number text, at this place of the bytes that are still to be read.
     fn invalid_number(&self, place: usize) -> Error
-        requires { self.now.idx ≤ size_of self.now × place ≤ length (rest_of self.now) + 2 }
-        ensures { result ≡ Syntax InvalidNumberValue (self.now.idx + place) }
+        requires { self.now.offset ≤ size_of self.now × place ≤ length (rest_of self.now) + 2 }
+        ensures { result ≡ Syntax InvalidNumberValue (self.now.offset + place) }
     {
-        Error::Syntax(ParseErrorCode::InvalidNumberValue, self.idx + place)
+        Error::Syntax(ParseErrorCode::InvalidNumberValue, self.offset + place)
     }
 
     // The fault at a number text that goes on past its whole part.
     #[cold]
     fn number_without_integer(&self, bytes: &[u8], end: usize) -> Error
-        requires inside { self.now.idx ≤ size_of self.now }
+        requires inside { self.now.offset ≤ size_of self.now }
         requires bytes { bytes.now ≡ rest_of self.now }
         requires whole { end ≡ digits_from bytes.now (whole_start bytes.now) }
         requires within { end ≤ length bytes.now }
@@ -113,7 +113,7 @@ impl Parser<'_> {
         ensures takes_no_memory { result ≢ OutOfMemory }
     {
         match number_end(bytes, end) {
-            Ok(end) => Error::Syntax(ParseErrorCode::NumberNotCarried, self.idx + end),
+            Ok(end) => Error::Syntax(ParseErrorCode::NumberNotCarried, self.offset + end),
             Err(place) => self.invalid_number(place),
         }
     }

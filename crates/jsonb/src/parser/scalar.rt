@@ -76,14 +76,14 @@ impl<'a> Parser<'a> {
         ensures put { OnOk result ((text : List ℕ) → (s : Source) → (ss : List Source)
             → (fs : List (Frame V.Items V.Members V.Key)) → (cs : List Open)
             → V.stands text room.old false (Array items.old ∷ fs) (elements_so_far ss ∷ cs) → V.sees value s
-            → IsSpelledAt text from self.old.idx s
+            → IsSpelledAt text from self.old.offset s
             → V.stands text room.new false (Array items.new ∷ fs) (elements_so_far (ss ++ s ∷ []) ∷ cs)) }
         ensures same { OnOk result (self.new ≡ self.old) }
         ensures memory { IfErr result (λ _. self.new.told ≡ Some Error.OutOfMemory) }
         ensures advances { Advances self.old self.new }
         ensures base { V.base room.new ≡ V.base room.old }
     {
-        if V::push(room, items, value, from, self.idx).is_err() {
+        if V::push(room, items, value, from, self.offset).is_err() {
             return Err(self.out_of_memory());
         }
         Ok(())
@@ -102,7 +102,7 @@ impl<'a> Parser<'a> {
         ensures put { OnOk result ((text : List ℕ) → (s : Source) → (front : List Found) → (k : Mark × List ℕ)
             → (place : ℕ) → (fs : List (Frame V.Items V.Members V.Key)) → (cs : List Open)
             → V.stands text room.old true (Object (record { members = object.old.members; key = key }) ∷ fs)
-            (members_so_far front k place ∷ cs) → V.sees value s → IsSpelledAt text from self.old.idx s
+            (members_so_far front k place ∷ cs) → V.sees value s → IsSpelledAt text from self.old.offset s
             → V.stands text room.new false (Object object.new ∷ fs)
             (members_so_far (front ++ found k s place ∷ []) (plain, []) 0 ∷ cs)) }
         ensures same { OnOk result (self.new ≡ self.old) }
@@ -110,7 +110,7 @@ impl<'a> Parser<'a> {
         ensures advances { Advances self.old self.new }
         ensures base { V.base room.new ≡ V.base room.old }
     {
-        let inserted = V::insert(room, object, key, value, from, self.idx);
+        let inserted = V::insert(room, object, key, value, from, self.offset);
         self.inserted(inserted)
     }
 
@@ -127,7 +127,7 @@ impl<'a> Parser<'a> {
         ensures put { OnOk result ((text : List ℕ) → (s : Source) → (ss : List Source)
             → (fs : List (Frame V.Items V.Members V.Key)) → (cs : List Open)
             → V.stands text room.old false (Array items.old ∷ fs) (elements_so_far ss ∷ cs)
-            → s ≡ string_source plain cut.entry.body.now → IsSpelledAt text from self.old.idx s
+            → s ≡ string_source plain cut.entry.body.now → IsSpelledAt text from self.old.offset s
             → V.stands text room.new false (Array items.new ∷ fs) (elements_so_far (ss ++ s ∷ []) ∷ cs)) }
         ensures same { OnOk result (self.new ≡ self.old) }
         ensures memory { IfErr result (λ _. self.new.told ≡ Some Error.OutOfMemory) }
@@ -155,7 +155,7 @@ impl<'a> Parser<'a> {
             → (place : ℕ) → (fs : List (Frame V.Items V.Members V.Key)) → (cs : List Open)
             → V.stands text room.old true (Object (record { members = object.old.members; key = key }) ∷ fs)
             (members_so_far front k place ∷ cs) → s ≡ string_source plain cut.entry.body.now
-            → IsSpelledAt text from self.old.idx s → V.stands text room.new false (Object object.new ∷ fs)
+            → IsSpelledAt text from self.old.offset s → V.stands text room.new false (Object object.new ∷ fs)
             (members_so_far (front ++ found k s place ∷ []) (plain, []) 0 ∷ cs)) }
         ensures same { OnOk result (self.new ≡ self.old) }
         ensures told { IfErr result (λ _. IsUntold V.silent self.new.told) }
@@ -183,14 +183,14 @@ impl<'a> Parser<'a> {
         items: &mut V::Items,
         text: &'a str,
     ) -> Result<(), Failed>
-        requires inside { self.old.idx ≤ size_of self.old }
+        requires inside { self.old.offset ≤ size_of self.old }
         requires same { text.now ≡ take (length text.now) self.old.buf.now }
         ensures reads { Pushes V.silent self.new.told V.stands self.old.buf.now result room.old items.old
             (read_at scalar_at self.old) room.new items.new (rest_of self.new) }
         ensures advances { Advances self.old self.new }
         ensures base { V.base room.new ≡ V.base room.old }
     {
-        let from = self.idx;
+        let from = self.offset;
         if self.take_byte(b'"') {
             if let Some(cut) = self.cut_string(V::tells_plain(), text) {
                 return self.push_cut::<V>(room, items, cut, from);
@@ -218,14 +218,14 @@ impl<'a> Parser<'a> {
         ensures put { OnOk result ((text : List ℕ) → (s : Source) → (ss : List Source)
             → (fs : List (Frame V.Items V.Members V.Key)) → (cs : List Open)
             → V.stands text room.old false (Array items.old ∷ fs) (elements_so_far ss ∷ cs)
-            → slice_range text from self.old.idx ≡ source_text s
+            → slice_range text from self.old.offset ≡ source_text s
             → V.stands text room.new false (Array items.new ∷ fs) (elements_so_far (ss ++ s ∷ []) ∷ cs)) }
         ensures same { OnOk result (self.new ≡ self.old) }
         ensures memory { IfErr result (λ _. self.new.told ≡ Some Error.OutOfMemory) }
         ensures advances { Advances self.old self.new }
         ensures base { V.base room.new ≡ V.base room.old }
     {
-        if V::push_kept(room, items, from, self.idx).is_err() {
+        if V::push_kept(room, items, from, self.offset).is_err() {
             return Err(self.out_of_memory());
         }
         Ok(())
@@ -244,7 +244,7 @@ impl<'a> Parser<'a> {
         ensures put { OnOk result ((text : List ℕ) → (s : Source) → (front : List Found) → (k : Mark × List ℕ)
             → (place : ℕ) → (fs : List (Frame V.Items V.Members V.Key)) → (cs : List Open)
             → V.stands text room.old true (Object (record { members = object.old.members; key = key }) ∷ fs)
-            (members_so_far front k place ∷ cs) → slice_range text from self.old.idx ≡ source_text s
+            (members_so_far front k place ∷ cs) → slice_range text from self.old.offset ≡ source_text s
             → V.stands text room.new false (Object object.new ∷ fs)
             (members_so_far (front ++ found k s place ∷ []) (plain, []) 0 ∷ cs)) }
         ensures same { OnOk result (self.new ≡ self.old) }
@@ -252,7 +252,7 @@ impl<'a> Parser<'a> {
         ensures advances { Advances self.old self.new }
         ensures base { V.base room.new ≡ V.base room.old }
     {
-        let inserted = V::insert_kept(room, object, key, from, self.idx);
+        let inserted = V::insert_kept(room, object, key, from, self.offset);
         self.inserted(inserted)
     }
 
@@ -265,7 +265,7 @@ impl<'a> Parser<'a> {
         items: &mut V::Items,
         text: &'a str,
     ) -> Result<(), Failed>
-        requires inside { self.old.idx ≤ size_of self.old }
+        requires inside { self.old.offset ≤ size_of self.old }
         requires same { text.now ≡ take (length text.now) self.old.buf.now }
         requires mode { mode_of self.old.mode ≡ standard }
         requires no_string { begins ascii.quote (rest_of self.old) ≡ false }
@@ -274,7 +274,7 @@ impl<'a> Parser<'a> {
         ensures advances { Advances self.old self.new }
         ensures base { V.base room.new ≡ V.base room.old }
     {
-        let from = self.idx;
+        let from = self.offset;
         if self.kept_integer(V::keeps_integers()) {
             return self.push_kept::<V>(room, items, from);
         }
@@ -289,7 +289,7 @@ impl<'a> Parser<'a> {
         items: &mut V::Items,
         text: &'a str,
     ) -> Result<(), Failed>
-        requires inside { self.old.idx ≤ size_of self.old }
+        requires inside { self.old.offset ≤ size_of self.old }
         requires same { text.now ≡ take (length text.now) self.old.buf.now }
         requires mode { mode_of self.old.mode ≡ extended }
         requires no_string { begins ascii.quote (rest_of self.old) ≡ false }
@@ -298,7 +298,7 @@ impl<'a> Parser<'a> {
         ensures advances { Advances self.old self.new }
         ensures base { V.base room.new ≡ V.base room.old }
     {
-        let from = self.idx;
+        let from = self.offset;
         if self.kept_extended_integer(V::keeps_integers()) {
             return self.push_kept::<V>(room, items, from);
         }
@@ -317,7 +317,7 @@ impl<'a> Parser<'a> {
         key: V::Key,
         text: &'a str,
     ) -> Result<(), Failed>
-        requires inside { self.old.idx ≤ size_of self.old }
+        requires inside { self.old.offset ≤ size_of self.old }
         requires same { text.now ≡ take (length text.now) self.old.buf.now }
         requires mode { mode_of self.old.mode ≡ standard }
         requires no_string { begins ascii.quote (rest_of self.old) ≡ false }
@@ -326,7 +326,7 @@ impl<'a> Parser<'a> {
         ensures advances { Advances self.old self.new }
         ensures base { V.base room.new ≡ V.base room.old }
     {
-        let from = self.idx;
+        let from = self.offset;
         if self.kept_integer(V::keeps_integers()) {
             return self.insert_kept::<V>(room, object, key, from);
         }
@@ -342,7 +342,7 @@ impl<'a> Parser<'a> {
         key: V::Key,
         text: &'a str,
     ) -> Result<(), Failed>
-        requires inside { self.old.idx ≤ size_of self.old }
+        requires inside { self.old.offset ≤ size_of self.old }
         requires same { text.now ≡ take (length text.now) self.old.buf.now }
         requires mode { mode_of self.old.mode ≡ extended }
         requires no_string { begins ascii.quote (rest_of self.old) ≡ false }
@@ -351,7 +351,7 @@ impl<'a> Parser<'a> {
         ensures advances { Advances self.old self.new }
         ensures base { V.base room.new ≡ V.base room.old }
     {
-        let from = self.idx;
+        let from = self.offset;
         if self.kept_extended_integer(V::keeps_integers()) {
             return self.insert_kept::<V>(room, object, key, from);
         }
@@ -369,7 +369,7 @@ impl<'a> Parser<'a> {
         items: &mut V::Items,
         text: &'a str,
     ) -> Result<(), Failed>
-        requires inside { self.old.idx ≤ size_of self.old }
+        requires inside { self.old.offset ≤ size_of self.old }
         requires same { text.now ≡ take (length text.now) self.old.buf.now }
         requires mode { mode_of self.old.mode ≡ standard }
         requires no_string { begins ascii.quote (rest_of self.old) ≡ false }
@@ -378,7 +378,7 @@ impl<'a> Parser<'a> {
         ensures advances { Advances self.old self.new }
         ensures base { V.base room.new ≡ V.base room.old }
     {
-        let from = self.idx;
+        let from = self.offset;
         if let Some(read) = self.short_integer() {
             if read.negative {
                 let number = negative_number(read.magnitude);
@@ -397,7 +397,7 @@ impl<'a> Parser<'a> {
         items: &mut V::Items,
         text: &'a str,
     ) -> Result<(), Failed>
-        requires inside { self.old.idx ≤ size_of self.old }
+        requires inside { self.old.offset ≤ size_of self.old }
         requires same { text.now ≡ take (length text.now) self.old.buf.now }
         requires no_string { begins ascii.quote (rest_of self.old) ≡ false }
         ensures reads { Pushes V.silent self.new.told V.stands self.old.buf.now result room.old items.old
@@ -405,7 +405,7 @@ impl<'a> Parser<'a> {
         ensures advances { Advances self.old self.new }
         ensures base { V.base room.new ≡ V.base room.old }
     {
-        let from = self.idx;
+        let from = self.offset;
         match self.short_literal() {
             Some(Literal::Null) => self.push::<V>(room, items, V::null(), from),
             Some(Literal::Bool(value)) => self.push::<V>(room, items, V::boolean(value), from),
@@ -423,7 +423,7 @@ impl<'a> Parser<'a> {
         text: &'a str,
     ) -> Result<(), Failed>
         requires opened { IsBehind ascii.quote self.old }
-        requires inside { self.old.idx ≤ size_of self.old }
+        requires inside { self.old.offset ≤ size_of self.old }
         requires same { text.now ≡ take (length text.now) self.old.buf.now }
         ensures reads { Pushes V.silent self.new.told V.stands self.old.buf.now result room.old items.old
             (read_at (λ size mode. quoted_at size mode ascii.quote) self.old) room.new items.new (rest_of self.new) }
@@ -431,7 +431,7 @@ impl<'a> Parser<'a> {
         ensures base { V.base room.new ≡ V.base room.old }
     {
         let value = self.parse_escaped_string::<V>(b'"', text)?;
-        self.push::<V>(room, items, value, self.idx)
+        self.push::<V>(room, items, value, self.offset)
     }
 
     // Pushes any other value that holds no others, or tells its fault.
@@ -442,7 +442,7 @@ impl<'a> Parser<'a> {
         items: &mut V::Items,
         text: &'a str,
     ) -> Result<(), Failed>
-        requires inside { self.old.idx ≤ size_of self.old }
+        requires inside { self.old.offset ≤ size_of self.old }
         requires same { text.now ≡ take (length text.now) self.old.buf.now }
         ensures reads { Pushes V.silent self.new.told V.stands self.old.buf.now result room.old items.old
             (read_at other_scalar_at self.old) room.new items.new (rest_of self.new) }
@@ -450,7 +450,7 @@ impl<'a> Parser<'a> {
         ensures base { V.base room.new ≡ V.base room.old }
     {
         let value = self.parse_other_scalar::<V>(text)?;
-        self.push::<V>(room, items, value, self.idx)
+        self.push::<V>(room, items, value, self.offset)
     }
 
     // Puts in a member whose value holds no others. Here too a value is put in where it is made.
@@ -462,14 +462,14 @@ impl<'a> Parser<'a> {
         key: V::Key,
         text: &'a str,
     ) -> Result<(), Failed>
-        requires inside { self.old.idx ≤ size_of self.old }
+        requires inside { self.old.offset ≤ size_of self.old }
         requires same { text.now ≡ take (length text.now) self.old.buf.now }
         ensures reads { PutsIn V.silent self.new.told V.stands self.old.buf.now result room.old object.old key
             (read_at scalar_at self.old) room.new object.new (rest_of self.new) }
         ensures advances { Advances self.old self.new }
         ensures base { V.base room.new ≡ V.base room.old }
     {
-        let from = self.idx;
+        let from = self.offset;
         if self.take_byte(b'"') {
             if let Some(cut) = self.cut_string(V::tells_plain(), text) {
                 return self.insert_cut::<V>(room, object, key, cut, from);
@@ -494,7 +494,7 @@ impl<'a> Parser<'a> {
         key: V::Key,
         text: &'a str,
     ) -> Result<(), Failed>
-        requires inside { self.old.idx ≤ size_of self.old }
+        requires inside { self.old.offset ≤ size_of self.old }
         requires same { text.now ≡ take (length text.now) self.old.buf.now }
         requires mode { mode_of self.old.mode ≡ standard }
         requires no_string { begins ascii.quote (rest_of self.old) ≡ false }
@@ -503,7 +503,7 @@ impl<'a> Parser<'a> {
         ensures advances { Advances self.old self.new }
         ensures base { V.base room.new ≡ V.base room.old }
     {
-        let from = self.idx;
+        let from = self.offset;
         if let Some(read) = self.short_integer() {
             if read.negative {
                 let number = negative_number(read.magnitude);
@@ -524,7 +524,7 @@ impl<'a> Parser<'a> {
         key: V::Key,
         text: &'a str,
     ) -> Result<(), Failed>
-        requires inside { self.old.idx ≤ size_of self.old }
+        requires inside { self.old.offset ≤ size_of self.old }
         requires same { text.now ≡ take (length text.now) self.old.buf.now }
         requires no_string { begins ascii.quote (rest_of self.old) ≡ false }
         ensures reads { PutsIn V.silent self.new.told V.stands self.old.buf.now result room.old object.old key
@@ -532,7 +532,7 @@ impl<'a> Parser<'a> {
         ensures advances { Advances self.old self.new }
         ensures base { V.base room.new ≡ V.base room.old }
     {
-        let from = self.idx;
+        let from = self.offset;
         match self.short_literal() {
             Some(Literal::Null) => self.insert::<V>(room, object, key, V::null(), from),
             Some(Literal::Bool(value)) => self.insert::<V>(
@@ -557,7 +557,7 @@ impl<'a> Parser<'a> {
         text: &'a str,
     ) -> Result<(), Failed>
         requires opened { IsBehind ascii.quote self.old }
-        requires inside { self.old.idx ≤ size_of self.old }
+        requires inside { self.old.offset ≤ size_of self.old }
         requires same { text.now ≡ take (length text.now) self.old.buf.now }
         ensures reads { PutsIn V.silent self.new.told V.stands self.old.buf.now result room.old object.old key
             (read_at (λ size mode. quoted_at size mode ascii.quote) self.old) room.new object.new (rest_of self.new) }
@@ -565,7 +565,7 @@ impl<'a> Parser<'a> {
         ensures base { V.base room.new ≡ V.base room.old }
     {
         let value = self.parse_escaped_string::<V>(b'"', text)?;
-        self.insert::<V>(room, object, key, value, self.idx)
+        self.insert::<V>(room, object, key, value, self.offset)
     }
 
     // Puts in a member with any other value that holds no others, or tells its fault.
@@ -577,7 +577,7 @@ impl<'a> Parser<'a> {
         key: V::Key,
         text: &'a str,
     ) -> Result<(), Failed>
-        requires inside { self.old.idx ≤ size_of self.old }
+        requires inside { self.old.offset ≤ size_of self.old }
         requires same { text.now ≡ take (length text.now) self.old.buf.now }
         ensures reads { PutsIn V.silent self.new.told V.stands self.old.buf.now result room.old object.old key
             (read_at other_scalar_at self.old) room.new object.new (rest_of self.new) }
@@ -585,13 +585,13 @@ impl<'a> Parser<'a> {
         ensures base { V.base room.new ≡ V.base room.old }
     {
         let value = self.parse_other_scalar::<V>(text)?;
-        self.insert::<V>(room, object, key, value, self.idx)
+        self.insert::<V>(room, object, key, value, self.offset)
     }
 
     // A value that holds no others.
     #[inline(always)]
     pub(super) fn parse_scalar<V: Handler<'a>>(&mut self, text: &'a str) -> Result<V, Failed>
-        requires inside { self.old.idx ≤ size_of self.old }
+        requires inside { self.old.offset ≤ size_of self.old }
         requires same { text.now ≡ take (length text.now) self.old.buf.now }
         ensures reads { Builds V.silent self.new.told (AsScalar V.sees) result (read_at scalar_at self.old) (rest_of self.new) }
         ensures memory { IfErr result (λ _. self.new.told ≡ Some Error.OutOfMemory
@@ -607,7 +607,7 @@ impl<'a> Parser<'a> {
     // A string in single quotes, a word or a number.
     #[inline(always)]
     fn parse_other_scalar<V: Handler<'a>>(&mut self, text: &'a str) -> Result<V, Failed>
-        requires inside { self.old.idx ≤ size_of self.old }
+        requires inside { self.old.offset ≤ size_of self.old }
         requires same { text.now ≡ take (length text.now) self.old.buf.now }
         ensures reads { Builds V.silent self.new.told (AsScalar V.sees) result (read_at other_scalar_at self.old) (rest_of self.new) }
         ensures memory { IfErr result (λ _. self.new.told ≡ Some Error.OutOfMemory
@@ -623,7 +623,7 @@ impl<'a> Parser<'a> {
     // A word or a number as a value.
     #[inline(always)]
     fn parse_word_or_number<V: Handler<'a>>(&mut self) -> Result<V, Failed>
-        requires { self.old.idx ≤ size_of self.old }
+        requires { self.old.offset ≤ size_of self.old }
         ensures reads { Builds V.silent self.new.told (AsScalar V.sees) result (read_at words_at self.old) (rest_of self.new) }
         ensures memory { IfErr result (λ _. self.new.told ≡ Some Error.OutOfMemory
             → Contains self.old.buf.now ascii.backslash) }
@@ -654,13 +654,13 @@ impl<'a> Parser<'a> {
     // `null`; where that fails, in extended mode a number's word may begin with the same letter.
     #[inline(always)]
     fn parse_null<V: Handler<'a>>(&mut self) -> Result<V, Failed>
-        requires { self.old.idx ≤ size_of self.old }
+        requires { self.old.offset ≤ size_of self.old }
         ensures reads { Builds V.silent self.new.told (AsScalar V.sees) result (read_at null_at self.old) (rest_of self.new) }
         ensures memory { IfErr result (λ _. self.new.told ≡ Some Error.OutOfMemory
             → Contains self.old.buf.now ascii.backslash) }
         ensures advances { Advances self.old self.new }
     {
-        let start = self.idx;
+        let start = self.offset;
         let error = match self.parse_word(b"null") {
             Ok(()) => return Ok(V::null()),
             Err(error) => error,
@@ -668,7 +668,7 @@ impl<'a> Parser<'a> {
         match self.mode {
             Mode::Standard => Err(self.fail(error)),
             Mode::Extended => {
-                self.idx = start;
+                self.offset = start;
                 self.parse_number_value()
             }
         }
@@ -677,7 +677,7 @@ impl<'a> Parser<'a> {
     // A number as a value.
     #[inline(always)]
     fn parse_number_value<V: Handler<'a>>(&mut self) -> Result<V, Failed>
-        requires { self.old.idx ≤ size_of self.old }
+        requires { self.old.offset ≤ size_of self.old }
         ensures reads { Builds V.silent self.new.told (AsNumber V.sees) result (read_at number_at self.old) (rest_of self.new) }
         ensures memory { IfErr result (λ _. self.new.told ≡ Some Error.OutOfMemory
             → Contains self.old.buf.now ascii.backslash) }
@@ -695,7 +695,7 @@ impl<'a> Parser<'a> {
         requires no_backslash { quote ≢ ascii.backslash }
         requires ascii { quote < ascii.end }
         requires opened { IsBehind quote self.old }
-        requires inside { self.old.idx ≤ size_of self.old }
+        requires inside { self.old.offset ≤ size_of self.old }
         requires same { text.now ≡ take (length text.now) self.old.buf.now }
         ensures reads { Builds V.silent self.new.told (AsScalar V.sees) result
             (read_at (λ size mode. quoted_at size mode quote) self.old) (rest_of self.new) }
@@ -719,7 +719,7 @@ impl<'a> Parser<'a> {
         requires no_backslash { quote ≢ ascii.backslash }
         requires ascii { quote < ascii.end }
         requires opened { IsBehind quote self.old }
-        requires inside { self.old.idx ≤ size_of self.old }
+        requires inside { self.old.offset ≤ size_of self.old }
         requires same { text.now ≡ take (length text.now) self.old.buf.now }
         ensures reads { Builds V.silent self.new.told (AsScalar V.sees) result
             (read_at (λ size mode. quoted_at size mode quote) self.old) (rest_of self.new) }
@@ -727,7 +727,7 @@ impl<'a> Parser<'a> {
             → Contains self.old.buf.now ascii.backslash) }
         ensures advances { Advances self.old self.new }
     {
-        let from = self.idx;
+        let from = self.offset;
         let Some(body) = self.escaped_contents(quote, text) else {
             return match self.parse_escaped(quote) {
                 Ok(string) => Ok(V::string(string)),
@@ -746,7 +746,7 @@ impl<'a> Parser<'a> {
         ensures found { result ≡ begins_single_quote (mode_of self.old.mode) (rest_of self.old) }
         ensures rest { MatchBool result (rest_of self.old ≡ ascii.single_quote ∷ rest_of self.new)
             (self.new ≡ self.old) }
-        ensures inside { MatchBool result (self.new.idx ≤ size_of self.new) (self.new ≡ self.old) }
+        ensures inside { MatchBool result (self.new.offset ≤ size_of self.new) (self.new ≡ self.old) }
         ensures behind { MatchBool result (IsBehind ascii.single_quote self.new) (Unit {0}) }
         ensures advances { Advances self.old self.new }
     {
@@ -765,7 +765,7 @@ impl<'a> Parser<'a> {
     // Reads a literal in small letters, if one comes next.
     #[inline(always)]
     fn short_literal(&mut self) -> Option<Literal>
-        requires { self.old.idx ≤ size_of self.old }
+        requires { self.old.offset ≤ size_of self.old }
         ensures reads { FindsAs literal_tree scalar_at result self.old self.new }
         ensures spelled { IfSome result (λ l. rest_of self.old ≡ literal_text l ++ rest_of self.new) }
         ensures stays { IfNone result (self.new ≡ self.old) }
@@ -773,15 +773,15 @@ impl<'a> Parser<'a> {
     {
         let rest = self.rest();
         if begins_with(rest, b"null") {
-            self.idx += 4;
+            self.offset += 4;
             return Some(Literal::Null);
         }
         if begins_with(rest, b"true") {
-            self.idx += 4;
+            self.offset += 4;
             return Some(Literal::Bool(true));
         }
         if begins_with(rest, b"false") {
-            self.idx += 5;
+            self.offset += 5;
             return Some(Literal::Bool(false));
         }
         None
@@ -806,7 +806,7 @@ impl<'a> Parser<'a> {
     // A number, or a word that names none.
     #[inline(always)]
     fn parse_number(&mut self) -> std::result::Result<Number, Error>
-        requires { self.old.idx ≤ size_of self.old }
+        requires { self.old.offset ≤ size_of self.old }
         ensures reads { ReadsAs number_view number_at result self.old self.new }
         ensures takes_no_memory { result ≢ Err Error.OutOfMemory }
         ensures advances { Advances self.old self.new }
@@ -828,7 +828,7 @@ impl<'a> Parser<'a> {
             if !self.next_is_letter(*letter) {
                 return Err(self.unexpected(ParseErrorCode::ExpectedSomeIdent, 1));
             }
-            self.idx += 1;
+            self.offset += 1;
         }
         Ok(())
     }
@@ -837,7 +837,7 @@ impl<'a> Parser<'a> {
     #[inline(always)]
     pub(super) fn next_is_letter(&self, letter: u8) -> bool
         ensures found { result ≡ begins_letter (mode_of self.now.mode) letter (rest_of self.now) }
-        ensures within { MatchBool result (self.now.idx < size_of self.now) (Unit {0}) }
+        ensures within { MatchBool result (self.now.offset < size_of self.now) (Unit {0}) }
     {
         matches!(self.peek(), Some(next) if fold(next, self.mode) == letter)
     }

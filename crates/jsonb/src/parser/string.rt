@@ -28,7 +28,7 @@ impl<'a> Parser<'a> {
     #[inline(always)]
     pub(super) fn parse_quoted(&mut self, quote: u8) -> Result<CowStr<'a>>
         requires no_backslash { quote ≢ ascii.backslash }
-        requires inside { self.old.idx ≤ size_of self.old }
+        requires inside { self.old.offset ≤ size_of self.old }
         ensures reads { ReadsAs (λ s. (mark_view s, cow_str_bytes s)) (λ size mode. string_at size mode quote) result
             self.old self.new }
         ensures memory { result ≡ Err Error.OutOfMemory → Contains self.old.buf.now ascii.backslash }
@@ -37,7 +37,7 @@ impl<'a> Parser<'a> {
         let rest = self.rest();
         match find_end(rest, quote) {
             StringEnd::Unclosed { at } => {
-                Err(Error::Syntax(ParseErrorCode::InvalidEOF, self.idx + at))
+                Err(Error::Syntax(ParseErrorCode::InvalidEOF, self.offset + at))
             }
             StringEnd::Closed { end, escaped } => {
                 let text = decode_contents(
@@ -45,9 +45,9 @@ impl<'a> Parser<'a> {
                     &rest[..end],
                     self.mode,
                     escaped,
-                    self.idx + 1,
+                    self.offset + 1,
                 )?;
-                self.idx += end + 1;
+                self.offset += end + 1;
                 Ok(text)
             }
         }
@@ -58,7 +58,7 @@ impl<'a> Parser<'a> {
     #[inline(never)]
     pub(super) fn parse_escaped(&mut self, quote: u8) -> Result<CowStr<'a>>
         requires no_backslash { quote ≢ ascii.backslash }
-        requires inside { self.old.idx ≤ size_of self.old }
+        requires inside { self.old.offset ≤ size_of self.old }
         ensures reads { ReadsAs (λ s. (mark_view s, cow_str_bytes s)) (λ size mode. string_at size mode quote) result
             self.old self.new }
         ensures memory { result ≡ Err Error.OutOfMemory → Contains self.old.buf.now ascii.backslash }
@@ -74,7 +74,7 @@ impl<'a> Parser<'a> {
         requires no_backslash { quote ≢ ascii.backslash }
         requires ascii { quote < ascii.end }
         requires opened { IsBehind quote self.old }
-        requires inside { self.old.idx ≤ size_of self.old }
+        requires inside { self.old.offset ≤ size_of self.old }
         requires same { text.now ≡ take (length text.now) self.old.buf.now }
         ensures reads { FindsAs (λ s. (plain, s.now)) (λ size mode. string_at size mode quote) result self.old
             self.new }
@@ -90,14 +90,14 @@ impl<'a> Parser<'a> {
         if rest[end] != quote {
             return None;
         }
-        let after = self.idx + end;
+        let after = self.offset + end;
         if after > text.len() {
             return None;
         }
-        let body = &text[self.idx..after];
+        let body = &text[self.offset..after];
         // Tells that the body is UTF-8.
         let _bytes = body.as_bytes();
-        self.idx = after + 1;
+        self.offset = after + 1;
         Some(body)
     }
 
@@ -108,7 +108,7 @@ impl<'a> Parser<'a> {
         requires no_backslash { quote ≢ ascii.backslash }
         requires ascii { quote < ascii.end }
         requires opened { IsBehind quote self.old }
-        requires inside { self.old.idx ≤ size_of self.old }
+        requires inside { self.old.offset ≤ size_of self.old }
         requires same { text.now ≡ take (length text.now) self.old.buf.now }
         ensures passes { IfSome result (λ body. PassesContents quote self.old self.new body.now) }
         ensures stays { IfNone result (self.new ≡ self.old) }
@@ -121,12 +121,12 @@ impl<'a> Parser<'a> {
         if !escaped {
             return None;
         }
-        let close = self.idx + end;
+        let close = self.offset + end;
         if close > text.len() {
             return None;
         }
-        let body = &text[self.idx..close];
-        self.idx = close + 1;
+        let body = &text[self.offset..close];
+        self.offset = close + 1;
         Some(body)
     }
 
@@ -134,7 +134,7 @@ impl<'a> Parser<'a> {
     #[inline(always)]
     fn plain_string(&mut self, text: &'a str) -> Option<&'a str>
         requires opened { IsBehind ascii.quote self.old }
-        requires inside { self.old.idx ≤ size_of self.old }
+        requires inside { self.old.offset ≤ size_of self.old }
         requires same { text.now ≡ take (length text.now) self.old.buf.now }
         ensures reads { FindsAs (λ s. (plain, s.now)) (λ size mode. string_at size mode ascii.quote) result self.old
             self.new }
@@ -151,14 +151,14 @@ impl<'a> Parser<'a> {
         if rest[end] != b'"' {
             return None;
         }
-        let after = self.idx + end;
+        let after = self.offset + end;
         if after > text.len() {
             return None;
         }
-        let body = &text[self.idx..after];
+        let body = &text[self.offset..after];
         // Tells that the body is UTF-8.
         let _bytes = body.as_bytes();
-        self.idx += end + 1;
+        self.offset += end + 1;
         Some(body)
     }
 
@@ -166,7 +166,7 @@ impl<'a> Parser<'a> {
     #[inline(always)]
     pub(super) fn cut_string(&mut self, tells_plain: bool, text: &'a str) -> Option<Cut<'a>>
         requires opened { IsBehind ascii.quote self.old }
-        requires inside { self.old.idx ≤ size_of self.old }
+        requires inside { self.old.offset ≤ size_of self.old }
         requires same { text.now ≡ take (length text.now) self.old.buf.now }
         ensures reads { FindsAs (λ cut. (plain, cut.body.now)) (λ size mode. string_at size mode ascii.quote) result
             self.old self.new }

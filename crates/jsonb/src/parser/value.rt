@@ -59,7 +59,7 @@ impl<'a> Parser<'a> {
         room: &mut V::Room,
         text: &'a str,
     ) -> Result<V, Failed>
-        requires inside { self.old.idx ≤ size_of self.old }
+        requires inside { self.old.offset ≤ size_of self.old }
         requires same { text.now ≡ take (length text.now) self.old.buf.now }
         requires opens { OpensContainer (rest_of self.old) }
         ensures reads { V.stands self.old.buf.now room.old true [] []
@@ -78,7 +78,7 @@ impl<'a> Parser<'a> {
         let Some(mut frame) = stack.pop() else {
             unreachable!();
         };
-        let after = self.idx;
+        let after = self.offset;
         finish::<V>(room, self.alloc, &mut frame, &mut self.told, after)?;
         Ok(frame_value::<V>(room, frame))
     }
@@ -90,7 +90,7 @@ impl<'a> Parser<'a> {
         stack: &mut Vec<FrameOf<'a, V>>,
         text: &'a str,
     ) -> Result<(), Failed>
-        requires inside { self.old.idx ≤ size_of self.old }
+        requires inside { self.old.offset ≤ size_of self.old }
         requires same { text.now ≡ take (length text.now) self.old.buf.now }
         requires opens { OpensContainer (rest_of self.old) }
         requires none { stack.old.items ≡ [] }
@@ -123,13 +123,13 @@ impl<'a> Parser<'a> {
         stack: &mut Vec<FrameOf<'a, V>>,
     ) -> Result<bool, Failed>
         requires depth { length stack.old.items ≤ max_depth }
-        requires inside { self.old.idx ≤ size_of self.old }
+        requires inside { self.old.offset ≤ size_of self.old }
         requires opens { OpensContainer (rest_of self.old) }
         ensures reads { (whole : Read Source)
             → BeforeValue (V.stands self.old.buf.now room.old) whole self.old stack.old.items
             → ElseFails V.silent self.new.told result whole
             (AtPart (V.stands self.old.buf.now room.new) whole self.new stack.new.items) }
-        ensures onward { IfOk result (λ closed. self.old.idx < self.new.idx) }
+        ensures onward { IfOk result (λ closed. self.old.offset < self.new.offset) }
         ensures depth { IfOk result (λ closed. length stack.new.items ≤ max_depth) }
         ensures open { IfOk result (λ closed. 0 < length stack.new.items) }
         ensures advances { Advances self.old self.new }
@@ -139,7 +139,7 @@ impl<'a> Parser<'a> {
             let error = self.too_deep();
             return Err(self.fail(error));
         }
-        let at = self.idx;
+        let at = self.offset;
         if self.take_byte(b'[') {
             let Ok(items) = V::items(room, self.alloc, at) else {
                 return Err(self.out_of_memory());
@@ -150,7 +150,7 @@ impl<'a> Parser<'a> {
             self.skip_whitespace();
             return Ok(self.take_byte(b']'));
         }
-        self.idx += 1;
+        self.offset += 1;
         let Ok(members) = V::members(room, self.alloc, at) else {
             return Err(self.out_of_memory());
         };
@@ -165,10 +165,10 @@ impl<'a> Parser<'a> {
     // The fault of a container inside of as many as may be.
     #[cold]
     fn too_deep(&self) -> Error
-        requires { self.now.idx < size_of self.now }
-        ensures { result ≡ Syntax DepthLimitExceeded (self.now.idx + 1) }
+        requires { self.now.offset < size_of self.now }
+        ensures { result ≡ Syntax DepthLimitExceeded (self.now.offset + 1) }
     {
-        Error::Syntax(ParseErrorCode::DepthLimitExceeded, self.idx + 1)
+        Error::Syntax(ParseErrorCode::DepthLimitExceeded, self.offset + 1)
     }
 
     // Reads parts of the innermost container, up to its end, or up to a part that is a container and opens that one.
@@ -181,13 +181,13 @@ impl<'a> Parser<'a> {
     ) -> Result<bool, Failed>
         requires open { 0 < length stack.old.items }
         requires depth { length stack.old.items ≤ max_depth }
-        requires inside { self.old.idx ≤ size_of self.old }
+        requires inside { self.old.offset ≤ size_of self.old }
         requires same { text.now ≡ take (length text.now) self.old.buf.now }
         ensures reads { (whole : Read Source)
             → AtPart (V.stands self.old.buf.now room.old) whole self.old stack.old.items false
             → ElseFails V.silent self.new.told result whole
             (AtPart (V.stands self.old.buf.now room.new) whole self.new stack.new.items) }
-        ensures onward { IfOk result (λ closed. self.old.idx < self.new.idx) }
+        ensures onward { IfOk result (λ closed. self.old.offset < self.new.offset) }
         ensures depth { IfOk result (λ closed. length stack.new.items ≤ max_depth) }
         ensures open { IfOk result (λ closed. 0 < length stack.new.items) }
         ensures advances { Advances self.old self.new }
@@ -210,7 +210,7 @@ impl<'a> Parser<'a> {
         frame: &mut FrameOf<'a, V>,
         text: &'a str,
     ) -> Result<bool, Failed>
-        requires inside { self.old.idx ≤ size_of self.old }
+        requires inside { self.old.offset ≤ size_of self.old }
         requires same { text.now ≡ take (length text.now) self.old.buf.now }
         ensures reads { (depth : ℕ) → (c : Open) → (fs : List (Frame V.Items V.Members V.Key)) → (cs : List Open)
             → Fits frame.old c → V.stands self.old.buf.now room.old false (frame.old ∷ fs) (c ∷ cs)
@@ -219,7 +219,7 @@ impl<'a> Parser<'a> {
             (λ closed. ReadsParts (V.stands self.old.buf.now room.new) (size_of self.old) (mode_of self.old.mode) depth
             (next_part_at (size_of self.old) (mode_of self.old.mode) depth c (rest_of self.old))
             closed frame.new fs cs (rest_of self.new)) }
-        ensures onward { IfOk result (λ closed. MatchBool closed (self.old.idx < self.new.idx) (Unit {0})) }
+        ensures onward { IfOk result (λ closed. MatchBool closed (self.old.offset < self.new.offset) (Unit {0})) }
         ensures opens { IfOk result (λ closed. MatchBool closed (Unit {0}) (OpensContainer (rest_of self.new))) }
         ensures advances { Advances self.old self.new }
         ensures base { V.base room.new ≡ V.base room.old }
@@ -237,7 +237,7 @@ impl<'a> Parser<'a> {
         items: &mut V::Items,
         text: &'a str,
     ) -> Result<bool, Failed>
-        requires inside { self.old.idx ≤ size_of self.old }
+        requires inside { self.old.offset ≤ size_of self.old }
         requires same { text.now ≡ take (length text.now) self.old.buf.now }
         ensures reads { (depth : ℕ) → (front : List Source) → (fs : List (Frame V.Items V.Members V.Key))
             → (cs : List Open)
@@ -247,7 +247,7 @@ impl<'a> Parser<'a> {
             (λ closed. ReadsParts (V.stands self.old.buf.now room.new) (size_of self.old) (mode_of self.old.mode) depth
             (elements_from (size_of self.old) (mode_of self.old.mode) depth front (rest_of self.old))
             closed (Array items.new) fs cs (rest_of self.new)) }
-        ensures onward { IfOk result (λ closed. MatchBool closed (self.old.idx < self.new.idx) (Unit {0})) }
+        ensures onward { IfOk result (λ closed. MatchBool closed (self.old.offset < self.new.offset) (Unit {0})) }
         ensures opens { IfOk result (λ closed. MatchBool closed (Unit {0}) (OpensContainer (rest_of self.new))) }
         ensures advances { Advances self.old self.new }
         ensures base { V.base room.new ≡ V.base room.old }
@@ -275,7 +275,7 @@ impl<'a> Parser<'a> {
         items: &mut V::Items,
         text: &'a str,
     ) -> Result<(), Failed>
-        requires inside { self.old.idx ≤ size_of self.old }
+        requires inside { self.old.offset ≤ size_of self.old }
         requires same { text.now ≡ take (length text.now) self.old.buf.now }
         ensures reads { Pushes V.silent self.new.told V.stands self.old.buf.now result room.old items.old
             (read_at scalar_or_null self.old) room.new items.new (rest_of self.new) }
@@ -285,7 +285,7 @@ impl<'a> Parser<'a> {
         if !self.is_left_out() {
             return self.push_scalar::<V>(room, items, text);
         }
-        self.push::<V>(room, items, V::null(), self.idx)
+        self.push::<V>(room, items, V::null(), self.offset)
     }
 
     // Whether an element is left out here.
@@ -306,7 +306,7 @@ impl<'a> Parser<'a> {
         object: &mut ObjectOf<'a, V>,
         text: &'a str,
     ) -> Result<bool, Failed>
-        requires inside { self.old.idx ≤ size_of self.old }
+        requires inside { self.old.offset ≤ size_of self.old }
         requires same { text.now ≡ take (length text.now) self.old.buf.now }
         ensures reads { (depth : ℕ) → (c : Open) → (fs : List (Frame V.Items V.Members V.Key)) → (cs : List Open)
             → IsObject c → V.stands self.old.buf.now room.old false (Object object.old ∷ fs) (c ∷ cs)
@@ -315,7 +315,7 @@ impl<'a> Parser<'a> {
             (λ closed. ReadsParts (V.stands self.old.buf.now room.new) (size_of self.old) (mode_of self.old.mode) depth
             (next_part_at (size_of self.old) (mode_of self.old.mode) depth c (rest_of self.old))
             closed (Object object.new) fs cs (rest_of self.new)) }
-        ensures onward { IfOk result (λ closed. MatchBool closed (self.old.idx < self.new.idx) (Unit {0})) }
+        ensures onward { IfOk result (λ closed. MatchBool closed (self.old.offset < self.new.offset) (Unit {0})) }
         ensures opens { IfOk result (λ closed. MatchBool closed (Unit {0}) (OpensContainer (rest_of self.new))) }
         ensures advances { Advances self.old self.new }
         ensures base { V.base room.new ≡ V.base room.old }
@@ -336,11 +336,11 @@ impl<'a> Parser<'a> {
     // Passes the comma or the bracket after an element. True where it is the bracket.
     #[inline(always)]
     fn end_element(&mut self) -> Result<bool, Failed>
-        requires { self.old.idx ≤ size_of self.old }
+        requires { self.old.offset ≤ size_of self.old }
         ensures reads { Builds false self.new.told (λ x y. x ≡ y) result
             (part_end (size_of self.old) expected_array_comma_or_end ascii.close_bracket
             (skip_whitespace (mode_of self.old.mode) (rest_of self.old))) (rest_of self.new) }
-        ensures onward { IfOk result (λ closed. self.old.idx < self.new.idx) }
+        ensures onward { IfOk result (λ closed. self.old.offset < self.new.offset) }
         ensures advances { Advances self.old self.new }
     {
         if self.take_after_whitespace(b',') {
@@ -356,11 +356,11 @@ impl<'a> Parser<'a> {
     // Passes the comma or the brace after a member. True where it is the brace.
     #[inline(always)]
     fn end_member(&mut self) -> Result<bool, Failed>
-        requires { self.old.idx ≤ size_of self.old }
+        requires { self.old.offset ≤ size_of self.old }
         ensures reads { Builds false self.new.told (λ x y. x ≡ y) result
             (part_end (size_of self.old) expected_object_comma_or_end ascii.close_brace
             (skip_whitespace (mode_of self.old.mode) (rest_of self.old))) (rest_of self.new) }
-        ensures onward { IfOk result (λ closed. self.old.idx < self.new.idx) }
+        ensures onward { IfOk result (λ closed. self.old.offset < self.new.offset) }
         ensures advances { Advances self.old self.new }
     {
         if self.take_after_whitespace(b',') {
@@ -377,11 +377,11 @@ impl<'a> Parser<'a> {
     #[inline(always)]
     pub(super) fn take_after_whitespace(&mut self, byte: u8) -> bool
         requires stop { is_whitespace_start byte ≡ false }
-        requires inside { self.old.idx ≤ size_of self.old }
+        requires inside { self.old.offset ≤ size_of self.old }
         ensures rest { skip_whitespace (mode_of self.old.mode) (rest_of self.old)
             ≡ (if result then byte ∷ rest_of self.new else rest_of self.new) }
         ensures other { MatchBool result (Unit {0}) (begins byte (rest_of self.new) ≡ false) }
-        ensures onward { MatchBool result (self.old.idx < self.new.idx) (Unit {0}) }
+        ensures onward { MatchBool result (self.old.offset < self.new.offset) (Unit {0}) }
         ensures behind { MatchBool result (IsBehind byte self.new) (Unit {0}) }
         ensures advances { Advances self.old self.new }
     {
@@ -401,12 +401,12 @@ impl<'a> Parser<'a> {
     ) -> Result<bool, Failed>
         requires open { 1 < length stack.old.items }
         requires depth { length stack.old.items ≤ max_depth }
-        requires inside { self.old.idx ≤ size_of self.old }
+        requires inside { self.old.offset ≤ size_of self.old }
         ensures reads { (whole : Read Source)
             → AtPart (V.stands self.old.buf.now room.old) whole self.old stack.old.items true
             → ElseFails V.silent self.new.told result whole
             (AtPart (V.stands self.old.buf.now room.new) whole self.new stack.new.items) }
-        ensures onward { IfOk result (λ closed. self.old.idx < self.new.idx) }
+        ensures onward { IfOk result (λ closed. self.old.offset < self.new.offset) }
         ensures depth { IfOk result (λ closed. length stack.new.items ≤ max_depth) }
         ensures open { IfOk result (λ closed. 0 < length stack.new.items) }
         ensures advances { Advances self.old self.new }
@@ -415,7 +415,7 @@ impl<'a> Parser<'a> {
         let Some(mut inner) = stack.pop() else {
             unreachable!();
         };
-        let after = self.idx;
+        let after = self.offset;
         finish::<V>(room, self.alloc, &mut inner, &mut self.told, after)?;
         let value = frame_value::<V>(room, inner);
         let Some(outer) = stack.last_mut() else {

@@ -66,7 +66,7 @@ impl Parser<'_> {
     {
         self.skip_each_closed_piece();
         if self.opens_comment() {
-            self.idx = self.buf.len();
+            self.offset = self.buf.len();
         }
     }
 
@@ -87,12 +87,12 @@ impl Parser<'_> {
         ensures rest { rest_of self.new ≡ skip_closed_whitespace (mode_of self.old.mode) (rest_of self.old) }
         ensures advances { Advances self.old self.new }
     {
-        'whitespace: while self.idx < self.buf.len() {
+        'whitespace: while self.offset < self.buf.len() {
             let n = piece_len(self.rest(), self.mode);
             if n == 0 {
                 return;
             }
-            self.idx += n;
+            self.offset += n;
             self.skip_spaces();
         }
     }
@@ -102,7 +102,7 @@ impl Parser<'_> {
     fn take_plain_whitespace(&mut self) -> bool
         ensures rest { skip_closed_whitespace (mode_of self.old.mode) (rest_of self.new)
             ≡ skip_closed_whitespace (mode_of self.old.mode) (rest_of self.old) }
-        ensures onward { MatchBool result ((self.old.idx < self.new.idx) × (self.new.idx ≤ size_of self.new))
+        ensures onward { MatchBool result ((self.old.offset < self.new.offset) × (self.new.offset ≤ size_of self.new))
             (self.new ≡ self.old) }
         ensures advances { Advances self.old self.new }
     {
@@ -134,13 +134,13 @@ impl Parser<'_> {
     // Most whitespace is spaces in a row.
     #[inline(always)]
     fn skip_spaces(&mut self)
-        requires { self.old.idx ≤ size_of self.old }
+        requires { self.old.offset ≤ size_of self.old }
         ensures rest { skip_closed_whitespace (mode_of self.old.mode) (rest_of self.new)
             ≡ skip_closed_whitespace (mode_of self.old.mode) (rest_of self.old) }
         ensures advances { Advances self.old self.new }
     {
         let count = near_spaces(self.rest());
-        self.idx += count;
+        self.offset += count;
         if count == NEAR {
             self.skip_more_spaces();
         }
@@ -149,7 +149,7 @@ impl Parser<'_> {
     // Passes spaces one by one, behind those that `near_spaces` saw.
     #[inline(never)]
     fn skip_more_spaces(&mut self)
-        requires { self.old.idx ≤ size_of self.old }
+        requires { self.old.offset ≤ size_of self.old }
         ensures rest { skip_closed_whitespace (mode_of self.old.mode) (rest_of self.new)
             ≡ skip_closed_whitespace (mode_of self.old.mode) (rest_of self.old) }
         ensures advances { Advances self.old self.new }
@@ -160,9 +160,9 @@ impl Parser<'_> {
     // Whether a comment begins here. After the whitespace, this is one that never ends.
     pub(super) fn opens_comment(&self) -> bool
         ensures value { result ≡ opens_comment (mode_of self.now.mode) (rest_of self.now) }
-        ensures inside { MatchBool result (self.now.idx ≤ size_of self.now) (Unit {0}) }
+        ensures inside { MatchBool result (self.now.offset ≤ size_of self.now) (Unit {0}) }
     {
-        if self.idx >= self.buf.len() {
+        if self.offset >= self.buf.len() {
             return false;
         }
         match self.mode {

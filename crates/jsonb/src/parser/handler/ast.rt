@@ -60,8 +60,13 @@ impl<'a> Handler<'a> for JsonAst<'a> {
     }
 
     #[inline(always)]
-    fn escaped_string(alloc: Global, body: &'a str, mode: Mode, idx: usize) -> Result<Self, Error> {
-        let text = decode_contents(alloc, body.as_bytes(), mode, true, idx)?;
+    fn escaped_string(
+        alloc: Global,
+        body: &'a str,
+        mode: Mode,
+        offset: usize,
+    ) -> Result<Self, Error> {
+        let text = decode_contents(alloc, body.as_bytes(), mode, true, offset)?;
         Ok(JsonAst::String(text))
     }
 

@@ -76,8 +76,13 @@ impl<'a> Handler<'a> for CheckedPart {
     }
 
     #[inline(always)]
-    fn escaped_string(alloc: Global, body: &'a str, mode: Mode, idx: usize) -> Result<Self, Error> {
-        check_contents(body, mode, 0, idx)?;
+    fn escaped_string(
+        alloc: Global,
+        body: &'a str,
+        mode: Mode,
+        offset: usize,
+    ) -> Result<Self, Error> {
+        check_contents(body, mode, 0, offset)?;
         Ok(CheckedPart)
     }
 

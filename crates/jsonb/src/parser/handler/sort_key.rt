@@ -78,8 +78,13 @@ impl<'a> Handler<'a> for KeyPart<'a> {
     }
 
     #[inline(always)]
-    fn escaped_string(alloc: Global, body: &'a str, mode: Mode, idx: usize) -> Result<Self, Error> {
-        let contents = Contents::for_key(body, mode, idx)?;
+    fn escaped_string(
+        alloc: Global,
+        body: &'a str,
+        mode: Mode,
+        offset: usize,
+    ) -> Result<Self, Error> {
+        let contents = Contents::for_key(body, mode, offset)?;
         Ok(KeyPart {
             part: Part::Contents(contents),
         })

@@ -64,8 +64,13 @@ impl<'a> Handler<'a> for Part<'a> {
     }
 
     #[inline(always)]
-    fn escaped_string(alloc: Global, body: &'a str, mode: Mode, idx: usize) -> Result<Self, Error> {
-        let contents = Contents::for_text(body, mode, idx)?;
+    fn escaped_string(
+        alloc: Global,
+        body: &'a str,
+        mode: Mode,
+        offset: usize,
+    ) -> Result<Self, Error> {
+        let contents = Contents::for_text(body, mode, offset)?;
         Ok(Part::Contents(contents))
     }
 

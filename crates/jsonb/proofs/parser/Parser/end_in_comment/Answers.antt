@@ -4,11 +4,11 @@ use Rattle.jsonb.proofs.parser.Parser.end_in_comment.Goals as goal
 use Rattle.jsonb.proofs.parser.Parser.end_in_comment.Goals.{else-next-self-via-then-next-self+else-self-next-eq47, else-next-self-via-else-next-self}
 
 pub returns-then-self-next-eq47-clause-reads : goal.returns-then-self-next-eq47-clause-reads
-returns-then-self-next-eq47-clause-reads c = λ t. comment_closed c.args.self.now.buf.now c.args.self.now.idx t c.if-next-self.true c.if-self-next-eq47.true
+returns-then-self-next-eq47-clause-reads c = λ t. comment_closed c.args.self.now.buf.now c.args.self.now.offset t c.if-next-self.true c.if-self-next-eq47.true
 
 pub returns-else-next-self-clause-reads : goal.returns-else-next-self-clause-reads
 returns-else-next-self-clause-reads c = λ t.
-    comment_open c.args.self.now.buf.now c.args.self.now.idx t
+    comment_open c.args.self.now.buf.now c.args.self.now.offset t
     (elim c.else-next-self.branch [
       | else-next-self-via-then-next-self+else-self-next-eq47 w ↦ inr (w.if-next-self.true, w.if-self-next-eq47.false)
       | else-next-self-via-else-next-self w ↦ inl w.if-next-self.false

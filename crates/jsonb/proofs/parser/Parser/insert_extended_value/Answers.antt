@@ -11,7 +11,7 @@ returns-then-kept_extended_integer-clause-reads g c =
     let q = c.kept_extended_integer.new.self in
     let h = g.V.Handler in
     let passed = c.if-kept_extended_integer.ensures.passes in
-    kept_put h.silent h.stands (λ s. Unit {0}) p.buf.now p.idx q c.insert_kept.new.self c.args.room.now c.insert_kept.new.room c.insert_kept.result c.args.object.now c.args.key (number passed.value) _ c.insert_kept.new.object c.insert_kept.ensures.put c.insert_kept.ensures.same c.insert_kept.ensures.told passed.text passed.reads
+    kept_put h.silent h.stands (λ s. Unit {0}) p.buf.now p.offset q c.insert_kept.new.self c.args.room.now c.insert_kept.new.room c.insert_kept.result c.args.object.now c.args.key (number passed.value) _ c.insert_kept.new.object c.insert_kept.ensures.put c.insert_kept.ensures.same c.insert_kept.ensures.told passed.text passed.reads
 
 pub returns-then-may_begin_word-clause-reads : goal.returns-then-may_begin_word-clause-reads
 returns-then-may_begin_word-clause-reads g c =

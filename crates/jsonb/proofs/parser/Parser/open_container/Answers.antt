@@ -31,12 +31,12 @@ pub returns-clause-reads : goal.returns-clause-reads
 returns-clause-reads g c whole due =
     let p = c.args.self.now in
     let n = c.take_byte.new.self in
-    let o : Parser = record n { idx = n.idx + 1 } in
+    let o : Parser = record n { offset = n.offset + 1 } in
     let s = c.skip_whitespace-2.new.self in
     let q = c.take_byte-2.new.self in
     let unmoved : n ≡ p = c.if-take_byte.ensures.rest in
-    let brace = after_brace p c.requires.opens (sym c.if-take_byte.ensures.found) ∙ ap (λ r. 123 ∷ rest_of (record r { idx = r.idx + 1 })) (sym unmoved) in
-    let past : Advances n o = record { buf = refl; mode = refl; onward = omega arith; inside = λ h. omega (arith, ap length brace, length-drop p.idx p.buf.now, ap (λ r. r.idx) unmoved, ap (λ r. size_of r) unmoved) } in
+    let brace = after_brace p c.requires.opens (sym c.if-take_byte.ensures.found) ∙ ap (λ r. 123 ∷ rest_of (record r { offset = r.offset + 1 })) (sym unmoved) in
+    let past : Advances n o = record { buf = refl; mode = refl; onward = omega arith; inside = λ h. omega (arith, ap length brace, length-drop p.offset p.buf.now, ap (λ r. r.offset) unmoved, ap (λ r. size_of r) unmoved) } in
     let a = goes_on p n o c.take_byte.ensures.advances past in
     let h = g.V.Handler in
     let fs = c.args.stack.now.items in

@@ -2,4 +2,4 @@ use Rattle.jsonb_scan.proofs.Numbers.Scanned.{scanned_number}
 use Rattle.jsonb.proofs.parser.Parser.parse_extended_number.Goals as goal
 
 pub returns-in-Some-clause-reads : goal.returns-in-Some-clause-reads
-returns-in-Some-clause-reads c = scanned_number c.args.self.now.idx c.in-Some.read.end c.args.self.now.buf.now c.rest-bytes.result.now _ c.rest-bytes.ensures c.in-Some.ensures.found
+returns-in-Some-clause-reads c = scanned_number c.args.self.now.offset c.in-Some.read.end c.args.self.now.buf.now c.rest-bytes.result.now _ c.rest-bytes.ensures c.in-Some.ensures.found

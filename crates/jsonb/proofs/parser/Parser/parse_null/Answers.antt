@@ -16,9 +16,9 @@ returns-in-Extended-clause-reads g c =
     let p = c.args.self.now in
     let q = c.parse_word.new.self in
     let on = c.parse_word.ensures.advances in
-    let left = drop p.idx q.buf.now in
+    let left = drop p.offset q.buf.now in
     let same : null_at (size_of p) (mode_of p.mode) (rest_of p) ≡ number_value_at (size_of q) (mode_of q.mode) left =
     null_missed (size_of p) (mode_of p.mode) (rest_of p) c.in-Err.error (ap mode_of (sym on.mode ∙ c.in-Extended.is)) (λ e. c.in-Err.ensures.takes_no_memory (ap Err e)) c.in-Err.ensures.reads
-    ∙ ap (λ b. number_value_at (length b.now) (mode_of p.mode) (drop p.idx b.now)) (sym on.buf) ∙ ap (λ m. number_value_at (size_of q) (mode_of m) left) (sym on.mode) in
+    ∙ ap (λ b. number_value_at (length b.now) (mode_of p.mode) (drop p.offset b.now)) (sym on.buf) ∙ ap (λ m. number_value_at (size_of q) (mode_of m) left) (sym on.mode) in
     builds_same g.V.Handler.silent c.parse_number_value.new.self.told (AsScalar g.V.Handler.sees) c.parse_number_value.result _ _ _ same
     (number_built g.V.Handler.silent c.parse_number_value.new.self.told g.V.Handler.sees c.parse_number_value.result (size_of q) (mode_of q.mode) left _ c.parse_number_value.ensures.reads)

@@ -33,8 +33,8 @@ returns-in_err-text-in-Closed-clause-reads c =
     let r = err_from_is_err_and c.from_residual.result c.from_residual.ensures.1 in
     let mode = mode_of p.mode in
     let found = ap (quote_end c.args.quote) (sym rest-is) ∙ c.in-Closed.ensures.0 in
-    let body = subst (λ (u : List ℕ). DecodesContents (p.idx + 1) (Err e) (body_of mode (take end u))) rest-is c.in_err-text-in-Closed.ensures.reads in
-    rw (r.1, r.2) (body_fails (size_of p) mode c.args.quote (rest_of p) end p.idx e found (omega (arith, length-drop p.idx p.buf.now, c.requires.inside)) body)
+    let body = subst (λ (u : List ℕ). DecodesContents (p.offset + 1) (Err e) (body_of mode (take end u))) rest-is c.in_err-text-in-Closed.ensures.reads in
+    rw (r.1, r.2) (body_fails (size_of p) mode c.args.quote (rest_of p) end p.offset e found (omega (arith, length-drop p.offset p.buf.now, c.requires.inside)) body)
 
 pub returns-in_err-text-in-Closed-clause-memory : goal.returns-in_err-text-in-Closed-clause-memory
 returns-in_err-text-in-Closed-clause-memory c = λ is.
@@ -44,7 +44,7 @@ returns-in_err-text-in-Closed-clause-memory c = λ is.
     let end = c.in-Closed.end in
     let sees : c.in-Closed.escaped ≡ true = c.in_err-text-in-Closed.ensures.memory (ap Err (same_error _ _ _ r.1 is r.2)) in
     let found = ap (quote_end c.args.quote) (sym rest-is) ∙ c.in-Closed.ensures.0 in
-    contains_after p.buf.now p.idx end
+    contains_after p.buf.now p.offset end
     (subst (TellsBackslash (rest_of p) end) sees (subst (λ (u : List ℕ). TellsBackslash u end c.in-Closed.escaped) rest-is c.in-Closed.ensures.1))
     (omega (arith, quote_within c.args.quote (rest_of p) end found))
 
@@ -52,19 +52,19 @@ pub overflow_add-self-in-Closed : goal.overflow_add-self-in-Closed
 overflow_add-self-in-Closed c =
     let within = quote_within c.args.quote c.rest-rest.result.now c.in-Closed.end c.in-Closed.ensures.0 in
     let p = c.args.self.now in
-    omega (arith, within, ap length c.rest-rest.ensures, length-drop p.idx p.buf.now)
+    omega (arith, within, ap length c.rest-rest.ensures, length-drop p.offset p.buf.now)
 
 pub overflow_add-self-in-Closed-2 : goal.overflow_add-self-in-Closed-2
 overflow_add-self-in-Closed-2 c =
     let within = quote_within c.args.quote c.rest-rest.result.now c.in-Closed.end c.in-Closed.ensures.0 in
     let p = c.args.self.now in
-    omega (arith, within, ap length c.rest-rest.ensures, length-drop p.idx p.buf.now)
+    omega (arith, within, ap length c.rest-rest.ensures, length-drop p.offset p.buf.now)
 
 pub returns-in-Unclosed-clause-reads : goal.returns-in-Unclosed-clause-reads
 returns-in-Unclosed-clause-reads c =
     let p = c.args.self.now in
     let none = ap (quote_end c.args.quote) (sym c.rest-rest.ensures) ∙ c.in-Unclosed.ensures.0 in
-    let place : size_of p - length (rest_of p) + c.in-Unclosed.at ≡ p.idx + c.in-Unclosed.at = omega (arith, length-drop p.idx p.buf.now, c.requires.inside) in
+    let place : size_of p - length (rest_of p) + c.in-Unclosed.at ≡ p.offset + c.in-Unclosed.at = omega (arith, length-drop p.offset p.buf.now, c.requires.inside) in
     string-unclosed (size_of p) (mode_of p.mode) c.args.quote (rest_of p) c.in-Unclosed.at none ∙ ap (λ (k : ℕ). fault invalid_eof k) place
 
 pub returns-in_ok-text-in-Closed-clause-reads : goal.returns-in_ok-text-in-Closed-clause-reads
@@ -75,10 +75,10 @@ returns-in_ok-text-in-Closed-clause-reads c =
     let mode = mode_of p.mode in
     let found = ap (quote_end c.args.quote) (sym rest-is) ∙ c.in-Closed.ensures.0 in
     let body = ap (λ (u : List ℕ). body_of mode (take end u)) (sym rest-is) ∙ c.in_ok-text-in-Closed.ensures.reads in
-    string-closed (size_of p) mode c.args.quote (rest_of p) end _ found body ∙ ap (λ (u : List ℕ). Ok ((mark_view c.in_ok-text-in-Closed.text, cow_str_bytes c.in_ok-text-in-Closed.text), u)) (drop-drop (end + 1) p.idx p.buf.now)
+    string-closed (size_of p) mode c.args.quote (rest_of p) end _ found body ∙ ap (λ (u : List ℕ). Ok ((mark_view c.in_ok-text-in-Closed.text, cow_str_bytes c.in_ok-text-in-Closed.text), u)) (drop-drop (end + 1) p.offset p.buf.now)
 
 pub returns-in_ok-text-in-Closed-clause-advances : goal.returns-in_ok-text-in-Closed-clause-advances
 returns-in_ok-text-in-Closed-clause-advances c =
     let p = c.args.self.now in
     let within = quote_within c.args.quote c.rest-rest.result.now c.in-Closed.end c.in-Closed.ensures.0 in
-    record { buf = refl; mode = refl; onward = omega arith; inside = λ h. omega (arith, within, ap length c.rest-rest.ensures, length-drop p.idx p.buf.now) }
+    record { buf = refl; mode = refl; onward = omega arith; inside = λ h. omega (arith, within, ap length c.rest-rest.ensures, length-drop p.offset p.buf.now) }

@@ -17,11 +17,11 @@ pub range-body-requires-clause-start_boundary : goal.range-body-requires-clause-
 range-body-requires-clause-start_boundary c some =
     let p = c.args.self.now in
     let text : List ℕ = c.args.text.now in
-    let before : ℕ = p.idx - 1 in
+    let before : ℕ = p.offset - 1 in
     let within : before < length text = omega (arith, c.requires.opened.0, c.if-after-text.false) in
     let quote : get_or text before 0 ≡ 34 =
     ap (λ (u : List ℕ). get_or u before 0) c.requires.same ∙ get_or-take (length text) p.buf.now before 0 within ∙ c.requires.opened.1 in
-    let next : before + 1 ≡ p.idx = omega (arith, some) in
+    let next : before + 1 ≡ p.offset = omega (arith, some) in
     subst (IsCharBoundary text) next (IsCharBoundary-after_ascii text before c.utf8.text within (omega (arith, quote)))
 
 pub returns-clause-reads : goal.returns-clause-reads
@@ -39,21 +39,21 @@ returns-clause-reads c =
     let before : IsClear quote rest 0 end = λ k low high. let there = marks k (omega (arith, high, long)) in subst (λ b. (b ≢ quote) × (b ≢ 92)) (get_or-take end rest k 0 high) there in
     let found : quote_end quote rest ≡ Ok end = found_end quote rest end within c.if-rest-end-ne34.false (search_to quote rest 0 end (omega arith) mark.within before (search_start quote rest)) in
     let clear : TellsBackslash (take end rest) (length (take end rest)) false = tells_taken rest end false mark.within (λ k high. (before k (omega arith) high).1) in
-    let count : p.idx + end - p.idx ≡ end = omega arith in
+    let count : p.offset + end - p.offset ≡ end = omega arith in
     let all : ℕ = length c.args.text.now in
-    let left : ℕ = all - p.idx in
-    let split : all ≡ p.idx + left = omega (arith, c.if-after-text.false) in
+    let left : ℕ = all - p.offset in
+    let split : all ≡ p.offset + left = omega (arith, c.if-after-text.false) in
     let short : end ≤ left = omega (arith, c.if-after-text.false) in
     let cut : c.range-body.result.now ≡ take end rest =
-    c.range-body.ensures.value ∙ ap (λ (n : ℕ). take n (drop p.idx c.args.text.now)) count
-    ∙ ap (λ (u : List ℕ). take end (drop p.idx u)) (c.requires.same ∙ ap (λ (n : ℕ). take n p.buf.now) split)
-    ∙ ap (λ (u : List ℕ). take end u) (drop-take p.idx left p.buf.now) ∙ take-take end left (drop p.idx p.buf.now) short
+    c.range-body.ensures.value ∙ ap (λ (n : ℕ). take n (drop p.offset c.args.text.now)) count
+    ∙ ap (λ (u : List ℕ). take end (drop p.offset u)) (c.requires.same ∙ ap (λ (n : ℕ). take n p.buf.now) split)
+    ∙ ap (λ (u : List ℕ). take end u) (drop-take p.offset left p.buf.now) ∙ take-take end left (drop p.offset p.buf.now) short
     ∙ ap (λ (u : List ℕ). take end u) (sym rest-is) in
     let is_text : IsUtf8 (take end rest) = subst IsUtf8 (c.as_bytes-bytes.ensures.value ∙ cut) c.as_bytes-bytes.ensures.utf8 in
     ap (λ (u : List ℕ). string_at (size_of p) mode quote u) (sym rest-is)
     ∙ string-closed (size_of p) mode quote rest end (plain, take end rest) found (body-raw mode (take end rest) clear is_text)
     ∙ ap (λ (s : List ℕ). Ok ((plain, s), drop (end + 1) rest)) (sym cut)
-    ∙ ap (λ (u : List ℕ). Ok ((plain, c.range-body.result.now), u)) (ap (λ (u : List ℕ). drop (end + 1) u) rest-is ∙ drop-drop (end + 1) p.idx p.buf.now)
+    ∙ ap (λ (u : List ℕ). Ok ((plain, c.range-body.result.now), u)) (ap (λ (u : List ℕ). drop (end + 1) u) rest-is ∙ drop-drop (end + 1) p.offset p.buf.now)
 
 pub returns-clause-spelled : goal.returns-clause-spelled
 returns-clause-spelled c =
@@ -62,19 +62,19 @@ returns-clause-spelled c =
     let rest : List ℕ = c.rest-rest.result.now in
     let end : ℕ = c.plain_len-end.result in
     let within : end < length rest = omega arith in
-    let count : p.idx + end - p.idx ≡ end = omega arith in
+    let count : p.offset + end - p.offset ≡ end = omega arith in
     let all : ℕ = length c.args.text.now in
-    let left : ℕ = all - p.idx in
-    let split : all ≡ p.idx + left = omega (arith, c.if-after-text.false) in
+    let left : ℕ = all - p.offset in
+    let split : all ≡ p.offset + left = omega (arith, c.if-after-text.false) in
     let short : end ≤ left = omega (arith, c.if-after-text.false) in
     let cut : c.range-body.result.now ≡ take end rest =
-    c.range-body.ensures.value ∙ ap (λ (n : ℕ). take n (drop p.idx c.args.text.now)) count
-    ∙ ap (λ (u : List ℕ). take end (drop p.idx u)) (c.requires.same ∙ ap (λ (n : ℕ). take n p.buf.now) split)
-    ∙ ap (λ (u : List ℕ). take end u) (drop-take p.idx left p.buf.now) ∙ take-take end left (drop p.idx p.buf.now) short
+    c.range-body.ensures.value ∙ ap (λ (n : ℕ). take n (drop p.offset c.args.text.now)) count
+    ∙ ap (λ (u : List ℕ). take end (drop p.offset u)) (c.requires.same ∙ ap (λ (n : ℕ). take n p.buf.now) split)
+    ∙ ap (λ (u : List ℕ). take end u) (drop-take p.offset left p.buf.now) ∙ take-take end left (drop p.offset p.buf.now) short
     ∙ ap (λ (u : List ℕ). take end u) (sym rest-is) in
     sym rest-is ∙ sym (take-append-drop end rest)
     ∙ ap₂ (λ (u v : List ℕ). u ++ v) (sym cut)
-    (drop_more rest end 0 within ∙ ap₂ (λ (b : ℕ) (u : List ℕ). b ∷ u) c.if-rest-end-ne34.false (ap (λ (u : List ℕ). drop (end + 1) u) rest-is ∙ drop-drop (end + 1) p.idx p.buf.now))
+    (drop_more rest end 0 within ∙ ap₂ (λ (b : ℕ) (u : List ℕ). b ∷ u) c.if-rest-end-ne34.false (ap (λ (u : List ℕ). drop (end + 1) u) rest-is ∙ drop-drop (end + 1) p.offset p.buf.now))
 
 pub returns-clause-plain : goal.returns-clause-plain
 returns-clause-plain c =
@@ -83,14 +83,14 @@ returns-clause-plain c =
     let rest : List ℕ = c.rest-rest.result.now in
     let end : ℕ = c.plain_len-end.result in
     let within : end < length rest = omega arith in
-    let count : p.idx + end - p.idx ≡ end = omega arith in
+    let count : p.offset + end - p.offset ≡ end = omega arith in
     let all : ℕ = length c.args.text.now in
-    let left : ℕ = all - p.idx in
-    let split : all ≡ p.idx + left = omega (arith, c.if-after-text.false) in
+    let left : ℕ = all - p.offset in
+    let split : all ≡ p.offset + left = omega (arith, c.if-after-text.false) in
     let short : end ≤ left = omega (arith, c.if-after-text.false) in
     let cut : c.range-body.result.now ≡ take end rest =
-    c.range-body.ensures.value ∙ ap (λ (n : ℕ). take n (drop p.idx c.args.text.now)) count
-    ∙ ap (λ (u : List ℕ). take end (drop p.idx u)) (c.requires.same ∙ ap (λ (n : ℕ). take n p.buf.now) split)
-    ∙ ap (λ (u : List ℕ). take end u) (drop-take p.idx left p.buf.now) ∙ take-take end left (drop p.idx p.buf.now) short
+    c.range-body.ensures.value ∙ ap (λ (n : ℕ). take n (drop p.offset c.args.text.now)) count
+    ∙ ap (λ (u : List ℕ). take end (drop p.offset u)) (c.requires.same ∙ ap (λ (n : ℕ). take n p.buf.now) split)
+    ∙ ap (λ (u : List ℕ). take end u) (drop-take p.offset left p.buf.now) ∙ take-take end left (drop p.offset p.buf.now) short
     ∙ ap (λ (u : List ℕ). take end u) (sym rest-is) in
     subst ArePlain (sym cut) c.plain_len-end.ensures.plain

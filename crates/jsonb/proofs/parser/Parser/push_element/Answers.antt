@@ -14,5 +14,5 @@ returns-clause-reads g c =
     let p = c.args.self.now in
     let h = g.V.Handler in
     let mode = mode_of p.mode in
-    read_pushed h.silent h.stands (h.sees c.null.result) p.buf.now p.idx p c.push.new.self c.args.room.now c.push.new.room c.push.result c.args.items.now null _ c.push.new.items c.push.ensures.put c.push.ensures.same c.push.ensures.memory c.null.ensures
-    (not_spelled p.buf.now p.idx null_source) (cond-true (is_left_out mode (rest_of p)) (Ok (null, rest_of p)) (scalar_at (size_of p) mode (rest_of p)) (sym c.if-not-is_left_out.ensures))
+    read_pushed h.silent h.stands (h.sees c.null.result) p.buf.now p.offset p c.push.new.self c.args.room.now c.push.new.room c.push.result c.args.items.now null _ c.push.new.items c.push.ensures.put c.push.ensures.same c.push.ensures.memory c.null.ensures
+    (not_spelled p.buf.now p.offset null_source) (cond-true (is_left_out mode (rest_of p)) (Ok (null, rest_of p)) (scalar_at (size_of p) mode (rest_of p)) (sym c.if-not-is_left_out.ensures))

@@ -11,7 +11,7 @@ returns-then-kept_extended_integer-clause-reads g c =
     let q = c.kept_extended_integer.new.self in
     let h = g.V.Handler in
     let passed = c.if-kept_extended_integer.ensures.passes in
-    kept_pushed h.silent h.stands (λ s. Unit {0}) p.buf.now p.idx q c.push_kept.new.self c.args.room.now c.push_kept.new.room c.push_kept.result c.args.items.now (number passed.value) _ c.push_kept.new.items c.push_kept.ensures.put c.push_kept.ensures.same c.push_kept.ensures.memory passed.text passed.reads
+    kept_pushed h.silent h.stands (λ s. Unit {0}) p.buf.now p.offset q c.push_kept.new.self c.args.room.now c.push_kept.new.room c.push_kept.result c.args.items.now (number passed.value) _ c.push_kept.new.items c.push_kept.ensures.put c.push_kept.ensures.same c.push_kept.ensures.memory passed.text passed.reads
 
 pub returns-then-may_begin_word-clause-reads : goal.returns-then-may_begin_word-clause-reads
 returns-then-may_begin_word-clause-reads g c =

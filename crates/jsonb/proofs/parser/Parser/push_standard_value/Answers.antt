@@ -10,7 +10,7 @@ returns-then-kept_integer-clause-reads g c =
     let q = c.kept_integer.new.self in
     let h = g.V.Handler in
     let passed = c.if-kept_integer.ensures.passes in
-    kept_pushed h.silent h.stands (λ s. Unit {0}) p.buf.now p.idx q c.push_kept.new.self c.args.room.now c.push_kept.new.room c.push_kept.result c.args.items.now (number passed.value) _ c.push_kept.new.items c.push_kept.ensures.put c.push_kept.ensures.same c.push_kept.ensures.memory passed.text passed.reads
+    kept_pushed h.silent h.stands (λ s. Unit {0}) p.buf.now p.offset q c.push_kept.new.self c.args.room.now c.push_kept.new.room c.push_kept.result c.args.items.now (number passed.value) _ c.push_kept.new.items c.push_kept.ensures.put c.push_kept.ensures.same c.push_kept.ensures.memory passed.text passed.reads
 
 pub returns-clause-reads : goal.returns-clause-reads
 returns-clause-reads g c =

@@ -10,7 +10,7 @@ use Rattle.jsonb.proofs.parser.Parser.read_container.Given as goal
 abbrev pub invariant-turns : goal.invariant-turns
 invariant-turns g l =
     let p = l.fn.self in record {
-      inside : l.self.idx ≤ size_of l.self;
+      inside : l.self.offset ≤ size_of l.self;
       open-stack : 0 < length l.stack.items;
       depth : length l.stack.items ≤ max_depth;
       advances : Advances p l.self;
@@ -19,4 +19,4 @@ invariant-turns g l =
     }
 
 abbrev pub decreases-turns : goal.decreases-turns
-decreases-turns g l = size_of l.self - l.self.idx
+decreases-turns g l = size_of l.self - l.self.offset

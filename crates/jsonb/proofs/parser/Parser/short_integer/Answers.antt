@@ -15,7 +15,7 @@ returns-clause-reads c =
     let n = short_view read in
     let same = c.rest.ensures in
     integer_at_once (size_of p) (mode_of p.mode) (rest_of p) n _ c.requires.mode (subst (λ bs. is_number_start (slice_index bs 0) ≡ true) same c.in_ok-read.ensures.first)
-    (subst (λ bs. standard_number_at (size_of p) bs ≡ Ok (n, drop read.end bs)) same (c.in_ok-read.ensures.found (size_of p)) ∙ ap (λ r. Ok (n, r)) (drop-drop read.end p.idx p.buf.now))
+    (subst (λ bs. standard_number_at (size_of p) bs ≡ Ok (n, drop read.end bs)) same (c.in_ok-read.ensures.found (size_of p)) ∙ ap (λ r. Ok (n, r)) (drop-drop read.end p.offset p.buf.now))
 
 pub returns-clause-spelled : goal.returns-clause-spelled
 returns-clause-spelled c =
@@ -23,5 +23,5 @@ returns-clause-spelled c =
     let read = c.in_ok-read.read in
     let n = short_view read in
     let sound = number_sound (size_of p) (rest_of p) n _
-    (subst (λ bs. standard_number_at (size_of p) bs ≡ Ok (n, drop read.end bs)) c.rest.ensures (c.in_ok-read.ensures.found (size_of p)) ∙ ap (λ r. Ok (n, r)) (drop-drop read.end p.idx p.buf.now)) in
+    (subst (λ bs. standard_number_at (size_of p) bs ≡ Ok (n, drop read.end bs)) c.rest.ensures (c.in_ok-read.ensures.found (size_of p)) ∙ ap (λ r. Ok (n, r)) (drop-drop read.end p.offset p.buf.now)) in
     (sound.core, sound.joined, sound.number)

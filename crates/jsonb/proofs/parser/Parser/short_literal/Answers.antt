@@ -11,18 +11,18 @@ returns-then-begins_with-clause-reads c =
     let p = c.args.self.now in
     let rest = c.rest-rest.result.now in
     ap (scalar_at (size_of p) (mode_of p.mode)) (sym c.rest-rest.ensures ∙ c.if-begins_with.ensures) ∙ null_at_once (size_of p) (mode_of p.mode) (drop 4 rest)
-    ∙ ap (λ r. Ok (null, r)) (ap (drop 4) c.rest-rest.ensures ∙ drop-drop 4 p.idx p.buf.now)
+    ∙ ap (λ r. Ok (null, r)) (ap (drop 4) c.rest-rest.ensures ∙ drop-drop 4 p.offset p.buf.now)
 
 pub returns-then-begins_with-2-clause-reads : goal.returns-then-begins_with-2-clause-reads
 returns-then-begins_with-2-clause-reads c =
     let p = c.args.self.now in
     let rest = c.rest-rest.result.now in
     ap (scalar_at (size_of p) (mode_of p.mode)) (sym c.rest-rest.ensures ∙ c.if-begins_with-2.ensures) ∙ true_at_once (size_of p) (mode_of p.mode) (drop 4 rest)
-    ∙ ap (λ r. Ok (boolean true, r)) (ap (drop 4) c.rest-rest.ensures ∙ drop-drop 4 p.idx p.buf.now)
+    ∙ ap (λ r. Ok (boolean true, r)) (ap (drop 4) c.rest-rest.ensures ∙ drop-drop 4 p.offset p.buf.now)
 
 pub returns-then-begins_with-3-clause-reads : goal.returns-then-begins_with-3-clause-reads
 returns-then-begins_with-3-clause-reads c =
     let p = c.args.self.now in
     let rest = c.rest-rest.result.now in
     ap (scalar_at (size_of p) (mode_of p.mode)) (sym c.rest-rest.ensures ∙ c.if-begins_with-3.ensures) ∙ false_at_once (size_of p) (mode_of p.mode) (drop 5 rest)
-    ∙ ap (λ r. Ok (boolean false, r)) (ap (drop 5) c.rest-rest.ensures ∙ drop-drop 5 p.idx p.buf.now)
+    ∙ ap (λ r. Ok (boolean false, r)) (ap (drop 5) c.rest-rest.ensures ∙ drop-drop 5 p.offset p.buf.now)

@@ -20,12 +20,12 @@ whitespace-preserved c =
     let mode = mode_of c.args.self.now.mode in
     let n-is : c.piece_len-n.result ≡ piece_length mode (rest_of p) = c.piece_len-n.ensures.value ∙ ap₂ (λ m r. piece_length m r) (ap mode_of c.whitespace.invariant.1.mode) c.rest.ensures in
     let some : 0 < piece_length mode (rest_of p) = omega (arith, n-is) in
-    let passed : drop (piece_length mode (rest_of p)) (rest_of p) ≡ drop (p.idx + c.piece_len-n.result) p.buf.now =
-    ap (λ n. drop n (rest_of p)) (sym n-is) ∙ drop-drop c.piece_len-n.result p.idx p.buf.now in
+    let passed : drop (piece_length mode (rest_of p)) (rest_of p) ≡ drop (p.offset + c.piece_len-n.result) p.buf.now =
+    ap (λ n. drop n (rest_of p)) (sym n-is) ∙ drop-drop c.piece_len-n.result p.offset p.buf.now in
     let before = c.whitespace.invariant in
-    let past : Parser = record p { idx = p.idx + c.piece_len-n.result } in
+    let past : Parser = record p { offset = p.offset + c.piece_len-n.result } in
     let on : Advances c.args.self.now past =
-    record { buf = before.1.buf; mode = before.1.mode; onward = omega (arith, before.1.onward); inside = λ h. omega (arith, c.piece_len-n.ensures.within, ap length c.rest.ensures, length-drop p.idx p.buf.now) } in (
+    record { buf = before.1.buf; mode = before.1.mode; onward = omega (arith, before.1.onward); inside = λ h. omega (arith, c.piece_len-n.ensures.within, ap length c.rest.ensures, length-drop p.offset p.buf.now) } in (
       ap (λ k. skip_closed_whitespace (mode_of k) (rest_of c.skip_spaces.new.self)) (sym before.1.mode)
           ∙ c.skip_spaces.ensures.rest
           ∙ ap (λ k. skip_closed_whitespace (mode_of k) (rest_of past)) before.1.mode
@@ -37,5 +37,5 @@ pub returns-clause-rest : goal.returns-clause-rest
 returns-clause-rest c =
     let p = c.whitespace.self in
     let mode = mode_of c.args.self.now.mode in
-    let none : rest_of p ≡ [] = nothing_left p.buf.now p.idx c.whitespace-test.false in
+    let none : rest_of p ≡ [] = nothing_left p.buf.now p.offset c.whitespace-test.false in
     none ∙ sym (pass-nil mode) ∙ ap (λ r. skip_closed_whitespace mode r) (sym none) ∙ c.whitespace.invariant.0

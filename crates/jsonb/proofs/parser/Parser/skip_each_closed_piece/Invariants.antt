@@ -8,4 +8,4 @@ abbrev pub invariant-whitespace : goal.invariant-whitespace
 invariant-whitespace l = (skip_closed_whitespace (mode_of l.initial.self.mode) (rest_of l.self) ≡ skip_closed_whitespace (mode_of l.initial.self.mode) (rest_of l.initial.self)) × Advances l.initial.self l.self
 
 abbrev pub decreases-whitespace : goal.decreases-whitespace
-decreases-whitespace l = length l.self.buf.now - l.self.idx
+decreases-whitespace l = length l.self.buf.now - l.self.offset

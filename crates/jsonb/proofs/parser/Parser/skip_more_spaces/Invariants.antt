@@ -8,4 +8,4 @@ abbrev pub invariant-spaces : goal.invariant-spaces
 invariant-spaces l = (skip_closed_whitespace (mode_of l.fn.self.mode) (rest_of l.self) ≡ skip_closed_whitespace (mode_of l.fn.self.mode) (rest_of l.fn.self)) × Advances l.fn.self l.self
 
 abbrev pub decreases-spaces : goal.decreases-spaces
-decreases-spaces l = length l.self.buf.now - l.self.idx
+decreases-spaces l = length l.self.buf.now - l.self.offset

@@ -8,4 +8,4 @@ abbrev pub invariant-lines : goal.invariant-lines
 invariant-lines l = (skip_closed_whitespace (mode_of l.initial.self.mode) (rest_of l.self) ≡ skip_closed_whitespace (mode_of l.initial.self.mode) (rest_of l.initial.self)) × Advances l.initial.self l.self
 
 abbrev pub decreases-lines : goal.decreases-lines
-decreases-lines l = size_of l.self - l.self.idx
+decreases-lines l = size_of l.self - l.self.offset

@@ -8,12 +8,12 @@ use Rattle.jsonb_scan.proofs.Text.Whitespace.{pass-spaces}
 use Rattle.jsonb.proofs.parser.Parser.skip_spaces.Goals as goal
 
 -- So many spaces are passed, as these bytes from the index on show.
-passed : (p : Parser) (rest : List ℕ) (count : ℕ) → rest ≡ rest_of p → count ≤ length rest → ((k : ℕ) → k < count → get_or rest k 0 ≡ 32) → skip_closed_whitespace (mode_of p.mode) (drop (p.idx + count) p.buf.now) ≡ skip_closed_whitespace (mode_of p.mode) (rest_of p)
+passed : (p : Parser) (rest : List ℕ) (count : ℕ) → rest ≡ rest_of p → count ≤ length rest → ((k : ℕ) → k < count → get_or rest k 0 ≡ 32) → skip_closed_whitespace (mode_of p.mode) (drop (p.offset + count) p.buf.now) ≡ skip_closed_whitespace (mode_of p.mode) (rest_of p)
 passed p rest count same within spaces =
     let mode : Mode = mode_of p.mode in
     let fits : count ≤ length (rest_of p) = omega (arith, within, ap length same) in
     let are : (k : ℕ) → k < count → get_or (rest_of p) k 0 ≡ 32 = λ k low. sym (ap (λ u. get_or u k 0) same) ∙ spaces k low in
-    sym (ap (skip_closed_whitespace mode) (drop-drop count p.idx p.buf.now)) ∙ pass-spaces mode count (rest_of p) fits are
+    sym (ap (skip_closed_whitespace mode) (drop-drop count p.offset p.buf.now)) ∙ pass-spaces mode count (rest_of p) fits are
 
 pub returns-then-count-eq-NEAR-clause-rest : goal.returns-then-count-eq-NEAR-clause-rest
 returns-then-count-eq-NEAR-clause-rest c =
