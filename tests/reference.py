@@ -2,7 +2,7 @@
 
 It is written from the rules in docs/GRAMMAR.md, docs/VALUES.md and docs/SORT_KEYS.md, and not from the code of the
 crates. It is to be plain, not fast. Run alone, it takes lines from standard input and prints results as the program
-`jsonb_driver` does.
+`test_driver` does.
 
 A tree is a tuple whose first part is its kind:
 
@@ -738,7 +738,7 @@ def sort_key(tree):
     return b"\xd3"
 
 
-# The answers of the program `jsonb_driver`.
+# The answers of the program `test_driver`.
 
 def described(tree):
     """The tree in one word."""

@@ -1,4 +1,4 @@
-"""What jsonb_driver is asked in each run of the gate, and the reference's answers: `stdin` and `stdout` of its crate.
+"""What test_driver is asked in each run of the gate, and the reference's answers: `stdin` and `stdout` of its crate.
 
 Run alone, it makes both files anew.
 """
@@ -10,7 +10,7 @@ import known
 import reference
 import vectors
 
-CRATE = pathlib.Path(__file__).resolve().parent.parent / "crates" / "jsonb_driver"
+CRATE = pathlib.Path(__file__).resolve().parent.parent / "crates" / "test_driver"
 
 # Lines that ask nothing.
 UNKNOWN = [

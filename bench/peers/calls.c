@@ -1,4 +1,4 @@
-/* The operations of the benchmark, done by this library's calls for C. They take and return what those of jsonb_bench do.
+/* The operations of the benchmark, done by this library's calls for C. They take and return what those of bench_calls do.
  * The caller's buffer is kept from one call to the next. */
 #include <stdlib.h>
 #include <vizhoniku.h>

@@ -1,4 +1,4 @@
-// The operations of the benchmark, done by RapidJSON's DOM. They take and return what those of jsonb_bench do.
+// The operations of the benchmark, done by RapidJSON's DOM. They take and return what those of bench_calls do.
 #include <rapidjson/document.h>
 #include <rapidjson/stringbuffer.h>
 #include <rapidjson/writer.h>

@@ -1,4 +1,4 @@
-// The operations of the benchmark, done by simdjson's DOM. They take and return what those of jsonb_bench do. One parser
+// The operations of the benchmark, done by simdjson's DOM. They take and return what those of bench_calls do. One parser
 // serves all texts, as simdjson's users do it, and copies each text, since it reads some bytes past its end.
 #include <simdjson.h>
 #include <string>

@@ -1,4 +1,4 @@
-/* The operations of the benchmark, done by SQLite's JSON functions. They take and return what those of jsonb_bench do.
+/* The operations of the benchmark, done by SQLite's JSON functions. They take and return what those of bench_calls do.
  * json_valid parses a text, and json parses it and writes it again. */
 #include <sqlite3.h>
 #include <stddef.h>

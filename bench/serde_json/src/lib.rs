@@ -1,4 +1,4 @@
-//! The operations of the benchmark, done by serde_json. They take and answer what those of jsonb_bench do.
+//! The operations of the benchmark, done by serde_json. They take and answer what those of bench_calls do.
 
 use serde::Deserialize;
 use serde_json::Value;

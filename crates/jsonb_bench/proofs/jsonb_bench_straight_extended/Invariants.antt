@@ -1,9 +1,0 @@
-use Rattle.std.proofs.Common.{◌≡◌}
-use Rattle.jsonb_spec.specs.Grammar.{IsDocument, IsNoDocument}
-use Rattle.jsonb_spec.specs.Mode.{extended}
-use Rattle.jsonb_spec.specs.Tree.{Tree}
-use Rattle.jsonb_bench.proofs.jsonb_bench_straight_extended.Given as goal
-
--- No round has gone well, where the text is no document.
-abbrev pub invariant-loop-round : goal.invariant-loop-round
-invariant-loop-round l = IsNoDocument extended l.text → l.round ≡ 0

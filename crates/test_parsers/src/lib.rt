@@ -1,0 +1,17 @@
+//! Worked examples of the calls of `jsonb` that no text alone can tell: of trees and values that are made by hand, of
+//! indexes near the greatest, and of buffers that texts are appended to. What is
+//! read of texts `test_driver` is asked, with its file `stdin`.
+#![tactic(auto)]
+
+#[cfg(test)]
+mod ast;
+#[cfg(test)]
+mod by_hand;
+#[cfg(test)]
+mod decoding;
+#[cfg(test)]
+mod line;
+#[cfg(test)]
+mod part;
+#[cfg(test)]
+mod straight;
