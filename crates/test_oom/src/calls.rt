@@ -227,7 +227,7 @@ fn with_room(alloc: Global, mode: Mode, text: &[u8]) -> Result<Vec<u8>> {
     let mut buffer = Vec::with_capacity(alloc, length)?;
     match value.write_text(&mut buffer) {
         Ok(()) => Ok(buffer),
-        Err(_) => Ok(Vec::from_slice(alloc, b"refused where there is room")?),
+        Err(_) => Ok(Vec::from_slice(alloc, b"failed where there is room")?),
     }
 }
 

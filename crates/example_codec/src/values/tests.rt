@@ -17,7 +17,7 @@ fn expect_frames(
         Ok(got) => assert_eq!(rt; got.as_slice(), told, "frames of {text:?}"),
         Err(error) => {
             let got = format!(in rt.alloc(); "{error}")?;
-            assert_eq!(rt; got.as_bytes(), told, "refusal of {text:?}");
+            assert_eq!(rt; got.as_bytes(), told, "error of {text:?}");
         }
     }
     Ok(())
@@ -33,7 +33,7 @@ fn expect_lines(
         Ok(got) => assert_eq!(rt; got.as_slice(), told.as_bytes(), "lines of {frames:?}"),
         Err(error) => {
             let got = format!(in rt.alloc(); "{error}")?;
-            assert_eq!(rt; got.as_str(), told, "refusal of {frames:?}");
+            assert_eq!(rt; got.as_str(), told, "error of {frames:?}");
         }
     }
     Ok(())

@@ -12,7 +12,7 @@ fn expect(rt: &(impl AllocGlobal + Abort), text: &str, told: &str) -> Result<(),
         Ok(got) => assert_eq!(rt; got.as_slice(), told.as_bytes(), "index of {text:?}"),
         Err(error) => {
             let got = format!(in rt.alloc(); "{error}")?;
-            assert_eq!(rt; got.as_str(), told, "refusal of {text:?}");
+            assert_eq!(rt; got.as_str(), told, "error of {text:?}");
         }
     }
     Ok(())
