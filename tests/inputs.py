@@ -4,9 +4,9 @@ import itertools
 import random
 import re
 
-from reference import EXTENDED, RANGES, STANDARD, Refusal, number_of, read
+from reference import EXTENDED, RANGES, STANDARD, Rejection, number_of, read
 
-# Places where the rules change: variants, what is carried, what a hexadecimal holds, what is looked at.
+# Places where the rules change: variants, what is representable, what a hexadecimal holds, what is looked at.
 LIMITS = (0, 1, 10 ** 18, 10 ** 19, 2 ** 63, 2 ** 64, 10 ** 37, 10 ** 38, 2 ** 127, 2 ** 128, 10 ** 39)
 DIGIT_COUNTS = (0, 1, 2, 3, 17, 18, 19, 20, 37, 38, 39, 40, 74, 75, 76, 77)
 UNITS = ("0000", "0041", "00e9", "4E2D", "fffd", "FFFF", "D7ff", "E000", "D800", "dbFF", "DC00", "dfff", "D834", "DD1E")
@@ -68,14 +68,14 @@ class Maker:
         moved = re.sub(r"-?[0-9]+\)", f"{whole * self.pick((1, 10, 100)) + self.count(-1, 1)})", other)
         return moved if number_of(moved) else other
 
-    # Blanks and comments.
+    # Whitespace and comments.
 
     def whitespace(self, mode):
         if self.chance(0.7):
             return b""
-        return b"".join(self.blank(mode) for _ in range(self.count(1, 3)))
+        return b"".join(self.whitespace_piece(mode) for _ in range(self.count(1, 3)))
 
-    def blank(self, mode):
+    def whitespace_piece(self, mode):
         if mode == EXTENDED and self.chance(0.3):
             return self.comment()
         return self.pick((b" ", b"\t", b"\n", b"\r", b"\x0c", b"\\n", b"\\r", b"\\t", b"\\x0C"))
@@ -265,12 +265,12 @@ class Maker:
         return b"".join(self.random.choices(TOKENS + LONG_TOKENS, k=self.count(0, 9)))
 
     def opener(self, mode):
-        blanks = self.whitespace(mode) if self.chance(0.05) else b""
+        whitespace = self.whitespace(mode) if self.chance(0.05) else b""
         if self.chance(0.02):
-            return b"[" + blanks + self.pick((b"[],", b"{},", b"[[]],")), b"]"
+            return b"[" + whitespace + self.pick((b"[],", b"{},", b"[[]],")), b"]"
         if self.chance(0.6):
-            return b"[" + blanks, b"]"
-        return b"{" + blanks + (b"a:" if mode == EXTENDED and self.chance(0.7) else b'"a":'), b"}"
+            return b"[" + whitespace, b"]"
+        return b"{" + whitespace + (b"a:" if mode == EXTENDED and self.chance(0.7) else b'"a":'), b"}"
 
     def nested(self, mode):
         openers = [self.opener(mode) for _ in range(512 + self.count(-2, 2))]
@@ -335,7 +335,7 @@ class Maker:
         weights, makers = zip(*ways)
         return self.random.choices(makers, weights)[0]()
 
-    # A number that is likely to be carried, and to be near another one.
+    # A number that is likely to be representable, and to be near another one.
     def small_number(self, mode):
         if mode == STANDARD or self.chance(0.3):
             return self.number(mode)
@@ -380,7 +380,7 @@ def texts(seed, count):
 def is_read(text, mode):
     try:
         read(text, mode)
-    except Refusal:
+    except Rejection:
         return False
     return True
 

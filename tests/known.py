@@ -28,7 +28,7 @@ def number(position):
     return ("InvalidNumberValue", position)
 
 
-def uncarried(position):
+def unrepresentable(position):
     return ("NumberNotCarried", position)
 
 
@@ -64,20 +64,20 @@ DOCUMENTS = [
     ("se", b"\\x0C\\r\\t\x0c1\\n", "UInt64(1)"), ("se", b"\\x0c1", a_value(1)), ("se", b"\\z", a_value(1)),
     ("se", b"[\\z", a_value(2)), ("se", b"[1\\z", comma_or_end(2)), ("s", b"Null", a_value(1)),
     ("s", b"nulL", ident(4)), ("e", b"nUll", "null"), ("e", b"TrUe", "true"), ("e", b"FALSE", "false"),
-    ("s", b"tru", eof(3)), ("s", b"falsy", ident(5)), ("e", b"nan", uncarried(3)), ("e", b"nu", ident(2)),
-    ("e", b"n", eof(1)), ("e", b"nanx", uncarried(3)), ("s", b"nan", ident(2)), ("e", b"Infinity", uncarried(8)),
+    ("s", b"tru", eof(3)), ("s", b"falsy", ident(5)), ("e", b"nan", unrepresentable(3)), ("e", b"nu", ident(2)),
+    ("e", b"n", eof(1)), ("e", b"nanx", unrepresentable(3)), ("s", b"nan", ident(2)), ("e", b"Infinity", unrepresentable(8)),
     ("e", b"inf", eof(3)), ("e", b"I", eof(1)), ("e", b"ix", ident(2)),
 ]
 
 STANDARD_NUMBERS = [
     ("s", b"-5", "Int64(-5)"), ("s", b"-0", "Int64(0)"), ("s", b"0", "UInt64(0)"), ("s", b"-", number(1)),
-    ("s", b"18446744073709551615", "UInt64(18446744073709551615)"), ("s", b"18446744073709551616", uncarried(20)),
-    ("s", b"-9223372036854775808", "Int64(-9223372036854775808)"), ("s", b"-9223372036854775809", uncarried(20)),
+    ("s", b"18446744073709551615", "UInt64(18446744073709551615)"), ("s", b"18446744073709551616", unrepresentable(20)),
+    ("s", b"-9223372036854775808", "Int64(-9223372036854775808)"), ("s", b"-9223372036854775809", unrepresentable(20)),
     ("s", b"01", number(2)), ("s", b"-01", number(3)), ("s", b"1.", number(3)), ("s", b"1.x", number(3)),
-    ("s", b"1e", number(2)), ("s", b"1e5", uncarried(3)), ("s", b"1e+", number(3)), ("s", b"1.5e", number(4)),
-    ("s", b"1.5", uncarried(3)), ("s", b"1.5E-07 ", uncarried(7)), ("s", b"+1", a_value(1)),
+    ("s", b"1e", number(2)), ("s", b"1e5", unrepresentable(3)), ("s", b"1e+", number(3)), ("s", b"1.5e", number(4)),
+    ("s", b"1.5", unrepresentable(3)), ("s", b"1.5E-07 ", unrepresentable(7)), ("s", b"+1", a_value(1)),
     ("s", b".5", a_value(1)), ("s", b"0x1", trailing(2)), ("s", b"-x", number(1)),
-    ("s", b"-1.5E+07 ", uncarried(8)),
+    ("s", b"-1.5E+07 ", unrepresentable(8)),
 ]
 
 EXTENDED_NUMBERS = [
@@ -85,15 +85,15 @@ EXTENDED_NUMBERS = [
     ("e", b"18446744073709551616", "Decimal128(0,18446744073709551616)"), ("e", b"-0", "UInt64(0)"),
     ("e", b"0.005", "Decimal64(3,5)"), ("e", b"0.1234567890123456789", "Decimal128(19,1234567890123456789)"),
     ("e", b"-0.05", "Decimal64(2,-5)"), ("e", b"9" * 38, f"Decimal128(0,{10 ** 38 - 1})"),
-    ("e", b"9" * 39, uncarried(39)), ("e", b"0." + b"9" * 38, f"Decimal128(38,{10 ** 38 - 1})"),
-    ("e", b"0." + b"9" * 39, uncarried(41)), ("e", b"1e5", uncarried(3)), ("e", b"1e", number(2)),
-    ("e", b"1e+", number(3)), ("e", b"1e5.", uncarried(3)), ("e", b"1.5e5.", uncarried(5)),
-    ("e", b"+-1", number(1)), ("e", b"-.", number(2)), ("e", b".n", number(1)), ("e", b"-Infinity", uncarried(9)),
-    ("e", b"+nan", uncarried(4)), ("e", b"-in", eof(3)), ("e", b"-nan", number(4)), ("e", b"1.", "UInt64(1)"),
+    ("e", b"9" * 39, unrepresentable(39)), ("e", b"0." + b"9" * 38, f"Decimal128(38,{10 ** 38 - 1})"),
+    ("e", b"0." + b"9" * 39, unrepresentable(41)), ("e", b"1e5", unrepresentable(3)), ("e", b"1e", number(2)),
+    ("e", b"1e+", number(3)), ("e", b"1e5.", unrepresentable(3)), ("e", b"1.5e5.", unrepresentable(5)),
+    ("e", b"+-1", number(1)), ("e", b"-.", number(2)), ("e", b".n", number(1)), ("e", b"-Infinity", unrepresentable(9)),
+    ("e", b"+nan", unrepresentable(4)), ("e", b"-in", eof(3)), ("e", b"-nan", number(4)), ("e", b"1.", "UInt64(1)"),
     ("e", b"0.", "UInt64(0)"), ("e", b"1..", number(2)), ("e", b".", number(1)), ("e", b"..", number(1)),
     ("e", b"+", number(1)), ("e", b"+nul", ident(3)), ("e", b"1." + b"0" * 74 + b".", number(76)),
-    ("e", b"1." + b"0" * 75 + b".", uncarried(77)), ("e", b"1" * 76 + b".5", uncarried(78)),
-    ("e", b"1" * 76 + b"..", uncarried(77)), ("e", b"0" * 80 + b"..", number(81)),
+    ("e", b"1." + b"0" * 75 + b".", unrepresentable(77)), ("e", b"1" * 76 + b".5", unrepresentable(78)),
+    ("e", b"1" * 76 + b"..", unrepresentable(77)), ("e", b"0" * 80 + b"..", number(81)),
     ("e", b"1" * 39 + b"..", number(40)), ("e", b"-9223372036854775809", "Decimal128(0,-9223372036854775809)"),
     ("e", b"00x1", trailing(3)), ("e", b"1.0x1", trailing(4)),
     ("e", b"+007", "UInt64(7)"), ("e", b"-5", "Int64(-5)"), ("e", b"-7.", "Int64(-7)"),
@@ -102,10 +102,10 @@ EXTENDED_NUMBERS = [
     ("e", b"-9223372036854775808", "Int64(-9223372036854775808)"),
     ("e", b"0.123456789012345678", "Decimal64(18,123456789012345678)"),
     ("e", b"-00001.23456789012345678", "Decimal64(17,-123456789012345678)"),
-    ("e", b"1.234567890123456789", "Decimal128(18,1234567890123456789)"), ("e", b"1e55", uncarried(4)),
-    ("e", b"1.5E-3 ", uncarried(6)), ("e", b"1.5.2", number(3)), ("e", b"..5", number(1)),
+    ("e", b"1.234567890123456789", "Decimal128(18,1234567890123456789)"), ("e", b"1e55", unrepresentable(4)),
+    ("e", b"1.5E-3 ", unrepresentable(6)), ("e", b"1.5.2", number(3)), ("e", b"..5", number(1)),
     ("e", b"-99999999999999999999999999999999999999", "Decimal128(0,-99999999999999999999999999999999999999)"),
-    ("e", b"-00000000000000000000000000000000000000001.5", "Decimal64(1,-15)"), ("e", b"INFINITY", uncarried(8)),
+    ("e", b"-00000000000000000000000000000000000000001.5", "Decimal64(1,-15)"), ("e", b"INFINITY", unrepresentable(8)),
     ("e", b"-i", eof(2)), ("e", b"infinite", ident(8)),
 ]
 
@@ -115,13 +115,13 @@ HEXADECIMALS = [
     ("e", b"-0x8000000000000001", f"Decimal128(0,{-2 ** 63 - 1})"), ("e", b"-0x0", "Int64(0)"),
     ("e", b"+0X0f", "UInt64(15)"), ("e", b"0xFFFFFFFFFFFFFFFF", f"UInt64({2 ** 64 - 1})"),
     ("e", b"0x10000000000000000", f"Decimal128(0,{2 ** 64})"),
-    ("e", b"0x%x" % (10 ** 38 - 1), f"Decimal128(0,{10 ** 38 - 1})"), ("e", b"0x%x" % 10 ** 38, uncarried(34)),
-    ("e", b"-0x%x" % (10 ** 38 - 1), f"Decimal128(0,{1 - 10 ** 38})"), ("e", b"-0x%x" % 10 ** 38, uncarried(35)),
-    ("e", b"0x" + b"F" * 32, uncarried(34)), ("e", b"0x1" + b"0" * 32, number(35)), ("e", b"0xg", number(2)),
-    ("e", b"0x", number(2)), ("e", b"0x.8", number(2)), ("e", b"0x1.", number(4)), ("e", b"0x1.8", uncarried(5)),
-    ("e", b"0x1.8.", uncarried(5)), ("e", b"0x" + b"F" * 33 + b".", number(36)),
+    ("e", b"0x%x" % (10 ** 38 - 1), f"Decimal128(0,{10 ** 38 - 1})"), ("e", b"0x%x" % 10 ** 38, unrepresentable(34)),
+    ("e", b"-0x%x" % (10 ** 38 - 1), f"Decimal128(0,{1 - 10 ** 38})"), ("e", b"-0x%x" % 10 ** 38, unrepresentable(35)),
+    ("e", b"0x" + b"F" * 32, unrepresentable(34)), ("e", b"0x1" + b"0" * 32, number(35)), ("e", b"0xg", number(2)),
+    ("e", b"0x", number(2)), ("e", b"0x.8", number(2)), ("e", b"0x1.", number(4)), ("e", b"0x1.8", unrepresentable(5)),
+    ("e", b"0x1.8.", unrepresentable(5)), ("e", b"0x" + b"F" * 33 + b".", number(36)),
     ("e", b"0x" + b"F" * 33 + b".8", number(37)), ("e", b"0x1." + b"F" * 33, number(37)),
-    ("e", b"0x1." + b"0" * 40 + b"1", uncarried(45)),
+    ("e", b"0x1." + b"0" * 40 + b"1", unrepresentable(45)),
     ("e", b"0x10", "UInt64(16)"), ("e", b"+0XfF", "UInt64(255)"), ("e", b"+0XfF ", "UInt64(255)"),
 ]
 
@@ -195,7 +195,7 @@ COMMENTS = [
 
 ROWS = DOCUMENTS + STANDARD_NUMBERS + EXTENDED_NUMBERS + HEXADECIMALS + STRINGS + CONTAINERS + KEYS + COMMENTS
 
-# Texts with what is printed of them: the written text, or the refusal.
+# Texts with what is printed of them: the written text, or the rejection.
 PRINTED = [
     # Scalars and words, and numbers beside other bytes.
     ("e", b"tru", b"EOF while parsing a value, pos 3"), ("se", b"a", b"expected value, pos 1"),
@@ -272,7 +272,7 @@ PRINTED = [
     ("se", b"[x,1 2]", b"expected value, pos 2"), ("se", b"1 2 x", b"trailing characters, pos 3"),
 ]
 
-# Bodies of strings, with their texts or refusals and the indexes that are left.
+# Bodies of strings, with their texts or rejections and the indexes that are left.
 BODIES = [
     (b"hello\\nworld", "hello\nworld", 12), (b'\\"\\\\\\b\\f\\n\\r\\t', '"\\\b\f\n\r\t', 14),
     (b"forward\\/slash", "forward/slash", 14), (b"Unicode: \\u{00A9} \\u{00AE}", "Unicode: \xa9 \xae", 26),
@@ -395,31 +395,31 @@ KEYS_OF_TEXTS = [
 ]
 
 
-def parts_of(refusal):
-    argument = () if refusal.argument is None else (refusal.argument,)
-    return (refusal.code, refusal.position, *argument)
+def parts_of(rejection):
+    argument = () if rejection.argument is None else (rejection.argument,)
+    return (rejection.code, rejection.position, *argument)
 
 
 def answer_of(text, mode):
     try:
         return reference.described(reference.read(text, mode))
-    except reference.Refusal as refusal:
-        return parts_of(refusal)
+    except reference.Rejection as rejection:
+        return parts_of(rejection)
 
 
 def printed_of(text, mode):
     try:
         return reference.written(reference.read(text, mode))
-    except reference.Refusal as refusal:
-        return refusal.printed()
+    except reference.Rejection as rejection:
+        return rejection.printed()
 
 
 def answer_of_body(data):
     body = reference.Body(data, 0, reference.STANDARD)
     try:
         return body.decoded().decode(), body.idx
-    except reference.Refusal as refusal:
-        return parts_of(refusal), body.idx
+    except reference.Rejection as rejection:
+        return parts_of(rejection), body.idx
 
 
 def faults_of_reading():

@@ -29,8 +29,8 @@ HEX_DIGITS = b"0123456789abcdefABCDEF"
 SIMPLE_ESCAPES = {
     0x5C: b"\\", 0x22: b'"', 0x2F: b"/", 0x62: b"\x08", 0x66: b"\x0C", 0x6E: b"\n", 0x72: b"\r", 0x74: b"\t",
 }
-BLANK_BYTES = b" \t\n\x0C\r"
-WRITTEN_BLANKS = (b"\\n", b"\\r", b"\\t", b"\\x0C")
+WHITESPACE_BYTES = b" \t\n\x0C\r"
+WRITTEN_WHITESPACE = (b"\\n", b"\\r", b"\\t", b"\\x0C")
 
 CODE_TEXTS = {
     "InvalidEOF": b"EOF while parsing a value",
@@ -56,7 +56,7 @@ CODE_TEXTS = {
 sys.setrecursionlimit(20000)
 
 
-class Refusal(Exception):
+class Rejection(Exception):
     """Why a text is rejected: a code, its argument (a byte or a key) or None, and an offset."""
 
     def __init__(self, code, position, argument=None):
@@ -103,7 +103,7 @@ class Body:
         self.mode = mode
 
     def reject(self, code, argument=None):
-        raise Refusal(code, self.idx, argument)
+        raise Rejection(code, self.idx, argument)
 
     def go(self, count):
         self.at += count
@@ -188,7 +188,7 @@ class Reader:
         return self.at < self.end and self.data[self.at] in choices
 
     def reject_end(self):
-        raise Refusal("InvalidEOF", self.end)
+        raise Rejection("InvalidEOF", self.end)
 
     def document(self):
         self.whitespace()
@@ -197,20 +197,20 @@ class Reader:
         tree = self.value()
         self.whitespace()
         if self.at < self.end:
-            raise Refusal("UnexpectedTrailingCharacters", self.at + 1)
+            raise Rejection("UnexpectedTrailingCharacters", self.at + 1)
         return tree
 
-    # Blanks and comments.
+    # Whitespace and comments.
 
     def whitespace(self):
-        while self.blank():
+        while self.whitespace_piece():
             pass
 
-    def blank(self):
-        if self.is_here(BLANK_BYTES):
+    def whitespace_piece(self):
+        if self.is_here(WHITESPACE_BYTES):
             self.at += 1
             return True
-        for written in WRITTEN_BLANKS:
+        for written in WRITTEN_WHITESPACE:
             if self.data.startswith(written, self.at):
                 self.at += len(written)
                 return True
@@ -260,8 +260,8 @@ class Reader:
                 return self.extended_number()
             if first in b"iI":
                 self.word(b"infinity")
-                raise Refusal("NumberNotCarried", self.at)
-        raise Refusal("ExpectedSomeValue", self.at + 1)
+                raise Rejection("NumberNotCarried", self.at)
+        raise Rejection("ExpectedSomeValue", self.at + 1)
 
     def literal(self, first):
         kind = first.lower()
@@ -274,12 +274,12 @@ class Reader:
         start = self.at
         try:
             self.word(b"null")
-        except Refusal:
+        except Rejection:
             if not self.extended:
                 raise
             self.at = start
             self.word(b"nan")
-            raise Refusal("NumberNotCarried", self.at) from None
+            raise Rejection("NumberNotCarried", self.at) from None
         return ("null",)
 
     def word(self, letters):
@@ -288,7 +288,7 @@ class Reader:
                 self.reject_end()
             byte = self.here().lower() if self.extended else self.here()
             if byte != bytes((letter,)):
-                raise Refusal("ExpectedSomeIdent", self.at + 1)
+                raise Rejection("ExpectedSomeIdent", self.at + 1)
             self.at += 1
 
     # Numbers.
@@ -301,7 +301,7 @@ class Reader:
         return self.data[start:self.at]
 
     def reject_number(self, step=0):
-        raise Refusal("InvalidNumberValue", self.at + step)
+        raise Rejection("InvalidNumberValue", self.at + step)
 
     def exponent(self):
         """Whether an exponent stands here, which is passed."""
@@ -340,7 +340,7 @@ class Reader:
                 return ("number", "Int64", 0, -number)
             if not negative and number < 2 ** 64:
                 return ("number", "UInt64", 0, number)
-        raise Refusal("NumberNotCarried", self.at)
+        raise Rejection("NumberNotCarried", self.at)
 
     def extended_number(self):
         sign = b""
@@ -352,7 +352,7 @@ class Reader:
                 word = self.data[self.at - 3:self.at].lower()
                 if sign == b"-" and word == b"nan":
                     self.reject_number()
-                raise Refusal("NumberNotCarried", self.at)
+                raise Rejection("NumberNotCarried", self.at)
         if self.data[self.at:self.at + 2].lower() == b"0x":
             return self.hexadecimal(sign == b"-")
         return self.decimal(sign == b"-")
@@ -370,7 +370,7 @@ class Reader:
                 self.reject_number()
             if number >= 2 ** 128 or int(fraction, 16) >= 2 ** 128:
                 self.reject_number()
-            raise Refusal("NumberNotCarried", self.at)
+            raise Rejection("NumberNotCarried", self.at)
         if number >= 2 ** 128:
             self.reject_number()
         if negative and number <= 2 ** 63:
@@ -379,7 +379,7 @@ class Reader:
             return ("number", "UInt64", 0, number)
         if number < 10 ** 38:
             return ("number", "Decimal128", 0, -number if negative else number)
-        raise Refusal("NumberNotCarried", self.at)
+        raise Rejection("NumberNotCarried", self.at)
 
     def decimal(self, negative):
         zeros = self.run(b"0")
@@ -393,17 +393,17 @@ class Reader:
             if self.here() == b".":
                 if len(whole) + len(fraction) < DIGITS_UNTIL_A_POINT_ENDS:
                     self.reject_number()
-                raise Refusal("NumberNotCarried", self.at)
+                raise Rejection("NumberNotCarried", self.at)
         if not (zeros or whole or fraction):
             self.reject_number()
         exponent = self.exponent()
         precision = len(whole) + len(fraction)
         if exponent or precision > MAX_PRECISION:
-            raise Refusal("NumberNotCarried", self.at)
+            raise Rejection("NumberNotCarried", self.at)
         number = int(whole + fraction or b"0")
         if negative:
             number = -number
-        return ("number", *carried(number, len(fraction), precision))
+        return ("number", *representable(number, len(fraction), precision))
 
     # Strings and keys.
 
@@ -416,7 +416,7 @@ class Reader:
         if b"\\" in body:
             return ("escaped", Body(body, start + 1, self.mode).decoded())
         if not is_utf8(body):
-            raise Refusal("InvalidStringValue", self.at)
+            raise Rejection("InvalidStringValue", self.at)
         return ("plain", body)
 
     def closing_quote(self):
@@ -438,7 +438,7 @@ class Reader:
                 if at >= self.end:
                     break
                 at += 6 if self.data[at] == 0x7B else 4
-        raise Refusal("InvalidEOF", at)
+        raise Rejection("InvalidEOF", at)
 
     def key(self):
         first = self.here()
@@ -447,37 +447,37 @@ class Reader:
         if first == b'"' or (self.extended and first == b"'"):
             return self.quoted()
         if not self.extended:
-            raise Refusal("ExpectedSomeIdent", self.at + 1)
+            raise Rejection("ExpectedSomeIdent", self.at + 1)
         return ("plain", self.unquoted_key())
 
     def unquoted_key(self):
         start = self.at
         if self.is_here(DIGITS):
-            raise Refusal("ObjectKeyInvalidNumber", self.at + 1)
+            raise Rejection("ObjectKeyInvalidNumber", self.at + 1)
         while True:
             if self.at >= self.end:
-                raise Refusal("InvalidEOF", self.at)
+                raise Rejection("InvalidEOF", self.at)
             byte = self.data[self.at]
             if byte < 0x80:
                 if not (chr(byte).isalnum() or byte in b"_$"):
                     break
                 self.at += 1
             elif byte < 0xC0:
-                raise Refusal("ObjectKeyInvalidCharacter", self.at)
+                raise Rejection("ObjectKeyInvalidCharacter", self.at)
             else:
                 self.at += 2 if byte < 0xE0 else 3 if byte < 0xF0 else 4
         if self.at == start:
-            raise Refusal("ObjectKeyInvalidCharacter", start)
+            raise Rejection("ObjectKeyInvalidCharacter", start)
         key = self.data[start:self.at]
         if not is_utf8(key):
-            raise Refusal("InvalidStringValue", self.at)
+            raise Rejection("InvalidStringValue", self.at)
         return key
 
     # Arrays and objects.
 
     def go_in(self):
         if self.depth == MAX_DEPTH:
-            raise Refusal("DepthLimitExceeded", self.at + 1)
+            raise Rejection("DepthLimitExceeded", self.at + 1)
         self.depth += 1
         self.at += 1
         self.whitespace()
@@ -505,7 +505,7 @@ class Reader:
                 self.go_out()
                 return ("array", items)
             if self.here() != b",":
-                raise Refusal("ExpectedArrayCommaOrEnd", self.at)
+                raise Rejection("ExpectedArrayCommaOrEnd", self.at)
             self.at += 1
 
     def object(self):
@@ -524,7 +524,7 @@ class Reader:
                 self.go_out()
                 return ("object", in_order(members))
             if self.here() != b",":
-                raise Refusal("ExpectedObjectCommaOrEnd", self.at)
+                raise Rejection("ExpectedObjectCommaOrEnd", self.at)
             self.at += 1
 
     def member(self):
@@ -534,13 +534,13 @@ class Reader:
         if self.at == self.end:
             self.reject_end()
         if self.here() != b":":
-            raise Refusal("ExpectedColon", self.at)
+            raise Rejection("ExpectedColon", self.at)
         self.at += 1
         self.whitespace()
         return (mark, key, index, self.value())
 
 
-def carried(number, scale, precision):
+def representable(number, scale, precision):
     """The variant, scale and whole number of an extended decimal."""
     if scale == 0 and 0 <= number < 2 ** 64:
         return ("UInt64", scale, number)
@@ -559,12 +559,12 @@ def in_order(members):
         seen.add(key)
     if second:
         least = min(second)
-        raise Refusal("ObjectDuplicateKey", second[least], least)
+        raise Rejection("ObjectDuplicateKey", second[least], least)
     return sorted(members, key=lambda member: member[1])
 
 
 def read(data, mode):
-    """The tree of a text. Raises `Refusal`."""
+    """The tree of a text. Raises `Rejection`."""
     return Reader(bytes(data), mode).document()
 
 
@@ -672,7 +672,7 @@ def rounded(number):
 
 
 def in_variant(variant, whole, message=None):
-    """The number, or what is printed of the refusal."""
+    """The number, or what is printed of the rejection."""
     if within(whole, RANGES[variant]):
         return ("number", variant, 0, whole)
     return message or f"{variant} overflow"
@@ -760,7 +760,7 @@ def described(tree):
 def reads_back(tree, text, mode):
     try:
         again = read(text, mode)
-    except Refusal:
+    except Rejection:
         return False
     return order(again, tree) == 0 and written(again) == text
 
@@ -768,8 +768,8 @@ def reads_back(tree, text, mode):
 def answer_text(data, mode):
     try:
         tree = read(data, mode)
-    except Refusal as refusal:
-        return f"no {refusal.printed().hex()}"
+    except Rejection as rejection:
+        return f"no {rejection.printed().hex()}"
     text = written(tree)
     return f"ok {described(tree)} {text.hex()} {'same' if reads_back(tree, text, mode) else 'differs'}"
 
@@ -777,7 +777,7 @@ def answer_text(data, mode):
 def answer_pair(left, right, mode):
     try:
         return ("less", "equal", "greater")[order(read(left, mode), read(right, mode)) + 1]
-    except Refusal:
+    except Rejection:
         return "unknown"
 
 
@@ -785,15 +785,15 @@ def answer_body(data):
     body = Body(data, 0, STANDARD)
     try:
         return f"ok {body.decoded().hex()} {body.idx}"
-    except Refusal as refusal:
-        return f"no {refusal.printed().hex()} {body.idx}"
+    except Rejection as rejection:
+        return f"no {rejection.printed().hex()} {body.idx}"
 
 
 def answer_key(data):
     try:
         return f"ok {sort_key(read(data, EXTENDED)).hex()}"
-    except Refusal as refusal:
-        return f"no {refusal.printed().hex()}"
+    except Rejection as rejection:
+        return f"no {rejection.printed().hex()}"
 
 
 def number_of(word):

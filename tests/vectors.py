@@ -19,13 +19,13 @@ MAX_KNOWN_BYTES = 3000
 def answer(text, mode):
     try:
         tree = reference.read(text, mode)
-    except reference.Refusal as refusal:
-        fields = {"refused": refusal.code, "position": refusal.position}
-        if isinstance(refusal.argument, bytes):
-            fields["argument"] = refusal.argument.hex()
-        elif refusal.argument is not None:
-            fields["argument"] = refusal.argument
-        return fields | {"printed": refusal.printed().decode()}
+    except reference.Rejection as rejection:
+        fields = {"refused": rejection.code, "position": rejection.position}
+        if isinstance(rejection.argument, bytes):
+            fields["argument"] = rejection.argument.hex()
+        elif rejection.argument is not None:
+            fields["argument"] = rejection.argument
+        return fields | {"printed": rejection.printed().decode()}
     return {"tree": reference.described(tree), "text": reference.written(tree).hex()}
 
 
