@@ -136,7 +136,7 @@ pub extern "C" fn vizhoniku_text(
     size: &mut usize,
     refusal: &mut Refusal,
 ) -> u32
-    ensures status { result ≤ 4 }
+    ensures status { result ≤ TOO_SHORT }
     ensures mode { result ≡ UNKNOWN_MODE ↔ (1 < mode) }
 
     // What is written is the text of the document's tree, and no other byte of the buffer changes.
@@ -178,7 +178,7 @@ pub extern "C" fn vizhoniku_sort_key(
     size: &mut usize,
     refusal: &mut Refusal,
 ) -> u32
-    ensures status { result ≤ 4 }
+    ensures status { result ≤ TOO_SHORT }
     ensures mode { result ≡ UNKNOWN_MODE ↔ (1 < mode) }
 
     // What is written is the key of the document's tree, which compares with each other document's key as the trees
@@ -223,7 +223,7 @@ pub extern "C" fn vizhoniku_text_and_key(
     key_size: &mut usize,
     refusal: &mut Refusal,
 ) -> u32
-    ensures status { result ≤ 4 }
+    ensures status { result ≤ TOO_SHORT }
     ensures mode { result ≡ UNKNOWN_MODE ↔ (1 < mode) }
 
     // What is written is what `vizhoniku_text` and `vizhoniku_sort_key` write, and no other byte changes.
@@ -315,7 +315,7 @@ pub extern "C" fn vizhoniku_part(
     size: &mut usize,
     refusal: &mut Refusal,
 ) -> u32
-    ensures status { result ≤ 6 }
+    ensures status { result ≤ NO_PATH }
     ensures mode { result ≡ UNKNOWN_MODE ↔ (1 < mode) }
 
     // What is written is the text of the part of the document's tree, and no other byte of the buffer changes.
@@ -490,7 +490,7 @@ pub extern "C" fn vizhoniku_message(
     out: &mut [u8],
     size: &mut usize,
 ) -> u32
-    ensures status { result ≤ 4 }
+    ensures status { result ≤ TOO_SHORT }
     ensures mode { result ≡ UNKNOWN_MODE ↔ (1 < mode) }
 
     // A document is accepted, and nothing else, unless memory ran out.
