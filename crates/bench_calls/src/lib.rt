@@ -124,8 +124,8 @@ pub extern "C" fn jsonb_bench_document_key(alloc: Global, text: &[u8], rounds: u
     rounds
 }
 
-/// Parses the text as standard JSON and appends its serialized form `rounds` times to one buffer that is emptied before,
-/// with no value and no tree. The answer is how many rounds went well before the first that did not.
+/// Parses the text as standard JSON and appends its serialized form `rounds` times to one buffer that is emptied
+/// before, with no value and no tree. The answer is how many rounds went well before the first that did not.
 #[unsafe(no_mangle)]
 pub extern "C" fn jsonb_bench_straight_text(alloc: Global, text: &[u8], rounds: usize) -> usize
     ensures most { result ≤ rounds }
@@ -142,8 +142,8 @@ pub extern "C" fn jsonb_bench_straight_text(alloc: Global, text: &[u8], rounds: 
     rounds
 }
 
-/// Parses the text as standard JSON and appends its sort key `rounds` times to one buffer that is emptied before, with no
-/// value and no tree. The answer is how many rounds went well before the first that did not.
+/// Parses the text as standard JSON and appends its sort key `rounds` times to one buffer that is emptied before, with
+/// no value and no tree. The answer is how many rounds went well before the first that did not.
 #[unsafe(no_mangle)]
 pub extern "C" fn jsonb_bench_straight_key(alloc: Global, text: &[u8], rounds: usize) -> usize
     ensures most { result ≤ rounds }
@@ -160,8 +160,8 @@ pub extern "C" fn jsonb_bench_straight_key(alloc: Global, text: &[u8], rounds: u
     rounds
 }
 
-/// Parses the text as extended JSON and appends its serialized form `rounds` times to one buffer that is emptied before,
-/// with no value and no tree. The answer is how many rounds went well before the first that did not.
+/// Parses the text as extended JSON and appends its serialized form `rounds` times to one buffer that is emptied
+/// before, with no value and no tree. The answer is how many rounds went well before the first that did not.
 #[unsafe(no_mangle)]
 pub extern "C" fn jsonb_bench_straight_extended(alloc: Global, text: &[u8], rounds: usize) -> usize
     ensures most { result ≤ rounds }

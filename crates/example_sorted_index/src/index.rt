@@ -58,8 +58,8 @@ pub fn sort_values(values: &mut Vec<Value>) -> Result<(), AllocError>
 ///
 /// # Errors
 ///
-/// `Line` with the number of the first line that is no document, and its fault, and `NoMemory` where the first line is a
-/// document and memory ran out.
+/// `Line` with the number of the first line that is no document, and its fault, and `NoMemory` where the first line is
+/// a document and memory ran out.
 pub fn index_text(alloc: Global, lines: &[Vec<u8>]) -> Result<Vec<u8>, LineError>
     ensures ok { IfOk result (λ text. IsIndexText (contents lines.now) text.items) }
     ensures rejected { IfErr result (IsLineError (contents lines.now)) }

@@ -204,7 +204,8 @@ impl<'a> Parser<'a> {
     fn peek(&self) -> Option<u8>
         ensures next { MatchOption result (rest_of self.now ≡ [])
             (λ b. rest_of self.now ≡ b ∷ drop (self.now.offset + 1) self.now.buf.now) }
-        ensures within { MatchOption result (size_of self.now ≤ self.now.offset) (λ b. self.now.offset < size_of self.now) }
+        ensures within { MatchOption result (size_of self.now ≤ self.now.offset)
+            (λ b. self.now.offset < size_of self.now) }
     {
         if self.offset < self.buf.len() {
             Some(self.buf[self.offset])

@@ -8,7 +8,8 @@ use Rattle.jsonb_spec.specs.Tree.{Tree}
 use Rattle.jsonb_c.specs.KeyParts.{IsTreeKey}
 use Rattle.stored_text.specs.FewestDigits.{with_fewest_digits}
 
--- Whichever value the bytes are the sort key of, the text is that of the value with the fewest digits that has this key.
+-- Whichever value the bytes are the sort key of, the text is that of the value with the fewest digits that has this
+-- key.
 abbrev pub IsTextOfKey : List ℕ → List ℕ → Type 0
 IsTextOfKey key text = (t : Tree) → IsTreeKey key t
     → (text_of (with_fewest_digits t) ≡ Some text) × (key_of (with_fewest_digits t) ≡ key)

@@ -131,8 +131,8 @@ fn remove_part(alloc: Global, key: &[u8], names: &[String], out: &mut [u8], size
     tell_key(told, &bytes, out, size)
 }
 
-/// Writes the sort key of an object with a member, of whose value the key is passed, to the start of `out`, and its size
-/// to `size`. Where `out` is too short, it stays as it is, and `size` is what is needed. A member of that name is
+/// Writes the sort key of an object with a member, of whose value the key is passed, to the start of `out`, and its
+/// size to `size`. Where `out` is too short, it stays as it is, and `size` is what is needed. A member of that name is
 /// replaced.
 #[unsafe(no_mangle)]
 pub extern "C" fn vizhoniku_key_put(
@@ -162,8 +162,8 @@ pub extern "C" fn vizhoniku_key_put(
     tell_key(told, &bytes, out, size)
 }
 
-/// Writes the sort key of an array with an item more, of which the key is passed, to the start of `out`, and its size to
-/// `size`. Where `out` is too short, it stays as it is, and `size` is what is needed.
+/// Writes the sort key of an array with an item more, of which the key is passed, to the start of `out`, and its size
+/// to `size`. Where `out` is too short, it stays as it is, and `size` is what is needed.
 #[unsafe(no_mangle)]
 pub extern "C" fn vizhoniku_key_push(
     alloc: Global,

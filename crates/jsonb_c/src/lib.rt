@@ -210,8 +210,8 @@ pub extern "C" fn vizhoniku_sort_key(
     }
 }
 
-/// Writes the text's value as text and as sort key, each to the start of a buffer of its own, with its size. Where one of
-/// the buffers is too short, both stay as they are, and the sizes are what is needed.
+/// Writes the text's value as text and as sort key, each to the start of a buffer of its own, with its size. Where one
+/// of the buffers is too short, both stay as they are, and the sizes are what is needed.
 #[unsafe(no_mangle)]
 pub extern "C" fn vizhoniku_text_and_key(
     alloc: Global,
@@ -678,8 +678,8 @@ struct TextAndKey {
     key: Vec<u8>,
 }
 
-// The text and the sort key of the value of a text. The key is made of the text that was written, which has no whitespace
-// and its members in order, so that this takes less time than another parse of the text.
+// The text and the sort key of the value of a text. The key is made of the text that was written, which has no
+// whitespace and its members in order, so that this takes less time than another parse of the text.
 fn text_and_key_of(alloc: Global, mode: u32, text: &[u8]) -> Result<TextAndKey, Failure>
     ensures text { IfOk result (λ both. IsTextOf mode text.now both.text.items) }
     ensures key { IfOk result (λ both. IsKeyOf mode text.now both.key.items) }

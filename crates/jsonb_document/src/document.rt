@@ -9,8 +9,8 @@ use jsonb::{Error, JsonAst, Mode, Result, Value};
 use std::alloc::Global;
 use std::mem;
 
-/// A text that was parsed. Its serialized form and its sort key are written in one walk, with the members of each object
-/// in the order of their keys, and no map is built.
+/// A text that was parsed. Its serialized form and its sort key are written in one walk, with the members of each
+/// object in the order of their keys, and no map is built.
 ///
 /// Where only these or the order of documents are wanted, it takes fewer instructions and less memory than a [`Value`]
 /// does, if there are objects. Machine stack grows with the depth of the text, which is at most 512.

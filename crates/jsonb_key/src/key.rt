@@ -75,9 +75,9 @@ impl<T: Drop> From<AllocFailed<T>> for KeyError {
 // How many arrays and objects may be open at once.
 const MAX_DEPTH: u32 = 512;
 
-/// The value whose sort key the bytes are, of JSON's kinds and with at most 512 nested arrays and objects, as each parsed
-/// value is. Its strings are owned, and a number has the fewest digits: for the key of `1.50` it is `1.5`. It allocates
-/// for what the value owns, and for a second key.
+/// The value whose sort key the bytes are, of JSON's kinds and with at most 512 nested arrays and objects, as each
+/// parsed value is. Its strings are owned, and a number has the fewest digits: for the key of `1.50` it is `1.5`. It
+/// allocates for what the value owns, and for a second key.
 ///
 /// # Errors
 ///

@@ -29,7 +29,8 @@ EndsString quote bytes (Unclosed at) = (quote_end quote bytes ≡ Err at) × (at
 -- The text and its mark are those that are read of the body, or the fault is, where the decoder counts from `idx`.
 abbrev pub DecodesContents : ℕ → Result (CowStr Global) Error → Body (Mark × List ℕ) → Type 0
 DecodesContents idx (Ok text) read = read ≡ Ok (mark_view text, cow_str_bytes text)
-DecodesContents idx (Err (Syntax code place)) read = (count : ℕ) × (read ≡ Err (code_of code, count)) × (place ≡ idx + count)
+DecodesContents idx (Err (Syntax code place)) read = (count : ℕ) × (read ≡ Err (code_of code, count))
+    × (place ≡ idx + count)
 DecodesContents idx (Err OutOfMemory) read = Unit {0}
 DecodesContents idx (Err other) read = ⊥
 

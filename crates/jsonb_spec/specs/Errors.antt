@@ -30,9 +30,9 @@ pub data ArePassed {A : Type 0} (Spells : List ℕ → A → Type 0) : List ℕ 
   part_passed : {first rest : List ℕ} {a : A} {others : List A} → Spells first a → ArePassed Spells rest others
       → ArePassed Spells (first ++ ascii.comma ∷ rest) (a ∷ others)
 
--- The bytes up to where a value is due, with this many arrays and objects open: whitespace, and then for each of these its
--- opening byte, what is passed of it, and whitespace. Of an array elements are passed, and of an object members and then a
--- key and a colon.
+-- The bytes up to where a value is due, with this many arrays and objects open: whitespace, and then for each of these
+-- its opening byte, what is passed of it, and whitespace. Of an array elements are passed, and of an object members and
+-- then a key and a colon.
 pub data IsFront (mode : Mode) : List ℕ → ℕ → Type 0 where
   front_of_whitespace : {bytes : List ℕ} → IsWhitespace mode bytes → IsFront mode bytes 0
   in_array : {before elements rest : List ℕ} {ts : List Tree} {count : ℕ} → IsWhitespace mode before
@@ -66,8 +66,8 @@ pub record IsTooDeep (mode : Mode) (input : List ℕ) (place : ℕ) : Type 0 whe
   pub is_front : IsFront mode front max_depth
   pub opens : (byte ≡ ascii.open_bracket) ⊎ (byte ≡ ascii.open_brace)
 
--- What stands before the place is a document that is not whitespace alone. No whitespace begins at the place, and no longer
--- beginning of the input is a document.
+-- What stands before the place is a document that is not whitespace alone. No whitespace begins at the place, and no
+-- longer beginning of the input is a document.
 pub record Trails (mode : Mode) (input : List ℕ) (place : ℕ) : Type 0 where
   pub before : List ℕ
   pub byte : ℕ

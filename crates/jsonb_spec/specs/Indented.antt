@@ -30,7 +30,8 @@ abbrev mutual
   -- the lines of an array's items
   pub item_lines : ℕ → ℕ → Trees → List (List ℕ)
   item_lines indent margin no_trees = []
-  item_lines indent margin (more_trees t ts) = (new_line margin ++ indented indent margin t) ∷ item_lines indent margin ts
+  item_lines indent margin (more_trees t ts) =
+      (new_line margin ++ indented indent margin t) ∷ item_lines indent margin ts
 
   -- the lines of an object's members: each key, a colon and a space, and the value's text
   pub member_lines : ℕ → ℕ → Members → List (List ℕ)

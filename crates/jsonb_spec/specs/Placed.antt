@@ -79,8 +79,8 @@ mutual
         → HasByte input ascii.comma comma → AreMembersAt mode input (comma + 1) others to
         → AreMembersAt mode input from (m ∷ others) to
 
-  -- A key, a colon and a value, with whitespace round the key and round the value. The index of the member is where its own
-  -- key ends.
+  -- A key, a colon and a value, with whitespace round the key and round the value. The index of the member is where its
+  -- own key ends.
   pub data IsMemberAt (mode : Mode) (input : List ℕ) : ℕ → Found → ℕ → Type 0 where
     key_and_value : {from begin index colon due end to : ℕ} {key : Mark × List ℕ} {s : Source}
         → HasWhitespace mode input from begin → HasKey mode input begin key index → HasWhitespace mode input index colon

@@ -64,8 +64,8 @@ Opens t more (Ok (Some parts)) = IsLeftOf t parts.0 parts.1.now more
 Opens t more (Ok None) = IsScalar t
 Opens t more (Err e) = ⊥
 
--- What is told of what is left of an array or an object: the bytes from the value of the first part on, and those behind
--- that part; or nothing where no part is left.
+-- What is told of what is left of an array or an object: the bytes from the value of the first part on, and those
+-- behind that part; or nothing where no part is left.
 abbrev pub IsNext : Open → List ℕ → Result (Option (Bor (List ℕ) × Bor (List ℕ))) NoKey → Type 0
 IsNext (items no_trees) more (Ok None) = ⊤
 IsNext (items (more_trees t ts)) more (Ok (Some told)) =

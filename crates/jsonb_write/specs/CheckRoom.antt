@@ -42,7 +42,8 @@ HeldFits held cs = ⊥
 -- ---- the room
 
 -- The members are those of what is open: up to where a value is due, or up to the end of the innermost's last part.
-pub record CheckStands (text : List ℕ) (room : CheckRoom) (due : Bool) (held : List Held) (cs : List Open) : Type 0 where
+pub record CheckStands (text : List ℕ) (room : CheckRoom) (due : Bool) (held : List Held) (cs : List Open)
+    : Type 0 where
   pub text_is : room.text.now ≡ text
   pub kept : AreKept text room.decoded.items room.members.items (all_members due cs)
   pub fits : HeldFits held cs

@@ -57,7 +57,8 @@ picked keys (c ∷ cs) = option_or (picked keys cs) (option_and_then (within c) 
 
 -- the part in what ended of all that is open, and in a value where one was due
 abbrev pub picked_with : List (List ℕ) → Source → List Open → Option Tree
-picked_with keys s cs = option_or (picked keys cs) (option_and_then (λ rest. part_at rest (tree_of_source s)) (left keys cs))
+picked_with keys s cs = option_or (picked keys cs) (option_and_then (λ rest. part_at rest (tree_of_source s))
+    (left keys cs))
 
 -- ---- what is left of the path
 

@@ -350,8 +350,8 @@ impl<'a> PartRoom<'a> {
         Ok(())
     }
 
-    /// The end of an object. Its brace stands in the text at an index. Where a key comes twice, what is returned is the index, among the members, of the one
-    /// where the least such key comes the second time.
+    /// The end of an object. Its brace stands in the text at an index. Where a key comes twice, what is returned is the
+    /// index, among the members, of the one where the least such key comes the second time.
     pub fn end_object(
         &mut self,
         members: &PartMembers,

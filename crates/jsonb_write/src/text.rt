@@ -553,8 +553,8 @@ impl<'a> TextRoom<'a> {
         self.spare.total / MOST_MOVED > self.written.text.len()
     }
 
-    /// The end of an object, whose brace stands in the text at an index. Where a key comes twice, what is returned is the
-    /// index, among the members, of the one where the least such key comes the second time.
+    /// The end of an object, whose brace stands in the text at an index. Where a key comes twice, what is returned is
+    /// the index, among the members, of the one where the least such key comes the second time.
     #[inline(always)]
     pub fn end_object(&mut self, first: usize, at: usize) -> Result<Option<usize>, AllocError>
         ensures stands { IfOk result (λ repeat. (text : List ℕ) → (held : List Held) → (fs : List Found)

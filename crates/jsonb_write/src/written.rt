@@ -144,8 +144,8 @@ impl<'a> Written<'a> {
     {
         self.put(b'"')?;
         self.flush()?;
-        // With room for the closing quote too, which is copied as the first of 32 bytes, a long string lets the buffer grow
-        // once.
+        // With room for the closing quote too, which is copied as the first of 32 bytes, a long string lets the buffer
+        // grow once.
         self.out.try_reserve(contents.body.len() + 32)?;
         append_contents(contents, &mut self.out)?;
         self.go_on(after.max(1) - 1);

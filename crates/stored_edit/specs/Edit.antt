@@ -49,7 +49,8 @@ changed_item change index no_trees = item_before (change None) no_trees
 changed_item change zero (more_trees t ts) = item_before (change (Some t)) ts
 changed_item change (suc index) (more_trees t ts) = option_map (more_trees t) (changed_item change index ts)
 
--- the items, changed at the one that is so many from the end, where 1 is the last, or at the front where there are fewer
+-- the items, changed at the one that is so many from the end, where 1 is the last, or at the front where there are
+-- fewer
 abbrev pub changed_item_back : (Option Tree → Outcome) → ℕ → Trees → Option Trees
 changed_item_back change back ts = if nat_lt (trees_len ts) back then item_before (change None) ts
     else changed_item change (trees_len ts - back) ts

@@ -57,8 +57,8 @@ pub fn append_with_member(
     }
 }
 
-/// Appends the key of the array with this item at its end, of which the key is passed, and tells whether it is an array.
-/// Where it is none, nothing is appended.
+/// Appends the key of the array with this item at its end, of which the key is passed, and tells whether it is an
+/// array. Where it is none, nothing is appended.
 ///
 /// # Errors
 ///

@@ -61,7 +61,8 @@ pub(crate) fn splice_named(
     part: &[u8],
     behind: &[u8],
 ) -> Result<(), AllocError>
-    ensures { AppendsAllOrNothing result out.old out.new (front.now ++ (text_key name.now ++ (part.now ++ behind.now))) }
+    ensures { AppendsAllOrNothing result out.old out.new (front.now
+        ++ (text_key name.now ++ (part.now ++ behind.now))) }
 {
     let old_len = out.len();
     let room = front

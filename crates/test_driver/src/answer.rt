@@ -1,6 +1,6 @@
 //! The result of one line: a letter, and texts in hexadecimal or numbers, with one space before each part, also where
-//! that part is empty. The letter is `s` for standard or `e` for extended mode, `k` for a sort key, `b` for the contents
-//! of a string, and `n` for numbers.
+//! that part is empty. The letter is `s` for standard or `e` for extended mode, `k` for a sort key, `b` for the
+//! contents of a string, and `n` for numbers.
 //!
 //! | line | result |
 //! |---|---|
@@ -185,8 +185,8 @@ fn written(alloc: Global, mode: Mode, text: &[u8]) -> jsonb::Result<Vec<u8>> {
     Ok(written)
 }
 
-// Whether the value is that of the tree and of the document, what its text reads back as is equal to it, and the text is
-// written again.
+// Whether the value is that of the tree and of the document, what its text reads back as is equal to it, and the text
+// is written again.
 fn agree<'a>(alloc: Global, mode: Mode, text: &'a [u8], written: &'a [u8]) -> jsonb::Result<bool> {
     let value = read(alloc, mode, text)?;
     let again = read(alloc, mode, written)?;

@@ -1,5 +1,5 @@
-//! Parses the JSON texts of standard input, one a line, and prints what each call of the library that allocates returns.
-//! `tests/oom` makes its allocations fail, one after the other.
+//! Parses the JSON texts of standard input, one a line, and prints what each call of the library that allocates
+//! returns. `tests/oom` makes its allocations fail, one after the other.
 #![tactic(auto)]
 
 mod calls;

@@ -24,8 +24,8 @@ fn is_separator(byte: u8) -> bool
 }
 
 impl Parser<'_> {
-    // Passes an integer of an extended text that is written by the same bytes again, if that is asked and one comes next,
-    // with a separator behind it.
+    // Passes an integer of an extended text that is written by the same bytes again, if that is asked and one comes
+    // next, with a separator behind it.
     #[inline(always)]
     pub(super) fn kept_extended_integer(&mut self, is_asked: bool) -> bool
         requires inside { self.old.offset ≤ size_of self.old }

@@ -1,5 +1,6 @@
 //! What is made of a text while it is parsed. The parser sends the events of the text's value, and a handler makes
-//! something of them: a `Value`, a `JsonAst`, serialized text, that of the part at a path, a sort key, or nothing at all.
+//! something of them: a `Value`, a `JsonAst`, serialized text, that of the part at a path, a sort key, or nothing at
+//! all.
 ghost use Rattle.std.specs.Prelude.{◌≡◌, ◌+◌, ◌^◌, ◌<◌, ℕ, Bool, List, [], ◌∷◌, ◌++◌, length, MatchBool, Ok, IfOk, IfErr, OnOk, Option, true, false, slice_range};
 ghost use Rattle.std.specs.Cow.{cow_str_bytes};
 ghost use Rattle.jsonb_value.specs.declared.error.Error.{Error};
@@ -95,8 +96,8 @@ pub(super) trait Handler<'a>: Drop + Sized {
     fn string(text: CowStr<'a>) -> Self
         ensures { sees result (string_source (mark_view text.entry) (cow_str_bytes text.entry)) };
 
-    // A string that has escapes, given its contents. An error counts from `offset`: the index after the opening quote, and
-    // one more.
+    // A string that has escapes, given its contents. An error counts from `offset`: the index after the opening quote,
+    // and one more.
     fn escaped_string(
         alloc: Global,
         body: &'a str,
@@ -265,7 +266,8 @@ pub(super) trait Handler<'a>: Drop + Sized {
     // The key of an object that waits for no value.
     fn no_key(alloc: Global) -> Self::Key;
 
-    // Puts in a member whose value is a scalar. False where its key is there already, and the handler is silent about it.
+    // Puts in a member whose value is a scalar. False where its key is there already, and the handler is silent about
+    // it.
     fn insert(
         room: &mut Self::Room,
         object: &mut OpenObject<Self::Members, Self::Key>,
@@ -275,7 +277,8 @@ pub(super) trait Handler<'a>: Drop + Sized {
         to: usize,
     ) -> std::result::Result<bool, AllocError>
         ensures put { IfOk result (λ is_new. MatchBool is_new ((text : List ℕ) → (s : Source) → (front : List Found)
-            → (k : Mark × List ℕ) → (place : ℕ) → (fs : List (Frame Self.Items Self.Members Self.Key)) → (cs : List Open)
+            → (k : Mark × List ℕ) → (place : ℕ) → (fs : List (Frame Self.Items Self.Members Self.Key))
+            → (cs : List Open)
             → stands text room.old true (Object (record { members = object.old.members; key = key }) ∷ fs)
             (members_so_far front k place ∷ cs) → sees value s → IsSpelledAt text from to s
             → stands text room.new false (Object object.new ∷ fs)
@@ -290,8 +293,10 @@ pub(super) trait Handler<'a>: Drop + Sized {
         from: usize,
         to: usize,
     ) -> std::result::Result<bool, AllocError>
-        ensures put { IfOk result (λ is_new. MatchBool is_new (keeps ≡ true → (text : List ℕ) → (s : Source) → (front : List Found)
-            → (k : Mark × List ℕ) → (place : ℕ) → (fs : List (Frame Self.Items Self.Members Self.Key)) → (cs : List Open)
+        ensures put { IfOk result (λ is_new. MatchBool is_new
+            (keeps ≡ true → (text : List ℕ) → (s : Source) → (front : List Found)
+            → (k : Mark × List ℕ) → (place : ℕ) → (fs : List (Frame Self.Items Self.Members Self.Key))
+            → (cs : List Open)
             → stands text room.old true (Object (record { members = object.old.members; key = key }) ∷ fs)
             (members_so_far front k place ∷ cs) → slice_range text from to ≡ source_text s
             → stands text room.new false (Object object.new ∷ fs)
@@ -306,7 +311,8 @@ pub(super) trait Handler<'a>: Drop + Sized {
         value: Self,
     ) -> std::result::Result<bool, AllocError>
         ensures put { IfOk result (λ is_new. MatchBool is_new ((text : List ℕ) → (s : Source) → (front : List Found)
-            → (k : Mark × List ℕ) → (place : ℕ) → (fs : List (Frame Self.Items Self.Members Self.Key)) → (cs : List Open)
+            → (k : Mark × List ℕ) → (place : ℕ) → (fs : List (Frame Self.Items Self.Members Self.Key))
+            → (cs : List Open)
             → filled text room.old value s (Object object.old ∷ fs) (members_so_far front k place ∷ cs)
             → stands text room.new false (Object object.new ∷ fs)
             (members_so_far (front ++ found k s place ∷ []) (plain, []) 0 ∷ cs)) (silent ≡ true)) }

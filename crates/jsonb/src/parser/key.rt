@@ -32,7 +32,8 @@ impl<'a> Parser<'a> {
         requires inside { self.old.offset ≤ size_of self.old }
         requires same { text.now ≡ take (length text.now) self.old.buf.now }
         ensures reads { Builds V.silent self.new.told
-            (AsNamed (Begins (V.stands self.old.buf.now) room.old object.old room.new object.new)) result (read_at member_start self.old)
+            (AsNamed (Begins (V.stands self.old.buf.now) room.old object.old room.new object.new)) result
+            (read_at member_start self.old)
             (rest_of self.new) }
         ensures advances { Advances self.old self.new }
         ensures base { V.base room.new ≡ V.base room.old }
@@ -59,8 +60,10 @@ impl<'a> Parser<'a> {
         requires inside { self.old.offset ≤ size_of self.old }
         requires same { text.now ≡ take (length text.now) self.old.buf.now }
         ensures reads { Builds V.silent self.new.told
-            (AsKey (Begins (V.stands self.old.buf.now) room.old object.old room.new object.new) (size_of self.old) (rest_of self.new)) result
-            (key_at (size_of self.old) (mode_of self.old.mode) (skip_whitespace (mode_of self.old.mode) (rest_of self.old)))
+            (AsKey (Begins (V.stands self.old.buf.now) room.old object.old room.new object.new) (size_of self.old)
+            (rest_of self.new)) result
+            (key_at (size_of self.old) (mode_of self.old.mode)
+            (skip_whitespace (mode_of self.old.mode) (rest_of self.old)))
             (rest_of self.new) }
         ensures advances { Advances self.old self.new }
         ensures base { V.base room.new ≡ V.base room.old }
@@ -89,7 +92,8 @@ impl<'a> Parser<'a> {
     ) -> std::result::Result<V::Key, Failed>
         requires { self.old.offset ≤ size_of self.old }
         ensures reads { Builds V.silent self.new.told
-            (AsKey (Begins (V.stands self.old.buf.now) room.old object.old room.new object.new) (size_of self.old) (rest_of self.new)) result
+            (AsKey (Begins (V.stands self.old.buf.now) room.old object.old room.new object.new) (size_of self.old)
+            (rest_of self.new)) result
             (string_at (size_of self.old) (mode_of self.old.mode) ascii.quote (rest_of self.old)) (rest_of self.new) }
         ensures advances { Advances self.old self.new }
         ensures base { V.base room.new ≡ V.base room.old }
@@ -111,7 +115,8 @@ impl<'a> Parser<'a> {
     ) -> std::result::Result<V::Key, Failed>
         requires { self.old.offset ≤ size_of self.old }
         ensures reads { Builds V.silent self.new.told
-            (AsKey (Begins (V.stands self.old.buf.now) room.old object.old room.new object.new) (size_of self.old) (rest_of self.new)) result
+            (AsKey (Begins (V.stands self.old.buf.now) room.old object.old room.new object.new) (size_of self.old)
+            (rest_of self.new)) result
             (key_at (size_of self.old) (mode_of self.old.mode) (rest_of self.old)) (rest_of self.new) }
         ensures advances { Advances self.old self.new }
         ensures base { V.base room.new ≡ V.base room.old }

@@ -22,7 +22,8 @@ use jsonb_value::error::{Error, ParseErrorCode, Result};
 use jsonb_value::number::Number;
 
 impl Parser<'_> {
-    // Passes an integer of a standard text that is written by the same bytes again, if that is asked and one comes next.
+    // Passes an integer of a standard text that is written by the same bytes again, if that is asked and one comes
+    // next.
     #[inline(always)]
     pub(super) fn kept_integer(&mut self, is_asked: bool) -> bool
         requires inside { self.old.offset ≤ size_of self.old }

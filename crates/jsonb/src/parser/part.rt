@@ -50,7 +50,8 @@ pub fn append_part(
     ensures rejected { IfErr result (λ e. e ≢ Error.OutOfMemory → IsNoDocument (mode_of mode) text.now) }
     // Memory runs out only where the text may take some, or where the room for all that is appended is missing.
     ensures memory { result ≡ Err Error.OutOfMemory → MayAllocate text.now
-        ⊎ LacksRoomForPart (mode_of mode) text.now (map string_bytes path.now) (vec_capacity buf.old) (vec_len buf.old) }
+        ⊎ LacksRoomForPart (mode_of mode) text.now (map string_bytes path.now) (vec_capacity buf.old)
+        (vec_len buf.old) }
 
     // No other error is returned.
     ensures errors { IfErr result IsTextError }
@@ -99,7 +100,8 @@ fn append_part_of_value(
     ensures err { OnErr result (buf.new.items ≡ buf.old.items) }
     ensures rejected { IfErr result (λ e. e ≢ Error.OutOfMemory → IsNoDocument (mode_of mode) text.now) }
     ensures memory { result ≡ Err Error.OutOfMemory → MayAllocate text.now
-        ⊎ LacksRoomForPart (mode_of mode) text.now (map string_bytes path.now) (vec_capacity buf.old) (vec_len buf.old) }
+        ⊎ LacksRoomForPart (mode_of mode) text.now (map string_bytes path.now) (vec_capacity buf.old)
+        (vec_len buf.old) }
     ensures errors { IfErr result IsTextError }
     ensures exact { IfErr result (λ e. Fails e (document_of (mode_of mode) text.now)) }
     ensures explained { IfErr result (IsExplained (mode_of mode) text.now) }

@@ -593,7 +593,8 @@ impl<'a> Parser<'a> {
     pub(super) fn parse_scalar<V: Handler<'a>>(&mut self, text: &'a str) -> Result<V, Failed>
         requires inside { self.old.offset ≤ size_of self.old }
         requires same { text.now ≡ take (length text.now) self.old.buf.now }
-        ensures reads { Builds V.silent self.new.told (AsScalar V.sees) result (read_at scalar_at self.old) (rest_of self.new) }
+        ensures reads { Builds V.silent self.new.told (AsScalar V.sees) result (read_at scalar_at self.old)
+            (rest_of self.new) }
         ensures memory { IfErr result (λ _. self.new.told ≡ Some Error.OutOfMemory
             → Contains self.old.buf.now ascii.backslash) }
         ensures advances { Advances self.old self.new }
@@ -609,7 +610,8 @@ impl<'a> Parser<'a> {
     fn parse_other_scalar<V: Handler<'a>>(&mut self, text: &'a str) -> Result<V, Failed>
         requires inside { self.old.offset ≤ size_of self.old }
         requires same { text.now ≡ take (length text.now) self.old.buf.now }
-        ensures reads { Builds V.silent self.new.told (AsScalar V.sees) result (read_at other_scalar_at self.old) (rest_of self.new) }
+        ensures reads { Builds V.silent self.new.told (AsScalar V.sees) result (read_at other_scalar_at self.old)
+            (rest_of self.new) }
         ensures memory { IfErr result (λ _. self.new.told ≡ Some Error.OutOfMemory
             → Contains self.old.buf.now ascii.backslash) }
         ensures advances { Advances self.old self.new }
@@ -624,7 +626,8 @@ impl<'a> Parser<'a> {
     #[inline(always)]
     fn parse_word_or_number<V: Handler<'a>>(&mut self) -> Result<V, Failed>
         requires { self.old.offset ≤ size_of self.old }
-        ensures reads { Builds V.silent self.new.told (AsScalar V.sees) result (read_at words_at self.old) (rest_of self.new) }
+        ensures reads { Builds V.silent self.new.told (AsScalar V.sees) result (read_at words_at self.old)
+            (rest_of self.new) }
         ensures memory { IfErr result (λ _. self.new.told ≡ Some Error.OutOfMemory
             → Contains self.old.buf.now ascii.backslash) }
         ensures advances { Advances self.old self.new }
@@ -655,7 +658,8 @@ impl<'a> Parser<'a> {
     #[inline(always)]
     fn parse_null<V: Handler<'a>>(&mut self) -> Result<V, Failed>
         requires { self.old.offset ≤ size_of self.old }
-        ensures reads { Builds V.silent self.new.told (AsScalar V.sees) result (read_at null_at self.old) (rest_of self.new) }
+        ensures reads { Builds V.silent self.new.told (AsScalar V.sees) result (read_at null_at self.old)
+            (rest_of self.new) }
         ensures memory { IfErr result (λ _. self.new.told ≡ Some Error.OutOfMemory
             → Contains self.old.buf.now ascii.backslash) }
         ensures advances { Advances self.old self.new }
@@ -678,7 +682,8 @@ impl<'a> Parser<'a> {
     #[inline(always)]
     fn parse_number_value<V: Handler<'a>>(&mut self) -> Result<V, Failed>
         requires { self.old.offset ≤ size_of self.old }
-        ensures reads { Builds V.silent self.new.told (AsNumber V.sees) result (read_at number_at self.old) (rest_of self.new) }
+        ensures reads { Builds V.silent self.new.told (AsNumber V.sees) result (read_at number_at self.old)
+            (rest_of self.new) }
         ensures memory { IfErr result (λ _. self.new.told ≡ Some Error.OutOfMemory
             → Contains self.old.buf.now ascii.backslash) }
         ensures advances { Advances self.old self.new }

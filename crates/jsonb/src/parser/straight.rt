@@ -77,14 +77,14 @@ pub fn check(alloc: Global, text: &[u8], mode: Mode) -> Result<()>
     }
 }
 
-/// Parses a whole text, and appends its value's serialized form to a buffer. No value is made. After an error `buf` has the
-/// same bytes as before.
+/// Parses a whole text, and appends its value's serialized form to a buffer. No value is made. After an error `buf` has
+/// the same bytes as before.
 ///
-/// The time is linear in the text, and sorting the n members of an object takes n log n comparisons of keys. Besides the
-/// growth of `buf` it allocates an entry for each member of the objects that are open, a copy of an object that is out of
-/// order, and keys with escapes; and strings with escapes where the text isn't UTF-8. Machine stack doesn't grow with
-/// the depth of the text, but where objects out of order stand around most of it at more than eight levels: then a value
-/// is made after all.
+/// The time is linear in the text, and sorting the n members of an object takes n log n comparisons of keys. Besides
+/// the growth of `buf` it allocates an entry for each member of the objects that are open, a copy of an object that is
+/// out of order, and keys with escapes; and strings with escapes where the text isn't UTF-8. Machine stack doesn't grow
+/// with the depth of the text, but where objects out of order stand around most of it at more than eight levels: then a
+/// value is made after all.
 ///
 /// ```
 /// let mut buf = Vec::new(rt.alloc());
@@ -147,11 +147,11 @@ pub fn append_text(alloc: Global, text: &[u8], mode: Mode, buf: &mut Vec<u8>) ->
 /// Parses a whole text, and appends its value's sort key to a buffer. No value is made. After an error `buf` has the
 /// same bytes as before.
 ///
-/// The time is linear in the text, and sorting the n members of an object takes n log n comparisons of keys. Besides the
-/// growth of `buf` it allocates an entry for each member of the objects that are open, a copy of an object that is out of
-/// order, and keys with escapes; and strings with escapes where they mean a zero or the text isn't UTF-8. Machine stack
-/// doesn't grow with the depth of the text, but where objects out of order stand around most of it at more than eight
-/// levels: then a value is made after all.
+/// The time is linear in the text, and sorting the n members of an object takes n log n comparisons of keys. Besides
+/// the growth of `buf` it allocates an entry for each member of the objects that are open, a copy of an object that is
+/// out of order, and keys with escapes; and strings with escapes where they mean a zero or the text isn't UTF-8.
+/// Machine stack doesn't grow with the depth of the text, but where objects out of order stand around most of it at
+/// more than eight levels: then a value is made after all.
 ///
 /// ```
 /// let mut buf = Vec::new(rt.alloc());
@@ -252,8 +252,8 @@ fn append_text_of_value(alloc: Global, text: &[u8], mode: Mode, buf: &mut Vec<u8
     }
 }
 
-// Appends the sort key of a text's value, which is made first. Scalars without escapes go this way, of which it takes no
-// memory but the room that `buf` lacks. So do texts where an object holds most of the text at many levels, and its
+// Appends the sort key of a text's value, which is made first. Scalars without escapes go this way, of which it takes
+// no memory but the room that `buf` lacks. So do texts where an object holds most of the text at many levels, and its
 // members are out of order at each: there it takes less time.
 #[cold]
 #[inline(never)]

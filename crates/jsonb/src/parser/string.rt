@@ -15,8 +15,8 @@ use jsonb_write::plain::plain_len;
 use std::borrow::CowStr;
 use std::simd::prelude::*;
 
-// A string without escapes that was cut out of the text, and whether it is known that none of its bytes is written as an
-// escape.
+// A string without escapes that was cut out of the text, and whether it is known that none of its bytes is written as
+// an escape.
 #[derive(Clone, Copy)]
 pub(super) struct Cut<'a> {
     pub(super) body: &'a str,
@@ -101,8 +101,8 @@ impl<'a> Parser<'a> {
         Some(body)
     }
 
-    // The contents of a string that has escapes, from the byte after its opening quote on. No character crosses a quote,
-    // so that they are cut out of the text as above.
+    // The contents of a string that has escapes, from the byte after its opening quote on. No character crosses a
+    // quote, so that they are cut out of the text as above.
     #[inline(always)]
     pub(super) fn escaped_contents(&mut self, quote: u8, text: &'a str) -> Option<&'a str>
         requires no_backslash { quote ≢ ascii.backslash }

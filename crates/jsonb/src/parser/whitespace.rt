@@ -124,7 +124,8 @@ impl Parser<'_> {
     // Passes one space, where one comes next.
     #[inline(always)]
     pub(super) fn skip_space(&mut self)
-        ensures rest { skip_whitespace (mode_of self.old.mode) (rest_of self.new) ≡ skip_whitespace (mode_of self.old.mode)
+        ensures rest { skip_whitespace (mode_of self.old.mode) (rest_of self.new) ≡ skip_whitespace
+            (mode_of self.old.mode)
             (rest_of self.old) }
         ensures advances { Advances self.old self.new }
     {

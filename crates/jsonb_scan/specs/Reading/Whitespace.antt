@@ -16,7 +16,8 @@ is_break b =
     is_whitespace_start b || (b == ascii.comma) || (b == ascii.colon) || (b == ascii.close_bracket)
     || (b == ascii.close_brace)
 
--- how many bytes the piece of whitespace takes whose first bytes are a backslash and x, from the byte after these on, or 0
+-- how many bytes the piece of whitespace takes whose first bytes are a backslash and x, from the byte after these on,
+-- or 0
 abbrev pub form_feed_length : List ℕ → ℕ
 form_feed_length [] = 0
 form_feed_length (c ∷ []) = 0

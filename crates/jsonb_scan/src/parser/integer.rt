@@ -83,8 +83,8 @@ fn may_begin(digit: u8, len: usize) -> bool
     len <= 1
 }
 
-/// The length of the integer that the bytes of a standard text begin with, where it has at most 19 bytes, and is written
-/// by the same bytes again: no 0 with a minus is.
+/// The length of the integer that the bytes of a standard text begin with, where it has at most 19 bytes, and is
+/// written by the same bytes again: no 0 with a minus is.
 #[inline(always)]
 pub fn kept_integer(bytes: &[u8]) -> Option<usize>
     ensures found { IfSome result (IsKeptInteger bytes.now) }

@@ -109,8 +109,8 @@ pub(super) fn digits_within(bytes: &[u8], limit: usize) -> (usize, u64)
     (len, value)
 }
 
-// At most 19 digits that the bytes begin with, and their number. Where there are more bytes, the loop is over so many as
-// is known when it is compiled, so that it is unrolled.
+// At most 19 digits that the bytes begin with, and their number. Where there are more bytes, the loop is over so many
+// as is known when it is compiled, so that it is unrolled.
 #[inline(always)]
 pub(super) fn short_digits(bytes: &[u8]) -> (usize, u64)
     ensures few { result.0 ≤ 19 }

@@ -136,11 +136,12 @@ pub fn decode_escape<'a>(bytes: &'a [u8], mode: Mode, text: &mut [u8]) -> Option
     Some((done.len, done.rest))
 }
 
-/// Decodes the contents of a string into a text that has room for their length behind its first `len` bytes, and returns
-/// how many bytes it has then. There is none where the contents are malformed.
+/// Decodes the contents of a string into a text that has room for their length behind its first `len` bytes, and
+/// returns how many bytes it has then. There is none where the contents are malformed.
 pub fn decode_behind(bytes: &[u8], mode: Mode, text: &mut [u8], len: usize) -> Option<usize>
     requires { len + length bytes.now ≤ length text.old }
-    ensures some { IfSome result (λ end. take end text.new ≡ take len text.old ++ decoded_text (mode_of mode) bytes.now) }
+    ensures some { IfSome result (λ end. take end text.new ≡ take len text.old ++ decoded_text
+        (mode_of mode) bytes.now) }
     ensures within { IfSome result (λ end. end ≤ length text.new) }
     ensures kept { take len text.new ≡ take len text.old }
     ensures size { length text.new ≡ length text.old }

@@ -147,7 +147,8 @@ IsExtendedNumber bytes n = IsDecimalNumber bytes n ⊎ IsHexadecimalNumber bytes
 
 -- the bytes are a number text without a number that a form holds
 abbrev pub IsExtendedUnrepresentable : List ℕ → Type 0
-IsExtendedUnrepresentable bytes = IsUnrepresentableDecimal bytes ⊎ (IsUnrepresentableHexadecimal bytes ⊎ IsWordText bytes)
+IsExtendedUnrepresentable bytes = IsUnrepresentableDecimal bytes
+    ⊎ (IsUnrepresentableHexadecimal bytes ⊎ IsWordText bytes)
 
 -- the bytes are a number text
 abbrev pub IsExtendedText : List ℕ → Type 0

@@ -16,8 +16,9 @@ IsOneLine bytes = AllByRecursion (λ byte. ¬ (EndsLine byte)) bytes
 abbrev pub LacksCommentEnd : List ℕ → Type 0
 LacksCommentEnd bytes = (before after : List ℕ) → bytes ≢ before ++ ascii.star ∷ ascii.slash ∷ after
 
--- One piece of whitespace: a space, a tab, a line feed, a form feed or a carriage return (RFC 8259, section 2, has these but the
--- form feed); or the last four and the tab spelled by a backslash and letters. Extended mode has comments too.
+-- One piece of whitespace: a space, a tab, a line feed, a form feed or a carriage return (RFC 8259, section 2, has
+-- these but the form feed); or the last four and the tab spelled by a backslash and letters. Extended mode has comments
+-- too.
 pub data IsWhitespacePiece (mode : Mode) : List ℕ → Type 0 where
   space : IsWhitespacePiece mode (ascii.space ∷ [])
   tab : IsWhitespacePiece mode (ascii.tab ∷ [])
@@ -39,10 +40,12 @@ pub data IsWhitespacePiece (mode : Mode) : List ℕ → Type 0 where
 -- any number of pieces in a row
 pub data IsWhitespace (mode : Mode) : List ℕ → Type 0 where
   no_whitespace : IsWhitespace mode []
-  more_whitespace : {piece rest : List ℕ} → IsWhitespacePiece mode piece → IsWhitespace mode rest → IsWhitespace mode (piece ++ rest)
+  more_whitespace : {piece rest : List ℕ} → IsWhitespacePiece mode piece → IsWhitespace mode rest
+      → IsWhitespace mode (piece ++ rest)
 
 -- Whitespace at the end of a whole text. In extended mode a line comment may end there with the text.
 pub data IsLastWhitespace (mode : Mode) : List ℕ → Type 0 where
   whitespace_to_end : {whitespace : List ℕ} → IsWhitespace mode whitespace → IsLastWhitespace mode whitespace
-  line_to_end : {whitespace : List ℕ} (inside : List ℕ) → mode ≡ extended → IsWhitespace mode whitespace → IsOneLine inside
+  line_to_end : {whitespace : List ℕ} (inside : List ℕ) → mode ≡ extended → IsWhitespace mode whitespace
+      → IsOneLine inside
       → IsLastWhitespace mode (whitespace ++ ascii.slash ∷ ascii.slash ∷ inside)

@@ -5,8 +5,8 @@ use super::{Object, Value};
 const FEW_LEVELS: usize = 32;
 
 impl Value<'_> {
-    /// Drops the value. Where arrays and objects nest deep in it, this takes less machine stack than letting it go does:
-    /// some 200 bytes for each level of them, however many members the objects have.
+    /// Drops the value. Where arrays and objects nest deep in it, this takes less machine stack than letting it go
+    /// does: some 200 bytes for each level of them, however many members the objects have.
     ///
     /// The time is linear in the value, and nothing is allocated.
     ///
@@ -51,8 +51,8 @@ fn take_members_apart(mut members: Object) {
     members.destroy_empty();
 }
 
-// Whether more than so many arrays and objects stand in one another. Inlined into the loops, so that only containers are
-// calls there.
+// Whether more than so many arrays and objects stand in one another. Inlined into the loops, so that only containers
+// are calls there.
 #[inline(always)]
 #[cycle(nests_deeper)]
 fn nests_deeper(value: &Value, levels: usize) -> bool {

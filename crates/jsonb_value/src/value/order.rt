@@ -84,8 +84,8 @@ pub(super) fn rank(value: &Value) -> u8
 // Objects that stand in so many others are compared key by key, which takes less machine stack.
 const MANY_OBJECTS: u32 = 128;
 
-// Inlined into the loops, so that only containers are calls there. So many objects may still be open round others that are
-// compared with an iterator over each.
+// Inlined into the loops, so that only containers are calls there. So many objects may still be open round others that
+// are compared with an iterator over each.
 #[inline(always)]
 #[cycle(compare)]
 fn compare<'a>(left: &Value<'a>, right: &Value<'a>, levels: u32) -> Ordering

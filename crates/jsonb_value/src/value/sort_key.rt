@@ -244,7 +244,8 @@ fn append_64_bits(kind: u8, value: i64, buf: &mut Vec<u8>) -> Appended
 }
 
 fn append_zoned(offset: i32, micros: i64, buf: &mut Vec<u8>) -> Appended
-    ensures appends { Appends result buf.old buf.new (kind.timestamp_tz ∷ key_of_32_bits offset ++ key_of_64_bits micros) }
+    ensures appends { Appends result buf.old buf.new (kind.timestamp_tz ∷ key_of_32_bits offset
+        ++ key_of_64_bits micros) }
 {
     append_32_bits(kind::TIMESTAMP_TZ, offset, buf)?;
     buf.extend_from_slice(&key_of_64_bits(micros))

@@ -1,5 +1,5 @@
-//! Nothing is made of a text that is only checked. The keys of the objects that are open are kept, so that one that comes
-//! twice is told.
+//! Nothing is made of a text that is only checked. The keys of the objects that are open are kept, so that one that
+//! comes twice is told.
 ghost use Rattle.std.specs.Prelude.{◌≡◌, ℕ, List, [], false, map, true};
 ghost use Rattle.jsonb_value.specs.View.{number_view};
 ghost use Rattle.jsonb.specs.Handler.{Misses};
