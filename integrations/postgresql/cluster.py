@@ -1,8 +1,8 @@
-"""A PostgreSQL server of one's own for test and measure: in a folder of its own, ended with the script.
+"""PostgreSQL servers of one's own for the scripts here: in a folder of their own, ended with the script.
 
 The server's programs are copied, so that the extension is installed into the copy and nothing outside of the folder
-is written. The server listens on a socket in the folder alone. It doesn't run as root: where the script does, the
-server runs as the user postgres.
+is written. A server listens on a socket in its folder alone. It doesn't run as root: where the script does, the server
+runs as the user postgres.
 """
 
 import os
@@ -97,9 +97,10 @@ def run(command, text="", **options):
 
 
 class Server:
-    """A cluster in a folder of its own below that of the installation, and its server."""
+    """A cluster in a folder of its own below that of the installation, and its server. Where it is a standby of another
+    one, it begins as a copy of that one."""
 
-    def __init__(self, installed, name, settings=(), limit=None, encoding="UTF8", locale="C.UTF-8"):
+    def __init__(self, installed, name, settings=(), limit=None, encoding="UTF8", locale="C.UTF-8", standby_of=None):
         self.installed = installed
         self.folder = os.path.join(installed.folder, name)
         self.limit = limit
@@ -109,8 +110,12 @@ class Server:
             os.chown(self.folder, installed.user["user"], installed.user["group"])
         self.data = os.path.join(self.folder, "data")
         self.log = os.path.join(self.folder, "log")
-        run([installed.bin + "/initdb", "-D", self.data, "-A", "trust", "-U", "postgres", "-E", encoding,
-             "--locale=" + locale, "--no-sync"], cwd=self.folder, **installed.user)
+        if standby_of:
+            command = standby_of.client("pg_basebackup", "-D", self.data, "-R", "-c", "fast", "--no-sync")
+        else:
+            command = [installed.bin + "/initdb", "-D", self.data, "-A", "trust", "-U", "postgres", "-E", encoding,
+                       "--locale=" + locale, "--no-sync"]
+        run(command, cwd=self.folder, **installed.user)
         with open(os.path.join(self.data, "postgresql.conf"), "a") as out:
             out.write("listen_addresses = ''\nunix_socket_directories = '%s'\nfsync = off\nmax_connections = 30\n"
                       % self.folder)
@@ -140,6 +145,12 @@ class Server:
                     raise Failed("the server doesn't answer: %s\n%s" % (failure, self.log_end()))
             time.sleep(0.1)
 
+    def crash(self):
+        """Ends the server at once, with all its processes, as a crash does."""
+        self.process.send_signal(signal.SIGQUIT)
+        self.process.wait(30)
+        self.process = None
+
     def stop(self):
         if self.process is None:
             return
@@ -168,6 +179,69 @@ class Server:
         """What the statements answer: rows by lines, columns by bars. Failed with what the server says."""
         arguments = ["-v", "VERBOSITY=verbose"] if verbose else []
         return run(self.psql(*arguments, database=database), text, env=ENVIRONMENT).rstrip("\n")
+
+
+class Spread:
+    """Servers that have the rows of tables between them, and a head that asks them. Each has a database `documents`."""
+
+    def __init__(self, installed, count, settings):
+        self.installed = installed
+        self.head = Server(installed, "head", settings)
+        self.servers = [Server(installed, "s%d" % i, settings) for i in range(count)]
+
+    def start(self):
+        for server in (self.head, *self.servers):
+            server.start()
+            server.sql("CREATE DATABASE documents")
+
+    def stop(self):
+        for server in (self.head, *self.servers):
+            server.stop()
+
+    def remove(self):
+        """Removes what the servers kept, so that others may be made."""
+        for server in (self.head, *self.servers):
+            shutil.rmtree(server.folder, ignore_errors=True)
+
+    def at_head(self, text):
+        return self.head.sql(text, database="documents")
+
+    def at(self, i, text):
+        return self.servers[i].sql(text, database="documents")
+
+
+class Session:
+    """A connection that stays open: a psql that is told statements one after the other."""
+
+    MARK = "-- that was it"
+
+    def __init__(self, server, database="postgres"):
+        self.process = subprocess.Popen(server.psql("-v", "ON_ERROR_STOP=0", database=database), text=True,
+                                        stdin=subprocess.PIPE, stdout=subprocess.PIPE, stderr=subprocess.STDOUT,
+                                        env=ENVIRONMENT)
+
+    def send(self, text):
+        self.process.stdin.write("%s;\n\\echo %s\n" % (text, self.MARK))
+        self.process.stdin.flush()
+
+    def answer(self):
+        """What was answered to what was sent, errors among it."""
+        lines = []
+        while True:
+            line = self.process.stdout.readline()
+            if line == "":
+                raise Failed("the session ended: " + "".join(lines))
+            if line == self.MARK + "\n":
+                return "".join(lines).rstrip("\n")
+            lines.append(line)
+
+    def ask(self, text):
+        self.send(text)
+        return self.answer()
+
+    def close(self):
+        self.process.kill()
+        self.process.communicate()
 
 
 ENVIRONMENT = dict(os.environ, PGCLIENTENCODING="UTF8", LC_ALL="C.UTF-8", PGOPTIONS="")
