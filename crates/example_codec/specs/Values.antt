@@ -108,8 +108,8 @@ pub data AreDecoded : List ℕ → List ℕ → Type 0 where
 
 -- The first frame is rejected as `decode` rejects it, or memory ran out for the line of its tree.
 abbrev pub DecodeLineRejects : List ℕ → FrameError → Type 0
-DecodeLineRejects bytes error = DecodeRejects bytes error
-    ⊎ ((error ≡ Json error.OutOfMemory) × (t : Tree) × (rest : List ℕ) × IsFrame bytes t rest)
+DecodeLineRejects bytes e = DecodeRejects bytes e
+    ⊎ ((e ≡ Json error.OutOfMemory) × (t : Tree) × (rest : List ℕ) × IsFrame bytes t rest)
 
 -- The bytes are frames with their lines, and more behind them, of which the first frame is rejected.
 pub record DecodeLinesRejects (bytes : List ℕ) (error : FrameError) : Type 0 where
