@@ -18,7 +18,7 @@ use Rattle.example_config.proofs.KeyEnds.{key_found, object_placed, same_bytes}
 use Rattle.example_config.specs.Config.{HasKeyEnd, IsConfig, IsConfigOf, IsConfigError, IsSettingError, key_of, setting_of}
 use Rattle.example_config.specs.declared.config.Config.{Config}
 use Rattle.example_config.specs.declared.config.ConfigError.{ConfigError}
-use Rattle.example_config.specs.declared.config.ConfigError.TheVariants as error
+use Rattle.example_config.specs.declared.config.ConfigError.TheVariants as config_error
 use Rattle.example_config.specs.declared.config.Setting.{Setting}
 
 -- ---- one more member put in
@@ -141,7 +141,7 @@ only_settings text read v (Err e) is one config = tt
 pub no_settings : (text : List ℕ) (read : JsonAst) (v : Vec Written Global) (r : Result Config ConfigError) → read ≡ ast.Object v → IsDocument extended text (ast_view read) → IsPlaced extended text (source_view read)
     → IfErr r (IsSettingError text v.items) → IfErr r (IsConfigError text)
 no_settings text read v (Ok c) is document placed told = tt
-no_settings text read v (Err (error.Wrong setting line column)) is document placed told = (
+no_settings text read v (Err (config_error.Wrong setting line column)) is document placed told = (
   ast_view read,
   document,
   written_members v.items,
@@ -156,6 +156,6 @@ no_settings text read v (Err (error.Wrong setting line column)) is document plac
     column_there = told.4;
   },
 )
-no_settings text read v (Err error.NoMemory) is document placed told = (ast_view read, document, written_members v.items, as_members read v is, told)
-no_settings text read v (Err (error.NoDocument e line column)) is document placed told = absurd told
-no_settings text read v (Err error.NoObject) is document placed told = absurd told
+no_settings text read v (Err config_error.NoMemory) is document placed told = (ast_view read, document, written_members v.items, as_members read v is, told)
+no_settings text read v (Err (config_error.NoDocument e line column)) is document placed told = absurd told
+no_settings text read v (Err config_error.NoObject) is document placed told = absurd told

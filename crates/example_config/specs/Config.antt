@@ -19,7 +19,7 @@ use Rattle.example_config.specs.declared.config.Config.{Config}
 use Rattle.example_config.specs.declared.config.Setting.{Setting}
 use Rattle.example_config.specs.declared.config.Setting.TheVariants.{Host, Port, Workers, Verbose}
 use Rattle.example_config.specs.declared.config.ConfigError.{ConfigError}
-use Rattle.example_config.specs.declared.config.ConfigError.TheVariants as error
+use Rattle.example_config.specs.declared.config.ConfigError.TheVariants as config_error
 
 -- the key of a setting
 abbrev pub key_of : Setting → List ℕ
@@ -98,23 +98,23 @@ GiveSettings ms = (host : List ℕ) × IsHost (setting_of Host ms) host × (port
 -- The error names a setting of the members that is wrong, and where its key ends, or there is no memory for the host,
 -- and none is wrong.
 abbrev pub IsSettingError : List ℕ → List Written → ConfigError → Type 0
-IsSettingError text members (error.Wrong setting line column) =
+IsSettingError text members (config_error.Wrong setting line column) =
     IsWrong setting (setting_of setting (written_members members))
     × (index : ℕ) × HasKeyEnd (source_members_view members) (key_of setting) index
     × (line ≡ line_at text index) × (column ≡ column_at text index)
-IsSettingError text members error.NoMemory = GiveSettings (written_members members)
+IsSettingError text members config_error.NoMemory = GiveSettings (written_members members)
 IsSettingError text members other = ⊥
 
 -- The text is no document, or one of no object, or a setting of its object is wrong, or none is and there is no memory
 -- for the host.
 abbrev pub IsConfigError : List ℕ → ConfigError → Type 0
-IsConfigError text (error.NoDocument e line column) =
+IsConfigError text (config_error.NoDocument e line column) =
     (e ≢ error.OutOfMemory → IsNoDocument extended text) × (e ≡ error.OutOfMemory → MayAllocate text)
     × Fails e (document_of extended text)
     × (line ≡ line_at text (shown_index text e)) × (column ≡ column_at text (shown_index text e))
-IsConfigError text error.NoObject = (t : Tree) × IsDocument extended text t × (as_object t ≡ None)
-IsConfigError text (error.Wrong setting line column) =
+IsConfigError text config_error.NoObject = (t : Tree) × IsDocument extended text t × (as_object t ≡ None)
+IsConfigError text (config_error.Wrong setting line column) =
     (t : Tree) × IsDocument extended text t × (ms : Members) × (as_object t ≡ Some ms)
     × IsWrong setting (setting_of setting ms) × EndsKey text setting line column
-IsConfigError text error.NoMemory =
+IsConfigError text config_error.NoMemory =
     (t : Tree) × IsDocument extended text t × (ms : Members) × (as_object t ≡ Some ms) × GiveSettings ms
