@@ -1,5 +1,6 @@
 /* Counts the heap that each function of the library asks for and holds, over documents of several kinds and sizes, and
- * compares both with bounds that are worked out from the document alone.
+ * compares both with bounds that are worked out from the document alone. Of the functions over sort keys it also lets
+ * each request for memory fail in turn: then they report it, and have written nothing.
  *
  * The linker puts the three functions below in the place of the C library's (--wrap). What counts is what was asked
  * for, not what the C library spends on it. A block that grows counts with its new size among what was asked for, and
@@ -33,6 +34,16 @@ void __real_free(void *block);
 /* What was asked for since the call began, what is held, and the most that was. */
 static size_t asked, held, most;
 
+/* How many requests are granted before the one that fails, and whether it came. Where it is negative, none fails. */
+static long granted = -1;
+static int failed;
+
+static int fails(void) {
+  if (granted < 0 || granted-- > 0) return 0;
+  failed = 1;
+  return 1;
+}
+
 /* Each block has its size in front. */
 #define FRONT 16
 
@@ -45,7 +56,7 @@ static void *counted(unsigned char *start, size_t size) {
   return start + FRONT;
 }
 
-void *__wrap_malloc(size_t size) { return counted(__real_malloc(size + FRONT), size); }
+void *__wrap_malloc(size_t size) { return fails() ? NULL : counted(__real_malloc(size + FRONT), size); }
 
 void __wrap_free(void *block) {
   size_t size;
@@ -58,6 +69,7 @@ void __wrap_free(void *block) {
 void *__wrap_realloc(void *block, size_t size) {
   size_t old;
   if (!block) return __wrap_malloc(size);
+  if (fails()) return NULL;
   memcpy(&old, (unsigned char *)block - FRONT, sizeof old);
   unsigned char *start = __real_realloc((unsigned char *)block - FRONT, size + FRONT);
   if (start) held -= old;
@@ -269,6 +281,142 @@ static void measure(enum kind kind, int count, const struct text *text, uint32_t
   __real_free(buffer);
 }
 
+/* Each function over sort keys. The first ones take no memory. */
+enum key_function {
+  KEY_CHECK,
+  KEY_COUNT,
+  KEY_NEXT,
+  KEY_MEMBER,
+  KEY_ITEM,
+  KEY_PART,
+  KEY_STRING,
+  KEY_CONTAINS,
+  KEY_ESCAPED_PART,
+  KEY_TEXT,
+  KEY_SET,
+  KEY_REMOVE,
+  KEY_PUT,
+  KEY_PUSH,
+  KEY_MERGE,
+  KEY_FUNCTIONS
+};
+
+#define TAKES_MEMORY KEY_ESCAPED_PART
+
+static const char *const key_functions[] = {
+    "vizhoniku_key_check", "vizhoniku_key_count", "vizhoniku_key_next", "vizhoniku_key_member", "vizhoniku_key_item",
+    "vizhoniku_key_part", "vizhoniku_key_string", "vizhoniku_key_contains", "vizhoniku_key_part with an escape",
+    "vizhoniku_key_text", "vizhoniku_key_set", "vizhoniku_key_remove", "vizhoniku_key_put", "vizhoniku_key_push",
+    "vizhoniku_key_merge",
+};
+
+/* The last item of an array or the last member of an object, of those that documents have. */
+#define PATH (const unsigned char *)"/0"
+#define NAME (const unsigned char *)"key0"
+
+/* Calls the function over the key. *size is the size of what it writes, 0 where it writes nothing. */
+static uint32_t call_over_key(enum key_function function, const struct text *key, unsigned char *buffer, size_t room,
+                              size_t *size) {
+  static const unsigned char null_key[] = {0xD3};
+  struct vizhoniku_key_cursor cursor;
+  struct vizhoniku_key_entry entry;
+  size_t offset, part_size;
+  uint32_t status;
+  *size = 0;
+  switch (function) {
+    case KEY_CHECK: return vizhoniku_key_check(key->bytes, key->size);
+    case KEY_COUNT: return vizhoniku_key_count(key->bytes, key->size, &part_size);
+    case KEY_NEXT:
+      status = vizhoniku_key_begin(key->bytes, key->size, &cursor);
+      while (status == VIZHONIKU_ACCEPTED) status = vizhoniku_key_next(key->bytes, key->size, &cursor, &entry);
+      return status;
+    case KEY_MEMBER: return vizhoniku_key_member(key->bytes, key->size, NAME, 4, &offset, &part_size);
+    case KEY_ITEM: return vizhoniku_key_item(key->bytes, key->size, -1, &offset, &part_size);
+    case KEY_PART: return vizhoniku_key_part(key->bytes, key->size, PATH, 2, &offset, &part_size);
+    case KEY_STRING:
+      if (vizhoniku_key_part(key->bytes, key->size, PATH, 2, &offset, &part_size) != VIZHONIKU_ACCEPTED)
+        return VIZHONIKU_NO_PART;
+      return vizhoniku_key_string(key->bytes + offset, part_size, buffer, room, size);
+    case KEY_CONTAINS: return vizhoniku_key_contains(key->bytes, key->size, null_key, sizeof null_key);
+    case KEY_ESCAPED_PART:
+      return vizhoniku_key_part(key->bytes, key->size, (const unsigned char *)"/~0/a~1b", 8, &offset, &part_size);
+    case KEY_TEXT: return vizhoniku_key_text(key->bytes, key->size, buffer, room, size);
+    case KEY_SET:
+      return vizhoniku_key_set(key->bytes, key->size, PATH, 2, null_key, sizeof null_key, 1, buffer, room, size);
+    case KEY_REMOVE: return vizhoniku_key_remove(key->bytes, key->size, PATH, 2, buffer, room, size);
+    case KEY_PUT:
+      return vizhoniku_key_put(key->bytes, key->size, NAME, 4, null_key, sizeof null_key, buffer, room, size);
+    case KEY_PUSH:
+      return vizhoniku_key_push(key->bytes, key->size, null_key, sizeof null_key, buffer, room, size);
+    default: return vizhoniku_key_merge(key->bytes, key->size, key->bytes, key->size, buffer, room, size);
+  }
+}
+
+static void fault_over_key(enum key_function function, enum kind kind, int count, const char *what) {
+  faults++;
+  printf("%s %s: %s, %d\n", key_functions[function], what, kinds[kind], count);
+}
+
+/* What the key of each function may hold at most: nothing, or what is written of it. A text is at most six times as
+ * long as its key, and the others twice. A path takes some bytes more. */
+static size_t bound_over_key(enum key_function function, const struct text *key, size_t written) {
+  if (function < TAKES_MEMORY) return 0;
+  if (function == KEY_ESCAPED_PART) return 512;
+  return 512 + 3 * key->size / 2 + ROOM(written);
+}
+
+/* Each function over one key, with room enough, and then with each request for memory failing in turn. */
+static void measure_over_key(enum kind kind, int count, const struct text *key) {
+  size_t room = 6 * key->size + 64, written, size;
+  unsigned char *buffer = __real_malloc(room);
+  if (!buffer) exit(2);
+  for (int i = 0; i < KEY_FUNCTIONS; i++) {
+    enum key_function function = (enum key_function)i;
+    asked = held = most = 0;
+    uint32_t status = call_over_key(function, key, buffer, room, &written);
+    size_t bound = bound_over_key(function, key, written);
+    calls++;
+    if (status != VIZHONIKU_ACCEPTED && status != VIZHONIKU_NO_PART && status != VIZHONIKU_NO_KEY &&
+        status != VIZHONIKU_TOO_DEEP)
+      fault_over_key(function, kind, count, "has another status");
+    if (held) fault_over_key(function, kind, count, "kept memory");
+    if (most > bound) fault_over_key(function, kind, count, "held more than its bound");
+    if (asked > 3 * bound) fault_over_key(function, kind, count, "asked for more than its bound");
+    int told = 0, met = 0;
+    for (long first = 0;; first++) {
+      memset(buffer, 0xAA, room < 64 ? room : 64);
+      granted = first;
+      failed = 0;
+      held = 0;
+      uint32_t other = call_over_key(function, key, buffer, room, &size);
+      granted = -1;
+      calls++;
+      if (held) fault_over_key(function, kind, count, "kept memory where some was missing");
+      if (!failed) break;
+      met = 1;
+      if (other == VIZHONIKU_OUT_OF_MEMORY) {
+        told = 1;
+        if (size || buffer[0] != 0xAA || buffer[1] != 0xAA)
+          fault_over_key(function, kind, count, "wrote where memory was missing");
+      } else if (other != status || size != written)
+        fault_over_key(function, kind, count, "has another result where memory was missing");
+    }
+    if (met && function < TAKES_MEMORY) fault_over_key(function, kind, count, "asked for memory");
+    if (met && !told) fault_over_key(function, kind, count, "never tells that memory was missing");
+  }
+  __real_free(buffer);
+}
+
+/* The sort key of a text. */
+static struct text key_of(const struct text *text) {
+  struct vizhoniku_refusal refusal;
+  struct text key = {__real_malloc(2 * text->size + 64), 0, 2 * text->size + 64};
+  if (!key.bytes || vizhoniku_sort_key(VIZHONIKU_STANDARD, text->bytes, text->size, key.bytes, key.room, &key.size,
+                                       &refusal) != VIZHONIKU_ACCEPTED)
+    exit(2);
+  return key;
+}
+
 int main(void) {
   static const int counts[] = {0, 1, 2, 3, 14, 70, 700, 7001, 70000};
   for (int kind = NUMBERS; kind < KINDS; kind++) {
@@ -276,6 +424,9 @@ int main(void) {
       if (kind >= DEEP_ARRAYS && counts[i] < 1) continue;
       struct text text = make((enum kind)kind, counts[i]);
       measure((enum kind)kind, counts[i], &text, VIZHONIKU_ACCEPTED);
+      struct text key = key_of(&text);
+      measure_over_key((enum kind)kind, counts[i], &key);
+      __real_free(key.bytes);
       add(&text, "?"); /* a byte too much */
       measure((enum kind)kind, counts[i], &text, VIZHONIKU_REFUSED);
       __real_free(text.bytes);

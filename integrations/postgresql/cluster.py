@@ -18,6 +18,11 @@ HERE = os.path.dirname(os.path.abspath(__file__))
 PG_CONFIG = os.environ.get("PG_CONFIG", "/usr/lib/postgresql/15/bin/pg_config")
 
 
+def version():
+    """The server's major version, as a word."""
+    return config("--version").split()[1].split(".")[0].rstrip("abcdefghijklmnopqrstuvwxyz")
+
+
 def missing():
     """What is missing, as the name of a package of Debian, or None."""
     for program, package in (("make", "make"), ("gcc", "gcc"), ("pkg-config", "pkg-config")):
@@ -26,9 +31,9 @@ def missing():
     if not os.path.exists(PG_CONFIG):
         return "postgresql-15"
     if not os.path.exists(os.path.join(config("--bindir"), "initdb")):
-        return "postgresql-15"
+        return "postgresql-" + version()
     if not os.path.exists(os.path.join(config("--includedir-server"), "postgres.h")):
-        return "postgresql-server-dev-15"
+        return "postgresql-server-dev-" + version()
     return None
 
 

@@ -281,7 +281,7 @@ change_document(Document *document, const Change *change, const Document *part)
  * Functions
  */
 
-static void pg_attribute_noreturn()
+vjson_noreturn static void
 raise_wrong_kind(const char *words)
 {
 	ereport(ERROR, (errcode(ERRCODE_INVALID_PARAMETER_VALUE), errmsg("%s", words)));

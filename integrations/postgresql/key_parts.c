@@ -511,7 +511,7 @@ vjson_contained(PG_FUNCTION_ARGS)
  * Casts of scalars
  */
 
-static void pg_attribute_noreturn()
+vjson_noreturn static void
 raise_cannot_cast(uint32 kind, const char *type)
 {
 	static const char *const names[] = {

@@ -42,10 +42,6 @@
 #include "key_text.h"
 #include "vjson.h"
 
-#if PG_VERSION_NUM / 10000 != 15
-#error "this extension is for PostgreSQL 15"
-#endif
-
 PG_MODULE_MAGIC;
 
 /* Room beyond the size of the text that is read; more is asked for if needed. */
@@ -214,7 +210,7 @@ column_in_characters(const char *text, size_t size, const struct vizhoniku_locat
 	return column;
 }
 
-static void pg_attribute_noreturn()
+vjson_noreturn static void
 raise_refusal(const char *words, const char *text, size_t size, const struct vizhoniku_refusal *refusal)
 {
 	struct vizhoniku_location place;
@@ -324,18 +320,58 @@ finish_value(char *result, size_t key_size, const char *text, size_t text_size)
 		pfree(zeros);
 }
 
+/* The size of a value that is its key alone. */
+static inline size_t
+size_of_key_alone(size_t key_size)
+{
+	size_t		size = VARHDRSZ + FORM_SIZE + key_size;
+
+	if (size > MaxAllocSize)
+		ereport(ERROR,
+				(errcode(ERRCODE_PROGRAM_LIMIT_EXCEEDED),
+				 errmsg("vjson value is too large"),
+				 errdetail("Its sort key of %zu bytes exceeds %zu bytes.", key_size, (size_t) MaxAllocSize)));
+	return size;
+}
+
 /*
- * Read the text in this mode, and make the value.  Answers the status of the
- * library; *value is set where it is VIZHONIKU_ACCEPTED.
+ * Make the value of a text of standard mode.  Its numbers are integers, so that
+ * its key alone has all of it.
  */
 static uint32
-make_value(uint32 mode, const char *text, size_t size, struct varlena **value, struct vizhoniku_refusal *refusal)
+make_standard_value(const char *text, size_t size, struct varlena **value, struct vizhoniku_refusal *refusal)
+{
+	size_t		key_room = size + SPARE_ROOM;
+
+	for (;;)
+	{
+		char	   *result = palloc_extended(VARHDRSZ + FORM_SIZE + key_room, MCXT_ALLOC_HUGE);
+		char	   *form = result + VARHDRSZ;
+		size_t		key_size;
+		uint32		status = vizhoniku_sort_key(VIZHONIKU_STANDARD, (const unsigned char *) text, size,
+												(unsigned char *) form + FORM_SIZE, key_room, &key_size, refusal);
+
+		if (status == VIZHONIKU_ACCEPTED)
+		{
+			*form = KEY_ALONE;
+			SET_VARSIZE(result, size_of_key_alone(key_size));
+			*value = (struct varlena *) result;
+			return status;
+		}
+		pfree(result);
+		if (status != VIZHONIKU_TOO_SHORT)
+			return status;
+		key_room = key_size;
+	}
+}
+
+/* Make the value of a text of extended mode. */
+static uint32
+make_extended_value(const char *text, size_t size, struct varlena **value, struct vizhoniku_refusal *refusal)
 {
 	size_t		key_room = size + SPARE_ROOM;
 	size_t		text_room = size + SPARE_ROOM;
 
-	CHECK_FOR_INTERRUPTS();
-	check_stack_room(text, size);
 	for (;;)
 	{
 		char	   *result = palloc_extended(VARHDRSZ + FORM_SIZE + key_room + KEY_SIZE_SIZE + text_room,
@@ -344,7 +380,7 @@ make_value(uint32 mode, const char *text, size_t size, struct varlena **value, s
 		char	   *written = key + key_room + KEY_SIZE_SIZE;
 		size_t		key_size;
 		size_t		text_size;
-		uint32		status = vizhoniku_text_and_key(mode, (const unsigned char *) text, size,
+		uint32		status = vizhoniku_text_and_key(VIZHONIKU_EXTENDED, (const unsigned char *) text, size,
 													(unsigned char *) written, text_room, &text_size,
 													(unsigned char *) key, key_room, &key_size, refusal);
 
@@ -369,13 +405,31 @@ make_value(uint32 mode, const char *text, size_t size, struct varlena **value, s
 }
 
 /*
+ * Read the text in this mode, and make the value.  Answers the status of the
+ * library; *value is set where it is VIZHONIKU_ACCEPTED.
+ */
+static uint32
+make_value(uint32 mode, const char *text, size_t size, struct varlena **value, struct vizhoniku_refusal *refusal)
+{
+	CHECK_FOR_INTERRUPTS();
+	check_stack_room(text, size);
+	if (mode == VIZHONIKU_STANDARD)
+		return make_standard_value(text, size, value, refusal);
+	return make_extended_value(text, size, value, refusal);
+}
+
+/*
  * Raise an error unless the text is JSON as the server's own type json takes
  * it.
  */
 static void
 check_json(const char *text, size_t size)
 {
+#if PG_VERSION_NUM >= 170000
+	JsonLexContext *lex = makeJsonLexContextCstringLen(NULL, text, size, PG_UTF8, false);
+#else
 	JsonLexContext *lex = makeJsonLexContextCstringLen(unconstify(char *, text), (int) size, PG_UTF8, false);
+#endif
 	JsonParseErrorType error = pg_parse_json(lex, &nullSemAction);
 
 	if (error != JSON_SUCCESS)
@@ -585,7 +639,7 @@ vjson_sort_key(PG_FUNCTION_ARGS)
  * The part at a path
  */
 
-static void pg_attribute_noreturn()
+vjson_noreturn static void
 raise_no_path(const char *path)
 {
 	ereport(ERROR,

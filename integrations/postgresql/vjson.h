@@ -8,6 +8,21 @@
 #ifndef VJSON_H
 #define VJSON_H
 
+#if PG_VERSION_NUM < 150000
+#error "this extension is for PostgreSQL 15 and later"
+#endif
+
+#if PG_VERSION_NUM >= 160000
+#include "varatt.h"
+#endif
+
+/* Before a function that raises an error. */
+#ifdef pg_noreturn
+#define vjson_noreturn pg_noreturn
+#else
+#define vjson_noreturn pg_attribute_noreturn()
+#endif
+
 #define KEY_ALONE		0
 #define KEY_AND_ZEROS	1
 #define KEY_AND_TEXT	2
@@ -32,9 +47,9 @@ typedef struct
 	size_t		size;
 } Range;
 
-extern void vjson_raise_corrupted(void) pg_attribute_noreturn();
-extern void vjson_raise_out_of_memory(size_t size) pg_attribute_noreturn();
-extern void vjson_raise_unexpected(uint32 status) pg_attribute_noreturn();
+vjson_noreturn extern void vjson_raise_corrupted(void);
+vjson_noreturn extern void vjson_raise_out_of_memory(size_t size);
+vjson_noreturn extern void vjson_raise_unexpected(uint32 status);
 
 /* The value of a text in UTF-8, which is JSON but for numbers that aren't carried. */
 extern struct varlena *vjson_of_text(const char *text, size_t size);

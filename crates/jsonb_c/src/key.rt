@@ -20,8 +20,8 @@ ghost use Rattle.jsonb_spec.specs.PartAt.{part_at};
 use crate::{ACCEPTED, NO_KEY, NO_PART, NO_PATH, OUT_OF_MEMORY, TOO_SHORT, put};
 use jsonb_pointer::read_keys;
 use jsonb_stored::{
-    Kind, NoKey, count_parts, find_item, find_member, find_part, is_sort_key, kind_of, next_part,
-    opened, plain_text, put_text, range_of, text_of_string, text_size,
+    Kind, NoKey, count_parts, find_item, find_member, find_part, find_plain_part, is_sort_key,
+    kind_of, next_part, opened, plain_text, put_text, range_of, text_of_string, text_size,
 };
 use std::alloc::Global;
 
@@ -167,6 +167,9 @@ pub extern "C" fn vizhoniku_key_part(
     ensures within { offset.new + size.new ≤ length key.now }
     ensures no_range { result ≢ ACCEPTED → (offset.new ≡ 0) × (size.new ≡ 0) }
 {
+    if let Some(found) = find_plain_part(key, path) {
+        return tell_range(key, found, offset, size);
+    }
     match read_keys(alloc, path) {
         Ok(Some(names)) => tell_range(key, find_part(key, &names), offset, size),
         Ok(None) => {

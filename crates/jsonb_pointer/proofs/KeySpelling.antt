@@ -48,7 +48,8 @@ from_escape (letter ∷ left) rest b e = by_tests (eqb letter 48) (eqb letter 49
         subst (λ n. 126 ∷ letter ∷ left ≡ spelled_byte n ++ rest) pair.0 (ap (λ n. 126 ∷ n ∷ left) (eqb-true letter 49 g) ∙ ap (λ l. 126 ∷ 49 ∷ l) pair.1)
     by_tests false false f g same = absurd (none_some (b, rest) same)
 
-itself : (b : ℕ) → eqb b 126 ≡ false → eqb b 47 ≡ false → spelled_byte b ≡ b ∷ []
+-- what isn't escaped is spelled as it is
+pub itself : (b : ℕ) → eqb b 126 ≡ false → eqb b 47 ≡ false → spelled_byte b ≡ b ∷ []
 itself b e f = (λ i. cond (e i) (126 ∷ 48 ∷ []) (cond (f i) (126 ∷ 49 ∷ []) (b ∷ [])))
 
 -- what is read as a byte is spelled so
@@ -63,7 +64,7 @@ from_byte (first ∷ left) rest b e = by_tests (eqb first 47) (eqb first 126) re
         let pair = some_pair first b left rest same in
         subst (λ n. first ∷ left ≡ spelled_byte n ++ rest) pair.0 (ap (λ l. first ∷ l) pair.1 ∙ sym (ap (λ l. l ++ rest) (itself first g f)))
 
-spelled_key-append : (xs ys : List ℕ) → spelled_key (xs ++ ys) ≡ spelled_key xs ++ spelled_key ys
+pub spelled_key-append : (xs ys : List ℕ) → spelled_key (xs ++ ys) ≡ spelled_key xs ++ spelled_key ys
 spelled_key-append [] ys = refl
 spelled_key-append (x ∷ xs) ys = ap (λ l. spelled_byte x ++ l) (spelled_key-append xs ys) ∙ sym (append_assoc (spelled_byte x) (spelled_key xs) (spelled_key ys))
 

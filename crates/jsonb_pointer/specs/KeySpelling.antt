@@ -1,7 +1,7 @@
 -- A path parsed from left to right.
 use Rattle.std.specs.Prelude.{◌≡◌, ℕ, List, [], ◌∷◌, ◌++◌, Option, Some, None, if◌then◌else◌, ◌==◌}
 use Rattle.jsonb_spec.specs.Ascii as ascii
-use Rattle.jsonb_pointer.specs.Path.{spelled_keys}
+use Rattle.jsonb_pointer.specs.Path.{spelled_key, spelled_keys}
 
 -- the byte that an escape stands for by what follows its `~`, and what is left
 abbrev pub escape_of : List ℕ → Option (ℕ × List ℕ)
@@ -23,3 +23,9 @@ pub record Reads (bytes : List ℕ) (keys : List (List ℕ)) (rest : List ℕ) :
   pub spelled : bytes ≡ spelled_keys keys ++ rest
   pub only : (others : List (List ℕ)) → bytes ≡ spelled_keys others
       → (more : List (List ℕ)) × (others ≡ keys ++ more) × (rest ≡ spelled_keys more)
+
+-- The bytes begin with a key that is spelled as it is, without an escape, and what is left begins with no byte of a key.
+pub record BeginsPlain (bytes key rest : List ℕ) : Type 0 where
+  pub whole : bytes ≡ key ++ rest
+  pub spelled : spelled_key key ≡ key
+  pub ended : byte_of rest ≡ None

@@ -1,8 +1,9 @@
 //! The keys of a path (RFC 6901): each after a slash, with `~0` for `~` and `~1` for `/`.
 
-ghost use Rattle.std.specs.Prelude.{◌≡◌, ◌<◌, ◌≤◌, ℕ, List, ◌++◌, length, map, string_bytes, option_map, None, IfOk, IfErr, IfSome, IfNone};
+ghost use Rattle.std.specs.Prelude.{◌≡◌, ◌<◌, ◌≤◌, ℕ, List, ◌++◌, ◌∷◌, length, take, drop, map, string_bytes, option_map, None, IfOk, IfErr, IfSome, IfNone};
+ghost use Rattle.jsonb_spec.specs.Ascii as ascii;
 ghost use Rattle.jsonb_pointer.specs.Path.{spelled_key, IsPath, StartsKey};
-ghost use Rattle.jsonb_pointer.specs.KeySpelling.{escape_of, byte_of};
+ghost use Rattle.jsonb_pointer.specs.KeySpelling.{escape_of, byte_of, BeginsPlain};
 
 use std::alloc::{AllocError, Global};
 
@@ -31,6 +32,43 @@ pub fn read_keys(alloc: Global, path: &[u8]) -> Result<Option<Vec<String>>, Allo
         rest = more;
     }
     Ok(Some(keys))
+}
+
+/// The first key of a path as it stands there, and what is left; `None` where the path doesn't begin with a key, or
+/// where an escape is in the key, or where the key isn't UTF-8.
+pub fn plain_key(path: &[u8]) -> Option<(&str, &[u8])>
+    ensures plain { IfSome result (λ r. (text : List ℕ) × (path.now ≡ ascii.slash ∷ text)
+        × BeginsPlain text r.0.now r.1.now) }
+    ensures shorter { IfSome result (λ r. length r.1.now < length path.now) }
+{
+    let (slash, text) = path.split_first()?;
+    if *slash != b'/' {
+        return None;
+    }
+    let len = plain_len(text)?;
+    let (key, rest) = text.split_at(len);
+    let key = str::from_utf8(key).ok()?;
+    Some((key, rest))
+}
+
+// How many bytes the text has before its first slash; `None` where a tilde is among them.
+fn plain_len(text: &[u8]) -> Option<usize>
+    ensures plain { IfSome result (λ len. BeginsPlain text.now (take len text.now) (drop len text.now)) }
+    ensures within { IfSome result (λ len. len ≤ length text.now) }
+{
+    let mut rest = text;
+    let mut len: usize = 0;
+    'bytes: while let Some((byte, others)) = rest.split_first() {
+        if *byte == b'/' {
+            return Some(len);
+        }
+        if *byte == b'~' {
+            return None;
+        }
+        rest = others;
+        len += 1;
+    }
+    Some(len)
 }
 
 // The key whose spelling the text begins with, up to what spells no byte of a key, and what is left.

@@ -6,5 +6,5 @@ pub mod part;
 
 pub use jsonb::part_at;
 pub use jsonb_write::part::index_of;
-pub use keys::read_keys;
+pub use keys::{plain_key, read_keys};
 pub use part::{PathError, get, part_text};

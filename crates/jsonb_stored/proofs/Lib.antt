@@ -7,6 +7,7 @@ pub mod Names
 pub mod Finds
 pub mod FirstZeros
 pub mod Standing
+pub mod PlainPaths
 pub mod Strings
 pub mod CheckedTexts
 pub mod Checks

@@ -381,7 +381,7 @@ pub path_begun : (key : List ℕ) (names : List (List ℕ)) → WalksPath key na
 path_begun key names = λ t r more e. record { inner = t; there = record { readable = r; before = []; inside = refl; behind = more; stands = e }; same = refl }
 
 -- a part of a part
-inside_of : (key part rest : List ℕ) (t u : Tree) → PartStands key part t → PartStands part rest u → PartStands key rest u
+pub inside_of : (key part rest : List ℕ) (t u : Tree) → PartStands key part t → PartStands part rest u → PartStands key rest u
 inside_of key part rest t u p q = record { readable = q.readable; before = p.before ++ q.before; inside = p.inside ∙ ap (λ l. p.before ++ l) q.inside ∙ sym (append_assoc p.before q.before rest); behind = q.behind; stands = q.stands }
 
 pub path_walked : (t : Tree) (names left others : List (List ℕ)) (name key part rest : List ℕ) (p : PathHere t names left key part) → left ≡ name ∷ others → SaysSome part rest (child_at name p.inner) → PathHere t names others key rest

@@ -1,9 +1,11 @@
 //! Parts of keys where they stand in the bytes, and how many parts there are.
 
-ghost use Rattle.std.specs.Prelude.{◌≡◌, ◌<◌, ◌≤◌, ◌+◌, ◌++◌, ◌∷◌, List, ℕ, length, map, string_bytes, IfOk, IfSome, MatchResult, Ok, Some};
+ghost use Rattle.std.specs.Prelude.{◌≡◌, ◌<◌, ◌≤◌, ◌+◌, ◌++◌, ◌∷◌, List, ℕ, length, map, string_bytes, IfOk, IfSome, MatchResult, Ok, Option, Some};
+ghost use Rattle.std.specs.Option.{option_and_then};
 ghost use Rattle.std.specs.Str.{bytes_eq};
 ghost use Rattle.std.specs.declared.cmp.Ordering.TheVariants.{Equal};
 ghost use Rattle.jsonb_key.specs.Readable.{IsReadable, IsAnyNumber};
+ghost use Rattle.jsonb_pointer.specs.Path.{IsPath};
 ghost use Rattle.jsonb_spec.specs.PartAt.{child_at, part_at};
 ghost use Rattle.jsonb_stored.specs.Found.{count_of, item_back, item_from, open_len, Finds, IsNext, IsRange, Opens, PartStands};
 ghost use Rattle.jsonb_stored.specs.Open.{Open, is_object, open_key, IsOpen, opening_byte};
@@ -19,7 +21,7 @@ use crate::part::is_over;
 use crate::skip::{after_key, after_name, after_text, opening};
 use crate::walk::kind_of;
 use jsonb_key::text::{read_byte, skip_pair};
-use jsonb_pointer::index_of;
+use jsonb_pointer::{index_of, plain_key};
 use std::cmp::Ordering;
 
 /// The bytes aren't the sort key of a value of JSON's kinds with at most 512 nested arrays and objects.
@@ -156,6 +158,41 @@ pub fn find_part<'k>(key: &'k [u8], names: &[String]) -> Result<Option<&'k [u8]>
         left = others;
     }
     Ok(Some(part))
+}
+
+/// The bytes from the part at a path on (RFC 6901), as `find_part` finds them, with nothing copied of the path; `None` in
+/// place of them where an escape is in a key of the path, or where the bytes aren't a path.
+pub fn find_plain_part<'k>(key: &'k [u8], path: &[u8]) -> Option<Result<Option<&'k [u8]>, NoKey>>
+    ensures path { IfSome result (λ _. (names : List (List ℕ)) × IsPath path.now names) }
+    ensures found { IfSome result (λ found. (t : Tree) → IsReadable t → (more : List ℕ) → key.now ≡ key_of t ++ more
+        → (names : List (List ℕ)) → IsPath path.now names → Finds key.now (part_at names t) found) }
+    ensures within { IfSome result (λ found. IfOk found (λ answer. IfSome answer
+        (λ rest. length rest.now ≤ length key.now))) }
+{
+    let mut found = Ok(Some(key));
+    let mut rest = path;
+    'names: while !rest.is_empty() {
+        let (name, others) = plain_key(rest)?;
+        found = child_of(found, name);
+        rest = others;
+    }
+    Some(found)
+}
+
+// What is found of the child of a part that was found.
+fn child_of<'k>(
+    found: Result<Option<&'k [u8]>, NoKey>,
+    name: &str,
+) -> Result<Option<&'k [u8]>, NoKey>
+    ensures found { (bytes : List ℕ) → (part : Option Tree) → Finds bytes part found.entry
+        → Finds bytes (option_and_then (child_at name.now) part) result }
+    ensures within { (size : ℕ) → IfOk found.entry (λ answer. IfSome answer (λ rest. length rest.now ≤ size))
+        → IfOk result (λ answer. IfSome answer (λ rest. length rest.now ≤ size)) }
+{
+    let Some(part) = found? else {
+        return Ok(None);
+    };
+    find_child(part, name)
 }
 
 // The bytes from the member of that name on, or from the item of that index on.

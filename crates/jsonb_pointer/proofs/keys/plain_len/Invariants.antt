@@ -1,0 +1,9 @@
+use Rattle.std.proofs.Common.{length}
+use Rattle.jsonb_pointer.proofs.PlainKeys.{PlainSoFar}
+use Rattle.jsonb_pointer.proofs.keys.plain_len.Given as goal
+
+abbrev pub invariant-bytes : goal.invariant-bytes
+invariant-bytes l = PlainSoFar l.text l.rest l.len
+
+abbrev pub decreases-bytes : goal.decreases-bytes
+decreases-bytes l = length l.rest
