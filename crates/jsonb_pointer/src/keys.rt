@@ -1,6 +1,6 @@
 //! The keys of a path (RFC 6901): each after a slash, with `~0` for `~` and `~1` for `/`.
 
-ghost use Rattle.std.specs.Prelude.{◌≡◌, ◌<◌, ◌≤◌, ℕ, List, ◌++◌, ◌∷◌, length, take, drop, map, string_bytes, option_map, None, IfOk, IfErr, IfSome, IfNone};
+ghost use Rattle.std.specs.Prelude.{◌≡◌, ◌<◌, ◌≤◌, ℕ, List, ◌++◌, ◌∷◌, length, take, drop, map, string_bytes, option_map, None, IfOk, IfErr, IfSome, IfNone, IsUtf8};
 ghost use Rattle.jsonb_spec.specs.Ascii as ascii;
 ghost use Rattle.jsonb_pointer.specs.Path.{spelled_key, IsPath, StartsKey};
 ghost use Rattle.jsonb_pointer.specs.KeySpelling.{escape_of, byte_of, BeginsPlain};
@@ -39,6 +39,7 @@ pub fn read_keys(alloc: Global, path: &[u8]) -> Result<Option<Vec<String>>, Allo
 pub fn plain_key(path: &[u8]) -> Option<(&str, &[u8])>
     ensures plain { IfSome result (λ r. (text : List ℕ) × (path.now ≡ ascii.slash ∷ text)
         × BeginsPlain text r.0.now r.1.now) }
+    ensures text { IfSome result (λ r. IsUtf8 r.0.now) }
     ensures shorter { IfSome result (λ r. length r.1.now < length path.now) }
 {
     let (slash, text) = path.split_first()?;

@@ -32,6 +32,10 @@ last_text : (names : List (List ℕ)) (name : List ℕ) → AllByRecursion IsUtf
 last_text [] name h text = (text, tt)
 last_text (n ∷ names) name h text = (h.0, last_text names name h.1 text)
 
+inside : (names : List (List ℕ)) (name : List ℕ) (child : Option Tree) → ((u : Tree) → part_at (names ++ name ∷ []) u ≡ option_and_then (child_at name) (part_at names u)) → option_and_then (part_at (names ++ name ∷ [])) child ≡ option_and_then (child_at name) (option_and_then (part_at names) child)
+inside names name None deeper = refl
+inside names name (Some u) deeper = deeper u
+
 -- the child of the part at the names so far
 last_name : (names : List (List ℕ)) (name : List ℕ) (t : Tree) → part_at (names ++ name ∷ []) t ≡ option_and_then (child_at name) (part_at names t)
 last_name [] name t = alone (child_at name t)
@@ -39,11 +43,7 @@ last_name [] name t = alone (child_at name t)
     alone : (child : Option Tree) → option_and_then (part_at []) child ≡ child
     alone None = refl
     alone (Some u) = refl
-last_name (n ∷ names) name t = inside (child_at n t)
-  where
-    inside : (child : Option Tree) → option_and_then (part_at (names ++ name ∷ [])) child ≡ option_and_then (child_at name) (option_and_then (part_at names) child)
-    inside None = refl
-    inside (Some u) = last_name names name u
+last_name (n ∷ names) name t = inside names name (child_at n t) (λ u. last_name names name u)
 
 pub plain_name_read : (path rest others key text name : List ℕ) (found next : Result (Option (Bor (List ℕ))) NoKey) → PathSoFar path rest key found → rest ≡ 47 ∷ text → BeginsPlain text name others → IsUtf8 name → ((bytes : List ℕ) → (part : Option Tree) → Finds bytes part found → Finds bytes (option_and_then (child_at name) part) next) → PathSoFar path others key next
 plain_name_read path rest others key text name found next p first plain is_text child = record {

@@ -1,0 +1,16 @@
+use Rattle.std.proofs.Common.{arith, eqb-true, length, sym}
+use Rattle.std.proofs.lemmas.List.{nil_from_length}
+use Rattle.jsonb_stored.proofs.PlainPaths.{plain_name_read, plain_path, plain_path_begun, plain_path_found}
+use Rattle.jsonb_stored.proofs.find.find_plain_part.Goals as goal
+
+pub names-init : goal.names-init
+names-init c = record { so_far = plain_path_begun c.args.path.now c.args.key; within = omega arith }
+
+pub names-preserved : goal.names-preserved
+names-preserved c = record {
+  so_far = plain_name_read c.args.path.now c.names.rest.now c.in_ok-name.others.now c.args.key.now c.in_ok-name.ensures.plain.0 c.in_ok-name.name.now c.names.found c.child_of-found.result c.names.invariant.so_far c.in_ok-name.ensures.plain.1 c.in_ok-name.ensures.plain.2 c.in_ok-name.ensures.text c.child_of-found.ensures.found;
+  within = c.child_of-found.ensures.within _ c.names.invariant.within;
+}
+
+pub returns-clause-found : goal.returns-clause-found
+returns-clause-found c = plain_path_found c.args.path.now c.names.rest.now c.args.key.now c.names.found c.names.invariant.so_far (nil_from_length c.names.rest.now (eqb-true (length c.names.rest.now) 0 (sym c.names-test.ensures)))
