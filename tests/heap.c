@@ -34,12 +34,18 @@ void __real_free(void *block);
 /* What was asked for since the call began, what is held, and the most that was. */
 static size_t asked, held, most;
 
-/* How many requests are granted before the one that fails, and whether it came. Where it is negative, none fails. */
+/* How many requests are granted before the one that fails, where it isn't negative; whether all behind that fail too; and
+ * whether one failed. */
 static long granted = -1;
-static int failed;
+static int lasting, failed;
 
 static int fails(void) {
-  if (granted < 0 || granted-- > 0) return 0;
+  if (granted < 0) return 0;
+  if (granted > 0) {
+    granted--;
+    return 0;
+  }
+  if (failed && !lasting) return 0;
   failed = 1;
   return 1;
 }
@@ -383,9 +389,10 @@ static void measure_over_key(enum kind kind, int count, const struct text *key) 
     if (most > bound) fault_over_key(function, kind, count, "held more than its bound");
     if (asked > 3 * bound) fault_over_key(function, kind, count, "asked for more than its bound");
     int told = 0, met = 0;
-    for (long first = 0;; first++) {
+    for (long run = 0;; run++) { /* each request fails alone, and with all behind it */
       memset(buffer, 0xAA, room < 64 ? room : 64);
-      granted = first;
+      granted = run / 2;
+      lasting = run % 2;
       failed = 0;
       held = 0;
       uint32_t other = call_over_key(function, key, buffer, room, &size);
@@ -403,6 +410,7 @@ static void measure_over_key(enum kind kind, int count, const struct text *key) 
     }
     if (met && function < TAKES_MEMORY) fault_over_key(function, kind, count, "asked for memory");
     if (met && !told) fault_over_key(function, kind, count, "never tells that memory was missing");
+    if (!met && written && function >= TAKES_MEMORY) fault_over_key(function, kind, count, "asked for no memory");
   }
   __real_free(buffer);
 }

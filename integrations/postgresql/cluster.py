@@ -7,6 +7,7 @@ runs as the user postgres.
 
 import os
 import pwd
+import re
 import shutil
 import signal
 import subprocess
@@ -19,8 +20,8 @@ PG_CONFIG = os.environ.get("PG_CONFIG", "/usr/lib/postgresql/15/bin/pg_config")
 
 
 def version():
-    """The server's major version, as a word."""
-    return config("--version").split()[1].split(".")[0].rstrip("abcdefghijklmnopqrstuvwxyz")
+    """The server's major version."""
+    return int(re.match("PostgreSQL ([0-9]+)", config("--version")).group(1))
 
 
 def missing():
@@ -31,9 +32,9 @@ def missing():
     if not os.path.exists(PG_CONFIG):
         return "postgresql-15"
     if not os.path.exists(os.path.join(config("--bindir"), "initdb")):
-        return "postgresql-" + version()
+        return "postgresql-%d" % version()
     if not os.path.exists(os.path.join(config("--includedir-server"), "postgres.h")):
-        return "postgresql-server-dev-" + version()
+        return "postgresql-server-dev-%d" % version()
     return None
 
 

@@ -524,18 +524,32 @@ raise_cannot_cast(uint32 kind, const char *type)
 			 errmsg("cannot cast vjson %s to type %s", names[kind], type)));
 }
 
-/* The number as a numeric, which keeps its zeros. */
+/*
+ * Whether a null becomes SQL's NULL in a cast, as that of jsonb does from
+ * version 18 of the server on.  Before that it can't be cast.
+ */
+static inline bool
+is_cast_to_null(uint32 kind)
+{
+	return PG_VERSION_NUM >= 180000 && kind == VIZHONIKU_NULL;
+}
+
+/* The number as a numeric, which keeps its zeros, and then as another type. */
 static Datum
-to_numeric(FunctionCallInfo fcinfo, const char *type)
+cast_number(FunctionCallInfo fcinfo, const char *type, PGFunction from_numeric)
 {
 	VjsonParts	parts;
 	Range		key = get_whole(PG_GETARG_VARLENA_PP(0), &parts);
 	uint32		kind = kind_of(key);
+	Datum		number;
 
+	if (is_cast_to_null(kind))
+		PG_RETURN_NULL();
 	if (kind != VIZHONIKU_NUMBER)
 		raise_cannot_cast(kind, type);
-	return DirectFunctionCall3(numeric_in, CStringGetDatum(vjson_server_text(&parts)), ObjectIdGetDatum(InvalidOid),
-							   Int32GetDatum(-1));
+	number = DirectFunctionCall3(numeric_in, CStringGetDatum(vjson_server_text(&parts)), ObjectIdGetDatum(InvalidOid),
+								 Int32GetDatum(-1));
+	return from_numeric ? DirectFunctionCall1(from_numeric, number) : number;
 }
 
 Datum
@@ -545,6 +559,8 @@ vjson_to_bool(PG_FUNCTION_ARGS)
 	Range		key = get_whole(PG_GETARG_VARLENA_PP(0), &parts);
 	uint32		kind = kind_of(key);
 
+	if (is_cast_to_null(kind))
+		PG_RETURN_NULL();
 	if (kind != VIZHONIKU_BOOLEAN)
 		raise_cannot_cast(kind, "boolean");
 	PG_RETURN_BOOL(key.at[0] == TRUE_KEY);
@@ -553,35 +569,35 @@ vjson_to_bool(PG_FUNCTION_ARGS)
 Datum
 vjson_to_numeric(PG_FUNCTION_ARGS)
 {
-	return to_numeric(fcinfo, "numeric");
+	return cast_number(fcinfo, "numeric", NULL);
 }
 
 Datum
 vjson_to_int2(PG_FUNCTION_ARGS)
 {
-	return DirectFunctionCall1(numeric_int2, to_numeric(fcinfo, "smallint"));
+	return cast_number(fcinfo, "smallint", numeric_int2);
 }
 
 Datum
 vjson_to_int4(PG_FUNCTION_ARGS)
 {
-	return DirectFunctionCall1(numeric_int4, to_numeric(fcinfo, "integer"));
+	return cast_number(fcinfo, "integer", numeric_int4);
 }
 
 Datum
 vjson_to_int8(PG_FUNCTION_ARGS)
 {
-	return DirectFunctionCall1(numeric_int8, to_numeric(fcinfo, "bigint"));
+	return cast_number(fcinfo, "bigint", numeric_int8);
 }
 
 Datum
 vjson_to_float4(PG_FUNCTION_ARGS)
 {
-	return DirectFunctionCall1(numeric_float4, to_numeric(fcinfo, "real"));
+	return cast_number(fcinfo, "real", numeric_float4);
 }
 
 Datum
 vjson_to_float8(PG_FUNCTION_ARGS)
 {
-	return DirectFunctionCall1(numeric_float8, to_numeric(fcinfo, "double precision"));
+	return cast_number(fcinfo, "double precision", numeric_float8);
 }
