@@ -1,4 +1,4 @@
-//! Tests of `jsonb_stored` and `stored_edit` over public calls.
+//! Tests of `jsonb_stored`, `stored_edit` and `stored_zeros` over public calls.
 #![tactic(auto)]
 
 #[cfg(test)]
@@ -7,3 +7,5 @@ mod check;
 mod contains;
 #[cfg(test)]
 mod edit;
+#[cfg(test)]
+mod zeros;

@@ -1,0 +1,11 @@
+pub mod Scanning
+pub mod NumberedTexts
+pub mod Decimals
+pub mod Sevens
+pub mod Finding
+pub mod Splitting
+pub mod Collecting
+pub mod Restoring
+pub mod Errors
+pub mod Counting
+pub mod Taking

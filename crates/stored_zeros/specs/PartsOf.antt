@@ -1,0 +1,53 @@
+-- Where the parts of a value stand in its key, and how many numbers come before them.
+use Rattle.std.specs.Prelude.{◌≡◌, ℕ, ◌+◌, ◌⊎◌, ◌&&◌, nat_lt, if◌then◌else◌, List, [], ◌∷◌, ◌++◌, length}
+use Rattle.jsonb_stored.specs.Open.{Open, items, members}
+use Rattle.jsonb_spec.specs.SortKey.{key_of, text_key}
+use Rattle.jsonb_spec.specs.SortKey.Kind as kind
+use Rattle.jsonb_spec.specs.Tree.{Tree, array, object, Trees, no_trees, more_trees, Members, no_members, more_members}
+use Rattle.stored_zeros.specs.Zeros.{counts_in, counts_in_items, counts_in_members}
+
+-- how many numbers a value has
+abbrev pub numbers_in : Tree → ℕ
+numbers_in t = length (counts_in t)
+
+-- one for the first byte of a number's key, and else none
+abbrev pub number_count : ℕ → ℕ
+number_count first = if nat_lt kind.true first && nat_lt first kind.string then 1 else 0
+
+-- The part is the value.
+abbrev pub IsWhole : Tree → List ℕ → ℕ → Tree → Type 0
+IsWhole t before numbers part = (before ≡ []) × (numbers ≡ 0) × (part ≡ t)
+
+abbrev mutual
+  -- The part stands in the value: these bytes of its key come before, and so many of its numbers.
+  pub StandsIn : Tree → List ℕ → ℕ → Tree → Type 0
+  StandsIn (array ts) before numbers part = IsWhole (array ts) before numbers part
+      ⊎ ((inner : List ℕ) × (before ≡ kind.array ∷ inner) × StandsInItems ts inner numbers part)
+  StandsIn (object ms) before numbers part = IsWhole (object ms) before numbers part
+      ⊎ ((inner : List ℕ) × (before ≡ kind.object ∷ inner) × StandsInMembers ms inner numbers part)
+  StandsIn t before numbers part = IsWhole t before numbers part
+
+  -- It stands in the first of these items, or in one behind that.
+  pub StandsInItems : Trees → List ℕ → ℕ → Tree → Type 0
+  StandsInItems no_trees before numbers part = ⊥
+  StandsInItems (more_trees t ts) before numbers part = StandsIn t before numbers part
+      ⊎ ((inner : List ℕ) × (fewer : ℕ) × (before ≡ key_of t ++ inner) × (numbers ≡ numbers_in t + fewer)
+      × StandsInItems ts inner fewer part)
+
+  -- It stands in the value of the first of these members, or in one behind that.
+  pub StandsInMembers : Members → List ℕ → ℕ → Tree → Type 0
+  StandsInMembers no_members before numbers part = ⊥
+  StandsInMembers (more_members key t ms) before numbers part =
+      ((inner : List ℕ) × (before ≡ text_key key ++ inner) × StandsIn t inner numbers part)
+      ⊎ ((inner : List ℕ) × (fewer : ℕ) × (before ≡ text_key key ++ (key_of t ++ inner))
+      × (numbers ≡ numbers_in t + fewer) × StandsInMembers ms inner fewer part)
+
+-- how many numbers are left of an array or an object
+abbrev pub numbers_open : Open → ℕ
+numbers_open (items ts) = length (counts_in_items ts)
+numbers_open (members ms) = length (counts_in_members ms)
+
+-- The part stands in what is left of it.
+abbrev pub StandsInOpen : Open → List ℕ → ℕ → Tree → Type 0
+StandsInOpen (items ts) before numbers part = StandsInItems ts before numbers part
+StandsInOpen (members ms) before numbers part = StandsInMembers ms before numbers part

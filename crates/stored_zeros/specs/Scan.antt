@@ -1,0 +1,62 @@
+-- Numbers in the bytes of texts, found from left to right.
+use Rattle.std.specs.Prelude.{◌≡◌, ⊤, ℕ, zero, suc, ◌+◌, ◌==◌, nat_lt, Bool, true, false, ◌&&◌, ◌||◌, if◌then◌else◌, List, [], ◌∷◌, replicate, Option, Some, None, option_and_then}
+use Rattle.jsonb_spec.specs.Ascii as ascii
+
+-- a minus, a point or a digit
+abbrev pub is_number_byte : ℕ → Bool
+is_number_byte byte = byte == ascii.minus || (byte == ascii.point || (nat_lt 47 byte && nat_lt byte ascii.colon))
+
+abbrev mutual
+  -- the bytes from the next number on, or none; nothing where a string doesn't end
+  pub from_number : List ℕ → Option (List ℕ)
+  from_number [] = Some []
+  from_number (byte ∷ bytes) = if byte == ascii.quote then from_number_behind bytes
+      else (if is_number_byte byte then Some (byte ∷ bytes) else from_number bytes)
+
+  -- those from the next number behind the string on, inside of which the bytes begin
+  pub from_number_behind : List ℕ → Option (List ℕ)
+  from_number_behind [] = None
+  from_number_behind (byte ∷ bytes) = if byte == ascii.quote then from_number bytes
+      else (if byte == ascii.backslash then behind_escaped bytes else from_number_behind bytes)
+
+  -- those behind a byte of the string, whatever it is
+  pub behind_escaped : List ℕ → Option (List ℕ)
+  behind_escaped [] = None
+  behind_escaped (byte ∷ bytes) = from_number_behind bytes
+
+-- A number stands first, or nothing.
+abbrev pub BeginsNumber : List ℕ → Type 0
+BeginsNumber [] = ⊤
+BeginsNumber (byte ∷ bytes) = is_number_byte byte ≡ true
+
+-- how many zeros end the digits behind a point with one more byte
+abbrev pub zeros_with : Bool → ℕ → ℕ → ℕ
+zeros_with pointed zeros byte = if pointed && byte == ascii.digit_zero then zeros + 1 else 0
+
+-- whether a number has a point, how many zeros end its digits behind that, and the bytes after it
+abbrev pub ending_of : Bool → ℕ → List ℕ → Bool × (ℕ × List ℕ)
+ending_of pointed zeros [] = (pointed, (zeros, []))
+ending_of pointed zeros (byte ∷ bytes) =
+    if is_number_byte byte then ending_of (pointed || byte == ascii.point) (zeros_with pointed zeros byte) bytes
+    else (pointed, (zeros, byte ∷ bytes))
+
+-- so many zeros at the end of a number, behind its point
+abbrev pub ending_text : Bool → ℕ → List ℕ
+ending_text true count = replicate count ascii.digit_zero
+ending_text false count = ascii.point ∷ replicate count ascii.digit_zero
+
+-- whether the number that the bytes begin with has a point, and the bytes behind it; nothing where there is none
+abbrev pub behind_number : Option (List ℕ) → Option (Bool × List ℕ)
+behind_number None = None
+behind_number (Some []) = None
+behind_number (Some (byte ∷ bytes)) =
+    Some ((ending_of false 0 (byte ∷ bytes)).0, (ending_of false 0 (byte ∷ bytes)).1.1)
+
+-- of the next number
+abbrev pub next_number : List ℕ → Option (Bool × List ℕ)
+next_number text = behind_number (from_number text)
+
+-- of the number before which so many come
+abbrev pub after_numbers : ℕ → List ℕ → Option (Bool × List ℕ)
+after_numbers zero text = next_number text
+after_numbers (suc before) text = option_and_then (λ next. after_numbers before next.1) (next_number text)

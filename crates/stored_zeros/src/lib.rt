@@ -1,0 +1,16 @@
+//! The zeros that end the decimals of a value, beside its sort key: from its text, put into its text, and of parts of it.
+#![tactic(auto)]
+
+mod count;
+mod entry;
+pub mod error;
+mod numbers;
+mod restore;
+mod scan;
+mod write;
+
+pub use count::count_numbers;
+pub use error::ZerosError;
+pub use numbers::write_zeros_of_numbers;
+pub use restore::write_text_with_zeros;
+pub use write::write_zeros_of_text;
