@@ -20,14 +20,15 @@ VERSION = $(shell sed -n 's/^\#define VIZHONIKU_VERSION_STRING "\(.*\)"/\1/p' in
 # The functions that take bytes: packaging/empty.c stands before the proved ones.
 WITH_BYTES = check text part sort_key text_and_key key_text compare place message key_check key_kind key_count \
     key_member key_item key_part key_begin key_next key_string key_name key_contains key_set key_remove key_put \
-    key_push key_merge
+    key_push key_merge key_numbers zeros_of_text zeros_of_numbers text_with_zeros
 
 # What is proved, as one object.
 PROVED ?= build/proved.o
 
 # Of the kit's archives only that of malloc, realloc and free is called.
 KIT = $(shell dirname "$$(rt doc)")
-CRATES = jsonb_spec jsonb_value jsonb_scan jsonb_write jsonb jsonb_pointer jsonb_key jsonb_stored stored_text stored_edit jsonb_c
+CRATES = jsonb_spec jsonb_value jsonb_scan jsonb_write jsonb jsonb_pointer jsonb_key jsonb_stored stored_text stored_zeros stored_edit \
+    jsonb_c
 SOURCES := crates.txt $(shell find $(CRATES:%=crates/%) -name out -prune -o \( -name '*.rt' -o -name '*.antt' \) -print)
 BUILT = crates/jsonb_c/out/libjsonb_c.a
 

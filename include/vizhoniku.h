@@ -7,8 +7,8 @@
  *
  * What a caller owes:
  *  - No pointer is null, but that of a text, a path, a name, a key or a buffer of size 0, which isn't dereferenced.
- *  - What a call writes to (buffer, size, order, refusal, place, offset, count, cursor, entry) doesn't overlap any
- *    other argument.
+ *  - What a call writes to (buffer, size, order, refusal, place, offset, count, cursor, entry, before, numbers, plain)
+ *    doesn't overlap any other argument.
  *  - No text, no key and no buffer is longer than PTRDIFF_MAX bytes.
  *  - The thread has 112 KB of stack free, where input is untrusted: no call was seen to take more, and
  *    vizhoniku_check and vizhoniku_message take no more than 32 KB. docs/C.md has figures. A thread of musl has 128 KB
@@ -33,7 +33,7 @@ extern "C" {
 
 /* The version of this interface. It grows where a function, a status or a code is added. vizhoniku_version returns that
  * of the library. */
-#define VIZHONIKU_VERSION 4
+#define VIZHONIKU_VERSION 5
 
 uint32_t vizhoniku_version(void);
 
@@ -53,7 +53,8 @@ enum vizhoniku_status {
   VIZHONIKU_NO_PART = 5,       /* the document or the key has no such part */
   VIZHONIKU_NO_PATH = 6,       /* the path isn't a JSON Pointer (RFC 6901) */
   VIZHONIKU_NO_KEY = 7,        /* the bytes aren't the sort key of a value */
-  VIZHONIKU_TOO_DEEP = 8       /* the value would have more than 512 nested arrays and objects */
+  VIZHONIKU_TOO_DEEP = 8,      /* the value would have more than 512 nested arrays and objects */
+  VIZHONIKU_NO_ZEROS = 9       /* the bytes aren't the text of a value, or not the zeros of one */
 };
 
 /* What is wrong with a text. docs/GRAMMAR.md says when, and which byte the position means. */
@@ -214,7 +215,8 @@ uint32_t vizhoniku_key_member(const unsigned char *key, size_t key_size, const u
 uint32_t vizhoniku_key_item(const unsigned char *key, size_t key_size, int64_t index, size_t *offset, size_t *size);
 
 /* Finds the part at the path, a JSON Pointer (RFC 6901), as vizhoniku_part does in a text. VIZHONIKU_NO_PART,
- * VIZHONIKU_NO_PATH and VIZHONIKU_OUT_OF_MEMORY are as there; memory is taken for the names of the path alone. */
+ * VIZHONIKU_NO_PATH and VIZHONIKU_OUT_OF_MEMORY are as there; memory is taken for the names of a path with an escape
+ * alone. */
 uint32_t vizhoniku_key_part(const unsigned char *key, size_t key_size, const unsigned char *path, size_t path_size,
                             size_t *offset, size_t *size);
 
@@ -310,6 +312,41 @@ uint32_t vizhoniku_key_push(const unsigned char *key, size_t key_size, const uns
  * status is neither VIZHONIKU_NO_PART nor VIZHONIKU_NO_PATH. */
 uint32_t vizhoniku_key_merge(const unsigned char *left, size_t left_size, const unsigned char *right, size_t right_size,
                              unsigned char *buffer, size_t buffer_size, size_t *size);
+
+/* The zeros that end decimals. A sort key has all of a value but them: 1.5 and 1.50 have one key. Stored beside the key
+ * they give the text of the value again:
+ *
+ *  - vizhoniku_zeros_of_text writes the zeros of a value from its text, as vizhoniku_text wrote that. A text without a
+ *    point has none.
+ *  - vizhoniku_text_with_zeros writes the text, from the one that vizhoniku_key_text writes of the key, and the zeros.
+ *
+ * Of each number with such zeros, in the order of the text, they have: how many numbers without any come before it, since
+ * the last with some, seven bits in a byte, the lowest first, with the highest bit where more follow; and how many zeros
+ * there are, in one byte. So those of a text are never longer than it.
+ *
+ *  - VIZHONIKU_ACCEPTED: *size bytes were written. The rest of the buffer is as before.
+ *  - VIZHONIKU_TOO_SHORT: *size bytes are needed, and nothing was written.
+ *  - VIZHONIKU_NO_ZEROS: the bytes aren't the text of a value, or not the zeros of one with this text. *size is 0, and
+ *    nothing was written. Not all such bytes are told so: of others any bytes may be written.
+ *  - VIZHONIKU_OUT_OF_MEMORY: *size is 0, and nothing was written. */
+uint32_t vizhoniku_zeros_of_text(const unsigned char *text, size_t text_size, unsigned char *buffer, size_t buffer_size,
+                                 size_t *size);
+
+uint32_t vizhoniku_text_with_zeros(const unsigned char *text, size_t text_size, const unsigned char *zeros,
+                                   size_t zeros_size, unsigned char *buffer, size_t buffer_size, size_t *size);
+
+/* Counts the numbers of a part of a value, and those before it in the value, from the value's key and the range in it
+ * that is the part's key, as the calls above tell it. VIZHONIKU_NO_KEY: no part was found there; both are 0. */
+uint32_t vizhoniku_key_numbers(const unsigned char *key, size_t key_size, size_t offset, size_t size, size_t *before,
+                               size_t *numbers);
+
+/* Writes the zeros of some of a value's numbers: of so many from the first on, whose own index is 0. With 0 in *plain
+ * these are the zeros of a part, with what vizhoniku_key_numbers tells. To put together the zeros of several parts, each
+ * is written behind those before it; *plain says how many numbers without zeros stand at their end, and is changed to
+ * how many do then. The statuses are as above, and *plain changes with VIZHONIKU_ACCEPTED alone. VIZHONIKU_NO_ZEROS: the
+ * bytes aren't the zeros of so many numbers. */
+uint32_t vizhoniku_zeros_of_numbers(const unsigned char *zeros, size_t zeros_size, size_t first, size_t numbers,
+                                    size_t *plain, unsigned char *buffer, size_t buffer_size, size_t *size);
 
 #ifdef __cplusplus
 }

@@ -297,6 +297,7 @@ enum key_function {
   KEY_PART,
   KEY_STRING,
   KEY_CONTAINS,
+  KEY_NUMBERS,
   KEY_ESCAPED_PART,
   KEY_TEXT,
   KEY_SET,
@@ -311,8 +312,8 @@ enum key_function {
 
 static const char *const key_functions[] = {
     "vizhoniku_key_check", "vizhoniku_key_count", "vizhoniku_key_next", "vizhoniku_key_member", "vizhoniku_key_item",
-    "vizhoniku_key_part", "vizhoniku_key_string", "vizhoniku_key_contains", "vizhoniku_key_part with an escape",
-    "vizhoniku_key_text", "vizhoniku_key_set", "vizhoniku_key_remove", "vizhoniku_key_put", "vizhoniku_key_push",
+    "vizhoniku_key_part", "vizhoniku_key_string", "vizhoniku_key_contains", "vizhoniku_key_numbers",
+    "vizhoniku_key_part with an escape", "vizhoniku_key_text", "vizhoniku_key_set", "vizhoniku_key_remove", "vizhoniku_key_put", "vizhoniku_key_push",
     "vizhoniku_key_merge",
 };
 
@@ -344,6 +345,7 @@ static uint32_t call_over_key(enum key_function function, const struct text *key
         return VIZHONIKU_NO_PART;
       return vizhoniku_key_string(key->bytes + offset, part_size, buffer, room, size);
     case KEY_CONTAINS: return vizhoniku_key_contains(key->bytes, key->size, null_key, sizeof null_key);
+    case KEY_NUMBERS: return vizhoniku_key_numbers(key->bytes, key->size, 0, key->size, &offset, &part_size);
     case KEY_ESCAPED_PART:
       return vizhoniku_key_part(key->bytes, key->size, (const unsigned char *)"/~0/a~1b", 8, &offset, &part_size);
     case KEY_TEXT: return vizhoniku_key_text(key->bytes, key->size, buffer, room, size);

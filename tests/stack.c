@@ -189,13 +189,14 @@ static struct text make(const struct shape *shape) {
 /* Each function of the library that reads a text, and then those that read a sort key, by a number. */
 enum function {
   CHECK, TEXT, SORT_KEY, TEXT_AND_KEY, PART, COMPARE, MESSAGE, KEY_CHECK, KEY_TEXT, KEY_PART, KEY_COUNT,
-  KEY_CONTAINS, KEY_SET, KEY_REMOVE, KEY_MERGE, FUNCTIONS
+  KEY_CONTAINS, KEY_SET, KEY_REMOVE, KEY_MERGE, KEY_NUMBERS, ZEROS, TEXT_WITH_ZEROS, FUNCTIONS
 };
 
 static const char *const functions[] = {
     "vizhoniku_check", "vizhoniku_text", "vizhoniku_sort_key", "vizhoniku_text_and_key", "vizhoniku_part",
     "vizhoniku_compare", "vizhoniku_message", "vizhoniku_key_check", "vizhoniku_key_text", "vizhoniku_key_part",
     "vizhoniku_key_count", "vizhoniku_key_contains", "vizhoniku_key_set", "vizhoniku_key_remove", "vizhoniku_key_merge",
+    "vizhoniku_key_numbers", "vizhoniku_zeros_of_text", "vizhoniku_text_with_zeros",
 };
 
 struct call {
@@ -256,6 +257,13 @@ static void *run(void *given) {
     case KEY_MERGE:
       call->status = vizhoniku_key_merge(call->key, call->key_size, call->key, call->key_size, call->buffer, call->room,
                                          &size);
+      break;
+    case KEY_NUMBERS:
+      call->status = vizhoniku_key_numbers(call->key, call->key_size, 0, call->key_size, &size, &key_size);
+      break;
+    case ZEROS: call->status = vizhoniku_zeros_of_text(bytes, text_size, call->buffer, call->room, &size); break;
+    case TEXT_WITH_ZEROS:
+      call->status = vizhoniku_text_with_zeros(bytes, text_size, NULL, 0, call->buffer, call->room, &size);
       break;
     default: call->status = vizhoniku_message(call->mode, bytes, text_size, call->buffer, call->room, &size); break;
   }

@@ -53,6 +53,7 @@ static uint32_t call(int which, uint32_t mode, const unsigned char *text, size_t
   static const unsigned char path[] = {'/', 'c', '/', 'k'};
   static const unsigned char key[] = {0xD2, 0xD0, 'a', '\n', 0, 1, 0xA1, 0x1E, 0xD1, 0, 0, 0};
   static const unsigned char object_key[] = {0xD1, 'c', 0, 1, 0xD1, 'k', 0, 1, 0xD3, 0, 0, 0, 0};
+  static const unsigned char decimals[] = "[1.50,2,4.000,5.0]", shortest[] = "[1.5,2,4,5]", zeros[] = {0, 1, 1, 3, 0, 1};
   unsigned char buffer[400], key_buffer[400];
   struct vizhoniku_refusal refusal;
   size_t size, key_size;
@@ -72,6 +73,12 @@ static uint32_t call(int which, uint32_t mode, const unsigned char *text, size_t
     case 9: return vizhoniku_key_remove(object_key, sizeof object_key, path, sizeof path, buffer, room, &size);
     case 10: return vizhoniku_key_merge(object_key, sizeof object_key, key, sizeof key, buffer, room, &size);
     case 12: return vizhoniku_key_put(object_key, sizeof object_key, path, 2, key, sizeof key, buffer, room, &size);
+    case 14: return vizhoniku_zeros_of_text(decimals, sizeof decimals - 1, buffer, room, &size);
+    case 15:
+      return vizhoniku_text_with_zeros(shortest, sizeof shortest - 1, zeros, sizeof zeros, buffer, room, &size);
+    case 16:
+      size = 0;
+      return vizhoniku_zeros_of_numbers(zeros, sizeof zeros, 0, 3, &size, buffer, room, &key_size);
     case 13: return vizhoniku_key_push(key, sizeof key, key, sizeof key, buffer, room, &size);
     case 11:
       return vizhoniku_key_merge(object_key, sizeof object_key, object_key, sizeof object_key, buffer, room, &size);
@@ -81,11 +88,11 @@ static uint32_t call(int which, uint32_t mode, const unsigned char *text, size_t
 
 int main(void) {
   long kept = 0, wrong = 0;
-  for (size_t i = 0; i < 2 * 2 * 15 * (sizeof texts / sizeof *texts); i++) {
-    const unsigned char *text = (const unsigned char *)texts[i / 60];
-    size_t text_size = strlen(texts[i / 60]), room = i % 2 ? 400 : 3;
-    int which = (int)(i / 2 % 15);
-    uint32_t mode = (uint32_t)(i / 30 % 2), whole = 0;
+  for (size_t i = 0; i < 2 * 2 * 18 * (sizeof texts / sizeof *texts); i++) {
+    const unsigned char *text = (const unsigned char *)texts[i / 72];
+    size_t text_size = strlen(texts[i / 72]), room = i % 2 ? 400 : 3;
+    int which = (int)(i / 2 % 18);
+    uint32_t mode = (uint32_t)(i / 36 % 2), whole = 0;
     for (refused = -1; refused < 0 || asked >= refused; refused++) {
       long before = held;
       asked = 0;

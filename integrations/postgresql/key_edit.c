@@ -152,11 +152,11 @@ change_key(Range key, const Change *change, Range *changed)
  * Zeros
  */
 
-static uint64
+static size_t
 count_numbers(Range key)
 {
-	uint64		before;
-	uint64		numbers;
+	size_t		before;
+	size_t		numbers;
 
 	if (!key_numbers(key.at, key.size, 0, key.size, &before, &numbers))
 		vjson_raise_corrupted();
@@ -164,7 +164,7 @@ count_numbers(Range key)
 }
 
 static void
-append_zeros(KeyZeros *zeros, const Document *document, uint64 first, uint64 numbers)
+append_zeros(KeyZeros *zeros, const Document *document, size_t first, size_t numbers)
 {
 	if (!key_zeros_append(zeros, document->zeros.at, document->zeros.size, first, numbers))
 		vjson_raise_corrupted();
@@ -175,12 +175,12 @@ append_zeros(KeyZeros *zeros, const Document *document, uint64 first, uint64 num
  * The place is where two answers differ that have null and true there.
  */
 static void
-count_kept(Range key, const Change *change, uint64 *before, uint64 *after)
+count_kept(Range key, const Change *change, size_t *before, size_t *after)
 {
 	Change		mark = {SET, change->path, {NULL_KEY, 1}, change->what == SET && change->create};
 	Range		one;
 	Range		other;
-	uint64		none;
+	size_t		none;
 	size_t		place = 0;
 
 	if (!change_key(key, &mark, &one))
@@ -201,8 +201,8 @@ merge_members(KeyZeros *zeros, const Document *left, const Document *right)
 {
 	Walk		ours;
 	Walk		theirs;
-	uint64		left_first = 0;
-	uint64		right_first = 0;
+	size_t		left_first = 0;
+	size_t		right_first = 0;
 	bool		has_ours;
 	bool		has_theirs;
 
@@ -217,7 +217,7 @@ merge_members(KeyZeros *zeros, const Document *left, const Document *right)
 
 		if (order <= 0)
 		{
-			uint64		numbers = count_numbers(ours.value);
+			size_t		numbers = count_numbers(ours.value);
 
 			if (order < 0)
 				append_zeros(zeros, left, left_first, numbers);
@@ -226,7 +226,7 @@ merge_members(KeyZeros *zeros, const Document *left, const Document *right)
 		}
 		if (order >= 0)
 		{
-			uint64		numbers = count_numbers(theirs.value);
+			size_t		numbers = count_numbers(theirs.value);
 
 			append_zeros(zeros, right, right_first, numbers);
 			right_first += numbers;
@@ -240,9 +240,9 @@ zeros_of_change(const Document *document, const Change *change, const Document *
 {
 	KeyZeros	zeros = {0};
 	Range		result;
-	uint64		total = count_numbers(document->key);
-	uint64		before;
-	uint64		after;
+	size_t		total = count_numbers(document->key);
+	size_t		before;
+	size_t		after;
 
 	if (change->what == MERGE && kind_of(document->key) == VIZHONIKU_OBJECT && kind_of(part->key) == VIZHONIKU_OBJECT)
 		merge_members(&zeros, document, part);

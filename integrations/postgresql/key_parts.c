@@ -88,7 +88,7 @@ text_of_string(Range key, bool is_name)
  * The zeros of its numbers are among those of the whole.
  */
 static struct varlena *
-make_part(const VjsonParts *whole, Range part, uint64 numbers_before, uint64 numbers)
+make_part(const VjsonParts *whole, Range part, size_t numbers_before, size_t numbers)
 {
 	size_t		zeros_room = whole->form == KEY_AND_ZEROS ? whole->rest_size : 0;
 	struct varlena *result = (struct varlena *) palloc(VARHDRSZ + FORM_SIZE + KEY_SIZE_SIZE + part.size + zeros_room);
@@ -117,7 +117,7 @@ make_part(const VjsonParts *whole, Range part, uint64 numbers_before, uint64 num
 
 /* The text of a part, as make_part has it as a value: a string without its quotes, and NULL where it is null. */
 static text *
-make_text(const VjsonParts *whole, Range part, uint64 numbers_before, uint64 numbers)
+make_text(const VjsonParts *whole, Range part, size_t numbers_before, size_t numbers)
 {
 	VjsonParts	parts = {KEY_ALONE, part.at, part.size, NULL, 0};
 
@@ -136,7 +136,7 @@ make_text(const VjsonParts *whole, Range part, uint64 numbers_before, uint64 num
 
 /* How many numbers stand before the part, and in it, where the whole has zeros of numbers; else 0. */
 static void
-count_numbers(const VjsonParts *whole, Range part, uint64 *before, uint64 *numbers)
+count_numbers(const VjsonParts *whole, Range part, size_t *before, size_t *numbers)
 {
 	*before = *numbers = 0;
 	if (whole->form == KEY_AND_ZEROS &&
@@ -147,8 +147,8 @@ count_numbers(const VjsonParts *whole, Range part, uint64 *before, uint64 *numbe
 struct varlena *
 vjson_part(const VjsonParts *whole, Range part)
 {
-	uint64		before;
-	uint64		numbers;
+	size_t		before;
+	size_t		numbers;
 
 	count_numbers(whole, part, &before, &numbers);
 	return make_part(whole, part, before, numbers);
@@ -157,8 +157,8 @@ vjson_part(const VjsonParts *whole, Range part)
 text *
 vjson_part_text(const VjsonParts *whole, Range part)
 {
-	uint64		before;
-	uint64		numbers;
+	size_t		before;
+	size_t		numbers;
 
 	count_numbers(whole, part, &before, &numbers);
 	return make_text(whole, part, before, numbers);
@@ -365,8 +365,8 @@ put_parts(FunctionCallInfo fcinfo, const VjsonParts *whole, Range key, int colum
 	ReturnSetInfo *set = (ReturnSetInfo *) fcinfo->resultinfo;
 	MemoryContext rows = AllocSetContextCreate(CurrentMemoryContext, "parts of a vjson", ALLOCSET_DEFAULT_SIZES);
 	MemoryContext caller = MemoryContextSwitchTo(rows);
-	uint64		before = 0;
-	uint64		numbers = 0;
+	size_t		before = 0;
+	size_t		numbers = 0;
 	Walk		walk;
 
 	begin_walk(&walk, key);
@@ -381,7 +381,7 @@ put_parts(FunctionCallInfo fcinfo, const VjsonParts *whole, Range key, int colum
 			values[column++] = PointerGetDatum(text_of_string(walk.name, true));
 		if (columns & (VALUES | TEXTS))
 		{
-			uint64		none;
+			size_t		none;
 
 			if (whole->form == KEY_AND_ZEROS &&
 				!key_numbers(walk.value.at, walk.value.size, 0, walk.value.size, &none, &numbers))

@@ -1,29 +1,26 @@
 /*-------------------------------------------------------------------------
  *
  * key_text.h
- *	  The text of a value from its sort key and its zeros.
+ *	  The text of a value from its sort key and its zeros, by the library.
  *
  *-------------------------------------------------------------------------
  */
 #ifndef KEY_TEXT_H
 #define KEY_TEXT_H
 
-/*
- * A sort key has all of a value but how many zeros end its decimals: 1, 1.0 and
- * 1.00 have one key.  These are told apart by the key's zeros: for each number
- * with such zeros, in the order of the text,
- *
- *	- how many numbers without any come before it, since the last with some: 7
- *	  bits in a byte, the lowest first, with the highest bit where more follow,
- *	- how many zeros there are, in one byte.
- */
+#include "vjson.h"
 
 /*
- * Find the zeros with which the key's text is this text.  False if there are
- * none: if anything else differs.  *zeros is NULL if none are needed.
+ * A sort key has all of a value but how many zeros end its decimals: 1, 1.0 and
+ * 1.00 have one key.  These are told apart by the key's zeros, which the header
+ * of the library describes.
  */
-extern bool key_text_zeros(const unsigned char *key, size_t key_size, const char *text, size_t text_size,
-						   unsigned char **zeros, size_t *zeros_size);
+
+/* The zeros of the value whose text the library wrote. *zeros is NULL if the text has no point. */
+extern void key_text_zeros(const char *text, size_t text_size, unsigned char **zeros, size_t *zeros_size);
+
+/* Put the zeros in the place of the text, where a value was stored with it by an older version. */
+extern void key_text_to_zeros(VjsonParts *parts);
 
 /*
  * The text of a key with its zeros, with a zero byte at its end.  NULL if the
@@ -37,14 +34,14 @@ extern char *key_text_write(const unsigned char *key, size_t key_size, const uns
  * bytes are no key with such a part.
  */
 extern bool key_numbers(const unsigned char *key, size_t key_size, size_t offset, size_t size,
-						uint64 *before, uint64 *numbers);
+						size_t *before, size_t *numbers);
 
 /*
  * Find the zeros of a part with these numbers among those of the whole key.  At
  * most zeros_size bytes are put into part_zeros.  The answer is how many, or
  * SIZE_MAX if the bytes are no zeros of a key.
  */
-extern size_t key_part_zeros(const unsigned char *zeros, size_t zeros_size, uint64 numbers_before, uint64 numbers,
+extern size_t key_part_zeros(const unsigned char *zeros, size_t zeros_size, size_t numbers_before, size_t numbers,
 							 unsigned char *part_zeros);
 
 /* Zeros that are put together of those of several keys. It begins with zero bytes. */
@@ -53,14 +50,14 @@ typedef struct
 	unsigned char *bytes;
 	size_t		size;
 	size_t		room;
-	uint64		plain;			/* numbers without zeros since the last with some */
+	size_t		plain;			/* numbers without zeros since the last with some */
 } KeyZeros;
 
 /*
  * Append the zeros of so many numbers of a key, from the first of them on.
  * False if the bytes are no zeros of a key.
  */
-extern bool key_zeros_append(KeyZeros *into, const unsigned char *zeros, size_t zeros_size, uint64 first,
-							 uint64 numbers);
+extern bool key_zeros_append(KeyZeros *into, const unsigned char *zeros, size_t zeros_size, size_t first,
+							 size_t numbers);
 
 #endif							/* KEY_TEXT_H */

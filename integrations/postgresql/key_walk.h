@@ -13,6 +13,7 @@
 
 #include <vizhoniku.h>
 
+#include "key_text.h"
 #include "vjson.h"
 
 /* The bytes of a string's key that aren't those of its text: the first, and the two at its end. */
@@ -26,6 +27,7 @@ get_whole(struct varlena *value, VjsonParts *parts)
 	Range		key;
 
 	get_parts(value, false, parts);
+	key_text_to_zeros(parts);
 	key.at = parts->key;
 	key.size = parts->key_size;
 	return key;

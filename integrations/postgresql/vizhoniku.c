@@ -10,13 +10,13 @@
  * what else there is:
  *
  *	- 0: nothing.  The text is written from the key.
- *	- 1: how the text is written from the key: the zeros that end decimals.
- *	  The size of the key, in 4 bytes, comes first, then the key, the zeros.
+ *	- 1: the zeros that end decimals, with which the text is written from the
+ *	  key.  The size of the key, in 4 bytes, comes first, then the key, the
+ *	  zeros.
  *	- 2: the text.  The size of the key comes first, then the key, the text.
+ *	  Older versions wrote it, and it is still understood.
  *
- * The library makes text and key by one reading of the input.  Then the text is
- * written from the key, and where that isn't the library's text, the text is
- * stored.  Keys and texts are in UTF-8 whatever the encoding of the database.
+ * Keys and texts are in UTF-8 whatever the encoding of the database.
  *
  *-------------------------------------------------------------------------
  */
@@ -286,8 +286,9 @@ check_stack_room(const char *text, size_t size)
 }
 
 /*
- * Make the value of a key and a text.  The result has the key behind the byte
- * of the form, and room for 4 bytes more; the text lies elsewhere in it.
+ * Make the value of a key and its text.  The result has the key behind the byte
+ * of the form, and room for as much as the text and 4 bytes more; the text lies
+ * elsewhere in it, behind these.
  */
 static void
 finish_value(char *result, size_t key_size, const char *text, size_t text_size)
@@ -295,27 +296,23 @@ finish_value(char *result, size_t key_size, const char *text, size_t text_size)
 	char	   *form = result + VARHDRSZ;
 	char	   *key = form + FORM_SIZE;
 	uint32		stored_size = (uint32) key_size;
-	unsigned char *zeros = NULL;
-	size_t		zeros_size = 0;
+	unsigned char *zeros;
+	size_t		zeros_size;
 
-	if (key_text_zeros((unsigned char *) key, key_size, text, text_size, &zeros, &zeros_size))
+	key_text_zeros(text, text_size, &zeros, &zeros_size);
+	if (zeros_size == 0)
 	{
-		if (zeros_size == 0)
-		{
-			*form = KEY_ALONE;
-			SET_VARSIZE(result, VARHDRSZ + FORM_SIZE + key_size);
-			return;
-		}
-		*form = KEY_AND_ZEROS;
-		text = (char *) zeros;
-		text_size = zeros_size;
+		*form = KEY_ALONE;
+		SET_VARSIZE(result, VARHDRSZ + FORM_SIZE + key_size);
 	}
 	else
-		*form = KEY_AND_TEXT;
-	memmove(key + KEY_SIZE_SIZE, key, key_size);
-	memcpy(key, &stored_size, KEY_SIZE_SIZE);
-	memmove(key + KEY_SIZE_SIZE + key_size, text, text_size);
-	SET_VARSIZE(result, VARHDRSZ + FORM_SIZE + KEY_SIZE_SIZE + key_size + text_size);
+	{
+		*form = KEY_AND_ZEROS;
+		memmove(key + KEY_SIZE_SIZE, key, key_size);
+		memcpy(key, &stored_size, KEY_SIZE_SIZE);
+		memcpy(key + KEY_SIZE_SIZE + key_size, zeros, zeros_size);
+		SET_VARSIZE(result, VARHDRSZ + FORM_SIZE + KEY_SIZE_SIZE + key_size + zeros_size);
+	}
 	if (zeros)
 		pfree(zeros);
 }
@@ -708,41 +705,6 @@ vjson_path_from_text(PG_FUNCTION_ARGS)
 	PG_RETURN_DATUM(make_path(VARDATA_ANY(path), VARSIZE_ANY_EXHDR(path)));
 }
 
-/* The part of a value that has its text, by the library.  NULL if there is none. */
-static struct varlena *
-get_part_by_text(const VjsonParts *parts, text *words, const char *path, size_t path_size)
-{
-	char	   *whole;
-	size_t		whole_size;
-	char	   *part;
-	size_t		part_size;
-	struct vizhoniku_refusal refusal;
-	struct varlena *result = NULL;
-	uint32		status;
-
-	/* A written text is of extended mode, and that of a part is no longer than that of the whole. */
-	whole = vjson_text(parts, &whole_size);
-	CHECK_FOR_INTERRUPTS();
-	check_stack_room(whole, whole_size);
-	part = palloc_extended(whole_size + SPARE_ROOM, MCXT_ALLOC_HUGE);
-	status = vizhoniku_part(VIZHONIKU_EXTENDED, (const unsigned char *) path, path_size,
-							(const unsigned char *) whole, whole_size,
-							(unsigned char *) part, whole_size + SPARE_ROOM, &part_size, &refusal);
-	if (status == VIZHONIKU_NO_PART)
-		return NULL;
-	if (status == VIZHONIKU_NO_PATH)
-		raise_no_path(text_to_cstring(words));
-	if (status == VIZHONIKU_ACCEPTED)
-		status = make_value(VIZHONIKU_EXTENDED, part, part_size, &result, &refusal);
-	if (status == VIZHONIKU_OUT_OF_MEMORY)
-		vjson_raise_out_of_memory(whole_size);
-	if (status != VIZHONIKU_ACCEPTED)
-		vjson_raise_unexpected(status);
-	pfree(whole);
-	pfree(part);
-	return result;
-}
-
 /*
  * The part of a value at a path, or NULL.
  *
@@ -758,8 +720,7 @@ get_part(struct varlena *value, text *words)
 	Range		part;
 
 	get_parts(value, false, &parts);
-	if (parts.form == KEY_AND_TEXT)
-		return get_part_by_text(&parts, words, path, path_size);
+	key_text_to_zeros(&parts);
 	switch (find_part(parts.key, parts.key_size, path, path_size, &part))
 	{
 		case VIZHONIKU_ACCEPTED:

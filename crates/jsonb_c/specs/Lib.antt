@@ -3,3 +3,4 @@ pub mod KeyContains
 pub mod KeyEdit
 pub mod KeyParts
 pub mod KeyText
+pub mod Zeros

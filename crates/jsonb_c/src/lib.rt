@@ -33,6 +33,7 @@ pub mod key;
 pub mod key_contains;
 pub mod key_edit;
 pub mod key_text;
+pub mod zeros;
 
 /// Success.
 pub const ACCEPTED: u32 = 0;
@@ -60,6 +61,9 @@ pub const NO_KEY: u32 = 7;
 
 /// The value would have more than 512 nested arrays and objects.
 pub const TOO_DEEP: u32 = 8;
+
+/// The bytes aren't a serialized form of a value, or not the zeros of one.
+pub const NO_ZEROS: u32 = 9;
 
 /// What is reported of a rejected text: the number of the code, which of the texts it is, from 1 on, and the number of
 /// the error. All are 0 where no text is rejected.
@@ -414,7 +418,7 @@ fn part_at_keys(alloc: Global, mode: u32, keys: &[String], text: &[u8]) -> Resul
 }
 
 /// The version of this interface. It grows by one when a function, a status or a code is added.
-pub const VERSION: u32 = 4;
+pub const VERSION: u32 = 5;
 
 /// The version of this interface.
 #[unsafe(no_mangle)]
