@@ -8,7 +8,7 @@ use Rattle.jsonb_spec.specs.Tree.{Tree, Num}
 use Rattle.jsonb_value.proofs.Appending.Appended.{IsUnderway, goes_on, fits}
 use Rattle.stored_zeros.specs.Scan.{from_number, ending_of, zeros_with, is_number_byte, BeginsNumber}
 use Rattle.stored_zeros.specs.Zeros.{entry_of, plain_behind, zeros_of, zeros_in}
-use Rattle.stored_zeros.proofs.NumberedTexts.{NumberedText, last_gap, gap_then, written, counts_of, IsNumbered, ends_number, numbers_of}
+use Rattle.stored_zeros.proofs.NumberedTexts.{NumberedText, last_gap, gap_then, bytes_with, counts_of, IsNumbered, ends_number, numbers_of}
 use Rattle.stored_zeros.proofs.Decimals.{count, few, text_passed, text_begins}
 use Rattle.stored_zeros.proofs.Finding.{none_found, number_found}
 
@@ -16,7 +16,7 @@ use Rattle.stored_zeros.proofs.Finding.{none_found, number_found}
 pub record ZerosLeft (t : Tree) (rest : List ℕ) (plain : ℕ) (old now : List ℕ) : Type 0 where
   pub text : NumberedText
   pub is_numbered : IsNumbered text
-  pub stands : rest ≡ written number_text text
+  pub stands : rest ≡ bytes_with number_text text
   pub underway : IsUnderway old now (zeros_in t) (zeros_of plain (counts_of text))
 
 -- Whatever value has the text, its zeros are appended.
@@ -47,7 +47,7 @@ pub record NumberLeft (t : Tree) (number : List ℕ) (plain : ℕ) (old now : Li
   pub n : Num
   pub later : NumberedText
   pub is_numbered : IsNumbered (gap_then [] n later)
-  pub stands : number ≡ number_text n ++ written number_text later
+  pub stands : number ≡ number_text n ++ bytes_with number_text later
   pub underway : IsUnderway old now (zeros_in t) (zeros_of plain (counts_of (gap_then [] n later)))
 
 module _ (t : Tree) (rest : List ℕ) (plain : ℕ) (old now : List ℕ) (left : ZerosLeft t rest plain old now) where
@@ -55,7 +55,7 @@ module _ (t : Tree) (rest : List ℕ) (plain : ℕ) (old now : List ℕ) (left :
   pub some_found : None ≡ from_number rest → ⊥
   some_found none = go left.text left.is_numbered left.stands
     where
-      go : (text : NumberedText) → IsNumbered text → rest ≡ written number_text text → ⊥
+      go : (text : NumberedText) → IsNumbered text → rest ≡ bytes_with number_text text → ⊥
       go (last_gap gap) h e = none_some [] (none ∙ ap from_number e ∙ none_found gap h)
       go (gap_then gap n k) h e = none_some _ (none ∙ ap from_number e ∙ number_found gap n k h)
 
@@ -63,31 +63,31 @@ module _ (t : Tree) (rest : List ℕ) (plain : ℕ) (old now : List ℕ) (left :
   pub all_found : (number : List ℕ) → Some number ≡ from_number rest → length number ≡ 0 → now ≡ old ++ zeros_in t
   all_found number is none = go left.text left.is_numbered left.stands left.underway
     where
-      go : (text : NumberedText) → IsNumbered text → rest ≡ written number_text text → IsUnderway old now (zeros_in t) (zeros_of plain (counts_of text)) → now ≡ old ++ zeros_in t
+      go : (text : NumberedText) → IsNumbered text → rest ≡ bytes_with number_text text → IsUnderway old now (zeros_in t) (zeros_of plain (counts_of text)) → now ≡ old ++ zeros_in t
       go (last_gap gap) h e u = u.appended ∙ ap (λ zs. old ++ zs) (sym (u.whole ∙ append-nil u.front))
       go (gap_then gap n k) h e u =
-          let there = some_same number (number_text n ++ written number_text k) (is ∙ ap from_number e ∙ number_found gap n k h) in
-          absurd (omega (arith, none, ap length there, length-append (number_text n) (written number_text k), ap length (text_begins n h.1).is))
+          let there = some_same number (number_text n ++ bytes_with number_text k) (is ∙ ap from_number e ∙ number_found gap n k h) in
+          absurd (omega (arith, none, ap length there, length-append (number_text n) (bytes_with number_text k), ap length (text_begins n h.1).is))
 
   -- a number is left
   pub one_found : (number : List ℕ) → Some number ≡ from_number rest → 0 < length number → NumberLeft t number plain old now
   one_found number is some = go left.text left.is_numbered left.stands left.underway
     where
-      go : (text : NumberedText) → IsNumbered text → rest ≡ written number_text text → IsUnderway old now (zeros_in t) (zeros_of plain (counts_of text)) → NumberLeft t number plain old now
+      go : (text : NumberedText) → IsNumbered text → rest ≡ bytes_with number_text text → IsUnderway old now (zeros_in t) (zeros_of plain (counts_of text)) → NumberLeft t number plain old now
       go (last_gap gap) h e u = absurd (omega (arith, some, ap length (some_same number [] (is ∙ ap from_number e ∙ none_found gap h))))
       go (gap_then gap n k) h e u = record {
         n = n;
         later = k;
         is_numbered = (λ more. refl, h.1, h.2, h.3);
-        stands = some_same number (number_text n ++ written number_text k) (is ∙ ap from_number e ∙ number_found gap n k h);
+        stands = some_same number (number_text n ++ bytes_with number_text k) (is ∙ ap from_number e ∙ number_found gap n k h);
         underway = u;
       }
 
 module _ (t : Tree) (number : List ℕ) (plain : ℕ) (old now : List ℕ) (x : NumberLeft t number plain old now) (p : Bool) (zeros : ℕ) (rest : List ℕ) (ending : (p, (zeros, rest)) ≡ ending_of false 0 number) where
-  there : (zeros ≡ count x.n x.is_numbered.1) × (rest ≡ written number_text x.later)
+  there : (zeros ≡ count x.n x.is_numbered.1) × (rest ≡ bytes_with number_text x.later)
   there =
-      let y = text_passed x.n x.is_numbered.1 (written number_text x.later) (ends_number number_text x.later x.is_numbered.2) in
-      pairs_same p y.0 zeros (count x.n x.is_numbered.1) rest (written number_text x.later) (ending ∙ ap (ending_of false 0) x.stands ∙ y.1)
+      let y = text_passed x.n x.is_numbered.1 (bytes_with number_text x.later) (ends_number number_text x.later x.is_numbered.2) in
+      pairs_same p y.0 zeros (count x.n x.is_numbered.1) rest (bytes_with number_text x.later) (ending ∙ ap (ending_of false 0) x.stands ∙ y.1)
 
   pub not_many : zeros ≤ 255
   not_many = omega (arith, there.0, few x.n x.is_numbered.1)

@@ -5,7 +5,7 @@ use Rattle.jsonb_spec.specs.Text.NumberText.{number_text}
 use Rattle.jsonb_spec.specs.Tree.{Num}
 use Rattle.stored_zeros.specs.Scan.{is_number_byte, from_number, ending_of, behind_number, next_number}
 use Rattle.stored_zeros.proofs.Scanning.{IsGap}
-use Rattle.stored_zeros.proofs.NumberedTexts.{NumberedText, gap_then, written, shortest_text, IsNumbered, ends_number}
+use Rattle.stored_zeros.proofs.NumberedTexts.{NumberedText, gap_then, bytes_with, shortest_text, IsNumbered, ends_number}
 use Rattle.stored_zeros.proofs.Decimals.{Begins, pointed, shortest_begins, shortest_passed, text_begins, ends_there}
 
 -- a number stands first
@@ -24,8 +24,8 @@ pub none_found : (gap : List ℕ) → IsGap gap → from_number gap ≡ Some []
 none_found gap is = ap from_number (sym (append-nil gap)) ∙ is []
 
 -- the first number of a text
-pub number_found : (gap : List ℕ) (n : Num) (k : NumberedText) → IsNumbered (gap_then gap n k) → from_number (written number_text (gap_then gap n k)) ≡ Some (number_text n ++ written number_text k)
-number_found gap n k h = h.0 (number_text n ++ written number_text k) ∙ found_there (number_text n) (written number_text k) (text_begins n h.1)
+pub number_found : (gap : List ℕ) (n : Num) (k : NumberedText) → IsNumbered (gap_then gap n k) → from_number (bytes_with number_text (gap_then gap n k)) ≡ Some (number_text n ++ bytes_with number_text k)
+number_found gap n k h = h.0 (number_text n ++ bytes_with number_text k) ∙ found_there (number_text n) (bytes_with number_text k) (text_begins n h.1)
 
 behind_there : (text rest : List ℕ) (p : Bool) → Begins text → ending_of false 0 (text ++ rest) ≡ (p, (0, rest)) → behind_number (Some (text ++ rest)) ≡ Some (p, rest)
 behind_there text rest p b e =
@@ -33,8 +33,8 @@ behind_there text rest p b e =
     ap (λ t. behind_number (Some t)) is ∙ ap (λ x. Some (x.0, x.1.1)) (ap (ending_of false 0) (sym is) ∙ e)
 
 -- what stands behind the first number of the shortest text
-pub shortest_behind : (gap : List ℕ) (n : Num) (k : NumberedText) (h : IsNumbered (gap_then gap n k)) → next_number (written shortest_text (gap_then gap n k)) ≡ Some (pointed n h.1, written shortest_text k)
+pub shortest_behind : (gap : List ℕ) (n : Num) (k : NumberedText) (h : IsNumbered (gap_then gap n k)) → next_number (bytes_with shortest_text (gap_then gap n k)) ≡ Some (pointed n h.1, bytes_with shortest_text k)
 shortest_behind gap n k h =
-    let rest = written shortest_text k in
+    let rest = bytes_with shortest_text k in
     ap behind_number (h.0 (shortest_text n ++ rest) ∙ found_there (shortest_text n) rest (shortest_begins n h.1))
     ∙ behind_there (shortest_text n) rest (pointed n h.1) (shortest_begins n h.1) (shortest_passed n h.1 rest ∙ ends_there (pointed n h.1) 0 rest (ends_number shortest_text k h.2))

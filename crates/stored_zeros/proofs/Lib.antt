@@ -9,3 +9,5 @@ pub mod Restoring
 pub mod Errors
 pub mod Counting
 pub mod Taking
+pub mod Telling
+pub mod Joining

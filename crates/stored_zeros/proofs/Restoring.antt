@@ -8,7 +8,7 @@ use Rattle.jsonb_value.proofs.Appending.Appended.{IsUnderway, goes_on, fits}
 use Rattle.stored_text.specs.FewestDigits.{with_fewest_digits}
 use Rattle.stored_zeros.specs.Scan.{after_numbers, ending_text}
 use Rattle.stored_zeros.specs.Zeros.{in_sevens, zeros_of, zeros_in}
-use Rattle.stored_zeros.proofs.NumberedTexts.{NumberedText, written, counts_of, shortest_text, IsNumbered, numbers_of}
+use Rattle.stored_zeros.proofs.NumberedTexts.{NumberedText, bytes_with, counts_of, shortest_text, IsNumbered, numbers_of}
 use Rattle.stored_zeros.proofs.Splitting.{NextEntry, split}
 use Rattle.stored_zeros.proofs.Sevens.{some_sevens}
 
@@ -16,10 +16,10 @@ use Rattle.stored_zeros.proofs.Sevens.{some_sevens}
 pub record TextLeft (t : Tree) (text left old now : List ℕ) : Type 0 where
   pub numbers : NumberedText
   pub is_numbered : IsNumbered numbers
-  pub stands : text ≡ written shortest_text numbers
+  pub stands : text ≡ bytes_with shortest_text numbers
   pub within : length text ≤ length (tree_text (with_fewest_digits t))
   pub zeros_left : left ≡ zeros_of 0 (counts_of numbers)
-  pub underway : IsUnderway old now (tree_text t) (written number_text numbers)
+  pub underway : IsUnderway old now (tree_text t) (bytes_with number_text numbers)
 
 -- Whatever value has the shortest text and the zeros, its text is appended.
 abbrev pub Restores : List ℕ → List ℕ → List ℕ → List ℕ → List ℕ → List ℕ → Type 0
@@ -40,7 +40,7 @@ restores shortest zeros old = λ t r e z.
 module _ (t : Tree) (text left old now : List ℕ) (x : TextLeft t text left old now) where
   -- with no zeros left all of the text is
   module _ (none : length left ≡ 0) where
-    rest_same : written number_text x.numbers ≡ text
+    rest_same : bytes_with number_text x.numbers ≡ text
     rest_same = elim (split 0 x.numbers x.is_numbered) [
       | inl plain ↦ plain.same ∙ sym x.stands
       | inr next ↦ absurd (omega (arith, none, ap length (x.zeros_left ∙ next.zeros), length-append (in_sevens 8 (0 + next.before)) (next.zeros_there ∷ zeros_of 0 (counts_of next.later)), some_sevens 8 (0 + next.before)))
@@ -71,24 +71,24 @@ module _ (t : Tree) (text left old now : List ℕ) (x : TextLeft t text left old
     pub few_before : next.before < length (tree_text (with_fewest_digits t))
     few_before = omega (arith, next.fewer, ap length x.stands, x.within)
 
-    pub number_there : after_numbers next.before text ≡ Some (next.has_point, written shortest_text next.later)
+    pub number_there : after_numbers next.before text ≡ Some (next.has_point, bytes_with shortest_text next.later)
     number_there = ap (after_numbers next.before) x.stands ∙ next.found
 
     -- what stands before what is left then
-    pub text_split : text ≡ next.front ++ written shortest_text next.later
+    pub text_split : text ≡ next.front ++ bytes_with shortest_text next.later
     text_split = x.stands ∙ next.short
 
     pub number_fits : length now + length (next.front ++ ending_text next.has_point next.zeros_there) ≤ length old + length (tree_text t)
-    number_fits = fits (next.front ++ ending_text next.has_point next.zeros_there) (written number_text next.later) x.underway next.full
+    number_fits = fits (next.front ++ ending_text next.has_point next.zeros_there) (bytes_with number_text next.later) x.underway next.full
 
-    pub number_appended : (new others behind : List ℕ) → behind ≡ written shortest_text next.later → others ≡ zeros_of 0 (counts_of next.later) → new ≡ now ++ (next.front ++ ending_text next.has_point next.zeros_there) → TextLeft t behind others old new
+    pub number_appended : (new others behind : List ℕ) → behind ≡ bytes_with shortest_text next.later → others ≡ zeros_of 0 (counts_of next.later) → new ≡ now ++ (next.front ++ ending_text next.has_point next.zeros_there) → TextLeft t behind others old new
     number_appended new others behind is zeros appended = record {
       numbers = next.later;
       is_numbered = next.is_numbered;
       stands = is;
-      within = omega (arith, x.within, ap length text_split, length-append next.front (written shortest_text next.later), ap length is);
+      within = omega (arith, x.within, ap length text_split, length-append next.front (bytes_with shortest_text next.later), ap length is);
       zeros_left = zeros;
-      underway = goes_on new (next.front ++ ending_text next.has_point next.zeros_there) (written number_text next.later) x.underway next.full appended;
+      underway = goes_on new (next.front ++ ending_text next.has_point next.zeros_there) (bytes_with number_text next.later) x.underway next.full appended;
     }
 
 -- the point, where there is none, and the zeros

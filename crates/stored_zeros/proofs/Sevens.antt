@@ -12,11 +12,11 @@ unfolding in_sevens
 few zero n h = refl
 few (suc more) n h = cond-true (nat_lt n 128) _ _ (lt-ltb n 128 h)
 
-many : (more n : ℕ) → 128 ≤ n → in_sevens (suc more) n ≡ (128 + n % 128) ∷ in_sevens more (n / 128)
+pub many : (more n : ℕ) → 128 ≤ n → in_sevens (suc more) n ≡ (128 + n % 128) ∷ in_sevens more (n / 128)
 unfolding in_sevens
 many more n h = cond-false (nat_lt n 128) _ _ (le-ltb n 128 h)
 
-last : (n : ℕ) → in_sevens 0 n ≡ n ∷ []
+pub last : (n : ℕ) → in_sevens 0 n ≡ n ∷ []
 unfolding in_sevens
 last n = refl
 

@@ -7,14 +7,14 @@ use Rattle.jsonb_spec.specs.Text.NumberText.{number_text}
 use Rattle.jsonb_spec.specs.Tree.{Num}
 use Rattle.stored_zeros.specs.Scan.{after_numbers, ending_text}
 use Rattle.stored_zeros.specs.Zeros.{in_sevens, zeros_of}
-use Rattle.stored_zeros.proofs.NumberedTexts.{NumberedText, last_gap, gap_then, written, counts_of, shortest_text, IsNumbered}
+use Rattle.stored_zeros.proofs.NumberedTexts.{NumberedText, last_gap, gap_then, bytes_with, counts_of, shortest_text, IsNumbered}
 use Rattle.stored_zeros.proofs.Decimals.{count, pointed, none_spare, some_spare, shortest_begins}
 use Rattle.stored_zeros.proofs.Finding.{shortest_behind}
 
 -- No zeros end any number.
 pub record AllPlain (plain : ℕ) (k : NumberedText) : Type 0 where
   pub none : zeros_of plain (counts_of k) ≡ []
-  pub same : written number_text k ≡ written shortest_text k
+  pub same : bytes_with number_text k ≡ bytes_with shortest_text k
 
 -- Zeros end a number, before which so many without any come.
 pub record NextEntry (plain : ℕ) (k : NumberedText) : Type 0 where
@@ -26,10 +26,10 @@ pub record NextEntry (plain : ℕ) (k : NumberedText) : Type 0 where
   pub later : NumberedText
   pub is_numbered : IsNumbered later
   pub zeros : zeros_of plain (counts_of k) ≡ in_sevens 8 (plain + before) ++ zeros_there ∷ zeros_of 0 (counts_of later)
-  pub short : written shortest_text k ≡ front ++ written shortest_text later
-  pub full : written number_text k ≡ (front ++ ending_text has_point zeros_there) ++ written number_text later
-  pub found : after_numbers before (written shortest_text k) ≡ Some (has_point, written shortest_text later)
-  pub fewer : before < length (written shortest_text k)
+  pub short : bytes_with shortest_text k ≡ front ++ bytes_with shortest_text later
+  pub full : bytes_with number_text k ≡ (front ++ ending_text has_point zeros_there) ++ bytes_with number_text later
+  pub found : after_numbers before (bytes_with shortest_text k) ≡ Some (has_point, bytes_with shortest_text later)
+  pub fewer : before < length (bytes_with shortest_text k)
 
 -- ---- the zeros of the first number
 
@@ -73,10 +73,10 @@ split plain (gap_then gap n k) h = elim (cases_eq (count n h.1) 0) [
       later = x.later;
       is_numbered = x.is_numbered;
       zeros = plain_first plain (count n h.1) (counts_of k) none ∙ x.zeros ∙ ap (λ b. in_sevens 8 b ++ x.zeros_there ∷ zeros_of 0 (counts_of x.later)) {x = suc plain + x.before} {y = plain + suc x.before} (omega arith);
-      short = ap (λ t. gap ++ (shortest_text n ++ t)) x.short ∙ regroup gap (shortest_text n) x.front (written shortest_text x.later);
-      full = ap₂ (λ a b. gap ++ (a ++ b)) (none_spare n h.1 none) x.full ∙ farther gap (shortest_text n) x.front (ending_text x.has_point x.zeros_there) (written number_text x.later);
+      short = ap (λ t. gap ++ (shortest_text n ++ t)) x.short ∙ regroup gap (shortest_text n) x.front (bytes_with shortest_text x.later);
+      full = ap₂ (λ a b. gap ++ (a ++ b)) (none_spare n h.1 none) x.full ∙ farther gap (shortest_text n) x.front (ending_text x.has_point x.zeros_there) (bytes_with number_text x.later);
       found = ap (option_and_then (λ next. after_numbers x.before next.1)) (shortest_behind gap n k h) ∙ x.found;
-      fewer = omega (arith, x.fewer, some_text n h.1, length-append gap (shortest_text n ++ written shortest_text k), length-append (shortest_text n) (written shortest_text k));
+      fewer = omega (arith, x.fewer, some_text n h.1, length-append gap (shortest_text n ++ bytes_with shortest_text k), length-append (shortest_text n) (bytes_with shortest_text k));
     })
   ]
   | inr some ↦ inr (record {
@@ -88,9 +88,9 @@ split plain (gap_then gap n k) h = elim (cases_eq (count n h.1) 0) [
     later = k;
     is_numbered = h.3;
     zeros = entry_first plain (count n h.1) (counts_of k) (omega (arith, some)) ∙ ap (λ b. in_sevens 8 b ++ count n h.1 ∷ zeros_of 0 (counts_of k)) {x = plain} {y = plain + 0} (omega arith);
-    short = sym (append_assoc gap (shortest_text n) (written shortest_text k));
-    full = ap (λ t. gap ++ (t ++ written number_text k)) (some_spare n h.1 (omega (arith, some))) ∙ ending gap (shortest_text n) (ending_text (pointed n h.1) (count n h.1)) (written number_text k);
+    short = sym (append_assoc gap (shortest_text n) (bytes_with shortest_text k));
+    full = ap (λ t. gap ++ (t ++ bytes_with number_text k)) (some_spare n h.1 (omega (arith, some))) ∙ ending gap (shortest_text n) (ending_text (pointed n h.1) (count n h.1)) (bytes_with number_text k);
     found = shortest_behind gap n k h;
-    fewer = omega (arith, some_text n h.1, length-append gap (shortest_text n ++ written shortest_text k), length-append (shortest_text n) (written shortest_text k));
+    fewer = omega (arith, some_text n h.1, length-append gap (shortest_text n ++ bytes_with shortest_text k), length-append (shortest_text n) (bytes_with shortest_text k));
   })
 ]

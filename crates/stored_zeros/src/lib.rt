@@ -4,6 +4,7 @@
 mod count;
 mod entry;
 pub mod error;
+pub mod laws;
 mod numbers;
 mod restore;
 mod scan;

@@ -54,7 +54,7 @@ pub fn write_zeros_of_numbers(
 
 // The next number that zeros end: how many without any come before it, how many zeros there are, and what is stored of
 // the numbers behind it. `None` where there is none.
-fn pending(zeros: &[u8]) -> Result<Option<(usize, u8, &[u8])>, ZerosError>
+fn first_entry(zeros: &[u8]) -> Result<Option<(usize, u8, &[u8])>, ZerosError>
     ensures found { (counts : List ℕ) → length counts < 2 ^ 63 → zeros.now ≡ zeros_of 0 counts
         → MatchResult result (Pends counts) (λ e. ⊥) }
     ensures shorter { IfOk result (λ entry. IfSome entry (λ r. length r.2.now < length zeros.now)) }
@@ -76,7 +76,7 @@ fn skip_numbers(zeros: &[u8], numbers: usize) -> Result<Option<(usize, u8, &[u8]
     let mut left = numbers;
     let mut rest = zeros;
     'entries: loop {
-        let Ok(entry) = pending(rest) else {
+        let Ok(entry) = first_entry(rest) else {
             return Err(ZerosError::Invalid);
         };
         let Some((before, count, others)) = entry else {
@@ -115,7 +115,7 @@ fn append_numbers(
         let gap = more_plain(plain, before)?;
         plain = append_entry(gap, count, buf)?;
         left -= before + 1;
-        let Ok(entry) = pending(others) else {
+        let Ok(entry) = first_entry(others) else {
             return Err(ZerosError::Invalid);
         };
         next = entry;

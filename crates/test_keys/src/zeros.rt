@@ -167,7 +167,7 @@ fn numbers_are_counted_in_parts(rt: HostRuntime) -> Result<(), Fail> {
             continue;
         }
         assert_eq!(rt; count_numbers(&key, offset, size), Some((before, numbers)));
-        assert_eq!(rt; count_numbers(&key, offset, size + 1), None);
+        assert_eq!(rt; count_numbers(&key, offset, size.saturating_add(1)), None);
     }
     Ok(())
 }

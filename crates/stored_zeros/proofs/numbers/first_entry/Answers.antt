@@ -1,7 +1,7 @@
 use Rattle.std.proofs.Common.{◌<◌, length, sym, ◌∙◌, arith, eqb-true}
 use Rattle.std.proofs.lemmas.Bool.{eqb-false}
 use Rattle.stored_zeros.proofs.Taking.{none_pending, one_pending, pending_stands, pends_there, counts_long}
-use Rattle.stored_zeros.proofs.numbers.pending.Goals as goal
+use Rattle.stored_zeros.proofs.numbers.first_entry.Goals as goal
 
 pub returns-then-is_empty-clause-found : goal.returns-then-is_empty-clause-found
 returns-then-is_empty-clause-found c = λ counts small are.
