@@ -19,6 +19,7 @@
 #include "utils/array.h"
 #include "utils/builtins.h"
 #include "utils/memutils.h"
+#include "utils/numeric.h"
 
 #include <vizhoniku.h>
 
@@ -534,22 +535,35 @@ is_cast_to_null(uint32 kind)
 	return PG_VERSION_NUM >= 180000 && kind == VIZHONIKU_NULL;
 }
 
-/* The number as a numeric, which keeps its zeros, and then as another type. */
-static Datum
-cast_number(FunctionCallInfo fcinfo, const char *type, PGFunction from_numeric)
+/* The text of a number. NULL where a null becomes SQL's NULL. */
+static const char *
+number_text(FunctionCallInfo fcinfo, const char *type)
 {
 	VjsonParts	parts;
 	Range		key = get_whole(PG_GETARG_VARLENA_PP(0), &parts);
 	uint32		kind = kind_of(key);
-	Datum		number;
 
 	if (is_cast_to_null(kind))
-		PG_RETURN_NULL();
+		return NULL;
 	if (kind != VIZHONIKU_NUMBER)
 		raise_cannot_cast(kind, type);
-	number = DirectFunctionCall3(numeric_in, CStringGetDatum(vjson_server_text(&parts)), ObjectIdGetDatum(InvalidOid),
-								 Int32GetDatum(-1));
-	return from_numeric ? DirectFunctionCall1(from_numeric, number) : number;
+	return vjson_server_text(&parts);
+}
+
+/* Whether the text of a number is of an integer, with so many digits at most. */
+static inline bool
+is_short_integer(const char *text, size_t digits)
+{
+	size_t		size = strlen(text);
+
+	return size - (text[0] == '-') <= digits && memchr(text, '.', size) == NULL;
+}
+
+/* The number as a numeric, which keeps its zeros. */
+static Datum
+numeric_of(const char *text)
+{
+	return DirectFunctionCall3(numeric_in, CStringGetDatum(text), ObjectIdGetDatum(InvalidOid), Int32GetDatum(-1));
 }
 
 Datum
@@ -566,38 +580,80 @@ vjson_to_bool(PG_FUNCTION_ARGS)
 	PG_RETURN_BOOL(key.at[0] == TRUE_KEY);
 }
 
+/*
+ * An integer that is exact in the type for each number with so few digits is
+ * taken straight from the text.  Others are made by way of numeric, with its
+ * rounding and its errors.
+ */
+
 Datum
 vjson_to_numeric(PG_FUNCTION_ARGS)
 {
-	return cast_number(fcinfo, "numeric", NULL);
+	const char *text = number_text(fcinfo, "numeric");
+
+	if (text == NULL)
+		PG_RETURN_NULL();
+	if (is_short_integer(text, 18))
+		PG_RETURN_NUMERIC(int64_to_numeric(pg_strtoint64(text)));
+	return numeric_of(text);
 }
 
 Datum
 vjson_to_int2(PG_FUNCTION_ARGS)
 {
-	return cast_number(fcinfo, "smallint", numeric_int2);
+	const char *text = number_text(fcinfo, "smallint");
+
+	if (text == NULL)
+		PG_RETURN_NULL();
+	if (is_short_integer(text, 4))
+		PG_RETURN_INT16((int16) pg_strtoint64(text));
+	return DirectFunctionCall1(numeric_int2, numeric_of(text));
 }
 
 Datum
 vjson_to_int4(PG_FUNCTION_ARGS)
 {
-	return cast_number(fcinfo, "integer", numeric_int4);
+	const char *text = number_text(fcinfo, "integer");
+
+	if (text == NULL)
+		PG_RETURN_NULL();
+	if (is_short_integer(text, 9))
+		PG_RETURN_INT32((int32) pg_strtoint64(text));
+	return DirectFunctionCall1(numeric_int4, numeric_of(text));
 }
 
 Datum
 vjson_to_int8(PG_FUNCTION_ARGS)
 {
-	return cast_number(fcinfo, "bigint", numeric_int8);
+	const char *text = number_text(fcinfo, "bigint");
+
+	if (text == NULL)
+		PG_RETURN_NULL();
+	if (is_short_integer(text, 18))
+		PG_RETURN_INT64(pg_strtoint64(text));
+	return DirectFunctionCall1(numeric_int8, numeric_of(text));
 }
 
 Datum
 vjson_to_float4(PG_FUNCTION_ARGS)
 {
-	return cast_number(fcinfo, "real", numeric_float4);
+	const char *text = number_text(fcinfo, "real");
+
+	if (text == NULL)
+		PG_RETURN_NULL();
+	if (is_short_integer(text, 7))
+		PG_RETURN_FLOAT4((float4) pg_strtoint64(text));
+	return DirectFunctionCall1(numeric_float4, numeric_of(text));
 }
 
 Datum
 vjson_to_float8(PG_FUNCTION_ARGS)
 {
-	return cast_number(fcinfo, "double precision", numeric_float8);
+	const char *text = number_text(fcinfo, "double precision");
+
+	if (text == NULL)
+		PG_RETURN_NULL();
+	if (is_short_integer(text, 15))
+		PG_RETURN_FLOAT8((float8) pg_strtoint64(text));
+	return DirectFunctionCall1(numeric_float8, numeric_of(text));
 }
