@@ -11,3 +11,4 @@ pub mod Counting
 pub mod Taking
 pub mod Telling
 pub mod Joining
+pub mod Backwards

@@ -51,3 +51,22 @@ numbers_open (members ms) = length (counts_in_members ms)
 abbrev pub StandsInOpen : Open → List ℕ → ℕ → Tree → Type 0
 StandsInOpen (items ts) before numbers part = StandsInItems ts before numbers part
 StandsInOpen (members ms) before numbers part = StandsInMembers ms before numbers part
+
+-- The rest of the bytes begins with the key of a part, before which so many numbers come.
+pub record FoundPart (Stands : List ℕ → ℕ → Tree → Type 0) (bytes rest : List ℕ) (numbers : ℕ) : Type 0 where
+  pub part : Tree
+  pub before : List ℕ
+  pub stands : Stands before numbers part
+  pub inside : bytes ≡ before ++ rest
+  pub behind : List ℕ
+  pub key : rest ≡ key_of part ++ behind
+
+-- At the offset a part of the value stands whose key has this size, before which so many numbers come, and which has
+-- so many.
+pub record IsCounted (t : Tree) (offset size before numbers : ℕ) : Type 0 where
+  pub part : Tree
+  pub front : List ℕ
+  pub stands : StandsIn t front before part
+  pub offset_is : offset ≡ length front
+  pub size_is : size ≡ length (key_of part)
+  pub numbers_are : numbers ≡ numbers_in part

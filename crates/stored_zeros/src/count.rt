@@ -5,7 +5,7 @@ ghost use Rattle.jsonb_key.specs.Readable.{IsReadable};
 ghost use Rattle.jsonb_spec.specs.SortKey.{key_of};
 ghost use Rattle.jsonb_spec.specs.Tree.{Tree};
 ghost use Rattle.jsonb_stored.specs.Open.{Open, is_object, open_key, IsOpen, IsScalar};
-ghost use Rattle.stored_zeros.specs.PartsOf.{numbers_in, number_count, numbers_open, StandsIn, StandsInOpen};
+ghost use Rattle.stored_zeros.specs.PartsOf.{numbers_in, number_count, numbers_open, FoundPart, IsCounted, StandsIn, StandsInOpen};
 
 use jsonb_stored::skip::{
     MAX_DEPTH, after_end, after_name, after_scalar, kind_at, opening, outermost,
@@ -21,6 +21,8 @@ pub fn count_numbers(key: &[u8], offset: usize, size: usize) -> Option<(usize, u
     ensures counted { (t : Tree) → IsReadable t → key.now ≡ key_of t → (before : List ℕ) → (numbers : ℕ) → (part : Tree)
         → StandsIn t before numbers part → offset ≡ length before → size ≡ length (key_of part)
         → result ≡ Some (numbers, numbers_in part) }
+    ensures only { IfSome result (λ r. (t : Tree) → IsReadable t → key.now ≡ key_of t
+        → IsCounted t offset size r.0 r.1) }
 {
     if offset > key.len() {
         return None;
@@ -52,6 +54,8 @@ fn count_until(bytes: &[u8], stop: usize) -> Option<(usize, &[u8])>
     ensures found { (t : Tree) → IsReadable t → (more : List ℕ) → bytes.now ≡ key_of t ++ more → (before : List ℕ)
         → (numbers : ℕ) → (part : Tree) → StandsIn t before numbers part → stop + length before ≡ length bytes.now
         → MatchOption result ⊥ (λ r. (r.0 ≡ numbers) × (length r.1.now ≡ stop)) }
+    ensures only { IfSome result (λ r. (t : Tree) → IsReadable t → (more : List ℕ) → bytes.now ≡ key_of t ++ more
+        → length r.1.now ≡ stop → length more < stop → FoundPart (StandsIn t) bytes.now r.1.now r.0) }
     ensures within { IfSome result (λ r. length r.1.now ≤ length bytes.now) }
 {
     if bytes.len() == stop {
@@ -101,6 +105,9 @@ fn count_parts(object: bool, bytes: &[u8], stop: usize) -> Option<(usize, &[u8])
         → (before : List ℕ) → (numbers : ℕ) → (part : Tree) → StandsInOpen o before numbers part
         → stop + length before ≡ length bytes.now
         → MatchOption result ⊥ (λ r. (r.0 ≡ numbers) × (length r.1.now ≡ stop)) }
+    ensures only { IfSome result (λ r. (o : Open) → is_object o ≡ object → IsOpen o 511 → (more : List ℕ)
+        → bytes.now ≡ open_key o ++ more → length r.1.now ≡ stop → length more < stop
+        → FoundPart (StandsInOpen o) bytes.now r.1.now r.0) }
     ensures within { IfSome result (λ r. length r.1.now ≤ length bytes.now) }
 {
     let mut objects = outermost(object);

@@ -23,7 +23,8 @@ use std::alloc::AllocError;
 /// `stored_text` writes it, and the zeros of the value, as `write_zeros_of_text` writes them. After an error `buf` has
 /// the same bytes as before.
 ///
-/// The time is linear in what is appended. The only allocations are those of `buf`, and no function calls itself.
+/// The time is linear in the text that is appended and the zeros. The only allocations are those of `buf`, and no
+/// function calls itself.
 ///
 /// Of other bytes it may be any bytes.
 ///

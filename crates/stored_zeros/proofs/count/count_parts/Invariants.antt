@@ -3,6 +3,7 @@ use Rattle.jsonb_spec.specs.Tree.{Tree}
 use Rattle.jsonb_stored.specs.Open.{Open, is_object, open_key, IsOpen}
 use Rattle.stored_zeros.specs.PartsOf.{numbers_open, StandsInOpen}
 use Rattle.stored_zeros.proofs.Counting.{Walked, Sums, Ahead}
+use Rattle.stored_zeros.proofs.Backwards.{Back}
 use Rattle.stored_zeros.proofs.count.count_parts.Given as goal
 
 abbrev pub invariant-parts : goal.invariant-parts
@@ -10,6 +11,7 @@ invariant-parts l = record {
   sums : (o : Open) → is_object o ≡ l.object → IsOpen o 511 → (more : List ℕ) → l.bytes ≡ open_key o ++ more → Walked l.objects l.depth l.rest more (Sums (numbers_open o) l.numbers);
   ahead : (o : Open) → is_object o ≡ l.object → IsOpen o 511 → (more : List ℕ) → l.bytes ≡ open_key o ++ more → (before : List ℕ) (all : ℕ) (part : Tree) → StandsInOpen o before all part → l.stop + length before ≡ length l.bytes
       → Walked l.objects l.depth l.rest more (Ahead part all l.stop l.numbers (length l.rest));
+  back : (o : Open) → is_object o ≡ l.object → IsOpen o 511 → (more : List ℕ) → l.bytes ≡ open_key o ++ more → Walked l.objects l.depth l.rest more (Back o l.bytes l.rest l.numbers);
   within : l.numbers + length l.rest ≤ length l.bytes;
   deep : l.depth ≤ 512;
   size : length l.objects ≡ 512;

@@ -2,6 +2,8 @@ use Rattle.std.proofs.Common.{◌≡◌, ◌<◌, length, sym, ap, subst, arith}
 use Rattle.std.specs.Prelude.{MatchOption}
 use Rattle.jsonb_stored.proofs.Scalars.{opened_at_top}
 use Rattle.stored_zeros.proofs.Counting.{value_some, opening_there, standing_within, numbers_within, at_start}
+use Rattle.jsonb_key.proofs.Exact.{if_some}
+use Rattle.stored_zeros.proofs.Backwards.{found_whole, found_within}
 use Rattle.stored_zeros.proofs.count.count_until.Goals as goal
 
 pub returns-then-bytes-stop-clause-whole : goal.returns-then-bytes-stop-clause-whole
@@ -24,3 +26,13 @@ returns-in-Some-opening-clause-found c = λ t r more e before all part s place.
     let some : 0 < length before = omega (arith, place, c.if-bytes-stop.false) in
     let y = standing_within t x.inside x.whole before all part s some in
     c.count_parts.ensures.found x.inside x.is (opened_at_top x.inside x.inner x.deeper x.fits) more x.stands y.0 all part y.2 (omega (arith, place, y.1, ap length c.in-Some.ensures.cases.0))
+
+pub returns-then-bytes-stop-clause-only : goal.returns-then-bytes-stop-clause-only
+returns-then-bytes-stop-clause-only c = λ t r more e same less. found_whole t c.args.bytes.now more e
+
+pub returns-in-Some-opening-clause-only : goal.returns-in-Some-opening-clause-only
+returns-in-Some-opening-clause-only c =
+    if_some c.count_parts.result c.count_parts.ensures.only (λ found f t r more e same less.
+    let x = opening_there 512 t r c.in-Some.first.now c.in-Some.rest.now c.args.bytes.now more c.in-Some.ensures.cases.0 e c.in-Some-opening.object c.in-Some-opening.ensures in
+    found_within t x.inside x.whole c.args.bytes.now c.in-Some.first.now c.in-Some.rest.now more found.1.now found.0 c.in-Some.ensures.cases.0 e
+    (f x.inside x.is (opened_at_top x.inside x.inner x.deeper x.fits) more x.stands same less))
