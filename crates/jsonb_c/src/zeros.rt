@@ -5,7 +5,7 @@ ghost use Rattle.jsonb_c.specs.KeyParts.{IsTreeKey};
 ghost use Rattle.jsonb_c.specs.Zeros.{zeros_status_of, AreZerosOfNumbers, AreZerosOfText, HasNoZeros, IsTextWithZeros, LackZeros, LackNumbers};
 ghost use Rattle.jsonb_spec.specs.SortKey.{key_of};
 ghost use Rattle.jsonb_spec.specs.Tree.{Tree};
-ghost use Rattle.stored_zeros.specs.PartsOf.{numbers_in, StandsIn};
+ghost use Rattle.stored_zeros.specs.PartsOf.{numbers_in, IsCounted, StandsIn};
 
 use crate::{ACCEPTED, NO_KEY, NO_ZEROS, OUT_OF_MEMORY, TOO_SHORT, put};
 use std::alloc::Global;
@@ -132,6 +132,8 @@ pub extern "C" fn vizhoniku_key_numbers(
     ensures counted { (t : Tree) → IsTreeKey key.now t → (front : List ℕ) → (count : ℕ) → (part : Tree)
         → StandsIn t front count part → offset ≡ length front → size ≡ length (key_of part)
         → (result ≡ ACCEPTED) × (before.new ≡ count) × (numbers.new ≡ numbers_in part) }
+    ensures only { result ≡ ACCEPTED → (t : Tree) → IsTreeKey key.now t
+        → IsCounted t offset size before.new numbers.new }
     ensures no_count { result ≢ ACCEPTED → (before.new ≡ 0) × (numbers.new ≡ 0) }
 {
     match count_numbers(key, offset, size) {
