@@ -10,7 +10,6 @@ ghost use Rattle.jsonb_spec.specs.Text.Range.{IsInRange, IsIntegerRange};
 ghost use Rattle.jsonb_spec.specs.Tree.{Tree};
 ghost use Rattle.jsonb_value.specs.View.{view};
 ghost use Rattle.jsonb_scan.specs.Answer.{mode_of, NamesFault, IsTextError, Gives, MayAllocate};
-ghost use Rattle.jsonb.specs.Parser.{rest_of, size_of, Advances, IsBehind};
 ghost use Rattle.jsonb_scan.specs.Reading.{begins, fault_at};
 ghost use Rattle.jsonb_scan.specs.Reading.Whitespace.{skip_closed_whitespace};
 ghost use Rattle.jsonb_scan.specs.Reading.Document.{at_end, comment_at, document_of, source_from, source_of};
@@ -197,9 +196,12 @@ struct Parser<'a> {
     offset: usize,
     // What is wrong, once a call failed.
     told: Option<Error>,
+    ghost inside: { offset ≤ length buf.now },
 }
 
 impl<'a> Parser<'a> {
+    ghost use Rattle.jsonb.specs.Parser.{rest_of, size_of, Advances, IsBehind};
+
     // The next byte.
     fn peek(&self) -> Option<u8>
         ensures next { MatchOption result (rest_of self.now ≡ [])
@@ -225,8 +227,7 @@ impl<'a> Parser<'a> {
     fn take_byte(&mut self, byte: u8) -> bool
         ensures found { result ≡ begins byte (rest_of self.old) }
         ensures rest { MatchBool result (rest_of self.old ≡ byte ∷ rest_of self.new) (self.new ≡ self.old) }
-        ensures inside { MatchBool result (self.old.offset < self.new.offset × self.new.offset ≤ size_of self.new)
-            (self.new ≡ self.old) }
+        ensures onward { MatchBool result (self.old.offset < self.new.offset) (self.new ≡ self.old) }
         ensures behind { MatchBool result (IsBehind byte self.new) (Unit {0}) }
         ensures advances { Advances self.old self.new }
     {
@@ -239,7 +240,6 @@ impl<'a> Parser<'a> {
 
     // The bytes that are still to be read.
     fn rest(&self) -> &'a [u8]
-        requires { self.now.offset ≤ size_of self.now }
         ensures { result.now ≡ rest_of self.now }
     {
         &self.buf[self.offset..]
@@ -312,7 +312,6 @@ impl<'a> Parser<'a> {
         room: &mut V::Room,
         text: &'a str,
     ) -> std::result::Result<V, Failed>
-        requires inside { self.old.offset ≤ size_of self.old }
         requires same { text.now ≡ take (length text.now) self.old.buf.now }
         ensures reads { V.stands self.old.buf.now room.old true [] []
             → ElseFails V.silent self.new.told result (source_from (size_of self.old) (mode_of self.old.mode)
@@ -374,7 +373,6 @@ impl<'a> Parser<'a> {
 
     // The end of a text, after its value.
     fn end_document(&mut self) -> Result<()>
-        requires { self.old.offset ≤ size_of self.old }
         ensures reads { (s : Source) → Gives (λ _. s) result (at_end (size_of self.old) (mode_of self.old.mode) s
             (skip_closed_whitespace (mode_of self.old.mode) (rest_of self.old))) }
         ensures takes_no_memory { result ≢ Err Error.OutOfMemory }
