@@ -1,5 +1,5 @@
 //! Values that hold no others.
-ghost use Rattle.std.specs.Prelude.{◌≡◌, ◌≢◌, ◌<◌, ◌≤◌, [], ◌∷◌, ◌++◌, drop, length, take, Contains, MatchBool, Err, IfErr, IfNone, IfOk, OnOk, IfSome, Some, true, false, ℕ, List, ◌^◌, pos, neg_ℤ, slice_range};
+ghost use Rattle.std.specs.Prelude.{◌≡◌, ◌≢◌, ◌<◌, [], ◌∷◌, ◌++◌, drop, length, take, Contains, MatchBool, Err, IfErr, IfNone, OnOk, IfSome, Some, true, false, ℕ, List, ◌^◌, pos, neg_ℤ, slice_range};
 ghost use Rattle.jsonb_spec.specs.Ascii as ascii;
 ghost use Rattle.jsonb_spec.specs.Mode.{standard, extended};
 ghost use Rattle.jsonb_value.specs.View.{number_view};

@@ -1,10 +1,10 @@
 //! Quoted strings.
-ghost use Rattle.std.specs.Prelude.{◌≡◌, ◌≢◌, ◌+◌, ◌<◌, ◌≤◌, Contains, Err, IfNone, IfSome, length, take, ◌++◌, ◌∷◌, true};
+ghost use Rattle.std.specs.Prelude.{◌≡◌, ◌≢◌, ◌+◌, ◌<◌, Contains, Err, IfNone, IfSome, length, take, ◌++◌, ◌∷◌, true};
 ghost use Rattle.std.specs.Cow.{cow_str_bytes};
 ghost use Rattle.jsonb_spec.specs.Ascii as ascii;
 ghost use Rattle.jsonb_value.specs.View.{mark_view};
 ghost use Rattle.jsonb_spec.specs.Tree.Mark.{plain};
-ghost use Rattle.jsonb.specs.Parser.{rest_of, size_of, Advances, FindsAs, IsBehind, PassesContents, ReadsAs};
+ghost use Rattle.jsonb.specs.Parser.{rest_of, Advances, FindsAs, IsBehind, PassesContents, ReadsAs};
 ghost use Rattle.jsonb_scan.specs.Reading.String.{string_at};
 ghost use Rattle.jsonb_write.specs.PlainText.{ArePlain};
 

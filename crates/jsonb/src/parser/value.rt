@@ -1,5 +1,5 @@
 //! Values with all that is in them, by a loop over the arrays and objects that are open.
-ghost use Rattle.std.specs.Prelude.{◌≡◌, ◌+◌, ◌<◌, ◌≤◌, ℕ, false, true, length, take, List, MatchBool, OnOk, IfOk, IfErr, MatchResult, None, Ok, Some, [], ◌∷◌, ◌++◌, if◌then◌else◌};
+ghost use Rattle.std.specs.Prelude.{◌≡◌, ◌+◌, ◌<◌, ◌≤◌, ℕ, false, true, length, take, List, MatchBool, OnOk, IfOk, IfErr, MatchResult, None, Ok, Some, [], ◌∷◌, if◌then◌else◌};
 ghost use Rattle.jsonb_spec.specs.Ascii as ascii;
 ghost use Rattle.jsonb_spec.specs.Code.Code.{expected_array_comma_or_end, expected_object_comma_or_end};
 ghost use Rattle.jsonb_spec.specs.Grammar.{max_depth};
@@ -9,17 +9,15 @@ ghost use Rattle.jsonb.specs.declared.parser.frame.Frame.{Frame};
 ghost use Rattle.jsonb.specs.declared.parser.frame.Frame.TheVariants.{Array, Object};
 ghost use Rattle.jsonb.specs.Handler.{ElseFails, Builds};
 ghost use Rattle.jsonb.specs.Frames.{Fits, IsObject, Pushes, ReadsParts, BeforeValue, AtPart, IsRead, OpensContainer, finish_container, scalar_or_null};
-ghost use Rattle.jsonb_scan.specs.Answer.{mode_of, MayAllocate};
+ghost use Rattle.jsonb_scan.specs.Answer.{mode_of};
 ghost use Rattle.jsonb.specs.Parser.{rest_of, size_of, Advances, AdvancesOver, IsBehind, read_at};
 ghost use Rattle.jsonb_scan.specs.Reading.{Read, begins};
 ghost use Rattle.jsonb_scan.specs.Reading.Whitespace.{is_whitespace_start, skip_whitespace};
 ghost use Rattle.jsonb_scan.specs.Reading.Container.{is_left_out};
 ghost use Rattle.jsonb_scan.specs.Reading.Document.{value_at};
-ghost use Rattle.jsonb_spec.specs.Source.{Source, Found};
+ghost use Rattle.jsonb_spec.specs.Source.{Source};
 ghost use Rattle.jsonb.specs.Stack.{elements_from, next_part_at, part_end};
-ghost use Rattle.jsonb_scan.specs.Open.{Open, elements_so_far, members_so_far};
-ghost use Rattle.jsonb_spec.specs.Tree.{Mark};
-ghost use Rattle.jsonb_spec.specs.Tree.Mark.{plain};
+ghost use Rattle.jsonb_scan.specs.Open.{Open, elements_so_far};
 
 use super::frame::{Frame, OpenObject};
 use super::handler::{Failed, Handler};

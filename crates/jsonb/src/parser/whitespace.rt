@@ -1,7 +1,7 @@
 //! Whitespace between the parts of a text.
-ghost use Rattle.std.specs.Prelude.{◌≡◌, ◌+◌, ◌<◌, ◌≤◌, MatchBool};
+ghost use Rattle.std.specs.Prelude.{◌≡◌, ◌+◌, ◌<◌, MatchBool};
 ghost use Rattle.jsonb_scan.specs.Answer.{mode_of};
-ghost use Rattle.jsonb.specs.Parser.{rest_of, size_of, Advances};
+ghost use Rattle.jsonb.specs.Parser.{rest_of, Advances};
 ghost use Rattle.jsonb_scan.specs.Reading.Whitespace.{opens_comment, skip_closed_whitespace, skip_whitespace};
 
 use super::{Mode, Parser};
