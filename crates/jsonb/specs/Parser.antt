@@ -30,10 +30,9 @@ pub record Advances (old new : Parser) : Type 0 where
   pub onward : old.offset ≤ new.offset
 
 -- The parser has gone on in the same input, and what was in the room before the text stays.
-pub record AdvancesOver {R : Type 0} (base_of : R → List (List ℕ)) (old new : Parser) (old_room new_room : R) : Type 0
-    where
+pub record AdvancesOver {R : Type 0} (base_of : R → List (List ℕ)) (old new : Parser) (before after : R) : Type 0 where
   pub parser : Advances old new
-  pub base : base_of new_room ≡ base_of old_room
+  pub base : base_of after ≡ base_of before
 
 -- What a call returned, seen by view, and the bytes that it left are what this function reads from the reader's index
 -- on.
