@@ -5,6 +5,7 @@ pub mod Held
 pub mod Frames
 pub mod Literals
 pub mod Parser
+pub mod Parses
 pub mod Explained
 pub mod Source
 pub mod SourceLaws

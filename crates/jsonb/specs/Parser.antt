@@ -23,12 +23,16 @@ size_of p = length p.buf.now
 abbrev pub IsBehind : ℕ → Parser → Type 0
 IsBehind byte p = (0 < p.offset) × (slice_index p.buf.now (p.offset - 1) ≡ byte)
 
--- The reader has gone on in the same input, and not past its end.
+-- The parser has gone on in the same input.
 pub record Advances (old new : Parser) : Type 0 where
   pub buf : new.buf ≡ old.buf
   pub mode : new.mode ≡ old.mode
   pub onward : old.offset ≤ new.offset
-  pub inside : old.offset ≤ size_of old → new.offset ≤ size_of new
+
+-- The parser has gone on in the same input, and what was in the room before the text stays.
+pub record AdvancesOver {R : Type 0} (base_of : R → List (List ℕ)) (old new : Parser) (before after : R) : Type 0 where
+  pub parser : Advances old new
+  pub base : base_of after ≡ base_of before
 
 -- What a call returned, seen by view, and the bytes that it left are what this function reads from the reader's index
 -- on.

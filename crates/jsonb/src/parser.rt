@@ -1,21 +1,20 @@
 //! The parsers of JSON texts: from left to right, up to the first fault.
 
-ghost use Rattle.std.specs.Prelude.{◌≡◌, ◌≢◌, ◌+◌, ◌<◌, ◌≤◌, ℕ, List, [], ◌∷◌, drop, ◌⊎◌, MatchOption, MatchBool, MatchResult, IfOk, IfErr, IfSome, OnOk, Err, None, Ok, Some, true, false, length, take};
+ghost use Rattle.std.specs.Prelude.{◌≡◌, ◌≢◌, ◌+◌, ◌<◌, ◌≤◌, ℕ, List, [], ◌∷◌, drop, ◌⊎◌, MatchOption, MatchBool, IfOk, IfErr, IfSome, Err, None, Ok, Some, true, length, take};
 ghost use Rattle.jsonb_value.specs.Error.CodeView.{code_of};
-ghost use Rattle.jsonb_spec.specs.Grammar.{IsDocument, IsNoDocument};
+ghost use Rattle.jsonb_spec.specs.Grammar.{IsDocument};
 ghost use Rattle.jsonb_spec.specs.Mode.{standard, extended};
 ghost use Rattle.jsonb_spec.specs.Order.{Same};
 ghost use Rattle.jsonb_spec.specs.Proper.{IsProper};
 ghost use Rattle.jsonb_spec.specs.Text.Range.{IsInRange, IsIntegerRange};
 ghost use Rattle.jsonb_spec.specs.Tree.{Tree};
 ghost use Rattle.jsonb_value.specs.View.{view};
-ghost use Rattle.jsonb_scan.specs.Answer.{mode_of, NamesFault, IsTextError, Gives, MayAllocate};
-ghost use Rattle.jsonb.specs.Parser.{rest_of, size_of, Advances, IsBehind};
+ghost use Rattle.jsonb_scan.specs.Answer.{mode_of, NamesFault, Gives, MayAllocate};
 ghost use Rattle.jsonb_scan.specs.Reading.{begins, fault_at};
 ghost use Rattle.jsonb_scan.specs.Reading.Whitespace.{skip_closed_whitespace};
-ghost use Rattle.jsonb_scan.specs.Reading.Document.{at_end, comment_at, document_of, source_from, source_of};
-ghost use Rattle.jsonb.specs.Explained.{IsExplained};
-ghost use Rattle.jsonb_spec.specs.Source.{Source, null_source};
+ghost use Rattle.jsonb_scan.specs.Reading.Document.{at_end, comment_at, source_from, source_of};
+ghost use Rattle.jsonb.specs.Parses.{Parses};
+ghost use Rattle.jsonb_spec.specs.Source.{Source};
 ghost use Rattle.jsonb.specs.Handler.{BuildsAll, ElseFails, IsWritten, Misses};
 
 mod ast;
@@ -57,22 +56,8 @@ pub use straight::{append_sort_key, append_text, check, may_allocate};
 ///
 /// Those of [`JsonAst::parse`].
 pub fn parse_value_standard_mode(alloc: Global, buf: &[u8]) -> Result<Value<'_>>
-    // What is read is a document, and this is its one tree.
-    ensures document { IfOk result (λ v. IsDocument standard buf.now (view v)) }
-    ensures only { IfOk result (λ v. (t : Tree) → IsDocument standard buf.now t → t ≡ view v) }
-
-    // What is rejected is no document, unless memory ran out.
-    ensures rejected { IfErr result (λ e. e ≢ Error.OutOfMemory → IsNoDocument standard buf.now) }
-    ensures memory { result ≡ Err Error.OutOfMemory → MayAllocate buf.now }
-
-    // No other error is returned.
-    ensures errors { IfErr result IsTextError }
-
-    // Which fault it is, and where.
-    ensures exact { Gives view result (document_of standard buf.now) }
-
-    // What stands at the place that is named.
-    ensures explained { IfErr result (IsExplained standard buf.now) }
+    // What is returned is the one tree of the document; what is rejected is none, unless memory ran out.
+    ensures parses { Parses standard view buf.now result }
 
     // What is read is in the range of integers, so that what is written of it reads back.
     ensures in_range { IfOk result (λ v. IsIntegerRange (view v)) }
@@ -100,22 +85,8 @@ pub fn parse_value_standard_mode(alloc: Global, buf: &[u8]) -> Result<Value<'_>>
 ///
 /// Those of [`JsonAst::parse`].
 pub fn parse_value(alloc: Global, buf: &[u8]) -> Result<Value<'_>>
-    // What is read is a document, and this is its one tree.
-    ensures document { IfOk result (λ v. IsDocument extended buf.now (view v)) }
-    ensures only { IfOk result (λ v. (t : Tree) → IsDocument extended buf.now t → t ≡ view v) }
-
-    // What is rejected is no document, unless memory ran out.
-    ensures rejected { IfErr result (λ e. e ≢ Error.OutOfMemory → IsNoDocument extended buf.now) }
-    ensures memory { result ≡ Err Error.OutOfMemory → MayAllocate buf.now }
-
-    // No other error is returned.
-    ensures errors { IfErr result IsTextError }
-
-    // Which fault it is, and where.
-    ensures exact { Gives view result (document_of extended buf.now) }
-
-    // What stands at the place that is named.
-    ensures explained { IfErr result (IsExplained extended buf.now) }
+    // What is returned is the one tree of the document; what is rejected is none, unless memory ran out.
+    ensures parses { Parses extended view buf.now result }
 
     // What is read is in range, so that what is written of it reads back.
     ensures in_range { IfOk result (λ v. IsInRange (view v)) }
@@ -134,13 +105,7 @@ pub fn parse_value(alloc: Global, buf: &[u8]) -> Result<Value<'_>>
 fn value_of_tree(alloc: Global, buf: &[u8], mode: Mode, told: Option<Error>) -> Result<Value<'_>>
     requires misses { Misses true told (source_of (mode_of mode) buf.now) }
     requires memory { told ≡ Some Error.OutOfMemory → MayAllocate buf.now }
-    ensures document { IfOk result (λ v. IsDocument (mode_of mode) buf.now (view v)) }
-    ensures only { IfOk result (λ v. (t : Tree) → IsDocument (mode_of mode) buf.now t → t ≡ view v) }
-    ensures rejected { IfErr result (λ e. e ≢ Error.OutOfMemory → IsNoDocument (mode_of mode) buf.now) }
-    ensures memory { result ≡ Err Error.OutOfMemory → MayAllocate buf.now }
-    ensures errors { IfErr result IsTextError }
-    ensures exact { Gives view result (document_of (mode_of mode) buf.now) }
-    ensures explained { IfErr result (IsExplained (mode_of mode) buf.now) }
+    ensures parses { Parses (mode_of mode) view buf.now result }
 {
     match told {
         Some(error) => Err(error),
@@ -197,9 +162,12 @@ struct Parser<'a> {
     offset: usize,
     // What is wrong, once a call failed.
     told: Option<Error>,
+    ghost inside: { offset ≤ length buf.now },
 }
 
 impl<'a> Parser<'a> {
+    ghost use Rattle.jsonb.specs.Parser.{rest_of, size_of, Advances, IsBehind};
+
     // The next byte.
     fn peek(&self) -> Option<u8>
         ensures next { MatchOption result (rest_of self.now ≡ [])
@@ -225,8 +193,7 @@ impl<'a> Parser<'a> {
     fn take_byte(&mut self, byte: u8) -> bool
         ensures found { result ≡ begins byte (rest_of self.old) }
         ensures rest { MatchBool result (rest_of self.old ≡ byte ∷ rest_of self.new) (self.new ≡ self.old) }
-        ensures inside { MatchBool result (self.old.offset < self.new.offset × self.new.offset ≤ size_of self.new)
-            (self.new ≡ self.old) }
+        ensures onward { MatchBool result (self.old.offset < self.new.offset) (self.new ≡ self.old) }
         ensures behind { MatchBool result (IsBehind byte self.new) (Unit {0}) }
         ensures advances { Advances self.old self.new }
     {
@@ -239,7 +206,6 @@ impl<'a> Parser<'a> {
 
     // The bytes that are still to be read.
     fn rest(&self) -> &'a [u8]
-        requires { self.now.offset ≤ size_of self.now }
         ensures { result.now ≡ rest_of self.now }
     {
         &self.buf[self.offset..]
@@ -312,7 +278,6 @@ impl<'a> Parser<'a> {
         room: &mut V::Room,
         text: &'a str,
     ) -> std::result::Result<V, Failed>
-        requires inside { self.old.offset ≤ size_of self.old }
         requires same { text.now ≡ take (length text.now) self.old.buf.now }
         ensures reads { V.stands self.old.buf.now room.old true [] []
             → ElseFails V.silent self.new.told result (source_from (size_of self.old) (mode_of self.old.mode)
@@ -374,7 +339,6 @@ impl<'a> Parser<'a> {
 
     // The end of a text, after its value.
     fn end_document(&mut self) -> Result<()>
-        requires { self.old.offset ≤ size_of self.old }
         ensures reads { (s : Source) → Gives (λ _. s) result (at_end (size_of self.old) (mode_of self.old.mode) s
             (skip_closed_whitespace (mode_of self.old.mode) (rest_of self.old))) }
         ensures takes_no_memory { result ≢ Err Error.OutOfMemory }

@@ -10,14 +10,11 @@ ghost use Rattle.std.specs.Prelude.{◌≡◌, ◌≢◌, ◌↔◌, ◌⊎◌, 
 ghost use Rattle.jsonb_spec.specs.Code.{Code};
 ghost use Rattle.jsonb_value.specs.Error.CodeView.{code_of};
 ghost use Rattle.jsonb_value.specs.Error.ErrorText.{error_text};
-ghost use Rattle.jsonb_spec.specs.Grammar.{IsDocument, IsNoDocument};
 ghost use Rattle.jsonb_spec.specs.Order.{bytes_cmp};
-ghost use Rattle.jsonb_spec.specs.Tree.{Tree};
 ghost use Rattle.jsonb_value.specs.View.{view};
 ghost use Rattle.jsonb_spec.specs.Line.{column_at, fault_index, line_at};
-ghost use Rattle.jsonb_scan.specs.Answer.{mode_of, Gives, MayAllocate, IsTextError};
-ghost use Rattle.jsonb_scan.specs.Reading.Document.{document_of};
-ghost use Rattle.jsonb.specs.Explained.{IsExplained};
+ghost use Rattle.jsonb_scan.specs.Answer.{mode_of, MayAllocate, IsTextError};
+ghost use Rattle.jsonb.specs.Parses.{Parses};
 ghost use Rattle.jsonb_pointer.specs.Path.{IsPath, StartsKey};
 ghost use Rattle.jsonb_c.specs.Interface.{NumberChooses, code_number, nothing, sign, status_of, told, HasNoPartAt, HasPartAt, IsAccepted, IsNoDocumentOf, IsNoPath, IsOneRejected, IsOrdered, IsDocumentOf, IsKeyOf, IsMessageOf, IsPartAnswer, IsReason, IsRejected, IsTextOf, NeedsRoom, NeedsRoomForBoth, SaysError, IsPartOf, Writes};
 
@@ -795,14 +792,7 @@ fn choose_mode(number: u32) -> Option<Mode>
 
 // The value of a text, by the reader of the mode.
 fn read<'a>(alloc: Global, mode: Mode, text: &'a [u8]) -> jsonb::Result<Value<'a>>
-    ensures document { IfOk result (λ v. IsDocument (mode_of mode) text.now (view v)) }
-    ensures only { IfOk result (λ v. (t : Tree) → IsDocument (mode_of mode) text.now t → t ≡ view v) }
-    ensures rejected { IfErr result (λ e. e ≢ Error.OutOfMemory
-        → IsNoDocument (mode_of mode) text.now) }
-    ensures memory { result ≡ Err Error.OutOfMemory → MayAllocate text.now }
-    ensures errors { IfErr result IsTextError }
-    ensures exact { Gives view result (document_of (mode_of mode) text.now) }
-    ensures explained { IfErr result (IsExplained (mode_of mode) text.now) }
+    ensures parses { Parses (mode_of mode) view text.now result }
 {
     match mode {
         Mode::Standard => parse_value_standard_mode(alloc, text),

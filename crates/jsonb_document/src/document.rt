@@ -30,20 +30,17 @@ impl Drop for Document<'_> {
 }
 
 impl<'a> Document<'a> {
-    ghost use Rattle.std.specs.Prelude.{◌≡◌, ◌≢◌, ◌+◌, ◌<◌, ◌≤◌, length, IfOk, IfErr, OnOk, OnErr, Err, vec_len};
+    ghost use Rattle.std.specs.Prelude.{◌≡◌, ◌+◌, ◌<◌, ◌≤◌, length, IfOk, IfErr, OnOk, OnErr, Err, vec_len};
     ghost use Rattle.std.specs.Vec.{vec_capacity};
-    ghost use Rattle.jsonb_spec.specs.Grammar.{IsDocument, IsNoDocument};
     ghost use Rattle.jsonb_spec.specs.Proper.{IsProper};
     ghost use Rattle.jsonb_spec.specs.SortKey.{key_of, IsBounded};
     ghost use Rattle.jsonb_spec.specs.Text.{AppendsText, tree_text};
     ghost use Rattle.jsonb_spec.specs.Text.Appending.{AppendsAllOrNothing};
     ghost use Rattle.jsonb_spec.specs.Text.Range.{IsInRangeOf};
-    ghost use Rattle.jsonb_spec.specs.Tree.{Tree};
     ghost use Rattle.jsonb_value.specs.View.{view};
-    ghost use Rattle.jsonb_scan.specs.Answer.{mode_of, Gives, IsTextError, MayAllocate};
-    ghost use Rattle.jsonb_scan.specs.Reading.Document.{document_of};
+    ghost use Rattle.jsonb_scan.specs.Answer.{mode_of};
     ghost use Rattle.jsonb.specs.AstView.{IsContainer};
-    ghost use Rattle.jsonb.specs.Explained.{IsExplained};
+    ghost use Rattle.jsonb.specs.Parses.{Parses};
     ghost use Rattle.jsonb_document.specs.Listed.{listed_view};
     ghost use Rattle.jsonb_document.specs.View.{document_view};
 
@@ -60,22 +57,8 @@ impl<'a> Document<'a> {
     /// `Syntax` with what is wrong and where, if the text is no document of the mode; the text is parsed from left to
     /// right, and the first fault is reported. `OutOfMemory` only where the text holds `[`, `{` or a backslash.
     pub fn parse(alloc: Global, buf: &'a [u8], mode: Mode) -> Result<Document<'a>>
-        // What is read is a document, and this is its one tree.
-        ensures document { IfOk result (λ d. IsDocument (mode_of mode) buf.now (document_view d)) }
-        ensures only { IfOk result (λ d. (t : Tree) → IsDocument (mode_of mode) buf.now t → t ≡ document_view d) }
-
-        // What is rejected is no document, unless memory ran out.
-        ensures rejected { IfErr result (λ e. e ≢ Error.OutOfMemory → IsNoDocument (mode_of mode) buf.now) }
-        ensures memory { result ≡ Err Error.OutOfMemory → MayAllocate buf.now }
-
-        // No other error is returned.
-        ensures errors { IfErr result IsTextError }
-
-        // Which fault it is, and where.
-        ensures exact { Gives document_view result (document_of (mode_of mode) buf.now) }
-
-        // What stands at the place that is named.
-        ensures explained { IfErr result (IsExplained (mode_of mode) buf.now) }
+        // What is returned is the one tree of the document; what is rejected is none, unless memory ran out.
+        ensures parses { Parses (mode_of mode) document_view buf.now result }
 
         // What is read is in the range of the mode, so that its text round-trips, and its sort key compares as it does.
         ensures in_range { IfOk result (λ d. IsInRangeOf (mode_of mode) (document_view d)) }

@@ -1,5 +1,5 @@
 -- Values with a part set or removed, and two values merged.
-use Rattle.std.specs.Prelude.{◌≡◌, ℕ, zero, suc, ◌+◌, ◌-◌, ◌<◌, ◌==◌, nat_lt, Bool, true, false, List, [], ◌∷◌, ◌++◌, length, Option, Some, None, option_map, Result, Ok, OnOk, IfOk, IfErr, if◌then◌else◌, Vec, vec_len, codes}
+use Rattle.std.specs.Prelude.{◌≡◌, ℕ, zero, suc, ◌+◌, ◌-◌, ◌<◌, ◌≤◌, ◌==◌, nat_lt, Bool, true, false, List, [], ◌∷◌, ◌++◌, length, Option, Some, None, option_map, Result, Ok, OnOk, OnErr, IfOk, IfErr, if◌then◌else◌, Vec, vec_len, codes}
 use Rattle.std.specs.Option.{option_and_then}
 use Rattle.std.specs.Ordering.{match_ordering}
 use Rattle.std.specs.Vec.{vec_capacity}
@@ -167,6 +167,11 @@ pub record AppendsKey {X : Type 0} (t : Tree) (result : Result X EditError) (old
 abbrev pub Edits : Option Tree → Result Bool EditError → Vec ℕ Global → Vec ℕ Global → Type 0
 Edits (Some t) result old new = AppendsKey t result old new × IfOk result (λ changed. changed ≡ true)
 Edits None result old new = (result ≡ Ok false) × (new.items ≡ old.items)
+
+-- After an error the buffer has its old bytes, and its capacity doesn't shrink.
+pub record KeepsOnError {X E : Type 0} (result : Result X E) (old new : Vec ℕ Global) : Type 0 where
+  pub err : OnErr result (new.items ≡ old.items)
+  pub capacity : vec_capacity old ≤ vec_capacity new
 
 -- what is printed of an error
 abbrev pub edit_error_text : EditError → List ℕ

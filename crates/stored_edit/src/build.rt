@@ -1,12 +1,11 @@
 //! Objects and arrays with a part more.
 
-ghost use Rattle.std.specs.Prelude.{◌≡◌, ◌≤◌, Ok, OnErr, false};
-ghost use Rattle.std.specs.Vec.{vec_capacity};
+ghost use Rattle.std.specs.Prelude.{◌≡◌, Ok, false};
 ghost use Rattle.jsonb_key.specs.Readable.{IsAnyNumber, IsReadable};
 ghost use Rattle.jsonb_spec.specs.SortKey.{key_of, items_key};
 ghost use Rattle.jsonb_spec.specs.Text.Range.{AreWithin};
 ghost use Rattle.jsonb_spec.specs.Tree.{Tree, Trees, array, more_trees, no_trees};
-ghost use Rattle.stored_edit.specs.Edit.{joined_items, with_item, with_member, AppendsKey, Edits};
+ghost use Rattle.stored_edit.specs.Edit.{joined_items, with_item, with_member, AppendsKey, Edits, KeepsOnError};
 
 use crate::edit::put_part;
 use crate::error::EditError;
@@ -38,8 +37,7 @@ pub fn append_with_member(
 ) -> Result<bool, EditError>
     ensures edits { (t : Tree) → IsReadable t → key.now ≡ key_of t → (u : Tree) → IsReadable u → value.now ≡ key_of u
         → Edits (with_member name.now u t) result out.old out.new }
-    ensures err { OnErr result (out.new.items ≡ out.old.items) }
-    ensures capacity { vec_capacity out.old ≤ vec_capacity out.new }
+    ensures keeps { KeepsOnError result out.old out.new }
 {
     let Some(members) = members_of(key) else {
         return other_value(key);
@@ -66,8 +64,7 @@ pub fn append_with_member(
 pub fn append_with_item(out: &mut Vec<u8>, key: &[u8], item: &[u8]) -> Result<bool, EditError>
     ensures edits { (t : Tree) → IsReadable t → key.now ≡ key_of t → (u : Tree) → IsReadable u → item.now ≡ key_of u
         → Edits (with_item u t) result out.old out.new }
-    ensures err { OnErr result (out.new.items ≡ out.old.items) }
-    ensures capacity { vec_capacity out.old ≤ vec_capacity out.new }
+    ensures keeps { KeepsOnError result out.old out.new }
 {
     let Some(items) = items_of(key) else {
         return other_value(key);
@@ -93,8 +90,7 @@ fn push_item(out: &mut Vec<u8>, items: &[u8], item: &[u8]) -> Result<(), EditErr
     ensures pushed { (ts : Trees) → AreWithin IsAnyNumber ts 511 → items.now ≡ items_key ts → (u : Tree) → IsReadable u
         → item.now ≡ key_of u
         → AppendsKey (array (joined_items ts (more_trees u no_trees))) result out.old out.new }
-    ensures err { OnErr result (out.new.items ≡ out.old.items) }
-    ensures capacity { vec_capacity out.old ≤ vec_capacity out.new }
+    ensures keeps { KeepsOnError result out.old out.new }
 {
     let items = match without_end(items) {
         Ok(items) => items,

@@ -1,14 +1,13 @@
 //! Parts of keys, set and removed.
 
-ghost use Rattle.std.specs.Prelude.{◌≡◌, ◌≤◌, ◌++◌, List, ℕ, map, string_bytes, Option, None, MatchOption, OnErr};
-ghost use Rattle.std.specs.Vec.{vec_capacity};
+ghost use Rattle.std.specs.Prelude.{◌≡◌, ◌≤◌, ◌++◌, List, ℕ, map, string_bytes, Option, None, MatchOption};
 ghost use Rattle.jsonb_key.specs.Readable.{IsAnyNumber, IsReadable};
 ghost use Rattle.jsonb_spec.specs.Grammar.{max_depth};
 ghost use Rattle.jsonb_spec.specs.SortKey.{key_of};
 ghost use Rattle.jsonb_spec.specs.Text.Appending.{AppendsAllOrNothing};
 ghost use Rattle.jsonb_spec.specs.Text.Range.{IsWithin};
 ghost use Rattle.jsonb_spec.specs.Tree.{Tree};
-ghost use Rattle.stored_edit.specs.Edit.{Outcome, becomes, with_part, without_part, AppendsKey, Edits};
+ghost use Rattle.stored_edit.specs.Edit.{Outcome, becomes, with_part, without_part, AppendsKey, Edits, KeepsOnError};
 ghost use Rattle.jsonb_stored.specs.Open.{name_key};
 ghost use Rattle.stored_edit.specs.Spots.{SpotIn, Stands};
 
@@ -34,8 +33,7 @@ pub fn append_without_part(
 ) -> Result<bool, EditError>
     ensures edits { (t : Tree) → IsReadable t → key.now ≡ key_of t
         → Edits (without_part (map string_bytes names.now) t) result out.old out.new }
-    ensures err { OnErr result (out.new.items ≡ out.old.items) }
-    ensures capacity { vec_capacity out.old ≤ vec_capacity out.new }
+    ensures keeps { KeepsOnError result out.old out.new }
 {
     let Some(place) = find_place(key, names)? else {
         return Ok(false);
@@ -76,8 +74,7 @@ pub fn append_with_part(
 ) -> Result<bool, EditError>
     ensures edits { (t : Tree) → IsReadable t → key.now ≡ key_of t → (u : Tree) → IsReadable u → part.now ≡ key_of u
         → Edits (with_part (map string_bytes names.now) u create t) result out.old out.new }
-    ensures err { OnErr result (out.new.items ≡ out.old.items) }
-    ensures capacity { vec_capacity out.old ≤ vec_capacity out.new }
+    ensures keeps { KeepsOnError result out.old out.new }
 {
     let Some(place) = find_place(key, names)? else {
         return Ok(false);
@@ -104,8 +101,7 @@ pub(crate) fn put_part(
         place.now.room place.now.spot)
         → (u : Tree) → IsReadable u → part.now ≡ key_of u → (change : Option Tree → Outcome)
         → change s.there ≡ becomes u → MatchOption (changed change) ⊥ (λ v. AppendsKey v result out.old out.new) }
-    ensures err { OnErr result (out.new.items ≡ out.old.items) }
-    ensures capacity { vec_capacity out.old ≤ vec_capacity out.new }
+    ensures keeps { KeepsOnError result out.old out.new }
 {
     if !fits(part, place.room)? {
         return Err(EditError::TooDeep);
@@ -122,8 +118,7 @@ fn write_part(out: &mut Vec<u8>, key: &[u8], place: &Place, part: &[u8]) -> Resu
         → Stands place.now.object name place.now.spot there → (there ≡ None → name ≡ place.now.name.now)
         → AppendsAllOrNothing result out.old out.new
         (front ++ (name_key place.now.object name ++ (part.now ++ place.now.spot.behind.now))) }
-    ensures err { OnErr result (out.new.items ≡ out.old.items) }
-    ensures capacity { vec_capacity out.old ≤ vec_capacity out.new }
+    ensures keeps { KeepsOnError result out.old out.new }
 {
     let spot = place.spot;
     if spot.found {

@@ -1,6 +1,6 @@
 //! Two keys merged.
 
-ghost use Rattle.std.specs.Prelude.{◌≡◌, ◌+◌, ◌<◌, ◌≤◌, ◌++◌, ◌∷◌, [], List, ℕ, length, true, false, IfOk, MatchBool, MatchOption, MatchResult, Ok, OnErr};
+ghost use Rattle.std.specs.Prelude.{◌≡◌, ◌+◌, ◌<◌, ◌≤◌, ◌++◌, ◌∷◌, [], List, ℕ, length, true, false, IfOk, MatchBool, MatchOption, MatchResult, Ok};
 ghost use Rattle.std.specs.Vec.{vec_capacity};
 ghost use Rattle.jsonb_key.specs.Readable.{IsAnyNumber, IsReadable};
 ghost use Rattle.jsonb_stored.specs.Checked.{HaveReadable};
@@ -10,7 +10,7 @@ ghost use Rattle.jsonb_spec.specs.SortKey.Kind as kind;
 ghost use Rattle.jsonb_spec.specs.Text.Appending.{Extends};
 ghost use Rattle.jsonb_spec.specs.Text.Range.{IsWithin, AreWithin};
 ghost use Rattle.jsonb_spec.specs.Tree.{Tree, Members, array, no_members, object};
-ghost use Rattle.stored_edit.specs.Edit.{as_items, joined_items, merged, merged_members, AppendsKey};
+ghost use Rattle.stored_edit.specs.Edit.{as_items, joined_items, merged, merged_members, AppendsKey, KeepsOnError};
 ghost use Rattle.stored_edit.specs.Merging.{keys_of_items, IsStep};
 
 use crate::error::EditError;
@@ -34,8 +34,7 @@ use std::cmp::Ordering;
 pub fn append_merged(out: &mut Vec<u8>, left: &[u8], right: &[u8]) -> Result<(), EditError>
     ensures merges { (t u : Tree) → IsReadable t → left.now ≡ key_of t → IsReadable u → right.now ≡ key_of u
         → AppendsKey (merged t u) result out.old out.new }
-    ensures err { OnErr result (out.new.items ≡ out.old.items) }
-    ensures capacity { vec_capacity out.old ≤ vec_capacity out.new }
+    ensures keeps { KeepsOnError result out.old out.new }
 {
     match both_members(left, right) {
         Some((members, others)) => merge_objects(out, members, others),
@@ -63,8 +62,7 @@ fn merge_objects(out: &mut Vec<u8>, left: &[u8], right: &[u8]) -> Result<(), Edi
     ensures merges { (ms ns : Members) → HaveReadable ms → HaveReadable ns
         → left.now ≡ members_key ms → right.now ≡ members_key ns
         → AppendsKey (object (merged_members ms ns)) result out.old out.new }
-    ensures err { OnErr result (out.new.items ≡ out.old.items) }
-    ensures capacity { vec_capacity out.old ≤ vec_capacity out.new }
+    ensures keeps { KeepsOnError result out.old out.new }
 {
     let old_len = out.len();
     let room = left.len().saturating_add(right.len());
@@ -216,8 +214,7 @@ fn after_member(members: &[u8]) -> Result<&[u8], NoKey>
 fn join_items(out: &mut Vec<u8>, left: &[u8], right: &[u8]) -> Result<(), EditError>
     ensures joins { (t u : Tree) → IsReadable t → left.now ≡ key_of t → IsReadable u → right.now ≡ key_of u
         → AppendsKey (array (joined_items (as_items t) (as_items u))) result out.old out.new }
-    ensures err { OnErr result (out.new.items ≡ out.old.items) }
-    ensures capacity { vec_capacity out.old ≤ vec_capacity out.new }
+    ensures keeps { KeepsOnError result out.old out.new }
 {
     let items = match item_keys(left) {
         Ok(items) => items,

@@ -12,8 +12,9 @@ use Rattle.jsonb_spec.specs.Grammar.{IsDocument, max_depth, IsNoDocument}
 use Rattle.jsonb_spec.specs.Mode.{Mode, extended}
 use Rattle.jsonb_spec.specs.Tree.{Tree}
 use Rattle.jsonb.specs.AstView.{ast_view}
-use Rattle.jsonb_scan.specs.Answer.{Gives, IsTextError, mode_of}
+use Rattle.jsonb_scan.specs.Answer.{Fails, Gives, IsTextError, MayAllocate, mode_of}
 use Rattle.jsonb.specs.Parser.{Advances, rest_of, size_of}
+use Rattle.jsonb.specs.Parses.{Parses, Rejects}
 use Rattle.jsonb_spec.specs.Source.{Source, null_source, tree_of_source}
 use Rattle.jsonb_scan.specs.Reading.{Fault, fault, ◌>>=◌}
 use Rattle.jsonb_scan.specs.Reading.Whitespace.{opens_comment, skip_closed_whitespace}
@@ -141,29 +142,53 @@ pub gives_source : (mode : Mode) (bytes : List ℕ) (r : Result JsonAst Error) �
 gives_source mode bytes (Ok v) g = source_placed mode bytes (source_view v) g
 gives_source mode bytes (Err e) g = tt
 
-pub gives_document : (mode : Mode) (bytes : List ℕ) (r : Result JsonAst Error) → Gives ast_view r (document_of mode bytes) → IfOk r (λ v. IsDocument mode bytes (ast_view v))
-gives_document mode bytes (Ok v) g = document_sound mode bytes (ast_view v) g
-gives_document mode bytes (Err e) g = tt
-
-pub gives_only : (mode : Mode) (bytes : List ℕ) (r : Result JsonAst Error) → Gives ast_view r (document_of mode bytes) → IfOk r (λ v. (t : Tree) → IsDocument mode bytes t → t ≡ ast_view v)
-gives_only mode bytes (Ok v) g = λ t d. document_unique mode bytes t (ast_view v) d (document_sound mode bytes (ast_view v) g)
-gives_only mode bytes (Err e) g = tt
-
-pub gives_rejected : (mode : Mode) (bytes : List ℕ) (r : Result JsonAst Error) → Gives ast_view r (document_of mode bytes) → IfErr r (λ e. e ≢ OutOfMemory → IsNoDocument mode bytes)
-gives_rejected mode bytes (Ok v) g = tt
-gives_rejected mode bytes (Err (Syntax code place)) g = λ n t d. rejected_is_none mode bytes (record { code = code_of code; place = place }) g t d
-gives_rejected mode bytes (Err OutOfMemory) g = λ n. absurd (n refl)
-gives_rejected mode bytes (Err other) g = absurd g
-
-pub gives_explained : (mode : Mode) (bytes : List ℕ) (r : Result JsonAst Error) → Gives ast_view r (document_of mode bytes) → IfErr r (IsExplained mode bytes)
-gives_explained mode bytes (Ok v) g = tt
-gives_explained mode bytes (Err (Syntax code place)) g = document_stands mode bytes (record { code = code_of code; place = place }) g
-gives_explained mode bytes (Err OutOfMemory) g = tt
-gives_explained mode bytes (Err other) g = absurd g
-
 -- a text is rejected by a fault or for want of memory
 pub gives_errors : {X Y : Type 0} (view : X → Y) (r : Result X Error) (read : Result Y Fault) → Gives view r read → IfErr r IsTextError
 gives_errors view (Ok x) read g = tt
 gives_errors view (Err (Syntax code place)) read g = tt
 gives_errors view (Err OutOfMemory) read g = tt
 gives_errors view (Err other) read g = absurd g
+
+module _ {V : Type 0} (mode : Mode) (view : V → Tree) (bytes : List ℕ) where
+  gives_document : (r : Result V Error) → Gives view r (document_of mode bytes) → IfOk r (λ v. IsDocument mode bytes (view v))
+  gives_document (Ok v) g = document_sound mode bytes (view v) g
+  gives_document (Err e) g = tt
+
+  gives_only : (r : Result V Error) → Gives view r (document_of mode bytes) → IfOk r (λ v. (t : Tree) → IsDocument mode bytes t → t ≡ view v)
+  gives_only (Ok v) g = λ t d. document_unique mode bytes t (view v) d (document_sound mode bytes (view v) g)
+  gives_only (Err e) g = tt
+
+  gives_rejected : (r : Result V Error) → Gives view r (document_of mode bytes) → IfErr r (λ e. e ≢ OutOfMemory → IsNoDocument mode bytes)
+  gives_rejected (Ok v) g = tt
+  gives_rejected (Err (Syntax code place)) g = λ n t d. rejected_is_none mode bytes (record { code = code_of code; place = place }) g t d
+  gives_rejected (Err OutOfMemory) g = λ n. absurd (n refl)
+  gives_rejected (Err other) g = absurd g
+
+  gives_explained : (r : Result V Error) → Gives view r (document_of mode bytes) → IfErr r (IsExplained mode bytes)
+  gives_explained (Ok v) g = tt
+  gives_explained (Err (Syntax code place)) g = document_stands mode bytes (record { code = code_of code; place = place }) g
+  gives_explained (Err OutOfMemory) g = tt
+  gives_explained (Err other) g = absurd g
+
+  -- the contract of a call that returns what the executable specification gives
+  pub gives_all : (r : Result V Error) → Gives view r (document_of mode bytes) → (r ≡ Err OutOfMemory → MayAllocate bytes) → Parses mode view bytes r
+  gives_all r g memory = record {
+    document = gives_document r g;
+    only = gives_only r g;
+    rejected = gives_rejected r g;
+    memory = memory;
+    errors = gives_errors view r (document_of mode bytes) g;
+    exact = g;
+    explained = gives_explained r g;
+  }
+
+-- what an error says of the text that is the fault that is read
+pub fault_rejects : {X : Type 0} (mode : Mode) (bytes : List ℕ) (e : Error) → Fails e (source_of mode bytes) → Rejects {X = X} mode bytes (Err e)
+fault_rejects mode bytes e fails =
+    let exact = gives_tree mode bytes (Err e) fails in
+    record {
+      rejected = gives_rejected mode ast_view bytes (Err e) exact;
+      errors = gives_errors ast_view (Err e) (document_of mode bytes) exact;
+      exact = exact;
+      explained = gives_explained mode ast_view bytes (Err e) exact;
+    }

@@ -114,11 +114,10 @@ module _ {R I M K F : Type 0} (silent : Bool) (Stands : List ℕ → R → Bool 
 -- ---- where a scalar stands
 
 -- the bytes between two places of a parser
-pub between : (p q : Parser) (bytes : List ℕ) → Advances p q → p.offset ≤ size_of p → rest_of p ≡ bytes ++ rest_of q → slice_range p.buf.now p.offset q.offset ≡ bytes
-between p q bytes a within e =
+pub between : (p q : Parser) (bytes : List ℕ) → Advances p q → rest_of p ≡ bytes ++ rest_of q → slice_range p.buf.now p.offset q.offset ≡ bytes
+between p q bytes a e =
     let same = same_size p q a in
-    let inside = a.inside within in
-    let count : q.offset - p.offset ≡ length bytes = omega (arith, ap length e, length-append bytes (rest_of q), length-drop p.offset p.buf.now, length-drop q.offset q.buf.now, same, inside, within) in
+    let count : q.offset - p.offset ≡ length bytes = omega (arith, ap length e, length-append bytes (rest_of q), length-drop p.offset p.buf.now, length-drop q.offset q.buf.now, same, q.inside, p.inside) in
     ap₂ (λ n xs. take n xs) count e ∙ take-append_seam bytes (rest_of q)
 
 -- the integer that is read, with a minus and without
@@ -129,8 +128,8 @@ abbrev pub positive_of : ShortInteger → Num
 positive_of read = record { form = uint64; scale = 0; whole = pos read.magnitude }
 
 -- an integer in the text
-pub integer_stands : (p q : Parser) (n : Num) → Advances p q → p.offset ≤ size_of p → (bytes : List ℕ) × (rest_of p ≡ bytes ++ rest_of q) × IsStandardNumber bytes n → IsSpelledAt p.buf.now p.offset q.offset (number_source n)
-integer_stands p q n a within h some = subst (λ bs. IsStandardNumber bs n) (sym (between p q h.0 a within h.1)) h.2
+pub integer_stands : (p q : Parser) (n : Num) → Advances p q → (bytes : List ℕ) × (rest_of p ≡ bytes ++ rest_of q) × IsStandardNumber bytes n → IsSpelledAt p.buf.now p.offset q.offset (number_source n)
+integer_stands p q n a h some = subst (λ bs. IsStandardNumber bs n) (sym (between p q h.0 a h.1)) h.2
 
 -- nothing is said of where a scalar stands
 pub not_spelled : (text : List ℕ) (at : ℕ) (s : Source) → IsSpelledAt text at at s
@@ -139,16 +138,15 @@ not_spelled text at s h = absurd (omega arith)
 -- ---- keys
 
 -- a key without escapes, behind its opening quote
-pub key_stands : (p q r : Parser) (body : List ℕ) → 0 < q.offset → Advances p q → Advances q r → p.offset ≤ size_of p → IsBehind 34 q → rest_of q ≡ body ++ 34 ∷ rest_of r → slice_range p.buf.now (q.offset - 1) r.offset ≡ in_quotes body
-key_stands p q r body some on a within behind e =
-    let inside = on.inside within in
-    let before : Parser = record q { offset = q.offset - 1 } in
+pub key_stands : (p q r : Parser) (body : List ℕ) → 0 < q.offset → Advances p q → Advances q r → IsBehind 34 q → rest_of q ≡ body ++ 34 ∷ rest_of r → slice_range p.buf.now (q.offset - 1) r.offset ≡ in_quotes body
+key_stands p q r body some on a behind e =
+    let before : Parser = record q { offset = q.offset - 1; inside = omega (arith, q.inside) } in
     let back : q.offset - 1 + 1 ≡ q.offset = omega (arith, some) in
     let more : rest_of before ≡ 34 ∷ rest_of q =
-    drop_more q.buf.now (q.offset - 1) 0 (omega (arith, inside, some)) ∙ ap₂ (λ b r. b ∷ r) behind.1 (ap (λ n. drop n q.buf.now) back) in
-    let on_before : Advances before r = record { buf = a.buf; mode = a.mode; onward = omega (arith, a.onward); inside = λ h. a.inside inside } in
+    drop_more q.buf.now (q.offset - 1) 0 (omega (arith, q.inside, some)) ∙ ap₂ (λ b r. b ∷ r) behind.1 (ap (λ n. drop n q.buf.now) back) in
+    let on_before : Advances before r = record { buf = a.buf; mode = a.mode; onward = omega (arith, a.onward) } in
     ap (λ b. slice_range b.now (q.offset - 1) r.offset) (sym on.buf)
-    ∙ between before r (34 ∷ body ++ 34 ∷ []) on_before (omega (arith, inside)) (more ∙ ap (λ xs. 34 ∷ xs) (e ∙ sym (append_assoc body (34 ∷ []) (rest_of r))))
+    ∙ between before r (34 ∷ body ++ 34 ∷ []) on_before (more ∙ ap (λ xs. 34 ∷ xs) (e ∙ sym (append_assoc body (34 ∷ []) (rest_of r))))
 
 -- what is so of a key that stands there
 pub key_begun : {K A : Type 0} (Stands : List ℕ → Type 0) (Begun : List ℕ → K → Type 0) (made : Result K A) → IfOk made (λ key. (bytes : List ℕ) → Stands bytes → Begun bytes key) → (bytes : List ℕ) → Stands bytes → IfOk made (Begun bytes)
@@ -161,12 +159,12 @@ plain_key_begun Stands Begun (Ok key) h is_plain bytes stands = h bytes stands i
 plain_key_begun Stands Begun (Err e) h is_plain bytes stands = tt
 
 -- a key that a handler made of what was read
-pub key_kept : {K A F : Type 0} (silent : Bool) (Names : K → Mark × List ℕ → ℕ → Type 0) (made : Result K A) (result : Result K F) (size : ℕ) (p q : Parser) (k : Mark × List ℕ) (read : Read (Mark × List ℕ)) → size ≡ size_of p → p.offset ≤ size_of p → IfOk made (λ key. Names key k p.offset)
+pub key_kept : {K A F : Type 0} (silent : Bool) (Names : K → Mark × List ℕ → ℕ → Type 0) (made : Result K A) (result : Result K F) (size : ℕ) (p q : Parser) (k : Mark × List ℕ) (read : Read (Mark × List ℕ)) → size ≡ size_of p → IfOk made (λ key. Names key k p.offset)
     → IfOk result (λ x. (made ≡ Ok x) × (q ≡ p)) → IfErr result (λ _. q.told ≡ Some OutOfMemory) → read ≡ Ok (k, rest_of p) → Builds silent q.told (AsKey Names size (rest_of q)) result read (rest_of q)
-key_kept silent Names made (Ok key) size p q k read same within named kept memory is =
-    let place : p.offset ≡ size - length (rest_of q) = omega (arith, length-drop p.offset p.buf.now, same, within, ap (λ o. length (rest_of o)) kept.1) in
+key_kept silent Names made (Ok key) size p q k read same named kept memory is =
+    let place : p.offset ≡ size - length (rest_of q) = omega (arith, length-drop p.offset p.buf.now, same, p.inside, ap (λ o. length (rest_of o)) kept.1) in
     (k, subst (λ i. Names key k i) place (subst (λ m. IfOk m (λ x. Names x k p.offset)) kept.0 named), is ∙ ap (λ o. Ok (k, rest_of o)) (sym kept.1))
-key_kept silent Names made (Err f) size p q k read same within named kept memory is = memory_misses silent q.told read memory
+key_kept silent Names made (Err f) size p q k read same named kept memory is = memory_misses silent q.told read memory
 
 -- what is built in an input of one size is built in the same
 pub key_same : {K F : Type 0} (silent : Bool) (told : Option Error) (Names : K → Mark × List ℕ → ℕ → Type 0) (result : Result K F) (size other_size : ℕ) (read other : Read (Mark × List ℕ)) (rest : List ℕ) → other_size ≡ size → other ≡ read

@@ -40,11 +40,11 @@ module _ (quote : ℕ) (p q : Parser) (body : List ℕ) (c : PassesContents quot
   rejected Sees offset other read h = h
 
   -- and their fault is its fault
-  pub contents_fail : {V : Type 0} (Sees : V → Source → Type 0) (silent : _) (told : Option Error) (e : Error) → p.offset ≤ size_of p → told ≡ Some e → SeesContents Sees (p.offset + 1) (Err e) (body_of (mode_of p.mode) body)
+  pub contents_fail : {V : Type 0} (Sees : V → Source → Type 0) (silent : _) (told : Option Error) (e : Error) → told ≡ Some e → SeesContents Sees (p.offset + 1) (Err e) (body_of (mode_of p.mode) body)
       → Misses silent told (quoted_at (size_of p) (mode_of p.mode) quote (rest_of p))
-  contents_fail Sees silent told e inside is h =
+  contents_fail Sees silent told e is h =
       let mode = mode_of p.mode in
-      let at : size_of p - length (rest_of p) ≡ p.offset = omega (arith, length-drop p.offset p.buf.now, inside) in
+      let at : size_of p - length (rest_of p) ≡ p.offset = omega (arith, length-drop p.offset p.buf.now, p.inside) in
       let fails : Fails e (string_at (size_of p) mode quote (rest_of p)) =
       body_fails (size_of p) mode quote (rest_of p) (length body) p.offset e c.found at (subst (λ (u : List ℕ). DecodesContents (p.offset + 1) (Err e) (body_of mode u)) c.is (rejected Sees (p.offset + 1) e (body_of mode body) h)) in
       misses_through silent told (string_at (size_of p) mode quote (rest_of p)) (λ s. Ok (string s.0.0 s.0.1, s.1)) (subst (λ (t : Option Error). Misses silent t (string_at (size_of p) mode quote (rest_of p))) (sym is) fails)

@@ -58,15 +58,15 @@ extended_kept size mode bytes end is first kept ends =
     in_texts false = tt
 
 -- what a parser passes that goes on behind it
-pub kept_passes : (p : Parser) (end : ℕ) → p.offset ≤ size_of p → end ≤ length (rest_of p) → IsKeptNumber (size_of p) (mode_of p.mode) (rest_of p) (drop end (rest_of p)) → PassesInteger p (record p { offset = p.offset + end })
-kept_passes p end within inside kept = record {
+pub kept_passes : (p : Parser) (end : ℕ) (inside : p.offset + end ≤ size_of p) → IsKeptNumber (size_of p) (mode_of p.mode) (rest_of p) (drop end (rest_of p)) → PassesInteger p (record p { offset = p.offset + end; inside = inside })
+kept_passes p end inside kept = record {
   value = kept.value;
   reads = kept.reads ∙ ap (λ r. Ok (number kept.value, r)) (drop-drop end p.offset p.buf.now);
-  text = between p o kept.core on within (kept.joined ∙ ap (λ r. kept.core ++ r) (drop-drop end p.offset p.buf.now)) ∙ kept.text;
+  text = between p o kept.core on (kept.joined ∙ ap (λ r. kept.core ++ r) (drop-drop end p.offset p.buf.now)) ∙ kept.text;
 }
   where
     o : Parser
-    o = record p { offset = p.offset + end }
+    o = record p { offset = p.offset + end; inside = inside }
 
     on : Advances p o
-    on = record { buf = refl; mode = refl; onward = omega arith; inside = λ h. omega (arith, h, inside, length-drop p.offset p.buf.now) }
+    on = record { buf = refl; mode = refl; onward = omega arith }

@@ -1,12 +1,9 @@
 //! JSON values as they were written.
-ghost use Rattle.std.specs.Prelude.{◌≡◌, ◌≢◌, ◌<◌, IfOk, IfErr, Err};
-ghost use Rattle.jsonb_spec.specs.Grammar.{IsDocument, IsNoDocument};
-ghost use Rattle.jsonb_spec.specs.Tree.{Tree};
+ghost use Rattle.std.specs.Prelude.{◌≡◌, ◌<◌, IfOk, Err};
 ghost use Rattle.jsonb.specs.AstView.{ast_view};
-ghost use Rattle.jsonb_scan.specs.Answer.{mode_of, IsTextError, Gives, MayAllocate};
+ghost use Rattle.jsonb_scan.specs.Answer.{mode_of};
 ghost use Rattle.jsonb_spec.specs.Placed.{IsPlaced};
-ghost use Rattle.jsonb_scan.specs.Reading.Document.{document_of};
-ghost use Rattle.jsonb.specs.Explained.{IsExplained};
+ghost use Rattle.jsonb.specs.Parses.{Parses};
 ghost use Rattle.jsonb.specs.Source.{source_view};
 
 mod clone;
@@ -48,23 +45,8 @@ impl<'a> JsonAst<'a> {
     /// `Syntax` with what is wrong and where, if the text is no document of the mode; the text is parsed from left to
     /// right, and the first fault is reported. `OutOfMemory` only where the text holds `[`, `{` or a backslash.
     pub fn parse(alloc: Global, buf: &'a [u8], mode: Mode) -> Result<JsonAst<'a>>
-        // What is read is a document, and this is its one tree.
-        ensures document { IfOk result (λ v. IsDocument (mode_of mode) buf.now (ast_view v)) }
-        ensures only { IfOk result (λ v. (t : Tree) → IsDocument (mode_of mode) buf.now t → t ≡ ast_view v) }
-
-        // What is rejected is no document, unless memory ran out.
-        ensures rejected { IfErr result (λ e. e ≢ Error.OutOfMemory → IsNoDocument (mode_of mode) buf.now) }
-        ensures memory { result ≡ Err Error.OutOfMemory → MayAllocate buf.now }
-
-        // No other error is returned.
-        ensures errors { IfErr result IsTextError }
-
-        // Which fault it is, and where.
-        ensures exact { Gives ast_view result (document_of (mode_of mode) buf.now) }
-
-        // What stands at the place that is named, for the errors that speak of a value, of what follows it, of depth,
-        // of a number and of a key.
-        ensures explained { IfErr result (IsExplained (mode_of mode) buf.now) }
+        // What is returned is the one tree of the document; what is rejected is none, unless memory ran out.
+        ensures parses { Parses (mode_of mode) ast_view buf.now result }
 
         // Each value stands in the text where it was read. Each object's keys ascend, and each member's own key ends at
         // its index.

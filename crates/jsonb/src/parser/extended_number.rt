@@ -1,5 +1,5 @@
 //! The numbers of extended texts: decimals, hexadecimals, `nan` and `infinity`.
-ghost use Rattle.std.specs.Prelude.{◌≡◌, ◌≢◌, ◌+◌, ◌-◌, ◌≤◌, ◌<◌, true, Err, MatchBool, Some, None};
+ghost use Rattle.std.specs.Prelude.{◌≡◌, ◌≢◌, ◌+◌, ◌-◌, ◌<◌, true, Err, MatchBool, Some, None};
 ghost use Rattle.jsonb_spec.specs.Mode.{extended};
 ghost use Rattle.jsonb_value.specs.View.{number_view};
 ghost use Rattle.jsonb_value.specs.declared.error.Error.TheVariants.{OutOfMemory};
@@ -28,7 +28,6 @@ impl Parser<'_> {
     // next, with a separator behind it.
     #[inline(always)]
     pub(super) fn kept_extended_integer(&mut self, is_asked: bool) -> bool
-        requires inside { self.old.offset ≤ size_of self.old }
         requires mode { mode_of self.old.mode ≡ extended }
         ensures passes { MatchBool result (PassesInteger self.old self.new) (self.new ≡ self.old) }
         ensures asked { MatchBool result (is_asked ≡ true) (Unit {0}) }
@@ -50,12 +49,10 @@ impl Parser<'_> {
 
     // Reads the longest number text, and gives its number.
     pub(super) fn parse_extended_number(&mut self) -> Result<Number>
-        requires { self.old.offset ≤ size_of self.old }
         ensures reads { Gives (λ n. (number_view n, rest_of self.new)) result
             (extended_number_at (size_of self.old) (rest_of self.old)) }
         ensures takes_no_memory { result ≢ Err OutOfMemory }
         ensures advances { Advances self.old self.new }
-        ensures inside { self.new.offset ≤ size_of self.new }
     {
         let bytes = self.rest();
         match short_number(bytes) {
@@ -69,13 +66,11 @@ impl Parser<'_> {
 
     // Reads any number text, also one that `short_number` leaves.
     fn parse_long_number(&mut self, bytes: &[u8]) -> Result<Number>
-        requires inside { self.old.offset ≤ size_of self.old }
         requires bytes { bytes.now ≡ rest_of self.old }
         ensures reads { Gives (λ n. (number_view n, rest_of self.new)) result
             (extended_number_at (size_of self.old) (rest_of self.old)) }
         ensures takes_no_memory { result ≢ Err OutOfMemory }
         ensures advances { Advances self.old self.new }
-        ensures inside { self.new.offset ≤ size_of self.new }
     {
         let text = match scan_number(bytes) {
             Ok(text) => text,

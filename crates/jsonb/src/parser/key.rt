@@ -1,11 +1,11 @@
 //! Keys, in quotes and without.
-ghost use Rattle.std.specs.Prelude.{◌≡◌, ◌≢◌, ◌<◌, ◌≤◌, Contains, Err, ◌+◌, Ok, length, take};
+ghost use Rattle.std.specs.Prelude.{◌≡◌, ◌≢◌, ◌<◌, Contains, Err, ◌+◌, Ok, length, take};
 ghost use Rattle.std.specs.Cow.{cow_str_bytes};
 ghost use Rattle.jsonb_spec.specs.Ascii as ascii;
 ghost use Rattle.jsonb_value.specs.View.{mark_view};
 ghost use Rattle.jsonb_scan.specs.Answer.{Gives};
 ghost use Rattle.jsonb.specs.Handler.{AsKey, AsNamed, Begins, Builds};
-ghost use Rattle.jsonb.specs.Parser.{rest_of, size_of, Advances, ReadsAs, read_at};
+ghost use Rattle.jsonb.specs.Parser.{rest_of, size_of, Advances, AdvancesOver, ReadsAs, read_at};
 ghost use Rattle.jsonb.specs.Stack.{member_start};
 ghost use Rattle.jsonb_scan.specs.Reading.Whitespace.{skip_whitespace};
 ghost use Rattle.jsonb_scan.specs.Reading.String.{string_at};
@@ -29,14 +29,12 @@ impl<'a> Parser<'a> {
         object: &mut OpenObject<V::Members, V::Key>,
         text: &'a str,
     ) -> std::result::Result<V::Key, Failed>
-        requires inside { self.old.offset ≤ size_of self.old }
         requires same { text.now ≡ take (length text.now) self.old.buf.now }
         ensures reads { Builds V.silent self.new.told
             (AsNamed (Begins (V.stands self.old.buf.now) room.old object.old room.new object.new)) result
             (read_at member_start self.old)
             (rest_of self.new) }
-        ensures advances { Advances self.old self.new }
-        ensures base { V.base room.new ≡ V.base room.old }
+        ensures advances { AdvancesOver V.base self.old self.new room.old room.new }
     {
         let key = self.parse_member_key::<V>(room, object, text)?;
         if !self.take_after_whitespace(b':') {
@@ -57,7 +55,6 @@ impl<'a> Parser<'a> {
         object: &mut OpenObject<V::Members, V::Key>,
         text: &'a str,
     ) -> std::result::Result<V::Key, Failed>
-        requires inside { self.old.offset ≤ size_of self.old }
         requires same { text.now ≡ take (length text.now) self.old.buf.now }
         ensures reads { Builds V.silent self.new.told
             (AsKey (Begins (V.stands self.old.buf.now) room.old object.old room.new object.new) (size_of self.old)
@@ -65,8 +62,7 @@ impl<'a> Parser<'a> {
             (key_at (size_of self.old) (mode_of self.old.mode)
             (skip_whitespace (mode_of self.old.mode) (rest_of self.old)))
             (rest_of self.new) }
-        ensures advances { Advances self.old self.new }
-        ensures base { V.base room.new ≡ V.base room.old }
+        ensures advances { AdvancesOver V.base self.old self.new room.old room.new }
     {
         if !self.take_after_whitespace(b'"') {
             return self.other_key::<V>(room, object);
@@ -90,13 +86,11 @@ impl<'a> Parser<'a> {
         room: &mut V::Room,
         object: &mut OpenObject<V::Members, V::Key>,
     ) -> std::result::Result<V::Key, Failed>
-        requires { self.old.offset ≤ size_of self.old }
         ensures reads { Builds V.silent self.new.told
             (AsKey (Begins (V.stands self.old.buf.now) room.old object.old room.new object.new) (size_of self.old)
             (rest_of self.new)) result
             (string_at (size_of self.old) (mode_of self.old.mode) ascii.quote (rest_of self.old)) (rest_of self.new) }
-        ensures advances { Advances self.old self.new }
-        ensures base { V.base room.new ≡ V.base room.old }
+        ensures advances { AdvancesOver V.base self.old self.new room.old room.new }
     {
         let key = match self.parse_quoted(b'"') {
             Ok(key) => key,
@@ -113,13 +107,11 @@ impl<'a> Parser<'a> {
         room: &mut V::Room,
         object: &mut OpenObject<V::Members, V::Key>,
     ) -> std::result::Result<V::Key, Failed>
-        requires { self.old.offset ≤ size_of self.old }
         ensures reads { Builds V.silent self.new.told
             (AsKey (Begins (V.stands self.old.buf.now) room.old object.old room.new object.new) (size_of self.old)
             (rest_of self.new)) result
             (key_at (size_of self.old) (mode_of self.old.mode) (rest_of self.old)) (rest_of self.new) }
-        ensures advances { Advances self.old self.new }
-        ensures base { V.base room.new ≡ V.base room.old }
+        ensures advances { AdvancesOver V.base self.old self.new room.old room.new }
     {
         let key = match self.parse_key() {
             Ok(key) => key,
@@ -131,7 +123,6 @@ impl<'a> Parser<'a> {
 
     // A key.
     fn parse_key(&mut self) -> Result<CowStr<'a>>
-        requires { self.old.offset ≤ size_of self.old }
         ensures reads { ReadsAs (λ s. (mark_view s, cow_str_bytes s)) key_at result self.old self.new }
         ensures memory { result ≡ Err Error.OutOfMemory → Contains self.old.buf.now ascii.backslash }
         ensures advances { Advances self.old self.new }
@@ -150,7 +141,6 @@ impl<'a> Parser<'a> {
 
     // Reads a key without quotes. It is borrowed.
     fn parse_bare_key(&mut self) -> Result<CowStr<'a>>
-        requires { self.old.offset ≤ size_of self.old }
         ensures reads { Gives (λ s. ((mark_view s, cow_str_bytes s), rest_of self.new)) result
             (bare_key_at (size_of self.old) (rest_of self.old)) }
         ensures takes_no_memory { result ≢ Err Error.OutOfMemory }

@@ -26,7 +26,6 @@ impl Parser<'_> {
     // next.
     #[inline(always)]
     pub(super) fn kept_integer(&mut self, is_asked: bool) -> bool
-        requires inside { self.old.offset ≤ size_of self.old }
         requires mode { mode_of self.old.mode ≡ standard }
         ensures passes { MatchBool result (PassesInteger self.old self.new) (self.new ≡ self.old) }
         ensures asked { MatchBool result (is_asked ≡ true) (Unit {0}) }
@@ -47,7 +46,6 @@ impl Parser<'_> {
     // Reads an integer of a standard text, if one of at most 19 digits comes next.
     #[inline(always)]
     pub(super) fn short_integer(&mut self) -> Option<ShortInteger>
-        requires inside { self.old.offset ≤ size_of self.old }
         requires mode { mode_of self.old.mode ≡ standard }
         ensures reads { FindsAs (λ read. number (short_view read)) scalar_at result self.old self.new }
         ensures spelled { IfSome result (λ read. (bytes : List ℕ) × (rest_of self.old ≡ bytes ++ rest_of self.new)
@@ -64,12 +62,10 @@ impl Parser<'_> {
     // Reads the longest number text, and gives its number.
     #[inline(never)]
     pub(super) fn parse_standard_number(&mut self) -> Result<Number>
-        requires { self.old.offset ≤ size_of self.old }
         ensures reads { Gives (λ n. (number_view n, rest_of self.new)) result
             (standard_number_at (size_of self.old) (rest_of self.old)) }
         ensures takes_no_memory { result ≢ Err OutOfMemory }
         ensures advances { Advances self.old self.new }
-        ensures inside { self.new.offset ≤ size_of self.new }
     {
         let bytes = self.rest();
         let negative = byte_at(bytes, 0) == b'-';
@@ -95,7 +91,7 @@ impl Parser<'_> {
 
     // The fault in a number text, at this place of the bytes that are still to be read.
     fn invalid_number(&self, place: usize) -> Error
-        requires { self.now.offset ≤ size_of self.now × place ≤ length (rest_of self.now) + 2 }
+        requires { place ≤ length (rest_of self.now) + 2 }
         ensures { result ≡ Syntax InvalidNumberValue (self.now.offset + place) }
     {
         Error::Syntax(ParseErrorCode::InvalidNumberValue, self.offset + place)
@@ -104,7 +100,6 @@ impl Parser<'_> {
     // The fault at a number text that goes on past its whole part.
     #[cold]
     fn number_without_integer(&self, bytes: &[u8], end: usize) -> Error
-        requires inside { self.now.offset ≤ size_of self.now }
         requires bytes { bytes.now ≡ rest_of self.now }
         requires whole { end ≡ digits_from bytes.now (whole_start bytes.now) }
         requires within { end ≤ length bytes.now }

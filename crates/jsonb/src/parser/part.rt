@@ -1,11 +1,9 @@
 //! The text of one part of a document, with no value made of the document.
-ghost use Rattle.std.specs.Prelude.{◌≡◌, ◌≢◌, ◌⊎◌, map, string_bytes, vec_len, IfErr, IfOk, OnErr, Err};
+ghost use Rattle.std.specs.Prelude.{◌≡◌, ◌⊎◌, map, string_bytes, vec_len, IfOk, OnErr, Err};
 ghost use Rattle.std.specs.Vec.{vec_capacity};
-ghost use Rattle.jsonb_spec.specs.Grammar.{IsNoDocument};
-ghost use Rattle.jsonb_scan.specs.Answer.{mode_of, Fails, IsTextError, MayAllocate};
-ghost use Rattle.jsonb_scan.specs.Reading.Document.{document_of};
+ghost use Rattle.jsonb_scan.specs.Answer.{mode_of, MayAllocate};
 ghost use Rattle.jsonb.specs.Appends.{AppendsPartOf, LacksRoomForPart};
-ghost use Rattle.jsonb.specs.Explained.{IsExplained};
+ghost use Rattle.jsonb.specs.Parses.{Rejects};
 
 use super::handler::SoughtPart;
 use super::straight::{may_allocate, value_of};
@@ -45,22 +43,13 @@ pub fn append_part(
     ensures ok { IfOk result (AppendsPartOf (mode_of mode) text.now (map string_bytes path.now) buf.old.items
         buf.new.items) }
     ensures err { OnErr result (buf.new.items ≡ buf.old.items) }
-
-    // What is rejected is no document, unless memory ran out.
-    ensures rejected { IfErr result (λ e. e ≢ Error.OutOfMemory → IsNoDocument (mode_of mode) text.now) }
     // Memory runs out only where the text may take some, or where the room for all that is appended is missing.
     ensures memory { result ≡ Err Error.OutOfMemory → MayAllocate text.now
         ⊎ LacksRoomForPart (mode_of mode) text.now (map string_bytes path.now) (vec_capacity buf.old)
         (vec_len buf.old) }
 
-    // No other error is returned.
-    ensures errors { IfErr result IsTextError }
-
-    // Which fault it is, and where.
-    ensures exact { IfErr result (λ e. Fails e (document_of (mode_of mode) text.now)) }
-
-    // What stands at the offset that is named.
-    ensures explained { IfErr result (IsExplained (mode_of mode) text.now) }
+    // An error is that of the parsers.
+    ensures rejects { Rejects (mode_of mode) text.now result }
 {
     if !may_allocate(text) {
         return append_part_of_value(alloc, text, mode, path, buf);
@@ -98,13 +87,10 @@ fn append_part_of_value(
     ensures ok { IfOk result (AppendsPartOf (mode_of mode) text.now (map string_bytes path.now) buf.old.items
         buf.new.items) }
     ensures err { OnErr result (buf.new.items ≡ buf.old.items) }
-    ensures rejected { IfErr result (λ e. e ≢ Error.OutOfMemory → IsNoDocument (mode_of mode) text.now) }
     ensures memory { result ≡ Err Error.OutOfMemory → MayAllocate text.now
         ⊎ LacksRoomForPart (mode_of mode) text.now (map string_bytes path.now) (vec_capacity buf.old)
         (vec_len buf.old) }
-    ensures errors { IfErr result IsTextError }
-    ensures exact { IfErr result (λ e. Fails e (document_of (mode_of mode) text.now)) }
-    ensures explained { IfErr result (IsExplained (mode_of mode) text.now) }
+    ensures rejects { Rejects (mode_of mode) text.now result }
 {
     let value = value_of(alloc, text, mode)?;
     let Some(part) = part_at(&value, path) else {

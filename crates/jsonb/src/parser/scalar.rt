@@ -1,5 +1,5 @@
 //! Values that hold no others.
-ghost use Rattle.std.specs.Prelude.{◌≡◌, ◌≢◌, ◌<◌, ◌≤◌, [], ◌∷◌, ◌++◌, drop, length, take, Contains, MatchBool, Err, IfErr, IfNone, IfOk, OnOk, IfSome, Some, true, false, ℕ, List, ◌^◌, pos, neg_ℤ, slice_range};
+ghost use Rattle.std.specs.Prelude.{◌≡◌, ◌≢◌, ◌<◌, [], ◌∷◌, ◌++◌, drop, length, take, Contains, MatchBool, Err, IfErr, IfNone, OnOk, IfSome, Some, true, false, ℕ, List, ◌^◌, pos, neg_ℤ, slice_range};
 ghost use Rattle.jsonb_spec.specs.Ascii as ascii;
 ghost use Rattle.jsonb_spec.specs.Mode.{standard, extended};
 ghost use Rattle.jsonb_value.specs.View.{number_view};
@@ -16,7 +16,7 @@ ghost use Rattle.jsonb_spec.specs.Source.{Source, Found, found, string_source};
 ghost use Rattle.jsonb_scan.specs.Spelled.{IsSpelledAt};
 ghost use Rattle.jsonb_write.specs.OpenText.{source_text};
 ghost use Rattle.jsonb_write.specs.PlainText.{ArePlain};
-ghost use Rattle.jsonb.specs.Parser.{rest_of, size_of, Advances, FindsAs, IsBehind, ReadsAs, read_at};
+ghost use Rattle.jsonb.specs.Parser.{rest_of, size_of, Advances, AdvancesOver, FindsAs, IsBehind, ReadsAs, read_at};
 ghost use Rattle.jsonb_scan.specs.Reading.{begins};
 ghost use Rattle.jsonb_scan.specs.Reading.Scalar.{begins_letter, begins_number, begins_single_quote, folded, letters_at, null_at, number_at, quoted_at, scalar_at, other_scalar_at, words_at};
 
@@ -80,8 +80,7 @@ impl<'a> Parser<'a> {
             → V.stands text room.new false (Array items.new ∷ fs) (elements_so_far (ss ++ s ∷ []) ∷ cs)) }
         ensures same { OnOk result (self.new ≡ self.old) }
         ensures memory { IfErr result (λ _. self.new.told ≡ Some Error.OutOfMemory) }
-        ensures advances { Advances self.old self.new }
-        ensures base { V.base room.new ≡ V.base room.old }
+        ensures advances { AdvancesOver V.base self.old self.new room.old room.new }
     {
         if V::push(room, items, value, from, self.offset).is_err() {
             return Err(self.out_of_memory());
@@ -107,8 +106,7 @@ impl<'a> Parser<'a> {
             (members_so_far (front ++ found k s place ∷ []) (plain, []) 0 ∷ cs)) }
         ensures same { OnOk result (self.new ≡ self.old) }
         ensures told { IfErr result (λ _. IsUntold V.silent self.new.told) }
-        ensures advances { Advances self.old self.new }
-        ensures base { V.base room.new ≡ V.base room.old }
+        ensures advances { AdvancesOver V.base self.old self.new room.old room.new }
     {
         let inserted = V::insert(room, object, key, value, from, self.offset);
         self.inserted(inserted)
@@ -131,8 +129,7 @@ impl<'a> Parser<'a> {
             → V.stands text room.new false (Array items.new ∷ fs) (elements_so_far (ss ++ s ∷ []) ∷ cs)) }
         ensures same { OnOk result (self.new ≡ self.old) }
         ensures memory { IfErr result (λ _. self.new.told ≡ Some Error.OutOfMemory) }
-        ensures advances { Advances self.old self.new }
-        ensures base { V.base room.new ≡ V.base room.old }
+        ensures advances { AdvancesOver V.base self.old self.new room.old room.new }
     {
         if cut.is_plain {
             return self.push::<V>(room, items, V::plain_string(cut.body), from);
@@ -159,8 +156,7 @@ impl<'a> Parser<'a> {
             (members_so_far (front ++ found k s place ∷ []) (plain, []) 0 ∷ cs)) }
         ensures same { OnOk result (self.new ≡ self.old) }
         ensures told { IfErr result (λ _. IsUntold V.silent self.new.told) }
-        ensures advances { Advances self.old self.new }
-        ensures base { V.base room.new ≡ V.base room.old }
+        ensures advances { AdvancesOver V.base self.old self.new room.old room.new }
     {
         if cut.is_plain {
             return self.insert::<V>(room, object, key, V::plain_string(cut.body), from);
@@ -183,12 +179,10 @@ impl<'a> Parser<'a> {
         items: &mut V::Items,
         text: &'a str,
     ) -> Result<(), Failed>
-        requires inside { self.old.offset ≤ size_of self.old }
         requires same { text.now ≡ take (length text.now) self.old.buf.now }
         ensures reads { Pushes V.silent self.new.told V.stands self.old.buf.now result room.old items.old
             (read_at scalar_at self.old) room.new items.new (rest_of self.new) }
-        ensures advances { Advances self.old self.new }
-        ensures base { V.base room.new ≡ V.base room.old }
+        ensures advances { AdvancesOver V.base self.old self.new room.old room.new }
     {
         let from = self.offset;
         if self.take_byte(b'"') {
@@ -222,8 +216,7 @@ impl<'a> Parser<'a> {
             → V.stands text room.new false (Array items.new ∷ fs) (elements_so_far (ss ++ s ∷ []) ∷ cs)) }
         ensures same { OnOk result (self.new ≡ self.old) }
         ensures memory { IfErr result (λ _. self.new.told ≡ Some Error.OutOfMemory) }
-        ensures advances { Advances self.old self.new }
-        ensures base { V.base room.new ≡ V.base room.old }
+        ensures advances { AdvancesOver V.base self.old self.new room.old room.new }
     {
         if V::push_kept(room, items, from, self.offset).is_err() {
             return Err(self.out_of_memory());
@@ -249,8 +242,7 @@ impl<'a> Parser<'a> {
             (members_so_far (front ++ found k s place ∷ []) (plain, []) 0 ∷ cs)) }
         ensures same { OnOk result (self.new ≡ self.old) }
         ensures told { IfErr result (λ _. IsUntold V.silent self.new.told) }
-        ensures advances { Advances self.old self.new }
-        ensures base { V.base room.new ≡ V.base room.old }
+        ensures advances { AdvancesOver V.base self.old self.new room.old room.new }
     {
         let inserted = V::insert_kept(room, object, key, from, self.offset);
         self.inserted(inserted)
@@ -265,14 +257,12 @@ impl<'a> Parser<'a> {
         items: &mut V::Items,
         text: &'a str,
     ) -> Result<(), Failed>
-        requires inside { self.old.offset ≤ size_of self.old }
         requires same { text.now ≡ take (length text.now) self.old.buf.now }
         requires mode { mode_of self.old.mode ≡ standard }
         requires no_string { begins ascii.quote (rest_of self.old) ≡ false }
         ensures reads { Pushes V.silent self.new.told V.stands self.old.buf.now result room.old items.old
             (read_at scalar_at self.old) room.new items.new (rest_of self.new) }
-        ensures advances { Advances self.old self.new }
-        ensures base { V.base room.new ≡ V.base room.old }
+        ensures advances { AdvancesOver V.base self.old self.new room.old room.new }
     {
         let from = self.offset;
         if self.kept_integer(V::keeps_integers()) {
@@ -289,14 +279,12 @@ impl<'a> Parser<'a> {
         items: &mut V::Items,
         text: &'a str,
     ) -> Result<(), Failed>
-        requires inside { self.old.offset ≤ size_of self.old }
         requires same { text.now ≡ take (length text.now) self.old.buf.now }
         requires mode { mode_of self.old.mode ≡ extended }
         requires no_string { begins ascii.quote (rest_of self.old) ≡ false }
         ensures reads { Pushes V.silent self.new.told V.stands self.old.buf.now result room.old items.old
             (read_at scalar_at self.old) room.new items.new (rest_of self.new) }
-        ensures advances { Advances self.old self.new }
-        ensures base { V.base room.new ≡ V.base room.old }
+        ensures advances { AdvancesOver V.base self.old self.new room.old room.new }
     {
         let from = self.offset;
         if self.kept_extended_integer(V::keeps_integers()) {
@@ -317,14 +305,12 @@ impl<'a> Parser<'a> {
         key: V::Key,
         text: &'a str,
     ) -> Result<(), Failed>
-        requires inside { self.old.offset ≤ size_of self.old }
         requires same { text.now ≡ take (length text.now) self.old.buf.now }
         requires mode { mode_of self.old.mode ≡ standard }
         requires no_string { begins ascii.quote (rest_of self.old) ≡ false }
         ensures reads { PutsIn V.silent self.new.told V.stands self.old.buf.now result room.old object.old key
             (read_at scalar_at self.old) room.new object.new (rest_of self.new) }
-        ensures advances { Advances self.old self.new }
-        ensures base { V.base room.new ≡ V.base room.old }
+        ensures advances { AdvancesOver V.base self.old self.new room.old room.new }
     {
         let from = self.offset;
         if self.kept_integer(V::keeps_integers()) {
@@ -342,14 +328,12 @@ impl<'a> Parser<'a> {
         key: V::Key,
         text: &'a str,
     ) -> Result<(), Failed>
-        requires inside { self.old.offset ≤ size_of self.old }
         requires same { text.now ≡ take (length text.now) self.old.buf.now }
         requires mode { mode_of self.old.mode ≡ extended }
         requires no_string { begins ascii.quote (rest_of self.old) ≡ false }
         ensures reads { PutsIn V.silent self.new.told V.stands self.old.buf.now result room.old object.old key
             (read_at scalar_at self.old) room.new object.new (rest_of self.new) }
-        ensures advances { Advances self.old self.new }
-        ensures base { V.base room.new ≡ V.base room.old }
+        ensures advances { AdvancesOver V.base self.old self.new room.old room.new }
     {
         let from = self.offset;
         if self.kept_extended_integer(V::keeps_integers()) {
@@ -369,14 +353,12 @@ impl<'a> Parser<'a> {
         items: &mut V::Items,
         text: &'a str,
     ) -> Result<(), Failed>
-        requires inside { self.old.offset ≤ size_of self.old }
         requires same { text.now ≡ take (length text.now) self.old.buf.now }
         requires mode { mode_of self.old.mode ≡ standard }
         requires no_string { begins ascii.quote (rest_of self.old) ≡ false }
         ensures reads { Pushes V.silent self.new.told V.stands self.old.buf.now result room.old items.old
             (read_at scalar_at self.old) room.new items.new (rest_of self.new) }
-        ensures advances { Advances self.old self.new }
-        ensures base { V.base room.new ≡ V.base room.old }
+        ensures advances { AdvancesOver V.base self.old self.new room.old room.new }
     {
         let from = self.offset;
         if let Some(read) = self.short_integer() {
@@ -397,13 +379,11 @@ impl<'a> Parser<'a> {
         items: &mut V::Items,
         text: &'a str,
     ) -> Result<(), Failed>
-        requires inside { self.old.offset ≤ size_of self.old }
         requires same { text.now ≡ take (length text.now) self.old.buf.now }
         requires no_string { begins ascii.quote (rest_of self.old) ≡ false }
         ensures reads { Pushes V.silent self.new.told V.stands self.old.buf.now result room.old items.old
             (read_at scalar_at self.old) room.new items.new (rest_of self.new) }
-        ensures advances { Advances self.old self.new }
-        ensures base { V.base room.new ≡ V.base room.old }
+        ensures advances { AdvancesOver V.base self.old self.new room.old room.new }
     {
         let from = self.offset;
         match self.short_literal() {
@@ -423,12 +403,10 @@ impl<'a> Parser<'a> {
         text: &'a str,
     ) -> Result<(), Failed>
         requires opened { IsBehind ascii.quote self.old }
-        requires inside { self.old.offset ≤ size_of self.old }
         requires same { text.now ≡ take (length text.now) self.old.buf.now }
         ensures reads { Pushes V.silent self.new.told V.stands self.old.buf.now result room.old items.old
             (read_at (λ size mode. quoted_at size mode ascii.quote) self.old) room.new items.new (rest_of self.new) }
-        ensures advances { Advances self.old self.new }
-        ensures base { V.base room.new ≡ V.base room.old }
+        ensures advances { AdvancesOver V.base self.old self.new room.old room.new }
     {
         let value = self.parse_escaped_string::<V>(b'"', text)?;
         self.push::<V>(room, items, value, self.offset)
@@ -442,12 +420,10 @@ impl<'a> Parser<'a> {
         items: &mut V::Items,
         text: &'a str,
     ) -> Result<(), Failed>
-        requires inside { self.old.offset ≤ size_of self.old }
         requires same { text.now ≡ take (length text.now) self.old.buf.now }
         ensures reads { Pushes V.silent self.new.told V.stands self.old.buf.now result room.old items.old
             (read_at other_scalar_at self.old) room.new items.new (rest_of self.new) }
-        ensures advances { Advances self.old self.new }
-        ensures base { V.base room.new ≡ V.base room.old }
+        ensures advances { AdvancesOver V.base self.old self.new room.old room.new }
     {
         let value = self.parse_other_scalar::<V>(text)?;
         self.push::<V>(room, items, value, self.offset)
@@ -462,12 +438,10 @@ impl<'a> Parser<'a> {
         key: V::Key,
         text: &'a str,
     ) -> Result<(), Failed>
-        requires inside { self.old.offset ≤ size_of self.old }
         requires same { text.now ≡ take (length text.now) self.old.buf.now }
         ensures reads { PutsIn V.silent self.new.told V.stands self.old.buf.now result room.old object.old key
             (read_at scalar_at self.old) room.new object.new (rest_of self.new) }
-        ensures advances { Advances self.old self.new }
-        ensures base { V.base room.new ≡ V.base room.old }
+        ensures advances { AdvancesOver V.base self.old self.new room.old room.new }
     {
         let from = self.offset;
         if self.take_byte(b'"') {
@@ -494,14 +468,12 @@ impl<'a> Parser<'a> {
         key: V::Key,
         text: &'a str,
     ) -> Result<(), Failed>
-        requires inside { self.old.offset ≤ size_of self.old }
         requires same { text.now ≡ take (length text.now) self.old.buf.now }
         requires mode { mode_of self.old.mode ≡ standard }
         requires no_string { begins ascii.quote (rest_of self.old) ≡ false }
         ensures reads { PutsIn V.silent self.new.told V.stands self.old.buf.now result room.old object.old key
             (read_at scalar_at self.old) room.new object.new (rest_of self.new) }
-        ensures advances { Advances self.old self.new }
-        ensures base { V.base room.new ≡ V.base room.old }
+        ensures advances { AdvancesOver V.base self.old self.new room.old room.new }
     {
         let from = self.offset;
         if let Some(read) = self.short_integer() {
@@ -524,13 +496,11 @@ impl<'a> Parser<'a> {
         key: V::Key,
         text: &'a str,
     ) -> Result<(), Failed>
-        requires inside { self.old.offset ≤ size_of self.old }
         requires same { text.now ≡ take (length text.now) self.old.buf.now }
         requires no_string { begins ascii.quote (rest_of self.old) ≡ false }
         ensures reads { PutsIn V.silent self.new.told V.stands self.old.buf.now result room.old object.old key
             (read_at scalar_at self.old) room.new object.new (rest_of self.new) }
-        ensures advances { Advances self.old self.new }
-        ensures base { V.base room.new ≡ V.base room.old }
+        ensures advances { AdvancesOver V.base self.old self.new room.old room.new }
     {
         let from = self.offset;
         match self.short_literal() {
@@ -557,12 +527,10 @@ impl<'a> Parser<'a> {
         text: &'a str,
     ) -> Result<(), Failed>
         requires opened { IsBehind ascii.quote self.old }
-        requires inside { self.old.offset ≤ size_of self.old }
         requires same { text.now ≡ take (length text.now) self.old.buf.now }
         ensures reads { PutsIn V.silent self.new.told V.stands self.old.buf.now result room.old object.old key
             (read_at (λ size mode. quoted_at size mode ascii.quote) self.old) room.new object.new (rest_of self.new) }
-        ensures advances { Advances self.old self.new }
-        ensures base { V.base room.new ≡ V.base room.old }
+        ensures advances { AdvancesOver V.base self.old self.new room.old room.new }
     {
         let value = self.parse_escaped_string::<V>(b'"', text)?;
         self.insert::<V>(room, object, key, value, self.offset)
@@ -577,12 +545,10 @@ impl<'a> Parser<'a> {
         key: V::Key,
         text: &'a str,
     ) -> Result<(), Failed>
-        requires inside { self.old.offset ≤ size_of self.old }
         requires same { text.now ≡ take (length text.now) self.old.buf.now }
         ensures reads { PutsIn V.silent self.new.told V.stands self.old.buf.now result room.old object.old key
             (read_at other_scalar_at self.old) room.new object.new (rest_of self.new) }
-        ensures advances { Advances self.old self.new }
-        ensures base { V.base room.new ≡ V.base room.old }
+        ensures advances { AdvancesOver V.base self.old self.new room.old room.new }
     {
         let value = self.parse_other_scalar::<V>(text)?;
         self.insert::<V>(room, object, key, value, self.offset)
@@ -591,7 +557,6 @@ impl<'a> Parser<'a> {
     // A value that holds no others.
     #[inline(always)]
     pub(super) fn parse_scalar<V: Handler<'a>>(&mut self, text: &'a str) -> Result<V, Failed>
-        requires inside { self.old.offset ≤ size_of self.old }
         requires same { text.now ≡ take (length text.now) self.old.buf.now }
         ensures reads { Builds V.silent self.new.told (AsScalar V.sees) result (read_at scalar_at self.old)
             (rest_of self.new) }
@@ -608,7 +573,6 @@ impl<'a> Parser<'a> {
     // A string in single quotes, a word or a number.
     #[inline(always)]
     fn parse_other_scalar<V: Handler<'a>>(&mut self, text: &'a str) -> Result<V, Failed>
-        requires inside { self.old.offset ≤ size_of self.old }
         requires same { text.now ≡ take (length text.now) self.old.buf.now }
         ensures reads { Builds V.silent self.new.told (AsScalar V.sees) result (read_at other_scalar_at self.old)
             (rest_of self.new) }
@@ -625,7 +589,6 @@ impl<'a> Parser<'a> {
     // A word or a number as a value.
     #[inline(always)]
     fn parse_word_or_number<V: Handler<'a>>(&mut self) -> Result<V, Failed>
-        requires { self.old.offset ≤ size_of self.old }
         ensures reads { Builds V.silent self.new.told (AsScalar V.sees) result (read_at words_at self.old)
             (rest_of self.new) }
         ensures memory { IfErr result (λ _. self.new.told ≡ Some Error.OutOfMemory
@@ -657,7 +620,6 @@ impl<'a> Parser<'a> {
     // `null`; where that fails, in extended mode a number's word may begin with the same letter.
     #[inline(always)]
     fn parse_null<V: Handler<'a>>(&mut self) -> Result<V, Failed>
-        requires { self.old.offset ≤ size_of self.old }
         ensures reads { Builds V.silent self.new.told (AsScalar V.sees) result (read_at null_at self.old)
             (rest_of self.new) }
         ensures memory { IfErr result (λ _. self.new.told ≡ Some Error.OutOfMemory
@@ -681,7 +643,6 @@ impl<'a> Parser<'a> {
     // A number as a value.
     #[inline(always)]
     fn parse_number_value<V: Handler<'a>>(&mut self) -> Result<V, Failed>
-        requires { self.old.offset ≤ size_of self.old }
         ensures reads { Builds V.silent self.new.told (AsNumber V.sees) result (read_at number_at self.old)
             (rest_of self.new) }
         ensures memory { IfErr result (λ _. self.new.told ≡ Some Error.OutOfMemory
@@ -700,7 +661,6 @@ impl<'a> Parser<'a> {
         requires no_backslash { quote ≢ ascii.backslash }
         requires ascii { quote < ascii.end }
         requires opened { IsBehind quote self.old }
-        requires inside { self.old.offset ≤ size_of self.old }
         requires same { text.now ≡ take (length text.now) self.old.buf.now }
         ensures reads { Builds V.silent self.new.told (AsScalar V.sees) result
             (read_at (λ size mode. quoted_at size mode quote) self.old) (rest_of self.new) }
@@ -724,7 +684,6 @@ impl<'a> Parser<'a> {
         requires no_backslash { quote ≢ ascii.backslash }
         requires ascii { quote < ascii.end }
         requires opened { IsBehind quote self.old }
-        requires inside { self.old.offset ≤ size_of self.old }
         requires same { text.now ≡ take (length text.now) self.old.buf.now }
         ensures reads { Builds V.silent self.new.told (AsScalar V.sees) result
             (read_at (λ size mode. quoted_at size mode quote) self.old) (rest_of self.new) }
@@ -751,7 +710,6 @@ impl<'a> Parser<'a> {
         ensures found { result ≡ begins_single_quote (mode_of self.old.mode) (rest_of self.old) }
         ensures rest { MatchBool result (rest_of self.old ≡ ascii.single_quote ∷ rest_of self.new)
             (self.new ≡ self.old) }
-        ensures inside { MatchBool result (self.new.offset ≤ size_of self.new) (self.new ≡ self.old) }
         ensures behind { MatchBool result (IsBehind ascii.single_quote self.new) (Unit {0}) }
         ensures advances { Advances self.old self.new }
     {
@@ -770,7 +728,6 @@ impl<'a> Parser<'a> {
     // Reads a literal in small letters, if one comes next.
     #[inline(always)]
     fn short_literal(&mut self) -> Option<Literal>
-        requires { self.old.offset ≤ size_of self.old }
         ensures reads { FindsAs literal_tree scalar_at result self.old self.new }
         ensures spelled { IfSome result (λ l. rest_of self.old ≡ literal_text l ++ rest_of self.new) }
         ensures stays { IfNone result (self.new ≡ self.old) }
@@ -811,7 +768,6 @@ impl<'a> Parser<'a> {
     // A number, or a word that names none.
     #[inline(always)]
     fn parse_number(&mut self) -> std::result::Result<Number, Error>
-        requires { self.old.offset ≤ size_of self.old }
         ensures reads { ReadsAs number_view number_at result self.old self.new }
         ensures takes_no_memory { result ≢ Err Error.OutOfMemory }
         ensures advances { Advances self.old self.new }

@@ -1,13 +1,10 @@
 //! Texts that are parsed for their serialized form or their sort key alone, or only checked.
-ghost use Rattle.std.specs.Prelude.{◌≡◌, ◌≢◌, ◌≤◌, ◌⊎◌, vec_len, IfErr, IfOk, MatchBool, OnErr, OnOk, Err};
-ghost use Rattle.std.specs.Vec.{vec_capacity};
-ghost use Rattle.jsonb_spec.specs.Grammar.{IsDocument, IsNoDocument};
+ghost use Rattle.std.specs.Prelude.{◌≡◌, MatchBool, OnOk, Err};
 ghost use Rattle.jsonb_spec.specs.Tree.{Tree};
 ghost use Rattle.jsonb_value.specs.View.{view};
-ghost use Rattle.jsonb_scan.specs.Answer.{mode_of, Fails, Gives, IsTextError, MayAllocate};
-ghost use Rattle.jsonb_scan.specs.Reading.Document.{document_of};
+ghost use Rattle.jsonb_scan.specs.Answer.{mode_of, MayAllocate};
 ghost use Rattle.jsonb.specs.Appends.{AppendsKeyOf, AppendsTextOf, IsParsed, LacksRoomForKey, LacksRoomForText};
-ghost use Rattle.jsonb.specs.Explained.{IsExplained};
+ghost use Rattle.jsonb.specs.Parses.{AppendsParsed, Parses, Rejects};
 
 use super::handler::{CheckedPart, KeyPart};
 use super::{Mode, parse_value, parse_value_standard_mode, read_document};
@@ -52,19 +49,10 @@ pub fn may_allocate(text: &[u8]) -> bool
 pub fn check(alloc: Global, text: &[u8], mode: Mode) -> Result<()>
     // What is accepted is a document, of one tree.
     ensures document { OnOk result ((t : Tree) × IsParsed (mode_of mode) text.now t) }
-
-    // What is rejected is no document, unless memory ran out.
-    ensures rejected { IfErr result (λ e. e ≢ Error.OutOfMemory → IsNoDocument (mode_of mode) text.now) }
     ensures memory { result ≡ Err Error.OutOfMemory → MayAllocate text.now }
 
-    // No other error is returned.
-    ensures errors { IfErr result IsTextError }
-
-    // Which fault it is, and where.
-    ensures exact { IfErr result (λ e. Fails e (document_of (mode_of mode) text.now)) }
-
-    // What stands at the place that is named.
-    ensures explained { IfErr result (IsExplained (mode_of mode) text.now) }
+    // An error is that of the parsers.
+    ensures rejects { Rejects (mode_of mode) text.now result }
 {
     let mut room = CheckRoom::new(alloc, text);
     let read = read_document::<CheckedPart>(&mut room, alloc, text, mode);
@@ -97,27 +85,12 @@ pub fn check(alloc: Global, text: &[u8], mode: Mode) -> Result<()>
 ///
 /// [`JsonAst::parse`]: crate::JsonAst::parse
 pub fn append_text(alloc: Global, text: &[u8], mode: Mode, buf: &mut Vec<u8>) -> Result<()>
-    // What is appended is that of the one tree of the document.
-    ensures ok { OnOk result (AppendsTextOf (mode_of mode) text.now buf.old.items buf.new.items) }
-    ensures err { OnErr result (buf.new.items ≡ buf.old.items) }
+    // What is appended is of the one tree of the document. After an error the buffer has its old bytes.
+    ensures appends { AppendsParsed (AppendsTextOf (mode_of mode) text.now)
+        (LacksRoomForText (mode_of mode) text.now) text.now result buf.old buf.new }
 
-    // What is rejected is no document, unless memory ran out.
-    ensures rejected { IfErr result (λ e. e ≢ Error.OutOfMemory → IsNoDocument (mode_of mode) text.now) }
-    // Memory runs out only where the text may take some, or where the room for all that is appended is missing.
-    ensures memory { result ≡ Err Error.OutOfMemory → MayAllocate text.now
-        ⊎ LacksRoomForText (mode_of mode) text.now (vec_capacity buf.old) (vec_len buf.old) }
-
-    // A buffer that has room keeps it, where the text takes no memory.
-    ensures capacity { MayAllocate text.now ⊎ (vec_capacity buf.old ≤ vec_capacity buf.new) }
-
-    // No other error is returned.
-    ensures errors { IfErr result IsTextError }
-
-    // Which fault it is, and where.
-    ensures exact { IfErr result (λ e. Fails e (document_of (mode_of mode) text.now)) }
-
-    // What stands at the place that is named.
-    ensures explained { IfErr result (IsExplained (mode_of mode) text.now) }
+    // An error is that of the parsers.
+    ensures rejects { Rejects (mode_of mode) text.now result }
 {
     if !may_allocate(text) {
         return append_text_of_value(alloc, text, mode, buf);
@@ -164,27 +137,12 @@ pub fn append_text(alloc: Global, text: &[u8], mode: Mode, buf: &mut Vec<u8>) ->
 ///
 /// [`JsonAst::parse`]: crate::JsonAst::parse
 pub fn append_sort_key(alloc: Global, text: &[u8], mode: Mode, buf: &mut Vec<u8>) -> Result<()>
-    // What is appended is that of the one tree of the document.
-    ensures ok { OnOk result (AppendsKeyOf (mode_of mode) text.now buf.old.items buf.new.items) }
-    ensures err { OnErr result (buf.new.items ≡ buf.old.items) }
+    // What is appended is of the one tree of the document. After an error the buffer has its old bytes.
+    ensures appends { AppendsParsed (AppendsKeyOf (mode_of mode) text.now)
+        (LacksRoomForKey (mode_of mode) text.now) text.now result buf.old buf.new }
 
-    // What is rejected is no document, unless memory ran out.
-    ensures rejected { IfErr result (λ e. e ≢ Error.OutOfMemory → IsNoDocument (mode_of mode) text.now) }
-    // Memory runs out only where the text may take some, or where the room for all that is appended is missing.
-    ensures memory { result ≡ Err Error.OutOfMemory → MayAllocate text.now
-        ⊎ LacksRoomForKey (mode_of mode) text.now (vec_capacity buf.old) (vec_len buf.old) }
-
-    // A buffer that has room keeps it, where the text takes no memory.
-    ensures capacity { MayAllocate text.now ⊎ (vec_capacity buf.old ≤ vec_capacity buf.new) }
-
-    // No other error is returned.
-    ensures errors { IfErr result IsTextError }
-
-    // Which fault it is, and where.
-    ensures exact { IfErr result (λ e. Fails e (document_of (mode_of mode) text.now)) }
-
-    // What stands at the place that is named.
-    ensures explained { IfErr result (IsExplained (mode_of mode) text.now) }
+    // An error is that of the parsers.
+    ensures rejects { Rejects (mode_of mode) text.now result }
 {
     if !may_allocate(text) {
         return append_sort_key_of_value(alloc, text, mode, buf);
@@ -213,13 +171,7 @@ pub fn append_sort_key(alloc: Global, text: &[u8], mode: Mode, buf: &mut Vec<u8>
 
 // The value of a text, by the parser of the mode.
 pub(super) fn value_of(alloc: Global, text: &[u8], mode: Mode) -> Result<Value<'_>>
-    ensures document { IfOk result (λ v. IsDocument (mode_of mode) text.now (view v)) }
-    ensures only { IfOk result (λ v. (t : Tree) → IsDocument (mode_of mode) text.now t → t ≡ view v) }
-    ensures rejected { IfErr result (λ e. e ≢ Error.OutOfMemory → IsNoDocument (mode_of mode) text.now) }
-    ensures memory { result ≡ Err Error.OutOfMemory → MayAllocate text.now }
-    ensures errors { IfErr result IsTextError }
-    ensures exact { Gives view result (document_of (mode_of mode) text.now) }
-    ensures explained { IfErr result (IsExplained (mode_of mode) text.now) }
+    ensures parses { Parses (mode_of mode) view text.now result }
 {
     match mode {
         Mode::Standard => parse_value_standard_mode(alloc, text),
@@ -233,15 +185,9 @@ pub(super) fn value_of(alloc: Global, text: &[u8], mode: Mode) -> Result<Value<'
 #[cold]
 #[inline(never)]
 fn append_text_of_value(alloc: Global, text: &[u8], mode: Mode, buf: &mut Vec<u8>) -> Result<()>
-    ensures ok { OnOk result (AppendsTextOf (mode_of mode) text.now buf.old.items buf.new.items) }
-    ensures err { OnErr result (buf.new.items ≡ buf.old.items) }
-    ensures rejected { IfErr result (λ e. e ≢ Error.OutOfMemory → IsNoDocument (mode_of mode) text.now) }
-    ensures memory { result ≡ Err Error.OutOfMemory → MayAllocate text.now
-        ⊎ LacksRoomForText (mode_of mode) text.now (vec_capacity buf.old) (vec_len buf.old) }
-    ensures capacity { MayAllocate text.now ⊎ (vec_capacity buf.old ≤ vec_capacity buf.new) }
-    ensures errors { IfErr result IsTextError }
-    ensures exact { IfErr result (λ e. Fails e (document_of (mode_of mode) text.now)) }
-    ensures explained { IfErr result (IsExplained (mode_of mode) text.now) }
+    ensures appends { AppendsParsed (AppendsTextOf (mode_of mode) text.now)
+        (LacksRoomForText (mode_of mode) text.now) text.now result buf.old buf.new }
+    ensures rejects { Rejects (mode_of mode) text.now result }
 {
     let value = value_of(alloc, text, mode)?;
     let written = value.write_text(buf);
@@ -258,15 +204,9 @@ fn append_text_of_value(alloc: Global, text: &[u8], mode: Mode, buf: &mut Vec<u8
 #[cold]
 #[inline(never)]
 fn append_sort_key_of_value(alloc: Global, text: &[u8], mode: Mode, buf: &mut Vec<u8>) -> Result<()>
-    ensures ok { OnOk result (AppendsKeyOf (mode_of mode) text.now buf.old.items buf.new.items) }
-    ensures err { OnErr result (buf.new.items ≡ buf.old.items) }
-    ensures rejected { IfErr result (λ e. e ≢ Error.OutOfMemory → IsNoDocument (mode_of mode) text.now) }
-    ensures memory { result ≡ Err Error.OutOfMemory → MayAllocate text.now
-        ⊎ LacksRoomForKey (mode_of mode) text.now (vec_capacity buf.old) (vec_len buf.old) }
-    ensures capacity { MayAllocate text.now ⊎ (vec_capacity buf.old ≤ vec_capacity buf.new) }
-    ensures errors { IfErr result IsTextError }
-    ensures exact { IfErr result (λ e. Fails e (document_of (mode_of mode) text.now)) }
-    ensures explained { IfErr result (IsExplained (mode_of mode) text.now) }
+    ensures appends { AppendsParsed (AppendsKeyOf (mode_of mode) text.now)
+        (LacksRoomForKey (mode_of mode) text.now) text.now result buf.old buf.new }
+    ensures rejects { Rejects (mode_of mode) text.now result }
 {
     let value = value_of(alloc, text, mode)?;
     let written = value.write_sort_key(buf);

@@ -1,10 +1,10 @@
 //! Quoted strings.
-ghost use Rattle.std.specs.Prelude.{◌≡◌, ◌≢◌, ◌+◌, ◌<◌, ◌≤◌, Contains, Err, IfNone, IfSome, length, take, ◌++◌, ◌∷◌, true};
+ghost use Rattle.std.specs.Prelude.{◌≡◌, ◌≢◌, ◌+◌, ◌<◌, Contains, Err, IfNone, IfSome, length, take, ◌++◌, ◌∷◌, true};
 ghost use Rattle.std.specs.Cow.{cow_str_bytes};
 ghost use Rattle.jsonb_spec.specs.Ascii as ascii;
 ghost use Rattle.jsonb_value.specs.View.{mark_view};
 ghost use Rattle.jsonb_spec.specs.Tree.Mark.{plain};
-ghost use Rattle.jsonb.specs.Parser.{rest_of, size_of, Advances, FindsAs, IsBehind, PassesContents, ReadsAs};
+ghost use Rattle.jsonb.specs.Parser.{rest_of, Advances, FindsAs, IsBehind, PassesContents, ReadsAs};
 ghost use Rattle.jsonb_scan.specs.Reading.String.{string_at};
 ghost use Rattle.jsonb_write.specs.PlainText.{ArePlain};
 
@@ -28,7 +28,6 @@ impl<'a> Parser<'a> {
     #[inline(always)]
     pub(super) fn parse_quoted(&mut self, quote: u8) -> Result<CowStr<'a>>
         requires no_backslash { quote ≢ ascii.backslash }
-        requires inside { self.old.offset ≤ size_of self.old }
         ensures reads { ReadsAs (λ s. (mark_view s, cow_str_bytes s)) (λ size mode. string_at size mode quote) result
             self.old self.new }
         ensures memory { result ≡ Err Error.OutOfMemory → Contains self.old.buf.now ascii.backslash }
@@ -58,7 +57,6 @@ impl<'a> Parser<'a> {
     #[inline(never)]
     pub(super) fn parse_escaped(&mut self, quote: u8) -> Result<CowStr<'a>>
         requires no_backslash { quote ≢ ascii.backslash }
-        requires inside { self.old.offset ≤ size_of self.old }
         ensures reads { ReadsAs (λ s. (mark_view s, cow_str_bytes s)) (λ size mode. string_at size mode quote) result
             self.old self.new }
         ensures memory { result ≡ Err Error.OutOfMemory → Contains self.old.buf.now ascii.backslash }
@@ -74,7 +72,6 @@ impl<'a> Parser<'a> {
         requires no_backslash { quote ≢ ascii.backslash }
         requires ascii { quote < ascii.end }
         requires opened { IsBehind quote self.old }
-        requires inside { self.old.offset ≤ size_of self.old }
         requires same { text.now ≡ take (length text.now) self.old.buf.now }
         ensures reads { FindsAs (λ s. (plain, s.now)) (λ size mode. string_at size mode quote) result self.old
             self.new }
@@ -108,7 +105,6 @@ impl<'a> Parser<'a> {
         requires no_backslash { quote ≢ ascii.backslash }
         requires ascii { quote < ascii.end }
         requires opened { IsBehind quote self.old }
-        requires inside { self.old.offset ≤ size_of self.old }
         requires same { text.now ≡ take (length text.now) self.old.buf.now }
         ensures passes { IfSome result (λ body. PassesContents quote self.old self.new body.now) }
         ensures stays { IfNone result (self.new ≡ self.old) }
@@ -134,7 +130,6 @@ impl<'a> Parser<'a> {
     #[inline(always)]
     fn plain_string(&mut self, text: &'a str) -> Option<&'a str>
         requires opened { IsBehind ascii.quote self.old }
-        requires inside { self.old.offset ≤ size_of self.old }
         requires same { text.now ≡ take (length text.now) self.old.buf.now }
         ensures reads { FindsAs (λ s. (plain, s.now)) (λ size mode. string_at size mode ascii.quote) result self.old
             self.new }
@@ -166,7 +161,6 @@ impl<'a> Parser<'a> {
     #[inline(always)]
     pub(super) fn cut_string(&mut self, tells_plain: bool, text: &'a str) -> Option<Cut<'a>>
         requires opened { IsBehind ascii.quote self.old }
-        requires inside { self.old.offset ≤ size_of self.old }
         requires same { text.now ≡ take (length text.now) self.old.buf.now }
         ensures reads { FindsAs (λ cut. (plain, cut.body.now)) (λ size mode. string_at size mode ascii.quote) result
             self.old self.new }

@@ -1,5 +1,5 @@
 //! Values with all that is in them, by a loop over the arrays and objects that are open.
-ghost use Rattle.std.specs.Prelude.{◌≡◌, ◌+◌, ◌<◌, ◌≤◌, ℕ, false, true, length, take, List, MatchBool, OnOk, IfOk, IfErr, MatchResult, None, Ok, Some, [], ◌∷◌, ◌++◌, if◌then◌else◌};
+ghost use Rattle.std.specs.Prelude.{◌≡◌, ◌+◌, ◌<◌, ◌≤◌, ℕ, false, true, length, take, List, MatchBool, OnOk, IfOk, IfErr, MatchResult, None, Ok, Some, [], ◌∷◌, if◌then◌else◌};
 ghost use Rattle.jsonb_spec.specs.Ascii as ascii;
 ghost use Rattle.jsonb_spec.specs.Code.Code.{expected_array_comma_or_end, expected_object_comma_or_end};
 ghost use Rattle.jsonb_spec.specs.Grammar.{max_depth};
@@ -9,17 +9,15 @@ ghost use Rattle.jsonb.specs.declared.parser.frame.Frame.{Frame};
 ghost use Rattle.jsonb.specs.declared.parser.frame.Frame.TheVariants.{Array, Object};
 ghost use Rattle.jsonb.specs.Handler.{ElseFails, Builds};
 ghost use Rattle.jsonb.specs.Frames.{Fits, IsObject, Pushes, ReadsParts, BeforeValue, AtPart, IsRead, OpensContainer, finish_container, scalar_or_null};
-ghost use Rattle.jsonb_scan.specs.Answer.{mode_of, MayAllocate};
-ghost use Rattle.jsonb.specs.Parser.{rest_of, size_of, Advances, IsBehind, read_at};
+ghost use Rattle.jsonb_scan.specs.Answer.{mode_of};
+ghost use Rattle.jsonb.specs.Parser.{rest_of, size_of, Advances, AdvancesOver, IsBehind, read_at};
 ghost use Rattle.jsonb_scan.specs.Reading.{Read, begins};
 ghost use Rattle.jsonb_scan.specs.Reading.Whitespace.{is_whitespace_start, skip_whitespace};
 ghost use Rattle.jsonb_scan.specs.Reading.Container.{is_left_out};
 ghost use Rattle.jsonb_scan.specs.Reading.Document.{value_at};
-ghost use Rattle.jsonb_spec.specs.Source.{Source, Found};
+ghost use Rattle.jsonb_spec.specs.Source.{Source};
 ghost use Rattle.jsonb.specs.Stack.{elements_from, next_part_at, part_end};
-ghost use Rattle.jsonb_scan.specs.Open.{Open, elements_so_far, members_so_far};
-ghost use Rattle.jsonb_spec.specs.Tree.{Mark};
-ghost use Rattle.jsonb_spec.specs.Tree.Mark.{plain};
+ghost use Rattle.jsonb_scan.specs.Open.{Open, elements_so_far};
 
 use super::frame::{Frame, OpenObject};
 use super::handler::{Failed, Handler};
@@ -59,14 +57,12 @@ impl<'a> Parser<'a> {
         room: &mut V::Room,
         text: &'a str,
     ) -> Result<V, Failed>
-        requires inside { self.old.offset ≤ size_of self.old }
         requires same { text.now ≡ take (length text.now) self.old.buf.now }
         requires opens { OpensContainer (rest_of self.old) }
         ensures reads { V.stands self.old.buf.now room.old true [] []
             → Builds V.silent self.new.told (λ v s. V.filled self.old.buf.now room.new v s [] []) result
             (read_at (λ size mode. value_at size mode max_depth) self.old) (rest_of self.new) }
-        ensures advances { Advances self.old self.new }
-        ensures base { V.base room.new ≡ V.base room.old }
+        ensures advances { AdvancesOver V.base self.old self.new room.old room.new }
     {
         let Ok(mut stack) = Vec::with_capacity(self.alloc, FEW_FRAMES) else {
             return Err(self.out_of_memory());
@@ -90,7 +86,6 @@ impl<'a> Parser<'a> {
         stack: &mut Vec<FrameOf<'a, V>>,
         text: &'a str,
     ) -> Result<(), Failed>
-        requires inside { self.old.offset ≤ size_of self.old }
         requires same { text.now ≡ take (length text.now) self.old.buf.now }
         requires opens { OpensContainer (rest_of self.old) }
         requires none { stack.old.items ≡ [] }
@@ -99,8 +94,7 @@ impl<'a> Parser<'a> {
             (λ _. IsRead (V.stands self.old.buf.now room.new)
             (read_at (λ size mode. value_at size mode max_depth) self.old) stack.new.items (rest_of self.new)) }
         ensures one { OnOk result (length stack.new.items ≡ 1) }
-        ensures advances { Advances self.old self.new }
-        ensures base { V.base room.new ≡ V.base room.old }
+        ensures advances { AdvancesOver V.base self.old self.new room.old room.new }
     {
         let mut closed = self.open_container::<V>(room, stack)?;
         'turns: loop {
@@ -123,7 +117,6 @@ impl<'a> Parser<'a> {
         stack: &mut Vec<FrameOf<'a, V>>,
     ) -> Result<bool, Failed>
         requires depth { length stack.old.items ≤ max_depth }
-        requires inside { self.old.offset ≤ size_of self.old }
         requires opens { OpensContainer (rest_of self.old) }
         ensures reads { (whole : Read Source)
             → BeforeValue (V.stands self.old.buf.now room.old) whole self.old stack.old.items
@@ -132,8 +125,7 @@ impl<'a> Parser<'a> {
         ensures onward { IfOk result (λ closed. self.old.offset < self.new.offset) }
         ensures depth { IfOk result (λ closed. length stack.new.items ≤ max_depth) }
         ensures open { IfOk result (λ closed. 0 < length stack.new.items) }
-        ensures advances { Advances self.old self.new }
-        ensures base { V.base room.new ≡ V.base room.old }
+        ensures advances { AdvancesOver V.base self.old self.new room.old room.new }
     {
         if stack.len() == MAX_DEPTH {
             let error = self.too_deep();
@@ -181,7 +173,6 @@ impl<'a> Parser<'a> {
     ) -> Result<bool, Failed>
         requires open { 0 < length stack.old.items }
         requires depth { length stack.old.items ≤ max_depth }
-        requires inside { self.old.offset ≤ size_of self.old }
         requires same { text.now ≡ take (length text.now) self.old.buf.now }
         ensures reads { (whole : Read Source)
             → AtPart (V.stands self.old.buf.now room.old) whole self.old stack.old.items false
@@ -190,8 +181,7 @@ impl<'a> Parser<'a> {
         ensures onward { IfOk result (λ closed. self.old.offset < self.new.offset) }
         ensures depth { IfOk result (λ closed. length stack.new.items ≤ max_depth) }
         ensures open { IfOk result (λ closed. 0 < length stack.new.items) }
-        ensures advances { Advances self.old self.new }
-        ensures base { V.base room.new ≡ V.base room.old }
+        ensures advances { AdvancesOver V.base self.old self.new room.old room.new }
     {
         let Some(frame) = stack.last_mut() else {
             unreachable!();
@@ -210,7 +200,6 @@ impl<'a> Parser<'a> {
         frame: &mut FrameOf<'a, V>,
         text: &'a str,
     ) -> Result<bool, Failed>
-        requires inside { self.old.offset ≤ size_of self.old }
         requires same { text.now ≡ take (length text.now) self.old.buf.now }
         ensures reads { (depth : ℕ) → (c : Open) → (fs : List (Frame V.Items V.Members V.Key)) → (cs : List Open)
             → Fits frame.old c → V.stands self.old.buf.now room.old false (frame.old ∷ fs) (c ∷ cs)
@@ -221,8 +210,7 @@ impl<'a> Parser<'a> {
             closed frame.new fs cs (rest_of self.new)) }
         ensures onward { IfOk result (λ closed. MatchBool closed (self.old.offset < self.new.offset) (Unit {0})) }
         ensures opens { IfOk result (λ closed. MatchBool closed (Unit {0}) (OpensContainer (rest_of self.new))) }
-        ensures advances { Advances self.old self.new }
-        ensures base { V.base room.new ≡ V.base room.old }
+        ensures advances { AdvancesOver V.base self.old self.new room.old room.new }
     {
         match frame {
             Frame::Array(items) => self.read_elements::<V>(room, items, text),
@@ -237,7 +225,6 @@ impl<'a> Parser<'a> {
         items: &mut V::Items,
         text: &'a str,
     ) -> Result<bool, Failed>
-        requires inside { self.old.offset ≤ size_of self.old }
         requires same { text.now ≡ take (length text.now) self.old.buf.now }
         ensures reads { (depth : ℕ) → (front : List Source) → (fs : List (Frame V.Items V.Members V.Key))
             → (cs : List Open)
@@ -249,8 +236,7 @@ impl<'a> Parser<'a> {
             closed (Array items.new) fs cs (rest_of self.new)) }
         ensures onward { IfOk result (λ closed. MatchBool closed (self.old.offset < self.new.offset) (Unit {0})) }
         ensures opens { IfOk result (λ closed. MatchBool closed (Unit {0}) (OpensContainer (rest_of self.new))) }
-        ensures advances { Advances self.old self.new }
-        ensures base { V.base room.new ≡ V.base room.old }
+        ensures advances { AdvancesOver V.base self.old self.new room.old room.new }
     {
         'elements: loop {
             self.skip_whitespace();
@@ -275,12 +261,10 @@ impl<'a> Parser<'a> {
         items: &mut V::Items,
         text: &'a str,
     ) -> Result<(), Failed>
-        requires inside { self.old.offset ≤ size_of self.old }
         requires same { text.now ≡ take (length text.now) self.old.buf.now }
         ensures reads { Pushes V.silent self.new.told V.stands self.old.buf.now result room.old items.old
             (read_at scalar_or_null self.old) room.new items.new (rest_of self.new) }
-        ensures advances { Advances self.old self.new }
-        ensures base { V.base room.new ≡ V.base room.old }
+        ensures advances { AdvancesOver V.base self.old self.new room.old room.new }
     {
         if !self.is_left_out() {
             return self.push_scalar::<V>(room, items, text);
@@ -306,7 +290,6 @@ impl<'a> Parser<'a> {
         object: &mut ObjectOf<'a, V>,
         text: &'a str,
     ) -> Result<bool, Failed>
-        requires inside { self.old.offset ≤ size_of self.old }
         requires same { text.now ≡ take (length text.now) self.old.buf.now }
         ensures reads { (depth : ℕ) → (c : Open) → (fs : List (Frame V.Items V.Members V.Key)) → (cs : List Open)
             → IsObject c → V.stands self.old.buf.now room.old false (Object object.old ∷ fs) (c ∷ cs)
@@ -317,8 +300,7 @@ impl<'a> Parser<'a> {
             closed (Object object.new) fs cs (rest_of self.new)) }
         ensures onward { IfOk result (λ closed. MatchBool closed (self.old.offset < self.new.offset) (Unit {0})) }
         ensures opens { IfOk result (λ closed. MatchBool closed (Unit {0}) (OpensContainer (rest_of self.new))) }
-        ensures advances { Advances self.old self.new }
-        ensures base { V.base room.new ≡ V.base room.old }
+        ensures advances { AdvancesOver V.base self.old self.new room.old room.new }
     {
         'members: loop {
             let key = self.begin_member::<V>(room, object, text)?;
@@ -336,7 +318,6 @@ impl<'a> Parser<'a> {
     // Passes the comma or the bracket after an element. True where it is the bracket.
     #[inline(always)]
     fn end_element(&mut self) -> Result<bool, Failed>
-        requires { self.old.offset ≤ size_of self.old }
         ensures reads { Builds false self.new.told (λ x y. x ≡ y) result
             (part_end (size_of self.old) expected_array_comma_or_end ascii.close_bracket
             (skip_whitespace (mode_of self.old.mode) (rest_of self.old))) (rest_of self.new) }
@@ -356,7 +337,6 @@ impl<'a> Parser<'a> {
     // Passes the comma or the brace after a member. True where it is the brace.
     #[inline(always)]
     fn end_member(&mut self) -> Result<bool, Failed>
-        requires { self.old.offset ≤ size_of self.old }
         ensures reads { Builds false self.new.told (λ x y. x ≡ y) result
             (part_end (size_of self.old) expected_object_comma_or_end ascii.close_brace
             (skip_whitespace (mode_of self.old.mode) (rest_of self.old))) (rest_of self.new) }
@@ -377,7 +357,6 @@ impl<'a> Parser<'a> {
     #[inline(always)]
     pub(super) fn take_after_whitespace(&mut self, byte: u8) -> bool
         requires stop { is_whitespace_start byte ≡ false }
-        requires inside { self.old.offset ≤ size_of self.old }
         ensures rest { skip_whitespace (mode_of self.old.mode) (rest_of self.old)
             ≡ (if result then byte ∷ rest_of self.new else rest_of self.new) }
         ensures other { MatchBool result (Unit {0}) (begins byte (rest_of self.new) ≡ false) }
@@ -401,7 +380,6 @@ impl<'a> Parser<'a> {
     ) -> Result<bool, Failed>
         requires open { 1 < length stack.old.items }
         requires depth { length stack.old.items ≤ max_depth }
-        requires inside { self.old.offset ≤ size_of self.old }
         ensures reads { (whole : Read Source)
             → AtPart (V.stands self.old.buf.now room.old) whole self.old stack.old.items true
             → ElseFails V.silent self.new.told result whole
@@ -409,8 +387,7 @@ impl<'a> Parser<'a> {
         ensures onward { IfOk result (λ closed. self.old.offset < self.new.offset) }
         ensures depth { IfOk result (λ closed. length stack.new.items ≤ max_depth) }
         ensures open { IfOk result (λ closed. 0 < length stack.new.items) }
-        ensures advances { Advances self.old self.new }
-        ensures base { V.base room.new ≡ V.base room.old }
+        ensures advances { AdvancesOver V.base self.old self.new room.old room.new }
     {
         let Some(mut inner) = stack.pop() else {
             unreachable!();

@@ -1,7 +1,7 @@
 //! Whitespace between the parts of a text.
-ghost use Rattle.std.specs.Prelude.{◌≡◌, ◌+◌, ◌<◌, ◌≤◌, MatchBool};
+ghost use Rattle.std.specs.Prelude.{◌≡◌, ◌+◌, ◌<◌, MatchBool};
 ghost use Rattle.jsonb_scan.specs.Answer.{mode_of};
-ghost use Rattle.jsonb.specs.Parser.{rest_of, size_of, Advances};
+ghost use Rattle.jsonb.specs.Parser.{rest_of, Advances};
 ghost use Rattle.jsonb_scan.specs.Reading.Whitespace.{opens_comment, skip_closed_whitespace, skip_whitespace};
 
 use super::{Mode, Parser};
@@ -102,8 +102,7 @@ impl Parser<'_> {
     fn take_plain_whitespace(&mut self) -> bool
         ensures rest { skip_closed_whitespace (mode_of self.old.mode) (rest_of self.new)
             ≡ skip_closed_whitespace (mode_of self.old.mode) (rest_of self.old) }
-        ensures onward { MatchBool result ((self.old.offset < self.new.offset) × (self.new.offset ≤ size_of self.new))
-            (self.new ≡ self.old) }
+        ensures onward { MatchBool result (self.old.offset < self.new.offset) (self.new ≡ self.old) }
         ensures advances { Advances self.old self.new }
     {
         if self.take_byte(b' ') {
@@ -135,7 +134,6 @@ impl Parser<'_> {
     // Most whitespace is spaces in a row.
     #[inline(always)]
     fn skip_spaces(&mut self)
-        requires { self.old.offset ≤ size_of self.old }
         ensures rest { skip_closed_whitespace (mode_of self.old.mode) (rest_of self.new)
             ≡ skip_closed_whitespace (mode_of self.old.mode) (rest_of self.old) }
         ensures advances { Advances self.old self.new }
@@ -150,7 +148,6 @@ impl Parser<'_> {
     // Passes spaces one by one, behind those that `near_spaces` saw.
     #[inline(never)]
     fn skip_more_spaces(&mut self)
-        requires { self.old.offset ≤ size_of self.old }
         ensures rest { skip_closed_whitespace (mode_of self.old.mode) (rest_of self.new)
             ≡ skip_closed_whitespace (mode_of self.old.mode) (rest_of self.old) }
         ensures advances { Advances self.old self.new }
@@ -161,7 +158,6 @@ impl Parser<'_> {
     // Whether a comment begins here. After the whitespace, this is one that never ends.
     pub(super) fn opens_comment(&self) -> bool
         ensures value { result ≡ opens_comment (mode_of self.now.mode) (rest_of self.now) }
-        ensures inside { MatchBool result (self.now.offset ≤ size_of self.now) (Unit {0}) }
     {
         if self.offset >= self.buf.len() {
             return false;

@@ -51,7 +51,7 @@ returns-in-Ok-false-clause-part c = λ path is_path.
 
 pub returns-in-Err-clause-reason : goal.returns-in-Err-clause-reason
 returns-in-Err-clause-reason c =
-    reason_says c.args.mode (mode_of c.in-Some.mode) c.args.text.now 1 c.in-Err.error c.reason_of.result c.in-Some.ensures c.in-Err.ensures.rejected c.in-Err.ensures.exact c.in-Err.ensures.explained
+    reason_says c.args.mode (mode_of c.in-Some.mode) c.args.text.now 1 c.in-Err.error c.reason_of.result c.in-Some.ensures c.in-Err.ensures.rejects.rejected c.in-Err.ensures.rejects.exact c.in-Err.ensures.rejects.explained
     c.reason_of.ensures
 
 pub returns-in-Err-clause-memory : goal.returns-in-Err-clause-memory

@@ -11,17 +11,17 @@ use Rattle.jsonb_c.proofs.sort_key_of.Goals as goal
 
 pub returns-in-Ok-clause-key : goal.returns-in-Ok-clause-key
 returns-in-Ok-clause-key c =
-    let appended = c.in-Ok.ensures.ok in
+    let appended = c.in-Ok.ensures.appends.ok in
     key_is c.args.mode c.args.text.now _ appended.tree (parsed_accepted c.args.mode c.args.text.now appended.tree c.in-Some.ensures appended.parsed) (appended.appended ∙ ap (λ old. old ++ key_of appended.tree) c.buffer_of-bytes.ensures)
 
 pub returns-in-Err-clause-reason : goal.returns-in-Err-clause-reason
 returns-in-Err-clause-reason c =
-    reason_says c.args.mode (mode_of c.in-Some.mode) c.args.text.now c.args.which c.in-Err.error c.reason_of.result c.in-Some.ensures c.in-Err.ensures.rejected c.in-Err.ensures.exact c.in-Err.ensures.explained
+    reason_says c.args.mode (mode_of c.in-Some.mode) c.args.text.now c.args.which c.in-Err.error c.reason_of.result c.in-Some.ensures c.in-Err.ensures.rejects.rejected c.in-Err.ensures.rejects.exact c.in-Err.ensures.rejects.explained
     c.reason_of.ensures
 
 pub returns-in-Err-clause-memory : goal.returns-in-Err-clause-memory
 returns-in-Err-clause-memory c = λ is.
-    by_memory (c.in-Err.ensures.memory (memory_said c.args.which c.in-Err.error c.reason_of.result c.reason_of.ensures is))
+    by_memory (c.in-Err.ensures.appends.memory (memory_said c.args.which c.in-Err.error c.reason_of.result c.reason_of.ensures is))
   where
     by_memory : MayAllocate c.args.text.now ⊎ LacksRoomForKey (mode_of c.in-Some.mode) c.args.text.now (vec_capacity c.buffer_of-bytes.result) (vec_len c.buffer_of-bytes.result) → MayAllocate c.args.text.now ⊎ IsAccepted c.args.mode c.args.text.now
     by_memory (inl may) = inl may

@@ -4,5 +4,5 @@ use Rattle.jsonb_c.proofs.value_of.Goals as goal
 
 pub returns-in-Err-clause-reason : goal.returns-in-Err-clause-reason
 returns-in-Err-clause-reason c =
-    reason_says c.args.mode (mode_of c.in-Some.mode) c.args.text.now c.args.which c.in-Err.error c.reason_of.result c.in-Some.ensures c.in-Err.ensures.rejected c.in-Err.ensures.exact c.in-Err.ensures.explained
+    reason_says c.args.mode (mode_of c.in-Some.mode) c.args.text.now c.args.which c.in-Err.error c.reason_of.result c.in-Some.ensures c.in-Err.ensures.parses.rejected c.in-Err.ensures.parses.exact c.in-Err.ensures.parses.explained
     c.reason_of.ensures

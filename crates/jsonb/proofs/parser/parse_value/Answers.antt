@@ -1,35 +1,27 @@
+use Rattle.std.proofs.Common.{rules, Ok}
 use Rattle.jsonb_spec.specs.Grammar.{IsDocument}
 use Rattle.jsonb_spec.specs.Mode.{extended}
 use Rattle.jsonb_spec.specs.Proper.{IsProper}
 use Rattle.jsonb_spec.specs.Text.Range.{IsInRange}
 use Rattle.jsonb_value.specs.View.{view}
 use Rattle.jsonb_value.proofs.Trees.DocumentsInRange.{extended_in_range}
-use Rattle.jsonb.proofs.Documents.Agreement.{document_built}
-use Rattle.jsonb.proofs.Documents.Spellings.{document_unique}
-use Rattle.jsonb.proofs.Containers.Values.{document_sound}
+use Rattle.jsonb.proofs.Documents.Agreement.{document_built, gives_all}
 use Rattle.jsonb.proofs.Steps.Outcomes.{value_has}
 use Rattle.jsonb.proofs.parser.parse_value.Goals as goal
 
 pub returns-in-Err-clause-in_range : goal.returns-in-Err-clause-in_range
-returns-in-Err-clause-in_range c = value_has (λ v. IsDocument extended c.args.buf.now (view v)) (λ v. IsInRange (view v)) c.value_of_tree.result (λ v d. (extended_in_range c.args.buf.now (view v) d).0) c.value_of_tree.ensures.document
+returns-in-Err-clause-in_range c = value_has (λ v. IsDocument extended c.args.buf.now (view v)) (λ v. IsInRange (view v)) c.value_of_tree.result (λ v d. (extended_in_range c.args.buf.now (view v) d).0) c.value_of_tree.ensures.parses.document
 
 pub returns-in-Err-clause-proper : goal.returns-in-Err-clause-proper
-returns-in-Err-clause-proper c = value_has (λ v. IsDocument extended c.args.buf.now (view v)) (λ v. IsProper (view v)) c.value_of_tree.result (λ v d. (extended_in_range c.args.buf.now (view v) d).1) c.value_of_tree.ensures.document
+returns-in-Err-clause-proper c = value_has (λ v. IsDocument extended c.args.buf.now (view v)) (λ v. IsProper (view v)) c.value_of_tree.result (λ v d. (extended_in_range c.args.buf.now (view v) d).1) c.value_of_tree.ensures.parses.document
 
-pub returns-in-Ok-clause-exact : goal.returns-in-Ok-clause-exact
-returns-in-Ok-clause-exact c =
+pub returns-in-Ok-clause-parses : goal.returns-in-Ok-clause-parses
+returns-in-Ok-clause-parses c =
     let reads = c.in-Ok.ensures.reads tt in
-    document_built extended c.args.buf.now (view c.in-Ok.value) reads.0 reads.1.0 reads.2
-
-pub returns-in-Ok-clause-document : goal.returns-in-Ok-clause-document
-returns-in-Ok-clause-document c = document_sound extended c.args.buf.now (view c.in-Ok.value) (returns-in-Ok-clause-exact c)
-
-pub returns-in-Ok-clause-only : goal.returns-in-Ok-clause-only
-returns-in-Ok-clause-only c = λ t d.
-    document_unique extended c.args.buf.now t (view c.in-Ok.value) d (returns-in-Ok-clause-document c)
+    gives_all extended view c.args.buf.now (Ok c.in-Ok.value) (document_built extended c.args.buf.now (view c.in-Ok.value) reads.0 reads.1.0 reads.2) (search rules)
 
 pub returns-in-Ok-clause-in_range : goal.returns-in-Ok-clause-in_range
-returns-in-Ok-clause-in_range c = (extended_in_range c.args.buf.now (view c.in-Ok.value) (returns-in-Ok-clause-document c)).0
+returns-in-Ok-clause-in_range c = (extended_in_range c.args.buf.now (view c.in-Ok.value) (returns-in-Ok-clause-parses c).document).0
 
 pub returns-in-Ok-clause-proper : goal.returns-in-Ok-clause-proper
-returns-in-Ok-clause-proper c = (extended_in_range c.args.buf.now (view c.in-Ok.value) (returns-in-Ok-clause-document c)).1
+returns-in-Ok-clause-proper c = (extended_in_range c.args.buf.now (view c.in-Ok.value) (returns-in-Ok-clause-parses c).document).1

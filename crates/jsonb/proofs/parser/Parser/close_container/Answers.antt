@@ -48,7 +48,7 @@ returns-in-Ok-clause-reads g c whole ahead =
     let e = last-is gs n c.in-Some-last_mut.outer.now last c.in-Some-last_mut.ensures.value ∙ ap (λ f. take n gs ++ f ∷ []) c.in-Array.is in
     let turned = ap reverse e ∙ innermost_first (take n gs) (variants.Array v) in
     let a = c.end_element.ensures.advances in
-    let on : Advances p q = record { buf = a.buf; mode = a.mode; onward = a.onward; inside = a.inside } in
+    let on : Advances p q = record { buf = a.buf; mode = a.mode; onward = a.onward } in
     joined before after p q gs _ (take n gs) (variants.Array v) (variants.Array w) inner whole s expected_array_comma_or_end 93 on e (last-set gs n (variants.Array w) last)
     h.silent q.told c.end_element.result x done.2
     (λ o cs fits same. array-joins before after (λ fs ds. h.filled text c.finish.new.room value s fs ds) (size_of p) (mode_of p.mode) v w s below cs (λ ss full. c.in-Ok.ensures.put text s ss below cs full) o fits
@@ -80,7 +80,7 @@ returns-in_ok-inserted-in-Object-clause-reads g c whole ahead =
     let turned = ap reverse e ∙ innermost_first (take n gs) (variants.Object v) in
     let ok = c.in_ok-inserted-in-Object.ensures.ok in
     let a = goes_on _ _ q c.inserted.ensures.advances c.end_member.ensures.advances in
-    let on : Advances p q = record { buf = a.buf; mode = a.mode; onward = a.onward; inside = a.inside } in
+    let on : Advances p q = record { buf = a.buf; mode = a.mode; onward = a.onward } in
     let put = put_new (h.silent ≡ true) c.insert_inner-inserted.result ok.0 c.insert_inner-inserted.ensures.put in
     joined before after p q gs _ (take n gs) (variants.Object v) (variants.Object w) inner whole s expected_object_comma_or_end 125 on e (last-set gs n (variants.Object w) last)
     h.silent q.told c.end_member.result x done.2

@@ -72,8 +72,8 @@ returns-clause-passes c =
       rest = ap (λ (n : ℕ). drop n p.buf.now) (sym after) ∙ sym (drop-drop (end + 1) p.offset p.buf.now) ∙ ap (λ (n : ℕ). drop (n + 1) rest) (sym long);
     }
 
-pub returns-clause-advances : goal.returns-clause-advances
-returns-clause-advances c =
+pub invariant_of-self : goal.invariant_of-self
+invariant_of-self c =
     let p = c.args.self.now in
     let within = quote_within c.args.quote c.rest-rest.result.now c.in-Closed.end c.in-Closed.ensures.0 in
-    record { buf = refl; mode = refl; onward = omega arith; inside = λ h. omega (arith, within, ap length c.rest-rest.ensures, length-drop p.offset p.buf.now) }
+    record { inside = omega (arith, within, ap length c.rest-rest.ensures, length-drop p.offset p.buf.now, p.inside) }

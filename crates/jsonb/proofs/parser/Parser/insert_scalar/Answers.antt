@@ -19,7 +19,7 @@ returns-in-Some-clause-reads g c =
     let on = goes_on p o q c.take_byte.ensures.advances c.cut_string.ensures.advances in
     let body = c.in-Some.cut.body.now in
     read_put h.silent h.stands (λ s. s ≡ string_source plain body) p.buf.now p.offset q c.insert_cut.new.self c.args.room.now c.insert_cut.new.room c.insert_cut.result c.args.object.now c.args.key (string plain body) _ c.insert_cut.new.object c.insert_cut.ensures.put c.insert_cut.ensures.same c.insert_cut.ensures.told refl
-    (λ some. between p q (34 ∷ body ++ 34 ∷ []) on c.requires.inside (c.if-take_byte.ensures.rest ∙ ap (λ r. 34 ∷ r) (c.in-Some.ensures.spelled ∙ sym (append_assoc body (34 ∷ []) (rest_of q)))))
+    (λ some. between p q (34 ∷ body ++ 34 ∷ []) on (c.if-take_byte.ensures.rest ∙ ap (λ r. 34 ∷ r) (c.in-Some.ensures.spelled ∙ sym (append_assoc body (34 ∷ []) (rest_of q)))))
     (scalar_string p o (plain, body) _ c.take_byte.ensures.advances c.if-take_byte.ensures.rest c.in-Some.ensures.reads)
 
 pub returns-then-take_byte-clause-reads : goal.returns-then-take_byte-clause-reads

@@ -22,7 +22,7 @@ returns-then-read-clause-reads g c =
     let same : n ≡ number_view c.negative_number-number.result = ap (λ (b : Bool). cond b (negative_of read) (positive_of read)) c.if-read.true ∙ sym c.negative_number-number.ensures in
     read_put h.silent h.stands (h.sees c.number.result) p.buf.now p.offset q c.insert.new.self c.args.room.now c.insert.new.room c.insert.result c.args.object.now c.args.key (number n) _ c.insert.new.object c.insert.ensures.put c.insert.ensures.same c.insert.ensures.told
     (subst (λ m. h.sees c.number.result (number_source m)) (sym same) c.number.ensures)
-    (integer_stands p q n c.short_integer.ensures.advances c.requires.inside c.in-Some.ensures.spelled) c.in-Some.ensures.reads
+    (integer_stands p q n c.short_integer.ensures.advances c.in-Some.ensures.spelled) c.in-Some.ensures.reads
 
 pub returns-in-Some-clause-reads : goal.returns-in-Some-clause-reads
 returns-in-Some-clause-reads g c =
@@ -34,4 +34,4 @@ returns-in-Some-clause-reads g c =
     let same : n ≡ positive_of read = ap (λ (b : Bool). cond b (negative_of read) (positive_of read)) c.if-read.false in
     read_put h.silent h.stands (h.sees c.number-in-Some.result) p.buf.now p.offset q c.insert-in-Some.new.self c.args.room.now c.insert-in-Some.new.room c.insert-in-Some.result c.args.object.now c.args.key (number n) _ c.insert-in-Some.new.object c.insert-in-Some.ensures.put c.insert-in-Some.ensures.same c.insert-in-Some.ensures.told
     (subst (λ m. h.sees c.number-in-Some.result (number_source m)) (sym same) c.number-in-Some.ensures)
-    (integer_stands p q n c.short_integer.ensures.advances c.requires.inside c.in-Some.ensures.spelled) c.in-Some.ensures.reads
+    (integer_stands p q n c.short_integer.ensures.advances c.in-Some.ensures.spelled) c.in-Some.ensures.reads

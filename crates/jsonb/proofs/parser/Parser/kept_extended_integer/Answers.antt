@@ -15,5 +15,5 @@ returns-clause-passes c =
     let same = c.rest-bytes.ensures in
     let ends : is_break (slice_index (rest_of p) end) ≡ true =
     subst (λ next. is_break next ≡ true) (c.byte_at.ensures ∙ ap (λ bs. slice_index bs end) same) c.if-not-is_separator.ensures in
-    kept_passes p end c.requires.inside (subst (λ bs. end ≤ length bs) same c.in-Some.ensures.within)
+    kept_passes p end _
     (extended_kept (size_of p) (mode_of p.mode) (rest_of p) end c.requires.mode (subst (λ bs. is_number_start (slice_index bs 0) ≡ true) same c.in-Some.ensures.first) (subst (λ bs. IsKeptInteger bs end) same c.in-Some.ensures.found) ends)

@@ -14,16 +14,16 @@ pub returns-in-Some-clause-passes : goal.returns-in-Some-clause-passes
 returns-in-Some-clause-passes c =
     let p = c.args.self.now in
     let end = c.in-Some.end in
-    let q : Parser = record p { offset = p.offset + end } in
+    let q : Parser = record p { offset = p.offset + end; inside = omega (arith, p.inside, c.in-Some.ensures.within, ap length c.rest.ensures, length-drop p.offset p.buf.now) } in
     let kept = c.in-Some.ensures.found in
     let read = kept.read in
     let n = short_view read in
     let same = c.rest.ensures in
     let found = subst (λ bs. standard_number_at (size_of p) bs ≡ Ok (n, drop end bs)) same (kept.found (size_of p)) ∙ ap (λ r. Ok (n, r)) (drop-drop end p.offset p.buf.now) in
     let sound = number_sound (size_of p) (rest_of p) n _ found in
-    let on : Advances p q = record { buf = refl; mode = refl; onward = omega arith; inside = λ h. omega (arith, h, c.in-Some.ensures.within, ap length same, length-drop p.offset p.buf.now) } in
+    let on : Advances p q = record { buf = refl; mode = refl; onward = omega arith } in
     record {
       value = n;
       reads = integer_at_once (size_of p) (mode_of p.mode) (rest_of p) n _ c.requires.mode (subst (λ bs. is_number_start (slice_index bs 0) ≡ true) same c.in-Some.ensures.first) found;
-      text = between p q sound.core on c.requires.inside sound.joined ∙ kept_text read.negative read.magnitude read.end sound.core kept.some sound.number;
+      text = between p q sound.core on sound.joined ∙ kept_text read.negative read.magnitude read.end sound.core kept.some sound.number;
     }

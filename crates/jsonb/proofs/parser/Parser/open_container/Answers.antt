@@ -1,4 +1,4 @@
-use Rattle.std.proofs.Common.{◌≡◌, subst, ◌+◌, ◌∷◌, [], refl, ap, sym, ◌∙◌, arith, length, length-drop, reverse}
+use Rattle.std.proofs.Common.{◌≡◌, subst, ◌+◌, ◌∷◌, [], refl, ap, sym, ◌∙◌, arith, drop, length, length-drop, reverse}
 use Rattle.jsonb_scan.specs.Answer.{Fails}
 use Rattle.jsonb_spec.specs.Tree.Mark.{plain}
 use Rattle.jsonb.specs.declared.parser.Parser.{Parser}
@@ -31,15 +31,16 @@ pub returns-clause-reads : goal.returns-clause-reads
 returns-clause-reads g c whole due =
     let p = c.args.self.now in
     let n = c.take_byte.new.self in
-    let o : Parser = record n { offset = n.offset + 1 } in
     let s = c.skip_whitespace-2.new.self in
     let q = c.take_byte-2.new.self in
     let unmoved : n ≡ p = c.if-take_byte.ensures.rest in
-    let brace = after_brace p c.requires.opens (sym c.if-take_byte.ensures.found) ∙ ap (λ r. 123 ∷ rest_of (record r { offset = r.offset + 1 })) (sym unmoved) in
-    let past : Advances n o = record { buf = refl; mode = refl; onward = omega arith; inside = λ h. omega (arith, ap length brace, length-drop p.offset p.buf.now, ap (λ r. r.offset) unmoved, ap (λ r. size_of r) unmoved) } in
+    let brace = after_brace p c.requires.opens (sym c.if-take_byte.ensures.found) ∙ ap (λ r. 123 ∷ drop (r.offset + 1) r.buf.now) (sym unmoved) in
+    let o : Parser = record n { offset = n.offset + 1; inside = omega (arith, ap length brace, length-drop p.offset p.buf.now, ap (λ r. r.offset) unmoved, ap (λ r. size_of r) unmoved) } in
+    let past : Advances n o = record { buf = refl; mode = refl; onward = omega arith } in
+    let more = goes_on _ s q c.skip_whitespace-2.ensures.advances c.take_byte-2.ensures.advances in
     let a = goes_on p n o c.take_byte.ensures.advances past in
     let h = g.V.Handler in
     let fs = c.args.stack.now.items in
     let v : OpenObject g.row.V-Members.Denot g.row.V-Key.Denot = record { members = c.in-Ok-members.members; key = c.no_key-key.result } in
-    object_opened (h.stands p.buf.now c.args.room.now) (h.stands p.buf.now c.members.new.room) p o s q fs c.push-2.new.self.items v (plain, []) 0 c.take_byte-2.result whole a (goes_on p o q a (goes_on o s q c.skip_whitespace-2.ensures.advances c.take_byte-2.ensures.advances))
+    object_opened (h.stands p.buf.now c.args.room.now) (h.stands p.buf.now c.members.new.room) p o s q fs c.push-2.new.self.items v (plain, []) 0 c.take_byte-2.result whole a (goes_on p o q a (record { buf = more.buf; mode = more.mode; onward = more.onward }))
     brace c.skip_whitespace-2.ensures.rest c.take_byte-2.ensures.found c.take_byte-2.ensures.rest (λ cs. c.in-Ok-members.ensures.opened p.buf.now c.no_key-key.result (reverse fs) cs) c.in-Ok-push-2.ensures.items (omega arith) due

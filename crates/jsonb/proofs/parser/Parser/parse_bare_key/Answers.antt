@@ -14,7 +14,7 @@ returns-in_default-clause-reads c = bare-nothing (size_of c.args.self.now) (rest
 pub returns-then-is_ascii_digit-clause-reads : goal.returns-then-is_ascii_digit-clause-reads
 returns-then-is_ascii_digit-clause-reads c =
     let p = c.args.self.now in
-    bare-digit (size_of p) (rest_of p) c.in-Some.byte _ p.offset c.in-Some.ensures.next (sym c.is_ascii_digit.ensures.value ∙ c.if-is_ascii_digit.true) (omega (arith, length-drop p.offset p.buf.now, c.requires))
+    bare-digit (size_of p) (rest_of p) c.in-Some.byte _ p.offset c.in-Some.ensures.next (sym c.is_ascii_digit.ensures.value ∙ c.if-is_ascii_digit.true) (omega (arith, length-drop p.offset p.buf.now, p.inside))
 
 pub overflow_add-after : goal.overflow_add-after
 overflow_add-after c =
@@ -35,7 +35,7 @@ returns-then-end-eq0-clause-reads c =
     (elim c.then-end-eq0.branch [
       | then-end-eq0-via-then-end-eq0 w ↦ inl w.if-end-eq0.true
       | then-end-eq0-via-else-end-eq0+then-rest-end-ge128 w ↦ inr (omega (arith, w.if-rest-end-ge128.true, ap (λ u. get_or u end 0) rest-is))
-    ]) (omega (arith, length-drop p.offset p.buf.now, c.requires))
+    ]) (omega (arith, length-drop p.offset p.buf.now, p.inside))
 
 pub slice_bounds-from_utf8-end : goal.slice_bounds-from_utf8-end
 slice_bounds-from_utf8-end c = sym (length-take-le c.in-At.end c.rest-rest.result.now (omega (arith, key_within c.rest-rest.result.now c.in-At.end c.in-At.ensures)))
@@ -44,7 +44,7 @@ pub returns-in-Past-clause-reads : goal.returns-in-Past-clause-reads
 returns-in-Past-clause-reads c =
     let p = c.args.self.now in
     let begins : BeginsBare (rest_of p) = record { first = c.in-Some.byte; others = _; whole = c.in-Some.ensures.next; no_digit = sym c.is_ascii_digit.ensures.value ∙ c.if-is_ascii_digit.false } in
-    bare-past (size_of p) (rest_of p) c.in-Past.at p.offset begins (ap key_end (sym c.rest-rest.ensures) ∙ c.in-Past.ensures.0) (omega (arith, length-drop p.offset p.buf.now, c.requires))
+    bare-past (size_of p) (rest_of p) c.in-Past.at p.offset begins (ap key_end (sym c.rest-rest.ensures) ∙ c.in-Past.ensures.0) (omega (arith, length-drop p.offset p.buf.now, p.inside))
 
 pub returns-in-Ok-clause-reads : goal.returns-in-Ok-clause-reads
 returns-in-Ok-clause-reads c =
@@ -58,11 +58,6 @@ returns-in-Ok-clause-reads c =
     bare-text (size_of p) (rest_of p) end begins found c.if-end-eq0.false low (subst (λ u. IsUtf8 (take end u)) rest-is text.1)
     ∙ ap (λ u. Ok ((plain, u), drop end (rest_of p))) (ap (take end) (sym rest-is) ∙ sym text.0) ∙ ap (λ u. Ok ((plain, c.in-Ok.text.now), u)) (drop-drop end p.offset p.buf.now)
 
-pub returns-in-Ok-clause-advances : goal.returns-in-Ok-clause-advances
-returns-in-Ok-clause-advances c =
-    let p = c.args.self.now in
-    record { buf = refl; mode = refl; onward = omega arith; inside = λ h. omega (arith, key_within c.rest-rest.result.now c.in-At.end c.in-At.ensures, ap length c.rest-rest.ensures, length-drop p.offset p.buf.now) }
-
 pub returns-in-Err-clause-reads : goal.returns-in-Err-clause-reads
 returns-in-Err-clause-reads c =
     let p = c.args.self.now in
@@ -71,4 +66,9 @@ returns-in-Err-clause-reads c =
     let begins : BeginsBare (rest_of p) = record { first = c.in-Some.byte; others = _; whole = c.in-Some.ensures.next; no_digit = sym c.is_ascii_digit.ensures.value ∙ c.if-is_ascii_digit.false } in
     let found : key_end (rest_of p) ≡ Ok end = ap key_end (sym rest-is) ∙ c.in-At.ensures in
     let low : get_or (rest_of p) end 0 < 128 = omega (arith, c.if-rest-end-ge128.false, ap (λ u. get_or u end 0) rest-is) in
-    bare-no_text (size_of p) (rest_of p) end p.offset begins found c.if-end-eq0.false low (λ utf8. c.in-Err.ensures.cases.0 (subst (λ u. IsUtf8 (take end u)) (sym rest-is) utf8)) (omega (arith, length-drop p.offset p.buf.now, c.requires))
+    bare-no_text (size_of p) (rest_of p) end p.offset begins found c.if-end-eq0.false low (λ utf8. c.in-Err.ensures.cases.0 (subst (λ u. IsUtf8 (take end u)) (sym rest-is) utf8)) (omega (arith, length-drop p.offset p.buf.now, p.inside))
+
+pub invariant_of-self : goal.invariant_of-self
+invariant_of-self c =
+    let p = c.args.self.now in
+    record { inside = omega (arith, key_within c.rest-rest.result.now c.in-At.end c.in-At.ensures, ap length c.rest-rest.ensures, length-drop p.offset p.buf.now, p.inside) }

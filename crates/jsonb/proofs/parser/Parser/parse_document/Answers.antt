@@ -53,7 +53,7 @@ returns-in-Err-end_document-clause-reads g c held =
     tells_fault h.silent c.fail-in-Err-end_document.new.self.told e whole c.fail-in-Err-end_document.ensures.told
     (fails_same e (at_end (size_of m) (mode_of m.mode) read.0 (skip_closed_whitespace (mode_of m.mode) (rest_of m))) whole
     (document_some p q c.skip_closed_whitespace.ensures.rest c.skip_closed_whitespace.ensures.advances c.if-self.false (sym c.opens_comment.ensures.value ∙ c.if-opens_comment.false)
-    ∙ ap (λ r. r >>= ended (size_of q) (mode_of q.mode)) read.2 ∙ ended_same q m read.0 c.in_ok-value.ensures.advances) (c.in-Err-end_document.ensures.reads read.0))
+    ∙ ap (λ r. r >>= ended (size_of q) (mode_of q.mode)) read.2 ∙ ended_same q m read.0 c.in_ok-value.ensures.advances.parser) (c.in-Err-end_document.ensures.reads read.0))
 
 -- ---- a scalar
 

@@ -35,7 +35,7 @@ pub returns-in-Err-escaped_string-clause-reads : goal.returns-in-Err-escaped_str
 returns-in-Err-escaped_string-clause-reads g c =
     let p = c.args.self.now in
     let rejected = subst (λ mode. SeesContents g.V.Handler.sees (p.offset + 1) (Err c.in-Err-escaped_string.error) (body_of (mode_of mode) c.in-Some.body.now)) c.escaped_contents.ensures.advances.mode c.in-Err-escaped_string.ensures in
-    contents_fail c.args.quote p c.escaped_contents.new.self c.in-Some.body.now c.in-Some.ensures.passes g.V.Handler.sees g.V.Handler.silent c.fail-in-Err-escaped_string.new.self.told c.in-Err-escaped_string.error c.requires.inside c.fail-in-Err-escaped_string.ensures.told rejected
+    contents_fail c.args.quote p c.escaped_contents.new.self c.in-Some.body.now c.in-Some.ensures.passes g.V.Handler.sees g.V.Handler.silent c.fail-in-Err-escaped_string.new.self.told c.in-Err-escaped_string.error c.fail-in-Err-escaped_string.ensures.told rejected
 
 pub returns-in-Err-escaped_string-clause-memory : goal.returns-in-Err-escaped_string-clause-memory
 returns-in-Err-escaped_string-clause-memory g c = λ is. contents_escaped c.args.quote c.args.self.now c.escaped_contents.new.self c.in-Some.body.now c.in-Some.ensures.passes

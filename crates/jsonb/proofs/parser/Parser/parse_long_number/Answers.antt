@@ -6,7 +6,7 @@ use Rattle.jsonb.proofs.parser.Parser.parse_long_number.Goals as goal
 
 pub returns-in-Err-clause-reads : goal.returns-in-Err-clause-reads
 returns-in-Err-clause-reads c =
-    scanned_fault c.args.self.now.offset c.in-Err.fault.place (code_of c.in-Err.fault.code) c.args.self.now.buf.now c.args.bytes.now c.requires.inside c.requires.bytes (sym c.in-Err.ensures.scan)
+    scanned_fault c.args.self.now.offset c.in-Err.fault.place (code_of c.in-Err.fault.code) c.args.self.now.buf.now c.args.bytes.now c.args.self.now.inside c.requires.bytes (sym c.in-Err.ensures.scan)
 
 pub returns-in-Some-clause-reads : goal.returns-in-Some-clause-reads
 returns-in-Some-clause-reads c =
@@ -14,4 +14,4 @@ returns-in-Some-clause-reads c =
 
 pub returns-in-None-clause-reads : goal.returns-in-None-clause-reads
 returns-in-None-clause-reads c =
-    scanned_missing c.args.self.now.offset c.in-Ok.text.end c.args.self.now.buf.now c.args.bytes.now c.requires.inside c.requires.bytes c.in-Ok.ensures.within (sym c.in-Ok.ensures.scan ∙ ap (λ o. Ok (number_views o, c.in-Ok.text.end)) c.in-None.is)
+    scanned_missing c.args.self.now.offset c.in-Ok.text.end c.args.self.now.buf.now c.args.bytes.now c.args.self.now.inside c.requires.bytes c.in-Ok.ensures.within (sym c.in-Ok.ensures.scan ∙ ap (λ o. Ok (number_views o, c.in-Ok.text.end)) c.in-None.is)

@@ -13,7 +13,7 @@ use Rattle.jsonb_scan.specs.QuotedString.{DecodesContents}
 use Rattle.jsonb_scan.specs.Reading.{fault}
 use Rattle.jsonb_scan.specs.Reading.String.{body_of, quote_end}
 use Rattle.jsonb_scan.proofs.Strings.Ends.{quote_within}
-use Rattle.jsonb_scan.proofs.Strings.Bodies.{string-closed, string-unclosed, body_fails, contains_after}
+use Rattle.jsonb_scan.proofs.Strings.Bodies.{string-closed, string-unclosed, body_fails, contains_after, tells_taken}
 use Rattle.jsonb.proofs.parser.Parser.parse_quoted.Goals as goal
 
 same_error : {A : Type 0} (r : Result A Error) (x y : Error) → r ≡ Err x → r ≡ Err OutOfMemory → x ≡ y → y ≡ OutOfMemory
@@ -34,7 +34,7 @@ returns-in_err-text-in-Closed-clause-reads c =
     let mode = mode_of p.mode in
     let found = ap (quote_end c.args.quote) (sym rest-is) ∙ c.in-Closed.ensures.0 in
     let body = subst (λ (u : List ℕ). DecodesContents (p.offset + 1) (Err e) (body_of mode (take end u))) rest-is c.in_err-text-in-Closed.ensures.reads in
-    rw (r.1, r.2) (body_fails (size_of p) mode c.args.quote (rest_of p) end p.offset e found (omega (arith, length-drop p.offset p.buf.now, c.requires.inside)) body)
+    rw (r.1, r.2) (body_fails (size_of p) mode c.args.quote (rest_of p) end p.offset e found (omega (arith, length-drop p.offset p.buf.now, c.args.self.now.inside)) body)
 
 pub returns-in_err-text-in-Closed-clause-memory : goal.returns-in_err-text-in-Closed-clause-memory
 returns-in_err-text-in-Closed-clause-memory c = λ is.
@@ -64,7 +64,7 @@ pub returns-in-Unclosed-clause-reads : goal.returns-in-Unclosed-clause-reads
 returns-in-Unclosed-clause-reads c =
     let p = c.args.self.now in
     let none = ap (quote_end c.args.quote) (sym c.rest-rest.ensures) ∙ c.in-Unclosed.ensures.0 in
-    let place : size_of p - length (rest_of p) + c.in-Unclosed.at ≡ p.offset + c.in-Unclosed.at = omega (arith, length-drop p.offset p.buf.now, c.requires.inside) in
+    let place : size_of p - length (rest_of p) + c.in-Unclosed.at ≡ p.offset + c.in-Unclosed.at = omega (arith, length-drop p.offset p.buf.now, c.args.self.now.inside) in
     string-unclosed (size_of p) (mode_of p.mode) c.args.quote (rest_of p) c.in-Unclosed.at none ∙ ap (λ (k : ℕ). fault invalid_eof k) place
 
 pub returns-in_ok-text-in-Closed-clause-reads : goal.returns-in_ok-text-in-Closed-clause-reads
@@ -77,8 +77,13 @@ returns-in_ok-text-in-Closed-clause-reads c =
     let body = ap (λ (u : List ℕ). body_of mode (take end u)) (sym rest-is) ∙ c.in_ok-text-in-Closed.ensures.reads in
     string-closed (size_of p) mode c.args.quote (rest_of p) end _ found body ∙ ap (λ (u : List ℕ). Ok ((mark_view c.in_ok-text-in-Closed.text, cow_str_bytes c.in_ok-text-in-Closed.text), u)) (drop-drop (end + 1) p.offset p.buf.now)
 
-pub returns-in_ok-text-in-Closed-clause-advances : goal.returns-in_ok-text-in-Closed-clause-advances
-returns-in_ok-text-in-Closed-clause-advances c =
-    let p = c.args.self.now in
+pub decode_contents-requires-clause-escaped : goal.decode_contents-requires-clause-escaped
+decode_contents-requires-clause-escaped c =
     let within = quote_within c.args.quote c.rest-rest.result.now c.in-Closed.end c.in-Closed.ensures.0 in
-    record { buf = refl; mode = refl; onward = omega arith; inside = λ h. omega (arith, within, ap length c.rest-rest.ensures, length-drop p.offset p.buf.now) }
+    tells_taken c.rest-rest.result.now c.in-Closed.end c.in-Closed.escaped (omega (arith, within)) c.in-Closed.ensures.1
+
+pub invariant_of-self : goal.invariant_of-self
+invariant_of-self c =
+    let within = quote_within c.args.quote c.rest-rest.result.now c.in-Closed.end c.in-Closed.ensures.0 in
+    let p = c.args.self.now in
+    record { inside = omega (arith, within, ap length c.rest-rest.ensures, length-drop p.offset p.buf.now, p.inside) }

@@ -11,12 +11,12 @@ use Rattle.jsonb.proofs.parser.Parser.parse_standard_number.Goals as goal
 pub returns-then-digits-eq0-clause-reads : goal.returns-then-digits-eq0-clause-reads
 returns-then-digits-eq0-clause-reads c =
     let found = found_whole c.rest-bytes.result.now c.after_minus.result.now c.from-start.result c.leading_digits-digits.result.len c.byte_at-negative.result c.byte_at-negative.ensures c.from-start.ensures c.after_minus.ensures c.leading_digits-digits.ensures.len in
-    rw c.invalid_number.ensures (invalid_at c.args.self.now.offset c.from-start.result c.args.self.now.buf.now c.rest-bytes.result.now c.requires c.rest-bytes.ensures (found_missing c.rest-bytes.result.now c.from-start.result c.leading_digits-digits.result.len found c.if-digits-eq0.true))
+    rw c.invalid_number.ensures (invalid_at c.args.self.now.offset c.from-start.result c.args.self.now.buf.now c.rest-bytes.result.now c.args.self.now.inside c.rest-bytes.ensures (found_missing c.rest-bytes.result.now c.from-start.result c.leading_digits-digits.result.len found c.if-digits-eq0.true))
 
 pub returns-then-first-eq48-clause-reads : goal.returns-then-first-eq48-clause-reads
 returns-then-first-eq48-clause-reads c =
     let found = found_whole c.rest-bytes.result.now c.after_minus.result.now c.from-start.result c.leading_digits-digits.result.len c.byte_at-negative.result c.byte_at-negative.ensures c.from-start.ensures c.after_minus.ensures c.leading_digits-digits.ensures.len in
-    rw c.invalid_number-then-first-eq48.ensures (invalid_at c.args.self.now.offset (c.from-start.result + 2) c.args.self.now.buf.now c.rest-bytes.result.now c.requires c.rest-bytes.ensures (found_needless c.rest-bytes.result.now c.from-start.result c.leading_digits-digits.result.len c.byte_at-first.result found c.if-digits-gt1.true c.byte_at-first.ensures c.if-first-eq48.true))
+    rw c.invalid_number-then-first-eq48.ensures (invalid_at c.args.self.now.offset (c.from-start.result + 2) c.args.self.now.buf.now c.rest-bytes.result.now c.args.self.now.inside c.rest-bytes.ensures (found_needless c.rest-bytes.result.now c.from-start.result c.leading_digits-digits.result.len c.byte_at-first.result found c.if-digits-gt1.true c.byte_at-first.ensures c.if-first-eq48.true))
 
 pub returns-then-continues_after_integer-clause-reads : goal.returns-then-continues_after_integer-clause-reads
 returns-then-continues_after_integer-clause-reads c =
@@ -36,4 +36,4 @@ returns-in-None-clause-reads c =
     let found = found_whole c.rest-bytes.result.now c.after_minus.result.now c.from-start.result c.leading_digits-digits.result.len c.byte_at-negative.result c.byte_at-negative.ensures c.from-start.ensures c.after_minus.ensures c.leading_digits-digits.ensures.len in
     let has_whole = found_has_whole c.rest-bytes.result.now c.from-start.result c.leading_digits-digits.result.len c.byte_at-first.result found c.if-digits-eq0.false c.byte_at-first.ensures c.else-digits-gt1.either in
     let value = found_value c.rest-bytes.result.now c.after_minus.result.now c.leading_digits-digits.result.value c.after_minus.ensures c.leading_digits-digits.ensures.value in
-    integer_missing c.args.self.now.offset (c.from-start.result + c.leading_digits-digits.result.len) c.args.self.now.buf.now c.rest-bytes.result.now c.requires c.rest-bytes.ensures has_whole (found_end c.rest-bytes.result.now c.from-start.result c.leading_digits-digits.result.len found) (λ goes_on. c.if-continues_after_integer.ensures (subst ContinuesAfterInteger (sym c.byte_at.ensures) goes_on)) (ap (λ b. integer_of (b == 45) (digits_value 10 (whole_digits c.rest-bytes.result.now))) (sym c.byte_at-negative.ensures) ∙ c.in-None.ensures (digits_value 10 (whole_digits c.rest-bytes.result.now)) value)
+    integer_missing c.args.self.now.offset (c.from-start.result + c.leading_digits-digits.result.len) c.args.self.now.buf.now c.rest-bytes.result.now c.args.self.now.inside c.rest-bytes.ensures has_whole (found_end c.rest-bytes.result.now c.from-start.result c.leading_digits-digits.result.len found) (λ goes_on. c.if-continues_after_integer.ensures (subst ContinuesAfterInteger (sym c.byte_at.ensures) goes_on)) (ap (λ b. integer_of (b == 45) (digits_value 10 (whole_digits c.rest-bytes.result.now))) (sym c.byte_at-negative.ensures) ∙ c.in-None.ensures (digits_value 10 (whole_digits c.rest-bytes.result.now)) value)

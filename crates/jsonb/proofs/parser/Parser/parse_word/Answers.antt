@@ -20,5 +20,5 @@ letters-preserved c =
     let found : begins_letter mode (get_or word i 0) (rest_of q) ≡ true = ap (λ m. begins_letter (mode_of m) (get_or word i 0) (rest_of q)) (sym before.1.mode) ∙ sym next.found in (
       before.0 ∙ ap (λ (u : List ℕ). letters_at size mode u (rest_of q)) letters
           ∙ letters-step size mode (get_or word i 0) (drop (i + 1) word) (rest_of q) found ∙ ap (λ (u : List ℕ). letters_at size mode (drop (i + 1) word) u) (drop-drop 1 q.offset q.buf.now),
-      record { buf = before.1.buf; mode = before.1.mode; onward = omega (arith, before.1.onward); inside = λ h. omega (arith, next.within) },
+      record { buf = before.1.buf; mode = before.1.mode; onward = omega (arith, before.1.onward) },
     )

@@ -19,7 +19,7 @@ returns-in-Some-clause-reads g c =
     let on = goes_on p o q c.take_byte.ensures.advances c.cut_string.ensures.advances in
     let body = c.in-Some.cut.body.now in
     read_pushed h.silent h.stands (λ s. s ≡ string_source plain body) p.buf.now p.offset q c.push_cut.new.self c.args.room.now c.push_cut.new.room c.push_cut.result c.args.items.now (string plain body) _ c.push_cut.new.items c.push_cut.ensures.put c.push_cut.ensures.same c.push_cut.ensures.memory refl
-    (λ some. between p q (34 ∷ body ++ 34 ∷ []) on c.requires.inside (c.if-take_byte.ensures.rest ∙ ap (λ r. 34 ∷ r) (c.in-Some.ensures.spelled ∙ sym (append_assoc body (34 ∷ []) (rest_of q)))))
+    (λ some. between p q (34 ∷ body ++ 34 ∷ []) on (c.if-take_byte.ensures.rest ∙ ap (λ r. 34 ∷ r) (c.in-Some.ensures.spelled ∙ sym (append_assoc body (34 ∷ []) (rest_of q)))))
     (scalar_string p o (plain, body) _ c.take_byte.ensures.advances c.if-take_byte.ensures.rest c.in-Some.ensures.reads)
 
 pub returns-then-take_byte-clause-reads : goal.returns-then-take_byte-clause-reads

@@ -22,7 +22,7 @@ returns-then-read-clause-reads g c =
     let same : n ≡ number_view c.negative_number-number.result = ap (λ (b : Bool). cond b (negative_of read) (positive_of read)) c.if-read.true ∙ sym c.negative_number-number.ensures in
     read_pushed h.silent h.stands (h.sees c.number.result) p.buf.now p.offset q c.push.new.self c.args.room.now c.push.new.room c.push.result c.args.items.now (number n) _ c.push.new.items c.push.ensures.put c.push.ensures.same c.push.ensures.memory
     (subst (λ m. h.sees c.number.result (number_source m)) (sym same) c.number.ensures)
-    (integer_stands p q n c.short_integer.ensures.advances c.requires.inside c.in-Some.ensures.spelled) c.in-Some.ensures.reads
+    (integer_stands p q n c.short_integer.ensures.advances c.in-Some.ensures.spelled) c.in-Some.ensures.reads
 
 pub returns-in-Some-clause-reads : goal.returns-in-Some-clause-reads
 returns-in-Some-clause-reads g c =
@@ -34,4 +34,4 @@ returns-in-Some-clause-reads g c =
     let same : n ≡ positive_of read = ap (λ (b : Bool). cond b (negative_of read) (positive_of read)) c.if-read.false in
     read_pushed h.silent h.stands (h.sees c.number-in-Some.result) p.buf.now p.offset q c.push-in-Some.new.self c.args.room.now c.push-in-Some.new.room c.push-in-Some.result c.args.items.now (number n) _ c.push-in-Some.new.items c.push-in-Some.ensures.put c.push-in-Some.ensures.same c.push-in-Some.ensures.memory
     (subst (λ m. h.sees c.number-in-Some.result (number_source m)) (sym same) c.number-in-Some.ensures)
-    (integer_stands p q n c.short_integer.ensures.advances c.requires.inside c.in-Some.ensures.spelled) c.in-Some.ensures.reads
+    (integer_stands p q n c.short_integer.ensures.advances c.in-Some.ensures.spelled) c.in-Some.ensures.reads

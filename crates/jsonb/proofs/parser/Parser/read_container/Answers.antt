@@ -18,11 +18,10 @@ pub turns-init : goal.turns-init
 turns-init g c =
     let p = c.args.self.now in
     record {
-      inside = c.open_container.ensures.advances.inside c.requires.inside;
       open-stack = c.in_ok-closed.ensures.open;
       depth = c.in_ok-closed.ensures.depth;
-      advances = c.open_container.ensures.advances;
-      base = c.open_container.ensures.base;
+      advances = c.open_container.ensures.advances.parser;
+      base = c.open_container.ensures.advances.base;
       ahead = λ held. c.in_ok-closed.ensures.reads (read_at (λ size mode. value_at size mode max_depth) p) (outermost_due (g.V.Handler.stands p.buf.now c.args.room.now) p c.args.stack.now.items c.requires.none held);
     }
 

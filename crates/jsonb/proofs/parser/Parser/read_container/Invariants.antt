@@ -10,7 +10,6 @@ use Rattle.jsonb.proofs.parser.Parser.read_container.Given as goal
 abbrev pub invariant-turns : goal.invariant-turns
 invariant-turns g l =
     let p = l.fn.self in record {
-      inside : l.self.offset ≤ size_of l.self;
       open-stack : 0 < length l.stack.items;
       depth : length l.stack.items ≤ max_depth;
       advances : Advances p l.self;

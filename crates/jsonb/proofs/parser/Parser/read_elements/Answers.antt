@@ -50,7 +50,7 @@ returns-in_err-end_element-clause-reads g c depth front fs cs held =
     let pushed = c.in_ok-push_element.ensures.reads in
     let silent = g.V.Handler.silent in
     let t = c.end_element.new.self.told in
-    let on = goes_on p s q (goes_on p l s i.advances c.skip_whitespace.ensures.advances) c.push_element.ensures.advances in
+    let on = goes_on p s q (goes_on p l s i.advances c.skip_whitespace.ensures.advances) c.push_element.ensures.advances.parser in
     let ends = part_end (size_of q) expected_array_comma_or_end 93 (skip_whitespace (mode_of q.mode) (rest_of q)) in
     let residual = err_from_is_err_and c.from_residual-in_err-end_element.result c.from_residual-in_err-end_element.ensures.1 in
     rw (residual.1) (misses_same silent t (ends >>= λ y. resume_part (size_of p) (mode_of p.mode) depth y.0 (elements_so_far (so_far.0 ++ source_alone pushed.0 ∷ [])) y.1) (elements_from (size_of p) (mode_of p.mode) depth front (rest_of p))
@@ -73,7 +73,7 @@ returns-then-branch-clause-reads g c depth front fs cs held =
     let more = elements_so_far (so_far.0 ++ source_alone pushed.0 ∷ []) in
     let h = g.V.Handler in
     let before = goes_on p l s i.advances c.skip_whitespace.ensures.advances in
-    let on = goes_on p s q before c.push_element.ensures.advances in
+    let on = goes_on p s q before c.push_element.ensures.advances.parser in
     record {
       so_far = more;
       fits = tt;
@@ -88,7 +88,7 @@ returns-then-branch-clause-reads g c depth front fs cs held =
 pub elements-init : goal.elements-init
 elements-init g c =
     let p = c.args.self.now in
-    record { inside = c.requires.inside; advances = stays p; base = refl; reads = λ depth front fs cs held. (front, held, refl) }
+    record { advances = stays p; base = refl; reads = λ depth front fs cs held. (front, held, refl) }
 
 pub elements-preserved : goal.elements-preserved
 elements-preserved g c =
@@ -102,12 +102,11 @@ elements-preserved g c =
     let ended = c.in_ok-end_element.ensures.reads in
     let h = g.V.Handler in
     let before = goes_on p l s i.advances c.skip_whitespace.ensures.advances in
-    let on = goes_on p s q before c.push_element.ensures.advances in
+    let on = goes_on p s q before c.push_element.ensures.advances.parser in
     let onto = goes_on p q r on c.end_element.ensures.advances in
     record {
-      inside = onto.inside c.requires.inside;
       advances = onto;
-      base = c.push_element.ensures.base ∙ i.base;
+      base = c.push_element.ensures.advances.base ∙ i.base;
       reads = λ depth front fs cs held.
           let so_far = i.reads depth front fs cs held in
           let more = elements_so_far (so_far.0 ++ source_alone pushed.0 ∷ []) in (

@@ -13,7 +13,6 @@ abbrev pub invariant-elements : goal.invariant-elements
 invariant-elements g l =
     let p = l.fn.self in
     let h = g.V.Handler in record {
-      inside : l.self.offset ≤ size_of l.self;
       advances : Advances p l.self;
       base : h.base l.room ≡ h.base l.fn.room;
       reads : (depth : ℕ) (front : List Source) (fs : List (Frame g.row.V-Items.Denot g.row.V-Members.Denot g.row.V-Key.Denot)) (cs : List Open) → h.stands p.buf.now l.fn.room false (variants.Array l.fn.items ∷ fs) (elements_so_far front ∷ cs) → (ss : List Source) × h.stands p.buf.now l.room false (variants.Array l.items ∷ fs) (elements_so_far ss ∷ cs) × (elements_from (size_of p) (mode_of p.mode) depth front (rest_of p) ≡ elements_from (size_of p) (mode_of p.mode) depth ss (rest_of l.self));

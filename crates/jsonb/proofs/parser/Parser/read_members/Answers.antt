@@ -58,7 +58,7 @@ returns-in_err-insert_scalar-clause-reads g c depth o fs cs fits held =
     let key = c.in_ok-key.ensures.reads in
     let silent = g.V.Handler.silent in
     let t = c.insert_scalar.new.self.told in
-    let on = goes_on p l s i.advances c.begin_member.ensures.advances in
+    let on = goes_on p l s i.advances c.begin_member.ensures.advances.parser in
     let residual = err_from_is_err_and c.from_residual-in_err-insert_scalar.result c.from_residual-in_err-insert_scalar.ensures.1 in
     rw (residual.1) (misses_same silent t (read_at scalar_at s >>= after_member p depth so_far.0 key.0.0 key.0.1) (next_part_at (size_of p) (mode_of p.mode) depth o (rest_of p))
     (so_far.4 ∙ member_due p l depth so_far.0 i.advances ∙ ap (λ x. x >>= waits p depth so_far.0) key.2
@@ -77,7 +77,7 @@ returns-in_err-end_member-clause-reads g c depth o fs cs fits held =
     let put = c.in_ok-insert_scalar.ensures.reads in
     let silent = g.V.Handler.silent in
     let t = c.end_member.new.self.told in
-    let on = goes_on p l s i.advances c.begin_member.ensures.advances in
+    let on = goes_on p l s i.advances c.begin_member.ensures.advances.parser in
     let more = members_so_far (so_far.0 ++ found key.0.0 (source_alone put.0) key.0.1 ∷ []) (plain, []) 0 in
     let ends = part_end (size_of q) expected_object_comma_or_end 125 (skip_whitespace (mode_of q.mode) (rest_of q)) in
     let residual = err_from_is_err_and c.from_residual-in_err-end_member.result c.from_residual-in_err-end_member.ensures.1 in
@@ -85,7 +85,7 @@ returns-in_err-end_member-clause-reads g c depth o fs cs fits held =
     (so_far.4 ∙ member_due p l depth so_far.0 i.advances ∙ ap (λ x. x >>= waits p depth so_far.0) key.2
     ∙ member_turn p s depth so_far.0 key.0.0 key.0.1 on c.if-begins_container.ensures.other.0 c.if-begins_container.ensures.other.1
     ∙ ap (λ x. x >>= after_member p depth so_far.0 key.0.0 key.0.1) put.1
-    ∙ ap (λ x. x >>= λ y. resume_part (size_of p) (mode_of p.mode) depth y.0 more y.1) (sym (same_end p q expected_object_comma_or_end 125 (goes_on p s q on c.insert_scalar.ensures.advances))))
+    ∙ ap (λ x. x >>= λ y. resume_part (size_of p) (mode_of p.mode) depth y.0 more y.1) (sym (same_end p q expected_object_comma_or_end 125 (goes_on p s q on c.insert_scalar.ensures.advances.parser))))
     (misses_through silent t ends (λ y. resume_part (size_of p) (mode_of p.mode) depth y.0 more y.1) (tells_always silent t ends c.in_err-end_member.ensures.reads)))
 
 pub returns-then-branch-clause-reads : goal.returns-then-branch-clause-reads
@@ -101,7 +101,7 @@ returns-then-branch-clause-reads g c depth o fs cs fits held =
     let begun = subst (λ b. Begins (g.V.Handler.stands b.now) c.members.room c.members.object c.begin_member.new.room c.begin_member.new.object c.in_ok-key.key key.0.0 key.0.1) c.members.invariant.advances.buf key.1 in
     let put = c.in_ok-insert_scalar.ensures.reads in
     let ended = c.in_ok-end_member.ensures.reads in
-    let on = goes_on p l s i.advances c.begin_member.ensures.advances in
+    let on = goes_on p l s i.advances c.begin_member.ensures.advances.parser in
     let all = so_far.0 ++ found key.0.0 (source_alone put.0) key.0.1 ∷ [] in
     let more = members_so_far all (plain, []) 0 in
     let h = g.V.Handler in
@@ -115,7 +115,7 @@ returns-then-branch-clause-reads g c depth o fs cs fits held =
           so_far.4 ∙ member_due p l depth so_far.0 i.advances ∙ ap (λ x. x >>= waits p depth so_far.0) key.2
           ∙ member_turn p s depth so_far.0 key.0.0 key.0.1 on c.if-begins_container.ensures.other.0 c.if-begins_container.ensures.other.1
           ∙ ap (λ x. x >>= after_member p depth so_far.0 key.0.0 key.0.1) put.1
-          ∙ ap (λ x. x >>= λ y. resume_part (size_of p) (mode_of p.mode) depth y.0 more y.1) (sym (same_end p q expected_object_comma_or_end 125 (goes_on p s q on c.insert_scalar.ensures.advances)) ∙ ended.2)
+          ∙ ap (λ x. x >>= λ y. resume_part (size_of p) (mode_of p.mode) depth y.0 more y.1) (sym (same_end p q expected_object_comma_or_end 125 (goes_on p s q on c.insert_scalar.ensures.advances.parser)) ∙ ended.2)
           ∙ ap (λ closed. resume_part (size_of p) (mode_of p.mode) depth closed more (rest_of r)) (sym ended.1 ∙ c.if-branch.true);
     }
 
@@ -123,7 +123,6 @@ pub members-init : goal.members-init
 members-init g c =
     let p = c.args.self.now in
     record {
-      inside = c.requires.inside;
       advances = stays p;
       base = refl;
       reads = begun;
@@ -145,12 +144,11 @@ members-preserved g c =
     let begun = subst (λ b. Begins (g.V.Handler.stands b.now) c.members.room c.members.object c.begin_member.new.room c.begin_member.new.object c.in_ok-key.key key.0.0 key.0.1) c.members.invariant.advances.buf key.1 in
     let put = c.in_ok-insert_scalar.ensures.reads in
     let ended = c.in_ok-end_member.ensures.reads in
-    let on = goes_on p l s i.advances c.begin_member.ensures.advances in
-    let onto = goes_on p q r (goes_on p s q on c.insert_scalar.ensures.advances) c.end_member.ensures.advances in
+    let on = goes_on p l s i.advances c.begin_member.ensures.advances.parser in
+    let onto = goes_on p q r (goes_on p s q on c.insert_scalar.ensures.advances.parser) c.end_member.ensures.advances in
     record {
-      inside = onto.inside c.requires.inside;
       advances = onto;
-      base = c.insert_scalar.ensures.base ∙ c.begin_member.ensures.base ∙ i.base;
+      base = c.insert_scalar.ensures.advances.base ∙ c.begin_member.ensures.advances.base ∙ i.base;
       reads = λ depth o fs cs fits held.
           let so_far = i.reads depth o fs cs fits held in
           let all = so_far.0 ++ found key.0.0 (source_alone put.0) key.0.1 ∷ [] in
@@ -164,7 +162,7 @@ members-preserved g c =
             so_far.4 ∙ member_due p l depth so_far.0 i.advances ∙ ap (λ x. x >>= waits p depth so_far.0) key.2
                 ∙ member_turn p s depth so_far.0 key.0.0 key.0.1 on c.if-begins_container.ensures.other.0 c.if-begins_container.ensures.other.1
                 ∙ ap (λ x. x >>= after_member p depth so_far.0 key.0.0 key.0.1) put.1
-                ∙ ap (λ x. x >>= λ y. resume_part (size_of p) (mode_of p.mode) depth y.0 more y.1) (sym (same_end p q expected_object_comma_or_end 125 (goes_on p s q on c.insert_scalar.ensures.advances)) ∙ ended.2)
+                ∙ ap (λ x. x >>= λ y. resume_part (size_of p) (mode_of p.mode) depth y.0 more y.1) (sym (same_end p q expected_object_comma_or_end 125 (goes_on p s q on c.insert_scalar.ensures.advances.parser)) ∙ ended.2)
                 ∙ ap (λ closed. resume_part (size_of p) (mode_of p.mode) depth closed more (rest_of r)) (sym ended.1 ∙ c.if-branch.false),
           );
     }

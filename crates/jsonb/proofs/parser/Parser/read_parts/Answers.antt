@@ -30,7 +30,7 @@ returns-then-branch-clause-reads g c whole ahead =
     let last : n + 1 ≡ length fs = omega arith in
     let f = c.in-Some.frame.now in
     let h = c.fill.new.frame in
-    read_to_end (g.V.Handler.stands p.buf.now c.args.room.now) (g.V.Handler.stands p.buf.now c.fill.new.room) p q fs _ (take n fs) f h whole c.fill.ensures.advances (last-is fs n f last c.in-Some.ensures.value) (last-set fs n h last)
+    read_to_end (g.V.Handler.stands p.buf.now c.args.room.now) (g.V.Handler.stands p.buf.now c.fill.new.room) p q fs _ (take n fs) f h whole c.fill.ensures.advances.parser (last-is fs n f last c.in-Some.ensures.value) (last-set fs n h last)
     (λ depth o ks cs fits held. subst (λ closed. ReadsParts (g.V.Handler.stands p.buf.now c.fill.new.room) (size_of p) (mode_of p.mode) depth (next_part_at (size_of p) (mode_of p.mode) depth o (rest_of p)) closed h ks cs (rest_of q)) c.if-branch.true (c.in_ok-fill.ensures.reads depth o ks cs fits held))
     ahead
 
@@ -44,7 +44,7 @@ returns-clause-reads g c whole ahead =
     let last : n + 1 ≡ length fs = omega arith in
     let f = c.in-Some.frame.now in
     let h = c.fill.new.frame in
-    subst (λ b. BeforeValue (g.V.Handler.stands b.now c.fill.new.room) whole q (set fs n h) → ElseFails g.V.Handler.silent c.open_container.new.self.told c.open_container.result whole (AtPart (g.V.Handler.stands b.now c.open_container.new.room) whole c.open_container.new.self c.open_container.new.stack.items)) c.fill.ensures.advances.buf (c.open_container.ensures.reads whole)
-    (stopped_due (g.V.Handler.stands p.buf.now c.args.room.now) (g.V.Handler.stands p.buf.now c.fill.new.room) p q fs _ (take n fs) f h whole c.fill.ensures.advances (last-is fs n f last c.in-Some.ensures.value) (last-set fs n h last)
+    subst (λ b. BeforeValue (g.V.Handler.stands b.now c.fill.new.room) whole q (set fs n h) → ElseFails g.V.Handler.silent c.open_container.new.self.told c.open_container.result whole (AtPart (g.V.Handler.stands b.now c.open_container.new.room) whole c.open_container.new.self c.open_container.new.stack.items)) c.fill.ensures.advances.parser.buf (c.open_container.ensures.reads whole)
+    (stopped_due (g.V.Handler.stands p.buf.now c.args.room.now) (g.V.Handler.stands p.buf.now c.fill.new.room) p q fs _ (take n fs) f h whole c.fill.ensures.advances.parser (last-is fs n f last c.in-Some.ensures.value) (last-set fs n h last)
     (λ depth o ks cs fits held. subst (λ closed. ReadsParts (g.V.Handler.stands p.buf.now c.fill.new.room) (size_of p) (mode_of p.mode) depth (next_part_at (size_of p) (mode_of p.mode) depth o (rest_of p)) closed h ks cs (rest_of q)) c.if-branch.false (c.in_ok-fill.ensures.reads depth o ks cs fits held))
     ahead)

@@ -23,14 +23,15 @@ whitespace-preserved c =
     let passed : drop (piece_length mode (rest_of p)) (rest_of p) ≡ drop (p.offset + c.piece_len-n.result) p.buf.now =
     ap (λ n. drop n (rest_of p)) (sym n-is) ∙ drop-drop c.piece_len-n.result p.offset p.buf.now in
     let before = c.whitespace.invariant in
-    let past : Parser = record p { offset = p.offset + c.piece_len-n.result } in
+    let past : Parser = record p { offset = p.offset + c.piece_len-n.result; inside = omega (arith, p.inside, c.piece_len-n.ensures.within, ap length c.rest.ensures, length-drop p.offset p.buf.now) } in
     let on : Advances c.args.self.now past =
-    record { buf = before.1.buf; mode = before.1.mode; onward = omega (arith, before.1.onward); inside = λ h. omega (arith, c.piece_len-n.ensures.within, ap length c.rest.ensures, length-drop p.offset p.buf.now) } in (
+    record { buf = before.1.buf; mode = before.1.mode; onward = omega (arith, before.1.onward) } in
+    let more = c.skip_spaces.ensures.advances in (
       ap (λ k. skip_closed_whitespace (mode_of k) (rest_of c.skip_spaces.new.self)) (sym before.1.mode)
           ∙ c.skip_spaces.ensures.rest
           ∙ ap (λ k. skip_closed_whitespace (mode_of k) (rest_of past)) before.1.mode
           ∙ ap (λ r. skip_closed_whitespace mode r) (sym passed) ∙ sym (pass-step mode (rest_of p) some) ∙ before.0,
-      goes_on c.args.self.now past c.skip_spaces.new.self on c.skip_spaces.ensures.advances,
+      goes_on c.args.self.now past c.skip_spaces.new.self on (record { buf = more.buf; mode = more.mode; onward = more.onward }),
     )
 
 pub returns-clause-rest : goal.returns-clause-rest

@@ -1,4 +1,4 @@
-use Rattle.std.proofs.Common.{◌≡◌, ◌∙◌, None, Some, Err, true, inl, ap, map, rules, string_bytes, subst, sym}
+use Rattle.std.proofs.Common.{◌≡◌, ◌∙◌, None, Some, true, inl, ap, map, rules, string_bytes, subst, sym}
 use Rattle.std.specs.Option.{option_map}
 use Rattle.jsonb_spec.specs.Text.{tree_text}
 use Rattle.jsonb_scan.specs.Answer.{MayAllocate, mode_of}
@@ -7,7 +7,7 @@ use Rattle.jsonb_spec.specs.Source.{tree_of_source}
 use Rattle.jsonb_spec.specs.PartAt.{part_at}
 use Rattle.jsonb_write.specs.PartRoom.{part_of}
 use Rattle.jsonb.specs.Handler.{Misses}
-use Rattle.jsonb.proofs.Documents.Agreement.{gives_explained, gives_rejected, gives_tree}
+use Rattle.jsonb.proofs.Documents.Agreement.{fault_rejects}
 use Rattle.jsonb.proofs.Documents.Parts.{part_appended, part_missing}
 use Rattle.jsonb.proofs.Documents.Straight.{source_parsed, text_there}
 use Rattle.jsonb.proofs.parser.part.append_part.Goals as goal
@@ -33,18 +33,12 @@ returns-in-Some-clause-ok c =
     part_appended mode c.args.text.now keys (tree_of_source read.0) c.args.buf.now.items c.extend_from_slice.new.self.items c.in-Some.part.items parsed (text_there mode c.args.text.now (tree_of_source read.0) parsed.document)
     (some ∙ read.1.part ∙ ap (λ ks. option_map tree_text (part_at ks (tree_of_source read.0))) same) (search rules)
 
-pub returns-in-Some-told-clause-exact : goal.returns-in-Some-told-clause-exact
-returns-in-Some-told-clause-exact c = gives_tree (mode_of c.args.mode) c.args.text.now (Err c.in-Some-told.error) (subst (λ told. Misses true told (source_of (mode_of c.args.mode) c.args.text.now)) c.in-Some-told.is (c.in-Err.ensures.reads c.new-room.ensures.stands))
-
-pub returns-in-Some-told-clause-rejected : goal.returns-in-Some-told-clause-rejected
-returns-in-Some-told-clause-rejected c = gives_rejected (mode_of c.args.mode) c.args.text.now (Err c.in-Some-told.error) (returns-in-Some-told-clause-exact c)
-
-pub returns-in-Some-told-clause-explained : goal.returns-in-Some-told-clause-explained
-returns-in-Some-told-clause-explained c = gives_explained (mode_of c.args.mode) c.args.text.now (Err c.in-Some-told.error) (returns-in-Some-told-clause-exact c)
-
 -- what goes past the test of the text may take memory
 pub returns-in-Some-told-clause-memory : goal.returns-in-Some-told-clause-memory
 returns-in-Some-told-clause-memory c = let may : MayAllocate c.args.text.now = search rules in λ _. inl may
 
 pub returns-then-is_err-clause-memory : goal.returns-then-is_err-clause-memory
 returns-then-is_err-clause-memory c = let may : MayAllocate c.args.text.now = search rules in λ _. inl may
+
+pub returns-in-Some-told-clause-rejects : goal.returns-in-Some-told-clause-rejects
+returns-in-Some-told-clause-rejects c = fault_rejects (mode_of c.args.mode) c.args.text.now c.in-Some-told.error (subst (λ told. Misses true told (source_of (mode_of c.args.mode) c.args.text.now)) c.in-Some-told.is (c.in-Err.ensures.reads c.new-room.ensures.stands))

@@ -1,43 +1,46 @@
-use Rattle.std.proofs.Common.{rules, true, ◌++◌, Err, inl, ap, subst, sym, ◌∙◌}
+use Rattle.std.proofs.Common.{rules, true, ◌++◌, inl, ap, subst, sym, ◌∙◌}
 use Rattle.jsonb_spec.specs.Text.{tree_text}
 use Rattle.jsonb_scan.specs.Answer.{Fails, MayAllocate, mode_of}
 use Rattle.jsonb_scan.specs.Reading.Document.{source_of}
 use Rattle.jsonb_spec.specs.Source.{tree_of_source}
 use Rattle.jsonb_write.specs.OpenText.{source_text}
 use Rattle.jsonb.specs.Handler.{Misses}
-use Rattle.jsonb.proofs.Documents.Agreement.{gives_explained, gives_rejected, gives_tree}
+use Rattle.jsonb.proofs.Documents.Agreement.{fault_rejects}
 use Rattle.jsonb.proofs.Documents.Straight.{returned, source_parsed, text_there, same_only}
 use Rattle.jsonb.proofs.parser.straight.append_text.Goals as goal
 
-pub returns-in-Ok-clause-ok : goal.returns-in-Ok-clause-ok
-returns-in-Ok-clause-ok c =
+pub returns-in-Ok-clause-appends : goal.returns-in-Ok-clause-appends
+returns-in-Ok-clause-appends c =
     let mode = mode_of c.args.mode in
     let text = c.args.text.now in
     let read = c.in-Ok.ensures.reads c.new-room.ensures.stands in
     let parsed = source_parsed mode text read.0 read.2 in
     let before = same_only c.in-Ok.ensures.base ∙ c.new-room.ensures.base ∙ ap (λ v. v.items) c.replace-out.ensures.value in
     let bytes = c.into_buffer.ensures ∙ returned c.finish.result (sym c.is_err.ensures.value ∙ c.if-is_err.false) c.finish.ensures.ok text read.0 read.1 ∙ ap (λ front. front ++ source_text read.0) before in
+    -- what goes past the test of the text may take memory
+    let may : MayAllocate text = search rules in
     record {
-      tree = tree_of_source read.0;
-      parsed = parsed;
-      appended = record { bytes = tree_text (tree_of_source read.0); is_text = text_there mode text (tree_of_source read.0) parsed.document; appended = bytes };
+      ok = record {
+        tree = tree_of_source read.0;
+        parsed = parsed;
+        appended = record { bytes = tree_text (tree_of_source read.0); is_text = text_there mode text (tree_of_source read.0) parsed.document; appended = bytes };
+      };
+      err = tt;
+      memory = λ _. inl may;
+      capacity = inl may;
     }
 
 fault_told : (c : goal.In-Some) → Fails c.in-Some.error (source_of (mode_of c.args.mode) c.args.text.now)
 fault_told c = subst (λ told. Misses true told (source_of (mode_of c.args.mode) c.args.text.now)) c.in-Some.is (c.in-Err.ensures.reads c.new-room.ensures.stands)
 
-pub returns-in-Some-clause-exact : goal.returns-in-Some-clause-exact
-returns-in-Some-clause-exact c = gives_tree (mode_of c.args.mode) c.args.text.now (Err c.in-Some.error) (fault_told c)
+pub returns-in-Some-clause-rejects : goal.returns-in-Some-clause-rejects
+returns-in-Some-clause-rejects c = fault_rejects (mode_of c.args.mode) c.args.text.now c.in-Some.error (fault_told c)
 
-pub returns-in-Some-clause-rejected : goal.returns-in-Some-clause-rejected
-returns-in-Some-clause-rejected c = gives_rejected (mode_of c.args.mode) c.args.text.now (Err c.in-Some.error) (returns-in-Some-clause-exact c)
+pub returns-in-Some-clause-appends : goal.returns-in-Some-clause-appends
+returns-in-Some-clause-appends c = let may : MayAllocate c.args.text.now = search rules in record { ok = tt; err = search rules; memory = λ _. inl may; capacity = inl may }
 
-pub returns-in-Some-clause-explained : goal.returns-in-Some-clause-explained
-returns-in-Some-clause-explained c = gives_explained (mode_of c.args.mode) c.args.text.now (Err c.in-Some.error) (returns-in-Some-clause-exact c)
+pub returns-then-is_err-clause-appends : goal.returns-then-is_err-clause-appends
+returns-then-is_err-clause-appends c = let may : MayAllocate c.args.text.now = search rules in record { ok = tt; err = search rules; memory = λ _. inl may; capacity = inl may }
 
--- what goes past the test of the text may take memory
-pub returns-in-Some-clause-memory : goal.returns-in-Some-clause-memory
-returns-in-Some-clause-memory c = let may : MayAllocate c.args.text.now = search rules in λ _. inl may
-
-pub returns-in-Ok-clause-capacity : goal.returns-in-Ok-clause-capacity
-returns-in-Ok-clause-capacity c = let may : MayAllocate c.args.text.now = search rules in inl may
+pub returns-clause-appends : goal.returns-clause-appends
+returns-clause-appends c = let may : MayAllocate c.args.text.now = search rules in record { ok = search rules; err = search rules; memory = λ _. inl may; capacity = inl may }

@@ -1,9 +1,9 @@
-use Rattle.std.proofs.Common.{false, Err, subst}
+use Rattle.std.proofs.Common.{false, subst}
 use Rattle.jsonb_scan.specs.Answer.{Fails, mode_of}
 use Rattle.jsonb_scan.specs.Reading.Document.{source_of}
 use Rattle.jsonb_spec.specs.Source.{tree_of_source}
 use Rattle.jsonb.specs.Handler.{Misses}
-use Rattle.jsonb.proofs.Documents.Agreement.{gives_explained, gives_rejected, gives_tree}
+use Rattle.jsonb.proofs.Documents.Agreement.{fault_rejects}
 use Rattle.jsonb.proofs.Documents.Straight.{source_parsed}
 use Rattle.jsonb.proofs.parser.straight.check.Goals as goal
 
@@ -15,11 +15,5 @@ returns-in-Ok-clause-document c =
 fault_told : (c : goal.After-drop-room-in-Some-3) → Fails c.in-Some.error (source_of (mode_of c.args.mode) c.args.text.now)
 fault_told c = subst (λ told. Misses false told (source_of (mode_of c.args.mode) c.args.text.now)) c.in-Some.is (c.in-Err.ensures.reads c.new-room.ensures.stands)
 
-pub returns-in-Some-clause-exact : goal.returns-in-Some-clause-exact
-returns-in-Some-clause-exact c = gives_tree (mode_of c.args.mode) c.args.text.now (Err c.in-Some.error) (fault_told c)
-
-pub returns-in-Some-clause-rejected : goal.returns-in-Some-clause-rejected
-returns-in-Some-clause-rejected c = gives_rejected (mode_of c.args.mode) c.args.text.now (Err c.in-Some.error) (returns-in-Some-clause-exact c)
-
-pub returns-in-Some-clause-explained : goal.returns-in-Some-clause-explained
-returns-in-Some-clause-explained c = gives_explained (mode_of c.args.mode) c.args.text.now (Err c.in-Some.error) (returns-in-Some-clause-exact c)
+pub returns-in-Some-clause-rejects : goal.returns-in-Some-clause-rejects
+returns-in-Some-clause-rejects c = fault_rejects (mode_of c.args.mode) c.args.text.now c.in-Some.error (fault_told c)

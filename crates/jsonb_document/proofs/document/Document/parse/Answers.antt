@@ -8,10 +8,10 @@ pub invariant_of-result : goal.invariant_of-result
 invariant_of-result c = record { listed = ∣ placed_is_listed (mode_of c.args.mode) c.args.buf.now c.in_ok-tree.tree c.in_ok-tree.ensures.source ∣₁ }
 
 pub returns-clause-in_range : goal.returns-clause-in_range
-returns-clause-in_range c = (document_in_range (mode_of c.args.mode) c.args.buf.now _ c.in_ok-tree.ensures.document).0
+returns-clause-in_range c = (document_in_range (mode_of c.args.mode) c.args.buf.now _ c.in_ok-tree.ensures.parses.document).0
 
 pub returns-clause-proper : goal.returns-clause-proper
-returns-clause-proper c = (document_in_range (mode_of c.args.mode) c.args.buf.now _ c.in_ok-tree.ensures.document).1
+returns-clause-proper c = (document_in_range (mode_of c.args.mode) c.args.buf.now _ c.in_ok-tree.ensures.parses.document).1
 
 pub returns-clause-bounded : goal.returns-clause-bounded
-returns-clause-bounded c = document_bounded (mode_of c.args.mode) c.args.buf.now _ c.in_ok-tree.ensures.document
+returns-clause-bounded c = document_bounded (mode_of c.args.mode) c.args.buf.now _ c.in_ok-tree.ensures.parses.document

@@ -1,9 +1,10 @@
-use Rattle.std.proofs.Common.{◌≡◌, false, Ok, Err, sym, ap, subst, ◌∙◌}
+use Rattle.std.proofs.Common.{rules, ◌≡◌, false, Ok, Err, sym, ap, subst, ◌∙◌}
 use Rattle.jsonb.specs.Handler.{Misses}
+use Rattle.jsonb.specs.AstView.{ast_view}
 use Rattle.jsonb.specs.Source.{source_view}
 use Rattle.jsonb_scan.specs.Answer.{Fails, mode_of}
 use Rattle.jsonb_scan.specs.Reading.Document.{source_of}
-use Rattle.jsonb.proofs.Documents.Agreement.{gives_document, gives_explained, gives_only, gives_rejected, gives_source, gives_tree}
+use Rattle.jsonb.proofs.Documents.Agreement.{gives_all, gives_source, gives_tree}
 use Rattle.jsonb.proofs.parser.ast.JsonAst.parse.Goals as goal
 
 source_given : (c : goal.In-Ok) → source_of (mode_of c.args.mode) c.args.buf.now ≡ Ok (source_view c.in-Ok.tree)
@@ -12,23 +13,11 @@ source_given c = let read = c.in-Ok.ensures.reads tt in read.2 ∙ ap (λ s. Ok 
 fault_told : (c : goal.In-Some) → Fails c.in-Some.error (source_of (mode_of c.args.mode) c.args.buf.now)
 fault_told c = subst (λ told. Misses false told (source_of (mode_of c.args.mode) c.args.buf.now)) c.in-Some.is (c.in-Err.ensures.reads tt)
 
-pub returns-in-Ok-clause-exact : goal.returns-in-Ok-clause-exact
-returns-in-Ok-clause-exact c = gives_tree (mode_of c.args.mode) c.args.buf.now (Ok c.in-Ok.tree) (source_given c)
-
-pub returns-in-Ok-clause-document : goal.returns-in-Ok-clause-document
-returns-in-Ok-clause-document c = gives_document (mode_of c.args.mode) c.args.buf.now (Ok c.in-Ok.tree) (returns-in-Ok-clause-exact c)
-
-pub returns-in-Ok-clause-only : goal.returns-in-Ok-clause-only
-returns-in-Ok-clause-only c = gives_only (mode_of c.args.mode) c.args.buf.now (Ok c.in-Ok.tree) (returns-in-Ok-clause-exact c)
-
 pub returns-in-Ok-clause-source : goal.returns-in-Ok-clause-source
 returns-in-Ok-clause-source c = gives_source (mode_of c.args.mode) c.args.buf.now (Ok c.in-Ok.tree) (source_given c)
 
-pub returns-in-Some-clause-exact : goal.returns-in-Some-clause-exact
-returns-in-Some-clause-exact c = gives_tree (mode_of c.args.mode) c.args.buf.now (Err c.in-Some.error) (fault_told c)
+pub returns-in-Ok-clause-parses : goal.returns-in-Ok-clause-parses
+returns-in-Ok-clause-parses c = gives_all (mode_of c.args.mode) ast_view c.args.buf.now (Ok c.in-Ok.tree) (gives_tree (mode_of c.args.mode) c.args.buf.now (Ok c.in-Ok.tree) (source_given c)) (search rules)
 
-pub returns-in-Some-clause-rejected : goal.returns-in-Some-clause-rejected
-returns-in-Some-clause-rejected c = gives_rejected (mode_of c.args.mode) c.args.buf.now (Err c.in-Some.error) (returns-in-Some-clause-exact c)
-
-pub returns-in-Some-clause-explained : goal.returns-in-Some-clause-explained
-returns-in-Some-clause-explained c = gives_explained (mode_of c.args.mode) c.args.buf.now (Err c.in-Some.error) (returns-in-Some-clause-exact c)
+pub returns-in-Some-clause-parses : goal.returns-in-Some-clause-parses
+returns-in-Some-clause-parses c = gives_all (mode_of c.args.mode) ast_view c.args.buf.now (Err c.in-Some.error) (gives_tree (mode_of c.args.mode) c.args.buf.now (Err c.in-Some.error) (fault_told c)) (search rules)
