@@ -1,4 +1,5 @@
 pub mod Appending
+pub mod ErrorCodes
 pub mod Numbers
 pub mod Order
 pub mod Outcomes
