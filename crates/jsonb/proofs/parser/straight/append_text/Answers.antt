@@ -41,3 +41,7 @@ returns-in-Some-clause-memory c = let may : MayAllocate c.args.text.now = search
 
 pub returns-in-Ok-clause-capacity : goal.returns-in-Ok-clause-capacity
 returns-in-Ok-clause-capacity c = let may : MayAllocate c.args.text.now = search rules in inl may
+
+-- what goes another way is as it is there
+pub returns-then-not-may_allocate : goal.returns-then-not-may_allocate
+returns-then-not-may_allocate c = c.append_text_of_value.ensures
