@@ -175,17 +175,28 @@ true {"a":1} [true,{"a":1}]
 [] {} [{}]
 {"a":1,"aa":2,"b":3} {"":0,"aa":[],"ab":1,"c":2} {"":0,"a":1,"aa":[],"ab":1,"b":3,"c":2}"#;
 
+// Compares what is merged of two documents with what is wanted.
+fn expect_merged(
+    rt: &(impl AllocGlobal + Abort),
+    left: &str,
+    right: &str,
+    text: &str,
+) -> Result<(), Fail> {
+    let mut out = Vec::from_slice(rt.alloc(), b"x")?;
+    let key = key_of(rt, left.as_bytes())?;
+    let other = key_of(rt, right.as_bytes())?;
+    append_merged(&mut out, &key, &other)?;
+    let found = appended(rt, Ok(true), &out)?;
+    assert_eq!(rt; found.as_deref(), Some(text.as_bytes()), "{left} {right}");
+    Ok(())
+}
+
 #[test]
 fn values_are_merged_as_in_jsonb(rt: HostRuntime) -> Result<(), Fail> {
     for row in MERGED.lines() {
         let (left, words) = cut(&rt, row);
         let (right, text) = cut(&rt, words);
-        let mut out = Vec::from_slice(rt.alloc(), b"x")?;
-        let left = key_of(&rt, left.as_bytes())?;
-        let right = key_of(&rt, right.as_bytes())?;
-        append_merged(&mut out, &left, &right)?;
-        let found = appended(&rt, Ok(true), &out)?;
-        assert_eq!(rt; found.as_deref(), Some(text.as_bytes()), "{row}");
+        expect_merged(&rt, left, right, text)?;
     }
     Ok(())
 }
