@@ -1,6 +1,8 @@
 pub mod Appending
+pub mod ErrorCodes
 pub mod Numbers
 pub mod Order
+pub mod Outcomes
 pub mod SortKeys
 pub mod Strings
 pub mod Trees

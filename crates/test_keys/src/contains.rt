@@ -2,6 +2,7 @@ use jsonb::{Mode, append_sort_key};
 use jsonb_stored::{Key, NoKey, contains};
 use jsonb_value::sort_key::kind;
 use std::alloc::Global;
+use std::process::Abort;
 use std::test::Fail;
 
 fn key_of(alloc: Global, text: &str) -> Result<Vec<u8>, Fail> {
@@ -10,84 +11,70 @@ fn key_of(alloc: Global, text: &str) -> Result<Vec<u8>, Fail> {
     Ok(key)
 }
 
-// What PostgreSQL 15 answers to `'..'::jsonb @> '..'::jsonb`. The first ten are those of its documentation.
-const ANSWERS: [(&str, &str, bool); 40] = [
-    (r#""foo""#, r#""foo""#, true),
-    ("[1, 2, 3]", "[1, 3]", true),
-    ("[1, 2, 3]", "[3, 1]", true),
-    ("[1, 2, 3]", "[1, 2, 2]", true),
-    (
-        r#"{"product": "PostgreSQL", "version": 9.4, "jsonb": true}"#,
-        r#"{"version": 9.4}"#,
-        true,
-    ),
-    ("[1, 2, [1, 3]]", "[1, 3]", false),
-    ("[1, 2, [1, 3]]", "[[1, 3]]", true),
-    (r#"{"foo": {"bar": "baz"}}"#, r#"{"bar": "baz"}"#, false),
-    (
-        r#"{"foo": {"bar": "baz", "zig": "zag"}}"#,
-        r#"{"foo": {}}"#,
-        true,
-    ),
-    (r#"["foo", "bar"]"#, r#""bar""#, true),
-    (r#""bar""#, r#"["bar"]"#, false),
-    ("1", "1.0", true),
-    ("[1.0]", "1", true),
-    ("[[1]]", "1", false),
-    ("[[1]]", "[]", true),
-    ("1", "[]", false),
-    ("[]", "[]", true),
-    ("{}", "{}", true),
-    ("{}", "[]", false),
-    ("[]", "{}", false),
-    (r#"{"a": [1]}"#, r#"{"a": 1}"#, false),
-    (r#"{"a": 1}"#, r#"{"a": [1]}"#, false),
-    (r#"{"a": []}"#, r#"{"a": {}}"#, false),
-    ("[[]]", "[{}]", false),
-    ("[1, [2]]", "[[]]", true),
-    ("[1, 2]", "[[]]", false),
-    ("[null]", "null", true),
-    (r#"{"a": null}"#, "{}", true),
-    (r#"{"b": 1}"#, r#"{"a": null}"#, false),
-    (
-        r#"[{"a": [1, {"b": 2}], "c": 3}]"#,
-        r#"[{"a": [{"b": 2.0}]}, {"c": 3}]"#,
-        true,
-    ),
-    (r#"[{"a": 1}, {"b": 2}]"#, r#"[{"a": 1, "b": 2}]"#, false),
-    ("true", "false", false),
-    (r#""1""#, "1", false),
-    ("[[[1, 2]], [[3]]]", "[[[3]], [[2]]]", true),
-    (
-        r#"{"a": {"b": 1, "c": [1, 2]}, "d": 1}"#,
-        r#"{"a": {"c": [2]}, "d": 1}"#,
-        true,
-    ),
-    (
-        r#"{"a": {"b": 1, "c": [1, 2]}, "d": 1}"#,
-        r#"{"a": {"c": [2]}, "e": 1}"#,
-        false,
-    ),
-    (r#"{"": 1, "a": 2}"#, r#"{"a": 2}"#, true),
-    (r#"{"aa": 1, "ab": 2}"#, r#"{"a": 1}"#, false),
-    (r#"{"a": 1, "ab": 2}"#, r#"{"ab": 2}"#, true),
-    ("-0.05", "-0.050", true),
-];
+// Two documents, and what PostgreSQL 15 answers to `'..'::jsonb @> '..'::jsonb`. The first ten are those of its
+// documentation.
+const ANSWERS: &str = r#""foo" "foo" true
+[1,2,3] [1,3] true
+[1,2,3] [3,1] true
+[1,2,3] [1,2,2] true
+{"product":"PostgreSQL","version":9.4,"jsonb":true} {"version":9.4} true
+[1,2,[1,3]] [1,3] false
+[1,2,[1,3]] [[1,3]] true
+{"foo":{"bar":"baz"}} {"bar":"baz"} false
+{"foo":{"bar":"baz","zig":"zag"}} {"foo":{}} true
+["foo","bar"] "bar" true
+"bar" ["bar"] false
+1 1.0 true
+[1.0] 1 true
+[[1]] 1 false
+[[1]] [] true
+1 [] false
+[] [] true
+{} {} true
+{} [] false
+[] {} false
+{"a":[1]} {"a":1} false
+{"a":1} {"a":[1]} false
+{"a":[]} {"a":{}} false
+[[]] [{}] false
+[1,[2]] [[]] true
+[1,2] [[]] false
+[null] null true
+{"a":null} {} true
+{"b":1} {"a":null} false
+[{"a":[1,{"b":2}],"c":3}] [{"a":[{"b":2.0}]},{"c":3}] true
+[{"a":1},{"b":2}] [{"a":1,"b":2}] false
+true false false
+"1" 1 false
+[[[1,2]],[[3]]] [[[3]],[[2]]] true
+{"a":{"b":1,"c":[1,2]},"d":1} {"a":{"c":[2]},"d":1} true
+{"a":{"b":1,"c":[1,2]},"d":1} {"a":{"c":[2]},"e":1} false
+{"":1,"a":2} {"a":2} true
+{"aa":1,"ab":2} {"a":1} false
+{"a":1,"ab":2} {"ab":2} true
+-0.05 -0.050 true"#;
+
+// Cuts a word off a row of a table.
+fn cut<'t>(rt: &impl Abort, row: &'t str) -> (&'t str, &'t str) {
+    row.split_once(' ').expect(rt, "a row is short")
+}
 
 #[test]
 fn contains_what_jsonb_contains(rt: HostRuntime) -> Result<(), Fail> {
-    let alloc = rt.alloc();
-    for (left, right, answer) in ANSWERS {
-        let key = key_of(alloc, left)?;
-        let other = key_of(alloc, right)?;
-        assert!(rt; contains(&key, &other) == Ok(answer), "{left} @> {right}");
+    for row in ANSWERS.lines() {
+        let (left, words) = cut(&rt, row);
+        let (right, word) = cut(&rt, words);
+        let answer = word == "true";
+        let key = key_of(rt.alloc(), left)?;
+        let other = key_of(rt.alloc(), right)?;
+        assert!(rt; contains(&key, &other) == Ok(answer), "{row}");
         let Some(whole) = Key::new(&key) else {
             return Err(Fail::new("no key"));
         };
         let Some(part) = Key::new(&other) else {
             return Err(Fail::new("no key"));
         };
-        assert_eq!(rt; whole.contains(part), answer, "{left} @> {right}");
+        assert_eq!(rt; whole.contains(part), answer, "{row}");
     }
     Ok(())
 }

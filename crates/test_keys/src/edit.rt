@@ -41,296 +41,220 @@ fn appended(
     Ok(Some(text))
 }
 
-// What PostgreSQL 15 gives for `document #- path`, where that isn't the document again or an error.
+// Cuts a word off a row of a table.
+fn cut<'t>(rt: &impl Abort, row: &'t str) -> (&'t str, &'t str) {
+    row.split_once(' ').expect(rt, "a row is short")
+}
+
+// The text that a row wants, or none.
+fn wanted(word: &str) -> Option<&[u8]> {
+    if word == "-" {
+        None
+    } else {
+        Some(word.as_bytes())
+    }
+}
+
+// A document, a path, and what PostgreSQL 15 gives for `document #- path`; or `-` where that is the document again or
+// an error.
+const REMOVED: &str = r#"{"a":1,"b":{"c":[1,2,3]}} /a {"b":{"c":[1,2,3]}}
+{"a":1,"b":{"c":[1,2,3]}} /b {"a":1}
+{"a":1,"b":{"c":[1,2,3]}} /b/c {"a":1,"b":{}}
+{"a":1,"b":{"c":[1,2,3]}} /b/c/0 {"a":1,"b":{"c":[2,3]}}
+{"a":1,"b":{"c":[1,2,3]}} /b/c/2 {"a":1,"b":{"c":[1,2]}}
+{"a":1,"b":{"c":[1,2,3]}} /b/c/-1 {"a":1,"b":{"c":[1,2]}}
+{"a":1,"b":{"c":[1,2,3]}} /b/c/-3 {"a":1,"b":{"c":[2,3]}}
+{"a":1,"b":{"c":[1,2,3]}} /b/c/3 -
+{"a":1,"b":{"c":[1,2,3]}} /b/c/-4 -
+{"a":1,"b":{"c":[1,2,3]}} /c -
+{"a":1,"b":{"c":[1,2,3]}} /a/b -
+{"a":1,"b":{"c":[1,2,3]}} /b/x/y -
+{"a":1,"b":{"c":[1,2,3]}} /b/c/x -
+{"a":1,"b":{"c":[1,2,3]}}  -
+[[1],[2,[3]]] /0 [[2,[3]]]
+[[1],[2,[3]]] /1/1/0 [[1],[2,[]]]
+[[1],[2,[3]]] /-1/-1/-1 [[1],[2,[]]]
+[[1],[2,[3]]] /-3/0 -
+[[1],[2,[3]]] /2/0 -
+{"":{"":1}} // {"":{}}
+{"":{"":1}} / {}
+{"a~/b":1,"c":2} /a~0~1b {"c":2}
+7 /a -
+[] /0 -
+{} /a -"#;
+
 #[test]
 fn parts_are_removed_as_in_jsonb(rt: HostRuntime) -> Result<(), Fail> {
-    let cases: [(&[u8], &[u8], Option<&[u8]>); 25] = [
-        (
-            b"{\"a\":1,\"b\":{\"c\":[1,2,3]}}",
-            b"/a",
-            Some(b"{\"b\":{\"c\":[1,2,3]}}"),
-        ),
-        (
-            b"{\"a\":1,\"b\":{\"c\":[1,2,3]}}",
-            b"/b",
-            Some(b"{\"a\":1}"),
-        ),
-        (
-            b"{\"a\":1,\"b\":{\"c\":[1,2,3]}}",
-            b"/b/c",
-            Some(b"{\"a\":1,\"b\":{}}"),
-        ),
-        (
-            b"{\"a\":1,\"b\":{\"c\":[1,2,3]}}",
-            b"/b/c/0",
-            Some(b"{\"a\":1,\"b\":{\"c\":[2,3]}}"),
-        ),
-        (
-            b"{\"a\":1,\"b\":{\"c\":[1,2,3]}}",
-            b"/b/c/2",
-            Some(b"{\"a\":1,\"b\":{\"c\":[1,2]}}"),
-        ),
-        (
-            b"{\"a\":1,\"b\":{\"c\":[1,2,3]}}",
-            b"/b/c/-1",
-            Some(b"{\"a\":1,\"b\":{\"c\":[1,2]}}"),
-        ),
-        (
-            b"{\"a\":1,\"b\":{\"c\":[1,2,3]}}",
-            b"/b/c/-3",
-            Some(b"{\"a\":1,\"b\":{\"c\":[2,3]}}"),
-        ),
-        (b"{\"a\":1,\"b\":{\"c\":[1,2,3]}}", b"/b/c/3", None),
-        (b"{\"a\":1,\"b\":{\"c\":[1,2,3]}}", b"/b/c/-4", None),
-        (b"{\"a\":1,\"b\":{\"c\":[1,2,3]}}", b"/c", None),
-        (b"{\"a\":1,\"b\":{\"c\":[1,2,3]}}", b"/a/b", None),
-        (b"{\"a\":1,\"b\":{\"c\":[1,2,3]}}", b"/b/x/y", None),
-        (b"{\"a\":1,\"b\":{\"c\":[1,2,3]}}", b"/b/c/x", None),
-        (b"{\"a\":1,\"b\":{\"c\":[1,2,3]}}", b"", None),
-        (b"[[1],[2,[3]]]", b"/0", Some(b"[[2,[3]]]")),
-        (b"[[1],[2,[3]]]", b"/1/1/0", Some(b"[[1],[2,[]]]")),
-        (b"[[1],[2,[3]]]", b"/-1/-1/-1", Some(b"[[1],[2,[]]]")),
-        (b"[[1],[2,[3]]]", b"/-3/0", None),
-        (b"[[1],[2,[3]]]", b"/2/0", None),
-        (b"{\"\":{\"\":1}}", b"//", Some(b"{\"\":{}}")),
-        (b"{\"\":{\"\":1}}", b"/", Some(b"{}")),
-        (b"{\"a~/b\":1,\"c\":2}", b"/a~0~1b", Some(b"{\"c\":2}")),
-        (b"7", b"/a", None),
-        (b"[]", b"/0", None),
-        (b"{}", b"/a", None),
-    ];
-    for (document, path, wanted) in cases {
+    for row in REMOVED.lines() {
+        let (document, words) = cut(&rt, row);
+        let (path, text) = cut(&rt, words);
         let mut out = Vec::from_slice(rt.alloc(), b"x")?;
-        let key = key_of(&rt, document)?;
-        let told = append_without_part(&mut out, &key, &names_of(&rt, path)?);
-        let text = appended(&rt, told, &out)?;
-        assert_eq!(rt; text.as_deref(), wanted, "{document:?} {path:?}");
+        let key = key_of(&rt, document.as_bytes())?;
+        let told = append_without_part(&mut out, &key, &names_of(&rt, path.as_bytes())?);
+        let found = appended(&rt, told, &out)?;
+        assert_eq!(rt; found.as_deref(), wanted(text), "{row}");
     }
     Ok(())
 }
 
-// What PostgreSQL 15 gives for `jsonb_set(document, path, '{"n":[null]}', create)`, where that isn't the document again
-// or an error.
+// A document, a path, and what PostgreSQL 15 gives for `jsonb_set(document, path, '{"n":[null]}', true)`, and with
+// `false`; or `-` where that is the document again or an error.
+const SET: &str =
+    r#"{"a":1,"c":[1,{"d":2}]} /a {"a":{"n":[null]},"c":[1,{"d":2}]} {"a":{"n":[null]},"c":[1,{"d":2}]}
+{"a":1,"c":[1,{"d":2}]} /b {"a":1,"b":{"n":[null]},"c":[1,{"d":2}]} -
+{"a":1,"c":[1,{"d":2}]} /d {"a":1,"c":[1,{"d":2}],"d":{"n":[null]}} -
+{"a":1,"c":[1,{"d":2}]} / {"":{"n":[null]},"a":1,"c":[1,{"d":2}]} -
+{"a":1,"c":[1,{"d":2}]} /c/0 {"a":1,"c":[{"n":[null]},{"d":2}]} {"a":1,"c":[{"n":[null]},{"d":2}]}
+{"a":1,"c":[1,{"d":2}]} /c/1/d {"a":1,"c":[1,{"d":{"n":[null]}}]} {"a":1,"c":[1,{"d":{"n":[null]}}]}
+{"a":1,"c":[1,{"d":2}]} /c/-1/e {"a":1,"c":[1,{"d":2,"e":{"n":[null]}}]} -
+{"a":1,"c":[1,{"d":2}]} /c/2 {"a":1,"c":[1,{"d":2},{"n":[null]}]} -
+{"a":1,"c":[1,{"d":2}]} /c/99 {"a":1,"c":[1,{"d":2},{"n":[null]}]} -
+{"a":1,"c":[1,{"d":2}]} /c/-2 {"a":1,"c":[{"n":[null]},{"d":2}]} {"a":1,"c":[{"n":[null]},{"d":2}]}
+{"a":1,"c":[1,{"d":2}]} /c/-3 {"a":1,"c":[{"n":[null]},1,{"d":2}]} -
+{"a":1,"c":[1,{"d":2}]} /c/-99 {"a":1,"c":[{"n":[null]},1,{"d":2}]} -
+{"a":1,"c":[1,{"d":2}]} /x/y - -
+{"a":1,"c":[1,{"d":2}]} /a/y - -
+{"a":1,"c":[1,{"d":2}]} /c/5/y - -
+{"a":1,"c":[1,{"d":2}]} /c/x - -
+{"a":1,"c":[1,{"d":2}]}  - -
+[] /0 [{"n":[null]}] -
+[] /-1 [{"n":[null]}] -
+[] /7 [{"n":[null]}] -
+{} /k {"k":{"n":[null]}} -
+"s" /k - -"#;
+
+// Compares what is set at a path with what is wanted.
+fn expect_set(
+    rt: &(impl AllocGlobal + Abort),
+    key: &[u8],
+    names: &[String],
+    create: bool,
+    text: &str,
+) -> Result<(), Fail> {
+    let mut out = Vec::from_slice(rt.alloc(), b"x")?;
+    let part = key_of(rt, b"{\"n\":[null]}")?;
+    let told = append_with_part(&mut out, key, names, &part, create);
+    let found = appended(rt, told, &out)?;
+    assert_eq!(rt; found.as_deref(), wanted(text), "{create} {text}");
+    Ok(())
+}
+
 #[test]
 fn parts_are_set_as_in_jsonb(rt: HostRuntime) -> Result<(), Fail> {
-    let cases: [(&[u8], &[u8], bool, Option<&[u8]>); 44] = [
-        (
-            b"{\"a\":1,\"c\":[1,{\"d\":2}]}",
-            b"/a",
-            true,
-            Some(b"{\"a\":{\"n\":[null]},\"c\":[1,{\"d\":2}]}"),
-        ),
-        (
-            b"{\"a\":1,\"c\":[1,{\"d\":2}]}",
-            b"/a",
-            false,
-            Some(b"{\"a\":{\"n\":[null]},\"c\":[1,{\"d\":2}]}"),
-        ),
-        (
-            b"{\"a\":1,\"c\":[1,{\"d\":2}]}",
-            b"/b",
-            true,
-            Some(b"{\"a\":1,\"b\":{\"n\":[null]},\"c\":[1,{\"d\":2}]}"),
-        ),
-        (b"{\"a\":1,\"c\":[1,{\"d\":2}]}", b"/b", false, None),
-        (
-            b"{\"a\":1,\"c\":[1,{\"d\":2}]}",
-            b"/d",
-            true,
-            Some(b"{\"a\":1,\"c\":[1,{\"d\":2}],\"d\":{\"n\":[null]}}"),
-        ),
-        (b"{\"a\":1,\"c\":[1,{\"d\":2}]}", b"/d", false, None),
-        (
-            b"{\"a\":1,\"c\":[1,{\"d\":2}]}",
-            b"/",
-            true,
-            Some(b"{\"\":{\"n\":[null]},\"a\":1,\"c\":[1,{\"d\":2}]}"),
-        ),
-        (b"{\"a\":1,\"c\":[1,{\"d\":2}]}", b"/", false, None),
-        (
-            b"{\"a\":1,\"c\":[1,{\"d\":2}]}",
-            b"/c/0",
-            true,
-            Some(b"{\"a\":1,\"c\":[{\"n\":[null]},{\"d\":2}]}"),
-        ),
-        (
-            b"{\"a\":1,\"c\":[1,{\"d\":2}]}",
-            b"/c/0",
-            false,
-            Some(b"{\"a\":1,\"c\":[{\"n\":[null]},{\"d\":2}]}"),
-        ),
-        (
-            b"{\"a\":1,\"c\":[1,{\"d\":2}]}",
-            b"/c/1/d",
-            true,
-            Some(b"{\"a\":1,\"c\":[1,{\"d\":{\"n\":[null]}}]}"),
-        ),
-        (
-            b"{\"a\":1,\"c\":[1,{\"d\":2}]}",
-            b"/c/1/d",
-            false,
-            Some(b"{\"a\":1,\"c\":[1,{\"d\":{\"n\":[null]}}]}"),
-        ),
-        (
-            b"{\"a\":1,\"c\":[1,{\"d\":2}]}",
-            b"/c/-1/e",
-            true,
-            Some(b"{\"a\":1,\"c\":[1,{\"d\":2,\"e\":{\"n\":[null]}}]}"),
-        ),
-        (b"{\"a\":1,\"c\":[1,{\"d\":2}]}", b"/c/-1/e", false, None),
-        (
-            b"{\"a\":1,\"c\":[1,{\"d\":2}]}",
-            b"/c/2",
-            true,
-            Some(b"{\"a\":1,\"c\":[1,{\"d\":2},{\"n\":[null]}]}"),
-        ),
-        (b"{\"a\":1,\"c\":[1,{\"d\":2}]}", b"/c/2", false, None),
-        (
-            b"{\"a\":1,\"c\":[1,{\"d\":2}]}",
-            b"/c/99",
-            true,
-            Some(b"{\"a\":1,\"c\":[1,{\"d\":2},{\"n\":[null]}]}"),
-        ),
-        (b"{\"a\":1,\"c\":[1,{\"d\":2}]}", b"/c/99", false, None),
-        (
-            b"{\"a\":1,\"c\":[1,{\"d\":2}]}",
-            b"/c/-2",
-            true,
-            Some(b"{\"a\":1,\"c\":[{\"n\":[null]},{\"d\":2}]}"),
-        ),
-        (
-            b"{\"a\":1,\"c\":[1,{\"d\":2}]}",
-            b"/c/-2",
-            false,
-            Some(b"{\"a\":1,\"c\":[{\"n\":[null]},{\"d\":2}]}"),
-        ),
-        (
-            b"{\"a\":1,\"c\":[1,{\"d\":2}]}",
-            b"/c/-3",
-            true,
-            Some(b"{\"a\":1,\"c\":[{\"n\":[null]},1,{\"d\":2}]}"),
-        ),
-        (b"{\"a\":1,\"c\":[1,{\"d\":2}]}", b"/c/-3", false, None),
-        (
-            b"{\"a\":1,\"c\":[1,{\"d\":2}]}",
-            b"/c/-99",
-            true,
-            Some(b"{\"a\":1,\"c\":[{\"n\":[null]},1,{\"d\":2}]}"),
-        ),
-        (b"{\"a\":1,\"c\":[1,{\"d\":2}]}", b"/c/-99", false, None),
-        (b"{\"a\":1,\"c\":[1,{\"d\":2}]}", b"/x/y", true, None),
-        (b"{\"a\":1,\"c\":[1,{\"d\":2}]}", b"/x/y", false, None),
-        (b"{\"a\":1,\"c\":[1,{\"d\":2}]}", b"/a/y", true, None),
-        (b"{\"a\":1,\"c\":[1,{\"d\":2}]}", b"/a/y", false, None),
-        (b"{\"a\":1,\"c\":[1,{\"d\":2}]}", b"/c/5/y", true, None),
-        (b"{\"a\":1,\"c\":[1,{\"d\":2}]}", b"/c/5/y", false, None),
-        (b"{\"a\":1,\"c\":[1,{\"d\":2}]}", b"/c/x", true, None),
-        (b"{\"a\":1,\"c\":[1,{\"d\":2}]}", b"/c/x", false, None),
-        (b"{\"a\":1,\"c\":[1,{\"d\":2}]}", b"", true, None),
-        (b"{\"a\":1,\"c\":[1,{\"d\":2}]}", b"", false, None),
-        (b"[]", b"/0", true, Some(b"[{\"n\":[null]}]")),
-        (b"[]", b"/0", false, None),
-        (b"[]", b"/-1", true, Some(b"[{\"n\":[null]}]")),
-        (b"[]", b"/-1", false, None),
-        (b"[]", b"/7", true, Some(b"[{\"n\":[null]}]")),
-        (b"[]", b"/7", false, None),
-        (b"{}", b"/k", true, Some(b"{\"k\":{\"n\":[null]}}")),
-        (b"{}", b"/k", false, None),
-        (b"\"s\"", b"/k", true, None),
-        (b"\"s\"", b"/k", false, None),
-    ];
-    let part = key_of(&rt, b"{\"n\":[null]}")?;
-    for (document, path, create, wanted) in cases {
-        let mut out = Vec::from_slice(rt.alloc(), b"x")?;
-        let key = key_of(&rt, document)?;
-        let told = append_with_part(&mut out, &key, &names_of(&rt, path)?, &part, create);
-        let text = appended(&rt, told, &out)?;
-        assert_eq!(rt; text.as_deref(), wanted, "{document:?} {path:?} {create}");
+    for row in SET.lines() {
+        let (document, words) = cut(&rt, row);
+        let (path, texts) = cut(&rt, words);
+        let (created, unasked) = cut(&rt, texts);
+        let key = key_of(&rt, document.as_bytes())?;
+        let names = names_of(&rt, path.as_bytes())?;
+        expect_set(&rt, &key, &names, true, created)?;
+        expect_set(&rt, &key, &names, false, unasked)?;
     }
     Ok(())
 }
 
-// What PostgreSQL 15 gives for `left || right`.
+// Two documents, and what PostgreSQL 15 gives for `left || right`.
+const MERGED: &str = r#"{"a":1,"b":2} {"b":3,"c":4} {"a":1,"b":3,"c":4}
+{"b":1} {"a":2} {"a":2,"b":1}
+{"a":{"x":1}} {"a":{"y":2}} {"a":{"y":2}}
+{} {} {}
+{"a":1} {} {"a":1}
+{} {"a":1} {"a":1}
+[1] [2,3] [1,2,3]
+[] [] []
+[[1]] [[2]] [[1],[2]]
+[1] 2 [1,2]
+1 [2] [1,2]
+1 2 [1,2]
+null "x" [null,"x"]
+{"a":1} [2] [{"a":1},2]
+[2] {"a":1} [2,{"a":1}]
+{"a":1} 1 [{"a":1},1]
+true {"a":1} [true,{"a":1}]
+{} [] [{}]
+[] {} [{}]
+{"a":1,"aa":2,"b":3} {"":0,"aa":[],"ab":1,"c":2} {"":0,"a":1,"aa":[],"ab":1,"b":3,"c":2}"#;
+
+// Compares what is merged of two documents with what is wanted.
+fn expect_merged(
+    rt: &(impl AllocGlobal + Abort),
+    left: &str,
+    right: &str,
+    text: &str,
+) -> Result<(), Fail> {
+    let mut out = Vec::from_slice(rt.alloc(), b"x")?;
+    let key = key_of(rt, left.as_bytes())?;
+    let other = key_of(rt, right.as_bytes())?;
+    append_merged(&mut out, &key, &other)?;
+    let found = appended(rt, Ok(true), &out)?;
+    assert_eq!(rt; found.as_deref(), Some(text.as_bytes()), "{left} {right}");
+    Ok(())
+}
+
 #[test]
 fn values_are_merged_as_in_jsonb(rt: HostRuntime) -> Result<(), Fail> {
-    let cases: [(&[u8], &[u8], &[u8]); 20] = [
-        (
-            b"{\"a\":1,\"b\":2}",
-            b"{\"b\":3,\"c\":4}",
-            b"{\"a\":1,\"b\":3,\"c\":4}",
-        ),
-        (b"{\"b\":1}", b"{\"a\":2}", b"{\"a\":2,\"b\":1}"),
-        (
-            b"{\"a\":{\"x\":1}}",
-            b"{\"a\":{\"y\":2}}",
-            b"{\"a\":{\"y\":2}}",
-        ),
-        (b"{}", b"{}", b"{}"),
-        (b"{\"a\":1}", b"{}", b"{\"a\":1}"),
-        (b"{}", b"{\"a\":1}", b"{\"a\":1}"),
-        (b"[1]", b"[2,3]", b"[1,2,3]"),
-        (b"[]", b"[]", b"[]"),
-        (b"[[1]]", b"[[2]]", b"[[1],[2]]"),
-        (b"[1]", b"2", b"[1,2]"),
-        (b"1", b"[2]", b"[1,2]"),
-        (b"1", b"2", b"[1,2]"),
-        (b"null", b"\"x\"", b"[null,\"x\"]"),
-        (b"{\"a\":1}", b"[2]", b"[{\"a\":1},2]"),
-        (b"[2]", b"{\"a\":1}", b"[2,{\"a\":1}]"),
-        (b"{\"a\":1}", b"1", b"[{\"a\":1},1]"),
-        (b"true", b"{\"a\":1}", b"[true,{\"a\":1}]"),
-        (b"{}", b"[]", b"[{}]"),
-        (b"[]", b"{}", b"[{}]"),
-        (
-            b"{\"a\":1,\"aa\":2,\"b\":3}",
-            b"{\"\":0,\"aa\":[],\"ab\":1,\"c\":2}",
-            b"{\"\":0,\"a\":1,\"aa\":[],\"ab\":1,\"b\":3,\"c\":2}",
-        ),
-    ];
-    for (left, right, wanted) in cases {
-        let mut out = Vec::from_slice(rt.alloc(), b"x")?;
-        append_merged(&mut out, &key_of(&rt, left)?, &key_of(&rt, right)?)?;
-        let text = appended(&rt, Ok(true), &out)?;
-        assert_eq!(rt; text.as_deref(), Some(wanted), "{left:?} {right:?}");
+    for row in MERGED.lines() {
+        let (left, words) = cut(&rt, row);
+        let (right, text) = cut(&rt, words);
+        expect_merged(&rt, left, right, text)?;
     }
     Ok(())
 }
 
-// What PostgreSQL 15 gives for `jsonb_build_object('b', 1, 'a', '[2]'::jsonb, 'b', 'x')`, and so on.
+// What stands behind the first byte.
+fn behind_first(rt: &(impl AllocGlobal + Abort), out: &[u8]) -> Result<Vec<u8>, Fail> {
+    let (_, key) = out.split_first().expect(rt, "what was there is gone");
+    Ok(Vec::from_slice(rt.alloc(), key)?)
+}
+
+// What PostgreSQL 15 gives for `jsonb_build_object('b', 1, 'a', '[2]'::jsonb, 'b', 'x', '', null)`: a name, a value,
+// and the object with the members so far.
+const MEMBERS: &str = r#"b 1 {"b":1}
+a [2] {"a":[2],"b":1}
+b "x" {"a":[2],"b":"x"}
+ null {"":null,"a":[2],"b":"x"}"#;
+
 #[test]
-fn objects_and_arrays_are_built_as_in_jsonb(rt: HostRuntime) -> Result<(), Fail> {
+fn objects_are_built_as_in_jsonb(rt: HostRuntime) -> Result<(), Fail> {
     let mut object = Vec::from_slice(rt.alloc(), &EMPTY_OBJECT)?;
-    let members: [(&str, &[u8], &[u8]); 4] = [
-        ("b", b"1", b"{\"b\":1}"),
-        ("a", b"[2]", b"{\"a\":[2],\"b\":1}"),
-        ("b", b"\"x\"", b"{\"a\":[2],\"b\":\"x\"}"),
-        ("", b"null", b"{\"\":null,\"a\":[2],\"b\":\"x\"}"),
-    ];
-    for (name, value, wanted) in members {
+    for row in MEMBERS.lines() {
+        let (name, words) = cut(&rt, row);
+        let (value, text) = cut(&rt, words);
         let mut out = Vec::from_slice(rt.alloc(), b"x")?;
-        let told = append_with_member(&mut out, &object, name, &key_of(&rt, value)?);
-        let text = appended(&rt, told, &out)?;
-        assert_eq!(rt; text.as_deref(), Some(wanted), "{name}");
-        let (_, key) = out.split_first().expect(&rt, "what was there is gone");
-        object = Vec::from_slice(rt.alloc(), key)?;
+        let told = append_with_member(&mut out, &object, name, &key_of(&rt, value.as_bytes())?);
+        let found = appended(&rt, told, &out)?;
+        assert_eq!(rt; found.as_deref(), Some(text.as_bytes()), "{row}");
+        object = behind_first(&rt, &out)?;
     }
+    Ok(())
+}
+
+// An item, and the array with the items so far.
+const ITEMS: &str = r#"1 [1]
+{"a":1} [1,{"a":1}]
+"x" [1,{"a":1},"x"]"#;
+
+#[test]
+fn arrays_are_built_as_in_jsonb(rt: HostRuntime) -> Result<(), Fail> {
     let mut array = Vec::from_slice(rt.alloc(), &EMPTY_ARRAY)?;
-    let items: [(&[u8], &[u8]); 3] = [
-        (b"1", b"[1]"),
-        (b"{\"a\":1}", b"[1,{\"a\":1}]"),
-        (b"\"x\"", b"[1,{\"a\":1},\"x\"]"),
-    ];
-    for (item, wanted) in items {
+    for row in ITEMS.lines() {
+        let (item, text) = cut(&rt, row);
         let mut out = Vec::from_slice(rt.alloc(), b"x")?;
-        let told = append_with_item(&mut out, &array, &key_of(&rt, item)?);
-        let text = appended(&rt, told, &out)?;
-        assert_eq!(rt; text.as_deref(), Some(wanted));
-        let (_, key) = out.split_first().expect(&rt, "what was there is gone");
-        array = Vec::from_slice(rt.alloc(), key)?;
+        let told = append_with_item(&mut out, &array, &key_of(&rt, item.as_bytes())?);
+        let found = appended(&rt, told, &out)?;
+        assert_eq!(rt; found.as_deref(), Some(text.as_bytes()), "{row}");
+        array = behind_first(&rt, &out)?;
     }
+    Ok(())
+}
+
+#[test]
+fn arrays_take_no_members_and_objects_no_items(rt: HostRuntime) -> Result<(), Fail> {
     let mut out = Vec::from_slice(rt.alloc(), b"x")?;
+    let array = key_of(&rt, b"[1]")?;
     let told = append_with_member(&mut out, &array, "a", &EMPTY_ARRAY);
     assert_eq!(rt; appended(&rt, told, &out)?, None);
+    let object = key_of(&rt, b"{\"a\":1}")?;
     let told = append_with_item(&mut out, &object, &EMPTY_ARRAY);
     assert_eq!(rt; appended(&rt, told, &out)?, None);
     Ok(())

@@ -2,7 +2,7 @@
 use Rattle.std.proofs.Common.{◌≡◌, ℕ, ◌+◌, ◌<◌, ◌≤◌, List, [], ◌++◌, length, refl, sym, subst, ap, ◌∙◌, append_assoc, append-nil, length-append, arith, Result, Ok, Err, OnErr, OnOk, Bool, true, is_ok, if◌then◌else◌}
 use Rattle.std.specs.Prelude.{IsErr, Vec, vec_len, vec_capacity}
 use Rattle.std.specs.declared.alloc.Global.{Global}
-use Rattle.jsonb_spec.specs.Text.Appending.{Extends, Appends, AppendsIf}
+use Rattle.jsonb_spec.specs.Text.Appending.{Extends, Appends, AppendsAllOrNothing, AppendsIf}
 
 -- old became now by a front of the text, of which the rest is left
 pub record IsUnderway (old now text left : List ℕ) : Type 0 where
@@ -91,3 +91,16 @@ lacks_first r old new first piece text split is kept capacity full = lacks r old
 pub appends_if : {X E : Type 0} (test : Bool) (r : Result X E) (old new : Vec ℕ Global) (text : List ℕ) → OnOk r (test ≡ true) → Appends r old new text → AppendsIf test r old new text
 appends_if test (Ok x) old new text holds h = record { ok = h.ok; holds = holds; kept = h.kept; full = tt; capacity = h.capacity }
 appends_if test (Err e) old new text holds h = record { ok = tt; holds = tt; kept = h.kept; full = λ is. h.full; capacity = h.capacity }
+
+-- what `extend_from_slice` appends where the test is true
+pub extended_if : {X E : Type 0} (test : Bool) (r : Result X E) (old new : Vec ℕ Global) (bytes text : List ℕ) → test ≡ true → new.items ≡ (if is_ok r then old.items ++ bytes else old.items) → OnErr r (vec_capacity old < vec_len old + length bytes) → vec_capacity old ≤ vec_capacity new → bytes ≡ text → AppendsIf test r old new text
+extended_if test r old new bytes text holds items full capacity same = appends_if test r old new text (on_ok r holds) (extended r old new bytes text items full capacity same)
+
+-- the same bytes by another name, where the test is true
+pub appends_as_if : {X E : Type 0} (test : Bool) (r : Result X E) (old new : Vec ℕ Global) (piece text : List ℕ) → test ≡ true → piece ≡ text → Appends r old new piece → AppendsIf test r old new text
+appends_as_if test r old new piece text holds same h = appends_if test r old new text (on_ok r holds) (appends_as r old new piece text same h)
+
+-- what is appended as a whole or not at all, where the test is true
+pub whole_if : {X E : Type 0} (test : Bool) (r : Result X E) (old new : Vec ℕ Global) (text : List ℕ) → test ≡ true → AppendsAllOrNothing r old new text → AppendsIf test r old new text
+whole_if test (Ok x) old new text holds h = record { ok = h.ok; holds = holds; kept = record { more = text; extended = h.ok }; full = tt; capacity = h.capacity }
+whole_if test (Err e) old new text holds h = record { ok = tt; holds = tt; kept = record { more = []; extended = h.err ∙ sym (append-nil old.items) }; full = λ is. h.full; capacity = h.capacity }

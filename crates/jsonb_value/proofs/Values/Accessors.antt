@@ -6,10 +6,44 @@ use Rattle.std.specs.Cmp.Lexicographic.{slice_cmp}
 use Rattle.std.specs.Map.{keys_of, lookup}
 use Rattle.std.specs.Slice.{IsItemAt}
 use Rattle.jsonb_spec.specs.Accessors.{trees_len, find_member, item_at, key_trees}
-use Rattle.jsonb_spec.specs.Tree.{string, array, object, escaped, more_trees, trees_of}
-use Rattle.jsonb_value.specs.View.{view, trees_view, members_view}
-use Rattle.jsonb_value.specs.declared.value.Value.{Value, Array, Object, the_lemmas}
+use Rattle.std.specs.Cow.{cow_str_bytes}
+use Rattle.std.specs.declared.borrow.CowStr.{CowStr}
+use Rattle.jsonb_spec.specs.Tree.{null, boolean, string, number, binary, date, timestamp, timestamp_tz, interval, array, object, escaped, more_trees, trees_of}
+use Rattle.jsonb_value.specs.View.{view, trees_view, members_view, mark_view, number_view}
+use Rattle.jsonb_value.specs.declared.extension.Date.{Date}
+use Rattle.jsonb_value.specs.declared.extension.Interval.{Interval}
+use Rattle.jsonb_value.specs.declared.extension.Timestamp.{Timestamp}
+use Rattle.jsonb_value.specs.declared.extension.TimestampTz.{TimestampTz}
+use Rattle.jsonb_value.specs.declared.number.Number.{Number}
+use Rattle.jsonb_value.specs.declared.value.Value.{Value, Null, Bool as Bool', String as String', Number as Number', Binary, Date as Date', Timestamp as Timestamp', TimestampTz as TimestampTz', Interval as Interval', Array, Object, the_lemmas}
 use Rattle.jsonb_value.proofs.Values.Members.{Entry}
+
+pub view-Null : view Null ≡ null
+view-Null = search (rules, the_lemmas)
+
+pub view-Bool : (b : Bool) → view (Bool' b) ≡ boolean b
+view-Bool b = search (rules, the_lemmas)
+
+pub view-String : (s : CowStr Global) → view (String' s) ≡ string (mark_view s) (cow_str_bytes s)
+view-String s = search (rules, the_lemmas)
+
+pub view-Number : (n : Number) → view (Number' n) ≡ number (number_view n)
+view-Number n = search (rules, the_lemmas)
+
+pub view-Binary : (b : Bor (List ℕ)) → view (Binary b) ≡ binary b.now
+view-Binary b = search (rules, the_lemmas)
+
+pub view-Date : (d : Date) → view (Date' d) ≡ date d.value
+view-Date d = search (rules, the_lemmas)
+
+pub view-Timestamp : (s : Timestamp) → view (Timestamp' s) ≡ timestamp s.value
+view-Timestamp s = search (rules, the_lemmas)
+
+pub view-TimestampTz : (s : TimestampTz) → view (TimestampTz' s) ≡ timestamp_tz s.offset s.value
+view-TimestampTz s = search (rules, the_lemmas)
+
+pub view-Interval : (i : Interval) → view (Interval' i) ≡ interval i.months i.days i.micros
+view-Interval i = search (rules, the_lemmas)
 
 pub view-Array : (v : Vec Value Global) → view (Array v) ≡ array (trees_view v.items)
 view-Array v = search (rules, the_lemmas)

@@ -9,10 +9,8 @@ use Rattle.jsonb_value.specs.contracts.error.ErrorHash.TheImpl.Laws as hash_laws
 use Rattle.jsonb_value.specs.declared.error.Error.{Error}
 use Rattle.jsonb_value.specs.declared.error.Error.TheVariants as variants
 use Rattle.jsonb_value.specs.declared.error.ParseErrorCode.{ParseErrorCode}
+use Rattle.jsonb_value.proofs.ErrorCodes.{codes_equal}
 use Rattle.jsonb_value.proofs.error.errors_compare_by_parts.Goals as goal
-
-codes_equal : (a b : ParseErrorCode) → IsTrue (derived_code.ghosts.eq a b) ↔ (code_of a ≡ code_of b)
-codes_equal a b = search rules
 
 pair_equal : (t u : Code) (e : Bool) (p q : ℕ) → (IsTrue e ↔ t ≡ u) → IsTrue (e && (p == q)) ↔ (syntax t p ≡ syntax u q)
 pair_equal t u e p q h = search rules

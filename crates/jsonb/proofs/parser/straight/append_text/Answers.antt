@@ -44,3 +44,7 @@ returns-then-is_err-clause-appends c = let may : MayAllocate c.args.text.now = s
 
 pub returns-clause-appends : goal.returns-clause-appends
 returns-clause-appends c = let may : MayAllocate c.args.text.now = search rules in record { ok = search rules; err = search rules; memory = λ _. inl may; capacity = inl may }
+
+-- what goes another way is as it is there
+pub returns-then-not-may_allocate : goal.returns-then-not-may_allocate
+returns-then-not-may_allocate c = c.append_text_of_value.ensures

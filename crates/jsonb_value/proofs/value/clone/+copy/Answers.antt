@@ -2,6 +2,7 @@ use Rattle.std.proofs.Common.{◌≡◌, [], ◌∙◌, sym, subst, append-nil, 
 use Rattle.std.proofs.lemmas.Result.{IfOk-weaker}
 use Rattle.jsonb_spec.specs.Keys.{KeysAscend}
 use Rattle.jsonb_value.specs.View.{members_view}
+use Rattle.jsonb_value.proofs.Outcomes.{no_ok}
 use Rattle.jsonb_value.proofs.Values.Built.{members_view-alike}
 use Rattle.jsonb_value.proofs.Values.Keys.{KeysAscend-members_view}
 use Rattle.jsonb_value.proofs.Values.Members.{put_all-more, put_all-sorted}
@@ -32,3 +33,75 @@ copy_pairs-returns-clause-ascend t c =
 pub copy_members-returns-in-Some : goal.copy_members-returns-in-Some
 copy_members-returns-in-Some t c =
     IfOk-weaker c.build.result (λ m. members_view m.entries ≡ members_view c.in_ok-copy_pairs.field-0.items) _ (λ m e. e ∙ c.in_ok-copy_pairs.ensures.same) (c.build.ensures c.in_ok-copy_pairs.ensures.ascend)
+
+pub copy-returns-in_err-copy_text-in-String-clause-same : goal.copy-returns-in_err-copy_text-in-String-clause-same
+copy-returns-in_err-copy_text-in-String-clause-same t c = no_ok _ _ c.from_residual.ensures.0
+
+pub copy-returns-in_err-clone-in-Number-clause-same : goal.copy-returns-in_err-clone-in-Number-clause-same
+copy-returns-in_err-clone-in-Number-clause-same t c = no_ok _ _ c.from_residual-in_err-clone-in-Number.ensures.0
+
+pub copy-returns-in_err-clone-in-Date-clause-same : goal.copy-returns-in_err-clone-in-Date-clause-same
+copy-returns-in_err-clone-in-Date-clause-same t c = no_ok _ _ c.from_residual-in_err-clone-in-Date.ensures.0
+
+pub copy-returns-in_err-clone-in-Timestamp-clause-same : goal.copy-returns-in_err-clone-in-Timestamp-clause-same
+copy-returns-in_err-clone-in-Timestamp-clause-same t c = no_ok _ _ c.from_residual-in_err-clone-in-Timestamp.ensures.0
+
+pub copy-returns-in_err-clone-in-TimestampTz-clause-same : goal.copy-returns-in_err-clone-in-TimestampTz-clause-same
+copy-returns-in_err-clone-in-TimestampTz-clause-same t c = no_ok _ _ c.from_residual-in_err-clone-in-TimestampTz.ensures.0
+
+pub copy-returns-in_err-clone-in-Interval-clause-same : goal.copy-returns-in_err-clone-in-Interval-clause-same
+copy-returns-in_err-clone-in-Interval-clause-same t c = no_ok _ _ c.from_residual-in_err-clone-in-Interval.ensures.0
+
+pub copy-returns-in_err-copy_items-in-Array-clause-same : goal.copy-returns-in_err-copy_items-in-Array-clause-same
+copy-returns-in_err-copy_items-in-Array-clause-same t c = no_ok _ _ c.from_residual-in_err-copy_items-in-Array.ensures.0
+
+pub copy-returns-in_err-copy_members-in-Object-clause-same : goal.copy-returns-in_err-copy_members-in-Object-clause-same
+copy-returns-in_err-copy_members-in-Object-clause-same t c = no_ok _ _ c.from_residual-in_err-copy_members-in-Object.ensures.0
+
+pub copy_items-returns-in_err-copies : goal.copy_items-returns-in_err-copies
+copy_items-returns-in_err-copies t c = no_ok _ _ c.from_residual.ensures.0
+
+pub copy_items-returns-in_err-clone-in-String-Owned : goal.copy_items-returns-in_err-clone-in-String-Owned
+copy_items-returns-in_err-clone-in-String-Owned t c = no_ok _ _ c.from_residual-in_err-clone-in-String-Owned.ensures.0
+
+pub copy_items-returns-in_err-copy-in_default : goal.copy_items-returns-in_err-copy-in_default
+copy_items-returns-in_err-copy-in_default t c = no_ok _ _ c.from_residual-in_err-copy-in_default.ensures.0
+
+pub copy_members-returns-in_err-copy_pairs : goal.copy_members-returns-in_err-copy_pairs
+copy_members-returns-in_err-copy_pairs t c = no_ok _ _ c.from_residual.ensures.0
+
+pub copy_pairs-returns-in_err-pairs-clause-same : goal.copy_pairs-returns-in_err-pairs-clause-same
+copy_pairs-returns-in_err-pairs-clause-same t c = no_ok _ _ c.from_residual.ensures.0
+
+pub copy_pairs-returns-in_err-pairs-clause-ascend : goal.copy_pairs-returns-in_err-pairs-clause-ascend
+copy_pairs-returns-in_err-pairs-clause-ascend t c = no_ok _ _ c.from_residual.ensures.0
+
+pub copy_pairs-returns-in_err-name-clause-same : goal.copy_pairs-returns-in_err-name-clause-same
+copy_pairs-returns-in_err-name-clause-same t c = no_ok _ _ c.from_residual-in_err-name.ensures.0
+
+pub copy_pairs-returns-in_err-name-clause-ascend : goal.copy_pairs-returns-in_err-name-clause-ascend
+copy_pairs-returns-in_err-name-clause-ascend t c = no_ok _ _ c.from_residual-in_err-name.ensures.0
+
+pub copy_pairs-returns-in_err-copy-clause-same : goal.copy_pairs-returns-in_err-copy-clause-same
+copy_pairs-returns-in_err-copy-clause-same t c = no_ok _ _ c.from_residual-in_err-copy.ensures.0
+
+pub copy_pairs-returns-in_err-copy-clause-ascend : goal.copy_pairs-returns-in_err-copy-clause-ascend
+copy_pairs-returns-in_err-copy-clause-ascend t c = no_ok _ _ c.from_residual-in_err-copy.ensures.0
+
+pub copy_pairs-returns-in_err-push-clause-same : goal.copy_pairs-returns-in_err-push-clause-same
+copy_pairs-returns-in_err-push-clause-same t c = no_ok _ _ c.from_residual-in_err-push.ensures.0
+
+pub copy_pairs-returns-in_err-push-clause-ascend : goal.copy_pairs-returns-in_err-push-clause-ascend
+copy_pairs-returns-in_err-push-clause-ascend t c = no_ok _ _ c.from_residual-in_err-push.ensures.0
+
+pub insert_copies-returns-in_err-copies : goal.insert_copies-returns-in_err-copies
+insert_copies-returns-in_err-copies t c = no_ok _ _ c.from_residual.ensures.0
+
+pub insert_copies-returns-in_err-name : goal.insert_copies-returns-in_err-name
+insert_copies-returns-in_err-name t c = no_ok _ _ c.from_residual-in_err-name.ensures.0
+
+pub insert_copies-returns-in_err-copy : goal.insert_copies-returns-in_err-copy
+insert_copies-returns-in_err-copy t c = no_ok _ _ c.from_residual-in_err-copy.ensures.0
+
+pub insert_copies-returns-in_err-insert : goal.insert_copies-returns-in_err-insert
+insert_copies-returns-in_err-insert t c = no_ok _ _ c.from_residual-in_err-insert.ensures.0

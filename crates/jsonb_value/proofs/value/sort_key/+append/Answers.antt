@@ -1,7 +1,10 @@
-use Rattle.std.proofs.Common.{◌≡◌, List, ◌+◌, [], ◌∷◌, ◌++◌, drop, refl, sym, subst, ap, ◌∙◌, arith, rules, string_bytes}
+use Rattle.std.proofs.Common.{◌≡◌, List, true, false, ◌+◌, [], ◌∷◌, ◌++◌, drop, refl, sym, subst, ap, ◌∙◌, arith, rules, string_bytes}
+use Rattle.jsonb_spec.specs.SortKey.Kind as kind
+use Rattle.jsonb_spec.specs.Tree.{boolean}
 use Rattle.jsonb_spec.specs.SortKey.{text_key, key_of, items_key, members_key, HaveBounds}
 use Rattle.jsonb_value.specs.View.{view, trees_view, members_view}
-use Rattle.jsonb_value.proofs.Appending.Appended.{begun, goes_on, fits, on_err, kept_on, appends_rest, extended}
+use Rattle.jsonb_value.proofs.Appending.Appended.{begun, goes_on, fits, on_err, kept_on, appends_rest, appends_as, extended}
+use Rattle.jsonb_value.proofs.Values.Accessors.{view-Null, view-Bool, view-String, view-Number, view-Binary, view-Array, view-Object}
 use Rattle.jsonb_value.proofs.SortKeys.Parts.{next_item, next_member, next_bounded, next_bounded_member}
 use Rattle.jsonb_value.proofs.Values.Members.{Entry}
 use Rattle.jsonb_value.proofs.value.sort_key.+append.Goals as goal
@@ -73,3 +76,35 @@ append_members-returns-clause-appends t c =
     let last = c.extend_from_slice-2.ensures in
     let end = ap (λ (es : List Entry). members_key (members_view es)) (sym c.in-None.ensures.steps.0) in
     appends_rest _ c.args.buf.now c.members.buf _ _ _ c.members.invariant.underway c.members.invariant.room (extended c.extend_from_slice-2.result c.members.buf c.extend_from_slice-2.new.self _ _ last.items last.full last.capacity end)
+
+pub append-returns-in-Binary-clause-appends : goal.append-returns-in-Binary-clause-appends
+append-returns-in-Binary-clause-appends t c = rw (ap view c.in-Binary.is ∙ view-Binary c.in-Binary.bytes) c.append_text.ensures.appends
+
+pub append-returns-in-Number-clause-appends : goal.append-returns-in-Number-clause-appends
+append-returns-in-Number-clause-appends t c = rw (ap view c.in-Number.is ∙ view-Number c.in-Number.number) c.append_sort_key.ensures.appends
+
+pub append-returns-in-String-clause-appends : goal.append-returns-in-String-clause-appends
+append-returns-in-String-clause-appends t c = rw (ap view c.in-String.is ∙ view-String c.in-String.text) (appends_as _ _ _ _ _ (ap (λ t. kind.string ∷ text_key t) (c.as_bytes.ensures.value ∙ c.deref.ensures.value)) c.append_text-in-String.ensures.appends)
+
+pub append-returns-in-Object-clause-appends : goal.append-returns-in-Object-clause-appends
+append-returns-in-Object-clause-appends t c = rw (ap view c.in-Object.is ∙ view-Object c.in-Object.members) c.append_members.ensures.appends
+
+pub append-returns-in-Array-clause-appends : goal.append-returns-in-Array-clause-appends
+append-returns-in-Array-clause-appends t c = rw (ap view c.in-Array.is ∙ view-Array c.in-Array.items) c.append_items.ensures.appends
+
+pub append-returns-in-Bool-false-clause-appends : goal.append-returns-in-Bool-false-clause-appends
+append-returns-in-Bool-false-clause-appends t c =
+    let test : c.in-Bool-false.field-0 ≡ false = search rules in
+    let written = c.extend_from_slice-in-Bool-false.ensures in
+    rw (ap view c.in-Bool-false.is ∙ view-Bool c.in-Bool-false.field-0 ∙ ap boolean test) (extended _ _ _ _ _ written.items written.full written.capacity refl)
+
+pub append-returns-in-Bool-true-clause-appends : goal.append-returns-in-Bool-true-clause-appends
+append-returns-in-Bool-true-clause-appends t c =
+    let test : c.in-Bool-true.field-0 ≡ true = search rules in
+    let written = c.extend_from_slice.ensures in
+    rw (ap view c.in-Bool-true.is ∙ view-Bool c.in-Bool-true.field-0 ∙ ap boolean test) (extended _ _ _ _ _ written.items written.full written.capacity refl)
+
+pub append-returns-in-Null-clause-appends : goal.append-returns-in-Null-clause-appends
+append-returns-in-Null-clause-appends t c =
+    let written = c.extend_from_slice-in-Null.ensures in
+    rw (ap view c.in-Null.is ∙ view-Null) (extended _ _ _ _ _ written.items written.full written.capacity refl)

@@ -1,10 +1,11 @@
-use Rattle.std.proofs.Common.{◌≡◌, List, false, ◌+◌, [], ◌∷◌, ◌++◌, drop, refl, sym, subst, ap, ◌∙◌, arith, rules, string_bytes}
+use Rattle.std.proofs.Common.{◌≡◌, List, true, false, ◌+◌, [], ◌∷◌, ◌++◌, drop, refl, sym, subst, ap, ◌∙◌, arith, rules, string_bytes}
 use Rattle.jsonb_spec.specs.Proper.{HaveProperParts}
 use Rattle.jsonb_spec.specs.Text.StringText.{quoted_text}
 use Rattle.jsonb_spec.specs.Text.{with_commas, item_texts, member_texts, tree_text, members_have_texts}
+use Rattle.jsonb_spec.specs.Tree.{boolean}
 use Rattle.jsonb_value.specs.View.{view, trees_view, members_view}
-use Rattle.jsonb_value.proofs.Appending.Appended.{begun, goes_on, fits, on_err, kept_on}
-use Rattle.jsonb_value.proofs.Values.Accessors.{view-Array, view-Object}
+use Rattle.jsonb_value.proofs.Appending.Appended.{begun, goes_on, fits, on_err, kept_on, extended_if, appends_as_if, whole_if}
+use Rattle.jsonb_value.proofs.Values.Accessors.{view-Null, view-Bool, view-String, view-Number, view-Binary, view-Interval, view-Array, view-Object}
 use Rattle.jsonb_value.proofs.Values.Keys.{KeysAscend-members_view}
 use Rattle.jsonb_value.proofs.Values.Members.{Entry}
 use Rattle.jsonb_value.proofs.Appending.Pieces.{texts_left, comma_done, comma_fits, key_split, key_done, next_item, next_member, next_text, next_member_text, texts_left_have, first_has_text, next_proper, next_proper_member}
@@ -96,3 +97,32 @@ append_members-returns-in_err-append_comma-clause-appends t c =
     let next = next_member c.members.key-iterator c.next.new.self (c.in-Some.key.now, c.in-Some.value.now) c.in-Some.ensures.steps in
     let room = comma_fits c.members.is_first _ _ _ _ (125 ∷ []) _ _ next c.members.invariant.underway in
     record { ok = search rules; holds = search rules; kept = search rules; full = on_err c.from_residual-in_err-append_comma.result (λ texts. omega (arith, room, c.in_err-append_comma.ensures.appends.full)); capacity = search rules }
+
+pub append-returns-in-Null-clause-appends : goal.append-returns-in-Null-clause-appends
+append-returns-in-Null-clause-appends t c =
+    let written = c.extend_from_slice.ensures in
+    rw (ap view c.in-Null.is ∙ view-Null) (extended_if _ _ _ _ _ _ refl written.items written.full written.capacity refl)
+
+pub append-returns-in-Bool-true-clause-appends : goal.append-returns-in-Bool-true-clause-appends
+append-returns-in-Bool-true-clause-appends t c =
+    let test : c.in-Bool-true.field-0 ≡ true = search rules in
+    let written = c.extend_from_slice-in-Bool-true.ensures in
+    rw (ap view c.in-Bool-true.is ∙ view-Bool c.in-Bool-true.field-0 ∙ ap boolean test) (extended_if _ _ _ _ _ _ refl written.items written.full written.capacity refl)
+
+pub append-returns-in-Bool-false-clause-appends : goal.append-returns-in-Bool-false-clause-appends
+append-returns-in-Bool-false-clause-appends t c =
+    let test : c.in-Bool-false.field-0 ≡ false = search rules in
+    let written = c.extend_from_slice-in-Bool-false.ensures in
+    rw (ap view c.in-Bool-false.is ∙ view-Bool c.in-Bool-false.field-0 ∙ ap boolean test) (extended_if _ _ _ _ _ _ refl written.items written.full written.capacity refl)
+
+pub append-returns-in-String-clause-appends : goal.append-returns-in-String-clause-appends
+append-returns-in-String-clause-appends t c = rw (ap view c.in-String.is ∙ view-String c.in-String.text) (appends_as_if _ _ _ _ _ _ refl (ap quoted_text c.as_str.ensures.value) c.append_string.ensures.appends)
+
+pub append-returns-in-Number-clause-appends : goal.append-returns-in-Number-clause-appends
+append-returns-in-Number-clause-appends t c = rw (ap view c.in-Number.is ∙ view-Number c.in-Number.number) (whole_if _ _ _ _ _ refl c.append_text.ensures.appends)
+
+pub append-returns-in-Binary-clause-appends : goal.append-returns-in-Binary-clause-appends
+append-returns-in-Binary-clause-appends t c = rw (ap view c.in-Binary.is ∙ view-Binary c.in-Binary.bytes) (appends_as_if _ _ _ _ _ _ refl refl c.append_quoted_binary.ensures.appends)
+
+pub append-returns-in-Interval-clause-appends : goal.append-returns-in-Interval-clause-appends
+append-returns-in-Interval-clause-appends t c = rw (ap view c.in-Interval.is ∙ view-Interval c.in-Interval.interval) (appends_as_if _ _ _ _ _ _ refl refl c.append_quoted_interval.ensures.appends)
