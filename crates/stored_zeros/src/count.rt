@@ -15,8 +15,8 @@ use jsonb_value::sort_key::kind;
 /// How many numbers stand in the value of a key before one of its parts, and how many in that, which stands at the
 /// offset and is so large. `None` where no part does. Of bytes that aren't a key it may be any numbers, or `None`.
 ///
-/// The time is linear in the key. Nothing is allocated, no function calls itself, and the machine stack that is taken is
-/// the same for each key.
+/// The time is linear in the key. Nothing is allocated, no function calls itself, and the machine stack that is taken
+/// is the same for each key.
 pub fn count_numbers(key: &[u8], offset: usize, size: usize) -> Option<(usize, usize)>
     ensures counted { (t : Tree) → IsReadable t → key.now ≡ key_of t → (before : List ℕ) → (numbers : ℕ) → (part : Tree)
         → StandsIn t before numbers part → offset ≡ length before → size ≡ length (key_of part)

@@ -17,8 +17,8 @@ pub fn zeros_tell_texts_apart()
         → tree_text t ≡ tree_text u }
 {}
 
-/// The numbers of a part stand together among those of the value. So its zeros are had by `write_zeros_of_numbers`, with
-/// what `count_numbers` tells.
+/// The numbers of a part stand together among those of the value. So its zeros are had by `write_zeros_of_numbers`,
+/// with what `count_numbers` tells.
 pub fn parts_have_their_numbers()
     ensures counts { (t part : Tree) → (before : List ℕ) → (numbers : ℕ) → StandsIn t before numbers part
         → counts_taken numbers (numbers_in part) (counts_in t) ≡ counts_in part }
@@ -26,8 +26,8 @@ pub fn parts_have_their_numbers()
         → numbers + numbers_in part ≤ length (counts_in t) }
 {}
 
-/// The zeros of numbers and of those behind them, one after the other, are the zeros of all. So those of a value that is
-/// put together are had by calls of `write_zeros_of_numbers`, each with what the last one told.
+/// The zeros of numbers and of those behind them, one after the other, are the zeros of all. So those of a value that
+/// is put together are had by calls of `write_zeros_of_numbers`, each with what the last one told.
 pub fn zeros_are_joined()
     ensures zeros { (plain : ℕ) → (front back : List ℕ)
         → zeros_of plain (front ++ back) ≡ zeros_of plain front ++ zeros_of (plain_at_end plain front) back }

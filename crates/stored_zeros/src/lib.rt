@@ -1,4 +1,5 @@
-//! The zeros that end the decimals of a value, beside its sort key: from its text, put into its text, and of parts of it.
+//! The zeros that end the decimals of a value, which its sort key doesn't have: from its text, put into its text, and
+//! of parts of it.
 #![tactic(auto)]
 
 mod count;

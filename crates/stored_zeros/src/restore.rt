@@ -31,8 +31,9 @@ use std::alloc::AllocError;
 /// # Errors
 ///
 /// `Invalid` only where the bytes aren't the serialized form of a value of JSON's kinds with at most 512 nested arrays
-/// and objects, with the fewest digits, and zeros of such a value; always where the zeros are of more numbers than the
-/// text has. `OutOfMemory` where `buf` could not grow; of such bytes only where it lacks the capacity for the whole text.
+/// and objects, with the fewest digits, and the zeros of such a value; always where the zeros are of more numbers than
+/// the text has. `OutOfMemory` where `buf` could not grow; of such bytes only where it lacks the capacity for the whole
+/// text.
 pub fn write_text_with_zeros(
     shortest: &[u8],
     zeros: &[u8],

@@ -25,8 +25,8 @@ use crate::scan::{ending_of, from_number};
 /// # Errors
 ///
 /// `Invalid` only where the bytes aren't the serialized form of a value of JSON's kinds with at most 512 nested arrays
-/// and objects. `OutOfMemory` where `buf` could not grow; of such a text only where it lacks the capacity for all of the
-/// zeros.
+/// and objects. `OutOfMemory` where `buf` could not grow; of such a text only where it lacks the capacity for all of
+/// the zeros.
 pub fn write_zeros_of_text(text: &[u8], buf: &mut Vec<u8>) -> Result<(), ZerosError>
     ensures ok { IfOk result (λ _. (t : Tree) → IsReadable t → text.now ≡ tree_text t
         → buf.new.items ≡ buf.old.items ++ zeros_in t) }
