@@ -45,8 +45,8 @@ pub extern "C" fn vizhoniku_zeros_of_text(
 }
 
 /// Writes the serialized form of a value to the start of `out`, and its size to `size`, from the one with the fewest
-/// digits in each number, as `vizhoniku_key_text` writes it, and the value's zeros. Where `out` is too short, it stays as
-/// it is, and `size` is what is needed.
+/// digits in each number, as `vizhoniku_key_text` writes it, and the value's zeros. Where `out` is too short, it stays
+/// as it is, and `size` is what is needed.
 #[unsafe(no_mangle)]
 pub extern "C" fn vizhoniku_text_with_zeros(
     alloc: Global,
@@ -118,8 +118,8 @@ pub extern "C" fn vizhoniku_zeros_of_numbers(
     }
 }
 
-/// Counts the numbers of a part of a value, and those before it in the value, from the value's sort key and the range in
-/// it that is the part's key.
+/// Counts the numbers of a part of a value, and those before it in the value, from the value's sort key and the range
+/// in it that is the part's key.
 #[unsafe(no_mangle)]
 pub extern "C" fn vizhoniku_key_numbers(
     key: &[u8],

@@ -24,7 +24,8 @@ pub record Reads (bytes : List ℕ) (keys : List (List ℕ)) (rest : List ℕ) :
   pub only : (others : List (List ℕ)) → bytes ≡ spelled_keys others
       → (more : List (List ℕ)) × (others ≡ keys ++ more) × (rest ≡ spelled_keys more)
 
--- The bytes begin with a key that is spelled as it is, without an escape, and what is left begins with no byte of a key.
+-- The bytes begin with a key that is spelled as it is, without an escape, and what is left begins with no byte of a
+-- key.
 pub record BeginsPlain (bytes key rest : List ℕ) : Type 0 where
   pub whole : bytes ≡ key ++ rest
   pub spelled : spelled_key key ≡ key

@@ -160,8 +160,8 @@ pub fn find_part<'k>(key: &'k [u8], names: &[String]) -> Result<Option<&'k [u8]>
     Ok(Some(part))
 }
 
-/// The bytes from the part at a path on (RFC 6901), as `find_part` finds them, with nothing copied of the path; `None` in
-/// place of them where an escape is in a key of the path, or where the bytes aren't a path.
+/// The bytes from the part at a path on (RFC 6901), as `find_part` finds them, with nothing copied of the path; `None`
+/// in place of them where an escape is in a key of the path, or where the bytes aren't a path.
 pub fn find_plain_part<'k>(key: &'k [u8], path: &[u8]) -> Option<Result<Option<&'k [u8]>, NoKey>>
     ensures path { IfSome result (λ _. (names : List (List ℕ)) × IsPath path.now names) }
     ensures found { IfSome result (λ found. (t : Tree) → IsReadable t → (more : List ℕ) → key.now ≡ key_of t ++ more
