@@ -58,7 +58,7 @@ fn after_string(bytes: &[u8]) -> Option<&[u8]>
 fn is_number_byte(byte: u8) -> bool
     ensures { result ≡ is_number_byte byte }
 {
-    byte == b'-' || byte == b'.' || (byte > 47 && byte < b':')
+    byte == b'-' || byte == b'.' || (byte > b'/' && byte < b':')
 }
 
 /// How a number ends.
