@@ -36,7 +36,7 @@ fn read_lines<R: Read + Drop>(alloc: Global, input: R) -> io::Result<Input> {
 }
 
 // The texts of the documents that the lines are, by way of their frames.
-fn recoded(alloc: Global, lines: &[Vec<u8>]) -> Result<Vec<u8>, FrameError> {
+fn recode(alloc: Global, lines: &[Vec<u8>]) -> Result<Vec<u8>, FrameError> {
     let frames = values::encode_lines(alloc, lines)?;
     values::decode_lines(alloc, &frames)
 }
@@ -71,7 +71,7 @@ fn main(rt: HostRuntime) -> ExitCode {
         let _ = writeln!(rt.stderr(), "the input can't be read");
         return ExitCode::FAILURE;
     };
-    match recoded(rt.alloc(), &lines.texts) {
+    match recode(rt.alloc(), &lines.texts) {
         Ok(text) => match put(&mut rt.stdout(), &text) {
             Ok(()) => ExitCode::SUCCESS,
             Err(_) => ExitCode::FAILURE,

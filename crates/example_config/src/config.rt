@@ -54,7 +54,7 @@ impl Setting {
     }
 
     // What its value has to be, in words.
-    fn wanted(self) -> &'static str {
+    fn wanted_kind(self) -> &'static str {
         match self {
             Setting::Host => "a string",
             Setting::Port => "an integer from 0 to 65535",
@@ -85,7 +85,7 @@ impl fmt::Display for ConfigError {
             }
             ConfigError::NoObject => write!(f, "the settings aren't an object"),
             ConfigError::Wrong(setting, line, column) => {
-                let (key, wanted) = (setting.key(), setting.wanted());
+                let (key, wanted) = (setting.key(), setting.wanted_kind());
                 write!(f, "line {line}, column {column}: {key} isn't {wanted}")
             }
             ConfigError::NoMemory => write!(f, "out of memory"),

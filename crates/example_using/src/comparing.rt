@@ -24,7 +24,7 @@ pub fn are_equal(alloc: Global, left: &[u8], right: &[u8]) -> Result<bool>
 }
 
 /// The values of the texts, the least first.
-pub fn sorted<'a>(alloc: Global, texts: &[&'a [u8]]) -> Result<Vec<Value<'a>>> {
+pub fn sort_documents<'a>(alloc: Global, texts: &[&'a [u8]]) -> Result<Vec<Value<'a>>> {
     let mut values = Vec::with_capacity(alloc, texts.len())?;
     for text in texts {
         values.push(jsonb::parse_value(alloc, text)?)?;

@@ -3,7 +3,7 @@
 ghost use Rattle.std.specs.Prelude.{◌≡◌, IfOk};
 ghost use Rattle.jsonb_spec.specs.Grammar.{IsDocument};
 ghost use Rattle.jsonb_spec.specs.Mode.{extended};
-ghost use Rattle.jsonb_spec.specs.Owned.{owned};
+ghost use Rattle.jsonb_spec.specs.Owned.{owned_tree};
 ghost use Rattle.jsonb_spec.specs.Tree.{Tree};
 ghost use Rattle.jsonb_value.specs.View.{view};
 
@@ -13,7 +13,7 @@ use std::collections::BTreeMap;
 
 /// The value of a text that may be let go: its strings are its own.
 pub fn read_owned<'a>(alloc: Global, text: &[u8]) -> Result<Value<'a>>
-    ensures { IfOk result (λ v. (t : Tree) × IsDocument extended text.now t × (view v ≡ owned t)) }
+    ensures { IfOk result (λ v. (t : Tree) × IsDocument extended text.now t × (view v ≡ owned_tree t)) }
 {
     let value = jsonb::parse_value(alloc, text)?;
     value.to_owned_value(alloc)

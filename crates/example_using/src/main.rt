@@ -52,7 +52,7 @@ fn show_reading(rt: &impl Print, alloc: Global) -> Result<()> {
 fn show_comparing(rt: &impl Print, alloc: Global) -> Result<()> {
     let are_equal = comparing::are_equal(alloc, b"{a: 1.0, 'b': 0x1}", b"{\"b\":1,\"a\":1}")?;
     println!(rt; "{are_equal}")?;
-    let values = comparing::sorted(alloc, &MIXED)?;
+    let values = comparing::sort_documents(alloc, &MIXED)?;
     show(rt, alloc, &Value::Array(values))?;
     let (nine, ten) = (
         jsonb::parse_value(alloc, b"9.5")?,
@@ -76,14 +76,14 @@ fn show_walking(rt: &impl Print, alloc: Global) -> Result<()> {
     }
     let count = walking::count_strings(&settings);
     println!(rt; "{count}")?;
-    let items = walking::flatten(alloc, comparing::sorted(alloc, &MIXED)?)?;
+    let items = walking::flatten(alloc, comparing::sort_documents(alloc, &MIXED)?)?;
     show(rt, alloc, &Value::Array(items))
 }
 
 fn show_building(rt: &impl Print, alloc: Global) -> Result<()> {
     show(rt, alloc, &building::pair(alloc, 1, 2)?)?;
     show(rt, alloc, &building::item(alloc, "tea", 250)?)?;
-    let tidied = writing::tidied(alloc, SETTINGS)?;
+    let tidied = writing::tidy(alloc, SETTINGS)?;
     show(rt, alloc, &jsonb::parse_value(alloc, &tidied)?)?;
     let spread = writing::spread(alloc, SETTINGS)?;
     if let Ok(lines) = String::from_utf8(spread) {

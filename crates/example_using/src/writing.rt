@@ -5,7 +5,7 @@ ghost use Rattle.jsonb_spec.specs.Grammar.{IsDocument};
 ghost use Rattle.jsonb_spec.specs.Mode.{extended};
 ghost use Rattle.jsonb_spec.specs.Text.{text_of};
 ghost use Rattle.jsonb_spec.specs.Tree.{Tree};
-ghost use Rattle.jsonb_spec.specs.Indented.{indented};
+ghost use Rattle.jsonb_spec.specs.Indented.{indented_text};
 
 use jsonb::{Error, Mode, Result, Value};
 use jsonb_document::Document;
@@ -13,7 +13,7 @@ use jsonb_pretty::write_text_indented;
 use std::alloc::Global;
 
 /// The text without whitespace and comments, its members in the order of their keys.
-pub fn tidied(alloc: Global, text: &[u8]) -> Result<Vec<u8>>
+pub fn tidy(alloc: Global, text: &[u8]) -> Result<Vec<u8>>
     ensures { IfOk result (λ out. (t : Tree) × IsDocument extended text.now t × (text_of t ≡ Some out.items)) }
 {
     let document = Document::parse(alloc, text, Mode::Extended)?;
@@ -37,7 +37,7 @@ pub fn append_line(value: &Value, out: &mut Vec<u8>) -> Result<()>
 
 /// The text over lines, two spaces further in for each array and object.
 pub fn spread(alloc: Global, text: &[u8]) -> Result<Vec<u8>>
-    ensures { IfOk result (λ out. (t : Tree) × IsDocument extended text.now t × (out.items ≡ indented 2 0 t)) }
+    ensures { IfOk result (λ out. (t : Tree) × IsDocument extended text.now t × (out.items ≡ indented_text 2 0 t)) }
 {
     let value = jsonb::parse_value(alloc, text)?;
     let mut out = Vec::new(alloc);

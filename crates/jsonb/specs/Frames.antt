@@ -18,7 +18,7 @@ use Rattle.jsonb_scan.specs.Reading.{Read, begins, ◌>>=◌}
 use Rattle.jsonb_scan.specs.Reading.Container.{is_left_out}
 use Rattle.jsonb_scan.specs.Reading.Scalar.{scalar_at}
 use Rattle.jsonb_scan.specs.Reading.Document.{value_at}
-use Rattle.jsonb_spec.specs.Source.{Source, Found, found, null_source, source_alone}
+use Rattle.jsonb_spec.specs.Source.{Source, Found, found_member, null_source, source_alone}
 use Rattle.jsonb.specs.Stack.{array_end, finish_open, next_part_at, object_end, resume}
 use Rattle.jsonb_scan.specs.Open.{Open}
 use Rattle.jsonb_scan.specs.Open.{elements_so_far, members_so_far}
@@ -76,7 +76,7 @@ PutsIn {R} {I} {M} {K} silent told Stands text result old before key read new af
     → Stands text old true (variants.Object (record { members = before.members; key = key }) ∷ fs)
     (members_so_far front k place ∷ cs)
     → Stands text new false (variants.Object after ∷ fs)
-    (members_so_far (front ++ found k (source_alone t) place ∷ []) (plain, []) 0 ∷ cs)))
+    (members_so_far (front ++ found_member k (source_alone t) place ∷ []) (plain, []) 0 ∷ cs)))
 
 -- ---- the containers that are open
 

@@ -7,7 +7,7 @@ use Rattle.jsonb_spec.specs.Mode.{Mode}
 use Rattle.jsonb_spec.specs.Tree.{Mark}
 use Rattle.jsonb_scan.specs.Open.{Open, add_part, elements_so_far, members_so_far}
 use Rattle.jsonb_spec.specs.Source.{Source, Found, spot_of, first_repeat, array_source_of}
-use Rattle.jsonb_scan.specs.Reading.{Read, on_byte, rejected, ◌>>=◌}
+use Rattle.jsonb_scan.specs.Reading.{Read, on_byte, reject, ◌>>=◌}
 use Rattle.jsonb_scan.specs.Reading.Whitespace.{skip_whitespace}
 use Rattle.jsonb_scan.specs.Reading.Container.{array_at, element_at, joined_at, member_at, object_at, object_or_fault}
 use Rattle.jsonb_scan.specs.Reading.Document.{too_deep, value_at}
@@ -24,13 +24,13 @@ module _ {A : Type 0} (size : ℕ) (code : Code) (close : ℕ) (part : List ℕ 
   -- from the end of a part on
   abbrev pub parts_after : List A → List ℕ → Read Source
   parts_after front bytes =
-      on_byte ascii.comma bytes (parts_from front) (on_byte close bytes (finish front) (rejected size code 0 bytes))
+      on_byte ascii.comma bytes (parts_from front) (on_byte close bytes (finish front) (reject size code 0 bytes))
 
 -- the comma after a part, or the closing byte
 abbrev pub part_end : ℕ → Code → ℕ → List ℕ → Read Bool
 part_end size code close bytes =
     on_byte ascii.comma bytes (λ rest. Ok (false, rest)) (on_byte close bytes (λ rest. Ok (true, rest))
-    (rejected size code 0 bytes))
+    (reject size code 0 bytes))
 
 abbrev pub array_end : List Source → List ℕ → Read Source
 array_end ss rest = Ok (array_source_of ss, rest)
@@ -43,7 +43,7 @@ abbrev pub member_start : ℕ → Mode → List ℕ → Read ((Mark × List ℕ)
 member_start size mode bytes =
     key_at size mode (skip_whitespace mode bytes) >>= λ k. on_byte ascii.colon (skip_whitespace mode k.1)
     (λ rest. Ok ((k.0, size - length k.1), skip_whitespace mode rest))
-    (rejected size expected_colon 0 (skip_whitespace mode k.1))
+    (reject size expected_colon 0 (skip_whitespace mode k.1))
 
 module _ (size : ℕ) (mode : Mode) (depth : ℕ) where
   abbrev pub elements_from : List Source → List ℕ → Read Source

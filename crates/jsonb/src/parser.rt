@@ -212,7 +212,7 @@ impl<'a> Parser<'a> {
     }
 
     // The fault at the next byte, named by its index and a step, or at the end of the text.
-    fn unexpected(&self, code: ParseErrorCode, step: usize) -> Error
+    fn fault_at_next(&self, code: ParseErrorCode, step: usize) -> Error
         requires { step ≤ 1 }
         ensures { NamesFault result (fault_at (size_of self.now) (code_of code) step (rest_of self.now)) }
     {
@@ -248,7 +248,7 @@ impl<'a> Parser<'a> {
     // Fails, and tells nothing.
     #[cold]
     #[inline(never)]
-    fn untold(&mut self) -> Failed
+    fn fail_silently(&mut self) -> Failed
         ensures told { self.new.told ≡ None }
         ensures advances { Advances self.old self.new }
     {
@@ -258,7 +258,7 @@ impl<'a> Parser<'a> {
 
     // What a call returns that takes memory.
     #[inline(always)]
-    fn kept<T>(
+    fn or_out_of_memory<T>(
         &mut self,
         made: std::result::Result<T, AllocError>,
     ) -> std::result::Result<T, Failed>

@@ -217,7 +217,7 @@ status_of OutOfMemory = 2
 status_of UnknownMode = 3
 
 -- what is told of a reason
-abbrev pub told : Failure → Refusal
-told (Text refusal) = refusal
-told OutOfMemory = nothing
-told UnknownMode = nothing
+abbrev pub refusal_of : Failure → Refusal
+refusal_of (Text refusal) = refusal
+refusal_of OutOfMemory = nothing
+refusal_of UnknownMode = nothing

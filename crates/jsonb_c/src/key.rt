@@ -21,7 +21,7 @@ use crate::{ACCEPTED, NO_KEY, NO_PART, NO_PATH, OUT_OF_MEMORY, TOO_SHORT, put};
 use jsonb_pointer::read_keys;
 use jsonb_stored::{
     Kind, NoKey, count_parts, find_item, find_member, find_part, find_plain_part, is_sort_key,
-    kind_of, next_part, opened, plain_text, put_text, range_of, text_of_string, text_size,
+    kind_of, next_part, open_key, plain_text, put_text, range_of, text_of_string, text_size,
 };
 use std::alloc::Global;
 
@@ -268,7 +268,7 @@ pub extern "C" fn vizhoniku_key_begin(key: &[u8], cursor: &mut Cursor) -> u32
     ensures begun { (t : Tree) → IsTreeKey key.now t → IsBegun key.now t result cursor.new }
     ensures no_cursor { result ≢ ACCEPTED → cursor.new ≡ NO_CURSOR }
 {
-    match opened(key) {
+    match open_key(key) {
         Ok(Some(parts)) => {
             *cursor = Cursor {
                 kind: kind_of_parts(parts.0),

@@ -9,7 +9,7 @@ ghost use Rattle.jsonb_c.specs.KeyEdit.{edit_status_of, IsEdited};
 ghost use Rattle.jsonb_c.specs.KeyParts.{IsTreeKey};
 ghost use Rattle.jsonb_pointer.specs.Path.{IsPath};
 ghost use Rattle.jsonb_spec.specs.Tree.{Tree};
-ghost use Rattle.stored_edit.specs.Edit.{merged, with_item, with_member, with_part, without_part, AppendsKey, Edits};
+ghost use Rattle.stored_edit.specs.Edit.{merge, with_item, with_member, with_part, without_part, AppendsKey, Edits};
 
 use crate::{ACCEPTED, NO_KEY, NO_PART, NO_PATH, OUT_OF_MEMORY, TOO_DEEP, TOO_SHORT, put};
 use jsonb_pointer::read_keys;
@@ -202,17 +202,17 @@ pub extern "C" fn vizhoniku_key_merge(
 
     // What is written is the key of both values in one; or it would be too deep.
     ensures written { (t : Tree) → IsTreeKey left.now t → (u : Tree) → IsTreeKey right.now u
-        → (result ≡ OUT_OF_MEMORY) ⊎ IsEdited (Some (merged t u)) result size.new out.old out.new }
+        → (result ≡ OUT_OF_MEMORY) ⊎ IsEdited (Some (merge t u)) result size.new out.old out.new }
     ensures untouched { result ≢ ACCEPTED → out.new ≡ out.old }
     ensures no_size { result ≢ ACCEPTED → result ≢ TOO_SHORT → size.new ≡ 0 }
 {
     let mut bytes = Vec::new(alloc);
-    let told = changed(append_merged(&mut bytes, left, right));
+    let told = edit_result(append_merged(&mut bytes, left, right));
     tell_key(told, &bytes, out, size)
 }
 
 // What is told of a call that always changes a key.
-fn changed(told: Result<(), EditError>) -> Result<bool, EditError>
+fn edit_result(told: Result<(), EditError>) -> Result<bool, EditError>
     ensures { (t : Tree) → (old new : Vec ℕ GlobalAlloc) → AppendsKey t told old new → Edits (Some t) result old new }
 {
     match told {

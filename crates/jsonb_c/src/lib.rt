@@ -16,7 +16,7 @@ ghost use Rattle.jsonb_spec.specs.Line.{column_at, fault_index, line_at};
 ghost use Rattle.jsonb_scan.specs.Answer.{mode_of, MayAllocate, IsTextError};
 ghost use Rattle.jsonb.specs.Parses.{Parses};
 ghost use Rattle.jsonb_pointer.specs.Path.{IsPath, StartsKey};
-ghost use Rattle.jsonb_c.specs.Interface.{NumberChooses, code_number, nothing, sign, status_of, told, HasNoPartAt, HasPartAt, IsAccepted, IsNoDocumentOf, IsNoPath, IsOneRejected, IsOrdered, IsDocumentOf, IsKeyOf, IsMessageOf, IsPartAnswer, IsReason, IsRejected, IsTextOf, NeedsRoom, NeedsRoomForBoth, SaysError, IsPartOf, Writes};
+ghost use Rattle.jsonb_c.specs.Interface.{NumberChooses, code_number, nothing, sign, status_of, refusal_of, HasNoPartAt, HasPartAt, IsAccepted, IsNoDocumentOf, IsNoPath, IsOneRejected, IsOrdered, IsDocumentOf, IsKeyOf, IsMessageOf, IsPartAnswer, IsReason, IsRejected, IsTextOf, NeedsRoom, NeedsRoomForBoth, SaysError, IsPartOf, Writes};
 
 use jsonb::{
     Error, Mode, ParseErrorCode, Value, append_part, append_sort_key, append_text, check,
@@ -570,7 +570,7 @@ fn status(rejected: Failure) -> u32
 // Tells why a call has no answer, and gives the status of that.
 fn tell(rejected: Failure, refusal: &mut Refusal) -> u32
     ensures status { result ≡ status_of rejected }
-    ensures told { refusal.new ≡ told rejected }
+    ensures told { refusal.new ≡ refusal_of rejected }
 {
     match rejected {
         Failure::Text(told) => {

@@ -4,14 +4,14 @@ use Rattle.std.proofs.Math.Nat.{mul-lt-mul_of_pos_right, mul-le-mul_left, mul-le
 use Rattle.std.proofs.lemmas.Bool.{cond-true, cond-false, ne_eqb, lt-ltb, le-ltb, cases_lt, cases_eq}
 use Rattle.std.proofs.lemmas.Nat.{div-add-mod', mod_below, div_below, pow-add}
 use Rattle.std.specs.Bool.{nat_lt}
-use Rattle.jsonb_spec.specs.SortKey.{turned, place_key, digits_key}
+use Rattle.jsonb_spec.specs.SortKey.{invert_if, place_key, digits_key}
 use Rattle.jsonb_value.proofs.SortKeys.Digits.{ten, hundred, mul-pos, last_pair, more_pairs}
 use Rattle.jsonb_value.proofs.Trees.Runs.{heads, tails}
 use Rattle.jsonb_key.specs.Reading.{place_of, read_as, IsDigits, IsLastPair, IsNoLastPair}
 
 -- ---- the place
 
-pub turned_twice : (negative : Bool) (byte : ℕ) → byte < 256 → turned negative (turned negative byte) ≡ byte
+pub turned_twice : (negative : Bool) (byte : ℕ) → byte < 256 → invert_if negative (invert_if negative byte) ≡ byte
 turned_twice false byte h = refl
 turned_twice true byte h = omega (arith, h)
 
@@ -23,25 +23,25 @@ pub near_place : (place : ℕ) → 225 ≤ place → place_key place ≡ (place 
 unfolding place_key
 near_place place h = cond-false (nat_lt place 225) _ _ (le-ltb place 225 h)
 
-far_read : (negative : Bool) (place : ℕ) (more : List ℕ) → place < 225 → place_of negative (turned negative 129 ∷ turned negative place ∷ more) ≡ read_as place more
+far_read : (negative : Bool) (place : ℕ) (more : List ℕ) → place < 225 → place_of negative (invert_if negative 129 ∷ invert_if negative place ∷ more) ≡ read_as place more
 far_read negative place more h =
     let twice = turned_twice negative place (omega (arith, h)) in
-    cond-true (turned negative (turned negative 129) == 129) _ _ (eq-eqb (turned negative (turned negative 129)) 129 (turned_twice negative 129 (omega arith)))
-    ∙ cond-true (nat_lt (turned negative (turned negative place)) 225) _ _ (lt-ltb (turned negative (turned negative place)) 225 (omega (arith, twice, h)))
+    cond-true (invert_if negative (invert_if negative 129) == 129) _ _ (eq-eqb (invert_if negative (invert_if negative 129)) 129 (turned_twice negative 129 (omega arith)))
+    ∙ cond-true (nat_lt (invert_if negative (invert_if negative place)) 225) _ _ (lt-ltb (invert_if negative (invert_if negative place)) 225 (omega (arith, twice, h)))
     ∙ ap (λ p. read_as p more) twice
 
-near_read : (negative : Bool) (place : ℕ) (more : List ℕ) → 225 ≤ place → place < 351 → place_of negative (turned negative (place - 95) ∷ more) ≡ read_as place more
+near_read : (negative : Bool) (place : ℕ) (more : List ℕ) → 225 ≤ place → place < 351 → place_of negative (invert_if negative (place - 95) ∷ more) ≡ read_as place more
 near_read negative place more h high =
     let twice = turned_twice negative (place - 95) (omega (arith, h, high)) in
     let moved : (place - 95) + 95 ≡ place = omega (arith, h) in
-    cond-false (turned negative (turned negative (place - 95)) == 129) _ _ (ne_eqb (turned negative (turned negative (place - 95))) 129 (λ e. absurd (omega (arith, sym twice ∙ e, h))))
-    ∙ cond-false (nat_lt (turned negative (turned negative (place - 95))) 130) _ _ (le-ltb (turned negative (turned negative (place - 95))) 130 (omega (arith, twice, h)))
+    cond-false (invert_if negative (invert_if negative (place - 95)) == 129) _ _ (ne_eqb (invert_if negative (invert_if negative (place - 95))) 129 (λ e. absurd (omega (arith, sym twice ∙ e, h))))
+    ∙ cond-false (nat_lt (invert_if negative (invert_if negative (place - 95))) 130) _ _ (le-ltb (invert_if negative (invert_if negative (place - 95))) 130 (omega (arith, twice, h)))
     ∙ ap (λ p. read_as (p + 95) more) twice ∙ ap (λ p. read_as p more) moved
 
-pub place_read : (negative : Bool) (place : ℕ) (more : List ℕ) → place < 351 → place_of negative (map (turned negative) (place_key place) ++ more) ≡ read_as place more
+pub place_read : (negative : Bool) (place : ℕ) (more : List ℕ) → place < 351 → place_of negative (map (invert_if negative) (place_key place) ++ more) ≡ read_as place more
 place_read negative place more high = elim (cases_lt place 225) [
-  | inl low ↦ ap (λ key. place_of negative (map (turned negative) key ++ more)) (far_place place low) ∙ far_read negative place more low
-  | inr h ↦ ap (λ key. place_of negative (map (turned negative) key ++ more)) (near_place place h) ∙ near_read negative place more h high
+  | inl low ↦ ap (λ key. place_of negative (map (invert_if negative) key ++ more)) (far_place place low) ∙ far_read negative place more low
+  | inr h ↦ ap (λ key. place_of negative (map (invert_if negative) key ++ more)) (near_place place h) ∙ near_read negative place more h high
 ]
 
 -- ---- digits
@@ -54,10 +54,10 @@ pub record DigitsLeft (negative : Bool) (C M digits read : ℕ) (rest more : Lis
   pub whole : M ≡ digits * 10 ^ left + tail
   pub below : tail < 10 ^ left
   pub some : 0 < tail
-  pub stands : rest ≡ map (turned negative) (digits_key left tail) ++ more
+  pub stands : rest ≡ map (invert_if negative) (digits_key left tail) ++ more
 
 abbrev pub ReadsDigits : Bool → List ℕ → ℕ → ℕ → List ℕ → Type 0
-ReadsDigits negative bytes digits read rest = (C M : ℕ) → M < 10 ^ C → 0 < M → M ≤ 2 ^ 127 → C ≤ 39 → (more : List ℕ) → bytes ≡ map (turned negative) (digits_key C M) ++ more → DigitsLeft negative C M digits read rest more
+ReadsDigits negative bytes digits read rest = (C M : ℕ) → M < 10 ^ C → 0 < M → M ≤ 2 ^ 127 → C ≤ 39 → (more : List ℕ) → bytes ≡ map (invert_if negative) (digits_key C M) ++ more → DigitsLeft negative C M digits read rest more
 
 pub digits_begun : (negative : Bool) (bytes : List ℕ) → ReadsDigits negative bytes 0 0 bytes
 digits_begun negative bytes = λ C M below some high few more e. record { left = C; tail = M; counted = omega arith; whole = omega arith; below = below; some = some; stands = e }
@@ -79,14 +79,14 @@ pub record GoesOn (negative : Bool) (left tail byte : ℕ) (others more : List �
   pub whole : tail ≡ byte / 2 * 10 ^ count + rest
   pub below : rest < 10 ^ count
   pub some : 0 < rest
-  pub stands : others ≡ map (turned negative) (digits_key count rest) ++ more
+  pub stands : others ≡ map (invert_if negative) (digits_key count rest) ++ more
 
 single_key : (m : ℕ) → digits_key 1 m ≡ (20 * m) ∷ []
 unfolding digits_key
 single_key m = refl
 
-back : (negative : Bool) (byte key : ℕ) (xs ys : List ℕ) → key < 256 → byte ∷ xs ≡ turned negative key ∷ ys → turned negative byte ≡ key
-back negative byte key xs ys small e = ap (turned negative) (heads byte (turned negative key) xs ys e) ∙ turned_twice negative key small
+back : (negative : Bool) (byte key : ℕ) (xs ys : List ℕ) → key < 256 → byte ∷ xs ≡ invert_if negative key ∷ ys → invert_if negative byte ≡ key
+back negative byte key xs ys small e = ap (invert_if negative) (heads byte (invert_if negative key) xs ys e) ∙ turned_twice negative key small
 
 pair_below : (count m : ℕ) → m < 10 ^ suc (suc count) → m / 10 ^ count < 100
 pair_below count m h = div_below m (10 ^ count) 100 (ten count) (omega (arith, h, hundred count))
@@ -94,7 +94,7 @@ pair_below count m h = div_below m (10 ^ count) 100 (ten count) (omega (arith, h
 nothing_left : (m : ℕ) → m < 10 ^ 0 → 0 < m → ⊥
 nothing_left m h k = absurd (omega (arith, h, k, pow-zero 10))
 
-ended : (negative : Bool) (left tail byte key : ℕ) (xs more : List ℕ) → key < 256 → turned negative byte ≡ key → key ≡ key / 2 * 2 → tail * 100 ≡ key / 2 * 10 ^ left → 0 < left → (left ≡ 1 → key / 2 % 10 ≡ 0) → xs ≡ more → Ends left tail (turned negative byte) xs more
+ended : (negative : Bool) (left tail byte key : ℕ) (xs more : List ℕ) → key < 256 → invert_if negative byte ≡ key → key ≡ key / 2 * 2 → tail * 100 ≡ key / 2 * 10 ^ left → 0 < left → (left ≡ 1 → key / 2 % 10 ≡ 0) → xs ≡ more → Ends left tail (invert_if negative byte) xs more
 ended negative left tail byte key xs more small is even whole some single stands = record {
   even = ap (λ b. b % 2) is ∙ omega (arith, even);
   whole = whole ∙ ap (λ b. b / 2 * 10 ^ left) (sym is);
@@ -104,26 +104,26 @@ ended negative left tail byte key xs more small is even whole some single stands
 }
 
 -- what the next byte says of the digits that are left
-pub next_pair : (negative : Bool) (left tail byte : ℕ) (rest others more : List ℕ) → tail < 10 ^ left → 0 < tail → rest ≡ byte ∷ others → rest ≡ map (turned negative) (digits_key left tail) ++ more
-    → Ends left tail (turned negative byte) others more ⊎ GoesOn negative left tail (turned negative byte) others more
+pub next_pair : (negative : Bool) (left tail byte : ℕ) (rest others more : List ℕ) → tail < 10 ^ left → 0 < tail → rest ≡ byte ∷ others → rest ≡ map (invert_if negative) (digits_key left tail) ++ more
+    → Ends left tail (invert_if negative byte) others more ⊎ GoesOn negative left tail (invert_if negative byte) others more
 next_pair negative zero tail byte rest others more below some first stands = absurd (nothing_left tail below some)
 next_pair negative (suc zero) tail byte rest others more below some first stands =
-    let e : byte ∷ others ≡ turned negative (20 * tail) ∷ more = sym first ∙ stands ∙ ap (λ key. map (turned negative) key ++ more) (single_key tail) in
+    let e : byte ∷ others ≡ invert_if negative (20 * tail) ∷ more = sym first ∙ stands ∙ ap (λ key. map (invert_if negative) key ++ more) (single_key tail) in
     let small : 20 * tail < 256 = omega (arith, below) in
-    inl (ended negative 1 tail byte (20 * tail) others more small (back negative byte (20 * tail) others more small e) (omega arith) (omega arith) (omega arith) (λ one. omega arith) (tails byte (turned negative (20 * tail)) others more e))
+    inl (ended negative 1 tail byte (20 * tail) others more small (back negative byte (20 * tail) others more small e) (omega arith) (omega arith) (omega arith) (λ one. omega arith) (tails byte (invert_if negative (20 * tail)) others more e))
 next_pair negative (suc (suc count)) tail byte rest others more below some first stands = elim (cases_eq (tail % 10 ^ count) 0) [
   | inl none ↦
       let pair = tail / 10 ^ count in
-      let e : byte ∷ others ≡ turned negative (2 * pair) ∷ more = sym first ∙ stands ∙ ap (λ key. map (turned negative) key ++ more) (last_pair count tail none) in
+      let e : byte ∷ others ≡ invert_if negative (2 * pair) ∷ more = sym first ∙ stands ∙ ap (λ key. map (invert_if negative) key ++ more) (last_pair count tail none) in
       let small : 2 * pair < 256 = omega (arith, pair_below count tail below) in
       let half : 2 * pair / 2 ≡ pair = omega arith in
       let whole : tail * 100 ≡ 2 * pair / 2 * 10 ^ suc (suc count) = omega (arith, ap (λ x. x * 10 ^ suc (suc count)) half, ap (λ x. pair * x) (hundred count), div-add-mod' tail (10 ^ count), none) in
-      inl (ended negative (suc (suc count)) tail byte (2 * pair) others more small (back negative byte (2 * pair) others more small e) (omega arith) whole (omega arith) (λ one. absurd (omega (arith, one))) (tails byte (turned negative (2 * pair)) others more e))
+      inl (ended negative (suc (suc count)) tail byte (2 * pair) others more small (back negative byte (2 * pair) others more small e) (omega arith) whole (omega arith) (λ one. absurd (omega (arith, one))) (tails byte (invert_if negative (2 * pair)) others more e))
   | inr some_left ↦
       let pair = tail / 10 ^ count in
       let left = tail % 10 ^ count in
-      let key = map (turned negative) (digits_key count left) ++ more in
-      let e : byte ∷ others ≡ turned negative (2 * pair + 1) ∷ key = sym first ∙ stands ∙ ap (λ bytes. map (turned negative) bytes ++ more) (more_pairs count tail some_left) in
+      let key = map (invert_if negative) (digits_key count left) ++ more in
+      let e : byte ∷ others ≡ invert_if negative (2 * pair + 1) ∷ key = sym first ∙ stands ∙ ap (λ bytes. map (invert_if negative) bytes ++ more) (more_pairs count tail some_left) in
       let small : 2 * pair + 1 < 256 = omega (arith, pair_below count tail below) in
       let is = back negative byte (2 * pair + 1) others key small e in
       let half : (2 * pair + 1) / 2 ≡ pair = omega arith in
@@ -135,7 +135,7 @@ next_pair negative (suc (suc count)) tail byte rest others more below some first
         whole = omega (arith, div-add-mod' tail (10 ^ count), ap (λ b. b / 2 * 10 ^ count) is, ap (λ b. b * 10 ^ count) half);
         below = mod_below tail (10 ^ count) (ten count);
         some = omega (arith, some_left);
-        stands = tails byte (turned negative (2 * pair + 1)) others key e;
+        stands = tails byte (invert_if negative (2 * pair + 1)) others key e;
       })
 ]
 
@@ -215,8 +215,8 @@ pair_below_all M digits count rest pair left tail whole counted more =
 
 -- ---- one step of reading
 
-module _ (negative : Bool) (bytes : List ℕ) (digits read : ℕ) (rest : List ℕ) (byte : ℕ) (others : List ℕ) (b : ℕ) (so_far : ReadsDigits negative bytes digits read rest) (first : rest ≡ byte ∷ others) (is : b ≡ turned negative byte)
-    (C M : ℕ) (below : M < 10 ^ C) (some : 0 < M) (high : M ≤ 2 ^ 127) (few : C ≤ 39) (more : List ℕ) (e : bytes ≡ map (turned negative) (digits_key C M) ++ more) where
+module _ (negative : Bool) (bytes : List ℕ) (digits read : ℕ) (rest : List ℕ) (byte : ℕ) (others : List ℕ) (b : ℕ) (so_far : ReadsDigits negative bytes digits read rest) (first : rest ≡ byte ∷ others) (is : b ≡ invert_if negative byte)
+    (C M : ℕ) (below : M < 10 ^ C) (some : 0 < M) (high : M ≤ 2 ^ 127) (few : C ≤ 39) (more : List ℕ) (e : bytes ≡ map (invert_if negative) (digits_key C M) ++ more) where
   here : DigitsLeft negative C M digits read rest more
   here = so_far C M below some high few more e
 
@@ -282,16 +282,16 @@ module _ (negative : Bool) (bytes : List ℕ) (digits read : ℕ) (rest : List �
         stands = y.stands;
       }
 
-pub no_bytes : (negative : Bool) (left tail : ℕ) (more : List ℕ) → tail < 10 ^ left → 0 < tail → [] ≡ map (turned negative) (digits_key left tail) ++ more → ⊥
+pub no_bytes : (negative : Bool) (left tail : ℕ) (more : List ℕ) → tail < 10 ^ left → 0 < tail → [] ≡ map (invert_if negative) (digits_key left tail) ++ more → ⊥
 no_bytes negative zero tail more below some e = absurd (nothing_left tail below some)
-no_bytes negative (suc zero) tail more below some e = let clash : [] ≡ turned negative (20 * tail) ∷ more = e ∙ ap (λ key. map (turned negative) key ++ more) (single_key tail) in cc
+no_bytes negative (suc zero) tail more below some e = let clash : [] ≡ invert_if negative (20 * tail) ∷ more = e ∙ ap (λ key. map (invert_if negative) key ++ more) (single_key tail) in cc
 no_bytes negative (suc (suc count)) tail more below some e = elim (cases_eq (tail % 10 ^ count) 0) [
-  | inl none ↦ let clash : [] ≡ turned negative (2 * (tail / 10 ^ count)) ∷ more = e ∙ ap (λ key. map (turned negative) key ++ more) (last_pair count tail none) in cc
-  | inr others ↦ let clash : [] ≡ turned negative (2 * (tail / 10 ^ count) + 1) ∷ (map (turned negative) (digits_key count (tail % 10 ^ count)) ++ more) = e ∙ ap (λ key. map (turned negative) key ++ more) (more_pairs count tail others) in cc
+  | inl none ↦ let clash : [] ≡ invert_if negative (2 * (tail / 10 ^ count)) ∷ more = e ∙ ap (λ key. map (invert_if negative) key ++ more) (last_pair count tail none) in cc
+  | inr others ↦ let clash : [] ≡ invert_if negative (2 * (tail / 10 ^ count) + 1) ∷ (map (invert_if negative) (digits_key count (tail % 10 ^ count)) ++ more) = e ∙ ap (λ key. map (invert_if negative) key ++ more) (more_pairs count tail others) in cc
 ]
 
 -- digits are left as long as the last pair was not read
-pub not_over : (negative : Bool) (bytes : List ℕ) (digits read : ℕ) (rest : List ℕ) → ReadsDigits negative bytes digits read rest → length rest ≡ 0 → (C M : ℕ) → M < 10 ^ C → 0 < M → M ≤ 2 ^ 127 → C ≤ 39 → (more : List ℕ) → bytes ≡ map (turned negative) (digits_key C M) ++ more → ⊥
+pub not_over : (negative : Bool) (bytes : List ℕ) (digits read : ℕ) (rest : List ℕ) → ReadsDigits negative bytes digits read rest → length rest ≡ 0 → (C M : ℕ) → M < 10 ^ C → 0 < M → M ≤ 2 ^ 127 → C ≤ 39 → (more : List ℕ) → bytes ≡ map (invert_if negative) (digits_key C M) ++ more → ⊥
 not_over negative bytes digits read rest so_far over C M below some high few more e =
     let d = so_far C M below some high few more e in
     empty rest over d.stands
@@ -299,6 +299,6 @@ not_over negative bytes digits read rest so_far over C M below some high few mor
     d : DigitsLeft negative C M digits read rest more
     d = so_far C M below some high few more e
 
-    empty : (xs : List ℕ) → length xs ≡ 0 → xs ≡ map (turned negative) (digits_key d.left d.tail) ++ more → ⊥
+    empty : (xs : List ℕ) → length xs ≡ 0 → xs ≡ map (invert_if negative) (digits_key d.left d.tail) ++ more → ⊥
     empty [] o s = no_bytes negative d.left d.tail more d.below d.some s
     empty (x ∷ xs) o s = absurd (omega (arith, o))

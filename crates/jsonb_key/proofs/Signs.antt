@@ -5,7 +5,7 @@ use Rattle.std.specs.Bool.{nat_lt}
 use Rattle.std.specs.Int.{is_negative}
 use Rattle.jsonb_spec.specs.Order.{num_cmp}
 use Rattle.jsonb_spec.specs.Proper.{IsProperNumber}
-use Rattle.jsonb_spec.specs.SortKey.{number_key, magnitude_key, place_key, digits_key, digit_count, turned}
+use Rattle.jsonb_spec.specs.SortKey.{number_key, magnitude_key, place_key, digits_key, digit_count, invert_if}
 use Rattle.jsonb_spec.specs.Tree.{Num, number}
 use Rattle.jsonb_value.proofs.Numbers.Pointed.{is_negative-pos}
 use Rattle.jsonb_value.proofs.SortKeys.Counts.{digits_counted, digit_count-le}
@@ -25,12 +25,12 @@ zero_read n proper first rest bytes more e is stands = by_whole n.whole refl
         (key, tails first 128 rest more (sym e ∙ stands ∙ ap (λ k. k ++ more) key))
     by_whole (pos (suc a)) w =
         let x = head_of n a (ap unsigned_abs w) (is_small n proper) in
-        let key = positive n a w ∙ ap (map (turned false)) x.is in
-        absurd (omega (arith, is, x.low, heads first x.head rest (map (turned false) x.tail ++ more) (sym e ∙ stands ∙ ap (λ k. k ++ more) key)))
+        let key = positive n a w ∙ ap (map (invert_if false)) x.is in
+        absurd (omega (arith, is, x.low, heads first x.head rest (map (invert_if false) x.tail ++ more) (sym e ∙ stands ∙ ap (λ k. k ++ more) key)))
     by_whole (negsuc a) w =
         let x = head_of n a (ap unsigned_abs w) (is_small n proper) in
-        let key = negative n a w ∙ ap (map (turned true)) x.is in
-        absurd (omega (arith, is, x.low, x.high, heads first (255 - x.head) rest (map (turned true) x.tail ++ more) (sym e ∙ stands ∙ ap (λ k. k ++ more) key)))
+        let key = negative n a w ∙ ap (map (invert_if true)) x.is in
+        absurd (omega (arith, is, x.low, x.high, heads first (255 - x.head) rest (map (invert_if true) x.tail ++ more) (sym e ∙ stands ∙ ap (λ k. k ++ more) key)))
 
 -- The bytes begin with the place and the digits of n, which has this sign.
 pub record IsSigned (n : Num) (sign : Bool) (bytes more : List ℕ) : Type 0 where
@@ -43,9 +43,9 @@ pub record IsSigned (n : Num) (sign : Bool) (bytes more : List ℕ) : Type 0 whe
   pub least : 10 ^ count ≤ unsigned_abs n.whole * 10
   pub some : 0 < unsigned_abs n.whole
   pub few : count ≤ 39
-  pub stands : bytes ≡ map (turned sign) (place_key place) ++ (map (turned sign) (digits_key count (unsigned_abs n.whole)) ++ more)
+  pub stands : bytes ≡ map (invert_if sign) (place_key place) ++ (map (invert_if sign) (digits_key count (unsigned_abs n.whole)) ++ more)
 
-signed_parts : (n : Num) → IsProperNumber n → (sign : Bool) (a : ℕ) (bytes more : List ℕ) → is_negative n.whole ≡ sign → unsigned_abs n.whole ≡ suc a → bytes ≡ map (turned sign) (magnitude_key n.scale (suc a)) ++ more → IsSigned n sign bytes more
+signed_parts : (n : Num) → IsProperNumber n → (sign : Bool) (a : ℕ) (bytes more : List ℕ) → is_negative n.whole ≡ sign → unsigned_abs n.whole ≡ suc a → bytes ≡ map (invert_if sign) (magnitude_key n.scale (suc a)) ++ more → IsSigned n sign bytes more
 signed_parts n proper sign a bytes more is_sign whole stands =
     let small = is_small n proper in
     let count = digit_count (suc a) in
@@ -63,8 +63,8 @@ signed_parts n proper sign a bytes more is_sign whole stands =
       some = omega (arith, whole);
       few = few;
       stands = stands ∙ ap (λ k. k ++ more) (magnitude_split sign n.scale (suc a) count place refl refl)
-          ∙ append_assoc (map (turned sign) (place_key place)) (map (turned sign) (digits_key count (suc a))) more
-          ∙ ap (λ m. map (turned sign) (place_key place) ++ (map (turned sign) (digits_key count m) ++ more)) (sym whole);
+          ∙ append_assoc (map (invert_if sign) (place_key place)) (map (invert_if sign) (digits_key count (suc a))) more
+          ∙ ap (λ m. map (invert_if sign) (place_key place) ++ (map (invert_if sign) (digits_key count m) ++ more)) (sym whole);
     }
 
 pub signed_read : (n : Num) → IsProperNumber n → (first : ℕ) (rest bytes more : List ℕ) → bytes ≡ first ∷ rest → first ≢ 128 → bytes ≡ number_key n ++ more → IsSigned n (nat_lt first 128) bytes more
@@ -74,14 +74,14 @@ signed_read n proper first rest bytes more e other stands = by_whole n.whole ref
     by_whole (pos zero) w = absurd (other (heads first 128 rest more (sym e ∙ stands ∙ ap (λ k. k ++ more) (nothing_there n w))))
     by_whole (pos (suc a)) w =
         let x = head_of n a (ap unsigned_abs w) (is_small n proper) in
-        let key = positive n a w ∙ ap (map (turned false)) x.is in
-        let above : 128 ≤ first = omega (arith, x.low, heads first x.head rest (map (turned false) x.tail ++ more) (sym e ∙ stands ∙ ap (λ k. k ++ more) key)) in
+        let key = positive n a w ∙ ap (map (invert_if false)) x.is in
+        let above : 128 ≤ first = omega (arith, x.low, heads first x.head rest (map (invert_if false) x.tail ++ more) (sym e ∙ stands ∙ ap (λ k. k ++ more) key)) in
         subst (λ b. IsSigned n b bytes more) (sym (le-ltb first 128 above))
         (signed_parts n proper false a bytes more (ap is_negative w ∙ is_negative-pos (suc a)) (ap unsigned_abs w) (stands ∙ ap (λ k. k ++ more) (positive n a w)))
     by_whole (negsuc a) w =
         let x = head_of n a (ap unsigned_abs w) (is_small n proper) in
-        let key = negative n a w ∙ ap (map (turned true)) x.is in
-        let under : first < 128 = omega (arith, x.low, x.high, heads first (255 - x.head) rest (map (turned true) x.tail ++ more) (sym e ∙ stands ∙ ap (λ k. k ++ more) key)) in
+        let key = negative n a w ∙ ap (map (invert_if true)) x.is in
+        let under : first < 128 = omega (arith, x.low, x.high, heads first (255 - x.head) rest (map (invert_if true) x.tail ++ more) (sym e ∙ stands ∙ ap (λ k. k ++ more) key)) in
         subst (λ b. IsSigned n b bytes more) (sym (lt-ltb first 128 under))
         (signed_parts n proper true a bytes more (ap is_negative w) (ap unsigned_abs w) (stands ∙ ap (λ k. k ++ more) (negative n a w)))
 

@@ -1,8 +1,8 @@
 -- Parts of keys, parsed from left to right.
 use Rattle.std.specs.Prelude.{◌≡◌, ◌≢◌, ℕ, ◌+◌, ◌*◌, ◌/◌, ◌%◌, ◌^◌, ◌<◌, ◌≤◌, ◌⊎◌, Bool, List, [], ◌∷◌, Option, Some, None, if◌then◌else◌, ◌==◌, nat_lt, unsigned_abs}
-use Rattle.jsonb_spec.specs.Owned.{owned}
+use Rattle.jsonb_spec.specs.Owned.{owned_tree}
 use Rattle.jsonb_spec.specs.Proper.{IsProper}
-use Rattle.jsonb_spec.specs.SortKey.{turned}
+use Rattle.jsonb_spec.specs.SortKey.{invert_if}
 use Rattle.jsonb_spec.specs.SortKey.Kind as kind
 use Rattle.jsonb_spec.specs.Text.Range.{IsWithin}
 use Rattle.jsonb_spec.specs.Tree.{Num, Tree}
@@ -13,7 +13,7 @@ use Rattle.jsonb_key.specs.Readable.{HasFewestDigits}
 pub record IsDecodedAt (depth : ℕ) (t : Tree) : Type 0 where
   pub proper : IsProper t
   pub within : IsWithin HasFewestDigits t depth
-  pub is_owned : owned t ≡ t
+  pub is_owned : owned_tree t ≡ t
 
 -- a zero of a text by what follows its first byte, and the bytes after it
 abbrev pub escape_of : List ℕ → Option (ℕ × List ℕ)
@@ -61,12 +61,12 @@ IsNoLastPair digits pair =
 abbrev pub second_of : Bool → List ℕ → Option (ℕ × List ℕ)
 second_of negative [] = None
 second_of negative (byte ∷ rest) =
-    if nat_lt (turned negative byte) 225 then read_as (turned negative byte) rest else None
+    if nat_lt (invert_if negative byte) 225 then read_as (invert_if negative byte) rest else None
 
 -- The place of a number's first digit, with 255 added, and the bytes after it. 0x82 stands for 30 zeros behind the
 -- point.
 abbrev pub place_of : Bool → List ℕ → Option (ℕ × List ℕ)
 place_of negative [] = None
 place_of negative (byte ∷ rest) =
-    if turned negative byte == kind.far_place then second_of negative rest
-    else (if nat_lt (turned negative byte) 0x82 then None else read_as (turned negative byte + 95) rest)
+    if invert_if negative byte == kind.far_place then second_of negative rest
+    else (if nat_lt (invert_if negative byte) 0x82 then None else read_as (invert_if negative byte + 95) rest)

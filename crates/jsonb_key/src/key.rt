@@ -7,7 +7,7 @@ ghost use Rattle.jsonb_spec.specs.Keys.{KeysAscend};
 ghost use Rattle.std.specs.List.{All};
 ghost use Rattle.std.specs.Str.{IsUtf8};
 ghost use Rattle.jsonb_spec.specs.Grammar.{max_depth};
-ghost use Rattle.jsonb_spec.specs.Owned.{owned};
+ghost use Rattle.jsonb_spec.specs.Owned.{owned_tree};
 ghost use Rattle.jsonb_spec.specs.SortKey.Kind as kind;
 ghost use Rattle.jsonb_spec.specs.Text.Range.{IsWithin};
 ghost use Rattle.jsonb_spec.specs.Tree.{Tree, Trees, Members, array, object};
@@ -91,7 +91,7 @@ pub fn value_of_sort_key(alloc: Global, key: &[u8]) -> Result<Value<'static>, Ke
     // It is of JSON's kinds, its numbers have the fewest digits, and its strings are owned.
     ensures readable { IfOk result (λ v. IsReadable (view v)) }
     ensures fewest { IfOk result (λ v. IsWithin HasFewestDigits (view v) max_depth) }
-    ensures owned { IfOk result (λ v. owned (view v) ≡ view v) }
+    ensures owned { IfOk result (λ v. owned_tree (view v) ≡ view v) }
     // The key of a value of JSON's kinds is decoded, unless memory runs out.
     ensures invalid { IfErr result (λ e. e ≡ KeyError.Invalid
         → (t : Tree) → IsReadable t → key_of t ≡ key.now → ⊥) }

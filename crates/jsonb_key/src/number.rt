@@ -6,7 +6,7 @@ ghost use Rattle.jsonb_spec.specs.Number.Signed.{signed_by};
 ghost use Rattle.jsonb_spec.specs.Order.{num_cmp};
 ghost use Rattle.std.specs.declared.cmp.Ordering.TheVariants.{Equal};
 ghost use Rattle.jsonb_spec.specs.Proper.{IsProperNumber};
-ghost use Rattle.jsonb_spec.specs.SortKey.{number_key, place_key, digits_key, turned};
+ghost use Rattle.jsonb_spec.specs.SortKey.{number_key, place_key, digits_key, invert_if};
 ghost use Rattle.jsonb_spec.specs.Tree.{Num};
 ghost use Rattle.jsonb_value.specs.View.{number_view};
 ghost use Rattle.jsonb_key.specs.Readable.{HasFewestDigits};
@@ -38,8 +38,8 @@ pub fn read_number(bytes: &[u8]) -> Option<(Number, &[u8])>
 }
 
 /// A byte of a key, turned round where the number is negative.
-pub fn turned(negative: bool, byte: u8) -> u8
-    ensures { result ≡ turned negative byte }
+pub fn invert_if(negative: bool, byte: u8) -> u8
+    ensures { result ≡ invert_if negative byte }
 {
     if negative { 255 - byte } else { byte }
 }
@@ -47,11 +47,11 @@ pub fn turned(negative: bool, byte: u8) -> u8
 /// The place of the first digit, with 255 added, and the bytes after it.
 pub fn read_place(negative: bool, bytes: &[u8]) -> Option<(u32, &[u8])>
     ensures place { option_map (λ r. (r.0, r.1.now)) result ≡ place_of negative bytes.now }
-    ensures read { IfSome result (λ r. bytes.now ≡ map (turned negative) (place_key r.0) ++ r.1.now) }
+    ensures read { IfSome result (λ r. bytes.now ≡ map (invert_if negative) (place_key r.0) ++ r.1.now) }
     ensures shorter { IfSome result (λ r. (r.0 < 512) × (length r.1.now < length bytes.now)) }
 {
     let (first, rest) = bytes.split_first()?;
-    let byte = turned(negative, *first);
+    let byte = invert_if(negative, *first);
     if byte == kind::FAR_PLACE {
         return read_second(negative, rest);
     }
@@ -65,11 +65,11 @@ pub fn read_place(negative: bool, bytes: &[u8]) -> Option<(u32, &[u8])>
 // A place of two bytes, by what follows the first.
 fn read_second(negative: bool, bytes: &[u8]) -> Option<(u32, &[u8])>
     ensures place { option_map (λ r. (r.0, r.1.now)) result ≡ second_of negative bytes.now }
-    ensures read { IfSome result (λ r. (bytes.now ≡ turned negative r.0 ∷ r.1.now) × (r.0 < 225)) }
+    ensures read { IfSome result (λ r. (bytes.now ≡ invert_if negative r.0 ∷ r.1.now) × (r.0 < 225)) }
     ensures shorter { IfSome result (λ r. (r.0 < 512) × (length r.1.now < length bytes.now)) }
 {
     let (second, rest) = bytes.split_first()?;
-    let place = turned(negative, *second);
+    let place = invert_if(negative, *second);
     if place >= 225 {
         return None;
     }
@@ -79,12 +79,12 @@ fn read_second(negative: bool, bytes: &[u8]) -> Option<(u32, &[u8])>
 // The first digit isn't 0.
 fn begins_with_digit(negative: bool, bytes: &[u8]) -> bool
     ensures yes { IsTrue result → (first : ℕ) × (rest : List ℕ) × (bytes.now ≡ first ∷ rest)
-        × (20 ≤ turned negative first) }
+        × (20 ≤ invert_if negative first) }
     ensures no { IsFalse result → (first : ℕ) → (rest : List ℕ) → bytes.now ≡ first ∷ rest
-        → turned negative first < 20 }
+        → invert_if negative first < 20 }
 {
     match bytes.split_first() {
-        Some((byte, _)) => turned(negative, *byte) >= 20,
+        Some((byte, _)) => invert_if(negative, *byte) >= 20,
         None => false,
     }
 }
@@ -92,9 +92,9 @@ fn begins_with_digit(negative: bool, bytes: &[u8]) -> bool
 // The digits as a number, how many they are, and the bytes after them. A zero at the end is left out.
 fn read_digits(negative: bool, bytes: &[u8]) -> Option<(u128, u32, &[u8])>
     ensures found { (count magnitude : ℕ) → magnitude < 10 ^ count → 0 < magnitude → magnitude ≤ 2 ^ 127 → count ≤ 39
-        → (more : List ℕ) → bytes.now ≡ map (turned negative) (digits_key count magnitude) ++ more
+        → (more : List ℕ) → bytes.now ≡ map (invert_if negative) (digits_key count magnitude) ++ more
         → MatchOption result ⊥ (λ r. IsDigits count magnitude r.0 r.1 × (r.2.now ≡ more)) }
-    ensures read { IfSome result (λ r. (bytes.now ≡ map (turned negative) (digits_key r.1 r.0) ++ r.2.now)
+    ensures read { IfSome result (λ r. (bytes.now ≡ map (invert_if negative) (digits_key r.1 r.0) ++ r.2.now)
         × (r.0 < 10 ^ r.1)) }
     ensures shorter { IfSome result (λ r. (r.1 < 512) × (length r.2.now < length bytes.now)) }
     ensures fewest { IfSome result (λ r. r.0 % 10 ≢ 0) }
@@ -103,7 +103,7 @@ fn read_digits(negative: bool, bytes: &[u8]) -> Option<(u128, u32, &[u8])>
     let mut count: u32 = 0;
     let mut rest = bytes;
     'pairs: while let Some((byte, others)) = rest.split_first() {
-        let byte = turned(negative, *byte);
+        let byte = invert_if(negative, *byte);
         let pair = byte / 2;
         if byte % 2 == 0 {
             let (digits, last) = last_pair(digits, pair)?;
@@ -146,7 +146,7 @@ fn number_of(negative: bool, place: u32, digits: u128, count: u32) -> Option<Num
     requires fewest { digits % 10 ≢ 0 }
     requires counted { (digits < 10 ^ count) × (10 ^ count ≤ digits * 10) }
     ensures key { IfSome result (λ x. number_key (number_view x)
-        ≡ map (turned negative) (place_key place ++ digits_key count digits)) }
+        ≡ map (invert_if negative) (place_key place ++ digits_key count digits)) }
     ensures same { (n : Num) → IsProperNumber n → is_negative n.whole ≡ negative → HasParts n place digits count
         → MatchOption result ⊥ (λ x. num_cmp (number_view x) n ≡ Equal) }
     ensures proper { IfSome result (λ x. IsProperNumber (number_view x)) }

@@ -10,18 +10,18 @@ use Rattle.jsonb_value.specs.declared.value.Value.{Value}
 use Rattle.jsonb_value.proofs.Appending.Appended.{IsUnderway, goes_on, fits}
 use Rattle.jsonb_value.proofs.Appending.Pieces.{texts_left}
 use Rattle.jsonb_value.proofs.Values.Members.{Entry}
-use Rattle.jsonb_spec.specs.Indented.{new_line, enclosed, indented, item_lines, member_lines}
+use Rattle.jsonb_spec.specs.Indented.{new_line, enclose, indented_text, item_lines, member_lines}
 
 -- an item's line stands first in what is left
 pub next_item : (indent margin : ℕ) (vs : List Value) (i : ℕ) (v : Value) → i < length vs → v ≡ get_or vs i v
-    → item_lines indent margin (trees_view (drop i vs)) ≡ (new_line margin ++ indented indent margin (view v)) ∷ item_lines indent margin (trees_view (drop (i + 1) vs))
+    → item_lines indent margin (trees_view (drop i vs)) ≡ (new_line margin ++ indented_text indent margin (view v)) ∷ item_lines indent margin (trees_view (drop (i + 1) vs))
 next_item indent margin vs i v h e =
     ap (λ us. item_lines indent margin (trees_view us)) (drop-cons vs i v h)
-    ∙ (λ j. (new_line margin ++ indented indent margin (view (sym e j))) ∷ item_lines indent margin (trees_view (drop (sym (add-one i) j) vs)))
+    ∙ (λ j. (new_line margin ++ indented_text indent margin (view (sym e j))) ∷ item_lines indent margin (trees_view (drop (sym (add-one i) j) vs)))
 
 -- a member's line stands first in what is left
 pub next_member : (indent margin : ℕ) (es others : List Entry) (e : Entry) → es ≡ e ∷ others
-    → member_lines indent margin (members_view es) ≡ (new_line margin ++ (quoted_text (string_bytes e.0) ++ 58 ∷ 32 ∷ indented indent margin (view e.1))) ∷ member_lines indent margin (members_view others)
+    → member_lines indent margin (members_view es) ≡ (new_line margin ++ (quoted_text (string_bytes e.0) ++ 58 ∷ 32 ∷ indented_text indent margin (view e.1))) ∷ member_lines indent margin (members_view others)
 next_member indent margin es others e next = ap (λ fs. member_lines indent margin (members_view fs)) next
 
 -- the line feed and the margin of a line are written
@@ -50,26 +50,26 @@ lines_done old now text is_first lines none u =
 -- ---- what encloses the lines
 
 pub array_is : (indent margin inner : ℕ) (vs : List Value) → length vs ≢ 0 → inner ≡ margin + indent
-    → indented indent margin (array (trees_view vs)) ≡ 91 ∷ (with_commas (item_lines indent inner (trees_view vs)) ++ (new_line margin ++ 93 ∷ []))
+    → indented_text indent margin (array (trees_view vs)) ≡ 91 ∷ (with_commas (item_lines indent inner (trees_view vs)) ++ (new_line margin ++ 93 ∷ []))
 array_is indent margin inner [] h e = absurd (h refl)
 array_is indent margin inner (v ∷ vs) h e = ap (λ m. 91 ∷ (with_commas (item_lines indent m (trees_view (v ∷ vs))) ++ (new_line margin ++ 93 ∷ []))) (sym e)
 
 pub object_is : (indent margin inner : ℕ) (es : List Entry) → length es ≢ 0 → inner ≡ margin + indent
-    → indented indent margin (object (members_view es)) ≡ 123 ∷ (with_commas (member_lines indent inner (members_view es)) ++ (new_line margin ++ 125 ∷ []))
+    → indented_text indent margin (object (members_view es)) ≡ 123 ∷ (with_commas (member_lines indent inner (members_view es)) ++ (new_line margin ++ 125 ∷ []))
 object_is indent margin inner [] h e = absurd (h refl)
 object_is indent margin inner (e ∷ es) h same = ap (λ m. 123 ∷ (with_commas (member_lines indent m (members_view (e ∷ es))) ++ (new_line margin ++ 125 ∷ []))) (sym same)
 
 -- the first line has its margin
-enclosed_long : (first last margin inner : ℕ) (text : List ℕ) (lines : List (List ℕ)) → inner ≤ length (enclosed first last margin ((new_line inner ++ text) ∷ lines))
+enclosed_long : (first last margin inner : ℕ) (text : List ℕ) (lines : List (List ℕ)) → inner ≤ length (enclose first last margin ((new_line inner ++ text) ∷ lines))
 enclosed_long first last margin inner text lines =
     let others : List ℕ = flat_map (λ (other : List ℕ). 44 ∷ other) lines in
     omega (arith, length-append ((new_line inner ++ text) ++ others) (new_line margin ++ last ∷ []), length-append (new_line inner ++ text) others, length-append (new_line inner) text, length-replicate {A = ℕ} inner 32)
 
-pub array_long : (indent margin : ℕ) (vs : List Value) → length vs ≢ 0 → margin + indent ≤ length (indented indent margin (array (trees_view vs)))
+pub array_long : (indent margin : ℕ) (vs : List Value) → length vs ≢ 0 → margin + indent ≤ length (indented_text indent margin (array (trees_view vs)))
 array_long indent margin [] h = absurd (h refl)
-array_long indent margin (v ∷ vs) h = enclosed_long 91 93 margin (margin + indent) (indented indent (margin + indent) (view v)) (item_lines indent (margin + indent) (trees_view vs))
+array_long indent margin (v ∷ vs) h = enclosed_long 91 93 margin (margin + indent) (indented_text indent (margin + indent) (view v)) (item_lines indent (margin + indent) (trees_view vs))
 
-pub object_long : (indent margin : ℕ) (es : List Entry) → length es ≢ 0 → margin + indent ≤ length (indented indent margin (object (members_view es)))
+pub object_long : (indent margin : ℕ) (es : List Entry) → length es ≢ 0 → margin + indent ≤ length (indented_text indent margin (object (members_view es)))
 object_long indent margin [] h = absurd (h refl)
 object_long indent margin (e ∷ es) h =
-    enclosed_long 123 125 margin (margin + indent) (quoted_text (string_bytes e.0) ++ 58 ∷ 32 ∷ indented indent (margin + indent) (view e.1)) (member_lines indent (margin + indent) (members_view es))
+    enclosed_long 123 125 margin (margin + indent) (quoted_text (string_bytes e.0) ++ 58 ∷ 32 ∷ indented_text indent (margin + indent) (view e.1)) (member_lines indent (margin + indent) (members_view es))

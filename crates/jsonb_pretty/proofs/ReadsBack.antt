@@ -24,7 +24,7 @@ use Rattle.jsonb_value.proofs.Trees.OneText.{same_bytes, both_equal, IsShort, Is
 use Rattle.jsonb_value.proofs.Trees.Ranges.{widened}
 use Rattle.jsonb_value.proofs.Trees.Runs.{heads, tails}
 use Rattle.jsonb_value.proofs.Trees.TextsReadBack.{no_whitespace_alone, double_quote, SpellsSameNumber, HaveSpelled, same_ascent, read_tree}
-use Rattle.jsonb_spec.specs.Indented.{new_line, indented, item_lines, member_lines, StandsFor}
+use Rattle.jsonb_spec.specs.Indented.{new_line, indented_text, item_lines, member_lines, StandsFor}
 
 -- ---- whitespace
 
@@ -147,7 +147,7 @@ module _ (mode : Mode) (IsIn : Num → Type 0) (short : (n : Num) → IsProperNu
       record { tree = r.tree; derived = r.derived; same = r.same }
 
   -- the first byte of what is written is that of `tree_text`
-  begins : (t : Tree) (margin depth : ℕ) → IsProper t → IsWithin IsIn t depth → Begins IsTextByte (indented indent margin t)
+  begins : (t : Tree) (margin depth : ℕ) → IsProper t → IsWithin IsIn t depth → Begins IsTextByte (indented_text indent margin t)
   begins (array no_trees) margin depth p w = record { first = 91; rest = _; joined = refl; is = (omega arith, omega arith, omega arith, omega arith, omega arith, omega arith) }
   begins (array (more_trees t ts)) margin depth p w = record { first = 91; rest = _; joined = refl; is = (omega arith, omega arith, omega arith, omega arith, omega arith, omega arith) }
   begins (object no_members) margin depth p w = record { first = 123; rest = _; joined = refl; is = (omega arith, omega arith, omega arith, omega arith, omega arith, omega arith) }
@@ -171,25 +171,25 @@ module _ (mode : Mode) (IsIn : Num → Type 0) (short : (n : Num) → IsProperNu
       (behind_line mode margin ((text ++ others) ++ close) (subst (IsWhitespace mode) parts piece))
 
   read_items : (t : Tree) (ts : Trees) (us : List Tree) (margin depth : ℕ) → IsProper t → IsWithin IsIn t depth → Each (IsElement mode (Derives mode depth)) (item_lines indent (margin + indent) (more_trees t ts)) us
-      → trees_cmp (trees_of us) (more_trees t ts) ≡ Equal → IsReadAs (suc depth) (indented indent margin (array (more_trees t ts))) (array (more_trees t ts))
+      → trees_cmp (trees_of us) (more_trees t ts) ≡ Equal → IsReadAs (suc depth) (indented_text indent margin (array (more_trees t ts))) (array (more_trees t ts))
   read_items t ts [] margin depth p w each same = absurd each
   read_items t ts (u ∷ us) margin depth p w each same =
-      let line = new_line (margin + indent) ++ indented indent (margin + indent) t in
+      let line = new_line (margin + indent) ++ indented_text indent (margin + indent) t in
       let lines = item_lines indent (margin + indent) ts in
       let body = with_commas (line ∷ lines) ++ new_line margin in
       let joined = joined_lines (IsElement mode (Derives mode depth)) (new_line margin) (element_more mode (Derives mode depth) (new_line margin) (line_is_piece mode margin)) line lines u us each.0 each.1 in
       record {
         tree = array (trees_of (u ∷ us));
         derived = subst (λ bytes. Derives mode (suc depth) (91 ∷ bytes) (array (trees_of (u ∷ us)))) (append_assoc (with_commas (line ∷ lines)) (new_line margin) (93 ∷ []))
-            (full_array {body = body} {ts = u ∷ us} joined (no_whitespace_lines (margin + indent) (indented indent (margin + indent) t) lines (new_line margin) (begins t (margin + indent) depth p w)));
+            (full_array {body = body} {ts = u ∷ us} joined (no_whitespace_lines (margin + indent) (indented_text indent (margin + indent) t) lines (new_line margin) (begins t (margin + indent) depth p w)));
         same = same;
       }
 
   read_members : (k : List ℕ) (t : Tree) (ms ns : Members) (margin depth : ℕ) → KeysAscend (more_members k t ms) → Each (IsMember mode (Derives mode depth)) (member_lines indent (margin + indent) (more_members k t ms)) (pairs_of ns)
-      → HaveSameKeys (more_members k t ms) ns → members_cmp ns (more_members k t ms) ≡ Equal → IsReadAs (suc depth) (indented indent margin (object (more_members k t ms))) (object (more_members k t ms))
+      → HaveSameKeys (more_members k t ms) ns → members_cmp ns (more_members k t ms) ≡ Equal → IsReadAs (suc depth) (indented_text indent margin (object (more_members k t ms))) (object (more_members k t ms))
   read_members k t ms no_members margin depth a each keys same = absurd each
   read_members k t ms (more_members l u ns) margin depth a each keys same =
-      let line = new_line (margin + indent) ++ (quoted_text k ++ 58 ∷ 32 ∷ indented indent (margin + indent) t) in
+      let line = new_line (margin + indent) ++ (quoted_text k ++ 58 ∷ 32 ∷ indented_text indent (margin + indent) t) in
       let lines = member_lines indent (margin + indent) ms in
       let body = with_commas (line ∷ lines) ++ new_line margin in
       let rising = same_ascent (λ bytes t. Unit {0}) (more_members k t ms) (more_members l u ns) keys a in
@@ -202,29 +202,29 @@ module _ (mode : Mode) (IsIn : Num → Type 0) (short : (n : Num) → IsProperNu
         same = same;
       }
 
-  read_next : (t : Tree) (ts : Trees) (margin depth : ℕ) → IsReadAs depth (indented indent margin t) t → AreReadAs depth (item_lines indent margin ts) ts → AreReadAs depth (item_lines indent margin (more_trees t ts)) (more_trees t ts)
+  read_next : (t : Tree) (ts : Trees) (margin depth : ℕ) → IsReadAs depth (indented_text indent margin t) t → AreReadAs depth (item_lines indent margin ts) ts → AreReadAs depth (item_lines indent margin (more_trees t ts)) (more_trees t ts)
   read_next t ts margin depth first others = record {
     trees = first.tree ∷ others.trees;
-    each = (item_line mode (Derives mode depth) margin (indented indent margin t) first.tree first.derived, others.each);
+    each = (item_line mode (Derives mode depth) margin (indented_text indent margin t) first.tree first.derived, others.each);
     same = both_equal (tree_cmp first.tree t) (trees_cmp (trees_of others.trees) ts) first.same others.same;
   }
 
-  read_next_member : (k : List ℕ) (t : Tree) (ms : Members) (margin depth : ℕ) → IsUtf8 k → IsReadAs depth (indented indent margin t) t → HaveReadAs depth (member_lines indent margin ms) ms → HaveReadAs depth (member_lines indent margin (more_members k t ms)) (more_members k t ms)
+  read_next_member : (k : List ℕ) (t : Tree) (ms : Members) (margin depth : ℕ) → IsUtf8 k → IsReadAs depth (indented_text indent margin t) t → HaveReadAs depth (member_lines indent margin ms) ms → HaveReadAs depth (member_lines indent margin (more_members k t ms)) (more_members k t ms)
   read_next_member k t ms margin depth utf8 first others = record {
     members = more_members k first.tree others.members;
-    each = (member_line mode (Derives mode depth) margin k (indented indent margin t) first.tree utf8 first.derived, others.each);
+    each = (member_line mode (Derives mode depth) margin k (indented_text indent margin t) first.tree utf8 first.derived, others.each);
     keys = (refl, tt, others.keys);
     same = both_equal (bytes_cmp k k) (ordering_then (tree_cmp first.tree t) (members_cmp others.members ms)) (same_bytes k k refl) (both_equal (tree_cmp first.tree t) (members_cmp others.members ms) first.same others.same);
   }
 
-  read_array : (t : Tree) (ts : Trees) (margin depth : ℕ) → IsProper t → IsWithin IsIn t depth → AreReadAs depth (item_lines indent (margin + indent) (more_trees t ts)) (more_trees t ts) → IsReadAs (suc depth) (indented indent margin (array (more_trees t ts))) (array (more_trees t ts))
+  read_array : (t : Tree) (ts : Trees) (margin depth : ℕ) → IsProper t → IsWithin IsIn t depth → AreReadAs depth (item_lines indent (margin + indent) (more_trees t ts)) (more_trees t ts) → IsReadAs (suc depth) (indented_text indent margin (array (more_trees t ts))) (array (more_trees t ts))
   read_array t ts margin depth p w r = read_items t ts r.trees margin depth p w r.each r.same
 
-  read_object : (k : List ℕ) (t : Tree) (ms : Members) (margin depth : ℕ) → KeysAscend (more_members k t ms) → HaveReadAs depth (member_lines indent (margin + indent) (more_members k t ms)) (more_members k t ms) → IsReadAs (suc depth) (indented indent margin (object (more_members k t ms))) (object (more_members k t ms))
+  read_object : (k : List ℕ) (t : Tree) (ms : Members) (margin depth : ℕ) → KeysAscend (more_members k t ms) → HaveReadAs depth (member_lines indent (margin + indent) (more_members k t ms)) (more_members k t ms) → IsReadAs (suc depth) (indented_text indent margin (object (more_members k t ms))) (object (more_members k t ms))
   read_object k t ms margin depth a r = read_members k t ms r.members margin depth a r.each r.keys r.same
 
   mutual
-    read_lines : (t : Tree) (margin depth : ℕ) → IsProper t → IsWithin IsIn t depth → IsReadAs depth (indented indent margin t) t
+    read_lines : (t : Tree) (margin depth : ℕ) → IsProper t → IsWithin IsIn t depth → IsReadAs depth (indented_text indent margin t) t
     read_lines (array no_trees) margin zero p w = absurd w
     read_lines (array no_trees) margin (suc depth) p w = on_one_line (array no_trees) (suc depth) p w
     read_lines (array (more_trees t ts)) margin zero p w = absurd w
@@ -248,16 +248,16 @@ module _ (mode : Mode) (IsIn : Num → Type 0) (short : (n : Num) → IsProperNu
     read_each_member no_members margin depth p w = record { members = no_members; each = tt; keys = tt; same = refl }
     read_each_member (more_members k t ms) margin depth p w = read_next_member k t ms margin depth p.0 (read_lines t margin depth p.1 w.0) (read_each_member ms margin depth p.2 w.1)
 
-  lines_stand_for : (t : Tree) → IsProper t → IsWithin IsIn t max_depth → StandsFor mode (indented indent 0 t) t
+  lines_stand_for : (t : Tree) → IsProper t → IsWithin IsIn t max_depth → StandsFor mode (indented_text indent 0 t) t
   lines_stand_for t p w =
       let r = read_lines t 0 max_depth p w in
       record {
         tree = r.tree;
-        document = subst (λ bytes. IsDocument mode bytes r.tree) (append-nil (indented indent 0 t)) (value_alone {core = indented indent 0 t} no_whitespace r.derived (whitespace_to_end no_whitespace));
+        document = subst (λ bytes. IsDocument mode bytes r.tree) (append-nil (indented_text indent 0 t)) (value_alone {core = indented_text indent 0 t} no_whitespace r.derived (whitespace_to_end no_whitespace));
         same = r.same;
       }
 
 -- what is written over lines of a tree in a mode's range is a document of the mode
-pub range_stands_for : (mode : Mode) (indent : ℕ) (t : Tree) → IsProper t → IsInRangeOf mode t → StandsFor mode (indented indent 0 t) t
+pub range_stands_for : (mode : Mode) (indent : ℕ) (t : Tree) → IsProper t → IsInRangeOf mode t → StandsFor mode (indented_text indent 0 t) t
 range_stands_for standard indent t p w = lines_stand_for standard IsIntegral integral_short integer_reads_back indent t p w
 range_stands_for extended indent t p w = lines_stand_for extended IsInTexts in_texts_short extended_reads_back indent t p w

@@ -14,7 +14,7 @@ ghost use Rattle.jsonb_spec.specs.Text.StringText.{quoted_text};
 ghost use Rattle.jsonb_spec.specs.Text.{has_text, items_have_texts, members_have_texts, tree_text, with_commas, text_of};
 ghost use Rattle.jsonb_spec.specs.Tree.{array, object};
 ghost use Rattle.jsonb_value.specs.View.{view, trees_view, members_view};
-ghost use Rattle.jsonb_spec.specs.Indented.{new_line, indented, item_lines, member_lines, StandsFor};
+ghost use Rattle.jsonb_spec.specs.Indented.{new_line, indented_text, item_lines, member_lines, StandsFor};
 
 use jsonb_value::error::{Error, Result};
 use jsonb_value::value::{Object, Value};
@@ -42,18 +42,18 @@ use std::alloc::AllocError;
 /// `UnexpectedType` where the value holds a date or a time, at any depth: it has no text then, however little memory
 /// there is. `OutOfMemory` only where `buf` lacks the capacity for the whole text.
 pub fn write_text_indented(value: &Value<'_>, indent: usize, buf: &mut Vec<u8>) -> Result<()>
-    ensures ok { OnOk result (buf.new.items ≡ buf.old.items ++ indented indent 0 (view value.now)) }
+    ensures ok { OnOk result (buf.new.items ≡ buf.old.items ++ indented_text indent 0 (view value.now)) }
     ensures err { OnErr result (buf.new.items ≡ buf.old.items) }
     ensures unexpected { IsErrOf result Error.UnexpectedType ↔ (text_of (view value.now) ≡ None) }
     ensures errors { IfErr result (λ e. (e ≡ Error.UnexpectedType) ⊎ (e ≡ Error.OutOfMemory)) }
     // Memory runs out only where the capacity for the whole text is missing.
     ensures full { IsErrOf result Error.OutOfMemory
-        → vec_capacity buf.old < vec_len buf.old + length (indented indent 0 (view value.now)) }
+        → vec_capacity buf.old < vec_len buf.old + length (indented_text indent 0 (view value.now)) }
     ensures capacity { vec_capacity buf.old ≤ vec_capacity buf.new }
     ensures proper { OnOk result (IsProper (view value.now)) }
     // What is written of a value in a mode's range is a document of the mode, of the same value.
     ensures reads_back { OnOk result ((mode : Mode) → IsInRangeOf mode (view value.now)
-        → StandsFor mode (indented indent 0 (view value.now)) (view value.now)) }
+        → StandsFor mode (indented_text indent 0 (view value.now)) (view value.now)) }
 {
     let old_len = buf.len();
     if append(value, indent, 0, buf).is_ok() {
@@ -85,7 +85,7 @@ type Appended = std::result::Result<(), AllocError>;
 #[cycle(append)]
 fn append<'a>(value: &Value<'a>, indent: usize, margin: usize, buf: &mut Vec<u8>) -> Appended
     ensures appends { AppendsIf (has_text (view value.now)) result buf.old buf.new
-        (indented indent margin (view value.now)) }
+        (indented_text indent margin (view value.now)) }
     ensures proper { OnOk result (IsProper (view value.now)) }
 {
     match value {
@@ -110,7 +110,7 @@ fn append_items<'a>(
     buf: &mut Vec<u8>,
 ) -> Appended
     ensures appends { AppendsIf (items_have_texts (trees_view items.now.items)) result buf.old buf.new
-        (indented indent margin (array (trees_view items.now.items))) }
+        (indented_text indent margin (array (trees_view items.now.items))) }
     ensures proper { OnOk result (AreProper (trees_view items.now.items)) }
 {
     if items.is_empty() {
@@ -152,7 +152,7 @@ fn append_members<'a>(
     buf: &mut Vec<u8>,
 ) -> Appended
     ensures appends { AppendsIf (members_have_texts (members_view members.now.entries)) result buf.old buf.new
-        (indented indent margin (object (members_view members.now.entries))) }
+        (indented_text indent margin (object (members_view members.now.entries))) }
     ensures proper { OnOk result (KeysAscend (members_view members.now.entries)
         × HaveProperParts (members_view members.now.entries)) }
 {

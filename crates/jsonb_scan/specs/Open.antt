@@ -2,7 +2,7 @@
 use Rattle.std.specs.Prelude.{ℕ, List, [], ◌∷◌, ◌++◌}
 use Rattle.jsonb_spec.specs.Tree.{Mark}
 use Rattle.jsonb_spec.specs.Tree.Mark.{plain}
-use Rattle.jsonb_spec.specs.Source.{Source, Found, found}
+use Rattle.jsonb_spec.specs.Source.{Source, Found, found_member}
 
 -- An array or an object that is open: its parts so far, and in an object the key that waits for its value, with the
 -- place after it.
@@ -14,4 +14,4 @@ pub data Open : Type 0 where
 abbrev pub add_part : Open → Source → Open
 add_part (elements_so_far front) s = elements_so_far (front ++ s ∷ [])
 add_part (members_so_far front key place) s =
-    members_so_far (front ++ found key s place ∷ []) (plain, []) 0
+    members_so_far (front ++ found_member key s place ∷ []) (plain, []) 0

@@ -44,5 +44,5 @@ abbrev pub fault_at : ℕ → Code → ℕ → List ℕ → Fault
 fault_at size code step [] = record { code = invalid_eof; place = size }
 fault_at size code step (b ∷ bytes) = record { code = code; place = size - length (b ∷ bytes) + step }
 
-abbrev pub rejected : {A : Type 0} → ℕ → Code → ℕ → List ℕ → Result A Fault
-rejected size code step bytes = Err (fault_at size code step bytes)
+abbrev pub reject : {A : Type 0} → ℕ → Code → ℕ → List ℕ → Result A Fault
+reject size code step bytes = Err (fault_at size code step bytes)

@@ -13,31 +13,31 @@ abbrev pub new_line : ℕ → List ℕ
 new_line margin = ascii.line_feed ∷ replicate margin ascii.space
 
 -- the lines between two brackets or braces, of which the second is on a line of its own; no lines are `[]` or `{}`
-abbrev pub enclosed : ℕ → ℕ → ℕ → List (List ℕ) → List ℕ
-enclosed first last margin [] = first ∷ last ∷ []
-enclosed first last margin (line ∷ lines) = first ∷ (with_commas (line ∷ lines) ++ (new_line margin ++ last ∷ []))
+abbrev pub enclose : ℕ → ℕ → ℕ → List (List ℕ) → List ℕ
+enclose first last margin [] = first ∷ last ∷ []
+enclose first last margin (line ∷ lines) = first ∷ (with_commas (line ∷ lines) ++ (new_line margin ++ last ∷ []))
 
 abbrev mutual
   -- The text of a tree that has one, whose lines but the first begin with the margin or more: that of `tree_text`, with
   -- each item and each member on a line of its own, at `indent` spaces more.
-  pub indented : ℕ → ℕ → Tree → List ℕ
-  indented indent margin (array ts) =
-      enclosed ascii.open_bracket ascii.close_bracket margin (item_lines indent (margin + indent) ts)
-  indented indent margin (object ms) =
-      enclosed ascii.open_brace ascii.close_brace margin (member_lines indent (margin + indent) ms)
-  indented indent margin t = tree_text t
+  pub indented_text : ℕ → ℕ → Tree → List ℕ
+  indented_text indent margin (array ts) =
+      enclose ascii.open_bracket ascii.close_bracket margin (item_lines indent (margin + indent) ts)
+  indented_text indent margin (object ms) =
+      enclose ascii.open_brace ascii.close_brace margin (member_lines indent (margin + indent) ms)
+  indented_text indent margin t = tree_text t
 
   -- the lines of an array's items
   pub item_lines : ℕ → ℕ → Trees → List (List ℕ)
   item_lines indent margin no_trees = []
   item_lines indent margin (more_trees t ts) =
-      (new_line margin ++ indented indent margin t) ∷ item_lines indent margin ts
+      (new_line margin ++ indented_text indent margin t) ∷ item_lines indent margin ts
 
   -- the lines of an object's members: each key, a colon and a space, and the value's text
   pub member_lines : ℕ → ℕ → Members → List (List ℕ)
   member_lines indent margin no_members = []
   member_lines indent margin (more_members key t ms) =
-      (new_line margin ++ (quoted_text key ++ ascii.colon ∷ ascii.space ∷ indented indent margin t))
+      (new_line margin ++ (quoted_text key ++ ascii.colon ∷ ascii.space ∷ indented_text indent margin t))
       ∷ member_lines indent margin ms
 
 -- The bytes are a document of a tree that is the same as t.

@@ -4,21 +4,21 @@ use Rattle.jsonb_spec.specs.Tree.{Tree, string, array, object, binary, escaped, 
 
 abbrev mutual
   -- the same tree with each string owned
-  pub owned : Tree → Tree
-  owned (string mark bytes) = string escaped bytes
-  owned (array ts) = array (owned_items ts)
-  owned (object ms) = object (owned_members ms)
-  owned t = t
+  pub owned_tree : Tree → Tree
+  owned_tree (string mark bytes) = string escaped bytes
+  owned_tree (array ts) = array (owned_items ts)
+  owned_tree (object ms) = object (owned_members ms)
+  owned_tree t = t
 
   -- each item with its strings owned
   pub owned_items : Trees → Trees
   owned_items no_trees = no_trees
-  owned_items (more_trees t ts) = more_trees (owned t) (owned_items ts)
+  owned_items (more_trees t ts) = more_trees (owned_tree t) (owned_items ts)
 
   -- each member with the strings of its value owned
   pub owned_members : Members → Members
   owned_members no_members = no_members
-  owned_members (more_members key t ms) = more_members key (owned t) (owned_members ms)
+  owned_members (more_members key t ms) = more_members key (owned_tree t) (owned_members ms)
 
 abbrev mutual
   -- whether binary data, which is always borrowed, stands in it at any depth

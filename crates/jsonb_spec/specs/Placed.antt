@@ -8,7 +8,7 @@ use Rattle.jsonb_spec.specs.Grammar.Whitespace.{IsLastWhitespace, IsWhitespace}
 use Rattle.jsonb_spec.specs.Mode.{Mode, extended}
 use Rattle.jsonb_spec.specs.Grammar.Scalar.{IsKey, IsScalar}
 use Rattle.jsonb_spec.specs.Tree.{Mark, Tree}
-use Rattle.jsonb_spec.specs.Source.{Source, null_source, object_source, array_source_of, Found, found, SourceMembers, no_source_members, more_source_members, source_alone, source_members_of}
+use Rattle.jsonb_spec.specs.Source.{Source, null_source, object_source, array_source_of, Found, found_member, SourceMembers, no_source_members, more_source_members, source_alone, source_members_of}
 
 -- From one place to the other the input has bytes of this kind.
 pub record Has (input : List ℕ) (Kind : List ℕ → Type 0) (from to : ℕ) : Type 0 where
@@ -85,7 +85,7 @@ mutual
     key_and_value : {from begin index colon due end to : ℕ} {key : Mark × List ℕ} {s : Source}
         → HasWhitespace mode input from begin → HasKey mode input begin key index → HasWhitespace mode input index colon
         → HasByte input ascii.colon colon → HasWhitespace mode input (colon + 1) due → IsValueAt mode input due s end
-        → HasWhitespace mode input end to → IsMemberAt mode input from (found key s index) to
+        → HasWhitespace mode input end to → IsMemberAt mode input from (found_member key s index) to
 
 -- The whole text: a value with whitespace round it. In extended mode whitespace alone stands for null.
 pub data IsPlaced (mode : Mode) (input : List ℕ) : Source → Type 0 where

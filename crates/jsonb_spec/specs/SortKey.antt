@@ -52,13 +52,13 @@ magnitude_key scale magnitude =
     place_key (digit_count magnitude + 255 - scale) ++ digits_key (digit_count magnitude) magnitude
 
 -- a byte of a negative number is turned round
-abbrev pub turned : Bool → ℕ → ℕ
-turned negative byte = if negative then 255 - byte else byte
+abbrev pub invert_if : Bool → ℕ → ℕ
+invert_if negative byte = if negative then 255 - byte else byte
 
 -- a number: its sign, its place and its digits
 unfoldable pub number_key : Num → List ℕ
 number_key n = if unsigned_abs n.whole == 0 then kind.zero ∷ []
-    else map (turned (is_negative n.whole)) (magnitude_key n.scale (unsigned_abs n.whole))
+    else map (invert_if (is_negative n.whole)) (magnitude_key n.scale (unsigned_abs n.whole))
 
 abbrev mutual
   -- The kind, which a number's first byte says too, and then what the value holds.

@@ -69,8 +69,8 @@ pub record Found : Type 0 where
   pub place : ℕ
 
 -- what was found with this key and this value, and the place after the key
-abbrev pub found : Mark × List ℕ → Source → ℕ → Found
-found key s place = record { mark = key.0; key = key.1; source = s; place = place }
+abbrev pub found_member : Mark × List ℕ → Source → ℕ → Found
+found_member key s place = record { mark = key.0; key = key.1; source = s; place = place }
 
 -- the key and the tree
 abbrev pub member_of : Found → Member

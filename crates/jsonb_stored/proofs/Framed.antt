@@ -12,7 +12,7 @@ use Rattle.std.proofs.lemmas.Map.Lookups.{exact_bytes}
 use Rattle.jsonb_key.specs.Readable.{IsReadable, IsReadableAt}
 use Rattle.jsonb_key.proofs.FirstBytes.{no_key, array_there, object_there}
 use Rattle.jsonb_stored.specs.Checked.{IsSortKey}
-use Rattle.jsonb_stored.specs.Frames.{KeyFirst, ScalarFirst, PartsFirst, Frame, in_array, in_object, is_object_frame, new_frame, IsAbove, NameFirst, named}
+use Rattle.jsonb_stored.specs.Frames.{KeyFirst, ScalarFirst, PartsFirst, Frame, in_array, in_object, is_object_frame, new_frame, IsAbove, NameFirst, frame_behind}
 use Rattle.jsonb_stored.specs.Open.{Open, items, members, is_object, open_key, IsOpen, end_key, opening_byte, IsScalar}
 use Rattle.jsonb_stored.specs.Parts.{opened_tree}
 use Rattle.jsonb_stored.proofs.Opens.{no_end}
@@ -97,7 +97,7 @@ record NextThere (f : Frame) (fs : List Frame) (left : ℕ) (rest more : List �
   name : List ℕ
   value : List ℕ
   first : NameFirst f name rest value
-  due : Due (named f name ∷ fs) left value more
+  due : Due (frame_behind f name ∷ fs) left value more
 
 abbrev NoEnd : Frame → List ℕ → Type 0
 NoEnd f rest = (tail : List ℕ) → rest ≡ end_key (is_object_frame f) ++ tail → ⊥
@@ -139,7 +139,7 @@ next_there f fs left rest more none o = go f o.opened o.continues o.fits o.after
       };
     }
 
-next_back : (f : Frame) (fs : List Frame) (left : ℕ) (rest value name more : List ℕ) → NameFirst f name rest value → Due (named f name ∷ fs) left value more → Ends (f ∷ fs) left rest more
+next_back : (f : Frame) (fs : List Frame) (left : ℕ) (rest value name more : List ℕ) → NameFirst f name rest value → Due (frame_behind f name ∷ fs) left value more → Ends (f ∷ fs) left rest more
 next_back in_array fs left rest value name more first d = go d.behind.opened d.behind.continues d.behind.fits d.behind.stands
   where
     go : (o : Open) → Continues in_array o → IsOpen o left → d.after ≡ open_key o ++ d.behind.after → Ends (in_array ∷ fs) left rest more
@@ -189,17 +189,17 @@ pub names_compare : (j k : List ℕ) → slice_cmp nat_cmp (text_key j) (text_ke
 names_compare j k =
     (λ i. slice_cmp nat_cmp (sym (append-nil (text_key j)) i) (sym (append-nil (text_key k)) i)) ∙ (text_compares j k).compared [] [] ∙ then_equal (slice_cmp nat_cmp j k)
 
-same_frame : (f : Frame) (j k rest x y : List ℕ) → NameFirst f j rest x → NameFirst f k rest y → named f j ≡ named f k
+same_frame : (f : Frame) (j k rest x y : List ℕ) → NameFirst f j rest x → NameFirst f k rest y → frame_behind f j ≡ frame_behind f k
 same_frame in_array j k rest x y p q = refl
 same_frame (in_object last) j k rest x y p q = ap (λ n. in_object (Some n)) (one_name j k x y (sym p.2 ∙ q.2))
 
-pub name_passed : (f : Frame) (fs : List Frame) (left : ℕ) (rest value name more : List ℕ) → NoEnd f rest → NameFirst f name rest value → ((v : List ℕ) → (n : List ℕ) × NameFirst f n rest v → value ≡ v) → Due (named f name ∷ fs) left value more ↔ Ends (f ∷ fs) left rest more
+pub name_passed : (f : Frame) (fs : List Frame) (left : ℕ) (rest value name more : List ℕ) → NoEnd f rest → NameFirst f name rest value → ((v : List ℕ) → (n : List ℕ) × NameFirst f n rest v → value ≡ v) → Due (frame_behind f name ∷ fs) left value more ↔ Ends (f ∷ fs) left rest more
 name_passed f fs left rest value name more none first one = (next_back f fs left rest value name more first, from)
   where
-    from : Ends (f ∷ fs) left rest more → Due (named f name ∷ fs) left value more
+    from : Ends (f ∷ fs) left rest more → Due (frame_behind f name ∷ fs) left value more
     from o =
         let n = next_there f fs left rest more none o in
-        subst (λ v. Due (named f name ∷ fs) left v more) (sym (one n.value (n.name, n.first)))
+        subst (λ v. Due (frame_behind f name ∷ fs) left v more) (sym (one n.value (n.name, n.first)))
         (subst (λ g. Due (g ∷ fs) left n.value more) (same_frame f n.name name rest n.value value n.first first) n.due)
 
 pub no_name : (f : Frame) (fs : List Frame) (left : ℕ) (rest more : List ℕ) → NoEnd f rest → ((v : List ℕ) → (n : List ℕ) × NameFirst f n rest v → ⊥) → Ends (f ∷ fs) left rest more → ⊥

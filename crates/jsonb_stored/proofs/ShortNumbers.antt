@@ -16,7 +16,7 @@ use Rattle.jsonb_key.proofs.Exact.{DigitsRead, none_read, one_pair_read, last_pa
 use Rattle.jsonb_stored.specs.Frames.{NumberFirst, DigitsFirst}
 use Rattle.jsonb_spec.specs.Number.Signed.{signed_by}
 use Rattle.jsonb_spec.specs.Order.{bytes_cmp, num_cmp}
-use Rattle.jsonb_spec.specs.SortKey.{number_key, place_key, digits_key, turned}
+use Rattle.jsonb_spec.specs.SortKey.{number_key, place_key, digits_key, invert_if}
 use Rattle.jsonb_spec.specs.Tree.{Num, decimal128}
 use Rattle.jsonb_value.proofs.SortKeys.Counts.{power_le}
 use Rattle.jsonb_value.proofs.SortKeys.Digits.{ten}
@@ -32,7 +32,7 @@ SomeRead negative bytes count rest = (digits : ℕ) × DigitsRead negative bytes
 pub begun : (negative : Bool) (bytes : List ℕ) → SomeRead negative bytes 0 bytes
 begun negative bytes = (0, none_read negative bytes)
 
-pub pair_passed : (negative : Bool) (bytes : List ℕ) (count : ℕ) (rest others : List ℕ) (byte b : ℕ) → SomeRead negative bytes count rest → rest ≡ byte ∷ others → byte < 256 → b ≡ turned negative byte → b % 2 ≢ 0 → b ≤ 199 → SomeRead negative bytes (count + 2) others
+pub pair_passed : (negative : Bool) (bytes : List ℕ) (count : ℕ) (rest others : List ℕ) (byte b : ℕ) → SomeRead negative bytes count rest → rest ≡ byte ∷ others → byte < 256 → b ≡ invert_if negative byte → b % 2 ≢ 0 → b ≤ 199 → SomeRead negative bytes (count + 2) others
 pair_passed negative bytes count rest others byte b so_far first fits is odd small =
     (so_far.0 * 100 + b / 2, one_pair_read negative bytes so_far.0 count rest others byte b (b / 2) (so_far.0 * 100 + b / 2) so_far.1 first fits is refl odd (omega (arith, small)) refl)
 
@@ -61,8 +61,8 @@ last_is digits pair last small (inr t) = (
   },
 )
 
-pub digits_end : (negative : Bool) (bytes : List ℕ) (count : ℕ) (rest others : List ℕ) (byte b last first : ℕ) (tail : List ℕ) → SomeRead negative bytes count rest → rest ≡ byte ∷ others → byte < 256 → b ≡ turned negative byte → b % 2 ≡ 0 → b ≤ 199 → ((last ≡ 1) × (b / 2 % 10 ≡ 0) × (0 < b / 2)) ⊎ ((last ≡ 2) × (0 < b / 2 % 10))
-    → bytes ≡ first ∷ tail → 20 ≤ turned negative first → DigitsFirst negative bytes (count + last) others
+pub digits_end : (negative : Bool) (bytes : List ℕ) (count : ℕ) (rest others : List ℕ) (byte b last first : ℕ) (tail : List ℕ) → SomeRead negative bytes count rest → rest ≡ byte ∷ others → byte < 256 → b ≡ invert_if negative byte → b % 2 ≡ 0 → b ≤ 199 → ((last ≡ 1) × (b / 2 % 10 ≡ 0) × (0 < b / 2)) ⊎ ((last ≡ 2) × (0 < b / 2 % 10))
+    → bytes ≡ first ∷ tail → 20 ≤ invert_if negative first → DigitsFirst negative bytes (count + last) others
 digits_end negative bytes count rest others byte b last first tail so_far e fits is even small pair head high =
     let p = last_is so_far.0 (b / 2) last (omega (arith, small)) pair in
     let read = last_pair_read negative bytes so_far.0 count rest others byte b (b / 2) p.0 last so_far.1 e fits is refl even p.1 in
@@ -79,12 +79,12 @@ wide false m h = record { sfits = omega arith }
 wide true zero h = record { sfits = omega arith }
 wide true (suc m) h = record { sfits = omega arith }
 
-joined : (sign : Bool) (place digits more bytes key rest : List ℕ) → bytes ≡ map (turned sign) place ++ rest → rest ≡ map (turned sign) digits ++ more → key ≡ map (turned sign) (place ++ digits) → bytes ≡ key ++ more
+joined : (sign : Bool) (place digits more bytes key rest : List ℕ) → bytes ≡ map (invert_if sign) place ++ rest → rest ≡ map (invert_if sign) digits ++ more → key ≡ map (invert_if sign) (place ++ digits) → bytes ≡ key ++ more
 joined sign place digits more bytes key rest e f is =
-    e ∙ ap (λ bs. map (turned sign) place ++ bs) f ∙ sym (append_assoc (map (turned sign) place) (map (turned sign) digits) more)
-    ∙ ap (λ bs. bs ++ more) (sym (map-append (turned sign) place digits) ∙ sym is)
+    e ∙ ap (λ bs. map (invert_if sign) place ++ bs) f ∙ sym (append_assoc (map (invert_if sign) place) (map (invert_if sign) digits) more)
+    ∙ ap (λ bs. bs ++ more) (sym (map-append (invert_if sign) place digits) ∙ sym is)
 
-pub number_there : (sign : Bool) (place count : ℕ) (bytes rest more : List ℕ) → bytes ≡ map (turned sign) (place_key place) ++ rest → (d : DigitsFirst sign rest count more) → count ≤ 38 → place ≤ 293 → count ≤ place → NumberFirst bytes more
+pub number_there : (sign : Bool) (place count : ℕ) (bytes rest more : List ℕ) → bytes ≡ map (invert_if sign) (place_key place) ++ rest → (d : DigitsFirst sign rest count more) → count ≤ 38 → place ≤ 293 → count ≤ place → NumberFirst bytes more
 number_there sign place count bytes rest more e d few near far = elim (cases_lt place (255 + count)) [
   | inl low ↦
       let small : d.digits < 10 ^ 38 = omega (arith, d.below, power_le count 38 few) in

@@ -3,7 +3,7 @@ use Rattle.std.proofs.Common.{◌≡◌, ◌≢◌, ℕ, zero, suc, ◌+◌, ◌
 use Rattle.std.specs.Bool.{⊤}
 use Rattle.std.proofs.lemmas.List.{get_or-set_same, get_or-set_other}
 use Rattle.jsonb_key.proofs.Texts.{none_some, some_same}
-use Rattle.jsonb_stored.specs.Frames.{ScalarFirst, PartsFirst, Frame, in_array, in_object, is_object_frame, new_frame, NameFirst, named, IsFrame}
+use Rattle.jsonb_stored.specs.Frames.{ScalarFirst, PartsFirst, Frame, in_array, in_object, is_object_frame, new_frame, NameFirst, frame_behind, IsFrame}
 use Rattle.jsonb_stored.specs.Open.{end_key, opening_byte}
 use Rattle.jsonb_stored.proofs.Checks.{through}
 use Rattle.jsonb_stored.proofs.Framed.{Ends, Due, parts_first, end_passed, name_passed, no_name, scalar_passed, no_scalar_due, no_value, opening_passed, too_deep_due}
@@ -116,14 +116,14 @@ name_bytes in_array name rest value first = ([], first)
 name_bytes (in_object last) name rest value first = (text_key name, first.2)
 
 pub named_next : (object : Bool) (bytes frames : List ℕ) (top v : ℕ) (rest value name : List ℕ) (t : Top object bytes frames top rest) → top < length frames → ((tail : List ℕ) → rest ≡ end_key (is_object_frame t.frame) ++ tail → ⊥) → NameFirst t.frame name rest value → ((w : List ℕ) → (n : List ℕ) × NameFirst t.frame n rest w → value ≡ w)
-    → IsFrame bytes (named t.frame name) v → ValueDue object bytes (set frames top v) (suc top) value
+    → IsFrame bytes (frame_behind t.frame name) v → ValueDue object bytes (set frames top v) (suc top) value
 named_next object bytes frames top v rest value name t within none first one is =
     let part = name_bytes t.frame name rest value first in
     record {
-      opens = named t.frame name ∷ t.under;
+      opens = frame_behind t.frame name ∷ t.under;
       left = t.left;
       levels = t.levels;
-      stacked = (subst (IsFrame bytes (named t.frame name)) (sym (get_or-set_same frames top v 0 within)) is, kept bytes t.under frames top v top (omega arith) t.stacked);
+      stacked = (subst (IsFrame bytes (frame_behind t.frame name)) (sym (get_or-set_same frames top v 0 within)) is, kept bytes t.under frames top v top (omega arith) t.stacked);
       front = t.front ++ part.0;
       suffix = farther bytes t.front rest part.0 value t.suffix part.1;
       whole = λ more. through _ _ _ (name_passed t.frame t.under t.left rest value name more none first one) (t.whole more);
@@ -196,7 +196,7 @@ module _ (object : Bool) (bytes frames : List ℕ) (depth top last : ℕ) (rest 
 
   pub name_step : (value : List ℕ) (v : ℕ) → ((more : List ℕ) → rest ≡ end_key kind ++ more → None ≡ Some more) → top < length frames
       → ((f : Frame) → IsFrame bytes f last → (more : List ℕ) → (Some value ≡ Some more) ↔ ((name : List ℕ) × NameFirst f name rest more))
-      → ((bs front name more : List ℕ) → (f : Frame) → IsFrame bs f last → NameFirst f name rest more → bs ≡ front ++ rest → IsFrame bs (named f name) v) → ValueDue object bytes (set frames top v) depth value
+      → ((bs front name more : List ℕ) → (f : Frame) → IsFrame bs f last → NameFirst f name rest more → bs ≡ front ++ rest → IsFrame bs (frame_behind f name) v) → ValueDue object bytes (set frames top v) depth value
   name_step value v none within found with_name =
       let first = (found here.frame frame_there value).0 refl in
       subst (λ d. ValueDue object bytes (set frames top v) d value) (omega (arith, below))

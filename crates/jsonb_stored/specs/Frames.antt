@@ -8,7 +8,7 @@ use Rattle.jsonb_key.specs.Readable.{IsReadable, IsReadableAt}
 use Rattle.jsonb_stored.specs.Open.{Open, is_object, open_key, IsScalar}
 use Rattle.jsonb_stored.specs.Parts.{opened_tree}
 use Rattle.jsonb_spec.specs.Proper.{IsProperNumber}
-use Rattle.jsonb_spec.specs.SortKey.{key_of, number_key, digits_key, text_key, turned}
+use Rattle.jsonb_spec.specs.SortKey.{key_of, number_key, digits_key, text_key, invert_if}
 use Rattle.jsonb_spec.specs.Tree.{Num, Tree}
 
 -- The bytes begin with the key of a value, and these stand behind it.
@@ -69,9 +69,9 @@ NameFirst in_array name bytes more = bytes ≡ more
 NameFirst (in_object last) name bytes more = IsAbove last name × IsUtf8 name × (bytes ≡ text_key name ++ more)
 
 -- the frame behind that name
-abbrev pub named : Frame → List ℕ → Frame
-named in_array name = in_array
-named (in_object last) name = in_object (Some name)
+abbrev pub frame_behind : Frame → List ℕ → Frame
+frame_behind in_array name = in_array
+frame_behind (in_object last) name = in_object (Some name)
 
 -- The bytes end with the key of the name and more, which are so many.
 pub record NameAt (bytes name : List ℕ) (size : ℕ) : Type 0 where
@@ -103,4 +103,4 @@ pub record DigitsFirst (negative : Bool) (bytes : List ℕ) (count : ℕ) (more 
   pub digits : ℕ
   pub below : digits < 10 ^ count
   pub least : 10 ^ count ≤ digits * 10
-  pub stands : bytes ≡ map (turned negative) (digits_key count digits) ++ more
+  pub stands : bytes ≡ map (invert_if negative) (digits_key count digits) ++ more

@@ -2,7 +2,7 @@
 
 ghost use Rattle.std.specs.Prelude.{◌≡◌, ◌<◌, ◌≤◌, ◌++◌, ◌↔◌, List, ℕ, length, option_map, get_or, Some, true, IsTrue, IfOk, IfErr, IfSome, Option};
 ghost use Rattle.jsonb_stored.specs.Checked.{IsSortKey};
-ghost use Rattle.jsonb_stored.specs.Frames.{KeyFirst, ScalarFirst, NumberFirst, TextFirst, PartsFirst, Frame, in_object, is_object_frame, new_frame, IsAbove, NameFirst, named, IsFrame};
+ghost use Rattle.jsonb_stored.specs.Frames.{KeyFirst, ScalarFirst, NumberFirst, TextFirst, PartsFirst, Frame, in_object, is_object_frame, new_frame, IsAbove, NameFirst, frame_behind, IsFrame};
 ghost use Rattle.jsonb_spec.specs.SortKey.{text_key};
 
 use crate::ascii::utf8_run;
@@ -139,7 +139,7 @@ fn checked_within<'k>(
         ↔ PartsFirst object bytes.now more) }
     ensures no_room { IfErr result (λ e. length frames.old < 512) }
 {
-    frames[0] = opened(object);
+    frames[0] = new_frame(object);
     let mut depth: usize = 1;
     let mut rest = bytes;
     'parts: loop {
@@ -167,7 +167,7 @@ fn checked_within<'k>(
                 if depth == frames.len() {
                     return Err(NoRoom);
                 }
-                frames[depth] = opened(inner);
+                frames[depth] = new_frame(inner);
                 depth += 1;
                 rest = others;
             }
@@ -182,7 +182,7 @@ fn checked_within<'k>(
 }
 
 // The frame of an array or an object of which nothing was passed.
-fn opened(object: bool) -> usize
+fn new_frame(object: bool) -> usize
     ensures { (bytes : List ℕ) → IsFrame bytes (new_frame object) result }
 {
     if object { NO_NAME } else { ARRAY }
@@ -205,7 +205,7 @@ fn is_object(last: usize) -> bool
 // The frame with the name that stands first.
 fn with_name(last: usize, rest: &[u8]) -> usize
     ensures { (bytes front name more : List ℕ) → (f : Frame) → IsFrame bytes f last → NameFirst f name rest.now more
-        → bytes ≡ front ++ rest.now → IsFrame bytes (named f name) result }
+        → bytes ≡ front ++ rest.now → IsFrame bytes (frame_behind f name) result }
 {
     if last == ARRAY { ARRAY } else { rest.len() }
 }

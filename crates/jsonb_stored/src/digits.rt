@@ -3,7 +3,7 @@
 ghost use Rattle.std.specs.Prelude.{◌≡◌, ◌<◌, ◌≤◌, ◌⊎◌, ◌%◌, ◌/◌, length, IfSome, MatchOption};
 ghost use Rattle.jsonb_stored.specs.Frames.{NumberFirst, DigitsFirst};
 
-use jsonb_key::number::{read_place, turned};
+use jsonb_key::number::{invert_if, read_place};
 use jsonb_value::sort_key::kind;
 
 // The bytes after the number whose key they begin with, where it has at most 38 digits. Where it has more, or the bytes
@@ -32,13 +32,13 @@ fn short_digits(negative: bool, bytes: &[u8]) -> Option<(u32, &[u8])>
 {
     let (first, _) = bytes.split_first()?;
     // The least byte of a pair that begins with a digit other than 0 is that of 10.
-    if turned(negative, *first) < 20 {
+    if invert_if(negative, *first) < 20 {
         return None;
     }
     let mut count: u32 = 0;
     let mut rest = bytes;
     'pairs: while let Some((byte, others)) = rest.split_first() {
-        let byte = turned(negative, *byte);
+        let byte = invert_if(negative, *byte);
         // Twice 99, and 1 where digits follow, is the greatest byte of a pair.
         if byte > 199 {
             return None;

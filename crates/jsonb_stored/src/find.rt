@@ -34,7 +34,7 @@ pub struct NoKey;
 /// # Errors
 ///
 /// `NoKey` where the bytes begin with no key.
-pub fn opened(key: &[u8]) -> Result<Option<(bool, &[u8])>, NoKey>
+pub fn open_key(key: &[u8]) -> Result<Option<(bool, &[u8])>, NoKey>
     ensures opens { (t : Tree) → IsReadable t → (more : List ℕ) → key.now ≡ key_of t ++ more → Opens t more result }
     ensures some { IfOk result (λ answer. IfSome answer (λ r. key.now ≡ opening_byte r.0 ∷ r.1.now)) }
 {
@@ -60,7 +60,7 @@ pub fn count_parts(key: &[u8]) -> Result<Option<usize>, NoKey>
         → result ≡ Ok (count_of t) }
     ensures within { IfOk result (λ answer. IfSome answer (λ count. count ≤ length key.now)) }
 {
-    let Some((object, parts)) = opened(key)? else {
+    let Some((object, parts)) = open_key(key)? else {
         return Ok(None);
     };
     let count = count_left(object, parts)?;
@@ -104,7 +104,7 @@ pub fn find_member<'k>(key: &'k [u8], name: &[u8]) -> Result<Option<&'k [u8]>, N
         → Finds key.now (get_by_name name.now t) result }
     ensures within { IfOk result (λ answer. IfSome answer (λ rest. length rest.now ≤ length key.now)) }
 {
-    let Some((object, parts)) = opened(key)? else {
+    let Some((object, parts)) = open_key(key)? else {
         return Ok(None);
     };
     if object {
@@ -124,7 +124,7 @@ pub fn find_item(key: &[u8], index: i64) -> Result<Option<&[u8]>, NoKey>
         → Finds key.now (item_from index t) result }
     ensures within { IfOk result (λ answer. IfSome answer (λ rest. length rest.now ≤ length key.now)) }
 {
-    let Some((object, parts)) = opened(key)? else {
+    let Some((object, parts)) = open_key(key)? else {
         return Ok(None);
     };
     if object {
@@ -201,7 +201,7 @@ fn find_child<'k>(key: &'k [u8], name: &str) -> Result<Option<&'k [u8]>, NoKey>
         → Finds key.now (child_at name.now t) result }
     ensures within { IfOk result (λ answer. IfSome answer (λ rest. length rest.now ≤ length key.now)) }
 {
-    let Some((object, parts)) = opened(key)? else {
+    let Some((object, parts)) = open_key(key)? else {
         return Ok(None);
     };
     if object {

@@ -16,7 +16,7 @@ pub use check::is_sort_key;
 pub use checked::{Items, Key, Members};
 pub use containment::contains;
 pub use find::{
-    NoKey, count_parts, find_item, find_member, find_part, find_plain_part, next_part, opened,
+    NoKey, count_parts, find_item, find_member, find_part, find_plain_part, next_part, open_key,
     range_of,
 };
 pub use part::part_of_key;

@@ -4,12 +4,12 @@ ghost use Rattle.std.specs.Prelude.{◌≡◌, ◌<◌, ◌≤◌, ◌^◌, ◌+
 ghost use Rattle.jsonb_key.specs.Readable.{IsReadable, IsReadableAt};
 ghost use Rattle.jsonb_stored.specs.Open.{Open, is_object, open_key, IsOpen, end_key, name_key, opening_byte, IsScalar};
 ghost use Rattle.jsonb_spec.specs.Proper.{IsProperNumber};
-ghost use Rattle.jsonb_spec.specs.SortKey.{key_of, number_key, digits_key, text_key, turned};
+ghost use Rattle.jsonb_spec.specs.SortKey.{key_of, number_key, digits_key, text_key, invert_if};
 ghost use Rattle.jsonb_spec.specs.SortKey.Kind as kind;
 ghost use Rattle.jsonb_spec.specs.Tree.{Tree, Num};
 
 use crate::ascii::first_zero;
-use jsonb_key::number::{read_place, turned};
+use jsonb_key::number::{invert_if, read_place};
 use jsonb_key::text::skip_pair;
 use jsonb_value::sort_key::kind;
 
@@ -102,13 +102,13 @@ fn after_number(negative: bool, bytes: &[u8]) -> Option<&[u8]>
 // The bytes after digits: behind the first even byte.
 fn after_digits(negative: bool, bytes: &[u8]) -> Option<&[u8]>
     ensures found { (count magnitude : ℕ) → magnitude < 10 ^ count → 0 < magnitude → (more : List ℕ)
-        → bytes.now ≡ map (turned negative) (digits_key count magnitude) ++ more
+        → bytes.now ≡ map (invert_if negative) (digits_key count magnitude) ++ more
         → option_map (λ rest. rest.now) result ≡ Some more }
     ensures shorter { IfSome result (λ rest. length rest.now < length bytes.now) }
 {
     let mut rest = bytes;
     'pairs: while let Some((byte, others)) = rest.split_first() {
-        if turned(negative, *byte) % 2 == 0 {
+        if invert_if(negative, *byte) % 2 == 0 {
             return Some(others);
         }
         rest = others;

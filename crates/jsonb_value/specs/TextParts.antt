@@ -4,5 +4,5 @@ use Rattle.jsonb_spec.specs.Ascii as ascii
 use Rattle.jsonb_value.specs.declared.number.text.TextParts.{TextParts}
 
 -- the pieces joined, with zeros before the last
-abbrev pub joined : TextParts → List ℕ
-joined p = p.sign.now ++ (p.front.now ++ (p.point.now ++ (replicate p.zeros ascii.digit_zero ++ p.back.now)))
+abbrev pub bytes_of_parts : TextParts → List ℕ
+bytes_of_parts p = p.sign.now ++ (p.front.now ++ (p.point.now ++ (replicate p.zeros ascii.digit_zero ++ p.back.now)))

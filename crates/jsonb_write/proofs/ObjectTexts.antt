@@ -5,7 +5,7 @@ use Rattle.jsonb_spec.specs.Text.StringText.{quoted_text}
 use Rattle.jsonb_spec.specs.Tree.{object}
 use Rattle.jsonb_scan.specs.Open.{Open}
 use Rattle.jsonb_spec.specs.Source.{Found, first_repeat, object_source, object_source_of, sort_by, source_members_of, spot_of}
-use Rattle.jsonb_write.specs.Members.{Piece, SpotsAscend, joined}
+use Rattle.jsonb_write.specs.Members.{Piece, SpotsAscend, join_pieces}
 use Rattle.jsonb_write.specs.OpenText.{member_text, open_text, source_text}
 use Rattle.jsonb_write.proofs.Objects.Closing as closing
 
@@ -50,5 +50,5 @@ piece_spots = closing.piece_spots member_text
 pub pieces_sorted : (fs : List Found) → map (λ (p : Piece). p.1) (sort_by (λ (p : Piece). p.0) (map piece_of fs)) ≡ map member_text (sort_by spot_of fs)
 pieces_sorted = closing.bytes_in_order member_text
 
-pub joined_is : (texts : List (List ℕ)) → joined true texts ≡ with_commas texts
+pub joined_is : (texts : List (List ℕ)) → join_pieces true texts ≡ with_commas texts
 joined_is = closing.with_commas_joined

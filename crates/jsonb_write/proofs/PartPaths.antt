@@ -17,7 +17,7 @@ use Rattle.jsonb_scan.specs.Open.{Open, add_part, elements_so_far, members_so_fa
 use Rattle.jsonb_spec.specs.Source.{Found, Source, array_source_of, first_repeat, insert_by, object_source_of, sort_by, sources_of, spot_cmp, spot_of, tree_of_source, trees_of_sources}
 use Rattle.jsonb_write.specs.Members.{SpotsAscend}
 use Rattle.jsonb_spec.specs.PartAt.{index_named, part_at}
-use Rattle.jsonb_write.specs.PartRoom.{first_key, follow, in_items, in_members, left, other_keys, part_inside, picked, picked_inside, picked_with, within}
+use Rattle.jsonb_write.specs.PartRoom.{first_key, follow, in_items, in_members, path_behind, other_keys, part_inside, part_of_ended, part_with_inside, part_with_value, within}
 use Rattle.jsonb_write.proofs.Objects.Closing.{listed, listed_ascend, put_listed, sort_ascends}
 use Rattle.jsonb_write.proofs.Objects.Shuffles.{IsShuffle, distinct-shuffle, shuffle-map, same, keep, exchange, follow as in_turn}
 
@@ -95,15 +95,15 @@ within-more (members_so_far fs k place) s (key ∷ keys) =
     ∙ ap (option_or (in_members key keys fs)) (if_then (bytes_eq key k.1) (λ rest. part_at rest (tree_of_source s)) keys)
 
 -- what ended, with a value where one was due
-pub picked-more : (keys : List (List ℕ)) (c : Open) (s : Source) (cs : List Open) → picked_with keys s (c ∷ cs) ≡ picked keys (add_part c s ∷ cs)
-picked-more keys c s cs = by (left keys cs)
+pub picked-more : (keys : List (List ℕ)) (c : Open) (s : Source) (cs : List Open) → part_with_value keys s (c ∷ cs) ≡ part_of_ended keys (add_part c s ∷ cs)
+picked-more keys c s cs = by (path_behind keys cs)
   where
-    by : (l : Option (List (List ℕ))) → option_or (option_or (picked keys cs) (option_and_then (within c) l)) (option_and_then (λ rest. part_at rest (tree_of_source s)) (option_and_then (follow c) l))
-        ≡ option_or (picked keys cs) (option_and_then (within (add_part c s)) l)
-    by None = or_none (option_or (picked keys cs) None)
+    by : (l : Option (List (List ℕ))) → option_or (option_or (part_of_ended keys cs) (option_and_then (within c) l)) (option_and_then (λ rest. part_at rest (tree_of_source s)) (option_and_then (follow c) l))
+        ≡ option_or (part_of_ended keys cs) (option_and_then (within (add_part c s)) l)
+    by None = or_none (option_or (part_of_ended keys cs) None)
     by (Some rest) =
-        or_assoc (picked keys cs) (within c rest) (option_and_then (λ more. part_at more (tree_of_source s)) (follow c rest))
-        ∙ ap (option_or (picked keys cs)) (sym (within-more c s rest))
+        or_assoc (part_of_ended keys cs) (within c rest) (option_and_then (λ more. part_at more (tree_of_source s)) (follow c rest))
+        ∙ ap (option_or (part_of_ended keys cs)) (sym (within-more c s rest))
 
 -- ---- a container that ends
 
@@ -218,17 +218,17 @@ object-ended fs k place (key ∷ keys) new =
 -- ---- what ended
 
 -- with a container that ended where a value was due
-pub picked-ended : (keys : List (List ℕ)) (c : Open) (s : Source) (cs : List Open) → ((rest : List (List ℕ)) → within c rest ≡ part_inside s rest) → picked keys (c ∷ cs) ≡ picked_inside keys s cs
-picked-ended keys c s cs ended = by (left keys cs)
+pub picked-ended : (keys : List (List ℕ)) (c : Open) (s : Source) (cs : List Open) → ((rest : List (List ℕ)) → within c rest ≡ part_inside s rest) → part_of_ended keys (c ∷ cs) ≡ part_with_inside keys s cs
+picked-ended keys c s cs ended = by (path_behind keys cs)
   where
-    by : (l : Option (List (List ℕ))) → option_or (picked keys cs) (option_and_then (within c) l) ≡ option_or (picked keys cs) (option_and_then (part_inside s) l)
+    by : (l : Option (List (List ℕ))) → option_or (part_of_ended keys cs) (option_and_then (within c) l) ≡ option_or (part_of_ended keys cs) (option_and_then (part_inside s) l)
     by None = refl
-    by (Some rest) = ap (option_or (picked keys cs)) (ended rest)
+    by (Some rest) = ap (option_or (part_of_ended keys cs)) (ended rest)
 
 -- with a value of which nothing but itself can be the part
-pub picked-alone : (keys : List (List ℕ)) (s : Source) (cs : List Open) → ((rest : List (List ℕ)) → part_inside s rest ≡ None) → picked keys cs ≡ picked_inside keys s cs
-picked-alone keys s cs alone = by (left keys cs)
+pub picked-alone : (keys : List (List ℕ)) (s : Source) (cs : List Open) → ((rest : List (List ℕ)) → part_inside s rest ≡ None) → part_of_ended keys cs ≡ part_with_inside keys s cs
+picked-alone keys s cs alone = by (path_behind keys cs)
   where
-    by : (l : Option (List (List ℕ))) → picked keys cs ≡ option_or (picked keys cs) (option_and_then (part_inside s) l)
-    by None = sym (or_none (picked keys cs))
-    by (Some rest) = sym (ap (option_or (picked keys cs)) (alone rest) ∙ or_none (picked keys cs))
+    by : (l : Option (List (List ℕ))) → part_of_ended keys cs ≡ option_or (part_of_ended keys cs) (option_and_then (part_inside s) l)
+    by None = sym (or_none (part_of_ended keys cs))
+    by (Some rest) = sym (ap (option_or (part_of_ended keys cs)) (alone rest) ∙ or_none (part_of_ended keys cs))

@@ -9,10 +9,10 @@ use Rattle.jsonb_spec.specs.Text.{tree_text}
 use Rattle.jsonb_spec.specs.Tree.{Mark, Tree}
 use Rattle.jsonb_spec.specs.Tree.Mark.{plain}
 use Rattle.jsonb_scan.specs.Open.{Open, elements_so_far, members_so_far}
-use Rattle.jsonb_spec.specs.Source.{Found, Source, array_source_of, first_repeat, found, object_source_of, spot_of, tree_of_source}
+use Rattle.jsonb_spec.specs.Source.{Found, Source, array_source_of, first_repeat, found_member, object_source_of, spot_of, tree_of_source}
 use Rattle.jsonb_write.specs.OpenText.{open_text, source_text}
 use Rattle.jsonb_spec.specs.PartAt.{index_named, part_at}
-use Rattle.jsonb_write.specs.PartRoom.{HeldFits, IsAhead, Leads, PartEnds, PartFilled, PartHeld, PartStands, first_index, follow, follow_key, array_held, keys_of, left, object_held, other_keys, part_inside, part_of, picked, less, rest_at, text_held, waits_at, within}
+use Rattle.jsonb_write.specs.PartRoom.{HeldFits, IsAhead, Leads, PartEnds, PartFilled, PartHeld, PartStands, first_index, follow, follow_key, array_held, keys_of, path_behind, object_held, other_keys, part_inside, part_of, part_of_ended, less, rest_at, text_held, waits_at, within}
 use Rattle.jsonb_write.specs.TextRoom.{Held, SeesPart, TextFilled, TextStands, Writes, base_of}
 use Rattle.jsonb_write.specs.Written.{bytes_of}
 use Rattle.jsonb_write.specs.declared.text.Part.{Part}
@@ -77,7 +77,7 @@ copied {r = r} {w = w} {copy = copy} {place = place} {s = s} {held = held} {cs =
       fits = subst (λ (b : List ℕ). HeldFits keys (length b) held cs) (sym writes.before) ends.fits;
       part =
           ap Some (bytes ∙ ap (drop place.start) ends.filled.bytes ∙ behind (base_of r.whole) (open_text true cs) (source_text s) place.start ends.starts)
-          ∙ some_part (picked keys cs) (left keys cs) s (ends.leads ∙ here) (sym (ap (λ (b : Bool). if b then Some r.part.items else None) none) ∙ ends.part);
+          ∙ some_part (part_of_ended keys cs) (path_behind keys cs) s (ends.leads ∙ here) (sym (ap (λ (b : Bool). if b then Some r.part.items else None) none) ∙ ends.part);
     }
 
 pub not_part : {text : List ℕ} {r : PartRoom} {place : Place} {s : Source} {held : List PartHeld} {cs : List Open} → (rest_at (keys_of r) place.level ≡ Some [] → ⊥) → PartEnds text r place s held cs → PartFilled text r s held cs
@@ -86,7 +86,7 @@ not_part {r = r} {s = s} {cs = cs} elsewhere ends =
     record {
       filled = ends.filled;
       fits = ends.fits;
-      part = ends.part ∙ ap (option_map tree_text) (no_part (picked keys cs) (left keys cs) s (λ e. elsewhere (sym ends.leads ∙ e)));
+      part = ends.part ∙ ap (option_map tree_text) (no_part (part_of_ended keys cs) (path_behind keys cs) s (λ e. elsewhere (sym ends.leads ∙ e)));
     }
 
 pub copied_before : {text : List ℕ} {r : PartRoom} {place : Place} {s : Source} {held : List PartHeld} {cs : List Open} → r.found ≡ true → PartEnds text r place s held cs → PartFilled text r s held cs
@@ -96,7 +96,7 @@ copied_before {r = r} {s = s} {cs = cs} there ends =
     record {
       filled = ends.filled;
       fits = ends.fits;
-      part = is ∙ kept_part (picked keys cs) (left keys cs) s r.part.items (sym is ∙ ends.part);
+      part = is ∙ kept_part (part_of_ended keys cs) (path_behind keys cs) s r.part.items (sym is ∙ ends.part);
     }
 
 -- ---- what is kept
@@ -134,12 +134,12 @@ array_begun {r = r} {w = w} {held = held} {cs = cs} f level start ahead base ope
     let keys = keys_of r in
     let leads : Leads keys f.place.level cs = room.leads refl ∙ ap (rest_at keys) (sym level) in
     let starts : f.place.start ≡ length (base_of w) + length (open_text true cs) = start ∙ where_due room.stands ∙ ap (λ b. length b + length (open_text true cs)) (sym base) in
-    let wanted : f.ahead ≡ option_and_then first_index (left keys cs) = ahead ∙ ap (option_and_then first_index) (sym leads) in
+    let wanted : f.ahead ≡ option_and_then first_index (path_behind keys cs) = ahead ∙ ap (option_and_then first_index) (sym leads) in
     record {
       stands = opened room.stands;
-      fits = (leads, (starts, (subst (λ a. IsAhead (option_and_then first_index (left keys cs)) a 0) (sym wanted) (all_ahead (option_and_then first_index (left keys cs))), fits_on keys r.whole w held cs base room.fits)));
+      fits = (leads, (starts, (subst (λ a. IsAhead (option_and_then first_index (path_behind keys cs)) a 0) (sym wanted) (all_ahead (option_and_then first_index (path_behind keys cs))), fits_on keys r.whole w held cs base room.fits)));
       leads = λ e. absurd cc;
-      part = room.part ∙ ap (option_map tree_text) (none_ended (picked keys cs) (left keys cs));
+      part = room.part ∙ ap (option_map tree_text) (none_ended (part_of_ended keys cs) (path_behind keys cs));
     }
 
 pub object_begun : {text : List ℕ} {r : PartRoom} {w : TextRoom} {held : List PartHeld} {cs : List Open} (f : PartMembers) (k : Mark × List ℕ) (place : ℕ) → f.place.level ≡ r.due → f.place.start ≡ length (bytes_of r.whole.written)
@@ -153,7 +153,7 @@ object_begun {r = r} {w = w} {held = held} {cs = cs} f k place level start base 
       stands = opened room.stands;
       fits = (leads, (starts, fits_on keys r.whole w held cs base room.fits));
       leads = λ e. absurd cc;
-      part = room.part ∙ ap (option_map tree_text) (no_member (picked keys cs) (left keys cs) k place);
+      part = room.part ∙ ap (option_map tree_text) (no_member (part_of_ended keys cs) (path_behind keys cs) k place);
     }
 
 -- ---- where a value is due
@@ -189,13 +189,13 @@ next_past (Some (key ∷ keys)) ss h = cond-false (waits_at (elements_so_far ss)
         apart : (m n : ℕ) → m < n → (m == n) ≡ false
         apart m n h = grind arith
 
-pub item_here : (keys : List (List ℕ)) (level result : Option ℕ) (ss : List Source) (cs : List Open) → rest_at keys result ≡ option_and_then other_keys (rest_at keys level) → Leads keys level cs → IsAhead (option_and_then first_index (left keys cs)) (Some 0) (length ss) → Leads keys result (elements_so_far ss ∷ cs)
-item_here keys level result ss cs is leads ahead = next_on (left keys cs) ss ahead ∙ ap (option_and_then other_keys) leads ∙ sym is
+pub item_here : (keys : List (List ℕ)) (level result : Option ℕ) (ss : List Source) (cs : List Open) → rest_at keys result ≡ option_and_then other_keys (rest_at keys level) → Leads keys level cs → IsAhead (option_and_then first_index (path_behind keys cs)) (Some 0) (length ss) → Leads keys result (elements_so_far ss ∷ cs)
+item_here keys level result ss cs is leads ahead = next_on (path_behind keys cs) ss ahead ∙ ap (option_and_then other_keys) leads ∙ sym is
 
-pub item_elsewhere : (keys : List (List ℕ)) (ss : List Source) (cs : List Open) (ahead : Option ℕ) → (ahead ≡ Some 0 → ⊥) → IsAhead (option_and_then first_index (left keys cs)) ahead (length ss) → Leads keys None (elements_so_far ss ∷ cs)
-item_elsewhere keys ss cs None h ahead = next_past (left keys cs) ss ahead
+pub item_elsewhere : (keys : List (List ℕ)) (ss : List Source) (cs : List Open) (ahead : Option ℕ) → (ahead ≡ Some 0 → ⊥) → IsAhead (option_and_then first_index (path_behind keys cs)) ahead (length ss) → Leads keys None (elements_so_far ss ∷ cs)
+item_elsewhere keys ss cs None h ahead = next_past (path_behind keys cs) ss ahead
 item_elsewhere keys ss cs (Some zero) h ahead = absurd (h refl)
-item_elsewhere keys ss cs (Some (suc n)) h ahead = next_off (left keys cs) ss (suc n) ahead (omega arith)
+item_elsewhere keys ss cs (Some (suc n)) h ahead = next_off (path_behind keys cs) ss (suc n) ahead (omega arith)
 
 -- whatever key waits, the members are the same
 same_members : (before : Option Tree) (fs : List Found) (k l : Mark × List ℕ) (place other : ℕ) (rest : Option (List (List ℕ))) → option_or before (option_and_then (within (members_so_far fs k place)) rest) ≡ option_or before (option_and_then (within (members_so_far fs l other)) rest)
@@ -216,8 +216,8 @@ key_begun {r = r} {w = w} {held = held} {cs = cs} f fs k l place after due is ba
     record {
       stands = stands;
       fits = fits_on keys r.whole w (object_held f ∷ held) (members_so_far fs l after ∷ cs) base room.fits;
-      leads = λ e. follow_members fs l after (left keys cs) ∙ ap (option_and_then (follow_key l.1)) room.fits.0 ∙ sym is;
-      part = room.part ∙ ap (option_map tree_text) (same_members (picked keys cs) fs k l place after (left keys cs));
+      leads = λ e. follow_members fs l after (path_behind keys cs) ∙ ap (option_and_then (follow_key l.1)) room.fits.0 ∙ sym is;
+      part = room.part ∙ ap (option_map tree_text) (same_members (part_of_ended keys cs) fs k l place after (path_behind keys cs));
     }
 
 -- ---- a value that ends
@@ -295,15 +295,15 @@ item_put {r = r} {w = w} {held = held} {cs = cs} f g ss s place ahead base stand
       stands = stands;
       fits = (
         subst (λ (p : Place). Leads keys p.level cs) (sym place) fits.0,
-        (ap (λ (p : Place). p.start) place ∙ fits.1.0, (one_less (option_and_then first_index (left keys cs)) f.ahead g.ahead ss s fits.1.1.0 ahead, fits.1.1.1)),
+        (ap (λ (p : Place). p.start) place ∙ fits.1.0, (one_less (option_and_then first_index (path_behind keys cs)) f.ahead g.ahead ss s fits.1.1.0 ahead, fits.1.1.1)),
       );
       leads = λ e. absurd cc;
       part = filled.part ∙ ap (option_map tree_text) (picked-more keys (elements_so_far ss) s cs);
     }
 
 pub member_put : {text : List ℕ} {r : PartRoom} {w : TextRoom} {held : List PartHeld} {cs : List Open} (f : PartMembers) (fs : List Found) (k next : Mark × List ℕ) (place other : ℕ) (s : Source) → base_of w ≡ base_of r.whole
-    → TextStands text w false (map text_held (object_held f ∷ held)) (members_so_far (fs ++ found k s place ∷ []) next other ∷ cs) → PartFilled text r s (object_held f ∷ held) (members_so_far fs k place ∷ cs)
-    → PartStands text (record { whole = w; path = r.path; due = r.due; part = r.part; found = r.found }) false (object_held f ∷ held) (members_so_far (fs ++ found k s place ∷ []) next other ∷ cs)
+    → TextStands text w false (map text_held (object_held f ∷ held)) (members_so_far (fs ++ found_member k s place ∷ []) next other ∷ cs) → PartFilled text r s (object_held f ∷ held) (members_so_far fs k place ∷ cs)
+    → PartStands text (record { whole = w; path = r.path; due = r.due; part = r.part; found = r.found }) false (object_held f ∷ held) (members_so_far (fs ++ found_member k s place ∷ []) next other ∷ cs)
 member_put {r = r} {w = w} {held = held} {cs = cs} f fs k next place other s base stands filled =
     let keys = keys_of r in
     record {
@@ -311,7 +311,7 @@ member_put {r = r} {w = w} {held = held} {cs = cs} f fs k next place other s bas
       fits = fits_on keys r.whole w (object_held f ∷ held) (members_so_far fs k place ∷ cs) base filled.fits;
       leads = λ e. absurd cc;
       part =
-          filled.part ∙ ap (option_map tree_text) (picked-more keys (members_so_far fs k place) s cs ∙ same_members (picked keys cs) (fs ++ found k s place ∷ []) (plain, []) next 0 other (left keys cs));
+          filled.part ∙ ap (option_map tree_text) (picked-more keys (members_so_far fs k place) s cs ∙ same_members (part_of_ended keys cs) (fs ++ found_member k s place ∷ []) (plain, []) next 0 other (path_behind keys cs));
     }
 
 -- ---- what was told

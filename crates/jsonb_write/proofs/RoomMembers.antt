@@ -7,7 +7,7 @@ use Rattle.std.specs.Str.{IsUtf8}
 use Rattle.jsonb_spec.specs.Text.{in_quotes, with_commas}
 use Rattle.jsonb_spec.specs.Tree.{Mark}
 use Rattle.jsonb_scan.specs.Open.{Open, members_so_far}
-use Rattle.jsonb_spec.specs.Source.{Found, Source, found, spot_of}
+use Rattle.jsonb_spec.specs.Source.{Found, Source, found_member, spot_of}
 use Rattle.jsonb_write.specs.MemberStarts.{AreKept, MemberStart, IsKept}
 use Rattle.jsonb_write.specs.OpenText.{comma_after, comma_unless, key_text, member_text, open_text, source_text}
 use Rattle.jsonb_write.specs.TextRoom.{Begins, Held, HeldFits, IsRoomWith, TextStands, Writes, base_of, next_start, starts_from, members, all_starts}
@@ -146,10 +146,10 @@ member_joined fs key s f before is =
 -- a value behind its key
 pub value_stands : {text bytes written : List ℕ} {r t : TextRoom} {first : ℕ} {held : List Held} {fs : List Found} {key : Mark × List ℕ} {place : ℕ} {cs : List Open} (s : Source) (next : Mark × List ℕ) (other : ℕ)
     → IsRoomWith text r written true (members first ∷ held) (members_so_far fs key place ∷ cs) → Writes bytes r t → written ++ bytes ≡ open_text true (members_so_far fs key place ∷ cs) ++ source_text s
-    → TextStands text t false (members first ∷ held) (members_so_far (fs ++ found key s place ∷ []) next other ∷ cs)
+    → TextStands text t false (members first ∷ held) (members_so_far (fs ++ found_member key s place ∷ []) next other ∷ cs)
 value_stands {r = r} {fs = fs} {key = key} {place = place} {cs = cs} s next other room w is =
-    goes_on room w (is ∙ member_joined fs key.1 s (found key s place) (open_text true cs) refl)
-    (ap (λ bs. all_starts r.base true cs ++ bs) (starts_more (r.base + length (open_text true cs) + 1) fs (found key s place)))
+    goes_on room w (is ∙ member_joined fs key.1 s (found_member key s place) (open_text true cs) refl)
+    (ap (λ bs. all_starts r.base true cs ++ bs) (starts_more (r.base + length (open_text true cs) + 1) fs (found_member key s place)))
     room.fits
 
 -- ---- keys in the text

@@ -3,11 +3,11 @@ use Rattle.std.specs.Prelude.{ℕ, Bool, true, false, List, [], ◌∷◌, ◌++
 use Rattle.jsonb_spec.specs.SortKey.{text_key}
 use Rattle.jsonb_spec.specs.SortKey.Kind as kind
 use Rattle.jsonb_scan.specs.Open.{Open, elements_so_far, members_so_far}
-use Rattle.jsonb_write.specs.Members.{joined, member_key, source_key}
+use Rattle.jsonb_write.specs.Members.{join_pieces, member_key, source_key}
 
 -- the parts' keys one after the other
 abbrev pub keys_joined : List (List ℕ) → List ℕ
-keys_joined keys = joined false keys
+keys_joined keys = join_pieces false keys
 
 -- from the first byte to the end of the last part, in the order of the source
 abbrev pub parts_key : Open → List ℕ

@@ -28,9 +28,9 @@ follow c [] = None
 follow c (key ∷ keys) = if waits_at c key then Some keys else None
 
 -- What is left of the path behind the containers that are open, the innermost first. None where they lead elsewhere.
-abbrev pub left : List (List ℕ) → List Open → Option (List (List ℕ))
-left keys [] = Some keys
-left keys (c ∷ cs) = option_and_then (follow c) (left keys cs)
+abbrev pub path_behind : List (List ℕ) → List Open → Option (List (List ℕ))
+path_behind keys [] = Some keys
+path_behind keys (c ∷ cs) = option_and_then (follow c) (path_behind keys cs)
 
 -- the part in one of the members with this key
 abbrev pub in_members : List ℕ → List (List ℕ) → List Found → Option Tree
@@ -51,14 +51,14 @@ within (elements_so_far ss) (key ∷ keys) = option_and_then (λ i. in_items i 0
 within (members_so_far fs k place) (key ∷ keys) = in_members key keys fs
 
 -- the part in what ended of all that is open
-abbrev pub picked : List (List ℕ) → List Open → Option Tree
-picked keys [] = None
-picked keys (c ∷ cs) = option_or (picked keys cs) (option_and_then (within c) (left keys cs))
+abbrev pub part_of_ended : List (List ℕ) → List Open → Option Tree
+part_of_ended keys [] = None
+part_of_ended keys (c ∷ cs) = option_or (part_of_ended keys cs) (option_and_then (within c) (path_behind keys cs))
 
 -- the part in what ended of all that is open, and in a value where one was due
-abbrev pub picked_with : List (List ℕ) → Source → List Open → Option Tree
-picked_with keys s cs = option_or (picked keys cs) (option_and_then (λ rest. part_at rest (tree_of_source s))
-    (left keys cs))
+abbrev pub part_with_value : List (List ℕ) → Source → List Open → Option Tree
+part_with_value keys s cs = option_or (part_of_ended keys cs) (option_and_then (λ rest. part_at rest (tree_of_source s))
+    (path_behind keys cs))
 
 -- ---- what is left of the path
 
@@ -92,14 +92,14 @@ part_inside s [] = None
 part_inside s (key ∷ keys) = part_at (key ∷ keys) (tree_of_source s)
 
 -- the part in what ended of all that is open, or inside a value where one was due
-abbrev pub picked_inside : List (List ℕ) → Source → List Open → Option Tree
-picked_inside keys s cs = option_or (picked keys cs) (option_and_then (part_inside s) (left keys cs))
+abbrev pub part_with_inside : List (List ℕ) → Source → List Open → Option Tree
+part_with_inside keys s cs = option_or (part_of_ended keys cs) (option_and_then (part_inside s) (path_behind keys cs))
 
 -- ---- what is kept
 
 -- So many keys of the path lead to what the containers wait for, or it isn't on the path.
 abbrev pub Leads : List (List ℕ) → Option ℕ → List Open → Type 0
-Leads keys level cs = left keys cs ≡ rest_at keys level
+Leads keys level cs = path_behind keys cs ≡ rest_at keys level
 
 -- So many elements come before the one on the path, or it is among those that there are, or there is none.
 abbrev pub IsAhead : Option ℕ → Option ℕ → ℕ → Type 0
@@ -127,7 +127,7 @@ abbrev pub HeldFits : List (List ℕ) → ℕ → List PartHeld → List Open �
 HeldFits keys base [] [] = Unit {0}
 HeldFits keys base (array_held f ∷ held) (elements_so_far ss ∷ cs) =
     Leads keys f.place.level cs × ((f.place.start ≡ base + length (open_text true cs))
-    × (IsAhead (option_and_then first_index (left keys cs)) f.ahead (length ss) × HeldFits keys base held cs))
+    × (IsAhead (option_and_then first_index (path_behind keys cs)) f.ahead (length ss) × HeldFits keys base held cs))
 HeldFits keys base (object_held f ∷ held) (members_so_far fs key place ∷ cs) =
     Leads keys f.place.level cs × ((f.place.start ≡ base + length (open_text true cs)) × HeldFits keys base held cs)
 HeldFits keys base held cs = ⊥
@@ -148,14 +148,14 @@ pub record PartStands (document : List ℕ) (room : PartRoom) (due : Bool) (held
   pub stands : TextStands document room.whole due (map text_held held) cs
   pub fits : HeldFits (keys_of room) (length (base_of room.whole)) held cs
   pub leads : due ≡ true → Leads (keys_of room) room.due cs
-  pub part : part_of room ≡ option_map tree_text (picked (keys_of room) cs)
+  pub part : part_of room ≡ option_map tree_text (part_of_ended (keys_of room) cs)
 
 -- A value is written where one was due, and the part, if it ended, was copied.
 pub record PartFilled (document : List ℕ) (room : PartRoom) (s : Source) (held : List PartHeld) (cs : List Open)
     : Type 0 where
   pub filled : TextFilled document room.whole s (map text_held held) cs
   pub fits : HeldFits (keys_of room) (length (base_of room.whole)) held cs
-  pub part : part_of room ≡ option_map tree_text (picked_with (keys_of room) s cs)
+  pub part : part_of room ≡ option_map tree_text (part_with_value (keys_of room) s cs)
 
 -- A value is written that began there, where one was due. The part was copied, if it ended before or inside.
 pub record PartEnds (document : List ℕ) (room : PartRoom) (place : Place) (s : Source) (held : List PartHeld)
@@ -164,7 +164,7 @@ pub record PartEnds (document : List ℕ) (room : PartRoom) (place : Place) (s :
   pub fits : HeldFits (keys_of room) (length (base_of room.whole)) held cs
   pub leads : Leads (keys_of room) place.level cs
   pub starts : place.start ≡ length (base_of room.whole) + length (open_text true cs)
-  pub part : part_of room ≡ option_map tree_text (picked_inside (keys_of room) s cs)
+  pub part : part_of room ≡ option_map tree_text (part_with_inside (keys_of room) s cs)
 
 -- No key comes twice, and the object is written.
 pub record EndsObject (document : List ℕ) (room : PartRoom) (fs : List Found) (held : List PartHeld) (cs : List Open)

@@ -35,7 +35,7 @@ impl<'a> KeyRoom<'a> {
     ghost use Rattle.jsonb_scan.specs.Open.{Open};
     ghost use Rattle.jsonb_scan.specs.QuotedString.{decoded_text};
     ghost use Rattle.jsonb_scan.specs.Open.Open.{elements_so_far, members_so_far};
-    ghost use Rattle.jsonb_spec.specs.Source.{Found, Source, array_source_of, found, string_source};
+    ghost use Rattle.jsonb_spec.specs.Source.{Found, Source, array_source_of, found_member, string_source};
     ghost use Rattle.jsonb_spec.specs.SortKey.Kind as kind;
     ghost use Rattle.jsonb_spec.specs.SortKey.{key_of, number_key, text_key};
     ghost use Rattle.jsonb_spec.specs.Text.{in_quotes};
@@ -376,7 +376,7 @@ impl<'a> KeyRoom<'a> {
             → KeyStands text self.old true (members first ∷ held) (members_so_far fs k place ∷ cs)
             → SeesPart part.entry s → IsSpelled text from to part.entry
             → KeyStands text self.new false (members first ∷ held)
-            (members_so_far (fs ++ found k s place ∷ []) next other ∷ cs)) }
+            (members_so_far (fs ++ found_member k s place ∷ []) next other ∷ cs)) }
         ensures base { base_of self.new ≡ base_of self.old }
     {
         self.part(&part, from, to)
@@ -389,7 +389,7 @@ impl<'a> KeyRoom<'a> {
             → (k : Mark × List ℕ) → (place : ℕ) → (cs : List Open) → (next : Mark × List ℕ) → (other : ℕ)
             → KeyFilled text self.old s (members first ∷ held) (members_so_far fs k place ∷ cs)
             → KeyStands text self.new false (members first ∷ held)
-            (members_so_far (fs ++ found k s place ∷ []) next other ∷ cs) }
+            (members_so_far (fs ++ found_member k s place ∷ []) next other ∷ cs) }
         ensures base { base_of self.new ≡ base_of self.old }
     {}
 

@@ -48,12 +48,12 @@ pub struct PartRoom<'a> {
 impl<'a> PartRoom<'a> {
     ghost use Rattle.jsonb_scan.specs.Open.{Open};
     ghost use Rattle.jsonb_scan.specs.Open.Open.{elements_so_far, members_so_far};
-    ghost use Rattle.jsonb_spec.specs.Source.{Found, Source, array_source_of, found};
+    ghost use Rattle.jsonb_spec.specs.Source.{Found, Source, array_source_of, found_member};
     ghost use Rattle.jsonb_spec.specs.Text.{in_quotes};
     ghost use Rattle.jsonb_spec.specs.Tree.{Mark};
     ghost use Rattle.jsonb_spec.specs.Tree.Mark.{plain};
     ghost use Rattle.jsonb_value.specs.View.{mark_view};
-    ghost use Rattle.jsonb_write.specs.PartRoom.{EndsObject, IsAhead, Leads, PartEnds, PartFilled, PartHeld, PartStands, first_index, first_key, follow_key, keys_of, left, other_keys, part_of, rest_at};
+    ghost use Rattle.jsonb_write.specs.PartRoom.{EndsObject, IsAhead, Leads, PartEnds, PartFilled, PartHeld, PartStands, first_index, first_key, follow_key, keys_of, path_behind, other_keys, part_of, rest_at};
     ghost use Rattle.jsonb_write.specs.PartRoom.PartHeld.{array_held, object_held};
     ghost use Rattle.jsonb_write.specs.PlainText.{ArePlain};
     ghost use Rattle.jsonb_write.specs.TextRoom.{IsSpelled, SeesPart, TellsRepeatOf, base_of, spot_among};
@@ -171,7 +171,7 @@ impl<'a> PartRoom<'a> {
     // How many keys of the path lead to the next item.
     fn item_level(&self, items: &PartItems) -> Option<usize>
         ensures { (ss : List Source) → (cs : List Open) → Leads (keys_of self.now) items.now.place.level cs
-            → IsAhead (option_and_then first_index (left (keys_of self.now) cs)) items.now.ahead (length ss)
+            → IsAhead (option_and_then first_index (path_behind (keys_of self.now) cs)) items.now.ahead (length ss)
             → Leads (keys_of self.now) result (elements_so_far ss ∷ cs) }
     {
         match items.ahead {
@@ -323,7 +323,7 @@ impl<'a> PartRoom<'a> {
             → (k : Mark × List ℕ) → (place : ℕ) → (cs : List Open) → (next : Mark × List ℕ) → (other : ℕ)
             → PartFilled text self.old s (object_held members.now ∷ held) (members_so_far fs k place ∷ cs)
             → PartStands text self.new false (object_held members.now ∷ held)
-            (members_so_far (fs ++ found k s place ∷ []) next other ∷ cs) }
+            (members_so_far (fs ++ found_member k s place ∷ []) next other ∷ cs) }
         ensures keys { keys_of self.new ≡ keys_of self.old }
     {
         self.whole.insert_inner(members.first);
@@ -342,7 +342,7 @@ impl<'a> PartRoom<'a> {
             → PartStands text self.old true (object_held members.now ∷ held) (members_so_far fs k place ∷ cs)
             → SeesPart part.entry s → IsSpelled text from to part.entry
             → PartStands text self.new false (object_held members.now ∷ held)
-            (members_so_far (fs ++ found k s place ∷ []) next other ∷ cs)) }
+            (members_so_far (fs ++ found_member k s place ∷ []) next other ∷ cs)) }
         ensures keys { keys_of self.new ≡ keys_of self.old }
     {
         self.fill(&part, from, to)?;

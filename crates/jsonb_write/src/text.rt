@@ -65,7 +65,7 @@ pub(crate) fn members_from(members: &Vec<Member>, first: usize) -> &[Member]
 impl<'a> TextRoom<'a> {
     ghost use Rattle.jsonb_scan.specs.Open.{Open};
     ghost use Rattle.jsonb_scan.specs.Open.Open.{elements_so_far, members_so_far};
-    ghost use Rattle.jsonb_spec.specs.Source.{Found, Source, array_source_of, found};
+    ghost use Rattle.jsonb_spec.specs.Source.{Found, Source, array_source_of, found_member};
     ghost use Rattle.jsonb_spec.specs.Grammar.StandardNumber.{IsStandardNumber};
     ghost use Rattle.jsonb_spec.specs.Text.{in_quotes};
     ghost use Rattle.jsonb_spec.specs.Text.NumberText.{number_text};
@@ -477,7 +477,7 @@ impl<'a> TextRoom<'a> {
             → TextStands text self.old true (members first ∷ held) (members_so_far fs k place ∷ cs)
             → SeesPart part.entry s → IsSpelled text from to part.entry
             → TextStands text self.new false (members first ∷ held)
-            (members_so_far (fs ++ found k s place ∷ []) next other ∷ cs)) }
+            (members_so_far (fs ++ found_member k s place ∷ []) next other ∷ cs)) }
         ensures base { base_of self.new ≡ base_of self.old }
     {
         self.part(&part, from, to)
@@ -491,7 +491,7 @@ impl<'a> TextRoom<'a> {
             → TextStands text self.old true (members first ∷ held) (members_so_far fs k place ∷ cs)
             → slice_range text from to ≡ source_text s
             → TextStands text self.new false (members first ∷ held)
-            (members_so_far (fs ++ found k s place ∷ []) next other ∷ cs)) }
+            (members_so_far (fs ++ found_member k s place ∷ []) next other ∷ cs)) }
         ensures base { base_of self.new ≡ base_of self.old }
     {
         self.keep_range(from, to)
@@ -504,7 +504,7 @@ impl<'a> TextRoom<'a> {
             → (k : Mark × List ℕ) → (place : ℕ) → (cs : List Open) → (next : Mark × List ℕ) → (other : ℕ)
             → TextFilled text self.old s (members first ∷ held) (members_so_far fs k place ∷ cs)
             → TextStands text self.new false (members first ∷ held)
-            (members_so_far (fs ++ found k s place ∷ []) next other ∷ cs) }
+            (members_so_far (fs ++ found_member k s place ∷ []) next other ∷ cs) }
         ensures base { base_of self.new ≡ base_of self.old }
     {}
 

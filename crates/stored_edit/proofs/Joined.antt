@@ -10,7 +10,7 @@ use Rattle.jsonb_stored.proofs.Standing.{left_of, object_left}
 use Rattle.jsonb_spec.specs.SortKey.{key_of, items_key, members_key}
 use Rattle.jsonb_spec.specs.Text.Range.{IsWithin, AreWithin}
 use Rattle.jsonb_spec.specs.Tree.{Tree, array, object, Trees, no_trees, more_trees, Members}
-use Rattle.stored_edit.specs.Edit.{as_items, joined_items, merged, merged_members}
+use Rattle.stored_edit.specs.Edit.{as_items, joined_items, merge, merged_members}
 use Rattle.stored_edit.specs.Merging.{keys_of_items}
 use Rattle.stored_edit.specs.declared.error.EditError.{EditError}
 use Rattle.stored_edit.specs.declared.error.EditError.TheVariants.{TooDeep}
@@ -92,10 +92,10 @@ members_there t r key rest e begins =
     let o = object_left t r true rest [] (left_of t true rest [] (parent_of t r 0xD1 rest key [] begins (e ∙ sym (append-nil (key_of t))) true refl)) refl in
     record { ms = o.ms; is = sym o.is; readable = record { ascend = o.ascend; proper = o.proper; within = o.within }; stands = o.stands ∙ append-nil (members_key o.ms) }
 
-pub merged_objects : (t u : Tree) (ms ns : Members) → t ≡ object ms → u ≡ object ns → object (merged_members ms ns) ≡ merged t u
-merged_objects t u ms ns e f = ap (λ v. merged (object ms) v) (sym f) ∙ ap (λ v. merged v u) (sym e)
+pub merged_objects : (t u : Tree) (ms ns : Members) → t ≡ object ms → u ≡ object ns → object (merged_members ms ns) ≡ merge t u
+merged_objects t u ms ns e f = ap (λ v. merge (object ms) v) (sym f) ∙ ap (λ v. merge v u) (sym e)
 
-pub merged_items : (t u : Tree) → ((ms ns : Members) → t ≡ object ms → u ≡ object ns → ⊥) → array (joined_items (as_items t) (as_items u)) ≡ merged t u
+pub merged_items : (t u : Tree) → ((ms ns : Members) → t ≡ object ms → u ≡ object ns → ⊥) → array (joined_items (as_items t) (as_items u)) ≡ merge t u
 merged_items (object ms) (object ns) other = absurd (other ms ns refl refl)
 merged_items (object ms) u other = refl
 merged_items t u other = refl

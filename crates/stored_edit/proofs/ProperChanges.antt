@@ -11,7 +11,7 @@ use Rattle.jsonb_spec.specs.Keys.{IsBelowKeys, KeysAscend}
 use Rattle.jsonb_spec.specs.Order.{bytes_cmp}
 use Rattle.jsonb_spec.specs.Proper.{IsProper, AreProper, HaveProperParts}
 use Rattle.jsonb_spec.specs.Tree.{Tree, array, object, Trees, no_trees, more_trees, Members, no_members, more_members, put}
-use Rattle.stored_edit.specs.Edit.{Outcome, stays, goes, becomes, as_items, changed_at, changed_at_step, changed_item, changed_member, changed_part, item_before, joined_items, member_before, merged, merged_members, part_with, remove, set_to, step_named, with_item, with_member, with_part, within, without_part}
+use Rattle.stored_edit.specs.Edit.{Outcome, stays, goes, becomes, as_items, changed_at, changed_at_step, changed_item, changed_member, changed_part, item_before, joined_items, member_before, merge, merged_members, part_with, remove, set_to, step_named, with_item, with_member, with_part, within, without_part}
 
 -- what a change makes of a well-formed part is well-formed
 abbrev IsGood : Outcome → Type 0
@@ -180,7 +180,7 @@ as_items_good : (t : Tree) → IsProper t → AreProper (as_items t)
 as_items_good (array ts) h = h
 as_items_good t h = (h, tt)
 
-pub merged_proper : (t u : Tree) → IsProper t → IsProper u → IsProper (merged t u)
+pub merged_proper : (t u : Tree) → IsProper t → IsProper u → IsProper (merge t u)
 merged_proper (object ms) (object ns) h i = merged_good ms ns h i.1
 merged_proper (object ms) u h i = joined_good (as_items (object ms)) (as_items u) (h, tt) (as_items_good u i)
 merged_proper t u h i = joined_good (as_items t) (as_items u) (as_items_good t h) (as_items_good u i)

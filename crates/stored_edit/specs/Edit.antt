@@ -139,9 +139,9 @@ as_items (array ts) = ts
 as_items t = more_trees t no_trees
 
 -- both values in one, as jsonb `||` has it
-abbrev pub merged : Tree → Tree → Tree
-merged (object ms) (object ns) = object (merged_members ms ns)
-merged t u = array (joined_items (as_items t) (as_items u))
+abbrev pub merge : Tree → Tree → Tree
+merge (object ms) (object ns) = object (merged_members ms ns)
+merge t u = array (joined_items (as_items t) (as_items u))
 
 -- the array with this item at its end; None for another value
 abbrev pub with_item : Tree → Tree → Option Tree

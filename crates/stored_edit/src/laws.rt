@@ -4,7 +4,7 @@ ghost use Rattle.std.specs.Prelude.{◌≡◌, Bool, List, ℕ, Some, IsUtf8};
 ghost use Rattle.std.specs.List.{AllByRecursion};
 ghost use Rattle.jsonb_spec.specs.Proper.{IsProper};
 ghost use Rattle.jsonb_spec.specs.Tree.{Tree};
-ghost use Rattle.stored_edit.specs.Edit.{merged, with_item, with_member, with_part, without_part};
+ghost use Rattle.stored_edit.specs.Edit.{merge, with_item, with_member, with_part, without_part};
 
 /// A well-formed value is well-formed when it is changed: its texts are UTF-8, its numbers fit their forms, and the
 /// names of each object ascend. So the key that a change appends is the sort key of a value, and may be changed again.
@@ -16,5 +16,5 @@ pub fn changed_values_are_proper()
     ensures member { (name : List ℕ) → IsUtf8 name → (t part u : Tree) → IsProper t → IsProper part
         → with_member name part t ≡ Some u → IsProper u }
     ensures item { (t part u : Tree) → IsProper t → IsProper part → with_item part t ≡ Some u → IsProper u }
-    ensures merged { (t u : Tree) → IsProper t → IsProper u → IsProper (merged t u) }
+    ensures merged { (t u : Tree) → IsProper t → IsProper u → IsProper (merge t u) }
 {}

@@ -10,7 +10,7 @@ ghost use Rattle.jsonb_spec.specs.SortKey.Kind as kind;
 ghost use Rattle.jsonb_spec.specs.Text.Appending.{Extends};
 ghost use Rattle.jsonb_spec.specs.Text.Range.{IsWithin, AreWithin};
 ghost use Rattle.jsonb_spec.specs.Tree.{Tree, Members, array, no_members, object};
-ghost use Rattle.stored_edit.specs.Edit.{as_items, joined_items, merged, merged_members, AppendsKey, KeepsOnError};
+ghost use Rattle.stored_edit.specs.Edit.{as_items, joined_items, merge, merged_members, AppendsKey, KeepsOnError};
 ghost use Rattle.stored_edit.specs.Merging.{keys_of_items, IsStep};
 
 use crate::error::EditError;
@@ -33,7 +33,7 @@ use std::cmp::Ordering;
 /// After an error the buffer is as before.
 pub fn append_merged(out: &mut Vec<u8>, left: &[u8], right: &[u8]) -> Result<(), EditError>
     ensures merges { (t u : Tree) → IsReadable t → left.now ≡ key_of t → IsReadable u → right.now ≡ key_of u
-        → AppendsKey (merged t u) result out.old out.new }
+        → AppendsKey (merge t u) result out.old out.new }
     ensures keeps { KeepsOnError result out.old out.new }
 {
     match both_members(left, right) {

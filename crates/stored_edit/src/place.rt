@@ -10,7 +10,7 @@ ghost use Rattle.stored_edit.specs.Edit.{Outcome, changed_at};
 ghost use Rattle.stored_edit.specs.Spots.{SpotIn};
 
 use crate::spot::{Spot, part_spot};
-use jsonb_stored::find::{NoKey, opened};
+use jsonb_stored::find::{NoKey, open_key};
 use jsonb_stored::skip::MAX_DEPTH;
 
 /// Where in a key the part at a path stands, or would stand; whether that is in an object; the last name of the path;
@@ -41,7 +41,7 @@ pub(crate) fn find_place<'k, 'n>(
     let mut left = names;
     let mut room = MAX_DEPTH;
     'names: while let Some((name, others)) = left.split_first() {
-        let Some((object, parts)) = opened(part)? else {
+        let Some((object, parts)) = open_key(part)? else {
             return Ok(None);
         };
         let Some(inner) = room.checked_sub(1) else {

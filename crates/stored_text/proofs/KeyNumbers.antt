@@ -2,7 +2,7 @@
 use Rattle.std.proofs.Common.{◌≡◌, ◌≢◌, ℕ, zero, suc, ◌-◌, ◌≤◌, Bool, true, false, List, ◌∷◌, ◌++◌, map, None, ℤ, pos, negsuc, unsigned_abs, refl, sym, ap, ◌∙◌, arith}
 use Rattle.std.specs.Bool.{nat_lt}
 use Rattle.jsonb_spec.specs.Proper.{IsProperNumber}
-use Rattle.jsonb_spec.specs.SortKey.{number_key, digits_key, turned}
+use Rattle.jsonb_spec.specs.SortKey.{number_key, digits_key, invert_if}
 use Rattle.jsonb_spec.specs.Tree.{Num}
 use Rattle.jsonb_value.proofs.SortKeys.Kinds.{is_small}
 use Rattle.jsonb_value.proofs.SortKeys.Numbers.{positive, negative, head_of}
@@ -20,12 +20,12 @@ zero_there n proper first rest bytes more e is stands = by_whole n.whole refl
     by_whole (pos zero) w = w
     by_whole (pos (suc a)) w =
         let x = head_of n a (ap unsigned_abs w) (is_small n proper) in
-        let key = positive n a w ∙ ap (map (turned false)) x.is in
-        absurd (omega (arith, is, x.low, heads first x.head rest (map (turned false) x.tail ++ more) (sym e ∙ stands ∙ ap (λ k. k ++ more) key)))
+        let key = positive n a w ∙ ap (map (invert_if false)) x.is in
+        absurd (omega (arith, is, x.low, heads first x.head rest (map (invert_if false) x.tail ++ more) (sym e ∙ stands ∙ ap (λ k. k ++ more) key)))
     by_whole (negsuc a) w =
         let x = head_of n a (ap unsigned_abs w) (is_small n proper) in
-        let key = negative n a w ∙ ap (map (turned true)) x.is in
-        absurd (omega (arith, is, x.low, x.high, heads first (255 - x.head) rest (map (turned true) x.tail ++ more) (sym e ∙ stands ∙ ap (λ k. k ++ more) key)))
+        let key = negative n a w ∙ ap (map (invert_if true)) x.is in
+        absurd (omega (arith, is, x.low, x.high, heads first (255 - x.head) rest (map (invert_if true) x.tail ++ more) (sym e ∙ stands ∙ ap (λ k. k ++ more) key)))
 
 module _ (n : Num) (proper : IsProperNumber n) (first : ℕ) (rest bytes more : List ℕ) (e : bytes ≡ first ∷ rest) (other : first ≢ 128) (stands : bytes ≡ number_key n ++ more) where
   abbrev pub sign : Bool
@@ -36,7 +36,7 @@ module _ (n : Num) (proper : IsProperNumber n) (first : ℕ) (rest bytes more : 
 
   -- the digits, and what follows them
   abbrev pub digits_there : List ℕ
-  digits_there = map (turned sign) (digits_key signed.count (unsigned_abs n.whole)) ++ more
+  digits_there = map (invert_if sign) (digits_key signed.count (unsigned_abs n.whole)) ++ more
 
   pub place_there : place_of sign bytes ≡ read_as signed.place digits_there
   place_there = ap (place_of sign) signed.stands ∙ place_read sign signed.place digits_there signed.low

@@ -1,7 +1,7 @@
 -- The digits of a number, spelled pair by pair.
 use Rattle.std.proofs.Common.{◌≡◌, ◌≢◌, ℕ, suc, ◌+◌, ◌-◌, ◌*◌, ◌/◌, ◌%◌, ◌^◌, ◌<◌, ◌≤◌, ◌⊎◌, inl, inr, Bool, List, [], ◌∷◌, ◌++◌, map, set, length, replicate, refl, sym, ap, ap₂, subst, ◌∙◌, arith, append_assoc, length-append}
 use Rattle.std.proofs.Math.Seq.{set-append_seam}
-use Rattle.jsonb_spec.specs.SortKey.{digits_key, turned}
+use Rattle.jsonb_spec.specs.SortKey.{digits_key, invert_if}
 use Rattle.jsonb_value.proofs.SortKeys.Digits.{ten, hundred}
 use Rattle.jsonb_key.specs.Reading.{IsLastPair}
 use Rattle.jsonb_key.proofs.Numbers.{DigitsLeft, Ends, GoesOn, next_pair, all_digits as digits_ended, no_zeros, pair_below_all, no_bytes}
@@ -16,7 +16,7 @@ pub record SpelledLeft (negative : Bool) (C M count : ℕ) (rest more row : List
   pub spelled : row ≡ last_digits count digits ++ replicate (48 - count) 48
 
 abbrev pub Spells : Bool → List ℕ → ℕ → List ℕ → List ℕ → Type 0
-Spells negative bytes count rest row = (C M : ℕ) → M < 10 ^ C → 0 < M → C ≤ 39 → (more : List ℕ) → bytes ≡ map (turned negative) (digits_key C M) ++ more → SpelledLeft negative C M count rest more row
+Spells negative bytes count rest row = (C M : ℕ) → M < 10 ^ C → 0 < M → C ≤ 39 → (more : List ℕ) → bytes ≡ map (invert_if negative) (digits_key C M) ++ more → SpelledLeft negative C M count rest more row
 
 pub none_spelled : (negative : Bool) (bytes row : List ℕ) → row ≡ replicate 48 48 → Spells negative bytes 0 bytes row
 none_spelled negative bytes row zeros_there = λ C M below some few more e. record {
@@ -52,8 +52,8 @@ goes_on_small negative left tail byte others more below g =
     let power : 10 ^ left ≡ 100 * 10 ^ g.count = ap (λ k. 10 ^ k) {x = left} (g.counted ∙ omega arith) ∙ hundred g.count in
     less_back (byte / 2) 100 (10 ^ g.count) (ten g.count) (omega (arith, g.whole, below, power))
 
-module _ (negative : Bool) (bytes : List ℕ) (count : ℕ) (rest row : List ℕ) (byte : ℕ) (others : List ℕ) (b : ℕ) (so_far : Spells negative bytes count rest row) (first : rest ≡ byte ∷ others) (is : b ≡ turned negative byte) where
-  module _ (C M : ℕ) (below : M < 10 ^ C) (some : 0 < M) (few : C ≤ 39) (more : List ℕ) (e : bytes ≡ map (turned negative) (digits_key C M) ++ more) where
+module _ (negative : Bool) (bytes : List ℕ) (count : ℕ) (rest row : List ℕ) (byte : ℕ) (others : List ℕ) (b : ℕ) (so_far : Spells negative bytes count rest row) (first : rest ≡ byte ∷ others) (is : b ≡ invert_if negative byte) where
+  module _ (C M : ℕ) (below : M < 10 ^ C) (some : 0 < M) (few : C ≤ 39) (more : List ℕ) (e : bytes ≡ map (invert_if negative) (digits_key C M) ++ more) where
     abbrev here : SpelledLeft negative C M count rest more row
     here = so_far C M below some few more e
 
@@ -146,7 +146,7 @@ module _ (negative : Bool) (bytes : List ℕ) (count : ℕ) (rest row : List ℕ
         }
 
 -- some byte is left
-pub not_over : (negative : Bool) (bytes : List ℕ) (count : ℕ) (rest row : List ℕ) → Spells negative bytes count rest row → length rest ≡ 0 → (C M : ℕ) → M < 10 ^ C → 0 < M → C ≤ 39 → (more : List ℕ) → bytes ≡ map (turned negative) (digits_key C M) ++ more → ⊥
+pub not_over : (negative : Bool) (bytes : List ℕ) (count : ℕ) (rest row : List ℕ) → Spells negative bytes count rest row → length rest ≡ 0 → (C M : ℕ) → M < 10 ^ C → 0 < M → C ≤ 39 → (more : List ℕ) → bytes ≡ map (invert_if negative) (digits_key C M) ++ more → ⊥
 not_over negative bytes count rest row so_far over C M below some few more e = empty rest over (so_far C M below some few more e)
   where
     empty : (rest : List ℕ) → length rest ≡ 0 → SpelledLeft negative C M count rest more row → ⊥

@@ -3,7 +3,7 @@ ghost use Rattle.std.specs.Prelude.{◌≡◌, ◌+◌, ◌*◌, ◌/◌, ◌%�
 ghost use Rattle.std.specs.Fmt.{sign_text};
 ghost use Rattle.jsonb_spec.specs.Ascii as ascii;
 ghost use Rattle.jsonb_spec.specs.Proper.{IsProperNumber};
-ghost use Rattle.jsonb_spec.specs.SortKey.{number_key, digits_key, turned};
+ghost use Rattle.jsonb_spec.specs.SortKey.{number_key, digits_key, invert_if};
 ghost use Rattle.jsonb_spec.specs.Text.Appending.{Appends};
 ghost use Rattle.jsonb_spec.specs.Text.NumberText.{number_text};
 ghost use Rattle.jsonb_spec.specs.Tree.{Num};
@@ -12,7 +12,7 @@ ghost use Rattle.stored_text.specs.Writes.{IsSpelled, Keeps, Writes, placed_text
 
 use crate::append::append_chunk;
 use jsonb_key::KeyError;
-use jsonb_key::number::{read_place, turned};
+use jsonb_key::number::{invert_if, read_place};
 use jsonb_value::sort_key::kind;
 use std::alloc::AllocError;
 
@@ -73,7 +73,7 @@ fn append_sign(negative: bool, buf: &mut Vec<u8>) -> Result<(), AllocError>
 fn spell<'k>(negative: bool, bytes: &'k [u8], row: &mut [u8; 48]) -> Option<(usize, &'k [u8])>
     requires { row.old ≡ replicate 48 ascii.digit_zero }
     ensures found { (count magnitude : ℕ) → magnitude < 10 ^ count → 0 < magnitude → count ≤ 39 → (more : List ℕ)
-        → bytes.now ≡ map (turned negative) (digits_key count magnitude) ++ more
+        → bytes.now ≡ map (invert_if negative) (digits_key count magnitude) ++ more
         → MatchOption result ⊥ (λ r. IsSpelled count magnitude r.0 row.new × (r.1.now ≡ more)) }
     ensures few { IfSome result (λ r. r.0 ≤ 40) }
     ensures shorter { IfSome result (λ r. length r.1.now ≤ length bytes.now) }
@@ -81,7 +81,7 @@ fn spell<'k>(negative: bool, bytes: &'k [u8], row: &mut [u8; 48]) -> Option<(usi
     let mut rest = bytes;
     let mut count: usize = 0;
     'pairs: while let Some((byte, others)) = rest.split_first() {
-        let byte = turned(negative, *byte);
+        let byte = invert_if(negative, *byte);
         if count > 38 {
             return None;
         }

@@ -63,7 +63,7 @@ fn of_key(alloc: Global, text: &str) -> Result<String, AllocError> {
             let difference = if agrees { "" } else { " differs" };
             format!(in alloc; "ok {key}{difference}")
         }
-        Err(e) => rejected(alloc, &e),
+        Err(e) => rejection(alloc, &e),
     }
 }
 
@@ -99,12 +99,12 @@ fn of_body(alloc: Global, body: &str) -> Result<String, AllocError> {
             let text = hex::encode(alloc, text.as_bytes())?;
             format!(in alloc; "ok {text}")?
         }
-        Err(e) => rejected(alloc, &e)?,
+        Err(e) => rejection(alloc, &e)?,
     };
     format!(in alloc; "{answer} {idx}")
 }
 
-fn rejected(alloc: Global, e: &Error) -> Result<String, AllocError> {
+fn rejection(alloc: Global, e: &Error) -> Result<String, AllocError> {
     let printed = format!(in alloc; "{e}")?;
     let printed = hex::encode(alloc, printed.as_bytes())?;
     format!(in alloc; "no {printed}")
@@ -114,10 +114,10 @@ fn one_text(alloc: Global, mode: Mode, text: &str) -> Result<String, AllocError>
     let Ok(text) = hex::decode(alloc, text) else {
         return unknown(alloc);
     };
-    match described(alloc, mode, &text) {
+    match describe(alloc, mode, &text) {
         Ok(answer) => Ok(answer),
         Err(e) => {
-            let answer = rejected(alloc, &e)?;
+            let answer = rejection(alloc, &e)?;
             let difference = if straight::rejects(alloc, mode, &text, &e)? {
                 ""
             } else {
@@ -167,9 +167,9 @@ fn order<'a>(
 }
 
 // The answer to a text that is read.
-fn described(alloc: Global, mode: Mode, text: &[u8]) -> jsonb::Result<String> {
-    let tree = tree::described(alloc, &JsonAst::parse(alloc, text, mode)?)?;
-    let written = written(alloc, mode, text)?;
+fn describe(alloc: Global, mode: Mode, text: &[u8]) -> jsonb::Result<String> {
+    let tree = tree::describe(alloc, &JsonAst::parse(alloc, text, mode)?)?;
+    let written = text_of(alloc, mode, text)?;
     let word = if agree(alloc, mode, text, &written)? {
         "same"
     } else {
@@ -179,7 +179,7 @@ fn described(alloc: Global, mode: Mode, text: &[u8]) -> jsonb::Result<String> {
     Ok(format!(in alloc; "ok {tree} {written} {word}")?)
 }
 
-fn written(alloc: Global, mode: Mode, text: &[u8]) -> jsonb::Result<Vec<u8>> {
+fn text_of(alloc: Global, mode: Mode, text: &[u8]) -> jsonb::Result<Vec<u8>> {
     let mut written = Vec::new(alloc);
     read(alloc, mode, text)?.write_text(&mut written)?;
     Ok(written)

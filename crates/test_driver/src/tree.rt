@@ -6,7 +6,7 @@ use jsonb::{JsonAst, Number};
 use std::alloc::{AllocError, Global};
 use std::borrow::CowStr;
 
-pub fn described(alloc: Global, ast: &JsonAst<'_>) -> Result<String, AllocError> {
+pub fn describe(alloc: Global, ast: &JsonAst<'_>) -> Result<String, AllocError> {
     let mut out = String::new(alloc);
     put(alloc, &mut out, ast)?;
     Ok(out)

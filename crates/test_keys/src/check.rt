@@ -15,7 +15,7 @@ fn has_value(alloc: Global, bytes: &[u8]) -> Result<bool, AllocError> {
 }
 
 // So many containers in one another, each of which begins and ends with these bytes.
-fn nested(alloc: Global, front: &[u8], back: &[u8], levels: usize) -> Result<Vec<u8>, Fail> {
+fn nested_key(alloc: Global, front: &[u8], back: &[u8], levels: usize) -> Result<Vec<u8>, Fail> {
     let mut key = Vec::new(alloc);
     for _ in 1..levels {
         key.extend_from_slice(front)?;
@@ -38,10 +38,10 @@ fn at_most_512_levels_are_a_key(rt: HostRuntime) -> Result<(), Fail> {
         (513, false),
         (600, false),
     ] {
-        let arrays = nested(alloc, b"\xD2", b"\x00", levels)?;
+        let arrays = nested_key(alloc, b"\xD2", b"\x00", levels)?;
         assert_eq!(rt; is_sort_key(&arrays), is_key);
         assert_eq!(rt; has_value(alloc, &arrays)?, is_key);
-        let objects = nested(alloc, b"\xD1a\x00\x01", b"\x00\x00", levels)?;
+        let objects = nested_key(alloc, b"\xD1a\x00\x01", b"\x00\x00", levels)?;
         assert_eq!(rt; is_sort_key(&objects), is_key);
         assert_eq!(rt; has_value(alloc, &objects)?, is_key);
     }

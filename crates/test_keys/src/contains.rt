@@ -80,7 +80,7 @@ fn contains_what_jsonb_contains(rt: HostRuntime) -> Result<(), Fail> {
 }
 
 // So many arrays or objects in one another.
-fn nested(alloc: Global, front: &[u8], back: &[u8], levels: usize) -> Result<Vec<u8>, Fail> {
+fn nested_key(alloc: Global, front: &[u8], back: &[u8], levels: usize) -> Result<Vec<u8>, Fail> {
     let mut key = Vec::new(alloc);
     for _ in 0..levels {
         key.extend_from_slice(front)?;
@@ -102,9 +102,9 @@ fn contains_itself_up_to_512_levels(rt: HostRuntime) -> Result<(), Fail> {
         (513, Err(NoKey)),
         (5000, Err(NoKey)),
     ] {
-        let arrays = nested(alloc, b"\xD2", b"\x00", levels)?;
+        let arrays = nested_key(alloc, b"\xD2", b"\x00", levels)?;
         assert!(rt; contains(&arrays, &arrays) == answer, "{levels}");
-        let objects = nested(alloc, b"\xD1a\x00\x01", b"\x00\x00", levels)?;
+        let objects = nested_key(alloc, b"\xD1a\x00\x01", b"\x00\x00", levels)?;
         assert!(rt; contains(&objects, &objects) == answer, "{levels}");
     }
     Ok(())

@@ -24,7 +24,7 @@ fn names_of(rt: &(impl AllocGlobal + Abort), path: &[u8]) -> Result<Vec<String>,
 }
 
 // The text of a key that was appended behind a byte, and is one; or none, where nothing was.
-fn appended(
+fn text_behind(
     rt: &(impl AllocGlobal + Abort),
     told: Result<bool, EditError>,
     out: &[u8],
@@ -47,7 +47,7 @@ fn cut<'t>(rt: &impl Abort, row: &'t str) -> (&'t str, &'t str) {
 }
 
 // The text that a row wants, or none.
-fn wanted(word: &str) -> Option<&[u8]> {
+fn expected_text(word: &str) -> Option<&[u8]> {
     if word == "-" {
         None
     } else {
@@ -91,8 +91,8 @@ fn parts_are_removed_as_in_jsonb(rt: HostRuntime) -> Result<(), Fail> {
         let mut out = Vec::from_slice(rt.alloc(), b"x")?;
         let key = key_of(&rt, document.as_bytes())?;
         let told = append_without_part(&mut out, &key, &names_of(&rt, path.as_bytes())?);
-        let found = appended(&rt, told, &out)?;
-        assert_eq!(rt; found.as_deref(), wanted(text), "{row}");
+        let found = text_behind(&rt, told, &out)?;
+        assert_eq!(rt; found.as_deref(), expected_text(text), "{row}");
     }
     Ok(())
 }
@@ -134,8 +134,8 @@ fn expect_set(
     let mut out = Vec::from_slice(rt.alloc(), b"x")?;
     let part = key_of(rt, b"{\"n\":[null]}")?;
     let told = append_with_part(&mut out, key, names, &part, create);
-    let found = appended(rt, told, &out)?;
-    assert_eq!(rt; found.as_deref(), wanted(text), "{create} {text}");
+    let found = text_behind(rt, told, &out)?;
+    assert_eq!(rt; found.as_deref(), expected_text(text), "{create} {text}");
     Ok(())
 }
 
@@ -186,7 +186,7 @@ fn expect_merged(
     let key = key_of(rt, left.as_bytes())?;
     let other = key_of(rt, right.as_bytes())?;
     append_merged(&mut out, &key, &other)?;
-    let found = appended(rt, Ok(true), &out)?;
+    let found = text_behind(rt, Ok(true), &out)?;
     assert_eq!(rt; found.as_deref(), Some(text.as_bytes()), "{left} {right}");
     Ok(())
 }
@@ -222,7 +222,7 @@ fn objects_are_built_as_in_jsonb(rt: HostRuntime) -> Result<(), Fail> {
         let (value, text) = cut(&rt, words);
         let mut out = Vec::from_slice(rt.alloc(), b"x")?;
         let told = append_with_member(&mut out, &object, name, &key_of(&rt, value.as_bytes())?);
-        let found = appended(&rt, told, &out)?;
+        let found = text_behind(&rt, told, &out)?;
         assert_eq!(rt; found.as_deref(), Some(text.as_bytes()), "{row}");
         object = behind_first(&rt, &out)?;
     }
@@ -241,7 +241,7 @@ fn arrays_are_built_as_in_jsonb(rt: HostRuntime) -> Result<(), Fail> {
         let (item, text) = cut(&rt, row);
         let mut out = Vec::from_slice(rt.alloc(), b"x")?;
         let told = append_with_item(&mut out, &array, &key_of(&rt, item.as_bytes())?);
-        let found = appended(&rt, told, &out)?;
+        let found = text_behind(&rt, told, &out)?;
         assert_eq!(rt; found.as_deref(), Some(text.as_bytes()), "{row}");
         array = behind_first(&rt, &out)?;
     }
@@ -253,15 +253,15 @@ fn arrays_take_no_members_and_objects_no_items(rt: HostRuntime) -> Result<(), Fa
     let mut out = Vec::from_slice(rt.alloc(), b"x")?;
     let array = key_of(&rt, b"[1]")?;
     let told = append_with_member(&mut out, &array, "a", &EMPTY_ARRAY);
-    assert_eq!(rt; appended(&rt, told, &out)?, None);
+    assert_eq!(rt; text_behind(&rt, told, &out)?, None);
     let object = key_of(&rt, b"{\"a\":1}")?;
     let told = append_with_item(&mut out, &object, &EMPTY_ARRAY);
-    assert_eq!(rt; appended(&rt, told, &out)?, None);
+    assert_eq!(rt; text_behind(&rt, told, &out)?, None);
     Ok(())
 }
 
 // The key of so many arrays in one another.
-fn nested(rt: &(impl AllocGlobal + Abort), levels: usize) -> Result<Vec<u8>, Fail> {
+fn nested_arrays(rt: &(impl AllocGlobal + Abort), levels: usize) -> Result<Vec<u8>, Fail> {
     let mut key = Vec::new(rt.alloc());
     for _ in 0..levels {
         key.push(kind::ARRAY)?;
@@ -282,8 +282,8 @@ fn at_most_512_levels_are_made(rt: HostRuntime) -> Result<(), Fail> {
         (512, 512, Err(EditError::TooDeep)),
     ] {
         let mut out = Vec::from_slice(rt.alloc(), b"x")?;
-        let key = nested(&rt, levels)?;
-        let item = nested(&rt, more)?;
+        let key = nested_arrays(&rt, levels)?;
+        let item = nested_arrays(&rt, more)?;
         assert_eq!(rt;
             append_with_item(&mut out, &key, &item),
             told,

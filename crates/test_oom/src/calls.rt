@@ -41,16 +41,16 @@ pub fn report<W: Write>(alloc: Global, line: &str, out: &mut W) -> io::Result<()
     say(out, "value", &value(alloc, mode, &text))?;
     say(out, "tree", &tree(alloc, mode, &text))?;
     say(out, "clone", &clone(alloc, mode, &text))?;
-    say(out, "owned", &owned(alloc, mode, &text))?;
+    say(out, "owned", &text_of_owned(alloc, mode, &text))?;
     say(out, "tree_clone", &tree_clone(alloc, mode, &text))?;
     say(out, "document", &document(alloc, mode, &text))?;
     say(out, "document_key", &document_key(alloc, mode, &text))?;
     say(out, "straight", &straight(alloc, mode, &text))?;
     say(out, "straight_key", &straight_key(alloc, mode, &text))?;
     say(out, "document_value", &document_value(alloc, mode, &text))?;
-    say(out, "decoded", &decoded(alloc, mode, &text))?;
+    say(out, "decoded", &text_of_key(alloc, mode, &text))?;
     say(out, "cut_key", &cut_key(alloc, mode, &text))?;
-    say(out, "indented", &indented(alloc, mode, &text))?;
+    say(out, "indented", &indented_text(alloc, mode, &text))?;
     say(out, "part", &part(alloc, mode, &text, b"/1/a"))?;
     say(out, "other_part", &part(alloc, mode, &text, b"/c~1/0"))?;
     say(out, "no_path", &part(alloc, mode, &text, b"/~"))?;
@@ -67,7 +67,7 @@ fn read(alloc: Global, mode: Mode, text: &[u8]) -> Result<Value<'_>> {
     }
 }
 
-fn written(alloc: Global, value: &Value) -> Result<Vec<u8>> {
+fn text_of(alloc: Global, value: &Value) -> Result<Vec<u8>> {
     let mut text = Vec::new(alloc);
     value.write_text(&mut text)?;
     Ok(text)
@@ -86,27 +86,27 @@ fn checks(alloc: Global, mode: Mode, text: &[u8]) -> Result<Vec<u8>> {
 }
 
 fn value(alloc: Global, mode: Mode, text: &[u8]) -> Result<Vec<u8>> {
-    written(alloc, &read(alloc, mode, text)?)
+    text_of(alloc, &read(alloc, mode, text)?)
 }
 
 fn tree(alloc: Global, mode: Mode, text: &[u8]) -> Result<Vec<u8>> {
-    written(
+    text_of(
         alloc,
         &JsonAst::parse(alloc, text, mode)?.into_value(alloc)?,
     )
 }
 
 fn clone(alloc: Global, mode: Mode, text: &[u8]) -> Result<Vec<u8>> {
-    written(alloc, &read(alloc, mode, text)?.clone()?)
+    text_of(alloc, &read(alloc, mode, text)?.clone()?)
 }
 
-fn owned(alloc: Global, mode: Mode, text: &[u8]) -> Result<Vec<u8>> {
-    written(alloc, &read(alloc, mode, text)?.to_owned_value(alloc)?)
+fn text_of_owned(alloc: Global, mode: Mode, text: &[u8]) -> Result<Vec<u8>> {
+    text_of(alloc, &read(alloc, mode, text)?.to_owned_value(alloc)?)
 }
 
 fn tree_clone(alloc: Global, mode: Mode, text: &[u8]) -> Result<Vec<u8>> {
     let tree = JsonAst::parse(alloc, text, mode)?.clone()?;
-    written(alloc, &tree.into_value(alloc)?)
+    text_of(alloc, &tree.into_value(alloc)?)
 }
 
 // A document's text, behind what the buffer held. Where it found no room, the buffer holds that and nothing else.
@@ -114,7 +114,7 @@ fn document(alloc: Global, mode: Mode, text: &[u8]) -> Result<Vec<u8>> {
     let document = Document::parse(alloc, text, mode)?;
     let mut buffer = Vec::from_slice(alloc, b"x")?;
     let done = document.write_text(&mut buffer);
-    kept(alloc, done, buffer)
+    bytes_or_error(alloc, done, buffer)
 }
 
 // A document's sort key, in hexadecimal, behind what the buffer held, which is there after an error too.
@@ -122,7 +122,7 @@ fn document_key(alloc: Global, mode: Mode, text: &[u8]) -> Result<Vec<u8>> {
     let document = Document::parse(alloc, text, mode)?;
     let mut buffer = Vec::from_slice(alloc, b"x")?;
     let done = document.write_sort_key(&mut buffer);
-    let key = kept(alloc, done, buffer)?;
+    let key = bytes_or_error(alloc, done, buffer)?;
     let key = hex::encode(alloc, &key[..])?;
     Ok(Vec::from_slice(alloc, key.as_bytes())?)
 }
@@ -131,19 +131,19 @@ fn document_key(alloc: Global, mode: Mode, text: &[u8]) -> Result<Vec<u8>> {
 fn straight(alloc: Global, mode: Mode, text: &[u8]) -> Result<Vec<u8>> {
     let mut buffer = Vec::from_slice(alloc, b"x")?;
     let done = jsonb::append_text(alloc, text, mode, &mut buffer);
-    kept(alloc, done, buffer)
+    bytes_or_error(alloc, done, buffer)
 }
 
 // Its sort key, in hexadecimal.
 fn straight_key(alloc: Global, mode: Mode, text: &[u8]) -> Result<Vec<u8>> {
     let mut buffer = Vec::from_slice(alloc, b"x")?;
     let done = jsonb::append_sort_key(alloc, text, mode, &mut buffer);
-    let key = kept(alloc, done, buffer)?;
+    let key = bytes_or_error(alloc, done, buffer)?;
     let key = hex::encode(alloc, &key[..])?;
     Ok(Vec::from_slice(alloc, key.as_bytes())?)
 }
 
-fn kept(alloc: Global, done: Result<()>, buffer: Vec<u8>) -> Result<Vec<u8>> {
+fn bytes_or_error(alloc: Global, done: Result<()>, buffer: Vec<u8>) -> Result<Vec<u8>> {
     match done {
         Err(_) if &buffer[..] != b"x".as_slice() => Ok(Vec::from_slice(
             alloc,
@@ -155,14 +155,14 @@ fn kept(alloc: Global, done: Result<()>, buffer: Vec<u8>) -> Result<Vec<u8>> {
 }
 
 fn document_value(alloc: Global, mode: Mode, text: &[u8]) -> Result<Vec<u8>> {
-    written(
+    text_of(
         alloc,
         &Document::parse(alloc, text, mode)?.into_value(alloc)?,
     )
 }
 
 // The text of what the sort key is decoded as.
-fn decoded(alloc: Global, mode: Mode, text: &[u8]) -> Result<Vec<u8>> {
+fn text_of_key(alloc: Global, mode: Mode, text: &[u8]) -> Result<Vec<u8>> {
     let mut key = Vec::new(alloc);
     read(alloc, mode, text)?.write_sort_key(&mut key)?;
     value_of(alloc, &key)
@@ -178,18 +178,18 @@ fn cut_key(alloc: Global, mode: Mode, text: &[u8]) -> Result<Vec<u8>> {
 
 fn value_of(alloc: Global, key: &[u8]) -> Result<Vec<u8>> {
     match value_of_sort_key(alloc, key) {
-        Ok(value) => written(alloc, &value),
+        Ok(value) => text_of(alloc, &value),
         Err(KeyError::Invalid) => Ok(Vec::from_slice(alloc, b"no key")?),
         Err(KeyError::OutOfMemory) => Err(Error::OutOfMemory),
     }
 }
 
 // The text over lines, behind what the buffer held, in hexadecimal.
-fn indented(alloc: Global, mode: Mode, text: &[u8]) -> Result<Vec<u8>> {
+fn indented_text(alloc: Global, mode: Mode, text: &[u8]) -> Result<Vec<u8>> {
     let value = read(alloc, mode, text)?;
     let mut buffer = Vec::from_slice(alloc, b"x")?;
     let done = write_text_indented(&value, 1, &mut buffer);
-    let lines = kept(alloc, done, buffer)?;
+    let lines = bytes_or_error(alloc, done, buffer)?;
     let lines = hex::encode(alloc, &lines[..])?;
     Ok(Vec::from_slice(alloc, lines.as_bytes())?)
 }
@@ -198,7 +198,7 @@ fn indented(alloc: Global, mode: Mode, text: &[u8]) -> Result<Vec<u8>> {
 fn part(alloc: Global, mode: Mode, text: &[u8], path: &[u8]) -> Result<Vec<u8>> {
     let value = read(alloc, mode, text)?;
     match jsonb_pointer::get(alloc, &value, path) {
-        Ok(Some(part)) => written(alloc, part),
+        Ok(Some(part)) => text_of(alloc, part),
         Ok(None) => Ok(Vec::from_slice(alloc, b"no part")?),
         Err(PathError::NoMemory) => Err(Error::OutOfMemory),
         Err(_) => Ok(Vec::from_slice(alloc, b"no path")?),
@@ -207,7 +207,7 @@ fn part(alloc: Global, mode: Mode, text: &[u8], path: &[u8]) -> Result<Vec<u8>> 
 
 fn keys(alloc: Global, mode: Mode, text: &[u8]) -> Result<Vec<u8>> {
     match read(alloc, mode, text)?.object_keys(alloc)? {
-        Some(keys) => written(alloc, &keys),
+        Some(keys) => text_of(alloc, &keys),
         None => Ok(Vec::from_slice(alloc, b"no object")?),
     }
 }
@@ -217,13 +217,13 @@ fn without_room(alloc: Global, mode: Mode, text: &[u8]) -> Result<Vec<u8>> {
     let value = read(alloc, mode, text)?;
     let mut buffer = Vec::from_slice(alloc, b"x")?;
     let done = value.write_text(&mut buffer);
-    kept(alloc, done, buffer)
+    bytes_or_error(alloc, done, buffer)
 }
 
 // Where there is room, no memory is asked for.
 fn with_room(alloc: Global, mode: Mode, text: &[u8]) -> Result<Vec<u8>> {
     let value = read(alloc, mode, text)?;
-    let length = written(alloc, &value)?.len();
+    let length = text_of(alloc, &value)?.len();
     let mut buffer = Vec::with_capacity(alloc, length)?;
     match value.write_text(&mut buffer) {
         Ok(()) => Ok(buffer),
@@ -235,7 +235,7 @@ fn with_room(alloc: Global, mode: Mode, text: &[u8]) -> Result<Vec<u8>> {
 fn body(alloc: Global, text: &[u8]) -> Result<Vec<u8>> {
     let mut idx = 0;
     match jsonb::parse_string(alloc, text, text.len(), &mut idx) {
-        Ok(decoded) => written(alloc, &Value::String(CowStr::Owned(decoded))),
+        Ok(decoded) => text_of(alloc, &Value::String(CowStr::Owned(decoded))),
         Err(Error::OutOfMemory) if idx != 0 => {
             Ok(Vec::from_slice(alloc, b"the index has moved")?)
         }

@@ -25,29 +25,29 @@ fn report_integers<W: Write>(alloc: Global, out: &mut W) -> io::Result<()> {
     say(
         out,
         "add",
-        &printed(alloc, greatest.add(alloc, Number::UInt64(1))),
+        &message_of(alloc, greatest.add(alloc, Number::UInt64(1))),
     )?;
     say(
         out,
         "sub",
-        &printed(alloc, greatest.sub(alloc, Number::UInt64(0))),
+        &message_of(alloc, greatest.sub(alloc, Number::UInt64(0))),
     )?;
     say(
         out,
         "mul",
-        &printed(alloc, least.mul(alloc, Number::Int64(2))),
+        &message_of(alloc, least.mul(alloc, Number::Int64(2))),
     )?;
     say(
         out,
         "rem",
-        &printed(alloc, least.rem(alloc, Number::Int64(-1))),
+        &message_of(alloc, least.rem(alloc, Number::Int64(-1))),
     )?;
     say(
         out,
         "rem_zero",
-        &printed(alloc, greatest.rem(alloc, Number::UInt64(0))),
+        &message_of(alloc, greatest.rem(alloc, Number::UInt64(0))),
     )?;
-    say(out, "neg", &printed(alloc, least.neg(alloc)))
+    say(out, "neg", &message_of(alloc, least.neg(alloc)))
 }
 
 // The messages of arithmetic on decimals.
@@ -56,23 +56,23 @@ fn report_decimals<W: Write>(alloc: Global, out: &mut W) -> io::Result<()> {
         scale: 1,
         value: i64::MIN,
     });
-    say(out, "neg_decimal64", &printed(alloc, short.neg(alloc)))?;
+    say(out, "neg_decimal64", &message_of(alloc, short.neg(alloc)))?;
     let long = Number::Decimal128(Decimal128 {
         scale: 1,
         value: i128::MIN,
     });
-    say(out, "neg_decimal128", &printed(alloc, long.neg(alloc)))
+    say(out, "neg_decimal128", &message_of(alloc, long.neg(alloc)))
 }
 
 // A number as its text.
-fn printed(alloc: Global, answer: Result<Number>) -> Result<Vec<u8>> {
+fn message_of(alloc: Global, answer: Result<Number>) -> Result<Vec<u8>> {
     let mut text = Vec::new(alloc);
     Value::Number(answer?).write_text(&mut text)?;
     Ok(text)
 }
 
 // What is printed of an error.
-fn shown(alloc: Global, error: &Error) -> Result<Vec<u8>> {
+fn text_of(alloc: Global, error: &Error) -> Result<Vec<u8>> {
     let text = format!(in alloc; "{error}")?;
     Ok(Vec::from_slice(alloc, text.as_bytes())?)
 }
@@ -80,12 +80,12 @@ fn shown(alloc: Global, error: &Error) -> Result<Vec<u8>> {
 fn code_clone(alloc: Global) -> Result<Vec<u8>> {
     let key = String::from_str(alloc, "key")?;
     let code = ParseErrorCode::ObjectDuplicateKey(key);
-    shown(alloc, &Error::Syntax(code.clone()?, 7))
+    text_of(alloc, &Error::Syntax(code.clone()?, 7))
 }
 
 fn message_clone(alloc: Global) -> Result<Vec<u8>> {
     let error = Error::Message(String::from_str(alloc, "message")?);
-    shown(alloc, &error.clone()?)
+    text_of(alloc, &error.clone()?)
 }
 
 // An interval whose text has each part.

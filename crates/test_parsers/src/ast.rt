@@ -9,7 +9,7 @@ fn integer<'a>(value: u64) -> JsonAst<'a> {
     JsonAst::Number(Number::UInt64(value))
 }
 
-fn written<'a>(alloc: Global) -> Result<JsonAst<'a>, Fail> {
+fn ast_by_hand<'a>(alloc: Global) -> Result<JsonAst<'a>, Fail> {
     let items = JsonAst::Array(vec![in alloc; JsonAst::Null]?);
     Ok(JsonAst::Object(vec![in alloc;
         (CowStr::Borrowed("a"), integer(1), 4),
@@ -21,7 +21,7 @@ fn written<'a>(alloc: Global) -> Result<JsonAst<'a>, Fail> {
 #[test]
 fn later_members_replace(rt: HostRuntime) -> Result<(), Fail> {
     let alloc = rt.alloc();
-    let value = written(alloc)?.into_value(alloc)?;
+    let value = ast_by_hand(alloc)?.into_value(alloc)?;
     let two = Value::Number(Number::UInt64(2));
     assert_eq!(rt; value.get_by_name_ignore_case("a"), Some(&two));
     let items = Value::Array(vec![in alloc; Value::Null]?);
@@ -45,7 +45,7 @@ fn equal_keys_alone_are_one_member(rt: HostRuntime) -> Result<(), Fail> {
 
 #[test]
 fn clones_are_equal(rt: HostRuntime) -> Result<(), Fail> {
-    let ast = written(rt.alloc())?;
+    let ast = ast_by_hand(rt.alloc())?;
     assert!(rt; ast.clone()? == ast);
     assert!(rt; ast != JsonAst::default());
     Ok(())
@@ -62,7 +62,7 @@ fn each_kind_is_cloned(rt: HostRuntime) -> Result<(), Fail> {
         JsonAst::String(CowStr::Borrowed("a")),
         JsonAst::String(CowStr::Owned(String::from_str(alloc, "a")?)),
         JsonAst::Array(vec![in alloc; JsonAst::Null]?),
-        written(alloc)?,
+        ast_by_hand(alloc)?,
     ]?;
     for ast in &asts {
         assert!(rt; ast.clone()? == *ast);

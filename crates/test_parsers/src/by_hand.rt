@@ -13,7 +13,7 @@ fn decimal128<'a>(scale: u8, value: i128) -> Value<'a> {
     Value::Number(Number::Decimal128(Decimal128 { scale, value }))
 }
 
-fn written(alloc: Global, value: &Value) -> Result<Vec<u8>, Error> {
+fn bytes_of(alloc: Global, value: &Value) -> Result<Vec<u8>, Error> {
     let mut text = Vec::new(alloc);
     value.write_text(&mut text)?;
     Ok(text)
@@ -25,7 +25,7 @@ fn text_of(alloc: Global, mode: Mode, input: &[u8]) -> Result<Vec<u8>, Error> {
         Mode::Standard => parse_value_standard_mode(alloc, input)?,
         Mode::Extended => parse_value(alloc, input)?,
     };
-    written(alloc, &value)
+    bytes_of(alloc, &value)
 }
 
 // The text of the document's value, or that of the error.
@@ -74,7 +74,7 @@ fn scalars(rt: HostRuntime) -> Result<(), Fail> {
             r#""00AF""#,
         ),
     ] {
-        let bytes = written(alloc, &value)?;
+        let bytes = bytes_of(alloc, &value)?;
         assert!(rt; &bytes[..] == text.as_bytes(), "of {text}");
         let got = answer(alloc, Mode::Standard, &bytes)?;
         assert_eq!(rt; got.as_str(), standard, "of {text}");
@@ -85,7 +85,7 @@ fn scalars(rt: HostRuntime) -> Result<(), Fail> {
 }
 
 // So many arrays, each in the next.
-fn nested<'a>(alloc: Global, depth: usize) -> Result<Value<'a>, Fail> {
+fn value_of_depth<'a>(alloc: Global, depth: usize) -> Result<Value<'a>, Fail> {
     let mut value = Value::Array(Vec::new(alloc));
     for _ in 1..depth {
         value = Value::Array(vec![in alloc; value]?);
@@ -96,8 +96,8 @@ fn nested<'a>(alloc: Global, depth: usize) -> Result<Value<'a>, Fail> {
 #[test]
 fn nested_arrays(rt: HostRuntime) -> Result<(), Fail> {
     let alloc = rt.alloc();
-    let deepest = written(alloc, &nested(alloc, 512)?)?;
-    let too_deep = written(alloc, &nested(alloc, 513)?)?;
+    let deepest = bytes_of(alloc, &value_of_depth(alloc, 512)?)?;
+    let too_deep = bytes_of(alloc, &value_of_depth(alloc, 513)?)?;
     assert_eq!(rt; deepest.len(), 1024);
     for mode in [Mode::Standard, Mode::Extended] {
         assert!(rt; text_of(alloc, mode, &deepest)? == deepest);

@@ -22,7 +22,7 @@ fn lines_and_columns(rt: HostRuntime) {
 }
 
 // The index of the byte to show of the text's fault.
-fn shown(alloc: Global, mode: Mode, text: &[u8]) -> Option<usize> {
+fn fault_offset(alloc: Global, mode: Mode, text: &[u8]) -> Option<usize> {
     match JsonAst::parse(alloc, text, mode) {
         Err(Error::Syntax(code, position)) => Some(fault_index(text, &code, position)),
         _ => None,
@@ -59,7 +59,11 @@ fn the_byte_to_show_of_each_code(rt: HostRuntime) {
         (Mode::Standard, b"\"\\u1", 4),
         (Mode::Extended, b"{\xC3", 2),
     ] {
-        assert_eq!(rt; shown(rt.alloc(), mode, text), Some(index), "{text:?}");
+        assert_eq!(rt;
+            fault_offset(rt.alloc(), mode, text),
+            Some(index),
+            "{text:?}"
+        );
     }
 }
 
@@ -78,7 +82,11 @@ fn the_byte_to_show_in_lines(rt: HostRuntime) {
         (Mode::Extended, b"{a:\n1,\na:2\n}", 7, (3, 1)),
         (Mode::Extended, b"{\n  host: 'a\\\n'}", 13, (2, 12)),
     ] {
-        assert_eq!(rt; shown(rt.alloc(), mode, text), Some(index), "{text:?}");
+        assert_eq!(rt;
+            fault_offset(rt.alloc(), mode, text),
+            Some(index),
+            "{text:?}"
+        );
         assert_eq!(rt; line_and_column(text, index), place, "{text:?}");
     }
 }

@@ -84,7 +84,7 @@ fn a_document_is_checked_behind_the_part(rt: HostRuntime) {
 }
 
 // Objects out of order at 40 levels around a string of 2,000 bytes.
-fn nested(alloc: Global) -> Result<Vec<u8>, Error> {
+fn nested_text(alloc: Global) -> Result<Vec<u8>, Error> {
     let mut text = Vec::new(alloc);
     for _ in 0..40 {
         text.extend_from_slice(b"{\"b\":")?;
@@ -101,7 +101,7 @@ fn nested(alloc: Global) -> Result<Vec<u8>, Error> {
 #[test]
 fn much_out_of_order(rt: HostRuntime) -> Result<(), Error> {
     let alloc = rt.alloc();
-    let text = nested(alloc)?;
+    let text = nested_text(alloc)?;
     let inner = ["b"; 39];
     let found = part(alloc, &text, &inner)?;
     assert!(rt;

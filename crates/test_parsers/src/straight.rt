@@ -4,7 +4,7 @@ use jsonb::{Error, JsonAst, Mode, Value, parse_value, parse_value_standard_mode}
 use std::alloc::Global;
 use std::test::Fail;
 
-fn parsed(alloc: Global, mode: Mode, text: &[u8]) -> Result<Value<'_>, Error> {
+fn parse(alloc: Global, mode: Mode, text: &[u8]) -> Result<Value<'_>, Error> {
     match mode {
         Mode::Standard => parse_value_standard_mode(alloc, text),
         Mode::Extended => parse_value(alloc, text),
@@ -14,13 +14,13 @@ fn parsed(alloc: Global, mode: Mode, text: &[u8]) -> Result<Value<'_>, Error> {
 // The serialized form of the text's value, behind a front.
 fn form_of_value(alloc: Global, mode: Mode, text: &[u8]) -> Result<Vec<u8>, Error> {
     let mut form = Vec::from_slice(alloc, b"front")?;
-    parsed(alloc, mode, text)?.write_text(&mut form)?;
+    parse(alloc, mode, text)?.write_text(&mut form)?;
     Ok(form)
 }
 
 fn key_of_value(alloc: Global, mode: Mode, text: &[u8]) -> Result<Vec<u8>, Error> {
     let mut key = Vec::from_slice(alloc, b"front")?;
-    parsed(alloc, mode, text)?.write_sort_key(&mut key)?;
+    parse(alloc, mode, text)?.write_sort_key(&mut key)?;
     Ok(key)
 }
 

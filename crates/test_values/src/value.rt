@@ -114,7 +114,7 @@ fn values_of_other_types(rt: HostRuntime) {
 }
 
 // A value that was made of a text which is gone by the time that it is answered.
-fn kept(alloc: Global) -> Result<Value<'static>, Fail> {
+fn array_of_gone_text(alloc: Global) -> Result<Value<'static>, Fail> {
     let text = String::from_str(alloc, "home")?;
     let items = vec![in alloc; phone(alloc, text.as_str(), 3720453)?, Value::Bool(true)]?;
     Ok(Value::Array(items).to_owned_value(alloc)?)
@@ -124,7 +124,7 @@ fn kept(alloc: Global) -> Result<Value<'static>, Fail> {
 fn owned_values_outlive_their_text(rt: HostRuntime) -> Result<(), Fail> {
     let alloc = rt.alloc();
     let items = vec![in alloc; phone(alloc, "home", 3720453)?, Value::Bool(true)]?;
-    assert_eq!(rt; kept(alloc)?, Value::Array(items));
+    assert_eq!(rt; array_of_gone_text(alloc)?, Value::Array(items));
     for value in &[Value::Null, integer(1), Value::String(CowStr::Borrowed(""))] {
         assert_eq!(rt; value.to_owned_value(alloc)?, *value);
     }

@@ -18,10 +18,10 @@ use Rattle.jsonb.specs.Handler.{AreSeen, AsScalar, Builds, ElseFails, Misses, fo
 use Rattle.jsonb.specs.Frames.{AllFit, AtPart, BeforeValue, Fits, IsArray, IsObject, IsRead, OpensContainer, ReadsParts, depth_within, finish_container, resume_part, resume_stack, resume_value, scalar_or_null}
 use Rattle.jsonb_scan.specs.Answer.{MayAllocate, mode_of}
 use Rattle.jsonb.specs.Parser.{Advances, read_at, rest_of, size_of}
-use Rattle.jsonb_scan.specs.Reading.{Fault, Read, begins, on_byte, rejected, ◌>>=◌}
+use Rattle.jsonb_scan.specs.Reading.{Fault, Read, begins, on_byte, reject, ◌>>=◌}
 use Rattle.jsonb_scan.specs.Reading.Whitespace.{skip_whitespace}
 use Rattle.jsonb_scan.specs.Reading.Container.{array_at, elements_at, is_left_out, members_at, object_at, object_or_fault, value_or_null}
-use Rattle.jsonb_spec.specs.Source.{Found, Source, array_source, found, no_source_members, no_sources, null_source, object_source, object_source_of, source_alone, spot_of}
+use Rattle.jsonb_spec.specs.Source.{Found, Source, array_source, found_member, no_source_members, no_sources, null_source, object_source, object_source_of, source_alone, spot_of}
 use Rattle.jsonb_scan.specs.Reading.Document.{alone_at, value_at}
 use Rattle.jsonb_scan.specs.Reading.Scalar.{scalar_at}
 use Rattle.jsonb.specs.Stack.{elements_from, finish_open, member_start, next_part_at, object_end, part_end, read_members_from, resume, resume_after_part}
@@ -80,17 +80,17 @@ module _ (size : ℕ) (mode : Mode) (depth : ℕ) where
       → resume_after_part size mode depth (elements_so_far front) bytes ≡ (part_end size expected_array_comma_or_end 93 bytes >>= λ x. resume_part size mode depth x.0 (elements_so_far front) x.1)
   element_ends front bytes =
       let g : Bool × List ℕ → Read Source = λ x. resume_part size mode depth x.0 (elements_so_far front) x.1 in
-      let last : Read Bool = on_byte 93 bytes (λ rest. Ok (true, rest)) (rejected size expected_array_comma_or_end 0 bytes) in
+      let last : Read Bool = on_byte 93 bytes (λ rest. Ok (true, rest)) (reject size expected_array_comma_or_end 0 bytes) in
       sym (on_byte-then 44 bytes (λ rest. Ok (false, rest)) last g
-      ∙ ap (λ (o : Read Source). on_byte 44 bytes (λ rest. g (false, rest)) o) (on_byte-then 93 bytes (λ rest. Ok (true, rest)) (rejected size expected_array_comma_or_end 0 bytes) g))
+      ∙ ap (λ (o : Read Source). on_byte 44 bytes (λ rest. g (false, rest)) o) (on_byte-then 93 bytes (λ rest. Ok (true, rest)) (reject size expected_array_comma_or_end 0 bytes) g))
 
   pub member_ends : (front : List Found) (key : Mark × List ℕ) (place : ℕ) (bytes : List ℕ)
       → resume_after_part size mode depth (members_so_far front key place) bytes ≡ (part_end size expected_object_comma_or_end 125 bytes >>= λ x. resume_part size mode depth x.0 (members_so_far front key place) x.1)
   member_ends front key place bytes =
       let g : Bool × List ℕ → Read Source = λ x. resume_part size mode depth x.0 (members_so_far front key place) x.1 in
-      let last : Read Bool = on_byte 125 bytes (λ rest. Ok (true, rest)) (rejected size expected_object_comma_or_end 0 bytes) in
+      let last : Read Bool = on_byte 125 bytes (λ rest. Ok (true, rest)) (reject size expected_object_comma_or_end 0 bytes) in
       sym (on_byte-then 44 bytes (λ rest. Ok (false, rest)) last g
-      ∙ ap (λ (o : Read Source). on_byte 44 bytes (λ rest. g (false, rest)) o) (on_byte-then 125 bytes (λ rest. Ok (true, rest)) (rejected size expected_object_comma_or_end 0 bytes) g))
+      ∙ ap (λ (o : Read Source). on_byte 44 bytes (λ rest. g (false, rest)) o) (on_byte-then 125 bytes (λ rest. Ok (true, rest)) (reject size expected_object_comma_or_end 0 bytes) g))
 
 -- ---- a turn of the loops over parts
 
@@ -109,7 +109,7 @@ after_element p depth front x =
 
 abbrev pub after_member : Parser → ℕ → List Found → Mark × List ℕ → ℕ → Tree × List ℕ → Read Source
 after_member p depth front k place x =
-    part_end (size_of p) expected_object_comma_or_end 125 (skip_whitespace (mode_of p.mode) x.1) >>= λ y. resume_part (size_of p) (mode_of p.mode) depth y.0 (members_so_far (front ++ found k (source_alone x.0) place ∷ []) (plain, []) 0) y.1
+    part_end (size_of p) expected_object_comma_or_end 125 (skip_whitespace (mode_of p.mode) x.1) >>= λ y. resume_part (size_of p) (mode_of p.mode) depth y.0 (members_so_far (front ++ found_member k (source_alone x.0) place ∷ []) (plain, []) 0) y.1
 
 -- an element that holds no others is due, or none
 pub element_turn : (p l s : Parser) (depth : ℕ) (front : List Source) → Advances p l → Advances l s → rest_of s ≡ skip_whitespace (mode_of l.mode) (rest_of l) → begins 91 (rest_of s) ≡ false → begins 123 (rest_of s) ≡ false
@@ -146,7 +146,7 @@ member_turn p s depth front k place a no_array no_object =
     ap (λ (r : Read Source). r >>= finish_open (size_of p) (mode_of p.mode) depth (members_so_far front k place)) (value_alone p s depth a no_array no_object)
     ∙ then-then read (λ (x : Tree × List ℕ). Ok (source_alone x.0, x.1)) (finish_open (size_of p) (mode_of p.mode) depth (members_so_far front k place))
     ∙ then-same read (λ (x : Tree × List ℕ). finish_open (size_of p) (mode_of p.mode) depth (members_so_far front k place) (source_alone x.0, x.1)) (after_member p depth front k place)
-    (λ x. member_ends (size_of p) (mode_of p.mode) depth (front ++ found k (source_alone x.0) place ∷ []) (plain, []) 0 (skip_whitespace (mode_of p.mode) x.1))
+    (λ x. member_ends (size_of p) (mode_of p.mode) depth (front ++ found_member k (source_alone x.0) place ∷ []) (plain, []) 0 (skip_whitespace (mode_of p.mode) x.1))
 
 -- the end of a part, told of the parser that stands there
 pub same_end : (p q : Parser) (code : Code) (close : ℕ) → Advances p q → part_end (size_of q) code close (skip_whitespace (mode_of q.mode) (rest_of q)) ≡ part_end (size_of p) code close (skip_whitespace (mode_of p.mode) (rest_of q))
@@ -313,22 +313,22 @@ module _ {I M K : Type 0} (Old New : Bool → List (Frame I M K) → List Open �
 
   pub array_opened : (p o s q : Parser) (fs gs : List (Frame I M K)) (v : I) (closed : Bool) (whole : Read Source) → Advances p o → Advances p q → rest_of p ≡ 91 ∷ rest_of o → rest_of s ≡ skip_whitespace (mode_of o.mode) (rest_of o)
       → closed ≡ begins 93 (rest_of s) → cond closed (rest_of s ≡ 93 ∷ rest_of q) (q ≡ s) → ((cs : List Open) → Old true (reverse fs) cs → New false (variants.Array v ∷ reverse fs) (elements_so_far [] ∷ cs)) → gs ≡ fs ++ variants.Array v ∷ [] → length gs ≤ max_depth → BeforeValue Old whole p fs → AtPart New whole q gs closed
-  array_opened p o s q fs gs v closed whole a b bracket skipped found closes held e fits due =
+  array_opened p o s q fs gs v closed whole a b bracket skipped found_member closes held e fits due =
       opened p q fs gs (variants.Array v) (elements_so_far []) closed whole b e tt held fits
       (λ depth.
       ap (λ r. value_at (size_of p) (mode_of p.mode) (suc depth) r) bracket
       ∙ array-value (size_of p) (mode_of p.mode) (suc depth) (rest_of o)
-      ∙ array-starts (size_of p) (mode_of p.mode) depth (rest_of o) (rest_of q) closed (closing 93 (mode_of p.mode) (rest_of o) s q closed (skipped ∙ sym (skip_same p o (rest_of o) a)) found closes))
+      ∙ array-starts (size_of p) (mode_of p.mode) depth (rest_of o) (rest_of q) closed (closing 93 (mode_of p.mode) (rest_of o) s q closed (skipped ∙ sym (skip_same p o (rest_of o) a)) found_member closes))
       due
 
   pub object_opened : (p o s q : Parser) (fs gs : List (Frame I M K)) (v : OpenObject M K) (key : Mark × List ℕ) (place : ℕ) (closed : Bool) (whole : Read Source) → Advances p o → Advances p q → rest_of p ≡ 123 ∷ rest_of o → rest_of s ≡ skip_whitespace (mode_of o.mode) (rest_of o)
       → closed ≡ begins 125 (rest_of s) → cond closed (rest_of s ≡ 125 ∷ rest_of q) (q ≡ s) → ((cs : List Open) → Old true (reverse fs) cs → New false (variants.Object v ∷ reverse fs) (members_so_far [] key place ∷ cs)) → gs ≡ fs ++ variants.Object v ∷ [] → length gs ≤ max_depth → BeforeValue Old whole p fs → AtPart New whole q gs closed
-  object_opened p o s q fs gs v key place closed whole a b brace skipped found closes held e fits due =
+  object_opened p o s q fs gs v key place closed whole a b brace skipped found_member closes held e fits due =
       opened p q fs gs (variants.Object v) (members_so_far [] key place) closed whole b e tt held fits
       (λ depth.
       ap (λ r. value_at (size_of p) (mode_of p.mode) (suc depth) r) brace
       ∙ object-value (size_of p) (mode_of p.mode) (suc depth) (rest_of o)
-      ∙ object-starts (size_of p) (mode_of p.mode) depth (rest_of o) (rest_of q) key place closed (closing 125 (mode_of p.mode) (rest_of o) s q closed (skipped ∙ sym (skip_same p o (rest_of o) a)) found closes))
+      ∙ object-starts (size_of p) (mode_of p.mode) depth (rest_of o) (rest_of q) key place closed (closing 125 (mode_of p.mode) (rest_of o) s q closed (skipped ∙ sym (skip_same p o (rest_of o) a)) found_member closes))
       due
 
   -- ---- parts are read
@@ -499,7 +499,7 @@ module _ {I M K : Type 0} (Old New : Bool → List (Frame I M K) → List Open �
   array-joins Full size mode v w s below cs put (elements_so_far ss) fits h = record { fits = tt; held = put ss h; ends = λ depth bytes. element_ends size mode depth (ss ++ s ∷ []) bytes }
   array-joins Full size mode v w s below cs put (members_so_far fs key place) fits h = absurd fits
 
-  pub object-joins : (Full : List (Frame I M K) → List Open → Type 0) (size : ℕ) (mode : Mode) (v w : OpenObject M K) (s : Source) (below : List (Frame I M K)) (cs : List Open) → ((fs : List Found) (k : Mark × List ℕ) (place : ℕ) → Full (variants.Object v ∷ below) (members_so_far fs k place ∷ cs) → New false (variants.Object w ∷ below) (members_so_far (fs ++ found k s place ∷ []) (plain, []) 0 ∷ cs))
+  pub object-joins : (Full : List (Frame I M K) → List Open → Type 0) (size : ℕ) (mode : Mode) (v w : OpenObject M K) (s : Source) (below : List (Frame I M K)) (cs : List Open) → ((fs : List Found) (k : Mark × List ℕ) (place : ℕ) → Full (variants.Object v ∷ below) (members_so_far fs k place ∷ cs) → New false (variants.Object w ∷ below) (members_so_far (fs ++ found_member k s place ∷ []) (plain, []) 0 ∷ cs))
       → (c : Open) → IsObject c → Full (variants.Object v ∷ below) (c ∷ cs) → Joins size mode s c cs (variants.Object w) below expected_object_comma_or_end 125
   object-joins Full size mode v w s below cs put (elements_so_far ss) fits h = absurd fits
-  object-joins Full size mode v w s below cs put (members_so_far fs key place) fits h = record { fits = tt; held = put fs key place h; ends = λ depth bytes. member_ends size mode depth (fs ++ found key s place ∷ []) (plain, []) 0 bytes }
+  object-joins Full size mode v w s below cs put (members_so_far fs key place) fits h = record { fits = tt; held = put fs key place h; ends = λ depth bytes. member_ends size mode depth (fs ++ found_member key s place ∷ []) (plain, []) 0 bytes }

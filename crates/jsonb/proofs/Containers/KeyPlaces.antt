@@ -12,7 +12,7 @@ use Rattle.jsonb_spec.specs.Grammar.IsPadded.{padded}
 use Rattle.jsonb_spec.specs.Mode.{Mode}
 use Rattle.jsonb_spec.specs.Grammar.Scalar.{IsKey}
 use Rattle.jsonb_spec.specs.Tree.{Mark, Member}
-use Rattle.jsonb_scan.specs.Reading.{Read, on_byte, rejected, ◌>>=◌}
+use Rattle.jsonb_scan.specs.Reading.{Read, on_byte, reject, ◌>>=◌}
 use Rattle.jsonb_scan.specs.Reading.Whitespace.{skip_whitespace}
 use Rattle.jsonb_scan.specs.Reading.Container.{after_key, after_part, found_at, joined_at, member_at, padded_at}
 use Rattle.jsonb_spec.specs.Source.{Found, Source, Spot, first_repeat, member_of, spot_of, tree_of_source}
@@ -55,7 +55,7 @@ module _ (mode : Mode) (size : ℕ) (read : List ℕ → Read Source) (sound : I
       let colon : List ℕ = skip_whitespace mode b.0.1 in
       let s = key_sound size mode (skip_whitespace mode bytes) k b.0.1 b.1 in
       let st = key_starts mode s.core k s.spells in
-      elim (on_byte_cases 58 colon (λ (r : List ℕ). padded_at mode read r >>= λ (x : Source × List ℕ). found_at k place x) (rejected size expected_colon 0 colon) (Ok (f, rest)) b.2) [
+      elim (on_byte_cases 58 colon (λ (r : List ℕ). padded_at mode read r >>= λ (x : Source × List ℕ). found_at k place x) (reject size expected_colon 0 colon) (Ok (f, rest)) b.2) [
         | inl t ↦
             let v = bind_ok (padded_at mode read t.0) (λ (x : Source × List ℕ). found_at k place x) (f, rest) t.2 in
             let g : Found = record { mark = k.0; key = k.1; source = v.0.0; place = place } in
@@ -104,7 +104,7 @@ module _ (mode : Mode) (size : ℕ) (read : List ℕ → Read Source) (sound : I
       let b = bind_ok (part bytes) (λ (x : Found × List ℕ). after_part size expected_object_comma_or_end 125 part (joined_at size expected_object_comma_or_end 125 part n) x.0 x.1) (fs, rest) e in
       let f : Found = b.0.0 in
       let middle : List ℕ = b.0.1 in
-      elim (on_byte_cases 44 middle (λ (t : List ℕ). joined_at size expected_object_comma_or_end 125 part n t >>= λ (x : List Found × List ℕ). Ok (f ∷ x.0, x.1)) (on_byte 125 middle (λ (t : List ℕ). Ok (f ∷ [], t)) (rejected size expected_object_comma_or_end 0 middle)) (Ok (fs, rest)) b.2) [
+      elim (on_byte_cases 44 middle (λ (t : List ℕ). joined_at size expected_object_comma_or_end 125 part n t >>= λ (x : List Found × List ℕ). Ok (f ∷ x.0, x.1)) (on_byte 125 middle (λ (t : List ℕ). Ok (f ∷ [], t)) (reject size expected_object_comma_or_end 0 middle)) (Ok (fs, rest)) b.2) [
         | inl t ↦
             let m = member_read mode size read sound bytes f middle b.1 (omega (arith, ap length t.1)) in
             let c = bind_ok (joined_at size expected_object_comma_or_end 125 part n t.0) (λ (x : List Found × List ℕ). Ok (f ∷ x.0, x.1)) (fs, rest) t.2 in
@@ -133,7 +133,7 @@ module _ (mode : Mode) (size : ℕ) (read : List ℕ → Read Source) (sound : I
               m.whole ∙ ap (λ (u : List ℕ). m.core ++ u) middle-is ∙ sym (append_assoc m.core (44 ∷ h.0) (125 ∷ c.0.1)) ∙ ap (λ (u : List ℕ). (m.core ++ 44 ∷ h.0) ++ 125 ∷ u) same.rest,
             )
         | inr g ↦
-            elim (on_byte_cases 125 middle (λ (t : List ℕ). Ok (f ∷ [], t)) (rejected size expected_object_comma_or_end 0 middle) (Ok (fs, rest)) g.1) [
+            elim (on_byte_cases 125 middle (λ (t : List ℕ). Ok (f ∷ [], t)) (reject size expected_object_comma_or_end 0 middle) (Ok (fs, rest)) g.1) [
               | inl t ↦
                   let m = member_read mode size read sound bytes f middle b.1 (omega (arith, ap length t.1)) in
                   let same = same_read (f ∷ []) fs t.0 rest t.2 in

@@ -10,7 +10,7 @@ use Rattle.jsonb_spec.specs.Grammar.Scalar.IsLiteral.{false_word, null_word, tru
 use Rattle.jsonb_spec.specs.Grammar.Scalar.IsScalar.{literal_value, number_value, string_value}
 use Rattle.jsonb_spec.specs.Tree.{Tree}
 use Rattle.jsonb_spec.specs.Tree.Tree.{number}
-use Rattle.jsonb_scan.specs.Reading.Scalar.{folded}
+use Rattle.jsonb_scan.specs.Reading.Scalar.{fold_letter}
 use Rattle.jsonb.proofs.Documents.Spellings.{whole_if_no_number}
 use Rattle.jsonb.proofs.Scalars.Spellings.{IsApart, IsNumberTree, StartsNumber, StartsWord, number_opens, quote_is, quoted_starts, word_starts}
 
@@ -53,7 +53,7 @@ other_first mode b rest none s = none (subst IsApart (let both : b ∷ rest ≡ 
 word_other : (mode : Mode) (c : ℕ) (bytes : List ℕ) → 97 ≤ c → StartsWord mode c bytes → BeginsOther mode bytes
 unfolding BeginsOther
 word_other mode c bytes low s =
-    subst (BeginsOther mode) (sym s.whole) (other_first mode s.first s.others (λ a. true≢false (sym (eq-eqb (folded mode s.first) c s.letter) ∙ a.no_letter mode c low)))
+    subst (BeginsOther mode) (sym s.whole) (other_first mode s.first s.others (λ a. true≢false (sym (eq-eqb (fold_letter mode s.first) c s.letter) ∙ a.no_letter mode c low)))
 
 quote_other : (mode : Mode) (quote : ℕ) (bytes inner : List ℕ) → IsQuote mode quote → bytes ≡ quote ∷ inner → BeginsOther mode bytes
 quote_other mode quote bytes inner is e =

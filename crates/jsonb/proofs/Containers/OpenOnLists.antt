@@ -6,7 +6,7 @@ use Rattle.std.proofs.lemmas.Bool.{cases_lt, cond-false}
 use Rattle.jsonb_spec.specs.Grammar.{Derives, IsElement}
 use Rattle.jsonb_spec.specs.Mode.{Mode}
 use Rattle.jsonb_spec.specs.Tree.{Mark}
-use Rattle.jsonb_scan.specs.Reading.{Fault, Read, begins, on_byte, rejected, ◌>>=◌}
+use Rattle.jsonb_scan.specs.Reading.{Fault, Read, begins, on_byte, reject, ◌>>=◌}
 use Rattle.jsonb_scan.specs.Reading.Whitespace.{skip_whitespace}
 use Rattle.jsonb_scan.specs.Reading.Container.{after_key, after_part, array_at, element_at, elements_at, found_at, is_left_out, joined_at, member_at, members_at, object_at, padded_at, value_or_null}
 use Rattle.jsonb_spec.specs.Source.{Found, Source, array_source, no_source_members, no_sources, null_source, object_source}
@@ -70,7 +70,7 @@ module _ {A : Type 0} (size : ℕ) (code : Code) (close : ℕ) (part : List ℕ 
       (λ x e.
       let fits : length x.1 ≤ length bytes = shrinks bytes x e in
       on_byte-same 44 x.1 (λ (r : List ℕ). joined_at size code close part m r >>= λ (y : List A × List ℕ). Ok (x.0 ∷ y.0, y.1)) (λ (r : List ℕ). joined_at size code close part n r >>= λ (y : List A × List ℕ). Ok (x.0 ∷ y.0, y.1))
-      (on_byte close x.1 (λ (r : List ℕ). Ok (x.0 ∷ [], r)) (rejected size code 0 x.1)) (on_byte close x.1 (λ (r : List ℕ). Ok (x.0 ∷ [], r)) (rejected size code 0 x.1))
+      (on_byte close x.1 (λ (r : List ℕ). Ok (x.0 ∷ [], r)) (reject size code 0 x.1)) (on_byte close x.1 (λ (r : List ℕ). Ok (x.0 ∷ [], r)) (reject size code 0 x.1))
       (λ r less. ap (λ (q : Read (List A)). q >>= λ (y : List A × List ℕ). Ok (x.0 ∷ y.0, y.1)) (enough_turns m n r (omega arith) (omega arith))) refl)
 
   module _ (finish : List A → List ℕ → Read Source) where
@@ -78,15 +78,15 @@ module _ {A : Type 0} (size : ℕ) (code : Code) (close : ℕ) (part : List ℕ 
     after-part : (front : List A) (n : ℕ) (a : A) (more : List ℕ) → length more ≤ n
         → (after_part size code close part (joined_at size code close part n) a more >>= λ (x : List A × List ℕ). finish (front ++ x.0) x.1) ≡ parts_after size code close part finish (front ++ a ∷ []) more
     after-part front n a more fits =
-        on_byte-then 44 more (λ (r : List ℕ). joined_at size code close part n r >>= λ (x : List A × List ℕ). Ok (a ∷ x.0, x.1)) (on_byte close more (λ (r : List ℕ). Ok (a ∷ [], r)) (rejected size code 0 more)) (λ (x : List A × List ℕ). finish (front ++ x.0) x.1)
+        on_byte-then 44 more (λ (r : List ℕ). joined_at size code close part n r >>= λ (x : List A × List ℕ). Ok (a ∷ x.0, x.1)) (on_byte close more (λ (r : List ℕ). Ok (a ∷ [], r)) (reject size code 0 more)) (λ (x : List A × List ℕ). finish (front ++ x.0) x.1)
         ∙ on_byte-same 44 more (λ (r : List ℕ). joined_at size code close part n r >>= (λ (x : List A × List ℕ). Ok (a ∷ x.0, x.1)) >>= λ (x : List A × List ℕ). finish (front ++ x.0) x.1) (parts_from size code close part finish (front ++ a ∷ []))
-        (on_byte close more (λ (r : List ℕ). Ok (a ∷ [], r)) (rejected size code 0 more) >>= λ (x : List A × List ℕ). finish (front ++ x.0) x.1) (on_byte close more (finish (front ++ a ∷ [])) (rejected size code 0 more))
+        (on_byte close more (λ (r : List ℕ). Ok (a ∷ [], r)) (reject size code 0 more) >>= λ (x : List A × List ℕ). finish (front ++ x.0) x.1) (on_byte close more (finish (front ++ a ∷ [])) (reject size code 0 more))
         (λ r less.
         then-then (joined_at size code close part n r) (λ (x : List A × List ℕ). Ok (a ∷ x.0, x.1)) (λ (x : List A × List ℕ). finish (front ++ x.0) x.1)
         ∙ ap (λ (q : Read (List A)). q >>= λ (x : List A × List ℕ). finish (front ++ a ∷ x.0) x.1) (enough_turns n (suc (length r)) r (omega arith) (omega arith))
         ∙ then-same (joined_at size code close part (suc (length r)) r) (λ (x : List A × List ℕ). finish (front ++ a ∷ x.0) x.1) (λ (x : List A × List ℕ). finish ((front ++ a ∷ []) ++ x.0) x.1)
         (λ x. ap (λ (t : List A). finish t x.1) (sym (append_assoc front (a ∷ []) x.0))))
-        (on_byte-then close more (λ (r : List ℕ). Ok (a ∷ [], r)) (rejected size code 0 more) (λ (x : List A × List ℕ). finish (front ++ x.0) x.1))
+        (on_byte-then close more (λ (r : List ℕ). Ok (a ∷ [], r)) (reject size code 0 more) (λ (x : List A × List ℕ). finish (front ++ x.0) x.1))
 
     pub parts-turn : (front : List A) (bytes : List ℕ) → parts_from size code close part finish front bytes ≡ (part bytes >>= λ x. parts_after size code close part finish (front ++ x.0 ∷ []) x.1)
     unfolding joined_at
@@ -152,7 +152,7 @@ module _ (size : ℕ) (mode : Mode) (depth : ℕ) where
       waits k = value_at size mode depth k.1 >>= finish_open size mode depth (members_so_far front k.0.0 k.0.1)
 
       colon : (Mark × List ℕ) × List ℕ → Read ((Mark × List ℕ) × ℕ)
-      colon k = on_byte 58 (skip_whitespace mode k.1) (λ rest. Ok ((k.0, size - length k.1), skip_whitespace mode rest)) (rejected size expected_colon 0 (skip_whitespace mode k.1))
+      colon k = on_byte 58 (skip_whitespace mode k.1) (λ rest. Ok ((k.0, size - length k.1), skip_whitespace mode rest)) (reject size expected_colon 0 (skip_whitespace mode k.1))
 
       padded-found : (key : Mark × List ℕ) (place : ℕ) (r : Read Source) → (r >>= (λ (x : Source × List ℕ). Ok (x.0, skip_whitespace mode x.1)) >>= found_at key place >>= added) ≡ (r >>= finish_open size mode depth (members_so_far front key place))
       padded-found key place (Ok x) = refl
@@ -160,10 +160,10 @@ module _ (size : ℕ) (mode : Mode) (depth : ℕ) where
 
       keyed : (k : (Mark × List ℕ) × List ℕ) → (after_key size mode (value_at size mode depth) k.0 (size - length k.1) (skip_whitespace mode k.1) >>= added) ≡ (colon k >>= waits)
       keyed k =
-          on_byte-then 58 (skip_whitespace mode k.1) (λ (r : List ℕ). padded_at mode (value_at size mode depth) r >>= found_at k.0 (size - length k.1)) (rejected size expected_colon 0 (skip_whitespace mode k.1)) added
+          on_byte-then 58 (skip_whitespace mode k.1) (λ (r : List ℕ). padded_at mode (value_at size mode depth) r >>= found_at k.0 (size - length k.1)) (reject size expected_colon 0 (skip_whitespace mode k.1)) added
           ∙ on_byte-same 58 (skip_whitespace mode k.1) (λ (r : List ℕ). padded_at mode (value_at size mode depth) r >>= found_at k.0 (size - length k.1) >>= added) (λ (r : List ℕ). value_at size mode depth (skip_whitespace mode r) >>= finish_open size mode depth (members_so_far front k.0 (size - length k.1)))
-          (rejected size expected_colon 0 (skip_whitespace mode k.1)) (rejected size expected_colon 0 (skip_whitespace mode k.1)) (λ r less. padded-found k.0 (size - length k.1) (value_at size mode depth (skip_whitespace mode r))) refl
-          ∙ sym (on_byte-then 58 (skip_whitespace mode k.1) (λ (rest : List ℕ). Ok ((k.0, size - length k.1), skip_whitespace mode rest)) (rejected size expected_colon 0 (skip_whitespace mode k.1)) waits)
+          (reject size expected_colon 0 (skip_whitespace mode k.1)) (reject size expected_colon 0 (skip_whitespace mode k.1)) (λ r less. padded-found k.0 (size - length k.1) (value_at size mode depth (skip_whitespace mode r))) refl
+          ∙ sym (on_byte-then 58 (skip_whitespace mode k.1) (λ (rest : List ℕ). Ok ((k.0, size - length k.1), skip_whitespace mode rest)) (reject size expected_colon 0 (skip_whitespace mode k.1)) waits)
 
 -- ---- values
 

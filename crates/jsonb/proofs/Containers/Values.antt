@@ -15,10 +15,10 @@ use Rattle.jsonb_spec.specs.Grammar.Scalar.{IsKey, IsScalar}
 use Rattle.jsonb_spec.specs.Tree.{Mark, Member, Tree, put_all, trees_of}
 use Rattle.jsonb_spec.specs.Tree.Members.{no_members}
 use Rattle.jsonb_spec.specs.Tree.Tree.{array, object}
-use Rattle.jsonb_scan.specs.Reading.{Fault, Read, begins, fault, on_byte, rejected, ◌>>=◌}
+use Rattle.jsonb_scan.specs.Reading.{Fault, Read, begins, fault, on_byte, reject, ◌>>=◌}
 use Rattle.jsonb_scan.specs.Reading.Whitespace.{is_whitespace_start, is_break, opens_comment, skip_closed_whitespace, skip_whitespace}
 use Rattle.jsonb_scan.specs.Reading.Container.{after_key, array_at, element_at, elements_at, found_at, is_left_out, joined_at, member_at, members_at, object_at, object_or_fault, padded_at, value_or_null}
-use Rattle.jsonb_spec.specs.Source.{Found, Source, Spot, array_source, array_source_of, first_repeat, found, member_of, no_source_members, no_sources, null_source, object_source, object_source_of, source_alone, spot_of, tree_of_source}
+use Rattle.jsonb_spec.specs.Source.{Found, Source, Spot, array_source, array_source_of, first_repeat, found_member, member_of, no_source_members, no_sources, null_source, object_source, object_source_of, source_alone, spot_of, tree_of_source}
 use Rattle.jsonb.proofs.Containers.Sources.{alone_tree, array_tree, object_tree}
 use Rattle.jsonb_scan.specs.Reading.Document.{alone_at, at_end, comment_at, document_of, source_from, source_of, nothing_at, too_deep, value_at, value_to_end, value_with}
 use Rattle.jsonb_scan.specs.Reading.Scalar.{key_at, scalar_at}
@@ -167,7 +167,7 @@ module _ (mode : Mode) (Value : List ℕ → Tree → Type 0) (read : List ℕ �
       (key_complete size mode).reads s.core k (s.after ++ colon) s.spells (ends-whitespace s.is_whitespace colon (ends_at 58 (right ++ c ∷ rest) refl)) in
       let skipped : skip_whitespace mode (s.after ++ colon) ≡ colon = skip-whitespace s.is_whitespace colon ∙ skip-stop mode 58 (right ++ c ∷ rest) refl in
       let v = padded_complete tree_of_source mode Value read (value_complete complete) right t c rest vp is_end is_none in (
-        found k v.0 place,
+        found_member k v.0 place,
         ap (λ (u : Tree). (k.1, u)) v.1,
         ap (λ (u : List ℕ). member_at size mode read u) (append_assoc left (58 ∷ right) (c ∷ rest))
             ∙ ap (λ (u : List ℕ). key_at size mode u >>= λ (x : (Mark × List ℕ) × List ℕ). after_key size mode read x.0 (size - length x.1) (skip_whitespace mode x.1)) s.skipped
@@ -194,11 +194,11 @@ module _ (mode : Mode) (Value : List ℕ → Tree → Type 0) (read : List ℕ �
       let place : ℕ = size - length b.0.1 in
       let colon : List ℕ = skip_whitespace mode b.0.1 in
       let key_read : padded_at mode (key_at size mode) bytes ≡ Ok (k, colon) = ap (λ (r : Read (Mark × List ℕ)). r >>= λ (x : (Mark × List ℕ) × List ℕ). Ok (x.0, skip_whitespace mode x.1)) b.1 in
-      elim (on_byte_cases 58 colon (λ (r : List ℕ). padded_at mode read r >>= λ (x : Source × List ℕ). found_at k place x) (rejected size expected_colon 0 colon) (Ok (f, rest)) b.2) [
+      elim (on_byte_cases 58 colon (λ (r : List ℕ). padded_at mode read r >>= λ (x : Source × List ℕ). found_at k place x) (reject size expected_colon 0 colon) (Ok (f, rest)) b.2) [
         | inl t ↦
             let v = bind_ok (padded_at mode read t.0) (λ (x : Source × List ℕ). found_at k place x) (f, rest) t.2 in
             let left = padded_sound mode (IsKey mode) (key_at size mode) (key_sound size mode) bytes k colon key_read (omega (arith, ap length t.1)) in
-            let same = same_read (found k v.0.0 place) f v.0.1 rest v.2 in
+            let same = same_read (found_member k v.0.0 place) f v.0.1 rest v.2 in
             let right = padded_sound mode (Seen Value) read sound t.0 v.0.0 v.0.1 v.1 (omega (arith, left_over, ap length same.rest)) in
             record {
               core = left.core ++ 58 ∷ right.core;

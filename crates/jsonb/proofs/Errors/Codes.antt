@@ -2,7 +2,7 @@
 use Rattle.std.proofs.Common.{◌≡◌, ℕ, ◌+◌, ◌-◌, ◌⊎◌, inl, inr, List, [], ◌∷◌, length, Result, Ok, Err, refl, sym, ap, subst}
 use Rattle.jsonb_spec.specs.Code.{Code}
 use Rattle.jsonb_spec.specs.Code.Code.{depth_limit_exceeded, expected_some_value, invalid_eof, number_not_carried, object_duplicate_key, unexpected_trailing_characters}
-use Rattle.jsonb_scan.specs.Reading.{Fault, fault, rejected, ◌>>=◌}
+use Rattle.jsonb_scan.specs.Reading.{Fault, fault, reject, ◌>>=◌}
 
 -- the codes of which `Stands` says something
 abbrev pub IsTold : Code → Type 0
@@ -30,6 +30,6 @@ bind_err {B = B} (Err d) g f e = let same : d ≡ f = same_err {B = B} d f e in 
 pub silent_fault : {B : Type 0} (code : Code) (place : ℕ) (f : Fault) → ◌≡◌ {A = Result B Fault} (fault code place) (Err f) → (IsTold code → ⊥) → IsTold f.code → ⊥
 silent_fault {B} code place f e silent told = silent (subst (λ (g : Fault). IsTold g.code) (sym (same_err {B = B} (record { code = code; place = place }) f e)) told)
 
-pub silent_rejected : {B : Type 0} (size : ℕ) (code : Code) (step : ℕ) (bytes : List ℕ) (f : Fault) → ◌≡◌ {A = Result B Fault} (rejected size code step bytes) (Err f) → (IsTold code → ⊥) → IsTold f.code → ⊥
+pub silent_rejected : {B : Type 0} (size : ℕ) (code : Code) (step : ℕ) (bytes : List ℕ) (f : Fault) → ◌≡◌ {A = Result B Fault} (reject size code step bytes) (Err f) → (IsTold code → ⊥) → IsTold f.code → ⊥
 silent_rejected {B} size code step [] f e silent told = silent_fault {B = B} invalid_eof size f e (λ n. n) told
 silent_rejected {B} size code step (b ∷ bytes) f e silent told = silent_fault {B = B} code (size - length (b ∷ bytes) + step) f e silent told

@@ -9,7 +9,7 @@ use Rattle.jsonb_spec.specs.Grammar.IsValue.{empty_array, empty_object, full_arr
 use Rattle.jsonb_spec.specs.Mode.{Mode}
 use Rattle.jsonb_spec.specs.Grammar.Scalar.{IsKey, IsScalar}
 use Rattle.jsonb_spec.specs.Tree.{Mark, Member, Tree}
-use Rattle.jsonb_scan.specs.Reading.{Fault, Read, begins, on_byte, rejected, ◌>>=◌}
+use Rattle.jsonb_scan.specs.Reading.{Fault, Read, begins, on_byte, reject, ◌>>=◌}
 use Rattle.jsonb_scan.specs.Reading.Whitespace.{skip_whitespace}
 use Rattle.jsonb_scan.specs.Reading.Container.{after_key, after_part, array_at, element_at, elements_at, found_at, is_left_out, joined_at, member_at, members_at, object_at, object_or_fault, padded_at, value_or_null}
 use Rattle.jsonb_spec.specs.Source.{Found, Source, Spot, array_source, array_source_of, first_repeat, member_of, no_source_members, no_sources, null_source, object_source, object_source_of, source_alone, spot_of, tree_of_source}
@@ -200,7 +200,7 @@ module _ {A : Type 0} (size : ℕ) (code : Code) (close : ℕ) (Spells : List �
         | inr h ↦
             let a : A = h.0.0 in
             let middle : List ℕ = h.0.1 in
-            elim (on_byte_cases 44 middle (λ (t : List ℕ). joined_at size code close part n t >>= λ (x : List A × List ℕ). Ok (a ∷ x.0, x.1)) (on_byte close middle (λ (t : List ℕ). Ok (a ∷ [], t)) (rejected size code 0 middle)) (Err f) h.2) [
+            elim (on_byte_cases 44 middle (λ (t : List ℕ). joined_at size code close part n t >>= λ (x : List A × List ℕ). Ok (a ∷ x.0, x.1)) (on_byte close middle (λ (t : List ℕ). Ok (a ∷ [], t)) (reject size code 0 middle)) (Err f) h.2) [
               | inl t ↦ elim (bind_err (joined_at size code close part n t.0) (λ (x : List A × List ℕ). Ok (a ∷ x.0, x.1)) f t.2) [
                 | inl g ↦
                     let s = sound bytes a middle h.1 (omega (arith, ap length t.1)) in
@@ -215,7 +215,7 @@ module _ {A : Type 0} (size : ℕ) (code : Code) (close : ℕ) (Spells : List �
                     }
                 | inr g ↦ absurd (let never : ◌≡◌ {A = Read (List A)} (Ok (a ∷ g.0.0, g.0.1)) (Err f) = g.2 in cc)
               ]
-              | inr t ↦ elim (on_byte_cases close middle (λ (u : List ℕ). Ok (a ∷ [], u)) (rejected size code 0 middle) (Err f) t.1) [
+              | inr t ↦ elim (on_byte_cases close middle (λ (u : List ℕ). Ok (a ∷ [], u)) (reject size code 0 middle) (Err f) t.1) [
                 | inl g ↦ absurd (let never : ◌≡◌ {A = Read (List A)} (Ok (a ∷ [], g.0)) (Err f) = g.2 in cc)
                 | inr g ↦ absurd (silent_rejected {B = List A × List ℕ} size code 0 middle f g.1 silent told)
               ]
@@ -281,7 +281,7 @@ module _ (mode : Mode) (depth size : ℕ) (read : List ℕ → Read Source) (sou
             let place : ℕ = size - length g.0.1 in
             let colon : List ℕ = skip_whitespace mode g.0.1 in
             let key_read : padded_at mode (key_at size mode) bytes ≡ Ok (k, colon) = ap (λ (r : Read (Mark × List ℕ)). r >>= λ (x : (Mark × List ℕ) × List ℕ). Ok (x.0, skip_whitespace mode x.1)) g.1 in
-            elim (on_byte_cases 58 colon (λ (r : List ℕ). padded_at mode read r >>= λ (x : Source × List ℕ). found_at k place x) (rejected size expected_colon 0 colon) (Err f) g.2) [
+            elim (on_byte_cases 58 colon (λ (r : List ℕ). padded_at mode read r >>= λ (x : Source × List ℕ). found_at k place x) (reject size expected_colon 0 colon) (Err f) g.2) [
               | inl t ↦ elim (bind_err (padded_at mode read t.0) (λ (x : Source × List ℕ). found_at k place x) f t.2) [
                 | inl v ↦ elim (bind_err (read (skip_whitespace mode t.0)) (λ (x : Source × List ℕ). Ok (x.0, skip_whitespace mode x.1)) f v) [
                   | inl w ↦

@@ -14,10 +14,10 @@ use Rattle.jsonb_spec.specs.Grammar.Scalar.IsScalar.{literal_value, number_value
 use Rattle.jsonb_spec.specs.Grammar.StringBody.{Item, escaped_byte, meaning, spelling}
 use Rattle.jsonb_spec.specs.Tree.{Mark, plain, Num, Tree}
 use Rattle.jsonb_spec.specs.Tree.Tree.{boolean, null, number, string}
-use Rattle.jsonb_scan.specs.Reading.{Fault, Read, begins, fault, fault_at, rejected}
+use Rattle.jsonb_scan.specs.Reading.{Fault, Read, begins, fault, fault_at, reject}
 use Rattle.jsonb_scan.specs.Reading.BareKey.{bare_key_at, key_end, key_to, text_key}
-use Rattle.jsonb_scan.specs.Reading.Scalar.{begins_letter, begins_number, false_at, folded, key_at, letters_at, null_at, number_at, number_or_fault, number_value_at, on_single_quote, or_else, quoted_at, scalar_at, true_or_false_at, unquoted_at, word_at, words_at}
-use Rattle.jsonb_scan.specs.Reading.String.{Body, body_of, checked_unit, closed, decoded, escape_at, item_at, items_within, known_escape, meaning_of, non_digit, onto, quote_end, string_at, then_items, unit_at}
+use Rattle.jsonb_scan.specs.Reading.Scalar.{begins_letter, begins_number, false_at, fold_letter, key_at, letters_at, null_at, number_at, number_or_fault, number_value_at, on_single_quote, or_else, quoted_at, scalar_at, true_or_false_at, unquoted_at, word_at, words_at}
+use Rattle.jsonb_scan.specs.Reading.String.{Body, body_of, checked_unit, string_up_to, string_of_body, escape_at, item_at, items_within, known_escape, meaning_of, non_digit, onto, quote_end, string_at, then_items, unit_at}
 use Rattle.jsonb_spec.specs.Errors.{IsNumberSpelling}
 use Rattle.jsonb_scan.proofs.Steps.Tests.{bind_ok, chosen, same_read}
 use Rattle.jsonb.proofs.Errors.Codes.{IsTold, bind_err, same_err, silent_fault, silent_rejected}
@@ -35,7 +35,7 @@ use Rattle.jsonb_scan.proofs.Numbers.Standard.FaultRead.{no_number, not_represen
 letters_silent : (size : ℕ) (mode : Mode) (word bytes : List ℕ) (f : Fault) → letters_at size mode word bytes ≡ Err f → IsTold f.code → ⊥
 letters_silent size mode [] bytes f e told = absurd cc
 letters_silent size mode (c ∷ cs) bytes f e told =
-    elim (on_letter_cases mode c bytes (letters_at size mode cs) (rejected size expected_some_ident 1 bytes) (Err f) e) [
+    elim (on_letter_cases mode c bytes (letters_at size mode cs) (reject size expected_some_ident 1 bytes) (Err f) e) [
       | inl t ↦ letters_silent size mode cs t.1 f t.4 told
       | inr g ↦ silent_rejected {B = List ℕ} size expected_some_ident 1 bytes f g.1 (λ n. n) told
     ]
@@ -108,11 +108,11 @@ string_silent : (size : ℕ) (mode : Mode) (quote : ℕ) (bytes : List ℕ) (f :
 unfolding string_at IsSilentBody
 string_silent size mode quote bytes f e told = by_end (quote_end quote bytes) e
   where
-    by_body : (end : ℕ) (r : Body (Mark × List ℕ)) → IsSilentBody r → decoded size bytes end r ≡ Err f → ⊥
+    by_body : (end : ℕ) (r : Body (Mark × List ℕ)) → IsSilentBody r → string_of_body size bytes end r ≡ Err f → ⊥
     by_body end (Ok x) p h = absurd (let never : ◌≡◌ {A = Read (Mark × List ℕ)} (Ok (x, drop (end + 1) bytes)) (Err f) = h in cc)
     by_body end (Err g) p h = silent_fault {B = (Mark × List ℕ) × List ℕ} g.0 (size - length bytes + 1 + g.1) f h p told
 
-    by_end : (r : Result ℕ ℕ) → closed size mode bytes r ≡ Err f → ⊥
+    by_end : (r : Result ℕ ℕ) → string_up_to size mode bytes r ≡ Err f → ⊥
     by_end (Ok end) h = by_body end (body_of mode (take end bytes)) (body_silent mode (take end bytes)) h
     by_end (Err at) h = silent_fault {B = (Mark × List ℕ) × List ℕ} invalid_eof (size - length bytes + at) f h (λ n. n) told
 
@@ -186,7 +186,7 @@ number_begins : (mode : Mode) (bytes : List ℕ) (n : Num) → IsNumber mode byt
 number_begins mode bytes n is = let s = number_opens mode bytes n is in ap (λ (u : List ℕ). begins_number mode u) s.whole ∙ s.begun s.others
 
 letter_begins : (mode : Mode) (c : ℕ) (bytes : List ℕ) → StartsWord mode c bytes → begins_letter mode c bytes ≡ true
-letter_begins mode c bytes s = ap (begins_letter mode c) s.whole ∙ cond-true (eqb (folded mode s.first) c) true false (eq-eqb (folded mode s.first) c s.letter)
+letter_begins mode c bytes s = ap (begins_letter mode c) s.whole ∙ cond-true (eqb (fold_letter mode s.first) c) true false (eq-eqb (fold_letter mode s.first) c s.letter)
 
 scalar_first : (mode : Mode) (bytes : List ℕ) (t : Tree) → IsScalar mode bytes t → FirstOf mode bytes
 scalar_first mode bytes t (literal_value (null_word is)) = with_letter 110 (inl refl) (letter_begins mode 110 bytes (word_starts mode 110 (codes "ull") bytes is))
@@ -231,7 +231,7 @@ same_first mode b rest more n =
       number_byte = begins_other mode b more rest ∙ n.number_byte;
     }
 
-no_scalar : (mode : Mode) (size : ℕ) (bytes : List ℕ) (f : Fault) → BeginsNoScalar mode bytes → ◌≡◌ {A = Read Tree} (rejected size expected_some_value 1 bytes) (Err f) → IsTold f.code → WrongScalar mode size bytes f.code f.place
+no_scalar : (mode : Mode) (size : ℕ) (bytes : List ℕ) (f : Fault) → BeginsNoScalar mode bytes → ◌≡◌ {A = Read Tree} (reject size expected_some_value 1 bytes) (Err f) → IsTold f.code → WrongScalar mode size bytes f.code f.place
 no_scalar mode size [] f n e told = absurd (silent_fault {B = Tree × List ℕ} invalid_eof size f e (λ x. x) told)
 no_scalar mode size (b ∷ bytes) f n e told =
     subst (λ (h : Fault). WrongScalar mode size (b ∷ bytes) h.code h.place) (same_err {B = Tree × List ℕ} (fault_at size expected_some_value 1 (b ∷ bytes)) f e)
@@ -312,7 +312,7 @@ scalar_rejected size mode bytes f e told =
             | inl w ↦ absurd (word_silent size mode (codes "true") (boolean true) bytes f w.1 told)
             | inr t ↦ elim (chosen (begins_letter mode 102 bytes) (word_at size mode (codes "false") (boolean false) bytes) (number_or_fault size mode bytes) (Err f) t.1) [
               | inl w ↦ absurd (word_silent size mode (codes "false") (boolean false) bytes f w.1 told)
-              | inr g ↦ elim (chosen (begins_number mode bytes) (number_value_at size mode bytes) (rejected size expected_some_value 1 bytes) (Err f) g.1) [
+              | inr g ↦ elim (chosen (begins_number mode bytes) (number_value_at size mode bytes) (reject size expected_some_value 1 bytes) (Err f) g.1) [
                 | inl m ↦ number_value_wrong size mode bytes f m.1 told
                 | inr m ↦
                     no_scalar mode size bytes f
@@ -345,7 +345,7 @@ number_past size mode core n rest t after is e =
     let opened : core ++ rest ≡ s.first ∷ (s.others ++ rest) = ap (λ (u : List ℕ). u ++ rest) s.whole in
     let begun : begins_number mode (core ++ rest) ≡ true = ap (λ (u : List ℕ). begins_number mode u) opened ∙ s.begun (s.others ++ rest) in
     let read : number_or_fault size mode (core ++ rest) ≡ Ok (t, after) = sym (scalar-number size mode core n rest is) ∙ e in
-    elim (chosen (begins_number mode (core ++ rest)) (number_value_at size mode (core ++ rest)) (rejected size expected_some_value 1 (core ++ rest)) (Ok (t, after)) read) [
+    elim (chosen (begins_number mode (core ++ rest)) (number_value_at size mode (core ++ rest)) (reject size expected_some_value 1 (core ++ rest)) (Ok (t, after)) read) [
       | inl m ↦
           let b = bind_ok (number_at size mode (core ++ rest)) (λ (x : Num × List ℕ). Ok (number x.0, x.1)) (t, after) m.1 in
           let same = same_read (number b.0.0) t b.0.1 after b.2 in

@@ -17,12 +17,12 @@ use Rattle.jsonb_spec.specs.Placed.IsElementAt.{empty_element, whole_element}
 use Rattle.jsonb_spec.specs.Placed.IsMemberAt.{key_and_value}
 use Rattle.jsonb_spec.specs.Placed.IsPlaced.{whitespace_alone, value_alone}
 use Rattle.jsonb_spec.specs.Placed.IsValueAt.{empty_array, empty_object, full_array, full_object, scalar}
-use Rattle.jsonb_scan.specs.Reading.{Read, begins, on_byte, rejected, ◌>>=◌}
+use Rattle.jsonb_scan.specs.Reading.{Read, begins, on_byte, reject, ◌>>=◌}
 use Rattle.jsonb_scan.specs.Reading.Whitespace.{opens_comment, skip_whitespace, skip_closed_whitespace}
 use Rattle.jsonb_scan.specs.Reading.Container.{after_key, after_part, array_at, element_at, elements_at, found_at, is_left_out, joined_at, member_at, members_at, object_at, object_or_fault, padded_at, value_or_null}
 use Rattle.jsonb_scan.specs.Reading.Document.{alone_at, at_end, comment_at, nothing_at, source_from, source_of, too_deep, value_at, value_to_end}
 use Rattle.jsonb_scan.specs.Reading.Scalar.{key_at, scalar_at}
-use Rattle.jsonb_spec.specs.Source.{Found, Source, adjacent_repeat, array_source, array_source_of, first_repeat, found, no_source_members, no_sources, null_source, object_source, sort_by, source_alone, source_members_of, spot_of}
+use Rattle.jsonb_spec.specs.Source.{Found, Source, adjacent_repeat, array_source, array_source_of, first_repeat, found_member, no_source_members, no_sources, null_source, object_source, sort_by, source_alone, source_members_of, spot_of}
 use Rattle.jsonb_scan.proofs.Containers.JoinedParts.{IsSound, IsSoundBefore, joined-skip, joined_sound, on_byte_cases}
 use Rattle.jsonb_scan.proofs.Steps.Tests.{bind_ok, chosen, rejected_fails, same_ok, same_read}
 use Rattle.jsonb_scan.proofs.Text.Whitespace.{ends_all, passes, skip-whitespace, skip-skip, skip-stop, skips}
@@ -130,7 +130,7 @@ module _ (mode : Mode) (input : List ℕ) where
         let b = bind_ok (part bytes) (λ (x : A × List ℕ). after_part size code close part (joined_at size code close part n) x.0 x.1) (parts, rest) e in
         let a : A = b.0.0 in
         let middle : List ℕ = b.0.1 in
-        elim (on_byte_cases 44 middle (λ (t : List ℕ). joined_at size code close part n t >>= λ (x : List A × List ℕ). Ok (a ∷ x.0, x.1)) (on_byte close middle (λ (t : List ℕ). Ok (a ∷ [], t)) (rejected size code 0 middle)) (Ok (parts, rest)) b.2) [
+        elim (on_byte_cases 44 middle (λ (t : List ℕ). joined_at size code close part n t >>= λ (x : List A × List ℕ). Ok (a ∷ x.0, x.1)) (on_byte close middle (λ (t : List ℕ). Ok (a ∷ [], t)) (reject size code 0 middle)) (Ok (parts, rest)) b.2) [
           | inl t ↦
               let some : 0 < length middle = omega (arith, ap length t.1) in
               let s = sound bytes a middle b.1 some in
@@ -141,7 +141,7 @@ module _ (mode : Mode) (input : List ℕ) where
               let all = more (at bytes) (at middle) (at (close ∷ c.0.1)) a c.0.0 (places bytes a middle r b.1 some) (has_byte there 44 t.0 t.1) (subst (λ (m : ℕ). AreAll m c.0.0 (at (close ∷ c.0.1))) (next there 44 t.0 t.1) others) in
               subst₂ (λ (ps : List A) (u : List ℕ). AreAll (at bytes) ps (at (close ∷ u))) same.value same.rest all
           | inr f ↦
-              elim (on_byte_cases close middle (λ (t : List ℕ). Ok (a ∷ [], t)) (rejected size code 0 middle) (Ok (parts, rest)) f.1) [
+              elim (on_byte_cases close middle (λ (t : List ℕ). Ok (a ∷ [], t)) (reject size code 0 middle) (Ok (parts, rest)) f.1) [
                 | inl t ↦
                     let same = same_read (a ∷ []) parts t.0 rest t.2 in
                     let last = places bytes a middle r b.1 (omega (arith, ap length t.1)) in
@@ -180,19 +180,19 @@ module _ (mode : Mode) (input : List ℕ) where
         let k : Mark × List ℕ = b.0.0 in
         let place : ℕ = at b.0.1 in
         let colon : List ℕ = skip_whitespace mode b.0.1 in
-        elim (on_byte_cases 58 colon (λ (u : List ℕ). padded_at mode read u >>= λ (x : Source × List ℕ). found_at k place x) (rejected (length input) expected_colon 0 colon) (Ok (f, rest)) b.2) [
+        elim (on_byte_cases 58 colon (λ (u : List ℕ). padded_at mode read u >>= λ (x : Source × List ℕ). found_at k place x) (reject (length input) expected_colon 0 colon) (Ok (f, rest)) b.2) [
           | inl t ↦
               let v = bind_ok (padded_at mode read t.0) (λ (x : Source × List ℕ). found_at k place x) (f, rest) t.2 in
               let w = bind_ok (read (skip_whitespace mode t.0)) (λ (x : Source × List ℕ). Ok (x.0, skip_whitespace mode x.1)) v.0 v.1 in
               let s : Source = w.0.0 in
-              let made = same_read (found k v.0.0 place) f v.0.1 rest v.2 in
+              let made = same_read (found_member k v.0.0 place) f v.0.1 rest v.2 in
               let out = same_read s v.0.0 (skip_whitespace mode w.0.1) v.0.1 w.2 in
               let left_part = round (IsKey mode) (key_at (length input) mode) (key_sound (length input) mode) r k b.0.1 colon b.1 refl (omega (arith, ap length t.1)) in
               let there : IsRest t.0 = after_byte left_part.ends_at 58 t.0 t.1 in
               let right_part = round (Seen Value) read sound there s w.0.1 rest w.1 (out.rest ∙ made.rest) left in
               let due = subst (λ (n : ℕ). HasWhitespace mode input n (at (skip_whitespace mode t.0))) (next left_part.ends_at 58 t.0 t.1) right_part.front in
               let member = key_and_value left_part.front left_part.is left_part.back (has_byte left_part.ends_at 58 t.0 t.1) due (places (skip_whitespace mode t.0) s w.0.1 right_part.begins_at w.1) right_part.back in
-              let same : found k s place ≡ f = ap (λ (u : Source). found k u place) out.value ∙ made.value in
+              let same : found_member k s place ≡ f = ap (λ (u : Source). found_member k u place) out.value ∙ made.value in
               subst (λ (g : Found). IsMemberAt mode input (at bytes) g (at rest)) same member
           | inr g ↦ absurd (rejected_fails (length input) expected_colon 0 colon (f, rest) g.1)
         ]

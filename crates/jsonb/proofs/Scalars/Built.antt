@@ -16,7 +16,7 @@ use Rattle.jsonb_scan.specs.Reading.Number.{is_number_start, standard_number_at}
 use Rattle.jsonb_scan.specs.Reading.Scalar.{begins_letter, begins_number, false_at, letters_at, null_at, number_at, number_or_fault, number_value_at, or_else, other_scalar_at, quoted_at, scalar_at, true_or_false_at, word_at, words_at}
 use Rattle.jsonb_scan.specs.Reading.String.{string_at}
 use Rattle.jsonb_scan.specs.Open.{Open, elements_so_far, members_so_far}
-use Rattle.jsonb_spec.specs.Source.{Found, Source, found, number_source, source_alone}
+use Rattle.jsonb_spec.specs.Source.{Found, Source, found_member, number_source, source_alone}
 use Rattle.jsonb_spec.specs.Grammar.StandardNumber.{IsStandardNumber}
 use Rattle.jsonb_scan.specs.Spelled.{IsSpelled, IsSpelledAt}
 use Rattle.jsonb.specs.Literals.{literal_text, literal_tree}
@@ -92,7 +92,7 @@ module _ {R I M K F : Type 0} (silent : Bool) (Stands : List ℕ → R → Bool 
 
   -- and put in under a key
   pub read_put : (result : Result Unit F) (before : OpenObject M K) (key : K) (t : Tree) (read : Read Tree) (after : OpenObject M K)
-      → OnOk result ((bytes : List ℕ) → (s : Source) → (front : List Found) → (k : Mark × List ℕ) → (place : ℕ) → (fs : List (Frame I M K)) → (cs : List Open) → Stands bytes old true (variants.Object (record { members = before.members; key = key }) ∷ fs) (members_so_far front k place ∷ cs) → Seen s → IsSpelledAt bytes from q.offset s → Stands bytes new false (variants.Object after ∷ fs) (members_so_far (front ++ found k s place ∷ []) (plain, []) 0 ∷ cs))
+      → OnOk result ((bytes : List ℕ) → (s : Source) → (front : List Found) → (k : Mark × List ℕ) → (place : ℕ) → (fs : List (Frame I M K)) → (cs : List Open) → Stands bytes old true (variants.Object (record { members = before.members; key = key }) ∷ fs) (members_so_far front k place ∷ cs) → Seen s → IsSpelledAt bytes from q.offset s → Stands bytes new false (variants.Object after ∷ fs) (members_so_far (front ++ found_member k s place ∷ []) (plain, []) 0 ∷ cs))
       → OnOk result (r ≡ q) → IfErr result (λ _. IsUntold silent r.told) → Seen (source_alone t) → IsSpelledAt text from q.offset (source_alone t) → read ≡ Ok (t, rest_of q) → PutsIn silent r.told Stands text result old before key read new after (rest_of r)
   read_put (Ok x) before key t read after put same memory sees spelled is = (t, is ∙ ap (λ o. Ok (t, rest_of o)) (sym same), λ front k place fs cs stands. put text (source_alone t) front k place fs cs stands sees spelled)
   read_put (Err f) before key t read after put same memory sees spelled is = untold_misses silent r.told read memory
@@ -106,7 +106,7 @@ module _ {R I M K F : Type 0} (silent : Bool) (Stands : List ℕ → R → Bool 
 
   -- and put in under a key
   pub kept_put : (result : Result Unit F) (before : OpenObject M K) (key : K) (t : Tree) (read : Read Tree) (after : OpenObject M K)
-      → OnOk result ((bytes : List ℕ) → (s : Source) → (front : List Found) → (k : Mark × List ℕ) → (place : ℕ) → (fs : List (Frame I M K)) → (cs : List Open) → Stands bytes old true (variants.Object (record { members = before.members; key = key }) ∷ fs) (members_so_far front k place ∷ cs) → slice_range bytes from q.offset ≡ source_text s → Stands bytes new false (variants.Object after ∷ fs) (members_so_far (front ++ found k s place ∷ []) (plain, []) 0 ∷ cs))
+      → OnOk result ((bytes : List ℕ) → (s : Source) → (front : List Found) → (k : Mark × List ℕ) → (place : ℕ) → (fs : List (Frame I M K)) → (cs : List Open) → Stands bytes old true (variants.Object (record { members = before.members; key = key }) ∷ fs) (members_so_far front k place ∷ cs) → slice_range bytes from q.offset ≡ source_text s → Stands bytes new false (variants.Object after ∷ fs) (members_so_far (front ++ found_member k s place ∷ []) (plain, []) 0 ∷ cs))
       → OnOk result (r ≡ q) → IfErr result (λ _. IsUntold silent r.told) → slice_range text from q.offset ≡ source_text (source_alone t) → read ≡ Ok (t, rest_of q) → PutsIn silent r.told Stands text result old before key read new after (rest_of r)
   kept_put (Ok x) before key t read after put same memory there is = (t, is ∙ ap (λ o. Ok (t, rest_of o)) (sym same), λ front k place fs cs stands. put text (source_alone t) front k place fs cs stands there)
   kept_put (Err f) before key t read after put same memory there is = untold_misses silent r.told read memory

@@ -8,7 +8,7 @@ use Rattle.jsonb_spec.specs.Mode.{Mode, standard, extended}
 use Rattle.jsonb.specs.declared.parser.Parser.{Parser}
 use Rattle.jsonb_scan.specs.Answer.{mode_of}
 use Rattle.jsonb.specs.Parser.{rest_of, size_of}
-use Rattle.jsonb_scan.specs.Reading.{begins, rejected}
+use Rattle.jsonb_scan.specs.Reading.{begins, reject}
 use Rattle.jsonb_scan.specs.Reading.Scalar.{begins_letter, begins_number, begins_single_quote, number_or_fault, number_value_at, other_scalar_at, quoted_at, scalar_at, words_at}
 use Rattle.jsonb.proofs.Steps.Outcomes.{unmoved, words_number}
 use Rattle.jsonb_scan.proofs.Containers.JoinedParts.{on_byte-none}
@@ -47,7 +47,7 @@ other_number size mode (b ∷ rest) e =
 pub standard_number : (size : ℕ) (mode : Mode) (bytes : List ℕ) → mode ≡ standard → begins_number standard bytes ≡ true → other_scalar_at size mode bytes ≡ number_value_at size standard bytes
 standard_number size mode bytes is begun =
     ap (λ m. other_scalar_at size m bytes) is ∙ other_number size standard bytes begun
-    ∙ cond-true (begins_number standard bytes) (number_value_at size standard bytes) (rejected size expected_some_value 1 bytes) begun
+    ∙ cond-true (begins_number standard bytes) (number_value_at size standard bytes) (reject size expected_some_value 1 bytes) begun
 
 wider_start : (bytes : List ℕ) → begins_number standard bytes ≡ true → begins_number extended bytes ≡ true
 wider_start [] e = absurd (true≢false (sym e))
@@ -56,4 +56,4 @@ wider_start (b ∷ rest) e = ap (λ begins. begins || (b == 43) || (b == 46) || 
 pub extended_number : (size : ℕ) (mode : Mode) (bytes : List ℕ) → mode ≡ extended → begins_number standard bytes ≡ true → other_scalar_at size mode bytes ≡ number_value_at size extended bytes
 extended_number size mode bytes is begun =
     ap (λ m. other_scalar_at size m bytes) is ∙ other_number size extended bytes begun
-    ∙ cond-true (begins_number extended bytes) (number_value_at size extended bytes) (rejected size expected_some_value 1 bytes) (wider_start bytes begun)
+    ∙ cond-true (begins_number extended bytes) (number_value_at size extended bytes) (reject size expected_some_value 1 bytes) (wider_start bytes begun)

@@ -15,12 +15,12 @@ use Rattle.jsonb_spec.specs.Grammar.Scalar.IsScalar.{literal_value, number_value
 use Rattle.jsonb_spec.specs.Grammar.StandardNumber.{IsExponentMark}
 use Rattle.jsonb_spec.specs.Tree.{Mark, plain, Num, Tree}
 use Rattle.jsonb_spec.specs.Tree.Tree.{boolean, null, number, string}
-use Rattle.jsonb_scan.specs.Reading.{Fault, Read, begins, on_byte, rejected, ◌>>=◌}
+use Rattle.jsonb_scan.specs.Reading.{Fault, Read, begins, on_byte, reject, ◌>>=◌}
 use Rattle.jsonb_scan.specs.Reading.BareKey.{bare_key_at, key_step}
 use Rattle.jsonb_scan.specs.Reading.Whitespace.{is_whitespace_start, is_break}
 use Rattle.jsonb_scan.specs.Reading.ExtendedNumber.{EndsExtended, ContinuesNumberExtended}
 use Rattle.jsonb_scan.specs.Reading.Number.{IsNumberBoundary, ContinuesNumber, is_number_start}
-use Rattle.jsonb_scan.specs.Reading.Scalar.{begins_letter, begins_number, false_at, folded, key_at, letters_at, null_at, number_at, number_or_fault, number_value_at, on_letter, on_single_quote, or_else, quoted_at, scalar_at, true_or_false_at, unquoted_at, word_at, words_at}
+use Rattle.jsonb_scan.specs.Reading.Scalar.{begins_letter, begins_number, false_at, fold_letter, key_at, letters_at, null_at, number_at, number_or_fault, number_value_at, on_letter, on_single_quote, or_else, quoted_at, scalar_at, true_or_false_at, unquoted_at, word_at, words_at}
 use Rattle.jsonb_scan.specs.Reading.String.{string_at}
 use Rattle.jsonb_scan.proofs.Strings.BareKeys.{bare_complete, bare_sound, bare_starts, break_stops}
 use Rattle.jsonb_scan.proofs.Steps.Tests.{bind_ok, chosen, rejected_fails, same_read}
@@ -58,22 +58,22 @@ pub record LettersRead (mode : Mode) (word bytes rest : List ℕ) : Type 0 where
   pub whole : bytes ≡ letters ++ rest
 
 pub on_letter_cases : {X : Type 0} (mode : Mode) (c : ℕ) (bytes : List ℕ) (found : List ℕ → X) (other z : X) → on_letter mode c bytes found other ≡ z
-    → ((b : ℕ) × (rest : List ℕ) × (bytes ≡ b ∷ rest) × (folded mode b ≡ c) × (found rest ≡ z)) ⊎ ((begins_letter mode c bytes ≡ false) × (other ≡ z))
+    → ((b : ℕ) × (rest : List ℕ) × (bytes ≡ b ∷ rest) × (fold_letter mode b ≡ c) × (found rest ≡ z)) ⊎ ((begins_letter mode c bytes ≡ false) × (other ≡ z))
 on_letter_cases mode c [] found other z e = inr (refl, e)
 on_letter_cases mode c (b ∷ bytes) found other z e =
-    elim (chosen (eqb (folded mode b) c) (found bytes) other z e) [
-      | inl t ↦ inl (b, bytes, refl, eqb-true (folded mode b) c t.0, t.1)
-      | inr f ↦ inr (cond-false (eqb (folded mode b) c) true false f.0, f.1)
+    elim (chosen (eqb (fold_letter mode b) c) (found bytes) other z e) [
+      | inl t ↦ inl (b, bytes, refl, eqb-true (fold_letter mode b) c t.0, t.1)
+      | inr f ↦ inr (cond-false (eqb (fold_letter mode b) c) true false f.0, f.1)
     ]
 
-on_letter-found : {X : Type 0} (mode : Mode) (c b : ℕ) (rest : List ℕ) (found : List ℕ → X) (other : X) → folded mode b ≡ c → on_letter mode c (b ∷ rest) found other ≡ found rest
-on_letter-found mode c b rest found other e = cond-true (eqb (folded mode b) c) (found rest) other (eq-eqb (folded mode b) c e)
+on_letter-found : {X : Type 0} (mode : Mode) (c b : ℕ) (rest : List ℕ) (found : List ℕ → X) (other : X) → fold_letter mode b ≡ c → on_letter mode c (b ∷ rest) found other ≡ found rest
+on_letter-found mode c b rest found other e = cond-true (eqb (fold_letter mode b) c) (found rest) other (eq-eqb (fold_letter mode b) c e)
 
 -- words are spelled letter by letter
 pub AreFolded : Mode → List ℕ → List ℕ → Type 0
-AreFolded mode word letters = map (folded mode) letters ≡ word
+AreFolded mode word letters = map (fold_letter mode) letters ≡ word
 
-folded-standard : (letters : List ℕ) → map (folded standard) letters ≡ letters
+folded-standard : (letters : List ℕ) → map (fold_letter standard) letters ≡ letters
 folded-standard [] = refl
 folded-standard (b ∷ letters) = ap (λ (u : List ℕ). b ∷ u) (folded-standard letters)
 
@@ -91,7 +91,7 @@ letters_folded : (size : ℕ) (mode : Mode) (word bytes rest : List ℕ) → let
 unfolding AreFolded
 letters_folded size mode [] bytes rest e = ([], refl, cc)
 letters_folded size mode (c ∷ cs) bytes rest e =
-    elim (on_letter_cases mode c bytes (letters_at size mode cs) (rejected size expected_some_ident 1 bytes) (Ok rest) e) [
+    elim (on_letter_cases mode c bytes (letters_at size mode cs) (reject size expected_some_ident 1 bytes) (Ok rest) e) [
       | inl t ↦
           let later = letters_folded size mode cs t.1 rest t.4 in
           (t.0 ∷ later.0, ap₂ (λ (b : ℕ) (u : List ℕ). b ∷ u) t.3 later.1, t.2 ∙ ap (λ (u : List ℕ). t.0 ∷ u) later.2)
@@ -109,9 +109,9 @@ letters_read size mode [] [] rest is = refl
 letters_read size mode [] (b ∷ letters) rest is = cc
 letters_read size mode (c ∷ cs) [] rest is = cc
 letters_read size mode (c ∷ cs) (b ∷ letters) rest is =
-    let here : folded mode b ≡ c = cc in
-    let later : map (folded mode) letters ≡ cs = cc in
-    on_letter-found mode c b (letters ++ rest) (letters_at size mode cs) (rejected size expected_some_ident 1 (b ∷ (letters ++ rest))) here ∙ letters_read size mode cs letters rest later
+    let here : fold_letter mode b ≡ c = cc in
+    let later : map (fold_letter mode) letters ≡ cs = cc in
+    on_letter-found mode c b (letters ++ rest) (letters_at size mode cs) (reject size expected_some_ident 1 (b ∷ (letters ++ rest))) here ∙ letters_read size mode cs letters rest later
 
 -- each word is read
 pub word_read : (size : ℕ) (mode : Mode) (word letters : List ℕ) (t : Tree) (rest : List ℕ) → IsWord mode word letters → word_at size mode word t (letters ++ rest) ≡ Ok (t, rest)
@@ -133,18 +133,18 @@ pub record StartsWord (mode : Mode) (c : ℕ) (bytes : List ℕ) : Type 0 where
   pub first : ℕ
   pub others : List ℕ
   pub whole : bytes ≡ first ∷ others
-  pub letter : folded mode first ≡ c
+  pub letter : fold_letter mode first ≡ c
 
 folded_starts : (mode : Mode) (c : ℕ) (cs letters : List ℕ) → AreFolded mode (c ∷ cs) letters → StartsWord mode c letters
 unfolding AreFolded
 folded_starts mode c cs [] h = cc
-folded_starts mode c cs (b ∷ letters) h = let here : folded mode b ≡ c = cc in record { first = b; others = letters; whole = refl; letter = here }
+folded_starts mode c cs (b ∷ letters) h = let here : fold_letter mode b ≡ c = cc in record { first = b; others = letters; whole = refl; letter = here }
 
 pub word_starts : (mode : Mode) (c : ℕ) (cs letters : List ℕ) → IsWord mode (c ∷ cs) letters → StartsWord mode c letters
 word_starts mode c cs letters is = folded_starts mode c cs letters (word_folded mode (c ∷ cs) letters is)
 
 -- a letter is in lower case or in upper case
-letter_is : (mode : Mode) (b c : ℕ) → folded mode b ≡ c → (b ≡ c) ⊎ (b + 32 ≡ c)
+letter_is : (mode : Mode) (b c : ℕ) → fold_letter mode b ≡ c → (b ≡ c) ⊎ (b + 32 ≡ c)
 letter_is standard b c e = inl e
 letter_is extended b c e =
     elim (chosen (ltb b 65) b (cond (ltb b 91) (b + 32) b) c e) [
@@ -152,12 +152,12 @@ letter_is extended b c e =
       | inr f ↦ elim (chosen (ltb b 91) (b + 32) b c f.1) [ inl t ↦ inr t.1 | inr g ↦ inl g.1 ]
     ]
 
-pub folded_low : (mode : Mode) (b : ℕ) → b < 65 → folded mode b ≡ b
+pub folded_low : (mode : Mode) (b : ℕ) → b < 65 → fold_letter mode b ≡ b
 folded_low standard b low = refl
 folded_low extended b low = cond-true (ltb b 65) b (cond (ltb b 91) (b + 32) b) (lt-ltb b 65 low)
 
 -- what holds of a letter in both cases holds of the first letter of a word
-by_letter : (P : ℕ → Type 0) (mode : Mode) (b c d : ℕ) → folded mode b ≡ c → d + 32 ≡ c → P c → P d → P b
+by_letter : (P : ℕ → Type 0) (mode : Mode) (b c d : ℕ) → fold_letter mode b ≡ c → d + 32 ≡ c → P c → P d → P b
 by_letter P mode b c d e is lower upper = ⊎_elim (λ (same : b ≡ c). subst P (sym same) lower) (λ (h : b + 32 ≡ c). let same : d ≡ b = omega (arith, h, is) in subst P same upper) (letter_is mode b c e)
 
 -- a byte that begins a word is none of those that a reader looks for first
@@ -168,16 +168,16 @@ record IsLetter (b : ℕ) : Type 0 where
   pub no_quote : eqb b 34 ≡ false
   pub no_single : eqb b 39 ≡ false
 
-letter_n : (mode : Mode) (b : ℕ) → folded mode b ≡ 110 → IsLetter b
+letter_n : (mode : Mode) (b : ℕ) → fold_letter mode b ≡ 110 → IsLetter b
 letter_n mode b e = by_letter IsLetter mode b 110 78 e refl (record { no_break = refl; no_bracket = refl; no_brace = refl; no_quote = refl; no_single = refl }) (record { no_break = refl; no_bracket = refl; no_brace = refl; no_quote = refl; no_single = refl })
 
-letter_t : (mode : Mode) (b : ℕ) → folded mode b ≡ 116 → IsLetter b
+letter_t : (mode : Mode) (b : ℕ) → fold_letter mode b ≡ 116 → IsLetter b
 letter_t mode b e = by_letter IsLetter mode b 116 84 e refl (record { no_break = refl; no_bracket = refl; no_brace = refl; no_quote = refl; no_single = refl }) (record { no_break = refl; no_bracket = refl; no_brace = refl; no_quote = refl; no_single = refl })
 
-letter_f : (mode : Mode) (b : ℕ) → folded mode b ≡ 102 → IsLetter b
+letter_f : (mode : Mode) (b : ℕ) → fold_letter mode b ≡ 102 → IsLetter b
 letter_f mode b e = by_letter IsLetter mode b 102 70 e refl (record { no_break = refl; no_bracket = refl; no_brace = refl; no_quote = refl; no_single = refl }) (record { no_break = refl; no_bracket = refl; no_brace = refl; no_quote = refl; no_single = refl })
 
-begins_letter-of : (mode : Mode) (b c d : ℕ) (rest : List ℕ) → folded mode b ≡ d → begins_letter mode c (b ∷ rest) ≡ cond (eqb d c) true false
+begins_letter-of : (mode : Mode) (b c d : ℕ) (rest : List ℕ) → fold_letter mode b ≡ d → begins_letter mode c (b ∷ rest) ≡ cond (eqb d c) true false
 begins_letter-of mode b c d rest e = ap (λ (x : ℕ). cond (eqb x c) true false) e
 
 -- ---- strings
@@ -256,7 +256,7 @@ pub record IsApart (b : ℕ) : Type 0 where
   pub no_brace : eqb b 123 ≡ false
   pub no_quote : eqb b 34 ≡ false
   pub no_single : eqb b 39 ≡ false
-  pub no_letter : (mode : Mode) (c : ℕ) → 97 ≤ c → eqb (folded mode b) c ≡ false
+  pub no_letter : (mode : Mode) (c : ℕ) → 97 ≤ c → eqb (fold_letter mode b) c ≡ false
 
 differs : (b c : ℕ) → b ≢ c → eqb b c ≡ false
 differs b c h = ne_eqb b c h
@@ -356,7 +356,7 @@ number_value_sound size mode bytes t rest e =
 
 number_scalar_sound : (size : ℕ) (mode : Mode) (bytes : List ℕ) (t : Tree) (rest : List ℕ) → number_or_fault size mode bytes ≡ Ok (t, rest) → Spelled (IsScalar mode) bytes t rest
 number_scalar_sound size mode bytes t rest e =
-    elim (chosen (begins_number mode bytes) (number_value_at size mode bytes) (rejected size expected_some_value 1 bytes) (Ok (t, rest)) e) [
+    elim (chosen (begins_number mode bytes) (number_value_at size mode bytes) (reject size expected_some_value 1 bytes) (Ok (t, rest)) e) [
       | inl h ↦ number_value_sound size mode bytes t rest h.1
       | inr h ↦ absurd (rejected_fails size expected_some_value 1 bytes (t, rest) h.1)
     ]
@@ -407,7 +407,7 @@ pub number_opens : (mode : Mode) (core : List ℕ) (n : Num) → IsNumber mode c
 number_opens standard core n is = let s = number_starts core n is in record { first = s.first; others = s.others; whole = s.whole; begun = λ rest. s.start; apart = number_start_apart s.first s.start }
 number_opens extended core n is = let s = extended_starts core n is in record { first = s.first; others = s.others; whole = s.whole; begun = λ rest. opens_extended s.first s.opens; apart = opens_apart s.first s.opens }
 
-word_begins : (mode : Mode) (c : ℕ) (bytes : List ℕ) → StartsWord mode c bytes → ((b : ℕ) → folded mode b ≡ c → IsLetter b) → StartsScalar bytes
+word_begins : (mode : Mode) (c : ℕ) (bytes : List ℕ) → StartsWord mode c bytes → ((b : ℕ) → fold_letter mode b ≡ c → IsLetter b) → StartsScalar bytes
 word_begins mode c bytes s letter =
     let l = letter s.first s.letter in
     record { first = s.first; others = s.others; whole = s.whole; is_start = l.no_break; bracket = l.no_bracket; brace = l.no_brace }
@@ -444,14 +444,14 @@ number_first size mode b bytes a =
     ∙ cond-false (begins_letter mode 102 (b ∷ bytes)) (word_at size mode (codes "false") (boolean false) (b ∷ bytes)) (number_or_fault size mode (b ∷ bytes)) (other_letter 102 (omega arith))
   where
     other_letter : (c : ℕ) → 97 ≤ c → begins_letter mode c (b ∷ bytes) ≡ false
-    other_letter c low = cond-false (eqb (folded mode b) c) true false (a.no_letter mode c low)
+    other_letter c low = cond-false (eqb (fold_letter mode b) c) true false (a.no_letter mode c low)
 
 number_reads : (size : ℕ) (mode : Mode) (core : List ℕ) (n : Num) (rest : List ℕ) → IsNumber mode core n → Follows rest → scalar_at size mode (core ++ rest) ≡ Ok (number n, rest)
 number_reads size mode core n rest is f =
     let s = number_opens mode core n is in
     let opened : core ++ rest ≡ s.first ∷ (s.others ++ rest) = ap (λ (u : List ℕ). u ++ rest) s.whole in
     ap (λ (u : List ℕ). scalar_at size mode u) opened ∙ number_first size mode s.first (s.others ++ rest) s.apart
-    ∙ cond-true (begins_number mode (s.first ∷ (s.others ++ rest))) (number_value_at size mode (s.first ∷ (s.others ++ rest))) (rejected size expected_some_value 1 (s.first ∷ (s.others ++ rest))) (s.begun (s.others ++ rest))
+    ∙ cond-true (begins_number mode (s.first ∷ (s.others ++ rest))) (number_value_at size mode (s.first ∷ (s.others ++ rest))) (reject size expected_some_value 1 (s.first ∷ (s.others ++ rest))) (s.begun (s.others ++ rest))
     ∙ ap (λ (u : List ℕ). number_value_at size mode u) (sym opened)
     ∙ ap (λ (r : Read Num). r >>= λ (x : Num × List ℕ). Ok (number x.0, x.1)) (by_mode mode is)
   where
@@ -469,7 +469,7 @@ quoted_reads size mode quote core text mark rest is q =
     ∙ ap (λ (s : Read (Mark × List ℕ)). s >>= λ (x : (Mark × List ℕ) × List ℕ). Ok (string x.0.0 x.0.1, x.1)) r.2
 
 -- a word is what is looked for where no quote begins
-word_first : (size : ℕ) (mode : Mode) (c : ℕ) (letters rest : List ℕ) → StartsWord mode c letters → ((b : ℕ) → folded mode b ≡ c → IsLetter b) → scalar_at size mode (letters ++ rest) ≡ words_at size mode (letters ++ rest)
+word_first : (size : ℕ) (mode : Mode) (c : ℕ) (letters rest : List ℕ) → StartsWord mode c letters → ((b : ℕ) → fold_letter mode b ≡ c → IsLetter b) → scalar_at size mode (letters ++ rest) ≡ words_at size mode (letters ++ rest)
 word_first size mode c letters rest s letter =
     let l = letter s.first s.letter in
     let opened : letters ++ rest ≡ s.first ∷ (s.others ++ rest) = ap (λ (u : List ℕ). u ++ rest) s.whole in

@@ -3,8 +3,8 @@ use Rattle.std.proofs.Common.{◌≡◌, ℕ, ◌+◌, true, false, true≢false
 use Rattle.jsonb_spec.specs.Code.Code.{expected_some_ident}
 use Rattle.jsonb_scan.specs.Answer.{Fails, NamesFault}
 use Rattle.jsonb.specs.Parser.{Advances}
-use Rattle.jsonb_scan.specs.Reading.{Fault, rejected}
-use Rattle.jsonb_scan.specs.Reading.Scalar.{begins_letter, begins_single_quote, folded, letters_at, on_letter, on_single_quote}
+use Rattle.jsonb_scan.specs.Reading.{Fault, reject}
+use Rattle.jsonb_scan.specs.Reading.Scalar.{begins_letter, begins_single_quote, fold_letter, letters_at, on_letter, on_single_quote}
 use Rattle.jsonb_spec.specs.Mode.{Mode, standard, extended}
 use Rattle.jsonb_scan.proofs.Steps.Tests.{chosen}
 use Rattle.jsonb_scan.proofs.Containers.JoinedParts.{on_byte-none}
@@ -33,13 +33,13 @@ goes_on p q r a b = record { buf = b.buf ∙ a.buf; mode = b.mode ∙ a.mode; on
 pub on_letter-true : {X : Type 0} (mode : Mode) (c : ℕ) (bytes : List ℕ) (found : List ℕ → X) (other : X) → begins_letter mode c bytes ≡ true → on_letter mode c bytes found other ≡ found (drop 1 bytes)
 on_letter-true mode c [] found other e = absurd (true≢false (sym e))
 on_letter-true mode c (b ∷ bytes) found other e =
-    elim (chosen (eqb (folded mode b) c) true false true e) [
-      | inl t ↦ cond-true (eqb (folded mode b) c) (found bytes) other t.0
+    elim (chosen (eqb (fold_letter mode b) c) true false true e) [
+      | inl t ↦ cond-true (eqb (fold_letter mode b) c) (found bytes) other t.0
       | inr f ↦ absurd (true≢false (sym f.1))
     ]
 
 pub letters-step : (size : ℕ) (mode : Mode) (c : ℕ) (cs bytes : List ℕ) → begins_letter mode c bytes ≡ true → letters_at size mode (c ∷ cs) bytes ≡ letters_at size mode cs (drop 1 bytes)
-letters-step size mode c cs bytes e = on_letter-true mode c bytes (letters_at size mode cs) (rejected size expected_some_ident 1 bytes) e
+letters-step size mode c cs bytes e = on_letter-true mode c bytes (letters_at size mode cs) (reject size expected_some_ident 1 bytes) e
 
 -- ---- single quotes
 

@@ -15,7 +15,7 @@ ghost use Rattle.jsonb_scan.specs.Answer.{mode_of};
 ghost use Rattle.jsonb_scan.specs.Decoding.{TellsBackslash};
 ghost use Rattle.jsonb_scan.specs.Open.{Open, elements_so_far, members_so_far};
 ghost use Rattle.jsonb_scan.specs.Reading.String.{body_of};
-ghost use Rattle.jsonb_spec.specs.Source.{Source, Found, found, null_source, boolean_source, string_source, number_source, array_source_of};
+ghost use Rattle.jsonb_spec.specs.Source.{Source, Found, found_member, null_source, boolean_source, string_source, number_source, array_source_of};
 ghost use Rattle.jsonb_scan.specs.Spelled.{IsSpelledAt, KeyStandsAt};
 ghost use Rattle.jsonb_write.specs.OpenText.{source_text};
 ghost use Rattle.jsonb_write.specs.PlainText.{ArePlain};
@@ -282,7 +282,7 @@ pub(super) trait Handler<'a>: Drop + Sized {
             → stands text room.old true (Object (record { members = object.old.members; key = key }) ∷ fs)
             (members_so_far front k place ∷ cs) → sees value s → IsSpelledAt text from to s
             → stands text room.new false (Object object.new ∷ fs)
-            (members_so_far (front ++ found k s place ∷ []) (plain, []) 0 ∷ cs)) (silent ≡ true)) }
+            (members_so_far (front ++ found_member k s place ∷ []) (plain, []) 0 ∷ cs)) (silent ≡ true)) }
         ensures base { base room.new ≡ base room.old };
 
     // Puts in a member whose value stands in the text as it is written. A handler that keeps none isn't asked to.
@@ -300,7 +300,7 @@ pub(super) trait Handler<'a>: Drop + Sized {
             → stands text room.old true (Object (record { members = object.old.members; key = key }) ∷ fs)
             (members_so_far front k place ∷ cs) → slice_range text from to ≡ source_text s
             → stands text room.new false (Object object.new ∷ fs)
-            (members_so_far (front ++ found k s place ∷ []) (plain, []) 0 ∷ cs)) (silent ≡ true)) }
+            (members_so_far (front ++ found_member k s place ∷ []) (plain, []) 0 ∷ cs)) (silent ≡ true)) }
         ensures base { base room.new ≡ base room.old };
 
     // Puts in a member whose value is a container, under the key that waits for it.
@@ -315,7 +315,7 @@ pub(super) trait Handler<'a>: Drop + Sized {
             → (cs : List Open)
             → filled text room.old value s (Object object.old ∷ fs) (members_so_far front k place ∷ cs)
             → stands text room.new false (Object object.new ∷ fs)
-            (members_so_far (front ++ found k s place ∷ []) (plain, []) 0 ∷ cs)) (silent ≡ true)) }
+            (members_so_far (front ++ found_member k s place ∷ []) (plain, []) 0 ∷ cs)) (silent ≡ true)) }
         ensures base { base room.new ≡ base room.old };
 
     // The object ends. A key that comes twice is told. Its brace stands in the text at an index.

@@ -38,7 +38,7 @@ impl<'a> Parser<'a> {
     {
         let key = self.parse_member_key::<V>(room, object, text)?;
         if !self.take_after_whitespace(b':') {
-            let error = self.unexpected(ParseErrorCode::ExpectedColon, 0);
+            let error = self.fault_at_next(ParseErrorCode::ExpectedColon, 0);
             return Err(self.fail(error));
         }
         // Often there is one space.
@@ -71,10 +71,10 @@ impl<'a> Parser<'a> {
         if let Some(cut) = self.cut_string(V::tells_plain(), text) {
             if cut.is_plain {
                 let key = V::plain_key(room, object, self.alloc, cut.body, from, self.offset);
-                return self.kept(key);
+                return self.or_out_of_memory(key);
             }
             let key = V::borrowed_key(room, object, self.alloc, cut.body, from, self.offset);
-            return self.kept(key);
+            return self.or_out_of_memory(key);
         }
         self.escaped_key::<V>(room, object)
     }
@@ -97,7 +97,7 @@ impl<'a> Parser<'a> {
             Err(error) => return Err(self.fail(error)),
         };
         let key = V::key(room, object, self.alloc, key, self.offset);
-        self.kept(key)
+        self.or_out_of_memory(key)
     }
 
     // A key in single quotes or in none.
@@ -118,7 +118,7 @@ impl<'a> Parser<'a> {
             Err(error) => return Err(self.fail(error)),
         };
         let key = V::key(room, object, self.alloc, key, self.offset);
-        self.kept(key)
+        self.or_out_of_memory(key)
     }
 
     // A key.
@@ -134,7 +134,7 @@ impl<'a> Parser<'a> {
             return self.parse_quoted(b'\'');
         }
         match self.mode {
-            Mode::Standard => Err(self.unexpected(ParseErrorCode::ExpectedSomeIdent, 1)),
+            Mode::Standard => Err(self.fault_at_next(ParseErrorCode::ExpectedSomeIdent, 1)),
             Mode::Extended => self.parse_bare_key(),
         }
     }

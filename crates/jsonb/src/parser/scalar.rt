@@ -12,13 +12,13 @@ ghost use Rattle.jsonb.specs.declared.parser.frame.Frame.TheVariants.{Array, Obj
 ghost use Rattle.jsonb_spec.specs.Tree.{Mark, int64};
 ghost use Rattle.jsonb_spec.specs.Tree.Mark.{plain};
 ghost use Rattle.jsonb_scan.specs.Open.{Open, elements_so_far, members_so_far};
-ghost use Rattle.jsonb_spec.specs.Source.{Source, Found, found, string_source};
+ghost use Rattle.jsonb_spec.specs.Source.{Source, Found, found_member, string_source};
 ghost use Rattle.jsonb_scan.specs.Spelled.{IsSpelledAt};
 ghost use Rattle.jsonb_write.specs.OpenText.{source_text};
 ghost use Rattle.jsonb_write.specs.PlainText.{ArePlain};
 ghost use Rattle.jsonb.specs.Parser.{rest_of, size_of, Advances, AdvancesOver, FindsAs, IsBehind, ReadsAs, read_at};
 ghost use Rattle.jsonb_scan.specs.Reading.{begins};
-ghost use Rattle.jsonb_scan.specs.Reading.Scalar.{begins_letter, begins_number, begins_single_quote, folded, letters_at, null_at, number_at, quoted_at, scalar_at, other_scalar_at, words_at};
+ghost use Rattle.jsonb_scan.specs.Reading.Scalar.{begins_letter, begins_number, begins_single_quote, fold_letter, letters_at, null_at, number_at, quoted_at, scalar_at, other_scalar_at, words_at};
 
 use super::frame::OpenObject;
 use super::handler::{Failed, Handler};
@@ -31,7 +31,7 @@ use std::borrow::CowStr;
 // A letter as words have it: in extended mode in lower case.
 #[inline(always)]
 fn fold(letter: u8, mode: Mode) -> u8
-    ensures { result ≡ folded (mode_of mode) letter }
+    ensures { result ≡ fold_letter (mode_of mode) letter }
 {
     match mode {
         Mode::Standard => letter,
@@ -103,13 +103,13 @@ impl<'a> Parser<'a> {
             → V.stands text room.old true (Object (record { members = object.old.members; key = key }) ∷ fs)
             (members_so_far front k place ∷ cs) → V.sees value s → IsSpelledAt text from self.old.offset s
             → V.stands text room.new false (Object object.new ∷ fs)
-            (members_so_far (front ++ found k s place ∷ []) (plain, []) 0 ∷ cs)) }
+            (members_so_far (front ++ found_member k s place ∷ []) (plain, []) 0 ∷ cs)) }
         ensures same { OnOk result (self.new ≡ self.old) }
         ensures told { IfErr result (λ _. IsUntold V.silent self.new.told) }
         ensures advances { AdvancesOver V.base self.old self.new room.old room.new }
     {
         let inserted = V::insert(room, object, key, value, from, self.offset);
-        self.inserted(inserted)
+        self.insert_result(inserted)
     }
 
     // Puts in an element that is a string that was cut out of the text.
@@ -153,7 +153,7 @@ impl<'a> Parser<'a> {
             → V.stands text room.old true (Object (record { members = object.old.members; key = key }) ∷ fs)
             (members_so_far front k place ∷ cs) → s ≡ string_source plain cut.entry.body.now
             → IsSpelledAt text from self.old.offset s → V.stands text room.new false (Object object.new ∷ fs)
-            (members_so_far (front ++ found k s place ∷ []) (plain, []) 0 ∷ cs)) }
+            (members_so_far (front ++ found_member k s place ∷ []) (plain, []) 0 ∷ cs)) }
         ensures same { OnOk result (self.new ≡ self.old) }
         ensures told { IfErr result (λ _. IsUntold V.silent self.new.told) }
         ensures advances { AdvancesOver V.base self.old self.new room.old room.new }
@@ -239,13 +239,13 @@ impl<'a> Parser<'a> {
             → V.stands text room.old true (Object (record { members = object.old.members; key = key }) ∷ fs)
             (members_so_far front k place ∷ cs) → slice_range text from self.old.offset ≡ source_text s
             → V.stands text room.new false (Object object.new ∷ fs)
-            (members_so_far (front ++ found k s place ∷ []) (plain, []) 0 ∷ cs)) }
+            (members_so_far (front ++ found_member k s place ∷ []) (plain, []) 0 ∷ cs)) }
         ensures same { OnOk result (self.new ≡ self.old) }
         ensures told { IfErr result (λ _. IsUntold V.silent self.new.told) }
         ensures advances { AdvancesOver V.base self.old self.new room.old room.new }
     {
         let inserted = V::insert_kept(room, object, key, from, self.offset);
-        self.inserted(inserted)
+        self.insert_result(inserted)
     }
 
     // Puts in an element of a standard text that is a scalar and no string. Many are integers that are written by the
@@ -611,7 +611,7 @@ impl<'a> Parser<'a> {
             };
         }
         if !self.begins_number() {
-            let error = self.unexpected(ParseErrorCode::ExpectedSomeValue, 1);
+            let error = self.fault_at_next(ParseErrorCode::ExpectedSomeValue, 1);
             return Err(self.fail(error));
         }
         self.parse_number_value()
@@ -787,7 +787,7 @@ impl<'a> Parser<'a> {
     {
         'letters: for letter in word {
             if !self.next_is_letter(*letter) {
-                return Err(self.unexpected(ParseErrorCode::ExpectedSomeIdent, 1));
+                return Err(self.fault_at_next(ParseErrorCode::ExpectedSomeIdent, 1));
             }
             self.offset += 1;
         }

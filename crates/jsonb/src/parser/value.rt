@@ -330,7 +330,7 @@ impl<'a> Parser<'a> {
         if self.take_byte(b']') {
             return Ok(true);
         }
-        let error = self.unexpected(ParseErrorCode::ExpectedArrayCommaOrEnd, 0);
+        let error = self.fault_at_next(ParseErrorCode::ExpectedArrayCommaOrEnd, 0);
         Err(self.fail(error))
     }
 
@@ -349,7 +349,7 @@ impl<'a> Parser<'a> {
         if self.take_byte(b'}') {
             return Ok(true);
         }
-        let error = self.unexpected(ParseErrorCode::ExpectedObjectCommaOrEnd, 0);
+        let error = self.fault_at_next(ParseErrorCode::ExpectedObjectCommaOrEnd, 0);
         Err(self.fail(error))
     }
 
@@ -407,7 +407,7 @@ impl<'a> Parser<'a> {
             }
             Frame::Object(object) => {
                 let inserted = V::insert_inner(room, object, self.alloc, value);
-                self.inserted(inserted)?;
+                self.insert_result(inserted)?;
                 self.end_member()
             }
         }
@@ -415,7 +415,7 @@ impl<'a> Parser<'a> {
 
     // What an attempt to put in a member returns: where its key is there already and nobody told it, nothing is told.
     #[inline(always)]
-    pub(super) fn inserted(&mut self, inserted: Result<bool, AllocError>) -> Result<(), Failed>
+    pub(super) fn insert_result(&mut self, inserted: Result<bool, AllocError>) -> Result<(), Failed>
         ensures ok { OnOk result ((inserted ≡ Ok true) × (self.new ≡ self.old)) }
         ensures told { IfErr result (λ _. MatchResult inserted (λ is_new. (is_new ≡ false) × (self.new.told ≡ None))
             (λ _. self.new.told ≡ Some Error.OutOfMemory)) }
@@ -423,7 +423,7 @@ impl<'a> Parser<'a> {
     {
         match inserted {
             Ok(true) => Ok(()),
-            Ok(false) => Err(self.untold()),
+            Ok(false) => Err(self.fail_silently()),
             Err(_) => Err(self.out_of_memory()),
         }
     }

@@ -37,7 +37,7 @@ fn keys_of_values_beyond_json_are_rejected(rt: HostRuntime) -> Result<(), Fail> 
 }
 
 // So many arrays, each in the next.
-fn nested<'a>(alloc: Global, depth: usize) -> Result<Value<'a>, Fail> {
+fn nested_value<'a>(alloc: Global, depth: usize) -> Result<Value<'a>, Fail> {
     let mut value = Value::Array(Vec::new(alloc));
     for _ in 1..depth {
         value = Value::Array(vec![in alloc; value]?);
@@ -48,9 +48,9 @@ fn nested<'a>(alloc: Global, depth: usize) -> Result<Value<'a>, Fail> {
 #[test]
 fn keys_of_513_arrays_are_rejected(rt: HostRuntime) -> Result<(), Fail> {
     let alloc = rt.alloc();
-    let deepest = key_of(alloc, &nested(alloc, 512)?)?;
+    let deepest = key_of(alloc, &nested_value(alloc, 512)?)?;
     assert!(rt; value_of_sort_key(alloc, &deepest).is_ok());
-    let too_deep = key_of(alloc, &nested(alloc, 513)?)?;
+    let too_deep = key_of(alloc, &nested_value(alloc, 513)?)?;
     assert!(rt; matches!(&value_of_sort_key(alloc, &too_deep), Err(KeyError::Invalid)));
     Ok(())
 }

@@ -8,7 +8,7 @@ use Rattle.jsonb_value.proofs.Appending.Pieces.{texts_left, comma_done, comma_fi
 use Rattle.jsonb_value.proofs.Values.Accessors.{view-Array, view-Object}
 use Rattle.jsonb_value.proofs.Values.Keys.{KeysAscend-members_view}
 use Rattle.jsonb_value.proofs.Values.Members.{Entry}
-use Rattle.jsonb_spec.specs.Indented.{new_line, indented, item_lines, member_lines}
+use Rattle.jsonb_spec.specs.Indented.{new_line, indented_text, item_lines, member_lines}
 use Rattle.jsonb_pretty.proofs.Lines.{next_item, next_member, line_done, line_fits, key_split, key_done, array_is, object_is, array_long, object_long}
 use Rattle.jsonb_pretty.proofs.+append.Goals as goal
 
@@ -22,7 +22,7 @@ pub append_item_lines-items-preserved : goal.append_item_lines-items-preserved
 append_item_lines-items-preserved t c =
     let all = c.args.items.now.items in
     let item = c.item-item.result in
-    let text = indented c.args.indent c.args.margin (view item) in
+    let text = indented_text c.args.indent c.args.margin (view item) in
     let rest = texts_left false (item_lines c.args.indent c.args.margin (trees_view (drop (c.items.item-index + 1) all))) ++ [] in
     let next = next_item c.args.indent c.args.margin all c.items.item-index item (search rules) (search rules) in
     let due = comma_done c.items.is_first _ _ _ _ [] c.append_comma.new.buf.items _ _ next c.items.invariant.underway c.in_ok-append_comma.ensures.appends.ok in
@@ -44,7 +44,7 @@ pub append_item_lines-returns-in_err-append_line-clause-appends : goal.append_it
 append_item_lines-returns-in_err-append_line-clause-appends t c =
     let all = c.args.items.now.items in
     let item = c.item-item.result in
-    let text = indented c.args.indent c.args.margin (view item) in
+    let text = indented_text c.args.indent c.args.margin (view item) in
     let rest = texts_left false (item_lines c.args.indent c.args.margin (trees_view (drop (c.items.item-index + 1) all))) ++ [] in
     let next = next_item c.args.indent c.args.margin all c.items.item-index item (search rules) (search rules) in
     let due = comma_done c.items.is_first _ _ _ _ [] c.append_comma.new.buf.items _ _ next c.items.invariant.underway c.in_ok-append_comma.ensures.appends.ok in
@@ -55,7 +55,7 @@ pub append_item_lines-returns-in_err-append-clause-appends : goal.append_item_li
 append_item_lines-returns-in_err-append-clause-appends t c =
     let all = c.args.items.now.items in
     let item = c.item-item.result in
-    let text = indented c.args.indent c.args.margin (view item) in
+    let text = indented_text c.args.indent c.args.margin (view item) in
     let rest = texts_left false (item_lines c.args.indent c.args.margin (trees_view (drop (c.items.item-index + 1) all))) ++ [] in
     let next = next_item c.args.indent c.args.margin all c.items.item-index item (search rules) (search rules) in
     let due = comma_done c.items.is_first _ _ _ _ [] c.append_comma.new.buf.items _ _ next c.items.invariant.underway c.in_ok-append_comma.ensures.appends.ok in
@@ -68,7 +68,7 @@ pub append_member_lines-members-preserved : goal.append_member_lines-members-pre
 append_member_lines-members-preserved t c =
     let entry : Entry = (c.in-Some.key.now, c.in-Some.value.now) in
     let key = quoted_text (string_bytes c.in-Some.key.now) in
-    let text = indented c.args.indent c.args.margin (view c.in-Some.value.now) in
+    let text = indented_text c.args.indent c.args.margin (view c.in-Some.value.now) in
     let rest = texts_left false (member_lines c.args.indent c.args.margin (members_view c.next.new.self)) ++ [] in
     let next = next_member c.args.indent c.args.margin c.members.key-iterator c.next.new.self entry c.in-Some.ensures.steps in
     let due = comma_done c.members.is_first _ _ _ _ [] c.append_comma.new.buf.items _ _ next c.members.invariant.underway c.in_ok-append_comma.ensures.appends.ok in
@@ -90,7 +90,7 @@ append_member_lines-returns-in_err-append_comma-clause-appends t c =
 pub append_member_lines-returns-in_err-append_line-clause-appends : goal.append_member_lines-returns-in_err-append_line-clause-appends
 append_member_lines-returns-in_err-append_line-clause-appends t c =
     let key = quoted_text (string_bytes c.in-Some.key.now) in
-    let text = indented c.args.indent c.args.margin (view c.in-Some.value.now) in
+    let text = indented_text c.args.indent c.args.margin (view c.in-Some.value.now) in
     let rest = texts_left false (member_lines c.args.indent c.args.margin (members_view c.next.new.self)) ++ [] in
     let next = next_member c.args.indent c.args.margin c.members.key-iterator c.next.new.self (c.in-Some.key.now, c.in-Some.value.now) c.in-Some.ensures.steps in
     let due = comma_done c.members.is_first _ _ _ _ [] c.append_comma.new.buf.items _ _ next c.members.invariant.underway c.in_ok-append_comma.ensures.appends.ok in
@@ -100,7 +100,7 @@ append_member_lines-returns-in_err-append_line-clause-appends t c =
 pub append_member_lines-returns-in_err-append_key-clause-appends : goal.append_member_lines-returns-in_err-append_key-clause-appends
 append_member_lines-returns-in_err-append_key-clause-appends t c =
     let key = quoted_text (string_bytes c.in-Some.key.now) in
-    let text = indented c.args.indent c.args.margin (view c.in-Some.value.now) in
+    let text = indented_text c.args.indent c.args.margin (view c.in-Some.value.now) in
     let rest = texts_left false (member_lines c.args.indent c.args.margin (members_view c.next.new.self)) ++ [] in
     let next = next_member c.args.indent c.args.margin c.members.key-iterator c.next.new.self (c.in-Some.key.now, c.in-Some.value.now) c.in-Some.ensures.steps in
     let due = comma_done c.members.is_first _ _ _ _ [] c.append_comma.new.buf.items _ _ next c.members.invariant.underway c.in_ok-append_comma.ensures.appends.ok in
@@ -111,7 +111,7 @@ append_member_lines-returns-in_err-append_key-clause-appends t c =
 pub append_member_lines-returns-in_err-append-clause-appends : goal.append_member_lines-returns-in_err-append-clause-appends
 append_member_lines-returns-in_err-append-clause-appends t c =
     let key = quoted_text (string_bytes c.in-Some.key.now) in
-    let text = indented c.args.indent c.args.margin (view c.in-Some.value.now) in
+    let text = indented_text c.args.indent c.args.margin (view c.in-Some.value.now) in
     let rest = texts_left false (member_lines c.args.indent c.args.margin (members_view c.next.new.self)) ++ [] in
     let next = next_member c.args.indent c.args.margin c.members.key-iterator c.next.new.self (c.in-Some.key.now, c.in-Some.value.now) c.in-Some.ensures.steps in
     let due = comma_done c.members.is_first _ _ _ _ [] c.append_comma.new.buf.items _ _ next c.members.invariant.underway c.in_ok-append_comma.ensures.appends.ok in

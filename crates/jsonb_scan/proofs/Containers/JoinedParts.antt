@@ -9,7 +9,7 @@ use Rattle.jsonb_spec.specs.Grammar.{IsJoined, IsPadded}
 use Rattle.jsonb_spec.specs.Grammar.IsJoined.{more_parts, one_part}
 use Rattle.jsonb_spec.specs.Grammar.IsPadded.{padded}
 use Rattle.jsonb_spec.specs.Mode.{Mode}
-use Rattle.jsonb_scan.specs.Reading.{Read, begins, on_byte, rejected, ◌>>=◌}
+use Rattle.jsonb_scan.specs.Reading.{Read, begins, on_byte, reject, ◌>>=◌}
 use Rattle.jsonb_scan.specs.Reading.Whitespace.{is_whitespace_start, is_break, skip_whitespace}
 use Rattle.jsonb_scan.specs.Reading.Container.{after_part, joined_at, padded_at}
 use Rattle.jsonb_scan.proofs.Steps.Tests.{bind_ok, chosen, eqb_self, rejected_fails, same_read}
@@ -229,8 +229,8 @@ module _ {A F : Type 0} (view : F → A) (size : ℕ) (code : Code) (close : ℕ
         f.0 ∷ [],
         ap (λ (b : A). b ∷ []) f.1,
         ap (λ (r : Read F). r >>= λ (x : F × List ℕ). after_part size code close part (joined_at size code close part n) x.0 x.1) f.2
-            ∙ on_byte-other 44 close rest (λ (t : List ℕ). joined_at size code close part n t >>= λ (x : List F × List ℕ). Ok (f.0 ∷ x.0, x.1)) (on_byte close (close ∷ rest) (λ (t : List ℕ). Ok (f.0 ∷ [], t)) (rejected size code 0 (close ∷ rest))) p.apart
-            ∙ on_byte-found close rest (λ (t : List ℕ). Ok (f.0 ∷ [], t)) (rejected size code 0 (close ∷ rest)),
+            ∙ on_byte-other 44 close rest (λ (t : List ℕ). joined_at size code close part n t >>= λ (x : List F × List ℕ). Ok (f.0 ∷ x.0, x.1)) (on_byte close (close ∷ rest) (λ (t : List ℕ). Ok (f.0 ∷ [], t)) (reject size code 0 (close ∷ rest))) p.apart
+            ∙ on_byte-found close rest (λ (t : List ℕ). Ok (f.0 ∷ [], t)) (reject size code 0 (close ∷ rest)),
       )
   joined_complete (more_parts s j) zero rest h = absurd (omega arith)
   joined_complete (more_parts {first = first} {rest = others} {a = a} {others = as_parts} s j) (suc n) rest h =
@@ -252,7 +252,7 @@ module _ {A : Type 0} (size : ℕ) (code : Code) (close : ℕ) (Spells : List �
       let b = bind_ok (part bytes) (λ (x : A × List ℕ). after_part size code close part (joined_at size code close part n) x.0 x.1) (parts, rest) e in
       let a : A = b.0.0 in
       let middle : List ℕ = b.0.1 in
-      elim (on_byte_cases 44 middle (λ (t : List ℕ). joined_at size code close part n t >>= λ (x : List A × List ℕ). Ok (a ∷ x.0, x.1)) (on_byte close middle (λ (t : List ℕ). Ok (a ∷ [], t)) (rejected size code 0 middle)) (Ok (parts, rest)) b.2) [
+      elim (on_byte_cases 44 middle (λ (t : List ℕ). joined_at size code close part n t >>= λ (x : List A × List ℕ). Ok (a ∷ x.0, x.1)) (on_byte close middle (λ (t : List ℕ). Ok (a ∷ [], t)) (reject size code 0 middle)) (Ok (parts, rest)) b.2) [
         | inl t ↦
             let s = sound bytes a middle b.1 (omega (arith, ap length t.1)) in
             let c = bind_ok (joined_at size code close part n t.0) (λ (x : List A × List ℕ). Ok (a ∷ x.0, x.1)) (parts, rest) t.2 in
@@ -263,7 +263,7 @@ module _ {A : Type 0} (size : ℕ) (code : Code) (close : ℕ) (Spells : List �
               s.whole ∙ ap (λ (u : List ℕ). s.core ++ u) (t.1 ∙ ap (λ (u : List ℕ). 44 ∷ u) h.2) ∙ sym (append_assoc s.core (44 ∷ h.0) (close ∷ c.0.1)) ∙ ap (λ (u : List ℕ). (s.core ++ 44 ∷ h.0) ++ close ∷ u) same.rest,
             )
         | inr f ↦
-            elim (on_byte_cases close middle (λ (t : List ℕ). Ok (a ∷ [], t)) (rejected size code 0 middle) (Ok (parts, rest)) f.1) [
+            elim (on_byte_cases close middle (λ (t : List ℕ). Ok (a ∷ [], t)) (reject size code 0 middle) (Ok (parts, rest)) f.1) [
               | inl t ↦
                   let s = sound bytes a middle b.1 (omega (arith, ap length t.1)) in
                   let same = same_read (a ∷ []) parts t.0 rest t.2 in

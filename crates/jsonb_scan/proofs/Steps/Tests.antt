@@ -1,7 +1,7 @@
 -- Conditions and steps that may fail, by their outcome.
 use Rattle.std.proofs.Common.{◌≡◌, ℕ, Bool, true, false, cond, ◌⊎◌, inl, inr, List, Result, Ok, Err, refl, ap, eqb, eq-eqb}
 use Rattle.jsonb_spec.specs.Code.{Code}
-use Rattle.jsonb_scan.specs.Reading.{Fault, Read, rejected, ◌>>=◌}
+use Rattle.jsonb_scan.specs.Reading.{Fault, Read, reject, ◌>>=◌}
 
 -- which way a choice went
 pub chosen : {A : Type 0} (b : Bool) (x y z : A) → cond b x y ≡ z → ((b ≡ true) × (x ≡ z)) ⊎ ((b ≡ false) × (y ≡ z))
@@ -14,7 +14,7 @@ bind_ok (Ok x) f y e = (x, refl, e)
 bind_ok (Err d) f y e = absurd cc
 
 -- a fault is no value
-pub rejected_fails : {A : Type 0} (size : ℕ) (code : Code) (step : ℕ) (bytes : List ℕ) (a : A) → rejected size code step bytes ≡ Ok a → ⊥
+pub rejected_fails : {A : Type 0} (size : ℕ) (code : Code) (step : ℕ) (bytes : List ℕ) (a : A) → reject size code step bytes ≡ Ok a → ⊥
 rejected_fails size code step bytes a e = cc
 
 pub eqb_self : (c : ℕ) → eqb c c ≡ true

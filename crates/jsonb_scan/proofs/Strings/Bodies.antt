@@ -19,7 +19,7 @@ use Rattle.jsonb_scan.specs.StringError.{IsDecodingError}
 use Rattle.jsonb_scan.specs.QuotedString.{DecodesContents}
 use Rattle.jsonb_scan.specs.Answer.{Fails}
 use Rattle.jsonb_scan.specs.Reading.{fault}
-use Rattle.jsonb_scan.specs.Reading.String.{body_of, further, quote_from, quote_end, decoded, closed, string_at}
+use Rattle.jsonb_scan.specs.Reading.String.{body_of, further, quote_from, quote_end, string_of_body, string_up_to, string_at}
 use Rattle.jsonb_scan.proofs.Strings.Decoding.{spelling-raw, items-raw}
 use Rattle.jsonb_scan.proofs.Strings.Items.{body_complete, body_faulty}
 use Rattle.jsonb_scan.proofs.Strings.Ends.{quote_end-step, further-zero, further-further, quote_end-here}
@@ -167,11 +167,11 @@ clear_from quote bytes at stop none k low high =
 
 pub string-closed : (size : ℕ) (mode : Mode) (quote : ℕ) (bytes : List ℕ) (end : ℕ) (x : Mark × List ℕ) → quote_end quote bytes ≡ Ok end → body_of mode (take end bytes) ≡ Ok x → string_at size mode quote bytes ≡ Ok (x, drop (end + 1) bytes)
 unfolding string_at
-string-closed size mode quote bytes end x found read = ap (closed size mode bytes) found ∙ ap (decoded size bytes end) read
+string-closed size mode quote bytes end x found read = ap (string_up_to size mode bytes) found ∙ ap (string_of_body size bytes end) read
 
 pub string-unclosed : (size : ℕ) (mode : Mode) (quote : ℕ) (bytes : List ℕ) (at : ℕ) → quote_end quote bytes ≡ Err at → string_at size mode quote bytes ≡ fault invalid_eof (size - length bytes + at)
 unfolding string_at
-string-unclosed size mode quote bytes at none = ap (closed size mode bytes) none
+string-unclosed size mode quote bytes at none = ap (string_up_to size mode bytes) none
 
 -- what a decoder rejects is what reading the body rejects
 pub reads_rejected : (mode : Mode) (bytes : List ℕ) (before after : ℕ) (e : Error) → IsDecodingError mode bytes before after e → DecodesContents before (Err e) (body_of mode bytes)
@@ -183,6 +183,6 @@ pub body_fails : (size : ℕ) (mode : Mode) (quote : ℕ) (bytes : List ℕ) (en
 unfolding string_at
 body_fails size mode quote bytes end idx (Syntax code place) found at r =
     let same : size - length bytes + 1 + r.0 ≡ place = omega (arith, at, r.2) in
-    ap (closed size mode bytes) found ∙ ap (decoded size bytes end) r.1 ∙ ap (λ (p : ℕ). fault (code_of code) p) same
+    ap (string_up_to size mode bytes) found ∙ ap (string_of_body size bytes end) r.1 ∙ ap (λ (p : ℕ). fault (code_of code) p) same
 body_fails size mode quote bytes end idx OutOfMemory found at r = tt
 body_fails size mode quote bytes end idx other found at r = r

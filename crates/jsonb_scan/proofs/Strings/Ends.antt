@@ -12,7 +12,7 @@ use Rattle.jsonb_value.specs.StringStep.{item_step}
 use Rattle.jsonb_spec.specs.Grammar.Quoted.{MayStandIn, Quoted}
 use Rattle.jsonb_value.proofs.Strings.Spelling.{item_step-spelling}
 use Rattle.jsonb_scan.specs.Reading.{Read, fault}
-use Rattle.jsonb_scan.specs.Reading.String.{Body, body_of, further, quote_from, quote_end, decoded, closed, string_at}
+use Rattle.jsonb_scan.specs.Reading.String.{Body, body_of, further, quote_from, quote_end, string_of_body, string_up_to, string_at}
 use Rattle.jsonb_scan.proofs.Steps.Tests.{chosen, eqb_self, same_read}
 use Rattle.jsonb_scan.proofs.Strings.Items.{Means, length-spelling, body_complete, body_sound}
 
@@ -159,13 +159,13 @@ string_sound size mode quote bytes mark text rest no_backslash e = by_end (quote
           whole = whole ∙ ap (λ (r : List ℕ). flat_map spelling means.items ++ quote ∷ r) after ∙ sym (append_assoc (flat_map spelling means.items) (quote ∷ []) rest);
         }
 
-    by_body : (end : ℕ) → quote_end quote bytes ≡ Ok end → (r : Body (Mark × List ℕ)) → body_of mode (take end bytes) ≡ r → decoded size bytes end r ≡ Ok ((mark, text), rest) → SpellsString mode quote bytes mark text rest
+    by_body : (end : ℕ) → quote_end quote bytes ≡ Ok end → (r : Body (Mark × List ℕ)) → body_of mode (take end bytes) ≡ r → string_of_body size bytes end r ≡ Ok ((mark, text), rest) → SpellsString mode quote bytes mark text rest
     by_body end found (Err f) is h = absurd (let never : ◌≡◌ {A = Read (Mark × List ℕ)} (fault f.0 (size - length bytes + 1 + f.1)) (Ok ((mark, text), rest)) = h in cc)
     by_body end found (Ok x) is h =
         let same = same_read x (mark, text) (drop (end + 1) bytes) rest h in
         at_end end found (body_sound mode (take end bytes) mark text (is ∙ ap (λ (y : Mark × List ℕ). Ok y) same.value)) same.rest
 
-    by_end : (r : Result ℕ ℕ) → quote_end quote bytes ≡ r → closed size mode bytes r ≡ Ok ((mark, text), rest) → SpellsString mode quote bytes mark text rest
+    by_end : (r : Result ℕ ℕ) → quote_end quote bytes ≡ r → string_up_to size mode bytes r ≡ Ok ((mark, text), rest) → SpellsString mode quote bytes mark text rest
     by_end (Err at) is h = absurd (let never : ◌≡◌ {A = Read (Mark × List ℕ)} (fault invalid_eof (size - length bytes + at)) (Ok ((mark, text), rest)) = h in cc)
     by_end (Ok end) is h = by_body end is (body_of mode (take end bytes)) refl h
 
@@ -180,4 +180,4 @@ string_complete size mode quote core mark text inner rest no_backslash q is =
     let back : drop (length body + 1) (inner ++ rest) ≡ rest = ap (drop (length body + 1)) (whole ∙ sym (append_assoc body (quote ∷ []) rest)) ∙ drop_at (body ++ quote ∷ []) rest (length body + 1) (length-append body (quote ∷ [])) in
     let read : body_of mode (take (length body) (inner ++ rest)) ≡ Ok (mark, text) =
     ap (body_of mode) front ∙ body_complete mode body q.items (record { spelled = refl; each = q.each }) (subst IsUtf8 q.meant q.utf8) ∙ ap (λ (m : Mark). Ok (m, meaning q.items)) (sym q.marked) ∙ ap (λ (t : List ℕ). Ok (mark, t)) (sym q.meant) in
-    ap (closed size mode (inner ++ rest)) found ∙ ap (decoded size (inner ++ rest) (length body)) read ∙ ap (λ (r : List ℕ). Ok ((mark, text), r)) back
+    ap (string_up_to size mode (inner ++ rest)) found ∙ ap (string_of_body size (inner ++ rest) (length body)) read ∙ ap (λ (r : List ℕ). Ok ((mark, text), r)) back

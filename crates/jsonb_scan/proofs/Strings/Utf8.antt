@@ -10,7 +10,7 @@ use Rattle.std.specs.Char.{encode_utf8}
 use Rattle.std.specs.List.{flat_map, AllByRecursion}
 use Rattle.std.specs.Str.{IsAscii, IsUtf8}
 use Rattle.jsonb_spec.specs.Mode.{Mode, standard, extended}
-use Rattle.jsonb_spec.specs.Grammar.StringBody.{Item, raw, escape, unit, after_u, spelling, IsItem, IsHexDigit, byte_beside, escapes, standard_escapes, escaped_byte, unit_value, is_high, is_low, paired, kept, alone, together, meaning}
+use Rattle.jsonb_spec.specs.Grammar.StringBody.{Item, raw, escape, unit, after_u, spelling, IsItem, IsHexDigit, byte_beside, escapes, standard_escapes, escaped_byte, unit_value, is_high, is_low, surrogate_character, unit_text, alone, together, meaning}
 use Rattle.jsonb_value.proofs.Strings.Units.{alone-kept, alone-character, together-kept, together-character}
 
 -- ---- ASCII bytes in UTF-8
@@ -95,10 +95,10 @@ unit_small digits four each = digit_sum _ _ _ _ (each 0 0 (omega (arith, four)))
 small_scalar : (value : ℕ) → value < 65536 → (is_high value || is_low value) ≡ false → scalar value ≡ true
 small_scalar value small none = grind (arith, nat_tests)
 
-paired_scalar : (high low : ℕ) → is_high high ≡ true → is_low low ≡ true → scalar (paired high low) ≡ true
+paired_scalar : (high low : ℕ) → is_high high ≡ true → is_low low ≡ true → scalar (surrogate_character high low) ≡ true
 paired_scalar high low p q = grind (arith, nat_tests)
 
-kept_onto : (digits rest : List ℕ) → All IsHexDigit digits → IsUtf8 rest → IsUtf8 (kept digits ++ rest)
+kept_onto : (digits rest : List ℕ) → All IsHexDigit digits → IsUtf8 rest → IsUtf8 (unit_text digits ++ rest)
 kept_onto digits rest each utf8 = ascii_onto 92 (117 ∷ (digits ++ rest)) (omega arith) (ascii_onto 117 (digits ++ rest) (omega arith) (digits_onto digits rest each utf8))
 
 alone_onto : (digits rest : List ℕ) → length digits ≡ 4 → All IsHexDigit digits → IsUtf8 rest → IsUtf8 (alone digits ++ rest)
@@ -111,8 +111,8 @@ alone_onto digits rest four each utf8 =
 together_onto : (first next rest : List ℕ) → is_high (unit_value first) ≡ true → All IsHexDigit first → All IsHexDigit next → IsUtf8 rest → IsUtf8 (together first next ++ rest)
 together_onto first next rest high each others utf8 =
     ⊎_elim
-    (λ low. subst (λ xs. IsUtf8 (xs ++ rest)) (sym (together-character first next low)) (IsUtf8-append (encode_utf8 (paired (unit_value first) (unit_value next))) rest (IsUtf8-encode (paired (unit_value first) (unit_value next)) (paired_scalar (unit_value first) (unit_value next) high low)) utf8))
-    (λ other. subst (λ xs. IsUtf8 (xs ++ rest)) (sym (together-kept first next other)) (subst IsUtf8 (sym (append_assoc (kept first) (kept next) rest)) (kept_onto first (kept next ++ rest) each (kept_onto next rest others utf8))))
+    (λ low. subst (λ xs. IsUtf8 (xs ++ rest)) (sym (together-character first next low)) (IsUtf8-append (encode_utf8 (surrogate_character (unit_value first) (unit_value next))) rest (IsUtf8-encode (surrogate_character (unit_value first) (unit_value next)) (paired_scalar (unit_value first) (unit_value next) high low)) utf8))
+    (λ other. subst (λ xs. IsUtf8 (xs ++ rest)) (sym (together-kept first next other)) (subst IsUtf8 (sym (append_assoc (unit_text first) (unit_text next) rest)) (kept_onto first (unit_text next ++ rest) each (kept_onto next rest others utf8))))
     (cases_Bool (is_low (unit_value next)))
 
 -- ---- all items

@@ -4,8 +4,8 @@ use Rattle.jsonb_spec.specs.Ascii as ascii
 use Rattle.jsonb_spec.specs.Mode.{Mode, standard, extended}
 use Rattle.jsonb_spec.specs.Tree.{Mark}
 use Rattle.jsonb_spec.specs.Code.{Code, invalid_eof, expected_colon, expected_array_comma_or_end, expected_object_comma_or_end, object_duplicate_key}
-use Rattle.jsonb_spec.specs.Source.{Source, null_source, array_source, object_source, no_sources, no_source_members, Found, Spot, found, spot_of, first_repeat, array_source_of, object_source_of}
-use Rattle.jsonb_scan.specs.Reading.{Read, ◌>>=◌, on_byte, fault, rejected}
+use Rattle.jsonb_spec.specs.Source.{Source, null_source, array_source, object_source, no_sources, no_source_members, Found, Spot, found_member, spot_of, first_repeat, array_source_of, object_source_of}
+use Rattle.jsonb_scan.specs.Reading.{Read, ◌>>=◌, on_byte, fault, reject}
 use Rattle.jsonb_scan.specs.Reading.Whitespace.{skip_whitespace}
 use Rattle.jsonb_scan.specs.Reading.Scalar.{key_at}
 
@@ -15,7 +15,7 @@ module _ {A : Type 0} (size : ℕ) (code : Code) (close : ℕ) (part : List ℕ 
   abbrev pub after_part : (List ℕ → Read (List A)) → A → List ℕ → Read (List A)
   after_part others a bytes =
       on_byte ascii.comma bytes (λ rest. others rest >>= λ x. Ok (a ∷ x.0, x.1))
-      (on_byte close bytes (λ rest. Ok (a ∷ [], rest)) (rejected size code 0 bytes))
+      (on_byte close bytes (λ rest. Ok (a ∷ [], rest)) (reject size code 0 bytes))
 
   -- The number bounds the parts. One more than the bytes is always enough.
   unfoldable pub joined_at : ℕ → List ℕ → Read (List A)
@@ -57,12 +57,12 @@ array_at size mode value bytes =
 -- ---- objects
 
 abbrev pub found_at : Mark × List ℕ → ℕ → Source × List ℕ → Read Found
-found_at key place x = Ok (found key x.0 place, x.1)
+found_at key place x = Ok (found_member key x.0 place, x.1)
 
 abbrev pub after_key : ℕ → Mode → (List ℕ → Read Source) → Mark × List ℕ → ℕ → List ℕ → Read Found
 after_key size mode value key place bytes =
     on_byte ascii.colon bytes (λ rest. padded_at mode value rest >>= found_at key place)
-    (rejected size expected_colon 0 bytes)
+    (reject size expected_colon 0 bytes)
 
 abbrev pub member_at : ℕ → Mode → (List ℕ → Read Source) → List ℕ → Read Found
 member_at size mode value bytes =

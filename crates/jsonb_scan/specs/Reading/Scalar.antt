@@ -5,7 +5,7 @@ use Rattle.jsonb_spec.specs.Ascii as ascii
 use Rattle.jsonb_spec.specs.Mode.{Mode, standard, extended}
 use Rattle.jsonb_spec.specs.Tree.{Mark, Num, Tree, null, boolean, string, number}
 use Rattle.jsonb_spec.specs.Code.{expected_some_ident, expected_some_value}
-use Rattle.jsonb_scan.specs.Reading.{Fault, Read, ◌>>=◌, on_byte, rejected}
+use Rattle.jsonb_scan.specs.Reading.{Fault, Read, ◌>>=◌, on_byte, reject}
 use Rattle.jsonb_scan.specs.Reading.BareKey.{bare_key_at}
 use Rattle.jsonb_scan.specs.Reading.ExtendedNumber.{is_extended_start, extended_number_at}
 use Rattle.jsonb_scan.specs.Reading.Number.{is_number_start, standard_number_at}
@@ -14,14 +14,14 @@ use Rattle.jsonb_scan.specs.Reading.String.{string_at}
 -- ---- words
 
 -- a letter as words have it: in extended mode in lower case
-abbrev pub folded : Mode → ℕ → ℕ
-folded standard b = b
-folded extended b = to_ascii_lowercase b
+abbrev pub fold_letter : Mode → ℕ → ℕ
+fold_letter standard b = b
+fold_letter extended b = to_ascii_lowercase b
 
 -- the one where the bytes begin with this letter, of the bytes after it, and else the other
 abbrev pub on_letter : {X : Type 0} → Mode → ℕ → List ℕ → (List ℕ → X) → X → X
 on_letter mode c [] found other = other
-on_letter mode c (b ∷ bytes) found other = if folded mode b == c then found bytes else other
+on_letter mode c (b ∷ bytes) found other = if fold_letter mode b == c then found bytes else other
 
 -- whether the bytes begin with this letter
 abbrev pub begins_letter : Mode → ℕ → List ℕ → Bool
@@ -31,7 +31,7 @@ begins_letter mode c bytes = on_letter mode c bytes (λ rest. true) false
 abbrev pub letters_at : ℕ → Mode → List ℕ → List ℕ → Result (List ℕ) Fault
 letters_at size mode [] bytes = Ok bytes
 letters_at size mode (c ∷ cs) bytes =
-    on_letter mode c bytes (letters_at size mode cs) (rejected size expected_some_ident 1 bytes)
+    on_letter mode c bytes (letters_at size mode cs) (reject size expected_some_ident 1 bytes)
 
 -- a word and what it stands for
 abbrev pub word_at : ℕ → Mode → List ℕ → Tree → List ℕ → Read Tree
@@ -72,7 +72,7 @@ number_value_at size mode bytes = number_at size mode bytes >>= λ x. Ok (number
 -- a number as a value, or the fault of a byte that begins no value
 abbrev pub number_or_fault : ℕ → Mode → List ℕ → Read Tree
 number_or_fault size mode bytes = if begins_number mode bytes then number_value_at size mode bytes
-    else rejected size expected_some_value 1 bytes
+    else reject size expected_some_value 1 bytes
 
 -- ---- scalars and keys
 
@@ -111,7 +111,7 @@ scalar_at size mode bytes =
 
 -- a key without quotes
 abbrev pub unquoted_at : ℕ → Mode → List ℕ → Read (Mark × List ℕ)
-unquoted_at size standard bytes = rejected size expected_some_ident 1 bytes
+unquoted_at size standard bytes = reject size expected_some_ident 1 bytes
 unquoted_at size extended bytes = bare_key_at size bytes
 
 -- a key, with its mark

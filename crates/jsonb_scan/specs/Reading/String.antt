@@ -98,14 +98,14 @@ quote_end quote bytes = quote_from quote 0 bytes
 -- ---- the whole, from the byte after the opening quote on
 
 -- where the body ends after so many bytes
-abbrev pub decoded : ℕ → List ℕ → ℕ → Body (Mark × List ℕ) → Read (Mark × List ℕ)
-decoded size bytes end (Ok x) = Ok (x, drop (end + 1) bytes)
-decoded size bytes end (Err f) = fault f.0 (size - length bytes + 1 + f.1)
+abbrev pub string_of_body : ℕ → List ℕ → ℕ → Body (Mark × List ℕ) → Read (Mark × List ℕ)
+string_of_body size bytes end (Ok x) = Ok (x, drop (end + 1) bytes)
+string_of_body size bytes end (Err f) = fault f.0 (size - length bytes + 1 + f.1)
 
-abbrev pub closed : ℕ → Mode → List ℕ → Result ℕ ℕ → Read (Mark × List ℕ)
-closed size mode bytes (Ok end) = decoded size bytes end (body_of mode (take end bytes))
-closed size mode bytes (Err at) = fault invalid_eof (size - length bytes + at)
+abbrev pub string_up_to : ℕ → Mode → List ℕ → Result ℕ ℕ → Read (Mark × List ℕ)
+string_up_to size mode bytes (Ok end) = string_of_body size bytes end (body_of mode (take end bytes))
+string_up_to size mode bytes (Err at) = fault invalid_eof (size - length bytes + at)
 
 -- a string in these quotes
 unfoldable pub string_at : ℕ → Mode → ℕ → List ℕ → Read (Mark × List ℕ)
-string_at size mode quote bytes = closed size mode bytes (quote_end quote bytes)
+string_at size mode quote bytes = string_up_to size mode bytes (quote_end quote bytes)

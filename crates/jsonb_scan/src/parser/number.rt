@@ -43,7 +43,7 @@ pub(super) fn digits_end(bytes: &[u8], start: usize) -> usize
 }
 
 // The number with one digit more, where 64 bits hold it.
-fn appended(number: u64, digit: u8) -> Option<u64>
+fn with_digit(number: u64, digit: u8) -> Option<u64>
     requires { IsAsciiDigit digit }
     ensures { SomeIff result (number * 10 + digit_value digit < 2 ^ 64) (number * 10 + digit_value digit) }
 {
@@ -57,7 +57,7 @@ fn digits_number(digits: &[u8]) -> Option<u64>
 {
     let mut number = 0u64;
     for digit in digits {
-        number = appended(number, *digit)?;
+        number = with_digit(number, *digit)?;
     }
     Some(number)
 }

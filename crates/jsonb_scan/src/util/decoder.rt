@@ -38,7 +38,7 @@ struct Decoded<'a> {
 
 // The byte that a backslash and this letter stand for.
 #[inline(always)]
-fn escaped(letter: u8, mode: Mode) -> Option<u8>
+fn escaped_byte(letter: u8, mode: Mode) -> Option<u8>
     ensures { result ≡ escaped_byte (mode_of mode) letter }
 {
     match letter {
@@ -84,7 +84,7 @@ fn escape<'a>(
     if *letter == b'u' {
         return units(rest, text, len);
     }
-    let Some(byte) = escaped(*letter, mode) else {
+    let Some(byte) = escaped_byte(*letter, mode) else {
         return Err(DecodingFault {
             code: ParseErrorCode::InvalidEscaped(*letter),
             left: rest.len(),

@@ -70,22 +70,22 @@ abbrev pub is_low : ℕ → Bool
 is_low value = is_in_range 0xDC00 0xDFFF value
 
 -- the character of a surrogate pair
-abbrev pub paired : ℕ → ℕ → ℕ
-paired high low = 0x10000 + (high - 0xD800) * 0x400 + (low - 0xDC00)
+abbrev pub surrogate_character : ℕ → ℕ → ℕ
+surrogate_character high low = 0x10000 + (high - 0xD800) * 0x400 + (low - 0xDC00)
 
 -- a unit that is kept as text: six characters, the digits as they were spelled
-abbrev pub kept : List ℕ → List ℕ
-kept digits = ascii.backslash ∷ ascii.lower_u ∷ digits
+abbrev pub unit_text : List ℕ → List ℕ
+unit_text digits = ascii.backslash ∷ ascii.lower_u ∷ digits
 
 -- a unit alone: its character, or the unit as text where it is half of a pair
 unfoldable pub alone : List ℕ → List ℕ
-alone digits = if is_high (unit_value digits) || is_low (unit_value digits) then kept digits
+alone digits = if is_high (unit_value digits) || is_low (unit_value digits) then unit_text digits
     else encode_utf8 (unit_value digits)
 
 -- a high unit and the unit right after it: the character of the pair, or both as text where the second isn't low
 unfoldable pub together : List ℕ → List ℕ → List ℕ
-together high next = if is_low (unit_value next) then encode_utf8 (paired (unit_value high) (unit_value next))
-    else kept high ++ kept next
+together high next = if is_low (unit_value next) then encode_utf8 (surrogate_character (unit_value high) (unit_value next))
+    else unit_text high ++ unit_text next
 
 -- The bytes that items mean. Units are taken from the left, and a high one takes a unit right after it with it.
 unfoldable pub meaning : List Item → List ℕ

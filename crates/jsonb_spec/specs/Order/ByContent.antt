@@ -50,8 +50,8 @@ pairs_of no_members = []
 pairs_of (more_members k t ms) = (k, t) ∷ pairs_of ms
 
 -- m's whole number brought to the scale of both m and n
-abbrev pub crossed : Num → Num → ℤ
-crossed m n = m.whole *ℤ pos (10 ^ n.scale)
+abbrev pub whole_at_scale : Num → Num → ℤ
+whole_at_scale m n = m.whole *ℤ pos (10 ^ n.scale)
 
 module _ (below same : Tree → Tree → Type 0) where
   -- two trees compare as these lists do
@@ -67,8 +67,8 @@ module _ (below same : Tree → Tree → Type 0) where
     pub one_kind : (t u : Tree) → same t u → rank t ≡ rank u
     pub booleans : below (boolean false) (boolean true)
     pub numbers : (m n : Num)
-        → (below (number m) (number n) ↔ (crossed m n <ℤ crossed n m))
-        × (same (number m) (number n) ↔ (crossed m n ≡ crossed n m))
+        → (below (number m) (number n) ↔ (whole_at_scale m n <ℤ whole_at_scale n m))
+        × (same (number m) (number n) ↔ (whole_at_scale m n ≡ whole_at_scale n m))
     pub strings : (k l : Mark) (s t : List ℕ) → AsLists (string k s) (string l t) ◌<◌ ◌≡◌ s t
     pub binaries : (b c : List ℕ) → AsLists (binary b) (binary c) ◌<◌ ◌≡◌ b c
     pub dates : (d e : ℤ) → AsLists (date d) (date e) ◌<ℤ◌ ◌≡◌ (d ∷ []) (e ∷ [])

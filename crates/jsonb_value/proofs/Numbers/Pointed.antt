@@ -8,7 +8,7 @@ use Rattle.std.proofs.lemmas.Bool.Decides.{nat_tests}
 use Rattle.std.proofs.lemmas.List.{append-nil, length-append, length-replicate}
 use Rattle.jsonb_spec.specs.Text.NumberText.{zero_padded, with_point, text_of_parts}
 use Rattle.jsonb_value.specs.declared.number.text.TextParts.{TextParts}
-use Rattle.jsonb_value.specs.TextParts.{joined}
+use Rattle.jsonb_value.specs.TextParts.{bytes_of_parts}
 
 -- no zeros are missing
 pub zero_padded-enough : (least : ℕ) (ds : List ℕ) → least ≤ length ds → zero_padded least ds ≡ ds
@@ -50,7 +50,7 @@ joined_inside scale ds front back some inside first last =
 pub joined_before : (scale : ℕ) (ds : List ℕ) → scale ≢ 0 → length ds ≤ scale → (48 ∷ []) ++ ((46 ∷ []) ++ (replicate (scale - length ds) 48 ++ ds)) ≡ with_point scale (zero_padded (scale + 1) ds)
 joined_before scale ds some behind = sym (pointed_before scale ds (omega arith) behind)
 
-pub length-joined : (p : TextParts) → length (joined p) ≡ length p.sign.now + length p.front.now + length p.point.now + p.zeros + length p.back.now
+pub length-joined : (p : TextParts) → length (bytes_of_parts p) ≡ length p.sign.now + length p.front.now + length p.point.now + p.zeros + length p.back.now
 length-joined p = simp (length-append, length-replicate) (omega arith)
 
 -- ---- integers

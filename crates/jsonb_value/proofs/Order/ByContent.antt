@@ -4,7 +4,7 @@ use Rattle.std.specs.Cmp.{int_ranks, int_cmp_is, ranks, nat_cmp_is, tied_itself}
 use Rattle.std.specs.Cmp.Lexicographic.{slice_cmp, nat_list_cmp_total}
 use Rattle.std.specs.Ordering.{int_cmp, ordering_then, MatchOrdering}
 use Rattle.jsonb_spec.specs.Order.{bytes_cmp, rank, tree_cmp, Below, Same}
-use Rattle.jsonb_spec.specs.Order.ByContent.{SameAt, BelowAt, SameByPlaces, BelowByPlaces, BelowBytes, BelowPair, SamePair, items_of, pairs_of, crossed, AsLists, IsByContent}
+use Rattle.jsonb_spec.specs.Order.ByContent.{SameAt, BelowAt, SameByPlaces, BelowByPlaces, BelowBytes, BelowPair, SamePair, items_of, pairs_of, whole_at_scale, AsLists, IsByContent}
 use Rattle.jsonb_value.specs.Order.Laws.{trees_cmp-list, members_cmp-list, entry_cmp, then_equal, tree_cmp-parts}
 use Rattle.jsonb_spec.specs.Tree.{Tree, string, array, object, binary, date, timestamp, timestamp_tz, interval}
 
@@ -140,7 +140,7 @@ by_content = record {
   kinds = kinds;
   one_kind = one_kind;
   booleans = refl;
-  numbers = λ m n. (int_decides.is_below (crossed m n) (crossed n m), int_decides.is_same (crossed m n) (crossed n m));
+  numbers = λ m n. (int_decides.is_below (whole_at_scale m n) (whole_at_scale n m), int_decides.is_same (whole_at_scale m n) (whole_at_scale n m));
   strings = λ k l s t. as_lists (string k s) (string l t) s t nat_decides refl;
   binaries = λ b c. as_lists (binary b) (binary c) b c nat_decides refl;
   dates = λ d e. as_lists (date d) (date e) (d ∷ []) (e ∷ []) int_decides (sym (then_equal (int_cmp d e)));

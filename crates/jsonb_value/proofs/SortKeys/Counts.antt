@@ -7,7 +7,7 @@ use Rattle.std.specs.Bool.{nat_lt}
 use Rattle.std.specs.Ordering.{nat_cmp, ordering_then, MatchOrdering}
 use Rattle.std.specs.declared.cmp.Ordering.{Ordering}
 use Rattle.std.specs.declared.cmp.Ordering.TheVariants.{Less, Equal, Greater}
-use Rattle.jsonb_spec.specs.SortKey.{digits_within, digit_count, place_key, turned}
+use Rattle.jsonb_spec.specs.SortKey.{digits_within, digit_count, place_key, invert_if}
 use Rattle.jsonb_value.proofs.SortKeys.Comparing.{Compares, same_bytes, is_less, is_greater, ranks, nat_cmp-scaled}
 use Rattle.jsonb_value.proofs.SortKeys.Digits.{signed_order, signed_equal, turned_below, turned_above, turned_same, ten}
 
@@ -83,7 +83,7 @@ far x l = cond-false (nat_lt x 225) _ _ (le-ltb x 225 l)
 
 abbrev PlacesCompare : Bool → ℕ → ℕ → Ordering → Type 0
 PlacesCompare negative x y r =
-    Compares (map (turned negative) (place_key x)) (map (turned negative) (place_key y)) (signed_order negative r)
+    Compares (map (invert_if negative) (place_key x)) (map (invert_if negative) (place_key y)) (signed_order negative r)
 
 places_below : (negative : Bool) (x y : ℕ) → x < y → y < 351 → PlacesCompare negative x y Less
 places_below negative x y l small =
@@ -113,7 +113,7 @@ places_above negative x y l small =
 
 places_same : (negative : Bool) (x y : ℕ) → x ≡ y → PlacesCompare negative x y Equal
 places_same negative x y e =
-    rw (e, signed_equal negative) (same_bytes (map (turned negative) (place_key y)))
+    rw (e, signed_equal negative) (same_bytes (map (invert_if negative) (place_key y)))
 
 places_by : (negative : Bool) (x y : ℕ) → x < 351 → y < 351 → (r : Ordering) → MatchOrdering r (x < y) (x ≡ y) (y < x) → PlacesCompare negative x y r
 places_by negative x y p q Less l = places_below negative x y l q

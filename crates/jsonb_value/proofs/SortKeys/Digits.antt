@@ -7,7 +7,7 @@ use Rattle.std.proofs.lemmas.Nat.{div-add-mod', mod_below, div_below}
 use Rattle.std.specs.Ordering.{nat_cmp, ordering_then, ordering_reverse, MatchOrdering}
 use Rattle.std.specs.declared.cmp.Ordering.{Ordering}
 use Rattle.std.specs.declared.cmp.Ordering.TheVariants.{Less, Equal, Greater}
-use Rattle.jsonb_spec.specs.SortKey.{digits_key, turned}
+use Rattle.jsonb_spec.specs.SortKey.{digits_key, invert_if}
 use Rattle.jsonb_value.proofs.SortKeys.Comparing.{Compares, nothing, is_less, is_equal, is_greater, ranks, nat_cmp-scaled, nat_cmp-digits, byte_then, byte_below, byte_above}
 
 -- an answer about numbers of that sign, from the answer about them without it
@@ -20,18 +20,18 @@ signed_equal false = refl
 signed_equal true = refl
 
 pub turned_below : (negative : Bool) (h k : ℕ) (c d : List ℕ) → h < k → k < 256
-    → Compares (turned negative h ∷ c) (turned negative k ∷ d) (signed_order negative Less)
+    → Compares (invert_if negative h ∷ c) (invert_if negative k ∷ d) (signed_order negative Less)
 turned_below false h k c d l b = byte_below h k c d l
 turned_below true h k c d l b = byte_above (255 - h) (255 - k) c d (omega arith)
 
 pub turned_above : (negative : Bool) (h k : ℕ) (c d : List ℕ) → k < h → h < 256
-    → Compares (turned negative h ∷ c) (turned negative k ∷ d) (signed_order negative Greater)
+    → Compares (invert_if negative h ∷ c) (invert_if negative k ∷ d) (signed_order negative Greater)
 turned_above false h k c d l b = byte_above h k c d l
 turned_above true h k c d l b = byte_below (255 - h) (255 - k) c d (omega arith)
 
 pub turned_same : (negative : Bool) (h k : ℕ) (c d : List ℕ) (r : Ordering) → h ≡ k → Compares c d r
-    → Compares (turned negative h ∷ c) (turned negative k ∷ d) r
-turned_same negative h k c d r e p = byte_then _ _ c d Equal r (is_equal _ _ (ap (turned negative) e)) p
+    → Compares (invert_if negative h ∷ c) (invert_if negative k ∷ d) r
+turned_same negative h k c d r e p = byte_then _ _ c d Equal r (is_equal _ _ (ap (invert_if negative) e)) p
 
 pub ten : (n : ℕ) → 0 < 10 ^ n
 ten n = omega (arith, one-le-pow n 10 (omega arith))
@@ -79,7 +79,7 @@ pair_below count m h = div_below m (10 ^ count) 100 (ten count) (omega (arith, h
 -- what the digits say of two numbers, each with its count
 abbrev pub DigitsCompare : Bool → ℕ → ℕ → ℕ → ℕ → Type 0
 DigitsCompare negative a b m n =
-    Compares (map (turned negative) (digits_key a m)) (map (turned negative) (digits_key b n))
+    Compares (map (invert_if negative) (digits_key a m)) (map (invert_if negative) (digits_key b n))
     (signed_order negative (nat_cmp (m * 10 ^ b) (n * 10 ^ a)))
 
 -- two numbers by their first pairs, and then by the rest
@@ -102,7 +102,7 @@ crossed a b m n =
 same_pairs : (negative : Bool) (a b m n : ℕ) → m < 10 ^ suc (suc a) → n < 10 ^ suc (suc b) → m / 10 ^ a ≡ n / 10 ^ b
     → (0 < m % 10 ^ a → 0 < n % 10 ^ b → DigitsCompare negative a b (m % 10 ^ a) (n % 10 ^ b))
     → (m % 10 ^ a ≡ 0) ⊎ (m % 10 ^ a ≡ 0 → ⊥) → (n % 10 ^ b ≡ 0) ⊎ (n % 10 ^ b ≡ 0 → ⊥)
-    → Compares (map (turned negative) (digits_key (suc (suc a)) m)) (map (turned negative) (digits_key (suc (suc b)) n))
+    → Compares (map (invert_if negative) (digits_key (suc (suc a)) m)) (map (invert_if negative) (digits_key (suc (suc b)) n))
     (signed_order negative (nat_cmp (m % 10 ^ a * 10 ^ b) (n % 10 ^ b * 10 ^ a)))
 same_pairs negative a b m n p q l rest (inl x) (inl y) =
     let same : nat_cmp (m % 10 ^ a * 10 ^ b) (n % 10 ^ b * 10 ^ a) ≡ Equal =
@@ -113,12 +113,12 @@ same_pairs negative a b m n p q l rest (inl x) (inr y) =
     let some : 0 < n % 10 ^ b * 10 ^ a = mul-pos (n % 10 ^ b) (10 ^ a) (omega arith) (ten a) in
     let less : nat_cmp (m % 10 ^ a * 10 ^ b) (n % 10 ^ b * 10 ^ a) ≡ Less = is_less (m % 10 ^ a * 10 ^ b) (n % 10 ^ b * 10 ^ a) (omega (arith, ap (λ r. r * 10 ^ b) x)) in
     rw (last_pair a m x, more_pairs b n y, less)
-    (turned_below negative _ _ [] (map (turned negative) (digits_key b (n % 10 ^ b))) (omega arith) (omega (arith, pair_below b n q)))
+    (turned_below negative _ _ [] (map (invert_if negative) (digits_key b (n % 10 ^ b))) (omega arith) (omega (arith, pair_below b n q)))
 same_pairs negative a b m n p q l rest (inr x) (inl y) =
     let some : 0 < m % 10 ^ a * 10 ^ b = mul-pos (m % 10 ^ a) (10 ^ b) (omega arith) (ten b) in
     let greater : nat_cmp (m % 10 ^ a * 10 ^ b) (n % 10 ^ b * 10 ^ a) ≡ Greater = is_greater (m % 10 ^ a * 10 ^ b) (n % 10 ^ b * 10 ^ a) (omega (arith, ap (λ r. r * 10 ^ a) y)) in
     rw (more_pairs a m x, last_pair b n y, greater)
-    (turned_above negative _ _ (map (turned negative) (digits_key a (m % 10 ^ a))) [] (omega arith) (omega (arith, pair_below a m p)))
+    (turned_above negative _ _ (map (invert_if negative) (digits_key a (m % 10 ^ a))) [] (omega arith) (omega (arith, pair_below a m p)))
 same_pairs negative a b m n p q l rest (inr x) (inr y) =
     rw (more_pairs a m x, more_pairs b n y)
     (turned_same negative _ _ _ _ _ (ap (λ d. 2 * d + 1) l) (rest (omega arith) (omega arith)))
@@ -127,21 +127,21 @@ same_pairs negative a b m n p q l rest (inr x) (inr y) =
 first_pairs : (negative : Bool) (a b m n : ℕ) → m < 10 ^ suc (suc a) → n < 10 ^ suc (suc b)
     → (0 < m % 10 ^ a → 0 < n % 10 ^ b → DigitsCompare negative a b (m % 10 ^ a) (n % 10 ^ b))
     → (r : Ordering) → MatchOrdering r (m / 10 ^ a < n / 10 ^ b) (m / 10 ^ a ≡ n / 10 ^ b) (n / 10 ^ b < m / 10 ^ a)
-    → Compares (map (turned negative) (digits_key (suc (suc a)) m)) (map (turned negative) (digits_key (suc (suc b)) n))
+    → Compares (map (invert_if negative) (digits_key (suc (suc a)) m)) (map (invert_if negative) (digits_key (suc (suc b)) n))
     (signed_order negative (ordering_then r (nat_cmp (m % 10 ^ a * 10 ^ b) (n % 10 ^ b * 10 ^ a))))
 first_pairs negative a b m n p q rest Less l =
     let x = begins a m in
     let y = begins b n in
     let small : y.head < 256 = omega (arith, pair_below b n q, y.high) in
     rw (x.is, y.is)
-    (turned_below negative x.head y.head (map (turned negative) x.tail) (map (turned negative) y.tail)
+    (turned_below negative x.head y.head (map (invert_if negative) x.tail) (map (invert_if negative) y.tail)
     (omega (arith, x.high, y.low)) small)
 first_pairs negative a b m n p q rest Greater l =
     let x = begins a m in
     let y = begins b n in
     let small : x.head < 256 = omega (arith, pair_below a m p, x.high) in
     rw (x.is, y.is)
-    (turned_above negative x.head y.head (map (turned negative) x.tail) (map (turned negative) y.tail)
+    (turned_above negative x.head y.head (map (invert_if negative) x.tail) (map (invert_if negative) y.tail)
     (omega (arith, x.low, y.high)) small)
 first_pairs negative a b m n p q rest Equal l = same_pairs negative a b m n p q l rest (cases_eq (m % 10 ^ a) 0) (cases_eq (n % 10 ^ b) 0)
 
@@ -199,19 +199,19 @@ digits_compare negative (suc (suc a)) (suc (suc b)) m n p q o k =
 -- ---- the digits as they are written
 
 pub last_two : (negative : Bool) (count left m byte pair rest : ℕ) → count ≡ left + 2 → pair ≡ m / 10 ^ left → rest ≡ m % 10 ^ left
-    → rest ≡ 0 → byte ≡ turned negative (2 * pair) → byte ∷ [] ≡ map (turned negative) (digits_key count m)
+    → rest ≡ 0 → byte ≡ invert_if negative (2 * pair) → byte ∷ [] ≡ map (invert_if negative) (digits_key count m)
 last_two negative count left m byte pair rest e p r h b =
     let whole : count ≡ suc (suc left) = omega arith in
-    rw whole (ap (λ x. x ∷ []) (b ∙ ap (λ x. turned negative (2 * x)) p) ∙ sym (ap (map (turned negative)) (last_pair left m (sym r ∙ h))))
+    rw whole (ap (λ x. x ∷ []) (b ∙ ap (λ x. invert_if negative (2 * x)) p) ∙ sym (ap (map (invert_if negative)) (last_pair left m (sym r ∙ h))))
 
 pub two_and_more : (negative : Bool) (count left m byte pair rest : ℕ) → count ≡ left + 2 → pair ≡ m / 10 ^ left → rest ≡ m % 10 ^ left
-    → rest ≢ 0 → byte ≡ turned negative (2 * pair + 1)
-    → map (turned negative) (digits_key count m) ≡ (byte ∷ []) ++ map (turned negative) (digits_key left rest)
+    → rest ≢ 0 → byte ≡ invert_if negative (2 * pair + 1)
+    → map (invert_if negative) (digits_key count m) ≡ (byte ∷ []) ++ map (invert_if negative) (digits_key left rest)
 two_and_more negative count left m byte pair rest e p r h b =
     let whole : count ≡ suc (suc left) = omega arith in
     rw whole
-    (ap (map (turned negative)) (more_pairs left m (λ z. h (r ∙ z)))
-    ∙ (λ i. sym (b ∙ ap (λ x. turned negative (2 * x + 1)) p) i ∷ map (turned negative) (digits_key left (sym r i))))
+    (ap (map (invert_if negative)) (more_pairs left m (λ z. h (r ∙ z)))
+    ∙ (λ i. sym (b ∙ ap (λ x. invert_if negative (2 * x + 1)) p) i ∷ map (invert_if negative) (digits_key left (sym r i))))
 
 pub below_hundred : (count m : ℕ) → 2 ≤ count → m < 10 ^ count → m < 100 * 10 ^ (count - 2)
 below_hundred count m l h =

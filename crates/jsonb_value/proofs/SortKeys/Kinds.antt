@@ -2,7 +2,7 @@
 use Rattle.std.proofs.Common.{◌≡◌, ℕ, zero, suc, ◌-◌, ◌^◌, ◌<◌, true, false, List, [], ◌∷◌, map, ℤ, pos, negsuc, unsigned_abs, refl, ap, ◌∙◌, arith}
 use Rattle.std.proofs.lemmas.Int.{ints}
 use Rattle.jsonb_spec.specs.Proper.{FitsScale, FitsWhole, IsProperNumber}
-use Rattle.jsonb_spec.specs.SortKey.{number_key, key_of, IsBounded, turned}
+use Rattle.jsonb_spec.specs.SortKey.{number_key, key_of, IsBounded, invert_if}
 use Rattle.jsonb_spec.specs.Tree.{Form, int64, uint64, decimal64, decimal128, Num, Tree, null, boolean, string, number, array, object, binary, date, timestamp, timestamp_tz, interval}
 use Rattle.jsonb_value.proofs.SortKeys.Numbers.{IsSmall, positive, negative, nothing_there, head_of}
 
@@ -37,8 +37,8 @@ begins_by n p (pos (suc a)) e =
     let x = head_of n a (ap unsigned_abs e) p in
     record {
       head = x.head;
-      tail = map (turned false) x.tail;
-      is = positive n a e ∙ ap (map (turned false)) x.is;
+      tail = map (invert_if false) x.tail;
+      is = positive n a e ∙ ap (map (invert_if false)) x.is;
       low = omega (arith, x.low);
       high = omega (arith, x.high);
     }
@@ -46,8 +46,8 @@ begins_by n p (negsuc a) e =
     let x = head_of n a (ap unsigned_abs e) p in
     record {
       head = 255 - x.head;
-      tail = map (turned true) x.tail;
-      is = negative n a e ∙ ap (map (turned true)) x.is;
+      tail = map (invert_if true) x.tail;
+      is = negative n a e ∙ ap (map (invert_if true)) x.is;
       low = omega (arith, x.high);
       high = omega (arith, x.low);
     }

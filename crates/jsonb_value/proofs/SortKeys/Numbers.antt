@@ -11,7 +11,7 @@ use Rattle.std.specs.declared.cmp.Ordering.{Ordering}
 use Rattle.std.specs.declared.cmp.Ordering.TheVariants.{Less, Equal, Greater}
 use borrow.Author.Differences.{product_is}
 use Rattle.jsonb_spec.specs.Order.{num_cmp, decimal_cmp}
-use Rattle.jsonb_spec.specs.SortKey.{magnitude_key, number_key, place_key, digits_key, digit_count, turned}
+use Rattle.jsonb_spec.specs.SortKey.{magnitude_key, number_key, place_key, digits_key, digit_count, invert_if}
 use Rattle.jsonb_spec.specs.Tree.{Num}
 use Rattle.jsonb_value.proofs.SortKeys.Comparing.{Compares, ranks, same_bytes, byte_below, byte_above, then_compares}
 use Rattle.jsonb_value.proofs.SortKeys.Counts.{digits_counted, digit_count-le, places_compare, placed, places_and_digits}
@@ -27,11 +27,11 @@ signed_then true Greater s = refl
 
 -- two numbers above 0 of one sign
 magnitudes : (negative : Bool) (s t m n : ℕ) → s < 256 → t < 256 → 0 < m → 0 < n → m < 10 ^ 39 → n < 10 ^ 39
-    → Compares (map (turned negative) (magnitude_key s m)) (map (turned negative) (magnitude_key t n))
+    → Compares (map (invert_if negative) (magnitude_key s m)) (map (invert_if negative) (magnitude_key t n))
     (signed_order negative (nat_cmp (m * 10 ^ t) (n * 10 ^ s)))
 unfolding magnitude_key
 magnitudes negative s t m n p q o k u v =
-    let f = turned negative in
+    let f = invert_if negative in
     let a = digit_count m in
     let b = digit_count n in
     let x = digits_counted m o u in
@@ -68,7 +68,7 @@ pub key_of_zero : (n : Num) → unsigned_abs n.whole ≡ 0 → number_key n ≡ 
 unfolding number_key
 key_of_zero n h = cond-true (unsigned_abs n.whole == 0) _ _ (eq-eqb (unsigned_abs n.whole) 0 h)
 
-pub key_of_some : (n : Num) → unsigned_abs n.whole ≢ 0 → number_key n ≡ map (turned (is_negative n.whole)) (magnitude_key n.scale (unsigned_abs n.whole))
+pub key_of_some : (n : Num) → unsigned_abs n.whole ≢ 0 → number_key n ≡ map (invert_if (is_negative n.whole)) (magnitude_key n.scale (unsigned_abs n.whole))
 unfolding number_key
 key_of_some n h = cond-false (unsigned_abs n.whole == 0) _ _ (ne_eqb (unsigned_abs n.whole) 0 h)
 
@@ -108,16 +108,16 @@ pub record IsSmall (n : Num) : Type 0 where
   pub scale : n.scale < 256
   pub whole : unsigned_abs n.whole < 10 ^ 39
 
-pub positive : (n : Num) (a : ℕ) → n.whole ≡ pos (suc a) → number_key n ≡ map (turned false) (magnitude_key n.scale (suc a))
+pub positive : (n : Num) (a : ℕ) → n.whole ≡ pos (suc a) → number_key n ≡ map (invert_if false) (magnitude_key n.scale (suc a))
 positive n a e =
     key_of_some n (λ z. absurd (omega (arith, sym z ∙ ap unsigned_abs e)))
-    ∙ ap (λ w. map (turned (is_negative w)) (magnitude_key n.scale (unsigned_abs w))) e
-    ∙ ap (λ b. map (turned b) (magnitude_key n.scale (suc a))) (is_negative-pos (suc a))
+    ∙ ap (λ w. map (invert_if (is_negative w)) (magnitude_key n.scale (unsigned_abs w))) e
+    ∙ ap (λ b. map (invert_if b) (magnitude_key n.scale (suc a))) (is_negative-pos (suc a))
 
-pub negative : (n : Num) (a : ℕ) → n.whole ≡ negsuc a → number_key n ≡ map (turned true) (magnitude_key n.scale (suc a))
+pub negative : (n : Num) (a : ℕ) → n.whole ≡ negsuc a → number_key n ≡ map (invert_if true) (magnitude_key n.scale (suc a))
 negative n a e =
     key_of_some n (λ z. absurd (omega (arith, sym z ∙ ap unsigned_abs e)))
-    ∙ ap (λ w. map (turned (is_negative w)) (magnitude_key n.scale (unsigned_abs w))) e
+    ∙ ap (λ w. map (invert_if (is_negative w)) (magnitude_key n.scale (unsigned_abs w))) e
 
 pub nothing_there : (n : Num) → n.whole ≡ pos zero → number_key n ≡ 128 ∷ []
 nothing_there n e = key_of_zero n (ap unsigned_abs e)
@@ -137,16 +137,16 @@ by_signs m n p q (pos zero) (pos (suc b)) e f =
     let x = head_of n b (ap unsigned_abs f) q in
     let some : 0 < suc b * 10 ^ m.scale = mul-pos (suc b) (10 ^ m.scale) (omega arith) (ten m.scale) in
     let order : decimal_cmp (pos 0) m.scale (pos (suc b)) n.scale ≡ Less = below_by 0 (suc b) (10 ^ n.scale) (10 ^ m.scale) Less (omega arith) in
-    rw (nothing_there m e, positive n b f, x.is, order) (byte_below 128 x.head [] (map (turned false) x.tail) x.low)
+    rw (nothing_there m e, positive n b f, x.is, order) (byte_below 128 x.head [] (map (invert_if false) x.tail) x.low)
 by_signs m n p q (pos zero) (negsuc b) e f =
     let x = head_of n b (ap unsigned_abs f) q in
     let order : decimal_cmp (pos 0) m.scale (negsuc b) n.scale ≡ Greater = above_negative 0 b (10 ^ n.scale) (10 ^ m.scale) (ten m.scale) in
-    rw (nothing_there m e, negative n b f, x.is, order) (byte_above 128 (255 - x.head) [] (map (turned true) x.tail) (omega (arith, x.low)))
+    rw (nothing_there m e, negative n b f, x.is, order) (byte_above 128 (255 - x.head) [] (map (invert_if true) x.tail) (omega (arith, x.low)))
 by_signs m n p q (pos (suc a)) (pos zero) e f =
     let x = head_of m a (ap unsigned_abs e) p in
     let some : 0 < suc a * 10 ^ n.scale = mul-pos (suc a) (10 ^ n.scale) (omega arith) (ten n.scale) in
     let order : decimal_cmp (pos (suc a)) m.scale (pos 0) n.scale ≡ Greater = below_by (suc a) 0 (10 ^ n.scale) (10 ^ m.scale) Greater (omega arith) in
-    rw (positive m a e, nothing_there n f, x.is, order) (byte_above x.head 128 (map (turned false) x.tail) [] x.low)
+    rw (positive m a e, nothing_there n f, x.is, order) (byte_above x.head 128 (map (invert_if false) x.tail) [] x.low)
 by_signs m n p q (pos (suc a)) (pos (suc b)) e f =
     rw (positive m a e, positive n b f, both_positive (suc a) (suc b) (10 ^ n.scale) (10 ^ m.scale))
     (magnitudes false m.scale n.scale (suc a) (suc b) p.scale q.scale (omega arith) (omega arith) (omega (arith, p.whole, ap unsigned_abs e)) (omega (arith, q.whole, ap unsigned_abs f)))
@@ -154,16 +154,16 @@ by_signs m n p q (pos (suc a)) (negsuc b) e f =
     let x = head_of m a (ap unsigned_abs e) p in
     let y = head_of n b (ap unsigned_abs f) q in
     rw (positive m a e, negative n b f, x.is, y.is, above_negative (suc a) b (10 ^ n.scale) (10 ^ m.scale) (ten m.scale))
-    (byte_above x.head (255 - y.head) (map (turned false) x.tail) (map (turned true) y.tail) (omega (arith, x.low, y.low)))
+    (byte_above x.head (255 - y.head) (map (invert_if false) x.tail) (map (invert_if true) y.tail) (omega (arith, x.low, y.low)))
 by_signs m n p q (negsuc a) (pos zero) e f =
     let x = head_of m a (ap unsigned_abs e) p in
     rw (negative m a e, nothing_there n f, x.is, negative_below a 0 (10 ^ n.scale) (10 ^ m.scale) (ten n.scale))
-    (byte_below (255 - x.head) 128 (map (turned true) x.tail) [] (omega (arith, x.low)))
+    (byte_below (255 - x.head) 128 (map (invert_if true) x.tail) [] (omega (arith, x.low)))
 by_signs m n p q (negsuc a) (pos (suc b)) e f =
     let x = head_of m a (ap unsigned_abs e) p in
     let y = head_of n b (ap unsigned_abs f) q in
     rw (negative m a e, positive n b f, x.is, y.is, negative_below a (suc b) (10 ^ n.scale) (10 ^ m.scale) (ten n.scale))
-    (byte_below (255 - x.head) y.head (map (turned true) x.tail) (map (turned false) y.tail) (omega (arith, x.low, y.low)))
+    (byte_below (255 - x.head) y.head (map (invert_if true) x.tail) (map (invert_if false) y.tail) (omega (arith, x.low, y.low)))
 by_signs m n p q (negsuc a) (negsuc b) e f =
     rw (negative m a e, negative n b f, both_negative a b (10 ^ n.scale) (10 ^ m.scale))
     (magnitudes true m.scale n.scale (suc a) (suc b) p.scale q.scale (omega arith) (omega arith) (omega (arith, p.whole, ap unsigned_abs e)) (omega (arith, q.whole, ap unsigned_abs f)))
@@ -173,8 +173,8 @@ numbers_compare m n p q = by_signs m n p q m.whole n.whole refl refl
 
 -- the key of a number above 0 in its two parts
 pub magnitude_split : (negative : Bool) (scale m count place : ℕ) → count ≡ digit_count m → place ≡ count + 255 - scale
-    → map (turned negative) (magnitude_key scale m) ≡ map (turned negative) (place_key place) ++ map (turned negative) (digits_key count m)
+    → map (invert_if negative) (magnitude_key scale m) ≡ map (invert_if negative) (place_key place) ++ map (invert_if negative) (digits_key count m)
 unfolding magnitude_key
 magnitude_split negative scale m count place e f =
-    map-append (turned negative) (place_key (digit_count m + 255 - scale)) (digits_key (digit_count m) m)
-    ∙ (λ i. map (turned negative) (place_key (sym (f ∙ ap (λ n. n + 255 - scale) e) i)) ++ map (turned negative) (digits_key (sym e i) m))
+    map-append (invert_if negative) (place_key (digit_count m + 255 - scale)) (digits_key (digit_count m) m)
+    ∙ (λ i. map (invert_if negative) (place_key (sym (f ∙ ap (λ n. n + 255 - scale) e) i)) ++ map (invert_if negative) (digits_key (sym e i) m))

@@ -5,7 +5,7 @@ use Rattle.std.proofs.Math.Nat.{div-div-eq-div-mul, pow-suc, pow-zero}
 use Rattle.std.proofs.lemmas.Bool.{cases_eq}
 use Rattle.std.proofs.lemmas.List.{drop-set, drop_all, length-set}
 use Rattle.std.proofs.lemmas.Nat.{div-add-mod', mod_below, mod-mul-add, div-mul-add}
-use Rattle.jsonb_spec.specs.SortKey.{digit_count, digits_key, magnitude_key, place_key, turned}
+use Rattle.jsonb_spec.specs.SortKey.{digit_count, digits_key, magnitude_key, place_key, invert_if}
 use Rattle.jsonb_value.proofs.SortKeys.Counts.{near, far}
 use Rattle.jsonb_value.proofs.SortKeys.Numbers.{magnitude_split}
 use Rattle.jsonb_value.proofs.SortKeys.Digits.{hundred, last_pair, more_pairs, mul-pos, ten}
@@ -13,7 +13,7 @@ use Rattle.jsonb_value.proofs.SortKeys.Digits.{hundred, last_pair, more_pairs, m
 -- The last `count` digits of m stand in the row from `start` on. `front` is the number before them, and `more` is 1
 -- where they are not all zeros, of which a single byte stands there.
 pub record AreWritten (negative : Bool) (m count start front more : ℕ) (row : List ℕ) : Type 0 where
-  pub bytes : drop start row ≡ map (turned negative) (digits_key count (m % 10 ^ count))
+  pub bytes : drop start row ≡ map (invert_if negative) (digits_key count (m % 10 ^ count))
   pub before : front ≡ m / 10 ^ count
   pub none : more ≡ 0 → (m % 10 ^ count ≡ 0) × (start ≡ 11)
   pub some : more ≢ 0 → (more ≡ 1) × (m % 10 ^ count ≢ 0)
@@ -35,10 +35,10 @@ last_byte row byte long = drop-set row 11 byte (omega arith) ∙ ap (λ r. byte 
 
 pub begin_digits : (negative : Bool) (m count last front more byte : ℕ) (row : List ℕ) → length row ≡ 12
     → ◌≡◌ {A = List ℕ} ((2 * last) ∷ []) (digits_key count (m % 10 ^ count)) → (last ≡ 0 → m % 10 ^ count ≡ 0) → (m % 10 ^ count ≡ 0 → last ≡ 0)
-    → front ≡ m / 10 ^ count → byte ≡ turned negative (2 * last) → (last ≢ 0 → more ≡ 1) → (last ≡ 0 → more ≡ 0)
+    → front ≡ m / 10 ^ count → byte ≡ invert_if negative (2 * last) → (last ≢ 0 → more ≡ 1) → (last ≡ 0 → more ≡ 0)
     → AreWritten negative m count 11 front more (slice_set row 11 byte)
 begin_digits negative m count last front more byte row long digits to from before e one none = record {
-  bytes = last_byte row byte long ∙ ap (λ b. b ∷ []) e ∙ ap (map (turned negative)) digits;
+  bytes = last_byte row byte long ∙ ap (λ b. b ∷ []) e ∙ ap (map (invert_if negative)) digits;
   before = before;
   none = λ h. elim (cases_eq last 0) [ inl z ↦ (to z, refl) | inr z ↦ absurd (omega (arith, one z)) ];
   some = λ h. elim (cases_eq last 0) [ inl z ↦ absurd (h (none z)) | inr z ↦ (one z, λ y. z (from y)) ];
@@ -75,22 +75,22 @@ some_others : (m c : ℕ) → m % 10 ^ c ≢ 0 → m % 10 ^ suc (suc c) ≢ 0
 some_others m c r e = absurd (omega (arith, parts m c))
 
 module _ (negative : Bool) (m c start front more byte next : ℕ) (row : List ℕ) (long : length row ≡ 12) (some_room : 1 ≤ start) (within : start ≤ 11)
-    (w : AreWritten negative m c start front more row) (e : byte ≡ turned negative (2 * (front % 100) + more))
+    (w : AreWritten negative m c start front more row) (e : byte ≡ invert_if negative (2 * (front % 100) + more))
     (one : front % 100 ≢ 0 → next ≡ 1) (same : front % 100 ≡ 0 → next ≡ more) where
   pair_is : front % 100 ≡ m / 10 ^ c % 100
   pair_is = ap (λ x. x % 100) w.before
 
   bytes_by : (more ≡ 0) ⊎ (more ≡ 0 → ⊥)
-      → drop (start - more) (slice_set row (start - more) byte) ≡ map (turned negative) (digits_key (suc (suc c)) (m % 10 ^ suc (suc c)))
+      → drop (start - more) (slice_set row (start - more) byte) ≡ map (invert_if negative) (digits_key (suc (suc c)) (m % 10 ^ suc (suc c)))
   bytes_by (inl z) =
       let at : start - more ≡ 11 = omega (arith, (w.none z).1) in
-      let is : byte ≡ turned negative (2 * (m / 10 ^ c % 100)) = e ∙ ap (turned negative) {x = 2 * (front % 100) + more} (omega (arith, pair_is)) in
-      rw at (last_byte row byte long ∙ ap (λ b. b ∷ []) is ∙ sym (ap (map (turned negative)) (after_zeros m c (w.none z).0)))
+      let is : byte ≡ invert_if negative (2 * (m / 10 ^ c % 100)) = e ∙ ap (invert_if negative) {x = 2 * (front % 100) + more} (omega (arith, pair_is)) in
+      rw at (last_byte row byte long ∙ ap (λ b. b ∷ []) is ∙ sym (ap (map (invert_if negative)) (after_zeros m c (w.none z).0)))
   bytes_by (inr z) =
       let at : start - more + 1 ≡ start = omega (arith, (w.some z).0) in
-      let is : byte ≡ turned negative (2 * (m / 10 ^ c % 100) + 1) = e ∙ ap (turned negative) {x = 2 * (front % 100) + more} (omega (arith, pair_is, (w.some z).0)) in
+      let is : byte ≡ invert_if negative (2 * (m / 10 ^ c % 100) + 1) = e ∙ ap (invert_if negative) {x = 2 * (front % 100) + more} (omega (arith, pair_is, (w.some z).0)) in
       drop-set row (start - more) byte (omega arith) ∙ ap (λ n. byte ∷ drop n row) at
-      ∙ (λ i. is i ∷ w.bytes i) ∙ sym (ap (map (turned negative)) (after_some m c (w.some z).1))
+      ∙ (λ i. is i ∷ w.bytes i) ∙ sym (ap (map (invert_if negative)) (after_some m c (w.some z).1))
 
   none_by : (front % 100 ≡ 0) ⊎ (front % 100 ≡ 0 → ⊥) → next ≡ 0 → (m % 10 ^ suc (suc c) ≡ 0) × (start - more ≡ 11)
   none_by (inl z) h =
@@ -115,16 +115,16 @@ module _ (negative : Bool) (m c start front more byte next : ℕ) (row : List �
 -- ---- the place before the digits
 
 pub far_place : (negative : Bool) (place end byte : ℕ) (row : List ℕ) → length row ≡ 12 → 1 ≤ end → end ≤ 12 → 225 ≤ place
-    → byte ≡ turned negative (place - 95)
-    → drop (end - 1) (slice_set row (end - 1) byte) ≡ map (turned negative) (place_key place) ++ drop end row
+    → byte ≡ invert_if negative (place - 95)
+    → drop (end - 1) (slice_set row (end - 1) byte) ≡ map (invert_if negative) (place_key place) ++ drop end row
 far_place negative place end byte row long low high l e =
     drop-set row (end - 1) byte (omega arith)
     ∙ ap (λ n. byte ∷ drop n row) {x = end - 1 + 1} {y = end} (omega arith)
-    ∙ ap (λ b. b ∷ drop end row) e ∙ sym (ap (λ key. map (turned negative) key ++ drop end row) (far place l))
+    ∙ ap (λ b. b ∷ drop end row) e ∙ sym (ap (λ key. map (invert_if negative) key ++ drop end row) (far place l))
 
 pub near_place : (negative : Bool) (place end byte sign : ℕ) (row : List ℕ) → length row ≡ 12 → 2 ≤ end → end ≤ 12 → place < 225
-    → byte ≡ turned negative place → sign ≡ turned negative 129
-    → drop (end - 2) (slice_set (slice_set row (end - 1) byte) (end - 2) sign) ≡ map (turned negative) (place_key place) ++ drop end row
+    → byte ≡ invert_if negative place → sign ≡ invert_if negative 129
+    → drop (end - 2) (slice_set (slice_set row (end - 1) byte) (end - 2) sign) ≡ map (invert_if negative) (place_key place) ++ drop end row
 near_place negative place end byte sign row long low high l e s =
     let first : drop (end - 1) (slice_set row (end - 1) byte) ≡ byte ∷ drop end row =
     drop-set row (end - 1) byte (omega arith) ∙ ap (λ n. byte ∷ drop n row) {x = end - 1 + 1} {y = end} (omega arith) in
@@ -132,7 +132,7 @@ near_place negative place end byte sign row long low high l e s =
     ∙ ap (λ n. sign ∷ drop n (slice_set row (end - 1) byte)) {x = end - 2 + 1} {y = end - 1} (omega arith)
     ∙ ap (λ bytes. sign ∷ bytes) first
     ∙ (λ i. s i ∷ e i ∷ drop end row)
-    ∙ sym (ap (λ key. map (turned negative) key ++ drop end row) (near place l))
+    ∙ sym (ap (λ key. map (invert_if negative) key ++ drop end row) (near place l))
 
 -- what isn't written at once has two digits or more
 pub two_or_more : (count m : ℕ) → m < 10 ^ count → ((count ≤ 20) × (18446744073709551616 ≤ m)) ⊎ (20 < count) → 2 ≤ count
@@ -145,13 +145,13 @@ two_or_more count m below (inr h) = omega arith
 
 pub small_key : (negative : Bool) (scale m count digits first second : ℕ) → scale < 31 → 1 ≤ count → count ≡ digit_count m
     → ◌≡◌ {A = List ℕ} (digits ∷ []) (digits_key (digit_count m) m)
-    → first ≡ turned negative (count + 160 - scale) → second ≡ turned negative digits
-    → ◌≡◌ {A = List ℕ} (first ∷ second ∷ []) (map (turned negative) (magnitude_key scale m))
+    → first ≡ invert_if negative (count + 160 - scale) → second ≡ invert_if negative digits
+    → ◌≡◌ {A = List ℕ} (first ∷ second ∷ []) (map (invert_if negative) (magnitude_key scale m))
 small_key negative scale m count digits first second near some is key e f =
     let place : count + 255 - scale - 95 ≡ count + 160 - scale = omega arith in
-    let head : first ∷ [] ≡ map (turned negative) (place_key (count + 255 - scale)) =
-    ap (λ b. b ∷ []) (e ∙ ap (turned negative) (sym place)) ∙ sym (ap (map (turned negative)) (far (count + 255 - scale) (omega arith))) in
-    let tail : second ∷ [] ≡ map (turned negative) (digits_key count m) =
-    ap (λ b. b ∷ []) f ∙ ap (map (turned negative)) (key ∙ ap (λ n. digits_key n m) (sym is)) in
+    let head : first ∷ [] ≡ map (invert_if negative) (place_key (count + 255 - scale)) =
+    ap (λ b. b ∷ []) (e ∙ ap (invert_if negative) (sym place)) ∙ sym (ap (map (invert_if negative)) (far (count + 255 - scale) (omega arith))) in
+    let tail : second ∷ [] ≡ map (invert_if negative) (digits_key count m) =
+    ap (λ b. b ∷ []) f ∙ ap (map (invert_if negative)) (key ∙ ap (λ n. digits_key n m) (sym is)) in
     ap₂ (λ front back. front ++ back) head tail
     ∙ sym (magnitude_split negative scale m count (count + 255 - scale) is refl)

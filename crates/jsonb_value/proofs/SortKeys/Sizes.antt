@@ -11,7 +11,7 @@ use Rattle.std.specs.Int.{is_negative}
 use Rattle.std.specs.List.{flat_map, sum_by}
 use Rattle.jsonb_spec.specs.Order.ByContent.{items_of, pairs_of}
 use Rattle.jsonb_spec.specs.Proper.{FitsWhole, IsProperNumber}
-use Rattle.jsonb_spec.specs.SortKey.{byte_key, digit_count, digits_key, items_key, key_of, magnitude_key, members_key, number_key, place_key, text_key, turned}
+use Rattle.jsonb_spec.specs.SortKey.{byte_key, digit_count, digits_key, items_key, key_of, magnitude_key, members_key, number_key, place_key, text_key, invert_if}
 use Rattle.jsonb_spec.specs.SortKey.Size.{exponent_len, member_len, most_pairs, zero_count}
 use Rattle.jsonb_spec.specs.Tree.{Form, int64, uint64, decimal64, decimal128, Mark, Num, string, array, object, Trees, no_trees, more_trees, Members, no_members, more_members}
 use Rattle.jsonb_value.proofs.SortKeys.Counts.{HasDigits, digits_counted, far, near, power_le}
@@ -77,8 +77,8 @@ magnitude_len scale m = length-append (place_key (digit_count m + 255 - scale)) 
 some_key : (n : Num) → unsigned_abs n.whole ≢ 0 → length (number_key n) ≡ length (magnitude_key n.scale (unsigned_abs n.whole))
 unfolding number_key
 some_key n some =
-    ap length (cond-false (unsigned_abs n.whole == 0) (128 ∷ []) (map (turned (is_negative n.whole)) (magnitude_key n.scale (unsigned_abs n.whole))) (ne_eqb (unsigned_abs n.whole) 0 some))
-    ∙ length-map (magnitude_key n.scale (unsigned_abs n.whole)) (turned (is_negative n.whole))
+    ap length (cond-false (unsigned_abs n.whole == 0) (128 ∷ []) (map (invert_if (is_negative n.whole)) (magnitude_key n.scale (unsigned_abs n.whole))) (ne_eqb (unsigned_abs n.whole) 0 some))
+    ∙ length-map (magnitude_key n.scale (unsigned_abs n.whole)) (invert_if (is_negative n.whole))
 
 pub zero_len : (n : Num) → unsigned_abs n.whole ≡ 0 → length (number_key n) ≡ 1
 zero_len n none = ap length (key_of_zero n none)

@@ -1,7 +1,7 @@
 -- What a copy whose strings are owned has of its source: items, members, keys that ascend.
 use Rattle.std.proofs.Common.{◌≡◌, ℕ, List, [], ◌∷◌, map, string_bytes, refl, ap, ◌∙◌}
 use Rattle.jsonb_spec.specs.Keys.{IsBelowKeys, KeysAscend}
-use Rattle.jsonb_spec.specs.Owned.{owned, owned_items, owned_members}
+use Rattle.jsonb_spec.specs.Owned.{owned_tree, owned_items, owned_members}
 use Rattle.jsonb_spec.specs.Tree.{Member, Members, no_members, more_members, trees_of, more_trees}
 use Rattle.jsonb_value.specs.View.{view, trees_view, members_view, pairs_view}
 use Rattle.jsonb_value.specs.declared.value.Value.{Value}
@@ -10,15 +10,15 @@ use Rattle.jsonb_value.proofs.Values.Members.{Entry}
 
 -- each key with its value's tree, the strings of which are owned
 abbrev pub owned_pairs : List Entry → List Member
-owned_pairs es = map (λ m. (string_bytes m.0, owned (view m.1))) es
+owned_pairs es = map (λ m. (string_bytes m.0, owned_tree (view m.1))) es
 
-pub owned_items-trees_view : (vs : List Value) → trees_of (map (λ v. owned (view v)) vs) ≡ owned_items (trees_view vs)
+pub owned_items-trees_view : (vs : List Value) → trees_of (map (λ v. owned_tree (view v)) vs) ≡ owned_items (trees_view vs)
 owned_items-trees_view [] = refl
-owned_items-trees_view (v ∷ vs) = ap (more_trees (owned (view v))) (owned_items-trees_view vs)
+owned_items-trees_view (v ∷ vs) = ap (more_trees (owned_tree (view v))) (owned_items-trees_view vs)
 
 from_owned_pairs : (es : List Entry) → members_of_pairs (owned_pairs es) ≡ owned_members (members_view es)
 from_owned_pairs [] = refl
-from_owned_pairs (e ∷ es) = ap (more_members (string_bytes e.0) (owned (view e.1))) (from_owned_pairs es)
+from_owned_pairs (e ∷ es) = ap (more_members (string_bytes e.0) (owned_tree (view e.1))) (from_owned_pairs es)
 
 -- pairs that are those of the entries with owned strings are the members with owned strings
 pub members_view-owned : (es fs : List Entry) → pairs_view es ≡ owned_pairs fs → members_view es ≡ owned_members (members_view fs)

@@ -56,7 +56,7 @@ fn uint64_or(alloc: Global, value: Option<i128>, overflow: &str) -> Result<Numbe
 }
 
 // The value in the variant of this kind. It is `None` where it is past 128 bits.
-fn fitted(alloc: Global, kind: Kind, value: Option<i128>) -> Result<Number>
+fn number_of_kind(alloc: Global, kind: Kind, value: Option<i128>) -> Result<Number>
     ensures { (z : ℤ) → SomeIff value (FitsSigned w128 z) z → AnswersAs kind z result }
 {
     match kind {
@@ -109,7 +109,7 @@ fn remainder(alloc: Global, kind: Kind, left: i128, right: i128) -> Result<Numbe
     if left == i128::from(i64::MIN) && right == -1 {
         return Err(message(alloc, "Int64 overflow"));
     }
-    fitted(alloc, kind, Some(left % right))
+    number_of_kind(alloc, kind, Some(left % right))
 }
 
 impl Number {
@@ -130,7 +130,7 @@ impl Number {
         let Some(Operands { kind, left, right }) = integer_operands(self, &other) else {
             return Err(Error::UnexpectedType);
         };
-        fitted(alloc, kind, Some(left + right))
+        number_of_kind(alloc, kind, Some(left + right))
     }
 
     /// The exact difference of two integers, an `Int64`.
@@ -157,7 +157,7 @@ impl Number {
         let Some(Operands { kind, left, right }) = integer_operands(self, &other) else {
             return Err(Error::UnexpectedType);
         };
-        fitted(alloc, kind, left.checked_mul(right))
+        number_of_kind(alloc, kind, left.checked_mul(right))
     }
 
     /// The remainder of two integers, with the sign of the first, of the type of their sum.

@@ -1,7 +1,7 @@
 //! The sort key of a number: its sign, its exponent, and its digits.
 ghost use Rattle.std.specs.Prelude.{◌≡◌, ◌*◌, ◌/◌, ◌%◌, ◌^◌, ◌<◌, ◌≤◌, ◌++◌, ◌↔◌, ◌-◌, ◌∷◌, [], map, drop};
 ghost use Rattle.jsonb_spec.specs.Proper.{IsProperNumber};
-ghost use Rattle.jsonb_spec.specs.SortKey.{digit_count, place_key, digits_key, magnitude_key, number_key, turned};
+ghost use Rattle.jsonb_spec.specs.SortKey.{digit_count, place_key, digits_key, magnitude_key, number_key, invert_if};
 ghost use Rattle.jsonb_spec.specs.Text.Appending.{Appends};
 ghost use Rattle.jsonb_value.specs.View.{number_view};
 
@@ -57,8 +57,8 @@ fn append_row(row: &[u8; 12], start: usize, buf: &mut Vec<u8>) -> Appended
 
 // A byte, turned round where the number is negative.
 #[inline(always)]
-fn turned(negative: bool, byte: u8) -> u8
-    ensures { result ≡ turned negative byte }
+fn invert_if(negative: bool, byte: u8) -> u8
+    ensures { result ≡ invert_if negative byte }
 {
     if negative { 255 - byte } else { byte }
 }
@@ -66,7 +66,7 @@ fn turned(negative: bool, byte: u8) -> u8
 // Appends the key of a number above 0 with this sign.
 fn append_magnitude(negative: bool, scale: u8, magnitude: u128, buf: &mut Vec<u8>) -> Appended
     requires { 0 < magnitude }
-    ensures appends { Appends result buf.old buf.new (map (turned negative) (magnitude_key scale magnitude)) }
+    ensures appends { Appends result buf.old buf.new (map (invert_if negative) (magnitude_key scale magnitude)) }
 {
     if magnitude < 100 && scale < 31 {
         return append_small(negative, scale, magnitude as u64, buf);
@@ -82,11 +82,11 @@ fn append_magnitude(negative: bool, scale: u8, magnitude: u128, buf: &mut Vec<u8
 fn append_small(negative: bool, scale: u8, magnitude: u64, buf: &mut Vec<u8>) -> Appended
     requires few { (0 < magnitude) × (magnitude < 100) }
     requires near { scale < 31 }
-    ensures appends { Appends result buf.old buf.new (map (turned negative) (magnitude_key scale magnitude)) }
+    ensures appends { Appends result buf.old buf.new (map (invert_if negative) (magnitude_key scale magnitude)) }
 {
     let (count, digits) = small_digits(magnitude);
-    let place = turned(negative, count + 0xA0 - scale);
-    append_two(place, turned(negative, digits), buf)
+    let place = invert_if(negative, count + 0xA0 - scale);
+    append_two(place, invert_if(negative, digits), buf)
 }
 
 // How many digits a number below 100 has, and their byte.
@@ -108,7 +108,7 @@ fn small_digits(magnitude: u64) -> (u8, u8)
 #[inline(always)]
 fn append_short(negative: bool, scale: u8, magnitude: u64, buf: &mut Vec<u8>) -> Appended
     requires { 0 < magnitude }
-    ensures appends { Appends result buf.old buf.new (map (turned negative) (magnitude_key scale magnitude)) }
+    ensures appends { Appends result buf.old buf.new (map (invert_if negative) (magnitude_key scale magnitude)) }
 {
     let count = short_digit_count(magnitude);
     let mut row = [0; 12];
@@ -121,7 +121,7 @@ fn append_short(negative: bool, scale: u8, magnitude: u64, buf: &mut Vec<u8>) ->
 #[inline(never)]
 fn append_long(negative: bool, scale: u8, magnitude: u128, buf: &mut Vec<u8>) -> Appended
     requires { 0 < magnitude }
-    ensures appends { Appends result buf.old buf.new (map (turned negative) (magnitude_key scale magnitude)) }
+    ensures appends { Appends result buf.old buf.new (map (invert_if negative) (magnitude_key scale magnitude)) }
 {
     let count = digit_count(magnitude);
     append_place(negative, count + 255 - u32::from(scale), buf)?;
@@ -156,22 +156,22 @@ fn short_digit_count(magnitude: u64) -> u32
 fn write_place(negative: bool, place: u32, end: usize, row: &mut [u8; 12]) -> usize
     requires small { place < 295 }
     requires room { (2 ≤ end) × (end ≤ 12) }
-    ensures bytes { drop result row.new ≡ map (turned negative) (place_key place) ++ drop end row.old }
+    ensures bytes { drop result row.new ≡ map (invert_if negative) (place_key place) ++ drop end row.old }
     ensures within { result ≤ 12 }
 {
     if place < 225 {
-        row[end - 1] = turned(negative, place as u8);
-        row[end - 2] = turned(negative, kind::FAR_PLACE);
+        row[end - 1] = invert_if(negative, place as u8);
+        row[end - 2] = invert_if(negative, kind::FAR_PLACE);
         return end - 2;
     }
-    row[end - 1] = turned(negative, (place - 95) as u8);
+    row[end - 1] = invert_if(negative, (place - 95) as u8);
     end - 1
 }
 
 // Appends the place of the first digit.
 fn append_place(negative: bool, place: u32, buf: &mut Vec<u8>) -> Appended
     requires { place < 295 }
-    ensures appends { Appends result buf.old buf.new (map (turned negative) (place_key place)) }
+    ensures appends { Appends result buf.old buf.new (map (invert_if negative) (place_key place)) }
 {
     let mut row = [0; 12];
     let start = write_place(negative, place, 12, &mut row);
@@ -201,7 +201,7 @@ fn write_digits(negative: bool, count: u32, magnitude: u64, row: &mut [u8; 12]) 
     requires some { 0 < count }
     requires few { count ≤ 20 }
     requires below { magnitude < 10 ^ count }
-    ensures bytes { drop result row.new ≡ map (turned negative) (digits_key count magnitude) }
+    ensures bytes { drop result row.new ≡ map (invert_if negative) (digits_key count magnitude) }
     ensures room { (2 ≤ result) × (result ≤ 12) }
 {
     let (last, mut front) = split_last(count, magnitude);
@@ -210,13 +210,13 @@ fn write_digits(negative: bool, count: u32, magnitude: u64, row: &mut [u8; 12]) 
         more = 1;
     }
     let mut start = 11;
-    row[start] = turned(negative, 2 * last);
+    row[start] = invert_if(negative, 2 * last);
     let mut left = (count - 1) / 2;
     'pairs: while left > 0 {
         let pair = (front % 100) as u8;
         front /= 100;
         start -= usize::from(more);
-        row[start] = turned(negative, 2 * pair + more);
+        row[start] = invert_if(negative, 2 * pair + more);
         if pair != 0 {
             more = 1;
         }
@@ -230,7 +230,7 @@ fn append_short_digits(negative: bool, count: u32, magnitude: u64, buf: &mut Vec
     requires some { 0 < count }
     requires few { count ≤ 20 }
     requires below { magnitude < 10 ^ count }
-    ensures appends { Appends result buf.old buf.new (map (turned negative) (digits_key count magnitude)) }
+    ensures appends { Appends result buf.old buf.new (map (invert_if negative) (digits_key count magnitude)) }
 {
     let mut row = [0; 12];
     let start = write_digits(negative, count, magnitude, &mut row);
@@ -255,7 +255,7 @@ fn append_digits(negative: bool, count: u32, magnitude: u128, buf: &mut Vec<u8>)
     requires some { 0 < magnitude }
     requires few { count ≤ 39 }
     requires below { magnitude < 10 ^ count }
-    ensures appends { Appends result buf.old buf.new (map (turned negative) (digits_key count magnitude)) }
+    ensures appends { Appends result buf.old buf.new (map (invert_if negative) (digits_key count magnitude)) }
 {
     if count <= 20 && magnitude < 0x1_0000_0000_0000_0000 {
         return append_short_digits(negative, count, magnitude as u64, buf);
@@ -263,8 +263,8 @@ fn append_digits(negative: bool, count: u32, magnitude: u128, buf: &mut Vec<u8>)
     let left = count - 2;
     let (pair, rest) = split_pair(magnitude, left);
     if rest == 0 {
-        return append_byte(turned(negative, 2 * pair), buf);
+        return append_byte(invert_if(negative, 2 * pair), buf);
     }
-    append_byte(turned(negative, 2 * pair + 1), buf)?;
+    append_byte(invert_if(negative, 2 * pair + 1), buf)?;
     append_digits(negative, left, rest, buf)
 }

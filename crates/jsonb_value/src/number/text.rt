@@ -6,7 +6,7 @@ ghost use Rattle.jsonb_spec.specs.Ascii as ascii;
 ghost use Rattle.jsonb_spec.specs.Text.Appending.{AppendsAllOrNothing};
 ghost use Rattle.jsonb_spec.specs.Text.NumberText.{number_text, text_of_parts, with_point, zero_padded};
 ghost use Rattle.jsonb_spec.specs.Proper.{IsProperNumber};
-ghost use Rattle.jsonb_value.specs.TextParts.{joined};
+ghost use Rattle.jsonb_value.specs.TextParts.{bytes_of_parts};
 ghost use Rattle.jsonb_value.specs.View.{number_view};
 
 use crate::number::Number;
@@ -27,7 +27,7 @@ struct TextParts<'a> {
 impl<'a> TextParts<'a> {
     // The text of an integer, which has no point.
     fn whole(digits: &'a str) -> TextParts<'a>
-        ensures { joined result ≡ digits.now }
+        ensures { bytes_of_parts result ≡ digits.now }
     {
         TextParts {
             sign: "",
@@ -39,16 +39,16 @@ impl<'a> TextParts<'a> {
     }
 
     fn len(&self) -> usize
-        requires { length (joined self.now) < 2 ^ 64 }
-        ensures { result ≡ length (joined self.now) }
+        requires { length (bytes_of_parts self.now) < 2 ^ 64 }
+        ensures { result ≡ length (bytes_of_parts self.now) }
     {
         self.sign.len() + self.front.len() + self.point.len() + self.zeros + self.back.len()
     }
 
     fn append_to(&self, buf: &mut Vec<u8>) -> Result<(), AllocError>
-        requires { vec_len buf.old + length (joined self.now) ≤ vec_capacity buf.old }
+        requires { vec_len buf.old + length (bytes_of_parts self.now) ≤ vec_capacity buf.old }
         ensures succeeds { IsOk result }
-        ensures items { buf.new.items ≡ buf.old.items ++ joined self.now }
+        ensures items { buf.new.items ≡ buf.old.items ++ bytes_of_parts self.now }
         ensures capacity { vec_capacity buf.old ≤ vec_capacity buf.new }
     {
         buf.extend_from_slice(self.sign.as_bytes())?;
@@ -84,9 +84,9 @@ fn decimal_parts(scale: u8, negative: bool, digits: &str) -> TextParts<'_>
     requires ascii { IsAscii digits.now }
     requires some_digit { 0 < length digits.now }
     requires few_digits { length digits.now ≤ 40 }
-    ensures text { joined result
+    ensures text { bytes_of_parts result
         ≡ sign_text negative ++ with_point scale (zero_padded (scale + 1) digits.now) }
-    ensures short { length (joined result) ≤ 258 }
+    ensures short { length (bytes_of_parts result) ≤ 258 }
 {
     let sign = sign_of(negative);
     let places = scale as usize;
@@ -120,8 +120,8 @@ fn decimal_parts(scale: u8, negative: bool, digits: &str) -> TextParts<'_>
 
 impl Number {
     fn text_parts<'a>(&self, buffer: &'a mut Buffer) -> TextParts<'a>
-        ensures text { joined result ≡ number_text (number_view self.now) }
-        ensures short { length (joined result) ≤ 258 }
+        ensures text { bytes_of_parts result ≡ number_text (number_view self.now) }
+        ensures short { length (bytes_of_parts result) ≤ 258 }
         ensures proper { IsProperNumber (number_view self.now) }
     {
         match self {

@@ -2,7 +2,7 @@
 ghost use Rattle.std.specs.Prelude.{◌≡◌, ◌⊎◌, IfOk, IfErr, true, false};
 ghost use Rattle.std.specs.Cow.{cow_str_bytes};
 ghost use Rattle.std.specs.Result.{IsErrOf};
-ghost use Rattle.jsonb_spec.specs.Owned.{owned, owned_items, owned_members, holds_binary, items_hold_binary, members_hold_binary};
+ghost use Rattle.jsonb_spec.specs.Owned.{owned_tree, owned_items, owned_members, holds_binary, items_hold_binary, members_hold_binary};
 ghost use Rattle.jsonb_spec.specs.Accessors.{HoldsNoMemory};
 ghost use Rattle.jsonb_spec.specs.Tree.{escaped};
 ghost use Rattle.jsonb_value.specs.View.{view, trees_view, members_view, mark_view};
@@ -29,10 +29,10 @@ impl<'a> Value<'a> {
     /// `UnexpectedType` only where the value holds binary data, which is always borrowed, at any depth. `OutOfMemory`
     /// only of a string, an array or an object.
     pub fn to_owned_value<'b>(&self, alloc: Global) -> Result<Value<'b>>
-        ensures ok { IfOk result (λ v. view v ≡ owned (view self.now)) }
+        ensures ok { IfOk result (λ v. view v ≡ owned_tree (view self.now)) }
         ensures binary { IfOk result (λ _. holds_binary (view self.now) ≡ false) }
         ensures unexpected { IsErrOf result Error.UnexpectedType → holds_binary (view self.now) ≡ true }
-        ensures memory { IsErrOf result Error.OutOfMemory → ¬ (HoldsNoMemory (owned (view self.now))) }
+        ensures memory { IsErrOf result Error.OutOfMemory → ¬ (HoldsNoMemory (owned_tree (view self.now))) }
         ensures errors { IfErr result (λ e. (e ≡ Error.UnexpectedType) ⊎ (e ≡ Error.OutOfMemory)) }
     {
         own(alloc, self)
@@ -42,10 +42,10 @@ impl<'a> Value<'a> {
 // The copy, or an error.
 #[cycle(own)]
 fn own<'a, 'b>(alloc: Global, value: &Value<'a>) -> Result<Value<'b>>
-    ensures ok { IfOk result (λ v. view v ≡ owned (view value.now)) }
+    ensures ok { IfOk result (λ v. view v ≡ owned_tree (view value.now)) }
     ensures binary { IfOk result (λ _. holds_binary (view value.now) ≡ false) }
     ensures unexpected { IsErrOf result Error.UnexpectedType → holds_binary (view value.now) ≡ true }
-    ensures memory { IsErrOf result Error.OutOfMemory → ¬ (HoldsNoMemory (owned (view value.now))) }
+    ensures memory { IsErrOf result Error.OutOfMemory → ¬ (HoldsNoMemory (owned_tree (view value.now))) }
     ensures errors { IfErr result (λ e. (e ≡ Error.UnexpectedType) ⊎ (e ≡ Error.OutOfMemory)) }
 {
     match value {

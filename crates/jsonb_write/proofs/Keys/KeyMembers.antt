@@ -5,7 +5,7 @@ use Rattle.std.specs.Str.{IsUtf8}
 use Rattle.jsonb_spec.specs.SortKey.{text_key}
 use Rattle.jsonb_spec.specs.Tree.{Mark}
 use Rattle.jsonb_scan.specs.Open.{Open, members_so_far}
-use Rattle.jsonb_spec.specs.Source.{Found, Source, found, spot_of}
+use Rattle.jsonb_spec.specs.Source.{Found, Source, found_member, spot_of}
 use Rattle.jsonb_write.specs.KeyRoom.{Begins, Held, HeldFits, IsRoomWith, KeyStands, Writes, all_starts, base_of, members, next_start, starts_from}
 use Rattle.jsonb_write.specs.MemberStarts.{AreKept, MemberStart, IsKept}
 use Rattle.jsonb_write.specs.Members.{member_key, others_joined, source_key}
@@ -95,8 +95,8 @@ key_stands {text = text} {r = r} {s = s} {first = first} {held = held} {fs = fs}
 -- a value behind its key
 pub value_stands : {text bytes written : List ℕ} {r t : KeyRoom} {first : ℕ} {held : List Held} {fs : List Found} {key : Mark × List ℕ} {place : ℕ} {cs : List Open} (s : Source) (next : Mark × List ℕ) (other : ℕ)
     → IsRoomWith text r written true (members first ∷ held) (members_so_far fs key place ∷ cs) → Writes bytes r t → written ++ bytes ≡ open_key true (members_so_far fs key place ∷ cs) ++ source_key s
-    → KeyStands text t false (members first ∷ held) (members_so_far (fs ++ found key s place ∷ []) next other ∷ cs)
+    → KeyStands text t false (members first ∷ held) (members_so_far (fs ++ found_member key s place ∷ []) next other ∷ cs)
 value_stands {r = r} {fs = fs} {key = key} {place = place} {cs = cs} s next other room w is =
-    goes_on room w (is ∙ member_joined fs (found key s place) (open_key true cs))
-    (ap (λ bs. all_starts r.base true cs ++ bs) (starts_more (r.base + length (open_key true cs) + 1) fs (found key s place)))
+    goes_on room w (is ∙ member_joined fs (found_member key s place) (open_key true cs))
+    (ap (λ bs. all_starts r.base true cs ++ bs) (starts_more (r.base + length (open_key true cs) + 1) fs (found_member key s place)))
     room.fits

@@ -10,7 +10,7 @@ use Rattle.jsonb_spec.specs.Text.{with_commas}
 use Rattle.jsonb_spec.specs.Tree.{Members, no_members, more_members, put, put_all, object}
 use Rattle.jsonb_value.proofs.Trees.MembersInOrder.{put_all-ascending}
 use Rattle.jsonb_spec.specs.Source.{Found, Spot, spot_of, spot_cmp, tree_of_source, source_members_of, object_source, put_source_members, sort_by, insert_by, adjacent_repeat, first_repeat}
-use Rattle.jsonb_write.specs.Members.{SpotsAscend, between, between_after, joined, others_joined, StandFrom, Piece, pieces_of, spots_of_pieces, bytes_of_pieces, pieces_in_order, source_key, member_key}
+use Rattle.jsonb_write.specs.Members.{SpotsAscend, between, between_after, join_pieces, others_joined, StandFrom, Piece, pieces_of, spots_of_pieces, bytes_of_pieces, pieces_in_order, source_key, member_key}
 use Rattle.jsonb_write.specs.declared.members.Member.{Member}
 use Rattle.jsonb_write.proofs.Objects.Ascending.{ascending_sorted}
 use Rattle.jsonb_write.proofs.Objects.Repeats.{AreSorted, apart, below, key_cmp, sort_spots, sorted-sort}
@@ -67,18 +67,18 @@ others_key (f ∷ fs) =
     ap (λ ks. text_key f.key ++ (source_key f.source ++ ks)) (others_key fs)
     ∙ sym (append_assoc (member_key f) (others_joined false (map member_key fs)) (0 ∷ 0 ∷ []) ∙ append_assoc (text_key f.key) (source_key f.source) (others_joined false (map member_key fs) ++ 0 ∷ 0 ∷ []))
 
-pub all_joined : (ps : List (List ℕ)) → joined false ps ≡ others_joined false ps
+pub all_joined : (ps : List (List ℕ)) → join_pieces false ps ≡ others_joined false ps
 all_joined [] = refl
 all_joined (p ∷ ps) = refl
 
-pub object_key : (fs : List Found) → SpotsAscend (map spot_of fs) → source_key (object_source (source_members_of fs)) ≡ 209 ∷ joined false (map member_key fs) ++ 0 ∷ 0 ∷ []
+pub object_key : (fs : List Found) → SpotsAscend (map spot_of fs) → source_key (object_source (source_members_of fs)) ≡ 209 ∷ join_pieces false (map member_key fs) ++ 0 ∷ 0 ∷ []
 object_key fs up =
     ap (λ ms. key_of (object ms)) (put_listed fs up)
     ∙ ap (λ ks. 209 ∷ ks) (others_key fs ∙ ap (λ ks. ks ++ 0 ∷ 0 ∷ []) (sym (all_joined (map member_key fs))))
 
 -- ---- members as pieces
 
-pub with_commas_joined : (ps : List (List ℕ)) → joined true ps ≡ with_commas ps
+pub with_commas_joined : (ps : List (List ℕ)) → join_pieces true ps ≡ with_commas ps
 with_commas_joined [] = refl
 with_commas_joined (p ∷ ps) = refl
 
@@ -109,20 +109,20 @@ module _ (text : Found → List ℕ) where
 
 -- ---- one more member
 
-pub joined_more : (commas : Bool) (ps : List (List ℕ)) (p : List ℕ) → joined commas (ps ++ p ∷ []) ≡ joined commas ps ++ (between_after commas ps ++ p)
+pub joined_more : (commas : Bool) (ps : List (List ℕ)) (p : List ℕ) → join_pieces commas (ps ++ p ∷ []) ≡ join_pieces commas ps ++ (between_after commas ps ++ p)
 joined_more commas [] p = append-nil p
 joined_more commas (q ∷ ps) p =
     ap (λ bs. q ++ bs) (flat_map-append (λ other. between commas ++ other) ps (p ∷ []) ∙ ap (λ bs. others_joined commas ps ++ bs) (append-nil (between commas ++ p)))
     ∙ sym (append_assoc q (others_joined commas ps) (between commas ++ p))
 
-after_first : (commas : Bool) (q : List ℕ) (ps : List (List ℕ)) → length (joined commas (q ∷ ps) ++ between_after commas (q ∷ ps)) ≡ length q + length (between commas) + length (joined commas ps ++ between_after commas ps)
+after_first : (commas : Bool) (q : List ℕ) (ps : List (List ℕ)) → length (join_pieces commas (q ∷ ps) ++ between_after commas (q ∷ ps)) ≡ length q + length (between commas) + length (join_pieces commas ps ++ between_after commas ps)
 after_first commas q [] = simp (length-append, append-nil) (omega arith)
 after_first commas q (r ∷ rs) = simp length-append (omega arith)
 
-pub stands_more : (commas : Bool) (here : ℕ) (ms : List Member) (ps : List (List ℕ)) (m : Member) (p : List ℕ) → StandFrom commas here ms ps → m.start ≡ here + length (joined commas ps ++ between_after commas ps) → StandFrom commas here (ms ++ m ∷ []) (ps ++ p ∷ [])
+pub stands_more : (commas : Bool) (here : ℕ) (ms : List Member) (ps : List (List ℕ)) (m : Member) (p : List ℕ) → StandFrom commas here ms ps → m.start ≡ here + length (join_pieces commas ps ++ between_after commas ps) → StandFrom commas here (ms ++ m ∷ []) (ps ++ p ∷ [])
 stands_more commas here [] [] m p h e = (omega arith, tt)
 stands_more commas here [] (q ∷ ps) m p h e = absurd h
 stands_more commas here (n ∷ ms) [] m p h e = absurd h
 stands_more commas here (n ∷ ms) (q ∷ ps) m p h e =
-    let start : m.start ≡ here + length q + length (between commas) + length (joined commas ps ++ between_after commas ps) = omega (arith, after_first commas q ps, e) in
+    let start : m.start ≡ here + length q + length (between commas) + length (join_pieces commas ps ++ between_after commas ps) = omega (arith, after_first commas q ps, e) in
     (h.0, stands_more commas (here + length q + length (between commas)) ms ps m p h.1 start)

@@ -40,7 +40,7 @@ fn hexadecimal_length(bytes: &[u8]) -> usize
 }
 
 // The number with one digit more, where 128 bits hold it.
-fn appended(number: u128, byte: u8) -> Option<u128>
+fn with_digit(number: u128, byte: u8) -> Option<u128>
     requires { digit_value byte < 16 }
     ensures { SomeIff result (number * 16 + digit_value byte < 2 ^ 128) (number * 16 + digit_value byte) }
 {
@@ -54,7 +54,7 @@ fn hexadecimal_value(digits: &[u8]) -> Option<u128>
 {
     let mut number = 0u128;
     for byte in digits {
-        number = appended(number, *byte)?;
+        number = with_digit(number, *byte)?;
     }
     Some(number)
 }

@@ -10,7 +10,7 @@ ghost use Rattle.jsonb_scan.specs.Reading.String.{body_of};
 
 use super::run::near_backslash;
 use super::unit::pass_units;
-use super::{DecodingFault, escaped};
+use super::{DecodingFault, escaped_byte};
 use crate::parser::Mode;
 use jsonb_value::error::{Error, ParseErrorCode, Result};
 use memchr::memchr;
@@ -73,7 +73,7 @@ fn pass_escape(bytes: &[u8], mode: Mode) -> std::result::Result<&[u8], DecodingF
     if *letter == b'u' {
         return pass_units(rest);
     }
-    let Some(_) = escaped(*letter, mode) else {
+    let Some(_) = escaped_byte(*letter, mode) else {
         return Err(DecodingFault {
             code: ParseErrorCode::InvalidEscaped(*letter),
             left: rest.len(),

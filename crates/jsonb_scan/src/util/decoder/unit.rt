@@ -4,7 +4,7 @@ ghost use Rattle.std.specs.Char.{digit_value, encode_utf8, InScalarRange};
 ghost use Rattle.jsonb_spec.specs.Ascii as ascii;
 ghost use Rattle.jsonb_spec.specs.Mode.{Mode as GrammarMode};
 ghost use Rattle.jsonb_value.specs.Error.CodeView.{code_of};
-ghost use Rattle.jsonb_spec.specs.Grammar.StringBody.{IsHexDigit, unit_value, is_high, is_low, kept, alone, together};
+ghost use Rattle.jsonb_spec.specs.Grammar.StringBody.{IsHexDigit, unit_value, is_high, is_low, unit_text, alone, together};
 ghost use Rattle.jsonb_spec.specs.Grammar.StringFault.{IsUnitCut, IsFirstNonDigit};
 ghost use Rattle.jsonb_scan.specs.Decoding.{SplitsUnit, ReadsUnit, Adds, IsDecodedUpTo, StopsInUnit, StopsAtEscape};
 
@@ -135,7 +135,7 @@ fn push_char(text: &mut [u8], len: usize, value: u32) -> usize
 fn push_kept(text: &mut [u8], len: usize, digits: &[u8]) -> usize
     requires four { length digits.now ≡ 4 }
     requires room { len + 6 ≤ length text.old }
-    ensures written { take result text.new ≡ take len text.old ++ kept digits.now }
+    ensures written { take result text.new ≡ take len text.old ++ unit_text digits.now }
     ensures len { result ≡ len + 6 }
     ensures size { length text.new ≡ length text.old }
 {

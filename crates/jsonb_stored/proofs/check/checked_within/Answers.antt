@@ -7,10 +7,10 @@ use Rattle.jsonb_stored.proofs.check.checked_within.Goals as goal
 
 pub parts-init : goal.parts-init
 parts-init c = record {
-  parts = begun c.args.object c.args.bytes.now (set c.args.frames.now 0 c.opened.result) (subst (IsFrame c.args.bytes.now (new_frame c.args.object)) (sym (get_or-set_same c.args.frames.now 0 c.opened.result 0 c.requires.some)) (c.opened.ensures c.args.bytes.now));
+  parts = begun c.args.object c.args.bytes.now (set c.args.frames.now 0 c.new_frame.result) (subst (IsFrame c.args.bytes.now (new_frame c.args.object)) (sym (get_or-set_same c.args.frames.now 0 c.new_frame.result 0 c.requires.some)) (c.new_frame.ensures c.args.bytes.now));
   deep = simp length-set c.requires.some;
   few = simp length-set c.requires.few;
-  size = length-set c.args.frames.now 0 c.opened.result;
+  size = length-set c.args.frames.now 0 c.new_frame.result;
 }
 
 pub returns-in_default-clause-checked : goal.returns-in_default-clause-checked
@@ -47,8 +47,8 @@ pub parts-preserved-in-Some-opening : goal.parts-preserved-in-Some-opening
 parts-preserved-in-Some-opening c = record {
   parts =
       let due = name_step c.args.object c.args.bytes.now c.parts.frames c.parts.depth c.in-Some.top c.frame_at-last.result c.parts.rest.now c.is_object.result (omega (arith, c.in-Some.ensures)) c.parts.invariant.parts c.frame_at-last.ensures c.is_object.ensures c.in-Some-checked_name.value.now c.with_name.result c.in_default-after_end.ensures.found (omega (arith, c.in-Some.ensures, c.parts.invariant.deep, c.parts.invariant.size)) c.in-Some-checked_name.ensures.found c.with_name.ensures in
-      opened_next c.args.object c.args.bytes.now (set c.parts.frames c.in-Some.top c.with_name.result) c.parts.depth c.in-Some-split_first.first.now c.opened-in-Some-opening.result c.in-Some-opening.inner c.in-Some-checked_name.value.now c.in-Some-split_first.others.now due c.in-Some-split_first.ensures.cases.0 c.in-Some-opening.ensures
-      (omega (arith, c.parts.invariant.deep, c.parts.invariant.few, c.if-depth-eq-MAX_DEPTH.false)) (simp length-set (omega (arith, c.parts.invariant.deep, c.if-depth-frames.false, length-set c.parts.frames c.in-Some.top c.with_name.result))) (c.opened-in-Some-opening.ensures c.args.bytes.now);
+      opened_next c.args.object c.args.bytes.now (set c.parts.frames c.in-Some.top c.with_name.result) c.parts.depth c.in-Some-split_first.first.now c.new_frame-in-Some-opening.result c.in-Some-opening.inner c.in-Some-checked_name.value.now c.in-Some-split_first.others.now due c.in-Some-split_first.ensures.cases.0 c.in-Some-opening.ensures
+      (omega (arith, c.parts.invariant.deep, c.parts.invariant.few, c.if-depth-eq-MAX_DEPTH.false)) (simp length-set (omega (arith, c.parts.invariant.deep, c.if-depth-frames.false, length-set c.parts.frames c.in-Some.top c.with_name.result))) (c.new_frame-in-Some-opening.ensures c.args.bytes.now);
   deep = simp length-set (omega (arith, c.parts.invariant.deep, c.if-depth-frames.false, length-set c.parts.frames c.in-Some.top c.with_name.result));
   few = simp length-set c.parts.invariant.few;
   size = simp length-set c.parts.invariant.size;

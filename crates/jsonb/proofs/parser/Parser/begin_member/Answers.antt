@@ -3,7 +3,7 @@ use Rattle.jsonb_spec.specs.Code.Code.{expected_colon}
 use Rattle.jsonb_spec.specs.Tree.{Mark}
 use Rattle.jsonb_scan.specs.Answer.{mode_of}
 use Rattle.jsonb.specs.Parser.{rest_of, size_of}
-use Rattle.jsonb_scan.specs.Reading.{Read, on_byte, rejected, ◌>>=◌}
+use Rattle.jsonb_scan.specs.Reading.{Read, on_byte, reject, ◌>>=◌}
 use Rattle.jsonb_scan.specs.Reading.Whitespace.{skip_whitespace}
 use Rattle.jsonb_scan.proofs.Containers.JoinedParts.{on_byte-found}
 use Rattle.jsonb.proofs.Steps.Advancing.{goes_on}
@@ -23,8 +23,8 @@ returns-clause-reads g c =
     let place : ℕ = n - length (rest_of r) in (
       (key, place),
       read.1,
-      ap (λ (x : Read (Mark × List ℕ)). x >>= λ (k : (Mark × List ℕ) × List ℕ). on_byte 58 (skip_whitespace m k.1) (λ rest. Ok ((k.0, n - length k.1), skip_whitespace m rest)) (rejected n expected_colon 0 (skip_whitespace m k.1))) read.2
-          ∙ ap (λ (v : List ℕ). on_byte 58 v (λ rest. Ok ((key, place), skip_whitespace m rest)) (rejected n expected_colon 0 v)) (ap (λ k. skip_whitespace (mode_of k) (rest_of r)) (sym on_r.mode) ∙ c.if-not-take_after_whitespace.ensures.rest)
-          ∙ on_byte-found 58 (rest_of u) (λ rest. Ok ((key, place), skip_whitespace m rest)) (rejected n expected_colon 0 (58 ∷ rest_of u))
+      ap (λ (x : Read (Mark × List ℕ)). x >>= λ (k : (Mark × List ℕ) × List ℕ). on_byte 58 (skip_whitespace m k.1) (λ rest. Ok ((k.0, n - length k.1), skip_whitespace m rest)) (reject n expected_colon 0 (skip_whitespace m k.1))) read.2
+          ∙ ap (λ (v : List ℕ). on_byte 58 v (λ rest. Ok ((key, place), skip_whitespace m rest)) (reject n expected_colon 0 v)) (ap (λ k. skip_whitespace (mode_of k) (rest_of r)) (sym on_r.mode) ∙ c.if-not-take_after_whitespace.ensures.rest)
+          ∙ on_byte-found 58 (rest_of u) (λ rest. Ok ((key, place), skip_whitespace m rest)) (reject n expected_colon 0 (58 ∷ rest_of u))
           ∙ ap (λ (v : List ℕ). Ok ((key, place), v)) (ap (λ k. skip_whitespace (mode_of k) (rest_of u)) (sym on_u.mode) ∙ sym c.skip_space.ensures.rest ∙ ap (λ k. skip_whitespace (mode_of k) (rest_of c.skip_space.new.self)) (sym c.skip_space.ensures.advances.mode) ∙ sym c.skip_whitespace.ensures.rest),
     )

@@ -55,8 +55,8 @@ returns-in-Ok-clause-reads g c whole ahead =
     (subst (λ ds. h.filled text c.finish.new.room value s (variants.Array v ∷ below) ds) same (subst (λ fs. h.filled text c.finish.new.room value s fs x.others) turned filled)))
     (builds_always h.silent q.told (λ b d. b ≡ d) c.end_element.result _ (rest_of q) c.end_element.ensures.reads)
 
-pub returns-in_ok-inserted-in-Object-clause-reads : goal.returns-in_ok-inserted-in-Object-clause-reads
-returns-in_ok-inserted-in-Object-clause-reads g c whole ahead =
+pub returns-in_ok-insert_result-in-Object-clause-reads : goal.returns-in_ok-insert_result-in-Object-clause-reads
+returns-in_ok-insert_result-in-Object-clause-reads g c whole ahead =
     let p = c.args.self.now in
     let q = c.end_member.new.self in
     let gs = c.pop.new.self.items in
@@ -78,8 +78,8 @@ returns-in_ok-inserted-in-Object-clause-reads g c whole ahead =
     let below = reverse (take n gs) in
     let e = last-is gs n c.in-Some-last_mut.outer.now last c.in-Some-last_mut.ensures.value ∙ ap (λ f. take n gs ++ f ∷ []) c.in-Object.is in
     let turned = ap reverse e ∙ innermost_first (take n gs) (variants.Object v) in
-    let ok = c.in_ok-inserted-in-Object.ensures.ok in
-    let a = goes_on _ _ q c.inserted.ensures.advances c.end_member.ensures.advances in
+    let ok = c.in_ok-insert_result-in-Object.ensures.ok in
+    let a = goes_on _ _ q c.insert_result.ensures.advances c.end_member.ensures.advances in
     let on : Advances p q = record { buf = a.buf; mode = a.mode; onward = a.onward } in
     let put = put_new (h.silent ≡ true) c.insert_inner-inserted.result ok.0 c.insert_inner-inserted.ensures.put in
     joined before after p q gs _ (take n gs) (variants.Object v) (variants.Object w) inner whole s expected_object_comma_or_end 125 on e (last-set gs n (variants.Object w) last)

@@ -21,7 +21,7 @@ returns-in-Standard-clause-reads c =
     let p = c.args.self.now in
     let q = c.take_byte.new.self in
     let r = c.take_single_quote.new.self in
-    fails c.unexpected.result (fault_at (size_of r) expected_some_ident 1 (rest_of r)) (key_at (size_of p) (mode_of p.mode) (rest_of p)) c.unexpected.ensures
+    fails c.fault_at_next.result (fault_at (size_of r) expected_some_ident 1 (rest_of r)) (key_at (size_of p) (mode_of p.mode) (rest_of p)) c.fault_at_next.ensures
     (key_bare p q r c.if-take_byte.ensures.rest (sym c.if-take_byte.ensures.found) c.if-take_single_quote.ensures.rest (sym c.if-take_single_quote.ensures.found) ∙ ap (λ m. unquoted_at (size_of r) (mode_of m) (rest_of r)) c.in-Standard.is)
 
 pub returns-in-Extended-clause-reads : goal.returns-in-Extended-clause-reads

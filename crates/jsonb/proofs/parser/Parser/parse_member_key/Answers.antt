@@ -20,7 +20,7 @@ returns-in-Some-clause-reads g c =
     let all = goes_on p q r on c.cut_string.ensures.advances in
     let body = c.in-Some.cut.body.now in
     let stands : KeyStandsAt p.buf.now body q.offset r.offset = λ some. key_stands p q r body some on c.cut_string.ensures.advances c.if-not-take_after_whitespace.ensures.behind c.in-Some.ensures.spelled in
-    key_kept g.V.Handler.silent (Begins (g.V.Handler.stands p.buf.now) c.args.room.now c.args.object.now c.borrowed_key-key.new.room c.borrowed_key-key.new.object) c.borrowed_key-key.result c.kept-in-Some.result (size_of p) r c.kept-in-Some.new.self (plain, c.in-Some.cut.body.now) _ (sym (same_size p r all)) (key_begun (λ bytes. KeyStandsAt bytes body q.offset r.offset) (λ bytes key. Begins (g.V.Handler.stands bytes) c.args.room.now c.args.object.now c.borrowed_key-key.new.room c.borrowed_key-key.new.object key (plain, body) r.offset) c.borrowed_key-key.result c.borrowed_key-key.ensures.begun p.buf.now stands) c.kept-in-Some.ensures.same c.kept-in-Some.ensures.memory
+    key_kept g.V.Handler.silent (Begins (g.V.Handler.stands p.buf.now) c.args.room.now c.args.object.now c.borrowed_key-key.new.room c.borrowed_key-key.new.object) c.borrowed_key-key.result c.or_out_of_memory-in-Some.result (size_of p) r c.or_out_of_memory-in-Some.new.self (plain, c.in-Some.cut.body.now) _ (sym (same_size p r all)) (key_begun (λ bytes. KeyStandsAt bytes body q.offset r.offset) (λ bytes key. Begins (g.V.Handler.stands bytes) c.args.room.now c.args.object.now c.borrowed_key-key.new.room c.borrowed_key-key.new.object key (plain, body) r.offset) c.borrowed_key-key.result c.borrowed_key-key.ensures.begun p.buf.now stands) c.or_out_of_memory-in-Some.ensures.same c.or_out_of_memory-in-Some.ensures.memory
     (key_quoted p q on c.if-not-take_after_whitespace.ensures.rest ∙ c.in-Some.ensures.reads)
 
 pub returns-then-cut-clause-reads : goal.returns-then-cut-clause-reads
@@ -32,7 +32,7 @@ returns-then-cut-clause-reads g c =
     let all = goes_on p q r on c.cut_string.ensures.advances in
     let body = c.in-Some.cut.body.now in
     let stands : KeyStandsAt p.buf.now body q.offset r.offset = λ some. key_stands p q r body some on c.cut_string.ensures.advances c.if-not-take_after_whitespace.ensures.behind c.in-Some.ensures.spelled in
-    key_kept g.V.Handler.silent (Begins (g.V.Handler.stands p.buf.now) c.args.room.now c.args.object.now c.plain_key-key.new.room c.plain_key-key.new.object) c.plain_key-key.result c.kept.result (size_of p) r c.kept.new.self (plain, c.in-Some.cut.body.now) _ (sym (same_size p r all)) (plain_key_begun (λ bytes. KeyStandsAt bytes body q.offset r.offset) (λ bytes key. Begins (g.V.Handler.stands bytes) c.args.room.now c.args.object.now c.plain_key-key.new.room c.plain_key-key.new.object key (plain, body) r.offset) c.plain_key-key.result c.plain_key-key.ensures.begun (c.in-Some.ensures.plain c.if-cut.true) p.buf.now stands) c.kept.ensures.same c.kept.ensures.memory
+    key_kept g.V.Handler.silent (Begins (g.V.Handler.stands p.buf.now) c.args.room.now c.args.object.now c.plain_key-key.new.room c.plain_key-key.new.object) c.plain_key-key.result c.or_out_of_memory.result (size_of p) r c.or_out_of_memory.new.self (plain, c.in-Some.cut.body.now) _ (sym (same_size p r all)) (plain_key_begun (λ bytes. KeyStandsAt bytes body q.offset r.offset) (λ bytes key. Begins (g.V.Handler.stands bytes) c.args.room.now c.args.object.now c.plain_key-key.new.room c.plain_key-key.new.object key (plain, body) r.offset) c.plain_key-key.result c.plain_key-key.ensures.begun (c.in-Some.ensures.plain c.if-cut.true) p.buf.now stands) c.or_out_of_memory.ensures.same c.or_out_of_memory.ensures.memory
     (key_quoted p q on c.if-not-take_after_whitespace.ensures.rest ∙ c.in-Some.ensures.reads)
 
 pub returns-clause-reads : goal.returns-clause-reads

@@ -11,7 +11,7 @@ use Rattle.jsonb_scan.specs.Answer.{mode_of}
 use Rattle.jsonb_scan.specs.Reading.{◌>>=◌}
 use Rattle.jsonb_scan.specs.Reading.Whitespace.{skip_whitespace}
 use Rattle.jsonb_scan.specs.Reading.Scalar.{scalar_at}
-use Rattle.jsonb_spec.specs.Source.{Found, found, source_alone}
+use Rattle.jsonb_spec.specs.Source.{Found, found_member, source_alone}
 use Rattle.jsonb.specs.Parser.{read_at, rest_of, size_of}
 use Rattle.jsonb.specs.Stack.{member_start, next_part_at, part_end, read_members_from}
 use Rattle.jsonb_scan.specs.Open.{Open}
@@ -78,7 +78,7 @@ returns-in_err-end_member-clause-reads g c depth o fs cs fits held =
     let silent = g.V.Handler.silent in
     let t = c.end_member.new.self.told in
     let on = goes_on p l s i.advances c.begin_member.ensures.advances.parser in
-    let more = members_so_far (so_far.0 ++ found key.0.0 (source_alone put.0) key.0.1 ∷ []) (plain, []) 0 in
+    let more = members_so_far (so_far.0 ++ found_member key.0.0 (source_alone put.0) key.0.1 ∷ []) (plain, []) 0 in
     let ends = part_end (size_of q) expected_object_comma_or_end 125 (skip_whitespace (mode_of q.mode) (rest_of q)) in
     let residual = err_from_is_err_and c.from_residual-in_err-end_member.result c.from_residual-in_err-end_member.ensures.1 in
     rw (residual.1) (misses_same silent t (ends >>= λ y. resume_part (size_of p) (mode_of p.mode) depth y.0 more y.1) (next_part_at (size_of p) (mode_of p.mode) depth o (rest_of p))
@@ -102,7 +102,7 @@ returns-then-branch-clause-reads g c depth o fs cs fits held =
     let put = c.in_ok-insert_scalar.ensures.reads in
     let ended = c.in_ok-end_member.ensures.reads in
     let on = goes_on p l s i.advances c.begin_member.ensures.advances.parser in
-    let all = so_far.0 ++ found key.0.0 (source_alone put.0) key.0.1 ∷ [] in
+    let all = so_far.0 ++ found_member key.0.0 (source_alone put.0) key.0.1 ∷ [] in
     let more = members_so_far all (plain, []) 0 in
     let h = g.V.Handler in
     let m = c.begin_member.new.object in
@@ -151,7 +151,7 @@ members-preserved g c =
       base = c.insert_scalar.ensures.advances.base ∙ c.begin_member.ensures.advances.base ∙ i.base;
       reads = λ depth o fs cs fits held.
           let so_far = i.reads depth o fs cs fits held in
-          let all = so_far.0 ++ found key.0.0 (source_alone put.0) key.0.1 ∷ [] in
+          let all = so_far.0 ++ found_member key.0.0 (source_alone put.0) key.0.1 ∷ [] in
           let more = members_so_far all (plain, []) 0 in
           let h = g.V.Handler in
           let m = c.begin_member.new.object in (

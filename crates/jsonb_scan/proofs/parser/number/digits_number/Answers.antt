@@ -4,8 +4,8 @@ use Rattle.std.proofs.lemmas.Int.Digits.{digits_value_more}
 use Rattle.jsonb_scan.proofs.Numbers.DigitValues.{appended_none, all_digits_value}
 use Rattle.jsonb_scan.proofs.parser.number.digits_number.Goals as goal
 
-pub appended-requires : goal.appended-requires
-appended-requires c = digit_at c.args.digits.now c.loop-digit.digit-index c.requires (omega arith)
+pub with_digit-requires : goal.with_digit-requires
+with_digit-requires c = digit_at c.args.digits.now c.loop-digit.digit-index c.requires (omega arith)
 
 pub returns-in_err-number : goal.returns-in_err-number
 returns-in_err-number c =

@@ -1,5 +1,5 @@
 use Rattle.std.proofs.Common.{map, sym, ◌∙◌}
-use Rattle.jsonb_spec.specs.SortKey.{magnitude_key, turned}
+use Rattle.jsonb_spec.specs.SortKey.{magnitude_key, invert_if}
 use Rattle.jsonb_value.specs.View.{number_view}
 use Rattle.jsonb_value.proofs.Appending.Appended.{appends_as}
 use Rattle.jsonb_value.proofs.SortKeys.Numbers.{key_of_zero, key_of_some}
@@ -14,6 +14,6 @@ pub returns-clause-appends : goal.returns-clause-appends
 returns-clause-appends c =
     let n = number_view c.args.self.now in
     let parts = c.sign_and_magnitude-negative in
-    let e = (λ i. map (turned (parts.ensures.sign i)) (magnitude_key (c.scale-scale.ensures i) (parts.ensures.magnitude i)))
+    let e = (λ i. map (invert_if (parts.ensures.sign i)) (magnitude_key (c.scale-scale.ensures i) (parts.ensures.magnitude i)))
     ∙ sym (key_of_some n (λ z. c.if-magnitude-eq0.false (parts.ensures.magnitude ∙ z))) in
     appends_as _ _ _ _ _ e c.append_magnitude.ensures.appends

@@ -10,5 +10,5 @@ returns c = record {
   overflows = λ least.
       absurd (⊎_elim (λ other. other.1 (ap (cast_unsigned w128) least.1)) (λ other. other (ap (cast_unsigned w128) (least.0 ∙ sym c.from.ensures))) c.else-left-from.either);
   divides = λ some _.
-      (int_rem c.args.left c.args.right, int_rem_is c.args.left c.args.right some, c.fitted.ensures (int_rem c.args.left c.args.right) (int_rem_fits c.args.left c.args.right c.ranges.left, int_rem_passed c.args.left c.args.right c.ranges.left c.ranges.right));
+      (int_rem c.args.left c.args.right, int_rem_is c.args.left c.args.right some, c.number_of_kind.ensures (int_rem c.args.left c.args.right) (int_rem_fits c.args.left c.args.right c.ranges.left, int_rem_passed c.args.left c.args.right c.ranges.left c.ranges.right));
 }

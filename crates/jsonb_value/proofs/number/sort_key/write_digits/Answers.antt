@@ -2,7 +2,7 @@ use Rattle.std.proofs.Common.{◌≡◌, ◌≢◌, suc, ◌-◌, ◌*◌, ◌/�
 use Rattle.std.proofs.Math.Nat.{mod-eq_of_lt}
 use Rattle.std.proofs.lemmas.Bool.{cases_eq}
 use Rattle.std.proofs.lemmas.List.{length-set}
-use Rattle.jsonb_spec.specs.SortKey.{digits_key, turned}
+use Rattle.jsonb_spec.specs.SortKey.{digits_key, invert_if}
 use Rattle.jsonb_value.proofs.SortKeys.Pairs.{begin_digits, next_pair}
 use Rattle.jsonb_value.proofs.number.sort_key.write_digits.Goals.{then-last-ne0, else-last-ne0, then-pair-ne0, else-pair-ne0}
 use Rattle.jsonb_value.proofs.number.sort_key.write_digits.Goals as goal
@@ -14,11 +14,11 @@ pairs-init c =
     let one : split.result.0 ≢ 0 → c.if-last-ne0.more ≡ 1 = λ h. elim c.if-last-ne0.branch [ then-last-ne0 w ↦ w.more-is | else-last-ne0 w ↦ absurd (h w.if-last-ne0.false) ] in
     let none : split.result.0 ≡ 0 → c.if-last-ne0.more ≡ 0 = λ h. elim c.if-last-ne0.branch [ then-last-ne0 w ↦ absurd (w.if-last-ne0.true h) | else-last-ne0 w ↦ w.more-is ] in
     record {
-      written = rw count (begin_digits c.args.negative c.args.magnitude (2 - c.args.count % 2) split.result.0 split.result.1 c.if-last-ne0.more c.turned.result c.args.row.now c.told-row split.ensures.last split.ensures.zero.0 split.ensures.zero.1 split.ensures.front c.turned.ensures one none);
+      written = rw count (begin_digits c.args.negative c.args.magnitude (2 - c.args.count % 2) split.result.0 split.result.1 c.if-last-ne0.more c.invert_if.result c.args.row.now c.told-row split.ensures.last split.ensures.zero.0 split.ensures.zero.1 split.ensures.front c.invert_if.ensures one none);
       room = omega (arith, c.requires.few);
       within = omega arith;
       digits = omega (arith, c.requires.some);
-      long = length-set c.args.row.now 11 c.turned.result ∙ c.told-row;
+      long = length-set c.args.row.now 11 c.invert_if.result ∙ c.told-row;
     }
 
 -- a pair fits a byte, and has room in the row
@@ -47,11 +47,11 @@ pairs-preserved c =
     let one : l.front % 100 ≢ 0 → c.if-pair-ne0.more ≡ 1 = λ h. elim c.if-pair-ne0.branch [ then-pair-ne0 w ↦ w.more-is | else-pair-ne0 w ↦ absurd (h w.if-pair-ne0.false) ] in
     let same : l.front % 100 ≡ 0 → c.if-pair-ne0.more ≡ l.more = λ h. elim c.if-pair-ne0.branch [ then-pair-ne0 w ↦ absurd (w.if-pair-ne0.true h) | else-pair-ne0 w ↦ w.more-is ] in
     record {
-      written = rw (count, c.from-start.ensures) (next_pair c.args.negative c.args.magnitude (c.args.count - 2 * l.left) l.start l.front l.more c.turned-in-pairs.result c.if-pair-ne0.more l.row i.long (omega (arith, i.room)) i.within i.written c.turned-in-pairs.ensures one same);
+      written = rw (count, c.from-start.ensures) (next_pair c.args.negative c.args.magnitude (c.args.count - 2 * l.left) l.start l.front l.more c.invert_if-in-pairs.result c.if-pair-ne0.more l.row i.long (omega (arith, i.room)) i.within i.written c.invert_if-in-pairs.ensures one same);
       room = elim (cases_eq l.more 0) [ inl z ↦ omega (arith, z, c.from-start.ensures, i.room) | inr z ↦ omega (arith, (i.written.some z).0, c.from-start.ensures, i.room, c.pairs-test.true) ];
       within = omega (arith, i.within);
       digits = omega (arith, i.digits);
-      long = length-set l.row (l.start - c.from-start.result) c.turned-in-pairs.result ∙ i.long;
+      long = length-set l.row (l.start - c.from-start.result) c.invert_if-in-pairs.result ∙ i.long;
     }
 
 pub returns-clause-bytes : goal.returns-clause-bytes
@@ -59,7 +59,7 @@ returns-clause-bytes c =
     let i = c.pairs.invariant in
     let none : c.args.count - 2 * c.pairs.left ≡ c.args.count = omega (arith, c.pairs-test.false) in
     let all : c.args.magnitude % 10 ^ (c.args.count - 2 * c.pairs.left) ≡ c.args.magnitude = ap (λ n. c.args.magnitude % 10 ^ n) none ∙ mod-eq_of_lt c.requires.below in
-    i.written.bytes ∙ (λ k. map (turned c.args.negative) (digits_key (none k) (all k)))
+    i.written.bytes ∙ (λ k. map (invert_if c.args.negative) (digits_key (none k) (all k)))
 
 pub returns-clause-room : goal.returns-clause-room
 returns-clause-room c = (omega (arith, c.pairs.invariant.room), omega (arith, c.pairs.invariant.within))

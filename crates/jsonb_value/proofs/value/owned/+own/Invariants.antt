@@ -1,5 +1,5 @@
 use Rattle.std.proofs.Common.{◌≡◌, ◌++◌, take, drop, map}
-use Rattle.jsonb_spec.specs.Owned.{owned, items_hold_binary, members_hold_binary}
+use Rattle.jsonb_spec.specs.Owned.{owned_tree, items_hold_binary, members_hold_binary}
 use Rattle.jsonb_value.specs.View.{view, trees_view, members_view, pairs_view}
 use Rattle.jsonb_value.proofs.Values.OwnedCopies.{owned_pairs}
 use Rattle.jsonb_value.proofs.value.owned.+own.Given as goal
@@ -7,7 +7,7 @@ use Rattle.jsonb_value.proofs.value.owned.+own.Given as goal
 -- the copies own what was passed, and binary data stands in what is left where it stands in the whole
 abbrev pub invariant-own_items-items : goal.invariant-own_items-items
 invariant-own_items-items l =
-    (map view l.copies.items ≡ map (λ v. owned (view v)) (take l.item-index l.item-items))
+    (map view l.copies.items ≡ map (λ v. owned_tree (view v)) (take l.item-index l.item-items))
     × (items_hold_binary (trees_view l.items.items) ≡ items_hold_binary (trees_view (drop l.item-index l.items.items)))
 
 -- what is left completes the pairs to the whole, and binary data stands in it where it stands in the whole

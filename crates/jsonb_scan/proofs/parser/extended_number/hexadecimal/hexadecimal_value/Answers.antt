@@ -3,8 +3,8 @@ use Rattle.std.proofs.lemmas.Int.Digits.{digits_value_more}
 use Rattle.jsonb_scan.proofs.Numbers.HexadecimalValues.{digit_below, hexadecimal_none, hexadecimal_all}
 use Rattle.jsonb_scan.proofs.parser.extended_number.hexadecimal.hexadecimal_value.Goals as goal
 
-pub appended-requires : goal.appended-requires
-appended-requires c = digit_below c.args.digits.now c.loop-byte.byte-index c.requires (omega arith)
+pub with_digit-requires : goal.with_digit-requires
+with_digit-requires c = digit_below c.args.digits.now c.loop-byte.byte-index c.requires (omega arith)
 
 pub returns-in_err-number : goal.returns-in_err-number
 returns-in_err-number c =

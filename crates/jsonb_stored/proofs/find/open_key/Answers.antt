@@ -1,7 +1,7 @@
 use Rattle.jsonb_key.proofs.FirstBytes.{no_key}
 use Rattle.jsonb_stored.proofs.Finds.{parent_of}
 use Rattle.jsonb_stored.proofs.Standing.{left_of}
-use Rattle.jsonb_stored.proofs.find.opened.Goals as goal
+use Rattle.jsonb_stored.proofs.find.open_key.Goals as goal
 
 pub returns-in_default-clause-opens : goal.returns-in_default-clause-opens
 returns-in_default-clause-opens c = λ t r more e. absurd (no_key 512 t r c.args.key.now more e c.in_default.ensures.cases)
