@@ -57,20 +57,20 @@ resume_stack size mode depth closed (c ∷ cs) rest =
 -- ---- what a step leaves
 
 -- A scalar was put into an array, and is what is read.
-abbrev pub Pushes : {R I M K X F : Type 0} → Bool → Option Error
+abbrev pub IsPushed : {R I M K X F : Type 0} → Bool → Option Error
     → (List ℕ → R → Bool → List (Frame I M K) → List Open → Type 0) → List ℕ → Result X F → R → I → Read Tree → R → I
     → List ℕ → Type 0
-Pushes {R} {I} {M} {K} silent told Stands text result old before read new after rest =
+IsPushed {R} {I} {M} {K} silent told Stands text result old before read new after rest =
     ElseFails silent told result read (λ _. (t : Tree) × (read ≡ Ok (t, rest)) × ((ss : List Source)
     → (fs : List (Frame I M K)) → (cs : List Open)
     → Stands text old false (variants.Array before ∷ fs) (elements_so_far ss ∷ cs)
     → Stands text new false (variants.Array after ∷ fs) (elements_so_far (ss ++ source_alone t ∷ []) ∷ cs)))
 
 -- A scalar was put into an object under a key, and is what is read.
-abbrev pub PutsIn : {R I M K X F : Type 0} → Bool → Option Error
+abbrev pub IsPutIn : {R I M K X F : Type 0} → Bool → Option Error
     → (List ℕ → R → Bool → List (Frame I M K) → List Open → Type 0) → List ℕ → Result X F → R → OpenObject M K → K
     → Read Tree → R → OpenObject M K → List ℕ → Type 0
-PutsIn {R} {I} {M} {K} silent told Stands text result old before key read new after rest =
+IsPutIn {R} {I} {M} {K} silent told Stands text result old before key read new after rest =
     ElseFails silent told result read (λ _. (t : Tree) × (read ≡ Ok (t, rest)) × ((front : List Found)
     → (k : Mark × List ℕ) → (place : ℕ) → (fs : List (Frame I M K)) → (cs : List Open)
     → Stands text old true (variants.Object (record { members = before.members; key = key }) ∷ fs)
@@ -135,6 +135,14 @@ module _ {I M K : Type 0} (Stands : Bool → List (Frame I M K) → List Open �
   AtPart whole p stack closed =
       Remains whole false stack
       (λ cs. resume_stack (size_of p) (mode_of p.mode) (depth_within stack) closed cs (rest_of p))
+
+  -- A part of the innermost container begins.
+  abbrev pub AtNextPart : Read Source → Parser → List (Frame I M K) → Type 0
+  AtNextPart whole p stack = AtPart whole p stack false
+
+  -- The innermost container was read to its end.
+  abbrev pub AtEnd : Read Source → Parser → List (Frame I M K) → Type 0
+  AtEnd whole p stack = AtPart whole p stack true
 
   -- The outermost container was read to its end, and no other is open.
   abbrev pub IsRead : Read Source → List (Frame I M K) → List ℕ → Type 0

@@ -10,3 +10,4 @@ pub mod Explained
 pub mod Source
 pub mod SourceLaws
 pub mod Stack
+pub mod Steps

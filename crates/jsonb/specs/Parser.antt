@@ -1,15 +1,21 @@
 -- The remaining input of a parser, and what a call of it leaves; `Answer` of `jsonb_scan` again.
-use Rattle.std.specs.Prelude.{◌≡◌, ℕ, ◌+◌, ◌-◌, ◌<◌, ◌≤◌, true, List, length, drop, take, slice_index, Option, IfSome, Result, Ok, slice_range}
+use Rattle.std.specs.Prelude.{◌≡◌, ◌≢◌, ℕ, ◌+◌, ◌-◌, ◌<◌, ◌≤◌, Bool, true, List, ◌∷◌, ◌++◌, length, drop, take, slice_index, Contains, Option, IfNone, IfSome, MatchBool, Result, Err, Ok, slice_range}
+use Rattle.jsonb_spec.specs.Ascii as ascii
 use Rattle.jsonb_spec.specs.Mode.{Mode}
 use Rattle.jsonb_spec.specs.Text.NumberText.{number_text}
-use Rattle.jsonb_spec.specs.Tree.{Num, number}
+use Rattle.jsonb_spec.specs.Tree.{Mark, Num, number}
+use Rattle.jsonb_spec.specs.Tree.Mark.{plain}
+use Rattle.jsonb_spec.specs.Source.{Source}
 use Rattle.jsonb_value.specs.declared.error.Error.{Error}
+use Rattle.jsonb_value.specs.declared.error.Error.TheVariants.{OutOfMemory}
 use Rattle.jsonb.specs.declared.parser.Parser.{Parser}
 use Rattle.jsonb_scan.specs.Decoding.{TellsBackslash}
-use Rattle.jsonb_scan.specs.Reading.{Read}
-use Rattle.jsonb_scan.specs.Reading.String.{quote_end}
+use Rattle.jsonb_scan.specs.Reading.{Fault, Read}
+use Rattle.jsonb_scan.specs.Reading.String.{quote_end, string_at}
 use Rattle.jsonb_scan.specs.Reading.Scalar.{scalar_at}
-use Rattle.jsonb_scan.specs.Answer.{mode_of, NamesFault, Fails, Gives, IsTextError, MayAllocate}
+use Rattle.jsonb_scan.specs.Reading.Document.{source_from}
+use Rattle.jsonb_scan.specs.Reading.Whitespace.{skip_closed_whitespace}
+use Rattle.jsonb_scan.specs.Answer.{mode_of, Gives}
 
 -- the bytes from the index on
 abbrev pub rest_of : Parser → List ℕ
@@ -23,6 +29,16 @@ size_of p = length p.buf.now
 abbrev pub IsBehind : ℕ → Parser → Type 0
 IsBehind byte p = (0 < p.offset) × (slice_index p.buf.now (p.offset - 1) ≡ byte)
 
+-- The byte before the parser's offset is an opening quote of this kind.
+pub record IsAfterQuote (quote : ℕ) (p : Parser) : Type 0 where
+  pub no_backslash : quote ≢ ascii.backslash
+  pub is_ascii : quote < ascii.end
+  pub opened : IsBehind quote p
+
+-- This is the parser's input as text, or a front of it.
+abbrev pub IsTextOf : List ℕ → Parser → Type 0
+IsTextOf text p = text ≡ take (length text) p.buf.now
+
 -- The parser has gone on in the same input.
 pub record Advances (old new : Parser) : Type 0 where
   pub buf : new.buf ≡ old.buf
@@ -33,6 +49,33 @@ pub record Advances (old new : Parser) : Type 0 where
 pub record AdvancesOver {R : Type 0} (base_of : R → List (List ℕ)) (old new : Parser) (before after : R) : Type 0 where
   pub parser : Advances old new
   pub base : base_of after ≡ base_of before
+
+-- The parser has gone on, and this is told.
+pub record Tells (error : Option Error) (old new : Parser) : Type 0 where
+  pub told : new.told ≡ error
+  pub advances : Advances old new
+
+-- This byte was passed, where it is to be taken and comes next; else the parser stays.
+pub record TakesByte (byte : ℕ) (is_next result : Bool) (old new : Parser) : Type 0 where
+  pub found : result ≡ is_next
+  pub rest : MatchBool result (rest_of old ≡ byte ∷ rest_of new) (new ≡ old)
+  pub behind : MatchBool result (IsBehind byte new) (Unit {0})
+  pub onward : MatchBool result (old.offset < new.offset) (new ≡ old)
+  pub advances : Advances old new
+
+-- ---- whitespace
+
+-- The parser has passed all that this function skips.
+pub record Skips (skip : Mode → List ℕ → List ℕ) (old new : Parser) : Type 0 where
+  pub rest : rest_of new ≡ skip (mode_of old.mode) (rest_of old)
+  pub advances : Advances old new
+
+-- The parser has passed some of what this function skips, or nothing.
+pub record SkipsSome (skip : Mode → List ℕ → List ℕ) (old new : Parser) : Type 0 where
+  pub rest : skip (mode_of old.mode) (rest_of new) ≡ skip (mode_of old.mode) (rest_of old)
+  pub advances : Advances old new
+
+-- ---- what is read
 
 -- What a call returned, seen by view, and the bytes that it left are what this function reads from the reader's index
 -- on.
@@ -49,6 +92,40 @@ FindsAs view read result old new =
 abbrev pub read_at : {Y : Type 0} → (ℕ → Mode → List ℕ → Read Y) → Parser → Read Y
 read_at read p = read (size_of p) (mode_of p.mode) (rest_of p)
 
+-- the whole text, with whitespace before its value
+abbrev pub source_at : Parser → Result Source Fault
+source_at p =
+    source_from (size_of p) (mode_of p.mode) (skip_closed_whitespace (mode_of p.mode) (rest_of p))
+
+-- A string or a key is what this function reads; memory runs out only where the text has a backslash.
+pub record ReadsString {X : Type 0} (view : X → Mark × List ℕ) (read : ℕ → Mode → List ℕ → Read (Mark × List ℕ))
+    (result : Result X Error) (old new : Parser) : Type 0 where
+  pub reads : ReadsAs view read result old new
+  pub memory : result ≡ Err OutOfMemory → Contains old.buf.now ascii.backslash
+  pub advances : Advances old new
+
+-- What a call returned is what this function reads, and it takes no memory.
+pub record ReadsInPlace {X Y : Type 0} (view : X → Y) (read : ℕ → Mode → List ℕ → Read Y) (result : Result X Error)
+    (old new : Parser) : Type 0 where
+  pub reads : ReadsAs view read result old new
+  pub takes_no_memory : result ≢ Err OutOfMemory
+  pub advances : Advances old new
+
+-- What a call found is what this function reads; where it found nothing, the parser stays.
+pub record Finds {X Y : Type 0} (view : X → Y) (read : ℕ → Mode → List ℕ → Read Y) (result : Option X)
+    (old new : Parser) : Type 0 where
+  pub reads : FindsAs view read result old new
+  pub stays : IfNone result (new ≡ old)
+  pub advances : Advances old new
+
+-- A string without escapes is found, of which the text has these bytes before its closing quote.
+pub record CutsString {X : Type 0} (body_of : X → List ℕ) (quote : ℕ) (result : Option X) (old new : Parser)
+    : Type 0 where
+  pub reads : FindsAs (λ x. (plain, body_of x)) (λ size mode. string_at size mode quote) result old new
+  pub spelled : IfSome result (λ x. rest_of old ≡ body_of x ++ quote ∷ rest_of new)
+  pub stays : IfNone result (new ≡ old)
+  pub advances : Advances old new
+
 -- The contents of a string in these quotes were passed, and its closing quote, and a backslash is among them.
 pub record PassesContents (quote : ℕ) (old new : Parser) (body : List ℕ) : Type 0 where
   pub found : quote_end quote (rest_of old) ≡ Ok (length body)
@@ -62,3 +139,9 @@ pub record PassesInteger (old new : Parser) : Type 0 where
   pub value : Num
   pub reads : read_at scalar_at old ≡ Ok (number value, rest_of new)
   pub text : slice_range old.buf.now old.offset new.offset ≡ number_text value
+
+-- Such an integer is passed, where that is asked and one is found; else the parser stays.
+pub record KeepsInteger (is_asked result : Bool) (old new : Parser) : Type 0 where
+  pub passes : MatchBool result (PassesInteger old new) (new ≡ old)
+  pub asked : MatchBool result (is_asked ≡ true) (Unit {0})
+  pub advances : Advances old new

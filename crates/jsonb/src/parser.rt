@@ -1,6 +1,6 @@
 //! The parsers of JSON texts: from left to right, up to the first fault.
 
-ghost use Rattle.std.specs.Prelude.{◌≡◌, ◌≢◌, ◌+◌, ◌<◌, ◌≤◌, ℕ, List, [], ◌∷◌, drop, ◌⊎◌, MatchOption, MatchBool, IfOk, IfErr, IfSome, Err, None, Ok, Some, true, length, take};
+ghost use Rattle.std.specs.Prelude.{◌≡◌, ◌≢◌, ◌+◌, ◌<◌, ◌≤◌, ℕ, List, [], ◌∷◌, drop, ◌⊎◌, MatchOption, IfOk, IfErr, IfSome, Err, None, Ok, Some, true, length};
 ghost use Rattle.jsonb_value.specs.Error.CodeView.{code_of};
 ghost use Rattle.jsonb_spec.specs.Grammar.{IsDocument};
 ghost use Rattle.jsonb_spec.specs.Mode.{standard, extended};
@@ -12,7 +12,7 @@ ghost use Rattle.jsonb_value.specs.View.{view};
 ghost use Rattle.jsonb_scan.specs.Answer.{mode_of, NamesFault, Gives, MayAllocate};
 ghost use Rattle.jsonb_scan.specs.Reading.{begins, fault_at};
 ghost use Rattle.jsonb_scan.specs.Reading.Whitespace.{skip_closed_whitespace};
-ghost use Rattle.jsonb_scan.specs.Reading.Document.{at_end, comment_at, source_from, source_of};
+ghost use Rattle.jsonb_scan.specs.Reading.Document.{at_end, comment_at, source_of};
 ghost use Rattle.jsonb.specs.Parses.{Parses};
 ghost use Rattle.jsonb_spec.specs.Source.{Source};
 ghost use Rattle.jsonb.specs.Handler.{BuildsAll, ElseFails, IsWritten, Misses};
@@ -166,7 +166,7 @@ struct Parser<'a> {
 }
 
 impl<'a> Parser<'a> {
-    ghost use Rattle.jsonb.specs.Parser.{rest_of, size_of, Advances, IsBehind};
+    ghost use Rattle.jsonb.specs.Parser.{Advances, IsTextOf, TakesByte, Tells, rest_of, size_of, source_at};
 
     // The next byte.
     fn peek(&self) -> Option<u8>
@@ -191,17 +191,13 @@ impl<'a> Parser<'a> {
 
     // Passes this byte, where it comes next.
     fn take_byte(&mut self, byte: u8) -> bool
-        ensures found { result ≡ begins byte (rest_of self.old) }
-        ensures rest { MatchBool result (rest_of self.old ≡ byte ∷ rest_of self.new) (self.new ≡ self.old) }
-        ensures onward { MatchBool result (self.old.offset < self.new.offset) (self.new ≡ self.old) }
-        ensures behind { MatchBool result (IsBehind byte self.new) (Unit {0}) }
-        ensures advances { Advances self.old self.new }
+        ensures { TakesByte byte (begins byte (rest_of self.old)) result self.old self.new }
     {
-        let found = self.next_is(byte);
-        if found {
-            self.offset += 1;
+        if !self.next_is(byte) {
+            return false;
         }
-        found
+        self.offset += 1;
+        true
     }
 
     // The bytes that are still to be read.
@@ -227,8 +223,7 @@ impl<'a> Parser<'a> {
     #[cold]
     #[inline(never)]
     fn fail(&mut self, error: Error) -> Failed
-        ensures told { self.new.told ≡ Some error }
-        ensures advances { Advances self.old self.new }
+        ensures { Tells (Some error) self.old self.new }
     {
         self.told = Some(error);
         Failed
@@ -238,8 +233,7 @@ impl<'a> Parser<'a> {
     #[cold]
     #[inline(never)]
     fn out_of_memory(&mut self) -> Failed
-        ensures told { self.new.told ≡ Some Error.OutOfMemory }
-        ensures advances { Advances self.old self.new }
+        ensures { Tells (Some Error.OutOfMemory) self.old self.new }
     {
         self.told = Some(Error::OutOfMemory);
         Failed
@@ -249,8 +243,7 @@ impl<'a> Parser<'a> {
     #[cold]
     #[inline(never)]
     fn fail_silently(&mut self) -> Failed
-        ensures told { self.new.told ≡ None }
-        ensures advances { Advances self.old self.new }
+        ensures { Tells None self.old self.new }
     {
         self.told = None;
         Failed
@@ -278,15 +271,12 @@ impl<'a> Parser<'a> {
         room: &mut V::Room,
         text: &'a str,
     ) -> std::result::Result<V, Failed>
-        requires same { text.now ≡ take (length text.now) self.old.buf.now }
+        requires same { IsTextOf text.now self.old }
         ensures reads { V.stands self.old.buf.now room.old true [] []
-            → ElseFails V.silent self.new.told result (source_from (size_of self.old) (mode_of self.old.mode)
-            (skip_closed_whitespace (mode_of self.old.mode) (rest_of self.old))) (λ v. (s : Source)
-            × V.filled self.old.buf.now room.new v s [] [] × (source_from (size_of self.old) (mode_of self.old.mode)
-            (skip_closed_whitespace (mode_of self.old.mode) (rest_of self.old)) ≡ Ok s)) }
+            → ElseFails V.silent self.new.told result (source_at self.old) (λ v. (s : Source)
+            × V.filled self.old.buf.now room.new v s [] [] × (source_at self.old ≡ Ok s)) }
         ensures memory { IfErr result (λ _. self.new.told ≡ Some Error.OutOfMemory → MayAllocate self.old.buf.now
-            ⊎ IsWritten V.writes (source_from (size_of self.old) (mode_of self.old.mode)
-            (skip_closed_whitespace (mode_of self.old.mode) (rest_of self.old)))) }
+            ⊎ IsWritten V.writes (source_at self.old)) }
         ensures base { V.base room.new ≡ V.base room.old }
     {
         self.skip_closed_whitespace();

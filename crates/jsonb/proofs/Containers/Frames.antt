@@ -187,7 +187,7 @@ last_of_one (z ∷ w ∷ xs) x y e = absurd (omega (arith, ap length e, length-a
 -- ---- the byte that opens a container
 
 -- a byte that comes next
-next_found : (c : ℕ) (p : Parser) → begins c (rest_of p) ≡ true → rest_of p ≡ c ∷ drop (p.offset + 1) p.buf.now
+pub next_found : (c : ℕ) (p : Parser) → begins c (rest_of p) ≡ true → rest_of p ≡ c ∷ drop (p.offset + 1) p.buf.now
 next_found c p e = found_next c (rest_of p) e ∙ ap (λ r. c ∷ r) (drop-drop 1 p.offset p.buf.now)
   where
     found_next : (c : ℕ) (bytes : List ℕ) → begins c bytes ≡ true → bytes ≡ c ∷ drop 1 bytes

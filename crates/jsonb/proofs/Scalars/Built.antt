@@ -1,5 +1,5 @@
 -- A value that holds no others, built of what the steps in it give.
-use Rattle.std.proofs.Common.{◌≡◌, ◌≢◌, pos, neg_ℤ, ◌+◌, ◌-◌, ◌≤◌, ℕ, true, false, List, [], ◌∷◌, ◌++◌, codes, length, Option, Some, Result, Ok, Err, IfOk, IfErr, refl, ap, sym, subst, ◌∙◌, arith, length-drop, length-append, append_assoc, drop, ◌<◌, take, slice_range, ap₂, Bool, OnOk, IfOk, eqb, true≢false, inl, inr}
+use Rattle.std.proofs.Common.{◌≡◌, ◌≢◌, pos, neg_ℤ, ◌+◌, ◌-◌, ℕ, true, false, List, [], ◌∷◌, ◌++◌, codes, length, Option, Some, Result, Ok, Err, IfOk, IfErr, refl, ap, sym, subst, ◌∙◌, arith, length-drop, length-append, append_assoc, drop, ◌<◌, take, slice_range, ap₂, Bool, OnOk, IfOk, eqb, true≢false, inl, inr}
 use Rattle.std.specs.Prelude.{slice_index}
 use Rattle.std.proofs.Math.Seq.{take-append_seam}
 use Rattle.std.proofs.lemmas.Bool.{cases_Bool, cond-false, cond-true, eqb-true}
@@ -27,7 +27,7 @@ use Rattle.jsonb.specs.declared.parser.frame.Frame.{Frame}
 use Rattle.jsonb.specs.declared.parser.frame.Frame.TheVariants as variants
 use Rattle.jsonb.specs.declared.parser.frame.OpenObject.{OpenObject}
 use Rattle.jsonb.specs.Handler.{AsKey, AsNumber, AsScalar, Builds, IsUntold}
-use Rattle.jsonb.specs.Frames.{Pushes, PutsIn}
+use Rattle.jsonb.specs.Frames.{IsPushed, IsPutIn}
 use Rattle.jsonb.specs.Parser.{Advances, IsBehind, rest_of, size_of}
 use Rattle.jsonb_spec.specs.Text.{in_quotes}
 use Rattle.std.proofs.lemmas.List.{drop_more}
@@ -85,29 +85,29 @@ number_built silent told Sees (Err f) size mode bytes rest h = misses_through si
 module _ {R I M K F : Type 0} (silent : Bool) (Stands : List ℕ → R → Bool → List (Frame I M K) → List Open → Type 0) (Seen : Source → Type 0) (text : List ℕ) (from : ℕ) (q r : Parser) (old new : R) where
   -- a scalar that was read is pushed
   pub read_pushed : (result : Result Unit F) (before : I) (t : Tree) (read : Read Tree) (after : I)
-      → OnOk result ((bytes : List ℕ) → (s : Source) → (ss : List Source) → (fs : List (Frame I M K)) → (cs : List Open) → Stands bytes old false (variants.Array before ∷ fs) (elements_so_far ss ∷ cs) → Seen s → IsSpelledAt bytes from q.offset s → Stands bytes new false (variants.Array after ∷ fs) (elements_so_far (ss ++ s ∷ []) ∷ cs))
-      → OnOk result (r ≡ q) → IfErr result (λ _. r.told ≡ Some OutOfMemory) → Seen (source_alone t) → IsSpelledAt text from q.offset (source_alone t) → read ≡ Ok (t, rest_of q) → Pushes silent r.told Stands text result old before read new after (rest_of r)
-  read_pushed (Ok x) before t read after pushed same memory sees spelled is = (t, is ∙ ap (λ o. Ok (t, rest_of o)) (sym same), λ ss fs cs stands. pushed text (source_alone t) ss fs cs stands sees spelled)
+      → OnOk result ((bytes : List ℕ) → (s : Source) → (ss : List Source) → (fs : List (Frame I M K)) → (cs : List Open) → Stands bytes old false (variants.Array before ∷ fs) (elements_so_far ss ∷ cs) → Seen s × IsSpelledAt bytes from q.offset s → Stands bytes new false (variants.Array after ∷ fs) (elements_so_far (ss ++ s ∷ []) ∷ cs))
+      → OnOk result (r ≡ q) → IfErr result (λ _. r.told ≡ Some OutOfMemory) → Seen (source_alone t) → IsSpelledAt text from q.offset (source_alone t) → read ≡ Ok (t, rest_of q) → IsPushed silent r.told Stands text result old before read new after (rest_of r)
+  read_pushed (Ok x) before t read after pushed same memory sees spelled is = (t, is ∙ ap (λ o. Ok (t, rest_of o)) (sym same), λ ss fs cs stands. pushed text (source_alone t) ss fs cs stands (sees, spelled))
   read_pushed (Err f) before t read after pushed same memory sees spelled is = memory_misses silent r.told read memory
 
   -- and put in under a key
   pub read_put : (result : Result Unit F) (before : OpenObject M K) (key : K) (t : Tree) (read : Read Tree) (after : OpenObject M K)
-      → OnOk result ((bytes : List ℕ) → (s : Source) → (front : List Found) → (k : Mark × List ℕ) → (place : ℕ) → (fs : List (Frame I M K)) → (cs : List Open) → Stands bytes old true (variants.Object (record { members = before.members; key = key }) ∷ fs) (members_so_far front k place ∷ cs) → Seen s → IsSpelledAt bytes from q.offset s → Stands bytes new false (variants.Object after ∷ fs) (members_so_far (front ++ found_member k s place ∷ []) (plain, []) 0 ∷ cs))
-      → OnOk result (r ≡ q) → IfErr result (λ _. IsUntold silent r.told) → Seen (source_alone t) → IsSpelledAt text from q.offset (source_alone t) → read ≡ Ok (t, rest_of q) → PutsIn silent r.told Stands text result old before key read new after (rest_of r)
-  read_put (Ok x) before key t read after put same memory sees spelled is = (t, is ∙ ap (λ o. Ok (t, rest_of o)) (sym same), λ front k place fs cs stands. put text (source_alone t) front k place fs cs stands sees spelled)
+      → OnOk result ((bytes : List ℕ) → (s : Source) → (front : List Found) → (k : Mark × List ℕ) → (place : ℕ) → (fs : List (Frame I M K)) → (cs : List Open) → Stands bytes old true (variants.Object (record { members = before.members; key = key }) ∷ fs) (members_so_far front k place ∷ cs) → Seen s × IsSpelledAt bytes from q.offset s → Stands bytes new false (variants.Object after ∷ fs) (members_so_far (front ++ found_member k s place ∷ []) (plain, []) 0 ∷ cs))
+      → OnOk result (r ≡ q) → IfErr result (λ _. IsUntold silent r.told) → Seen (source_alone t) → IsSpelledAt text from q.offset (source_alone t) → read ≡ Ok (t, rest_of q) → IsPutIn silent r.told Stands text result old before key read new after (rest_of r)
+  read_put (Ok x) before key t read after put same memory sees spelled is = (t, is ∙ ap (λ o. Ok (t, rest_of o)) (sym same), λ front k place fs cs stands. put text (source_alone t) front k place fs cs stands (sees, spelled))
   read_put (Err f) before key t read after put same memory sees spelled is = untold_misses silent r.told read memory
 
   -- a value that stands there as it is written is pushed
   pub kept_pushed : (result : Result Unit F) (before : I) (t : Tree) (read : Read Tree) (after : I)
       → OnOk result ((bytes : List ℕ) → (s : Source) → (ss : List Source) → (fs : List (Frame I M K)) → (cs : List Open) → Stands bytes old false (variants.Array before ∷ fs) (elements_so_far ss ∷ cs) → slice_range bytes from q.offset ≡ source_text s → Stands bytes new false (variants.Array after ∷ fs) (elements_so_far (ss ++ s ∷ []) ∷ cs))
-      → OnOk result (r ≡ q) → IfErr result (λ _. r.told ≡ Some OutOfMemory) → slice_range text from q.offset ≡ source_text (source_alone t) → read ≡ Ok (t, rest_of q) → Pushes silent r.told Stands text result old before read new after (rest_of r)
+      → OnOk result (r ≡ q) → IfErr result (λ _. r.told ≡ Some OutOfMemory) → slice_range text from q.offset ≡ source_text (source_alone t) → read ≡ Ok (t, rest_of q) → IsPushed silent r.told Stands text result old before read new after (rest_of r)
   kept_pushed (Ok x) before t read after pushed same memory there is = (t, is ∙ ap (λ o. Ok (t, rest_of o)) (sym same), λ ss fs cs stands. pushed text (source_alone t) ss fs cs stands there)
   kept_pushed (Err f) before t read after pushed same memory there is = memory_misses silent r.told read memory
 
   -- and put in under a key
   pub kept_put : (result : Result Unit F) (before : OpenObject M K) (key : K) (t : Tree) (read : Read Tree) (after : OpenObject M K)
       → OnOk result ((bytes : List ℕ) → (s : Source) → (front : List Found) → (k : Mark × List ℕ) → (place : ℕ) → (fs : List (Frame I M K)) → (cs : List Open) → Stands bytes old true (variants.Object (record { members = before.members; key = key }) ∷ fs) (members_so_far front k place ∷ cs) → slice_range bytes from q.offset ≡ source_text s → Stands bytes new false (variants.Object after ∷ fs) (members_so_far (front ++ found_member k s place ∷ []) (plain, []) 0 ∷ cs))
-      → OnOk result (r ≡ q) → IfErr result (λ _. IsUntold silent r.told) → slice_range text from q.offset ≡ source_text (source_alone t) → read ≡ Ok (t, rest_of q) → PutsIn silent r.told Stands text result old before key read new after (rest_of r)
+      → OnOk result (r ≡ q) → IfErr result (λ _. IsUntold silent r.told) → slice_range text from q.offset ≡ source_text (source_alone t) → read ≡ Ok (t, rest_of q) → IsPutIn silent r.told Stands text result old before key read new after (rest_of r)
   kept_put (Ok x) before key t read after put same memory there is = (t, is ∙ ap (λ o. Ok (t, rest_of o)) (sym same), λ front k place fs cs stands. put text (source_alone t) front k place fs cs stands there)
   kept_put (Err f) before key t read after put same memory there is = untold_misses silent r.told read memory
 

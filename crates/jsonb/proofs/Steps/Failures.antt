@@ -8,7 +8,7 @@ use Rattle.jsonb_scan.specs.Open.{Open}
 use Rattle.jsonb_scan.specs.Reading.{Fault, Read, ◌>>=◌}
 use Rattle.jsonb_spec.specs.Source.{Source}
 use Rattle.jsonb.specs.Handler.{Builds, ElseFails, IsUntold, IsWritten, Misses}
-use Rattle.jsonb.specs.Frames.{Pushes, PutsIn}
+use Rattle.jsonb.specs.Frames.{IsPushed, IsPutIn}
 use Rattle.jsonb.specs.declared.parser.frame.Frame.{Frame}
 use Rattle.jsonb.specs.declared.parser.frame.OpenObject.{OpenObject}
 use Rattle.jsonb.proofs.Steps.Outcomes.{fails_through}
@@ -70,9 +70,9 @@ builds_always silent told Sees (Err f) read rest h = tells_always silent told re
 -- of what is pushed and of what is put in
 module _ {R I M K X F : Type 0} (silent : Bool) (told : Option Error) (Stands : List ℕ → R → Bool → List (Frame I M K) → List Open → Type 0) (result : Result X F) (text other_text : List ℕ) (same_text : other_text ≡ text) (old : R) where
   pub pushes_same : (before : I) (read other : Read Tree) (new : R) (after : I) (rest : List ℕ) → other ≡ read
-      → Pushes silent told Stands text result old before read new after rest → Pushes silent told Stands other_text result old before other new after rest
-  pushes_same before read other new after rest same h = subst (λ u. Pushes silent told Stands u result old before other new after rest) (sym same_text) (subst (λ q. Pushes silent told Stands text result old before q new after rest) (sym same) h)
+      → IsPushed silent told Stands text result old before read new after rest → IsPushed silent told Stands other_text result old before other new after rest
+  pushes_same before read other new after rest same h = subst (λ u. IsPushed silent told Stands u result old before other new after rest) (sym same_text) (subst (λ q. IsPushed silent told Stands text result old before q new after rest) (sym same) h)
 
   pub puts_in_same : (before : OpenObject M K) (key : K) (read other : Read Tree) (new : R) (after : OpenObject M K) (rest : List ℕ) → other ≡ read
-      → PutsIn silent told Stands text result old before key read new after rest → PutsIn silent told Stands other_text result old before key other new after rest
-  puts_in_same before key read other new after rest same h = subst (λ u. PutsIn silent told Stands u result old before key other new after rest) (sym same_text) (subst (λ q. PutsIn silent told Stands text result old before key q new after rest) (sym same) h)
+      → IsPutIn silent told Stands text result old before key read new after rest → IsPutIn silent told Stands other_text result old before key other new after rest
+  puts_in_same before key read other new after rest same h = subst (λ u. IsPutIn silent told Stands u result old before key other new after rest) (sym same_text) (subst (λ q. IsPutIn silent told Stands text result old before key q new after rest) (sym same) h)

@@ -1,10 +1,9 @@
 //! The numbers of extended texts: decimals, hexadecimals, `nan` and `infinity`.
-ghost use Rattle.std.specs.Prelude.{◌≡◌, ◌≢◌, ◌+◌, ◌-◌, ◌<◌, true, Err, MatchBool, Some, None};
+ghost use Rattle.std.specs.Prelude.{◌≡◌, ◌+◌, ◌-◌, ◌<◌, true, Err, MatchBool, Some, None};
 ghost use Rattle.jsonb_spec.specs.Mode.{extended};
 ghost use Rattle.jsonb_value.specs.View.{number_view};
-ghost use Rattle.jsonb_value.specs.declared.error.Error.TheVariants.{OutOfMemory};
-ghost use Rattle.jsonb_scan.specs.Answer.{Gives, mode_of};
-ghost use Rattle.jsonb.specs.Parser.{rest_of, size_of, Advances, PassesInteger};
+ghost use Rattle.jsonb_scan.specs.Answer.{mode_of};
+ghost use Rattle.jsonb.specs.Parser.{KeepsInteger, ReadsInPlace, rest_of};
 ghost use Rattle.jsonb_scan.specs.Reading.Whitespace.{is_break};
 ghost use Rattle.jsonb_scan.specs.Reading.ExtendedNumber.{extended_number_at};
 
@@ -29,9 +28,7 @@ impl Parser<'_> {
     #[inline(always)]
     pub(super) fn kept_extended_integer(&mut self, is_asked: bool) -> bool
         requires mode { mode_of self.old.mode ≡ extended }
-        ensures passes { MatchBool result (PassesInteger self.old self.new) (self.new ≡ self.old) }
-        ensures asked { MatchBool result (is_asked ≡ true) (Unit {0}) }
-        ensures advances { Advances self.old self.new }
+        ensures { KeepsInteger is_asked result self.old self.new }
     {
         if !is_asked {
             return false;
@@ -49,10 +46,7 @@ impl Parser<'_> {
 
     // Reads the longest number text, and gives its number.
     pub(super) fn parse_extended_number(&mut self) -> Result<Number>
-        ensures reads { Gives (λ n. (number_view n, rest_of self.new)) result
-            (extended_number_at (size_of self.old) (rest_of self.old)) }
-        ensures takes_no_memory { result ≢ Err OutOfMemory }
-        ensures advances { Advances self.old self.new }
+        ensures { ReadsInPlace number_view (λ size mode. extended_number_at size) result self.old self.new }
     {
         let bytes = self.rest();
         match short_number(bytes) {
@@ -67,10 +61,7 @@ impl Parser<'_> {
     // Reads any number text, also one that `short_number` leaves.
     fn parse_long_number(&mut self, bytes: &[u8]) -> Result<Number>
         requires bytes { bytes.now ≡ rest_of self.old }
-        ensures reads { Gives (λ n. (number_view n, rest_of self.new)) result
-            (extended_number_at (size_of self.old) (rest_of self.old)) }
-        ensures takes_no_memory { result ≢ Err OutOfMemory }
-        ensures advances { Advances self.old self.new }
+        ensures { ReadsInPlace number_view (λ size mode. extended_number_at size) result self.old self.new }
     {
         let text = match scan_number(bytes) {
             Ok(text) => text,

@@ -1,17 +1,16 @@
 //! Keys, in quotes and without.
-ghost use Rattle.std.specs.Prelude.{◌≡◌, ◌≢◌, ◌<◌, Contains, Err, ◌+◌, Ok, length, take};
+ghost use Rattle.std.specs.Prelude.{◌<◌, Err, ◌+◌, Ok};
 ghost use Rattle.std.specs.Cow.{cow_str_bytes};
 ghost use Rattle.jsonb_spec.specs.Ascii as ascii;
 ghost use Rattle.jsonb_value.specs.View.{mark_view};
-ghost use Rattle.jsonb_scan.specs.Answer.{Gives};
-ghost use Rattle.jsonb.specs.Handler.{AsKey, AsNamed, Begins, Builds};
-ghost use Rattle.jsonb.specs.Parser.{rest_of, size_of, Advances, AdvancesOver, ReadsAs, read_at};
+ghost use Rattle.jsonb.specs.Handler.{AsNamed, Begins, Builds};
+ghost use Rattle.jsonb.specs.Parser.{AdvancesOver, IsTextOf, ReadsInPlace, ReadsString, read_at, rest_of};
 ghost use Rattle.jsonb.specs.Stack.{member_start};
 ghost use Rattle.jsonb_scan.specs.Reading.Whitespace.{skip_whitespace};
 ghost use Rattle.jsonb_scan.specs.Reading.String.{string_at};
-ghost use Rattle.jsonb_scan.specs.Answer.{mode_of};
 ghost use Rattle.jsonb_scan.specs.Reading.Scalar.{key_at};
 ghost use Rattle.jsonb_scan.specs.Reading.BareKey.{bare_key_at};
+ghost use Rattle.jsonb.specs.Steps.{BeginsWith};
 
 use super::frame::OpenObject;
 use super::handler::{Failed, Handler};
@@ -29,7 +28,7 @@ impl<'a> Parser<'a> {
         object: &mut OpenObject<V::Members, V::Key>,
         text: &'a str,
     ) -> std::result::Result<V::Key, Failed>
-        requires same { text.now ≡ take (length text.now) self.old.buf.now }
+        requires same { IsTextOf text.now self.old }
         ensures reads { Builds V.silent self.new.told
             (AsNamed (Begins (V.stands self.old.buf.now) room.old object.old room.new object.new)) result
             (read_at member_start self.old)
@@ -55,14 +54,9 @@ impl<'a> Parser<'a> {
         object: &mut OpenObject<V::Members, V::Key>,
         text: &'a str,
     ) -> std::result::Result<V::Key, Failed>
-        requires same { text.now ≡ take (length text.now) self.old.buf.now }
-        ensures reads { Builds V.silent self.new.told
-            (AsKey (Begins (V.stands self.old.buf.now) room.old object.old room.new object.new) (size_of self.old)
-            (rest_of self.new)) result
-            (key_at (size_of self.old) (mode_of self.old.mode)
-            (skip_whitespace (mode_of self.old.mode) (rest_of self.old)))
-            (rest_of self.new) }
-        ensures advances { AdvancesOver V.base self.old self.new room.old room.new }
+        requires same { IsTextOf text.now self.old }
+        ensures { BeginsWith V.Handler (λ size mode bytes. key_at size mode (skip_whitespace mode bytes)) result
+            self.old self.new room.old room.new object.old object.new }
     {
         if !self.take_after_whitespace(b'"') {
             return self.other_key::<V>(room, object);
@@ -86,11 +80,8 @@ impl<'a> Parser<'a> {
         room: &mut V::Room,
         object: &mut OpenObject<V::Members, V::Key>,
     ) -> std::result::Result<V::Key, Failed>
-        ensures reads { Builds V.silent self.new.told
-            (AsKey (Begins (V.stands self.old.buf.now) room.old object.old room.new object.new) (size_of self.old)
-            (rest_of self.new)) result
-            (string_at (size_of self.old) (mode_of self.old.mode) ascii.quote (rest_of self.old)) (rest_of self.new) }
-        ensures advances { AdvancesOver V.base self.old self.new room.old room.new }
+        ensures { BeginsWith V.Handler (λ size mode. string_at size mode ascii.quote) result
+            self.old self.new room.old room.new object.old object.new }
     {
         let key = match self.parse_quoted(b'"') {
             Ok(key) => key,
@@ -107,11 +98,7 @@ impl<'a> Parser<'a> {
         room: &mut V::Room,
         object: &mut OpenObject<V::Members, V::Key>,
     ) -> std::result::Result<V::Key, Failed>
-        ensures reads { Builds V.silent self.new.told
-            (AsKey (Begins (V.stands self.old.buf.now) room.old object.old room.new object.new) (size_of self.old)
-            (rest_of self.new)) result
-            (key_at (size_of self.old) (mode_of self.old.mode) (rest_of self.old)) (rest_of self.new) }
-        ensures advances { AdvancesOver V.base self.old self.new room.old room.new }
+        ensures { BeginsWith V.Handler key_at result self.old self.new room.old room.new object.old object.new }
     {
         let key = match self.parse_key() {
             Ok(key) => key,
@@ -123,9 +110,7 @@ impl<'a> Parser<'a> {
 
     // A key.
     fn parse_key(&mut self) -> Result<CowStr<'a>>
-        ensures reads { ReadsAs (λ s. (mark_view s, cow_str_bytes s)) key_at result self.old self.new }
-        ensures memory { result ≡ Err Error.OutOfMemory → Contains self.old.buf.now ascii.backslash }
-        ensures advances { Advances self.old self.new }
+        ensures { ReadsString (λ s. (mark_view s, cow_str_bytes s)) key_at result self.old self.new }
     {
         if self.take_byte(b'"') {
             return self.parse_quoted(b'"');
@@ -141,10 +126,7 @@ impl<'a> Parser<'a> {
 
     // Reads a key without quotes. It is borrowed.
     fn parse_bare_key(&mut self) -> Result<CowStr<'a>>
-        ensures reads { Gives (λ s. ((mark_view s, cow_str_bytes s), rest_of self.new)) result
-            (bare_key_at (size_of self.old) (rest_of self.old)) }
-        ensures takes_no_memory { result ≢ Err Error.OutOfMemory }
-        ensures advances { Advances self.old self.new }
+        ensures { ReadsInPlace (λ s. (mark_view s, cow_str_bytes s)) (λ size mode. bare_key_at size) result self.old self.new }
     {
         let Some(byte) = self.peek() else {
             return Err(Error::Syntax(ParseErrorCode::InvalidEOF, self.buf.len()));

@@ -1,13 +1,13 @@
 //! The numbers of standard texts.
-ghost use Rattle.std.specs.Prelude.{◌≡◌, ◌≢◌, ℕ, List, ◌++◌, ◌+◌, ◌≤◌, ◌<◌, length, slice_index, Err, Some, None, IfNone, IfSome, true, ◌^◌, MatchBool};
+ghost use Rattle.std.specs.Prelude.{◌≡◌, ◌≢◌, ℕ, List, ◌++◌, ◌+◌, ◌≤◌, ◌<◌, length, slice_index, Err, Some, None, IfSome, true, ◌^◌};
 ghost use Rattle.jsonb_value.specs.View.{number_view};
 ghost use Rattle.jsonb_value.specs.declared.error.Error.TheVariants.{Syntax, OutOfMemory};
 ghost use Rattle.jsonb_value.specs.declared.error.ParseErrorCode.TheVariants.{InvalidNumberValue};
-ghost use Rattle.jsonb_scan.specs.Answer.{Gives, Fails, mode_of};
+ghost use Rattle.jsonb_scan.specs.Answer.{Fails, mode_of};
 ghost use Rattle.jsonb_spec.specs.Mode.{standard};
 ghost use Rattle.jsonb_spec.specs.Grammar.StandardNumber.{IsStandardNumber};
 ghost use Rattle.jsonb_spec.specs.Tree.{number};
-ghost use Rattle.jsonb.specs.Parser.{rest_of, size_of, Advances, FindsAs, PassesInteger};
+ghost use Rattle.jsonb.specs.Parser.{Finds, KeepsInteger, ReadsInPlace, rest_of, size_of};
 ghost use Rattle.jsonb_scan.specs.Reading.Scalar.{scalar_at};
 ghost use Rattle.jsonb_scan.specs.ShortInteger.{short_view};
 ghost use Rattle.jsonb_scan.specs.Reading.Number.{ContinuesAfterInteger, digits_from, exponent_from, fraction_from, whole_start, then_from, number_to, standard_number_at};
@@ -27,9 +27,7 @@ impl Parser<'_> {
     #[inline(always)]
     pub(super) fn kept_integer(&mut self, is_asked: bool) -> bool
         requires mode { mode_of self.old.mode ≡ standard }
-        ensures passes { MatchBool result (PassesInteger self.old self.new) (self.new ≡ self.old) }
-        ensures asked { MatchBool result (is_asked ≡ true) (Unit {0}) }
-        ensures advances { Advances self.old self.new }
+        ensures { KeepsInteger is_asked result self.old self.new }
     {
         if !is_asked {
             return false;
@@ -47,12 +45,10 @@ impl Parser<'_> {
     #[inline(always)]
     pub(super) fn short_integer(&mut self) -> Option<ShortInteger>
         requires mode { mode_of self.old.mode ≡ standard }
-        ensures reads { FindsAs (λ read. number (short_view read)) scalar_at result self.old self.new }
+        ensures finds { Finds (λ read. number (short_view read)) scalar_at result self.old self.new }
         ensures spelled { IfSome result (λ read. (bytes : List ℕ) × (rest_of self.old ≡ bytes ++ rest_of self.new)
             × IsStandardNumber bytes (short_view read)) }
         ensures fits { IfSome result (λ read. read.negative ≡ true → read.magnitude < 2 ^ 63) }
-        ensures stays { IfNone result (self.new ≡ self.old) }
-        ensures advances { Advances self.old self.new }
     {
         let read = short_integer(self.rest())?;
         self.offset += read.end;
@@ -62,10 +58,7 @@ impl Parser<'_> {
     // Reads the longest number text, and gives its number.
     #[inline(never)]
     pub(super) fn parse_standard_number(&mut self) -> Result<Number>
-        ensures reads { Gives (λ n. (number_view n, rest_of self.new)) result
-            (standard_number_at (size_of self.old) (rest_of self.old)) }
-        ensures takes_no_memory { result ≢ Err OutOfMemory }
-        ensures advances { Advances self.old self.new }
+        ensures { ReadsInPlace number_view (λ size mode. standard_number_at size) result self.old self.new }
     {
         let bytes = self.rest();
         let negative = byte_at(bytes, 0) == b'-';

@@ -1,24 +1,20 @@
 //! Values that hold no others.
-ghost use Rattle.std.specs.Prelude.{◌≡◌, ◌≢◌, ◌<◌, [], ◌∷◌, ◌++◌, drop, length, take, Contains, MatchBool, Err, IfErr, IfNone, OnOk, IfSome, Some, true, false, ℕ, List, ◌^◌, pos, neg_ℤ, slice_range};
+ghost use Rattle.std.specs.Prelude.{◌≡◌, ◌≢◌, ◌<◌, ◌++◌, drop, length, MatchBool, Err, IfSome, Some, true, false, ◌^◌, pos, neg_ℤ, slice_range};
 ghost use Rattle.jsonb_spec.specs.Ascii as ascii;
 ghost use Rattle.jsonb_spec.specs.Mode.{standard, extended};
 ghost use Rattle.jsonb_value.specs.View.{number_view};
-ghost use Rattle.jsonb.specs.Handler.{AsNumber, AsScalar, Builds, IsUntold};
-ghost use Rattle.jsonb.specs.Frames.{Pushes, PutsIn};
 ghost use Rattle.jsonb_scan.specs.Answer.{mode_of, Gives};
 ghost use Rattle.jsonb.specs.Literals.{literal_text, literal_tree};
-ghost use Rattle.jsonb.specs.declared.parser.frame.Frame.{Frame};
-ghost use Rattle.jsonb.specs.declared.parser.frame.Frame.TheVariants.{Array, Object};
-ghost use Rattle.jsonb_spec.specs.Tree.{Mark, int64};
+ghost use Rattle.jsonb_spec.specs.Tree.{int64};
 ghost use Rattle.jsonb_spec.specs.Tree.Mark.{plain};
-ghost use Rattle.jsonb_scan.specs.Open.{Open, elements_so_far, members_so_far};
-ghost use Rattle.jsonb_spec.specs.Source.{Source, Found, found_member, string_source};
+ghost use Rattle.jsonb_spec.specs.Source.{string_source};
 ghost use Rattle.jsonb_scan.specs.Spelled.{IsSpelledAt};
 ghost use Rattle.jsonb_write.specs.OpenText.{source_text};
 ghost use Rattle.jsonb_write.specs.PlainText.{ArePlain};
-ghost use Rattle.jsonb.specs.Parser.{rest_of, size_of, Advances, AdvancesOver, FindsAs, IsBehind, ReadsAs, read_at};
+ghost use Rattle.jsonb.specs.Parser.{Advances, Finds, IsAfterQuote, IsBehind, IsTextOf, ReadsInPlace, TakesByte, rest_of, size_of};
 ghost use Rattle.jsonb_scan.specs.Reading.{begins};
-ghost use Rattle.jsonb_scan.specs.Reading.Scalar.{begins_letter, begins_number, begins_single_quote, fold_letter, letters_at, null_at, number_at, quoted_at, scalar_at, other_scalar_at, words_at};
+ghost use Rattle.jsonb_scan.specs.Reading.Scalar.{number_value_at, begins_letter, begins_number, begins_single_quote, fold_letter, letters_at, null_at, number_at, quoted_at, scalar_at, other_scalar_at, words_at};
+ghost use Rattle.jsonb.specs.Steps.{Inserts, MakesScalar, Pushes, PutsElement, PutsMember};
 
 use super::frame::OpenObject;
 use super::handler::{Failed, Handler};
@@ -73,14 +69,8 @@ impl<'a> Parser<'a> {
         value: V,
         from: usize,
     ) -> Result<(), Failed>
-        ensures put { OnOk result ((text : List ℕ) → (s : Source) → (ss : List Source)
-            → (fs : List (Frame V.Items V.Members V.Key)) → (cs : List Open)
-            → V.stands text room.old false (Array items.old ∷ fs) (elements_so_far ss ∷ cs) → V.sees value s
-            → IsSpelledAt text from self.old.offset s
-            → V.stands text room.new false (Array items.new ∷ fs) (elements_so_far (ss ++ s ∷ []) ∷ cs)) }
-        ensures same { OnOk result (self.new ≡ self.old) }
-        ensures memory { IfErr result (λ _. self.new.told ≡ Some Error.OutOfMemory) }
-        ensures advances { AdvancesOver V.base self.old self.new room.old room.new }
+        ensures { PutsElement V.Handler (λ text s. V.sees value s × IsSpelledAt text from self.old.offset s) result
+            self.old self.new room.old room.new items.old items.new }
     {
         if V::push(room, items, value, from, self.offset).is_err() {
             return Err(self.out_of_memory());
@@ -98,15 +88,8 @@ impl<'a> Parser<'a> {
         value: V,
         from: usize,
     ) -> Result<(), Failed>
-        ensures put { OnOk result ((text : List ℕ) → (s : Source) → (front : List Found) → (k : Mark × List ℕ)
-            → (place : ℕ) → (fs : List (Frame V.Items V.Members V.Key)) → (cs : List Open)
-            → V.stands text room.old true (Object (record { members = object.old.members; key = key }) ∷ fs)
-            (members_so_far front k place ∷ cs) → V.sees value s → IsSpelledAt text from self.old.offset s
-            → V.stands text room.new false (Object object.new ∷ fs)
-            (members_so_far (front ++ found_member k s place ∷ []) (plain, []) 0 ∷ cs)) }
-        ensures same { OnOk result (self.new ≡ self.old) }
-        ensures told { IfErr result (λ _. IsUntold V.silent self.new.told) }
-        ensures advances { AdvancesOver V.base self.old self.new room.old room.new }
+        ensures { PutsMember V.Handler (λ text s. V.sees value s × IsSpelledAt text from self.old.offset s) result
+            self.old self.new room.old room.new key object.old object.new }
     {
         let inserted = V::insert(room, object, key, value, from, self.offset);
         self.insert_result(inserted)
@@ -122,14 +105,9 @@ impl<'a> Parser<'a> {
         from: usize,
     ) -> Result<(), Failed>
         requires plain { cut.is_plain ≡ true → ArePlain cut.body.now }
-        ensures put { OnOk result ((text : List ℕ) → (s : Source) → (ss : List Source)
-            → (fs : List (Frame V.Items V.Members V.Key)) → (cs : List Open)
-            → V.stands text room.old false (Array items.old ∷ fs) (elements_so_far ss ∷ cs)
-            → s ≡ string_source plain cut.entry.body.now → IsSpelledAt text from self.old.offset s
-            → V.stands text room.new false (Array items.new ∷ fs) (elements_so_far (ss ++ s ∷ []) ∷ cs)) }
-        ensures same { OnOk result (self.new ≡ self.old) }
-        ensures memory { IfErr result (λ _. self.new.told ≡ Some Error.OutOfMemory) }
-        ensures advances { AdvancesOver V.base self.old self.new room.old room.new }
+        ensures { PutsElement V.Handler
+            (λ text s. (s ≡ string_source plain cut.entry.body.now) × IsSpelledAt text from self.old.offset s)
+            result self.old self.new room.old room.new items.old items.new }
     {
         if cut.is_plain {
             return self.push::<V>(room, items, V::plain_string(cut.body), from);
@@ -148,15 +126,9 @@ impl<'a> Parser<'a> {
         from: usize,
     ) -> Result<(), Failed>
         requires plain { cut.is_plain ≡ true → ArePlain cut.body.now }
-        ensures put { OnOk result ((text : List ℕ) → (s : Source) → (front : List Found) → (k : Mark × List ℕ)
-            → (place : ℕ) → (fs : List (Frame V.Items V.Members V.Key)) → (cs : List Open)
-            → V.stands text room.old true (Object (record { members = object.old.members; key = key }) ∷ fs)
-            (members_so_far front k place ∷ cs) → s ≡ string_source plain cut.entry.body.now
-            → IsSpelledAt text from self.old.offset s → V.stands text room.new false (Object object.new ∷ fs)
-            (members_so_far (front ++ found_member k s place ∷ []) (plain, []) 0 ∷ cs)) }
-        ensures same { OnOk result (self.new ≡ self.old) }
-        ensures told { IfErr result (λ _. IsUntold V.silent self.new.told) }
-        ensures advances { AdvancesOver V.base self.old self.new room.old room.new }
+        ensures { PutsMember V.Handler
+            (λ text s. (s ≡ string_source plain cut.entry.body.now) × IsSpelledAt text from self.old.offset s)
+            result self.old self.new room.old room.new key object.old object.new }
     {
         if cut.is_plain {
             return self.insert::<V>(room, object, key, V::plain_string(cut.body), from);
@@ -179,10 +151,8 @@ impl<'a> Parser<'a> {
         items: &mut V::Items,
         text: &'a str,
     ) -> Result<(), Failed>
-        requires same { text.now ≡ take (length text.now) self.old.buf.now }
-        ensures reads { Pushes V.silent self.new.told V.stands self.old.buf.now result room.old items.old
-            (read_at scalar_at self.old) room.new items.new (rest_of self.new) }
-        ensures advances { AdvancesOver V.base self.old self.new room.old room.new }
+        requires same { IsTextOf text.now self.old }
+        ensures { Pushes V.Handler scalar_at result self.old self.new room.old room.new items.old items.new }
     {
         let from = self.offset;
         if self.take_byte(b'"') {
@@ -209,14 +179,8 @@ impl<'a> Parser<'a> {
         from: usize,
     ) -> Result<(), Failed>
         requires kept { V.keeps ≡ true }
-        ensures put { OnOk result ((text : List ℕ) → (s : Source) → (ss : List Source)
-            → (fs : List (Frame V.Items V.Members V.Key)) → (cs : List Open)
-            → V.stands text room.old false (Array items.old ∷ fs) (elements_so_far ss ∷ cs)
-            → slice_range text from self.old.offset ≡ source_text s
-            → V.stands text room.new false (Array items.new ∷ fs) (elements_so_far (ss ++ s ∷ []) ∷ cs)) }
-        ensures same { OnOk result (self.new ≡ self.old) }
-        ensures memory { IfErr result (λ _. self.new.told ≡ Some Error.OutOfMemory) }
-        ensures advances { AdvancesOver V.base self.old self.new room.old room.new }
+        ensures { PutsElement V.Handler (λ text s. slice_range text from self.old.offset ≡ source_text s) result
+            self.old self.new room.old room.new items.old items.new }
     {
         if V::push_kept(room, items, from, self.offset).is_err() {
             return Err(self.out_of_memory());
@@ -234,15 +198,8 @@ impl<'a> Parser<'a> {
         from: usize,
     ) -> Result<(), Failed>
         requires kept { V.keeps ≡ true }
-        ensures put { OnOk result ((text : List ℕ) → (s : Source) → (front : List Found) → (k : Mark × List ℕ)
-            → (place : ℕ) → (fs : List (Frame V.Items V.Members V.Key)) → (cs : List Open)
-            → V.stands text room.old true (Object (record { members = object.old.members; key = key }) ∷ fs)
-            (members_so_far front k place ∷ cs) → slice_range text from self.old.offset ≡ source_text s
-            → V.stands text room.new false (Object object.new ∷ fs)
-            (members_so_far (front ++ found_member k s place ∷ []) (plain, []) 0 ∷ cs)) }
-        ensures same { OnOk result (self.new ≡ self.old) }
-        ensures told { IfErr result (λ _. IsUntold V.silent self.new.told) }
-        ensures advances { AdvancesOver V.base self.old self.new room.old room.new }
+        ensures { PutsMember V.Handler (λ text s. slice_range text from self.old.offset ≡ source_text s) result
+            self.old self.new room.old room.new key object.old object.new }
     {
         let inserted = V::insert_kept(room, object, key, from, self.offset);
         self.insert_result(inserted)
@@ -257,12 +214,10 @@ impl<'a> Parser<'a> {
         items: &mut V::Items,
         text: &'a str,
     ) -> Result<(), Failed>
-        requires same { text.now ≡ take (length text.now) self.old.buf.now }
         requires mode { mode_of self.old.mode ≡ standard }
         requires no_string { begins ascii.quote (rest_of self.old) ≡ false }
-        ensures reads { Pushes V.silent self.new.told V.stands self.old.buf.now result room.old items.old
-            (read_at scalar_at self.old) room.new items.new (rest_of self.new) }
-        ensures advances { AdvancesOver V.base self.old self.new room.old room.new }
+        requires same { IsTextOf text.now self.old }
+        ensures { Pushes V.Handler scalar_at result self.old self.new room.old room.new items.old items.new }
     {
         let from = self.offset;
         if self.kept_integer(V::keeps_integers()) {
@@ -279,12 +234,10 @@ impl<'a> Parser<'a> {
         items: &mut V::Items,
         text: &'a str,
     ) -> Result<(), Failed>
-        requires same { text.now ≡ take (length text.now) self.old.buf.now }
         requires mode { mode_of self.old.mode ≡ extended }
         requires no_string { begins ascii.quote (rest_of self.old) ≡ false }
-        ensures reads { Pushes V.silent self.new.told V.stands self.old.buf.now result room.old items.old
-            (read_at scalar_at self.old) room.new items.new (rest_of self.new) }
-        ensures advances { AdvancesOver V.base self.old self.new room.old room.new }
+        requires same { IsTextOf text.now self.old }
+        ensures { Pushes V.Handler scalar_at result self.old self.new room.old room.new items.old items.new }
     {
         let from = self.offset;
         if self.kept_extended_integer(V::keeps_integers()) {
@@ -305,12 +258,10 @@ impl<'a> Parser<'a> {
         key: V::Key,
         text: &'a str,
     ) -> Result<(), Failed>
-        requires same { text.now ≡ take (length text.now) self.old.buf.now }
         requires mode { mode_of self.old.mode ≡ standard }
         requires no_string { begins ascii.quote (rest_of self.old) ≡ false }
-        ensures reads { PutsIn V.silent self.new.told V.stands self.old.buf.now result room.old object.old key
-            (read_at scalar_at self.old) room.new object.new (rest_of self.new) }
-        ensures advances { AdvancesOver V.base self.old self.new room.old room.new }
+        requires same { IsTextOf text.now self.old }
+        ensures { Inserts V.Handler scalar_at result self.old self.new room.old room.new key object.old object.new }
     {
         let from = self.offset;
         if self.kept_integer(V::keeps_integers()) {
@@ -328,12 +279,10 @@ impl<'a> Parser<'a> {
         key: V::Key,
         text: &'a str,
     ) -> Result<(), Failed>
-        requires same { text.now ≡ take (length text.now) self.old.buf.now }
         requires mode { mode_of self.old.mode ≡ extended }
         requires no_string { begins ascii.quote (rest_of self.old) ≡ false }
-        ensures reads { PutsIn V.silent self.new.told V.stands self.old.buf.now result room.old object.old key
-            (read_at scalar_at self.old) room.new object.new (rest_of self.new) }
-        ensures advances { AdvancesOver V.base self.old self.new room.old room.new }
+        requires same { IsTextOf text.now self.old }
+        ensures { Inserts V.Handler scalar_at result self.old self.new room.old room.new key object.old object.new }
     {
         let from = self.offset;
         if self.kept_extended_integer(V::keeps_integers()) {
@@ -353,12 +302,10 @@ impl<'a> Parser<'a> {
         items: &mut V::Items,
         text: &'a str,
     ) -> Result<(), Failed>
-        requires same { text.now ≡ take (length text.now) self.old.buf.now }
         requires mode { mode_of self.old.mode ≡ standard }
         requires no_string { begins ascii.quote (rest_of self.old) ≡ false }
-        ensures reads { Pushes V.silent self.new.told V.stands self.old.buf.now result room.old items.old
-            (read_at scalar_at self.old) room.new items.new (rest_of self.new) }
-        ensures advances { AdvancesOver V.base self.old self.new room.old room.new }
+        requires same { IsTextOf text.now self.old }
+        ensures { Pushes V.Handler scalar_at result self.old self.new room.old room.new items.old items.new }
     {
         let from = self.offset;
         if let Some(read) = self.short_integer() {
@@ -379,11 +326,9 @@ impl<'a> Parser<'a> {
         items: &mut V::Items,
         text: &'a str,
     ) -> Result<(), Failed>
-        requires same { text.now ≡ take (length text.now) self.old.buf.now }
         requires no_string { begins ascii.quote (rest_of self.old) ≡ false }
-        ensures reads { Pushes V.silent self.new.told V.stands self.old.buf.now result room.old items.old
-            (read_at scalar_at self.old) room.new items.new (rest_of self.new) }
-        ensures advances { AdvancesOver V.base self.old self.new room.old room.new }
+        requires same { IsTextOf text.now self.old }
+        ensures { Pushes V.Handler scalar_at result self.old self.new room.old room.new items.old items.new }
     {
         let from = self.offset;
         match self.short_literal() {
@@ -403,10 +348,9 @@ impl<'a> Parser<'a> {
         text: &'a str,
     ) -> Result<(), Failed>
         requires opened { IsBehind ascii.quote self.old }
-        requires same { text.now ≡ take (length text.now) self.old.buf.now }
-        ensures reads { Pushes V.silent self.new.told V.stands self.old.buf.now result room.old items.old
-            (read_at (λ size mode. quoted_at size mode ascii.quote) self.old) room.new items.new (rest_of self.new) }
-        ensures advances { AdvancesOver V.base self.old self.new room.old room.new }
+        requires same { IsTextOf text.now self.old }
+        ensures { Pushes V.Handler (λ size mode. quoted_at size mode ascii.quote) result
+            self.old self.new room.old room.new items.old items.new }
     {
         let value = self.parse_escaped_string::<V>(b'"', text)?;
         self.push::<V>(room, items, value, self.offset)
@@ -420,10 +364,8 @@ impl<'a> Parser<'a> {
         items: &mut V::Items,
         text: &'a str,
     ) -> Result<(), Failed>
-        requires same { text.now ≡ take (length text.now) self.old.buf.now }
-        ensures reads { Pushes V.silent self.new.told V.stands self.old.buf.now result room.old items.old
-            (read_at other_scalar_at self.old) room.new items.new (rest_of self.new) }
-        ensures advances { AdvancesOver V.base self.old self.new room.old room.new }
+        requires same { IsTextOf text.now self.old }
+        ensures { Pushes V.Handler other_scalar_at result self.old self.new room.old room.new items.old items.new }
     {
         let value = self.parse_other_scalar::<V>(text)?;
         self.push::<V>(room, items, value, self.offset)
@@ -438,10 +380,8 @@ impl<'a> Parser<'a> {
         key: V::Key,
         text: &'a str,
     ) -> Result<(), Failed>
-        requires same { text.now ≡ take (length text.now) self.old.buf.now }
-        ensures reads { PutsIn V.silent self.new.told V.stands self.old.buf.now result room.old object.old key
-            (read_at scalar_at self.old) room.new object.new (rest_of self.new) }
-        ensures advances { AdvancesOver V.base self.old self.new room.old room.new }
+        requires same { IsTextOf text.now self.old }
+        ensures { Inserts V.Handler scalar_at result self.old self.new room.old room.new key object.old object.new }
     {
         let from = self.offset;
         if self.take_byte(b'"') {
@@ -468,12 +408,10 @@ impl<'a> Parser<'a> {
         key: V::Key,
         text: &'a str,
     ) -> Result<(), Failed>
-        requires same { text.now ≡ take (length text.now) self.old.buf.now }
         requires mode { mode_of self.old.mode ≡ standard }
         requires no_string { begins ascii.quote (rest_of self.old) ≡ false }
-        ensures reads { PutsIn V.silent self.new.told V.stands self.old.buf.now result room.old object.old key
-            (read_at scalar_at self.old) room.new object.new (rest_of self.new) }
-        ensures advances { AdvancesOver V.base self.old self.new room.old room.new }
+        requires same { IsTextOf text.now self.old }
+        ensures { Inserts V.Handler scalar_at result self.old self.new room.old room.new key object.old object.new }
     {
         let from = self.offset;
         if let Some(read) = self.short_integer() {
@@ -496,11 +434,9 @@ impl<'a> Parser<'a> {
         key: V::Key,
         text: &'a str,
     ) -> Result<(), Failed>
-        requires same { text.now ≡ take (length text.now) self.old.buf.now }
         requires no_string { begins ascii.quote (rest_of self.old) ≡ false }
-        ensures reads { PutsIn V.silent self.new.told V.stands self.old.buf.now result room.old object.old key
-            (read_at scalar_at self.old) room.new object.new (rest_of self.new) }
-        ensures advances { AdvancesOver V.base self.old self.new room.old room.new }
+        requires same { IsTextOf text.now self.old }
+        ensures { Inserts V.Handler scalar_at result self.old self.new room.old room.new key object.old object.new }
     {
         let from = self.offset;
         match self.short_literal() {
@@ -527,10 +463,9 @@ impl<'a> Parser<'a> {
         text: &'a str,
     ) -> Result<(), Failed>
         requires opened { IsBehind ascii.quote self.old }
-        requires same { text.now ≡ take (length text.now) self.old.buf.now }
-        ensures reads { PutsIn V.silent self.new.told V.stands self.old.buf.now result room.old object.old key
-            (read_at (λ size mode. quoted_at size mode ascii.quote) self.old) room.new object.new (rest_of self.new) }
-        ensures advances { AdvancesOver V.base self.old self.new room.old room.new }
+        requires same { IsTextOf text.now self.old }
+        ensures { Inserts V.Handler (λ size mode. quoted_at size mode ascii.quote) result
+            self.old self.new room.old room.new key object.old object.new }
     {
         let value = self.parse_escaped_string::<V>(b'"', text)?;
         self.insert::<V>(room, object, key, value, self.offset)
@@ -545,10 +480,9 @@ impl<'a> Parser<'a> {
         key: V::Key,
         text: &'a str,
     ) -> Result<(), Failed>
-        requires same { text.now ≡ take (length text.now) self.old.buf.now }
-        ensures reads { PutsIn V.silent self.new.told V.stands self.old.buf.now result room.old object.old key
-            (read_at other_scalar_at self.old) room.new object.new (rest_of self.new) }
-        ensures advances { AdvancesOver V.base self.old self.new room.old room.new }
+        requires same { IsTextOf text.now self.old }
+        ensures { Inserts V.Handler other_scalar_at result self.old self.new room.old room.new key object.old
+            object.new }
     {
         let value = self.parse_other_scalar::<V>(text)?;
         self.insert::<V>(room, object, key, value, self.offset)
@@ -557,12 +491,8 @@ impl<'a> Parser<'a> {
     // A value that holds no others.
     #[inline(always)]
     pub(super) fn parse_scalar<V: Handler<'a>>(&mut self, text: &'a str) -> Result<V, Failed>
-        requires same { text.now ≡ take (length text.now) self.old.buf.now }
-        ensures reads { Builds V.silent self.new.told (AsScalar V.sees) result (read_at scalar_at self.old)
-            (rest_of self.new) }
-        ensures memory { IfErr result (λ _. self.new.told ≡ Some Error.OutOfMemory
-            → Contains self.old.buf.now ascii.backslash) }
-        ensures advances { Advances self.old self.new }
+        requires same { IsTextOf text.now self.old }
+        ensures { MakesScalar V.Handler scalar_at result self.old self.new }
     {
         if self.take_byte(b'"') {
             return self.parse_string(b'"', text);
@@ -573,12 +503,8 @@ impl<'a> Parser<'a> {
     // A string in single quotes, a word or a number.
     #[inline(always)]
     fn parse_other_scalar<V: Handler<'a>>(&mut self, text: &'a str) -> Result<V, Failed>
-        requires same { text.now ≡ take (length text.now) self.old.buf.now }
-        ensures reads { Builds V.silent self.new.told (AsScalar V.sees) result (read_at other_scalar_at self.old)
-            (rest_of self.new) }
-        ensures memory { IfErr result (λ _. self.new.told ≡ Some Error.OutOfMemory
-            → Contains self.old.buf.now ascii.backslash) }
-        ensures advances { Advances self.old self.new }
+        requires same { IsTextOf text.now self.old }
+        ensures { MakesScalar V.Handler other_scalar_at result self.old self.new }
     {
         if self.take_single_quote() {
             return self.parse_string(b'\'', text);
@@ -589,11 +515,7 @@ impl<'a> Parser<'a> {
     // A word or a number as a value.
     #[inline(always)]
     fn parse_word_or_number<V: Handler<'a>>(&mut self) -> Result<V, Failed>
-        ensures reads { Builds V.silent self.new.told (AsScalar V.sees) result (read_at words_at self.old)
-            (rest_of self.new) }
-        ensures memory { IfErr result (λ _. self.new.told ≡ Some Error.OutOfMemory
-            → Contains self.old.buf.now ascii.backslash) }
-        ensures advances { Advances self.old self.new }
+        ensures { MakesScalar V.Handler words_at result self.old self.new }
     {
         if self.next_is_letter(b'n') {
             return self.parse_null();
@@ -620,11 +542,7 @@ impl<'a> Parser<'a> {
     // `null`; where that fails, in extended mode a number's word may begin with the same letter.
     #[inline(always)]
     fn parse_null<V: Handler<'a>>(&mut self) -> Result<V, Failed>
-        ensures reads { Builds V.silent self.new.told (AsScalar V.sees) result (read_at null_at self.old)
-            (rest_of self.new) }
-        ensures memory { IfErr result (λ _. self.new.told ≡ Some Error.OutOfMemory
-            → Contains self.old.buf.now ascii.backslash) }
-        ensures advances { Advances self.old self.new }
+        ensures { MakesScalar V.Handler null_at result self.old self.new }
     {
         let start = self.offset;
         let error = match self.parse_word(b"null") {
@@ -643,11 +561,7 @@ impl<'a> Parser<'a> {
     // A number as a value.
     #[inline(always)]
     fn parse_number_value<V: Handler<'a>>(&mut self) -> Result<V, Failed>
-        ensures reads { Builds V.silent self.new.told (AsNumber V.sees) result (read_at number_at self.old)
-            (rest_of self.new) }
-        ensures memory { IfErr result (λ _. self.new.told ≡ Some Error.OutOfMemory
-            → Contains self.old.buf.now ascii.backslash) }
-        ensures advances { Advances self.old self.new }
+        ensures { MakesScalar V.Handler number_value_at result self.old self.new }
     {
         match self.parse_number() {
             Ok(number) => Ok(V::number(number)),
@@ -658,15 +572,9 @@ impl<'a> Parser<'a> {
     // A string as a value, from the byte after its opening quote on.
     #[inline(always)]
     fn parse_string<V: Handler<'a>>(&mut self, quote: u8, text: &'a str) -> Result<V, Failed>
-        requires no_backslash { quote ≢ ascii.backslash }
-        requires ascii { quote < ascii.end }
-        requires opened { IsBehind quote self.old }
-        requires same { text.now ≡ take (length text.now) self.old.buf.now }
-        ensures reads { Builds V.silent self.new.told (AsScalar V.sees) result
-            (read_at (λ size mode. quoted_at size mode quote) self.old) (rest_of self.new) }
-        ensures memory { IfErr result (λ _. self.new.told ≡ Some Error.OutOfMemory
-            → Contains self.old.buf.now ascii.backslash) }
-        ensures advances { Advances self.old self.new }
+        requires quote { IsAfterQuote quote self.old }
+        requires same { IsTextOf text.now self.old }
+        ensures { MakesScalar V.Handler (λ size mode. quoted_at size mode quote) result self.old self.new }
     {
         if let Some(body) = self.borrowed_string(quote, text) {
             return Ok(V::string(CowStr::Borrowed(body)));
@@ -681,15 +589,9 @@ impl<'a> Parser<'a> {
         quote: u8,
         text: &'a str,
     ) -> Result<V, Failed>
-        requires no_backslash { quote ≢ ascii.backslash }
-        requires ascii { quote < ascii.end }
-        requires opened { IsBehind quote self.old }
-        requires same { text.now ≡ take (length text.now) self.old.buf.now }
-        ensures reads { Builds V.silent self.new.told (AsScalar V.sees) result
-            (read_at (λ size mode. quoted_at size mode quote) self.old) (rest_of self.new) }
-        ensures memory { IfErr result (λ _. self.new.told ≡ Some Error.OutOfMemory
-            → Contains self.old.buf.now ascii.backslash) }
-        ensures advances { Advances self.old self.new }
+        requires quote { IsAfterQuote quote self.old }
+        requires same { IsTextOf text.now self.old }
+        ensures { MakesScalar V.Handler (λ size mode. quoted_at size mode quote) result self.old self.new }
     {
         let from = self.offset;
         let Some(body) = self.escaped_contents(quote, text) else {
@@ -707,11 +609,8 @@ impl<'a> Parser<'a> {
     // Passes a single quote, where one comes next that begins a string.
     #[inline(always)]
     pub(super) fn take_single_quote(&mut self) -> bool
-        ensures found { result ≡ begins_single_quote (mode_of self.old.mode) (rest_of self.old) }
-        ensures rest { MatchBool result (rest_of self.old ≡ ascii.single_quote ∷ rest_of self.new)
-            (self.new ≡ self.old) }
-        ensures behind { MatchBool result (IsBehind ascii.single_quote self.new) (Unit {0}) }
-        ensures advances { Advances self.old self.new }
+        ensures { TakesByte ascii.single_quote (begins_single_quote (mode_of self.old.mode) (rest_of self.old)) result
+            self.old self.new }
     {
         match self.mode {
             Mode::Standard => false,
@@ -728,10 +627,8 @@ impl<'a> Parser<'a> {
     // Reads a literal in small letters, if one comes next.
     #[inline(always)]
     fn short_literal(&mut self) -> Option<Literal>
-        ensures reads { FindsAs literal_tree scalar_at result self.old self.new }
+        ensures finds { Finds literal_tree scalar_at result self.old self.new }
         ensures spelled { IfSome result (λ l. rest_of self.old ≡ literal_text l ++ rest_of self.new) }
-        ensures stays { IfNone result (self.new ≡ self.old) }
-        ensures advances { Advances self.old self.new }
     {
         let rest = self.rest();
         if begins_with(rest, b"null") {
@@ -768,9 +665,7 @@ impl<'a> Parser<'a> {
     // A number, or a word that names none.
     #[inline(always)]
     fn parse_number(&mut self) -> std::result::Result<Number, Error>
-        ensures reads { ReadsAs number_view number_at result self.old self.new }
-        ensures takes_no_memory { result ≢ Err Error.OutOfMemory }
-        ensures advances { Advances self.old self.new }
+        ensures { ReadsInPlace number_view number_at result self.old self.new }
     {
         match self.mode {
             Mode::Standard => self.parse_standard_number(),

@@ -1,10 +1,10 @@
 //! Quoted strings.
-ghost use Rattle.std.specs.Prelude.{◌≡◌, ◌≢◌, ◌+◌, ◌<◌, Contains, Err, IfNone, IfSome, length, take, ◌++◌, ◌∷◌, true};
+ghost use Rattle.std.specs.Prelude.{◌≡◌, ◌≢◌, ◌+◌, ◌<◌, Err, IfNone, IfSome, true};
 ghost use Rattle.std.specs.Cow.{cow_str_bytes};
 ghost use Rattle.jsonb_spec.specs.Ascii as ascii;
 ghost use Rattle.jsonb_value.specs.View.{mark_view};
 ghost use Rattle.jsonb_spec.specs.Tree.Mark.{plain};
-ghost use Rattle.jsonb.specs.Parser.{rest_of, Advances, FindsAs, IsBehind, PassesContents, ReadsAs};
+ghost use Rattle.jsonb.specs.Parser.{Advances, CutsString, IsAfterQuote, IsBehind, IsTextOf, PassesContents, ReadsString};
 ghost use Rattle.jsonb_scan.specs.Reading.String.{string_at};
 ghost use Rattle.jsonb_write.specs.PlainText.{ArePlain};
 
@@ -28,10 +28,8 @@ impl<'a> Parser<'a> {
     #[inline(always)]
     pub(super) fn parse_quoted(&mut self, quote: u8) -> Result<CowStr<'a>>
         requires no_backslash { quote ≢ ascii.backslash }
-        ensures reads { ReadsAs (λ s. (mark_view s, cow_str_bytes s)) (λ size mode. string_at size mode quote) result
+        ensures { ReadsString (λ s. (mark_view s, cow_str_bytes s)) (λ size mode. string_at size mode quote) result
             self.old self.new }
-        ensures memory { result ≡ Err Error.OutOfMemory → Contains self.old.buf.now ascii.backslash }
-        ensures advances { Advances self.old self.new }
     {
         let rest = self.rest();
         match find_end(rest, quote) {
@@ -57,10 +55,8 @@ impl<'a> Parser<'a> {
     #[inline(never)]
     pub(super) fn parse_escaped(&mut self, quote: u8) -> Result<CowStr<'a>>
         requires no_backslash { quote ≢ ascii.backslash }
-        ensures reads { ReadsAs (λ s. (mark_view s, cow_str_bytes s)) (λ size mode. string_at size mode quote) result
+        ensures { ReadsString (λ s. (mark_view s, cow_str_bytes s)) (λ size mode. string_at size mode quote) result
             self.old self.new }
-        ensures memory { result ≡ Err Error.OutOfMemory → Contains self.old.buf.now ascii.backslash }
-        ensures advances { Advances self.old self.new }
     {
         self.parse_quoted(quote)
     }
@@ -69,15 +65,9 @@ impl<'a> Parser<'a> {
     // text is cut at both without a look at the bytes there.
     #[inline(always)]
     pub(super) fn borrowed_string(&mut self, quote: u8, text: &'a str) -> Option<&'a str>
-        requires no_backslash { quote ≢ ascii.backslash }
-        requires ascii { quote < ascii.end }
-        requires opened { IsBehind quote self.old }
-        requires same { text.now ≡ take (length text.now) self.old.buf.now }
-        ensures reads { FindsAs (λ s. (plain, s.now)) (λ size mode. string_at size mode quote) result self.old
-            self.new }
-        ensures spelled { IfSome result (λ s. rest_of self.old ≡ s.now ++ quote ∷ rest_of self.new) }
-        ensures stays { IfNone result (self.new ≡ self.old) }
-        ensures advances { Advances self.old self.new }
+        requires quote { IsAfterQuote quote self.old }
+        requires same { IsTextOf text.now self.old }
+        ensures { CutsString (λ s. s.now) quote result self.old self.new }
     {
         let rest = self.rest();
         let end = next_mark(rest, quote, 0);
@@ -102,10 +92,8 @@ impl<'a> Parser<'a> {
     // quote, so that they are cut out of the text as above.
     #[inline(always)]
     pub(super) fn escaped_contents(&mut self, quote: u8, text: &'a str) -> Option<&'a str>
-        requires no_backslash { quote ≢ ascii.backslash }
-        requires ascii { quote < ascii.end }
-        requires opened { IsBehind quote self.old }
-        requires same { text.now ≡ take (length text.now) self.old.buf.now }
+        requires quote { IsAfterQuote quote self.old }
+        requires same { IsTextOf text.now self.old }
         ensures passes { IfSome result (λ body. PassesContents quote self.old self.new body.now) }
         ensures stays { IfNone result (self.new ≡ self.old) }
         ensures advances { Advances self.old self.new }
@@ -130,13 +118,9 @@ impl<'a> Parser<'a> {
     #[inline(always)]
     fn plain_string(&mut self, text: &'a str) -> Option<&'a str>
         requires opened { IsBehind ascii.quote self.old }
-        requires same { text.now ≡ take (length text.now) self.old.buf.now }
-        ensures reads { FindsAs (λ s. (plain, s.now)) (λ size mode. string_at size mode ascii.quote) result self.old
-            self.new }
-        ensures spelled { IfSome result (λ s. rest_of self.old ≡ s.now ++ ascii.quote ∷ rest_of self.new) }
+        requires same { IsTextOf text.now self.old }
+        ensures cuts { CutsString (λ s. s.now) ascii.quote result self.old self.new }
         ensures plain { IfSome result (λ s. ArePlain s.now) }
-        ensures stays { IfNone result (self.new ≡ self.old) }
-        ensures advances { Advances self.old self.new }
     {
         let rest = self.rest();
         let end = plain_len(rest);
@@ -161,13 +145,9 @@ impl<'a> Parser<'a> {
     #[inline(always)]
     pub(super) fn cut_string(&mut self, tells_plain: bool, text: &'a str) -> Option<Cut<'a>>
         requires opened { IsBehind ascii.quote self.old }
-        requires same { text.now ≡ take (length text.now) self.old.buf.now }
-        ensures reads { FindsAs (λ cut. (plain, cut.body.now)) (λ size mode. string_at size mode ascii.quote) result
-            self.old self.new }
-        ensures spelled { IfSome result (λ cut. rest_of self.old ≡ cut.body.now ++ ascii.quote ∷ rest_of self.new) }
+        requires same { IsTextOf text.now self.old }
+        ensures cuts { CutsString (λ cut. cut.body.now) ascii.quote result self.old self.new }
         ensures plain { IfSome result (λ cut. cut.is_plain ≡ true → ArePlain cut.body.now) }
-        ensures stays { IfNone result (self.new ≡ self.old) }
-        ensures advances { Advances self.old self.new }
     {
         if tells_plain {
             let body = self.plain_string(text)?;

@@ -1,5 +1,5 @@
 //! Values with all that is in them, by a loop over the arrays and objects that are open.
-ghost use Rattle.std.specs.Prelude.{◌≡◌, ◌+◌, ◌<◌, ◌≤◌, ℕ, false, true, length, take, List, MatchBool, OnOk, IfOk, IfErr, MatchResult, None, Ok, Some, [], ◌∷◌, if◌then◌else◌};
+ghost use Rattle.std.specs.Prelude.{◌≡◌, ◌+◌, ◌<◌, ◌≤◌, ℕ, false, true, length, List, MatchBool, OnOk, IfErr, MatchResult, None, Ok, Some, [], ◌∷◌, if◌then◌else◌};
 ghost use Rattle.jsonb_spec.specs.Ascii as ascii;
 ghost use Rattle.jsonb_spec.specs.Code.Code.{expected_array_comma_or_end, expected_object_comma_or_end};
 ghost use Rattle.jsonb_spec.specs.Grammar.{max_depth};
@@ -8,16 +8,16 @@ ghost use Rattle.jsonb_value.specs.declared.error.ParseErrorCode.TheVariants.{De
 ghost use Rattle.jsonb.specs.declared.parser.frame.Frame.{Frame};
 ghost use Rattle.jsonb.specs.declared.parser.frame.Frame.TheVariants.{Array, Object};
 ghost use Rattle.jsonb.specs.Handler.{ElseFails, Builds};
-ghost use Rattle.jsonb.specs.Frames.{Fits, IsObject, Pushes, ReadsParts, BeforeValue, AtPart, IsRead, OpensContainer, finish_container, scalar_or_null};
+ghost use Rattle.jsonb.specs.Frames.{AtEnd, AtNextPart, BeforeValue, Fits, IsRead, OpensContainer, finish_container, scalar_or_null};
 ghost use Rattle.jsonb_scan.specs.Answer.{mode_of};
-ghost use Rattle.jsonb.specs.Parser.{rest_of, size_of, Advances, AdvancesOver, IsBehind, read_at};
-ghost use Rattle.jsonb_scan.specs.Reading.{Read, begins};
+ghost use Rattle.jsonb.specs.Parser.{Advances, AdvancesOver, IsBehind, IsTextOf, read_at, rest_of, size_of};
+ghost use Rattle.jsonb_scan.specs.Reading.{begins};
 ghost use Rattle.jsonb_scan.specs.Reading.Whitespace.{is_whitespace_start, skip_whitespace};
 ghost use Rattle.jsonb_scan.specs.Reading.Container.{is_left_out};
 ghost use Rattle.jsonb_scan.specs.Reading.Document.{value_at};
 ghost use Rattle.jsonb_spec.specs.Source.{Source};
-ghost use Rattle.jsonb.specs.Stack.{elements_from, next_part_at, part_end};
-ghost use Rattle.jsonb_scan.specs.Open.{Open, elements_so_far};
+ghost use Rattle.jsonb_scan.specs.Open.{Open};
+ghost use Rattle.jsonb.specs.Steps.{EndsPart, FillsFrame, Pushes, Turns};
 
 use super::frame::{Frame, OpenObject};
 use super::handler::{Failed, Handler};
@@ -57,7 +57,7 @@ impl<'a> Parser<'a> {
         room: &mut V::Room,
         text: &'a str,
     ) -> Result<V, Failed>
-        requires same { text.now ≡ take (length text.now) self.old.buf.now }
+        requires same { IsTextOf text.now self.old }
         requires opens { OpensContainer (rest_of self.old) }
         ensures reads { V.stands self.old.buf.now room.old true [] []
             → Builds V.silent self.new.told (λ v s. V.filled self.old.buf.now room.new v s [] []) result
@@ -86,7 +86,7 @@ impl<'a> Parser<'a> {
         stack: &mut Vec<FrameOf<'a, V>>,
         text: &'a str,
     ) -> Result<(), Failed>
-        requires same { text.now ≡ take (length text.now) self.old.buf.now }
+        requires same { IsTextOf text.now self.old }
         requires opens { OpensContainer (rest_of self.old) }
         requires none { stack.old.items ≡ [] }
         ensures reads { V.stands self.old.buf.now room.old true [] []
@@ -118,14 +118,7 @@ impl<'a> Parser<'a> {
     ) -> Result<bool, Failed>
         requires depth { length stack.old.items ≤ max_depth }
         requires opens { OpensContainer (rest_of self.old) }
-        ensures reads { (whole : Read Source)
-            → BeforeValue (V.stands self.old.buf.now room.old) whole self.old stack.old.items
-            → ElseFails V.silent self.new.told result whole
-            (AtPart (V.stands self.old.buf.now room.new) whole self.new stack.new.items) }
-        ensures onward { IfOk result (λ closed. self.old.offset < self.new.offset) }
-        ensures depth { IfOk result (λ closed. length stack.new.items ≤ max_depth) }
-        ensures open { IfOk result (λ closed. 0 < length stack.new.items) }
-        ensures advances { AdvancesOver V.base self.old self.new room.old room.new }
+        ensures { Turns V.Handler BeforeValue result self.old self.new room.old room.new stack.old.items stack.new.items }
     {
         if stack.len() == MAX_DEPTH {
             let error = self.too_deep();
@@ -173,15 +166,8 @@ impl<'a> Parser<'a> {
     ) -> Result<bool, Failed>
         requires open { 0 < length stack.old.items }
         requires depth { length stack.old.items ≤ max_depth }
-        requires same { text.now ≡ take (length text.now) self.old.buf.now }
-        ensures reads { (whole : Read Source)
-            → AtPart (V.stands self.old.buf.now room.old) whole self.old stack.old.items false
-            → ElseFails V.silent self.new.told result whole
-            (AtPart (V.stands self.old.buf.now room.new) whole self.new stack.new.items) }
-        ensures onward { IfOk result (λ closed. self.old.offset < self.new.offset) }
-        ensures depth { IfOk result (λ closed. length stack.new.items ≤ max_depth) }
-        ensures open { IfOk result (λ closed. 0 < length stack.new.items) }
-        ensures advances { AdvancesOver V.base self.old self.new room.old room.new }
+        requires same { IsTextOf text.now self.old }
+        ensures { Turns V.Handler AtNextPart result self.old self.new room.old room.new stack.old.items stack.new.items }
     {
         let Some(frame) = stack.last_mut() else {
             unreachable!();
@@ -200,17 +186,8 @@ impl<'a> Parser<'a> {
         frame: &mut FrameOf<'a, V>,
         text: &'a str,
     ) -> Result<bool, Failed>
-        requires same { text.now ≡ take (length text.now) self.old.buf.now }
-        ensures reads { (depth : ℕ) → (c : Open) → (fs : List (Frame V.Items V.Members V.Key)) → (cs : List Open)
-            → Fits frame.old c → V.stands self.old.buf.now room.old false (frame.old ∷ fs) (c ∷ cs)
-            → ElseFails V.silent self.new.told result
-            (next_part_at (size_of self.old) (mode_of self.old.mode) depth c (rest_of self.old))
-            (λ closed. ReadsParts (V.stands self.old.buf.now room.new) (size_of self.old) (mode_of self.old.mode) depth
-            (next_part_at (size_of self.old) (mode_of self.old.mode) depth c (rest_of self.old))
-            closed frame.new fs cs (rest_of self.new)) }
-        ensures onward { IfOk result (λ closed. MatchBool closed (self.old.offset < self.new.offset) (Unit {0})) }
-        ensures opens { IfOk result (λ closed. MatchBool closed (Unit {0}) (OpensContainer (rest_of self.new))) }
-        ensures advances { AdvancesOver V.base self.old self.new room.old room.new }
+        requires same { IsTextOf text.now self.old }
+        ensures { FillsFrame V.Handler result self.old self.new room.old room.new frame.old frame.new }
     {
         match frame {
             Frame::Array(items) => self.read_elements::<V>(room, items, text),
@@ -225,18 +202,8 @@ impl<'a> Parser<'a> {
         items: &mut V::Items,
         text: &'a str,
     ) -> Result<bool, Failed>
-        requires same { text.now ≡ take (length text.now) self.old.buf.now }
-        ensures reads { (depth : ℕ) → (front : List Source) → (fs : List (Frame V.Items V.Members V.Key))
-            → (cs : List Open)
-            → V.stands self.old.buf.now room.old false (Array items.old ∷ fs) (elements_so_far front ∷ cs)
-            → ElseFails V.silent self.new.told result
-            (elements_from (size_of self.old) (mode_of self.old.mode) depth front (rest_of self.old))
-            (λ closed. ReadsParts (V.stands self.old.buf.now room.new) (size_of self.old) (mode_of self.old.mode) depth
-            (elements_from (size_of self.old) (mode_of self.old.mode) depth front (rest_of self.old))
-            closed (Array items.new) fs cs (rest_of self.new)) }
-        ensures onward { IfOk result (λ closed. MatchBool closed (self.old.offset < self.new.offset) (Unit {0})) }
-        ensures opens { IfOk result (λ closed. MatchBool closed (Unit {0}) (OpensContainer (rest_of self.new))) }
-        ensures advances { AdvancesOver V.base self.old self.new room.old room.new }
+        requires same { IsTextOf text.now self.old }
+        ensures { FillsFrame V.Handler result self.old self.new room.old room.new (Array items.old) (Array items.new) }
     {
         'elements: loop {
             self.skip_whitespace();
@@ -261,10 +228,8 @@ impl<'a> Parser<'a> {
         items: &mut V::Items,
         text: &'a str,
     ) -> Result<(), Failed>
-        requires same { text.now ≡ take (length text.now) self.old.buf.now }
-        ensures reads { Pushes V.silent self.new.told V.stands self.old.buf.now result room.old items.old
-            (read_at scalar_or_null self.old) room.new items.new (rest_of self.new) }
-        ensures advances { AdvancesOver V.base self.old self.new room.old room.new }
+        requires same { IsTextOf text.now self.old }
+        ensures { Pushes V.Handler scalar_or_null result self.old self.new room.old room.new items.old items.new }
     {
         if !self.is_left_out() {
             return self.push_scalar::<V>(room, items, text);
@@ -290,17 +255,9 @@ impl<'a> Parser<'a> {
         object: &mut ObjectOf<'a, V>,
         text: &'a str,
     ) -> Result<bool, Failed>
-        requires same { text.now ≡ take (length text.now) self.old.buf.now }
-        ensures reads { (depth : ℕ) → (c : Open) → (fs : List (Frame V.Items V.Members V.Key)) → (cs : List Open)
-            → IsObject c → V.stands self.old.buf.now room.old false (Object object.old ∷ fs) (c ∷ cs)
-            → ElseFails V.silent self.new.told result
-            (next_part_at (size_of self.old) (mode_of self.old.mode) depth c (rest_of self.old))
-            (λ closed. ReadsParts (V.stands self.old.buf.now room.new) (size_of self.old) (mode_of self.old.mode) depth
-            (next_part_at (size_of self.old) (mode_of self.old.mode) depth c (rest_of self.old))
-            closed (Object object.new) fs cs (rest_of self.new)) }
-        ensures onward { IfOk result (λ closed. MatchBool closed (self.old.offset < self.new.offset) (Unit {0})) }
-        ensures opens { IfOk result (λ closed. MatchBool closed (Unit {0}) (OpensContainer (rest_of self.new))) }
-        ensures advances { AdvancesOver V.base self.old self.new room.old room.new }
+        requires same { IsTextOf text.now self.old }
+        ensures { FillsFrame V.Handler result self.old self.new room.old room.new (Object object.old)
+            (Object object.new) }
     {
         'members: loop {
             let key = self.begin_member::<V>(room, object, text)?;
@@ -318,11 +275,7 @@ impl<'a> Parser<'a> {
     // Passes the comma or the bracket after an element. True where it is the bracket.
     #[inline(always)]
     fn end_element(&mut self) -> Result<bool, Failed>
-        ensures reads { Builds false self.new.told (λ x y. x ≡ y) result
-            (part_end (size_of self.old) expected_array_comma_or_end ascii.close_bracket
-            (skip_whitespace (mode_of self.old.mode) (rest_of self.old))) (rest_of self.new) }
-        ensures onward { IfOk result (λ closed. self.old.offset < self.new.offset) }
-        ensures advances { Advances self.old self.new }
+        ensures { EndsPart expected_array_comma_or_end ascii.close_bracket result self.old self.new }
     {
         if self.take_after_whitespace(b',') {
             return Ok(false);
@@ -337,11 +290,7 @@ impl<'a> Parser<'a> {
     // Passes the comma or the brace after a member. True where it is the brace.
     #[inline(always)]
     fn end_member(&mut self) -> Result<bool, Failed>
-        ensures reads { Builds false self.new.told (λ x y. x ≡ y) result
-            (part_end (size_of self.old) expected_object_comma_or_end ascii.close_brace
-            (skip_whitespace (mode_of self.old.mode) (rest_of self.old))) (rest_of self.new) }
-        ensures onward { IfOk result (λ closed. self.old.offset < self.new.offset) }
-        ensures advances { Advances self.old self.new }
+        ensures { EndsPart expected_object_comma_or_end ascii.close_brace result self.old self.new }
     {
         if self.take_after_whitespace(b',') {
             return Ok(false);
@@ -380,14 +329,7 @@ impl<'a> Parser<'a> {
     ) -> Result<bool, Failed>
         requires open { 1 < length stack.old.items }
         requires depth { length stack.old.items ≤ max_depth }
-        ensures reads { (whole : Read Source)
-            → AtPart (V.stands self.old.buf.now room.old) whole self.old stack.old.items true
-            → ElseFails V.silent self.new.told result whole
-            (AtPart (V.stands self.old.buf.now room.new) whole self.new stack.new.items) }
-        ensures onward { IfOk result (λ closed. self.old.offset < self.new.offset) }
-        ensures depth { IfOk result (λ closed. length stack.new.items ≤ max_depth) }
-        ensures open { IfOk result (λ closed. 0 < length stack.new.items) }
-        ensures advances { AdvancesOver V.base self.old self.new room.old room.new }
+        ensures { Turns V.Handler AtEnd result self.old self.new room.old room.new stack.old.items stack.new.items }
     {
         let Some(mut inner) = stack.pop() else {
             unreachable!();

@@ -1,7 +1,7 @@
 //! Whitespace between the parts of a text.
 ghost use Rattle.std.specs.Prelude.{◌≡◌, ◌+◌, ◌<◌, MatchBool};
 ghost use Rattle.jsonb_scan.specs.Answer.{mode_of};
-ghost use Rattle.jsonb.specs.Parser.{rest_of, Advances};
+ghost use Rattle.jsonb.specs.Parser.{Skips, SkipsSome, rest_of};
 ghost use Rattle.jsonb_scan.specs.Reading.Whitespace.{opens_comment, skip_closed_whitespace, skip_whitespace};
 
 use super::{Mode, Parser};
@@ -33,8 +33,7 @@ impl Parser<'_> {
     // Passes whitespace, and a comment that never ends.
     #[inline(always)]
     pub(super) fn skip_whitespace(&mut self)
-        ensures rest { rest_of self.new ≡ skip_whitespace (mode_of self.old.mode) (rest_of self.old) }
-        ensures advances { Advances self.old self.new }
+        ensures { Skips skip_whitespace self.old self.new }
     {
         if self.may_begin_whitespace() {
             self.skip_run_of_whitespace();
@@ -44,8 +43,7 @@ impl Parser<'_> {
     // Passes whitespace that is mostly ends of lines and the spaces after them.
     #[inline(never)]
     fn skip_run_of_whitespace(&mut self)
-        ensures rest { rest_of self.new ≡ skip_whitespace (mode_of self.old.mode) (rest_of self.old) }
-        ensures advances { Advances self.old self.new }
+        ensures { Skips skip_whitespace self.old self.new }
     {
         'lines: loop {
             if !self.take_plain_whitespace() {
@@ -61,8 +59,7 @@ impl Parser<'_> {
     // Passes whitespace of all kinds, comments among them.
     #[inline(never)]
     fn skip_other_whitespace(&mut self)
-        ensures rest { rest_of self.new ≡ skip_whitespace (mode_of self.old.mode) (rest_of self.old) }
-        ensures advances { Advances self.old self.new }
+        ensures { Skips skip_whitespace self.old self.new }
     {
         self.skip_each_closed_piece();
         if self.opens_comment() {
@@ -73,8 +70,7 @@ impl Parser<'_> {
     // Passes whitespace, up to a comment that never ends.
     #[inline(always)]
     pub(super) fn skip_closed_whitespace(&mut self)
-        ensures rest { rest_of self.new ≡ skip_closed_whitespace (mode_of self.old.mode) (rest_of self.old) }
-        ensures advances { Advances self.old self.new }
+        ensures { Skips skip_closed_whitespace self.old self.new }
     {
         if self.may_begin_whitespace() {
             self.skip_each_closed_piece();
@@ -84,8 +80,7 @@ impl Parser<'_> {
     // Passes whitespace piece by piece, up to a comment that never ends.
     #[inline(never)]
     fn skip_each_closed_piece(&mut self)
-        ensures rest { rest_of self.new ≡ skip_closed_whitespace (mode_of self.old.mode) (rest_of self.old) }
-        ensures advances { Advances self.old self.new }
+        ensures { Skips skip_closed_whitespace self.old self.new }
     {
         'whitespace: while self.offset < self.buf.len() {
             let n = piece_len(self.rest(), self.mode);
@@ -100,10 +95,8 @@ impl Parser<'_> {
     // Passes a space, a tab or an end of a line, where one comes next.
     #[inline(always)]
     fn take_plain_whitespace(&mut self) -> bool
-        ensures rest { skip_closed_whitespace (mode_of self.old.mode) (rest_of self.new)
-            ≡ skip_closed_whitespace (mode_of self.old.mode) (rest_of self.old) }
+        ensures skips { SkipsSome skip_closed_whitespace self.old self.new }
         ensures onward { MatchBool result (self.old.offset < self.new.offset) (self.new ≡ self.old) }
-        ensures advances { Advances self.old self.new }
     {
         if self.take_byte(b' ') {
             return true;
@@ -123,10 +116,7 @@ impl Parser<'_> {
     // Passes one space, where one comes next.
     #[inline(always)]
     pub(super) fn skip_space(&mut self)
-        ensures rest { skip_whitespace (mode_of self.old.mode) (rest_of self.new) ≡ skip_whitespace
-            (mode_of self.old.mode)
-            (rest_of self.old) }
-        ensures advances { Advances self.old self.new }
+        ensures { SkipsSome skip_whitespace self.old self.new }
     {
         let _found = self.take_byte(b' ');
     }
@@ -134,9 +124,7 @@ impl Parser<'_> {
     // Most whitespace is spaces in a row.
     #[inline(always)]
     fn skip_spaces(&mut self)
-        ensures rest { skip_closed_whitespace (mode_of self.old.mode) (rest_of self.new)
-            ≡ skip_closed_whitespace (mode_of self.old.mode) (rest_of self.old) }
-        ensures advances { Advances self.old self.new }
+        ensures { SkipsSome skip_closed_whitespace self.old self.new }
     {
         let count = near_spaces(self.rest());
         self.offset += count;
@@ -148,9 +136,7 @@ impl Parser<'_> {
     // Passes spaces one by one, behind those that `near_spaces` saw.
     #[inline(never)]
     fn skip_more_spaces(&mut self)
-        ensures rest { skip_closed_whitespace (mode_of self.old.mode) (rest_of self.new)
-            ≡ skip_closed_whitespace (mode_of self.old.mode) (rest_of self.old) }
-        ensures advances { Advances self.old self.new }
+        ensures { SkipsSome skip_closed_whitespace self.old self.new }
     {
         'spaces: while self.take_byte(b' ') {}
     }

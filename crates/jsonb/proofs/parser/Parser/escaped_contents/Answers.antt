@@ -21,11 +21,11 @@ range-body-requires-clause-start_boundary c some =
     let p = c.args.self.now in
     let text : List ℕ = c.args.text.now in
     let before : ℕ = p.offset - 1 in
-    let within : before < length text = omega (arith, c.requires.opened.0, c.if-close-text.false) in
+    let within : before < length text = omega (arith, c.requires.quote.opened.0, c.if-close-text.false) in
     let quote : get_or text before 0 ≡ c.args.quote =
-    ap (λ (u : List ℕ). get_or u before 0) c.requires.same ∙ get_or-take (length text) p.buf.now before 0 within ∙ c.requires.opened.1 in
+    ap (λ (u : List ℕ). get_or u before 0) c.requires.same ∙ get_or-take (length text) p.buf.now before 0 within ∙ c.requires.quote.opened.1 in
     let next : before + 1 ≡ p.offset = omega (arith, some) in
-    subst (IsCharBoundary text) next (IsCharBoundary-after_ascii text before c.utf8.text within (omega (arith, quote, c.requires.ascii)))
+    subst (IsCharBoundary text) next (IsCharBoundary-after_ascii text before c.utf8.text within (omega (arith, quote, c.requires.quote.is_ascii)))
 
 pub range-body-requires-clause-end_boundary : goal.range-body-requires-clause-end_boundary
 range-body-requires-clause-end_boundary c = (
@@ -39,7 +39,7 @@ range-body-requires-clause-end_boundary c = (
       let quote : get_or text close 0 ≡ c.args.quote =
       ap (λ (u : List ℕ). get_or u close 0) c.requires.same ∙ get_or-take (length text) p.buf.now close 0 inside ∙ sym (get_or-drop p.offset p.buf.now end 0)
       ∙ ap (λ (u : List ℕ). get_or u end 0) (sym c.rest-rest.ensures) ∙ there in
-      absurd (omega (arith, quote, high, c.requires.ascii)),
+      absurd (omega (arith, quote, high, c.requires.quote.is_ascii)),
 )
 
 pub returns-clause-passes : goal.returns-clause-passes

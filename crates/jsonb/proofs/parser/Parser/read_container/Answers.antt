@@ -18,7 +18,7 @@ pub turns-init : goal.turns-init
 turns-init g c =
     let p = c.args.self.now in
     record {
-      open-stack = c.in_ok-closed.ensures.open;
+      open-stack = c.in_ok-closed.ensures.some;
       depth = c.in_ok-closed.ensures.depth;
       advances = c.open_container.ensures.advances.parser;
       base = c.open_container.ensures.advances.base;

@@ -1,4 +1,4 @@
-use Rattle.std.proofs.Common.{◌≡◌, ℕ, List, [], ◌∷◌, ◌++◌, true, false, refl, sym, ap, subst, ◌∙◌}
+use Rattle.std.proofs.Common.{◌≡◌, ℕ, List, [], ◌∷◌, ◌++◌, true, false, refl, sym, ap, subst, ◌∙◌, rules}
 use Rattle.std.proofs.lemmas.Result.{err_from_is_err_and}
 use Rattle.jsonb.specs.Handler.{Begins}
 use Rattle.jsonb.specs.Frames.{IsObject, resume_part}
@@ -21,102 +21,132 @@ use Rattle.jsonb.proofs.Steps.Advancing.{goes_on, stays}
 use Rattle.jsonb.proofs.Steps.Failures.{misses_same, misses_through, tells_always}
 use Rattle.jsonb.proofs.parser.Parser.read_members.Goals as goal
 
-pub returns-in_err-key-clause-reads : goal.returns-in_err-key-clause-reads
-returns-in_err-key-clause-reads g c depth o fs cs fits held =
-    let p = c.args.self.now in
-    let l = c.members.self in
-    let i = c.members.invariant in
-    let so_far = i.reads depth o fs cs fits held in
-    let silent = g.V.Handler.silent in
-    let t = c.begin_member.new.self.told in
-    let residual = err_from_is_err_and c.from_residual.result c.from_residual.ensures.1 in
-    rw (residual.1) (misses_same silent t (read_at member_start l >>= waits p depth so_far.0) (next_part_at (size_of p) (mode_of p.mode) depth o (rest_of p))
-    (so_far.4 ∙ member_due p l depth so_far.0 i.advances)
-    (misses_through silent t (read_at member_start l) (waits p depth so_far.0) c.in_err-key.ensures.reads))
-
-pub returns-then-begins_container-clause-reads : goal.returns-then-begins_container-clause-reads
-returns-then-begins_container-clause-reads g c depth o fs cs fits held =
-    let p = c.args.self.now in
-    let i = c.members.invariant in
-    let so_far = i.reads depth o fs cs fits held in
-    let key = c.in_ok-key.ensures.reads in
-    let begun = subst (λ b. Begins (g.V.Handler.stands b.now) c.members.room c.members.object c.begin_member.new.room c.begin_member.new.object c.in_ok-key.key key.0.0 key.0.1) c.members.invariant.advances.buf key.1 in
+pub returns-in_err-key : goal.returns-in_err-key
+returns-in_err-key g c =
     record {
-      so_far = members_so_far so_far.0 key.0.0 key.0.1;
-      fits = tt;
-      held = begun so_far.0 so_far.1 so_far.2 fs cs so_far.3;
-      reads = so_far.4 ∙ member_due p c.members.self depth so_far.0 i.advances ∙ ap (λ x. x >>= waits p depth so_far.0) key.2;
+      reads = λ depth o fs cs fits held.
+          let p = c.args.self.now in
+          let l = c.members.self in
+          let i = c.members.invariant in
+          let so_far = i.reads depth o fs cs fits held in
+          let silent = g.V.Handler.silent in
+          let t = c.begin_member.new.self.told in
+          let residual = err_from_is_err_and c.from_residual.result c.from_residual.ensures.1 in
+          rw (residual.1) (misses_same silent t (read_at member_start l >>= waits p depth so_far.0) (next_part_at (size_of p) (mode_of p.mode) depth o (rest_of p))
+          (so_far.4 ∙ member_due p l depth so_far.0 i.advances)
+          (misses_through silent t (read_at member_start l) (waits p depth so_far.0) c.in_err-key.ensures.reads));
+      onward = search rules;
+      opens = search rules;
+      advances = search rules;
     }
 
-pub returns-in_err-insert_scalar-clause-reads : goal.returns-in_err-insert_scalar-clause-reads
-returns-in_err-insert_scalar-clause-reads g c depth o fs cs fits held =
-    let p = c.args.self.now in
-    let l = c.members.self in
-    let s = c.begin_member.new.self in
-    let i = c.members.invariant in
-    let so_far = i.reads depth o fs cs fits held in
-    let key = c.in_ok-key.ensures.reads in
-    let silent = g.V.Handler.silent in
-    let t = c.insert_scalar.new.self.told in
-    let on = goes_on p l s i.advances c.begin_member.ensures.advances.parser in
-    let residual = err_from_is_err_and c.from_residual-in_err-insert_scalar.result c.from_residual-in_err-insert_scalar.ensures.1 in
-    rw (residual.1) (misses_same silent t (read_at scalar_at s >>= after_member p depth so_far.0 key.0.0 key.0.1) (next_part_at (size_of p) (mode_of p.mode) depth o (rest_of p))
-    (so_far.4 ∙ member_due p l depth so_far.0 i.advances ∙ ap (λ x. x >>= waits p depth so_far.0) key.2
-    ∙ member_turn p s depth so_far.0 key.0.0 key.0.1 on c.if-begins_container.ensures.other.0 c.if-begins_container.ensures.other.1)
-    (misses_through silent t (read_at scalar_at s) (after_member p depth so_far.0 key.0.0 key.0.1) c.in_err-insert_scalar.ensures.reads))
-
-pub returns-in_err-end_member-clause-reads : goal.returns-in_err-end_member-clause-reads
-returns-in_err-end_member-clause-reads g c depth o fs cs fits held =
-    let p = c.args.self.now in
-    let l = c.members.self in
-    let s = c.begin_member.new.self in
-    let q = c.insert_scalar.new.self in
-    let i = c.members.invariant in
-    let so_far = i.reads depth o fs cs fits held in
-    let key = c.in_ok-key.ensures.reads in
-    let put = c.in_ok-insert_scalar.ensures.reads in
-    let silent = g.V.Handler.silent in
-    let t = c.end_member.new.self.told in
-    let on = goes_on p l s i.advances c.begin_member.ensures.advances.parser in
-    let more = members_so_far (so_far.0 ++ found_member key.0.0 (source_alone put.0) key.0.1 ∷ []) (plain, []) 0 in
-    let ends = part_end (size_of q) expected_object_comma_or_end 125 (skip_whitespace (mode_of q.mode) (rest_of q)) in
-    let residual = err_from_is_err_and c.from_residual-in_err-end_member.result c.from_residual-in_err-end_member.ensures.1 in
-    rw (residual.1) (misses_same silent t (ends >>= λ y. resume_part (size_of p) (mode_of p.mode) depth y.0 more y.1) (next_part_at (size_of p) (mode_of p.mode) depth o (rest_of p))
-    (so_far.4 ∙ member_due p l depth so_far.0 i.advances ∙ ap (λ x. x >>= waits p depth so_far.0) key.2
-    ∙ member_turn p s depth so_far.0 key.0.0 key.0.1 on c.if-begins_container.ensures.other.0 c.if-begins_container.ensures.other.1
-    ∙ ap (λ x. x >>= after_member p depth so_far.0 key.0.0 key.0.1) put.1
-    ∙ ap (λ x. x >>= λ y. resume_part (size_of p) (mode_of p.mode) depth y.0 more y.1) (sym (same_end p q expected_object_comma_or_end 125 (goes_on p s q on c.insert_scalar.ensures.advances.parser))))
-    (misses_through silent t ends (λ y. resume_part (size_of p) (mode_of p.mode) depth y.0 more y.1) (tells_always silent t ends c.in_err-end_member.ensures.reads)))
-
-pub returns-then-branch-clause-reads : goal.returns-then-branch-clause-reads
-returns-then-branch-clause-reads g c depth o fs cs fits held =
-    let p = c.args.self.now in
-    let l = c.members.self in
-    let s = c.begin_member.new.self in
-    let q = c.insert_scalar.new.self in
-    let r = c.end_member.new.self in
-    let i = c.members.invariant in
-    let so_far = i.reads depth o fs cs fits held in
-    let key = c.in_ok-key.ensures.reads in
-    let begun = subst (λ b. Begins (g.V.Handler.stands b.now) c.members.room c.members.object c.begin_member.new.room c.begin_member.new.object c.in_ok-key.key key.0.0 key.0.1) c.members.invariant.advances.buf key.1 in
-    let put = c.in_ok-insert_scalar.ensures.reads in
-    let ended = c.in_ok-end_member.ensures.reads in
-    let on = goes_on p l s i.advances c.begin_member.ensures.advances.parser in
-    let all = so_far.0 ++ found_member key.0.0 (source_alone put.0) key.0.1 ∷ [] in
-    let more = members_so_far all (plain, []) 0 in
-    let h = g.V.Handler in
-    let m = c.begin_member.new.object in
-    let inserted = subst (λ b. h.stands b.now c.begin_member.new.room true (variants.Object (record { members = m.members; key = c.in_ok-key.key }) ∷ fs) (members_so_far so_far.0 key.0.0 key.0.1 ∷ cs) → h.stands b.now c.insert_scalar.new.room false (variants.Object c.insert_scalar.new.object ∷ fs) (more ∷ cs)) on.buf (put.2 so_far.0 key.0.0 key.0.1 fs cs) (begun so_far.0 so_far.1 so_far.2 fs cs so_far.3) in
+pub returns-then-begins_container : goal.returns-then-begins_container
+returns-then-begins_container g c =
     record {
-      so_far = more;
-      fits = tt;
-      held = inserted;
-      reads =
-          so_far.4 ∙ member_due p l depth so_far.0 i.advances ∙ ap (λ x. x >>= waits p depth so_far.0) key.2
+      reads = λ depth o fs cs fits held.
+          let p = c.args.self.now in
+          let i = c.members.invariant in
+          let so_far = i.reads depth o fs cs fits held in
+          let key = c.in_ok-key.ensures.reads in
+          let begun = subst (λ b. Begins (g.V.Handler.stands b.now) c.members.room c.members.object c.begin_member.new.room c.begin_member.new.object c.in_ok-key.key key.0.0 key.0.1) c.members.invariant.advances.buf key.1 in
+          record {
+            so_far = members_so_far so_far.0 key.0.0 key.0.1;
+            fits = tt;
+            held = begun so_far.0 so_far.1 so_far.2 fs cs so_far.3;
+            reads = so_far.4 ∙ member_due p c.members.self depth so_far.0 i.advances ∙ ap (λ x. x >>= waits p depth so_far.0) key.2;
+          };
+      onward = search rules;
+      opens = search rules;
+      advances = search rules;
+    }
+
+pub returns-in_err-insert_scalar : goal.returns-in_err-insert_scalar
+returns-in_err-insert_scalar g c =
+    record {
+      reads = λ depth o fs cs fits held.
+          let p = c.args.self.now in
+          let l = c.members.self in
+          let s = c.begin_member.new.self in
+          let i = c.members.invariant in
+          let so_far = i.reads depth o fs cs fits held in
+          let key = c.in_ok-key.ensures.reads in
+          let silent = g.V.Handler.silent in
+          let t = c.insert_scalar.new.self.told in
+          let on = goes_on p l s i.advances c.begin_member.ensures.advances.parser in
+          let residual = err_from_is_err_and c.from_residual-in_err-insert_scalar.result c.from_residual-in_err-insert_scalar.ensures.1 in
+          rw (residual.1) (misses_same silent t (read_at scalar_at s >>= after_member p depth so_far.0 key.0.0 key.0.1) (next_part_at (size_of p) (mode_of p.mode) depth o (rest_of p))
+          (so_far.4 ∙ member_due p l depth so_far.0 i.advances ∙ ap (λ x. x >>= waits p depth so_far.0) key.2
+          ∙ member_turn p s depth so_far.0 key.0.0 key.0.1 on c.if-begins_container.ensures.other.0 c.if-begins_container.ensures.other.1)
+          (misses_through silent t (read_at scalar_at s) (after_member p depth so_far.0 key.0.0 key.0.1) c.in_err-insert_scalar.ensures.reads));
+      onward = search rules;
+      opens = search rules;
+      advances = search rules;
+    }
+
+pub returns-in_err-end_member : goal.returns-in_err-end_member
+returns-in_err-end_member g c =
+    record {
+      reads = λ depth o fs cs fits held.
+          let p = c.args.self.now in
+          let l = c.members.self in
+          let s = c.begin_member.new.self in
+          let q = c.insert_scalar.new.self in
+          let i = c.members.invariant in
+          let so_far = i.reads depth o fs cs fits held in
+          let key = c.in_ok-key.ensures.reads in
+          let put = c.in_ok-insert_scalar.ensures.reads in
+          let silent = g.V.Handler.silent in
+          let t = c.end_member.new.self.told in
+          let on = goes_on p l s i.advances c.begin_member.ensures.advances.parser in
+          let more = members_so_far (so_far.0 ++ found_member key.0.0 (source_alone put.0) key.0.1 ∷ []) (plain, []) 0 in
+          let ends = part_end (size_of q) expected_object_comma_or_end 125 (skip_whitespace (mode_of q.mode) (rest_of q)) in
+          let residual = err_from_is_err_and c.from_residual-in_err-end_member.result c.from_residual-in_err-end_member.ensures.1 in
+          rw (residual.1) (misses_same silent t (ends >>= λ y. resume_part (size_of p) (mode_of p.mode) depth y.0 more y.1) (next_part_at (size_of p) (mode_of p.mode) depth o (rest_of p))
+          (so_far.4 ∙ member_due p l depth so_far.0 i.advances ∙ ap (λ x. x >>= waits p depth so_far.0) key.2
           ∙ member_turn p s depth so_far.0 key.0.0 key.0.1 on c.if-begins_container.ensures.other.0 c.if-begins_container.ensures.other.1
           ∙ ap (λ x. x >>= after_member p depth so_far.0 key.0.0 key.0.1) put.1
-          ∙ ap (λ x. x >>= λ y. resume_part (size_of p) (mode_of p.mode) depth y.0 more y.1) (sym (same_end p q expected_object_comma_or_end 125 (goes_on p s q on c.insert_scalar.ensures.advances.parser)) ∙ ended.2)
-          ∙ ap (λ closed. resume_part (size_of p) (mode_of p.mode) depth closed more (rest_of r)) (sym ended.1 ∙ c.if-branch.true);
+          ∙ ap (λ x. x >>= λ y. resume_part (size_of p) (mode_of p.mode) depth y.0 more y.1) (sym (same_end p q expected_object_comma_or_end 125 (goes_on p s q on c.insert_scalar.ensures.advances.parser))))
+          (misses_through silent t ends (λ y. resume_part (size_of p) (mode_of p.mode) depth y.0 more y.1) (tells_always silent t ends c.in_err-end_member.ensures.reads)));
+      onward = search rules;
+      opens = search rules;
+      advances = search rules;
+    }
+
+pub returns-then-branch : goal.returns-then-branch
+returns-then-branch g c =
+    record {
+      reads = λ depth o fs cs fits held.
+          let p = c.args.self.now in
+          let l = c.members.self in
+          let s = c.begin_member.new.self in
+          let q = c.insert_scalar.new.self in
+          let r = c.end_member.new.self in
+          let i = c.members.invariant in
+          let so_far = i.reads depth o fs cs fits held in
+          let key = c.in_ok-key.ensures.reads in
+          let begun = subst (λ b. Begins (g.V.Handler.stands b.now) c.members.room c.members.object c.begin_member.new.room c.begin_member.new.object c.in_ok-key.key key.0.0 key.0.1) c.members.invariant.advances.buf key.1 in
+          let put = c.in_ok-insert_scalar.ensures.reads in
+          let ended = c.in_ok-end_member.ensures.reads in
+          let on = goes_on p l s i.advances c.begin_member.ensures.advances.parser in
+          let all = so_far.0 ++ found_member key.0.0 (source_alone put.0) key.0.1 ∷ [] in
+          let more = members_so_far all (plain, []) 0 in
+          let h = g.V.Handler in
+          let m = c.begin_member.new.object in
+          let inserted = subst (λ b. h.stands b.now c.begin_member.new.room true (variants.Object (record { members = m.members; key = c.in_ok-key.key }) ∷ fs) (members_so_far so_far.0 key.0.0 key.0.1 ∷ cs) → h.stands b.now c.insert_scalar.new.room false (variants.Object c.insert_scalar.new.object ∷ fs) (more ∷ cs)) on.buf (put.2 so_far.0 key.0.0 key.0.1 fs cs) (begun so_far.0 so_far.1 so_far.2 fs cs so_far.3) in
+          record {
+            so_far = more;
+            fits = tt;
+            held = inserted;
+            reads =
+                so_far.4 ∙ member_due p l depth so_far.0 i.advances ∙ ap (λ x. x >>= waits p depth so_far.0) key.2
+                ∙ member_turn p s depth so_far.0 key.0.0 key.0.1 on c.if-begins_container.ensures.other.0 c.if-begins_container.ensures.other.1
+                ∙ ap (λ x. x >>= after_member p depth so_far.0 key.0.0 key.0.1) put.1
+                ∙ ap (λ x. x >>= λ y. resume_part (size_of p) (mode_of p.mode) depth y.0 more y.1) (sym (same_end p q expected_object_comma_or_end 125 (goes_on p s q on c.insert_scalar.ensures.advances.parser)) ∙ ended.2)
+                ∙ ap (λ closed. resume_part (size_of p) (mode_of p.mode) depth closed more (rest_of r)) (sym ended.1 ∙ c.if-branch.true);
+          };
+      onward = search rules;
+      opens = search rules;
+      advances = search rules;
     }
 
 pub members-init : goal.members-init

@@ -1,4 +1,4 @@
-use Rattle.std.proofs.Common.{◌≡◌, ◌+◌, ◌<◌, [], drop, sym, ap, ap₂, ◌∙◌, arith, drop-drop, length, length-drop}
+use Rattle.std.proofs.Common.{◌≡◌, ◌+◌, ◌<◌, [], drop, sym, ap, ap₂, ◌∙◌, arith, drop-drop, length, length-drop, rules}
 use Rattle.jsonb_scan.specs.Reading.Whitespace.{piece_length, skip_closed_whitespace}
 use Rattle.jsonb_scan.specs.Answer.{mode_of}
 use Rattle.jsonb.specs.Parser.{Advances, rest_of}
@@ -8,11 +8,15 @@ use Rattle.jsonb.proofs.Steps.Advancing.{goes_on}
 use Rattle.jsonb.proofs.Steps.Cursors.{nothing_left}
 use Rattle.jsonb.proofs.parser.Parser.skip_each_closed_piece.Goals as goal
 
-pub returns-then-n-eq0-clause-rest : goal.returns-then-n-eq0-clause-rest
-returns-then-n-eq0-clause-rest c =
-    let mode = mode_of c.args.self.now.mode in
-    let none : piece_length mode (rest_of c.whitespace.self) ≡ 0 = omega (arith, ap₂ (λ m u. piece_length m u) (ap mode_of (sym c.whitespace.invariant.1.mode)) (sym c.rest.ensures), c.piece_len-n.ensures.value) in
-    sym (pass-none mode (rest_of c.whitespace.self) none) ∙ c.whitespace.invariant.0
+pub returns-then-n-eq0 : goal.returns-then-n-eq0
+returns-then-n-eq0 c =
+    record {
+      rest =
+          let mode = mode_of c.args.self.now.mode in
+          let none : piece_length mode (rest_of c.whitespace.self) ≡ 0 = omega (arith, ap₂ (λ m u. piece_length m u) (ap mode_of (sym c.whitespace.invariant.1.mode)) (sym c.rest.ensures), c.piece_len-n.ensures.value) in
+          sym (pass-none mode (rest_of c.whitespace.self) none) ∙ c.whitespace.invariant.0;
+      advances = search rules;
+    }
 
 pub whitespace-preserved : goal.whitespace-preserved
 whitespace-preserved c =
@@ -34,9 +38,13 @@ whitespace-preserved c =
       goes_on c.args.self.now past c.skip_spaces.new.self on (record { buf = more.buf; mode = more.mode; onward = more.onward }),
     )
 
-pub returns-clause-rest : goal.returns-clause-rest
-returns-clause-rest c =
-    let p = c.whitespace.self in
-    let mode = mode_of c.args.self.now.mode in
-    let none : rest_of p ≡ [] = nothing_left p.buf.now p.offset c.whitespace-test.false in
-    none ∙ sym (pass-nil mode) ∙ ap (λ r. skip_closed_whitespace mode r) (sym none) ∙ c.whitespace.invariant.0
+pub returns : goal.returns
+returns c =
+    record {
+      rest =
+          let p = c.whitespace.self in
+          let mode = mode_of c.args.self.now.mode in
+          let none : rest_of p ≡ [] = nothing_left p.buf.now p.offset c.whitespace-test.false in
+          none ∙ sym (pass-nil mode) ∙ ap (λ r. skip_closed_whitespace mode r) (sym none) ∙ c.whitespace.invariant.0;
+      advances = search rules;
+    }

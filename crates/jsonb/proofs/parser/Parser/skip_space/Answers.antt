@@ -1,4 +1,4 @@
-use Rattle.std.proofs.Common.{◌≡◌, Bool, true, false, ◌∷◌, MatchBool, ap, sym, ◌∙◌}
+use Rattle.std.proofs.Common.{◌≡◌, Bool, true, false, ◌∷◌, MatchBool, ap, sym, ◌∙◌, rules}
 use Rattle.jsonb_spec.specs.Grammar.Whitespace.IsWhitespacePiece.{space}
 use Rattle.jsonb_spec.specs.Mode.{Mode}
 use Rattle.jsonb_scan.specs.Answer.{mode_of}
@@ -13,5 +13,10 @@ passed : (mode : Mode) (found : Bool) (p q : Parser) → MatchBool found (rest_o
 passed mode true p q h = sym (ap (skip_whitespace mode) h ∙ skip-piece space (rest_of q))
 passed mode false p q h = ap (λ s. skip_whitespace mode (rest_of s)) h
 
-pub returns-clause-rest : goal.returns-clause-rest
-returns-clause-rest c = passed (mode_of c.args.self.now.mode) c.take_byte-found.result c.args.self.now c.take_byte-found.new.self c.take_byte-found.ensures.rest
+pub returns : goal.returns
+returns c =
+    record {
+      rest =
+          passed (mode_of c.args.self.now.mode) c.take_byte-found.result c.args.self.now c.take_byte-found.new.self c.take_byte-found.ensures.rest;
+      advances = search rules;
+    }

@@ -1,4 +1,4 @@
-use Rattle.std.proofs.Common.{◌≡◌, ℕ, ◌+◌, ◌<◌, ◌≤◌, List, ap, sym, ◌∙◌, arith, drop, drop-drop, get_or, length}
+use Rattle.std.proofs.Common.{◌≡◌, ℕ, ◌+◌, ◌<◌, ◌≤◌, List, ap, sym, ◌∙◌, arith, drop, drop-drop, get_or, length, rules}
 use Rattle.jsonb_spec.specs.Mode.{Mode}
 use Rattle.jsonb_scan.specs.Reading.Whitespace.{skip_closed_whitespace}
 use Rattle.jsonb_scan.specs.Answer.{mode_of}
@@ -15,10 +15,18 @@ passed p rest count same within spaces =
     let are : (k : ℕ) → k < count → get_or (rest_of p) k 0 ≡ 32 = λ k low. sym (ap (λ u. get_or u k 0) same) ∙ spaces k low in
     sym (ap (skip_closed_whitespace mode) (drop-drop count p.offset p.buf.now)) ∙ pass-spaces mode count (rest_of p) fits are
 
-pub returns-then-count-eq-NEAR-clause-rest : goal.returns-then-count-eq-NEAR-clause-rest
-returns-then-count-eq-NEAR-clause-rest c =
-    c.skip_more_spaces.ensures.rest ∙ passed c.args.self.now c.rest.result.now c.near_spaces-count.result c.rest.ensures c.near_spaces-count.ensures.within c.near_spaces-count.ensures.spaces
+pub returns-then-count-eq-NEAR : goal.returns-then-count-eq-NEAR
+returns-then-count-eq-NEAR c =
+    record {
+      rest =
+          c.skip_more_spaces.ensures.rest ∙ passed c.args.self.now c.rest.result.now c.near_spaces-count.result c.rest.ensures c.near_spaces-count.ensures.within c.near_spaces-count.ensures.spaces;
+      advances = search rules;
+    }
 
-pub returns-else-count-eq-NEAR-clause-rest : goal.returns-else-count-eq-NEAR-clause-rest
-returns-else-count-eq-NEAR-clause-rest c =
-    passed c.args.self.now c.rest.result.now c.near_spaces-count.result c.rest.ensures c.near_spaces-count.ensures.within c.near_spaces-count.ensures.spaces
+pub returns-else-count-eq-NEAR : goal.returns-else-count-eq-NEAR
+returns-else-count-eq-NEAR c =
+    record {
+      rest =
+          passed c.args.self.now c.rest.result.now c.near_spaces-count.result c.rest.ensures c.near_spaces-count.ensures.within c.near_spaces-count.ensures.spaces;
+      advances = search rules;
+    }

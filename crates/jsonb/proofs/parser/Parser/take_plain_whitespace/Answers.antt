@@ -1,4 +1,4 @@
-use Rattle.std.proofs.Common.{◌≡◌, ℕ, [], ◌∷◌, refl, sym, ap, ◌∙◌}
+use Rattle.std.proofs.Common.{◌≡◌, ℕ, [], ◌∷◌, refl, sym, ap, ◌∙◌, rules}
 use Rattle.jsonb_spec.specs.Grammar.Whitespace.{IsWhitespacePiece}
 use Rattle.jsonb_spec.specs.Grammar.Whitespace.IsWhitespacePiece.{space, tab, line_feed, carriage_return}
 use Rattle.jsonb_scan.specs.Answer.{mode_of}
@@ -12,14 +12,34 @@ use Rattle.jsonb.proofs.parser.Parser.take_plain_whitespace.Goals as goal
 passed : (p q r : Parser) (byte : ℕ) → q ≡ p → rest_of q ≡ byte ∷ rest_of r → IsWhitespacePiece (mode_of p.mode) (byte ∷ []) → skip_closed_whitespace (mode_of p.mode) (rest_of r) ≡ skip_closed_whitespace (mode_of p.mode) (rest_of p)
 passed p q r byte same rest piece = sym (ap (λ s. skip_closed_whitespace (mode_of p.mode) (rest_of s)) (sym same) ∙ ap (skip_closed_whitespace (mode_of p.mode)) rest ∙ pass-piece piece (rest_of r))
 
-pub returns-then-take_byte-clause-rest : goal.returns-then-take_byte-clause-rest
-returns-then-take_byte-clause-rest c = passed c.args.self.now c.args.self.now c.take_byte.new.self 32 refl c.if-take_byte.ensures.rest space
+pub returns-then-take_byte-clause-skips : goal.returns-then-take_byte-clause-skips
+returns-then-take_byte-clause-skips c =
+    record {
+      rest =
+          passed c.args.self.now c.args.self.now c.take_byte.new.self 32 refl c.if-take_byte.ensures.rest space;
+      advances = search rules;
+    }
 
-pub returns-then-take_byte-2-clause-rest : goal.returns-then-take_byte-2-clause-rest
-returns-then-take_byte-2-clause-rest c = passed c.args.self.now c.take_byte.new.self c.take_byte-2.new.self 10 c.if-take_byte.ensures.rest c.if-take_byte-2.ensures.rest line_feed
+pub returns-then-take_byte-2-clause-skips : goal.returns-then-take_byte-2-clause-skips
+returns-then-take_byte-2-clause-skips c =
+    record {
+      rest =
+          passed c.args.self.now c.take_byte.new.self c.take_byte-2.new.self 10 c.if-take_byte.ensures.rest c.if-take_byte-2.ensures.rest line_feed;
+      advances = search rules;
+    }
 
-pub returns-then-take_byte-3-clause-rest : goal.returns-then-take_byte-3-clause-rest
-returns-then-take_byte-3-clause-rest c = passed c.args.self.now c.take_byte-2.new.self c.take_byte-3.new.self 9 (c.if-take_byte-2.ensures.rest ∙ c.if-take_byte.ensures.rest) c.if-take_byte-3.ensures.rest tab
+pub returns-then-take_byte-3-clause-skips : goal.returns-then-take_byte-3-clause-skips
+returns-then-take_byte-3-clause-skips c =
+    record {
+      rest =
+          passed c.args.self.now c.take_byte-2.new.self c.take_byte-3.new.self 9 (c.if-take_byte-2.ensures.rest ∙ c.if-take_byte.ensures.rest) c.if-take_byte-3.ensures.rest tab;
+      advances = search rules;
+    }
 
-pub returns-then-take_byte-4-clause-rest : goal.returns-then-take_byte-4-clause-rest
-returns-then-take_byte-4-clause-rest c = passed c.args.self.now c.take_byte-3.new.self c.take_byte-4.new.self 13 (c.if-take_byte-3.ensures.rest ∙ c.if-take_byte-2.ensures.rest ∙ c.if-take_byte.ensures.rest) c.if-take_byte-4.ensures.rest carriage_return
+pub returns-then-take_byte-4-clause-skips : goal.returns-then-take_byte-4-clause-skips
+returns-then-take_byte-4-clause-skips c =
+    record {
+      rest =
+          passed c.args.self.now c.take_byte-3.new.self c.take_byte-4.new.self 13 (c.if-take_byte-3.ensures.rest ∙ c.if-take_byte-2.ensures.rest ∙ c.if-take_byte.ensures.rest) c.if-take_byte-4.ensures.rest carriage_return;
+      advances = search rules;
+    }

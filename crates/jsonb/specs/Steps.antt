@@ -1,0 +1,123 @@
+-- What a call of the parser leaves, and what a handler made of it.
+use Rattle.std.specs.Prelude.{◌≡◌, ℕ, ◌<◌, ◌≤◌, Bool, true, false, List, [], ◌∷◌, ◌++◌, length, Contains, MatchBool, Some, Result, IfErr, IfOk, OnOk}
+use Rattle.jsonb_spec.specs.Ascii as ascii
+use Rattle.jsonb_spec.specs.Code.{Code}
+use Rattle.jsonb_spec.specs.Grammar.{max_depth}
+use Rattle.jsonb_spec.specs.Mode.{Mode}
+use Rattle.jsonb_spec.specs.Tree.{Mark, Tree}
+use Rattle.jsonb_spec.specs.Tree.Mark.{plain}
+use Rattle.jsonb_spec.specs.Source.{Found, Source, found_member}
+use Rattle.jsonb_value.specs.declared.error.Error.TheVariants.{OutOfMemory}
+use Rattle.jsonb_scan.specs.Answer.{mode_of}
+use Rattle.jsonb_scan.specs.Open.{Open, elements_so_far, members_so_far}
+use Rattle.jsonb_scan.specs.Reading.{Read}
+use Rattle.jsonb_scan.specs.Reading.Whitespace.{skip_whitespace}
+use Rattle.jsonb.specs.Frames.{AtPart, Fits, IsPushed, IsPutIn, OpensContainer, ReadsParts}
+use Rattle.jsonb.specs.Handler.{AsKey, AsScalar, Begins, Builds, ElseFails, IsUntold}
+use Rattle.jsonb.specs.Parser.{Advances, AdvancesOver, read_at, rest_of, size_of}
+use Rattle.jsonb.specs.Stack.{next_part_at, part_end}
+use Rattle.jsonb.specs.declared.parser.Parser.{Parser}
+use Rattle.jsonb.specs.declared.parser.frame.Frame.{Frame}
+use Rattle.jsonb.specs.declared.parser.frame.Frame.TheVariants.{Array, Object}
+use Rattle.jsonb.specs.declared.parser.frame.OpenObject.{OpenObject}
+use Rattle.jsonb.specs.declared.parser.handler.Handler.{Ghosts}
+
+-- After a part its comma was passed, or the closing byte of its container (true).
+pub record EndsPart {F : Type 0} (code : Code) (close : ℕ) (result : Result Bool F) (old new : Parser) : Type 0 where
+  pub reads : Builds false new.told (λ x y. x ≡ y) result
+      (part_end (size_of old) code close (skip_whitespace (mode_of old.mode) (rest_of old))) (rest_of new)
+  pub onward : IfOk result (λ closed. old.offset < new.offset)
+  pub advances : Advances old new
+
+module _ {V R I M K : Type 0} (h : Ghosts V R I M K) where
+  -- ---- scalars
+
+  -- A scalar is made of what this function reads, and isn't put in yet.
+  pub record MakesScalar {F : Type 0} (read : ℕ → Mode → List ℕ → Read Tree) (result : Result V F) (old new : Parser)
+      : Type 0 where
+    -- What was made is of the tree that is read, or what was told is the fault.
+    pub reads : Builds h.silent new.told (AsScalar h.sees) result (read_at read old) (rest_of new)
+    -- Memory runs out only where the text has a backslash.
+    pub memory : IfErr result (λ _. new.told ≡ Some OutOfMemory → Contains old.buf.now ascii.backslash)
+    pub advances : Advances old new
+
+  -- An element was put in that is of a source of which this holds, and the parser stays; or memory ran out.
+  pub record PutsElement {X F : Type 0} (Is : List ℕ → Source → Type 0) (result : Result X F) (old new : Parser)
+      (room filled : R) (items more : I) : Type 0 where
+    -- The source is the last element of the array that is open.
+    pub put : OnOk result ((text : List ℕ) → (s : Source) → (ss : List Source) → (fs : List (Frame I M K))
+        → (cs : List Open) → h.stands text room false (Array items ∷ fs) (elements_so_far ss ∷ cs) → Is text s
+        → h.stands text filled false (Array more ∷ fs) (elements_so_far (ss ++ s ∷ []) ∷ cs))
+    pub same : OnOk result (new ≡ old)
+    pub memory : IfErr result (λ _. new.told ≡ Some OutOfMemory)
+    pub advances : AdvancesOver h.base old new room filled
+
+  -- A member was put in under this key, whose value is of a source of which this holds, and the parser stays; or memory
+  -- ran out, or nothing was told.
+  pub record PutsMember {X F : Type 0} (Is : List ℕ → Source → Type 0) (result : Result X F) (old new : Parser)
+      (room filled : R) (key : K) (object more : OpenObject M K) : Type 0 where
+    -- The source is the last member's of the object that is open.
+    pub put : OnOk result ((text : List ℕ) → (s : Source) → (front : List Found) → (k : Mark × List ℕ) → (place : ℕ)
+        → (fs : List (Frame I M K)) → (cs : List Open)
+        → h.stands text room true (Object (record { members = object.members; key = key }) ∷ fs)
+        (members_so_far front k place ∷ cs) → Is text s → h.stands text filled false (Object more ∷ fs)
+        (members_so_far (front ++ found_member k s place ∷ []) (plain, []) 0 ∷ cs))
+    pub same : OnOk result (new ≡ old)
+    pub told : IfErr result (λ _. IsUntold h.silent new.told)
+    pub advances : AdvancesOver h.base old new room filled
+
+  -- A scalar that this function reads was put into an array.
+  pub record Pushes {X F : Type 0} (read : ℕ → Mode → List ℕ → Read Tree) (result : Result X F)
+      (old new : Parser) (room filled : R) (items more : I) : Type 0 where
+    pub reads : IsPushed h.silent new.told h.stands old.buf.now result room items (read_at read old) filled more
+        (rest_of new)
+    pub advances : AdvancesOver h.base old new room filled
+
+  -- A scalar that this function reads was put into an object under this key.
+  pub record Inserts {X F : Type 0} (read : ℕ → Mode → List ℕ → Read Tree) (result : Result X F)
+      (old new : Parser) (room filled : R) (key : K) (object more : OpenObject M K) : Type 0 where
+    pub reads : IsPutIn h.silent new.told h.stands old.buf.now result room object key (read_at read old) filled more
+        (rest_of new)
+    pub advances : AdvancesOver h.base old new room filled
+
+  -- ---- keys
+
+  -- A member began with the key that this function reads, and its value is due.
+  pub record BeginsWith {F : Type 0} (read : ℕ → Mode → List ℕ → Read (Mark × List ℕ)) (result : Result K F)
+      (old new : Parser) (room begun : R) (object more : OpenObject M K) : Type 0 where
+    pub reads : Builds h.silent new.told
+        (AsKey (Begins (h.stands old.buf.now) room object begun more) (size_of old) (rest_of new)) result
+        (read_at read old) (rest_of new)
+    pub advances : AdvancesOver h.base old new room begun
+
+  -- ---- arrays and objects
+
+  -- Parts of an open container are read, up to its end, or up to one that is a container. True at the end.
+  pub record FillsFrame {F : Type 0} (result : Result Bool F) (old new : Parser) (room filled : R)
+      (frame more : Frame I M K) : Type 0 where
+    -- What is left to read is what the executable specification reads from there on, or what was told is its fault.
+    pub reads : (depth : ℕ) → (c : Open) → (fs : List (Frame I M K)) → (cs : List Open) → Fits frame c
+        → h.stands old.buf.now room false (frame ∷ fs) (c ∷ cs)
+        → ElseFails h.silent new.told result
+        (next_part_at (size_of old) (mode_of old.mode) depth c (rest_of old))
+        (λ closed. ReadsParts (h.stands old.buf.now filled) (size_of old) (mode_of old.mode) depth
+        (next_part_at (size_of old) (mode_of old.mode) depth c (rest_of old)) closed more fs cs (rest_of new))
+    -- A closing byte was passed, or a container opens here.
+    pub onward : IfOk result (λ closed. MatchBool closed (old.offset < new.offset) (Unit {0}))
+    pub opens : IfOk result (λ closed. MatchBool closed (Unit {0}) (OpensContainer (rest_of new)))
+    pub advances : AdvancesOver h.base old new room filled
+
+  -- A step of the loop over the open containers, from where this is left to read: up to where a container was read to
+  -- its end (true), or where a part of one begins.
+  pub record Turns {F : Type 0}
+      (Before : (Bool → List (Frame I M K) → List Open → Type 0) → Read Source → Parser → List (Frame I M K) → Type 0)
+      (result : Result Bool F) (old new : Parser) (room after : R) (stack more : List (Frame I M K)) : Type 0 where
+    -- The whole is what the containers that are open have and what is left to read, or what was told is its fault.
+    pub reads : (whole : Read Source) → Before (h.stands old.buf.now room) whole old stack
+        → ElseFails h.silent new.told result whole (AtPart (h.stands old.buf.now after) whole new more)
+    -- So the loop ends.
+    pub onward : IfOk result (λ closed. old.offset < new.offset)
+    -- No more are open than may be, and one is.
+    pub depth : IfOk result (λ closed. length more ≤ max_depth)
+    pub some : IfOk result (λ closed. 0 < length more)
+    pub advances : AdvancesOver h.base old new room after
