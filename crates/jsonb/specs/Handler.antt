@@ -1,5 +1,5 @@
 -- How parsing fails, and what a `Value` and a `JsonAst` hold of what was parsed.
-use Rattle.std.specs.Prelude.{◌≡◌, ℕ, ◌+◌, ◌-◌, Bool, true, false, List, [], ◌∷◌, length, map, Option, Some, None, Result, Ok, Err, String, string_bytes, Vec}
+use Rattle.std.specs.Prelude.{◌≡◌, ℕ, ◌+◌, ◌-◌, Bool, true, false, List, [], ◌∷◌, ◌++◌, length, map, Option, Some, None, Result, Ok, Err, String, string_bytes, Vec}
 use Rattle.std.specs.declared.alloc.Global.{Global}
 use Rattle.jsonb_value.specs.declared.error.Error.{Error}
 use Rattle.jsonb_value.specs.declared.error.Error.TheVariants.{Syntax, OutOfMemory}
@@ -7,6 +7,7 @@ use Rattle.jsonb_value.specs.declared.value.Value.{Value}
 use Rattle.jsonb_spec.specs.Grammar.{AreDistinct, IsNew}
 use Rattle.jsonb_spec.specs.Tree.{Mark, Num, Tree, put_all}
 use Rattle.jsonb_spec.specs.Tree.Members.{no_members}
+use Rattle.jsonb_spec.specs.Tree.Mark.{plain}
 use Rattle.jsonb_value.specs.Error.CodeView.{code_of}
 use Rattle.jsonb_value.specs.View.{members_view}
 use Rattle.jsonb.specs.declared.parser.frame.Frame.{Frame}
@@ -16,7 +17,7 @@ use Rattle.jsonb_scan.specs.Answer.{Fails}
 use Rattle.jsonb_scan.specs.Open.{Open, elements_so_far, members_so_far}
 use Rattle.jsonb_scan.specs.Reading.{Fault, Read}
 use Rattle.jsonb_scan.specs.Reading.String.{Body}
-use Rattle.jsonb_spec.specs.Source.{Source, Found, array_source_of, member_of, number_source, string_source, source_alone, spot_of}
+use Rattle.jsonb_spec.specs.Source.{Source, Found, array_source_of, found_member, member_of, number_source, string_source, source_alone, spot_of}
 
 -- ---- how a call fails
 
@@ -84,6 +85,69 @@ Begins {R} {I} {M} {K} Stands old object new begun key k place =
     → Stands old false (variants.Object object ∷ fs) (members_so_far front other other_place ∷ cs)
     → Stands new true (variants.Object (record { members = begun.members; key = key }) ∷ fs)
     (members_so_far front k place ∷ cs)
+
+-- ---- what a handler is asked to do
+
+module _ {R I M K : Type 0} (Stands : List ℕ → R → Bool → List (Frame I M K) → List Open → Type 0) where
+  -- An array is opened where a value was due.
+  abbrev pub OpensArray : R → R → I → Type 0
+  OpensArray old new items =
+      (text : List ℕ) → (fs : List (Frame I M K)) → (cs : List Open) → Stands text old true fs cs
+      → Stands text new false (variants.Array items ∷ fs) (elements_so_far [] ∷ cs)
+
+  -- An element is due that is a container.
+  abbrev pub AwaitsElement : R → I → R → I → Type 0
+  AwaitsElement old before new after =
+      (text : List ℕ) → (ss : List Source) → (fs : List (Frame I M K)) → (cs : List Open)
+      → Stands text old false (variants.Array before ∷ fs) (elements_so_far ss ∷ cs)
+      → Stands text new true (variants.Array after ∷ fs) (elements_so_far ss ∷ cs)
+
+  -- A source of which this holds becomes the last element of the innermost array.
+  abbrev pub TakesElement : (List ℕ → Source → Type 0) → R → I → R → I → Type 0
+  TakesElement Is old before new after =
+      (text : List ℕ) → (s : Source) → (ss : List Source) → (fs : List (Frame I M K)) → (cs : List Open)
+      → Stands text old false (variants.Array before ∷ fs) (elements_so_far ss ∷ cs) → Is text s
+      → Stands text new false (variants.Array after ∷ fs) (elements_so_far (ss ++ s ∷ []) ∷ cs)
+
+  -- An object is opened where a value was due, whatever its key.
+  abbrev pub OpensObject : R → R → M → Type 0
+  OpensObject old new members =
+      (text : List ℕ) → (key : K) → (fs : List (Frame I M K)) → (cs : List Open) → Stands text old true fs cs
+      → Stands text new false (variants.Object (record { members = members; key = key }) ∷ fs)
+      (members_so_far [] (plain, []) 0 ∷ cs)
+
+  -- A source of which this holds becomes the value of the innermost object's member that this key waits for.
+  abbrev pub TakesMember : (List ℕ → Source → Type 0) → R → OpenObject M K → K → R → OpenObject M K → Type 0
+  TakesMember Is old before key new after =
+      (text : List ℕ) → (s : Source) → (front : List Found) → (k : Mark × List ℕ) → (place : ℕ)
+      → (fs : List (Frame I M K)) → (cs : List Open)
+      → Stands text old true (variants.Object (record { members = before.members; key = key }) ∷ fs)
+      (members_so_far front k place ∷ cs) → Is text s → Stands text new false (variants.Object after ∷ fs)
+      (members_so_far (front ++ found_member k s place ∷ []) (plain, []) 0 ∷ cs)
+
+  -- A container that is made becomes the last element of the array around it.
+  abbrev pub TakesInner : (Source → List (Frame I M K) → List Open → List ℕ → Type 0) → I → R → I → Type 0
+  TakesInner Filled before new after =
+      (text : List ℕ) → (s : Source) → (ss : List Source) → (fs : List (Frame I M K)) → (cs : List Open)
+      → Filled s (variants.Array before ∷ fs) (elements_so_far ss ∷ cs) text
+      → Stands text new false (variants.Array after ∷ fs) (elements_so_far (ss ++ s ∷ []) ∷ cs)
+
+  -- A container that is made becomes the value of the member that waits for it in the object around it.
+  abbrev pub TakesInnerMember : (Source → List (Frame I M K) → List Open → List ℕ → Type 0) → OpenObject M K → R
+      → OpenObject M K → Type 0
+  TakesInnerMember Filled before new after =
+      (text : List ℕ) → (s : Source) → (front : List Found) → (k : Mark × List ℕ) → (place : ℕ)
+      → (fs : List (Frame I M K)) → (cs : List Open)
+      → Filled s (variants.Object before ∷ fs) (members_so_far front k place ∷ cs) text
+      → Stands text new false (variants.Object after ∷ fs)
+      (members_so_far (front ++ found_member k s place ∷ []) (plain, []) 0 ∷ cs)
+
+  -- The innermost array ends.
+  abbrev pub EndsArray : (List ℕ → Frame I M K → Source → List (Frame I M K) → List Open → Type 0) → R → I → I → Type 0
+  EndsArray Completes old before after =
+      (text : List ℕ) → (ss : List Source) → (fs : List (Frame I M K)) → (cs : List Open)
+      → Stands text old false (variants.Array before ∷ fs) (elements_so_far ss ∷ cs)
+      → Completes text (variants.Array after) (array_source_of ss) fs cs
 
 -- ---- what a value and a tree hold
 

@@ -1,24 +1,22 @@
 -- What a call of the parser leaves, and what a handler made of it.
-use Rattle.std.specs.Prelude.{◌≡◌, ℕ, ◌<◌, ◌≤◌, Bool, true, false, List, [], ◌∷◌, ◌++◌, length, Contains, MatchBool, Some, Result, IfErr, IfOk, OnOk}
+use Rattle.std.specs.Prelude.{◌≡◌, ℕ, ◌<◌, ◌≤◌, Bool, false, List, ◌∷◌, length, Contains, MatchBool, Some, Result, IfErr, IfOk, OnOk}
 use Rattle.jsonb_spec.specs.Ascii as ascii
 use Rattle.jsonb_spec.specs.Code.{Code}
 use Rattle.jsonb_spec.specs.Grammar.{max_depth}
 use Rattle.jsonb_spec.specs.Mode.{Mode}
 use Rattle.jsonb_spec.specs.Tree.{Mark, Tree}
-use Rattle.jsonb_spec.specs.Tree.Mark.{plain}
-use Rattle.jsonb_spec.specs.Source.{Found, Source, found_member}
+use Rattle.jsonb_spec.specs.Source.{Source}
 use Rattle.jsonb_value.specs.declared.error.Error.TheVariants.{OutOfMemory}
 use Rattle.jsonb_scan.specs.Answer.{mode_of}
-use Rattle.jsonb_scan.specs.Open.{Open, elements_so_far, members_so_far}
+use Rattle.jsonb_scan.specs.Open.{Open}
 use Rattle.jsonb_scan.specs.Reading.{Read}
 use Rattle.jsonb_scan.specs.Reading.Whitespace.{skip_whitespace}
 use Rattle.jsonb.specs.Frames.{AtPart, Fits, IsPushed, IsPutIn, OpensContainer, ReadsParts}
-use Rattle.jsonb.specs.Handler.{AsKey, AsScalar, Begins, Builds, ElseFails, IsUntold}
+use Rattle.jsonb.specs.Handler.{AsKey, AsScalar, Begins, Builds, ElseFails, IsUntold, TakesElement, TakesMember}
 use Rattle.jsonb.specs.Parser.{Advances, AdvancesOver, read_at, rest_of, size_of}
 use Rattle.jsonb.specs.Stack.{next_part_at, part_end}
 use Rattle.jsonb.specs.declared.parser.Parser.{Parser}
 use Rattle.jsonb.specs.declared.parser.frame.Frame.{Frame}
-use Rattle.jsonb.specs.declared.parser.frame.Frame.TheVariants.{Array, Object}
 use Rattle.jsonb.specs.declared.parser.frame.OpenObject.{OpenObject}
 use Rattle.jsonb.specs.declared.parser.handler.Handler.{Ghosts}
 
@@ -45,9 +43,7 @@ module _ {V R I M K : Type 0} (h : Ghosts V R I M K) where
   pub record PutsElement {X F : Type 0} (Is : List ℕ → Source → Type 0) (result : Result X F) (old new : Parser)
       (room filled : R) (items more : I) : Type 0 where
     -- The source is the last element of the array that is open.
-    pub put : OnOk result ((text : List ℕ) → (s : Source) → (ss : List Source) → (fs : List (Frame I M K))
-        → (cs : List Open) → h.stands text room false (Array items ∷ fs) (elements_so_far ss ∷ cs) → Is text s
-        → h.stands text filled false (Array more ∷ fs) (elements_so_far (ss ++ s ∷ []) ∷ cs))
+    pub put : OnOk result (TakesElement h.stands Is room items filled more)
     pub same : OnOk result (new ≡ old)
     pub memory : IfErr result (λ _. new.told ≡ Some OutOfMemory)
     pub advances : AdvancesOver h.base old new room filled
@@ -57,11 +53,7 @@ module _ {V R I M K : Type 0} (h : Ghosts V R I M K) where
   pub record PutsMember {X F : Type 0} (Is : List ℕ → Source → Type 0) (result : Result X F) (old new : Parser)
       (room filled : R) (key : K) (object more : OpenObject M K) : Type 0 where
     -- The source is the last member's of the object that is open.
-    pub put : OnOk result ((text : List ℕ) → (s : Source) → (front : List Found) → (k : Mark × List ℕ) → (place : ℕ)
-        → (fs : List (Frame I M K)) → (cs : List Open)
-        → h.stands text room true (Object (record { members = object.members; key = key }) ∷ fs)
-        (members_so_far front k place ∷ cs) → Is text s → h.stands text filled false (Object more ∷ fs)
-        (members_so_far (front ++ found_member k s place ∷ []) (plain, []) 0 ∷ cs))
+    pub put : OnOk result (TakesMember h.stands Is room object key filled more)
     pub same : OnOk result (new ≡ old)
     pub told : IfErr result (λ _. IsUntold h.silent new.told)
     pub advances : AdvancesOver h.base old new room filled

@@ -1,21 +1,21 @@
 //! What is made of a text while it is parsed. The parser sends the events of the text's value, and a handler makes
 //! something of them: a `Value`, a `JsonAst`, serialized text, that of the part at a path, a sort key, or nothing at
 //! all.
-ghost use Rattle.std.specs.Prelude.{◌≡◌, ◌+◌, ◌^◌, ◌<◌, ℕ, Bool, List, [], ◌∷◌, ◌++◌, length, MatchBool, Ok, IfOk, IfErr, OnOk, Option, true, false, slice_range};
+ghost use Rattle.std.specs.Prelude.{◌≡◌, ◌+◌, ◌^◌, ◌<◌, ℕ, Bool, List, [], ◌∷◌, length, MatchBool, Ok, IfOk, IfErr, OnOk, Option, true, false, slice_range};
 ghost use Rattle.std.specs.Cow.{cow_str_bytes};
 ghost use Rattle.jsonb_value.specs.declared.error.Error.{Error};
 ghost use Rattle.jsonb_spec.specs.Tree.{Mark};
 ghost use Rattle.jsonb_spec.specs.Tree.Mark.{plain};
 ghost use Rattle.jsonb_value.specs.View.{mark_view, number_view};
-ghost use Rattle.jsonb.specs.Handler.{Begins, ElseFails, SeesContents};
+ghost use Rattle.jsonb.specs.Handler.{AwaitsElement, Begins, ElseFails, EndsArray, OpensArray, OpensObject, SeesContents, TakesElement, TakesInner, TakesInnerMember, TakesMember};
 ghost use Rattle.jsonb.specs.Stack.{object_end};
 ghost use Rattle.jsonb.specs.declared.parser.frame.Frame.{Frame};
 ghost use Rattle.jsonb.specs.declared.parser.frame.Frame.TheVariants.{Array, Object};
 ghost use Rattle.jsonb_scan.specs.Answer.{mode_of};
 ghost use Rattle.jsonb_scan.specs.Decoding.{TellsBackslash};
-ghost use Rattle.jsonb_scan.specs.Open.{Open, elements_so_far, members_so_far};
+ghost use Rattle.jsonb_scan.specs.Open.{Open, members_so_far};
 ghost use Rattle.jsonb_scan.specs.Reading.String.{body_of};
-ghost use Rattle.jsonb_spec.specs.Source.{Source, Found, found_member, null_source, boolean_source, string_source, number_source, array_source_of};
+ghost use Rattle.jsonb_spec.specs.Source.{Source, Found, null_source, boolean_source, string_source, number_source};
 ghost use Rattle.jsonb_scan.specs.Spelled.{IsSpelledAt, KeyStandsAt};
 ghost use Rattle.jsonb_write.specs.OpenText.{source_text};
 ghost use Rattle.jsonb_write.specs.PlainText.{ArePlain};
@@ -137,9 +137,7 @@ pub(super) trait Handler<'a>: Drop + Sized {
         alloc: Global,
         at: usize,
     ) -> std::result::Result<Self::Items, AllocError>
-        ensures opened { IfOk result (λ items. (text : List ℕ) → (fs : List (Frame Self.Items Self.Members Self.Key))
-            → (cs : List Open) → stands text room.old true fs cs
-            → stands text room.new false (Array items ∷ fs) (elements_so_far [] ∷ cs)) }
+        ensures opened { IfOk result (OpensArray stands room.old room.new) }
         ensures base { base room.new ≡ base room.old };
 
     // An element is due that is a container.
@@ -147,10 +145,7 @@ pub(super) trait Handler<'a>: Drop + Sized {
         room: &mut Self::Room,
         items: &mut Self::Items,
     ) -> std::result::Result<(), AllocError>
-        ensures due { OnOk result ((text : List ℕ) → (ss : List Source)
-            → (fs : List (Frame Self.Items Self.Members Self.Key)) → (cs : List Open)
-            → stands text room.old false (Array items.old ∷ fs) (elements_so_far ss ∷ cs)
-            → stands text room.new true (Array items.new ∷ fs) (elements_so_far ss ∷ cs)) }
+        ensures due { OnOk result (AwaitsElement stands room.old items.old room.new items.new) }
         ensures base { base room.new ≡ base room.old };
 
     // Puts in an element that is a scalar.
@@ -161,11 +156,8 @@ pub(super) trait Handler<'a>: Drop + Sized {
         from: usize,
         to: usize,
     ) -> std::result::Result<(), AllocError>
-        ensures put { OnOk result ((text : List ℕ) → (s : Source) → (ss : List Source)
-            → (fs : List (Frame Self.Items Self.Members Self.Key)) → (cs : List Open)
-            → stands text room.old false (Array items.old ∷ fs) (elements_so_far ss ∷ cs) → sees value s
-            → IsSpelledAt text from to s
-            → stands text room.new false (Array items.new ∷ fs) (elements_so_far (ss ++ s ∷ []) ∷ cs)) }
+        ensures put { OnOk result (TakesElement stands (λ text s. sees value s × IsSpelledAt text from to s)
+            room.old items.old room.new items.new) }
         ensures base { base room.new ≡ base room.old };
 
     // Puts in an element that stands in the text as it is written. A handler that keeps none isn't asked to.
@@ -175,11 +167,8 @@ pub(super) trait Handler<'a>: Drop + Sized {
         from: usize,
         to: usize,
     ) -> std::result::Result<(), AllocError>
-        ensures put { OnOk result (keeps ≡ true → (text : List ℕ) → (s : Source) → (ss : List Source)
-            → (fs : List (Frame Self.Items Self.Members Self.Key)) → (cs : List Open)
-            → stands text room.old false (Array items.old ∷ fs) (elements_so_far ss ∷ cs)
-            → slice_range text from to ≡ source_text s
-            → stands text room.new false (Array items.new ∷ fs) (elements_so_far (ss ++ s ∷ []) ∷ cs)) }
+        ensures put { OnOk result (keeps ≡ true → TakesElement stands (λ text s. slice_range text from to ≡ source_text s)
+            room.old items.old room.new items.new) }
         ensures base { base room.new ≡ base room.old };
 
     // Puts in an element that is a container. Where it is the last one, no other follows.
@@ -189,10 +178,8 @@ pub(super) trait Handler<'a>: Drop + Sized {
         value: Self,
         is_last: bool,
     ) -> std::result::Result<(), AllocError>
-        ensures put { OnOk result ((text : List ℕ) → (s : Source) → (ss : List Source)
-            → (fs : List (Frame Self.Items Self.Members Self.Key)) → (cs : List Open)
-            → filled text room.old value s (Array items.old ∷ fs) (elements_so_far ss ∷ cs)
-            → stands text room.new false (Array items.new ∷ fs) (elements_so_far (ss ++ s ∷ []) ∷ cs)) }
+        ensures put { OnOk result (TakesInner stands (λ s fs cs text. filled text room.old value s fs cs) items.old room.new
+            items.new) }
         ensures base { base room.new ≡ base room.old };
 
     // The array ends. Its bracket stands in the text at an index.
@@ -201,10 +188,7 @@ pub(super) trait Handler<'a>: Drop + Sized {
         items: &mut Self::Items,
         at: usize,
     ) -> std::result::Result<(), AllocError>
-        ensures ended { OnOk result ((text : List ℕ) → (ss : List Source)
-            → (fs : List (Frame Self.Items Self.Members Self.Key)) → (cs : List Open)
-            → stands text room.old false (Array items.old ∷ fs) (elements_so_far ss ∷ cs)
-            → completes text room.new (Array items.new) (array_source_of ss) fs cs) }
+        ensures ended { OnOk result (EndsArray stands (λ text. completes text room.new) room.old items.old items.new) }
         ensures base { base room.new ≡ base room.old };
 
     // The array of elements that ended.
@@ -219,10 +203,7 @@ pub(super) trait Handler<'a>: Drop + Sized {
         alloc: Global,
         at: usize,
     ) -> std::result::Result<Self::Members, AllocError>
-        ensures opened { IfOk result (λ members. (text : List ℕ) → (key : Self.Key)
-            → (fs : List (Frame Self.Items Self.Members Self.Key)) → (cs : List Open) → stands text room.old true fs cs
-            → stands text room.new false (Object (record { members = members; key = key }) ∷ fs)
-            (members_so_far [] (plain, []) 0 ∷ cs)) }
+        ensures opened { IfOk result (OpensObject stands room.old room.new) }
         ensures base { base room.new ≡ base room.old };
 
     // A member begins with a key that was cut out of the text at an index, and the index after it.
@@ -276,13 +257,9 @@ pub(super) trait Handler<'a>: Drop + Sized {
         from: usize,
         to: usize,
     ) -> std::result::Result<bool, AllocError>
-        ensures put { IfOk result (λ is_new. MatchBool is_new ((text : List ℕ) → (s : Source) → (front : List Found)
-            → (k : Mark × List ℕ) → (place : ℕ) → (fs : List (Frame Self.Items Self.Members Self.Key))
-            → (cs : List Open)
-            → stands text room.old true (Object (record { members = object.old.members; key = key }) ∷ fs)
-            (members_so_far front k place ∷ cs) → sees value s → IsSpelledAt text from to s
-            → stands text room.new false (Object object.new ∷ fs)
-            (members_so_far (front ++ found_member k s place ∷ []) (plain, []) 0 ∷ cs)) (silent ≡ true)) }
+        ensures put { IfOk result (λ is_new. MatchBool is_new (TakesMember stands
+            (λ text s. sees value s × IsSpelledAt text from to s) room.old object.old key room.new object.new)
+            (silent ≡ true)) }
         ensures base { base room.new ≡ base room.old };
 
     // Puts in a member whose value stands in the text as it is written. A handler that keeps none isn't asked to.
@@ -293,14 +270,9 @@ pub(super) trait Handler<'a>: Drop + Sized {
         from: usize,
         to: usize,
     ) -> std::result::Result<bool, AllocError>
-        ensures put { IfOk result (λ is_new. MatchBool is_new
-            (keeps ≡ true → (text : List ℕ) → (s : Source) → (front : List Found)
-            → (k : Mark × List ℕ) → (place : ℕ) → (fs : List (Frame Self.Items Self.Members Self.Key))
-            → (cs : List Open)
-            → stands text room.old true (Object (record { members = object.old.members; key = key }) ∷ fs)
-            (members_so_far front k place ∷ cs) → slice_range text from to ≡ source_text s
-            → stands text room.new false (Object object.new ∷ fs)
-            (members_so_far (front ++ found_member k s place ∷ []) (plain, []) 0 ∷ cs)) (silent ≡ true)) }
+        ensures put { IfOk result (λ is_new. MatchBool is_new (keeps ≡ true → TakesMember stands
+            (λ text s. slice_range text from to ≡ source_text s) room.old object.old key room.new object.new)
+            (silent ≡ true)) }
         ensures base { base room.new ≡ base room.old };
 
     // Puts in a member whose value is a container, under the key that waits for it.
@@ -310,12 +282,8 @@ pub(super) trait Handler<'a>: Drop + Sized {
         alloc: Global,
         value: Self,
     ) -> std::result::Result<bool, AllocError>
-        ensures put { IfOk result (λ is_new. MatchBool is_new ((text : List ℕ) → (s : Source) → (front : List Found)
-            → (k : Mark × List ℕ) → (place : ℕ) → (fs : List (Frame Self.Items Self.Members Self.Key))
-            → (cs : List Open)
-            → filled text room.old value s (Object object.old ∷ fs) (members_so_far front k place ∷ cs)
-            → stands text room.new false (Object object.new ∷ fs)
-            (members_so_far (front ++ found_member k s place ∷ []) (plain, []) 0 ∷ cs)) (silent ≡ true)) }
+        ensures put { IfOk result (λ is_new. MatchBool is_new (TakesInnerMember stands
+            (λ s fs cs text. filled text room.old value s fs cs) object.old room.new object.new) (silent ≡ true)) }
         ensures base { base room.new ≡ base room.old };
 
     // The object ends. A key that comes twice is told. Its brace stands in the text at an index.

@@ -126,7 +126,8 @@ impl<'a> Parser<'a> {
 
     // Reads a key without quotes. It is borrowed.
     fn parse_bare_key(&mut self) -> Result<CowStr<'a>>
-        ensures { ReadsInPlace (λ s. (mark_view s, cow_str_bytes s)) (λ size mode. bare_key_at size) result self.old self.new }
+        ensures { ReadsInPlace (λ s. (mark_view s, cow_str_bytes s)) (λ size mode. bare_key_at size) result self.old
+            self.new }
     {
         let Some(byte) = self.peek() else {
             return Err(Error::Syntax(ParseErrorCode::InvalidEOF, self.buf.len()));

@@ -118,7 +118,8 @@ impl<'a> Parser<'a> {
     ) -> Result<bool, Failed>
         requires depth { length stack.old.items ≤ max_depth }
         requires opens { OpensContainer (rest_of self.old) }
-        ensures { Turns V.Handler BeforeValue result self.old self.new room.old room.new stack.old.items stack.new.items }
+        ensures { Turns V.Handler BeforeValue result self.old self.new room.old room.new stack.old.items
+            stack.new.items }
     {
         if stack.len() == MAX_DEPTH {
             let error = self.too_deep();
@@ -167,7 +168,8 @@ impl<'a> Parser<'a> {
         requires open { 0 < length stack.old.items }
         requires depth { length stack.old.items ≤ max_depth }
         requires same { IsTextOf text.now self.old }
-        ensures { Turns V.Handler AtNextPart result self.old self.new room.old room.new stack.old.items stack.new.items }
+        ensures { Turns V.Handler AtNextPart result self.old self.new room.old room.new stack.old.items
+            stack.new.items }
     {
         let Some(frame) = stack.last_mut() else {
             unreachable!();

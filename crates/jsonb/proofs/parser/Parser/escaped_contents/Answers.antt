@@ -1,4 +1,4 @@
-use Rattle.std.proofs.Common.{◌≡◌, ℕ, ◌+◌, ◌-◌, ◌<◌, ◌≤◌, List, Ok, true, length, take, drop, get_or, ap, sym, subst, ◌∙◌, arith, drop-drop, length-drop, refl}
+use Rattle.std.proofs.Common.{◌≡◌, ℕ, ◌+◌, ◌-◌, ◌<◌, ◌≤◌, List, Ok, true, length, take, drop, get_or, ap, sym, subst, ◌∙◌, arith, drop-drop, length-drop}
 use Rattle.std.proofs.lemmas.List.{drop-take, get_or-take, get_or-drop, length-take-le, take-take}
 use Rattle.std.proofs.lemmas.Str.{IsCharBoundary-after_ascii}
 use Rattle.std.specs.Str.{IsCharBoundary}

@@ -5,4 +5,4 @@ use Rattle.jsonb.proofs.Scalars.Spelled.{spelled_part}
 use Rattle.jsonb.proofs.parser.handler.text.PartHandler.insert.Goals as goal
 
 pub returns-in-Ok-clause-put : goal.returns-in-Ok-clause-put
-returns-in-Ok-clause-put c = λ text s front k place fs cs held sees spelled. c.in-Ok.ensures.stands text s (map text_held fs) front k place cs (plain, []) 0 held sees (spelled_part text c.args.from c.args.to c.args.value s sees spelled)
+returns-in-Ok-clause-put c = λ text s front k place fs cs held is. c.in-Ok.ensures.stands text s (map text_held fs) front k place cs (plain, []) 0 held is.0 (spelled_part text c.args.from c.args.to c.args.value s is.0 is.1)

@@ -8,8 +8,8 @@ use Rattle.jsonb.proofs.parser.handler.value.ValueHandler.push.Goals as goal
 
 pub returns-clause-put : goal.returns-clause-put
 returns-clause-put c = on_ok c.push_scalar.result
-    (λ put text s ss fs cs held sees spelled. (
-      subst (λ vs. AreSeen (λ v s. view v ≡ tree_of_source s) vs (ss ++ s ∷ [])) (sym put) (seen-snoc (λ v s. view v ≡ tree_of_source s) c.args.items.now.items ss c.args.value s held.0 sees),
+    (λ put text s ss fs cs held is. (
+      subst (λ vs. AreSeen (λ v s. view v ≡ tree_of_source s) vs (ss ++ s ∷ [])) (sym put) (seen-snoc (λ v s. view v ≡ tree_of_source s) c.args.items.now.items ss c.args.value s held.0 is.0),
       held.1,
     ))
     c.push_scalar.ensures
