@@ -23,3 +23,4 @@ pub mod Scanned
 pub mod Short
 pub mod Standard
 pub mod Steps
+pub mod TextParts

@@ -10,15 +10,8 @@ use Rattle.jsonb_spec.specs.Code.Code.{depth_limit_exceeded, expected_some_value
 use Rattle.jsonb_spec.specs.Grammar.{Derives, IsDocument, IsElement, IsJoined, IsMember, IsPadded, max_depth}
 use Rattle.jsonb_spec.specs.Mode.{Mode}
 use Rattle.jsonb_spec.specs.Mode.Mode.{extended, standard}
-use Rattle.jsonb_spec.specs.Grammar.Scalar.{IsKey, IsUnrepresentable}
-use Rattle.jsonb_spec.specs.Grammar.ExtendedNumber.{IsExtendedText}
-use Rattle.jsonb_spec.specs.Grammar.StandardNumber.{IsNumberText}
+use Rattle.jsonb_spec.specs.Grammar.Scalar.{IsKey, IsNumberText, IsUnrepresentable}
 use Rattle.jsonb_spec.specs.Tree.{Mark, Member, Tree}
-
--- a text of a number, representable or not
-abbrev pub IsNumberSpelling : Mode → List ℕ → Type 0
-IsNumberSpelling standard bytes = IsNumberText bytes
-IsNumberSpelling extended bytes = IsExtendedText bytes
 
 -- the bytes spell the tree, with arrays and objects nested however deep
 abbrev pub IsSpelling : Mode → List ℕ → Tree → Type 0
@@ -132,7 +125,7 @@ pub record IsNotRepresentable (mode : Mode) (input : List ℕ) (place : ℕ) : T
   pub is_front : IsFront mode front count
   pub is_unrepresentable : IsUnrepresentable mode text
   pub longest : (longer rest : List ℕ) → text ++ others ≡ longer ++ rest → length text < length longer
-      → IsNumberSpelling mode longer → ⊥
+      → IsNumberText mode longer → ⊥
   pub after_text : place ≡ length front + length text
 
 -- What an error with this code at this place says of the input. Of other codes nothing is said.

@@ -1,5 +1,6 @@
 -- Numbers: arithmetic, casts and their texts.
 pub mod DecimalTexts
+pub mod Fractions
 pub mod InRange
 pub mod Integers
 pub mod IntegersReadBack

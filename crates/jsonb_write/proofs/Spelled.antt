@@ -47,17 +47,17 @@ magnitude_fits zero h = omega arith
 magnitude_fits (suc v) h = omega (arith, ints, h)
 
 pub spelled_number : (n : Number) (bytes : List ℕ) → StaysSpelled n → IsStandardNumber bytes (number_view n) → bytes ≡ number_text (number_view n)
-spelled_number (form.UInt64 n) bytes k (false, whole, parts, is) =
+spelled_number (form.UInt64 n) bytes k (false, whole, joined, is_whole, is) =
     let value : n ≡ digits_value 10 whole = ap (λ (m : Num). unsigned_abs m.whole) is.1 in
-    parts.joined ∙ append-nil whole ∙ text_is false (pos n) whole (is_negative-pos n) (digits_text n whole parts.is_whole.digits parts.is_whole.no_needless_zero is.0 value)
-spelled_number (form.UInt64 n) bytes k (true, whole, parts, is) = absurd (other_form (ap (λ (m : Num). m.form) is.1))
-spelled_number (form.Int64 n) bytes k (false, whole, parts, is) = absurd (other_form (sym (ap (λ (m : Num). m.form) is.1)))
-spelled_number (form.Int64 n) bytes k (true, whole, parts, is) =
+    joined ∙ text_is false (pos n) whole (is_negative-pos n) (digits_text n whole is_whole.digits is_whole.no_needless_zero is.0 value)
+spelled_number (form.UInt64 n) bytes k (true, whole, joined, is_whole, is) = absurd (other_form (ap (λ (m : Num). m.form) is.1))
+spelled_number (form.Int64 n) bytes k (false, whole, joined, is_whole, is) = absurd (other_form (sym (ap (λ (m : Num). m.form) is.1)))
+spelled_number (form.Int64 n) bytes k (true, whole, joined, is_whole, is) =
     let value : n ≡ neg_ℤ (pos (digits_value 10 whole)) = ap (λ (m : Num). m.whole) is.1 in
     let told = signs (digits_value 10 whole) (λ e. k (value ∙ e)) in
     let magnitude : unsigned_abs n ≡ digits_value 10 whole = ap unsigned_abs value ∙ told.1 in
-    parts.joined ∙ ap (λ ds. 45 ∷ ds) (append-nil whole)
-    ∙ text_is true n whole (ap is_negative value ∙ told.0) (digits_text (unsigned_abs n) whole parts.is_whole.digits parts.is_whole.no_needless_zero (magnitude_fits (digits_value 10 whole) is.0) magnitude)
+    joined
+    ∙ text_is true n whole (ap is_negative value ∙ told.0) (digits_text (unsigned_abs n) whole is_whole.digits is_whole.no_needless_zero (magnitude_fits (digits_value 10 whole) is.0) magnitude)
 spelled_number (form.Decimal64 d) bytes k is = absurd k
 spelled_number (form.Decimal128 d) bytes k is = absurd k
 

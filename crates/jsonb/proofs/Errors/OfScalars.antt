@@ -8,7 +8,7 @@ use Rattle.jsonb_spec.specs.Code.{Code}
 use Rattle.jsonb_spec.specs.Code.Code.{expected_some_ident, expected_some_value, invalid_eof, invalid_string_value, number_not_carried, object_key_invalid_character, object_key_invalid_number}
 use Rattle.jsonb_spec.specs.Mode.{Mode}
 use Rattle.jsonb_spec.specs.Mode.Mode.{extended, standard}
-use Rattle.jsonb_spec.specs.Grammar.Scalar.{IsNumber, IsQuote, IsScalar, IsUnrepresentable}
+use Rattle.jsonb_spec.specs.Grammar.Scalar.{IsNumber, IsQuote, IsScalar, IsUnrepresentable, IsNumberText}
 use Rattle.jsonb_spec.specs.Grammar.Scalar.IsLiteral.{false_word, null_word, true_word}
 use Rattle.jsonb_spec.specs.Grammar.Scalar.IsScalar.{literal_value, number_value, string_value}
 use Rattle.jsonb_spec.specs.Grammar.StringBody.{Item, escaped_byte, meaning, spelling}
@@ -18,7 +18,6 @@ use Rattle.jsonb_scan.specs.Reading.{Fault, Read, begins, fault, fault_at, rejec
 use Rattle.jsonb_scan.specs.Reading.BareKey.{bare_key_at, key_end, key_to, text_key}
 use Rattle.jsonb_scan.specs.Reading.Scalar.{begins_letter, begins_number, false_at, fold_letter, key_at, letters_at, null_at, number_at, number_or_fault, number_value_at, on_single_quote, or_else, quoted_at, scalar_at, true_or_false_at, unquoted_at, word_at, words_at}
 use Rattle.jsonb_scan.specs.Reading.String.{Body, body_of, checked_unit, string_up_to, string_of_body, escape_at, item_at, items_within, known_escape, meaning_of, non_digit, onto, quote_end, string_at, then_items, unit_at}
-use Rattle.jsonb_spec.specs.Errors.{IsNumberSpelling}
 use Rattle.jsonb_scan.proofs.Steps.Tests.{bind_ok, chosen, same_read}
 use Rattle.jsonb.proofs.Errors.Codes.{IsTold, bind_err, same_err, silent_fault, silent_rejected}
 use Rattle.jsonb_scan.proofs.Containers.JoinedParts.{on_byte_cases}
@@ -167,7 +166,7 @@ pub record NotRepresentable (mode : Mode) (size : ℕ) (bytes : List ℕ) (place
   pub others : List ℕ
   pub whole : bytes ≡ text ++ others
   pub is_unrepresentable : IsUnrepresentable mode text
-  pub longest : (longer rest : List ℕ) → text ++ others ≡ longer ++ rest → length text < length longer → IsNumberSpelling mode longer → ⊥
+  pub longest : (longer rest : List ℕ) → text ++ others ≡ longer ++ rest → length text < length longer → IsNumberText mode longer → ⊥
   pub after_text : place ≡ size - length others
 
 -- what a fault of a scalar says of the bytes

@@ -9,17 +9,18 @@ use Rattle.std.specs.Str.Parse.{AllDigits, IsNumeral}
 use Rattle.std.proofs.lemmas.Str.Parse.{digit_from_value}
 use Rattle.std.proofs.lemmas.Bool.{cases_lt, cases_eq, cases_Bool, false≢true}
 use Rattle.std.proofs.lemmas.List.{take_more, take-append-drop, take-take}
-use Rattle.jsonb_spec.specs.Grammar.StandardNumber.{IsWhole, IsFraction, IsExponentMark, IsSign, IsExponent, IsNumberText}
+use Rattle.jsonb_spec.specs.Grammar.StandardNumber.{IsWhole, IsFraction, IsExponentMark, IsSign, IsExponent, IsStandardText}
 use Rattle.jsonb_scan.specs.Reading.Number.{ContinuesNumber}
 use Rattle.jsonb_scan.proofs.Numbers.Steps.{digit_is, is_digit, is_no_digit, differs, is_mark, is_no_mark}
+use Rattle.jsonb_scan.proofs.Numbers.TextParts.{HasParts, parts_of}
 
 -- after each number text that the bytes begin with a byte goes on with a number
 abbrev pub NoneEnds : List ℕ → Type 0
-NoneEnds bytes = (k : ℕ) → k ≤ length bytes → IsNumberText (take k bytes) → ContinuesNumber (slice_index bytes k)
+NoneEnds bytes = (k : ℕ) → k ≤ length bytes → IsStandardText (take k bytes) → ContinuesNumber (slice_index bytes k)
 
 -- of the number texts that the bytes begin with none is longer than len, and after each shorter one a byte goes on with a number
 abbrev pub IsLongest : List ℕ → ℕ → Type 0
-IsLongest bytes len = (k : ℕ) → k ≤ length bytes → IsNumberText (take k bytes) → (k ≡ len) ⊎ ((k < len) × ContinuesNumber (slice_index bytes k))
+IsLongest bytes len = (k : ℕ) → k ≤ length bytes → IsStandardText (take k bytes) → (k ≡ len) ⊎ ((k < len) × ContinuesNumber (slice_index bytes k))
 
 pub data State : Type 0 where
   Start : State
@@ -317,12 +318,15 @@ unfolding next
 signed_whole false whole w = whole_unsigned whole w
 signed_whole true whole w = whole_signed whole w
 
-pub text_accepted : (bytes : List ℕ) → IsNumberText bytes → is_accepting (run Start bytes) ≡ true
-text_accepted bytes (negative, whole, fraction, exponent, parts) =
+parts_accepted : (bytes : List ℕ) (negative : Bool) (whole fraction exponent : List ℕ) → HasParts bytes negative whole fraction exponent → is_accepting (run Start bytes) ≡ true
+parts_accepted bytes negative whole fraction exponent parts =
     let s = run (run Start (sign_text negative)) whole in
     let there : run Start bytes ≡ run (run (run (run Start (sign_text negative)) whole) fraction) exponent =
     ap (run Start) parts.joined ∙ (run-append Start (sign_text negative) (whole ++ (fraction ++ exponent)) ∙ (run-append (run Start (sign_text negative)) whole (fraction ++ exponent) ∙ run-append (run (run Start (sign_text negative)) whole) fraction exponent)) in
     ap is_accepting there ∙ exponent_accepted _ exponent (fraction_ends_at _ fraction (signed_whole negative whole parts.is_whole) parts.is_fraction) parts.is_exponent
+
+pub text_accepted : (bytes : List ℕ) → IsStandardText bytes → is_accepting (run Start bytes) ≡ true
+text_accepted bytes t = parts_accepted bytes t.negative t.whole t.fraction t.exponent (parts_of bytes t)
 
 -- ---- where a text can end
 
@@ -353,7 +357,7 @@ accepted_ends origin bytes q s stop k within accepted =
     cases_le_eq a b le = ⊎_elim inl (λ other. inr (omega arith)) (cases_eq a b)
 
 -- a number text that the bytes begin with ends where the automaton stops, or before that where a byte goes on
-pub ends_at : (bytes : List ℕ) (q : ℕ) (s : State) → StopsAt Start bytes q s → (k : ℕ) → k ≤ length bytes → IsNumberText (take k bytes) → ((k ≡ q) × (is_accepting s ≡ true)) ⊎ ((k < q) × ContinuesNumber (slice_index bytes k))
+pub ends_at : (bytes : List ℕ) (q : ℕ) (s : State) → StopsAt Start bytes q s → (k : ℕ) → k ≤ length bytes → IsStandardText (take k bytes) → ((k ≡ q) × (is_accepting s ≡ true)) ⊎ ((k < q) × ContinuesNumber (slice_index bytes k))
 ends_at bytes q s stop k within text = accepted_ends Start bytes q s stop k within (text_accepted (take k bytes) text)
 
 -- where the automaton stops in a state that accepts nothing, no text can end

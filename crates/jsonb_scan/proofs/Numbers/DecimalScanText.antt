@@ -1,14 +1,14 @@
 -- The text that a scan of an extended decimal finds is a decimal number.
 use Rattle.std.proofs.Common.{◌≡◌, ◌≢◌, ◌⊎◌, ℕ, ◌+◌, ◌-◌, ◌<◌, ◌≤◌, Bool, true, false, cond, ◌||◌, suc, Option, Some, None, List, [], ◌∷◌, ◌++◌, length, get_or, take, drop, refl, sym, subst, ap, ◌∙◌, inl, inr, ⊎_elim, arith, Ok}
 use Rattle.std.specs.Prelude.{slice_index, slice_range, replicate, MatchOption, ◌==◌, nat_le}
-use Rattle.std.specs.Str.Parse.{AllDigits, digits_value}
+use Rattle.std.specs.Str.Parse.{AllDigits, digits_value, starts_with_minus}
 use Rattle.std.proofs.lemmas.Bool.{cases_eq, cases_lt, cases_Bool, false≢true}
 use Rattle.std.proofs.lemmas.Bool.Decides.{nat_tests}
 use Rattle.std.proofs.lemmas.List.{append_assoc}
 use Rattle.std.proofs.lemmas.Slice.{between_from_start}
 use Rattle.std.proofs.lemmas.List.Edits.{length-between, get_or-between}
 use Rattle.jsonb_value.proofs.Numbers.DecimalTexts.{value-after_zeros}
-use Rattle.jsonb_spec.specs.Grammar.ExtendedNumber.{is_minus, fraction_digits, fraction_text, HasDecimalParts, precision_of, value_of, decimal_number, IsDecimalNumber, IsUnrepresentableDecimal}
+use Rattle.jsonb_spec.specs.Grammar.ExtendedNumber.{decimal_number, IsDecimalNumber}
 use Rattle.jsonb_spec.specs.Number.Signed.{signed_by}
 use Rattle.jsonb_scan.specs.Reading.Number.{sign_end}
 use Rattle.jsonb_scan.specs.Reading.ExtendedNumber.{core_start, zeros_end, front_end, point_end, behind_end, scale_at, precision_at, decimal_end, all_digits, decimal_at}
@@ -18,6 +18,8 @@ use Rattle.jsonb_scan.proofs.Numbers.ScanStates.{exponent_stop}
 use Rattle.jsonb_scan.proofs.Numbers.ScanText.{range_split, range_cons, range_none, run_digits, sign_part, exponent_text, exponent_within}
 use Rattle.jsonb_scan.proofs.Numbers.DecimalScan.{IsZeroRun, IsPointEnd, DecimalParts, IsDecimalScan, parts_to, point_ordered, core_zeros, counted_digits, decimal_scanned}
 use Rattle.jsonb_scan.proofs.Numbers.DecimalStates.{IsLongestDecimal, IsLongestDecimal-from_stop, decimal_due, zeros_and_digits, decimal_done}
+use Rattle.jsonb_value.proofs.Numbers.Fractions.{fraction_digits, fraction_text, precision_of, value_of}
+use Rattle.jsonb_scan.proofs.Numbers.TextParts.{IsUnrepresentableDecimal, HasTextParts, decimal_parts_of}
 
 zeros_from_places : (ds : List ℕ) → ((k : ℕ) → k < length ds → get_or ds k 0 ≡ 48) → ds ≡ replicate (length ds) 48
 zeros_from_places [] h = refl
@@ -38,7 +40,7 @@ no_zero bytes start end other zero_byte =
 -- the parts of the text, with the digits behind the point
 pub record ScannedDecimal (bytes : List ℕ) (p : DecimalParts) : Type 0 where
   pub fraction : Option (List ℕ)
-  pub parts : HasDecimalParts (take p.end bytes) (slice_range bytes 0 p.zeros_start) (slice_range bytes p.zeros_start p.whole_start) (slice_range bytes p.whole_start p.whole_end) fraction (slice_range bytes p.fraction_end p.end)
+  pub parts : HasTextParts (take p.end bytes) (slice_range bytes 0 p.zeros_start) (slice_range bytes p.zeros_start p.whole_start) (slice_range bytes p.whole_start p.whole_end) fraction (slice_range bytes p.fraction_end p.end)
   pub digits : fraction_digits fraction ≡ slice_range bytes p.fraction_start p.fraction_end
 
 pub record ScanOrder (bytes : List ℕ) (p : DecimalParts) : Type 0 where
@@ -106,7 +108,7 @@ or_right_false : (a b : Bool) → (a || b) ≡ false → b ≡ false
 or_right_false true b h = absurd (false≢true (sym h))
 or_right_false false b h = h
 
-sign_value : (bytes : List ℕ) (start : ℕ) → start ≡ sign_end bytes 0 → is_minus (slice_range bytes 0 start) ≡ is_minus bytes
+sign_value : (bytes : List ℕ) (start : ℕ) → start ≡ sign_end bytes 0 → starts_with_minus (slice_range bytes 0 start) ≡ starts_with_minus bytes
 sign_value bytes start at =
     ⊎_elim
     (λ sign. let one : start ≡ 1 = at ∙ ap (λ b. cond b (0 + 1) 0) sign in
@@ -118,7 +120,7 @@ sign_value bytes start at =
 -- what is known of a text that ends here
 pub record DecimalText (bytes : List ℕ) (end : ℕ) : Type 0 where
   pub fraction : Option (List ℕ)
-  pub parts : HasDecimalParts (take end bytes) (slice_range bytes 0 (core_start bytes)) (slice_range bytes (core_start bytes) (zeros_end bytes)) (slice_range bytes (zeros_end bytes) (front_end bytes)) fraction (slice_range bytes (behind_end bytes) end)
+  pub parts : HasTextParts (take end bytes) (slice_range bytes 0 (core_start bytes)) (slice_range bytes (core_start bytes) (zeros_end bytes)) (slice_range bytes (zeros_end bytes) (front_end bytes)) fraction (slice_range bytes (behind_end bytes) end)
   pub digits : fraction_digits fraction ≡ slice_range bytes (point_end bytes) (behind_end bytes)
   pub scale : length (fraction_digits fraction) ≡ scale_at bytes
   pub precision : precision_of (slice_range bytes (zeros_end bytes) (front_end bytes)) fraction ≡ precision_at bytes
@@ -156,20 +158,23 @@ digits_value_same bytes fraction same =
     ∙ ap (digits_value 10) (sym (append_assoc (slice_range bytes (core_start bytes) (zeros_end bytes)) (slice_range bytes (zeros_end bytes) (front_end bytes)) (slice_range bytes (point_end bytes) (behind_end bytes))))
     ∙ ap (λ f. digits_value 10 (f ++ slice_range bytes (point_end bytes) (behind_end bytes))) (sym front)
 
-representable : (bytes : List ℕ) (end : ℕ) → DecimalText bytes end → behind_end bytes ≡ end → precision_at bytes ≤ 38 → IsDecimalNumber (take end bytes) (decimal_number (scale_at bytes) (precision_at bytes) (signed_by (is_minus bytes) (digits_value 10 (all_digits bytes))))
+representable : (bytes : List ℕ) (end : ℕ) → DecimalText bytes end → behind_end bytes ≡ end → precision_at bytes ≤ 38 → IsDecimalNumber (take end bytes) (decimal_number (scale_at bytes) (precision_at bytes) (signed_by (starts_with_minus bytes) (digits_value 10 (all_digits bytes))))
 representable bytes end t no_exponent few =
     let whole : List ℕ = slice_range bytes (zeros_end bytes) (front_end bytes) in
-    let signed : signed_by (is_minus bytes) (digits_value 10 (all_digits bytes)) ≡ value_of (slice_range bytes 0 (core_start bytes)) (slice_range bytes (zeros_end bytes) (front_end bytes)) t.fraction =
-    ap (λ b. signed_by b (digits_value 10 (all_digits bytes))) (sym (sign_value bytes (core_start bytes) refl)) ∙ ap (signed_by (is_minus (slice_range bytes 0 (core_start bytes)))) (sym (digits_value_same bytes t.fraction t.digits)) in (
+    let signed : signed_by (starts_with_minus bytes) (digits_value 10 (all_digits bytes)) ≡ value_of (slice_range bytes 0 (core_start bytes)) (slice_range bytes (zeros_end bytes) (front_end bytes)) t.fraction =
+    ap (λ b. signed_by b (digits_value 10 (all_digits bytes))) (sym (sign_value bytes (core_start bytes) refl)) ∙ ap (signed_by (starts_with_minus (slice_range bytes 0 (core_start bytes)))) (sym (digits_value_same bytes t.fraction t.digits)) in (
       slice_range bytes 0 (core_start bytes),
       slice_range bytes (core_start bytes) (zeros_end bytes),
       slice_range bytes (zeros_end bytes) (front_end bytes),
       t.fraction,
-      subst (HasDecimalParts (take end bytes) (slice_range bytes 0 (core_start bytes)) (slice_range bytes (core_start bytes) (zeros_end bytes)) (slice_range bytes (zeros_end bytes) (front_end bytes)) t.fraction) (range_none bytes (behind_end bytes) end (sym no_exponent)) t.parts,
-      omega (arith, t.precision, few),
-      ap (λ s. decimal_number s (precision_at bytes) (signed_by (is_minus bytes) (digits_value 10 (all_digits bytes)))) (sym t.scale)
-          ∙ ap (λ q. decimal_number (length (fraction_digits t.fraction)) q (signed_by (is_minus bytes) (digits_value 10 (all_digits bytes)))) (sym t.precision)
-          ∙ ap (decimal_number (length (fraction_digits t.fraction)) (precision_of (slice_range bytes (zeros_end bytes) (front_end bytes)) t.fraction)) signed,
+      decimal_parts_of (take end bytes) (slice_range bytes 0 (core_start bytes)) (slice_range bytes (core_start bytes) (zeros_end bytes)) (slice_range bytes (zeros_end bytes) (front_end bytes)) t.fraction
+          (subst (HasTextParts (take end bytes) (slice_range bytes 0 (core_start bytes)) (slice_range bytes (core_start bytes) (zeros_end bytes)) (slice_range bytes (zeros_end bytes) (front_end bytes)) t.fraction) (range_none bytes (behind_end bytes) end (sym no_exponent)) t.parts),
+      (
+        omega (arith, t.precision, few),
+        ap (λ s. decimal_number s (precision_at bytes) (signed_by (starts_with_minus bytes) (digits_value 10 (all_digits bytes)))) (sym t.scale)
+            ∙ ap (λ q. decimal_number (length (fraction_digits t.fraction)) q (signed_by (starts_with_minus bytes) (digits_value 10 (all_digits bytes)))) (sym t.precision)
+            ∙ ap (decimal_number (length (fraction_digits t.fraction)) (precision_of (slice_range bytes (zeros_end bytes) (front_end bytes)) t.fraction)) signed,
+      ),
     )
 
 unrepresentable : (bytes : List ℕ) (end : ℕ) → DecimalText bytes end → (behind_end bytes ≢ end) ⊎ (38 < precision_at bytes) → IsUnrepresentableDecimal (take end bytes)

@@ -8,13 +8,15 @@ use Rattle.std.proofs.lemmas.Bool.{cases_lt, cases_Bool, false≢true}
 use Rattle.std.proofs.lemmas.List.{append-nil, append_assoc, length-append}
 use Rattle.jsonb_value.proofs.Numbers.DecimalTexts.{digits-after_zeros}
 use Rattle.jsonb_spec.specs.Grammar.StandardNumber.{IsSign}
-use Rattle.jsonb_spec.specs.Grammar.ExtendedNumber.{fraction_digits, fraction_text, IsDecimalText}
+use Rattle.jsonb_spec.specs.Grammar.ExtendedNumber.{IsDecimalText}
 use Rattle.jsonb_scan.specs.Reading.Number.{sign_end, ContinuesNumber}
 use Rattle.jsonb_scan.proofs.Numbers.Steps.{differs, is_digit, is_no_digit}
 use Rattle.jsonb_scan.proofs.Numbers.Scan.{IsDigitRun, IsBareMark}
 use Rattle.jsonb_scan.proofs.Numbers.DecimalScan.{IsZeroRun, IsPointEnd}
 use Rattle.jsonb_scan.proofs.Numbers.Automaton.{State, Fraction, DecimalStart, Signed, Digits, BarePoint, Dead, next, run, is_accepting, run-append, run_digits, state_at, state_at-next, state_over_digits, fraction_stays, EndsFraction, exponent_accepted, StopsAt, accepted_ends}
 use Rattle.jsonb_scan.proofs.Numbers.ScanStates.{FractionDone, alive_by, bare_mark_stop}
+use Rattle.jsonb_value.proofs.Numbers.Fractions.{fraction_digits, fraction_text}
+use Rattle.jsonb_scan.proofs.Numbers.TextParts.{HasDecimalText, text_parts}
 
 -- of the decimal number texts that the bytes begin with none is longer than len, and after each shorter one a byte goes on with a number
 abbrev pub IsLongestDecimal : List ℕ → ℕ → Type 0
@@ -99,8 +101,8 @@ decimal_ends s [] (Some []) before h k some = absurd (omega (arith, some))
 decimal_ends s [] (Some (c ∷ cs)) before h k some =
     inr (ap (λ t. run t (c ∷ cs)) (before_point s before) ∙ (ap (λ t. run t cs) (bare_digit c (digit_from_value c k.0)) ∙ run_digits Fraction fraction_stays cs k.1))
 
-pub decimal_accepted : (bytes : List ℕ) → IsDecimalText bytes → is_accepting (run DecimalStart bytes) ≡ true
-decimal_accepted bytes (sign, zeros, whole, fraction, exponent, parts) =
+parts_accepted : (bytes : List ℕ) → HasDecimalText bytes → is_accepting (run DecimalStart bytes) ≡ true
+parts_accepted bytes (sign, zeros, whole, fraction, exponent, parts) =
     let digits : AllDigits 10 (zeros ++ whole) = subst (λ z. AllDigits 10 (z ++ whole)) (sym parts.are_zeros) (digits-after_zeros (length zeros) whole parts.whole_digits) in
     let ends : EndsFraction (run (run DecimalStart sign) ((zeros ++ whole) ++ fraction_text fraction)) =
     decimal_ends (run DecimalStart sign) (zeros ++ whole) fraction (signs_before sign parts.is_sign) digits parts.digits_behind (omega (arith, parts.some_digit, length-append zeros whole)) in
@@ -108,6 +110,9 @@ decimal_accepted bytes (sign, zeros, whole, fraction, exponent, parts) =
     let there : run DecimalStart bytes ≡ run (run (run DecimalStart sign) ((zeros ++ whole) ++ fraction_text fraction)) exponent =
     ap (run DecimalStart) parts.joined ∙ (run-append DecimalStart sign (zeros ++ (whole ++ (fraction_text fraction ++ exponent))) ∙ (ap (run (run DecimalStart sign)) regroup ∙ run-append (run DecimalStart sign) ((zeros ++ whole) ++ fraction_text fraction) exponent)) in
     ap is_accepting there ∙ exponent_accepted _ exponent ends parts.is_exponent
+
+pub decimal_accepted : (bytes : List ℕ) → IsDecimalText bytes → is_accepting (run DecimalStart bytes) ≡ true
+decimal_accepted bytes text = parts_accepted bytes (text_parts bytes text)
 
 pub NoDecimalEnds-from_stop : (bytes : List ℕ) (q : ℕ) (s : State) → StopsAt DecimalStart bytes q s → (is_accepting s ≡ true → ContinuesNumber (slice_index bytes q)) → NoDecimalEnds bytes
 NoDecimalEnds-from_stop bytes q s stop goes k within text =

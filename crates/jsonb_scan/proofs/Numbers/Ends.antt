@@ -5,7 +5,7 @@ use Rattle.std.specs.Str.Parse.{digits_value}
 use Rattle.std.proofs.lemmas.Bool.{cases_eq, cases_lt, cases_Bool}
 use Rattle.std.proofs.lemmas.Bool.Decides.{nat_tests}
 use Rattle.jsonb_spec.specs.Tree.{Num}
-use Rattle.jsonb_spec.specs.Grammar.StandardNumber.{IsInteger, IsStandardNumber, IsStandardUnrepresentable}
+use Rattle.jsonb_spec.specs.Grammar.StandardNumber.{IsInteger, IsStandardNumber}
 use Rattle.jsonb_scan.specs.Reading.Number.{End, then_from, digits_length, sign_end, exponent_from, fraction_from, has_minus, whole_start, standard_end, integer_of, whole_digits, integer_at}
 use Rattle.jsonb_scan.proofs.Numbers.Steps.{differs, digits_more, ok_no_err, then_ok, by_digits, whole_end, HasWhole, whole_missing, whole_needless, whole_found}
 use Rattle.jsonb_scan.proofs.Numbers.Scan.{IsDigitRun, IsScan, inside_of, digits_run, fraction_is, fraction_fault_is, exponent_is, exponent_fault_is}
@@ -14,6 +14,7 @@ use Rattle.jsonb_scan.proofs.Numbers.ScanStates.{due, fault_no_digit, fault_need
 use Rattle.jsonb_scan.proofs.Numbers.ScanText.{fraction_within, scan_number_text, scan_unrepresentable}
 use Rattle.jsonb_scan.proofs.Numbers.Forms.{negated_small}
 use Rattle.jsonb_scan.proofs.Numbers.HexadecimalValues.{signed_fits_64}
+use Rattle.jsonb_scan.proofs.Numbers.TextParts.{IsStandardUnrepresentable}
 
 -- ---- the whole part
 

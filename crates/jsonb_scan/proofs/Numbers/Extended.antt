@@ -3,7 +3,7 @@ use Rattle.std.proofs.Common.{◌≡◌, ◌≢◌, ◌⊎◌, zero, suc, ℕ, �
 use Rattle.std.specs.Prelude.{replicate, slice_index, MatchOption, ◌==◌}
 use Rattle.std.specs.Char.{to_ascii_lowercase}
 use Rattle.std.specs.Int.{IsInRange}
-use Rattle.std.specs.Str.Parse.{AllDigits}
+use Rattle.std.specs.Str.Parse.{AllDigits, starts_with_minus}
 use Rattle.std.proofs.lemmas.Str.Parse.{digit_from_value}
 use Rattle.std.proofs.lemmas.Bool.{cases_Bool, cases_lt, false≢true, cond-false, cond-true, and_parts}
 use Rattle.std.proofs.lemmas.Bool.Decides.{nat_tests}
@@ -11,7 +11,7 @@ use Rattle.std.proofs.lemmas.List.{take-append-drop, length-append, length-drop,
 use Rattle.std.proofs.Math.Seq.{take-append_seam, drop-append_seam}
 use Rattle.jsonb_spec.specs.Code.{number_not_carried}
 use Rattle.jsonb_spec.specs.Grammar.StandardNumber.{IsSign}
-use Rattle.jsonb_spec.specs.Grammar.ExtendedNumber.{fraction_digits, fraction_text, is_minus, IsDecimalNumber, IsUnrepresentableDecimal, IsExtendedNumber, IsExtendedUnrepresentable, IsExtendedText}
+use Rattle.jsonb_spec.specs.Grammar.ExtendedNumber.{IsDecimalNumber, IsExtendedNumber, IsExtendedText}
 use Rattle.jsonb_spec.specs.Tree.{Num}
 use Rattle.jsonb_scan.specs.Reading.{Fault, Read}
 use Rattle.jsonb_scan.specs.Reading.Number.{End, sign_end}
@@ -24,7 +24,11 @@ use Rattle.jsonb_scan.proofs.Numbers.DecimalStates.{IsDecimalDue, NoDecimalEnds,
 use Rattle.jsonb_scan.proofs.Numbers.ExtendedTexts.{IsWordStart, IsLongestExtended, NoExtendedEnds, IsNumberCode, ScansExtended, goes_on_more, only_decimals, sign_front}
 use Rattle.jsonb_scan.proofs.Numbers.HexadecimalMeaning.{IsHexadecimalFront, reads_hexadecimal}
 use Rattle.jsonb_scan.proofs.Scalars.WordMeaning.{reads_word}
-use Rattle.jsonb_scan.proofs.Numbers.ExtendedParts.{extended_unique, extended_representable, extended_is_text}
+use Rattle.jsonb_scan.proofs.Numbers.ExtendedParts.{extended_unique, extended_representable, extended_is_text, extended_without_number}
+use Rattle.jsonb_value.proofs.Numbers.Fractions.{fraction_digits, fraction_text}
+use Rattle.jsonb_scan.proofs.Numbers.TextParts.{IsUnrepresentableDecimal, IsExtendedUnrepresentable, plain_parts}
+use Rattle.jsonb_spec.specs.Grammar.Scalar.{IsUnrepresentable}
+use Rattle.jsonb_spec.specs.Mode.{extended}
 
 -- ---- decimals
 
@@ -93,11 +97,11 @@ hexadecimal_front bytes zero_byte letter =
     }
 
 -- which of the three is read
-pub scan_word : (bytes : List ℕ) → is_word_start (core_byte bytes) ≡ true → extended_scan bytes ≡ word_scan (core_start bytes) (is_minus bytes) (drop (core_start bytes) bytes)
+pub scan_word : (bytes : List ℕ) → is_word_start (core_byte bytes) ≡ true → extended_scan bytes ≡ word_scan (core_start bytes) (starts_with_minus bytes) (drop (core_start bytes) bytes)
 unfolding extended_scan
 scan_word bytes word = cond-true (is_word_start (core_byte bytes)) _ _ word
 
-pub scan_hexadecimal : (bytes : List ℕ) → is_word_start (core_byte bytes) ≡ false → is_hexadecimal_start bytes ≡ true → extended_scan bytes ≡ hexadecimal_scan (core_start bytes + 2) (is_minus bytes) (drop (core_start bytes + 2) bytes)
+pub scan_hexadecimal : (bytes : List ℕ) → is_word_start (core_byte bytes) ≡ false → is_hexadecimal_start bytes ≡ true → extended_scan bytes ≡ hexadecimal_scan (core_start bytes + 2) (starts_with_minus bytes) (drop (core_start bytes + 2) bytes)
 unfolding extended_scan
 scan_hexadecimal bytes no_word hexadecimal = cond-false (is_word_start (core_byte bytes)) _ _ no_word ∙ cond-true (is_hexadecimal_start bytes) _ _ hexadecimal
 
@@ -109,13 +113,13 @@ scan_decimal bytes no_word none = cond-false (is_word_start (core_byte bytes)) _
 pub found_word : (bytes tail : List ℕ) (start minus first : ℕ) (s : Scanned) → start ≡ sign_end bytes 0 → minus ≡ slice_index bytes 0 → first ≡ slice_index bytes start → is_word_start first ≡ true → tail ≡ drop start bytes → s ≡ word_scan start (minus == 45) tail → s ≡ extended_scan bytes
 found_word bytes tail start minus first s at sign byte word rest is =
     let tested : is_word_start (core_byte bytes) ≡ true = sym (ap is_word_start (byte ∙ ap (slice_index bytes) at)) ∙ word in
-    is ∙ (ap (word_scan start (minus == 45)) rest ∙ (ap (λ b. word_scan start (b == 45) (drop start bytes)) sign ∙ (ap (λ i. word_scan i (is_minus bytes) (drop i bytes)) at ∙ sym (scan_word bytes tested))))
+    is ∙ (ap (word_scan start (minus == 45)) rest ∙ (ap (λ b. word_scan start (b == 45) (drop start bytes)) sign ∙ (ap (λ i. word_scan i (starts_with_minus bytes) (drop i bytes)) at ∙ sym (scan_word bytes tested))))
 
 pub found_hexadecimal : (bytes tail : List ℕ) (start minus first : ℕ) (s : Scanned) → start ≡ sign_end bytes 0 → minus ≡ slice_index bytes 0 → first ≡ slice_index bytes start → is_word_start first ≡ false → hexadecimal_starts bytes start ≡ true → tail ≡ drop (start + 2) bytes → s ≡ hexadecimal_scan (start + 2) (minus == 45) tail → s ≡ extended_scan bytes
 found_hexadecimal bytes tail start minus first s at sign byte no_word starts rest is =
     let tested : is_word_start (core_byte bytes) ≡ false = sym (ap is_word_start (byte ∙ ap (slice_index bytes) at)) ∙ no_word in
     let begun : is_hexadecimal_start bytes ≡ true = sym (ap (hexadecimal_starts bytes) at) ∙ starts in
-    is ∙ (ap (hexadecimal_scan (start + 2) (minus == 45)) rest ∙ (ap (λ b. hexadecimal_scan (start + 2) (b == 45) (drop (start + 2) bytes)) sign ∙ (ap (λ i. hexadecimal_scan (i + 2) (is_minus bytes) (drop (i + 2) bytes)) at ∙ sym (scan_hexadecimal bytes tested begun))))
+    is ∙ (ap (hexadecimal_scan (start + 2) (minus == 45)) rest ∙ (ap (λ b. hexadecimal_scan (start + 2) (b == 45) (drop (start + 2) bytes)) sign ∙ (ap (λ i. hexadecimal_scan (i + 2) (starts_with_minus bytes) (drop (i + 2) bytes)) at ∙ sym (scan_hexadecimal bytes tested begun))))
 
 pub found_decimal : (bytes : List ℕ) (start first : ℕ) (s : Scanned) → start ≡ sign_end bytes 0 → first ≡ slice_index bytes start → is_word_start first ≡ false → hexadecimal_starts bytes start ≡ false → s ≡ decimal_scan bytes → s ≡ extended_scan bytes
 found_decimal bytes start first s at byte no_word none is =
@@ -131,7 +135,7 @@ scans_extended bytes =
     let next = both.1 in
     let zero_byte : core_byte bytes ≡ 48 = grind (arith, nat_tests) in
     let letter : to_ascii_lowercase (slice_index bytes (core_start bytes + 1)) ≡ 120 = grind (arith, nat_tests) in
-    subst (ScansExtended bytes) (sym (scan_hexadecimal bytes no_word hexadecimal)) (reads_hexadecimal bytes (take (core_start bytes) bytes) (slice_index bytes (core_start bytes + 1)) (drop (core_start bytes + 2) bytes) (core_start bytes + 2) (is_minus bytes) (hexadecimal_front bytes zero_byte letter) (omega (arith, length-take-le (core_start bytes) bytes (core_within bytes))) (sym (sign_front bytes).minus)))
+    subst (ScansExtended bytes) (sym (scan_hexadecimal bytes no_word hexadecimal)) (reads_hexadecimal bytes (take (core_start bytes) bytes) (slice_index bytes (core_start bytes + 1)) (drop (core_start bytes + 2) bytes) (core_start bytes + 2) (starts_with_minus bytes) (hexadecimal_front bytes zero_byte letter) (omega (arith, length-take-le (core_start bytes) bytes (core_within bytes))) (sym (sign_front bytes).minus)))
     (λ none. subst (ScansExtended bytes) (sym (scan_decimal bytes no_word none)) (reads_decimal bytes (record { no_word = no_letter (core_byte bytes) no_word; no_mark = no_hexadecimal none })))
     (cases_Bool (is_hexadecimal_start bytes))) (cases_Bool (is_word_start (core_byte bytes)))
   where
@@ -167,7 +171,7 @@ pub record ExtendedUnrepresentable (size : ℕ) (bytes : List ℕ) (place : ℕ)
   pub text : List ℕ
   pub rest : List ℕ
   pub joined : bytes ≡ text ++ rest
-  pub unrepresentable : IsExtendedUnrepresentable text
+  pub unrepresentable : IsUnrepresentable extended text
   pub place_is : place ≡ size - length rest
   pub longest : NoLongerExtended bytes rest
 
@@ -208,7 +212,7 @@ scanned_answer size bytes (Ok (None, end)) t = unrepresentable_text refl (record
   text = take end bytes;
   rest = drop end bytes;
   joined = sym (take-append-drop end bytes);
-  unrepresentable = t.text;
+  unrepresentable = extended_without_number (take end bytes) t.text;
   place_is = refl;
   longest = no_longer bytes end t.within t.longest;
 })
@@ -282,8 +286,8 @@ decimal_start zero [] (Some ds) exponent digits some = record { first = 46; othe
 decimal_start zero [] None exponent digits some = absurd (omega (arith, some))
 
 pub extended_starts : (core : List ℕ) (n : Num) → IsExtendedNumber core n → ExtendedStart core
-extended_starts core n (inl (sign, zeros, whole, fraction, p, few, is)) =
-    signed_start core sign (replicate (length zeros) 48 ++ (whole ++ (fraction_text fraction ++ []))) p.is_sign (p.joined ∙ ap (λ z. sign ++ (z ++ (whole ++ (fraction_text fraction ++ [])))) p.are_zeros) (decimal_start (length zeros) whole fraction [] p.whole_digits p.some_digit)
+extended_starts core n (inl (sign, zeros, whole, fraction, p, (few, is))) =
+    signed_start core sign (replicate (length zeros) 48 ++ (whole ++ (fraction_text fraction ++ []))) p.is_sign ((plain_parts core sign zeros whole fraction p).joined ∙ ap (λ z. sign ++ (z ++ (whole ++ (fraction_text fraction ++ [])))) p.are_zeros) (decimal_start (length zeros) whole fraction [] p.whole_digits p.some_digit)
 extended_starts core n (inr (sign, mark, whole, p, is)) = signed_start core sign (48 ∷ mark ∷ (whole ++ fraction_text None)) p.is_sign p.joined (zero_start (mark ∷ (whole ++ fraction_text None)))
 
 pub opens_extended : (b : ℕ) → OpensNumber b → is_extended_start b ≡ true

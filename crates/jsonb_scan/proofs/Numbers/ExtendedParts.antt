@@ -2,16 +2,18 @@
 use Rattle.std.proofs.Common.{◌≡◌, ◌≢◌, ℕ, ◌<◌, zero, suc, Option, Some, None, List, [], ◌∷◌, ◌++◌, length, take, drop, refl, sym, subst, ap, ◌∙◌, inl, inr, ⊎_elim, arith, length-append}
 use Rattle.std.specs.Prelude.{slice_index, replicate}
 use Rattle.std.specs.Char.{digit_value}
-use Rattle.std.specs.Str.Parse.{AllDigits, digits_value}
+use Rattle.std.specs.Str.Parse.{AllDigits, digits_value, starts_with_minus}
 use Rattle.std.proofs.lemmas.Str.Parse.{digit_from_value}
 use Rattle.std.proofs.lemmas.List.{append-nil, take_all}
 use Rattle.jsonb_spec.specs.Grammar.StandardNumber.{IsSign, IsExponent, IsExponentMark}
-use Rattle.jsonb_spec.specs.Grammar.ExtendedNumber.{is_minus, fraction_digits, fraction_text, HasDecimalParts, precision_of, value_of, decimal_number, IsDecimalNumber, IsDecimalText, IsUnrepresentableDecimal, HasHexadecimalParts, hexadecimal_number, IsHexadecimalNumber, IsHexadecimalText, IsUnrepresentableHexadecimal, IsWordText, IsExtendedNumber, IsExtendedUnrepresentable, IsExtendedText}
+use Rattle.jsonb_spec.specs.Grammar.ExtendedNumber.{decimal_number, IsDecimalNumber, IsDecimalText, HasHexadecimalParts, hexadecimal_number, IsHexadecimalNumber, IsHexadecimalText, IsWordText, IsExtendedNumber, IsExtendedText}
 use Rattle.jsonb_spec.specs.Tree.{Num}
 use Rattle.jsonb_scan.specs.Reading.ExtendedNumber.{core_byte}
 use Rattle.jsonb_scan.proofs.Numbers.DecimalScan.{core_within}
 use Rattle.jsonb_scan.proofs.Numbers.HexadecimalTexts.{runs_end, same_front}
 use Rattle.jsonb_scan.proofs.Numbers.ExtendedTexts.{letter_is, word_found, found_letter, hexadecimal_core, decimals_before_mark, decimals_before_letter}
+use Rattle.jsonb_value.proofs.Numbers.Fractions.{fraction_digits, fraction_text, precision_of, value_of}
+use Rattle.jsonb_scan.proofs.Numbers.TextParts.{IsUnrepresentableDecimal, IsUnrepresentableHexadecimal, IsExtendedUnrepresentable, HasTextParts, plain_parts, decimal_text_of}
 
 -- ---- parts of a list
 
@@ -101,7 +103,7 @@ record SameDecimal (sign whole : List ℕ) (fraction : Option (List ℕ)) (expon
   fraction_same : fraction ≡ behind
   exponent_same : exponent ≡ last
 
-same_decimal : (core sign zeros whole : List ℕ) (fraction : Option (List ℕ)) (exponent other more digits : List ℕ) (behind : Option (List ℕ)) (last : List ℕ) → HasDecimalParts core sign zeros whole fraction exponent → HasDecimalParts core other more digits behind last → SameDecimal sign whole fraction exponent other digits behind last
+same_decimal : (core sign zeros whole : List ℕ) (fraction : Option (List ℕ)) (exponent other more digits : List ℕ) (behind : Option (List ℕ)) (last : List ℕ) → HasTextParts core sign zeros whole fraction exponent → HasTextParts core other more digits behind last → SameDecimal sign whole fraction exponent other digits behind last
 same_decimal core sign zeros whole fraction exponent other more digits behind last p q =
     let signed = signs_same sign other _ _ p.is_sign q.is_sign (after_sign (length zeros) whole fraction exponent p.whole_digits p.is_exponent) (after_sign (length more) digits behind last q.whole_digits q.is_exponent)
     (ap (λ z. sign ++ (z ++ (whole ++ (fraction_text fraction ++ exponent)))) (sym p.are_zeros) ∙ sym p.joined ∙ q.joined ∙ ap (λ z. other ++ (z ++ (digits ++ (fraction_text behind ++ last)))) q.are_zeros) in
@@ -114,20 +116,20 @@ abbrev number_by : List ℕ → List ℕ → Option (List ℕ) → Num
 number_by sign whole fraction = decimal_number (length (fraction_digits fraction)) (precision_of whole fraction) (value_of sign whole fraction)
 
 decimal_unique : (core : List ℕ) (m n : Num) → IsDecimalNumber core m → IsDecimalNumber core n → m ≡ n
-decimal_unique core m n (sign, zeros, whole, fraction, p, few, first) (other, more, digits, behind, q, too, second) =
-    let s = same_decimal core sign zeros whole fraction [] other more digits behind [] p q in
+decimal_unique core m n (sign, zeros, whole, fraction, p, (few, first)) (other, more, digits, behind, q, (too, second)) =
+    let s = same_decimal core sign zeros whole fraction [] other more digits behind [] (plain_parts core sign zeros whole fraction p) (plain_parts core other more digits behind q) in
     first ∙ ap (λ x. number_by x whole fraction) s.sign_same ∙ ap (λ x. number_by other x fraction) s.whole_same ∙ ap (λ x. number_by other digits x) s.fraction_same ∙ sym second
 
 decimal_representable : (core : List ℕ) (n : Num) → IsDecimalNumber core n → IsUnrepresentableDecimal core → ⊥
-decimal_representable core n (sign, zeros, whole, fraction, p, few, first) (other, more, digits, behind, last, q, why) =
-    let s = same_decimal core sign zeros whole fraction [] other more digits behind last p q in
+decimal_representable core n (sign, zeros, whole, fraction, p, (few, first)) (other, more, digits, behind, last, q, why) =
+    let s = same_decimal core sign zeros whole fraction [] other more digits behind last (plain_parts core sign zeros whole fraction p) q in
     ⊎_elim (λ some. some (sym s.exponent_same)) (λ many. omega (arith, few, many, ap length s.whole_same, ap (λ f. length (fraction_digits f)) s.fraction_same)) why
 
 decimal_is_text : (core : List ℕ) (n : Num) → IsDecimalNumber core n → IsDecimalText core
-decimal_is_text core n (sign, zeros, whole, fraction, p, few, first) = (sign, zeros, whole, fraction, [], p)
+decimal_is_text core n (sign, zeros, whole, fraction, p, (few, first)) = decimal_text_of core sign zeros whole fraction [] (plain_parts core sign zeros whole fraction p)
 
 unrepresentable_decimal_is_text : (core : List ℕ) → IsUnrepresentableDecimal core → IsDecimalText core
-unrepresentable_decimal_is_text core (sign, zeros, whole, fraction, exponent, p, why) = (sign, zeros, whole, fraction, exponent, p)
+unrepresentable_decimal_is_text core (sign, zeros, whole, fraction, exponent, p, why) = decimal_text_of core sign zeros whole fraction exponent p
 
 -- ---- hexadecimals
 
@@ -153,7 +155,7 @@ some_same m n e = cc
 hexadecimal_unique : (core : List ℕ) (m n : Num) → IsHexadecimalNumber core m → IsHexadecimalNumber core n → m ≡ n
 hexadecimal_unique core m n (sign, mark, whole, p, first) (other, letter, digits, q, second) =
     let s = same_hexadecimal core sign mark whole other letter digits None p q in
-    some_same m n (sym first ∙ ap (λ x. hexadecimal_number (is_minus x) (digits_value 16 whole)) s.sign_same ∙ ap (λ x. hexadecimal_number (is_minus other) (digits_value 16 x)) s.whole_same ∙ second)
+    some_same m n (sym first ∙ ap (λ x. hexadecimal_number (starts_with_minus x) (digits_value 16 whole)) s.sign_same ∙ ap (λ x. hexadecimal_number (starts_with_minus other) (digits_value 16 x)) s.whole_same ∙ second)
 
 no_number : (n : Num) → ◌≡◌ {A = Option Num} (Some n) None → ⊥
 no_number n e = absurd cc
@@ -162,7 +164,7 @@ hexadecimal_representable : (core : List ℕ) (n : Num) → IsHexadecimalNumber 
 hexadecimal_representable core n (sign, mark, whole, p, first) (other, letter, digits, behind, q, why) =
     let s = same_hexadecimal core sign mark whole other letter digits behind p q in
     ⊎_elim (λ some. some s.no_fraction)
-    (λ none. no_number n (sym first ∙ ap (λ x. hexadecimal_number (is_minus x) (digits_value 16 whole)) s.sign_same ∙ ap (λ x. hexadecimal_number (is_minus other) (digits_value 16 x)) s.whole_same ∙ none)) why
+    (λ none. no_number n (sym first ∙ ap (λ x. hexadecimal_number (starts_with_minus x) (digits_value 16 whole)) s.sign_same ∙ ap (λ x. hexadecimal_number (starts_with_minus other) (digits_value 16 x)) s.whole_same ∙ none)) why
 
 hexadecimal_is_text : (core : List ℕ) (n : Num) → IsHexadecimalNumber core n → IsHexadecimalText core
 hexadecimal_is_text core n (sign, mark, whole, p, first) = (sign, mark, whole, None, p)
@@ -209,6 +211,15 @@ extended_representable core n (inl p) (inr (inr q)) = no_decimal_word core (deci
 extended_representable core n (inr p) (inl q) = no_decimal_hexadecimal core (unrepresentable_decimal_is_text core q) (hexadecimal_is_text core n p)
 extended_representable core n (inr p) (inr (inl q)) = hexadecimal_representable core n p q
 extended_representable core n (inr p) (inr (inr q)) = no_hexadecimal_word core (hexadecimal_is_text core n p) q
+
+-- a text whose number no form holds has none
+pub extended_without_number : (core : List ℕ) → IsExtendedUnrepresentable core → IsExtendedText core × ((n : Num) → ¬ (IsExtendedNumber core n))
+extended_without_number core u = (is_text u, λ n number. extended_representable core n number u)
+  where
+    is_text : IsExtendedUnrepresentable core → IsExtendedText core
+    is_text (inl decimal) = inl (unrepresentable_decimal_is_text core decimal)
+    is_text (inr (inl hexadecimal)) = inr (inl (unrepresentable_hexadecimal_is_text core hexadecimal))
+    is_text (inr (inr word)) = inr (inr word)
 
 pub extended_is_text : (core : List ℕ) (n : Num) → IsExtendedNumber core n → IsExtendedText core
 extended_is_text core n (inl p) = inl (decimal_is_text core n p)

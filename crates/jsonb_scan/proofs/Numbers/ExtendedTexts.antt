@@ -8,13 +8,17 @@ use Rattle.std.proofs.lemmas.List.{append_assoc, take-append-drop, length-append
 use Rattle.std.proofs.lemmas.Str.{digit_value_digit}
 use Rattle.jsonb_spec.specs.Code.{Code, invalid_eof, invalid_number_value, expected_some_ident}
 use Rattle.jsonb_spec.specs.Grammar.StandardNumber.{IsSign}
-use Rattle.jsonb_spec.specs.Grammar.ExtendedNumber.{is_minus, fraction_text, IsDecimalText, IsHexadecimalText, IsWordText, Spells, IsExtendedNumber, IsExtendedUnrepresentable, IsExtendedText}
+use Rattle.jsonb_spec.specs.Grammar.ExtendedNumber.{IsDecimalText, IsHexadecimalText, IsWordText, IsExtendedNumber, IsExtendedText}
 use Rattle.jsonb_scan.specs.Reading.Number.{sign_end, ContinuesNumber}
 use Rattle.jsonb_scan.specs.Reading.ExtendedNumber.{Scanned, core_byte, ContinuesNumberExtended}
 use Rattle.jsonb_scan.proofs.Numbers.Steps.{differs}
 use Rattle.jsonb_scan.proofs.Numbers.Automaton.{DecimalStart, Digits, Dead, next, state_at, StopsAt, accepted_ends}
 use Rattle.jsonb_scan.proofs.Numbers.ScanStates.{alive_by}
 use Rattle.jsonb_scan.proofs.Numbers.DecimalStates.{decimal_accepted, decimal_due, before_alive, before_rejects}
+use Rattle.std.specs.Str.Parse.{starts_with_minus}
+use Rattle.jsonb_value.proofs.Numbers.Fractions.{fraction_text}
+use Rattle.jsonb_scan.proofs.Numbers.TextParts.{IsExtendedUnrepresentable}
+use Rattle.jsonb_scan.proofs.Scalars.WordLetters.{Spells}
 
 -- `n` or `i` in either case
 abbrev pub IsWordStart : ℕ → Type 0
@@ -49,7 +53,7 @@ ScansExtended bytes (Err f) = IsNumberCode f.0 × NoExtendedEnds bytes
 pub record HasCore (bytes sign : List ℕ) (c : ℕ) : Type 0 where
   pub end : sign_end bytes 0 ≡ length sign
   pub byte : core_byte bytes ≡ c
-  pub minus : is_minus bytes ≡ is_minus sign
+  pub minus : starts_with_minus bytes ≡ starts_with_minus sign
 
 no_sign : (c : ℕ) (r : List ℕ) → c ≢ 43 → c ≢ 45 → HasCore (c ∷ r) [] c
 no_sign c r plus minus =
@@ -68,7 +72,7 @@ spelled bytes sign k c r joined = sym (take-append-drop k bytes) ∙ (ap (λ z. 
 
 pub record SignFront (bytes : List ℕ) : Type 0 where
   pub is_sign : IsSign (take (sign_end bytes 0) bytes)
-  pub minus : is_minus (take (sign_end bytes 0) bytes) ≡ is_minus bytes
+  pub minus : starts_with_minus (take (sign_end bytes 0) bytes) ≡ starts_with_minus bytes
 
 pub sign_front : (bytes : List ℕ) → SignFront bytes
 sign_front [] = record { is_sign = inl refl; minus = refl }
@@ -80,7 +84,7 @@ sign_front (b ∷ bs) =
     let at : sign_end (b ∷ bs) 0 ≡ 0 = rw (p, m) refl in
     record {
       is_sign = subst (λ n. IsSign (take n (b ∷ bs))) (sym at) (inl refl);
-      minus = subst (λ n. is_minus (take n (b ∷ bs)) ≡ is_minus (b ∷ bs)) (sym at) (sym m);
+      minus = subst (λ n. starts_with_minus (take n (b ∷ bs)) ≡ starts_with_minus (b ∷ bs)) (sym at) (sym m);
     }) (cases_eq b 45)) (cases_eq b 43)
 
 -- ---- letters
@@ -106,11 +110,11 @@ pub record WordFound (bytes : List ℕ) (k : ℕ) : Type 0 where
   pub joined : bytes ≡ sign ++ (letters ++ drop k bytes)
   pub long : k ≤ length bytes → k ≡ length sign + length letters
   pub end : sign_end bytes 0 ≡ length sign
-  pub minus : is_minus bytes ≡ is_minus sign
-  pub kind : (Spells (codes "infinity") letters × (to_ascii_lowercase (core_byte bytes) ≡ 105)) ⊎ (Spells (codes "nan") letters × (is_minus sign ≡ false) × (to_ascii_lowercase (core_byte bytes) ≡ 110))
+  pub minus : starts_with_minus bytes ≡ starts_with_minus sign
+  pub kind : (Spells (codes "infinity") letters × (to_ascii_lowercase (core_byte bytes) ≡ 105)) ⊎ (Spells (codes "nan") letters × (starts_with_minus sign ≡ false) × (to_ascii_lowercase (core_byte bytes) ≡ 110))
 
 word_core : (bytes sign letters : List ℕ) (k c : ℕ) (word : List ℕ) → take k bytes ≡ sign ++ letters → IsSign sign → Spells (c ∷ word) letters → (c ≡ 110) ⊎ (c ≡ 105) →
-    (sign_end bytes 0 ≡ length sign) × (is_minus bytes ≡ is_minus sign) × (to_ascii_lowercase (core_byte bytes) ≡ c)
+    (sign_end bytes 0 ≡ length sign) × (starts_with_minus bytes ≡ starts_with_minus sign) × (to_ascii_lowercase (core_byte bytes) ≡ c)
 word_core bytes sign letters k c word joined is_sign spells letter =
     let f = first_letter c word letters spells in
     let large : 58 ≤ f.0 = letter_is f.0 (⊎_elim (λ e. inl (f.3 ∙ e)) (λ e. inr (f.3 ∙ e)) letter) in

@@ -1,5 +1,5 @@
 -- The form of a number, by its scale, precision and integer.
-use Rattle.std.proofs.Common.{◌≡◌, ◌≢◌, ℕ, ◌^◌, ◌<◌, ◌≤◌, Bool, true, false, zero, suc, refl, ⊎_elim, arith, ℤ, pos, neg_ℤ}
+use Rattle.std.proofs.Common.{◌≡◌, ◌≢◌, ℕ, ◌-◌, ◌^◌, ◌<◌, ◌≤◌, Bool, true, false, zero, suc, refl, ⊎_elim, arith, ℤ, pos, neg_ℤ}
 use Rattle.std.specs.Prelude.{◌==◌, nat_le, FitsSigned}
 use Rattle.std.specs.Int.{w64}
 use Rattle.std.proofs.lemmas.Bool.{cases_lt}
@@ -23,22 +23,22 @@ many_digits precision v large small =
 
 pub form_unsigned : (precision v : ℕ) (z : ℤ) → z ≡ pos v → v < 2 ^ 64 → ◌≡◌ {A = Num} (record { form = uint64; scale = 0; whole = pos v }) (decimal_number 0 precision z)
 unfolding decimal_form
-form_unsigned precision v z same small = rw (same, is_below v (2 ^ 64) small) refl
+form_unsigned precision v z same small = rw (same, at_most 0 v (omega arith), is_below v (2 ^ 64) small) refl
 
 pub form_signed : (precision v : ℕ) → 0 < v → v ≤ 2 ^ 63 → ◌≡◌ {A = Num} (record { form = int64; scale = 0; whole = neg_ℤ (pos v) }) (decimal_number 0 precision (neg_ℤ (pos v)))
 unfolding decimal_form
 form_signed precision zero some small = absurd (omega (arith, some))
-form_signed precision (suc v) some small = rw (is_below v (2 ^ 63) (omega (arith, small))) refl
+form_signed precision (suc v) some small = rw (at_most v (2 ^ 63 - 1) (omega (arith, small))) refl
 
 pub form_wide : (precision v : ℕ) → 2 ^ 63 < v → v < 10 ^ precision → ◌≡◌ {A = Num} (record { form = decimal128; scale = 0; whole = neg_ℤ (pos v) }) (decimal_number 0 precision (neg_ℤ (pos v)))
 unfolding decimal_form
 form_wide precision zero large small = absurd (omega (arith, large))
-form_wide precision (suc v) large small = rw (is_not_below v (2 ^ 63) (omega (arith, large)), not_at_most precision 18 (many_digits precision (suc v) (omega (arith, large)) small)) refl
+form_wide precision (suc v) large small = rw (not_at_most v (2 ^ 63 - 1) (omega (arith, large)), not_at_most precision 18 (many_digits precision (suc v) (omega (arith, large)) small)) refl
 
 pub form_wide_unsigned : (precision v : ℕ) → 2 ^ 64 ≤ v → v < 10 ^ precision → ◌≡◌ {A = Num} (record { form = decimal128; scale = 0; whole = pos v }) (decimal_number 0 precision (pos v))
 unfolding decimal_form
 form_wide_unsigned precision v large small =
-    rw (is_not_below v (2 ^ 64) large, is_not_below v (2 ^ 63) (omega (arith, large)), not_at_most precision 18 (many_digits precision v (omega (arith, large)) small)) refl
+    rw (at_most 0 v (omega arith), is_not_below v (2 ^ 64) large, is_not_below v 0 (omega arith), not_at_most precision 18 (many_digits precision v (omega (arith, large)) small)) refl
 
 pub form_wide_signed : (precision v : ℕ) (negative : Bool) → 2 ^ 64 ≤ v → v < 10 ^ precision → ◌≡◌ {A = Num} (record { form = decimal128; scale = 0; whole = signed_by negative v }) (decimal_number 0 precision (signed_by negative v))
 form_wide_signed precision v false large small = form_wide_unsigned precision v large small

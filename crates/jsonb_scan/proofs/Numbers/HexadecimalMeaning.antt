@@ -2,17 +2,18 @@
 use Rattle.std.proofs.Common.{◌≡◌, ◌≢◌, ◌⊎◌, ℕ, ◌+◌, ◌<◌, ◌≤◌, ◌^◌, Bool, Option, Some, None, List, ◌∷◌, ◌++◌, length, take, drop, refl, sym, subst, ap, ◌∙◌, inl, inr, ⊎_elim, arith, Ok, add-zero}
 use Rattle.std.specs.Prelude.{slice_index}
 use Rattle.std.specs.Char.{digit_value, to_ascii_lowercase}
-use Rattle.std.specs.Str.Parse.{AllDigits, digits_value}
+use Rattle.std.specs.Str.Parse.{AllDigits, digits_value, starts_with_minus}
 use Rattle.std.proofs.lemmas.Bool.{cases_eq, cases_lt}
 use Rattle.std.proofs.lemmas.List.{append_assoc, take-append-drop, length-append, length-take-le, drop_more, get_or-drop, take-append-le, take_all, get_or_past}
 use Rattle.jsonb_spec.specs.Grammar.StandardNumber.{IsSign}
-use Rattle.jsonb_spec.specs.Grammar.ExtendedNumber.{is_minus, fraction_text, hexadecimal_number, HasHexadecimalParts, IsExtendedText}
+use Rattle.jsonb_spec.specs.Grammar.ExtendedNumber.{hexadecimal_number, HasHexadecimalParts, IsExtendedText}
 use Rattle.jsonb_spec.specs.Tree.{Num}
 use Rattle.jsonb_scan.specs.Reading.ExtendedNumber.{invalid, core_byte, hexadecimal_length, hexadecimal_fits, fraction_scan, hexadecimal_scan, ContinuesNumberExtended}
 use Rattle.jsonb_scan.proofs.Numbers.HexadecimalAnswers.{without_number, taken_digits, fraction_without_digits, fraction_after_past, fraction_not_representable, fraction_past, hexadecimal_without_digits, hexadecimal_with_point, hexadecimal_past, hexadecimal_whole_at}
 use Rattle.jsonb_scan.proofs.Numbers.HexadecimalTexts.{IsHexadecimalScan, AreGood, scan_length, hexadecimal_ends}
 use Rattle.jsonb_scan.proofs.Numbers.ExtendedTexts.{IsWordStart, IsLongestExtended, NoExtendedEnds, ScansExtended, core_of, letter_is, word_found, found_letter, decimals_before_mark}
 use Rattle.jsonb_scan.proofs.Numbers.Steps.{is_below, is_not_below}
+use Rattle.jsonb_value.proofs.Numbers.Fractions.{fraction_text}
 
 -- ---- what can end where a hexadecimal begins
 
@@ -140,7 +141,7 @@ reads_fraction bytes sign mark rest place n m fits behind front start count some
     (cases_lt (digits_value 16 (take n rest)) (2 ^ 128))) (cases_eq m 0)
 
 reads_whole : (bytes sign : List ℕ) (mark : ℕ) (rest : List ℕ) (place n : ℕ) (r : Option Num) → IsHexadecimalFront bytes sign mark rest → place ≡ length sign + 2 →
-    n ≡ hexadecimal_length rest → n ≢ 0 → IsHexadecimalScan bytes sign mark (take n rest) None (drop n rest) → digits_value 16 (take n rest) < 2 ^ 128 → hexadecimal_number (is_minus sign) (digits_value 16 (take n rest)) ≡ r → ScansExtended bytes (Ok (r, place + n))
+    n ≡ hexadecimal_length rest → n ≢ 0 → IsHexadecimalScan bytes sign mark (take n rest) None (drop n rest) → digits_value 16 (take n rest) < 2 ^ 128 → hexadecimal_number (starts_with_minus sign) (digits_value 16 (take n rest)) ≡ r → ScansExtended bytes (Ok (r, place + n))
 reads_whole bytes sign mark rest place n r front start count some scan small number = by_number r number
   where
     good : AreGood (take n rest) None
@@ -152,7 +153,7 @@ reads_whole bytes sign mark rest place n r front start count some scan small num
     there : scan_length sign (take n rest) None ≡ place + n
     there = omega (arith, start, length-take-le n rest (omega (arith, count, (taken_digits rest).2)))
 
-    by_number : (o : Option Num) → hexadecimal_number (is_minus sign) (digits_value 16 (take n rest)) ≡ o → ScansExtended bytes (Ok (o, place + n))
+    by_number : (o : Option Num) → hexadecimal_number (starts_with_minus sign) (digits_value 16 (take n rest)) ≡ o → ScansExtended bytes (Ok (o, place + n))
     by_number None e = subst (λ k. ScansExtended bytes (Ok (None, k))) there (record {
       within = parts.0;
       text = inr (inl (sign, mark, take n rest, None, parts.1, inr e));
@@ -164,7 +165,7 @@ reads_whole bytes sign mark rest place n r front start count some scan small num
       longest = longest_in_scan bytes sign mark (take n rest) None (drop n rest) scan;
     })
 
-pub reads_hexadecimal : (bytes sign : List ℕ) (mark : ℕ) (rest : List ℕ) (place : ℕ) (negative : Bool) → IsHexadecimalFront bytes sign mark rest → place ≡ length sign + 2 → negative ≡ is_minus sign → ScansExtended bytes (hexadecimal_scan place negative rest)
+pub reads_hexadecimal : (bytes sign : List ℕ) (mark : ℕ) (rest : List ℕ) (place : ℕ) (negative : Bool) → IsHexadecimalFront bytes sign mark rest → place ≡ length sign + 2 → negative ≡ starts_with_minus sign → ScansExtended bytes (hexadecimal_scan place negative rest)
 reads_hexadecimal bytes sign mark rest place negative front start minus =
     ⊎_elim
     (λ empty. subst (ScansExtended bytes) (hexadecimal_without_digits place (hexadecimal_length rest) negative rest refl empty)

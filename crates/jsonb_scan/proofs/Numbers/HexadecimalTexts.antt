@@ -1,12 +1,13 @@
 -- Which numbers begin with a zero and an x after the sign.
-use Rattle.std.proofs.Common.{◌≡◌, ◌≢◌, ◌⊎◌, ℕ, ◌+◌, ◌<◌, ◌≤◌, Option, Some, None, List, [], ◌∷◌, ◌++◌, length, take, drop, refl, sym, subst, ap, ◌∙◌, inl, inr, ⊎_elim, arith, add-zero}
+use Rattle.std.proofs.Common.{◌≡◌, ◌≢◌, ◌⊎◌, ℕ, ◌+◌, ◌<◌, ◌≤◌, Option, Some, None, List, [], ◌∷◌, ◌++◌, length, take, drop, refl, sym, subst, ap, ◌∙◌, inl, inr, ⊎_elim, arith, add-zero, ◌^◌}
 use Rattle.std.specs.Prelude.{slice_index, IfSome}
 use Rattle.std.specs.Char.{digit_value, to_ascii_lowercase}
-use Rattle.std.specs.Str.Parse.{AllDigits, IsNumeral}
+use Rattle.std.specs.Str.Parse.{AllDigits, IsNumeral, digits_value}
 use Rattle.std.proofs.lemmas.List.{append_assoc, take-append-drop, length-append, length-take-le, get_or-drop}
 use Rattle.jsonb_spec.specs.Grammar.StandardNumber.{IsSign}
-use Rattle.jsonb_spec.specs.Grammar.ExtendedNumber.{fraction_digits, fraction_text, FitsHexadecimal, IsHexadecimalText}
+use Rattle.jsonb_spec.specs.Grammar.ExtendedNumber.{IsHexadecimalText}
 use Rattle.jsonb_scan.specs.Reading.ExtendedNumber.{ContinuesNumberExtended}
+use Rattle.jsonb_value.proofs.Numbers.Fractions.{fraction_digits, fraction_text}
 
 -- ---- runs of digits
 
@@ -52,8 +53,8 @@ scan_length sign whole fraction = length sign + (2 + (length whole + length (fra
 pub record AreGood (whole : List ℕ) (fraction : Option (List ℕ)) : Type 0 where
   pub are_digits : IsNumeral 16 whole
   pub digits_behind : IfSome fraction (IsNumeral 16)
-  pub whole_fits : FitsHexadecimal whole
-  pub fraction_fits : FitsHexadecimal (fraction_digits fraction)
+  pub whole_fits : digits_value 16 whole < 2 ^ 128
+  pub fraction_fits : digits_value 16 (fraction_digits fraction) < 2 ^ 128
 
 fraction_stops : (fraction : Option (List ℕ)) (after : List ℕ) → 16 ≤ digit_value (slice_index after 0) → 16 ≤ digit_value (slice_index (fraction_text fraction ++ after) 0)
 fraction_stops None after stops = stops
@@ -96,8 +97,8 @@ hexadecimal_ends bytes sign mark whole fraction after scan k within (sign', mark
       record {
         are_digits = subst (IsNumeral 16) all.0 parts.are_digits;
         digits_behind = subst (λ f. IfSome f (IsNumeral 16)) same parts.digits_behind;
-        whole_fits = subst FitsHexadecimal all.0 parts.whole_fits;
-        fraction_fits = subst (λ f. FitsHexadecimal (fraction_digits f)) same parts.fraction_fits;
+        whole_fits = subst (λ ds. digits_value 16 ds < 2 ^ 128) all.0 parts.whole_fits;
+        fraction_fits = subst (λ f. digits_value 16 (fraction_digits f) < 2 ^ 128) same parts.fraction_fits;
       },
     ))
     (λ shorter. inr (omega (arith, long, ap length front.0, ap length all.0, shorter.0), subst ContinuesNumberExtended (sym next_byte) shorter.1))

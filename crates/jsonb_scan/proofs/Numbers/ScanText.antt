@@ -11,12 +11,13 @@ use Rattle.std.proofs.lemmas.List.{take-append-drop, take-take, drop-take, drop-
 use Rattle.std.proofs.lemmas.Slice.{between_from_start}
 use Rattle.std.proofs.lemmas.List.Edits.{length-between, get_or-between, between_none}
 use Rattle.jsonb_spec.specs.Tree.{Num}
-use Rattle.jsonb_spec.specs.Grammar.StandardNumber.{IsWhole, IsFraction, IsSign, IsExponent, HasParts, IsInteger, IsStandardNumber, IsStandardUnrepresentable}
+use Rattle.jsonb_spec.specs.Grammar.StandardNumber.{IsWhole, IsFraction, IsSign, IsExponent, IsInteger, IsStandardNumber}
 use Rattle.jsonb_scan.specs.Reading.Number.{sign_end, has_minus, whole_start}
 use Rattle.jsonb_scan.proofs.Numbers.Steps.{sign_end_ge}
 use Rattle.jsonb_scan.proofs.Numbers.Scan.{IsDigitRun, IsFractionEnd, IsExponentEnd, IsScan}
 use Rattle.jsonb_scan.proofs.Numbers.Automaton.{Start, IsLongest, IsLongest-from_stop}
 use Rattle.jsonb_scan.proofs.Numbers.ScanStates.{due, whole_state, fraction_state, exponent_stop}
+use Rattle.jsonb_scan.proofs.Numbers.TextParts.{HasParts, IsStandardUnrepresentable, integer_joined}
 
 -- ---- parts of a list
 
@@ -149,11 +150,14 @@ scan_number_text bytes start whole fraction end n scan last is_integer =
     let f = fraction_within bytes whole fraction scan.digits.within scan.fraction_end in
     let e = exponent_within bytes fraction end f.1 scan.exponent_end in
     let no_fraction : slice_range bytes whole fraction ≡ [] = range_none bytes whole fraction (omega (arith, f, e, last)) in
-    let no_exponent : slice_range bytes fraction end ≡ [] = range_none bytes fraction end (omega (arith, f, e, last)) in (
+    let no_exponent : slice_range bytes fraction end ≡ [] = range_none bytes fraction end (omega (arith, f, e, last)) in
+    let alone : HasParts (take end bytes) (has_minus bytes) (slice_range bytes start whole) [] [] =
+    subst (λ r. HasParts (take end bytes) (has_minus bytes) (slice_range bytes start whole) [] r) no_exponent
+    (subst (λ r. HasParts (take end bytes) (has_minus bytes) (slice_range bytes start whole) r (slice_range bytes fraction end)) no_fraction parts) in (
       has_minus bytes,
       slice_range bytes start whole,
-      subst (λ r. HasParts (take end bytes) (has_minus bytes) (slice_range bytes start whole) [] r) no_exponent
-          (subst (λ r. HasParts (take end bytes) (has_minus bytes) (slice_range bytes start whole) r (slice_range bytes fraction end)) no_fraction parts),
+      integer_joined (take end bytes) (has_minus bytes) (slice_range bytes start whole) alone,
+      alone.is_whole,
       is_integer,
     )
 

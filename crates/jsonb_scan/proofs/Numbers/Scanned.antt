@@ -1,7 +1,7 @@
 -- What the code's scan of an extended number finds is what the specification finds.
 use Rattle.std.proofs.Common.{◌≡◌, ◌≢◌, ℕ, ◌+◌, ◌-◌, ◌*◌, ◌^◌, ◌<◌, ◌≤◌, Bool, true, false, ◌&&◌, Some, None, List, length, drop, refl, sym, subst, ap, ◌∙◌, inl, inr, ◌⊎◌, arith, Ok, Err}
 use Rattle.std.specs.Prelude.{slice_index, slice_range, ◌==◌, nat_lt, nat_le}
-use Rattle.std.specs.Str.Parse.{AllDigits, digits_value, digits_value_after}
+use Rattle.std.specs.Str.Parse.{AllDigits, digits_value, digits_value_after, starts_with_minus}
 use Rattle.std.proofs.lemmas.Bool.Decides.{nat_tests}
 use Rattle.std.proofs.lemmas.List.{length-drop, drop-drop}
 use Rattle.std.proofs.lemmas.List.Edits.{length-between}
@@ -9,7 +9,7 @@ use Rattle.std.proofs.lemmas.Nat.{pow-add}
 use Rattle.std.proofs.Math.Nat.{pow-le-pow_right, mul-le-mul_right}
 use Rattle.std.proofs.lemmas.Bool.{cond-false, cond-true}
 use Rattle.jsonb_spec.specs.Code.{Code, number_not_carried}
-use Rattle.jsonb_spec.specs.Grammar.ExtendedNumber.{is_minus, decimal_number}
+use Rattle.jsonb_spec.specs.Grammar.ExtendedNumber.{decimal_number}
 use Rattle.jsonb_spec.specs.Number.Signed.{signed_by}
 use Rattle.jsonb_spec.specs.Tree.{Num}
 use Rattle.jsonb_scan.specs.Reading.{fault}
@@ -207,8 +207,8 @@ representable bytes e end minus w m n are last few front back sign number =
     let value : m ≡ digits_value 10 (all_digits bytes) =
     back ∙ (ap (λ v. digits_value_after 10 v (slice_range bytes e.point_end e.behind_end)) first ∙ (ap (digits_value_after 10 (digits_value 10 (slice_range bytes (zeros_end bytes) (front_end bytes)))) behind
     ∙ (sym (value_after-append 0 (slice_range bytes (zeros_end bytes) (front_end bytes)) (slice_range bytes (point_end bytes) (behind_end bytes))) ∙ digits_value_same bytes (Some (slice_range bytes (point_end bytes) (behind_end bytes))) refl))) in
-    let same : n ≡ decimal_number (scale_at bytes) (precision_at bytes) (signed_by (is_minus bytes) (digits_value 10 (all_digits bytes))) =
+    let same : n ≡ decimal_number (scale_at bytes) (precision_at bytes) (signed_by (starts_with_minus bytes) (digits_value 10 (all_digits bytes))) =
     number ∙ (ap (λ s. decimal_number s (e.front_end - e.zeros_end + (e.behind_end - e.point_end)) (signed_by (minus == 45) m)) scale
     ∙ (ap (λ q. decimal_number (scale_at bytes) q (signed_by (minus == 45) m)) precise
-    ∙ (ap (λ c. decimal_number (scale_at bytes) (precision_at bytes) (signed_by (c == 45) m)) sign ∙ ap (λ v. decimal_number (scale_at bytes) (precision_at bytes) (signed_by (is_minus bytes) v)) value))) in
+    ∙ (ap (λ c. decimal_number (scale_at bytes) (precision_at bytes) (signed_by (c == 45) m)) sign ∙ ap (λ v. decimal_number (scale_at bytes) (precision_at bytes) (signed_by (starts_with_minus bytes) v)) value))) in
     rw (test, tested) (ap Some same)

@@ -3,13 +3,13 @@ use Rattle.std.proofs.Common.{◌≡◌, ◌≢◌, ◌⊎◌, ℕ, ◌+◌, ◌
 use Rattle.std.specs.Prelude.{slice_index, slice_range, ◌==◌, nat_lt, nat_le}
 use Rattle.std.specs.Char.{to_ascii_lowercase}
 use Rattle.std.specs.Int.{IsInRange}
-use Rattle.std.specs.Str.Parse.{digits_value, digits_value_after}
+use Rattle.std.specs.Str.Parse.{digits_value, digits_value_after, starts_with_minus}
 use Rattle.std.proofs.lemmas.Bool.{cases_Bool, cases_lt, cond-false, cond-true, and_parts}
 use Rattle.std.proofs.lemmas.Bool.Decides.{nat_tests}
 use Rattle.std.proofs.lemmas.List.{append-nil, length-append}
 use Rattle.std.proofs.lemmas.List.Edits.{length-between}
 use Rattle.jsonb_spec.specs.Grammar.StandardNumber.{IsExponentMark}
-use Rattle.jsonb_spec.specs.Grammar.ExtendedNumber.{is_minus, decimal_number}
+use Rattle.jsonb_spec.specs.Grammar.ExtendedNumber.{decimal_number}
 use Rattle.jsonb_spec.specs.Number.Signed.{signed_by}
 use Rattle.jsonb_spec.specs.Tree.{Num}
 use Rattle.jsonb_scan.specs.Reading.Number.{ContinuesAfterInteger, digits_length, digits_from, sign_end}
@@ -86,7 +86,7 @@ unfolding decimal_end
 plain_end bytes p =
     cond-false (lacks_digits bytes) _ _ (digits_tested bytes p.has_digits) ∙ (cond-false (has_second_point bytes) _ _ p.once ∙ no_exponent bytes (behind_end bytes) p.no_exponent_mark)
 
-plain_at : (bytes : List ℕ) → IsPlain bytes → decimal_at bytes (behind_end bytes) ≡ Some (decimal_number (scale_at bytes) (precision_at bytes) (signed_by (is_minus bytes) (digits_value 10 (all_digits bytes))))
+plain_at : (bytes : List ℕ) → IsPlain bytes → decimal_at bytes (behind_end bytes) ≡ Some (decimal_number (scale_at bytes) (precision_at bytes) (signed_by (starts_with_minus bytes) (digits_value 10 (all_digits bytes))))
 unfolding decimal_at
 plain_at bytes p =
     let here : (behind_end bytes == behind_end bytes) ≡ true = grind (arith, nat_tests) in
@@ -94,7 +94,7 @@ plain_at bytes p =
     let small : nat_le (precision_at bytes) 38 ≡ true = grind (arith, nat_tests) in
     rw (here, small) refl
 
-plain_decimal : (bytes : List ℕ) → IsPlain bytes → extended_scan bytes ≡ Ok (Some (decimal_number (scale_at bytes) (precision_at bytes) (signed_by (is_minus bytes) (digits_value 10 (all_digits bytes)))), behind_end bytes)
+plain_decimal : (bytes : List ℕ) → IsPlain bytes → extended_scan bytes ≡ Ok (Some (decimal_number (scale_at bytes) (precision_at bytes) (signed_by (starts_with_minus bytes) (digits_value 10 (all_digits bytes)))), behind_end bytes)
 unfolding decimal_scan
 plain_decimal bytes p =
     scan_decimal bytes (no_word bytes p.no_mark) (no_hexadecimal bytes p.no_mark) ∙ (ap (decimal_to bytes) (plain_end bytes p) ∙ ap (λ o. Ok (o, behind_end bytes)) (plain_at bytes p))
@@ -145,9 +145,9 @@ short_whole bytes start len value next minus n f some few byte no_point stops si
       few = omega (arith, none, end, f.start_is, few, (core_zeros bytes).ordered);
     } in
     let small : value < 10 ^ precision_at bytes = omega (arith, value_small bytes, value_all) in
-    let same : n ≡ decimal_number (scale_at bytes) (precision_at bytes) (signed_by (is_minus bytes) (digits_value 10 (all_digits bytes))) =
+    let same : n ≡ decimal_number (scale_at bytes) (precision_at bytes) (signed_by (starts_with_minus bytes) (digits_value 10 (all_digits bytes))) =
     number (precision_at bytes) small ∙ (ap (λ s. decimal_number s (precision_at bytes) (signed_by (minus == 45) value)) (sym none)
-    ∙ (ap (λ b. decimal_number (scale_at bytes) (precision_at bytes) (signed_by (b == 45) value)) sign ∙ ap (λ v. decimal_number (scale_at bytes) (precision_at bytes) (signed_by (is_minus bytes) v)) value_all)) in
+    ∙ (ap (λ b. decimal_number (scale_at bytes) (precision_at bytes) (signed_by (b == 45) value)) sign ∙ ap (λ v. decimal_number (scale_at bytes) (precision_at bytes) (signed_by (starts_with_minus bytes) v)) value_all)) in
     plain_decimal bytes plain ∙ (ap (λ m. Ok (Some m, behind_end bytes)) (sym same) ∙ ap (λ i. Ok (Some n, i)) (ends.1 ∙ sym end))
 
 pub whole_within : (bytes : List ℕ) (start len value : ℕ) → FrontRead bytes start len value → start + len ≤ length bytes
@@ -210,9 +210,9 @@ short_behind bytes start len value total all next minus n b some few byte stops 
       few = omega (arith, precise, few);
     } in
     let small : all < 10 ^ precision_at bytes = omega (arith, value_small bytes, b.all_is) in
-    let same : n ≡ decimal_number (scale_at bytes) (precision_at bytes) (signed_by (is_minus bytes) (digits_value 10 (all_digits bytes))) =
+    let same : n ≡ decimal_number (scale_at bytes) (precision_at bytes) (signed_by (starts_with_minus bytes) (digits_value 10 (all_digits bytes))) =
     number (precision_at bytes) (omega (arith, precise, few)) small ∙ (ap (λ s. decimal_number s (precision_at bytes) (signed_by (minus == 45) all)) scale
-    ∙ (ap (λ c. decimal_number (scale_at bytes) (precision_at bytes) (signed_by (c == 45) all)) sign ∙ ap (λ v. decimal_number (scale_at bytes) (precision_at bytes) (signed_by (is_minus bytes) v)) b.all_is)) in
+    ∙ (ap (λ c. decimal_number (scale_at bytes) (precision_at bytes) (signed_by (c == 45) all)) sign ∙ ap (λ v. decimal_number (scale_at bytes) (precision_at bytes) (signed_by (starts_with_minus bytes) v)) b.all_is)) in
     plain_decimal bytes plain ∙ (ap (λ m. Ok (Some m, behind_end bytes)) (sym same) ∙ ap (λ i. Ok (Some n, i)) (sym last))
   where
     not_again : (x y z : Bool) → z ≡ false → (x && (y && z)) ≡ false

@@ -8,13 +8,16 @@ use Rattle.std.proofs.lemmas.List.{take-append-drop, length-append, length-drop,
 use Rattle.std.proofs.Math.Seq.{take-append_seam, drop-append_seam}
 use Rattle.jsonb_spec.specs.Code.{invalid_number_value, number_not_carried}
 use Rattle.jsonb_spec.specs.Tree.{Num}
-use Rattle.jsonb_spec.specs.Grammar.StandardNumber.{IsWhole, IsFraction, IsExponent, HasParts, IsNumberText, IsInteger, IsStandardNumber, IsStandardUnrepresentable}
+use Rattle.jsonb_spec.specs.Grammar.StandardNumber.{IsWhole, IsFraction, IsExponent, IsInteger, IsStandardNumber, IsStandardText}
 use Rattle.jsonb_scan.specs.Reading.{Fault, Read}
 use Rattle.jsonb_scan.specs.Reading.Number.{ContinuesAfterInteger, ContinuesNumber, IsNumberBoundary, is_number_start, End, standard_end, integer_at, representable_at, number_to, standard_number_at}
 use Rattle.jsonb_scan.proofs.Numbers.Steps.{is_digit, read_fault}
 use Rattle.jsonb_scan.proofs.Numbers.Automaton.{NoneEnds, IsLongest}
 use Rattle.jsonb_scan.proofs.Numbers.ScanText.{scan_longest, scan_end_within}
 use Rattle.jsonb_scan.proofs.Numbers.Ends.{scanned, none_ends, number_at_end}
+use Rattle.jsonb_scan.proofs.Numbers.TextParts.{HasParts, IsStandardUnrepresentable, parts_of, standard_text_of, integer_parts}
+use Rattle.jsonb_spec.specs.Grammar.Scalar.{IsUnrepresentable}
+use Rattle.jsonb_spec.specs.Mode.{standard}
 
 -- ---- how a number text begins
 
@@ -29,9 +32,9 @@ whole_first : (whole : List ℕ) → IsWhole whole → (c : ℕ) × (cs : List �
 whole_first [] w = absurd (omega (arith, w.digits.0))
 whole_first (c ∷ cs) w = (c, cs, refl, digit_from_value c w.digits.1.0)
 
-pub text_starts : (core : List ℕ) → IsNumberText core → NumberStart core
-text_starts core (true, whole, fraction, exponent, parts) = record { first = 45; others = whole ++ (fraction ++ exponent); whole = parts.joined; start = refl }
-text_starts core (false, whole, fraction, exponent, parts) =
+parts_start : (core : List ℕ) (negative : Bool) (whole fraction exponent : List ℕ) → HasParts core negative whole fraction exponent → NumberStart core
+parts_start core true whole fraction exponent parts = record { first = 45; others = whole ++ (fraction ++ exponent); whole = parts.joined; start = refl }
+parts_start core false whole fraction exponent parts =
     let begun = whole_first whole parts.is_whole in
     record {
       first = begun.0;
@@ -40,8 +43,11 @@ text_starts core (false, whole, fraction, exponent, parts) =
       start = rw (is_digit begun.0 begun.3) refl;
     }
 
-pub standard_is_text : (core : List ℕ) (n : Num) → IsStandardNumber core n → IsNumberText core
-standard_is_text core n (negative, whole, parts, is_integer) = (negative, whole, [], [], parts)
+pub text_starts : (core : List ℕ) → IsStandardText core → NumberStart core
+text_starts core t = parts_start core t.negative t.whole t.fraction t.exponent (parts_of core t)
+
+pub standard_is_text : (core : List ℕ) (n : Num) → IsStandardNumber core n → IsStandardText core
+standard_is_text core n (negative, whole, joined, is_whole, is_integer) = standard_text_of core negative whole [] [] (integer_parts core negative whole joined is_whole)
 
 pub number_starts : (core : List ℕ) (n : Num) → IsStandardNumber core n → NumberStart core
 number_starts core n number = text_starts core (standard_is_text core n number)
@@ -105,23 +111,30 @@ same_parts core false true whole digits fraction exponent first second =
 
 -- a text has one number
 pub number_unique : (core : List ℕ) (m n : Num) → IsStandardNumber core m → IsStandardNumber core n → m ≡ n
-number_unique core m n (negative, whole, parts, is_integer) (other, digits, others, is_other) =
-    let same = same_parts core negative other whole digits [] [] parts others in
+number_unique core m n (negative, whole, joined, is_whole, is_integer) (other, digits, joined', is_digits, is_other) =
+    let same = same_parts core negative other whole digits [] [] (integer_parts core negative whole joined is_whole) (integer_parts core other digits joined' is_digits) in
     let moved : IsInteger negative (digits_value 10 whole) n = subst (λ ds. IsInteger negative (digits_value 10 ds) n) (sym same.whole_same) (subst (λ b. IsInteger b (digits_value 10 digits) n) (sym same.sign) is_other) in
     integer_unique negative (digits_value 10 whole) m n is_integer moved
 
 -- a text with a number is representable
 pub number_representable : (core : List ℕ) (n : Num) → IsStandardNumber core n → IsStandardUnrepresentable core → ⊥
-number_representable core n (negative, whole, parts, is_integer) (other, digits, fraction, exponent, others, why) =
-    let same = same_parts core negative other whole digits fraction exponent parts others in
+number_representable core n (negative, whole, joined, is_whole, is_integer) (other, digits, fraction, exponent, others, why) =
+    let same = same_parts core negative other whole digits fraction exponent (integer_parts core negative whole joined is_whole) others in
     ⊎_elim (λ more. more same.no_tail)
     (λ none. none n (subst (λ ds. IsInteger other (digits_value 10 ds) n) same.whole_same (subst (λ b. IsInteger b (digits_value 10 whole) n) same.sign is_integer))) why
+
+-- a text whose number no form holds has none
+standard_without_number : (core : List ℕ) → IsStandardUnrepresentable core → IsStandardText core × ((n : Num) → ¬ (IsStandardNumber core n))
+standard_without_number core u = (is_text u, λ n number. number_representable core n number u)
+  where
+    is_text : IsStandardUnrepresentable core → IsStandardText core
+    is_text (negative, whole, fraction, exponent, parts, why) = standard_text_of core negative whole fraction exponent parts
 
 -- ---- what reading finds
 
 -- No beginning of the bytes that is longer than what comes before the rest is a number text.
 abbrev pub NoLongerText : List ℕ → List ℕ → Type 0
-NoLongerText bytes rest = (longer after : List ℕ) → bytes ≡ longer ++ after → length after < length rest → ¬ IsNumberText longer
+NoLongerText bytes rest = (longer after : List ℕ) → bytes ≡ longer ++ after → length after < length rest → ¬ IsStandardText longer
 
 no_longer : (bytes : List ℕ) (end : ℕ) → end ≤ length bytes → IsLongest bytes end → NoLongerText bytes (drop end bytes)
 no_longer bytes end within longest longer after joined short text =
@@ -129,7 +142,7 @@ no_longer bytes end within longest longer after joined short text =
     let front : take (length longer) bytes ≡ longer = ap (take (length longer)) joined ∙ take-append_seam longer after in
     ⊎_elim (λ same. omega (arith, same, total, short, length-drop end bytes))
     (λ before. omega (arith, before.0, total, short, length-drop end bytes))
-    (longest (length longer) (omega (arith, total)) (subst IsNumberText (sym front) text))
+    (longest (length longer) (omega (arith, total)) (subst IsStandardText (sym front) text))
 
 -- where a text ends, with what its number is
 record ReadTo (size : ℕ) (bytes : List ℕ) (end : ℕ) : Type 0 where
@@ -161,13 +174,13 @@ pub record UnrepresentableRead (size : ℕ) (bytes : List ℕ) (place : ℕ) : T
   pub text : List ℕ
   pub rest : List ℕ
   pub joined : bytes ≡ text ++ rest
-  pub unrepresentable : IsStandardUnrepresentable text
+  pub unrepresentable : IsUnrepresentable standard text
   pub place_is : place ≡ size - length rest
   pub longest : NoLongerText bytes rest
 
 -- no number text can end here
 abbrev pub NoNumberEnds : List ℕ → Type 0
-NoNumberEnds bytes = (core after : List ℕ) → bytes ≡ core ++ after → IsNumberText core → ¬ IsNumberBoundary after
+NoNumberEnds bytes = (core after : List ℕ) → bytes ≡ core ++ after → IsStandardText core → ¬ IsNumberBoundary after
 
 -- what a fault of reading says
 pub data FaultRead (size : ℕ) (bytes : List ℕ) (f : Fault) : Type 0 where
@@ -184,7 +197,7 @@ nothing_ends : (bytes : List ℕ) → NoneEnds bytes → NoNumberEnds bytes
 nothing_ends bytes none core after joined text ends =
     let total : length bytes ≡ length core + length after = ap length joined ∙ length-append core after in
     let front : take (length core) bytes ≡ core = ap (take (length core)) joined ∙ take-append_seam core after in
-    stops_after core after ends (subst (λ xs. ContinuesNumber (slice_index xs (length core))) joined (none (length core) (omega (arith, total)) (subst IsNumberText (sym front) text)))
+    stops_after core after ends (subst (λ xs. ContinuesNumber (slice_index xs (length core))) joined (none (length core) (omega (arith, total)) (subst IsStandardText (sym front) text)))
 
 -- what reading answers, by the end that was found
 abbrev IsAnswer : ℕ → List ℕ → Read Num → Type 0
@@ -202,7 +215,7 @@ representable_answer size end bytes None within longest unrepresentable = not_re
   text = take end bytes;
   rest = drop end bytes;
   joined = sym (take-append-drop end bytes);
-  unrepresentable = unrepresentable;
+  unrepresentable = standard_without_number (take end bytes) unrepresentable;
   place_is = refl;
   longest = no_longer bytes end within longest;
 })
@@ -234,8 +247,8 @@ number_faults size bytes f at = answer_is size bytes (Err f) at
 pub number_complete : (size : ℕ) (core rest : List ℕ) (n : Num) → IsStandardNumber core n → IsNumberBoundary rest → standard_number_at size (core ++ rest) ≡ Ok (n, rest)
 number_complete size core rest n number ends = by_end (standard_end (core ++ rest)) refl
   where
-    text : IsNumberText (take (length core) (core ++ rest))
-    text = subst IsNumberText (sym (take-append_seam core rest)) (standard_is_text core n number)
+    text : IsStandardText (take (length core) (core ++ rest))
+    text = subst IsStandardText (sym (take-append_seam core rest)) (standard_is_text core n number)
 
     within : length core ≤ length (core ++ rest)
     within = omega (arith, length-append core rest)

@@ -6,8 +6,11 @@ use Rattle.std.proofs.lemmas.Bool.Decides.{nat_tests}
 use Rattle.std.specs.Char.{to_ascii_lowercase}
 use Rattle.std.proofs.lemmas.List.{drop_more, drop_all}
 use Rattle.jsonb_spec.specs.Code.{Code, invalid_eof, expected_some_ident}
-use Rattle.jsonb_spec.specs.Grammar.ExtendedNumber.{Spells}
 use Rattle.jsonb_scan.specs.Reading.ExtendedNumber.{spelled_from, word_scan, unrepresentable_word, invalid_word}
+
+-- the letters spell the word, each in either case
+abbrev pub Spells : List ℕ → List ℕ → Type 0
+Spells word letters = map to_ascii_lowercase letters ≡ word
 
 -- the index after a word, or a fault and its place
 abbrev pub Letters : Type 0

@@ -5,11 +5,12 @@ use Rattle.std.specs.Char.{to_ascii_lowercase}
 use Rattle.std.proofs.lemmas.Bool.{cases_eq, cases_Bool, false≢true}
 use Rattle.std.proofs.lemmas.List.{append_assoc, take-append-drop, length-append, length-take-le, length-map, get_or-drop, drop-append-le, drop_all, take-append-le, take_all}
 use Rattle.jsonb_spec.specs.Code.{Code}
-use Rattle.jsonb_spec.specs.Grammar.ExtendedNumber.{is_minus, Spells, IsNumberWord, IsExtendedText}
+use Rattle.jsonb_spec.specs.Grammar.ExtendedNumber.{IsNumberWord, IsExtendedText}
 use Rattle.jsonb_scan.specs.Reading.Number.{sign_end}
 use Rattle.jsonb_scan.specs.Reading.ExtendedNumber.{core_byte, spelled_from, word_scan, unrepresentable_word, invalid_word, ContinuesNumberExtended}
-use Rattle.jsonb_scan.proofs.Scalars.WordLetters.{Letters, IsWordCode, WordAnswer, word_answer, words_nan_minus, words_nan_plus, words_infinity}
+use Rattle.jsonb_scan.proofs.Scalars.WordLetters.{Letters, IsWordCode, WordAnswer, word_answer, words_nan_minus, words_nan_plus, words_infinity, Spells}
 use Rattle.jsonb_scan.proofs.Numbers.ExtendedTexts.{IsWordStart, NoExtendedEnds, IsNumberCode, ScansExtended, letter_is, sign_front, WordFound, word_found, hexadecimal_core, decimals_before_letter}
+use Rattle.std.specs.Str.Parse.{starts_with_minus}
 
 -- where a word begins, and the words that may
 pub record IsWordFront (bytes : List ℕ) : Type 0 where
@@ -61,7 +62,7 @@ rejects_letters : (bytes : List ℕ) (place : ℕ) (word rest : List ℕ) → No
 rejects_letters bytes place word rest none (Ok end) h = (inl refl, none)
 rejects_letters bytes place word rest none (Err f) h = (word_code f.0 h.0, none)
 
-only_nan : (bytes : List ℕ) (k : ℕ) (f : WordFound bytes k) → to_ascii_lowercase (core_byte bytes) ≡ 110 → Spells (codes "nan") f.letters × (is_minus bytes ≡ false)
+only_nan : (bytes : List ℕ) (k : ℕ) (f : WordFound bytes k) → to_ascii_lowercase (core_byte bytes) ≡ 110 → Spells (codes "nan") f.letters × (starts_with_minus bytes ≡ false)
 only_nan bytes k f n = ⊎_elim (λ i. absurd (omega (arith, i.1, n))) (λ nan. (nan.0, f.minus ∙ nan.1)) f.kind
 
 only_infinity : (bytes : List ℕ) (k : ℕ) (f : WordFound bytes k) → to_ascii_lowercase (core_byte bytes) ≢ 110 → Spells (codes "infinity") f.letters
@@ -70,15 +71,15 @@ only_infinity bytes k f other = ⊎_elim (λ i. i.0) (λ nan. absurd (other nan.
 first_byte : (bytes : List ℕ) → slice_index (drop (sign_end bytes 0) bytes) 0 ≡ core_byte bytes
 first_byte bytes = get_or-drop (sign_end bytes 0) bytes 0 0 ∙ ap (slice_index bytes) (add-zero (sign_end bytes 0))
 
-pub reads_word : (bytes : List ℕ) → IsWordFront bytes → ScansExtended bytes (word_scan (sign_end bytes 0) (is_minus bytes) (drop (sign_end bytes 0) bytes))
+pub reads_word : (bytes : List ℕ) → IsWordFront bytes → ScansExtended bytes (word_scan (sign_end bytes 0) (starts_with_minus bytes) (drop (sign_end bytes 0) bytes))
 reads_word bytes front =
     ⊎_elim
     (λ n. let letter : to_ascii_lowercase (slice_index (drop (sign_end bytes 0) bytes) 0) ≡ 110 = ap to_ascii_lowercase (first_byte bytes) ∙ n in
     ⊎_elim
-    (λ minus. subst (ScansExtended bytes) (sym (words_nan_minus (sign_end bytes 0) (is_minus bytes) (drop (sign_end bytes 0) bytes) letter minus))
+    (λ minus. subst (ScansExtended bytes) (sym (words_nan_minus (sign_end bytes 0) (starts_with_minus bytes) (drop (sign_end bytes 0) bytes) letter minus))
     (rejects_letters bytes (sign_end bytes 0) (codes "nan") (drop (sign_end bytes 0) bytes) (none_in_word bytes front (λ k f. false≢true (sym (only_nan bytes k f n).1 ∙ minus))) (spelled_from (sign_end bytes 0) (codes "nan") (drop (sign_end bytes 0) bytes)) (word_answer (sign_end bytes 0) (codes "nan") (drop (sign_end bytes 0) bytes))))
-    (λ plus. subst (ScansExtended bytes) (sym (words_nan_plus (sign_end bytes 0) (is_minus bytes) (drop (sign_end bytes 0) bytes) letter plus))
-    (reads_letters bytes (codes "nan") front (λ k f. (only_nan bytes k f n).0) (λ letters spells. inr (spells, (sign_front bytes).minus ∙ plus)) (spelled_from (sign_end bytes 0) (codes "nan") (drop (sign_end bytes 0) bytes)) (word_answer (sign_end bytes 0) (codes "nan") (drop (sign_end bytes 0) bytes)))) (cases_Bool (is_minus bytes)))
-    (λ other. subst (ScansExtended bytes) (sym (words_infinity (sign_end bytes 0) (is_minus bytes) (drop (sign_end bytes 0) bytes) (λ n. other (sym (ap to_ascii_lowercase (first_byte bytes)) ∙ n))))
+    (λ plus. subst (ScansExtended bytes) (sym (words_nan_plus (sign_end bytes 0) (starts_with_minus bytes) (drop (sign_end bytes 0) bytes) letter plus))
+    (reads_letters bytes (codes "nan") front (λ k f. (only_nan bytes k f n).0) (λ letters spells. inr (spells, (sign_front bytes).minus ∙ plus)) (spelled_from (sign_end bytes 0) (codes "nan") (drop (sign_end bytes 0) bytes)) (word_answer (sign_end bytes 0) (codes "nan") (drop (sign_end bytes 0) bytes)))) (cases_Bool (starts_with_minus bytes)))
+    (λ other. subst (ScansExtended bytes) (sym (words_infinity (sign_end bytes 0) (starts_with_minus bytes) (drop (sign_end bytes 0) bytes) (λ n. other (sym (ap to_ascii_lowercase (first_byte bytes)) ∙ n))))
     (reads_letters bytes (codes "infinity") front (λ k f. only_infinity bytes k f other) (λ letters spells. inl spells) (spelled_from (sign_end bytes 0) (codes "infinity") (drop (sign_end bytes 0) bytes)) (word_answer (sign_end bytes 0) (codes "infinity") (drop (sign_end bytes 0) bytes))))
     (cases_eq (to_ascii_lowercase (core_byte bytes)) 110)

@@ -2,10 +2,10 @@
 use Rattle.std.specs.Prelude.{◌≡◌, ⊤, ◌⊎◌, ℕ, ◌+◌, ◌-◌, ◌<◌, ◌^◌, ◌==◌, ◌||◌, ◌&&◌, Bool, List, [], ◌∷◌, ◌++◌, take, drop, length, codes, nat_lt, nat_le, slice_index, slice_range, if◌then◌else◌, Option, Some, None, Result, Ok, Err}
 use Rattle.std.specs.Char.{digit_value, to_ascii_lowercase}
 use Rattle.std.specs.List.{prefix_len}
-use Rattle.std.specs.Str.Parse.{digits_value}
+use Rattle.std.specs.Str.Parse.{digits_value, starts_with_minus}
 use Rattle.jsonb_spec.specs.Ascii as ascii
 use Rattle.jsonb_spec.specs.Code.{Code, invalid_eof, invalid_number_value, expected_some_ident}
-use Rattle.jsonb_spec.specs.Grammar.ExtendedNumber.{is_minus, decimal_number, hexadecimal_number}
+use Rattle.jsonb_spec.specs.Grammar.ExtendedNumber.{decimal_number, hexadecimal_number}
 use Rattle.jsonb_spec.specs.Number.Signed.{signed_by}
 use Rattle.jsonb_spec.specs.Tree.{Num}
 use Rattle.jsonb_scan.specs.Reading.{Read, fault}
@@ -93,7 +93,7 @@ decimal_at bytes end =
     if (behind_end bytes == end) && nat_le (precision_at bytes) 38
     then Some
     (decimal_number (scale_at bytes) (precision_at bytes)
-    (signed_by (is_minus bytes) (digits_value 10 (all_digits bytes)))) else None
+    (signed_by (starts_with_minus bytes) (digits_value 10 (all_digits bytes)))) else None
 
 abbrev pub decimal_to : List ℕ → End → Scanned
 decimal_to bytes (Ok end) = Ok (decimal_at bytes end, end)
@@ -184,9 +184,9 @@ is_hexadecimal_start bytes = hexadecimal_starts bytes (core_start bytes)
 unfoldable pub extended_scan : List ℕ → Scanned
 extended_scan bytes =
     if is_word_start (core_byte bytes)
-    then word_scan (core_start bytes) (is_minus bytes) (drop (core_start bytes) bytes)
+    then word_scan (core_start bytes) (starts_with_minus bytes) (drop (core_start bytes) bytes)
     else (if is_hexadecimal_start bytes
-    then hexadecimal_scan (core_start bytes + 2) (is_minus bytes) (drop (core_start bytes + 2) bytes)
+    then hexadecimal_scan (core_start bytes + 2) (starts_with_minus bytes) (drop (core_start bytes + 2) bytes)
     else decimal_scan bytes)
 
 -- the number of the longest extended number text that the bytes begin with

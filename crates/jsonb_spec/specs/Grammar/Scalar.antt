@@ -1,17 +1,18 @@
 -- Literals, quotes, numbers and keys, by mode.
-use Rattle.std.specs.Prelude.{◌≡◌, ◌⊎◌, ℕ, true, false, List, codes}
+use Rattle.std.specs.Prelude.{◌≡◌, ◌⊎◌, ℕ, true, false, List, codes, map}
+use Rattle.std.specs.Char.{to_ascii_lowercase}
 use Rattle.jsonb_spec.specs.Ascii as ascii
 use Rattle.jsonb_spec.specs.Grammar.BareKey.{IsBareKey}
-use Rattle.jsonb_spec.specs.Grammar.ExtendedNumber.{Spells, IsExtendedNumber, IsExtendedUnrepresentable}
+use Rattle.jsonb_spec.specs.Grammar.ExtendedNumber.{IsExtendedNumber, IsExtendedText}
 use Rattle.jsonb_spec.specs.Mode.{Mode, standard, extended}
 use Rattle.jsonb_spec.specs.Tree.{Mark, plain, Num, Tree, null, boolean, string, number}
 use Rattle.jsonb_spec.specs.Grammar.Quoted.{Quoted}
-use Rattle.jsonb_spec.specs.Grammar.StandardNumber.{IsStandardNumber, IsStandardUnrepresentable}
+use Rattle.jsonb_spec.specs.Grammar.StandardNumber.{IsStandardNumber, IsStandardText}
 
 -- the letters of a word: in lower case, or in extended mode each in either case
 abbrev pub IsWord : Mode → List ℕ → List ℕ → Type 0
 IsWord standard word letters = letters ≡ word
-IsWord extended word letters = Spells word letters
+IsWord extended word letters = map to_ascii_lowercase letters ≡ word
 
 -- a word: `null`, `true` or `false` (RFC 8259, section 3, has them in lower case)
 pub data IsLiteral (mode : Mode) : List ℕ → Tree → Type 0 where
@@ -29,10 +30,14 @@ abbrev pub IsNumber : Mode → List ℕ → Num → Type 0
 IsNumber standard bytes n = IsStandardNumber bytes n
 IsNumber extended bytes n = IsExtendedNumber bytes n
 
+-- the bytes are a number text, representable or not
+abbrev pub IsNumberText : Mode → List ℕ → Type 0
+IsNumberText standard bytes = IsStandardText bytes
+IsNumberText extended bytes = IsExtendedText bytes
+
 -- the bytes are a number text whose number no tree has
 abbrev pub IsUnrepresentable : Mode → List ℕ → Type 0
-IsUnrepresentable standard bytes = IsStandardUnrepresentable bytes
-IsUnrepresentable extended bytes = IsExtendedUnrepresentable bytes
+IsUnrepresentable mode bytes = IsNumberText mode bytes × ((n : Num) → ¬ (IsNumber mode bytes n))
 
 -- a word, a string in quotes or a number
 pub data IsScalar (mode : Mode) : List ℕ → Tree → Type 0 where

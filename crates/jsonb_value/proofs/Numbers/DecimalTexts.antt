@@ -11,10 +11,11 @@ use Rattle.jsonb_spec.specs.Tree.{Num}
 use Rattle.jsonb_spec.specs.Number.Signed.{signed_by}
 use Rattle.jsonb_spec.specs.Text.NumberText.{text_of_parts, with_point, zero_padded}
 use Rattle.jsonb_spec.specs.Grammar.StandardNumber.{IsSign}
-use Rattle.jsonb_spec.specs.Grammar.ExtendedNumber.{fraction_digits, fraction_text, precision_of, value_of, decimal_number}
+use Rattle.jsonb_spec.specs.Grammar.ExtendedNumber.{decimal_number}
 use Rattle.jsonb_spec.specs.Text.ReadsBack.{ReadsBackAsDecimal, HasFewDigits}
 use Rattle.jsonb_value.proofs.Numbers.Pointed.{pointed_whole, pointed_inside, pointed_before}
 use Rattle.jsonb_value.proofs.Numbers.Nearest.{signed_parts}
+use Rattle.jsonb_value.proofs.Numbers.Fractions.{fraction_digits, fraction_text, precision_of, value_of}
 
 -- ---- digits
 
@@ -167,17 +168,15 @@ reads_back_as_decimal x (few, small) =
         b.whole,
         b.fraction,
         record {
-          joined = ap (λ r. sign ++ r) (b.joined ∙ ap (λ r. b.zeros ++ (b.whole ++ r)) (sym (append-nil (fraction_text b.fraction))));
+          joined = ap (λ r. sign ++ r) b.joined;
           is_sign = s.0;
           are_zeros = b.are_zeros;
           whole_digits = b.whole_digits;
           no_zero_first = b.no_zero_first;
           digits_behind = b.digits_behind;
           some_digit = b.some_digit;
-          is_exponent = inl refl;
         },
-        b.precise,
-        refl,
+        (b.precise, refl),
       ),
       b.scale_is,
       value,

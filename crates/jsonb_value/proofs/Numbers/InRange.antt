@@ -1,11 +1,11 @@
 -- Numbers in range round-trip, and the numbers of texts are in range.
-use Rattle.std.proofs.Common.{◌≡◌, ℕ, zero, suc, ◌<◌, ◌≤◌, ◌^◌, List, [], ◌∷◌, ◌++◌, length, length-append, Bool, true, false, ◌&&◌, Some, None, refl, sym, subst, arith, inl, inr, ltb-true, eqb-true, ℤ, pos, negsuc, neg_ℤ}
-use Rattle.std.specs.Prelude.{unsigned_abs, FitsSigned, ◌==◌, nat_lt, nat_le, if◌then◌else◌}
+use Rattle.std.proofs.Common.{◌≡◌, ℕ, zero, suc, ◌<◌, ◌≤◌, ◌^◌, List, [], ◌∷◌, ◌++◌, length, length-append, Bool, true, false, ◌&&◌, Some, None, refl, sym, subst, arith, inl, inr, ltb-true, eqb-true, ℤ, pos, negsuc, neg_ℤ, ◌-◌}
+use Rattle.std.specs.Prelude.{unsigned_abs, FitsSigned, ◌==◌, nat_lt, nat_le, if◌then◌else◌, int_le, int_lt}
 use Rattle.std.specs.Int.{w64, w128}
-use Rattle.std.specs.Str.Parse.{AllDigits, digits_value}
+use Rattle.std.specs.Str.Parse.{AllDigits, digits_value, starts_with_minus}
 use Rattle.std.proofs.lemmas.Bool.{leb-true, and_parts}
 use Rattle.std.proofs.lemmas.Str.Parse.{IsNumeralModel, numerals_by_value, tells_digits, digits_value_short}
-use Rattle.jsonb_spec.specs.Grammar.ExtendedNumber.{is_minus, fraction_digits, precision_of, fits_u64, fits_i64, decimal_form, decimal_number, IsDecimalNumber, hexadecimal_number, IsExtendedNumber}
+use Rattle.jsonb_spec.specs.Grammar.ExtendedNumber.{decimal_form, decimal_number, IsDecimalNumber, hexadecimal_number, IsExtendedNumber}
 use Rattle.jsonb_spec.specs.Mode.{standard, extended}
 use Rattle.jsonb_spec.specs.Text.NumberText.{text_of_parts, number_text}
 use Rattle.jsonb_spec.specs.Proper.{FitsUnsigned, FitsScale, FitsWhole, IsProperNumber}
@@ -19,6 +19,7 @@ use Rattle.jsonb_value.proofs.Numbers.Nearest.{unsigned_abs-signed}
 use Rattle.jsonb_value.proofs.Trees.OneText.{IsShort}
 use Rattle.jsonb_value.proofs.Numbers.IntegersReadBack.{signed_reads_back, unsigned_reads_back}
 use Rattle.jsonb_value.proofs.Trees.TextsReadBack.{SpellsSameNumber}
+use Rattle.jsonb_value.proofs.Numbers.Fractions.{fraction_digits, precision_of}
 
 signed_short : (z : ℤ) → FitsSigned w64 z → unsigned_abs z < 10 ^ 38
 signed_short (pos n) fits = omega (arith, fits.sfits)
@@ -97,7 +98,7 @@ integer_is false value n is = subst (λ m. IsIntegral m × IsProperNumber m) (sy
 integer_is true value n is = subst (λ m. IsIntegral m × IsProperNumber m) (sym is.1) (tt, (refl, is.0))
 
 pub standard_number : (bytes : List ℕ) (n : Num) → IsStandardNumber bytes n → IsIntegral n × IsProperNumber n
-standard_number bytes n is = integer_is is.0 (digits_value 10 is.1) n is.3
+standard_number bytes n is = integer_is is.0 (digits_value 10 is.1) n is.4
 
 -- a number in range
 abbrev IsRanged : Num → Type 0
@@ -120,13 +121,13 @@ wide_signed false m h = record { sfits = omega arith }
 wide_signed true zero h = record { sfits = omega arith }
 wide_signed true (suc m) h = record { sfits = omega arith }
 
-unsigned_fits : (z : ℤ) → fits_u64 z ≡ true → FitsUnsigned 64 z
-unsigned_fits (pos n) h = ltb-true n (2 ^ 64) h
+unsigned_fits : (z : ℤ) → (int_le (pos 0) z && int_lt z (pos (2 ^ 64))) ≡ true → FitsUnsigned 64 z
+unsigned_fits (pos n) h = ltb-true n (2 ^ 64) (and_parts (nat_le 0 n) (nat_lt n (2 ^ 64)) h).1
 unsigned_fits (negsuc n) h = cc
 
-signed_fits : (z : ℤ) → fits_i64 z ≡ true → FitsSigned w64 z
-signed_fits (pos n) h = let small = ltb-true n (2 ^ 63) h in record { sfits = omega (arith, small) }
-signed_fits (negsuc n) h = let small = ltb-true n (2 ^ 63) h in record { sfits = omega (arith, small) }
+signed_fits : (z : ℤ) → (int_le (neg_ℤ (pos (2 ^ 63))) z && int_lt z (pos 0)) ≡ true → FitsSigned w64 z
+signed_fits (pos n) h = let none = ltb-true n 0 h in absurd (omega (arith, none))
+signed_fits (negsuc n) h = let small = leb-true n (2 ^ 63 - 1) (and_parts (nat_le n (2 ^ 63 - 1)) true h).0 in record { sfits = omega (arith, small) }
 
 -- the number where the tests' answers are known
 picked : (a b c : Bool) (scale : ℕ) (value : ℤ) (P : Num → Type 0) → (a ≡ true → P (record { form = uint64; scale = scale; whole = value })) → (b ≡ true → P (record { form = int64; scale = scale; whole = value }))
@@ -145,18 +146,18 @@ decimal_ranged b m scale precision small inside few =
     let short : m < 10 ^ 38 = small 38 few in
     let magnitude : unsigned_abs value < 10 ^ 38 = subst (λ k. k < 10 ^ 38) (sym (unsigned_abs-signed b m)) short in
     let few_digits : (scale ≤ 38) × (unsigned_abs value < 10 ^ 38) = (omega (arith, inside, few), magnitude) in
-    picked ((scale == 0) && fits_u64 value) ((scale == 0) && fits_i64 value) (nat_le precision 18) scale value IsRanged
-    (λ h. let tests = and_parts (scale == 0) (fits_u64 value) h in (tt, (eqb-true scale 0 tests.0, unsigned_fits value tests.1)))
-    (λ h. let tests = and_parts (scale == 0) (fits_i64 value) h in (tt, (eqb-true scale 0 tests.0, signed_fits value tests.1)))
+    picked ((scale == 0) && (int_le (pos 0) value && int_lt value (pos (2 ^ 64)))) ((scale == 0) && (int_le (neg_ℤ (pos (2 ^ 63))) value && int_lt value (pos 0))) (nat_le precision 18) scale value IsRanged
+    (λ h. let tests = and_parts (scale == 0) (int_le (pos 0) value && int_lt value (pos (2 ^ 64))) h in (tt, (eqb-true scale 0 tests.0, unsigned_fits value tests.1)))
+    (λ h. let tests = and_parts (scale == 0) (int_le (neg_ℤ (pos (2 ^ 63))) value && int_lt value (pos 0)) h in (tt, (eqb-true scale 0 tests.0, signed_fits value tests.1)))
     (λ h. (few_digits, (omega (arith, inside, few), small_signed b m (small 18 (leb-true precision 18 h)))))
     (few_digits, (omega (arith, inside, few), wide_signed b m short))
 
 decimal_text : (bytes : List ℕ) (n : Num) → IsDecimalNumber bytes n → IsRanged n
-decimal_text bytes n (sign, zeros, whole, fraction, parts, precise, is) =
+decimal_text bytes n (sign, zeros, whole, fraction, parts, (precise, is)) =
     let digits : List ℕ = whole ++ fraction_digits fraction in
     let many : length digits ≡ precision_of whole fraction = length-append whole (fraction_digits fraction) in
     let small = λ (k : ℕ) (few : precision_of whole fraction ≤ k). digits_value_short decimals digits k (digits-append whole (fraction_digits fraction) parts.whole_digits parts.digits_behind) (omega (arith, many, few)) in
-    subst IsRanged (sym is) (decimal_ranged (is_minus sign) (digits_value 10 digits) (length (fraction_digits fraction)) (precision_of whole fraction) small (omega arith) precise)
+    subst IsRanged (sym is) (decimal_ranged (starts_with_minus sign) (digits_value 10 digits) (length (fraction_digits fraction)) (precision_of whole fraction) small (omega arith) precise)
 
 some_number : (m n : Num) → Some m ≡ Some n → m ≡ n
 some_number m n e = cc
@@ -182,4 +183,4 @@ hexadecimal_ranged true m n is = signed (nat_le m (2 ^ 63)) (nat_lt m (10 ^ 38))
 
 pub extended_number : (bytes : List ℕ) (n : Num) → IsExtendedNumber bytes n → IsInTexts n × IsProperNumber n
 extended_number bytes n (inl d) = decimal_text bytes n d
-extended_number bytes n (inr (sign, mark, whole, parts, is)) = hexadecimal_ranged (is_minus sign) (digits_value 16 whole) n is
+extended_number bytes n (inr (sign, mark, whole, parts, is)) = hexadecimal_ranged (starts_with_minus sign) (digits_value 16 whole) n is

@@ -9,7 +9,7 @@ use Rattle.std.proofs.lemmas.List.{append-nil}
 use Rattle.std.proofs.lemmas.Fmt.{decimal_is_IsNumeral_wide, decimal_digit, first_decimal}
 use Rattle.jsonb_spec.specs.Tree.{int64, uint64}
 use Rattle.jsonb_spec.specs.Text.NumberText.{text_of_parts, with_point, zero_padded}
-use Rattle.jsonb_spec.specs.Grammar.StandardNumber.{IsWhole, HasParts, IsStandardNumber}
+use Rattle.jsonb_spec.specs.Grammar.StandardNumber.{IsWhole, IsStandardNumber}
 use Rattle.jsonb_spec.specs.Text.ReadsBack.{integer_number}
 use Rattle.jsonb_value.proofs.Numbers.Pointed.{is_negative-pos, pointed_whole}
 
@@ -19,14 +19,6 @@ decimal_whole n small = record {
   no_needless_zero = λ zero_byte.
       ⊎_elim (λ none. ap length (ap decimal none ∙ decimal_digit 0 (omega arith)))
       (λ some. absurd (omega (arith, first_decimal n (omega arith) small, zero_byte))) (cases_eq n 0);
-}
-
-pub decimal_parts : (negative : Bool) (n : ℕ) → n < 2 ^ 64 → HasParts (sign_text negative ++ decimal n) negative (decimal n) [] []
-decimal_parts negative n small = record {
-  joined = ap (λ r. sign_text negative ++ r) (sym (append-nil (decimal n)));
-  is_whole = decimal_whole n small;
-  is_fraction = inl refl;
-  is_exponent = inl refl;
 }
 
 -- the text of a whole number has no point
@@ -44,7 +36,7 @@ unsigned_reads_back n small =
     let value : digits_value 10 (decimal n) ≡ n = (decimal_is_IsNumeral_wide n (omega arith)).1 in
     let same : integer_number (pos n) ≡ record { form = uint64; scale = 0; whole = pos (digits_value 10 (decimal n)) } =
     ap (λ b. record { form = if b then int64 else uint64; scale = 0; whole = pos n }) (is_negative-pos n) ∙ ap (λ v. record { form = uint64; scale = 0; whole = pos v }) (sym value) in
-    subst (λ t. IsStandardNumber t (integer_number (pos n))) (sym (unsigned_text n small)) (false, decimal n, decimal_parts false n small, (omega arith, same))
+    subst (λ t. IsStandardNumber t (integer_number (pos n))) (sym (unsigned_text n small)) (false, decimal n, refl, decimal_whole n small, (omega arith, same))
 
 pub signed_reads_back : (z : ℤ) → FitsSigned w64 z → IsStandardNumber (text_of_parts 0 z) (integer_number z)
 signed_reads_back (pos n) fits = unsigned_reads_back n (omega (arith, fits.sfits))
@@ -52,4 +44,4 @@ signed_reads_back (negsuc n) fits =
     let value : digits_value 10 (decimal (suc n)) ≡ suc n = (decimal_is_IsNumeral_wide (suc n) (omega (arith, fits.sfits))).1 in
     let same : neg_ℤ (pos (digits_value 10 (decimal (suc n)))) ≡ negsuc n = ap (λ v. neg_ℤ (pos v)) value in
     let number : integer_number (negsuc n) ≡ record { form = int64; scale = 0; whole = neg_ℤ (pos (digits_value 10 (decimal (suc n)))) } = ap (λ w. record { form = int64; scale = 0; whole = w }) (sym same) in
-    subst (λ t. IsStandardNumber t (integer_number (negsuc n))) (sym (negative_text n (omega (arith, fits.sfits)))) (true, decimal (suc n), decimal_parts true (suc n) (omega (arith, fits.sfits)), (subst (FitsSigned w64) (sym same) fits, number))
+    subst (λ t. IsStandardNumber t (integer_number (negsuc n))) (sym (negative_text n (omega (arith, fits.sfits)))) (true, decimal (suc n), refl, decimal_whole (suc n) (omega (arith, fits.sfits)), (subst (FitsSigned w64) (sym same) fits, number))

@@ -8,12 +8,12 @@ use Rattle.std.specs.Fmt.{decimal, sign_text}
 use Rattle.std.specs.List.{flat_map, AllByRecursion}
 use Rattle.std.specs.Cmp.Lexicographic.{slice_cmp}
 use Rattle.std.specs.Ordering.{nat_cmp, ordering_then, match_ordering}
-use Rattle.std.specs.Str.Parse.{AllDigits, digits_value}
+use Rattle.std.specs.Str.Parse.{AllDigits, digits_value, starts_with_minus}
 use Rattle.std.proofs.lemmas.Bool.{cases_eq}
 use Rattle.std.proofs.lemmas.Fmt.{decimal-digits_value, length-decimal-le}
 use Rattle.std.proofs.lemmas.List.{nil_from_length}
 use Rattle.jsonb_spec.specs.Grammar.Whitespace.{IsWhitespacePiece, space, tab, line_feed, form_feed, carriage_return, written_line_feed, written_carriage_return, written_tab, written_form_feed, block_comment, line_comment, IsWhitespace, no_whitespace, more_whitespace, IsLastWhitespace, whitespace_to_end, line_to_end}
-use Rattle.jsonb_spec.specs.Grammar.ExtendedNumber.{is_minus, decimal_number}
+use Rattle.jsonb_spec.specs.Grammar.ExtendedNumber.{decimal_number}
 use Rattle.jsonb_spec.specs.Grammar.{IsPadded, padded, IsJoined, one_part, more_parts, IsElement, whole_element, empty_element, IsMember, key_and_value, AreDistinct, IsValue, scalar, empty_array, full_array, empty_object, full_object, Derives, max_depth, IsDocument, value_alone, whitespace_alone}
 use Rattle.jsonb_spec.specs.Mode.{standard, extended}
 use Rattle.jsonb_spec.specs.Order.{bytes_cmp, tree_cmp, trees_cmp, members_cmp, Same}
@@ -149,7 +149,7 @@ decimal_parts bytes negative whole zeros digits n joined split are_zeros each fi
     let sign = sign_text negative in
     let s = sign_is negative in
     record {
-      read = decimal_number 0 (length digits + 0) (signed_by (is_minus sign) (digits_value 10 (digits ++ [])));
+      read = decimal_number 0 (length digits + 0) (signed_by (starts_with_minus sign) (digits_value 10 (digits ++ [])));
       is_number = inl (
         sign,
         zeros,
@@ -163,24 +163,21 @@ decimal_parts bytes negative whole zeros digits n joined split are_zeros each fi
           no_zero_first = first;
           digits_behind = tt;
           some_digit = omega (arith, some);
-          is_exponent = inl refl;
         },
-        omega (arith, few),
-        refl,
+        (omega (arith, few), refl),
       );
       scales = sym scaled;
       wholes = (λ i. signed_by (s.1 i) (digits_value 10 (append-nil digits i))) ∙ sym value;
     }
 
 standard_is_decimal : (bytes : List ℕ) (n : Num) → IsStandardNumber bytes n → SpellsSameNumber extended bytes n
-standard_is_decimal bytes n (negative, whole, parts, is) =
+standard_is_decimal bytes n (negative, whole, joined, is_whole, is) =
     let v = integer_value negative (digits_value 10 whole) n is in
-    let joined : bytes ≡ sign_text negative ++ whole = parts.joined ∙ ap (λ w. sign_text negative ++ w) (append-nil whole) in
     ⊎_elim
     (λ zero_first.
-    let one = zero_alone whole zero_first (parts.is_whole.no_needless_zero zero_first) in
+    let one = zero_alone whole zero_first (is_whole.no_needless_zero zero_first) in
     decimal_parts bytes negative whole (48 ∷ []) [] n joined one refl tt (λ e. absurd (omega (arith, e))) (omega arith) (omega arith) v.1 (v.2 ∙ ap (λ ds. signed_by negative (digits_value 10 ds)) one))
-    (λ other. decimal_parts bytes negative whole [] whole n joined refl refl parts.is_whole.digits.1 other (omega (arith, parts.is_whole.digits.0)) (omega (arith, few_digits whole parts.is_whole v.0)) v.1 v.2)
+    (λ other. decimal_parts bytes negative whole [] whole n joined refl refl is_whole.digits.1 other (omega (arith, is_whole.digits.0)) (omega (arith, few_digits whole is_whole v.0)) v.1 v.2)
     (cases_eq (slice_index whole 0) 48)
 
 -- ---- strings and words
@@ -243,11 +240,11 @@ wider_scalar bytes t (number_value {n = n} is) =
     record { tree = number r.read; is = number_value r.is_number; same = same_numbers r.read n r.scales r.wholes }
 
 -- a value's spelling begins as its text does
-spelled_first : (negative : Bool) (whole rest : List ℕ) → IsWhole whole → Begins IsTextByte (sign_text negative ++ (whole ++ rest))
-spelled_first true whole rest w = record { first = 45; rest = whole ++ rest; joined = refl; is = (omega arith, omega arith, omega arith, omega arith, omega arith, omega arith) }
-spelled_first false whole rest w =
+spelled_first : (negative : Bool) (whole : List ℕ) → IsWhole whole → Begins IsTextByte (sign_text negative ++ whole)
+spelled_first true whole w = record { first = 45; rest = whole; joined = refl; is = (omega arith, omega arith, omega arith, omega arith, omega arith, omega arith) }
+spelled_first false whole w =
     let b = begun IsDigit whole w.digits.0 (digit_bytes whole w.digits.1) in
-    record { first = b.first; rest = b.rest ++ rest; joined = ap (λ front. front ++ rest) b.joined; is = (omega (arith, b.is), omega (arith, b.is), omega (arith, b.is), omega (arith, b.is), omega (arith, b.is), omega (arith, b.is)) }
+    record { first = b.first; rest = b.rest; joined = b.joined; is = (omega (arith, b.is), omega (arith, b.is), omega (arith, b.is), omega (arith, b.is), omega (arith, b.is), omega (arith, b.is)) }
 
 first_is : (b : ℕ) (bytes whole : List ℕ) → whole ≡ b ∷ bytes → IsTextByte b → Begins IsTextByte whole
 first_is b bytes whole e is = record { first = b; rest = bytes; joined = e; is = is }
@@ -263,8 +260,8 @@ quote_byte quote e = (omega (arith, e), omega (arith, e), omega (arith, e), omeg
 scalar_first : (bytes : List ℕ) (t : Tree) → IsScalar standard bytes t → Begins IsTextByte bytes
 scalar_first bytes t (literal_value l) = literal_first bytes t l
 scalar_first bytes t (string_value {quote = quote} q s) = first_is quote (flat_map spelling s.items ++ quote ∷ []) bytes s.spelled (quote_byte quote q)
-scalar_first bytes t (number_value {n = n} (negative, whole, parts, is)) =
-    subst (Begins IsTextByte) (sym parts.joined) (spelled_first negative whole [] parts.is_whole)
+scalar_first bytes t (number_value {n = n} (negative, whole, joined, is_whole, is)) =
+    subst (Begins IsTextByte) (sym joined) (spelled_first negative whole is_whole)
 
 value_first : (depth : ℕ) (bytes : List ℕ) (t : Tree) → Derives standard depth bytes t → Begins IsTextByte bytes
 value_first zero bytes t d = scalar_first bytes t d
