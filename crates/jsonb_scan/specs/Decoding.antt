@@ -4,8 +4,9 @@ use Rattle.std.specs.List.{flat_map, AllByRecursion}
 use Rattle.jsonb_spec.specs.Ascii as ascii
 use Rattle.jsonb_spec.specs.Mode.{Mode}
 use Rattle.jsonb_spec.specs.Code.{Code}
-use Rattle.jsonb_spec.specs.Grammar.StringBody.{Item, after_u, spelling, IsItem, IsHexDigit, unit_value, meaning}
+use Rattle.jsonb_spec.specs.Grammar.StringBody.{Item, after_u, spelling, IsItem, IsHexDigit, meaning}
 use Rattle.jsonb_spec.specs.Grammar.StringFault.{BadUnit, IsCutShort}
+use Rattle.std.specs.Str.Parse.{digits_value}
 
 -- what follows `\u` is four bytes, in braces or not, and then the rest
 pub record SplitsUnit (bytes digits rest : List ℕ) : Type 0 where
@@ -18,7 +19,7 @@ pub record SplitsUnit (bytes digits rest : List ℕ) : Type 0 where
 pub record ReadsUnit (bytes digits rest : List ℕ) (value : ℕ) : Type 0 where
   pub splits : SplitsUnit bytes digits rest
   pub each : All IsHexDigit digits
-  pub is : value ≡ unit_value digits
+  pub is : value ≡ digits_value 16 digits
   pub range : value < 2 ^ 16
 
 -- The bytes are items and then the rest, and these items add this text to the meaning, whatever items the rest is.

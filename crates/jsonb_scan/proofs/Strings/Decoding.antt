@@ -7,12 +7,13 @@ use Rattle.std.specs.List.{flat_map, AllByRecursion}
 use Rattle.jsonb_spec.specs.Mode.{Mode}
 use Rattle.jsonb_spec.specs.Code.{Code}
 use Rattle.jsonb_spec.specs.Code.{invalid_hex, invalid_escaped, invalid_string_value, unexpected_end_of_hex_escape}
-use Rattle.jsonb_spec.specs.Grammar.StringBody.{Item, raw, escape, unit, after_u, spelling, IsItem, IsBody, Decodes, escaped_byte, is_high, alone, together, meaning}
+use Rattle.jsonb_spec.specs.Grammar.StringBody.{Item, raw, escape, unit, after_u, spelling, IsItem, IsBody, Decodes, escaped_byte, alone, together, meaning}
 use Rattle.jsonb_spec.specs.Grammar.StringFault.{IsFirstNonDigit, bad_digit, cut_escape, unknown_escape, bad_unit, IsFaultyBody}
 use Rattle.jsonb_scan.specs.Decoding.{SeesNoBackslash}
 use Rattle.jsonb_scan.specs.Decoding.{SplitsUnit, ReadsUnit, DecodesUpTo, Adds, StopsInUnit, StopsAtEscape}
 use Rattle.jsonb_value.proofs.Strings.Units.{length-alone, length-together, length-after_u}
 use Rattle.jsonb_value.proofs.Strings.Meaning.{each-append, meaning-raw, meaning-escape, meaning-together, meaning-alone, meaning-last}
+use Rattle.std.specs.Char.Utf16.{is_high_surrogate}
 
 -- ---- steps
 
@@ -63,20 +64,20 @@ spelled_unit braces bytes digits rest split = ap (λ more. 92 ∷ 117 ∷ more) 
 longer_unit : (braces : Bool) (bytes digits rest : List ℕ) → bytes ≡ after_u braces digits ++ rest → length digits ≡ 4 → 4 + length rest ≤ length bytes
 longer_unit braces bytes digits rest split four = omega (arith, ap length split, length-append (after_u braces digits) rest, length-after_u braces digits four)
 
-pub decoded_alone : (mode : Mode) (bytes digits rest : List ℕ) (value : ℕ) → ReadsUnit bytes digits rest value → (is_high value ≡ false) ⊎ ((more : List ℕ) → rest ≢ 92 ∷ 117 ∷ more) → DecodesUpTo mode (92 ∷ 117 ∷ bytes) rest (alone digits)
+pub decoded_alone : (mode : Mode) (bytes digits rest : List ℕ) (value : ℕ) → ReadsUnit bytes digits rest value → (is_high_surrogate value ≡ false) ⊎ ((more : List ℕ) → rest ≢ 92 ∷ 117 ∷ more) → DecodesUpTo mode (92 ∷ 117 ∷ bytes) rest (alone digits)
 decoded_alone mode bytes digits rest value r ends =
     let s = r.splits in record {
       items = unit s.braces digits ∷ [];
       each = ((s.four, r.each), tt);
       spelled = spelled_unit s.braces bytes digits rest s.split;
       meant = λ tail h. ⊎_elim
-          (λ low. meaning-alone s.braces digits tail (ap is_high (sym r.is) ∙ low))
+          (λ low. meaning-alone s.braces digits tail (ap is_high_surrogate (sym r.is) ∙ low))
           (λ none. meaning-last s.braces digits tail (λ more e. none more (h ∙ e)))
           ends;
       short = omega (arith, longer_unit s.braces bytes digits rest s.split s.four, length-alone digits s.four);
     }
 
-pub decoded_together : (mode : Mode) (bytes first between next rest : List ℕ) (value other : ℕ) → ReadsUnit bytes first (92 ∷ 117 ∷ between) value → is_high value ≡ true → ReadsUnit between next rest other → DecodesUpTo mode (92 ∷ 117 ∷ bytes) rest (together first next)
+pub decoded_together : (mode : Mode) (bytes first between next rest : List ℕ) (value other : ℕ) → ReadsUnit bytes first (92 ∷ 117 ∷ between) value → is_high_surrogate value ≡ true → ReadsUnit between next rest other → DecodesUpTo mode (92 ∷ 117 ∷ bytes) rest (together first next)
 decoded_together mode bytes first between next rest value other r high q =
     let s = r.splits in
     let t = q.splits in record {
@@ -85,7 +86,7 @@ decoded_together mode bytes first between next rest value other r high q =
       spelled = ap (λ more. 92 ∷ 117 ∷ more)
           (s.split ∙ ap (λ more. after_u s.braces first ++ 92 ∷ 117 ∷ more) (t.split ∙ ap (λ front. front ++ rest) (sym (append-nil (after_u t.braces next))))
           ∙ sym (append_assoc (after_u s.braces first) (92 ∷ 117 ∷ (after_u t.braces next ++ [])) rest));
-      meant = λ tail h. meaning-together s.braces t.braces first next tail (ap is_high (sym r.is) ∙ high);
+      meant = λ tail h. meaning-together s.braces t.braces first next tail (ap is_high_surrogate (sym r.is) ∙ high);
       short = omega (arith, longer_unit s.braces bytes first _ s.split s.four, longer_unit t.braces between next rest t.split t.four, length-together first next s.four t.four);
     }
 

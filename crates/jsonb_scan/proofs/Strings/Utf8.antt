@@ -10,8 +10,10 @@ use Rattle.std.specs.Char.{encode_utf8}
 use Rattle.std.specs.List.{flat_map, AllByRecursion}
 use Rattle.std.specs.Str.{IsAscii, IsUtf8}
 use Rattle.jsonb_spec.specs.Mode.{Mode, standard, extended}
-use Rattle.jsonb_spec.specs.Grammar.StringBody.{Item, raw, escape, unit, after_u, spelling, IsItem, IsHexDigit, byte_beside, escapes, standard_escapes, escaped_byte, unit_value, is_high, is_low, surrogate_character, unit_text, alone, together, meaning}
-use Rattle.jsonb_value.proofs.Strings.Units.{alone-kept, alone-character, together-kept, together-character}
+use Rattle.jsonb_spec.specs.Grammar.StringBody.{Item, raw, escape, unit, after_u, spelling, IsItem, IsHexDigit, escaped_byte, alone, together, meaning}
+use Rattle.jsonb_value.proofs.Strings.Units.{alone-kept, alone-character, together-kept, together-character, unit_digits}
+use Rattle.std.specs.Char.Utf16.{is_high_surrogate, is_low_surrogate, surrogate_pair_char}
+use Rattle.std.specs.Str.Parse.{digits_value}
 
 -- ---- ASCII bytes in UTF-8
 
@@ -64,11 +66,19 @@ unit_off true digits rest each utf8 =
     let inner = ascii_off 123 ((digits ++ 125 ∷ []) ++ rest) (omega arith) utf8 in
     ascii_off 125 rest (omega arith) (digits_off digits (125 ∷ rest) each (subst IsUtf8 (append_assoc digits (125 ∷ []) rest) inner))
 
+-- the escapes as a table, and the byte beside a letter
+standard_escapes : List (ℕ × ℕ)
+standard_escapes = (34, 34) ∷ (92, 92) ∷ (47, 47) ∷ (98, 8) ∷ (102, 12) ∷ (110, 10) ∷ (114, 13) ∷ (116, 9) ∷ []
+
+byte_beside : ℕ → List (ℕ × ℕ) → Option ℕ
+byte_beside letter [] = None
+byte_beside letter (pair ∷ pairs) = cond (eqb letter pair.0) (Some pair.1) (byte_beside letter pairs)
+
 IsLowPair : ℕ × ℕ → Type 0
 IsLowPair pair = (pair.0 < 128) × (pair.1 < 128)
 
 beside_low : (letter byte : ℕ) (pairs : List (ℕ × ℕ)) → AllByRecursion IsLowPair pairs → byte_beside letter pairs ≡ Some byte → (letter < 128) × (byte < 128)
-unfolding IsLowPair
+unfolding IsLowPair byte_beside
 beside_low letter byte [] low is = absurd (let never : ◌≡◌ {A = Option ℕ} None (Some byte) = is in cc)
 beside_low letter byte (pair ∷ pairs) low is = by_test (eqb letter pair.0) refl (beside_low letter byte pairs low.1) is
   where
@@ -80,40 +90,40 @@ beside_low letter byte (pair ∷ pairs) low is = by_test (eqb letter pair.0) ref
     by_test false other others e = others e
 
 escape_low : (mode : Mode) (letter byte : ℕ) → escaped_byte mode letter ≡ Some byte → (letter < 128) × (byte < 128)
-unfolding IsLowPair
+unfolding IsLowPair byte_beside standard_escapes
 escape_low standard letter byte is = beside_low letter byte standard_escapes (search rules) is
-escape_low extended letter byte is = beside_low letter byte (escapes extended) (search rules) is
+escape_low extended letter byte is = beside_low letter byte ((39, 39) ∷ standard_escapes) (search rules) is
 
 -- ---- what units mean
 
 digit_sum : (a b c d : ℕ) → a < 16 → b < 16 → c < 16 → d < 16 → a * 4096 + b * 256 + c * 16 + d < 65536
 digit_sum a b c d p q r s = omega arith
 
-unit_small : (digits : List ℕ) → length digits ≡ 4 → All IsHexDigit digits → unit_value digits < 65536
-unit_small digits four each = digit_sum _ _ _ _ (each 0 0 (omega (arith, four))) (each 1 0 (omega (arith, four))) (each 2 0 (omega (arith, four))) (each 3 0 (omega (arith, four)))
+unit_small : (digits : List ℕ) → length digits ≡ 4 → All IsHexDigit digits → digits_value 16 digits < 65536
+unit_small digits four each = subst (λ n. n < 65536) (sym (unit_digits digits four)) (digit_sum _ _ _ _ (each 0 0 (omega (arith, four))) (each 1 0 (omega (arith, four))) (each 2 0 (omega (arith, four))) (each 3 0 (omega (arith, four))))
 
-small_scalar : (value : ℕ) → value < 65536 → (is_high value || is_low value) ≡ false → scalar value ≡ true
+small_scalar : (value : ℕ) → value < 65536 → (is_high_surrogate value || is_low_surrogate value) ≡ false → scalar value ≡ true
 small_scalar value small none = grind (arith, nat_tests)
 
-paired_scalar : (high low : ℕ) → is_high high ≡ true → is_low low ≡ true → scalar (surrogate_character high low) ≡ true
+paired_scalar : (high low : ℕ) → is_high_surrogate high ≡ true → is_low_surrogate low ≡ true → scalar (surrogate_pair_char high low) ≡ true
 paired_scalar high low p q = grind (arith, nat_tests)
 
-kept_onto : (digits rest : List ℕ) → All IsHexDigit digits → IsUtf8 rest → IsUtf8 (unit_text digits ++ rest)
+kept_onto : (digits rest : List ℕ) → All IsHexDigit digits → IsUtf8 rest → IsUtf8 (spelling (unit false digits) ++ rest)
 kept_onto digits rest each utf8 = ascii_onto 92 (117 ∷ (digits ++ rest)) (omega arith) (ascii_onto 117 (digits ++ rest) (omega arith) (digits_onto digits rest each utf8))
 
 alone_onto : (digits rest : List ℕ) → length digits ≡ 4 → All IsHexDigit digits → IsUtf8 rest → IsUtf8 (alone digits ++ rest)
 alone_onto digits rest four each utf8 =
     ⊎_elim
     (λ half. subst (λ xs. IsUtf8 (xs ++ rest)) (sym (alone-kept digits half)) (kept_onto digits rest each utf8))
-    (λ whole. subst (λ xs. IsUtf8 (xs ++ rest)) (sym (alone-character digits whole)) (IsUtf8-append (encode_utf8 (unit_value digits)) rest (IsUtf8-encode (unit_value digits) (small_scalar (unit_value digits) (unit_small digits four each) whole)) utf8))
-    (cases_Bool (is_high (unit_value digits) || is_low (unit_value digits)))
+    (λ whole. subst (λ xs. IsUtf8 (xs ++ rest)) (sym (alone-character digits whole)) (IsUtf8-append (encode_utf8 (digits_value 16 digits)) rest (IsUtf8-encode (digits_value 16 digits) (small_scalar (digits_value 16 digits) (unit_small digits four each) whole)) utf8))
+    (cases_Bool (is_high_surrogate (digits_value 16 digits) || is_low_surrogate (digits_value 16 digits)))
 
-together_onto : (first next rest : List ℕ) → is_high (unit_value first) ≡ true → All IsHexDigit first → All IsHexDigit next → IsUtf8 rest → IsUtf8 (together first next ++ rest)
+together_onto : (first next rest : List ℕ) → is_high_surrogate (digits_value 16 first) ≡ true → All IsHexDigit first → All IsHexDigit next → IsUtf8 rest → IsUtf8 (together first next ++ rest)
 together_onto first next rest high each others utf8 =
     ⊎_elim
-    (λ low. subst (λ xs. IsUtf8 (xs ++ rest)) (sym (together-character first next low)) (IsUtf8-append (encode_utf8 (surrogate_character (unit_value first) (unit_value next))) rest (IsUtf8-encode (surrogate_character (unit_value first) (unit_value next)) (paired_scalar (unit_value first) (unit_value next) high low)) utf8))
-    (λ other. subst (λ xs. IsUtf8 (xs ++ rest)) (sym (together-kept first next other)) (subst IsUtf8 (sym (append_assoc (unit_text first) (unit_text next) rest)) (kept_onto first (unit_text next ++ rest) each (kept_onto next rest others utf8))))
-    (cases_Bool (is_low (unit_value next)))
+    (λ low. subst (λ xs. IsUtf8 (xs ++ rest)) (sym (together-character first next low)) (IsUtf8-append (encode_utf8 (surrogate_pair_char (digits_value 16 first) (digits_value 16 next))) rest (IsUtf8-encode (surrogate_pair_char (digits_value 16 first) (digits_value 16 next)) (paired_scalar (digits_value 16 first) (digits_value 16 next) high low)) utf8))
+    (λ other. subst (λ xs. IsUtf8 (xs ++ rest)) (sym (together-kept first next other)) (subst IsUtf8 (sym (append_assoc (spelling (unit false first)) (spelling (unit false next)) rest)) (kept_onto first (spelling (unit false next) ++ rest) each (kept_onto next rest others utf8))))
+    (cases_Bool (is_low_surrogate (digits_value 16 next)))
 
 -- ---- all items
 
@@ -130,10 +140,10 @@ one_unit braces run digits rest text four each utf8 others =
 
 -- a unit and the one right after it
 two_units : (p q : Bool) (run first next rest text others : List ℕ) → (length first ≡ 4) × All IsHexDigit first → (length next ≡ 4) × All IsHexDigit next → IsUtf8 (run ++ 92 ∷ 117 ∷ (after_u p first ++ 92 ∷ 117 ∷ (after_u q next ++ rest)))
-    → (IsUtf8 rest → IsUtf8 text) → (IsUtf8 (92 ∷ 117 ∷ (after_u q next ++ rest)) → IsUtf8 others) → IsUtf8 (run ++ cond (is_high (unit_value first)) (together first next ++ text) (alone first ++ others))
-two_units p q run first next rest text others one two utf8 behind both = by_high (is_high (unit_value first)) refl
+    → (IsUtf8 rest → IsUtf8 text) → (IsUtf8 (92 ∷ 117 ∷ (after_u q next ++ rest)) → IsUtf8 others) → IsUtf8 (run ++ cond (is_high_surrogate (digits_value 16 first)) (together first next ++ text) (alone first ++ others))
+two_units p q run first next rest text others one two utf8 behind both = by_high (is_high_surrogate (digits_value 16 first)) refl
   where
-    by_high : (t : Bool) → is_high (unit_value first) ≡ t → IsUtf8 (run ++ cond t (together first next ++ text) (alone first ++ others))
+    by_high : (t : Bool) → is_high_surrogate (digits_value 16 first) ≡ t → IsUtf8 (run ++ cond t (together first next ++ text) (alone first ++ others))
     by_high true high =
         let second = after_unit p run first (92 ∷ 117 ∷ (after_u q next ++ rest)) one.1 utf8 in
         IsUtf8-append run (together first next ++ text) (before_ascii run (117 ∷ (after_u p first ++ 92 ∷ 117 ∷ (after_u q next ++ rest))) 92 (omega arith) utf8)

@@ -2,7 +2,9 @@
 use Rattle.std.proofs.Common.{List, [], ◌∷◌, ◌≡◌, ◌≢◌, ℕ, ◌++◌, Bool, true, false, cond, ap, refl}
 use Rattle.std.specs.List.{flat_map, AllByRecursion}
 use Rattle.jsonb_spec.specs.Mode.{Mode}
-use Rattle.jsonb_spec.specs.Grammar.StringBody.{Item, raw, escape, unit, after_u, spelling, IsItem, unit_value, is_high, alone, together, meaning}
+use Rattle.jsonb_spec.specs.Grammar.StringBody.{Item, raw, escape, unit, after_u, spelling, IsItem, alone, together, meaning}
+use Rattle.std.specs.Char.Utf16.{is_high_surrogate}
+use Rattle.std.specs.Str.Parse.{digits_value}
 
 pub each-append : (mode : Mode) (xs ys : List Item) → AllByRecursion (IsItem mode) xs → AllByRecursion (IsItem mode) ys → AllByRecursion (IsItem mode) (xs ++ ys)
 each-append mode [] ys h k = k
@@ -16,11 +18,11 @@ pub meaning-escape : (letter byte : ℕ) (tail : List Item) → meaning (escape 
 unfolding meaning
 meaning-escape letter byte tail = refl
 
-pub meaning-together : (p q : Bool) (first next : List ℕ) (tail : List Item) → is_high (unit_value first) ≡ true → meaning (unit p first ∷ unit q next ∷ tail) ≡ together first next ++ meaning tail
+pub meaning-together : (p q : Bool) (first next : List ℕ) (tail : List Item) → is_high_surrogate (digits_value 16 first) ≡ true → meaning (unit p first ∷ unit q next ∷ tail) ≡ together first next ++ meaning tail
 unfolding meaning
 meaning-together p q first next tail high = ap (λ b. cond b (together first next ++ meaning tail) (alone first ++ meaning (unit q next ∷ tail))) high
 
-pub meaning-alone : (p : Bool) (digits : List ℕ) (tail : List Item) → is_high (unit_value digits) ≡ false → meaning (unit p digits ∷ tail) ≡ alone digits ++ meaning tail
+pub meaning-alone : (p : Bool) (digits : List ℕ) (tail : List Item) → is_high_surrogate (digits_value 16 digits) ≡ false → meaning (unit p digits ∷ tail) ≡ alone digits ++ meaning tail
 unfolding meaning
 meaning-alone p digits [] low = refl
 meaning-alone p digits (raw byte ∷ tail) low = refl

@@ -9,12 +9,14 @@ use Rattle.std.specs.Char.{digit_char, digit_value, encode_utf8}
 use Rattle.std.specs.List.{flat_map, AllByRecursion}
 use Rattle.jsonb_spec.specs.Mode.{Mode}
 use Rattle.jsonb_spec.specs.Mode.{standard, extended}
-use Rattle.jsonb_spec.specs.Grammar.StringBody.{Item, raw, escape, unit, spelling, escaped_byte, IsItem, IsHexDigit, unit_value, is_high, is_low, alone, meaning}
+use Rattle.jsonb_spec.specs.Grammar.StringBody.{Item, raw, escape, unit, spelling, escaped_byte, IsItem, IsHexDigit, alone, meaning}
 use Rattle.jsonb_spec.specs.Grammar.Quoted.{mark_of, MayStandIn, Quoted}
 use Rattle.jsonb_spec.specs.Tree.{Mark}
 use Rattle.jsonb_spec.specs.Text.StringText.{control_text, byte_text, quoted_text}
 use Rattle.jsonb_value.proofs.Strings.Units.{alone-character}
 use Rattle.jsonb_value.proofs.Strings.Meaning.{meaning-raw, meaning-escape, meaning-alone}
+use Rattle.std.specs.Char.Utf16.{is_high_surrogate, is_low_surrogate}
+use Rattle.std.specs.Str.Parse.{digits_value}
 
 -- the digits of a control byte
 abbrev pub control_digits : ℕ → List ℕ
@@ -69,26 +71,26 @@ item-item_of mode byte =
 pub inside-item_of : (byte : ℕ) → MayStandIn 34 (item_of byte)
 inside-item_of byte = by_cases (λ b item text. MayStandIn 34 item) byte tt tt tt tt tt (λ low. tt) (λ no_quote no_backslash. no_quote)
 
-unit_value-control : (byte : ℕ) → byte < 32 → unit_value (control_digits byte) ≡ byte
+unit_value-control : (byte : ℕ) → byte < 32 → digits_value 16 (control_digits byte) ≡ byte
 unit_value-control byte low = let values = control_values byte low in omega (arith, values.0, values.1)
 
-not_high : (byte : ℕ) → byte < 32 → is_high byte ≡ false
+not_high : (byte : ℕ) → byte < 32 → is_high_surrogate byte ≡ false
 not_high byte low = grind (arith, nat_tests)
 
-not_low : (byte : ℕ) → byte < 32 → is_low byte ≡ false
+not_low : (byte : ℕ) → byte < 32 → is_low_surrogate byte ≡ false
 not_low byte low = grind (arith, nat_tests)
 
 alone-control : (byte : ℕ) → byte < 32 → alone (control_digits byte) ≡ byte ∷ []
 alone-control byte low =
     let value = unit_value-control byte low in
-    let whole : (is_high (unit_value (control_digits byte)) || is_low (unit_value (control_digits byte))) ≡ false =
-    ap (λ n. is_high n || is_low n) value ∙ ap (λ b. b || is_low byte) (not_high byte low) ∙ not_low byte low in
+    let whole : (is_high_surrogate (digits_value 16 (control_digits byte)) || is_low_surrogate (digits_value 16 (control_digits byte))) ≡ false =
+    ap (λ n. is_high_surrogate n || is_low_surrogate n) value ∙ ap (λ b. b || is_low_surrogate byte) (not_high byte low) ∙ not_low byte low in
     alone-character (control_digits byte) whole ∙ ap encode_utf8 value ∙ encode_ascii byte (omega (arith, low))
 
 pub meaning-item_of : (byte : ℕ) (tail : List Item) → meaning (item_of byte ∷ tail) ≡ byte ∷ meaning tail
 meaning-item_of byte tail =
     by_cases (λ b item text. meaning (item ∷ tail) ≡ b ∷ meaning tail) byte (meaning-escape 34 34 tail) (meaning-escape 92 92 tail) (meaning-escape 110 10 tail) (meaning-escape 114 13 tail) (meaning-escape 116 9 tail)
-    (λ low. meaning-alone false (control_digits byte) tail (ap is_high (unit_value-control byte low) ∙ not_high byte low) ∙ ap (λ front. front ++ meaning tail) (alone-control byte low))
+    (λ low. meaning-alone false (control_digits byte) tail (ap is_high_surrogate (unit_value-control byte low) ∙ not_high byte low) ∙ ap (λ front. front ++ meaning tail) (alone-control byte low))
     (λ no_quote no_backslash. meaning-raw byte tail)
 
 -- ---- a whole text

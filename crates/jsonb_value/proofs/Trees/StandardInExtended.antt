@@ -22,7 +22,7 @@ use Rattle.jsonb_spec.specs.Grammar.Quoted.{Quoted}
 use Rattle.jsonb_spec.specs.Grammar.Scalar.{IsLiteral, IsScalar, literal_value, string_value, number_value, null_word, true_word, false_word, IsKey, quoted_key, bare_key}
 use Rattle.jsonb_spec.specs.Number.Signed.{signed_by}
 use Rattle.jsonb_spec.specs.Grammar.StandardNumber.{IsWhole, IsInteger, IsStandardNumber}
-use Rattle.jsonb_spec.specs.Grammar.StringBody.{Item, raw, escape, unit, spelling, escaped_byte, byte_beside, standard_escapes, IsItem}
+use Rattle.jsonb_spec.specs.Grammar.StringBody.{Item, raw, escape, unit, spelling, escaped_byte, IsItem, standard_escape}
 use Rattle.jsonb_spec.specs.Tree.{Mark, Num, Tree, number, array, object, trees_of, Members, no_members, more_members, Member, put, put_all}
 use Rattle.jsonb_value.proofs.Order.ByContent.{both_tie, same_bytes as known_bytes}
 use Rattle.jsonb_value.proofs.Numbers.DecimalTexts.{sign_is}
@@ -185,7 +185,7 @@ standard_is_decimal bytes n (negative, whole, joined, is_whole, is) =
 wider_escape : (letter byte : ℕ) → escaped_byte standard letter ≡ Some byte → escaped_byte extended letter ≡ Some byte
 wider_escape letter byte is = picked (eqb letter 39) (eqb-true letter 39)
   where
-    picked : (b : Bool) → (b ≡ true → letter ≡ 39) → cond b (Some 39) (byte_beside letter standard_escapes) ≡ Some byte
+    picked : (b : Bool) → (b ≡ true → letter ≡ 39) → cond b (Some 39) (standard_escape letter) ≡ Some byte
     picked true quote = let none : escaped_byte standard letter ≡ None = ap (escaped_byte standard) (quote refl) in cc
     picked false quote = is
 

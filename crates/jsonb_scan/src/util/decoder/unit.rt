@@ -1,10 +1,12 @@
 //! `\u` escapes: UTF-16 code units of four hexadecimal digits.
 ghost use Rattle.std.specs.Prelude.{List, ◌≡◌, ◌≢◌, ℕ, ◌+◌, ◌*◌, ◌^◌, ◌≤◌, ◌<◌, ◌++◌, ◌∷◌, length, take, min, All, ◌||◌, IfOk, IfErr, OnErr, IfSome, IfNone, Some, None, true, false, ◌⊎◌};
 ghost use Rattle.std.specs.Char.{digit_value, encode_utf8, InScalarRange};
+ghost use Rattle.std.specs.Char.Utf16.{is_high_surrogate, is_low_surrogate};
+ghost use Rattle.std.specs.Str.Parse.{digits_value};
 ghost use Rattle.jsonb_spec.specs.Ascii as ascii;
 ghost use Rattle.jsonb_spec.specs.Mode.{Mode as GrammarMode};
 ghost use Rattle.jsonb_value.specs.Error.CodeView.{code_of};
-ghost use Rattle.jsonb_spec.specs.Grammar.StringBody.{IsHexDigit, unit_value, is_high, is_low, unit_text, alone, together};
+ghost use Rattle.jsonb_spec.specs.Grammar.StringBody.{IsHexDigit, unit, spelling, alone, together};
 ghost use Rattle.jsonb_spec.specs.Grammar.StringFault.{IsUnitCut, IsFirstNonDigit};
 ghost use Rattle.jsonb_scan.specs.Decoding.{SplitsUnit, ReadsUnit, Adds, IsDecodedUpTo, StopsInUnit, StopsAtEscape};
 
@@ -49,7 +51,7 @@ fn first_non_digit(bytes: &[u8]) -> Option<u8>
 fn value_of(digits: &[u8]) -> u32
     requires four { length digits.now ≡ 4 }
     requires each { All IsHexDigit digits.now }
-    ensures value { result ≡ unit_value digits.now }
+    ensures value { result ≡ digits_value 16 digits.now }
     ensures range { result < 2 ^ 16 }
 {
     digit(digits[0]) * 4096 + digit(digits[1]) * 256 + digit(digits[2]) * 16 + digit(digits[3])
@@ -102,19 +104,19 @@ fn read_unit(bytes: &[u8]) -> std::result::Result<HexUnit<'_>, DecodingFault>
 }
 
 fn is_surrogate_high(value: u32) -> bool
-    ensures { result ≡ is_high value }
+    ensures { result ≡ is_high_surrogate value }
 {
     (0xD800..=0xDBFF).contains(&value)
 }
 
 fn is_surrogate_low(value: u32) -> bool
-    ensures { result ≡ is_low value }
+    ensures { result ≡ is_low_surrogate value }
 {
     (0xDC00..=0xDFFF).contains(&value)
 }
 
 fn is_surrogate(value: u32) -> bool
-    ensures { result ≡ (is_high value || is_low value) }
+    ensures { result ≡ (is_high_surrogate value || is_low_surrogate value) }
 {
     is_surrogate_high(value) || is_surrogate_low(value)
 }
@@ -135,7 +137,7 @@ fn push_char(text: &mut [u8], len: usize, value: u32) -> usize
 fn push_kept(text: &mut [u8], len: usize, digits: &[u8]) -> usize
     requires four { length digits.now ≡ 4 }
     requires room { len + 6 ≤ length text.old }
-    ensures written { take result text.new ≡ take len text.old ++ unit_text digits.now }
+    ensures written { take result text.new ≡ take len text.old ++ spelling (unit false digits.now) }
     ensures len { result ≡ len + 6 }
     ensures size { length text.new ≡ length text.old }
 {
@@ -147,7 +149,7 @@ fn push_kept(text: &mut [u8], len: usize, digits: &[u8]) -> usize
 #[inline(always)]
 fn push_alone(text: &mut [u8], len: usize, digits: &[u8], value: u32) -> usize
     requires four { length digits.now ≡ 4 }
-    requires value { value ≡ unit_value digits.now }
+    requires value { value ≡ digits_value 16 digits.now }
     requires range { value < 2 ^ 16 }
     requires room { len + 6 ≤ length text.old }
     ensures written { take result text.new ≡ take len text.old ++ alone digits.now }
@@ -164,9 +166,9 @@ fn push_alone(text: &mut [u8], len: usize, digits: &[u8], value: u32) -> usize
 // A high unit and the unit right after it.
 fn push_together(text: &mut [u8], len: usize, high: &HexUnit<'_>, next: &HexUnit<'_>) -> usize
     requires four { (length high.now.digits.now ≡ 4) × (length next.now.digits.now ≡ 4) }
-    requires value { (high.now.value ≡ unit_value high.now.digits.now)
-        × (next.now.value ≡ unit_value next.now.digits.now) }
-    requires is_high { is_high high.now.value ≡ true }
+    requires value { (high.now.value ≡ digits_value 16 high.now.digits.now)
+        × (next.now.value ≡ digits_value 16 next.now.digits.now) }
+    requires is_high { is_high_surrogate high.now.value ≡ true }
     requires room { len + 12 ≤ length text.old }
     ensures written { take result text.new ≡ take len text.old ++ together high.now.digits.now next.now.digits.now }
     ensures len { result ≤ len + 12 }
@@ -201,10 +203,10 @@ fn after_unit_mark(bytes: &[u8]) -> Option<&[u8]>
 
 // What follows the next `\u`, where it stands right after a high unit.
 fn after_next_mark<'a>(unit: &HexUnit<'a>) -> Option<&'a [u8]>
-    ensures some { IfSome result (λ rest. (is_high unit.now.value ≡ true)
+    ensures some { IfSome result (λ rest. (is_high_surrogate unit.now.value ≡ true)
         × (unit.now.rest.now ≡ ascii.backslash ∷ ascii.lower_u ∷ rest.now)) }
     ensures len { IfSome result (λ rest. length rest.now + 2 ≡ length unit.now.rest.now) }
-    ensures none { IfNone result ((is_high unit.now.value ≡ false)
+    ensures none { IfNone result ((is_high_surrogate unit.now.value ≡ false)
         ⊎ ((rest : List ℕ) → unit.now.rest.now ≢ ascii.backslash ∷ ascii.lower_u ∷ rest)) }
 {
     if is_surrogate_high(unit.value) {
