@@ -7,8 +7,8 @@ use Rattle.std.proofs.lemmas.Bool.Decides.{nat_tests}
 use lib.Utf8.{next, scalar, scalars}
 use Rattle.std.specs.List.{AllByRecursion}
 use Rattle.std.specs.Str.{encode_utf8_all, IsUtf8, is_utf8}
-use Rattle.std.specs.Char.{IsScalar, IsAsciiDigit, encode_utf8, is_ascii_digit}
-use Rattle.jsonb_spec.specs.Grammar.BareKey.{IsBareKey, IsKeyAscii, IsKeyCharacter}
+use Rattle.std.specs.Char.{IsScalar, IsAsciiDigit, encode_utf8, is_ascii_digit, IsAsciiAlphanumeric}
+use Rattle.jsonb_spec.specs.Grammar.BareKey.{IsBareKey, IsKeyCharacter}
 use Rattle.jsonb_spec.specs.Code.{invalid_eof, invalid_string_value, object_key_invalid_number, object_key_invalid_character}
 use Rattle.jsonb_spec.specs.Tree.{Mark, plain}
 use Rattle.jsonb_scan.specs.Reading.{Read, fault}
@@ -43,6 +43,10 @@ key_end-step b n bytes e =
     ∙ ap (λ (k : ℕ). further k (key_end (drop n bytes))) same
 
 -- the steps of ASCII
+-- a letter or a digit of ASCII, `_` or `$`
+abbrev IsKeyAscii : ℕ → Type 0
+IsKeyAscii c = IsAsciiAlphanumeric c ⊎ ((c ≡ 95) ⊎ (c ≡ 36))
+
 ascii_step : (b : ℕ) → IsKeyAscii b → is_key_ascii b ≡ true
 ascii_step b is =
     ⊎_elim

@@ -9,7 +9,7 @@ use Rattle.jsonb_spec.specs.Tree.{Mark}
 use Rattle.jsonb_spec.specs.Code.{invalid_eof}
 use Rattle.jsonb_spec.specs.Grammar.StringBody.{Item, raw, escape, unit, after_u, spelling, IsItem, meaning}
 use Rattle.jsonb_value.specs.StringStep.{item_step}
-use Rattle.jsonb_spec.specs.Grammar.Quoted.{MayStandIn, Quoted}
+use Rattle.jsonb_spec.specs.Grammar.Quoted.{Quoted}
 use Rattle.jsonb_value.proofs.Strings.Spelling.{item_step-spelling}
 use Rattle.jsonb_scan.specs.Reading.{Read, fault}
 use Rattle.jsonb_scan.specs.Reading.String.{Body, body_of, further, quote_from, quote_end, string_of_body, string_up_to, string_at}
@@ -49,8 +49,8 @@ quote_end-step quote b n bytes other step =
     ∙ ap (λ (k : ℕ). further 1 (quote_from quote k bytes)) count ∙ ap (further 1) (quote_from-drop quote n bytes) ∙ further-further 1 n (quote_end quote (drop n bytes))
     ∙ ap (λ (k : ℕ). further k (quote_end quote (drop n bytes))) same
 
-quote_end-item : (quote : ℕ) (mode : Mode) (x : Item) (more : List ℕ) → quote ≢ 92 → IsItem mode x → MayStandIn quote x → quote_end quote (spelling x ++ more) ≡ further (length (spelling x)) (quote_end quote more)
-quote_end-item quote mode (raw byte) more no_backslash is inside = quote_end-step quote byte 0 more inside (item_step-spelling mode (raw byte) more is)
+quote_end-item : (quote : ℕ) (mode : Mode) (x : Item) (more : List ℕ) → quote ≢ 92 → IsItem mode x → x ≢ raw quote → quote_end quote (spelling x ++ more) ≡ further (length (spelling x)) (quote_end quote more)
+quote_end-item quote mode (raw byte) more no_backslash is inside = quote_end-step quote byte 0 more (λ e. inside (ap raw e)) (item_step-spelling mode (raw byte) more is)
 quote_end-item quote mode (escape letter byte) more no_backslash is inside =
     quote_end-step quote 92 1 (letter ∷ more) (λ e. no_backslash (sym e)) (item_step-spelling mode (escape letter byte) more is)
 quote_end-item quote mode (unit braces digits) more no_backslash is inside =
@@ -60,7 +60,7 @@ quote_end-item quote mode (unit braces digits) more no_backslash is inside =
 
 -- ---- where a string ends the search ends
 
-quote_complete : (quote : ℕ) (mode : Mode) (items : List Item) (more : List ℕ) → quote ≢ 92 → AllByRecursion (IsItem mode) items → AllByRecursion (MayStandIn quote) items → quote_end quote (flat_map spelling items ++ quote ∷ more) ≡ Ok (length (flat_map spelling items))
+quote_complete : (quote : ℕ) (mode : Mode) (items : List Item) (more : List ℕ) → quote ≢ 92 → AllByRecursion (IsItem mode) items → AllByRecursion (λ item. item ≢ raw quote) items → quote_end quote (flat_map spelling items ++ quote ∷ more) ≡ Ok (length (flat_map spelling items))
 quote_complete quote mode [] more no_backslash each inside = quote_end-here quote more
 quote_complete quote mode (x ∷ items) more no_backslash each inside =
     let count : length (spelling x) + length (flat_map spelling items) ≡ length (flat_map spelling (x ∷ items)) = omega (arith, length-append (spelling x) (flat_map spelling items)) in
@@ -108,7 +108,7 @@ pub quote_within : (quote : ℕ) (bytes : List ℕ) (end : ℕ) → quote_end qu
 quote_within quote bytes end e = (quote_sound quote 0 bytes end e).within
 
 -- the items before the quote that the search found hold no such quote
-found_inside : (quote : ℕ) (mode : Mode) (items : List Item) (more : List ℕ) → quote ≢ 92 → AllByRecursion (IsItem mode) items → quote_end quote (flat_map spelling items ++ quote ∷ more) ≡ Ok (length (flat_map spelling items)) → AllByRecursion (MayStandIn quote) items
+found_inside : (quote : ℕ) (mode : Mode) (items : List Item) (more : List ℕ) → quote ≢ 92 → AllByRecursion (IsItem mode) items → quote_end quote (flat_map spelling items ++ quote ∷ more) ≡ Ok (length (flat_map spelling items)) → AllByRecursion (λ item. item ≢ raw quote) items
 found_inside quote mode [] more no_backslash each e = tt
 found_inside quote mode (x ∷ items) more no_backslash each e =
     let regrouped : quote_end quote (spelling x ++ (flat_map spelling items ++ quote ∷ more)) ≡ Ok (length (flat_map spelling (x ∷ items))) = ap (quote_end quote) (sym (append_assoc (spelling x) (flat_map spelling items) (quote ∷ more))) ∙ e in
@@ -118,13 +118,14 @@ found_inside quote mode (x ∷ items) more no_backslash each e =
     let count : f.0 ≡ length (flat_map spelling items) = omega (arith, f.2, length-append (spelling x) (flat_map spelling items)) in
     (first, found_inside quote mode items more no_backslash each.1 (f.1 ∙ ap (λ (i : ℕ). Ok i) count))
   where
-    inside_first : (q : ℕ) (y : Item) (rest : List ℕ) (k : ℕ) → quote_end q (spelling y ++ rest) ≡ Ok (length (flat_map spelling (x ∷ items))) → length (flat_map spelling (x ∷ items)) ≡ length (spelling x) + k → MayStandIn q y
-    inside_first q (raw byte) rest k h count = λ same.
+    inside_first : (q : ℕ) (y : Item) (rest : List ℕ) (k : ℕ) → quote_end q (spelling y ++ rest) ≡ Ok (length (flat_map spelling (x ∷ items))) → length (flat_map spelling (x ∷ items)) ≡ length (spelling x) + k → y ≢ raw q
+    inside_first q (raw byte) rest k h count = λ alike.
+        let same : byte ≡ q = cc in
         let zero_end : ◌≡◌ {A = Result ℕ ℕ} (Ok 0) (Ok (length (flat_map spelling (x ∷ items)))) = sym (quote_end-here q rest) ∙ ap (λ (b : ℕ). quote_end q (b ∷ rest)) (sym same) ∙ h in
         let none : 0 ≡ length (flat_map spelling (x ∷ items)) = cc in
         absurd (omega (arith, none, count, length-spelling x))
-    inside_first q (escape letter byte) rest k h count = tt
-    inside_first q (unit braces digits) rest k h count = tt
+    inside_first q (escape letter byte) rest k h count = λ alike. cc
+    inside_first q (unit braces digits) rest k h count = λ alike. cc
 
 -- ---- whole strings
 
@@ -148,12 +149,10 @@ string_sound size mode quote bytes mark text rest no_backslash e = by_end (quote
         record {
           inner = flat_map spelling means.items ++ quote ∷ [];
           quoted = record {
-            items = means.items;
+            body = flat_map spelling means.items;
             spelled = refl;
-            each = means.body.each;
+            decodes = record { items = means.items; body = record { spelled = refl; each = means.body.each }; meant = means.meant; utf8 = means.utf8 };
             inside = found_inside quote mode means.items (drop (end + 1) bytes) no_backslash means.body.each again;
-            meant = means.meant;
-            utf8 = means.utf8;
             marked = means.marked;
           };
           whole = whole ∙ ap (λ (r : List ℕ). flat_map spelling means.items ++ quote ∷ r) after ∙ sym (append_assoc (flat_map spelling means.items) (quote ∷ []) rest);
@@ -172,12 +171,13 @@ string_sound size mode quote bytes mark text rest no_backslash e = by_end (quote
 pub string_complete : (size : ℕ) (mode : Mode) (quote : ℕ) (core : List ℕ) (mark : Mark) (text inner rest : List ℕ) → quote ≢ 92 → Quoted mode quote core text mark → core ≡ quote ∷ inner → string_at size mode quote (inner ++ rest) ≡ Ok ((mark, text), rest)
 unfolding string_at
 string_complete size mode quote core mark text inner rest no_backslash q is =
-    let body = flat_map spelling q.items in
-    let same : inner ≡ body ++ quote ∷ [] = ap (drop 1) (sym is ∙ q.spelled) in
+    let items = q.decodes.items in
+    let body = flat_map spelling items in
+    let same : inner ≡ body ++ quote ∷ [] = ap (drop 1) (sym is ∙ q.spelled ∙ ap (λ (u : List ℕ). quote ∷ u ++ quote ∷ []) q.decodes.body.spelled) in
     let whole : inner ++ rest ≡ body ++ quote ∷ rest = ap (λ (u : List ℕ). u ++ rest) same ∙ append_assoc body (quote ∷ []) rest in
-    let found : quote_end quote (inner ++ rest) ≡ Ok (length body) = ap (quote_end quote) whole ∙ quote_complete quote mode q.items rest no_backslash q.each q.inside in
+    let found : quote_end quote (inner ++ rest) ≡ Ok (length body) = ap (quote_end quote) whole ∙ quote_complete quote mode items rest no_backslash q.decodes.body.each q.inside in
     let front : take (length body) (inner ++ rest) ≡ body = ap (take (length body)) whole ∙ take_at body (quote ∷ rest) (length body) refl in
     let back : drop (length body + 1) (inner ++ rest) ≡ rest = ap (drop (length body + 1)) (whole ∙ sym (append_assoc body (quote ∷ []) rest)) ∙ drop_at (body ++ quote ∷ []) rest (length body + 1) (length-append body (quote ∷ [])) in
     let read : body_of mode (take (length body) (inner ++ rest)) ≡ Ok (mark, text) =
-    ap (body_of mode) front ∙ body_complete mode body q.items (record { spelled = refl; each = q.each }) (subst IsUtf8 q.meant q.utf8) ∙ ap (λ (m : Mark). Ok (m, meaning q.items)) (sym q.marked) ∙ ap (λ (t : List ℕ). Ok (mark, t)) (sym q.meant) in
+    ap (body_of mode) front ∙ body_complete mode body items (record { spelled = refl; each = q.decodes.body.each }) (subst IsUtf8 q.decodes.meant q.decodes.utf8) ∙ ap (λ (m : Mark). Ok (m, meaning items)) (sym q.marked) ∙ ap (λ (t : List ℕ). Ok (mark, t)) (sym q.decodes.meant) in
     ap (string_up_to size mode (inner ++ rest)) found ∙ ap (string_of_body size (inner ++ rest) (length body)) read ∙ ap (λ (r : List ℕ). Ok ((mark, text), r)) back

@@ -5,13 +5,10 @@ use Rattle.std.specs.Str.{encode_utf8_all}
 use Rattle.std.specs.Char.{IsScalar, IsAsciiDigit, IsAsciiAlphanumeric}
 use Rattle.jsonb_spec.specs.Ascii as ascii
 
--- a letter or a digit of ASCII, `_` or `$`
-abbrev pub IsKeyAscii : ℕ → Type 0
-IsKeyAscii c = IsAsciiAlphanumeric c ⊎ ((c ≡ ascii.underscore) ⊎ (c ≡ ascii.dollar))
-
--- a character that a bare key may have: one of those, or any past ASCII
+-- a character that a bare key may have: a letter or a digit of ASCII, `_`, `$`, or any past ASCII
 abbrev pub IsKeyCharacter : ℕ → Type 0
-IsKeyCharacter c = IsKeyAscii c ⊎ (ascii.end ≤ c)
+IsKeyCharacter c =
+    (IsAsciiAlphanumeric c ⊎ ((c ≡ ascii.underscore) ⊎ (c ≡ ascii.dollar))) ⊎ (ascii.end ≤ c)
 
 -- The bytes are the UTF-8 of one or more such characters, the first no digit of ASCII. A bare key means its own bytes.
 pub record IsBareKey (bytes : List ℕ) : Type 0 where

@@ -10,7 +10,7 @@ use Rattle.std.specs.List.{flat_map, AllByRecursion}
 use Rattle.jsonb_spec.specs.Mode.{Mode}
 use Rattle.jsonb_spec.specs.Mode.{standard, extended}
 use Rattle.jsonb_spec.specs.Grammar.StringBody.{Item, raw, escape, unit, spelling, escaped_byte, IsItem, IsHexDigit, alone, meaning}
-use Rattle.jsonb_spec.specs.Grammar.Quoted.{mark_of, MayStandIn, Quoted}
+use Rattle.jsonb_spec.specs.Grammar.Quoted.{mark_of, Quoted}
 use Rattle.jsonb_spec.specs.Tree.{Mark}
 use Rattle.jsonb_spec.specs.Text.StringText.{control_text, byte_text, quoted_text}
 use Rattle.jsonb_value.proofs.Strings.Units.{alone-character}
@@ -68,8 +68,10 @@ item-item_of mode byte =
     let e = escapes_as mode in
     by_cases (λ b item text. IsItem mode item) byte e.0 e.1 e.2 e.3 e.4 (λ low. (refl, control_each byte low)) (λ no_quote no_backslash. no_backslash)
 
-pub inside-item_of : (byte : ℕ) → MayStandIn 34 (item_of byte)
-inside-item_of byte = by_cases (λ b item text. MayStandIn 34 item) byte tt tt tt tt tt (λ low. tt) (λ no_quote no_backslash. no_quote)
+pub inside-item_of : (byte : ℕ) → item_of byte ≢ raw 34
+inside-item_of byte =
+    by_cases (λ b item text. item ≢ raw 34) byte (λ e. cc) (λ e. cc) (λ e. cc) (λ e. cc) (λ e. cc) (λ low e. cc)
+    (λ no_quote no_backslash e. no_quote (let same : byte ≡ 34 = cc in same))
 
 unit_value-control : (byte : ℕ) → byte < 32 → digits_value 16 (control_digits byte) ≡ byte
 unit_value-control byte low = let values = control_values byte low in omega (arith, values.0, values.1)
@@ -103,7 +105,7 @@ each-items_of : (mode : Mode) (text : List ℕ) → AllByRecursion (IsItem mode)
 each-items_of mode [] = tt
 each-items_of mode (byte ∷ text) = (item-item_of mode byte, each-items_of mode text)
 
-inside-items_of : (text : List ℕ) → AllByRecursion (MayStandIn 34) (map item_of text)
+inside-items_of : (text : List ℕ) → AllByRecursion (λ item. item ≢ raw 34) (map item_of text)
 inside-items_of [] = tt
 inside-items_of (byte ∷ text) = (inside-item_of byte, inside-items_of text)
 
@@ -117,12 +119,15 @@ pub reads_back : (mode : Mode) (text : List ℕ) → IsUtf8 text → (mark : Mar
 reads_back mode text utf8 = (
   mark_of (map item_of text),
   record {
-    items = map item_of text;
-    spelled = ap (λ inner. 34 ∷ inner ++ 34 ∷ []) (spelling-items_of text);
-    each = each-items_of mode text;
+    body = flat_map byte_text text;
+    spelled = refl;
+    decodes = record {
+      items = map item_of text;
+      body = record { spelled = spelling-items_of text; each = each-items_of mode text };
+      meant = sym (meaning-items_of text);
+      utf8 = utf8;
+    };
     inside = inside-items_of text;
-    meant = sym (meaning-items_of text);
-    utf8 = utf8;
     marked = refl;
   },
 )

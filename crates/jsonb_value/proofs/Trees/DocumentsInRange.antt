@@ -98,7 +98,7 @@ module _ (mode : Mode) (IsIn : Num → Type 0) (is_in : (bytes : List ℕ) (n : 
   scalar_holds depth bytes t (literal_value (null_word w)) = (tt, tt)
   scalar_holds depth bytes t (literal_value (true_word w)) = (tt, tt)
   scalar_holds depth bytes t (literal_value (false_word w)) = (tt, tt)
-  scalar_holds depth bytes t (string_value q s) = (tt, s.utf8)
+  scalar_holds depth bytes t (string_value q s) = (tt, s.decodes.utf8)
   scalar_holds depth bytes t (number_value {n = n} is) = is_in bytes n is
 
   padded_holds : (depth : ℕ) (Value : List ℕ → Tree → Type 0) → HoldsOf depth Value → HoldsOf depth (IsPadded mode Value)
@@ -109,7 +109,7 @@ module _ (mode : Mode) (IsIn : Num → Type 0) (is_in : (bytes : List ℕ) (n : 
   element_holds depth Value each bytes t (empty_element m _) = (tt, tt)
 
   key_utf8 : (bytes : List ℕ) (key : Mark × List ℕ) → IsKey mode bytes key → IsUtf8 key.1
-  key_utf8 bytes key (quoted_key q s) = s.utf8
+  key_utf8 bytes key (quoted_key q s) = s.decodes.utf8
   key_utf8 bytes key (bare_key e k) = subst IsUtf8 (sym k.spelled) (characters_utf8 (k.first ∷ k.others) k.scalars)
 
   padded_key_utf8 : (bytes : List ℕ) (key : Mark × List ℕ) → IsPadded mode (IsKey mode) bytes key → IsUtf8 key.1

@@ -11,7 +11,6 @@ use Rattle.jsonb_spec.specs.Order.{decimal_cmp, num_cmp, bytes_cmp, tree_cmp, tr
 use Rattle.jsonb_spec.specs.Text.Range.{IsWithin, AreWithin, HaveWithin}
 use Rattle.jsonb_spec.specs.Grammar.StringBody.{Item, raw, escape, unit, after_u, spelling}
 use Rattle.jsonb_spec.specs.Text.StringText.{byte_text, quoted_text}
-use Rattle.jsonb_spec.specs.Grammar.Quoted.{MayStandIn as IsInsideQuotes}
 use Rattle.jsonb_spec.specs.Text.{tree_text, with_commas, item_texts, member_texts}
 use Rattle.jsonb_spec.specs.Tree.{Num, Tree, null, boolean, string, number, array, object, Trees, no_trees, more_trees, Members, no_members, more_members}
 use Rattle.jsonb_value.proofs.Numbers.Texts.{IsNumberByte, Begins, number_first, same_number_before}
@@ -32,8 +31,8 @@ both_equal r s p q = (λ i. ordering_then (p i) s) ∙ q
 
 -- ---- strings
 
-no_quote : (item : Item) (rest s : List ℕ) → IsInsideQuotes 34 item → spelling item ++ rest ≢ 34 ∷ s
-no_quote (raw byte) rest s inside e = inside (heads byte 34 rest s e)
+no_quote : (item : Item) (rest s : List ℕ) → item ≢ raw 34 → spelling item ++ rest ≢ 34 ∷ s
+no_quote (raw byte) rest s inside e = inside (ap raw (heads byte 34 rest s e))
 no_quote (escape letter byte) rest s inside e = absurd (omega (arith, heads 92 34 (letter ∷ rest) s e))
 no_quote (unit braces digits) rest s inside e = absurd (omega (arith, heads 92 34 (117 ∷ (after_u braces digits ++ rest)) s e))
 

@@ -200,12 +200,15 @@ wider_items (item ∷ items) each = (wider_item item each.0, wider_items items e
 
 wider_quoted : (quote : ℕ) (bytes text : List ℕ) (mark : Mark) → Quoted standard quote bytes text mark → Quoted extended quote bytes text mark
 wider_quoted quote bytes text mark q = record {
-  items = q.items;
+  body = q.body;
   spelled = q.spelled;
-  each = wider_items q.items q.each;
+  decodes = record {
+    items = q.decodes.items;
+    body = record { spelled = q.decodes.body.spelled; each = wider_items q.decodes.items q.decodes.body.each };
+    meant = q.decodes.meant;
+    utf8 = q.decodes.utf8;
+  };
   inside = q.inside;
-  meant = q.meant;
-  utf8 = q.utf8;
   marked = q.marked;
 }
 
@@ -259,7 +262,7 @@ quote_byte quote e = (omega (arith, e), omega (arith, e), omega (arith, e), omeg
 
 scalar_first : (bytes : List ℕ) (t : Tree) → IsScalar standard bytes t → Begins IsTextByte bytes
 scalar_first bytes t (literal_value l) = literal_first bytes t l
-scalar_first bytes t (string_value {quote = quote} q s) = first_is quote (flat_map spelling s.items ++ quote ∷ []) bytes s.spelled (quote_byte quote q)
+scalar_first bytes t (string_value {quote = quote} q s) = first_is quote (s.body ++ quote ∷ []) bytes s.spelled (quote_byte quote q)
 scalar_first bytes t (number_value {n = n} (negative, whole, joined, is_whole, is)) =
     subst (Begins IsTextByte) (sym joined) (spelled_first negative whole is_whole)
 
