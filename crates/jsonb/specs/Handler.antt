@@ -1,10 +1,10 @@
 -- How parsing fails, and what a `Value` and a `JsonAst` hold of what was parsed.
-use Rattle.std.specs.Prelude.{◌≡◌, ℕ, ◌+◌, ◌-◌, Bool, true, false, List, [], ◌∷◌, ◌++◌, length, map, Option, Some, None, Result, Ok, Err, String, string_bytes, Vec}
+use Rattle.std.specs.Prelude.{◌≡◌, ℕ, ◌+◌, ◌-◌, Bool, true, false, List, [], ◌∷◌, ◌++◌, length, map, Option, Some, None, Result, Ok, Err, String, string_bytes, Vec, ◌≢◌}
 use Rattle.std.specs.declared.alloc.Global.{Global}
 use Rattle.jsonb_value.specs.declared.error.Error.{Error}
 use Rattle.jsonb_value.specs.declared.error.Error.TheVariants.{Syntax, OutOfMemory}
 use Rattle.jsonb_value.specs.declared.value.Value.{Value}
-use Rattle.jsonb_spec.specs.Grammar.{AreDistinct, IsNew}
+use Rattle.jsonb_spec.specs.Grammar.{AreDistinct}
 use Rattle.jsonb_spec.specs.Tree.{Mark, Num, Tree, put_all}
 use Rattle.jsonb_spec.specs.Tree.Members.{no_members}
 use Rattle.jsonb_spec.specs.Tree.Mark.{plain}
@@ -18,6 +18,7 @@ use Rattle.jsonb_scan.specs.Open.{Open, elements_so_far, members_so_far}
 use Rattle.jsonb_scan.specs.Reading.{Fault, Read}
 use Rattle.jsonb_scan.specs.Reading.String.{Body}
 use Rattle.jsonb_spec.specs.Source.{Source, Found, array_source_of, found_member, member_of, number_source, string_source, source_alone, spot_of}
+use Rattle.std.specs.List.{AllByRecursion}
 
 -- ---- how a call fails
 
@@ -194,4 +195,4 @@ found_keys fs = map (λ s. s.key) (map spot_of fs)
 pub record MapHolds (fs : List Found) (es : List (String Global × Value)) : Type 0 where
   pub put : members_view es ≡ put_all (map member_of fs) no_members
   pub distinct : AreDistinct (found_keys fs)
-  pub known : (k : List ℕ) → IsNew k (names es) → IsNew k (found_keys fs)
+  pub known : (k : List ℕ) → AllByRecursion (λ l. k ≢ l) (names es) → AllByRecursion (λ l. k ≢ l) (found_keys fs)

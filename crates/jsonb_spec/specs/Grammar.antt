@@ -8,7 +8,8 @@ pub mod Scalar
 pub mod StandardNumber
 pub mod StringBody
 pub mod StringFault
-use Rattle.std.specs.Prelude.{◌≡◌, ◌≢◌, ℕ, zero, suc, List, [], ◌∷◌, ◌++◌, map}
+use Rattle.std.specs.Prelude.{◌≡◌, ◌≢◌, ℕ, zero, suc, List, [], ◌∷◌, ◌++◌, map, ⊤}
+use Rattle.std.specs.List.{AllByRecursion}
 use Rattle.jsonb_spec.specs.Ascii as ascii
 use Rattle.jsonb_spec.specs.Mode.{Mode, extended}
 use Rattle.jsonb_spec.specs.Tree.{Mark, Tree, null, array, object, no_members, trees_of, Member, put_all}
@@ -36,19 +37,10 @@ pub data IsMember (mode : Mode) (Value : List ℕ → Tree → Type 0) : List �
   key_and_value : {left right : List ℕ} {key : Mark × List ℕ} {t : Tree} → IsPadded mode (IsKey mode) left key
       → IsPadded mode Value right t → IsMember mode Value (left ++ ascii.colon ∷ right) (key.1, t)
 
--- the key is none of these
-abbrev pub IsNew : List ℕ → List (List ℕ) → Type 0
-IsNew k [] = Unit {0}
-IsNew k (l ∷ ls) = (k ≢ l) × IsNew k ls
-
 -- no two keys are the same
 abbrev pub AreDistinct : List (List ℕ) → Type 0
-AreDistinct [] = Unit {0}
-AreDistinct (k ∷ ks) = IsNew k ks × AreDistinct ks
-
--- no two members have one key
-abbrev pub HaveDistinctKeys : List Member → Type 0
-HaveDistinctKeys ms = AreDistinct (map (λ m. m.0) ms)
+AreDistinct [] = ⊤
+AreDistinct (key ∷ keys) = AllByRecursion (λ other. key ≢ other) keys × AreDistinct keys
 
 -- A value, where Value says which values may stand inside of it. One element alone is not whitespace alone.
 pub data IsValue (mode : Mode) (Value : List ℕ → Tree → Type 0) : List ℕ → Tree → Type 0 where
@@ -59,7 +51,8 @@ pub data IsValue (mode : Mode) (Value : List ℕ → Tree → Type 0) : List ℕ
       → IsValue mode Value (ascii.open_bracket ∷ (body ++ ascii.close_bracket ∷ [])) (array (trees_of ts))
   empty_object : {whitespace : List ℕ} → IsWhitespace mode whitespace
       → IsValue mode Value (ascii.open_brace ∷ (whitespace ++ ascii.close_brace ∷ [])) (object no_members)
-  full_object : {body : List ℕ} {ms : List Member} → IsJoined (IsMember mode Value) body ms → HaveDistinctKeys ms
+  full_object : {body : List ℕ} {ms : List Member} → IsJoined (IsMember mode Value) body ms
+      → AreDistinct (map (λ m. m.0) ms)
       → IsValue mode Value (ascii.open_brace ∷ (body ++ ascii.close_brace ∷ [])) (object (put_all ms no_members))
 
 -- the bytes spell the tree, with arrays and objects nested no deeper than the number

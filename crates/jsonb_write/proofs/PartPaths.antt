@@ -9,9 +9,9 @@ use Rattle.std.specs.Prelude.{if◌then◌else◌, String}
 use Rattle.std.specs.Str.{bytes_eq}
 use Rattle.std.specs.declared.alloc.Global.{Global}
 use Rattle.jsonb_spec.specs.Accessors.{find_member, item_at}
-use Rattle.jsonb_spec.specs.Grammar.{AreDistinct, IsNew}
+use Rattle.jsonb_spec.specs.Grammar.{AreDistinct}
 use Rattle.jsonb_spec.specs.Tree.{Mark, Tree}
-use Rattle.jsonb_value.proofs.Trees.MembersInOrder.{distinct_keys}
+use Rattle.jsonb_value.proofs.Trees.MembersInOrder.{distinct_keys, IsNew}
 use Rattle.jsonb_spec.specs.Order.ByContent.{pairs_of}
 use Rattle.jsonb_scan.specs.Open.{Open, add_part, elements_so_far, members_so_far}
 use Rattle.jsonb_spec.specs.Source.{Found, Source, array_source_of, first_repeat, insert_by, object_source_of, sort_by, sources_of, spot_cmp, spot_of, tree_of_source, trees_of_sources}

@@ -6,7 +6,7 @@ use Rattle.std.specs.BTreeMap.{insert_entry, is_at}
 use Rattle.std.specs.Cmp.Lexicographic.{slice_cmp}
 use Rattle.std.specs.Map.{lookup}
 use Rattle.std.specs.Ordering.{match_ordering}
-use Rattle.jsonb_spec.specs.Grammar.{AreDistinct, IsNew}
+use Rattle.jsonb_spec.specs.Grammar.{AreDistinct}
 use Rattle.jsonb_spec.specs.Tree.{Mark, Member, Members, put, put_all, trees_of}
 use Rattle.jsonb_spec.specs.Tree.Members.{no_members}
 use Rattle.jsonb_spec.specs.Tree.Tree.{array, object}
@@ -29,6 +29,7 @@ use Rattle.jsonb.proofs.Containers.Repeats.{no_repeat}
 use Rattle.jsonb.proofs.Containers.Sources.{array_tree, object_tree}
 use Rattle.jsonb.proofs.Containers.Values.{same_keys}
 use Rattle.jsonb.proofs.Places.Views.{source-Array}
+use Rattle.jsonb_value.proofs.Trees.MembersInOrder.{IsNew}
 
 -- ---- arrays
 

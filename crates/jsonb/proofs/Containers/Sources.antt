@@ -1,6 +1,5 @@
 -- The trees of sources, by what they are made of.
 use Rattle.std.proofs.Common.{◌≡◌, ℕ, List, [], ◌∷◌, map, refl, ap, sym, ◌∙◌}
-use Rattle.jsonb_spec.specs.Grammar.{HaveDistinctKeys}
 use Rattle.jsonb_spec.specs.Grammar.Scalar.{IsScalar}
 use Rattle.jsonb_spec.specs.Grammar.Scalar.IsLiteral.{false_word, null_word, true_word}
 use Rattle.jsonb_spec.specs.Grammar.Scalar.IsScalar.{literal_value, number_value, string_value}
@@ -10,6 +9,7 @@ use Rattle.jsonb_spec.specs.Tree.Members.{no_members}
 use Rattle.jsonb_spec.specs.Tree.Tree.{array, boolean, null, number, object, string}
 use Rattle.jsonb_spec.specs.Source.{Found, Source, array_source_of, member_of, object_source_of, put_source_members, sort_by, source_alone, source_members_of, sources_of, spot_of, tree_of_source, trees_of_sources}
 use Rattle.jsonb.proofs.Containers.Shuffles.{put_all-shuffle, shuffle-map, sort-shuffles}
+use Rattle.jsonb_value.proofs.Trees.MembersInOrder.{HaveDistinctKeys}
 
 -- ---- values that hold no others
 

@@ -3,7 +3,7 @@ use Rattle.std.proofs.Common.{◌≡◌, ℕ, zero, suc, ◌+◌, ◌-◌, ◌�
 use Rattle.std.proofs.lemmas.Bool.{cond-false, cond-true}
 use Rattle.jsonb_spec.specs.Grammar.Whitespace.{IsLastWhitespace, IsWhitespace}
 use Rattle.jsonb_spec.specs.Code.Code.{expected_array_comma_or_end, expected_colon, expected_object_comma_or_end, invalid_eof, unexpected_trailing_characters}
-use Rattle.jsonb_spec.specs.Grammar.{AreDistinct, Derives, HaveDistinctKeys, IsDocument, IsElement, IsJoined, IsMember, IsPadded, IsValue, max_depth}
+use Rattle.jsonb_spec.specs.Grammar.{AreDistinct, Derives, IsDocument, IsElement, IsJoined, IsMember, IsPadded, IsValue, max_depth}
 use Rattle.jsonb_spec.specs.Grammar.IsDocument.{whitespace_alone, value_alone}
 use Rattle.jsonb_spec.specs.Grammar.IsElement.{empty_element, whole_element}
 use Rattle.jsonb_spec.specs.Grammar.IsJoined.{more_parts, one_part}
@@ -29,6 +29,7 @@ use Rattle.jsonb.proofs.Scalars.Spellings.{Follows, IsNumberTree, key_complete, 
 use Rattle.jsonb.proofs.Scalars.Spellings.Follows.{before}
 use Rattle.jsonb_scan.proofs.Text.Comments.{begins_found}
 use Rattle.jsonb_scan.proofs.Text.Whitespace.{Passes, ends_all, ends_line, passes, skip-whitespace, skip-skip, skip-stop, skips}
+use Rattle.jsonb_value.proofs.Trees.MembersInOrder.{HaveDistinctKeys}
 
 -- The bytes are a spelling of the source's tree.
 abbrev pub Seen : (List ℕ → Tree → Type 0) → List ℕ → Source → Type 0

@@ -26,8 +26,8 @@ spelling (raw byte) = byte ∷ []
 spelling (escape letter byte) = ascii.backslash ∷ letter ∷ []
 spelling (unit braces digits) = ascii.backslash ∷ ascii.lower_u ∷ after_u braces digits
 
--- The byte that a backslash and this letter stand for in both modes: `"`, `\` and `/` themselves, and for b, f, n, r and
--- t a backspace, a form feed, a line feed, a carriage return and a tab.
+-- The byte that a backslash and this letter stand for in both modes: `"`, `\` and `/` stand for themselves, and b, f,
+-- n, r and t for a backspace, a form feed, a line feed, a carriage return and a tab.
 abbrev pub standard_escape : ℕ → Option ℕ
 standard_escape letter =
     if letter == ascii.quote then Some ascii.quote
@@ -55,8 +55,8 @@ IsItem mode (raw byte) = byte ≢ ascii.backslash
 IsItem mode (escape letter byte) = escaped_byte mode letter ≡ Some byte
 IsItem mode (unit braces digits) = (length digits ≡ 4) × All IsHexDigit digits
 
--- A unit alone: its character, or where it is half of a surrogate pair the unit as text, six characters, with its digits
--- as they were spelled.
+-- A unit alone: its character, or where it is half of a surrogate pair the unit as text: six characters, with its
+-- digits as they were spelled.
 unfoldable pub alone : List ℕ → List ℕ
 alone digits =
     if is_high_surrogate (digits_value 16 digits) || is_low_surrogate (digits_value 16 digits)

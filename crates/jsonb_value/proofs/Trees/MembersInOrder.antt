@@ -1,13 +1,22 @@
 -- Members whose keys ascend, inserted one after the other, stay as they are.
-use Rattle.std.proofs.Common.{List, ◌≡◌, ℕ, Less, Equal, refl, sym, ap, ◌∙◌, map}
+use Rattle.std.proofs.Common.{List, ◌≡◌, ℕ, Less, Equal, refl, sym, ap, ◌∙◌, map, ◌≢◌}
 use Rattle.std.specs.Cmp.{tied_itself}
 use Rattle.std.specs.Cmp.Lexicographic.{slice_cmp, nat_list_cmp_total}
 use Rattle.std.specs.Ordering.{nat_cmp, match_ordering}
-use Rattle.jsonb_spec.specs.Grammar.{IsNew, HaveDistinctKeys}
 use Rattle.jsonb_spec.specs.Keys.{IsBelowKeys, KeysAscend}
 use Rattle.jsonb_spec.specs.Order.ByContent.{pairs_of}
-use Rattle.jsonb_spec.specs.Tree.{Tree, Members, no_members, more_members, put, put_all}
+use Rattle.jsonb_spec.specs.Tree.{Tree, Members, no_members, more_members, put, put_all, Member}
 use Rattle.jsonb_value.proofs.Values.Members.{turned}
+use Rattle.jsonb_spec.specs.Grammar.{AreDistinct}
+use Rattle.std.specs.List.{AllByRecursion}
+
+-- the key is none of these
+abbrev pub IsNew : List ℕ → List (List ℕ) → Type 0
+IsNew k ls = AllByRecursion (λ l. k ≢ l) ls
+
+-- no two members have one key
+abbrev pub HaveDistinctKeys : List Member → Type 0
+HaveDistinctKeys ms = AreDistinct (map (λ m. m.0) ms)
 
 is_new : (k : List ℕ) (ms : Members) → IsBelowKeys k ms → IsNew k (map (λ m. m.0) (pairs_of ms))
 is_new k no_members h = tt
