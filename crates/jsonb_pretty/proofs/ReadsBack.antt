@@ -11,7 +11,7 @@ use Rattle.jsonb_spec.specs.Mode.{Mode, standard, extended}
 use Rattle.jsonb_spec.specs.Order.ByContent.{pairs_of}
 use Rattle.jsonb_spec.specs.Order.{bytes_cmp, tree_cmp, trees_cmp, members_cmp}
 use Rattle.jsonb_spec.specs.Proper.{IsProperNumber, IsProper, AreProper, HaveProperParts}
-use Rattle.jsonb_spec.specs.Text.Range.{IsWithin, AreWithin, HaveWithin, IsInTexts, IsIntegral, IsInRangeOf}
+use Rattle.jsonb_spec.specs.Text.Range.{IsWithin, AreWithin, HaveWithin, IsIntegral, IsInRangeOf, HasFewDigits}
 use Rattle.jsonb_spec.specs.Text.NumberText.{number_text}
 use Rattle.jsonb_spec.specs.Text.StringText.{quoted_text}
 use Rattle.jsonb_spec.specs.Text.{tree_text, with_commas}
@@ -260,4 +260,4 @@ module _ (mode : Mode) (IsIn : Num → Type 0) (short : (n : Num) → IsProperNu
 -- what is written over lines of a tree in a mode's range is a document of the mode
 pub range_stands_for : (mode : Mode) (indent : ℕ) (t : Tree) → IsProper t → IsInRangeOf mode t → StandsFor mode (indented_text indent 0 t) t
 range_stands_for standard indent t p w = lines_stand_for standard IsIntegral integral_short integer_reads_back indent t p w
-range_stands_for extended indent t p w = lines_stand_for extended IsInTexts in_texts_short extended_reads_back indent t p w
+range_stands_for extended indent t p w = lines_stand_for extended HasFewDigits in_texts_short extended_reads_back indent t p w

@@ -4,7 +4,7 @@ use Rattle.jsonb_spec.specs.Grammar.{IsDocument}
 use Rattle.jsonb_spec.specs.Mode.{Mode, standard, extended}
 use Rattle.jsonb_spec.specs.Proper.{IsProper, AreProper, HaveProperParts}
 use Rattle.jsonb_spec.specs.SortKey.{IsBounded, AreBounded, HaveBounds}
-use Rattle.jsonb_spec.specs.Text.Range.{IsWithin, AreWithin, HaveWithin, IsInTexts, IsIntegral}
+use Rattle.jsonb_spec.specs.Text.Range.{IsWithin, AreWithin, HaveWithin, IsIntegral, HasFewDigits}
 use Rattle.jsonb_spec.specs.Tree.{Num, Tree, null, boolean, string, number, array, object, binary, date, timestamp, timestamp_tz, interval, Trees, no_trees, more_trees, Members, no_members, more_members}
 use Rattle.jsonb_value.proofs.Trees.RangeTexts.{document_in_range}
 
@@ -38,4 +38,4 @@ module _ (IsIn : Num → Type 0) where
 -- the tree of a document
 pub document_bounded : (mode : Mode) (bytes : List ℕ) (t : Tree) → IsDocument mode bytes t → IsBounded t
 document_bounded standard bytes t d = let r = document_in_range standard bytes t d in is_bounded IsIntegral t _ r.1 r.0
-document_bounded extended bytes t d = let r = document_in_range extended bytes t d in is_bounded IsInTexts t _ r.1 r.0
+document_bounded extended bytes t d = let r = document_in_range extended bytes t d in is_bounded HasFewDigits t _ r.1 r.0

@@ -3,9 +3,8 @@ use Rattle.std.proofs.Common.{◌≡◌, ℕ, zero, suc, ◌+◌, ◌≤◌, Boo
 use Rattle.std.specs.Prelude.{slice_index}
 use Rattle.jsonb_spec.specs.Mode.{Mode, extended}
 use Rattle.jsonb_spec.specs.Text.NumberText.{number_text, text_of_parts}
-use Rattle.jsonb_spec.specs.Text.Range.{IsInTexts}
 use Rattle.jsonb_spec.specs.Tree.{Num, number}
-use Rattle.jsonb_value.proofs.Numbers.InRange.{extended_reads_back, standard_number}
+use Rattle.jsonb_value.proofs.Numbers.InRange.{extended_reads_back, standard_number, integral_in_texts}
 use Rattle.jsonb_scan.specs.Reading.Whitespace.{is_break}
 use Rattle.jsonb_scan.specs.Reading.ExtendedNumber.{EndsExtended, extended_number_at}
 use Rattle.jsonb_scan.specs.Reading.Number.{is_number_start}
@@ -41,8 +40,8 @@ extended_kept size mode bytes end is first kept ends =
     let rest = drop end bytes in
     let sound = number_sound size bytes n rest (kept.found size) in
     let text : sound.core ≡ number_text n = kept_text kept.read.negative kept.read.magnitude kept.read.end sound.core kept.some sound.number in
-    let fits : IsInTexts n = in_texts kept.read.negative in
-    let same = extended_reads_back n (standard_number sound.core n sound.number).1 fits in
+    let known = standard_number sound.core n sound.number in
+    let same = extended_reads_back n known.1 (integral_in_texts n known.1 known.0) in
     let at = extended_complete size (number_text n) rest same.read same.is_number (behind bytes end ends) in
     let found : extended_number_at size bytes ≡ Ok (same.read, rest) = ap (extended_number_at size) (sound.joined ∙ ap (λ core. core ++ rest) text) ∙ at in
     record {
@@ -52,10 +51,6 @@ extended_kept size mode bytes end is first kept ends =
       reads = extended_at_once size mode bytes same.read rest is first found;
       text = text ∙ sym (ap₂ text_of_parts same.scales same.wholes);
     }
-  where
-    in_texts : (negative : Bool) → IsInTexts (short_view (record { negative = negative; magnitude = kept.read.magnitude; end = kept.read.end }))
-    in_texts true = tt
-    in_texts false = tt
 
 -- what a parser passes that goes on behind it
 pub kept_passes : (p : Parser) (end : ℕ) (inside : p.offset + end ≤ size_of p) → IsKeptNumber (size_of p) (mode_of p.mode) (rest_of p) (drop end (rest_of p)) → PassesInteger p (record p { offset = p.offset + end; inside = inside })

@@ -32,15 +32,9 @@ module _ (IsIn : Num → Type 0) where
     HaveWithin no_members depth = ⊤
     HaveWithin (more_members key t ms) depth = IsWithin t depth × HaveWithin ms depth
 
--- a number with at most 38 digits, before and behind the point, as each integer has
-abbrev pub FitsText : Form → ℕ → ℕ → Type 0
-FitsText int64 scale magnitude = ⊤
-FitsText uint64 scale magnitude = ⊤
-FitsText decimal64 scale magnitude = (scale ≤ 38) × (magnitude < 10 ^ 38)
-FitsText decimal128 scale magnitude = (scale ≤ 38) × (magnitude < 10 ^ 38)
-
-abbrev pub IsInTexts : Num → Type 0
-IsInTexts n = FitsText n.form n.scale (unsigned_abs n.whole)
+-- a number that an extended text can have: at most 38 digits, before and behind the point
+abbrev pub HasFewDigits : Num → Type 0
+HasFewDigits n = (n.scale ≤ 38) × (unsigned_abs n.whole < 10 ^ 38)
 
 -- the form of an integer
 abbrev pub IsIntegerForm : Form → Type 0
@@ -53,10 +47,10 @@ IsIntegerForm decimal128 = ⊥
 abbrev pub IsIntegral : Num → Type 0
 IsIntegral n = IsIntegerForm n.form
 
--- The tree is in range: it is JSON, at most 512 arrays and objects stand inside of each other, and decimals have few
+-- The tree is in range: it is JSON, at most 512 arrays and objects stand inside of each other, and numbers have few
 -- digits.
 abbrev pub IsInRange : Tree → Type 0
-IsInRange t = IsWithin IsInTexts t max_depth
+IsInRange t = IsWithin HasFewDigits t max_depth
 
 -- The tree is in the range of integers: it is in range, and each of its numbers is an integer.
 abbrev pub IsIntegerRange : Tree → Type 0

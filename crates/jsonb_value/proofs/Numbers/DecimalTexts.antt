@@ -12,10 +12,11 @@ use Rattle.jsonb_spec.specs.Number.Signed.{signed_by}
 use Rattle.jsonb_spec.specs.Text.NumberText.{text_of_parts, with_point, zero_padded}
 use Rattle.jsonb_spec.specs.Grammar.StandardNumber.{IsSign}
 use Rattle.jsonb_spec.specs.Grammar.ExtendedNumber.{decimal_number}
-use Rattle.jsonb_spec.specs.Text.ReadsBack.{ReadsBackAsDecimal, HasFewDigits}
+use Rattle.jsonb_spec.specs.Text.ReadsBack.{ReadsBackAsDecimal}
 use Rattle.jsonb_value.proofs.Numbers.Pointed.{pointed_whole, pointed_inside, pointed_before}
 use Rattle.jsonb_value.proofs.Numbers.Nearest.{signed_parts}
 use Rattle.jsonb_value.proofs.Numbers.Fractions.{fraction_digits, fraction_text, precision_of, value_of}
+use Rattle.jsonb_spec.specs.Text.Range.{HasFewDigits}
 
 -- ---- digits
 

@@ -9,8 +9,8 @@ use Rattle.jsonb_spec.specs.Grammar.ExtendedNumber.{decimal_form, decimal_number
 use Rattle.jsonb_spec.specs.Mode.{standard, extended}
 use Rattle.jsonb_spec.specs.Text.NumberText.{text_of_parts, number_text}
 use Rattle.jsonb_spec.specs.Proper.{FitsUnsigned, FitsScale, FitsWhole, IsProperNumber}
-use Rattle.jsonb_spec.specs.Text.Range.{FitsText, IsInTexts, IsIntegerForm, IsIntegral}
-use Rattle.jsonb_spec.specs.Text.ReadsBack.{integer_number, HasFewDigits}
+use Rattle.jsonb_spec.specs.Text.Range.{IsIntegerForm, IsIntegral, HasFewDigits}
+use Rattle.jsonb_spec.specs.Text.ReadsBack.{integer_number}
 use Rattle.jsonb_spec.specs.Grammar.StandardNumber.{IsInteger, IsStandardNumber}
 use Rattle.jsonb_spec.specs.Number.Signed.{signed_by}
 use Rattle.jsonb_spec.specs.Tree.{Form, int64, uint64, decimal64, decimal128, Num}
@@ -29,27 +29,18 @@ unsigned_short : (z : ℤ) → FitsUnsigned 64 z → unsigned_abs z < 10 ^ 38
 unsigned_short (pos n) fits = omega (arith, fits)
 unsigned_short (negsuc n) fits = absurd fits
 
-few_digits : (form : Form) (scale : ℕ) (whole : ℤ) → FitsScale form scale × FitsWhole form whole → FitsText form scale (unsigned_abs whole) → (scale ≤ 38) × (unsigned_abs whole < 10 ^ 38)
+pub in_texts_short : (n : Num) → IsProperNumber n → HasFewDigits n → IsShort n
+in_texts_short n p w = w.1
+
+few_digits : (form : Form) (scale : ℕ) (whole : ℤ) → FitsScale form scale × FitsWhole form whole → IsIntegerForm form → (scale ≤ 38) × (unsigned_abs whole < 10 ^ 38)
 few_digits int64 scale whole p w = (omega (arith, p.0), signed_short whole p.1)
 few_digits uint64 scale whole p w = (omega (arith, p.0), unsigned_short whole p.1)
-few_digits decimal64 scale whole p w = w
-few_digits decimal128 scale whole p w = w
+few_digits decimal64 scale whole p w = absurd w
+few_digits decimal128 scale whole p w = absurd w
 
--- a number in range has at most 38 digits
-pub in_texts_few : (n : Num) → IsProperNumber n → IsInTexts n → HasFewDigits n
-in_texts_few n p w = few_digits n.form n.scale n.whole p w
-
-pub in_texts_short : (n : Num) → IsProperNumber n → IsInTexts n → IsShort n
-in_texts_short n p w = (in_texts_few n p w).1
-
-integer_in_text : (form : Form) (scale : ℕ) (magnitude : ℕ) → IsIntegerForm form → FitsText form scale magnitude
-integer_in_text int64 scale magnitude w = tt
-integer_in_text uint64 scale magnitude w = tt
-integer_in_text decimal64 scale magnitude w = absurd w
-integer_in_text decimal128 scale magnitude w = absurd w
-
-pub integral_in_texts : (n : Num) → IsProperNumber n → IsIntegral n → IsInTexts n
-integral_in_texts n p w = integer_in_text n.form n.scale (unsigned_abs n.whole) w
+-- an integer has at most 38 digits
+pub integral_in_texts : (n : Num) → IsProperNumber n → IsIntegral n → HasFewDigits n
+integral_in_texts n p w = few_digits n.form n.scale n.whole p w
 
 pub integral_short : (n : Num) → IsProperNumber n → IsIntegral n → IsShort n
 integral_short n p w = in_texts_short n p (integral_in_texts n p w)
@@ -86,9 +77,9 @@ integer_reads_back n p w =
       wholes = refl;
     }
 
-pub extended_reads_back : (n : Num) → IsProperNumber n → IsInTexts n → SpellsSameNumber extended (number_text n) n
+pub extended_reads_back : (n : Num) → IsProperNumber n → HasFewDigits n → SpellsSameNumber extended (number_text n) n
 extended_reads_back n p w =
-    let r = reads_back_as_decimal n (in_texts_few n p w) in
+    let r = reads_back_as_decimal n w in
     record { read = r.0; is_number = inl r.1; scales = r.2; wholes = r.3 }
 
 -- ---- what number texts give
@@ -102,7 +93,7 @@ standard_number bytes n is = integer_is is.0 (digits_value 10 is.1) n is.4
 
 -- a number in range
 abbrev IsRanged : Num → Type 0
-IsRanged n = IsInTexts n × IsProperNumber n
+IsRanged n = HasFewDigits n × IsProperNumber n
 
 pub digits-append : (ds es : List ℕ) → AllDigits 10 ds → AllDigits 10 es → AllDigits 10 (ds ++ es)
 digits-append [] es h k = k
@@ -147,8 +138,8 @@ decimal_ranged b m scale precision small inside few =
     let magnitude : unsigned_abs value < 10 ^ 38 = subst (λ k. k < 10 ^ 38) (sym (unsigned_abs-signed b m)) short in
     let few_digits : (scale ≤ 38) × (unsigned_abs value < 10 ^ 38) = (omega (arith, inside, few), magnitude) in
     picked ((scale == 0) && (int_le (pos 0) value && int_lt value (pos (2 ^ 64)))) ((scale == 0) && (int_le (neg_ℤ (pos (2 ^ 63))) value && int_lt value (pos 0))) (nat_le precision 18) scale value IsRanged
-    (λ h. let tests = and_parts (scale == 0) (int_le (pos 0) value && int_lt value (pos (2 ^ 64))) h in (tt, (eqb-true scale 0 tests.0, unsigned_fits value tests.1)))
-    (λ h. let tests = and_parts (scale == 0) (int_le (neg_ℤ (pos (2 ^ 63))) value && int_lt value (pos 0)) h in (tt, (eqb-true scale 0 tests.0, signed_fits value tests.1)))
+    (λ h. let tests = and_parts (scale == 0) (int_le (pos 0) value && int_lt value (pos (2 ^ 64))) h in (few_digits, (eqb-true scale 0 tests.0, unsigned_fits value tests.1)))
+    (λ h. let tests = and_parts (scale == 0) (int_le (neg_ℤ (pos (2 ^ 63))) value && int_lt value (pos 0)) h in (few_digits, (eqb-true scale 0 tests.0, signed_fits value tests.1)))
     (λ h. (few_digits, (omega (arith, inside, few), small_signed b m (small 18 (leb-true precision 18 h)))))
     (few_digits, (omega (arith, inside, few), wide_signed b m short))
 
@@ -167,7 +158,7 @@ unfolding hexadecimal_number
 hexadecimal_ranged false m n is = unsigned (nat_lt m (2 ^ 64)) (nat_lt m (10 ^ 38)) (ltb-true m (2 ^ 64)) (ltb-true m (10 ^ 38)) is
   where
     unsigned : (x y : Bool) → (x ≡ true → m < 2 ^ 64) → (y ≡ true → m < 10 ^ 38) → (if x then Some (record { form = uint64; scale = 0; whole = pos m }) else (if y then Some (record { form = decimal128; scale = 0; whole = pos m }) else None)) ≡ Some n → IsRanged n
-    unsigned true y p q e = subst IsRanged (some_number (record { form = uint64; scale = 0; whole = pos m }) n e) (tt, (refl, p refl))
+    unsigned true y p q e = subst IsRanged (some_number (record { form = uint64; scale = 0; whole = pos m }) n e) ((omega arith, omega (arith, p refl)), (refl, p refl))
     unsigned false true p q e = subst IsRanged (some_number (record { form = decimal128; scale = 0; whole = pos m }) n e) ((omega arith, q refl), (omega arith, wide_signed false m (q refl)))
     unsigned false false p q e = cc
 hexadecimal_ranged true m n is = signed (nat_le m (2 ^ 63)) (nat_lt m (10 ^ 38)) (leb-true m (2 ^ 63)) (ltb-true m (10 ^ 38)) is
@@ -177,10 +168,10 @@ hexadecimal_ranged true m n is = signed (nat_le m (2 ^ 63)) (nat_lt m (10 ^ 38))
     least (suc k) h = record { sfits = omega arith }
 
     signed : (x y : Bool) → (x ≡ true → m ≤ 2 ^ 63) → (y ≡ true → m < 10 ^ 38) → (if x then Some (record { form = int64; scale = 0; whole = neg_ℤ (pos m) }) else (if y then Some (record { form = decimal128; scale = 0; whole = neg_ℤ (pos m) }) else None)) ≡ Some n → IsRanged n
-    signed true y p q e = subst IsRanged (some_number (record { form = int64; scale = 0; whole = neg_ℤ (pos m) }) n e) (tt, (refl, least m (p refl)))
+    signed true y p q e = subst IsRanged (some_number (record { form = int64; scale = 0; whole = neg_ℤ (pos m) }) n e) ((omega arith, subst (λ k. k < 10 ^ 38) (sym (unsigned_abs-signed true m)) (omega (arith, p refl))), (refl, least m (p refl)))
     signed false true p q e = subst IsRanged (some_number (record { form = decimal128; scale = 0; whole = neg_ℤ (pos m) }) n e) ((omega arith, subst (λ k. k < 10 ^ 38) (sym (unsigned_abs-signed true m)) (q refl)), (omega arith, wide_signed true m (q refl)))
     signed false false p q e = cc
 
-pub extended_number : (bytes : List ℕ) (n : Num) → IsExtendedNumber bytes n → IsInTexts n × IsProperNumber n
+pub extended_number : (bytes : List ℕ) (n : Num) → IsExtendedNumber bytes n → HasFewDigits n × IsProperNumber n
 extended_number bytes n (inl d) = decimal_text bytes n d
 extended_number bytes n (inr (sign, mark, whole, parts, is)) = hexadecimal_ranged (starts_with_minus sign) (digits_value 16 whole) n is

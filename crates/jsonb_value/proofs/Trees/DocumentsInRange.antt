@@ -10,7 +10,7 @@ use Rattle.jsonb_spec.specs.Grammar.{IsPadded, padded, IsElement, whole_element,
 use Rattle.jsonb_spec.specs.Keys.{IsBelowKeys, KeysAscend}
 use Rattle.jsonb_spec.specs.Mode.{Mode, standard, extended}
 use Rattle.jsonb_spec.specs.Proper.{IsProperNumber, IsProper, AreProper, HaveProperParts}
-use Rattle.jsonb_spec.specs.Text.Range.{IsWithin, AreWithin, HaveWithin, IsInTexts, IsIntegral, IsInRange, IsIntegerRange}
+use Rattle.jsonb_spec.specs.Text.Range.{IsWithin, AreWithin, HaveWithin, IsIntegral, IsInRange, IsIntegerRange, HasFewDigits}
 use Rattle.jsonb_spec.specs.Grammar.Scalar.{IsNumber, IsScalar, literal_value, string_value, number_value, null_word, true_word, false_word, IsKey, quoted_key, bare_key}
 use Rattle.jsonb_spec.specs.Tree.{Mark, Num, Tree, trees_of, Members, no_members, more_members, Member, put, put_all}
 use Rattle.jsonb_value.proofs.Trees.DocumentTexts.{joined-all}
@@ -144,4 +144,4 @@ standard_in_range = document_holds standard IsIntegral standard_number
 
 -- what is read in extended mode is in range
 pub extended_in_range : (bytes : List ℕ) (t : Tree) → IsDocument extended bytes t → IsInRange t × IsProper t
-extended_in_range = document_holds extended IsInTexts extended_number
+extended_in_range = document_holds extended HasFewDigits extended_number

@@ -4,7 +4,7 @@ use Rattle.jsonb_spec.specs.Grammar.{max_depth, IsDocument}
 use Rattle.jsonb_spec.specs.Mode.{Mode, standard, extended}
 use Rattle.jsonb_spec.specs.Order.{Same}
 use Rattle.jsonb_spec.specs.Proper.{IsProper}
-use Rattle.jsonb_spec.specs.Text.Range.{IsWithin, IsInTexts, IsIntegral, IsInRange, IsIntegerRange, IsInRangeOf}
+use Rattle.jsonb_spec.specs.Text.Range.{IsWithin, IsIntegral, IsInRange, IsIntegerRange, IsInRangeOf, HasFewDigits}
 use Rattle.jsonb_spec.specs.Text.ReadsBack.{ReadsBackAs}
 use Rattle.jsonb_spec.specs.Text.{tree_text, text_of}
 use Rattle.jsonb_spec.specs.Tree.{Num, Tree}
@@ -30,7 +30,7 @@ some_is_there xs e = cc
 -- so has a tree in a mode's range
 pub range_has_text : (mode : Mode) (t : Tree) → IsInRangeOf mode t → text_of t ≢ None
 range_has_text standard t w none = some_is_there (tree_text t) (sym (text_in_range IsIntegral t w) ∙ none)
-range_has_text extended t w none = some_is_there (tree_text t) (sym (text_in_range IsInTexts t w) ∙ none)
+range_has_text extended t w none = some_is_there (tree_text t) (sym (text_in_range HasFewDigits t w) ∙ none)
 
 same_short : (t u : Tree) → IsWithin IsShort t max_depth → IsWithin IsShort u max_depth → tree_text t ≡ tree_text u → Same t u
 same_short t u w v e = (one_tree t u max_depth max_depth [] [] w v tt tt (append-nil (tree_text t) ∙ e ∙ sym (append-nil (tree_text u)))).0
@@ -38,12 +38,12 @@ same_short t u w v e = (one_tree t u max_depth max_depth [] [] w v tt tt (append
 -- trees in range with one text are the same
 pub one_text_in_range : (t u : Tree) → IsProper t → IsProper u → IsInRange t → IsInRange u → text_of t ≡ text_of u → Same t u
 one_text_in_range t u p q w v e =
-    same_short t u (widened IsInTexts IsShort in_texts_short t max_depth p w) (widened IsInTexts IsShort in_texts_short u max_depth q v)
-    (some_same (tree_text t) (tree_text u) (sym (text_in_range IsInTexts t w) ∙ e ∙ text_in_range IsInTexts u v))
+    same_short t u (widened HasFewDigits IsShort in_texts_short t max_depth p w) (widened HasFewDigits IsShort in_texts_short u max_depth q v)
+    (some_same (tree_text t) (tree_text u) (sym (text_in_range HasFewDigits t w) ∙ e ∙ text_in_range HasFewDigits u v))
 
 -- integers in range are in range
 pub integer_range : (t : Tree) → IsProper t → IsIntegerRange t → IsInRange t
-integer_range t p w = widened IsIntegral IsInTexts integral_in_texts t max_depth p w
+integer_range t p w = widened IsIntegral HasFewDigits integral_in_texts t max_depth p w
 
 pub one_text_of_integers : (t u : Tree) → IsProper t → IsProper u → IsIntegerRange t → IsIntegerRange u → (text_of t ≡ text_of u) ↔ Same t u
 one_text_of_integers t u p q w v = (
@@ -64,7 +64,7 @@ pub range_reads_back : (mode : Mode) (t : Tree) → IsProper t → IsInRangeOf m
 range_reads_back standard t p w bytes e =
     subst (λ text. ReadsBackAs standard text t) (some_same (tree_text t) bytes (sym (text_in_range IsIntegral t w) ∙ e)) (text_reads_back standard IsIntegral integral_short integer_reads_back t p w)
 range_reads_back extended t p w bytes e =
-    subst (λ text. ReadsBackAs extended text t) (some_same (tree_text t) bytes (sym (text_in_range IsInTexts t w) ∙ e)) (text_reads_back extended IsInTexts in_texts_short extended_reads_back t p w)
+    subst (λ text. ReadsBackAs extended text t) (some_same (tree_text t) bytes (sym (text_in_range HasFewDigits t w) ∙ e)) (text_reads_back extended HasFewDigits in_texts_short extended_reads_back t p w)
 
 -- what is read in a mode is in the mode's range
 pub document_in_range : (mode : Mode) (bytes : List ℕ) (t : Tree) → IsDocument mode bytes t → IsInRangeOf mode t × IsProper t
@@ -78,4 +78,4 @@ document_text_reads_back mode bytes t d text e = let r = document_in_range mode 
 -- the text of a mode's range, where it is known that there is one
 pub mode_range_text : (mode : Mode) (t : Tree) → IsInRangeOf mode t → text_of t ≡ Some (tree_text t)
 mode_range_text standard t w = text_in_range IsIntegral t w
-mode_range_text extended t w = text_in_range IsInTexts t w
+mode_range_text extended t w = text_in_range HasFewDigits t w

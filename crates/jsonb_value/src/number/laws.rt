@@ -3,7 +3,7 @@
 ghost use Rattle.std.specs.Prelude.{ℕ, ℤ, ◌≡◌, ◌<◌, ◌^◌, FitsSigned};
 ghost use Rattle.std.specs.Int.{w64};
 ghost use Rattle.jsonb_spec.specs.Number.Cast.{HasValue, HasNearest};
-ghost use Rattle.jsonb_spec.specs.Text.ReadsBack.{ReadsBack, ReadsBackAsDecimal, HasFewDigits};
+ghost use Rattle.jsonb_spec.specs.Text.ReadsBack.{ReadsBack, ReadsBackAsDecimal};
 ghost use Rattle.jsonb_spec.specs.Tree.{Num};
 ghost use Rattle.jsonb_value.specs.View.{number_view};
 ghost use Rattle.jsonb_value.specs.declared.number.Decimal64.{Decimal64};
@@ -12,6 +12,7 @@ ghost use Rattle.jsonb_value.specs.declared.number.Number.{Number};
 ghost use Rattle.jsonb_value.specs.declared.number.Number.TheVariants.{Int64, UInt64};
 
 use super::{Decimal64, Decimal128, Number};
+ghost use Rattle.jsonb_spec.specs.Text.Range.{HasFewDigits};
 
 /// An integer is the integer nearest to itself.
 pub fn exact_casts_are_nearest()
