@@ -5,9 +5,10 @@ ghost use Rattle.std.specs.Ordering.{ordering_then};
 ghost use Rattle.jsonb_spec.specs.Grammar.{IsDocument};
 ghost use Rattle.jsonb_spec.specs.Mode.{extended};
 ghost use Rattle.jsonb_spec.specs.Order.{bytes_cmp, tree_cmp, Same};
-ghost use Rattle.jsonb_spec.specs.SortKey.{key_of, IsBounded};
+ghost use Rattle.jsonb_spec.specs.SortKey.{key_of};
 ghost use Rattle.jsonb_spec.specs.Tree.{Tree};
 ghost use Rattle.jsonb_value.specs.View.{view};
+ghost use Rattle.jsonb_spec.specs.Proper.{IsProper};
 
 use jsonb::value::sort_keys_order;
 use jsonb::{Result, Value};
@@ -37,7 +38,7 @@ pub fn sort_documents<'a>(alloc: Global, texts: &[&'a [u8]]) -> Result<Vec<Value
 /// where these are equal by the second.
 pub fn pair_key<'a>(alloc: Global, first: &Value<'a>, second: &Value<'a>) -> Result<Vec<u8>>
     ensures key { IfOk result (λ key. key.items ≡ key_of (view first.now) ++ key_of (view second.now)) }
-    ensures order { IfOk result (λ key. (t u : Tree) → IsBounded t → IsBounded u
+    ensures order { IfOk result (λ key. (t u : Tree) → IsProper t → IsProper u
         → bytes_cmp key.items (key_of t ++ key_of u)
         ≡ ordering_then (tree_cmp (view first.now) t) (tree_cmp (view second.now) u)) }
 {

@@ -7,20 +7,20 @@ use Rattle.jsonb_spec.specs.Order.{bytes_cmp, tree_cmp}
 use Rattle.jsonb_spec.specs.SortKey.{key_of}
 use Rattle.jsonb_spec.specs.Tree.{Tree}
 use Rattle.jsonb_value.proofs.SortKeys.Trees.{keys_order, keys_no_front}
-use Rattle.jsonb.proofs.Documents.Bounds.{document_bounded}
+use Rattle.jsonb.proofs.Documents.Bounds.{document_proper}
 use Rattle.jsonb_c.specs.Interface.{sign, IsDocumentOf, IsKeyOf, IsOrdered, IsTextOf}
 use Rattle.jsonb_c.proofs.Reasons.{one_mode}
 use Rattle.jsonb_c.proofs.Parts.{one_tree}
 
 pub key_is : (number : ℕ) (text bytes : List ℕ) (tree : Tree) → IsDocumentOf number text tree → bytes ≡ key_of tree → IsKeyOf number text bytes
 key_is number text bytes tree read is_key =
-    let bounded = document_bounded read.mode text tree read.document in
+    let proper = document_proper read.mode text tree read.document in
     record {
       tree = tree;
       read = read;
       is_key = is_key;
-      ordered = λ mode other t document. ap (λ key. bytes_cmp key (key_of t)) is_key ∙ keys_order tree t bounded (document_bounded mode other t document);
-      no_front = λ mode other t document more e. keys_no_front tree t bounded (document_bounded mode other t document) more (e ∙ ap (λ key. key ++ more) is_key);
+      ordered = λ mode other t document. ap (λ key. bytes_cmp key (key_of t)) is_key ∙ keys_order tree t proper (document_proper mode other t document);
+      no_front = λ mode other t document more e. keys_no_front tree t proper (document_proper mode other t document) more (e ∙ ap (λ key. key ++ more) is_key);
     }
 
 -- the key of what is written of a text is that of the text
@@ -30,7 +30,7 @@ key_of_form number text form key t k =
     let back = t.reads_back in
     let first : back.tree ≡ k.tree = k.read.only back.tree (subst (λ m. IsDocument m form back.tree) (one_mode t.read.chosen k.read.chosen) back.document) in
     let equal : bytes_cmp (key_of back.tree) (key_of t.tree) ≡ Equal =
-    keys_order back.tree t.tree (document_bounded mode form back.tree back.document) (document_bounded mode text t.tree t.read.document) ∙ back.same in
+    keys_order back.tree t.tree (document_proper mode form back.tree back.document) (document_proper mode text t.tree t.read.document) ∙ back.same in
     key_is number text key t.tree t.read (k.is_key ∙ ap key_of (sym first) ∙ slice_cmp-IsAntisymmetric nat_cmp-IsAntisymmetric (key_of back.tree) (key_of t.tree) equal)
 
 -- the keys of two texts compare as their trees do

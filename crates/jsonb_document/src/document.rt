@@ -33,7 +33,7 @@ impl<'a> Document<'a> {
     ghost use Rattle.std.specs.Prelude.{◌≡◌, ◌+◌, ◌<◌, ◌≤◌, length, IfOk, IfErr, OnOk, OnErr, Err, vec_len};
     ghost use Rattle.std.specs.Vec.{vec_capacity};
     ghost use Rattle.jsonb_spec.specs.Proper.{IsProper};
-    ghost use Rattle.jsonb_spec.specs.SortKey.{key_of, IsBounded};
+    ghost use Rattle.jsonb_spec.specs.SortKey.{key_of};
     ghost use Rattle.jsonb_spec.specs.Text.{AppendsText, tree_text};
     ghost use Rattle.jsonb_spec.specs.Text.Appending.{AppendsAllOrNothing};
     ghost use Rattle.jsonb_spec.specs.Text.Range.{IsInRangeOf};
@@ -63,7 +63,6 @@ impl<'a> Document<'a> {
         // What is read is in the range of the mode, so that its text round-trips, and its sort key compares as it does.
         ensures in_range { IfOk result (λ d. IsInRangeOf (mode_of mode) (document_view d)) }
         ensures proper { IfOk result (λ d. IsProper (document_view d)) }
-        ensures bounded { IfOk result (λ d. IsBounded (document_view d)) }
     {
         let tree = JsonAst::parse(alloc, buf, mode)?;
         Ok(Document { tree })

@@ -6,7 +6,6 @@ use Rattle.jsonb_spec.specs.Tree.{Num, Tree, null, boolean, string, number, arra
 use Rattle.jsonb_value.proofs.SortKeys.Kinds.{begins, is_small, number_begins}
 use Rattle.jsonb_value.proofs.Trees.Runs.{heads, tails}
 use Rattle.jsonb_key.specs.Readable.{IsReadableAt}
-use Rattle.jsonb_key.proofs.Items.{readable_bounded}
 
 -- what the first byte and the bytes after it are, by the kind
 abbrev Begun : ℕ → Tree → ℕ → List ℕ → List ℕ → Type 0
@@ -92,5 +91,5 @@ number_there depth t r first rest bytes more e stands a b c d f g = absurd r.wit
 -- each key has a byte
 pub no_key : (depth : ℕ) (t : Tree) → IsReadableAt depth t → (bytes more : List ℕ) → bytes ≡ key_of t ++ more → length bytes ≡ 0 → ⊥
 no_key depth t r bytes more stands none =
-    let b = begins t (readable_bounded t depth r) in
+    let b = begins t r.proper in
     absurd (omega (arith, none, ap length (stands ∙ ap (λ key. key ++ more) b.is)))

@@ -1,40 +1,15 @@
 -- Items decoded from the key of an array, one after the other.
 use Rattle.std.proofs.Common.{◌≡◌, ◌≢◌, ℕ, zero, suc, ◌+◌, List, [], ◌∷◌, ◌++◌, refl, sym, ap, subst, ◌∙◌, arith, append_assoc, append-nil, length}
 use Rattle.std.specs.List.{flat_map}
-use Rattle.jsonb_spec.specs.Proper.{IsProper, AreProper, HaveProperParts}
-use Rattle.jsonb_spec.specs.SortKey.{key_of, items_key, IsBounded, AreBounded, HaveBounds}
-use Rattle.jsonb_spec.specs.Text.Range.{IsOneDeeper, IsWithin, AreWithin, HaveWithin}
-use Rattle.jsonb_spec.specs.Tree.{Tree, null, boolean, string, number, array, object, Trees, no_trees, more_trees, Members, no_members, more_members}
+use Rattle.jsonb_spec.specs.Proper.{IsProper, AreProper}
+use Rattle.jsonb_spec.specs.SortKey.{key_of, items_key}
+use Rattle.jsonb_spec.specs.Text.Range.{IsOneDeeper, IsWithin, AreWithin}
+use Rattle.jsonb_spec.specs.Tree.{Tree, Trees, no_trees, more_trees}
 use Rattle.jsonb_value.specs.View.{view, trees_view}
 use Rattle.jsonb_value.specs.declared.value.Value.{Value}
 use Rattle.jsonb_value.proofs.SortKeys.Kinds.{begins}
 use Rattle.jsonb_value.proofs.Trees.Runs.{heads, tails}
 use Rattle.jsonb_key.specs.Readable.{IsAnyNumber, IsReadableAt}
-
--- ---- what is readable is bounded
-
-mutual
-  bounded_at : (t : Tree) (depth : ℕ) → IsProper t → IsWithin IsAnyNumber t depth → IsBounded t
-  bounded_at null depth p w = tt
-  bounded_at (boolean b) depth p w = tt
-  bounded_at (string mark bytes) depth p w = tt
-  bounded_at (number n) depth p w = p
-  bounded_at (array ts) zero p w = absurd w
-  bounded_at (array ts) (suc depth) p w = items_bounded ts depth p w
-  bounded_at (object ms) zero p w = absurd w
-  bounded_at (object ms) (suc depth) p w = members_bounded ms depth p.1 w
-  bounded_at t depth p w = absurd w
-
-  items_bounded : (ts : Trees) (depth : ℕ) → AreProper ts → AreWithin IsAnyNumber ts depth → AreBounded ts
-  items_bounded no_trees depth p w = tt
-  items_bounded (more_trees t ts) depth p w = (bounded_at t depth p.0 w.0, items_bounded ts depth p.1 w.1)
-
-  members_bounded : (ms : Members) (depth : ℕ) → HaveProperParts ms → HaveWithin IsAnyNumber ms depth → HaveBounds ms
-  members_bounded no_members depth p w = tt
-  members_bounded (more_members k t ms) depth p w = (bounded_at t depth p.1 w.0, members_bounded ms depth p.2 w.1)
-
-pub readable_bounded : (t : Tree) (depth : ℕ) → IsReadableAt depth t → IsBounded t
-readable_bounded t depth r = bounded_at t depth r.proper r.within
 
 -- ---- items
 
@@ -69,7 +44,7 @@ items_begun depth bytes = λ ts p w more e. record { left = ts; proper = p; with
 -- no key begins with the byte that closes an array
 pub no_zero : (t : Tree) (depth : ℕ) (others rest : List ℕ) (first : ℕ) (tail : List ℕ) → IsProper t → IsWithin IsAnyNumber t depth → rest ≡ first ∷ tail → first ≡ 0 → rest ≡ key_of t ++ others → ⊥
 no_zero t depth others rest first tail p w e zero_there stands =
-    let b = begins t (bounded_at t depth p w) in
+    let b = begins t p in
     absurd (omega (arith, b.above, zero_there, heads first b.head tail (b.tail ++ others) (sym e ∙ stands ∙ ap (λ key. key ++ others) b.is)))
 
 -- where the closing byte stands, all items are read
@@ -122,5 +97,5 @@ items_not_over depth bytes read rest so_far over ts p w more is = let r = so_far
     ends : (left : Trees) → AreProper left → AreWithin IsAnyNumber left depth → rest ≡ items_key left ++ more → ⊥
     ends no_trees q v stands = absurd (omega (arith, over, ap length stands))
     ends (more_trees t left) q v stands =
-        let b = begins t (bounded_at t depth q.0 v.0) in
+        let b = begins t q.0 in
         absurd (omega (arith, over, ap length (stands ∙ ap (λ key. (key ++ items_key left) ++ more) b.is)))

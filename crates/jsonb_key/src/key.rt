@@ -2,7 +2,7 @@
 
 ghost use Rattle.std.specs.Prelude.{◌≡◌, ◌<◌, ◌++◌, ◌∷◌, List, ℕ, suc, length, IfOk, IfErr, IfSome, MatchResult, option_map, Some};
 ghost use Rattle.jsonb_spec.specs.Order.{Same};
-ghost use Rattle.jsonb_spec.specs.SortKey.{key_of, items_key, members_key, text_key, IsBounded};
+ghost use Rattle.jsonb_spec.specs.SortKey.{key_of, items_key, members_key, text_key};
 ghost use Rattle.jsonb_spec.specs.Keys.{KeysAscend};
 ghost use Rattle.std.specs.List.{All};
 ghost use Rattle.std.specs.Str.{IsUtf8};
@@ -14,6 +14,7 @@ ghost use Rattle.jsonb_spec.specs.Tree.{Tree, Trees, Members, array, object};
 ghost use Rattle.jsonb_value.specs.View.{view, members_view};
 ghost use Rattle.jsonb_key.specs.Readable.{HasFewestDigits, IsReadable, IsReadableAt};
 ghost use Rattle.jsonb_key.specs.Reading.{IsDecodedAt};
+ghost use Rattle.jsonb_spec.specs.Proper.{IsProper};
 
 use crate::number::read_number;
 use crate::text::{read_text, skip_pair};
@@ -87,7 +88,7 @@ pub fn value_of_sort_key(alloc: Global, key: &[u8]) -> Result<Value<'static>, Ke
     // The value has this key.
     ensures key { IfOk result (λ v. key_of (view v) ≡ key.now) }
     // So each value with this key is equal to it.
-    ensures same { IfOk result (λ v. (t : Tree) → IsBounded t → key_of t ≡ key.now → Same (view v) t) }
+    ensures same { IfOk result (λ v. (t : Tree) → IsProper t → key_of t ≡ key.now → Same (view v) t) }
     // It is of JSON's kinds, its numbers have the fewest digits, and its strings are owned.
     ensures readable { IfOk result (λ v. IsReadable (view v)) }
     ensures fewest { IfOk result (λ v. IsWithin HasFewestDigits (view v) max_depth) }

@@ -9,7 +9,6 @@ use Rattle.jsonb_spec.specs.Code.{Code}
 use Rattle.jsonb_spec.specs.Code.Code.{depth_limit_exceeded, expected_some_value, number_not_carried, object_duplicate_key, unexpected_trailing_characters}
 use Rattle.jsonb_spec.specs.Grammar.{Derives, IsDocument, IsElement, IsJoined, IsMember, IsPadded, max_depth}
 use Rattle.jsonb_spec.specs.Mode.{Mode}
-use Rattle.jsonb_spec.specs.Mode.Mode.{extended, standard}
 use Rattle.jsonb_spec.specs.Grammar.Scalar.{IsKey, IsNumberText, IsUnrepresentable}
 use Rattle.jsonb_spec.specs.Tree.{Mark, Member, Tree}
 

@@ -1,10 +1,9 @@
--- The sort key of a tree; what each value's tree has by its types, as far as keys rest on it.
+-- The sort key of a tree.
 pub mod Kind
 pub mod Size
-use Rattle.std.specs.Prelude.{ℕ, zero, suc, ◌+◌, ◌-◌, ◌*◌, ◌/◌, ◌%◌, ◌^◌, ◌==◌, nat_lt, Bool, if◌then◌else◌, ⊤, ℤ, pos, ◌+ℤ◌, unsigned_abs, FitsSigned, List, [], ◌∷◌, ◌++◌, map}
-use Rattle.std.specs.Int.{w32, w64, is_negative, bytes_high_first}
+use Rattle.std.specs.Prelude.{ℕ, zero, suc, ◌+◌, ◌-◌, ◌*◌, ◌/◌, ◌%◌, ◌^◌, ◌==◌, nat_lt, Bool, if◌then◌else◌, ℤ, pos, ◌+ℤ◌, unsigned_abs, List, [], ◌∷◌, ◌++◌, map}
+use Rattle.std.specs.Int.{is_negative, bytes_high_first}
 use Rattle.std.specs.List.{flat_map}
-use Rattle.jsonb_spec.specs.Proper.{IsProperNumber}
 use Rattle.jsonb_spec.specs.SortKey.Kind as kind
 use Rattle.jsonb_spec.specs.Tree.{Num, Tree, null, boolean, string, number, array, object, binary, date, timestamp, timestamp_tz, interval, Trees, no_trees, more_trees, Members, no_members, more_members}
 
@@ -85,25 +84,3 @@ abbrev mutual
   pub members_key : Members → List ℕ
   members_key no_members = kind.terminator ∷ kind.terminator ∷ []
   members_key (more_members key t ms) = text_key key ++ (key_of t ++ members_key ms)
-
-abbrev mutual
-  -- What the tree of each value has by its types: numbers fit their forms, and dates and times their bits.
-  pub IsBounded : Tree → Type 0
-  IsBounded (number n) = IsProperNumber n
-  IsBounded (date days) = FitsSigned w32 days
-  IsBounded (timestamp micros) = FitsSigned w64 micros
-  IsBounded (timestamp_tz offset micros) = FitsSigned w32 offset × FitsSigned w64 micros
-  IsBounded (interval months days micros) = FitsSigned w32 months × FitsSigned w32 days × FitsSigned w64 micros
-  IsBounded (array ts) = AreBounded ts
-  IsBounded (object ms) = HaveBounds ms
-  IsBounded t = ⊤
-
-  -- the same of each item
-  pub AreBounded : Trees → Type 0
-  AreBounded no_trees = ⊤
-  AreBounded (more_trees t ts) = IsBounded t × AreBounded ts
-
-  -- the same of each member's value
-  pub HaveBounds : Members → Type 0
-  HaveBounds no_members = ⊤
-  HaveBounds (more_members key t ms) = IsBounded t × HaveBounds ms

@@ -3,7 +3,6 @@ use Rattle.std.proofs.Common.{◌≡◌, ℕ, zero, suc, ◌+◌, ◌<◌, ◌�
 use Rattle.std.proofs.lemmas.List.{length-append}
 use Rattle.std.specs.Str.{bytes_eq}
 use Rattle.jsonb_key.specs.Readable.{IsAnyNumber, IsReadable, IsReadableAt}
-use Rattle.jsonb_key.proofs.Items.{readable_bounded}
 use Rattle.jsonb_spec.specs.PartAt.{IsIndex, IsChild, IsAt}
 use Rattle.jsonb_pointer.proofs.PartsReadBack.{part_within, part_proper, deeper}
 use Rattle.jsonb_stored.specs.Open.{Open, items, members, is_object, open_key, IsOpen, end_key, opening_byte, IsScalar}
@@ -153,7 +152,7 @@ item_skipped ts index before less rest more others n one stands =
 longer : (ts : Trees) → AreProper ts → AreWithin IsAnyNumber ts 511 → trees_len ts ≤ length (items_key ts)
 longer no_trees p w = omega arith
 longer (more_trees t ts) p w =
-    let b = begins t (readable_bounded t 511 (record { proper = p.0; within = w.0 })) in
+    let b = begins t p.0 in
     let rest = longer ts p.1 w.1 in
     omega (arith, rest, ap length b.is, length-append (key_of t) (items_key ts))
 

@@ -7,16 +7,16 @@ use Rattle.std.specs.Cmp.Lexicographic.{pointwise, nat_list_cmp_total, same_text
 use Rattle.std.specs.declared.cmp.Ordering.{Ordering}
 use Rattle.std.specs.Ordering.{is_eq, ordering_then}
 use Rattle.jsonb_key.specs.Readable.{IsReadableAt}
-use Rattle.jsonb_key.proofs.Items.{readable_bounded}
 use Rattle.jsonb_spec.specs.Containment.{holds}
 use Rattle.jsonb_stored.specs.Open.{Open, is_object, open_key, IsOpen, end_key, IsScalar}
 use Rattle.jsonb_stored.specs.SideBySide.{EndsWith, IsLeft}
 use Rattle.jsonb_stored.proofs.Opens.{no_end}
 use Rattle.jsonb_stored.proofs.Standing.{over_or_first, regroup, true_false}
 use Rattle.jsonb_spec.specs.Order.{bytes_cmp, tree_cmp}
-use Rattle.jsonb_spec.specs.SortKey.{key_of, IsBounded}
+use Rattle.jsonb_spec.specs.SortKey.{key_of}
 use Rattle.jsonb_spec.specs.Tree.{Tree, array, object}
 use Rattle.jsonb_value.proofs.SortKeys.Trees.{tree_compares, keys_same}
+use Rattle.jsonb_spec.specs.Proper.{IsProper}
 
 -- ---- what is told
 
@@ -69,7 +69,7 @@ first_ties Equal s e = refl
 first_ties Greater s e = e
 
 -- bytes that begin with the keys of two values
-pub one_key : (t u : Tree) → IsBounded t → IsBounded u → (more rest : List ℕ) → key_of t ++ more ≡ key_of u ++ rest → (tree_cmp t u ≡ Equal) × (rest ≡ more)
+pub one_key : (t u : Tree) → IsProper t → IsProper u → (more rest : List ℕ) → key_of t ++ more ≡ key_of u ++ rest → (tree_cmp t u ≡ Equal) × (rest ≡ more)
 one_key t u p q more rest e =
     let ties : bytes_cmp (key_of t ++ more) (key_of u ++ rest) ≡ Equal = ap (bytes_cmp (key_of t ++ more)) (sym e) ∙ tied_itself nat_list_cmp_total (key_of t ++ more) in
     let same = first_ties (tree_cmp t u) (bytes_cmp more rest) (sym ((tree_compares t u p q).compared more rest) ∙ ties) in
@@ -100,7 +100,7 @@ pub stripped : (t u : Tree) (d e : ℕ) → IsReadableAt d t → IsReadableAt e 
 stripped t u d e p q s ours wanted rest more stands is found behind =
     let front = same_text (take (length wanted) ours) wanted (sym found) in
     let cut : ours ≡ key_of u ++ rest = sym (take-append-drop (length wanted) ours) ∙ (λ i. (front ∙ is) i ++ sym behind i) in
-    let one = one_key t u (readable_bounded t d p) (readable_bounded u e q) more rest (sym stands ∙ cut) in
+    let one = one_key t u p.proper q.proper more rest (sym stands ∙ cut) in
     record { held = scalar_holds t u s ∙ ap is_eq one.0; behind = one.1 }
 
 -- they begin with another key
@@ -108,6 +108,6 @@ pub not_stripped : (t u : Tree) (d e : ℕ) → IsReadableAt d t → IsReadableA
     → pointwise nat_eq (take (length wanted) ours) wanted ≡ false → holds t u ≡ false
 not_stripped t u d e p q s ours wanted more stands is none =
     scalar_holds t u s ∙ not_equal (tree_cmp t u) (λ same.
-    let keys : key_of t ≡ wanted = (keys_same t u (readable_bounded t d p) (readable_bounded u e q)).1 same ∙ sym is in
+    let keys : key_of t ≡ wanted = (keys_same t u p.proper q.proper).1 same ∙ sym is in
     let front : take (length wanted) ours ≡ wanted = ap (take (length wanted)) (stands ∙ ap (λ key. key ++ more) keys) ∙ take-append_seam wanted more in
     absurd (other_text (take (length wanted) ours) wanted (sym none) front))

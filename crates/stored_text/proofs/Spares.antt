@@ -3,9 +3,9 @@ use Rattle.std.proofs.Common.{◌≡◌, ◌≢◌, ℕ, zero, suc, ◌+◌, ◌
 use Rattle.std.proofs.Math.Nat.{pow-suc, pow-zero, div-div-eq-div-mul, div-mul-le_self}
 use Rattle.std.proofs.lemmas.Bool.{cond-true, cond-false, ne_eqb, cases_eq}
 use Rattle.std.proofs.lemmas.Nat.{pow-add}
-use Rattle.std.specs.Int.{Width, w64, w128, is_negative}
+use Rattle.std.specs.Int.{Width, w64, w128, is_negative, FitsUnsignedBits}
 use Rattle.jsonb_spec.specs.Number.Signed.{signed_by}
-use Rattle.jsonb_spec.specs.Proper.{IsProperNumber, FitsScale, FitsWhole, FitsUnsigned}
+use Rattle.jsonb_spec.specs.Proper.{IsProperNumber, FitsScale, FitsWhole}
 use Rattle.jsonb_spec.specs.SortKey.{number_key}
 use Rattle.jsonb_spec.specs.Tree.{Form, int64, uint64, decimal64, decimal128, Num}
 use Rattle.jsonb_value.proofs.Numbers.Nearest.{unsigned_abs-signed}
@@ -89,8 +89,8 @@ smaller_signed w (pos n) q h fits = subst (λ b. FitsSigned w (signed_by b q)) (
 smaller_signed w (negsuc n) zero h fits = record { sfits = omega (arith, fits.sfits) }
 smaller_signed w (negsuc n) (suc q) h fits = record { sfits = omega (arith, h, fits.sfits) }
 
-smaller_unsigned : (z : ℤ) (q : ℕ) → q ≤ unsigned_abs z → FitsUnsigned 64 z → FitsUnsigned 64 (signed_by (is_negative z) q)
-smaller_unsigned (pos n) q h fits = subst (λ b. FitsUnsigned 64 (signed_by b q)) (sym (is_negative-pos n)) (omega (arith, h, fits))
+smaller_unsigned : (z : ℤ) (q : ℕ) → q ≤ unsigned_abs z → FitsUnsignedBits 64 z → FitsUnsignedBits 64 (signed_by (is_negative z) q)
+smaller_unsigned (pos n) q h fits = subst (λ b. FitsUnsignedBits 64 (signed_by b q)) (sym (is_negative-pos n)) (omega (arith, h, fits))
 smaller_unsigned (negsuc n) q h fits = absurd fits
 
 smaller : (form : Form) (scale less : ℕ) (z : ℤ) (q : ℕ) → q ≤ unsigned_abs z → FitsScale form scale × FitsWhole form z → FitsScale form (scale - less) × FitsWhole form (signed_by (is_negative z) q)

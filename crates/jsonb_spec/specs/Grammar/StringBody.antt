@@ -46,6 +46,7 @@ escaped_byte standard letter = standard_escape letter
 escaped_byte extended letter =
     if letter == ascii.single_quote then Some ascii.single_quote else standard_escape letter
 
+-- a hexadecimal digit
 abbrev pub IsHexDigit : ℕ → Type 0
 IsHexDigit byte = digit_value byte < 16
 

@@ -1,14 +1,14 @@
 -- Numbers in range round-trip, and the numbers of texts are in range.
 use Rattle.std.proofs.Common.{◌≡◌, ℕ, zero, suc, ◌<◌, ◌≤◌, ◌^◌, List, [], ◌∷◌, ◌++◌, length, length-append, Bool, true, false, ◌&&◌, Some, None, refl, sym, subst, arith, inl, inr, ltb-true, eqb-true, ℤ, pos, negsuc, neg_ℤ, ◌-◌}
 use Rattle.std.specs.Prelude.{unsigned_abs, FitsSigned, ◌==◌, nat_lt, nat_le, if◌then◌else◌, int_le, int_lt}
-use Rattle.std.specs.Int.{w64, w128}
+use Rattle.std.specs.Int.{w64, w128, FitsUnsignedBits}
 use Rattle.std.specs.Str.Parse.{AllDigits, digits_value, starts_with_minus}
 use Rattle.std.proofs.lemmas.Bool.{leb-true, and_parts}
 use Rattle.std.proofs.lemmas.Str.Parse.{IsNumeralModel, numerals_by_value, tells_digits, digits_value_short}
 use Rattle.jsonb_spec.specs.Grammar.ExtendedNumber.{decimal_form, decimal_number, IsDecimalNumber, hexadecimal_number, IsExtendedNumber}
 use Rattle.jsonb_spec.specs.Mode.{standard, extended}
 use Rattle.jsonb_spec.specs.Text.NumberText.{text_of_parts, number_text}
-use Rattle.jsonb_spec.specs.Proper.{FitsUnsigned, FitsScale, FitsWhole, IsProperNumber}
+use Rattle.jsonb_spec.specs.Proper.{FitsScale, FitsWhole, IsProperNumber}
 use Rattle.jsonb_spec.specs.Text.Range.{IsIntegerForm, IsIntegral, HasFewDigits}
 use Rattle.jsonb_spec.specs.Text.ReadsBack.{integer_number}
 use Rattle.jsonb_spec.specs.Grammar.StandardNumber.{IsInteger, IsStandardNumber}
@@ -25,7 +25,7 @@ signed_short : (z : ℤ) → FitsSigned w64 z → unsigned_abs z < 10 ^ 38
 signed_short (pos n) fits = omega (arith, fits.sfits)
 signed_short (negsuc n) fits = omega (arith, fits.sfits)
 
-unsigned_short : (z : ℤ) → FitsUnsigned 64 z → unsigned_abs z < 10 ^ 38
+unsigned_short : (z : ℤ) → FitsUnsignedBits 64 z → unsigned_abs z < 10 ^ 38
 unsigned_short (pos n) fits = omega (arith, fits)
 unsigned_short (negsuc n) fits = absurd fits
 
@@ -57,7 +57,7 @@ integral_unscaled n p w = unscaled n.form n.scale n.whole p w
 
 -- ---- standard texts
 
-unsigned_text : (whole : ℤ) → FitsUnsigned 64 whole → IsStandardNumber (text_of_parts 0 whole) (integer_number whole)
+unsigned_text : (whole : ℤ) → FitsUnsignedBits 64 whole → IsStandardNumber (text_of_parts 0 whole) (integer_number whole)
 unsigned_text (pos n) fits = unsigned_reads_back n fits
 unsigned_text (negsuc n) fits = absurd fits
 
@@ -112,7 +112,7 @@ wide_signed false m h = record { sfits = omega arith }
 wide_signed true zero h = record { sfits = omega arith }
 wide_signed true (suc m) h = record { sfits = omega arith }
 
-unsigned_fits : (z : ℤ) → (int_le (pos 0) z && int_lt z (pos (2 ^ 64))) ≡ true → FitsUnsigned 64 z
+unsigned_fits : (z : ℤ) → (int_le (pos 0) z && int_lt z (pos (2 ^ 64))) ≡ true → FitsUnsignedBits 64 z
 unsigned_fits (pos n) h = ltb-true n (2 ^ 64) (and_parts (nat_le 0 n) (nat_lt n (2 ^ 64)) h).1
 unsigned_fits (negsuc n) h = cc
 

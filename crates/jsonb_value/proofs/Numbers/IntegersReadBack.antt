@@ -1,11 +1,10 @@
 -- The texts of integers are standard numbers.
-use Rattle.std.proofs.Common.{◌≡◌, ℕ, ◌+◌, ◌^◌, ◌<◌, Bool, true, false, suc, [], ◌++◌, length, refl, sym, subst, ap, ◌∙◌, inl, ⊎_elim, arith, ℤ, pos, negsuc, neg_ℤ}
+use Rattle.std.proofs.Common.{◌≡◌, ℕ, ◌+◌, ◌^◌, ◌<◌, true, false, suc, ◌++◌, length, refl, sym, subst, ap, ◌∙◌, ⊎_elim, arith, ℤ, pos, negsuc, neg_ℤ}
 use Rattle.std.specs.Prelude.{FitsSigned, if◌then◌else◌}
 use Rattle.std.specs.Int.{w64}
 use Rattle.std.specs.Fmt.{decimal, sign_text}
 use Rattle.std.specs.Str.Parse.{digits_value}
 use Rattle.std.proofs.lemmas.Bool.{cases_eq}
-use Rattle.std.proofs.lemmas.List.{append-nil}
 use Rattle.std.proofs.lemmas.Fmt.{decimal_is_IsNumeral_wide, decimal_digit, first_decimal}
 use Rattle.jsonb_spec.specs.Tree.{int64, uint64}
 use Rattle.jsonb_spec.specs.Text.NumberText.{text_of_parts, with_point, zero_padded}

@@ -1,8 +1,8 @@
 -- The first byte of a key, by the kind.
 use Rattle.std.proofs.Common.{◌≡◌, ℕ, zero, suc, ◌-◌, ◌^◌, ◌<◌, true, false, List, [], ◌∷◌, map, ℤ, pos, negsuc, unsigned_abs, refl, ap, ◌∙◌, arith}
 use Rattle.std.proofs.lemmas.Int.{ints}
-use Rattle.jsonb_spec.specs.Proper.{FitsScale, FitsWhole, IsProperNumber}
-use Rattle.jsonb_spec.specs.SortKey.{number_key, key_of, IsBounded, invert_if}
+use Rattle.jsonb_spec.specs.Proper.{FitsScale, FitsWhole, IsProperNumber, IsProper}
+use Rattle.jsonb_spec.specs.SortKey.{number_key, key_of, invert_if}
 use Rattle.jsonb_spec.specs.Tree.{Form, int64, uint64, decimal64, decimal128, Num, Tree, null, boolean, string, number, array, object, binary, date, timestamp, timestamp_tz, interval}
 use Rattle.jsonb_value.proofs.SortKeys.Numbers.{IsSmall, positive, negative, nothing_there, head_of}
 
@@ -62,7 +62,7 @@ pub record Begins (t : Tree) : Type 0 where
   pub is : key_of t ≡ head ∷ tail
   pub above : 0 < head
 
-pub begins : (t : Tree) → IsBounded t → Begins t
+pub begins : (t : Tree) → IsProper t → Begins t
 begins null p = record { head = 211; tail = _; is = refl; above = omega arith }
 begins (boolean true) p = record { head = 22; tail = _; is = refl; above = omega arith }
 begins (boolean false) p = record { head = 21; tail = _; is = refl; above = omega arith }

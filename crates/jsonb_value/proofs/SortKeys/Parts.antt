@@ -1,6 +1,6 @@
 -- The keys of items and members, of which some are written and some remain.
-use Rattle.std.proofs.Common.{◌≡◌, List, ◌∷◌, ◌++◌, ℕ, ◌+◌, ◌<◌, length, get_or, drop, drop-cons, add-one, string_bytes, sym, subst, ap, ◌∙◌}
-use Rattle.jsonb_spec.specs.SortKey.{text_key, key_of, items_key, members_key, IsBounded, AreBounded, HaveBounds}
+use Rattle.std.proofs.Common.{◌≡◌, List, ◌∷◌, ◌++◌, ℕ, ◌+◌, ◌<◌, length, get_or, drop, drop-cons, add-one, string_bytes, sym, ap, ◌∙◌}
+use Rattle.jsonb_spec.specs.SortKey.{text_key, key_of, items_key, members_key}
 use Rattle.jsonb_value.specs.View.{view, trees_view, members_view}
 use Rattle.jsonb_value.specs.declared.value.Value.{Value}
 use Rattle.jsonb_value.proofs.Values.Members.{Entry}
@@ -15,10 +15,3 @@ next_item vs i v h e =
 pub next_member : (es others : List Entry) (e : Entry) → es ≡ e ∷ others
     → members_key (members_view es) ≡ text_key (string_bytes e.0) ++ (key_of (view e.1) ++ members_key (members_view others))
 next_member es others e next = ap (λ fs. members_key (members_view fs)) next
-
-pub next_bounded : (vs : List Value) (i : ℕ) (v : Value) → i < length vs → v ≡ get_or vs i v → IsBounded (view v) → AreBounded (trees_view (drop (i + 1) vs)) → AreBounded (trees_view (drop i vs))
-next_bounded vs i v h e first others =
-    subst (λ us. AreBounded (trees_view us)) (sym (drop-cons vs i v h ∙ (λ j. sym e j ∷ drop (sym (add-one i) j) vs))) (first, others)
-
-pub next_bounded_member : (es others : List Entry) (e : Entry) → es ≡ e ∷ others → IsBounded (view e.1) → HaveBounds (members_view others) → HaveBounds (members_view es)
-next_bounded_member es others e next first more = subst (λ fs. HaveBounds (members_view fs)) (sym next) (first, more)

@@ -5,7 +5,7 @@ use Rattle.std.specs.Int.{w64}
 use Rattle.std.specs.Cmp.{tied_itself}
 use Rattle.std.specs.Char.{to_ascii_lowercase}
 use Rattle.std.specs.Fmt.{decimal, sign_text}
-use Rattle.std.specs.List.{flat_map, AllByRecursion}
+use Rattle.std.specs.List.{AllByRecursion}
 use Rattle.std.specs.Cmp.Lexicographic.{slice_cmp}
 use Rattle.std.specs.Ordering.{nat_cmp, ordering_then, match_ordering}
 use Rattle.std.specs.Str.Parse.{AllDigits, digits_value, starts_with_minus}
@@ -22,7 +22,7 @@ use Rattle.jsonb_spec.specs.Grammar.Quoted.{Quoted}
 use Rattle.jsonb_spec.specs.Grammar.Scalar.{IsLiteral, IsScalar, literal_value, string_value, number_value, null_word, true_word, false_word, IsKey, quoted_key, bare_key}
 use Rattle.jsonb_spec.specs.Number.Signed.{signed_by}
 use Rattle.jsonb_spec.specs.Grammar.StandardNumber.{IsWhole, IsInteger, IsStandardNumber}
-use Rattle.jsonb_spec.specs.Grammar.StringBody.{Item, raw, escape, unit, spelling, escaped_byte, IsItem, standard_escape}
+use Rattle.jsonb_spec.specs.Grammar.StringBody.{Item, raw, escape, unit, escaped_byte, IsItem, standard_escape}
 use Rattle.jsonb_spec.specs.Tree.{Mark, Num, Tree, number, array, object, trees_of, Members, no_members, more_members, Member, put, put_all}
 use Rattle.jsonb_value.proofs.Order.ByContent.{both_tie, same_bytes as known_bytes}
 use Rattle.jsonb_value.proofs.Numbers.DecimalTexts.{sign_is}

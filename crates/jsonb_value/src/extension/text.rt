@@ -1,7 +1,8 @@
 //! The texts of values beyond JSON, without quotes.
-ghost use Rattle.std.specs.Prelude.{◌≡◌, ◌↔◌, ◌⊎◌, ◌+◌, ◌<◌, ◌≤◌, ◌++◌, length, Some, None, IfErr, IfSome, IsErrOf, OnOk, OnErr, vec_len};
+ghost use Rattle.std.specs.Prelude.{◌≡◌, ◌↔◌, ◌⊎◌, ◌+◌, ◌<◌, ◌≤◌, ◌++◌, length, Some, None, IfErr, IfSome, IsErrOf, OnOk, OnErr, vec_len, FitsSigned};
 ghost use Rattle.std.specs.Fmt.{decimal};
 ghost use Rattle.std.specs.Fmt.InlineText.{inline_text};
+ghost use Rattle.std.specs.Int.{w32, w64};
 ghost use Rattle.std.specs.Vec.{vec_capacity};
 ghost use Rattle.jsonb_spec.specs.Text.Appending.{AppendsAllOrNothing};
 ghost use Rattle.jsonb_spec.specs.Text.BinaryText.{hexadecimal_pair, binary_text};
@@ -121,7 +122,8 @@ fn and_time(text: IntervalText, micros: i64) -> IntervalText
 
 impl Interval {
     fn text(&self) -> IntervalText
-        ensures { inline_text result ≡ interval_text self.now.months self.now.days self.now.micros }
+        ensures text { inline_text result ≡ interval_text self.now.months self.now.days self.now.micros }
+        ensures bits { FitsSigned w32 self.now.months × FitsSigned w32 self.now.days × FitsSigned w64 self.now.micros }
     {
         if self.months == 0 && self.days == 0 && self.micros == 0 {
             return and(InlineText::new(), "00:00:00");
@@ -136,6 +138,7 @@ impl Interval {
     pub(crate) fn append_text(&self, buf: &mut Vec<u8>) -> std::result::Result<(), AllocError>
         ensures appends { AppendsAllOrNothing result buf.old buf.new
             (interval_text self.now.months self.now.days self.now.micros) }
+        ensures bits { FitsSigned w32 self.now.months × FitsSigned w32 self.now.days × FitsSigned w64 self.now.micros }
     {
         buf.extend_from_slice(self.text().as_str().as_bytes())
     }

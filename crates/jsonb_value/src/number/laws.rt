@@ -10,9 +10,9 @@ ghost use Rattle.jsonb_value.specs.declared.number.Decimal64.{Decimal64};
 ghost use Rattle.jsonb_value.specs.declared.number.Decimal128.{Decimal128};
 ghost use Rattle.jsonb_value.specs.declared.number.Number.{Number};
 ghost use Rattle.jsonb_value.specs.declared.number.Number.TheVariants.{Int64, UInt64};
+ghost use Rattle.jsonb_spec.specs.Text.Range.{HasFewDigits};
 
 use super::{Decimal64, Decimal128, Number};
-ghost use Rattle.jsonb_spec.specs.Text.Range.{HasFewDigits};
 
 /// An integer is the integer nearest to itself.
 pub fn exact_casts_are_nearest()

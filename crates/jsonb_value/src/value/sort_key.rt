@@ -2,10 +2,12 @@
 ghost use Rattle.std.specs.Prelude.{ℕ, List, ◌≡◌, ◌↔◌, ◌+◌, ◌/◌, ◌^◌, ◌<◌, ◌≤◌, ◌++◌, ◌∷◌, [], length, take, unsigned_abs, IfErr, OnOk, string_bytes, IsTrue};
 ghost use Rattle.std.specs.List.{flat_map, sum_by};
 ghost use Rattle.std.specs.Ordering.{ordering_then};
+ghost use Rattle.std.specs.Str.{IsUtf8};
 ghost use Rattle.jsonb_spec.specs.Order.{bytes_cmp, tree_cmp, Same};
 ghost use Rattle.jsonb_spec.specs.Order.ByContent.{items_of, pairs_of};
-ghost use Rattle.jsonb_spec.specs.Proper.{IsProperNumber};
-ghost use Rattle.jsonb_spec.specs.SortKey.{byte_key, text_key, key_of_32_bits, key_of_64_bits, key_of, items_key, members_key, IsBounded, AreBounded, HaveBounds};
+ghost use Rattle.jsonb_spec.specs.Keys.{KeysAscend};
+ghost use Rattle.jsonb_spec.specs.Proper.{IsProperNumber, IsProper, AreProper, HaveProperParts};
+ghost use Rattle.jsonb_spec.specs.SortKey.{byte_key, text_key, key_of_32_bits, key_of_64_bits, key_of, items_key, members_key};
 ghost use Rattle.jsonb_spec.specs.SortKey.Kind as kind;
 ghost use Rattle.jsonb_spec.specs.SortKey.Size.{exponent_len, member_len, most_pairs, zero_count};
 ghost use Rattle.jsonb_spec.specs.Text.Appending.{Appends, AppendsAllOrNothing};
@@ -22,12 +24,12 @@ use std::alloc::AllocError;
 /// Keys compare as the values do, byte by byte; they are equal exactly where the values are; none is a prefix of
 /// another; and so concatenated keys compare as tuples of the values.
 pub fn sort_keys_order()
-    ensures order { (t u : Tree) → IsBounded t → IsBounded u
+    ensures order { (t u : Tree) → IsProper t → IsProper u
         → bytes_cmp (key_of t) (key_of u) ≡ tree_cmp t u }
-    ensures same { (t u : Tree) → IsBounded t → IsBounded u → (key_of t ≡ key_of u) ↔ Same t u }
-    ensures no_front { (t u : Tree) → IsBounded t → IsBounded u → (more : List ℕ)
+    ensures same { (t u : Tree) → IsProper t → IsProper u → (key_of t ≡ key_of u) ↔ Same t u }
+    ensures no_front { (t u : Tree) → IsProper t → IsProper u → (more : List ℕ)
         → key_of u ≡ key_of t ++ more → more ≡ [] }
-    ensures joined { (t u : Tree) → IsBounded t → IsBounded u → (x y : List ℕ)
+    ensures joined { (t u : Tree) → IsProper t → IsProper u → (x y : List ℕ)
         → bytes_cmp (key_of t ++ x) (key_of u ++ y) ≡ ordering_then (tree_cmp t u) (bytes_cmp x y) }
 {}
 
@@ -67,9 +69,9 @@ impl Value<'_> {
     pub fn write_sort_key(&self, buf: &mut Vec<u8>) -> Result<()>
         ensures appends { AppendsAllOrNothing result buf.old buf.new (key_of (view self.now)) }
         ensures errors { IfErr result (λ e. e ≡ Error.OutOfMemory) }
-        ensures bounded { OnOk result (IsBounded (view self.now)) }
+        ensures proper { OnOk result (IsProper (view self.now)) }
         // The key compares with that of any other value as the values do.
-        ensures order { OnOk result ((u : Tree) → IsBounded u
+        ensures order { OnOk result ((u : Tree) → IsProper u
             → bytes_cmp (key_of (view self.now)) (key_of u) ≡ tree_cmp (view self.now) u) }
     {
         let old_len = buf.len();
@@ -86,7 +88,7 @@ impl Value<'_> {
 #[cycle(append)]
 fn append<'a>(value: &Value<'a>, buf: &mut Vec<u8>) -> Appended
     ensures appends { Appends result buf.old buf.new (key_of (view value.now)) }
-    ensures bounded { OnOk result (IsBounded (view value.now)) }
+    ensures proper { OnOk result (IsProper (view value.now)) }
 {
     match value {
         Value::Binary(bytes) => append_text(kind::BINARY, *bytes, buf),
@@ -112,7 +114,7 @@ fn append<'a>(value: &Value<'a>, buf: &mut Vec<u8>) -> Appended
 #[cycle(append)]
 fn append_items<'a>(items: &Vec<Value<'a>>, buf: &mut Vec<u8>) -> Appended
     ensures appends { Appends result buf.old buf.new (kind.array ∷ items_key (trees_view items.now.items)) }
-    ensures bounded { OnOk result (AreBounded (trees_view items.now.items)) }
+    ensures proper { OnOk result (AreProper (trees_view items.now.items)) }
 {
     buf.extend_from_slice(&[kind::ARRAY])?;
     'items: for item in items {
@@ -124,7 +126,8 @@ fn append_items<'a>(items: &Vec<Value<'a>>, buf: &mut Vec<u8>) -> Appended
 #[cycle(append)]
 fn append_members<'a>(members: &Object<'a>, buf: &mut Vec<u8>) -> Appended
     ensures appends { Appends result buf.old buf.new (kind.object ∷ members_key (members_view members.now.entries)) }
-    ensures bounded { OnOk result (HaveBounds (members_view members.now.entries)) }
+    ensures proper { OnOk result (KeysAscend (members_view members.now.entries)
+        × HaveProperParts (members_view members.now.entries)) }
 {
     buf.extend_from_slice(&[kind::OBJECT])?;
     'members: for (key, value) in members.iter() {
@@ -154,8 +157,9 @@ pub(crate) fn append_closed(bytes: &[u8], buf: &mut Vec<u8>) -> Appended
 #[inline(always)]
 fn append_key(key: &String, buf: &mut Vec<u8>) -> Appended
     ensures appends { Appends result buf.old buf.new (text_key (string_bytes key.now)) }
+    ensures utf8 { IsUtf8 (string_bytes key.now) }
 {
-    append_closed(key.as_bytes(), buf)
+    append_closed(key.as_str().as_bytes(), buf)
 }
 
 // Appends a text's bytes. Most texts have no byte that their JSON text escapes, and so no zero.

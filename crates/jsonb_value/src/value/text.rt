@@ -1,7 +1,7 @@
 //! The serialized form of a value: JSON without whitespace.
-ghost use Rattle.std.specs.Prelude.{ℕ, List, ◌≡◌, ◌≢◌, ◌↔◌, ◌⊎◌, ◌+◌, ◌<◌, ◌≤◌, ◌++◌, ◌∷◌, [], ◌==◌, if◌then◌else◌, length, take, Some, None, IfErr, IfSome, IsErrOf, OnOk, OnErr, vec_len, string_bytes};
+ghost use Rattle.std.specs.Prelude.{ℕ, List, ◌≡◌, ◌≢◌, ◌↔◌, ◌⊎◌, ◌+◌, ◌<◌, ◌≤◌, ◌++◌, ◌∷◌, [], ◌==◌, if◌then◌else◌, length, take, Some, None, IfErr, IfSome, IsErrOf, OnOk, OnErr, vec_len, string_bytes, FitsSigned};
 ghost use Rattle.std.specs.Char.{digit_char};
-ghost use Rattle.std.specs.Int.{w64, trailing_zeros};
+ghost use Rattle.std.specs.Int.{w64, trailing_zeros, w32};
 ghost use Rattle.std.specs.List.{flat_map};
 ghost use Rattle.std.specs.Str.{IsUtf8};
 ghost use Rattle.std.specs.Vec.{vec_capacity};
@@ -233,6 +233,8 @@ fn append_quoted_binary(bytes: &[u8], buf: &mut Vec<u8>) -> Appended
 fn append_quoted_interval(interval: &Interval, buf: &mut Vec<u8>) -> Appended
     ensures appends { Appends result buf.old buf.new
         (in_quotes (interval_text interval.now.months interval.now.days interval.now.micros)) }
+    ensures bits { OnOk result (FitsSigned w32 interval.now.months × FitsSigned w32 interval.now.days
+        × FitsSigned w64 interval.now.micros) }
 {
     buf.extend_from_slice(b"\"")?;
     interval.append_text(buf)?;

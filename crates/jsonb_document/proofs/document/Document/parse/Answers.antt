@@ -1,7 +1,6 @@
 use Rattle.jsonb_value.proofs.Trees.RangeTexts.{document_in_range}
 use Rattle.jsonb_scan.specs.Answer.{mode_of}
 use Rattle.jsonb_document.proofs.InOrder.{placed_is_listed}
-use Rattle.jsonb.proofs.Documents.Bounds.{document_bounded}
 use Rattle.jsonb_document.proofs.document.Document.parse.Goals as goal
 
 pub invariant_of-result : goal.invariant_of-result
@@ -12,6 +11,3 @@ returns-clause-in_range c = (document_in_range (mode_of c.args.mode) c.args.buf.
 
 pub returns-clause-proper : goal.returns-clause-proper
 returns-clause-proper c = (document_in_range (mode_of c.args.mode) c.args.buf.now _ c.in_ok-tree.ensures.parses.document).1
-
-pub returns-clause-bounded : goal.returns-clause-bounded
-returns-clause-bounded c = document_bounded (mode_of c.args.mode) c.args.buf.now _ c.in_ok-tree.ensures.parses.document

@@ -4,8 +4,8 @@ use Rattle.jsonb_value.proofs.Appending.IntervalTexts.{interval_text-none, inter
 use Rattle.jsonb_value.proofs.extension.Interval.text.Goals as goal
 use Rattle.jsonb_value.proofs.extension.Interval.text.Goals.{else-self-eq0-via-then-self-eq0+then-self-eq0-2+else-self-eq0-3, else-self-eq0-via-then-self-eq0+else-self-eq0-2, else-self-eq0-via-else-self-eq0}
 
-pub returns-then-self-eq0-3 : goal.returns-then-self-eq0-3
-returns-then-self-eq0-3 c =
+pub returns-then-self-eq0-3-clause-text : goal.returns-then-self-eq0-3-clause-text
+returns-then-self-eq0-3-clause-text c =
     let self = c.args.self.now in
     let f : FitsSigned w32 self.months = search rules in
     let g : FitsSigned w32 self.days = search rules in
@@ -13,8 +13,8 @@ returns-then-self-eq0-3 c =
     let all = interval_text-none self.months self.days self.micros (omega (arith, ints)) (omega (arith, ints)) (omega (arith, ints)) in
     c.and.ensures ∙ ap (λ t. t ++ codes "00:00:00") c.new.ensures.text ∙ sym all
 
-pub returns : goal.returns
-returns c =
+pub returns-clause-text : goal.returns-clause-text
+returns-clause-text c =
     let self = c.args.self.now in
     let f : FitsSigned w32 self.months = search rules in
     let g : FitsSigned w32 self.days = search rules in

@@ -9,5 +9,5 @@ done (Ok x) e p = p
 done (Err x) e p = cc
 
 pub returns-clause-order : goal.returns-clause-order
-returns-clause-order c = λ u bounded.
-    keys_order (view c.args.self.now) u (done c.append.result (sym c.is_err.ensures.value ∙ c.if-is_err.false) c.append.ensures.bounded) bounded
+returns-clause-order c = λ u proper.
+    keys_order (view c.args.self.now) u (done c.append.result (sym c.is_err.ensures.value ∙ c.if-is_err.false) c.append.ensures.proper) proper

@@ -1,13 +1,16 @@
 use Rattle.std.proofs.Common.{◌≡◌, List, true, false, ◌+◌, [], ◌∷◌, ◌++◌, drop, refl, sym, subst, ap, ◌∙◌, arith, rules, string_bytes}
 use Rattle.jsonb_spec.specs.SortKey.Kind as kind
 use Rattle.jsonb_spec.specs.Tree.{boolean}
-use Rattle.jsonb_spec.specs.SortKey.{text_key, key_of, items_key, members_key, HaveBounds}
+use Rattle.jsonb_spec.specs.SortKey.{text_key, key_of, items_key, members_key}
 use Rattle.jsonb_value.specs.View.{view, trees_view, members_view}
 use Rattle.jsonb_value.proofs.Appending.Appended.{begun, goes_on, fits, on_err, kept_on, appends_rest, appends_as, extended}
 use Rattle.jsonb_value.proofs.Values.Accessors.{view-Null, view-Bool, view-String, view-Number, view-Binary, view-Array, view-Object}
-use Rattle.jsonb_value.proofs.SortKeys.Parts.{next_item, next_member, next_bounded, next_bounded_member}
+use Rattle.jsonb_value.proofs.SortKeys.Parts.{next_item, next_member}
 use Rattle.jsonb_value.proofs.Values.Members.{Entry}
 use Rattle.jsonb_value.proofs.value.sort_key.+append.Goals as goal
+use Rattle.jsonb_spec.specs.Proper.{HaveProperParts}
+use Rattle.jsonb_value.proofs.Values.Keys.{KeysAscend-members_view}
+use Rattle.jsonb_value.proofs.Appending.Pieces.{next_proper, next_proper_member}
 
 pub append_items-items-preserved : goal.append_items-items-preserved
 append_items-items-preserved t c =
@@ -16,7 +19,7 @@ append_items-items-preserved t c =
     let rest = items_key (trees_view (drop (c.items.item-index + 1) all)) in
     record {
       underway = goes_on c.append.new.buf.items (key_of (view item)) rest c.items.invariant.underway (next_item all c.items.item-index item (search rules) (search rules)) c.in_ok-append.ensures.appends.ok;
-      bounded = λ others. c.items.invariant.bounded (next_bounded all c.items.item-index item (search rules) (search rules) c.in_ok-append.ensures.bounded others);
+      proper = λ others. c.items.invariant.proper (next_proper all c.items.item-index item (search rules) (search rules) c.in_ok-append.ensures.proper others);
       room = omega arith;
     }
 
@@ -37,7 +40,7 @@ append_members-members-preserved t c =
     let due = goes_on c.append_key.new.buf.items key (value ++ rest) c.members.invariant.underway next c.in_ok-append_key.ensures.appends.ok in
     record {
       underway = goes_on c.append.new.buf.items value rest due refl c.in_ok-append.ensures.appends.ok;
-      bounded = λ others. c.members.invariant.bounded (next_bounded_member c.members.key-iterator c.next.new.self (c.in-Some.key.now, c.in-Some.value.now) c.in-Some.ensures.steps c.in_ok-append.ensures.bounded others);
+      proper = λ others. c.members.invariant.proper (next_proper_member c.members.key-iterator c.next.new.self (c.in-Some.key.now, c.in-Some.value.now) c.in-Some.ensures.steps c.in_ok-append_key.ensures.utf8 c.in_ok-append.ensures.proper others);
       room = omega arith;
     }
 
@@ -67,7 +70,7 @@ append_members-members-init t c =
     let rest = members_key (members_view c.into_iter-key-iterator.result) in
     record {
       underway = goes_on c.extend_from_slice.new.self.items (209 ∷ []) rest (begun c.args.buf.now.items (209 ∷ members_key (members_view all))) (ap (λ (es : List Entry). 209 ∷ members_key (members_view es)) (sym whole)) c.in_ok-extend_from_slice.ensures.items;
-      bounded = λ parts. subst (λ es. HaveBounds (members_view es)) whole parts;
+      proper = λ parts. (KeysAscend-members_view all c.iter-key-items.ensures.ordered, subst (λ es. HaveProperParts (members_view es)) whole parts);
       room = omega (arith, c.in_ok-extend_from_slice.ensures.capacity);
     }
 
