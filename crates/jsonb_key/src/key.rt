@@ -1,20 +1,15 @@
 //! The value of a sort key.
 
-ghost use Rattle.std.specs.Prelude.{◌≡◌, ◌<◌, ◌++◌, ◌∷◌, List, ℕ, suc, length, IfOk, IfErr, IfSome, MatchResult, option_map, Some};
-ghost use Rattle.jsonb_spec.specs.Order.{Same};
+ghost use Rattle.std.specs.Prelude.{◌≡◌, ◌∷◌, List, ℕ, suc, IfOk, IfErr};
 ghost use Rattle.jsonb_spec.specs.SortKey.{key_of, items_key, members_key, text_key};
 ghost use Rattle.jsonb_spec.specs.Keys.{KeysAscend};
 ghost use Rattle.std.specs.List.{All};
 ghost use Rattle.std.specs.Str.{IsUtf8};
-ghost use Rattle.jsonb_spec.specs.Grammar.{max_depth};
-ghost use Rattle.jsonb_spec.specs.Owned.{owned_tree};
 ghost use Rattle.jsonb_spec.specs.SortKey.Kind as kind;
-ghost use Rattle.jsonb_spec.specs.Text.Range.{IsWithin};
 ghost use Rattle.jsonb_spec.specs.Tree.{Tree, Trees, Members, array, object};
 ghost use Rattle.jsonb_value.specs.View.{view, members_view};
-ghost use Rattle.jsonb_key.specs.Readable.{HasFewestDigits, IsReadable, IsReadableAt};
-ghost use Rattle.jsonb_key.specs.Reading.{IsDecodedAt};
-ghost use Rattle.jsonb_spec.specs.Proper.{IsProper};
+ghost use Rattle.jsonb_key.specs.Readable.{IsNoKey, IsReadableAt, IsValueOf};
+ghost use Rattle.jsonb_key.specs.Reading.{DecodesFrom, FindsAtKey, HasKey, IsDecodedAt};
 
 use crate::number::read_number;
 use crate::text::{read_text, skip_pair};
@@ -85,17 +80,9 @@ const MAX_DEPTH: u32 = 512;
 /// `Invalid` where the bytes are the sort key of no such value, also of binary data, a date, a time or an interval; and
 /// `OutOfMemory`.
 pub fn value_of_sort_key(alloc: Global, key: &[u8]) -> Result<Value<'static>, KeyError>
-    // The value has this key.
-    ensures key { IfOk result (λ v. key_of (view v) ≡ key.now) }
-    // So each value with this key is equal to it.
-    ensures same { IfOk result (λ v. (t : Tree) → IsProper t → key_of t ≡ key.now → Same (view v) t) }
-    // It is of JSON's kinds, its numbers have the fewest digits, and its strings are owned.
-    ensures readable { IfOk result (λ v. IsReadable (view v)) }
-    ensures fewest { IfOk result (λ v. IsWithin HasFewestDigits (view v) max_depth) }
-    ensures owned { IfOk result (λ v. owned_tree (view v) ≡ view v) }
+    ensures value { IfOk result (λ v. IsValueOf key.now (view v)) }
     // The key of a value of JSON's kinds is decoded, unless memory runs out.
-    ensures invalid { IfErr result (λ e. e ≡ KeyError.Invalid
-        → (t : Tree) → IsReadable t → key_of t ≡ key.now → ⊥) }
+    ensures invalid { IfErr result (λ e. e ≡ KeyError.Invalid → IsNoKey key.now) }
 {
     let (value, _) = read_value(alloc, MAX_DEPTH, key)?;
     let mut again = Vec::with_capacity(alloc, key.len())?;
@@ -111,11 +98,8 @@ pub fn value_of_sort_key(alloc: Global, key: &[u8]) -> Result<Value<'static>, Ke
 // The value whose key the bytes begin with, and the bytes after it. Where they begin with no key it may be any value.
 #[cycle(read_value)]
 fn read_value(alloc: Global, depth: u32, bytes: &[u8]) -> Result<(Value<'static>, &[u8]), KeyError>
-    ensures found { (t : Tree) → IsReadableAt depth t → (more : List ℕ) → bytes.now ≡ key_of t ++ more
-        → MatchResult result (λ r. (key_of (view r.0) ≡ key_of t) × (r.1.now ≡ more))
-        (λ e. e ≡ KeyError.OutOfMemory) }
-    ensures shorter { IfOk result (λ r. length r.1.now < length bytes.now) }
-    ensures decoded { IfOk result (λ r. IsDecodedAt depth (view r.0)) }
+    ensures found { (t : Tree) → IsReadableAt depth t → FindsAtKey (HasKey (key_of t)) bytes.now (key_of t) result }
+    ensures decodes { IfOk result (DecodesFrom depth bytes.now) }
 {
     let Some((first, rest)) = bytes.split_first() else {
         return Err(KeyError::Invalid);
@@ -135,11 +119,9 @@ fn read_value(alloc: Global, depth: u32, bytes: &[u8]) -> Result<(Value<'static>
 }
 
 fn read_string(alloc: Global, bytes: &[u8]) -> Result<(Value<'static>, &[u8]), KeyError>
-    ensures found { (text : List ℕ) → IsUtf8 text → (more : List ℕ) → bytes.now ≡ text_key text ++ more
-        → MatchResult result (λ r. (key_of (view r.0) ≡ kind.string ∷ text_key text) × (r.1.now ≡ more))
-        (λ e. e ≡ KeyError.OutOfMemory) }
-    ensures shorter { IfOk result (λ r. length r.1.now < length bytes.now) }
-    ensures decoded { (depth : ℕ) → IfOk result (λ r. IsDecodedAt depth (view r.0)) }
+    ensures found { (text : List ℕ) → IsUtf8 text
+        → FindsAtKey (HasKey (kind.string ∷ text_key text)) bytes.now (text_key text) result }
+    ensures decodes { (depth : ℕ) → IfOk result (DecodesFrom depth bytes.now) }
 {
     let (text, rest) = read_text(alloc, bytes)?;
     Ok((Value::String(CowStr::Owned(text)), rest))
@@ -147,11 +129,9 @@ fn read_string(alloc: Global, bytes: &[u8]) -> Result<(Value<'static>, &[u8]), K
 
 #[cycle(read_value)]
 fn read_array(alloc: Global, depth: u32, bytes: &[u8]) -> Result<(Value<'static>, &[u8]), KeyError>
-    ensures found { (ts : Trees) → IsReadableAt depth (array ts) → (more : List ℕ) → bytes.now ≡ items_key ts ++ more
-        → MatchResult result (λ r. (key_of (view r.0) ≡ kind.array ∷ items_key ts) × (r.1.now ≡ more))
-        (λ e. e ≡ KeyError.OutOfMemory) }
-    ensures shorter { IfOk result (λ r. length r.1.now < length bytes.now) }
-    ensures decoded { IfOk result (λ r. IsDecodedAt depth (view r.0)) }
+    ensures found { (ts : Trees) → IsReadableAt depth (array ts)
+        → FindsAtKey (HasKey (kind.array ∷ items_key ts)) bytes.now (items_key ts) result }
+    ensures decodes { IfOk result (DecodesFrom depth bytes.now) }
 {
     let Some(inner) = depth.checked_sub(1) else {
         return Err(KeyError::Invalid);
@@ -171,12 +151,9 @@ fn read_array(alloc: Global, depth: u32, bytes: &[u8]) -> Result<(Value<'static>
 
 #[cycle(read_value)]
 fn read_object(alloc: Global, depth: u32, bytes: &[u8]) -> Result<(Value<'static>, &[u8]), KeyError>
-    ensures found { (ms : Members) → IsReadableAt depth (object ms) → (more : List ℕ)
-        → bytes.now ≡ members_key ms ++ more
-        → MatchResult result (λ r. (key_of (view r.0) ≡ kind.object ∷ members_key ms) × (r.1.now ≡ more))
-        (λ e. e ≡ KeyError.OutOfMemory) }
-    ensures shorter { IfOk result (λ r. length r.1.now < length bytes.now) }
-    ensures decoded { IfOk result (λ r. IsDecodedAt depth (view r.0)) }
+    ensures found { (ms : Members) → IsReadableAt depth (object ms)
+        → FindsAtKey (HasKey (kind.object ∷ members_key ms)) bytes.now (members_key ms) result }
+    ensures decodes { IfOk result (DecodesFrom depth bytes.now) }
 {
     let Some(inner) = depth.checked_sub(1) else {
         return Err(KeyError::Invalid);

@@ -1,16 +1,15 @@
 //! The numbers of sort keys.
 
-ghost use Rattle.std.specs.Prelude.{◌≡◌, ◌≢◌, ◌%◌, ◌+◌, ◌*◌, ◌^◌, ◌<◌, ◌≤◌, ◌++◌, ◌∷◌, List, ℕ, ℤ, length, map, ◌/◌, ◌⊎◌, false, IfSome, IsTrue, IsFalse, MatchOption, option_map, Some, unsigned_abs};
+ghost use Rattle.std.specs.Prelude.{◌≡◌, ◌^◌, ◌<◌, ◌≤◌, ◌++◌, ◌∷◌, List, ℕ, ℤ, map, ◌⊎◌, false, IfSome, IsTrue, IsFalse, MatchOption, option_map};
 ghost use Rattle.std.specs.Int.{is_negative};
 ghost use Rattle.jsonb_spec.specs.Number.Signed.{signed_by};
 ghost use Rattle.jsonb_spec.specs.Order.{num_cmp};
 ghost use Rattle.std.specs.declared.cmp.Ordering.TheVariants.{Equal};
 ghost use Rattle.jsonb_spec.specs.Proper.{IsProperNumber};
-ghost use Rattle.jsonb_spec.specs.SortKey.{number_key, place_key, digits_key, invert_if};
+ghost use Rattle.jsonb_spec.specs.SortKey.{number_key, digits_key, invert_if};
 ghost use Rattle.jsonb_spec.specs.Tree.{Num};
 ghost use Rattle.jsonb_value.specs.View.{number_view};
-ghost use Rattle.jsonb_key.specs.Readable.{HasFewestDigits};
-ghost use Rattle.jsonb_key.specs.Reading.{HasParts, IsDigits, IsLastPair, IsNoLastPair, place_of, second_of};
+ghost use Rattle.jsonb_key.specs.Reading.{place_of, second_of, AreDigits, BeginsWithDigit, BeginsWithNoDigit, DigitsStand, HasParts, IsDigits, IsLastPair, IsNoLastPair, IsNumberOf, NumberStands, PlaceStands};
 
 use jsonb_value::number::{Decimal64, Decimal128, Number};
 use jsonb_value::sort_key::kind;
@@ -19,10 +18,7 @@ use jsonb_value::sort_key::kind;
 pub fn read_number(bytes: &[u8]) -> Option<(Number, &[u8])>
     ensures found { (n : Num) → IsProperNumber n → (more : List ℕ) → bytes.now ≡ number_key n ++ more
         → MatchOption result ⊥ (λ r. (number_key (number_view r.0) ≡ number_key n) × (r.1.now ≡ more)) }
-    ensures read { IfSome result (λ r. bytes.now ≡ number_key (number_view r.0) ++ r.1.now) }
-    ensures shorter { IfSome result (λ r. length r.1.now < length bytes.now) }
-    ensures proper { IfSome result (λ r. IsProperNumber (number_view r.0)) }
-    ensures fewest { IfSome result (λ r. HasFewestDigits (number_view r.0)) }
+    ensures read { IfSome result (λ r. NumberStands bytes.now (number_view r.0) r.1.now) }
 {
     let (first, rest) = bytes.split_first()?;
     if *first == kind::ZERO {
@@ -47,8 +43,7 @@ pub fn invert_if(negative: bool, byte: u8) -> u8
 /// The place of the first digit, with 255 added, and the bytes after it.
 pub fn read_place(negative: bool, bytes: &[u8]) -> Option<(u32, &[u8])>
     ensures place { option_map (λ r. (r.0, r.1.now)) result ≡ place_of negative bytes.now }
-    ensures read { IfSome result (λ r. bytes.now ≡ map (invert_if negative) (place_key r.0) ++ r.1.now) }
-    ensures shorter { IfSome result (λ r. (r.0 < 512) × (length r.1.now < length bytes.now)) }
+    ensures read { IfSome result (λ r. PlaceStands negative bytes.now r.0 r.1.now) }
 {
     let (first, rest) = bytes.split_first()?;
     let byte = invert_if(negative, *first);
@@ -66,7 +61,6 @@ pub fn read_place(negative: bool, bytes: &[u8]) -> Option<(u32, &[u8])>
 fn read_second(negative: bool, bytes: &[u8]) -> Option<(u32, &[u8])>
     ensures place { option_map (λ r. (r.0, r.1.now)) result ≡ second_of negative bytes.now }
     ensures read { IfSome result (λ r. (bytes.now ≡ invert_if negative r.0 ∷ r.1.now) × (r.0 < 225)) }
-    ensures shorter { IfSome result (λ r. (r.0 < 512) × (length r.1.now < length bytes.now)) }
 {
     let (second, rest) = bytes.split_first()?;
     let place = invert_if(negative, *second);
@@ -78,10 +72,8 @@ fn read_second(negative: bool, bytes: &[u8]) -> Option<(u32, &[u8])>
 
 // The first digit isn't 0.
 fn begins_with_digit(negative: bool, bytes: &[u8]) -> bool
-    ensures yes { IsTrue result → (first : ℕ) × (rest : List ℕ) × (bytes.now ≡ first ∷ rest)
-        × (20 ≤ invert_if negative first) }
-    ensures no { IsFalse result → (first : ℕ) → (rest : List ℕ) → bytes.now ≡ first ∷ rest
-        → invert_if negative first < 20 }
+    ensures yes { IsTrue result → BeginsWithDigit negative bytes.now }
+    ensures no { IsFalse result → BeginsWithNoDigit negative bytes.now }
 {
     match bytes.split_first() {
         Some((byte, _)) => invert_if(negative, *byte) >= 20,
@@ -94,10 +86,7 @@ fn read_digits(negative: bool, bytes: &[u8]) -> Option<(u128, u32, &[u8])>
     ensures found { (count magnitude : ℕ) → magnitude < 10 ^ count → 0 < magnitude → magnitude ≤ 2 ^ 127 → count ≤ 39
         → (more : List ℕ) → bytes.now ≡ map (invert_if negative) (digits_key count magnitude) ++ more
         → MatchOption result ⊥ (λ r. IsDigits count magnitude r.0 r.1 × (r.2.now ≡ more)) }
-    ensures read { IfSome result (λ r. (bytes.now ≡ map (invert_if negative) (digits_key r.1 r.0) ++ r.2.now)
-        × (r.0 < 10 ^ r.1)) }
-    ensures shorter { IfSome result (λ r. (r.1 < 512) × (length r.2.now < length bytes.now)) }
-    ensures fewest { IfSome result (λ r. r.0 % 10 ≢ 0) }
+    ensures read { IfSome result (λ r. DigitsStand negative bytes.now r.0 r.1 r.2.now) }
 {
     let mut digits: u128 = 0;
     let mut count: u32 = 0;
@@ -142,15 +131,11 @@ fn last_pair(digits: u128, pair: u8) -> Option<(u128, u32)>
 
 // The number of these digits, the first of which stands at this place.
 fn number_of(negative: bool, place: u32, digits: u128, count: u32) -> Option<Number>
-    requires few { (place < 512) × (count < 512) }
-    requires fewest { digits % 10 ≢ 0 }
-    requires counted { (digits < 10 ^ count) × (10 ^ count ≤ digits * 10) }
-    ensures key { IfSome result (λ x. number_key (number_view x)
-        ≡ map (invert_if negative) (place_key place ++ digits_key count digits)) }
+    requires few { place < 512 }
+    requires digits { AreDigits digits count }
+    ensures number { IfSome result (λ x. IsNumberOf negative place digits count (number_view x)) }
     ensures same { (n : Num) → IsProperNumber n → is_negative n.whole ≡ negative → HasParts n place digits count
         → MatchOption result ⊥ (λ x. num_cmp (number_view x) n ≡ Equal) }
-    ensures proper { IfSome result (λ x. IsProperNumber (number_view x)) }
-    ensures fewest { IfSome result (λ x. HasFewestDigits (number_view x)) }
 {
     let unit = 255 + count;
     if place >= unit {

@@ -1,9 +1,9 @@
 //! The texts of sort keys.
 
-ghost use Rattle.std.specs.Prelude.{◌≡◌, ◌<◌, ◌++◌, ◌∷◌, List, ℕ, length, IfOk, IfSome, MatchResult, option_map, Some, string_bytes};
+ghost use Rattle.std.specs.Prelude.{◌≡◌, ◌<◌, ◌∷◌, List, ℕ, length, IfOk, IfSome, option_map, Some, string_bytes};
 ghost use Rattle.std.specs.Str.{IsUtf8};
 ghost use Rattle.jsonb_spec.specs.SortKey.{text_key};
-ghost use Rattle.jsonb_key.specs.Reading.{byte_of, escape_of};
+ghost use Rattle.jsonb_key.specs.Reading.{byte_of, escape_of, FindsAtKey};
 
 use crate::key::KeyError;
 use jsonb_value::sort_key::kind;
@@ -11,8 +11,8 @@ use std::alloc::Global;
 
 // The text whose key the bytes begin with, and the bytes after it.
 pub(crate) fn read_text(alloc: Global, bytes: &[u8]) -> Result<(String, &[u8]), KeyError>
-    ensures found { (text : List ℕ) → IsUtf8 text → (more : List ℕ) → bytes.now ≡ text_key text ++ more
-        → MatchResult result (λ r. (string_bytes r.0 ≡ text) × (r.1.now ≡ more)) (λ e. e ≡ KeyError.OutOfMemory) }
+    ensures found { (text : List ℕ) → IsUtf8 text
+        → FindsAtKey (λ string. string_bytes string ≡ text) bytes.now (text_key text) result }
     ensures shorter { IfOk result (λ r. length r.1.now < length bytes.now) }
 {
     let mut text = Vec::new(alloc);

@@ -1,9 +1,9 @@
-use Rattle.std.proofs.Common.{◌∷◌, arith, sym, subst, ap, ◌∙◌}
+use Rattle.std.proofs.Common.{◌∷◌, length, arith, sym, subst, ap, ◌∙◌}
 use Rattle.jsonb_spec.specs.Text.Range.{AreWithin, HaveWithin}
-use Rattle.std.proofs.lemmas.Result.{err_from_is_err_and}
+use Rattle.std.proofs.lemmas.Result.{err_from_is_err_and, IfOk-weaker}
 use Rattle.jsonb_spec.specs.SortKey.{key_of, members_key}
 use Rattle.jsonb_key.specs.Readable.{IsAnyNumber}
-use Rattle.jsonb_key.specs.Reading.{IsDecodedAt}
+use Rattle.jsonb_key.specs.Reading.{DecodesFrom, IsDecodedAt}
 use Rattle.jsonb_key.proofs.Decoded.{array_decoded, items_pushed, members_pushed, one_deeper_decoded}
 use Rattle.jsonb_spec.specs.Tree.{object}
 use Rattle.jsonb_value.specs.View.{members_view}
@@ -34,8 +34,8 @@ read_array-items-preserved t c = record {
       let read = c.in_ok-item.ensures.found next.item next.readable _ next.stands in
       subst (λ items. ItemsLeft c.in-Some.inner ts items c.in_ok-item.others.now more) (sym c.in_ok-push.ensures.items)
       (item_read c.in-Some.inner ts c.items.items.items c.items.rest.now more c.in_ok-item.item c.in_ok-item.others.now next read.0 read.1);
-  within = omega (arith, c.in_ok-item.ensures.shorter, c.items.invariant.within);
-  decoded = items_pushed c.in-Some.inner c.items.items.items _ c.in_ok-item.item c.in_ok-push.ensures.items c.items.invariant.decoded c.in_ok-item.ensures.decoded;
+  within = omega (arith, c.in_ok-item.ensures.decodes.shorter, c.items.invariant.within);
+  decoded = items_pushed c.in-Some.inner c.items.items.items _ c.in_ok-item.item c.in_ok-push.ensures.items c.items.invariant.decoded c.in_ok-item.ensures.decodes.decoded;
 }
 
 pub read_array-returns-clause-found : goal.read_array-returns-clause-found
@@ -74,8 +74,8 @@ read_object-members-preserved t c = record {
       let value = c.in_ok-value.ensures.found next.value next.readable _ key.1 in
       subst (λ entries. MembersLeft c.in-Some.inner ms entries c.in_ok-value.others.now more) (sym c.in_ok-push.ensures.items)
       (member_read c.in-Some.inner ms c.members.members.items c.members.rest.now more (c.in_ok-key.key, c.in_ok-value.value) c.in_ok-value.others.now next key.0 value.0 value.1);
-  within = omega (arith, c.in_ok-key.ensures.shorter, c.in_ok-value.ensures.shorter, c.members.invariant.within);
-  decoded = members_pushed c.in-Some.inner c.members.members.items _ (c.in_ok-key.key, c.in_ok-value.value) c.in_ok-push.ensures.items c.members.invariant.decoded c.in_ok-value.ensures.decoded;
+  within = omega (arith, c.in_ok-key.ensures.shorter, c.in_ok-value.ensures.decodes.shorter, c.members.invariant.within);
+  decoded = members_pushed c.in-Some.inner c.members.members.items _ (c.in_ok-key.key, c.in_ok-value.value) c.in_ok-push.ensures.items c.members.invariant.decoded c.in_ok-value.ensures.decodes.decoded;
 }
 
 pub read_value-returns-in_default-clause-found : goal.read_value-returns-in_default-clause-found
@@ -111,11 +111,27 @@ read_value-returns-in-211-clause-found t c = λ u readable more e.
     let x = one_byte c.args.depth u readable c.in-Some.first.now c.in-Some.rest.now c.args.bytes.now more c.in-Some.ensures.cases.0 e 211 c.in-211.is (λ head low high is. omega (arith, high, is)) in
     (ap key_of c.default.ensures ∙ sym x.0, x.1)
 
-pub read_array-returns-then-first-eq-TERMINATOR-clause-decoded : goal.read_array-returns-then-first-eq-TERMINATOR-clause-decoded
-read_array-returns-then-first-eq-TERMINATOR-clause-decoded t c =
-    subst (IsDecodedAt c.args.depth) (sym c.from.ensures) (array_decoded c.args.depth c.in-Some.inner c.items.items.items (omega (arith, c.in-Some.ensures)) c.items.invariant.decoded)
+pub read_array-returns-then-first-eq-TERMINATOR-clause-decodes : goal.read_array-returns-then-first-eq-TERMINATOR-clause-decodes
+read_array-returns-then-first-eq-TERMINATOR-clause-decodes t c = record {
+  decoded = subst (IsDecodedAt c.args.depth) (sym c.from.ensures) (array_decoded c.args.depth c.in-Some.inner c.items.items.items (omega (arith, c.in-Some.ensures)) c.items.invariant.decoded);
+  shorter = omega (arith, c.in-Some-split_first.ensures.cases.1, c.items.invariant.within);
+}
 
-pub read_object-returns-in-Some-skip_pair-clause-decoded : goal.read_object-returns-in-Some-skip_pair-clause-decoded
-read_object-returns-in-Some-skip_pair-clause-decoded t c =
-    subst (IsDecodedAt c.args.depth) (sym c.from.ensures)
-    (one_deeper_decoded c.args.depth c.in-Some.inner (object (members_view c.in_ok-object.object.entries)) (omega (arith, c.in-Some.ensures)) (c.in_ok-object.ensures.decoded c.in-Some.inner c.members.invariant.decoded))
+pub read_object-returns-in-Some-skip_pair-clause-decodes : goal.read_object-returns-in-Some-skip_pair-clause-decodes
+read_object-returns-in-Some-skip_pair-clause-decodes t c = record {
+  decoded = subst (IsDecodedAt c.args.depth) (sym c.from.ensures)
+      (one_deeper_decoded c.args.depth c.in-Some.inner (object (members_view c.in_ok-object.object.entries)) (omega (arith, c.in-Some.ensures)) (c.in_ok-object.ensures.decoded c.in-Some.inner c.members.invariant.decoded));
+  shorter = omega (arith, ap length c.in-Some-skip_pair.ensures.some, c.members.invariant.within);
+}
+
+pub read_value-returns-in-208-clause-decodes : goal.read_value-returns-in-208-clause-decodes
+read_value-returns-in-208-clause-decodes t c =
+    IfOk-weaker c.read_string.result _ (DecodesFrom c.args.depth c.args.bytes.now) (λ r d. record { decoded = d.decoded; shorter = omega (arith, d.shorter, c.in-Some.ensures.cases.1) }) (c.read_string.ensures.decodes c.args.depth)
+
+pub read_value-returns-in-209-clause-decodes : goal.read_value-returns-in-209-clause-decodes
+read_value-returns-in-209-clause-decodes t c =
+    IfOk-weaker c.read_object.result _ (DecodesFrom c.args.depth c.args.bytes.now) (λ r d. record { decoded = d.decoded; shorter = omega (arith, d.shorter, c.in-Some.ensures.cases.1) }) (c.read_object.ensures.decodes)
+
+pub read_value-returns-in-210-clause-decodes : goal.read_value-returns-in-210-clause-decodes
+read_value-returns-in-210-clause-decodes t c =
+    IfOk-weaker c.read_array.result _ (DecodesFrom c.args.depth c.args.bytes.now) (λ r d. record { decoded = d.decoded; shorter = omega (arith, d.shorter, c.in-Some.ensures.cases.1) }) (c.read_array.ensures.decodes)

@@ -3,13 +3,13 @@ use Rattle.std.proofs.lemmas.Result.{err_from_is_err_and}
 use Rattle.std.proofs.lemmas.Bool.{and_from}
 use Rattle.std.specs.Result.{is_err}
 use Rattle.std.specs.Str.{bytes_eq}
+use Rattle.jsonb_spec.specs.Proper.{IsProper}
 use Rattle.jsonb_spec.specs.SortKey.{key_of}
 use Rattle.jsonb_value.specs.View.{view}
 use Rattle.jsonb_value.proofs.SortKeys.Trees.{keys_same}
 use Rattle.jsonb_key.specs.declared.key.KeyError.TheVariants.{Invalid, OutOfMemory}
 use Rattle.jsonb_key.proofs.Decoded.{decoded_readable}
 use Rattle.jsonb_key.proofs.key.value_of_sort_key.Goals as goal
-use Rattle.jsonb_spec.specs.Proper.{IsProper}
 
 done : {T E P : Type 0} (r : Result T E) → is_err r ≡ false → OnOk r P → P
 done (Ok x) e p = p
@@ -37,11 +37,15 @@ returns-then-ne-clause-invalid c = λ invalid t readable e.
     let clash : true ≡ not true = c.if-ne.ensures ∙ ap (λ bytes. not (bytes_eq bytes c.args.key.now)) same ∙ ap not (equals_itself c.args.key.now) in
     cc
 
-pub returns-clause-same : goal.returns-clause-same
-returns-clause-same c = λ t proper e.
-    let key : key_of (view c.in_ok-value.value) ≡ c.args.key.now = search rules in
+pub returns-clause-value : goal.returns-clause-value
+returns-clause-value c =
+    let decoded = c.in_ok-value.ensures.decodes.decoded in
+    let has_key : key_of (view c.in_ok-value.value) ≡ c.args.key.now = search rules in
     let fits : IsProper (view c.in_ok-value.value) = done c.write_sort_key.result (sym c.is_err.ensures.value ∙ c.if-is_err.false) c.write_sort_key.ensures.proper in
-    (keys_same (view c.in_ok-value.value) t fits proper).0 (key ∙ sym e)
-
-pub returns-clause-readable : goal.returns-clause-readable
-returns-clause-readable c = decoded_readable 512 (view c.in_ok-value.value) c.in_ok-value.ensures.decoded
+    record {
+      key = has_key;
+      same = λ u proper e. (keys_same (view c.in_ok-value.value) u fits proper).0 (has_key ∙ sym e);
+      readable = decoded_readable 512 (view c.in_ok-value.value) decoded;
+      fewest = decoded.within;
+      is_owned = decoded.is_owned;
+    }

@@ -48,25 +48,25 @@ returns-clause-same c = λ n proper sign parts.
     let fits : FitsSigned w128 c.in_ok-signed.signed = search rules in
     same_number (number_view c.number_with-2.result) n c.args.negative c.in_ok-scale.scale c.args.digits c.number_with-2.ensures.scale (c.number_with-2.ensures.whole ∙ to_z-of_z w128 c.in_ok-signed.signed fits ∙ c.in_ok-signed.ensures) sign (same ∙ ap (λ s. unsigned_abs n.whole * 10 ^ s) (search rules))
 
-pub returns-then-place-unit-clause-fewest : goal.returns-then-place-unit-clause-fewest
-returns-then-place-unit-clause-fewest c = inl c.number_with.ensures.scale
-
-pub returns-clause-fewest : goal.returns-clause-fewest
-returns-clause-fewest c =
-    let fits : FitsSigned w128 c.in_ok-signed.signed = search rules in
-    let digits = ap unsigned_abs (c.number_with-2.ensures.whole ∙ to_z-of_z w128 c.in_ok-signed.signed fits ∙ c.in_ok-signed.ensures) ∙ unsigned_abs-signed c.args.negative c.args.digits in
-    inr (λ zero. c.requires.fewest (ap (λ x. x % 10) (sym digits) ∙ zero))
-
-pub returns-then-place-unit-clause-key : goal.returns-then-place-unit-clause-key
-returns-then-place-unit-clause-key c =
+pub returns-then-place-unit-clause-number : goal.returns-then-place-unit-clause-number
+returns-then-place-unit-clause-number c =
     let fits : FitsSigned w128 c.in_ok-whole.whole = search rules in
     let whole = to_z-of_z w128 c.in_ok-whole.whole fits ∙ c.in_ok-whole.ensures in
-    up_key (number_view c.number_with.result) c.args.negative c.args.digits c.args.count c.args.place c.in_ok-power.power c.in_ok-checked_mul.field-0 c.number_with.ensures.scale (c.number_with.ensures.whole ∙ whole) c.in_ok-checked_mul.ensures.1 c.in_ok-power.ensures.1 c.if-place-unit.true (omega (arith, c.requires.fewest)) c.requires.counted.0 c.requires.counted.1
-    (at_most_39 _ c.args.negative c.in_ok-checked_mul.field-0 fits c.in_ok-whole.ensures)
+    record {
+      has_key = up_key (number_view c.number_with.result) c.args.negative c.args.digits c.args.count c.args.place c.in_ok-power.power c.in_ok-checked_mul.field-0 c.number_with.ensures.scale (c.number_with.ensures.whole ∙ whole) c.in_ok-checked_mul.ensures.1 c.in_ok-power.ensures.1 c.if-place-unit.true (omega (arith, c.requires.digits.fewest)) c.requires.digits.below c.requires.digits.least
+          (at_most_39 _ c.args.negative c.in_ok-checked_mul.field-0 fits c.in_ok-whole.ensures);
+      proper = c.number_with.ensures.proper;
+      fewest = inl c.number_with.ensures.scale;
+    }
 
-pub returns-clause-key : goal.returns-clause-key
-returns-clause-key c =
+pub returns-clause-number : goal.returns-clause-number
+returns-clause-number c =
     let fits : FitsSigned w128 c.in_ok-signed.signed = search rules in
     let whole = to_z-of_z w128 c.in_ok-signed.signed fits ∙ c.in_ok-signed.ensures in
-    down_key (number_view c.number_with-2.result) c.args.negative c.in_ok-scale.scale c.args.digits c.args.count c.args.place c.number_with-2.ensures.scale (c.number_with-2.ensures.whole ∙ whole) (search rules) (omega (arith, c.if-place-unit.false)) (omega (arith, c.requires.fewest)) c.requires.counted.0 c.requires.counted.1
-    (at_most_39 _ c.args.negative c.args.digits fits c.in_ok-signed.ensures)
+    let digits = ap unsigned_abs (c.number_with-2.ensures.whole ∙ whole) ∙ unsigned_abs-signed c.args.negative c.args.digits in
+    record {
+      has_key = down_key (number_view c.number_with-2.result) c.args.negative c.in_ok-scale.scale c.args.digits c.args.count c.args.place c.number_with-2.ensures.scale (c.number_with-2.ensures.whole ∙ whole) (search rules) (omega (arith, c.if-place-unit.false)) (omega (arith, c.requires.digits.fewest)) c.requires.digits.below c.requires.digits.least
+          (at_most_39 _ c.args.negative c.args.digits fits c.in_ok-signed.ensures);
+      proper = c.number_with-2.ensures.proper;
+      fewest = inr (λ zero. c.requires.digits.fewest (ap (λ x. x % 10) (sym digits) ∙ zero));
+    }

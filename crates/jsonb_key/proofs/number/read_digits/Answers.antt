@@ -36,7 +36,14 @@ pairs-preserved c = record {
 
 pub returns-then-byte-eq0-clause-read : goal.returns-then-byte-eq0-clause-read
 returns-then-byte-eq0-clause-read c =
-    last_pair_read c.args.negative c.args.bytes.now c.pairs.digits c.pairs.count c.pairs.rest.now c.in-Some.others.now c.in-Some.byte.now c.invert_if-byte.result (c.invert_if-byte.result / 2) c.in_ok-digits.digits c.in_ok-digits.last c.pairs.invariant.read c.in-Some.ensures.cases.0 (search rules) c.invert_if-byte.ensures refl c.if-byte-eq0.true c.in_ok-digits.ensures
+    let read = last_pair_read c.args.negative c.args.bytes.now c.pairs.digits c.pairs.count c.pairs.rest.now c.in-Some.others.now c.in-Some.byte.now c.invert_if-byte.result (c.invert_if-byte.result / 2) c.in_ok-digits.digits c.in_ok-digits.last c.pairs.invariant.read c.in-Some.ensures.cases.0 (search rules) c.invert_if-byte.ensures refl c.if-byte-eq0.true c.in_ok-digits.ensures in
+    record {
+      stands = read.0;
+      shorter = omega (arith, c.in-Some.ensures.cases.1, c.pairs.invariant.within);
+      below = read.1;
+      few = omega (arith, c.pairs.invariant.few, c.in_ok-digits.ensures.few);
+      fewest = c.in_ok-digits.ensures.not_zero;
+    }
 
 pub returns-then-pair-gt99-clause-found : goal.returns-then-pair-gt99-clause-found
 returns-then-pair-gt99-clause-found c = λ C M below some high few more e.

@@ -1,4 +1,4 @@
-use Rattle.std.proofs.Common.{◌++◌, ◌∷◌, map, arith, refl, sym, ap, ◌∙◌, unsigned_abs}
+use Rattle.std.proofs.Common.{rules, ◌++◌, ◌∷◌, map, arith, refl, sym, ap, ◌∙◌, unsigned_abs}
 use Rattle.std.specs.Bool.{nat_lt}
 use Rattle.jsonb_spec.specs.SortKey.{digits_key, invert_if}
 use Rattle.jsonb_value.specs.View.{number_view}
@@ -47,11 +47,15 @@ returns-clause-found c = λ n proper more e.
     let at = some_pair c.in_ok-place.place s.place c.in_ok-place.rest.now (map (invert_if (nat_lt c.in_ok-first.first.now 128)) (digits_key s.count (unsigned_abs n.whole)) ++ more) (c.in_ok-place.ensures.place ∙ ap (place_of (nat_lt c.in_ok-first.first.now 128)) s.stands ∙ placed) in
     let read = c.in_ok-digits.ensures.found s.count (unsigned_abs n.whole) s.below s.some (most n proper) s.few more at.1 in
     let same = c.in_ok-number_of.ensures.same n proper s.is_sign (parts_of n (nat_lt c.in_ok-first.first.now 128) c.args.bytes.now more s c.in_ok-place.place c.in_ok-digits.digits c.in_ok-digits.count at.0 read.0) in
-    (same_keys (number_view c.in_ok-number_of.field-0) n c.in_ok-number_of.ensures.proper proper same, read.1)
+    (same_keys (number_view c.in_ok-number_of.field-0) n c.in_ok-number_of.ensures.number.proper proper same, read.1)
 
 pub returns-then-first-clause-read : goal.returns-then-first-clause-read
-returns-then-first-clause-read c =
-    c.in_ok-first.ensures.cases.0 ∙ ap (λ b. b ∷ c.in_ok-first.rest.now) c.if-first.true ∙ ap (λ key. key ++ c.in_ok-first.rest.now) (sym (nothing_there _ refl))
+returns-then-first-clause-read c = record {
+  stands = c.in_ok-first.ensures.cases.0 ∙ ap (λ b. b ∷ c.in_ok-first.rest.now) c.if-first.true ∙ ap (λ key. key ++ c.in_ok-first.rest.now) (sym (nothing_there _ refl));
+  shorter = omega (arith, c.in_ok-first.ensures.cases.1);
+  proper = search rules;
+  fewest = search rules;
+}
 
 pub returns-then-not-begins_with_digit-clause-found : goal.returns-then-not-begins_with_digit-clause-found
 returns-then-not-begins_with_digit-clause-found c = λ n proper more e.
@@ -60,9 +64,14 @@ returns-then-not-begins_with_digit-clause-found c = λ n proper more e.
     let at = some_pair c.in_ok-place.place s.place c.in_ok-place.rest.now (map (invert_if (nat_lt c.in_ok-first.first.now 128)) (digits_key s.count (unsigned_abs n.whole)) ++ more) (c.in_ok-place.ensures.place ∙ ap (place_of (nat_lt c.in_ok-first.first.now 128)) s.stands ∙ placed) in
     absurd (digit_there (nat_lt c.in_ok-first.first.now 128) s.count (unsigned_abs n.whole) c.in_ok-place.rest.now more s.some s.below s.least at.1 (c.begins_with_digit.ensures.no c.if-not-begins_with_digit.true))
 
-pub number_of-requires-clause-counted : goal.number_of-requires-clause-counted
-number_of-requires-clause-counted c =
+pub number_of-requires-clause-digits : goal.number_of-requires-clause-digits
+number_of-requires-clause-digits c =
     let sign = nat_lt c.in_ok-first.first.now 128 in
     let first = c.begins_with_digit.ensures.yes c.if-not-begins_with_digit.false in
     let read = c.in_ok-digits.ensures.read in
-    (read.1, first_digit sign c.in_ok-digits.count c.in_ok-digits.digits first.0 c.in_ok-place.rest.now first.1 c.in_ok-digits.rest.now (omega (arith, c.in_ok-digits.ensures.fewest)) read.1 read.0 first.2 first.3)
+    record {
+      below = read.below;
+      least = first_digit sign c.in_ok-digits.count c.in_ok-digits.digits first.0 c.in_ok-place.rest.now first.1 c.in_ok-digits.rest.now (omega (arith, read.fewest)) read.below read.stands first.2 first.3;
+      few = read.few;
+      fewest = read.fewest;
+    }
