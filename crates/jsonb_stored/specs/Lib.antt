@@ -1,3 +1,4 @@
+pub mod AtKeys
 pub mod Found
 pub mod Checked
 pub mod Frames

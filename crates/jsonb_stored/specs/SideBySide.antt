@@ -57,6 +57,11 @@ SameKeys old new = (new.key.now ≡ old.key.now) × (new.other.now ≡ old.other
 abbrev pub IsPassed : Walk → Walk → Result Bool NoKey → Type 0
 IsPassed old new result = IfOk result (λ found. IsTrue found → length new.theirs.now < length old.theirs.now)
 
+-- Where nothing is wrong, the keys as a whole are the same; and what is found is passed.
+pub record Walks (old new : Walk) (result : Result Bool NoKey) : Type 0 where
+  pub keys : IfOk result (λ found. SameKeys old new)
+  pub passed : IsPassed old new result
+
 -- This is what is told, and where it is yes, the walk stands there.
 abbrev pub Told : Bool → Type 0 → Result Bool NoKey → Type 0
 Told answer Behind (Ok told) = (told ≡ answer) × (IsTrue answer → Behind)

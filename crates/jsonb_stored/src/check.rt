@@ -1,6 +1,7 @@
 //! Whether bytes are a sort key.
 
-ghost use Rattle.std.specs.Prelude.{◌≡◌, ◌<◌, ◌≤◌, ◌++◌, ◌↔◌, List, ℕ, length, option_map, get_or, Some, true, IsTrue, IfOk, IfErr, IfSome, Option};
+ghost use Rattle.std.specs.Prelude.{◌≡◌, ◌<◌, ◌≤◌, ◌++◌, ◌↔◌, List, ℕ, length, get_or, true, IsTrue, IfOk, IfErr, IfSome, Option};
+ghost use Rattle.jsonb_stored.specs.AtKeys.{Leaves};
 ghost use Rattle.jsonb_stored.specs.Checked.{IsSortKey};
 ghost use Rattle.jsonb_stored.specs.Frames.{KeyFirst, ScalarFirst, NumberFirst, TextFirst, PartsFirst, Frame, in_object, is_object_frame, new_frame, IsAbove, NameFirst, frame_behind, IsFrame};
 ghost use Rattle.jsonb_spec.specs.SortKey.{text_key};
@@ -35,7 +36,7 @@ pub fn is_sort_key(bytes: &[u8]) -> bool
 
 // The bytes after the key that they begin with, if it is one.
 fn checked_key(bytes: &[u8]) -> Option<&[u8]>
-    ensures { (more : List ℕ) → option_map (λ rest. rest.now) result ≡ Some more ↔ KeyFirst bytes.now more }
+    ensures { (more : List ℕ) → Leaves result more ↔ KeyFirst bytes.now more }
 {
     let Some((first, rest)) = bytes.split_first() else {
         return None;
@@ -48,7 +49,7 @@ fn checked_key(bytes: &[u8]) -> Option<&[u8]>
 
 // The bytes after the key of a scalar that they begin with, if it is one.
 fn checked_scalar(bytes: &[u8]) -> Option<&[u8]>
-    ensures found { (more : List ℕ) → option_map (λ rest. rest.now) result ≡ Some more ↔ ScalarFirst bytes.now more }
+    ensures found { (more : List ℕ) → Leaves result more ↔ ScalarFirst bytes.now more }
     ensures shorter { IfSome result (λ rest. length rest.now < length bytes.now) }
 {
     let Some((first, rest)) = bytes.split_first() else {
@@ -65,7 +66,7 @@ fn checked_scalar(bytes: &[u8]) -> Option<&[u8]>
 
 // The bytes after the key of a number that they begin with, if it is one.
 fn checked_number(bytes: &[u8]) -> Option<&[u8]>
-    ensures found { (more : List ℕ) → option_map (λ rest. rest.now) result ≡ Some more ↔ NumberFirst bytes.now more }
+    ensures found { (more : List ℕ) → Leaves result more ↔ NumberFirst bytes.now more }
     ensures shorter { IfSome result (λ rest. length rest.now < length bytes.now) }
 {
     if let Some(rest) = short_number(bytes) {
@@ -79,7 +80,7 @@ fn checked_number(bytes: &[u8]) -> Option<&[u8]>
 
 // The bytes after the key of a text that they begin with, if it is one, from what stands behind its first byte.
 fn checked_text(bytes: &[u8]) -> Option<&[u8]>
-    ensures found { (more : List ℕ) → option_map (λ rest. rest.now) result ≡ Some more ↔ TextFirst bytes.now more }
+    ensures found { (more : List ℕ) → Leaves result more ↔ TextFirst bytes.now more }
     ensures shorter { IfSome result (λ rest. length rest.now < length bytes.now) }
 {
     let mut rest = bytes;
@@ -101,7 +102,7 @@ fn checked_text(bytes: &[u8]) -> Option<&[u8]>
 
 // The bytes after the parts of an object or an array and after its end, if they are in order.
 fn checked_parts(object: bool, bytes: &[u8]) -> Option<&[u8]>
-    ensures { (more : List ℕ) → option_map (λ rest. rest.now) result ≡ Some more ↔ PartsFirst object bytes.now more }
+    ensures { (more : List ℕ) → Leaves result more ↔ PartsFirst object bytes.now more }
 {
     let mut frames = [ARRAY; FEW];
     match checked_within(object, bytes, &mut frames) {
@@ -113,7 +114,7 @@ fn checked_parts(object: bool, bytes: &[u8]) -> Option<&[u8]>
 // The bytes after such parts, with room for as many open arrays and objects as there may be.
 #[inline(never)]
 fn checked_deep(object: bool, bytes: &[u8]) -> Option<&[u8]>
-    ensures { (more : List ℕ) → option_map (λ rest. rest.now) result ≡ Some more ↔ PartsFirst object bytes.now more }
+    ensures { (more : List ℕ) → Leaves result more ↔ PartsFirst object bytes.now more }
 {
     let mut frames = [ARRAY; MAX_DEPTH];
     match checked_within(object, bytes, &mut frames) {
@@ -135,8 +136,7 @@ fn checked_within<'k>(
 ) -> Result<Option<&'k [u8]>, NoRoom>
     requires some { 0 < length frames.old }
     requires few { length frames.old ≤ 512 }
-    ensures checked { IfOk result (λ rest. (more : List ℕ) → option_map (λ rest. rest.now) rest ≡ Some more
-        ↔ PartsFirst object bytes.now more) }
+    ensures checked { IfOk result (λ rest. (more : List ℕ) → Leaves rest more ↔ PartsFirst object bytes.now more) }
     ensures no_room { IfErr result (λ e. length frames.old < 512) }
 {
     frames[0] = new_frame(object);
@@ -213,7 +213,7 @@ fn with_name(last: usize, rest: &[u8]) -> usize
 // The bytes after the next member's name, if it is in its place. An item has no name.
 fn checked_name<'k>(bytes: &'k [u8], last: usize, rest: &'k [u8]) -> Option<&'k [u8]>
     ensures found { (f : Frame) → IsFrame bytes.now f last → (more : List ℕ)
-        → option_map (λ value. value.now) result ≡ Some more ↔ ((name : List ℕ) × NameFirst f name rest.now more) }
+        → Leaves result more ↔ ((name : List ℕ) × NameFirst f name rest.now more) }
     ensures within { IfSome result (λ value. length value.now ≤ length rest.now) }
 {
     if last == ARRAY {

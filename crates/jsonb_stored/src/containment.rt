@@ -1,12 +1,13 @@
 //! Whether a value contains another, straight from their keys.
 
-ghost use Rattle.std.specs.Prelude.{Bool, ◌≡◌, ◌<◌, ◌≤◌, ◌++◌, List, ℕ, suc, length, true, false, IsTrue, IfOk, IfSome, Ok, Some, option_map};
+ghost use Rattle.std.specs.Prelude.{Bool, ◌≡◌, ◌<◌, ◌≤◌, ◌++◌, List, ℕ, suc, length, true, false, IsTrue, IfOk, IfSome, Ok};
 ghost use Rattle.std.specs.declared.cmp.Ordering.TheVariants.{Equal};
 ghost use Rattle.jsonb_key.specs.Readable.{IsReadable, IsReadableAt};
 ghost use Rattle.jsonb_spec.specs.Containment.{contains, holds, holds_items, holds_members, any_item};
+ghost use Rattle.jsonb_stored.specs.AtKeys.{AtParts, Leaves};
 ghost use Rattle.jsonb_stored.specs.Open.{Open, is_object, open_key, IsOpen, IsScalar};
 ghost use Rattle.jsonb_stored.specs.Parts.{opened_tree};
-ghost use Rattle.jsonb_stored.specs.SideBySide.{AreReadableAt, HaveReadableAt, EndsWith, IsLeft, FindsMember, IsPassed, SameKeys, Stands, StandsInside, EndsInside, Told};
+ghost use Rattle.jsonb_stored.specs.SideBySide.{AreReadableAt, HaveReadableAt, EndsWith, IsLeft, FindsMember, IsPassed, SameKeys, Stands, StandsInside, EndsInside, Told, Walks};
 ghost use Rattle.jsonb_spec.specs.Order.{bytes_cmp};
 ghost use Rattle.jsonb_spec.specs.SortKey.{key_of, items_key, members_key, text_key};
 ghost use Rattle.jsonb_spec.specs.Tree.{Tree, Trees, Members};
@@ -77,8 +78,7 @@ impl<'k> Walk<'k> {
             → IsReadableAt depth t → IsReadableAt depth u → (more behind : List ℕ)
             → Stands self.old (key_of t ++ more) (key_of u ++ behind)
             → Told (holds t u) (Stands self.new more behind) result }
-        ensures keys { IfOk result (λ found. SameKeys self.old self.new) }
-        ensures passed { IsPassed self.old self.new result }
+        ensures walks { Walks self.old self.new result }
     {
         let Some((first, _)) = self.theirs.split_first() else {
             return Err(NoKey);
@@ -101,8 +101,7 @@ impl<'k> Walk<'k> {
             → is_object o ≡ object → IsReadableAt depth t → IsReadableAt depth (opened_tree o) → (more behind : List ℕ)
             → Stands self.old (key_of t ++ more) (key_of (opened_tree o) ++ behind)
             → Told (holds t (opened_tree o)) (EndsInside object self.new more behind) result }
-        ensures keys { IfOk result (λ found. SameKeys self.old self.new) }
-        ensures passed { IsPassed self.old self.new result }
+        ensures walks { Walks self.old self.new result }
     {
         let Some((mine, ours)) = self.ours.split_first() else {
             return Err(NoKey);
@@ -133,8 +132,7 @@ impl<'k> Walk<'k> {
             → IsReadableAt (suc depth) (opened_tree b) → (more behind : List ℕ)
             → Stands self.old (open_key a ++ more) (open_key b ++ behind)
             → Told (holds (opened_tree a) (opened_tree b)) (EndsInside object self.new more behind) result }
-        ensures keys { IfOk result (λ found. SameKeys self.old self.new) }
-        ensures passed { IsPassed self.old self.new result }
+        ensures walks { Walks self.old self.new result }
     {
         if object {
             self.has_members()
@@ -151,8 +149,7 @@ impl<'k> Walk<'k> {
             → HaveReadableAt depth ms → HaveReadableAt depth ns → (more behind : List ℕ)
             → Stands self.old (members_key ms ++ more) (members_key ns ++ behind)
             → Told (holds_members ms ns) (EndsInside true self.new more behind) result }
-        ensures keys { IfOk result (λ found. SameKeys self.old self.new) }
-        ensures passed { IsPassed self.old self.new result }
+        ensures walks { Walks self.old self.new result }
     {
         'members: loop {
             if let Some(theirs) = after_end(true, self.theirs) {
@@ -177,8 +174,7 @@ impl<'k> Walk<'k> {
             → AreReadableAt depth ts → AreReadableAt depth us → (more behind : List ℕ)
             → Stands self.old (items_key ts ++ more) (items_key us ++ behind)
             → Told (holds_items ts us) (EndsInside false self.new more behind) result }
-        ensures keys { IfOk result (λ found. SameKeys self.old self.new) }
-        ensures passed { IsPassed self.old self.new result }
+        ensures walks { Walks self.old self.new result }
     {
         let items = self.ours.len();
         'others: loop {
@@ -203,8 +199,7 @@ impl<'k> Walk<'k> {
             → items ≡ length (items_key ts ++ more)
             → IsLeft self.old.other.now self.old.theirs.now (key_of u ++ behind)
             → Told (any_item (λ t. holds t u) ts) (StandsInside false self.new more behind) result }
-        ensures keys { IfOk result (λ found. SameKeys self.old self.new) }
-        ensures passed { IsPassed self.old self.new result }
+        ensures walks { Walks self.old self.new result }
     {
         let Some((first, _)) = self.theirs.split_first() else {
             return Err(NoKey);
@@ -357,8 +352,7 @@ fn compare_names<'k>(bytes: &'k [u8], name: &[u8]) -> (Ordering, &'k [u8])
 
 // The bytes behind an object or an array, of which the bytes begin with some of its parts.
 fn behind(object: bool, parts: &[u8]) -> Option<&[u8]>
-    ensures { (o : Open) → is_object o ≡ object → IsOpen o 511 → (more : List ℕ) → parts.now ≡ open_key o ++ more
-        → option_map (λ rest. rest.now) result ≡ Some more }
+    ensures { AtParts object parts.now (λ o more. Leaves result more) }
 {
     match after_end(object, parts) {
         Some(rest) => Some(rest),

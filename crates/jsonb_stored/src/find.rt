@@ -1,21 +1,22 @@
 //! Parts of keys where they stand in the bytes, and how many parts there are.
 
-ghost use Rattle.std.specs.Prelude.{◌≡◌, ◌<◌, ◌≤◌, ◌+◌, ◌++◌, ◌∷◌, List, ℕ, length, map, string_bytes, IfOk, IfSome, MatchResult, Ok, Option, Some};
+ghost use Rattle.std.specs.Prelude.{◌≡◌, ◌<◌, ◌≤◌, ◌+◌, ◌++◌, ◌∷◌, List, ℕ, length, map, string_bytes, IfOk, IfSome, MatchResult, Ok, Option};
 ghost use Rattle.std.specs.Option.{option_and_then};
 ghost use Rattle.std.specs.Str.{bytes_eq};
 ghost use Rattle.std.specs.declared.cmp.Ordering.TheVariants.{Equal};
-ghost use Rattle.jsonb_key.specs.Readable.{IsReadable, IsAnyNumber};
+ghost use Rattle.jsonb_key.specs.Readable.{IsAnyNumber};
 ghost use Rattle.jsonb_pointer.specs.Path.{IsPath};
 ghost use Rattle.jsonb_spec.specs.PartAt.{child_at, part_at};
 ghost use Rattle.jsonb_stored.specs.Found.{count_of, item_back, item_from, open_len, Finds, IsNext, IsRange, Opens, PartStands};
-ghost use Rattle.jsonb_stored.specs.Open.{Open, is_object, open_key, IsOpen, opening_byte};
+ghost use Rattle.jsonb_stored.specs.AtKeys.{AtItems, AtKey, AtParts, FindsPart, FindsWithin};
+ghost use Rattle.jsonb_stored.specs.Open.{opening_byte};
 ghost use Rattle.jsonb_spec.specs.Accessors.{find_member, get_by_name, item_at};
 ghost use Rattle.jsonb_spec.specs.Keys.{KeysAscend};
 ghost use Rattle.jsonb_spec.specs.Order.{bytes_cmp};
-ghost use Rattle.jsonb_spec.specs.Proper.{AreProper, HaveProperParts};
-ghost use Rattle.jsonb_spec.specs.SortKey.{key_of, items_key, members_key, text_key};
-ghost use Rattle.jsonb_spec.specs.Text.Range.{AreWithin, HaveWithin};
-ghost use Rattle.jsonb_spec.specs.Tree.{Tree, Trees, Members};
+ghost use Rattle.jsonb_spec.specs.Proper.{HaveProperParts};
+ghost use Rattle.jsonb_spec.specs.SortKey.{key_of, members_key, text_key};
+ghost use Rattle.jsonb_spec.specs.Text.Range.{HaveWithin};
+ghost use Rattle.jsonb_spec.specs.Tree.{Tree, Members};
 
 use crate::part::is_over;
 use crate::skip::{after_key, after_name, after_text, opening};
@@ -35,7 +36,7 @@ pub struct NoKey;
 ///
 /// `NoKey` where the bytes begin with no key.
 pub fn open_key(key: &[u8]) -> Result<Option<(bool, &[u8])>, NoKey>
-    ensures opens { (t : Tree) → IsReadable t → (more : List ℕ) → key.now ≡ key_of t ++ more → Opens t more result }
+    ensures opens { AtKey key.now (λ t more. Opens t more result) }
     ensures some { IfOk result (λ answer. IfSome answer (λ r. key.now ≡ opening_byte r.0 ∷ r.1.now)) }
 {
     let Some((first, parts)) = key.split_first() else {
@@ -56,8 +57,7 @@ pub fn open_key(key: &[u8]) -> Result<Option<(bool, &[u8])>, NoKey>
 ///
 /// `NoKey` where the bytes begin with no key.
 pub fn count_parts(key: &[u8]) -> Result<Option<usize>, NoKey>
-    ensures counted { (t : Tree) → IsReadable t → (more : List ℕ) → key.now ≡ key_of t ++ more
-        → result ≡ Ok (count_of t) }
+    ensures counted { AtKey key.now (λ t more. result ≡ Ok (count_of t)) }
     ensures within { IfOk result (λ answer. IfSome answer (λ count. count ≤ length key.now)) }
 {
     let Some((object, parts)) = open_key(key)? else {
@@ -73,8 +73,7 @@ pub fn count_parts(key: &[u8]) -> Result<Option<usize>, NoKey>
 ///
 /// `NoKey` where a part's key or the end is missing.
 pub fn count_left(object: bool, bytes: &[u8]) -> Result<usize, NoKey>
-    ensures counted { (o : Open) → is_object o ≡ object → IsOpen o 511 → (more : List ℕ)
-        → bytes.now ≡ open_key o ++ more → result ≡ Ok (open_len o) }
+    ensures counted { AtParts object bytes.now (λ o more. result ≡ Ok (open_len o)) }
     ensures within { IfOk result (λ count. count ≤ length bytes.now) }
 {
     let mut rest = bytes;
@@ -100,9 +99,7 @@ pub fn count_left(object: bool, bytes: &[u8]) -> Result<usize, NoKey>
 ///
 /// `NoKey` where the bytes begin with no key.
 pub fn find_member<'k>(key: &'k [u8], name: &[u8]) -> Result<Option<&'k [u8]>, NoKey>
-    ensures found { (t : Tree) → IsReadable t → (more : List ℕ) → key.now ≡ key_of t ++ more
-        → Finds key.now (get_by_name name.now t) result }
-    ensures within { IfOk result (λ answer. IfSome answer (λ rest. length rest.now ≤ length key.now)) }
+    ensures finds { FindsPart key.now (get_by_name name.now) result }
 {
     let Some((object, parts)) = open_key(key)? else {
         return Ok(None);
@@ -120,9 +117,7 @@ pub fn find_member<'k>(key: &'k [u8], name: &[u8]) -> Result<Option<&'k [u8]>, N
 ///
 /// `NoKey` where the bytes begin with no key.
 pub fn find_item(key: &[u8], index: i64) -> Result<Option<&[u8]>, NoKey>
-    ensures found { (t : Tree) → IsReadable t → (more : List ℕ) → key.now ≡ key_of t ++ more
-        → Finds key.now (item_from index t) result }
-    ensures within { IfOk result (λ answer. IfSome answer (λ rest. length rest.now ≤ length key.now)) }
+    ensures finds { FindsPart key.now (item_from index) result }
 {
     let Some((object, parts)) = open_key(key)? else {
         return Ok(None);
@@ -144,9 +139,7 @@ pub fn find_item(key: &[u8], index: i64) -> Result<Option<&[u8]>, NoKey>
 ///
 /// `NoKey` where the bytes begin with no key.
 pub fn find_part<'k>(key: &'k [u8], names: &[String]) -> Result<Option<&'k [u8]>, NoKey>
-    ensures found { (t : Tree) → IsReadable t → (more : List ℕ) → key.now ≡ key_of t ++ more
-        → Finds key.now (part_at (map string_bytes names.now) t) result }
-    ensures within { IfOk result (λ answer. IfSome answer (λ rest. length rest.now ≤ length key.now)) }
+    ensures finds { FindsPart key.now (part_at (map string_bytes names.now)) result }
 {
     let mut part = key;
     let mut left = names;
@@ -164,10 +157,9 @@ pub fn find_part<'k>(key: &'k [u8], names: &[String]) -> Result<Option<&'k [u8]>
 /// in place of them where an escape is in a key of the path, or where the bytes aren't a path.
 pub fn find_plain_part<'k>(key: &'k [u8], path: &[u8]) -> Option<Result<Option<&'k [u8]>, NoKey>>
     ensures path { IfSome result (λ _. (names : List (List ℕ)) × IsPath path.now names) }
-    ensures found { IfSome result (λ found. (t : Tree) → IsReadable t → (more : List ℕ) → key.now ≡ key_of t ++ more
-        → (names : List (List ℕ)) → IsPath path.now names → Finds key.now (part_at names t) found) }
-    ensures within { IfSome result (λ found. IfOk found (λ answer. IfSome answer
-        (λ rest. length rest.now ≤ length key.now))) }
+    ensures found { IfSome result (λ found. AtKey key.now (λ t more.
+        (names : List (List ℕ)) → IsPath path.now names → Finds key.now (part_at names t) found)) }
+    ensures within { IfSome result (FindsWithin key.now) }
 {
     let mut found = Ok(Some(key));
     let mut rest = path;
@@ -186,8 +178,7 @@ fn child_of<'k>(
 ) -> Result<Option<&'k [u8]>, NoKey>
     ensures found { (bytes : List ℕ) → (part : Option Tree) → Finds bytes part found.entry
         → Finds bytes (option_and_then (child_at name.now) part) result }
-    ensures within { (size : ℕ) → IfOk found.entry (λ answer. IfSome answer (λ rest. length rest.now ≤ size))
-        → IfOk result (λ answer. IfSome answer (λ rest. length rest.now ≤ size)) }
+    ensures within { (bytes : List ℕ) → FindsWithin bytes found.entry → FindsWithin bytes result }
 {
     let Some(part) = found? else {
         return Ok(None);
@@ -197,9 +188,7 @@ fn child_of<'k>(
 
 // The bytes from the member of that name on, or from the item of that index on.
 fn find_child<'k>(key: &'k [u8], name: &str) -> Result<Option<&'k [u8]>, NoKey>
-    ensures found { (t : Tree) → IsReadable t → (more : List ℕ) → key.now ≡ key_of t ++ more
-        → Finds key.now (child_at name.now t) result }
-    ensures within { IfOk result (λ answer. IfSome answer (λ rest. length rest.now ≤ length key.now)) }
+    ensures finds { FindsPart key.now (child_at name.now) result }
 {
     let Some((object, parts)) = open_key(key)? else {
         return Ok(None);
@@ -218,7 +207,7 @@ fn member_from<'k>(members: &'k [u8], name: &[u8]) -> Result<Option<&'k [u8]>, N
     ensures found { (ms : Members) → KeysAscend ms → HaveProperParts ms → HaveWithin IsAnyNumber ms 511
         → (more : List ℕ) → members.now ≡ members_key ms ++ more
         → Finds members.now (find_member (bytes_eq name.now) ms) result }
-    ensures within { IfOk result (λ answer. IfSome answer (λ rest. length rest.now ≤ length members.now)) }
+    ensures within { FindsWithin members.now result }
 {
     let mut rest = members;
     'members: loop {
@@ -243,9 +232,8 @@ fn member_from<'k>(members: &'k [u8], name: &[u8]) -> Result<Option<&'k [u8]>, N
 
 // The bytes from that item on.
 fn item_at(items: &[u8], index: usize) -> Result<Option<&[u8]>, NoKey>
-    ensures found { (ts : Trees) → AreProper ts → AreWithin IsAnyNumber ts 511 → (more : List ℕ)
-        → items.now ≡ items_key ts ++ more → Finds items.now (item_at ts index) result }
-    ensures within { IfOk result (λ answer. IfSome answer (λ rest. length rest.now ≤ length items.now)) }
+    ensures found { AtItems items.now (λ ts more. Finds items.now (item_at ts index) result) }
+    ensures within { FindsWithin items.now result }
 {
     let mut rest = items;
     let mut before = index;
@@ -266,9 +254,8 @@ fn item_at(items: &[u8], index: usize) -> Result<Option<&[u8]>, NoKey>
 
 // The bytes from that item on, counted from the end: 1 is the last.
 fn item_from_end(items: &[u8], back: usize) -> Result<Option<&[u8]>, NoKey>
-    ensures found { (ts : Trees) → AreProper ts → AreWithin IsAnyNumber ts 511 → (more : List ℕ)
-        → items.now ≡ items_key ts ++ more → Finds items.now (item_back ts back) result }
-    ensures within { IfOk result (λ answer. IfSome answer (λ rest. length rest.now ≤ length items.now)) }
+    ensures found { AtItems items.now (λ ts more. Finds items.now (item_back ts back) result) }
+    ensures within { FindsWithin items.now result }
 {
     let count = count_left(false, items)?;
     match count.checked_sub(back) {
@@ -310,8 +297,7 @@ pub fn compare_name<'k>(name: &[u8], bytes: &'k [u8]) -> (Ordering, &'k [u8])
 ///
 /// `NoKey` where no key of a part is left, nor the end.
 pub fn next_part(object: bool, left: &[u8]) -> Result<Option<(&[u8], &[u8])>, NoKey>
-    ensures next { (o : Open) → is_object o ≡ object → IsOpen o 511 → (more : List ℕ)
-        → left.now ≡ open_key o ++ more → IsNext o more result }
+    ensures next { AtParts object left.now (λ o more. IsNext o more result) }
     ensures within { IfOk result (λ answer. IfSome answer (λ r. (length r.0.now ≤ length left.now)
         × (length r.1.now < length r.0.now))) }
 {

@@ -1,16 +1,14 @@
 //! The part of a key at a path.
 
-ghost use Rattle.std.specs.Prelude.{◌≡◌, ◌<◌, ◌≤◌, ◌^◌, ◌++◌, ◌∷◌, List, ℕ, length, map, string_bytes, IfOk, IfErr, IfSome, IfNone, IsTrue, IsFalse, MatchOption, Some, None, true, false};
+ghost use Rattle.std.specs.Prelude.{◌≡◌, ◌<◌, ◌^◌, ◌++◌, List, ℕ, length, map, string_bytes, IfOk, IfErr, IsTrue, IsFalse, MatchOption, true, false};
 ghost use Rattle.std.specs.Str.{bytes_eq};
-ghost use Rattle.jsonb_key.specs.Readable.{IsReadable, IsAnyNumber};
-ghost use Rattle.jsonb_spec.specs.PartAt.{IsIndex, IsChild, IsAt};
-ghost use Rattle.jsonb_pointer.specs.Path.{IsPartAt, HasNoPartAt, IsGetError};
-ghost use Rattle.jsonb_stored.specs.Open.{Open, is_object, open_key, IsOpen, end_key};
-ghost use Rattle.jsonb_stored.specs.Parts.{opened_tree, ChildAt, StandsAt, IsKeyAt, IsKeyOfPart};
-ghost use Rattle.jsonb_spec.specs.Proper.{AreProper, HaveProperParts};
-ghost use Rattle.jsonb_spec.specs.SortKey.{key_of, items_key, members_key, text_key};
-ghost use Rattle.jsonb_spec.specs.Text.Range.{AreWithin, HaveWithin};
-ghost use Rattle.jsonb_spec.specs.Tree.{Tree, array, object, Trees, Members};
+ghost use Rattle.jsonb_spec.specs.PartAt.{IsIndex};
+ghost use Rattle.jsonb_pointer.specs.Path.{HasNoPartAt, IsGetError};
+ghost use Rattle.jsonb_stored.specs.AtKeys.{AtItems, AtKey, AtMembers, AtParts, FindsAt, FindsChild, FindsKeyAt, OfKey};
+ghost use Rattle.jsonb_stored.specs.Open.{end_key};
+ghost use Rattle.jsonb_stored.specs.Parts.{opened_tree, IsKeyOfPart};
+ghost use Rattle.jsonb_spec.specs.SortKey.{text_key};
+ghost use Rattle.jsonb_spec.specs.Tree.{array, object};
 
 use crate::skip::{after_end, after_key, after_text, opening};
 use crate::walk::front;
@@ -29,8 +27,8 @@ pub fn part_of_key<'k>(
     key: &'k [u8],
     path: &[u8],
 ) -> Result<Option<&'k [u8]>, PathError>
-    ensures found { IfOk result (λ answer. (t : Tree) → IsReadable t → key.now ≡ key_of t
-        → MatchOption answer (HasNoPartAt path.now t) (λ part. IsKeyOfPart path.now t part.now)) }
+    ensures found { IfOk result (λ answer. OfKey key.now (λ t.
+        MatchOption answer (HasNoPartAt path.now t) (λ part. IsKeyOfPart path.now t part.now))) }
     ensures rejected { IfErr result (IsGetError path.now) }
 {
     match read_keys(alloc, path)? {
@@ -41,9 +39,7 @@ pub fn part_of_key<'k>(
 
 /// The key of the part at the path of these names.
 pub fn part_at<'k>(key: &'k [u8], names: &[String]) -> Option<&'k [u8]>
-    ensures found { (t : Tree) → IsReadable t → key.now ≡ key_of t
-        → MatchOption result ((u : Tree) → IsAt t (map string_bytes names.now) u → ⊥)
-        (λ part. IsKeyAt t (map string_bytes names.now) part.now) }
+    ensures found { OfKey key.now (λ t. FindsKeyAt t (map string_bytes names.now) result) }
 {
     let Some(part) = part_from(key, names) else {
         return None;
@@ -56,9 +52,7 @@ pub fn part_at<'k>(key: &'k [u8], names: &[String]) -> Option<&'k [u8]>
 
 // The bytes from the part at the path of these names on.
 fn part_from<'k>(key: &'k [u8], names: &[String]) -> Option<&'k [u8]>
-    ensures found { (t : Tree) → IsReadable t → (more : List ℕ) → key.now ≡ key_of t ++ more
-        → MatchOption result ((u : Tree) → IsAt t (map string_bytes names.now) u → ⊥)
-        (λ rest. StandsAt t (map string_bytes names.now) rest.now) }
+    ensures found { AtKey key.now (λ t more. FindsAt t (map string_bytes names.now) result) }
 {
     let mut part = key;
     let mut left = names;
@@ -74,8 +68,7 @@ fn part_from<'k>(key: &'k [u8], names: &[String]) -> Option<&'k [u8]>
 
 /// The bytes from the member of that name on, or from the item of that index on.
 pub fn child<'k>(key: &'k [u8], name: &str) -> Option<&'k [u8]>
-    ensures found { (t : Tree) → IsReadable t → (more : List ℕ) → key.now ≡ key_of t ++ more
-        → MatchOption result ((u : Tree) → IsChild t name.now u → ⊥) (λ rest. ChildAt t name.now rest.now) }
+    ensures found { AtKey key.now (λ t more. FindsChild t name.now result) }
 {
     let (first, parts) = key.split_first()?;
     match opening(*first) {
@@ -86,10 +79,7 @@ pub fn child<'k>(key: &'k [u8], name: &str) -> Option<&'k [u8]>
 
 // Finds the child of this name among the parts that stand behind the first byte.
 fn child_of<'k>(object: bool, parts: &'k [u8], name: &str) -> Option<&'k [u8]>
-    ensures found { (o : Open) → is_object o ≡ object → IsOpen o 511 → (more : List ℕ)
-        → parts.now ≡ open_key o ++ more
-        → MatchOption result ((u : Tree) → IsChild (opened_tree o) name.now u → ⊥)
-        (λ rest. ChildAt (opened_tree o) name.now rest.now) }
+    ensures found { AtParts object parts.now (λ o more. FindsChild (opened_tree o) name.now result) }
 {
     if object {
         return member(parts, name.as_bytes());
@@ -103,10 +93,7 @@ fn child_of<'k>(object: bool, parts: &'k [u8], name: &str) -> Option<&'k [u8]>
 // None where the name spells no index of 64 bits.
 fn no_item<'k>(parts: &'k [u8], name: &str) -> Option<&'k [u8]>
     requires { (index : ℕ) → index < 2 ^ 64 → IsIndex name.now index → ⊥ }
-    ensures found { (ts : Trees) → AreProper ts → AreWithin IsAnyNumber ts 511 → (more : List ℕ)
-        → parts.now ≡ items_key ts ++ more
-        → MatchOption result ((u : Tree) → IsChild (array ts) name.now u → ⊥)
-        (λ rest. ChildAt (array ts) name.now rest.now) }
+    ensures found { AtItems parts.now (λ ts more. FindsChild (array ts) name.now result) }
 {
     let _name = name;
     let _count = len_of(parts);
@@ -121,10 +108,7 @@ fn len_of(bytes: &[u8]) -> usize
 
 // The bytes from the value of the member of that name on.
 fn member<'k>(members: &'k [u8], name: &[u8]) -> Option<&'k [u8]>
-    ensures found { (ms : Members) → HaveProperParts ms → HaveWithin IsAnyNumber ms 511 → (more : List ℕ)
-        → members.now ≡ members_key ms ++ more
-        → MatchOption result ((u : Tree) → IsChild (object ms) name.now u → ⊥)
-        (λ rest. ChildAt (object ms) name.now rest.now) }
+    ensures found { AtMembers members.now (λ ms more. FindsChild (object ms) name.now result) }
 {
     let mut rest = members;
     'members: loop {
@@ -143,10 +127,7 @@ fn member<'k>(members: &'k [u8], name: &[u8]) -> Option<&'k [u8]>
 // The bytes from that item on, whose index the name spells.
 fn item<'k>(items: &'k [u8], index: usize, name: &str) -> Option<&'k [u8]>
     requires { IsIndex name.now index }
-    ensures found { (ts : Trees) → AreProper ts → AreWithin IsAnyNumber ts 511 → (more : List ℕ)
-        → items.now ≡ items_key ts ++ more
-        → MatchOption result ((u : Tree) → IsChild (array ts) name.now u → ⊥)
-        (λ rest. ChildAt (array ts) name.now rest.now) }
+    ensures found { AtItems items.now (λ ts more. FindsChild (array ts) name.now result) }
 {
     let _name = name;
     let mut rest = items;

@@ -1,8 +1,9 @@
 //! Where the key of a value ends.
 
-ghost use Rattle.std.specs.Prelude.{◌≡◌, ◌<◌, ◌≤◌, ◌^◌, ◌++◌, ◌∷◌, ◌≢◌, ◌⊎◌, List, ℕ, length, map, nat_lt, IfSome, option_map, Some, IsTrue, IsFalse, MatchOption, get_or, false};
-ghost use Rattle.jsonb_key.specs.Readable.{IsReadable, IsReadableAt};
-ghost use Rattle.jsonb_stored.specs.Open.{Open, is_object, open_key, IsOpen, end_key, name_key, opening_byte, IsScalar};
+ghost use Rattle.std.specs.Prelude.{◌≡◌, ◌<◌, ◌≤◌, ◌^◌, ◌++◌, ◌∷◌, ◌≢◌, List, ℕ, length, map, nat_lt, IfSome, IsTrue, IsFalse, MatchOption, get_or, false};
+ghost use Rattle.jsonb_key.specs.Readable.{IsReadableAt};
+ghost use Rattle.jsonb_stored.specs.AtKeys.{AtKey, AtParts, IsNoWord, IsWord, Leaves};
+ghost use Rattle.jsonb_stored.specs.Open.{end_key, name_key, opening_byte, IsScalar};
 ghost use Rattle.jsonb_spec.specs.Proper.{IsProperNumber};
 ghost use Rattle.jsonb_spec.specs.SortKey.{key_of, number_key, digits_key, text_key, invert_if};
 ghost use Rattle.jsonb_spec.specs.SortKey.Kind as kind;
@@ -19,8 +20,7 @@ pub const MAX_DEPTH: usize = 512;
 /// The bytes after the sort key that they begin with, of a value of JSON's kinds with at most 512 nested arrays and
 /// objects. Nothing is allocated, and no function calls itself. Of other bytes it may be any rest of them, or `None`.
 pub fn after_key(bytes: &[u8]) -> Option<&[u8]>
-    ensures found { (t : Tree) → IsReadable t → (more : List ℕ) → bytes.now ≡ key_of t ++ more
-        → option_map (λ rest. rest.now) result ≡ Some more }
+    ensures found { AtKey bytes.now (λ t more. Leaves result more) }
     ensures shorter { IfSome result (λ rest. length rest.now < length bytes.now) }
 {
     let (first, rest) = bytes.split_first()?;
@@ -45,7 +45,7 @@ pub fn opening(first: u8) -> Option<bool>
 /// The bytes after the key of a value that is no array and no object.
 pub fn after_scalar(bytes: &[u8]) -> Option<&[u8]>
     ensures found { (depth : ℕ) → (t : Tree) → IsReadableAt depth t → IsScalar t → (more : List ℕ)
-        → bytes.now ≡ key_of t ++ more → option_map (λ rest. rest.now) result ≡ Some more }
+        → bytes.now ≡ key_of t ++ more → Leaves result more }
     ensures shorter { IfSome result (λ rest. length rest.now < length bytes.now) }
 {
     let (first, rest) = bytes.split_first()?;
@@ -60,17 +60,15 @@ pub fn after_scalar(bytes: &[u8]) -> Option<&[u8]>
 
 // The byte is a whole key: false, true, 0 and null.
 pub(crate) fn is_word(byte: u8) -> bool
-    ensures yes { IsTrue result
-        → (byte ≡ kind.false) ⊎ ((byte ≡ kind.true) ⊎ ((byte ≡ kind.zero) ⊎ (byte ≡ kind.null))) }
-    ensures no { IsFalse result → (byte ≢ kind.false) × (byte ≢ kind.true) × (byte ≢ kind.zero) × (byte ≢ kind.null) }
+    ensures yes { IsTrue result → IsWord byte }
+    ensures no { IsFalse result → IsNoWord byte }
 {
     byte == kind::FALSE || byte == kind::TRUE || byte == kind::ZERO || byte == kind::NULL
 }
 
 /// The bytes after the key of a text that they begin with.
 pub fn after_text(bytes: &[u8]) -> Option<&[u8]>
-    ensures found { (text more : List ℕ) → bytes.now ≡ text_key text ++ more
-        → option_map (λ rest. rest.now) result ≡ Some more }
+    ensures found { (text more : List ℕ) → bytes.now ≡ text_key text ++ more → Leaves result more }
     ensures shorter { IfSome result (λ rest. length rest.now < length bytes.now) }
 {
     let mut rest = bytes;
@@ -92,7 +90,7 @@ pub fn after_text(bytes: &[u8]) -> Option<&[u8]>
 fn after_number(negative: bool, bytes: &[u8]) -> Option<&[u8]>
     ensures found { (n : Num) → IsProperNumber n → (first : ℕ) → (tail : List ℕ) → bytes.now ≡ first ∷ tail
         → first ≢ kind.zero → negative ≡ nat_lt first kind.zero → (more : List ℕ) → bytes.now ≡ number_key n ++ more
-        → option_map (λ rest. rest.now) result ≡ Some more }
+        → Leaves result more }
     ensures shorter { IfSome result (λ rest. length rest.now < length bytes.now) }
 {
     let (_, rest) = read_place(negative, bytes)?;
@@ -102,8 +100,7 @@ fn after_number(negative: bool, bytes: &[u8]) -> Option<&[u8]>
 // The bytes after digits: behind the first even byte.
 fn after_digits(negative: bool, bytes: &[u8]) -> Option<&[u8]>
     ensures found { (count magnitude : ℕ) → magnitude < 10 ^ count → 0 < magnitude → (more : List ℕ)
-        → bytes.now ≡ map (invert_if negative) (digits_key count magnitude) ++ more
-        → option_map (λ rest. rest.now) result ≡ Some more }
+        → bytes.now ≡ map (invert_if negative) (digits_key count magnitude) ++ more → Leaves result more }
     ensures shorter { IfSome result (λ rest. length rest.now < length bytes.now) }
 {
     let mut rest = bytes;
@@ -119,8 +116,7 @@ fn after_digits(negative: bool, bytes: &[u8]) -> Option<&[u8]>
 /// The bytes after the end of an object or an array, if it ends here.
 pub fn after_end(object: bool, bytes: &[u8]) -> Option<&[u8]>
     ensures some { IfSome result (λ rest. bytes.now ≡ end_key object ++ rest.now) }
-    ensures found { (more : List ℕ) → bytes.now ≡ end_key object ++ more
-        → option_map (λ rest. rest.now) result ≡ Some more }
+    ensures found { (more : List ℕ) → bytes.now ≡ end_key object ++ more → Leaves result more }
     ensures shorter { IfSome result (λ rest. length rest.now < length bytes.now) }
 {
     if object {
@@ -135,8 +131,7 @@ pub fn after_end(object: bool, bytes: &[u8]) -> Option<&[u8]>
 
 /// The bytes after a member's name, which an item has none of.
 pub fn after_name(object: bool, bytes: &[u8]) -> Option<&[u8]>
-    ensures found { (name more : List ℕ) → bytes.now ≡ name_key object name ++ more
-        → option_map (λ rest. rest.now) result ≡ Some more }
+    ensures found { (name more : List ℕ) → bytes.now ≡ name_key object name ++ more → Leaves result more }
     ensures within { IfSome result (λ rest. length rest.now ≤ length bytes.now) }
 {
     if object {
@@ -149,8 +144,7 @@ pub fn after_name(object: bool, bytes: &[u8]) -> Option<&[u8]>
 // The bytes after the parts of an object or an array, and after its end. Most have scalars alone, for which nothing is
 // kept of what is open.
 pub(crate) fn after_parts(object: bool, bytes: &[u8]) -> Option<&[u8]>
-    ensures found { (o : Open) → is_object o ≡ object → IsOpen o 511 → (more : List ℕ)
-        → bytes.now ≡ open_key o ++ more → option_map (λ rest. rest.now) result ≡ Some more }
+    ensures found { AtParts object bytes.now (λ o more. Leaves result more) }
     ensures shorter { IfSome result (λ rest. length rest.now < length bytes.now) }
 {
     let mut rest = bytes;
@@ -170,8 +164,7 @@ pub(crate) fn after_parts(object: bool, bytes: &[u8]) -> Option<&[u8]>
 // The bytes after the parts of an object or an array, and after its end. Which of the open ones are objects stands in
 // an array, outermost first.
 fn after_open(object: bool, bytes: &[u8]) -> Option<&[u8]>
-    ensures found { (o : Open) → is_object o ≡ object → IsOpen o 511 → (more : List ℕ)
-        → bytes.now ≡ open_key o ++ more → option_map (λ rest. rest.now) result ≡ Some more }
+    ensures found { AtParts object bytes.now (λ o more. Leaves result more) }
     ensures shorter { IfSome result (λ rest. length rest.now < length bytes.now) }
 {
     let mut objects = outermost(object);

@@ -1,6 +1,7 @@
 //! Texts of strings and names, from their keys.
 
-ghost use Rattle.std.specs.Prelude.{◌≡◌, ◌≤◌, ◌++◌, ◌∷◌, List, ℕ, length, drop, IfSome, option_map, Some};
+ghost use Rattle.std.specs.Prelude.{◌≡◌, ◌≤◌, ◌++◌, ◌∷◌, List, ℕ, length, drop, IfSome, Some};
+ghost use Rattle.jsonb_stored.specs.AtKeys.{Leaves};
 ghost use Rattle.jsonb_spec.specs.SortKey.{text_key};
 ghost use Rattle.jsonb_spec.specs.SortKey.Kind as kind;
 
@@ -10,7 +11,7 @@ use memchr::memchr;
 
 /// The key of the text of a string, whose key this is; `None` of any other value.
 pub fn text_of_string(key: &[u8]) -> Option<&[u8]>
-    ensures found { (body : List ℕ) → key.now ≡ kind.string ∷ body → option_map (λ rest. rest.now) result ≡ Some body }
+    ensures found { (body : List ℕ) → key.now ≡ kind.string ∷ body → Leaves result body }
     ensures some { IfSome result (λ rest. key.now ≡ kind.string ∷ rest.now) }
 {
     let (first, rest) = key.split_first()?;

@@ -1,7 +1,8 @@
 //! The items and the members of a key, one after the other.
 
-ghost use Rattle.std.specs.Prelude.{◌≡◌, ◌<◌, ◌++◌, ◌∷◌, ◌⊎◌, List, ℕ, length, IfSome, MatchOption, option_map, Some, None};
+ghost use Rattle.std.specs.Prelude.{◌≡◌, ◌<◌, ◌++◌, ◌∷◌, ◌⊎◌, List, ℕ, length, IfSome, MatchOption, None};
 ghost use Rattle.jsonb_key.specs.Readable.{IsReadable};
+ghost use Rattle.jsonb_stored.specs.AtKeys.{AtKey, Leaves, Splits, SplitsNamed};
 ghost use Rattle.jsonb_stored.specs.Parts.{IsFirstByte, kind_of_tree};
 ghost use Rattle.jsonb_spec.specs.SortKey.{key_of, items_key, members_key, text_key};
 ghost use Rattle.jsonb_spec.specs.SortKey.Kind as kind;
@@ -23,7 +24,7 @@ pub enum Kind {
 
 /// The kind of the value of JSON's kinds whose key the bytes begin with. Of other bytes it may be any kind, or `None`.
 pub fn kind_of(key: &[u8]) -> Option<Kind>
-    ensures kind { (t : Tree) → IsReadable t → (more : List ℕ) → key.now ≡ key_of t ++ more → result ≡ kind_of_tree t }
+    ensures kind { AtKey key.now (λ t more. result ≡ kind_of_tree t) }
 {
     let (first, _) = key.split_first()?;
     kind_by_byte(*first)
@@ -54,7 +55,7 @@ fn kind_by_byte(first: u8) -> Option<Kind>
 /// value.
 pub fn items_of(key: &[u8]) -> Option<&[u8]>
     ensures array { (ts : Trees) → (more : List ℕ) → key.now ≡ key_of (array ts) ++ more
-        → option_map (λ rest. rest.now) result ≡ Some (items_key ts ++ more) }
+        → Leaves result (items_key ts ++ more) }
     ensures some { IfSome result (λ rest. key.now ≡ kind.array ∷ rest.now) }
 {
     body_of(kind::ARRAY, key)
@@ -64,14 +65,14 @@ pub fn items_of(key: &[u8]) -> Option<&[u8]>
 /// value.
 pub fn members_of(key: &[u8]) -> Option<&[u8]>
     ensures object { (ms : Members) → (more : List ℕ) → key.now ≡ key_of (object ms) ++ more
-        → option_map (λ rest. rest.now) result ≡ Some (members_key ms ++ more) }
+        → Leaves result (members_key ms ++ more) }
     ensures some { IfSome result (λ rest. key.now ≡ kind.object ∷ rest.now) }
 {
     body_of(kind::OBJECT, key)
 }
 
 fn body_of(kind: u8, key: &[u8]) -> Option<&[u8]>
-    ensures found { (body : List ℕ) → key.now ≡ kind ∷ body → option_map (λ rest. rest.now) result ≡ Some body }
+    ensures found { (body : List ℕ) → key.now ≡ kind ∷ body → Leaves result body }
     ensures some { IfSome result (λ rest. key.now ≡ kind ∷ rest.now) }
 {
     let (first, rest) = key.split_first()?;
@@ -85,8 +86,7 @@ fn body_of(kind: u8, key: &[u8]) -> Option<&[u8]>
 pub fn next_item(items: &[u8]) -> Option<(&[u8], &[u8])>
     ensures over { (more : List ℕ) → items.now ≡ items_key no_trees ++ more → result ≡ None }
     ensures next { (t : Tree) → IsReadable t → (ts : Trees) → (more : List ℕ)
-        → items.now ≡ items_key (more_trees t ts) ++ more
-        → MatchOption result ⊥ (λ r. (r.0.now ≡ key_of t) × (r.1.now ≡ items_key ts ++ more)) }
+        → items.now ≡ items_key (more_trees t ts) ++ more → Splits result (key_of t) (items_key ts ++ more) }
     ensures shorter { IfSome result (λ r. length r.1.now < length items.now) }
 {
     match after_end(false, items) {
@@ -97,8 +97,7 @@ pub fn next_item(items: &[u8]) -> Option<(&[u8], &[u8])>
 
 // The key that the bytes begin with, and what follows it.
 fn item_of(items: &[u8]) -> Option<(&[u8], &[u8])>
-    ensures next { (t : Tree) → IsReadable t → (more : List ℕ) → items.now ≡ key_of t ++ more
-        → MatchOption result ⊥ (λ r. (r.0.now ≡ key_of t) × (r.1.now ≡ more)) }
+    ensures next { AtKey items.now (λ t more. Splits result (key_of t) more) }
     ensures shorter { IfSome result (λ r. length r.1.now < length items.now) }
 {
     let rest = after_key(items)?;
@@ -111,8 +110,7 @@ pub fn next_member(members: &[u8]) -> Option<(&[u8], &[u8], &[u8])>
     ensures over { (more : List ℕ) → members.now ≡ members_key no_members ++ more → result ≡ None }
     ensures next { (name : List ℕ) → (t : Tree) → IsReadable t → (ms : Members) → (more : List ℕ)
         → members.now ≡ members_key (more_members name t ms) ++ more
-        → MatchOption result ⊥ (λ r. (r.0.now ≡ text_key name) × (r.1.now ≡ key_of t)
-        × (r.2.now ≡ members_key ms ++ more)) }
+        → SplitsNamed result (text_key name) (key_of t) (members_key ms ++ more) }
     ensures shorter { IfSome result (λ r. length r.2.now < length members.now) }
 {
     match after_end(true, members) {
@@ -124,8 +122,7 @@ pub fn next_member(members: &[u8]) -> Option<(&[u8], &[u8], &[u8])>
 // The name and the key that the bytes begin with, and what follows.
 fn member_of(members: &[u8]) -> Option<(&[u8], &[u8], &[u8])>
     ensures next { (name : List ℕ) → (t : Tree) → IsReadable t → (more : List ℕ)
-        → members.now ≡ text_key name ++ (key_of t ++ more)
-        → MatchOption result ⊥ (λ r. (r.0.now ≡ text_key name) × (r.1.now ≡ key_of t) × (r.2.now ≡ more)) }
+        → members.now ≡ text_key name ++ (key_of t ++ more) → SplitsNamed result (text_key name) (key_of t) more }
     ensures shorter { IfSome result (λ r. length r.2.now < length members.now) }
 {
     let value = after_text(members)?;

@@ -13,10 +13,10 @@ names-preserved c = record {
       let p = c.names.invariant.walks t r more e in
       let name = c.as_str.result.now in
       let first = ap (map string_bytes) c.in-Some.ensures.cases.0 ∙ ap (λ n. n ∷ map string_bytes c.in-Some.others.now) (sym c.as_str.ensures.value) in
-      let found = subst (λ answer. Finds c.names.part.now (child_at name p.inner) (Ok answer)) c.in-Some-2.is (c.in_ok-inner.ensures.found p.inner p.there.readable p.there.behind p.there.stands) in
+      let found = subst (λ answer. Finds c.names.part.now (child_at name p.inner) (Ok answer)) c.in-Some-2.is (c.in_ok-inner.ensures.finds.found p.inner p.there.readable p.there.behind p.there.stands) in
       path_walked t (map string_bytes c.args.names.now) (map string_bytes c.names.left.now) (map string_bytes c.in-Some.others.now) name c.args.key.now c.names.part.now c.in-Some-2.inner.now p first
       (says_some c.names.part.now c.in-Some-2.inner (child_at name p.inner) found);
   within =
-      let inside = subst (λ answer. IfSome answer (λ rest. length rest.now ≤ length c.names.part.now)) c.in-Some-2.is c.in_ok-inner.ensures.within in
+      let inside = subst (λ answer. IfSome answer (λ rest. length rest.now ≤ length c.names.part.now)) c.in-Some-2.is c.in_ok-inner.ensures.finds.within in
       omega (arith, c.names.invariant.within, inside);
 }

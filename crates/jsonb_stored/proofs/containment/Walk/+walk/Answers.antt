@@ -55,7 +55,7 @@ has_item-returns-in_default-behind_item-clause-held m c = λ depth at l ts u h r
     let ours = c.last_bytes-self-in-items.ensures.last (items_key x.left ++ more) x.ends x.size in
     let n = item_ahead depth ts u c.items.self.key.now c.last_bytes-self-in-items.result.now more (item_there depth ts u c.items.self c.items.item more behind c.last_bytes-self-in-items.result.now x ours) (c.is_over.ensures.no c.if-is_over.false) in
     absurd (no_number _ (c.in_default-behind_item.ensures.found n.item (readable_up n.item depth 512 (omega (arith, l)) n.readable) (items_key n.others ++ more)
-    (same_end c.items.self.key.now c.has_value.new.self.key.now _ c.in_ok-has_value.ensures.keys.0 n.stands.ends) (x.size ∙ ap length (sym ours ∙ n.stands.is))))
+    (same_end c.items.self.key.now c.has_value.new.self.key.now _ c.in_ok-has_value.ensures.walks.keys.0 n.stands.ends) (x.size ∙ ap length (sym ours ∙ n.stands.is))))
 
 pub has_item-items-preserved : goal.has_item-items-preserved
 has_item-items-preserved m c = record {
@@ -66,18 +66,18 @@ has_item-items-preserved m c = record {
       let told = c.in_ok-has_value.ensures.held depth (c.items.invariant.keys.2 ∙ at) (omega (arith, l)) n.item u n.readable r (items_key n.others ++ more) behind (n.stands, x.theirs) in
       let isnt = sym told.0 ∙ c.if-branch.false in
       let others = some_number c.in-Some-behind_item.others _ (c.in-Some-behind_item.ensures.found n.item (readable_up n.item depth 512 (omega (arith, l)) n.readable) (items_key n.others ++ more)
-      (same_end c.items.self.key.now c.has_value.new.self.key.now _ c.in_ok-has_value.ensures.keys.0 n.stands.ends) (x.size ∙ ap length (sym ours ∙ n.stands.is))) in
+      (same_end c.items.self.key.now c.has_value.new.self.key.now _ c.in_ok-has_value.ensures.walks.keys.0 n.stands.ends) (x.size ∙ ap length (sym ours ∙ n.stands.is))) in
       let p = item_passed depth ts u c.items.self.key.now c.last_bytes-self-in-items.result.now more (items_key n.others ++ more) n isnt refl in
-      let there = same_end c.items.self.other.now c.has_value.new.self.other.now _ c.in_ok-has_value.ensures.keys.1 x.theirs.ends in
+      let there = same_end c.items.self.other.now c.has_value.new.self.other.now _ c.in_ok-has_value.ensures.walks.keys.1 x.theirs.ends in
       record {
         left = p.left;
         are_readable = p.are_readable;
         same = p.same;
-        ends = same_end c.items.self.key.now c.has_value.new.self.key.now (items_key p.left ++ more) c.in_ok-has_value.ensures.keys.0 p.stands.ends;
+        ends = same_end c.items.self.key.now c.has_value.new.self.key.now (items_key p.left ++ more) c.in_ok-has_value.ensures.walks.keys.0 p.stands.ends;
         size = others ∙ ap length p.stands.is;
         theirs = record { ends = there; is = c.last_bytes-self-in-items-2.ensures.last (key_of u ++ behind) there (ap length theirs.is) };
       };
-  keys = (c.in_ok-has_value.ensures.keys.0 ∙ c.items.invariant.keys.0, c.in_ok-has_value.ensures.keys.1 ∙ c.items.invariant.keys.1, c.in_ok-has_value.ensures.keys.2 ∙ c.items.invariant.keys.2);
+  keys = (c.in_ok-has_value.ensures.walks.keys.0 ∙ c.items.invariant.keys.0, c.in_ok-has_value.ensures.walks.keys.1 ∙ c.items.invariant.keys.1, c.in_ok-has_value.ensures.walks.keys.2 ∙ c.items.invariant.keys.2);
   within = c.last_bytes-self-in-items-2.ensures.within;
 }
 
@@ -125,8 +125,8 @@ has_items-others-preserved m c = record {
       let told = c.in_ok-has_item.ensures.held depth (c.others.invariant.keys.2 ∙ at) l ts n.item h n.readable more (items_key n.others ++ behind) (same_end c.args.self.now.key.now c.others.self.key.now _ c.others.invariant.keys.0 w.0.ends) (ap length w.0.is) n.stands in
       let is = sym told.0 ∙ c.if-not-branch.false in
       item_held depth ts us c.others.self c.has_item.new.self more behind n is (told.1 is);
-  keys = (c.in_ok-has_item.ensures.keys.0 ∙ c.others.invariant.keys.0, c.in_ok-has_item.ensures.keys.1 ∙ c.others.invariant.keys.1, c.in_ok-has_item.ensures.keys.2 ∙ c.others.invariant.keys.2);
-  within = omega (arith, c.in_ok-has_item.ensures.passed c.if-not-branch.false, c.others.invariant.within);
+  keys = (c.in_ok-has_item.ensures.walks.keys.0 ∙ c.others.invariant.keys.0, c.in_ok-has_item.ensures.walks.keys.1 ∙ c.others.invariant.keys.1, c.in_ok-has_item.ensures.walks.keys.2 ∙ c.others.invariant.keys.2);
+  within = omega (arith, c.in_ok-has_item.ensures.walks.passed c.if-not-branch.false, c.others.invariant.within);
 }
 
 -- ---- members
@@ -192,8 +192,8 @@ has_members-members-preserved m c = record {
       let told = c.in_ok-has_value.ensures.held depth (c.in_ok-find_member.ensures.keys.2 ∙ (c.members.invariant.keys.2 ∙ at)) (omega (arith, l)) one.value n.value one.readable n.readable (members_key one.others ++ more) (members_key n.others ++ behind) one.stands in
       let is = sym told.0 ∙ c.if-not-branch-2.false in
       one_held depth ms ns c.members.self c.find_member.new.self c.has_value.new.self more behind _ n one is (told.1 is);
-  keys = (c.in_ok-has_value.ensures.keys.0 ∙ (c.in_ok-find_member.ensures.keys.0 ∙ c.members.invariant.keys.0), c.in_ok-has_value.ensures.keys.1 ∙ (c.in_ok-find_member.ensures.keys.1 ∙ c.members.invariant.keys.1), c.in_ok-has_value.ensures.keys.2 ∙ (c.in_ok-find_member.ensures.keys.2 ∙ c.members.invariant.keys.2));
-  within = omega (arith, c.in_ok-has_value.ensures.passed c.if-not-branch-2.false, c.in_ok-find_member.ensures.within c.if-not-branch.false, c.members.invariant.within);
+  keys = (c.in_ok-has_value.ensures.walks.keys.0 ∙ (c.in_ok-find_member.ensures.keys.0 ∙ c.members.invariant.keys.0), c.in_ok-has_value.ensures.walks.keys.1 ∙ (c.in_ok-find_member.ensures.keys.1 ∙ c.members.invariant.keys.1), c.in_ok-has_value.ensures.walks.keys.2 ∙ (c.in_ok-find_member.ensures.keys.2 ∙ c.members.invariant.keys.2));
+  within = omega (arith, c.in_ok-has_value.ensures.walks.passed c.if-not-branch-2.false, c.in_ok-find_member.ensures.within c.if-not-branch.false, c.members.invariant.within);
 }
 
 -- ---- an object or an array
