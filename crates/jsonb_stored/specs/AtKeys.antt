@@ -1,6 +1,8 @@
 -- What a call finds in bytes that begin with the key of a value, or with parts of an array or an object.
-use Rattle.std.specs.Prelude.{◌≡◌, ◌≢◌, ◌⊎◌, ◌<◌, ◌≤◌, ℕ, Bool, List, ◌++◌, length, Option, Some, Result, IfOk, IfSome, MatchOption, option_map}
+use Rattle.std.specs.Prelude.{◌≡◌, ◌≢◌, ◌↔◌, ◌⊎◌, ◌<◌, ◌≤◌, ℕ, Bool, List, ◌++◌, length, Option, Some, Result, IfOk, IfSome, MatchOption, option_map}
 use Rattle.std.specs.Borrow.{Bor}
+use Rattle.std.specs.declared.cmp.Ordering.{Ordering}
+use Rattle.std.specs.declared.cmp.Ordering.TheVariants.{Equal}
 use Rattle.jsonb_key.specs.Readable.{IsAnyNumber, IsReadable}
 use Rattle.jsonb_spec.specs.PartAt.{IsAt, IsChild}
 use Rattle.jsonb_spec.specs.Proper.{AreProper, HaveProperParts}
@@ -42,6 +44,11 @@ AtMembers bytes Is =
 abbrev pub Leaves : Option (Bor (List ℕ)) → List ℕ → Type 0
 Leaves result more = option_map (λ rest. rest.now) result ≡ Some more
 
+-- Bytes are left exactly where they may stand behind what is checked, and fewer than there were.
+pub record Checks (IsBehind : List ℕ → Type 0) (bytes : List ℕ) (result : Option (Bor (List ℕ))) : Type 0 where
+  pub found : (more : List ℕ) → Leaves result more ↔ IsBehind more
+  pub shorter : IfSome result (λ rest. length rest.now < length bytes)
+
 -- The first part is this, and these bytes are left.
 abbrev pub Splits : Option (Bor (List ℕ) × Bor (List ℕ)) → List ℕ → List ℕ → Type 0
 Splits result part more = MatchOption result ⊥ (λ r. (r.0.now ≡ part) × (r.1.now ≡ more))
@@ -73,6 +80,11 @@ pub record FindsPart (bytes : List ℕ) (part_of : Tree → Option Tree) (result
     : Type 0 where
   pub found : AtKey bytes (λ t more. Finds bytes (part_of t) result)
   pub within : FindsWithin bytes result
+
+-- This is the order that is told, and where it is that of equal names, these bytes are left.
+pub record TellsOrder (order : Ordering) (more : List ℕ) (result : Ordering × Bor (List ℕ)) : Type 0 where
+  pub told : result.0 ≡ order
+  pub behind : result.0 ≡ Equal → result.1.now ≡ more
 
 -- The byte is a whole key: of false, true, 0 or null.
 abbrev pub IsWord : ℕ → Type 0

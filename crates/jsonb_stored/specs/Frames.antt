@@ -91,6 +91,11 @@ IsFrame bytes (in_object (Some name)) size = NameAt bytes name size
 abbrev pub ArePlain : List ℕ → ℕ → Type 0
 ArePlain bytes count = (k : ℕ) → k < count → (get_or bytes k 0 ≢ 0) × (get_or bytes k 0 < ascii.end)
 
+-- So many of the bytes stand first, and are ASCII and no zeros.
+pub record PlainRun (bytes : List ℕ) (count : ℕ) : Type 0 where
+  pub within : count ≤ length bytes
+  pub plain : ArePlain bytes count
+
 -- The first zero stands at this index, and the bytes before it are UTF-8.
 pub record Utf8UpTo (bytes : List ℕ) (zero : ℕ) : Type 0 where
   pub within : zero < length bytes

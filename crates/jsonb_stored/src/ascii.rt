@@ -3,7 +3,7 @@
 ghost use Rattle.std.specs.Prelude.{◌≡◌, ◌≢◌, ◌<◌, ◌≤◌, ◌↔◌, ◌==◌, ℕ, List, length, get_or, if◌then◌else◌, MatchOption, IsTrue, IsUtf8};
 ghost use Rattle.std.specs.Int.{trailing_zeros, w64};
 ghost use Rattle.memchr.specs.Find.{IsFirstByte, is_byte};
-ghost use Rattle.jsonb_stored.specs.Frames.{ArePlain, TextFirst, Utf8UpTo};
+ghost use Rattle.jsonb_stored.specs.Frames.{ArePlain, PlainRun, TextFirst, Utf8UpTo};
 
 use memchr::memchr;
 use std::simd::prelude::*;
@@ -27,8 +27,7 @@ pub(crate) fn first_zero(bytes: &[u8]) -> Option<usize>
 // The index of the first zero, which isn't among the first `run` bytes.
 #[inline(never)]
 fn zero_behind(bytes: &[u8], run: usize) -> Option<usize>
-    requires within { run ≤ length bytes.now }
-    requires plain { ArePlain bytes.now run }
+    requires run { PlainRun bytes.now run }
     ensures { IsFirstByte (is_byte 0) bytes.now result }
 {
     let (_, rest) = bytes.split_at(run);
@@ -55,8 +54,7 @@ pub(crate) fn utf8_run(bytes: &[u8]) -> Option<usize>
 // How many bytes stand before the first zero, if they are UTF-8, where the first `run` of them are ASCII.
 #[inline(never)]
 fn longer_run(bytes: &[u8], run: usize) -> Option<usize>
-    requires within { run ≤ length bytes.now }
-    requires plain { ArePlain bytes.now run }
+    requires run { PlainRun bytes.now run }
     ensures { MatchOption result ((more : List ℕ) → ¬ (TextFirst bytes.now more)) (λ zero. Utf8UpTo bytes.now zero) }
 {
     let (_, rest) = bytes.split_at(run);
@@ -79,8 +77,7 @@ fn is_utf8(bytes: &[u8]) -> bool
 // How many of the first bytes are plain: ASCII and no zeros.
 #[inline(always)]
 fn plain_run(bytes: &[u8]) -> usize
-    ensures within { result ≤ length bytes.now }
-    ensures plain { ArePlain bytes.now result }
+    ensures run { PlainRun bytes.now result }
 {
     if bytes.len() < 16 {
         return run_by_bytes(bytes);
@@ -95,8 +92,7 @@ fn plain_run(bytes: &[u8]) -> usize
 // How many of the first bytes are plain, 64 at a time.
 #[inline(never)]
 fn long_run(bytes: &[u8]) -> usize
-    ensures within { result ≤ length bytes.now }
-    ensures plain { ArePlain bytes.now result }
+    ensures run { PlainRun bytes.now result }
 {
     let mut len = 0;
     'wide: while bytes.len() - len >= 64 {
@@ -111,8 +107,7 @@ fn long_run(bytes: &[u8]) -> usize
 // How many of the first bytes are plain, 16 at a time.
 #[inline(always)]
 fn run_by_vectors(bytes: &[u8]) -> usize
-    ensures within { result ≤ length bytes.now }
-    ensures plain { ArePlain bytes.now result }
+    ensures run { PlainRun bytes.now result }
 {
     let mut len = 0;
     'vectors: while bytes.len() - len >= 16 {
@@ -139,8 +134,7 @@ fn are_plain(bytes: &[u8]) -> bool
 // How many of the first bytes are plain, byte by byte.
 #[inline(always)]
 fn run_by_bytes(bytes: &[u8]) -> usize
-    ensures within { result ≤ length bytes.now }
-    ensures plain { ArePlain bytes.now result }
+    ensures run { PlainRun bytes.now result }
 {
     'bytes: for (i, byte) in bytes.iter().enumerate() {
         if *byte == 0 || *byte >= 128 {

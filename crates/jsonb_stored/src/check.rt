@@ -1,7 +1,7 @@
 //! Whether bytes are a sort key.
 
 ghost use Rattle.std.specs.Prelude.{◌≡◌, ◌<◌, ◌≤◌, ◌++◌, ◌↔◌, List, ℕ, length, get_or, true, IsTrue, IfOk, IfErr, IfSome, Option};
-ghost use Rattle.jsonb_stored.specs.AtKeys.{Leaves};
+ghost use Rattle.jsonb_stored.specs.AtKeys.{Checks, Leaves};
 ghost use Rattle.jsonb_stored.specs.Checked.{IsSortKey};
 ghost use Rattle.jsonb_stored.specs.Frames.{KeyFirst, ScalarFirst, NumberFirst, TextFirst, PartsFirst, Frame, in_object, is_object_frame, new_frame, IsAbove, NameFirst, frame_behind, IsFrame};
 ghost use Rattle.jsonb_spec.specs.SortKey.{text_key};
@@ -49,8 +49,7 @@ fn checked_key(bytes: &[u8]) -> Option<&[u8]>
 
 // The bytes after the key of a scalar that they begin with, if it is one.
 fn checked_scalar(bytes: &[u8]) -> Option<&[u8]>
-    ensures found { (more : List ℕ) → Leaves result more ↔ ScalarFirst bytes.now more }
-    ensures shorter { IfSome result (λ rest. length rest.now < length bytes.now) }
+    ensures checks { Checks (ScalarFirst bytes.now) bytes.now result }
 {
     let Some((first, rest)) = bytes.split_first() else {
         return None;
@@ -66,8 +65,7 @@ fn checked_scalar(bytes: &[u8]) -> Option<&[u8]>
 
 // The bytes after the key of a number that they begin with, if it is one.
 fn checked_number(bytes: &[u8]) -> Option<&[u8]>
-    ensures found { (more : List ℕ) → Leaves result more ↔ NumberFirst bytes.now more }
-    ensures shorter { IfSome result (λ rest. length rest.now < length bytes.now) }
+    ensures checks { Checks (NumberFirst bytes.now) bytes.now result }
 {
     if let Some(rest) = short_number(bytes) {
         return Some(rest);
@@ -80,8 +78,7 @@ fn checked_number(bytes: &[u8]) -> Option<&[u8]>
 
 // The bytes after the key of a text that they begin with, if it is one, from what stands behind its first byte.
 fn checked_text(bytes: &[u8]) -> Option<&[u8]>
-    ensures found { (more : List ℕ) → Leaves result more ↔ TextFirst bytes.now more }
-    ensures shorter { IfSome result (λ rest. length rest.now < length bytes.now) }
+    ensures checks { Checks (TextFirst bytes.now) bytes.now result }
 {
     let mut rest = bytes;
     'zeros: while let Some(zero) = utf8_run(rest) {

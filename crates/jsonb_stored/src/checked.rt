@@ -20,6 +20,7 @@ pub struct Key<'k> {
 impl<'k> Key<'k> {
     ghost use Rattle.std.specs.Prelude.{◌≡◌, List, ℕ, map, string_bytes, MatchOption, option_map, Some};
     ghost use Rattle.jsonb_key.specs.Readable.{IsReadable};
+    ghost use Rattle.jsonb_stored.specs.AtKeys.{OfKey};
     ghost use Rattle.jsonb_spec.specs.PartAt.{IsChild, IsAt};
     ghost use Rattle.jsonb_stored.specs.Checked.{IsSortKey};
     ghost use Rattle.jsonb_spec.specs.Containment.{contains};
@@ -48,7 +49,7 @@ impl<'k> Key<'k> {
 
     /// The kind of the value.
     pub fn kind(&self) -> Kind
-        ensures { (t : Tree) → IsReadable t → key_bytes self.now ≡ key_of t → kind_of_tree t ≡ Some result }
+        ensures { OfKey (key_bytes self.now) (λ t. kind_of_tree t ≡ Some result) }
     {
         match kind_of(self.bytes) {
             Some(kind) => kind,
@@ -58,9 +59,8 @@ impl<'k> Key<'k> {
 
     /// The key of the member of that name, or of the item of that index.
     pub fn child(&self, name: &str) -> Option<Key<'k>>
-        ensures { (t : Tree) → IsReadable t → key_bytes self.now ≡ key_of t
-            → MatchOption result ((u : Tree) → ¬ (IsChild t name.now u))
-            (λ key. IsKeyOfChild t name.now (key_bytes key)) }
+        ensures { OfKey (key_bytes self.now) (λ t. MatchOption result ((u : Tree) → ¬ (IsChild t name.now u))
+            (λ key. IsKeyOfChild t name.now (key_bytes key))) }
     {
         let Some(part) = part::child(self.bytes, name) else {
             return None;
@@ -75,9 +75,9 @@ impl<'k> Key<'k> {
 
     /// The key of the part at the path of these names.
     pub fn part_at(&self, names: &[String]) -> Option<Key<'k>>
-        ensures { (t : Tree) → IsReadable t → key_bytes self.now ≡ key_of t
-            → MatchOption result ((u : Tree) → ¬ (IsAt t (map string_bytes names.now) u))
-            (λ key. IsKeyAt t (map string_bytes names.now) (key_bytes key)) }
+        ensures { OfKey (key_bytes self.now) (λ t.
+            MatchOption result ((u : Tree) → ¬ (IsAt t (map string_bytes names.now) u))
+            (λ key. IsKeyAt t (map string_bytes names.now) (key_bytes key))) }
     {
         let Some(bytes) = part::part_at(self.bytes, names) else {
             return None;
@@ -98,8 +98,7 @@ impl<'k> Key<'k> {
 
     /// The items, if it is an array's key.
     pub fn items(&self) -> Option<Items<'k>>
-        ensures { (t : Tree) → IsReadable t → key_bytes self.now ≡ key_of t
-            → option_map item_bytes result ≡ option_map items_key (as_array t) }
+        ensures { OfKey (key_bytes self.now) (λ t. option_map item_bytes result ≡ option_map items_key (as_array t)) }
     {
         let Some(bytes) = items_of(self.bytes) else {
             return None;
@@ -109,8 +108,8 @@ impl<'k> Key<'k> {
 
     /// The members, if it is an object's key.
     pub fn members(&self) -> Option<Members<'k>>
-        ensures { (t : Tree) → IsReadable t → key_bytes self.now ≡ key_of t
-            → option_map member_bytes result ≡ option_map members_key (as_object t) }
+        ensures { OfKey (key_bytes self.now) (λ t.
+            option_map member_bytes result ≡ option_map members_key (as_object t)) }
     {
         let Some(bytes) = members_of(self.bytes) else {
             return None;

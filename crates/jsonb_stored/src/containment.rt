@@ -1,10 +1,9 @@
 //! Whether a value contains another, straight from their keys.
 
 ghost use Rattle.std.specs.Prelude.{Bool, ◌≡◌, ◌<◌, ◌≤◌, ◌++◌, List, ℕ, suc, length, true, false, IsTrue, IfOk, IfSome, Ok};
-ghost use Rattle.std.specs.declared.cmp.Ordering.TheVariants.{Equal};
 ghost use Rattle.jsonb_key.specs.Readable.{IsReadable, IsReadableAt};
 ghost use Rattle.jsonb_spec.specs.Containment.{contains, holds, holds_items, holds_members, any_item};
-ghost use Rattle.jsonb_stored.specs.AtKeys.{AtParts, Leaves};
+ghost use Rattle.jsonb_stored.specs.AtKeys.{AtParts, Leaves, TellsOrder};
 ghost use Rattle.jsonb_stored.specs.Open.{Open, is_object, open_key, IsOpen, IsScalar};
 ghost use Rattle.jsonb_stored.specs.Parts.{opened_tree};
 ghost use Rattle.jsonb_stored.specs.SideBySide.{AreReadableAt, HaveReadableAt, EndsWith, IsLeft, FindsMember, IsPassed, SameKeys, Stands, StandsInside, EndsInside, Told, Walks};
@@ -339,10 +338,8 @@ impl<'k> Walk<'k> {
 // How the name whose key the bytes begin with compares with the one of this key, and what stands behind it where they
 // are equal.
 fn compare_names<'k>(bytes: &'k [u8], name: &[u8]) -> (Ordering, &'k [u8])
-    ensures order { (text more wanted : List ℕ) → bytes.now ≡ text_key text ++ more → name.now ≡ text_key wanted
-        → result.0 ≡ bytes_cmp text wanted }
-    ensures behind { (text more wanted : List ℕ) → bytes.now ≡ text_key text ++ more → name.now ≡ text_key wanted
-        → result.0 ≡ Equal → result.1.now ≡ more }
+    ensures compares { (text more wanted : List ℕ) → bytes.now ≡ text_key text ++ more → name.now ≡ text_key wanted
+        → TellsOrder (bytes_cmp text wanted) more result }
 {
     match bytes.split_at_checked(name.len()) {
         Some((head, rest)) => (head.cmp(name), rest),

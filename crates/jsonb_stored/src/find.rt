@@ -3,12 +3,11 @@
 ghost use Rattle.std.specs.Prelude.{◌≡◌, ◌<◌, ◌≤◌, ◌+◌, ◌++◌, ◌∷◌, List, ℕ, length, map, string_bytes, IfOk, IfSome, MatchResult, Ok, Option};
 ghost use Rattle.std.specs.Option.{option_and_then};
 ghost use Rattle.std.specs.Str.{bytes_eq};
-ghost use Rattle.std.specs.declared.cmp.Ordering.TheVariants.{Equal};
 ghost use Rattle.jsonb_key.specs.Readable.{IsAnyNumber};
 ghost use Rattle.jsonb_pointer.specs.Path.{IsPath};
 ghost use Rattle.jsonb_spec.specs.PartAt.{child_at, part_at};
 ghost use Rattle.jsonb_stored.specs.Found.{count_of, item_back, item_from, open_len, Finds, IsNext, IsRange, Opens, PartStands};
-ghost use Rattle.jsonb_stored.specs.AtKeys.{AtItems, AtKey, AtParts, FindsPart, FindsWithin};
+ghost use Rattle.jsonb_stored.specs.AtKeys.{AtItems, AtKey, AtParts, FindsPart, FindsWithin, TellsOrder};
 ghost use Rattle.jsonb_stored.specs.Open.{opening_byte};
 ghost use Rattle.jsonb_spec.specs.Accessors.{find_member, get_by_name, item_at};
 ghost use Rattle.jsonb_spec.specs.Keys.{KeysAscend};
@@ -266,10 +265,8 @@ fn item_from_end(items: &[u8], back: usize) -> Result<Option<&[u8]>, NoKey>
 
 /// How the name compares with the one whose key the bytes begin with, and what stands behind that where they are equal.
 pub fn compare_name<'k>(name: &[u8], bytes: &'k [u8]) -> (Ordering, &'k [u8])
-    ensures order { (text more : List ℕ) → bytes.now ≡ text_key text ++ more
-        → result.0 ≡ bytes_cmp name.now text }
-    ensures behind { (text more : List ℕ) → bytes.now ≡ text_key text ++ more
-        → result.0 ≡ Equal → result.1.now ≡ more }
+    ensures compares { (text more : List ℕ) → bytes.now ≡ text_key text ++ more
+        → TellsOrder (bytes_cmp name.now text) more result }
     ensures within { length result.1.now ≤ length bytes.now }
 {
     let mut rest = bytes;

@@ -1,19 +1,19 @@
-use Rattle.std.proofs.Common.{arith, drop, refl}
+use Rattle.std.proofs.Common.{rules, arith, drop, refl}
 use Rattle.std.proofs.lemmas.List.{take_rest}
 use Rattle.jsonb_stored.proofs.PlainBytes.{plain_on}
 use Rattle.jsonb_stored.proofs.ascii.run_by_vectors.Goals as goal
 
-pub returns-then-run-lt16-clause-plain : goal.returns-then-run-lt16-clause-plain
-returns-then-run-lt16-clause-plain c =
+pub returns-then-run-lt16 : goal.returns-then-run-lt16
+returns-then-run-lt16 c =
     let bytes = c.args.bytes.now in
-    plain_on bytes (drop c.vectors.len bytes) c.vectors.len c.run_of_sixteen-run.result refl c.vectors.invariant.1 (rw (take_rest bytes c.vectors.len) at c.run_of_sixteen-run.ensures.plain)
+    record { run = record { within = search rules; plain = plain_on bytes (drop c.vectors.len bytes) c.vectors.len c.run_of_sixteen-run.result refl c.vectors.invariant.1 (rw (take_rest bytes c.vectors.len) at c.run_of_sixteen-run.ensures.plain) } }
 
 pub vectors-preserved : goal.vectors-preserved
 vectors-preserved c =
     let bytes = c.args.bytes.now in
     (omega arith, plain_on bytes (drop c.vectors.len bytes) c.vectors.len c.run_of_sixteen-run.result refl c.vectors.invariant.1 (rw (take_rest bytes c.vectors.len) at c.run_of_sixteen-run.ensures.plain))
 
-pub returns-clause-plain : goal.returns-clause-plain
-returns-clause-plain c =
+pub returns : goal.returns
+returns c =
     let bytes = c.args.bytes.now in
-    plain_on bytes (drop c.vectors.len bytes) c.vectors.len c.run_by_bytes.result refl c.vectors.invariant.1 (rw (take_rest bytes c.vectors.len) at c.run_by_bytes.ensures.plain)
+    record { run = record { within = search rules; plain = plain_on bytes (drop c.vectors.len bytes) c.vectors.len c.run_by_bytes.result refl c.vectors.invariant.1 (rw (take_rest bytes c.vectors.len) at c.run_by_bytes.ensures.run.plain) } }

@@ -12,4 +12,4 @@ returns-in-Some-opening c = λ more.
 
 pub returns-in-None : goal.returns-in-None
 returns-in-None c = λ more.
-    through _ _ _ (c.checked_scalar.ensures.found more) (scalar_key c.in-Some.first.now c.args.bytes.now c.in-Some.rest.now c.in-Some.ensures.cases.0 (c.in-None.ensures.0, c.in-None.ensures.1) more)
+    through _ _ _ (c.checked_scalar.ensures.checks.found more) (scalar_key c.in-Some.first.now c.args.bytes.now c.in-Some.rest.now c.in-Some.ensures.cases.0 (c.in-None.ensures.0, c.in-None.ensures.1) more)

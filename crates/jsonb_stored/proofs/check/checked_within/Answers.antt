@@ -58,16 +58,16 @@ pub returns-in_default-checked_scalar-clause-checked : goal.returns-in_default-c
 returns-in_default-checked_scalar-clause-checked c =
     let due = name_step c.args.object c.args.bytes.now c.parts.frames c.parts.depth c.in-Some.top c.frame_at-last.result c.parts.rest.now c.is_object.result (omega (arith, c.in-Some.ensures)) c.parts.invariant.parts c.frame_at-last.ensures c.is_object.ensures c.in-Some-checked_name.value.now c.with_name.result c.in_default-after_end.ensures.found (omega (arith, c.in-Some.ensures, c.parts.invariant.deep, c.parts.invariant.size)) c.in-Some-checked_name.ensures.found c.with_name.ensures in
     never (PartsFirst c.args.object c.args.bytes.now)
-    (no_scalar_step c.args.object c.args.bytes.now (set c.parts.frames c.in-Some.top c.with_name.result) c.parts.depth c.in-Some-split_first.first.now c.in-Some-checked_name.value.now c.in-Some-split_first.others.now due c.in-Some-split_first.ensures.cases.0 (c.in-None.ensures.0, c.in-None.ensures.1) c.in_default-checked_scalar.ensures.found)
+    (no_scalar_step c.args.object c.args.bytes.now (set c.parts.frames c.in-Some.top c.with_name.result) c.parts.depth c.in-Some-split_first.first.now c.in-Some-checked_name.value.now c.in-Some-split_first.others.now due c.in-Some-split_first.ensures.cases.0 (c.in-None.ensures.0, c.in-None.ensures.1) c.in_default-checked_scalar.ensures.checks.found)
 
 pub parts-smaller : goal.parts-smaller
-parts-smaller c = omega (arith, c.in-Some-checked_scalar.ensures.shorter, c.in-Some-checked_name.ensures.within)
+parts-smaller c = omega (arith, c.in-Some-checked_scalar.ensures.checks.shorter, c.in-Some-checked_name.ensures.within)
 
 pub parts-preserved : goal.parts-preserved
 parts-preserved c = record {
   parts =
       let due = name_step c.args.object c.args.bytes.now c.parts.frames c.parts.depth c.in-Some.top c.frame_at-last.result c.parts.rest.now c.is_object.result (omega (arith, c.in-Some.ensures)) c.parts.invariant.parts c.frame_at-last.ensures c.is_object.ensures c.in-Some-checked_name.value.now c.with_name.result c.in_default-after_end.ensures.found (omega (arith, c.in-Some.ensures, c.parts.invariant.deep, c.parts.invariant.size)) c.in-Some-checked_name.ensures.found c.with_name.ensures in
-      scalar_step c.args.object c.args.bytes.now (set c.parts.frames c.in-Some.top c.with_name.result) c.parts.depth c.in-Some-split_first.first.now c.in-Some-checked_name.value.now c.in-Some-split_first.others.now c.in-Some-checked_scalar.others.now due c.in-Some-split_first.ensures.cases.0 (c.in-None.ensures.0, c.in-None.ensures.1) c.in-Some-checked_scalar.ensures.found;
+      scalar_step c.args.object c.args.bytes.now (set c.parts.frames c.in-Some.top c.with_name.result) c.parts.depth c.in-Some-split_first.first.now c.in-Some-checked_name.value.now c.in-Some-split_first.others.now c.in-Some-checked_scalar.others.now due c.in-Some-split_first.ensures.cases.0 (c.in-None.ensures.0, c.in-None.ensures.1) c.in-Some-checked_scalar.ensures.checks.found;
   deep = simp length-set c.parts.invariant.deep;
   few = simp length-set c.parts.invariant.few;
   size = simp length-set c.parts.invariant.size;

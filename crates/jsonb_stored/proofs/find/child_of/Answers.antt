@@ -1,4 +1,4 @@
-use Rattle.std.proofs.Common.{Ok, Some, ap, subst, sym, ◌∙◌}
+use Rattle.std.proofs.Common.{Ok, ap, subst, sym, ◌∙◌}
 use Rattle.std.specs.Option.{option_and_then}
 use Rattle.jsonb_spec.specs.PartAt.{child_at}
 use Rattle.jsonb_stored.specs.Found.{Finds}

@@ -1,6 +1,6 @@
 use Rattle.std.proofs.Common.{arith, eqb-true, length, sym}
 use Rattle.std.proofs.lemmas.List.{nil_from_length}
-use Rattle.jsonb_stored.proofs.PlainPaths.{plain_name_read, plain_path, plain_path_begun, plain_path_found}
+use Rattle.jsonb_stored.proofs.PlainPaths.{plain_name_read, plain_path_begun, plain_path_found}
 use Rattle.jsonb_stored.proofs.find.find_plain_part.Goals as goal
 
 pub names-init : goal.names-init

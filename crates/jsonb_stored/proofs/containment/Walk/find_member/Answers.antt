@@ -25,15 +25,15 @@ returns-in-Greater-clause-found c = λ depth l ms h name more behind w.
     let theirs = some_same c.in-Some.theirs.now behind (c.in-Some.ensures.found name behind w.1.is) in
     let named = c.front-name.ensures (text_key name) (w.1.is ∙ ap (λ b. text_key name ++ b) (sym theirs)) in
     let n = member_ahead depth ms name _ _ more (c.members.invariant.passes depth l ms h name more named w.0) (c.is_over.ensures.no c.members-test.true) in
-    member_past depth ms name _ _ more n (sym (c.compare_names-order.ensures.order n.first _ name n.stands.is named) ∙ c.in-Greater.is)
+    member_past depth ms name _ _ more n (sym ((c.compare_names-order.ensures.compares n.first _ name n.stands.is named).told) ∙ c.in-Greater.is)
 
 pub returns-in-Equal-clause-found : goal.returns-in-Equal-clause-found
 returns-in-Equal-clause-found c = λ depth l ms h name more behind w.
     let theirs = some_same c.in-Some.theirs.now behind (c.in-Some.ensures.found name behind w.1.is) in
     let named = c.front-name.ensures (text_key name) (w.1.is ∙ ap (λ b. text_key name ++ b) (sym theirs)) in
     let n = member_ahead depth ms name _ _ more (c.members.invariant.passes depth l ms h name more named w.0) (c.is_over.ensures.no c.members-test.true) in
-    let same = sym (c.compare_names-order.ensures.order n.first _ name n.stands.is named) ∙ c.in-Equal.is in
-    let value = c.compare_names-order.ensures.behind n.first _ name n.stands.is named c.in-Equal.is in
+    let same = sym ((c.compare_names-order.ensures.compares n.first _ name n.stands.is named).told) ∙ c.in-Equal.is in
+    let value = (c.compare_names-order.ensures.compares n.first _ name n.stands.is named).behind c.in-Equal.is in
     record {
       value = n.value;
       readable = n.readable;
@@ -62,7 +62,7 @@ pub members-preserved : goal.members-preserved
 members-preserved c = record {
   passes = λ depth l ms h name more named stands.
       let n = member_ahead depth ms name _ _ more (c.members.invariant.passes depth l ms h name more named stands) (c.is_over.ensures.no c.members-test.true) in
-      let less = sym (c.compare_names-order.ensures.order n.first _ name n.stands.is named) ∙ c.in-Less.is in
+      let less = sym ((c.compare_names-order.ensures.compares n.first _ name n.stands.is named).told) ∙ c.in-Less.is in
       let value = some_same c.in-Some-after_text.value.now _ (c.in-Some-after_text.ensures.found n.first _ n.stands.is) in
       let others = some_same c.in-Some-after_key.ours.now _ (c.in-Some-after_key.ensures.found n.value (readable_up n.value depth 512 (omega (arith, l)) n.readable) _ value) in
       member_passed depth ms name _ _ more c.in-Some-after_text.value.now c.in-Some-after_key.ours.now n less others;
