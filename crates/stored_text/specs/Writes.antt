@@ -1,13 +1,16 @@
 -- What is appended while a key is walked.
-use Rattle.std.specs.Prelude.{◌≡◌, ◌≢◌, ℕ, zero, suc, ◌+◌, ◌-◌, ◌/◌, ◌%◌, ◌<◌, ◌≤◌, Bool, true, false, nat_lt, if◌then◌else◌, List, [], ◌∷◌, ◌++◌, length, take, replicate, slice_range, MatchResult, Result, Vec, vec_len, vec_capacity}
+use Rattle.std.specs.Prelude.{◌≡◌, ◌≢◌, ℕ, zero, suc, ◌+◌, ◌-◌, ◌/◌, ◌%◌, ◌<◌, ◌≤◌, Bool, true, false, nat_lt, if◌then◌else◌, List, [], ◌∷◌, ◌++◌, length, take, replicate, slice_range, IfOk, MatchResult, Result, Vec, vec_len, vec_capacity}
+use Rattle.std.specs.Borrow.{Bor}
+use Rattle.std.specs.List.{flat_map}
 use Rattle.std.specs.declared.alloc.Global.{Global}
 use Rattle.jsonb_key.specs.declared.key.KeyError.{KeyError}
 use Rattle.jsonb_key.specs.declared.key.KeyError.TheVariants.{OutOfMemory}
 use Rattle.jsonb_key.specs.Reading.{IsDigits}
 use Rattle.jsonb_stored.specs.Open.{Open, items, members}
 use Rattle.jsonb_spec.specs.Ascii as ascii
+use Rattle.jsonb_spec.specs.SortKey.{text_key}
 use Rattle.jsonb_spec.specs.Text.Appending.{Extends, comma_before}
-use Rattle.jsonb_spec.specs.Text.StringText.{quoted_text}
+use Rattle.jsonb_spec.specs.Text.StringText.{byte_text, quoted_text}
 use Rattle.jsonb_spec.specs.Text.{tree_text}
 use Rattle.jsonb_spec.specs.Tree.{Tree, Trees, no_trees, more_trees, Members, no_members, more_members}
 use Rattle.stored_text.specs.FewestDigits.{with_fewest_digits}
@@ -23,6 +26,14 @@ abbrev pub Writes : {X : Type 0} → (X → List ℕ) → Result X KeyError → 
 Writes left result old new more text = MatchResult result
     (λ x. (left x ≡ more) × (new.items ≡ old.items ++ text))
     (λ e. (e ≡ OutOfMemory) × (vec_capacity old < vec_len old + length text))
+
+-- The text is appended, and these bytes of a key are left; or memory ran out so.
+abbrev pub AppendsLeaving : Result (Bor (List ℕ)) KeyError → Vec ℕ Global → Vec ℕ Global → List ℕ → List ℕ → Type 0
+AppendsLeaving result old new more text = Writes (λ rest. rest.now) result old new more text
+
+-- The capacity for these bytes is missing.
+abbrev pub LacksRoom : Vec ℕ Global → List ℕ → Type 0
+LacksRoom buf bytes = vec_capacity buf < vec_len buf + length bytes
 
 -- the text that is written of a value
 abbrev pub value_text : Tree → List ℕ
@@ -62,6 +73,15 @@ closing_text false = ascii.close_bracket
 abbrev pub closing_quote : Bool → List ℕ
 closing_quote true = ascii.quote ∷ ascii.colon ∷ []
 closing_quote false = ascii.quote ∷ []
+
+-- Whichever text's key the bytes begin with, the text is appended with its escapes and its end, and the bytes behind the
+-- key are left. Of any bytes fewer are left.
+pub record WritesString (colon : Bool) (bytes : List ℕ) (result : Result (Bor (List ℕ)) KeyError) (old new : Vec ℕ Global)
+    : Type 0 where
+  pub found : (text more : List ℕ) → bytes ≡ text_key text ++ more
+      → AppendsLeaving result old new more (flat_map byte_text text ++ closing_quote colon)
+  pub shorter : IfOk result (λ rest. length rest.now < length bytes)
+  pub keeps : Keeps old new
 
 -- the last digits of a number, as many as are asked for
 unfoldable pub last_digits : ℕ → ℕ → List ℕ

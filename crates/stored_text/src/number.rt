@@ -8,7 +8,7 @@ ghost use Rattle.jsonb_spec.specs.Text.Appending.{Appends};
 ghost use Rattle.jsonb_spec.specs.Text.NumberText.{number_text};
 ghost use Rattle.jsonb_spec.specs.Tree.{Num};
 ghost use Rattle.stored_text.specs.FewestDigits.{fewest_digits};
-ghost use Rattle.stored_text.specs.Writes.{IsSpelled, Keeps, Writes, placed_text};
+ghost use Rattle.stored_text.specs.Writes.{IsSpelled, Keeps, AppendsLeaving, placed_text};
 
 use crate::append::append_chunk;
 use jsonb_key::KeyError;
@@ -30,7 +30,7 @@ const MAX_FRONT: u32 = 40;
 #[inline(never)]
 pub(crate) fn append_number<'k>(bytes: &'k [u8], buf: &mut Vec<u8>) -> Result<&'k [u8], KeyError>
     ensures found { (n : Num) → IsProperNumber n → (more : List ℕ) → bytes.now ≡ number_key n ++ more
-        → Writes (λ rest. rest.now) result buf.old buf.new more (number_text (fewest_digits n)) }
+        → AppendsLeaving result buf.old buf.new more (number_text (fewest_digits n)) }
     ensures shorter { IfOk result (λ rest. length rest.now < length bytes.now) }
     ensures keeps { Keeps buf.old buf.new }
 {

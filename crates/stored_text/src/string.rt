@@ -1,12 +1,10 @@
 //! The bytes of a string from its key, with their escapes.
-ghost use Rattle.std.specs.Prelude.{◌≡◌, ◌<◌, ◌≤◌, ◌++◌, ℕ, List, length, take, IfOk};
+ghost use Rattle.std.specs.Prelude.{◌≡◌, ◌<◌, ◌≤◌, length, take};
 ghost use Rattle.std.specs.Char.{digit_char};
-ghost use Rattle.std.specs.List.{flat_map};
-ghost use Rattle.jsonb_spec.specs.SortKey.{text_key};
 ghost use Rattle.jsonb_spec.specs.Text.Appending.{Appends};
 ghost use Rattle.jsonb_spec.specs.Text.StringText.{byte_text, control_text};
 ghost use Rattle.jsonb_write.specs.PlainText.{ArePlain};
-ghost use Rattle.stored_text.specs.Writes.{Keeps, Writes, closing_quote};
+ghost use Rattle.stored_text.specs.Writes.{closing_quote, WritesString};
 
 use crate::append::{append_chunk, append_first};
 use jsonb_key::KeyError;
@@ -22,10 +20,7 @@ pub(crate) fn append_text<'k>(
     bytes: &'k [u8],
     buf: &mut Vec<u8>,
 ) -> Result<&'k [u8], KeyError>
-    ensures found { (text more : List ℕ) → bytes.now ≡ text_key text ++ more
-        → Writes (λ rest. rest.now) result buf.old buf.new more (flat_map byte_text text ++ closing_quote colon) }
-    ensures shorter { IfOk result (λ rest. length rest.now < length bytes.now) }
-    ensures keeps { Keeps buf.old buf.new }
+    ensures writes { WritesString colon bytes.now result buf.old buf.new }
 {
     let run = plain_len(bytes);
     if run <= 14 {
@@ -53,10 +48,7 @@ fn append_long<'k>(
 ) -> Result<&'k [u8], KeyError>
     requires within { run ≤ length bytes.now }
     requires plain { ArePlain (take run bytes.now) }
-    ensures found { (text more : List ℕ) → bytes.now ≡ text_key text ++ more
-        → Writes (λ rest. rest.now) result buf.old buf.new more (flat_map byte_text text ++ closing_quote colon) }
-    ensures shorter { IfOk result (λ rest. length rest.now < length bytes.now) }
-    ensures keeps { Keeps buf.old buf.new }
+    ensures writes { WritesString colon bytes.now result buf.old buf.new }
 {
     let mut rest = bytes;
     let mut run = run;

@@ -1,16 +1,16 @@
 //! The text of a value from its key.
 
-ghost use Rattle.std.specs.Prelude.{◌≡◌, ◌+◌, ◌<◌, ◌≤◌, ◌++◌, ◌∷◌, [], List, ℕ, length, true, IfOk, IfErr, OnErr, vec_len};
+ghost use Rattle.std.specs.Prelude.{◌≡◌, ◌<◌, ◌≤◌, ◌++◌, ◌∷◌, [], List, ℕ, length, true, IfOk, IfErr, OnErr};
 ghost use Rattle.std.specs.Vec.{vec_capacity};
-ghost use Rattle.jsonb_key.specs.Readable.{IsReadable, IsReadableAt};
-ghost use Rattle.jsonb_stored.specs.Open.{Open, is_object, open_key, IsOpen, name_key, IsScalar};
+ghost use Rattle.jsonb_key.specs.Readable.{IsReadableAt};
+ghost use Rattle.jsonb_stored.specs.AtKeys.{AtKey, AtParts, OfKey};
+ghost use Rattle.jsonb_stored.specs.Open.{name_key, IsScalar};
 ghost use Rattle.jsonb_spec.specs.Ascii as ascii;
 ghost use Rattle.jsonb_spec.specs.SortKey.{key_of};
-ghost use Rattle.jsonb_spec.specs.Text.{tree_text};
 ghost use Rattle.jsonb_spec.specs.Text.Appending.{Appends, comma_before};
 ghost use Rattle.jsonb_spec.specs.Tree.{Tree};
-ghost use Rattle.stored_text.specs.FewestDigits.{AppendsTextOf, with_fewest_digits};
-ghost use Rattle.stored_text.specs.Writes.{Keeps, Writes, name_text, opening_text, open_text, closing_text, value_text};
+ghost use Rattle.stored_text.specs.FewestDigits.{AppendsTextOf};
+ghost use Rattle.stored_text.specs.Writes.{Keeps, LacksRoom, AppendsLeaving, name_text, opening_text, open_text, closing_text, value_text};
 
 use crate::number::append_number;
 use crate::string::append_text;
@@ -33,13 +33,11 @@ use std::alloc::AllocError;
 /// `Invalid` only where the bytes aren't the key of a value of JSON's kinds with at most 512 nested arrays and objects.
 /// `OutOfMemory` where `buf` could not grow; of such a key only where it lacks the capacity for the whole text.
 pub fn write_text_of_key(key: &[u8], buf: &mut Vec<u8>) -> Result<(), KeyError>
-    ensures ok { IfOk result (λ _. (t : Tree) → IsReadable t → key.now ≡ key_of t
-        → AppendsTextOf t buf.old.items buf.new.items) }
+    ensures ok { IfOk result (λ _. OfKey key.now (λ t. AppendsTextOf t buf.old.items buf.new.items)) }
     ensures err { OnErr result (buf.new.items ≡ buf.old.items) }
     // A key fails only where the capacity for the whole text is missing.
-    ensures invalid { IfErr result (λ e. e ≡ KeyError.Invalid → (t : Tree) → IsReadable t → key.now ≡ key_of t → ⊥) }
-    ensures full { OnErr result ((t : Tree) → IsReadable t → key.now ≡ key_of t
-        → vec_capacity buf.old < vec_len buf.old + length (tree_text (with_fewest_digits t))) }
+    ensures invalid { IfErr result (λ e. e ≡ KeyError.Invalid → OfKey key.now (λ t. ⊥)) }
+    ensures full { OnErr result (OfKey key.now (λ t. LacksRoom buf.old (value_text t))) }
     ensures capacity { vec_capacity buf.old ≤ vec_capacity buf.new }
 {
     let old_len = buf.len();
@@ -63,8 +61,7 @@ pub fn write_text_of_key(key: &[u8], buf: &mut Vec<u8>) -> Result<(), KeyError>
 
 // Appends the text of the value whose key the bytes begin with.
 fn append_value<'k>(bytes: &'k [u8], buf: &mut Vec<u8>) -> Result<&'k [u8], KeyError>
-    ensures found { (t : Tree) → IsReadable t → (more : List ℕ) → bytes.now ≡ key_of t ++ more
-        → Writes (λ rest. rest.now) result buf.old buf.new more (value_text t) }
+    ensures found { AtKey bytes.now (λ t more. AppendsLeaving result buf.old buf.new more (value_text t)) }
     ensures keeps { Keeps buf.old buf.new }
 {
     let Some((first, rest)) = bytes.split_first() else {
@@ -80,7 +77,7 @@ fn append_value<'k>(bytes: &'k [u8], buf: &mut Vec<u8>) -> Result<&'k [u8], KeyE
 #[inline(always)]
 fn append_scalar<'k>(bytes: &'k [u8], buf: &mut Vec<u8>) -> Result<&'k [u8], KeyError>
     ensures found { (depth : ℕ) → (t : Tree) → IsReadableAt depth t → IsScalar t → (more : List ℕ)
-        → bytes.now ≡ key_of t ++ more → Writes (λ rest. rest.now) result buf.old buf.new more (value_text t) }
+        → bytes.now ≡ key_of t ++ more → AppendsLeaving result buf.old buf.new more (value_text t) }
     ensures shorter { IfOk result (λ rest. length rest.now < length bytes.now) }
     ensures keeps { Keeps buf.old buf.new }
 {
@@ -114,8 +111,8 @@ fn begin_part<'k>(
     bytes: &'k [u8],
     buf: &mut Vec<u8>,
 ) -> Result<&'k [u8], KeyError>
-    ensures found { (name more : List ℕ) → bytes.now ≡ name_key object name ++ more → Writes (λ rest. rest.now) result
-        buf.old buf.new more (comma_before is_first ++ name_text object name) }
+    ensures found { (name more : List ℕ) → bytes.now ≡ name_key object name ++ more
+        → AppendsLeaving result buf.old buf.new more (comma_before is_first ++ name_text object name) }
     ensures within { IfOk result (λ rest. length rest.now ≤ length bytes.now) }
     ensures keeps { Keeps buf.old buf.new }
 {
@@ -171,9 +168,8 @@ fn append_closing(object: bool, buf: &mut Vec<u8>) -> Result<(), AllocError>
 // Appends an object or an array, from the parts that the bytes begin with. Which of the open ones are objects stands in
 // an array, outermost first.
 fn append_parts<'k>(object: bool, bytes: &'k [u8], buf: &mut Vec<u8>) -> Result<&'k [u8], KeyError>
-    ensures found { (o : Open) → is_object o ≡ object → IsOpen o 511 → (more : List ℕ)
-        → bytes.now ≡ open_key o ++ more
-        → Writes (λ rest. rest.now) result buf.old buf.new more (opening_text object ∷ open_text true o) }
+    ensures found { AtParts object bytes.now (λ o more.
+        AppendsLeaving result buf.old buf.new more (opening_text object ∷ open_text true o)) }
     ensures keeps { Keeps buf.old buf.new }
 {
     append_opening(object, buf)?;

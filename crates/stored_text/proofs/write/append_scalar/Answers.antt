@@ -18,7 +18,7 @@ returns-in_err-extend_from_slice-clause-found c = λ depth t r s more e.
 pub returns-then-first-clause-found : goal.returns-then-first-clause-found
 returns-then-first-clause-found c = λ depth t r s more e.
     let x = string_text depth t r c.in-Some.first.now c.in-Some.rest.now c.args.bytes.now more c.in-Some.ensures.cases.0 e c.if-first.true in
-    behind (λ rest. rest.now) c.append_text.result c.args.buf.now c.extend_from_slice.new.self c.append_text.new.buf more (34 ∷ []) (flat_map byte_text x.0 ++ closing_quote false) _ c.in_ok-extend_from_slice.ensures.items c.in_ok-extend_from_slice.ensures.capacity x.2 (c.append_text.ensures.found x.0 more x.1)
+    behind (λ rest. rest.now) c.append_text.result c.args.buf.now c.extend_from_slice.new.self c.append_text.new.buf more (34 ∷ []) (flat_map byte_text x.0 ++ closing_quote false) _ c.in_ok-extend_from_slice.ensures.items c.in_ok-extend_from_slice.ensures.capacity x.2 (c.append_text.ensures.writes.found x.0 more x.1)
 
 pub returns-in_err-extend_from_slice-2-clause-found : goal.returns-in_err-extend_from_slice-2-clause-found
 returns-in_err-extend_from_slice-2-clause-found c = λ depth t r s more e.
