@@ -35,3 +35,8 @@ abbrev pub CopiesNumbers : ℕ → List ℕ → Result ℕ ZerosError → Vec �
 CopiesNumbers plain counts result old new = MatchResult result
     (λ more. (new.items ≡ old.items ++ zeros_of plain counts) × (more ≡ plain_at_end plain counts))
     (λ e. (e ≡ OutOfMemory) × (vec_capacity old < vec_len old + length (zeros_of plain counts)))
+
+-- Whichever numbers the zeros are of, this is so of what is asked for.
+abbrev pub OfNumbers : List ℕ → ℕ → ℕ → ℕ → (List ℕ → Type 0) → Type 0
+OfNumbers zeros first numbers plain Is =
+    (counts : List ℕ) → AreZerosOf counts first numbers plain zeros → Is (counts_taken first numbers counts)

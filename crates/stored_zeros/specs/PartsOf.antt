@@ -1,5 +1,6 @@
 -- Where the parts of a value stand in its key, and how many numbers come before them.
-use Rattle.std.specs.Prelude.{◌≡◌, ℕ, ◌+◌, ◌⊎◌, ◌&&◌, nat_lt, if◌then◌else◌, List, [], ◌∷◌, ◌++◌, length}
+use Rattle.std.specs.Prelude.{◌≡◌, ℕ, ◌+◌, ◌⊎◌, ◌&&◌, nat_lt, if◌then◌else◌, List, [], ◌∷◌, ◌++◌, length, MatchOption, Option}
+use Rattle.std.specs.Borrow.{Bor}
 use Rattle.jsonb_stored.specs.Open.{Open, items, members}
 use Rattle.jsonb_spec.specs.SortKey.{key_of, text_key}
 use Rattle.jsonb_spec.specs.SortKey.Kind as kind
@@ -70,3 +71,13 @@ pub record IsCounted (t : Tree) (offset size before numbers : ℕ) : Type 0 wher
   pub offset_is : offset ≡ length front
   pub size_is : size ≡ length (key_of part)
   pub numbers_are : numbers ≡ numbers_in part
+
+-- So many numbers are counted, and these bytes are left.
+abbrev pub Counts : ℕ → List ℕ → Option (ℕ × Bor (List ℕ)) → Type 0
+Counts numbers more result = MatchOption result ⊥ (λ r. (r.0 ≡ numbers) × (r.1.now ≡ more))
+
+-- Where a part stands from which on there are so many bytes, the numbers before it are counted, and these are left.
+abbrev pub StopsAtPart : (List ℕ → ℕ → Tree → Type 0) → ℕ → List ℕ → Option (ℕ × Bor (List ℕ)) → Type 0
+StopsAtPart Stands stop bytes result =
+    (before : List ℕ) → (numbers : ℕ) → (part : Tree) → Stands before numbers part
+    → stop + length before ≡ length bytes → MatchOption result ⊥ (λ r. (r.0 ≡ numbers) × (length r.1.now ≡ stop))

@@ -1,11 +1,12 @@
 //! How many numbers stand in a part of a key, and before it.
 
-ghost use Rattle.std.specs.Prelude.{◌≡◌, ◌<◌, ◌≤◌, ◌+◌, ◌++◌, List, ℕ, length, Some, IfSome, MatchOption};
+ghost use Rattle.std.specs.Prelude.{◌≡◌, ◌<◌, ◌≤◌, ◌++◌, List, ℕ, length, Some, IfSome};
 ghost use Rattle.jsonb_key.specs.Readable.{IsReadable};
 ghost use Rattle.jsonb_spec.specs.SortKey.{key_of};
 ghost use Rattle.jsonb_spec.specs.Tree.{Tree};
-ghost use Rattle.jsonb_stored.specs.Open.{Open, is_object, open_key, IsOpen, IsScalar};
-ghost use Rattle.stored_zeros.specs.PartsOf.{numbers_in, number_count, numbers_open, FoundPart, IsCounted, StandsIn, StandsInOpen};
+ghost use Rattle.jsonb_stored.specs.AtKeys.{AtKey, AtParts, OfKey};
+ghost use Rattle.jsonb_stored.specs.Open.{IsScalar};
+ghost use Rattle.stored_zeros.specs.PartsOf.{numbers_in, number_count, numbers_open, Counts, FoundPart, IsCounted, StandsIn, StandsInOpen, StopsAtPart};
 
 use jsonb_stored::skip::{
     MAX_DEPTH, after_end, after_name, after_scalar, kind_at, opening, outermost,
@@ -18,11 +19,10 @@ use jsonb_value::sort_key::kind;
 /// The time is linear in the key. Nothing is allocated, no function calls itself, and the machine stack that is taken
 /// is the same for each key.
 pub fn count_numbers(key: &[u8], offset: usize, size: usize) -> Option<(usize, usize)>
-    ensures counted { (t : Tree) → IsReadable t → key.now ≡ key_of t → (before : List ℕ) → (numbers : ℕ) → (part : Tree)
+    ensures counted { OfKey key.now (λ t. (before : List ℕ) → (numbers : ℕ) → (part : Tree)
         → StandsIn t before numbers part → offset ≡ length before → size ≡ length (key_of part)
-        → result ≡ Some (numbers, numbers_in part) }
-    ensures only { IfSome result (λ r. (t : Tree) → IsReadable t → key.now ≡ key_of t
-        → IsCounted t offset size r.0 r.1) }
+        → result ≡ Some (numbers, numbers_in part)) }
+    ensures only { IfSome result (λ r. OfKey key.now (λ t. IsCounted t offset size r.0 r.1)) }
 {
     if offset > key.len() {
         return None;
@@ -49,13 +49,10 @@ pub fn count_numbers(key: &[u8], offset: usize, size: usize) -> Option<(usize, u
 // How many numbers stand in the value whose key the bytes begin with, and the bytes behind it; or how many before the
 // part from which on there are so many bytes, and these.
 fn count_until(bytes: &[u8], stop: usize) -> Option<(usize, &[u8])>
-    ensures whole { stop ≡ 0 → (t : Tree) → IsReadable t → (more : List ℕ) → bytes.now ≡ key_of t ++ more
-        → MatchOption result ⊥ (λ r. (r.0 ≡ numbers_in t) × (r.1.now ≡ more)) }
-    ensures found { (t : Tree) → IsReadable t → (more : List ℕ) → bytes.now ≡ key_of t ++ more → (before : List ℕ)
-        → (numbers : ℕ) → (part : Tree) → StandsIn t before numbers part → stop + length before ≡ length bytes.now
-        → MatchOption result ⊥ (λ r. (r.0 ≡ numbers) × (length r.1.now ≡ stop)) }
-    ensures only { IfSome result (λ r. (t : Tree) → IsReadable t → (more : List ℕ) → bytes.now ≡ key_of t ++ more
-        → length r.1.now ≡ stop → length more < stop → FoundPart (StandsIn t) bytes.now r.1.now r.0) }
+    ensures whole { stop ≡ 0 → AtKey bytes.now (λ t more. Counts (numbers_in t) more result) }
+    ensures found { AtKey bytes.now (λ t more. StopsAtPart (StandsIn t) stop bytes.now result) }
+    ensures only { IfSome result (λ r. AtKey bytes.now (λ t more.
+        length r.1.now ≡ stop → length more < stop → FoundPart (StandsIn t) bytes.now r.1.now r.0)) }
     ensures within { IfSome result (λ r. length r.1.now ≤ length bytes.now) }
 {
     if bytes.len() == stop {
@@ -73,7 +70,7 @@ fn count_until(bytes: &[u8], stop: usize) -> Option<(usize, &[u8])>
 // That of a value that is no array and no object.
 fn count_scalar(bytes: &[u8]) -> Option<(usize, &[u8])>
     ensures found { (t : Tree) → IsReadable t → IsScalar t → (more : List ℕ) → bytes.now ≡ key_of t ++ more
-        → MatchOption result ⊥ (λ r. (r.0 ≡ numbers_in t) × (r.1.now ≡ more)) }
+        → Counts (numbers_in t) more result }
     ensures within { IfSome result (λ r. length r.1.now ≤ length bytes.now) }
 {
     let Some((first, _)) = bytes.split_first() else {
@@ -99,15 +96,10 @@ fn number_count(first: u8) -> usize
 
 // That of an array or an object, from the parts that the bytes begin with.
 fn count_parts(object: bool, bytes: &[u8], stop: usize) -> Option<(usize, &[u8])>
-    ensures whole { stop ≡ 0 → (o : Open) → is_object o ≡ object → IsOpen o 511 → (more : List ℕ)
-        → bytes.now ≡ open_key o ++ more → MatchOption result ⊥ (λ r. (r.0 ≡ numbers_open o) × (r.1.now ≡ more)) }
-    ensures found { (o : Open) → is_object o ≡ object → IsOpen o 511 → (more : List ℕ) → bytes.now ≡ open_key o ++ more
-        → (before : List ℕ) → (numbers : ℕ) → (part : Tree) → StandsInOpen o before numbers part
-        → stop + length before ≡ length bytes.now
-        → MatchOption result ⊥ (λ r. (r.0 ≡ numbers) × (length r.1.now ≡ stop)) }
-    ensures only { IfSome result (λ r. (o : Open) → is_object o ≡ object → IsOpen o 511 → (more : List ℕ)
-        → bytes.now ≡ open_key o ++ more → length r.1.now ≡ stop → length more < stop
-        → FoundPart (StandsInOpen o) bytes.now r.1.now r.0) }
+    ensures whole { stop ≡ 0 → AtParts object bytes.now (λ o more. Counts (numbers_open o) more result) }
+    ensures found { AtParts object bytes.now (λ o more. StopsAtPart (StandsInOpen o) stop bytes.now result) }
+    ensures only { IfSome result (λ r. AtParts object bytes.now (λ o more.
+        length r.1.now ≡ stop → length more < stop → FoundPart (StandsInOpen o) bytes.now r.1.now r.0)) }
     ensures within { IfSome result (λ r. length r.1.now ≤ length bytes.now) }
 {
     let mut objects = outermost(object);

@@ -1,9 +1,9 @@
 //! The zeros of some of a value's numbers.
 
-ghost use Rattle.std.specs.Prelude.{◌≡◌, ◌+◌, ◌<◌, ◌≤◌, ◌^◌, ◌++◌, ℕ, List, IfOk, IfErr, IfSome, OnErr, MatchResult, drop, length, take, vec_len};
+ghost use Rattle.std.specs.Prelude.{◌≡◌, ◌+◌, ◌<◌, ◌≤◌, ◌^◌, ◌++◌, ℕ, List, IfOk, IfErr, IfSome, OnErr, MatchResult, drop, length, take};
 ghost use Rattle.std.specs.Vec.{vec_capacity};
-ghost use Rattle.stored_text.specs.Writes.{Keeps};
-ghost use Rattle.stored_zeros.specs.Numbers.{AreZerosOf, CopiesNumbers, Pends, counts_taken};
+ghost use Rattle.stored_text.specs.Writes.{Keeps, LacksRoom};
+ghost use Rattle.stored_zeros.specs.Numbers.{CopiesNumbers, OfNumbers, Pends};
 ghost use Rattle.stored_zeros.specs.Zeros.{zeros_of, plain_at_end};
 
 use crate::entry::{append_entry, next_entry};
@@ -29,14 +29,12 @@ pub fn write_zeros_of_numbers(
     numbers: usize,
     buf: &mut Vec<u8>,
 ) -> Result<usize, ZerosError>
-    ensures ok { IfOk result (λ more. (counts : List ℕ) → AreZerosOf counts first numbers plain zeros.now
-        → (buf.new.items ≡ buf.old.items ++ zeros_of plain (counts_taken first numbers counts))
-        × (more ≡ plain_at_end plain (counts_taken first numbers counts))) }
+    ensures ok { IfOk result (λ more. OfNumbers zeros.now first numbers plain (λ taken.
+        (buf.new.items ≡ buf.old.items ++ zeros_of plain taken) × (more ≡ plain_at_end plain taken))) }
     ensures err { OnErr result (buf.new.items ≡ buf.old.items) }
-    ensures invalid { IfErr result (λ e. e ≡ ZerosError.Invalid → (counts : List ℕ)
-        → AreZerosOf counts first numbers plain zeros.now → ⊥) }
-    ensures full { OnErr result ((counts : List ℕ) → AreZerosOf counts first numbers plain zeros.now
-        → vec_capacity buf.old < vec_len buf.old + length (zeros_of plain (counts_taken first numbers counts))) }
+    ensures invalid { IfErr result (λ e. e ≡ ZerosError.Invalid → OfNumbers zeros.now first numbers plain (λ taken. ⊥)) }
+    ensures full { OnErr result (OfNumbers zeros.now first numbers plain (λ taken.
+        LacksRoom buf.old (zeros_of plain taken))) }
     ensures capacity { vec_capacity buf.old ≤ vec_capacity buf.new }
 {
     let Ok(entry) = skip_numbers(zeros, first) else {

@@ -1,17 +1,13 @@
 //! The text of a value from that with the fewest digits and the zeros.
 
-ghost use Rattle.std.specs.Prelude.{◌≡◌, ◌+◌, ◌<◌, ◌≤◌, ◌++◌, ◌∷◌, [], IfOk, IfErr, OnErr, if◌then◌else◌, length, vec_len};
+ghost use Rattle.std.specs.Prelude.{◌≡◌, ◌≤◌, ◌++◌, ◌∷◌, [], IfOk, IfErr, OnErr, if◌then◌else◌};
 ghost use Rattle.std.specs.Vec.{vec_capacity};
-ghost use Rattle.jsonb_key.specs.Readable.{IsReadable};
 ghost use Rattle.jsonb_spec.specs.Ascii as ascii;
 ghost use Rattle.jsonb_spec.specs.Text.{tree_text};
 ghost use Rattle.jsonb_spec.specs.Text.Appending.{Appends};
-ghost use Rattle.jsonb_spec.specs.Tree.{Tree};
-ghost use Rattle.stored_text.specs.FewestDigits.{with_fewest_digits};
-ghost use Rattle.stored_text.specs.Writes.{Keeps};
-ghost use Rattle.stored_zeros.specs.Appending.{AppendsOr};
+ghost use Rattle.stored_text.specs.Writes.{Keeps, LacksRoom};
+ghost use Rattle.stored_zeros.specs.Appending.{AppendsOr, OfTextAndZeros};
 ghost use Rattle.stored_zeros.specs.Scan.{ending_text};
-ghost use Rattle.stored_zeros.specs.Zeros.{zeros_in};
 
 use crate::entry::next_entry;
 use crate::error::ZerosError;
@@ -39,13 +35,11 @@ pub fn write_text_with_zeros(
     zeros: &[u8],
     buf: &mut Vec<u8>,
 ) -> Result<(), ZerosError>
-    ensures ok { IfOk result (λ _. (t : Tree) → IsReadable t → shortest.now ≡ tree_text (with_fewest_digits t)
-        → zeros.now ≡ zeros_in t → buf.new.items ≡ buf.old.items ++ tree_text t) }
+    ensures ok { IfOk result (λ _. OfTextAndZeros shortest.now zeros.now (λ t.
+        buf.new.items ≡ buf.old.items ++ tree_text t)) }
     ensures err { OnErr result (buf.new.items ≡ buf.old.items) }
-    ensures invalid { IfErr result (λ e. e ≡ ZerosError.Invalid → (t : Tree) → IsReadable t
-        → shortest.now ≡ tree_text (with_fewest_digits t) → zeros.now ≡ zeros_in t → ⊥) }
-    ensures full { OnErr result ((t : Tree) → IsReadable t → shortest.now ≡ tree_text (with_fewest_digits t)
-        → zeros.now ≡ zeros_in t → vec_capacity buf.old < vec_len buf.old + length (tree_text t)) }
+    ensures invalid { IfErr result (λ e. e ≡ ZerosError.Invalid → OfTextAndZeros shortest.now zeros.now (λ t. ⊥)) }
+    ensures full { OnErr result (OfTextAndZeros shortest.now zeros.now (λ t. LacksRoom buf.old (tree_text t))) }
     ensures capacity { vec_capacity buf.old ≤ vec_capacity buf.new }
 {
     let old_len = buf.len();
@@ -60,8 +54,8 @@ pub fn write_text_with_zeros(
 
 // Appends the text with the zeros.
 fn append_text(shortest: &[u8], zeros: &[u8], buf: &mut Vec<u8>) -> Result<(), ZerosError>
-    ensures found { (t : Tree) → IsReadable t → shortest.now ≡ tree_text (with_fewest_digits t)
-        → zeros.now ≡ zeros_in t → AppendsOr ZerosError.OutOfMemory result buf.old buf.new (tree_text t) }
+    ensures found { OfTextAndZeros shortest.now zeros.now (λ t.
+        AppendsOr ZerosError.OutOfMemory result buf.old buf.new (tree_text t)) }
     ensures keeps { Keeps buf.old buf.new }
 {
     let mut text = shortest;

@@ -1,12 +1,9 @@
 //! The zeros of a value from its text.
 
-ghost use Rattle.std.specs.Prelude.{◌≡◌, ◌+◌, ◌<◌, ◌≤◌, ◌++◌, IfOk, IfErr, OnErr, length, vec_len};
+ghost use Rattle.std.specs.Prelude.{◌≡◌, ◌≤◌, ◌++◌, IfOk, IfErr, OnErr};
 ghost use Rattle.std.specs.Vec.{vec_capacity};
-ghost use Rattle.jsonb_key.specs.Readable.{IsReadable};
-ghost use Rattle.jsonb_spec.specs.Text.{tree_text};
-ghost use Rattle.jsonb_spec.specs.Tree.{Tree};
-ghost use Rattle.stored_text.specs.Writes.{Keeps};
-ghost use Rattle.stored_zeros.specs.Appending.{AppendsOr};
+ghost use Rattle.stored_text.specs.Writes.{Keeps, LacksRoom};
+ghost use Rattle.stored_zeros.specs.Appending.{AppendsOr, OfText};
 ghost use Rattle.stored_zeros.specs.Zeros.{zeros_in};
 
 use crate::entry::append_entry;
@@ -28,14 +25,11 @@ use crate::scan::{ending_of, from_number};
 /// and objects. `OutOfMemory` where `buf` could not grow; of such a text only where it lacks the capacity for all of
 /// the zeros.
 pub fn write_zeros_of_text(text: &[u8], buf: &mut Vec<u8>) -> Result<(), ZerosError>
-    ensures ok { IfOk result (λ _. (t : Tree) → IsReadable t → text.now ≡ tree_text t
-        → buf.new.items ≡ buf.old.items ++ zeros_in t) }
+    ensures ok { IfOk result (λ _. OfText text.now (λ t. buf.new.items ≡ buf.old.items ++ zeros_in t)) }
     ensures err { OnErr result (buf.new.items ≡ buf.old.items) }
     // A serialized form fails only where the capacity for all of its zeros is missing.
-    ensures invalid { IfErr result (λ e. e ≡ ZerosError.Invalid → (t : Tree) → IsReadable t
-        → text.now ≡ tree_text t → ⊥) }
-    ensures full { OnErr result ((t : Tree) → IsReadable t → text.now ≡ tree_text t
-        → vec_capacity buf.old < vec_len buf.old + length (zeros_in t)) }
+    ensures invalid { IfErr result (λ e. e ≡ ZerosError.Invalid → OfText text.now (λ t. ⊥)) }
+    ensures full { OnErr result (OfText text.now (λ t. LacksRoom buf.old (zeros_in t))) }
     ensures capacity { vec_capacity buf.old ≤ vec_capacity buf.new }
 {
     let old_len = buf.len();
@@ -50,8 +44,7 @@ pub fn write_zeros_of_text(text: &[u8], buf: &mut Vec<u8>) -> Result<(), ZerosEr
 
 // Appends the zeros of the value whose serialized form the text is.
 fn append_zeros(text: &[u8], buf: &mut Vec<u8>) -> Result<(), ZerosError>
-    ensures found { (t : Tree) → IsReadable t → text.now ≡ tree_text t
-        → AppendsOr ZerosError.OutOfMemory result buf.old buf.new (zeros_in t) }
+    ensures found { OfText text.now (λ t. AppendsOr ZerosError.OutOfMemory result buf.old buf.new (zeros_in t)) }
     ensures keeps { Keeps buf.old buf.new }
 {
     let mut rest = text;
