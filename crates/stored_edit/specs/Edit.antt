@@ -1,15 +1,19 @@
 -- Values with a part set or removed, and two values merged.
-use Rattle.std.specs.Prelude.{◌≡◌, ℕ, zero, suc, ◌+◌, ◌-◌, ◌<◌, ◌≤◌, ◌==◌, nat_lt, Bool, true, false, List, [], ◌∷◌, ◌++◌, length, Option, Some, None, option_map, Result, Ok, OnOk, OnErr, IfOk, IfErr, if◌then◌else◌, Vec, vec_len, codes}
+use Rattle.std.specs.Prelude.{◌≡◌, ℕ, zero, suc, ◌+◌, ◌-◌, ◌<◌, ◌≤◌, ◌==◌, nat_lt, Bool, true, false, List, [], ◌∷◌, ◌++◌, length, Option, Some, None, option_map, Result, Ok, OnOk, OnErr, IfOk, IfErr, MatchBool, MatchResult, if◌then◌else◌, Vec, vec_len, codes}
 use Rattle.std.specs.Option.{option_and_then}
 use Rattle.std.specs.Ordering.{match_ordering}
 use Rattle.std.specs.Vec.{vec_capacity}
+use Rattle.std.specs.Borrow.{Bor}
 use Rattle.std.specs.declared.alloc.Global.{Global}
-use Rattle.jsonb_key.specs.Readable.{IsAnyNumber}
+use Rattle.jsonb_key.specs.Readable.{IsAnyNumber, IsReadable}
+use Rattle.jsonb_stored.specs.AtKeys.{OfKey}
+use Rattle.jsonb_stored.specs.Checked.{HaveReadable}
+use Rattle.jsonb_stored.specs.declared.find.NoKey.{NoKey as FindsNoKey}
 use Rattle.jsonb_spec.specs.Accessors.{trees_len}
 use Rattle.jsonb_spec.specs.Ascii as ascii
 use Rattle.jsonb_spec.specs.Grammar.{max_depth}
 use Rattle.jsonb_spec.specs.Order.{bytes_cmp}
-use Rattle.jsonb_spec.specs.SortKey.{key_of}
+use Rattle.jsonb_spec.specs.SortKey.{key_of, members_key}
 use Rattle.jsonb_spec.specs.Text.Range.{IsWithin}
 use Rattle.jsonb_spec.specs.Tree.{Tree, array, object, Trees, no_trees, more_trees, Members, no_members, more_members, put}
 use Rattle.jsonb_spec.specs.PartAt.{index_named}
@@ -167,6 +171,33 @@ pub record AppendsKey {X : Type 0} (t : Tree) (result : Result X EditError) (old
 abbrev pub Edits : Option Tree → Result Bool EditError → Vec ℕ Global → Vec ℕ Global → Type 0
 Edits (Some t) result old new = AppendsKey t result old new × IfOk result (λ changed. changed ≡ true)
 Edits None result old new = (result ≡ Ok false) × (new.items ≡ old.items)
+
+-- Whichever values the two keys are of, the key of the first with the second in it is appended, as this says.
+abbrev pub EditsKeys : (Tree → Tree → Option Tree) → List ℕ → List ℕ → Result Bool EditError → Vec ℕ Global → Vec ℕ Global
+    → Type 0
+EditsKeys edited key part result old new = OfKey key (λ t. OfKey part (λ u. Edits (edited u t) result old new))
+
+-- Whichever values the two keys are of, the key of both in one is appended, as this says.
+abbrev pub AppendsBoth : {X : Type 0} → (Tree → Tree → Tree) → List ℕ → List ℕ → Result X EditError → Vec ℕ Global → Vec ℕ Global
+    → Type 0
+AppendsBoth both left right result old new =
+    (t u : Tree) → IsReadable t → left ≡ key_of t → IsReadable u → right ≡ key_of u
+    → AppendsKey (both t u) result old new
+
+-- Whichever members these are the keys of, the key of the object with all of them is appended.
+abbrev pub AppendsMembersOfBoth : {X : Type 0} → List ℕ → List ℕ → Result X EditError → Vec ℕ Global → Vec ℕ Global → Type 0
+AppendsMembersOfBoth left right result old new =
+    (ms ns : Members) → HaveReadable ms → HaveReadable ns → left ≡ members_key ms → right ≡ members_key ns
+    → AppendsKey (object (merged_members ms ns)) result old new
+
+-- These bytes are what may stand in an array; or there are too many arrays and objects in one another.
+abbrev pub FitsInside : List ℕ → Type 0 → Result (Bor (List ℕ)) EditError → Type 0
+FitsInside bytes Fits result =
+    MatchResult result (λ items. (items.now ≡ bytes) × Fits) (λ e. (e ≡ TooDeep) × (Fits → ⊥))
+
+-- It is told whether this is so.
+abbrev pub TellsWhether : Type 0 → Result Bool FindsNoKey → Type 0
+TellsWhether Holds result = MatchResult result (λ told. MatchBool told Holds (Holds → ⊥)) (λ e. ⊥)
 
 -- After an error the buffer has its old bytes, and its capacity doesn't shrink.
 pub record KeepsOnError {X E : Type 0} (result : Result X E) (old new : Vec ℕ Global) : Type 0 where

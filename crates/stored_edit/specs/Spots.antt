@@ -1,11 +1,15 @@
 -- Where in the bytes a part stands, or would stand.
-use Rattle.std.specs.Prelude.{◌≡◌, ℕ, ◌↔◌, Bool, true, false, List, ◌++◌, Option, Some, None, option_map, IfSome, ⊤}
+use Rattle.std.specs.Prelude.{◌≡◌, ℕ, ◌↔◌, Bool, true, false, List, ◌++◌, Option, Some, None, option_map, IfSome, MatchResult, Result, ⊤}
 use Rattle.jsonb_key.specs.Readable.{IsAnyNumber, IsReadable}
-use Rattle.jsonb_stored.specs.Open.{Open, items, members, name_key}
+use Rattle.jsonb_stored.specs.AtKeys.{AtItems}
+use Rattle.jsonb_stored.specs.Open.{Open, items, members, name_key, open_key}
+use Rattle.jsonb_stored.specs.declared.find.NoKey.{NoKey}
+use Rattle.jsonb_spec.specs.Grammar.{max_depth}
 use Rattle.jsonb_spec.specs.SortKey.{key_of}
 use Rattle.jsonb_spec.specs.Text.Range.{IsWithin, AreWithin, HaveWithin}
-use Rattle.jsonb_spec.specs.Tree.{Tree}
+use Rattle.jsonb_spec.specs.Tree.{Tree, Trees}
 use Rattle.stored_edit.specs.Edit.{Outcome, stays, goes, becomes, changed_member, changed_items}
+use Rattle.stored_edit.specs.declared.place.Place.{Place}
 use Rattle.stored_edit.specs.declared.spot.Spot.{Spot}
 
 -- what is left has no more arrays and objects in one another than the number
@@ -48,3 +52,19 @@ pub record SpotIn {A : Type 0} (key : A → List ℕ) (Fits : A → Type 0) (cha
   pub fits : IfSome there (λ t. IsWithin IsAnyNumber t room)
   pub answers : (change : Option Tree → Outcome)
       → Answers key Fits object name front spot.behind.now room (change there) (changed change)
+
+-- The spot among the parts that are left of an array or an object, behind whose end more bytes stand.
+abbrev pub OpenSpotIn : ((Option Tree → Outcome) → Option Open) → Bool → List ℕ → List ℕ → List ℕ → ℕ → Spot → Type 0
+OpenSpotIn changed object asked bytes more room spot =
+    SpotIn (λ o. open_key o ++ more) (λ o. OpenWithin o room) changed object asked bytes room spot
+
+-- The spot of the item that is changed so, at which the bytes may begin with any items.
+abbrev pub FindsItemSpot : ((Option Tree → Outcome) → Trees → Option Trees) → List ℕ → Result Spot NoKey → Type 0
+FindsItemSpot changed bytes result =
+    AtItems bytes (λ ts more. (room : ℕ) → AreWithin IsAnyNumber ts room → (name : List ℕ) → MatchResult result
+    (OpenSpotIn (λ change. option_map items (changed change ts)) false name bytes more room) (λ e. ⊥))
+
+-- The place in the key at which changes are made.
+abbrev pub PlaceIn : ((Option Tree → Outcome) → Option Tree) → List ℕ → Place → Type 0
+PlaceIn changed key place =
+    SpotIn key_of (λ t. IsWithin IsAnyNumber t max_depth) changed place.object place.name.now key place.room place.spot

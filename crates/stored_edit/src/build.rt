@@ -1,11 +1,12 @@
 //! Objects and arrays with a part more.
 
 ghost use Rattle.std.specs.Prelude.{◌≡◌, Ok, false};
-ghost use Rattle.jsonb_key.specs.Readable.{IsAnyNumber, IsReadable};
-ghost use Rattle.jsonb_spec.specs.SortKey.{key_of, items_key};
+ghost use Rattle.jsonb_key.specs.Readable.{IsAnyNumber};
+ghost use Rattle.jsonb_spec.specs.SortKey.{items_key};
 ghost use Rattle.jsonb_spec.specs.Text.Range.{AreWithin};
-ghost use Rattle.jsonb_spec.specs.Tree.{Tree, Trees, array, more_trees, no_trees};
-ghost use Rattle.stored_edit.specs.Edit.{joined_items, with_item, with_member, AppendsKey, Edits, KeepsOnError};
+ghost use Rattle.jsonb_spec.specs.Tree.{Trees, array, more_trees, no_trees};
+ghost use Rattle.stored_edit.specs.Edit.{joined_items, with_item, with_member, AppendsKey, EditsKeys, KeepsOnError};
+ghost use Rattle.jsonb_stored.specs.AtKeys.{OfKey};
 
 use crate::edit::put_part;
 use crate::error::EditError;
@@ -35,8 +36,7 @@ pub fn append_with_member(
     name: &str,
     value: &[u8],
 ) -> Result<bool, EditError>
-    ensures edits { (t : Tree) → IsReadable t → key.now ≡ key_of t → (u : Tree) → IsReadable u → value.now ≡ key_of u
-        → Edits (with_member name.now u t) result out.old out.new }
+    ensures edits { EditsKeys (with_member name.now) key.now value.now result out.old out.new }
     ensures keeps { KeepsOnError result out.old out.new }
 {
     let Some(members) = members_of(key) else {
@@ -62,8 +62,7 @@ pub fn append_with_member(
 ///
 /// As of `append_with_part`.
 pub fn append_with_item(out: &mut Vec<u8>, key: &[u8], item: &[u8]) -> Result<bool, EditError>
-    ensures edits { (t : Tree) → IsReadable t → key.now ≡ key_of t → (u : Tree) → IsReadable u → item.now ≡ key_of u
-        → Edits (with_item u t) result out.old out.new }
+    ensures edits { EditsKeys with_item key.now item.now result out.old out.new }
     ensures keeps { KeepsOnError result out.old out.new }
 {
     let Some(items) = items_of(key) else {
@@ -77,7 +76,7 @@ pub fn append_with_item(out: &mut Vec<u8>, key: &[u8], item: &[u8]) -> Result<bo
 
 // What is told of a value that is no object, or no array.
 fn other_value(key: &[u8]) -> Result<bool, EditError>
-    ensures { (t : Tree) → IsReadable t → key.now ≡ key_of t → result ≡ Ok false }
+    ensures { OfKey key.now (λ t. result ≡ Ok false) }
 {
     match kind_of(key) {
         Some(_) => Ok(false),
@@ -87,9 +86,8 @@ fn other_value(key: &[u8]) -> Result<bool, EditError>
 
 // Appends the key of an array with the items, and one more.
 fn push_item(out: &mut Vec<u8>, items: &[u8], item: &[u8]) -> Result<(), EditError>
-    ensures pushed { (ts : Trees) → AreWithin IsAnyNumber ts 511 → items.now ≡ items_key ts → (u : Tree) → IsReadable u
-        → item.now ≡ key_of u
-        → AppendsKey (array (joined_items ts (more_trees u no_trees))) result out.old out.new }
+    ensures pushed { (ts : Trees) → AreWithin IsAnyNumber ts 511 → items.now ≡ items_key ts → OfKey item.now (λ u.
+        AppendsKey (array (joined_items ts (more_trees u no_trees))) result out.old out.new) }
     ensures keeps { KeepsOnError result out.old out.new }
 {
     let items = match without_end(items) {

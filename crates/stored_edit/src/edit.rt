@@ -1,15 +1,14 @@
 //! Parts of keys, set and removed.
 
 ghost use Rattle.std.specs.Prelude.{◌≡◌, ◌≤◌, ◌++◌, List, ℕ, map, string_bytes, Option, None, MatchOption};
-ghost use Rattle.jsonb_key.specs.Readable.{IsAnyNumber, IsReadable};
-ghost use Rattle.jsonb_spec.specs.Grammar.{max_depth};
+ghost use Rattle.jsonb_key.specs.Readable.{IsReadable};
 ghost use Rattle.jsonb_spec.specs.SortKey.{key_of};
 ghost use Rattle.jsonb_spec.specs.Text.Appending.{AppendsAllOrNothing};
-ghost use Rattle.jsonb_spec.specs.Text.Range.{IsWithin};
 ghost use Rattle.jsonb_spec.specs.Tree.{Tree};
-ghost use Rattle.stored_edit.specs.Edit.{Outcome, becomes, with_part, without_part, AppendsKey, Edits, KeepsOnError};
+ghost use Rattle.stored_edit.specs.Edit.{Outcome, becomes, with_part, without_part, AppendsKey, Edits, EditsKeys, KeepsOnError};
+ghost use Rattle.jsonb_stored.specs.AtKeys.{OfKey};
 ghost use Rattle.jsonb_stored.specs.Open.{name_key};
-ghost use Rattle.stored_edit.specs.Spots.{SpotIn, Stands};
+ghost use Rattle.stored_edit.specs.Spots.{PlaceIn, Stands};
 
 use crate::error::EditError;
 use crate::fit::fits;
@@ -31,8 +30,7 @@ pub fn append_without_part(
     key: &[u8],
     names: &[String],
 ) -> Result<bool, EditError>
-    ensures edits { (t : Tree) → IsReadable t → key.now ≡ key_of t
-        → Edits (without_part (map string_bytes names.now) t) result out.old out.new }
+    ensures edits { OfKey key.now (λ t. Edits (without_part (map string_bytes names.now) t) result out.old out.new) }
     ensures keeps { KeepsOnError result out.old out.new }
 {
     let Some(place) = find_place(key, names)? else {
@@ -72,8 +70,8 @@ pub fn append_with_part(
     part: &[u8],
     create: bool,
 ) -> Result<bool, EditError>
-    ensures edits { (t : Tree) → IsReadable t → key.now ≡ key_of t → (u : Tree) → IsReadable u → part.now ≡ key_of u
-        → Edits (with_part (map string_bytes names.now) u create t) result out.old out.new }
+    ensures edits { EditsKeys (λ u. with_part (map string_bytes names.now) u create) key.now part.now result
+        out.old out.new }
     ensures keeps { KeepsOnError result out.old out.new }
 {
     let Some(place) = find_place(key, names)? else {
@@ -96,9 +94,7 @@ pub(crate) fn put_part(
     part: &[u8],
 ) -> Result<(), EditError>
     requires { place.now.room ≤ 511 }
-    ensures put { (changed : (Option Tree → Outcome) → Option Tree)
-        → (s : SpotIn key_of (λ v. IsWithin IsAnyNumber v max_depth) changed place.now.object place.now.name.now key.now
-        place.now.room place.now.spot)
+    ensures put { (changed : (Option Tree → Outcome) → Option Tree) → (s : PlaceIn changed key.now place.now)
         → (u : Tree) → IsReadable u → part.now ≡ key_of u → (change : Option Tree → Outcome)
         → change s.there ≡ becomes u → MatchOption (changed change) ⊥ (λ v. AppendsKey v result out.old out.new) }
     ensures keeps { KeepsOnError result out.old out.new }

@@ -1,11 +1,10 @@
 //! How deep a value is.
 
-ghost use Rattle.std.specs.Prelude.{◌≡◌, ◌<◌, ◌≤◌, ◌++◌, ◌+◌, List, ℕ, MatchBool, MatchResult};
-ghost use Rattle.jsonb_key.specs.Readable.{IsAnyNumber, IsReadable};
-ghost use Rattle.jsonb_stored.specs.Open.{Open, is_object, open_key, IsOpen};
-ghost use Rattle.jsonb_spec.specs.SortKey.{key_of};
+ghost use Rattle.std.specs.Prelude.{◌<◌, ◌≤◌};
+ghost use Rattle.jsonb_key.specs.Readable.{IsAnyNumber};
+ghost use Rattle.jsonb_stored.specs.AtKeys.{AtKey, AtParts};
 ghost use Rattle.jsonb_spec.specs.Text.Range.{IsWithin};
-ghost use Rattle.jsonb_spec.specs.Tree.{Tree};
+ghost use Rattle.stored_edit.specs.Edit.{TellsWhether};
 ghost use Rattle.stored_edit.specs.Spots.{OpenWithin};
 
 use jsonb_stored::find::NoKey;
@@ -14,8 +13,7 @@ use jsonb_stored::skip::{after_end, after_name, after_scalar, kind_at, opening, 
 /// Whether the value whose key this is has at most so many arrays and objects in one another.
 pub(crate) fn fits(key: &[u8], room: usize) -> Result<bool, NoKey>
     requires { room ≤ 511 }
-    ensures { (t : Tree) → IsReadable t → (more : List ℕ) → key.now ≡ key_of t ++ more → MatchResult result
-        (λ fits. MatchBool fits (IsWithin IsAnyNumber t room) (IsWithin IsAnyNumber t room → ⊥)) (λ e. ⊥) }
+    ensures { AtKey key.now (λ t more. TellsWhether (IsWithin IsAnyNumber t room) result) }
 {
     let Some((first, parts)) = key.split_first() else {
         return Err(NoKey);
@@ -33,8 +31,7 @@ pub(crate) fn fits(key: &[u8], room: usize) -> Result<bool, NoKey>
 // ones are objects stands in an array, outermost first.
 fn parts_fit(object: bool, bytes: &[u8], inner: usize) -> Result<bool, NoKey>
     requires { inner < 511 }
-    ensures { (o : Open) → is_object o ≡ object → IsOpen o 511 → (more : List ℕ) → bytes.now ≡ open_key o ++ more
-        → MatchResult result (λ fits. MatchBool fits (OpenWithin o inner) (OpenWithin o inner → ⊥)) (λ e. ⊥) }
+    ensures { AtParts object bytes.now (λ o more. TellsWhether (OpenWithin o inner) result) }
 {
     let mut objects = outermost(object);
     let mut depth: usize = 1;

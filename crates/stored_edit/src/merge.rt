@@ -10,7 +10,8 @@ ghost use Rattle.jsonb_spec.specs.SortKey.Kind as kind;
 ghost use Rattle.jsonb_spec.specs.Text.Appending.{Extends};
 ghost use Rattle.jsonb_spec.specs.Text.Range.{IsWithin, AreWithin};
 ghost use Rattle.jsonb_spec.specs.Tree.{Tree, Members, array, no_members, object};
-ghost use Rattle.stored_edit.specs.Edit.{as_items, joined_items, merge, merged_members, AppendsKey, KeepsOnError};
+ghost use Rattle.stored_edit.specs.Edit.{as_items, joined_items, merge, AppendsBoth, AppendsMembersOfBoth, FitsInside, KeepsOnError};
+ghost use Rattle.jsonb_stored.specs.AtKeys.{OfKey};
 ghost use Rattle.stored_edit.specs.Merging.{keys_of_items, IsStep};
 
 use crate::error::EditError;
@@ -32,8 +33,7 @@ use std::cmp::Ordering;
 /// bytes on one side are no sort key, and `OutOfMemory` only where the buffer lacks the capacity for the whole key.
 /// After an error the buffer is as before.
 pub fn append_merged(out: &mut Vec<u8>, left: &[u8], right: &[u8]) -> Result<(), EditError>
-    ensures merges { (t u : Tree) → IsReadable t → left.now ≡ key_of t → IsReadable u → right.now ≡ key_of u
-        → AppendsKey (merge t u) result out.old out.new }
+    ensures merges { AppendsBoth merge left.now right.now result out.old out.new }
     ensures keeps { KeepsOnError result out.old out.new }
 {
     match both_members(left, right) {
@@ -59,9 +59,7 @@ fn both_members<'k, 'l>(left: &'k [u8], right: &'l [u8]) -> Option<(&'k [u8], &'
 
 // Appends the key of an object with the members of both.
 fn merge_objects(out: &mut Vec<u8>, left: &[u8], right: &[u8]) -> Result<(), EditError>
-    ensures merges { (ms ns : Members) → HaveReadable ms → HaveReadable ns
-        → left.now ≡ members_key ms → right.now ≡ members_key ns
-        → AppendsKey (object (merged_members ms ns)) result out.old out.new }
+    ensures merges { AppendsMembersOfBoth left.now right.now result out.old out.new }
     ensures keeps { KeepsOnError result out.old out.new }
 {
     let old_len = out.len();
@@ -78,9 +76,7 @@ fn merge_objects(out: &mut Vec<u8>, left: &[u8], right: &[u8]) -> Result<(), Edi
 
 // Appends the first byte of an object's key, and the members of both.
 fn append_members(out: &mut Vec<u8>, left: &[u8], right: &[u8]) -> Result<(), EditError>
-    ensures merges { (ms ns : Members) → HaveReadable ms → HaveReadable ns
-        → left.now ≡ members_key ms → right.now ≡ members_key ns
-        → AppendsKey (object (merged_members ms ns)) result out.old out.new }
+    ensures merges { AppendsMembersOfBoth left.now right.now result out.old out.new }
     ensures kept { Extends out.old.items out.new.items }
     ensures capacity { vec_capacity out.old ≤ vec_capacity out.new }
 {
@@ -212,8 +208,8 @@ fn after_member(members: &[u8]) -> Result<&[u8], NoKey>
 
 // Appends the key of an array with the items of both.
 fn join_items(out: &mut Vec<u8>, left: &[u8], right: &[u8]) -> Result<(), EditError>
-    ensures joins { (t u : Tree) → IsReadable t → left.now ≡ key_of t → IsReadable u → right.now ≡ key_of u
-        → AppendsKey (array (joined_items (as_items t) (as_items u))) result out.old out.new }
+    ensures joins { AppendsBoth (λ t u. array (joined_items (as_items t) (as_items u))) left.now right.now result
+        out.old out.new }
     ensures keeps { KeepsOnError result out.old out.new }
 {
     let items = match item_keys(left) {
@@ -232,9 +228,8 @@ fn join_items(out: &mut Vec<u8>, left: &[u8], right: &[u8]) -> Result<(), EditEr
 
 // The keys of an array's items without its end, or the key of another value.
 fn item_keys(key: &[u8]) -> Result<&[u8], EditError>
-    ensures { (t : Tree) → IsReadable t → key.now ≡ key_of t → MatchResult result
-        (λ items. (items.now ≡ keys_of_items (as_items t)) × AreWithin IsAnyNumber (as_items t) 511)
-        (λ e. (e ≡ EditError.TooDeep) × (AreWithin IsAnyNumber (as_items t) 511 → ⊥)) }
+    ensures { OfKey key.now (λ t.
+        FitsInside (keys_of_items (as_items t)) (AreWithin IsAnyNumber (as_items t) 511) result) }
 {
     match items_of(key) {
         Some(items) => without_end(items),
@@ -256,9 +251,7 @@ pub(crate) fn without_end(items: &[u8]) -> Result<&[u8], EditError>
 
 // The key of an item, if an array may hold it.
 pub(crate) fn as_item(key: &[u8]) -> Result<&[u8], EditError>
-    ensures { (t : Tree) → IsReadable t → key.now ≡ key_of t → MatchResult result
-        (λ item. (item.now ≡ key.now) × IsWithin IsAnyNumber t 511)
-        (λ e. (e ≡ EditError.TooDeep) × (IsWithin IsAnyNumber t 511 → ⊥)) }
+    ensures { OfKey key.now (λ t. FitsInside key.now (IsWithin IsAnyNumber t 511) result) }
 {
     if !fits(key, 511)? {
         return Err(EditError::TooDeep);

@@ -1,13 +1,10 @@
 //! The place in a key that a path leads to.
 
 ghost use Rattle.std.specs.Prelude.{◌≡◌, ◌≤◌, length, map, string_bytes, Option, None, IfOk, IfSome, MatchBool, MatchResult, MatchOption};
-ghost use Rattle.jsonb_key.specs.Readable.{IsAnyNumber, IsReadable};
-ghost use Rattle.jsonb_spec.specs.Grammar.{max_depth};
-ghost use Rattle.jsonb_spec.specs.SortKey.{key_of};
-ghost use Rattle.jsonb_spec.specs.Text.Range.{IsWithin};
+ghost use Rattle.jsonb_stored.specs.AtKeys.{OfKey};
 ghost use Rattle.jsonb_spec.specs.Tree.{Tree};
 ghost use Rattle.stored_edit.specs.Edit.{Outcome, changed_at};
-ghost use Rattle.stored_edit.specs.Spots.{SpotIn};
+ghost use Rattle.stored_edit.specs.Spots.{PlaceIn};
 
 use crate::spot::{Spot, part_spot};
 use jsonb_stored::find::{NoKey, open_key};
@@ -29,12 +26,9 @@ pub(crate) fn find_place<'k, 'n>(
     key: &'k [u8],
     names: &'n [String],
 ) -> Result<Option<Place<'k, 'n>>, NoKey>
-    ensures place { (t : Tree) → IsReadable t → key.now ≡ key_of t → MatchResult result
-        (λ answer. MatchOption answer
+    ensures place { OfKey key.now (λ t. MatchResult result (λ answer. MatchOption answer
         ((change : Option Tree → Outcome) → changed_at change (map string_bytes names.now) t ≡ None)
-        (λ place. SpotIn key_of (λ u. IsWithin IsAnyNumber u max_depth)
-        (λ change. changed_at change (map string_bytes names.now) t) place.object place.name.now key.now place.room
-        place.spot)) (λ e. ⊥) }
+        (PlaceIn (λ change. changed_at change (map string_bytes names.now) t) key.now)) (λ e. ⊥)) }
     ensures room { IfOk result (λ answer. IfSome answer (λ place. place.room ≤ 511)) }
 {
     let mut part = key;

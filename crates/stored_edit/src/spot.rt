@@ -2,13 +2,12 @@
 
 ghost use Rattle.std.specs.Prelude.{◌≡◌, ◌++◌, List, ℕ, option_map, true, false, None, Option, MatchResult, MatchOption};
 ghost use Rattle.jsonb_key.specs.Readable.{IsAnyNumber};
-ghost use Rattle.jsonb_stored.specs.Open.{Open, items, members, is_object, open_key, IsOpen};
-ghost use Rattle.jsonb_spec.specs.Proper.{AreProper, HaveProperParts};
-ghost use Rattle.jsonb_spec.specs.SortKey.{items_key, members_key};
-ghost use Rattle.jsonb_spec.specs.Text.Range.{AreWithin, HaveWithin};
-ghost use Rattle.jsonb_spec.specs.Tree.{Tree, Trees, Members};
+ghost use Rattle.jsonb_stored.specs.AtKeys.{AtMembers, AtParts};
+ghost use Rattle.jsonb_stored.specs.Open.{Open, members};
+ghost use Rattle.jsonb_spec.specs.Text.Range.{HaveWithin};
+ghost use Rattle.jsonb_spec.specs.Tree.{Tree};
 ghost use Rattle.stored_edit.specs.Edit.{Outcome, changed_at_step, changed_item, changed_item_back, changed_member};
-ghost use Rattle.stored_edit.specs.Spots.{OpenWithin, SpotIn, changed_open};
+ghost use Rattle.stored_edit.specs.Spots.{changed_open, FindsItemSpot, OpenSpotIn, OpenWithin};
 
 use crate::step::step_of;
 use jsonb_stored::find::{NoKey, compare_name, count_left, next_part};
@@ -39,11 +38,9 @@ fn no_part(rest: &[u8]) -> Spot<'_>
 
 // Where the member of that name stands among the members, or would stand.
 pub(crate) fn member_spot<'k>(members: &'k [u8], name: &[u8]) -> Result<Spot<'k>, NoKey>
-    ensures spot { (ms : Members) → HaveProperParts ms → HaveWithin IsAnyNumber ms 511 → (more : List ℕ)
-        → members.now ≡ members_key ms ++ more → (room : ℕ) → HaveWithin IsAnyNumber ms room
-        → MatchResult result (SpotIn (λ o. open_key o ++ more) (λ o. OpenWithin o room)
-        (λ change. option_map Open.members (changed_member change name.now ms)) true name.now members.now room)
-        (λ e. ⊥) }
+    ensures spot { AtMembers members.now (λ ms more. (room : ℕ) → HaveWithin IsAnyNumber ms room → MatchResult result
+        (OpenSpotIn (λ change. option_map Open.members (changed_member change name.now ms)) true name.now members.now
+        more room) (λ e. ⊥)) }
 {
     let mut rest = members;
     'members: loop {
@@ -68,10 +65,7 @@ pub(crate) fn member_spot<'k>(members: &'k [u8], name: &[u8]) -> Result<Spot<'k>
 
 // Where the item of that index stands, or the end.
 fn item_spot(items: &[u8], index: usize) -> Result<Spot<'_>, NoKey>
-    ensures spot { (ts : Trees) → AreProper ts → AreWithin IsAnyNumber ts 511 → (more : List ℕ)
-        → items.now ≡ items_key ts ++ more → (room : ℕ) → AreWithin IsAnyNumber ts room → (name : List ℕ)
-        → MatchResult result (SpotIn (λ o. open_key o ++ more) (λ o. OpenWithin o room)
-        (λ change. option_map Open.items (changed_item change index ts)) false name items.now room) (λ e. ⊥) }
+    ensures spot { FindsItemSpot (λ change. changed_item change index) items.now result }
 {
     let mut rest = items;
     let mut before = index;
@@ -94,10 +88,7 @@ fn item_spot(items: &[u8], index: usize) -> Result<Spot<'_>, NoKey>
 
 // Where the item stands that is so many from the end, where 1 is the last, or the front.
 fn item_spot_back(items: &[u8], back: usize) -> Result<Spot<'_>, NoKey>
-    ensures spot { (ts : Trees) → AreProper ts → AreWithin IsAnyNumber ts 511 → (more : List ℕ)
-        → items.now ≡ items_key ts ++ more → (room : ℕ) → AreWithin IsAnyNumber ts room → (name : List ℕ)
-        → MatchResult result (SpotIn (λ o. open_key o ++ more) (λ o. OpenWithin o room)
-        (λ change. option_map Open.items (changed_item_back change back ts)) false name items.now room) (λ e. ⊥) }
+    ensures spot { FindsItemSpot (λ change. changed_item_back change back) items.now result }
 {
     let count = count_left(false, items)?;
     match count.checked_sub(back) {
@@ -108,11 +99,7 @@ fn item_spot_back(items: &[u8], back: usize) -> Result<Spot<'_>, NoKey>
 
 // Where the item of that index stands, which counts from the end or not.
 fn item_spot_by(items: &[u8], from_end: bool, number: usize) -> Result<Spot<'_>, NoKey>
-    ensures spot { (ts : Trees) → AreProper ts → AreWithin IsAnyNumber ts 511 → (more : List ℕ)
-        → items.now ≡ items_key ts ++ more → (room : ℕ) → AreWithin IsAnyNumber ts room → (name : List ℕ)
-        → MatchResult result (SpotIn (λ o. open_key o ++ more) (λ o. OpenWithin o room)
-        (λ change. option_map Open.items (changed_at_step change ts (from_end, number))) false name items.now room)
-        (λ e. ⊥) }
+    ensures spot { FindsItemSpot (λ change ts. changed_at_step change ts (from_end, number)) items.now result }
 {
     if from_end {
         item_spot_back(items, number)
@@ -127,12 +114,9 @@ pub(crate) fn part_spot<'k>(
     parts: &'k [u8],
     name: &str,
 ) -> Result<Option<Spot<'k>>, NoKey>
-    ensures spot { (o : Open) → is_object o ≡ object → IsOpen o 511 → (more : List ℕ)
-        → parts.now ≡ open_key o ++ more → (room : ℕ) → OpenWithin o room
-        → MatchResult result (λ answer. MatchOption answer
-        ((change : Option Tree → Outcome) → changed_open change name.now o ≡ None)
-        (SpotIn (λ o. open_key o ++ more) (λ o. OpenWithin o room) (λ change. changed_open change name.now o)
-        object name.now parts.now room)) (λ e. ⊥) }
+    ensures spot { AtParts object parts.now (λ o more. (room : ℕ) → OpenWithin o room → MatchResult result
+        (λ answer. MatchOption answer ((change : Option Tree → Outcome) → changed_open change name.now o ≡ None)
+        (OpenSpotIn (λ change. changed_open change name.now o) object name.now parts.now more room)) (λ e. ⊥)) }
 {
     if object {
         let spot = member_spot(parts, name.as_bytes())?;

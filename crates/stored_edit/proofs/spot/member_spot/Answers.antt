@@ -28,7 +28,7 @@ returns-in-Less c = record {
       let l = c.members.invariant.walks ms p w more e room f in
       let n = subst (λ answer. IsNext (members l.left) more (Ok answer)) c.in-Some.is (c.in_ok-value.ensures.next (members l.left) refl (l.proper, l.within) more l.stands) in
       let m = member_next ms c.args.name.now c.args.members.now c.members.rest.now more room c.in-Some.value c.in-Some.behind l n in
-      let less = sym (c.compare_name-order.ensures.order m.key c.in-Some.value.now m.entry) ∙ c.in-Less.is in
+      let less = sym ((c.compare_name-order.ensures.compares m.key c.in-Some.value.now m.entry).told) ∙ c.in-Less.is in
       member_missed ms c.args.name.now c.args.members.now c.members.rest.now more room c.in-Some.value.now c.in-Some.behind.now c.no_part-in-Less.result m less c.no_part-in-Less.ensures;
 }
 
@@ -38,7 +38,7 @@ returns-in-Equal c = record {
       let l = c.members.invariant.walks ms p w more e room f in
       let n = subst (λ answer. IsNext (members l.left) more (Ok answer)) c.in-Some.is (c.in_ok-value.ensures.next (members l.left) refl (l.proper, l.within) more l.stands) in
       let m = member_next ms c.args.name.now c.args.members.now c.members.rest.now more room c.in-Some.value c.in-Some.behind l n in
-      let equal = sym (c.compare_name-order.ensures.order m.key c.in-Some.value.now m.entry) ∙ c.in-Equal.is in
+      let equal = sym ((c.compare_name-order.ensures.compares m.key c.in-Some.value.now m.entry).told) ∙ c.in-Equal.is in
       member_met ms c.args.name.now c.args.members.now c.members.rest.now more room c.in-Some.value.now c.in-Some.behind.now _ m equal refl refl refl refl;
 }
 
@@ -48,6 +48,6 @@ members-preserved c = record {
       let l = c.members.invariant.walks ms p w more e room f in
       let n = subst (λ answer. IsNext (members l.left) more (Ok answer)) c.in-Some.is (c.in_ok-value.ensures.next (members l.left) refl (l.proper, l.within) more l.stands) in
       let m = member_next ms c.args.name.now c.args.members.now c.members.rest.now more room c.in-Some.value c.in-Some.behind l n in
-      let greater = sym (c.compare_name-order.ensures.order m.key c.in-Some.value.now m.entry) ∙ c.in-Greater.is in
+      let greater = sym ((c.compare_name-order.ensures.compares m.key c.in-Some.value.now m.entry).told) ∙ c.in-Greater.is in
       member_passed ms c.args.name.now c.args.members.now c.members.rest.now more room c.in-Some.value.now c.in-Some.behind.now m greater;
 }
