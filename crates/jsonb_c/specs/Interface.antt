@@ -1,5 +1,5 @@
 -- What each status and each out parameter says of the texts.
-use Rattle.std.specs.Prelude.{◌≡◌, ◌≢◌, ◌⊎◌, ℕ, ◌<◌, ◌≤◌, ℤ, pos, negsuc, List, [], ◌++◌, length, drop, Some, Ok, Err}
+use Rattle.std.specs.Prelude.{◌≡◌, ◌≢◌, ◌⊎◌, ℕ, ◌<◌, ◌≤◌, ℤ, pos, negsuc, List, [], ◌++◌, ◌↔◌, length, drop, Some, Result, Ok, Err, IfOk, IfErr}
 use Rattle.std.specs.declared.cmp.Ordering.{Ordering}
 use Rattle.std.specs.declared.cmp.Ordering.TheVariants.{Less, Equal, Greater}
 use Rattle.jsonb_value.specs.declared.error.Error.{Error}
@@ -17,10 +17,10 @@ use Rattle.jsonb_spec.specs.Text.ReadsBack.{ReadsBackAs}
 use Rattle.jsonb_spec.specs.Text.{text_of}
 use Rattle.jsonb_spec.specs.Tree.{Tree}
 use Rattle.jsonb_scan.specs.Reading.Document.{document_of}
-use Rattle.jsonb_scan.specs.Answer.{Fails}
+use Rattle.jsonb_scan.specs.Answer.{Fails, MayAllocate}
 use Rattle.jsonb_spec.specs.Errors.{Stands}
 use Rattle.jsonb_spec.specs.PartAt.{IsAt}
-use Rattle.jsonb_pointer.specs.Path.{IsPath}
+use Rattle.jsonb_pointer.specs.Path.{IsPath, StartsKey}
 use Rattle.jsonb_c.specs.declared.Part.{Part}
 use Rattle.jsonb_c.specs.declared.Part.TheVariants as parts
 use Rattle.jsonb_c.specs.declared.Refusal.{Refusal}
@@ -97,6 +97,37 @@ pub data IsOneRejected (number : ℕ) (left right : List ℕ) (refusal : Refusal
   first_rejected : IsRejected number left 1 refusal → IsOneRejected number left right refusal
   second_rejected : IsAccepted number left → IsRejected number right 2 refusal → IsOneRejected number left right refusal
 
+-- The status is no greater than this one, and says whether the number chooses a mode.
+pub record IsStatus (number greatest status : ℕ) : Type 0 where
+  pub known : status ≤ greatest
+  pub mode : status ≡ 3 ↔ (1 < number)
+
+-- The text may allocate, or it is a document, of which something is written.
+abbrev pub FormMayAllocate : ℕ → List ℕ → Type 0
+FormMayAllocate number text = MayAllocate text ⊎ IsAccepted number text
+
+-- One of two texts may allocate, the second only where the first is a document.
+abbrev pub EitherMayAllocate : ℕ → List ℕ → List ℕ → Type 0
+EitherMayAllocate number left right = MayAllocate left ⊎ (IsAccepted number left × MayAllocate right)
+
+-- The status of a call that writes something of a document's tree: it says whether the number chooses a mode. A document
+-- is accepted, unless memory ran out, which takes a text that may allocate, or a document.
+pub record IsStatusOfForm (number : ℕ) (text : List ℕ) (status : ℕ) : Type 0 where
+  pub known : status ≤ 4
+  pub mode : status ≡ 3 ↔ (1 < number)
+  pub accepted : IsAccepted number text → (status ≡ 0) ⊎ (status ≡ 4) ⊎ (status ≡ 2)
+  pub memory : status ≡ 2 → FormMayAllocate number text
+
+-- A document is accepted, and nothing else, unless memory ran out.
+pub record AcceptsDocuments (number : ℕ) (text : List ℕ) (status : ℕ) : Type 0 where
+  pub document : status ≡ 0 → IsAccepted number text
+  pub accepted : IsAccepted number text → (status ≡ 0) ⊎ (status ≡ 2)
+
+-- Of what is rejected it is told what and where it is, and else nothing.
+pub record Tells (IsTold : Refusal → Type 0) (status : ℕ) (refusal : Refusal) : Type 0 where
+  pub rejected : status ≡ 1 → IsTold refusal
+  pub nothing : status ≢ 1 → refusal ≡ nothing
+
 -- Bytes that are these stand at the front of the buffer, whose other bytes are as before.
 pub record Writes (Are : List ℕ → Type 0) (size : ℕ) (old new : List ℕ) : Type 0 where
   pub bytes : List ℕ
@@ -128,6 +159,19 @@ pub record IsKeyOf (number : ℕ) (text bytes : List ℕ) : Type 0 where
       → bytes_cmp bytes (key_of t) ≡ tree_cmp tree t
   pub no_front : (mode : Mode) (other : List ℕ) (t : Tree) → IsDocument mode other t
       → (more : List ℕ) → key_of t ≡ bytes ++ more → more ≡ []
+
+-- The status says whether such bytes are written to the start of the buffer, which is the status `done`, or the buffer
+-- is too short for them. Where nothing is written the buffer is as before; where no bytes are known the size is 0.
+pub record FillsBuffer (Are : List ℕ → Type 0) (done status size : ℕ) (old new : List ℕ) : Type 0 where
+  pub written : status ≡ done → Writes Are size old new
+  pub short : status ≡ 4 → NeedsRoom Are size old
+  pub untouched : status ≢ done → new ≡ old
+  pub no_size : status ≢ done → status ≢ 4 → size ≡ 0
+
+-- Where nothing is written the buffer is as before; where no bytes are known the size is 0.
+pub record KeepsBuffer (status size : ℕ) (old new : List ℕ) : Type 0 where
+  pub untouched : status ≢ 0 → new ≡ old
+  pub no_size : status ≢ 0 → status ≢ 4 → size ≡ 0
 
 -- The text and the key of the text's tree have these sizes, and one of the buffers is shorter.
 pub record NeedsRoomForBoth (number : ℕ) (text : List ℕ) (size key_size : ℕ) (old key_old : List ℕ) : Type 0 where
@@ -172,6 +216,11 @@ pub record HasPartAt (number : ℕ) (path text : List ℕ) : Type 0 where
   pub part : Tree
   pub at : IsAt tree keys part
 
+-- The text may allocate, or it is a document and the path has a key, or there is a part, which is written.
+abbrev pub PartMayAllocate : ℕ → List ℕ → List ℕ → Type 0
+PartMayAllocate number path text =
+    MayAllocate text ⊎ (IsAccepted number text × StartsKey path) ⊎ HasPartAt number path text
+
 -- The bytes are the text of the part of the text's tree that stands at the path, and they read back as a document of
 -- the same part with this text.
 pub record IsPartOf (number : ℕ) (path text bytes : List ℕ) : Type 0 where
@@ -191,6 +240,11 @@ pub record HasNoPartAt (number : ℕ) (path text : List ℕ) : Type 0 where
 abbrev pub IsNoPath : List ℕ → Type 0
 IsNoPath path = (keys : List (List ℕ)) → IsPath path keys → ⊥
 
+-- The status says what is wrong with a path, unless memory ran out.
+pub record TellsPath (path : List ℕ) (status : ℕ) : Type 0 where
+  pub no_path : status ≡ 6 → IsNoPath path
+  pub wrong_path : IsNoPath path → (status ≡ 6) ⊎ (status ≡ 2)
+
 -- What stands at the path in a document: a part with this text, or nothing; or the path is none.
 abbrev pub IsPartAnswer : ℕ → List ℕ → List ℕ → Part → Type 0
 IsPartAnswer number path text (parts.Text bytes) = IsPartOf number path text bytes.items
@@ -202,6 +256,19 @@ abbrev pub IsReason : ℕ → (Refusal → Type 0) → Failure → Type 0
 IsReason number IsTold (Text refusal) = (number ≤ 1) × IsTold refusal
 IsReason number IsTold OutOfMemory = number ≤ 1
 IsReason number IsTold UnknownMode = 1 < number
+
+-- Why a call has no answer: for such a reason, and memory runs out only where it may be needed.
+pub record FailsFor {X : Type 0} (number : ℕ) (IsTold : Refusal → Type 0) (MayNeedMemory : Type 0)
+    (result : Result X Failure) : Type 0 where
+  pub reason : IfErr result (IsReason number IsTold)
+  pub memory : result ≡ Err OutOfMemory → MayNeedMemory
+
+-- The order of the trees of two documents. Else one of the texts is rejected, or memory ran out, which takes a text that
+-- may allocate, or the number chooses no mode.
+pub record OrdersTexts (number : ℕ) (left right : List ℕ) (result : Result Ordering Failure) : Type 0 where
+  pub ordered : IfOk result (λ order. IsOrdered number left right (sign order))
+  pub reason : IfErr result (IsReason number (IsOneRejected number left right))
+  pub memory : result ≡ Err OutOfMemory → EitherMayAllocate number left right
 
 -- The reason says what the error of a reader does: the fault is told, of this one of the texts, or memory ran out.
 abbrev pub SaysError : ℕ → Error → Failure → Type 0

@@ -17,6 +17,11 @@ IsEdited (Some t) status size old new =
     ⊎ ((status ≡ 8) × (IsWithin IsAnyNumber t max_depth → ⊥))
 IsEdited None status size old new = status ≡ 5
 
+-- one of the statuses of a change of a key
+abbrev pub IsEditStatus : ℕ → Type 0
+IsEditStatus status =
+    (status ≡ 0) ⊎ (status ≡ 2) ⊎ (status ≡ 4) ⊎ (status ≡ 5) ⊎ (status ≡ 7) ⊎ (status ≡ 8)
+
 -- the status of an error
 abbrev pub edit_status_of : EditError → ℕ
 edit_status_of errors.NoKey = 7

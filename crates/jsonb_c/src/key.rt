@@ -3,9 +3,9 @@
 //! Any bytes are safe to pass. What a call answers is promised for the key of a value of JSON's kinds with at most 512
 //! nested arrays and objects; of other bytes it may be `NO_KEY` or any answer within them.
 
-ghost use Rattle.std.specs.Prelude.{◌≡◌, ◌≢◌, ◌↔◌, ◌⊎◌, ◌<◌, ◌≤◌, ◌+◌, ◌∷◌, ℕ, List, length, Option, None, Some, MatchResult, MatchOption, IfOk, IfSome, if◌then◌else◌};
-ghost use Rattle.jsonb_c.specs.Interface.{IsNoPath};
-ghost use Rattle.jsonb_c.specs.KeyParts.{kind_number, text_of_tree, IsBegun, IsCounted, IsFound, IsNextPart, IsTreeKey, IsWritten, StandsBefore};
+ghost use Rattle.std.specs.Prelude.{◌≡◌, ◌≢◌, ◌↔◌, ◌⊎◌, ◌<◌, ◌≤◌, ◌+◌, ◌∷◌, ℕ, List, length, Option, None, MatchResult, MatchOption, IfOk, IfSome, if◌then◌else◌};
+ghost use Rattle.jsonb_c.specs.Interface.{KeepsBuffer, TellsPath};
+ghost use Rattle.jsonb_c.specs.KeyParts.{kind_number, text_of_tree, FindsRange, IsBegun, IsCounted, IsFound, IsNextPart, IsPartStatus, IsTreeKey, IsWithinKey, IsWritten, LiesWithin, StandsBefore, WritesText};
 ghost use Rattle.jsonb_pointer.specs.Path.{IsPath, StartsKey};
 ghost use Rattle.jsonb_stored.specs.Checked.{IsSortKey};
 ghost use Rattle.jsonb_stored.specs.Found.{count_of, item_from, Finds, IsRange};
@@ -77,7 +77,7 @@ fn kind_number(kind: Option<Kind>) -> u32
 /// How many items the array of a sort key has, or members its object.
 #[unsafe(no_mangle)]
 pub extern "C" fn vizhoniku_key_count(key: &[u8], count: &mut usize) -> u32
-    ensures status { (result ≡ ACCEPTED) ⊎ (result ≡ NO_PART) ⊎ (result ≡ NO_KEY) }
+    ensures status { IsPartStatus result }
 
     // The number is that of the value's parts, and a scalar has none.
     ensures counted { (t : Tree) → IsTreeKey key.now t → IsCounted (count_of t) result count.new }
@@ -107,15 +107,8 @@ pub extern "C" fn vizhoniku_key_member(
     offset: &mut usize,
     size: &mut usize,
 ) -> u32
-    ensures status { (result ≡ ACCEPTED) ⊎ (result ≡ NO_PART) ⊎ (result ≡ NO_KEY) }
-
     // The range is that of the member of the name, and there is none where the value has none.
-    ensures found { (t : Tree) → IsTreeKey key.now t
-        → IsFound key.now (get_by_name name.now t) result offset.new size.new }
-
-    // Of any bytes the range lies within them, and it is empty where nothing is found.
-    ensures within { offset.new + size.new ≤ length key.now }
-    ensures no_range { result ≢ ACCEPTED → (offset.new ≡ 0) × (size.new ≡ 0) }
+    ensures finds { FindsRange key.now (get_by_name name.now) result offset.new size.new }
 {
     tell_range(key, find_member(key, name), offset, size)
 }
@@ -129,15 +122,8 @@ pub extern "C" fn vizhoniku_key_item(
     offset: &mut usize,
     size: &mut usize,
 ) -> u32
-    ensures status { (result ≡ ACCEPTED) ⊎ (result ≡ NO_PART) ⊎ (result ≡ NO_KEY) }
-
     // The range is that of the item of the index, and there is none where the value has none.
-    ensures found { (t : Tree) → IsTreeKey key.now t
-        → IsFound key.now (item_from index t) result offset.new size.new }
-
-    // Of any bytes the range lies within them, and it is empty where nothing is found.
-    ensures within { offset.new + size.new ≤ length key.now }
-    ensures no_range { result ≢ ACCEPTED → (offset.new ≡ 0) × (size.new ≡ 0) }
+    ensures finds { FindsRange key.now (item_from index) result offset.new size.new }
 {
     tell_range(key, find_item(key, index), offset, size)
 }
@@ -159,13 +145,9 @@ pub extern "C" fn vizhoniku_key_part(
         → (result ≡ OUT_OF_MEMORY) ⊎ IsFound key.now (part_at names t) result offset.new size.new }
 
     // What is wrong with a path is told, unless memory ran out.
-    ensures no_path { result ≡ NO_PATH → IsNoPath path.now }
-    ensures wrong_path { IsNoPath path.now → (result ≡ NO_PATH) ⊎ (result ≡ OUT_OF_MEMORY) }
+    ensures path { TellsPath path.now result }
     ensures memory { result ≡ OUT_OF_MEMORY → StartsKey path.now }
-
-    // Of any bytes the range lies within them, and it is empty where nothing is found.
-    ensures within { offset.new + size.new ≤ length key.now }
-    ensures no_range { result ≢ ACCEPTED → (offset.new ≡ 0) × (size.new ≡ 0) }
+    ensures within { IsWithinKey key.now result offset.new size.new }
 {
     if let Some(found) = find_plain_part(key, path) {
         return tell_range(key, found, offset, size);
@@ -192,11 +174,10 @@ fn tell_range(
     offset: &mut usize,
     size: &mut usize,
 ) -> u32
-    ensures status { (result ≡ ACCEPTED) ⊎ (result ≡ NO_PART) ⊎ (result ≡ NO_KEY) }
+    ensures status { IsPartStatus result }
     ensures found { (part : Option Tree) → Finds key.now part found.entry
         → IsFound key.now part result offset.new size.new }
-    ensures within { offset.new + size.new ≤ length key.now }
-    ensures no_range { result ≢ ACCEPTED → (offset.new ≡ 0) × (size.new ≡ 0) }
+    ensures within { IsWithinKey key.now result offset.new size.new }
 {
     match place(key, found) {
         Ok(Some((at, len))) => {
@@ -262,7 +243,7 @@ const NO_ENTRY: Entry = Entry {
 /// Puts the cursor before all items or members of a sort key.
 #[unsafe(no_mangle)]
 pub extern "C" fn vizhoniku_key_begin(key: &[u8], cursor: &mut Cursor) -> u32
-    ensures status { (result ≡ ACCEPTED) ⊎ (result ≡ NO_PART) ⊎ (result ≡ NO_KEY) }
+    ensures status { IsPartStatus result }
 
     // The cursor stands before all parts of the value, and a scalar has none.
     ensures begun { (t : Tree) → IsTreeKey key.now t → IsBegun key.now t result cursor.new }
@@ -297,15 +278,14 @@ fn kind_of_parts(object: bool) -> u32
 /// Tells where the item or the member stands at the cursor, and moves the cursor behind it.
 #[unsafe(no_mangle)]
 pub extern "C" fn vizhoniku_key_next(key: &[u8], cursor: &mut Cursor, entry: &mut Entry) -> u32
-    ensures status { (result ≡ ACCEPTED) ⊎ (result ≡ NO_PART) ⊎ (result ≡ NO_KEY) }
+    ensures status { IsPartStatus result }
 
     // The first part that is left is told, and the cursor stands before the others; or none is left.
     ensures next { (left : Open) → StandsBefore key.now cursor.old left
         → IsNextPart key.now left result entry.new cursor.new }
 
     // Of any bytes and any cursor the ranges lie within the bytes, and the cursor moves only where a part is told.
-    ensures name_within { entry.new.name_offset + entry.new.name_size ≤ length key.now }
-    ensures within { entry.new.offset + entry.new.size ≤ length key.now }
+    ensures within { LiesWithin key.now entry.new }
     ensures still { result ≢ ACCEPTED → (cursor.new ≡ cursor.old) × (entry.new ≡ NO_ENTRY) }
     ensures further { result ≡ ACCEPTED → cursor.old.offset < cursor.new.offset }
 {
@@ -332,9 +312,7 @@ fn next_entry(key: &[u8], cursor: Cursor) -> Result<Option<(Entry, Cursor)>, NoK
         → MatchResult result (λ answer. MatchOption answer
         ((entry : Entry) → (behind : Cursor) → IsNextPart key.now left NO_PART entry behind)
         (λ told. IsNextPart key.now left ACCEPTED told.0 told.1)) (λ e. ⊥) }
-    ensures name_within { IfOk result (λ answer. IfSome answer
-        (λ told. told.0.name_offset + told.0.name_size ≤ length key.now)) }
-    ensures within { IfOk result (λ answer. IfSome answer (λ told. told.0.offset + told.0.size ≤ length key.now)) }
+    ensures within { IfOk result (λ answer. IfSome answer (λ told. LiesWithin key.now told.0)) }
     ensures further { IfOk result (λ answer. IfSome answer (λ told. cursor.offset < told.1.offset)) }
 {
     if cursor.kind != ARRAY && cursor.kind != OBJECT {
@@ -369,8 +347,7 @@ pub extern "C" fn vizhoniku_key_string(key: &[u8], out: &mut [u8], size: &mut us
     // What is written is the text of the string, and a value of another kind has none.
     ensures written { (t : Tree) → IsTreeKey key.now t
         → IsWritten (text_of_tree t) result size.new out.old out.new }
-    ensures untouched { result ≢ ACCEPTED → out.new ≡ out.old }
-    ensures no_size { result ≢ ACCEPTED → result ≢ TOO_SHORT → size.new ≡ 0 }
+    ensures keeps { KeepsBuffer result size.new out.old out.new }
 {
     let kind = kind_number(kind_of(key));
     if kind == STRING {
@@ -385,11 +362,7 @@ pub extern "C" fn vizhoniku_key_string(key: &[u8], out: &mut [u8], size: &mut us
 
 // Writes the text of a string's key.
 fn write_string(key: &[u8], out: &mut [u8], size: &mut usize) -> u32
-    ensures status { (result ≡ ACCEPTED) ⊎ (result ≡ TOO_SHORT) ⊎ (result ≡ NO_KEY) }
-    ensures written { (text : List ℕ) → key.now ≡ kind.string ∷ text_key text
-        → IsWritten (Some text) result size.new out.old out.new }
-    ensures untouched { result ≢ ACCEPTED → out.new ≡ out.old }
-    ensures no_size { result ≢ ACCEPTED → result ≢ TOO_SHORT → size.new ≡ 0 }
+    ensures writes { WritesText (λ text. key.now ≡ kind.string ∷ text_key text) result size.new out.old out.new }
 {
     match text_of_string(key) {
         Some(text) => write_text(text, out, size),
@@ -404,24 +377,14 @@ fn write_string(key: &[u8], out: &mut [u8], size: &mut usize) -> u32
 /// `out` is too short, it stays as it is, and `size` is what is needed.
 #[unsafe(no_mangle)]
 pub extern "C" fn vizhoniku_key_name(name: &[u8], out: &mut [u8], size: &mut usize) -> u32
-    ensures status { (result ≡ ACCEPTED) ⊎ (result ≡ TOO_SHORT) ⊎ (result ≡ NO_KEY) }
-
-    // What is written is the text of the name.
-    ensures written { (text : List ℕ) → name.now ≡ text_key text
-        → IsWritten (Some text) result size.new out.old out.new }
-    ensures untouched { result ≢ ACCEPTED → out.new ≡ out.old }
-    ensures no_size { result ≢ ACCEPTED → result ≢ TOO_SHORT → size.new ≡ 0 }
+    ensures writes { WritesText (λ text. name.now ≡ text_key text) result size.new out.old out.new }
 {
     write_text(name, out, size)
 }
 
 // Writes the text whose key this is. One without zeros stands in the key as it is.
 fn write_text(key: &[u8], out: &mut [u8], size: &mut usize) -> u32
-    ensures status { (result ≡ ACCEPTED) ⊎ (result ≡ TOO_SHORT) ⊎ (result ≡ NO_KEY) }
-    ensures written { (text : List ℕ) → key.now ≡ text_key text
-        → IsWritten (Some text) result size.new out.old out.new }
-    ensures untouched { result ≢ ACCEPTED → out.new ≡ out.old }
-    ensures no_size { result ≢ ACCEPTED → result ≢ TOO_SHORT → size.new ≡ 0 }
+    ensures writes { WritesText (λ text. key.now ≡ text_key text) result size.new out.old out.new }
 {
     if let Some(text) = plain_text(key) {
         *size = text.len();

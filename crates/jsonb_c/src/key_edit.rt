@@ -2,10 +2,10 @@
 //!
 //! Any bytes are safe to pass. What a call writes is promised for the keys of values of JSON's kinds with at most 512
 //! nested arrays and objects; of other bytes it may be `NO_KEY` or any bytes.
-ghost use Rattle.std.specs.Prelude.{◌≡◌, ◌≢◌, ◌↔◌, ◌⊎◌, ◌==◌, IsUtf8, ℕ, List, [], not, map, string_bytes, Option, Some, Vec};
+ghost use Rattle.std.specs.Prelude.{◌≡◌, ◌↔◌, ◌⊎◌, ◌==◌, IsUtf8, ℕ, List, [], not, map, string_bytes, Option, Some, Vec};
 ghost use Rattle.std.specs.declared.alloc.Global.{Global as GlobalAlloc};
-ghost use Rattle.jsonb_c.specs.Interface.{IsNoPath};
-ghost use Rattle.jsonb_c.specs.KeyEdit.{edit_status_of, IsEdited};
+ghost use Rattle.jsonb_c.specs.Interface.{KeepsBuffer, TellsPath};
+ghost use Rattle.jsonb_c.specs.KeyEdit.{edit_status_of, IsEdited, IsEditStatus};
 ghost use Rattle.jsonb_c.specs.KeyParts.{IsTreeKey};
 ghost use Rattle.jsonb_pointer.specs.Path.{IsPath};
 ghost use Rattle.jsonb_spec.specs.Tree.{Tree};
@@ -32,8 +32,7 @@ pub extern "C" fn vizhoniku_key_set(
     out: &mut [u8],
     size: &mut usize,
 ) -> u32
-    ensures status { (result ≡ ACCEPTED) ⊎ (result ≡ OUT_OF_MEMORY) ⊎ (result ≡ TOO_SHORT) ⊎ (result ≡ NO_PART)
-        ⊎ (result ≡ NO_PATH) ⊎ (result ≡ NO_KEY) ⊎ (result ≡ TOO_DEEP) }
+    ensures status { (result ≡ NO_PATH) ⊎ IsEditStatus result }
 
     // What is written is the key of the value with the part; or there is no such place, or it would be too deep.
     ensures written { (t : Tree) → IsTreeKey key.now t → (u : Tree) → IsTreeKey part.now u → (names : List (List ℕ))
@@ -41,10 +40,8 @@ pub extern "C" fn vizhoniku_key_set(
         ⊎ IsEdited (with_part names u (not (create == 0)) t) result size.new out.old out.new }
 
     // What is wrong with a path is told, unless memory ran out.
-    ensures no_path { result ≡ NO_PATH → IsNoPath path.now }
-    ensures wrong_path { IsNoPath path.now → (result ≡ NO_PATH) ⊎ (result ≡ OUT_OF_MEMORY) }
-    ensures untouched { result ≢ ACCEPTED → out.new ≡ out.old }
-    ensures no_size { result ≢ ACCEPTED → result ≢ TOO_SHORT → size.new ≡ 0 }
+    ensures path { TellsPath path.now result }
+    ensures keeps { KeepsBuffer result size.new out.old out.new }
 {
     match read_keys(alloc, path) {
         Ok(Some(names)) => set_part(alloc, key, &names, part, create != 0, out, size),
@@ -69,12 +66,10 @@ fn set_part(
     out: &mut [u8],
     size: &mut usize,
 ) -> u32
-    ensures status { (result ≡ ACCEPTED) ⊎ (result ≡ OUT_OF_MEMORY) ⊎ (result ≡ TOO_SHORT) ⊎ (result ≡ NO_PART)
-        ⊎ (result ≡ NO_KEY) ⊎ (result ≡ TOO_DEEP) }
+    ensures status { IsEditStatus result }
     ensures written { (t : Tree) → IsTreeKey key.now t → (u : Tree) → IsTreeKey part.now u → (result ≡ OUT_OF_MEMORY)
         ⊎ IsEdited (with_part (map string_bytes names.now) u create t) result size.new out.old out.new }
-    ensures untouched { result ≢ ACCEPTED → out.new ≡ out.old }
-    ensures no_size { result ≢ ACCEPTED → result ≢ TOO_SHORT → size.new ≡ 0 }
+    ensures keeps { KeepsBuffer result size.new out.old out.new }
 {
     let mut bytes = Vec::new(alloc);
     let told = append_with_part(&mut bytes, key, names, part, create);
@@ -91,18 +86,15 @@ pub extern "C" fn vizhoniku_key_remove(
     out: &mut [u8],
     size: &mut usize,
 ) -> u32
-    ensures status { (result ≡ ACCEPTED) ⊎ (result ≡ OUT_OF_MEMORY) ⊎ (result ≡ TOO_SHORT) ⊎ (result ≡ NO_PART)
-        ⊎ (result ≡ NO_PATH) ⊎ (result ≡ NO_KEY) ⊎ (result ≡ TOO_DEEP) }
+    ensures status { (result ≡ NO_PATH) ⊎ IsEditStatus result }
 
     // What is written is the key of the value without the part; or there is no such part.
     ensures written { (t : Tree) → IsTreeKey key.now t → (names : List (List ℕ)) → IsPath path.now names
         → (result ≡ OUT_OF_MEMORY) ⊎ IsEdited (without_part names t) result size.new out.old out.new }
 
     // What is wrong with a path is told, unless memory ran out.
-    ensures no_path { result ≡ NO_PATH → IsNoPath path.now }
-    ensures wrong_path { IsNoPath path.now → (result ≡ NO_PATH) ⊎ (result ≡ OUT_OF_MEMORY) }
-    ensures untouched { result ≢ ACCEPTED → out.new ≡ out.old }
-    ensures no_size { result ≢ ACCEPTED → result ≢ TOO_SHORT → size.new ≡ 0 }
+    ensures path { TellsPath path.now result }
+    ensures keeps { KeepsBuffer result size.new out.old out.new }
 {
     match read_keys(alloc, path) {
         Ok(Some(names)) => remove_part(alloc, key, &names, out, size),
@@ -119,12 +111,10 @@ pub extern "C" fn vizhoniku_key_remove(
 
 // Writes the key without the part at the path of these names.
 fn remove_part(alloc: Global, key: &[u8], names: &[String], out: &mut [u8], size: &mut usize) -> u32
-    ensures status { (result ≡ ACCEPTED) ⊎ (result ≡ OUT_OF_MEMORY) ⊎ (result ≡ TOO_SHORT) ⊎ (result ≡ NO_PART)
-        ⊎ (result ≡ NO_KEY) ⊎ (result ≡ TOO_DEEP) }
+    ensures status { IsEditStatus result }
     ensures written { (t : Tree) → IsTreeKey key.now t → (result ≡ OUT_OF_MEMORY)
         ⊎ IsEdited (without_part (map string_bytes names.now) t) result size.new out.old out.new }
-    ensures untouched { result ≢ ACCEPTED → out.new ≡ out.old }
-    ensures no_size { result ≢ ACCEPTED → result ≢ TOO_SHORT → size.new ≡ 0 }
+    ensures keeps { KeepsBuffer result size.new out.old out.new }
 {
     let mut bytes = Vec::new(alloc);
     let told = append_without_part(&mut bytes, key, names);
@@ -143,15 +133,13 @@ pub extern "C" fn vizhoniku_key_put(
     out: &mut [u8],
     size: &mut usize,
 ) -> u32
-    ensures status { (result ≡ ACCEPTED) ⊎ (result ≡ OUT_OF_MEMORY) ⊎ (result ≡ TOO_SHORT) ⊎ (result ≡ NO_PART)
-        ⊎ (result ≡ NO_PATH) ⊎ (result ≡ NO_KEY) ⊎ (result ≡ TOO_DEEP) }
+    ensures status { (result ≡ NO_PATH) ⊎ IsEditStatus result }
 
     // What is written is the key of the object with the member; or the value is none, or would be too deep.
     ensures written { IsUtf8 name.now → (t : Tree) → IsTreeKey key.now t → (u : Tree) → IsTreeKey value.now u
         → (result ≡ OUT_OF_MEMORY) ⊎ IsEdited (with_member name.now u t) result size.new out.old out.new }
     ensures no_path { result ≡ NO_PATH ↔ (IsUtf8 name.now → ⊥) }
-    ensures untouched { result ≢ ACCEPTED → out.new ≡ out.old }
-    ensures no_size { result ≢ ACCEPTED → result ≢ TOO_SHORT → size.new ≡ 0 }
+    ensures keeps { KeepsBuffer result size.new out.old out.new }
 {
     let Ok(name) = str::from_utf8(name) else {
         *size = 0;
@@ -172,14 +160,12 @@ pub extern "C" fn vizhoniku_key_push(
     out: &mut [u8],
     size: &mut usize,
 ) -> u32
-    ensures status { (result ≡ ACCEPTED) ⊎ (result ≡ OUT_OF_MEMORY) ⊎ (result ≡ TOO_SHORT) ⊎ (result ≡ NO_PART)
-        ⊎ (result ≡ NO_KEY) ⊎ (result ≡ TOO_DEEP) }
+    ensures status { IsEditStatus result }
 
     // What is written is the key of the array with the item; or the value is none, or would be too deep.
     ensures written { (t : Tree) → IsTreeKey key.now t → (u : Tree) → IsTreeKey item.now u
         → (result ≡ OUT_OF_MEMORY) ⊎ IsEdited (with_item u t) result size.new out.old out.new }
-    ensures untouched { result ≢ ACCEPTED → out.new ≡ out.old }
-    ensures no_size { result ≢ ACCEPTED → result ≢ TOO_SHORT → size.new ≡ 0 }
+    ensures keeps { KeepsBuffer result size.new out.old out.new }
 {
     let mut bytes = Vec::new(alloc);
     let told = append_with_item(&mut bytes, key, item);
@@ -197,14 +183,12 @@ pub extern "C" fn vizhoniku_key_merge(
     out: &mut [u8],
     size: &mut usize,
 ) -> u32
-    ensures status { (result ≡ ACCEPTED) ⊎ (result ≡ OUT_OF_MEMORY) ⊎ (result ≡ TOO_SHORT) ⊎ (result ≡ NO_PART)
-        ⊎ (result ≡ NO_KEY) ⊎ (result ≡ TOO_DEEP) }
+    ensures status { IsEditStatus result }
 
     // What is written is the key of both values in one; or it would be too deep.
     ensures written { (t : Tree) → IsTreeKey left.now t → (u : Tree) → IsTreeKey right.now u
         → (result ≡ OUT_OF_MEMORY) ⊎ IsEdited (Some (merge t u)) result size.new out.old out.new }
-    ensures untouched { result ≢ ACCEPTED → out.new ≡ out.old }
-    ensures no_size { result ≢ ACCEPTED → result ≢ TOO_SHORT → size.new ≡ 0 }
+    ensures keeps { KeepsBuffer result size.new out.old out.new }
 {
     let mut bytes = Vec::new(alloc);
     let told = edit_result(append_merged(&mut bytes, left, right));
@@ -223,13 +207,11 @@ fn edit_result(told: Result<(), EditError>) -> Result<bool, EditError>
 
 // Writes the bytes that were appended, and gives the status of what was told.
 fn tell_key(told: Result<bool, EditError>, bytes: &[u8], out: &mut [u8], size: &mut usize) -> u32
-    ensures status { (result ≡ ACCEPTED) ⊎ (result ≡ OUT_OF_MEMORY) ⊎ (result ≡ TOO_SHORT) ⊎ (result ≡ NO_PART)
-        ⊎ (result ≡ NO_KEY) ⊎ (result ≡ TOO_DEEP) }
+    ensures status { IsEditStatus result }
     ensures written { (answer : Option Tree) → (old new : Vec ℕ GlobalAlloc) → old.items ≡ [] → new.items ≡ bytes.now
         → Edits answer told old new
         → (result ≡ OUT_OF_MEMORY) ⊎ IsEdited answer result size.new out.old out.new }
-    ensures untouched { result ≢ ACCEPTED → out.new ≡ out.old }
-    ensures no_size { result ≢ ACCEPTED → result ≢ TOO_SHORT → size.new ≡ 0 }
+    ensures keeps { KeepsBuffer result size.new out.old out.new }
 {
     match told {
         Ok(true) => {

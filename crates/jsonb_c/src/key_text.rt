@@ -1,6 +1,6 @@
 //! The text of a value from its sort key.
-ghost use Rattle.std.specs.Prelude.{◌≡◌, ◌≢◌, ◌≤◌, ◌⊎◌};
-ghost use Rattle.jsonb_c.specs.Interface.{NeedsRoom, Writes};
+ghost use Rattle.std.specs.Prelude.{◌≡◌, ◌⊎◌};
+ghost use Rattle.jsonb_c.specs.Interface.{FillsBuffer};
 ghost use Rattle.jsonb_c.specs.KeyText.{IsNoKey, IsTextOfKey, key_status_of};
 
 use crate::{ACCEPTED, NO_KEY, OUT_OF_MEMORY, TOO_SHORT, put};
@@ -21,10 +21,7 @@ pub extern "C" fn vizhoniku_key_text(
 
     // What is written of a key is the text of the value with the fewest digits that has it, and no other byte of the
     // buffer changes.
-    ensures written { result ≡ ACCEPTED → Writes (IsTextOfKey key.now) size.new out.old out.new }
-    ensures short { result ≡ TOO_SHORT → NeedsRoom (IsTextOfKey key.now) size.new out.old }
-    ensures untouched { result ≢ ACCEPTED → out.new ≡ out.old }
-    ensures no_size { result ≢ ACCEPTED → result ≢ TOO_SHORT → size.new ≡ 0 }
+    ensures fills { FillsBuffer (IsTextOfKey key.now) ACCEPTED result size.new out.old out.new }
 
     // A key is never told to be none.
     ensures no_key { result ≡ NO_KEY → IsNoKey key.now }

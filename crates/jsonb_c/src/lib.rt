@@ -6,7 +6,7 @@
 //! overlap any other argument. Each call writes to each `&mut` but the buffer.
 #![tactic(auto)]
 
-ghost use Rattle.std.specs.Prelude.{◌≡◌, ◌≢◌, ◌↔◌, ◌⊎◌, ℕ, List, [], ◌<◌, ◌≤◌, ◌++◌, min, length, drop, map, pos, string_bytes, MatchOption, IfOk, IfErr, IfNone, IfSome, OnOk, Err};
+ghost use Rattle.std.specs.Prelude.{◌≡◌, ◌≢◌, ◌⊎◌, ℕ, List, [], ◌<◌, ◌≤◌, ◌++◌, min, length, drop, map, pos, string_bytes, MatchOption, IfOk, IfNone, IfSome, OnOk};
 ghost use Rattle.jsonb_spec.specs.Code.{Code};
 ghost use Rattle.jsonb_value.specs.Error.CodeView.{code_of};
 ghost use Rattle.jsonb_value.specs.Error.ErrorText.{error_text};
@@ -15,8 +15,8 @@ ghost use Rattle.jsonb_value.specs.View.{view};
 ghost use Rattle.jsonb_spec.specs.Line.{column_at, fault_index, line_at};
 ghost use Rattle.jsonb_scan.specs.Answer.{mode_of, MayAllocate, IsTextError};
 ghost use Rattle.jsonb.specs.Parses.{Parses};
-ghost use Rattle.jsonb_pointer.specs.Path.{IsPath, StartsKey};
-ghost use Rattle.jsonb_c.specs.Interface.{NumberChooses, code_number, nothing, sign, status_of, refusal_of, HasNoPartAt, HasPartAt, IsAccepted, IsNoDocumentOf, IsNoPath, IsOneRejected, IsOrdered, IsDocumentOf, IsKeyOf, IsMessageOf, IsPartAnswer, IsReason, IsRejected, IsTextOf, NeedsRoom, NeedsRoomForBoth, SaysError, IsPartOf, Writes};
+ghost use Rattle.jsonb_pointer.specs.Path.{IsPath};
+ghost use Rattle.jsonb_c.specs.Interface.{NumberChooses, code_number, nothing, sign, status_of, refusal_of, AcceptsDocuments, EitherMayAllocate, FailsFor, FillsBuffer, FormMayAllocate, HasNoPartAt, HasPartAt, IsAccepted, IsNoDocumentOf, IsNoPath, IsOneRejected, IsOrdered, IsDocumentOf, IsKeyOf, IsMessageOf, IsPartAnswer, IsPartOf, IsRejected, IsStatus, IsStatusOfForm, IsTextOf, NeedsRoomForBoth, OrdersTexts, PartMayAllocate, SaysError, Tells, Writes};
 
 use jsonb::{
     Error, Mode, ParseErrorCode, Value, append_part, append_sort_key, append_text, check,
@@ -105,17 +105,14 @@ pub extern "C" fn vizhoniku_check(
     text: &[u8],
     refusal: &mut Refusal,
 ) -> u32
-    ensures status { result ≤ UNKNOWN_MODE }
-    ensures mode { result ≡ UNKNOWN_MODE ↔ (1 < mode) }
+    ensures status { IsStatus mode UNKNOWN_MODE result }
 
     // A document is accepted, and nothing else, unless memory ran out.
-    ensures document { result ≡ ACCEPTED → IsAccepted mode text.now }
-    ensures accepted { IsAccepted mode text.now → (result ≡ ACCEPTED) ⊎ (result ≡ OUT_OF_MEMORY) }
+    ensures accepts { AcceptsDocuments mode text.now result }
     ensures memory { result ≡ OUT_OF_MEMORY → MayAllocate text.now }
 
     // Which fault it is, and where.
-    ensures rejected { result ≡ REFUSED → IsRejected mode text.now 1 refusal.new }
-    ensures nothing { result ≢ REFUSED → refusal.new ≡ nothing }
+    ensures tells { Tells (IsRejected mode text.now 1) result refusal.new }
 {
     match check_text(alloc, mode, text) {
         Ok(()) => {
@@ -137,23 +134,14 @@ pub extern "C" fn vizhoniku_text(
     size: &mut usize,
     refusal: &mut Refusal,
 ) -> u32
-    ensures status { result ≤ TOO_SHORT }
-    ensures mode { result ≡ UNKNOWN_MODE ↔ (1 < mode) }
+    // A document is accepted, unless memory ran out.
+    ensures status { IsStatusOfForm mode text.now result }
 
     // What is written is the text of the document's tree, and no other byte of the buffer changes.
-    ensures written { result ≡ ACCEPTED → Writes (IsTextOf mode text.now) size.new out.old out.new }
-    ensures short { result ≡ TOO_SHORT → NeedsRoom (IsTextOf mode text.now) size.new out.old }
-    ensures untouched { result ≢ ACCEPTED → out.new ≡ out.old }
-    ensures no_size { result ≢ ACCEPTED → result ≢ TOO_SHORT → size.new ≡ 0 }
-
-    // A document is accepted, unless memory ran out.
-    ensures accepted { IsAccepted mode text.now
-        → (result ≡ ACCEPTED) ⊎ (result ≡ TOO_SHORT) ⊎ (result ≡ OUT_OF_MEMORY) }
-    ensures memory { result ≡ OUT_OF_MEMORY → MayAllocate text.now ⊎ IsAccepted mode text.now }
+    ensures fills { FillsBuffer (IsTextOf mode text.now) ACCEPTED result size.new out.old out.new }
 
     // Which fault it is, and where.
-    ensures rejected { result ≡ REFUSED → IsRejected mode text.now 1 refusal.new }
-    ensures nothing { result ≢ REFUSED → refusal.new ≡ nothing }
+    ensures tells { Tells (IsRejected mode text.now 1) result refusal.new }
 {
     match text_of(alloc, mode, text) {
         Ok(bytes) => {
@@ -179,24 +167,15 @@ pub extern "C" fn vizhoniku_sort_key(
     size: &mut usize,
     refusal: &mut Refusal,
 ) -> u32
-    ensures status { result ≤ TOO_SHORT }
-    ensures mode { result ≡ UNKNOWN_MODE ↔ (1 < mode) }
+    // A document is accepted, unless memory ran out.
+    ensures status { IsStatusOfForm mode text.now result }
 
     // What is written is the key of the document's tree, which compares with each other document's key as the trees
     // do, and no other byte of the buffer changes.
-    ensures written { result ≡ ACCEPTED → Writes (IsKeyOf mode text.now) size.new out.old out.new }
-    ensures short { result ≡ TOO_SHORT → NeedsRoom (IsKeyOf mode text.now) size.new out.old }
-    ensures untouched { result ≢ ACCEPTED → out.new ≡ out.old }
-    ensures no_size { result ≢ ACCEPTED → result ≢ TOO_SHORT → size.new ≡ 0 }
-
-    // A document is accepted, unless memory ran out.
-    ensures accepted { IsAccepted mode text.now
-        → (result ≡ ACCEPTED) ⊎ (result ≡ TOO_SHORT) ⊎ (result ≡ OUT_OF_MEMORY) }
-    ensures memory { result ≡ OUT_OF_MEMORY → MayAllocate text.now ⊎ IsAccepted mode text.now }
+    ensures fills { FillsBuffer (IsKeyOf mode text.now) ACCEPTED result size.new out.old out.new }
 
     // Which fault it is, and where.
-    ensures rejected { result ≡ REFUSED → IsRejected mode text.now 1 refusal.new }
-    ensures nothing { result ≢ REFUSED → refusal.new ≡ nothing }
+    ensures tells { Tells (IsRejected mode text.now 1) result refusal.new }
 {
     match sort_key_of(alloc, mode, text, 1) {
         Ok(bytes) => {
@@ -224,8 +203,8 @@ pub extern "C" fn vizhoniku_text_and_key(
     key_size: &mut usize,
     refusal: &mut Refusal,
 ) -> u32
-    ensures status { result ≤ TOO_SHORT }
-    ensures mode { result ≡ UNKNOWN_MODE ↔ (1 < mode) }
+    // A document is accepted, unless memory ran out.
+    ensures status { IsStatusOfForm mode text.now result }
 
     // What is written is what `vizhoniku_text` and `vizhoniku_sort_key` write, and no other byte changes.
     ensures written { result ≡ ACCEPTED → Writes (IsTextOf mode text.now) size.new out.old out.new }
@@ -235,14 +214,8 @@ pub extern "C" fn vizhoniku_text_and_key(
     ensures untouched { result ≢ ACCEPTED → (out.new ≡ out.old) × (key_out.new ≡ key_out.old) }
     ensures no_size { result ≢ ACCEPTED → result ≢ TOO_SHORT → (size.new ≡ 0) × (key_size.new ≡ 0) }
 
-    // A document is accepted, unless memory ran out.
-    ensures accepted { IsAccepted mode text.now
-        → (result ≡ ACCEPTED) ⊎ (result ≡ TOO_SHORT) ⊎ (result ≡ OUT_OF_MEMORY) }
-    ensures memory { result ≡ OUT_OF_MEMORY → MayAllocate text.now ⊎ IsAccepted mode text.now }
-
     // Which fault it is, and where.
-    ensures rejected { result ≡ REFUSED → IsRejected mode text.now 1 refusal.new }
-    ensures nothing { result ≢ REFUSED → refusal.new ≡ nothing }
+    ensures tells { Tells (IsRejected mode text.now 1) result refusal.new }
 {
     match text_and_key_of(alloc, mode, text) {
         Ok(both) => {
@@ -270,8 +243,7 @@ pub extern "C" fn vizhoniku_compare(
     order: &mut i32,
     refusal: &mut Refusal,
 ) -> u32
-    ensures status { result ≤ UNKNOWN_MODE }
-    ensures mode { result ≡ UNKNOWN_MODE ↔ (1 < mode) }
+    ensures status { IsStatus mode UNKNOWN_MODE result }
 
     // The order is that of the trees of two documents.
     ensures ordered { result ≡ ACCEPTED → IsOrdered mode left.now right.now order.new }
@@ -284,12 +256,10 @@ pub extern "C" fn vizhoniku_compare(
     // Two documents are accepted, unless memory ran out.
     ensures accepted { IsAccepted mode left.now → IsAccepted mode right.now
         → (result ≡ ACCEPTED) ⊎ (result ≡ OUT_OF_MEMORY) }
-    ensures memory { result ≡ OUT_OF_MEMORY → MayAllocate left.now
-        ⊎ (IsAccepted mode left.now × MayAllocate right.now) }
+    ensures memory { result ≡ OUT_OF_MEMORY → EitherMayAllocate mode left.now right.now }
 
     // Which of the two it is that is rejected, which fault, and where.
-    ensures rejected { result ≡ REFUSED → IsOneRejected mode left.now right.now refusal.new }
-    ensures nothing { result ≢ REFUSED → refusal.new ≡ nothing }
+    ensures tells { Tells (IsOneRejected mode left.now right.now) result refusal.new }
 {
     match order_of(alloc, mode, left, right) {
         Ok(is) => {
@@ -316,14 +286,10 @@ pub extern "C" fn vizhoniku_part(
     size: &mut usize,
     refusal: &mut Refusal,
 ) -> u32
-    ensures status { result ≤ NO_PATH }
-    ensures mode { result ≡ UNKNOWN_MODE ↔ (1 < mode) }
+    ensures status { IsStatus mode NO_PATH result }
 
     // What is written is the text of the part of the document's tree, and no other byte of the buffer changes.
-    ensures written { result ≡ ACCEPTED → Writes (IsPartOf mode path.now text.now) size.new out.old out.new }
-    ensures short { result ≡ TOO_SHORT → NeedsRoom (IsPartOf mode path.now text.now) size.new out.old }
-    ensures untouched { result ≢ ACCEPTED → out.new ≡ out.old }
-    ensures no_size { result ≢ ACCEPTED → result ≢ TOO_SHORT → size.new ≡ 0 }
+    ensures fills { FillsBuffer (IsPartOf mode path.now text.now) ACCEPTED result size.new out.old out.new }
 
     // The document has no such part, or the path is none.
     ensures no_part { result ≡ NO_PART → HasNoPartAt mode path.now text.now }
@@ -334,13 +300,10 @@ pub extern "C" fn vizhoniku_part(
         → (result ≡ ACCEPTED) ⊎ (result ≡ TOO_SHORT) ⊎ (result ≡ OUT_OF_MEMORY) }
     ensures nothing_there { HasNoPartAt mode path.now text.now → (result ≡ NO_PART) ⊎ (result ≡ OUT_OF_MEMORY) }
     ensures wrong_path { IsAccepted mode text.now → IsNoPath path.now → (result ≡ NO_PATH) ⊎ (result ≡ OUT_OF_MEMORY) }
-    ensures memory { result ≡ OUT_OF_MEMORY → MayAllocate text.now
-        ⊎ (IsAccepted mode text.now × StartsKey path.now)
-        ⊎ HasPartAt mode path.now text.now }
+    ensures memory { result ≡ OUT_OF_MEMORY → PartMayAllocate mode path.now text.now }
 
     // Which fault it is, and where.
-    ensures rejected { result ≡ REFUSED → IsRejected mode text.now 1 refusal.new }
-    ensures nothing { result ≢ REFUSED → refusal.new ≡ nothing }
+    ensures tells { Tells (IsRejected mode text.now 1) result refusal.new }
 {
     match part_of(alloc, mode, path, text) {
         Ok(Part::Text(bytes)) => {
@@ -377,10 +340,7 @@ enum Part {
 fn part_of(alloc: Global, mode: u32, path: &[u8], text: &[u8]) -> Result<Part, Failure>
     ensures part { IfOk result (IsPartAnswer mode path.now text.now) }
     ensures known { IfOk result (λ _. mode ≤ 1) }
-    ensures memory { result ≡ Err Failure.OutOfMemory → MayAllocate text.now
-        ⊎ (IsAccepted mode text.now × StartsKey path.now)
-        ⊎ HasPartAt mode path.now text.now }
-    ensures reason { IfErr result (IsReason mode (IsRejected mode text.now 1)) }
+    ensures fails { FailsFor mode (IsRejected mode text.now 1) (PartMayAllocate mode path.now text.now) result }
 {
     match read_keys(alloc, path) {
         Ok(Some(keys)) => part_at_keys(alloc, mode, &keys, text),
@@ -400,8 +360,7 @@ fn part_at_keys(alloc: Global, mode: u32, keys: &[String], text: &[u8]) -> Resul
     ensures part { IfOk result (λ part. (path : List ℕ) → IsPath path (map string_bytes keys.now)
         → IsPartAnswer mode path text.now part) }
     ensures known { IfOk result (λ _. mode ≤ 1) }
-    ensures memory { result ≡ Err Failure.OutOfMemory → MayAllocate text.now ⊎ IsAccepted mode text.now }
-    ensures reason { IfErr result (IsReason mode (IsRejected mode text.now 1)) }
+    ensures fails { FailsFor mode (IsRejected mode text.now 1) (FormMayAllocate mode text.now) result }
 {
     let Some(mode) = choose_mode(mode) else {
         return Err(Failure::UnknownMode);
@@ -491,19 +450,14 @@ pub extern "C" fn vizhoniku_message(
     out: &mut [u8],
     size: &mut usize,
 ) -> u32
-    ensures status { result ≤ TOO_SHORT }
-    ensures mode { result ≡ UNKNOWN_MODE ↔ (1 < mode) }
+    ensures status { IsStatus mode TOO_SHORT result }
 
     // A document is accepted, and nothing else, unless memory ran out.
-    ensures document { result ≡ ACCEPTED → IsAccepted mode text.now }
-    ensures accepted { IsAccepted mode text.now → (result ≡ ACCEPTED) ⊎ (result ≡ OUT_OF_MEMORY) }
+    ensures accepts { AcceptsDocuments mode text.now result }
     ensures memory { result ≡ OUT_OF_MEMORY → MayAllocate text.now ⊎ IsNoDocumentOf mode text.now }
 
     // What is written is the message of the fault that reading meets, and no other byte of the buffer changes.
-    ensures written { result ≡ REFUSED → Writes (IsMessageOf mode text.now) size.new out.old out.new }
-    ensures short { result ≡ TOO_SHORT → NeedsRoom (IsMessageOf mode text.now) size.new out.old }
-    ensures untouched { result ≢ REFUSED → out.new ≡ out.old }
-    ensures no_size { result ≢ REFUSED → result ≢ TOO_SHORT → size.new ≡ 0 }
+    ensures fills { FillsBuffer (IsMessageOf mode text.now) REFUSED result size.new out.old out.new }
 {
     match message_of(alloc, mode, text) {
         Ok(Some(message)) => {
@@ -529,8 +483,7 @@ pub extern "C" fn vizhoniku_message(
 fn message_of(alloc: Global, mode: u32, text: &[u8]) -> Result<Option<String>, Failure>
     ensures message { IfOk result (λ answer. MatchOption answer (IsAccepted mode text.now)
         (λ message. IsMessageOf mode text.now (string_bytes message))) }
-    ensures reason { IfErr result (IsReason mode (λ _. ⊥)) }
-    ensures memory { result ≡ Err Failure.OutOfMemory → MayAllocate text.now ⊎ IsNoDocumentOf mode text.now }
+    ensures fails { FailsFor mode (λ _. ⊥) (MayAllocate text.now ⊎ IsNoDocumentOf mode text.now) result }
 {
     let Some(mode) = choose_mode(mode) else {
         return Err(Failure::UnknownMode);
@@ -590,10 +543,7 @@ fn tell(rejected: Failure, refusal: &mut Refusal) -> u32
 
 // The order of the values of two texts. Where neither may take memory they are scalars, whose values are compared.
 fn order_of(alloc: Global, mode: u32, left: &[u8], right: &[u8]) -> Result<Ordering, Failure>
-    ensures ordered { IfOk result (λ order. IsOrdered mode left.now right.now (sign order)) }
-    ensures reason { IfErr result (IsReason mode (IsOneRejected mode left.now right.now)) }
-    ensures memory { result ≡ Err Failure.OutOfMemory → MayAllocate left.now
-        ⊎ (IsAccepted mode left.now × MayAllocate right.now) }
+    ensures orders { OrdersTexts mode left.now right.now result }
 {
     if may_allocate(left) || may_allocate(right) {
         return order_of_keys(alloc, mode, left, right);
@@ -608,10 +558,7 @@ fn order_of_scalars(
     left: &[u8],
     right: &[u8],
 ) -> Result<Ordering, Failure>
-    ensures ordered { IfOk result (λ order. IsOrdered mode left.now right.now (sign order)) }
-    ensures reason { IfErr result (IsReason mode (IsOneRejected mode left.now right.now)) }
-    ensures memory { result ≡ Err Failure.OutOfMemory → MayAllocate left.now
-        ⊎ (IsAccepted mode left.now × MayAllocate right.now) }
+    ensures orders { OrdersTexts mode left.now right.now result }
 {
     let first = value_of(alloc, mode, left, 1)?;
     let second = value_of(alloc, mode, right, 2)?;
@@ -621,10 +568,7 @@ fn order_of_scalars(
 // The order of the values of two texts by the bytes of their sort keys.
 fn order_of_keys(alloc: Global, mode: u32, left: &[u8], right: &[u8]) -> Result<Ordering, Failure>
     requires { MayAllocate left.now ⊎ MayAllocate right.now }
-    ensures ordered { IfOk result (λ order. IsOrdered mode left.now right.now (sign order)) }
-    ensures reason { IfErr result (IsReason mode (IsOneRejected mode left.now right.now)) }
-    ensures memory { result ≡ Err Failure.OutOfMemory → MayAllocate left.now
-        ⊎ (IsAccepted mode left.now × MayAllocate right.now) }
+    ensures orders { OrdersTexts mode left.now right.now result }
 {
     let first = sort_key_of(alloc, mode, left, 1)?;
     let second = sort_key_of(alloc, mode, right, 2)?;
@@ -684,8 +628,7 @@ struct TextAndKey {
 fn text_and_key_of(alloc: Global, mode: u32, text: &[u8]) -> Result<TextAndKey, Failure>
     ensures text { IfOk result (λ both. IsTextOf mode text.now both.text.items) }
     ensures key { IfOk result (λ both. IsKeyOf mode text.now both.key.items) }
-    ensures reason { IfErr result (IsReason mode (IsRejected mode text.now 1)) }
-    ensures memory { result ≡ Err Failure.OutOfMemory → MayAllocate text.now ⊎ IsAccepted mode text.now }
+    ensures fails { FailsFor mode (IsRejected mode text.now 1) (FormMayAllocate mode text.now) result }
 {
     let bytes = text_of(alloc, mode, text)?;
     let key = sort_key_of(alloc, mode, &bytes, 1)?;
@@ -695,8 +638,7 @@ fn text_and_key_of(alloc: Global, mode: u32, text: &[u8]) -> Result<TextAndKey, 
 // The text of the value of a text.
 fn text_of(alloc: Global, mode: u32, text: &[u8]) -> Result<Vec<u8>, Failure>
     ensures text { IfOk result (λ bytes. IsTextOf mode text.now bytes.items) }
-    ensures reason { IfErr result (IsReason mode (IsRejected mode text.now 1)) }
-    ensures memory { result ≡ Err Failure.OutOfMemory → MayAllocate text.now ⊎ IsAccepted mode text.now }
+    ensures fails { FailsFor mode (IsRejected mode text.now 1) (FormMayAllocate mode text.now) result }
 {
     let Some(mode) = choose_mode(mode) else {
         return Err(Failure::UnknownMode);
@@ -711,8 +653,7 @@ fn text_of(alloc: Global, mode: u32, text: &[u8]) -> Result<Vec<u8>, Failure>
 // The sort key of the value of a text, which is the first or the second of those that a call is given.
 fn sort_key_of(alloc: Global, mode: u32, text: &[u8], which: u32) -> Result<Vec<u8>, Failure>
     ensures key { IfOk result (λ bytes. IsKeyOf mode text.now bytes.items) }
-    ensures reason { IfErr result (IsReason mode (IsRejected mode text.now which)) }
-    ensures memory { result ≡ Err Failure.OutOfMemory → MayAllocate text.now ⊎ IsAccepted mode text.now }
+    ensures fails { FailsFor mode (IsRejected mode text.now which) (FormMayAllocate mode text.now) result }
 {
     let Some(mode) = choose_mode(mode) else {
         return Err(Failure::UnknownMode);
@@ -727,8 +668,7 @@ fn sort_key_of(alloc: Global, mode: u32, text: &[u8], which: u32) -> Result<Vec<
 // Checks whether a text is a document.
 fn check_text(alloc: Global, mode: u32, text: &[u8]) -> Result<(), Failure>
     ensures accepted { OnOk result (IsAccepted mode text.now) }
-    ensures reason { IfErr result (IsReason mode (IsRejected mode text.now 1)) }
-    ensures memory { result ≡ Err Failure.OutOfMemory → MayAllocate text.now }
+    ensures fails { FailsFor mode (IsRejected mode text.now 1) (MayAllocate text.now) result }
 {
     let Some(mode) = choose_mode(mode) else {
         return Err(Failure::UnknownMode);
@@ -767,8 +707,7 @@ impl Drop for Held<'_> {
 // The value of a text, which is the first or the second of those that a call is given.
 fn value_of<'a>(alloc: Global, mode: u32, text: &'a [u8], which: u32) -> Result<Held<'a>, Failure>
     ensures read { IfOk result (λ held. IsDocumentOf mode text.now (view held.value)) }
-    ensures reason { IfErr result (IsReason mode (IsRejected mode text.now which)) }
-    ensures memory { result ≡ Err Failure.OutOfMemory → MayAllocate text.now }
+    ensures fails { FailsFor mode (IsRejected mode text.now which) (MayAllocate text.now) result }
 {
     let Some(mode) = choose_mode(mode) else {
         return Err(Failure::UnknownMode);

@@ -1,6 +1,6 @@
 //! The zeros that end decimals, which a sort key doesn't have: stored beside it, they give the text again.
 ghost use Rattle.std.specs.Prelude.{◌≡◌, ◌≢◌, ◌⊎◌, ℕ, List, length};
-ghost use Rattle.jsonb_c.specs.Interface.{NeedsRoom, Writes};
+ghost use Rattle.jsonb_c.specs.Interface.{FillsBuffer, NeedsRoom, Writes};
 ghost use Rattle.jsonb_c.specs.KeyParts.{IsTreeKey};
 ghost use Rattle.jsonb_c.specs.Zeros.{zeros_status_of, AreZerosOfNumbers, AreZerosOfText, HasNoZeros, IsTextWithZeros, LackZeros, LackNumbers};
 ghost use Rattle.jsonb_spec.specs.SortKey.{key_of};
@@ -23,10 +23,7 @@ pub extern "C" fn vizhoniku_zeros_of_text(
     size: &mut usize,
 ) -> u32
     ensures status { (result ≡ ACCEPTED) ⊎ (result ≡ OUT_OF_MEMORY) ⊎ (result ≡ TOO_SHORT) ⊎ (result ≡ NO_ZEROS) }
-    ensures written { result ≡ ACCEPTED → Writes (AreZerosOfText text.now) size.new out.old out.new }
-    ensures short { result ≡ TOO_SHORT → NeedsRoom (AreZerosOfText text.now) size.new out.old }
-    ensures untouched { result ≢ ACCEPTED → out.new ≡ out.old }
-    ensures no_size { result ≢ ACCEPTED → result ≢ TOO_SHORT → size.new ≡ 0 }
+    ensures fills { FillsBuffer (AreZerosOfText text.now) ACCEPTED result size.new out.old out.new }
 
     // A serialized form is never told to have none.
     ensures no_zeros { result ≡ NO_ZEROS → HasNoZeros text.now }
@@ -56,10 +53,7 @@ pub extern "C" fn vizhoniku_text_with_zeros(
     size: &mut usize,
 ) -> u32
     ensures status { (result ≡ ACCEPTED) ⊎ (result ≡ OUT_OF_MEMORY) ⊎ (result ≡ TOO_SHORT) ⊎ (result ≡ NO_ZEROS) }
-    ensures written { result ≡ ACCEPTED → Writes (IsTextWithZeros text.now zeros.now) size.new out.old out.new }
-    ensures short { result ≡ TOO_SHORT → NeedsRoom (IsTextWithZeros text.now zeros.now) size.new out.old }
-    ensures untouched { result ≢ ACCEPTED → out.new ≡ out.old }
-    ensures no_size { result ≢ ACCEPTED → result ≢ TOO_SHORT → size.new ≡ 0 }
+    ensures fills { FillsBuffer (IsTextWithZeros text.now zeros.now) ACCEPTED result size.new out.old out.new }
 
     // A text and zeros of one value are never told to be none.
     ensures no_zeros { result ≡ NO_ZEROS → LackZeros text.now zeros.now }

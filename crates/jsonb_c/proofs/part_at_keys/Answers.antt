@@ -49,14 +49,13 @@ returns-in-Ok-false-clause-part c = λ path is_path.
       none = nothing.none;
     }
 
-pub returns-in-Err-clause-reason : goal.returns-in-Err-clause-reason
-returns-in-Err-clause-reason c =
-    reason_says c.args.mode (mode_of c.in-Some.mode) c.args.text.now 1 c.in-Err.error c.reason_of.result c.in-Some.ensures c.in-Err.ensures.rejects.rejected c.in-Err.ensures.rejects.exact c.in-Err.ensures.rejects.explained
-    c.reason_of.ensures
-
-pub returns-in-Err-clause-memory : goal.returns-in-Err-clause-memory
-returns-in-Err-clause-memory c = λ is.
-    by_memory (document_needs (c.in-Err.ensures.memory (memory_said 1 c.in-Err.error c.reason_of.result c.reason_of.ensures is)))
+pub returns-in-Err-clause-fails : goal.returns-in-Err-clause-fails
+returns-in-Err-clause-fails c = record {
+  reason = reason_says c.args.mode (mode_of c.in-Some.mode) c.args.text.now 1 c.in-Err.error c.reason_of.result c.in-Some.ensures c.in-Err.ensures.rejects.rejected c.in-Err.ensures.rejects.exact c.in-Err.ensures.rejects.explained
+      c.reason_of.ensures;
+  memory = λ is.
+      by_memory (document_needs (c.in-Err.ensures.memory (memory_said 1 c.in-Err.error c.reason_of.result c.reason_of.ensures is)));
+}
   where
     by_memory : MayAllocate c.args.text.now ⊎ ((t : Tree) × IsDocument (mode_of c.in-Some.mode) c.args.text.now t) → MayAllocate c.args.text.now ⊎ IsAccepted c.args.mode c.args.text.now
     by_memory (inl may) = inl may

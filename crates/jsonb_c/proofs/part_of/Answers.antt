@@ -1,4 +1,4 @@
-use Rattle.std.proofs.Common.{◌⊎◌, ℕ, List, [], ◌∷◌, ◌++◌, IfSome, inl, inr, map, string_bytes, refl, subst, sym}
+use Rattle.std.proofs.Common.{rules, ◌⊎◌, ℕ, List, [], ◌∷◌, ◌++◌, IfSome, inl, inr, map, string_bytes, refl, subst, sym}
 use Rattle.std.proofs.lemmas.Result.{IfOk-weaker}
 use Rattle.jsonb_scan.specs.Answer.{MayAllocate}
 use Rattle.jsonb_pointer.specs.Path.{IsPath, StartsKey, spelled_key, spelled_keys}
@@ -20,8 +20,11 @@ returns-in-Ok-Some-clause-part c =
     subst (λ items. IsPath c.args.path.now (map string_bytes items)) (sym c.deref.ensures.value) is_path in
     IfOk-weaker c.part_at_keys.result _ _ (λ part answers. answers c.args.path.now passed) c.part_at_keys.ensures.part
 
-pub returns-in-Ok-Some-clause-memory : goal.returns-in-Ok-Some-clause-memory
-returns-in-Ok-Some-clause-memory c = λ is.
-    let is_path : IsPath c.args.path.now (map string_bytes c.in-Ok-Some.keys.items) =
-    subst (λ answer. IfSome answer (λ keys. IsPath c.args.path.now (map string_bytes keys.items))) c.in-Ok-Some.field-0-is c.in-Ok-Some.ensures.some in
-    wanted c.args.mode c.args.path.now c.args.text.now (map string_bytes c.in-Ok-Some.keys.items) is_path (c.part_at_keys.ensures.memory is)
+pub returns-in-Ok-Some-clause-fails : goal.returns-in-Ok-Some-clause-fails
+returns-in-Ok-Some-clause-fails c = record {
+  reason = search rules;
+  memory = λ is.
+      let is_path : IsPath c.args.path.now (map string_bytes c.in-Ok-Some.keys.items) =
+      subst (λ answer. IfSome answer (λ keys. IsPath c.args.path.now (map string_bytes keys.items))) c.in-Ok-Some.field-0-is c.in-Ok-Some.ensures.some in
+      wanted c.args.mode c.args.path.now c.args.text.now (map string_bytes c.in-Ok-Some.keys.items) is_path (c.part_at_keys.ensures.fails.memory is);
+}

@@ -14,14 +14,13 @@ returns-in-Ok-clause-key c =
     let appended = c.in-Ok.ensures.appends.ok in
     key_is c.args.mode c.args.text.now _ appended.tree (parsed_accepted c.args.mode c.args.text.now appended.tree c.in-Some.ensures appended.parsed) (appended.appended ∙ ap (λ old. old ++ key_of appended.tree) c.buffer_of-bytes.ensures)
 
-pub returns-in-Err-clause-reason : goal.returns-in-Err-clause-reason
-returns-in-Err-clause-reason c =
-    reason_says c.args.mode (mode_of c.in-Some.mode) c.args.text.now c.args.which c.in-Err.error c.reason_of.result c.in-Some.ensures c.in-Err.ensures.rejects.rejected c.in-Err.ensures.rejects.exact c.in-Err.ensures.rejects.explained
-    c.reason_of.ensures
-
-pub returns-in-Err-clause-memory : goal.returns-in-Err-clause-memory
-returns-in-Err-clause-memory c = λ is.
-    by_memory (c.in-Err.ensures.appends.memory (memory_said c.args.which c.in-Err.error c.reason_of.result c.reason_of.ensures is))
+pub returns-in-Err-clause-fails : goal.returns-in-Err-clause-fails
+returns-in-Err-clause-fails c = record {
+  reason = reason_says c.args.mode (mode_of c.in-Some.mode) c.args.text.now c.args.which c.in-Err.error c.reason_of.result c.in-Some.ensures c.in-Err.ensures.rejects.rejected c.in-Err.ensures.rejects.exact c.in-Err.ensures.rejects.explained
+      c.reason_of.ensures;
+  memory = λ is.
+      by_memory (c.in-Err.ensures.appends.memory (memory_said c.args.which c.in-Err.error c.reason_of.result c.reason_of.ensures is));
+}
   where
     by_memory : MayAllocate c.args.text.now ⊎ LacksRoomForKey (mode_of c.in-Some.mode) c.args.text.now (vec_capacity c.buffer_of-bytes.result) (vec_len c.buffer_of-bytes.result) → MayAllocate c.args.text.now ⊎ IsAccepted c.args.mode c.args.text.now
     by_memory (inl may) = inl may

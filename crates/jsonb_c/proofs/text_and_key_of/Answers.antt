@@ -10,11 +10,11 @@ returns-clause-key c =
     key_of_form c.args.mode c.args.text.now c.in_ok-bytes.bytes.items c.in_ok-key.key.items c.in_ok-bytes.ensures.text
     (subst (λ form. IsKeyOf c.args.mode form c.in_ok-key.key.items) c.deref.ensures.value c.in_ok-key.ensures.key)
 
-pub returns-in_err-key-clause-reason : goal.returns-in_err-key-clause-reason
-returns-in_err-key-clause-reason c =
+pub returns-in_err-key-clause-fails : goal.returns-in_err-key-clause-fails
+returns-in_err-key-clause-fails c =
     let residual = err_from_is_err_and c.from_residual-in_err-key.result c.from_residual-in_err-key.ensures.1 in
-    rw (residual.1, residual.2) (form_reason c.args.mode c.args.text.now c.in_ok-bytes.bytes.items c.in_err-key.field-0.0 c.in_ok-bytes.ensures.text
-    (subst (λ form. IsReason c.args.mode (IsRejected c.args.mode form 1) c.in_err-key.field-0.0) c.deref.ensures.value c.in_err-key.ensures.reason))
-
-pub returns-in_err-key-clause-memory : goal.returns-in_err-key-clause-memory
-returns-in_err-key-clause-memory c = λ is. inr (record { tree = c.in_ok-bytes.ensures.text.tree; read = c.in_ok-bytes.ensures.text.read })
+    record {
+      reason = rw (residual.1, residual.2) (form_reason c.args.mode c.args.text.now c.in_ok-bytes.bytes.items c.in_err-key.field-0.0 c.in_ok-bytes.ensures.text
+          (subst (λ form. IsReason c.args.mode (IsRejected c.args.mode form 1) c.in_err-key.field-0.0) c.deref.ensures.value c.in_err-key.ensures.fails.reason));
+      memory = λ is. inr (record { tree = c.in_ok-bytes.ensures.text.tree; read = c.in_ok-bytes.ensures.text.read });
+    }

@@ -12,14 +12,13 @@ returns-in-Ok-clause-text c =
     let appended = c.in-Ok.ensures.appends.ok in
     text_is c.args.mode c.args.text.now appended.tree c.buffer_of-bytes.result.items _ (parsed_accepted c.args.mode c.args.text.now appended.tree c.in-Some.ensures appended.parsed) c.buffer_of-bytes.ensures appended.appended
 
-pub returns-in-Err-clause-reason : goal.returns-in-Err-clause-reason
-returns-in-Err-clause-reason c =
-    reason_says c.args.mode (mode_of c.in-Some.mode) c.args.text.now 1 c.in-Err.error c.reason_of.result c.in-Some.ensures c.in-Err.ensures.rejects.rejected c.in-Err.ensures.rejects.exact c.in-Err.ensures.rejects.explained
-    c.reason_of.ensures
-
-pub returns-in-Err-clause-memory : goal.returns-in-Err-clause-memory
-returns-in-Err-clause-memory c = λ is.
-    by_memory (c.in-Err.ensures.appends.memory (memory_said 1 c.in-Err.error c.reason_of.result c.reason_of.ensures is))
+pub returns-in-Err-clause-fails : goal.returns-in-Err-clause-fails
+returns-in-Err-clause-fails c = record {
+  reason = reason_says c.args.mode (mode_of c.in-Some.mode) c.args.text.now 1 c.in-Err.error c.reason_of.result c.in-Some.ensures c.in-Err.ensures.rejects.rejected c.in-Err.ensures.rejects.exact c.in-Err.ensures.rejects.explained
+      c.reason_of.ensures;
+  memory = λ is.
+      by_memory (c.in-Err.ensures.appends.memory (memory_said 1 c.in-Err.error c.reason_of.result c.reason_of.ensures is));
+}
   where
     by_memory : MayAllocate c.args.text.now ⊎ LacksRoomForText (mode_of c.in-Some.mode) c.args.text.now (vec_capacity c.buffer_of-bytes.result) (vec_len c.buffer_of-bytes.result) → MayAllocate c.args.text.now ⊎ IsAccepted c.args.mode c.args.text.now
     by_memory (inl may) = inl may

@@ -1,8 +1,11 @@
+use Rattle.std.proofs.Common.{rules}
 use Rattle.jsonb_scan.specs.Answer.{mode_of}
 use Rattle.jsonb_c.proofs.Reasons.{reason_says}
 use Rattle.jsonb_c.proofs.value_of.Goals as goal
 
-pub returns-in-Err-clause-reason : goal.returns-in-Err-clause-reason
-returns-in-Err-clause-reason c =
-    reason_says c.args.mode (mode_of c.in-Some.mode) c.args.text.now c.args.which c.in-Err.error c.reason_of.result c.in-Some.ensures c.in-Err.ensures.parses.rejected c.in-Err.ensures.parses.exact c.in-Err.ensures.parses.explained
-    c.reason_of.ensures
+pub returns-in-Err-clause-fails : goal.returns-in-Err-clause-fails
+returns-in-Err-clause-fails c = record {
+  reason = reason_says c.args.mode (mode_of c.in-Some.mode) c.args.text.now c.args.which c.in-Err.error c.reason_of.result c.in-Some.ensures c.in-Err.ensures.parses.rejected c.in-Err.ensures.parses.exact c.in-Err.ensures.parses.explained
+      c.reason_of.ensures;
+  memory = search rules;
+}
