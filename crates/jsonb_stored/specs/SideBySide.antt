@@ -1,5 +1,5 @@
 -- Two keys that are walked side by side.
-use Rattle.std.specs.Prelude.{◌≡◌, ◌<◌, ℕ, length, IfOk, Bool, true, false, List, ◌++◌, ◌&&◌, None, Result, Ok, Err, IsTrue}
+use Rattle.std.specs.Prelude.{◌≡◌, ◌<◌, ◌≤◌, ℕ, length, IfOk, Bool, true, false, List, ◌++◌, ◌&&◌, None, Result, Ok, Err, IsTrue}
 use Rattle.std.specs.Str.{bytes_eq}
 use Rattle.jsonb_key.specs.Readable.{IsAnyNumber, IsReadableAt}
 use Rattle.jsonb_stored.specs.declared.containment.Walk.{Walk}
@@ -66,6 +66,15 @@ pub record Walks (old new : Walk) (result : Result Bool NoKey) : Type 0 where
 abbrev pub Told : Bool → Type 0 → Result Bool NoKey → Type 0
 Told answer Behind (Ok told) = (told ≡ answer) × (IsTrue answer → Behind)
 Told answer Behind (Err e) = ⊥
+
+-- Whichever two the keys are of that stand there, nested no deeper than may be opened, it is told whether the first
+-- holds the other, and where it does, the walk stands so.
+abbrev pub TellsHeld : {A : Type 0} → ℕ → (ℕ → A → Type 0) → (A → List ℕ) → (A → A → Bool)
+    → (List ℕ → List ℕ → Type 0) → Walk → Result Bool NoKey → Type 0
+TellsHeld most Readable key holds Behind old result =
+    (depth : ℕ) → old.depth ≡ depth → depth ≤ most → (a b : _) → Readable depth a → Readable depth b
+    → (more behind : List ℕ) → Stands old (key a ++ more) (key b ++ behind)
+    → Told (holds a b) (Behind more behind) result
 
 -- The member of that name, and those behind it, among which all names are looked for that are above.
 pub record MemberFound (depth : ℕ) (ms : Members) (name : List ℕ) (walk : Walk) (more behind : List ℕ) : Type 0 where

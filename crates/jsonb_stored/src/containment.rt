@@ -6,7 +6,7 @@ ghost use Rattle.jsonb_spec.specs.Containment.{contains, holds, holds_items, hol
 ghost use Rattle.jsonb_stored.specs.AtKeys.{AtParts, Leaves, TellsOrder};
 ghost use Rattle.jsonb_stored.specs.Open.{Open, is_object, open_key, IsOpen, IsScalar};
 ghost use Rattle.jsonb_stored.specs.Parts.{opened_tree};
-ghost use Rattle.jsonb_stored.specs.SideBySide.{AreReadableAt, HaveReadableAt, EndsWith, IsLeft, FindsMember, IsPassed, SameKeys, Stands, StandsInside, EndsInside, Told, Walks};
+ghost use Rattle.jsonb_stored.specs.SideBySide.{AreReadableAt, HaveReadableAt, EndsWith, IsLeft, FindsMember, IsPassed, SameKeys, Stands, StandsInside, EndsInside, TellsHeld, Told, Walks};
 ghost use Rattle.jsonb_spec.specs.Order.{bytes_cmp};
 ghost use Rattle.jsonb_spec.specs.SortKey.{key_of, items_key, members_key, text_key};
 ghost use Rattle.jsonb_spec.specs.Tree.{Tree, Trees, Members};
@@ -73,10 +73,7 @@ impl<'k> Walk<'k> {
     #[inline(always)]
     #[cycle(walk)]
     fn has_value(&mut self) -> Result<bool, NoKey>
-        ensures held { (depth : ℕ) → self.old.depth ≡ depth → depth ≤ 512 → (t u : Tree)
-            → IsReadableAt depth t → IsReadableAt depth u → (more behind : List ℕ)
-            → Stands self.old (key_of t ++ more) (key_of u ++ behind)
-            → Told (holds t u) (Stands self.new more behind) result }
+        ensures held { TellsHeld 512 IsReadableAt key_of holds (Stands self.new) self.old result }
         ensures walks { Walks self.old self.new result }
     {
         let Some((first, _)) = self.theirs.split_first() else {
@@ -144,10 +141,7 @@ impl<'k> Walk<'k> {
     #[inline(never)]
     #[cycle(walk)]
     fn has_members(&mut self) -> Result<bool, NoKey>
-        ensures held { (depth : ℕ) → self.old.depth ≡ depth → depth ≤ 511 → (ms ns : Members)
-            → HaveReadableAt depth ms → HaveReadableAt depth ns → (more behind : List ℕ)
-            → Stands self.old (members_key ms ++ more) (members_key ns ++ behind)
-            → Told (holds_members ms ns) (EndsInside true self.new more behind) result }
+        ensures held { TellsHeld 511 HaveReadableAt members_key holds_members (EndsInside true self.new) self.old result }
         ensures walks { Walks self.old self.new result }
     {
         'members: loop {
@@ -169,10 +163,7 @@ impl<'k> Walk<'k> {
     #[inline(never)]
     #[cycle(walk)]
     fn has_items(&mut self) -> Result<bool, NoKey>
-        ensures held { (depth : ℕ) → self.old.depth ≡ depth → depth ≤ 511 → (ts us : Trees)
-            → AreReadableAt depth ts → AreReadableAt depth us → (more behind : List ℕ)
-            → Stands self.old (items_key ts ++ more) (items_key us ++ behind)
-            → Told (holds_items ts us) (EndsInside false self.new more behind) result }
+        ensures held { TellsHeld 511 AreReadableAt items_key holds_items (EndsInside false self.new) self.old result }
         ensures walks { Walks self.old self.new result }
     {
         let items = self.ours.len();
