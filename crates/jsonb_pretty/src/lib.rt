@@ -5,15 +5,15 @@ ghost use Rattle.std.specs.Prelude.{◌≡◌, ◌⊎◌, ◌↔◌, ◌+◌, �
 ghost use Rattle.std.specs.Str.{IsUtf8};
 ghost use Rattle.std.specs.Vec.{vec_capacity};
 ghost use Rattle.jsonb_spec.specs.Ascii as ascii;
-ghost use Rattle.jsonb_spec.specs.Keys.{KeysAscend};
 ghost use Rattle.jsonb_spec.specs.Mode.{Mode};
-ghost use Rattle.jsonb_spec.specs.Proper.{IsProper, AreProper, HaveProperParts};
+ghost use Rattle.jsonb_spec.specs.Proper.{AreProper, IsProper};
 ghost use Rattle.jsonb_spec.specs.Text.Appending.{Appends, AppendsIf, comma_before};
 ghost use Rattle.jsonb_spec.specs.Text.Range.{IsInRangeOf};
 ghost use Rattle.jsonb_spec.specs.Text.StringText.{quoted_text};
 ghost use Rattle.jsonb_spec.specs.Text.{has_text, items_have_texts, members_have_texts, tree_text, with_commas, text_of};
 ghost use Rattle.jsonb_spec.specs.Tree.{array, object};
 ghost use Rattle.jsonb_value.specs.View.{view, trees_view, members_view};
+ghost use Rattle.jsonb_pretty.specs.Lines.{AppendsLines};
 ghost use Rattle.jsonb_spec.specs.Indented.{new_line, indented_text, item_lines, member_lines, StandsFor};
 
 use jsonb_value::error::{Error, Result};
@@ -84,8 +84,7 @@ type Appended = std::result::Result<(), AllocError>;
 // Appends a value, whose lines begin with `margin` spaces.
 #[cycle(append)]
 fn append<'a>(value: &Value<'a>, indent: usize, margin: usize, buf: &mut Vec<u8>) -> Appended
-    ensures appends { AppendsIf (has_text (view value.now)) result buf.old buf.new
-        (indented_text indent margin (view value.now)) }
+    ensures appends { AppendsLines indent margin (view value.now) result buf.old buf.new }
     ensures proper { OnOk result (IsProper (view value.now)) }
 {
     match value {
@@ -109,8 +108,7 @@ fn append_items<'a>(
     margin: usize,
     buf: &mut Vec<u8>,
 ) -> Appended
-    ensures appends { AppendsIf (items_have_texts (trees_view items.now.items)) result buf.old buf.new
-        (indented_text indent margin (array (trees_view items.now.items))) }
+    ensures appends { AppendsLines indent margin (array (trees_view items.now.items)) result buf.old buf.new }
     ensures proper { OnOk result (AreProper (trees_view items.now.items)) }
 {
     if items.is_empty() {
@@ -151,10 +149,8 @@ fn append_members<'a>(
     margin: usize,
     buf: &mut Vec<u8>,
 ) -> Appended
-    ensures appends { AppendsIf (members_have_texts (members_view members.now.entries)) result buf.old buf.new
-        (indented_text indent margin (object (members_view members.now.entries))) }
-    ensures proper { OnOk result (KeysAscend (members_view members.now.entries)
-        × HaveProperParts (members_view members.now.entries)) }
+    ensures appends { AppendsLines indent margin (object (members_view members.now.entries)) result buf.old buf.new }
+    ensures proper { OnOk result (IsProper (object (members_view members.now.entries))) }
 {
     if members.is_empty() {
         return buf.extend_from_slice(b"{}");
@@ -175,8 +171,7 @@ fn append_member_lines<'a>(
 ) -> Appended
     ensures appends { AppendsIf (members_have_texts (members_view members.now.entries)) result buf.old buf.new
         (with_commas (member_lines indent margin (members_view members.now.entries))) }
-    ensures proper { OnOk result (KeysAscend (members_view members.now.entries)
-        × HaveProperParts (members_view members.now.entries)) }
+    ensures proper { OnOk result (IsProper (object (members_view members.now.entries))) }
 {
     let mut is_first = true;
     'members: for (key, value) in members.iter() {
