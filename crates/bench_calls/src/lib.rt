@@ -6,7 +6,8 @@
 #![tactic(auto)]
 
 ghost use Rattle.std.specs.Prelude.{◌≡◌, ◌≤◌};
-ghost use Rattle.jsonb_spec.specs.Grammar.{IsDocument, IsNoDocument};
+ghost use Rattle.bench_calls.specs.Rounds.{CountsRounds};
+ghost use Rattle.jsonb_spec.specs.Grammar.{IsDocument};
 ghost use Rattle.jsonb_spec.specs.Mode.{standard, extended};
 ghost use Rattle.jsonb_spec.specs.Tree.{Tree};
 
@@ -19,9 +20,7 @@ use std::alloc::Global;
 /// well before the first that did not, and so it is `rounds` where all did.
 #[unsafe(no_mangle)]
 pub extern "C" fn jsonb_bench_read(alloc: Global, text: &[u8], rounds: usize) -> usize
-    ensures most { result ≤ rounds }
-    // Nothing goes well with a text that is no document.
-    ensures rejected { IsNoDocument standard text.now → result ≡ 0 }
+    ensures counts { CountsRounds standard text.now rounds result }
 {
     for round in 0..rounds {
         if parse_value_standard_mode(alloc, text).is_err() {
@@ -54,9 +53,7 @@ pub extern "C" fn jsonb_bench_reject(alloc: Global, text: &[u8], rounds: usize) 
 /// the first that did not, and so it is `rounds` where all did.
 #[unsafe(no_mangle)]
 pub extern "C" fn jsonb_bench_read_extended(alloc: Global, text: &[u8], rounds: usize) -> usize
-    ensures most { result ≤ rounds }
-    // Nothing goes well with a text that is no document.
-    ensures rejected { IsNoDocument extended text.now → result ≡ 0 }
+    ensures counts { CountsRounds extended text.now rounds result }
 {
     for round in 0..rounds {
         if parse_value(alloc, text).is_err() {
@@ -70,9 +67,7 @@ pub extern "C" fn jsonb_bench_read_extended(alloc: Global, text: &[u8], rounds: 
 /// answer is how many rounds went well before the first that did not, and so it is `rounds` where all did.
 #[unsafe(no_mangle)]
 pub extern "C" fn jsonb_bench_read_ast(alloc: Global, text: &[u8], rounds: usize) -> usize
-    ensures most { result ≤ rounds }
-    // Nothing goes well with a text that is no document.
-    ensures rejected { IsNoDocument standard text.now → result ≡ 0 }
+    ensures counts { CountsRounds standard text.now rounds result }
 {
     for round in 0..rounds {
         if JsonAst::parse(alloc, text, Mode::Standard).is_err() {
@@ -86,9 +81,7 @@ pub extern "C" fn jsonb_bench_read_ast(alloc: Global, text: &[u8], rounds: usize
 /// The answer is how many rounds went well before the first that did not.
 #[unsafe(no_mangle)]
 pub extern "C" fn jsonb_bench_document_text(alloc: Global, text: &[u8], rounds: usize) -> usize
-    ensures most { result ≤ rounds }
-    // Nothing goes well with a text that is no document.
-    ensures rejected { IsNoDocument standard text.now → result ≡ 0 }
+    ensures counts { CountsRounds standard text.now rounds result }
 {
     let mut written = Vec::new(alloc);
     for round in 0..rounds {
@@ -107,9 +100,7 @@ pub extern "C" fn jsonb_bench_document_text(alloc: Global, text: &[u8], rounds: 
 /// answer is how many rounds went well before the first that did not.
 #[unsafe(no_mangle)]
 pub extern "C" fn jsonb_bench_document_key(alloc: Global, text: &[u8], rounds: usize) -> usize
-    ensures most { result ≤ rounds }
-    // Nothing goes well with a text that is no document.
-    ensures rejected { IsNoDocument standard text.now → result ≡ 0 }
+    ensures counts { CountsRounds standard text.now rounds result }
 {
     let mut key = Vec::new(alloc);
     for round in 0..rounds {
@@ -128,9 +119,7 @@ pub extern "C" fn jsonb_bench_document_key(alloc: Global, text: &[u8], rounds: u
 /// before, with no value and no tree. The answer is how many rounds went well before the first that did not.
 #[unsafe(no_mangle)]
 pub extern "C" fn jsonb_bench_straight_text(alloc: Global, text: &[u8], rounds: usize) -> usize
-    ensures most { result ≤ rounds }
-    // Nothing goes well with a text that is no document.
-    ensures rejected { IsNoDocument standard text.now → result ≡ 0 }
+    ensures counts { CountsRounds standard text.now rounds result }
 {
     let mut written = Vec::new(alloc);
     for round in 0..rounds {
@@ -146,9 +135,7 @@ pub extern "C" fn jsonb_bench_straight_text(alloc: Global, text: &[u8], rounds: 
 /// no value and no tree. The answer is how many rounds went well before the first that did not.
 #[unsafe(no_mangle)]
 pub extern "C" fn jsonb_bench_straight_key(alloc: Global, text: &[u8], rounds: usize) -> usize
-    ensures most { result ≤ rounds }
-    // Nothing goes well with a text that is no document.
-    ensures rejected { IsNoDocument standard text.now → result ≡ 0 }
+    ensures counts { CountsRounds standard text.now rounds result }
 {
     let mut key = Vec::new(alloc);
     for round in 0..rounds {
@@ -164,9 +151,7 @@ pub extern "C" fn jsonb_bench_straight_key(alloc: Global, text: &[u8], rounds: u
 /// before, with no value and no tree. The answer is how many rounds went well before the first that did not.
 #[unsafe(no_mangle)]
 pub extern "C" fn jsonb_bench_straight_extended(alloc: Global, text: &[u8], rounds: usize) -> usize
-    ensures most { result ≤ rounds }
-    // Nothing goes well with a text that is no document.
-    ensures rejected { IsNoDocument extended text.now → result ≡ 0 }
+    ensures counts { CountsRounds extended text.now rounds result }
 {
     let mut written = Vec::new(alloc);
     for round in 0..rounds {
@@ -182,9 +167,7 @@ pub extern "C" fn jsonb_bench_straight_extended(alloc: Global, text: &[u8], roun
 /// rounds went well before the first that did not, and 0 where the text is rejected.
 #[unsafe(no_mangle)]
 pub extern "C" fn jsonb_bench_write(alloc: Global, text: &[u8], rounds: usize) -> usize
-    ensures most { result ≤ rounds }
-    // Nothing goes well with a text that is no document.
-    ensures rejected { IsNoDocument standard text.now → result ≡ 0 }
+    ensures counts { CountsRounds standard text.now rounds result }
 {
     let Ok(value) = parse_value_standard_mode(alloc, text) else {
         return 0;
@@ -203,9 +186,7 @@ pub extern "C" fn jsonb_bench_write(alloc: Global, text: &[u8], rounds: usize) -
 /// went well before the first that did not, and 0 where the text is rejected.
 #[unsafe(no_mangle)]
 pub extern "C" fn jsonb_bench_sort_key(alloc: Global, text: &[u8], rounds: usize) -> usize
-    ensures most { result ≤ rounds }
-    // Nothing goes well with a text that is no document.
-    ensures rejected { IsNoDocument standard text.now → result ≡ 0 }
+    ensures counts { CountsRounds standard text.now rounds result }
 {
     let Ok(value) = parse_value_standard_mode(alloc, text) else {
         return 0;
@@ -224,9 +205,7 @@ pub extern "C" fn jsonb_bench_sort_key(alloc: Global, text: &[u8], rounds: usize
 /// found them equal before the first that did not, and 0 where the text is rejected.
 #[unsafe(no_mangle)]
 pub extern "C" fn jsonb_bench_compare(alloc: Global, text: &[u8], rounds: usize) -> usize
-    ensures most { result ≤ rounds }
-    // Nothing goes well with a text that is no document.
-    ensures rejected { IsNoDocument standard text.now → result ≡ 0 }
+    ensures counts { CountsRounds standard text.now rounds result }
 {
     let Ok(left) = parse_value_standard_mode(alloc, text) else {
         return 0;
@@ -246,9 +225,7 @@ pub extern "C" fn jsonb_bench_compare(alloc: Global, text: &[u8], rounds: usize)
 /// went well before the first that did not, and 0 where the text is rejected.
 #[unsafe(no_mangle)]
 pub extern "C" fn jsonb_bench_clone(alloc: Global, text: &[u8], rounds: usize) -> usize
-    ensures most { result ≤ rounds }
-    // Nothing goes well with a text that is no document.
-    ensures rejected { IsNoDocument standard text.now → result ≡ 0 }
+    ensures counts { CountsRounds standard text.now rounds result }
 {
     let Ok(original) = parse_value_standard_mode(alloc, text) else {
         return 0;

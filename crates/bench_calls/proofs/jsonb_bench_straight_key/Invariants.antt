@@ -1,7 +1,6 @@
 use Rattle.std.proofs.Common.{◌≡◌}
-use Rattle.jsonb_spec.specs.Grammar.{IsDocument, IsNoDocument}
+use Rattle.jsonb_spec.specs.Grammar.{IsNoDocument}
 use Rattle.jsonb_spec.specs.Mode.{standard}
-use Rattle.jsonb_spec.specs.Tree.{Tree}
 use Rattle.bench_calls.proofs.jsonb_bench_straight_key.Given as goal
 
 -- No round has gone well, where the text is no document.
