@@ -1,13 +1,11 @@
 //! What the program does, over any streams.
 
-ghost use Rattle.std.specs.Prelude.{◌≡◌, ◌≢◌, ◌↔◌, ◌⊎◌, ℕ, ◌+◌, ◌≤◌, List, [], ◌∷◌, ◌++◌, take, map, vec_len, vec_capacity, string_bytes, MatchOption, OnOk, OnErr, IfOk, IfErr, IfSome, Err};
+ghost use Rattle.std.specs.Prelude.{◌≡◌, ◌↔◌, ◌⊎◌, ℕ, ◌+◌, ◌≤◌, List, [], ◌∷◌, ◌++◌, take, map, vec_len, vec_capacity, string_bytes, MatchOption, OnOk, OnErr, IfOk, IfErr, IfSome, Err};
 ghost use Rattle.std.specs.Io.KnownBytes.{Appends, IsAtEnd};
 ghost use Rattle.jsonb_spec.specs.Ascii as ascii;
-ghost use Rattle.jsonb_spec.specs.Grammar.{IsNoDocument};
 ghost use Rattle.jsonb_spec.specs.Mode.{Mode as GrammarMode};
-ghost use Rattle.jsonb_scan.specs.Answer.{mode_of, Fails, MayAllocate};
-ghost use Rattle.jsonb_scan.specs.Reading.Document.{document_of};
-ghost use Rattle.jsonb.specs.Explained.{IsExplained};
+ghost use Rattle.jsonb_scan.specs.Answer.{mode_of, MayAllocate};
+ghost use Rattle.jsonb.specs.Parses.{Rejects};
 ghost use Rattle.jsonb_spec.specs.Program.{WordsChoose, IsLineOf, LacksRoom, IsAccepted, IsAnswered};
 
 use jsonb::parser::Mode;
@@ -43,13 +41,11 @@ pub fn choose_mode(words: &[String]) -> Option<Mode>
 pub fn convert(alloc: Global, mode: Mode, input: &[u8], out: &mut Vec<u8>) -> Result<()>
     ensures ok { OnOk result ((line : List ℕ) × IsLineOf (mode_of mode) input.now line
         × (out.new.items ≡ out.old.items ++ line)) }
-    ensures rejected { IfErr result (λ e. e ≢ Error.OutOfMemory → IsNoDocument (mode_of mode) input.now) }
+    // Which fault it is, and where, and what stands at the place that is named.
+    ensures rejects { Rejects (mode_of mode) input.now result }
     ensures memory { result ≡ Err Error.OutOfMemory → MayAllocate input.now
         ⊎ LacksRoom (mode_of mode) input.now (vec_capacity out.old) (vec_len out.old) }
     ensures err { OnErr result (out.new.items ≡ out.old.items) }
-    // Which fault it is, and where, and what stands at the place that is named.
-    ensures exact { IfErr result (λ e. Fails e (document_of (mode_of mode) input.now)) }
-    ensures explained { IfErr result (IsExplained (mode_of mode) input.now) }
     // Where the input is what was appended, without the line feed, the same is appended again.
     ensures again { OnOk result ((text : List ℕ) → out.new.items ≡ out.old.items ++ (text ++ ascii.line_feed ∷ [])
         → (line : List ℕ) → IsLineOf (mode_of mode) text line ↔ (line ≡ text ++ ascii.line_feed ∷ [])) }
