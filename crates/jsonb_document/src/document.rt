@@ -30,8 +30,7 @@ impl Drop for Document<'_> {
 }
 
 impl<'a> Document<'a> {
-    ghost use Rattle.std.specs.Prelude.{◌≡◌, ◌+◌, ◌<◌, ◌≤◌, length, IfOk, IfErr, OnOk, OnErr, Err, vec_len};
-    ghost use Rattle.std.specs.Vec.{vec_capacity};
+    ghost use Rattle.std.specs.Prelude.{◌≡◌, IfOk, IfErr, OnOk};
     ghost use Rattle.jsonb_spec.specs.Proper.{IsProper};
     ghost use Rattle.jsonb_spec.specs.SortKey.{key_of};
     ghost use Rattle.jsonb_spec.specs.Text.{AppendsText, tree_text};
@@ -78,12 +77,8 @@ impl<'a> Document<'a> {
     /// `OutOfMemory` only where `buf` lacks the capacity for the whole text.
     pub fn write_text(&self, buf: &mut Vec<u8>) -> Result<()>
         ensures ok { OnOk result (AppendsText (document_view self.now) buf.old.items buf.new.items) }
-        ensures err { OnErr result (buf.new.items ≡ buf.old.items) }
+        ensures appends { AppendsAllOrNothing result buf.old buf.new (tree_text (document_view self.now)) }
         ensures errors { IfErr result (λ e. e ≡ Error.OutOfMemory) }
-        // Memory runs out only where the capacity for the whole text is missing.
-        ensures full { OnErr result
-            (vec_capacity buf.old < vec_len buf.old + length (tree_text (document_view self.now))) }
-        ensures capacity { vec_capacity buf.old ≤ vec_capacity buf.new }
     {
         let old_len = buf.len();
         if text::append(self.tree(), buf).is_err() {

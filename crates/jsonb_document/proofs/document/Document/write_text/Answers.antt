@@ -1,4 +1,4 @@
-use Rattle.std.proofs.Common.{◌≡◌, ◌++◌, false, true, Result, Ok, Err, OnOk, ap, sym, ◌∙◌}
+use Rattle.std.proofs.Common.{◌≡◌, ◌++◌, false, true, Result, Ok, Err, OnOk, ap, rules, sym, ◌∙◌}
 use Rattle.std.proofs.lemmas.Bool.{cond-true}
 use Rattle.std.specs.Result.{is_err}
 use Rattle.jsonb_spec.specs.Text.{has_text, tree_text}
@@ -20,3 +20,8 @@ returns-clause-ok c =
       is_text = cond-true (has_text t) _ _ has;
       appended = done c.append.result (sym c.is_err.ensures.value ∙ c.if-is_err.false) c.append.ensures.appends.ok ∙ ap (λ bytes. c.args.buf.now.items ++ bytes) (same_text _ _ c.tree.ensures);
     }
+
+pub returns-clause-appends : goal.returns-clause-appends
+returns-clause-appends c =
+    let written = done c.append.result (sym c.is_err.ensures.value ∙ c.if-is_err.false) c.append.ensures.appends.ok ∙ ap (λ bytes. c.args.buf.now.items ++ bytes) (same_text _ _ c.tree.ensures) in
+    record { ok = written; err = search rules; full = search rules; capacity = search rules }
