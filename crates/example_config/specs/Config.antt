@@ -9,7 +9,7 @@ use Rattle.jsonb_scan.specs.Answer.{Fails, MayAllocate}
 use Rattle.jsonb_spec.specs.Accessors.{as_boolean, as_object, as_string, find_member, IsWholeNumber}
 use Rattle.jsonb_spec.specs.Line.{column_at, fault_index, line_at}
 use Rattle.jsonb_spec.specs.Placed.{IsPlaced}
-use Rattle.jsonb_scan.specs.Reading.Document.{document_of}
+use Rattle.jsonb_scan.specs.Parsing.Document.{document_of}
 use Rattle.jsonb_spec.specs.Source.{object_source, SourceMembers, no_source_members, more_source_members}
 use Rattle.jsonb.specs.Source.{source_members_view}
 use Rattle.jsonb_spec.specs.Tree.{Mark, Tree, Members}

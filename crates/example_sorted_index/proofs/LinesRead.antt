@@ -4,7 +4,7 @@ use Rattle.std.proofs.lemmas.List.{map-append, length-map}
 use Rattle.jsonb_spec.specs.Grammar.{IsDocument, IsNoDocument}
 use Rattle.jsonb_spec.specs.Mode.{extended}
 use Rattle.jsonb_scan.specs.Answer.{Fails, MayAllocate}
-use Rattle.jsonb_scan.specs.Reading.Document.{document_of}
+use Rattle.jsonb_scan.specs.Parsing.Document.{document_of}
 use Rattle.jsonb_value.specs.View.{view}
 use Rattle.jsonb_value.specs.declared.error.Error.{Error}
 use Rattle.jsonb_value.specs.declared.error.Error.TheVariants.{OutOfMemory}

@@ -5,10 +5,10 @@ use Rattle.jsonb_spec.specs.Mode.{Mode}
 use Rattle.jsonb_spec.specs.SortKey.{key_of}
 use Rattle.jsonb_spec.specs.Text.{AppendsText, tree_text}
 use Rattle.jsonb_spec.specs.Tree.{Tree}
-use Rattle.jsonb_scan.specs.Reading.Document.{document_of}
+use Rattle.jsonb_scan.specs.Parsing.Document.{document_of}
 use Rattle.jsonb_spec.specs.PartAt.{part_at}
 
--- The text is a document of this tree and of no other, which is what reading gives.
+-- The text is a document of this tree and of no other, which is what parsing gives.
 pub record IsParsed (mode : Mode) (text : List ℕ) (tree : Tree) : Type 0 where
   pub document : IsDocument mode text tree
   pub only : (t : Tree) → IsDocument mode text t → t ≡ tree

@@ -15,8 +15,8 @@ use Rattle.jsonb.specs.declared.parser.frame.Frame.TheVariants as variants
 use Rattle.jsonb.specs.declared.parser.frame.OpenObject.{OpenObject}
 use Rattle.jsonb_scan.specs.Answer.{Fails}
 use Rattle.jsonb_scan.specs.Open.{Open, elements_so_far, members_so_far}
-use Rattle.jsonb_scan.specs.Reading.{Fault, Read}
-use Rattle.jsonb_scan.specs.Reading.String.{Body}
+use Rattle.jsonb_scan.specs.Parsing.{Fault, Parse}
+use Rattle.jsonb_scan.specs.Parsing.String.{Body}
 use Rattle.jsonb_spec.specs.Source.{Source, Found, array_source_of, found_member, member_of, number_source, string_source, source_alone, spot_of}
 use Rattle.std.specs.List.{AllByRecursion}
 
@@ -33,7 +33,7 @@ ElseFails silent told (Ok x) read IsSo = IsSo x
 ElseFails silent told (Err f) read IsSo = Misses silent told read
 
 -- What was returned is what parsing gives, and these bytes are left.
-abbrev pub Builds : {X F Y : Type 0} → Bool → Option Error → (X → Y → Type 0) → Result X F → Read Y → List ℕ → Type 0
+abbrev pub Builds : {X F Y : Type 0} → Bool → Option Error → (X → Y → Type 0) → Result X F → Parse Y → List ℕ → Type 0
 Builds {X} {F} {Y} silent told Sees result read rest =
     ElseFails silent told result read (λ x. (y : Y) × Sees x y × (read ≡ Ok (y, rest)))
 
@@ -57,8 +57,8 @@ IsWritten writes read = (writes ≡ true) × ((s : Source) × (read ≡ Ok s))
 abbrev pub AsScalar : {V : Type 0} → (V → Source → Type 0) → V → Tree → Type 0
 AsScalar Sees v t = Sees v (source_alone t)
 
--- What was made is of the text that is read of the contents of a string, or the error is their fault, which counts from
--- this index.
+-- What was made is of the text that is parsed of the contents of a string, or the error is their fault, which counts
+-- from this index.
 abbrev pub SeesContents : {V : Type 0} → (V → Source → Type 0) → ℕ → Result V Error → Body (Mark × List ℕ) → Type 0
 SeesContents Sees offset (Ok v) read = (x : Mark × List ℕ) × Sees v (string_source x.0 x.1) × (read ≡ Ok x)
 SeesContents Sees offset (Err (Syntax code place)) read = (count : ℕ) × (read ≡ Err (code_of code, count))

@@ -10,11 +10,11 @@ use Rattle.jsonb_value.specs.declared.error.Error.{Error}
 use Rattle.jsonb_value.specs.declared.error.Error.TheVariants.{OutOfMemory}
 use Rattle.jsonb.specs.declared.parser.Parser.{Parser}
 use Rattle.jsonb_scan.specs.Decoding.{TellsBackslash}
-use Rattle.jsonb_scan.specs.Reading.{Fault, Read}
-use Rattle.jsonb_scan.specs.Reading.String.{quote_end, string_at}
-use Rattle.jsonb_scan.specs.Reading.Scalar.{scalar_at}
-use Rattle.jsonb_scan.specs.Reading.Document.{source_from}
-use Rattle.jsonb_scan.specs.Reading.Whitespace.{skip_closed_whitespace}
+use Rattle.jsonb_scan.specs.Parsing.{Fault, Parse}
+use Rattle.jsonb_scan.specs.Parsing.String.{quote_end, string_at}
+use Rattle.jsonb_scan.specs.Parsing.Scalar.{scalar_at}
+use Rattle.jsonb_scan.specs.Parsing.Document.{source_from}
+use Rattle.jsonb_scan.specs.Parsing.Whitespace.{skip_closed_whitespace}
 use Rattle.jsonb_scan.specs.Answer.{mode_of, Gives}
 
 -- the bytes from the index on
@@ -25,7 +25,7 @@ rest_of p = drop p.offset p.buf.now
 abbrev pub size_of : Parser → ℕ
 size_of p = length p.buf.now
 
--- The byte before the reader's index is this one.
+-- The byte before the parser's offset is this one.
 abbrev pub IsBehind : ℕ → Parser → Type 0
 IsBehind byte p = (0 < p.offset) × (slice_index p.buf.now (p.offset - 1) ≡ byte)
 
@@ -75,53 +75,54 @@ pub record SkipsSome (skip : Mode → List ℕ → List ℕ) (old new : Parser) 
   pub rest : skip (mode_of old.mode) (rest_of new) ≡ skip (mode_of old.mode) (rest_of old)
   pub advances : Advances old new
 
--- ---- what is read
+-- ---- what is parsed
 
--- What a call returned, seen by view, and the bytes that it left are what this function reads from the reader's index
+-- What a call returned, seen by view, and the bytes that it left are what this function parses from the parser's offset
 -- on.
-abbrev pub ReadsAs : {X Y : Type 0} → (X → Y) → (ℕ → Mode → List ℕ → Read Y) → Result X Error → Parser → Parser → Type 0
-ReadsAs view read result old new =
+abbrev pub ParsesAs : {X Y : Type 0} → (X → Y) → (ℕ → Mode → List ℕ → Parse Y) → Result X Error → Parser → Parser
+    → Type 0
+ParsesAs view read result old new =
     Gives (λ x. (view x, rest_of new)) result (read (size_of old) (mode_of old.mode) (rest_of old))
 
--- What a call returned that returns `None` where it did not read: where it is `Some`, it is seen so.
-abbrev pub FindsAs : {X Y : Type 0} → (X → Y) → (ℕ → Mode → List ℕ → Read Y) → Option X → Parser → Parser → Type 0
+-- What a call returned that returns `None` where it did not parse: where it is `Some`, it is seen so.
+abbrev pub FindsAs : {X Y : Type 0} → (X → Y) → (ℕ → Mode → List ℕ → Parse Y) → Option X → Parser → Parser → Type 0
 FindsAs view read result old new =
     IfSome result (λ x. read (size_of old) (mode_of old.mode) (rest_of old) ≡ Ok (view x, rest_of new))
 
--- what this function reads from where the reader is
-abbrev pub read_at : {Y : Type 0} → (ℕ → Mode → List ℕ → Read Y) → Parser → Read Y
-read_at read p = read (size_of p) (mode_of p.mode) (rest_of p)
+-- what this function parses from where the parser is
+abbrev pub parse_at : {Y : Type 0} → (ℕ → Mode → List ℕ → Parse Y) → Parser → Parse Y
+parse_at read p = read (size_of p) (mode_of p.mode) (rest_of p)
 
 -- the whole text, with whitespace before its value
 abbrev pub source_at : Parser → Result Source Fault
 source_at p =
     source_from (size_of p) (mode_of p.mode) (skip_closed_whitespace (mode_of p.mode) (rest_of p))
 
--- A string or a key is what this function reads; memory runs out only where the text has a backslash.
-pub record ReadsString {X : Type 0} (view : X → Mark × List ℕ) (read : ℕ → Mode → List ℕ → Read (Mark × List ℕ))
+-- A string or a key is what this function parses; memory runs out only where the text has a backslash.
+pub record ReadsString {X : Type 0} (view : X → Mark × List ℕ) (read : ℕ → Mode → List ℕ → Parse (Mark × List ℕ))
     (result : Result X Error) (old new : Parser) : Type 0 where
-  pub reads : ReadsAs view read result old new
+  pub parses : ParsesAs view read result old new
   pub memory : result ≡ Err OutOfMemory → Contains old.buf.now ascii.backslash
   pub advances : Advances old new
 
--- What a call returned is what this function reads, and it takes no memory.
-pub record ReadsInPlace {X Y : Type 0} (view : X → Y) (read : ℕ → Mode → List ℕ → Read Y) (result : Result X Error)
+-- What a call returned is what this function parses, and it takes no memory.
+pub record ReadsInPlace {X Y : Type 0} (view : X → Y) (read : ℕ → Mode → List ℕ → Parse Y) (result : Result X Error)
     (old new : Parser) : Type 0 where
-  pub reads : ReadsAs view read result old new
+  pub parses : ParsesAs view read result old new
   pub takes_no_memory : result ≢ Err OutOfMemory
   pub advances : Advances old new
 
--- What a call found is what this function reads; where it found nothing, the parser stays.
-pub record Finds {X Y : Type 0} (view : X → Y) (read : ℕ → Mode → List ℕ → Read Y) (result : Option X)
+-- What a call found is what this function parses; where it found nothing, the parser stays.
+pub record Finds {X Y : Type 0} (view : X → Y) (read : ℕ → Mode → List ℕ → Parse Y) (result : Option X)
     (old new : Parser) : Type 0 where
-  pub reads : FindsAs view read result old new
+  pub parses : FindsAs view read result old new
   pub stays : IfNone result (new ≡ old)
   pub advances : Advances old new
 
 -- A string without escapes is found, of which the text has these bytes before its closing quote.
 pub record CutsString {X : Type 0} (body_of : X → List ℕ) (quote : ℕ) (result : Option X) (old new : Parser)
     : Type 0 where
-  pub reads : FindsAs (λ x. (plain, body_of x)) (λ size mode. string_at size mode quote) result old new
+  pub parses : FindsAs (λ x. (plain, body_of x)) (λ size mode. string_at size mode quote) result old new
   pub spelled : IfSome result (λ x. rest_of old ≡ body_of x ++ quote ∷ rest_of new)
   pub stays : IfNone result (new ≡ old)
   pub advances : Advances old new
@@ -137,7 +138,7 @@ pub record PassesContents (quote : ℕ) (old new : Parser) (body : List ℕ) : T
 -- An integer of a standard text is passed that is written by the same bytes again.
 pub record PassesInteger (old new : Parser) : Type 0 where
   pub value : Num
-  pub reads : read_at scalar_at old ≡ Ok (number value, rest_of new)
+  pub parses : parse_at scalar_at old ≡ Ok (number value, rest_of new)
   pub text : slice_range old.buf.now old.offset new.offset ≡ number_text value
 
 -- Such an integer is passed, where that is asked and one is found; else the parser stays.

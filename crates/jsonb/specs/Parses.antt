@@ -7,7 +7,7 @@ use Rattle.jsonb_spec.specs.Tree.{Tree}
 use Rattle.jsonb_value.specs.declared.error.Error.{Error}
 use Rattle.jsonb_value.specs.declared.error.Error.TheVariants.{OutOfMemory}
 use Rattle.jsonb_scan.specs.Answer.{Fails, Gives, IsTextError, MayAllocate}
-use Rattle.jsonb_scan.specs.Reading.Document.{document_of}
+use Rattle.jsonb_scan.specs.Parsing.Document.{document_of}
 use Rattle.jsonb.specs.Explained.{IsExplained}
 
 -- What is returned, seen by view, is the one tree of the document. What is rejected is no document, unless memory ran

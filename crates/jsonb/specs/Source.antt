@@ -42,7 +42,7 @@ sources_view asts = sources_of (map source_view asts)
 abbrev pub source_members_view : List Written → SourceMembers
 source_members_view ms = source_members_of (map found_from (map (λ m. (m.0, source_view m.1, m.2)) ms))
 
--- a member that was read
+-- a member that was parsed
 abbrev pub found_of : Written → Found
 found_of m = found_from (m.0, source_view m.1, m.2)
 

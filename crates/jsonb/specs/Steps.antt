@@ -9,11 +9,11 @@ use Rattle.jsonb_spec.specs.Source.{Source}
 use Rattle.jsonb_value.specs.declared.error.Error.TheVariants.{OutOfMemory}
 use Rattle.jsonb_scan.specs.Answer.{mode_of}
 use Rattle.jsonb_scan.specs.Open.{Open}
-use Rattle.jsonb_scan.specs.Reading.{Read}
-use Rattle.jsonb_scan.specs.Reading.Whitespace.{skip_whitespace}
-use Rattle.jsonb.specs.Frames.{AtPart, Fits, IsPushed, IsPutIn, OpensContainer, ReadsParts}
+use Rattle.jsonb_scan.specs.Parsing.{Parse}
+use Rattle.jsonb_scan.specs.Parsing.Whitespace.{skip_whitespace}
+use Rattle.jsonb.specs.Frames.{AtPart, Fits, IsPushed, IsPutIn, OpensContainer, ParsesParts}
 use Rattle.jsonb.specs.Handler.{AsKey, AsScalar, Begins, Builds, ElseFails, IsUntold, TakesElement, TakesMember}
-use Rattle.jsonb.specs.Parser.{Advances, AdvancesOver, read_at, rest_of, size_of}
+use Rattle.jsonb.specs.Parser.{Advances, AdvancesOver, parse_at, rest_of, size_of}
 use Rattle.jsonb.specs.Stack.{next_part_at, part_end}
 use Rattle.jsonb.specs.declared.parser.Parser.{Parser}
 use Rattle.jsonb.specs.declared.parser.frame.Frame.{Frame}
@@ -22,7 +22,7 @@ use Rattle.jsonb.specs.declared.parser.handler.Handler.{Ghosts}
 
 -- After a part its comma was passed, or the closing byte of its container (true).
 pub record EndsPart {F : Type 0} (code : Code) (close : ℕ) (result : Result Bool F) (old new : Parser) : Type 0 where
-  pub reads : Builds false new.told (λ x y. x ≡ y) result
+  pub parses : Builds false new.told (λ x y. x ≡ y) result
       (part_end (size_of old) code close (skip_whitespace (mode_of old.mode) (rest_of old))) (rest_of new)
   pub onward : IfOk result (λ closed. old.offset < new.offset)
   pub advances : Advances old new
@@ -30,11 +30,11 @@ pub record EndsPart {F : Type 0} (code : Code) (close : ℕ) (result : Result Bo
 module _ {V R I M K : Type 0} (h : Ghosts V R I M K) where
   -- ---- scalars
 
-  -- A scalar is made of what this function reads, and isn't put in yet.
-  pub record MakesScalar {F : Type 0} (read : ℕ → Mode → List ℕ → Read Tree) (result : Result V F) (old new : Parser)
+  -- A scalar is made of what this function parses, and isn't put in yet.
+  pub record MakesScalar {F : Type 0} (read : ℕ → Mode → List ℕ → Parse Tree) (result : Result V F) (old new : Parser)
       : Type 0 where
-    -- What was made is of the tree that is read, or what was told is the fault.
-    pub reads : Builds h.silent new.told (AsScalar h.sees) result (read_at read old) (rest_of new)
+    -- What was made is of the tree that is parsed, or what was told is the fault.
+    pub parses : Builds h.silent new.told (AsScalar h.sees) result (parse_at read old) (rest_of new)
     -- Memory runs out only where the text has a backslash.
     pub memory : IfErr result (λ _. new.told ≡ Some OutOfMemory → Contains old.buf.now ascii.backslash)
     pub advances : Advances old new
@@ -58,54 +58,54 @@ module _ {V R I M K : Type 0} (h : Ghosts V R I M K) where
     pub told : IfErr result (λ _. IsUntold h.silent new.told)
     pub advances : AdvancesOver h.base old new room filled
 
-  -- A scalar that this function reads was put into an array.
-  pub record Pushes {X F : Type 0} (read : ℕ → Mode → List ℕ → Read Tree) (result : Result X F)
+  -- A scalar that this function parses was put into an array.
+  pub record Pushes {X F : Type 0} (read : ℕ → Mode → List ℕ → Parse Tree) (result : Result X F)
       (old new : Parser) (room filled : R) (items more : I) : Type 0 where
-    pub reads : IsPushed h.silent new.told h.stands old.buf.now result room items (read_at read old) filled more
+    pub parses : IsPushed h.silent new.told h.stands old.buf.now result room items (parse_at read old) filled more
         (rest_of new)
     pub advances : AdvancesOver h.base old new room filled
 
-  -- A scalar that this function reads was put into an object under this key.
-  pub record Inserts {X F : Type 0} (read : ℕ → Mode → List ℕ → Read Tree) (result : Result X F)
+  -- A scalar that this function parses was put into an object under this key.
+  pub record Inserts {X F : Type 0} (read : ℕ → Mode → List ℕ → Parse Tree) (result : Result X F)
       (old new : Parser) (room filled : R) (key : K) (object more : OpenObject M K) : Type 0 where
-    pub reads : IsPutIn h.silent new.told h.stands old.buf.now result room object key (read_at read old) filled more
+    pub parses : IsPutIn h.silent new.told h.stands old.buf.now result room object key (parse_at read old) filled more
         (rest_of new)
     pub advances : AdvancesOver h.base old new room filled
 
   -- ---- keys
 
-  -- A member began with the key that this function reads, and its value is due.
-  pub record BeginsWith {F : Type 0} (read : ℕ → Mode → List ℕ → Read (Mark × List ℕ)) (result : Result K F)
+  -- A member began with the key that this function parses, and its value is due.
+  pub record BeginsWith {F : Type 0} (read : ℕ → Mode → List ℕ → Parse (Mark × List ℕ)) (result : Result K F)
       (old new : Parser) (room begun : R) (object more : OpenObject M K) : Type 0 where
-    pub reads : Builds h.silent new.told
+    pub parses : Builds h.silent new.told
         (AsKey (Begins (h.stands old.buf.now) room object begun more) (size_of old) (rest_of new)) result
-        (read_at read old) (rest_of new)
+        (parse_at read old) (rest_of new)
     pub advances : AdvancesOver h.base old new room begun
 
   -- ---- arrays and objects
 
-  -- Parts of an open container are read, up to its end, or up to one that is a container. True at the end.
+  -- Parts of an open container are parsed, up to its end, or up to one that is a container. True at the end.
   pub record FillsFrame {F : Type 0} (result : Result Bool F) (old new : Parser) (room filled : R)
       (frame more : Frame I M K) : Type 0 where
-    -- What is left to read is what the executable specification reads from there on, or what was told is its fault.
-    pub reads : (depth : ℕ) → (c : Open) → (fs : List (Frame I M K)) → (cs : List Open) → Fits frame c
+    -- What is left to parse is what the executable specification parses from there on, or what was told is its fault.
+    pub parses : (depth : ℕ) → (c : Open) → (fs : List (Frame I M K)) → (cs : List Open) → Fits frame c
         → h.stands old.buf.now room false (frame ∷ fs) (c ∷ cs)
         → ElseFails h.silent new.told result
         (next_part_at (size_of old) (mode_of old.mode) depth c (rest_of old))
-        (λ closed. ReadsParts (h.stands old.buf.now filled) (size_of old) (mode_of old.mode) depth
+        (λ closed. ParsesParts (h.stands old.buf.now filled) (size_of old) (mode_of old.mode) depth
         (next_part_at (size_of old) (mode_of old.mode) depth c (rest_of old)) closed more fs cs (rest_of new))
     -- A closing byte was passed, or a container opens here.
     pub onward : IfOk result (λ closed. MatchBool closed (old.offset < new.offset) (Unit {0}))
     pub opens : IfOk result (λ closed. MatchBool closed (Unit {0}) (OpensContainer (rest_of new)))
     pub advances : AdvancesOver h.base old new room filled
 
-  -- A step of the loop over the open containers, from where this is left to read: up to where a container was read to
-  -- its end (true), or where a part of one begins.
+  -- A step of the loop over the open containers, from where this is left to parse: up to where a container was parsed
+  -- to its end (true), or where a part of one begins.
   pub record Turns {F : Type 0}
-      (Before : (Bool → List (Frame I M K) → List Open → Type 0) → Read Source → Parser → List (Frame I M K) → Type 0)
+      (Before : (Bool → List (Frame I M K) → List Open → Type 0) → Parse Source → Parser → List (Frame I M K) → Type 0)
       (result : Result Bool F) (old new : Parser) (room after : R) (stack more : List (Frame I M K)) : Type 0 where
-    -- The whole is what the containers that are open have and what is left to read, or what was told is its fault.
-    pub reads : (whole : Read Source) → Before (h.stands old.buf.now room) whole old stack
+    -- The whole is what the containers that are open have and what is left to parse, or what was told is its fault.
+    pub parses : (whole : Parse Source) → Before (h.stands old.buf.now room) whole old stack
         → ElseFails h.silent new.told result whole (AtPart (h.stands old.buf.now after) whole new more)
     -- So the loop ends.
     pub onward : IfOk result (λ closed. old.offset < new.offset)

@@ -11,7 +11,7 @@ ghost use Rattle.jsonb_spec.specs.Tree.{Tree};
 
 /// A text is a document of at most one tree. Where the text of a value is a proper prefix of that of another, both are
 /// numbers.
-pub fn one_reading()
+pub fn grammar_is_unambiguous()
     ensures tree { (mode : Mode) → (bytes : List ℕ) → (t u : Tree) → IsDocument mode bytes t
         → IsDocument mode bytes u → t ≡ u }
     ensures numbers { (mode : Mode) → (m n : ℕ) → (bytes rest : List ℕ) → (t u : Tree) → Derives mode m bytes t
@@ -21,7 +21,7 @@ pub fn one_reading()
 {}
 
 /// The contents of a string decode to at most one text, and malformed contents to none.
-pub fn one_decoding()
+pub fn decoding_is_unambiguous()
     ensures text { (mode : Mode) → (bytes s t : List ℕ) → Decodes mode bytes s → Decodes mode bytes t → s ≡ t }
     ensures fault { (mode : Mode) → (bytes : List ℕ) → (code : Code) → (read : ℕ) → (text : List ℕ)
         → IsFaultyBody mode bytes code read → Decodes mode bytes text → ⊥ }

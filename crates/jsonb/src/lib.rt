@@ -14,7 +14,7 @@ pub use jsonb_value::extension::{Date, ExtensionValue, Interval, Timestamp, Time
 pub use jsonb_value::number::{Decimal64, Decimal128, Number};
 pub use jsonb_value::value::{Object, Value};
 pub use jsonb_value::{error, extension, number, value};
-pub use laws::{one_decoding, one_reading};
+pub use laws::{decoding_is_unambiguous, grammar_is_unambiguous};
 pub use parser::{
     JsonAst, Mode, append_part, append_sort_key, append_text, check, may_allocate, parse_value,
     parse_value_standard_mode,

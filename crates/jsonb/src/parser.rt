@@ -10,9 +10,9 @@ ghost use Rattle.jsonb_spec.specs.Text.Range.{IsInRange, IsIntegerRange};
 ghost use Rattle.jsonb_spec.specs.Tree.{Tree};
 ghost use Rattle.jsonb_value.specs.View.{view};
 ghost use Rattle.jsonb_scan.specs.Answer.{mode_of, NamesFault, Gives, MayAllocate};
-ghost use Rattle.jsonb_scan.specs.Reading.{begins, fault_at};
-ghost use Rattle.jsonb_scan.specs.Reading.Whitespace.{skip_closed_whitespace};
-ghost use Rattle.jsonb_scan.specs.Reading.Document.{at_end, comment_at, source_of};
+ghost use Rattle.jsonb_scan.specs.Parsing.{begins, fault_at};
+ghost use Rattle.jsonb_scan.specs.Parsing.Whitespace.{skip_closed_whitespace};
+ghost use Rattle.jsonb_scan.specs.Parsing.Document.{at_end, comment_at, source_of};
 ghost use Rattle.jsonb.specs.Parses.{Parses};
 ghost use Rattle.jsonb_spec.specs.Source.{Source};
 ghost use Rattle.jsonb.specs.Handler.{BuildsAll, ElseFails, IsWritten, Misses};
@@ -59,14 +59,14 @@ pub fn parse_value_standard_mode(alloc: Global, buf: &[u8]) -> Result<Value<'_>>
     // What is returned is the one tree of the document; what is rejected is none, unless memory ran out.
     ensures parses { Parses standard view buf.now result }
 
-    // What is read is in the range of integers, so that what is written of it reads back.
+    // What is parsed is in the range of integers, so that what is written of it reads back.
     ensures in_range { IfOk result (λ v. IsIntegerRange (view v)) }
     ensures proper { IfOk result (λ v. IsProper (view v)) }
 
     // Each standard document is an extended one, of the same value.
     ensures extended { IfOk result (λ v. (u : Tree) × IsDocument extended buf.now u × Same u (view v)) }
 {
-    match read_document::<Value>(&mut (), alloc, buf, Mode::Standard) {
+    match parse_text::<Value>(&mut (), alloc, buf, Mode::Standard) {
         Ok(value) => Ok(value),
         Err(told) => value_of_tree(alloc, buf, Mode::Standard, told),
     }
@@ -88,11 +88,11 @@ pub fn parse_value(alloc: Global, buf: &[u8]) -> Result<Value<'_>>
     // What is returned is the one tree of the document; what is rejected is none, unless memory ran out.
     ensures parses { Parses extended view buf.now result }
 
-    // What is read is in range, so that what is written of it reads back.
+    // What is parsed is in range, so that what is written of it reads back.
     ensures in_range { IfOk result (λ v. IsInRange (view v)) }
     ensures proper { IfOk result (λ v. IsProper (view v)) }
 {
-    match read_document::<Value>(&mut (), alloc, buf, Mode::Extended) {
+    match parse_text::<Value>(&mut (), alloc, buf, Mode::Extended) {
         Ok(value) => Ok(value),
         Err(told) => value_of_tree(alloc, buf, Mode::Extended, told),
     }
@@ -114,13 +114,13 @@ fn value_of_tree(alloc: Global, buf: &[u8], mode: Mode, told: Option<Error>) -> 
 }
 
 // What a handler makes of a whole text, or what is wrong with it. Nothing is told only by a handler that is silent.
-fn read_document<'a, V: Handler<'a>>(
+fn parse_text<'a, V: Handler<'a>>(
     room: &mut V::Room,
     alloc: Global,
     buf: &'a [u8],
     mode: Mode,
 ) -> std::result::Result<V, Option<Error>>
-    ensures reads { V.stands buf.now room.old true [] []
+    ensures parses { V.stands buf.now room.old true [] []
         → BuildsAll V.silent (λ v s. V.filled buf.now room.new v s [] []) result (source_of (mode_of mode) buf.now) }
     ensures memory { IfErr result (λ told. told ≡ Some Error.OutOfMemory
         → MayAllocate buf.now ⊎ IsWritten V.writes (source_of (mode_of mode) buf.now)) }
@@ -200,7 +200,7 @@ impl<'a> Parser<'a> {
         true
     }
 
-    // The bytes that are still to be read.
+    // The bytes that are still to be parsed.
     fn rest(&self) -> &'a [u8]
         ensures { result.now ≡ rest_of self.now }
     {
@@ -272,7 +272,7 @@ impl<'a> Parser<'a> {
         text: &'a str,
     ) -> std::result::Result<V, Failed>
         requires same { IsTextOf text.now self.old }
-        ensures reads { V.stands self.old.buf.now room.old true [] []
+        ensures parses { V.stands self.old.buf.now room.old true [] []
             → ElseFails V.silent self.new.told result (source_at self.old) (λ v. (s : Source)
             × V.filled self.old.buf.now room.new v s [] [] × (source_at self.old ≡ Ok s)) }
         ensures memory { IfErr result (λ _. self.new.told ≡ Some Error.OutOfMemory → MayAllocate self.old.buf.now
@@ -329,7 +329,7 @@ impl<'a> Parser<'a> {
 
     // The end of a text, after its value.
     fn end_document(&mut self) -> Result<()>
-        ensures reads { (s : Source) → Gives (λ _. s) result (at_end (size_of self.old) (mode_of self.old.mode) s
+        ensures parses { (s : Source) → Gives (λ _. s) result (at_end (size_of self.old) (mode_of self.old.mode) s
             (skip_closed_whitespace (mode_of self.old.mode) (rest_of self.old))) }
         ensures takes_no_memory { result ≢ Err Error.OutOfMemory }
     {
@@ -347,7 +347,7 @@ impl<'a> Parser<'a> {
     // A text may end in a line comment without its end, and in no other comment.
     fn end_in_comment(&self) -> Result<()>
         requires { self.now.offset < size_of self.now }
-        ensures reads { (s : Source) → Gives (λ _. s) result (comment_at (size_of self.now) s
+        ensures parses { (s : Source) → Gives (λ _. s) result (comment_at (size_of self.now) s
             (drop 1 (rest_of self.now))) }
         ensures takes_no_memory { result ≢ Err Error.OutOfMemory }
     {

@@ -6,7 +6,7 @@ use Rattle.jsonb_spec.specs.Mode.{Mode}
 use Rattle.jsonb_value.specs.declared.error.Error.{Error}
 use Rattle.jsonb_value.specs.declared.error.Error.TheVariants as errors
 use Rattle.jsonb_scan.specs.Answer.{Fails}
-use Rattle.jsonb_scan.specs.Reading.Document.{document_of}
+use Rattle.jsonb_scan.specs.Parsing.Document.{document_of}
 use Rattle.jsonb.specs.Explained.{IsExplained}
 use Rattle.jsonb_c.specs.declared.Refusal.{Refusal}
 use Rattle.jsonb_c.specs.declared.Failure.{Failure}

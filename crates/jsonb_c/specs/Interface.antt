@@ -16,7 +16,7 @@ use Rattle.jsonb_spec.specs.SortKey.{key_of}
 use Rattle.jsonb_spec.specs.Text.ReadsBack.{ReadsBackAs}
 use Rattle.jsonb_spec.specs.Text.{text_of}
 use Rattle.jsonb_spec.specs.Tree.{Tree}
-use Rattle.jsonb_scan.specs.Reading.Document.{document_of}
+use Rattle.jsonb_scan.specs.Parsing.Document.{document_of}
 use Rattle.jsonb_scan.specs.Answer.{Fails, MayAllocate}
 use Rattle.jsonb_spec.specs.Errors.{Stands}
 use Rattle.jsonb_spec.specs.PartAt.{IsAt}
@@ -110,8 +110,8 @@ FormMayAllocate number text = MayAllocate text ⊎ IsAccepted number text
 abbrev pub EitherMayAllocate : ℕ → List ℕ → List ℕ → Type 0
 EitherMayAllocate number left right = MayAllocate left ⊎ (IsAccepted number left × MayAllocate right)
 
--- The status of a call that writes something of a document's tree: it says whether the number chooses a mode. A document
--- is accepted, unless memory ran out, which takes a text that may allocate, or a document.
+-- The status of a call that writes something of a document's tree: it says whether the number chooses a mode. A
+-- document is accepted, unless memory ran out, which takes a text that may allocate, or a document.
 pub record IsStatusOfForm (number : ℕ) (text : List ℕ) (status : ℕ) : Type 0 where
   pub known : status ≤ 4
   pub mode : status ≡ 3 ↔ (1 < number)
@@ -263,8 +263,8 @@ pub record FailsFor {X : Type 0} (number : ℕ) (IsTold : Refusal → Type 0) (M
   pub reason : IfErr result (IsReason number IsTold)
   pub memory : result ≡ Err OutOfMemory → MayNeedMemory
 
--- The order of the trees of two documents. Else one of the texts is rejected, or memory ran out, which takes a text that
--- may allocate, or the number chooses no mode.
+-- The order of the trees of two documents. Else one of the texts is rejected, or memory ran out, which takes a text
+-- that may allocate, or the number chooses no mode.
 pub record OrdersTexts (number : ℕ) (left right : List ℕ) (result : Result Ordering Failure) : Type 0 where
   pub ordered : IfOk result (λ order. IsOrdered number left right (sign order))
   pub reason : IfErr result (IsReason number (IsOneRejected number left right))

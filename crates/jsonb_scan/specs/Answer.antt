@@ -7,9 +7,9 @@ use Rattle.jsonb_value.specs.declared.error.Error.{Error}
 use Rattle.jsonb_value.specs.declared.error.Error.TheVariants.{Syntax, OutOfMemory}
 use Rattle.jsonb_scan.specs.declared.parser.Mode as parser
 use Rattle.jsonb_scan.specs.declared.parser.Mode.TheVariants.{Standard, Extended}
-use Rattle.jsonb_scan.specs.Reading.{Fault}
+use Rattle.jsonb_scan.specs.Parsing.{Fault}
 
--- the grammar that a reader's mode stands for
+-- the grammar that a parser's mode stands for
 abbrev pub mode_of : parser.Mode → Mode
 mode_of Standard = standard
 mode_of Extended = extended
@@ -19,13 +19,13 @@ abbrev pub NamesFault : Error → Fault → Type 0
 NamesFault (Syntax code place) f = f ≡ record { code = code_of code; place = place }
 NamesFault other f = ⊥
 
--- The error is the fault that reading gives, or want of memory.
+-- The error is the fault that parsing gives, or want of memory.
 abbrev pub Fails : {Y : Type 0} → Error → Result Y Fault → Type 0
 Fails (Syntax code place) read = read ≡ Err (record { code = code_of code; place = place })
 Fails OutOfMemory read = Unit {0}
 Fails other read = ⊥
 
--- What a function returned, seen by view, is what reading gives, unless memory ran out.
+-- What a function returned, seen by view, is what parsing gives, unless memory ran out.
 abbrev pub Gives : {X Y : Type 0} → (X → Y) → Result X Error → Result Y Fault → Type 0
 Gives view (Ok x) read = read ≡ Ok (view x)
 Gives view (Err e) read = Fails e read
@@ -36,7 +36,7 @@ IsTextError (Syntax code place) = Unit {0}
 IsTextError OutOfMemory = Unit {0}
 IsTextError other = ⊥
 
--- The input holds a bracket or a brace that opens, or a backslash: a reader that asks for memory has met one.
+-- The input holds a bracket or a brace that opens, or a backslash: a parser that asks for memory has met one.
 abbrev pub MayAllocate : List ℕ → Type 0
 MayAllocate input =
     Contains input ascii.open_bracket ⊎ (Contains input ascii.open_brace ⊎ Contains input ascii.backslash)

@@ -2,7 +2,7 @@ pub mod Answer
 pub mod Decoding
 pub mod Open
 pub mod QuotedString
-pub mod Reading
+pub mod Parsing
 pub mod ScannedNumber
 pub mod ShortInteger
 pub mod Spelled

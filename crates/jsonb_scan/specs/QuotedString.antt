@@ -18,15 +18,15 @@ use Rattle.jsonb_scan.specs.declared.parser.string.StringEnd.TheVariants.{Closed
 use Rattle.jsonb_scan.specs.declared.parser.key.KeyEnd.{KeyEnd}
 use Rattle.jsonb_scan.specs.declared.parser.key.KeyEnd.TheVariants as key_ends
 use Rattle.jsonb_scan.specs.Decoding.{TellsBackslash}
-use Rattle.jsonb_scan.specs.Reading.BareKey.{key_end}
-use Rattle.jsonb_scan.specs.Reading.String.{Body, items_within, quote_end}
+use Rattle.jsonb_scan.specs.Parsing.BareKey.{key_end}
+use Rattle.jsonb_scan.specs.Parsing.String.{Body, items_within, quote_end}
 
--- the search ends where reading does; and whether a backslash was passed
+-- the search ends where parsing does; and whether a backslash was passed
 abbrev pub EndsString : ℕ → List ℕ → StringEnd → Type 0
 EndsString quote bytes (Closed end escaped) = (quote_end quote bytes ≡ Ok end) × TellsBackslash bytes end escaped
 EndsString quote bytes (Unclosed at) = (quote_end quote bytes ≡ Err at) × (at < length bytes + 8)
 
--- The text and its mark are those that are read of the body, or the fault is, where the decoder counts from `idx`.
+-- The text and its mark are those that are parsed of the body, or the fault is, where the decoder counts from `idx`.
 abbrev pub DecodesContents : ℕ → Result (CowStr Global) Error → Body (Mark × List ℕ) → Type 0
 DecodesContents idx (Ok text) read = read ≡ Ok (mark_view text, cow_str_bytes text)
 DecodesContents idx (Err (Syntax code place)) read = (count : ℕ) × (read ≡ Err (code_of code, count))
@@ -34,23 +34,23 @@ DecodesContents idx (Err (Syntax code place)) read = (count : ℕ) × (read ≡ 
 DecodesContents idx (Err OutOfMemory) read = Unit {0}
 DecodesContents idx (Err other) read = ⊥
 
--- what the items mean that are read of a body
-abbrev pub meaning_read : Body (List Item) → List ℕ
-meaning_read (Ok items) = meaning items
-meaning_read (Err f) = []
+-- what the items mean that are parsed of a body
+abbrev pub meaning_of_body : Body (List Item) → List ℕ
+meaning_of_body (Ok items) = meaning items
+meaning_of_body (Err f) = []
 
 -- what a body means, UTF-8 or not
 unfoldable pub decoded_text : Mode → List ℕ → List ℕ
-decoded_text mode bytes = meaning_read (items_within (length bytes) mode bytes)
+decoded_text mode bytes = meaning_of_body (items_within (length bytes) mode bytes)
 
--- This text is read of a body with a backslash, or the fault is, where the check counts from `idx`.
+-- This text is parsed of a body with a backslash, or the fault is, where the check counts from `idx`.
 abbrev pub ChecksContents : ℕ → Result (Unit {0}) Error → List ℕ → Body (Mark × List ℕ) → Type 0
 ChecksContents idx (Ok done) text read = read ≡ Ok (escaped_mark, text)
 ChecksContents idx (Err (Syntax code place)) text read = (count : ℕ) × (read ≡ Err (code_of code, count))
     × (place ≡ idx + count)
 ChecksContents idx (Err other) text read = ⊥
 
--- the search for the end of a bare key ends where reading does
+-- the search for the end of a bare key ends where parsing does
 abbrev pub EndsKey : List ℕ → KeyEnd → Type 0
 EndsKey bytes (key_ends.At end) = key_end bytes ≡ Ok end
 EndsKey bytes (key_ends.Past at) = (key_end bytes ≡ Err at) × (at < length bytes + 4)

@@ -8,7 +8,7 @@ use Rattle.jsonb_value.specs.declared.number.Number.{Number}
 use Rattle.jsonb_scan.specs.declared.parser.extended_number.decimal.DecimalEnds.{DecimalEnds}
 use Rattle.jsonb_scan.specs.declared.parser.extended_number.NumberFault.{NumberFault}
 use Rattle.jsonb_scan.specs.declared.parser.extended_number.NumberText.{NumberText}
-use Rattle.jsonb_scan.specs.Reading.ExtendedNumber.{Scanned, core_start, zeros_end, front_end, point_end, behind_end}
+use Rattle.jsonb_scan.specs.Parsing.ExtendedNumber.{Scanned, core_start, zeros_end, front_end, point_end, behind_end}
 
 -- the number, if there is one
 abbrev pub number_views : Option Number → Option Num

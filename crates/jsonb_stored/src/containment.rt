@@ -141,7 +141,8 @@ impl<'k> Walk<'k> {
     #[inline(never)]
     #[cycle(walk)]
     fn has_members(&mut self) -> Result<bool, NoKey>
-        ensures held { TellsHeld 511 HaveReadableAt members_key holds_members (EndsInside true self.new) self.old result }
+        ensures held { TellsHeld 511 HaveReadableAt members_key holds_members (EndsInside true self.new) self.old
+            result }
         ensures walks { Walks self.old self.new result }
     {
         'members: loop {

@@ -7,7 +7,7 @@ use Rattle.jsonb_value.specs.declared.error.Error.{Error}
 use Rattle.jsonb_value.specs.declared.error.Error.TheVariants.{Syntax}
 use Rattle.jsonb_scan.specs.Answer.{mode_of}
 use Rattle.jsonb_scan.specs.QuotedString.{decoded_text}
-use Rattle.jsonb_scan.specs.Reading.String.{Body}
+use Rattle.jsonb_scan.specs.Parsing.String.{Body}
 use Rattle.jsonb_write.specs.Escaped.{WritesItems}
 use Rattle.jsonb_write.specs.declared.contents.Contents.{Contents}
 

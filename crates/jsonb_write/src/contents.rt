@@ -18,7 +18,7 @@ pub struct Contents<'a> {
 impl<'a> Contents<'a> {
     ghost use Rattle.jsonb_scan.specs.Answer.{mode_of};
     ghost use Rattle.jsonb_scan.specs.Decoding.{TellsBackslash};
-    ghost use Rattle.jsonb_scan.specs.Reading.String.{body_of};
+    ghost use Rattle.jsonb_scan.specs.Parsing.String.{body_of};
     ghost use Rattle.jsonb_write.specs.Contents.{ChecksAs};
 
     /// Contents that are to be written as serialized text, and have a backslash. `idx` is the index after the opening

@@ -173,19 +173,20 @@ Edits (Some t) result old new = AppendsKey t result old new × IfOk result (λ c
 Edits None result old new = (result ≡ Ok false) × (new.items ≡ old.items)
 
 -- Whichever values the two keys are of, the key of the first with the second in it is appended, as this says.
-abbrev pub EditsKeys : (Tree → Tree → Option Tree) → List ℕ → List ℕ → Result Bool EditError → Vec ℕ Global → Vec ℕ Global
-    → Type 0
+abbrev pub EditsKeys : (Tree → Tree → Option Tree) → List ℕ → List ℕ → Result Bool EditError → Vec ℕ Global
+    → Vec ℕ Global → Type 0
 EditsKeys edited key part result old new = OfKey key (λ t. OfKey part (λ u. Edits (edited u t) result old new))
 
 -- Whichever values the two keys are of, the key of both in one is appended, as this says.
-abbrev pub AppendsBoth : {X : Type 0} → (Tree → Tree → Tree) → List ℕ → List ℕ → Result X EditError → Vec ℕ Global → Vec ℕ Global
-    → Type 0
+abbrev pub AppendsBoth : {X : Type 0} → (Tree → Tree → Tree) → List ℕ → List ℕ → Result X EditError → Vec ℕ Global
+    → Vec ℕ Global → Type 0
 AppendsBoth both left right result old new =
     (t u : Tree) → IsReadable t → left ≡ key_of t → IsReadable u → right ≡ key_of u
     → AppendsKey (both t u) result old new
 
 -- Whichever members these are the keys of, the key of the object with all of them is appended.
-abbrev pub AppendsMembersOfBoth : {X : Type 0} → List ℕ → List ℕ → Result X EditError → Vec ℕ Global → Vec ℕ Global → Type 0
+abbrev pub AppendsMembersOfBoth : {X : Type 0} → List ℕ → List ℕ → Result X EditError → Vec ℕ Global → Vec ℕ Global
+    → Type 0
 AppendsMembersOfBoth left right result old new =
     (ms ns : Members) → HaveReadable ms → HaveReadable ns → left ≡ members_key ms → right ≡ members_key ns
     → AppendsKey (object (merged_members ms ns)) result old new

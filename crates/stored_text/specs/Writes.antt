@@ -74,10 +74,10 @@ abbrev pub closing_quote : Bool → List ℕ
 closing_quote true = ascii.quote ∷ ascii.colon ∷ []
 closing_quote false = ascii.quote ∷ []
 
--- Whichever text's key the bytes begin with, the text is appended with its escapes and its end, and the bytes behind the
--- key are left. Of any bytes fewer are left.
-pub record WritesString (colon : Bool) (bytes : List ℕ) (result : Result (Bor (List ℕ)) KeyError) (old new : Vec ℕ Global)
-    : Type 0 where
+-- Whichever text's key the bytes begin with, the text is appended with its escapes and its end, and the bytes behind
+-- the key are left. Of any bytes fewer are left.
+pub record WritesString (colon : Bool) (bytes : List ℕ) (result : Result (Bor (List ℕ)) KeyError)
+    (old new : Vec ℕ Global) : Type 0 where
   pub found : (text more : List ℕ) → bytes ≡ text_key text ++ more
       → AppendsLeaving result old new more (flat_map byte_text text ++ closing_quote colon)
   pub shorter : IfOk result (λ rest. length rest.now < length bytes)

@@ -4,7 +4,8 @@ use Rattle.jsonb_spec.specs.Ascii as ascii
 
 -- a minus, a point or a digit
 abbrev pub is_number_byte : ℕ → Bool
-is_number_byte byte = byte == ascii.minus || (byte == ascii.point || (nat_lt ascii.slash byte && nat_lt byte ascii.colon))
+is_number_byte byte =
+    byte == ascii.minus || (byte == ascii.point || (nat_lt ascii.slash byte && nat_lt byte ascii.colon))
 
 abbrev mutual
   -- the bytes from the next number on, or none; nothing where a string doesn't end

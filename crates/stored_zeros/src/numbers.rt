@@ -32,7 +32,8 @@ pub fn write_zeros_of_numbers(
     ensures ok { IfOk result (λ more. OfNumbers zeros.now first numbers plain (λ taken.
         (buf.new.items ≡ buf.old.items ++ zeros_of plain taken) × (more ≡ plain_at_end plain taken))) }
     ensures err { OnErr result (buf.new.items ≡ buf.old.items) }
-    ensures invalid { IfErr result (λ e. e ≡ ZerosError.Invalid → OfNumbers zeros.now first numbers plain (λ taken. ⊥)) }
+    ensures invalid { IfErr result (λ e. e ≡ ZerosError.Invalid
+        → OfNumbers zeros.now first numbers plain (λ taken. ⊥)) }
     ensures full { OnErr result (OfNumbers zeros.now first numbers plain (λ taken.
         LacksRoom buf.old (zeros_of plain taken))) }
     ensures capacity { vec_capacity buf.old ≤ vec_capacity buf.new }

@@ -23,7 +23,7 @@ use Rattle.jsonb_scan.specs.Open.{elements_so_far, members_so_far}
 use Rattle.jsonb.specs.Source.{source_view}
 use Rattle.jsonb.specs.declared.parser.ast.JsonAst.{JsonAst}
 use Rattle.jsonb.specs.declared.parser.ast.JsonAst as ast
-use Rattle.jsonb_scan.specs.Reading.Container.{object_or_fault}
+use Rattle.jsonb_scan.specs.Parsing.Container.{object_or_fault}
 use Rattle.jsonb_spec.specs.Source.{Found, Source, Spot, array_source_of, member_of, object_source_of, spot_of, tree_of_source}
 use Rattle.jsonb.proofs.Containers.Repeats.{no_repeat}
 use Rattle.jsonb.proofs.Containers.Sources.{array_tree, object_tree}

@@ -15,16 +15,16 @@ use Rattle.jsonb.specs.declared.parser.frame.Frame.{Frame}
 use Rattle.jsonb.specs.declared.parser.frame.OpenObject.{OpenObject}
 use Rattle.jsonb.specs.declared.parser.frame.Frame.TheVariants as variants
 use Rattle.jsonb.specs.Handler.{AreSeen, AsScalar, Builds, ElseFails, Misses, found_keys}
-use Rattle.jsonb.specs.Frames.{AllFit, AtPart, BeforeValue, Fits, IsArray, IsObject, IsRead, OpensContainer, ReadsParts, depth_within, finish_container, resume_part, resume_stack, resume_value, scalar_or_null}
+use Rattle.jsonb.specs.Frames.{AllFit, AtPart, BeforeValue, Fits, IsArray, IsObject, IsParsedToEnd, OpensContainer, ParsesParts, depth_within, finish_container, resume_part, resume_stack, resume_value, scalar_or_null}
 use Rattle.jsonb_scan.specs.Answer.{MayAllocate, mode_of}
-use Rattle.jsonb.specs.Parser.{Advances, read_at, rest_of, size_of}
-use Rattle.jsonb_scan.specs.Reading.{Fault, Read, begins, on_byte, reject, ◌>>=◌}
-use Rattle.jsonb_scan.specs.Reading.Whitespace.{skip_whitespace}
-use Rattle.jsonb_scan.specs.Reading.Container.{array_at, elements_at, is_left_out, members_at, object_at, object_or_fault, value_or_null}
+use Rattle.jsonb.specs.Parser.{Advances, parse_at, rest_of, size_of}
+use Rattle.jsonb_scan.specs.Parsing.{Fault, Parse, begins, on_byte, reject, ◌>>=◌}
+use Rattle.jsonb_scan.specs.Parsing.Whitespace.{skip_whitespace}
+use Rattle.jsonb_scan.specs.Parsing.Container.{array_at, elements_at, is_left_out, members_at, object_at, object_or_fault, value_or_null}
 use Rattle.jsonb_spec.specs.Source.{Found, Source, array_source, found_member, no_source_members, no_sources, null_source, object_source, object_source_of, source_alone, spot_of}
-use Rattle.jsonb_scan.specs.Reading.Document.{alone_at, value_at}
-use Rattle.jsonb_scan.specs.Reading.Scalar.{scalar_at}
-use Rattle.jsonb.specs.Stack.{elements_from, finish_open, member_start, next_part_at, object_end, part_end, read_members_from, resume, resume_after_part}
+use Rattle.jsonb_scan.specs.Parsing.Document.{alone_at, value_at}
+use Rattle.jsonb_scan.specs.Parsing.Scalar.{scalar_at}
+use Rattle.jsonb.specs.Stack.{elements_from, finish_open, member_start, next_part_at, object_end, part_end, object_members_from, resume, resume_after_part}
 use Rattle.jsonb_scan.specs.Open.{Open, add_part}
 use Rattle.jsonb_scan.specs.Open.{elements_so_far, members_so_far}
 use Rattle.jsonb.proofs.Containers.OpenOnLists.{array-begun, array-value, element-due, elements-turn, members-turn, object-begun, object-value, on_byte-then, resume-none, resume-part, then-same, then-then, value_plain}
@@ -38,13 +38,13 @@ use Rattle.jsonb_scan.proofs.Steps.Tests.{chosen}
 -- ---- what is returned after a first step
 
 -- A step was built, and what comes after it is the whole; or its fault is that of the whole.
-pub builds_then : {X F Y B : Type 0} (silent : Bool) (told : Option Error) (See : X → Y → Type 0) (r : Result X F) (read : Read Y) (rest : List ℕ) (then : Y × List ℕ → Result B Fault) (whole : Result B Fault) (P : X → Type 0)
+pub builds_then : {X F Y B : Type 0} (silent : Bool) (told : Option Error) (See : X → Y → Type 0) (r : Result X F) (read : Parse Y) (rest : List ℕ) (then : Y × List ℕ → Result B Fault) (whole : Result B Fault) (P : X → Type 0)
     → Builds silent told See r read rest → whole ≡ (read >>= then) → ((x : X) (y : Y) → See x y → whole ≡ then (y, rest) → P x) → ElseFails silent told r whole P
 builds_then silent told See (Ok x) read rest then whole P b e f = f x b.0 b.1 (e ∙ ap (λ q. q >>= then) b.2)
 builds_then silent told See (Err t) read rest then whole P b e f = misses_same silent told (read >>= then) whole e (misses_through silent told read then b)
 
 -- a value that holds no others
-pub builds_alone : {X F : Type 0} (silent : Bool) (told : Option Error) (Sees : X → Source → Type 0) (r : Result X F) (read : Read Tree) (rest : List ℕ) → Builds silent told (AsScalar Sees) r read rest → Builds silent told Sees r (alone_at read) rest
+pub builds_alone : {X F : Type 0} (silent : Bool) (told : Option Error) (Sees : X → Source → Type 0) (r : Result X F) (read : Parse Tree) (rest : List ℕ) → Builds silent told (AsScalar Sees) r read rest → Builds silent told Sees r (alone_at read) rest
 builds_alone silent told Sees (Ok x) read rest b = (source_alone b.0, b.1, ap alone_at b.2)
 builds_alone silent told Sees (Err f) read rest b = misses_through silent told read (λ x. Ok (source_alone x.0, x.1)) b
 
@@ -65,7 +65,7 @@ pub value_alone : (p q : Parser) (depth : ℕ) → Advances p q → begins 91 (r
     → value_at (size_of p) (mode_of p.mode) depth (rest_of q) ≡ alone_at (scalar_at (size_of q) (mode_of q.mode) (rest_of q))
 value_alone p q depth a no_array no_object = value_same p q depth (rest_of q) a ∙ value_plain (size_of q) (mode_of q.mode) depth (rest_of q) no_array no_object
 
-or_null_alone : (left_out : Bool) (bytes : List ℕ) (read : Read Tree) → cond left_out (Ok (null_source, bytes)) (alone_at read) ≡ alone_at (cond left_out (Ok (null, bytes)) read)
+or_null_alone : (left_out : Bool) (bytes : List ℕ) (read : Parse Tree) → cond left_out (Ok (null_source, bytes)) (alone_at read) ≡ alone_at (cond left_out (Ok (null, bytes)) read)
 or_null_alone true bytes read = refl
 or_null_alone false bytes read = refl
 
@@ -79,18 +79,18 @@ module _ (size : ℕ) (mode : Mode) (depth : ℕ) where
   pub element_ends : (front : List Source) (bytes : List ℕ)
       → resume_after_part size mode depth (elements_so_far front) bytes ≡ (part_end size expected_array_comma_or_end 93 bytes >>= λ x. resume_part size mode depth x.0 (elements_so_far front) x.1)
   element_ends front bytes =
-      let g : Bool × List ℕ → Read Source = λ x. resume_part size mode depth x.0 (elements_so_far front) x.1 in
-      let last : Read Bool = on_byte 93 bytes (λ rest. Ok (true, rest)) (reject size expected_array_comma_or_end 0 bytes) in
+      let g : Bool × List ℕ → Parse Source = λ x. resume_part size mode depth x.0 (elements_so_far front) x.1 in
+      let last : Parse Bool = on_byte 93 bytes (λ rest. Ok (true, rest)) (reject size expected_array_comma_or_end 0 bytes) in
       sym (on_byte-then 44 bytes (λ rest. Ok (false, rest)) last g
-      ∙ ap (λ (o : Read Source). on_byte 44 bytes (λ rest. g (false, rest)) o) (on_byte-then 93 bytes (λ rest. Ok (true, rest)) (reject size expected_array_comma_or_end 0 bytes) g))
+      ∙ ap (λ (o : Parse Source). on_byte 44 bytes (λ rest. g (false, rest)) o) (on_byte-then 93 bytes (λ rest. Ok (true, rest)) (reject size expected_array_comma_or_end 0 bytes) g))
 
   pub member_ends : (front : List Found) (key : Mark × List ℕ) (place : ℕ) (bytes : List ℕ)
       → resume_after_part size mode depth (members_so_far front key place) bytes ≡ (part_end size expected_object_comma_or_end 125 bytes >>= λ x. resume_part size mode depth x.0 (members_so_far front key place) x.1)
   member_ends front key place bytes =
-      let g : Bool × List ℕ → Read Source = λ x. resume_part size mode depth x.0 (members_so_far front key place) x.1 in
-      let last : Read Bool = on_byte 125 bytes (λ rest. Ok (true, rest)) (reject size expected_object_comma_or_end 0 bytes) in
+      let g : Bool × List ℕ → Parse Source = λ x. resume_part size mode depth x.0 (members_so_far front key place) x.1 in
+      let last : Parse Bool = on_byte 125 bytes (λ rest. Ok (true, rest)) (reject size expected_object_comma_or_end 0 bytes) in
       sym (on_byte-then 44 bytes (λ rest. Ok (false, rest)) last g
-      ∙ ap (λ (o : Read Source). on_byte 44 bytes (λ rest. g (false, rest)) o) (on_byte-then 125 bytes (λ rest. Ok (true, rest)) (reject size expected_object_comma_or_end 0 bytes) g))
+      ∙ ap (λ (o : Parse Source). on_byte 44 bytes (λ rest. g (false, rest)) o) (on_byte-then 125 bytes (λ rest. Ok (true, rest)) (reject size expected_object_comma_or_end 0 bytes) g))
 
 -- ---- a turn of the loops over parts
 
@@ -103,20 +103,20 @@ element_stops p l s depth front a b skipped due =
     ∙ ap (λ r. value_at (size_of p) (mode_of p.mode) depth r >>= finish_open (size_of p) (mode_of p.mode) depth (elements_so_far front)) (sym here)
 
 -- the part that ends here, and what is left of the container
-abbrev pub after_element : Parser → ℕ → List Source → Tree × List ℕ → Read Source
+abbrev pub after_element : Parser → ℕ → List Source → Tree × List ℕ → Parse Source
 after_element p depth front x =
     part_end (size_of p) expected_array_comma_or_end 93 (skip_whitespace (mode_of p.mode) x.1) >>= λ y. resume_part (size_of p) (mode_of p.mode) depth y.0 (elements_so_far (front ++ source_alone x.0 ∷ [])) y.1
 
-abbrev pub after_member : Parser → ℕ → List Found → Mark × List ℕ → ℕ → Tree × List ℕ → Read Source
+abbrev pub after_member : Parser → ℕ → List Found → Mark × List ℕ → ℕ → Tree × List ℕ → Parse Source
 after_member p depth front k place x =
     part_end (size_of p) expected_object_comma_or_end 125 (skip_whitespace (mode_of p.mode) x.1) >>= λ y. resume_part (size_of p) (mode_of p.mode) depth y.0 (members_so_far (front ++ found_member k (source_alone x.0) place ∷ []) (plain, []) 0) y.1
 
 -- an element that holds no others is due, or none
 pub element_turn : (p l s : Parser) (depth : ℕ) (front : List Source) → Advances p l → Advances l s → rest_of s ≡ skip_whitespace (mode_of l.mode) (rest_of l) → begins 91 (rest_of s) ≡ false → begins 123 (rest_of s) ≡ false
-    → elements_from (size_of p) (mode_of p.mode) depth front (rest_of l) ≡ (read_at scalar_or_null s >>= after_element p depth front)
+    → elements_from (size_of p) (mode_of p.mode) depth front (rest_of l) ≡ (parse_at scalar_or_null s >>= after_element p depth front)
 element_turn p l s depth front a b skipped no_array no_object =
     let on = goes_on p l s a b in
-    let read : Read Tree = scalar_or_null (size_of s) (mode_of s.mode) (rest_of s) in
+    let read : Parse Tree = scalar_or_null (size_of s) (mode_of s.mode) (rest_of s) in
     let here : rest_of s ≡ skip_whitespace (mode_of p.mode) (rest_of l) = skipped ∙ sym (skip_same p l (rest_of l) a) in
     elements-turn (size_of p) (mode_of p.mode) depth front (rest_of l)
     ∙ ap (λ x. x >>= finish_open (size_of p) (mode_of p.mode) depth (elements_so_far front))
@@ -129,21 +129,21 @@ element_turn p l s depth front a b skipped no_array no_object =
     (λ x. element_ends (size_of p) (mode_of p.mode) depth (front ++ source_alone x.0 ∷ []) (skip_whitespace (mode_of p.mode) x.1))
 
 -- a member is due
-abbrev pub waits : Parser → ℕ → List Found → ((Mark × List ℕ) × ℕ) × List ℕ → Read Source
+abbrev pub waits : Parser → ℕ → List Found → ((Mark × List ℕ) × ℕ) × List ℕ → Parse Source
 waits p depth front k =
     value_at (size_of p) (mode_of p.mode) depth k.1 >>= finish_open (size_of p) (mode_of p.mode) depth (members_so_far front k.0.0 k.0.1)
 
-pub member_due : (p l : Parser) (depth : ℕ) (front : List Found) → Advances p l → read_members_from (size_of p) (mode_of p.mode) depth front (rest_of l) ≡ (read_at member_start l >>= waits p depth front)
+pub member_due : (p l : Parser) (depth : ℕ) (front : List Found) → Advances p l → object_members_from (size_of p) (mode_of p.mode) depth front (rest_of l) ≡ (parse_at member_start l >>= waits p depth front)
 member_due p l depth front a =
     members-turn (size_of p) (mode_of p.mode) depth front (rest_of l)
-    ∙ ap (λ (r : Read ((Mark × List ℕ) × ℕ)). r >>= waits p depth front) (sym (ap₂ (λ n m. member_start n m (rest_of l)) (same_size p l a) (ap mode_of a.mode)))
+    ∙ ap (λ (r : Parse ((Mark × List ℕ) × ℕ)). r >>= waits p depth front) (sym (ap₂ (λ n m. member_start n m (rest_of l)) (same_size p l a) (ap mode_of a.mode)))
 
 -- a member's value, which holds no others
 pub member_turn : (p s : Parser) (depth : ℕ) (front : List Found) (k : Mark × List ℕ) (place : ℕ) → Advances p s → begins 91 (rest_of s) ≡ false → begins 123 (rest_of s) ≡ false
-    → waits p depth front ((k, place), rest_of s) ≡ (read_at scalar_at s >>= after_member p depth front k place)
+    → waits p depth front ((k, place), rest_of s) ≡ (parse_at scalar_at s >>= after_member p depth front k place)
 member_turn p s depth front k place a no_array no_object =
-    let read : Read Tree = scalar_at (size_of s) (mode_of s.mode) (rest_of s) in
-    ap (λ (r : Read Source). r >>= finish_open (size_of p) (mode_of p.mode) depth (members_so_far front k place)) (value_alone p s depth a no_array no_object)
+    let read : Parse Tree = scalar_at (size_of s) (mode_of s.mode) (rest_of s) in
+    ap (λ (r : Parse Source). r >>= finish_open (size_of p) (mode_of p.mode) depth (members_so_far front k place)) (value_alone p s depth a no_array no_object)
     ∙ then-then read (λ (x : Tree × List ℕ). Ok (source_alone x.0, x.1)) (finish_open (size_of p) (mode_of p.mode) depth (members_so_far front k place))
     ∙ then-same read (λ (x : Tree × List ℕ). finish_open (size_of p) (mode_of p.mode) depth (members_so_far front k place) (source_alone x.0, x.1)) (after_member p depth front k place)
     (λ x. member_ends (size_of p) (mode_of p.mode) depth (front ++ found_member k (source_alone x.0) place ∷ []) (plain, []) 0 (skip_whitespace (mode_of p.mode) x.1))
@@ -228,7 +228,7 @@ module _ (size : ℕ) (mode : Mode) (depth : ℕ) (bytes rest : List ℕ) where
       ap (λ (u : List ℕ). on_byte 125 u (λ (r : List ℕ). Ok (object_source no_source_members, r)) (members_at size mode (value_at size mode depth) bytes)) e
       ∙ on_byte-found 125 rest (λ (r : List ℕ). Ok (object_source no_source_members, r)) (members_at size mode (value_at size mode depth) bytes)
       ∙ sym (ends-distinct [] rest tt)
-  object-starts key place false e = object-begun size mode depth bytes e.0 ∙ ap (λ (u : List ℕ). read_members_from size mode depth [] u) e.1
+  object-starts key place false e = object-begun size mode depth bytes e.0 ∙ ap (λ (u : List ℕ). object_members_from size mode depth [] u) e.1
 
 outer-same : (p q : Parser) (depth : ℕ) (closed : Bool) (cs : List Open) (bytes : List ℕ) → Advances p q → resume_stack (size_of p) (mode_of p.mode) depth closed cs bytes ≡ resume_stack (size_of q) (mode_of q.mode) depth closed cs bytes
 outer-same p q depth closed cs bytes a = sym (ap₂ (λ n m. resume_stack n m depth closed cs bytes) (same_size p q a) (ap mode_of a.mode))
@@ -266,15 +266,15 @@ none_open I M K (c ∷ cs) fit = absurd fit
 pub outermost_due : {I M K : Type 0} (Stands : Bool → List (Frame I M K) → List Open → Type 0) (p : Parser) (fs : List (Frame I M K)) → fs ≡ [] → Stands true [] [] → BeforeValue Stands (value_at (size_of p) (mode_of p.mode) max_depth (rest_of p)) p fs
 outermost_due Stands p fs e held =
     subst (λ gs. BeforeValue Stands (value_at (size_of p) (mode_of p.mode) max_depth (rest_of p)) p gs) (sym e)
-    (record { opens = []; fit = tt; held = held; reads = sym (resume-none (size_of p) (mode_of p.mode) max_depth (value_at (size_of p) (mode_of p.mode) max_depth (rest_of p))) })
+    (record { opens = []; fit = tt; held = held; parses = sym (resume-none (size_of p) (mode_of p.mode) max_depth (value_at (size_of p) (mode_of p.mode) max_depth (rest_of p))) })
 
 -- as many are open as may be
-pub too_many : {I M K : Type 0} (Stands : Bool → List (Frame I M K) → List Open → Type 0) (p : Parser) (fs : List (Frame I M K)) (whole : Read Source) → length fs ≡ max_depth → OpensContainer (rest_of p) → BeforeValue Stands whole p fs → whole ≡ Err (record { code = depth_limit_exceeded; place = p.offset + 1 })
+pub too_many : {I M K : Type 0} (Stands : Bool → List (Frame I M K) → List Open → Type 0) (p : Parser) (fs : List (Frame I M K)) (whole : Parse Source) → length fs ≡ max_depth → OpensContainer (rest_of p) → BeforeValue Stands whole p fs → whole ≡ Err (record { code = depth_limit_exceeded; place = p.offset + 1 })
 too_many Stands p fs whole full opens due =
     let none : depth_within fs ≡ 0 = omega arith in
-    due.reads
+    due.parses
     ∙ ap (λ n. value_at (size_of p) (mode_of p.mode) n (rest_of p) >>= resume (size_of p) (mode_of p.mode) n due.opens) none
-    ∙ ap (λ (r : Read Source). r >>= resume (size_of p) (mode_of p.mode) 0 due.opens) (rejected_here opens)
+    ∙ ap (λ (r : Parse Source). r >>= resume (size_of p) (mode_of p.mode) 0 due.opens) (rejected_here opens)
   where
     place-is : (c : ℕ) → rest_of p ≡ c ∷ drop (p.offset + 1) p.buf.now → size_of p - length (drop (p.offset + 1) p.buf.now) ≡ p.offset + 1
     place-is c e = omega (arith, ap length e, length-drop p.offset p.buf.now, length-drop (p.offset + 1) p.buf.now)
@@ -293,25 +293,25 @@ too_many Stands p fs whole full opens due =
 
 -- Old and New are what the room stands for before and after a step.
 module _ {I M K : Type 0} (Old New : Bool → List (Frame I M K) → List Open → Type 0) where
-  -- a container was pushed that is read from here on
-  opened : (p q : Parser) (fs gs : List (Frame I M K)) (f : Frame I M K) (c : Open) (closed : Bool) (whole : Read Source) → Advances p q → gs ≡ fs ++ f ∷ [] → Fits f c → ((cs : List Open) → Old true (reverse fs) cs → New false (f ∷ reverse fs) (c ∷ cs)) → length gs ≤ max_depth
+  -- a container was pushed that is parsed from here on
+  opened : (p q : Parser) (fs gs : List (Frame I M K)) (f : Frame I M K) (c : Open) (closed : Bool) (whole : Parse Source) → Advances p q → gs ≡ fs ++ f ∷ [] → Fits f c → ((cs : List Open) → Old true (reverse fs) cs → New false (f ∷ reverse fs) (c ∷ cs)) → length gs ≤ max_depth
       → ((depth : ℕ) → value_at (size_of p) (mode_of p.mode) (suc depth) (rest_of p) ≡ resume_part (size_of p) (mode_of p.mode) depth closed c (rest_of q))
       → BeforeValue Old whole p fs → AtPart New whole q gs closed
-  opened p q fs gs f c closed whole a e fits held within reads due =
+  opened p q fs gs f c closed whole a e fits held within parses due =
       let deep : depth_within fs ≡ suc (depth_within gs) = omega (arith, ap length e, length-append fs (f ∷ [])) in
       let turned = sym (ap reverse e ∙ innermost_first fs f) in
       record {
         opens = c ∷ due.opens;
         fit = subst (λ hs. AllFit hs (c ∷ due.opens)) turned (fits, due.fit);
         held = subst (λ hs. New false hs (c ∷ due.opens)) turned (held due.opens due.held);
-        reads =
-            due.reads
+        parses =
+            due.parses
             ∙ ap (λ n. value_at (size_of p) (mode_of p.mode) n (rest_of p) >>= resume (size_of p) (mode_of p.mode) n due.opens) deep
-            ∙ ap (λ r. r >>= resume (size_of p) (mode_of p.mode) (suc (depth_within gs)) due.opens) (reads (depth_within gs))
+            ∙ ap (λ r. r >>= resume (size_of p) (mode_of p.mode) (suc (depth_within gs)) due.opens) (parses (depth_within gs))
             ∙ outer-same p q (depth_within gs) closed (c ∷ due.opens) (rest_of q) a;
       }
 
-  pub array_opened : (p o s q : Parser) (fs gs : List (Frame I M K)) (v : I) (closed : Bool) (whole : Read Source) → Advances p o → Advances p q → rest_of p ≡ 91 ∷ rest_of o → rest_of s ≡ skip_whitespace (mode_of o.mode) (rest_of o)
+  pub array_opened : (p o s q : Parser) (fs gs : List (Frame I M K)) (v : I) (closed : Bool) (whole : Parse Source) → Advances p o → Advances p q → rest_of p ≡ 91 ∷ rest_of o → rest_of s ≡ skip_whitespace (mode_of o.mode) (rest_of o)
       → closed ≡ begins 93 (rest_of s) → cond closed (rest_of s ≡ 93 ∷ rest_of q) (q ≡ s) → ((cs : List Open) → Old true (reverse fs) cs → New false (variants.Array v ∷ reverse fs) (elements_so_far [] ∷ cs)) → gs ≡ fs ++ variants.Array v ∷ [] → length gs ≤ max_depth → BeforeValue Old whole p fs → AtPart New whole q gs closed
   array_opened p o s q fs gs v closed whole a b bracket skipped found_member closes held e fits due =
       opened p q fs gs (variants.Array v) (elements_so_far []) closed whole b e tt held fits
@@ -321,7 +321,7 @@ module _ {I M K : Type 0} (Old New : Bool → List (Frame I M K) → List Open �
       ∙ array-starts (size_of p) (mode_of p.mode) depth (rest_of o) (rest_of q) closed (closing 93 (mode_of p.mode) (rest_of o) s q closed (skipped ∙ sym (skip_same p o (rest_of o) a)) found_member closes))
       due
 
-  pub object_opened : (p o s q : Parser) (fs gs : List (Frame I M K)) (v : OpenObject M K) (key : Mark × List ℕ) (place : ℕ) (closed : Bool) (whole : Read Source) → Advances p o → Advances p q → rest_of p ≡ 123 ∷ rest_of o → rest_of s ≡ skip_whitespace (mode_of o.mode) (rest_of o)
+  pub object_opened : (p o s q : Parser) (fs gs : List (Frame I M K)) (v : OpenObject M K) (key : Mark × List ℕ) (place : ℕ) (closed : Bool) (whole : Parse Source) → Advances p o → Advances p q → rest_of p ≡ 123 ∷ rest_of o → rest_of s ≡ skip_whitespace (mode_of o.mode) (rest_of o)
       → closed ≡ begins 125 (rest_of s) → cond closed (rest_of s ≡ 125 ∷ rest_of q) (q ≡ s) → ((cs : List Open) → Old true (reverse fs) cs → New false (variants.Object v ∷ reverse fs) (members_so_far [] key place ∷ cs)) → gs ≡ fs ++ variants.Object v ∷ [] → length gs ≤ max_depth → BeforeValue Old whole p fs → AtPart New whole q gs closed
   object_opened p o s q fs gs v key place closed whole a b brace skipped found_member closes held e fits due =
       opened p q fs gs (variants.Object v) (members_so_far [] key place) closed whole b e tt held fits
@@ -331,20 +331,20 @@ module _ {I M K : Type 0} (Old New : Bool → List (Frame I M K) → List Open �
       ∙ object-starts (size_of p) (mode_of p.mode) depth (rest_of o) (rest_of q) key place closed (closing 125 (mode_of p.mode) (rest_of o) s q closed (skipped ∙ sym (skip_same p o (rest_of o) a)) found_member closes))
       due
 
-  -- ---- parts are read
+  -- ---- parts are parsed
 
   same_depth : (fs gs hs : List (Frame I M K)) (f g : Frame I M K) → fs ≡ hs ++ f ∷ [] → gs ≡ hs ++ g ∷ [] → depth_within gs ≡ depth_within fs
   same_depth fs gs hs f g e d = ap (λ n. max_depth - n) (let same : length gs ≡ length fs = omega (arith, ap length e, ap length d, length-append hs (f ∷ []), length-append hs (g ∷ [])) in same)
 
-  module _ (p q : Parser) (fs gs hs : List (Frame I M K)) (f g : Frame I M K) (whole : Read Source) (a : Advances p q) (e : fs ≡ hs ++ f ∷ []) (d : gs ≡ hs ++ g ∷ []) where
-    stopped : (closed : Bool) (ahead : AtPart Old whole p fs false) (i : Innermost Old false (reverse hs) f ahead.opens) (s : ReadsParts New (size_of p) (mode_of p.mode) (depth_within fs) (next_part_at (size_of p) (mode_of p.mode) (depth_within fs) i.inner (rest_of p)) closed g (reverse hs) i.others (rest_of q))
+  module _ (p q : Parser) (fs gs hs : List (Frame I M K)) (f g : Frame I M K) (whole : Parse Source) (a : Advances p q) (e : fs ≡ hs ++ f ∷ []) (d : gs ≡ hs ++ g ∷ []) where
+    stopped : (closed : Bool) (ahead : AtPart Old whole p fs false) (i : Innermost Old false (reverse hs) f ahead.opens) (s : ParsesParts New (size_of p) (mode_of p.mode) (depth_within fs) (next_part_at (size_of p) (mode_of p.mode) (depth_within fs) i.inner (rest_of p)) closed g (reverse hs) i.others (rest_of q))
         → whole ≡ (resume_value (size_of p) (mode_of p.mode) (depth_within fs) closed s.so_far (rest_of q) >>= resume (size_of p) (mode_of p.mode) (suc (depth_within fs)) i.others)
     stopped closed ahead i s =
-        ahead.reads
+        ahead.parses
         ∙ ap (λ cs. resume_stack (size_of p) (mode_of p.mode) (depth_within fs) false cs (rest_of p)) i.are
-        ∙ ap (λ (r : Read Source). r >>= resume (size_of p) (mode_of p.mode) (suc (depth_within fs)) i.others) s.reads
+        ∙ ap (λ (r : Parse Source). r >>= resume (size_of p) (mode_of p.mode) (suc (depth_within fs)) i.others) s.parses
 
-    -- what stands once the innermost was read so far
+    -- what stands once the innermost was parsed so far
     stand_on : (due : Bool) (c : Open) (cs : List Open) → New due (g ∷ reverse hs) (c ∷ cs) → New due (reverse gs) (c ∷ cs)
     stand_on due c cs h = subst (λ ks. New due ks (c ∷ cs)) (sym (ap reverse d ∙ innermost_first hs g)) h
 
@@ -352,7 +352,7 @@ module _ {I M K : Type 0} (Old New : Bool → List (Frame I M K) → List Open �
     fit_on c cs h i = subst (λ ks. AllFit ks (c ∷ cs)) (sym (ap reverse d ∙ innermost_first hs g)) (h, i)
 
     -- up to the end of the container
-    pub read_to_end : ((depth : ℕ) (c : Open) (ks : List (Frame I M K)) (cs : List Open) → Fits f c → Old false (f ∷ ks) (c ∷ cs) → ReadsParts New (size_of p) (mode_of p.mode) depth (next_part_at (size_of p) (mode_of p.mode) depth c (rest_of p)) true g ks cs (rest_of q))
+    pub read_to_end : ((depth : ℕ) (c : Open) (ks : List (Frame I M K)) (cs : List Open) → Fits f c → Old false (f ∷ ks) (c ∷ cs) → ParsesParts New (size_of p) (mode_of p.mode) depth (next_part_at (size_of p) (mode_of p.mode) depth c (rest_of p)) true g ks cs (rest_of q))
         → AtPart Old whole p fs false → AtPart New whole q gs true
     read_to_end stops ahead =
         let i = innermost_of Old false hs fs f ahead.opens e ahead.fit ahead.held in
@@ -361,14 +361,14 @@ module _ {I M K : Type 0} (Old New : Bool → List (Frame I M K) → List Open �
           opens = s.so_far ∷ i.others;
           fit = fit_on s.so_far i.others s.fits i.others_fit;
           held = stand_on false s.so_far i.others s.held;
-          reads =
+          parses =
               stopped true ahead i s
               ∙ outer-same p q (depth_within fs) true (s.so_far ∷ i.others) (rest_of q) a
               ∙ ap (λ n. resume_stack (size_of q) (mode_of q.mode) n true (s.so_far ∷ i.others) (rest_of q)) (sym (same_depth fs gs hs f g e d));
         }
 
     -- up to a part that is a container
-    pub stopped_due : ((depth : ℕ) (c : Open) (ks : List (Frame I M K)) (cs : List Open) → Fits f c → Old false (f ∷ ks) (c ∷ cs) → ReadsParts New (size_of p) (mode_of p.mode) depth (next_part_at (size_of p) (mode_of p.mode) depth c (rest_of p)) false g ks cs (rest_of q))
+    pub stopped_due : ((depth : ℕ) (c : Open) (ks : List (Frame I M K)) (cs : List Open) → Fits f c → Old false (f ∷ ks) (c ∷ cs) → ParsesParts New (size_of p) (mode_of p.mode) depth (next_part_at (size_of p) (mode_of p.mode) depth c (rest_of p)) false g ks cs (rest_of q))
         → AtPart Old whole p fs false → BeforeValue New whole q gs
     stopped_due stops ahead =
         let i = innermost_of Old false hs fs f ahead.opens e ahead.fit ahead.held in
@@ -377,7 +377,7 @@ module _ {I M K : Type 0} (Old New : Bool → List (Frame I M K) → List Open �
           opens = s.so_far ∷ i.others;
           fit = fit_on s.so_far i.others s.fits i.others_fit;
           held = stand_on true s.so_far i.others s.held;
-          reads =
+          parses =
               stopped false ahead i s
               ∙ resume-part (size_of p) (mode_of p.mode) (depth_within fs) s.so_far i.others (value_at (size_of p) (mode_of p.mode) (depth_within fs) (rest_of q))
               ∙ ap₂ (λ n m. value_at n m (depth_within fs) (rest_of q) >>= resume n m (depth_within fs) (s.so_far ∷ i.others)) (sym (same_size p q a)) (ap mode_of (sym a.mode))
@@ -385,27 +385,27 @@ module _ {I M K : Type 0} (Old New : Bool → List (Frame I M K) → List Open �
         }
 
   -- the fault of a part of the innermost
-  pub part_misses : (p : Parser) (fs hs : List (Frame I M K)) (f : Frame I M K) (whole : Read Source) (silent : Bool) (t : Option Error) → fs ≡ hs ++ f ∷ []
+  pub part_misses : (p : Parser) (fs hs : List (Frame I M K)) (f : Frame I M K) (whole : Parse Source) (silent : Bool) (t : Option Error) → fs ≡ hs ++ f ∷ []
       → ((depth : ℕ) (c : Open) (ks : List (Frame I M K)) (cs : List Open) → Fits f c → Old false (f ∷ ks) (c ∷ cs) → Misses silent t (next_part_at (size_of p) (mode_of p.mode) depth c (rest_of p))) → AtPart Old whole p fs false → Misses silent t whole
   part_misses p fs hs f whole silent t is h ahead =
       let i = innermost_of Old false hs fs f ahead.opens is ahead.fit ahead.held in
       let part = next_part_at (size_of p) (mode_of p.mode) (depth_within fs) i.inner (rest_of p) in
       misses_same silent t (part >>= resume (size_of p) (mode_of p.mode) (suc (depth_within fs)) i.others) whole
-      (ahead.reads ∙ ap (λ cs. resume_stack (size_of p) (mode_of p.mode) (depth_within fs) false cs (rest_of p)) i.are)
+      (ahead.parses ∙ ap (λ cs. resume_stack (size_of p) (mode_of p.mode) (depth_within fs) false cs (rest_of p)) i.are)
       (misses_through silent t part (resume (size_of p) (mode_of p.mode) (suc (depth_within fs)) i.others) (h (depth_within fs) i.inner (reverse hs) i.others i.fits i.held))
 
   -- ---- a container ends
 
-  -- The innermost was taken off: it is what is read of it, and then the others go on.
-  pub record Ended (whole : Read Source) (p : Parser) (gs : List (Frame I M K)) (f : Frame I M K) : Type 0 where
+  -- The innermost was taken off: it is what is parsed of it, and then the others go on.
+  pub record Ended (whole : Parse Source) (p : Parser) (gs : List (Frame I M K)) (f : Frame I M K) : Type 0 where
     pub inner : Open
     pub others : List Open
     pub fits : Fits f inner
     pub others_fit : AllFit (reverse gs) others
     pub held : Old false (f ∷ reverse gs) (inner ∷ others)
-    pub reads : whole ≡ (finish_container inner (rest_of p) >>= resume (size_of p) (mode_of p.mode) (depth_within gs) others)
+    pub parses : whole ≡ (finish_container inner (rest_of p) >>= resume (size_of p) (mode_of p.mode) (depth_within gs) others)
 
-  pub ended : (p : Parser) (fs gs : List (Frame I M K)) (f : Frame I M K) (whole : Read Source) → fs ≡ gs ++ f ∷ [] → length fs ≤ max_depth → AtPart Old whole p fs true → Ended whole p gs f
+  pub ended : (p : Parser) (fs gs : List (Frame I M K)) (f : Frame I M K) (whole : Parse Source) → fs ≡ gs ++ f ∷ [] → length fs ≤ max_depth → AtPart Old whole p fs true → Ended whole p gs f
   ended p fs gs f whole e fits ahead =
       let i = innermost_of Old false gs fs f ahead.opens e ahead.fit ahead.held in
       let deep : suc (depth_within fs) ≡ depth_within gs = omega (arith, ap length e, length-append gs (f ∷ [])) in
@@ -415,13 +415,13 @@ module _ {I M K : Type 0} (Old New : Bool → List (Frame I M K) → List Open �
         fits = i.fits;
         others_fit = i.others_fit;
         held = i.held;
-        reads =
-            ahead.reads
+        parses =
+            ahead.parses
             ∙ ap (λ cs. resume_stack (size_of p) (mode_of p.mode) (depth_within fs) true cs (rest_of p)) i.are
             ∙ ap (λ n. finish_container i.inner (rest_of p) >>= resume (size_of p) (mode_of p.mode) n i.others) deep;
       }
 
-  pub outermost : (p : Parser) (fs : List (Frame I M K)) (f : Frame I M K) (whole : Read Source) → fs ≡ f ∷ [] → AtPart Old whole p fs true → length fs ≤ max_depth → IsRead Old whole fs (rest_of p)
+  pub outermost : (p : Parser) (fs : List (Frame I M K)) (f : Frame I M K) (whole : Parse Source) → fs ≡ f ∷ [] → AtPart Old whole p fs true → length fs ≤ max_depth → IsParsedToEnd Old whole fs (rest_of p)
   outermost p fs f whole e ahead fits =
       let x = ended p fs [] f whole e fits ahead in
       let none = none_open I M K x.others x.others_fit in (
@@ -430,16 +430,16 @@ module _ {I M K : Type 0} (Old New : Bool → List (Frame I M K) → List Open �
         e,
         x.fits,
         subst (λ cs. Old false (f ∷ []) (x.inner ∷ cs)) none x.held,
-        x.reads
+        x.parses
             ∙ ap (λ cs. finish_container x.inner (rest_of p) >>= resume (size_of p) (mode_of p.mode) (depth_within {I = I} {M = M} {K = K} []) cs) none
             ∙ resume-none (size_of p) (mode_of p.mode) (depth_within {I = I} {M = M} {K = K} []) (finish_container x.inner (rest_of p)),
       )
 
   -- the fault at its end
-  pub end_misses : (p : Parser) (gs : List (Frame I M K)) (f : Frame I M K) (whole : Read Source) (silent : Bool) (t : Option Error) (x : Ended whole p gs f) → Misses silent t (finish_container x.inner (rest_of p)) → Misses silent t whole
+  pub end_misses : (p : Parser) (gs : List (Frame I M K)) (f : Frame I M K) (whole : Parse Source) (silent : Bool) (t : Option Error) (x : Ended whole p gs f) → Misses silent t (finish_container x.inner (rest_of p)) → Misses silent t whole
   end_misses p gs f whole silent t x h =
       let then = resume (size_of p) (mode_of p.mode) (depth_within gs) x.others in
-      misses_same silent t (finish_container x.inner (rest_of p) >>= then) whole x.reads (misses_through silent t (finish_container x.inner (rest_of p)) then h)
+      misses_same silent t (finish_container x.inner (rest_of p) >>= then) whole x.parses (misses_through silent t (finish_container x.inner (rest_of p)) then h)
 
   -- The container around a value, with the value put in, goes on at the end of the part.
   pub record Joins (size : ℕ) (mode : Mode) (s : Source) (c : Open) (cs : List Open) (g : Frame I M K) (below : List (Frame I M K)) (code : Code) (close : ℕ) : Type 0 where
@@ -447,7 +447,7 @@ module _ {I M K : Type 0} (Old New : Bool → List (Frame I M K) → List Open �
     pub held : New false (g ∷ below) (add_part c s ∷ cs)
     pub ends : (depth : ℕ) (bytes : List ℕ) → resume_after_part size mode depth (add_part c s) bytes ≡ (part_end size code close bytes >>= λ y. resume_part size mode depth y.0 (add_part c s) y.1)
 
-  module _ (p q : Parser) (gs ks hs : List (Frame I M K)) (f g inner : Frame I M K) (whole : Read Source) (s : Source) (code : Code) (close : ℕ) (a : Advances p q) (e : gs ≡ hs ++ f ∷ []) (d : ks ≡ hs ++ g ∷ []) where
+  module _ (p q : Parser) (gs ks hs : List (Frame I M K)) (f g inner : Frame I M K) (whole : Parse Source) (s : Source) (code : Code) (close : ℕ) (a : Advances p q) (e : gs ≡ hs ++ f ∷ []) (d : ks ≡ hs ++ g ∷ []) where
     -- the container around, where a value stands that was due
     record Around (x : Ended whole p gs inner) : Type 0 where
       pub outer : Open
@@ -472,21 +472,21 @@ module _ {I M K : Type 0} (Old New : Bool → List (Frame I M K) → List Open �
         let j = i.joins in
         let depth = depth_within gs in
         let others = resume (size_of p) (mode_of p.mode) (suc depth) i.others in
-        let then : Bool × List ℕ → Read Source = λ y. resume_part (size_of p) (mode_of p.mode) depth y.0 (add_part i.outer s) y.1 >>= others in
+        let then : Bool × List ℕ → Parse Source = λ y. resume_part (size_of p) (mode_of p.mode) depth y.0 (add_part i.outer s) y.1 >>= others in
         let read = part_end (size_of p) code close (skip_whitespace (mode_of p.mode) (rest_of p)) in
         let turned = sym (ap reverse d ∙ innermost_first hs g) in
         builds_then silent told (λ b c. b ≡ c) r read (rest_of q) then whole (AtPart New whole q ks) built
-        (x.reads
-        ∙ ap (λ (u : Read Source). u >>= resume (size_of p) (mode_of p.mode) depth x.others) finished
+        (x.parses
+        ∙ ap (λ (u : Parse Source). u >>= resume (size_of p) (mode_of p.mode) depth x.others) finished
         ∙ ap (λ cs. resume (size_of p) (mode_of p.mode) depth cs (s, rest_of p)) i.are
-        ∙ ap (λ (u : Read Source). u >>= others) (j.ends depth (skip_whitespace (mode_of p.mode) (rest_of p)))
+        ∙ ap (λ (u : Parse Source). u >>= others) (j.ends depth (skip_whitespace (mode_of p.mode) (rest_of p)))
         ∙ then-then read (λ (y : Bool × List ℕ). resume_part (size_of p) (mode_of p.mode) depth y.0 (add_part i.outer s) y.1) others)
         (λ closed y same is.
         record {
           opens = add_part i.outer s ∷ i.others;
           fit = subst (λ ls. AllFit ls (add_part i.outer s ∷ i.others)) turned (j.fits, i.others_fit);
           held = subst (λ ls. New false ls (add_part i.outer s ∷ i.others)) turned j.held;
-          reads =
+          parses =
               is
               ∙ ap (λ b. resume_part (size_of p) (mode_of p.mode) depth b (add_part i.outer s) (rest_of q) >>= others) (sym same)
               ∙ outer-same p q depth closed (add_part i.outer s ∷ i.others) (rest_of q) a

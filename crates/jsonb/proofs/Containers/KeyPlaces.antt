@@ -12,11 +12,11 @@ use Rattle.jsonb_spec.specs.Grammar.IsPadded.{padded}
 use Rattle.jsonb_spec.specs.Mode.{Mode}
 use Rattle.jsonb_spec.specs.Grammar.Scalar.{IsKey}
 use Rattle.jsonb_spec.specs.Tree.{Mark, Member}
-use Rattle.jsonb_scan.specs.Reading.{Read, on_byte, reject, ◌>>=◌}
-use Rattle.jsonb_scan.specs.Reading.Whitespace.{skip_whitespace}
-use Rattle.jsonb_scan.specs.Reading.Container.{after_key, after_part, found_at, joined_at, member_at, padded_at}
+use Rattle.jsonb_scan.specs.Parsing.{Parse, on_byte, reject, ◌>>=◌}
+use Rattle.jsonb_scan.specs.Parsing.Whitespace.{skip_whitespace}
+use Rattle.jsonb_scan.specs.Parsing.Container.{after_key, after_part, found_at, joined_at, member_at, padded_at}
 use Rattle.jsonb_spec.specs.Source.{Found, Source, Spot, first_repeat, member_of, spot_of, tree_of_source}
-use Rattle.jsonb_scan.specs.Reading.Scalar.{key_at}
+use Rattle.jsonb_scan.specs.Parsing.Scalar.{key_at}
 use Rattle.jsonb_spec.specs.Errors.{ArePassed, IsSpelling, Repeats, times}
 use Rattle.jsonb_spec.specs.Errors.ArePassed.{no_parts, part_passed}
 use Rattle.jsonb_scan.proofs.Steps.Tests.{bind_ok, rejected_fails, same_read}
@@ -39,14 +39,14 @@ pub record KeyAt (mode : Mode) (size : ℕ) (tail bytes : List ℕ) (f : Found) 
   pub some : 0 < length spelled
   pub place : f.place ≡ size - length (after ++ tail)
 
--- A member was read from the front of the bytes.
+-- A member was parsed from the front of the bytes.
 record MemberRead (mode : Mode) (size : ℕ) (bytes : List ℕ) (f : Found) (rest : List ℕ) : Type 0 where
   pub core : List ℕ
   pub spells : IsMember mode (IsSpelling mode) core (member_of f)
   pub whole : bytes ≡ core ++ rest
   pub key_at : KeyAt mode size rest core f
 
-module _ (mode : Mode) (size : ℕ) (read : List ℕ → Read Source) (sound : IsSound (Seen (IsSpelling mode)) read) where
+module _ (mode : Mode) (size : ℕ) (read : List ℕ → Parse Source) (sound : IsSound (Seen (IsSpelling mode)) read) where
   member_read : (bytes : List ℕ) (f : Found) (rest : List ℕ) → member_at size mode read bytes ≡ Ok (f, rest) → 0 < length rest → MemberRead mode size bytes f rest
   member_read bytes f rest e left =
       let b = bind_ok (key_at size mode (skip_whitespace mode bytes)) (λ (x : (Mark × List ℕ) × List ℕ). after_key size mode read x.0 (size - length x.1) (skip_whitespace mode x.1)) (f, rest) e in
@@ -94,13 +94,13 @@ pub data AreLaid (mode : Mode) (size : ℕ) (tail : List ℕ) : List ℕ → Lis
   more_laid : {first rest : List ℕ} {f : Found} {fs : List Found} → IsMember mode (IsSpelling mode) first (member_of f) → (k : KeyAt mode size tail (first ++ 44 ∷ rest) f) → length rest ≤ length k.after
       → AreLaid mode size tail rest fs → AreLaid mode size tail (first ++ 44 ∷ rest) (f ∷ fs)
 
-module _ (mode : Mode) (size : ℕ) (read : List ℕ → Read Source) (sound : IsSound (Seen (IsSpelling mode)) read) where
+module _ (mode : Mode) (size : ℕ) (read : List ℕ → Parse Source) (sound : IsSound (Seen (IsSpelling mode)) read) where
   pub members_laid : (n : ℕ) (bytes : List ℕ) (fs : List Found) (rest : List ℕ) → joined_at size expected_object_comma_or_end 125 (member_at size mode read) n bytes ≡ Ok (fs, rest)
       → (body : List ℕ) × AreLaid mode size (125 ∷ rest) body fs × (bytes ≡ body ++ 125 ∷ rest)
   unfolding joined_at
   members_laid zero bytes fs rest e = absurd cc
   members_laid (suc n) bytes fs rest e =
-      let part : List ℕ → Read Found = member_at size mode read in
+      let part : List ℕ → Parse Found = member_at size mode read in
       let b = bind_ok (part bytes) (λ (x : Found × List ℕ). after_part size expected_object_comma_or_end 125 part (joined_at size expected_object_comma_or_end 125 part n) x.0 x.1) (fs, rest) e in
       let f : Found = b.0.0 in
       let middle : List ℕ = b.0.1 in

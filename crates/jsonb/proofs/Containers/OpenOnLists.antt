@@ -6,13 +6,13 @@ use Rattle.std.proofs.lemmas.Bool.{cases_lt, cond-false}
 use Rattle.jsonb_spec.specs.Grammar.{Derives, IsElement}
 use Rattle.jsonb_spec.specs.Mode.{Mode}
 use Rattle.jsonb_spec.specs.Tree.{Mark}
-use Rattle.jsonb_scan.specs.Reading.{Fault, Read, begins, on_byte, reject, ◌>>=◌}
-use Rattle.jsonb_scan.specs.Reading.Whitespace.{skip_whitespace}
-use Rattle.jsonb_scan.specs.Reading.Container.{after_key, after_part, array_at, element_at, elements_at, found_at, is_left_out, joined_at, member_at, members_at, object_at, padded_at, value_or_null}
+use Rattle.jsonb_scan.specs.Parsing.{Fault, Parse, begins, on_byte, reject, ◌>>=◌}
+use Rattle.jsonb_scan.specs.Parsing.Whitespace.{skip_whitespace}
+use Rattle.jsonb_scan.specs.Parsing.Container.{after_key, after_part, array_at, element_at, elements_at, found_at, is_left_out, joined_at, member_at, members_at, object_at, padded_at, value_or_null}
 use Rattle.jsonb_spec.specs.Source.{Found, Source, array_source, no_source_members, no_sources, null_source, object_source}
-use Rattle.jsonb_scan.specs.Reading.Document.{alone_at, too_deep, value_at, value_with}
-use Rattle.jsonb_scan.specs.Reading.Scalar.{key_at, scalar_at}
-use Rattle.jsonb.specs.Stack.{array_end, array_within, elements_from, finish_open, member_start, read_members_from, object_end, object_within, parts_after, parts_from, resume}
+use Rattle.jsonb_scan.specs.Parsing.Document.{alone_at, too_deep, value_at, value_with}
+use Rattle.jsonb_scan.specs.Parsing.Scalar.{key_at, scalar_at}
+use Rattle.jsonb.specs.Stack.{array_end, array_within, elements_from, finish_open, member_start, object_members_from, object_end, object_within, parts_after, parts_from, resume}
 use Rattle.jsonb_scan.specs.Open.{Open}
 use Rattle.jsonb_scan.specs.Open.{elements_so_far, members_so_far}
 use Rattle.jsonb_scan.proofs.Containers.JoinedParts.{IsSoundBefore, on_byte-none}
@@ -57,10 +57,10 @@ on_byte-same c (b ∷ bytes) found found' other other' f o =
 -- ---- more turns change nothing
 
 -- what is left is no longer than what was there
-abbrev pub Shrinks : {A : Type 0} → (List ℕ → Read A) → Type 0
+abbrev pub Shrinks : {A : Type 0} → (List ℕ → Parse A) → Type 0
 Shrinks {A} part = (bytes : List ℕ) (x : A × List ℕ) → part bytes ≡ Ok x → length x.1 ≤ length bytes
 
-module _ {A : Type 0} (size : ℕ) (code : Code) (close : ℕ) (part : List ℕ → Read A) (shrinks : Shrinks part) where
+module _ {A : Type 0} (size : ℕ) (code : Code) (close : ℕ) (part : List ℕ → Parse A) (shrinks : Shrinks part) where
   pub enough_turns : (m n : ℕ) (bytes : List ℕ) → length bytes < m → length bytes < n → joined_at size code close part m bytes ≡ joined_at size code close part n bytes
   unfolding joined_at
   enough_turns zero n bytes g h = absurd (omega arith)
@@ -71,9 +71,9 @@ module _ {A : Type 0} (size : ℕ) (code : Code) (close : ℕ) (part : List ℕ 
       let fits : length x.1 ≤ length bytes = shrinks bytes x e in
       on_byte-same 44 x.1 (λ (r : List ℕ). joined_at size code close part m r >>= λ (y : List A × List ℕ). Ok (x.0 ∷ y.0, y.1)) (λ (r : List ℕ). joined_at size code close part n r >>= λ (y : List A × List ℕ). Ok (x.0 ∷ y.0, y.1))
       (on_byte close x.1 (λ (r : List ℕ). Ok (x.0 ∷ [], r)) (reject size code 0 x.1)) (on_byte close x.1 (λ (r : List ℕ). Ok (x.0 ∷ [], r)) (reject size code 0 x.1))
-      (λ r less. ap (λ (q : Read (List A)). q >>= λ (y : List A × List ℕ). Ok (x.0 ∷ y.0, y.1)) (enough_turns m n r (omega arith) (omega arith))) refl)
+      (λ r less. ap (λ (q : Parse (List A)). q >>= λ (y : List A × List ℕ). Ok (x.0 ∷ y.0, y.1)) (enough_turns m n r (omega arith) (omega arith))) refl)
 
-  module _ (finish : List A → List ℕ → Read Source) where
+  module _ (finish : List A → List ℕ → Parse Source) where
     -- what comes after one more part
     after-part : (front : List A) (n : ℕ) (a : A) (more : List ℕ) → length more ≤ n
         → (after_part size code close part (joined_at size code close part n) a more >>= λ (x : List A × List ℕ). finish (front ++ x.0) x.1) ≡ parts_after size code close part finish (front ++ a ∷ []) more
@@ -83,7 +83,7 @@ module _ {A : Type 0} (size : ℕ) (code : Code) (close : ℕ) (part : List ℕ 
         (on_byte close more (λ (r : List ℕ). Ok (a ∷ [], r)) (reject size code 0 more) >>= λ (x : List A × List ℕ). finish (front ++ x.0) x.1) (on_byte close more (finish (front ++ a ∷ [])) (reject size code 0 more))
         (λ r less.
         then-then (joined_at size code close part n r) (λ (x : List A × List ℕ). Ok (a ∷ x.0, x.1)) (λ (x : List A × List ℕ). finish (front ++ x.0) x.1)
-        ∙ ap (λ (q : Read (List A)). q >>= λ (x : List A × List ℕ). finish (front ++ a ∷ x.0) x.1) (enough_turns n (suc (length r)) r (omega arith) (omega arith))
+        ∙ ap (λ (q : Parse (List A)). q >>= λ (x : List A × List ℕ). finish (front ++ a ∷ x.0) x.1) (enough_turns n (suc (length r)) r (omega arith) (omega arith))
         ∙ then-same (joined_at size code close part (suc (length r)) r) (λ (x : List A × List ℕ). finish (front ++ a ∷ x.0) x.1) (λ (x : List A × List ℕ). finish ((front ++ a ∷ []) ++ x.0) x.1)
         (λ x. ap (λ (t : List A). finish t x.1) (sym (append_assoc front (a ∷ []) x.0))))
         (on_byte-then close more (λ (r : List ℕ). Ok (a ∷ [], r)) (reject size code 0 more) (λ (x : List A × List ℕ). finish (front ++ x.0) x.1))
@@ -97,7 +97,7 @@ module _ {A : Type 0} (size : ℕ) (code : Code) (close : ℕ) (part : List ℕ 
 
 -- ---- elements and members
 
-pub sound-shrinks : {A : Type 0} (Spells : List ℕ → A → Type 0) (part : List ℕ → Read A) → IsSoundBefore Spells part → Shrinks part
+pub sound-shrinks : {A : Type 0} (Spells : List ℕ → A → Type 0) (part : List ℕ → Parse A) → IsSoundBefore Spells part → Shrinks part
 sound-shrinks Spells part sound bytes x e =
     ⊎_elim (λ (some : 0 < length x.1). let s = sound bytes x.0 x.1 e some in omega (arith, ap length s.whole, length-append s.core x.1)) (λ (none : length x.1 ≤ 0). omega (arith, none)) (cases_lt 0 (length x.1))
 
@@ -119,24 +119,24 @@ module _ (size : ℕ) (mode : Mode) (depth : ℕ) where
       → elements_from size mode depth front bytes ≡ (value_at size mode depth (skip_whitespace mode bytes) >>= finish_open size mode depth (elements_so_far front))
   element-due front bytes e =
       elements-turn front bytes
-      ∙ ap (λ (r : Read Source). r >>= finish_open size mode depth (elements_so_far front)) (cond-false (is_left_out mode (skip_whitespace mode bytes)) (Ok (null_source, skip_whitespace mode bytes)) (value_at size mode depth (skip_whitespace mode bytes)) e)
+      ∙ ap (λ (r : Parse Source). r >>= finish_open size mode depth (elements_so_far front)) (cond-false (is_left_out mode (skip_whitespace mode bytes)) (Ok (null_source, skip_whitespace mode bytes)) (value_at size mode depth (skip_whitespace mode bytes)) e)
 
   pub array-begun : (bytes : List ℕ) → begins 93 (skip_whitespace mode bytes) ≡ false → array_at size mode (value_at size mode depth) bytes ≡ elements_from size mode depth [] (skip_whitespace mode bytes)
   array-begun bytes e =
       let fits : length (skip_whitespace mode bytes) ≤ length bytes = length-skip mode bytes in
       on_byte-none 93 (skip_whitespace mode bytes) (λ (r : List ℕ). Ok (array_source no_sources, r)) (elements_at size mode (value_at size mode depth) bytes) e
-      ∙ ap (λ (r : Read (List Source)). r >>= λ (x : List Source × List ℕ). array_end x.0 x.1)
+      ∙ ap (λ (r : Parse (List Source)). r >>= λ (x : List Source × List ℕ). array_end x.0 x.1)
       (enough_turns size expected_array_comma_or_end 93 (element_at mode (value_at size mode depth)) element-shrinks (suc (length bytes)) (suc (length (skip_whitespace mode bytes))) (skip_whitespace mode bytes) (omega arith) (omega arith))
 
-  pub object-begun : (bytes : List ℕ) → begins 125 (skip_whitespace mode bytes) ≡ false → object_at size mode (value_at size mode depth) bytes ≡ read_members_from size mode depth [] (skip_whitespace mode bytes)
+  pub object-begun : (bytes : List ℕ) → begins 125 (skip_whitespace mode bytes) ≡ false → object_at size mode (value_at size mode depth) bytes ≡ object_members_from size mode depth [] (skip_whitespace mode bytes)
   object-begun bytes e =
       let fits : length (skip_whitespace mode bytes) ≤ length bytes = length-skip mode bytes in
       on_byte-none 125 (skip_whitespace mode bytes) (λ (r : List ℕ). Ok (object_source no_source_members, r)) (members_at size mode (value_at size mode depth) bytes) e
-      ∙ ap (λ (r : Read (List Found)). r >>= λ (x : List Found × List ℕ). object_end x.0 x.1)
+      ∙ ap (λ (r : Parse (List Found)). r >>= λ (x : List Found × List ℕ). object_end x.0 x.1)
       (enough_turns size expected_object_comma_or_end 125 (member_at size mode (value_at size mode depth)) member-shrinks (suc (length bytes)) (suc (length (skip_whitespace mode bytes))) (skip_whitespace mode bytes) (omega arith) (omega arith))
 
   -- the key, and then the value that it waits for
-  pub members-turn : (front : List Found) (bytes : List ℕ) → read_members_from size mode depth front bytes
+  pub members-turn : (front : List Found) (bytes : List ℕ) → object_members_from size mode depth front bytes
       ≡ (member_start size mode bytes >>= λ k. value_at size mode depth k.1 >>= finish_open size mode depth (members_so_far front k.0.0 k.0.1))
   members-turn front bytes =
       parts-turn size expected_object_comma_or_end 125 (member_at size mode (value_at size mode depth)) member-shrinks object_end front bytes
@@ -145,16 +145,16 @@ module _ (size : ℕ) (mode : Mode) (depth : ℕ) where
       (λ (k : (Mark × List ℕ) × List ℕ). colon k >>= waits) keyed
       ∙ sym (then-then (key_at size mode (skip_whitespace mode bytes)) colon waits)
     where
-      added : Found × List ℕ → Read Source
+      added : Found × List ℕ → Parse Source
       added x = parts_after size expected_object_comma_or_end 125 (member_at size mode (value_at size mode depth)) object_end (front ++ x.0 ∷ []) x.1
 
-      waits : ((Mark × List ℕ) × ℕ) × List ℕ → Read Source
+      waits : ((Mark × List ℕ) × ℕ) × List ℕ → Parse Source
       waits k = value_at size mode depth k.1 >>= finish_open size mode depth (members_so_far front k.0.0 k.0.1)
 
-      colon : (Mark × List ℕ) × List ℕ → Read ((Mark × List ℕ) × ℕ)
+      colon : (Mark × List ℕ) × List ℕ → Parse ((Mark × List ℕ) × ℕ)
       colon k = on_byte 58 (skip_whitespace mode k.1) (λ rest. Ok ((k.0, size - length k.1), skip_whitespace mode rest)) (reject size expected_colon 0 (skip_whitespace mode k.1))
 
-      padded-found : (key : Mark × List ℕ) (place : ℕ) (r : Read Source) → (r >>= (λ (x : Source × List ℕ). Ok (x.0, skip_whitespace mode x.1)) >>= found_at key place >>= added) ≡ (r >>= finish_open size mode depth (members_so_far front key place))
+      padded-found : (key : Mark × List ℕ) (place : ℕ) (r : Parse Source) → (r >>= (λ (x : Source × List ℕ). Ok (x.0, skip_whitespace mode x.1)) >>= found_at key place >>= added) ≡ (r >>= finish_open size mode depth (members_so_far front key place))
       padded-found key place (Ok x) = refl
       padded-found key place (Err f) = refl
 
@@ -179,8 +179,8 @@ pub value_plain : (size : ℕ) (mode : Mode) (depth : ℕ) (bytes : List ℕ) �
 value_plain size mode zero bytes a b =
     value_closed size mode bytes ∙ on_byte-none 91 bytes (too_deep size) (on_byte 123 bytes (too_deep size) (alone_at (scalar_at size mode bytes))) a ∙ on_byte-none 123 bytes (too_deep size) (alone_at (scalar_at size mode bytes)) b
 value_plain size mode (suc depth) bytes a b =
-    let arrays : List ℕ → Read Source = array_at size mode (value_at size mode depth) in
-    let objects : List ℕ → Read Source = object_at size mode (value_at size mode depth) in
+    let arrays : List ℕ → Parse Source = array_at size mode (value_at size mode depth) in
+    let objects : List ℕ → Parse Source = object_at size mode (value_at size mode depth) in
     value_opens size mode depth bytes ∙ on_byte-none 91 bytes arrays (on_byte 123 bytes objects (alone_at (scalar_at size mode bytes))) a ∙ on_byte-none 123 bytes objects (alone_at (scalar_at size mode bytes)) b
 
 pub array-value : (size : ℕ) (mode : Mode) (depth : ℕ) (rest : List ℕ) → value_at size mode depth (91 ∷ rest) ≡ array_within size mode depth rest
@@ -194,11 +194,11 @@ object-value size mode (suc depth) rest = value_opens size mode depth (123 ∷ r
 -- ---- the containers that are open
 
 module _ (size : ℕ) (mode : Mode) (depth : ℕ) (c : Open) (cs : List Open) where
-  pub resume-part : (r : Read Source) → (r >>= finish_open size mode depth c >>= resume size mode (suc depth) cs) ≡ (r >>= resume size mode depth (c ∷ cs))
+  pub resume-part : (r : Parse Source) → (r >>= finish_open size mode depth c >>= resume size mode (suc depth) cs) ≡ (r >>= resume size mode depth (c ∷ cs))
   unfolding resume
   resume-part r = then-then r (finish_open size mode depth c) (resume size mode (suc depth) cs)
 
-pub resume-none : (size : ℕ) (mode : Mode) (depth : ℕ) (r : Read Source) → (r >>= resume size mode depth []) ≡ r
+pub resume-none : (size : ℕ) (mode : Mode) (depth : ℕ) (r : Parse Source) → (r >>= resume size mode depth []) ≡ r
 unfolding resume
 resume-none size mode depth (Ok x) = refl
 resume-none size mode depth (Err f) = refl

@@ -15,13 +15,13 @@ use Rattle.jsonb_spec.specs.Grammar.Scalar.{IsKey, IsScalar}
 use Rattle.jsonb_spec.specs.Tree.{Mark, Member, Tree, put_all, trees_of}
 use Rattle.jsonb_spec.specs.Tree.Members.{no_members}
 use Rattle.jsonb_spec.specs.Tree.Tree.{array, object}
-use Rattle.jsonb_scan.specs.Reading.{Fault, Read, begins, fault, on_byte, reject, ◌>>=◌}
-use Rattle.jsonb_scan.specs.Reading.Whitespace.{is_whitespace_start, is_break, opens_comment, skip_closed_whitespace, skip_whitespace}
-use Rattle.jsonb_scan.specs.Reading.Container.{after_key, array_at, element_at, elements_at, found_at, is_left_out, joined_at, member_at, members_at, object_at, object_or_fault, padded_at, value_or_null}
+use Rattle.jsonb_scan.specs.Parsing.{Fault, Parse, begins, fault, on_byte, reject, ◌>>=◌}
+use Rattle.jsonb_scan.specs.Parsing.Whitespace.{is_whitespace_start, is_break, opens_comment, skip_closed_whitespace, skip_whitespace}
+use Rattle.jsonb_scan.specs.Parsing.Container.{after_key, array_at, element_at, elements_at, found_at, is_left_out, joined_at, member_at, members_at, object_at, object_or_fault, padded_at, value_or_null}
 use Rattle.jsonb_spec.specs.Source.{Found, Source, Spot, array_source, array_source_of, first_repeat, found_member, member_of, no_source_members, no_sources, null_source, object_source, object_source_of, source_alone, spot_of, tree_of_source}
 use Rattle.jsonb.proofs.Containers.Sources.{alone_tree, array_tree, object_tree}
-use Rattle.jsonb_scan.specs.Reading.Document.{alone_at, at_end, comment_at, document_of, source_from, source_of, nothing_at, too_deep, value_at, value_to_end, value_with}
-use Rattle.jsonb_scan.specs.Reading.Scalar.{key_at, scalar_at}
+use Rattle.jsonb_scan.specs.Parsing.Document.{alone_at, at_end, comment_at, document_of, source_from, source_of, nothing_at, too_deep, value_at, value_to_end, value_with}
+use Rattle.jsonb_scan.specs.Parsing.Scalar.{key_at, scalar_at}
 use Rattle.jsonb_scan.proofs.Steps.Tests.{SameRead, bind_ok, chosen, rejected_fails, same_ok, same_read}
 use Rattle.jsonb_scan.proofs.Containers.JoinedParts.{IsOther, IsPartComplete, IsShown, IsSound, IsSoundBefore, SeenBy, Spelled, Starts, ends-whitespace, ends_at, joined-skip, joined_complete, joined_seen, joined_sound, length-joined, on_byte-none, on_byte-other, on_byte_cases, other, padded_complete, padded_seen, padded_sound, skip-padded}
 use Rattle.jsonb.proofs.Containers.Repeats.{distinct, no_repeat}
@@ -35,14 +35,14 @@ use Rattle.jsonb_value.proofs.Trees.MembersInOrder.{HaveDistinctKeys}
 abbrev pub Seen : (List ℕ → Tree → Type 0) → List ℕ → Source → Type 0
 Seen Value = SeenBy tree_of_source Value
 
--- Each value is read, at the end of the text or where a byte follows that may follow.
-pub record IsValueComplete (Value : List ℕ → Tree → Type 0) (read : List ℕ → Read Source) : Type 0 where
+-- Each value is parsed, at the end of the text or where a byte follows that may follow.
+pub record IsValueComplete (Value : List ℕ → Tree → Type 0) (read : List ℕ → Parse Source) : Type 0 where
   pub starts : (core : List ℕ) (t : Tree) → Value core t → Starts core
-  pub reads : (core : List ℕ) (t : Tree) (rest : List ℕ) → Value core t → (IsNumberTree t → Follows rest) → (s : Source) × (tree_of_source s ≡ t) × (read (core ++ rest) ≡ Ok (s, rest))
+  pub parses : (core : List ℕ) (t : Tree) (rest : List ℕ) → Value core t → (IsNumberTree t → Follows rest) → (s : Source) × (tree_of_source s ≡ t) × (read (core ++ rest) ≡ Ok (s, rest))
 
 -- ---- scalars
 
-scalar_reads : (size : ℕ) (mode : Mode) (arrays objects : List ℕ → Read Source) (core : List ℕ) (t : Tree) (rest : List ℕ) → IsScalar mode core t → (IsNumberTree t → Follows rest)
+scalar_reads : (size : ℕ) (mode : Mode) (arrays objects : List ℕ → Parse Source) (core : List ℕ) (t : Tree) (rest : List ℕ) → IsScalar mode core t → (IsNumberTree t → Follows rest)
     → (s : Source) × (tree_of_source s ≡ t) × (value_with size mode arrays objects (core ++ rest) ≡ Ok (s, rest))
 scalar_reads size mode arrays objects core t rest s f =
     let st = scalar_starts mode core t s in
@@ -84,7 +84,7 @@ pub same_keys : (fs : List Found) → map (λ s. s.key) (map spot_of fs) ≡ map
 same_keys [] = refl
 same_keys (f ∷ fs) = ap (λ (ks : List (List ℕ)). f.key ∷ ks) (same_keys fs)
 
--- an object that was read has no repeat
+-- an object that was parsed has no repeat
 pub object_of : (o : Option Spot) (fs : List Found) (r : List ℕ) (t : Source) (rest : List ℕ) → object_or_fault o fs r ≡ Ok (t, rest) → (o ≡ None) × SameRead (object_source_of fs) t r rest
 object_of None fs r t rest e = (refl, same_read (object_source_of fs) t r rest e)
 object_of (Some s) fs r t rest e = absurd cc
@@ -93,25 +93,25 @@ pub is_extended_if : (mode : Mode) (bytes : List ℕ) → is_left_out mode bytes
 is_extended_if standard bytes e = absurd cc
 is_extended_if extended bytes e = refl
 
-module _ (mode : Mode) (Value : List ℕ → Tree → Type 0) (read : List ℕ → Read Source) where
-  value_or_null-reads : (bytes : List ℕ) → Starts bytes → value_or_null mode read bytes ≡ read bytes
-  value_or_null-reads bytes s =
+module _ (mode : Mode) (Value : List ℕ → Tree → Type 0) (read : List ℕ → Parse Source) where
+  value_or_null-parses : (bytes : List ℕ) → Starts bytes → value_or_null mode read bytes ≡ read bytes
+  value_or_null-parses bytes s =
       cond-false (is_left_out mode bytes) (Ok (null_source, bytes)) (read bytes)
       (ap (λ (u : List ℕ). is_left_out mode u) s.whole ∙ left_out-none mode s.first s.others (other s.first s.is_start))
 
   value_complete : IsValueComplete Value read → IsShown tree_of_source Value read
-  value_complete c = record { starts = c.starts; reads = λ core t rest s e. c.reads core t rest s (λ n. before e) }
+  value_complete c = record { starts = c.starts; parses = λ core t rest s e. c.parses core t rest s (λ n. before e) }
 
   value_or_null_complete : IsValueComplete Value read → IsShown tree_of_source Value (value_or_null mode read)
   value_or_null_complete c =
       record {
         starts = c.starts;
-        reads = λ core t rest s e.
+        parses = λ core t rest s e.
             let st = c.starts core t s in
-            let r = c.reads core t rest s (λ n. before e) in (
+            let r = c.parses core t rest s (λ n. before e) in (
               r.0,
               r.1,
-              value_or_null-reads (core ++ rest) (record { first = st.first; others = st.others ++ rest; whole = ap (λ (u : List ℕ). u ++ rest) st.whole; is_start = st.is_start }) ∙ r.2,
+              value_or_null-parses (core ++ rest) (record { first = st.first; others = st.others ++ rest; whole = ap (λ (u : List ℕ). u ++ rest) st.whole; is_start = st.is_start }) ∙ r.2,
             );
       }
 
@@ -124,7 +124,7 @@ module _ (mode : Mode) (Value : List ℕ → Tree → Type 0) (read : List ℕ �
         null_source,
         refl,
         ap (λ (u : List ℕ). value_or_null mode read u >>= λ (x : Source × List ℕ). Ok (x.0, skip_whitespace mode x.1)) (skip-whitespace b (c ∷ rest) ∙ k)
-            ∙ ap (λ (r : Read Source). r >>= λ (x : Source × List ℕ). Ok (x.0, skip_whitespace mode x.1)) (cond-true (is_left_out mode (c ∷ rest)) (Ok (null_source, c ∷ rest)) (read (c ∷ rest)) left_out)
+            ∙ ap (λ (r : Parse Source). r >>= λ (x : Source × List ℕ). Ok (x.0, skip_whitespace mode x.1)) (cond-true (is_left_out mode (c ∷ rest)) (Ok (null_source, c ∷ rest)) (read (c ∷ rest)) left_out)
             ∙ ap (λ (u : List ℕ). Ok (null_source, u)) k,
       )
 
@@ -151,7 +151,7 @@ module _ (mode : Mode) (Value : List ℕ → Tree → Type 0) (read : List ℕ �
               whole = front.whole ∙ ap (λ (u : List ℕ). front.whitespace ++ u) rest-is;
             }
         | inr h ↦
-            let again : padded_at mode read bytes ≡ Ok (t, rest) = ap (λ (r : Read Source). r >>= λ (x : Source × List ℕ). Ok (x.0, skip_whitespace mode x.1)) h.1 ∙ b.2 in
+            let again : padded_at mode read bytes ≡ Ok (t, rest) = ap (λ (r : Parse Source). r >>= λ (x : Source × List ℕ). Ok (x.0, skip_whitespace mode x.1)) h.1 ∙ b.2 in
             let s = padded_sound mode (Seen Value) read sound bytes t rest again left in
             record { core = s.core; spells = whole_element (padded_seen tree_of_source Value s.spells); whole = s.whole }
       ]
@@ -165,16 +165,16 @@ module _ (mode : Mode) (Value : List ℕ → Tree → Type 0) (read : List ℕ �
       let s = skip-padded mode (IsKey mode) (key_complete size mode).starts left k colon kp in
       let place : ℕ = size - length (s.after ++ colon) in
       let key_read : key_at size mode (s.core ++ (s.after ++ colon)) ≡ Ok (k, s.after ++ colon) =
-      (key_complete size mode).reads s.core k (s.after ++ colon) s.spells (ends-whitespace s.is_whitespace colon (ends_at 58 (right ++ c ∷ rest) refl)) in
+      (key_complete size mode).parses s.core k (s.after ++ colon) s.spells (ends-whitespace s.is_whitespace colon (ends_at 58 (right ++ c ∷ rest) refl)) in
       let skipped : skip_whitespace mode (s.after ++ colon) ≡ colon = skip-whitespace s.is_whitespace colon ∙ skip-stop mode 58 (right ++ c ∷ rest) refl in
       let v = padded_complete tree_of_source mode Value read (value_complete complete) right t c rest vp is_end is_none in (
         found_member k v.0 place,
         ap (λ (u : Tree). (k.1, u)) v.1,
         ap (λ (u : List ℕ). member_at size mode read u) (append_assoc left (58 ∷ right) (c ∷ rest))
             ∙ ap (λ (u : List ℕ). key_at size mode u >>= λ (x : (Mark × List ℕ) × List ℕ). after_key size mode read x.0 (size - length x.1) (skip_whitespace mode x.1)) s.skipped
-            ∙ ap (λ (r : Read (Mark × List ℕ)). r >>= λ (x : (Mark × List ℕ) × List ℕ). after_key size mode read x.0 (size - length x.1) (skip_whitespace mode x.1)) key_read
+            ∙ ap (λ (r : Parse (Mark × List ℕ)). r >>= λ (x : (Mark × List ℕ) × List ℕ). after_key size mode read x.0 (size - length x.1) (skip_whitespace mode x.1)) key_read
             ∙ ap (λ (u : List ℕ). after_key size mode read k place u) skipped
-            ∙ ap (λ (r : Read Source). r >>= λ (x : Source × List ℕ). found_at k place x) v.2,
+            ∙ ap (λ (r : Parse Source). r >>= λ (x : Source × List ℕ). found_at k place x) v.2,
       )
 
   members_complete : (size : ℕ) → IsValueComplete Value read → IsPartComplete member_of 125 (IsMember mode Value) (member_at size mode read)
@@ -194,7 +194,7 @@ module _ (mode : Mode) (Value : List ℕ → Tree → Type 0) (read : List ℕ �
       let k : Mark × List ℕ = b.0.0 in
       let place : ℕ = size - length b.0.1 in
       let colon : List ℕ = skip_whitespace mode b.0.1 in
-      let key_read : padded_at mode (key_at size mode) bytes ≡ Ok (k, colon) = ap (λ (r : Read (Mark × List ℕ)). r >>= λ (x : (Mark × List ℕ) × List ℕ). Ok (x.0, skip_whitespace mode x.1)) b.1 in
+      let key_read : padded_at mode (key_at size mode) bytes ≡ Ok (k, colon) = ap (λ (r : Parse (Mark × List ℕ)). r >>= λ (x : (Mark × List ℕ) × List ℕ). Ok (x.0, skip_whitespace mode x.1)) b.1 in
       elim (on_byte_cases 58 colon (λ (r : List ℕ). padded_at mode read r >>= λ (x : Source × List ℕ). found_at k place x) (reject size expected_colon 0 colon) (Ok (f, rest)) b.2) [
         | inl t ↦
             let v = bind_ok (padded_at mode read t.0) (λ (x : Source × List ℕ). found_at k place x) (f, rest) t.2 in
@@ -283,7 +283,7 @@ module _ (mode : Mode) (Value : List ℕ → Tree → Type 0) (read : List ℕ �
         array_source_of c.0,
         array_tree c.0 ∙ ap (λ (us : List Tree). array (trees_of us)) c.1,
         on_byte-none 93 (skip_whitespace mode bytes) (λ (r : List ℕ). Ok (array_source no_sources, r)) (elements_at size mode read bytes) (elements_begin complete j rest not_piece)
-            ∙ ap (λ (r : Read (List Source)). r >>= λ (x : List Source × List ℕ). Ok (array_source_of x.0, x.1))
+            ∙ ap (λ (r : Parse (List Source)). r >>= λ (x : List Source × List ℕ). Ok (array_source_of x.0, x.1))
             (joined-skip size expected_array_comma_or_end 93 (Seen (IsElement mode Value)) (element_at mode read) mode (λ u. ap (λ (w : List ℕ). value_or_null mode read w >>= λ (x : Source × List ℕ). Ok (x.0, skip_whitespace mode x.1)) (skip-skip mode u)) (suc (length bytes)) bytes ∙ c.2),
       )
 
@@ -332,7 +332,7 @@ module _ (mode : Mode) (Value : List ℕ → Tree → Type 0) (read : List ℕ �
         object_source_of c.0,
         object_tree c.0 found_distinct ∙ ap (λ (ns : List Member). object (put_all ns no_members)) c.1,
         on_byte-none 125 (skip_whitespace mode bytes) (λ (r : List ℕ). Ok (object_source no_source_members, r)) (members_at size mode read bytes) (members_begin j (125 ∷ rest))
-            ∙ ap (λ (r : Read (List Found)). r >>= λ (x : List Found × List ℕ). object_or_fault (first_repeat (map spot_of x.0)) x.0 x.1)
+            ∙ ap (λ (r : Parse (List Found)). r >>= λ (x : List Found × List ℕ). object_or_fault (first_repeat (map spot_of x.0)) x.0 x.1)
             (joined-skip size expected_object_comma_or_end 125 IsFound (member_at size mode read) mode (member_skip size) (suc (length bytes)) bytes ∙ c.2)
             ∙ ap (λ (o : Option Spot). object_or_fault o c.0 rest) (no_repeat (map spot_of c.0) spots_distinct),
       )
@@ -371,7 +371,7 @@ module _ (mode : Mode) (Value : List ℕ → Tree → Type 0) (read : List ℕ �
       let r = object_complete size complete body ms rest j d in (r.0, r.1, ap (λ (u : List ℕ). object_at size mode read u) (append_assoc body (125 ∷ []) rest) ∙ r.2)
 
   pub containers_complete : (size : ℕ) → IsValueComplete Value read → IsValueComplete (IsValue mode Value) (value_with size mode (array_at size mode read) (object_at size mode read))
-  containers_complete size complete = record { starts = value_starts; reads = value_reads size complete }
+  containers_complete size complete = record { starts = value_starts; parses = value_reads size complete }
 
 -- ---- values of any depth
 
@@ -395,7 +395,7 @@ unfolding value_at
 value_is_complete size mode zero =
     record {
       starts = λ core t s. let st = scalar_starts mode core t s in record { first = st.first; others = st.others; whole = st.whole; is_start = st.is_start };
-      reads = λ core t rest s f. scalar_reads size mode (too_deep size) (too_deep size) core t rest s f;
+      parses = λ core t rest s f. scalar_reads size mode (too_deep size) (too_deep size) core t rest s f;
     }
 value_is_complete size mode (suc depth) = containers_complete mode (Derives mode depth) (value_at size mode depth) size (value_is_complete size mode depth)
 

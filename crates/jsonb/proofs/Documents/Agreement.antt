@@ -16,9 +16,9 @@ use Rattle.jsonb_scan.specs.Answer.{Fails, Gives, IsTextError, MayAllocate, mode
 use Rattle.jsonb.specs.Parser.{Advances, rest_of, size_of}
 use Rattle.jsonb.specs.Parses.{Parses, Rejects}
 use Rattle.jsonb_spec.specs.Source.{Source, null_source, tree_of_source}
-use Rattle.jsonb_scan.specs.Reading.{Fault, fault, ◌>>=◌}
-use Rattle.jsonb_scan.specs.Reading.Whitespace.{opens_comment, skip_closed_whitespace}
-use Rattle.jsonb_scan.specs.Reading.Document.{at_end, comment_at, document_of, source_from, source_of, value_at, value_to_end}
+use Rattle.jsonb_scan.specs.Parsing.{Fault, fault, ◌>>=◌}
+use Rattle.jsonb_scan.specs.Parsing.Whitespace.{opens_comment, skip_closed_whitespace}
+use Rattle.jsonb_scan.specs.Parsing.Document.{at_end, comment_at, document_of, source_from, source_of, value_at, value_to_end}
 use Rattle.jsonb.specs.Handler.{IsWritten}
 use Rattle.jsonb.specs.Explained.{IsExplained}
 use Rattle.jsonb_spec.specs.Placed.{IsPlaced}
@@ -137,7 +137,7 @@ gives_tree mode bytes (Err (Syntax code place)) g = ap (λ q. q >>= λ s. Ok (tr
 gives_tree mode bytes (Err OutOfMemory) g = tt
 gives_tree mode bytes (Err other) g = absurd g
 
--- each value stands where it was read
+-- each value stands where it was parsed
 pub gives_source : (mode : Mode) (bytes : List ℕ) (r : Result JsonAst Error) → Gives source_view r (source_of mode bytes) → IfOk r (λ v. IsPlaced mode bytes (source_view v))
 gives_source mode bytes (Ok v) g = source_placed mode bytes (source_view v) g
 gives_source mode bytes (Err e) g = tt
@@ -182,7 +182,7 @@ module _ {V : Type 0} (mode : Mode) (view : V → Tree) (bytes : List ℕ) where
     explained = gives_explained r g;
   }
 
--- what an error says of the text that is the fault that is read
+-- what an error says of the text that is the fault that is parsed
 pub fault_rejects : {X : Type 0} (mode : Mode) (bytes : List ℕ) (e : Error) → Fails e (source_of mode bytes) → Rejects {X = X} mode bytes (Err e)
 fault_rejects mode bytes e fails =
     let exact = gives_tree mode bytes (Err e) fails in

@@ -16,9 +16,9 @@ use Rattle.jsonb_spec.specs.Mode.{Mode}
 use Rattle.jsonb_spec.specs.Mode.Mode.{extended}
 use Rattle.jsonb_spec.specs.Tree.{Member, Tree}
 use Rattle.jsonb_spec.specs.Source.{Source, null_source, tree_of_source}
-use Rattle.jsonb_scan.specs.Reading.{Fault, Read, fault, ◌>>=◌}
-use Rattle.jsonb_scan.specs.Reading.Whitespace.{is_whitespace_start, opens_comment, skip_closed_whitespace}
-use Rattle.jsonb_scan.specs.Reading.Document.{at_end, comment_at, document_of, nothing_at, source_from, source_of, value_at, value_to_end}
+use Rattle.jsonb_scan.specs.Parsing.{Fault, Parse, fault, ◌>>=◌}
+use Rattle.jsonb_scan.specs.Parsing.Whitespace.{is_whitespace_start, opens_comment, skip_closed_whitespace}
+use Rattle.jsonb_scan.specs.Parsing.Document.{at_end, comment_at, document_of, nothing_at, source_from, source_of, value_at, value_to_end}
 use Rattle.jsonb_scan.proofs.Steps.Tests.{same_ok, same_read}
 use Rattle.jsonb_scan.proofs.Containers.JoinedParts.{Ends, ends-piece, ends_at, other}
 use Rattle.jsonb.proofs.Scalars.Spellings.{Follows, IsNumberTree}
@@ -49,7 +49,7 @@ value_document : (mode : Mode) (size : ℕ) {front after : List ℕ} (core : Lis
 value_document mode size {front} {after} core t b d c =
     let complete = value_is_complete size mode max_depth in
     let st = complete.starts core t d in
-    let r = complete.reads core t after d (λ n. follows-whitespace c) in
+    let r = complete.parses core t after d (λ n. follows-whitespace c) in
     let piece : is_whitespace_start st.first ≡ false = (other st.first st.is_start).piece in
     let opened : core ++ after ≡ st.first ∷ (st.others ++ after) = ap (λ (u : List ℕ). u ++ after) st.whole in
     let passed : skip_closed_whitespace mode (front ++ (core ++ after)) ≡ st.first ∷ (st.others ++ after) =
@@ -59,7 +59,7 @@ value_document mode size {front} {after} core t b d c =
       ap (source_from size mode) passed
           ∙ cond-false (opens_comment mode (st.first ∷ (st.others ++ after))) (comment_at size null_source (st.others ++ after)) (value_to_end size mode (st.first ∷ (st.others ++ after))) (opens-stop mode st.first (st.others ++ after) piece)
           ∙ ap (value_to_end size mode) (sym opened)
-          ∙ ap (λ (q : Read Source). q >>= λ (x : Source × List ℕ). at_end size mode x.0 (skip_closed_whitespace mode x.1)) r.2
+          ∙ ap (λ (q : Parse Source). q >>= λ (x : Source × List ℕ). at_end size mode x.0 (skip_closed_whitespace mode x.1)) r.2
           ∙ end_read size mode r.0 c,
     )
 
@@ -76,7 +76,7 @@ unfolding source_of
 source_complete mode bytes t (value_alone {core = core} b d c) = value_document mode (length bytes) core t b d c
 source_complete mode bytes t (whitespace_alone is b) = (null_source, refl, whitespace_document mode (length bytes) is b)
 
--- each document is read, as its tree
+-- each document is parsed, as its tree
 pub document_complete : (mode : Mode) (bytes : List ℕ) (t : Tree) → IsDocument mode bytes t → document_of mode bytes ≡ Ok t
 unfolding document_of
 document_complete mode bytes t d =
@@ -133,10 +133,10 @@ deeper_by mode (suc more) depth bytes t d = let same : suc (more + depth) ≡ su
 -- No spelling of a value that is no number begins another, longer one, whatever the depths.
 pub whole_if_no_number : (mode : Mode) (m n : ℕ) (bytes rest : List ℕ) (t u : Tree) → Derives mode m bytes t → Derives mode n (bytes ++ rest) u → (IsNumberTree t → ⊥) → (rest ≡ []) × (t ≡ u)
 whole_if_no_number mode m n bytes rest t u d e no_number =
-    let first = (value_is_complete 0 mode (n + m)).reads bytes t rest (deeper_by mode n m bytes t d) (λ k. absurd (no_number k)) in
+    let first = (value_is_complete 0 mode (n + m)).parses bytes t rest (deeper_by mode n m bytes t d) (λ k. absurd (no_number k)) in
     let swap : m + n ≡ n + m = omega arith in
     let lifted : Derives mode (n + m) (bytes ++ rest) u = subst (λ (k : ℕ). Derives mode k (bytes ++ rest) u) swap (deeper_by mode m n (bytes ++ rest) u e) in
-    let second = (value_is_complete 0 mode (n + m)).reads (bytes ++ rest) u [] lifted (λ k. no_more) in
+    let second = (value_is_complete 0 mode (n + m)).parses (bytes ++ rest) u [] lifted (λ k. no_more) in
     let whole : value_at 0 mode (n + m) (bytes ++ rest) ≡ Ok (second.0, []) = ap (λ (s : List ℕ). value_at 0 mode (n + m) s) (sym (append-nil (bytes ++ rest))) ∙ second.2 in
     let same = same_read first.0 second.0 rest [] (sym first.2 ∙ whole) in
     (same.rest, sym first.1 ∙ ap tree_of_source same.value ∙ second.1)
@@ -146,6 +146,6 @@ pub derived_unique : (mode : Mode) (m n : ℕ) (bytes : List ℕ) (t u : Tree) �
 derived_unique mode m n bytes t u d e =
     let swap : m + n ≡ n + m = omega arith in
     let lifted : Derives mode (n + m) bytes u = subst (λ (k : ℕ). Derives mode k bytes u) swap (deeper_by mode m n bytes u e) in
-    let first = (value_is_complete 0 mode (n + m)).reads bytes t [] (deeper_by mode n m bytes t d) (λ k. no_more) in
-    let second = (value_is_complete 0 mode (n + m)).reads bytes u [] lifted (λ k. no_more) in
+    let first = (value_is_complete 0 mode (n + m)).parses bytes t [] (deeper_by mode n m bytes t d) (λ k. no_more) in
+    let second = (value_is_complete 0 mode (n + m)).parses bytes u [] lifted (λ k. no_more) in
     sym first.1 ∙ ap tree_of_source (same_read first.0 second.0 [] [] (sym first.2 ∙ second.2)).value ∙ second.1

@@ -9,7 +9,7 @@ use Rattle.jsonb_spec.specs.Mode.{Mode}
 use Rattle.jsonb_spec.specs.Text.{text_of, tree_text}
 use Rattle.jsonb_spec.specs.Tree.{Tree}
 use Rattle.jsonb_value.proofs.Trees.DocumentTexts.{document_has_text, some_text}
-use Rattle.jsonb_scan.specs.Reading.Document.{source_of}
+use Rattle.jsonb_scan.specs.Parsing.Document.{source_of}
 use Rattle.jsonb_spec.specs.Source.{Source, tree_of_source}
 use Rattle.jsonb.specs.Appends.{IsParsed, LacksRoomForText}
 use Rattle.jsonb.proofs.Containers.Values.{document_sound}

@@ -9,12 +9,12 @@ use Rattle.jsonb_spec.specs.Grammar.IsValue.{empty_array, empty_object, full_arr
 use Rattle.jsonb_spec.specs.Mode.{Mode}
 use Rattle.jsonb_spec.specs.Grammar.Scalar.{IsKey, IsScalar}
 use Rattle.jsonb_spec.specs.Tree.{Mark, Member, Tree}
-use Rattle.jsonb_scan.specs.Reading.{Fault, Read, begins, on_byte, reject, ◌>>=◌}
-use Rattle.jsonb_scan.specs.Reading.Whitespace.{skip_whitespace}
-use Rattle.jsonb_scan.specs.Reading.Container.{after_key, after_part, array_at, element_at, elements_at, found_at, is_left_out, joined_at, member_at, members_at, object_at, object_or_fault, padded_at, value_or_null}
+use Rattle.jsonb_scan.specs.Parsing.{Fault, Parse, begins, on_byte, reject, ◌>>=◌}
+use Rattle.jsonb_scan.specs.Parsing.Whitespace.{skip_whitespace}
+use Rattle.jsonb_scan.specs.Parsing.Container.{after_key, after_part, array_at, element_at, elements_at, found_at, is_left_out, joined_at, member_at, members_at, object_at, object_or_fault, padded_at, value_or_null}
 use Rattle.jsonb_spec.specs.Source.{Found, Source, Spot, array_source, array_source_of, first_repeat, member_of, no_source_members, no_sources, null_source, object_source, object_source_of, source_alone, spot_of, tree_of_source}
-use Rattle.jsonb_scan.specs.Reading.Document.{alone_at, too_deep, value_at, value_with}
-use Rattle.jsonb_scan.specs.Reading.Scalar.{key_at, scalar_at}
+use Rattle.jsonb_scan.specs.Parsing.Document.{alone_at, too_deep, value_at, value_with}
+use Rattle.jsonb_scan.specs.Parsing.Scalar.{key_at, scalar_at}
 use Rattle.jsonb_spec.specs.Errors.{ArePassed, IsFront, IsSpelling, Repeats}
 use Rattle.jsonb_spec.specs.Errors.ArePassed.{no_parts, part_passed}
 use Rattle.jsonb_spec.specs.Errors.IsFront.{front_of_whitespace, in_array, in_object}
@@ -41,7 +41,7 @@ whitespace_front {mode} {first} b (in_array {before = before} {elements = elemen
 whitespace_front {mode} {first} b (in_object {before = before} {members = members} {left = left} {rest = rest} {count = count} c p k h) =
     subst (λ (u : List ℕ). IsFront mode u (suc count)) (append_assoc first before (123 ∷ (members ++ (left ++ 58 ∷ rest)))) (in_object (whitespace_append b c) p k h)
 
--- ---- where a reader of values stops
+-- ---- where a parser of values stops
 
 -- A value is due at a byte that begins none, and no whitespace stands there.
 pub record BeginsNone (mode : Mode) (size : ℕ) (rest : List ℕ) (place : ℕ) : Type 0 where
@@ -91,8 +91,8 @@ pub record IsRejectedAt (mode : Mode) (depth size : ℕ) (bytes : List ℕ) (f :
   pub some : 0 < length rest
   pub wrong : Wrong mode left size rest f.code f.place
 
--- Each fault of the reader that is told of says what is wrong with the bytes, which are no more than the whole input and begin with no whitespace.
-abbrev pub Explains : Mode → ℕ → ℕ → (List ℕ → Read Source) → Type 0
+-- Each fault of the parser that is told of says what is wrong with the bytes, which are no more than the whole input and begin with no whitespace.
+abbrev pub Explains : Mode → ℕ → ℕ → (List ℕ → Parse Source) → Type 0
 Explains mode depth size read = (bytes : List ℕ) (f : Fault) → length bytes ≤ size → skip_whitespace mode bytes ≡ bytes → read bytes ≡ Err f → IsTold f.code → IsRejectedAt mode depth size bytes f
 
 -- what is wrong with the bytes at once
@@ -182,7 +182,7 @@ no_value mode depth size bytes f some none p q w = stops_here mode depth size by
 -- ---- parts joined by commas
 
 -- Parts are passed, and the fault is that of the next part.
-pub record StopsInPart {A : Type 0} (Spells : List ℕ → A → Type 0) (part : List ℕ → Read A) (bytes : List ℕ) (f : Fault) : Type 0 where
+pub record StopsInPart {A : Type 0} (Spells : List ℕ → A → Type 0) (part : List ℕ → Parse A) (bytes : List ℕ) (f : Fault) : Type 0 where
   pub passed : List ℕ
   pub rest : List ℕ
   pub parts : List A
@@ -190,7 +190,7 @@ pub record StopsInPart {A : Type 0} (Spells : List ℕ → A → Type 0) (part :
   pub whole : bytes ≡ passed ++ rest
   pub fails : part rest ≡ Err f
 
-module _ {A : Type 0} (size : ℕ) (code : Code) (close : ℕ) (Spells : List ℕ → A → Type 0) (part : List ℕ → Read A) where
+module _ {A : Type 0} (size : ℕ) (code : Code) (close : ℕ) (Spells : List ℕ → A → Type 0) (part : List ℕ → Parse A) where
   pub joined_rejected : IsSoundBefore Spells part → (IsTold code → ⊥) → (n : ℕ) (bytes : List ℕ) (f : Fault) → joined_at size code close part n bytes ≡ Err f → IsTold f.code → StopsInPart Spells part bytes f
   unfolding joined_at
   joined_rejected sound silent zero bytes f e told = absurd (silent_fault {B = List A × List ℕ} invalid_eof size f e (λ m. m) told)
@@ -213,18 +213,18 @@ module _ {A : Type 0} (size : ℕ) (code : Code) (close : ℕ) (Spells : List �
                       whole = s.whole ∙ ap (λ (u : List ℕ). s.core ++ u) (t.1 ∙ ap (λ (u : List ℕ). 44 ∷ u) r.whole) ∙ sym (append_assoc s.core (44 ∷ r.passed) r.rest);
                       fails = r.fails;
                     }
-                | inr g ↦ absurd (let never : ◌≡◌ {A = Read (List A)} (Ok (a ∷ g.0.0, g.0.1)) (Err f) = g.2 in cc)
+                | inr g ↦ absurd (let never : ◌≡◌ {A = Parse (List A)} (Ok (a ∷ g.0.0, g.0.1)) (Err f) = g.2 in cc)
               ]
               | inr t ↦ elim (on_byte_cases close middle (λ (u : List ℕ). Ok (a ∷ [], u)) (reject size code 0 middle) (Err f) t.1) [
-                | inl g ↦ absurd (let never : ◌≡◌ {A = Read (List A)} (Ok (a ∷ [], g.0)) (Err f) = g.2 in cc)
+                | inl g ↦ absurd (let never : ◌≡◌ {A = Parse (List A)} (Ok (a ∷ [], g.0)) (Err f) = g.2 in cc)
                 | inr g ↦ absurd (silent_rejected {B = List A × List ℕ} size code 0 middle f g.1 silent told)
               ]
             ]
       ]
 
--- a value that holds no others is read with the faults of its tree
-alone_fault : (r : Read Tree) (f : Fault) → alone_at r ≡ Err f → r ≡ Err f
-alone_fault (Ok x) f e = absurd (let never : ◌≡◌ {A = Read Source} (Ok (source_alone x.0, x.1)) (Err f) = e in cc)
+-- a value that holds no others is parsed with the faults of its tree
+alone_fault : (r : Parse Tree) (f : Fault) → alone_at r ≡ Err f → r ≡ Err f
+alone_fault (Ok x) f e = absurd (let never : ◌≡◌ {A = Parse Source} (Ok (source_alone x.0, x.1)) (Err f) = e in cc)
 alone_fault (Err d) f e = ap (λ (g : Fault). Err g) (same_err {B = Source × List ℕ} d f e)
 
 -- parts that are passed, seen by view
@@ -234,7 +234,7 @@ passed_seen view Spells (part_passed s p) = part_passed s (passed_seen view Spel
 
 -- ---- one level
 
-module _ (mode : Mode) (depth size : ℕ) (read : List ℕ → Read Source) (sound : IsSound (Seen (IsSpelling mode)) read) (explains : Explains mode depth size read) where
+module _ (mode : Mode) (depth size : ℕ) (read : List ℕ → Parse Source) (sound : IsSound (Seen (IsSpelling mode)) read) (explains : Explains mode depth size read) where
   -- a value after whitespace
   value_rejected : (bytes : List ℕ) (f : Fault) → length bytes ≤ size → read (skip_whitespace mode bytes) ≡ Err f → IsTold f.code → IsRejectedAt mode depth size bytes f
   value_rejected bytes f h e told = stops_after_whitespace mode depth size bytes f (explains (skip_whitespace mode bytes) f (omega (arith, h, length-skip mode bytes)) (skip-skip mode bytes) e told)
@@ -243,23 +243,23 @@ module _ (mode : Mode) (depth size : ℕ) (read : List ℕ → Read Source) (sou
   element_rejected bytes f h e told =
       elim (bind_err (value_or_null mode read (skip_whitespace mode bytes)) (λ (x : Source × List ℕ). Ok (x.0, skip_whitespace mode x.1)) f e) [
         | inl g ↦ elim (chosen (is_left_out mode (skip_whitespace mode bytes)) (Ok (null_source, skip_whitespace mode bytes)) (read (skip_whitespace mode bytes)) (Err f) g) [
-          | inl k ↦ absurd (let never : ◌≡◌ {A = Read Source} (Ok (null_source, skip_whitespace mode bytes)) (Err f) = k.1 in cc)
+          | inl k ↦ absurd (let never : ◌≡◌ {A = Parse Source} (Ok (null_source, skip_whitespace mode bytes)) (Err f) = k.1 in cc)
           | inr k ↦ value_rejected bytes f h k.1 told
         ]
-        | inr g ↦ absurd (let never : ◌≡◌ {A = Read Source} (Ok (g.0.0, skip_whitespace mode g.0.1)) (Err f) = g.2 in cc)
+        | inr g ↦ absurd (let never : ◌≡◌ {A = Parse Source} (Ok (g.0.0, skip_whitespace mode g.0.1)) (Err f) = g.2 in cc)
       ]
 
   array_rejected : (bytes : List ℕ) (f : Fault) → length (91 ∷ bytes) ≤ size → array_at size mode read bytes ≡ Err f → IsTold f.code → IsRejectedAt mode (suc depth) size (91 ∷ bytes) f
   array_rejected bytes f h e told =
       elim (on_byte_cases 93 (skip_whitespace mode bytes) (λ (r : List ℕ). Ok (array_source no_sources, r)) (elements_at size mode read bytes) (Err f) e) [
-        | inl g ↦ absurd (let never : ◌≡◌ {A = Read Source} (Ok (array_source no_sources, g.0)) (Err f) = g.2 in cc)
+        | inl g ↦ absurd (let never : ◌≡◌ {A = Parse Source} (Ok (array_source no_sources, g.0)) (Err f) = g.2 in cc)
         | inr g ↦ elim (bind_err (joined_at size expected_array_comma_or_end 93 (element_at mode read) (suc (length bytes)) (skip_whitespace mode bytes)) (λ (x : List Source × List ℕ). Ok (array_source_of x.0, x.1)) f g.1) [
           | inl k ↦
               let again = sym (joined-skip size expected_array_comma_or_end 93 (Seen (IsElement mode (IsSpelling mode))) (element_at mode read) mode (λ u. ap (λ (w : List ℕ). value_or_null mode read w >>= λ (x : Source × List ℕ). Ok (x.0, skip_whitespace mode x.1)) (skip-skip mode u)) (suc (length bytes)) bytes) ∙ k in
               let p = joined_rejected size expected_array_comma_or_end 93 (Seen (IsElement mode (IsSpelling mode))) (element_at mode read) (element_sound mode (IsSpelling mode) read sound) (λ n. n) (suc (length bytes)) bytes f again told in
               let within : length p.rest ≤ size = rest_within size bytes p.passed p.rest (omega (arith, h)) p.whole in
               stops_in_array mode depth size bytes p.passed p.rest f (passed_seen tree_of_source (IsElement mode (IsSpelling mode)) p.are_passed) p.whole (element_rejected p.rest f within p.fails told)
-          | inr k ↦ absurd (let never : ◌≡◌ {A = Read Source} (Ok (array_source_of k.0.0, k.0.1)) (Err f) = k.2 in cc)
+          | inr k ↦ absurd (let never : ◌≡◌ {A = Parse Source} (Ok (array_source_of k.0.0, k.0.1)) (Err f) = k.2 in cc)
         ]
       ]
 
@@ -280,14 +280,14 @@ module _ (mode : Mode) (depth size : ℕ) (read : List ℕ → Read Source) (sou
             let k : Mark × List ℕ = g.0.0 in
             let place : ℕ = size - length g.0.1 in
             let colon : List ℕ = skip_whitespace mode g.0.1 in
-            let key_read : padded_at mode (key_at size mode) bytes ≡ Ok (k, colon) = ap (λ (r : Read (Mark × List ℕ)). r >>= λ (x : (Mark × List ℕ) × List ℕ). Ok (x.0, skip_whitespace mode x.1)) g.1 in
+            let key_read : padded_at mode (key_at size mode) bytes ≡ Ok (k, colon) = ap (λ (r : Parse (Mark × List ℕ)). r >>= λ (x : (Mark × List ℕ) × List ℕ). Ok (x.0, skip_whitespace mode x.1)) g.1 in
             elim (on_byte_cases 58 colon (λ (r : List ℕ). padded_at mode read r >>= λ (x : Source × List ℕ). found_at k place x) (reject size expected_colon 0 colon) (Err f) g.2) [
               | inl t ↦ elim (bind_err (padded_at mode read t.0) (λ (x : Source × List ℕ). found_at k place x) f t.2) [
                 | inl v ↦ elim (bind_err (read (skip_whitespace mode t.0)) (λ (x : Source × List ℕ). Ok (x.0, skip_whitespace mode x.1)) f v) [
                   | inl w ↦
                       let s = padded_sound mode (IsKey mode) (key_at size mode) (key_sound size mode) bytes k colon key_read (omega (arith, ap length t.1)) in
                       record { left = s.core; key = k; rest = t.0; is_key = s.spells; whole = s.whole ∙ ap (λ (u : List ℕ). s.core ++ u) t.1; fails = w }
-                  | inr w ↦ absurd (let never : ◌≡◌ {A = Read Source} (Ok (w.0.0, skip_whitespace mode w.0.1)) (Err f) = w.2 in cc)
+                  | inr w ↦ absurd (let never : ◌≡◌ {A = Parse Source} (Ok (w.0.0, skip_whitespace mode w.0.1)) (Err f) = w.2 in cc)
                 ]
                 | inr v ↦ absurd (let never : found_at k place v.0 ≡ Err f = v.2 in cc)
               ]
@@ -298,7 +298,7 @@ module _ (mode : Mode) (depth size : ℕ) (read : List ℕ → Read Source) (sou
   -- the members have a key that comes twice
   repeat_rejected : (o : Option Spot) (fs : List Found) (bytes rest : List ℕ) (f : Fault) → length (123 ∷ bytes) ≤ size → first_repeat (map spot_of fs) ≡ o
       → joined_at size expected_object_comma_or_end 125 (member_at size mode read) (suc (length bytes)) bytes ≡ Ok (fs, rest) → object_or_fault o fs rest ≡ Err f → IsRejectedAt mode (suc depth) size (123 ∷ bytes) f
-  repeat_rejected None fs bytes rest f h found j e = absurd (let never : ◌≡◌ {A = Read Source} (Ok (object_source_of fs, rest)) (Err f) = e in cc)
+  repeat_rejected None fs bytes rest f h found j e = absurd (let never : ◌≡◌ {A = Parse Source} (Ok (object_source_of fs, rest)) (Err f) = e in cc)
   repeat_rejected (Some s) fs bytes rest f h found j e =
       let is : record { code = object_duplicate_key s.key; place = s.place } ≡ f = same_err {B = Source × List ℕ} (record { code = object_duplicate_key s.key; place = s.place }) f e in
       let l = members_laid mode size read sound (suc (length bytes)) bytes fs rest j in
@@ -313,7 +313,7 @@ module _ (mode : Mode) (depth size : ℕ) (read : List ℕ → Read Source) (sou
   object_rejected : (bytes : List ℕ) (f : Fault) → length (123 ∷ bytes) ≤ size → object_at size mode read bytes ≡ Err f → IsTold f.code → IsRejectedAt mode (suc depth) size (123 ∷ bytes) f
   object_rejected bytes f h e told =
       elim (on_byte_cases 125 (skip_whitespace mode bytes) (λ (r : List ℕ). Ok (object_source no_source_members, r)) (members_at size mode read bytes) (Err f) e) [
-        | inl g ↦ absurd (let never : ◌≡◌ {A = Read Source} (Ok (object_source no_source_members, g.0)) (Err f) = g.2 in cc)
+        | inl g ↦ absurd (let never : ◌≡◌ {A = Parse Source} (Ok (object_source no_source_members, g.0)) (Err f) = g.2 in cc)
         | inr g ↦ elim (bind_err (joined_at size expected_object_comma_or_end 125 (member_at size mode read) (suc (length bytes)) (skip_whitespace mode bytes)) (λ (x : List Found × List ℕ). object_or_fault (first_repeat (map spot_of x.0)) x.0 x.1) f g.1) [
           | inl k ↦
               let again = sym (joined-skip size expected_object_comma_or_end 125 IsFound (member_at size mode read) mode member_skip (suc (length bytes)) bytes) ∙ k in

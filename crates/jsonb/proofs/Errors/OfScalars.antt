@@ -14,10 +14,10 @@ use Rattle.jsonb_spec.specs.Grammar.Scalar.IsScalar.{literal_value, number_value
 use Rattle.jsonb_spec.specs.Grammar.StringBody.{Item, escaped_byte, meaning, spelling}
 use Rattle.jsonb_spec.specs.Tree.{Mark, plain, Num, Tree}
 use Rattle.jsonb_spec.specs.Tree.Tree.{boolean, null, number, string}
-use Rattle.jsonb_scan.specs.Reading.{Fault, Read, begins, fault, fault_at, reject}
-use Rattle.jsonb_scan.specs.Reading.BareKey.{bare_key_at, key_end, key_to, text_key}
-use Rattle.jsonb_scan.specs.Reading.Scalar.{begins_letter, begins_number, false_at, fold_letter, key_at, letters_at, null_at, number_at, number_or_fault, number_value_at, on_single_quote, or_else, quoted_at, scalar_at, true_or_false_at, unquoted_at, word_at, words_at}
-use Rattle.jsonb_scan.specs.Reading.String.{Body, body_of, checked_unit, string_up_to, string_of_body, escape_at, item_at, items_within, known_escape, meaning_of, non_digit, onto, quote_end, string_at, then_items, unit_at}
+use Rattle.jsonb_scan.specs.Parsing.{Fault, Parse, begins, fault, fault_at, reject}
+use Rattle.jsonb_scan.specs.Parsing.BareKey.{bare_key_at, key_end, key_to, text_key}
+use Rattle.jsonb_scan.specs.Parsing.Scalar.{begins_letter, begins_number, false_at, fold_letter, key_at, letters_at, null_at, number_at, number_or_fault, number_value_at, on_single_quote, or_else, quoted_at, scalar_at, true_or_false_at, unquoted_at, word_at, words_at}
+use Rattle.jsonb_scan.specs.Parsing.String.{Body, body_of, checked_unit, string_up_to, string_of_body, escape_at, item_at, items_within, known_escape, meaning_of, non_digit, onto, quote_end, string_at, then_items, unit_at}
 use Rattle.jsonb_scan.proofs.Steps.Tests.{bind_ok, chosen, same_read}
 use Rattle.jsonb.proofs.Errors.Codes.{IsTold, bind_err, same_err, silent_fault, silent_rejected}
 use Rattle.jsonb_scan.proofs.Containers.JoinedParts.{on_byte_cases}
@@ -43,7 +43,7 @@ word_silent : (size : ℕ) (mode : Mode) (word : List ℕ) (t : Tree) (bytes : L
 word_silent size mode word t bytes f e told =
     elim (bind_err (letters_at size mode word bytes) (λ (r : List ℕ). Ok (t, r)) f e) [
       | inl h ↦ letters_silent size mode word bytes f h told
-      | inr h ↦ absurd (let never : ◌≡◌ {A = Read Tree} (Ok (t, h.0)) (Err f) = h.2 in cc)
+      | inr h ↦ absurd (let never : ◌≡◌ {A = Parse Tree} (Ok (t, h.0)) (Err f) = h.2 in cc)
     ]
 
 -- The codes of a body's faults are none of those that are told.
@@ -108,7 +108,7 @@ unfolding string_at IsSilentBody
 string_silent size mode quote bytes f e told = by_end (quote_end quote bytes) e
   where
     by_body : (end : ℕ) (r : Body (Mark × List ℕ)) → IsSilentBody r → string_of_body size bytes end r ≡ Err f → ⊥
-    by_body end (Ok x) p h = absurd (let never : ◌≡◌ {A = Read (Mark × List ℕ)} (Ok (x, drop (end + 1) bytes)) (Err f) = h in cc)
+    by_body end (Ok x) p h = absurd (let never : ◌≡◌ {A = Parse (Mark × List ℕ)} (Ok (x, drop (end + 1) bytes)) (Err f) = h in cc)
     by_body end (Err g) p h = silent_fault {B = (Mark × List ℕ) × List ℕ} g.0 (size - length bytes + 1 + g.1) f h p told
 
     by_end : (r : Result ℕ ℕ) → string_up_to size mode bytes r ≡ Err f → ⊥
@@ -130,7 +130,7 @@ bare_silent size (b ∷ bytes) f e told =
         elim (chosen (eqb end 0 || leb 128 (get_or (b ∷ bytes) end 0)) (fault object_key_invalid_character (size - length (b ∷ bytes) + end)) (text_key size (b ∷ bytes) end) (Err f) h) [
           | inl t ↦ silent_fault {B = (Mark × List ℕ) × List ℕ} object_key_invalid_character (size - length (b ∷ bytes) + end) f t.1 (λ n. n) told
           | inr g ↦ elim (chosen (is_utf8 (take end (b ∷ bytes))) (Ok ((plain, take end (b ∷ bytes)), drop end (b ∷ bytes))) (fault invalid_string_value (size - length (b ∷ bytes) + end)) (Err f) g.1) [
-            | inl t ↦ absurd (let never : ◌≡◌ {A = Read (Mark × List ℕ)} (Ok ((plain, take end (b ∷ bytes)), drop end (b ∷ bytes))) (Err f) = t.1 in cc)
+            | inl t ↦ absurd (let never : ◌≡◌ {A = Parse (Mark × List ℕ)} (Ok ((plain, take end (b ∷ bytes)), drop end (b ∷ bytes))) (Err f) = t.1 in cc)
             | inr t ↦ silent_fault {B = (Mark × List ℕ) × List ℕ} invalid_string_value (size - length (b ∷ bytes) + end) f t.1 (λ n. n) told
           ]
         ]
@@ -230,7 +230,7 @@ same_first mode b rest more n =
       number_byte = begins_other mode b more rest ∙ n.number_byte;
     }
 
-no_scalar : (mode : Mode) (size : ℕ) (bytes : List ℕ) (f : Fault) → BeginsNoScalar mode bytes → ◌≡◌ {A = Read Tree} (reject size expected_some_value 1 bytes) (Err f) → IsTold f.code → WrongScalar mode size bytes f.code f.place
+no_scalar : (mode : Mode) (size : ℕ) (bytes : List ℕ) (f : Fault) → BeginsNoScalar mode bytes → ◌≡◌ {A = Parse Tree} (reject size expected_some_value 1 bytes) (Err f) → IsTold f.code → WrongScalar mode size bytes f.code f.place
 no_scalar mode size [] f n e told = absurd (silent_fault {B = Tree × List ℕ} invalid_eof size f e (λ x. x) told)
 no_scalar mode size (b ∷ bytes) f n e told =
     subst (λ (h : Fault). WrongScalar mode size (b ∷ bytes) h.code h.place) (same_err {B = Tree × List ℕ} (fault_at size expected_some_value 1 (b ∷ bytes)) f e)
@@ -278,7 +278,7 @@ number_value_wrong : (size : ℕ) (mode : Mode) (bytes : List ℕ) (f : Fault) �
 number_value_wrong size mode bytes f e told =
     elim (bind_err (number_at size mode bytes) (λ (x : Num × List ℕ). Ok (number x.0, x.1)) f e) [
       | inl h ↦ number_wrong size mode bytes f h told
-      | inr h ↦ absurd (let never : ◌≡◌ {A = Read Tree} (Ok (number h.0.0, h.0.1)) (Err f) = h.2 in cc)
+      | inr h ↦ absurd (let never : ◌≡◌ {A = Parse Tree} (Ok (number h.0.0, h.0.1)) (Err f) = h.2 in cc)
     ]
 
 or_else_err : {A : Type 0} (r other : Result A Fault) (f : Fault) → or_else r other ≡ Err f → other ≡ Err f
@@ -294,7 +294,7 @@ quoted_silent : (size : ℕ) (mode : Mode) (quote : ℕ) (bytes : List ℕ) (f :
 quoted_silent size mode quote bytes f e told =
     elim (bind_err (string_at size mode quote bytes) (λ (x : (Mark × List ℕ) × List ℕ). Ok (string x.0.0 x.0.1, x.1)) f e) [
       | inl h ↦ string_silent size mode quote bytes f h told
-      | inr h ↦ absurd (let never : ◌≡◌ {A = Read Tree} (Ok (string h.0.0.0 h.0.0.1, h.0.1)) (Err f) = h.2 in cc)
+      | inr h ↦ absurd (let never : ◌≡◌ {A = Parse Tree} (Ok (string h.0.0.0 h.0.0.1, h.0.1)) (Err f) = h.2 in cc)
     ]
 
 -- A fault of a scalar says what is wrong with the bytes, if it is told of.
@@ -330,9 +330,9 @@ scalar_some size mode (b ∷ bytes) f e told = omega arith
 scalar_some size standard [] f e told = absurd (silent_fault {B = Tree × List ℕ} invalid_eof size f e (λ x. x) told)
 scalar_some size extended [] f e told = absurd (silent_fault {B = Tree × List ℕ} invalid_eof size f e (λ x. x) told)
 
--- ---- what is read is the longest
+-- ---- what is parsed is the longest
 
--- No spelling of a scalar that is no number goes past what is read.
+-- No spelling of a scalar that is no number goes past what is parsed.
 other_longest : (size : ℕ) (mode : Mode) (core : List ℕ) (u : Tree) (rest : List ℕ) (t : Tree) (after : List ℕ) → IsScalar mode core u → (IsNumberTree u → ⊥) → scalar_at size mode (core ++ rest) ≡ Ok (t, after) → length after ≤ length rest
 other_longest size mode core u rest t after s other e =
     let same = same_read u t rest after (sym (scalar_complete size mode core u rest s (λ n. absurd (other n))) ∙ e) in
@@ -360,7 +360,7 @@ number_past size mode core n rest t after is e =
         ⊎_elim (λ (longer : length rest < length after). absurd ((extended_sound size (core ++ rest) k middle h).longest core rest refl (omega (arith, longer, ap length same)) (extended_is_text core n is_number)))
         (λ (fits : length after ≤ length rest). fits) (cases_lt (length rest) (length after))
 
--- No spelling of a scalar goes past what is read.
+-- No spelling of a scalar goes past what is parsed.
 pub scalar_longest : (size : ℕ) (mode : Mode) (core : List ℕ) (u : Tree) (rest : List ℕ) (t : Tree) (after : List ℕ) → IsScalar mode core u → scalar_at size mode (core ++ rest) ≡ Ok (t, after) → length after ≤ length rest
 scalar_longest size mode core u rest t after (literal_value (null_word is)) e = other_longest size mode core u rest t after (literal_value (null_word is)) (λ n. n) e
 scalar_longest size mode core u rest t after (literal_value (true_word is)) e = other_longest size mode core u rest t after (literal_value (true_word is)) (λ n. n) e

@@ -14,11 +14,11 @@ use Rattle.jsonb_spec.specs.Mode.Mode.{extended, standard}
 use Rattle.jsonb_spec.specs.Grammar.Scalar.{IsScalar}
 use Rattle.jsonb_spec.specs.Tree.{Tree}
 use Rattle.jsonb_spec.specs.Source.{Source, null_source, source_alone, tree_of_source}
-use Rattle.jsonb_scan.specs.Reading.{Fault, Read, begins, fault, on_byte, ◌>>=◌}
-use Rattle.jsonb_scan.specs.Reading.Whitespace.{opens_comment, skip_closed_whitespace, skip_whitespace}
-use Rattle.jsonb_scan.specs.Reading.Container.{array_at, object_at}
-use Rattle.jsonb_scan.specs.Reading.Document.{alone_at, at_end, comment_at, document_of, nothing_at, source_from, source_of, too_deep, value_at, value_to_end, value_with}
-use Rattle.jsonb_scan.specs.Reading.Scalar.{scalar_at}
+use Rattle.jsonb_scan.specs.Parsing.{Fault, Parse, begins, fault, on_byte, ◌>>=◌}
+use Rattle.jsonb_scan.specs.Parsing.Whitespace.{opens_comment, skip_closed_whitespace, skip_whitespace}
+use Rattle.jsonb_scan.specs.Parsing.Container.{array_at, object_at}
+use Rattle.jsonb_scan.specs.Parsing.Document.{alone_at, at_end, comment_at, document_of, nothing_at, source_from, source_of, too_deep, value_at, value_to_end, value_with}
+use Rattle.jsonb_scan.specs.Parsing.Scalar.{scalar_at}
 use Rattle.jsonb_spec.specs.Errors.{IsFront, Stands, Trails}
 use Rattle.jsonb_scan.proofs.Steps.Tests.{bind_ok, chosen, same_read}
 use Rattle.jsonb.proofs.Errors.Codes.{IsTold, bind_err, same_err, silent_fault}
@@ -39,7 +39,7 @@ no_piece_at {mode} bytes none piece rest b whole =
     let skipped : bytes ≡ skip_whitespace mode rest = sym none ∙ ap (λ (w : List ℕ). skip_whitespace mode w) whole ∙ skip-piece b rest in
     omega (arith, ap length skipped, length-skip mode rest, ap length whole, length-append piece rest, ap length one.whole, length-append piece [])
 
--- what is wrong where a reader stops, in the whole text
+-- what is wrong where a parser stops, in the whole text
 stands_at : (mode : Mode) (input front rest : List ℕ) (count left : ℕ) (code : Code) (place : ℕ) → input ≡ front ++ rest → count + left ≡ max_depth → IsFront mode front count
     → Wrong mode left (length input) rest code place → Stands mode input code place
 stands_at mode input front rest count left number_not_carried place whole sum h w =
@@ -103,7 +103,7 @@ stands_at mode input front rest count left other place whole sum h w = absurd w
 
 -- ---- after the value
 
-scalar_route : (size : ℕ) (mode : Mode) (arrays objects : List ℕ → Read Source) (core rest : List ℕ) (t : Tree) → IsScalar mode core t → value_with size mode arrays objects (core ++ rest) ≡ alone_at (scalar_at size mode (core ++ rest))
+scalar_route : (size : ℕ) (mode : Mode) (arrays objects : List ℕ → Parse Source) (core rest : List ℕ) (t : Tree) → IsScalar mode core t → value_with size mode arrays objects (core ++ rest) ≡ alone_at (scalar_at size mode (core ++ rest))
 scalar_route size mode arrays objects core rest t s =
     let st = scalar_starts mode core t s in
     let opened : core ++ rest ≡ st.first ∷ (st.others ++ rest) = ap (λ (u : List ℕ). u ++ rest) st.whole in
@@ -111,18 +111,18 @@ scalar_route size mode arrays objects core rest t s =
     ∙ on_byte-other 91 st.first (st.others ++ rest) arrays (on_byte 123 (st.first ∷ (st.others ++ rest)) objects (alone_at (scalar_at size mode (core ++ rest)))) st.bracket
     ∙ on_byte-other 123 st.first (st.others ++ rest) objects (alone_at (scalar_at size mode (core ++ rest))) st.brace
 
-scalar_within : (size : ℕ) (mode : Mode) (arrays objects : List ℕ → Read Source) (core : List ℕ) (u : Tree) (rest : List ℕ) (t : Source) (after : List ℕ) → IsScalar mode core u → value_with size mode arrays objects (core ++ rest) ≡ Ok (t, after) → length after ≤ length rest
+scalar_within : (size : ℕ) (mode : Mode) (arrays objects : List ℕ → Parse Source) (core : List ℕ) (u : Tree) (rest : List ℕ) (t : Source) (after : List ℕ) → IsScalar mode core u → value_with size mode arrays objects (core ++ rest) ≡ Ok (t, after) → length after ≤ length rest
 scalar_within size mode arrays objects core u rest t after s e =
     let b = bind_ok (scalar_at size mode (core ++ rest)) (λ (x : Tree × List ℕ). Ok (source_alone x.0, x.1)) (t, after) (sym (scalar_route size mode arrays objects core rest u s) ∙ e) in
     let same = same_read (source_alone b.0.0) t b.0.1 after b.2 in
     omega (arith, scalar_longest size mode core u rest b.0.0 b.0.1 s b.1, ap length same.rest)
 
--- No spelling of a value goes past what is read.
+-- No spelling of a value goes past what is parsed.
 value_longest : (size : ℕ) (mode : Mode) (depth : ℕ) (core : List ℕ) (u : Tree) (rest : List ℕ) (t : Source) (after : List ℕ) → Derives mode depth core u
     → value_at size mode depth (core ++ rest) ≡ Ok (t, after) → length after ≤ length rest
 unfolding value_at
 value_longest size mode zero core u rest t after d e = scalar_within size mode (too_deep size) (too_deep size) core u rest t after d e
-value_longest size mode (suc depth) core u rest t after d e = by_kind core u d e (value_is_complete size mode (suc depth)).reads
+value_longest size mode (suc depth) core u rest t after d e = by_kind core u d e (value_is_complete size mode (suc depth)).parses
   where
     by_kind : (core : List ℕ) (u : Tree) → IsValue mode (Derives mode depth) core u → value_with size mode (array_at size mode (value_at size mode depth)) (object_at size mode (value_at size mode depth)) (core ++ rest) ≡ Ok (t, after)
         → ((bytes : List ℕ) (v : Tree) (others : List ℕ) → IsValue mode (Derives mode depth) bytes v → (IsNumberTree v → Follows others) → (s : Source) × (tree_of_source s ≡ v) × (value_at size mode (suc depth) (bytes ++ others) ≡ Ok (s, others))) → length after ≤ length rest
@@ -140,7 +140,7 @@ follows_last (line_to_end inside is no_whitespace one) rest = inr (ends_at 47 (4
 follows_last (line_to_end inside is (more_whitespace {piece = piece} {rest = others} b bs) one) rest =
     inr (subst Ends (sym (ap (λ (w : List ℕ). w ++ rest) (append_assoc piece others (47 ∷ 47 ∷ inside)) ∙ append_assoc piece (others ++ 47 ∷ 47 ∷ inside) rest)) (ends-piece b ((others ++ 47 ∷ 47 ∷ inside) ++ rest)))
 
--- Nor does one with whitespace after it go past the whitespace after what is read.
+-- Nor does one with whitespace after it go past the whitespace after what is parsed.
 whitespace_within : (size : ℕ) (mode : Mode) (depth : ℕ) (core : List ℕ) (u : Tree) (rest : List ℕ) (t : Source) (after : List ℕ) {last : List ℕ} → IsLastWhitespace mode last → Derives mode depth core u
     → value_at size mode depth (core ++ (last ++ rest)) ≡ Ok (t, after) → opens_comment mode (skip_closed_whitespace mode after) ≡ false → length (skip_closed_whitespace mode after) ≤ length rest
 whitespace_within size mode depth core u rest t after {last} b d e closed =
@@ -149,7 +149,7 @@ whitespace_within size mode depth core u rest t after {last} b d e closed =
           let longest : length after ≤ length (last ++ rest) = value_longest size mode depth core u (last ++ rest) t after d e in
           omega (arith, length-pass mode after, longest, length-append last rest, ap length none)
       | inr ends ↦
-          let c = (value_is_complete size mode depth).reads core u (last ++ rest) d (λ n. before ends) in
+          let c = (value_is_complete size mode depth).parses core u (last ++ rest) d (λ n. before ends) in
           let same = same_read c.0 t (last ++ rest) after (sym c.2 ∙ e) in
           elim (last_within b rest) [
             | inl within ↦ omega (arith, within, ap length (ap (λ (w : List ℕ). skip_closed_whitespace mode w) same.rest))

@@ -1,4 +1,4 @@
--- What reading gives stands in the text where it was read.
+-- What parsing gives stands in the text where it was parsed.
 use Rattle.std.proofs.Common.{◌≡◌, true≢false, inl, inr, ℕ, zero, suc, ◌+◌, ◌-◌, ◌<◌, true, List, [], ◌∷◌, ◌++◌, length, drop, map, None, Ok, nat_cmp, refl, sym, ap, subst, subst₂, ◌∙◌, append-nil, append_assoc, arith, length-append}
 use Rattle.std.proofs.Math.Seq.{drop-append_seam}
 use Rattle.std.specs.Cmp.Lexicographic.{slice_cmp}
@@ -17,11 +17,11 @@ use Rattle.jsonb_spec.specs.Placed.IsElementAt.{empty_element, whole_element}
 use Rattle.jsonb_spec.specs.Placed.IsMemberAt.{key_and_value}
 use Rattle.jsonb_spec.specs.Placed.IsPlaced.{whitespace_alone, value_alone}
 use Rattle.jsonb_spec.specs.Placed.IsValueAt.{empty_array, empty_object, full_array, full_object, scalar}
-use Rattle.jsonb_scan.specs.Reading.{Read, begins, on_byte, reject, ◌>>=◌}
-use Rattle.jsonb_scan.specs.Reading.Whitespace.{opens_comment, skip_whitespace, skip_closed_whitespace}
-use Rattle.jsonb_scan.specs.Reading.Container.{after_key, after_part, array_at, element_at, elements_at, found_at, is_left_out, joined_at, member_at, members_at, object_at, object_or_fault, padded_at, value_or_null}
-use Rattle.jsonb_scan.specs.Reading.Document.{alone_at, at_end, comment_at, nothing_at, source_from, source_of, too_deep, value_at, value_to_end}
-use Rattle.jsonb_scan.specs.Reading.Scalar.{key_at, scalar_at}
+use Rattle.jsonb_scan.specs.Parsing.{Parse, begins, on_byte, reject, ◌>>=◌}
+use Rattle.jsonb_scan.specs.Parsing.Whitespace.{opens_comment, skip_whitespace, skip_closed_whitespace}
+use Rattle.jsonb_scan.specs.Parsing.Container.{after_key, after_part, array_at, element_at, elements_at, found_at, is_left_out, joined_at, member_at, members_at, object_at, object_or_fault, padded_at, value_or_null}
+use Rattle.jsonb_scan.specs.Parsing.Document.{alone_at, at_end, comment_at, nothing_at, source_from, source_of, too_deep, value_at, value_to_end}
+use Rattle.jsonb_scan.specs.Parsing.Scalar.{key_at, scalar_at}
 use Rattle.jsonb_spec.specs.Source.{Found, Source, adjacent_repeat, array_source, array_source_of, first_repeat, found_member, no_source_members, no_sources, null_source, object_source, sort_by, source_alone, source_members_of, spot_of}
 use Rattle.jsonb_scan.proofs.Containers.JoinedParts.{IsSound, IsSoundBefore, joined-skip, joined_sound, on_byte_cases}
 use Rattle.jsonb_scan.proofs.Steps.Tests.{bind_ok, chosen, rejected_fails, same_ok, same_read}
@@ -91,7 +91,7 @@ module _ (mode : Mode) (input : List ℕ) where
   after_byte : {bytes : List ℕ} → IsRest bytes → (c : ℕ) (rest : List ℕ) → bytes ≡ c ∷ rest → IsRest rest
   after_byte r c rest e = rest_after r (c ∷ []) rest e
 
-  -- ---- what is read, with whitespace round it
+  -- ---- what is parsed, with whitespace round it
 
   record IsRound {A : Type 0} (Spells : List ℕ → A → Type 0) (bytes : List ℕ) (a : A) (after rest : List ℕ) : Type 0 where
     pub front : HasWhitespace mode input (at bytes) (at (skip_whitespace mode bytes))
@@ -100,7 +100,7 @@ module _ (mode : Mode) (input : List ℕ) where
     pub back : HasWhitespace mode input (at after) (at rest)
     pub ends_at : IsRest rest
 
-  round : {A : Type 0} (Spells : List ℕ → A → Type 0) (read : List ℕ → Read A) → IsSound Spells read → {bytes : List ℕ} → IsRest bytes → (a : A) (after rest : List ℕ) → read (skip_whitespace mode bytes) ≡ Ok (a, after) → skip_whitespace mode after ≡ rest
+  round : {A : Type 0} (Spells : List ℕ → A → Type 0) (read : List ℕ → Parse A) → IsSound Spells read → {bytes : List ℕ} → IsRest bytes → (a : A) (after rest : List ℕ) → read (skip_whitespace mode bytes) ≡ Ok (a, after) → skip_whitespace mode after ≡ rest
       → 0 < length rest → IsRound Spells bytes a after rest
   round Spells read sound {bytes} r a after rest e skipped left =
       let s = sound (skip_whitespace mode bytes) a after e in
@@ -121,7 +121,7 @@ module _ (mode : Mode) (input : List ℕ) where
 
   module _ {A : Type 0} (AreAll : ℕ → List A → ℕ → Type 0) (Stands : ℕ → A → ℕ → Type 0) (one : (from to : ℕ) (a : A) → Stands from a to → AreAll from (a ∷ []) to)
       (more : (from comma to : ℕ) (a : A) (others : List A) → Stands from a comma → HasByte input 44 comma → AreAll (comma + 1) others to → AreAll from (a ∷ others) to)
-      (size : ℕ) (code : Code) (close : ℕ) (Spells : List ℕ → A → Type 0) (part : List ℕ → Read A) (sound : IsSoundBefore Spells part)
+      (size : ℕ) (code : Code) (close : ℕ) (Spells : List ℕ → A → Type 0) (part : List ℕ → Parse A) (sound : IsSoundBefore Spells part)
       (places : (bytes : List ℕ) (a : A) (rest : List ℕ) → IsRest bytes → part bytes ≡ Ok (a, rest) → 0 < length rest → Stands (at bytes) a (at rest)) where
     joined_placed : (n : ℕ) (bytes : List ℕ) (parts : List A) (rest : List ℕ) → IsRest bytes → joined_at size code close part n bytes ≡ Ok (parts, rest) → AreAll (at bytes) parts (at (close ∷ rest))
     unfolding joined_at
@@ -152,11 +152,11 @@ module _ (mode : Mode) (input : List ℕ) where
 
   -- ---- arrays and objects
 
-  -- what is read is a value that stands there
-  abbrev Places : (List ℕ → Read Source) → Type 0
+  -- what is parsed is a value that stands there
+  abbrev Places : (List ℕ → Parse Source) → Type 0
   Places read = (bytes : List ℕ) (s : Source) (rest : List ℕ) → IsRest bytes → read bytes ≡ Ok (s, rest) → IsValueAt mode input (at bytes) s (at rest)
 
-  module _ (Value : List ℕ → Tree → Type 0) (read : List ℕ → Read Source) (sound : IsSound (Seen Value) read) (places : Places read) where
+  module _ (Value : List ℕ → Tree → Type 0) (read : List ℕ → Parse Source) (sound : IsSound (Seen Value) read) (places : Places read) where
     element_placed : (bytes : List ℕ) (s : Source) (rest : List ℕ) → IsRest bytes → element_at mode read bytes ≡ Ok (s, rest) → 0 < length rest → IsElementAt mode input (at bytes) s (at rest)
     element_placed bytes s rest r e left =
         let here : List ℕ = skip_whitespace mode bytes in
@@ -211,7 +211,7 @@ module _ (mode : Mode) (input : List ℕ) where
               let ends : at (skip_whitespace mode bytes) + 1 ≡ at rest = sym (next there 93 h.0 h.1) ∙ ap at same.rest in
               subst₂ (λ (v : Source) (n : ℕ). IsValueAt mode input from v n) same.value ends (empty_array (has_byte r 91 bytes refl) whitespace (has_byte there 93 h.0 h.1))
           | inr h ↦
-              let element : List ℕ → Read Source = element_at mode read in
+              let element : List ℕ → Parse Source = element_at mode read in
               let b = bind_ok (joined_at (length input) expected_array_comma_or_end 93 element (suc (length bytes)) (skip_whitespace mode bytes)) (λ (x : List Source × List ℕ). Ok (array_source_of x.0, x.1)) (s, rest) h.1 in
               let again = sym (joined-skip (length input) expected_array_comma_or_end 93 (Seen (IsElement mode Value)) element mode (λ u. ap (λ (w : List ℕ). value_or_null mode read w >>= λ (x : Source × List ℕ). Ok (x.0, skip_whitespace mode x.1)) (skip-skip mode u)) (suc (length bytes)) bytes) ∙ b.1 in
               let j = joined_sound (length input) expected_array_comma_or_end 93 (Seen (IsElement mode Value)) element (element_sound mode Value read sound) (suc (length bytes)) bytes b.0.0 b.0.1 again in
@@ -241,7 +241,7 @@ module _ (mode : Mode) (input : List ℕ) where
               let ends : at (skip_whitespace mode bytes) + 1 ≡ at rest = sym (next there 125 h.0 h.1) ∙ ap at same.rest in
               subst₂ (λ (v : Source) (n : ℕ). IsValueAt mode input from v n) same.value ends (empty_object (has_byte r 123 bytes refl) whitespace (has_byte there 125 h.0 h.1))
           | inr h ↦
-              let member : List ℕ → Read Found = member_at (length input) mode read in
+              let member : List ℕ → Parse Found = member_at (length input) mode read in
               let IsOne : List ℕ → Found → Type 0 = IsFound mode Value read in
               let member_is_sound : IsSoundBefore IsOne member = member_sound mode Value read (length input) sound in
               let b = bind_ok (joined_at (length input) expected_object_comma_or_end 125 member (suc (length bytes)) (skip_whitespace mode bytes)) (λ (x : List Found × List ℕ). object_or_fault (first_repeat (map spot_of x.0)) x.0 x.1) (s, rest) h.1 in
@@ -276,9 +276,9 @@ module _ (mode : Mode) (input : List ℕ) where
         ]
       ]
   value_placed (suc depth) bytes s rest r e =
-      let read : List ℕ → Read Source = value_at (length input) mode depth in
-      let arrays : List ℕ → Read Source = array_at (length input) mode read in
-      let objects : List ℕ → Read Source = object_at (length input) mode read in
+      let read : List ℕ → Parse Source = value_at (length input) mode depth in
+      let arrays : List ℕ → Parse Source = array_at (length input) mode read in
+      let objects : List ℕ → Parse Source = object_at (length input) mode read in
       let sound : IsSound (Seen (Derives mode depth)) read = value_sound (length input) mode depth in
       elim (on_byte_cases 91 bytes arrays (on_byte 123 bytes objects (alone_at (scalar_at (length input) mode bytes))) (Ok (s, rest)) e) [
         | inl h ↦ subst (λ (u : List ℕ). IsValueAt mode input (at u) s (at rest)) (sym h.1) (array_placed (Derives mode depth) read sound (value_placed depth) h.0 s rest (subst IsRest h.1 r) h.2)

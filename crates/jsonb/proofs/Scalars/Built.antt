@@ -10,11 +10,11 @@ use Rattle.jsonb_scan.specs.declared.parser.number.ShortInteger.{ShortInteger}
 use Rattle.jsonb_spec.specs.Tree.{Mark, Num, Tree, int64, uint64, null, boolean, number, string}
 use Rattle.jsonb.specs.declared.parser.Parser.{Parser}
 use Rattle.jsonb_scan.specs.Answer.{Fails, mode_of}
-use Rattle.jsonb_scan.specs.Reading.{Fault, Read, begins, ◌>>=◌}
-use Rattle.jsonb_scan.specs.Reading.ExtendedNumber.{extended_number_at}
-use Rattle.jsonb_scan.specs.Reading.Number.{is_number_start, standard_number_at}
-use Rattle.jsonb_scan.specs.Reading.Scalar.{begins_letter, begins_number, false_at, letters_at, null_at, number_at, number_or_fault, number_value_at, or_else, other_scalar_at, quoted_at, scalar_at, true_or_false_at, word_at, words_at}
-use Rattle.jsonb_scan.specs.Reading.String.{string_at}
+use Rattle.jsonb_scan.specs.Parsing.{Fault, Parse, begins, ◌>>=◌}
+use Rattle.jsonb_scan.specs.Parsing.ExtendedNumber.{extended_number_at}
+use Rattle.jsonb_scan.specs.Parsing.Number.{is_number_start, standard_number_at}
+use Rattle.jsonb_scan.specs.Parsing.Scalar.{begins_letter, begins_number, false_at, letters_at, null_at, number_at, number_or_fault, number_value_at, or_else, other_scalar_at, quoted_at, scalar_at, true_or_false_at, word_at, words_at}
+use Rattle.jsonb_scan.specs.Parsing.String.{string_at}
 use Rattle.jsonb_scan.specs.Open.{Open, elements_so_far, members_so_far}
 use Rattle.jsonb_spec.specs.Source.{Found, Source, found_member, number_source, source_alone}
 use Rattle.jsonb_spec.specs.Grammar.StandardNumber.{IsStandardNumber}
@@ -40,7 +40,7 @@ use Rattle.jsonb.proofs.Steps.Outcomes.{same_size, scalar_quoted}
 -- ---- strings
 
 pub string_read : (size : ℕ) (mode : Mode) (quote : ℕ) (bytes : List ℕ) (x : Mark × List ℕ) (rest : List ℕ) → string_at size mode quote bytes ≡ Ok (x, rest) → quoted_at size mode quote bytes ≡ Ok (string x.0 x.1, rest)
-string_read size mode quote bytes x rest read = ap (λ (r : Read (Mark × List ℕ)). r >>= λ (s : (Mark × List ℕ) × List ℕ). Ok (string s.0.0 s.0.1, s.1)) read
+string_read size mode quote bytes x rest read = ap (λ (r : Parse (Mark × List ℕ)). r >>= λ (s : (Mark × List ℕ) × List ℕ). Ok (string s.0.0 s.0.1, s.1)) read
 
 pub scalar_string : (p q : Parser) (x : Mark × List ℕ) (rest : List ℕ) → Advances p q → rest_of p ≡ 34 ∷ rest_of q → string_at (size_of q) (mode_of q.mode) 34 (rest_of q) ≡ Ok (x, rest)
     → scalar_at (size_of p) (mode_of p.mode) (rest_of p) ≡ Ok (string x.0 x.1, rest)
@@ -77,35 +77,35 @@ false_read size mode bytes rest n t f read =
 -- a number as a value
 pub number_built : {V F : Type 0} (silent : Bool) (told : Option Error) (Sees : V → Source → Type 0) (result : Result V F) (size : ℕ) (mode : Mode) (bytes rest : List ℕ) → Builds silent told (AsNumber Sees) result (number_at size mode bytes) rest
     → Builds silent told (AsScalar Sees) result (number_value_at size mode bytes) rest
-number_built silent told Sees (Ok v) size mode bytes rest h = (number h.0, h.1, ap (λ (r : Read Num). r >>= λ x. Ok (number x.0, x.1)) h.2)
+number_built silent told Sees (Ok v) size mode bytes rest h = (number h.0, h.1, ap (λ (r : Parse Num). r >>= λ x. Ok (number x.0, x.1)) h.2)
 number_built silent told Sees (Err f) size mode bytes rest h = misses_through silent told (number_at size mode bytes) (λ x. Ok (number x.0, x.1)) h
 
--- ---- what is read is kept
+-- ---- what is parsed is kept
 
 module _ {R I M K F : Type 0} (silent : Bool) (Stands : List ℕ → R → Bool → List (Frame I M K) → List Open → Type 0) (Seen : Source → Type 0) (text : List ℕ) (from : ℕ) (q r : Parser) (old new : R) where
-  -- a scalar that was read is pushed
-  pub read_pushed : (result : Result Unit F) (before : I) (t : Tree) (read : Read Tree) (after : I)
+  -- a scalar that was parsed is pushed
+  pub read_pushed : (result : Result Unit F) (before : I) (t : Tree) (read : Parse Tree) (after : I)
       → OnOk result ((bytes : List ℕ) → (s : Source) → (ss : List Source) → (fs : List (Frame I M K)) → (cs : List Open) → Stands bytes old false (variants.Array before ∷ fs) (elements_so_far ss ∷ cs) → Seen s × IsSpelledAt bytes from q.offset s → Stands bytes new false (variants.Array after ∷ fs) (elements_so_far (ss ++ s ∷ []) ∷ cs))
       → OnOk result (r ≡ q) → IfErr result (λ _. r.told ≡ Some OutOfMemory) → Seen (source_alone t) → IsSpelledAt text from q.offset (source_alone t) → read ≡ Ok (t, rest_of q) → IsPushed silent r.told Stands text result old before read new after (rest_of r)
   read_pushed (Ok x) before t read after pushed same memory sees spelled is = (t, is ∙ ap (λ o. Ok (t, rest_of o)) (sym same), λ ss fs cs stands. pushed text (source_alone t) ss fs cs stands (sees, spelled))
   read_pushed (Err f) before t read after pushed same memory sees spelled is = memory_misses silent r.told read memory
 
   -- and put in under a key
-  pub read_put : (result : Result Unit F) (before : OpenObject M K) (key : K) (t : Tree) (read : Read Tree) (after : OpenObject M K)
+  pub read_put : (result : Result Unit F) (before : OpenObject M K) (key : K) (t : Tree) (read : Parse Tree) (after : OpenObject M K)
       → OnOk result ((bytes : List ℕ) → (s : Source) → (front : List Found) → (k : Mark × List ℕ) → (place : ℕ) → (fs : List (Frame I M K)) → (cs : List Open) → Stands bytes old true (variants.Object (record { members = before.members; key = key }) ∷ fs) (members_so_far front k place ∷ cs) → Seen s × IsSpelledAt bytes from q.offset s → Stands bytes new false (variants.Object after ∷ fs) (members_so_far (front ++ found_member k s place ∷ []) (plain, []) 0 ∷ cs))
       → OnOk result (r ≡ q) → IfErr result (λ _. IsUntold silent r.told) → Seen (source_alone t) → IsSpelledAt text from q.offset (source_alone t) → read ≡ Ok (t, rest_of q) → IsPutIn silent r.told Stands text result old before key read new after (rest_of r)
   read_put (Ok x) before key t read after put same memory sees spelled is = (t, is ∙ ap (λ o. Ok (t, rest_of o)) (sym same), λ front k place fs cs stands. put text (source_alone t) front k place fs cs stands (sees, spelled))
   read_put (Err f) before key t read after put same memory sees spelled is = untold_misses silent r.told read memory
 
   -- a value that stands there as it is written is pushed
-  pub kept_pushed : (result : Result Unit F) (before : I) (t : Tree) (read : Read Tree) (after : I)
+  pub kept_pushed : (result : Result Unit F) (before : I) (t : Tree) (read : Parse Tree) (after : I)
       → OnOk result ((bytes : List ℕ) → (s : Source) → (ss : List Source) → (fs : List (Frame I M K)) → (cs : List Open) → Stands bytes old false (variants.Array before ∷ fs) (elements_so_far ss ∷ cs) → slice_range bytes from q.offset ≡ source_text s → Stands bytes new false (variants.Array after ∷ fs) (elements_so_far (ss ++ s ∷ []) ∷ cs))
       → OnOk result (r ≡ q) → IfErr result (λ _. r.told ≡ Some OutOfMemory) → slice_range text from q.offset ≡ source_text (source_alone t) → read ≡ Ok (t, rest_of q) → IsPushed silent r.told Stands text result old before read new after (rest_of r)
   kept_pushed (Ok x) before t read after pushed same memory there is = (t, is ∙ ap (λ o. Ok (t, rest_of o)) (sym same), λ ss fs cs stands. pushed text (source_alone t) ss fs cs stands there)
   kept_pushed (Err f) before t read after pushed same memory there is = memory_misses silent r.told read memory
 
   -- and put in under a key
-  pub kept_put : (result : Result Unit F) (before : OpenObject M K) (key : K) (t : Tree) (read : Read Tree) (after : OpenObject M K)
+  pub kept_put : (result : Result Unit F) (before : OpenObject M K) (key : K) (t : Tree) (read : Parse Tree) (after : OpenObject M K)
       → OnOk result ((bytes : List ℕ) → (s : Source) → (front : List Found) → (k : Mark × List ℕ) → (place : ℕ) → (fs : List (Frame I M K)) → (cs : List Open) → Stands bytes old true (variants.Object (record { members = before.members; key = key }) ∷ fs) (members_so_far front k place ∷ cs) → slice_range bytes from q.offset ≡ source_text s → Stands bytes new false (variants.Object after ∷ fs) (members_so_far (front ++ found_member k s place ∷ []) (plain, []) 0 ∷ cs))
       → OnOk result (r ≡ q) → IfErr result (λ _. IsUntold silent r.told) → slice_range text from q.offset ≡ source_text (source_alone t) → read ≡ Ok (t, rest_of q) → IsPutIn silent r.told Stands text result old before key read new after (rest_of r)
   kept_put (Ok x) before key t read after put same memory there is = (t, is ∙ ap (λ o. Ok (t, rest_of o)) (sym same), λ front k place fs cs stands. put text (source_alone t) front k place fs cs stands there)
@@ -120,7 +120,7 @@ between p q bytes a e =
     let count : q.offset - p.offset ≡ length bytes = omega (arith, ap length e, length-append bytes (rest_of q), length-drop p.offset p.buf.now, length-drop q.offset q.buf.now, same, q.inside, p.inside) in
     ap₂ (λ n xs. take n xs) count e ∙ take-append_seam bytes (rest_of q)
 
--- the integer that is read, with a minus and without
+-- the integer that is parsed, with a minus and without
 abbrev pub negative_of : ShortInteger → Num
 negative_of read = record { form = int64; scale = 0; whole = neg_ℤ (pos read.magnitude) }
 
@@ -158,8 +158,8 @@ pub plain_key_begun : {K A P : Type 0} (Stands : List ℕ → Type 0) (Begun : L
 plain_key_begun Stands Begun (Ok key) h is_plain bytes stands = h bytes stands is_plain
 plain_key_begun Stands Begun (Err e) h is_plain bytes stands = tt
 
--- a key that a handler made of what was read
-pub key_kept : {K A F : Type 0} (silent : Bool) (Names : K → Mark × List ℕ → ℕ → Type 0) (made : Result K A) (result : Result K F) (size : ℕ) (p q : Parser) (k : Mark × List ℕ) (read : Read (Mark × List ℕ)) → size ≡ size_of p → IfOk made (λ key. Names key k p.offset)
+-- a key that a handler made of what was parsed
+pub key_kept : {K A F : Type 0} (silent : Bool) (Names : K → Mark × List ℕ → ℕ → Type 0) (made : Result K A) (result : Result K F) (size : ℕ) (p q : Parser) (k : Mark × List ℕ) (read : Parse (Mark × List ℕ)) → size ≡ size_of p → IfOk made (λ key. Names key k p.offset)
     → IfOk result (λ x. (made ≡ Ok x) × (q ≡ p)) → IfErr result (λ _. q.told ≡ Some OutOfMemory) → read ≡ Ok (k, rest_of p) → Builds silent q.told (AsKey Names size (rest_of q)) result read (rest_of q)
 key_kept silent Names made (Ok key) size p q k read same named kept memory is =
     let place : p.offset ≡ size - length (rest_of q) = omega (arith, length-drop p.offset p.buf.now, same, p.inside, ap (λ o. length (rest_of o)) kept.1) in
@@ -167,12 +167,12 @@ key_kept silent Names made (Ok key) size p q k read same named kept memory is =
 key_kept silent Names made (Err f) size p q k read same named kept memory is = memory_misses silent q.told read memory
 
 -- what is built in an input of one size is built in the same
-pub key_same : {K F : Type 0} (silent : Bool) (told : Option Error) (Names : K → Mark × List ℕ → ℕ → Type 0) (result : Result K F) (size other_size : ℕ) (read other : Read (Mark × List ℕ)) (rest : List ℕ) → other_size ≡ size → other ≡ read
+pub key_same : {K F : Type 0} (silent : Bool) (told : Option Error) (Names : K → Mark × List ℕ → ℕ → Type 0) (result : Result K F) (size other_size : ℕ) (read other : Parse (Mark × List ℕ)) (rest : List ℕ) → other_size ≡ size → other ≡ read
     → Builds silent told (AsKey Names size rest) result read rest → Builds silent told (AsKey Names other_size rest) result other rest
 key_same silent told Names result size other_size read other rest sizes same h =
     subst (λ n. Builds silent told (AsKey Names n rest) result other rest) (sym sizes) (subst (λ q. Builds silent told (AsKey Names size rest) result q rest) (sym same) h)
 
--- ---- what is read at once
+-- ---- what is parsed at once
 
 pub null_at_once : (size : ℕ) (mode : Mode) (rest : List ℕ) → scalar_at size mode (110 ∷ 117 ∷ 108 ∷ 108 ∷ rest) ≡ Ok (null, rest)
 unfolding scalar_at
@@ -207,7 +207,7 @@ unfolding scalar_at
 integer_at_once size mode bytes n rest is first read =
     let begun = starts_number bytes first in
     on_byte-none 34 bytes (quoted_at size mode 34) (other_scalar_at size mode bytes) begun.0
-    ∙ standard_number size mode bytes is begun.1 ∙ ap (λ (r : Read Num). r >>= λ x. Ok (number x.0, x.1)) read
+    ∙ standard_number size mode bytes is begun.1 ∙ ap (λ (r : Parse Num). r >>= λ x. Ok (number x.0, x.1)) read
 
 -- a number of an extended text that begins as integers do
 pub extended_at_once : (size : ℕ) (mode : Mode) (bytes : List ℕ) (n : Num) (rest : List ℕ) → mode ≡ extended → is_number_start (slice_index bytes 0) ≡ true → extended_number_at size bytes ≡ Ok (n, rest)
@@ -216,9 +216,9 @@ unfolding scalar_at
 extended_at_once size mode bytes n rest is first read =
     let begun = starts_number bytes first in
     on_byte-none 34 bytes (quoted_at size mode 34) (other_scalar_at size mode bytes) begun.0
-    ∙ extended_number size mode bytes is begun.1 ∙ ap (λ (r : Read Num). r >>= λ x. Ok (number x.0, x.1)) read
+    ∙ extended_number size mode bytes is begun.1 ∙ ap (λ (r : Parse Num). r >>= λ x. Ok (number x.0, x.1)) read
 
--- what the parser reads where it stood still
+-- what the parser parses where it stood still
 pub scalar_still : (p q : Parser) → q ≡ p → scalar_at (size_of p) (mode_of p.mode) (rest_of p) ≡ scalar_at (size_of q) (mode_of q.mode) (rest_of q)
 scalar_still p q same = sym (ap (λ o. scalar_at (size_of o) (mode_of o.mode) (rest_of o)) same)
 

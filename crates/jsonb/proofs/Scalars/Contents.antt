@@ -8,8 +8,8 @@ use Rattle.jsonb_spec.specs.Tree.{Mark, string}
 use Rattle.jsonb_scan.specs.Answer.{Fails, mode_of}
 use Rattle.jsonb_scan.specs.Decoding.{SeesBackslash}
 use Rattle.jsonb_scan.specs.QuotedString.{DecodesContents}
-use Rattle.jsonb_scan.specs.Reading.Scalar.{quoted_at}
-use Rattle.jsonb_scan.specs.Reading.String.{Body, body_of, quote_end, string_at}
+use Rattle.jsonb_scan.specs.Parsing.Scalar.{quoted_at}
+use Rattle.jsonb_scan.specs.Parsing.String.{Body, body_of, quote_end, string_at}
 use Rattle.jsonb_spec.specs.Source.{Source}
 use Rattle.jsonb_scan.proofs.Strings.Bodies.{body_fails, contains_after, string-closed}
 use Rattle.jsonb_scan.proofs.Strings.Ends.{quote_split, quote_within}
@@ -27,7 +27,7 @@ quote_there quote bytes end found =
     ∙ get_or-append_seam (take end bytes) quote (drop (end + 1) bytes) 0
 
 module _ (quote : ℕ) (p q : Parser) (body : List ℕ) (c : PassesContents quote p q body) where
-  -- what is read of the contents is read of the string
+  -- what is parsed of the contents is parsed of the string
   pub contents_read : (x : Mark × List ℕ) → body_of (mode_of p.mode) body ≡ Ok x → quoted_at (size_of p) (mode_of p.mode) quote (rest_of p) ≡ Ok (string x.0 x.1, rest_of q)
   contents_read x read =
       let mode = mode_of p.mode in

@@ -8,8 +8,8 @@ use Rattle.jsonb_spec.specs.Mode.{Mode, standard, extended}
 use Rattle.jsonb.specs.declared.parser.Parser.{Parser}
 use Rattle.jsonb_scan.specs.Answer.{mode_of}
 use Rattle.jsonb.specs.Parser.{rest_of, size_of}
-use Rattle.jsonb_scan.specs.Reading.{begins, reject}
-use Rattle.jsonb_scan.specs.Reading.Scalar.{begins_letter, begins_number, begins_single_quote, number_or_fault, number_value_at, other_scalar_at, quoted_at, scalar_at, words_at}
+use Rattle.jsonb_scan.specs.Parsing.{begins, reject}
+use Rattle.jsonb_scan.specs.Parsing.Scalar.{begins_letter, begins_number, begins_single_quote, number_or_fault, number_value_at, other_scalar_at, quoted_at, scalar_at, words_at}
 use Rattle.jsonb.proofs.Steps.Outcomes.{unmoved, words_number}
 use Rattle.jsonb_scan.proofs.Containers.JoinedParts.{on_byte-none}
 use Rattle.jsonb.proofs.Scalars.Spellings.{IsApart, number_start_apart}

@@ -5,10 +5,10 @@ use Rattle.jsonb_spec.specs.Mode.{Mode, extended}
 use Rattle.jsonb_spec.specs.Text.NumberText.{number_text, text_of_parts}
 use Rattle.jsonb_spec.specs.Tree.{Num, number}
 use Rattle.jsonb_value.proofs.Numbers.InRange.{extended_reads_back, standard_number, integral_in_texts}
-use Rattle.jsonb_scan.specs.Reading.Whitespace.{is_break}
-use Rattle.jsonb_scan.specs.Reading.ExtendedNumber.{EndsExtended, extended_number_at}
-use Rattle.jsonb_scan.specs.Reading.Number.{is_number_start}
-use Rattle.jsonb_scan.specs.Reading.Scalar.{scalar_at}
+use Rattle.jsonb_scan.specs.Parsing.Whitespace.{is_break}
+use Rattle.jsonb_scan.specs.Parsing.ExtendedNumber.{EndsExtended, extended_number_at}
+use Rattle.jsonb_scan.specs.Parsing.Number.{is_number_start}
+use Rattle.jsonb_scan.specs.Parsing.Scalar.{scalar_at}
 use Rattle.jsonb_scan.specs.ShortInteger.{IsKeptInteger, short_view}
 use Rattle.jsonb_scan.proofs.Numbers.Extended.{extended_complete}
 use Rattle.jsonb_scan.proofs.Numbers.Standard.{number_sound}
@@ -19,12 +19,12 @@ use Rattle.jsonb_scan.specs.Answer.{mode_of}
 use Rattle.jsonb.proofs.Scalars.Built.{between, extended_at_once}
 use Rattle.jsonb.proofs.Scalars.Spellings.{break_ends_extended}
 
--- The bytes begin with a number as it is written, and a parser of this mode reads it there.
+-- The bytes begin with a number as it is written, and a parser of this mode parses it there.
 pub record IsKeptNumber (size : ℕ) (mode : Mode) (bytes rest : List ℕ) : Type 0 where
   pub value : Num
   pub core : List ℕ
   pub joined : bytes ≡ core ++ rest
-  pub reads : scalar_at size mode bytes ≡ Ok (number value, rest)
+  pub parses : scalar_at size mode bytes ≡ Ok (number value, rest)
   pub text : core ≡ number_text value
 
 -- a byte after which no extended number goes on
@@ -48,7 +48,7 @@ extended_kept size mode bytes end is first kept ends =
       value = same.read;
       core = sound.core;
       joined = sound.joined;
-      reads = extended_at_once size mode bytes same.read rest is first found;
+      parses = extended_at_once size mode bytes same.read rest is first found;
       text = text ∙ sym (ap₂ text_of_parts same.scales same.wholes);
     }
 
@@ -56,7 +56,7 @@ extended_kept size mode bytes end is first kept ends =
 pub kept_passes : (p : Parser) (end : ℕ) (inside : p.offset + end ≤ size_of p) → IsKeptNumber (size_of p) (mode_of p.mode) (rest_of p) (drop end (rest_of p)) → PassesInteger p (record p { offset = p.offset + end; inside = inside })
 kept_passes p end inside kept = record {
   value = kept.value;
-  reads = kept.reads ∙ ap (λ r. Ok (number kept.value, r)) (drop-drop end p.offset p.buf.now);
+  parses = kept.parses ∙ ap (λ r. Ok (number kept.value, r)) (drop-drop end p.offset p.buf.now);
   text = between p o kept.core on (kept.joined ∙ ap (λ r. kept.core ++ r) (drop-drop end p.offset p.buf.now)) ∙ kept.text;
 }
   where

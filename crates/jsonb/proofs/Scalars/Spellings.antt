@@ -15,13 +15,13 @@ use Rattle.jsonb_spec.specs.Grammar.Scalar.IsScalar.{literal_value, number_value
 use Rattle.jsonb_spec.specs.Grammar.StandardNumber.{IsExponentMark}
 use Rattle.jsonb_spec.specs.Tree.{Mark, plain, Num, Tree}
 use Rattle.jsonb_spec.specs.Tree.Tree.{boolean, null, number, string}
-use Rattle.jsonb_scan.specs.Reading.{Fault, Read, begins, on_byte, reject, ◌>>=◌}
-use Rattle.jsonb_scan.specs.Reading.BareKey.{bare_key_at, key_step}
-use Rattle.jsonb_scan.specs.Reading.Whitespace.{is_whitespace_start, is_break}
-use Rattle.jsonb_scan.specs.Reading.ExtendedNumber.{EndsExtended, ContinuesNumberExtended}
-use Rattle.jsonb_scan.specs.Reading.Number.{IsNumberBoundary, ContinuesNumber, is_number_start}
-use Rattle.jsonb_scan.specs.Reading.Scalar.{begins_letter, begins_number, false_at, fold_letter, key_at, letters_at, null_at, number_at, number_or_fault, number_value_at, on_letter, on_single_quote, or_else, quoted_at, scalar_at, true_or_false_at, unquoted_at, word_at, words_at}
-use Rattle.jsonb_scan.specs.Reading.String.{string_at}
+use Rattle.jsonb_scan.specs.Parsing.{Fault, Parse, begins, on_byte, reject, ◌>>=◌}
+use Rattle.jsonb_scan.specs.Parsing.BareKey.{bare_key_at, key_step}
+use Rattle.jsonb_scan.specs.Parsing.Whitespace.{is_whitespace_start, is_break}
+use Rattle.jsonb_scan.specs.Parsing.ExtendedNumber.{EndsExtended, ContinuesNumberExtended}
+use Rattle.jsonb_scan.specs.Parsing.Number.{IsNumberBoundary, ContinuesNumber, is_number_start}
+use Rattle.jsonb_scan.specs.Parsing.Scalar.{begins_letter, begins_number, false_at, fold_letter, key_at, letters_at, null_at, number_at, number_or_fault, number_value_at, on_letter, on_single_quote, or_else, quoted_at, scalar_at, true_or_false_at, unquoted_at, word_at, words_at}
+use Rattle.jsonb_scan.specs.Parsing.String.{string_at}
 use Rattle.jsonb_scan.proofs.Strings.BareKeys.{bare_complete, bare_sound, bare_starts, break_stops}
 use Rattle.jsonb_scan.proofs.Steps.Tests.{bind_ok, chosen, rejected_fails, same_read}
 use Rattle.jsonb_scan.proofs.Numbers.Extended.{OpensNumber, extended_complete, extended_sound, extended_starts, opens_extended}
@@ -51,7 +51,7 @@ IsNumberTree other = ⊥
 
 -- ---- words
 
--- the letters that were read, and what follows
+-- the letters that were parsed, and what follows
 pub record LettersRead (mode : Mode) (word bytes rest : List ℕ) : Type 0 where
   pub letters : List ℕ
   pub is_word : IsWord mode word letters
@@ -113,7 +113,7 @@ letters_read size mode (c ∷ cs) (b ∷ letters) rest is =
     let later : map (fold_letter mode) letters ≡ cs = cc in
     on_letter-found mode c b (letters ++ rest) (letters_at size mode cs) (reject size expected_some_ident 1 (b ∷ (letters ++ rest))) here ∙ letters_read size mode cs letters rest later
 
--- each word is read
+-- each word is parsed
 pub word_read : (size : ℕ) (mode : Mode) (word letters : List ℕ) (t : Tree) (rest : List ℕ) → IsWord mode word letters → word_at size mode word t (letters ++ rest) ≡ Ok (t, rest)
 word_read size mode word letters t rest is = ap (λ (r : Result (List ℕ) Fault). r >>= λ (u : List ℕ). Ok (t, u)) (letters_read size mode word letters rest (word_folded mode word letters is))
 
@@ -160,7 +160,7 @@ folded_low extended b low = cond-true (ltb b 65) b (cond (ltb b 91) (b + 32) b) 
 by_letter : (P : ℕ → Type 0) (mode : Mode) (b c d : ℕ) → fold_letter mode b ≡ c → d + 32 ≡ c → P c → P d → P b
 by_letter P mode b c d e is lower upper = ⊎_elim (λ (same : b ≡ c). subst P (sym same) lower) (λ (h : b + 32 ≡ c). let same : d ≡ b = omega (arith, h, is) in subst P same upper) (letter_is mode b c e)
 
--- a byte that begins a word is none of those that a reader looks for first
+-- a byte that begins a word is none of those that a parser looks for first
 record IsLetter (b : ℕ) : Type 0 where
   pub no_break : is_break b ≡ false
   pub no_bracket : eqb b 91 ≡ false
@@ -249,7 +249,7 @@ string_reads size mode quote core text mark rest is q =
 
 -- ---- numbers
 
--- a byte that begins a number is none of those that a reader looks for first
+-- a byte that begins a number is none of those that a parser looks for first
 pub record IsApart (b : ℕ) : Type 0 where
   pub no_break : is_break b ≡ false
   pub no_bracket : eqb b 91 ≡ false
@@ -393,7 +393,7 @@ scalar_sound size mode bytes t rest e =
       ]
     ]
 
--- ---- how scalars begin, and that each is read
+-- ---- how scalars begin, and that each is parsed
 
 -- A number begins with a byte that no other scalar begins with.
 pub record StartsNumber (mode : Mode) (bytes : List ℕ) : Type 0 where
@@ -453,7 +453,7 @@ number_reads size mode core n rest is f =
     ap (λ (u : List ℕ). scalar_at size mode u) opened ∙ number_first size mode s.first (s.others ++ rest) s.apart
     ∙ cond-true (begins_number mode (s.first ∷ (s.others ++ rest))) (number_value_at size mode (s.first ∷ (s.others ++ rest))) (reject size expected_some_value 1 (s.first ∷ (s.others ++ rest))) (s.begun (s.others ++ rest))
     ∙ ap (λ (u : List ℕ). number_value_at size mode u) (sym opened)
-    ∙ ap (λ (r : Read Num). r >>= λ (x : Num × List ℕ). Ok (number x.0, x.1)) (by_mode mode is)
+    ∙ ap (λ (r : Parse Num). r >>= λ (x : Num × List ℕ). Ok (number x.0, x.1)) (by_mode mode is)
   where
     by_mode : (m : Mode) → IsNumber m core n → number_at size m (core ++ rest) ≡ Ok (n, rest)
     by_mode standard spelled = number_complete size core rest n spelled (follows_number rest f)
@@ -466,7 +466,7 @@ quoted_reads size mode quote core text mark rest is q =
     let opened : core ++ rest ≡ quote ∷ (r.0 ++ rest) = ap (λ (u : List ℕ). u ++ rest) r.1 in
     ap (λ (u : List ℕ). on_byte 34 u (quoted_at size mode 34) (on_single_quote mode u (quoted_at size mode 39) (words_at size mode u))) opened
     ∙ by_quote mode quote (r.0 ++ rest) (quoted_at size mode) (words_at size mode (quote ∷ (r.0 ++ rest))) is
-    ∙ ap (λ (s : Read (Mark × List ℕ)). s >>= λ (x : (Mark × List ℕ) × List ℕ). Ok (string x.0.0 x.0.1, x.1)) r.2
+    ∙ ap (λ (s : Parse (Mark × List ℕ)). s >>= λ (x : (Mark × List ℕ) × List ℕ). Ok (string x.0.0 x.0.1, x.1)) r.2
 
 -- a word is what is looked for where no quote begins
 word_first : (size : ℕ) (mode : Mode) (c : ℕ) (letters rest : List ℕ) → StartsWord mode c letters → ((b : ℕ) → fold_letter mode b ≡ c → IsLetter b) → scalar_at size mode (letters ++ rest) ≡ words_at size mode (letters ++ rest)
@@ -480,7 +480,7 @@ begins_word mode c d letters rest s = ap (λ (u : List ℕ). begins_letter mode 
 
 null_read : (size : ℕ) (mode : Mode) (letters rest : List ℕ) → IsWord mode (codes "null") letters → null_at size mode (letters ++ rest) ≡ Ok (null, rest)
 null_read size standard letters rest is = word_read size standard (codes "null") letters null rest is
-null_read size extended letters rest is = ap (λ (r : Read Tree). or_else r (number_value_at size extended (letters ++ rest))) (word_read size extended (codes "null") letters null rest is)
+null_read size extended letters rest is = ap (λ (r : Parse Tree). or_else r (number_value_at size extended (letters ++ rest))) (word_read size extended (codes "null") letters null rest is)
 
 pub scalar_complete : (size : ℕ) (mode : Mode) (bytes : List ℕ) (t : Tree) (rest : List ℕ) → IsScalar mode bytes t → (IsNumberTree t → Follows rest) → scalar_at size mode (bytes ++ rest) ≡ Ok (t, rest)
 scalar_complete size mode bytes t rest (literal_value (null_word is)) f =
@@ -563,9 +563,9 @@ key_reads size mode core k rest (quoted_key {quote = quote} {text = text} {mark 
 key_reads size mode core k rest (bare_key is b) ends = bare_reads size mode core rest is b ends
 
 pub key_complete : (size : ℕ) (mode : Mode) → IsComplete (IsKey mode) (key_at size mode)
-key_complete size mode = record { starts = key_starts mode; reads = key_reads size mode }
+key_complete size mode = record { starts = key_starts mode; parses = key_reads size mode }
 
--- a number is read by the reader of numbers
+-- a number is parsed by the parser of numbers
 pub scalar-number : (size : ℕ) (mode : Mode) (core : List ℕ) (n : Num) (rest : List ℕ) → IsNumber mode core n → scalar_at size mode (core ++ rest) ≡ number_or_fault size mode (core ++ rest)
 scalar-number size mode core n rest is =
     let s = number_opens mode core n is in

@@ -3,8 +3,8 @@ use Rattle.std.proofs.Common.{◌≡◌, ℕ, ◌+◌, true, false, true≢false
 use Rattle.jsonb_spec.specs.Code.Code.{expected_some_ident}
 use Rattle.jsonb_scan.specs.Answer.{Fails, NamesFault}
 use Rattle.jsonb.specs.Parser.{Advances}
-use Rattle.jsonb_scan.specs.Reading.{Fault, reject}
-use Rattle.jsonb_scan.specs.Reading.Scalar.{begins_letter, begins_single_quote, fold_letter, letters_at, on_letter, on_single_quote}
+use Rattle.jsonb_scan.specs.Parsing.{Fault, reject}
+use Rattle.jsonb_scan.specs.Parsing.Scalar.{begins_letter, begins_single_quote, fold_letter, letters_at, on_letter, on_single_quote}
 use Rattle.jsonb_spec.specs.Mode.{Mode, standard, extended}
 use Rattle.jsonb_scan.proofs.Steps.Tests.{chosen}
 use Rattle.jsonb_scan.proofs.Containers.JoinedParts.{on_byte-none}

@@ -5,7 +5,7 @@ use Rattle.jsonb_value.specs.declared.error.Error.TheVariants.{OutOfMemory}
 use Rattle.jsonb_scan.specs.Answer.{Fails}
 use Rattle.jsonb_spec.specs.Tree.{Tree}
 use Rattle.jsonb_scan.specs.Open.{Open}
-use Rattle.jsonb_scan.specs.Reading.{Fault, Read, ◌>>=◌}
+use Rattle.jsonb_scan.specs.Parsing.{Fault, Parse, ◌>>=◌}
 use Rattle.jsonb_spec.specs.Source.{Source}
 use Rattle.jsonb.specs.Handler.{Builds, ElseFails, IsUntold, IsWritten, Misses}
 use Rattle.jsonb.specs.Frames.{IsPushed, IsPutIn}
@@ -57,22 +57,22 @@ pub root_put : {V F : Type 0} (Q : Type 0) (silent : Bool) (told : Option Error)
 root_put Q silent told Filled (Ok v) read s e put memory = (s, put, e)
 root_put Q silent told Filled (Err f) read s e put memory = memory_misses silent told read memory.0
 
--- what is built of one reading is built of one that is the same
-pub builds_same : {X F Y : Type 0} (silent : Bool) (told : Option Error) (Sees : X → Y → Type 0) (result : Result X F) (read other : Read Y) (rest : List ℕ) → other ≡ read
+-- what is built of one parsing is built of one that is the same
+pub builds_same : {X F Y : Type 0} (silent : Bool) (told : Option Error) (Sees : X → Y → Type 0) (result : Result X F) (read other : Parse Y) (rest : List ℕ) → other ≡ read
     → Builds silent told Sees result read rest → Builds silent told Sees result other rest
 builds_same silent told Sees result read other rest same h = subst (λ q. Builds silent told Sees result q rest) (sym same) h
 
 -- a call that always tells its fault, where another may be silent
-pub builds_always : {X F Y : Type 0} (silent : Bool) (told : Option Error) (Sees : X → Y → Type 0) (result : Result X F) (read : Read Y) (rest : List ℕ) → Builds false told Sees result read rest → Builds silent told Sees result read rest
+pub builds_always : {X F Y : Type 0} (silent : Bool) (told : Option Error) (Sees : X → Y → Type 0) (result : Result X F) (read : Parse Y) (rest : List ℕ) → Builds false told Sees result read rest → Builds silent told Sees result read rest
 builds_always silent told Sees (Ok x) read rest h = h
 builds_always silent told Sees (Err f) read rest h = tells_always silent told read h
 
 -- of what is pushed and of what is put in
 module _ {R I M K X F : Type 0} (silent : Bool) (told : Option Error) (Stands : List ℕ → R → Bool → List (Frame I M K) → List Open → Type 0) (result : Result X F) (text other_text : List ℕ) (same_text : other_text ≡ text) (old : R) where
-  pub pushes_same : (before : I) (read other : Read Tree) (new : R) (after : I) (rest : List ℕ) → other ≡ read
+  pub pushes_same : (before : I) (read other : Parse Tree) (new : R) (after : I) (rest : List ℕ) → other ≡ read
       → IsPushed silent told Stands text result old before read new after rest → IsPushed silent told Stands other_text result old before other new after rest
   pushes_same before read other new after rest same h = subst (λ u. IsPushed silent told Stands u result old before other new after rest) (sym same_text) (subst (λ q. IsPushed silent told Stands text result old before q new after rest) (sym same) h)
 
-  pub puts_in_same : (before : OpenObject M K) (key : K) (read other : Read Tree) (new : R) (after : OpenObject M K) (rest : List ℕ) → other ≡ read
+  pub puts_in_same : (before : OpenObject M K) (key : K) (read other : Parse Tree) (new : R) (after : OpenObject M K) (rest : List ℕ) → other ≡ read
       → IsPutIn silent told Stands text result old before key read new after rest → IsPutIn silent told Stands other_text result old before key other new after rest
   puts_in_same before key read other new after rest same h = subst (λ u. IsPutIn silent told Stands u result old before key other new after rest) (sym same_text) (subst (λ q. IsPutIn silent told Stands text result old before key q new after rest) (sym same) h)

@@ -9,9 +9,9 @@ use Rattle.jsonb_spec.specs.Tree.Tree.{boolean}
 use Rattle.jsonb_value.specs.declared.value.Value.{Value}
 use Rattle.jsonb_scan.specs.Answer.{Fails, mode_of}
 use Rattle.jsonb.specs.Parser.{Advances, rest_of, size_of}
-use Rattle.jsonb_scan.specs.Reading.{Fault, begins, ◌>>=◌}
-use Rattle.jsonb_scan.specs.Reading.Scalar.{begins_letter, begins_single_quote, false_at, key_at, null_at, number_or_fault, on_single_quote, quoted_at, scalar_at, true_or_false_at, unquoted_at, word_at, words_at}
-use Rattle.jsonb_scan.specs.Reading.String.{string_at}
+use Rattle.jsonb_scan.specs.Parsing.{Fault, begins, ◌>>=◌}
+use Rattle.jsonb_scan.specs.Parsing.Scalar.{begins_letter, begins_single_quote, false_at, key_at, null_at, number_or_fault, on_single_quote, quoted_at, scalar_at, true_or_false_at, unquoted_at, word_at, words_at}
+use Rattle.jsonb_scan.specs.Parsing.String.{string_at}
 use Rattle.jsonb_scan.proofs.Containers.JoinedParts.{on_byte-found, on_byte-none}
 use Rattle.jsonb.proofs.Steps.Advancing.{single-false, single-true}
 
@@ -28,7 +28,7 @@ fails_same e read other same h = subst (λ q. Fails e q) (sym same) h
 pub same_size : (p q : Parser) → Advances p q → size_of q ≡ size_of p
 same_size p q a = ap (λ r. length r.now) a.buf
 
--- what is read by a parser that has not moved
+-- what is parsed by a parser that has not moved
 module _ (p q : Parser) (same : q ≡ p) where
   pub unmoved : {A : Type 0} (f : Parser → A) → f p ≡ f q
   unmoved f = ap f (sym same)

@@ -10,7 +10,7 @@ mod clone;
 mod equality;
 mod into_value;
 
-use super::{Mode, read_document};
+use super::{Mode, parse_text};
 use jsonb_value::error::{Error, Result};
 use jsonb_value::number::Number;
 use std::alloc::Global;
@@ -48,11 +48,11 @@ impl<'a> JsonAst<'a> {
         // What is returned is the one tree of the document; what is rejected is none, unless memory ran out.
         ensures parses { Parses (mode_of mode) ast_view buf.now result }
 
-        // Each value stands in the text where it was read. Each object's keys ascend, and each member's own key ends at
-        // its index.
+        // Each value stands in the text where it was parsed. Each object's keys ascend, and each member's own key ends
+        // at its index.
         ensures source { IfOk result (λ v. IsPlaced (mode_of mode) buf.now (source_view v)) }
     {
-        match read_document::<JsonAst>(&mut (), alloc, buf, mode) {
+        match parse_text::<JsonAst>(&mut (), alloc, buf, mode) {
             Ok(tree) => Ok(tree),
             Err(told) => match told {
                 Some(error) => Err(error),

@@ -4,8 +4,8 @@ ghost use Rattle.jsonb_spec.specs.Mode.{extended};
 ghost use Rattle.jsonb_value.specs.View.{number_view};
 ghost use Rattle.jsonb_scan.specs.Answer.{mode_of};
 ghost use Rattle.jsonb.specs.Parser.{KeepsInteger, ReadsInPlace, rest_of};
-ghost use Rattle.jsonb_scan.specs.Reading.Whitespace.{is_break};
-ghost use Rattle.jsonb_scan.specs.Reading.ExtendedNumber.{extended_number_at};
+ghost use Rattle.jsonb_scan.specs.Parsing.Whitespace.{is_break};
+ghost use Rattle.jsonb_scan.specs.Parsing.ExtendedNumber.{extended_number_at};
 
 use super::Parser;
 use jsonb_scan::parser::extended_number::{scan_number, short_number};
@@ -44,7 +44,7 @@ impl Parser<'_> {
         true
     }
 
-    // Reads the longest number text, and gives its number.
+    // Parses the longest number text, and gives its number.
     pub(super) fn parse_extended_number(&mut self) -> Result<Number>
         ensures { ReadsInPlace number_view (λ size mode. extended_number_at size) result self.old self.new }
     {
@@ -58,7 +58,7 @@ impl Parser<'_> {
         }
     }
 
-    // Reads any number text, also one that `short_number` leaves.
+    // Parses any number text, also one that `short_number` leaves.
     fn parse_long_number(&mut self, bytes: &[u8]) -> Result<Number>
         requires bytes { bytes.now ≡ rest_of self.old }
         ensures { ReadsInPlace number_view (λ size mode. extended_number_at size) result self.old self.new }

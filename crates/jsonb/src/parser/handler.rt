@@ -14,7 +14,7 @@ ghost use Rattle.jsonb.specs.declared.parser.frame.Frame.TheVariants.{Array, Obj
 ghost use Rattle.jsonb_scan.specs.Answer.{mode_of};
 ghost use Rattle.jsonb_scan.specs.Decoding.{TellsBackslash};
 ghost use Rattle.jsonb_scan.specs.Open.{Open, members_so_far};
-ghost use Rattle.jsonb_scan.specs.Reading.String.{body_of};
+ghost use Rattle.jsonb_scan.specs.Parsing.String.{body_of};
 ghost use Rattle.jsonb_spec.specs.Source.{Source, Found, null_source, boolean_source, string_source, number_source};
 ghost use Rattle.jsonb_scan.specs.Spelled.{IsSpelledAt, KeyStandsAt};
 ghost use Rattle.jsonb_write.specs.OpenText.{source_text};
@@ -167,8 +167,8 @@ pub(super) trait Handler<'a>: Drop + Sized {
         from: usize,
         to: usize,
     ) -> std::result::Result<(), AllocError>
-        ensures put { OnOk result (keeps ≡ true → TakesElement stands (λ text s. slice_range text from to ≡ source_text s)
-            room.old items.old room.new items.new) }
+        ensures put { OnOk result (keeps ≡ true → TakesElement stands
+            (λ text s. slice_range text from to ≡ source_text s) room.old items.old room.new items.new) }
         ensures base { base room.new ≡ base room.old };
 
     // Puts in an element that is a container. Where it is the last one, no other follows.
@@ -178,8 +178,8 @@ pub(super) trait Handler<'a>: Drop + Sized {
         value: Self,
         is_last: bool,
     ) -> std::result::Result<(), AllocError>
-        ensures put { OnOk result (TakesInner stands (λ s fs cs text. filled text room.old value s fs cs) items.old room.new
-            items.new) }
+        ensures put { OnOk result (TakesInner stands (λ s fs cs text. filled text room.old value s fs cs) items.old
+            room.new items.new) }
         ensures base { base room.new ≡ base room.old };
 
     // The array ends. Its bracket stands in the text at an index.

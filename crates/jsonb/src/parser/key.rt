@@ -4,12 +4,12 @@ ghost use Rattle.std.specs.Cow.{cow_str_bytes};
 ghost use Rattle.jsonb_spec.specs.Ascii as ascii;
 ghost use Rattle.jsonb_value.specs.View.{mark_view};
 ghost use Rattle.jsonb.specs.Handler.{AsNamed, Begins, Builds};
-ghost use Rattle.jsonb.specs.Parser.{AdvancesOver, IsTextOf, ReadsInPlace, ReadsString, read_at, rest_of};
+ghost use Rattle.jsonb.specs.Parser.{AdvancesOver, IsTextOf, ReadsInPlace, ReadsString, parse_at, rest_of};
 ghost use Rattle.jsonb.specs.Stack.{member_start};
-ghost use Rattle.jsonb_scan.specs.Reading.Whitespace.{skip_whitespace};
-ghost use Rattle.jsonb_scan.specs.Reading.String.{string_at};
-ghost use Rattle.jsonb_scan.specs.Reading.Scalar.{key_at};
-ghost use Rattle.jsonb_scan.specs.Reading.BareKey.{bare_key_at};
+ghost use Rattle.jsonb_scan.specs.Parsing.Whitespace.{skip_whitespace};
+ghost use Rattle.jsonb_scan.specs.Parsing.String.{string_at};
+ghost use Rattle.jsonb_scan.specs.Parsing.Scalar.{key_at};
+ghost use Rattle.jsonb_scan.specs.Parsing.BareKey.{bare_key_at};
 ghost use Rattle.jsonb.specs.Steps.{BeginsWith};
 
 use super::frame::OpenObject;
@@ -29,9 +29,9 @@ impl<'a> Parser<'a> {
         text: &'a str,
     ) -> std::result::Result<V::Key, Failed>
         requires same { IsTextOf text.now self.old }
-        ensures reads { Builds V.silent self.new.told
+        ensures parses { Builds V.silent self.new.told
             (AsNamed (Begins (V.stands self.old.buf.now) room.old object.old room.new object.new)) result
-            (read_at member_start self.old)
+            (parse_at member_start self.old)
             (rest_of self.new) }
         ensures advances { AdvancesOver V.base self.old self.new room.old room.new }
     {
@@ -124,7 +124,7 @@ impl<'a> Parser<'a> {
         }
     }
 
-    // Reads a key without quotes. It is borrowed.
+    // Parses a key without quotes. It is borrowed.
     fn parse_bare_key(&mut self) -> Result<CowStr<'a>>
         ensures { ReadsInPlace (λ s. (mark_view s, cow_str_bytes s)) (λ size mode. bare_key_at size) result self.old
             self.new }

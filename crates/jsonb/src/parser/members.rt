@@ -1,7 +1,7 @@
 //! The members of an object: their order, and repeated keys.
 ghost use Rattle.std.specs.Prelude.{◌≡◌, map, ℕ, List, IsPermutation};
 ghost use Rattle.jsonb_scan.specs.Answer.{Gives};
-ghost use Rattle.jsonb_scan.specs.Reading.Container.{object_or_fault};
+ghost use Rattle.jsonb_scan.specs.Parsing.Container.{object_or_fault};
 ghost use Rattle.jsonb_spec.specs.Source.{first_repeat, object_source, source_members_of, spot_of, spot_cmp, SpotsAreSorted};
 ghost use Rattle.jsonb.specs.Source.{found_of};
 
@@ -33,7 +33,7 @@ fn sort_members(members: &mut Vec<Member>)
 
 // Puts the members in the order of their keys, and tells a key that comes twice.
 pub(super) fn settle_members(alloc: Global, members: &mut Vec<Member>) -> Result<()>
-    ensures reads { (rest : List ℕ) → Gives
+    ensures parses { (rest : List ℕ) → Gives
         (λ _. (object_source (source_members_of (map found_of members.new.items)), rest)) result
         (object_or_fault (first_repeat (map spot_of (map found_of members.old.items)))
         (map found_of members.old.items) rest) }

@@ -8,9 +8,9 @@ ghost use Rattle.jsonb_spec.specs.Mode.{standard};
 ghost use Rattle.jsonb_spec.specs.Grammar.StandardNumber.{IsStandardNumber};
 ghost use Rattle.jsonb_spec.specs.Tree.{number};
 ghost use Rattle.jsonb.specs.Parser.{Finds, KeepsInteger, ReadsInPlace, rest_of, size_of};
-ghost use Rattle.jsonb_scan.specs.Reading.Scalar.{scalar_at};
+ghost use Rattle.jsonb_scan.specs.Parsing.Scalar.{scalar_at};
 ghost use Rattle.jsonb_scan.specs.ShortInteger.{short_view};
-ghost use Rattle.jsonb_scan.specs.Reading.Number.{ContinuesAfterInteger, digits_from, exponent_from, fraction_from, whole_start, then_from, number_to, standard_number_at};
+ghost use Rattle.jsonb_scan.specs.Parsing.Number.{ContinuesAfterInteger, digits_from, exponent_from, fraction_from, whole_start, then_from, number_to, standard_number_at};
 
 use super::Parser;
 use jsonb_scan::parser::integer::kept_integer;
@@ -41,7 +41,7 @@ impl Parser<'_> {
         }
     }
 
-    // Reads an integer of a standard text, if one of at most 19 digits comes next.
+    // Parses an integer of a standard text, if one of at most 19 digits comes next.
     #[inline(always)]
     pub(super) fn short_integer(&mut self) -> Option<ShortInteger>
         requires mode { mode_of self.old.mode ≡ standard }
@@ -55,7 +55,7 @@ impl Parser<'_> {
         Some(read)
     }
 
-    // Reads the longest number text, and gives its number.
+    // Parses the longest number text, and gives its number.
     #[inline(never)]
     pub(super) fn parse_standard_number(&mut self) -> Result<Number>
         ensures { ReadsInPlace number_view (λ size mode. standard_number_at size) result self.old self.new }
@@ -82,7 +82,7 @@ impl Parser<'_> {
         }
     }
 
-    // The fault in a number text, at this place of the bytes that are still to be read.
+    // The fault in a number text, at this place of the bytes that are still to be parsed.
     fn invalid_number(&self, place: usize) -> Error
         requires { place ≤ length (rest_of self.now) + 2 }
         ensures { result ≡ Syntax InvalidNumberValue (self.now.offset + place) }

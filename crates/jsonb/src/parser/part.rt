@@ -7,7 +7,7 @@ ghost use Rattle.jsonb.specs.Parses.{Rejects};
 
 use super::handler::SoughtPart;
 use super::straight::{may_allocate, value_of};
-use super::{Mode, read_document};
+use super::{Mode, parse_text};
 use crate::part::part_at;
 use jsonb_value::error::{Error, Result};
 use jsonb_value::value::Value;
@@ -55,7 +55,7 @@ pub fn append_part(
         return append_part_of_value(alloc, text, mode, path, buf);
     }
     let mut room = PartRoom::new(alloc, text, path);
-    match read_document::<SoughtPart>(&mut room, alloc, text, mode) {
+    match parse_text::<SoughtPart>(&mut room, alloc, text, mode) {
         Ok(_) => match room.into_part() {
             Some(part) => {
                 if buf.extend_from_slice(&part).is_err() {

@@ -12,8 +12,8 @@ ghost use Rattle.jsonb_scan.specs.Spelled.{IsSpelledAt};
 ghost use Rattle.jsonb_write.specs.OpenText.{source_text};
 ghost use Rattle.jsonb_write.specs.PlainText.{ArePlain};
 ghost use Rattle.jsonb.specs.Parser.{Advances, Finds, IsAfterQuote, IsBehind, IsTextOf, ReadsInPlace, TakesByte, rest_of, size_of};
-ghost use Rattle.jsonb_scan.specs.Reading.{begins};
-ghost use Rattle.jsonb_scan.specs.Reading.Scalar.{number_value_at, begins_letter, begins_number, begins_single_quote, fold_letter, letters_at, null_at, number_at, quoted_at, scalar_at, other_scalar_at, words_at};
+ghost use Rattle.jsonb_scan.specs.Parsing.{begins};
+ghost use Rattle.jsonb_scan.specs.Parsing.Scalar.{number_value_at, begins_letter, begins_number, begins_single_quote, fold_letter, letters_at, null_at, number_at, quoted_at, scalar_at, other_scalar_at, words_at};
 ghost use Rattle.jsonb.specs.Steps.{Inserts, MakesScalar, Pushes, PutsElement, PutsMember};
 
 use super::frame::OpenObject;
@@ -624,7 +624,7 @@ impl<'a> Parser<'a> {
         matches!(self.peek(), Some(b'a'..=b'z'))
     }
 
-    // Reads a literal in small letters, if one comes next.
+    // Parses a literal in small letters, if one comes next.
     #[inline(always)]
     fn short_literal(&mut self) -> Option<Literal>
         ensures finds { Finds literal_tree scalar_at result self.old self.new }
@@ -675,7 +675,7 @@ impl<'a> Parser<'a> {
 
     // A word, byte by byte.
     fn parse_word(&mut self, word: &[u8]) -> std::result::Result<(), Error>
-        ensures reads { Gives (λ _. rest_of self.new) result
+        ensures parses { Gives (λ _. rest_of self.new) result
             (letters_at (size_of self.old) (mode_of self.old.mode) word.now (rest_of self.old)) }
         ensures takes_no_memory { result ≢ Err Error.OutOfMemory }
         ensures advances { Advances self.old self.new }

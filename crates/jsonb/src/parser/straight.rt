@@ -7,7 +7,7 @@ ghost use Rattle.jsonb.specs.Appends.{AppendsKeyOf, AppendsTextOf, IsParsed, Lac
 ghost use Rattle.jsonb.specs.Parses.{AppendsParsed, Parses, Rejects};
 
 use super::handler::{CheckedPart, KeyPart};
-use super::{Mode, parse_value, parse_value_standard_mode, read_document};
+use super::{Mode, parse_text, parse_value, parse_value_standard_mode};
 use jsonb_value::error::{Error, Result};
 use jsonb_value::value::Value;
 use jsonb_write::check::CheckRoom;
@@ -55,7 +55,7 @@ pub fn check(alloc: Global, text: &[u8], mode: Mode) -> Result<()>
     ensures rejects { Rejects (mode_of mode) text.now result }
 {
     let mut room = CheckRoom::new(alloc, text);
-    let read = read_document::<CheckedPart>(&mut room, alloc, text, mode);
+    let read = parse_text::<CheckedPart>(&mut room, alloc, text, mode);
     match read {
         Ok(_) => Ok(()),
         Err(told) => match told {
@@ -97,7 +97,7 @@ pub fn append_text(alloc: Global, text: &[u8], mode: Mode, buf: &mut Vec<u8>) ->
     }
     let out = mem::replace(buf, Vec::new(alloc));
     let mut room = TextRoom::new(alloc, text, out);
-    let read = read_document::<Part>(&mut room, alloc, text, mode);
+    let read = parse_text::<Part>(&mut room, alloc, text, mode);
     match read {
         Ok(_) => {
             if room.finish().is_err() {
@@ -149,7 +149,7 @@ pub fn append_sort_key(alloc: Global, text: &[u8], mode: Mode, buf: &mut Vec<u8>
     }
     let out = mem::replace(buf, Vec::new(alloc));
     let mut room = KeyRoom::new(alloc, text, out);
-    let read = read_document::<KeyPart>(&mut room, alloc, text, mode);
+    let read = parse_text::<KeyPart>(&mut room, alloc, text, mode);
     match read {
         Ok(_) => {
             if room.finish().is_err() {

@@ -5,7 +5,7 @@ ghost use Rattle.jsonb_spec.specs.Ascii as ascii;
 ghost use Rattle.jsonb_value.specs.View.{mark_view};
 ghost use Rattle.jsonb_spec.specs.Tree.Mark.{plain};
 ghost use Rattle.jsonb.specs.Parser.{Advances, CutsString, IsAfterQuote, IsBehind, IsTextOf, PassesContents, ReadsString};
-ghost use Rattle.jsonb_scan.specs.Reading.String.{string_at};
+ghost use Rattle.jsonb_scan.specs.Parsing.String.{string_at};
 ghost use Rattle.jsonb_write.specs.PlainText.{ArePlain};
 
 use super::Parser;
@@ -24,7 +24,7 @@ pub(super) struct Cut<'a> {
 }
 
 impl<'a> Parser<'a> {
-    // Reads a string from the byte after its opening quote on. It is borrowed where no backslash is in it.
+    // Parses a string from the byte after its opening quote on. It is borrowed where no backslash is in it.
     #[inline(always)]
     pub(super) fn parse_quoted(&mut self, quote: u8) -> Result<CowStr<'a>>
         requires no_backslash { quote ≢ ascii.backslash }

@@ -8,13 +8,13 @@ ghost use Rattle.jsonb_value.specs.declared.error.ParseErrorCode.TheVariants.{De
 ghost use Rattle.jsonb.specs.declared.parser.frame.Frame.{Frame};
 ghost use Rattle.jsonb.specs.declared.parser.frame.Frame.TheVariants.{Array, Object};
 ghost use Rattle.jsonb.specs.Handler.{ElseFails, Builds};
-ghost use Rattle.jsonb.specs.Frames.{AtEnd, AtNextPart, BeforeValue, Fits, IsRead, OpensContainer, finish_container, scalar_or_null};
+ghost use Rattle.jsonb.specs.Frames.{AtEnd, AtNextPart, BeforeValue, Fits, IsParsedToEnd, OpensContainer, finish_container, scalar_or_null};
 ghost use Rattle.jsonb_scan.specs.Answer.{mode_of};
-ghost use Rattle.jsonb.specs.Parser.{Advances, AdvancesOver, IsBehind, IsTextOf, read_at, rest_of, size_of};
-ghost use Rattle.jsonb_scan.specs.Reading.{begins};
-ghost use Rattle.jsonb_scan.specs.Reading.Whitespace.{is_whitespace_start, skip_whitespace};
-ghost use Rattle.jsonb_scan.specs.Reading.Container.{is_left_out};
-ghost use Rattle.jsonb_scan.specs.Reading.Document.{value_at};
+ghost use Rattle.jsonb.specs.Parser.{Advances, AdvancesOver, IsBehind, IsTextOf, parse_at, rest_of, size_of};
+ghost use Rattle.jsonb_scan.specs.Parsing.{begins};
+ghost use Rattle.jsonb_scan.specs.Parsing.Whitespace.{is_whitespace_start, skip_whitespace};
+ghost use Rattle.jsonb_scan.specs.Parsing.Container.{is_left_out};
+ghost use Rattle.jsonb_scan.specs.Parsing.Document.{value_at};
 ghost use Rattle.jsonb_spec.specs.Source.{Source};
 ghost use Rattle.jsonb_scan.specs.Open.{Open};
 ghost use Rattle.jsonb.specs.Steps.{EndsPart, FillsFrame, Pushes, Turns};
@@ -59,15 +59,15 @@ impl<'a> Parser<'a> {
     ) -> Result<V, Failed>
         requires same { IsTextOf text.now self.old }
         requires opens { OpensContainer (rest_of self.old) }
-        ensures reads { V.stands self.old.buf.now room.old true [] []
+        ensures parses { V.stands self.old.buf.now room.old true [] []
             → Builds V.silent self.new.told (λ v s. V.filled self.old.buf.now room.new v s [] []) result
-            (read_at (λ size mode. value_at size mode max_depth) self.old) (rest_of self.new) }
+            (parse_at (λ size mode. value_at size mode max_depth) self.old) (rest_of self.new) }
         ensures advances { AdvancesOver V.base self.old self.new room.old room.new }
     {
         let Ok(mut stack) = Vec::with_capacity(self.alloc, FEW_FRAMES) else {
             return Err(self.out_of_memory());
         };
-        if let Err(failed) = self.read_container::<V>(room, &mut stack, text) {
+        if let Err(failed) = self.parse_open_containers::<V>(room, &mut stack, text) {
             dismantle_all::<V>(stack);
             return Err(failed);
         }
@@ -79,8 +79,9 @@ impl<'a> Parser<'a> {
         Ok(frame_value::<V>(room, frame))
     }
 
-    // Reads a container by a loop over those that are open. The stack is left with the one container, read to its end.
-    fn read_container<V: Handler<'a>>(
+    // Parses a container by a loop over those that are open. The stack is left with the one container, parsed to its
+    // end.
+    fn parse_open_containers<V: Handler<'a>>(
         &mut self,
         room: &mut V::Room,
         stack: &mut Vec<FrameOf<'a, V>>,
@@ -89,10 +90,10 @@ impl<'a> Parser<'a> {
         requires same { IsTextOf text.now self.old }
         requires opens { OpensContainer (rest_of self.old) }
         requires none { stack.old.items ≡ [] }
-        ensures reads { V.stands self.old.buf.now room.old true [] []
-            → ElseFails V.silent self.new.told result (read_at (λ size mode. value_at size mode max_depth) self.old)
-            (λ _. IsRead (V.stands self.old.buf.now room.new)
-            (read_at (λ size mode. value_at size mode max_depth) self.old) stack.new.items (rest_of self.new)) }
+        ensures parses { V.stands self.old.buf.now room.old true [] []
+            → ElseFails V.silent self.new.told result (parse_at (λ size mode. value_at size mode max_depth) self.old)
+            (λ _. IsParsedToEnd (V.stands self.old.buf.now room.new)
+            (parse_at (λ size mode. value_at size mode max_depth) self.old) stack.new.items (rest_of self.new)) }
         ensures one { OnOk result (length stack.new.items ≡ 1) }
         ensures advances { AdvancesOver V.base self.old self.new room.old room.new }
     {
@@ -104,12 +105,12 @@ impl<'a> Parser<'a> {
                 }
                 closed = self.close_container::<V>(room, stack)?;
             } else {
-                closed = self.read_parts::<V>(room, stack, text)?;
+                closed = self.parse_parts::<V>(room, stack, text)?;
             }
         }
     }
 
-    // Opens an array or an object, up to its first part. True where it has none, and it is read to its end.
+    // Opens an array or an object, up to its first part. True where it has none, and it is parsed to its end.
     #[inline(always)]
     fn open_container<V: Handler<'a>>(
         &mut self,
@@ -157,9 +158,9 @@ impl<'a> Parser<'a> {
         Error::Syntax(ParseErrorCode::DepthLimitExceeded, self.offset + 1)
     }
 
-    // Reads parts of the innermost container, up to its end, or up to a part that is a container and opens that one.
-    // True where a container was read to its end.
-    fn read_parts<V: Handler<'a>>(
+    // Parses parts of the innermost container, up to its end, or up to a part that is a container and opens that one.
+    // True where a container was parsed to its end.
+    fn parse_parts<V: Handler<'a>>(
         &mut self,
         room: &mut V::Room,
         stack: &mut Vec<FrameOf<'a, V>>,
@@ -180,7 +181,7 @@ impl<'a> Parser<'a> {
         self.open_container::<V>(room, stack)
     }
 
-    // Reads parts of a container, up to one that is a container, or up to its end. True at the end.
+    // Parses parts of a container, up to one that is a container, or up to its end. True at the end.
     #[inline(always)]
     fn fill<V: Handler<'a>>(
         &mut self,
@@ -192,13 +193,13 @@ impl<'a> Parser<'a> {
         ensures { FillsFrame V.Handler result self.old self.new room.old room.new frame.old frame.new }
     {
         match frame {
-            Frame::Array(items) => self.read_elements::<V>(room, items, text),
-            Frame::Object(object) => self.read_members::<V>(room, object, text),
+            Frame::Array(items) => self.parse_elements::<V>(room, items, text),
+            Frame::Object(object) => self.parse_members::<V>(room, object, text),
         }
     }
 
-    // Reads elements of an array, up to one that is a container, or up to its end. True at the end.
-    fn read_elements<V: Handler<'a>>(
+    // Parses elements of an array, up to one that is a container, or up to its end. True at the end.
+    fn parse_elements<V: Handler<'a>>(
         &mut self,
         room: &mut V::Room,
         items: &mut V::Items,
@@ -249,9 +250,9 @@ impl<'a> Parser<'a> {
         }
     }
 
-    // Reads members of an object, up to one whose value is a container, or up to its end. True at the end. The key of
+    // Parses members of an object, up to one whose value is a container, or up to its end. True at the end. The key of
     // the member whose value is a container is kept.
-    fn read_members<V: Handler<'a>>(
+    fn parse_members<V: Handler<'a>>(
         &mut self,
         room: &mut V::Room,
         object: &mut ObjectOf<'a, V>,
@@ -322,8 +323,8 @@ impl<'a> Parser<'a> {
         self.take_byte(byte)
     }
 
-    // Puts the innermost container, which was read, into the one around it, up to the next part of that one. True where
-    // that one ends there.
+    // Puts the innermost container, which was parsed, into the one around it, up to the next part of that one. True
+    // where that one ends there.
     fn close_container<V: Handler<'a>>(
         &mut self,
         room: &mut V::Room,

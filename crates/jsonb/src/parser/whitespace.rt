@@ -2,7 +2,7 @@
 ghost use Rattle.std.specs.Prelude.{◌≡◌, ◌+◌, ◌<◌, MatchBool};
 ghost use Rattle.jsonb_scan.specs.Answer.{mode_of};
 ghost use Rattle.jsonb.specs.Parser.{Skips, SkipsSome, rest_of};
-ghost use Rattle.jsonb_scan.specs.Reading.Whitespace.{opens_comment, skip_closed_whitespace, skip_whitespace};
+ghost use Rattle.jsonb_scan.specs.Parsing.Whitespace.{opens_comment, skip_closed_whitespace, skip_whitespace};
 
 use super::{Mode, Parser};
 use jsonb_scan::parser::whitespace::{near_spaces, piece_len};

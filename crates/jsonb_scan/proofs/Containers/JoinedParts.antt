@@ -9,9 +9,9 @@ use Rattle.jsonb_spec.specs.Grammar.{IsJoined, IsPadded}
 use Rattle.jsonb_spec.specs.Grammar.IsJoined.{more_parts, one_part}
 use Rattle.jsonb_spec.specs.Grammar.IsPadded.{padded}
 use Rattle.jsonb_spec.specs.Mode.{Mode}
-use Rattle.jsonb_scan.specs.Reading.{Read, begins, on_byte, reject, ◌>>=◌}
-use Rattle.jsonb_scan.specs.Reading.Whitespace.{is_whitespace_start, is_break, skip_whitespace}
-use Rattle.jsonb_scan.specs.Reading.Container.{after_part, joined_at, padded_at}
+use Rattle.jsonb_scan.specs.Parsing.{Parse, begins, on_byte, reject, ◌>>=◌}
+use Rattle.jsonb_scan.specs.Parsing.Whitespace.{is_whitespace_start, is_break, skip_whitespace}
+use Rattle.jsonb_scan.specs.Parsing.Container.{after_part, joined_at, padded_at}
 use Rattle.jsonb_scan.proofs.Steps.Tests.{bind_ok, chosen, eqb_self, rejected_fails, same_read}
 use Rattle.jsonb_scan.proofs.Text.Whitespace.{skip-whitespace, skip-stop, skips}
 
@@ -84,30 +84,30 @@ pub ends-whitespace : {mode : Mode} {before : List ℕ} (b : IsWhitespace mode b
 ends-whitespace no_whitespace rest h = h
 ends-whitespace (more_whitespace {piece = piece} {rest = others} b bs) rest h = subst Ends (sym (append_assoc piece others rest)) (ends-piece b (others ++ rest))
 
--- ---- readers
+-- ---- parsers
 
--- What is read from the front of the bytes is a spelling of a.
+-- What is parsed from the front of the bytes is a spelling of a.
 pub record Spelled {A : Type 0} (Spells : List ℕ → A → Type 0) (bytes : List ℕ) (a : A) (rest : List ℕ) : Type 0 where
   pub core : List ℕ
   pub spells : Spells core a
   pub whole : bytes ≡ core ++ rest
 
-abbrev pub IsSound : {A : Type 0} → (List ℕ → A → Type 0) → (List ℕ → Read A) → Type 0
+abbrev pub IsSound : {A : Type 0} → (List ℕ → A → Type 0) → (List ℕ → Parse A) → Type 0
 IsSound {A} Spells read = (bytes : List ℕ) (a : A) (rest : List ℕ) → read bytes ≡ Ok (a, rest) → Spelled Spells bytes a rest
 
--- What is read, where bytes are left behind it, is a spelling: at the end of the bytes what is passed may be no whitespace.
-abbrev pub IsSoundBefore : {A : Type 0} → (List ℕ → A → Type 0) → (List ℕ → Read A) → Type 0
+-- What is parsed, where bytes are left behind it, is a spelling: at the end of the bytes what is passed may be no whitespace.
+abbrev pub IsSoundBefore : {A : Type 0} → (List ℕ → A → Type 0) → (List ℕ → Parse A) → Type 0
 IsSoundBefore {A} Spells read = (bytes : List ℕ) (a : A) (rest : List ℕ) → read bytes ≡ Ok (a, rest) → 0 < length rest → Spelled Spells bytes a rest
 
--- Each spelling is read, where a byte follows that may follow.
-pub record IsComplete {A : Type 0} (Spells : List ℕ → A → Type 0) (read : List ℕ → Read A) : Type 0 where
+-- Each spelling is parsed, where a byte follows that may follow.
+pub record IsComplete {A : Type 0} (Spells : List ℕ → A → Type 0) (read : List ℕ → Parse A) : Type 0 where
   pub starts : (core : List ℕ) (a : A) → Spells core a → Starts core
-  pub reads : (core : List ℕ) (a : A) (rest : List ℕ) → Spells core a → Ends rest → read (core ++ rest) ≡ Ok (a, rest)
+  pub parses : (core : List ℕ) (a : A) (rest : List ℕ) → Spells core a → Ends rest → read (core ++ rest) ≡ Ok (a, rest)
 
--- Each spelling is read, and what is read shows the spelling's meaning by view.
-pub record IsShown {A F : Type 0} (view : F → A) (Spells : List ℕ → A → Type 0) (read : List ℕ → Read F) : Type 0 where
+-- Each spelling is parsed, and what is parsed shows the spelling's meaning by view.
+pub record IsShown {A F : Type 0} (view : F → A) (Spells : List ℕ → A → Type 0) (read : List ℕ → Parse F) : Type 0 where
   pub starts : (core : List ℕ) (a : A) → Spells core a → Starts core
-  pub reads : (core : List ℕ) (a : A) (rest : List ℕ) → Spells core a → Ends rest → (f : F) × (view f ≡ a) × (read (core ++ rest) ≡ Ok (f, rest))
+  pub parses : (core : List ℕ) (a : A) (rest : List ℕ) → Spells core a → Ends rest → (f : F) × (view f ≡ a) × (read (core ++ rest) ≡ Ok (f, rest))
 
 -- ---- what is seen by view
 
@@ -122,7 +122,7 @@ module _ {A F : Type 0} (view : F → A) (Spells : List ℕ → A → Type 0) wh
   joined_seen (one_part s) = one_part s
   joined_seen (more_parts s j) = more_parts s (joined_seen j)
 
--- ---- whitespace round what is read
+-- ---- whitespace round what is parsed
 
 pub starts-append : (core rest : List ℕ) → Starts core → Starts (core ++ rest)
 starts-append core rest s = record { first = s.first; others = s.others ++ rest; whole = ap (λ (t : List ℕ). t ++ rest) s.whole; is_start = s.is_start }
@@ -130,7 +130,7 @@ starts-append core rest s = record { first = s.first; others = s.others ++ rest;
 pub skip-starts : (mode : Mode) (bytes : List ℕ) → Starts bytes → skip_whitespace mode bytes ≡ bytes
 skip-starts mode bytes s = ap (λ (t : List ℕ). skip_whitespace mode t) s.whole ∙ skip-stop mode s.first s.others (other s.first s.is_start).piece ∙ sym s.whole
 
-module _ {A : Type 0} (mode : Mode) (Spells : List ℕ → A → Type 0) (read : List ℕ → Read A) where
+module _ {A : Type 0} (mode : Mode) (Spells : List ℕ → A → Type 0) (read : List ℕ → Parse A) where
   pub padded_sound : IsSound Spells read → IsSoundBefore (IsPadded mode Spells) (padded_at mode read)
   padded_sound sound bytes a rest e left =
       let b = bind_ok (read (skip_whitespace mode bytes)) (λ (x : A × List ℕ). Ok (x.0, skip_whitespace mode x.1)) (a, rest) e in
@@ -168,17 +168,17 @@ module _ {A : Type 0} (mode : Mode) (Spells : List ℕ → A → Type 0) where
             ∙ ap (λ (t : List ℕ). skip_whitespace mode t) (append_assoc core after rest) ∙ skip-starts mode (core ++ (after ++ rest)) (starts-append core (after ++ rest) (starts core a s));
       }
 
-module _ {A F : Type 0} (view : F → A) (mode : Mode) (Spells : List ℕ → A → Type 0) (read : List ℕ → Read F) where
+module _ {A F : Type 0} (view : F → A) (mode : Mode) (Spells : List ℕ → A → Type 0) (read : List ℕ → Parse F) where
   pub padded_complete : IsShown view Spells read → (bytes : List ℕ) (a : A) (c : ℕ) (rest : List ℕ) → IsPadded mode Spells bytes a → is_break c ≡ true → is_whitespace_start c ≡ false
       → (f : F) × (view f ≡ a) × (padded_at mode read (bytes ++ c ∷ rest) ≡ Ok (f, c ∷ rest))
   padded_complete complete bytes a c rest p is_end is_none =
       let s = skip-padded mode Spells complete.starts bytes a (c ∷ rest) p in
-      let r = complete.reads s.core a (s.after ++ c ∷ rest) s.spells (ends-whitespace s.is_whitespace (c ∷ rest) (ends_at c rest is_end)) in
+      let r = complete.parses s.core a (s.after ++ c ∷ rest) s.spells (ends-whitespace s.is_whitespace (c ∷ rest) (ends_at c rest is_end)) in
       let k : skip_whitespace mode (s.after ++ c ∷ rest) ≡ c ∷ rest = skip-whitespace s.is_whitespace (c ∷ rest) ∙ skip-stop mode c rest is_none in (
         r.0,
         r.1,
         ap (λ (t : List ℕ). read t >>= λ (x : F × List ℕ). Ok (x.0, skip_whitespace mode x.1)) s.skipped
-            ∙ ap (λ (q : Read F). q >>= λ (x : F × List ℕ). Ok (x.0, skip_whitespace mode x.1)) r.2
+            ∙ ap (λ (q : Parse F). q >>= λ (x : F × List ℕ). Ok (x.0, skip_whitespace mode x.1)) r.2
             ∙ ap (λ (t : List ℕ). Ok (r.0, t)) k,
       )
 
@@ -213,13 +213,13 @@ pub length-joined : {A : Type 0} {Spells : List ℕ → A → Type 0} {bytes : L
 length-joined (one_part {bytes = bytes} s) = omega arith
 length-joined (more_parts {first = first} {rest = rest} s j) = let h = length-joined j in omega (arith, h, length-append first (44 ∷ rest))
 
--- What is read of a part shows the part by view. Each spelling of a part is read up to the comma or the closing byte after it.
-pub record IsPartComplete {A F : Type 0} (view : F → A) (close : ℕ) (Spells : List ℕ → A → Type 0) (part : List ℕ → Read F) : Type 0 where
+-- What is parsed of a part shows the part by view. Each spelling of a part is parsed up to the comma or the closing byte after it.
+pub record IsPartComplete {A F : Type 0} (view : F → A) (close : ℕ) (Spells : List ℕ → A → Type 0) (part : List ℕ → Parse F) : Type 0 where
   pub comma : (bytes : List ℕ) (a : A) (rest : List ℕ) → Spells bytes a → (f : F) × (view f ≡ a) × (part (bytes ++ 44 ∷ rest) ≡ Ok (f, 44 ∷ rest))
   pub last : (bytes : List ℕ) (a : A) (rest : List ℕ) → Spells bytes a → (f : F) × (view f ≡ a) × (part (bytes ++ close ∷ rest) ≡ Ok (f, close ∷ rest))
   pub apart : eqb close 44 ≡ false
 
-module _ {A F : Type 0} (view : F → A) (size : ℕ) (code : Code) (close : ℕ) (Spells : List ℕ → A → Type 0) (part : List ℕ → Read F) (p : IsPartComplete view close Spells part) where
+module _ {A F : Type 0} (view : F → A) (size : ℕ) (code : Code) (close : ℕ) (Spells : List ℕ → A → Type 0) (part : List ℕ → Parse F) (p : IsPartComplete view close Spells part) where
   pub joined_complete : {bytes : List ℕ} {parts : List A} → IsJoined Spells bytes parts → (n : ℕ) (rest : List ℕ) → length parts ≤ n
       → (fs : List F) × (map view fs ≡ parts) × (joined_at size code close part n (bytes ++ close ∷ rest) ≡ Ok (fs, rest))
   unfolding joined_at
@@ -228,7 +228,7 @@ module _ {A F : Type 0} (view : F → A) (size : ℕ) (code : Code) (close : ℕ
       let f = p.last bytes a rest s in (
         f.0 ∷ [],
         ap (λ (b : A). b ∷ []) f.1,
-        ap (λ (r : Read F). r >>= λ (x : F × List ℕ). after_part size code close part (joined_at size code close part n) x.0 x.1) f.2
+        ap (λ (r : Parse F). r >>= λ (x : F × List ℕ). after_part size code close part (joined_at size code close part n) x.0 x.1) f.2
             ∙ on_byte-other 44 close rest (λ (t : List ℕ). joined_at size code close part n t >>= λ (x : List F × List ℕ). Ok (f.0 ∷ x.0, x.1)) (on_byte close (close ∷ rest) (λ (t : List ℕ). Ok (f.0 ∷ [], t)) (reject size code 0 (close ∷ rest))) p.apart
             ∙ on_byte-found close rest (λ (t : List ℕ). Ok (f.0 ∷ [], t)) (reject size code 0 (close ∷ rest)),
       )
@@ -239,11 +239,11 @@ module _ {A F : Type 0} (view : F → A) (size : ℕ) (code : Code) (close : ℕ
         f.0 ∷ g.0,
         ap₂ (λ (b : A) (bs : List A). b ∷ bs) f.1 g.1,
         ap (λ (t : List ℕ). joined_at size code close part (suc n) t) (append_assoc first (44 ∷ others) (close ∷ rest))
-            ∙ ap (λ (r : Read F). r >>= λ (x : F × List ℕ). after_part size code close part (joined_at size code close part n) x.0 x.1) f.2
-            ∙ ap (λ (r : Read (List F)). r >>= λ (x : List F × List ℕ). Ok (f.0 ∷ x.0, x.1)) g.2,
+            ∙ ap (λ (r : Parse F). r >>= λ (x : F × List ℕ). after_part size code close part (joined_at size code close part n) x.0 x.1) f.2
+            ∙ ap (λ (r : Parse (List F)). r >>= λ (x : List F × List ℕ). Ok (f.0 ∷ x.0, x.1)) g.2,
       )
 
-module _ {A : Type 0} (size : ℕ) (code : Code) (close : ℕ) (Spells : List ℕ → A → Type 0) (part : List ℕ → Read A) where
+module _ {A : Type 0} (size : ℕ) (code : Code) (close : ℕ) (Spells : List ℕ → A → Type 0) (part : List ℕ → Parse A) where
   pub joined_sound : IsSoundBefore Spells part → (n : ℕ) (bytes : List ℕ) (parts : List A) (rest : List ℕ) → joined_at size code close part n bytes ≡ Ok (parts, rest)
       → (body : List ℕ) × IsJoined Spells body parts × (bytes ≡ body ++ close ∷ rest)
   unfolding joined_at
@@ -272,8 +272,8 @@ module _ {A : Type 0} (size : ℕ) (code : Code) (close : ℕ) (Spells : List �
             ]
       ]
 
-  -- whitespace before the first part are passed by its reader
+  -- whitespace before the first part are passed by its parser
   pub joined-skip : (mode : Mode) → ((bytes : List ℕ) → part (skip_whitespace mode bytes) ≡ part bytes) → (n : ℕ) (bytes : List ℕ) → joined_at size code close part n (skip_whitespace mode bytes) ≡ joined_at size code close part n bytes
   unfolding joined_at
   joined-skip mode same zero bytes = refl
-  joined-skip mode same (suc n) bytes = ap (λ (r : Read A). r >>= λ (x : A × List ℕ). after_part size code close part (joined_at size code close part n) x.0 x.1) (same bytes)
+  joined-skip mode same (suc n) bytes = ap (λ (r : Parse A). r >>= λ (x : A × List ℕ). after_part size code close part (joined_at size code close part n) x.0 x.1) (same bytes)

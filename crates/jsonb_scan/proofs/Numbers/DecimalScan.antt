@@ -3,8 +3,8 @@ use Rattle.std.proofs.Common.{◌≡◌, ◌≢◌, ◌⊎◌, ℕ, ◌+◌, ◌
 use Rattle.std.specs.Prelude.{slice_index, ◌==◌, nat_lt}
 use Rattle.std.proofs.lemmas.Bool.{cases_eq, cases_lt, cases_Bool, and_parts}
 use Rattle.std.proofs.lemmas.Bool.Decides.{nat_tests}
-use Rattle.jsonb_scan.specs.Reading.Number.{digits_from, sign_end, exponent_from}
-use Rattle.jsonb_scan.specs.Reading.ExtendedNumber.{core_start, zeros_length, zeros_from, point_from, behind_from, zeros_end, front_end, point_end, behind_end, scale_at, precision_at, lacks_digits, has_second_point, decimal_end}
+use Rattle.jsonb_scan.specs.Parsing.Number.{digits_from, sign_end, exponent_from}
+use Rattle.jsonb_scan.specs.Parsing.ExtendedNumber.{core_start, zeros_length, zeros_from, point_from, behind_from, zeros_end, front_end, point_end, behind_end, scale_at, precision_at, lacks_digits, has_second_point, decimal_end}
 use Rattle.jsonb_scan.proofs.Numbers.Runs.{run_ends, run_more, run_passes, run_stop, run_within}
 use Rattle.jsonb_scan.proofs.Numbers.Steps.{differs, digits_more, ok_no_err}
 use Rattle.jsonb_scan.proofs.Numbers.Scan.{IsDigitRun, IsExponentEnd, inside_of, digits_run, exponent_is, sign_end_within}
@@ -143,7 +143,7 @@ second_point bs h =
     let point = second.1 in
     (grind (arith, nat_tests), grind (arith, nat_tests))
 
--- how reading a decimal goes on
+-- how parsing a decimal goes on
 pub data DecimalCase (bs : List ℕ) : Type 0 where
   no_digit : lacks_digits bs ≡ true → decimal_end bs ≡ Err (point_end bs) → DecimalCase bs
   second : HasDigits bs → has_second_point bs ≡ true → decimal_end bs ≡ Err (behind_end bs) → DecimalCase bs

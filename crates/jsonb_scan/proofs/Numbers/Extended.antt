@@ -13,9 +13,9 @@ use Rattle.jsonb_spec.specs.Code.{number_not_carried}
 use Rattle.jsonb_spec.specs.Grammar.StandardNumber.{IsSign}
 use Rattle.jsonb_spec.specs.Grammar.ExtendedNumber.{IsDecimalNumber, IsExtendedNumber, IsExtendedText}
 use Rattle.jsonb_spec.specs.Tree.{Num}
-use Rattle.jsonb_scan.specs.Reading.{Fault, Read}
-use Rattle.jsonb_scan.specs.Reading.Number.{End, sign_end}
-use Rattle.jsonb_scan.specs.Reading.ExtendedNumber.{Scanned, scanned_to, core_start, core_byte, front_end, point_end, behind_end, decimal_end, decimal_at, decimal_to, decimal_scan, hexadecimal_scan, word_scan, is_word_start, hexadecimal_starts, is_hexadecimal_start, extended_scan, extended_number_at, is_extended_start, ContinuesNumberExtended, EndsExtended}
+use Rattle.jsonb_scan.specs.Parsing.{Fault, Parse}
+use Rattle.jsonb_scan.specs.Parsing.Number.{End, sign_end}
+use Rattle.jsonb_scan.specs.Parsing.ExtendedNumber.{Scanned, scanned_to, core_start, core_byte, front_end, point_end, behind_end, decimal_end, decimal_at, decimal_to, decimal_scan, hexadecimal_scan, word_scan, is_word_start, hexadecimal_starts, is_hexadecimal_start, extended_scan, extended_number_at, is_extended_start, ContinuesNumberExtended, EndsExtended}
 use Rattle.jsonb_scan.proofs.Numbers.Steps.{is_digit}
 use Rattle.jsonb_scan.proofs.Numbers.Scan.{exponent_fault_is}
 use Rattle.jsonb_scan.proofs.Numbers.DecimalScan.{DecimalCase, no_digit, second, further, decimal_case, no_digits, second_point, core_within, core_digits, point_here, point_ordered}
@@ -96,7 +96,7 @@ hexadecimal_front bytes zero_byte letter =
       is_mark = letter;
     }
 
--- which of the three is read
+-- which of the three is parsed
 pub scan_word : (bytes : List ℕ) → is_word_start (core_byte bytes) ≡ true → extended_scan bytes ≡ word_scan (core_start bytes) (starts_with_minus bytes) (drop (core_start bytes) bytes)
 unfolding extended_scan
 scan_word bytes word = cond-true (is_word_start (core_byte bytes)) _ _ word
@@ -109,7 +109,7 @@ pub scan_decimal : (bytes : List ℕ) → is_word_start (core_byte bytes) ≡ fa
 unfolding extended_scan
 scan_decimal bytes no_word none = cond-false (is_word_start (core_byte bytes)) _ _ no_word ∙ cond-false (is_hexadecimal_start bytes) _ _ none
 
--- what a reader finds of each, at the byte after the sign
+-- what a parser finds of each, at the byte after the sign
 pub found_word : (bytes tail : List ℕ) (start minus first : ℕ) (s : Scanned) → start ≡ sign_end bytes 0 → minus ≡ slice_index bytes 0 → first ≡ slice_index bytes start → is_word_start first ≡ true → tail ≡ drop start bytes → s ≡ word_scan start (minus == 45) tail → s ≡ extended_scan bytes
 found_word bytes tail start minus first s at sign byte word rest is =
     let tested : is_word_start (core_byte bytes) ≡ true = sym (ap is_word_start (byte ∙ ap (slice_index bytes) at)) ∙ word in
@@ -145,7 +145,7 @@ scans_extended bytes =
         let u : (to_ascii_lowercase (slice_index bytes (core_start bytes + 1)) == 120) ≡ true = grind (arith, nat_tests) in
         let never : true ≡ false = rw (t, u) at none in false≢true (sym never)
 
--- ---- what reading finds
+-- ---- what parsing finds
 
 -- No beginning of the bytes that is longer than what comes before the rest is a number text.
 abbrev pub NoLongerExtended : List ℕ → List ℕ → Type 0
@@ -159,7 +159,7 @@ no_longer bytes end within longest longer after joined short text =
     (λ before. omega (arith, before.0, total, short, length-drop end bytes))
     (longest (length longer) (omega (arith, total)) (subst IsExtendedText (sym front) text))
 
--- a number was read
+-- a number was parsed
 pub record ExtendedRead (bytes : List ℕ) (n : Num) (rest : List ℕ) : Type 0 where
   pub core : List ℕ
   pub joined : bytes ≡ core ++ rest
@@ -179,7 +179,7 @@ pub record ExtendedUnrepresentable (size : ℕ) (bytes : List ℕ) (place : ℕ)
 abbrev pub NoExtendedText : List ℕ → Type 0
 NoExtendedText bytes = (core after : List ℕ) → bytes ≡ core ++ after → IsExtendedText core → ¬ EndsExtended after
 
--- what a fault of reading says
+-- what a fault of parsing says
 pub data ExtendedFault (size : ℕ) (bytes : List ℕ) (f : Fault) : Type 0 where
   unrepresentable_text : f.code ≡ number_not_carried → ExtendedUnrepresentable size bytes f.place → ExtendedFault size bytes f
   no_text : IsNumberCode f.code → NoExtendedText bytes → ExtendedFault size bytes f
@@ -196,8 +196,8 @@ nothing_ends bytes none core after joined text ends =
     let front : take (length core) bytes ≡ core = ap (take (length core)) joined ∙ take-append_seam core after in
     stops_after core after ends (subst (λ xs. ContinuesNumberExtended (slice_index xs (length core))) joined (none (length core) (omega (arith, total)) (subst IsExtendedText (sym front) text)))
 
--- what reading answers, by what was scanned
-abbrev IsAnswer : ℕ → List ℕ → Read Num → Type 0
+-- what parsing answers, by what was scanned
+abbrev IsAnswer : ℕ → List ℕ → Parse Num → Type 0
 IsAnswer size bytes (Ok (n, rest)) = ExtendedRead bytes n rest
 IsAnswer size bytes (Err f) = ExtendedFault size bytes f
 
@@ -218,13 +218,13 @@ scanned_answer size bytes (Ok (None, end)) t = unrepresentable_text refl (record
 })
 scanned_answer size bytes (Err f) (code, none) = no_text code (nothing_ends bytes none)
 
-answer_is : (size : ℕ) (bytes : List ℕ) (r : Read Num) → extended_number_at size bytes ≡ r → IsAnswer size bytes r
+answer_is : (size : ℕ) (bytes : List ℕ) (r : Parse Num) → extended_number_at size bytes ≡ r → IsAnswer size bytes r
 unfolding extended_number_at
 answer_is size bytes r at = subst (IsAnswer size bytes) at (scanned_answer size bytes (extended_scan bytes) (scans_extended bytes))
 
--- ---- reading and the definition
+-- ---- parsing and the definition
 
--- What is read is a number text with its number, and no longer one is there.
+-- What is parsed is a number text with its number, and no longer one is there.
 pub extended_sound : (size : ℕ) (bytes : List ℕ) (n : Num) (rest : List ℕ) → extended_number_at size bytes ≡ Ok (n, rest) → ExtendedRead bytes n rest
 extended_sound size bytes n rest at = answer_is size bytes (Ok (n, rest)) at
 
@@ -232,7 +232,7 @@ extended_sound size bytes n rest at = answer_is size bytes (Ok (n, rest)) at
 pub extended_faults : (size : ℕ) (bytes : List ℕ) (f : Fault) → extended_number_at size bytes ≡ Err f → ExtendedFault size bytes f
 extended_faults size bytes f at = answer_is size bytes (Err f) at
 
--- A number text that nothing goes on with is read so.
+-- A number text that nothing goes on with is parsed so.
 pub extended_complete : (size : ℕ) (core rest : List ℕ) (n : Num) → IsExtendedNumber core n → EndsExtended rest → extended_number_at size (core ++ rest) ≡ Ok (n, rest)
 unfolding extended_number_at
 extended_complete size core rest n number ends = by_scan (extended_scan (core ++ rest)) (scans_extended (core ++ rest))

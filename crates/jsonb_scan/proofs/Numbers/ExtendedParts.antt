@@ -8,7 +8,7 @@ use Rattle.std.proofs.lemmas.List.{append-nil, take_all}
 use Rattle.jsonb_spec.specs.Grammar.StandardNumber.{IsSign, IsExponent, IsExponentMark}
 use Rattle.jsonb_spec.specs.Grammar.ExtendedNumber.{decimal_number, IsDecimalNumber, IsDecimalText, HasHexadecimalParts, hexadecimal_number, IsHexadecimalNumber, IsHexadecimalText, IsWordText, IsExtendedNumber, IsExtendedText}
 use Rattle.jsonb_spec.specs.Tree.{Num}
-use Rattle.jsonb_scan.specs.Reading.ExtendedNumber.{core_byte}
+use Rattle.jsonb_scan.specs.Parsing.ExtendedNumber.{core_byte}
 use Rattle.jsonb_scan.proofs.Numbers.DecimalScan.{core_within}
 use Rattle.jsonb_scan.proofs.Numbers.HexadecimalTexts.{runs_end, same_front}
 use Rattle.jsonb_scan.proofs.Numbers.ExtendedTexts.{letter_is, word_found, found_letter, hexadecimal_core, decimals_before_mark, decimals_before_letter}

@@ -10,7 +10,7 @@ use Rattle.std.proofs.lemmas.List.{length-take-le}
 use Rattle.std.proofs.lemmas.Str.{digit_value_digit}
 use Rattle.std.proofs.lemmas.Str.Parse.{digits_value-take-le}
 use Rattle.std.proofs.Math.Nat.{pow-le-pow_right}
-use Rattle.jsonb_scan.specs.Reading.Number.{ContinuesNumber, digits_length, whole_start}
+use Rattle.jsonb_scan.specs.Parsing.Number.{ContinuesNumber, digits_length, whole_start}
 use Rattle.jsonb_scan.specs.ShortInteger.{IsKeptInteger}
 use Rattle.jsonb_scan.specs.declared.parser.number.ShortInteger.{ShortInteger}
 use Rattle.jsonb_scan.proofs.Numbers.Steps.{all_digits, counted_all, digit_is, digits_stop, digits_within, is_digit, short_is, short_read}
@@ -32,7 +32,7 @@ first_taken [] (suc len) some = refl
 first_taken (d ∷ ds) (suc len) some = refl
 first_taken ds zero some = absurd (omega (arith, some))
 
--- what is read of an integer of at most 19 bytes that is no 0 with a minus
+-- what is parsed of an integer of at most 19 bytes that is no 0 with a minus
 pub kept_read : (bs ds : List ℕ) (start len minus : ℕ) → ds ≡ drop (whole_start bs) bs → minus ≡ slice_index bs 0 → start ≡ from_bool (minus == 45) → (len ≡ 0 → ⊥) → digits_length ds ≡ len + digits_length (drop len ds) → ¬ ContinuesNumber (slice_index ds len)
     → start + len ≤ 19 → ((slice_index ds 0 ≡ 48 → ⊥) ⊎ (start + len ≤ 1)) → IsKeptInteger bs (start + len)
 kept_read bs ds start len minus after byte at some more stops few needless =

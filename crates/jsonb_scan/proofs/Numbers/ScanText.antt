@@ -12,7 +12,7 @@ use Rattle.std.proofs.lemmas.Slice.{between_from_start}
 use Rattle.std.proofs.lemmas.List.Edits.{length-between, get_or-between, between_none}
 use Rattle.jsonb_spec.specs.Tree.{Num}
 use Rattle.jsonb_spec.specs.Grammar.StandardNumber.{IsWhole, IsFraction, IsSign, IsExponent, IsInteger, IsStandardNumber}
-use Rattle.jsonb_scan.specs.Reading.Number.{sign_end, has_minus, whole_start}
+use Rattle.jsonb_scan.specs.Parsing.Number.{sign_end, has_minus, whole_start}
 use Rattle.jsonb_scan.proofs.Numbers.Steps.{sign_end_ge}
 use Rattle.jsonb_scan.proofs.Numbers.Scan.{IsDigitRun, IsFractionEnd, IsExponentEnd, IsScan}
 use Rattle.jsonb_scan.proofs.Numbers.Automaton.{Start, IsLongest, IsLongest-from_stop}
@@ -142,7 +142,7 @@ scan_longest bytes start whole fraction end scan =
     let stop = exponent_stop Start bytes fraction end done scan.exponent_end in
     IsLongest-from_stop bytes end stop.0 stop.1
 
--- ---- what was read
+-- ---- what was parsed
 
 pub scan_number_text : (bytes : List ℕ) (start whole fraction end : ℕ) (n : Num) → IsScan bytes start whole fraction end → whole ≡ end → IsInteger (has_minus bytes) (digits_value 10 (slice_range bytes start whole)) n → IsStandardNumber (take end bytes) n
 scan_number_text bytes start whole fraction end n scan last is_integer =

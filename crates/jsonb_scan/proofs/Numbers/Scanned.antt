@@ -12,9 +12,9 @@ use Rattle.jsonb_spec.specs.Code.{Code, number_not_carried}
 use Rattle.jsonb_spec.specs.Grammar.ExtendedNumber.{decimal_number}
 use Rattle.jsonb_spec.specs.Number.Signed.{signed_by}
 use Rattle.jsonb_spec.specs.Tree.{Num}
-use Rattle.jsonb_scan.specs.Reading.{fault}
-use Rattle.jsonb_scan.specs.Reading.Number.{End, digits_from, exponent_from, sign_end}
-use Rattle.jsonb_scan.specs.Reading.ExtendedNumber.{zeros_from, core_start, zeros_end, front_end, point_end, behind_end, scale_at, precision_at, lacks_digits, has_second_point, decimal_end, all_digits, decimal_at, scanned_to, extended_scan, extended_number_at}
+use Rattle.jsonb_scan.specs.Parsing.{fault}
+use Rattle.jsonb_scan.specs.Parsing.Number.{End, digits_from, exponent_from, sign_end}
+use Rattle.jsonb_scan.specs.Parsing.ExtendedNumber.{zeros_from, core_start, zeros_end, front_end, point_end, behind_end, scale_at, precision_at, lacks_digits, has_second_point, decimal_end, all_digits, decimal_at, scanned_to, extended_scan, extended_number_at}
 use Rattle.jsonb_scan.specs.ScannedNumber.{AreEnds}
 use Rattle.jsonb_scan.specs.declared.parser.extended_number.decimal.DecimalEnds.{DecimalEnds}
 use Rattle.jsonb_scan.proofs.Numbers.DecimalScan.{core_digits, counted_digits, point_here, point_ordered}
@@ -23,7 +23,7 @@ use Rattle.jsonb_scan.proofs.Numbers.DigitValues.{value_after-append}
 use Rattle.jsonb_scan.proofs.Numbers.Steps.{differs}
 use Rattle.jsonb_scan.proofs.Numbers.ScanText.{run_digits}
 
--- ---- a reader at an index of its input
+-- ---- a parser at an index of its input
 
 pub scanned_number : (idx end : ℕ) (buf bs : List ℕ) (n : Num) → bs ≡ drop idx buf → extended_scan bs ≡ Ok (Some n, end) → extended_number_at (length buf) (drop idx buf) ≡ Ok (n, drop (idx + end) buf)
 unfolding extended_number_at

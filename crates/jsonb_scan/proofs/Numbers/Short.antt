@@ -12,8 +12,8 @@ use Rattle.jsonb_spec.specs.Grammar.StandardNumber.{IsExponentMark}
 use Rattle.jsonb_spec.specs.Grammar.ExtendedNumber.{decimal_number}
 use Rattle.jsonb_spec.specs.Number.Signed.{signed_by}
 use Rattle.jsonb_spec.specs.Tree.{Num}
-use Rattle.jsonb_scan.specs.Reading.Number.{ContinuesAfterInteger, digits_length, digits_from, sign_end}
-use Rattle.jsonb_scan.specs.Reading.ExtendedNumber.{FollowsDigits, core_start, core_byte, zeros_end, front_end, point_end, behind_end, scale_at, precision_at, lacks_digits, has_second_point, decimal_end, all_digits, decimal_at, decimal_to, decimal_scan, is_word_start, is_hexadecimal_start, extended_scan}
+use Rattle.jsonb_scan.specs.Parsing.Number.{ContinuesAfterInteger, digits_length, digits_from, sign_end}
+use Rattle.jsonb_scan.specs.Parsing.ExtendedNumber.{FollowsDigits, core_start, core_byte, zeros_end, front_end, point_end, behind_end, scale_at, precision_at, lacks_digits, has_second_point, decimal_end, all_digits, decimal_at, decimal_to, decimal_scan, is_word_start, is_hexadecimal_start, extended_scan}
 use Rattle.jsonb_scan.proofs.Numbers.DecimalScan.{HasDigits, core_zeros, core_digits, counted_digits, point_here, point_ordered, digits_tested}
 use Rattle.jsonb_scan.proofs.Numbers.DecimalScanText.{behind_digits, digits_value_same}
 use Rattle.jsonb_scan.proofs.Numbers.DigitValues.{value_after-append, value_after_lt}
@@ -99,7 +99,7 @@ unfolding decimal_scan
 plain_decimal bytes p =
     scan_decimal bytes (no_word bytes p.no_mark) (no_hexadecimal bytes p.no_mark) ∙ (ap (decimal_to bytes) (plain_end bytes p) ∙ ap (λ o. Ok (o, behind_end bytes)) (plain_at bytes p))
 
--- ---- the digits that a reader found
+-- ---- the digits that a parser found
 
 pub record FrontRead (bytes : List ℕ) (start len value : ℕ) : Type 0 where
   pub start_is : start ≡ core_start bytes
@@ -160,7 +160,7 @@ point_ends bytes point =
     let tested : (slice_index bytes (front_end bytes) == 46) ≡ true = grind (arith, nat_tests) in
     (cond-true (slice_index bytes (front_end bytes) == 46) _ _ tested, cond-true (slice_index bytes (front_end bytes) == 46) _ _ tested)
 
--- what a reader found behind the point
+-- what a parser found behind the point
 pub record BehindRead (bytes : List ℕ) (start len value total all : ℕ) : Type 0 where
   pub front : FrontRead bytes start len value
   pub point : slice_index bytes (start + len) ≡ 46

@@ -9,8 +9,8 @@ use Rattle.std.proofs.Math.Seq.{take-append_seam, drop-append_seam}
 use Rattle.jsonb_spec.specs.Code.{invalid_number_value, number_not_carried}
 use Rattle.jsonb_spec.specs.Tree.{Num}
 use Rattle.jsonb_spec.specs.Grammar.StandardNumber.{IsWhole, IsFraction, IsExponent, IsInteger, IsStandardNumber, IsStandardText}
-use Rattle.jsonb_scan.specs.Reading.{Fault, Read}
-use Rattle.jsonb_scan.specs.Reading.Number.{ContinuesAfterInteger, ContinuesNumber, IsNumberBoundary, is_number_start, End, standard_end, integer_at, representable_at, number_to, standard_number_at}
+use Rattle.jsonb_scan.specs.Parsing.{Fault, Parse}
+use Rattle.jsonb_scan.specs.Parsing.Number.{ContinuesAfterInteger, ContinuesNumber, IsNumberBoundary, is_number_start, End, standard_end, integer_at, representable_at, number_to, standard_number_at}
 use Rattle.jsonb_scan.proofs.Numbers.Steps.{is_digit, read_fault}
 use Rattle.jsonb_scan.proofs.Numbers.Automaton.{NoneEnds, IsLongest}
 use Rattle.jsonb_scan.proofs.Numbers.ScanText.{scan_longest, scan_end_within}
@@ -130,7 +130,7 @@ standard_without_number core u = (is_text u, λ n number. number_representable c
     is_text : IsStandardUnrepresentable core → IsStandardText core
     is_text (negative, whole, fraction, exponent, parts, why) = standard_text_of core negative whole fraction exponent parts
 
--- ---- what reading finds
+-- ---- what parsing finds
 
 -- No beginning of the bytes that is longer than what comes before the rest is a number text.
 abbrev pub NoLongerText : List ℕ → List ℕ → Type 0
@@ -162,7 +162,7 @@ read_to size bytes end at =
       answer = ap (number_to size bytes) at;
     }
 
--- a number was read
+-- a number was parsed
 pub record NumberRead (bytes : List ℕ) (n : Num) (rest : List ℕ) : Type 0 where
   pub core : List ℕ
   pub joined : bytes ≡ core ++ rest
@@ -182,7 +182,7 @@ pub record UnrepresentableRead (size : ℕ) (bytes : List ℕ) (place : ℕ) : T
 abbrev pub NoNumberEnds : List ℕ → Type 0
 NoNumberEnds bytes = (core after : List ℕ) → bytes ≡ core ++ after → IsStandardText core → ¬ IsNumberBoundary after
 
--- what a fault of reading says
+-- what a fault of parsing says
 pub data FaultRead (size : ℕ) (bytes : List ℕ) (f : Fault) : Type 0 where
   not_representable : f.code ≡ number_not_carried → UnrepresentableRead size bytes f.place → FaultRead size bytes f
   no_number : f.code ≡ invalid_number_value → NoNumberEnds bytes → FaultRead size bytes f
@@ -199,8 +199,8 @@ nothing_ends bytes none core after joined text ends =
     let front : take (length core) bytes ≡ core = ap (take (length core)) joined ∙ take-append_seam core after in
     stops_after core after ends (subst (λ xs. ContinuesNumber (slice_index xs (length core))) joined (none (length core) (omega (arith, total)) (subst IsStandardText (sym front) text)))
 
--- what reading answers, by the end that was found
-abbrev IsAnswer : ℕ → List ℕ → Read Num → Type 0
+-- what parsing answers, by the end that was found
+abbrev IsAnswer : ℕ → List ℕ → Parse Num → Type 0
 IsAnswer size bytes (Ok (n, rest)) = NumberRead bytes n rest
 IsAnswer size bytes (Err f) = FaultRead size bytes f
 
@@ -227,12 +227,12 @@ answer_by size bytes (Ok end) at =
 answer_by size bytes (Err place) at =
     subst (IsAnswer size bytes) (sym (read_fault size bytes place at)) (no_number refl (nothing_ends bytes (none_ends bytes place at)))
 
-answer_is : (size : ℕ) (bytes : List ℕ) (r : Read Num) → standard_number_at size bytes ≡ r → IsAnswer size bytes r
+answer_is : (size : ℕ) (bytes : List ℕ) (r : Parse Num) → standard_number_at size bytes ≡ r → IsAnswer size bytes r
 answer_is size bytes r at = subst (IsAnswer size bytes) at (answer_by size bytes (standard_end bytes) refl)
 
--- ---- reading and the definition
+-- ---- parsing and the definition
 
--- What is read is a number text with its number, and no longer one is there.
+-- What is parsed is a number text with its number, and no longer one is there.
 pub number_sound : (size : ℕ) (bytes : List ℕ) (n : Num) (rest : List ℕ) → standard_number_at size bytes ≡ Ok (n, rest) → NumberRead bytes n rest
 number_sound size bytes n rest at = answer_is size bytes (Ok (n, rest)) at
 
@@ -243,7 +243,7 @@ number_longest size bytes n rest at = (number_sound size bytes n rest at).longes
 pub number_faults : (size : ℕ) (bytes : List ℕ) (f : Fault) → standard_number_at size bytes ≡ Err f → FaultRead size bytes f
 number_faults size bytes f at = answer_is size bytes (Err f) at
 
--- A number text that nothing goes on with is read so.
+-- A number text that nothing goes on with is parsed so.
 pub number_complete : (size : ℕ) (core rest : List ℕ) (n : Num) → IsStandardNumber core n → IsNumberBoundary rest → standard_number_at size (core ++ rest) ≡ Ok (n, rest)
 number_complete size core rest n number ends = by_end (standard_end (core ++ rest)) refl
   where

@@ -15,8 +15,8 @@ use Rattle.std.proofs.lemmas.Bool.Decides.{nat_tests}
 use Rattle.jsonb_spec.specs.Code.{invalid_number_value, number_not_carried}
 use Rattle.jsonb_spec.specs.Grammar.StandardNumber.{IsExponentMark}
 use Rattle.jsonb_spec.specs.Tree.{Num}
-use Rattle.jsonb_scan.specs.Reading.{fault}
-use Rattle.jsonb_scan.specs.Reading.Number.{ContinuesAfterInteger, ContinuesNumber, is_number_start, End, then_from, digits_length, digits_from, sign_end, exponent_from, fraction_from, whole_from, has_minus, whole_start, standard_end, integer_of, whole_digits, integer_at, representable_at, number_to, standard_number_at}
+use Rattle.jsonb_scan.specs.Parsing.{fault}
+use Rattle.jsonb_scan.specs.Parsing.Number.{ContinuesAfterInteger, ContinuesNumber, is_number_start, End, then_from, digits_length, digits_from, sign_end, exponent_from, fraction_from, whole_from, has_minus, whole_start, standard_end, integer_of, whole_digits, integer_at, representable_at, number_to, standard_number_at}
 use Rattle.jsonb_scan.specs.ShortInteger.{short_view}
 use Rattle.jsonb_scan.proofs.Numbers.Runs.{run_more, run_stop}
 
@@ -269,7 +269,7 @@ past_whole bs start end (inr mark) at =
     mark_no_point : (b : ℕ) → IsExponentMark b → b ≢ 46
     mark_no_point b mark = λ point. ⊎_elim (λ e. omega arith) (λ e. omega arith) mark
 
--- ---- a reader at an index of its input
+-- ---- a parser at an index of its input
 
 invalid_in : (idx place : ℕ) (buf : List ℕ) → idx ≤ length buf → standard_end (drop idx buf) ≡ Err place → standard_number_at (length buf) (drop idx buf) ≡ Err (record { code = invalid_number_value; place = idx + place })
 invalid_in idx place buf inside at =
@@ -308,7 +308,7 @@ integer_read idx end buf bs r same has_whole at stops is_integer =
     ∙ (read_integer (length buf) bs alone
     ∙ (ap (λ xs. representable_at (length buf) xs (integer_of (has_minus bs) (digits_value 10 (whole_digits bs)))) rest ∙ ap (representable_at (length buf) (drop (idx + end) buf)) is_integer))
 
--- ---- the whole part that a reader found
+-- ---- the whole part that a parser found
 
 pub record FoundWhole (bs : List ℕ) (start count : ℕ) : Type 0 where
   pub start_is : start ≡ whole_start bs
@@ -365,7 +365,7 @@ starts_here bs some = ⊎_elim (λ minus. or_right (is_ascii_digit (slice_index 
         let first : 0 < digits_length (drop 0 bs) = subst (λ b. 0 < digits_length (drop (from_bool b) bs)) none some in
         ⊎_elim (λ digit. rw digit refl) (λ other. absurd (omega (arith, first, digits_stop bs 0 (λ range. false≢true (sym other ∙ is_digit (slice_index bs 0) range))))) (cases_Bool (is_ascii_digit (slice_index bs 0)))
 
--- what is read of an integer
+-- what is parsed of an integer
 pub short_read : (size : ℕ) (bs ds : List ℕ) (start len value first minus : ℕ) (n : Num) → ds ≡ drop (whole_start bs) bs → minus ≡ slice_index bs 0 → start ≡ from_bool (minus == 45) → (len ≡ 0 → ⊥) → len ≡ digits_length ds → ¬ ContinuesNumber (slice_index ds len)
     → ((1 < len) × (first ≡ 48 → ⊥)) ⊎ (len ≤ 1) → first ≡ slice_index ds 0 → value ≡ digits_value 10 (take len ds) → integer_of (minus == 45) value ≡ Some n → standard_number_at size bs ≡ Ok (n, drop (start + len) bs)
 short_read size bs ds start len value first minus n after byte at some all stops needless first_byte is_value is_integer =

@@ -6,7 +6,7 @@ use Rattle.std.proofs.lemmas.Bool.Decides.{nat_tests}
 use Rattle.std.specs.Char.{to_ascii_lowercase}
 use Rattle.std.proofs.lemmas.List.{drop_more, drop_all}
 use Rattle.jsonb_spec.specs.Code.{Code, invalid_eof, expected_some_ident}
-use Rattle.jsonb_scan.specs.Reading.ExtendedNumber.{spelled_from, word_scan, unrepresentable_word, invalid_word}
+use Rattle.jsonb_scan.specs.Parsing.ExtendedNumber.{spelled_from, word_scan, unrepresentable_word, invalid_word}
 
 -- the letters spell the word, each in either case
 abbrev pub Spells : List ℕ → List ℕ → Type 0
@@ -57,7 +57,7 @@ pub words_misspelled : (place : ℕ) (negative : Bool) (bytes : List ℕ) (f : C
 words_misspelled place true bytes f n at = words_nan_minus place true bytes n refl ∙ ap invalid_word at
 words_misspelled place false bytes f n at = words_nan_plus place false bytes n refl ∙ ap unrepresentable_word at
 
--- ---- what is read is a spelling, and what is not read is none
+-- ---- what is parsed is a spelling, and what is not parsed is none
 
 -- the bytes begin with no spelling of the word
 abbrev pub SpellsNone : List ℕ → List ℕ → Type 0

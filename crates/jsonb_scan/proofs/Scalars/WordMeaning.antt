@@ -6,8 +6,8 @@ use Rattle.std.proofs.lemmas.Bool.{cases_eq, cases_Bool, false≢true}
 use Rattle.std.proofs.lemmas.List.{append_assoc, take-append-drop, length-append, length-take-le, length-map, get_or-drop, drop-append-le, drop_all, take-append-le, take_all}
 use Rattle.jsonb_spec.specs.Code.{Code}
 use Rattle.jsonb_spec.specs.Grammar.ExtendedNumber.{IsNumberWord, IsExtendedText}
-use Rattle.jsonb_scan.specs.Reading.Number.{sign_end}
-use Rattle.jsonb_scan.specs.Reading.ExtendedNumber.{core_byte, spelled_from, word_scan, unrepresentable_word, invalid_word, ContinuesNumberExtended}
+use Rattle.jsonb_scan.specs.Parsing.Number.{sign_end}
+use Rattle.jsonb_scan.specs.Parsing.ExtendedNumber.{core_byte, spelled_from, word_scan, unrepresentable_word, invalid_word, ContinuesNumberExtended}
 use Rattle.jsonb_scan.proofs.Scalars.WordLetters.{Letters, IsWordCode, WordAnswer, word_answer, words_nan_minus, words_nan_plus, words_infinity, Spells}
 use Rattle.jsonb_scan.proofs.Numbers.ExtendedTexts.{IsWordStart, NoExtendedEnds, IsNumberCode, ScansExtended, letter_is, sign_front, WordFound, word_found, hexadecimal_core, decimals_before_letter}
 use Rattle.std.specs.Str.Parse.{starts_with_minus}
@@ -40,7 +40,7 @@ word_code : (code : Code) → IsWordCode code → IsNumberCode code
 word_code code (inl e) = inr (inl e)
 word_code code (inr e) = inr (inr e)
 
--- where each word text here has these letters, what is read of them is the longest text, and no text ends where they can't be read
+-- where each word text here has these letters, what is parsed of them is the longest text, and no text ends where they can't be parsed
 reads_letters : (bytes word : List ℕ) → IsWordFront bytes → ((k : ℕ) → (f : WordFound bytes k) → Spells word f.letters) →
     ((letters : List ℕ) → Spells word letters → IsNumberWord (take (sign_end bytes 0) bytes) letters) → (r : Letters) → WordAnswer (sign_end bytes 0) word (drop (sign_end bytes 0) bytes) r → ScansExtended bytes (unrepresentable_word r)
 reads_letters bytes word front only is_word (Ok end) (letters, rest, joined, spells, ends) =

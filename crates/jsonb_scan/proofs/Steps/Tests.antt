@@ -1,7 +1,7 @@
 -- Conditions and steps that may fail, by their outcome.
 use Rattle.std.proofs.Common.{◌≡◌, ℕ, Bool, true, false, cond, ◌⊎◌, inl, inr, List, Result, Ok, Err, refl, ap, eqb, eq-eqb}
 use Rattle.jsonb_spec.specs.Code.{Code}
-use Rattle.jsonb_scan.specs.Reading.{Fault, Read, reject, ◌>>=◌}
+use Rattle.jsonb_scan.specs.Parsing.{Fault, Parse, reject, ◌>>=◌}
 
 -- which way a choice went
 pub chosen : {A : Type 0} (b : Bool) (x y z : A) → cond b x y ≡ z → ((b ≡ true) × (x ≡ z)) ⊎ ((b ≡ false) × (y ≡ z))
@@ -33,8 +33,8 @@ pub record SameRead {A : Type 0} (a b : A) (r s : List ℕ) : Type 0 where
   pub value : a ≡ b
   pub rest : r ≡ s
 
-pub same_read : {A : Type 0} (a b : A) (rest others : List ℕ) → ◌≡◌ {A = Read A} (Ok (a, rest)) (Ok (b, others)) → SameRead a b rest others
+pub same_read : {A : Type 0} (a b : A) (rest others : List ℕ) → ◌≡◌ {A = Parse A} (Ok (a, rest)) (Ok (b, others)) → SameRead a b rest others
 unfolding ok_value
 same_read {A} a b rest others e =
-    let p : ◌≡◌ {A = A × List ℕ} (a, rest) (b, others) = ap (λ (r : Read A). ok_value (a, rest) r) e in
+    let p : ◌≡◌ {A = A × List ℕ} (a, rest) (b, others) = ap (λ (r : Parse A). ok_value (a, rest) r) e in
     record { value = ap (λ (x : A × List ℕ). x.0) p; rest = ap (λ (x : A × List ℕ). x.1) p }

@@ -11,10 +11,10 @@ use Rattle.std.specs.Char.{IsScalar, IsAsciiDigit, encode_utf8, is_ascii_digit, 
 use Rattle.jsonb_spec.specs.Grammar.BareKey.{IsBareKey, IsKeyCharacter}
 use Rattle.jsonb_spec.specs.Code.{invalid_eof, invalid_string_value, object_key_invalid_number, object_key_invalid_character}
 use Rattle.jsonb_spec.specs.Tree.{Mark, plain}
-use Rattle.jsonb_scan.specs.Reading.{Read, fault}
-use Rattle.jsonb_scan.specs.Reading.BareKey.{bare_key_at, is_key_ascii, key_chosen, key_end, key_from, key_step, key_to, text_key}
-use Rattle.jsonb_scan.specs.Reading.Whitespace.{is_break}
-use Rattle.jsonb_scan.specs.Reading.String.{further}
+use Rattle.jsonb_scan.specs.Parsing.{Parse, fault}
+use Rattle.jsonb_scan.specs.Parsing.BareKey.{bare_key_at, is_key_ascii, key_chosen, key_end, key_from, key_step, key_to, text_key}
+use Rattle.jsonb_scan.specs.Parsing.Whitespace.{is_break}
+use Rattle.jsonb_scan.specs.Parsing.String.{further}
 use Rattle.jsonb_scan.proofs.Steps.Tests.{chosen, same_read}
 use Rattle.jsonb_scan.proofs.Containers.JoinedParts.{break_is}
 use Rattle.jsonb_scan.proofs.Strings.Ends.{further-further, further-zero, ok_further}
@@ -156,7 +156,7 @@ key_end-characters (c ∷ cs) more each =
     ∙ ap (further (length (encode_utf8 c))) (key_end-characters cs more each.1) ∙ further-further (length (encode_utf8 c)) (length (encode_utf8_all cs)) (key_end more)
     ∙ ap (λ (n : ℕ). further n (key_end more)) count
 
--- ---- each bare key is read
+-- ---- each bare key is parsed
 
 pub break_stops : (b : ℕ) → is_break b ≡ true → key_step b ≡ 0
 break_stops b e = break_is b e (λ c. key_step c ≡ 0) refl refl refl refl refl refl refl refl refl refl refl
@@ -236,7 +236,7 @@ bare_complete size core rest b k ends =
     both : {p q : Bool} → p ≡ false → q ≡ false → (p || q) ≡ false
     both {p} {q} e f = ap (λ (t : Bool). t || q) e ∙ f
 
--- ---- what is read is a bare key
+-- ---- what is parsed is a bare key
 
 key_found : (passed : ℕ) (bytes : List ℕ) (end : ℕ) → key_from passed bytes ≡ Ok end → end < length bytes
 unfolding key_from
@@ -285,7 +285,7 @@ first_digit : (first : ℕ) (others bytes more : List ℕ) → bytes ≡ encode_
 first_digit first others bytes more e digit =
     ap (λ xs. get_or xs 0 0) (e ∙ append_assoc (encode_utf8 first) (encode_utf8_all others) more ∙ ap (λ front. front ++ (encode_utf8_all others ++ more)) (encode_ascii first (omega (arith, digit.1))))
 
--- a bare key that was read, and what follows
+-- a bare key that was parsed, and what follows
 pub record BareRead (bytes : List ℕ) (key : Mark × List ℕ) (rest : List ℕ) : Type 0 where
   pub core : List ℕ
   pub is_key : IsBareKey core
@@ -324,10 +324,10 @@ bare_of b bytes end no_digit found some utf8 = of_characters utf8.0 (all_scalars
 
 pub bare_sound : (size : ℕ) (bytes : List ℕ) (key : Mark × List ℕ) (rest : List ℕ) → bare_key_at size bytes ≡ Ok (key, rest) → BareRead bytes key rest
 unfolding bare_key_at
-bare_sound size [] key rest e = absurd (let never : ◌≡◌ {A = Read (Mark × List ℕ)} (fault invalid_eof size) (Ok (key, rest)) = e in cc)
+bare_sound size [] key rest e = absurd (let never : ◌≡◌ {A = Parse (Mark × List ℕ)} (fault invalid_eof size) (Ok (key, rest)) = e in cc)
 bare_sound size (b ∷ bytes) key rest e =
     elim (chosen (is_ascii_digit b) (fault object_key_invalid_number (size - length (b ∷ bytes) + 1)) (key_to size (b ∷ bytes) (key_end (b ∷ bytes))) (Ok (key, rest)) e) [
-      | inl t ↦ absurd (let never : ◌≡◌ {A = Read (Mark × List ℕ)} (fault object_key_invalid_number (size - length (b ∷ bytes) + 1)) (Ok (key, rest)) = t.1 in cc)
+      | inl t ↦ absurd (let never : ◌≡◌ {A = Parse (Mark × List ℕ)} (fault object_key_invalid_number (size - length (b ∷ bytes) + 1)) (Ok (key, rest)) = t.1 in cc)
       | inr f ↦ by_end (key_end (b ∷ bytes)) refl f.0 f.1
     ]
   where
@@ -336,10 +336,10 @@ bare_sound size (b ∷ bytes) key rest e =
     or_parts false q h = refl
 
     by_end : (r : Result ℕ ℕ) → key_end (b ∷ bytes) ≡ r → is_ascii_digit b ≡ false → key_to size (b ∷ bytes) r ≡ Ok (key, rest) → BareRead (b ∷ bytes) key rest
-    by_end (Err at) is no_digit h = absurd (let never : ◌≡◌ {A = Read (Mark × List ℕ)} (fault invalid_eof (size - length (b ∷ bytes) + at)) (Ok (key, rest)) = h in cc)
+    by_end (Err at) is no_digit h = absurd (let never : ◌≡◌ {A = Parse (Mark × List ℕ)} (fault invalid_eof (size - length (b ∷ bytes) + at)) (Ok (key, rest)) = h in cc)
     by_end (Ok end) is no_digit h =
         elim (chosen (eqb end 0 || leb 128 (get_or (b ∷ bytes) end 0)) (fault object_key_invalid_character (size - length (b ∷ bytes) + end)) (text_key size (b ∷ bytes) end) (Ok (key, rest)) h) [
-          | inl t ↦ absurd (let never : ◌≡◌ {A = Read (Mark × List ℕ)} (fault object_key_invalid_character (size - length (b ∷ bytes) + end)) (Ok (key, rest)) = t.1 in cc)
+          | inl t ↦ absurd (let never : ◌≡◌ {A = Parse (Mark × List ℕ)} (fault object_key_invalid_character (size - length (b ∷ bytes) + end)) (Ok (key, rest)) = t.1 in cc)
           | inr f ↦ elim (chosen (is_utf8 (take end (b ∷ bytes))) (Ok ((plain, take end (b ∷ bytes)), drop end (b ∷ bytes))) (fault invalid_string_value (size - length (b ∷ bytes) + end)) (Ok (key, rest)) f.1) [
             | inl t ↦
                 let same = same_read (plain, take end (b ∷ bytes)) key (drop end (b ∷ bytes)) rest t.1 in
@@ -349,7 +349,7 @@ bare_sound size (b ∷ bytes) key rest e =
                   meant = same.value;
                   whole = sym (take-append-drop end (b ∷ bytes)) ∙ ap (λ (u : List ℕ). take end (b ∷ bytes) ++ u) same.rest;
                 }
-            | inr g ↦ absurd (let never : ◌≡◌ {A = Read (Mark × List ℕ)} (fault invalid_string_value (size - length (b ∷ bytes) + end)) (Ok (key, rest)) = g.1 in cc)
+            | inr g ↦ absurd (let never : ◌≡◌ {A = Parse (Mark × List ℕ)} (fault invalid_string_value (size - length (b ∷ bytes) + end)) (Ok (key, rest)) = g.1 in cc)
           ]
         ]
 
@@ -386,7 +386,7 @@ key_goes_past bytes at past k =
 pub key_within : (bytes : List ℕ) (end : ℕ) → key_end bytes ≡ Ok end → end < length bytes
 key_within bytes end e = key_found 0 bytes end e
 
--- ---- what reading a bare key gives, by where the search stops
+-- ---- what parsing a bare key gives, by where the search stops
 
 pub bare-nothing : (size : ℕ) (bytes : List ℕ) → bytes ≡ [] → bare_key_at size bytes ≡ Err (record { code = invalid_eof; place = size })
 unfolding bare_key_at

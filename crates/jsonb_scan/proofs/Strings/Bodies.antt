@@ -18,8 +18,8 @@ use Rattle.jsonb_value.specs.declared.error.Error.TheVariants.{Syntax, OutOfMemo
 use Rattle.jsonb_scan.specs.StringError.{IsDecodingError}
 use Rattle.jsonb_scan.specs.QuotedString.{DecodesContents}
 use Rattle.jsonb_scan.specs.Answer.{Fails}
-use Rattle.jsonb_scan.specs.Reading.{fault}
-use Rattle.jsonb_scan.specs.Reading.String.{body_of, further, quote_from, quote_end, string_of_body, string_up_to, string_at}
+use Rattle.jsonb_scan.specs.Parsing.{fault}
+use Rattle.jsonb_scan.specs.Parsing.String.{body_of, further, quote_from, quote_end, string_of_body, string_up_to, string_at}
 use Rattle.jsonb_scan.proofs.Strings.Decoding.{spelling-raw, items-raw}
 use Rattle.jsonb_scan.proofs.Strings.Items.{body_complete, body_faulty}
 use Rattle.jsonb_scan.proofs.Strings.Ends.{quote_end-step, further-zero, further-further, quote_end-here}
@@ -173,7 +173,7 @@ pub string-unclosed : (size : ℕ) (mode : Mode) (quote : ℕ) (bytes : List ℕ
 unfolding string_at
 string-unclosed size mode quote bytes at none = ap (string_up_to size mode bytes) none
 
--- what a decoder rejects is what reading the body rejects
+-- what a decoder rejects is what parsing the body rejects
 pub reads_rejected : (mode : Mode) (bytes : List ℕ) (before after : ℕ) (e : Error) → IsDecodingError mode bytes before after e → DecodesContents before (Err e) (body_of mode bytes)
 reads_rejected mode bytes before after (Syntax code place) r = (r.0, body_faulty mode bytes (code_of code) r.0 r.1, r.3 ∙ r.2)
 reads_rejected mode bytes before after OutOfMemory r = tt

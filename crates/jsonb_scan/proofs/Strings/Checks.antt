@@ -7,8 +7,8 @@ use Rattle.jsonb_spec.specs.Mode.{Mode, standard, extended}
 use Rattle.jsonb_spec.specs.Tree.{escaped}
 use Rattle.jsonb_spec.specs.Grammar.StringBody.{spelling, escaped_byte}
 use Rattle.jsonb_scan.specs.Decoding.{DecodesUpTo, IsDecodedUpTo, IsShortLetter, SeesBackslash, SeesNoBackslash}
-use Rattle.jsonb_scan.specs.QuotedString.{decoded_text, meaning_read}
-use Rattle.jsonb_scan.specs.Reading.String.{body_of, items_within}
+use Rattle.jsonb_scan.specs.QuotedString.{decoded_text, meaning_of_body}
+use Rattle.jsonb_scan.specs.Parsing.String.{body_of, items_within}
 use Rattle.jsonb_scan.proofs.Strings.Bodies.{body-decoded}
 use Rattle.jsonb_scan.proofs.Strings.Decoding.{decodes_all, decoded_escape, decoded_run, decoded_then, meaning-all}
 use Rattle.jsonb_scan.proofs.Strings.Items.{items_complete}
@@ -19,7 +19,7 @@ unfolding decoded_text
 decoded_text-is mode bytes text p =
     let spelled : bytes ≡ flat_map spelling p.items = p.spelled ∙ append-nil (flat_map spelling p.items) in
     let enough : length (flat_map spelling p.items) ≤ length bytes = omega (arith, ap length spelled) in
-    ap meaning_read (ap (items_within (length bytes) mode) spelled ∙ items_complete mode (length bytes) p.items p.each enough) ∙ sym (meaning-all mode bytes text p)
+    ap meaning_of_body (ap (items_within (length bytes) mode) spelled ∙ items_complete mode (length bytes) p.items p.each enough) ∙ sym (meaning-all mode bytes text p)
 
 text_utf8 : (mode : Mode) (bytes text : List ℕ) → DecodesUpTo mode bytes [] text → IsUtf8 bytes → IsUtf8 text
 text_utf8 mode bytes text p utf8 =

@@ -11,8 +11,8 @@ use Rattle.jsonb_spec.specs.Grammar.StringBody.{Item, raw, escape, unit, after_u
 use Rattle.jsonb_value.specs.StringStep.{item_step}
 use Rattle.jsonb_spec.specs.Grammar.Quoted.{Quoted}
 use Rattle.jsonb_value.proofs.Strings.Spelling.{item_step-spelling}
-use Rattle.jsonb_scan.specs.Reading.{Read, fault}
-use Rattle.jsonb_scan.specs.Reading.String.{Body, body_of, further, quote_from, quote_end, string_of_body, string_up_to, string_at}
+use Rattle.jsonb_scan.specs.Parsing.{Parse, fault}
+use Rattle.jsonb_scan.specs.Parsing.String.{Body, body_of, further, quote_from, quote_end, string_of_body, string_up_to, string_at}
 use Rattle.jsonb_scan.proofs.Steps.Tests.{chosen, eqb_self, same_read}
 use Rattle.jsonb_scan.proofs.Strings.Items.{Means, length-spelling, body_complete, body_sound}
 
@@ -159,13 +159,13 @@ string_sound size mode quote bytes mark text rest no_backslash e = by_end (quote
         }
 
     by_body : (end : ℕ) → quote_end quote bytes ≡ Ok end → (r : Body (Mark × List ℕ)) → body_of mode (take end bytes) ≡ r → string_of_body size bytes end r ≡ Ok ((mark, text), rest) → SpellsString mode quote bytes mark text rest
-    by_body end found (Err f) is h = absurd (let never : ◌≡◌ {A = Read (Mark × List ℕ)} (fault f.0 (size - length bytes + 1 + f.1)) (Ok ((mark, text), rest)) = h in cc)
+    by_body end found (Err f) is h = absurd (let never : ◌≡◌ {A = Parse (Mark × List ℕ)} (fault f.0 (size - length bytes + 1 + f.1)) (Ok ((mark, text), rest)) = h in cc)
     by_body end found (Ok x) is h =
         let same = same_read x (mark, text) (drop (end + 1) bytes) rest h in
         at_end end found (body_sound mode (take end bytes) mark text (is ∙ ap (λ (y : Mark × List ℕ). Ok y) same.value)) same.rest
 
     by_end : (r : Result ℕ ℕ) → quote_end quote bytes ≡ r → string_up_to size mode bytes r ≡ Ok ((mark, text), rest) → SpellsString mode quote bytes mark text rest
-    by_end (Err at) is h = absurd (let never : ◌≡◌ {A = Read (Mark × List ℕ)} (fault invalid_eof (size - length bytes + at)) (Ok ((mark, text), rest)) = h in cc)
+    by_end (Err at) is h = absurd (let never : ◌≡◌ {A = Parse (Mark × List ℕ)} (fault invalid_eof (size - length bytes + at)) (Ok ((mark, text), rest)) = h in cc)
     by_end (Ok end) is h = by_body end is (body_of mode (take end bytes)) refl h
 
 pub string_complete : (size : ℕ) (mode : Mode) (quote : ℕ) (core : List ℕ) (mark : Mark) (text inner rest : List ℕ) → quote ≢ 92 → Quoted mode quote core text mark → core ≡ quote ∷ inner → string_at size mode quote (inner ++ rest) ≡ Ok ((mark, text), rest)

@@ -14,7 +14,7 @@ use Rattle.jsonb_spec.specs.Grammar.StringBody.{Item, raw, escape, unit, after_u
 use Rattle.jsonb_spec.specs.Grammar.StringFault.{IsUnitCut, BadUnit, cut_unit, bad_digit, BadEscape, cut_escape, unknown_escape, bad_unit, IsCutShort, IsNoText, IsFaultyBody}
 use Rattle.jsonb_spec.specs.Grammar.Quoted.{mark_of}
 use Rattle.jsonb_value.proofs.Strings.Spelling.{escape_is_not_u, spelling_not_empty}
-use Rattle.jsonb_scan.specs.Reading.String.{Body, non_digit, checked_unit, unit_of, unit_at, known_escape, escape_at, item_at, onto, then_items, items_within, meaning_of, body_of}
+use Rattle.jsonb_scan.specs.Parsing.String.{Body, non_digit, checked_unit, unit_of, unit_at, known_escape, escape_at, item_at, onto, then_items, items_within, meaning_of, body_of}
 use Rattle.jsonb_scan.proofs.Steps.Tests.{chosen}
 
 -- ---- digits
@@ -42,7 +42,7 @@ digits_from_none (b ∷ bytes) e =
       | inr f ↦ absurd (let never : ◌≡◌ {A = Option ℕ} (Some b) None = f.1 in cc)
     ]
 
--- ---- what is read is an item
+-- ---- what is parsed is an item
 
 -- The bytes begin with the item.
 pub record BeginsWith (mode : Mode) (bytes : List ℕ) (item : Item) : Type 0 where
@@ -119,7 +119,7 @@ item_sound mode byte bytes x e =
           subst (λ (y : Item). BeginsWith mode (byte ∷ bytes) y) same (record { is_item = eqb-false byte 92 f.0; rest = bytes; whole = refl })
     ]
 
--- ---- each item is read
+-- ---- each item is parsed
 
 -- a hexadecimal digit is no brace
 pub first_no_brace : (digits more : List ℕ) → length digits ≡ 4 → All IsHexDigit digits → get_or (digits ++ more) 0 0 ≢ 123
@@ -257,7 +257,7 @@ items-step n mode x more is =
     ∙ ap (λ (r : Body Item). then_items r (λ item. items_within n mode (drop (length (spelling item)) (spelling x ++ more)))) (item_complete mode x more is)
     ∙ ap (λ (rest : List ℕ). onto x (items_within n mode rest)) (drop_at (spelling x) more (length (spelling x)) refl)
 
--- each body's items are read
+-- each body's items are parsed
 pub items_complete : (mode : Mode) (n : ℕ) (items : List Item) → AllByRecursion (IsItem mode) items → length (flat_map spelling items) ≤ n → items_within n mode (flat_map spelling items) ≡ Ok items
 unfolding items_within
 items_complete mode n [] each enough = refl
@@ -311,7 +311,7 @@ sound_first mode n b bytes items (Ok x) is others h =
     body_onto mode (b ∷ bytes) x first items (items_within n mode (drop (length (spelling x)) (b ∷ bytes)))
     (λ xs same. others x first xs (ap (items_within n mode) (sym (left_after mode (b ∷ bytes) x first)) ∙ same)) h
 
--- what is read are the items of a body
+-- what is parsed are the items of a body
 items_sound : (mode : Mode) (n : ℕ) (bytes : List ℕ) (items : List Item) → length bytes ≤ n → items_within n mode bytes ≡ Ok items → IsBody mode bytes items
 unfolding items_within
 items_sound mode n [] items enough e =

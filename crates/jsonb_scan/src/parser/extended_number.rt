@@ -1,7 +1,7 @@
 //! The numbers of extended texts: decimals, hexadecimals, `nan` and `infinity`.
 ghost use Rattle.std.specs.Prelude.{◌≡◌, ◌+◌, ◌-◌, ◌*◌, ◌≤◌, ◌<◌, ◌^◌, length, Err, None, IfOk, IfErr};
-ghost use Rattle.jsonb_scan.specs.Reading.Number.{sign_end};
-ghost use Rattle.jsonb_scan.specs.Reading.ExtendedNumber.{spelled_from, word_scan, is_word_start, extended_scan, invalid};
+ghost use Rattle.jsonb_scan.specs.Parsing.Number.{sign_end};
+ghost use Rattle.jsonb_scan.specs.Parsing.ExtendedNumber.{spelled_from, word_scan, is_word_start, extended_scan, invalid};
 ghost use Rattle.jsonb_scan.specs.ScannedNumber.{scanned_view, letters_view};
 
 mod decimal;

@@ -2,7 +2,7 @@
 ghost use Rattle.std.specs.Prelude.{◌≡◌, ◌⊎◌, MatchBool, ◌+◌, ◌≤◌, ◌<◌, ℕ, IfSome, drop, if◌then◌else◌, ◌==◌, length, slice_index, true};
 ghost use Rattle.std.specs.Char.{is_ascii_digit};
 ghost use Rattle.std.specs.Int.{w64, trailing_zeros};
-ghost use Rattle.jsonb_scan.specs.Reading.Number.{digits_length, is_number_start};
+ghost use Rattle.jsonb_scan.specs.Parsing.Number.{digits_length, is_number_start};
 ghost use Rattle.jsonb_scan.specs.ShortInteger.{IsKeptInteger};
 ghost use Rattle.jsonb_spec.specs.Ascii as ascii;
 

@@ -5,7 +5,7 @@ ghost use Rattle.jsonb_value.specs.StringStep.{escape_step};
 ghost use Rattle.jsonb_scan.specs.Decoding.{TellsBackslash};
 ghost use Rattle.jsonb_scan.specs.Answer.{mode_of};
 ghost use Rattle.jsonb_scan.specs.QuotedString.{EndsString, IsClear, IsQuoteOrBackslash, KnowsMarks, DecodesContents, TellsMarks};
-ghost use Rattle.jsonb_scan.specs.Reading.String.{body_of};
+ghost use Rattle.jsonb_scan.specs.Parsing.String.{body_of};
 
 use super::Mode;
 use super::vector::{either, equal_to, load, lowest, shifted_down, top_bits};
@@ -195,7 +195,7 @@ pub fn decode_contents<'a>(
 ) -> Result<CowStr<'a>>
     requires escaped { TellsBackslash body.now (length body.now) escaped }
     requires room { idx + length body.now < 2 ^ 64 }
-    ensures reads { DecodesContents idx result (body_of (mode_of mode) body.now) }
+    ensures parses { DecodesContents idx result (body_of (mode_of mode) body.now) }
     ensures memory { result ≡ Err Error.OutOfMemory → escaped ≡ true }
 {
     if escaped {

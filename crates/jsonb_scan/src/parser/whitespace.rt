@@ -2,7 +2,7 @@
 ghost use Rattle.std.specs.Prelude.{◌≡◌, ◌↔◌, ℕ, ◌+◌, ◌<◌, ◌≤◌, ◌^◌, length, slice_index, drop};
 ghost use Rattle.std.specs.Int.{bit_at};
 ghost use Rattle.jsonb_scan.specs.Answer.{mode_of};
-ghost use Rattle.jsonb_scan.specs.Reading.Whitespace.{block_length, line_length, comment_length, piece_length};
+ghost use Rattle.jsonb_scan.specs.Parsing.Whitespace.{block_length, line_length, comment_length, piece_length};
 ghost use Rattle.jsonb_spec.specs.Ascii as ascii;
 
 use super::Mode;

@@ -17,8 +17,8 @@ returns-in-Err-clause-proper c = value_has (λ v. IsDocument extended c.args.buf
 
 pub returns-in-Ok-clause-parses : goal.returns-in-Ok-clause-parses
 returns-in-Ok-clause-parses c =
-    let reads = c.in-Ok.ensures.reads tt in
-    gives_all extended view c.args.buf.now (Ok c.in-Ok.value) (document_built extended c.args.buf.now (view c.in-Ok.value) reads.0 reads.1.0 reads.2) (search rules)
+    let parses = c.in-Ok.ensures.parses tt in
+    gives_all extended view c.args.buf.now (Ok c.in-Ok.value) (document_built extended c.args.buf.now (view c.in-Ok.value) parses.0 parses.1.0 parses.2) (search rules)
 
 pub returns-in-Ok-clause-in_range : goal.returns-in-Ok-clause-in_range
 returns-in-Ok-clause-in_range c = (extended_in_range c.args.buf.now (view c.in-Ok.value) (returns-in-Ok-clause-parses c).document).0

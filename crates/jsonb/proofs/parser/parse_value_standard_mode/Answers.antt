@@ -23,8 +23,8 @@ returns-in-Err-clause-extended c = value_has (λ v. IsDocument standard c.args.b
 
 pub returns-in-Ok-clause-parses : goal.returns-in-Ok-clause-parses
 returns-in-Ok-clause-parses c =
-    let reads = c.in-Ok.ensures.reads tt in
-    gives_all standard view c.args.buf.now (Ok c.in-Ok.value) (document_built standard c.args.buf.now (view c.in-Ok.value) reads.0 reads.1.0 reads.2) (search rules)
+    let parses = c.in-Ok.ensures.parses tt in
+    gives_all standard view c.args.buf.now (Ok c.in-Ok.value) (document_built standard c.args.buf.now (view c.in-Ok.value) parses.0 parses.1.0 parses.2) (search rules)
 
 pub returns-in-Ok-clause-in_range : goal.returns-in-Ok-clause-in_range
 returns-in-Ok-clause-in_range c = (standard_in_range c.args.buf.now (view c.in-Ok.value) (returns-in-Ok-clause-parses c).document).0

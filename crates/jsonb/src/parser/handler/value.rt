@@ -290,7 +290,7 @@ pub(in crate::parser) fn make_room<V: Drop>(items: &mut Vec<V>, is_last: bool)
     }
 }
 
-// An array that was read keeps room for so many values more than it has, and no more.
+// An array that was parsed keeps room for so many values more than it has, and no more.
 const SPARE: usize = 15;
 
 // Gives back room that nothing needs, where there is enough of it to be worth the call.

@@ -2,8 +2,8 @@
 ghost use Rattle.std.specs.Prelude.{◌≡◌, ◌+◌, ◌-◌, ◌*◌, ◌≤◌, ◌<◌, ◌^◌, length, Err, Some, None, IfOk, IfErr};
 ghost use Rattle.std.specs.Str.Parse.{AllDigits, digits_value_after};
 ghost use Rattle.jsonb_spec.specs.Grammar.ExtendedNumber.{decimal_number};
-ghost use Rattle.jsonb_scan.specs.Reading.Number.{sign_end};
-ghost use Rattle.jsonb_scan.specs.Reading.ExtendedNumber.{zeros_from, zeros_end, front_end, point_end, behind_end, decimal_end, decimal_at, decimal_scan};
+ghost use Rattle.jsonb_scan.specs.Parsing.Number.{sign_end};
+ghost use Rattle.jsonb_scan.specs.Parsing.ExtendedNumber.{zeros_from, zeros_end, front_end, point_end, behind_end, decimal_end, decimal_at, decimal_scan};
 ghost use Rattle.jsonb_scan.specs.ScannedNumber.{AreEnds, number_views, scanned_view};
 
 use super::form::decimal;
@@ -23,7 +23,7 @@ struct DecimalEnds {
     behind_end: usize,
 }
 
-// The number of digits that are read before a second point no longer is a fault.
+// The number of digits that are parsed before a second point no longer is a fault.
 const DIGITS_BEFORE_POINT: usize = 76;
 
 // The index after the zeros from `start` on.

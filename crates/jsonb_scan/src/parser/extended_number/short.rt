@@ -3,8 +3,8 @@ ghost use Rattle.std.specs.Prelude.{◌≡◌, ◌+◌, ◌-◌, ◌*◌, ◌≤
 ghost use Rattle.std.specs.Bool.{MatchBool};
 ghost use Rattle.std.specs.Str.Parse.{digits_value_after};
 ghost use Rattle.jsonb_value.specs.View.{number_view};
-ghost use Rattle.jsonb_scan.specs.Reading.Number.{digits_length, sign_end};
-ghost use Rattle.jsonb_scan.specs.Reading.ExtendedNumber.{front_end, extended_scan, FollowsDigits};
+ghost use Rattle.jsonb_scan.specs.Parsing.Number.{digits_length, sign_end};
+ghost use Rattle.jsonb_scan.specs.Parsing.ExtendedNumber.{front_end, extended_scan, FollowsDigits};
 
 use super::form::{DECIMAL64_DIGITS, short_decimal, short_integer};
 use crate::parser::number::{SAFE_DIGITS, byte_at, continues_after_integer, sign_end};
@@ -24,7 +24,7 @@ struct FewDigits {
     value: u64,
 }
 
-// The digits that the bytes begin with, behind those that were read before, unless they are too many.
+// The digits that the bytes begin with, behind those that were parsed before, unless they are too many.
 #[inline(always)]
 fn digits_behind(bytes: &[u8], before: FewDigits) -> Option<FewDigits>
     requires { before.len ≤ 19 × before.value < 10 ^ before.len }

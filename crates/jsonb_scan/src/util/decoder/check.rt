@@ -6,7 +6,7 @@ ghost use Rattle.jsonb_value.specs.Error.CodeView.{code_of};
 ghost use Rattle.jsonb_scan.specs.Answer.{mode_of};
 ghost use Rattle.jsonb_scan.specs.Decoding.{IsDecodedUpTo, IsShortLetter, SeesNoBackslash, StopsAtEscape, TellsBackslash};
 ghost use Rattle.jsonb_scan.specs.QuotedString.{ChecksContents, decoded_text};
-ghost use Rattle.jsonb_scan.specs.Reading.String.{body_of};
+ghost use Rattle.jsonb_scan.specs.Parsing.String.{body_of};
 
 use super::run::near_backslash;
 use super::unit::pass_units;

@@ -6,7 +6,7 @@ use Rattle.jsonb_scan.specs.Answer.{mode_of}
 use Rattle.jsonb.specs.Parser.{Advances, rest_of, size_of}
 use Rattle.jsonb.specs.declared.parser.frame.Frame.TheVariants as variants
 use Rattle.jsonb.proofs.Containers.Frames.{array-joins, end_misses, ended, innermost_first, joined, last-is, last-set, object-joins}
-use Rattle.jsonb_scan.specs.Reading.Whitespace.{skip_whitespace}
+use Rattle.jsonb_scan.specs.Parsing.Whitespace.{skip_whitespace}
 use Rattle.jsonb.specs.Handler.{Builds}
 use Rattle.jsonb.specs.Stack.{part_end}
 use Rattle.jsonb.proofs.Containers.Built.{put_new}
@@ -17,7 +17,7 @@ use Rattle.jsonb.proofs.parser.Parser.close_container.Goals as goal
 pub returns-in_err-finish : goal.returns-in_err-finish
 returns-in_err-finish g c =
     record {
-      reads = λ whole ahead.
+      parses = λ whole ahead.
           let p = c.args.self.now in
           let gs = c.pop.new.self.items in
           let inner = c.in-Some.inner in
@@ -34,7 +34,7 @@ returns-in_err-finish g c =
 pub returns-in-Ok : goal.returns-in-Ok
 returns-in-Ok g c =
     record {
-      reads = λ whole ahead.
+      parses = λ whole ahead.
           let p = c.args.self.now in
           let q = c.end_element.new.self in
           let gs = c.pop.new.self.items in
@@ -62,7 +62,7 @@ returns-in-Ok g c =
           h.silent q.told c.end_element.result x done.2
           (λ o cs fits same. array-joins before after (λ fs ds. h.filled text c.finish.new.room value s fs ds) (size_of p) (mode_of p.mode) v w s below cs (λ ss full. c.in-Ok.ensures.put text s ss below cs full) o fits
           (subst (λ ds. h.filled text c.finish.new.room value s (variants.Array v ∷ below) ds) same (subst (λ fs. h.filled text c.finish.new.room value s fs x.others) turned filled)))
-          (builds_always h.silent q.told (λ b d. b ≡ d) c.end_element.result _ (rest_of q) c.end_element.ensures.reads);
+          (builds_always h.silent q.told (λ b d. b ≡ d) c.end_element.result _ (rest_of q) c.end_element.ensures.parses);
       onward = search rules;
       depth = search rules;
       some = search rules;
@@ -72,7 +72,7 @@ returns-in-Ok g c =
 pub returns-in_ok-insert_result-in-Object : goal.returns-in_ok-insert_result-in-Object
 returns-in_ok-insert_result-in-Object g c =
     record {
-      reads = λ whole ahead.
+      parses = λ whole ahead.
           let p = c.args.self.now in
           let q = c.end_member.new.self in
           let gs = c.pop.new.self.items in
@@ -103,7 +103,7 @@ returns-in_ok-insert_result-in-Object g c =
           (λ o cs fits same. object-joins before after (λ fs ds. h.filled text c.finish.new.room value s fs ds) (size_of p) (mode_of p.mode) v w s below cs (λ front k place full. put text s front k place below cs full) o fits
           (subst (λ ds. h.filled text c.finish.new.room value s (variants.Object v ∷ below) ds) same (subst (λ fs. h.filled text c.finish.new.room value s fs x.others) turned filled)))
           (builds_always h.silent q.told (λ b d. b ≡ d) c.end_member.result _ (rest_of q)
-          (subst (λ m. Builds false q.told (λ b d. b ≡ d) c.end_member.result (part_end (size_of m) expected_object_comma_or_end 125 (skip_whitespace (mode_of m.mode) (rest_of m))) (rest_of q)) ok.1 c.end_member.ensures.reads));
+          (subst (λ m. Builds false q.told (λ b d. b ≡ d) c.end_member.result (part_end (size_of m) expected_object_comma_or_end 125 (skip_whitespace (mode_of m.mode) (rest_of m))) (rest_of q)) ok.1 c.end_member.ensures.parses));
       onward = search rules;
       depth = search rules;
       some = search rules;

@@ -4,7 +4,7 @@ use Rattle.std.proofs.lemmas.Str.{IsCharBoundary-after_ascii}
 use Rattle.std.specs.Str.{IsCharBoundary}
 use Rattle.jsonb_scan.specs.Decoding.{TellsBackslash}
 use Rattle.jsonb.specs.Parser.{rest_of}
-use Rattle.jsonb_scan.specs.Reading.String.{quote_end}
+use Rattle.jsonb_scan.specs.Parsing.String.{quote_end}
 use Rattle.jsonb_scan.proofs.Strings.Bodies.{tells_taken}
 use Rattle.jsonb_scan.proofs.Strings.Ends.{quote_within}
 use Rattle.jsonb.proofs.Scalars.Contents.{quote_there}

@@ -2,8 +2,8 @@ use Rattle.std.proofs.Common.{◌≡◌, true, ap, subst, ◌∙◌, rules}
 use Rattle.std.specs.Prelude.{slice_index}
 use Rattle.jsonb_scan.specs.Answer.{mode_of}
 use Rattle.jsonb.specs.Parser.{rest_of, size_of}
-use Rattle.jsonb_scan.specs.Reading.Whitespace.{is_break}
-use Rattle.jsonb_scan.specs.Reading.Number.{is_number_start}
+use Rattle.jsonb_scan.specs.Parsing.Whitespace.{is_break}
+use Rattle.jsonb_scan.specs.Parsing.Number.{is_number_start}
 use Rattle.jsonb_scan.specs.ShortInteger.{IsKeptInteger}
 use Rattle.jsonb.proofs.Scalars.KeptIntegers.{extended_kept, kept_passes}
 use Rattle.jsonb.proofs.parser.Parser.kept_extended_integer.Goals as goal

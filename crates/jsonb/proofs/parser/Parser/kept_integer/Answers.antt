@@ -3,7 +3,7 @@ use Rattle.std.specs.Prelude.{slice_index}
 use Rattle.jsonb.specs.declared.parser.Parser.{Parser}
 use Rattle.jsonb.specs.Parser.{Advances, rest_of, size_of}
 use Rattle.jsonb_scan.specs.Answer.{mode_of}
-use Rattle.jsonb_scan.specs.Reading.Number.{is_number_start, standard_number_at}
+use Rattle.jsonb_scan.specs.Parsing.Number.{is_number_start, standard_number_at}
 use Rattle.jsonb_scan.specs.ShortInteger.{short_view}
 use Rattle.jsonb_scan.proofs.Numbers.Standard.{number_sound}
 use Rattle.jsonb_write.proofs.Spelled.{kept_text}
@@ -26,7 +26,7 @@ returns-in-Some c =
           let on : Advances p q = record { buf = refl; mode = refl; onward = omega arith } in
           record {
             value = n;
-            reads = integer_at_once (size_of p) (mode_of p.mode) (rest_of p) n _ c.requires.mode (subst (λ bs. is_number_start (slice_index bs 0) ≡ true) same c.in-Some.ensures.first) found;
+            parses = integer_at_once (size_of p) (mode_of p.mode) (rest_of p) n _ c.requires.mode (subst (λ bs. is_number_start (slice_index bs 0) ≡ true) same c.in-Some.ensures.first) found;
             text = between p q sound.core on sound.joined ∙ kept_text read.negative read.magnitude read.end sound.core kept.some sound.number;
           };
       asked = search rules;

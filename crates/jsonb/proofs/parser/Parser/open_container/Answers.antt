@@ -12,7 +12,7 @@ use Rattle.jsonb.proofs.parser.Parser.open_container.Goals as goal
 pub returns-then-len-eq-MAX_DEPTH : goal.returns-then-len-eq-MAX_DEPTH
 returns-then-len-eq-MAX_DEPTH g c =
     record {
-      reads = λ whole due.
+      parses = λ whole due.
           let p = c.args.self.now in
           tells_fault g.V.Handler.silent c.fail.new.self.told c.too_deep-error.result whole c.fail.ensures.told
           (subst (λ e. Fails e whole) (sym c.too_deep-error.ensures) (too_many (g.V.Handler.stands p.buf.now c.args.room.now) p c.args.stack.now.items whole (omega arith) c.requires.opens due));
@@ -25,7 +25,7 @@ returns-then-len-eq-MAX_DEPTH g c =
 pub returns-then-take_byte : goal.returns-then-take_byte
 returns-then-take_byte g c =
     record {
-      reads = λ whole due.
+      parses = λ whole due.
           let p = c.args.self.now in
           let o = c.take_byte.new.self in
           let s = c.skip_whitespace.new.self in
@@ -44,7 +44,7 @@ returns-then-take_byte g c =
 pub returns : goal.returns
 returns g c =
     record {
-      reads = λ whole due.
+      parses = λ whole due.
           let p = c.args.self.now in
           let n = c.take_byte.new.self in
           let s = c.skip_whitespace-2.new.self in

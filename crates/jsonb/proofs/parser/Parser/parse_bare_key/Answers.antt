@@ -3,7 +3,7 @@ use Rattle.std.proofs.lemmas.List.{length-take-le}
 use Rattle.std.specs.Str.{IsUtf8}
 use Rattle.jsonb_spec.specs.Tree.{plain}
 use Rattle.jsonb.specs.Parser.{rest_of, size_of}
-use Rattle.jsonb_scan.specs.Reading.BareKey.{key_end}
+use Rattle.jsonb_scan.specs.Parsing.BareKey.{key_end}
 use Rattle.jsonb_scan.proofs.Strings.BareKeys.{BeginsBare, bare-character, bare-digit, bare-no_text, bare-nothing, bare-past, bare-text, key_within}
 use Rattle.jsonb.proofs.parser.Parser.parse_bare_key.Goals as goal
 use Rattle.jsonb.proofs.parser.Parser.parse_bare_key.Goals.{then-end-eq0-via-then-end-eq0, then-end-eq0-via-else-end-eq0+then-rest-end-ge128}
@@ -11,7 +11,7 @@ use Rattle.jsonb.proofs.parser.Parser.parse_bare_key.Goals.{then-end-eq0-via-the
 pub returns-in_default : goal.returns-in_default
 returns-in_default c =
     record {
-      reads =
+      parses =
           bare-nothing (size_of c.args.self.now) (rest_of c.args.self.now) c.in_default.ensures.next;
       takes_no_memory = search rules;
       advances = search rules;
@@ -20,7 +20,7 @@ returns-in_default c =
 pub returns-then-is_ascii_digit : goal.returns-then-is_ascii_digit
 returns-then-is_ascii_digit c =
     record {
-      reads =
+      parses =
           let p = c.args.self.now in
           bare-digit (size_of p) (rest_of p) c.in-Some.byte _ p.offset c.in-Some.ensures.next (sym c.is_ascii_digit.ensures.value ∙ c.if-is_ascii_digit.true) (omega (arith, length-drop p.offset p.buf.now, p.inside));
       takes_no_memory = search rules;
@@ -38,7 +38,7 @@ bounds-rest-end c = key_within c.rest-rest.result.now c.in-At.end c.in-At.ensure
 pub returns-then-end-eq0 : goal.returns-then-end-eq0
 returns-then-end-eq0 c =
     record {
-      reads =
+      parses =
           let p = c.args.self.now in
           let rest-is = c.rest-rest.ensures in
           let end = c.in-At.end in
@@ -59,7 +59,7 @@ slice_bounds-from_utf8-end c = sym (length-take-le c.in-At.end c.rest-rest.resul
 pub returns-in-Past : goal.returns-in-Past
 returns-in-Past c =
     record {
-      reads =
+      parses =
           let p = c.args.self.now in
           let begins : BeginsBare (rest_of p) = record { first = c.in-Some.byte; others = _; whole = c.in-Some.ensures.next; no_digit = sym c.is_ascii_digit.ensures.value ∙ c.if-is_ascii_digit.false } in
           bare-past (size_of p) (rest_of p) c.in-Past.at p.offset begins (ap key_end (sym c.rest-rest.ensures) ∙ c.in-Past.ensures.0) (omega (arith, length-drop p.offset p.buf.now, p.inside));
@@ -70,7 +70,7 @@ returns-in-Past c =
 pub returns-in-Ok : goal.returns-in-Ok
 returns-in-Ok c =
     record {
-      reads =
+      parses =
           let p = c.args.self.now in
           let rest-is = c.rest-rest.ensures in
           let end = c.in-At.end in
@@ -87,7 +87,7 @@ returns-in-Ok c =
 pub returns-in-Err : goal.returns-in-Err
 returns-in-Err c =
     record {
-      reads =
+      parses =
           let p = c.args.self.now in
           let rest-is = c.rest-rest.ensures in
           let end = c.in-At.end in

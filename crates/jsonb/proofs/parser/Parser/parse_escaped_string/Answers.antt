@@ -3,8 +3,8 @@ use Rattle.std.specs.Cow.{cow_str_bytes}
 use Rattle.jsonb_spec.specs.Tree.{string}
 use Rattle.jsonb_value.specs.View.{mark_view}
 use Rattle.jsonb_scan.specs.Answer.{mode_of}
-use Rattle.jsonb_scan.specs.Reading.Scalar.{quoted_at}
-use Rattle.jsonb_scan.specs.Reading.String.{body_of}
+use Rattle.jsonb_scan.specs.Parsing.Scalar.{quoted_at}
+use Rattle.jsonb_scan.specs.Parsing.String.{body_of}
 use Rattle.jsonb.specs.Handler.{SeesContents}
 use Rattle.jsonb.specs.Parser.{rest_of, size_of}
 use Rattle.jsonb.proofs.Scalars.Built.{string_read}
@@ -15,14 +15,14 @@ use Rattle.jsonb.proofs.parser.Parser.parse_escaped_string.Goals as goal
 pub returns-in-Ok : goal.returns-in-Ok
 returns-in-Ok g c =
     record {
-      reads =
+      parses =
           let p = c.args.self.now in
           let q = c.escaped_contents.new.self in
           let s = c.in-Ok.string in (
             string (mark_view s) (cow_str_bytes s),
             c.string.ensures,
             unmoved p q c.in_default.ensures.stays (λ o. quoted_at (size_of o) (mode_of o.mode) c.args.quote (rest_of o))
-                ∙ string_read (size_of q) (mode_of q.mode) c.args.quote (rest_of q) (mark_view s, cow_str_bytes s) _ c.in-Ok.ensures.reads,
+                ∙ string_read (size_of q) (mode_of q.mode) c.args.quote (rest_of q) (mark_view s, cow_str_bytes s) _ c.in-Ok.ensures.parses,
           );
       memory = search rules;
       advances = search rules;
@@ -31,7 +31,7 @@ returns-in-Ok g c =
 pub returns-in-Ok-escaped_string : goal.returns-in-Ok-escaped_string
 returns-in-Ok-escaped_string g c =
     record {
-      reads =
+      parses =
           let p = c.args.self.now in
           let q = c.escaped_contents.new.self in
           let made = c.in-Ok-escaped_string.ensures in
@@ -44,7 +44,7 @@ returns-in-Ok-escaped_string g c =
 pub returns-in-Err-escaped_string : goal.returns-in-Err-escaped_string
 returns-in-Err-escaped_string g c =
     record {
-      reads =
+      parses =
           let p = c.args.self.now in
           let rejected = subst (λ mode. SeesContents g.V.Handler.sees (p.offset + 1) (Err c.in-Err-escaped_string.error) (body_of (mode_of mode) c.in-Some.body.now)) c.escaped_contents.ensures.advances.mode c.in-Err-escaped_string.ensures in
           contents_fail c.args.quote p c.escaped_contents.new.self c.in-Some.body.now c.in-Some.ensures.passes g.V.Handler.sees g.V.Handler.silent c.fail-in-Err-escaped_string.new.self.told c.in-Err-escaped_string.error c.fail-in-Err-escaped_string.ensures.told rejected;

@@ -2,8 +2,8 @@ use Rattle.std.proofs.Common.{ap, sym, ◌∙◌, rules}
 use Rattle.jsonb_spec.specs.Code.Code.{expected_some_ident}
 use Rattle.jsonb_scan.specs.Answer.{mode_of}
 use Rattle.jsonb.specs.Parser.{rest_of, size_of}
-use Rattle.jsonb_scan.specs.Reading.{fault_at}
-use Rattle.jsonb_scan.specs.Reading.Scalar.{key_at, unquoted_at}
+use Rattle.jsonb_scan.specs.Parsing.{fault_at}
+use Rattle.jsonb_scan.specs.Parsing.Scalar.{key_at, unquoted_at}
 use Rattle.jsonb.proofs.Steps.Outcomes.{key_bare, key_quoted, key_single}
 use Rattle.jsonb.proofs.Steps.Advancing.{fails}
 use Rattle.jsonb.proofs.parser.Parser.parse_key.Goals as goal
@@ -11,8 +11,8 @@ use Rattle.jsonb.proofs.parser.Parser.parse_key.Goals as goal
 pub returns-then-take_byte : goal.returns-then-take_byte
 returns-then-take_byte c =
     record {
-      reads =
-          rw (key_quoted c.args.self.now c.take_byte.new.self c.take_byte.ensures.advances c.if-take_byte.ensures.rest) c.parse_quoted.ensures.reads;
+      parses =
+          rw (key_quoted c.args.self.now c.take_byte.new.self c.take_byte.ensures.advances c.if-take_byte.ensures.rest) c.parse_quoted.ensures.parses;
       memory = search rules;
       advances = search rules;
     }
@@ -20,9 +20,9 @@ returns-then-take_byte c =
 pub returns-then-take_single_quote : goal.returns-then-take_single_quote
 returns-then-take_single_quote c =
     record {
-      reads =
+      parses =
           rw (key_single c.args.self.now c.take_byte.new.self c.take_single_quote.new.self c.if-take_byte.ensures.rest (sym c.if-take_byte.ensures.found) c.take_single_quote.ensures.advances (sym c.if-take_single_quote.ensures.found) c.if-take_single_quote.ensures.rest)
-          c.parse_quoted-then-take_single_quote.ensures.reads;
+          c.parse_quoted-then-take_single_quote.ensures.parses;
       memory = search rules;
       advances = search rules;
     }
@@ -30,7 +30,7 @@ returns-then-take_single_quote c =
 pub returns-in-Standard : goal.returns-in-Standard
 returns-in-Standard c =
     record {
-      reads =
+      parses =
           let p = c.args.self.now in
           let q = c.take_byte.new.self in
           let r = c.take_single_quote.new.self in
@@ -43,12 +43,12 @@ returns-in-Standard c =
 pub returns-in-Extended : goal.returns-in-Extended
 returns-in-Extended c =
     record {
-      reads =
+      parses =
           let p = c.args.self.now in
           let q = c.take_byte.new.self in
           let r = c.take_single_quote.new.self in
           rw (key_bare p q r c.if-take_byte.ensures.rest (sym c.if-take_byte.ensures.found) c.if-take_single_quote.ensures.rest (sym c.if-take_single_quote.ensures.found) ∙ ap (λ m. unquoted_at (size_of r) (mode_of m) (rest_of r)) c.in-Extended.is)
-          c.parse_bare_key.ensures.reads;
+          c.parse_bare_key.ensures.parses;
       memory = search rules;
       advances = search rules;
     }

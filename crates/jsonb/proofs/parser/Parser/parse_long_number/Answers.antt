@@ -7,7 +7,7 @@ use Rattle.jsonb.proofs.parser.Parser.parse_long_number.Goals as goal
 pub returns-in-Err : goal.returns-in-Err
 returns-in-Err c =
     record {
-      reads =
+      parses =
           scanned_fault c.args.self.now.offset c.in-Err.fault.place (code_of c.in-Err.fault.code) c.args.self.now.buf.now c.args.bytes.now c.args.self.now.inside c.requires.bytes (sym c.in-Err.ensures.scan);
       takes_no_memory = search rules;
       advances = search rules;
@@ -16,7 +16,7 @@ returns-in-Err c =
 pub returns-in-Some : goal.returns-in-Some
 returns-in-Some c =
     record {
-      reads =
+      parses =
           scanned_number c.args.self.now.offset c.in-Ok.text.end c.args.self.now.buf.now c.args.bytes.now _ c.requires.bytes (sym c.in-Ok.ensures.scan ∙ ap (λ o. Ok (number_views o, c.in-Ok.text.end)) c.in-Some.is);
       takes_no_memory = search rules;
       advances = search rules;
@@ -25,7 +25,7 @@ returns-in-Some c =
 pub returns-in-None : goal.returns-in-None
 returns-in-None c =
     record {
-      reads =
+      parses =
           scanned_missing c.args.self.now.offset c.in-Ok.text.end c.args.self.now.buf.now c.args.bytes.now c.args.self.now.inside c.requires.bytes c.in-Ok.ensures.within (sym c.in-Ok.ensures.scan ∙ ap (λ o. Ok (number_views o, c.in-Ok.text.end)) c.in-None.is);
       takes_no_memory = search rules;
       advances = search rules;

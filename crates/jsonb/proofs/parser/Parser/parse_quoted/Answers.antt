@@ -10,8 +10,8 @@ use Rattle.jsonb_scan.specs.Decoding.{TellsBackslash}
 use Rattle.jsonb_scan.specs.Answer.{mode_of}
 use Rattle.jsonb.specs.Parser.{rest_of, size_of}
 use Rattle.jsonb_scan.specs.QuotedString.{DecodesContents}
-use Rattle.jsonb_scan.specs.Reading.{fault}
-use Rattle.jsonb_scan.specs.Reading.String.{body_of, quote_end}
+use Rattle.jsonb_scan.specs.Parsing.{fault}
+use Rattle.jsonb_scan.specs.Parsing.String.{body_of, quote_end}
 use Rattle.jsonb_scan.proofs.Strings.Ends.{quote_within}
 use Rattle.jsonb_scan.proofs.Strings.Bodies.{string-closed, string-unclosed, body_fails, contains_after, tells_taken}
 use Rattle.jsonb.proofs.parser.Parser.parse_quoted.Goals as goal
@@ -27,7 +27,7 @@ slice_bounds-decode_contents-end c =
 pub returns-in_err-text-in-Closed : goal.returns-in_err-text-in-Closed
 returns-in_err-text-in-Closed c =
     record {
-      reads =
+      parses =
           let p = c.args.self.now in
           let rest-is = c.rest-rest.ensures in
           let end = c.in-Closed.end in
@@ -35,7 +35,7 @@ returns-in_err-text-in-Closed c =
           let r = err_from_is_err_and c.from_residual.result c.from_residual.ensures.1 in
           let mode = mode_of p.mode in
           let found = ap (quote_end c.args.quote) (sym rest-is) ∙ c.in-Closed.ensures.0 in
-          let body = subst (λ (u : List ℕ). DecodesContents (p.offset + 1) (Err e) (body_of mode (take end u))) rest-is c.in_err-text-in-Closed.ensures.reads in
+          let body = subst (λ (u : List ℕ). DecodesContents (p.offset + 1) (Err e) (body_of mode (take end u))) rest-is c.in_err-text-in-Closed.ensures.parses in
           rw (r.1, r.2) (body_fails (size_of p) mode c.args.quote (rest_of p) end p.offset e found (omega (arith, length-drop p.offset p.buf.now, c.args.self.now.inside)) body);
       memory = λ is.
           let p = c.args.self.now in
@@ -65,7 +65,7 @@ overflow_add-self-in-Closed-2 c =
 pub returns-in-Unclosed : goal.returns-in-Unclosed
 returns-in-Unclosed c =
     record {
-      reads =
+      parses =
           let p = c.args.self.now in
           let none = ap (quote_end c.args.quote) (sym c.rest-rest.ensures) ∙ c.in-Unclosed.ensures.0 in
           let place : size_of p - length (rest_of p) + c.in-Unclosed.at ≡ p.offset + c.in-Unclosed.at = omega (arith, length-drop p.offset p.buf.now, c.args.self.now.inside) in
@@ -77,13 +77,13 @@ returns-in-Unclosed c =
 pub returns-in_ok-text-in-Closed : goal.returns-in_ok-text-in-Closed
 returns-in_ok-text-in-Closed c =
     record {
-      reads =
+      parses =
           let p = c.args.self.now in
           let rest-is = c.rest-rest.ensures in
           let end = c.in-Closed.end in
           let mode = mode_of p.mode in
           let found = ap (quote_end c.args.quote) (sym rest-is) ∙ c.in-Closed.ensures.0 in
-          let body = ap (λ (u : List ℕ). body_of mode (take end u)) (sym rest-is) ∙ c.in_ok-text-in-Closed.ensures.reads in
+          let body = ap (λ (u : List ℕ). body_of mode (take end u)) (sym rest-is) ∙ c.in_ok-text-in-Closed.ensures.parses in
           string-closed (size_of p) mode c.args.quote (rest_of p) end _ found body ∙ ap (λ (u : List ℕ). Ok ((mark_view c.in_ok-text-in-Closed.text, cow_str_bytes c.in_ok-text-in-Closed.text), u)) (drop-drop (end + 1) p.offset p.buf.now);
       memory = search rules;
       advances = search rules;

@@ -4,14 +4,14 @@ use Rattle.std.specs.Str.Parse.{digits_value}
 use Rattle.jsonb_value.specs.View.{number_view}
 use Rattle.jsonb_scan.specs.Answer.{Fails}
 use Rattle.jsonb.specs.Parser.{rest_of, size_of}
-use Rattle.jsonb_scan.specs.Reading.Number.{ContinuesAfterInteger, integer_of, whole_digits}
+use Rattle.jsonb_scan.specs.Parsing.Number.{ContinuesAfterInteger, integer_of, whole_digits}
 use Rattle.jsonb_scan.proofs.Numbers.Steps.{HasWhole, whole_end, invalid_at, read_past, integer_read, integer_missing, found_whole, found_has_whole, found_end, found_missing, found_needless, found_value}
 use Rattle.jsonb.proofs.parser.Parser.parse_standard_number.Goals as goal
 
 pub returns-then-digits-eq0 : goal.returns-then-digits-eq0
 returns-then-digits-eq0 c =
     record {
-      reads =
+      parses =
           let found = found_whole c.rest-bytes.result.now c.after_minus.result.now c.from-start.result c.leading_digits-digits.result.len c.byte_at-negative.result c.byte_at-negative.ensures c.from-start.ensures c.after_minus.ensures c.leading_digits-digits.ensures.len in
           rw c.invalid_number.ensures (invalid_at c.args.self.now.offset c.from-start.result c.args.self.now.buf.now c.rest-bytes.result.now c.args.self.now.inside c.rest-bytes.ensures (found_missing c.rest-bytes.result.now c.from-start.result c.leading_digits-digits.result.len found c.if-digits-eq0.true));
       takes_no_memory = search rules;
@@ -21,7 +21,7 @@ returns-then-digits-eq0 c =
 pub returns-then-first-eq48 : goal.returns-then-first-eq48
 returns-then-first-eq48 c =
     record {
-      reads =
+      parses =
           let found = found_whole c.rest-bytes.result.now c.after_minus.result.now c.from-start.result c.leading_digits-digits.result.len c.byte_at-negative.result c.byte_at-negative.ensures c.from-start.ensures c.after_minus.ensures c.leading_digits-digits.ensures.len in
           rw c.invalid_number-then-first-eq48.ensures (invalid_at c.args.self.now.offset (c.from-start.result + 2) c.args.self.now.buf.now c.rest-bytes.result.now c.args.self.now.inside c.rest-bytes.ensures (found_needless c.rest-bytes.result.now c.from-start.result c.leading_digits-digits.result.len c.byte_at-first.result found c.if-digits-gt1.true c.byte_at-first.ensures c.if-first-eq48.true));
       takes_no_memory = search rules;
@@ -31,7 +31,7 @@ returns-then-first-eq48 c =
 pub returns-then-continues_after_integer : goal.returns-then-continues_after_integer
 returns-then-continues_after_integer c =
     record {
-      reads =
+      parses =
           let found = found_whole c.rest-bytes.result.now c.after_minus.result.now c.from-start.result c.leading_digits-digits.result.len c.byte_at-negative.result c.byte_at-negative.ensures c.from-start.ensures c.after_minus.ensures c.leading_digits-digits.ensures.len in
           let has_whole = found_has_whole c.rest-bytes.result.now c.from-start.result c.leading_digits-digits.result.len c.byte_at-first.result found c.if-digits-eq0.false c.byte_at-first.ensures c.else-digits-gt1.either in
           subst (Fails c.number_without_integer.result) (sym (read_past (size_of c.args.self.now) (c.from-start.result + c.leading_digits-digits.result.len) (rest_of c.args.self.now) (subst HasWhole c.rest-bytes.ensures has_whole) (found_end c.rest-bytes.result.now c.from-start.result c.leading_digits-digits.result.len found ∙ ap whole_end c.rest-bytes.ensures))) c.number_without_integer.ensures.fault;
@@ -42,7 +42,7 @@ returns-then-continues_after_integer c =
 pub returns-in-Some : goal.returns-in-Some
 returns-in-Some c =
     record {
-      reads =
+      parses =
           let found = found_whole c.rest-bytes.result.now c.after_minus.result.now c.from-start.result c.leading_digits-digits.result.len c.byte_at-negative.result c.byte_at-negative.ensures c.from-start.ensures c.after_minus.ensures c.leading_digits-digits.ensures.len in
           let has_whole = found_has_whole c.rest-bytes.result.now c.from-start.result c.leading_digits-digits.result.len c.byte_at-first.result found c.if-digits-eq0.false c.byte_at-first.ensures c.else-digits-gt1.either in
           let value = found_value c.rest-bytes.result.now c.after_minus.result.now c.leading_digits-digits.result.value c.after_minus.ensures c.leading_digits-digits.ensures.value in
@@ -54,7 +54,7 @@ returns-in-Some c =
 pub returns-in-None : goal.returns-in-None
 returns-in-None c =
     record {
-      reads =
+      parses =
           let found = found_whole c.rest-bytes.result.now c.after_minus.result.now c.from-start.result c.leading_digits-digits.result.len c.byte_at-negative.result c.byte_at-negative.ensures c.from-start.ensures c.after_minus.ensures c.leading_digits-digits.ensures.len in
           let has_whole = found_has_whole c.rest-bytes.result.now c.from-start.result c.leading_digits-digits.result.len c.byte_at-first.result found c.if-digits-eq0.false c.byte_at-first.ensures c.else-digits-gt1.either in
           let value = found_value c.rest-bytes.result.now c.after_minus.result.now c.leading_digits-digits.result.value c.after_minus.ensures c.leading_digits-digits.ensures.value in

@@ -9,12 +9,12 @@ use Rattle.jsonb.proofs.parser.Parser.parse_string.Goals as goal
 pub returns-in-Some : goal.returns-in-Some
 returns-in-Some g c =
     record {
-      reads =
+      parses =
           let p = c.args.self.now in
           let body = c.in-Some.body.now in (
             string plain body,
             c.string.ensures,
-            string_read (size_of p) (mode_of p.mode) c.args.quote (rest_of p) (plain, body) _ c.in-Some.ensures.reads,
+            string_read (size_of p) (mode_of p.mode) c.args.quote (rest_of p) (plain, body) _ c.in-Some.ensures.parses,
           );
       memory = search rules;
       advances = search rules;

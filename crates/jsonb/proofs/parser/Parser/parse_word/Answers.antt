@@ -1,7 +1,7 @@
 use Rattle.std.proofs.Common.{◌≡◌, ◌+◌, ◌<◌, ◌∷◌, length, arith, List, ℕ, drop, get_or, sym, ap, ◌∙◌, add-one, drop-cons, drop-drop, true}
 use Rattle.jsonb_scan.specs.Answer.{mode_of}
 use Rattle.jsonb.specs.Parser.{rest_of, size_of}
-use Rattle.jsonb_scan.specs.Reading.Scalar.{begins_letter, letters_at}
+use Rattle.jsonb_scan.specs.Parsing.Scalar.{begins_letter, letters_at}
 use Rattle.jsonb.proofs.Steps.Advancing.{letters-step}
 use Rattle.jsonb.proofs.parser.Parser.parse_word.Goals as goal
 

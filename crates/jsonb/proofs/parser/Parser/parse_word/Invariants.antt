@@ -1,7 +1,7 @@
 use Rattle.std.proofs.Common.{◌≡◌, drop}
 use Rattle.jsonb_scan.specs.Answer.{mode_of}
 use Rattle.jsonb.specs.Parser.{Advances, rest_of, size_of}
-use Rattle.jsonb_scan.specs.Reading.Scalar.{letters_at}
+use Rattle.jsonb_scan.specs.Parsing.Scalar.{letters_at}
 use Rattle.jsonb.proofs.parser.Parser.parse_word.Given as goal
 
 abbrev pub invariant-letters : goal.invariant-letters

@@ -8,11 +8,11 @@ use Rattle.jsonb.proofs.parser.Parser.parse_word_or_number.Goals as goal
 pub returns-in-Ok : goal.returns-in-Ok
 returns-in-Ok g c =
     record {
-      reads =
+      parses =
           let p = c.args.self.now in (
             boolean true,
             c.boolean.ensures,
-            true_read (size_of p) (mode_of p.mode) (rest_of p) _ (sym c.if-next_is_letter.ensures.found) (sym c.if-next_is_letter-2.ensures.found) c.in-Ok.ensures.reads,
+            true_read (size_of p) (mode_of p.mode) (rest_of p) _ (sym c.if-next_is_letter.ensures.found) (sym c.if-next_is_letter-2.ensures.found) c.in-Ok.ensures.parses,
           );
       memory = search rules;
       advances = search rules;
@@ -21,11 +21,11 @@ returns-in-Ok g c =
 pub returns-in-Ok-parse_word : goal.returns-in-Ok-parse_word
 returns-in-Ok-parse_word g c =
     record {
-      reads =
+      parses =
           let p = c.args.self.now in (
             boolean false,
             c.boolean-in-Ok-parse_word.ensures,
-            false_read (size_of p) (mode_of p.mode) (rest_of p) _ (sym c.if-next_is_letter.ensures.found) (sym c.if-next_is_letter-2.ensures.found) (sym c.if-next_is_letter-3.ensures.found) c.in-Ok-parse_word.ensures.reads,
+            false_read (size_of p) (mode_of p.mode) (rest_of p) _ (sym c.if-next_is_letter.ensures.found) (sym c.if-next_is_letter-2.ensures.found) (sym c.if-next_is_letter-3.ensures.found) c.in-Ok-parse_word.ensures.parses,
           );
       memory = search rules;
       advances = search rules;

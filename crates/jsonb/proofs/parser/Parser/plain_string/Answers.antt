@@ -6,7 +6,7 @@ use Rattle.jsonb_spec.specs.Tree.Mark.{plain}
 use Rattle.jsonb_scan.specs.Decoding.{TellsBackslash}
 use Rattle.jsonb_scan.specs.Answer.{mode_of}
 use Rattle.jsonb.specs.Parser.{size_of}
-use Rattle.jsonb_scan.specs.Reading.String.{quote_end, string_at}
+use Rattle.jsonb_scan.specs.Parsing.String.{quote_end, string_at}
 use Rattle.jsonb_scan.proofs.Strings.Bodies.{body-raw, found_end, search_start, search_to, string-closed, tells_taken}
 use Rattle.jsonb_scan.specs.QuotedString.{IsClear}
 use Rattle.jsonb_write.specs.PlainText.{ArePlain}
@@ -27,7 +27,7 @@ range-body-requires-clause-start_boundary c some =
 pub returns-clause-cuts : goal.returns-clause-cuts
 returns-clause-cuts c =
     record {
-      reads =
+      parses =
           let p = c.args.self.now in
           let quote : ℕ = 34 in
           let rest-is = c.rest-rest.ensures in

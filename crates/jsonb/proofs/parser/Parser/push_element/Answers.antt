@@ -2,8 +2,8 @@ use Rattle.std.proofs.Common.{Ok, sym, rules}
 use Rattle.std.proofs.lemmas.Bool.{cond-true}
 use Rattle.jsonb_spec.specs.Tree.{null}
 use Rattle.jsonb_scan.specs.Answer.{mode_of}
-use Rattle.jsonb_scan.specs.Reading.Container.{is_left_out}
-use Rattle.jsonb_scan.specs.Reading.Scalar.{scalar_at}
+use Rattle.jsonb_scan.specs.Parsing.Container.{is_left_out}
+use Rattle.jsonb_scan.specs.Parsing.Scalar.{scalar_at}
 use Rattle.jsonb_spec.specs.Source.{null_source}
 use Rattle.jsonb.specs.Parser.{rest_of, size_of}
 use Rattle.jsonb.proofs.Scalars.Built.{not_spelled, read_pushed}
@@ -12,7 +12,7 @@ use Rattle.jsonb.proofs.parser.Parser.push_element.Goals as goal
 pub returns : goal.returns
 returns g c =
     record {
-      reads =
+      parses =
           let p = c.args.self.now in
           let h = g.V.Handler in
           let mode = mode_of p.mode in

@@ -6,8 +6,8 @@ use Rattle.jsonb.proofs.parser.Parser.push_word.Goals as goal
 pub returns-in-None : goal.returns-in-None
 returns-in-None g c =
     record {
-      reads =
+      parses =
           let h = g.V.Handler in
-          pushes_same h.silent c.push_other_scalar.new.self.told h.stands c.push_other_scalar.result _ _ (sym (ap (λ o. o.buf.now) c.in-None.ensures.finds.stays)) _ _ _ _ _ _ _ (scalar_other c.args.self.now c.short_literal.new.self c.in-None.ensures.finds.stays c.requires.no_string) c.push_other_scalar.ensures.reads;
+          pushes_same h.silent c.push_other_scalar.new.self.told h.stands c.push_other_scalar.result _ _ (sym (ap (λ o. o.buf.now) c.in-None.ensures.finds.stays)) _ _ _ _ _ _ _ (scalar_other c.args.self.now c.short_literal.new.self c.in-None.ensures.finds.stays c.requires.no_string) c.push_other_scalar.ensures.parses;
       advances = search rules;
     }

@@ -1,7 +1,7 @@
 use Rattle.std.proofs.Common.{◌≡◌, true, Ok, drop, ap, subst, ◌∙◌, drop-drop, rules}
 use Rattle.std.specs.Prelude.{slice_index}
 use Rattle.jsonb_scan.specs.Answer.{mode_of}
-use Rattle.jsonb_scan.specs.Reading.Number.{is_number_start, standard_number_at}
+use Rattle.jsonb_scan.specs.Parsing.Number.{is_number_start, standard_number_at}
 use Rattle.jsonb_scan.specs.ShortInteger.{short_view}
 use Rattle.jsonb.specs.Parser.{rest_of, size_of}
 use Rattle.jsonb_scan.proofs.Numbers.Standard.{number_sound}
@@ -11,7 +11,7 @@ use Rattle.jsonb.proofs.parser.Parser.short_integer.Goals as goal
 pub returns-clause-finds : goal.returns-clause-finds
 returns-clause-finds c =
     record {
-      reads =
+      parses =
           let p = c.args.self.now in
           let read = c.in_ok-read.read in
           let n = short_view read in

@@ -1,7 +1,7 @@
 use Rattle.std.proofs.Common.{Ok, true, false, drop, ap, sym, ◌∙◌, drop-drop, rules}
 use Rattle.jsonb_spec.specs.Tree.{null, boolean}
 use Rattle.jsonb_scan.specs.Answer.{mode_of}
-use Rattle.jsonb_scan.specs.Reading.Scalar.{scalar_at}
+use Rattle.jsonb_scan.specs.Parsing.Scalar.{scalar_at}
 use Rattle.jsonb.specs.Parser.{size_of}
 use Rattle.jsonb.proofs.Scalars.Built.{null_at_once, true_at_once, false_at_once}
 use Rattle.jsonb.proofs.parser.Parser.short_literal.Goals as goal
@@ -9,7 +9,7 @@ use Rattle.jsonb.proofs.parser.Parser.short_literal.Goals as goal
 pub returns-then-begins_with-clause-finds : goal.returns-then-begins_with-clause-finds
 returns-then-begins_with-clause-finds c =
     record {
-      reads =
+      parses =
           let p = c.args.self.now in
           let rest = c.rest-rest.result.now in
           ap (scalar_at (size_of p) (mode_of p.mode)) (sym c.rest-rest.ensures ∙ c.if-begins_with.ensures) ∙ null_at_once (size_of p) (mode_of p.mode) (drop 4 rest)
@@ -21,7 +21,7 @@ returns-then-begins_with-clause-finds c =
 pub returns-then-begins_with-2-clause-finds : goal.returns-then-begins_with-2-clause-finds
 returns-then-begins_with-2-clause-finds c =
     record {
-      reads =
+      parses =
           let p = c.args.self.now in
           let rest = c.rest-rest.result.now in
           ap (scalar_at (size_of p) (mode_of p.mode)) (sym c.rest-rest.ensures ∙ c.if-begins_with-2.ensures) ∙ true_at_once (size_of p) (mode_of p.mode) (drop 4 rest)
@@ -33,7 +33,7 @@ returns-then-begins_with-2-clause-finds c =
 pub returns-then-begins_with-3-clause-finds : goal.returns-then-begins_with-3-clause-finds
 returns-then-begins_with-3-clause-finds c =
     record {
-      reads =
+      parses =
           let p = c.args.self.now in
           let rest = c.rest-rest.result.now in
           ap (scalar_at (size_of p) (mode_of p.mode)) (sym c.rest-rest.ensures ∙ c.if-begins_with-3.ensures) ∙ false_at_once (size_of p) (mode_of p.mode) (drop 5 rest)

@@ -1,5 +1,5 @@
 use Rattle.std.proofs.Common.{◌≡◌, ◌+◌, ◌<◌, [], drop, sym, ap, ap₂, ◌∙◌, arith, drop-drop, length, length-drop, rules}
-use Rattle.jsonb_scan.specs.Reading.Whitespace.{piece_length, skip_closed_whitespace}
+use Rattle.jsonb_scan.specs.Parsing.Whitespace.{piece_length, skip_closed_whitespace}
 use Rattle.jsonb_scan.specs.Answer.{mode_of}
 use Rattle.jsonb.specs.Parser.{Advances, rest_of}
 use Rattle.jsonb_scan.proofs.Text.Whitespace.{pass-none, pass-step, pass-nil}

@@ -1,5 +1,5 @@
 use Rattle.std.proofs.Common.{◌≡◌, ◌-◌, length}
-use Rattle.jsonb_scan.specs.Reading.Whitespace.{skip_closed_whitespace}
+use Rattle.jsonb_scan.specs.Parsing.Whitespace.{skip_closed_whitespace}
 use Rattle.jsonb_scan.specs.Answer.{mode_of}
 use Rattle.jsonb.specs.Parser.{rest_of, Advances}
 use Rattle.jsonb.proofs.parser.Parser.skip_each_closed_piece.Given as goal

@@ -1,5 +1,5 @@
 use Rattle.std.proofs.Common.{◌<◌, ◌∷◌, ap, sym, ◌∙◌, arith}
-use Rattle.jsonb_scan.specs.Reading.Whitespace.{skip_closed_whitespace}
+use Rattle.jsonb_scan.specs.Parsing.Whitespace.{skip_closed_whitespace}
 use Rattle.jsonb_scan.specs.Answer.{mode_of}
 use Rattle.jsonb.specs.Parser.{rest_of}
 use Rattle.jsonb.proofs.Steps.Advancing.{goes_on}

@@ -2,7 +2,7 @@ use Rattle.std.proofs.Common.{◌≡◌, Bool, true, false, ◌∷◌, MatchBool
 use Rattle.jsonb_spec.specs.Grammar.Whitespace.IsWhitespacePiece.{space}
 use Rattle.jsonb_spec.specs.Mode.{Mode}
 use Rattle.jsonb_scan.specs.Answer.{mode_of}
-use Rattle.jsonb_scan.specs.Reading.Whitespace.{skip_whitespace}
+use Rattle.jsonb_scan.specs.Parsing.Whitespace.{skip_whitespace}
 use Rattle.jsonb.specs.Parser.{rest_of}
 use Rattle.jsonb.specs.declared.parser.Parser.{Parser}
 use Rattle.jsonb_scan.proofs.Text.Whitespace.{skip-piece}

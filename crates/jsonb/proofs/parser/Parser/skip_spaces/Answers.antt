@@ -1,6 +1,6 @@
 use Rattle.std.proofs.Common.{◌≡◌, ℕ, ◌+◌, ◌<◌, ◌≤◌, List, ap, sym, ◌∙◌, arith, drop, drop-drop, get_or, length, rules}
 use Rattle.jsonb_spec.specs.Mode.{Mode}
-use Rattle.jsonb_scan.specs.Reading.Whitespace.{skip_closed_whitespace}
+use Rattle.jsonb_scan.specs.Parsing.Whitespace.{skip_closed_whitespace}
 use Rattle.jsonb_scan.specs.Answer.{mode_of}
 use Rattle.jsonb.specs.Parser.{rest_of}
 use Rattle.jsonb.specs.declared.parser.Parser.{Parser}

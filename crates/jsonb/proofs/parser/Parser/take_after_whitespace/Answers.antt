@@ -1,7 +1,7 @@
 use Rattle.std.proofs.Common.{ap, ◌∙◌}
 use Rattle.jsonb_scan.specs.Answer.{mode_of}
 use Rattle.jsonb.specs.Parser.{rest_of}
-use Rattle.jsonb_scan.specs.Reading.Whitespace.{skip_whitespace}
+use Rattle.jsonb_scan.specs.Parsing.Whitespace.{skip_whitespace}
 use Rattle.jsonb_scan.proofs.Text.Whitespace.{skip-stop}
 use Rattle.jsonb.proofs.parser.Parser.take_after_whitespace.Goals as goal
 

@@ -3,7 +3,7 @@ use Rattle.jsonb_spec.specs.Grammar.Whitespace.{IsWhitespacePiece}
 use Rattle.jsonb_spec.specs.Grammar.Whitespace.IsWhitespacePiece.{space, tab, line_feed, carriage_return}
 use Rattle.jsonb_scan.specs.Answer.{mode_of}
 use Rattle.jsonb.specs.Parser.{rest_of}
-use Rattle.jsonb_scan.specs.Reading.Whitespace.{skip_closed_whitespace}
+use Rattle.jsonb_scan.specs.Parsing.Whitespace.{skip_closed_whitespace}
 use Rattle.jsonb.specs.declared.parser.Parser.{Parser}
 use Rattle.jsonb_scan.proofs.Text.Whitespace.{pass-piece}
 use Rattle.jsonb.proofs.parser.Parser.take_plain_whitespace.Goals as goal

@@ -11,7 +11,7 @@ use Rattle.jsonb.proofs.parser.members.settle_members.Goals as goal
 pub returns-then-eq : goal.returns-then-eq
 returns-then-eq c =
     record {
-      reads = λ rest.
+      parses = λ rest.
           let new = c.sort_members.new.members.items in
           let i = c.loop-i.i in
           let a = c.index-earlier.result.now in
@@ -41,7 +41,7 @@ loop-i-preserved c =
 pub returns : goal.returns
 returns c =
     record {
-      reads = λ rest.
+      parses = λ rest.
           let new = c.sort_members.new.members.items in
           not_repeated c.args.members.now.items new c.sort_members.ensures.permutation c.sort_members.ensures.ascending rest
           (c.loop-i.invariant ∙ no_more_left new c.loop-i.i (omega arith) (omega arith));

@@ -2,7 +2,7 @@ use Rattle.std.proofs.Common.{◌≡◌, ◌∙◌, None, Some, true, inl, ap, m
 use Rattle.std.specs.Option.{option_map}
 use Rattle.jsonb_spec.specs.Text.{tree_text}
 use Rattle.jsonb_scan.specs.Answer.{MayAllocate, mode_of}
-use Rattle.jsonb_scan.specs.Reading.Document.{source_of}
+use Rattle.jsonb_scan.specs.Parsing.Document.{source_of}
 use Rattle.jsonb_spec.specs.Source.{tree_of_source}
 use Rattle.jsonb_spec.specs.PartAt.{part_at}
 use Rattle.jsonb_write.specs.PartRoom.{part_of}
@@ -16,9 +16,9 @@ pub returns-in-Ok-clause-ok : goal.returns-in-Ok-clause-ok
 returns-in-Ok-clause-ok c =
     let mode = mode_of c.args.mode in
     let keys = map string_bytes c.args.path.now in
-    let read = c.in-Ok.ensures.reads c.new-room.ensures.stands in
+    let read = c.in-Ok.ensures.parses c.new-room.ensures.stands in
     let same = c.in-Ok.ensures.base ∙ c.new-room.ensures.keys in
-    let none : None ≡ part_of c.read_document.new.room = sym (ap (option_map (λ part. part.items)) c.in-None.is) ∙ c.into_part.ensures in
+    let none : None ≡ part_of c.parse_text.new.room = sym (ap (option_map (λ part. part.items)) c.in-None.is) ∙ c.into_part.ensures in
     part_missing mode c.args.text.now keys (tree_of_source read.0) c.args.buf.now.items (source_parsed mode c.args.text.now read.0 read.2)
     (none ∙ read.1.part ∙ ap (λ ks. option_map tree_text (part_at ks (tree_of_source read.0))) same)
 
@@ -26,10 +26,10 @@ pub returns-in-Some-clause-ok : goal.returns-in-Some-clause-ok
 returns-in-Some-clause-ok c =
     let mode = mode_of c.args.mode in
     let keys = map string_bytes c.args.path.now in
-    let read = c.in-Ok.ensures.reads c.new-room.ensures.stands in
+    let read = c.in-Ok.ensures.parses c.new-room.ensures.stands in
     let parsed = source_parsed mode c.args.text.now read.0 read.2 in
     let same = c.in-Ok.ensures.base ∙ c.new-room.ensures.keys in
-    let some : Some c.in-Some.part.items ≡ part_of c.read_document.new.room = sym (ap (option_map (λ part. part.items)) c.in-Some.is) ∙ c.into_part.ensures in
+    let some : Some c.in-Some.part.items ≡ part_of c.parse_text.new.room = sym (ap (option_map (λ part. part.items)) c.in-Some.is) ∙ c.into_part.ensures in
     part_appended mode c.args.text.now keys (tree_of_source read.0) c.args.buf.now.items c.extend_from_slice.new.self.items c.in-Some.part.items parsed (text_there mode c.args.text.now (tree_of_source read.0) parsed.document)
     (some ∙ read.1.part ∙ ap (λ ks. option_map tree_text (part_at ks (tree_of_source read.0))) same) (search rules)
 
@@ -41,4 +41,4 @@ pub returns-then-is_err-clause-memory : goal.returns-then-is_err-clause-memory
 returns-then-is_err-clause-memory c = let may : MayAllocate c.args.text.now = search rules in λ _. inl may
 
 pub returns-in-Some-told-clause-rejects : goal.returns-in-Some-told-clause-rejects
-returns-in-Some-told-clause-rejects c = fault_rejects (mode_of c.args.mode) c.args.text.now c.in-Some-told.error (subst (λ told. Misses true told (source_of (mode_of c.args.mode) c.args.text.now)) c.in-Some-told.is (c.in-Err.ensures.reads c.new-room.ensures.stands))
+returns-in-Some-told-clause-rejects c = fault_rejects (mode_of c.args.mode) c.args.text.now c.in-Some-told.error (subst (λ told. Misses true told (source_of (mode_of c.args.mode) c.args.text.now)) c.in-Some-told.is (c.in-Err.ensures.parses c.new-room.ensures.stands))

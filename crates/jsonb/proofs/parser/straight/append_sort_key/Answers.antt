@@ -1,6 +1,6 @@
 use Rattle.std.proofs.Common.{rules, true, ◌++◌, inl, ap, subst, sym, ◌∙◌}
 use Rattle.jsonb_scan.specs.Answer.{Fails, MayAllocate, mode_of}
-use Rattle.jsonb_scan.specs.Reading.Document.{source_of}
+use Rattle.jsonb_scan.specs.Parsing.Document.{source_of}
 use Rattle.jsonb_spec.specs.Source.{tree_of_source}
 use Rattle.jsonb_write.specs.Members.{source_key}
 use Rattle.jsonb.specs.Handler.{Misses}
@@ -12,7 +12,7 @@ pub returns-in-Ok-clause-appends : goal.returns-in-Ok-clause-appends
 returns-in-Ok-clause-appends c =
     let mode = mode_of c.args.mode in
     let text = c.args.text.now in
-    let read = c.in-Ok.ensures.reads c.new-room.ensures.stands in
+    let read = c.in-Ok.ensures.parses c.new-room.ensures.stands in
     let parsed = source_parsed mode text read.0 read.2 in
     let before = same_only c.in-Ok.ensures.base ∙ c.new-room.ensures.base ∙ ap (λ v. v.items) c.replace-out.ensures.value in
     let bytes = c.into_buffer.ensures ∙ returned c.finish.result (sym c.is_err.ensures.value ∙ c.if-is_err.false) c.finish.ensures.ok text read.0 read.1 ∙ ap (λ front. front ++ source_key read.0) before in
@@ -26,7 +26,7 @@ returns-in-Ok-clause-appends c =
     }
 
 fault_told : (c : goal.In-Some) → Fails c.in-Some.error (source_of (mode_of c.args.mode) c.args.text.now)
-fault_told c = subst (λ told. Misses true told (source_of (mode_of c.args.mode) c.args.text.now)) c.in-Some.is (c.in-Err.ensures.reads c.new-room.ensures.stands)
+fault_told c = subst (λ told. Misses true told (source_of (mode_of c.args.mode) c.args.text.now)) c.in-Some.is (c.in-Err.ensures.parses c.new-room.ensures.stands)
 
 pub returns-in-Some-clause-rejects : goal.returns-in-Some-clause-rejects
 returns-in-Some-clause-rejects c = fault_rejects (mode_of c.args.mode) c.args.text.now c.in-Some.error (fault_told c)

@@ -1,6 +1,6 @@
 use Rattle.std.proofs.Common.{false, subst}
 use Rattle.jsonb_scan.specs.Answer.{Fails, mode_of}
-use Rattle.jsonb_scan.specs.Reading.Document.{source_of}
+use Rattle.jsonb_scan.specs.Parsing.Document.{source_of}
 use Rattle.jsonb_spec.specs.Source.{tree_of_source}
 use Rattle.jsonb.specs.Handler.{Misses}
 use Rattle.jsonb.proofs.Documents.Agreement.{fault_rejects}
@@ -9,11 +9,11 @@ use Rattle.jsonb.proofs.parser.straight.check.Goals as goal
 
 pub returns-in-Ok-clause-document : goal.returns-in-Ok-clause-document
 returns-in-Ok-clause-document c =
-    let read = c.in-Ok.ensures.reads c.new-room.ensures.stands in
+    let read = c.in-Ok.ensures.parses c.new-room.ensures.stands in
     (tree_of_source read.0, source_parsed (mode_of c.args.mode) c.args.text.now read.0 read.2)
 
 fault_told : (c : goal.After-drop-room-in-Some-3) → Fails c.in-Some.error (source_of (mode_of c.args.mode) c.args.text.now)
-fault_told c = subst (λ told. Misses false told (source_of (mode_of c.args.mode) c.args.text.now)) c.in-Some.is (c.in-Err.ensures.reads c.new-room.ensures.stands)
+fault_told c = subst (λ told. Misses false told (source_of (mode_of c.args.mode) c.args.text.now)) c.in-Some.is (c.in-Err.ensures.parses c.new-room.ensures.stands)
 
 pub returns-in-Some-clause-rejects : goal.returns-in-Some-clause-rejects
 returns-in-Some-clause-rejects c = fault_rejects (mode_of c.args.mode) c.args.text.now c.in-Some.error (fault_told c)

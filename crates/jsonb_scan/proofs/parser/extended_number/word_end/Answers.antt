@@ -1,5 +1,5 @@
 use Rattle.std.proofs.Common.{arith, sym, ap, ◌≡◌, ◌+◌, ◌∙◌, drop}
-use Rattle.jsonb_scan.specs.Reading.ExtendedNumber.{spelled_from}
+use Rattle.jsonb_scan.specs.Parsing.ExtendedNumber.{spelled_from}
 use Rattle.jsonb_scan.proofs.Scalars.WordLetters.{word_more, word_other, word_ended, word_done}
 use Rattle.jsonb_scan.proofs.parser.extended_number.word_end.Goals as goal
 

@@ -1,5 +1,5 @@
 use Rattle.std.proofs.Common.{◌≡◌, ◌+◌, ◌≤◌, length, drop}
-use Rattle.jsonb_scan.specs.Reading.ExtendedNumber.{spelled_from}
+use Rattle.jsonb_scan.specs.Parsing.ExtendedNumber.{spelled_from}
 use Rattle.jsonb_scan.proofs.parser.extended_number.word_end.Given as goal
 
 abbrev pub invariant-letters : goal.invariant-letters

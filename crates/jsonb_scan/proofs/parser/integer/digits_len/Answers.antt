@@ -1,6 +1,6 @@
 use Rattle.std.proofs.Common.{◌≡◌, ◌+◌, drop, drop-drop, ap, arith}
 use Rattle.std.proofs.lemmas.List.{take_rest}
-use Rattle.jsonb_scan.specs.Reading.Number.{digits_length}
+use Rattle.jsonb_scan.specs.Parsing.Number.{digits_length}
 use Rattle.jsonb_scan.proofs.Numbers.DigitRuns.{count_digits}
 use Rattle.jsonb_scan.proofs.parser.integer.digits_len.Goals as goal
 

@@ -1,5 +1,5 @@
 use Rattle.std.proofs.Common.{sym, subst, ap, arith}
-use Rattle.jsonb_scan.specs.Reading.Number.{ContinuesNumber, digits_length}
+use Rattle.jsonb_scan.specs.Parsing.Number.{ContinuesNumber, digits_length}
 use Rattle.jsonb_scan.proofs.Numbers.Kept.{kept_read}
 use Rattle.jsonb_scan.proofs.Numbers.Steps.{starts_here}
 use Rattle.jsonb_scan.proofs.parser.integer.kept_integer.Goals as goal

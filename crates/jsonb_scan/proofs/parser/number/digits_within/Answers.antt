@@ -1,5 +1,5 @@
 use Rattle.std.proofs.Common.{arith, refl}
-use Rattle.jsonb_scan.specs.Reading.Number.{digits_length}
+use Rattle.jsonb_scan.specs.Parsing.Number.{digits_length}
 use Rattle.jsonb_scan.proofs.Numbers.Steps.{digits_go_on, digits_end_here, adds_digit}
 use Rattle.jsonb_scan.proofs.parser.number.digits_within.Goals as goal
 

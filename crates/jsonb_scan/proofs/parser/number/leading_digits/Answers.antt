@@ -1,6 +1,6 @@
 use Rattle.std.proofs.Common.{arith, ◌≡◌, subst, sym, take}
 use Rattle.std.specs.Str.Parse.{AllDigits}
-use Rattle.jsonb_scan.specs.Reading.Number.{digits_length}
+use Rattle.jsonb_scan.specs.Parsing.Number.{digits_length}
 use Rattle.jsonb_scan.proofs.Numbers.Steps.{all_digits}
 use Rattle.jsonb_scan.proofs.parser.number.leading_digits.Goals as goal
 

@@ -6,26 +6,26 @@ use Rattle.jsonb_scan.specs.Decoding.{TellsBackslash}
 use Rattle.jsonb_scan.proofs.Strings.Bodies.{body-raw, body-raw_fault, body-decoded, reads_rejected}
 use Rattle.jsonb_scan.proofs.parser.string.decode_contents.Goals as goal
 
-pub returns-in_err-text-clause-reads : goal.returns-in_err-text-clause-reads
-returns-in_err-text-clause-reads c =
+pub returns-in_err-text-clause-parses : goal.returns-in_err-text-clause-parses
+returns-in_err-text-clause-parses c =
     let p = err_from_is_err_and c.from_residual.result c.from_residual.ensures.1 in
     rw (p.1, p.2) (reads_rejected (mode_of c.args.mode) c.args.body.now _ _ _ c.in_err-text.ensures.err)
 
-pub returns-then-escaped-clause-reads : goal.returns-then-escaped-clause-reads
-returns-then-escaped-clause-reads c =
+pub returns-then-escaped-clause-parses : goal.returns-then-escaped-clause-parses
+returns-then-escaped-clause-parses c =
     let mode = mode_of c.args.mode in
     let body = c.args.body.now in
     body-decoded mode body _ (subst (TellsBackslash body (length body)) c.if-escaped.true c.requires.escaped) c.in_ok-text.ensures.ok
 
-pub returns-in-Ok-clause-reads : goal.returns-in-Ok-clause-reads
-returns-in-Ok-clause-reads c =
+pub returns-in-Ok-clause-parses : goal.returns-in-Ok-clause-parses
+returns-in-Ok-clause-parses c =
     let mode = mode_of c.args.mode in
     let body = c.args.body.now in
     let text = c.in-Ok.ensures.cases in
     body-raw mode body (subst (TellsBackslash body (length body)) c.if-escaped.false c.requires.escaped) text.1 ∙ ap (λ (t : List ℕ). Ok (plain, t)) (sym text.0)
 
-pub returns-in-Err-clause-reads : goal.returns-in-Err-clause-reads
-returns-in-Err-clause-reads c =
+pub returns-in-Err-clause-parses : goal.returns-in-Err-clause-parses
+returns-in-Err-clause-parses c =
     let mode = mode_of c.args.mode in
     let body = c.args.body.now in
     (length body, body-raw_fault mode body (subst (TellsBackslash body (length body)) c.if-escaped.false c.requires.escaped) c.in-Err.ensures.cases.0, refl)

@@ -1,7 +1,7 @@
 use Rattle.std.proofs.Common.{◌≡◌, ◌+◌, ◌<◌, drop, get_or, sym, ap, subst, ◌∙◌, arith}
 use Rattle.std.specs.Int.{bit_at}
 use Rattle.std.proofs.lemmas.Nat.Bits.{bit_at-zero}
-use Rattle.jsonb_scan.specs.Reading.Whitespace.{block_length, longer_by}
+use Rattle.jsonb_scan.specs.Parsing.Whitespace.{block_length, longer_by}
 use Rattle.jsonb_scan.proofs.Text.Comments.{block_at, block_far, longer-longer}
 use Rattle.jsonb_scan.proofs.parser.whitespace.block_len.Goals as goal
 

@@ -3,15 +3,15 @@ use Rattle.jsonb.specs.Handler.{Misses}
 use Rattle.jsonb.specs.AstView.{ast_view}
 use Rattle.jsonb.specs.Source.{source_view}
 use Rattle.jsonb_scan.specs.Answer.{Fails, mode_of}
-use Rattle.jsonb_scan.specs.Reading.Document.{source_of}
+use Rattle.jsonb_scan.specs.Parsing.Document.{source_of}
 use Rattle.jsonb.proofs.Documents.Agreement.{gives_all, gives_source, gives_tree}
 use Rattle.jsonb.proofs.parser.ast.JsonAst.parse.Goals as goal
 
 source_given : (c : goal.In-Ok) → source_of (mode_of c.args.mode) c.args.buf.now ≡ Ok (source_view c.in-Ok.tree)
-source_given c = let read = c.in-Ok.ensures.reads tt in read.2 ∙ ap (λ s. Ok s) (sym read.1.0)
+source_given c = let read = c.in-Ok.ensures.parses tt in read.2 ∙ ap (λ s. Ok s) (sym read.1.0)
 
 fault_told : (c : goal.In-Some) → Fails c.in-Some.error (source_of (mode_of c.args.mode) c.args.buf.now)
-fault_told c = subst (λ told. Misses false told (source_of (mode_of c.args.mode) c.args.buf.now)) c.in-Some.is (c.in-Err.ensures.reads tt)
+fault_told c = subst (λ told. Misses false told (source_of (mode_of c.args.mode) c.args.buf.now)) c.in-Some.is (c.in-Err.ensures.parses tt)
 
 pub returns-in-Ok-clause-source : goal.returns-in-Ok-clause-source
 returns-in-Ok-clause-source c = gives_source (mode_of c.args.mode) c.args.buf.now (Ok c.in-Ok.tree) (source_given c)

@@ -1,5 +1,5 @@
 use Rattle.std.proofs.Common.{ap, ◌∙◌, Ok}
-use Rattle.jsonb_scan.specs.Reading.ExtendedNumber.{decimal_to, decimal_scan}
+use Rattle.jsonb_scan.specs.Parsing.ExtendedNumber.{decimal_to, decimal_scan}
 use Rattle.jsonb_scan.proofs.parser.extended_number.decimal.scan_decimal.Goals as goal
 
 pub returns-in-Ok-clause-scan : goal.returns-in-Ok-clause-scan

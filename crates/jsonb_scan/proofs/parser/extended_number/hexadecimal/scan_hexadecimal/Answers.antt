@@ -1,6 +1,6 @@
 use Rattle.std.proofs.Common.{sym, ap, ◌∙◌, take, ◌+◌}
 use Rattle.std.proofs.lemmas.List.{take_rest}
-use Rattle.jsonb_scan.specs.Reading.ExtendedNumber.{fraction_scan}
+use Rattle.jsonb_scan.specs.Parsing.ExtendedNumber.{fraction_scan}
 use Rattle.jsonb_scan.specs.ScannedNumber.{number_views}
 use Rattle.jsonb_scan.proofs.Numbers.HexadecimalAnswers.{digits_of_length, fits_is, hexadecimal_without_digits, hexadecimal_with_point, hexadecimal_past, hexadecimal_whole_at}
 use Rattle.jsonb_scan.proofs.parser.extended_number.hexadecimal.scan_hexadecimal.Goals as goal

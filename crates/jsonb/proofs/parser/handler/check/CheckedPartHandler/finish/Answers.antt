@@ -1,7 +1,7 @@
 use Rattle.std.proofs.Common.{map, ap, subst}
 use Rattle.std.specs.Prelude.{MatchOption}
 use Rattle.jsonb.specs.Held.{key_held}
-use Rattle.jsonb_scan.specs.Reading.Container.{object_or_fault}
+use Rattle.jsonb_scan.specs.Parsing.Container.{object_or_fault}
 use Rattle.jsonb_spec.specs.Source.{object_source_of}
 use Rattle.jsonb_write.specs.CheckRoom.{EndsObject, TellsRepeatOf}
 use Rattle.jsonb.proofs.parser.handler.check.CheckedPartHandler.finish.Goals as goal

@@ -1,7 +1,7 @@
 use Rattle.std.proofs.Common.{true, map, ap, subst}
 use Rattle.std.specs.Prelude.{MatchOption}
 use Rattle.jsonb.specs.Held.{text_held}
-use Rattle.jsonb_scan.specs.Reading.Container.{object_or_fault}
+use Rattle.jsonb_scan.specs.Parsing.Container.{object_or_fault}
 use Rattle.jsonb_spec.specs.Source.{first_repeat, object_source_of, spot_of}
 use Rattle.jsonb_write.specs.TextRoom.{EndsObject, TellsRepeatOf}
 use Rattle.jsonb.proofs.Steps.Failures.{tells_always}

@@ -8,7 +8,7 @@ use Rattle.jsonb_spec.specs.Ascii as ascii
 use Rattle.jsonb_spec.specs.Code.{invalid_number_value, number_not_carried}
 use Rattle.jsonb_spec.specs.Grammar.StandardNumber.{IsExponentMark}
 use Rattle.jsonb_spec.specs.Tree.{int64, uint64, Num}
-use Rattle.jsonb_scan.specs.Reading.{Read, fault}
+use Rattle.jsonb_scan.specs.Parsing.{Parse, fault}
 
 -- ---- where a number text ends
 
@@ -16,7 +16,7 @@ use Rattle.jsonb_scan.specs.Reading.{Read, fault}
 abbrev pub End : Type 0
 End = Result ℕ ℕ
 
--- the end, and what is read from there on
+-- the end, and what is parsed from there on
 abbrev pub then_from : End → (ℕ → End) → End
 then_from (Ok end) f = f end
 then_from (Err place) f = Err place
@@ -89,16 +89,16 @@ integer_at bytes end = if digits_from bytes (whole_start bytes) == end
     then integer_of (has_minus bytes) (digits_value 10 (whole_digits bytes)) else None
 
 -- the number and the bytes after it; without a number the fault at these
-abbrev pub representable_at : ℕ → List ℕ → Option Num → Read Num
+abbrev pub representable_at : ℕ → List ℕ → Option Num → Parse Num
 representable_at size rest (Some n) = Ok (n, rest)
 representable_at size rest None = fault number_not_carried (size - length rest)
 
-abbrev pub number_to : ℕ → List ℕ → End → Read Num
+abbrev pub number_to : ℕ → List ℕ → End → Parse Num
 number_to size bytes (Ok end) = representable_at size (drop end bytes) (integer_at bytes end)
 number_to size bytes (Err place) = fault invalid_number_value (size - length bytes + place)
 
 -- the number of the longest standard number text that the bytes begin with
-unfoldable pub standard_number_at : ℕ → List ℕ → Read Num
+unfoldable pub standard_number_at : ℕ → List ℕ → Parse Num
 standard_number_at size bytes = number_to size bytes (standard_end bytes)
 
 -- ---- the bytes around a number

@@ -2,7 +2,7 @@
 use Rattle.std.specs.Prelude.{ℕ, zero, suc, ◌+◌, ◌-◌, Bool, false, ◌||◌, ◌&&◌, List, [], ◌∷◌, ◌==◌, if◌then◌else◌}
 use Rattle.jsonb_spec.specs.Ascii as ascii
 use Rattle.jsonb_spec.specs.Mode.{Mode, standard, extended}
-use Rattle.jsonb_scan.specs.Reading.{on_byte, begins}
+use Rattle.jsonb_scan.specs.Parsing.{on_byte, begins}
 
 -- a byte at which whitespace may begin
 abbrev pub is_whitespace_start : ℕ → Bool

@@ -5,8 +5,8 @@ use Rattle.std.specs.Char.{is_ascii_digit, is_ascii_alphanumeric}
 use Rattle.jsonb_spec.specs.Ascii as ascii
 use Rattle.jsonb_spec.specs.Tree.{Mark, plain}
 use Rattle.jsonb_spec.specs.Code.{invalid_eof, invalid_string_value, object_key_invalid_number, object_key_invalid_character}
-use Rattle.jsonb_scan.specs.Reading.{Read, fault}
-use Rattle.jsonb_scan.specs.Reading.String.{further}
+use Rattle.jsonb_scan.specs.Parsing.{Parse, fault}
+use Rattle.jsonb_scan.specs.Parsing.String.{further}
 
 -- a letter or a digit of ASCII, `_` or `$`
 abbrev pub is_key_ascii : ℕ → Bool
@@ -34,17 +34,17 @@ abbrev pub key_end : List ℕ → Result ℕ ℕ
 key_end bytes = key_from 0 bytes
 
 -- the key of so many bytes, where they are text
-abbrev pub text_key : ℕ → List ℕ → ℕ → Read (Mark × List ℕ)
+abbrev pub text_key : ℕ → List ℕ → ℕ → Parse (Mark × List ℕ)
 text_key size bytes end = if is_utf8 (take end bytes) then Ok ((plain, take end bytes), drop end bytes)
     else fault invalid_string_value (size - length bytes + end)
 
-abbrev pub key_to : ℕ → List ℕ → Result ℕ ℕ → Read (Mark × List ℕ)
+abbrev pub key_to : ℕ → List ℕ → Result ℕ ℕ → Parse (Mark × List ℕ)
 key_to size bytes (Ok end) = if (end == 0) || nat_le ascii.end (slice_index bytes end)
     then fault object_key_invalid_character (size - length bytes + end) else text_key size bytes end
 key_to size bytes (Err at) = fault invalid_eof (size - length bytes + at)
 
 -- a bare key
-unfoldable pub bare_key_at : ℕ → List ℕ → Read (Mark × List ℕ)
+unfoldable pub bare_key_at : ℕ → List ℕ → Parse (Mark × List ℕ)
 bare_key_at size [] = fault invalid_eof size
 bare_key_at size (b ∷ bytes) = if is_ascii_digit b
     then fault object_key_invalid_number (size - length (b ∷ bytes) + 1)

@@ -1,6 +1,6 @@
 use Rattle.jsonb.proofs.Documents.Spellings.{derived_unique, document_unique}
 use Rattle.jsonb.proofs.Containers.LongerSpellings.{both_numbers}
-use Rattle.jsonb.proofs.laws.one_reading.Goals as goal
+use Rattle.jsonb.proofs.laws.grammar_is_unambiguous.Goals as goal
 
 pub returns-clause-tree : goal.returns-clause-tree
 returns-clause-tree c = document_unique

@@ -6,25 +6,25 @@ use Rattle.jsonb_spec.specs.Tree.{Tree}
 use Rattle.jsonb_spec.specs.Code.{invalid_eof, unexpected_trailing_characters, depth_limit_exceeded}
 use Rattle.jsonb_spec.specs.Grammar.{max_depth}
 use Rattle.jsonb_spec.specs.Source.{Source, null_source, source_alone, tree_of_source}
-use Rattle.jsonb_scan.specs.Reading.{Fault, Read, ◌>>=◌, on_byte, begins, fault}
-use Rattle.jsonb_scan.specs.Reading.Whitespace.{opens_comment, skip_closed_whitespace}
-use Rattle.jsonb_scan.specs.Reading.Scalar.{scalar_at}
-use Rattle.jsonb_scan.specs.Reading.Container.{array_at, object_at}
+use Rattle.jsonb_scan.specs.Parsing.{Fault, Parse, ◌>>=◌, on_byte, begins, fault}
+use Rattle.jsonb_scan.specs.Parsing.Whitespace.{opens_comment, skip_closed_whitespace}
+use Rattle.jsonb_scan.specs.Parsing.Scalar.{scalar_at}
+use Rattle.jsonb_scan.specs.Parsing.Container.{array_at, object_at}
 
 -- a value that holds no others
-abbrev pub alone_at : Read Tree → Read Source
+abbrev pub alone_at : Parse Tree → Parse Source
 alone_at read = read >>= λ x. Ok (source_alone x.0, x.1)
 
-abbrev pub value_with : ℕ → Mode → (List ℕ → Read Source) → (List ℕ → Read Source) → List ℕ → Read Source
+abbrev pub value_with : ℕ → Mode → (List ℕ → Parse Source) → (List ℕ → Parse Source) → List ℕ → Parse Source
 value_with size mode array object bytes =
     on_byte ascii.open_bracket bytes array
     (on_byte ascii.open_brace bytes object (alone_at (scalar_at size mode bytes)))
 
-abbrev pub too_deep : ℕ → List ℕ → Read Source
+abbrev pub too_deep : ℕ → List ℕ → Parse Source
 too_deep size rest = fault depth_limit_exceeded (size - length rest)
 
 -- a value that begins here, with arrays and objects nested no deeper than the number
-unfoldable pub value_at : ℕ → Mode → ℕ → List ℕ → Read Source
+unfoldable pub value_at : ℕ → Mode → ℕ → List ℕ → Parse Source
 value_at size mode zero = value_with size mode (too_deep size) (too_deep size)
 value_at size mode (suc depth) =
     value_with size mode (array_at size mode (value_at size mode depth))

@@ -8,15 +8,15 @@ use Rattle.jsonb_spec.specs.Code.{Code, invalid_eof, invalid_number_value, expec
 use Rattle.jsonb_spec.specs.Grammar.ExtendedNumber.{decimal_number, hexadecimal_number}
 use Rattle.jsonb_spec.specs.Number.Signed.{signed_by}
 use Rattle.jsonb_spec.specs.Tree.{Num}
-use Rattle.jsonb_scan.specs.Reading.{Read, fault}
-use Rattle.jsonb_scan.specs.Reading.Number.{End, ContinuesAfterInteger, sign_end, digits_from, exponent_from, representable_at, is_number_start}
+use Rattle.jsonb_scan.specs.Parsing.{Parse, fault}
+use Rattle.jsonb_scan.specs.Parsing.Number.{End, ContinuesAfterInteger, sign_end, digits_from, exponent_from, representable_at, is_number_start}
 
 -- A number text's number, if a form holds it, and the index after the text; or the fault and its place.
 abbrev pub Scanned : Type 0
 Scanned = Result (Option Num × ℕ) (Code × ℕ)
 
 -- the number and the bytes after it, or a fault
-abbrev pub scanned_to : ℕ → List ℕ → Scanned → Read Num
+abbrev pub scanned_to : ℕ → List ℕ → Scanned → Parse Num
 scanned_to size bytes (Ok x) = representable_at size (drop x.1 bytes) x.0
 scanned_to size bytes (Err f) = fault f.0 (size - length bytes + f.1)
 
@@ -71,7 +71,7 @@ precision_at bytes = front_end bytes - zeros_end bytes + scale_at bytes
 abbrev pub lacks_digits : List ℕ → Bool
 lacks_digits bytes = front_end bytes - core_start bytes + scale_at bytes == 0
 
--- whether a second point follows, before so many digits were read that it ends the number
+-- whether a second point follows, before so many digits were parsed that it ends the number
 abbrev pub has_second_point : List ℕ → Bool
 has_second_point bytes = nat_lt (front_end bytes) (point_end bytes)
     && (nat_lt (precision_at bytes) 76 && (slice_index bytes (behind_end bytes) == ascii.point))
@@ -190,7 +190,7 @@ extended_scan bytes =
     else decimal_scan bytes)
 
 -- the number of the longest extended number text that the bytes begin with
-unfoldable pub extended_number_at : ℕ → List ℕ → Read Num
+unfoldable pub extended_number_at : ℕ → List ℕ → Parse Num
 extended_number_at size bytes = scanned_to size bytes (extended_scan bytes)
 
 -- ---- the bytes around a number

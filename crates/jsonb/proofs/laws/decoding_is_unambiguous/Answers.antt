@@ -1,5 +1,5 @@
 use Rattle.jsonb_value.proofs.Strings.Exclusion.{decodes_one, fault_excludes}
-use Rattle.jsonb.proofs.laws.one_decoding.Goals as goal
+use Rattle.jsonb.proofs.laws.decoding_is_unambiguous.Goals as goal
 
 pub returns-clause-text : goal.returns-clause-text
 returns-clause-text c = decodes_one

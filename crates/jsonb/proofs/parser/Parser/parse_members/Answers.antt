@@ -8,33 +8,33 @@ use Rattle.jsonb_spec.specs.Tree.{Mark}
 use Rattle.jsonb_spec.specs.Tree.Mark.{plain}
 use Rattle.jsonb_spec.specs.Code.Code.{expected_object_comma_or_end}
 use Rattle.jsonb_scan.specs.Answer.{mode_of}
-use Rattle.jsonb_scan.specs.Reading.{◌>>=◌}
-use Rattle.jsonb_scan.specs.Reading.Whitespace.{skip_whitespace}
-use Rattle.jsonb_scan.specs.Reading.Scalar.{scalar_at}
+use Rattle.jsonb_scan.specs.Parsing.{◌>>=◌}
+use Rattle.jsonb_scan.specs.Parsing.Whitespace.{skip_whitespace}
+use Rattle.jsonb_scan.specs.Parsing.Scalar.{scalar_at}
 use Rattle.jsonb_spec.specs.Source.{Found, found_member, source_alone}
-use Rattle.jsonb.specs.Parser.{read_at, rest_of, size_of}
-use Rattle.jsonb.specs.Stack.{member_start, next_part_at, part_end, read_members_from}
+use Rattle.jsonb.specs.Parser.{parse_at, rest_of, size_of}
+use Rattle.jsonb.specs.Stack.{member_start, next_part_at, part_end, object_members_from}
 use Rattle.jsonb_scan.specs.Open.{Open}
 use Rattle.jsonb_scan.specs.Open.{elements_so_far, members_so_far}
 use Rattle.jsonb.proofs.Containers.Frames.{after_member, member_due, member_turn, same_end, waits}
 use Rattle.jsonb.proofs.Steps.Advancing.{goes_on, stays}
 use Rattle.jsonb.proofs.Steps.Failures.{misses_same, misses_through, tells_always}
-use Rattle.jsonb.proofs.parser.Parser.read_members.Goals as goal
+use Rattle.jsonb.proofs.parser.Parser.parse_members.Goals as goal
 
 pub returns-in_err-key : goal.returns-in_err-key
 returns-in_err-key g c =
     record {
-      reads = λ depth o fs cs fits held.
+      parses = λ depth o fs cs fits held.
           let p = c.args.self.now in
           let l = c.members.self in
           let i = c.members.invariant in
-          let so_far = i.reads depth o fs cs fits held in
+          let so_far = i.parses depth o fs cs fits held in
           let silent = g.V.Handler.silent in
           let t = c.begin_member.new.self.told in
           let residual = err_from_is_err_and c.from_residual.result c.from_residual.ensures.1 in
-          rw (residual.1) (misses_same silent t (read_at member_start l >>= waits p depth so_far.0) (next_part_at (size_of p) (mode_of p.mode) depth o (rest_of p))
+          rw (residual.1) (misses_same silent t (parse_at member_start l >>= waits p depth so_far.0) (next_part_at (size_of p) (mode_of p.mode) depth o (rest_of p))
           (so_far.4 ∙ member_due p l depth so_far.0 i.advances)
-          (misses_through silent t (read_at member_start l) (waits p depth so_far.0) c.in_err-key.ensures.reads));
+          (misses_through silent t (parse_at member_start l) (waits p depth so_far.0) c.in_err-key.ensures.parses));
       onward = search rules;
       opens = search rules;
       advances = search rules;
@@ -43,17 +43,17 @@ returns-in_err-key g c =
 pub returns-then-begins_container : goal.returns-then-begins_container
 returns-then-begins_container g c =
     record {
-      reads = λ depth o fs cs fits held.
+      parses = λ depth o fs cs fits held.
           let p = c.args.self.now in
           let i = c.members.invariant in
-          let so_far = i.reads depth o fs cs fits held in
-          let key = c.in_ok-key.ensures.reads in
+          let so_far = i.parses depth o fs cs fits held in
+          let key = c.in_ok-key.ensures.parses in
           let begun = subst (λ b. Begins (g.V.Handler.stands b.now) c.members.room c.members.object c.begin_member.new.room c.begin_member.new.object c.in_ok-key.key key.0.0 key.0.1) c.members.invariant.advances.buf key.1 in
           record {
             so_far = members_so_far so_far.0 key.0.0 key.0.1;
             fits = tt;
             held = begun so_far.0 so_far.1 so_far.2 fs cs so_far.3;
-            reads = so_far.4 ∙ member_due p c.members.self depth so_far.0 i.advances ∙ ap (λ x. x >>= waits p depth so_far.0) key.2;
+            parses = so_far.4 ∙ member_due p c.members.self depth so_far.0 i.advances ∙ ap (λ x. x >>= waits p depth so_far.0) key.2;
           };
       onward = search rules;
       opens = search rules;
@@ -63,21 +63,21 @@ returns-then-begins_container g c =
 pub returns-in_err-insert_scalar : goal.returns-in_err-insert_scalar
 returns-in_err-insert_scalar g c =
     record {
-      reads = λ depth o fs cs fits held.
+      parses = λ depth o fs cs fits held.
           let p = c.args.self.now in
           let l = c.members.self in
           let s = c.begin_member.new.self in
           let i = c.members.invariant in
-          let so_far = i.reads depth o fs cs fits held in
-          let key = c.in_ok-key.ensures.reads in
+          let so_far = i.parses depth o fs cs fits held in
+          let key = c.in_ok-key.ensures.parses in
           let silent = g.V.Handler.silent in
           let t = c.insert_scalar.new.self.told in
           let on = goes_on p l s i.advances c.begin_member.ensures.advances.parser in
           let residual = err_from_is_err_and c.from_residual-in_err-insert_scalar.result c.from_residual-in_err-insert_scalar.ensures.1 in
-          rw (residual.1) (misses_same silent t (read_at scalar_at s >>= after_member p depth so_far.0 key.0.0 key.0.1) (next_part_at (size_of p) (mode_of p.mode) depth o (rest_of p))
+          rw (residual.1) (misses_same silent t (parse_at scalar_at s >>= after_member p depth so_far.0 key.0.0 key.0.1) (next_part_at (size_of p) (mode_of p.mode) depth o (rest_of p))
           (so_far.4 ∙ member_due p l depth so_far.0 i.advances ∙ ap (λ x. x >>= waits p depth so_far.0) key.2
           ∙ member_turn p s depth so_far.0 key.0.0 key.0.1 on c.if-begins_container.ensures.other.0 c.if-begins_container.ensures.other.1)
-          (misses_through silent t (read_at scalar_at s) (after_member p depth so_far.0 key.0.0 key.0.1) c.in_err-insert_scalar.ensures.reads));
+          (misses_through silent t (parse_at scalar_at s) (after_member p depth so_far.0 key.0.0 key.0.1) c.in_err-insert_scalar.ensures.parses));
       onward = search rules;
       opens = search rules;
       advances = search rules;
@@ -86,15 +86,15 @@ returns-in_err-insert_scalar g c =
 pub returns-in_err-end_member : goal.returns-in_err-end_member
 returns-in_err-end_member g c =
     record {
-      reads = λ depth o fs cs fits held.
+      parses = λ depth o fs cs fits held.
           let p = c.args.self.now in
           let l = c.members.self in
           let s = c.begin_member.new.self in
           let q = c.insert_scalar.new.self in
           let i = c.members.invariant in
-          let so_far = i.reads depth o fs cs fits held in
-          let key = c.in_ok-key.ensures.reads in
-          let put = c.in_ok-insert_scalar.ensures.reads in
+          let so_far = i.parses depth o fs cs fits held in
+          let key = c.in_ok-key.ensures.parses in
+          let put = c.in_ok-insert_scalar.ensures.parses in
           let silent = g.V.Handler.silent in
           let t = c.end_member.new.self.told in
           let on = goes_on p l s i.advances c.begin_member.ensures.advances.parser in
@@ -106,7 +106,7 @@ returns-in_err-end_member g c =
           ∙ member_turn p s depth so_far.0 key.0.0 key.0.1 on c.if-begins_container.ensures.other.0 c.if-begins_container.ensures.other.1
           ∙ ap (λ x. x >>= after_member p depth so_far.0 key.0.0 key.0.1) put.1
           ∙ ap (λ x. x >>= λ y. resume_part (size_of p) (mode_of p.mode) depth y.0 more y.1) (sym (same_end p q expected_object_comma_or_end 125 (goes_on p s q on c.insert_scalar.ensures.advances.parser))))
-          (misses_through silent t ends (λ y. resume_part (size_of p) (mode_of p.mode) depth y.0 more y.1) (tells_always silent t ends c.in_err-end_member.ensures.reads)));
+          (misses_through silent t ends (λ y. resume_part (size_of p) (mode_of p.mode) depth y.0 more y.1) (tells_always silent t ends c.in_err-end_member.ensures.parses)));
       onward = search rules;
       opens = search rules;
       advances = search rules;
@@ -115,18 +115,18 @@ returns-in_err-end_member g c =
 pub returns-then-branch : goal.returns-then-branch
 returns-then-branch g c =
     record {
-      reads = λ depth o fs cs fits held.
+      parses = λ depth o fs cs fits held.
           let p = c.args.self.now in
           let l = c.members.self in
           let s = c.begin_member.new.self in
           let q = c.insert_scalar.new.self in
           let r = c.end_member.new.self in
           let i = c.members.invariant in
-          let so_far = i.reads depth o fs cs fits held in
-          let key = c.in_ok-key.ensures.reads in
+          let so_far = i.parses depth o fs cs fits held in
+          let key = c.in_ok-key.ensures.parses in
           let begun = subst (λ b. Begins (g.V.Handler.stands b.now) c.members.room c.members.object c.begin_member.new.room c.begin_member.new.object c.in_ok-key.key key.0.0 key.0.1) c.members.invariant.advances.buf key.1 in
-          let put = c.in_ok-insert_scalar.ensures.reads in
-          let ended = c.in_ok-end_member.ensures.reads in
+          let put = c.in_ok-insert_scalar.ensures.parses in
+          let ended = c.in_ok-end_member.ensures.parses in
           let on = goes_on p l s i.advances c.begin_member.ensures.advances.parser in
           let all = so_far.0 ++ found_member key.0.0 (source_alone put.0) key.0.1 ∷ [] in
           let more = members_so_far all (plain, []) 0 in
@@ -137,7 +137,7 @@ returns-then-branch g c =
             so_far = more;
             fits = tt;
             held = inserted;
-            reads =
+            parses =
                 so_far.4 ∙ member_due p l depth so_far.0 i.advances ∙ ap (λ x. x >>= waits p depth so_far.0) key.2
                 ∙ member_turn p s depth so_far.0 key.0.0 key.0.1 on c.if-begins_container.ensures.other.0 c.if-begins_container.ensures.other.1
                 ∙ ap (λ x. x >>= after_member p depth so_far.0 key.0.0 key.0.1) put.1
@@ -155,10 +155,10 @@ members-init g c =
     record {
       advances = stays p;
       base = refl;
-      reads = begun;
+      parses = begun;
     }
   where
-    begun : (depth : ℕ) (o : Open) (fs : List (Frame g.row.V-Items.Denot g.row.V-Members.Denot g.row.V-Key.Denot)) (cs : List Open) → IsObject o → g.V.Handler.stands c.args.self.now.buf.now c.args.room.now false (variants.Object c.args.object.now ∷ fs) (o ∷ cs) → (ms : List Found) × (k : Mark × List ℕ) × (place : ℕ) × g.V.Handler.stands c.args.self.now.buf.now c.args.room.now false (variants.Object c.args.object.now ∷ fs) (members_so_far ms k place ∷ cs) × (next_part_at (size_of c.args.self.now) (mode_of c.args.self.now.mode) depth o (rest_of c.args.self.now) ≡ read_members_from (size_of c.args.self.now) (mode_of c.args.self.now.mode) depth ms (rest_of c.args.self.now))
+    begun : (depth : ℕ) (o : Open) (fs : List (Frame g.row.V-Items.Denot g.row.V-Members.Denot g.row.V-Key.Denot)) (cs : List Open) → IsObject o → g.V.Handler.stands c.args.self.now.buf.now c.args.room.now false (variants.Object c.args.object.now ∷ fs) (o ∷ cs) → (ms : List Found) × (k : Mark × List ℕ) × (place : ℕ) × g.V.Handler.stands c.args.self.now.buf.now c.args.room.now false (variants.Object c.args.object.now ∷ fs) (members_so_far ms k place ∷ cs) × (next_part_at (size_of c.args.self.now) (mode_of c.args.self.now.mode) depth o (rest_of c.args.self.now) ≡ object_members_from (size_of c.args.self.now) (mode_of c.args.self.now.mode) depth ms (rest_of c.args.self.now))
     begun depth (elements_so_far ss) fs cs fits held = absurd fits
     begun depth (members_so_far ms k place) fs cs fits held = (ms, k, place, held, refl)
 
@@ -170,17 +170,17 @@ members-preserved g c =
     let q = c.insert_scalar.new.self in
     let r = c.end_member.new.self in
     let i = c.members.invariant in
-    let key = c.in_ok-key.ensures.reads in
+    let key = c.in_ok-key.ensures.parses in
     let begun = subst (λ b. Begins (g.V.Handler.stands b.now) c.members.room c.members.object c.begin_member.new.room c.begin_member.new.object c.in_ok-key.key key.0.0 key.0.1) c.members.invariant.advances.buf key.1 in
-    let put = c.in_ok-insert_scalar.ensures.reads in
-    let ended = c.in_ok-end_member.ensures.reads in
+    let put = c.in_ok-insert_scalar.ensures.parses in
+    let ended = c.in_ok-end_member.ensures.parses in
     let on = goes_on p l s i.advances c.begin_member.ensures.advances.parser in
     let onto = goes_on p q r (goes_on p s q on c.insert_scalar.ensures.advances.parser) c.end_member.ensures.advances in
     record {
       advances = onto;
       base = c.insert_scalar.ensures.advances.base ∙ c.begin_member.ensures.advances.base ∙ i.base;
-      reads = λ depth o fs cs fits held.
-          let so_far = i.reads depth o fs cs fits held in
+      parses = λ depth o fs cs fits held.
+          let so_far = i.parses depth o fs cs fits held in
           let all = so_far.0 ++ found_member key.0.0 (source_alone put.0) key.0.1 ∷ [] in
           let more = members_so_far all (plain, []) 0 in
           let h = g.V.Handler in

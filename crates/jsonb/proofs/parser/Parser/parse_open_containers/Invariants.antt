@@ -3,10 +3,10 @@ use Rattle.jsonb_spec.specs.Grammar.{max_depth}
 use Rattle.jsonb.specs.Frames.{AtPart}
 use Rattle.jsonb_scan.specs.Answer.{mode_of}
 use Rattle.jsonb.specs.Parser.{Advances, rest_of, size_of}
-use Rattle.jsonb_scan.specs.Reading.Document.{value_at}
-use Rattle.jsonb.proofs.parser.Parser.read_container.Given as goal
+use Rattle.jsonb_scan.specs.Parsing.Document.{value_at}
+use Rattle.jsonb.proofs.parser.Parser.parse_open_containers.Given as goal
 
--- what is read of the whole is what is left to read inside of the open containers
+-- what is parsed of the whole is what is left to parse inside of the open containers
 abbrev pub invariant-turns : goal.invariant-turns
 invariant-turns g l =
     let p = l.fn.self in record {

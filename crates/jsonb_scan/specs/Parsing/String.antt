@@ -9,11 +9,11 @@ use Rattle.jsonb_spec.specs.Code.{Code, invalid_eof, invalid_string_value, inval
 use Rattle.jsonb_spec.specs.Grammar.StringBody.{Item, raw, escape, unit, after_u, spelling, escaped_byte, meaning}
 use Rattle.jsonb_value.specs.StringStep.{item_step}
 use Rattle.jsonb_spec.specs.Grammar.Quoted.{mark_of}
-use Rattle.jsonb_scan.specs.Reading.{Read, fault}
+use Rattle.jsonb_scan.specs.Parsing.{Parse, fault}
 
 -- ---- the body
 
--- What is read of a body, or a code and how many bytes are read then.
+-- What is parsed of a body, or a code and how many bytes are parsed then.
 abbrev pub Body : Type 0 → Type 0
 Body A = Result A (Code × ℕ)
 
@@ -98,14 +98,14 @@ quote_end quote bytes = quote_from quote 0 bytes
 -- ---- the whole, from the byte after the opening quote on
 
 -- where the body ends after so many bytes
-abbrev pub string_of_body : ℕ → List ℕ → ℕ → Body (Mark × List ℕ) → Read (Mark × List ℕ)
+abbrev pub string_of_body : ℕ → List ℕ → ℕ → Body (Mark × List ℕ) → Parse (Mark × List ℕ)
 string_of_body size bytes end (Ok x) = Ok (x, drop (end + 1) bytes)
 string_of_body size bytes end (Err f) = fault f.0 (size - length bytes + 1 + f.1)
 
-abbrev pub string_up_to : ℕ → Mode → List ℕ → Result ℕ ℕ → Read (Mark × List ℕ)
+abbrev pub string_up_to : ℕ → Mode → List ℕ → Result ℕ ℕ → Parse (Mark × List ℕ)
 string_up_to size mode bytes (Ok end) = string_of_body size bytes end (body_of mode (take end bytes))
 string_up_to size mode bytes (Err at) = fault invalid_eof (size - length bytes + at)
 
 -- a string in these quotes
-unfoldable pub string_at : ℕ → Mode → ℕ → List ℕ → Read (Mark × List ℕ)
+unfoldable pub string_at : ℕ → Mode → ℕ → List ℕ → Parse (Mark × List ℕ)
 string_at size mode quote bytes = string_up_to size mode bytes (quote_end quote bytes)

@@ -16,9 +16,9 @@ pub record Fault : Type 0 where
   pub code : Code
   pub place : ℕ
 
--- what is read and the bytes after it, or a fault
-abbrev pub Read : Type 0 → Type 0
-Read A = Result (A × List ℕ) Fault
+-- what is parsed and the bytes after it, or a fault
+abbrev pub Parse : Type 0 → Type 0
+Parse A = Result (A × List ℕ) Fault
 
 infixl 10 ◌>>=◌
 abbrev pub ◌>>=◌ : {A B : Type 0} → Result A Fault → (A → Result B Fault) → Result B Fault
