@@ -5,3 +5,4 @@ pub mod FirstBytes
 pub mod KeptIntegers
 pub mod Spelled
 pub mod Spellings
+pub mod Starts

@@ -10,4 +10,5 @@ pub mod Explained
 pub mod Source
 pub mod SourceLaws
 pub mod Stack
+pub mod Start
 pub mod Steps

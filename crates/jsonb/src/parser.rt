@@ -26,6 +26,7 @@ mod members;
 mod number;
 mod part;
 mod scalar;
+mod start;
 mod straight;
 mod string;
 mod value;

@@ -2,7 +2,7 @@
 use Rattle.std.proofs.Common.{◌≡◌, ◌≢◌, pos, neg_ℤ, ◌+◌, ◌-◌, ℕ, true, false, List, [], ◌∷◌, ◌++◌, codes, length, Option, Some, Result, Ok, Err, IfOk, IfErr, refl, ap, sym, subst, ◌∙◌, arith, length-drop, length-append, append_assoc, drop, ◌<◌, take, slice_range, ap₂, Bool, OnOk, IfOk, eqb, true≢false, inl, inr}
 use Rattle.std.specs.Prelude.{slice_index}
 use Rattle.std.proofs.Math.Seq.{take-append_seam}
-use Rattle.std.proofs.lemmas.Bool.{cases_Bool, cond-false, cond-true, eqb-true}
+use Rattle.std.proofs.lemmas.Bool.{cases_Bool, cond-false, eqb-true}
 use Rattle.jsonb_value.specs.declared.error.Error.{Error}
 use Rattle.jsonb_value.specs.declared.error.Error.TheVariants.{Syntax, OutOfMemory}
 use Rattle.jsonb_spec.specs.Mode.{Mode, standard, extended}
@@ -13,7 +13,7 @@ use Rattle.jsonb_scan.specs.Answer.{Fails, mode_of}
 use Rattle.jsonb_scan.specs.Parsing.{Fault, Parse, begins, ◌>>=◌}
 use Rattle.jsonb_scan.specs.Parsing.ExtendedNumber.{extended_number_at}
 use Rattle.jsonb_scan.specs.Parsing.Number.{is_number_start, standard_number_at}
-use Rattle.jsonb_scan.specs.Parsing.Scalar.{begins_letter, begins_number, false_at, letters_at, null_at, number_at, number_or_fault, number_value_at, or_else, other_scalar_at, quoted_at, scalar_at, true_or_false_at, word_at, words_at}
+use Rattle.jsonb_scan.specs.Parsing.Scalar.{begins_number, letters_at, null_at, number_at, number_value_at, or_else, other_scalar_at, quoted_at, scalar_at}
 use Rattle.jsonb_scan.specs.Parsing.String.{string_at}
 use Rattle.jsonb_scan.specs.Open.{Open, elements_so_far, members_so_far}
 use Rattle.jsonb_spec.specs.Source.{Found, Source, found_member, number_source, source_alone}
@@ -58,19 +58,6 @@ null_missed size standard bytes e is other h = cc
 null_missed size extended bytes (Syntax code place) is other h = ap (λ (r : Result (List ℕ) Fault). or_else (r >>= λ rest. Ok (null, rest)) (number_value_at size extended bytes)) h
 null_missed size extended bytes OutOfMemory is other h = absurd (other refl)
 null_missed size extended bytes e is other h = absurd h
-
-pub true_read : (size : ℕ) (mode : Mode) (bytes rest : List ℕ) → begins_letter mode 110 bytes ≡ false → begins_letter mode 116 bytes ≡ true → letters_at size mode (codes "true") bytes ≡ Ok rest → words_at size mode bytes ≡ Ok (boolean true, rest)
-true_read size mode bytes rest n t read =
-    cond-false (begins_letter mode 110 bytes) (null_at size mode bytes) (true_or_false_at size mode bytes) n
-    ∙ cond-true (begins_letter mode 116 bytes) (word_at size mode (codes "true") (boolean true) bytes) (false_at size mode bytes) t
-    ∙ ap (λ (r : Result (List ℕ) Fault). r >>= λ rest. Ok (boolean true, rest)) read
-
-pub false_read : (size : ℕ) (mode : Mode) (bytes rest : List ℕ) → begins_letter mode 110 bytes ≡ false → begins_letter mode 116 bytes ≡ false → begins_letter mode 102 bytes ≡ true → letters_at size mode (codes "false") bytes ≡ Ok rest → words_at size mode bytes ≡ Ok (boolean false, rest)
-false_read size mode bytes rest n t f read =
-    cond-false (begins_letter mode 110 bytes) (null_at size mode bytes) (true_or_false_at size mode bytes) n
-    ∙ cond-false (begins_letter mode 116 bytes) (word_at size mode (codes "true") (boolean true) bytes) (false_at size mode bytes) t
-    ∙ cond-true (begins_letter mode 102 bytes) (word_at size mode (codes "false") (boolean false) bytes) (number_or_fault size mode bytes) f
-    ∙ ap (λ (r : Result (List ℕ) Fault). r >>= λ rest. Ok (boolean false, rest)) read
 
 -- ---- numbers
 

@@ -5,36 +5,19 @@ use Rattle.std.specs.Char.{to_ascii_lowercase}
 use Rattle.std.specs.Prelude.{◌||◌, ◌==◌}
 use Rattle.jsonb_spec.specs.Code.Code.{expected_some_value}
 use Rattle.jsonb_spec.specs.Mode.{Mode, standard, extended}
-use Rattle.jsonb.specs.declared.parser.Parser.{Parser}
-use Rattle.jsonb_scan.specs.Answer.{mode_of}
-use Rattle.jsonb.specs.Parser.{rest_of, size_of}
-use Rattle.jsonb_scan.specs.Parsing.{begins, reject}
-use Rattle.jsonb_scan.specs.Parsing.Scalar.{begins_letter, begins_number, begins_single_quote, number_or_fault, number_value_at, other_scalar_at, quoted_at, scalar_at, words_at}
-use Rattle.jsonb.proofs.Steps.Outcomes.{unmoved, words_number}
-use Rattle.jsonb_scan.proofs.Containers.JoinedParts.{on_byte-none}
+use Rattle.jsonb_scan.specs.Parsing.{reject}
+use Rattle.jsonb_scan.specs.Parsing.Scalar.{begins_letter, begins_number, begins_single_quote, number_or_fault, number_value_at, other_scalar_at, quoted_at, words_at}
+use Rattle.jsonb.proofs.Steps.Outcomes.{words_number}
 use Rattle.jsonb.proofs.Scalars.Spellings.{IsApart, number_start_apart}
 use Rattle.jsonb.proofs.Steps.Advancing.{single-false}
 
--- no double quote comes next
-pub scalar_other : (p q : Parser) → q ≡ p → begins 34 (rest_of p) ≡ false → scalar_at (size_of p) (mode_of p.mode) (rest_of p) ≡ other_scalar_at (size_of q) (mode_of q.mode) (rest_of q)
-unfolding scalar_at
-scalar_other p q same none =
-    on_byte-none 34 (rest_of p) (quoted_at (size_of p) (mode_of p.mode) 34) (other_scalar_at (size_of p) (mode_of p.mode) (rest_of p)) none
-    ∙ unmoved p q same (λ o. other_scalar_at (size_of o) (mode_of o.mode) (rest_of o))
-
--- no single quote comes next that begins a string
-pub other_word : (p q : Parser) → q ≡ p → begins_single_quote (mode_of p.mode) (rest_of p) ≡ false → other_scalar_at (size_of p) (mode_of p.mode) (rest_of p) ≡ words_at (size_of q) (mode_of q.mode) (rest_of q)
-other_word p q same single =
-    single-false (mode_of p.mode) (rest_of p) (quoted_at (size_of p) (mode_of p.mode) 39) (words_at (size_of p) (mode_of p.mode) (rest_of p)) single
-    ∙ unmoved p q same (λ o. words_at (size_of o) (mode_of o.mode) (rest_of o))
-
 -- ---- a digit or a minus comes next
 
-single-apart : (mode : Mode) (b : ℕ) (rest : List ℕ) → IsApart b → begins_single_quote mode (b ∷ rest) ≡ false
+pub single-apart : (mode : Mode) (b : ℕ) (rest : List ℕ) → IsApart b → begins_single_quote mode (b ∷ rest) ≡ false
 single-apart standard b rest a = refl
 single-apart extended b rest a = cond-false _ true false a.no_single
 
-letter-apart : (mode : Mode) (c b : ℕ) (rest : List ℕ) → 97 ≤ c → IsApart b → begins_letter mode c (b ∷ rest) ≡ false
+pub letter-apart : (mode : Mode) (c b : ℕ) (rest : List ℕ) → 97 ≤ c → IsApart b → begins_letter mode c (b ∷ rest) ≡ false
 letter-apart mode c b rest high a = cond-false _ true false (a.no_letter mode c high)
 
 other_number : (size : ℕ) (mode : Mode) (bytes : List ℕ) → begins_number standard bytes ≡ true → other_scalar_at size mode bytes ≡ number_or_fault size mode bytes

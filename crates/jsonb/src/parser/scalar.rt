@@ -5,7 +5,7 @@ ghost use Rattle.jsonb_spec.specs.Mode.{standard, extended};
 ghost use Rattle.jsonb_value.specs.View.{number_view};
 ghost use Rattle.jsonb_scan.specs.Answer.{mode_of, Gives};
 ghost use Rattle.jsonb.specs.Literals.{literal_text, literal_tree};
-ghost use Rattle.jsonb_spec.specs.Tree.{int64};
+ghost use Rattle.jsonb_spec.specs.Tree.{boolean, int64};
 ghost use Rattle.jsonb_spec.specs.Tree.Mark.{plain};
 ghost use Rattle.jsonb_spec.specs.Source.{string_source};
 ghost use Rattle.jsonb_scan.specs.Spelled.{IsSpelledAt};
@@ -13,11 +13,12 @@ ghost use Rattle.jsonb_write.specs.OpenText.{source_text};
 ghost use Rattle.jsonb_write.specs.PlainText.{ArePlain};
 ghost use Rattle.jsonb.specs.Parser.{Advances, Finds, IsAfterQuote, IsBehind, IsTextOf, ReadsInPlace, TakesByte, rest_of, size_of};
 ghost use Rattle.jsonb_scan.specs.Parsing.{begins};
-ghost use Rattle.jsonb_scan.specs.Parsing.Scalar.{number_value_at, begins_letter, begins_number, begins_single_quote, fold_letter, letters_at, null_at, number_at, quoted_at, scalar_at, other_scalar_at, words_at};
+ghost use Rattle.jsonb_scan.specs.Parsing.Scalar.{number_value_at, begins_letter, begins_single_quote, fold_letter, letters_at, null_at, number_at, quoted_at, scalar_at, word_at};
 ghost use Rattle.jsonb.specs.Steps.{Inserts, MakesScalar, Pushes, PutsElement, PutsMember};
 
 use super::frame::OpenObject;
 use super::handler::{Failed, Handler};
+use super::start::Start;
 use super::string::Cut;
 use super::{Mode, Parser};
 use jsonb_value::error::{Error, ParseErrorCode};
@@ -215,7 +216,6 @@ impl<'a> Parser<'a> {
         text: &'a str,
     ) -> Result<(), Failed>
         requires mode { mode_of self.old.mode ≡ standard }
-        requires no_string { begins ascii.quote (rest_of self.old) ≡ false }
         requires same { IsTextOf text.now self.old }
         ensures { Pushes V.Handler scalar_at result self.old self.new room.old room.new items.old items.new }
     {
@@ -235,7 +235,6 @@ impl<'a> Parser<'a> {
         text: &'a str,
     ) -> Result<(), Failed>
         requires mode { mode_of self.old.mode ≡ extended }
-        requires no_string { begins ascii.quote (rest_of self.old) ≡ false }
         requires same { IsTextOf text.now self.old }
         ensures { Pushes V.Handler scalar_at result self.old self.new room.old room.new items.old items.new }
     {
@@ -259,7 +258,6 @@ impl<'a> Parser<'a> {
         text: &'a str,
     ) -> Result<(), Failed>
         requires mode { mode_of self.old.mode ≡ standard }
-        requires no_string { begins ascii.quote (rest_of self.old) ≡ false }
         requires same { IsTextOf text.now self.old }
         ensures { Inserts V.Handler scalar_at result self.old self.new room.old room.new key object.old object.new }
     {
@@ -280,7 +278,6 @@ impl<'a> Parser<'a> {
         text: &'a str,
     ) -> Result<(), Failed>
         requires mode { mode_of self.old.mode ≡ extended }
-        requires no_string { begins ascii.quote (rest_of self.old) ≡ false }
         requires same { IsTextOf text.now self.old }
         ensures { Inserts V.Handler scalar_at result self.old self.new room.old room.new key object.old object.new }
     {
@@ -303,7 +300,6 @@ impl<'a> Parser<'a> {
         text: &'a str,
     ) -> Result<(), Failed>
         requires mode { mode_of self.old.mode ≡ standard }
-        requires no_string { begins ascii.quote (rest_of self.old) ≡ false }
         requires same { IsTextOf text.now self.old }
         ensures { Pushes V.Handler scalar_at result self.old self.new room.old room.new items.old items.new }
     {
@@ -326,7 +322,6 @@ impl<'a> Parser<'a> {
         items: &mut V::Items,
         text: &'a str,
     ) -> Result<(), Failed>
-        requires no_string { begins ascii.quote (rest_of self.old) ≡ false }
         requires same { IsTextOf text.now self.old }
         ensures { Pushes V.Handler scalar_at result self.old self.new room.old room.new items.old items.new }
     {
@@ -365,9 +360,9 @@ impl<'a> Parser<'a> {
         text: &'a str,
     ) -> Result<(), Failed>
         requires same { IsTextOf text.now self.old }
-        ensures { Pushes V.Handler other_scalar_at result self.old self.new room.old room.new items.old items.new }
+        ensures { Pushes V.Handler scalar_at result self.old self.new room.old room.new items.old items.new }
     {
-        let value = self.parse_other_scalar::<V>(text)?;
+        let value = self.parse_scalar::<V>(text)?;
         self.push::<V>(room, items, value, self.offset)
     }
 
@@ -409,7 +404,6 @@ impl<'a> Parser<'a> {
         text: &'a str,
     ) -> Result<(), Failed>
         requires mode { mode_of self.old.mode ≡ standard }
-        requires no_string { begins ascii.quote (rest_of self.old) ≡ false }
         requires same { IsTextOf text.now self.old }
         ensures { Inserts V.Handler scalar_at result self.old self.new room.old room.new key object.old object.new }
     {
@@ -434,7 +428,6 @@ impl<'a> Parser<'a> {
         key: V::Key,
         text: &'a str,
     ) -> Result<(), Failed>
-        requires no_string { begins ascii.quote (rest_of self.old) ≡ false }
         requires same { IsTextOf text.now self.old }
         ensures { Inserts V.Handler scalar_at result self.old self.new room.old room.new key object.old object.new }
     {
@@ -481,62 +474,42 @@ impl<'a> Parser<'a> {
         text: &'a str,
     ) -> Result<(), Failed>
         requires same { IsTextOf text.now self.old }
-        ensures { Inserts V.Handler other_scalar_at result self.old self.new room.old room.new key object.old
-            object.new }
+        ensures { Inserts V.Handler scalar_at result self.old self.new room.old room.new key object.old object.new }
     {
-        let value = self.parse_other_scalar::<V>(text)?;
+        let value = self.parse_scalar::<V>(text)?;
         self.insert::<V>(room, object, key, value, self.offset)
     }
 
-    // A value that holds no others.
+    // A value that holds no others, or the fault of what is none.
     #[inline(always)]
     pub(super) fn parse_scalar<V: Handler<'a>>(&mut self, text: &'a str) -> Result<V, Failed>
         requires same { IsTextOf text.now self.old }
         ensures { MakesScalar V.Handler scalar_at result self.old self.new }
     {
-        if self.take_byte(b'"') {
-            return self.parse_string(b'"', text);
+        match self.start() {
+            Start::DoubleQuote => self.parse_string(b'"', text),
+            Start::SingleQuote => self.parse_string(b'\'', text),
+            Start::Null => self.parse_null(),
+            Start::True => self.parse_bool(b"true", true),
+            Start::False => self.parse_bool(b"false", false),
+            Start::Number => self.parse_number_value(),
+            Start::Array | Start::Object | Start::NoValue => {
+                let error = self.fault_at_next(ParseErrorCode::ExpectedSomeValue, 1);
+                Err(self.fail(error))
+            }
         }
-        self.parse_other_scalar(text)
     }
 
-    // A string in single quotes, a word or a number.
+    // A word that stands for this boolean.
     #[inline(always)]
-    fn parse_other_scalar<V: Handler<'a>>(&mut self, text: &'a str) -> Result<V, Failed>
-        requires same { IsTextOf text.now self.old }
-        ensures { MakesScalar V.Handler other_scalar_at result self.old self.new }
+    fn parse_bool<V: Handler<'a>>(&mut self, word: &[u8], value: bool) -> Result<V, Failed>
+        ensures { MakesScalar V.Handler (λ size mode. word_at size mode word.now (boolean value)) result self.old
+            self.new }
     {
-        if self.take_single_quote() {
-            return self.parse_string(b'\'', text);
+        match self.parse_word(word) {
+            Ok(()) => Ok(V::boolean(value)),
+            Err(error) => Err(self.fail(error)),
         }
-        self.parse_word_or_number()
-    }
-
-    // A word or a number as a value.
-    #[inline(always)]
-    fn parse_word_or_number<V: Handler<'a>>(&mut self) -> Result<V, Failed>
-        ensures { MakesScalar V.Handler words_at result self.old self.new }
-    {
-        if self.next_is_letter(b'n') {
-            return self.parse_null();
-        }
-        if self.next_is_letter(b't') {
-            return match self.parse_word(b"true") {
-                Ok(()) => Ok(V::boolean(true)),
-                Err(error) => Err(self.fail(error)),
-            };
-        }
-        if self.next_is_letter(b'f') {
-            return match self.parse_word(b"false") {
-                Ok(()) => Ok(V::boolean(false)),
-                Err(error) => Err(self.fail(error)),
-            };
-        }
-        if !self.begins_number() {
-            let error = self.fault_at_next(ParseErrorCode::ExpectedSomeValue, 1);
-            return Err(self.fail(error));
-        }
-        self.parse_number_value()
     }
 
     // `null`; where that fails, in extended mode a number's word may begin with the same letter.
@@ -569,13 +542,17 @@ impl<'a> Parser<'a> {
         }
     }
 
-    // A string as a value, from the byte after its opening quote on.
+    // A string in quotes of this kind, of which one comes next, as a value.
     #[inline(always)]
     fn parse_string<V: Handler<'a>>(&mut self, quote: u8, text: &'a str) -> Result<V, Failed>
-        requires quote { IsAfterQuote quote self.old }
+        requires no_backslash { quote ≢ ascii.backslash }
+        requires is_ascii { quote < ascii.end }
+        requires opens { begins quote (rest_of self.old) ≡ true }
         requires same { IsTextOf text.now self.old }
-        ensures { MakesScalar V.Handler (λ size mode. quoted_at size mode quote) result self.old self.new }
+        ensures { MakesScalar V.Handler (λ size mode bytes. quoted_at size mode quote (drop 1 bytes)) result self.old
+            self.new }
     {
+        self.offset += 1;
         if let Some(body) = self.borrowed_string(quote, text) {
             return Ok(V::string(CowStr::Borrowed(body)));
         }
@@ -644,22 +621,6 @@ impl<'a> Parser<'a> {
             return Some(Literal::Bool(false));
         }
         None
-    }
-
-    // Whether a number begins here.
-    #[inline(always)]
-    pub(super) fn begins_number(&self) -> bool
-        ensures { result ≡ begins_number (mode_of self.now.mode) (rest_of self.now) }
-    {
-        match self.mode {
-            Mode::Standard => matches!(self.peek(), Some(b'0'..=b'9' | b'-')),
-            Mode::Extended => {
-                matches!(
-                    self.peek(),
-                    Some(b'0'..=b'9' | b'-' | b'+' | b'.' | b'i' | b'I')
-                )
-            }
-        }
     }
 
     // A number, or a word that names none.

@@ -1,7 +1,6 @@
 use Rattle.std.proofs.Common.{ap, sym, rules}
 use Rattle.jsonb_spec.specs.Tree.{number}
 use Rattle.jsonb.proofs.Scalars.Built.{kept_put, scalar_still}
-use Rattle.jsonb.proofs.Scalars.FirstBytes.{scalar_other}
 use Rattle.jsonb.proofs.Steps.Failures.{puts_in_same}
 use Rattle.jsonb.proofs.parser.Parser.insert_extended_value.Goals as goal
 
@@ -31,6 +30,6 @@ returns g c =
     record {
       parses =
           let h = g.V.Handler in
-          puts_in_same h.silent c.insert_other_scalar.new.self.told h.stands c.insert_other_scalar.result _ _ (sym (ap (λ o. o.buf.now) c.if-kept_extended_integer.ensures.passes)) _ c.args.object.now _ _ _ _ _ _ (scalar_other c.args.self.now c.kept_extended_integer.new.self c.if-kept_extended_integer.ensures.passes c.requires.no_string) c.insert_other_scalar.ensures.parses;
+          puts_in_same h.silent c.insert_other_scalar.new.self.told h.stands c.insert_other_scalar.result _ _ (sym (ap (λ o. o.buf.now) c.if-kept_extended_integer.ensures.passes)) _ c.args.object.now _ _ _ _ _ _ (scalar_still c.args.self.now c.kept_extended_integer.new.self c.if-kept_extended_integer.ensures.passes) c.insert_other_scalar.ensures.parses;
       advances = search rules;
     }

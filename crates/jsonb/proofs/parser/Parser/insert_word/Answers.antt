@@ -1,5 +1,5 @@
 use Rattle.std.proofs.Common.{ap, sym, rules}
-use Rattle.jsonb.proofs.Scalars.FirstBytes.{scalar_other}
+use Rattle.jsonb.proofs.Scalars.Built.{scalar_still}
 use Rattle.jsonb.proofs.Steps.Failures.{puts_in_same}
 use Rattle.jsonb.proofs.parser.Parser.insert_word.Goals as goal
 
@@ -8,6 +8,6 @@ returns-in-None g c =
     record {
       parses =
           let h = g.V.Handler in
-          puts_in_same h.silent c.insert_other_scalar.new.self.told h.stands c.insert_other_scalar.result _ _ (sym (ap (λ o. o.buf.now) c.in-None.ensures.finds.stays)) _ c.args.object.now _ _ _ _ _ _ (scalar_other c.args.self.now c.short_literal.new.self c.in-None.ensures.finds.stays c.requires.no_string) c.insert_other_scalar.ensures.parses;
+          puts_in_same h.silent c.insert_other_scalar.new.self.told h.stands c.insert_other_scalar.result _ _ (sym (ap (λ o. o.buf.now) c.in-None.ensures.finds.stays)) _ c.args.object.now _ _ _ _ _ _ (scalar_still c.args.self.now c.short_literal.new.self c.in-None.ensures.finds.stays) c.insert_other_scalar.ensures.parses;
       advances = search rules;
     }

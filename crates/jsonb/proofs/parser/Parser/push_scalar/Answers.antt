@@ -4,7 +4,6 @@ use Rattle.jsonb_spec.specs.Source.{string_source}
 use Rattle.jsonb_spec.specs.Tree.Mark.{plain}
 use Rattle.jsonb.specs.Parser.{Advances, rest_of}
 use Rattle.jsonb.proofs.Scalars.Built.{between, read_pushed, scalar_still, scalar_string}
-use Rattle.jsonb.proofs.Scalars.FirstBytes.{scalar_other}
 use Rattle.jsonb.proofs.Steps.Advancing.{goes_on}
 use Rattle.jsonb.proofs.Steps.Failures.{pushes_same}
 use Rattle.jsonb.proofs.Steps.Outcomes.{scalar_quoted}
@@ -61,6 +60,6 @@ returns-in-Extended-2 g c =
     record {
       parses =
           let h = g.V.Handler in
-          pushes_same h.silent c.push_other_scalar.new.self.told h.stands c.push_other_scalar.result _ _ (sym (ap (λ o. o.buf.now) c.if-take_byte.ensures.rest)) _ _ _ _ _ _ _ (scalar_other c.args.self.now c.take_byte.new.self c.if-take_byte.ensures.rest (sym c.if-take_byte.ensures.found)) c.push_other_scalar.ensures.parses;
+          pushes_same h.silent c.push_other_scalar.new.self.told h.stands c.push_other_scalar.result _ _ (sym (ap (λ o. o.buf.now) c.if-take_byte.ensures.rest)) _ _ _ _ _ _ _ (scalar_still c.args.self.now c.take_byte.new.self c.if-take_byte.ensures.rest) c.push_other_scalar.ensures.parses;
       advances = search rules;
     }
