@@ -31,8 +31,11 @@ IsBehind byte p = (0 < p.offset) × (slice_index p.buf.now (p.offset - 1) ≡ by
 
 -- The byte before the parser's offset is an opening quote of this kind.
 pub record IsAfterQuote (quote : ℕ) (p : Parser) : Type 0 where
+  -- a backslash is no quote
   pub no_backslash : quote ≢ ascii.backslash
+  -- no character crosses the quote
   pub is_ascii : quote < ascii.end
+  -- it stands before the offset
   pub opened : IsBehind quote p
 
 -- This is the parser's input as text, or a front of it.
@@ -52,27 +55,38 @@ pub record AdvancesOver {R : Type 0} (base_of : R → List (List ℕ)) (old new 
 
 -- The parser has gone on, and this is told.
 pub record Tells (error : Option Error) (old new : Parser) : Type 0 where
+  -- what is told
   pub told : new.told ≡ error
+  -- the parser has gone on in its input
   pub advances : Advances old new
 
 -- This byte was passed, where it is to be taken and comes next; else the parser stays.
 pub record TakesByte (byte : ℕ) (is_next result : Bool) (old new : Parser) : Type 0 where
+  -- whether the byte comes next
   pub found : result ≡ is_next
+  -- the byte was passed, or the parser stays
   pub rest : MatchBool result (rest_of old ≡ byte ∷ rest_of new) (new ≡ old)
+  -- it is the byte before the offset
   pub behind : MatchBool result (IsBehind byte new) (Unit {0})
+  -- the offset grows where it was passed
   pub onward : MatchBool result (old.offset < new.offset) (new ≡ old)
+  -- the parser has gone on in its input
   pub advances : Advances old new
 
 -- ---- whitespace
 
 -- The parser has passed all that this function skips.
 pub record Skips (skip : Mode → List ℕ → List ℕ) (old new : Parser) : Type 0 where
+  -- what is left is what the function leaves
   pub rest : rest_of new ≡ skip (mode_of old.mode) (rest_of old)
+  -- the parser has gone on in its input
   pub advances : Advances old new
 
 -- The parser has passed some of what this function skips, or nothing.
 pub record SkipsSome (skip : Mode → List ℕ → List ℕ) (old new : Parser) : Type 0 where
+  -- the function leaves the same bytes as before
   pub rest : skip (mode_of old.mode) (rest_of new) ≡ skip (mode_of old.mode) (rest_of old)
+  -- the parser has gone on in its input
   pub advances : Advances old new
 
 -- ---- what is parsed
@@ -101,30 +115,43 @@ source_at p =
 -- A string or a key is what this function parses; memory runs out only where the text has a backslash.
 pub record ReadsString {X : Type 0} (view : X → Mark × List ℕ) (read : ℕ → Mode → List ℕ → Parse (Mark × List ℕ))
     (result : Result X Error) (old new : Parser) : Type 0 where
+  -- what was returned is what is parsed, or the error is its fault
   pub parses : ParsesAs view read result old new
+  -- memory runs out only where the text has a backslash
   pub memory : result ≡ Err OutOfMemory → Contains old.buf.now ascii.backslash
+  -- the parser has gone on in its input
   pub advances : Advances old new
 
 -- What a call returned is what this function parses, and it takes no memory.
 pub record ReadsInPlace {X Y : Type 0} (view : X → Y) (read : ℕ → Mode → List ℕ → Parse Y) (result : Result X Error)
     (old new : Parser) : Type 0 where
+  -- what was returned is what is parsed, or the error is its fault
   pub parses : ParsesAs view read result old new
+  -- memory never runs out
   pub takes_no_memory : result ≢ Err OutOfMemory
+  -- the parser has gone on in its input
   pub advances : Advances old new
 
 -- What a call found is what this function parses; where it found nothing, the parser stays.
 pub record Finds {X Y : Type 0} (view : X → Y) (read : ℕ → Mode → List ℕ → Parse Y) (result : Option X)
     (old new : Parser) : Type 0 where
+  -- what was found is what is parsed
   pub parses : FindsAs view read result old new
+  -- where nothing was found, the parser stays
   pub stays : IfNone result (new ≡ old)
+  -- the parser has gone on in its input
   pub advances : Advances old new
 
 -- A string without escapes is found, of which the text has these bytes before its closing quote.
 pub record CutsString {X : Type 0} (body_of : X → List ℕ) (quote : ℕ) (result : Option X) (old new : Parser)
     : Type 0 where
+  -- what was found is the string that is parsed, without escapes
   pub parses : FindsAs (λ x. (plain, body_of x)) (λ size mode. string_at size mode quote) result old new
+  -- its bytes stand before the closing quote
   pub spelled : IfSome result (λ x. rest_of old ≡ body_of x ++ quote ∷ rest_of new)
+  -- where nothing was found, the parser stays
   pub stays : IfNone result (new ≡ old)
+  -- the parser has gone on in its input
   pub advances : Advances old new
 
 -- The contents of a string in these quotes were passed, and its closing quote, and a backslash is among them.
@@ -143,6 +170,9 @@ pub record PassesInteger (old new : Parser) : Type 0 where
 
 -- Such an integer is passed, where that is asked and one is found; else the parser stays.
 pub record KeepsInteger (is_asked result : Bool) (old new : Parser) : Type 0 where
+  -- an integer was passed, or the parser stays
   pub passes : MatchBool result (PassesInteger old new) (new ≡ old)
+  -- it was asked for
   pub asked : MatchBool result (is_asked ≡ true) (Unit {0})
+  -- the parser has gone on in its input
   pub advances : Advances old new
