@@ -9,7 +9,7 @@ use Rattle.jsonb_scan.specs.Parsing.Scalar.{null_at, number_value_at, quoted_at,
 use Rattle.jsonb.specs.declared.parser.start.Start.{Start}
 use Rattle.jsonb.specs.declared.parser.start.Start.TheVariants as variants
 
--- the scalar that begins so; a container begins none
+-- what is parsed as a scalar where this begins: a container is none
 abbrev pub scalar_from : Start → ℕ → Mode → List ℕ → Parse Tree
 scalar_from variants.DoubleQuote size mode bytes = quoted_at size mode ascii.quote (drop 1 bytes)
 scalar_from variants.SingleQuote size mode bytes = quoted_at size mode ascii.single_quote (drop 1 bytes)
@@ -21,7 +21,7 @@ scalar_from variants.Array size mode bytes = reject size expected_some_value 1 b
 scalar_from variants.Object size mode bytes = reject size expected_some_value 1 bytes
 scalar_from variants.NoValue size mode bytes = reject size expected_some_value 1 bytes
 
--- A start that is one byte comes next, and only it begins a container.
+-- Where a start is a bracket, a brace or a quote, that byte comes next.
 abbrev pub ComesNext : Start → List ℕ → Type 0
 ComesNext variants.Array bytes = begins ascii.open_bracket bytes ≡ true
 ComesNext variants.Object bytes = begins ascii.open_brace bytes ≡ true
@@ -33,9 +33,9 @@ ComesNext variants.False bytes = Unit {0}
 ComesNext variants.Number bytes = Unit {0}
 ComesNext variants.NoValue bytes = Unit {0}
 
--- The bytes begin with what this tells.
+-- This tells what the bytes begin with.
 pub record IsStart (start : Start) (mode : Mode) (bytes : List ℕ) : Type 0 where
   -- A scalar is parsed as what it tells.
   pub scalar : (size : ℕ) → scalar_at size mode bytes ≡ scalar_from start size mode bytes
-  -- A bracket, a brace or a quote comes next where it tells so.
+  -- A bracket, a brace or a quote comes next, where it tells so.
   pub next : ComesNext start bytes

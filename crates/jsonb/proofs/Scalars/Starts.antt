@@ -156,7 +156,7 @@ number_starts mode b rest e =
       next = tt;
     }
 
--- A byte that begins no value in either mode, or none in standard mode.
+-- A byte that begins no scalar in standard mode.
 pub record BeginsNone (b : ℕ) : Type 0 where
   pub no_quote : b ≢ 34
   pub no_n : b ≢ 110
@@ -179,7 +179,7 @@ standard_none standard b rest m o =
       next = tt;
     }
 
--- A byte that begins no value in extended mode but those of standard mode.
+-- A byte that begins no scalar in extended mode, unless it begins one in standard mode too.
 pub record BeginsNoMore (b : ℕ) : Type 0 where
   pub no_single : b ≢ 39
   pub no_large_n : b ≢ 78

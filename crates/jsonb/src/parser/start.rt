@@ -1,6 +1,10 @@
-//! What a value is, as its first byte tells: here alone it is decided.
-ghost use Rattle.std.specs.Prelude.{ℕ, List, ◌∷◌};
+//! Here it is told what a value is: by its first byte.
+ghost use Rattle.std.specs.Prelude.{◌≡◌, false, ℕ, List, ◌∷◌, MatchBool};
+ghost use Rattle.jsonb_spec.specs.Ascii as ascii;
 ghost use Rattle.jsonb_scan.specs.Answer.{mode_of};
+ghost use Rattle.jsonb_scan.specs.Parsing.{begins};
+ghost use Rattle.jsonb_scan.specs.Parsing.Container.{is_left_out};
+ghost use Rattle.jsonb.specs.Frames.{OpensContainer};
 ghost use Rattle.jsonb.specs.Parser.{rest_of};
 ghost use Rattle.jsonb.specs.Start.{IsStart};
 
@@ -60,5 +64,17 @@ impl<'a> Parser<'a> {
             Some(byte) => start_of(byte, self.mode),
             None => Start::NoValue,
         }
+    }
+
+    // Whether an array or an object begins here. It is asked before each element and member, so it looks for these two
+    // alone.
+    #[inline(always)]
+    pub(super) fn begins_container(&self) -> bool
+        ensures other { MatchBool result (is_left_out (mode_of self.now.mode) (rest_of self.now) ≡ false)
+            ((begins ascii.open_bracket (rest_of self.now) ≡ false)
+            × (begins ascii.open_brace (rest_of self.now) ≡ false)) }
+        ensures opens { MatchBool result (OpensContainer (rest_of self.now)) (Unit {0}) }
+    {
+        matches!(self.peek(), Some(b'[' | b'{'))
     }
 }

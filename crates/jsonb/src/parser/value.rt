@@ -40,17 +40,6 @@ type FrameOf<'a, V> = Frame<
 type ObjectOf<'a, V> = OpenObject<<V as Handler<'a>>::Members, <V as Handler<'a>>::Key>;
 
 impl<'a> Parser<'a> {
-    // Whether an array or an object begins here.
-    #[inline(always)]
-    pub(super) fn begins_container(&self) -> bool
-        ensures other { MatchBool result (is_left_out (mode_of self.now.mode) (rest_of self.now) ≡ false)
-            ((begins ascii.open_bracket (rest_of self.now) ≡ false)
-            × (begins ascii.open_brace (rest_of self.now) ≡ false)) }
-        ensures opens { MatchBool result (OpensContainer (rest_of self.now)) (Unit {0}) }
-    {
-        matches!(self.peek(), Some(b'[' | b'{'))
-    }
-
     // An array or an object that begins here. What isn't made of it may nest deep.
     pub(super) fn parse_container<V: Handler<'a>>(
         &mut self,
