@@ -168,6 +168,8 @@ struct Parser<'a> {
 
 impl<'a> Parser<'a> {
     ghost use Rattle.jsonb.specs.Parser.{Advances, IsTextOf, TakesByte, Tells, rest_of, size_of, source_at};
+    ghost use Rattle.jsonb.specs.Steps.{MakesScalar};
+    ghost use Rattle.jsonb_scan.specs.Parsing.Scalar.{scalar_at};
 
     // The next byte.
     fn peek(&self) -> Option<u8>
@@ -303,11 +305,20 @@ impl<'a> Parser<'a> {
             }
             return Ok(value);
         }
-        let value = self.parse_scalar::<V>(text)?;
+        let value = self.parse_root_scalar::<V>(text)?;
         if let Err(error) = self.end_document() {
             return Err(self.fail(error));
         }
         self.put_root::<V>(room, value)
+    }
+
+    // A scalar that is a text's value. It is a call of its own: inlined, it would keep the loop over parts from being so.
+    #[inline(never)]
+    fn parse_root_scalar<V: Handler<'a>>(&mut self, text: &'a str) -> std::result::Result<V, Failed>
+        requires same { IsTextOf text.now self.old }
+        ensures { MakesScalar V.Handler scalar_at result self.old self.new }
+    {
+        self.parse_scalar(text)
     }
 
     // Puts in a scalar that is a text's value.
