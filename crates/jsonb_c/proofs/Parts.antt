@@ -3,7 +3,7 @@ use Rattle.std.proofs.Common.{◌≡◌, ℕ, List, subst, sym, ◌∙◌}
 use Rattle.jsonb_spec.specs.Grammar.{IsDocument}
 use Rattle.jsonb_spec.specs.Tree.{Tree}
 use Rattle.jsonb_spec.specs.PartAt.{IsAt}
-use Rattle.jsonb_pointer.proofs.KeySpelling.{one_path}
+use Rattle.jsonb_path.proofs.KeySpelling.{one_path}
 use Rattle.jsonb_c.specs.Interface.{IsAccepted, IsDocumentOf, HasPartAt, HasNoPartAt}
 use Rattle.jsonb_c.proofs.Reasons.{one_mode}
 

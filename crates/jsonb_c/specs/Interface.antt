@@ -20,7 +20,7 @@ use Rattle.jsonb_scan.specs.Parsing.Document.{document_of}
 use Rattle.jsonb_scan.specs.Answer.{Fails, MayAllocate}
 use Rattle.jsonb_spec.specs.Errors.{Stands}
 use Rattle.jsonb_spec.specs.PartAt.{IsAt}
-use Rattle.jsonb_pointer.specs.Path.{IsPath, StartsKey}
+use Rattle.jsonb_path.specs.Path.{IsPath, StartsKey}
 use Rattle.jsonb_c.specs.declared.Part.{Part}
 use Rattle.jsonb_c.specs.declared.Part.TheVariants as parts
 use Rattle.jsonb_c.specs.declared.Refusal.{Refusal}

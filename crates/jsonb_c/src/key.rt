@@ -6,7 +6,7 @@
 ghost use Rattle.std.specs.Prelude.{◌≡◌, ◌≢◌, ◌↔◌, ◌⊎◌, ◌<◌, ◌≤◌, ◌+◌, ◌∷◌, ℕ, List, length, Option, None, MatchResult, MatchOption, IfOk, IfSome, if◌then◌else◌};
 ghost use Rattle.jsonb_c.specs.Interface.{KeepsBuffer, TellsPath};
 ghost use Rattle.jsonb_c.specs.KeyParts.{kind_number, text_of_tree, FindsRange, IsBegun, IsCounted, IsFound, IsNextPart, IsPartStatus, IsTreeKey, IsWithinKey, IsWritten, LiesWithin, StandsBefore, WritesText};
-ghost use Rattle.jsonb_pointer.specs.Path.{IsPath, StartsKey};
+ghost use Rattle.jsonb_path.specs.Path.{IsPath, StartsKey};
 ghost use Rattle.jsonb_stored.specs.Checked.{IsSortKey};
 ghost use Rattle.jsonb_stored.specs.Found.{count_of, item_from, Finds, IsRange};
 ghost use Rattle.jsonb_stored.specs.Open.{Open};
@@ -18,7 +18,7 @@ ghost use Rattle.jsonb_spec.specs.Tree.{Tree};
 ghost use Rattle.jsonb_spec.specs.PartAt.{part_at};
 
 use crate::{ACCEPTED, NO_KEY, NO_PART, NO_PATH, OUT_OF_MEMORY, TOO_SHORT, put};
-use jsonb_pointer::read_keys;
+use jsonb_path::read_keys;
 use jsonb_stored::{
     Kind, NoKey, count_parts, find_item, find_member, find_part, find_plain_part, is_sort_key,
     kind_of, next_part, open_key, plain_text, put_text, range_of, text_of_string, text_size,

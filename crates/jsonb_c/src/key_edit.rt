@@ -7,12 +7,12 @@ ghost use Rattle.std.specs.declared.alloc.Global.{Global as GlobalAlloc};
 ghost use Rattle.jsonb_c.specs.Interface.{KeepsBuffer, TellsPath};
 ghost use Rattle.jsonb_c.specs.KeyEdit.{edit_status_of, IsEdited, IsEditStatus};
 ghost use Rattle.jsonb_c.specs.KeyParts.{IsTreeKey};
-ghost use Rattle.jsonb_pointer.specs.Path.{IsPath};
+ghost use Rattle.jsonb_path.specs.Path.{IsPath};
 ghost use Rattle.jsonb_spec.specs.Tree.{Tree};
 ghost use Rattle.stored_edit.specs.Edit.{merge, with_item, with_member, with_part, without_part, AppendsKey, Edits};
 
 use crate::{ACCEPTED, NO_KEY, NO_PART, NO_PATH, OUT_OF_MEMORY, TOO_DEEP, TOO_SHORT, put};
-use jsonb_pointer::read_keys;
+use jsonb_path::read_keys;
 use std::alloc::Global;
 use stored_edit::{
     EditError, append_merged, append_with_item, append_with_member, append_with_part,

@@ -15,14 +15,14 @@ ghost use Rattle.jsonb_value.specs.View.{view};
 ghost use Rattle.jsonb_spec.specs.Line.{column_at, fault_index, line_at};
 ghost use Rattle.jsonb_scan.specs.Answer.{mode_of, MayAllocate, IsTextError};
 ghost use Rattle.jsonb.specs.Parses.{Parses};
-ghost use Rattle.jsonb_pointer.specs.Path.{IsPath};
+ghost use Rattle.jsonb_path.specs.Path.{IsPath};
 ghost use Rattle.jsonb_c.specs.Interface.{NumberChooses, code_number, nothing, sign, status_of, refusal_of, AcceptsDocuments, EitherMayAllocate, FailsFor, FillsBuffer, FormMayAllocate, HasNoPartAt, HasPartAt, IsAccepted, IsNoDocumentOf, IsNoPath, IsOneRejected, IsOrdered, IsDocumentOf, IsKeyOf, IsMessageOf, IsPartAnswer, IsPartOf, IsRejected, IsStatus, IsStatusOfForm, IsTextOf, NeedsRoomForBoth, OrdersTexts, PartMayAllocate, SaysError, Tells, Writes};
 
 use jsonb::{
     Error, Mode, ParseErrorCode, Value, append_part, append_sort_key, append_text, check,
     fault_index, line_and_column, may_allocate, parse_value, parse_value_standard_mode,
 };
-use jsonb_pointer::read_keys;
+use jsonb_path::read_keys;
 use std::alloc::Global;
 use std::cmp::Ordering;
 

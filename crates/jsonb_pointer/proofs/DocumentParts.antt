@@ -10,7 +10,7 @@ use Rattle.jsonb_scan.specs.Answer.{MayAllocate}
 use Rattle.jsonb_spec.specs.PartAt.{IsAt}
 use Rattle.jsonb_pointer.proofs.ArraySizes.{document_below}
 use Rattle.jsonb_pointer.proofs.PartsAt.{part_found, part_there}
-use Rattle.jsonb_pointer.proofs.PartsReadBack.{part_reads_back}
+use Rattle.jsonb_path.proofs.PartsReadBack.{part_reads_back}
 
 -- What is known of the text of a part that was appended to nothing.
 pub record IsTextThere (mode : Mode) (document : List ℕ) (keys : List (List ℕ)) (bytes : List ℕ) : Type 0 where

@@ -1,2 +1,1 @@
-pub mod Path
-pub mod KeySpelling
+pub mod Document

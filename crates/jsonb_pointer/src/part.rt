@@ -3,49 +3,12 @@
 ghost use Rattle.std.specs.Prelude.{◌≡◌, IfOk, IfErr, IfSome, IfNone, MatchOption};
 ghost use Rattle.jsonb_spec.specs.Tree.{Tree};
 ghost use Rattle.jsonb_value.specs.View.{view};
-ghost use Rattle.jsonb_pointer.specs.Path.{IsPartAt, HasNoPartAt, IsGetError, IsPartText, HasNoPart, IsPathError};
+ghost use Rattle.jsonb_path.specs.Path.{IsPartAt, HasNoPartAt, IsGetError};
+ghost use Rattle.jsonb_pointer.specs.Document.{IsPartText, HasNoPart, IsPathError};
 
-use crate::keys::read_keys;
 use jsonb::{Error, Mode, Value, part_at};
-use std::alloc::{AllocError, Global};
-use std::fmt;
-
-/// Why a path and a document have no result.
-#[derive(Debug, Drop)]
-pub enum PathError {
-    /// The path isn't a JSON Pointer.
-    NoPath,
-    /// The document is rejected, with the error of the parser, which is never `OutOfMemory`.
-    NoDocument(Error),
-    /// Memory ran out.
-    NoMemory,
-}
-
-impl fmt::Display for PathError {
-    ghost use Rattle.std.specs.Prelude.{Some};
-    ghost use Rattle.jsonb_pointer.specs.Path.{path_error_text};
-
-    ghost output = { λ error. Some (path_error_text error) };
-
-    fn fmt<W: fmt::Write>(&self, f: &mut fmt::Formatter<W>) -> fmt::Result {
-        match self {
-            PathError::NoPath => write!(f, "not a JSON Pointer (RFC 6901)"),
-            PathError::NoDocument(error) => write!(f, "{error}"),
-            PathError::NoMemory => write!(f, "out of memory"),
-        }
-    }
-}
-
-impl From<AllocError> for PathError {
-    ghost use Rattle.std.specs.Prelude.{◌≡◌};
-    ghost use Rattle.jsonb_pointer.specs.declared.part.PathError.TheVariants.{NoMemory};
-
-    ghost from_gives = { λ _ e. e ≡ NoMemory };
-
-    fn from(_: AllocError) -> PathError {
-        PathError::NoMemory
-    }
-}
+use jsonb_path::{PathError, read_keys};
+use std::alloc::Global;
 
 /// The part of the value at the path, as `/a/0` is the first item of the member `a`, or `None` where there is none. The
 /// empty path is that of the whole value. Only the keys of the path are allocated.

@@ -4,7 +4,7 @@ use Rattle.std.proofs.lemmas.List.{length-append}
 use Rattle.std.specs.Str.{bytes_eq}
 use Rattle.jsonb_key.specs.Readable.{IsAnyNumber, IsReadable, IsReadableAt}
 use Rattle.jsonb_spec.specs.PartAt.{IsIndex, IsChild, IsAt}
-use Rattle.jsonb_pointer.proofs.PartsReadBack.{part_within, part_proper, deeper}
+use Rattle.jsonb_path.proofs.PartsReadBack.{part_within, part_proper, deeper}
 use Rattle.jsonb_stored.specs.Open.{Open, items, members, is_object, open_key, IsOpen, end_key, opening_byte, IsScalar}
 use Rattle.jsonb_stored.specs.Parts.{opened_tree, ChildAt, StandsAt}
 use Rattle.jsonb_stored.proofs.Opens.{no_end}

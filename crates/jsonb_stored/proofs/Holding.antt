@@ -6,7 +6,7 @@ use Rattle.std.specs.Ordering.{is_eq, ordering_reverse}
 use Rattle.std.specs.Option.{option_map_or}
 use Rattle.std.specs.Str.{bytes_eq}
 use Rattle.jsonb_key.specs.Readable.{IsAnyNumber, IsReadableAt}
-use Rattle.jsonb_pointer.proofs.PartsReadBack.{deeper}
+use Rattle.jsonb_path.proofs.PartsReadBack.{deeper}
 use Rattle.jsonb_spec.specs.Containment.{holds, holds_members}
 use Rattle.jsonb_stored.specs.Open.{items, members, IsOpen}
 use Rattle.jsonb_stored.specs.SideBySide.{AreReadableAt, HaveReadableAt}

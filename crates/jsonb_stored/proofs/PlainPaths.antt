@@ -3,9 +3,9 @@ use Rattle.std.proofs.Common.{◌≡◌, ℕ, List, [], ◌∷◌, ◌++◌, Bor
 use Rattle.std.specs.List.{AllByRecursion}
 use Rattle.std.specs.Option.{option_and_then}
 use Rattle.jsonb_key.specs.Readable.{IsReadable}
-use Rattle.jsonb_pointer.proofs.KeySpelling.{after_key, path_alone}
-use Rattle.jsonb_pointer.specs.KeySpelling.{BeginsPlain, Reads}
-use Rattle.jsonb_pointer.specs.Path.{IsPath, spelled_keys}
+use Rattle.jsonb_path.proofs.KeySpelling.{after_key, path_alone}
+use Rattle.jsonb_path.specs.KeySpelling.{BeginsPlain, Reads}
+use Rattle.jsonb_path.specs.Path.{IsPath, spelled_keys}
 use Rattle.jsonb_spec.specs.PartAt.{child_at, part_at}
 use Rattle.jsonb_spec.specs.SortKey.{key_of}
 use Rattle.jsonb_spec.specs.Tree.{Tree}

@@ -1,7 +1,7 @@
 -- Parts of values, found in their keys.
 use Rattle.std.specs.Prelude.{◌≡◌, ℕ, ◌<◌, ◌⊎◌, List, ◌++◌, Option, Some, None}
 use Rattle.jsonb_spec.specs.PartAt.{IsChild, IsAt}
-use Rattle.jsonb_pointer.specs.Path.{IsPartAt}
+use Rattle.jsonb_path.specs.Path.{IsPartAt}
 use Rattle.jsonb_stored.specs.declared.walk.Kind.{Kind}
 use Rattle.jsonb_stored.specs.declared.walk.Kind.TheVariants as variants
 use Rattle.jsonb_stored.specs.Open.{Open, items, members}

@@ -4,7 +4,7 @@ ghost use Rattle.std.specs.Prelude.{◌≡◌, ◌<◌, ◌≤◌, ◌+◌, ◌+
 ghost use Rattle.std.specs.Option.{option_and_then};
 ghost use Rattle.std.specs.Str.{bytes_eq};
 ghost use Rattle.jsonb_key.specs.Readable.{IsAnyNumber};
-ghost use Rattle.jsonb_pointer.specs.Path.{IsPath};
+ghost use Rattle.jsonb_path.specs.Path.{IsPath};
 ghost use Rattle.jsonb_spec.specs.PartAt.{child_at, part_at};
 ghost use Rattle.jsonb_stored.specs.Found.{count_of, item_back, item_from, open_len, Finds, IsNext, IsRange, Opens, PartStands};
 ghost use Rattle.jsonb_stored.specs.AtKeys.{AtItems, AtKey, AtParts, FindsPart, FindsWithin, TellsOrder};
@@ -21,7 +21,8 @@ use crate::part::is_over;
 use crate::skip::{after_key, after_name, after_text, opening};
 use crate::walk::kind_of;
 use jsonb_key::text::{read_byte, skip_pair};
-use jsonb_pointer::{index_of, plain_key};
+use jsonb_path::plain_key;
+use jsonb_write::part::index_of;
 use std::cmp::Ordering;
 
 /// The bytes aren't the sort key of a value of JSON's kinds with at most 512 nested arrays and objects.

@@ -3,7 +3,7 @@
 ghost use Rattle.std.specs.Prelude.{◌≡◌, ◌<◌, ◌^◌, ◌++◌, List, ℕ, length, map, string_bytes, IfOk, IfErr, IsTrue, IsFalse, MatchOption, true, false};
 ghost use Rattle.std.specs.Str.{bytes_eq};
 ghost use Rattle.jsonb_spec.specs.PartAt.{IsIndex};
-ghost use Rattle.jsonb_pointer.specs.Path.{HasNoPartAt, IsGetError};
+ghost use Rattle.jsonb_path.specs.Path.{HasNoPartAt, IsGetError};
 ghost use Rattle.jsonb_stored.specs.AtKeys.{AtItems, AtKey, AtMembers, AtParts, FindsAt, FindsChild, FindsKeyAt, OfKey};
 ghost use Rattle.jsonb_stored.specs.Open.{end_key};
 ghost use Rattle.jsonb_stored.specs.Parts.{opened_tree, IsKeyOfPart};
@@ -13,7 +13,8 @@ ghost use Rattle.jsonb_spec.specs.Tree.{array, object};
 use crate::skip::{after_end, after_key, after_text, opening};
 use crate::walk::front;
 use jsonb_key::text::{read_byte, skip_pair};
-use jsonb_pointer::{PathError, index_of, read_keys};
+use jsonb_path::{PathError, read_keys};
+use jsonb_write::part::index_of;
 use std::alloc::Global;
 
 /// The key of the part at the path (RFC 6901), which stands within the key, or `None` where there is none. Only the

@@ -1,5 +1,5 @@
 use jsonb::parse_value;
-use jsonb_pointer::read_keys;
+use jsonb_path::read_keys;
 use jsonb_stored::is_sort_key;
 use jsonb_value::sort_key::kind;
 use std::alloc::Global;

@@ -1,7 +1,7 @@
 use Rattle.std.proofs.Common.{◌<◌, ◌^◌, Err, length, rules, IfSome, false, true, inr, map, string_bytes, subst, ap}
 use Rattle.jsonb_spec.specs.Mode.{extended}
 use Rattle.jsonb.specs.Appends.{AppendsPartOf}
-use Rattle.jsonb_pointer.specs.Path.{IsPath}
+use Rattle.jsonb_path.specs.Path.{IsPath}
 use Rattle.jsonb_pointer.proofs.DocumentParts.{IsNothingThere, IsTextThere, document_needs, nothing_there, text_there}
 use Rattle.jsonb_pointer.proofs.part.part_text.Goals as goal
 

@@ -1,7 +1,7 @@
 -- A path parsed from left to right.
 use Rattle.std.specs.Prelude.{◌≡◌, ℕ, List, [], ◌∷◌, ◌++◌, Option, Some, None, if◌then◌else◌, ◌==◌}
 use Rattle.jsonb_spec.specs.Ascii as ascii
-use Rattle.jsonb_pointer.specs.Path.{spelled_key, spelled_keys}
+use Rattle.jsonb_path.specs.Path.{spelled_key, spelled_keys}
 
 -- the byte that an escape stands for by what follows its `~`, and what is left
 abbrev pub escape_of : List ℕ → Option (ℕ × List ℕ)

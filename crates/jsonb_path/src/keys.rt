@@ -2,13 +2,10 @@
 
 ghost use Rattle.std.specs.Prelude.{◌≡◌, ◌<◌, ◌≤◌, ℕ, List, ◌++◌, ◌∷◌, length, take, drop, map, string_bytes, option_map, None, IfOk, IfErr, IfSome, IfNone, IsUtf8};
 ghost use Rattle.jsonb_spec.specs.Ascii as ascii;
-ghost use Rattle.jsonb_pointer.specs.Path.{spelled_key, IsPath, StartsKey};
-ghost use Rattle.jsonb_pointer.specs.KeySpelling.{escape_of, byte_of, BeginsPlain};
+ghost use Rattle.jsonb_path.specs.Path.{spelled_key, IsPath, StartsKey};
+ghost use Rattle.jsonb_path.specs.KeySpelling.{escape_of, byte_of, BeginsPlain};
 
 use std::alloc::{AllocError, Global};
-
-#[cfg(test)]
-mod tests;
 
 /// The keys of the path, or `None` where the bytes aren't a path.
 pub fn read_keys(alloc: Global, path: &[u8]) -> Result<Option<Vec<String>>, AllocError>

@@ -1,6 +1,6 @@
 use Rattle.std.proofs.Common.{length}
-use Rattle.jsonb_pointer.proofs.PlainKeys.{PlainSoFar}
-use Rattle.jsonb_pointer.proofs.keys.plain_len.Given as goal
+use Rattle.jsonb_path.proofs.PlainKeys.{PlainSoFar}
+use Rattle.jsonb_path.proofs.keys.plain_len.Given as goal
 
 abbrev pub invariant-bytes : goal.invariant-bytes
 invariant-bytes l = PlainSoFar l.text l.rest l.len

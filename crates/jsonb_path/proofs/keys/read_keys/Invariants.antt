@@ -1,6 +1,6 @@
 use Rattle.std.proofs.Common.{length, map, string_bytes}
-use Rattle.jsonb_pointer.specs.KeySpelling.{Reads}
-use Rattle.jsonb_pointer.proofs.keys.read_keys.Given as goal
+use Rattle.jsonb_path.specs.KeySpelling.{Reads}
+use Rattle.jsonb_path.proofs.keys.read_keys.Given as goal
 
 abbrev pub invariant-parts : goal.invariant-parts
 invariant-parts l = Reads l.path (map string_bytes l.keys.items) l.rest

@@ -1,8 +1,8 @@
 use Rattle.std.proofs.Common.{◌≡◌, ◌++◌, Some, sym, subst, arith}
-use Rattle.jsonb_pointer.specs.Path.{spelled_key}
-use Rattle.jsonb_pointer.specs.KeySpelling.{byte_of}
-use Rattle.jsonb_pointer.proofs.KeySpelling.{next_byte}
-use Rattle.jsonb_pointer.proofs.keys.read_key.Goals as goal
+use Rattle.jsonb_path.specs.Path.{spelled_key}
+use Rattle.jsonb_path.specs.KeySpelling.{byte_of}
+use Rattle.jsonb_path.proofs.KeySpelling.{next_byte}
+use Rattle.jsonb_path.proofs.keys.read_key.Goals as goal
 
 pub bytes-preserved : goal.bytes-preserved
 bytes-preserved c =

@@ -1,9 +1,9 @@
 use Rattle.std.proofs.Common.{◌≡◌, ℕ, List, [], ◌∷◌, ◌++◌, map, string_bytes, String, Global, Result, Ok, Err, IfErr, true≢false, sym, subst, ap, ◌∙◌}
 use Rattle.std.proofs.lemmas.List.{map-append, nil_from_length}
-use Rattle.jsonb_pointer.specs.KeySpelling.{Reads}
-use Rattle.jsonb_pointer.specs.Path.{StartsKey}
-use Rattle.jsonb_pointer.proofs.KeySpelling.{after_key, path_read, path_alone, no_slash, no_text, starts}
-use Rattle.jsonb_pointer.proofs.keys.read_keys.Goals as goal
+use Rattle.jsonb_path.specs.KeySpelling.{Reads}
+use Rattle.jsonb_path.specs.Path.{StartsKey}
+use Rattle.jsonb_path.proofs.KeySpelling.{after_key, path_read, path_alone, no_slash, no_text, starts}
+use Rattle.jsonb_path.proofs.keys.read_keys.Goals as goal
 
 moved : (bytes : List ℕ) (keys : List (List ℕ)) (rest more : List ℕ) (slash : ℕ) → Reads bytes keys rest → rest ≡ slash ∷ more → slash ≡ 47 → Reads bytes keys (47 ∷ more)
 moved bytes keys rest more slash r begins is = subst (λ b. Reads bytes keys (b ∷ more)) is (subst (λ left. Reads bytes keys left) begins r)

@@ -3,9 +3,9 @@ use Rattle.std.proofs.Common.{◌≡◌, ◌≢◌, ℕ, List, [], ◌+◌, ◌�
 use Rattle.std.proofs.Math.Seq.{take-append_seam, drop-append_seam}
 use Rattle.std.proofs.lemmas.Bool.{ne_eqb}
 use Rattle.std.proofs.lemmas.List.{length-append}
-use Rattle.jsonb_pointer.specs.Path.{spelled_byte, spelled_key}
-use Rattle.jsonb_pointer.specs.KeySpelling.{byte_of, BeginsPlain}
-use Rattle.jsonb_pointer.proofs.KeySpelling.{itself, spelled_key-append}
+use Rattle.jsonb_path.specs.Path.{spelled_byte, spelled_key}
+use Rattle.jsonb_path.specs.KeySpelling.{byte_of, BeginsPlain}
+use Rattle.jsonb_path.proofs.KeySpelling.{itself, spelled_key-append}
 
 -- the text so far is spelled as it is
 pub record PlainSoFar (text rest : List ℕ) (len : ℕ) : Type 0 where

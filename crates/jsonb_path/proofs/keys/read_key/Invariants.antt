@@ -1,6 +1,6 @@
 use Rattle.std.proofs.Common.{◌≡◌, ◌++◌, ◌≤◌, length}
-use Rattle.jsonb_pointer.specs.Path.{spelled_key}
-use Rattle.jsonb_pointer.proofs.keys.read_key.Given as goal
+use Rattle.jsonb_path.specs.Path.{spelled_key}
+use Rattle.jsonb_path.proofs.keys.read_key.Given as goal
 
 abbrev pub invariant-bytes : goal.invariant-bytes
 invariant-bytes l = (l.text ≡ spelled_key l.key.items ++ l.rest) × (length l.rest ≤ length l.text)

@@ -1,4 +1,5 @@
 use super::*;
+use std::alloc::AllocError;
 use std::process::Abort;
 use std::test::Fail;
 

@@ -1,0 +1,3 @@
+pub mod KeySpelling
+pub mod PlainKeys
+pub mod PartsReadBack
