@@ -1,12 +1,6 @@
--- Arrays and objects, and the containers that are open.
+-- The values of arrays and objects.
 pub mod Built
-pub mod Frames
 pub mod KeyPlaces
 pub mod LongerSpellings
 pub mod Members
-pub mod OpenOnLists
-pub mod Repeats
 pub mod SecondPlaces
-pub mod Shuffles
-pub mod Sources
-pub mod Values

@@ -1,7 +1,7 @@
 pub mod Children
 pub mod Containers
 pub mod Documents
-pub mod Places
 pub mod Errors
-pub mod Scalars
-pub mod Steps
+pub mod Places
+pub mod Rows
+pub mod Spelled

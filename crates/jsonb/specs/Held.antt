@@ -1,7 +1,7 @@
 -- What is kept of the containers that are open while serialized text or a sort key is written.
 use Rattle.std.specs.Prelude.{ℕ, Bool}
-use Rattle.jsonb.specs.declared.parser.frame.Frame.{Frame}
-use Rattle.jsonb.specs.declared.parser.frame.Frame.TheVariants as frames
+use Rattle.jsonb_parse.specs.declared.parser.frame.Frame.{Frame}
+use Rattle.jsonb_parse.specs.declared.parser.frame.Frame.TheVariants as frames
 use Rattle.jsonb_spec.specs.Source.{Source}
 use Rattle.jsonb_write.specs.TextRoom as text
 use Rattle.jsonb_write.specs.KeyRoom as key

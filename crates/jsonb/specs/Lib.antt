@@ -1,14 +1,8 @@
 pub mod Appends
 pub mod AstView
-pub mod Handler
+pub mod FrameContents
 pub mod Held
-pub mod Frames
-pub mod Literals
-pub mod Parser
 pub mod Parses
 pub mod Explained
 pub mod Source
 pub mod SourceLaws
-pub mod Stack
-pub mod Start
-pub mod Steps

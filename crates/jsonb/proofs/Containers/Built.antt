@@ -1,5 +1,5 @@
 -- What the two makers build holds what was parsed.
-use Rattle.std.proofs.Common.{◌≡◌, ◌≢◌, ℕ, Bool, true, false, MatchBool, cond, List, [], ◌∷◌, ◌++◌, map, String, Vec, Global, rules, Option, Result, Some, None, Ok, Err, IfOk, OnOk, Less, Equal, Greater, is_eq, string_bytes, string_cmp, nat_cmp, refl, sym, ap, ap₂, subst, ◌∙◌}
+use Rattle.std.proofs.Common.{◌≡◌, ◌≢◌, ℕ, Bool, true, false, MatchBool, cond, List, [], ◌∷◌, ◌++◌, map, String, Vec, Global, rules, Result, Some, None, Ok, Err, IfOk, OnOk, Less, Equal, Greater, is_eq, string_bytes, string_cmp, nat_cmp, refl, sym, ap, ap₂, subst, ◌∙◌}
 use Rattle.std.proofs.lemmas.Cmp.{nat_list_cmp_total, tied_itself}
 use Rattle.std.proofs.lemmas.List.{map-append}
 use Rattle.std.specs.BTreeMap.{insert_entry, is_at}
@@ -7,29 +7,33 @@ use Rattle.std.specs.Cmp.Lexicographic.{slice_cmp}
 use Rattle.std.specs.Map.{lookup}
 use Rattle.std.specs.Ordering.{match_ordering}
 use Rattle.jsonb_spec.specs.Grammar.{AreDistinct}
-use Rattle.jsonb_spec.specs.Tree.{Mark, Member, Members, put, put_all, trees_of}
+use Rattle.jsonb_spec.specs.Tree.{Member, Members, put, put_all, trees_of}
 use Rattle.jsonb_spec.specs.Tree.Members.{no_members}
 use Rattle.jsonb_spec.specs.Tree.Tree.{array, object}
 use Rattle.jsonb_value.specs.View.{members_view, view}
 use Rattle.jsonb_value.specs.declared.value.Value.{Value, the_lemmas}
 use Rattle.jsonb_value.specs.declared.value.Value as value
 use Rattle.jsonb_value.proofs.Values.Members.{Entry, members_view-insert_entry}
-use Rattle.jsonb_value.specs.declared.error.Error.{Error}
-use Rattle.jsonb.specs.Handler.{AreSeen, ElseFails, MapHolds, found_keys, names}
-use Rattle.jsonb.specs.Frames.{IsObject, finish_container}
-use Rattle.jsonb.specs.Stack.{object_end}
-use Rattle.jsonb_scan.specs.Open.{Open}
-use Rattle.jsonb_scan.specs.Open.{elements_so_far, members_so_far}
+use Rattle.jsonb.specs.FrameContents.{AreSeen, MapHolds, found_keys, names}
+use Rattle.jsonb_parse.specs.Stack.{object_end}
 use Rattle.jsonb.specs.Source.{source_view}
 use Rattle.jsonb.specs.declared.parser.ast.JsonAst.{JsonAst}
 use Rattle.jsonb.specs.declared.parser.ast.JsonAst as ast
 use Rattle.jsonb_scan.specs.Parsing.Container.{object_or_fault}
 use Rattle.jsonb_spec.specs.Source.{Found, Source, Spot, array_source_of, member_of, object_source_of, spot_of, tree_of_source}
-use Rattle.jsonb.proofs.Containers.Repeats.{no_repeat}
-use Rattle.jsonb.proofs.Containers.Sources.{array_tree, object_tree}
-use Rattle.jsonb.proofs.Containers.Values.{same_keys}
+use Rattle.jsonb_parse.proofs.Containers.Repeats.{no_repeat}
+use Rattle.jsonb_parse.proofs.Containers.Sources.{array_tree, object_tree}
+use Rattle.jsonb_parse.proofs.Containers.Values.{same_keys}
 use Rattle.jsonb.proofs.Places.Views.{source-Array}
 use Rattle.jsonb_value.proofs.Trees.MembersInOrder.{IsNew}
+
+-- ---- values in turn
+
+pub seen-snoc : {V : Type 0} (Sees : V → Source → Type 0) (vs : List V) (ss : List Source) (v : V) (s : Source) → AreSeen Sees vs ss → Sees v s → AreSeen Sees (vs ++ v ∷ []) (ss ++ s ∷ [])
+seen-snoc Sees [] [] v s h i = (i, tt)
+seen-snoc Sees [] (t ∷ ts) v s h i = absurd h
+seen-snoc Sees (w ∷ vs) [] v s h i = absurd h
+seen-snoc Sees (w ∷ vs) (t ∷ ts) v s h i = (h.0, seen-snoc Sees vs ts v s h.1 i)
 
 -- ---- arrays
 
@@ -52,13 +56,6 @@ array_of_values v w ss same seen =
 
 pub array_of_asts : (v : Vec JsonAst Global) (ss : List Source) → AreSeen (λ x s. source_view x ≡ s) v.items ss → source_view (ast.Array v) ≡ array_source_of ss
 array_of_asts v ss seen = source-Array v ∙ ap array_source_of (seen_map source_view (λ s. s) v.items ss seen ∙ same-sources ss)
-
--- an object that is open ends, or its fault is told
-pub object_ended : {X F : Type 0} (Stands : List Open → Type 0) (Done : Source → Type 0) (silent : Bool) (told : Option Error) (result : Result X F) (c : Open) (rest : List ℕ) (cs : List Open) → IsObject c → Stands (c ∷ cs)
-    → ((front : List Found) → (k : Mark × List ℕ) → (place : ℕ) → Stands (members_so_far front k place ∷ cs) → ElseFails silent told result (object_end front rest) (λ _. (s : Source) × Done s × (object_end front rest ≡ Ok (s, rest))))
-    → ElseFails silent told result (finish_container c rest) (λ _. (s : Source) × Done s × (finish_container c rest ≡ Ok (s, rest)))
-object_ended Stands Done silent told result (elements_so_far ss) rest cs is held ends = absurd is
-object_ended Stands Done silent told result (members_so_far fs key place) rest cs is held ends = ends fs key place held
 
 -- ---- the keys of a map
 
@@ -110,12 +107,6 @@ pub if_put : {A E M P : Type 0} (r : Result Bool A) → IfOk r (λ _. E) → IfO
 if_put (Ok true) e m f = f e m
 if_put (Ok false) e m f = refl
 if_put (Err x) e m f = tt
-
--- what is so of a member that was put in
-pub put_new : {A P : Type 0} (Q : Type 0) (r : Result Bool A) → r ≡ Ok true → IfOk r (λ b. MatchBool b P Q) → P
-put_new Q (Ok true) e h = h
-put_new Q (Ok false) e h = cc
-put_new Q (Err f) e h = cc
 
 -- one more member, whose key the map does not have
 pub put-more : (fs : List Found) (f : Found) (es more : List Entry) (k : String Global) (v : Value) → MapHolds fs es → more ≡ insert_entry string_cmp es k v → lookup (is_at (string_cmp k)) es ≡ None

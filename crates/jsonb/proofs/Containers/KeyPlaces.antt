@@ -21,8 +21,8 @@ use Rattle.jsonb_spec.specs.Errors.{ArePassed, IsSpelling, Repeats, times}
 use Rattle.jsonb_spec.specs.Errors.ArePassed.{no_parts, part_passed}
 use Rattle.jsonb_scan.proofs.Steps.Tests.{bind_ok, rejected_fails, same_read}
 use Rattle.jsonb_scan.proofs.Containers.JoinedParts.{IsSound, on_byte_cases, padded_seen, padded_sound}
-use Rattle.jsonb.proofs.Containers.Values.{Seen}
-use Rattle.jsonb.proofs.Scalars.Spellings.{key_sound, key_starts}
+use Rattle.jsonb_parse.proofs.Containers.Values.{Seen}
+use Rattle.jsonb_parse.proofs.Scalars.Spellings.{key_sound, key_starts}
 use Rattle.jsonb.proofs.Containers.SecondPlaces.{AreRising, IsSecond, alike, count, has, once_before, rising-weaken, second_found, stands_there}
 use Rattle.jsonb_scan.proofs.Text.Whitespace.{skips}
 

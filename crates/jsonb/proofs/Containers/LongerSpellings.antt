@@ -12,7 +12,7 @@ use Rattle.jsonb_spec.specs.Tree.{Tree}
 use Rattle.jsonb_spec.specs.Tree.Tree.{number}
 use Rattle.jsonb_scan.specs.Parsing.Scalar.{fold_letter}
 use Rattle.jsonb.proofs.Documents.Spellings.{whole_if_no_number}
-use Rattle.jsonb.proofs.Scalars.Spellings.{IsApart, IsNumberTree, StartsNumber, StartsWord, number_opens, quote_is, quoted_starts, word_starts}
+use Rattle.jsonb_parse.proofs.Scalars.Spellings.{IsApart, IsNumberTree, StartsNumber, StartsWord, number_opens, quote_is, quoted_starts, word_starts}
 
 no_number : (t : Tree) → IsNumberTree t → as_number t ≡ None → ⊥
 no_number (number n) k e = cc

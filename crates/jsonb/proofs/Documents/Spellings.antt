@@ -21,10 +21,10 @@ use Rattle.jsonb_scan.specs.Parsing.Whitespace.{is_whitespace_start, opens_comme
 use Rattle.jsonb_scan.specs.Parsing.Document.{at_end, comment_at, document_of, nothing_at, source_from, source_of, value_at, value_to_end}
 use Rattle.jsonb_scan.proofs.Steps.Tests.{same_ok, same_read}
 use Rattle.jsonb_scan.proofs.Containers.JoinedParts.{Ends, ends-piece, ends_at, other}
-use Rattle.jsonb.proofs.Scalars.Spellings.{Follows, IsNumberTree}
-use Rattle.jsonb.proofs.Scalars.Spellings.Follows.{before, no_more}
+use Rattle.jsonb_parse.proofs.Scalars.Spellings.{Follows, IsNumberTree}
+use Rattle.jsonb_parse.proofs.Scalars.Spellings.Follows.{before, no_more}
 use Rattle.jsonb_scan.proofs.Text.Whitespace.{EndsPassed, all_passed, line_left, ends_passed, opens-stop, pass-whitespace, pass-stop}
-use Rattle.jsonb.proofs.Containers.Values.{value_is_complete}
+use Rattle.jsonb_parse.proofs.Containers.Values.{value_is_complete}
 
 follows-whitespace : {mode : Mode} {after : List ℕ} (b : IsLastWhitespace mode after) → Follows after
 follows-whitespace (whitespace_to_end no_whitespace) = no_more

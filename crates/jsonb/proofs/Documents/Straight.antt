@@ -12,7 +12,7 @@ use Rattle.jsonb_value.proofs.Trees.DocumentTexts.{document_has_text, some_text}
 use Rattle.jsonb_scan.specs.Parsing.Document.{source_of}
 use Rattle.jsonb_spec.specs.Source.{Source, tree_of_source}
 use Rattle.jsonb.specs.Appends.{IsParsed, LacksRoomForText}
-use Rattle.jsonb.proofs.Containers.Values.{document_sound}
+use Rattle.jsonb_parse.proofs.Containers.Values.{document_sound}
 use Rattle.jsonb.proofs.Documents.Agreement.{document_built}
 use Rattle.jsonb.proofs.Documents.Spellings.{document_unique}
 

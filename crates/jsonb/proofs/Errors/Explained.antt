@@ -23,9 +23,9 @@ use Rattle.jsonb.proofs.Errors.Codes.{IsTold, bind_err, same_err, silent_fault, 
 use Rattle.jsonb.proofs.Containers.KeyPlaces.{laid_repeats, members_laid}
 use Rattle.jsonb_scan.proofs.Containers.JoinedParts.{IsSound, IsSoundBefore, SeenBy, joined-skip, on_byte_cases, padded_sound}
 use Rattle.jsonb.proofs.Errors.OfScalars.{NotRepresentable, WrongScalar, key_silent, scalar_rejected, scalar_some}
-use Rattle.jsonb.proofs.Scalars.Spellings.{key_sound}
+use Rattle.jsonb_parse.proofs.Scalars.Spellings.{key_sound}
 use Rattle.jsonb_scan.proofs.Text.Whitespace.{length-skip, skip-skip, skips}
-use Rattle.jsonb.proofs.Containers.Values.{Seen, element_sound, member_sound, value_sound}
+use Rattle.jsonb_parse.proofs.Containers.Values.{Seen, element_sound, member_sound, value_sound}
 
 -- ---- fronts
 

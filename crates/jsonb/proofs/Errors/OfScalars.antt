@@ -25,7 +25,7 @@ use Rattle.jsonb_scan.proofs.Numbers.Extended.{ExtendedFault, ExtendedUnrepresen
 use Rattle.jsonb_scan.proofs.Numbers.Extended.ExtendedFault.{no_text, unrepresentable_text}
 use Rattle.jsonb_scan.proofs.Numbers.ExtendedParts.{extended_is_text}
 use Rattle.jsonb_scan.proofs.Numbers.ExtendedTexts.{IsNumberCode}
-use Rattle.jsonb.proofs.Scalars.Spellings.{IsNumberTree, StartsWord, number_opens, on_letter_cases, quote_is, quoted_starts, scalar-number, scalar_complete, single_cases, word_starts}
+use Rattle.jsonb_parse.proofs.Scalars.Spellings.{IsNumberTree, StartsWord, number_opens, on_letter_cases, quote_is, quoted_starts, scalar-number, scalar_complete, single_cases, word_starts}
 use Rattle.jsonb_scan.proofs.Numbers.Standard.{FaultRead, UnrepresentableRead, number_faults, number_longest, standard_is_text}
 use Rattle.jsonb_scan.proofs.Numbers.Standard.FaultRead.{no_number, not_representable}
 

@@ -25,10 +25,10 @@ use Rattle.jsonb.proofs.Errors.Codes.{IsTold, bind_err, same_err, silent_fault}
 use Rattle.jsonb_scan.proofs.Containers.JoinedParts.{Ends, Starts, ends-piece, ends_at, on_byte-other, skip-starts, starts-append}
 use Rattle.jsonb.proofs.Errors.Explained.{Wrong, stops_after_whitespace, value_explains}
 use Rattle.jsonb.proofs.Errors.OfScalars.{scalar_longest}
-use Rattle.jsonb.proofs.Scalars.Spellings.{Follows, IsNumberTree, scalar_starts}
-use Rattle.jsonb.proofs.Scalars.Spellings.Follows.{before}
+use Rattle.jsonb_parse.proofs.Scalars.Spellings.{Follows, IsNumberTree, scalar_starts}
+use Rattle.jsonb_parse.proofs.Scalars.Spellings.Follows.{before}
 use Rattle.jsonb_scan.proofs.Text.Whitespace.{last_within, length-pass, length-past, length-skip, pass-pass, passes, skip-piece, skip-whitespace, skip-nil, skip-passed, skip-skip, skips}
-use Rattle.jsonb.proofs.Containers.Values.{value_is_complete, value_sound}
+use Rattle.jsonb_parse.proofs.Containers.Values.{value_is_complete, value_sound}
 
 -- ---- where a value is due
 

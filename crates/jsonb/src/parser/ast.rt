@@ -10,7 +10,8 @@ mod clone;
 mod equality;
 mod into_value;
 
-use super::{Mode, parse_text};
+use super::Mode;
+use jsonb_parse::parse_text;
 use jsonb_value::error::{Error, Result};
 use jsonb_value::number::Number;
 use std::alloc::Global;

@@ -5,10 +5,11 @@ ghost use Rattle.jsonb_scan.specs.Answer.{mode_of, MayAllocate};
 ghost use Rattle.jsonb.specs.Appends.{AppendsPartOf, LacksRoomForPart};
 ghost use Rattle.jsonb.specs.Parses.{Rejects};
 
+use super::Mode;
 use super::handler::SoughtPart;
 use super::straight::{may_allocate, value_of};
-use super::{Mode, parse_text};
 use crate::part::part_at;
+use jsonb_parse::parse_text;
 use jsonb_value::error::{Error, Result};
 use jsonb_value::value::Value;
 use jsonb_write::part::PartRoom;

@@ -6,13 +6,14 @@ ghost use Rattle.jsonb_scan.specs.Answer.{mode_of, MayAllocate};
 ghost use Rattle.jsonb.specs.Appends.{AppendsKeyOf, AppendsTextOf, IsParsed, LacksRoomForKey, LacksRoomForText};
 ghost use Rattle.jsonb.specs.Parses.{AppendsParsed, Parses, Rejects};
 
-use super::handler::{CheckedPart, KeyPart};
-use super::{Mode, parse_text, parse_value, parse_value_standard_mode};
+use super::handler::{CheckedPart, KeyPart, TextPart};
+use super::{Mode, parse_value, parse_value_standard_mode};
+use jsonb_parse::parse_text;
 use jsonb_value::error::{Error, Result};
 use jsonb_value::value::Value;
 use jsonb_write::check::CheckRoom;
 use jsonb_write::key::KeyRoom;
-use jsonb_write::text::{Part, TextRoom};
+use jsonb_write::text::TextRoom;
 use memchr::memchr3;
 use std::alloc::Global;
 use std::mem;
@@ -97,7 +98,7 @@ pub fn append_text(alloc: Global, text: &[u8], mode: Mode, buf: &mut Vec<u8>) ->
     }
     let out = mem::replace(buf, Vec::new(alloc));
     let mut room = TextRoom::new(alloc, text, out);
-    let read = parse_text::<Part>(&mut room, alloc, text, mode);
+    let read = parse_text::<TextPart>(&mut room, alloc, text, mode);
     match read {
         Ok(_) => {
             if room.finish().is_err() {

@@ -6,7 +6,7 @@ use Rattle.jsonb_spec.specs.Text.Range.{IsInRange}
 use Rattle.jsonb_value.specs.View.{view}
 use Rattle.jsonb_value.proofs.Trees.DocumentsInRange.{extended_in_range}
 use Rattle.jsonb.proofs.Documents.Agreement.{document_built, gives_all}
-use Rattle.jsonb.proofs.Steps.Outcomes.{value_has}
+use Rattle.jsonb_parse.proofs.Steps.Outcomes.{value_has}
 use Rattle.jsonb.proofs.parser.parse_value.Goals as goal
 
 pub returns-in-Err-clause-in_range : goal.returns-in-Err-clause-in_range
@@ -18,10 +18,10 @@ returns-in-Err-clause-proper c = value_has (λ v. IsDocument extended c.args.buf
 pub returns-in-Ok-clause-parses : goal.returns-in-Ok-clause-parses
 returns-in-Ok-clause-parses c =
     let parses = c.in-Ok.ensures.parses tt in
-    gives_all extended view c.args.buf.now (Ok c.in-Ok.value) (document_built extended c.args.buf.now (view c.in-Ok.value) parses.0 parses.1.0 parses.2) (search rules)
+    gives_all extended view c.args.buf.now (Ok c.in-Ok.made.value) (document_built extended c.args.buf.now (view c.in-Ok.made.value) parses.0 parses.1.0 parses.2) (search rules)
 
 pub returns-in-Ok-clause-in_range : goal.returns-in-Ok-clause-in_range
-returns-in-Ok-clause-in_range c = (extended_in_range c.args.buf.now (view c.in-Ok.value) (returns-in-Ok-clause-parses c).document).0
+returns-in-Ok-clause-in_range c = (extended_in_range c.args.buf.now (view c.in-Ok.made.value) (returns-in-Ok-clause-parses c).document).0
 
 pub returns-in-Ok-clause-proper : goal.returns-in-Ok-clause-proper
-returns-in-Ok-clause-proper c = (extended_in_range c.args.buf.now (view c.in-Ok.value) (returns-in-Ok-clause-parses c).document).1
+returns-in-Ok-clause-proper c = (extended_in_range c.args.buf.now (view c.in-Ok.made.value) (returns-in-Ok-clause-parses c).document).1

@@ -2,15 +2,14 @@
 ghost use Rattle.std.specs.Prelude.{◌≡◌, List, [], map, true, false};
 ghost use Rattle.std.specs.Cow.{cow_str_bytes};
 ghost use Rattle.jsonb_value.specs.View.{mark_view};
-ghost use Rattle.jsonb.specs.Handler.{Completes, FramesHold};
+ghost use Rattle.jsonb.specs.FrameContents.{Completes, FramesHold};
 ghost use Rattle.jsonb.specs.Source.{found_of, source_view};
 ghost use Rattle.jsonb_spec.specs.Source.{object_source, source_members_of};
 
 use super::value::{make_room, push_scalar};
-use super::{Failed, Handler};
-use crate::parser::frame::OpenObject;
 use crate::parser::members::{Member, settle_members};
 use crate::parser::{JsonAst, Mode};
+use jsonb_parse::{Failed, Handler, OpenObject};
 use jsonb_scan::parser::string::decode_contents;
 use jsonb_value::error::Error;
 use jsonb_value::number::Number;

@@ -2,15 +2,14 @@
 //! comes twice is told.
 ghost use Rattle.std.specs.Prelude.{◌≡◌, ℕ, List, [], false, map, true};
 ghost use Rattle.jsonb_value.specs.View.{number_view};
-ghost use Rattle.jsonb.specs.Handler.{Misses};
+ghost use Rattle.jsonb_parse.specs.Handler.{Misses};
 ghost use Rattle.jsonb.specs.Held.{IsAnyValue, key_held};
-ghost use Rattle.jsonb.specs.Stack.{object_end};
+ghost use Rattle.jsonb_parse.specs.Stack.{object_end};
 ghost use Rattle.jsonb_spec.specs.Source.{Found, boolean_source, null_source, number_source};
 ghost use Rattle.jsonb_write.specs.CheckRoom.{CheckFilled, CheckStands, TellsRepeatOf};
 
-use super::{Failed, Handler};
 use crate::parser::Mode;
-use crate::parser::frame::OpenObject;
+use jsonb_parse::{Failed, Handler, OpenObject};
 use jsonb_scan::util::check_contents;
 use jsonb_value::error::{Error, ParseErrorCode};
 use jsonb_value::number::Number;

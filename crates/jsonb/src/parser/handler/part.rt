@@ -1,16 +1,15 @@
 //! The text of one part of a document is copied while the document is parsed, and no value is made.
 ghost use Rattle.std.specs.Prelude.{◌≡◌, ℕ, List, true, false, map};
-ghost use Rattle.jsonb.specs.Handler.{Misses};
+ghost use Rattle.jsonb_parse.specs.Handler.{Misses};
 ghost use Rattle.jsonb.specs.Held.{part_held};
-ghost use Rattle.jsonb.specs.Stack.{object_end};
+ghost use Rattle.jsonb_parse.specs.Stack.{object_end};
 ghost use Rattle.jsonb_spec.specs.Source.{Found};
 ghost use Rattle.jsonb_write.specs.PartRoom.{PartFilled, PartStands, keys_of};
 ghost use Rattle.jsonb_write.specs.TextRoom.{SeesPart, TellsRepeatOf};
 
 use super::text::tell_repeat;
-use super::{Failed, Handler};
 use crate::parser::Mode;
-use crate::parser::frame::OpenObject;
+use jsonb_parse::{Failed, Handler, OpenObject};
 use jsonb_value::error::Error;
 use jsonb_value::number::Number;
 use jsonb_write::contents::Contents;

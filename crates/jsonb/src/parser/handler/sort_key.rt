@@ -1,15 +1,14 @@
 //! A sort key is written while a text is parsed, and no value is made.
 ghost use Rattle.std.specs.Prelude.{◌≡◌, ◌∷◌, [], ℕ, List, true, false, map};
-ghost use Rattle.jsonb.specs.Handler.{Misses};
+ghost use Rattle.jsonb_parse.specs.Handler.{Misses};
 ghost use Rattle.jsonb.specs.Held.{key_held};
-ghost use Rattle.jsonb.specs.Stack.{object_end};
+ghost use Rattle.jsonb_parse.specs.Stack.{object_end};
 ghost use Rattle.jsonb_spec.specs.Source.{Found};
 ghost use Rattle.jsonb_write.specs.KeyRoom.{KeyFilled, KeyStands, TellsRepeatOf, base_of};
 ghost use Rattle.jsonb_write.specs.TextRoom.{SeesPart};
 
-use super::{Failed, Handler};
 use crate::parser::Mode;
-use crate::parser::frame::OpenObject;
+use jsonb_parse::{Failed, Handler, OpenObject};
 use jsonb_value::error::{Error, ParseErrorCode};
 use jsonb_value::number::Number;
 use jsonb_write::contents::Contents;

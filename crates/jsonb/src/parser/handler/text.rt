@@ -1,14 +1,13 @@
 //! Serialized text is written while a text is parsed, and no value is made.
 ghost use Rattle.std.specs.Prelude.{◌≡◌, ◌∷◌, [], ℕ, List, true, false, map};
-ghost use Rattle.jsonb.specs.Handler.{Misses};
+ghost use Rattle.jsonb_parse.specs.Handler.{Misses};
 ghost use Rattle.jsonb.specs.Held.{text_held};
-ghost use Rattle.jsonb.specs.Stack.{object_end};
+ghost use Rattle.jsonb_parse.specs.Stack.{object_end};
 ghost use Rattle.jsonb_spec.specs.Source.{Found};
 ghost use Rattle.jsonb_write.specs.TextRoom.{SeesPart, TellsRepeatOf, TextFilled, TextStands, base_of};
 
-use super::{Failed, Handler};
 use crate::parser::Mode;
-use crate::parser::frame::OpenObject;
+use jsonb_parse::{Failed, Handler, OpenObject};
 use jsonb_value::error::{Error, ParseErrorCode};
 use jsonb_value::number::Number;
 use jsonb_write::contents::Contents;
@@ -16,7 +15,13 @@ use jsonb_write::text::{Part, TextRoom};
 use std::alloc::{AllocError, Global};
 use std::borrow::CowStr;
 
-impl<'a> Handler<'a> for Part<'a> {
+// A scalar whose text isn't written yet, or a container whose text is.
+#[derive(Drop)]
+pub(in crate::parser) struct TextPart<'a> {
+    part: Part<'a>,
+}
+
+impl<'a> Handler<'a> for TextPart<'a> {
     type Room = TextRoom<'a>;
 
     // Whether there is no element yet.
@@ -27,7 +32,7 @@ impl<'a> Handler<'a> for Part<'a> {
 
     type Key = ();
 
-    ghost sees = { SeesPart };
+    ghost sees = { λ v s. SeesPart v.part s };
 
     ghost stands = { λ text room due fs cs. TextStands text room due (map text_held fs) cs };
 
@@ -45,22 +50,28 @@ impl<'a> Handler<'a> for Part<'a> {
 
     #[inline(always)]
     fn null() -> Self {
-        Part::Null
+        TextPart { part: Part::Null }
     }
 
     #[inline(always)]
     fn boolean(value: bool) -> Self {
-        Part::Bool(value)
+        TextPart {
+            part: Part::Bool(value),
+        }
     }
 
     #[inline(always)]
     fn number(value: Number) -> Self {
-        Part::Number(value)
+        TextPart {
+            part: Part::Number(value),
+        }
     }
 
     #[inline(always)]
     fn string(text: CowStr<'a>) -> Self {
-        Part::String(text)
+        TextPart {
+            part: Part::String(text),
+        }
     }
 
     #[inline(always)]
@@ -71,7 +82,9 @@ impl<'a> Handler<'a> for Part<'a> {
         offset: usize,
     ) -> Result<Self, Error> {
         let contents = Contents::for_text(body, mode, offset)?;
-        Ok(Part::Contents(contents))
+        Ok(TextPart {
+            part: Part::Contents(contents),
+        })
     }
 
     #[inline(always)]
@@ -81,7 +94,9 @@ impl<'a> Handler<'a> for Part<'a> {
 
     #[inline(always)]
     fn plain_string(text: &'a str) -> Self {
-        Part::Plain(text)
+        TextPart {
+            part: Part::Plain(text),
+        }
     }
 
     #[inline(always)]
@@ -98,7 +113,7 @@ impl<'a> Handler<'a> for Part<'a> {
         from: usize,
         to: usize,
     ) -> Result<(), AllocError> {
-        room.root(value, from, to)
+        room.root(&value.part, from, to)
     }
 
     #[inline(always)]
@@ -119,7 +134,7 @@ impl<'a> Handler<'a> for Part<'a> {
         from: usize,
         to: usize,
     ) -> Result<(), AllocError> {
-        room.push(items, value, from, to)
+        room.push(items, value.part, from, to)
     }
 
     #[inline(always)]
@@ -150,7 +165,9 @@ impl<'a> Handler<'a> for Part<'a> {
 
     #[inline(always)]
     fn array(room: &TextRoom<'a>, items: bool) -> Self {
-        Part::Written
+        TextPart {
+            part: Part::Written,
+        }
     }
 
     #[inline(always)]
@@ -205,7 +222,7 @@ impl<'a> Handler<'a> for Part<'a> {
         from: usize,
         to: usize,
     ) -> Result<bool, AllocError> {
-        match room.insert(object.members, value, from, to) {
+        match room.insert(object.members, value.part, from, to) {
             Ok(()) => Ok(true),
             Err(failed) => Err(failed),
         }
@@ -264,7 +281,9 @@ impl<'a> Handler<'a> for Part<'a> {
 
     #[inline(always)]
     fn object(room: &TextRoom<'a>, members: usize) -> Self {
-        Part::Written
+        TextPart {
+            part: Part::Written,
+        }
     }
 
     fn dismantle(self) {}

@@ -6,12 +6,11 @@ ghost use Rattle.std.specs.Map.{lookup};
 ghost use Rattle.std.specs.String.{string_cmp};
 ghost use Rattle.jsonb_spec.specs.Tree.Tree.{object};
 ghost use Rattle.jsonb_value.specs.View.{members_view, view};
-ghost use Rattle.jsonb.specs.Handler.{Completes, FramesHold, MapHolds};
+ghost use Rattle.jsonb.specs.FrameContents.{Completes, FramesHold, MapHolds};
 ghost use Rattle.jsonb_spec.specs.Source.{tree_of_source};
 
-use super::{Failed, Handler};
 use crate::parser::Mode;
-use crate::parser::frame::OpenObject;
+use jsonb_parse::{Failed, Handler, OpenObject};
 use jsonb_scan::parser::string::decode_contents;
 use jsonb_value::error::Error;
 use jsonb_value::number::Number;
@@ -20,7 +19,13 @@ use std::alloc::{AllocError, AllocFailed, Global};
 use std::borrow::CowStr;
 use std::mem;
 
-impl<'a> Handler<'a> for Value<'a> {
+// A value that is made.
+#[derive(Drop)]
+pub(in crate::parser) struct ValuePart<'a> {
+    pub(in crate::parser) value: Value<'a>,
+}
+
+impl<'a> Handler<'a> for ValuePart<'a> {
     type Room = ();
 
     type Items = Vec<Value<'a>>;
@@ -29,13 +34,13 @@ impl<'a> Handler<'a> for Value<'a> {
 
     type Key = String;
 
-    ghost sees = { λ v s. view v ≡ tree_of_source s };
+    ghost sees = { λ v s. view v.value ≡ tree_of_source s };
 
     ghost stands = { λ text room due fs cs. FramesHold (λ v s. view v ≡ tree_of_source s) (λ key k place. string_bytes key ≡ k.1) (λ ms found. MapHolds found ms.entries) due fs cs };
 
     ghost completes = { λ text room f s fs cs. Completes (λ v s. view v ≡ tree_of_source s) (λ ms s. object (members_view ms.entries) ≡ tree_of_source s) f s × FramesHold (λ v s. view v ≡ tree_of_source s) (λ key k place. string_bytes key ≡ k.1) (λ ms found. MapHolds found ms.entries) true fs cs };
 
-    ghost filled = { λ text room v s fs cs. (view v ≡ tree_of_source s) × FramesHold (λ v s. view v ≡ tree_of_source s) (λ key k place. string_bytes key ≡ k.1) (λ ms found. MapHolds found ms.entries) true fs cs };
+    ghost filled = { λ text room v s fs cs. (view v.value ≡ tree_of_source s) × FramesHold (λ v s. view v ≡ tree_of_source s) (λ key k place. string_bytes key ≡ k.1) (λ ms found. MapHolds found ms.entries) true fs cs };
 
     ghost base = { λ room. [] };
 
@@ -47,22 +52,28 @@ impl<'a> Handler<'a> for Value<'a> {
 
     #[inline(always)]
     fn null() -> Self {
-        Value::Null
+        ValuePart { value: Value::Null }
     }
 
     #[inline(always)]
     fn boolean(value: bool) -> Self {
-        Value::Bool(value)
+        ValuePart {
+            value: Value::Bool(value),
+        }
     }
 
     #[inline(always)]
     fn number(value: Number) -> Self {
-        Value::Number(value)
+        ValuePart {
+            value: Value::Number(value),
+        }
     }
 
     #[inline(always)]
     fn string(text: CowStr<'a>) -> Self {
-        Value::String(text)
+        ValuePart {
+            value: Value::String(text),
+        }
     }
 
     #[inline(always)]
@@ -73,7 +84,9 @@ impl<'a> Handler<'a> for Value<'a> {
         offset: usize,
     ) -> Result<Self, Error> {
         let text = decode_contents(alloc, body.as_bytes(), mode, true, offset)?;
-        Ok(Value::String(text))
+        Ok(ValuePart {
+            value: Value::String(text),
+        })
     }
 
     #[inline(always)]
@@ -83,7 +96,9 @@ impl<'a> Handler<'a> for Value<'a> {
 
     #[inline(always)]
     fn plain_string(text: &'a str) -> Self {
-        Value::String(CowStr::Borrowed(text))
+        ValuePart {
+            value: Value::String(CowStr::Borrowed(text)),
+        }
     }
 
     #[inline(always)]
@@ -99,30 +114,30 @@ impl<'a> Handler<'a> for Value<'a> {
     }
 
     #[inline(always)]
-    fn items(room: &mut (), alloc: Global, at: usize) -> Result<Vec<Self>, AllocError> {
+    fn items(room: &mut (), alloc: Global, at: usize) -> Result<Vec<Value<'a>>, AllocError> {
         Ok(Vec::new(alloc))
     }
 
     #[inline(always)]
-    fn next_item(room: &mut (), items: &mut Vec<Self>) -> Result<(), AllocError> {
+    fn next_item(room: &mut (), items: &mut Vec<Value<'a>>) -> Result<(), AllocError> {
         Ok(())
     }
 
     #[inline(always)]
     fn push(
         room: &mut (),
-        items: &mut Vec<Self>,
+        items: &mut Vec<Value<'a>>,
         value: Self,
         from: usize,
         to: usize,
     ) -> Result<(), AllocError> {
-        push_scalar(items, value)
+        push_scalar(items, value.value)
     }
 
     #[inline(always)]
     fn push_kept(
         room: &mut (),
-        items: &mut Vec<Self>,
+        items: &mut Vec<Value<'a>>,
         from: usize,
         to: usize,
     ) -> Result<(), AllocError> {
@@ -132,12 +147,12 @@ impl<'a> Handler<'a> for Value<'a> {
     #[inline(always)]
     fn push_inner(
         room: &mut (),
-        items: &mut Vec<Self>,
+        items: &mut Vec<Value<'a>>,
         value: Self,
         is_last: bool,
     ) -> Result<(), AllocError> {
         make_room(items, is_last);
-        if let Err(rejected) = items.push(value) {
+        if let Err(rejected) = items.push(value.value) {
             rejected.value.dismantle();
             return Err(AllocError);
         }
@@ -145,14 +160,16 @@ impl<'a> Handler<'a> for Value<'a> {
     }
 
     #[inline(always)]
-    fn end_items(room: &mut (), items: &mut Vec<Self>, at: usize) -> Result<(), AllocError> {
+    fn end_items(room: &mut (), items: &mut Vec<Value<'a>>, at: usize) -> Result<(), AllocError> {
         give_back(items);
         Ok(())
     }
 
     #[inline(always)]
-    fn array(room: &(), items: Vec<Self>) -> Self {
-        Value::Array(items)
+    fn array(room: &(), items: Vec<Value<'a>>) -> Self {
+        ValuePart {
+            value: Value::Array(items),
+        }
     }
 
     #[inline(always)]
@@ -209,7 +226,7 @@ impl<'a> Handler<'a> for Value<'a> {
         from: usize,
         to: usize,
     ) -> Result<bool, AllocError> {
-        put_member(&mut object.members, key, value)
+        put_member(&mut object.members, key, value.value)
     }
 
     #[inline(always)]
@@ -231,7 +248,7 @@ impl<'a> Handler<'a> for Value<'a> {
         value: Self,
     ) -> Result<bool, AllocError> {
         let key = mem::replace(&mut object.key, String::new(alloc));
-        put_member(&mut object.members, key, value)
+        put_member(&mut object.members, key, value.value)
     }
 
     #[inline(always)]
@@ -247,16 +264,18 @@ impl<'a> Handler<'a> for Value<'a> {
 
     #[inline(always)]
     fn object(room: &(), members: Object<'a>) -> Self {
-        Value::Object(members)
+        ValuePart {
+            value: Value::Object(members),
+        }
     }
 
     #[inline(always)]
     fn dismantle(self) {
-        Value::dismantle(self);
+        self.value.dismantle();
     }
 
     #[inline(always)]
-    fn dismantle_items(items: Vec<Self>) {
+    fn dismantle_items(items: Vec<Value<'a>>) {
         Value::Array(items).dismantle();
     }
 

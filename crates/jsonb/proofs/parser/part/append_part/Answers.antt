@@ -6,7 +6,7 @@ use Rattle.jsonb_scan.specs.Parsing.Document.{source_of}
 use Rattle.jsonb_spec.specs.Source.{tree_of_source}
 use Rattle.jsonb_spec.specs.PartAt.{part_at}
 use Rattle.jsonb_write.specs.PartRoom.{part_of}
-use Rattle.jsonb.specs.Handler.{Misses}
+use Rattle.jsonb_parse.specs.Handler.{Misses}
 use Rattle.jsonb.proofs.Documents.Agreement.{fault_rejects}
 use Rattle.jsonb.proofs.Documents.Parts.{part_appended, part_missing}
 use Rattle.jsonb.proofs.Documents.Straight.{source_parsed, text_there}

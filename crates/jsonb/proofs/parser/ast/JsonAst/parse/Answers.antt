@@ -1,5 +1,5 @@
 use Rattle.std.proofs.Common.{rules, ◌≡◌, false, Ok, Err, sym, ap, subst, ◌∙◌}
-use Rattle.jsonb.specs.Handler.{Misses}
+use Rattle.jsonb_parse.specs.Handler.{Misses}
 use Rattle.jsonb.specs.AstView.{ast_view}
 use Rattle.jsonb.specs.Source.{source_view}
 use Rattle.jsonb_scan.specs.Answer.{Fails, mode_of}

@@ -1,7 +1,7 @@
 use Rattle.std.proofs.Common.{◌<◌, length, refl, arith}
 use Rattle.std.proofs.lemmas.Grind.{common_steps}
 use Rattle.jsonb.specs.AstView.{Written}
-use Rattle.jsonb.proofs.Steps.Rows.{source_members_view-more}
+use Rattle.jsonb.proofs.Rows.{source_members_view-more}
 use Rattle.jsonb.proofs.parser.ast.clone.+copy.Goals as goal
 
 pub copy_members-members-preserved : goal.copy_members-members-preserved

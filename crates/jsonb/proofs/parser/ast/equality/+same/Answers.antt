@@ -1,6 +1,6 @@
 use Rattle.std.proofs.Common.{◌≡◌, ◌≤◌, length, leb, sym, ◌∙◌, arith}
 use Rattle.std.proofs.lemmas.Grind.{common_steps}
-use Rattle.jsonb.proofs.Steps.Rows.{items_ended, members_ended}
+use Rattle.jsonb.proofs.Rows.{items_ended, members_ended}
 use Rattle.jsonb.proofs.parser.ast.equality.+same.Goals as goal
 
 pub same_items-returns : goal.same_items-returns

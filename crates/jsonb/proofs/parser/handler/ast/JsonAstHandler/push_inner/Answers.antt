@@ -1,8 +1,7 @@
 use Rattle.std.proofs.Common.{◌≡◌, [], ◌∷◌, ◌++◌, ap, sym, subst, ◌∙◌}
 use Rattle.jsonb.specs.Source.{source_view}
-use Rattle.jsonb.specs.Handler.{AreSeen}
-use Rattle.jsonb.proofs.Containers.Built.{on_ok}
-use Rattle.jsonb.proofs.Containers.Frames.{seen-snoc}
+use Rattle.jsonb.specs.FrameContents.{AreSeen}
+use Rattle.jsonb.proofs.Containers.Built.{on_ok, seen-snoc}
 use Rattle.jsonb.proofs.parser.handler.ast.JsonAstHandler.push_inner.Goals as goal
 
 pub returns-clause-put : goal.returns-clause-put

@@ -1,6 +1,6 @@
 use Rattle.std.proofs.Common.{map}
 use Rattle.jsonb.specs.Held.{part_held}
-use Rattle.jsonb.proofs.Steps.Failures.{ok_if}
+use Rattle.jsonb_parse.proofs.Steps.Failures.{ok_if}
 use Rattle.jsonb.proofs.parser.handler.part.SoughtPartHandler.borrowed_key.Goals as goal
 
 pub returns-clause-begun : goal.returns-clause-begun

@@ -1,7 +1,7 @@
 use Rattle.std.proofs.Common.{map}
 use Rattle.jsonb.specs.Held.{part_held}
 use Rattle.jsonb.proofs.Containers.Built.{on_ok}
-use Rattle.jsonb.proofs.Scalars.Spelled.{spelled_part}
+use Rattle.jsonb.proofs.Spelled.{spelled_part}
 use Rattle.jsonb.proofs.parser.handler.part.SoughtPartHandler.push.Goals as goal
 
 pub returns-clause-put : goal.returns-clause-put

@@ -1,5 +1,5 @@
 use Rattle.jsonb.proofs.Containers.Built.{on_ok}
-use Rattle.jsonb.proofs.Scalars.Spelled.{spelled_part}
+use Rattle.jsonb.proofs.Spelled.{spelled_part}
 use Rattle.jsonb.proofs.parser.handler.part.SoughtPartHandler.root.Goals as goal
 
 pub returns-clause-filled : goal.returns-clause-filled

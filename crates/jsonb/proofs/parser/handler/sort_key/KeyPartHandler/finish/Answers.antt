@@ -4,7 +4,7 @@ use Rattle.jsonb.specs.Held.{key_held}
 use Rattle.jsonb_scan.specs.Parsing.Container.{object_or_fault}
 use Rattle.jsonb_spec.specs.Source.{first_repeat, object_source_of, spot_of}
 use Rattle.jsonb_write.specs.KeyRoom.{EndsObject, TellsRepeatOf}
-use Rattle.jsonb.proofs.Steps.Failures.{tells_always}
+use Rattle.jsonb_parse.proofs.Steps.Failures.{tells_always}
 use Rattle.jsonb.proofs.parser.handler.sort_key.KeyPartHandler.finish.Goals as goal
 
 pub returns-in-Ok-None-clause-ended : goal.returns-in-Ok-None-clause-ended

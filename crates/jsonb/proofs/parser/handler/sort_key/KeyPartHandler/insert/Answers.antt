@@ -1,7 +1,7 @@
 use Rattle.std.proofs.Common.{[], map}
 use Rattle.jsonb_spec.specs.Tree.Mark.{plain}
 use Rattle.jsonb.specs.Held.{key_held}
-use Rattle.jsonb.proofs.Scalars.Spelled.{spelled_part}
+use Rattle.jsonb.proofs.Spelled.{spelled_part}
 use Rattle.jsonb.proofs.parser.handler.sort_key.KeyPartHandler.insert.Goals as goal
 
 pub returns-in-Ok-clause-put : goal.returns-in-Ok-clause-put

@@ -1,6 +1,6 @@
 use Rattle.std.proofs.Common.{map}
 use Rattle.jsonb.specs.Held.{key_held}
-use Rattle.jsonb.proofs.Steps.Failures.{ok_if}
+use Rattle.jsonb_parse.proofs.Steps.Failures.{ok_if}
 use Rattle.jsonb.proofs.parser.handler.sort_key.KeyPartHandler.items.Goals as goal
 
 pub returns-clause-opened : goal.returns-clause-opened

@@ -1,8 +1,0 @@
--- Values that hold no others, and keys.
-pub mod Built
-pub mod Contents
-pub mod FirstBytes
-pub mod KeptIntegers
-pub mod Spelled
-pub mod Spellings
-pub mod Starts

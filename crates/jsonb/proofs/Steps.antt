@@ -1,6 +1,0 @@
--- Small steps that all layers take.
-pub mod Advancing
-pub mod Cursors
-pub mod Failures
-pub mod Outcomes
-pub mod Rows

@@ -1,8 +1,0 @@
-use Rattle.std.proofs.Common.{map}
-use Rattle.jsonb.specs.Held.{text_held}
-use Rattle.jsonb.proofs.Containers.Built.{on_ok}
-use Rattle.jsonb.proofs.Scalars.Spelled.{spelled_part}
-use Rattle.jsonb.proofs.parser.handler.text.PartHandler.push.Goals as goal
-
-pub returns-clause-put : goal.returns-clause-put
-returns-clause-put c = on_ok c.push.result (λ h text s ss fs cs held is. h text s (map text_held fs) ss cs held is.0 (spelled_part text c.args.from c.args.to c.args.value s is.0 is.1)) c.push.ensures.stands

@@ -1,0 +1,4 @@
+pub mod Containers
+pub mod Document
+pub mod Scalars
+pub mod Steps

@@ -1,0 +1,7 @@
+-- Values that hold no others, and keys.
+pub mod Built
+pub mod Contents
+pub mod FirstBytes
+pub mod KeptIntegers
+pub mod Spellings
+pub mod Starts

@@ -1,0 +1,216 @@
+-- A value that holds no others, built of what the steps in it give.
+use Rattle.std.proofs.Common.{◌≡◌, ◌≢◌, pos, neg_ℤ, ◌+◌, ◌-◌, ℕ, true, false, List, [], ◌∷◌, ◌++◌, codes, length, Option, Some, Result, Ok, Err, IfOk, IfErr, refl, ap, sym, subst, ◌∙◌, arith, length-drop, length-append, append_assoc, drop, ◌<◌, take, slice_range, ap₂, Bool, OnOk, IfOk, eqb, true≢false, inl, inr}
+use Rattle.std.specs.Prelude.{slice_index}
+use Rattle.std.proofs.Math.Seq.{take-append_seam}
+use Rattle.std.proofs.lemmas.Bool.{cases_Bool, cond-false, eqb-true}
+use Rattle.jsonb_value.specs.declared.error.Error.{Error}
+use Rattle.jsonb_value.specs.declared.error.Error.TheVariants.{Syntax, OutOfMemory}
+use Rattle.jsonb_spec.specs.Mode.{Mode, standard, extended}
+use Rattle.jsonb_scan.specs.declared.parser.number.ShortInteger.{ShortInteger}
+use Rattle.jsonb_spec.specs.Tree.{Mark, Num, Tree, int64, uint64, null, boolean, number, string}
+use Rattle.jsonb_parse.specs.declared.parser.Parser.{Parser}
+use Rattle.jsonb_scan.specs.Answer.{Fails, mode_of}
+use Rattle.jsonb_scan.specs.Parsing.{Fault, Parse, begins, ◌>>=◌}
+use Rattle.jsonb_scan.specs.Parsing.ExtendedNumber.{extended_number_at}
+use Rattle.jsonb_scan.specs.Parsing.Number.{is_number_start, standard_number_at}
+use Rattle.jsonb_scan.specs.Parsing.Scalar.{begins_number, letters_at, null_at, number_at, number_value_at, or_else, other_scalar_at, quoted_at, scalar_at}
+use Rattle.jsonb_scan.specs.Parsing.String.{string_at}
+use Rattle.jsonb_scan.specs.Open.{Open, elements_so_far, members_so_far}
+use Rattle.jsonb_spec.specs.Source.{Found, Source, found_member, number_source, source_alone}
+use Rattle.jsonb_spec.specs.Grammar.StandardNumber.{IsStandardNumber}
+use Rattle.jsonb_scan.specs.Spelled.{IsSpelled, IsSpelledAt}
+use Rattle.jsonb_parse.specs.Literals.{literal_text, literal_tree}
+use Rattle.jsonb_parse.specs.declared.parser.scalar.Literal.{Literal}
+use Rattle.jsonb_parse.specs.declared.parser.scalar.Literal.TheVariants as literals
+use Rattle.jsonb_spec.specs.Tree.Mark.{plain}
+use Rattle.jsonb_parse.specs.declared.parser.frame.Frame.{Frame}
+use Rattle.jsonb_parse.specs.declared.parser.frame.Frame.TheVariants as variants
+use Rattle.jsonb_parse.specs.declared.parser.frame.OpenObject.{OpenObject}
+use Rattle.jsonb_parse.specs.Handler.{AsKey, AsNumber, AsScalar, Builds, IsUntold}
+use Rattle.jsonb_parse.specs.Frames.{IsPushed, IsPutIn}
+use Rattle.jsonb_parse.specs.Parser.{Advances, IsBehind, rest_of, size_of}
+use Rattle.jsonb_spec.specs.Text.{in_quotes}
+use Rattle.std.proofs.lemmas.List.{drop_more}
+use Rattle.jsonb_write.specs.OpenText.{source_text}
+use Rattle.jsonb_parse.proofs.Scalars.FirstBytes.{extended_number, standard_number}
+use Rattle.jsonb_scan.proofs.Containers.JoinedParts.{on_byte-none}
+use Rattle.jsonb_parse.proofs.Steps.Failures.{memory_misses, misses_through, untold_misses}
+use Rattle.jsonb_parse.proofs.Steps.Outcomes.{same_size, scalar_quoted}
+
+-- ---- strings
+
+pub string_read : (size : ℕ) (mode : Mode) (quote : ℕ) (bytes : List ℕ) (x : Mark × List ℕ) (rest : List ℕ) → string_at size mode quote bytes ≡ Ok (x, rest) → quoted_at size mode quote bytes ≡ Ok (string x.0 x.1, rest)
+string_read size mode quote bytes x rest read = ap (λ (r : Parse (Mark × List ℕ)). r >>= λ (s : (Mark × List ℕ) × List ℕ). Ok (string s.0.0 s.0.1, s.1)) read
+
+pub scalar_string : (p q : Parser) (x : Mark × List ℕ) (rest : List ℕ) → Advances p q → rest_of p ≡ 34 ∷ rest_of q → string_at (size_of q) (mode_of q.mode) 34 (rest_of q) ≡ Ok (x, rest)
+    → scalar_at (size_of p) (mode_of p.mode) (rest_of p) ≡ Ok (string x.0 x.1, rest)
+scalar_string p q x rest a e read = scalar_quoted p q a e ∙ string_read (size_of q) (mode_of q.mode) 34 (rest_of q) x rest read
+
+-- ---- words
+
+pub null_read : (size : ℕ) (mode : Mode) (bytes rest : List ℕ) → letters_at size mode (codes "null") bytes ≡ Ok rest → null_at size mode bytes ≡ Ok (null, rest)
+null_read size standard bytes rest read = ap (λ (r : Result (List ℕ) Fault). r >>= λ rest. Ok (null, rest)) read
+null_read size extended bytes rest read = ap (λ (r : Result (List ℕ) Fault). or_else (r >>= λ rest. Ok (null, rest)) (number_value_at size extended bytes)) read
+
+-- no word begins here, in extended mode
+pub null_missed : (size : ℕ) (mode : Mode) (bytes : List ℕ) (e : Error) → mode ≡ extended → e ≢ OutOfMemory → Fails e (letters_at size mode (codes "null") bytes) → null_at size mode bytes ≡ number_value_at size mode bytes
+null_missed size standard bytes e is other h = cc
+null_missed size extended bytes (Syntax code place) is other h = ap (λ (r : Result (List ℕ) Fault). or_else (r >>= λ rest. Ok (null, rest)) (number_value_at size extended bytes)) h
+null_missed size extended bytes OutOfMemory is other h = absurd (other refl)
+null_missed size extended bytes e is other h = absurd h
+
+-- ---- numbers
+
+-- a number as a value
+pub number_built : {V F : Type 0} (silent : Bool) (told : Option Error) (Sees : V → Source → Type 0) (result : Result V F) (size : ℕ) (mode : Mode) (bytes rest : List ℕ) → Builds silent told (AsNumber Sees) result (number_at size mode bytes) rest
+    → Builds silent told (AsScalar Sees) result (number_value_at size mode bytes) rest
+number_built silent told Sees (Ok v) size mode bytes rest h = (number h.0, h.1, ap (λ (r : Parse Num). r >>= λ x. Ok (number x.0, x.1)) h.2)
+number_built silent told Sees (Err f) size mode bytes rest h = misses_through silent told (number_at size mode bytes) (λ x. Ok (number x.0, x.1)) h
+
+-- ---- what is parsed is kept
+
+module _ {R I M K F : Type 0} (silent : Bool) (Stands : List ℕ → R → Bool → List (Frame I M K) → List Open → Type 0) (Seen : Source → Type 0) (text : List ℕ) (from : ℕ) (q r : Parser) (old new : R) where
+  -- a scalar that was parsed is pushed
+  pub read_pushed : (result : Result Unit F) (before : I) (t : Tree) (read : Parse Tree) (after : I)
+      → OnOk result ((bytes : List ℕ) → (s : Source) → (ss : List Source) → (fs : List (Frame I M K)) → (cs : List Open) → Stands bytes old false (variants.Array before ∷ fs) (elements_so_far ss ∷ cs) → Seen s × IsSpelledAt bytes from q.offset s → Stands bytes new false (variants.Array after ∷ fs) (elements_so_far (ss ++ s ∷ []) ∷ cs))
+      → OnOk result (r ≡ q) → IfErr result (λ _. r.told ≡ Some OutOfMemory) → Seen (source_alone t) → IsSpelledAt text from q.offset (source_alone t) → read ≡ Ok (t, rest_of q) → IsPushed silent r.told Stands text result old before read new after (rest_of r)
+  read_pushed (Ok x) before t read after pushed same memory sees spelled is = (t, is ∙ ap (λ o. Ok (t, rest_of o)) (sym same), λ ss fs cs stands. pushed text (source_alone t) ss fs cs stands (sees, spelled))
+  read_pushed (Err f) before t read after pushed same memory sees spelled is = memory_misses silent r.told read memory
+
+  -- and put in under a key
+  pub read_put : (result : Result Unit F) (before : OpenObject M K) (key : K) (t : Tree) (read : Parse Tree) (after : OpenObject M K)
+      → OnOk result ((bytes : List ℕ) → (s : Source) → (front : List Found) → (k : Mark × List ℕ) → (place : ℕ) → (fs : List (Frame I M K)) → (cs : List Open) → Stands bytes old true (variants.Object (record { members = before.members; key = key }) ∷ fs) (members_so_far front k place ∷ cs) → Seen s × IsSpelledAt bytes from q.offset s → Stands bytes new false (variants.Object after ∷ fs) (members_so_far (front ++ found_member k s place ∷ []) (plain, []) 0 ∷ cs))
+      → OnOk result (r ≡ q) → IfErr result (λ _. IsUntold silent r.told) → Seen (source_alone t) → IsSpelledAt text from q.offset (source_alone t) → read ≡ Ok (t, rest_of q) → IsPutIn silent r.told Stands text result old before key read new after (rest_of r)
+  read_put (Ok x) before key t read after put same memory sees spelled is = (t, is ∙ ap (λ o. Ok (t, rest_of o)) (sym same), λ front k place fs cs stands. put text (source_alone t) front k place fs cs stands (sees, spelled))
+  read_put (Err f) before key t read after put same memory sees spelled is = untold_misses silent r.told read memory
+
+  -- a value that stands there as it is written is pushed
+  pub kept_pushed : (result : Result Unit F) (before : I) (t : Tree) (read : Parse Tree) (after : I)
+      → OnOk result ((bytes : List ℕ) → (s : Source) → (ss : List Source) → (fs : List (Frame I M K)) → (cs : List Open) → Stands bytes old false (variants.Array before ∷ fs) (elements_so_far ss ∷ cs) → slice_range bytes from q.offset ≡ source_text s → Stands bytes new false (variants.Array after ∷ fs) (elements_so_far (ss ++ s ∷ []) ∷ cs))
+      → OnOk result (r ≡ q) → IfErr result (λ _. r.told ≡ Some OutOfMemory) → slice_range text from q.offset ≡ source_text (source_alone t) → read ≡ Ok (t, rest_of q) → IsPushed silent r.told Stands text result old before read new after (rest_of r)
+  kept_pushed (Ok x) before t read after pushed same memory there is = (t, is ∙ ap (λ o. Ok (t, rest_of o)) (sym same), λ ss fs cs stands. pushed text (source_alone t) ss fs cs stands there)
+  kept_pushed (Err f) before t read after pushed same memory there is = memory_misses silent r.told read memory
+
+  -- and put in under a key
+  pub kept_put : (result : Result Unit F) (before : OpenObject M K) (key : K) (t : Tree) (read : Parse Tree) (after : OpenObject M K)
+      → OnOk result ((bytes : List ℕ) → (s : Source) → (front : List Found) → (k : Mark × List ℕ) → (place : ℕ) → (fs : List (Frame I M K)) → (cs : List Open) → Stands bytes old true (variants.Object (record { members = before.members; key = key }) ∷ fs) (members_so_far front k place ∷ cs) → slice_range bytes from q.offset ≡ source_text s → Stands bytes new false (variants.Object after ∷ fs) (members_so_far (front ++ found_member k s place ∷ []) (plain, []) 0 ∷ cs))
+      → OnOk result (r ≡ q) → IfErr result (λ _. IsUntold silent r.told) → slice_range text from q.offset ≡ source_text (source_alone t) → read ≡ Ok (t, rest_of q) → IsPutIn silent r.told Stands text result old before key read new after (rest_of r)
+  kept_put (Ok x) before key t read after put same memory there is = (t, is ∙ ap (λ o. Ok (t, rest_of o)) (sym same), λ front k place fs cs stands. put text (source_alone t) front k place fs cs stands there)
+  kept_put (Err f) before key t read after put same memory there is = untold_misses silent r.told read memory
+
+-- ---- where a scalar stands
+
+-- the bytes between two places of a parser
+pub between : (p q : Parser) (bytes : List ℕ) → Advances p q → rest_of p ≡ bytes ++ rest_of q → slice_range p.buf.now p.offset q.offset ≡ bytes
+between p q bytes a e =
+    let same = same_size p q a in
+    let count : q.offset - p.offset ≡ length bytes = omega (arith, ap length e, length-append bytes (rest_of q), length-drop p.offset p.buf.now, length-drop q.offset q.buf.now, same, q.inside, p.inside) in
+    ap₂ (λ n xs. take n xs) count e ∙ take-append_seam bytes (rest_of q)
+
+-- the integer that is parsed, with a minus and without
+abbrev pub negative_of : ShortInteger → Num
+negative_of read = record { form = int64; scale = 0; whole = neg_ℤ (pos read.magnitude) }
+
+abbrev pub positive_of : ShortInteger → Num
+positive_of read = record { form = uint64; scale = 0; whole = pos read.magnitude }
+
+-- an integer in the text
+pub integer_stands : (p q : Parser) (n : Num) → Advances p q → (bytes : List ℕ) × (rest_of p ≡ bytes ++ rest_of q) × IsStandardNumber bytes n → IsSpelledAt p.buf.now p.offset q.offset (number_source n)
+integer_stands p q n a h some = subst (λ bs. IsStandardNumber bs n) (sym (between p q h.0 a h.1)) h.2
+
+-- nothing is said of where a scalar stands
+pub not_spelled : (text : List ℕ) (at : ℕ) (s : Source) → IsSpelledAt text at at s
+not_spelled text at s h = absurd (omega arith)
+
+-- ---- keys
+
+-- a key without escapes, behind its opening quote
+pub key_stands : (p q r : Parser) (body : List ℕ) → 0 < q.offset → Advances p q → Advances q r → IsBehind 34 q → rest_of q ≡ body ++ 34 ∷ rest_of r → slice_range p.buf.now (q.offset - 1) r.offset ≡ in_quotes body
+key_stands p q r body some on a behind e =
+    let before : Parser = record q { offset = q.offset - 1; inside = omega (arith, q.inside) } in
+    let back : q.offset - 1 + 1 ≡ q.offset = omega (arith, some) in
+    let more : rest_of before ≡ 34 ∷ rest_of q =
+    drop_more q.buf.now (q.offset - 1) 0 (omega (arith, q.inside, some)) ∙ ap₂ (λ b r. b ∷ r) behind.1 (ap (λ n. drop n q.buf.now) back) in
+    let on_before : Advances before r = record { buf = a.buf; mode = a.mode; onward = omega (arith, a.onward) } in
+    ap (λ b. slice_range b.now (q.offset - 1) r.offset) (sym on.buf)
+    ∙ between before r (34 ∷ body ++ 34 ∷ []) on_before (more ∙ ap (λ xs. 34 ∷ xs) (e ∙ sym (append_assoc body (34 ∷ []) (rest_of r))))
+
+-- what is so of a key that stands there
+pub key_begun : {K A : Type 0} (Stands : List ℕ → Type 0) (Begun : List ℕ → K → Type 0) (made : Result K A) → IfOk made (λ key. (bytes : List ℕ) → Stands bytes → Begun bytes key) → (bytes : List ℕ) → Stands bytes → IfOk made (Begun bytes)
+key_begun Stands Begun (Ok key) h bytes stands = h bytes stands
+key_begun Stands Begun (Err e) h bytes stands = tt
+
+-- and of one that is plain too
+pub plain_key_begun : {K A P : Type 0} (Stands : List ℕ → Type 0) (Begun : List ℕ → K → Type 0) (made : Result K A) → IfOk made (λ key. (bytes : List ℕ) → Stands bytes → P → Begun bytes key) → P → (bytes : List ℕ) → Stands bytes → IfOk made (Begun bytes)
+plain_key_begun Stands Begun (Ok key) h is_plain bytes stands = h bytes stands is_plain
+plain_key_begun Stands Begun (Err e) h is_plain bytes stands = tt
+
+-- a key that a handler made of what was parsed
+pub key_kept : {K A F : Type 0} (silent : Bool) (Names : K → Mark × List ℕ → ℕ → Type 0) (made : Result K A) (result : Result K F) (size : ℕ) (p q : Parser) (k : Mark × List ℕ) (read : Parse (Mark × List ℕ)) → size ≡ size_of p → IfOk made (λ key. Names key k p.offset)
+    → IfOk result (λ x. (made ≡ Ok x) × (q ≡ p)) → IfErr result (λ _. q.told ≡ Some OutOfMemory) → read ≡ Ok (k, rest_of p) → Builds silent q.told (AsKey Names size (rest_of q)) result read (rest_of q)
+key_kept silent Names made (Ok key) size p q k read same named kept memory is =
+    let place : p.offset ≡ size - length (rest_of q) = omega (arith, length-drop p.offset p.buf.now, same, p.inside, ap (λ o. length (rest_of o)) kept.1) in
+    (k, subst (λ i. Names key k i) place (subst (λ m. IfOk m (λ x. Names x k p.offset)) kept.0 named), is ∙ ap (λ o. Ok (k, rest_of o)) (sym kept.1))
+key_kept silent Names made (Err f) size p q k read same named kept memory is = memory_misses silent q.told read memory
+
+-- what is built in an input of one size is built in the same
+pub key_same : {K F : Type 0} (silent : Bool) (told : Option Error) (Names : K → Mark × List ℕ → ℕ → Type 0) (result : Result K F) (size other_size : ℕ) (read other : Parse (Mark × List ℕ)) (rest : List ℕ) → other_size ≡ size → other ≡ read
+    → Builds silent told (AsKey Names size rest) result read rest → Builds silent told (AsKey Names other_size rest) result other rest
+key_same silent told Names result size other_size read other rest sizes same h =
+    subst (λ n. Builds silent told (AsKey Names n rest) result other rest) (sym sizes) (subst (λ q. Builds silent told (AsKey Names size rest) result q rest) (sym same) h)
+
+-- ---- what is parsed at once
+
+pub null_at_once : (size : ℕ) (mode : Mode) (rest : List ℕ) → scalar_at size mode (110 ∷ 117 ∷ 108 ∷ 108 ∷ rest) ≡ Ok (null, rest)
+unfolding scalar_at
+null_at_once size standard rest = refl
+null_at_once size extended rest = refl
+
+pub true_at_once : (size : ℕ) (mode : Mode) (rest : List ℕ) → scalar_at size mode (116 ∷ 114 ∷ 117 ∷ 101 ∷ rest) ≡ Ok (boolean true, rest)
+unfolding scalar_at
+true_at_once size standard rest = refl
+true_at_once size extended rest = refl
+
+pub false_at_once : (size : ℕ) (mode : Mode) (rest : List ℕ) → scalar_at size mode (102 ∷ 97 ∷ 108 ∷ 115 ∷ 101 ∷ rest) ≡ Ok (boolean false, rest)
+unfolding scalar_at
+false_at_once size standard rest = refl
+false_at_once size extended rest = refl
+
+-- the first byte is a digit or a minus
+starts_number : (bytes : List ℕ) → is_number_start (slice_index bytes 0) ≡ true → (begins 34 bytes ≡ false) × (begins_number standard bytes ≡ true)
+starts_number [] e = absurd (true≢false (sym e))
+starts_number (b ∷ bytes) e = (no_quote, e)
+  where
+    no_quote : begins 34 (b ∷ bytes) ≡ false
+    no_quote = elim (cases_Bool (eqb b 34)) [
+      | inl same ↦ absurd (true≢false (sym e ∙ ap is_number_start (eqb-true b 34 same)))
+      | inr other ↦ cond-false (eqb b 34) true false other
+    ]
+
+-- an integer of a standard text
+pub integer_at_once : (size : ℕ) (mode : Mode) (bytes : List ℕ) (n : Num) (rest : List ℕ) → mode ≡ standard → is_number_start (slice_index bytes 0) ≡ true → standard_number_at size bytes ≡ Ok (n, rest)
+    → scalar_at size mode bytes ≡ Ok (number n, rest)
+unfolding scalar_at
+integer_at_once size mode bytes n rest is first read =
+    let begun = starts_number bytes first in
+    on_byte-none 34 bytes (quoted_at size mode 34) (other_scalar_at size mode bytes) begun.0
+    ∙ standard_number size mode bytes is begun.1 ∙ ap (λ (r : Parse Num). r >>= λ x. Ok (number x.0, x.1)) read
+
+-- a number of an extended text that begins as integers do
+pub extended_at_once : (size : ℕ) (mode : Mode) (bytes : List ℕ) (n : Num) (rest : List ℕ) → mode ≡ extended → is_number_start (slice_index bytes 0) ≡ true → extended_number_at size bytes ≡ Ok (n, rest)
+    → scalar_at size mode bytes ≡ Ok (number n, rest)
+unfolding scalar_at
+extended_at_once size mode bytes n rest is first read =
+    let begun = starts_number bytes first in
+    on_byte-none 34 bytes (quoted_at size mode 34) (other_scalar_at size mode bytes) begun.0
+    ∙ extended_number size mode bytes is begun.1 ∙ ap (λ (r : Parse Num). r >>= λ x. Ok (number x.0, x.1)) read
+
+-- what the parser parses where it stood still
+pub scalar_still : (p q : Parser) → q ≡ p → scalar_at (size_of p) (mode_of p.mode) (rest_of p) ≡ scalar_at (size_of q) (mode_of q.mode) (rest_of q)
+scalar_still p q same = sym (ap (λ o. scalar_at (size_of o) (mode_of o.mode) (rest_of o)) same)
+
+-- a literal as it is spelled
+pub literal_spelled : (l : Literal) (bytes : List ℕ) → bytes ≡ literal_text l → IsSpelled bytes (source_alone (literal_tree l))
+literal_spelled literals.Null bytes e = e
+literal_spelled (literals.Bool true) bytes e = e
+literal_spelled (literals.Bool false) bytes e = e

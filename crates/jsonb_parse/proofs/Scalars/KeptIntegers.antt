@@ -1,0 +1,67 @@
+-- Integers of extended texts that are written as they stand.
+use Rattle.std.proofs.Common.{◌≡◌, ℕ, zero, suc, ◌+◌, ◌≤◌, true, List, [], ◌∷◌, ◌++◌, drop, drop-drop, Ok, refl, sym, ap, ap₂, ◌∙◌, arith}
+use Rattle.std.specs.Prelude.{slice_index}
+use Rattle.jsonb_spec.specs.Mode.{Mode, extended}
+use Rattle.jsonb_spec.specs.Text.NumberText.{number_text, text_of_parts}
+use Rattle.jsonb_spec.specs.Tree.{Num, number}
+use Rattle.jsonb_value.proofs.Numbers.InRange.{extended_reads_back, standard_number, integral_in_texts}
+use Rattle.jsonb_scan.specs.Parsing.Whitespace.{is_break}
+use Rattle.jsonb_scan.specs.Parsing.ExtendedNumber.{EndsExtended, extended_number_at}
+use Rattle.jsonb_scan.specs.Parsing.Number.{is_number_start}
+use Rattle.jsonb_scan.specs.Parsing.Scalar.{scalar_at}
+use Rattle.jsonb_scan.specs.ShortInteger.{IsKeptInteger, short_view}
+use Rattle.jsonb_scan.proofs.Numbers.Extended.{extended_complete}
+use Rattle.jsonb_scan.proofs.Numbers.Standard.{number_sound}
+use Rattle.jsonb_write.proofs.Spelled.{kept_text}
+use Rattle.jsonb_parse.specs.declared.parser.Parser.{Parser}
+use Rattle.jsonb_parse.specs.Parser.{Advances, PassesInteger, rest_of, size_of}
+use Rattle.jsonb_scan.specs.Answer.{mode_of}
+use Rattle.jsonb_parse.proofs.Scalars.Built.{between, extended_at_once}
+use Rattle.jsonb_parse.proofs.Scalars.Spellings.{break_ends_extended}
+
+-- The bytes begin with a number as it is written, and a parser of this mode parses it there.
+pub record IsKeptNumber (size : ℕ) (mode : Mode) (bytes rest : List ℕ) : Type 0 where
+  pub value : Num
+  pub core : List ℕ
+  pub joined : bytes ≡ core ++ rest
+  pub parses : scalar_at size mode bytes ≡ Ok (number value, rest)
+  pub text : core ≡ number_text value
+
+-- a byte after which no extended number goes on
+behind : (bytes : List ℕ) (end : ℕ) → is_break (slice_index bytes end) ≡ true → EndsExtended (drop end bytes)
+behind [] zero e = tt
+behind [] (suc end) e = tt
+behind (b ∷ bytes) zero e = break_ends_extended b e
+behind (b ∷ bytes) (suc end) e = behind bytes end e
+
+pub extended_kept : (size : ℕ) (mode : Mode) (bytes : List ℕ) (end : ℕ) → mode ≡ extended → is_number_start (slice_index bytes 0) ≡ true → IsKeptInteger bytes end → is_break (slice_index bytes end) ≡ true → IsKeptNumber size mode bytes (drop end bytes)
+extended_kept size mode bytes end is first kept ends =
+    let n = short_view kept.read in
+    let rest = drop end bytes in
+    let sound = number_sound size bytes n rest (kept.found size) in
+    let text : sound.core ≡ number_text n = kept_text kept.read.negative kept.read.magnitude kept.read.end sound.core kept.some sound.number in
+    let known = standard_number sound.core n sound.number in
+    let same = extended_reads_back n known.1 (integral_in_texts n known.1 known.0) in
+    let at = extended_complete size (number_text n) rest same.read same.is_number (behind bytes end ends) in
+    let found : extended_number_at size bytes ≡ Ok (same.read, rest) = ap (extended_number_at size) (sound.joined ∙ ap (λ core. core ++ rest) text) ∙ at in
+    record {
+      value = same.read;
+      core = sound.core;
+      joined = sound.joined;
+      parses = extended_at_once size mode bytes same.read rest is first found;
+      text = text ∙ sym (ap₂ text_of_parts same.scales same.wholes);
+    }
+
+-- what a parser passes that goes on behind it
+pub kept_passes : (p : Parser) (end : ℕ) (inside : p.offset + end ≤ size_of p) → IsKeptNumber (size_of p) (mode_of p.mode) (rest_of p) (drop end (rest_of p)) → PassesInteger p (record p { offset = p.offset + end; inside = inside })
+kept_passes p end inside kept = record {
+  value = kept.value;
+  parses = kept.parses ∙ ap (λ r. Ok (number kept.value, r)) (drop-drop end p.offset p.buf.now);
+  text = between p o kept.core on (kept.joined ∙ ap (λ r. kept.core ++ r) (drop-drop end p.offset p.buf.now)) ∙ kept.text;
+}
+  where
+    o : Parser
+    o = record p { offset = p.offset + end; inside = inside }
+
+    on : Advances p o
+    on = record { buf = refl; mode = refl; onward = omega arith }

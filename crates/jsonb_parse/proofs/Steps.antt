@@ -1,0 +1,5 @@
+-- Small steps that all layers take.
+pub mod Advancing
+pub mod Cursors
+pub mod Failures
+pub mod Outcomes

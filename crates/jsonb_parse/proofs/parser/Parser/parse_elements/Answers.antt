@@ -1,0 +1,149 @@
+use Rattle.std.proofs.Common.{◌≡◌, ℕ, List, [], ◌∷◌, ◌++◌, false, refl, sym, ap, subst, ◌∙◌, rules}
+use Rattle.std.proofs.lemmas.Result.{err_from_is_err_and}
+use Rattle.jsonb_parse.specs.Frames.{IsArray, resume_part, scalar_or_null}
+use Rattle.jsonb_parse.specs.declared.parser.frame.Frame.TheVariants as variants
+use Rattle.jsonb_spec.specs.Code.Code.{expected_array_comma_or_end}
+use Rattle.jsonb_scan.specs.Answer.{mode_of}
+use Rattle.jsonb_scan.specs.Parsing.{◌>>=◌}
+use Rattle.jsonb_scan.specs.Parsing.Whitespace.{skip_whitespace}
+use Rattle.jsonb_spec.specs.Source.{Source, source_alone}
+use Rattle.jsonb_parse.specs.Parser.{parse_at, rest_of, size_of}
+use Rattle.jsonb_parse.specs.Stack.{elements_from, next_part_at, part_end}
+use Rattle.jsonb_parse.specs.declared.parser.frame.Frame.{Frame}
+use Rattle.jsonb_scan.specs.Open.{Open, elements_so_far, members_so_far}
+use Rattle.jsonb_parse.proofs.Containers.Frames.{after_element, element_stops, element_turn, same_end}
+use Rattle.jsonb_parse.proofs.Steps.Advancing.{goes_on, stays}
+use Rattle.jsonb_parse.proofs.Steps.Failures.{misses_same, misses_through, tells_always}
+use Rattle.jsonb_parse.proofs.parser.Parser.parse_elements.Goals as goal
+
+pub returns-then-begins_container : goal.returns-then-begins_container
+returns-then-begins_container g c =
+    record {
+      parses = λ depth o fs cs fits held.
+          let i = c.elements.invariant in
+          let so_far = i.parses depth o fs cs fits held in
+          record {
+            so_far = elements_so_far so_far.0;
+            fits = tt;
+            held = c.in-Ok.ensures.due c.args.self.now.buf.now so_far.0 fs cs so_far.1;
+            parses = so_far.2 ∙ element_stops c.args.self.now c.elements.self c.skip_whitespace.new.self depth so_far.0 i.advances c.skip_whitespace.ensures.advances c.skip_whitespace.ensures.rest c.if-begins_container.ensures.other;
+          };
+      onward = search rules;
+      opens = search rules;
+      advances = search rules;
+    }
+
+pub returns-in_err-push_element : goal.returns-in_err-push_element
+returns-in_err-push_element g c =
+    record {
+      parses = λ depth o fs cs fits held.
+          let p = c.args.self.now in
+          let s = c.skip_whitespace.new.self in
+          let i = c.elements.invariant in
+          let so_far = i.parses depth o fs cs fits held in
+          let silent = g.V.Handler.silent in
+          let t = c.push_element.new.self.told in
+          let residual = err_from_is_err_and c.from_residual.result c.from_residual.ensures.1 in
+          rw (residual.1) (misses_same silent t (parse_at scalar_or_null s >>= after_element p depth so_far.0) (next_part_at (size_of p) (mode_of p.mode) depth o (rest_of p))
+          (so_far.2 ∙ element_turn p c.elements.self s depth so_far.0 i.advances c.skip_whitespace.ensures.advances c.skip_whitespace.ensures.rest c.if-begins_container.ensures.other.0 c.if-begins_container.ensures.other.1)
+          (misses_through silent t (parse_at scalar_or_null s) (after_element p depth so_far.0) c.in_err-push_element.ensures.parses));
+      onward = search rules;
+      opens = search rules;
+      advances = search rules;
+    }
+
+pub returns-in_err-end_element : goal.returns-in_err-end_element
+returns-in_err-end_element g c =
+    record {
+      parses = λ depth o fs cs fits held.
+          let p = c.args.self.now in
+          let l = c.elements.self in
+          let s = c.skip_whitespace.new.self in
+          let q = c.push_element.new.self in
+          let i = c.elements.invariant in
+          let so_far = i.parses depth o fs cs fits held in
+          let pushed = c.in_ok-push_element.ensures.parses in
+          let silent = g.V.Handler.silent in
+          let t = c.end_element.new.self.told in
+          let on = goes_on p s q (goes_on p l s i.advances c.skip_whitespace.ensures.advances) c.push_element.ensures.advances.parser in
+          let ends = part_end (size_of q) expected_array_comma_or_end 93 (skip_whitespace (mode_of q.mode) (rest_of q)) in
+          let residual = err_from_is_err_and c.from_residual-in_err-end_element.result c.from_residual-in_err-end_element.ensures.1 in
+          rw (residual.1) (misses_same silent t (ends >>= λ y. resume_part (size_of p) (mode_of p.mode) depth y.0 (elements_so_far (so_far.0 ++ source_alone pushed.0 ∷ [])) y.1) (next_part_at (size_of p) (mode_of p.mode) depth o (rest_of p))
+          (so_far.2 ∙ element_turn p l s depth so_far.0 i.advances c.skip_whitespace.ensures.advances c.skip_whitespace.ensures.rest c.if-begins_container.ensures.other.0 c.if-begins_container.ensures.other.1
+          ∙ ap (λ r. r >>= after_element p depth so_far.0) pushed.1
+          ∙ ap (λ r. r >>= λ y. resume_part (size_of p) (mode_of p.mode) depth y.0 (elements_so_far (so_far.0 ++ source_alone pushed.0 ∷ [])) y.1) (sym (same_end p q expected_array_comma_or_end 93 on)))
+          (misses_through silent t ends (λ y. resume_part (size_of p) (mode_of p.mode) depth y.0 (elements_so_far (so_far.0 ++ source_alone pushed.0 ∷ [])) y.1) (tells_always silent t ends c.in_err-end_element.ensures.parses)));
+      onward = search rules;
+      opens = search rules;
+      advances = search rules;
+    }
+
+pub returns-then-branch : goal.returns-then-branch
+returns-then-branch g c =
+    record {
+      parses = λ depth o fs cs fits held.
+          let p = c.args.self.now in
+          let l = c.elements.self in
+          let s = c.skip_whitespace.new.self in
+          let q = c.push_element.new.self in
+          let r = c.end_element.new.self in
+          let i = c.elements.invariant in
+          let so_far = i.parses depth o fs cs fits held in
+          let pushed = c.in_ok-push_element.ensures.parses in
+          let ended = c.in_ok-end_element.ensures.parses in
+          let more = elements_so_far (so_far.0 ++ source_alone pushed.0 ∷ []) in
+          let h = g.V.Handler in
+          let before = goes_on p l s i.advances c.skip_whitespace.ensures.advances in
+          let on = goes_on p s q before c.push_element.ensures.advances.parser in
+          record {
+            so_far = more;
+            fits = tt;
+            held = subst (λ b. h.stands b.now c.elements.room false (variants.Array c.elements.items ∷ fs) (elements_so_far so_far.0 ∷ cs) → h.stands b.now c.push_element.new.room false (variants.Array c.push_element.new.items ∷ fs) (more ∷ cs)) before.buf (pushed.2 so_far.0 fs cs) so_far.1;
+            parses =
+                so_far.2 ∙ element_turn p l s depth so_far.0 i.advances c.skip_whitespace.ensures.advances c.skip_whitespace.ensures.rest c.if-begins_container.ensures.other.0 c.if-begins_container.ensures.other.1
+                ∙ ap (λ x. x >>= after_element p depth so_far.0) pushed.1
+                ∙ ap (λ x. x >>= λ y. resume_part (size_of p) (mode_of p.mode) depth y.0 more y.1) (sym (same_end p q expected_array_comma_or_end 93 on) ∙ ended.2)
+                ∙ ap (λ closed. resume_part (size_of p) (mode_of p.mode) depth closed more (rest_of r)) (sym ended.1 ∙ c.if-branch.true);
+          };
+      onward = search rules;
+      opens = search rules;
+      advances = search rules;
+    }
+
+pub elements-init : goal.elements-init
+elements-init g c =
+    let p = c.args.self.now in
+    record { advances = stays p; base = refl; parses = begun }
+  where
+    begun : (depth : ℕ) (o : Open) (fs : List (Frame g.row.V-Items.Denot g.row.V-Members.Denot g.row.V-Key.Denot)) (cs : List Open) → IsArray o → g.V.Handler.stands c.args.self.now.buf.now c.args.room.now false (variants.Array c.args.items.now ∷ fs) (o ∷ cs) → (ss : List Source) × g.V.Handler.stands c.args.self.now.buf.now c.args.room.now false (variants.Array c.args.items.now ∷ fs) (elements_so_far ss ∷ cs) × (next_part_at (size_of c.args.self.now) (mode_of c.args.self.now.mode) depth o (rest_of c.args.self.now) ≡ elements_from (size_of c.args.self.now) (mode_of c.args.self.now.mode) depth ss (rest_of c.args.self.now))
+    begun depth (elements_so_far ss) fs cs fits held = (ss, held, refl)
+    begun depth (members_so_far ms k place) fs cs fits held = absurd fits
+
+pub elements-preserved : goal.elements-preserved
+elements-preserved g c =
+    let p = c.args.self.now in
+    let l = c.elements.self in
+    let s = c.skip_whitespace.new.self in
+    let q = c.push_element.new.self in
+    let r = c.end_element.new.self in
+    let i = c.elements.invariant in
+    let pushed = c.in_ok-push_element.ensures.parses in
+    let ended = c.in_ok-end_element.ensures.parses in
+    let h = g.V.Handler in
+    let before = goes_on p l s i.advances c.skip_whitespace.ensures.advances in
+    let on = goes_on p s q before c.push_element.ensures.advances.parser in
+    let onto = goes_on p q r on c.end_element.ensures.advances in
+    record {
+      advances = onto;
+      base = c.push_element.ensures.advances.base ∙ i.base;
+      parses = λ depth o fs cs fits held.
+          let so_far = i.parses depth o fs cs fits held in
+          let more = elements_so_far (so_far.0 ++ source_alone pushed.0 ∷ []) in (
+            so_far.0 ++ source_alone pushed.0 ∷ [],
+            subst (λ b. h.stands b.now c.elements.room false (variants.Array c.elements.items ∷ fs) (elements_so_far so_far.0 ∷ cs) → h.stands b.now c.push_element.new.room false (variants.Array c.push_element.new.items ∷ fs) (more ∷ cs)) before.buf (pushed.2 so_far.0 fs cs) so_far.1,
+            so_far.2 ∙ element_turn p l s depth so_far.0 i.advances c.skip_whitespace.ensures.advances c.skip_whitespace.ensures.rest c.if-begins_container.ensures.other.0 c.if-begins_container.ensures.other.1
+                ∙ ap (λ x. x >>= after_element p depth so_far.0) pushed.1
+                ∙ ap (λ x. x >>= λ y. resume_part (size_of p) (mode_of p.mode) depth y.0 more y.1) (sym (same_end p q expected_array_comma_or_end 93 on) ∙ ended.2)
+                ∙ ap (λ closed. resume_part (size_of p) (mode_of p.mode) depth closed more (rest_of r)) (sym ended.1 ∙ c.if-branch.false),
+          );
+    }

@@ -1,0 +1,58 @@
+use Rattle.jsonb_spec.specs.Tree.{Mark}
+use Rattle.std.proofs.Common.{ℕ, List, ◌∷◌, ap, subst, sym, ◌∙◌, rules}
+use Rattle.jsonb_spec.specs.Tree.Mark.{plain}
+use Rattle.jsonb_scan.specs.Answer.{mode_of}
+use Rattle.jsonb_scan.specs.Parsing.String.{string_at}
+use Rattle.jsonb_parse.specs.Handler.{AsKey, Begins, Builds}
+use Rattle.jsonb_parse.specs.Parser.{Advances, rest_of, size_of}
+use Rattle.jsonb_scan.specs.Spelled.{KeyStandsAt}
+use Rattle.jsonb_parse.proofs.Scalars.Built.{key_begun, plain_key_begun, key_kept, key_same, key_stands}
+use Rattle.jsonb_parse.proofs.Steps.Advancing.{goes_on}
+use Rattle.jsonb_parse.proofs.Steps.Outcomes.{key_quoted, same_size}
+use Rattle.jsonb_parse.proofs.parser.Parser.parse_member_key.Goals as goal
+
+pub returns-in-Some : goal.returns-in-Some
+returns-in-Some g c =
+    record {
+      parses =
+          let p = c.args.self.now in
+          let q = c.take_after_whitespace.new.self in
+          let r = c.cut_string.new.self in
+          let on = c.take_after_whitespace.ensures.advances in
+          let all = goes_on p q r on c.cut_string.ensures.cuts.advances in
+          let body = c.in-Some.cut.body.now in
+          let stands : KeyStandsAt p.buf.now body q.offset r.offset = λ some. key_stands p q r body some on c.cut_string.ensures.cuts.advances c.if-not-take_after_whitespace.ensures.behind c.in-Some.ensures.cuts.spelled in
+          key_kept g.V.Handler.silent (Begins (g.V.Handler.stands p.buf.now) c.args.room.now c.args.object.now c.borrowed_key-key.new.room c.borrowed_key-key.new.object) c.borrowed_key-key.result c.or_out_of_memory-in-Some.result (size_of p) r c.or_out_of_memory-in-Some.new.self (plain, c.in-Some.cut.body.now) _ (sym (same_size p r all)) (key_begun (λ bytes. KeyStandsAt bytes body q.offset r.offset) (λ bytes key. Begins (g.V.Handler.stands bytes) c.args.room.now c.args.object.now c.borrowed_key-key.new.room c.borrowed_key-key.new.object key (plain, body) r.offset) c.borrowed_key-key.result c.borrowed_key-key.ensures.begun p.buf.now stands) c.or_out_of_memory-in-Some.ensures.same c.or_out_of_memory-in-Some.ensures.memory
+          (key_quoted p q on c.if-not-take_after_whitespace.ensures.rest ∙ c.in-Some.ensures.cuts.parses);
+      advances = search rules;
+    }
+
+pub returns-then-cut : goal.returns-then-cut
+returns-then-cut g c =
+    record {
+      parses =
+          let p = c.args.self.now in
+          let q = c.take_after_whitespace.new.self in
+          let r = c.cut_string.new.self in
+          let on = c.take_after_whitespace.ensures.advances in
+          let all = goes_on p q r on c.cut_string.ensures.cuts.advances in
+          let body = c.in-Some.cut.body.now in
+          let stands : KeyStandsAt p.buf.now body q.offset r.offset = λ some. key_stands p q r body some on c.cut_string.ensures.cuts.advances c.if-not-take_after_whitespace.ensures.behind c.in-Some.ensures.cuts.spelled in
+          key_kept g.V.Handler.silent (Begins (g.V.Handler.stands p.buf.now) c.args.room.now c.args.object.now c.plain_key-key.new.room c.plain_key-key.new.object) c.plain_key-key.result c.or_out_of_memory.result (size_of p) r c.or_out_of_memory.new.self (plain, c.in-Some.cut.body.now) _ (sym (same_size p r all)) (plain_key_begun (λ bytes. KeyStandsAt bytes body q.offset r.offset) (λ bytes key. Begins (g.V.Handler.stands bytes) c.args.room.now c.args.object.now c.plain_key-key.new.room c.plain_key-key.new.object key (plain, body) r.offset) c.plain_key-key.result c.plain_key-key.ensures.begun (c.in-Some.ensures.plain c.if-cut.true) p.buf.now stands) c.or_out_of_memory.ensures.same c.or_out_of_memory.ensures.memory
+          (key_quoted p q on c.if-not-take_after_whitespace.ensures.rest ∙ c.in-Some.ensures.cuts.parses);
+      advances = search rules;
+    }
+
+pub returns : goal.returns
+returns g c =
+    record {
+      parses =
+          let p = c.args.self.now in
+          let q = c.cut_string.new.self in
+          let stays = sym c.in_default.ensures.cuts.stays in
+          let on = subst (Advances p) stays c.take_after_whitespace.ensures.advances in
+          let names : List ℕ → g.row.V-Key.Denot → Mark × List ℕ → ℕ → Type 0 = λ text. Begins (g.V.Handler.stands text) c.args.room.now c.args.object.now c.escaped_key.new.room c.escaped_key.new.object in
+          key_same g.V.Handler.silent c.escaped_key.new.self.told (names p.buf.now) c.escaped_key.result (size_of q) (size_of p) _ _ (rest_of c.escaped_key.new.self) (sym (same_size p q on)) (key_quoted p q on (c.if-not-take_after_whitespace.ensures.rest ∙ ap (λ s. 34 ∷ rest_of s) stays))
+          (subst (λ b. Builds g.V.Handler.silent c.escaped_key.new.self.told (AsKey (names b.now) (size_of q) (rest_of c.escaped_key.new.self)) c.escaped_key.result (string_at (size_of q) (mode_of q.mode) 34 (rest_of q)) (rest_of c.escaped_key.new.self)) on.buf c.escaped_key.ensures.parses);
+      advances = search rules;
+    }

@@ -1,0 +1,198 @@
+use Rattle.std.proofs.Common.{◌≡◌, ℕ, List, [], ◌∷◌, ◌++◌, true, false, refl, sym, ap, subst, ◌∙◌, rules}
+use Rattle.std.proofs.lemmas.Result.{err_from_is_err_and}
+use Rattle.jsonb_parse.specs.Handler.{Begins}
+use Rattle.jsonb_parse.specs.Frames.{IsObject, resume_part}
+use Rattle.jsonb_parse.specs.declared.parser.frame.Frame.{Frame}
+use Rattle.jsonb_parse.specs.declared.parser.frame.Frame.TheVariants as variants
+use Rattle.jsonb_spec.specs.Tree.{Mark}
+use Rattle.jsonb_spec.specs.Tree.Mark.{plain}
+use Rattle.jsonb_spec.specs.Code.Code.{expected_object_comma_or_end}
+use Rattle.jsonb_scan.specs.Answer.{mode_of}
+use Rattle.jsonb_scan.specs.Parsing.{◌>>=◌}
+use Rattle.jsonb_scan.specs.Parsing.Whitespace.{skip_whitespace}
+use Rattle.jsonb_scan.specs.Parsing.Scalar.{scalar_at}
+use Rattle.jsonb_spec.specs.Source.{Found, found_member, source_alone}
+use Rattle.jsonb_parse.specs.Parser.{parse_at, rest_of, size_of}
+use Rattle.jsonb_parse.specs.Stack.{member_start, next_part_at, part_end, object_members_from}
+use Rattle.jsonb_scan.specs.Open.{Open}
+use Rattle.jsonb_scan.specs.Open.{elements_so_far, members_so_far}
+use Rattle.jsonb_parse.proofs.Containers.Frames.{after_member, member_due, member_turn, same_end, waits}
+use Rattle.jsonb_parse.proofs.Steps.Advancing.{goes_on, stays}
+use Rattle.jsonb_parse.proofs.Steps.Failures.{misses_same, misses_through, tells_always}
+use Rattle.jsonb_parse.proofs.parser.Parser.parse_members.Goals as goal
+
+pub returns-in_err-key : goal.returns-in_err-key
+returns-in_err-key g c =
+    record {
+      parses = λ depth o fs cs fits held.
+          let p = c.args.self.now in
+          let l = c.members.self in
+          let i = c.members.invariant in
+          let so_far = i.parses depth o fs cs fits held in
+          let silent = g.V.Handler.silent in
+          let t = c.begin_member.new.self.told in
+          let residual = err_from_is_err_and c.from_residual.result c.from_residual.ensures.1 in
+          rw (residual.1) (misses_same silent t (parse_at member_start l >>= waits p depth so_far.0) (next_part_at (size_of p) (mode_of p.mode) depth o (rest_of p))
+          (so_far.4 ∙ member_due p l depth so_far.0 i.advances)
+          (misses_through silent t (parse_at member_start l) (waits p depth so_far.0) c.in_err-key.ensures.parses));
+      onward = search rules;
+      opens = search rules;
+      advances = search rules;
+    }
+
+pub returns-then-begins_container : goal.returns-then-begins_container
+returns-then-begins_container g c =
+    record {
+      parses = λ depth o fs cs fits held.
+          let p = c.args.self.now in
+          let i = c.members.invariant in
+          let so_far = i.parses depth o fs cs fits held in
+          let key = c.in_ok-key.ensures.parses in
+          let begun = subst (λ b. Begins (g.V.Handler.stands b.now) c.members.room c.members.object c.begin_member.new.room c.begin_member.new.object c.in_ok-key.key key.0.0 key.0.1) c.members.invariant.advances.buf key.1 in
+          record {
+            so_far = members_so_far so_far.0 key.0.0 key.0.1;
+            fits = tt;
+            held = begun so_far.0 so_far.1 so_far.2 fs cs so_far.3;
+            parses = so_far.4 ∙ member_due p c.members.self depth so_far.0 i.advances ∙ ap (λ x. x >>= waits p depth so_far.0) key.2;
+          };
+      onward = search rules;
+      opens = search rules;
+      advances = search rules;
+    }
+
+pub returns-in_err-insert_scalar : goal.returns-in_err-insert_scalar
+returns-in_err-insert_scalar g c =
+    record {
+      parses = λ depth o fs cs fits held.
+          let p = c.args.self.now in
+          let l = c.members.self in
+          let s = c.begin_member.new.self in
+          let i = c.members.invariant in
+          let so_far = i.parses depth o fs cs fits held in
+          let key = c.in_ok-key.ensures.parses in
+          let silent = g.V.Handler.silent in
+          let t = c.insert_scalar.new.self.told in
+          let on = goes_on p l s i.advances c.begin_member.ensures.advances.parser in
+          let residual = err_from_is_err_and c.from_residual-in_err-insert_scalar.result c.from_residual-in_err-insert_scalar.ensures.1 in
+          rw (residual.1) (misses_same silent t (parse_at scalar_at s >>= after_member p depth so_far.0 key.0.0 key.0.1) (next_part_at (size_of p) (mode_of p.mode) depth o (rest_of p))
+          (so_far.4 ∙ member_due p l depth so_far.0 i.advances ∙ ap (λ x. x >>= waits p depth so_far.0) key.2
+          ∙ member_turn p s depth so_far.0 key.0.0 key.0.1 on c.if-begins_container.ensures.other.0 c.if-begins_container.ensures.other.1)
+          (misses_through silent t (parse_at scalar_at s) (after_member p depth so_far.0 key.0.0 key.0.1) c.in_err-insert_scalar.ensures.parses));
+      onward = search rules;
+      opens = search rules;
+      advances = search rules;
+    }
+
+pub returns-in_err-end_member : goal.returns-in_err-end_member
+returns-in_err-end_member g c =
+    record {
+      parses = λ depth o fs cs fits held.
+          let p = c.args.self.now in
+          let l = c.members.self in
+          let s = c.begin_member.new.self in
+          let q = c.insert_scalar.new.self in
+          let i = c.members.invariant in
+          let so_far = i.parses depth o fs cs fits held in
+          let key = c.in_ok-key.ensures.parses in
+          let put = c.in_ok-insert_scalar.ensures.parses in
+          let silent = g.V.Handler.silent in
+          let t = c.end_member.new.self.told in
+          let on = goes_on p l s i.advances c.begin_member.ensures.advances.parser in
+          let more = members_so_far (so_far.0 ++ found_member key.0.0 (source_alone put.0) key.0.1 ∷ []) (plain, []) 0 in
+          let ends = part_end (size_of q) expected_object_comma_or_end 125 (skip_whitespace (mode_of q.mode) (rest_of q)) in
+          let residual = err_from_is_err_and c.from_residual-in_err-end_member.result c.from_residual-in_err-end_member.ensures.1 in
+          rw (residual.1) (misses_same silent t (ends >>= λ y. resume_part (size_of p) (mode_of p.mode) depth y.0 more y.1) (next_part_at (size_of p) (mode_of p.mode) depth o (rest_of p))
+          (so_far.4 ∙ member_due p l depth so_far.0 i.advances ∙ ap (λ x. x >>= waits p depth so_far.0) key.2
+          ∙ member_turn p s depth so_far.0 key.0.0 key.0.1 on c.if-begins_container.ensures.other.0 c.if-begins_container.ensures.other.1
+          ∙ ap (λ x. x >>= after_member p depth so_far.0 key.0.0 key.0.1) put.1
+          ∙ ap (λ x. x >>= λ y. resume_part (size_of p) (mode_of p.mode) depth y.0 more y.1) (sym (same_end p q expected_object_comma_or_end 125 (goes_on p s q on c.insert_scalar.ensures.advances.parser))))
+          (misses_through silent t ends (λ y. resume_part (size_of p) (mode_of p.mode) depth y.0 more y.1) (tells_always silent t ends c.in_err-end_member.ensures.parses)));
+      onward = search rules;
+      opens = search rules;
+      advances = search rules;
+    }
+
+pub returns-then-branch : goal.returns-then-branch
+returns-then-branch g c =
+    record {
+      parses = λ depth o fs cs fits held.
+          let p = c.args.self.now in
+          let l = c.members.self in
+          let s = c.begin_member.new.self in
+          let q = c.insert_scalar.new.self in
+          let r = c.end_member.new.self in
+          let i = c.members.invariant in
+          let so_far = i.parses depth o fs cs fits held in
+          let key = c.in_ok-key.ensures.parses in
+          let begun = subst (λ b. Begins (g.V.Handler.stands b.now) c.members.room c.members.object c.begin_member.new.room c.begin_member.new.object c.in_ok-key.key key.0.0 key.0.1) c.members.invariant.advances.buf key.1 in
+          let put = c.in_ok-insert_scalar.ensures.parses in
+          let ended = c.in_ok-end_member.ensures.parses in
+          let on = goes_on p l s i.advances c.begin_member.ensures.advances.parser in
+          let all = so_far.0 ++ found_member key.0.0 (source_alone put.0) key.0.1 ∷ [] in
+          let more = members_so_far all (plain, []) 0 in
+          let h = g.V.Handler in
+          let m = c.begin_member.new.object in
+          let inserted = subst (λ b. h.stands b.now c.begin_member.new.room true (variants.Object (record { members = m.members; key = c.in_ok-key.key }) ∷ fs) (members_so_far so_far.0 key.0.0 key.0.1 ∷ cs) → h.stands b.now c.insert_scalar.new.room false (variants.Object c.insert_scalar.new.object ∷ fs) (more ∷ cs)) on.buf (put.2 so_far.0 key.0.0 key.0.1 fs cs) (begun so_far.0 so_far.1 so_far.2 fs cs so_far.3) in
+          record {
+            so_far = more;
+            fits = tt;
+            held = inserted;
+            parses =
+                so_far.4 ∙ member_due p l depth so_far.0 i.advances ∙ ap (λ x. x >>= waits p depth so_far.0) key.2
+                ∙ member_turn p s depth so_far.0 key.0.0 key.0.1 on c.if-begins_container.ensures.other.0 c.if-begins_container.ensures.other.1
+                ∙ ap (λ x. x >>= after_member p depth so_far.0 key.0.0 key.0.1) put.1
+                ∙ ap (λ x. x >>= λ y. resume_part (size_of p) (mode_of p.mode) depth y.0 more y.1) (sym (same_end p q expected_object_comma_or_end 125 (goes_on p s q on c.insert_scalar.ensures.advances.parser)) ∙ ended.2)
+                ∙ ap (λ closed. resume_part (size_of p) (mode_of p.mode) depth closed more (rest_of r)) (sym ended.1 ∙ c.if-branch.true);
+          };
+      onward = search rules;
+      opens = search rules;
+      advances = search rules;
+    }
+
+pub members-init : goal.members-init
+members-init g c =
+    let p = c.args.self.now in
+    record {
+      advances = stays p;
+      base = refl;
+      parses = begun;
+    }
+  where
+    begun : (depth : ℕ) (o : Open) (fs : List (Frame g.row.V-Items.Denot g.row.V-Members.Denot g.row.V-Key.Denot)) (cs : List Open) → IsObject o → g.V.Handler.stands c.args.self.now.buf.now c.args.room.now false (variants.Object c.args.object.now ∷ fs) (o ∷ cs) → (ms : List Found) × (k : Mark × List ℕ) × (place : ℕ) × g.V.Handler.stands c.args.self.now.buf.now c.args.room.now false (variants.Object c.args.object.now ∷ fs) (members_so_far ms k place ∷ cs) × (next_part_at (size_of c.args.self.now) (mode_of c.args.self.now.mode) depth o (rest_of c.args.self.now) ≡ object_members_from (size_of c.args.self.now) (mode_of c.args.self.now.mode) depth ms (rest_of c.args.self.now))
+    begun depth (elements_so_far ss) fs cs fits held = absurd fits
+    begun depth (members_so_far ms k place) fs cs fits held = (ms, k, place, held, refl)
+
+pub members-preserved : goal.members-preserved
+members-preserved g c =
+    let p = c.args.self.now in
+    let l = c.members.self in
+    let s = c.begin_member.new.self in
+    let q = c.insert_scalar.new.self in
+    let r = c.end_member.new.self in
+    let i = c.members.invariant in
+    let key = c.in_ok-key.ensures.parses in
+    let begun = subst (λ b. Begins (g.V.Handler.stands b.now) c.members.room c.members.object c.begin_member.new.room c.begin_member.new.object c.in_ok-key.key key.0.0 key.0.1) c.members.invariant.advances.buf key.1 in
+    let put = c.in_ok-insert_scalar.ensures.parses in
+    let ended = c.in_ok-end_member.ensures.parses in
+    let on = goes_on p l s i.advances c.begin_member.ensures.advances.parser in
+    let onto = goes_on p q r (goes_on p s q on c.insert_scalar.ensures.advances.parser) c.end_member.ensures.advances in
+    record {
+      advances = onto;
+      base = c.insert_scalar.ensures.advances.base ∙ c.begin_member.ensures.advances.base ∙ i.base;
+      parses = λ depth o fs cs fits held.
+          let so_far = i.parses depth o fs cs fits held in
+          let all = so_far.0 ++ found_member key.0.0 (source_alone put.0) key.0.1 ∷ [] in
+          let more = members_so_far all (plain, []) 0 in
+          let h = g.V.Handler in
+          let m = c.begin_member.new.object in (
+            all,
+            (plain, []),
+            0,
+            subst (λ b. h.stands b.now c.begin_member.new.room true (variants.Object (record { members = m.members; key = c.in_ok-key.key }) ∷ fs) (members_so_far so_far.0 key.0.0 key.0.1 ∷ cs) → h.stands b.now c.insert_scalar.new.room false (variants.Object c.insert_scalar.new.object ∷ fs) (more ∷ cs)) on.buf (put.2 so_far.0 key.0.0 key.0.1 fs cs) (begun so_far.0 so_far.1 so_far.2 fs cs so_far.3),
+            so_far.4 ∙ member_due p l depth so_far.0 i.advances ∙ ap (λ x. x >>= waits p depth so_far.0) key.2
+                ∙ member_turn p s depth so_far.0 key.0.0 key.0.1 on c.if-begins_container.ensures.other.0 c.if-begins_container.ensures.other.1
+                ∙ ap (λ x. x >>= after_member p depth so_far.0 key.0.0 key.0.1) put.1
+                ∙ ap (λ x. x >>= λ y. resume_part (size_of p) (mode_of p.mode) depth y.0 more y.1) (sym (same_end p q expected_object_comma_or_end 125 (goes_on p s q on c.insert_scalar.ensures.advances.parser)) ∙ ended.2)
+                ∙ ap (λ closed. resume_part (size_of p) (mode_of p.mode) depth closed more (rest_of r)) (sym ended.1 ∙ c.if-branch.false),
+          );
+    }

@@ -1,0 +1,7 @@
+pub mod Frames
+pub mod Handler
+pub mod Literals
+pub mod Parser
+pub mod Stack
+pub mod Start
+pub mod Steps

@@ -1,0 +1,135 @@
+-- What a call of the parser leaves, and what a handler made of it.
+use Rattle.std.specs.Prelude.{◌≡◌, ℕ, ◌<◌, ◌≤◌, Bool, false, List, ◌∷◌, length, Contains, MatchBool, Some, Result, IfErr, IfOk, OnOk}
+use Rattle.jsonb_spec.specs.Ascii as ascii
+use Rattle.jsonb_spec.specs.Code.{Code}
+use Rattle.jsonb_spec.specs.Grammar.{max_depth}
+use Rattle.jsonb_spec.specs.Mode.{Mode}
+use Rattle.jsonb_spec.specs.Tree.{Mark, Tree}
+use Rattle.jsonb_spec.specs.Source.{Source}
+use Rattle.jsonb_value.specs.declared.error.Error.TheVariants.{OutOfMemory}
+use Rattle.jsonb_scan.specs.Answer.{mode_of}
+use Rattle.jsonb_scan.specs.Open.{Open}
+use Rattle.jsonb_scan.specs.Parsing.{Parse}
+use Rattle.jsonb_scan.specs.Parsing.Whitespace.{skip_whitespace}
+use Rattle.jsonb_parse.specs.Frames.{AtPart, Fits, IsPushed, IsPutIn, OpensContainer, ParsesParts}
+use Rattle.jsonb_parse.specs.Handler.{AsKey, AsScalar, Begins, Builds, ElseFails, IsUntold, TakesElement, TakesMember}
+use Rattle.jsonb_parse.specs.Parser.{Advances, AdvancesOver, parse_at, rest_of, size_of}
+use Rattle.jsonb_parse.specs.Stack.{next_part_at, part_end}
+use Rattle.jsonb_parse.specs.declared.parser.Parser.{Parser}
+use Rattle.jsonb_parse.specs.declared.parser.frame.Frame.{Frame}
+use Rattle.jsonb_parse.specs.declared.parser.frame.OpenObject.{OpenObject}
+use Rattle.jsonb_parse.specs.declared.parser.handler.Handler.{Ghosts}
+
+-- After a part its comma was passed, or the closing byte of its container (true).
+pub record EndsPart {F : Type 0} (code : Code) (close : ℕ) (result : Result Bool F) (old new : Parser) : Type 0 where
+  -- what was returned is what the executable specification says, or the fault is told
+  pub parses : Builds false new.told (λ x y. x ≡ y) result
+      (part_end (size_of old) code close (skip_whitespace (mode_of old.mode) (rest_of old))) (rest_of new)
+  -- a byte was passed
+  pub onward : IfOk result (λ closed. old.offset < new.offset)
+  -- the parser has gone on in its input
+  pub advances : Advances old new
+
+module _ {V R I M K : Type 0} (h : Ghosts V R I M K) where
+  -- ---- scalars
+
+  -- A scalar is made of what this function parses, and isn't put in yet.
+  pub record MakesScalar {F : Type 0} (read : ℕ → Mode → List ℕ → Parse Tree) (result : Result V F) (old new : Parser)
+      : Type 0 where
+    -- What was made is of the tree that is parsed, or what was told is the fault.
+    pub parses : Builds h.silent new.told (AsScalar h.sees) result (parse_at read old) (rest_of new)
+    -- Memory runs out only where the text has a backslash.
+    pub memory : IfErr result (λ _. new.told ≡ Some OutOfMemory → Contains old.buf.now ascii.backslash)
+    -- the parser has gone on in its input
+    pub advances : Advances old new
+
+  -- An element was put in that is of a source of which this holds, and the parser stays; or memory ran out.
+  pub record PutsElement {X F : Type 0} (Is : List ℕ → Source → Type 0) (result : Result X F) (old new : Parser)
+      (room filled : R) (items more : I) : Type 0 where
+    -- The source is the last element of the array that is open.
+    pub put : OnOk result (TakesElement h.stands Is room items filled more)
+    -- the parser stays
+    pub same : OnOk result (new ≡ old)
+    -- a failure is want of memory
+    pub memory : IfErr result (λ _. new.told ≡ Some OutOfMemory)
+    -- the input is the same, and so is what was in the room before the text
+    pub advances : AdvancesOver h.base old new room filled
+
+  -- A member was put in under this key, whose value is of a source of which this holds, and the parser stays; or memory
+  -- ran out, or nothing was told.
+  pub record PutsMember {X F : Type 0} (Is : List ℕ → Source → Type 0) (result : Result X F) (old new : Parser)
+      (room filled : R) (key : K) (object more : OpenObject M K) : Type 0 where
+    -- The source is the last member's of the object that is open.
+    pub put : OnOk result (TakesMember h.stands Is room object key filled more)
+    -- the parser stays
+    pub same : OnOk result (new ≡ old)
+    -- a failure is want of memory, or nothing was told of it
+    pub told : IfErr result (λ _. IsUntold h.silent new.told)
+    -- the input is the same, and so is what was in the room before the text
+    pub advances : AdvancesOver h.base old new room filled
+
+  -- A scalar that this function parses was put into an array.
+  pub record Pushes {X F : Type 0} (read : ℕ → Mode → List ℕ → Parse Tree) (result : Result X F)
+      (old new : Parser) (room filled : R) (items more : I) : Type 0 where
+    -- the scalar is the last element of the innermost array, or what was told is its fault
+    pub parses : IsPushed h.silent new.told h.stands old.buf.now result room items (parse_at read old) filled more
+        (rest_of new)
+    -- the parser has gone on, and what was in the room before the text stays
+    pub advances : AdvancesOver h.base old new room filled
+
+  -- A scalar that this function parses was put into an object under this key.
+  pub record Inserts {X F : Type 0} (read : ℕ → Mode → List ℕ → Parse Tree) (result : Result X F)
+      (old new : Parser) (room filled : R) (key : K) (object more : OpenObject M K) : Type 0 where
+    -- the scalar is the last member of the innermost object, or what was told is its fault
+    pub parses : IsPutIn h.silent new.told h.stands old.buf.now result room object key (parse_at read old) filled more
+        (rest_of new)
+    -- the parser has gone on, and what was in the room before the text stays
+    pub advances : AdvancesOver h.base old new room filled
+
+  -- ---- keys
+
+  -- A member began with the key that this function parses, and its value is due.
+  pub record BeginsWith {F : Type 0} (read : ℕ → Mode → List ℕ → Parse (Mark × List ℕ)) (result : Result K F)
+      (old new : Parser) (room begun : R) (object more : OpenObject M K) : Type 0 where
+    -- a member with the key that is parsed waits for its value, or what was told is the fault
+    pub parses : Builds h.silent new.told
+        (AsKey (Begins (h.stands old.buf.now) room object begun more) (size_of old) (rest_of new)) result
+        (parse_at read old) (rest_of new)
+    -- the parser has gone on, and what was in the room before the text stays
+    pub advances : AdvancesOver h.base old new room begun
+
+  -- ---- arrays and objects
+
+  -- Parts of an open container are parsed, up to its end, or up to one that is a container. True at the end.
+  pub record FillsFrame {F : Type 0} (result : Result Bool F) (old new : Parser) (room filled : R)
+      (frame more : Frame I M K) : Type 0 where
+    -- What is left to parse is what the executable specification parses from there on, or what was told is its fault.
+    pub parses : (depth : ℕ) → (c : Open) → (fs : List (Frame I M K)) → (cs : List Open) → Fits frame c
+        → h.stands old.buf.now room false (frame ∷ fs) (c ∷ cs)
+        → ElseFails h.silent new.told result
+        (next_part_at (size_of old) (mode_of old.mode) depth c (rest_of old))
+        (λ closed. ParsesParts (h.stands old.buf.now filled) (size_of old) (mode_of old.mode) depth
+        (next_part_at (size_of old) (mode_of old.mode) depth c (rest_of old)) closed more fs cs (rest_of new))
+    -- A closing byte was passed, or a container opens here.
+    pub onward : IfOk result (λ closed. MatchBool closed (old.offset < new.offset) (Unit {0}))
+    -- where the container did not end, another opens here
+    pub opens : IfOk result (λ closed. MatchBool closed (Unit {0}) (OpensContainer (rest_of new)))
+    -- the parser has gone on, and what was in the room before the text stays
+    pub advances : AdvancesOver h.base old new room filled
+
+  -- A step of the loop over the open containers, from where this is left to parse: up to where a container was parsed
+  -- to its end (true), or where a part of one begins.
+  pub record Turns {F : Type 0}
+      (Before : (Bool → List (Frame I M K) → List Open → Type 0) → Parse Source → Parser → List (Frame I M K) → Type 0)
+      (result : Result Bool F) (old new : Parser) (room after : R) (stack more : List (Frame I M K)) : Type 0 where
+    -- The whole is what the containers that are open have and what is left to parse, or what was told is its fault.
+    pub parses : (whole : Parse Source) → Before (h.stands old.buf.now room) whole old stack
+        → ElseFails h.silent new.told result whole (AtPart (h.stands old.buf.now after) whole new more)
+    -- So the loop ends.
+    pub onward : IfOk result (λ closed. old.offset < new.offset)
+    -- No more are open than may be, and one is.
+    pub depth : IfOk result (λ closed. length more ≤ max_depth)
+    -- one is open
+    pub some : IfOk result (λ closed. 0 < length more)
+    -- the parser has gone on, and what was in the room before the text stays
+    pub advances : AdvancesOver h.base old new room after

@@ -1,0 +1,7 @@
+//! The parser of JSON texts. It sends the events of a text's value to a handler, which makes something of them.
+#![tactic(auto)]
+
+mod parser;
+
+pub use parser::handler::{Failed, Handler};
+pub use parser::{Frame, Mode, OpenObject, parse_text};

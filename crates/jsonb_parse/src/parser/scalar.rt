@@ -1,0 +1,661 @@
+//! Values that hold no others.
+ghost use Rattle.std.specs.Prelude.{◌≡◌, ◌≢◌, ◌<◌, ◌++◌, drop, length, MatchBool, Err, IfSome, Some, true, false, ◌^◌, pos, neg_ℤ, slice_range};
+ghost use Rattle.jsonb_spec.specs.Ascii as ascii;
+ghost use Rattle.jsonb_spec.specs.Mode.{standard, extended};
+ghost use Rattle.jsonb_value.specs.View.{number_view};
+ghost use Rattle.jsonb_scan.specs.Answer.{mode_of, Gives};
+ghost use Rattle.jsonb_parse.specs.Literals.{literal_text, literal_tree};
+ghost use Rattle.jsonb_spec.specs.Tree.{boolean, int64};
+ghost use Rattle.jsonb_spec.specs.Tree.Mark.{plain};
+ghost use Rattle.jsonb_spec.specs.Source.{string_source};
+ghost use Rattle.jsonb_scan.specs.Spelled.{IsSpelledAt};
+ghost use Rattle.jsonb_write.specs.OpenText.{source_text};
+ghost use Rattle.jsonb_write.specs.PlainText.{ArePlain};
+ghost use Rattle.jsonb_parse.specs.Parser.{Advances, Finds, IsAfterQuote, IsBehind, IsTextOf, ReadsInPlace, TakesByte, rest_of, size_of};
+ghost use Rattle.jsonb_scan.specs.Parsing.{begins};
+ghost use Rattle.jsonb_scan.specs.Parsing.Scalar.{number_value_at, begins_letter, begins_single_quote, fold_letter, letters_at, null_at, number_at, quoted_at, scalar_at, word_at};
+ghost use Rattle.jsonb_parse.specs.Steps.{Inserts, MakesScalar, Pushes, PutsElement, PutsMember};
+
+use super::frame::OpenObject;
+use super::handler::{Failed, Handler};
+use super::start::Start;
+use super::string::Cut;
+use super::{Mode, Parser};
+use jsonb_value::error::{Error, ParseErrorCode};
+use jsonb_value::number::Number;
+use std::borrow::CowStr;
+
+// A letter as words have it: in extended mode in lower case.
+#[inline(always)]
+fn fold(letter: u8, mode: Mode) -> u8
+    ensures { result ≡ fold_letter (mode_of mode) letter }
+{
+    match mode {
+        Mode::Standard => letter,
+        Mode::Extended => letter.to_ascii_lowercase(),
+    }
+}
+
+// A literal.
+#[derive(Drop)]
+enum Literal {
+    Null,
+    Bool(bool),
+}
+
+// Whether the bytes begin with this word.
+#[inline(always)]
+fn begins_with(bytes: &[u8], word: &[u8]) -> bool
+    ensures { MatchBool result (bytes.now ≡ word.now ++ drop (length word.now) bytes.now) (Unit {0}) }
+{
+    bytes.len() >= word.len() && &bytes[..word.len()] == word
+}
+
+// The number below 0, or a 0 with a minus, of these digits.
+#[inline(always)]
+fn negative_number(magnitude: u64) -> Number
+    requires { magnitude < 2 ^ 63 }
+    ensures { number_view result ≡ record { form = int64; scale = 0; whole = neg_ℤ (pos magnitude) } }
+{
+    Number::Int64(-(magnitude as i64))
+}
+
+impl<'a> Parser<'a> {
+    // Puts in an element that is a scalar and stands in the text from an index up to here.
+    #[inline(always)]
+    pub(super) fn push<V: Handler<'a>>(
+        &mut self,
+        room: &mut V::Room,
+        items: &mut V::Items,
+        value: V,
+        from: usize,
+    ) -> Result<(), Failed>
+        ensures { PutsElement V.Handler (λ text s. V.sees value s × IsSpelledAt text from self.old.offset s) result
+            self.old self.new room.old room.new items.old items.new }
+    {
+        if V::push(room, items, value, from, self.offset).is_err() {
+            return Err(self.out_of_memory());
+        }
+        Ok(())
+    }
+
+    // Puts in a member whose value is a scalar and stands in the text from an index up to here.
+    #[inline(always)]
+    fn insert<V: Handler<'a>>(
+        &mut self,
+        room: &mut V::Room,
+        object: &mut OpenObject<V::Members, V::Key>,
+        key: V::Key,
+        value: V,
+        from: usize,
+    ) -> Result<(), Failed>
+        ensures { PutsMember V.Handler (λ text s. V.sees value s × IsSpelledAt text from self.old.offset s) result
+            self.old self.new room.old room.new key object.old object.new }
+    {
+        let inserted = V::insert(room, object, key, value, from, self.offset);
+        self.insert_result(inserted)
+    }
+
+    // Puts in an element that is a string that was cut out of the text.
+    #[inline(always)]
+    fn push_cut<V: Handler<'a>>(
+        &mut self,
+        room: &mut V::Room,
+        items: &mut V::Items,
+        cut: Cut<'a>,
+        from: usize,
+    ) -> Result<(), Failed>
+        requires plain { cut.is_plain ≡ true → ArePlain cut.body.now }
+        ensures { PutsElement V.Handler
+            (λ text s. (s ≡ string_source plain cut.entry.body.now) × IsSpelledAt text from self.old.offset s)
+            result self.old self.new room.old room.new items.old items.new }
+    {
+        if cut.is_plain {
+            return self.push::<V>(room, items, V::plain_string(cut.body), from);
+        }
+        self.push::<V>(room, items, V::string(CowStr::Borrowed(cut.body)), from)
+    }
+
+    // Puts in a member whose value is a string that was cut out of the text.
+    #[inline(always)]
+    fn insert_cut<V: Handler<'a>>(
+        &mut self,
+        room: &mut V::Room,
+        object: &mut OpenObject<V::Members, V::Key>,
+        key: V::Key,
+        cut: Cut<'a>,
+        from: usize,
+    ) -> Result<(), Failed>
+        requires plain { cut.is_plain ≡ true → ArePlain cut.body.now }
+        ensures { PutsMember V.Handler
+            (λ text s. (s ≡ string_source plain cut.entry.body.now) × IsSpelledAt text from self.old.offset s)
+            result self.old self.new room.old room.new key object.old object.new }
+    {
+        if cut.is_plain {
+            return self.insert::<V>(room, object, key, V::plain_string(cut.body), from);
+        }
+        self.insert::<V>(
+            room,
+            object,
+            key,
+            V::string(CowStr::Borrowed(cut.body)),
+            from,
+        )
+    }
+
+    // Puts in an element that is a scalar. Strings and numbers are put in where they are made, since a value that comes
+    // from several arms is copied more than once.
+    #[inline(always)]
+    pub(super) fn push_scalar<V: Handler<'a>>(
+        &mut self,
+        room: &mut V::Room,
+        items: &mut V::Items,
+        text: &'a str,
+    ) -> Result<(), Failed>
+        requires same { IsTextOf text.now self.old }
+        ensures { Pushes V.Handler scalar_at result self.old self.new room.old room.new items.old items.new }
+    {
+        let from = self.offset;
+        if self.take_byte(b'"') {
+            if let Some(cut) = self.cut_string(V::tells_plain(), text) {
+                return self.push_cut::<V>(room, items, cut, from);
+            }
+            return self.push_escaped::<V>(room, items, text);
+        }
+        match self.mode {
+            Mode::Standard => self.push_standard_value::<V>(room, items, text),
+            Mode::Extended if V::keeps_integers() => {
+                self.push_extended_value::<V>(room, items, text)
+            }
+            Mode::Extended => self.push_other_scalar::<V>(room, items, text),
+        }
+    }
+
+    // Puts in an element that stands in the text from an index up to here as it is written.
+    #[inline(always)]
+    fn push_kept<V: Handler<'a>>(
+        &mut self,
+        room: &mut V::Room,
+        items: &mut V::Items,
+        from: usize,
+    ) -> Result<(), Failed>
+        requires kept { V.keeps ≡ true }
+        ensures { PutsElement V.Handler (λ text s. slice_range text from self.old.offset ≡ source_text s) result
+            self.old self.new room.old room.new items.old items.new }
+    {
+        if V::push_kept(room, items, from, self.offset).is_err() {
+            return Err(self.out_of_memory());
+        }
+        Ok(())
+    }
+
+    // Puts in a member whose value stands in the text from an index up to here as it is written.
+    #[inline(always)]
+    fn insert_kept<V: Handler<'a>>(
+        &mut self,
+        room: &mut V::Room,
+        object: &mut OpenObject<V::Members, V::Key>,
+        key: V::Key,
+        from: usize,
+    ) -> Result<(), Failed>
+        requires kept { V.keeps ≡ true }
+        ensures { PutsMember V.Handler (λ text s. slice_range text from self.old.offset ≡ source_text s) result
+            self.old self.new room.old room.new key object.old object.new }
+    {
+        let inserted = V::insert_kept(room, object, key, from, self.offset);
+        self.insert_result(inserted)
+    }
+
+    // Puts in an element of a standard text that is a scalar and no string. Many are integers that are written by the
+    // same bytes again.
+    #[inline(always)]
+    fn push_standard_value<V: Handler<'a>>(
+        &mut self,
+        room: &mut V::Room,
+        items: &mut V::Items,
+        text: &'a str,
+    ) -> Result<(), Failed>
+        requires mode { mode_of self.old.mode ≡ standard }
+        requires same { IsTextOf text.now self.old }
+        ensures { Pushes V.Handler scalar_at result self.old self.new room.old room.new items.old items.new }
+    {
+        let from = self.offset;
+        if self.kept_integer(V::keeps_integers()) {
+            return self.push_kept::<V>(room, items, from);
+        }
+        self.push_standard_scalar::<V>(room, items, text)
+    }
+
+    // Puts in an element of an extended text that is a scalar and no string in double quotes.
+    #[inline(never)]
+    fn push_extended_value<V: Handler<'a>>(
+        &mut self,
+        room: &mut V::Room,
+        items: &mut V::Items,
+        text: &'a str,
+    ) -> Result<(), Failed>
+        requires mode { mode_of self.old.mode ≡ extended }
+        requires same { IsTextOf text.now self.old }
+        ensures { Pushes V.Handler scalar_at result self.old self.new room.old room.new items.old items.new }
+    {
+        let from = self.offset;
+        if self.kept_extended_integer(V::keeps_integers()) {
+            return self.push_kept::<V>(room, items, from);
+        }
+        if self.may_begin_word() {
+            return self.push_word::<V>(room, items, text);
+        }
+        self.push_other_scalar::<V>(room, items, text)
+    }
+
+    // Puts in a member of a standard text whose value is a scalar and no string.
+    #[inline(always)]
+    fn insert_standard_value<V: Handler<'a>>(
+        &mut self,
+        room: &mut V::Room,
+        object: &mut OpenObject<V::Members, V::Key>,
+        key: V::Key,
+        text: &'a str,
+    ) -> Result<(), Failed>
+        requires mode { mode_of self.old.mode ≡ standard }
+        requires same { IsTextOf text.now self.old }
+        ensures { Inserts V.Handler scalar_at result self.old self.new room.old room.new key object.old object.new }
+    {
+        let from = self.offset;
+        if self.kept_integer(V::keeps_integers()) {
+            return self.insert_kept::<V>(room, object, key, from);
+        }
+        self.insert_standard_scalar::<V>(room, object, key, text)
+    }
+
+    // Puts in a member of an extended text whose value is a scalar and no string in double quotes.
+    #[inline(never)]
+    fn insert_extended_value<V: Handler<'a>>(
+        &mut self,
+        room: &mut V::Room,
+        object: &mut OpenObject<V::Members, V::Key>,
+        key: V::Key,
+        text: &'a str,
+    ) -> Result<(), Failed>
+        requires mode { mode_of self.old.mode ≡ extended }
+        requires same { IsTextOf text.now self.old }
+        ensures { Inserts V.Handler scalar_at result self.old self.new room.old room.new key object.old object.new }
+    {
+        let from = self.offset;
+        if self.kept_extended_integer(V::keeps_integers()) {
+            return self.insert_kept::<V>(room, object, key, from);
+        }
+        if self.may_begin_word() {
+            return self.insert_word::<V>(room, object, key, text);
+        }
+        self.insert_other_scalar::<V>(room, object, key, text)
+    }
+
+    // Puts in an element of a standard text that is a scalar and no string. Most numbers are integers of few digits.
+    #[inline(always)]
+    fn push_standard_scalar<V: Handler<'a>>(
+        &mut self,
+        room: &mut V::Room,
+        items: &mut V::Items,
+        text: &'a str,
+    ) -> Result<(), Failed>
+        requires mode { mode_of self.old.mode ≡ standard }
+        requires same { IsTextOf text.now self.old }
+        ensures { Pushes V.Handler scalar_at result self.old self.new room.old room.new items.old items.new }
+    {
+        let from = self.offset;
+        if let Some(read) = self.short_integer() {
+            if read.negative {
+                let number = negative_number(read.magnitude);
+                return self.push::<V>(room, items, V::number(number), from);
+            }
+            return self.push::<V>(room, items, V::number(Number::UInt64(read.magnitude)), from);
+        }
+        self.push_word::<V>(room, items, text)
+    }
+
+    // Puts in an element that is a scalar and no string in double quotes. Most words are in small letters.
+    #[inline(always)]
+    fn push_word<V: Handler<'a>>(
+        &mut self,
+        room: &mut V::Room,
+        items: &mut V::Items,
+        text: &'a str,
+    ) -> Result<(), Failed>
+        requires same { IsTextOf text.now self.old }
+        ensures { Pushes V.Handler scalar_at result self.old self.new room.old room.new items.old items.new }
+    {
+        let from = self.offset;
+        match self.short_literal() {
+            Some(Literal::Null) => self.push::<V>(room, items, V::null(), from),
+            Some(Literal::Bool(value)) => self.push::<V>(room, items, V::boolean(value), from),
+            None => self.push_other_scalar::<V>(room, items, text),
+        }
+    }
+
+    // Pushes a string in double quotes that has escapes, or is rejected, from the byte after its opening quote on. It
+    // stands apart, since its caller would clear the place of an owned string before each value.
+    #[inline(never)]
+    fn push_escaped<V: Handler<'a>>(
+        &mut self,
+        room: &mut V::Room,
+        items: &mut V::Items,
+        text: &'a str,
+    ) -> Result<(), Failed>
+        requires opened { IsBehind ascii.quote self.old }
+        requires same { IsTextOf text.now self.old }
+        ensures { Pushes V.Handler (λ size mode. quoted_at size mode ascii.quote) result
+            self.old self.new room.old room.new items.old items.new }
+    {
+        let value = self.parse_escaped_string::<V>(b'"', text)?;
+        self.push::<V>(room, items, value, self.offset)
+    }
+
+    // Pushes any other value that holds no others, or tells its fault.
+    #[inline(never)]
+    fn push_other_scalar<V: Handler<'a>>(
+        &mut self,
+        room: &mut V::Room,
+        items: &mut V::Items,
+        text: &'a str,
+    ) -> Result<(), Failed>
+        requires same { IsTextOf text.now self.old }
+        ensures { Pushes V.Handler scalar_at result self.old self.new room.old room.new items.old items.new }
+    {
+        let value = self.parse_scalar::<V>(text)?;
+        self.push::<V>(room, items, value, self.offset)
+    }
+
+    // Puts in a member whose value holds no others. Here too a value is put in where it is made.
+    #[inline(always)]
+    pub(super) fn insert_scalar<V: Handler<'a>>(
+        &mut self,
+        room: &mut V::Room,
+        object: &mut OpenObject<V::Members, V::Key>,
+        key: V::Key,
+        text: &'a str,
+    ) -> Result<(), Failed>
+        requires same { IsTextOf text.now self.old }
+        ensures { Inserts V.Handler scalar_at result self.old self.new room.old room.new key object.old object.new }
+    {
+        let from = self.offset;
+        if self.take_byte(b'"') {
+            if let Some(cut) = self.cut_string(V::tells_plain(), text) {
+                return self.insert_cut::<V>(room, object, key, cut, from);
+            }
+            return self.insert_escaped::<V>(room, object, key, text);
+        }
+        match self.mode {
+            Mode::Standard => self.insert_standard_value::<V>(room, object, key, text),
+            Mode::Extended if V::keeps_integers() => {
+                self.insert_extended_value::<V>(room, object, key, text)
+            }
+            Mode::Extended => self.insert_other_scalar::<V>(room, object, key, text),
+        }
+    }
+
+    // Puts in a member of a standard text whose value is a scalar and no string.
+    #[inline(always)]
+    fn insert_standard_scalar<V: Handler<'a>>(
+        &mut self,
+        room: &mut V::Room,
+        object: &mut OpenObject<V::Members, V::Key>,
+        key: V::Key,
+        text: &'a str,
+    ) -> Result<(), Failed>
+        requires mode { mode_of self.old.mode ≡ standard }
+        requires same { IsTextOf text.now self.old }
+        ensures { Inserts V.Handler scalar_at result self.old self.new room.old room.new key object.old object.new }
+    {
+        let from = self.offset;
+        if let Some(read) = self.short_integer() {
+            if read.negative {
+                let number = negative_number(read.magnitude);
+                return self.insert::<V>(room, object, key, V::number(number), from);
+            }
+            let number = Number::UInt64(read.magnitude);
+            return self.insert::<V>(room, object, key, V::number(number), from);
+        }
+        self.insert_word::<V>(room, object, key, text)
+    }
+
+    // Puts in a member whose value is a scalar and no string in double quotes. Most words are in small letters.
+    #[inline(always)]
+    fn insert_word<V: Handler<'a>>(
+        &mut self,
+        room: &mut V::Room,
+        object: &mut OpenObject<V::Members, V::Key>,
+        key: V::Key,
+        text: &'a str,
+    ) -> Result<(), Failed>
+        requires same { IsTextOf text.now self.old }
+        ensures { Inserts V.Handler scalar_at result self.old self.new room.old room.new key object.old object.new }
+    {
+        let from = self.offset;
+        match self.short_literal() {
+            Some(Literal::Null) => self.insert::<V>(room, object, key, V::null(), from),
+            Some(Literal::Bool(value)) => self.insert::<V>(
+                room,
+                object,
+                key,
+                V::boolean(value),
+                from,
+            ),
+            None => self.insert_other_scalar::<V>(room, object, key, text),
+        }
+    }
+
+    // Puts in a member with a string in double quotes that has escapes, or is rejected, from the byte after its opening
+    // quote on.
+    #[inline(never)]
+    fn insert_escaped<V: Handler<'a>>(
+        &mut self,
+        room: &mut V::Room,
+        object: &mut OpenObject<V::Members, V::Key>,
+        key: V::Key,
+        text: &'a str,
+    ) -> Result<(), Failed>
+        requires opened { IsBehind ascii.quote self.old }
+        requires same { IsTextOf text.now self.old }
+        ensures { Inserts V.Handler (λ size mode. quoted_at size mode ascii.quote) result
+            self.old self.new room.old room.new key object.old object.new }
+    {
+        let value = self.parse_escaped_string::<V>(b'"', text)?;
+        self.insert::<V>(room, object, key, value, self.offset)
+    }
+
+    // Puts in a member with any other value that holds no others, or tells its fault.
+    #[inline(never)]
+    fn insert_other_scalar<V: Handler<'a>>(
+        &mut self,
+        room: &mut V::Room,
+        object: &mut OpenObject<V::Members, V::Key>,
+        key: V::Key,
+        text: &'a str,
+    ) -> Result<(), Failed>
+        requires same { IsTextOf text.now self.old }
+        ensures { Inserts V.Handler scalar_at result self.old self.new room.old room.new key object.old object.new }
+    {
+        let value = self.parse_scalar::<V>(text)?;
+        self.insert::<V>(room, object, key, value, self.offset)
+    }
+
+    // A value that holds no others, or the fault of what is none.
+    #[inline(always)]
+    pub(super) fn parse_scalar<V: Handler<'a>>(&mut self, text: &'a str) -> Result<V, Failed>
+        requires same { IsTextOf text.now self.old }
+        ensures { MakesScalar V.Handler scalar_at result self.old self.new }
+    {
+        match self.start() {
+            Start::DoubleQuote => self.parse_string(b'"', text),
+            Start::SingleQuote => self.parse_string(b'\'', text),
+            Start::Null => self.parse_null(),
+            Start::True => self.parse_bool(b"true", true),
+            Start::False => self.parse_bool(b"false", false),
+            Start::Number => self.parse_number_value(),
+            Start::Array | Start::Object | Start::NoValue => {
+                let error = self.fault_at_next(ParseErrorCode::ExpectedSomeValue, 1);
+                Err(self.fail(error))
+            }
+        }
+    }
+
+    // A word that stands for this boolean.
+    #[inline(always)]
+    fn parse_bool<V: Handler<'a>>(&mut self, word: &[u8], value: bool) -> Result<V, Failed>
+        ensures { MakesScalar V.Handler (λ size mode. word_at size mode word.now (boolean value)) result self.old
+            self.new }
+    {
+        match self.parse_word(word) {
+            Ok(()) => Ok(V::boolean(value)),
+            Err(error) => Err(self.fail(error)),
+        }
+    }
+
+    // `null`; where that fails, in extended mode a number's word may begin with the same letter.
+    #[inline(always)]
+    fn parse_null<V: Handler<'a>>(&mut self) -> Result<V, Failed>
+        ensures { MakesScalar V.Handler null_at result self.old self.new }
+    {
+        let start = self.offset;
+        let error = match self.parse_word(b"null") {
+            Ok(()) => return Ok(V::null()),
+            Err(error) => error,
+        };
+        match self.mode {
+            Mode::Standard => Err(self.fail(error)),
+            Mode::Extended => {
+                self.offset = start;
+                self.parse_number_value()
+            }
+        }
+    }
+
+    // A number as a value.
+    #[inline(always)]
+    fn parse_number_value<V: Handler<'a>>(&mut self) -> Result<V, Failed>
+        ensures { MakesScalar V.Handler number_value_at result self.old self.new }
+    {
+        match self.parse_number() {
+            Ok(number) => Ok(V::number(number)),
+            Err(error) => Err(self.fail(error)),
+        }
+    }
+
+    // A string in quotes of this kind, of which one comes next, as a value.
+    #[inline(always)]
+    fn parse_string<V: Handler<'a>>(&mut self, quote: u8, text: &'a str) -> Result<V, Failed>
+        requires no_backslash { quote ≢ ascii.backslash }
+        requires is_ascii { quote < ascii.end }
+        requires opens { begins quote (rest_of self.old) ≡ true }
+        requires same { IsTextOf text.now self.old }
+        ensures { MakesScalar V.Handler (λ size mode bytes. quoted_at size mode quote (drop 1 bytes)) result self.old
+            self.new }
+    {
+        self.offset += 1;
+        if let Some(body) = self.borrowed_string(quote, text) {
+            return Ok(V::string(CowStr::Borrowed(body)));
+        }
+        self.parse_escaped_string(quote, text)
+    }
+
+    // A string that has escapes, or is rejected, as a value.
+    #[inline(always)]
+    fn parse_escaped_string<V: Handler<'a>>(
+        &mut self,
+        quote: u8,
+        text: &'a str,
+    ) -> Result<V, Failed>
+        requires quote { IsAfterQuote quote self.old }
+        requires same { IsTextOf text.now self.old }
+        ensures { MakesScalar V.Handler (λ size mode. quoted_at size mode quote) result self.old self.new }
+    {
+        let from = self.offset;
+        let Some(body) = self.escaped_contents(quote, text) else {
+            return match self.parse_escaped(quote) {
+                Ok(string) => Ok(V::string(string)),
+                Err(error) => Err(self.fail(error)),
+            };
+        };
+        match V::escaped_string(self.alloc, body, self.mode, from + 1) {
+            Ok(value) => Ok(value),
+            Err(error) => Err(self.fail(error)),
+        }
+    }
+
+    // Passes a single quote, where one comes next that begins a string.
+    #[inline(always)]
+    pub(super) fn take_single_quote(&mut self) -> bool
+        ensures { TakesByte ascii.single_quote (begins_single_quote (mode_of self.old.mode) (rest_of self.old)) result
+            self.old self.new }
+    {
+        match self.mode {
+            Mode::Standard => false,
+            Mode::Extended => self.take_byte(b'\''),
+        }
+    }
+
+    // Whether the next byte is a small letter, so that it is worth while to look for a literal.
+    #[inline(always)]
+    fn may_begin_word(&self) -> bool {
+        matches!(self.peek(), Some(b'a'..=b'z'))
+    }
+
+    // Parses a literal in small letters, if one comes next.
+    #[inline(always)]
+    fn short_literal(&mut self) -> Option<Literal>
+        ensures finds { Finds literal_tree scalar_at result self.old self.new }
+        ensures spelled { IfSome result (λ l. rest_of self.old ≡ literal_text l ++ rest_of self.new) }
+    {
+        let rest = self.rest();
+        if begins_with(rest, b"null") {
+            self.offset += 4;
+            return Some(Literal::Null);
+        }
+        if begins_with(rest, b"true") {
+            self.offset += 4;
+            return Some(Literal::Bool(true));
+        }
+        if begins_with(rest, b"false") {
+            self.offset += 5;
+            return Some(Literal::Bool(false));
+        }
+        None
+    }
+
+    // A number, or a word that names none.
+    #[inline(always)]
+    fn parse_number(&mut self) -> std::result::Result<Number, Error>
+        ensures { ReadsInPlace number_view number_at result self.old self.new }
+    {
+        match self.mode {
+            Mode::Standard => self.parse_standard_number(),
+            Mode::Extended => self.parse_extended_number(),
+        }
+    }
+
+    // A word, byte by byte.
+    fn parse_word(&mut self, word: &[u8]) -> std::result::Result<(), Error>
+        ensures parses { Gives (λ _. rest_of self.new) result
+            (letters_at (size_of self.old) (mode_of self.old.mode) word.now (rest_of self.old)) }
+        ensures takes_no_memory { result ≢ Err Error.OutOfMemory }
+        ensures advances { Advances self.old self.new }
+    {
+        'letters: for letter in word {
+            if !self.next_is_letter(*letter) {
+                return Err(self.fault_at_next(ParseErrorCode::ExpectedSomeIdent, 1));
+            }
+            self.offset += 1;
+        }
+        Ok(())
+    }
+
+    // Whether this letter comes next.
+    #[inline(always)]
+    pub(super) fn next_is_letter(&self, letter: u8) -> bool
+        ensures found { result ≡ begins_letter (mode_of self.now.mode) letter (rest_of self.now) }
+        ensures within { MatchBool result (self.now.offset < size_of self.now) (Unit {0}) }
+    {
+        matches!(self.peek(), Some(next) if fold(next, self.mode) == letter)
+    }
+}
