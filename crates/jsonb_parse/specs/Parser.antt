@@ -113,7 +113,7 @@ source_at p =
     source_from (size_of p) (mode_of p.mode) (skip_closed_whitespace (mode_of p.mode) (rest_of p))
 
 -- A string or a key is what this function parses; memory runs out only where the text has a backslash.
-pub record ReadsString {X : Type 0} (view : X → Mark × List ℕ) (read : ℕ → Mode → List ℕ → Parse (Mark × List ℕ))
+pub record ParsesString {X : Type 0} (view : X → Mark × List ℕ) (read : ℕ → Mode → List ℕ → Parse (Mark × List ℕ))
     (result : Result X Error) (old new : Parser) : Type 0 where
   -- what was returned is what is parsed, or the error is its fault
   pub parses : ParsesAs view read result old new
@@ -123,7 +123,7 @@ pub record ReadsString {X : Type 0} (view : X → Mark × List ℕ) (read : ℕ 
   pub advances : Advances old new
 
 -- What a call returned is what this function parses, and it takes no memory.
-pub record ReadsInPlace {X Y : Type 0} (view : X → Y) (read : ℕ → Mode → List ℕ → Parse Y) (result : Result X Error)
+pub record ParsesInPlace {X Y : Type 0} (view : X → Y) (read : ℕ → Mode → List ℕ → Parse Y) (result : Result X Error)
     (old new : Parser) : Type 0 where
   -- what was returned is what is parsed, or the error is its fault
   pub parses : ParsesAs view read result old new

@@ -34,7 +34,7 @@ pub record HasNoPart (path document : List ℕ) : Type 0 where
   pub none : (part : Tree) → IsAt tree keys part → ⊥
 
 -- The path is none, the document is none, or memory ran out: for a key, for the document, or for the text of a part. A
--- document's fault is as reading tells it.
+-- document's error is that of its parsing.
 abbrev pub IsPathError : List ℕ → List ℕ → PathError → Type 0
 IsPathError path document NoPath = (keys : List (List ℕ)) → IsPath path keys → ⊥
 IsPathError path document (NoDocument error) = (error ≢ OutOfMemory) × IsNoDocument extended document

@@ -16,7 +16,7 @@ pub record SplitsUnit (bytes digits rest : List ℕ) : Type 0 where
   pub bare : braces ≡ false → slice_index digits 0 ≢ ascii.open_brace
 
 -- the same, where the four bytes are the digits of this value
-pub record ReadsUnit (bytes digits rest : List ℕ) (value : ℕ) : Type 0 where
+pub record ParsesUnit (bytes digits rest : List ℕ) (value : ℕ) : Type 0 where
   pub splits : SplitsUnit bytes digits rest
   pub each : All IsHexDigit digits
   pub is : value ≡ digits_value 16 digits

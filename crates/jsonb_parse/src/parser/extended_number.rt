@@ -3,7 +3,7 @@ ghost use Rattle.std.specs.Prelude.{◌≡◌, ◌+◌, ◌-◌, ◌<◌, true, 
 ghost use Rattle.jsonb_spec.specs.Mode.{extended};
 ghost use Rattle.jsonb_value.specs.View.{number_view};
 ghost use Rattle.jsonb_scan.specs.Answer.{mode_of};
-ghost use Rattle.jsonb_parse.specs.Parser.{KeepsInteger, ReadsInPlace, rest_of};
+ghost use Rattle.jsonb_parse.specs.Parser.{KeepsInteger, ParsesInPlace, rest_of};
 ghost use Rattle.jsonb_scan.specs.Parsing.Whitespace.{is_break};
 ghost use Rattle.jsonb_scan.specs.Parsing.ExtendedNumber.{extended_number_at};
 
@@ -46,7 +46,7 @@ impl Parser<'_> {
 
     // Parses the longest number text, and gives its number.
     pub(super) fn parse_extended_number(&mut self) -> Result<Number>
-        ensures { ReadsInPlace number_view (λ size mode. extended_number_at size) result self.old self.new }
+        ensures { ParsesInPlace number_view (λ size mode. extended_number_at size) result self.old self.new }
     {
         let bytes = self.rest();
         match short_number(bytes) {
@@ -61,7 +61,7 @@ impl Parser<'_> {
     // Parses any number text, also one that `short_number` leaves.
     fn parse_long_number(&mut self, bytes: &[u8]) -> Result<Number>
         requires bytes { bytes.now ≡ rest_of self.old }
-        ensures { ReadsInPlace number_view (λ size mode. extended_number_at size) result self.old self.new }
+        ensures { ParsesInPlace number_view (λ size mode. extended_number_at size) result self.old self.new }
     {
         let text = match scan_number(bytes) {
             Ok(text) => text,

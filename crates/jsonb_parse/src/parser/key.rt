@@ -4,7 +4,7 @@ ghost use Rattle.std.specs.Cow.{cow_str_bytes};
 ghost use Rattle.jsonb_spec.specs.Ascii as ascii;
 ghost use Rattle.jsonb_value.specs.View.{mark_view};
 ghost use Rattle.jsonb_parse.specs.Handler.{AsNamed, Begins, Builds};
-ghost use Rattle.jsonb_parse.specs.Parser.{AdvancesOver, IsTextOf, ReadsInPlace, ReadsString, parse_at, rest_of};
+ghost use Rattle.jsonb_parse.specs.Parser.{AdvancesOver, IsTextOf, ParsesInPlace, ParsesString, parse_at, rest_of};
 ghost use Rattle.jsonb_parse.specs.Stack.{member_start};
 ghost use Rattle.jsonb_scan.specs.Parsing.Whitespace.{skip_whitespace};
 ghost use Rattle.jsonb_scan.specs.Parsing.String.{string_at};
@@ -110,7 +110,7 @@ impl<'a> Parser<'a> {
 
     // A key.
     fn parse_key(&mut self) -> Result<CowStr<'a>>
-        ensures { ReadsString (λ s. (mark_view s, cow_str_bytes s)) key_at result self.old self.new }
+        ensures { ParsesString (λ s. (mark_view s, cow_str_bytes s)) key_at result self.old self.new }
     {
         if self.take_byte(b'"') {
             return self.parse_quoted(b'"');
@@ -126,7 +126,7 @@ impl<'a> Parser<'a> {
 
     // Parses a key without quotes. It is borrowed.
     fn parse_bare_key(&mut self) -> Result<CowStr<'a>>
-        ensures { ReadsInPlace (λ s. (mark_view s, cow_str_bytes s)) (λ size mode. bare_key_at size) result self.old
+        ensures { ParsesInPlace (λ s. (mark_view s, cow_str_bytes s)) (λ size mode. bare_key_at size) result self.old
             self.new }
     {
         let Some(byte) = self.peek() else {

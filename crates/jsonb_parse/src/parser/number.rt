@@ -7,7 +7,7 @@ ghost use Rattle.jsonb_scan.specs.Answer.{Fails, mode_of};
 ghost use Rattle.jsonb_spec.specs.Mode.{standard};
 ghost use Rattle.jsonb_spec.specs.Grammar.StandardNumber.{IsStandardNumber};
 ghost use Rattle.jsonb_spec.specs.Tree.{number};
-ghost use Rattle.jsonb_parse.specs.Parser.{Finds, KeepsInteger, ReadsInPlace, rest_of, size_of};
+ghost use Rattle.jsonb_parse.specs.Parser.{Finds, KeepsInteger, ParsesInPlace, rest_of, size_of};
 ghost use Rattle.jsonb_scan.specs.Parsing.Scalar.{scalar_at};
 ghost use Rattle.jsonb_scan.specs.ShortInteger.{short_view};
 ghost use Rattle.jsonb_scan.specs.Parsing.Number.{ContinuesAfterInteger, digits_from, exponent_from, fraction_from, whole_start, then_from, number_to, standard_number_at};
@@ -58,7 +58,7 @@ impl Parser<'_> {
     // Parses the longest number text, and gives its number.
     #[inline(never)]
     pub(super) fn parse_standard_number(&mut self) -> Result<Number>
-        ensures { ReadsInPlace number_view (λ size mode. standard_number_at size) result self.old self.new }
+        ensures { ParsesInPlace number_view (λ size mode. standard_number_at size) result self.old self.new }
     {
         let bytes = self.rest();
         let negative = byte_at(bytes, 0) == b'-';

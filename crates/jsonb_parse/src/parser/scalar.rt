@@ -11,7 +11,7 @@ ghost use Rattle.jsonb_spec.specs.Source.{string_source};
 ghost use Rattle.jsonb_scan.specs.Spelled.{IsSpelledAt};
 ghost use Rattle.jsonb_write.specs.OpenText.{source_text};
 ghost use Rattle.jsonb_write.specs.PlainText.{ArePlain};
-ghost use Rattle.jsonb_parse.specs.Parser.{Advances, Finds, IsAfterQuote, IsBehind, IsTextOf, ReadsInPlace, TakesByte, rest_of, size_of};
+ghost use Rattle.jsonb_parse.specs.Parser.{Advances, Finds, IsAfterQuote, IsBehind, IsTextOf, ParsesInPlace, TakesByte, rest_of, size_of};
 ghost use Rattle.jsonb_scan.specs.Parsing.{begins};
 ghost use Rattle.jsonb_scan.specs.Parsing.Scalar.{number_value_at, begins_letter, begins_single_quote, fold_letter, letters_at, null_at, number_at, quoted_at, scalar_at, word_at};
 ghost use Rattle.jsonb_parse.specs.Steps.{Inserts, MakesScalar, Pushes, PutsElement, PutsMember};
@@ -626,7 +626,7 @@ impl<'a> Parser<'a> {
     // A number, or a word that names none.
     #[inline(always)]
     fn parse_number(&mut self) -> std::result::Result<Number, Error>
-        ensures { ReadsInPlace number_view number_at result self.old self.new }
+        ensures { ParsesInPlace number_view number_at result self.old self.new }
     {
         match self.mode {
             Mode::Standard => self.parse_standard_number(),

@@ -4,7 +4,7 @@ ghost use Rattle.std.specs.Cow.{cow_str_bytes};
 ghost use Rattle.jsonb_spec.specs.Ascii as ascii;
 ghost use Rattle.jsonb_value.specs.View.{mark_view};
 ghost use Rattle.jsonb_spec.specs.Tree.Mark.{plain};
-ghost use Rattle.jsonb_parse.specs.Parser.{Advances, CutsString, IsAfterQuote, IsBehind, IsTextOf, PassesContents, ReadsString};
+ghost use Rattle.jsonb_parse.specs.Parser.{Advances, CutsString, IsAfterQuote, IsBehind, IsTextOf, PassesContents, ParsesString};
 ghost use Rattle.jsonb_scan.specs.Parsing.String.{string_at};
 ghost use Rattle.jsonb_write.specs.PlainText.{ArePlain};
 
@@ -28,7 +28,7 @@ impl<'a> Parser<'a> {
     #[inline(always)]
     pub(super) fn parse_quoted(&mut self, quote: u8) -> Result<CowStr<'a>>
         requires no_backslash { quote ≢ ascii.backslash }
-        ensures { ReadsString (λ s. (mark_view s, cow_str_bytes s)) (λ size mode. string_at size mode quote) result
+        ensures { ParsesString (λ s. (mark_view s, cow_str_bytes s)) (λ size mode. string_at size mode quote) result
             self.old self.new }
     {
         let rest = self.rest();
@@ -55,7 +55,7 @@ impl<'a> Parser<'a> {
     #[inline(never)]
     pub(super) fn parse_escaped(&mut self, quote: u8) -> Result<CowStr<'a>>
         requires no_backslash { quote ≢ ascii.backslash }
-        ensures { ReadsString (λ s. (mark_view s, cow_str_bytes s)) (λ size mode. string_at size mode quote) result
+        ensures { ParsesString (λ s. (mark_view s, cow_str_bytes s)) (λ size mode. string_at size mode quote) result
             self.old self.new }
     {
         self.parse_quoted(quote)

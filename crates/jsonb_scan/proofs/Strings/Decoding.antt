@@ -10,7 +10,7 @@ use Rattle.jsonb_spec.specs.Code.{invalid_hex, invalid_escaped, invalid_string_v
 use Rattle.jsonb_spec.specs.Grammar.StringBody.{Item, raw, escape, unit, after_u, spelling, IsItem, IsBody, Decodes, escaped_byte, alone, together, meaning}
 use Rattle.jsonb_spec.specs.Grammar.StringFault.{IsFirstNonDigit, bad_digit, cut_escape, unknown_escape, bad_unit, IsFaultyBody}
 use Rattle.jsonb_scan.specs.Decoding.{SeesNoBackslash}
-use Rattle.jsonb_scan.specs.Decoding.{SplitsUnit, ReadsUnit, DecodesUpTo, Adds, StopsInUnit, StopsAtEscape}
+use Rattle.jsonb_scan.specs.Decoding.{SplitsUnit, ParsesUnit, DecodesUpTo, Adds, StopsInUnit, StopsAtEscape}
 use Rattle.jsonb_value.proofs.Strings.Units.{length-alone, length-together, length-after_u}
 use Rattle.jsonb_value.proofs.Strings.Meaning.{each-append, meaning-raw, meaning-escape, meaning-together, meaning-alone, meaning-last}
 use Rattle.std.specs.Char.Utf16.{is_high_surrogate}
@@ -64,7 +64,7 @@ spelled_unit braces bytes digits rest split = ap (λ more. 92 ∷ 117 ∷ more) 
 longer_unit : (braces : Bool) (bytes digits rest : List ℕ) → bytes ≡ after_u braces digits ++ rest → length digits ≡ 4 → 4 + length rest ≤ length bytes
 longer_unit braces bytes digits rest split four = omega (arith, ap length split, length-append (after_u braces digits) rest, length-after_u braces digits four)
 
-pub decoded_alone : (mode : Mode) (bytes digits rest : List ℕ) (value : ℕ) → ReadsUnit bytes digits rest value → (is_high_surrogate value ≡ false) ⊎ ((more : List ℕ) → rest ≢ 92 ∷ 117 ∷ more) → DecodesUpTo mode (92 ∷ 117 ∷ bytes) rest (alone digits)
+pub decoded_alone : (mode : Mode) (bytes digits rest : List ℕ) (value : ℕ) → ParsesUnit bytes digits rest value → (is_high_surrogate value ≡ false) ⊎ ((more : List ℕ) → rest ≢ 92 ∷ 117 ∷ more) → DecodesUpTo mode (92 ∷ 117 ∷ bytes) rest (alone digits)
 decoded_alone mode bytes digits rest value r ends =
     let s = r.splits in record {
       items = unit s.braces digits ∷ [];
@@ -77,7 +77,7 @@ decoded_alone mode bytes digits rest value r ends =
       short = omega (arith, longer_unit s.braces bytes digits rest s.split s.four, length-alone digits s.four);
     }
 
-pub decoded_together : (mode : Mode) (bytes first between next rest : List ℕ) (value other : ℕ) → ReadsUnit bytes first (92 ∷ 117 ∷ between) value → is_high_surrogate value ≡ true → ReadsUnit between next rest other → DecodesUpTo mode (92 ∷ 117 ∷ bytes) rest (together first next)
+pub decoded_together : (mode : Mode) (bytes first between next rest : List ℕ) (value other : ℕ) → ParsesUnit bytes first (92 ∷ 117 ∷ between) value → is_high_surrogate value ≡ true → ParsesUnit between next rest other → DecodesUpTo mode (92 ∷ 117 ∷ bytes) rest (together first next)
 decoded_together mode bytes first between next rest value other r high q =
     let s = r.splits in
     let t = q.splits in record {
@@ -130,7 +130,7 @@ stops_first mode bytes code left stop = record {
   count = omega (arith, stop.count);
 }
 
-pub stops_next : (mode : Mode) (bytes first between : List ℕ) (value : ℕ) (code : Code) (left : ℕ) → ReadsUnit bytes first (92 ∷ 117 ∷ between) value → StopsInUnit between code left → StopsAtEscape mode (92 ∷ 117 ∷ bytes) code left
+pub stops_next : (mode : Mode) (bytes first between : List ℕ) (value : ℕ) (code : Code) (left : ℕ) → ParsesUnit bytes first (92 ∷ 117 ∷ between) value → StopsInUnit between code left → StopsAtEscape mode (92 ∷ 117 ∷ bytes) code left
 stops_next mode bytes first between value code left r stop =
     let s = r.splits in
     let items = unit s.braces first ∷ [] in

@@ -8,7 +8,7 @@ ghost use Rattle.jsonb_spec.specs.Mode.{Mode as GrammarMode};
 ghost use Rattle.jsonb_value.specs.Error.CodeView.{code_of};
 ghost use Rattle.jsonb_spec.specs.Grammar.StringBody.{IsHexDigit, unit, spelling, alone, together};
 ghost use Rattle.jsonb_spec.specs.Grammar.StringFault.{IsUnitCut, IsFirstNonDigit};
-ghost use Rattle.jsonb_scan.specs.Decoding.{SplitsUnit, ReadsUnit, Adds, IsDecodedUpTo, StopsInUnit, StopsAtEscape};
+ghost use Rattle.jsonb_scan.specs.Decoding.{SplitsUnit, ParsesUnit, Adds, IsDecodedUpTo, StopsInUnit, StopsAtEscape};
 
 use super::room::write_all;
 use super::{Decoded, DecodingFault};
@@ -79,7 +79,7 @@ fn split_unit(bytes: &[u8]) -> Option<(&[u8], &[u8])>
 // The unit whose `\u` stands before the bytes.
 #[inline(always)]
 fn read_unit(bytes: &[u8]) -> std::result::Result<HexUnit<'_>, DecodingFault>
-    ensures ok { IfOk result (λ unit. ReadsUnit bytes.now unit.digits.now unit.rest.now unit.value) }
+    ensures ok { IfOk result (λ unit. ParsesUnit bytes.now unit.digits.now unit.rest.now unit.value) }
     ensures long { IfOk result (λ unit. length unit.rest.now + 4 ≤ length bytes.now) }
     ensures err { IfErr result (λ fault. StopsInUnit bytes.now (code_of fault.code) fault.left) }
 {
