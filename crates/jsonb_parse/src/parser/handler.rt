@@ -32,59 +32,70 @@ pub struct Failed;
 /// What is made of one text: a value of this type for each scalar and each container that ended, with the elements,
 /// members and keys of the containers that are open, and the room that all of them are written to.
 ///
-/// A scalar is made first and put in then, with the indices of the text between which it stands, where these are known.
+/// A scalar is made first and put in then, with the indices of the text between which it stands, where these are
+/// known.
+///
+/// Of an array the parser calls `items`; for each element `push` or `push_kept`, or `next_item` before a container
+/// and `push_inner` after it; then `end_items` and `array`. Of an object it calls `members`; for each member
+/// `borrowed_key`, `plain_key` or `key`, and `insert` or `insert_kept`, or `insert_inner` after a container; then
+/// `finish` and `object`. A text that is one scalar ends with `root`. After a failure, `dismantle` and its kin drop
+/// what was made so far.
 pub trait Handler<'a>: Drop + Sized {
-    // What is written of all values.
+    /// What is written of all values.
     type Room: Drop;
 
-    // The elements so far of an array that is open.
+    /// The elements so far of an array that is open.
     type Items: Drop;
 
-    // The members so far of an object that is open.
+    /// The members so far of an object that is open.
     type Members: Drop;
 
-    // A key that waits for its value.
+    /// A key that waits for its value.
     type Key: Drop;
 
-    // The scalar is of this source, and isn't put in yet.
+    /// The scalar is of this source, and isn't put in yet.
     ghost sees: { Self → Source → Type 0 };
 
-    // Of this text, the room and the open containers, the innermost first, hold what was parsed so far. A value is due
-    // (true), or the innermost was opened or one of its parts ended (false).
+    /// Of this text, the room and the open containers, the innermost first, hold what was parsed so far. A value is due
+    /// (true), or the innermost was opened or one of its parts ended (false).
     ghost stands: { List ℕ → Self.Room → Bool → List (Frame Self.Items Self.Members Self.Key) → List Open → Type 0 };
 
-    // The container ended, and is of this source. It stands where a value was due.
+    /// The container ended, and is of this source. It stands where a value was due.
     ghost completes: { List ℕ → Self.Room → Frame Self.Items Self.Members Self.Key → Source → List (Frame Self.Items Self.Members Self.Key) → List Open → Type 0 };
 
-    // The value is of this source, and stands where a value was due.
+    /// The value is of this source, and stands where a value was due.
     ghost filled: { List ℕ → Self.Room → Self → Source → List (Frame Self.Items Self.Members Self.Key) → List Open → Type 0 };
 
-    // What was in the room before the text, and stays.
+    /// What was in the room before the text, and stays.
     ghost base: { Self.Room → List (List ℕ) };
 
-    // Whether it may fail and tell nothing, so that the text is parsed another way.
+    /// Whether it may fail and tell nothing, so that the text is parsed another way.
     ghost silent: { Bool };
 
-    // Whether a scalar takes memory.
+    /// Whether a scalar takes memory.
     ghost writes: { Bool };
 
-    // Whether scalars are kept that stand in the text as they are written.
+    /// Whether scalars are kept that stand in the text as they are written.
     ghost keeps: { Bool };
 
+    /// A `null`, also where an element is left out, or the text has no value.
     fn null() -> Self
         ensures { sees result null_source };
 
+    /// A `true` or a `false`.
     fn boolean(value: bool) -> Self
         ensures { sees result (boolean_source value) };
 
+    /// A number.
     fn number(value: Number) -> Self
         ensures { sees result (number_source (number_view value)) };
 
+    /// A string, borrowed from the text or owned.
     fn string(text: CowStr<'a>) -> Self
         ensures { sees result (string_source (mark_view text.entry) (cow_str_bytes text.entry)) };
 
-    // A string that has escapes, given its contents. An error counts from `offset`: the index after the opening quote,
-    // and one more.
+    /// A string that has escapes, given its contents. An error counts from `offset`: the index after the opening quote,
+    /// and one more.
     fn escaped_string(
         alloc: Global,
         body: &'a str,
@@ -95,18 +106,18 @@ pub trait Handler<'a>: Drop + Sized {
         requires room { offset + length body.now < 2 ^ 64 }
         ensures { SeesContents sees offset result (body_of (mode_of mode) body.now) };
 
-    // Whether strings and keys none of whose bytes has an escape in serialized text are told from others.
+    /// Whether strings and keys none of whose bytes has an escape in serialized text are told from others.
     fn tells_plain() -> bool;
 
-    // A string that is told so.
+    /// A string that is told so.
     fn plain_string(text: &'a str) -> Self
         ensures { ArePlain text.now → sees result (string_source plain text.now) };
 
-    // Whether integers are kept that are written by the same bytes again.
+    /// Whether integers are kept that are written by the same bytes again.
     fn keeps_integers() -> bool
         ensures { result ≡ keeps };
 
-    // The whole text is this scalar.
+    /// The whole text is this scalar.
     fn root(
         room: &mut Self::Room,
         value: &Self,
@@ -118,7 +129,7 @@ pub trait Handler<'a>: Drop + Sized {
         ensures memory { IfErr result (λ _. writes ≡ true) }
         ensures base { base room.new ≡ base room.old };
 
-    // An array is opened. Its bracket stands in the text at an index.
+    /// An array is opened. Its bracket stands in the text at an index.
     fn items(
         room: &mut Self::Room,
         alloc: Global,
@@ -127,7 +138,7 @@ pub trait Handler<'a>: Drop + Sized {
         ensures opened { IfOk result (OpensArray stands room.old room.new) }
         ensures base { base room.new ≡ base room.old };
 
-    // An element is due that is a container.
+    /// An element is due that is a container.
     fn next_item(
         room: &mut Self::Room,
         items: &mut Self::Items,
@@ -135,7 +146,7 @@ pub trait Handler<'a>: Drop + Sized {
         ensures due { OnOk result (AwaitsElement stands room.old items.old room.new items.new) }
         ensures base { base room.new ≡ base room.old };
 
-    // Puts in an element that is a scalar.
+    /// Puts in an element that is a scalar.
     fn push(
         room: &mut Self::Room,
         items: &mut Self::Items,
@@ -147,7 +158,7 @@ pub trait Handler<'a>: Drop + Sized {
             room.old items.old room.new items.new) }
         ensures base { base room.new ≡ base room.old };
 
-    // Puts in an element that stands in the text as it is written. A handler that keeps none isn't asked to.
+    /// Puts in an element that stands in the text as it is written. A handler that keeps none isn't asked to.
     fn push_kept(
         room: &mut Self::Room,
         items: &mut Self::Items,
@@ -158,7 +169,7 @@ pub trait Handler<'a>: Drop + Sized {
             (λ text s. slice_range text from to ≡ source_text s) room.old items.old room.new items.new) }
         ensures base { base room.new ≡ base room.old };
 
-    // Puts in an element that is a container. Where it is the last one, no other follows.
+    /// Puts in an element that is a container. Where it is the last one, no other follows.
     fn push_inner(
         room: &mut Self::Room,
         items: &mut Self::Items,
@@ -169,7 +180,7 @@ pub trait Handler<'a>: Drop + Sized {
             room.new items.new) }
         ensures base { base room.new ≡ base room.old };
 
-    // The array ends. Its bracket stands in the text at an index.
+    /// The array ends. Its bracket stands in the text at an index.
     fn end_items(
         room: &mut Self::Room,
         items: &mut Self::Items,
@@ -178,13 +189,13 @@ pub trait Handler<'a>: Drop + Sized {
         ensures ended { OnOk result (EndsArray stands (λ text. completes text room.new) room.old items.old items.new) }
         ensures base { base room.new ≡ base room.old };
 
-    // The array of elements that ended.
+    /// The array of elements that ended.
     fn array(room: &Self::Room, items: Self::Items) -> Self
         ensures { (text : List ℕ) → (s : Source) → (fs : List (Frame Self.Items Self.Members Self.Key))
             → (cs : List Open) → completes text room.now (Array items) s fs cs
             → filled text room.now result s fs cs };
 
-    // An object is opened. Its brace stands in the text at an index.
+    /// An object is opened. Its brace stands in the text at an index.
     fn members(
         room: &mut Self::Room,
         alloc: Global,
@@ -193,7 +204,7 @@ pub trait Handler<'a>: Drop + Sized {
         ensures opened { IfOk result (OpensObject stands room.old room.new) }
         ensures base { base room.new ≡ base room.old };
 
-    // A member begins with a key that was cut out of the text at an index, and the index after it.
+    /// A member begins with a key that was cut out of the text at an index, and the index after it.
     fn borrowed_key(
         room: &mut Self::Room,
         object: &mut OpenObject<Self::Members, Self::Key>,
@@ -206,7 +217,7 @@ pub trait Handler<'a>: Drop + Sized {
             → Begins (stands bytes) room.old object.old room.new object.new key (plain, text.now) after) }
         ensures base { base room.new ≡ base room.old };
 
-    // A member begins with such a key that is told so.
+    /// A member begins with such a key that is told so.
     fn plain_key(
         room: &mut Self::Room,
         object: &mut OpenObject<Self::Members, Self::Key>,
@@ -219,7 +230,7 @@ pub trait Handler<'a>: Drop + Sized {
             → Begins (stands bytes) room.old object.old room.new object.new key (plain, text.now) after) }
         ensures base { base room.new ≡ base room.old };
 
-    // A member begins with any other key.
+    /// A member begins with any other key.
     fn key(
         room: &mut Self::Room,
         object: &mut OpenObject<Self::Members, Self::Key>,
@@ -231,11 +242,11 @@ pub trait Handler<'a>: Drop + Sized {
             object.new key (mark_view text.entry, cow_str_bytes text.entry) after) }
         ensures base { base room.new ≡ base room.old };
 
-    // The key of an object that waits for no value.
+    /// The key of an object that waits for no value.
     fn no_key(alloc: Global) -> Self::Key;
 
-    // Puts in a member whose value is a scalar. False where its key is there already, and the handler is silent about
-    // it.
+    /// Puts in a member whose value is a scalar. False where its key is there already, and the handler is silent about
+    /// it.
     fn insert(
         room: &mut Self::Room,
         object: &mut OpenObject<Self::Members, Self::Key>,
@@ -249,7 +260,7 @@ pub trait Handler<'a>: Drop + Sized {
             (silent ≡ true)) }
         ensures base { base room.new ≡ base room.old };
 
-    // Puts in a member whose value stands in the text as it is written. A handler that keeps none isn't asked to.
+    /// Puts in a member whose value stands in the text as it is written. A handler that keeps none isn't asked to.
     fn insert_kept(
         room: &mut Self::Room,
         object: &mut OpenObject<Self::Members, Self::Key>,
@@ -262,7 +273,7 @@ pub trait Handler<'a>: Drop + Sized {
             (silent ≡ true)) }
         ensures base { base room.new ≡ base room.old };
 
-    // Puts in a member whose value is a container, under the key that waits for it.
+    /// Puts in a member whose value is a container, under the key that waits for it.
     fn insert_inner(
         room: &mut Self::Room,
         object: &mut OpenObject<Self::Members, Self::Key>,
@@ -273,7 +284,7 @@ pub trait Handler<'a>: Drop + Sized {
             (λ s fs cs text. filled text room.old value s fs cs) object.old room.new object.new) (silent ≡ true)) }
         ensures base { base room.new ≡ base room.old };
 
-    // The object ends. A key that comes twice is told. Its brace stands in the text at an index.
+    /// The object ends. A key that comes twice is told. Its brace stands in the text at an index.
     fn finish(
         room: &mut Self::Room,
         alloc: Global,
@@ -290,19 +301,19 @@ pub trait Handler<'a>: Drop + Sized {
             × (object_end front rest ≡ Ok (s, rest))) }
         ensures base { base room.new ≡ base room.old };
 
-    // The object of members that ended.
+    /// The object of members that ended.
     fn object(room: &Self::Room, members: Self::Members) -> Self
         ensures { (text : List ℕ) → (s : Source) → (key : Self.Key)
             → (fs : List (Frame Self.Items Self.Members Self.Key)) → (cs : List Open)
             → completes text room.now (Object (record { members = members; key = key })) s fs cs
             → filled text room.now result s fs cs };
 
-    // Drops a value that may nest deep.
+    /// Drops a value that may nest deep.
     fn dismantle(self);
 
-    // Drops elements whose values may nest deep.
+    /// Drops elements whose values may nest deep.
     fn dismantle_items(items: Self::Items);
 
-    // Drops members whose values may nest deep.
+    /// Drops members whose values may nest deep.
     fn dismantle_members(members: Self::Members);
 }
