@@ -1,4 +1,4 @@
--- The values of arrays and objects.
+-- Arrays and objects: what is made of them, and where their keys stand.
 pub mod Built
 pub mod KeyPlaces
 pub mod LongerSpellings
