@@ -27,8 +27,7 @@ PROVED ?= build/proved.o
 
 # Of the kit's archives only that of malloc, realloc and free is called.
 KIT = $(shell dirname "$$(rt doc)")
-CRATES = jsonb_spec jsonb_value jsonb_scan jsonb_write jsonb_parse jsonb jsonb_path jsonb_pointer jsonb_key jsonb_stored \
-    stored_text stored_zeros stored_edit jsonb_c
+CRATES = $(shell packaging/crates jsonb_c)
 SOURCES := crates.txt $(shell find $(CRATES:%=crates/%) -name out -prune -o \( -name '*.rt' -o -name '*.antt' \) -print)
 BUILT = crates/jsonb_c/out/libjsonb_c.a
 
