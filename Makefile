@@ -1,5 +1,6 @@
-# Builds the library for C as a static and as a shared library, and installs both:
+# Builds the library for C as a static and as a shared library, and installs both; and proves the program:
 #
+#   make prove                          proves and builds the program, crates/jsonb_cat/out/jsonb_cat
 #   make                                builds build/libvizhoniku.a and build/libvizhoniku.so.0
 #   make install [PREFIX=/usr/local] [DESTDIR=]
 #   make uninstall [PREFIX=/usr/local] [DESTDIR=]
@@ -101,5 +102,9 @@ uninstall:
 clean:
 	rm -rf build
 
-.PHONY: all install uninstall clean
+# The script looks itself whether anything has changed.
+prove:
+	@packaging/program
+
+.PHONY: all prove install uninstall clean
 .DELETE_ON_ERROR:
