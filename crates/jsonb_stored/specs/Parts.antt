@@ -1,7 +1,6 @@
 -- Parts of values, found in their keys.
 use Rattle.std.specs.Prelude.{◌≡◌, ℕ, ◌<◌, ◌⊎◌, List, ◌++◌, Option, Some, None}
 use Rattle.jsonb_spec.specs.PartAt.{IsChild, IsAt}
-use Rattle.jsonb_path.specs.Path.{IsPartAt}
 use Rattle.jsonb_stored.specs.declared.walk.Kind.{Kind}
 use Rattle.jsonb_stored.specs.declared.walk.Kind.TheVariants as variants
 use Rattle.jsonb_stored.specs.Open.{Open, items, members}
@@ -57,10 +56,4 @@ pub record IsKeyOfChild (t : Tree) (name key : List ℕ) : Type 0 where
 pub record IsKeyAt (t : Tree) (names : List (List ℕ)) (key : List ℕ) : Type 0 where
   pub part : Tree
   pub at : IsAt t names part
-  pub is_key : key ≡ key_of part
-
--- The bytes are the key of the part at the path.
-pub record IsKeyOfPart (path : List ℕ) (t : Tree) (key : List ℕ) : Type 0 where
-  pub part : Tree
-  pub at : IsPartAt path t part
   pub is_key : key ≡ key_of part

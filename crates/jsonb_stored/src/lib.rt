@@ -19,7 +19,6 @@ pub use find::{
     NoKey, count_parts, find_item, find_member, find_part, find_plain_part, next_part, open_key,
     range_of,
 };
-pub use part::part_of_key;
 pub use skip::after_key;
 pub use text::{plain_text, put_text, text_of_string, text_size};
 pub use walk::{Kind, items_of, kind_of, members_of, next_item, next_member};

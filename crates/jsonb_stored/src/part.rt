@@ -1,42 +1,18 @@
 //! The part of a key at a path.
 
-ghost use Rattle.std.specs.Prelude.{◌≡◌, ◌<◌, ◌^◌, ◌++◌, List, ℕ, length, map, string_bytes, IfOk, IfErr, IsTrue, IsFalse, MatchOption, true, false};
+ghost use Rattle.std.specs.Prelude.{◌≡◌, ◌<◌, ◌^◌, ◌++◌, List, ℕ, length, map, string_bytes, IsTrue, IsFalse, MatchOption, true, false};
 ghost use Rattle.std.specs.Str.{bytes_eq};
 ghost use Rattle.jsonb_spec.specs.PartAt.{IsIndex};
-ghost use Rattle.jsonb_path.specs.Path.{HasNoPartAt, IsGetError};
 ghost use Rattle.jsonb_stored.specs.AtKeys.{AtItems, AtKey, AtMembers, AtParts, FindsAt, FindsChild, FindsKeyAt, OfKey};
 ghost use Rattle.jsonb_stored.specs.Open.{end_key};
-ghost use Rattle.jsonb_stored.specs.Parts.{opened_tree, IsKeyOfPart};
+ghost use Rattle.jsonb_stored.specs.Parts.{opened_tree};
 ghost use Rattle.jsonb_spec.specs.SortKey.{text_key};
 ghost use Rattle.jsonb_spec.specs.Tree.{array, object};
 
 use crate::skip::{after_end, after_key, after_text, opening};
 use crate::walk::front;
 use jsonb_key::text::{read_byte, skip_pair};
-use jsonb_path::{PathError, read_keys};
 use jsonb_write::part::index_of;
-use std::alloc::Global;
-
-/// The key of the part at the path (RFC 6901), which stands within the key, or `None` where there is none. Only the
-/// keys of the path are allocated.
-///
-/// # Errors
-///
-/// `NoPath` where the bytes aren't a path, and `NoMemory`.
-pub fn part_of_key<'k>(
-    alloc: Global,
-    key: &'k [u8],
-    path: &[u8],
-) -> Result<Option<&'k [u8]>, PathError>
-    ensures found { IfOk result (λ answer. OfKey key.now (λ t.
-        MatchOption answer (HasNoPartAt path.now t) (λ part. IsKeyOfPart path.now t part.now))) }
-    ensures rejected { IfErr result (IsGetError path.now) }
-{
-    match read_keys(alloc, path)? {
-        Some(names) => Ok(part_at(key, &names)),
-        None => Err(PathError::NoPath),
-    }
-}
 
 /// The key of the part at the path of these names.
 pub fn part_at<'k>(key: &'k [u8], names: &[String]) -> Option<&'k [u8]>

@@ -625,16 +625,6 @@ impl<'a> TextRoom<'a> {
         copy.extend_from_slice(&out[start.min(out.len())..])
     }
 
-    /// A whole value that stands in the text as it is to be written.
-    #[inline(always)]
-    pub fn root_range(&mut self, from: usize, to: usize) -> Result<(), AllocError>
-        ensures stands { OnOk result ((text : List ℕ) → (s : Source) → TextStands text self.old true [] []
-            → slice_range text from to ≡ source_text s → TextFilled text self.new s [] []) }
-        ensures base { base_of self.new ≡ base_of self.old }
-    {
-        self.keep_range(from, to)
-    }
-
     /// The end of a whole value: all of it is in the buffer.
     pub fn finish(&mut self) -> Result<(), AllocError>
         ensures ok { OnOk result ((text : List ℕ) → (s : Source) → TextFilled text self.old s [] []
