@@ -5,8 +5,8 @@ ghost use Rattle.jsonb_spec.specs.Tree.{Tree};
 ghost use Rattle.jsonb_value.specs.View.{view};
 ghost use Rattle.jsonb_spec.specs.PartAt.{IsAt, IsChild, child_at, part_at};
 
+use jsonb_path::index_of;
 use jsonb_value::value::Value;
-use jsonb_write::part::index_of;
 
 /// The part of the value at the path of these keys: the member with the first key, or the item whose index the key is
 /// in decimal digits, in it what the second key leads to, and so on. None where there is none.

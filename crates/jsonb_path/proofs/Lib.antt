@@ -1,3 +1,4 @@
 pub mod KeySpelling
+pub mod PartIndex
 pub mod PlainKeys
 pub mod PartsReadBack

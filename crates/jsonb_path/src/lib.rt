@@ -2,7 +2,9 @@
 #![tactic(auto)]
 
 pub mod error;
+pub mod index;
 pub mod keys;
 
 pub use error::PathError;
+pub use index::index_of;
 pub use keys::{plain_key, read_keys};

@@ -5,7 +5,7 @@ use Rattle.std.specs.Str.{bytes_eq}
 use Rattle.jsonb_spec.specs.Accessors.{find_member, item_at}
 use Rattle.jsonb_spec.specs.Tree.{Tree, array, object, Trees, no_trees, more_trees, Members, no_members, more_members}
 use Rattle.jsonb_spec.specs.PartAt.{IsAt, IsChild, child_at, index_named, part_at}
-use Rattle.jsonb_write.proofs.PartIndex.{is_named, names_index}
+use Rattle.jsonb_path.proofs.PartIndex.{is_named, names_index}
 use Rattle.jsonb_pointer.proofs.ArraySizes.{AreBelow, ItemsBelow, MembersBelow}
 use Rattle.jsonb.proofs.Children.{item_within}
 

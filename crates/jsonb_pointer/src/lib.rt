@@ -4,8 +4,7 @@
 pub mod part;
 
 pub use jsonb::part_at;
-pub use jsonb_path::{PathError, plain_key, read_keys};
-pub use jsonb_write::part::index_of;
+pub use jsonb_path::{PathError, index_of, plain_key, read_keys};
 pub use part::{get, part_text};
 
 #[cfg(test)]

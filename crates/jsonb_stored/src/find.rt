@@ -21,8 +21,7 @@ use crate::part::is_over;
 use crate::skip::{after_key, after_name, after_text, opening};
 use crate::walk::kind_of;
 use jsonb_key::text::{read_byte, skip_pair};
-use jsonb_path::plain_key;
-use jsonb_write::part::index_of;
+use jsonb_path::{index_of, plain_key};
 use std::cmp::Ordering;
 
 /// The bytes aren't the sort key of a value of JSON's kinds with at most 512 nested arrays and objects.

@@ -12,7 +12,7 @@ ghost use Rattle.jsonb_spec.specs.Tree.{array, object};
 use crate::skip::{after_end, after_key, after_text, opening};
 use crate::walk::front;
 use jsonb_key::text::{read_byte, skip_pair};
-use jsonb_write::part::index_of;
+use jsonb_path::index_of;
 
 /// The key of the part at the path of these names.
 pub fn part_at<'k>(key: &'k [u8], names: &[String]) -> Option<&'k [u8]>

@@ -3,10 +3,10 @@ ghost use Rattle.std.specs.Prelude.{◌≡◌, ◌+◌, ◌-◌, ◌<◌, ◌^�
 ghost use Rattle.std.specs.Cow.{cow_str_bytes};
 ghost use Rattle.std.specs.Option.{is_some, option_and_then, option_map};
 ghost use Rattle.std.specs.Str.{IsUtf8};
-ghost use Rattle.jsonb_spec.specs.PartAt.{IsIndex, index_named, leads_well};
 ghost use Rattle.jsonb_write.specs.PartRoom.{less};
 
 use crate::text::{Part, TextRoom};
+use jsonb_path::index_of;
 use std::alloc::{AllocError, Global};
 use std::borrow::CowStr;
 
@@ -397,31 +397,4 @@ fn one_less(ahead: Option<usize>) -> Option<usize>
         Some(ahead) if ahead > 0 => Some(ahead - 1),
         _ => None,
     }
-}
-
-// Whether there is one byte alone, or the first is no 0.
-fn leads_well(bytes: &[u8]) -> bool
-    ensures { result ≡ leads_well bytes.now }
-{
-    match bytes {
-        [] => false,
-        [_] => true,
-        [first, ..] => *first != b'0',
-    }
-}
-
-/// The index that a key is in decimal digits, without leading zeros.
-pub fn index_of(key: &str) -> Option<usize>
-    ensures named { result ≡ index_named key.now }
-    ensures some { IfSome result (λ index. IsIndex key.now index) }
-    ensures none { IfNone result ((index : ℕ) → index < 2 ^ 64 → IsIndex key.now index → ⊥) }
-{
-    let bytes = key.as_bytes();
-    if !leads_well(bytes) {
-        return None;
-    }
-    if bytes[0] == b'+' {
-        return None;
-    }
-    key.parse().ok()
 }

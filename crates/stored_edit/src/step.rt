@@ -3,7 +3,7 @@
 ghost use Rattle.std.specs.Prelude.{◌≡◌, option_map, true};
 ghost use Rattle.stored_edit.specs.Edit.{back_named, step_named};
 
-use jsonb_write::part::index_of;
+use jsonb_path::index_of;
 
 // Whether the index counts from the end, and the number: where 1 is the last item then, and else 0 the first.
 pub(crate) fn step_of(name: &str) -> Option<(bool, usize)>

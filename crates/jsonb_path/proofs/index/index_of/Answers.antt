@@ -1,8 +1,8 @@
 use Rattle.std.proofs.Common.{rules, ◌∙◌, ◌≡◌, true, false}
 use Rattle.std.specs.Prelude.{slice_index, ◌==◌}
 use Rattle.jsonb_spec.specs.PartAt.{leads_well}
-use Rattle.jsonb_write.proofs.PartIndex.{index_there, no_index_there, parsed}
-use Rattle.jsonb_write.proofs.part.index_of.Goals as goal
+use Rattle.jsonb_path.proofs.PartIndex.{index_there, no_index_there, parsed}
+use Rattle.jsonb_path.proofs.index.index_of.Goals as goal
 
 pub returns-clause-named : goal.returns-clause-named
 returns-clause-named c =
