@@ -1,9 +1,10 @@
 -- The kind of a value, told by the first byte of its key.
-use Rattle.std.proofs.Common.{◌≡◌, ◌⊎◌, inl, inr, true, false, ℕ, ◌+◌, ◌<◌, ◌∷◌, ◌++◌, List, Option, Some, None, MatchOption, refl, sym, ap, ◌∙◌, arith}
+use Rattle.std.proofs.Common.{◌≡◌, ◌≢◌, ◌⊎◌, inl, inr, Bool, true, false, if◌then◌else◌, ℕ, ◌+◌, ◌<◌, ◌∷◌, ◌++◌, List, Option, Some, None, MatchOption, refl, sym, ap, ◌∙◌, arith}
 use Rattle.jsonb_key.specs.Readable.{IsReadable}
 use Rattle.jsonb_stored.specs.declared.walk.Kind.{Kind}
 use Rattle.jsonb_stored.specs.declared.walk.Kind.TheVariants as kind
 use Rattle.jsonb_stored.specs.Parts.{IsFirstByte, kind_of_tree}
+use Rattle.jsonb_spec.specs.Accessors.{as_boolean}
 use Rattle.jsonb_spec.specs.SortKey.{key_of, items_key, members_key, text_key}
 use Rattle.jsonb_spec.specs.Tree.{Tree, null, boolean, string, number, array, object}
 use Rattle.jsonb_value.proofs.SortKeys.Kinds.{is_small, number_begins}
@@ -121,3 +122,32 @@ no_kind t first of (inr high) = by_kind of.which (between of.which first of.begi
 pub same_as_found : (t : Tree) (first : ℕ) → KindOf t first → (result : Option Kind) → MatchOption result ((first < 0x15) ⊎ (0xD3 < first)) (λ k. IsFirstByte k first) → result ≡ kind_of_tree t
 same_as_found t first of (Some k) is = one_kind k t first is of
 same_as_found t first of None out = absurd (no_kind t first of out)
+
+-- the byte of a boolean is one of two
+of_boolean : (b : Bool) (first : ℕ) → first ≡ (if b then 0x16 else 0x15) → (0x14 < first) × (first < 0x17)
+of_boolean true first is = (omega (arith, is), omega (arith, is))
+of_boolean false first is = (omega (arith, is), omega (arith, is))
+
+-- what is found by the byte is the boolean
+pub boolean_as_found : (t : Tree) → IsReadable t → (first : ℕ) (rest bytes more : List ℕ) → bytes ≡ first ∷ rest → bytes ≡ key_of t ++ more → (result : Option Bool)
+    → MatchOption result ((first ≢ 0x15) × (first ≢ 0x16)) (λ b. first ≡ (if b then 0x16 else 0x15)) → result ≡ as_boolean t
+boolean_as_found (boolean true) r first rest bytes more e stands (Some true) found = refl
+boolean_as_found (boolean true) r first rest bytes more e stands (Some false) found = absurd (omega (arith, found, heads first 0x16 rest more (sym e ∙ stands)))
+boolean_as_found (boolean true) r first rest bytes more e stands None found = absurd (found.1 (heads first 0x16 rest more (sym e ∙ stands)))
+boolean_as_found (boolean false) r first rest bytes more e stands (Some false) found = refl
+boolean_as_found (boolean false) r first rest bytes more e stands (Some true) found = absurd (omega (arith, found, heads first 0x15 rest more (sym e ∙ stands)))
+boolean_as_found (boolean false) r first rest bytes more e stands None found = absurd (found.0 (heads first 0x15 rest more (sym e ∙ stands)))
+boolean_as_found null r first rest bytes more e stands None found = refl
+boolean_as_found null r first rest bytes more e stands (Some b) found = absurd (omega (arith, (of_boolean b first found).1, heads first 0xD3 rest more (sym e ∙ stands)))
+boolean_as_found (string mark text) r first rest bytes more e stands None found = refl
+boolean_as_found (string mark text) r first rest bytes more e stands (Some b) found = absurd (omega (arith, (of_boolean b first found).1, heads first 0xD0 rest (text_key text ++ more) (sym e ∙ stands)))
+boolean_as_found (number n) r first rest bytes more e stands None found = refl
+boolean_as_found (number n) r first rest bytes more e stands (Some b) found =
+    let begun = number_begins n (is_small n r.proper) in
+    let is = heads first begun.head rest (begun.tail ++ more) (sym e ∙ stands ∙ ap (λ key. key ++ more) begun.is) in
+    absurd (omega (arith, (of_boolean b first found).1, is, begun.low))
+boolean_as_found (array ts) r first rest bytes more e stands None found = refl
+boolean_as_found (array ts) r first rest bytes more e stands (Some b) found = absurd (omega (arith, (of_boolean b first found).1, heads first 0xD2 rest (items_key ts ++ more) (sym e ∙ stands)))
+boolean_as_found (object ms) r first rest bytes more e stands None found = refl
+boolean_as_found (object ms) r first rest bytes more e stands (Some b) found = absurd (omega (arith, (of_boolean b first found).1, heads first 0xD1 rest (members_key ms ++ more) (sym e ∙ stands)))
+boolean_as_found t r first rest bytes more e stands result found = absurd r.within

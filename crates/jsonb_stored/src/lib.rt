@@ -21,4 +21,4 @@ pub use find::{
 };
 pub use skip::after_key;
 pub use text::{plain_text, put_text, text_of_string, text_size};
-pub use walk::{Kind, items_of, kind_of, members_of, next_item, next_member};
+pub use walk::{Kind, boolean_of, items_of, kind_of, members_of, next_item, next_member};

@@ -1,9 +1,10 @@
 //! The items and the members of a key, one after the other.
 
-ghost use Rattle.std.specs.Prelude.{◌≡◌, ◌<◌, ◌++◌, ◌∷◌, ◌⊎◌, List, ℕ, length, IfSome, MatchOption, None};
+ghost use Rattle.std.specs.Prelude.{◌≡◌, ◌≢◌, ◌<◌, ◌++◌, ◌∷◌, ◌⊎◌, List, ℕ, length, IfSome, MatchOption, None, if◌then◌else◌};
 ghost use Rattle.jsonb_key.specs.Readable.{IsReadable};
 ghost use Rattle.jsonb_stored.specs.AtKeys.{AtKey, Leaves, Splits, SplitsNamed};
 ghost use Rattle.jsonb_stored.specs.Parts.{IsFirstByte, kind_of_tree};
+ghost use Rattle.jsonb_spec.specs.Accessors.{as_boolean};
 ghost use Rattle.jsonb_spec.specs.SortKey.{key_of, items_key, members_key, text_key};
 ghost use Rattle.jsonb_spec.specs.SortKey.Kind as kind;
 ghost use Rattle.jsonb_spec.specs.Tree.{Tree, array, object, Trees, no_trees, more_trees, Members, no_members, more_members};
@@ -48,6 +49,27 @@ fn kind_by_byte(first: u8) -> Option<Kind>
         kind::OBJECT => Some(Kind::Object),
         kind::ARRAY => Some(Kind::Array),
         _ => Some(Kind::Null),
+    }
+}
+
+/// The boolean whose key the bytes begin with; `None` where they begin with that of another value. Of other bytes it may
+/// be either, or `None`.
+pub fn boolean_of(key: &[u8]) -> Option<bool>
+    ensures boolean { AtKey key.now (λ t more. result ≡ as_boolean t) }
+{
+    let (first, _) = key.split_first()?;
+    boolean_by_byte(*first)
+}
+
+// The boolean whose key is this byte.
+fn boolean_by_byte(first: u8) -> Option<bool>
+    ensures { MatchOption result ((first ≢ kind.false) × (first ≢ kind.true))
+        (λ b. first ≡ (if b then kind.true else kind.false)) }
+{
+    match first {
+        kind::FALSE => Some(false),
+        kind::TRUE => Some(true),
+        _ => None,
     }
 }
 
