@@ -23,8 +23,8 @@ use Rattle.jsonb_spec.specs.Placed.IsValueAt.{empty_array, empty_object, full_ar
 use Rattle.jsonb.specs.Source.{found_from, source_step, source_view}
 use Rattle.jsonb.specs.declared.parser.ast.JsonAst.{JsonAst, fold-roll-JsonAst, map-JsonAst, ind-JsonAst}
 use Rattle.jsonb.specs.declared.parser.ast.JsonAst.TheOpen.{JsonAst-F}
-use Rattle.jsonb_write.proofs.Objects.Shuffles.{IsShuffle, shuffled}
-use Rattle.jsonb_write.proofs.Objects.Shuffles.IsShuffle.{same, keep, exchange, follow}
+use Rattle.text_common.proofs.Shuffles.{IsShuffle, shuffled}
+use Rattle.text_common.proofs.Shuffles.IsShuffle.{same, keep, exchange, follow}
 use Rattle.jsonb.proofs.Places.Views.{tree_of_view}
 use Rattle.jsonb_document.specs.Listed.{listed_of, listed_step, listed_view}
 

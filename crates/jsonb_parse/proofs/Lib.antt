@@ -1,4 +1,5 @@
 pub mod Containers
 pub mod Document
+pub mod KeptTexts
 pub mod Scalars
 pub mod Steps

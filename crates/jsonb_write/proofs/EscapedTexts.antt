@@ -12,8 +12,8 @@ use Rattle.jsonb_scan.specs.QuotedString.{decoded_text}
 use Rattle.jsonb_scan.proofs.Strings.Checks.{decoded_text-is}
 use Rattle.jsonb_scan.proofs.Strings.Decoding.{decoded_escape, decoded_run, decoded_then}
 use Rattle.jsonb_write.specs.Escaped.{IsKeptLetter, WritesItems}
-use Rattle.jsonb_write.specs.PlainText.{ArePlain}
-use Rattle.jsonb_write.proofs.PlainTexts.{byte_some, no_shorter}
+use Rattle.text_common.specs.PlainText.{ArePlain}
+use Rattle.text_common.proofs.PlainTexts.{byte_some, no_shorter}
 
 pub writes_start : (mode : Mode) (bytes old : List ℕ) → WritesItems mode bytes bytes old old
 writes_start mode bytes old = record {

@@ -6,7 +6,8 @@ use Rattle.jsonb_spec.specs.Tree.{object}
 use Rattle.jsonb_scan.specs.Open.{Open}
 use Rattle.jsonb_spec.specs.Source.{Found, first_repeat, object_source, object_source_of, sort_by, source_members_of, spot_of}
 use Rattle.jsonb_write.specs.Members.{Piece, SpotsAscend, join_pieces}
-use Rattle.jsonb_write.specs.OpenText.{member_text, open_text, source_text}
+use Rattle.jsonb_write.specs.OpenText.{member_text, open_text}
+use Rattle.text_common.specs.SourceText.{source_text}
 use Rattle.jsonb_write.proofs.Objects.Closing as closing
 
 -- ---- the tree

@@ -4,6 +4,4 @@ pub mod Closing
 pub mod Pieces
 pub mod Prefixes
 pub mod Ranks
-pub mod Repeats
 pub mod Settled
-pub mod Shuffles

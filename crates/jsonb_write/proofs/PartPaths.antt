@@ -19,7 +19,7 @@ use Rattle.jsonb_write.specs.Members.{SpotsAscend}
 use Rattle.jsonb_spec.specs.PartAt.{index_named, part_at}
 use Rattle.jsonb_write.specs.PartRoom.{first_key, follow, in_items, in_members, path_behind, other_keys, part_inside, part_of_ended, part_with_inside, part_with_value, within}
 use Rattle.jsonb_write.proofs.Objects.Closing.{listed, listed_ascend, put_listed, sort_ascends}
-use Rattle.jsonb_write.proofs.Objects.Shuffles.{IsShuffle, distinct-shuffle, shuffle-map, same, keep, exchange, follow as in_turn}
+use Rattle.text_common.proofs.Shuffles.{IsShuffle, distinct-shuffle, shuffle-map, same, keep, exchange, follow as in_turn}
 
 -- ---- keys
 

@@ -10,7 +10,8 @@ use Rattle.jsonb_spec.specs.Tree.{Mark, Tree}
 use Rattle.jsonb_spec.specs.Tree.Mark.{plain}
 use Rattle.jsonb_scan.specs.Open.{Open, elements_so_far, members_so_far}
 use Rattle.jsonb_spec.specs.Source.{Found, Source, array_source_of, first_repeat, found_member, object_source_of, spot_of, tree_of_source}
-use Rattle.jsonb_write.specs.OpenText.{open_text, source_text}
+use Rattle.jsonb_write.specs.OpenText.{open_text}
+use Rattle.text_common.specs.SourceText.{source_text}
 use Rattle.jsonb_spec.specs.PartAt.{index_named, part_at}
 use Rattle.jsonb_write.specs.PartRoom.{HeldFits, IsAhead, Leads, PartEnds, PartFilled, PartHeld, PartStands, first_index, follow, follow_key, array_held, keys_of, path_behind, object_held, other_keys, part_inside, part_of, part_of_ended, less, rest_at, text_held, waits_at, within}
 use Rattle.jsonb_write.specs.TextRoom.{Held, SeesPart, TextFilled, TextStands, Writes, base_of}

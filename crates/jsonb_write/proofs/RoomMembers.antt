@@ -9,7 +9,8 @@ use Rattle.jsonb_spec.specs.Tree.{Mark}
 use Rattle.jsonb_scan.specs.Open.{Open, members_so_far}
 use Rattle.jsonb_spec.specs.Source.{Found, Source, found_member, spot_of}
 use Rattle.jsonb_write.specs.MemberStarts.{AreKept, MemberStart, IsKept}
-use Rattle.jsonb_write.specs.OpenText.{comma_after, comma_unless, key_text, member_text, open_text, source_text}
+use Rattle.jsonb_write.specs.OpenText.{comma_after, comma_unless, key_text, member_text, open_text}
+use Rattle.text_common.specs.SourceText.{source_text}
 use Rattle.jsonb_write.specs.TextRoom.{Begins, Held, HeldFits, IsRoomWith, TextStands, Writes, base_of, next_start, starts_from, members, all_starts}
 use Rattle.jsonb_write.specs.Written.{bytes_of}
 use Rattle.jsonb_write.specs.declared.text.TextRoom.{TextRoom}

@@ -3,7 +3,8 @@ use Rattle.std.proofs.Common.{◌≡◌, ℕ, Bool, true, false, List, [], ◌�
 use Rattle.jsonb_scan.specs.Open.{Open, elements_so_far}
 use Rattle.jsonb_spec.specs.Source.{Source}
 use Rattle.jsonb_write.specs.MemberStarts.{AreKept}
-use Rattle.jsonb_write.specs.OpenText.{comma_unless, open_text, source_text}
+use Rattle.jsonb_write.specs.OpenText.{comma_unless, open_text}
+use Rattle.text_common.specs.SourceText.{source_text}
 use Rattle.jsonb_write.specs.Written.{bytes_of}
 use Rattle.jsonb_write.proofs.OpenTexts.{comma_is, led, not_empty, part_joined}
 use Rattle.jsonb_write.specs.declared.text.Part.{Part}

@@ -7,7 +7,5 @@ pub mod Members
 pub mod OpenKey
 pub mod OpenText
 pub mod PartRoom
-pub mod PlainText
-pub mod SpelledNumber
 pub mod TextRoom
 pub mod Written

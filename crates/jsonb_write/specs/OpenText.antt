@@ -1,14 +1,11 @@
 -- The text of arrays and objects that are open, as far as it is written.
 use Rattle.std.specs.Prelude.{ℕ, Bool, true, false, List, [], ◌∷◌, ◌++◌, map}
 use Rattle.jsonb_spec.specs.Ascii as ascii
-use Rattle.jsonb_spec.specs.Text.{tree_text, with_commas}
+use Rattle.jsonb_spec.specs.Text.{with_commas}
 use Rattle.jsonb_spec.specs.Text.StringText.{quoted_text}
 use Rattle.jsonb_scan.specs.Open.{Open, elements_so_far, members_so_far}
-use Rattle.jsonb_spec.specs.Source.{Found, Source, tree_of_source}
-
--- the text of a value
-abbrev pub source_text : Source → List ℕ
-source_text s = tree_text (tree_of_source s)
+use Rattle.jsonb_spec.specs.Source.{Found}
+use Rattle.text_common.specs.SourceText.{source_text}
 
 -- a key and the colon after it
 abbrev pub key_text : List ℕ → List ℕ

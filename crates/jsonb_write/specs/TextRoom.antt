@@ -18,8 +18,9 @@ use Rattle.jsonb_spec.specs.Source.{Found, Source, Spot, null_source, boolean_so
 use Rattle.jsonb_write.specs.Contents.{BeginsAsWritten, text_of_contents}
 use Rattle.jsonb_write.specs.MemberStarts.{AreKept, MemberStart, IsKept}
 use Rattle.jsonb_write.specs.Members.{AreKeyed, SpotsAscend, spot_at, spot_in}
-use Rattle.jsonb_write.specs.OpenText.{is_empty, member_text, open_text, source_text}
-use Rattle.jsonb_write.specs.PlainText.{ArePlain}
+use Rattle.jsonb_write.specs.OpenText.{is_empty, member_text, open_text}
+use Rattle.text_common.specs.SourceText.{source_text}
+use Rattle.text_common.specs.PlainText.{ArePlain}
 use Rattle.jsonb_write.specs.Written.{bytes_of}
 use Rattle.jsonb_write.specs.declared.members.Member.{Member}
 use Rattle.jsonb_write.specs.declared.text.Part.{Part}

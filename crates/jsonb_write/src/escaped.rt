@@ -11,15 +11,15 @@ ghost use Rattle.jsonb_scan.specs.Answer.{mode_of};
 ghost use Rattle.jsonb_scan.specs.QuotedString.{decoded_text};
 ghost use Rattle.jsonb_write.specs.Contents.{BeginsAsWritten, text_of_contents};
 ghost use Rattle.jsonb_write.specs.Escaped.{IsKeptLetter, WritesItems};
-ghost use Rattle.jsonb_write.specs.PlainText.{ArePlain};
+ghost use Rattle.text_common.specs.PlainText.{ArePlain};
 
 use crate::contents::Contents;
-use crate::plain::{first_set, run_by_bytes, run_of_sixteen};
 use crate::short::append_first;
 use jsonb_scan::parser::Mode;
 use jsonb_scan::util::decode_escape;
 use std::alloc::AllocError;
 use std::simd::prelude::*;
+use text_common::plain::{first_set, run_by_bytes, run_of_sixteen};
 
 // Whether an escape of this letter is written as it stands.
 #[inline(always)]

@@ -10,7 +10,6 @@ mod key_text;
 pub mod members;
 mod orders;
 pub mod part;
-pub mod plain;
 mod short;
 mod spread;
 pub mod text;

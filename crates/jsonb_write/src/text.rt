@@ -3,15 +3,15 @@ ghost use Rattle.std.specs.Prelude.{◌≡◌, ◌+◌, ◌-◌, ◌<◌, ◌≤
 ghost use Rattle.std.specs.Cow.{cow_str_bytes};
 ghost use Rattle.std.specs.Option.{is_some};
 ghost use Rattle.std.specs.Str.{IsUtf8};
-ghost use Rattle.jsonb_write.specs.SpelledNumber.{StaysSpelled};
+ghost use Rattle.text_common.specs.SpelledNumber.{StaysSpelled};
 
 use crate::contents::Contents;
 use crate::members::{Member, Spare, ascend, key_at, prefix_within};
-use crate::plain::is_plain;
 use crate::written::Written;
 use jsonb_value::number::Number;
 use std::alloc::{AllocError, Global};
 use std::borrow::CowStr;
+use text_common::plain::is_plain;
 
 /// A value that holds no others and is to be written, or one that is written.
 #[derive(Drop)]
@@ -73,8 +73,9 @@ impl<'a> TextRoom<'a> {
     ghost use Rattle.jsonb_spec.specs.Tree.{Mark};
     ghost use Rattle.jsonb_spec.specs.Tree.Mark.{plain};
     ghost use Rattle.jsonb_value.specs.View.{mark_view, number_view};
-    ghost use Rattle.jsonb_write.specs.OpenText.{source_text, comma_unless};
-    ghost use Rattle.jsonb_write.specs.PlainText.{ArePlain};
+    ghost use Rattle.jsonb_write.specs.OpenText.{comma_unless};
+    ghost use Rattle.text_common.specs.SourceText.{source_text};
+    ghost use Rattle.text_common.specs.PlainText.{ArePlain};
     ghost use Rattle.jsonb_write.specs.TextRoom.{Begins, Closes, EndsObject, HasMember, Held, IsSettled, KeepsMembers, KeysAscendFrom, TellsRepeatOf, spot_among, IsSound, IsSpelled, SeesPart, TextFilled, TextStands, Writes, base_of, part_text};
     ghost use Rattle.jsonb_write.specs.TextRoom.Held.{items, members};
     ghost use Rattle.jsonb_write.specs.Written.{bytes_of};

@@ -14,7 +14,7 @@ use Rattle.jsonb_spec.specs.SortKey.{key_of, members_key, text_key}
 use Rattle.jsonb_spec.specs.Text.Range.{IsWithin, HaveWithin}
 use Rattle.jsonb_spec.specs.Tree.{Tree, Members, no_members, more_members, put}
 use Rattle.jsonb_value.proofs.Values.Members.{turned}
-use Rattle.jsonb_write.proofs.Objects.Repeats.{same_key}
+use Rattle.text_common.proofs.Repeats.{same_key}
 use Rattle.stored_edit.specs.Edit.{merged_members}
 use Rattle.stored_edit.specs.Merging.{IsStep, StepsOn}
 use Rattle.stored_edit.specs.declared.merge.Step.{Step}

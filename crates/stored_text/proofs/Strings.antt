@@ -11,8 +11,8 @@ use Rattle.jsonb_spec.specs.Text.StringText.{byte_text}
 use Rattle.jsonb_value.proofs.Appending.Appended.{IsUnderway, begun, goes_on, fits}
 use Rattle.jsonb_value.proofs.SortKeys.Texts.{text_key-other}
 use Rattle.jsonb_value.proofs.Trees.Runs.{heads, tails}
-use Rattle.jsonb_write.specs.PlainText.{ArePlain}
-use Rattle.jsonb_write.proofs.PlainTexts.{byte_some, no_shorter}
+use Rattle.text_common.specs.PlainText.{ArePlain}
+use Rattle.text_common.proofs.PlainTexts.{byte_some, no_shorter}
 use Rattle.stored_text.specs.Writes.{closing_quote}
 
 -- ---- runs without escapes

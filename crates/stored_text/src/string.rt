@@ -3,15 +3,15 @@ ghost use Rattle.std.specs.Prelude.{◌≡◌, ◌<◌, ◌≤◌, length, take}
 ghost use Rattle.std.specs.Char.{digit_char};
 ghost use Rattle.jsonb_spec.specs.Text.Appending.{Appends};
 ghost use Rattle.jsonb_spec.specs.Text.StringText.{byte_text, control_text};
-ghost use Rattle.jsonb_write.specs.PlainText.{ArePlain};
+ghost use Rattle.text_common.specs.PlainText.{ArePlain};
 ghost use Rattle.stored_text.specs.Writes.{closing_quote, WritesString};
 
 use crate::append::{append_chunk, append_first};
 use jsonb_key::KeyError;
 use jsonb_key::text::{read_byte, skip_pair};
 use jsonb_value::sort_key::kind;
-use jsonb_write::plain::plain_len;
 use std::alloc::AllocError;
+use text_common::plain::plain_len;
 
 // Appends the bytes of the text whose key the bytes begin with, a double quote, and a colon behind a name.
 #[inline(always)]

@@ -21,7 +21,7 @@ use Rattle.jsonb.specs.declared.parser.ast.JsonAst.{JsonAst}
 use Rattle.jsonb.specs.declared.parser.ast.JsonAst as ast
 use Rattle.jsonb_scan.specs.Parsing.Container.{object_or_fault}
 use Rattle.jsonb_spec.specs.Source.{Found, Source, Spot, array_source_of, member_of, object_source_of, spot_of, tree_of_source}
-use Rattle.jsonb_write.proofs.Objects.Repeats.{no_repeat}
+use Rattle.text_common.proofs.Repeats.{no_repeat}
 use Rattle.jsonb_parse.proofs.Containers.Sources.{array_tree, object_tree}
 use Rattle.jsonb_parse.proofs.Containers.Values.{same_keys}
 use Rattle.jsonb.proofs.Places.Views.{source-Array}

@@ -6,8 +6,8 @@ use Rattle.jsonb.specs.AstView.{Written}
 use Rattle.jsonb.specs.Source.{found_of}
 use Rattle.jsonb_scan.specs.Parsing.Container.{object_or_fault}
 use Rattle.jsonb_spec.specs.Source.{Found, SpotsAreSorted, Spot, adjacent_repeat, first_repeat, object_source, sort_by, source_members_of, spot_of}
-use Rattle.jsonb_write.proofs.Objects.Repeats.{distinct}
-use Rattle.jsonb_write.proofs.Objects.Shuffles.{first_repeat-sorted, none_left, shuffle-map, shuffled, sort-ascending, sort-distinct}
+use Rattle.text_common.proofs.Repeats.{distinct}
+use Rattle.text_common.proofs.Shuffles.{first_repeat-sorted, none_left, shuffle-map, shuffled, sort-ascending, sort-distinct}
 use Rattle.jsonb.proofs.Places.Views.{fuse}
 
 abbrev pub spots : List Written → List Spot

@@ -26,8 +26,8 @@ use Rattle.jsonb_spec.specs.Source.{Found, Source, adjacent_repeat, array_source
 use Rattle.jsonb_scan.proofs.Containers.JoinedParts.{IsSound, IsSoundBefore, joined-skip, joined_sound, on_byte_cases}
 use Rattle.jsonb_scan.proofs.Steps.Tests.{bind_ok, chosen, rejected_fails, same_ok, same_read}
 use Rattle.jsonb_scan.proofs.Text.Whitespace.{ends_all, passes, skip-whitespace, skip-skip, skip-stop, skips}
-use Rattle.jsonb_write.proofs.Objects.Repeats.{AreSorted, apart, below, sorted-sort}
-use Rattle.jsonb_write.proofs.Objects.Shuffles.{permutes, sort-shuffles, spots-sort}
+use Rattle.text_common.proofs.Repeats.{AreSorted, apart, below, sorted-sort}
+use Rattle.text_common.proofs.Shuffles.{permutes, sort-shuffles, spots-sort}
 use Rattle.jsonb_parse.proofs.Containers.Values.{IsFound, Seen, comment_ends, element_sound, ended, is_extended_if, member_skip, member_sound, object_of, value_sound}
 use Rattle.jsonb_parse.proofs.Scalars.Spellings.{key_sound, scalar_sound}
 

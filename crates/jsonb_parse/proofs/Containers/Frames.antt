@@ -28,7 +28,7 @@ use Rattle.jsonb_parse.specs.Stack.{elements_from, finish_open, member_start, ne
 use Rattle.jsonb_scan.specs.Open.{Open, add_part}
 use Rattle.jsonb_scan.specs.Open.{elements_so_far, members_so_far}
 use Rattle.jsonb_parse.proofs.Containers.OpenOnLists.{array-begun, array-value, element-due, elements-turn, members-turn, object-begun, object-value, on_byte-then, resume-none, resume-part, then-same, then-then, value_plain}
-use Rattle.jsonb_write.proofs.Objects.Repeats.{no_repeat}
+use Rattle.text_common.proofs.Repeats.{no_repeat}
 use Rattle.jsonb_parse.proofs.Steps.Advancing.{contains_next, goes_on}
 use Rattle.jsonb_parse.proofs.Steps.Failures.{misses_same, misses_through}
 use Rattle.jsonb_parse.proofs.Steps.Outcomes.{same_size}

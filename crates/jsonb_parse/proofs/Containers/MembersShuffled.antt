@@ -5,9 +5,9 @@ use Rattle.std.specs.Cmp.Lexicographic.{slice_cmp}
 use Rattle.std.proofs.lemmas.Cmp.{nat_list_cmp_total}
 use Rattle.jsonb_spec.specs.Tree.{Member, Members, Tree, put, put_all}
 use Rattle.jsonb_spec.specs.Tree.Members.{more_members, no_members}
-use Rattle.jsonb_write.proofs.Objects.Repeats.{chained, same_key}
-use Rattle.jsonb_write.proofs.Objects.Shuffles.{IsShuffle, distinct-shuffle, shuffle-map}
-use Rattle.jsonb_write.proofs.Objects.Shuffles.IsShuffle.{same, keep, exchange, follow}
+use Rattle.text_common.proofs.Repeats.{chained, same_key}
+use Rattle.text_common.proofs.Shuffles.{IsShuffle, distinct-shuffle, shuffle-map}
+use Rattle.text_common.proofs.Shuffles.IsShuffle.{same, keep, exchange, follow}
 use Rattle.jsonb_value.proofs.Trees.MembersInOrder.{HaveDistinctKeys}
 
 -- the members with t at k, where k compares with the first key so

@@ -24,7 +24,7 @@ use Rattle.jsonb_scan.specs.Parsing.Document.{alone_at, at_end, comment_at, docu
 use Rattle.jsonb_scan.specs.Parsing.Scalar.{key_at, scalar_at}
 use Rattle.jsonb_scan.proofs.Steps.Tests.{SameRead, bind_ok, chosen, rejected_fails, same_ok, same_read}
 use Rattle.jsonb_scan.proofs.Containers.JoinedParts.{IsOther, IsPartComplete, IsShown, IsSound, IsSoundBefore, SeenBy, Spelled, Starts, ends-whitespace, ends_at, joined-skip, joined_complete, joined_seen, joined_sound, length-joined, on_byte-none, on_byte-other, on_byte_cases, other, padded_complete, padded_seen, padded_sound, skip-padded}
-use Rattle.jsonb_write.proofs.Objects.Repeats.{distinct, no_repeat}
+use Rattle.text_common.proofs.Repeats.{distinct, no_repeat}
 use Rattle.jsonb_parse.proofs.Scalars.Spellings.{Follows, IsNumberTree, key_complete, key_sound, scalar_complete, scalar_sound, scalar_starts}
 use Rattle.jsonb_parse.proofs.Scalars.Spellings.Follows.{before}
 use Rattle.jsonb_scan.proofs.Text.Comments.{begins_found}

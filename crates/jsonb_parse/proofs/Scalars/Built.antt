@@ -31,7 +31,7 @@ use Rattle.jsonb_parse.specs.Frames.{IsPushed, IsPutIn}
 use Rattle.jsonb_parse.specs.Parser.{Advances, IsBehind, rest_of, size_of}
 use Rattle.jsonb_spec.specs.Text.{in_quotes}
 use Rattle.std.proofs.lemmas.List.{drop_more}
-use Rattle.jsonb_write.specs.OpenText.{source_text}
+use Rattle.text_common.specs.SourceText.{source_text}
 use Rattle.jsonb_parse.proofs.Scalars.FirstBytes.{extended_number, standard_number}
 use Rattle.jsonb_scan.proofs.Containers.JoinedParts.{on_byte-none}
 use Rattle.jsonb_parse.proofs.Steps.Failures.{memory_misses, misses_through, untold_misses}

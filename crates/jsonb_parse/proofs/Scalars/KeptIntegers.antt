@@ -12,7 +12,7 @@ use Rattle.jsonb_scan.specs.Parsing.Scalar.{scalar_at}
 use Rattle.jsonb_scan.specs.ShortInteger.{IsKeptInteger, short_view}
 use Rattle.jsonb_scan.proofs.Numbers.Extended.{extended_complete}
 use Rattle.jsonb_scan.proofs.Numbers.Standard.{number_sound}
-use Rattle.jsonb_write.proofs.Spelled.{kept_text}
+use Rattle.jsonb_parse.proofs.KeptTexts.{kept_text}
 use Rattle.jsonb_parse.specs.declared.parser.Parser.{Parser}
 use Rattle.jsonb_parse.specs.Parser.{Advances, PassesInteger, rest_of, size_of}
 use Rattle.jsonb_scan.specs.Answer.{mode_of}

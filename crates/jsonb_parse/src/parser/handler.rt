@@ -15,8 +15,8 @@ ghost use Rattle.jsonb_scan.specs.Open.{Open, members_so_far};
 ghost use Rattle.jsonb_scan.specs.Parsing.String.{body_of};
 ghost use Rattle.jsonb_spec.specs.Source.{Source, Found, null_source, boolean_source, string_source, number_source};
 ghost use Rattle.jsonb_scan.specs.Spelled.{IsSpelledAt, KeyStandsAt};
-ghost use Rattle.jsonb_write.specs.OpenText.{source_text};
-ghost use Rattle.jsonb_write.specs.PlainText.{ArePlain};
+ghost use Rattle.text_common.specs.SourceText.{source_text};
+ghost use Rattle.text_common.specs.PlainText.{ArePlain};
 
 use super::Mode;
 use super::frame::OpenObject;

@@ -13,8 +13,8 @@ use Rattle.jsonb_spec.specs.Source.{Found, Spot, spot_of, spot_cmp, tree_of_sour
 use Rattle.jsonb_write.specs.Members.{SpotsAscend, between, between_after, join_pieces, others_joined, StandFrom, Piece, pieces_of, spots_of_pieces, bytes_of_pieces, pieces_in_order, source_key, member_key}
 use Rattle.jsonb_write.specs.declared.members.Member.{Member}
 use Rattle.jsonb_write.proofs.Objects.Ascending.{ascending_sorted}
-use Rattle.jsonb_write.proofs.Objects.Repeats.{AreSorted, apart, below, key_cmp, sort_spots, sorted-sort}
-use Rattle.jsonb_write.proofs.Objects.Shuffles.{sort-ascending, spots-sort}
+use Rattle.text_common.proofs.Repeats.{AreSorted, apart, below, key_cmp, sort_spots, sorted-sort}
+use Rattle.text_common.proofs.Shuffles.{sort-ascending, spots-sort}
 
 -- ---- the order
 

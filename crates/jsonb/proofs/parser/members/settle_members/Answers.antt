@@ -4,7 +4,7 @@ use Rattle.jsonb.specs.AstView.{Written}
 use Rattle.jsonb.specs.Source.{found_of}
 use Rattle.jsonb_spec.specs.Source.{Spot, adjacent_repeat, spot_of}
 use Rattle.jsonb.proofs.Containers.Members.{no_more_left, not_repeated, repeated, spots}
-use Rattle.jsonb_write.proofs.Objects.Shuffles.{agree_if, differ_if, neighbours_agree, neighbours_differ}
+use Rattle.text_common.proofs.Shuffles.{agree_if, differ_if, neighbours_agree, neighbours_differ}
 use Rattle.jsonb.proofs.Places.Views.{fuse}
 use Rattle.jsonb.proofs.parser.members.settle_members.Goals as goal
 

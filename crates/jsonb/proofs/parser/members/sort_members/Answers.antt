@@ -2,8 +2,8 @@ use Rattle.std.proofs.Common.{◌≡◌, is_lt, ap, rules}
 use Rattle.std.proofs.lemmas.List.Sorted.{ranks_by, answers_always}
 use Rattle.jsonb.specs.Source.{found_of}
 use Rattle.jsonb_spec.specs.Source.{spot_cmp, spot_of}
-use Rattle.jsonb_write.proofs.Objects.Repeats.{spot_cmp_total}
-use Rattle.jsonb_write.proofs.Objects.Shuffles.{ascending_from_sorted}
+use Rattle.text_common.proofs.Repeats.{spot_cmp_total}
+use Rattle.text_common.proofs.Shuffles.{ascending_from_sorted}
 use Rattle.jsonb.proofs.Places.Views.{fuse}
 use Rattle.jsonb.proofs.parser.members.sort_members.Goals as goal
 

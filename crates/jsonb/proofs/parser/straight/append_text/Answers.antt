@@ -3,7 +3,7 @@ use Rattle.jsonb_spec.specs.Text.{tree_text}
 use Rattle.jsonb_scan.specs.Answer.{Fails, MayAllocate, mode_of}
 use Rattle.jsonb_scan.specs.Parsing.Document.{source_of}
 use Rattle.jsonb_spec.specs.Source.{tree_of_source}
-use Rattle.jsonb_write.specs.OpenText.{source_text}
+use Rattle.text_common.specs.SourceText.{source_text}
 use Rattle.jsonb_parse.specs.Handler.{Misses}
 use Rattle.jsonb.proofs.Documents.Agreement.{fault_rejects}
 use Rattle.jsonb.proofs.Documents.Straight.{returned, source_parsed, text_there, same_only}

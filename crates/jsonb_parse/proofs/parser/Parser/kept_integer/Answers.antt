@@ -6,7 +6,7 @@ use Rattle.jsonb_scan.specs.Answer.{mode_of}
 use Rattle.jsonb_scan.specs.Parsing.Number.{is_number_start, standard_number_at}
 use Rattle.jsonb_scan.specs.ShortInteger.{short_view}
 use Rattle.jsonb_scan.proofs.Numbers.Standard.{number_sound}
-use Rattle.jsonb_write.proofs.Spelled.{kept_text}
+use Rattle.jsonb_parse.proofs.KeptTexts.{kept_text}
 use Rattle.jsonb_parse.proofs.Scalars.Built.{between, integer_at_once}
 use Rattle.jsonb_parse.proofs.parser.Parser.kept_integer.Goals as goal
 

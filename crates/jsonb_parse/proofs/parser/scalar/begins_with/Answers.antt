@@ -2,7 +2,7 @@ use Rattle.std.proofs.Common.{◌≡◌, ◌++◌, Bool, true, false, List, ℕ,
 use Rattle.std.specs.Prelude.{MatchBool, nat_eq}
 use Rattle.std.specs.Cmp.Lexicographic.{pointwise}
 use Rattle.std.proofs.lemmas.List.{take-append-drop}
-use Rattle.jsonb_write.proofs.Objects.Shuffles.{bytes_equal}
+use Rattle.text_common.proofs.Shuffles.{bytes_equal}
 use Rattle.jsonb_parse.proofs.parser.scalar.begins_with.Goals as goal
 
 pub returns-then-bytes-word : goal.returns-then-bytes-word

@@ -1,7 +1,7 @@
 use Rattle.std.proofs.Common.{subst}
 use Rattle.jsonb_write.specs.TextRoom.{Writes}
 use Rattle.jsonb_write.proofs.Rooms.{on_ok}
-use Rattle.jsonb_write.proofs.Spelled.{spelled_number}
+use Rattle.text_common.proofs.SpelledNumbers.{spelled_number}
 use Rattle.jsonb_write.proofs.text.TextRoom.number.Goals as goal
 
 pub returns-then-is_kept-clause-bytes : goal.returns-then-is_kept-clause-bytes

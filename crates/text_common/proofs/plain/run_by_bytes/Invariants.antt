@@ -1,6 +1,6 @@
 use Rattle.std.proofs.Common.{take}
-use Rattle.jsonb_write.specs.PlainText.{ArePlain}
-use Rattle.jsonb_write.proofs.plain.run_by_bytes.Given as goal
+use Rattle.text_common.specs.PlainText.{ArePlain}
+use Rattle.text_common.proofs.plain.run_by_bytes.Given as goal
 
 -- the bytes so far are written as they are
 abbrev pub invariant-bytes : goal.invariant-bytes

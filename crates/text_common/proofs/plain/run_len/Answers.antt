@@ -1,7 +1,7 @@
 use Rattle.std.proofs.Common.{arith}
 use Rattle.std.proofs.lemmas.List.{take_rest}
 use Rattle.jsonb_value.proofs.Strings.PlainRuns.{plain_on}
-use Rattle.jsonb_write.proofs.plain.run_len.Goals as goal
+use Rattle.text_common.proofs.plain.run_len.Goals as goal
 
 pub returns-then-run-lt16-clause-plain : goal.returns-then-run-lt16-clause-plain
 returns-then-run-lt16-clause-plain c =

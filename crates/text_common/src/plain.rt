@@ -1,13 +1,13 @@
 //! Which bytes are written as they are.
 ghost use Rattle.std.specs.Prelude.{◌≡◌, ◌≤◌, MatchBool, length, take, if◌then◌else◌, ◌==◌};
 ghost use Rattle.std.specs.Int.{w64, trailing_zeros};
-ghost use Rattle.jsonb_write.specs.PlainText.{ArePlain};
+ghost use Rattle.text_common.specs.PlainText.{ArePlain};
 
 use std::simd::prelude::*;
 
 // Whether the first `count` bytes are written as they are.
 #[inline(always)]
-pub(crate) fn is_plain(bytes: &[u8], count: usize) -> bool
+pub fn is_plain(bytes: &[u8], count: usize) -> bool
     ensures { MatchBool result (ArePlain (take count bytes.now)) (Unit {0}) }
 {
     if bytes.len() < 16 {
@@ -37,7 +37,7 @@ pub fn plain_len(bytes: &[u8]) -> usize
 
 // How many of the first 16 bytes, up to the first that is not, are written as they are.
 #[inline(always)]
-pub(crate) fn run_of_sixteen(bytes: &[u8]) -> usize
+pub fn run_of_sixteen(bytes: &[u8]) -> usize
     requires { 16 ≤ length bytes.now }
     ensures within { result ≤ 16 }
     ensures plain { ArePlain (take result bytes.now) }
@@ -50,7 +50,7 @@ pub(crate) fn run_of_sixteen(bytes: &[u8]) -> usize
 
 // The index of the lowest bit that is set, or the number of lanes where none is.
 #[inline(always)]
-pub(crate) fn first_set(mask: u64, lanes: usize) -> usize
+pub fn first_set(mask: u64, lanes: usize) -> usize
     ensures { result ≡ (if mask == 0 then lanes else trailing_zeros w64 mask) }
 {
     if mask == 0 {
@@ -82,7 +82,7 @@ fn run_len(bytes: &[u8], count: usize) -> usize
 
 // How many of the first bytes are written as they are, byte by byte.
 #[inline(never)]
-pub(crate) fn run_by_bytes(bytes: &[u8]) -> usize
+pub fn run_by_bytes(bytes: &[u8]) -> usize
     ensures within { result ≤ length bytes.now }
     ensures plain { ArePlain (take result bytes.now) }
 {

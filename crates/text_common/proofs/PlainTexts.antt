@@ -5,7 +5,7 @@ use Rattle.std.proofs.lemmas.Bool.{leb-true}
 use Rattle.std.proofs.lemmas.List.Concat.{flat_map-append}
 use Rattle.std.specs.List.{flat_map}
 use Rattle.jsonb_spec.specs.Text.StringText.{byte_text}
-use Rattle.jsonb_write.specs.PlainText.{ArePlain}
+use Rattle.text_common.specs.PlainText.{ArePlain}
 
 chosen_some : (t : Bool) (xs ys : List ℕ) → 0 < length xs → 0 < length ys → 0 < length (cond t xs ys)
 chosen_some true xs ys p q = p

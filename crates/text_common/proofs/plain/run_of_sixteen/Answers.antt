@@ -2,7 +2,7 @@ use Rattle.std.proofs.Common.{refl, arith}
 use Rattle.std.proofs.lemmas.Simd.{zip2_splat, zip2_of_maps, length-chunk}
 use Rattle.std.specs.Simd.Lanes.{chunk}
 use Rattle.jsonb_value.proofs.Strings.PlainRuns.{marks_within, marks_plain}
-use Rattle.jsonb_write.proofs.plain.run_of_sixteen.Goals as goal
+use Rattle.text_common.proofs.plain.run_of_sixteen.Goals as goal
 
 pub returns-clause-within : goal.returns-clause-within
 returns-clause-within c =

@@ -1,5 +1,5 @@
-use Rattle.jsonb_write.proofs.PlainTexts.{plain_where}
-use Rattle.jsonb_write.proofs.plain.is_plain.Goals as goal
+use Rattle.text_common.proofs.PlainTexts.{plain_where}
+use Rattle.text_common.proofs.plain.is_plain.Goals as goal
 
 pub returns-then-bytes-lt16 : goal.returns-then-bytes-lt16
 returns-then-bytes-lt16 c = plain_where c.args.bytes.now c.run_by_bytes.result c.args.count c.run_by_bytes.ensures.plain

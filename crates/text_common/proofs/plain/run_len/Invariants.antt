@@ -1,6 +1,6 @@
 use Rattle.std.proofs.Common.{◌-◌, ◌≤◌, length, take}
-use Rattle.jsonb_write.specs.PlainText.{ArePlain}
-use Rattle.jsonb_write.proofs.plain.run_len.Given as goal
+use Rattle.text_common.specs.PlainText.{ArePlain}
+use Rattle.text_common.proofs.plain.run_len.Given as goal
 
 -- the bytes so far are written as they are
 abbrev pub invariant-vectors : goal.invariant-vectors

@@ -1,0 +1,4 @@
+pub mod PlainTexts
+pub mod Repeats
+pub mod Shuffles
+pub mod SpelledNumbers

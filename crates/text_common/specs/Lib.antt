@@ -1,0 +1,3 @@
+pub mod PlainText
+pub mod SourceText
+pub mod SpelledNumber
