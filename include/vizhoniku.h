@@ -320,9 +320,9 @@ uint32_t vizhoniku_key_merge(const unsigned char *left, size_t left_size, const 
  *    point has none.
  *  - vizhoniku_text_with_zeros writes the text, from the one that vizhoniku_key_text writes of the key, and the zeros.
  *
- * Of each number with such zeros, in the order of the text, they have: how many numbers without any come before it, since
- * the last with some, seven bits in a byte, the lowest first, with the highest bit where more follow; and how many zeros
- * there are, in one byte. So those of a text are never longer than it.
+ * They have an entry for each number with such zeros, in the order of the text: how many numbers without any come before
+ * it, since the last entry (LEB128: seven bits in a byte, the lowest first, with the highest bit where more follow), and
+ * how many zeros it has, in one byte. They are never longer than the text.
  *
  *  - VIZHONIKU_ACCEPTED: *size bytes were written. The rest of the buffer is as before.
  *  - VIZHONIKU_TOO_SHORT: *size bytes are needed, and nothing was written.

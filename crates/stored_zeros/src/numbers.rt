@@ -9,9 +9,9 @@ ghost use Rattle.stored_zeros.specs.Zeros.{zeros_of, plain_at_end};
 use crate::entry::{append_entry, next_entry};
 use crate::error::ZerosError;
 
-/// Appends the zeros of some of a value's numbers, behind those of other numbers: of so many from the `first` on, whose
-/// own index is 0. At the end of what `buf` has, there are `plain` numbers without zeros since the last with some, and
-/// the answer is how many there are then. After an error `buf` has the same bytes as before.
+/// Appends the zeros of some of a value's numbers behind those of other numbers: of `numbers` numbers, from the one with
+/// the index `first` on. `plain` is how many numbers without zeros come after the last entry in `buf`, and what is
+/// returned is how many do then. After an error `buf` has the same bytes as before.
 ///
 /// So the zeros of a part of a value are had, and those of a value that is put together of several parts.
 ///

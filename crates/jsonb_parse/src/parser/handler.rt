@@ -25,7 +25,7 @@ use jsonb_value::number::Number;
 use std::alloc::{AllocError, Global};
 use std::borrow::CowStr;
 
-/// Nothing is made: what is wrong was told, or the handler is silent about it.
+/// Parsing failed. The error is kept by the parser, unless the handler is silent about it.
 #[derive(Drop)]
 pub struct Failed;
 
@@ -106,14 +106,14 @@ pub trait Handler<'a>: Drop + Sized {
         requires room { offset + length body.now < 2 ^ 64 }
         ensures { SeesContents sees offset result (body_of (mode_of mode) body.now) };
 
-    /// Whether strings and keys none of whose bytes has an escape in serialized text are told from others.
+    /// Whether strings and keys that are written without an escape come as `plain_string` and `plain_key`.
     fn tells_plain() -> bool;
 
-    /// A string that is told so.
+    /// A string that is written without an escape.
     fn plain_string(text: &'a str) -> Self
         ensures { ArePlain text.now → sees result (string_source plain text.now) };
 
-    /// Whether integers are kept that are written by the same bytes again.
+    /// Whether an integer whose serialized form is its own text comes by `push_kept` and `insert_kept`.
     fn keeps_integers() -> bool
         ensures { result ≡ keeps };
 
@@ -158,7 +158,7 @@ pub trait Handler<'a>: Drop + Sized {
             room.old items.old room.new items.new) }
         ensures base { base room.new ≡ base room.old };
 
-    /// Puts in an element that stands in the text as it is written. A handler that keeps none isn't asked to.
+    /// Puts in an element whose serialized form is this range of the text. A handler that keeps none isn't asked to.
     fn push_kept(
         room: &mut Self::Room,
         items: &mut Self::Items,
@@ -217,7 +217,7 @@ pub trait Handler<'a>: Drop + Sized {
             → Begins (stands bytes) room.old object.old room.new object.new key (plain, text.now) after) }
         ensures base { base room.new ≡ base room.old };
 
-    /// A member begins with such a key that is told so.
+    /// A member begins with a key as of `borrowed_key`, which is written without an escape.
     fn plain_key(
         room: &mut Self::Room,
         object: &mut OpenObject<Self::Members, Self::Key>,
@@ -260,7 +260,8 @@ pub trait Handler<'a>: Drop + Sized {
             (silent ≡ true)) }
         ensures base { base room.new ≡ base room.old };
 
-    /// Puts in a member whose value stands in the text as it is written. A handler that keeps none isn't asked to.
+    /// Puts in a member whose value's serialized form is this range of the text. A handler that keeps none isn't asked
+    /// to.
     fn insert_kept(
         room: &mut Self::Room,
         object: &mut OpenObject<Self::Members, Self::Key>,

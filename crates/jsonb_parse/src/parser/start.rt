@@ -1,4 +1,4 @@
-//! Here it is told what a value is: by its first byte.
+//! What a value is, by its first byte.
 ghost use Rattle.std.specs.Prelude.{◌≡◌, false, ℕ, List, ◌∷◌, MatchBool};
 ghost use Rattle.jsonb_spec.specs.Ascii as ascii;
 ghost use Rattle.jsonb_scan.specs.Answer.{mode_of};

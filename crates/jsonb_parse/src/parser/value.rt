@@ -40,7 +40,7 @@ type FrameOf<'a, V> = Frame<
 type ObjectOf<'a, V> = OpenObject<<V as Handler<'a>>::Members, <V as Handler<'a>>::Key>;
 
 impl<'a> Parser<'a> {
-    // An array or an object that begins here. What isn't made of it may nest deep.
+    // Parses the array or object that begins here. After an error the open containers are dropped without recursion.
     pub(super) fn parse_container<V: Handler<'a>>(
         &mut self,
         room: &mut V::Room,
