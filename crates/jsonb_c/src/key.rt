@@ -6,7 +6,7 @@
 ghost use Rattle.std.specs.Prelude.{◌≡◌, ◌≢◌, ◌↔◌, ◌⊎◌, ◌<◌, ◌≤◌, ◌+◌, ◌∷◌, ℕ, List, length, Option, None, MatchResult, MatchOption, IfOk, IfSome, if◌then◌else◌};
 ghost use Rattle.jsonb_c.specs.Interface.{KeepsBuffer, TellsPath};
 ghost use Rattle.jsonb_c.specs.KeyParts.{kind_number, text_of_tree, FindsRange, IsBegun, IsCounted, IsFound, IsNextPart, IsPartStatus, IsTreeKey, IsWithinKey, IsWritten, LiesWithin, StandsBefore, WritesText};
-ghost use Rattle.jsonb_path.specs.Path.{IsPath, StartsKey};
+ghost use Rattle.jsonb_path.specs.Path.{IsPath, IsPlainPath, StartsKey};
 ghost use Rattle.jsonb_stored.specs.Checked.{IsSortKey};
 ghost use Rattle.jsonb_stored.specs.Found.{count_of, item_from, Finds, IsRange};
 ghost use Rattle.jsonb_stored.specs.Open.{Open};
@@ -147,6 +147,9 @@ pub extern "C" fn vizhoniku_key_part(
     // What is wrong with a path is told, unless memory ran out.
     ensures path { TellsPath path.now result }
     ensures memory { result ≡ OUT_OF_MEMORY → StartsKey path.now }
+
+    // A path in which nothing is escaped takes no memory.
+    ensures plain { (names : List (List ℕ)) → IsPlainPath path.now names → result ≢ OUT_OF_MEMORY }
     ensures within { IsWithinKey key.now result offset.new size.new }
 {
     if let Some(found) = find_plain_part(key, path) {

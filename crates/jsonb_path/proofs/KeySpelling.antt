@@ -19,10 +19,10 @@ some_pair a b x y e = (ap (λ (o : Option (ℕ × List ℕ)). (value_or (a, x) o
 none_some : (p : ℕ × List ℕ) → None ≡ Some p → ⊥
 none_some p e = cc
 
-nil_cons : (x : ℕ) (xs : List ℕ) → [] ≡ x ∷ xs → ⊥
+pub nil_cons : (x : ℕ) (xs : List ℕ) → [] ≡ x ∷ xs → ⊥
 nil_cons x xs e = cc
 
-cons_cons : (x y : ℕ) (xs ys : List ℕ) → x ∷ xs ≡ y ∷ ys → (x ≡ y) × (xs ≡ ys)
+pub cons_cons : (x y : ℕ) (xs ys : List ℕ) → x ∷ xs ≡ y ∷ ys → (x ≡ y) × (xs ≡ ys)
 cons_cons x y xs ys e = (cc, cc)
 
 -- a spelled byte is read
@@ -75,7 +75,7 @@ next_byte text key rest left b so_far read =
     so_far ∙ ap (λ l. spelled_key key ++ l) (from_byte rest left b read) ∙ sym (append_assoc (spelled_key key) (spelled_byte b) left) ∙ sym (ap (λ l. l ++ left) last)
 
 -- two keys with one spelling, as far as it goes, are one key
-one_key : (k l r s : List ℕ) → byte_of r ≡ None → byte_of s ≡ None → spelled_key k ++ r ≡ spelled_key l ++ s → (k ≡ l) × (r ≡ s)
+pub one_key : (k l r s : List ℕ) → byte_of r ≡ None → byte_of s ≡ None → spelled_key k ++ r ≡ spelled_key l ++ s → (k ≡ l) × (r ≡ s)
 one_key [] [] r s left right same = (refl, same)
 one_key [] (b ∷ l) r s left right same =
     let read : byte_of r ≡ Some (b, spelled_key l ++ s) = ap byte_of (same ∙ append_assoc (spelled_byte b) (spelled_key l) s) ∙ at_byte b (spelled_key l ++ s) in
@@ -95,7 +95,7 @@ spelled_keys-append [] ys = refl
 spelled_keys-append (x ∷ xs) ys = ap (λ l. 47 ∷ (spelled_key x ++ l)) (spelled_keys-append xs ys) ∙ ap (λ l. 47 ∷ l) (sym (append_assoc (spelled_key x) (spelled_keys xs) (spelled_keys ys)))
 
 -- a path is no part of a key
-ended : (keys : List (List ℕ)) → byte_of (spelled_keys keys) ≡ None
+pub ended : (keys : List (List ℕ)) → byte_of (spelled_keys keys) ≡ None
 ended [] = refl
 ended (key ∷ keys) = refl
 

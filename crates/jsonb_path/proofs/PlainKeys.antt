@@ -3,9 +3,9 @@ use Rattle.std.proofs.Common.{◌≡◌, ◌≢◌, ℕ, List, [], ◌+◌, ◌�
 use Rattle.std.proofs.Math.Seq.{take-append_seam, drop-append_seam}
 use Rattle.std.proofs.lemmas.Bool.{ne_eqb}
 use Rattle.std.proofs.lemmas.List.{length-append}
-use Rattle.jsonb_path.specs.Path.{spelled_byte, spelled_key}
+use Rattle.jsonb_path.specs.Path.{spelled_byte, spelled_key, spelled_keys, IsPath, IsPlainKey}
 use Rattle.jsonb_path.specs.KeySpelling.{byte_of, BeginsPlain}
-use Rattle.jsonb_path.proofs.KeySpelling.{itself, spelled_key-append}
+use Rattle.jsonb_path.proofs.KeySpelling.{cons_cons, ended, itself, nil_cons, one_key, spelled_key-append}
 
 -- the text so far is spelled as it is
 pub record PlainSoFar (text rest : List ℕ) (len : ℕ) : Type 0 where
@@ -13,9 +13,14 @@ pub record PlainSoFar (text rest : List ℕ) (len : ℕ) : Type 0 where
   pub whole : text ≡ key ++ rest
   pub spelled : spelled_key key ≡ key
   pub counted : len ≡ length key
+  pub plain : IsPlainKey key
 
 pub plain_begun : (text : List ℕ) → PlainSoFar text text 0
-plain_begun text = record { key = []; whole = refl; spelled = refl; counted = refl }
+plain_begun text = record { key = []; whole = refl; spelled = refl; counted = refl; plain = tt }
+
+last_byte : (key : List ℕ) (byte : ℕ) → IsPlainKey key → spelled_byte byte ≡ byte ∷ [] → IsPlainKey (key ++ byte ∷ [])
+last_byte [] byte p one = (one, tt)
+last_byte (b ∷ key) byte p one = (p.0, last_byte key byte p.1 one)
 
 pub plain_byte : (text rest others : List ℕ) (len next byte : ℕ) → PlainSoFar text rest len → rest ≡ byte ∷ others → next ≡ len + 1 → byte ≢ 47 → byte ≢ 126 → PlainSoFar text others next
 plain_byte text rest others len next byte p first one no_slash no_tilde = record {
@@ -23,6 +28,7 @@ plain_byte text rest others len next byte p first one no_slash no_tilde = record
   whole = p.whole ∙ ap (λ l. p.key ++ l) first ∙ sym (append_assoc p.key (byte ∷ []) others);
   spelled = spelled_key-append p.key (byte ∷ []) ∙ ap (λ l. l ++ (spelled_byte byte ++ [])) p.spelled ∙ ap (λ l. p.key ++ (l ++ [])) (itself byte (ne_eqb byte 126 no_tilde) (ne_eqb byte 47 no_slash));
   counted = omega (arith, p.counted, one, length-append p.key (byte ∷ []));
+  plain = last_byte p.key byte p.plain (itself byte (ne_eqb byte 126 no_tilde) (ne_eqb byte 47 no_slash));
 }
 
 -- the key ends here
@@ -35,3 +41,39 @@ plain_ended text rest len p over =
       spelled = subst (λ key. spelled_key key ≡ key) (sym front) p.spelled;
       ended = ap byte_of back ∙ over;
     }
+
+-- where no byte is escaped, the key is spelled as it is
+pub plain_itself : (key : List ℕ) → IsPlainKey key → spelled_key key ≡ key
+plain_itself [] p = refl
+plain_itself (b ∷ key) p = ap (λ l. l ++ spelled_key key) p.0 ∙ ap (λ l. b ∷ l) (plain_itself key p.1)
+
+-- no byte of the path of keys that aren't escaped is a tilde
+pub tilde_among : (front key others : List ℕ) (keys : List (List ℕ)) → IsPlainKey front → IsPlainKey key → front ++ 126 ∷ others ≡ key ++ spelled_keys keys → ⊥
+tilde_among [] [] others [] p q same = nil_cons 126 others (sym same)
+tilde_among [] [] others (k ∷ keys) p q same = omega (arith, (cons_cons 126 47 others (spelled_key k ++ spelled_keys keys) same).0)
+tilde_among [] (b ∷ key) others keys p q same =
+    let tilde : 126 ≡ b = (cons_cons 126 b others (key ++ spelled_keys keys) same).0 in
+    let escaped : spelled_byte 126 ≡ 126 ∷ [] = subst (λ n. spelled_byte n ≡ n ∷ []) (sym tilde) q.0 in
+    nil_cons 48 [] (sym (cons_cons 126 126 (48 ∷ []) [] escaped).1)
+tilde_among (a ∷ front) [] others [] p q same = nil_cons a (front ++ 126 ∷ others) (sym same)
+tilde_among (a ∷ front) [] others (k ∷ keys) p q same =
+    let slash : a ≡ 47 = (cons_cons a 47 (front ++ 126 ∷ others) (spelled_key k ++ spelled_keys keys) same).0 in
+    let escaped : spelled_byte 47 ≡ 47 ∷ [] = subst (λ n. spelled_byte n ≡ n ∷ []) slash p.0 in
+    omega (arith, (cons_cons 126 47 (49 ∷ []) [] escaped).0)
+tilde_among (a ∷ front) (b ∷ key) others keys p q same =
+    tilde_among front key others keys p.1 q.1 (cons_cons a b (front ++ 126 ∷ others) (key ++ spelled_keys keys) same).1
+
+-- where a tilde comes next, a byte is escaped
+pub plain_stopped : (text rest others : List ℕ) (len byte : ℕ) → PlainSoFar text rest len → rest ≡ byte ∷ others → byte ≡ 126 → (key : List ℕ) → (keys : List (List ℕ)) → text ≡ key ++ spelled_keys keys → IsPlainKey key → ⊥
+plain_stopped text rest others len byte p first tilde = λ key keys same plain.
+    tilde_among p.key key others keys p.plain plain (ap (λ n. p.key ++ n ∷ others) (sym tilde) ∙ ap (λ l. p.key ++ l) (sym first) ∙ sym p.whole ∙ same)
+
+-- what stands behind the slash of a path
+pub behind_slash : (path text key : List ℕ) (keys : List (List ℕ)) → path ≡ 47 ∷ text → IsPath path (key ∷ keys) → text ≡ spelled_key key ++ spelled_keys keys
+behind_slash path text key keys first is_path = (cons_cons 47 47 text (spelled_key key ++ spelled_keys keys) (sym first ∙ is_path.spelled)).1
+
+-- the key that the path begins with is the one that is read
+pub key_read : (path text name others key : List ℕ) (keys : List (List ℕ)) → path ≡ 47 ∷ text → BeginsPlain text name others → IsPath path (key ∷ keys) → name ≡ key
+key_read path text name others key keys first plain is_path =
+    let whole : spelled_key name ++ others ≡ spelled_key key ++ spelled_keys keys = ap (λ l. l ++ others) plain.spelled ∙ sym plain.whole ∙ behind_slash path text key keys first is_path in
+    (one_key name key others (spelled_keys keys) plain.ended (ended keys) whole).0

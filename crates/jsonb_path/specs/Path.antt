@@ -27,6 +27,15 @@ pub record IsPath (bytes : List ℕ) (keys : List (List ℕ)) : Type 0 where
   pub texts : AllByRecursion IsUtf8 keys
   pub spelled : bytes ≡ spelled_keys keys
 
+-- No byte of the key is escaped where the key is spelled.
+abbrev pub IsPlainKey : List ℕ → Type 0
+IsPlainKey key = AllByRecursion (λ byte. spelled_byte byte ≡ byte ∷ []) key
+
+-- The bytes spell the path of these keys, no byte of which is escaped.
+pub record IsPlainPath (bytes : List ℕ) (keys : List (List ℕ)) : Type 0 where
+  pub is_path : IsPath bytes keys
+  pub plain : AllByRecursion IsPlainKey keys
+
 -- the bytes begin as the path of a key does
 abbrev pub StartsKey : List ℕ → Type 0
 StartsKey bytes = (rest : List ℕ) × (bytes ≡ ascii.slash ∷ rest)

@@ -2,7 +2,7 @@
 
 ghost use Rattle.std.specs.Prelude.{◌≡◌, ◌<◌, ◌≤◌, ℕ, List, ◌++◌, ◌∷◌, length, take, drop, map, string_bytes, option_map, None, IfOk, IfErr, IfSome, IfNone, IsUtf8};
 ghost use Rattle.jsonb_spec.specs.Ascii as ascii;
-ghost use Rattle.jsonb_path.specs.Path.{spelled_key, IsPath, StartsKey};
+ghost use Rattle.jsonb_path.specs.Path.{spelled_key, spelled_keys, IsPath, IsPlainKey, StartsKey};
 ghost use Rattle.jsonb_path.specs.KeySpelling.{escape_of, byte_of, BeginsPlain};
 
 use std::alloc::{AllocError, Global};
@@ -38,6 +38,8 @@ pub fn plain_key(path: &[u8]) -> Option<(&str, &[u8])>
         × BeginsPlain text r.0.now r.1.now) }
     ensures text { IfSome result (λ r. IsUtf8 r.0.now) }
     ensures shorter { IfSome result (λ r. length r.1.now < length path.now) }
+    ensures none { IfNone result ((key : List ℕ) → (keys : List (List ℕ)) → IsPath path.now (key ∷ keys)
+        → IsPlainKey key → ⊥) }
 {
     let (slash, text) = path.split_first()?;
     if *slash != b'/' {
@@ -53,6 +55,8 @@ pub fn plain_key(path: &[u8]) -> Option<(&str, &[u8])>
 fn plain_len(text: &[u8]) -> Option<usize>
     ensures plain { IfSome result (λ len. BeginsPlain text.now (take len text.now) (drop len text.now)) }
     ensures within { IfSome result (λ len. len ≤ length text.now) }
+    ensures none { IfNone result ((key : List ℕ) → (keys : List (List ℕ)) → text.now ≡ key ++ spelled_keys keys
+        → IsPlainKey key → ⊥) }
 {
     let mut rest = text;
     let mut len: usize = 0;

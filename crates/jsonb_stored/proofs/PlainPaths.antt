@@ -1,11 +1,11 @@
 -- Parts at paths that are read a name at a time.
-use Rattle.std.proofs.Common.{◌≡◌, ℕ, List, [], ◌∷◌, ◌++◌, Bor, Option, Some, None, Result, Ok, Err, IsUtf8, refl, sym, ap, subst, ◌∙◌, append-nil}
+use Rattle.std.proofs.Common.{◌≡◌, ℕ, List, [], ◌∷◌, ◌++◌, Bor, Option, Some, None, Result, Ok, Err, IsUtf8, eqb, false, length, true≢false, refl, sym, ap, subst, ◌∙◌, append-nil}
 use Rattle.std.specs.List.{AllByRecursion}
 use Rattle.std.specs.Option.{option_and_then}
 use Rattle.jsonb_key.specs.Readable.{IsReadable}
 use Rattle.jsonb_path.proofs.KeySpelling.{after_key, path_alone}
 use Rattle.jsonb_path.specs.KeySpelling.{BeginsPlain, Reads}
-use Rattle.jsonb_path.specs.Path.{IsPath, spelled_keys}
+use Rattle.jsonb_path.specs.Path.{IsPath, IsPlainKey, IsPlainPath, spelled_keys}
 use Rattle.jsonb_spec.specs.PartAt.{child_at, part_at}
 use Rattle.jsonb_spec.specs.SortKey.{key_of}
 use Rattle.jsonb_spec.specs.Tree.{Tree}
@@ -62,6 +62,21 @@ pub plain_path_found : (path rest key : List ℕ) (found : Result (Option (Bor (
 plain_path_found path rest key found p over = λ t r more e names is_path.
     let same : names ≡ p.names = path_alone path p.names names (subst (Reads path p.names) over p.reads) is_path in
     subst (λ asked. Finds key (part_at asked t) found) (sym same) (p.finds t r more e)
+
+behind : {A : Type 0} (P : A → Type 0) (front more : List A) → AllByRecursion P (front ++ more) → AllByRecursion P more
+behind P [] more h = h
+behind P (x ∷ front) more h = behind P front more h.1
+
+-- where no name without escapes can be read, though some of the path is left, the path has an escape or is none
+pub plain_path_stopped : (path rest key : List ℕ) (found : Result (Option (Bor (List ℕ))) NoKey) → PathSoFar path rest key found → eqb (length rest) 0 ≡ false → ((name : List ℕ) → (names : List (List ℕ)) → IsPath rest (name ∷ names) → IsPlainKey name → ⊥) → (names : List (List ℕ)) → IsPlainPath path names → ⊥
+plain_path_stopped path rest key found p some unread = λ names plain.
+    let left = p.reads.only names plain.is_path.spelled in
+    stopped left.0 (subst (AllByRecursion IsUtf8) left.1 plain.is_path.texts) (subst (AllByRecursion IsPlainKey) left.1 plain.plain) left.2
+  where
+    stopped : (more : List (List ℕ)) → AllByRecursion IsUtf8 (p.names ++ more) → AllByRecursion IsPlainKey (p.names ++ more) → rest ≡ spelled_keys more → ⊥
+    stopped [] texts plain same = true≢false (sym (ap (λ l. eqb (length l) 0) same) ∙ some)
+    stopped (name ∷ more) texts plain same =
+        unread name more (record { texts = behind IsUtf8 p.names (name ∷ more) texts; spelled = same }) (behind IsPlainKey p.names (name ∷ more) plain).0
 
 -- what is found in a part that was found
 pub found_inside : (bytes part : List ℕ) (t : Tree) (child : Option Tree) (found : Result (Option (Bor (List ℕ))) NoKey) → PartStands bytes part t → Finds part child found → Finds bytes child found

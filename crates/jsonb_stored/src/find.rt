@@ -1,10 +1,10 @@
 //! Parts of keys where they stand in the bytes, and how many parts there are.
 
-ghost use Rattle.std.specs.Prelude.{◌≡◌, ◌<◌, ◌≤◌, ◌+◌, ◌++◌, ◌∷◌, List, ℕ, length, map, string_bytes, IfOk, IfSome, MatchResult, Ok, Option};
+ghost use Rattle.std.specs.Prelude.{◌≡◌, ◌<◌, ◌≤◌, ◌+◌, ◌++◌, ◌∷◌, List, ℕ, length, map, string_bytes, IfNone, IfOk, IfSome, MatchResult, Ok, Option};
 ghost use Rattle.std.specs.Option.{option_and_then};
 ghost use Rattle.std.specs.Str.{bytes_eq};
 ghost use Rattle.jsonb_key.specs.Readable.{IsAnyNumber};
-ghost use Rattle.jsonb_path.specs.Path.{IsPath};
+ghost use Rattle.jsonb_path.specs.Path.{IsPath, IsPlainPath};
 ghost use Rattle.jsonb_spec.specs.PartAt.{child_at, part_at};
 ghost use Rattle.jsonb_stored.specs.Found.{count_of, item_back, item_from, open_len, Finds, IsNext, IsRange, Opens, PartStands};
 ghost use Rattle.jsonb_stored.specs.AtKeys.{AtItems, AtKey, AtParts, FindsPart, FindsWithin, TellsOrder};
@@ -159,6 +159,7 @@ pub fn find_plain_part<'k>(key: &'k [u8], path: &[u8]) -> Option<Result<Option<&
     ensures found { IfSome result (λ found. AtKey key.now (λ t more.
         (names : List (List ℕ)) → IsPath path.now names → Finds key.now (part_at names t) found)) }
     ensures within { IfSome result (FindsWithin key.now) }
+    ensures none { IfNone result ((names : List (List ℕ)) → IsPlainPath path.now names → ⊥) }
 {
     let mut found = Ok(Some(key));
     let mut rest = path;
