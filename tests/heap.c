@@ -1,6 +1,6 @@
 /* Counts the heap that each function of the library asks for and holds, over documents of several kinds and sizes, and
- * compares both with bounds that are worked out from the document alone. Of the functions over sort keys it also lets
- * each request for memory fail in turn: then they report it, and have written nothing.
+ * compares both with bounds that are worked out from the document alone. Of the functions over sort keys and zeros it
+ * also lets each request for memory fail in turn: then they report it, and have written nothing.
  *
  * The linker puts the three functions below in the place of the C library's (--wrap). What counts is what was asked
  * for, not what the C library spends on it. A block that grows counts with its new size among what was asked for, and
@@ -305,6 +305,9 @@ enum key_function {
   KEY_PUT,
   KEY_PUSH,
   KEY_MERGE,
+  ZEROS_OF_TEXT,
+  TEXT_WITH_ZEROS,
+  ZEROS_OF_NUMBERS,
   KEY_FUNCTIONS
 };
 
@@ -314,8 +317,12 @@ static const char *const key_functions[] = {
     "vizhoniku_key_check", "vizhoniku_key_count", "vizhoniku_key_next", "vizhoniku_key_member", "vizhoniku_key_item",
     "vizhoniku_key_part", "vizhoniku_key_string", "vizhoniku_key_contains", "vizhoniku_key_numbers",
     "vizhoniku_key_part with an escape", "vizhoniku_key_text", "vizhoniku_key_set", "vizhoniku_key_remove", "vizhoniku_key_put", "vizhoniku_key_push",
-    "vizhoniku_key_merge",
+    "vizhoniku_key_merge", "vizhoniku_zeros_of_text", "vizhoniku_text_with_zeros", "vizhoniku_zeros_of_numbers",
 };
+
+/* The zeros of the text that the last three functions take, which is passed in the place of a key, and that text with
+ * the fewest digits. */
+static struct text zeros, shortest;
 
 /* The last item of an array or the last member of an object, of those that documents have. */
 #define PATH (const unsigned char *)"/0"
@@ -356,6 +363,12 @@ static uint32_t call_over_key(enum key_function function, const struct text *key
       return vizhoniku_key_put(key->bytes, key->size, NAME, 4, null_key, sizeof null_key, buffer, room, size);
     case KEY_PUSH:
       return vizhoniku_key_push(key->bytes, key->size, null_key, sizeof null_key, buffer, room, size);
+    case ZEROS_OF_TEXT: return vizhoniku_zeros_of_text(key->bytes, key->size, buffer, room, size);
+    case TEXT_WITH_ZEROS:
+      return vizhoniku_text_with_zeros(shortest.bytes, shortest.size, zeros.bytes, zeros.size, buffer, room, size);
+    case ZEROS_OF_NUMBERS:
+      part_size = 0;
+      return vizhoniku_zeros_of_numbers(zeros.bytes, zeros.size, 0, zeros.size / 2, &part_size, buffer, room, size);
     default: return vizhoniku_key_merge(key->bytes, key->size, key->bytes, key->size, buffer, room, size);
   }
 }
@@ -366,19 +379,21 @@ static void fault_over_key(enum key_function function, enum kind kind, int count
 }
 
 /* What the key of each function may hold at most: nothing, or what is written of it. A text is at most six times as
- * long as its key, and the others twice. A path takes some bytes more. */
+ * long as its key, and the others twice. A path takes some bytes more. Zeros take what is written of them alone. */
 static size_t bound_over_key(enum key_function function, const struct text *key, size_t written) {
   if (function < TAKES_MEMORY) return 0;
   if (function == KEY_ESCAPED_PART) return 512;
+  if (function >= ZEROS_OF_TEXT) return 512 + ROOM(written);
   return 512 + 3 * key->size / 2 + ROOM(written);
 }
 
 /* Each function over one key, with room enough, and then with each request for memory failing in turn. */
-static void measure_over_key(enum kind kind, int count, const struct text *key) {
+static void measure_over_key(enum kind kind, int count, const struct text *key, enum key_function first,
+                             enum key_function end) {
   size_t room = 6 * key->size + 64, written, size;
   unsigned char *buffer = __real_malloc(room);
   if (!buffer) exit(2);
-  for (int i = 0; i < KEY_FUNCTIONS; i++) {
+  for (int i = first; i < (int)end; i++) {
     enum key_function function = (enum key_function)i;
     asked = held = most = 0;
     uint32_t status = call_over_key(function, key, buffer, room, &written);
@@ -417,6 +432,25 @@ static void measure_over_key(enum kind kind, int count, const struct text *key) 
   __real_free(buffer);
 }
 
+/* Decimals, each of which a zero ends: the functions over zeros. */
+static void measure_zeros(int count) {
+  struct text text = {0};
+  zeros.size = shortest.size = 0;
+  for (int i = 0; i < count; i++) {
+    add(&text, i ? ",12345.50" : "[12345.50");
+    add(&shortest, i ? ",12345.5" : "[12345.5");
+  }
+  add(&text, count ? "]" : "[]");
+  add(&shortest, count ? "]" : "[]");
+  zeros.room = text.size;
+  zeros.bytes = __real_realloc(zeros.bytes, zeros.room);
+  if (!zeros.bytes || vizhoniku_zeros_of_text(text.bytes, text.size, zeros.bytes, zeros.room, &zeros.size) !=
+                          VIZHONIKU_ACCEPTED)
+    exit(2);
+  measure_over_key(NUMBERS, count, &text, ZEROS_OF_TEXT, KEY_FUNCTIONS);
+  __real_free(text.bytes);
+}
+
 /* The sort key of a text. */
 static struct text key_of(const struct text *text) {
   struct vizhoniku_refusal refusal;
@@ -435,13 +469,14 @@ int main(void) {
       struct text text = make((enum kind)kind, counts[i]);
       measure((enum kind)kind, counts[i], &text, VIZHONIKU_ACCEPTED);
       struct text key = key_of(&text);
-      measure_over_key((enum kind)kind, counts[i], &key);
+      measure_over_key((enum kind)kind, counts[i], &key, KEY_CHECK, ZEROS_OF_TEXT);
       __real_free(key.bytes);
       add(&text, "?"); /* a byte too much */
       measure((enum kind)kind, counts[i], &text, VIZHONIKU_REFUSED);
       __real_free(text.bytes);
     }
   }
+  for (size_t i = 0; i < sizeof counts / sizeof *counts; i++) measure_zeros(counts[i]);
   for (int i = 0; i < FUNCTIONS; i++) {
     printf("%s", functions[i]);
     for (int is_asked = 0; is_asked < 2; is_asked++)
