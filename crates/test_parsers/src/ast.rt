@@ -1,4 +1,4 @@
-use jsonb::JsonAst;
+use jsonb::{JsonAst, Mode};
 use jsonb_value::number::Number;
 use jsonb_value::value::Value;
 use std::alloc::Global;
@@ -67,5 +67,22 @@ fn each_kind_is_cloned(rt: HostRuntime) -> Result<(), Fail> {
     for ast in &asts {
         assert!(rt; ast.clone()? == *ast);
     }
+    Ok(())
+}
+
+// Each container is cloned and compared once. Twice at each of 128 levels would never end.
+#[test]
+fn deep_trees_are_cloned_and_compared(rt: HostRuntime) -> Result<(), Fail> {
+    let alloc = rt.alloc();
+    let mut text = Vec::new(alloc);
+    for _ in 0..64 {
+        text.extend_from_slice(b"[{\"a\":")?;
+    }
+    text.push(b'1')?;
+    for _ in 0..64 {
+        text.extend_from_slice(b"}]")?;
+    }
+    let tree = JsonAst::parse(alloc, &text, Mode::Standard)?;
+    assert!(rt; tree.clone()? == tree);
     Ok(())
 }
