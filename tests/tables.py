@@ -1,4 +1,4 @@
-"""Texts in tables: strings with an escape at each place, and documents with each byte replaced by each byte."""
+"""Texts in tables: strings with an escape at each place, documents with each byte replaced by each byte, and large ones."""
 
 import itertools
 
@@ -17,6 +17,9 @@ OTHERS = [
 
 # Each byte of these is replaced by each byte.
 DOCUMENTS = [b"{b:'x', a:+007}", b"[1/*a*/,//b\n2] //c", b'"\\uD834\\u{DD1E}\\n\\\\"', b"[-1.50,0x1F,+.5,00.]"]
+
+# How large the large ones are. Where a contract allows `OutOfMemory`, a call that gives up on them meets it.
+MEMBERS, ITEMS, BYTES = 10_000, 20_000, 100_000
 
 
 def bodies():
@@ -43,5 +46,29 @@ def replaced(document):
         yield document[:place] + bytes((byte,)) + document[place + 1:]
 
 
+def members(count):
+    """An object whose members are in no order: each number comes once, since the factor is a prime."""
+    numbers = (place * 7919 % count for place in range(count))
+    return b"{" + b",".join(b'"%d":%d' % (number, number) for number in numbers) + b"}"
+
+
+def large_body():
+    return b"ab\\n\xc3\xa9" * (BYTES // 6)
+
+
+def large():
+    yield members(MEMBERS)
+    yield b'{"a":' + members(MEMBERS) + b',"\\u0062":[' + members(MEMBERS)[:-1] + b',"0":1}]}'
+    yield b"[" + b",".join(b"%d" % number for number in range(ITEMS)) + b"]"
+    yield b"[" + b",".join(b'{"b":[%d],"a":"x"}' % number for number in range(ITEMS // 10)) + b"]"
+    yield b'["' + large_body() + b'",{"' + large_body() + b'":"' + b"a" * BYTES + b'"}]'
+
+
 def texts():
-    return itertools.chain(strings(), *map(replaced, DOCUMENTS))
+    return itertools.chain(strings(), *map(replaced, DOCUMENTS), large())
+
+
+def other_lines():
+    """Lines for `test_driver` beside those of the texts: sort keys of large texts, and the contents of a large string."""
+    yield from (f"k {text.hex()}" for text in large())
+    yield f"b {large_body().hex()}"

@@ -51,6 +51,22 @@ fn clones_are_equal(rt: HostRuntime) -> Result<(), Fail> {
     Ok(())
 }
 
+// A clone and the value of a wide object answer.
+#[test]
+fn large_trees_are_copied(rt: HostRuntime) -> Result<(), Fail> {
+    let alloc = rt.alloc();
+    let mut members = Vec::new(alloc);
+    for number in 0..3000 {
+        let key = format!(in alloc; "{number}")?;
+        members.push((CowStr::Owned(key), integer(1), number))?;
+    }
+    let tree = JsonAst::Object(members);
+    assert!(rt; tree.clone()? == tree);
+    let value = tree.into_value(alloc)?;
+    assert_eq!(rt; value.as_object().map(|members| members.len()), Some(3000));
+    Ok(())
+}
+
 // A clone of each kind answers.
 #[test]
 fn each_kind_is_cloned(rt: HostRuntime) -> Result<(), Fail> {

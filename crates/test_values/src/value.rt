@@ -203,6 +203,27 @@ fn clones_are_equal(rt: HostRuntime) -> Result<(), Fail> {
     Ok(())
 }
 
+// A clone and an owned copy of a wide object and of a long array answer, and so do the object's keys.
+#[test]
+fn large_values_are_copied(rt: HostRuntime) -> Result<(), Fail> {
+    let alloc = rt.alloc();
+    let (mut members, mut items) = (Object::new(alloc), Vec::new(alloc));
+    for number in 0..3000 {
+        let key = format!(in alloc; "{number}")?;
+        members.insert(key, integer(number))?;
+        items.push(integer(number))?;
+    }
+    let values = vec![in alloc; Value::Object(members), Value::Array(items)]?;
+    for value in &values {
+        assert!(rt; value.clone()? == *value);
+        assert!(rt; value.to_owned_value(alloc)? == *value);
+        if let Some(keys) = value.object_keys(alloc)? {
+            assert_eq!(rt; keys.array_length(), Some(3000));
+        }
+    }
+    Ok(())
+}
+
 // A clone of each kind answers.
 #[test]
 fn each_kind_is_cloned(rt: HostRuntime) -> Result<(), Fail> {
