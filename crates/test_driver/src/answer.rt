@@ -5,7 +5,7 @@
 //! | line | result |
 //! |---|---|
 //! | one text, which is accepted | `ok`, its tree, its serialized form in hexadecimal, and `same` or `differs` |
-//! | one text, which is rejected | `no` and the printed error, in hexadecimal; and `differs` where a text that is checked or appended straight is rejected otherwise, or changes the buffer |
+//! | one text, which is rejected | `no` and the printed error, in hexadecimal; and `differs` where the value of the text, or a text that is checked or appended straight, is rejected otherwise, or the buffer changes |
 //! | two texts, which are accepted | `less`, `equal` or `greater`; `differs` where documents compare otherwise |
 //! | a text for its key | `ok`, the sort key in hexadecimal, and `differs` where the key's value isn't equal, or where a document's key or the key that is appended straight is another; or `no` as above |
 //! | contents | `ok` and their text in hexadecimal, or `no` as above; and the offset that `parse_string` leaves |
@@ -118,13 +118,19 @@ fn one_text(alloc: Global, mode: Mode, text: &str) -> Result<String, AllocError>
         Ok(answer) => Ok(answer),
         Err(e) => {
             let answer = rejection(alloc, &e)?;
-            let difference = if straight::rejects(alloc, mode, &text, &e)? {
-                ""
-            } else {
-                " differs"
-            };
+            let rejects = value_is_rejected(alloc, mode, &text, &e)
+                && straight::rejects(alloc, mode, &text, &e)?;
+            let difference = if rejects { "" } else { " differs" };
             format!(in alloc; "{answer}{difference}")
         }
+    }
+}
+
+// Whether the parser of values fails with this error, which that of trees had.
+fn value_is_rejected(alloc: Global, mode: Mode, text: &[u8], error: &Error) -> bool {
+    match read(alloc, mode, text) {
+        Ok(_) => false,
+        Err(e) => e == *error,
     }
 }
 
