@@ -1,0 +1,23 @@
+-- What is appended while a text is written out.
+use Rattle.std.specs.Prelude.{◌≡◌, ℕ, ◌+◌, ◌<◌, ◌≤◌, List, ◌++◌, length, Option, Some, None, Result, MatchResult, Vec, vec_len, vec_capacity}
+use Rattle.std.specs.declared.alloc.Global.{Global}
+use Rattle.jsonb_spec.specs.Text.Appending.{Extends}
+use Rattle.plain_numbers.specs.declared.error.PlainError.{PlainError}
+use Rattle.plain_numbers.specs.declared.error.PlainError.TheVariants.{DoesNotFit, OutOfMemory}
+
+-- Nothing that was there is lost.
+pub record Keeps (old new : Vec ℕ Global) : Type 0 where
+  pub kept : Extends old.items new.items
+  pub capacity : vec_capacity old ≤ vec_capacity new
+
+-- The word, written out, is appended, or memory ran out, as the capacity for it is missing; or it doesn't fit.
+abbrev pub WritesPlain : Option (List ℕ) → ℕ → Result (Unit {0}) PlainError → Vec ℕ Global → Vec ℕ Global → Type 0
+WritesPlain None offset result old new = MatchResult result (λ _. ⊥) (λ e. e ≡ DoesNotFit offset)
+WritesPlain (Some bytes) offset result old new = MatchResult result
+    (λ _. new.items ≡ old.items ++ bytes)
+    (λ e. (e ≡ OutOfMemory) × (vec_capacity old < vec_len old + length bytes))
+
+pub record WritesWord (plain : Option (List ℕ)) (offset : ℕ) (result : Result (Unit {0}) PlainError)
+    (old new : Vec ℕ Global) : Type 0 where
+  pub writes : WritesPlain plain offset result old new
+  pub keeps : Keeps old new
