@@ -33,7 +33,7 @@ extern "C" {
 
 /* The version of this interface. It grows where a function, a status or a code is added. vizhoniku_version returns that
  * of the library. */
-#define VIZHONIKU_VERSION 5
+#define VIZHONIKU_VERSION 6
 
 uint32_t vizhoniku_version(void);
 
@@ -347,6 +347,24 @@ uint32_t vizhoniku_key_numbers(const unsigned char *key, size_t key_size, size_t
  * bytes aren't the zeros of so many numbers. */
 uint32_t vizhoniku_zeros_of_numbers(const unsigned char *zeros, size_t zeros_size, size_t first, size_t numbers,
                                     size_t *plain, unsigned char *buffer, size_t buffer_size, size_t *size);
+
+/* Writes a text of RFC 8259 to the start of the buffer, with each number that has an exponent written out as the decimal
+ * of exactly its value, as PostgreSQL's jsonb shows it: 1e-7 is 0.0000001, 1.50e1 is 15.0, and 6.02e23 is
+ * 602000000000000000000000. All other bytes are as they were. So VIZHONIKU_EXTENDED takes what was written, where no mode
+ * takes a number with an exponent. Nothing is rounded.
+ *
+ *  - VIZHONIKU_ACCEPTED: *size bytes were written, with no zero byte after them. The rest of the buffer is as before.
+ *    This doesn't say that the text is a document.
+ *  - VIZHONIKU_TOO_SHORT: *size bytes are needed, and nothing was written. It may be more than text_size.
+ *  - VIZHONIKU_REFUSED: a number with an exponent takes more than 38 digits where it is written out, before and behind
+ *    the point. The refusal has VIZHONIKU_NUMBER_NOT_CARRIED and the offset after the first such number. *size is 0, and
+ *    nothing was written.
+ *  - VIZHONIKU_OUT_OF_MEMORY: *size is 0, and nothing was written.
+ *
+ * Any bytes may be passed. From the first single quote, slash or backslash on that stands outside of strings in double
+ * quotes, all bytes are as they were: so nothing in a comment and in a string in single quotes changes. */
+uint32_t vizhoniku_plain_numbers(const unsigned char *text, size_t text_size, unsigned char *buffer, size_t buffer_size,
+                                 size_t *size, struct vizhoniku_refusal *refusal);
 
 #ifdef __cplusplus
 }

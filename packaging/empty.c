@@ -23,6 +23,8 @@ uint32_t proved_key_numbers(const unsigned char *key, size_t key_size, size_t of
                             size_t *numbers);
 uint32_t proved_zeros_of_numbers(const unsigned char *zeros, size_t zeros_size, size_t first, size_t numbers,
                                  size_t *plain, unsigned char *buffer, size_t buffer_size, size_t *size);
+uint32_t proved_plain_numbers(const unsigned char *text, size_t text_size, unsigned char *buffer, size_t buffer_size,
+                              size_t *size, struct vizhoniku_refusal *refusal);
 uint32_t proved_key_text(const unsigned char *key, size_t key_size, unsigned char *buffer, size_t buffer_size,
                          size_t *size);
 uint32_t proved_compare(uint32_t mode, const unsigned char *left, size_t left_size, const unsigned char *right,
@@ -95,6 +97,12 @@ uint32_t vizhoniku_text_and_key(uint32_t mode, const unsigned char *text, size_t
                                 size_t *key_size, struct vizhoniku_refusal *refusal) {
   return proved_text_and_key(mode, bytes_at(text, text_size), text_size, buffer_at(buffer, buffer_size), buffer_size,
                              size, buffer_at(key_buffer, key_buffer_size), key_buffer_size, key_size, refusal);
+}
+
+uint32_t vizhoniku_plain_numbers(const unsigned char *text, size_t text_size, unsigned char *buffer, size_t buffer_size,
+                                 size_t *size, struct vizhoniku_refusal *refusal) {
+  return proved_plain_numbers(bytes_at(text, text_size), text_size, buffer_at(buffer, buffer_size), buffer_size, size,
+                              refusal);
 }
 
 uint32_t vizhoniku_key_text(const unsigned char *key, size_t key_size, unsigned char *buffer, size_t buffer_size,

@@ -85,6 +85,18 @@ static void write_key_text(const unsigned char *key, size_t key_size, size_t buf
   printf("text of a key: status %u size %zu buffer %.16s\n", (unsigned)status, size, (char *)buffer);
 }
 
+/* The text with its numbers written out. */
+static void write_plain(const char *text, size_t buffer_size) {
+  unsigned char buffer[40];
+  size_t size = 99;
+  struct vizhoniku_refusal refusal;
+  uint32_t status = vizhoniku_plain_numbers(BYTES(text), buffer, buffer_size, &size, &refusal);
+  printf("plain %s: status %u size %zu code %u position %zu", text, (unsigned)status, size, (unsigned)refusal.code,
+         refusal.position);
+  if (status == VIZHONIKU_ACCEPTED) printf(" %.*s", (int)size, (const char *)buffer);
+  printf("\n");
+}
+
 /* The zeros of a text, the text with them, and the zeros of its second and third number. */
 static void write_zeros(const char *text, const char *shortest, size_t buffer_size) {
   unsigned char zeros[40], buffer[40];
@@ -414,6 +426,9 @@ int main(void) {
   write_zeros("[1.50,2,\"3.0\",4.000]", "[1.5,2,\"3.0\",4]", 40);
   write_zeros("[1.50,2,\"3.0\",4.000]", "[1.5,2,\"3.0\",4]", 3);
   write_zeros("[1,\"2.0", "[1,2]", 40);
+  write_plain("[1e-7, \"1e5\", 1.50E+1]", 40);
+  write_plain("[1e-7]", 5);
+  write_plain("[1, 1e400]", 40);
   make_key("{a: [1.50, {b: 2}], c: 3}");
   count_numbers(0, key_size);
   count_numbers(4, key_size - 11);

@@ -4,3 +4,4 @@ pub mod KeyEdit
 pub mod KeyParts
 pub mod KeyText
 pub mod Zeros
+pub mod PlainNumbers

@@ -4,3 +4,6 @@ pub mod Parts
 pub mod Words
 pub mod Writing
 pub mod Passing
+pub mod Joined
+pub mod Exact
+pub mod Found

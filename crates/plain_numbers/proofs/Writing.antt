@@ -30,7 +30,7 @@ keeps_on old now new p q = record {
 
 -- ---- a word
 
-plain_none : (bytes : List ℕ) → None ≡ parts_of bytes → plain bytes ≡ Some bytes
+pub plain_none : (bytes : List ℕ) → None ≡ parts_of bytes → plain bytes ≡ Some bytes
 unfolding plain
 plain_none bytes e = ap (λ p. plain_of p bytes) (sym e)
 

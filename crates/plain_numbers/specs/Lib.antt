@@ -5,3 +5,4 @@ pub mod ErrorText
 pub mod View
 pub mod Passing
 pub mod Writing
+pub mod Laws

@@ -3,6 +3,7 @@
 #![tactic(auto)]
 
 pub mod error;
+pub mod laws;
 mod number;
 mod scan;
 mod write;

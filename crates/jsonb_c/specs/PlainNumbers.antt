@@ -1,0 +1,21 @@
+-- What the statuses of the call that writes out numbers say.
+use Rattle.std.specs.Prelude.{◌≡◌, ℕ, List, Ok, Err}
+use Rattle.jsonb_c.specs.declared.Refusal.{Refusal}
+use Rattle.plain_numbers.specs.Expansion.{expanded}
+use Rattle.plain_numbers.specs.declared.error.PlainError.{PlainError}
+use Rattle.plain_numbers.specs.declared.error.PlainError.TheVariants.{DoesNotFit, OutOfMemory}
+
+-- The bytes are the text with its numbers written out.
+abbrev pub IsPlainText : List ℕ → List ℕ → Type 0
+IsPlainText text bytes = expanded text ≡ Ok bytes
+
+-- The number that ends at the position is the first that is not representable.
+pub record IsTooLong (text : List ℕ) (refusal : Refusal) : Type 0 where
+  pub numbered : refusal.code ≡ 20
+  pub counted : refusal.which ≡ 1
+  pub exact : expanded text ≡ Err refusal.position
+
+-- What is reported of an error.
+abbrev pub IsReported : PlainError → Refusal → Type 0
+IsReported (DoesNotFit position) refusal = refusal ≡ record { code = 20; which = 1; position = position }
+IsReported OutOfMemory refusal = ⊥

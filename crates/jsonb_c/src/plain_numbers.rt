@@ -1,0 +1,62 @@
+//! Numbers with an exponent, written out as decimals of exactly the same value.
+ghost use Rattle.std.specs.Prelude.{◌≡◌, ◌⊎◌};
+ghost use Rattle.jsonb_c.specs.Interface.{FillsBuffer, Tells};
+ghost use Rattle.jsonb_c.specs.PlainNumbers.{IsPlainText, IsReported, IsTooLong};
+
+use crate::{ACCEPTED, NOTHING, OUT_OF_MEMORY, REFUSED, Refusal, TOO_SHORT, buffer_of, put};
+use plain_numbers::{PlainError, write_plain_numbers};
+use std::alloc::Global;
+
+// The code of a number that isn't representable.
+const NUMBER_NOT_CARRIED: u32 = 20;
+
+/// Writes the text to the start of `out`, and its size to `size`, with each number that has an exponent written out as
+/// the decimal of exactly its value. Where `out` is too short, it stays as it is, and `size` is what is needed.
+#[unsafe(no_mangle)]
+pub extern "C" fn vizhoniku_plain_numbers(
+    alloc: Global,
+    text: &[u8],
+    out: &mut [u8],
+    size: &mut usize,
+    refusal: &mut Refusal,
+) -> u32
+    ensures status { (result ≡ ACCEPTED) ⊎ (result ≡ OUT_OF_MEMORY) ⊎ (result ≡ TOO_SHORT) ⊎ (result ≡ REFUSED) }
+    ensures fills { FillsBuffer (IsPlainText text.now) ACCEPTED result size.new out.old out.new }
+
+    // Which number has too many digits.
+    ensures tells { Tells (IsTooLong text.now) result refusal.new }
+{
+    let mut bytes = buffer_of(alloc, text.len());
+    match write_plain_numbers(text, &mut bytes) {
+        Ok(()) => {
+            *refusal = NOTHING;
+            *size = bytes.len();
+            put(&bytes, out)
+        }
+        Err(error) => {
+            *size = 0;
+            tell_number(&error, refusal)
+        }
+    }
+}
+
+// Reports a number that has too many digits; the answer is the status.
+fn tell_number(error: &PlainError, refusal: &mut Refusal) -> u32
+    ensures status { (result ≡ OUT_OF_MEMORY) ⊎ (result ≡ REFUSED) }
+    ensures tells { Tells (IsReported error.now) result refusal.new }
+{
+    match error {
+        PlainError::DoesNotFit(position) => {
+            *refusal = Refusal {
+                code: NUMBER_NOT_CARRIED,
+                which: 1,
+                position: *position,
+            };
+            REFUSED
+        }
+        PlainError::OutOfMemory => {
+            *refusal = NOTHING;
+            OUT_OF_MEMORY
+        }
+    }
+}

@@ -1,0 +1,36 @@
+//! What is known of texts whose numbers are written out.
+
+ghost use Rattle.std.specs.Prelude.{◌≡◌, ℕ, List, Ok, Some, true, false};
+ghost use Rattle.std.specs.List.{flat_map};
+ghost use Rattle.jsonb_spec.specs.Text.ReadsBack.{ReadsBackAsDecimal};
+ghost use Rattle.plain_numbers.specs.Exponent.{Parts, parts_of, exact_value, fits};
+ghost use Rattle.plain_numbers.specs.Expansion.{expanded, have_exponent};
+ghost use Rattle.plain_numbers.specs.Laws.{HasParts, IsExactly};
+ghost use Rattle.plain_numbers.specs.Pieces.{piece_bytes, pieces};
+
+/// The pieces of a text, one after the other, are the text.
+pub fn pieces_are_the_text()
+    ensures { (text : List ℕ) → flat_map piece_bytes (pieces text) ≡ text }
+{}
+
+/// A text that has no number with an exponent stays as it is.
+pub fn texts_without_exponents_stay()
+    ensures { (text : List ℕ) → have_exponent (pieces text) ≡ false → expanded text ≡ Ok text }
+{}
+
+/// The parts that are found are those of a number with an exponent in RFC 8259's grammar, and of each such number they
+/// are found.
+pub fn numbers_have_their_parts()
+    ensures sound { (bytes : List ℕ) → (p : Parts) → parts_of bytes ≡ Some p → HasParts bytes p }
+    ensures complete { (bytes : List ℕ) → (p : Parts) → HasParts bytes p → parts_of bytes ≡ Some p }
+{}
+
+/// The value that is written out is exactly that of the parts.
+pub fn values_are_exact()
+    ensures { (p : Parts) → IsExactly p (exact_value p) }
+{}
+
+/// What is written of a value in range is a decimal of extended mode, of the same scale and whole number.
+pub fn plain_numbers_read_back()
+    ensures { (p : Parts) → fits (exact_value p) ≡ true → ReadsBackAsDecimal (exact_value p) }
+{}
