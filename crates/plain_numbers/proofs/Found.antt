@@ -112,7 +112,7 @@ has_whole (c ∷ cs) tail w none =
     let n : digits_length ((c ∷ cs) ++ tail) ≡ suc (length cs) = digits_then (c ∷ cs) tail w.digits.1 none in
     let some : (digits_length ((c ∷ cs) ++ tail) == 0) ≡ false = ne_eqb _ 0 (λ e. omega (arith, e, n)) in
     let needed : (nat_lt 1 (digits_length ((c ∷ cs) ++ tail)) && (c == 48)) ≡ false =
-      ⊎_elim (λ zero_first. let one = w.no_needless_zero (eqb-true c 48 zero_first) in ap (λ b. b && (c == 48)) (is_not_below 1 (digits_length ((c ∷ cs) ++ tail)) (omega (arith, n, one)))) (λ other. and_no _ (c == 48) other) (cases_Bool (c == 48)) in
+    ⊎_elim (λ zero_first. let one = w.no_needless_zero (eqb-true c 48 zero_first) in ap (λ b. b && (c == 48)) (is_not_below 1 (digits_length ((c ∷ cs) ++ tail)) (omega (arith, n, one)))) (λ other. and_no _ (c == 48) other) (cases_Bool (c == 48)) in
     (λ i. some i || needed i)
 
 whole_found : (negative : Bool) (whole tail : List ℕ) → IsWhole whole → digits_length tail ≡ 0 → with_whole negative (whole ++ tail) ≡ with_fraction negative whole tail
@@ -161,8 +161,8 @@ exponent_read : (negative : Bool) (whole behind : List ℕ) (down : Bool) (bytes
 exponent_read negative whole behind down bytes p e =
     ⊎_elim
     (λ yeah. let both = and_parts (nat_lt 0 (length bytes)) (digits_length bytes == length bytes) yeah in
-      let all : AllDigits 10 bytes = whole_all bytes (eqb-true (digits_length bytes) (length bytes) both.1) in
-      (sym (some_is _ p (sym (cond-true (are_digits bytes) _ _ yeah) ∙ e)), (ltb-true 0 (length bytes) both.0, all)))
+    let all : AllDigits 10 bytes = whole_all bytes (eqb-true (digits_length bytes) (length bytes) both.1) in
+    (sym (some_is _ p (sym (cond-true (are_digits bytes) _ _ yeah) ∙ e)), (ltb-true 0 (length bytes) both.0, all)))
     (λ nope. absurd (no_parts p (sym (cond-false (are_digits bytes) _ _ nope) ∙ e)))
     (cases_Bool (are_digits bytes))
 
@@ -225,16 +225,16 @@ unfolding with_fraction with_mark
 fraction_read negative whole [] p e = absurd (no_parts p e)
 fraction_read negative whole (b ∷ bytes) p e = ⊎_elim
     (λ yeah. let inner = sym (cond-true (b == 46) _ _ yeah) ∙ e in ⊎_elim
-      (λ bare. absurd (no_parts p (sym (cond-true (digits_length bytes == 0) _ _ bare) ∙ inner)))
-      (λ some. record {
-        fraction = 46 ∷ digits_of bytes;
-        behind = digits_of bytes;
-        rest = behind_digits bytes;
-        split = ap (λ (n : ℕ). n ∷ bytes) (eqb-true b 46 yeah) ∙ ap (λ bs. 46 ∷ bs) (sym (take-append-drop (digits_length bytes) bytes));
-        is_fraction = inr (refl, (counted bytes (eqb-false (digits_length bytes) 0 some), all_digits bytes));
-        exponent = mark_read negative whole (digits_of bytes) (behind_digits bytes) p (sym (cond-false (digits_length bytes == 0) _ _ some) ∙ inner);
-      })
-      (cases_Bool (digits_length bytes == 0)))
+    (λ bare. absurd (no_parts p (sym (cond-true (digits_length bytes == 0) _ _ bare) ∙ inner)))
+    (λ some. record {
+      fraction = 46 ∷ digits_of bytes;
+      behind = digits_of bytes;
+      rest = behind_digits bytes;
+      split = ap (λ (n : ℕ). n ∷ bytes) (eqb-true b 46 yeah) ∙ ap (λ bs. 46 ∷ bs) (sym (take-append-drop (digits_length bytes) bytes));
+      is_fraction = inr (refl, (counted bytes (eqb-false (digits_length bytes) 0 some), all_digits bytes));
+      exponent = mark_read negative whole (digits_of bytes) (behind_digits bytes) p (sym (cond-false (digits_length bytes == 0) _ _ some) ∙ inner);
+    })
+    (cases_Bool (digits_length bytes == 0)))
     (λ nope. record {
       fraction = [];
       behind = [];
@@ -292,8 +292,8 @@ read bytes p e =
       mark = x.mark;
       sign = x.sign;
       joined = sign_split bytes
-        ∙ ap (λ r. sign_text (has_minus bytes) ++ r) (sym (take-append-drop (digits_length d) d) ∙ ap (λ r. digits_of d ++ r) (t.split ∙ ap (λ r. t.fraction ++ r) x.joined))
-        ∙ (let n = sym x.negative_is in let o = sym x.whole_is in (λ i. sign_text (n i) ++ (o i ++ tail_of t.fraction x.mark x.sign p.exponent)));
+          ∙ ap (λ r. sign_text (has_minus bytes) ++ r) (sym (take-append-drop (digits_length d) d) ∙ ap (λ r. digits_of d ++ r) (t.split ∙ ap (λ r. t.fraction ++ r) x.joined))
+          ∙ (let n = sym x.negative_is in let o = sym x.whole_is in (λ i. sign_text (n i) ++ (o i ++ tail_of t.fraction x.mark x.sign p.exponent)));
       is_whole = subst IsWhole (sym x.whole_is) (whole_is d w.0);
       is_fraction = subst (λ b. IsFractionOf b t.fraction) (sym x.behind_is) t.is_fraction;
       is_mark = x.marked;

@@ -7,3 +7,4 @@ pub mod Passing
 pub mod Joined
 pub mod Exact
 pub mod Found
+pub mod Documents

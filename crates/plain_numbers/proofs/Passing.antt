@@ -39,7 +39,7 @@ ends all rest back later s split same = record {
   same = s.same ∙ ap (λ ps. map other s.front ++ ps) same ∙ sym (joined s.front back (pieces later));
 }
 
-one_byte : (b : ℕ) (bytes : List ℕ) → b ≢ 34 → b ≢ 92 → in_string (b ∷ bytes) ≡ other b ∷ in_string bytes
+pub one_byte : (b : ℕ) (bytes : List ℕ) → b ≢ 34 → b ≢ 92 → in_string (b ∷ bytes) ≡ other b ∷ in_string bytes
 one_byte b bytes p q = ap (λ ps. other b ∷ ps) (cond-false (b == 34) _ _ (ne_eqb b 34 p) ∙ cond-false (b == 92) _ _ (ne_eqb b 92 q))
 
 plain_byte : (b : ℕ) (bytes : List ℕ) → ArePlain (b ∷ bytes) → (b ≢ 34) × (b ≢ 92) × ArePlain bytes
@@ -66,7 +66,7 @@ stays_run all rest behind run s within plain is =
 pub stays_byte : (all behind : List ℕ) (b : ℕ) (others : List ℕ) → Stays all behind → behind ≡ b ∷ others → b ≢ 34 → b ≢ 92 → Stays all others
 stays_byte all behind b others s is p q = goes_on all behind (b ∷ []) others s is (ap in_string is ∙ one_byte b others p q)
 
-escape_same : (b next : ℕ) (others : List ℕ) → b ≡ 92 → in_string (b ∷ next ∷ others) ≡ other b ∷ other next ∷ in_string others
+pub escape_same : (b next : ℕ) (others : List ℕ) → b ≡ 92 → in_string (b ∷ next ∷ others) ≡ other b ∷ other next ∷ in_string others
 escape_same b next others e =
     ap (λ ps. other b ∷ ps) (cond-false (b == 34) _ _ (ne_eqb b 34 (λ q. omega (arith, q, e))) ∙ cond-true (b == 92) _ _ (ap (λ (n : ℕ). n == 92) e))
 
@@ -108,7 +108,7 @@ passes_on all rest back later s split same = record {
 quote_same : (b : ℕ) (bytes : List ℕ) → b ≡ 34 → pieces (b ∷ bytes) ≡ other b ∷ in_string bytes
 quote_same b bytes e = cond-true (b == 34) _ _ (ap (λ (n : ℕ). n == 34) e)
 
-separator_same : (b : ℕ) (bytes : List ℕ) → b ≢ 34 → is_separator b ≡ true → pieces (b ∷ bytes) ≡ other b ∷ pieces bytes
+pub separator_same : (b : ℕ) (bytes : List ℕ) → b ≢ 34 → is_separator b ≡ true → pieces (b ∷ bytes) ≡ other b ∷ pieces bytes
 separator_same b bytes p h = cond-false (b == 34) _ _ (ne_eqb b 34 p) ∙ cond-true (is_separator b) _ _ h
 
 foreign_same : (b : ℕ) (bytes : List ℕ) → b ≢ 34 → is_separator b ≡ false → is_foreign b ≡ true → pieces (b ∷ bytes) ≡ map other (b ∷ bytes)

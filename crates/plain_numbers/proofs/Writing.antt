@@ -38,7 +38,7 @@ plain_long : (bytes : List ℕ) (p : Parts) → Some p ≡ parts_of bytes → fi
 unfolding plain
 plain_long bytes p e h = ap (λ q. plain_of q bytes) (sym e) ∙ cond-false (fits (exact_value p)) _ _ h
 
-plain_short : (bytes : List ℕ) (p : Parts) → Some p ≡ parts_of bytes → fits (exact_value p) ≡ true → plain bytes ≡ Some (number_text (exact_value p))
+pub plain_short : (bytes : List ℕ) (p : Parts) → Some p ≡ parts_of bytes → fits (exact_value p) ≡ true → plain bytes ≡ Some (number_text (exact_value p))
 unfolding plain
 plain_short bytes p e h = ap (λ q. plain_of q bytes) (sym e) ∙ cond-true (fits (exact_value p)) _ _ h
 
@@ -66,11 +66,11 @@ number_written bytes offset p old new text e fit is items c = as_plain bytes (So
 
 -- ---- a text
 
-before_before : (a b : List ℕ) (r : Result (List ℕ) ℕ) → before a (before b r) ≡ before (a ++ b) r
+pub before_before : (a b : List ℕ) (r : Result (List ℕ) ℕ) → before a (before b r) ≡ before (a ++ b) r
 before_before a b (Ok text) = ap Ok (sym (append_assoc a b text))
 before_before a b (Err offset) = refl
 
-others_before : (front : List ℕ) (more : List Piece) (offset later : ℕ) → later ≡ offset + length front → expanded_at offset (map other front ++ more) ≡ before front (expanded_at later more)
+pub others_before : (front : List ℕ) (more : List Piece) (offset later : ℕ) → later ≡ offset + length front → expanded_at offset (map other front ++ more) ≡ before front (expanded_at later more)
 others_before [] more offset later e = nothing (expanded_at offset more) (expanded_at later more) (ap (λ (n : ℕ). expanded_at n more) (omega (arith, e)))
   where
     nothing : (r s : Result (List ℕ) ℕ) → r ≡ s → r ≡ before [] s

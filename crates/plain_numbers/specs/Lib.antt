@@ -6,3 +6,4 @@ pub mod View
 pub mod Passing
 pub mod Writing
 pub mod Laws
+pub mod Documents

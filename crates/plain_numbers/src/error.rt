@@ -20,7 +20,10 @@ impl fmt::Display for PlainError {
 
     fn fmt<W: fmt::Write>(&self, f: &mut fmt::Formatter<W>) -> fmt::Result {
         match self {
-            PlainError::DoesNotFit(offset) => write!(f, "number of more than 38 digits, pos {offset}"),
+            PlainError::DoesNotFit(offset) => write!(
+                f,
+                "number of more than 38 digits, pos {offset}"
+            ),
             PlainError::OutOfMemory => write!(f, "out of memory"),
         }
     }

@@ -2,7 +2,11 @@
 
 ghost use Rattle.std.specs.Prelude.{◌≡◌, ℕ, List, Ok, Some, true, false};
 ghost use Rattle.std.specs.List.{flat_map};
+ghost use Rattle.jsonb_spec.specs.Grammar.{IsDocument};
+ghost use Rattle.jsonb_spec.specs.Mode.{extended};
 ghost use Rattle.jsonb_spec.specs.Text.ReadsBack.{ReadsBackAsDecimal};
+ghost use Rattle.jsonb_spec.specs.Tree.{Tree};
+ghost use Rattle.plain_numbers.specs.Documents.{IsTextOf};
 ghost use Rattle.plain_numbers.specs.Exponent.{Parts, parts_of, exact_value, fits};
 ghost use Rattle.plain_numbers.specs.Expansion.{expanded, have_exponent};
 ghost use Rattle.plain_numbers.specs.Laws.{HasParts, IsExactly};
@@ -33,4 +37,11 @@ pub fn values_are_exact()
 /// What is written of a value in range is a decimal of extended mode, of the same scale and whole number.
 pub fn plain_numbers_read_back()
     ensures { (p : Parts) → fits (exact_value p) ≡ true → ReadsBackAsDecimal (exact_value p) }
+{}
+
+/// A text of RFC 8259 whose numbers with an exponent are in range, written out, is a document of extended mode, and its
+/// tree has these numbers' exact values. So `write_plain_numbers` makes one of it, where memory allows it.
+pub fn texts_written_out_are_documents()
+    ensures { (text : List ℕ) → (t : Tree) → IsTextOf text t
+        → (answer : List ℕ) × (expanded text ≡ Ok answer) × IsDocument extended answer t }
 {}

@@ -25,6 +25,7 @@ pub(crate) struct Parts<'t> {
 
 // 128 bits hold each number of so many digits.
 const MOST_DIGITS: u128 = 38;
+
 const BOUND: u128 = 100_000_000_000_000_000_000_000_000_000_000_000_000;
 
 // How many digits the bytes begin with.
@@ -147,7 +148,9 @@ fn with_digit(number: u128, digit: u8) -> Option<u128>
     requires { IsAsciiDigit digit }
     ensures { SomeIff result (number * 10 + digit_value digit < 2 ^ 128) (number * 10 + digit_value digit) }
 {
-    number.checked_mul(10)?.checked_add(u128::from(digit - b'0'))
+    number
+        .checked_mul(10)?
+        .checked_add(u128::from(digit - b'0'))
 }
 
 // The number that digits write behind those of `number`, where 128 bits hold it.
@@ -171,11 +174,23 @@ pub(crate) fn exact_number(parts: &Parts<'_>) -> Option<Number>
     let magnitude = digits_onto(digits_onto(0, parts.whole)?, parts.behind)?;
     // A number in range is moved by less than that, or it is zero.
     let exponent = digits_onto(0, parts.exponent).unwrap_or(1 << 100);
-    moved(parts.negative, magnitude, parts.behind.len(), parts.down, exponent)
+    moved(
+        parts.negative,
+        magnitude,
+        parts.behind.len(),
+        parts.down,
+        exponent,
+    )
 }
 
 // The number that an exponent makes of digits, so many of them behind the point, where it is in range.
-fn moved(negative: bool, magnitude: u128, places: usize, down: bool, exponent: u128) -> Option<Number>
+fn moved(
+    negative: bool,
+    magnitude: u128,
+    places: usize,
+    down: bool,
+    exponent: u128,
+) -> Option<Number>
     requires { places < 2 ^ 63 }
     ensures { (n : ℕ) → IsClamped exponent n → Makes result (moved negative magnitude places down n) }
 {

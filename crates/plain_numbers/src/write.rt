@@ -2,6 +2,8 @@
 
 ghost use Rattle.std.specs.Prelude.{◌≡◌, ◌≤◌, ℕ, IfOk, IfErr, OnErr, MatchOption, true, false};
 ghost use Rattle.std.specs.Vec.{vec_capacity};
+ghost use Rattle.jsonb_spec.specs.Tree.{Tree};
+ghost use Rattle.plain_numbers.specs.Documents.{AppendsDocument, IsTextOf};
 ghost use Rattle.plain_numbers.specs.Expansion.{AppendsExpanded, Explains, have_exponent, plain};
 ghost use Rattle.plain_numbers.specs.Pieces.{pieces};
 ghost use Rattle.plain_numbers.specs.Writing.{Keeps, WritesWord};
@@ -52,6 +54,12 @@ pub fn write_plain_numbers(text: &[u8], buf: &mut Vec<u8>) -> Result<(), PlainEr
     ensures ok { IfOk result (λ _. AppendsExpanded text.now buf.old.items buf.new.items) }
     ensures err { OnErr result (buf.new.items ≡ buf.old.items) }
     ensures explains { IfErr result (Explains text.now buf.old) }
+
+    // Of a text of RFC 8259 whose numbers are in range it is a document of extended mode, with their exact values, and
+    // nothing but memory can be missing.
+    ensures document { IfOk result (λ _. (t : Tree) → IsTextOf text.now t
+        → AppendsDocument buf.old.items buf.new.items t) }
+    ensures memory { IfErr result (λ e. (t : Tree) → IsTextOf text.now t → e ≡ PlainError.OutOfMemory) }
     ensures capacity { vec_capacity buf.old ≤ vec_capacity buf.new }
 {
     let old_len = buf.len();
