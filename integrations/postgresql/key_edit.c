@@ -195,17 +195,27 @@ count_kept(Range key, const Change *change, size_t *before, size_t *after)
 	*after = count_numbers(one) - *before;
 }
 
+/* Append the zeros of the part that comes next, or pass over them. */
+static void
+take_zeros(KeyZerosReader *reader, Range part, KeyZeros *into)
+{
+	if (!key_zeros_take(reader, count_numbers(part), into))
+		vjson_raise_corrupted();
+}
+
 /* The zeros of two objects that are merged: of each name the right one's, where both have it. */
 static void
 merge_members(KeyZeros *zeros, const Document *left, const Document *right)
 {
 	Walk		ours;
 	Walk		theirs;
-	size_t		left_first = 0;
-	size_t		right_first = 0;
+	KeyZerosReader left_zeros;
+	KeyZerosReader right_zeros;
 	bool		has_ours;
 	bool		has_theirs;
 
+	key_zeros_begin(&left_zeros, left->zeros.at, left->zeros.size);
+	key_zeros_begin(&right_zeros, right->zeros.at, right->zeros.size);
 	begin_walk(&ours, left->key);
 	begin_walk(&theirs, right->key);
 	has_ours = next_in_walk(&ours);
@@ -217,19 +227,12 @@ merge_members(KeyZeros *zeros, const Document *left, const Document *right)
 
 		if (order <= 0)
 		{
-			size_t		numbers = count_numbers(ours.value);
-
-			if (order < 0)
-				append_zeros(zeros, left, left_first, numbers);
-			left_first += numbers;
+			take_zeros(&left_zeros, ours.value, order < 0 ? zeros : NULL);
 			has_ours = next_in_walk(&ours);
 		}
 		if (order >= 0)
 		{
-			size_t		numbers = count_numbers(theirs.value);
-
-			append_zeros(zeros, right, right_first, numbers);
-			right_first += numbers;
+			take_zeros(&right_zeros, theirs.value, zeros);
 			has_theirs = next_in_walk(&theirs);
 		}
 	}
@@ -310,44 +313,72 @@ path_of_name(Range name)
 	return result;
 }
 
-/* Remove the items of an array that are the string. This changes no zeros. */
+/*
+ * Remove the members of names, or the items that are those strings, in one pass
+ * over the key: what stays is copied between its first byte and those that end
+ * it.  False if nothing changes.
+ */
 static bool
-remove_strings(Range *array, Range wanted)
+remove_names(Document *document, const Datum *words, const bool *nulls, int count)
 {
+	Range		key = document->key;
+	bool		is_object = kind_of(key) == VIZHONIKU_OBJECT;
+	size_t		end_size = is_object ? 2 : 1;
+	Range	   *names = palloc(Max(count, 1) * sizeof(Range));
+	int			wanted = 0;
+	unsigned char *kept = palloc_extended(key.size, MCXT_ALLOC_HUGE);
+	size_t		kept_size = 1;
+	KeyZerosReader reader;
+	KeyZeros	zeros = {0};
 	Walk		walk;
-	int64	   *places = palloc(sizeof(int64));
-	size_t		count = 0;
-	size_t		room = 1;
-	char		path[24];
-	Change		change = {REMOVE, {(unsigned char *) path, 0}, {NULL, 0}, false};
 
-	begin_walk(&walk, *array);
-	for (int64 i = 0; next_in_walk(&walk); i++)
+	for (int i = 0; i < count; i++)
 	{
-		if (!same_bytes(walk.value, wanted))
+		if (nulls == NULL || !nulls[i])
+			names[wanted++] = name_as_in_key(DatumGetTextPP(words[i]));
+	}
+	qsort(names, wanted, sizeof(Range), compare_ranges);
+	kept[0] = key.at[0];
+	key_zeros_begin(&reader, document->zeros.at, document->zeros.size);
+	begin_walk(&walk, key);
+	while (next_in_walk(&walk))
+	{
+		const unsigned char *start = is_object ? walk.name.at : walk.value.at;
+		size_t		size = walk.value.at + walk.value.size - start;
+		Range		name;
+		bool		is_removed = name_in_walk(&walk, &name) &&
+			bsearch(&name, names, wanted, sizeof(Range), compare_ranges) != NULL;
+
+		CHECK_FOR_INTERRUPTS();
+		if (document->zeros.size > 0)
+			take_zeros(&reader, walk.value, is_removed ? NULL : &zeros);
+		if (is_removed)
 			continue;
-		if (count == room)
-			places = repalloc_huge(places, (room *= 2) * sizeof(int64));
-		places[count++] = i;
+		if (kept_size + size + end_size > key.size)
+			vjson_raise_corrupted();
+		memcpy(kept + kept_size, start, size);
+		kept_size += size;
 	}
-	for (size_t i = count; i > 0; i--)
-	{
-		change.path.size = snprintf(path, sizeof(path), "/" INT64_FORMAT, places[i - 1]);
-		change_key(*array, &change, array);
-	}
-	return count > 0;
+	if (kept_size + end_size >= key.size)
+		return false;
+	memcpy(kept + kept_size, key.at + key.size - end_size, end_size);
+	document->key.at = kept;
+	document->key.size = kept_size + end_size;
+	document->zeros.at = zeros.bytes;
+	document->zeros.size = zeros.size;
+	return true;
 }
 
 /* Remove the member of a name, or the items that are that string. False if nothing changes. */
 static bool
 remove_name(Document *document, text *words)
 {
-	Range		name = utf8_of(words);
+	Datum		datum = PointerGetDatum(words);
 	Change		change = {REMOVE, {NULL, 0}, {NULL, 0}, false};
 
 	if (kind_of(document->key) != VIZHONIKU_OBJECT)
-		return remove_strings(&document->key, key_of_string(name));
-	change.path = path_of_name(name);
+		return remove_names(document, &datum, NULL, 1);
+	change.path = path_of_name(utf8_of(words));
 	return change_document(document, &change, NULL);
 }
 
@@ -383,19 +414,13 @@ vjson_delete_array(PG_FUNCTION_ARGS)
 	Datum	   *names;
 	bool	   *nulls;
 	int			count;
-	bool		has_changed = false;
 
 	if (ARR_NDIM(array) > 1)
 		ereport(ERROR, (errcode(ERRCODE_ARRAY_SUBSCRIPT_ERROR), errmsg("wrong number of array subscripts")));
 	if (is_scalar(kind_of(document.key)))
 		raise_wrong_kind("cannot delete from scalar");
 	deconstruct_array(array, TEXTOID, -1, false, TYPALIGN_INT, &names, &nulls, &count);
-	for (int i = 0; i < count; i++)
-	{
-		if (!nulls[i] && remove_name(&document, DatumGetTextPP(names[i])))
-			has_changed = true;
-	}
-	if (!has_changed)
+	if (!remove_names(&document, names, nulls, count))
 		PG_RETURN_DATUM(PG_GETARG_DATUM(0));
 	return make_datum(&document);
 }

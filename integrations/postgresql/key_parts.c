@@ -30,6 +30,9 @@
 /* How much of a value is looked at for its kind: the form, the size of the key, and its first byte. */
 #define KIND_SLICE		(FORM_SIZE + KEY_SIZE_SIZE + 1)
 
+/* From how many names on they are looked for together. */
+#define MANY_NAMES		8
+
 /* The key of true. */
 #define TRUE_KEY		0x16
 
@@ -84,85 +87,77 @@ text_of_string(Range key, bool is_name)
 	return cstring_to_text(pg_any_to_server(pnstrdup((char *) bytes, size), (int) size, PG_UTF8));
 }
 
-/*
- * The value of a part, before which there are so many numbers in the whole.
- * The zeros of its numbers are among those of the whole.
- */
+/* The value of a key and of the zeros of its numbers. */
 static struct varlena *
-make_part(const VjsonParts *whole, Range part, size_t numbers_before, size_t numbers)
+make_value(Range key, Range zeros)
 {
-	size_t		zeros_room = whole->form == KEY_AND_ZEROS ? whole->rest_size : 0;
-	struct varlena *result = (struct varlena *) palloc(VARHDRSZ + FORM_SIZE + KEY_SIZE_SIZE + part.size + zeros_room);
+	struct varlena *result = (struct varlena *) palloc(VARHDRSZ + FORM_SIZE + KEY_SIZE_SIZE + key.size + zeros.size);
 	char	   *into = VARDATA(result) + FORM_SIZE;
-	uint32		stored_size = (uint32) part.size;
-	size_t		zeros_size = 0;
+	uint32		stored_size = (uint32) key.size;
 
-	if (zeros_room > 0)
-		zeros_size = key_part_zeros(whole->rest, whole->rest_size, numbers_before, numbers,
-									(unsigned char *) into + KEY_SIZE_SIZE + part.size);
-	if (zeros_size == SIZE_MAX)
-		vjson_raise_corrupted();
-	if (zeros_size == 0)
+	if (zeros.size == 0)
 	{
 		*VARDATA(result) = KEY_ALONE;
-		memcpy(into, part.at, part.size);
-		SET_VARSIZE(result, VARHDRSZ + FORM_SIZE + part.size);
+		memcpy(into, key.at, key.size);
+		SET_VARSIZE(result, VARHDRSZ + FORM_SIZE + key.size);
 		return result;
 	}
 	*VARDATA(result) = KEY_AND_ZEROS;
 	memcpy(into, &stored_size, KEY_SIZE_SIZE);
-	memcpy(into + KEY_SIZE_SIZE, part.at, part.size);
-	SET_VARSIZE(result, VARHDRSZ + FORM_SIZE + KEY_SIZE_SIZE + part.size + zeros_size);
+	memcpy(into + KEY_SIZE_SIZE, key.at, key.size);
+	memcpy(into + KEY_SIZE_SIZE + key.size, zeros.at, zeros.size);
+	SET_VARSIZE(result, VARHDRSZ + FORM_SIZE + KEY_SIZE_SIZE + key.size + zeros.size);
 	return result;
 }
 
-/* The text of a part, as make_part has it as a value: a string without its quotes, and NULL where it is null. */
+/* The text of a key, as make_value has it as a value: a string without its quotes, and NULL where it is null. */
 static text *
-make_text(const VjsonParts *whole, Range part, size_t numbers_before, size_t numbers)
+make_text(Range key, Range zeros)
 {
-	VjsonParts	parts = {KEY_ALONE, part.at, part.size, NULL, 0};
+	VjsonParts	parts = {zeros.size > 0 ? KEY_AND_ZEROS : KEY_ALONE, key.at, key.size, zeros.at, zeros.size};
 
-	switch (kind_of(part))
+	switch (kind_of(key))
 	{
 		case VIZHONIKU_NULL:
 			return NULL;
 		case VIZHONIKU_STRING:
-			return text_of_string(part, false);
+			return text_of_string(key, false);
 		default:
-			if (numbers > 0)
-				get_parts(make_part(whole, part, numbers_before, numbers), false, &parts);
 			return cstring_to_text(vjson_server_text(&parts));
 	}
 }
 
-/* How many numbers stand before the part, and in it, where the whole has zeros of numbers; else 0. */
-static void
-count_numbers(const VjsonParts *whole, Range part, size_t *before, size_t *numbers)
+/* The zeros of the numbers of a part, which are among those of the whole. */
+static Range
+zeros_of_part(const VjsonParts *whole, Range part)
 {
-	*before = *numbers = 0;
-	if (whole->form == KEY_AND_ZEROS &&
-		!key_numbers(whole->key, whole->key_size, part.at - whole->key, part.size, before, numbers))
+	Range		result = {NULL, 0};
+	unsigned char *zeros;
+	size_t		before;
+	size_t		numbers;
+
+	if (whole->form != KEY_AND_ZEROS)
+		return result;
+	if (!key_numbers(whole->key, whole->key_size, part.at - whole->key, part.size, &before, &numbers))
 		vjson_raise_corrupted();
+	zeros = palloc(whole->rest_size);
+	result.size = key_part_zeros(whole->rest, whole->rest_size, before, numbers, zeros);
+	if (result.size == SIZE_MAX)
+		vjson_raise_corrupted();
+	result.at = zeros;
+	return result;
 }
 
 struct varlena *
 vjson_part(const VjsonParts *whole, Range part)
 {
-	size_t		before;
-	size_t		numbers;
-
-	count_numbers(whole, part, &before, &numbers);
-	return make_part(whole, part, before, numbers);
+	return make_value(part, zeros_of_part(whole, part));
 }
 
 text *
 vjson_part_text(const VjsonParts *whole, Range part)
 {
-	size_t		before;
-	size_t		numbers;
-
-	count_numbers(whole, part, &before, &numbers);
-	return make_text(whole, part, before, numbers);
+	return make_text(part, zeros_of_part(whole, part));
 }
 
 
@@ -276,6 +271,46 @@ vjson_exists(PG_FUNCTION_ARGS)
 	PG_RETURN_BOOL(has_name(key, PG_GETARG_TEXT_PP(1)));
 }
 
+/* How many of the names are there, each counted once, in one pass over the key. *count is of how many there are. */
+static int
+count_names(Range key, const Datum *words, const bool *nulls, int *count)
+{
+	Range	   *names = palloc(Max(*count, 1) * sizeof(Range));
+	bool	   *is_there;
+	int			wanted = 0;
+	int			kept = 0;
+	int			found = 0;
+	Range		name;
+	Walk		walk;
+
+	for (int i = 0; i < *count; i++)
+	{
+		if (!nulls[i])
+			names[wanted++] = name_as_in_key(DatumGetTextPP(words[i]));
+	}
+	qsort(names, wanted, sizeof(Range), compare_ranges);
+	for (int i = 0; i < wanted; i++)
+	{
+		if (i == 0 || !same_bytes(names[i], names[kept - 1]))
+			names[kept++] = names[i];
+	}
+	*count = kept;
+	is_there = palloc0(Max(kept, 1));
+	begin_walk(&walk, key);
+	while (found < kept && next_in_walk(&walk))
+	{
+		Range	   *at = name_in_walk(&walk, &name) ? bsearch(&name, names, kept, sizeof(Range), compare_ranges) : NULL;
+
+		CHECK_FOR_INTERRUPTS();
+		if (at != NULL && !is_there[at - names])
+		{
+			is_there[at - names] = true;
+			found++;
+		}
+	}
+	return found;
+}
+
 /* Whether one of the names is there as is wanted; a NULL among them is passed over. */
 static bool
 any_name(FunctionCallInfo fcinfo, bool wanted)
@@ -287,6 +322,12 @@ any_name(FunctionCallInfo fcinfo, bool wanted)
 	int			count;
 
 	deconstruct_array(PG_GETARG_ARRAYTYPE_P(1), TEXTOID, -1, false, TYPALIGN_INT, &names, &nulls, &count);
+	if (count >= MANY_NAMES && !is_scalar(kind_of(key)))
+	{
+		int			found = count_names(key, names, nulls, &count);
+
+		return wanted ? found > 0 : found < count;
+	}
 	for (int i = 0; i < count; i++)
 	{
 		if (!nulls[i] && has_name(key, DatumGetTextPP(names[i])) == wanted)
@@ -365,11 +406,12 @@ put_parts(FunctionCallInfo fcinfo, const VjsonParts *whole, Range key, int colum
 {
 	ReturnSetInfo *set = (ReturnSetInfo *) fcinfo->resultinfo;
 	MemoryContext rows = AllocSetContextCreate(CurrentMemoryContext, "parts of a vjson", ALLOCSET_DEFAULT_SIZES);
-	MemoryContext caller = MemoryContextSwitchTo(rows);
-	size_t		before = 0;
-	size_t		numbers = 0;
+	MemoryContext caller = CurrentMemoryContext;
+	KeyZerosReader reader;
+	KeyZeros	zeros = {0};
 	Walk		walk;
 
+	key_zeros_begin(&reader, whole->rest, whole->form == KEY_AND_ZEROS ? whole->rest_size : 0);
 	begin_walk(&walk, key);
 	while (next_in_walk(&walk))
 	{
@@ -378,25 +420,36 @@ put_parts(FunctionCallInfo fcinfo, const VjsonParts *whole, Range key, int colum
 		int			column = 0;
 
 		CHECK_FOR_INTERRUPTS();
+		MemoryContextSwitchTo(rows);
 		if (columns & NAMES)
 			values[column++] = PointerGetDatum(text_of_string(walk.name, true));
 		if (columns & (VALUES | TEXTS))
 		{
-			size_t		none;
+			Range		own;
 
-			if (whole->form == KEY_AND_ZEROS &&
-				!key_numbers(walk.value.at, walk.value.size, 0, walk.value.size, &none, &numbers))
-				vjson_raise_corrupted();
+			MemoryContextSwitchTo(caller);
+			if (whole->form == KEY_AND_ZEROS)
+			{
+				size_t		none;
+				size_t		numbers;
+
+				zeros.size = zeros.plain = 0;
+				if (!key_numbers(walk.value.at, walk.value.size, 0, walk.value.size, &none, &numbers) ||
+					!key_zeros_take(&reader, numbers, &zeros))
+					vjson_raise_corrupted();
+			}
+			own.at = zeros.bytes;
+			own.size = zeros.size;
+			MemoryContextSwitchTo(rows);
 			if (columns & VALUES)
-				values[column] = PointerGetDatum(make_part(whole, walk.value, before, numbers));
+				values[column] = PointerGetDatum(make_value(walk.value, own));
 			else
 			{
-				text	   *words = make_text(whole, walk.value, before, numbers);
+				text	   *words = make_text(walk.value, own);
 
 				values[column] = PointerGetDatum(words);
 				nulls[column] = words == NULL;
 			}
-			before += numbers;
 		}
 		tuplestore_putvalues(set->setResult, set->setDesc, values, nulls);
 		MemoryContextReset(rows);

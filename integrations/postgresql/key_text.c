@@ -146,3 +146,82 @@ key_zeros_append(KeyZeros *into, const unsigned char *zeros, size_t zeros_size, 
 			palloc_extended(into->room, MCXT_ALLOC_HUGE);
 	}
 }
+
+void
+key_zeros_begin(KeyZerosReader *reader, const unsigned char *zeros, size_t zeros_size)
+{
+	reader->at = zeros;
+	reader->size = zeros_size;
+	reader->plain = 0;
+	reader->zeros = 0;
+}
+
+/* Read how many plain numbers come next, and how many zeros the one behind them has. False if the bytes end before. */
+static bool
+read_next_zeros(KeyZerosReader *reader)
+{
+	size_t		plain = 0;
+
+	for (unsigned shift = 0; reader->size > 1 && shift < 8 * sizeof(size_t); shift += 7)
+	{
+		unsigned char byte = *reader->at++;
+
+		reader->size--;
+		plain |= (size_t) (byte & 0x7F) << shift;
+		if (byte < 0x80)
+		{
+			reader->plain = plain;
+			reader->zeros = *reader->at++;
+			reader->size--;
+			return reader->zeros > 0;
+		}
+	}
+	return false;
+}
+
+/* Append that a number has zeros. */
+static void
+write_zeros(KeyZeros *into, unsigned char zeros)
+{
+	if (into->room - into->size < 16)
+	{
+		into->room = Max(64, 2 * into->room);
+		into->bytes = into->bytes ? repalloc_huge(into->bytes, into->room) :
+			palloc_extended(into->room, MCXT_ALLOC_HUGE);
+	}
+	for (; into->plain >= 0x80; into->plain >>= 7)
+		into->bytes[into->size++] = (unsigned char) (into->plain | 0x80);
+	into->bytes[into->size++] = (unsigned char) into->plain;
+	into->bytes[into->size++] = zeros;
+	into->plain = 0;
+}
+
+bool
+key_zeros_take(KeyZerosReader *reader, size_t numbers, KeyZeros *into)
+{
+	while (numbers > 0)
+	{
+		size_t		taken;
+
+		if (reader->zeros == 0 && reader->size == 0)
+			taken = numbers;	/* the others are plain */
+		else if (reader->zeros == 0 && !read_next_zeros(reader))
+			return false;
+		else
+			taken = Min(numbers, reader->plain);
+		numbers -= taken;
+		if (into != NULL)
+			into->plain += taken;
+		if (reader->zeros == 0)
+			continue;
+		reader->plain -= taken;
+		if (numbers > 0)
+		{
+			numbers--;
+			if (into != NULL)
+				write_zeros(into, reader->zeros);
+			reader->zeros = 0;
+		}
+	}
+	return true;
+}

@@ -60,4 +60,21 @@ typedef struct
 extern bool key_zeros_append(KeyZeros *into, const unsigned char *zeros, size_t zeros_size, size_t first,
 							 size_t numbers);
 
+/* Zeros of a key that are taken one part after the other, so that those of all parts are passed over once. */
+typedef struct
+{
+	const unsigned char *at;
+	size_t		size;
+	size_t		plain;			/* numbers without zeros before the next one with some, where that was read */
+	unsigned char zeros;		/* of that next one; 0 where it wasn't read */
+} KeyZerosReader;
+
+extern void key_zeros_begin(KeyZerosReader *reader, const unsigned char *zeros, size_t zeros_size);
+
+/*
+ * Append the zeros of so many numbers that come next, or pass over them where
+ * into is NULL.  False if the bytes are no zeros of a key.
+ */
+extern bool key_zeros_take(KeyZerosReader *reader, size_t numbers, KeyZeros *into);
+
 #endif							/* KEY_TEXT_H */

@@ -148,4 +148,40 @@ next_in_walk(Walk *walk)
 	return true;
 }
 
+/* The name of the member, or the string that is the item, as it stands in a key. False if the item is no string. */
+static inline bool
+name_in_walk(const Walk *walk, Range *name)
+{
+	*name = walk->name;
+	if (walk->name.size > 0)
+		return true;
+	if (kind_of(walk->value) != VIZHONIKU_STRING)
+		return false;
+	name->at = walk->value.at + 1;
+	name->size = walk->value.size - 1;
+	return true;
+}
+
+/* Words of the server as a name stands in a key: as a string does, without the first byte, which tells the kind. */
+static inline Range
+name_as_in_key(text *words)
+{
+	Range		key = key_of_string(utf8_of(words));
+
+	key.at++;
+	key.size--;
+	return key;
+}
+
+/* The order of bytes, for qsort and bsearch. */
+static inline int
+compare_ranges(const void *left, const void *right)
+{
+	const Range *one = left;
+	const Range *other = right;
+	int			order = memcmp(one->at, other->at, Min(one->size, other->size));
+
+	return order != 0 ? order : (one->size > other->size) - (one->size < other->size);
+}
+
 #endif							/* KEY_WALK_H */
