@@ -17,6 +17,7 @@
 #include "miscadmin.h"
 #include "utils/array.h"
 #include "utils/builtins.h"
+#include "utils/json.h"
 #include "utils/memutils.h"
 
 #include "key_text.h"
@@ -29,6 +30,7 @@ PG_FUNCTION_INFO_V1(vjson_delete_idx);
 PG_FUNCTION_INFO_V1(vjson_delete_array);
 PG_FUNCTION_INFO_V1(vjson_delete_path);
 PG_FUNCTION_INFO_V1(vjson_set);
+PG_FUNCTION_INFO_V1(vjson_insert);
 
 /* The keys of two values that begin with different bytes, and are one byte each. */
 static const unsigned char NULL_KEY[] = {0xD3};
@@ -467,5 +469,387 @@ vjson_set(PG_FUNCTION_ARGS)
 		raise_wrong_kind("cannot set path in scalar");
 	if (!change_document(&document, &change, &part))
 		PG_RETURN_DATUM(PG_GETARG_DATUM(0));
+	return make_datum(&document);
+}
+
+
+/*
+ * Items put between others
+ */
+
+/* The next step of the path, with its escapes. False at its end. */
+static bool
+next_step(Range *path, Range *step)
+{
+	const unsigned char *end;
+
+	if (path->size == 0)
+		return false;
+	step->at = path->at + 1;
+	end = memchr(step->at, '/', path->size - 1);
+	step->size = end != NULL ? (size_t) (end - step->at) : path->size - 1;
+	path->at = step->at + step->size;
+	path->size -= step->size + 1;
+	return true;
+}
+
+/* The index that a step has as the library reads it: no zeros at its front, and with a minus sign from the end. */
+static bool
+index_of_step(Range step, int64 *index)
+{
+	bool		is_negative = step.size > 0 && step.at[0] == '-';
+	Range		digits = {step.at + is_negative, step.size - is_negative};
+
+	if (digits.size == 0 || digits.size > 18 || (digits.at[0] == '0' && (digits.size > 1 || is_negative)))
+		return false;
+	*index = 0;
+	for (size_t i = 0; i < digits.size; i++)
+	{
+		if (digits.at[i] < '0' || digits.at[i] > '9')
+			return false;
+		*index = *index * 10 + (digits.at[i] - '0');
+	}
+	if (is_negative)
+		*index = -*index;
+	return true;
+}
+
+/* The name that a step has. */
+static Range
+name_of_step(Range step)
+{
+	unsigned char *name = palloc(step.size + 1);
+	Range		result = {name, 0};
+
+	for (size_t i = 0; i < step.size; i++)
+	{
+		if (step.at[i] == '~')
+			name[result.size++] = step.at[++i] == '0' ? '~' : '/';
+		else
+			name[result.size++] = step.at[i];
+	}
+	return result;
+}
+
+/* The part to which a step leads. */
+static bool
+take_step(Range key, Range step, Range *part)
+{
+	int64		index;
+
+	switch (kind_of(key))
+	{
+		case VIZHONIKU_OBJECT:
+			return find_member(key, name_of_step(step), part);
+		case VIZHONIKU_ARRAY:
+			return index_of_step(step, &index) && find_item(key, index, part);
+		default:
+			return false;
+	}
+}
+
+bool
+vjson_find_by_steps(Range key, Range path, Range *part)
+{
+	Range		step;
+
+	while (next_step(&path, &step))
+	{
+		if (!take_step(key, step, part))
+			return false;
+		key = *part;
+	}
+	*part = key;
+	return true;
+}
+
+/* The array with the item put before the one of the index, or behind all. */
+static struct varlena *
+with_item(const VjsonParts *whole, Range array, int64 index, const VjsonParts *item)
+{
+	VjsonParts	parts;
+	size_t		size;
+	size_t		item_size;
+	char	   *text;
+	char	   *item_text = vjson_text(item, &item_size);
+	StringInfoData changed;
+	int64		items = 0;
+	int			levels = 0;
+
+	get_parts(vjson_part(whole, array), false, &parts);
+	text = vjson_text(&parts, &size);
+	initStringInfo(&changed);
+	for (size_t at = 0; at < size; at++)
+	{
+		bool		is_end = levels == 1 && text[at] == ']';
+
+		/* Behind the bracket that opens the array, or a comma of it, an item begins. */
+		if (levels == 1 && (text[at - 1] == ',' || at == 1) && !is_end && items++ == index)
+		{
+			appendBinaryStringInfo(&changed, item_text, (int) item_size);
+			appendStringInfoChar(&changed, ',');
+		}
+		if (is_end && items <= index)
+		{
+			if (items > 0)
+				appendStringInfoChar(&changed, ',');
+			appendBinaryStringInfo(&changed, item_text, (int) item_size);
+		}
+		if (text[at] == '"')
+		{
+			size_t		start = at;
+
+			for (at++; at < size && text[at] != '"'; at++)
+			{
+				if (text[at] == '\\')
+					at++;
+			}
+			appendBinaryStringInfo(&changed, text + start, (int) (Min(at + 1, size) - start));
+			continue;
+		}
+		levels += text[at] == '[' || text[at] == '{';
+		levels -= text[at] == ']' || text[at] == '}';
+		appendStringInfoChar(&changed, text[at]);
+	}
+	return vjson_of_text(changed.data, changed.len);
+}
+
+Datum
+vjson_insert(PG_FUNCTION_ARGS)
+{
+	Datum		datum = PG_GETARG_DATUM(0);
+	Range		path = utf8_of(PG_GETARG_TEXT_PP(1));
+	Datum		new_datum = PG_GETARG_DATUM(2);
+	bool		insert_after = PG_GETARG_BOOL(3);
+	VjsonParts	whole;
+	VjsonParts	item;
+	Document	document = get_document(datum);
+	Document	part = get_document(new_datum);
+	Range		at = get_whole((struct varlena *) PG_DETOAST_DATUM_PACKED(datum), &whole);
+	Range		rest = path;
+	Range		step;
+	Range		next;
+	int64		index;
+	size_t		count;
+	Change		change = {SET, path, part.key, true};
+
+	if (is_scalar(kind_of(document.key)))
+		raise_wrong_kind("cannot set path in scalar");
+	if (!next_step(&rest, &step))
+		PG_RETURN_DATUM(datum);
+	while (rest.size > 0)
+	{
+		if (!take_step(at, step, &next))
+			PG_RETURN_DATUM(datum);
+		at = next;
+		next_step(&rest, &step);
+	}
+	if (kind_of(at) == VIZHONIKU_OBJECT && take_step(at, step, &next))
+		ereport(ERROR,
+				(errcode(ERRCODE_INVALID_PARAMETER_VALUE),
+				 errmsg("cannot replace existing key"),
+				 errhint("Try using the function vjson_set to replace key value.")));
+	if (kind_of(at) == VIZHONIKU_ARRAY)
+	{
+		if (!index_of_step(step, &index))
+			PG_RETURN_DATUM(datum);
+		if (!is_found(vizhoniku_key_count(at.at, at.size, &count)))
+			vjson_raise_corrupted();
+		if (index < 0 && -index > (int64) count)
+			index = 0;
+		else
+			index += (index < 0 ? (int64) count : 0) + insert_after;
+		get_whole((struct varlena *) PG_DETOAST_DATUM_PACKED(new_datum), &item);
+		change.path.size = step.at - 1 - path.at;
+		part = get_document(PointerGetDatum(with_item(&whole, at, index, &item)));
+		change.part = part.key;
+		if (change.path.size == 0)
+			return make_datum(&part);
+	}
+	if (!change_document(&document, &change, &part))
+		PG_RETURN_DATUM(datum);
+	return make_datum(&document);
+}
+
+
+/*
+ * Assignments to subscripts
+ */
+
+/* The index that a step has: decimal digits, with a sign or without. */
+static bool
+index_of_words(const VjsonStep *step, int64 *index)
+{
+	char	   *end;
+
+	errno = 0;
+	*index = strtol(step->words, &end, 10);
+	return end != step->words && *end == '\0' && errno == 0 && *index >= PG_INT32_MIN && *index <= PG_INT32_MAX;
+}
+
+bool
+vjson_take_step(Range key, const VjsonStep *step, Range *part)
+{
+	int64		index;
+
+	switch (kind_of(key))
+	{
+		case VIZHONIKU_OBJECT:
+			return find_member(key, step->name, part);
+		case VIZHONIKU_ARRAY:
+			return index_of_words(step, &index) && find_item(key, index, part);
+		default:
+			return false;
+	}
+}
+
+/* The index of a step in an array of so many items, from the front. */
+static int64
+place_of_step(const VjsonStep *step, int number, size_t count)
+{
+	int64		index;
+
+	if (!index_of_words(step, &index))
+		ereport(ERROR,
+				(errcode(ERRCODE_INVALID_TEXT_REPRESENTATION),
+				 errmsg("path element at position %d is not an integer: \"%s\"", number + 1, step->words)));
+	if (index < 0 && -index > (int64) count)
+		ereport(ERROR,
+				(errcode(ERRCODE_INVALID_PARAMETER_VALUE),
+				 errmsg("path element at position %d is out of range: " INT64_FORMAT, number + 1, index)));
+	return index < 0 ? index + (int64) count : index;
+}
+
+/* Append so many nulls and the value as items. */
+static void
+append_items(StringInfo out, int64 nulls, const char *value, size_t size)
+{
+	for (int64 i = 0; i < nulls; i++)
+		appendStringInfoString(out, "null,");
+	appendBinaryStringInfo(out, value, (int) size);
+}
+
+/* The text of the arrays and objects that the steps lead into, with the value at their end. */
+static StringInfoData
+wrapped_in_steps(const VjsonStep *steps, int count, const char *value, size_t size)
+{
+	StringInfoData out;
+
+	initStringInfo(&out);
+	appendBinaryStringInfo(&out, value, (int) size);
+	while (count-- > 0)
+	{
+		StringInfoData inner = out;
+		int64		index;
+
+		initStringInfo(&out);
+		if (index_of_words(&steps[count], &index))
+		{
+			appendStringInfoChar(&out, '[');
+			append_items(&out, index, inner.data, inner.len);
+			appendStringInfoChar(&out, ']');
+		}
+		else
+		{
+			appendStringInfoChar(&out, '{');
+			escape_json(&out, pnstrdup((const char *) steps[count].name.at, steps[count].name.size));
+			appendStringInfoChar(&out, ':');
+			appendBinaryStringInfo(&out, inner.data, inner.len);
+			appendStringInfoChar(&out, '}');
+		}
+		pfree(inner.data);
+	}
+	return out;
+}
+
+Datum
+vjson_assign(Datum datum, const VjsonStep *steps, int count, Datum part_datum)
+{
+	Document	document = get_document(datum);
+	Document	part = get_document(part_datum);
+	VjsonParts	whole;
+	VjsonParts	value;
+	Range		at = get_whole((struct varlena *) PG_DETOAST_DATUM_PACKED(datum), &whole);
+	StringInfoData path;
+	StringInfoData made;
+	int			taken;
+	int64		gap = -1;
+	size_t		size;
+	const char *text;
+	Change		change = {SET, {NULL, 0}, {NULL, 0}, true};
+
+	/* Where the steps lead as far as there are parts: the path as far as that, and what is there. */
+	initStringInfo(&path);
+	for (taken = 0; taken < count; taken++)
+	{
+		const VjsonStep *step = &steps[taken];
+		uint32		kind = kind_of(at);
+		Range		next;
+		Range		added;
+		bool		found;
+
+		if (is_scalar(kind))
+			ereport(ERROR,
+					(errcode(ERRCODE_INVALID_PARAMETER_VALUE),
+					 errmsg("cannot replace existing key"),
+					 errdetail("The path assumes key is a composite object, but it is a scalar value.")));
+		if (kind == VIZHONIKU_ARRAY)
+		{
+			size_t		items;
+			int64		index;
+
+			if (!is_found(vizhoniku_key_count(at.at, at.size, &items)))
+				vjson_raise_corrupted();
+			index = place_of_step(step, taken, items);
+			if (index >= (int64) items)
+			{
+				gap = index - (int64) items;
+				break;
+			}
+			found = find_item(at, index, &next);
+			appendStringInfo(&path, "/" INT64_FORMAT, index);
+		}
+		else
+		{
+			found = find_member(at, step->name, &next);
+			added = path_of_name(step->name);
+			appendBinaryStringInfo(&path, (const char *) added.at, (int) added.size);
+		}
+		if (!found)
+			break;
+		at = next;
+	}
+
+	/* What is put there: the part, in the arrays and objects that aren't there yet, and behind nulls up to its index. */
+	get_whole((struct varlena *) PG_DETOAST_DATUM_PACKED(part_datum), &value);
+	if (taken + 1 < count)
+	{
+		text = vjson_text(&value, &size);
+		made = wrapped_in_steps(steps + taken + 1, count - taken - 1, text, size);
+		part = get_document(PointerGetDatum(vjson_of_text(made.data, made.len)));
+		get_whole(vjson_of_text(made.data, made.len), &value);
+	}
+	if (gap >= 0)
+	{
+		Document	array = get_document(PointerGetDatum(vjson_part(&whole, at)));
+		Change		merge = {MERGE, {NULL, 0}, {NULL, 0}, false};
+
+		text = vjson_text(&value, &size);
+		initStringInfo(&made);
+		appendStringInfoChar(&made, '[');
+		append_items(&made, gap, text, size);
+		appendStringInfoChar(&made, ']');
+		part = get_document(PointerGetDatum(vjson_of_text(made.data, made.len)));
+		merge.part = part.key;
+		change_document(&array, &merge, &part);
+		part = array;
+		if (path.len == 0)
+			return make_datum(&part);
+	}
+	change.path.at = (unsigned char *) path.data;
+	change.path.size = path.len;
+	change.part = part.key;
+	if (!change_document(&document, &change, &part))
+		return datum;
 	return make_datum(&document);
 }

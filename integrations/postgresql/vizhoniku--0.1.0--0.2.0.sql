@@ -309,6 +309,65 @@ CREATE FUNCTION vjson_set(vjson_in vjson, path vjson_path, replacement vjson, cr
   RETURNS vjson AS 'MODULE_PATHNAME' LANGUAGE C IMMUTABLE STRICT PARALLEL SAFE;
 COMMENT ON FUNCTION vjson_set(vjson, vjson_path, vjson, boolean) IS 'with another part at a path';
 
+CREATE FUNCTION vjson_insert(vjson_in vjson, path vjson_path, replacement vjson, insert_after boolean DEFAULT false)
+  RETURNS vjson AS 'MODULE_PATHNAME' LANGUAGE C IMMUTABLE STRICT PARALLEL SAFE;
+COMMENT ON FUNCTION vjson_insert(vjson, vjson_path, vjson, boolean) IS 'with a part more, put in at a path';
+
+-- Other shapes
+
+CREATE FUNCTION vjson_pretty(vjson) RETURNS text
+  AS 'MODULE_PATHNAME' LANGUAGE C IMMUTABLE STRICT PARALLEL SAFE;
+COMMENT ON FUNCTION vjson_pretty(vjson) IS 'text over lines, indented';
+
+CREATE FUNCTION vjson_strip_nulls(target vjson, strip_in_arrays boolean DEFAULT false) RETURNS vjson
+  AS 'MODULE_PATHNAME' LANGUAGE C IMMUTABLE STRICT PARALLEL SAFE COST 10;
+COMMENT ON FUNCTION vjson_strip_nulls(vjson, boolean) IS 'without the members that are null';
+
+-- Rows of documents, by jsonb's functions. Those that answer with rows of any columns are jsonb's alone.
+
+CREATE FUNCTION vjson_populate_record(base anyelement, from_json vjson) RETURNS anyelement
+  LANGUAGE sql STABLE PARALLEL SAFE
+  AS 'SELECT pg_catalog.jsonb_populate_record(base, from_json::pg_catalog.jsonb)';
+COMMENT ON FUNCTION vjson_populate_record(anyelement, vjson) IS 'a row of a type, with the columns that an object has';
+
+CREATE FUNCTION vjson_populate_recordset(base anyelement, from_json vjson) RETURNS SETOF anyelement
+  LANGUAGE sql STABLE PARALLEL SAFE ROWS 100
+  AS 'SELECT pg_catalog.jsonb_populate_recordset(base, from_json::pg_catalog.jsonb)';
+COMMENT ON FUNCTION vjson_populate_recordset(anyelement, vjson) IS 'rows of a type, of an array of objects';
+
+-- Texts that are no documents
+
+CREATE FUNCTION vjson_error(text, rounded boolean DEFAULT false, OUT message text, OUT path text,
+    OUT line_number integer, OUT column_number integer, OUT near text) RETURNS record
+  AS 'MODULE_PATHNAME' LANGUAGE C IMMUTABLE STRICT PARALLEL SAFE COST 10;
+COMMENT ON FUNCTION vjson_error(text, boolean) IS 'why a text is rejected, and where';
+
+CREATE FUNCTION vjson_error(jsonb, rounded boolean DEFAULT false, OUT message text, OUT path text,
+    OUT line_number integer, OUT column_number integer, OUT near text) RETURNS record
+  AS 'MODULE_PATHNAME', 'vjson_error_of_jsonb' LANGUAGE C IMMUTABLE STRICT PARALLEL SAFE COST 10;
+COMMENT ON FUNCTION vjson_error(jsonb, boolean) IS 'why a jsonb is rejected, and where';
+
+CREATE FUNCTION vjson_rounded(text) RETURNS vjson
+  AS 'MODULE_PATHNAME' LANGUAGE C IMMUTABLE STRICT PARALLEL SAFE COST 10;
+COMMENT ON FUNCTION vjson_rounded(text) IS 'reads a text whose numbers may have exponents, and rounds them';
+
+-- Subscripts
+
+CREATE FUNCTION vjson_subscript_handler(internal) RETURNS internal
+  AS 'MODULE_PATHNAME' LANGUAGE C IMMUTABLE STRICT PARALLEL SAFE;
+COMMENT ON FUNCTION vjson_subscript_handler(internal) IS 'vjson subscripting logic';
+
+ALTER TYPE vjson SET (SUBSCRIPT = vjson_subscript_handler);
+
+-- Paths as jsonb's functions take them
+
+CREATE FUNCTION vjson_path(text[]) RETURNS vjson_path
+  AS 'MODULE_PATHNAME', 'vjson_path_from_names' LANGUAGE C IMMUTABLE STRICT PARALLEL SAFE;
+COMMENT ON FUNCTION vjson_path(text[]) IS 'convert text[] to vjson_path';
+
+CREATE CAST (text[] AS vjson_path) WITH FUNCTION vjson_path(text[]) AS IMPLICIT;
+COMMENT ON CAST (text[] AS vjson_path) IS 'convert text[] to vjson_path';
+
 -- Casts of scalars
 
 CREATE FUNCTION vjson_to_bool(vjson) RETURNS boolean

@@ -22,6 +22,7 @@
  */
 #include "postgres.h"
 
+#include "catalog/pg_type.h"
 #include "common/hashfn.h"
 #include "common/jsonapi.h"
 #include "fmgr.h"
@@ -30,12 +31,18 @@
 #include "mb/pg_wchar.h"
 #include "miscadmin.h"
 #include "tcop/tcopprot.h"
+#include "utils/array.h"
 #include "utils/builtins.h"
+#include "utils/fmgroids.h"
 #include "utils/guc.h"
 #include "utils/json.h"
 #include "utils/jsonb.h"
 #include "utils/memutils.h"
 #include "utils/sortsupport.h"
+
+#if PG_VERSION_NUM >= 160000
+#include "nodes/miscnodes.h"
+#endif
 
 #include <vizhoniku.h>
 
@@ -93,6 +100,7 @@ PG_FUNCTION_INFO_V1(vjson_sort_key);
 PG_FUNCTION_INFO_V1(vjson_path_in);
 PG_FUNCTION_INFO_V1(vjson_path_recv);
 PG_FUNCTION_INFO_V1(vjson_path_from_text);
+PG_FUNCTION_INFO_V1(vjson_path_from_names);
 PG_FUNCTION_INFO_V1(vjson_get);
 PG_FUNCTION_INFO_V1(vjson_get_text);
 PG_FUNCTION_INFO_V1(vjson_from_json);
@@ -210,20 +218,35 @@ column_in_characters(const char *text, size_t size, const struct vizhoniku_locat
 	return column;
 }
 
-vjson_noreturn static void
-raise_refusal(const char *words, const char *text, size_t size, const struct vizhoniku_refusal *refusal)
+void
+vjson_locate(const char *text, size_t size, const VjsonRejection *why, VjsonPlace *place)
 {
-	struct vizhoniku_location place;
+	struct vizhoniku_location location;
 
-	vizhoniku_place((const unsigned char *) text, size, refusal, &place);
-	ereport(ERROR,
-			(errcode(ERRCODE_INVALID_TEXT_REPRESENTATION),
-			 errmsg("invalid input syntax for type %s", "vjson"),
-			 errdetail_internal("%s (line %zu, column %zu)", words ? words : "not a document",
-								place.line, column_in_characters(text, size, &place)),
-			 refusal->code == VIZHONIKU_NUMBER_NOT_CARRIED ?
-			 errhint("Numbers are integers and decimals of at most 38 digits, with no exponent.") : 0,
-			 errcontext("vjson text, line %zu: %s", place.line, shown_line(text, size, &place))));
+	vizhoniku_place((const unsigned char *) text, size, &why->refusal, &location);
+	place->index = location.index;
+	place->line = location.line;
+	place->column = column_in_characters(text, size, &location);
+	place->shown = shown_line(text, size, &location);
+}
+
+/*
+ * Report why the text was rejected.  This raises an error, unless the caller of
+ * the function asked by its context for errors that it goes on after.
+ */
+static void
+report_rejection(Node *context, const char *text, size_t size, const VjsonRejection *why)
+{
+	VjsonPlace	place;
+
+	vjson_locate(text, size, why, &place);
+	vjson_report(context,
+				 (errcode(ERRCODE_INVALID_TEXT_REPRESENTATION),
+				  errmsg("invalid input syntax for type %s", "vjson"),
+				  errdetail_internal("%s (line %zu, column %zu)", why->words, place.line, place.column),
+				  why->refusal.code == VIZHONIKU_NUMBER_NOT_CARRIED ?
+				  errhint("Numbers are integers and decimals of at most 38 digits, with no exponent.") : 0,
+				  errcontext("vjson text, line %zu: %s", place.line, place.shown)));
 }
 
 void
@@ -415,12 +438,9 @@ make_value(uint32 mode, const char *text, size_t size, struct varlena **value, s
 	return make_extended_value(text, size, value, refusal);
 }
 
-/*
- * Raise an error unless the text is JSON as the server's own type json takes
- * it.
- */
-static void
-check_json(const char *text, size_t size)
+/* Whether the text is JSON as the server's own type json takes it. If it isn't, *why says why. */
+static bool
+is_json(const char *text, size_t size, VjsonRejection *why)
 {
 #if PG_VERSION_NUM >= 170000
 	JsonLexContext *lex = makeJsonLexContextCstringLen(NULL, text, size, PG_UTF8, false);
@@ -431,16 +451,18 @@ check_json(const char *text, size_t size)
 
 	if (error != JSON_SUCCESS)
 	{
-		struct vizhoniku_refusal refusal = {VIZHONIKU_NO_CODE, 1, 0};
-
-		refusal.position = lex->token_start ? (size_t) (lex->token_start - lex->input) : size;
-		raise_refusal(json_errdetail(error, lex), text, size, &refusal);
+		why->refusal.code = VIZHONIKU_NO_CODE;
+		why->refusal.which = 1;
+		why->refusal.position = lex->token_start ? (size_t) (lex->token_start - lex->input) : size;
+		why->words = json_errdetail(error, lex);
+		return false;
 	}
 	pfree(lex);
+	return true;
 }
 
 /*
- * Read a text in UTF-8.
+ * Read a text in UTF-8.  NULL if it is rejected, and then *why says why.
  *
  * Input is of standard mode.  Extended mode has more numbers, which must be
  * read back where their text was dumped; so a text whose fault in standard
@@ -448,21 +470,26 @@ check_json(const char *text, size_t size)
  * extended mode carries all of its numbers.
  */
 static struct varlena *
-read_utf8(const char *text, size_t size, ReadAs as)
+try_utf8(const char *text, size_t size, ReadAs as, VjsonRejection *why)
 {
 	uint32		mode = as == READ_EXTENDED ? VIZHONIKU_EXTENDED : VIZHONIKU_STANDARD;
-	struct vizhoniku_refusal refusal;
 	struct varlena *value = NULL;
-	uint32		status = make_value(mode, text, size, &value, &refusal);
+	uint32		status = make_value(mode, text, size, &value, &why->refusal);
 
-	if (status == VIZHONIKU_REFUSED && as == READ_INPUT && refusal.code == VIZHONIKU_NUMBER_NOT_CARRIED)
+	if (status == VIZHONIKU_REFUSED && as == READ_INPUT && why->refusal.code == VIZHONIKU_NUMBER_NOT_CARRIED)
 	{
-		check_json(text, size);
+		if (!is_json(text, size, why))
+			return NULL;
 		mode = VIZHONIKU_EXTENDED;
-		status = make_value(mode, text, size, &value, &refusal);
+		status = make_value(mode, text, size, &value, &why->refusal);
 	}
 	if (status == VIZHONIKU_REFUSED)
-		raise_refusal(words_of_refusal(mode, text, size), text, size, &refusal);
+	{
+		why->words = words_of_refusal(mode, text, size);
+		if (why->words == NULL)
+			why->words = "not a document";
+		return NULL;
+	}
 	if (status == VIZHONIKU_OUT_OF_MEMORY)
 		vjson_raise_out_of_memory(size);
 	if (status != VIZHONIKU_ACCEPTED)
@@ -470,13 +497,25 @@ read_utf8(const char *text, size_t size, ReadAs as)
 	return value;
 }
 
-/* Read a text in the encoding of the database. */
+/* Read a text in UTF-8.  Where it is rejected this is reported; the answer is NULL if that raises no error. */
 static struct varlena *
-read_value(const char *server_text, size_t server_size, ReadAs as)
+read_utf8(const char *text, size_t size, ReadAs as, Node *context)
+{
+	VjsonRejection why;
+	struct varlena *value = try_utf8(text, size, as, &why);
+
+	if (value == NULL)
+		report_rejection(context, text, size, &why);
+	return value;
+}
+
+/* Read a text in the encoding of the database, as read_utf8 does. */
+static struct varlena *
+read_value(const char *server_text, size_t server_size, ReadAs as, Node *context)
 {
 	char	   *text = pg_server_to_any(server_text, (int) server_size, PG_UTF8);
 	size_t		size = text == server_text ? server_size : strlen(text);
-	struct varlena *value = read_utf8(text, size, as);
+	struct varlena *value = read_utf8(text, size, as, context);
 
 	if (text != server_text)
 		pfree(text);
@@ -486,7 +525,19 @@ read_value(const char *server_text, size_t server_size, ReadAs as)
 struct varlena *
 vjson_of_text(const char *text, size_t size)
 {
-	return read_utf8(text, size, READ_EXTENDED);
+	return read_utf8(text, size, READ_EXTENDED, NULL);
+}
+
+struct varlena *
+vjson_of_input(const char *text, size_t size)
+{
+	return read_utf8(text, size, READ_INPUT, NULL);
+}
+
+struct varlena *
+vjson_try_input(const char *text, size_t size, VjsonRejection *why)
+{
+	return try_utf8(text, size, READ_INPUT, why);
 }
 
 
@@ -548,8 +599,8 @@ vjson_server_text(const VjsonParts *parts)
  * A value that was made can be written in the encoding of the database, or else
  * an error is raised, so that no row is kept that can't be shown or dumped.
  */
-static struct varlena *
-checked_for_output(struct varlena *value)
+struct varlena *
+vjson_checked_for_output(struct varlena *value)
 {
 	if (GetDatabaseEncoding() != PG_UTF8)
 	{
@@ -570,8 +621,11 @@ Datum
 vjson_in(PG_FUNCTION_ARGS)
 {
 	char	   *text = PG_GETARG_CSTRING(0);
+	struct varlena *value = read_value(text, strlen(text), READ_INPUT, fcinfo->context);
 
-	PG_RETURN_POINTER(checked_for_output(read_value(text, strlen(text), READ_INPUT)));
+	if (value == NULL)
+		PG_RETURN_NULL();
+	PG_RETURN_POINTER(vjson_checked_for_output(value));
 }
 
 Datum
@@ -592,7 +646,7 @@ vjson_recv(PG_FUNCTION_ARGS)
 	int			size;
 	char	   *text = pq_getmsgtext(buffer, buffer->len - buffer->cursor, &size);
 
-	PG_RETURN_POINTER(checked_for_output(read_value(text, size, READ_INPUT)));
+	PG_RETURN_POINTER(vjson_checked_for_output(read_value(text, size, READ_INPUT, NULL)));
 }
 
 Datum
@@ -615,7 +669,7 @@ vjson_extended(PG_FUNCTION_ARGS)
 {
 	text	   *words = PG_GETARG_TEXT_PP(0);
 
-	PG_RETURN_POINTER(checked_for_output(read_value(VARDATA_ANY(words), VARSIZE_ANY_EXHDR(words), READ_EXTENDED)));
+	PG_RETURN_POINTER(vjson_checked_for_output(read_value(VARDATA_ANY(words), VARSIZE_ANY_EXHDR(words), READ_EXTENDED, NULL)));
 }
 
 Datum
@@ -636,13 +690,14 @@ vjson_sort_key(PG_FUNCTION_ARGS)
  * The part at a path
  */
 
-vjson_noreturn static void
-raise_no_path(const char *path)
+/* Report that a text is no path, as report_rejection does. */
+static void
+report_no_path(Node *context, const char *path)
 {
-	ereport(ERROR,
-			(errcode(ERRCODE_INVALID_PARAMETER_VALUE),
-			 errmsg("invalid path: \"%s\"", path),
-			 errdetail("A path is empty or begins with \"/\", and each \"~\" in it is followed by 0 or 1.")));
+	vjson_report(context,
+				 (errcode(ERRCODE_INVALID_PARAMETER_VALUE),
+				  errmsg("invalid path: \"%s\"", path),
+				  errdetail("A path is empty or begins with \"/\", and each \"~\" in it is followed by 0 or 1.")));
 }
 
 /*
@@ -666,25 +721,89 @@ find_part(const unsigned char *key, size_t key_size, const char *path, size_t pa
 	return status;
 }
 
-/* A path is kept as a text, in the encoding of the database. The library tells by any key whether it is one. */
-static Datum
-make_path(const char *path, size_t size)
+/* The path of names as jsonb's functions take them. NULL if one is NULL and no error is raised. */
+static text *
+path_of_names(ArrayType *array, Node *context)
+{
+	StringInfoData path;
+	Datum	   *names;
+	bool	   *nulls;
+	int			count;
+
+	deconstruct_array(array, TEXTOID, -1, false, TYPALIGN_INT, &names, &nulls, &count);
+	initStringInfo(&path);
+	for (int i = 0; i < count; i++)
+	{
+		if (nulls[i])
+		{
+			vjson_report(context,
+						 (errcode(ERRCODE_NULL_VALUE_NOT_ALLOWED),
+						  errmsg("path element at position %d is null", i + 1)));
+			return NULL;
+		}
+		appendStringInfoChar(&path, '/');
+		for (const char *byte = TextDatumGetCString(names[i]); *byte != '\0'; byte++)
+		{
+			if (*byte == '~')
+				appendStringInfoString(&path, "~0");
+			else if (*byte == '/')
+				appendStringInfoString(&path, "~1");
+			else
+				appendStringInfoChar(&path, *byte);
+		}
+	}
+	return cstring_to_text_with_len(path.data, path.len);
+}
+
+/* The path of a text as jsonb's functions take it: an array of names, as '{a,0}'. */
+static text *
+path_of_array(char *words, Node *context)
+{
+	Datum		array;
+
+#if PG_VERSION_NUM >= 160000
+	FmgrInfo	function;
+
+	fmgr_info(F_ARRAY_IN, &function);
+	if (!InputFunctionCallSafe(&function, words, TEXTOID, -1, context, &array))
+		return NULL;
+#else
+	array = OidInputFunctionCall(F_ARRAY_IN, words, TEXTOID, -1);
+#endif
+	return path_of_names(DatumGetArrayTypeP(array), context);
+}
+
+/*
+ * A path is kept as a text, in the encoding of the database.  The library tells
+ * by any key whether it is one.  NULL if it isn't and no error is raised.
+ */
+static text *
+make_path(const char *path, size_t size, Node *context)
 {
 	static const unsigned char any_key[] = {0xD3};
-	char	   *utf8 = pg_server_to_any(path, (int) size, PG_UTF8);
+	char	   *utf8;
 	Range		part;
 
+	if (size > 0 && path[0] == '{')
+		return path_of_array(pnstrdup(path, size), context);
+	utf8 = pg_server_to_any(path, (int) size, PG_UTF8);
 	if (find_part(any_key, sizeof any_key, utf8, utf8 == path ? size : strlen(utf8), &part) == VIZHONIKU_NO_PATH)
-		raise_no_path(pnstrdup(path, size));
-	return PointerGetDatum(cstring_to_text_with_len(path, (int) size));
+	{
+		report_no_path(context, pnstrdup(path, size));
+		return NULL;
+	}
+	return cstring_to_text_with_len(path, (int) size);
 }
 
 Datum
 vjson_path_in(PG_FUNCTION_ARGS)
 {
 	char	   *path = PG_GETARG_CSTRING(0);
+	text	   *result = make_path(path, strlen(path), fcinfo->context);
 
-	PG_RETURN_DATUM(make_path(path, strlen(path)));
+	if (result == NULL)
+		PG_RETURN_NULL();
+	PG_RETURN_TEXT_P(result);
 }
 
 Datum
@@ -694,7 +813,7 @@ vjson_path_recv(PG_FUNCTION_ARGS)
 	int			size;
 	char	   *path = pq_getmsgtext(buffer, buffer->len - buffer->cursor, &size);
 
-	PG_RETURN_DATUM(make_path(path, size));
+	PG_RETURN_TEXT_P(make_path(path, size, NULL));
 }
 
 Datum
@@ -702,14 +821,22 @@ vjson_path_from_text(PG_FUNCTION_ARGS)
 {
 	text	   *path = PG_GETARG_TEXT_PP(0);
 
-	PG_RETURN_DATUM(make_path(VARDATA_ANY(path), VARSIZE_ANY_EXHDR(path)));
+	PG_RETURN_TEXT_P(make_path(VARDATA_ANY(path), VARSIZE_ANY_EXHDR(path), NULL));
+}
+
+Datum
+vjson_path_from_names(PG_FUNCTION_ARGS)
+{
+	PG_RETURN_TEXT_P(path_of_names(PG_GETARG_ARRAYTYPE_P(0), NULL));
 }
 
 /*
  * The part of a value at a path, or NULL.
  *
  * The key of a part is in that of the whole, and the zeros of its numbers are
- * among those of the whole, so nothing is read or written anew.
+ * among those of the whole, so nothing is read or written anew.  To the library
+ * a step with a minus sign is no index, as RFC 6901 has it; here it counts from
+ * the end, as in a path of what is changed.
  */
 static struct varlena *
 get_part(struct varlena *value, text *words)
@@ -718,6 +845,8 @@ get_part(struct varlena *value, text *words)
 	size_t		path_size = path == VARDATA_ANY(words) ? VARSIZE_ANY_EXHDR(words) : strlen(path);
 	VjsonParts	parts;
 	Range		part;
+	Range		whole;
+	Range		steps;
 
 	get_parts(value, false, &parts);
 	key_text_to_zeros(&parts);
@@ -725,8 +854,17 @@ get_part(struct varlena *value, text *words)
 	{
 		case VIZHONIKU_ACCEPTED:
 			return vjson_part(&parts, part);
+		case VIZHONIKU_NO_PART:
+			whole.at = parts.key;
+			whole.size = parts.key_size;
+			steps.at = (const unsigned char *) path;
+			steps.size = path_size;
+			if (memchr(path, '-', path_size) == NULL || !vjson_find_by_steps(whole, steps, &part))
+				return NULL;
+			return vjson_part(&parts, part);
 		case VIZHONIKU_NO_PATH:
-			raise_no_path(text_to_cstring(words));
+			report_no_path(NULL, text_to_cstring(words));
+			return NULL;
 		default:
 			return NULL;
 	}
@@ -773,7 +911,7 @@ vjson_from_json(PG_FUNCTION_ARGS)
 {
 	text	   *json = PG_GETARG_TEXT_PP(0);
 
-	PG_RETURN_POINTER(checked_for_output(read_value(VARDATA_ANY(json), VARSIZE_ANY_EXHDR(json), READ_EXTENDED)));
+	PG_RETURN_POINTER(vjson_checked_for_output(read_value(VARDATA_ANY(json), VARSIZE_ANY_EXHDR(json), READ_EXTENDED, NULL)));
 }
 
 Datum
@@ -781,10 +919,10 @@ vjson_from_jsonb(PG_FUNCTION_ARGS)
 {
 	Jsonb	   *jsonb = PG_GETARG_JSONB_P(0);
 	char	   *text = JsonbToCString(NULL, &jsonb->root, VARSIZE(jsonb));
-	struct varlena *value = read_value(text, strlen(text), READ_EXTENDED);
+	struct varlena *value = read_value(text, strlen(text), READ_EXTENDED, NULL);
 
 	pfree(text);
-	PG_RETURN_POINTER(checked_for_output(value));
+	PG_RETURN_POINTER(vjson_checked_for_output(value));
 }
 
 static char *

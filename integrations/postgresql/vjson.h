@@ -8,6 +8,8 @@
 #ifndef VJSON_H
 #define VJSON_H
 
+#include <vizhoniku.h>
+
 #if PG_VERSION_NUM < 150000
 #error "this extension is for PostgreSQL 15 and later"
 #endif
@@ -21,6 +23,20 @@
 #define vjson_noreturn pg_noreturn
 #else
 #define vjson_noreturn pg_attribute_noreturn()
+#endif
+
+/*
+ * Report an error in the way that the caller of a function asked for by its
+ * context: from version 16 on that may be without raising it.
+ */
+#if PG_VERSION_NUM >= 160000
+#define vjson_report(context, ...) errsave(context, __VA_ARGS__)
+#else
+#define vjson_report(context, ...) \
+	do { \
+		(void) (context); \
+		ereport(ERROR, __VA_ARGS__); \
+	} while (0)
 #endif
 
 #define KEY_ALONE		0
@@ -47,12 +63,56 @@ typedef struct
 	size_t		size;
 } Range;
 
+/* Why a text was rejected: what the library says of it, and that in words. */
+typedef struct
+{
+	const char *words;
+	struct vizhoniku_refusal refusal;
+} VjsonRejection;
+
+/* The place of that: the offset of a byte, and what of its line is shown. */
+typedef struct
+{
+	size_t		index;
+	size_t		line;
+	size_t		column;			/* in characters */
+	char	   *shown;
+} VjsonPlace;
+
+extern void vjson_locate(const char *text, size_t size, const VjsonRejection *why, VjsonPlace *place);
+
+/* A step of a subscript: a name, or an index in digits. */
+typedef struct
+{
+	char	   *words;			/* in the encoding of the database, for messages */
+	Range		name;			/* in UTF-8 */
+	bool		is_integer;		/* whether it was an integer */
+} VjsonStep;
+
+/* The part of an array or an object to which the step leads. False if there is none. */
+extern bool vjson_take_step(Range key, const VjsonStep *step, Range *part);
+
+/* The part at a path, in which an index may count from the end. False if there is none. */
+extern bool vjson_find_by_steps(Range key, Range path, Range *part);
+
+/* The document with the part at the steps, as an assignment to subscripts of a jsonb makes it. */
+extern Datum vjson_assign(Datum document, const VjsonStep *steps, int count, Datum part);
+
 vjson_noreturn extern void vjson_raise_corrupted(void);
 vjson_noreturn extern void vjson_raise_out_of_memory(size_t size);
 vjson_noreturn extern void vjson_raise_unexpected(uint32 status);
 
 /* The value of a text in UTF-8, which is JSON but for numbers that aren't carried. */
 extern struct varlena *vjson_of_text(const char *text, size_t size);
+
+/* The value of a text in UTF-8, as input is read. */
+extern struct varlena *vjson_of_input(const char *text, size_t size);
+
+/* That, but NULL if the text is rejected, and then *why says why. */
+extern struct varlena *vjson_try_input(const char *text, size_t size, VjsonRejection *why);
+
+/* The value, which is one that can be written in the encoding of the database; else an error is raised. */
+extern struct varlena *vjson_checked_for_output(struct varlena *value);
 
 /* The written text in UTF-8, with a zero byte at its end. */
 extern char *vjson_text(const VjsonParts *parts, size_t *size);

@@ -25,6 +25,13 @@ SELECT path, doc #> path AS part, doc #>> path AS text
   FROM (SELECT '{"a":{"b":[1,2.50,{"c":null}]}, "x/y":{"m~n":"q"}, "":4}'::vjson AS doc) d, (VALUES (1, ''),
     (2, '/a/b/1'), (3, '/a/b/2'), (4, '/a/b/2/c'), (5, '/x~1y/m~0n'), (6, '/'), (7, '/a/b/3'), (8, '/a/b/01'),
     (9, '/a/b/-'), (10, '/a/b/-1'), (11, '/a/b/1/x'), (12, '/b')) p(n, path) ORDER BY n;
+SELECT v, names, v #> names FROM documents, paths
+  WHERE (v #> names)::jsonb::text IS DISTINCT FROM (j #> names)::text OR v #> names IS DISTINCT FROM v #> names::text;
+SELECT doc #> '{a,b,1}' AS literal, doc #> ARRAY['a', 'b', '-1'] AS last, doc #>> '{x/y,m~n}' AS text, doc #- '{a,b}' AS without,
+  vjson_set(doc, '{a,b,0}', '7.0') AS set, doc #> '{}' = doc AS whole
+  FROM (SELECT '{"a":{"b":[1,2.50]}, "x/y":{"m~n":"q"}}'::vjson AS doc) d;
+SELECT '{a,"b/c~,"}'::vjson_path, ARRAY['x', '']::vjson_path;
+SELECT '1'::vjson #> '{a,NULL}';
 SELECT '1'::vjson #> 'a';
 SELECT vjson_get('{"a":1.0}', '/a'), vjson_get_text('{"a":"x"}', '/a');
 

@@ -1,0 +1,360 @@
+/*-------------------------------------------------------------------------
+ *
+ * rejected.c
+ *	  What is told of texts that are no documents, and texts whose numbers are
+ *	  rounded so that they become ones: for those who bring a table of json,
+ *	  jsonb or text to vjson.
+ *
+ *-------------------------------------------------------------------------
+ */
+#include "postgres.h"
+
+#include "access/htup_details.h"
+#include "fmgr.h"
+#include "funcapi.h"
+#include "lib/stringinfo.h"
+#include "mb/pg_wchar.h"
+#include "miscadmin.h"
+#include "utils/builtins.h"
+#include "utils/jsonb.h"
+#include "utils/numeric.h"
+
+#include "key_walk.h"
+#include "vjson.h"
+
+/* The most digits that a number has. */
+#define MOST_DIGITS		38
+
+/* The most arrays and objects that are open at once. */
+#define MAX_LEVELS		512
+
+/* The columns of what is told. */
+#define COLUMNS			5
+
+PG_FUNCTION_INFO_V1(vjson_error);
+PG_FUNCTION_INFO_V1(vjson_error_of_jsonb);
+PG_FUNCTION_INFO_V1(vjson_rounded);
+
+
+/*
+ * Where in a document a place is
+ */
+
+/* An array or an object that is open at the place. */
+typedef struct
+{
+	bool		is_object;
+	int64		index;			/* of the item that begins next, or that has begun */
+	Range		name;			/* of the member, with its quotes; of size 0 before one */
+} Level;
+
+/* Behind the string that begins here, or the end of the text. */
+static size_t
+behind_string(const char *text, size_t size, size_t at)
+{
+	for (at++; at < size && text[at] != '"'; at++)
+	{
+		if (text[at] == '\\')
+			at++;
+	}
+	return Min(at + 1, size);
+}
+
+/* Append the name as a step of a path. False if it can't be shown in a text. */
+static bool
+append_step(StringInfo path, Range quoted)
+{
+	unsigned char *key = palloc(2 * quoted.size + 16);
+	unsigned char *name = palloc(2 * quoted.size + 16);
+	size_t		size;
+	struct vizhoniku_refusal refusal;
+
+	if (vizhoniku_sort_key(VIZHONIKU_STANDARD, quoted.at, quoted.size, key, 2 * quoted.size + 16, &size,
+						   &refusal) != VIZHONIKU_ACCEPTED ||
+		vizhoniku_key_string(key, size, name, 2 * quoted.size + 16, &size) != VIZHONIKU_ACCEPTED ||
+		memchr(name, 0, size) != NULL)
+		return false;
+	appendStringInfoChar(path, '/');
+	for (size_t i = 0; i < size; i++)
+	{
+		if (name[i] == '~')
+			appendStringInfoString(path, "~0");
+		else if (name[i] == '/')
+			appendStringInfoString(path, "~1");
+		else
+			appendStringInfoChar(path, (char) name[i]);
+	}
+	pfree(key);
+	pfree(name);
+	return true;
+}
+
+/*
+ * The path of the innermost item or member that begins at the byte or before
+ * it.  NULL if it can't be shown.  Up to the byte the text is a document's.
+ */
+static char *
+path_of_place(const char *text, size_t size, size_t place)
+{
+	Level	   *levels = palloc((MAX_LEVELS + 1) * sizeof(Level));
+	int			open = 0;
+	StringInfoData path;
+
+	for (size_t at = 0; at < size && at <= place;)
+	{
+		Level	   *level = open > 0 ? &levels[open - 1] : NULL;
+		size_t		next = at + 1;
+
+		switch (text[at])
+		{
+			case '"':
+				next = behind_string(text, size, at);
+				if (level != NULL && level->is_object && level->name.size == 0 && next <= place + 1)
+				{
+					level->name.at = (const unsigned char *) text + at;
+					level->name.size = next - at;
+				}
+				break;
+			case '{':
+			case '[':
+				if (at == place)
+					break;
+				if (open > MAX_LEVELS)
+					return NULL;
+				levels[open].is_object = text[at] == '{';
+				levels[open].index = 0;
+				levels[open].name.size = 0;
+				open++;
+				break;
+			case '}':
+			case ']':
+				if (open > 0)
+					open--;
+				break;
+			case ',':
+				if (level != NULL)
+				{
+					level->index++;
+					level->name.size = 0;
+				}
+				break;
+		}
+		at = next;
+	}
+
+	initStringInfo(&path);
+	for (int i = 0; i < open; i++)
+	{
+		if (!levels[i].is_object)
+			appendStringInfo(&path, "/" INT64_FORMAT, levels[i].index);
+		else if (levels[i].name.size == 0)
+			break;
+		else if (!append_step(&path, levels[i].name))
+			return NULL;
+	}
+	pfree(levels);
+	return path.data;
+}
+
+
+/*
+ * Rounding
+ */
+
+static bool
+is_carried(const char *number, size_t size)
+{
+	struct vizhoniku_refusal refusal;
+
+	return vizhoniku_check(VIZHONIKU_EXTENDED, (const unsigned char *) number, size, &refusal) == VIZHONIKU_ACCEPTED;
+}
+
+static char *
+text_of_numeric(Datum numeric)
+{
+	return DatumGetCString(DirectFunctionCall1(numeric_out, numeric));
+}
+
+/* How many digits stand before the point, without the zeros at their front. */
+static int
+whole_digits(const char *number)
+{
+	number += strspn(number, "-0");
+	return (int) strspn(number, "0123456789");
+}
+
+/*
+ * Append a number of JSON: as it is where it is representable, without its
+ * exponent where that is enough, and else rounded to the most decimals that are
+ * representable.  One with more than 38 digits before the point stays as it
+ * is, and is rejected.
+ */
+static void
+append_rounded(StringInfo out, const char *number, size_t size)
+{
+	Datum		exact;
+	char	   *words;
+
+	if (is_carried(number, size))
+	{
+		appendBinaryStringInfo(out, number, (int) size);
+		return;
+	}
+	exact = DirectFunctionCall3(numeric_in, CStringGetDatum(pnstrdup(number, size)), ObjectIdGetDatum(InvalidOid),
+								Int32GetDatum(-1));
+	words = text_of_numeric(exact);
+	for (int decimals = MOST_DIGITS - whole_digits(words); decimals >= 0 && !is_carried(words, strlen(words));
+		 decimals--)
+		words = text_of_numeric(DirectFunctionCall1(numeric_trim_scale,
+			DirectFunctionCall2(numeric_round, exact, Int32GetDatum(decimals))));
+	if (is_carried(words, strlen(words)))
+		appendStringInfoString(out, words);
+	else
+		appendBinaryStringInfo(out, number, (int) size);
+}
+
+static bool
+is_of_number(char byte)
+{
+	return (byte >= '0' && byte <= '9') || byte == '-' || byte == '+' || byte == '.' || byte == 'e' || byte == 'E';
+}
+
+/* The text with its numbers rounded. */
+static StringInfoData
+rounded_text(const char *text, size_t size)
+{
+	StringInfoData rounded;
+	size_t		next;
+
+	initStringInfo(&rounded);
+	for (size_t at = 0; at < size; at = next)
+	{
+		CHECK_FOR_INTERRUPTS();
+		next = at + 1;
+		if (text[at] == '"')
+			next = behind_string(text, size, at);
+		else if (text[at] == '-' || (text[at] >= '0' && text[at] <= '9'))
+		{
+			while (next < size && is_of_number(text[next]))
+				next++;
+			append_rounded(&rounded, text + at, next - at);
+			continue;
+		}
+		appendBinaryStringInfo(&rounded, text + at, (int) (next - at));
+	}
+	return rounded;
+}
+
+/*
+ * Read a text, whose numbers are rounded where one isn't representable and that
+ * is asked for.  What *text is then is what was read.  NULL if it is rejected,
+ * and then *why says why.
+ */
+static struct varlena *
+try_text(Range *text, bool is_rounded, VjsonRejection *why)
+{
+	struct varlena *value = vjson_try_input((const char *) text->at, text->size, why);
+	StringInfoData rounded;
+
+	if (value != NULL || !is_rounded || why->refusal.code != VIZHONIKU_NUMBER_NOT_CARRIED)
+		return value;
+	rounded = rounded_text((const char *) text->at, text->size);
+	text->at = (const unsigned char *) rounded.data;
+	text->size = rounded.len;
+	return vjson_try_input(rounded.data, rounded.len, why);
+}
+
+/*
+ * The document of a text whose numbers may have exponents and any number of
+ * digits.  What else is wrong with the text is told as of input.
+ */
+Datum
+vjson_rounded(PG_FUNCTION_ARGS)
+{
+	Range		input = utf8_of(PG_GETARG_TEXT_PP(0));
+	VjsonRejection why;
+	struct varlena *value = try_text(&input, true, &why);
+
+	if (value == NULL)
+		value = vjson_of_input((const char *) input.at, input.size);	/* raises the error */
+	PG_RETURN_POINTER(vjson_checked_for_output(value));
+}
+
+
+/*
+ * Why a text is rejected
+ */
+
+/* Words in UTF-8 in the encoding of the database. NULL if they can't be converted. */
+static char *
+server_words(char *words)
+{
+	if (GetDatabaseEncoding() == PG_UTF8)
+		return words;
+	for (const char *byte = words; *byte != '\0'; byte++)
+	{
+		if ((unsigned char) *byte >= 0x80)
+			return NULL;
+	}
+	return words;
+}
+
+/* Why the text is rejected, or the text with its numbers rounded where that is asked for. */
+static Datum
+tell_rejection(FunctionCallInfo fcinfo, Range input)
+{
+	TupleDesc	columns;
+	Datum		values[COLUMNS] = {0};
+	bool		nulls[COLUMNS] = {true, true, true, true, true};
+	VjsonRejection why;
+	VjsonPlace	place;
+	struct varlena *value = try_text(&input, PG_GETARG_BOOL(1), &why);
+	const char *text = (const char *) input.at;
+
+	if (get_call_result_type(fcinfo, NULL, &columns) != TYPEFUNC_COMPOSITE)
+		elog(ERROR, "return type must be a row type");
+	if (value == NULL)
+	{
+		char	   *words = pstrdup(why.words);
+		char	   *position = strstr(words, ", pos ");
+		char	   *path;
+
+		/* The words are the same for each text with the fault, and so without the position in them. */
+		while (position != NULL && strspn(position + 6, "0123456789") < strlen(position + 6))
+			position = strstr(position + 1, ", pos ");
+		if (position != NULL)
+			*position = '\0';
+		vjson_locate(text, input.size, &why, &place);
+		path = path_of_place(text, input.size, place.index);
+		if (path != NULL)
+			path = server_words(path);
+		values[0] = CStringGetTextDatum(words);
+		values[2] = Int32GetDatum((int32) place.line);
+		values[3] = Int32GetDatum((int32) place.column);
+		values[4] = CStringGetTextDatum(place.shown);
+		nulls[0] = nulls[2] = nulls[3] = nulls[4] = false;
+		if (path != NULL)
+		{
+			values[1] = CStringGetTextDatum(path);
+			nulls[1] = false;
+		}
+	}
+	PG_RETURN_DATUM(HeapTupleGetDatum(heap_form_tuple(BlessTupleDesc(columns), values, nulls)));
+}
+
+Datum
+vjson_error(PG_FUNCTION_ARGS)
+{
+	return tell_rejection(fcinfo, utf8_of(PG_GETARG_TEXT_PP(0)));
+}
+
+Datum
+vjson_error_of_jsonb(PG_FUNCTION_ARGS)
+{
+	Jsonb	   *jsonb = PG_GETARG_JSONB_P(0);
+	char	   *words = JsonbToCString(NULL, &jsonb->root, VARSIZE(jsonb));
+	char	   *text = pg_server_to_any(words, (int) strlen(words), PG_UTF8);
+	Range		input = {(const unsigned char *) text, strlen(text)};
+
+	return tell_rejection(fcinfo, input);
+}

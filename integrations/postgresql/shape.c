@@ -1,0 +1,185 @@
+/*-------------------------------------------------------------------------
+ *
+ * shape.c
+ *	  Documents in another shape, made of their texts: indented, and without
+ *	  members that are null.
+ *
+ * The names, the arguments and the NULLs of the functions are those of jsonb.
+ * The text of a value is the library's, without whitespace, so that each byte
+ * outside of strings is of a number or a word, or structure.
+ *
+ *-------------------------------------------------------------------------
+ */
+#include "postgres.h"
+
+#include "fmgr.h"
+#include "lib/stringinfo.h"
+#include "mb/pg_wchar.h"
+#include "miscadmin.h"
+#include "utils/builtins.h"
+#include "utils/memutils.h"
+
+#include "key_walk.h"
+#include "vjson.h"
+
+/* Spaces before a line, for each array or object that it is in. */
+#define INDENT			4
+
+/* The most arrays and objects that are open at once. */
+#define MAX_LEVELS		512
+
+PG_FUNCTION_INFO_V1(vjson_pretty);
+PG_FUNCTION_INFO_V1(vjson_strip_nulls);
+
+/* The text of a document, in UTF-8. */
+static const char *
+get_text(Datum datum, size_t *size)
+{
+	VjsonParts	parts;
+
+	get_parts((struct varlena *) PG_DETOAST_DATUM_PACKED(datum), false, &parts);
+	return vjson_text(&parts, size);
+}
+
+/* Behind the string that begins here. */
+static size_t
+behind_string(const char *text, size_t at)
+{
+	for (at++; text[at] != '"' && text[at] != '\0'; at++)
+	{
+		if (text[at] == '\\' && text[at + 1] != '\0')
+			at++;
+	}
+	return text[at] == '"' ? at + 1 : at;
+}
+
+/* Behind what begins here: a string, a number or a word, or one byte of structure. */
+static size_t
+behind_token(const char *text, size_t at)
+{
+	if (text[at] == '"')
+		return behind_string(text, at);
+	if (strchr("{}[],:", text[at]) != NULL)
+		return at + 1;
+	return at + strcspn(text + at, "{}[],:\"");
+}
+
+
+/*
+ * Indented
+ */
+
+static void
+append_line(StringInfo out, int levels)
+{
+	appendStringInfoChar(out, '\n');
+	appendStringInfoSpaces(out, levels * INDENT);
+}
+
+Datum
+vjson_pretty(PG_FUNCTION_ARGS)
+{
+	size_t		size;
+	const char *text = get_text(PG_GETARG_DATUM(0), &size);
+	StringInfoData out;
+	int			levels = 0;
+	size_t		next;
+
+	initStringInfo(&out);
+	for (size_t at = 0; at < size; at = next)
+	{
+		next = behind_token(text, at);
+		CHECK_FOR_INTERRUPTS();
+		if (text[at] == '}' || text[at] == ']')
+			append_line(&out, levels = Max(levels - 1, 0));
+		appendBinaryStringInfo(&out, text + at, (int) (next - at));
+		if (text[at] == ':')
+			appendStringInfoChar(&out, ' ');
+		else if (text[at] == ',')
+			append_line(&out, levels);
+		else if (text[at] == '{' || text[at] == '[')
+		{
+			levels++;
+			if (text[next] != '}' && text[next] != ']')
+				append_line(&out, levels);
+		}
+	}
+	PG_RETURN_TEXT_P(cstring_to_text(pg_any_to_server(out.data, out.len, PG_UTF8)));
+}
+
+
+/*
+ * Without nulls
+ */
+
+/* Whether null stands here, as a whole value. */
+static inline bool
+is_null_at(const char *text, size_t at)
+{
+	return strncmp(text + at, "null", 4) == 0;
+}
+
+Datum
+vjson_strip_nulls(PG_FUNCTION_ARGS)
+{
+	bool		in_arrays = PG_GETARG_BOOL(1);
+	size_t		size;
+	const char *text = get_text(PG_GETARG_DATUM(0), &size);
+	bool		is_object[MAX_LEVELS + 1];
+	bool		is_first[MAX_LEVELS + 1];
+	int			levels = 0;
+	StringInfoData out;
+	size_t		next;
+
+	initStringInfo(&out);
+	is_object[0] = false;
+	is_first[0] = true;
+	for (size_t at = 0; at < size; at = next)
+	{
+		next = behind_token(text, at);
+		CHECK_FOR_INTERRUPTS();
+		if (text[at] == ',')
+			continue;			/* one is put before each that stays, but the first */
+		if (text[at] == '}' || text[at] == ']')
+		{
+			levels = Max(levels - 1, 0);
+			appendStringInfoChar(&out, text[at]);
+			continue;
+		}
+		if (is_object[levels] && text[at] == '"')
+		{
+			/* A member: its name and the colon are put with what comes next. */
+			if (text[next] != ':')
+				vjson_raise_corrupted();
+			if (is_null_at(text, next + 1))
+			{
+				next += 5;
+				continue;
+			}
+			if (!is_first[levels])
+				appendStringInfoChar(&out, ',');
+			is_first[levels] = false;
+			next++;
+			appendBinaryStringInfo(&out, text + at, (int) (next - at));
+			at = next;
+			next = behind_token(text, at);
+		}
+		else
+		{
+			if (in_arrays && levels > 0 && is_null_at(text, at))
+				continue;
+			if (!is_first[levels])
+				appendStringInfoChar(&out, ',');
+			is_first[levels] = false;
+		}
+		appendBinaryStringInfo(&out, text + at, (int) (next - at));
+		if (text[at] == '{' || text[at] == '[')
+		{
+			if (++levels > MAX_LEVELS)
+				vjson_raise_corrupted();
+			is_object[levels] = text[at] == '{';
+			is_first[levels] = true;
+		}
+	}
+	PG_RETURN_POINTER(vjson_of_text(out.data, out.len));
+}
