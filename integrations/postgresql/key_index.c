@@ -75,8 +75,8 @@ add_entries(Entries *entries, uint64 path, Range key)
 }
 
 /* The entries of a document.  Those that come twice are the server's to drop. */
-static Datum *
-entries_of(Datum document, int32 *count)
+Datum *
+vjson_entries(Datum document, int32 *count)
 {
 	VjsonParts	parts;
 	Entries		entries = {palloc(FIRST_ROOM * sizeof(Datum)), 0, FIRST_ROOM};
@@ -91,7 +91,7 @@ gin_extract_vjson_path(PG_FUNCTION_ARGS)
 {
 	int32	   *count = (int32 *) PG_GETARG_POINTER(1);
 
-	PG_RETURN_POINTER(entries_of(PG_GETARG_DATUM(0), count));
+	PG_RETURN_POINTER(vjson_entries(PG_GETARG_DATUM(0), count));
 }
 
 Datum
@@ -99,7 +99,7 @@ gin_extract_vjson_query_path(PG_FUNCTION_ARGS)
 {
 	int32	   *count = (int32 *) PG_GETARG_POINTER(1);
 	int32	   *search_mode = (int32 *) PG_GETARG_POINTER(6);
-	Datum	   *entries = entries_of(PG_GETARG_DATUM(0), count);
+	Datum	   *entries = vjson_entries(PG_GETARG_DATUM(0), count);
 
 	if (*count == 0)
 		*search_mode = GIN_SEARCH_MODE_ALL;

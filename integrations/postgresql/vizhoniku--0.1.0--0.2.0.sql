@@ -189,6 +189,24 @@ CREATE OPERATOR CLASS vjson_path_ops DEFAULT FOR TYPE vjson USING gin FAMILY vjs
   STORAGE integer;
 COMMENT ON OPERATOR CLASS vjson_path_ops USING gin IS 'documents by their scalars and the names before them';
 
+-- Statistics: which entries are in many documents, and what the planner expects by that
+
+CREATE FUNCTION vjson_typanalyze(internal) RETURNS boolean
+  AS 'MODULE_PATHNAME' LANGUAGE C STABLE STRICT PARALLEL SAFE;
+COMMENT ON FUNCTION vjson_typanalyze(internal) IS 'vjson typanalyze';
+
+ALTER TYPE vjson SET (ANALYZE = vjson_typanalyze);
+
+CREATE FUNCTION vjson_matchingsel(internal, oid, internal, integer) RETURNS double precision
+  AS 'MODULE_PATHNAME' LANGUAGE C STABLE STRICT PARALLEL SAFE;
+COMMENT ON FUNCTION vjson_matchingsel(internal, oid, internal, integer) IS 'restriction selectivity of vjson operators';
+
+ALTER OPERATOR ? (vjson, text) SET (RESTRICT = vjson_matchingsel);
+ALTER OPERATOR ?| (vjson, text[]) SET (RESTRICT = vjson_matchingsel);
+ALTER OPERATOR ?& (vjson, text[]) SET (RESTRICT = vjson_matchingsel);
+ALTER OPERATOR @> (vjson, vjson) SET (RESTRICT = vjson_matchingsel);
+ALTER OPERATOR <@ (vjson, vjson) SET (RESTRICT = vjson_matchingsel);
+
 -- Documents of values of SQL. They are as stable as the output functions of types are.
 
 CREATE FUNCTION to_vjson(anyelement) RETURNS vjson

@@ -92,6 +92,9 @@ typedef struct
 /* The part of an array or an object to which the step leads. False if there is none. */
 extern bool vjson_take_step(Range key, const VjsonStep *step, Range *part);
 
+/* The entries of a document in a GIN index: hashes of its scalars and of the names that lead to them. */
+extern Datum *vjson_entries(Datum document, int32 *count);
+
 /* The part at a path, in which an index may count from the end. False if there is none. */
 extern bool vjson_find_by_steps(Range key, Range path, Range *part);
 
