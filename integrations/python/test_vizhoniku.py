@@ -20,6 +20,7 @@ import sys
 import tempfile
 import threading
 import time
+import tracemalloc
 import unittest
 import unittest.mock
 from typing import Any, Callable, Dict, List, Tuple
@@ -174,7 +175,8 @@ class Calls(unittest.TestCase):
         self.assertEqual([place[text] for text in by_key], sorted(place.values()))
 
     def test_text_and_key(self) -> None:
-        for text in [line[-1] for line in IN_ORDER] + ['"' + "\x01" * 1000 + '"', "[" + "," * 1000 + "]"]:
+        longer = ['"' + "\x01" * 1000 + '"', '"' + "\0" * 1000 + '"', "[" + "," * 1000 + "]"]
+        for text in [line[-1] for line in IN_ORDER] + longer:
             self.assertEqual(v.text_and_key(text), (v.text(text), v.sort_key(text)))
 
     def test_get(self) -> None:
@@ -417,6 +419,8 @@ class Keys(unittest.TestCase):
         key = v.Key(json.dumps([{"n": n} for n in range(20000)]))
         self.assertEqual(sum(int(part["n"].text()) for part in key), 199990000)
         self.assertEqual(v.Key.from_bytes(bytes(key)), key)
+        for data in (bytes(key)[:-1], bytes(key) + b"\0"):
+            self.assertRaises(ValueError, v.Key.from_bytes, data)
 
     def test_parts_outlive_the_whole(self) -> None:
         parts = iter(v.Key("[1, [2, 'x'], {a: 3}]"))
@@ -517,7 +521,7 @@ class Both(unittest.TestCase):
         held = [sys.getrefcount(one) for one in (text, path, key, v.Key, v.EXTENDED, v.STANDARD, None)]
         for _ in range(3000):
             v.text(text), v.sort_key(text, v.STANDARD), v.get(text, path), v.compare(text, text), v.text_and_key(text)
-            key.text(), key.get("/a"), key.get("/c"), key["a"][0], list(key.items()), list(key["a"]), len(key)
+            v.get(text, "/400"), key.text(), key.get("/a"), key.get("/c"), key["a"][0], list(key.items()), list(key["a"]), len(key)
             "a" in key, hash(key), key == key, repr(key), v.Key.from_bytes(bytes(key)), key.kind, v.Key(text)
             iter(key), key.items()
             for wrong in wrongs:
@@ -527,6 +531,28 @@ class Both(unittest.TestCase):
                     pass
         now = [sys.getrefcount(one) for one in (text, path, key, v.Key, v.EXTENDED, v.STANDARD, None)]
         self.assertLess(max(abs(one - two) for one, two in zip(held, now)), 100)
+
+    def test_memory_is_given_back(self) -> None:
+        """Calls with longer texts than those that are written to the stack keep none of the memory that they take."""
+        text, zeros = "[%s]" % ",".join("1" * 4000), '"' + "\0" * 4000 + '"'
+        key = v.Key(text)
+
+        def calls() -> None:
+            copied = bytearray(text, "ascii")
+            v.check(copied), v.text(copied), v.sort_key(copied), v.text_and_key(zeros), v.get(copied, "")
+            v.compare(copied, text), key.text(), v.Key.from_bytes(bytearray(bytes(key))), repr(key)
+            list(v.Key('{"%s":1}' % ("x" * 4000)).items())
+            self.assertRaises(v.RejectedText, v.check, '{"%s":1,"%s":1}' % ("x" * 4000, "x" * 4000))
+
+        tracemalloc.start()
+        try:
+            calls()
+            before = tracemalloc.get_traced_memory()[0]
+            for _ in range(20):
+                calls()
+            self.assertLess(tracemalloc.get_traced_memory()[0] - before, 8000)
+        finally:
+            tracemalloc.stop()
 
 
 class InAnInterpreter(unittest.TestCase):
