@@ -309,7 +309,6 @@ tell_rejection(FunctionCallInfo fcinfo, Range input)
 	VjsonRejection why;
 	VjsonPlace	place;
 	struct varlena *value = try_text(&input, PG_GETARG_BOOL(1), &why);
-	const char *text = (const char *) input.at;
 
 	if (get_call_result_type(fcinfo, NULL, &columns) != TYPEFUNC_COMPOSITE)
 		elog(ERROR, "return type must be a row type");
@@ -324,8 +323,8 @@ tell_rejection(FunctionCallInfo fcinfo, Range input)
 			position = strstr(position + 1, ", pos ");
 		if (position != NULL)
 			*position = '\0';
-		vjson_locate(text, input.size, &why, &place);
-		path = path_of_place(text, input.size, place.index);
+		vjson_locate(&why, &place);
+		path = path_of_place(why.text, why.size, place.index);
 		if (path != NULL)
 			path = server_words(path);
 		values[0] = CStringGetTextDatum(words);

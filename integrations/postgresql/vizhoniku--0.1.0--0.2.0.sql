@@ -367,7 +367,7 @@ COMMENT ON FUNCTION vjson_error(jsonb, boolean) IS 'why a jsonb is rejected, and
 
 CREATE FUNCTION vjson_rounded(text) RETURNS vjson
   AS 'MODULE_PATHNAME' LANGUAGE C IMMUTABLE STRICT PARALLEL SAFE COST 10;
-COMMENT ON FUNCTION vjson_rounded(text) IS 'reads a text whose numbers may have exponents, and rounds them';
+COMMENT ON FUNCTION vjson_rounded(text) IS 'reads a text whose numbers may have more than 38 digits, and rounds them';
 
 -- Subscripts
 

@@ -77,7 +77,8 @@ PG_MODULE_MAGIC;
 /* How a text is read. */
 typedef enum
 {
-	READ_INPUT,					/* standard mode, and decimals in JSON */
+	READ_INPUT,					/* standard mode, and decimals and exponents in JSON */
+	READ_JSON,					/* JSON of the server: extended mode, and exponents */
 	READ_EXTENDED				/* extended mode */
 } ReadAs;
 
@@ -219,33 +220,33 @@ column_in_characters(const char *text, size_t size, const struct vizhoniku_locat
 }
 
 void
-vjson_locate(const char *text, size_t size, const VjsonRejection *why, VjsonPlace *place)
+vjson_locate(const VjsonRejection *why, VjsonPlace *place)
 {
 	struct vizhoniku_location location;
 
-	vizhoniku_place((const unsigned char *) text, size, &why->refusal, &location);
+	vizhoniku_place((const unsigned char *) why->text, why->size, &why->refusal, &location);
 	place->index = location.index;
 	place->line = location.line;
-	place->column = column_in_characters(text, size, &location);
-	place->shown = shown_line(text, size, &location);
+	place->column = column_in_characters(why->text, why->size, &location);
+	place->shown = shown_line(why->text, why->size, &location);
 }
 
 /*
- * Report why the text was rejected.  This raises an error, unless the caller of
+ * Report why a text was rejected.  This raises an error, unless the caller of
  * the function asked by its context for errors that it goes on after.
  */
 static void
-report_rejection(Node *context, const char *text, size_t size, const VjsonRejection *why)
+report_rejection(Node *context, const VjsonRejection *why)
 {
 	VjsonPlace	place;
 
-	vjson_locate(text, size, why, &place);
+	vjson_locate(why, &place);
 	vjson_report(context,
 				 (errcode(ERRCODE_INVALID_TEXT_REPRESENTATION),
 				  errmsg("invalid input syntax for type %s", "vjson"),
 				  errdetail_internal("%s (line %zu, column %zu)", why->words, place.line, place.column),
 				  why->refusal.code == VIZHONIKU_NUMBER_NOT_CARRIED ?
-				  errhint("Numbers are integers and decimals of at most 38 digits, with no exponent.") : 0,
+				  errhint("Numbers are integers and decimals of at most 38 digits, where an exponent is written out.") : 0,
 				  errcontext("vjson text, line %zu: %s", place.line, place.shown)));
 }
 
@@ -462,20 +463,52 @@ is_json(const char *text, size_t size, VjsonRejection *why)
 }
 
 /*
+ * Write out the numbers of a text that have an exponent.  Answers the status of
+ * the library; *plain is set where it is VIZHONIKU_ACCEPTED.
+ */
+static uint32
+write_plain_numbers(const char *text, size_t size, char **plain, size_t *plain_size,
+					struct vizhoniku_refusal *refusal)
+{
+	size_t		room = size + SPARE_ROOM;
+
+	for (;;)
+	{
+		char	   *written = palloc_extended(room, MCXT_ALLOC_HUGE);
+		uint32		status = vizhoniku_plain_numbers((const unsigned char *) text, size,
+													 (unsigned char *) written, room, plain_size, refusal);
+
+		if (status == VIZHONIKU_ACCEPTED)
+		{
+			*plain = written;
+			return status;
+		}
+		pfree(written);
+		if (status != VIZHONIKU_TOO_SHORT)
+			return status;
+		room = *plain_size;
+	}
+}
+
+/*
  * Read a text in UTF-8.  NULL if it is rejected, and then *why says why.
  *
  * Input is of standard mode.  Extended mode has more numbers, which must be
  * read back where their text was dumped; so a text whose fault in standard
  * mode is a number that isn't carried is also read where it is JSON and
- * extended mode carries all of its numbers.
+ * extended mode carries all of its numbers.  No mode has numbers with an
+ * exponent: those of JSON are written out first, as jsonb does, and what else is
+ * wrong is then told of the text that was written.
  */
 static struct varlena *
 try_utf8(const char *text, size_t size, ReadAs as, VjsonRejection *why)
 {
-	uint32		mode = as == READ_EXTENDED ? VIZHONIKU_EXTENDED : VIZHONIKU_STANDARD;
+	uint32		mode = as == READ_INPUT ? VIZHONIKU_STANDARD : VIZHONIKU_EXTENDED;
 	struct varlena *value = NULL;
 	uint32		status = make_value(mode, text, size, &value, &why->refusal);
 
+	why->text = text;
+	why->size = size;
 	if (status == VIZHONIKU_REFUSED && as == READ_INPUT && why->refusal.code == VIZHONIKU_NUMBER_NOT_CARRIED)
 	{
 		if (!is_json(text, size, why))
@@ -483,15 +516,34 @@ try_utf8(const char *text, size_t size, ReadAs as, VjsonRejection *why)
 		mode = VIZHONIKU_EXTENDED;
 		status = make_value(mode, text, size, &value, &why->refusal);
 	}
+	if (status == VIZHONIKU_REFUSED && as != READ_EXTENDED && mode == VIZHONIKU_EXTENDED &&
+		why->refusal.code == VIZHONIKU_NUMBER_NOT_CARRIED)
+	{
+		char	   *plain;
+		size_t		plain_size;
+
+		status = write_plain_numbers(text, size, &plain, &plain_size, &why->refusal);
+		if (status == VIZHONIKU_REFUSED)
+		{
+			why->words = "number of more than 38 digits";
+			return NULL;
+		}
+		if (status == VIZHONIKU_ACCEPTED)
+		{
+			why->text = plain;
+			why->size = plain_size;
+			status = make_value(mode, plain, plain_size, &value, &why->refusal);
+		}
+	}
 	if (status == VIZHONIKU_REFUSED)
 	{
-		why->words = words_of_refusal(mode, text, size);
+		why->words = words_of_refusal(mode, why->text, why->size);
 		if (why->words == NULL)
 			why->words = "not a document";
 		return NULL;
 	}
 	if (status == VIZHONIKU_OUT_OF_MEMORY)
-		vjson_raise_out_of_memory(size);
+		vjson_raise_out_of_memory(why->size);
 	if (status != VIZHONIKU_ACCEPTED)
 		vjson_raise_unexpected(status);
 	return value;
@@ -505,7 +557,7 @@ read_utf8(const char *text, size_t size, ReadAs as, Node *context)
 	struct varlena *value = try_utf8(text, size, as, &why);
 
 	if (value == NULL)
-		report_rejection(context, text, size, &why);
+		report_rejection(context, &why);
 	return value;
 }
 
@@ -525,7 +577,7 @@ read_value(const char *server_text, size_t server_size, ReadAs as, Node *context
 struct varlena *
 vjson_of_text(const char *text, size_t size)
 {
-	return read_utf8(text, size, READ_EXTENDED, NULL);
+	return read_utf8(text, size, READ_JSON, NULL);
 }
 
 struct varlena *
@@ -911,7 +963,7 @@ vjson_from_json(PG_FUNCTION_ARGS)
 {
 	text	   *json = PG_GETARG_TEXT_PP(0);
 
-	PG_RETURN_POINTER(vjson_checked_for_output(read_value(VARDATA_ANY(json), VARSIZE_ANY_EXHDR(json), READ_EXTENDED, NULL)));
+	PG_RETURN_POINTER(vjson_checked_for_output(read_value(VARDATA_ANY(json), VARSIZE_ANY_EXHDR(json), READ_JSON, NULL)));
 }
 
 Datum
@@ -919,7 +971,7 @@ vjson_from_jsonb(PG_FUNCTION_ARGS)
 {
 	Jsonb	   *jsonb = PG_GETARG_JSONB_P(0);
 	char	   *text = JsonbToCString(NULL, &jsonb->root, VARSIZE(jsonb));
-	struct varlena *value = read_value(text, strlen(text), READ_EXTENDED, NULL);
+	struct varlena *value = read_value(text, strlen(text), READ_JSON, NULL);
 
 	pfree(text);
 	PG_RETURN_POINTER(vjson_checked_for_output(value));

@@ -63,11 +63,13 @@ typedef struct
 	size_t		size;
 } Range;
 
-/* Why a text was rejected: what the library says of it, and that in words. */
+/* Why a text was rejected: what the library says of it, that in words, and the text in UTF-8 that was read last. */
 typedef struct
 {
 	const char *words;
 	struct vizhoniku_refusal refusal;
+	const char *text;
+	size_t		size;
 } VjsonRejection;
 
 /* The place of that: the offset of a byte, and what of its line is shown. */
@@ -79,7 +81,7 @@ typedef struct
 	char	   *shown;
 } VjsonPlace;
 
-extern void vjson_locate(const char *text, size_t size, const VjsonRejection *why, VjsonPlace *place);
+extern void vjson_locate(const VjsonRejection *why, VjsonPlace *place);
 
 /* A step of a subscript: a name, or an index in digits. */
 typedef struct
