@@ -64,9 +64,55 @@ static size_t character_at(const unsigned char *text, size_t size, size_t first,
   return characters(text + first, index + 1 - first);
 }
 
+/* A text as it is read: the one that was passed, or one with its numbers written out, which has to be freed. */
+struct read_text {
+  const unsigned char *at;
+  size_t size;
+  unsigned char *made;
+  int too_long; /* a number with an exponent has too many digits where it is written out */
+};
+
+/* Whether the text has to be read once more: extended mode rejected a number, and those with an exponent were written
+ * out now. The status and the refusal are those of that where it failed. */
+static int read_again(uint32_t mode, uint32_t *status, struct vizhoniku_refusal *refusal, struct read_text *text) {
+  if (*status != VIZHONIKU_REFUSED || mode != VIZHONIKU_EXTENDED || refusal->code != VIZHONIKU_NUMBER_NOT_CARRIED ||
+      text->made)
+    return 0;
+  size_t room = text->size + 64, size = 0;
+  unsigned char *made = NULL;
+  do {
+    sqlite3_free(made);
+    made = sqlite3_malloc64(room);
+    if (!made) {
+      *status = VIZHONIKU_OUT_OF_MEMORY;
+      return 0;
+    }
+    *status = vizhoniku_plain_numbers(text->at, text->size, made, room, &size, refusal);
+    room = size;
+  } while (*status == VIZHONIKU_TOO_SHORT);
+  if (*status != VIZHONIKU_ACCEPTED) {
+    sqlite3_free(made);
+    text->too_long = *status == VIZHONIKU_REFUSED;
+    return 0;
+  }
+  text->at = text->made = made;
+  text->size = size;
+  return 1;
+}
+
+static uint32_t check(uint32_t mode, struct read_text *text, struct vizhoniku_refusal *refusal) {
+  uint32_t status;
+  do {
+    status = vizhoniku_check(mode, text->at, text->size, refusal);
+  } while (read_again(mode, &status, refusal, text));
+  return status;
+}
+
 /* Gives what is wrong with the text, in words: as the error of the statement, or as the result. */
 static void tell(sqlite3_context *context, uint32_t mode, uint32_t status, const struct vizhoniku_refusal *refusal,
-                 const unsigned char *text, size_t size, int is_error) {
+                 const struct read_text *read, int is_error) {
+  const unsigned char *text = read->at;
+  size_t size = read->size;
   if (status != VIZHONIKU_REFUSED) {
     sqlite3_result_error_nomem(context);
     return;
@@ -80,6 +126,18 @@ static void tell(sqlite3_context *context, uint32_t mode, uint32_t status, const
   size_t end_size = (size_t)snprintf(end, sizeof end, ", pos %zu", refusal->position);
   size_t room = 256, words_size = 0;
   char *words = NULL;
+  if (read->too_long) {
+    words = sqlite3_mprintf("%snumber of more than 38 digits", front);
+    if (!words) {
+      sqlite3_result_error_nomem(context);
+    } else if (is_error) {
+      sqlite3_result_error(context, words, -1);
+      sqlite3_free(words);
+    } else {
+      sqlite3_result_text(context, words, -1, sqlite3_free);
+    }
+    return;
+  }
   do {
     sqlite3_free(words);
     words = sqlite3_malloc64(front_size + room);
@@ -114,7 +172,9 @@ static void call_valid(sqlite3_context *context, int count, sqlite3_value **valu
   const unsigned char *text;
   struct vizhoniku_refusal refusal;
   if (!read_arguments(context, count, values, &text, &size, &mode)) return;
-  uint32_t status = vizhoniku_check(mode, text, size, &refusal);
+  struct read_text read = {text, size, NULL, 0};
+  uint32_t status = check(mode, &read, &refusal);
+  sqlite3_free(read.made);
   if (status == VIZHONIKU_OUT_OF_MEMORY)
     sqlite3_result_error_nomem(context);
   else
@@ -128,15 +188,17 @@ static void call_error_position(sqlite3_context *context, int count, sqlite3_val
   struct vizhoniku_refusal refusal;
   struct vizhoniku_location place;
   if (!read_arguments(context, count, values, &text, &size, &mode)) return;
-  uint32_t status = vizhoniku_check(mode, text, size, &refusal);
+  struct read_text read = {text, size, NULL, 0};
+  uint32_t status = check(mode, &read, &refusal);
   if (status == VIZHONIKU_OUT_OF_MEMORY) {
     sqlite3_result_error_nomem(context);
   } else if (status == VIZHONIKU_ACCEPTED) {
     sqlite3_result_int(context, 0);
   } else {
-    vizhoniku_place(text, size, &refusal, &place);
-    sqlite3_result_int64(context, size ? (sqlite3_int64)character_at(text, size, 0, place.index) : 1);
+    vizhoniku_place(read.at, read.size, &refusal, &place);
+    sqlite3_result_int64(context, size ? (sqlite3_int64)character_at(read.at, read.size, 0, place.index) : 1);
   }
+  sqlite3_free(read.made);
 }
 
 static void call_error(sqlite3_context *context, int count, sqlite3_value **values) {
@@ -145,8 +207,10 @@ static void call_error(sqlite3_context *context, int count, sqlite3_value **valu
   const unsigned char *text;
   struct vizhoniku_refusal refusal;
   if (!read_arguments(context, count, values, &text, &size, &mode)) return;
-  uint32_t status = vizhoniku_check(mode, text, size, &refusal);
-  if (status != VIZHONIKU_ACCEPTED) tell(context, mode, status, &refusal, text, size, 0);
+  struct read_text read = {text, size, NULL, 0};
+  uint32_t status = check(mode, &read, &refusal);
+  if (status != VIZHONIKU_ACCEPTED) tell(context, mode, status, &refusal, &read, 0);
+  sqlite3_free(read.made);
 }
 
 enum what { TEXT, KEY, PART };
@@ -158,24 +222,31 @@ static void give_written(sqlite3_context *context, enum what what, uint32_t mode
   uint32_t status;
   size_t written;
   struct vizhoniku_refusal refusal;
+  struct read_text read = {text, size, NULL, 0};
   unsigned char small[1024], *buffer = small;
   size_t room = what == PART || size <= sizeof small - 64 ? sizeof small : size + 64;
   for (;;) {
     if (room > sizeof small && !(buffer = sqlite3_malloc64(room))) {
+      sqlite3_free(read.made);
       sqlite3_result_error_nomem(context);
       return;
     }
     if (what == TEXT)
-      status = vizhoniku_text(mode, text, size, buffer, room, &written, &refusal);
+      status = vizhoniku_text(mode, read.at, read.size, buffer, room, &written, &refusal);
     else if (what == KEY)
-      status = vizhoniku_sort_key(mode, text, size, buffer, room, &written, &refusal);
+      status = vizhoniku_sort_key(mode, read.at, read.size, buffer, room, &written, &refusal);
     else
-      status = vizhoniku_part(mode, path, path_size, text, size, buffer, room, &written, &refusal);
-    if (status != VIZHONIKU_TOO_SHORT) break;
+      status = vizhoniku_part(mode, path, path_size, read.at, read.size, buffer, room, &written, &refusal);
+    if (read_again(mode, &status, &refusal, &read))
+      written = room;
+    else if (status != VIZHONIKU_TOO_SHORT)
+      break;
     if (buffer != small) sqlite3_free(buffer);
+    buffer = small;
     room = written;
   }
   if (status == VIZHONIKU_ACCEPTED) {
+    sqlite3_free(read.made);
     void (*destroy)(void *) = buffer == small ? SQLITE_TRANSIENT : sqlite3_free;
     if (what == KEY) {
       sqlite3_result_blob64(context, buffer, written, destroy);
@@ -189,7 +260,8 @@ static void give_written(sqlite3_context *context, enum what what, uint32_t mode
   if (status == VIZHONIKU_NO_PATH)
     sqlite3_result_error(context, MALFORMED_PATH, -1);
   else if (status != VIZHONIKU_NO_PART)
-    tell(context, mode, status, &refusal, text, size, 1);
+    tell(context, mode, status, &refusal, &read, 1);
+  sqlite3_free(read.made);
 }
 
 static void call_text(sqlite3_context *context, int count, sqlite3_value **values) {
