@@ -37,7 +37,7 @@ try:
 except ImportError:
     lmdb = None
 
-VERSION = 3  # of the interface that is needed
+VERSION = 6  # of the interface that is needed
 VECTORS = os.path.join(HERE, "..", "..", "tests", "vectors.jsonl")
 
 # Documents in the order of their values; those of one line are equal.
@@ -90,12 +90,30 @@ class Calls(unittest.TestCase):
         for text in ("1.5", "[1,]", "{a:1}", "", "// c\n1", "0x1", "'a'"):
             self.assertTrue(v.is_valid(text))
             self.assertFalse(v.is_valid(text, v.STANDARD))
-        for text in ("1e5", '{"a":1,"a":2}', "[1", "\ufeff1"):
+        self.assertTrue(v.is_valid("1e5"))
+        self.assertFalse(v.is_valid("1e5", v.STANDARD))
+        for text in ("1e39", '{"a":1,"a":2}', "[1", "\ufeff1"):
             self.assertFalse(v.is_valid(text))
             self.assertFalse(v.is_valid(text, v.STANDARD))
         v.check("[1,2]", mode=v.STANDARD)
         for mode in (2, -1, 2**32):
             self.assertRaises(ValueError, v.check, "1", mode)
+
+    def test_exponents(self) -> None:
+        self.assertEqual(v.text('{"b": 1e-07, "a": [1E5, "1e5", 1.50e1]}'), '{"a":[100000,"1e5",15.0],"b":0.0000001}')
+        self.assertEqual(v.sort_key("1e2"), v.sort_key("100.0"))
+        self.assertEqual(v.text_and_key(b"[1e2]"), ("[100]", v.sort_key("[100]")))
+        self.assertEqual(v.get('{"a": 6.02e23}', "/a"), "602000000000000000000000")
+        self.assertEqual([v.compare("1e2", "1.0e+2"), v.compare("99", "1e2"), v.compare("1e2", "99")], [0, -1, 1])
+        self.assertEqual(v.Key("[1e2]").text(), "[100]")
+        fault = self.rejected('{"é": 1e39}')
+        self.assertEqual((fault.line, fault.column, fault.index, fault.code, fault.which), (1, 10, 9, 20, 1))
+        self.assertEqual(fault.message, "number of more than 38 digits")
+        with self.assertRaises(v.RejectedText) as raised:
+            v.compare("1e1", "5e-324")
+        self.assertEqual((raised.exception.which, raised.exception.column), (2, 6))
+        self.assertEqual(self.rejected("1e5", v.STANDARD).message, "number not carried")
+        self.assertEqual(self.rejected('{"a":1e1,"a":2}').code, 17)
 
     def rejected(self, text: v.Text, mode: int = v.EXTENDED) -> v.RejectedText:
         with self.assertRaises(v.RejectedText) as raised:
@@ -201,6 +219,8 @@ class Calls(unittest.TestCase):
                 data = bytes.fromhex(row["input"])
                 for mode in v.Mode:
                     answer = row[mode.name.lower()]
+                    if mode == v.EXTENDED and answer.get("printed", "").startswith("number not carried"):
+                        continue  # of these test_exponents tries some
                     if "refused" in answer:
                         fault = self.rejected(data, mode)
                         printed = f"{fault.message}, pos {answer['position']}"
@@ -637,6 +657,11 @@ uint32_t vizhoniku_text(uint32_t mode, const char *text, size_t text_size, char 
   (void)mode, (void)text, (void)text_size, (void)buffer, (void)room;
   *size = 0;
   return answer(refusal);
+}
+
+uint32_t vizhoniku_plain_numbers(const char *text, size_t text_size, char *buffer, size_t room, size_t *size,
+                                 struct refusal *refusal) {
+  return vizhoniku_text(1, text, text_size, buffer, room, size, refusal);
 }
 
 uint32_t vizhoniku_sort_key(uint32_t mode, const char *text, size_t text_size, char *buffer, size_t room, size_t *size,

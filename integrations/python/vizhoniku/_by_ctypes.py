@@ -5,14 +5,15 @@ looks for shared libraries, then in the folder that pkg-config tells.
 """
 
 import ctypes
+import functools
 import os
 import subprocess
 from typing import Any, Iterator, List, Optional, Tuple, Union
 
-from ._common import BAD_PATH, EXTENDED, NO_KEY, Mode, PathError, RejectedText, Text, rejection
+from ._common import BAD_PATH, EXTENDED, NO_KEY, STANDARD, Mode, PathError, RejectedText, Text, rejection
 
 _SONAME = "libvizhoniku.so.0"
-_VERSION = 3  # the version of the interface, VIZHONIKU_VERSION of the header; a later one only adds to it
+_VERSION = 6  # the version of the interface, VIZHONIKU_VERSION of the header; a later one only adds to it
 
 _ACCEPTED, _REFUSED, _OUT_OF_MEMORY, _UNKNOWN_MODE, _TOO_SHORT, _NO_PART, _NO_PATH, _NO_KEY = range(8)
 _KINDS = ("", "null", "boolean", "number", "string", "array", "object")
@@ -73,6 +74,7 @@ def _load() -> ctypes.CDLL:
         library.vizhoniku_compare.argtypes = [mode, *text_in, *text_in, ctypes.POINTER(ctypes.c_int32), refusal]
         library.vizhoniku_message.argtypes = [mode, *text_in, *text_out]
         library.vizhoniku_place.argtypes = [*text_in, refusal, place]
+        library.vizhoniku_plain_numbers.argtypes = [*text_in, *text_out, refusal]
         found = [ctypes.POINTER(size), ctypes.POINTER(size)]
         library.vizhoniku_key_check.argtypes = text_in
         library.vizhoniku_key_kind.argtypes = text_in
@@ -86,7 +88,7 @@ def _load() -> ctypes.CDLL:
         library.vizhoniku_key_text.argtypes = [*text_in, *text_out]
         for name in ("check", "text", "part", "sort_key", "text_and_key", "compare", "message", "key_check", "key_kind",
                      "key_count", "key_member", "key_item", "key_part", "key_begin", "key_next", "key_name",
-                     "key_text"):
+                     "key_text", "plain_numbers"):
             getattr(library, "vizhoniku_" + name).restype = status
         library.vizhoniku_place.restype = None
     except AttributeError as error:
@@ -141,6 +143,45 @@ def _raise(status: int, mode: int, refusal: _Refusal, texts: List[Tuple[Text, by
     raise RuntimeError(f"unknown status {status}")
 
 
+_NOT_CARRIED = 20  # the code of a number that isn't representable
+
+
+def _plain(text: Text, data: bytes, which: int) -> bytes:
+    """The bytes with each number that has an exponent written out."""
+    refusal, size, room = _Refusal(), ctypes.c_size_t(), len(data) + 64
+    while True:
+        buffer = ctypes.create_string_buffer(room)
+        status = _library.vizhoniku_plain_numbers(data, len(data), buffer, room, size, refusal)
+        if status != _TOO_SHORT:
+            break
+        room = size.value
+    if status == _REFUSED:
+        place = _Place()
+        _library.vizhoniku_place(data, len(data), refusal, place)
+        raise rejection(text, data, b"number of more than 38 digits", refusal.code, which, refusal.position, place.index,
+                        place.line, place.column)
+    _raise(status, 0, refusal, [(text, data)])
+    return ctypes.string_at(buffer, size.value)
+
+
+def _reads_exponents(call: Any) -> Any:
+    """The call, which is made once more where extended mode rejects a number, with the numbers written out."""
+
+    @functools.wraps(call)
+    def again(text: Text, *others: Any, **named: Any) -> Any:
+        try:
+            return call(text, *others, **named)
+        except RejectedText as fault:
+            if fault.code != _NOT_CARRIED or named.get("mode", others[-1] if others else EXTENDED) == STANDARD:
+                raise
+        data = _bytes(text)
+        plain = _plain(text, data, 1)
+        return call(plain.decode("utf-8", "surrogatepass") if isinstance(text, str) else plain, *others, **named)
+
+    return again
+
+
+@_reads_exponents
 def check(text: Text, mode: int = EXTENDED) -> None:
     """Raises RejectedText where the text is no document."""
     mode, data, refusal = _mode(mode), _bytes(text), _Refusal()
@@ -151,11 +192,18 @@ def is_valid(text: Text, mode: int = EXTENDED) -> bool:
     """Whether the text is a document."""
     mode, data, refusal = _mode(mode), _bytes(text), _Refusal()
     status = _library.vizhoniku_check(mode, data, len(data), refusal)
+    if status == _REFUSED and mode == EXTENDED and refusal.code == _NOT_CARRIED:
+        try:
+            data = _plain(text, data, 1)
+        except RejectedText:
+            return False
+        status = _library.vizhoniku_check(mode, data, len(data), refusal)
     if status != _REFUSED:
         _raise(status, mode, refusal, [(text, data)])
     return bool(status == _ACCEPTED)
 
 
+@_reads_exponents
 def text(text: Text, mode: int = EXTENDED) -> str:
     """The text of the document's value: no whitespace, and members in the order of their keys' bytes."""
     mode, data, refusal, size = _mode(mode), _bytes(text), _Refusal(), ctypes.c_size_t()
@@ -170,6 +218,7 @@ def text(text: Text, mode: int = EXTENDED) -> str:
     return ctypes.string_at(buffer, size.value).decode()
 
 
+@_reads_exponents
 def sort_key(text: Text, mode: int = EXTENDED) -> bytes:
     """Bytes that compare as the values of documents do: equal for equal values, and none the beginning of others."""
     mode, data, refusal, size = _mode(mode), _bytes(text), _Refusal(), ctypes.c_size_t()
@@ -184,6 +233,7 @@ def sort_key(text: Text, mode: int = EXTENDED) -> bytes:
     return ctypes.string_at(buffer, size.value)
 
 
+@_reads_exponents
 def text_and_key(text: Text, mode: int = EXTENDED) -> Tuple[str, bytes]:
     """What text and sort_key return, of one reading."""
     mode, data, refusal = _mode(mode), _bytes(text), _Refusal()
@@ -200,6 +250,7 @@ def text_and_key(text: Text, mode: int = EXTENDED) -> Tuple[str, bytes]:
     return ctypes.string_at(buffer, size.value).decode(), ctypes.string_at(key_buffer, key_size.value)
 
 
+@_reads_exponents
 def get(text: Text, path: Text, mode: int = EXTENDED) -> Optional[str]:
     """The text of the part at the path, as RFC 6901 spells it, or None where nothing stands there.
 
@@ -224,10 +275,15 @@ def get(text: Text, path: Text, mode: int = EXTENDED) -> Optional[str]:
 
 def compare(left: Text, right: Text, mode: int = EXTENDED) -> int:
     """-1, 0 or 1: the first document's value is below the second's, equal to it, or above it."""
-    mode, left_data, right_data = _mode(mode), _bytes(left), _bytes(right)
-    refusal, order = _Refusal(), ctypes.c_int32()
-    status = _library.vizhoniku_compare(mode, left_data, len(left_data), right_data, len(right_data), order, refusal)
-    _raise(status, mode, refusal, [(left, left_data), (right, right_data)])
+    mode, texts, read = _mode(mode), [left, right], [_bytes(left), _bytes(right)]
+    refusal, order, plain = _Refusal(), ctypes.c_int32(), [False, False]
+    while True:
+        status = _library.vizhoniku_compare(mode, read[0], len(read[0]), read[1], len(read[1]), order, refusal)
+        at = refusal.which - 1
+        if status != _REFUSED or refusal.code != _NOT_CARRIED or mode == STANDARD or plain[at]:
+            break
+        read[at], plain[at] = _plain(texts[at], read[at], at + 1), True
+    _raise(status, mode, refusal, [(left, read[0]), (right, read[1])])
     return order.value
 
 

@@ -143,12 +143,12 @@ static PyObject *words_of(uint32_t mode, const struct text *text) {
   return result;
 }
 
-/* Raises RejectedText. */
+/* Raises RejectedText, in these words, or in those of the library where there are none. */
 static void raise_rejected(const struct state *state, uint32_t mode, const struct vizhoniku_refusal *refusal,
-                           PyObject *object, const struct text *text) {
+                           PyObject *object, const struct text *text, const char *own_words) {
   struct vizhoniku_location place;
   vizhoniku_place(text->at, text->size, refusal, &place);
-  PyObject *words = words_of(mode, text);
+  PyObject *words = own_words ? PyBytes_FromString(own_words) : words_of(mode, text);
   if (!words) return;
   PyObject *error = PyObject_CallFunction(
       state->rejection, "Oy#OIInnnn", object, (const char *)text->at, (Py_ssize_t)text->size, words, refusal->code,
@@ -211,6 +211,36 @@ static PyObject *bytes_of(const struct written *written) {
   return PyBytes_FromStringAndSize((const char *)written->at, (Py_ssize_t)written->size);
 }
 
+/* Writes out the numbers of a text that have an exponent, where extended mode rejected a number, and holds what was
+ * written. Returns 0 where it didn't, with the status and the refusal of that, or where an exception is raised, which is
+ * the status VIZHONIKU_OUT_OF_MEMORY. */
+static int write_plain(uint32_t mode, uint32_t *status, struct vizhoniku_refusal *refusal, const struct text *text,
+                       struct text *plain) {
+  if (*status != VIZHONIKU_REFUSED || mode != VIZHONIKU_EXTENDED || refusal->code != VIZHONIKU_NUMBER_NOT_CARRIED)
+    return 0;
+  uint32_t which = refusal->which;
+  size_t room = text->size + 64;
+  for (;;) {
+    plain->holder = PyBytes_FromStringAndSize(NULL, (Py_ssize_t)room);
+    if (!plain->holder) {
+      PyErr_Clear();
+      *status = VIZHONIKU_OUT_OF_MEMORY;
+      return 0;
+    }
+    unsigned char *at = (unsigned char *)PyBytes_AsString(plain->holder);
+    plain->at = at;
+    *status = vizhoniku_plain_numbers(text->at, text->size, at, room, &plain->size, refusal);
+    if (*status == VIZHONIKU_ACCEPTED) return 1;
+    free_text(plain);
+    if (*status != VIZHONIKU_TOO_SHORT) break;
+    room = plain->size;
+  }
+  if (*status == VIZHONIKU_REFUSED) refusal->which = which;
+  return 0;
+}
+
+#define TOO_LONG "number of more than 38 digits"
+
 /* What a call of the library does with a text. */
 enum what { CHECK, TEXT, SORT_KEY, TEXT_AND_KEY, PART };
 
@@ -234,11 +264,12 @@ static uint32_t call_once(enum what what, uint32_t mode, const struct text *path
 }
 
 /* Calls the library until the buffers are long enough, and raises what the status says unless it is success, or
- * VIZHONIKU_NO_PART, or VIZHONIKU_REFUSED of a call that only checks. Returns the status, or -1 where an exception is
+ * VIZHONIKU_NO_PART, or VIZHONIKU_REFUSED of a call that only checks. Where extended mode rejects a number, the text is
+ * read once more with its numbers written out, unless it is such a one. Returns the status, or -1 where an exception is
  * raised. */
 static int64_t call_library(const struct state *state, enum what what, uint32_t mode, const struct text *path,
                             PyObject *object, const struct text *text, struct written *written, struct written *key,
-                            int tells_refusal) {
+                            int tells_refusal, int is_plain) {
   struct vizhoniku_refusal refusal;
   uint32_t status;
   if (what != PART && written && !make_room(written, text->size + 16)) return -1;
@@ -256,9 +287,17 @@ static int64_t call_library(const struct state *state, enum what what, uint32_t 
     if (key && !make_room(key, key->size)) return -1;
   }
   if (status == VIZHONIKU_ACCEPTED || status == VIZHONIKU_NO_PART) return status;
+  int rejected = status == VIZHONIKU_REFUSED;
+  struct text plain;
+  if (!is_plain && write_plain(mode, &status, &refusal, text, &plain)) {
+    int64_t again = call_library(state, what, mode, path, object, &plain, written, key, tells_refusal, 1);
+    free_text(&plain);
+    return again;
+  }
   if (status == VIZHONIKU_REFUSED) {
     if (tells_refusal) return status;
-    raise_rejected(state, mode, &refusal, object, text);
+    int too_long = rejected && !is_plain && mode == VIZHONIKU_EXTENDED && refusal.code == VIZHONIKU_NUMBER_NOT_CARRIED;
+    raise_rejected(state, mode, &refusal, object, text, too_long ? TOO_LONG : NULL);
   } else {
     raise_status(state, status);
   }
@@ -282,7 +321,7 @@ static PyObject *py_check(PyObject *module, PyObject *const *given, Py_ssize_t c
   struct text text;
   uint32_t mode;
   if (!read_call(state, "check", given, count, keywords, &object, &text, &mode)) return NULL;
-  int64_t status = call_library(state, CHECK, mode, NULL, object, &text, NULL, NULL, 0);
+  int64_t status = call_library(state, CHECK, mode, NULL, object, &text, NULL, NULL, 0, 0);
   free_text(&text);
   if (status < 0) return NULL;
   Py_RETURN_NONE;
@@ -294,7 +333,7 @@ static PyObject *py_is_valid(PyObject *module, PyObject *const *given, Py_ssize_
   struct text text;
   uint32_t mode;
   if (!read_call(state, "is_valid", given, count, keywords, &object, &text, &mode)) return NULL;
-  int64_t status = call_library(state, CHECK, mode, NULL, object, &text, NULL, NULL, 1);
+  int64_t status = call_library(state, CHECK, mode, NULL, object, &text, NULL, NULL, 1, 0);
   free_text(&text);
   return status < 0 ? NULL : PyBool_FromLong(status == VIZHONIKU_ACCEPTED);
 }
@@ -307,7 +346,7 @@ static PyObject *py_text(PyObject *module, PyObject *const *given, Py_ssize_t co
   uint32_t mode;
   if (!read_call(state, "text", given, count, keywords, &object, &text, &mode)) return NULL;
   begin_written(&written);
-  if (call_library(state, TEXT, mode, NULL, object, &text, &written, NULL, 0) >= 0) result = str_of(&written);
+  if (call_library(state, TEXT, mode, NULL, object, &text, &written, NULL, 0, 0) >= 0) result = str_of(&written);
   free_written(&written);
   free_text(&text);
   return result;
@@ -320,7 +359,7 @@ static PyObject *key_of_text(const struct state *state, PyObject *object, uint32
   struct written key;
   if (!read_text(object, A_TEXT, &text)) return NULL;
   begin_written(&key);
-  if (call_library(state, SORT_KEY, mode, NULL, object, &text, NULL, &key, 0) >= 0) result = bytes_of(&key);
+  if (call_library(state, SORT_KEY, mode, NULL, object, &text, NULL, &key, 0, 0) >= 0) result = bytes_of(&key);
   free_written(&key);
   free_text(&text);
   return result;
@@ -343,7 +382,7 @@ static PyObject *py_text_and_key(PyObject *module, PyObject *const *given, Py_ss
   if (!read_call(state, "text_and_key", given, count, keywords, &object, &text, &mode)) return NULL;
   begin_written(&written);
   begin_written(&key);
-  if (call_library(state, TEXT_AND_KEY, mode, NULL, object, &text, &written, &key, 0) >= 0)
+  if (call_library(state, TEXT_AND_KEY, mode, NULL, object, &text, &written, &key, 0, 0) >= 0)
     result = Py_BuildValue("(NN)", str_of(&written), bytes_of(&key));
   free_written(&written);
   free_written(&key);
@@ -362,7 +401,7 @@ static PyObject *py_get(PyObject *module, PyObject *const *given, Py_ssize_t cou
   if (!read_mode(state, arguments[2], &mode) || !read_text(arguments[0], A_TEXT, &text)) return NULL;
   if (read_text(arguments[1], A_TEXT, &path)) {
     begin_written(&written);
-    int64_t status = call_library(state, PART, mode, &path, arguments[0], &text, &written, NULL, 0);
+    int64_t status = call_library(state, PART, mode, &path, arguments[0], &text, &written, NULL, 0, 0);
     if (status == VIZHONIKU_NO_PART) {
       result = Py_None;
       Py_INCREF(result);
@@ -387,17 +426,30 @@ static PyObject *py_compare(PyObject *module, PyObject *const *given, Py_ssize_t
   if (!sort_arguments("compare", names, 2, given, count, keywords, arguments)) return NULL;
   if (!read_mode(state, arguments[2], &mode) || !read_text(arguments[0], A_TEXT, &left)) return NULL;
   if (read_text(arguments[1], A_TEXT, &right)) {
-    if (left.size + right.size >= RELEASED) {
-      Py_BEGIN_ALLOW_THREADS
-      status = vizhoniku_compare(mode, left.at, left.size, right.at, right.size, &order, &refusal);
-      Py_END_ALLOW_THREADS
-    } else {
-      status = vizhoniku_compare(mode, left.at, left.size, right.at, right.size, &order, &refusal);
-    }
+    int is_plain[2] = {0, 0}, again = 0, at;
+    struct text plain, *text;
+    do {
+      if (left.size + right.size >= RELEASED) {
+        Py_BEGIN_ALLOW_THREADS
+        status = vizhoniku_compare(mode, left.at, left.size, right.at, right.size, &order, &refusal);
+        Py_END_ALLOW_THREADS
+      } else {
+        status = vizhoniku_compare(mode, left.at, left.size, right.at, right.size, &order, &refusal);
+      }
+      at = status == VIZHONIKU_REFUSED ? (int)refusal.which - 1 : 0;
+      text = at ? &right : &left;
+      again = status == VIZHONIKU_REFUSED && !is_plain[at] && write_plain(mode, &status, &refusal, text, &plain);
+      if (again) {
+        free_text(text);
+        *text = plain;
+        is_plain[at] = 1;
+      }
+    } while (again);
+    int too_long = mode == VIZHONIKU_EXTENDED && refusal.code == VIZHONIKU_NUMBER_NOT_CARRIED && !is_plain[at];
     if (status == VIZHONIKU_ACCEPTED)
       result = PyLong_FromLong(order);
     else if (status == VIZHONIKU_REFUSED)
-      raise_rejected(state, mode, &refusal, arguments[refusal.which - 1], refusal.which == 1 ? &left : &right);
+      raise_rejected(state, mode, &refusal, arguments[at], text, too_long ? TOO_LONG : NULL);
     else
       raise_status(state, status);
     free_text(&right);
