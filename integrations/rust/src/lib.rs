@@ -1,0 +1,247 @@
+//! JSON documents by value, over the library libvizhoniku: whether a text is a document, its value written in one form,
+//! sort keys whose bytes compare as the values do, and sort keys as documents whose parts are found and changed.
+//!
+//! Equal values have equal keys, and `9.5` is below `10`:
+//!
+//! ```
+//! use vizhoniku::{sort_key, Mode};
+//!
+//! # fn main() -> Result<(), vizhoniku::Error> {
+//! let one = sort_key(r#"{"a":1, "b":2}"#, Mode::Standard)?;
+//! let two = sort_key("{b: 2.0, a: 0x1} // the same value", Mode::Extended)?;
+//! assert_eq!(one, two);
+//! assert!(sort_key("9.5", Mode::Extended)? < sort_key("10", Mode::Extended)?);
+//! assert_eq!(one.get("b").map(|b| b.to_string()), Some("2".to_string()));
+//! # Ok(())
+//! # }
+//! ```
+//!
+//! A text is anything with bytes, such as `&str`, `String`, `&[u8]` or `Vec<u8>`. Each text is parsed in a [`Mode`]. No
+//! call keeps anything, so all types are `Send` and `Sync`. A thread that parses untrusted text has 112 KB of stack free.
+#![warn(missing_docs)]
+#![deny(unsafe_op_in_unsafe_fn)]
+
+#[cfg(doctest)]
+#[doc = include_str!("../README.md")]
+struct Readme;
+
+mod error;
+mod ffi;
+mod key;
+
+pub use error::{Code, Error, Rejection};
+pub use key::{Items, Key, KeyRef, Kind, Members};
+use std::cmp::Ordering;
+
+/// The grammar that a text is parsed by.
+#[derive(Clone, Copy, Debug, PartialEq, Eq, Hash)]
+#[repr(u32)]
+pub enum Mode {
+    /// JSON as RFC 8259 has it, with integers of 64 bits alone as numbers.
+    Standard = 0,
+    /// Also decimals of up to 38 digits, hexadecimals, comments, single quotes, names without quotes and more.
+    Extended = 1,
+}
+
+/// What a call has written, and its status, which isn't `TOO_SHORT`. The call gets a buffer and its size, again with as
+/// much room as it asks for where that is too short.
+pub(crate) fn write(
+    room: usize,
+    mut call: impl FnMut(*mut u8, usize, &mut usize) -> u32,
+) -> Result<(Vec<u8>, u32), Error> {
+    let (mut buffer, mut size, mut room) = (Vec::new(), 0, room);
+    loop {
+        buffer.try_reserve_exact(room).map_err(|_| Error::OutOfMemory)?;
+        let status = call(buffer.as_mut_ptr(), room, &mut size);
+        if status != ffi::TOO_SHORT {
+            // SAFETY: the call has written so many bytes of the buffer.
+            unsafe { buffer.set_len(size.min(room)) };
+            return Ok((buffer, status));
+        }
+        room = size;
+    }
+}
+
+/// What the status of a call with texts says, of which the first or the second was rejected.
+fn accept(status: u32, mode: Mode, refusal: &ffi::Refusal, texts: [&[u8]; 2]) -> Result<(), Error> {
+    match status {
+        ffi::ACCEPTED => Ok(()),
+        ffi::REFUSED => {
+            let text = if refusal.which == 2 { texts[1] } else { texts[0] };
+            Err(Error::Rejected(Box::new(Rejection::of(text, mode, refusal)?)))
+        }
+        ffi::NO_PATH => Err(Error::NoPath),
+        _ => Err(Error::OutOfMemory),
+    }
+}
+
+fn utf8(bytes: Vec<u8>) -> Result<String, Error> {
+    String::from_utf8(bytes).map_err(|_| Error::NoKey)
+}
+
+/// Whether the text is a document.
+///
+/// # Errors
+///
+/// [`Error::Rejected`] says what is wrong with it and where.
+///
+/// ```
+/// use vizhoniku::{check, Code, Mode};
+///
+/// assert_eq!(check("[1, 2]", Mode::Standard), Ok(()));
+/// let error = check("{\n  \"port\": 8080,\n  \"port\": 8081\n}", Mode::Standard).unwrap_err();
+/// assert_eq!(error.to_string(), "line 3, column 8: duplicate object attribute \"port\"");
+/// let rejection = error.rejection().unwrap();
+/// assert_eq!((rejection.code(), rejection.offset()), (Code::ObjectDuplicateKey, 25));
+/// ```
+pub fn check(text: impl AsRef<[u8]>, mode: Mode) -> Result<(), Error> {
+    let (text, mut refusal) = (text.as_ref(), ffi::Refusal::default());
+    // SAFETY: the text has its size, and the refusal is whole.
+    let status = unsafe { ffi::vizhoniku_check(mode as u32, text.as_ptr(), text.len(), &mut refusal) };
+    accept(status, mode, &refusal, [text, text])
+}
+
+/// The text of the document's value: without whitespace, and members in the order of the bytes of their names.
+///
+/// # Errors
+///
+/// [`Error::Rejected`] for a text that is no document, and [`Error::OutOfMemory`].
+///
+/// ```
+/// let text = vizhoniku::text("{b: 0x1F, /* x */ a: [, +.5]} // end", vizhoniku::Mode::Extended)?;
+/// assert_eq!(text, r#"{"a":[null,0.5],"b":31}"#);
+/// # Ok::<(), vizhoniku::Error>(())
+/// ```
+pub fn text(text: impl AsRef<[u8]>, mode: Mode) -> Result<String, Error> {
+    let (text, mut refusal) = (text.as_ref(), ffi::Refusal::default());
+    let (written, status) = write(text.len().saturating_add(16), |buffer, room, size| {
+        // SAFETY: the text has its size and the buffer its room, and they don't overlap.
+        unsafe { ffi::vizhoniku_text(mode as u32, text.as_ptr(), text.len(), buffer, room, size, &mut refusal) }
+    })?;
+    accept(status, mode, &refusal, [text, text])?;
+    utf8(written)
+}
+
+/// The sort key of the document's value.
+///
+/// # Errors
+///
+/// [`Error::Rejected`] for a text that is no document, and [`Error::OutOfMemory`].
+pub fn sort_key(text: impl AsRef<[u8]>, mode: Mode) -> Result<Key, Error> {
+    let (text, mut refusal) = (text.as_ref(), ffi::Refusal::default());
+    let (written, status) = write(text.len().saturating_add(16), |buffer, room, size| {
+        // SAFETY: as in `text`.
+        unsafe { ffi::vizhoniku_sort_key(mode as u32, text.as_ptr(), text.len(), buffer, room, size, &mut refusal) }
+    })?;
+    accept(status, mode, &refusal, [text, text])?;
+    Ok(Key::of(written))
+}
+
+/// What [`text`] and [`sort_key`] return.
+///
+/// # Errors
+///
+/// Those of [`text`].
+pub fn text_and_key(text: impl AsRef<[u8]>, mode: Mode) -> Result<(String, Key), Error> {
+    let (text, mut refusal) = (text.as_ref(), ffi::Refusal::default());
+    let (mut key, mut key_size) = (Vec::new(), text.len().saturating_add(16));
+    let (written, status) = write(text.len().saturating_add(16), |buffer, room, size| {
+        let key_room = key_size;
+        if Vec::try_reserve_exact(&mut key, key_room).is_err() {
+            return ffi::OUT_OF_MEMORY;
+        }
+        // SAFETY: as in `text`, and the key's buffer has its room.
+        let status = unsafe {
+            ffi::vizhoniku_text_and_key(
+                mode as u32,
+                text.as_ptr(),
+                text.len(),
+                buffer,
+                room,
+                size,
+                key.as_mut_ptr(),
+                key_room,
+                &mut key_size,
+                &mut refusal,
+            )
+        };
+        if status == ffi::ACCEPTED {
+            // SAFETY: the call has written so many bytes of the key's buffer.
+            unsafe { key.set_len(key_size.min(key_room)) };
+        }
+        status
+    })?;
+    accept(status, mode, &refusal, [text, text])?;
+    Ok((utf8(written)?, Key::of(key)))
+}
+
+/// How the values of two documents of one mode compare.
+///
+/// # Errors
+///
+/// [`Error::Rejected`] where a text is no document, of the first that is none ([`Rejection::is_second`]), and
+/// [`Error::OutOfMemory`].
+pub fn compare(left: impl AsRef<[u8]>, right: impl AsRef<[u8]>, mode: Mode) -> Result<Ordering, Error> {
+    let (left, right, mut order) = (left.as_ref(), right.as_ref(), 0);
+    let mut refusal = ffi::Refusal::default();
+    // SAFETY: the texts have their sizes, and the order and the refusal are whole.
+    let status = unsafe {
+        ffi::vizhoniku_compare(
+            mode as u32,
+            left.as_ptr(),
+            left.len(),
+            right.as_ptr(),
+            right.len(),
+            &mut order,
+            &mut refusal,
+        )
+    };
+    accept(status, mode, &refusal, [left, right])?;
+    Ok(order.cmp(&0))
+}
+
+/// The text of the part at the path, a JSON Pointer (RFC 6901), or `None` where there is none. The whole text is parsed:
+/// for several parts of a document [`sort_key`] and [`KeyRef::pointer`] are faster.
+///
+/// # Errors
+///
+/// [`Error::Rejected`] for a text that is no document, [`Error::NoPath`], and [`Error::OutOfMemory`].
+///
+/// ```
+/// use vizhoniku::{part, Mode};
+///
+/// let text = r#"{"a": [0, {"b/c": [true, 16]}]}"#;
+/// assert_eq!(part(text, "/a/1/b~1c", Mode::Standard)?.as_deref(), Some("[true,16]"));
+/// assert_eq!(part(text, "/z", Mode::Standard)?, None);
+/// # Ok::<(), vizhoniku::Error>(())
+/// ```
+pub fn part(text: impl AsRef<[u8]>, path: &str, mode: Mode) -> Result<Option<String>, Error> {
+    let (text, mut refusal) = (text.as_ref(), ffi::Refusal::default());
+    let (written, status) = write(256, |buffer, room, size| {
+        // SAFETY: as in `text`, and the path has its size.
+        unsafe {
+            ffi::vizhoniku_part(
+                mode as u32,
+                path.as_ptr(),
+                path.len(),
+                text.as_ptr(),
+                text.len(),
+                buffer,
+                room,
+                size,
+                &mut refusal,
+            )
+        }
+    })?;
+    if status == ffi::NO_PART {
+        return Ok(None);
+    }
+    accept(status, mode, &refusal, [text, text])?;
+    utf8(written).map(Some)
+}
+
+/// The version of the library's interface, `VIZHONIKU_VERSION` of its header.
+pub fn version() -> u32 {
+    // SAFETY: it takes nothing.
+    unsafe { ffi::vizhoniku_version() }
+}
