@@ -1,0 +1,3 @@
+module vizhoniku
+
+go 1.19
