@@ -196,7 +196,8 @@ enum vizhoniku_kind {
 };
 
 /* Checks whether bytes are the sort key of a value. VIZHONIKU_NO_KEY: they aren't. The calls below don't check a key as a
- * whole, so a key from outside is checked by this first. It takes no memory, and its time is linear in the size. */
+ * whole, so a key from outside is checked by this first. It takes no memory, and its time is linear in the size. A number
+ * past the bounds of texts has a key too: what vizhoniku_key_text writes of that no mode accepts. */
 uint32_t vizhoniku_key_check(const unsigned char *key, size_t key_size);
 
 /* Returns the kind of the value whose key this is, of enum vizhoniku_kind. It looks at the first byte alone. */
