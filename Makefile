@@ -36,6 +36,8 @@ all: build/libvizhoniku.a build/$(SONAME)
 
 # What rt prints is kept, and shown where it fails.
 $(BUILT): $(SOURCES)
+	@command -v rt > /dev/null || { echo "the library has to be proved, and the command rt of the Rattle kit is" \
+	    "missing. With PROVED=FILE it is built from the build/proved.o of a folder where it was proved" >&2; exit 1; }
 	@mkdir -p build
 	@echo "proving and building the library. To follow it: tail -f $(CURDIR)/build/log"
 	@touch build/start
