@@ -18,7 +18,7 @@ pub struct Contents<'a> {
     pub kept_len: usize,
     pub ghost inside: { kept_len ≤ length body.now },
     pub ghost checked: { AreContents (mode_of mode) body.now },
-    pub ghost kept: { WritesItems (mode_of mode) body.now (drop kept_len body.now) [] (take kept_len body.now) },
+    pub ghost kept: { ∥ WritesItems (mode_of mode) body.now (drop kept_len body.now) [] (take kept_len body.now) ∥₁ },
 }
 
 impl<'a> Contents<'a> {
