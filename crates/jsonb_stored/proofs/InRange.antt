@@ -1,5 +1,5 @@
 -- Values in range: they are of JSON's kinds, and what the first byte of a key says of them.
-use Rattle.std.proofs.Common.{◌≡◌, ◌≢◌, ℕ, true, false, List, [], ◌∷◌, ◌++◌, sym, ap, ◌∙◌, arith}
+use Rattle.std.proofs.Common.{◌≡◌, ◌≢◌, ℕ, true, false, List, ◌∷◌, ◌++◌, sym, ap, ◌∙◌, arith}
 use Rattle.jsonb_key.specs.Readable.{IsAnyNumber, IsReadableAt}
 use Rattle.jsonb_stored.specs.Frames.{IsInRangeAt}
 use Rattle.jsonb_spec.specs.Proper.{IsProperNumber}

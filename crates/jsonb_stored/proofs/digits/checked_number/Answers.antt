@@ -1,4 +1,4 @@
-use Rattle.std.proofs.Common.{rules, arith, unsigned_abs, sym, ◌∙◌}
+use Rattle.std.proofs.Common.{rules, arith, unsigned_abs, ◌∙◌}
 use Rattle.std.specs.Bool.{nat_lt}
 use Rattle.jsonb_key.proofs.Signs.{some_bytes}
 use Rattle.jsonb_key.proofs.Texts.{none_some, some_pair}
