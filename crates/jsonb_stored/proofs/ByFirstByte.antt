@@ -1,5 +1,5 @@
 -- The kind of a value, told by the first byte of its key.
-use Rattle.std.proofs.Common.{◌≡◌, ◌≢◌, inl, inr, Bool, true, false, if◌then◌else◌, ℕ, ◌+◌, ◌-◌, ◌<◌, ◌≤◌, ◌∷◌, ◌++◌, List, map, unsigned_abs, Option, Some, None, MatchOption, refl, sym, ap, ◌∙◌, arith}
+use Rattle.std.proofs.Common.{◌↔◌, subst, length, ◌≡◌, ◌≢◌, inl, inr, Bool, true, false, if◌then◌else◌, ℕ, ◌+◌, ◌-◌, ◌<◌, ◌≤◌, ◌∷◌, ◌++◌, List, map, unsigned_abs, Option, Some, None, MatchOption, refl, sym, ap, ◌∙◌, arith}
 use Rattle.std.proofs.lemmas.Bool.{cases_lt, cases_eq}
 use Rattle.std.specs.Bool.{nat_lt}
 use Rattle.jsonb_key.specs.Readable.{IsReadable}
@@ -7,7 +7,7 @@ use Rattle.jsonb_key.proofs.Numbers.{far_place, near_place}
 use Rattle.jsonb_key.proofs.Signs.{signed_read}
 use Rattle.jsonb_stored.specs.declared.walk.Kind.{Kind}
 use Rattle.jsonb_stored.specs.declared.walk.Kind.TheVariants as kind
-use Rattle.jsonb_stored.specs.Parts.{IsFirstByte, IsNumberByte, kind_of_tree}
+use Rattle.jsonb_stored.specs.Parts.{BeginsNoKey, IsFirstByte, IsNumberByte, kind_of_tree}
 use Rattle.jsonb_spec.specs.Accessors.{as_boolean}
 use Rattle.jsonb_spec.specs.Proper.{IsProperNumber}
 use Rattle.jsonb_spec.specs.SortKey.{key_of, number_key, digits_key, invert_if, items_key, members_key, text_key}
@@ -122,6 +122,14 @@ one_kind k t first is of = ap (λ j. Some j) (within k of.which first (between k
 pub same_as_found : (t : Tree) (first : ℕ) → KindOf t first → (result : Option Kind) → MatchOption result ((k : Kind) → IsFirstByte k first → ⊥) (λ k. IsFirstByte k first) → result ≡ kind_of_tree t
 same_as_found t first of (Some k) is = one_kind k t first is of
 same_as_found t first of None none = absurd (none of.which of.begins)
+
+-- no kind is found exactly where no key begins so
+pub no_kind_found : (bytes rest : List ℕ) (first : ℕ) (result : Option Kind) → bytes ≡ first ∷ rest → MatchOption result ((k : Kind) → IsFirstByte k first → ⊥) (λ k. IsFirstByte k first) → (result ≡ None) ↔ BeginsNoKey bytes
+no_kind_found bytes rest first (Some k) e is = (λ same. absurd (let never : Some k ≡ None = same in cc), λ none. absurd (none first rest e k is))
+no_kind_found bytes rest first None e none = (λ same. λ byte others there k is. none k (subst (IsFirstByte k) (heads byte first others rest (sym there ∙ e)) is), λ begins. refl)
+
+pub no_bytes_begin : (bytes : List ℕ) → length bytes ≡ 0 → BeginsNoKey bytes
+no_bytes_begin bytes none first rest e = absurd (omega (arith, none, ap length e))
 
 -- the byte of a boolean is one of two
 of_boolean : (b : Bool) (first : ℕ) → first ≡ (if b then 0x16 else 0x15) → (0x14 < first) × (first < 0x17)

@@ -1,5 +1,5 @@
 -- Parts of values, found in their keys.
-use Rattle.std.specs.Prelude.{◌≡◌, ◌≢◌, ℕ, ◌≤◌, ◌⊎◌, List, ◌++◌, Option, Some, None}
+use Rattle.std.specs.Prelude.{◌≡◌, ◌≢◌, ℕ, ◌≤◌, ◌⊎◌, List, ◌∷◌, ◌++◌, Option, Some, None}
 use Rattle.jsonb_spec.specs.PartAt.{IsChild, IsAt}
 use Rattle.jsonb_stored.specs.declared.walk.Kind.{Kind}
 use Rattle.jsonb_stored.specs.declared.walk.Kind.TheVariants as variants
@@ -30,6 +30,10 @@ IsFirstByte variants.String first = first ≡ kind.string
 IsFirstByte variants.Object first = first ≡ kind.object
 IsFirstByte variants.Array first = first ≡ kind.array
 IsFirstByte variants.Null first = first ≡ kind.null
+
+-- The bytes begin with none of these bytes, or there are none.
+abbrev pub BeginsNoKey : List ℕ → Type 0
+BeginsNoKey bytes = (first : ℕ) → (rest : List ℕ) → bytes ≡ first ∷ rest → (kind : Kind) → IsFirstByte kind first → ⊥
 
 -- the array or the object of which all is left
 abbrev pub opened_tree : Open → Tree

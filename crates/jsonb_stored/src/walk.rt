@@ -1,9 +1,9 @@
 //! The items and the members of a key, one after the other.
 
-ghost use Rattle.std.specs.Prelude.{◌≡◌, ◌≢◌, ◌<◌, ◌++◌, ◌∷◌, ◌⊎◌, List, ℕ, length, IfSome, MatchOption, None, if◌then◌else◌};
+ghost use Rattle.std.specs.Prelude.{◌≡◌, ◌≢◌, ◌↔◌, ◌<◌, ◌++◌, ◌∷◌, ◌⊎◌, List, ℕ, length, IfSome, MatchOption, None, if◌then◌else◌};
 ghost use Rattle.jsonb_key.specs.Readable.{IsReadable};
 ghost use Rattle.jsonb_stored.specs.AtKeys.{AtKey, Leaves, Splits, SplitsNamed};
-ghost use Rattle.jsonb_stored.specs.Parts.{IsFirstByte, kind_of_tree};
+ghost use Rattle.jsonb_stored.specs.Parts.{BeginsNoKey, IsFirstByte, kind_of_tree};
 ghost use Rattle.jsonb_spec.specs.Accessors.{as_boolean};
 ghost use Rattle.jsonb_spec.specs.SortKey.{key_of, items_key, members_key, text_key};
 ghost use Rattle.jsonb_spec.specs.SortKey.Kind as kind;
@@ -27,8 +27,11 @@ pub enum Kind {
 /// bytes may have a kind too; `None` where no key of such a value begins with that byte.
 pub fn kind_of(key: &[u8]) -> Option<Kind>
     ensures kind { AtKey key.now (λ t more. result ≡ kind_of_tree t) }
+    ensures none { (result ≡ None) ↔ BeginsNoKey key.now }
 {
-    let (first, _) = key.split_first()?;
+    let Some((first, _)) = key.split_first() else {
+        return None;
+    };
     kind_by_byte(*first)
 }
 
