@@ -6,13 +6,15 @@ use Rattle.jsonb_spec.specs.SortKey.{key_of}
 use Rattle.jsonb_spec.specs.Text.{text_of}
 use Rattle.jsonb_spec.specs.Tree.{Tree}
 use Rattle.jsonb_c.specs.KeyParts.{IsTreeKey}
-use Rattle.stored_text.specs.FewestDigits.{with_fewest_digits}
+use Rattle.jsonb_stored.specs.Checked.{IsSortKey}
+use Rattle.stored_text.specs.FewestDigits.{with_fewest_digits, IsDocumentWithKey}
 
 -- Whichever value the bytes are the sort key of, the text is that of the value with the fewest digits that has this
--- key.
-abbrev pub IsTextOfKey : List ℕ → List ℕ → Type 0
-IsTextOfKey key text = (t : Tree) → IsTreeKey key t
-    → (text_of (with_fewest_digits t) ≡ Some text) × (key_of (with_fewest_digits t) ≡ key)
+-- key. Where the value is in range, it is an extended document of a value with this key.
+pub record IsTextOfKey (key text : List ℕ) : Type 0 where
+  pub written : (t : Tree) → IsTreeKey key t
+      → (text_of (with_fewest_digits t) ≡ Some text) × (key_of (with_fewest_digits t) ≡ key)
+  pub document : IsSortKey key → IsDocumentWithKey key text
 
 -- The bytes are the sort key of no value.
 abbrev pub IsNoKey : List ℕ → Type 0

@@ -10,7 +10,7 @@ ghost use Rattle.jsonb_path.specs.Path.{IsPath, IsPlainPath, StartsKey};
 ghost use Rattle.jsonb_stored.specs.Checked.{IsSortKey};
 ghost use Rattle.jsonb_stored.specs.Found.{count_of, item_from, Finds, IsRange};
 ghost use Rattle.jsonb_stored.specs.Open.{Open};
-ghost use Rattle.jsonb_stored.specs.Parts.{kind_of_tree};
+ghost use Rattle.jsonb_stored.specs.Parts.{BeginsNoKey, kind_of_tree};
 ghost use Rattle.jsonb_spec.specs.Accessors.{get_by_name};
 ghost use Rattle.jsonb_spec.specs.SortKey.{key_of, text_key};
 ghost use Rattle.jsonb_spec.specs.SortKey.Kind as kind;
@@ -41,7 +41,8 @@ pub const ARRAY: u32 = 5;
 
 pub const OBJECT: u32 = 6;
 
-/// Whether bytes are the sort key of a value of JSON's kinds with at most 512 nested arrays and objects.
+/// Whether bytes are the sort key of a value in range: of JSON's kinds, with at most 512 nested arrays and objects, and
+/// numbers of at most 38 digits, before and behind the point. Then their text is an extended document with that key.
 #[unsafe(no_mangle)]
 pub extern "C" fn vizhoniku_key_check(key: &[u8]) -> u32
     ensures accepted { result ≡ ACCEPTED ↔ IsSortKey key.now }
@@ -50,10 +51,11 @@ pub extern "C" fn vizhoniku_key_check(key: &[u8]) -> u32
     if is_sort_key(key) { ACCEPTED } else { NO_KEY }
 }
 
-/// The kind of the value of a sort key, from its first byte alone.
+/// The kind of the value of a sort key, from its first byte alone, or `NO_KIND`, where no key begins so.
 #[unsafe(no_mangle)]
 pub extern "C" fn vizhoniku_key_kind(key: &[u8]) -> u32
     ensures kind { (t : Tree) → IsTreeKey key.now t → result ≡ kind_number (kind_of_tree t) }
+    ensures no_kind { (result ≡ NO_KIND) ↔ BeginsNoKey key.now }
     ensures known { result ≤ OBJECT }
 {
     kind_number(kind_of(key))

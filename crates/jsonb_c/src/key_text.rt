@@ -19,8 +19,8 @@ pub extern "C" fn vizhoniku_key_text(
 ) -> u32
     ensures status { (result ≡ ACCEPTED) ⊎ (result ≡ OUT_OF_MEMORY) ⊎ (result ≡ TOO_SHORT) ⊎ (result ≡ NO_KEY) }
 
-    // What is written of a key is the text of the value with the fewest digits that has it, and no other byte of the
-    // buffer changes.
+    // What is written of a key is the text of the value with the fewest digits that has it, of a checked key a document
+    // with that key, and no other byte of the buffer changes.
     ensures fills { FillsBuffer (IsTextOfKey key.now) ACCEPTED result size.new out.old out.new }
 
     // A key is never told to be none.

@@ -11,7 +11,7 @@ use Rattle.jsonb_spec.specs.Tree.{Num, Tree, null, boolean, string, number, arra
 use Rattle.jsonb_value.proofs.Numbers.Nearest.{unsigned_abs-signed}
 use Rattle.jsonb_value.proofs.SortKeys.Trees.{keys_same}
 use Rattle.jsonb_value.proofs.Trees.RangeTexts.{text_in_range, range_reads_back, document_in_range}
-use Rattle.stored_text.specs.FewestDigits.{spare_zeros, fewest_digits, with_fewest_digits, items_with_fewest_digits, members_with_fewest_digits, AppendsDocumentOf}
+use Rattle.stored_text.specs.FewestDigits.{spare_zeros, fewest_digits, with_fewest_digits, items_with_fewest_digits, members_with_fewest_digits, AppendsDocumentWithKey}
 use Rattle.stored_text.specs.Writes.{value_text}
 use Rattle.stored_text.proofs.Spares.{divided_less, fewest_proper}
 use Rattle.stored_text.proofs.Whole.{key_kept}
@@ -70,7 +70,7 @@ mutual
   members_range no_members depth w = tt
   members_range (more_members k t ms) depth w = (range_kept t depth w.0, members_range ms depth w.1)
 
-pub document_appended : (key old new : List ℕ) (k : IsSortKey key) → new ≡ old ++ value_text k.value → AppendsDocumentOf key old new
+pub document_appended : (key old new : List ℕ) (k : IsSortKey key) → new ≡ old ++ value_text k.value → AppendsDocumentWithKey key old new
 document_appended key old new k e =
     let t = with_fewest_digits k.value in
     let proper : IsProper t = proper_kept k.value max_depth k.proper k.in_range in
@@ -78,8 +78,10 @@ document_appended key old new k e =
     let back = range_reads_back extended t proper within (value_text k.value) (text_in_range HasFewDigits t within) in
     record {
       text = value_text k.value;
-      value = back.tree;
       appended = e;
-      document = back.document;
-      is_key = (keys_same back.tree t (document_in_range extended (value_text k.value) back.tree back.document).1 proper).1 back.same ∙ key_kept k.value k.proper ∙ sym k.is_key;
+      document = record {
+        value = back.tree;
+        document = back.document;
+        is_key = (keys_same back.tree t (document_in_range extended (value_text k.value) back.tree back.document).1 proper).1 back.same ∙ key_kept k.value k.proper ∙ sym k.is_key;
+      };
     }

@@ -52,10 +52,14 @@ pub record AppendsTextOf (t : Tree) (old new : List ℕ) : Type 0 where
   pub is_key : key_of (with_fewest_digits t) ≡ key_of t
   pub fewest : IsWithin HasFewestDigits (with_fewest_digits t) max_depth
 
--- New is old with a text at its end: an extended document, of a value with this key.
-pub record AppendsDocumentOf (key old new : List ℕ) : Type 0 where
-  pub text : List ℕ
+-- The text is an extended document, of a value with this key.
+pub record IsDocumentWithKey (key text : List ℕ) : Type 0 where
   pub value : Tree
-  pub appended : new ≡ old ++ text
   pub document : IsDocument extended text value
   pub is_key : key_of value ≡ key
+
+-- New is old with such a text at its end.
+pub record AppendsDocumentWithKey (key old new : List ℕ) : Type 0 where
+  pub text : List ℕ
+  pub appended : new ≡ old ++ text
+  pub document : IsDocumentWithKey key text

@@ -10,7 +10,7 @@ ghost use Rattle.jsonb_spec.specs.Ascii as ascii;
 ghost use Rattle.jsonb_spec.specs.SortKey.{key_of};
 ghost use Rattle.jsonb_spec.specs.Text.Appending.{Appends, comma_before};
 ghost use Rattle.jsonb_spec.specs.Tree.{Tree};
-ghost use Rattle.stored_text.specs.FewestDigits.{AppendsTextOf, AppendsDocumentOf};
+ghost use Rattle.stored_text.specs.FewestDigits.{AppendsTextOf, AppendsDocumentWithKey};
 ghost use Rattle.stored_text.specs.Writes.{Keeps, LacksRoom, AppendsLeaving, name_text, opening_text, open_text, closing_text, value_text};
 
 use crate::number::append_number;
@@ -36,7 +36,7 @@ use std::alloc::AllocError;
 pub fn write_text_of_key(key: &[u8], buf: &mut Vec<u8>) -> Result<(), KeyError>
     ensures ok { IfOk result (λ _. OfKey key.now (λ t. AppendsTextOf t buf.old.items buf.new.items)) }
     // The text of a checked key is parsed again, and gives the same key.
-    ensures document { IfOk result (λ _. IsSortKey key.now → AppendsDocumentOf key.now buf.old.items buf.new.items) }
+    ensures document { IfOk result (λ _. IsSortKey key.now → AppendsDocumentWithKey key.now buf.old.items buf.new.items) }
     ensures err { OnErr result (buf.new.items ≡ buf.old.items) }
     // A key fails only where the capacity for the whole text is missing.
     ensures invalid { IfErr result (λ e. e ≡ KeyError.Invalid → OfKey key.now (λ t. ⊥)) }
