@@ -186,7 +186,7 @@ uint32_t vizhoniku_message(uint32_t mode, const unsigned char *text, size_t text
 
 /* The kind of a value. */
 enum vizhoniku_kind {
-  VIZHONIKU_NO_KIND = 0, /* the bytes aren't the sort key of a value */
+  VIZHONIKU_NO_KIND = 0, /* no sort key of a value begins so */
   VIZHONIKU_NULL = 1,
   VIZHONIKU_BOOLEAN = 2,
   VIZHONIKU_NUMBER = 3,
@@ -195,12 +195,15 @@ enum vizhoniku_kind {
   VIZHONIKU_OBJECT = 6
 };
 
-/* Checks whether bytes are the sort key of a value. VIZHONIKU_NO_KEY: they aren't. The calls below don't check a key as a
- * whole, so a key from outside is checked by this first. It takes no memory, and its time is linear in the size. A number
- * past the bounds of texts has a key too: what vizhoniku_key_text writes of that no mode accepts. */
+/* Checks whether bytes are the sort key of a value that a text can have: JSON, with at most 512 nested arrays and
+ * objects, and numbers of at most 38 digits, before and behind the point. VIZHONIKU_NO_KEY: they aren't. Of a key that is
+ * accepted vizhoniku_key_text writes a document of extended mode, whose sort key it is. The calls below don't check a key
+ * as a whole, so a key from outside is checked by this first. It takes no memory, and its time is linear in the size. */
 uint32_t vizhoniku_key_check(const unsigned char *key, size_t key_size);
 
-/* Returns the kind of the value whose key this is, of enum vizhoniku_kind. It looks at the first byte alone. */
+/* Returns the kind of the value whose key this is, of enum vizhoniku_kind. It looks at the first byte alone: 15 and 16
+ * (hexadecimal) are of booleans, 38 to 7E and 80 to C7 of numbers, D0 of strings, D1 of objects, D2 of arrays, D3 of null,
+ * and all others of no kind. */
 uint32_t vizhoniku_key_kind(const unsigned char *key, size_t key_size);
 
 /* Counts the items of an array, or the members of an object. VIZHONIKU_NO_PART: the value is neither. */

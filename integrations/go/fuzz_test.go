@@ -86,11 +86,7 @@ func FuzzKeys(f *testing.F) {
 		key := Key(stored)
 		text, textErr := key.Text()
 		if err == nil && textErr == nil {
-			// A number past the bounds of texts has a key, and a text that is no document.
-			var why *Error
-			if textErr = Check(text, Extended); errors.As(textErr, &why) && why.Code == NumberNotCarried {
-				textErr = nil
-			}
+			textErr = Check(text, Extended)
 		}
 		if err == nil && textErr != nil {
 			t.Fatalf("%q, %v", text, textErr)

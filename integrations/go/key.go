@@ -35,8 +35,8 @@ func (kind Kind) String() string {
 // no key the methods find nothing, or something in them, or return ErrKey.
 type Key string
 
-// KeyOf returns the key of stored bytes, which are checked as a whole. The error is ErrKey where they are none. A number
-// past the bounds of texts has a key too, of which Text returns a text that is no document; SortKey makes none.
+// KeyOf returns the key of stored bytes, which are checked as a whole. The error is ErrKey where they aren't the key of a
+// document.
 func KeyOf(stored []byte) (Key, error) {
 	if C.vizhoniku_key_check(begin(stored), size(len(stored))) != C.VIZHONIKU_ACCEPTED {
 		return "", ErrKey

@@ -1,3 +1,4 @@
+use jsonb::{Error, parse_value};
 use jsonb_key::{KeyError, value_of_sort_key};
 use jsonb_stored::is_sort_key;
 use jsonb_value::sort_key::kind;
@@ -5,12 +6,21 @@ use std::alloc::{AllocError, Global};
 use std::process::Abort;
 use std::test::Fail;
 
-// Whether the bytes have a value.
-fn has_value(alloc: Global, bytes: &[u8]) -> Result<bool, AllocError> {
-    match value_of_sort_key(alloc, bytes) {
+// Whether the bytes have a value, whose text extended mode accepts.
+fn has_document(alloc: Global, bytes: &[u8]) -> Result<bool, AllocError> {
+    let value = match value_of_sort_key(alloc, bytes) {
+        Ok(value) => value,
+        Err(KeyError::Invalid) => return Ok(false),
+        Err(KeyError::OutOfMemory) => return Err(AllocError),
+    };
+    let mut text = Vec::new(alloc);
+    if value.write_text(&mut text).is_err() {
+        return Err(AllocError);
+    }
+    match parse_value(alloc, &text) {
         Ok(_) => Ok(true),
-        Err(KeyError::Invalid) => Ok(false),
-        Err(KeyError::OutOfMemory) => Err(AllocError),
+        Err(Error::OutOfMemory) => Err(AllocError),
+        Err(_) => Ok(false),
     }
 }
 
@@ -40,27 +50,28 @@ fn at_most_512_levels_are_a_key(rt: HostRuntime) -> Result<(), Fail> {
     ] {
         let arrays = nested_key(alloc, b"\xD2", b"\x00", levels)?;
         assert_eq!(rt; is_sort_key(&arrays), is_key);
-        assert_eq!(rt; has_value(alloc, &arrays)?, is_key);
+        assert_eq!(rt; has_document(alloc, &arrays)?, is_key);
         let objects = nested_key(alloc, b"\xD1a\x00\x01", b"\x00\x00", levels)?;
         assert_eq!(rt; is_sort_key(&objects), is_key);
-        assert_eq!(rt; has_value(alloc, &objects)?, is_key);
+        assert_eq!(rt; has_document(alloc, &objects)?, is_key);
     }
     Ok(())
 }
 
-// The keys of 123, -0.05, "a\0é", [1,null], {"":[],"a":true,"a\0":{}} and of a number with scale 255.
-const KEYS: [&[u8]; 6] = [
+// The keys of 123, -0.05, "a\0é", [1,null], {"":[],"a":true,"a\0":{}}, of 10 ^ -38, and of -(10 ^ 38 - 1).
+const KEYS: [&[u8]; 7] = [
     b"\xA3\x19\x3C",
     b"\x60\x9B",
     b"\xD0a\x00\xFF\xC3\xA9\x00\x01",
     b"\xD2\xA1\x14\xD3\x00",
     b"\xD1\x00\x01\xD2\x00a\x00\x01\x16a\x00\xFF\x00\x01\xD1\x00\x00\x00\x00",
-    b"\x81\x01\x14",
+    b"\x81\xDA\x14",
+    b"\x39\x38\x38\x38\x38\x38\x38\x38\x38\x38\x38\x38\x38\x38\x38\x38\x38\x38\x38\x39",
 ];
 
-// Compares the check with the value, and tells whether the bytes are a key.
+// Compares the check with the document, and tells whether the bytes are a key.
 fn expect_same(rt: &(impl AllocGlobal + Abort), bytes: &[u8]) -> Result<bool, AllocError> {
-    let is_key = has_value(rt.alloc(), bytes)?;
+    let is_key = has_document(rt.alloc(), bytes)?;
     assert_eq!(rt; is_sort_key(bytes), is_key, "{bytes:?}");
     Ok(is_key)
 }
@@ -78,7 +89,7 @@ fn keys_are_keys_and_cut_ones_are_not(rt: HostRuntime) -> Result<(), Fail> {
 }
 
 #[test]
-fn changed_keys_are_keys_where_they_have_a_value(rt: HostRuntime) -> Result<(), Fail> {
+fn changed_keys_are_keys_where_they_have_a_document(rt: HostRuntime) -> Result<(), Fail> {
     for key in KEYS {
         let mut changed = Vec::from_slice(rt.alloc(), key)?;
         for at in 0..key.len() {
@@ -94,7 +105,7 @@ fn changed_keys_are_keys_where_they_have_a_value(rt: HostRuntime) -> Result<(), 
 
 #[test]
 fn what_is_no_key(rt: HostRuntime) -> Result<(), Fail> {
-    let cases: [&[u8]; 16] = [
+    let cases: [&[u8]; 21] = [
         // Binary data and a date.
         b"\x10\x00\x01",
         b"\x11\x80\x00\x00\x00",
@@ -115,6 +126,12 @@ fn what_is_no_key(rt: HostRuntime) -> Result<(), Fail> {
         // 0.1 and -0.05 with a place in two bytes.
         b"\x81\xFF\x14",
         b"\x7E\x01\x9B",
+        // A number with 39 digits behind the point, one with 255, one of 39 digits, and 10 ^ 38 and 15 * 10 ^ 37.
+        b"\x81\xD9\x14",
+        b"\x81\x01\x14",
+        b"\xA1\x15\x15\x15\x15\x15\x15\x15\x15\x15\x15\x15\x15\x15\x15\x15\x15\x15\x15\x15\x14",
+        b"\xC7\x14",
+        b"\xC7\x1E",
         // 2 ^ 127, and a number with 256 digits behind the point.
         b"\xC7\x23\x03\x53\x25\x45\x79\x5D\xB9\x3F\x93\x21\xAF\x3D\x4B\x1F\xB1\x53\x0B\x91\xA0",
         b"\x81\x00\x14",

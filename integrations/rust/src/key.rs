@@ -52,9 +52,8 @@ impl Key {
         Key(bytes.into_boxed_slice())
     }
 
-    /// The key whose bytes these are. They are checked as a whole, which takes no memory. A number past the
-    /// bounds of texts has a key too, of which [`KeyRef::to_text`] returns a text that is no document; [`crate::sort_key`]
-    /// makes none.
+    /// The key whose bytes these are. They are checked as a whole, which takes no memory: [`KeyRef::to_text`] of a key
+    /// that is accepted is a document of extended mode, whose key it is.
     ///
     /// # Errors
     ///
@@ -165,9 +164,8 @@ impl KeyRef {
         unsafe { &*(bytes as *const [u8] as *const KeyRef) }
     }
 
-    /// The key whose bytes these are. They are checked as a whole, which takes no memory. A number past the
-    /// bounds of texts has a key too, of which [`KeyRef::to_text`] returns a text that is no document; [`crate::sort_key`]
-    /// makes none.
+    /// The key whose bytes these are. They are checked as a whole, which takes no memory: [`KeyRef::to_text`] of a key
+    /// that is accepted is a document of extended mode, whose key it is.
     ///
     /// # Errors
     ///
