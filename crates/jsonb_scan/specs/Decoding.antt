@@ -59,6 +59,10 @@ pub record StopsAtEscape (mode : Mode) (bytes : List ℕ) (code : Code) (left : 
   pub cut : IsCutShort mode bytes code read
   pub count : left + read ≡ length bytes
 
+-- The bytes are contents of a string: no bad escape is among them.
+abbrev pub AreContents : Mode → List ℕ → Type 0
+AreContents mode bytes = (code : Code) → (left : ℕ) → StopsAtEscape mode bytes code left → ⊥
+
 -- a backslash is among the first bytes
 abbrev pub SeesBackslash : List ℕ → ℕ → Type 0
 SeesBackslash bytes count = (k : ℕ) × (k < count) × (slice_index bytes k ≡ ascii.backslash)

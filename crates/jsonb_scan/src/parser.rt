@@ -21,7 +21,8 @@ pub enum Mode {
     Extended,
 }
 
-/// A law: two modes are equal exactly where they are the same one.
+/// A law: two modes are equal exactly where they are the same one, and `clone` never fails and returns the same mode.
 pub fn modes_compare(left: &Mode, right: &Mode)
     ensures equal { IsTrue (⟦<Mode as PartialEq>⟧.eq left.now right.now) ↔ (mode_of left.now ≡ mode_of right.now) }
+    ensures clone { (a b : Mode) → ⟦<Mode as Clone>⟧.is_infallible a × (⟦<Mode as Clone>⟧.is_clone a b → b ≡ a) }
 {}

@@ -1,14 +1,38 @@
 -- The kind of a value, told by the first byte of its key.
-use Rattle.std.proofs.Common.{◌≡◌, ◌≢◌, ◌⊎◌, inl, inr, Bool, true, false, if◌then◌else◌, ℕ, ◌+◌, ◌<◌, ◌∷◌, ◌++◌, List, Option, Some, None, MatchOption, refl, sym, ap, ◌∙◌, arith}
+use Rattle.std.proofs.Common.{◌≡◌, ◌≢◌, inl, inr, Bool, true, false, if◌then◌else◌, ℕ, ◌+◌, ◌-◌, ◌<◌, ◌≤◌, ◌∷◌, ◌++◌, List, map, unsigned_abs, Option, Some, None, MatchOption, refl, sym, ap, ◌∙◌, arith}
+use Rattle.std.proofs.lemmas.Bool.{cases_lt, cases_eq}
+use Rattle.std.specs.Bool.{nat_lt}
 use Rattle.jsonb_key.specs.Readable.{IsReadable}
+use Rattle.jsonb_key.proofs.Numbers.{far_place, near_place}
+use Rattle.jsonb_key.proofs.Signs.{signed_read}
 use Rattle.jsonb_stored.specs.declared.walk.Kind.{Kind}
 use Rattle.jsonb_stored.specs.declared.walk.Kind.TheVariants as kind
-use Rattle.jsonb_stored.specs.Parts.{IsFirstByte, kind_of_tree}
+use Rattle.jsonb_stored.specs.Parts.{IsFirstByte, IsNumberByte, kind_of_tree}
 use Rattle.jsonb_spec.specs.Accessors.{as_boolean}
-use Rattle.jsonb_spec.specs.SortKey.{key_of, items_key, members_key, text_key}
-use Rattle.jsonb_spec.specs.Tree.{Tree, null, boolean, string, number, array, object}
+use Rattle.jsonb_spec.specs.Proper.{IsProperNumber}
+use Rattle.jsonb_spec.specs.SortKey.{key_of, number_key, digits_key, invert_if, items_key, members_key, text_key}
+use Rattle.jsonb_spec.specs.Tree.{Num, Tree, null, boolean, string, number, array, object}
 use Rattle.jsonb_value.proofs.SortKeys.Kinds.{is_small, number_begins}
 use Rattle.jsonb_value.proofs.Trees.Runs.{heads}
+
+-- a byte of a place, inverted or not
+place_byte : (negative : Bool) (byte first : ℕ) → 0x81 ≤ byte → byte ≤ 0xC7 → first ≡ invert_if negative byte → IsNumberByte first
+place_byte true byte first low high is = (omega (arith, high, is), omega (arith, low, is), λ e. absurd (omega (arith, low, is, e)))
+place_byte false byte first low high is = (omega (arith, low, is), omega (arith, high, is), λ e. absurd (omega (arith, low, is, e)))
+
+-- the first byte of a number
+number_byte : (n : Num) → IsProperNumber n → (first : ℕ) (rest bytes more : List ℕ) → bytes ≡ first ∷ rest → bytes ≡ number_key n ++ more → IsNumberByte first
+number_byte n proper first rest bytes more e stands = elim (cases_eq first 0x80) [
+  | inl zero ↦ (omega (arith, zero), omega (arith, zero), λ is. absurd (omega (arith, zero, is)))
+  | inr other ↦
+      let sign = nat_lt first 0x80 in
+      let s = signed_read n proper first rest bytes more e other stands in
+      let behind : List ℕ = map (invert_if sign) (digits_key s.count (unsigned_abs n.whole)) ++ more in
+      elim (cases_lt s.place 225) [
+        | inl low ↦ place_byte sign 0x81 first (omega arith) (omega arith) (heads first (invert_if sign 0x81) rest (invert_if sign s.place ∷ behind) (sym e ∙ s.stands ∙ ap (λ key. map (invert_if sign) key ++ behind) (far_place s.place low)))
+        | inr high ↦ place_byte sign (s.place - 95) first (omega (arith, high)) (omega (arith, s.is_place, s.few)) (heads first (invert_if sign (s.place - 95)) rest behind (sym e ∙ s.stands ∙ ap (λ key. map (invert_if sign) key ++ behind) (near_place s.place high)))
+      ]
+]
 
 -- the kind of a tree of JSON's kinds, with a key that begins so
 pub record KindOf (t : Tree) (first : ℕ) : Type 0 where
@@ -21,10 +45,7 @@ kind_begins null r first rest bytes more e stands = record { which = kind.Null; 
 kind_begins (boolean true) r first rest bytes more e stands = record { which = kind.Bool; is = refl; begins = inr (heads first 0x16 rest more (sym e ∙ stands)) }
 kind_begins (boolean false) r first rest bytes more e stands = record { which = kind.Bool; is = refl; begins = inl (heads first 0x15 rest more (sym e ∙ stands)) }
 kind_begins (string mark text) r first rest bytes more e stands = record { which = kind.String; is = refl; begins = heads first 0xD0 rest (text_key text ++ more) (sym e ∙ stands) }
-kind_begins (number n) r first rest bytes more e stands =
-    let b = number_begins n (is_small n r.proper) in
-    let is = heads first b.head rest (b.tail ++ more) (sym e ∙ stands ∙ ap (λ key. key ++ more) b.is) in
-    record { which = kind.Number; is = refl; begins = (omega (arith, is, b.low), omega (arith, is, b.high)) }
+kind_begins (number n) r first rest bytes more e stands = record { which = kind.Number; is = refl; begins = number_byte n r.proper first rest bytes more e stands }
 kind_begins (array ts) r first rest bytes more e stands = record { which = kind.Array; is = refl; begins = heads first 0xD2 rest (items_key ts ++ more) (sym e ∙ stands) }
 kind_begins (object ms) r first rest bytes more e stands = record { which = kind.Object; is = refl; begins = heads first 0xD1 rest (members_key ms ++ more) (sym e ∙ stands) }
 kind_begins t r first rest bytes more e stands = absurd r.within
@@ -97,31 +118,10 @@ within kind.Object kind.Object first a b = refl
 one_kind : (k : Kind) (t : Tree) (first : ℕ) → IsFirstByte k first → KindOf t first → Some k ≡ kind_of_tree t
 one_kind k t first is of = ap (λ j. Some j) (within k of.which first (between k first is) (between of.which first of.begins)) ∙ of.is
 
--- no kind begins so
-no_kind : (t : Tree) (first : ℕ) → KindOf t first → (first < 0x15) ⊎ (0xD3 < first) → ⊥
-no_kind t first of (inl low) = by_kind of.which (between of.which first of.begins)
-  where
-    by_kind : (k : Kind) → (least k < first + 1) × (first < greatest k + 1) → ⊥
-    by_kind kind.Null b = omega (arith, b.0, low)
-    by_kind kind.Bool b = omega (arith, b.0, low)
-    by_kind kind.Number b = omega (arith, b.0, low)
-    by_kind kind.String b = omega (arith, b.0, low)
-    by_kind kind.Array b = omega (arith, b.0, low)
-    by_kind kind.Object b = omega (arith, b.0, low)
-no_kind t first of (inr high) = by_kind of.which (between of.which first of.begins)
-  where
-    by_kind : (k : Kind) → (least k < first + 1) × (first < greatest k + 1) → ⊥
-    by_kind kind.Null b = omega (arith, b.1, high)
-    by_kind kind.Bool b = omega (arith, b.1, high)
-    by_kind kind.Number b = omega (arith, b.1, high)
-    by_kind kind.String b = omega (arith, b.1, high)
-    by_kind kind.Array b = omega (arith, b.1, high)
-    by_kind kind.Object b = omega (arith, b.1, high)
-
 -- what is found by the byte is the kind
-pub same_as_found : (t : Tree) (first : ℕ) → KindOf t first → (result : Option Kind) → MatchOption result ((first < 0x15) ⊎ (0xD3 < first)) (λ k. IsFirstByte k first) → result ≡ kind_of_tree t
+pub same_as_found : (t : Tree) (first : ℕ) → KindOf t first → (result : Option Kind) → MatchOption result ((k : Kind) → IsFirstByte k first → ⊥) (λ k. IsFirstByte k first) → result ≡ kind_of_tree t
 same_as_found t first of (Some k) is = one_kind k t first is of
-same_as_found t first of None out = absurd (no_kind t first of out)
+same_as_found t first of None none = absurd (none of.which of.begins)
 
 -- the byte of a boolean is one of two
 of_boolean : (b : Bool) (first : ℕ) → first ≡ (if b then 0x16 else 0x15) → (0x14 < first) × (first < 0x17)

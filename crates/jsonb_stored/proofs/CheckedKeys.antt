@@ -1,12 +1,16 @@
 -- Parts of checked keys are such keys.
-use Rattle.std.proofs.Common.{◌≡◌, ℕ, List, [], ◌++◌, Some, None, sym, ap, ◌∙◌, append-nil}
+use Rattle.std.proofs.Common.{◌≡◌, ℕ, List, [], ◌∷◌, ◌++◌, Some, None, refl, sym, ap, ◌∙◌, append-nil}
 use Rattle.std.proofs.Math.Logic.{∥∥₁_map}
 use Rattle.jsonb_key.specs.Readable.{IsReadable}
 use Rattle.jsonb_stored.specs.Checked.{IsSortKey}
 use Rattle.jsonb_stored.specs.Parts.{kind_of_tree, ChildAt, IsKeyOfChild, IsKeyAt}
-use Rattle.jsonb_stored.proofs.Finds.{child_readable, part_readable}
+use Rattle.jsonb_path.proofs.PartsReadBack.{part_proper, part_within}
+use Rattle.jsonb_stored.proofs.Finds.{child_readable}
+use Rattle.jsonb_stored.proofs.InRange.{readable_at}
 use Rattle.jsonb_key.proofs.Texts.{none_some, some_same}
+use Rattle.jsonb_spec.specs.PartAt.{IsAt}
 use Rattle.jsonb_spec.specs.SortKey.{key_of}
+use Rattle.jsonb_spec.specs.Text.Range.{HasFewDigits}
 use Rattle.jsonb_spec.specs.Tree.{Tree, null, boolean, string, number, array, object}
 
 -- each value of JSON's kinds has a kind
@@ -31,13 +35,25 @@ key_of_child t r name part rest key x found fronted =
     let behind = some_same rest x.behind (found x.child (child_readable t r name x.child x.is) x.behind x.stands) in
     record { child = x.child; is = x.is; is_key = fronted (key_of x.child) (x.stands ∙ ap (λ b. key_of x.child ++ b) (sym behind)) }
 
+-- a checked key is that of a value of JSON's kinds
+pub key_readable : (bytes : List ℕ) (k : IsSortKey bytes) → IsReadable k.value
+key_readable bytes k = readable_at 512 k.value (record { proper = k.proper; within = k.in_range })
+
 -- what is the key of a part is a key
+part_is_key : (bytes key : List ℕ) (names : List (List ℕ)) (k : IsSortKey bytes) (part : Tree) → IsAt k.value names part → key ≡ key_of part → IsSortKey key
+part_is_key bytes key names k part at is_key = record {
+  value = part;
+  proper = part_proper k.value names part at k.proper;
+  in_range = part_within HasFewDigits k.value names part 512 at k.in_range;
+  is_key = is_key;
+}
+
 pub checked_child : (bytes name key : List ℕ) → ∥ IsSortKey bytes ∥₁ → ((t : Tree) → IsReadable t → bytes ≡ key_of t → IsKeyOfChild t name key) → ∥ IsSortKey key ∥₁
 checked_child bytes name key checked child = ∥∥₁_map checked (λ k.
-    let c = child k.value k.readable k.is_key in
-    record { value = c.child; readable = child_readable k.value k.readable name c.child c.is; is_key = c.is_key })
+    let c = child k.value (key_readable bytes k) k.is_key in
+    part_is_key bytes key (name ∷ []) k c.child (c.child, c.is, refl) c.is_key)
 
 pub checked_part : (bytes : List ℕ) (names : List (List ℕ)) (key : List ℕ) → ∥ IsSortKey bytes ∥₁ → ((t : Tree) → IsReadable t → bytes ≡ key_of t → IsKeyAt t names key) → ∥ IsSortKey key ∥₁
 checked_part bytes names key checked part = ∥∥₁_map checked (λ k.
-    let p = part k.value k.readable k.is_key in
-    record { value = p.part; readable = part_readable k.value k.readable names p.part p.at; is_key = p.is_key })
+    let p = part k.value (key_readable bytes k) k.is_key in
+    part_is_key bytes key names k p.part p.at p.is_key)

@@ -18,8 +18,9 @@ pub mod CheckedNames
 pub mod CheckedKeys
 pub mod CheckedParts
 pub mod PlainBytes
-pub mod ShortNumbers
+pub mod NumberEnds
 pub mod Holding
+pub mod InRange
 pub mod Naming
 pub mod Walked
 pub mod Beside

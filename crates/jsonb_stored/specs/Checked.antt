@@ -1,19 +1,20 @@
 -- Which bytes are a sort key.
 use Rattle.std.specs.Prelude.{◌≡◌, ℕ, List, ⊤}
-use Rattle.jsonb_key.specs.Readable.{IsAnyNumber, IsReadable}
+use Rattle.jsonb_key.specs.Readable.{IsAnyNumber}
 use Rattle.jsonb_spec.specs.Keys.{KeysAscend}
-use Rattle.jsonb_spec.specs.Proper.{AreProper, HaveProperParts}
+use Rattle.jsonb_spec.specs.Proper.{IsProper, AreProper, HaveProperParts}
 use Rattle.jsonb_spec.specs.SortKey.{key_of, items_key, members_key, text_key}
-use Rattle.jsonb_spec.specs.Text.Range.{AreWithin, HaveWithin}
+use Rattle.jsonb_spec.specs.Text.Range.{HasFewDigits, IsInRange, AreWithin, HaveWithin}
 use Rattle.jsonb_spec.specs.Tree.{Tree, Trees, no_trees, more_trees, Members, no_members, more_members}
 
--- The bytes are the sort key of a value of JSON's kinds, with at most 512 arrays and objects in one another.
+-- The bytes are the sort key of a value in range: one that an extended text can have.
 pub record IsSortKey (bytes : List ℕ) : Type 0 where
   pub value : Tree
-  pub readable : IsReadable value
+  pub proper : IsProper value
+  pub in_range : IsInRange value
   pub is_key : bytes ≡ key_of value
 
--- The items of such a value.
+-- The items of a value of JSON's kinds, with at most 512 arrays and objects in one another.
 pub record AreReadable (ts : Trees) : Type 0 where
   pub proper : AreProper ts
   pub within : AreWithin IsAnyNumber ts 511
@@ -24,16 +25,19 @@ pub record HaveReadable (ms : Members) : Type 0 where
   pub proper : HaveProperParts ms
   pub within : HaveWithin IsAnyNumber ms 511
 
--- The bytes are the keys of such items, and their end.
+-- The bytes are the keys of the items of a value in range, and their end.
 pub record AreItems (bytes : List ℕ) : Type 0 where
   pub items : Trees
-  pub readable : AreReadable items
+  pub proper : AreProper items
+  pub in_range : AreWithin HasFewDigits items 511
   pub are_keys : bytes ≡ items_key items
 
--- The bytes are the names and keys of such members, and their end.
+-- The bytes are the names and keys of the members of a value in range, and their end.
 pub record AreMembers (bytes : List ℕ) : Type 0 where
   pub members : Members
-  pub readable : HaveReadable members
+  pub ascend : KeysAscend members
+  pub proper : HaveProperParts members
+  pub in_range : HaveWithin HasFewDigits members 511
   pub are_keys : bytes ≡ members_key members
 
 -- there are none

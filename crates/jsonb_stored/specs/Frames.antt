@@ -4,30 +4,37 @@ use Rattle.std.specs.Ordering.{nat_cmp}
 use Rattle.std.specs.Cmp.Lexicographic.{slice_cmp}
 use Rattle.std.specs.declared.cmp.Ordering.TheVariants.{Less}
 use Rattle.jsonb_spec.specs.Ascii as ascii
-use Rattle.jsonb_key.specs.Readable.{IsReadable, IsReadableAt}
 use Rattle.jsonb_stored.specs.Open.{Open, is_object, open_key, IsScalar}
 use Rattle.jsonb_stored.specs.Parts.{opened_tree}
-use Rattle.jsonb_spec.specs.Proper.{IsProperNumber}
+use Rattle.jsonb_spec.specs.Grammar.{max_depth}
+use Rattle.jsonb_spec.specs.Proper.{IsProper, IsProperNumber}
 use Rattle.jsonb_spec.specs.SortKey.{key_of, number_key, digits_key, text_key, invert_if}
+use Rattle.jsonb_spec.specs.Text.Range.{HasFewDigits, IsWithin}
 use Rattle.jsonb_spec.specs.Tree.{Num, Tree}
 
--- The bytes begin with the key of a value, and these stand behind it.
+-- The tree of a value in range, with arrays and objects nested no deeper than the number.
+pub record IsInRangeAt (depth : ℕ) (t : Tree) : Type 0 where
+  pub proper : IsProper t
+  pub within : IsWithin HasFewDigits t depth
+
+-- The bytes begin with the key of a value in range, and these stand behind it.
 pub record KeyFirst (bytes more : List ℕ) : Type 0 where
   pub value : Tree
-  pub readable : IsReadable value
+  pub in_range : IsInRangeAt max_depth value
   pub stands : bytes ≡ key_of value ++ more
 
--- The bytes begin with the key of a scalar, and these stand behind it.
+-- The bytes begin with the key of a scalar in range, and these stand behind it.
 pub record ScalarFirst (bytes more : List ℕ) : Type 0 where
   pub value : Tree
   pub scalar : IsScalar value
-  pub readable : (depth : ℕ) → IsReadableAt depth value
+  pub in_range : (depth : ℕ) → IsInRangeAt depth value
   pub stands : bytes ≡ key_of value ++ more
 
--- The bytes begin with the key of a number, and these stand behind it.
+-- The bytes begin with the key of a number in range, and these stand behind it.
 pub record NumberFirst (bytes more : List ℕ) : Type 0 where
   pub value : Num
   pub proper : IsProperNumber value
+  pub in_range : HasFewDigits value
   pub stands : bytes ≡ number_key value ++ more
 
 -- The bytes begin with the key of a text, without its first byte, and these stand behind it.
@@ -36,11 +43,11 @@ pub record TextFirst (bytes more : List ℕ) : Type 0 where
   pub utf8 : IsUtf8 text
   pub stands : bytes ≡ text_key text ++ more
 
--- The bytes begin with the key of an array or an object, without its first byte, and these stand behind it.
+-- The bytes begin with the key of an array or an object in range, without its first byte, and these stand behind it.
 pub record PartsFirst (object : Bool) (bytes more : List ℕ) : Type 0 where
   pub opened : Open
   pub is : is_object opened ≡ object
-  pub readable : IsReadable (opened_tree opened)
+  pub in_range : IsInRangeAt max_depth (opened_tree opened)
   pub stands : bytes ≡ open_key opened ++ more
 
 -- an array, or an object with the last name of those that were passed

@@ -5,7 +5,7 @@ use Rattle.jsonb_spec.specs.Proper.{AreProper, HaveProperParts}
 use Rattle.jsonb_spec.specs.SortKey.{items_key, members_key, text_key}
 use Rattle.jsonb_spec.specs.SortKey.Kind as kind
 use Rattle.jsonb_spec.specs.Text.Range.{AreWithin, HaveWithin}
-use Rattle.jsonb_spec.specs.Tree.{Tree, array, object, Trees, Members}
+use Rattle.jsonb_spec.specs.Tree.{Num, Tree, array, object, Trees, Members}
 
 -- an array or an object that is open: the items or the members that are left of it
 pub data Open : Type 0 where
@@ -22,10 +22,14 @@ abbrev pub open_key : Open → List ℕ
 open_key (items ts) = items_key ts
 open_key (members ms) = members_key ms
 
--- what is left is well-formed, with arrays and objects nested no deeper than the number
+-- what is left is well-formed, with arrays and objects nested no deeper than the number, and these numbers
+abbrev pub IsOpenWith : (Num → Type 0) → Open → ℕ → Type 0
+IsOpenWith IsIn (items ts) depth = AreProper ts × AreWithin IsIn ts depth
+IsOpenWith IsIn (members ms) depth = HaveProperParts ms × HaveWithin IsIn ms depth
+
+-- the same with any numbers
 abbrev pub IsOpen : Open → ℕ → Type 0
-IsOpen (items ts) depth = AreProper ts × AreWithin IsAnyNumber ts depth
-IsOpen (members ms) depth = HaveProperParts ms × HaveWithin IsAnyNumber ms depth
+IsOpen o depth = IsOpenWith IsAnyNumber o depth
 
 -- how an object or an array ends
 abbrev pub end_key : Bool → List ℕ

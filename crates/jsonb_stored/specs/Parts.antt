@@ -1,5 +1,5 @@
 -- Parts of values, found in their keys.
-use Rattle.std.specs.Prelude.{◌≡◌, ℕ, ◌<◌, ◌⊎◌, List, ◌++◌, Option, Some, None}
+use Rattle.std.specs.Prelude.{◌≡◌, ◌≢◌, ℕ, ◌≤◌, ◌⊎◌, List, ◌++◌, Option, Some, None}
 use Rattle.jsonb_spec.specs.PartAt.{IsChild, IsAt}
 use Rattle.jsonb_stored.specs.declared.walk.Kind.{Kind}
 use Rattle.jsonb_stored.specs.declared.walk.Kind.TheVariants as variants
@@ -18,10 +18,14 @@ kind_of_tree (array ts) = Some variants.Array
 kind_of_tree (object ms) = Some variants.Object
 kind_of_tree t = None
 
+-- The keys of numbers begin with this byte: those of negative ones with 0x38 to 0x7E, and the others with 0x80 to 0xC7.
+abbrev pub IsNumberByte : ℕ → Type 0
+IsNumberByte first = (0x38 ≤ first) × (first ≤ 0xC7) × (first ≢ 0x7F)
+
 -- The keys of the kind begin with this byte.
 abbrev pub IsFirstByte : Kind → ℕ → Type 0
 IsFirstByte variants.Bool first = (first ≡ kind.false) ⊎ (first ≡ kind.true)
-IsFirstByte variants.Number first = (kind.true < first) × (first < kind.string)
+IsFirstByte variants.Number first = IsNumberByte first
 IsFirstByte variants.String first = first ≡ kind.string
 IsFirstByte variants.Object first = first ≡ kind.object
 IsFirstByte variants.Array first = first ≡ kind.array

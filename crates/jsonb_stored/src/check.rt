@@ -3,14 +3,13 @@
 ghost use Rattle.std.specs.Prelude.{◌≡◌, ◌<◌, ◌≤◌, ◌++◌, ◌↔◌, List, ℕ, length, get_or, true, IsTrue, IfOk, IfErr, IfSome, Option};
 ghost use Rattle.jsonb_stored.specs.AtKeys.{Checks, Leaves};
 ghost use Rattle.jsonb_stored.specs.Checked.{IsSortKey};
-ghost use Rattle.jsonb_stored.specs.Frames.{KeyFirst, ScalarFirst, NumberFirst, TextFirst, PartsFirst, Frame, in_object, is_object_frame, new_frame, IsAbove, NameFirst, frame_behind, IsFrame};
+ghost use Rattle.jsonb_stored.specs.Frames.{KeyFirst, ScalarFirst, TextFirst, PartsFirst, Frame, in_object, is_object_frame, new_frame, IsAbove, NameFirst, frame_behind, IsFrame};
 ghost use Rattle.jsonb_spec.specs.SortKey.{text_key};
 
 use crate::ascii::utf8_run;
-use crate::digits::short_number;
+use crate::digits::checked_number;
 use crate::skip::{MAX_DEPTH, after_end, after_text, is_word, opening};
 use crate::walk::front;
-use jsonb_key::number::read_number;
 use jsonb_value::sort_key::kind;
 
 // What is kept of each open array and object: that it is an array, that it is an object with no name passed, or else
@@ -23,8 +22,9 @@ const NO_NAME: usize = 1;
 // check.
 const FEW: usize = 8;
 
-/// Whether the bytes are the sort key of a value of JSON's kinds with at most 512 nested arrays and objects: of those
-/// that `value_of_sort_key` decodes. Nothing is allocated, and no function calls itself.
+/// Whether the bytes are the sort key of a value in range: of JSON's kinds, with at most 512 nested arrays and objects,
+/// and with numbers of at most 38 digits, before and behind the point. So each such key is that of an extended text.
+/// Nothing is allocated, and no function calls itself.
 pub fn is_sort_key(bytes: &[u8]) -> bool
     ensures { IsTrue result ↔ IsSortKey bytes.now }
 {
@@ -61,19 +61,6 @@ fn checked_scalar(bytes: &[u8]) -> Option<&[u8]>
         return Some(rest);
     }
     checked_number(bytes)
-}
-
-// The bytes after the key of a number that they begin with, if it is one.
-fn checked_number(bytes: &[u8]) -> Option<&[u8]>
-    ensures checks { Checks (NumberFirst bytes.now) bytes.now result }
-{
-    if let Some(rest) = short_number(bytes) {
-        return Some(rest);
-    }
-    let Some((_, rest)) = read_number(bytes) else {
-        return None;
-    };
-    Some(rest)
 }
 
 // The bytes after the key of a text that they begin with, if it is one, from what stands behind its first byte.

@@ -1,36 +1,56 @@
 //! Where the key of a number ends, checked with no number made.
 
-ghost use Rattle.std.specs.Prelude.{◌≡◌, ◌<◌, ◌≤◌, ◌⊎◌, ◌%◌, ◌/◌, length, IfSome, MatchOption};
+ghost use Rattle.std.specs.Prelude.{◌≡◌, ◌≢◌, ◌<◌, ◌≤◌, ◌⊎◌, ◌*◌, ◌%◌, ◌/◌, ◌^◌, ◌++◌, ◌∷◌, List, ℕ, length, map, IfSome, MatchOption};
+ghost use Rattle.jsonb_spec.specs.SortKey.{digits_key, invert_if};
+ghost use Rattle.jsonb_spec.specs.SortKey.Kind as kind;
+ghost use Rattle.jsonb_stored.specs.AtKeys.{Checks};
 ghost use Rattle.jsonb_stored.specs.Frames.{NumberFirst, DigitsFirst};
 
 use jsonb_key::number::{invert_if, read_place};
 use jsonb_value::sort_key::kind;
 
-// The bytes after the number whose key they begin with, where it has at most 38 digits. Where it has more, or the bytes
-// begin with no number's key, it is `None`.
-pub(crate) fn short_number(bytes: &[u8]) -> Option<&[u8]>
-    ensures found { IfSome result (λ rest. NumberFirst bytes.now rest.now) }
-    ensures shorter { IfSome result (λ rest. length rest.now < length bytes.now) }
+// How many digits a number has at most, before the point and behind it.
+const MOST_DIGITS: u32 = 38;
+
+// What `read_place` adds to a place: a number without digits before the point has this one.
+const POINT: u32 = 255;
+
+// The bytes after the number whose key they begin with, if it is one in range. It isn't 0, whose key is one byte.
+pub(crate) fn checked_number(bytes: &[u8]) -> Option<&[u8]>
+    requires not_zero { (rest : List ℕ) → bytes.now ≢ kind.zero ∷ rest }
+    ensures checks { Checks (NumberFirst bytes.now) bytes.now result }
 {
-    let (first, _) = bytes.split_first()?;
+    let Some((first, _)) = bytes.split_first() else {
+        return None;
+    };
     let negative = *first < kind::ZERO;
-    let (place, digits) = read_place(negative, bytes)?;
-    let (count, rest) = short_digits(negative, digits)?;
-    // At most 38 digits stand before the point, and at most 255 behind it.
-    if place > 293 || place < count {
+    let Some((place, digits)) = read_place(negative, bytes) else {
+        return None;
+    };
+    let Some((count, rest)) = checked_digits(negative, digits) else {
+        return None;
+    };
+    // So many digits stand before the point, or none where the number is below 1, and behind it.
+    if place > POINT + MOST_DIGITS || place + MOST_DIGITS < POINT + count {
         return None;
     }
     Some(rest)
 }
 
-// How many digits there are, neither the first nor the last of which is 0, and the bytes after them. There are at most
-// 38, else it is `None`.
-fn short_digits(negative: bool, bytes: &[u8]) -> Option<(u32, &[u8])>
+// How many digits there are, neither the first nor the last of which is 0, and the bytes after them, where there are at
+// most 38.
+fn checked_digits(negative: bool, bytes: &[u8]) -> Option<(u32, &[u8])>
     ensures found { IfSome result (λ r. DigitsFirst negative bytes.now r.0 r.1.now) }
     ensures few { IfSome result (λ r. r.0 ≤ 38) }
     ensures shorter { IfSome result (λ r. length r.1.now < length bytes.now) }
+    // Where the digits of a number stand first, without its last zeros.
+    ensures all { (count magnitude : ℕ) → count ≤ 38 → magnitude < 10 ^ count → 10 ^ count ≤ magnitude * 10
+        → (more : List ℕ) → bytes.now ≡ map (invert_if negative) (digits_key count magnitude) ++ more
+        → MatchOption result ⊥ (λ r. (r.0 ≤ count) × (r.1.now ≡ more)) }
 {
-    let (first, _) = bytes.split_first()?;
+    let Some((first, _)) = bytes.split_first() else {
+        return None;
+    };
     // The least byte of a pair that begins with a digit other than 0 is that of 10.
     if invert_if(negative, *first) < 20 {
         return None;
@@ -44,7 +64,9 @@ fn short_digits(negative: bool, bytes: &[u8]) -> Option<(u32, &[u8])>
             return None;
         }
         if byte % 2 == 0 {
-            let last = last_digits(byte)?;
+            let Some(last) = last_digits(byte) else {
+                return None;
+            };
             return Some((count + last, others));
         }
         if count > 34 {
@@ -56,9 +78,9 @@ fn short_digits(negative: bool, bytes: &[u8]) -> Option<(u32, &[u8])>
     None
 }
 
-// How many digits the last pair has, by its byte.
+// How many digits the last pair has, by its byte. It is no pair of zeros.
 fn last_digits(byte: u8) -> Option<u32>
-    ensures { IfSome result (λ last. ((last ≡ 1) × (byte / 2 % 10 ≡ 0) × (0 < byte / 2))
+    ensures { MatchOption result (byte / 2 ≡ 0) (λ last. ((last ≡ 1) × (byte / 2 % 10 ≡ 0) × (0 < byte / 2))
         ⊎ ((last ≡ 2) × (0 < byte / 2 % 10))) }
 {
     let pair = byte / 2;

@@ -23,7 +23,8 @@ pub enum Kind {
     Object,
 }
 
-/// The kind of the value of JSON's kinds whose key the bytes begin with. Of other bytes it may be any kind, or `None`.
+/// The kind of the value of JSON's kinds whose key the bytes begin with. It is told by the first byte alone, so other
+/// bytes may have a kind too; `None` where no key of such a value begins with that byte.
 pub fn kind_of(key: &[u8]) -> Option<Kind>
     ensures kind { AtKey key.now (λ t more. result ≡ kind_of_tree t) }
 {
@@ -33,22 +34,17 @@ pub fn kind_of(key: &[u8]) -> Option<Kind>
 
 // The kind whose keys begin with this byte.
 fn kind_by_byte(first: u8) -> Option<Kind>
-    ensures { MatchOption result ((first < kind.false) ⊎ (kind.null < first)) (λ kind. IsFirstByte kind first) }
+    ensures { MatchOption result ((kind : Kind) → IsFirstByte kind first → ⊥) (λ kind. IsFirstByte kind first) }
 {
-    if first < kind::FALSE || first > kind::NULL {
-        return None;
-    }
-    if first <= kind::TRUE {
-        return Some(Kind::Bool);
-    }
-    if first < kind::STRING {
-        return Some(Kind::Number);
-    }
     match first {
+        kind::FALSE | kind::TRUE => Some(Kind::Bool),
+        // Numbers below 0, and the others.
+        0x38..=0x7E | kind::ZERO..=0xC7 => Some(Kind::Number),
         kind::STRING => Some(Kind::String),
         kind::OBJECT => Some(Kind::Object),
         kind::ARRAY => Some(Kind::Array),
-        _ => Some(Kind::Null),
+        kind::NULL => Some(Kind::Null),
+        _ => None,
     }
 }
 

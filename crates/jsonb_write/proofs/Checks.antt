@@ -3,7 +3,7 @@ use Rattle.std.proofs.Common.{◌≡◌, ℕ, Bool, true, false, List, [], ◌�
 use Rattle.std.specs.Str.{IsUtf8}
 use Rattle.jsonb_spec.specs.Tree.{Mark}
 use Rattle.jsonb_scan.specs.Open.{Open, members_so_far}
-use Rattle.jsonb_spec.specs.Source.{Found, Spot, first_repeat, found_member, spot_of}
+use Rattle.jsonb_spec.specs.Source.{Found, Spot, first_repeat, spot_of}
 use Rattle.jsonb_write.specs.CheckRoom.{Begins, CheckStands, EndsObject, HeldFits, TellsRepeatOf, all_members, all_unwritten, spot_among, unwritten}
 use Rattle.jsonb_write.specs.KeyRoom.{Held}
 use Rattle.jsonb_write.specs.KeyRoom.Held.{members}

@@ -230,7 +230,7 @@ alone (part.Bool b) s sees (key ∷ keys) = ap (λ v. part_inside v (key ∷ key
 alone (part.Number n) s sees (key ∷ keys) = ap (λ v. part_inside v (key ∷ keys)) sees
 alone (part.String t) s sees (key ∷ keys) = ap (λ v. part_inside v (key ∷ keys)) sees
 alone (part.Plain t) s sees (key ∷ keys) = ap (λ v. part_inside v (key ∷ keys)) sees.0
-alone (part.Contents c) s sees (key ∷ keys) = ap (λ v. part_inside v (key ∷ keys)) sees.0
+alone (part.Contents c) s sees (key ∷ keys) = ap (λ v. part_inside v (key ∷ keys)) sees
 alone part.Written s sees (key ∷ keys) = absurd sees
 
 pub alone_ends : {text : List ℕ} {r : PartRoom} {w : TextRoom} {place : Place} {held : List PartHeld} {cs : List Open} (p : Part) (s : Source) → place.level ≡ r.due → place.start ≡ length (bytes_of r.whole.written) → base_of w ≡ base_of r.whole → TextFilled text w s (map text_held held) cs → SeesPart p s

@@ -9,7 +9,7 @@ use Rattle.jsonb_write.specs.Written.{bytes_of}
 use Rattle.jsonb_write.proofs.OpenTexts.{comma_is, led, not_empty, part_joined}
 use Rattle.jsonb_write.specs.declared.text.Part.{Part}
 use Rattle.jsonb_write.specs.declared.text.Part.TheVariants as part
-use Rattle.jsonb_write.specs.TextRoom.{Held, IsSound, IsSpelled, items, part_text, SeesPart, TextStands, TextFilled, HeldFits, IsRoomWith, Writes, base_of, all_starts}
+use Rattle.jsonb_write.specs.TextRoom.{Held, IsSpelled, items, part_text, SeesPart, TextStands, TextFilled, HeldFits, IsRoomWith, Writes, base_of, all_starts}
 use Rattle.jsonb_write.specs.declared.text.TextRoom.{TextRoom}
 
 -- More bytes are written, and what is open holds the members that it held.
@@ -46,23 +46,14 @@ sees_text (part.Bool false) s h = ap source_text (sym h)
 sees_text (part.Number n) s h = ap source_text (sym h)
 sees_text (part.Plain t) s h = ap source_text (sym h.0)
 sees_text (part.String t) s h = ap source_text (sym h)
-sees_text (part.Contents c) s h = ap source_text (sym h.0)
+sees_text (part.Contents c) s h = ap source_text (sym h)
 sees_text part.Written s h = absurd h
-
-sees_sound : (p : Part) (s : Source) → SeesPart p s → IsSound p
-sees_sound part.Null s h = tt
-sees_sound (part.Bool b) s h = tt
-sees_sound (part.Number n) s h = tt
-sees_sound (part.String t) s h = tt
-sees_sound (part.Plain t) s h = tt
-sees_sound (part.Contents c) s h = h.1
-sees_sound part.Written s h = absurd h
 
 -- what is written of a part that stands there in the text
 pub part_written : {text written : List ℕ} {r s : TextRoom} {due : Bool} {held : List Held} {cs : List Open} (p : Part) (v : Source) (from to : ℕ) → IsRoomWith text r written due held cs → SeesPart p v → IsSpelled text from to p
-    → (IsSpelled r.written.text.now from to p → IsSound p → Writes (part_text p) r s) → Writes (source_text v) r s
+    → (IsSpelled r.written.text.now from to p → Writes (part_text p) r s) → Writes (source_text v) r s
 part_written {r = r} {s = s} p v from to room sees spelled wrote =
-    subst (λ bytes. Writes bytes r s) (sees_text p v sees) (wrote (subst (λ t. IsSpelled t from to p) (sym room.text_is) spelled) (sees_sound p v sees))
+    subst (λ bytes. Writes bytes r s) (sees_text p v sees) (wrote (subst (λ t. IsSpelled t from to p) (sym room.text_is) spelled))
 
 -- what is written of a range of the text that is a value's text
 pub range_written : {text written : List ℕ} {r s : TextRoom} {due : Bool} {held : List Held} {cs : List Open} (v : Source) (from to : ℕ) → IsRoomWith text r written due held cs → slice_range text from to ≡ source_text v

@@ -1,5 +1,5 @@
 -- Contents of strings with escapes that were checked.
-use Rattle.std.specs.Prelude.{◌≡◌, ℕ, ◌+◌, List, [], drop, take, Result, Ok, Err}
+use Rattle.std.specs.Prelude.{◌≡◌, ℕ, ◌+◌, List, Result, Ok, Err}
 use Rattle.jsonb_value.specs.Error.CodeView.{code_of}
 use Rattle.jsonb_spec.specs.Tree.{Mark}
 use Rattle.jsonb_spec.specs.Tree.Mark.{escaped}
@@ -8,19 +8,14 @@ use Rattle.jsonb_value.specs.declared.error.Error.TheVariants.{Syntax}
 use Rattle.jsonb_scan.specs.Answer.{mode_of}
 use Rattle.jsonb_scan.specs.QuotedString.{decoded_text}
 use Rattle.jsonb_scan.specs.Parsing.String.{Body}
-use Rattle.jsonb_write.specs.Escaped.{WritesItems}
 use Rattle.jsonb_write.specs.declared.contents.Contents.{Contents}
 
 -- what the contents mean
 abbrev pub text_of_contents : Contents → List ℕ
 text_of_contents c = decoded_text (mode_of c.mode) c.body.now
 
--- The first bytes are written as they stand, as far as that is said.
-abbrev pub BeginsAsWritten : Contents → Type 0
-BeginsAsWritten c = WritesItems (mode_of c.mode) c.body.now (drop c.kept_len c.body.now) [] (take c.kept_len c.body.now)
-
 -- Their text is read of the body, or the fault is, where the check counts from `idx`.
 abbrev pub ChecksAs : ℕ → Result Contents Error → Body (Mark × List ℕ) → Type 0
-ChecksAs idx (Ok c) read = (read ≡ Ok (escaped, text_of_contents c)) × BeginsAsWritten c
+ChecksAs idx (Ok c) read = read ≡ Ok (escaped, text_of_contents c)
 ChecksAs idx (Err (Syntax code place)) read = (count : ℕ) × (read ≡ Err (code_of code, count)) × (place ≡ idx + count)
 ChecksAs idx (Err other) read = ⊥

@@ -15,7 +15,7 @@ use Rattle.jsonb_spec.specs.Tree.{plain}
 use Rattle.jsonb_value.specs.View.{mark_view, number_view}
 use Rattle.jsonb_scan.specs.Open.{Open, elements_so_far, members_so_far}
 use Rattle.jsonb_spec.specs.Source.{Found, Source, Spot, null_source, boolean_source, string_source, number_source, first_repeat, object_source_of, sort_by, spot_of}
-use Rattle.jsonb_write.specs.Contents.{BeginsAsWritten, text_of_contents}
+use Rattle.jsonb_write.specs.Contents.{text_of_contents}
 use Rattle.jsonb_write.specs.MemberStarts.{AreKept, MemberStart, IsKept}
 use Rattle.jsonb_write.specs.Members.{AreKeyed, SpotsAscend, spot_at, spot_in}
 use Rattle.jsonb_write.specs.OpenText.{is_empty, member_text, open_text}
@@ -36,18 +36,8 @@ SeesPart (part.Bool b) s = s ≡ boolean_source b
 SeesPart (part.Number n) s = s ≡ number_source (number_view n)
 SeesPart (part.Plain t) s = (s ≡ string_source plain t.now) × ArePlain t.now
 SeesPart (part.String t) s = s ≡ string_source (mark_view t) (cow_str_bytes t)
-SeesPart (part.Contents c) s = (s ≡ string_source escaped (text_of_contents c)) × BeginsAsWritten c
+SeesPart (part.Contents c) s = s ≡ string_source escaped (text_of_contents c)
 SeesPart part.Written s = ⊥
-
--- what is said of contents holds
-abbrev pub IsSound : Part → Type 0
-IsSound part.Null = Unit {0}
-IsSound (part.Bool b) = Unit {0}
-IsSound (part.Number n) = Unit {0}
-IsSound (part.String t) = Unit {0}
-IsSound (part.Plain t) = Unit {0}
-IsSound (part.Contents c) = BeginsAsWritten c
-IsSound part.Written = Unit {0}
 
 -- its text
 abbrev pub part_text : Part → List ℕ

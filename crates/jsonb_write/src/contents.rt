@@ -1,22 +1,27 @@
 //! Contents of strings with escapes, which are written with no decoded copy.
-ghost use Rattle.std.specs.Prelude.{◌+◌, ◌^◌, ◌≤◌, ◌<◌, length, true};
+ghost use Rattle.std.specs.Prelude.{◌+◌, ◌^◌, ◌≤◌, ◌<◌, [], drop, length, take, true};
+ghost use Rattle.jsonb_scan.specs.Answer.{mode_of};
+ghost use Rattle.jsonb_scan.specs.Decoding.{AreContents};
+ghost use Rattle.jsonb_write.specs.Escaped.{WritesItems};
 
 use crate::escaped::kept_len;
 use jsonb_scan::parser::Mode;
 use jsonb_scan::util::check_contents;
 use jsonb_value::error::Result;
 
-/// The contents of a string, and how many of their first bytes are known to be written as they stand.
+/// The contents of a string, which were checked, and how many of their first bytes are known to be written as they
+/// stand.
 #[derive(Clone, Copy)]
 pub struct Contents<'a> {
     pub body: &'a str,
     pub mode: Mode,
     pub kept_len: usize,
     pub ghost inside: { kept_len ≤ length body.now },
+    pub ghost checked: { AreContents (mode_of mode) body.now },
+    pub ghost kept: { ∥ WritesItems (mode_of mode) body.now (drop kept_len body.now) [] (take kept_len body.now) ∥₁ },
 }
 
 impl<'a> Contents<'a> {
-    ghost use Rattle.jsonb_scan.specs.Answer.{mode_of};
     ghost use Rattle.jsonb_scan.specs.Decoding.{TellsBackslash};
     ghost use Rattle.jsonb_scan.specs.Parsing.String.{body_of};
     ghost use Rattle.jsonb_write.specs.Contents.{ChecksAs};

@@ -8,8 +8,9 @@ ghost use Rattle.jsonb_spec.specs.Mode.{Mode as GrammarMode};
 ghost use Rattle.jsonb_spec.specs.Text.Appending.{Extends};
 ghost use Rattle.jsonb_spec.specs.Text.StringText.{byte_text, control_text};
 ghost use Rattle.jsonb_scan.specs.Answer.{mode_of};
+ghost use Rattle.jsonb_scan.specs.Decoding.{AreContents};
 ghost use Rattle.jsonb_scan.specs.QuotedString.{decoded_text};
-ghost use Rattle.jsonb_write.specs.Contents.{BeginsAsWritten, text_of_contents};
+ghost use Rattle.jsonb_write.specs.Contents.{text_of_contents};
 ghost use Rattle.jsonb_write.specs.Escaped.{IsKeptLetter, WritesItems};
 ghost use Rattle.text_common.specs.PlainText.{ArePlain};
 
@@ -172,10 +173,10 @@ fn append_bytes(bytes: &[u8], out: &mut Vec<u8>) -> Result<(), AllocError>
     Ok(())
 }
 
-// Appends the first item, which isn't written as it stands, and returns what follows it. Contents that were checked
-// have one wherever any bytes are left.
+// Appends the first item of contents, which isn't written as it stands, and returns what follows it.
 #[inline(never)]
 fn append_item<'a>(bytes: &'a [u8], mode: Mode, out: &mut Vec<u8>) -> Result<&'a [u8], AllocError>
+    requires { AreContents (mode_of mode) bytes.now }
     ensures ok { IfOk result (λ rest. WritesItems (mode_of mode) bytes.now rest.now out.old.items out.new.items) }
     ensures shorter { IfOk result (λ rest. length rest.now ≤ length bytes.now - 1) }
     ensures kept { Extends out.old.items out.new.items }
@@ -189,7 +190,7 @@ fn append_item<'a>(bytes: &'a [u8], mode: Mode, out: &mut Vec<u8>) -> Result<&'a
     }
     let mut text = [0; 12];
     let Some((len, rest)) = decode_escape(rest, mode, &mut text) else {
-        return Err(AllocError);
+        unreachable!();
     };
     append_bytes(&text[..len], out)?;
     Ok(rest)
@@ -212,6 +213,7 @@ fn after_slash(bytes: &[u8]) -> Option<&[u8]>
 // Appends the first item so, which is often `\/`.
 #[inline(always)]
 fn append_next<'a>(bytes: &'a [u8], mode: Mode, out: &mut Vec<u8>) -> Result<&'a [u8], AllocError>
+    requires { AreContents (mode_of mode) bytes.now }
     ensures ok { IfOk result (λ rest. WritesItems (mode_of mode) bytes.now rest.now out.old.items out.new.items) }
     ensures shorter { IfOk result (λ rest. length rest.now ≤ length bytes.now - 1) }
     ensures kept { Extends out.old.items out.new.items }
@@ -226,8 +228,7 @@ fn append_next<'a>(bytes: &'a [u8], mode: Mode, out: &mut Vec<u8>) -> Result<&'a
 // Appends the contents of a string. Mostly all of them are written as they stand.
 #[inline(always)]
 pub(crate) fn append_contents(contents: &Contents<'_>, out: &mut Vec<u8>) -> Result<(), AllocError>
-    ensures ok { OnOk result (BeginsAsWritten contents.now
-        → out.new.items ≡ out.old.items ++ flat_map byte_text (text_of_contents contents.now)) }
+    ensures ok { OnOk result (out.new.items ≡ out.old.items ++ flat_map byte_text (text_of_contents contents.now)) }
     ensures kept { Extends out.old.items out.new.items }
 {
     let body = contents.body.as_bytes();
@@ -238,7 +239,8 @@ pub(crate) fn append_contents(contents: &Contents<'_>, out: &mut Vec<u8>) -> Res
 // Appends what is left of contents, which are written up to an index.
 #[inline(always)]
 fn append_rest(body: &[u8], from: usize, mode: Mode, out: &mut Vec<u8>) -> Result<(), AllocError>
-    requires { from ≤ length body.now }
+    requires inside { from ≤ length body.now }
+    requires left { AreContents (mode_of mode) (drop from body.now) }
     ensures ok { OnOk result ((before : List ℕ)
         → WritesItems (mode_of mode) body.now (drop from body.now) before out.old.items
         → out.new.items ≡ before ++ flat_map byte_text (decoded_text (mode_of mode) body.now)) }

@@ -1,11 +1,15 @@
 //! The contents of a string with escapes in a sort key. They are decoded where they are written.
+ghost use Rattle.std.specs.Str.{IsUtf8};
 ghost use Rattle.std.specs.Prelude.{◌≡◌, ◌≤◌, ◌++◌, ◌∷◌, [], drop, length, take, OnOk};
 ghost use Rattle.jsonb_spec.specs.SortKey.{text_key};
 ghost use Rattle.jsonb_spec.specs.SortKey.Kind as kind;
 ghost use Rattle.jsonb_spec.specs.Text.Appending.{Extends};
 ghost use Rattle.jsonb_scan.specs.Answer.{mode_of};
+ghost use Rattle.jsonb_scan.specs.Decoding.{AreContents};
 ghost use Rattle.jsonb_scan.specs.QuotedString.{decoded_text};
+ghost use Rattle.jsonb_write.specs.Contents.{text_of_contents};
 
+use crate::contents::Contents;
 use jsonb_scan::parser::Mode;
 use jsonb_scan::util::decode_behind;
 use jsonb_value::parts::append_text_key;
@@ -13,16 +17,17 @@ use jsonb_value::sort_key::kind;
 use memchr::memchr;
 use std::alloc::AllocError;
 
-// Appends what contents mean. Those that were checked mean something.
+// Appends what contents mean.
 #[inline(always)]
 fn append_decoded(body: &[u8], mode: Mode, out: &mut Vec<u8>) -> Result<(), AllocError>
+    requires { AreContents (mode_of mode) body.now }
     ensures bytes { OnOk result (out.new.items ≡ out.old.items ++ decoded_text (mode_of mode) body.now) }
     ensures kept { Extends out.old.items out.new.items }
 {
     let len = out.len();
     out.extend_from_slice(body)?;
     let Some(end) = decode_behind(body, mode, out, len) else {
-        return Err(AllocError);
+        unreachable!();
     };
     out.truncate(end);
     Ok(())
@@ -33,7 +38,8 @@ fn append_decoded(body: &[u8], mode: Mode, out: &mut Vec<u8>) -> Result<(), Allo
 #[cold]
 #[inline(never)]
 fn double_zeros(from: usize, out: &mut Vec<u8>, spare: &mut Vec<u8>) -> Result<(), AllocError>
-    requires { from ≤ length out.old.items }
+    requires inside { from ≤ length out.old.items }
+    requires utf8 { IsUtf8 (drop from out.old.items) }
     ensures bytes { OnOk result (out.new.items ≡ take from out.old.items ++ text_key (drop from out.old.items)) }
     ensures kept { Extends (take from out.old.items) out.new.items }
     ensures spare { OnOk result (spare.new.items ≡ spare.old.items) }
@@ -42,7 +48,7 @@ fn double_zeros(from: usize, out: &mut Vec<u8>, spare: &mut Vec<u8>) -> Result<(
     spare.extend_from_slice(&out[from..])?;
     out.truncate(from);
     let Ok(text) = std::str::from_utf8(&spare[start..]) else {
-        return Err(AllocError);
+        unreachable!();
     };
     append_text_key(text, out)?;
     spare.truncate(start);
@@ -61,7 +67,8 @@ fn append_end(out: &mut Vec<u8>) -> Result<(), AllocError>
 // Ends a text that stands in the buffer from an index on. Hardly any has a zero.
 #[inline(always)]
 fn close_text(from: usize, out: &mut Vec<u8>, spare: &mut Vec<u8>) -> Result<(), AllocError>
-    requires { from ≤ length out.old.items }
+    requires inside { from ≤ length out.old.items }
+    requires utf8 { IsUtf8 (drop from out.old.items) }
     ensures bytes { OnOk result (out.new.items ≡ take from out.old.items ++ text_key (drop from out.old.items)) }
     ensures kept { Extends (take from out.old.items) out.new.items }
     ensures spare { OnOk result (spare.new.items ≡ spare.old.items) }
@@ -75,18 +82,17 @@ fn close_text(from: usize, out: &mut Vec<u8>, spare: &mut Vec<u8>) -> Result<(),
 // Appends a string's sort key, given its contents.
 #[inline(never)]
 pub(crate) fn append_escaped_key(
-    body: &[u8],
-    mode: Mode,
+    contents: &Contents<'_>,
     out: &mut Vec<u8>,
     spare: &mut Vec<u8>,
 ) -> Result<(), AllocError>
     ensures bytes { OnOk result (out.new.items
-        ≡ out.old.items ++ (kind.string ∷ text_key (decoded_text (mode_of mode) body.now))) }
+        ≡ out.old.items ++ (kind.string ∷ text_key (text_of_contents contents.now))) }
     ensures kept { Extends out.old.items out.new.items }
     ensures spare { OnOk result (spare.new.items ≡ spare.old.items) }
 {
     out.extend_from_slice(&[kind::STRING])?;
     let from = out.len();
-    append_decoded(body, mode, out)?;
+    append_decoded(contents.body.as_bytes(), contents.mode, out)?;
     close_text(from, out, spare)
 }

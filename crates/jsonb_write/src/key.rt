@@ -4,11 +4,11 @@ ghost use Rattle.std.specs.Cow.{cow_str_bytes};
 ghost use Rattle.std.specs.Option.{is_some};
 ghost use Rattle.std.specs.Str.{IsUtf8};
 
+use crate::contents::Contents;
 use crate::escaped_key::append_escaped_key;
 use crate::key_text::{append_key_text, append_with_kind};
 use crate::members::{Member, Spare, ascend, key_at, prefix_within, put_in_order};
 use crate::text::{Part, members_from};
-use jsonb_scan::parser::Mode;
 use jsonb_value::number::Number;
 use jsonb_value::parts::{append_number_key, append_text_key};
 use jsonb_value::sort_key::kind;
@@ -31,9 +31,7 @@ pub struct KeyRoom<'a> {
 }
 
 impl<'a> KeyRoom<'a> {
-    ghost use Rattle.jsonb_scan.specs.Answer.{mode_of};
     ghost use Rattle.jsonb_scan.specs.Open.{Open};
-    ghost use Rattle.jsonb_scan.specs.QuotedString.{decoded_text};
     ghost use Rattle.jsonb_scan.specs.Open.Open.{elements_so_far, members_so_far};
     ghost use Rattle.jsonb_spec.specs.Source.{Found, Source, array_source_of, found_member, string_source};
     ghost use Rattle.jsonb_spec.specs.SortKey.Kind as kind;
@@ -42,6 +40,7 @@ impl<'a> KeyRoom<'a> {
     ghost use Rattle.jsonb_spec.specs.Tree.{Mark};
     ghost use Rattle.jsonb_spec.specs.Tree.Mark.{plain};
     ghost use Rattle.jsonb_value.specs.View.{mark_view, number_view};
+    ghost use Rattle.jsonb_write.specs.Contents.{text_of_contents};
     ghost use Rattle.jsonb_write.specs.KeyRoom.{Begins, Closes, EndsObject, HasMember, Held, IsSettled, KeepsMembers, KeyFilled, KeyStands, KeysAscendFrom, TellsRepeatOf, Writes, base_of, part_key, spot_among};
     ghost use Rattle.jsonb_write.specs.KeyRoom.Held.{items, members};
     ghost use Rattle.jsonb_write.specs.Members.{source_key};
@@ -101,14 +100,13 @@ impl<'a> KeyRoom<'a> {
         self.append_text(string)
     }
 
-    // Writes a string, given its contents, which were checked in this mode.
+    // Writes a string, given its contents.
     #[inline(never)]
-    fn contents(&mut self, body: &str, mode: Mode) -> Result<(), AllocError>
-        ensures bytes { OnOk result (Writes (kind.string ∷ text_key (decoded_text (mode_of mode) body.now))
-            self.old self.new) }
+    fn contents(&mut self, contents: &Contents<'_>) -> Result<(), AllocError>
+        ensures bytes { OnOk result (Writes (kind.string ∷ text_key (text_of_contents contents.now)) self.old self.new) }
         ensures base { base_of self.new ≡ base_of self.old }
     {
-        append_escaped_key(body.as_bytes(), mode, &mut self.out, &mut self.decoded)
+        append_escaped_key(contents, &mut self.out, &mut self.decoded)
     }
 
     // Whether this range of the text has bytes.
@@ -165,7 +163,7 @@ impl<'a> KeyRoom<'a> {
             Part::Plain(string) => self.plain(string, from, to),
             Part::String(CowStr::Borrowed(string)) => self.string(string),
             Part::String(CowStr::Owned(string)) => self.string(string.as_str()),
-            Part::Contents(contents) => self.contents(contents.body, contents.mode),
+            Part::Contents(contents) => self.contents(contents),
         }
     }
 

@@ -76,7 +76,7 @@ impl<'a> TextRoom<'a> {
     ghost use Rattle.jsonb_write.specs.OpenText.{comma_unless};
     ghost use Rattle.text_common.specs.SourceText.{source_text};
     ghost use Rattle.text_common.specs.PlainText.{ArePlain};
-    ghost use Rattle.jsonb_write.specs.TextRoom.{Begins, Closes, EndsObject, HasMember, Held, IsSettled, KeepsMembers, KeysAscendFrom, TellsRepeatOf, spot_among, IsSound, IsSpelled, SeesPart, TextFilled, TextStands, Writes, base_of, part_text};
+    ghost use Rattle.jsonb_write.specs.TextRoom.{Begins, Closes, EndsObject, HasMember, Held, IsSettled, KeepsMembers, KeysAscendFrom, TellsRepeatOf, spot_among, IsSpelled, SeesPart, TextFilled, TextStands, Writes, base_of, part_text};
     ghost use Rattle.jsonb_write.specs.TextRoom.Held.{items, members};
     ghost use Rattle.jsonb_write.specs.Written.{bytes_of};
 
@@ -211,7 +211,7 @@ impl<'a> TextRoom<'a> {
     // Writes a value that stands there in the text.
     #[inline(always)]
     fn part(&mut self, part: &Part<'a>, from: usize, to: usize) -> Result<(), AllocError>
-        ensures bytes { OnOk result (IsSpelled self.old.written.text.now from to part.now → IsSound part.now
+        ensures bytes { OnOk result (IsSpelled self.old.written.text.now from to part.now
             → Writes (part_text part.now) self.old self.new) }
         ensures base { base_of self.new ≡ base_of self.old }
     {

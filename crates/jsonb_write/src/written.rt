@@ -26,7 +26,7 @@ impl<'a> Written<'a> {
     ghost use Rattle.jsonb_spec.specs.Text.NumberText.{number_text};
     ghost use Rattle.jsonb_spec.specs.Text.StringText.{quoted_text};
     ghost use Rattle.jsonb_value.specs.View.{number_view};
-    ghost use Rattle.jsonb_write.specs.Contents.{BeginsAsWritten, text_of_contents};
+    ghost use Rattle.jsonb_write.specs.Contents.{text_of_contents};
     ghost use Rattle.jsonb_write.specs.Members.{AreInOrder, AreKeyed, AreWritten, Piece, TellsRepeat, bytes_of_pieces, spot_in, spots_of_pieces};
     ghost use Rattle.jsonb_write.specs.Written.{bytes_of};
 
@@ -137,8 +137,7 @@ impl<'a> Written<'a> {
         contents: &Contents<'_>,
         after: usize,
     ) -> Result<(), AllocError>
-        ensures bytes { OnOk result (BeginsAsWritten contents.now
-            → bytes_of self.new ≡ bytes_of self.old ++ quoted_text (text_of_contents contents.now)) }
+        ensures bytes { OnOk result (bytes_of self.new ≡ bytes_of self.old ++ quoted_text (text_of_contents contents.now)) }
         ensures text { self.new.text ≡ self.old.text }
         ensures kept { Extends self.old.out.items self.new.out.items }
     {

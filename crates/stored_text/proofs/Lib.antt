@@ -9,3 +9,4 @@ pub mod Strings
 pub mod Whole
 pub mod Scalars
 pub mod Walk
+pub mod Documents

@@ -99,7 +99,7 @@ smaller uint64 scale less z q h p = (omega (arith, p.0), smaller_unsigned z q h 
 smaller decimal64 scale less z q h p = (omega (arith, p.0), smaller_signed w64 z q h p.1)
 smaller decimal128 scale less z q h p = (omega (arith, p.0), smaller_signed w128 z q h p.1)
 
-divided_less : (m d : ℕ) → m / d ≤ m
+pub divided_less : (m d : ℕ) → m / d ≤ m
 divided_less m zero = omega arith
 divided_less m (suc d) = elim (cases_eq (m / suc d) 0) [
   | inl none ↦ omega (arith, none)

@@ -46,7 +46,7 @@ object_text ms = ap (λ t. 123 ∷ t) (members_text true ms)
 -- ---- the key, and what the tree is
 
 mutual
-  key_kept : (t : Tree) → IsProper t → key_of (with_fewest_digits t) ≡ key_of t
+  pub key_kept : (t : Tree) → IsProper t → key_of (with_fewest_digits t) ≡ key_of t
   key_kept null p = refl
   key_kept (boolean b) p = refl
   key_kept (string mark bytes) p = refl

@@ -1,8 +1,9 @@
 -- Of the values with one sort key the one whose numbers have the fewest digits: `1.50` is 1.5 there.
-use Rattle.std.specs.Prelude.{◌≡◌, ℕ, zero, suc, ◌-◌, ◌/◌, ◌%◌, ◌^◌, ◌==◌, if◌then◌else◌, List, unsigned_abs}
+use Rattle.std.specs.Prelude.{◌≡◌, ℕ, zero, suc, ◌-◌, ◌/◌, ◌%◌, ◌^◌, ◌==◌, if◌then◌else◌, List, ◌++◌, unsigned_abs}
 use Rattle.std.specs.Int.{is_negative}
 use Rattle.jsonb_key.specs.Readable.{HasFewestDigits}
-use Rattle.jsonb_spec.specs.Grammar.{max_depth}
+use Rattle.jsonb_spec.specs.Grammar.{max_depth, IsDocument}
+use Rattle.jsonb_spec.specs.Mode.{extended}
 use Rattle.jsonb_spec.specs.Number.Signed.{signed_by}
 use Rattle.jsonb_spec.specs.SortKey.{key_of}
 use Rattle.jsonb_spec.specs.Text.{AppendsText}
@@ -50,3 +51,11 @@ pub record AppendsTextOf (t : Tree) (old new : List ℕ) : Type 0 where
   pub text : AppendsText (with_fewest_digits t) old new
   pub is_key : key_of (with_fewest_digits t) ≡ key_of t
   pub fewest : IsWithin HasFewestDigits (with_fewest_digits t) max_depth
+
+-- New is old with a text at its end: an extended document, of a value with this key.
+pub record AppendsDocumentOf (key old new : List ℕ) : Type 0 where
+  pub text : List ℕ
+  pub value : Tree
+  pub appended : new ≡ old ++ text
+  pub document : IsDocument extended text value
+  pub is_key : key_of value ≡ key

@@ -4,12 +4,13 @@ ghost use Rattle.std.specs.Prelude.{◌≡◌, ◌<◌, ◌≤◌, ◌++◌, ◌
 ghost use Rattle.std.specs.Vec.{vec_capacity};
 ghost use Rattle.jsonb_key.specs.Readable.{IsReadableAt};
 ghost use Rattle.jsonb_stored.specs.AtKeys.{AtKey, AtParts, OfKey};
+ghost use Rattle.jsonb_stored.specs.Checked.{IsSortKey};
 ghost use Rattle.jsonb_stored.specs.Open.{name_key, IsScalar};
 ghost use Rattle.jsonb_spec.specs.Ascii as ascii;
 ghost use Rattle.jsonb_spec.specs.SortKey.{key_of};
 ghost use Rattle.jsonb_spec.specs.Text.Appending.{Appends, comma_before};
 ghost use Rattle.jsonb_spec.specs.Tree.{Tree};
-ghost use Rattle.stored_text.specs.FewestDigits.{AppendsTextOf};
+ghost use Rattle.stored_text.specs.FewestDigits.{AppendsTextOf, AppendsDocumentOf};
 ghost use Rattle.stored_text.specs.Writes.{Keeps, LacksRoom, AppendsLeaving, name_text, opening_text, open_text, closing_text, value_text};
 
 use crate::number::append_number;
@@ -25,8 +26,8 @@ use std::alloc::AllocError;
 /// The time is linear in the text. The only allocations are those of `buf`, no function calls itself, and the machine
 /// stack that is taken is the same for each key.
 ///
-/// Of bytes that aren't a key it may be any text, also one that isn't JSON: a key from outside is checked first, as
-/// `value_of_sort_key` of the crate `jsonb_key` does.
+/// Of bytes that aren't a key it may be any text, also one that isn't JSON: a key from outside is checked first, by
+/// `is_sort_key` of the crate `jsonb_stored`. The text of a key that it accepts is an extended document with that key.
 ///
 /// # Errors
 ///
@@ -34,6 +35,8 @@ use std::alloc::AllocError;
 /// `OutOfMemory` where `buf` could not grow; of such a key only where it lacks the capacity for the whole text.
 pub fn write_text_of_key(key: &[u8], buf: &mut Vec<u8>) -> Result<(), KeyError>
     ensures ok { IfOk result (λ _. OfKey key.now (λ t. AppendsTextOf t buf.old.items buf.new.items)) }
+    // The text of a checked key is parsed again, and gives the same key.
+    ensures document { IfOk result (λ _. IsSortKey key.now → AppendsDocumentOf key.now buf.old.items buf.new.items) }
     ensures err { OnErr result (buf.new.items ≡ buf.old.items) }
     // A key fails only where the capacity for the whole text is missing.
     ensures invalid { IfErr result (λ e. e ≡ KeyError.Invalid → OfKey key.now (λ t. ⊥)) }

@@ -9,7 +9,7 @@ use Rattle.jsonb_spec.specs.Code.{Code}
 use Rattle.jsonb_spec.specs.Code.{invalid_hex, invalid_escaped, invalid_string_value, unexpected_end_of_hex_escape}
 use Rattle.jsonb_spec.specs.Grammar.StringBody.{Item, raw, escape, unit, after_u, spelling, IsItem, IsBody, Decodes, escaped_byte, alone, together, meaning}
 use Rattle.jsonb_spec.specs.Grammar.StringFault.{IsFirstNonDigit, bad_digit, cut_escape, unknown_escape, bad_unit, IsFaultyBody}
-use Rattle.jsonb_scan.specs.Decoding.{SeesNoBackslash}
+use Rattle.jsonb_scan.specs.Decoding.{AreContents, SeesNoBackslash}
 use Rattle.jsonb_scan.specs.Decoding.{SplitsUnit, ParsesUnit, DecodesUpTo, Adds, StopsInUnit, StopsAtEscape}
 use Rattle.jsonb_value.proofs.Strings.Units.{length-alone, length-together, length-after_u}
 use Rattle.jsonb_value.proofs.Strings.Meaning.{each-append, meaning-raw, meaning-escape, meaning-together, meaning-alone, meaning-last}
@@ -150,6 +150,10 @@ stops_after mode a b t code left p stop =
       cut = record { items = p.items ++ q.items; each = each-append mode p.items q.items p.each q.each; rest = q.rest; spelled = spelled; steps = q.steps; bad = q.bad; count = refl };
       count = omega (arith, stop.count, q.count, ap length q.spelled, length-append (flat_map spelling q.items) q.rest, ap length spelled, length-append (flat_map spelling (p.items ++ q.items)) q.rest, ap length p.spelled, length-append (flat_map spelling p.items) b);
     }
+
+-- what is left of contents is contents
+pub contents_left : (mode : Mode) (a b t : List ℕ) → AreContents mode a → DecodesUpTo mode a b t → AreContents mode b
+contents_left mode a b t contents p code left stop = contents code left (stops_after mode a b t code left p stop)
 
 pub stops_at_digit : (bytes digits rest : List ℕ) (byte : ℕ) → SplitsUnit bytes digits rest → IsFirstNonDigit digits byte → StopsInUnit bytes (invalid_hex byte) (length rest)
 stops_at_digit bytes digits rest byte s first = record {

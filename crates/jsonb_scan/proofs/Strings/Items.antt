@@ -14,6 +14,7 @@ use Rattle.jsonb_spec.specs.Grammar.StringBody.{Item, raw, escape, unit, after_u
 use Rattle.jsonb_spec.specs.Grammar.StringFault.{IsUnitCut, BadUnit, cut_unit, bad_digit, BadEscape, cut_escape, unknown_escape, bad_unit, IsCutShort, IsNoText, IsFaultyBody}
 use Rattle.jsonb_spec.specs.Grammar.Quoted.{mark_of}
 use Rattle.jsonb_value.proofs.Strings.Spelling.{escape_is_not_u, spelling_not_empty}
+use Rattle.jsonb_scan.specs.Decoding.{AreContents}
 use Rattle.jsonb_scan.specs.Parsing.String.{Body, non_digit, checked_unit, unit_of, unit_at, known_escape, escape_at, item_at, onto, then_items, items_within, meaning_of, body_of}
 use Rattle.jsonb_scan.proofs.Steps.Tests.{chosen}
 
@@ -312,7 +313,7 @@ sound_first mode n b bytes items (Ok x) is others h =
     (λ xs same. others x first xs (ap (items_within n mode) (sym (left_after mode (b ∷ bytes) x first)) ∙ same)) h
 
 -- what is parsed are the items of a body
-items_sound : (mode : Mode) (n : ℕ) (bytes : List ℕ) (items : List Item) → length bytes ≤ n → items_within n mode bytes ≡ Ok items → IsBody mode bytes items
+pub items_sound : (mode : Mode) (n : ℕ) (bytes : List ℕ) (items : List Item) → length bytes ≤ n → items_within n mode bytes ≡ Ok items → IsBody mode bytes items
 unfolding items_within
 items_sound mode n [] items enough e =
     let same : [] ≡ items = let both : ◌≡◌ {A = Body (List Item)} (Ok []) (Ok items) = e in cc in
@@ -375,3 +376,11 @@ body_sound mode bytes mark text e = by_items (items_within (length bytes) mode b
               }
           | inr f ↦ absurd (let never : ◌≡◌ {A = Body (Mark × List ℕ)} (Err (invalid_string_value, length bytes)) (Ok (mark, text)) = f.1 in cc)
         ]
+
+-- ---- contents that were checked
+
+-- where contents were parsed, no bad escape is among them
+pub parsed_contents : (mode : Mode) (bytes : List ℕ) (mark : Mark) (text : List ℕ) → body_of mode bytes ≡ Ok (mark, text) → AreContents mode bytes
+parsed_contents mode bytes mark text e code left stop =
+    let never : ◌≡◌ {A = Body (Mark × List ℕ)} (Ok (mark, text)) (Err (code, stop.read)) = sym e ∙ body_faulty mode bytes code stop.read (inl stop.cut) in
+    cc

@@ -1,12 +1,12 @@
 //! Decodes the contents of a string, escape by escape and run by run.
-ghost use Rattle.std.specs.Prelude.{◌≡◌, ◌≢◌, ◌+◌, ◌*◌, ◌^◌, ◌≤◌, ◌<◌, ◌∷◌, ◌++◌, [], length, take, min, IfOk, IfErr, IfSome, OnErr, OnOk, Some, None, Err, string_bytes};
+ghost use Rattle.std.specs.Prelude.{◌≡◌, ◌≢◌, ◌+◌, ◌*◌, ◌^◌, ◌≤◌, ◌<◌, ◌∷◌, ◌++◌, [], length, take, min, IfOk, IfErr, IfSome, IfNone, OnErr, OnOk, Some, None, Err, string_bytes};
 ghost use Rattle.jsonb_spec.specs.Ascii as ascii;
 ghost use Rattle.jsonb_spec.specs.Mode.{standard};
 ghost use Rattle.jsonb_value.specs.Error.CodeView.{code_of};
 ghost use Rattle.jsonb_spec.specs.Grammar.StringBody.{escaped_byte, Decodes};
 ghost use Rattle.jsonb_scan.specs.Answer.{mode_of};
 ghost use Rattle.jsonb_scan.specs.StringError.{IsDecodingError};
-ghost use Rattle.jsonb_scan.specs.Decoding.{Adds, DecodesUpTo, StopsAtEscape};
+ghost use Rattle.jsonb_scan.specs.Decoding.{Adds, AreContents, DecodesUpTo, StopsAtEscape};
 ghost use Rattle.jsonb_scan.specs.QuotedString.{decoded_text};
 
 mod check;
@@ -121,11 +121,12 @@ fn decode(
 }
 
 /// Decodes the escape whose backslash stands before the bytes, and returns how many bytes of the text it is, and what
-/// follows it. There is none where no escape of this mode begins the bytes.
+/// follows it. There is none where no escape of this mode begins the bytes; contents of a string have no such place.
 pub fn decode_escape<'a>(bytes: &'a [u8], mode: Mode, text: &mut [u8]) -> Option<(usize, &'a [u8])>
     requires { 12 ≤ length text.old }
     ensures some { IfSome result (λ done. DecodesUpTo (mode_of mode) (ascii.backslash ∷ bytes.now) done.1.now
         (take done.0 text.new)) }
+    ensures none { IfNone result (¬ (AreContents (mode_of mode) (ascii.backslash ∷ bytes.now))) }
     ensures shorter { IfSome result (λ done. length done.1.now ≤ length bytes.now) }
     ensures within { IfSome result (λ done. done.0 ≤ length text.new) }
     ensures size { length text.new ≡ length text.old }
@@ -142,6 +143,7 @@ pub fn decode_behind(bytes: &[u8], mode: Mode, text: &mut [u8], len: usize) -> O
     requires { len + length bytes.now ≤ length text.old }
     ensures some { IfSome result (λ end. take end text.new ≡ take len text.old ++ decoded_text
         (mode_of mode) bytes.now) }
+    ensures none { IfNone result (¬ (AreContents (mode_of mode) bytes.now)) }
     ensures within { IfSome result (λ end. end ≤ length text.new) }
     ensures kept { take len text.new ≡ take len text.old }
     ensures size { length text.new ≡ length text.old }

@@ -45,7 +45,7 @@ sees_key (part.Bool b) s h = ap source_key (sym h)
 sees_key (part.Number n) s h = ap source_key (sym h)
 sees_key (part.Plain t) s h = ap source_key (sym h.0)
 sees_key (part.String t) s h = ap source_key (sym h)
-sees_key (part.Contents c) s h = ap source_key (sym h.0)
+sees_key (part.Contents c) s h = ap source_key (sym h)
 sees_key part.Written s h = absurd h
 
 -- what is written of a part that stands there in the text

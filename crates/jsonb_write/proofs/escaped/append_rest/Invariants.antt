@@ -1,6 +1,7 @@
 use Rattle.std.proofs.Common.{List, ℕ, drop, length}
 use Rattle.jsonb_spec.specs.Text.Appending.{Extends}
 use Rattle.jsonb_scan.specs.Answer.{mode_of}
+use Rattle.jsonb_scan.specs.Decoding.{AreContents}
 use Rattle.jsonb_write.specs.Escaped.{WritesItems}
 use Rattle.jsonb_write.proofs.escaped.append_rest.Given as goal
 
@@ -9,6 +10,7 @@ abbrev pub invariant-parts : goal.invariant-parts
 invariant-parts l = record {
   writes : (before : List ℕ) → WritesItems (mode_of l.mode) l.body (drop l.from l.body) before l.fn.out.items → WritesItems (mode_of l.mode) l.body l.rest before l.out.items;
   kept : Extends l.fn.out.items l.out.items;
+  left : AreContents (mode_of l.mode) l.rest;
 }
 
 abbrev pub decreases-parts : goal.decreases-parts

@@ -2,6 +2,8 @@ use Rattle.std.proofs.Common.{◌≡◌, ◌==◌, true≢false, [], ◌++◌, l
 use Rattle.jsonb_key.specs.declared.key.KeyError.TheVariants.{Invalid, OutOfMemory}
 use Rattle.jsonb_spec.specs.SortKey.{key_of}
 use Rattle.stored_text.specs.Writes.{value_text}
+use Rattle.jsonb_stored.proofs.CheckedKeys.{key_readable}
+use Rattle.stored_text.proofs.Documents.{document_appended}
 use Rattle.stored_text.proofs.Whole.{appended}
 use Rattle.stored_text.proofs.write.write_text_of_key.Goals as goal
 
@@ -30,3 +32,8 @@ pub returns-in-Err-clause-full : goal.returns-in-Err-clause-full
 returns-in-Err-clause-full c = λ t r e.
     let x = c.in-Err.ensures.found t r [] (e ∙ sym (append-nil (key_of t))) in
     omega (arith, x.1, c.try_reserve-reserved.ensures.capacity, ap length c.try_reserve-reserved.ensures.items)
+
+pub returns-then-is_empty-clause-document : goal.returns-then-is_empty-clause-document
+returns-then-is_empty-clause-document c = λ k.
+    let x = c.in-Ok.ensures.found k.value (key_readable c.args.key.now k) [] (k.is_key ∙ sym (append-nil (key_of k.value))) in
+    document_appended c.args.key.now c.args.buf.now.items c.append_value.new.buf.items k (x.1 ∙ ap (λ items. items ++ value_text k.value) c.try_reserve-reserved.ensures.items)

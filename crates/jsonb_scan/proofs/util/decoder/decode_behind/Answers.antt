@@ -7,3 +7,6 @@ pub returns-clause-some : goal.returns-clause-some
 returns-clause-some c =
     let a = c.in-Ok.ensures.ok in
     a.appended ∙ ap (λ (t : List ℕ). take c.args.len c.args.text.now ++ t) (sym (decoded_text-is (mode_of c.args.mode) c.args.bytes.now a.text a.decodes))
+
+pub returns-in_default-clause-none : goal.returns-in_default-clause-none
+returns-in_default-clause-none c = λ contents. contents _ _ c.in_default.ensures.err

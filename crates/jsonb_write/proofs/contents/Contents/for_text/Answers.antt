@@ -1,8 +1,11 @@
-use Rattle.std.proofs.Common.{◌≡◌, List, ℕ, [], drop, take, subst, arith}
+use Rattle.std.proofs.Common.{◌≡◌, List, ℕ, [], drop, length, take, ap, subst, arith}
 use Rattle.std.proofs.lemmas.List.{drop_all}
 use Rattle.jsonb_scan.specs.Answer.{mode_of}
 use Rattle.jsonb_scan.specs.Decoding.{IsDecodedUpTo}
+use Rattle.jsonb_scan.specs.QuotedString.{decoded_text}
+use Rattle.jsonb_spec.specs.Tree.{escaped}
 use Rattle.jsonb_scan.proofs.Strings.Checks.{body_checked}
+use Rattle.jsonb_scan.proofs.Strings.Items.{parsed_contents}
 use Rattle.jsonb_write.specs.Escaped.{WritesItems}
 use Rattle.jsonb_write.proofs.EscapedTexts.{writes_known}
 use Rattle.jsonb_write.proofs.contents.Contents.for_text.Goals as goal
@@ -14,6 +17,32 @@ check_contents-requires-clause-known c =
     let kept = c.kept_len-kept.result in
     writes_known mode body (drop kept body) [] (take kept body) (subst (λ (u : List ℕ). WritesItems mode u (drop kept u) [] (take kept u)) c.as_bytes.ensures.value (c.kept_len-kept.ensures.kept mode))
 
+pub invariant_of-result : goal.invariant_of-result
+invariant_of-result c =
+    let mode = mode_of c.args.mode in
+    let body : List ℕ = c.args.body.now in
+    let kept : ℕ = c.kept_len-kept.result in
+    let written : WritesItems mode body (drop kept body) [] (take kept body) =
+    subst (λ (u : List ℕ). WritesItems mode u (drop kept u) [] (take kept u)) c.as_bytes.ensures.value (c.kept_len-kept.ensures.kept mode) in
+    let known = writes_known mode body (drop kept body) [] (take kept body) written in
+    let none : drop kept body ≡ [] = drop_all kept body (omega (arith, c.if-kept-body.true)) in
+    record {
+      inside = omega (arith, c.if-kept-body.true);
+      checked = parsed_contents mode body escaped (decoded_text mode body) (body_checked mode body c.requires.escaped c.utf8.body (subst (IsDecodedUpTo mode body) none known));
+      kept = ∣ written ∣₁;
+    }
+
+pub invariant_of-result-2 : goal.invariant_of-result-2
+invariant_of-result-2 c =
+    let mode = mode_of c.args.mode in
+    let body : List ℕ = c.args.body.now in
+    let kept : ℕ = c.kept_len-kept.result in
+    record {
+      inside = omega (arith, c.kept_len-kept.ensures.within, ap length c.as_bytes.ensures.value);
+      checked = parsed_contents mode body escaped (decoded_text mode body) c.in_ok-check_contents.ensures;
+      kept = ∣ subst (λ (u : List ℕ). WritesItems mode u (drop kept u) [] (take kept u)) c.as_bytes.ensures.value (c.kept_len-kept.ensures.kept mode) ∣₁;
+    }
+
 pub returns-then-kept-body : goal.returns-then-kept-body
 returns-then-kept-body c =
     let mode = mode_of c.args.mode in
@@ -23,4 +52,4 @@ returns-then-kept-body c =
     subst (λ (u : List ℕ). WritesItems mode u (drop kept u) [] (take kept u)) c.as_bytes.ensures.value (c.kept_len-kept.ensures.kept mode) in
     let known = writes_known mode body (drop kept body) [] (take kept body) written in
     let none : drop kept body ≡ [] = drop_all kept body (omega (arith, c.if-kept-body.true)) in
-    (body_checked mode body c.requires.escaped c.utf8.body (subst (IsDecodedUpTo mode body) none known), written)
+    body_checked mode body c.requires.escaped c.utf8.body (subst (IsDecodedUpTo mode body) none known)

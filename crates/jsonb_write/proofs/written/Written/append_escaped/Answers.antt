@@ -10,10 +10,10 @@ use Rattle.jsonb_write.proofs.written.Written.append_escaped.Goals as goal
 
 pub returns-clause-bytes : goal.returns-clause-bytes
 returns-clause-bytes c =
-    on_ok c.put-2.result c.put-2.ensures.bytes (λ last kept.
+    on_ok c.put-2.result c.put-2.ensures.bytes (λ last.
     let flushed = c.in_ok-flush.ensures in
     let out : List ℕ = c.append_contents.new.out.items in
     let front : c.try_reserve.new.self.items ≡ bytes_of c.args.self.now ++ 34 ∷ [] = c.in_ok-try_reserve.ensures.items ∙ sym flushed.copied ∙ flushed.bytes ∙ c.in_ok-put.ensures.bytes in
     let there : bytes_of c.go_on.new.self ≡ out = c.go_on.ensures.bytes ∙ ap (λ (u : List ℕ). out ++ u) flushed.empty ∙ append-nil out in
-    quoted_bytes (bytes_of c.args.self.now) c.try_reserve.new.self.items out (bytes_of c.put-2.new.self) (flat_map byte_text (text_of_contents c.args.contents.now)) front (c.in_ok-append_contents.ensures.ok kept)
+    quoted_bytes (bytes_of c.args.self.now) c.try_reserve.new.self.items out (bytes_of c.put-2.new.self) (flat_map byte_text (text_of_contents c.args.contents.now)) front c.in_ok-append_contents.ensures.ok
     (last ∙ ap (λ (u : List ℕ). u ++ 34 ∷ []) there))

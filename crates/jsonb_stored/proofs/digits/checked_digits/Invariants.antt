@@ -1,11 +1,12 @@
-use Rattle.std.proofs.Common.{◌≤◌, length}
-use Rattle.jsonb_stored.proofs.ShortNumbers.{SomeRead}
-use Rattle.jsonb_stored.proofs.digits.short_digits.Given as goal
+use Rattle.std.proofs.Common.{◌≡◌, ◌≤◌, ◌%◌, length}
+use Rattle.jsonb_stored.proofs.NumberEnds.{SomeRead}
+use Rattle.jsonb_stored.proofs.digits.checked_digits.Given as goal
 
 abbrev pub invariant-pairs : goal.invariant-pairs
 invariant-pairs l = record {
   read : SomeRead l.negative l.bytes l.count l.rest;
   few : l.count ≤ 36;
+  even : l.count % 2 ≡ 0;
   within : length l.rest ≤ length l.bytes;
 }
 
