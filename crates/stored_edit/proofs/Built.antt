@@ -40,12 +40,13 @@ object_spot name key rest ms spot begins s = record {
   there = s.there;
   name = s.name;
   front = 0xD1 ∷ s.front;
+  behind = s.behind;
   inside = begins ∙ ap (λ l. 0xD1 ∷ l) s.inside;
   stands = s.stands;
   named = s.named;
   readable = s.readable;
   fits = s.fits;
-  answers = λ change. lifted (key_before []) (fits_in 511) key_of (tree_fits max_depth) true s.name (0xD1 ∷ []) s.front spot.behind.now 511 (change s.there) _ _ (bare (changed_member change name ms)) (s.answers change);
+  answers = λ change. lifted (key_before []) (fits_in 511) key_of (tree_fits max_depth) true s.name (0xD1 ∷ []) s.front s.behind 511 (change s.there) _ _ (bare (changed_member change name ms)) (s.answers change);
 }
   where
     bare : (x : Option Members) → Lifts (key_before []) (fits_in 511) key_of (tree_fits max_depth) (0xD1 ∷ []) (option_map members x) (option_map object x)

@@ -146,21 +146,29 @@ step_missed t names others name key parts of_object room l none change = go (cha
 abbrev StepSpot : (o : Open) → List ℕ → List ℕ → Bool → List ℕ → ℕ → Spot → Type 0
 StepSpot o behind name of_object parts room spot = SpotIn (key_before behind) (fits_in room) (λ change. changed_open change name o) of_object name parts room spot
 
+-- the spot in the key of all, and what is behind it
+abbrev pub EndSpot : Tree → List (List ℕ) → Bool → List ℕ → List ℕ → ℕ → Spot → List ℕ → Type 0
+EndSpot t names of_object name key room spot behind = (s : SpotIn key_of (tree_fits max_depth) (λ change. changed_at change names t) of_object name key room spot) × (s.behind ≡ behind)
+
 -- the last name leads to the spot
-pub step_ended : (t : Tree) (names others : List (List ℕ)) (name key parts : List ℕ) (of_object : Bool) (room : ℕ) (spot : Spot) (l : StepLeft t names others name key parts of_object room) → length others ≡ 0 → StepSpot l.all l.behind name of_object parts room spot
-    → SpotIn key_of (tree_fits max_depth) (λ change. changed_at change names t) of_object name key room spot
-step_ended t names [] name key parts of_object room spot l over s = record {
-  there = s.there;
-  name = s.name;
-  front = l.front ++ s.front;
-  inside = l.inside ∙ ap (λ key. l.front ++ key) s.inside ∙ sym (append_assoc l.front s.front spot.entry.now);
-  stands = s.stands;
-  named = s.named;
-  readable = s.readable;
-  fits = s.fits;
-  answers = λ change. lifted (key_before l.behind) (fits_in room) key_of (tree_fits max_depth) of_object s.name l.front s.front spot.behind.now room (change s.there) _ _ (l.lifts change) (s.answers change);
-}
-step_ended t names (next ∷ others) name key parts of_object room spot l over s = absurd (omega (arith, over))
+pub step_ended : (t : Tree) (names others : List (List ℕ)) (name key parts : List ℕ) (of_object : Bool) (room : ℕ) (spot : Spot) (behind : List ℕ) (l : StepLeft t names others name key parts of_object room) → length others ≡ 0 → (s : StepSpot l.all l.behind name of_object parts room spot) → behind ≡ s.behind
+    → EndSpot t names of_object name key room spot behind
+step_ended t names [] name key parts of_object room spot behind l over s is = (
+  record {
+    there = s.there;
+    name = s.name;
+    front = l.front ++ s.front;
+    behind = s.behind;
+    inside = l.inside ∙ ap (λ key. l.front ++ key) s.inside ∙ sym (append_assoc l.front s.front spot.entry.now);
+    stands = s.stands;
+    named = s.named;
+    readable = s.readable;
+    fits = s.fits;
+    answers = λ change. lifted (key_before l.behind) (fits_in room) key_of (tree_fits max_depth) of_object s.name l.front s.front s.behind room (change s.there) _ _ (l.lifts change) (s.answers change);
+  },
+  sym is,
+)
+step_ended t names (next ∷ others) name key parts of_object room spot behind l over s is = absurd (omega (arith, over))
 
 -- an answer about a part within the one that is there
 within_lifts : (of_object : Bool) (name front behind : List ℕ) (room : ℕ) (x y : Option Tree) → Answers key_of (tree_fits max_depth) of_object name front behind room (part_with x) y → WholeLifts behind room (front ++ name_key of_object name) x y
@@ -181,8 +189,8 @@ step_lost t names (next ∷ others) name key parts of_object room spot l more s 
     true_false : true ≡ false → ⊥
     true_false e = cc
 
-    go : (there : Option Tree) → Stands of_object s.name spot there → Answers (key_before l.behind) (fits_in room) of_object s.name s.front spot.behind.now room (within (changed_at change (next ∷ others)) there) (changed_open (within (changed_at change (next ∷ others))) name l.all) → changed_at change names t ≡ None
-    go None st h = answers_none of_object s.name (l.front ++ s.front) spot.behind.now room (changed_at change names t) (lifted (key_before l.behind) (fits_in room) key_of (tree_fits max_depth) of_object s.name l.front s.front spot.behind.now room stays _ _ (l.lifts change) h)
+    go : (there : Option Tree) → Stands of_object s.name spot s.behind there → Answers (key_before l.behind) (fits_in room) of_object s.name s.front s.behind room (within (changed_at change (next ∷ others)) there) (changed_open (within (changed_at change (next ∷ others))) name l.all) → changed_at change names t ≡ None
+    go None st h = answers_none of_object s.name (l.front ++ s.front) s.behind room (changed_at change names t) (lifted (key_before l.behind) (fits_in room) key_of (tree_fits max_depth) of_object s.name l.front s.front s.behind room stays _ _ (l.lifts change) h)
     go (Some u) st h = absurd (true_false (sym st.0 ∙ lost))
 
 -- an earlier name leads to a part
@@ -193,19 +201,19 @@ step_taken t names (next ∷ others) name key parts of_object room spot l more s
     false_true : false ≡ true → ⊥
     false_true e = cc
 
-    go : (there : Option Tree) → Stands of_object s.name spot there → IfSome there IsReadable → IfSome there (λ u. IsWithin IsAnyNumber u room)
-        → ((change : Option Tree → Outcome) → Answers (key_before l.behind) (fits_in room) of_object s.name s.front spot.behind.now room (change there) (changed_open change name l.all)) → PathLeft t names (next ∷ others) key spot.value.now room
+    go : (there : Option Tree) → Stands of_object s.name spot s.behind there → IfSome there IsReadable → IfSome there (λ u. IsWithin IsAnyNumber u room)
+        → ((change : Option Tree → Outcome) → Answers (key_before l.behind) (fits_in room) of_object s.name s.front s.behind room (change there) (changed_open change name l.all)) → PathLeft t names (next ∷ others) key spot.value.now room
     go None st r f h = absurd (false_true (sym st.0 ∙ found))
     go (Some u) st r f h = record {
       inner = u;
       readable = r;
       fits = f;
       front = (l.front ++ s.front) ++ name_key of_object s.name;
-      behind = spot.behind.now;
+      behind = s.behind;
       inside = l.inside ∙ ap (λ key. l.front ++ key) (s.inside ∙ ap (λ key. s.front ++ key) st.1) ∙ moved l.front s.front (name_key of_object s.name) spot.value.now;
       stands = st.2;
-      lifts = λ change. within_lifts of_object s.name (l.front ++ s.front) spot.behind.now room (changed_at change (next ∷ others) u) (changed_at change names t)
-          (lifted (key_before l.behind) (fits_in room) key_of (tree_fits max_depth) of_object s.name l.front s.front spot.behind.now room (part_with (changed_at change (next ∷ others) u)) _ _ (l.lifts change) (h (within (changed_at change (next ∷ others)))));
+      lifts = λ change. within_lifts of_object s.name (l.front ++ s.front) s.behind room (changed_at change (next ∷ others) u) (changed_at change names t)
+          (lifted (key_before l.behind) (fits_in room) key_of (tree_fits max_depth) of_object s.name l.front s.front s.behind room (part_with (changed_at change (next ∷ others) u)) _ _ (l.lifts change) (h (within (changed_at change (next ∷ others)))));
     }
       where
         moved : (a b c d : List ℕ) → a ++ (b ++ (c ++ d)) ≡ ((a ++ b) ++ c) ++ d

@@ -10,7 +10,7 @@ use Rattle.jsonb_spec.specs.Text.Appending.{AppendsAllOrNothing}
 use Rattle.jsonb_spec.specs.Text.Range.{IsWithin}
 use Rattle.jsonb_spec.specs.Tree.{Tree}
 use Rattle.stored_edit.specs.Edit.{Outcome, becomes, changed_at, set_to, AppendsKey, Edits}
-use Rattle.stored_edit.specs.Spots.{Answers, SpotIn, Stands}
+use Rattle.stored_edit.specs.Spots.{Answers, PlaceIn, SpotIn, Stands}
 use Rattle.stored_edit.specs.declared.error.EditError.{EditError}
 use Rattle.stored_edit.specs.declared.place.Place.{Place}
 use Rattle.stored_edit.specs.declared.spot.Spot.{Spot}
@@ -26,16 +26,16 @@ pub not_fits : (P Q : Type 0) {b : Bool} → b ≡ false → MatchBool b P Q →
 not_fits P Q e m = subst (λ b. MatchBool b P Q) e m
 
 -- where the value of a part stands that is there
-pub value_front : (object : Bool) (name front key : List ℕ) (spot : Spot) (there : Option Tree) → key ≡ front ++ spot.entry.now → Stands object name spot there → spot.found ≡ true → key ≡ (front ++ name_key object name) ++ spot.value.now
-value_front object name front key spot None e st found = absurd (false_true (sym st.0 ∙ found))
-value_front object name front key spot (Some t) e st found = e ∙ ap (λ l. front ++ l) st.1 ∙ sym (append_assoc front (name_key object name) spot.value.now)
+pub value_front : (object : Bool) (name front key : List ℕ) (spot : Spot) (behind : List ℕ) (there : Option Tree) → key ≡ front ++ spot.entry.now → Stands object name spot behind there → spot.found ≡ true → key ≡ (front ++ name_key object name) ++ spot.value.now
+value_front object name front key spot behind None e st found = absurd (false_true (sym st.0 ∙ found))
+value_front object name front key spot behind (Some t) e st found = e ∙ ap (λ l. front ++ l) st.1 ∙ sym (append_assoc front (name_key object name) spot.value.now)
 
 -- what is answered where this stands there
-pub put_answered : (P : Tree → Type 0) (changed : (Option Tree → Outcome) → Option Tree) (object : Bool) (asked key : List ℕ) (room : ℕ) (spot : Spot) (s : SpotIn key_of (tree_fits max_depth) changed object asked key room spot) (u : Tree) (change : Option Tree → Outcome) → change s.there ≡ becomes u
-    → ((v : Tree) → key_of v ≡ s.front ++ (name_key object s.name ++ (key_of u ++ spot.behind.now)) → (IsWithin IsAnyNumber v max_depth ↔ IsWithin IsAnyNumber u room) → P v) → MatchOption (changed change) ⊥ P
-put_answered P changed object asked key room spot s u change is then = go (changed change) (subst (λ o. Answers key_of (tree_fits max_depth) object s.name s.front spot.behind.now room o (changed change)) is (s.answers change))
+pub put_answered : (P : Tree → Type 0) (changed : (Option Tree → Outcome) → Option Tree) (object : Bool) (asked key : List ℕ) (room : ℕ) (spot : Spot) (behind : List ℕ) (s : SpotIn key_of (tree_fits max_depth) changed object asked key room spot) → s.behind ≡ behind → (u : Tree) (change : Option Tree → Outcome) → change s.there ≡ becomes u
+    → ((v : Tree) → key_of v ≡ s.front ++ (name_key object s.name ++ (key_of u ++ behind)) → (IsWithin IsAnyNumber v max_depth ↔ IsWithin IsAnyNumber u room) → P v) → MatchOption (changed change) ⊥ P
+put_answered P changed object asked key room spot behind s same u change is then = go (changed change) (subst (λ o. Answers key_of (tree_fits max_depth) object s.name s.front behind room o (changed change)) is (subst (λ b. Answers key_of (tree_fits max_depth) object s.name s.front b room (change s.there) (changed change)) same (s.answers change)))
   where
-    go : (x : Option Tree) → Answers key_of (tree_fits max_depth) object s.name s.front spot.behind.now room (becomes u) x → MatchOption x ⊥ P
+    go : (x : Option Tree) → Answers key_of (tree_fits max_depth) object s.name s.front behind room (becomes u) x → MatchOption x ⊥ P
     go None h = h
     go (Some v) h = then v h.0 h.1
 
@@ -49,9 +49,9 @@ lacking (Err x) old new bytes e a = a.full
 
 -- ---- set
 
-pub set_there : (object : Bool) (name : List ℕ) (spot : Spot) (u : Tree) (create : Bool) (there : Option Tree) → Stands object name spot there → spot.found ≡ true → set_to u create there ≡ becomes u
-set_there object name spot u create None st found = absurd (false_true (sym st.0 ∙ found))
-set_there object name spot u create (Some t) st found = refl
+pub set_there : (object : Bool) (name : List ℕ) (spot : Spot) (behind : List ℕ) (u : Tree) (create : Bool) (there : Option Tree) → Stands object name spot behind there → spot.found ≡ true → set_to u create there ≡ becomes u
+set_there object name spot behind u create None st found = absurd (false_true (sym st.0 ∙ found))
+set_there object name spot behind u create (Some t) st found = refl
 
 pub set_made : (u : Tree) (create : Bool) (there : Option Tree) → create ≡ true → set_to u create there ≡ becomes u
 set_made u true None e = refl
@@ -69,4 +69,4 @@ fault_told old new e (Some v) a = (record { ok = tt; fits = tt; errors = a.error
 -- what is told of a place
 abbrev pub ToldPlace : Tree → List (List ℕ) → List ℕ → Option Place → Type 0
 ToldPlace t names key told = MatchOption told ((change : Option Tree → Outcome) → changed_at change names t ≡ None)
-    (λ place. SpotIn key_of (tree_fits max_depth) (λ change. changed_at change names t) place.object place.name.now key place.room place.spot)
+    (PlaceIn (λ change. changed_at change names t) key)

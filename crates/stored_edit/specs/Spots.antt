@@ -1,13 +1,14 @@
 -- Where in the bytes a part stands, or would stand.
-use Rattle.std.specs.Prelude.{◌≡◌, ℕ, ◌↔◌, Bool, true, false, List, ◌++◌, Option, Some, None, option_map, IfSome, MatchResult, Result, ⊤}
+use Rattle.std.specs.Prelude.{◌≡◌, ℕ, ◌↔◌, Bool, true, false, List, ◌++◌, Option, Some, None, option_map, IfSome, MatchResult, Result, Ok, ⊤}
+use Rattle.std.specs.Borrow.{Bor}
 use Rattle.jsonb_key.specs.Readable.{IsAnyNumber, IsReadable}
 use Rattle.jsonb_stored.specs.AtKeys.{AtItems}
 use Rattle.jsonb_stored.specs.Open.{Open, items, members, name_key, open_key}
 use Rattle.jsonb_stored.specs.declared.find.NoKey.{NoKey}
 use Rattle.jsonb_spec.specs.Grammar.{max_depth}
-use Rattle.jsonb_spec.specs.SortKey.{key_of}
+use Rattle.jsonb_spec.specs.SortKey.{key_of, items_key, members_key}
 use Rattle.jsonb_spec.specs.Text.Range.{IsWithin, AreWithin, HaveWithin}
-use Rattle.jsonb_spec.specs.Tree.{Tree, Trees}
+use Rattle.jsonb_spec.specs.Tree.{Tree, Trees, no_trees, more_trees, no_members, more_members}
 use Rattle.stored_edit.specs.Edit.{Outcome, stays, goes, becomes, changed_member, changed_items}
 use Rattle.stored_edit.specs.declared.place.Place.{Place}
 use Rattle.stored_edit.specs.declared.spot.Spot.{Spot}
@@ -22,11 +23,25 @@ abbrev pub changed_open : (Option Tree → Outcome) → List ℕ → Open → Op
 changed_open change name (items ts) = option_map items (changed_items change name ts)
 changed_open change name (members ms) = option_map members (changed_member change name ms)
 
--- The part stands there, with its name and what is behind it; or it would stand there, where none is.
-abbrev pub Stands : Bool → List ℕ → Spot → Option Tree → Type 0
-Stands object name spot None = (spot.found ≡ false) × (spot.entry.now ≡ spot.behind.now)
-Stands object name spot (Some t) = (spot.found ≡ true) × (spot.entry.now ≡ name_key object name ++ spot.value.now)
-    × (spot.value.now ≡ key_of t ++ spot.behind.now)
+-- What is told of what is left of an array or an object: the bytes from the value of the first part on; or nothing
+-- where no part is left.
+abbrev pub StandsFirst : Open → List ℕ → Result (Option (Bor (List ℕ))) NoKey → Type 0
+StandsFirst (items no_trees) more (Ok None) = ⊤
+StandsFirst (items (more_trees t ts)) more (Ok (Some told)) = told.now ≡ key_of t ++ (items_key ts ++ more)
+StandsFirst (members no_members) more (Ok None) = ⊤
+StandsFirst (members (more_members key t ms)) more (Ok (Some told)) = told.now ≡ key_of t ++ (members_key ms ++ more)
+StandsFirst o more told = ⊥
+
+-- These bytes are told.
+abbrev pub TellsBehind : List ℕ → Result (Bor (List ℕ)) NoKey → Type 0
+TellsBehind more result = MatchResult result (λ rest. rest.now ≡ more) (λ e. ⊥)
+
+-- The part stands there, with its name before it and these bytes behind it; or it would stand there, where none is.
+abbrev pub Stands : Bool → List ℕ → Spot → List ℕ → Option Tree → Type 0
+Stands object name spot behind None = (spot.found ≡ false) × (spot.entry.now ≡ behind)
+Stands object name spot behind (Some t) =
+    (spot.found ≡ true) × (spot.entry.now ≡ name_key object name ++ spot.value.now)
+    × (spot.value.now ≡ key_of t ++ behind)
 
 -- The answer by what becomes of the part there: its key is the front, what stands there then, and what is behind.
 abbrev pub Answers : {A : Type 0} → (A → List ℕ) → (A → Type 0) → Bool → List ℕ → List ℕ → List ℕ → ℕ → Outcome
@@ -45,13 +60,14 @@ pub record SpotIn {A : Type 0} (key : A → List ℕ) (Fits : A → Type 0) (cha
   pub there : Option Tree
   pub name : List ℕ
   pub front : List ℕ
+  pub behind : List ℕ
   pub inside : bytes ≡ front ++ spot.entry.now
-  pub stands : Stands object name spot there
+  pub stands : Stands object name spot behind there
   pub named : there ≡ None → name ≡ asked
   pub readable : IfSome there IsReadable
   pub fits : IfSome there (λ t. IsWithin IsAnyNumber t room)
   pub answers : (change : Option Tree → Outcome)
-      → Answers key Fits object name front spot.behind.now room (change there) (changed change)
+      → Answers key Fits object name front behind room (change there) (changed change)
 
 -- The spot among the parts that are left of an array or an object, behind whose end more bytes stand.
 abbrev pub OpenSpotIn : ((Option Tree → Outcome) → Option Open) → Bool → List ℕ → List ℕ → List ℕ → ℕ → Spot → Type 0
@@ -64,7 +80,8 @@ FindsItemSpot changed bytes result =
     AtItems bytes (λ ts more. (room : ℕ) → AreWithin IsAnyNumber ts room → (name : List ℕ) → MatchResult result
     (OpenSpotIn (λ change. option_map items (changed change ts)) false name bytes more room) (λ e. ⊥))
 
--- The place in the key at which changes are made.
+-- The place in the key at which changes are made, and what is behind it.
 abbrev pub PlaceIn : ((Option Tree → Outcome) → Option Tree) → List ℕ → Place → Type 0
 PlaceIn changed key place =
-    SpotIn key_of (λ t. IsWithin IsAnyNumber t max_depth) changed place.object place.name.now key place.room place.spot
+    (s : SpotIn key_of (λ t. IsWithin IsAnyNumber t max_depth) changed place.object place.name.now key place.room
+    place.spot) × (s.behind ≡ place.behind.now)

@@ -13,7 +13,7 @@ use crate::error::EditError;
 use crate::merge::{as_item, without_end};
 use crate::place::Place;
 use crate::splice::splice;
-use crate::spot::member_spot;
+use crate::spot::{behind_part, member_spot};
 use jsonb_stored::skip::MAX_DEPTH;
 use jsonb_stored::walk::{items_of, kind_of, members_of};
 use jsonb_value::sort_key::kind;
@@ -43,8 +43,10 @@ pub fn append_with_member(
         return other_value(key);
     };
     let spot = member_spot(members, name.as_bytes())?;
+    let behind = behind_part(&spot)?;
     let place = Place {
         spot,
+        behind,
         object: true,
         name,
         room: MAX_DEPTH - 1,

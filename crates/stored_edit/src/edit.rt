@@ -39,15 +39,7 @@ pub fn append_without_part(
     if !place.spot.found {
         return Ok(false);
     }
-    if splice(
-        out,
-        front(key, place.spot.entry),
-        &[],
-        &[],
-        place.spot.behind,
-    )
-    .is_err()
-    {
+    if splice(out, front(key, place.spot.entry), &[], &[], place.behind).is_err() {
         return Err(EditError::OutOfMemory);
     }
     Ok(true)
@@ -96,7 +88,7 @@ pub(crate) fn put_part(
     requires { place.now.room ≤ 511 }
     ensures put { (changed : (Option Tree → Outcome) → Option Tree) → (s : PlaceIn changed key.now place.now)
         → (u : Tree) → IsReadable u → part.now ≡ key_of u → (change : Option Tree → Outcome)
-        → change s.there ≡ becomes u → MatchOption (changed change) ⊥ (λ v. AppendsKey v result out.old out.new) }
+        → change s.0.there ≡ becomes u → MatchOption (changed change) ⊥ (λ v. AppendsKey v result out.old out.new) }
     ensures keeps { KeepsOnError result out.old out.new }
 {
     if !fits(part, place.room)? {
@@ -111,17 +103,17 @@ pub(crate) fn put_part(
 // Appends what stands before the place, the part with its name, and what stands behind the place.
 fn write_part(out: &mut Vec<u8>, key: &[u8], place: &Place, part: &[u8]) -> Result<(), AllocError>
     ensures written { (there : Option Tree) → (name front : List ℕ) → key.now ≡ front ++ place.now.spot.entry.now
-        → Stands place.now.object name place.now.spot there → (there ≡ None → name ≡ place.now.name.now)
-        → AppendsAllOrNothing result out.old out.new
-        (front ++ (name_key place.now.object name ++ (part.now ++ place.now.spot.behind.now))) }
+        → Stands place.now.object name place.now.spot place.now.behind.now there
+        → (there ≡ None → name ≡ place.now.name.now) → AppendsAllOrNothing result out.old out.new
+        (front ++ (name_key place.now.object name ++ (part.now ++ place.now.behind.now))) }
     ensures keeps { KeepsOnError result out.old out.new }
 {
     let spot = place.spot;
     if spot.found {
-        return splice(out, front(key, spot.value), &[], part, spot.behind);
+        return splice(out, front(key, spot.value), &[], part, place.behind);
     }
     if place.object {
-        return splice_named(out, front(key, spot.entry), place.name, part, spot.behind);
+        return splice_named(out, front(key, spot.entry), place.name, part, place.behind);
     }
-    splice(out, front(key, spot.entry), &[], part, spot.behind)
+    splice(out, front(key, spot.entry), &[], part, place.behind)
 }

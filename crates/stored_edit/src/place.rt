@@ -6,22 +6,23 @@ ghost use Rattle.jsonb_spec.specs.Tree.{Tree};
 ghost use Rattle.stored_edit.specs.Edit.{Outcome, changed_at};
 ghost use Rattle.stored_edit.specs.Spots.{PlaceIn};
 
-use crate::spot::{Spot, part_spot};
+use crate::spot::{Spot, behind_part, part_spot};
 use jsonb_stored::find::{NoKey, open_key};
 use jsonb_stored::skip::MAX_DEPTH;
 
-/// Where in a key the part at a path stands, or would stand; whether that is in an object; the last name of the path;
-/// and how many arrays and objects a part may have in one another there.
+/// Where in a key the part at a path stands, or would stand; what is behind it; whether that is in an object; the last
+/// name of the path; and how many arrays and objects a part may have in one another there.
 #[derive(Clone, Copy)]
 pub(crate) struct Place<'k, 'n> {
     pub(crate) spot: Spot<'k>,
+    pub(crate) behind: &'k [u8],
     pub(crate) object: bool,
     pub(crate) name: &'n str,
     pub(crate) room: usize,
 }
 
 /// The place that the path leads to; `None` where there is none, since an earlier name leads nowhere, the last one is
-/// no index of an array, or there is no name.
+/// no index of an array, or there is no name. Of an earlier part only the beginning is looked for.
 pub(crate) fn find_place<'k, 'n>(
     key: &'k [u8],
     names: &'n [String],
@@ -45,8 +46,10 @@ pub(crate) fn find_place<'k, 'n>(
             return Ok(None);
         };
         if are_none(others) {
+            let behind = behind_part(&spot)?;
             return Ok(Some(Place {
                 spot,
+                behind,
                 object,
                 name: name.as_str(),
                 room: inner,

@@ -1,38 +1,73 @@
 //! Where a part stands among the parts of an array or an object, or would stand.
 
-ghost use Rattle.std.specs.Prelude.{◌≡◌, ◌++◌, List, ℕ, option_map, true, false, None, Option, MatchResult, MatchOption};
-ghost use Rattle.jsonb_key.specs.Readable.{IsAnyNumber};
-ghost use Rattle.jsonb_stored.specs.AtKeys.{AtMembers, AtParts};
+ghost use Rattle.std.specs.Prelude.{◌≡◌, ◌<◌, ◌≤◌, ◌++◌, Bool, IsTrue, List, ℕ, length, option_map, true, false, None, Option, IfOk, IfSome, MatchResult, MatchOption};
+ghost use Rattle.jsonb_key.specs.Readable.{IsAnyNumber, IsReadable};
+ghost use Rattle.jsonb_stored.specs.AtKeys.{AtKey, AtMembers, AtParts};
 ghost use Rattle.jsonb_stored.specs.Open.{Open, members};
 ghost use Rattle.jsonb_spec.specs.Text.Range.{HaveWithin};
 ghost use Rattle.jsonb_spec.specs.Tree.{Tree};
 ghost use Rattle.stored_edit.specs.Edit.{Outcome, changed_at_step, changed_item, changed_item_back, changed_member};
-ghost use Rattle.stored_edit.specs.Spots.{changed_open, FindsItemSpot, OpenSpotIn, OpenWithin};
+ghost use Rattle.stored_edit.specs.Spots.{changed_open, FindsItemSpot, OpenSpotIn, OpenWithin, Stands, StandsFirst, TellsBehind};
 
 use crate::step::step_of;
-use jsonb_stored::find::{NoKey, compare_name, count_left, next_part};
+use jsonb_stored::find::{NoKey, compare_name};
+use jsonb_stored::skip::{after_end, after_key, after_name};
 use std::cmp::Ordering;
 
 /// Where a part stands in the bytes, or would stand: all that is left of them from its name on, which an item has none
-/// of; from its value on; and behind it. Where no part is there, these three are what follows the place.
+/// of, and from its value on. Where no part is there, both are what follows the place.
 #[derive(Clone, Copy)]
 pub(crate) struct Spot<'k> {
     pub(crate) found: bool,
     pub(crate) entry: &'k [u8],
     pub(crate) value: &'k [u8],
-    pub(crate) behind: &'k [u8],
 }
 
 // A place where no part is, before what is left.
 fn no_part(rest: &[u8]) -> Spot<'_>
-    ensures { (result.found ≡ false) × (result.entry.now ≡ rest.now) × (result.value.now ≡ rest.now)
-        × (result.behind.now ≡ rest.now) }
+    ensures { (result.found ≡ false) × (result.entry.now ≡ rest.now) }
 {
     Spot {
         found: false,
         entry: rest,
         value: rest,
-        behind: rest,
+    }
+}
+
+/// The bytes behind the part at the spot, which is walked to its end, or behind the place where no part is.
+pub(crate) fn behind_part<'k>(spot: &Spot<'k>) -> Result<&'k [u8], NoKey>
+    ensures behind { (object : Bool) → (name more : List ℕ) → (there : Option Tree) → IfSome there IsReadable
+        → Stands object name spot.now more there → TellsBehind more result }
+{
+    if spot.found {
+        behind_key(spot.value)
+    } else {
+        Ok(spot.entry)
+    }
+}
+
+// The bytes behind the key that they begin with.
+fn behind_key(bytes: &[u8]) -> Result<&[u8], NoKey>
+    ensures behind { AtKey bytes.now (λ t more. TellsBehind more result) }
+    ensures shorter { IfOk result (λ rest. length rest.now < length bytes.now) }
+{
+    match after_key(bytes) {
+        Some(rest) => Ok(rest),
+        None => Err(NoKey),
+    }
+}
+
+// The bytes from the value of the first part on that is left of an object or an array; `None` where no part is left.
+fn first_value(object: bool, left: &[u8]) -> Result<Option<&[u8]>, NoKey>
+    ensures first { AtParts object left.now (λ o more. StandsFirst o more result) }
+    ensures within { IfOk result (λ answer. IfSome answer (λ value. length value.now ≤ length left.now)) }
+{
+    match after_end(object, left) {
+        Some(_) => Ok(None),
+        None => match after_name(object, left) {
+            Some(value) => Ok(Some(value)),
+            None => Err(NoKey),
+        },
     }
 }
 
@@ -44,7 +79,7 @@ pub(crate) fn member_spot<'k>(members: &'k [u8], name: &[u8]) -> Result<Spot<'k>
 {
     let mut rest = members;
     'members: loop {
-        let Some((value, behind)) = next_part(true, rest)? else {
+        let Some(value) = first_value(true, rest)? else {
             return Ok(no_part(rest));
         };
         let (order, _) = compare_name(name, rest);
@@ -55,11 +90,11 @@ pub(crate) fn member_spot<'k>(members: &'k [u8], name: &[u8]) -> Result<Spot<'k>
                     found: true,
                     entry: rest,
                     value,
-                    behind,
                 });
             }
-            Ordering::Greater => rest = behind,
+            Ordering::Greater => {}
         }
+        rest = behind_key(value)?;
     }
 }
 
@@ -70,7 +105,7 @@ fn item_spot(items: &[u8], index: usize) -> Result<Spot<'_>, NoKey>
     let mut rest = items;
     let mut before = index;
     'items: loop {
-        let Some((value, behind)) = next_part(false, rest)? else {
+        let Some(value) = first_value(false, rest)? else {
             return Ok(no_part(rest));
         };
         let Some(less) = before.checked_sub(1) else {
@@ -78,27 +113,43 @@ fn item_spot(items: &[u8], index: usize) -> Result<Spot<'_>, NoKey>
                 found: true,
                 entry: rest,
                 value,
-                behind,
             });
         };
-        rest = behind;
+        rest = behind_key(value)?;
         before = less;
     }
 }
 
-// Where the item stands that is so many from the end, where 1 is the last, or the front.
+// Where the item stands that is so many from the end, where 1 is the last, or the front. All items are walked once:
+// what is left after each `back` of them is kept, and what was kept before; the item is fewer than `back` behind that.
 fn item_spot_back(items: &[u8], back: usize) -> Result<Spot<'_>, NoKey>
+    requires { 0 < back }
     ensures spot { FindsItemSpot (λ change. changed_item_back change back) items.now result }
 {
-    let count = count_left(false, items)?;
-    match count.checked_sub(back) {
-        Some(index) => item_spot(items, index),
-        None => Ok(no_part(items)),
+    let mut rest = items;
+    let mut later = items;
+    let mut earlier: Option<&[u8]> = None;
+    let mut since: usize = 0;
+    'items: loop {
+        let Some(value) = first_value(false, rest)? else {
+            return match earlier {
+                Some(start) => item_spot(start, since),
+                None => Ok(no_part(items)),
+            };
+        };
+        rest = behind_key(value)?;
+        since += 1;
+        if since == back {
+            earlier = Some(later);
+            later = rest;
+            since = 0;
+        }
     }
 }
 
 // Where the item of that index stands, which counts from the end or not.
 fn item_spot_by(items: &[u8], from_end: bool, number: usize) -> Result<Spot<'_>, NoKey>
+    requires { IsTrue from_end → 0 < number }
     ensures spot { FindsItemSpot (λ change ts. changed_at_step change ts (from_end, number)) items.now result }
 {
     if from_end {

@@ -1,13 +1,11 @@
 use Rattle.std.proofs.Common.{◌≡◌, ◌∷◌, IfSome, MatchOption, None, Ok, Option, Global, ap, arith, map, string_bytes, subst, sym, ◌∙◌}
 use Rattle.jsonb_stored.specs.Found.{Opens}
 use Rattle.jsonb_stored.specs.Open.{opening_byte}
-use Rattle.jsonb_spec.specs.Grammar.{max_depth}
-use Rattle.jsonb_spec.specs.SortKey.{key_of}
 use Rattle.jsonb_spec.specs.Tree.{Tree}
 use Rattle.std.proofs.lemmas.List.{length-map}
-use Rattle.stored_edit.specs.Edit.{Outcome, changed_at}
+use Rattle.stored_edit.specs.Edit.{Outcome}
 use Rattle.stored_edit.specs.Spots.{SpotIn, changed_open}
-use Rattle.stored_edit.proofs.Placed.{tree_fits, path_begun, step_ended, step_left, step_lost, step_missed, step_taken}
+use Rattle.stored_edit.proofs.Placed.{EndSpot, path_begun, step_ended, step_left, step_lost, step_missed, step_taken}
 use Rattle.stored_edit.proofs.Spotted.{fits_in, key_before}
 use Rattle.stored_edit.proofs.place.find_place.Goals as goal
 
@@ -44,8 +42,20 @@ returns-then-are_none-clause-place c = λ t r e.
     let begins = subst (λ answer. IfSome answer (λ parts. c.names.part.now ≡ opening_byte parts.0 ∷ parts.1.now)) c.in-Some-2.is c.in_ok-object.ensures.some in
     let s = step_left t (map string_bytes c.args.names.now) (map string_bytes c.names.left.now) (map string_bytes c.in-Some.others.now) name c.args.key.now c.names.part.now c.in-Some-2.parts.now c.in-Some-2.object c.names.room c.in-Some-checked_sub.inner p first (omega (arith, c.in-Some-checked_sub.ensures)) begins left in
     let told = subst (λ answer. MatchOption answer ((change : Option Tree → Outcome) → changed_open change name s.all ≡ None) (SpotIn (key_before s.behind) (fits_in c.in-Some-checked_sub.inner) (λ change. changed_open change name s.all) c.in-Some-2.object name c.in-Some-2.parts.now c.in-Some-checked_sub.inner)) c.in-Some-3.is (c.in_ok-spot.ensures.spot s.all s.is s.readable s.behind s.stands c.in-Some-checked_sub.inner s.fits) in
-    let spot = step_ended t (map string_bytes c.args.names.now) (map string_bytes c.in-Some.others.now) name c.args.key.now c.in-Some-2.parts.now c.in-Some-2.object c.in-Some-checked_sub.inner c.in-Some-3.spot s (length-map c.in-Some.others.now (string_bytes {Z = Global}) ∙ c.if-are_none.ensures) told in
-    subst (λ n. SpotIn key_of (tree_fits max_depth) (λ change. changed_at change (map string_bytes c.args.names.now) t) c.in-Some-2.object n c.args.key.now c.in-Some-checked_sub.inner c.in-Some-3.spot) (c.as_str.ensures.value ∙ sym c.as_str-then-are_none.ensures.value) spot
+    let behind = c.in_ok-behind.ensures.behind c.in-Some-2.object told.name told.behind told.there told.readable told.stands in
+    let spot = step_ended t (map string_bytes c.args.names.now) (map string_bytes c.in-Some.others.now) name c.args.key.now c.in-Some-2.parts.now c.in-Some-2.object c.in-Some-checked_sub.inner c.in-Some-3.spot c.in_ok-behind.behind.now s (length-map c.in-Some.others.now (string_bytes {Z = Global}) ∙ c.if-are_none.ensures) told behind in
+    subst (λ n. EndSpot t (map string_bytes c.args.names.now) c.in-Some-2.object n c.args.key.now c.in-Some-checked_sub.inner c.in-Some-3.spot c.in_ok-behind.behind.now) (c.as_str.ensures.value ∙ sym c.as_str-then-are_none.ensures.value) spot
+
+pub returns-in_err-behind-clause-place : goal.returns-in_err-behind-clause-place
+returns-in_err-behind-clause-place c = λ t r e.
+    let p = c.names.invariant.walks t r e in
+    let name = c.as_str.result.now in
+    let first = ap (map string_bytes) c.in-Some.ensures.cases.0 ∙ ap (λ n. n ∷ map string_bytes c.in-Some.others.now) (sym c.as_str.ensures.value) in
+    let left = subst (λ answer. Opens p.inner p.behind (Ok answer)) c.in-Some-2.is (c.in_ok-object.ensures.opens p.inner p.readable p.behind p.stands) in
+    let begins = subst (λ answer. IfSome answer (λ parts. c.names.part.now ≡ opening_byte parts.0 ∷ parts.1.now)) c.in-Some-2.is c.in_ok-object.ensures.some in
+    let s = step_left t (map string_bytes c.args.names.now) (map string_bytes c.names.left.now) (map string_bytes c.in-Some.others.now) name c.args.key.now c.names.part.now c.in-Some-2.parts.now c.in-Some-2.object c.names.room c.in-Some-checked_sub.inner p first (omega (arith, c.in-Some-checked_sub.ensures)) begins left in
+    let told = subst (λ answer. MatchOption answer ((change : Option Tree → Outcome) → changed_open change name s.all ≡ None) (SpotIn (key_before s.behind) (fits_in c.in-Some-checked_sub.inner) (λ change. changed_open change name s.all) c.in-Some-2.object name c.in-Some-2.parts.now c.in-Some-checked_sub.inner)) c.in-Some-3.is (c.in_ok-spot.ensures.spot s.all s.is s.readable s.behind s.stands c.in-Some-checked_sub.inner s.fits) in
+    absurd (c.in_err-behind.ensures.behind c.in-Some-2.object told.name told.behind told.there told.readable told.stands)
 
 pub returns-then-not-spot-clause-place : goal.returns-then-not-spot-clause-place
 returns-then-not-spot-clause-place c = λ t r e.

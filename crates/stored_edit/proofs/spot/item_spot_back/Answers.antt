@@ -1,28 +1,68 @@
-use Rattle.std.proofs.Common.{◌≡◌, ◌+◌, ◌<◌, option_map, false, ap, sym, refl, arith}
+use Rattle.std.proofs.Common.{◌≡◌, ◌+◌, ◌++◌, Ok, refl, subst, arith}
 use Rattle.jsonb_stored.specs.Open.{items}
-use Rattle.jsonb_stored.proofs.Standing.{no_count, same_count}
-use Rattle.jsonb_spec.specs.Accessors.{trees_len}
-use Rattle.stored_edit.specs.Edit.{changed_item, changed_item_back}
-use Rattle.stored_edit.proofs.Spotted.{fits_in, items_front, key_before, some_back, told_as}
+use Rattle.jsonb_spec.specs.SortKey.{items_key}
+use Rattle.stored_edit.specs.Spots.{StandsFirst}
+use Rattle.stored_edit.proofs.Spotted.{BackLeft, back_begun, back_found, back_front, back_kept, back_next, first_behind, items_front, no_first}
 use Rattle.stored_edit.proofs.spot.item_spot_back.Goals as goal
 
-pub returns-in_err-count : goal.returns-in_err-count
-returns-in_err-count c = record { spot = λ ts p w more e room f name. absurd (no_count _ _ (c.in_err-count.ensures.counted (items ts) refl (p, w) more e)) }
+pub items-init : goal.items-init
+items-init c = record { walks = back_begun c.args.items.now c.args.back; below = omega (arith, c.requires) }
 
-pub returns-in-Some : goal.returns-in-Some
-returns-in-Some c = record {
+pub returns-in_err-value : goal.returns-in_err-value
+returns-in_err-value c = record {
   spot = λ ts p w more e room f name.
-      let count : c.in_ok-count.count ≡ trees_len ts = same_count c.in_ok-count.count (trees_len ts) (c.in_ok-count.ensures.counted (items ts) refl (p, w) more e) in
-      let at : c.in-Some.index + c.args.back ≡ trees_len ts = omega (arith, c.in-Some.ensures, count) in
-      told_as (key_before more) (fits_in room) (λ change. option_map items (changed_item change c.in-Some.index ts)) (λ change. option_map items (changed_item_back change c.args.back ts)) false name c.args.items.now room c.item_spot.result
-      (λ change. ap (option_map items) (sym (some_back ts c.args.back c.in-Some.index at change)))
-      (c.item_spot.ensures.spot ts p w more e room f name);
+      let l = (c.items.invariant.walks ts p w more e room f).at_rest in
+      absurd (no_first (items l.left) more c.in_err-value.field-0.0 (c.in_err-value.ensures.first (items l.left) refl (l.proper, l.within) more l.stands));
+}
+
+pub returns-in-Some-earlier : goal.returns-in-Some-earlier
+returns-in-Some-earlier c = record {
+  spot = λ ts p w more e room f name.
+      let b = subst (λ earlier. BackLeft ts c.args.back c.items.since c.args.items.now c.items.rest.now c.items.later.now earlier more room) c.in-Some-earlier.is (c.items.invariant.walks ts p w more e room f) in
+      let l = b.at_rest in
+      let n = subst (λ answer. StandsFirst (items l.left) more (Ok answer)) c.in_default.is (c.in_ok-value.ensures.first (items l.left) refl (l.proper, l.within) more l.stands) in
+      back_found ts c.args.back c.items.since name c.args.items.now c.items.rest.now c.items.later.now c.in-Some-earlier.start more room c.item_spot.result b n c.item_spot.ensures.spot;
 }
 
 pub returns-in-None : goal.returns-in-None
 returns-in-None c = record {
   spot = λ ts p w more e room f name.
-      let count : c.in_ok-count.count ≡ trees_len ts = same_count c.in_ok-count.count (trees_len ts) (c.in_ok-count.ensures.counted (items ts) refl (p, w) more e) in
-      let below : trees_len ts < c.args.back = omega (arith, c.in-None.ensures, count) in
-      items_front ts c.args.back name c.args.items.now more room c.no_part.result f e below c.no_part.ensures;
+      let b = subst (λ earlier. BackLeft ts c.args.back c.items.since c.args.items.now c.items.rest.now c.items.later.now earlier more room) c.in-None.is (c.items.invariant.walks ts p w more e room f) in
+      let l = b.at_rest in
+      let n = subst (λ answer. StandsFirst (items l.left) more (Ok answer)) c.in_default.is (c.in_ok-value.ensures.first (items l.left) refl (l.proper, l.within) more l.stands) in
+      items_front ts c.args.back name c.args.items.now more room c.no_part.result f e (back_front ts c.args.back c.items.since c.args.items.now c.items.rest.now c.items.later.now more room b n c.items.invariant.below) c.no_part.ensures;
+}
+
+pub returns-in_err-rest : goal.returns-in_err-rest
+returns-in_err-rest c = record {
+  spot = λ ts p w more e room f name.
+      let b = c.items.invariant.walks ts p w more e room f in
+      let l = b.at_rest in
+      let n = subst (λ answer. StandsFirst (items l.left) more (Ok answer)) c.in-Some.is (c.in_ok-value.ensures.first (items l.left) refl (l.proper, l.within) more l.stands) in
+      let i = first_behind ts (b.passed + c.items.since) c.args.items.now c.items.rest.now more room c.in-Some.value l n in
+      absurd (c.in_err-rest.ensures.behind i.tree i.readable (items_key i.others ++ more) i.value_is);
+}
+
+pub items-preserved-then-since-back : goal.items-preserved-then-since-back
+items-preserved-then-since-back c = record {
+  walks = λ ts p w more e room f.
+      let b = c.items.invariant.walks ts p w more e room f in
+      let l = b.at_rest in
+      let n = subst (λ answer. StandsFirst (items l.left) more (Ok answer)) c.in-Some.is (c.in_ok-value.ensures.first (items l.left) refl (l.proper, l.within) more l.stands) in
+      let i = first_behind ts (b.passed + c.items.since) c.args.items.now c.items.rest.now more room c.in-Some.value l n in
+      let one : c.args.back ≡ c.items.since + 1 = omega (arith, c.if-since-back.true) in
+      back_kept ts c.args.back c.args.items.now c.in_ok-rest.rest.now c.items.later c.items.earlier more room
+      (back_next ts c.args.back c.items.since c.args.back c.args.items.now c.items.rest.now c.items.later.now c.in_ok-rest.rest.now c.items.earlier more room c.in-Some.value.now b i one (c.in_ok-rest.ensures.behind i.tree i.readable (items_key i.others ++ more) i.value_is));
+  below = omega (arith, c.requires);
+}
+
+pub items-preserved : goal.items-preserved
+items-preserved c = record {
+  walks = λ ts p w more e room f.
+      let b = c.items.invariant.walks ts p w more e room f in
+      let l = b.at_rest in
+      let n = subst (λ answer. StandsFirst (items l.left) more (Ok answer)) c.in-Some.is (c.in_ok-value.ensures.first (items l.left) refl (l.proper, l.within) more l.stands) in
+      let i = first_behind ts (b.passed + c.items.since) c.args.items.now c.items.rest.now more room c.in-Some.value l n in
+      back_next ts c.args.back c.items.since (c.items.since + 1) c.args.items.now c.items.rest.now c.items.later.now c.in_ok-rest.rest.now c.items.earlier more room c.in-Some.value.now b i refl (c.in_ok-rest.ensures.behind i.tree i.readable (items_key i.others ++ more) i.value_is);
+  below = omega (arith, c.items.invariant.below, c.if-since-back.false);
 }

@@ -9,5 +9,5 @@ returns-then-object c = record {
 
 pub returns : goal.returns
 returns c = record {
-  spot = λ o is h more e room f. of_array o c.args.object c.args.name.now c.args.parts.now more room c.in_ok-spot-2.spot (c.in-Some.from_end, c.in-Some.number) c.if-object.false (sym c.step_of.ensures ∙ c.in-Some.is) is h e f c.in_ok-spot-2.ensures.spot;
+  spot = λ o is h more e room f. of_array o c.args.object c.args.name.now c.args.parts.now more room c.in_ok-spot-2.spot (c.in-Some.from_end, c.in-Some.number) c.if-object.false (sym c.step_of.ensures.named ∙ c.in-Some.is) is h e f c.in_ok-spot-2.ensures.spot;
 }
