@@ -48,3 +48,10 @@ def build(name):
     if not program.exists():
         sys.stderr.buffer.write(log.stdout + log.stderr)
         sys.exit(f"{name} could not be built")
+
+
+def build_over_library(name):
+    """Builds the program tests/NAME.c over the library for C, into build/NAME."""
+    subprocess.run(["make", "-s"], cwd=TOP, check=True)
+    subprocess.run(["cc", "-O2", "-std=c99", "-Wall", "-Wextra", "-Werror", "-pedantic", "-Iinclude",
+                    "-o", f"build/{name}", f"tests/{name}.c", "build/libvizhoniku.a"], cwd=TOP, check=True)

@@ -1,0 +1,27 @@
+/* Calls a function of the library over the sort key of the text on standard input: growth FUNCTION [PATH]. The status
+ * is the one that the call returns. tests/growth counts the instructions of the call. */
+#include <stdio.h>
+#include <stdlib.h>
+#include <string.h>
+
+#include "vizhoniku.h"
+
+#define ROOM (1 << 22)
+
+static const unsigned char null_key[] = {0xD3};
+
+static unsigned char text[ROOM], key[ROOM], buffer[ROOM];
+
+int main(int count, char **words) {
+  if (count < 2) return 2;
+  size_t text_size = fread(text, 1, ROOM, stdin), key_size, size;
+  struct vizhoniku_refusal refusal;
+  if (vizhoniku_sort_key(VIZHONIKU_STANDARD, text, text_size, key, ROOM, &key_size, &refusal)) return 2;
+  if (!strcmp(words[1], "count")) return (int)vizhoniku_key_count(key, key_size, &size);
+  if (count < 3) return 2;
+  const unsigned char *path = (const unsigned char *)words[2];
+  size_t path_size = strlen(words[2]);
+  if (!strcmp(words[1], "set"))
+    return (int)vizhoniku_key_set(key, key_size, path, path_size, null_key, sizeof null_key, 0, buffer, ROOM, &size);
+  return (int)vizhoniku_key_remove(key, key_size, path, path_size, buffer, ROOM, &size);
+}
