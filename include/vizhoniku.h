@@ -103,7 +103,8 @@ uint32_t vizhoniku_text(uint32_t mode, const unsigned char *text, size_t text_si
                         size_t buffer_size, size_t *size, struct vizhoniku_refusal *refusal);
 
 /* Writes the part of the text's value at the path, as vizhoniku_text writes the whole. A path is a JSON Pointer (RFC
- * 6901): "" is the whole, and "/a/0" the first item of the member "a".
+ * 6901): "" is the whole, and "/a/0" the first item of the member "a". In an array a step is an index: decimal digits
+ * without leading zeros, of a number below 2^64. Any other step is no index, and leads nowhere.
  *
  *  - VIZHONIKU_ACCEPTED and VIZHONIKU_TOO_SHORT: as of vizhoniku_text.
  *  - VIZHONIKU_NO_PART, VIZHONIKU_NO_PATH: the text is a document. *size is 0, and nothing was written.
@@ -201,9 +202,9 @@ enum vizhoniku_kind {
  * as a whole, so a key from outside is checked by this first. It takes no memory, and its time is linear in the size. */
 uint32_t vizhoniku_key_check(const unsigned char *key, size_t key_size);
 
-/* Returns the kind of the value whose key this is, of enum vizhoniku_kind. It looks at the first byte alone: 15 and 16
- * (hexadecimal) are of booleans, 38 to 7E and 80 to C7 of numbers, D0 of strings, D1 of objects, D2 of arrays, D3 of null,
- * and all others of no kind. */
+/* Returns the kind of the value whose key this is, of enum vizhoniku_kind. It looks at the first byte alone, and
+ * returns VIZHONIKU_NO_KIND where there is none, and where no key of these kinds begins with it: a first byte of 17 to
+ * 37, 7F or C8 to CF (hexadecimal) is no kind, nor is one below 15 or above D3. */
 uint32_t vizhoniku_key_kind(const unsigned char *key, size_t key_size);
 
 /* Counts the items of an array, or the members of an object. VIZHONIKU_NO_PART: the value is neither. */
@@ -219,8 +220,8 @@ uint32_t vizhoniku_key_member(const unsigned char *key, size_t key_size, const u
 uint32_t vizhoniku_key_item(const unsigned char *key, size_t key_size, int64_t index, size_t *offset, size_t *size);
 
 /* Finds the part at the path, a JSON Pointer (RFC 6901), as vizhoniku_part does in a text. VIZHONIKU_NO_PART,
- * VIZHONIKU_NO_PATH and VIZHONIKU_OUT_OF_MEMORY are as there; memory is taken for the names of a path with an escape
- * alone. */
+ * VIZHONIKU_NO_PATH and VIZHONIKU_OUT_OF_MEMORY are as there; memory is taken only for a path with an escape (~0, ~1),
+ * and for one that isn't UTF-8. */
 uint32_t vizhoniku_key_part(const unsigned char *key, size_t key_size, const unsigned char *path, size_t path_size,
                             size_t *offset, size_t *size);
 
@@ -285,7 +286,8 @@ uint32_t vizhoniku_key_contains(const unsigned char *key, size_t key_size, const
  * The bytes D1 00 00 are the key of an object with no members, and D2 00 that of an array with no items.
  *
  * A path is a JSON Pointer (RFC 6901), as of vizhoniku_key_part. In an array a step is the index of an item in decimal
- * digits without leading zeros; with a minus sign before them it counts from the end, where -1 is the last item. */
+ * digits without leading zeros; with a minus sign before them it counts from the end, where -1 is the last item. Digits
+ * of 2^64 and more are no index. */
 
 /* Sets the part at the path, as jsonb_set of PostgreSQL does: the part that is there is replaced. Where only the last
  * step leads nowhere and create isn't 0, a member is added to an object; to an array an item is added at its end, or at
@@ -344,11 +346,12 @@ uint32_t vizhoniku_text_with_zeros(const unsigned char *text, size_t text_size, 
 uint32_t vizhoniku_key_numbers(const unsigned char *key, size_t key_size, size_t offset, size_t size, size_t *before,
                                size_t *numbers);
 
-/* Writes the zeros of some of a value's numbers: of so many from the first on, whose own index is 0. With 0 in *plain
- * these are the zeros of a part, with what vizhoniku_key_numbers tells. To put together the zeros of several parts, each
- * is written behind those before it; *plain says how many numbers without zeros stand at their end, and is changed to
- * how many do then. The statuses are as above, and *plain changes with VIZHONIKU_ACCEPTED alone. VIZHONIKU_NO_ZEROS: the
- * bytes aren't the zeros of so many numbers. */
+/* Writes the entries of the numbers from index first to index first + numbers - 1, where the index of a value's first
+ * number is 0. With 0 in *plain these are the zeros of a part, where first and numbers are what vizhoniku_key_numbers
+ * tells of it. To put together the zeros of several parts, write those of each behind those before it: *plain is how
+ * many numbers without zeros come last in what was written before, and the call changes it to how many come last then.
+ * The statuses are as above, and *plain changes with VIZHONIKU_ACCEPTED alone. VIZHONIKU_NO_ZEROS: the bytes aren't the
+ * zeros of so many numbers. */
 uint32_t vizhoniku_zeros_of_numbers(const unsigned char *zeros, size_t zeros_size, size_t first, size_t numbers,
                                     size_t *plain, unsigned char *buffer, size_t buffer_size, size_t *size);
 

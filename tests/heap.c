@@ -5,7 +5,7 @@
  * The linker puts the three functions below in the place of the C library's (--wrap). What counts is what was asked
  * for, not what the C library spends on it. A block that grows counts with its new size among what was asked for, and
  * once among what is held. Prints, for each function, where it came closest to its bounds. The status is 1 where one
- * was passed, where a call kept memory, or where a result isn't the expected one. */
+ * was passed, where nothing came near to one, where a call kept memory, or where a result isn't the expected one. */
 #include <stdint.h>
 #include <stdio.h>
 #include <stdlib.h>
@@ -26,6 +26,9 @@
 #define FIXED 4096
 
 #define LEVELS 512
+
+/* Where nothing comes so near to a bound, in thousandths, it is no bound. */
+#define NEAR 250
 
 void *__real_malloc(size_t size);
 void *__real_realloc(void *block, size_t size);
@@ -373,6 +376,9 @@ static uint32_t call_over_key(enum key_function function, const struct text *key
   }
 }
 
+/* How near each function that takes memory came to what it may hold, in thousandths. */
+static size_t nearest[KEY_FUNCTIONS];
+
 static void fault_over_key(enum key_function function, enum kind kind, int count, const char *what) {
   faults++;
   printf("%s %s: %s, %d\n", key_functions[function], what, kinds[kind], count);
@@ -382,7 +388,7 @@ static void fault_over_key(enum key_function function, enum kind kind, int count
  * long as its key, and the others twice. A path takes some bytes more. Zeros take what is written of them alone. */
 static size_t bound_over_key(enum key_function function, const struct text *key, size_t written) {
   if (function < TAKES_MEMORY) return 0;
-  if (function == KEY_ESCAPED_PART) return 512;
+  if (function == KEY_ESCAPED_PART) return 256;
   if (function >= ZEROS_OF_TEXT) return 512 + ROOM(written);
   return 512 + 3 * key->size / 2 + ROOM(written);
 }
@@ -403,6 +409,7 @@ static void measure_over_key(enum kind kind, int count, const struct text *key, 
         status != VIZHONIKU_TOO_DEEP)
       fault_over_key(function, kind, count, "has another status");
     if (held) fault_over_key(function, kind, count, "kept memory");
+    if (bound && most * 1000 / bound > nearest[function]) nearest[function] = most * 1000 / bound;
     if (most > bound) fault_over_key(function, kind, count, "held more than its bound");
     if (asked > 3 * bound) fault_over_key(function, kind, count, "asked for more than its bound");
     int told = 0, met = 0;
@@ -484,6 +491,17 @@ int main(void) {
              closest[i][is_asked].thousandths / 10, closest[i][is_asked].thousandths % 10,
              kinds[closest[i][is_asked].kind], closest[i][is_asked].count);
     printf("\n");
+    if (closest[i][0].thousandths < NEAR || closest[i][1].thousandths < NEAR) {
+      faults++;
+      printf("that is so far from it that it is none\n");
+    }
+  }
+  for (int i = TAKES_MEMORY; i < KEY_FUNCTIONS; i++) {
+    printf("%s held %zu.%zu %% of its bound\n", key_functions[i], nearest[i] / 10, nearest[i] % 10);
+    if (nearest[i] < NEAR) {
+      faults++;
+      printf("that is so far from it that it is none\n");
+    }
   }
   printf("%ld calls, %ld faults\n", calls, faults);
   return faults != 0;

@@ -7,7 +7,8 @@
  * lies lowest of what no longer is that byte tells how much the call took. A page below the stack ends the process where
  * it is used up. For some texts each request for memory in turn is refused, by the functions below that the linker puts
  * in the place of the C library's (--wrap). Prints the most that each call took, where it makes a value and where it
- * makes none. The status is 1 where that is more than it may be. */
+ * makes none. The status is 1 where that is more than it may be, or than docs/C.md says, and where it is less for all
+ * functions of which docs/C.md says the same. */
 #define _GNU_SOURCE
 #include <pthread.h>
 #include <stdint.h>
@@ -25,6 +26,9 @@
 
 /* As many arrays and objects may be open at once. */
 #define LEVELS 512
+
+/* What docs/C.md says is in whole KB, and may be as many bytes more than what is measured. */
+#define ROUNDED 2048
 
 #define PAGE 4096
 #define FILLED 0xA5A5A5A5A5A5A5A5
@@ -197,6 +201,15 @@ static const char *const functions[] = {
     "vizhoniku_compare", "vizhoniku_message", "vizhoniku_key_check", "vizhoniku_key_text", "vizhoniku_key_part",
     "vizhoniku_key_count", "vizhoniku_key_contains", "vizhoniku_key_set", "vizhoniku_key_remove", "vizhoniku_key_merge",
     "vizhoniku_key_numbers", "vizhoniku_zeros_of_text", "vizhoniku_text_with_zeros",
+};
+
+/* What docs/C.md says that each takes, in KB: where no value is made, and where one is. */
+static const size_t told[FUNCTIONS][2] = {
+    [CHECK] = {22, 0},        [TEXT] = {22, 110},      [SORT_KEY] = {22, 110},     [TEXT_AND_KEY] = {22, 110},
+    [PART] = {22, 110},       [COMPARE] = {22, 110},   [MESSAGE] = {22, 0},        [KEY_CHECK] = {5, 0},
+    [KEY_TEXT] = {2, 0},      [KEY_PART] = {2, 0},     [KEY_COUNT] = {2, 0},       [KEY_CONTAINS] = {25, 0},
+    [KEY_SET] = {2, 0},       [KEY_REMOVE] = {2, 0},   [KEY_MERGE] = {2, 0},       [KEY_NUMBERS] = {2, 0},
+    [ZEROS] = {2, 0},         [TEXT_WITH_ZEROS] = {2, 0},
 };
 
 struct call {
@@ -383,6 +396,14 @@ int main(int count, char **words) {
     if (took > (size_t)limit) {
       over++;
       printf("that is more than %d\n", limit);
+    }
+    /* The most of all functions of which the page says the same. */
+    size_t kilobytes = told[function][is_made], highest = 0;
+    for (int other = 0; other < FUNCTIONS; other++)
+      if (told[other][is_made] == kilobytes && most[other][is_made] > highest) highest = most[other][is_made];
+    if (took > kilobytes * 1024 || highest + ROUNDED < kilobytes * 1024) {
+      over++;
+      printf("docs/C.md says %zu KB\n", kilobytes);
     }
   }
   printf("%ld calls, %ld answered otherwise, %d took more than they may\n", runs, wrong, over);
