@@ -16,6 +16,7 @@ const MOST_DIGITS: u32 = 38;
 const POINT: u32 = 255;
 
 // The bytes after the number whose key they begin with, if it is one in range. It isn't 0, whose key is one byte.
+#[inline(always)]
 pub(crate) fn checked_number(bytes: &[u8]) -> Option<&[u8]>
     requires not_zero { (rest : List ℕ) → bytes.now ≢ kind.zero ∷ rest }
     ensures checks { Checks (NumberFirst bytes.now) bytes.now result }

@@ -7,9 +7,7 @@ ghost use Rattle.jsonb_spec.specs.Text.Appending.{Extends};
 ghost use Rattle.jsonb_scan.specs.Answer.{mode_of};
 ghost use Rattle.jsonb_scan.specs.Decoding.{AreContents};
 ghost use Rattle.jsonb_scan.specs.QuotedString.{decoded_text};
-ghost use Rattle.jsonb_write.specs.Contents.{text_of_contents};
 
-use crate::contents::Contents;
 use jsonb_scan::parser::Mode;
 use jsonb_scan::util::decode_behind;
 use jsonb_value::parts::append_text_key;
@@ -82,17 +80,19 @@ fn close_text(from: usize, out: &mut Vec<u8>, spare: &mut Vec<u8>) -> Result<(),
 // Appends a string's sort key, given its contents.
 #[inline(never)]
 pub(crate) fn append_escaped_key(
-    contents: &Contents<'_>,
+    body: &str,
+    mode: Mode,
     out: &mut Vec<u8>,
     spare: &mut Vec<u8>,
 ) -> Result<(), AllocError>
+    requires { AreContents (mode_of mode) body.now }
     ensures bytes { OnOk result (out.new.items
-        ≡ out.old.items ++ (kind.string ∷ text_key (text_of_contents contents.now))) }
+        ≡ out.old.items ++ (kind.string ∷ text_key (decoded_text (mode_of mode) body.now))) }
     ensures kept { Extends out.old.items out.new.items }
     ensures spare { OnOk result (spare.new.items ≡ spare.old.items) }
 {
     out.extend_from_slice(&[kind::STRING])?;
     let from = out.len();
-    append_decoded(contents.body.as_bytes(), contents.mode, out)?;
+    append_decoded(body.as_bytes(), mode, out)?;
     close_text(from, out, spare)
 }

@@ -8,11 +8,11 @@ use Rattle.jsonb_scan.proofs.Strings.Checks.{decoded_utf8}
 use Rattle.jsonb_write.proofs.escaped_key.append_escaped_key.Goals as goal
 
 pub append_decoded-requires : goal.append_decoded-requires
-append_decoded-requires c = subst (AreContents (mode_of c.args.contents.now.mode)) (sym c.as_bytes.ensures.value) c.args.contents.now.checked
+append_decoded-requires c = subst (AreContents (mode_of c.args.mode)) (sym c.as_bytes.ensures.value) c.requires
 
 pub close_text-requires-clause-utf8 : goal.close_text-requires-clause-utf8
 close_text-requires-clause-utf8 c =
-    let mode = mode_of c.args.contents.now.mode in
+    let mode = mode_of c.args.mode in
     let body = c.as_bytes.result.now in
     let before : List ℕ = c.extend_from_slice.new.self.items in
     let from : c.len-from.result ≡ length before = omega (arith, c.len-from.ensures, c.extend_from_slice.new.self.ok.0) in
