@@ -82,7 +82,9 @@ def lines_and_answers():
         fields = json.loads(written)
         for mode, name in (("s", reference.STANDARD), ("e", reference.EXTENDED)):
             lines.append(f"{mode} {fields['input']}")
-            answers.append(line_of(fields[name]))
+            # All fields are those of the reference: what is printed tells not all of them.
+            is_so = fields[name] == answer(bytes.fromhex(fields["input"]), name)
+            answers.append(line_of(fields[name]) if is_so else "not as the reference has it")
     return lines, answers
 
 
