@@ -403,6 +403,9 @@ class Key:
             return (_name(name) for name, _ in self._parts())
         return (part for _, part in self._parts())
 
+    def __reversed__(self) -> "Iterator[Any]":
+        return reversed(list(self))
+
     def items(self) -> "Iterator[Tuple[str, Key]]":
         """The members of an object, in the order of their names' bytes."""
         self._needs("object")
