@@ -30,6 +30,7 @@ from typing import Any, Callable, Dict, List, Tuple
 HERE = os.path.dirname(os.path.abspath(__file__))
 PACKAGES = os.environ.get("VIZHONIKU_PACKAGES", HERE)
 sys.path.insert(0, PACKAGES)
+sys.path.append(os.path.dirname(HERE))
 
 import growth
 import vizhoniku as v
@@ -111,7 +112,16 @@ class Calls(unittest.TestCase):
         self.assertEqual(v.Key("[1e2]").text(), "[100]")
         fault = self.rejected('{"é": 1e39}')
         self.assertEqual((fault.line, fault.column, fault.index, fault.code, fault.which), (1, 10, 9, 20, 1))
-        self.assertEqual(fault.message, "number of more than 38 digits")
+        self.assertEqual(fault.message, "number not carried")
+        for text in ("1e39", "1" * 39, "[1e1, %s]" % ("1" * 39), "0.%s" % ("1" * 39), "[1.5, -1E-60]", "[1e5, 1e300]"):
+            for call in (v.check, v.text, v.sort_key, v.text_and_key, v.Key):
+                with self.assertRaises(v.RejectedText) as raised:
+                    call(text)
+                self.assertEqual((raised.exception.message, raised.exception.code), ("number not carried", 20))
+            for texts in ((text, "1"), ("1", text)):
+                with self.assertRaises(v.RejectedText) as raised:
+                    v.compare(*texts)
+                self.assertEqual(raised.exception.message, "number not carried")
         with self.assertRaises(v.RejectedText) as raised:
             v.compare("1e1", "5e-324")
         self.assertEqual((raised.exception.which, raised.exception.column), (2, 6))

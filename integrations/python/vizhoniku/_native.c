@@ -239,7 +239,7 @@ static int write_plain(uint32_t mode, uint32_t *status, struct vizhoniku_refusal
   return 0;
 }
 
-#define TOO_LONG "number of more than 38 digits"
+#define TOO_LONG "number not carried" /* as the library tells it of a number without an exponent */
 
 /* What a call of the library does with a text. */
 enum what { CHECK, TEXT, SORT_KEY, TEXT_AND_KEY, PART };
