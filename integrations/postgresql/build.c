@@ -387,8 +387,6 @@ append_vjson(StringInfo out, Datum value)
 
 	get_parts((struct varlena *) PG_DETOAST_DATUM_PACKED(value), false, &parts);
 	text = vjson_text(&parts, &size);
-	if (size > MaxAllocSize)
-		vjson_raise_out_of_memory(size);
 	appendBinaryStringInfo(out, text, (int) size);
 	pfree(text);
 }

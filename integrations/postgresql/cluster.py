@@ -106,10 +106,12 @@ class Server:
     """A cluster in a folder of its own below that of the installation, and its server. Where it is a standby of another
     one, it begins as a copy of that one."""
 
-    def __init__(self, installed, name, settings=(), limit=None, encoding="UTF8", locale="C.UTF-8", standby_of=None):
+    def __init__(self, installed, name, settings=(), limit=None, encoding="UTF8", locale="C.UTF-8", standby_of=None,
+                 environment=None):
         self.installed = installed
         self.folder = os.path.join(installed.folder, name)
         self.limit = limit
+        self.environment = dict(os.environ, **(environment or {}))
         self.process = None
         os.mkdir(self.folder, 0o755)
         if installed.user:
@@ -134,7 +136,8 @@ class Server:
             command = ["/bin/sh", "-c", 'ulimit -v "$0" && exec "$@"', str(self.limit)] + command
         with open(self.log, "a") as log:
             self.process = subprocess.Popen(command, stdin=subprocess.DEVNULL, stdout=log, stderr=log,
-                                            cwd=self.folder, start_new_session=True, **self.installed.user)
+                                            cwd=self.folder, start_new_session=True, env=self.environment,
+                                            **self.installed.user)
         self.wait()
 
     def wait(self, seconds=60):

@@ -56,15 +56,22 @@ typedef struct
 } Change;
 
 static Document
+get_document_and_parts(Datum datum, VjsonParts *parts)
+{
+	Document	document;
+
+	document.key = get_whole((struct varlena *) PG_DETOAST_DATUM_PACKED(datum), parts);
+	document.zeros.at = parts->rest;
+	document.zeros.size = parts->form == KEY_AND_ZEROS ? parts->rest_size : 0;
+	return document;
+}
+
+static Document
 get_document(Datum datum)
 {
 	VjsonParts	parts;
-	Document	document;
 
-	document.key = get_whole((struct varlena *) PG_DETOAST_DATUM_PACKED(datum), &parts);
-	document.zeros.at = parts.rest;
-	document.zeros.size = parts.form == KEY_AND_ZEROS ? parts.rest_size : 0;
-	return document;
+	return get_document_and_parts(datum, &parts);
 }
 
 static Datum
@@ -195,6 +202,8 @@ count_kept(Range key, const Change *change, size_t *before, size_t *after)
 	if (!key_numbers(one.at, one.size, place, 1, before, &none))
 		vjson_raise_corrupted();
 	*after = count_numbers(one) - *before;
+	pfree(unconstify(unsigned char *, one.at));
+	pfree(unconstify(unsigned char *, other.at));
 }
 
 /* Append the zeros of the part that comes next, or pass over them. */
@@ -227,6 +236,7 @@ merge_members(KeyZeros *zeros, const Document *left, const Document *right)
 		int			order = !has_ours ? 1 : !has_theirs ? -1 :
 			memcmp(ours.name.at, theirs.name.at, Min(ours.name.size, theirs.name.size));
 
+		CHECK_FOR_INTERRUPTS();
 		if (order <= 0)
 		{
 			take_zeros(&left_zeros, ours.value, order < 0 ? zeros : NULL);
@@ -623,9 +633,9 @@ vjson_insert(PG_FUNCTION_ARGS)
 	bool		insert_after = PG_GETARG_BOOL(3);
 	VjsonParts	whole;
 	VjsonParts	item;
-	Document	document = get_document(datum);
-	Document	part = get_document(new_datum);
-	Range		at = get_whole((struct varlena *) PG_DETOAST_DATUM_PACKED(datum), &whole);
+	Document	document = get_document_and_parts(datum, &whole);
+	Document	part = get_document_and_parts(new_datum, &item);
+	Range		at = document.key;
 	Range		rest = path;
 	Range		step;
 	Range		next;
@@ -659,7 +669,6 @@ vjson_insert(PG_FUNCTION_ARGS)
 			index = 0;
 		else
 			index += (index < 0 ? (int64) count : 0) + insert_after;
-		get_whole((struct varlena *) PG_DETOAST_DATUM_PACKED(new_datum), &item);
 		change.path.size = step.at - 1 - path.at;
 		part = get_document(PointerGetDatum(with_item(&whole, at, index, &item)));
 		change.part = part.key;
@@ -725,7 +734,10 @@ static void
 append_items(StringInfo out, int64 nulls, const char *value, size_t size)
 {
 	for (int64 i = 0; i < nulls; i++)
+	{
+		CHECK_FOR_INTERRUPTS();
 		appendStringInfoString(out, "null,");
+	}
 	appendBinaryStringInfo(out, value, (int) size);
 }
 
@@ -765,11 +777,11 @@ wrapped_in_steps(const VjsonStep *steps, int count, const char *value, size_t si
 Datum
 vjson_assign(Datum datum, const VjsonStep *steps, int count, Datum part_datum)
 {
-	Document	document = get_document(datum);
-	Document	part = get_document(part_datum);
 	VjsonParts	whole;
 	VjsonParts	value;
-	Range		at = get_whole((struct varlena *) PG_DETOAST_DATUM_PACKED(datum), &whole);
+	Document	document = get_document_and_parts(datum, &whole);
+	Document	part = get_document_and_parts(part_datum, &value);
+	Range		at = document.key;
 	StringInfoData path;
 	StringInfoData made;
 	int			taken;
@@ -821,13 +833,11 @@ vjson_assign(Datum datum, const VjsonStep *steps, int count, Datum part_datum)
 	}
 
 	/* What is put there: the part, in the arrays and objects that aren't there yet, and behind nulls up to its index. */
-	get_whole((struct varlena *) PG_DETOAST_DATUM_PACKED(part_datum), &value);
 	if (taken + 1 < count)
 	{
 		text = vjson_text(&value, &size);
 		made = wrapped_in_steps(steps + taken + 1, count - taken - 1, text, size);
-		part = get_document(PointerGetDatum(vjson_of_text(made.data, made.len)));
-		get_whole(vjson_of_text(made.data, made.len), &value);
+		part = get_document_and_parts(PointerGetDatum(vjson_of_text(made.data, made.len)), &value);
 	}
 	if (gap >= 0)
 	{

@@ -68,10 +68,12 @@ add_entries(Entries *entries, uint64 path, Range key)
 		return;
 	}
 	check_stack_depth();
-	CHECK_FOR_INTERRUPTS();
 	begin_walk(&walk, key);
 	while (next_in_walk(&walk))
+	{
+		CHECK_FOR_INTERRUPTS();
 		add_entries(entries, walk.name.size > 0 ? hash_on(path, walk.name) : path, walk.value);
+	}
 }
 
 /* The entries of a document.  Those that come twice are the server's to drop. */

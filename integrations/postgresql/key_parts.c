@@ -256,6 +256,7 @@ has_name(Range key, text *words)
 	begin_walk(&walk, key);
 	while (next_in_walk(&walk))
 	{
+		CHECK_FOR_INTERRUPTS();
 		if (same_bytes(walk.value, wanted))
 			return true;
 	}

@@ -131,6 +131,7 @@ add_names(Hashes *hashes, Range key)
 	begin_walk(&walk, key);
 	while (next_in_walk(&walk))
 	{
+		CHECK_FOR_INTERRUPTS();
 		if (name_in_walk(&walk, &name))
 			add_hash(hashes, hash_of_name(name));
 	}

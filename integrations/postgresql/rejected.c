@@ -17,6 +17,7 @@
 #include "miscadmin.h"
 #include "utils/builtins.h"
 #include "utils/jsonb.h"
+#include "utils/memutils.h"
 #include "utils/numeric.h"
 
 #include "key_walk.h"
@@ -30,6 +31,9 @@
 
 /* The columns of what is told. */
 #define COLUMNS			5
+
+/* Room for the key and for the text of a string of so many bytes, with its quotes and escapes. */
+#define STRING_ROOM(size)	(2 * (size) + 16)
 
 PG_FUNCTION_INFO_V1(vjson_error);
 PG_FUNCTION_INFO_V1(vjson_error_of_jsonb);
@@ -64,14 +68,15 @@ behind_string(const char *text, size_t size, size_t at)
 static bool
 append_step(StringInfo path, Range quoted)
 {
-	unsigned char *key = palloc(2 * quoted.size + 16);
-	unsigned char *name = palloc(2 * quoted.size + 16);
+	size_t		room = STRING_ROOM(quoted.size);
+	unsigned char *key = palloc_extended(room, MCXT_ALLOC_HUGE);
+	unsigned char *name = palloc_extended(room, MCXT_ALLOC_HUGE);
 	size_t		size;
 	struct vizhoniku_refusal refusal;
 
-	if (vizhoniku_sort_key(VIZHONIKU_STANDARD, quoted.at, quoted.size, key, 2 * quoted.size + 16, &size,
+	if (vizhoniku_sort_key(VIZHONIKU_STANDARD, quoted.at, quoted.size, key, room, &size,
 						   &refusal) != VIZHONIKU_ACCEPTED ||
-		vizhoniku_key_string(key, size, name, 2 * quoted.size + 16, &size) != VIZHONIKU_ACCEPTED ||
+		vizhoniku_key_string(key, size, name, room, &size) != VIZHONIKU_ACCEPTED ||
 		memchr(name, 0, size) != NULL)
 		return false;
 	appendStringInfoChar(path, '/');
@@ -158,6 +163,103 @@ path_of_place(const char *text, size_t size, size_t place)
 
 
 /*
+ * Numbers of a text
+ */
+
+/* Whether a byte may be one of a number. */
+static bool
+is_of_number(char byte)
+{
+	return (byte >= '0' && byte <= '9') || byte == '-' || byte == '+' || byte == '.' || byte == 'e' || byte == 'E';
+}
+
+static bool
+begins_number(char byte)
+{
+	return byte == '-' || (byte >= '0' && byte <= '9');
+}
+
+/* Behind all bytes from here on that may be of a number. */
+static size_t
+behind_number_bytes(const char *text, size_t size, size_t at)
+{
+	while (at < size && is_of_number(text[at]))
+		at++;
+	return at;
+}
+
+static size_t
+behind_digits(const char *text, size_t size, size_t at)
+{
+	while (at < size && text[at] >= '0' && text[at] <= '9')
+		at++;
+	return at;
+}
+
+/* Behind the number of JSON that begins here; or here, where none does. */
+static size_t
+behind_number(const char *text, size_t size, size_t at, bool *has_exponent)
+{
+	size_t		start = at + (text[at] == '-');
+	size_t		end = start < size && text[start] == '0' ? start + 1 : behind_digits(text, size, start);
+	size_t		digits;
+	size_t		next;
+
+	*has_exponent = false;
+	if (end == start || (end < size && text[end] >= '0' && text[end] <= '9'))
+		return at;
+	if (end < size && text[end] == '.')
+	{
+		next = behind_digits(text, size, end + 1);
+		if (next == end + 1)
+			return end;
+		end = next;
+	}
+	if (end < size && (text[end] == 'e' || text[end] == 'E'))
+	{
+		digits = end + 1;
+		if (digits < size && (text[digits] == '+' || text[digits] == '-'))
+			digits++;
+		next = behind_digits(text, size, digits);
+		*has_exponent = next > digits;
+		end = next > digits ? next : end;
+	}
+	return end;
+}
+
+char *
+vjson_without_numbers(const char *text, size_t size, bool exponents_alone)
+{
+	char	   *changed = palloc_extended(size + 1, MCXT_ALLOC_HUGE);
+	size_t		next;
+
+	memcpy(changed, text, size);
+	changed[size] = '\0';
+	for (size_t at = 0; at < size; at = next)
+	{
+		bool		has_exponent;
+		size_t		end;
+
+		if (text[at] == '"')
+			next = behind_string(text, size, at);
+		else if (begins_number(text[at]))
+		{
+			next = behind_number_bytes(text, size, at);
+			end = behind_number(text, size, at, &has_exponent);
+			if (end > at && (has_exponent || !exponents_alone))
+			{
+				changed[at] = '0';
+				memset(changed + at + 1, ' ', end - at - 1);
+			}
+		}
+		else
+			next = at + 1;
+	}
+	return changed;
+}
+
+
+/*
  * Rounding
  */
 
@@ -213,16 +315,12 @@ append_rounded(StringInfo out, const char *number, size_t size)
 		appendBinaryStringInfo(out, number, (int) size);
 }
 
-static bool
-is_of_number(char byte)
-{
-	return (byte >= '0' && byte <= '9') || byte == '-' || byte == '+' || byte == '.' || byte == 'e' || byte == 'E';
-}
-
-/* The text with its numbers rounded. */
+/* The text with its numbers rounded. What one number takes on the way is given back before the next one. */
 static StringInfoData
 rounded_text(const char *text, size_t size)
 {
+	MemoryContext caller = CurrentMemoryContext;
+	MemoryContext of_number = AllocSetContextCreate(caller, "a number that is rounded", ALLOCSET_SMALL_SIZES);
 	StringInfoData rounded;
 	size_t		next;
 
@@ -230,18 +328,19 @@ rounded_text(const char *text, size_t size)
 	for (size_t at = 0; at < size; at = next)
 	{
 		CHECK_FOR_INTERRUPTS();
-		next = at + 1;
-		if (text[at] == '"')
-			next = behind_string(text, size, at);
-		else if (text[at] == '-' || (text[at] >= '0' && text[at] <= '9'))
+		if (begins_number(text[at]))
 		{
-			while (next < size && is_of_number(text[next]))
-				next++;
+			next = behind_number_bytes(text, size, at);
+			MemoryContextSwitchTo(of_number);
 			append_rounded(&rounded, text + at, next - at);
+			MemoryContextSwitchTo(caller);
+			MemoryContextReset(of_number);
 			continue;
 		}
+		next = text[at] == '"' ? behind_string(text, size, at) : at + 1;
 		appendBinaryStringInfo(&rounded, text + at, (int) (next - at));
 	}
+	MemoryContextDelete(of_number);
 	return rounded;
 }
 
@@ -299,6 +398,36 @@ server_words(char *words)
 	return words;
 }
 
+/*
+ * What is wrong, in words that are the same for each text with the fault: with
+ * neither the position in them nor what stands there.
+ */
+static char *
+words_of_fault(const VjsonRejection *why)
+{
+	char	   *words = pstrdup(why->words);
+	char	   *end;
+
+	switch (why->refusal.code)
+	{
+		case VIZHONIKU_OBJECT_DUPLICATE_KEY:
+		case VIZHONIKU_INVALID_ESCAPED:
+		case VIZHONIKU_INVALID_HEX:
+			/* The name, or the byte, stands in quotes behind a space. */
+			end = strpbrk(words, "\"'");
+			if (end > words)
+				end--;
+			break;
+		default:
+			end = strstr(words, ", pos ");
+			while (end != NULL && strspn(end + 6, "0123456789") < strlen(end + 6))
+				end = strstr(end + 1, ", pos ");
+	}
+	if (end != NULL)
+		*end = '\0';
+	return words;
+}
+
 /* Why the text is rejected, or the text with its numbers rounded where that is asked for. */
 static Datum
 tell_rejection(FunctionCallInfo fcinfo, Range input)
@@ -314,20 +443,13 @@ tell_rejection(FunctionCallInfo fcinfo, Range input)
 		elog(ERROR, "return type must be a row type");
 	if (value == NULL)
 	{
-		char	   *words = pstrdup(why.words);
-		char	   *position = strstr(words, ", pos ");
 		char	   *path;
 
-		/* The words are the same for each text with the fault, and so without the position in them. */
-		while (position != NULL && strspn(position + 6, "0123456789") < strlen(position + 6))
-			position = strstr(position + 1, ", pos ");
-		if (position != NULL)
-			*position = '\0';
 		vjson_locate(&why, &place);
 		path = path_of_place(why.text, why.size, place.index);
 		if (path != NULL)
 			path = server_words(path);
-		values[0] = CStringGetTextDatum(words);
+		values[0] = CStringGetTextDatum(words_of_fault(&why));
 		values[2] = Int32GetDatum((int32) place.line);
 		values[3] = Int32GetDatum((int32) place.column);
 		values[4] = CStringGetTextDatum(place.shown);

@@ -54,6 +54,9 @@ PG_MODULE_MAGIC;
 /* Room beyond the size of the text that is read; more is asked for if needed. */
 #define SPARE_ROOM		16
 
+/* What is told of a text where memory lacks for the words of the library. */
+#define NO_WORDS		"not a document"
+
 /* How many bytes before a fault are shown. */
 #define SHOWN_BEFORE	50
 
@@ -439,6 +442,32 @@ make_value(uint32 mode, const char *text, size_t size, struct varlena **value, s
 	return make_extended_value(text, size, value, refusal);
 }
 
+/*
+ * Say why a text is no JSON, and none of standard mode: in the words of the
+ * library for the text without its numbers, so that a fault has the same words
+ * whatever numbers stand before it.  Where standard mode takes that, the server
+ * alone rejects it, and at this position.
+ */
+static void
+tell_no_json(const char *text, size_t size, JsonParseErrorType error, size_t position, VjsonRejection *why)
+{
+	char	   *rest = vjson_without_numbers(text, size, false);
+	uint32		status = vizhoniku_check(VIZHONIKU_STANDARD, (const unsigned char *) rest, size, &why->refusal);
+
+	if (status == VIZHONIKU_OUT_OF_MEMORY)
+		vjson_raise_out_of_memory(size);
+	if (status == VIZHONIKU_REFUSED && why->refusal.code != VIZHONIKU_NUMBER_NOT_CARRIED)
+		why->words = words_of_refusal(VIZHONIKU_STANDARD, rest, size);
+	else
+	{
+		why->refusal.code = VIZHONIKU_NO_CODE;
+		why->refusal.which = 1;
+		why->refusal.position = position;
+		why->words = error == JSON_ESCAPING_REQUIRED ? "control character in a string" : "not JSON";
+	}
+	pfree(rest);
+}
+
 /* Whether the text is JSON as the server's own type json takes it. If it isn't, *why says why. */
 static bool
 is_json(const char *text, size_t size, VjsonRejection *why)
@@ -452,10 +481,7 @@ is_json(const char *text, size_t size, VjsonRejection *why)
 
 	if (error != JSON_SUCCESS)
 	{
-		why->refusal.code = VIZHONIKU_NO_CODE;
-		why->refusal.which = 1;
-		why->refusal.position = lex->token_start ? (size_t) (lex->token_start - lex->input) : size;
-		why->words = json_errdetail(error, lex);
+		tell_no_json(text, size, error, lex->token_start ? (size_t) (lex->token_start - lex->input) : size, why);
 		return false;
 	}
 	pfree(lex);
@@ -497,13 +523,14 @@ write_plain_numbers(const char *text, size_t size, char **plain, size_t *plain_s
  * read back where their text was dumped; so a text whose fault in standard
  * mode is a number that isn't carried is also read where it is JSON and
  * extended mode carries all of its numbers.  No mode has numbers with an
- * exponent: those of JSON are written out first, as jsonb does, and what else is
- * wrong is then told of the text that was written.
+ * exponent: those of JSON are written out first, as jsonb does.  What else is
+ * wrong then is told of the text without these, in which it has its place.
  */
 static struct varlena *
 try_utf8(const char *text, size_t size, ReadAs as, VjsonRejection *why)
 {
 	uint32		mode = as == READ_INPUT ? VIZHONIKU_STANDARD : VIZHONIKU_EXTENDED;
+	const char *read = text;
 	struct varlena *value = NULL;
 	uint32		status = make_value(mode, text, size, &value, &why->refusal);
 
@@ -512,7 +539,11 @@ try_utf8(const char *text, size_t size, ReadAs as, VjsonRejection *why)
 	if (status == VIZHONIKU_REFUSED && as == READ_INPUT && why->refusal.code == VIZHONIKU_NUMBER_NOT_CARRIED)
 	{
 		if (!is_json(text, size, why))
+		{
+			if (why->words == NULL)
+				why->words = NO_WORDS;
 			return NULL;
+		}
 		mode = VIZHONIKU_EXTENDED;
 		status = make_value(mode, text, size, &value, &why->refusal);
 	}
@@ -525,26 +556,30 @@ try_utf8(const char *text, size_t size, ReadAs as, VjsonRejection *why)
 		status = write_plain_numbers(text, size, &plain, &plain_size, &why->refusal);
 		if (status == VIZHONIKU_REFUSED)
 		{
-			why->words = "number of more than 38 digits";
+			why->words = psprintf("number not carried, pos %zu", why->refusal.position);
 			return NULL;
 		}
 		if (status == VIZHONIKU_ACCEPTED)
 		{
-			why->text = plain;
-			why->size = plain_size;
 			status = make_value(mode, plain, plain_size, &value, &why->refusal);
+			pfree(plain);
+			if (status == VIZHONIKU_REFUSED)
+			{
+				read = vjson_without_numbers(text, size, true);
+				status = vizhoniku_check(mode, (const unsigned char *) read, size, &why->refusal);
+			}
 		}
 	}
 	if (status == VIZHONIKU_REFUSED)
 	{
-		why->words = words_of_refusal(mode, why->text, why->size);
+		why->words = words_of_refusal(mode, read, size);
 		if (why->words == NULL)
-			why->words = "not a document";
+			why->words = NO_WORDS;
 		return NULL;
 	}
 	if (status == VIZHONIKU_OUT_OF_MEMORY)
 		vjson_raise_out_of_memory(why->size);
-	if (status != VIZHONIKU_ACCEPTED)
+	if (status != VIZHONIKU_ACCEPTED || value == NULL)
 		vjson_raise_unexpected(status);
 	return value;
 }
@@ -634,6 +669,11 @@ vjson_text(const VjsonParts *parts, size_t *size)
 	text = key_text_write(parts->key, parts->key_size, parts->rest, parts->rest_size, size);
 	if (text == NULL)
 		vjson_raise_corrupted();
+	if (*size > MaxAllocSize)
+		ereport(ERROR,
+				(errcode(ERRCODE_PROGRAM_LIMIT_EXCEEDED),
+				 errmsg("vjson value is too large"),
+				 errdetail("Its text of %zu bytes exceeds %zu bytes.", *size, (size_t) MaxAllocSize)));
 	return text;
 }
 

@@ -63,7 +63,7 @@ typedef struct
 	size_t		size;
 } Range;
 
-/* Why a text was rejected: what the library says of it, that in words, and the text in UTF-8 that was read last. */
+/* Why a text in UTF-8 was rejected: what the library says of it, and that in words. */
 typedef struct
 {
 	const char *words;
@@ -82,6 +82,12 @@ typedef struct
 } VjsonPlace;
 
 extern void vjson_locate(const VjsonRejection *why, VjsonPlace *place);
+
+/*
+ * A copy of the text with zeros and spaces in the place of its numbers, or of
+ * those with an exponent alone.  So what else is wrong has the same place in it.
+ */
+extern char *vjson_without_numbers(const char *text, size_t size, bool exponents_alone);
 
 /* A step of a subscript: a name, or an index in digits. */
 typedef struct
@@ -119,7 +125,7 @@ extern struct varlena *vjson_try_input(const char *text, size_t size, VjsonRejec
 /* The value, which is one that can be written in the encoding of the database; else an error is raised. */
 extern struct varlena *vjson_checked_for_output(struct varlena *value);
 
-/* The written text in UTF-8, with a zero byte at its end. */
+/* The written text in UTF-8, of at most 1 GB, with a zero byte at its end. */
 extern char *vjson_text(const VjsonParts *parts, size_t *size);
 
 /* The written text in the encoding of the database, with a zero byte at its end. */

@@ -8,9 +8,11 @@ python3-lmdb is missing, and those over a library that stands in for it where cc
 import ast
 import doctest
 import functools
+import gc
 import importlib.util
 import inspect
 import json
+import operator
 import os
 import pickle
 import random
@@ -28,7 +30,9 @@ from typing import Any, Callable, Dict, List, Tuple
 HERE = os.path.dirname(os.path.abspath(__file__))
 PACKAGES = os.environ.get("VIZHONIKU_PACKAGES", HERE)
 sys.path.insert(0, PACKAGES)
+sys.path.append(os.path.dirname(HERE))
 
+import growth
 import vizhoniku as v
 
 try:
@@ -108,7 +112,16 @@ class Calls(unittest.TestCase):
         self.assertEqual(v.Key("[1e2]").text(), "[100]")
         fault = self.rejected('{"é": 1e39}')
         self.assertEqual((fault.line, fault.column, fault.index, fault.code, fault.which), (1, 10, 9, 20, 1))
-        self.assertEqual(fault.message, "number of more than 38 digits")
+        self.assertEqual(fault.message, "number not carried")
+        for text in ("1e39", "1" * 39, "[1e1, %s]" % ("1" * 39), "0.%s" % ("1" * 39), "[1.5, -1E-60]", "[1e5, 1e300]"):
+            for call in (v.check, v.text, v.sort_key, v.text_and_key, v.Key):
+                with self.assertRaises(v.RejectedText) as raised:
+                    call(text)
+                self.assertEqual((raised.exception.message, raised.exception.code), ("number not carried", 20))
+            for texts in ((text, "1"), ("1", text)):
+                with self.assertRaises(v.RejectedText) as raised:
+                    v.compare(*texts)
+                self.assertEqual(raised.exception.message, "number not carried")
         with self.assertRaises(v.RejectedText) as raised:
             v.compare("1e1", "5e-324")
         self.assertEqual((raised.exception.which, raised.exception.column), (2, 6))
@@ -354,6 +367,9 @@ class Keys(unittest.TestCase):
         self.assertEqual(([part.text() for part in array], list(whole)), (["1", '"x"', "[2]"], ["", "a", "b", "b\0"]))
         self.assertEqual([(name, part.text()) for name, part in whole.items()],
                          [("", "null"), ("a", "[2]"), ("b", "1"), ("b\0", "3")])
+        self.assertEqual(([part.text() for part in reversed(array)], list(reversed(whole))),
+                         (["[2]", '"x"', "1"], ["b\0", "b", "a", ""]))
+        self.assertEqual(list(reversed(v.Key("[]"))) + list(reversed(v.Key("{}"))), [])
         self.assertEqual((len(array), len(whole), len(v.Key("[]")), len(v.Key("{}"))), (3, 4, 0, 0))
         self.assertEqual((v.Key("1.00") in array, v.Key("2") in array), (True, False))
         self.assertEqual(("a" in whole, "zz" in whole), (True, False))
@@ -366,6 +382,7 @@ class Keys(unittest.TestCase):
         calls: List[Tuple[Callable[[], Any], str]] = [
             (lambda: len(number), "number is no array and no object"),
             (lambda: iter(number), "number is no array and no object"),
+            (lambda: reversed(number), "number is no array and no object"),
             (lambda: 1 in v.Key("null"), "null is no array and no object"),
             (lambda: array.items(), "array is no object"), (lambda: array["a"], "array is no object"),
             (lambda: whole[0], "object is no array"), (lambda: v.Key('""')[0], "string is no array"),
@@ -542,6 +559,7 @@ class Both(unittest.TestCase):
         for _ in range(3000):
             v.text(text), v.sort_key(text, v.STANDARD), v.get(text, path), v.compare(text, text), v.text_and_key(text)
             v.get(text, "/400"), key.text(), key.get("/a"), key.get("/c"), key["a"][0], list(key.items()), list(key["a"]), len(key)
+            list(reversed(key)), reversed(key["a"])
             "a" in key, hash(key), key == key, repr(key), v.Key.from_bytes(bytes(key)), key.kind, v.Key(text)
             iter(key), key.items()
             for wrong in wrongs:
@@ -573,6 +591,76 @@ class Both(unittest.TestCase):
             self.assertLess(tracemalloc.get_traced_memory()[0] - before, 8000)
         finally:
             tracemalloc.stop()
+
+
+class Growth(unittest.TestCase):
+    """Calls over large documents take time in proportion to their size."""
+
+    # Calls that look at no document, or at its first byte alone, and operators that are made as one that is timed is.
+    LEFT_OUT = {"Mode", "PathError", "RejectedText", "Text", "EXTENDED", "STANDARD", "NATIVE", "Key.kind",
+                "Key.__bool__", "Key.__setattr__", "Key.__new__", "Key.__le__", "Key.__gt__", "Key.__ge__",
+                "Key.__ne__"}
+
+    def calls(self, size: int, end: str) -> List[Tuple[str, str, Callable[[], Any]]]:
+        """Calls over documents of so many parts, with decimals that end so: what is called, of what, and the call."""
+        members = ",".join('"k%d":%s' % (i, ("null", '"x"', f"[{i}.{end}]", f"{i}.{end}")[i % 4]) for i in range(size))
+        items = ",".join(('"a"', f'{{"id":{i},"price":{i}.{end}}}', f"{i}.{end}")[i % 3] for i in range(size))
+        exponents = "[%s]" % ",".join(f"{i}.{end}e-3" for i in range(size))
+        name, last, none = "k9998", f"/{size - 1}", v.Key('"none"')
+        calls: List[Tuple[str, str, Callable[[], Any]]] = []
+
+        def add(called: str, what: str, function: Callable[..., Any], *arguments: Any) -> None:
+            calls.append((called, what, functools.partial(function, *arguments)))
+
+        for what, text in (("object", "{%s}" % members), ("array", "[%s]" % items), ("exponents", exponents)):
+            for function in (v.check, v.is_valid, v.text, v.sort_key, v.text_and_key, v.Key):
+                add(function.__name__, what, function, text)
+            add("get", what, v.get, text, "")
+            add("get", what + ", a path", v.get, text, last)
+            add("compare", what, v.compare, text, text + " ")
+            for rejected in (text + "x", text.encode() + b"x"):
+                add("check", what + ", rejected", self.assertRaises, v.RejectedText, v.check, rejected)
+            key = v.Key(text)
+            data, same = bytes(key), v.Key.from_bytes(bytes(key))
+            for called, function, arguments in (
+                    ("from_bytes", v.Key.from_bytes, (data,)), ("__bytes__", bytes, (key,)), ("text", key.text, ()),
+                    ("__repr__", repr, (key,)), ("get", key.get, (last,)), ("get", key.get, (f"/{name}/0",)),
+                    ("__len__", len, (key,)), ("__iter__", list, (key,)), ("__eq__", operator.eq, (key, same)),
+                    ("__lt__", operator.lt, (key, same)), ("__reduce__", pickle.dumps, (key,)),
+                    ("__hash__", lambda one: hash(v.Key.from_bytes(one)), (data,)),
+                    ("__reversed__", lambda one: list(reversed(one)), (key,))):
+                add("Key." + called, what, functools.partial(function, *arguments))
+            if key.kind == "object":
+                add("Key.items", what, lambda one: list(one.items()), key)
+                add("Key.__getitem__", what, operator.getitem, key, name)
+                add("Key.__contains__", what, operator.contains, key, "none")
+            else:
+                add("Key.__getitem__", what, operator.getitem, key, -1)
+                add("Key.__getitem__", what + ", from the front", operator.getitem, key, size - 1)
+                add("Key.__contains__", what, operator.contains, key, none)
+        return calls
+
+    def test_calls(self) -> None:
+        there = set(v.__all__) | {"Key." + name for name, one in vars(v.Key).items() if not name.startswith("_") or
+                                  (name.startswith("__") and (callable(one) or isinstance(one, staticmethod)))}
+        for kind, end in (("zeros", "50"), ("plain", "25")):
+            documents = {size: self.calls(size, end) for size in (growth.SMALL, growth.LARGE)}
+            self.assertEqual(there - {called for called, _, _ in documents[growth.SMALL]} - self.LEFT_OUT, set())
+            gc.collect()
+            gc.disable()
+            try:
+                for at, (called, what, _) in enumerate(documents[growth.SMALL]):
+                    def time_of(size: int, count: int) -> float:
+                        call = documents[size][at][2]
+                        begin = time.process_time()
+                        for _ in range(count):
+                            call()
+                        return time.process_time() - begin
+
+                    with self.subTest(f"{called} of {what}, {kind}"):
+                        self.assertIsNone(growth.too_fast(time_of))
+            finally:
+                gc.enable()
 
 
 class InAnInterpreter(unittest.TestCase):

@@ -127,7 +127,7 @@ static void tell(sqlite3_context *context, uint32_t mode, uint32_t status, const
   size_t room = 256, words_size = 0;
   char *words = NULL;
   if (read->too_long) {
-    words = sqlite3_mprintf("%snumber of more than 38 digits", front);
+    words = sqlite3_mprintf("%snumber not carried", front);
     if (!words) {
       sqlite3_result_error_nomem(context);
     } else if (is_error) {

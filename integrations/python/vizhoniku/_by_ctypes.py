@@ -158,7 +158,7 @@ def _plain(text: Text, data: bytes, which: int) -> bytes:
     if status == _REFUSED:
         place = _Place()
         _library.vizhoniku_place(data, len(data), refusal, place)
-        raise rejection(text, data, b"number of more than 38 digits", refusal.code, which, refusal.position, place.index,
+        raise rejection(text, data, b"number not carried", refusal.code, which, refusal.position, place.index,
                         place.line, place.column)
     _raise(status, 0, refusal, [(text, data)])
     return ctypes.string_at(buffer, size.value)
@@ -402,6 +402,9 @@ class Key:
         if self._needs("array", "object") == "object":
             return (_name(name) for name, _ in self._parts())
         return (part for _, part in self._parts())
+
+    def __reversed__(self) -> "Iterator[Any]":
+        return reversed(list(self))
 
     def items(self) -> "Iterator[Tuple[str, Key]]":
         """The members of an object, in the order of their names' bytes."""

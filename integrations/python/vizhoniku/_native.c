@@ -239,7 +239,7 @@ static int write_plain(uint32_t mode, uint32_t *status, struct vizhoniku_refusal
   return 0;
 }
 
-#define TOO_LONG "number of more than 38 digits"
+#define TOO_LONG "number not carried" /* as the library tells it of a number without an exponent */
 
 /* What a call of the library does with a text. */
 enum what { CHECK, TEXT, SORT_KEY, TEXT_AND_KEY, PART };
@@ -750,6 +750,16 @@ static PyObject *key_iterate(PyObject *self) {
   return need_kind(self, VIZHONIKU_ARRAY, VIZHONIKU_OBJECT) ? make_parts(self, 0) : NULL;
 }
 
+/* The same from the last one on. By an index each part would be looked for from the first one. */
+static PyObject *key_reversed(PyObject *self, PyObject *none) {
+  (void)none;
+  PyObject *list = PySequence_List(self);
+  if (!list) return NULL;
+  PyObject *result = PyObject_CallMethod(list, "__reversed__", NULL);
+  Py_DECREF(list);
+  return result;
+}
+
 static PyObject *key_items(PyObject *self, PyObject *none) {
   (void)none;
   return need_kind(self, VIZHONIKU_OBJECT, VIZHONIKU_OBJECT) ? make_parts(self, 1) : NULL;
@@ -802,6 +812,7 @@ static PyMethodDef key_methods[] = {
     {"text", key_py_text, METH_NOARGS, "The text of the value, with the fewest digits in each number."},
     {"get", key_get, METH_O,
      "The part at the path, as RFC 6901 spells it, or None. Raises PathError where the path isn't spelled so."},
+    {"__reversed__", key_reversed, METH_NOARGS, NULL},
     {"items", key_items, METH_NOARGS, "The members of an object, in the order of their names' bytes."},
     {NULL, NULL, 0, NULL},
 };
