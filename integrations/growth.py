@@ -17,11 +17,11 @@ Once calls have taken MOST_SPENT in all, the others aren't timed any more, which
 from typing import Callable, Optional
 
 SMALL, LARGE = 20_000, 80_000
-MOST = 6.0  # times
+MOST, FAR_TOO_MUCH = 6.0, 10.0  # times
 FLOOR = 0.005  # seconds
 QUICK = 0.002
 MOST_CALLS = 200
-RUNS, MORE_RUNS = 3, 8
+RUNS, MORE_RUNS = 3, 12
 LONG = 0.5  # seconds, from which on a run isn't repeated for a shorter one
 MOST_SPENT = 100.0  # seconds, which is three times what calls in proportion take
 
@@ -52,9 +52,11 @@ def too_fast(make_calls: Callable[[int, int], float]) -> Optional[str]:
         if small < LONG:
             small = min(small, time_of(SMALL, calls))
     large = time_of(LARGE, calls)
-    for _ in range(MORE_RUNS):
+    for run in range(MORE_RUNS):
         if large <= MOST * small or large < QUICK * calls:
             return None
+        if run > 1 and large > FAR_TOO_MUCH * small:
+            break
         if small < LONG:
             small = min(small, time_of(SMALL, calls))
             large = min(large, time_of(LARGE, calls))

@@ -622,14 +622,19 @@ class Growth(unittest.TestCase):
                 add("check", what + ", rejected", self.assertRaises, v.RejectedText, v.check, rejected)
             key = v.Key(text)
             data, same = bytes(key), v.Key.from_bytes(bytes(key))
-            for called, function, arguments in (
-                    ("from_bytes", v.Key.from_bytes, (data,)), ("__bytes__", bytes, (key,)), ("text", key.text, ()),
-                    ("__repr__", repr, (key,)), ("get", key.get, (last,)), ("get", key.get, (f"/{name}/0",)),
-                    ("__len__", len, (key,)), ("__iter__", list, (key,)), ("__eq__", operator.eq, (key, same)),
-                    ("__lt__", operator.lt, (key, same)), ("__reduce__", pickle.dumps, (key,)),
-                    ("__hash__", lambda one: hash(v.Key.from_bytes(one)), (data,)),
-                    ("__reversed__", lambda one: list(reversed(one)), (key,))):
-                add("Key." + called, what, functools.partial(function, *arguments))
+            add("Key.from_bytes", what, v.Key.from_bytes, data)
+            add("Key.__bytes__", what, bytes, key)
+            add("Key.text", what, key.text)
+            add("Key.__repr__", what, repr, key)
+            add("Key.get", what, key.get, last)
+            add("Key.get", what + ", a name", key.get, f"/{name}/0")
+            add("Key.__len__", what, len, key)
+            add("Key.__iter__", what, list, key)
+            add("Key.__reversed__", what, lambda one: list(reversed(one)), key)
+            add("Key.__eq__", what, operator.eq, key, same)
+            add("Key.__lt__", what, operator.lt, key, same)
+            add("Key.__hash__", what, lambda one: hash(v.Key.from_bytes(one)), data)
+            add("Key.__reduce__", what, pickle.dumps, key)
             if key.kind == "object":
                 add("Key.items", what, lambda one: list(one.items()), key)
                 add("Key.__getitem__", what, operator.getitem, key, name)
