@@ -16,7 +16,6 @@ const MOST_DIGITS: u32 = 38;
 const POINT: u32 = 255;
 
 // The bytes after the number whose key they begin with, if it is one in range. It isn't 0, whose key is one byte.
-#[inline(always)]
 pub(crate) fn checked_number(bytes: &[u8]) -> Option<&[u8]>
     requires not_zero { (rest : List ℕ) → bytes.now ≢ kind.zero ∷ rest }
     ensures checks { Checks (NumberFirst bytes.now) bytes.now result }
@@ -40,6 +39,7 @@ pub(crate) fn checked_number(bytes: &[u8]) -> Option<&[u8]>
 
 // How many digits there are, neither the first nor the last of which is 0, and the bytes after them, where there are at
 // most 38.
+#[inline(always)]
 fn checked_digits(negative: bool, bytes: &[u8]) -> Option<(u32, &[u8])>
     ensures found { IfSome result (λ r. DigitsFirst negative bytes.now r.0 r.1.now) }
     ensures few { IfSome result (λ r. r.0 ≤ 38) }
