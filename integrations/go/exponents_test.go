@@ -84,9 +84,9 @@ func TestExponentsInStandardMode(t *testing.T) {
 func TestLongNumbers(t *testing.T) {
 	digits := strings.Repeat("9", 39)
 	for text, wanted := range map[string]string{
-		"1e38":                 "line 1, column 4: number of more than 38 digits",
-		"1e-39":                "line 1, column 5: number of more than 38 digits",
-		"[1e2,\n 1e300, x]":    "line 2, column 6: number of more than 38 digits",
+		"1e38":                 "line 1, column 4: number not carried",
+		"1e-39":                "line 1, column 5: number not carried",
+		"[1e2,\n 1e300, x]":    "line 2, column 6: number not carried",
 		digits:                 "line 1, column 39: number not carried",
 		"[1e5," + digits + "]": "line 1, column 44: number not carried",
 		"[1e5, +1e5]":          "line 1, column 10: number not carried", // JSON has no plus before a number

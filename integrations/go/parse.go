@@ -80,7 +80,7 @@ func (it *parsing) err() error {
 	}
 	in, refusal := it.rejected(), it.told.refusal
 	if it.tooLong {
-		return errorAt(in.given, refusal, "number of more than 38 digits")
+		return errorAt(in.given, refusal, "number not carried")
 	}
 	text := in.parsed()
 	message, of := appended(nil, 128, func(buffer *C.uchar, room C.size_t) C.struct_told {

@@ -271,7 +271,7 @@ func TestJSON(t *testing.T) {
 	err = json.Unmarshal([]byte(`{"body": 1e5}`), &row)
 	equal(t, []any{err, row.Body}, []any{nil, keyOf(t, "100000")})
 	err = json.Unmarshal([]byte(`{"body": 1e38}`), &row)
-	equal(t, fmt.Sprint(err), "line 1, column 4: number of more than 38 digits")
+	equal(t, fmt.Sprint(err), "line 1, column 4: number not carried")
 }
 
 // The texts of tests/vectors.jsonl with their answers.

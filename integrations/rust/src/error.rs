@@ -116,7 +116,7 @@ impl Rejection {
 
     /// Of a number that has too many digits where its exponent is written out.
     pub(crate) fn of_long_number(text: &[u8], refusal: &ffi::Refusal) -> Rejection {
-        Rejection::at(text, refusal, "number of more than 38 digits".to_string())
+        Rejection::at(text, refusal, "number not carried".to_string())
     }
 
     fn at(text: &[u8], refusal: &ffi::Refusal, message: String) -> Rejection {

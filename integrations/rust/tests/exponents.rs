@@ -79,17 +79,16 @@ fn standard_mode_takes_none() {
 
 #[test]
 fn numbers_that_are_too_long() {
-    let too_long =
-        |at, line, column| (Code::NumberNotCarried, at, line, column, "number of more than 38 digits".to_string());
-    assert_eq!(fault("1e38"), too_long(3, 1, 4));
-    assert_eq!(fault("1e-39"), too_long(4, 1, 5));
-    assert_eq!(fault("[1e2,\n 1e300, x]"), too_long(11, 2, 6));
+    let not_carried =
+        |offset, line, column| (Code::NumberNotCarried, offset, line, column, "number not carried".to_string());
+    assert_eq!(fault("1e38"), not_carried(3, 1, 4));
+    assert_eq!(fault("1e-39"), not_carried(4, 1, 5));
+    assert_eq!(fault("[1e2,\n 1e300, x]"), not_carried(11, 2, 6));
     let digits = "9".repeat(39);
-    let not_carried = |at| (Code::NumberNotCarried, at, 1, at + 1, "number not carried".to_string());
-    assert_eq!(fault(&digits), not_carried(38));
-    assert_eq!(fault(&format!("[1e5,{digits}]")), not_carried(43));
+    assert_eq!(fault(&digits), not_carried(38, 1, 39));
+    assert_eq!(fault(&format!("[1e5,{digits}]")), not_carried(43, 1, 44));
     // An exponent is that of JSON: a plus before the number stands in extended mode alone.
-    assert_eq!(fault("[1e5, +1e5]"), not_carried(9));
+    assert_eq!(fault("[1e5, +1e5]"), not_carried(9, 1, 10));
 }
 
 #[test]
