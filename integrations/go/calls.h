@@ -67,6 +67,12 @@ static inline struct told call_message(uint32_t mode, bytes text, size_t text_si
   return told;
 }
 
+static inline struct told call_plain_numbers(bytes text, size_t text_size, buffer to, size_t room) {
+  struct told told = {0};
+  told.status = vizhoniku_plain_numbers(text, text_size, to, room, &told.size, &told.refusal);
+  return told;
+}
+
 static inline struct vizhoniku_location call_place(bytes text, size_t text_size, struct vizhoniku_refusal refusal) {
   struct vizhoniku_location place;
   vizhoniku_place(text, text_size, &refusal, &place);

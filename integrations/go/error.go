@@ -6,7 +6,6 @@ import "C"
 import (
 	"errors"
 	"fmt"
-	"strings"
 )
 
 // An Error says why and where a text was rejected.
@@ -66,30 +65,22 @@ const (
 	DepthLimitExceeded                     Code = C.VIZHONIKU_DEPTH_LIMIT_EXCEEDED
 )
 
-// The error of a call with one text, or two.
-func errorOf(told C.struct_told, mode Mode, text, second []byte) error {
-	if told.status != C.VIZHONIKU_REFUSED {
-		return errorOfStatus(told.status)
-	}
-	if told.refusal.which == 2 {
-		text = second
-	}
-	place := C.call_place(begin(text), size(len(text)), told.refusal)
-	message, of := appended(nil, 128, func(buffer *C.uchar, room C.size_t) C.struct_told {
-		return C.call_message(C.uint32_t(mode), begin(text), size(len(text)), buffer, room)
-	})
-	if of.status != C.VIZHONIKU_REFUSED {
-		return errorOfStatus(C.VIZHONIKU_OUT_OF_MEMORY)
-	}
+// Where the byte to show of a refusal stands.
+func place(text []byte, refusal C.struct_vizhoniku_refusal) C.struct_vizhoniku_location {
+	return C.call_place(begin(text), size(len(text)), refusal)
+}
+
+// The error of a refusal of the text.
+func errorAt(text []byte, refusal C.struct_vizhoniku_refusal, message string) *Error {
+	found := place(text, refusal)
 	return &Error{
-		Code:     Code(told.refusal.code),
-		Second:   told.refusal.which == 2,
-		Position: int(told.refusal.position),
-		Offset:   int(place.index),
-		Line:     int(place.line),
-		Column:   int(place.column),
-		// The message ends with the position, which is told as line and column instead.
-		Message: strings.TrimSuffix(string(message), fmt.Sprintf(", pos %d", told.refusal.position)),
+		Code:     Code(refusal.code),
+		Second:   refusal.which == 2,
+		Position: int(refusal.position),
+		Offset:   int(found.index),
+		Line:     int(found.line),
+		Column:   int(found.column),
+		Message:  message,
 	}
 }
 

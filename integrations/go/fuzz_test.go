@@ -22,6 +22,8 @@ func FuzzTexts(f *testing.F) {
 		f.Add([]byte(line[0]), []byte(line[len(line)-1]), i%2 == 0)
 	}
 	f.Add([]byte(`{"a":{"b":[1,{"c":"\ud834\udd1e"}]},"a":1}`), []byte("[1,\n2 3]"), true)
+	f.Add([]byte("[1e5, -2.50E+1,\n\"1e5\", x"), []byte(`{"1e2": 1e-38, "a": 1e300}`), false)
+	f.Add([]byte(`{"a":1e0,"a":[1.e5, +1e5]}`), []byte("1e37"), false)
 	f.Fuzz(func(t *testing.T, one, two []byte, standard bool) {
 		mode := Extended
 		if standard {
@@ -34,6 +36,9 @@ func FuzzTexts(f *testing.F) {
 		if !bytes.Equal(one, before) {
 			t.Fatal("the text has changed")
 		}
+		if Valid(one, mode) != (err == nil) {
+			t.Fatalf("valid, and %v", err)
+		}
 		for _, other := range []error{keyErr, bothErr, Check(one, mode)} {
 			if errorText(other) != errorText(err) {
 				t.Fatalf("%v, and %v", err, other)
@@ -41,7 +46,11 @@ func FuzzTexts(f *testing.F) {
 		}
 		if err != nil {
 			var why *Error
-			if !errors.As(err, &why) || why.Offset > len(one) || why.Line < 1 || why.Column < 1 {
+			if !errors.As(err, &why) || why.Offset > len(one) {
+				t.Fatalf("%#v", err)
+			}
+			front := one[:why.Offset]
+			if why.Line != 1+bytes.Count(front, []byte("\n")) || why.Column != len(front)-bytes.LastIndexByte(front, '\n') {
 				t.Fatalf("%#v", err)
 			}
 			return
@@ -127,7 +136,7 @@ func FuzzKeys(f *testing.F) {
 }
 
 func TestMain(m *testing.M) {
-	if Version() < 5 {
+	if Version() < 6 {
 		panic("the library is too old")
 	}
 	os.Exit(m.Run())

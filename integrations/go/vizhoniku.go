@@ -24,7 +24,8 @@ const (
 	// Standard is JSON as RFC 8259 has it, with integers of 64 bits alone as numbers.
 	Standard Mode = C.VIZHONIKU_STANDARD
 	// Extended also has decimals of up to 38 digits, hexadecimals, comments, single quotes, names without quotes and
-	// more.
+	// more. A number of JSON with an exponent is taken as the decimal of exactly its value, which has at most 38 digits
+	// too.
 	Extended Mode = C.VIZHONIKU_EXTENDED
 )
 
@@ -69,13 +70,22 @@ func appended(to []byte, room int, call func(buffer *C.uchar, room C.size_t) C.s
 
 // Check tells whether the text is a document: the error is nil, or an *Error that says what is wrong and where.
 func Check(text []byte, mode Mode) error {
-	told := C.call_check(C.uint32_t(mode), begin(text), size(len(text)))
-	return errorOf(told, mode, text, nil)
+	it := parsing{mode: mode, left: input{given: text}}
+	it.check()
+	return it.err()
+}
+
+func (it *parsing) check() {
+	it.run(func(text, _ []byte) C.struct_told {
+		return C.call_check(C.uint32_t(it.mode), begin(text), size(len(text)))
+	})
 }
 
 // Valid tells whether the text is a document. It is false where memory ran out too.
 func Valid(text []byte, mode Mode) bool {
-	return C.call_check(C.uint32_t(mode), begin(text), size(len(text))).status == C.VIZHONIKU_ACCEPTED
+	it := parsing{mode: mode, left: input{given: text}}
+	it.check()
+	return it.told.status == C.VIZHONIKU_ACCEPTED
 }
 
 // Text returns the text of the document's value: without whitespace, and members in the order of the bytes of their
@@ -90,10 +100,14 @@ func Text(text []byte, mode Mode) ([]byte, error) {
 
 // AppendText appends what Text returns. With an error it returns the bytes that were there.
 func AppendText(to, text []byte, mode Mode) ([]byte, error) {
-	to, told := appended(to, len(text)+16, func(buffer *C.uchar, room C.size_t) C.struct_told {
-		return C.call_text(C.uint32_t(mode), begin(text), size(len(text)), buffer, room)
+	it := parsing{mode: mode, left: input{given: text}}
+	it.run(func(text, _ []byte) (told C.struct_told) {
+		to, told = appended(to, len(text)+16, func(buffer *C.uchar, room C.size_t) C.struct_told {
+			return C.call_text(C.uint32_t(mode), begin(text), size(len(text)), buffer, room)
+		})
+		return told
 	})
-	return to, errorOf(told, mode, text, nil)
+	return to, it.err()
 }
 
 // SortKey returns the key of the document's value. The error is an *Error for a text that is no document.
@@ -107,44 +121,61 @@ func SortKey(text []byte, mode Mode) (Key, error) {
 
 // AppendSortKey appends the bytes of the key. With an error it returns the bytes that were there.
 func AppendSortKey(to, text []byte, mode Mode) ([]byte, error) {
-	to, told := appended(to, len(text)+16, func(buffer *C.uchar, room C.size_t) C.struct_told {
-		return C.call_sort_key(C.uint32_t(mode), begin(text), size(len(text)), buffer, room)
+	it := parsing{mode: mode, left: input{given: text}}
+	it.run(func(text, _ []byte) (told C.struct_told) {
+		to, told = appended(to, len(text)+16, func(buffer *C.uchar, room C.size_t) C.struct_told {
+			return C.call_sort_key(C.uint32_t(mode), begin(text), size(len(text)), buffer, room)
+		})
+		return told
 	})
-	return to, errorOf(told, mode, text, nil)
+	return to, it.err()
 }
 
 // TextAndKey returns what Text and SortKey return.
 func TextAndKey(text []byte, mode Mode) ([]byte, Key, error) {
-	key := make([]byte, len(text)+16)
-	written, told := appended(nil, len(text)+16, func(buffer *C.uchar, room C.size_t) C.struct_told {
-		told := C.call_text_and_key(C.uint32_t(mode), begin(text), size(len(text)), buffer, room, begin(key),
-			size(len(key)))
-		if told.status == C.VIZHONIKU_TOO_SHORT && int(told.key_size) > len(key) {
-			key = make([]byte, told.key_size)
-		}
+	var written, key []byte
+	it := parsing{mode: mode, left: input{given: text}}
+	it.run(func(text, _ []byte) (told C.struct_told) {
+		key = make([]byte, len(text)+16)
+		written, told = appended(nil, len(text)+16, func(buffer *C.uchar, room C.size_t) C.struct_told {
+			told := C.call_text_and_key(C.uint32_t(mode), begin(text), size(len(text)), buffer, room, begin(key),
+				size(len(key)))
+			if told.status == C.VIZHONIKU_TOO_SHORT && int(told.key_size) > len(key) {
+				key = make([]byte, told.key_size)
+			}
+			return told
+		})
 		return told
 	})
-	if err := errorOf(told, mode, text, nil); err != nil {
+	if err := it.err(); err != nil {
 		return nil, "", err
 	}
-	return written, Key(stringOf(key[:told.key_size])), nil
+	return written, Key(stringOf(key[:it.told.key_size])), nil
 }
 
 // Compare returns -1, 0 or 1 where the value of the left document is below that of the right one, equal to it, or above
 // it. The error is an *Error where a text is no document, of the first that is none.
 func Compare(left, right []byte, mode Mode) (int, error) {
-	told := C.call_compare(C.uint32_t(mode), begin(left), size(len(left)), begin(right), size(len(right)))
-	return int(told.order), errorOf(told, mode, left, right)
+	it := parsing{mode: mode, left: input{given: left}, right: input{given: right}}
+	it.run(func(left, right []byte) C.struct_told {
+		return C.call_compare(C.uint32_t(mode), begin(left), size(len(left)), begin(right), size(len(right)))
+	})
+	return int(it.told.order), it.err()
 }
 
 // Part returns the text of the part at the path, a JSON Pointer (RFC 6901). The error is ErrNoPart where there is none,
 // ErrPath where the path isn't one, and an *Error for a text that is no document. The whole text is parsed: for several
 // parts of a document Key.Part is faster.
 func Part(text []byte, path string, mode Mode) ([]byte, error) {
-	written, told := appended(nil, 64, func(buffer *C.uchar, room C.size_t) C.struct_told {
-		return C.call_part(C.uint32_t(mode), beginOf(path), size(len(path)), begin(text), size(len(text)), buffer, room)
+	var written []byte
+	it := parsing{mode: mode, left: input{given: text}}
+	it.run(func(text, _ []byte) (told C.struct_told) {
+		written, told = appended(nil, 64, func(buffer *C.uchar, room C.size_t) C.struct_told {
+			return C.call_part(C.uint32_t(mode), beginOf(path), size(len(path)), begin(text), size(len(text)), buffer, room)
+		})
+		return told
 	})
-	if err := errorOf(told, mode, text, nil); err != nil {
+	if err := it.err(); err != nil {
 		return nil, err
 	}
 	return written, nil

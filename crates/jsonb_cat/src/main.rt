@@ -19,11 +19,5 @@ fn main(rt: HostRuntime) -> ExitCode {
         return ExitCode::FAILURE;
     };
     let (mut input, mut out, mut err) = (rt.stdin(), rt.stdout(), rt.stderr());
-    ExitCode::from(cat::run(
-        rt.alloc(),
-        &words,
-        &mut input,
-        &mut out,
-        &mut err,
-    ))
+    ExitCode::from(cat::run(rt.alloc(), &words, &mut input, &mut out, &mut err))
 }

@@ -106,7 +106,12 @@ impl<'a> KeyRoom<'a> {
         ensures bytes { OnOk result (Writes (kind.string ∷ text_key (text_of_contents contents.now)) self.old self.new) }
         ensures base { base_of self.new ≡ base_of self.old }
     {
-        append_escaped_key(contents.body, contents.mode, &mut self.out, &mut self.decoded)
+        append_escaped_key(
+            contents.body,
+            contents.mode,
+            &mut self.out,
+            &mut self.decoded,
+        )
     }
 
     // Whether this range of the text has bytes.

@@ -1,7 +1,7 @@
 //! Why a call has no answer.
 
-use crate::ffi;
-use crate::Mode;
+use crate::parse::given_offset;
+use crate::{ffi, write, Mode};
 use std::fmt;
 
 /// What is wrong with a text.
@@ -79,7 +79,7 @@ const CODES: [Code; 21] = [
 ];
 
 impl Code {
-    fn of(number: u32) -> Code {
+    pub(crate) fn of(number: u32) -> Code {
         let at = (number as usize).wrapping_sub(1);
         CODES.get(at).copied().unwrap_or(Code::Other(number))
     }
@@ -106,24 +106,22 @@ pub struct Rejection {
 }
 
 impl Rejection {
-    pub(crate) fn of(text: &[u8], mode: Mode, refusal: &ffi::Refusal) -> Result<Rejection, Error> {
-        let mut place = ffi::Location::default();
-        // SAFETY: the text has its size, and the refusal and the place are whole.
-        unsafe { ffi::vizhoniku_place(text.as_ptr(), text.len(), refusal, &mut place) };
-        let (message, status) = crate::write(128, |buffer, room, size| {
-            // SAFETY: the text has its size, and the buffer its room.
-            unsafe { ffi::vizhoniku_message(mode as u32, text.as_ptr(), text.len(), buffer, room, size) }
-        })?;
-        if status != ffi::REFUSED {
-            return Err(Error::OutOfMemory);
-        }
-        let mut message = String::from_utf8_lossy(&message).into_owned();
-        // The message ends with the position, which is told as line and column instead.
-        let end = format!(", pos {}", refusal.position);
-        if message.ends_with(&end) {
-            message.truncate(message.len() - end.len());
-        }
-        Ok(Rejection {
+    /// Of a text that was parsed as it is, or with its numbers written out.
+    pub(crate) fn of(text: &[u8], parsed: &[u8], mode: Mode, refusal: &ffi::Refusal) -> Result<Rejection, Error> {
+        let message = message(parsed, mode, refusal)?;
+        let offset = place(parsed, refusal).index;
+        let position = refusal.position + given_offset(text, parsed, offset) - offset;
+        Ok(Rejection::at(text, &ffi::Refusal { position, ..*refusal }, message))
+    }
+
+    /// Of a number that has too many digits where its exponent is written out.
+    pub(crate) fn of_long_number(text: &[u8], refusal: &ffi::Refusal) -> Rejection {
+        Rejection::at(text, refusal, "number not carried".to_string())
+    }
+
+    fn at(text: &[u8], refusal: &ffi::Refusal, message: String) -> Rejection {
+        let place = place(text, refusal);
+        Rejection {
             code: Code::of(refusal.code),
             is_second: refusal.which == 2,
             position: refusal.position,
@@ -131,7 +129,7 @@ impl Rejection {
             line: place.line,
             column: place.column,
             message,
-        })
+        }
     }
 
     /// What is wrong.
@@ -168,6 +166,32 @@ impl Rejection {
     pub fn message(&self) -> &str {
         &self.message
     }
+}
+
+/// Where the byte to show of a refusal stands.
+fn place(text: &[u8], refusal: &ffi::Refusal) -> ffi::Location {
+    let mut place = ffi::Location::default();
+    // SAFETY: the text has its size, and the refusal and the place are whole.
+    unsafe { ffi::vizhoniku_place(text.as_ptr(), text.len(), refusal, &mut place) };
+    place
+}
+
+/// What is wrong with a text, in words.
+fn message(text: &[u8], mode: Mode, refusal: &ffi::Refusal) -> Result<String, Error> {
+    let (message, status) = write(128, |buffer, room, size| {
+        // SAFETY: the text has its size, and the buffer its room.
+        unsafe { ffi::vizhoniku_message(mode as u32, text.as_ptr(), text.len(), buffer, room, size) }
+    })?;
+    if status != ffi::REFUSED {
+        return Err(Error::OutOfMemory);
+    }
+    let mut message = String::from_utf8_lossy(&message).into_owned();
+    // The message ends with the position, which is told as line and column instead.
+    let end = format!(", pos {}", refusal.position);
+    if message.ends_with(&end) {
+        message.truncate(message.len() - end.len());
+    }
+    Ok(message)
 }
 
 impl fmt::Display for Rejection {
@@ -210,6 +234,12 @@ impl Error {
             ffi::OUT_OF_MEMORY => Error::OutOfMemory,
             _ => Error::NoKey,
         }
+    }
+}
+
+impl From<Rejection> for Error {
+    fn from(rejection: Rejection) -> Error {
+        Error::Rejected(Box::new(rejection))
     }
 }
 

@@ -28,9 +28,11 @@ struct Readme;
 mod error;
 mod ffi;
 mod key;
+mod parse;
 
 pub use error::{Code, Error, Rejection};
 pub use key::{Items, Key, KeyRef, Kind, Members};
+use parse::parse;
 use std::cmp::Ordering;
 
 /// The grammar that a text is parsed by.
@@ -40,15 +42,17 @@ pub enum Mode {
     /// JSON as RFC 8259 has it, with integers of 64 bits alone as numbers.
     Standard = 0,
     /// Also decimals of up to 38 digits, hexadecimals, comments, single quotes, names without quotes and more.
+    ///
+    /// A number of JSON with an exponent is taken as the decimal of exactly its value, which has at most 38 digits too.
     Extended = 1,
 }
 
+/// What a call has made, and its status.
+pub(crate) type Made<T> = Result<(T, u32), Error>;
+
 /// What a call has written, and its status, which isn't `TOO_SHORT`. The call gets a buffer and its size, again with as
 /// much room as it asks for where that is too short.
-pub(crate) fn write(
-    room: usize,
-    mut call: impl FnMut(*mut u8, usize, &mut usize) -> u32,
-) -> Result<(Vec<u8>, u32), Error> {
+pub(crate) fn write(room: usize, mut call: impl FnMut(*mut u8, usize, &mut usize) -> u32) -> Made<Vec<u8>> {
     let (mut buffer, mut size, mut room) = (Vec::new(), 0, room);
     loop {
         buffer.try_reserve_exact(room).map_err(|_| Error::OutOfMemory)?;
@@ -62,14 +66,10 @@ pub(crate) fn write(
     }
 }
 
-/// What the status of a call with texts says, of which the first or the second was rejected.
-fn accept(status: u32, mode: Mode, refusal: &ffi::Refusal, texts: [&[u8]; 2]) -> Result<(), Error> {
+/// The error of the status of a call with texts, of which none is rejected.
+fn accept(status: u32) -> Result<(), Error> {
     match status {
         ffi::ACCEPTED => Ok(()),
-        ffi::REFUSED => {
-            let text = if refusal.which == 2 { texts[1] } else { texts[0] };
-            Err(Error::Rejected(Box::new(Rejection::of(text, mode, refusal)?)))
-        }
         ffi::NO_PATH => Err(Error::NoPath),
         _ => Err(Error::OutOfMemory),
     }
@@ -95,10 +95,11 @@ fn utf8(bytes: Vec<u8>) -> Result<String, Error> {
 /// assert_eq!((rejection.code(), rejection.offset()), (Code::ObjectDuplicateKey, 25));
 /// ```
 pub fn check(text: impl AsRef<[u8]>, mode: Mode) -> Result<(), Error> {
-    let (text, mut refusal) = (text.as_ref(), ffi::Refusal::default());
-    // SAFETY: the text has its size, and the refusal is whole.
-    let status = unsafe { ffi::vizhoniku_check(mode as u32, text.as_ptr(), text.len(), &mut refusal) };
-    accept(status, mode, &refusal, [text, text])
+    let ((), status) = parse([text.as_ref()], mode, |[text], refusal| {
+        // SAFETY: the text has its size, and the refusal is whole.
+        Ok(((), unsafe { ffi::vizhoniku_check(mode as u32, text.as_ptr(), text.len(), refusal) }))
+    })?;
+    accept(status)
 }
 
 /// The text of the document's value: without whitespace, and members in the order of the bytes of their names.
@@ -110,15 +111,17 @@ pub fn check(text: impl AsRef<[u8]>, mode: Mode) -> Result<(), Error> {
 /// ```
 /// let text = vizhoniku::text("{b: 0x1F, /* x */ a: [, +.5]} // end", vizhoniku::Mode::Extended)?;
 /// assert_eq!(text, r#"{"a":[null,0.5],"b":31}"#);
+/// assert_eq!(vizhoniku::text("[1e5, 1.50e-7]", vizhoniku::Mode::Extended)?, "[100000,0.000000150]");
 /// # Ok::<(), vizhoniku::Error>(())
 /// ```
 pub fn text(text: impl AsRef<[u8]>, mode: Mode) -> Result<String, Error> {
-    let (text, mut refusal) = (text.as_ref(), ffi::Refusal::default());
-    let (written, status) = write(text.len().saturating_add(16), |buffer, room, size| {
-        // SAFETY: the text has its size and the buffer its room, and they don't overlap.
-        unsafe { ffi::vizhoniku_text(mode as u32, text.as_ptr(), text.len(), buffer, room, size, &mut refusal) }
+    let (written, status) = parse([text.as_ref()], mode, |[text], refusal| {
+        write(text.len().saturating_add(16), |buffer, room, size| {
+            // SAFETY: the text has its size and the buffer its room, and they don't overlap.
+            unsafe { ffi::vizhoniku_text(mode as u32, text.as_ptr(), text.len(), buffer, room, size, refusal) }
+        })
     })?;
-    accept(status, mode, &refusal, [text, text])?;
+    accept(status)?;
     utf8(written)
 }
 
@@ -128,12 +131,13 @@ pub fn text(text: impl AsRef<[u8]>, mode: Mode) -> Result<String, Error> {
 ///
 /// [`Error::Rejected`] for a text that is no document, and [`Error::OutOfMemory`].
 pub fn sort_key(text: impl AsRef<[u8]>, mode: Mode) -> Result<Key, Error> {
-    let (text, mut refusal) = (text.as_ref(), ffi::Refusal::default());
-    let (written, status) = write(text.len().saturating_add(16), |buffer, room, size| {
-        // SAFETY: as in `text`.
-        unsafe { ffi::vizhoniku_sort_key(mode as u32, text.as_ptr(), text.len(), buffer, room, size, &mut refusal) }
+    let (written, status) = parse([text.as_ref()], mode, |[text], refusal| {
+        write(text.len().saturating_add(16), |buffer, room, size| {
+            // SAFETY: as in `text`.
+            unsafe { ffi::vizhoniku_sort_key(mode as u32, text.as_ptr(), text.len(), buffer, room, size, refusal) }
+        })
     })?;
-    accept(status, mode, &refusal, [text, text])?;
+    accept(status)?;
     Ok(Key::of(written))
 }
 
@@ -143,7 +147,14 @@ pub fn sort_key(text: impl AsRef<[u8]>, mode: Mode) -> Result<Key, Error> {
 ///
 /// Those of [`text`].
 pub fn text_and_key(text: impl AsRef<[u8]>, mode: Mode) -> Result<(String, Key), Error> {
-    let (text, mut refusal) = (text.as_ref(), ffi::Refusal::default());
+    let ((written, key), status) =
+        parse([text.as_ref()], mode, |[text], refusal| write_text_and_key(text, mode, refusal))?;
+    accept(status)?;
+    Ok((utf8(written)?, Key::of(key)))
+}
+
+/// The bytes of a text and of its key.
+fn write_text_and_key(text: &[u8], mode: Mode, refusal: &mut ffi::Refusal) -> Made<(Vec<u8>, Vec<u8>)> {
     let (mut key, mut key_size) = (Vec::new(), text.len().saturating_add(16));
     let (written, status) = write(text.len().saturating_add(16), |buffer, room, size| {
         let key_room = key_size;
@@ -162,7 +173,7 @@ pub fn text_and_key(text: impl AsRef<[u8]>, mode: Mode) -> Result<(String, Key),
                 key.as_mut_ptr(),
                 key_room,
                 &mut key_size,
-                &mut refusal,
+                refusal,
             )
         };
         if status == ffi::ACCEPTED {
@@ -171,8 +182,7 @@ pub fn text_and_key(text: impl AsRef<[u8]>, mode: Mode) -> Result<(String, Key),
         }
         status
     })?;
-    accept(status, mode, &refusal, [text, text])?;
-    Ok((utf8(written)?, Key::of(key)))
+    Ok(((written, key), status))
 }
 
 /// How the values of two documents of one mode compare.
@@ -182,21 +192,15 @@ pub fn text_and_key(text: impl AsRef<[u8]>, mode: Mode) -> Result<(String, Key),
 /// [`Error::Rejected`] where a text is no document, of the first that is none ([`Rejection::is_second`]), and
 /// [`Error::OutOfMemory`].
 pub fn compare(left: impl AsRef<[u8]>, right: impl AsRef<[u8]>, mode: Mode) -> Result<Ordering, Error> {
-    let (left, right, mut order) = (left.as_ref(), right.as_ref(), 0);
-    let mut refusal = ffi::Refusal::default();
-    // SAFETY: the texts have their sizes, and the order and the refusal are whole.
-    let status = unsafe {
-        ffi::vizhoniku_compare(
-            mode as u32,
-            left.as_ptr(),
-            left.len(),
-            right.as_ptr(),
-            right.len(),
-            &mut order,
-            &mut refusal,
-        )
-    };
-    accept(status, mode, &refusal, [left, right])?;
+    let (order, status) = parse([left.as_ref(), right.as_ref()], mode, |[left, right], refusal| {
+        let (mode, mut order) = (mode as u32, 0);
+        // SAFETY: the texts have their sizes, and the order and the refusal are whole.
+        let status = unsafe {
+            ffi::vizhoniku_compare(mode, left.as_ptr(), left.len(), right.as_ptr(), right.len(), &mut order, refusal)
+        };
+        Ok((order, status))
+    })?;
+    accept(status)?;
     Ok(order.cmp(&0))
 }
 
@@ -216,27 +220,19 @@ pub fn compare(left: impl AsRef<[u8]>, right: impl AsRef<[u8]>, mode: Mode) -> R
 /// # Ok::<(), vizhoniku::Error>(())
 /// ```
 pub fn part(text: impl AsRef<[u8]>, path: &str, mode: Mode) -> Result<Option<String>, Error> {
-    let (text, mut refusal) = (text.as_ref(), ffi::Refusal::default());
-    let (written, status) = write(256, |buffer, room, size| {
-        // SAFETY: as in `text`, and the path has its size.
-        unsafe {
-            ffi::vizhoniku_part(
-                mode as u32,
-                path.as_ptr(),
-                path.len(),
-                text.as_ptr(),
-                text.len(),
-                buffer,
-                room,
-                size,
-                &mut refusal,
-            )
-        }
+    let (written, status) = parse([text.as_ref()], mode, |[text], refusal| {
+        write(256, |buffer, room, size| {
+            let (mode, path, path_size) = (mode as u32, path.as_ptr(), path.len());
+            // SAFETY: as in `text`, and the path has its size.
+            unsafe {
+                ffi::vizhoniku_part(mode, path, path_size, text.as_ptr(), text.len(), buffer, room, size, refusal)
+            }
+        })
     })?;
     if status == ffi::NO_PART {
         return Ok(None);
     }
-    accept(status, mode, &refusal, [text, text])?;
+    accept(status)?;
     utf8(written).map(Some)
 }
 

@@ -1,16 +1,10 @@
-//! The functions and the structs of src/ffi.rs are those of vizhoniku.h. The zeros of decimals and the numbers with an
-//! exponent have no call.
+//! The functions and the structs of src/ffi.rs are those of vizhoniku.h. The zeros of decimals have no call.
 
 use std::collections::BTreeMap;
 use std::path::Path;
 
-const LEFT_OUT: [&str; 5] = [
-    "vizhoniku_plain_numbers",
-    "vizhoniku_zeros_of_text",
-    "vizhoniku_text_with_zeros",
-    "vizhoniku_key_numbers",
-    "vizhoniku_zeros_of_numbers",
-];
+const LEFT_OUT: [&str; 4] =
+    ["vizhoniku_zeros_of_text", "vizhoniku_text_with_zeros", "vizhoniku_key_numbers", "vizhoniku_zeros_of_numbers"];
 
 fn between<'a>(text: &'a str, left: &str, right: &str) -> Vec<(&'a str, &'a str)> {
     text.split(left)

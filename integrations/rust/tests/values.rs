@@ -154,7 +154,7 @@ fn errors() {
     }
     let boxed: Box<dyn std::error::Error + Send + Sync> = Error::NoPath.into();
     assert_eq!(boxed.to_string(), "the path isn't a JSON Pointer (RFC 6901)");
-    assert!(version() >= 5);
+    assert!(version() >= 6);
 }
 
 /// Of any bytes the calls find something or nothing, and none panics.

@@ -28,6 +28,6 @@ returns-clause-ok c =
     let old : List ℕ = c.args.out.now.items in
     let body : List ℕ = c.as_bytes-body.result.now in
     on_ok c.append_rest.result c.append_rest.ensures.ok (λ all. ∥∥₁_elim contents.kept (Prim.hlevel props) (λ w.
-        let first : WritesItems mode body (drop kept body) [] (take kept body) = subst (λ (u : List ℕ). WritesItems mode u (drop kept u) [] (take kept u)) (sym c.as_bytes-body.ensures.value) w in
-        all old (subst (λ (u : List ℕ). WritesItems mode body (drop kept body) old u) (sym c.in_ok-append_first.ensures.bytes) (writes_behind mode body (drop kept body) old (take kept body) first))
-        ∙ ap (λ (u : List ℕ). old ++ flat_map byte_text (decoded_text mode u)) c.as_bytes-body.ensures.value))
+    let first : WritesItems mode body (drop kept body) [] (take kept body) = subst (λ (u : List ℕ). WritesItems mode u (drop kept u) [] (take kept u)) (sym c.as_bytes-body.ensures.value) w in
+    all old (subst (λ (u : List ℕ). WritesItems mode body (drop kept body) old u) (sym c.in_ok-append_first.ensures.bytes) (writes_behind mode body (drop kept body) old (take kept body) first))
+    ∙ ap (λ (u : List ℕ). old ++ flat_map byte_text (decoded_text mode u)) c.as_bytes-body.ensures.value))
