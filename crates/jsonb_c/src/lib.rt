@@ -30,7 +30,7 @@ pub mod key;
 pub mod key_contains;
 pub mod key_edit;
 pub mod key_text;
-pub mod plain_numbers;
+pub mod numbers;
 pub mod zeros;
 
 /// Success.
