@@ -11,13 +11,18 @@ A call that takes less than QUICK for the large document isn't compared. It copi
 whole, which costs more for each byte where they are past the caches of the processor. The square of 80,000 steps, of a
 tenth of a nanosecond each, is 640 ms.
 
+Where other tests run beside, which share these caches, a call in proportion was seen to take 8 times as long. There
+VIZHONIKU_MOST_TIMES says how many times are allowed in place of 6.
+
 Once calls have taken MOST_SPENT in all, the others aren't timed any more, which counts as a fault of each.
 """
 
+import os
 from typing import Callable, Optional
 
 SMALL, LARGE = 20_000, 80_000
-MOST, FAR_TOO_MUCH = 6.0, 10.0  # times
+MOST = float(os.environ.get("VIZHONIKU_MOST_TIMES", "6"))  # times
+FAR_TOO_MUCH = MOST + 4
 FLOOR = 0.005  # seconds
 QUICK = 0.002
 MOST_CALLS = 200
