@@ -33,12 +33,12 @@ use Rattle.jsonb_scan.specs.Parsing.Number.{digits_length}
 use Rattle.plain_numbers.specs.Expansion.{before, plain, plain_before, expanded_at, expanded, AppendsExpanded, Explains}
 use Rattle.plain_numbers.specs.Laws.{HasParts, IsFractionOf, IsSignOf}
 use Rattle.plain_numbers.specs.Passing.{is_word_byte, word_length}
-use Rattle.plain_numbers.specs.Pieces.{other, word, pieces, in_string, is_separator}
+use Rattle.plain_numbers.specs.Pieces.{Piece, other, word, pieces, in_string, is_separator}
 use Rattle.plain_numbers.proofs.Exact.{few}
 use Rattle.plain_numbers.proofs.Found.{read}
-use Rattle.plain_numbers.proofs.Passing.{one_byte, escape_same, separator_same}
+use Rattle.plain_numbers.proofs.Passing.{one_byte, escape_same}
 use Rattle.plain_numbers.proofs.Words.{word_stands}
-use Rattle.plain_numbers.proofs.Writing.{before_before, others_before, plain_none, plain_short}
+use Rattle.plain_numbers.proofs.Writing.{before_before, nothing_before, plain_none, plain_short}
 
 -- ---- bytes that are written out as others
 
@@ -73,6 +73,14 @@ always_then a b a_out b_out p q = λ more ends offset. run_step a b a_out b_out 
 runs_then : (a b a_out b_out : List ℕ) → Runs a a_out → Runs b b_out → ((more : List ℕ) → EndsWord more → EndsWord (b ++ more)) → Runs (a ++ b) (a_out ++ b_out)
 unfolding Runs
 runs_then a b a_out b_out p q ends = λ more e offset. run_step a b a_out b_out more offset (p (b ++ more) (ends more e) offset) (q more e (offset + length a))
+
+separator_same : (b : ℕ) (bytes : List ℕ) → b ≢ 34 → is_separator b ≡ true → pieces (b ∷ bytes) ≡ other b ∷ pieces bytes
+separator_same b bytes p h = cond-false (b == 34) _ _ (ne_eqb b 34 p) ∙ cond-true (is_separator b) _ _ h
+
+others_before : (front : List ℕ) (more : List Piece) (offset later : ℕ) → later ≡ offset + length front → expanded_at offset (map other front ++ more) ≡ before front (expanded_at later more)
+others_before [] more offset later e = nothing_before _ _ (ap (λ (n : ℕ). expanded_at n more) (omega (arith, e)))
+others_before (b ∷ front) more offset later e =
+    ap (before (b ∷ [])) (others_before front more (offset + 1) later (omega (arith, e))) ∙ before_before (b ∷ []) front (expanded_at later more)
 
 -- bytes that are each a piece of their own
 always_others : (bytes : List ℕ) → ((more : List ℕ) → pieces (bytes ++ more) ≡ map other bytes ++ pieces more) → Always bytes bytes

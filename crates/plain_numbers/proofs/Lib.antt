@@ -3,7 +3,10 @@ pub mod Moving
 pub mod Parts
 pub mod Words
 pub mod Writing
+pub mod Masking
 pub mod Passing
+pub mod Runs
+pub mod Stops
 pub mod Joined
 pub mod Exact
 pub mod Found

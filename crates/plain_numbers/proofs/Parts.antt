@@ -1,5 +1,5 @@
 -- The parts of a number with an exponent, step by step.
-use Rattle.std.proofs.Common.{◌≡◌, ◌≢◌, ℕ, ◌^◌, ◌<◌, ◌≤◌, ⊎_elim, inl, inr, ◌==◌, Bool, true, false, Option, Some, None, List, [], ◌∷◌, ◌++◌, length, take, drop, sym, subst, ap, ◌∙◌, arith}
+use Rattle.std.proofs.Common.{◌≡◌, ◌≢◌, ℕ, ◌^◌, ◌<◌, ◌≤◌, ⊎_elim, inl, inr, ◌==◌, Bool, true, false, Option, Some, None, List, [], ◌∷◌, ◌++◌, length, take, drop, refl, sym, subst, ap, ◌∙◌, arith}
 use Rattle.std.specs.Prelude.{unwrap_or}
 use Rattle.std.specs.Option.{SomeIff}
 use Rattle.std.specs.Str.Parse.{AllDigits, digits_value, digits_value_after}
@@ -89,3 +89,12 @@ more_behind front back = omega (arith, value_after-append 0 front back, value_af
 pub clamped : (r : Option ℕ) (n : ℕ) → SomeIff r (n < 2 ^ 128) n → IsClamped (unwrap_or r (2 ^ 100)) n
 clamped None n h = inr (omega arith, ⊎_elim (λ (small : n < 2 ^ 128). absurd (h small)) (λ large. omega (arith, large)) (cases_lt n (2 ^ 128)))
 clamped (Some v) n h = inl h.1
+
+-- ---- what is known of a magnitude
+
+pub none_past : (r : Option ℕ) (front back : List ℕ) → (digits_value_after 10 0 front < 2 ^ 128 → ⊥) → r ≡ None → SomeIff r (digits_value 10 (front ++ back) < 2 ^ 128) (digits_value 10 (front ++ back))
+none_past (Some v) front back past none = absurd (cc)
+none_past None front back past none = λ small. past (omega (arith, small, more_behind front back))
+
+pub both_read : (r : Option ℕ) (front back : List ℕ) (a : ℕ) → a ≡ digits_value_after 10 0 front → SomeIff r (digits_value_after 10 a back < 2 ^ 128) (digits_value_after 10 a back) → SomeIff r (digits_value 10 (front ++ back) < 2 ^ 128) (digits_value 10 (front ++ back))
+both_read r front back a p h = subst (λ (n : ℕ). SomeIff r (n < 2 ^ 128) n) (value_behind front back a (digits_value_after 10 a back) p refl) h

@@ -1,6 +1,5 @@
--- What is passed on the way to a word, and what stands there.
-use Rattle.std.proofs.Common.{◌≡◌, ◌≢◌, ℕ, zero, suc, ◌≤◌, ◌==◌, true, false, List, [], ◌∷◌, ◌++◌, take, drop, length, map, refl, sym, subst, ap, ◌∙◌, arith, append_assoc, append-nil, length-append}
-use Rattle.std.specs.Prelude.{not, ◌||◌}
+-- What is passed in strings.
+use Rattle.std.proofs.Common.{◌≡◌, ◌≢◌, ℕ, zero, suc, ◌≤◌, ◌==◌, List, [], ◌∷◌, ◌++◌, take, drop, length, map, refl, sym, ap, ◌∙◌, arith, append_assoc, length-append}
 use Rattle.std.proofs.lemmas.Bool.{cond-true, cond-false, ne_eqb}
 use Rattle.std.proofs.lemmas.List.{map-append, take-append-drop}
 use Rattle.std.proofs.Math.Seq.{drop-append_seam}
@@ -8,8 +7,8 @@ use Rattle.std.specs.List.{flat_map}
 use Rattle.jsonb_spec.specs.Text.StringText.{byte_text}
 use Rattle.text_common.specs.PlainText.{ArePlain}
 use Rattle.text_common.proofs.PlainTexts.{byte_some, no_shorter}
-use Rattle.plain_numbers.specs.Passing.{BeginsWord, Passes, PassesString, is_word_byte}
-use Rattle.plain_numbers.specs.Pieces.{Piece, other, pieces, in_string, is_separator, is_foreign}
+use Rattle.plain_numbers.specs.Passing.{PassesString}
+use Rattle.plain_numbers.specs.Pieces.{Piece, other, pieces, in_string}
 
 -- bytes that are pieces by themselves, behind others
 joined : (front back : List ℕ) (more : List Piece) → map other (front ++ back) ++ more ≡ map other front ++ (map other back ++ more)
@@ -92,40 +91,3 @@ ends_escaped all behind b others s is none e =
 pub is_nil : (bytes : List ℕ) → length bytes ≡ 0 → bytes ≡ []
 is_nil [] e = refl
 is_nil (b ∷ bytes) e = absurd (omega (arith, e))
-
--- ---- outside of strings
-
-pub passes : (all : List ℕ) → Passes all all
-passes all = record { front = []; split = refl; same = refl }
-
-passes_on : (all rest back later : List ℕ) → Passes all rest → rest ≡ back ++ later → pieces rest ≡ map other back ++ pieces later → Passes all later
-passes_on all rest back later s split same = record {
-  front = s.front ++ back;
-  split = s.split ∙ ap (λ r. s.front ++ r) split ∙ sym (append_assoc s.front back later);
-  same = s.same ∙ ap (λ ps. map other s.front ++ ps) same ∙ sym (joined s.front back (pieces later));
-}
-
-quote_same : (b : ℕ) (bytes : List ℕ) → b ≡ 34 → pieces (b ∷ bytes) ≡ other b ∷ in_string bytes
-quote_same b bytes e = cond-true (b == 34) _ _ (ap (λ (n : ℕ). n == 34) e)
-
-pub separator_same : (b : ℕ) (bytes : List ℕ) → b ≢ 34 → is_separator b ≡ true → pieces (b ∷ bytes) ≡ other b ∷ pieces bytes
-separator_same b bytes p h = cond-false (b == 34) _ _ (ne_eqb b 34 p) ∙ cond-true (is_separator b) _ _ h
-
-foreign_same : (b : ℕ) (bytes : List ℕ) → b ≢ 34 → is_separator b ≡ false → is_foreign b ≡ true → pieces (b ∷ bytes) ≡ map other (b ∷ bytes)
-foreign_same b bytes p q h = cond-false (b == 34) _ _ (ne_eqb b 34 p) ∙ cond-false (is_separator b) _ _ q ∙ cond-true (is_foreign b) _ _ h
-
-pub passes_string : (all rest : List ℕ) (b : ℕ) (others later : List ℕ) → Passes all rest → rest ≡ b ∷ others → b ≡ 34 → PassesString others later → Passes all later
-passes_string all rest b others later s is e h =
-    passes_on all rest (b ∷ h.front) later s (is ∙ ap (λ r. b ∷ r) h.split) (ap pieces is ∙ quote_same b others e ∙ ap (λ ps. other b ∷ ps) h.same)
-
-pub passes_separator : (all rest : List ℕ) (b : ℕ) (others : List ℕ) → Passes all rest → rest ≡ b ∷ others → b ≢ 34 → is_separator b ≡ true → Passes all others
-passes_separator all rest b others s is p h = passes_on all rest (b ∷ []) others s is (ap pieces is ∙ separator_same b others p h)
-
-pub passes_all : (all rest : List ℕ) (b : ℕ) (others : List ℕ) → Passes all rest → rest ≡ b ∷ others → b ≢ 34 → is_separator b ≡ false → is_foreign b ≡ true → Passes all []
-passes_all all rest b others s is p q h =
-    passes_on all rest (b ∷ others) [] s (is ∙ sym (append-nil (b ∷ others))) (ap pieces is ∙ foreign_same b others p q h ∙ sym (append-nil (map other (b ∷ others))))
-
-pub begins : (rest : List ℕ) (b : ℕ) (others : List ℕ) → rest ≡ b ∷ others → b ≢ 34 → is_separator b ≡ false → is_foreign b ≡ false → BeginsWord rest
-begins rest b others is p q h =
-    let t : is_word_byte b ≡ true = ap (λ c. not (c || (is_separator b || is_foreign b))) (ne_eqb b 34 p) ∙ ap (λ c. not (c || is_foreign b)) q ∙ ap not h in
-    subst BeginsWord (sym is) t

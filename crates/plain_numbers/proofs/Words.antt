@@ -3,7 +3,7 @@ use Rattle.std.proofs.Common.{◌≡◌, ℕ, suc, ◌+◌, ◌<◌, ◌==◌, B
 use Rattle.std.specs.Prelude.{not, ◌||◌}
 use Rattle.std.specs.List.{prefix_len}
 use Rattle.std.proofs.lemmas.Bool.{cond-true, cond-false}
-use Rattle.plain_numbers.specs.Passing.{is_word_byte, word_length, BeginsWord}
+use Rattle.plain_numbers.specs.Passing.{is_word_byte, word_length}
 use Rattle.plain_numbers.specs.Pieces.{Piece, other, word, pieces, in_string, onto, is_separator, is_foreign}
 
 other_first : (q s f : Bool) (x : ℕ) (a b c d : List Piece) → not (q || (s || f)) ≡ false → (ps : List Piece) × ((if q then other x ∷ a else (if s then other x ∷ b else (if f then other x ∷ c else d))) ≡ other x ∷ ps)
@@ -18,10 +18,10 @@ word_first false true f x a b c d h = absurd (true≢false (sym h))
 word_first false false true x a b c d h = absurd (true≢false (sym h))
 word_first false false false x a b c d h = refl
 
-ends_here : (x : ℕ) (xs : List ℕ) → is_word_byte x ≡ false → (ps : List Piece) × (pieces (x ∷ xs) ≡ other x ∷ ps)
+pub ends_here : (x : ℕ) (xs : List ℕ) → is_word_byte x ≡ false → (ps : List Piece) × (pieces (x ∷ xs) ≡ other x ∷ ps)
 ends_here x xs h = other_first (x == 34) (is_separator x) (is_foreign x) x (in_string xs) (pieces xs) (map other xs) (onto x (pieces xs)) h
 
-goes_on : (x : ℕ) (xs : List ℕ) → is_word_byte x ≡ true → pieces (x ∷ xs) ≡ onto x (pieces xs)
+pub goes_on : (x : ℕ) (xs : List ℕ) → is_word_byte x ≡ true → pieces (x ∷ xs) ≡ onto x (pieces xs)
 goes_on x xs h = word_first (x == 34) (is_separator x) (is_foreign x) x (in_string xs) (pieces xs) (map other xs) (onto x (pieces xs)) h
 
 -- a word, and what stands behind it
@@ -48,8 +48,3 @@ word_stands (b ∷ bytes) len e some = by (is_word_byte b) refl
         let n : suc (prefix_len is_word_byte bytes) ≡ len = omega (arith, e, cond-true (is_word_byte b) (1 + prefix_len is_word_byte bytes) 0 h) in
         run_from b bytes h ∙ ap (λ (m : ℕ). parted m (b ∷ bytes)) n
     by false h = absurd (omega (arith, e, some, cond-false (is_word_byte b) (1 + prefix_len is_word_byte bytes) 0 h))
-
-pub no_word : (bytes : List ℕ) → BeginsWord bytes → word_length bytes ≡ 0 → bytes ≡ []
-unfolding word_length
-no_word [] begins none = refl
-no_word (b ∷ bytes) begins none = absurd (omega (arith, none, cond-true (is_word_byte b) (1 + prefix_len is_word_byte bytes) 0 begins))

@@ -1,18 +1,22 @@
 -- A text that is written out piece by piece.
-use Rattle.std.proofs.Common.{◌≡◌, ℕ, ◌+◌, ◌-◌, ◌<◌, ◌≤◌, Bool, true, false, Option, Some, None, Result, Ok, Err, List, [], ◌∷◌, ◌++◌, take, drop, length, map, if◌then◌else◌, refl, sym, subst, ap, ◌∙◌, arith, append_assoc, append-nil, length-append}
-use Rattle.std.specs.Prelude.{IsErrAnd, IfErr, Vec, vec_len, vec_capacity, option_map}
+use Rattle.std.proofs.Common.{◌≡◌, ℕ, ◌+◌, ◌-◌, ◌<◌, ◌≤◌, Bool, true, false, Option, Some, None, Result, Ok, Err, List, [], ◌∷◌, ◌++◌, take, drop, length, if◌then◌else◌, refl, sym, subst, ap, ◌∙◌, arith, append_assoc, append-nil, length-append}
+use Rattle.std.specs.Prelude.{IsErrAnd, IfErr, IfNone, IfSome, Vec, vec_len, vec_capacity, option_map}
 use Rattle.std.specs.declared.alloc.Global.{Global}
 use Rattle.std.proofs.lemmas.Bool.{cond-true, cond-false}
+use Rattle.std.proofs.lemmas.List.{take-append-drop}
+use Rattle.std.specs.List.{AllByRecursion, flat_map}
 use Rattle.std.specs.Option.{is_some}
 use Rattle.jsonb_spec.specs.Text.NumberText.{number_text}
 use Rattle.plain_numbers.specs.declared.error.PlainError.{PlainError}
 use Rattle.plain_numbers.specs.declared.error.PlainError.TheVariants.{DoesNotFit, OutOfMemory}
 use Rattle.plain_numbers.specs.Exponent.{Parts, parts_of, exact_value, fits}
 use Rattle.plain_numbers.specs.Expansion.{plain_of, plain, before, plain_before, expanded_at, expanded, have_exponent, AppendsExpanded, Explains}
-use Rattle.plain_numbers.specs.Passing.{Passes, BeginsWord, word_length}
-use Rattle.plain_numbers.specs.Pieces.{Piece, other, word, pieces}
+use Rattle.plain_numbers.specs.Passing.{LacksExponent, Passes, word_length}
+use Rattle.plain_numbers.specs.Pieces.{Piece, other, word, piece_bytes, pieces}
+use Rattle.plain_numbers.specs.View.{parts_view, FindsNumber}
 use Rattle.plain_numbers.specs.Writing.{Keeps, WritesPlain, WritesWord}
-use Rattle.plain_numbers.proofs.Words.{word_stands, no_word}
+use Rattle.plain_numbers.specs.declared.scan.Found.{Found}
+use Rattle.plain_numbers.proofs.Words.{word_stands}
 
 -- ---- what is kept
 
@@ -28,41 +32,35 @@ keeps_on old now new p q = record {
   capacity = omega (arith, p.capacity, q.capacity);
 }
 
--- ---- a word
+-- ---- a number
+
+-- a word with these parts, as the code has them
+pub plain_known : (bytes : List ℕ) (p : Parts) → Some p ≡ parts_of bytes → plain bytes ≡ plain_of (Some p) []
+unfolding plain
+plain_known bytes p e = ap (λ q. plain_of q bytes) (sym e)
 
 pub plain_none : (bytes : List ℕ) → None ≡ parts_of bytes → plain bytes ≡ Some bytes
 unfolding plain
 plain_none bytes e = ap (λ p. plain_of p bytes) (sym e)
 
-plain_long : (bytes : List ℕ) (p : Parts) → Some p ≡ parts_of bytes → fits (exact_value p) ≡ false → plain bytes ≡ None
-unfolding plain
-plain_long bytes p e h = ap (λ q. plain_of q bytes) (sym e) ∙ cond-false (fits (exact_value p)) _ _ h
-
 pub plain_short : (bytes : List ℕ) (p : Parts) → Some p ≡ parts_of bytes → fits (exact_value p) ≡ true → plain bytes ≡ Some (number_text (exact_value p))
-unfolding plain
-plain_short bytes p e h = ap (λ q. plain_of q bytes) (sym e) ∙ cond-true (fits (exact_value p)) _ _ h
+plain_short bytes p e h = plain_known bytes p e ∙ cond-true (fits (exact_value p)) _ _ h
 
-as_plain : (bytes : List ℕ) (p : Option (List ℕ)) (offset : ℕ) (r : Result (Unit {0}) PlainError) (old new : Vec ℕ Global) → plain bytes ≡ p → WritesPlain p offset r old new → Keeps old new → WritesWord (plain bytes) offset r old new
-as_plain bytes p offset r old new e w k = subst (λ q. WritesWord q offset r old new) (sym e) (record { writes = w; keeps = k })
+as_plain : (q p : Option (List ℕ)) (offset : ℕ) (r : Result (Unit {0}) PlainError) (old new : Vec ℕ Global) → q ≡ p → WritesPlain p offset r old new → Keeps old new → WritesWord q offset r old new
+as_plain q p offset r old new e w k = subst (λ q. WritesWord q offset r old new) (sym e) (record { writes = w; keeps = k })
 
 full_writes : (text : List ℕ) (offset : ℕ) (r : Result (Unit {0}) PlainError) (old new : Vec ℕ Global) → IsErrAnd r (λ e. e ≡ OutOfMemory) → vec_capacity old < vec_len old + length text → WritesPlain (Some text) offset r old new
 full_writes text offset (Ok x) old new h full = absurd h
 full_writes text offset (Err e) old new h full = (h, full)
 
-pub word_full : (bytes : List ℕ) (offset : ℕ) (r : Result (Unit {0}) PlainError) (old new : Vec ℕ Global) → None ≡ parts_of bytes → IsErrAnd r (λ e. e ≡ OutOfMemory) → vec_capacity old < vec_len old + length bytes → new.items ≡ old.items → vec_capacity old ≤ vec_capacity new → WritesWord (plain bytes) offset r old new
-word_full bytes offset r old new e h full same c = as_plain bytes (Some bytes) offset r old new (plain_none bytes e) (full_writes bytes offset r old new h full) (kept_same old new same c)
+pub number_long : (p : Parts) (offset : ℕ) (old : Vec ℕ Global) → fits (exact_value p) ≡ false → WritesWord (plain_of (Some p) []) offset (Err (DoesNotFit offset)) old old
+number_long p offset old h = as_plain _ None offset (Err (DoesNotFit offset)) old old (cond-false (fits (exact_value p)) _ _ h) refl (kept_same old old refl (omega arith))
 
-pub word_copied : (bytes : List ℕ) (offset : ℕ) (old new : Vec ℕ Global) → None ≡ parts_of bytes → new.items ≡ old.items ++ bytes → vec_capacity old ≤ vec_capacity new → WritesWord (plain bytes) offset (Ok tt) old new
-word_copied bytes offset old new e items c = as_plain bytes (Some bytes) offset (Ok tt) old new (plain_none bytes e) items (kept_more old new bytes items c)
+pub number_full : (p : Parts) (offset : ℕ) (r : Result (Unit {0}) PlainError) (old new : Vec ℕ Global) (text : List ℕ) → fits (exact_value p) ≡ true → text ≡ number_text (exact_value p) → IsErrAnd r (λ e. e ≡ OutOfMemory) → vec_capacity old < vec_len old + length text → new.items ≡ old.items → vec_capacity old ≤ vec_capacity new → WritesWord (plain_of (Some p) []) offset r old new
+number_full p offset r old new text fit is h full same c = as_plain _ (Some text) offset r old new (cond-true (fits (exact_value p)) _ _ fit ∙ ap Some (sym is)) (full_writes text offset r old new h full) (kept_same old new same c)
 
-pub word_long : (bytes : List ℕ) (offset : ℕ) (p : Parts) (old : Vec ℕ Global) → Some p ≡ parts_of bytes → fits (exact_value p) ≡ false → WritesWord (plain bytes) offset (Err (DoesNotFit offset)) old old
-word_long bytes offset p old e h = as_plain bytes None offset (Err (DoesNotFit offset)) old old (plain_long bytes p e h) refl (kept_same old old refl (omega arith))
-
-pub number_full : (bytes : List ℕ) (offset : ℕ) (p : Parts) (r : Result (Unit {0}) PlainError) (old new : Vec ℕ Global) (text : List ℕ) → Some p ≡ parts_of bytes → fits (exact_value p) ≡ true → text ≡ number_text (exact_value p) → IsErrAnd r (λ e. e ≡ OutOfMemory) → vec_capacity old < vec_len old + length text → new.items ≡ old.items → vec_capacity old ≤ vec_capacity new → WritesWord (plain bytes) offset r old new
-number_full bytes offset p r old new text e fit is h full same c = as_plain bytes (Some text) offset r old new (plain_short bytes p e fit ∙ ap Some (sym is)) (full_writes text offset r old new h full) (kept_same old new same c)
-
-pub number_written : (bytes : List ℕ) (offset : ℕ) (p : Parts) (old new : Vec ℕ Global) (text : List ℕ) → Some p ≡ parts_of bytes → fits (exact_value p) ≡ true → text ≡ number_text (exact_value p) → new.items ≡ old.items ++ text → vec_capacity old ≤ vec_capacity new → WritesWord (plain bytes) offset (Ok tt) old new
-number_written bytes offset p old new text e fit is items c = as_plain bytes (Some text) offset (Ok tt) old new (plain_short bytes p e fit ∙ ap Some (sym is)) items (kept_more old new text items c)
+pub number_written : (p : Parts) (offset : ℕ) (old new : Vec ℕ Global) (text : List ℕ) → fits (exact_value p) ≡ true → text ≡ number_text (exact_value p) → new.items ≡ old.items ++ text → vec_capacity old ≤ vec_capacity new → WritesWord (plain_of (Some p) []) offset (Ok tt) old new
+number_written p offset old new text fit is items c = as_plain _ (Some text) offset (Ok tt) old new (cond-true (fits (exact_value p)) _ _ fit ∙ ap Some (sym is)) items (kept_more old new text items c)
 
 -- ---- a text
 
@@ -70,14 +68,19 @@ pub before_before : (a b : List ℕ) (r : Result (List ℕ) ℕ) → before a (b
 before_before a b (Ok text) = ap Ok (sym (append_assoc a b text))
 before_before a b (Err offset) = refl
 
-pub others_before : (front : List ℕ) (more : List Piece) (offset later : ℕ) → later ≡ offset + length front → expanded_at offset (map other front ++ more) ≡ before front (expanded_at later more)
-others_before [] more offset later e = nothing (expanded_at offset more) (expanded_at later more) (ap (λ (n : ℕ). expanded_at n more) (omega (arith, e)))
-  where
-    nothing : (r s : Result (List ℕ) ℕ) → r ≡ s → r ≡ before [] s
-    nothing r (Ok text) is = is
-    nothing r (Err at) is = is
-others_before (b ∷ front) more offset later e =
-    ap (before (b ∷ [])) (others_before front more (offset + 1) later (omega (arith, e))) ∙ before_before (b ∷ []) front (expanded_at later more)
+pub nothing_before : (r s : Result (List ℕ) ℕ) → r ≡ s → r ≡ before [] s
+nothing_before r (Ok text) is = is
+nothing_before r (Err at) is = is
+
+-- pieces that are no numbers with an exponent
+pub lacking_before : (front : List Piece) (more : List Piece) (offset later : ℕ) → AllByRecursion LacksExponent front → later ≡ offset + length (flat_map piece_bytes front) → expanded_at offset (front ++ more) ≡ before (flat_map piece_bytes front) (expanded_at later more)
+lacking_before [] more offset later h e = nothing_before _ _ (ap (λ (n : ℕ). expanded_at n more) (omega (arith, e)))
+lacking_before (other b ∷ front) more offset later h e =
+    ap (before (b ∷ [])) (lacking_before front more (offset + 1) later h.1 (omega (arith, e))) ∙ before_before (b ∷ []) (flat_map piece_bytes front) (expanded_at later more)
+lacking_before (word w ∷ front) more offset later h e =
+    ap (λ p. plain_before (offset + length w) p (expanded_at (offset + length w) (front ++ more))) (plain_none w (sym h.0))
+    ∙ ap (before w) (lacking_before front more (offset + length w) later h.1 (omega (arith, e, length-append w (flat_map piece_bytes front))))
+    ∙ before_before w (flat_map piece_bytes front) (expanded_at later more)
 
 -- So much is written of the text, and the rest is left.
 pub record WrittenTo (text rest old now : List ℕ) : Type 0 where
@@ -87,26 +90,25 @@ pub record WrittenTo (text rest old now : List ℕ) : Type 0 where
   pub within : length rest ≤ length text
 
 pub nothing_written : (text old : List ℕ) → WrittenTo text text old old
-nothing_written text old = record { written = []; items = sym (append-nil old); same = start (expanded text) (expanded_at (length text - length text) (pieces text)) (ap (λ (n : ℕ). expanded_at n (pieces text)) (omega arith)); within = omega arith }
-  where
-    start : (r s : Result (List ℕ) ℕ) → r ≡ s → r ≡ before [] s
-    start r (Ok answer) is = is
-    start r (Err at) is = is
+nothing_written text old = record { written = []; items = sym (append-nil old); same = nothing_before (expanded text) (expanded_at (length text - length text) (pieces text)) (ap (λ (n : ℕ). expanded_at n (pieces text)) (omega arith)); within = omega arith }
 
-gap_same : (text rest words old now : List ℕ) (w : WrittenTo text rest old now) (p : Passes rest words) → expanded text ≡ before (w.written ++ p.front) (expanded_at (length text - length words) (pieces words))
+gap_same : (text rest words old now : List ℕ) (w : WrittenTo text rest old now) (p : Passes rest words) → expanded text ≡ before (w.written ++ flat_map piece_bytes p.front) (expanded_at (length text - length words) (pieces words))
 gap_same text rest words old now w p =
+    let bytes = flat_map piece_bytes p.front in
     w.same
     ∙ ap (λ ps. before w.written (expanded_at (length text - length rest) ps)) p.same
-    ∙ ap (before w.written) (others_before p.front (pieces words) (length text - length rest) (length text - length words) (omega (arith, w.within, ap length p.split, length-append p.front words)))
-    ∙ before_before w.written p.front (expanded_at (length text - length words) (pieces words))
+    ∙ ap (before w.written) (lacking_before p.front (pieces words) (length text - length rest) (length text - length words) p.lack (omega (arith, w.within, ap length p.split, length-append bytes words)))
+    ∙ before_before w.written bytes (expanded_at (length text - length words) (pieces words))
 
-pub gap_written : (text rest words old now new gap : List ℕ) → WrittenTo text rest old now → (p : Passes rest words) → gap ≡ p.front → new ≡ now ++ gap → WrittenTo text words old new
-gap_written text rest words old now new gap w p is items = record {
-  written = w.written ++ p.front;
-  items = items ∙ ap (λ g. now ++ g) is ∙ ap (λ n. n ++ p.front) w.items ∙ append_assoc old w.written p.front;
-  same = gap_same text rest words old now w p;
-  within = omega (arith, w.within, ap length p.split, length-append p.front words);
-}
+pub gap_written : (text rest words old now new gap : List ℕ) → WrittenTo text rest old now → (p : Passes rest words) → gap ≡ flat_map piece_bytes p.front → new ≡ now ++ gap → WrittenTo text words old new
+gap_written text rest words old now new gap w p is items =
+    let bytes = flat_map piece_bytes p.front in
+    record {
+      written = w.written ++ bytes;
+      items = items ∙ ap (λ g. now ++ g) is ∙ ap (λ n. n ++ bytes) w.items ∙ append_assoc old w.written bytes;
+      same = gap_same text rest words old now w p;
+      within = omega (arith, w.within, ap length p.split, length-append bytes words);
+    }
 
 size : Result (List ℕ) ℕ → ℕ
 size (Ok text) = length text
@@ -117,11 +119,12 @@ unfolding size
 ok_front front (Ok text) answer e = omega (arith, ap size e, length-append front text)
 ok_front front (Err at) answer e = absurd (cc)
 
--- no room for the bytes before the next word
-pub gap_full : (text rest words : List ℕ) (old now : Vec ℕ Global) (gap : List ℕ) → WrittenTo text rest old.items now.items → (p : Passes rest words) → gap ≡ p.front → vec_capacity old ≤ vec_capacity now → vec_capacity now < vec_len now + length gap → Explains text old OutOfMemory
+-- no room for the bytes before the next number
+pub gap_full : (text rest words : List ℕ) (old now : Vec ℕ Global) (gap : List ℕ) → WrittenTo text rest old.items now.items → (p : Passes rest words) → gap ≡ flat_map piece_bytes p.front → vec_capacity old ≤ vec_capacity now → vec_capacity now < vec_len now + length gap → Explains text old OutOfMemory
 gap_full text rest words old now gap w p is c full = λ answer e.
-    let long = ok_front (w.written ++ p.front) _ answer (sym (gap_same text rest words old.items now.items w p) ∙ e) in
-    omega (arith, long, full, c, ap length is, ap length w.items, length-append old.items w.written, length-append w.written p.front, old.ok.0, now.ok.0)
+    let bytes = flat_map piece_bytes p.front in
+    let long = ok_front (w.written ++ bytes) _ answer (sym (gap_same text rest words old.items now.items w p) ∙ e) in
+    omega (arith, long, full, c, ap length is, ap length w.items, length-append old.items w.written, length-append w.written bytes, old.ok.0, now.ok.0)
 
 word_same : (text words behind old now : List ℕ) (len : ℕ) (bytes : List ℕ) (w : WrittenTo text words old now) → len ≡ word_length words → 0 < len → bytes ≡ take len words → behind ≡ drop len words → expanded text ≡ before w.written (plain_before (length text - length words + length bytes) (plain bytes) (expanded_at (length text - length words + length bytes) (pieces behind)))
 word_same text words behind old now len bytes w e some front back =
@@ -152,38 +155,57 @@ word_written text words behind old now new len offset bytes x w e some front bac
       within = omega (arith, sum, w.within);
     }
 
--- no word is left
-pub all_written : (text words old now : List ℕ) (len : ℕ) → WrittenTo text words old now → BeginsWord words → len ≡ word_length words → len ≡ 0 → AppendsExpanded text old now
-all_written text words old now len w begins e none =
-    let nil = no_word words begins (sym e ∙ none) in
-    (w.written ++ [], w.same ∙ ap (λ ws. before w.written (expanded_at (length text - length words) (pieces ws))) nil, w.items ∙ ap (λ t. old ++ t) (sym (append-nil w.written)))
+-- ---- the number that was found
+
+behind_is : (found : Found) (text : List ℕ) (behind : List ℕ) → FindsNumber text found → behind ≡ drop found.len found.from.now → length (take found.len found.from.now) + length behind ≡ length found.from.now
+behind_is found text behind f is = omega (arith, ap length is, length-append (take found.len found.from.now) (drop found.len found.from.now), ap length (take-append-drop found.len found.from.now))
+
+pub found_failed : (text rest behind : List ℕ) (found : Found) (old now new : Vec ℕ Global) (offset : ℕ) (error : PlainError) → FindsNumber rest found → WrittenTo text found.from.now old.items now.items → behind ≡ drop found.len found.from.now → offset ≡ length text - length behind → vec_capacity old ≤ vec_capacity now → WritesPlain (plain_of (Some (parts_view found.parts)) []) offset (Err error) now new → Explains text old error
+found_failed text rest behind found old now new offset error f w is at c h =
+    let bytes = take found.len found.from.now in
+    let sum = behind_is found rest behind f is in
+    word_failed text found.from.now behind old now new found.len offset bytes error w f.word f.some refl is (omega (arith, at, sum, w.within)) c
+    (subst (λ p. WritesPlain p offset (Err error) now new) (sym (plain_known bytes (parts_view found.parts) f.parts)) h)
+
+pub found_written : (text rest behind : List ℕ) (found : Found) (old : List ℕ) (now new : Vec ℕ Global) (offset : ℕ) (x : Unit {0}) → FindsNumber rest found → WrittenTo text found.from.now old now.items → behind ≡ drop found.len found.from.now → WritesPlain (plain_of (Some (parts_view found.parts)) []) offset (Ok x) now new → WrittenTo text behind old new.items
+found_written text rest behind found old now new offset x f w is h =
+    let bytes = take found.len found.from.now in
+    word_written text found.from.now behind old now new found.len offset bytes x w f.word f.some refl is (behind_is found rest behind f is)
+    (subst (λ p. WritesPlain p offset (Ok x) now new) (sym (plain_known bytes (parts_view found.parts) f.parts)) h)
+
+-- where no number with an exponent is left, all that is left is written as it is
+pub rest_is : (rest : List ℕ) (p : Passes rest []) → rest ≡ flat_map piece_bytes p.front
+rest_is rest p = p.split ∙ append-nil (flat_map piece_bytes p.front)
+
+pub all_written : (text old now : List ℕ) → WrittenTo text [] old now → AppendsExpanded text old now
+all_written text old now w = (w.written ++ [], w.same, w.items ∙ ap (λ t. old ++ t) (sym (append-nil w.written)))
 
 -- ---- whether there is an exponent
 
-others_none : (front : List ℕ) (more : List Piece) → have_exponent (map other front ++ more) ≡ have_exponent more
-others_none [] more = refl
-others_none (b ∷ front) more = others_none front more
+lacking_none : (front : List Piece) (more : List Piece) → AllByRecursion LacksExponent front → have_exponent (front ++ more) ≡ have_exponent more
+lacking_none [] more h = refl
+lacking_none (other b ∷ front) more h = lacking_none front more h.1
+lacking_none (word w ∷ front) more h = ap (λ p. if is_some p then true else have_exponent (front ++ more)) h.0 ∙ lacking_none front more h.1
 
-pub gap_none : (text rest words : List ℕ) → have_exponent (pieces text) ≡ have_exponent (pieces rest) → Passes rest words → have_exponent (pieces text) ≡ have_exponent (pieces words)
-gap_none text rest words e p = e ∙ ap have_exponent p.same ∙ others_none p.front (pieces words)
+has_none : (text : List ℕ) → Passes text [] → have_exponent (pieces text) ≡ false
+has_none text p = ap have_exponent p.same ∙ lacking_none p.front [] p.lack
 
-pub none_left : (words : List ℕ) (len : ℕ) → BeginsWord words → len ≡ word_length words → len ≡ 0 → have_exponent (pieces words) ≡ false
-none_left words len begins e none = ap (λ ws. have_exponent (pieces ws)) (no_word words begins (sym e ∙ none))
+has_some : (text : List ℕ) (found : Found) → FindsNumber text found → have_exponent (pieces text) ≡ true
+has_some text found f =
+    ap have_exponent f.passes.same ∙ lacking_none f.passes.front (pieces found.from.now) f.passes.lack
+    ∙ ap have_exponent (word_stands found.from.now found.len f.word f.some)
+    ∙ ap (λ p. if is_some p then true else have_exponent (pieces (drop found.len found.from.now))) (sym f.parts)
 
-word_next : (words behind : List ℕ) (len : ℕ) (bytes : List ℕ) (t : Bool) → len ≡ word_length words → 0 < len → bytes ≡ take len words → behind ≡ drop len words → is_some (parts_of bytes) ≡ t → have_exponent (pieces words) ≡ (if t then true else have_exponent (pieces behind))
-word_next words behind len bytes t e some front back h =
-    ap have_exponent (word_stands words len e some ∙ (let f = sym front in let k = sym back in (λ i. word (f i) ∷ pieces (k i)))) ∙ ap (λ b. if b then true else have_exponent (pieces behind)) h
-
-pub word_has : (words behind : List ℕ) (len : ℕ) (bytes : List ℕ) → len ≡ word_length words → 0 < len → bytes ≡ take len words → behind ≡ drop len words → is_some (parts_of bytes) ≡ true → have_exponent (pieces words) ≡ true
-word_has words behind len bytes e some front back h = word_next words behind len bytes true e some front back h
-
-pub word_lacks : (words behind : List ℕ) (len : ℕ) (bytes : List ℕ) → len ≡ word_length words → 0 < len → bytes ≡ take len words → behind ≡ drop len words → is_some (parts_of bytes) ≡ false → have_exponent (pieces words) ≡ have_exponent (pieces behind)
-word_lacks words behind len bytes e some front back h = word_next words behind len bytes false e some front back h
+pub has_either : (text : List ℕ) (r : Option Found) (t : Bool) → IfSome r (λ found. FindsNumber text found) → IfNone r (Passes text []) → t ≡ is_some r → t ≡ have_exponent (pieces text)
+has_either text None t some none e = e ∙ sym (has_none text none)
+has_either text (Some found) t some none e = e ∙ sym (has_some text found some)
 
 pub err_explains : {X : Type 0} (r : Result X PlainError) (text : List ℕ) (old : Vec ℕ Global) (error : PlainError) → IsErrAnd r (λ e. e ≡ error) → Explains text old error → IfErr r (Explains text old)
 err_explains (Ok x) text old error h explains = tt
 err_explains (Err e) text old error h explains = subst (Explains text old) (sym h) explains
 
-pub parts_there : {A B : Type 0} (f : A → B) (r : Option A) (p : Option B) (t : Bool) → option_map f r ≡ p → t ≡ is_some r → is_some p ≡ t
-parts_there f None p t e h = ap is_some (sym e) ∙ sym h
-parts_there f (Some x) p t e h = ap is_some (sym e) ∙ sym h
+pub parts_found : {A : Type 0} (f : A → Parts) (x : A) (p : Option Parts) → option_map f (Some x) ≡ p → Some (f x) ≡ p
+parts_found f x p e = e
+
+pub parts_lack : {A : Type 0} (f : A → Parts) (r : Option A) (p : Option Parts) → option_map f r ≡ p → r ≡ None → p ≡ None
+parts_lack f r p e h = sym e ∙ ap (option_map f) h

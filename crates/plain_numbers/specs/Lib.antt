@@ -1,6 +1,7 @@
 pub mod Exponent
 pub mod Pieces
 pub mod Expansion
+pub mod Masked
 pub mod ErrorText
 pub mod View
 pub mod Passing

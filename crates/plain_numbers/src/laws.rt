@@ -1,6 +1,6 @@
 //! What is known of texts whose numbers are written out.
 
-ghost use Rattle.std.specs.Prelude.{◌≡◌, ℕ, List, Ok, Some, true, false};
+ghost use Rattle.std.specs.Prelude.{◌≡◌, ℕ, List, length, Ok, Some, true, false};
 ghost use Rattle.std.specs.List.{flat_map};
 ghost use Rattle.jsonb_spec.specs.Grammar.{IsDocument};
 ghost use Rattle.jsonb_spec.specs.Mode.{extended};
@@ -10,6 +10,7 @@ ghost use Rattle.plain_numbers.specs.Documents.{IsTextOf};
 ghost use Rattle.plain_numbers.specs.Exponent.{Parts, parts_of, exact_value, fits};
 ghost use Rattle.plain_numbers.specs.Expansion.{expanded, have_exponent};
 ghost use Rattle.plain_numbers.specs.Laws.{HasParts, IsExactly};
+ghost use Rattle.plain_numbers.specs.Masked.{masked};
 ghost use Rattle.plain_numbers.specs.Pieces.{piece_bytes, pieces};
 
 /// The pieces of a text, one after the other, are the text.
@@ -44,4 +45,9 @@ pub fn plain_numbers_read_back()
 pub fn texts_written_out_are_documents()
     ensures { (text : List ℕ) → (t : Tree) → IsTextOf text t
         → (answer : List ℕ) × (expanded text ≡ Ok answer) × IsDocument extended answer t }
+{}
+
+/// A text whose numbers are masked is as long as the text.
+pub fn masked_texts_are_as_long()
+    ensures { (text : List ℕ) → length (masked text) ≡ length text }
 {}

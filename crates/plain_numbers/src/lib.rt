@@ -9,4 +9,4 @@ mod scan;
 mod write;
 
 pub use error::PlainError;
-pub use write::{has_exponent, write_plain_numbers};
+pub use write::{has_exponent, write_masked_numbers, write_plain_numbers};

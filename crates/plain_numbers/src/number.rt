@@ -1,8 +1,8 @@
 //! Numbers with an exponent, and their exact values.
 
-ghost use Rattle.std.specs.Prelude.{◌≡◌, ◌≤◌, ◌<◌, ◌^◌, ◌+◌, ◌*◌, ℕ, length, option_map, MatchOption, IfSome};
+ghost use Rattle.std.specs.Prelude.{◌≡◌, ◌≤◌, ◌<◌, ◌^◌, ◌+◌, ◌*◌, ◌++◌, ℕ, length, option_map, MatchOption, IfSome};
 ghost use Rattle.std.specs.Option.{SomeIff};
-ghost use Rattle.std.specs.Str.Parse.{AllDigits, digits_value_after};
+ghost use Rattle.std.specs.Str.Parse.{AllDigits, digits_value, digits_value_after};
 ghost use Rattle.std.specs.Char.{IsAsciiDigit, digit_value};
 ghost use Rattle.jsonb_scan.specs.Parsing.Number.{digits_length};
 ghost use Rattle.jsonb_spec.specs.Number.Signed.{signed_by};
@@ -81,8 +81,9 @@ fn with_fraction<'t>(negative: bool, whole: &'t [u8], bytes: &'t [u8]) -> Option
     with_mark(negative, whole, behind, rest)
 }
 
-// `e` or `E`.
-fn is_mark(byte: u8) -> bool
+/// `e` or `E`.
+#[inline(always)]
+pub(crate) fn is_mark(byte: u8) -> bool
     ensures { result ≡ is_mark byte }
 {
     byte == b'e' || byte == b'E'
@@ -166,14 +167,60 @@ fn digits_onto(number: u128, digits: &[u8]) -> Option<u128>
     Some(all)
 }
 
+// 64 bits hold each number of so many digits.
+const SHORT_DIGITS: usize = 19;
+
+// The number that digits write behind those of `number`, which has so many of them.
+#[inline(always)]
+fn short_onto(number: u64, len: usize, digits: &[u8]) -> u64
+    requires digits { AllDigits 10 digits.now }
+    requires few { len + length digits.now ≤ 19 }
+    requires below { number < 10 ^ len }
+    ensures value { result ≡ digits_value_after 10 number digits.now }
+    ensures below { result < 10 ^ (len + length digits.now) }
+{
+    let mut all = number;
+    for digit in digits {
+        all = all * 10 + u64::from(*digit - b'0');
+    }
+    all
+}
+
+// The number that digits write, where 128 bits hold it.
+#[inline(always)]
+fn digits_number(digits: &[u8]) -> Option<u128>
+    requires { AllDigits 10 digits.now }
+    ensures { SomeIff result (digits_value 10 digits.now < 2 ^ 128) (digits_value 10 digits.now) }
+{
+    if digits.len() <= SHORT_DIGITS {
+        return Some(u128::from(short_onto(0, 0, digits)));
+    }
+    digits_onto(0, digits)
+}
+
+// The number that the digits before and behind the point write together, where 128 bits hold it.
+#[inline(always)]
+fn magnitude_of(whole: &[u8], behind: &[u8]) -> Option<u128>
+    requires whole { AllDigits 10 whole.now }
+    requires behind { AllDigits 10 behind.now }
+    ensures { SomeIff result (digits_value 10 (whole.now ++ behind.now) < 2 ^ 128)
+        (digits_value 10 (whole.now ++ behind.now)) }
+{
+    if whole.len() <= SHORT_DIGITS && behind.len() <= SHORT_DIGITS - whole.len() {
+        let before = short_onto(0, 0, whole);
+        return Some(u128::from(short_onto(before, whole.len(), behind)));
+    }
+    digits_onto(digits_onto(0, whole)?, behind)
+}
+
 /// The exact value of a number with an exponent, where it is in range.
 pub(crate) fn exact_number(parts: &Parts<'_>) -> Option<Number>
     requires { AreNumerals parts.now }
     ensures { Makes result (exact_value (parts_view parts.now)) }
 {
-    let magnitude = digits_onto(digits_onto(0, parts.whole)?, parts.behind)?;
+    let magnitude = magnitude_of(parts.whole, parts.behind)?;
     // A number in range is moved by less than that, or it is zero.
-    let exponent = digits_onto(0, parts.exponent).unwrap_or(1 << 100);
+    let exponent = digits_number(parts.exponent).unwrap_or(1 << 100);
     moved(
         parts.negative,
         magnitude,

@@ -1,16 +1,20 @@
 //! A text with its numbers written out.
 
-ghost use Rattle.std.specs.Prelude.{◌≡◌, ◌≤◌, ℕ, IfOk, IfErr, OnErr, MatchOption, true, false};
+ghost use Rattle.std.specs.Prelude.{◌≡◌, ◌≤◌, ◌<◌, ◌+◌, ◌++◌, [], ℕ, length, IfOk, IfErr, IsOk, OnErr, Some, vec_len};
 ghost use Rattle.std.specs.Vec.{vec_capacity};
 ghost use Rattle.jsonb_spec.specs.Tree.{Tree};
 ghost use Rattle.plain_numbers.specs.Documents.{AppendsDocument, IsTextOf};
-ghost use Rattle.plain_numbers.specs.Expansion.{AppendsExpanded, Explains, have_exponent, plain};
+ghost use Rattle.jsonb_spec.specs.Text.Appending.{AppendsAllOrNothing};
+ghost use Rattle.plain_numbers.specs.Expansion.{AppendsExpanded, Explains, have_exponent, plain_of};
+ghost use Rattle.plain_numbers.specs.Exponent.{parts_of};
+ghost use Rattle.plain_numbers.specs.Masked.{masked, masked_word};
 ghost use Rattle.plain_numbers.specs.Pieces.{pieces};
+ghost use Rattle.plain_numbers.specs.View.{parts_view, AreNumerals};
 ghost use Rattle.plain_numbers.specs.Writing.{Keeps, WritesWord};
 
 use crate::error::PlainError;
-use crate::number::{exact_number, parts_of};
-use crate::scan::{from_word, word_len};
+use crate::number::{Parts, exact_number};
+use crate::scan::find_number;
 use jsonb_stored::walk::front;
 use jsonb_value::parts::append_number;
 use std::alloc::AllocError;
@@ -21,19 +25,7 @@ use std::alloc::AllocError;
 pub fn has_exponent(text: &[u8]) -> bool
     ensures { result ≡ have_exponent (pieces text.now) }
 {
-    let mut rest = text;
-    'words: loop {
-        let words = from_word(rest);
-        let len = word_len(words);
-        if len == 0 {
-            return false;
-        }
-        let (word, behind) = words.split_at(len);
-        if parts_of(word).is_some() {
-            return true;
-        }
-        rest = behind;
-    }
+    find_number(text).is_some()
 }
 
 /// Appends a text with each number that has an exponent written out: the decimal of exactly its value, with as many
@@ -79,30 +71,78 @@ fn append_plain(text: &[u8], buf: &mut Vec<u8>) -> Result<(), PlainError>
     ensures keeps { Keeps buf.old buf.new }
 {
     let mut rest = text;
-    'words: loop {
-        let words = from_word(rest);
-        buf.extend_from_slice(front(rest, words))?;
-        let len = word_len(words);
-        if len == 0 {
+    'numbers: loop {
+        let Some(found) = find_number(rest) else {
+            buf.extend_from_slice(rest)?;
             return Ok(());
-        }
-        let (word, behind) = words.split_at(len);
-        append_word(word, text.len() - behind.len(), buf)?;
+        };
+        buf.extend_from_slice(front(rest, found.from))?;
+        let (_, behind) = found.from.split_at(found.len);
+        append_exact(&found.parts, text.len() - behind.len(), buf)?;
         rest = behind;
     }
 }
 
-// Appends a word, written out, which ends before the offset.
-fn append_word(word: &[u8], end: usize, buf: &mut Vec<u8>) -> Result<(), PlainError>
-    ensures { WritesWord (plain word.now) end result buf.old buf.new }
+// Appends a number with an exponent, written out, which ends before the offset.
+fn append_exact(parts: &Parts<'_>, end: usize, buf: &mut Vec<u8>) -> Result<(), PlainError>
+    requires { AreNumerals parts.now }
+    ensures { WritesWord (plain_of (Some (parts_view parts.now)) []) end result buf.old buf.new }
 {
-    let Some(parts) = parts_of(word) else {
-        buf.extend_from_slice(word)?;
-        return Ok(());
-    };
-    let Some(number) = exact_number(&parts) else {
+    let Some(number) = exact_number(parts) else {
         return Err(PlainError::DoesNotFit(end));
     };
     append_number(&number, buf)?;
     Ok(())
+}
+
+/// Appends a text with each number masked that has an exponent and is in range: a zero stands in its place, and as many
+/// spaces as it has bytes more. All other bytes are the same, and each has its offset. So what extended mode rejects in
+/// the text with its numbers written out is rejected in this one at its place in the text.
+///
+/// The time is linear in the text. The only allocations are those of `buf`, and no function calls itself.
+///
+/// # Errors
+///
+/// Where `buf` could not grow. Then it has the same bytes as before.
+pub fn write_masked_numbers(text: &[u8], buf: &mut Vec<u8>) -> Result<(), AllocError>
+    ensures appends { AppendsAllOrNothing result buf.old buf.new (masked text.now) }
+{
+    buf.reserve(text.len())?;
+    append_masked(text, buf)
+}
+
+// Appends the text with its numbers masked, where there is room for it.
+fn append_masked(text: &[u8], buf: &mut Vec<u8>) -> Result<(), AllocError>
+    requires room { vec_len buf.old + length text.now ≤ vec_capacity buf.old }
+    ensures succeeds { IsOk result }
+    ensures items { buf.new.items ≡ buf.old.items ++ masked text.now }
+    ensures capacity { vec_capacity buf.old ≤ vec_capacity buf.new }
+{
+    let mut rest = text;
+    'numbers: loop {
+        let Some(found) = find_number(rest) else {
+            return buf.extend_from_slice(rest);
+        };
+        buf.extend_from_slice(front(rest, found.from))?;
+        let (word, behind) = found.from.split_at(found.len);
+        append_mask(word, &found.parts, buf)?;
+        rest = behind;
+    }
+}
+
+// Appends what stands for a number with an exponent, where there is room for it.
+fn append_mask(word: &[u8], parts: &Parts<'_>, buf: &mut Vec<u8>) -> Result<(), AllocError>
+    requires numerals { AreNumerals parts.now }
+    requires parts { Some (parts_view parts.now) ≡ parts_of word.now }
+    requires some { 0 < length word.now }
+    requires room { vec_len buf.old + length word.now ≤ vec_capacity buf.old }
+    ensures succeeds { IsOk result }
+    ensures items { buf.new.items ≡ buf.old.items ++ masked_word word.now }
+    ensures capacity { vec_capacity buf.old ≤ vec_capacity buf.new }
+{
+    if exact_number(parts).is_none() {
+        return buf.extend_from_slice(word);
+    }
+    buf.push(b'0')?;
+    buf.resize(buf.len() + word.len() - 1, b' ')
 }
