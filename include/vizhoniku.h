@@ -33,7 +33,7 @@ extern "C" {
 
 /* The version of this interface. It grows where a function, a status or a code is added. vizhoniku_version returns that
  * of the library. */
-#define VIZHONIKU_VERSION 6
+#define VIZHONIKU_VERSION 7
 
 uint32_t vizhoniku_version(void);
 
@@ -372,6 +372,33 @@ uint32_t vizhoniku_zeros_of_numbers(const unsigned char *zeros, size_t zeros_siz
  * quotes, all bytes are as they were: so nothing in a comment and in a string in single quotes changes. */
 uint32_t vizhoniku_plain_numbers(const unsigned char *text, size_t text_size, unsigned char *buffer, size_t buffer_size,
                                  size_t *size, struct vizhoniku_refusal *refusal);
+
+/* Writes a text to the start of the buffer with each number masked that vizhoniku_plain_numbers writes out: a 0, and
+ * as many spaces as the number has bytes more. A number that takes more than 38 digits stays as it is. All other bytes
+ * are as they were, and each has its offset. So where VIZHONIKU_EXTENDED rejects the text with its numbers written out,
+ * or a number takes too many digits, the calls over this one tell what is wrong with the place in the text.
+ *
+ *  - VIZHONIKU_ACCEPTED: *size bytes were written, which is text_size. This doesn't say that the text is a document.
+ *  - VIZHONIKU_TOO_SHORT: *size bytes are needed, and nothing was written.
+ *  - VIZHONIKU_OUT_OF_MEMORY: *size is 0, and nothing was written.
+ *
+ * Any bytes may be passed, as to vizhoniku_plain_numbers. */
+uint32_t vizhoniku_masked_numbers(const unsigned char *text, size_t text_size, unsigned char *buffer,
+                                  size_t buffer_size, size_t *size);
+
+/* Writes the path of the part of the text's value at which the text is rejected to the start of the buffer: a JSON
+ * Pointer (RFC 6901), such as /values/17. It is that of the innermost item or member with the fault, and "" where that
+ * is the whole. Where a key is wrong, or missing, it is that of the object, and of a repeated key that of the member.
+ * The refusal is the one of this text and mode. In extended mode numbers with an exponent are passed, so that the text
+ * may be the one that was masked, or the one before it. The text is parsed once more.
+ *
+ *  - VIZHONIKU_ACCEPTED: *size bytes were written, with no zero byte after them, which are UTF-8. The rest of the buffer
+ *    is as before. Zero bytes may be among them, where a key has some.
+ *  - VIZHONIKU_TOO_SHORT: *size bytes are needed, and nothing was written.
+ *  - VIZHONIKU_OUT_OF_MEMORY, VIZHONIKU_UNKNOWN_MODE: *size is 0, and nothing was written. */
+uint32_t vizhoniku_error_path(uint32_t mode, const unsigned char *text, size_t text_size,
+                              const struct vizhoniku_refusal *refusal, unsigned char *buffer, size_t buffer_size,
+                              size_t *size);
 
 #ifdef __cplusplus
 }

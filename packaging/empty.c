@@ -25,6 +25,11 @@ uint32_t proved_zeros_of_numbers(const unsigned char *zeros, size_t zeros_size, 
                                  size_t *plain, unsigned char *buffer, size_t buffer_size, size_t *size);
 uint32_t proved_plain_numbers(const unsigned char *text, size_t text_size, unsigned char *buffer, size_t buffer_size,
                               size_t *size, struct vizhoniku_refusal *refusal);
+uint32_t proved_masked_numbers(const unsigned char *text, size_t text_size, unsigned char *buffer, size_t buffer_size,
+                               size_t *size);
+uint32_t proved_error_path(uint32_t mode, const unsigned char *text, size_t text_size,
+                           const struct vizhoniku_refusal *refusal, unsigned char *buffer, size_t buffer_size,
+                           size_t *size);
 uint32_t proved_key_text(const unsigned char *key, size_t key_size, unsigned char *buffer, size_t buffer_size,
                          size_t *size);
 uint32_t proved_compare(uint32_t mode, const unsigned char *left, size_t left_size, const unsigned char *right,
@@ -103,6 +108,18 @@ uint32_t vizhoniku_plain_numbers(const unsigned char *text, size_t text_size, un
                                  size_t *size, struct vizhoniku_refusal *refusal) {
   return proved_plain_numbers(bytes_at(text, text_size), text_size, buffer_at(buffer, buffer_size), buffer_size, size,
                               refusal);
+}
+
+uint32_t vizhoniku_masked_numbers(const unsigned char *text, size_t text_size, unsigned char *buffer,
+                                  size_t buffer_size, size_t *size) {
+  return proved_masked_numbers(bytes_at(text, text_size), text_size, buffer_at(buffer, buffer_size), buffer_size, size);
+}
+
+uint32_t vizhoniku_error_path(uint32_t mode, const unsigned char *text, size_t text_size,
+                              const struct vizhoniku_refusal *refusal, unsigned char *buffer, size_t buffer_size,
+                              size_t *size) {
+  return proved_error_path(mode, bytes_at(text, text_size), text_size, refusal, buffer_at(buffer, buffer_size),
+                           buffer_size, size);
 }
 
 uint32_t vizhoniku_key_text(const unsigned char *key, size_t key_size, unsigned char *buffer, size_t buffer_size,

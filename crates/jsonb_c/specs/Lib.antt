@@ -5,3 +5,4 @@ pub mod KeyParts
 pub mod KeyText
 pub mod Zeros
 pub mod PlainNumbers
+pub mod Rejected

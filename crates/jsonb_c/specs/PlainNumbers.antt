@@ -1,13 +1,18 @@
--- What the statuses of the call that writes out numbers say.
+-- What the statuses of the calls that write out and mask numbers say.
 use Rattle.std.specs.Prelude.{◌≡◌, ℕ, List, Ok, Err}
 use Rattle.jsonb_c.specs.declared.Refusal.{Refusal}
 use Rattle.plain_numbers.specs.Expansion.{expanded}
+use Rattle.plain_numbers.specs.Masked.{masked}
 use Rattle.plain_numbers.specs.declared.error.PlainError.{PlainError}
 use Rattle.plain_numbers.specs.declared.error.PlainError.TheVariants.{DoesNotFit, OutOfMemory}
 
 -- The bytes are the text with its numbers written out.
 abbrev pub IsPlainText : List ℕ → List ℕ → Type 0
 IsPlainText text bytes = expanded text ≡ Ok bytes
+
+-- The bytes are the text with its numbers masked.
+abbrev pub IsMaskedText : List ℕ → List ℕ → Type 0
+IsMaskedText text bytes = bytes ≡ masked text
 
 -- The number that ends at the position is the first that is not representable.
 pub record IsTooLong (text : List ℕ) (refusal : Refusal) : Type 0 where

@@ -1,10 +1,10 @@
 //! Numbers with an exponent, written out as decimals of exactly the same value.
 ghost use Rattle.std.specs.Prelude.{◌≡◌, ◌⊎◌};
 ghost use Rattle.jsonb_c.specs.Interface.{FillsBuffer, Tells};
-ghost use Rattle.jsonb_c.specs.PlainNumbers.{IsPlainText, IsReported, IsTooLong};
+ghost use Rattle.jsonb_c.specs.PlainNumbers.{IsMaskedText, IsPlainText, IsReported, IsTooLong};
 
 use crate::{ACCEPTED, NOTHING, OUT_OF_MEMORY, REFUSED, Refusal, TOO_SHORT, buffer_of, put};
-use plain_numbers::{PlainError, write_plain_numbers};
+use plain_numbers::{PlainError, write_masked_numbers, write_plain_numbers};
 use std::alloc::Global;
 
 // The code of a number that isn't representable.
@@ -56,6 +56,31 @@ fn tell_number(error: &PlainError, refusal: &mut Refusal) -> u32
         }
         PlainError::OutOfMemory => {
             *refusal = NOTHING;
+            OUT_OF_MEMORY
+        }
+    }
+}
+
+/// Writes the text to the start of `out`, and its size to `size`, with each number masked that has an exponent and is in
+/// range. Where `out` is too short, it stays as it is, and `size` is what is needed.
+#[unsafe(no_mangle)]
+pub extern "C" fn vizhoniku_masked_numbers(
+    alloc: Global,
+    text: &[u8],
+    out: &mut [u8],
+    size: &mut usize,
+) -> u32
+    ensures status { (result ≡ ACCEPTED) ⊎ (result ≡ OUT_OF_MEMORY) ⊎ (result ≡ TOO_SHORT) }
+    ensures fills { FillsBuffer (IsMaskedText text.now) ACCEPTED result size.new out.old out.new }
+{
+    let mut bytes = buffer_of(alloc, text.len());
+    match write_masked_numbers(text, &mut bytes) {
+        Ok(()) => {
+            *size = bytes.len();
+            put(&bytes, out)
+        }
+        Err(_) => {
+            *size = 0;
             OUT_OF_MEMORY
         }
     }

@@ -2,22 +2,12 @@
 ghost use Rattle.std.specs.Prelude.{◌≡◌, [], ◌≤◌, ◌<◌, ◌+◌, ◌-◌, length, take, drop, IfNone, IfSome, if◌then◌else◌, ◌==◌};
 ghost use Rattle.std.specs.Int.{w64, trailing_zeros};
 ghost use Rattle.plain_numbers.specs.Passing.{HasNoStop, LeavesWord, Passes, PassesString, is_stop, is_word_byte, word_length};
-ghost use Rattle.plain_numbers.specs.Pieces.{is_separator, is_foreign};
+ghost use Rattle.plain_numbers.specs.Pieces.{is_foreign};
 ghost use Rattle.plain_numbers.specs.View.{FindsNumber};
 
 use crate::number::{Parts, is_mark, parts_of};
 use std::simd::prelude::*;
 use text_common::plain::plain_len;
-
-// A byte that ends a word.
-#[inline(always)]
-fn is_separator(byte: u8) -> bool
-    ensures { result ≡ is_separator byte }
-{
-    byte < 33
-        || (byte == b','
-            || (byte == b':' || (byte == b'[' || (byte == b']' || (byte == b'{' || byte == b'}')))))
-}
 
 // A byte that stands in no text of RFC 8259 but in strings.
 #[inline(always)]
@@ -27,12 +17,18 @@ fn is_foreign(byte: u8) -> bool
     byte == b'\'' || (byte == b'/' || byte == b'\\')
 }
 
+// The bytes of words below 64, a bit for each.
+const LOW_WORD_BYTES: u64 = 0xfbff_6f7a_0000_0000;
+
 // A byte of a word.
 #[inline(always)]
 fn is_word_byte(byte: u8) -> bool
     ensures { result ≡ is_word_byte byte }
 {
-    !(byte == b'"' || (is_separator(byte) || is_foreign(byte)))
+    if byte < 64 {
+        return (LOW_WORD_BYTES >> byte) & 1 == 1;
+    }
+    !matches!(byte, b'[' | b'\\' | b']' | b'{' | b'}')
 }
 
 // A byte at which the search for a number with an exponent stops: a quote, the letter of an exponent, or a byte that
@@ -210,11 +206,11 @@ pub(crate) fn find_number(text: &[u8]) -> Option<Found<'_>>
         let start = word_start(rest, at);
         let (_, from) = rest.split_at(start);
         let len = at - start + word_len(behind);
-        let (word, later) = from.split_at(len);
+        let (word, after) = from.split_at(len);
         if let Some(parts) = parts_of(word) {
             return Some(Found { from, len, parts });
         }
-        rest = later;
+        rest = after;
         passed = 0;
     }
 }

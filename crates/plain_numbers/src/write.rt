@@ -120,12 +120,12 @@ fn append_masked(text: &[u8], buf: &mut Vec<u8>) -> Result<(), AllocError>
 {
     let mut rest = text;
     'numbers: loop {
-        let Some(found) = find_number(rest) else {
+        let Some(number) = find_number(rest) else {
             return buf.extend_from_slice(rest);
         };
-        buf.extend_from_slice(front(rest, found.from))?;
-        let (word, behind) = found.from.split_at(found.len);
-        append_mask(word, &found.parts, buf)?;
+        buf.extend_from_slice(front(rest, number.from))?;
+        let (word, behind) = number.from.split_at(number.len);
+        append_mask(word, &number.parts, buf)?;
         rest = behind;
     }
 }

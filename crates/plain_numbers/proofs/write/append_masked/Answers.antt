@@ -7,9 +7,9 @@ use Rattle.plain_numbers.proofs.write.append_masked.Goals as goal
 pub numbers-preserved : goal.numbers-preserved
 numbers-preserved c =
     let f = c.in-Some.ensures.found in
-    let gap = gap_masked c.args.text.now c.numbers.rest.now c.in-Some.found.from.now c.args.buf.now.items c.numbers.buf.items c.extend_from_slice-in-numbers.new.self.items c.front.result.now c.numbers.invariant.written f.passes (c.front.ensures _ f.passes.split) c.in_ok-extend_from_slice.ensures.items in
+    let gap = gap_masked c.args.text.now c.numbers.rest.now c.in-Some.number.from.now c.args.buf.now.items c.numbers.buf.items c.extend_from_slice-in-numbers.new.self.items c.front.result.now c.numbers.invariant.written f.passes (c.front.ensures _ f.passes.split) c.in_ok-extend_from_slice.ensures.items in
     record {
-      written = number_masked c.args.text.now c.in-Some.found.from.now c.split_at.result.1.now c.args.buf.now.items c.extend_from_slice-in-numbers.new.self.items c.append_mask.new.buf.items c.in-Some.found.len c.split_at.result.0.now gap f.word f.some c.split_at.ensures.front c.split_at.ensures.back c.in_ok-append_mask.ensures.items;
+      written = number_masked c.args.text.now c.in-Some.number.from.now c.split_at.result.1.now c.args.buf.now.items c.extend_from_slice-in-numbers.new.self.items c.append_mask.new.buf.items c.in-Some.number.len c.split_at.result.0.now gap f.word f.some c.split_at.ensures.front c.split_at.ensures.back c.in_ok-append_mask.ensures.items;
       capacity = omega (arith, c.numbers.invariant.capacity, c.in_ok-extend_from_slice.ensures.capacity, c.in_ok-append_mask.ensures.capacity);
     }
 

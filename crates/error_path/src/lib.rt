@@ -1,0 +1,8 @@
+//! The path of the part of a document's value at which its text is rejected.
+#![tactic(auto)]
+
+mod handler;
+mod path;
+mod steps;
+
+pub use path::{append_path, error_path};

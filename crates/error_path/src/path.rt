@@ -1,0 +1,115 @@
+//! The path of the part at which a text is rejected.
+ghost use Rattle.std.specs.Prelude.{◌≡◌, ◌++◌, List, ℕ, map, string_bytes, IfOk, OnOk};
+ghost use Rattle.jsonb_path.specs.Path.{spelled_byte, spelled_key, spelled_keys, IsPath};
+
+use crate::handler::PassedPart;
+use crate::steps::Steps;
+use jsonb_parse::{Mode, parse_text};
+use jsonb_value::error::{Error, ParseErrorCode};
+use plain_numbers::write_masked_numbers;
+use std::alloc::{AllocError, Global};
+
+/// Appends the path (RFC 6901) of these keys.
+///
+/// # Errors
+///
+/// Where `path` could not grow.
+pub fn append_path(keys: &[String], path: &mut Vec<u8>) -> Result<(), AllocError>
+    ensures { OnOk result (path.new.items ≡ path.old.items ++ spelled_keys (map string_bytes keys.now)) }
+{
+    'keys: for key in keys {
+        path.push(b'/')?;
+        append_key(key.as_bytes(), path)?;
+    }
+    Ok(())
+}
+
+// Appends a key as it is spelled in a path.
+fn append_key(key: &[u8], path: &mut Vec<u8>) -> Result<(), AllocError>
+    ensures { OnOk result (path.new.items ≡ path.old.items ++ spelled_key key.now) }
+{
+    'bytes: for byte in key {
+        append_byte(*byte, path)?;
+    }
+    Ok(())
+}
+
+// Appends a byte of a key as it is spelled in a path.
+#[inline(always)]
+fn append_byte(byte: u8, path: &mut Vec<u8>) -> Result<(), AllocError>
+    ensures { OnOk result (path.new.items ≡ path.old.items ++ spelled_byte byte) }
+{
+    if byte == b'~' {
+        path.extend_from_slice(b"~0")?;
+        return Ok(());
+    }
+    if byte == b'/' {
+        path.extend_from_slice(b"~1")?;
+        return Ok(());
+    }
+    path.push(byte)?;
+    Ok(())
+}
+
+/// The path (RFC 6901) of the part of the text's value at which the text is rejected: the innermost element or member
+/// that has the fault, or the container where that stands between two. In extended mode numbers with an exponent are
+/// passed. The path of a repeated key, which ends before `repeated`, is that of the member. A text that isn't rejected
+/// has the path of the whole.
+///
+/// The text is parsed once more. The time is linear in the text.
+///
+/// # Errors
+///
+/// Where memory ran out.
+pub fn error_path(
+    alloc: Global,
+    text: &[u8],
+    mode: Mode,
+    repeated: Option<usize>,
+) -> Result<Vec<u8>, AllocError>
+    ensures path { IfOk result (λ path. (keys : List (List ℕ)) × IsPath path.items keys) }
+{
+    let passed = passed_text(alloc, text, mode, repeated)?;
+    let mut steps = Steps::new(alloc);
+    let lacks_comma = match parse_text::<PassedPart>(&mut steps, alloc, &passed, mode) {
+        Ok(_) => false,
+        Err(told) => lacks_comma(&told)?,
+    };
+    let keys = steps.into_keys(alloc, lacks_comma)?;
+    let mut path = Vec::new(alloc);
+    append_path(&keys, &mut path)?;
+    Ok(path)
+}
+
+// Whether the error is the lack of a comma, or of the end of a container.
+fn lacks_comma(told: &Option<Error>) -> Result<bool, AllocError> {
+    match told {
+        Some(Error::OutOfMemory) => Err(AllocError),
+        Some(Error::Syntax(
+            ParseErrorCode::ExpectedArrayCommaOrEnd | ParseErrorCode::ExpectedObjectCommaOrEnd,
+            _,
+        )) => Ok(true),
+        _ => Ok(false),
+    }
+}
+
+// The text up to where it is rejected, or all of it, with its numbers masked in extended mode. A byte is put behind it
+// that stands nowhere: where the text ends too early, the parser tells by that byte whether a part had ended.
+fn passed_text(
+    alloc: Global,
+    text: &[u8],
+    mode: Mode,
+    repeated: Option<usize>,
+) -> Result<Vec<u8>, AllocError> {
+    let mut passed = Vec::new(alloc);
+    match mode {
+        Mode::Standard => passed.extend_from_slice(text)?,
+        Mode::Extended => write_masked_numbers(text, &mut passed)?,
+    }
+    if let Some(after) = repeated {
+        passed.truncate(after);
+        passed.push(b':')?;
+    }
+    passed.extend_from_slice(b" \x01")?;
+    Ok(passed)
+}

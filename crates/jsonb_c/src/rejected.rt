@@ -1,0 +1,51 @@
+//! Where in a document's value its text is rejected.
+ghost use Rattle.std.specs.Prelude.{◌≡◌, ◌⊎◌, ◌↔◌, ◌<◌};
+ghost use Rattle.jsonb_c.specs.Interface.{FillsBuffer};
+ghost use Rattle.jsonb_c.specs.Rejected.{IsSomePath};
+
+use crate::{ACCEPTED, OUT_OF_MEMORY, Refusal, TOO_SHORT, UNKNOWN_MODE, choose_mode, put};
+use error_path::error_path;
+use std::alloc::Global;
+
+// The code of a repeated key.
+const OBJECT_DUPLICATE_KEY: u32 = 17;
+
+/// Writes the path (RFC 6901) of the part of the text's value at which the text is rejected to the start of `out`, and
+/// its size to `size`. Where `out` is too short, it stays as it is, and `size` is what is needed.
+#[unsafe(no_mangle)]
+pub extern "C" fn vizhoniku_error_path(
+    alloc: Global,
+    mode: u32,
+    text: &[u8],
+    refusal: &Refusal,
+    out: &mut [u8],
+    size: &mut usize,
+) -> u32
+    ensures status { (result ≡ ACCEPTED) ⊎ (result ≡ OUT_OF_MEMORY) ⊎ (result ≡ TOO_SHORT) ⊎ (result ≡ UNKNOWN_MODE) }
+    ensures mode { result ≡ UNKNOWN_MODE ↔ 1 < mode }
+    ensures fills { FillsBuffer IsSomePath ACCEPTED result size.new out.old out.new }
+{
+    let Some(mode) = choose_mode(mode) else {
+        *size = 0;
+        return UNKNOWN_MODE;
+    };
+    match error_path(alloc, text, mode, repeated(refusal)) {
+        Ok(path) => {
+            *size = path.len();
+            put(&path, out)
+        }
+        Err(_) => {
+            *size = 0;
+            OUT_OF_MEMORY
+        }
+    }
+}
+
+// The offset after the repeated key, where the error is one.
+fn repeated(refusal: &Refusal) -> Option<usize> {
+    if refusal.code == OBJECT_DUPLICATE_KEY {
+        Some(refusal.position)
+    } else {
+        None
+    }
+}
