@@ -23,7 +23,6 @@
 #include "catalog/pg_statistic.h"
 #include "catalog/pg_type.h"
 #include "commands/vacuum.h"
-#include "common/hashfn.h"
 #include "fmgr.h"
 #include "miscadmin.h"
 #include "utils/array.h"
@@ -48,9 +47,6 @@
 /* How much of the sample is looked at: bytes of documents, and entries. */
 #define MOST_BYTES		((Size) 64 * 1024 * 1024)
 #define MOST_ENTRIES	((size_t) 4 * 1024 * 1024)
-
-/* What distinguishes the hash of a name that ? looks for from an entry. */
-#define NAME_SEED		UINT64CONST(0x6E616D65)
 
 /* What is expected where nothing is known, as matchingsel has it. */
 #define DEFAULT_SHARE	0.010
@@ -109,32 +105,11 @@ sort_hashes(Hashes *hashes)
 	hashes->count = kept + 1;
 }
 
-/* The hash of a name as it stands in a key. */
-static int32
-hash_of_name(Range name)
-{
-	return (int32) hash_bytes_extended(name.at, (int) name.size, NAME_SEED);
-}
-
-/* Add the names that ? finds: of members, and strings that are items or the document itself. */
 static void
-add_names(Hashes *hashes, Range key)
+add_all(Hashes *hashes, const Datum *entries, int32 count)
 {
-	uint32		kind = kind_of(key);
-	Range		name;
-	Walk		walk;
-
-	if (kind == VIZHONIKU_STRING)
-		add_hash(hashes, hash_of_name((Range) {key.at + 1, key.size - 1}));
-	if (is_scalar(kind))
-		return;
-	begin_walk(&walk, key);
-	while (next_in_walk(&walk))
-	{
-		CHECK_FOR_INTERRUPTS();
-		if (name_in_walk(&walk, &name))
-			add_hash(hashes, hash_of_name(name));
-	}
+	for (int32 i = 0; i < count; i++)
+		add_hash(hashes, DatumGetInt32(entries[i]));
 }
 
 static void
@@ -143,16 +118,16 @@ add_entries(Hashes *hashes, Datum document)
 	int32		count;
 	Datum	   *entries = vjson_entries(document, &count);
 
-	for (int32 i = 0; i < count; i++)
-		add_hash(hashes, DatumGetInt32(entries[i]));
+	add_all(hashes, entries, count);
 }
 
 static void
 add_names_of(Hashes *hashes, Datum document)
 {
-	VjsonParts	parts;
+	int32		count;
+	Datum	   *entries = vjson_name_entries(document, &count);
 
-	add_names(hashes, get_whole((struct varlena *) PG_DETOAST_DATUM_PACKED(document), &parts));
+	add_all(hashes, entries, count);
 }
 
 
@@ -409,7 +384,7 @@ share_by_entries(const AttStatsSlot *kept, const char *operator, bool is_left, c
 	if (!is_left || operator[0] != '?')
 		return false;
 	if (operator[1] == '\0')
-		add_hash(&hashes, hash_of_name(name_as_in_key(DatumGetTextPP(other->constvalue))));
+		add_hash(&hashes, vjson_name_entry(name_as_in_key(DatumGetTextPP(other->constvalue))));
 	else
 	{
 		Datum	   *names;
@@ -420,7 +395,7 @@ share_by_entries(const AttStatsSlot *kept, const char *operator, bool is_left, c
 		for (int i = 0; i < count; i++)
 		{
 			if (!nulls[i])
-				add_hash(&hashes, hash_of_name(name_as_in_key(DatumGetTextPP(names[i]))));
+				add_hash(&hashes, vjson_name_entry(name_as_in_key(DatumGetTextPP(names[i]))));
 		}
 		sort_hashes(&hashes);
 	}

@@ -225,3 +225,30 @@ key_zeros_take(KeyZerosReader *reader, size_t numbers, KeyZeros *into)
 	}
 	return true;
 }
+
+bool
+key_zeros_next(KeyZerosReader *reader, unsigned char *zeros)
+{
+	*zeros = 0;
+	if (reader->zeros == 0)
+	{
+		if (reader->size == 0)
+			return true;		/* the others are plain */
+		if (!read_next_zeros(reader))
+			return false;
+	}
+	if (reader->plain > 0)
+	{
+		reader->plain--;
+		return true;
+	}
+	*zeros = reader->zeros;
+	reader->zeros = 0;
+	return true;
+}
+
+bool
+key_zeros_ended(const KeyZerosReader *reader)
+{
+	return reader->size == 0 && reader->zeros == 0;
+}

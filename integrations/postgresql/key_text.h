@@ -77,4 +77,10 @@ extern void key_zeros_begin(KeyZerosReader *reader, const unsigned char *zeros, 
  */
 extern bool key_zeros_take(KeyZerosReader *reader, size_t numbers, KeyZeros *into);
 
+/* Take the zeros of the next number: how many it has. False if the bytes are no zeros of a key. */
+extern bool key_zeros_next(KeyZerosReader *reader, unsigned char *zeros);
+
+/* Whether those of all numbers were taken that have some. */
+extern bool key_zeros_ended(const KeyZerosReader *reader);
+
 #endif							/* KEY_TEXT_H */

@@ -189,6 +189,163 @@ CREATE OPERATOR CLASS vjson_path_ops DEFAULT FOR TYPE vjson USING gin FAMILY vjs
   STORAGE integer;
 COMMENT ON OPERATOR CLASS vjson_path_ops USING gin IS 'documents by their scalars and the names before them';
 
+-- That with the names that ? finds, as jsonb_ops has for jsonb
+
+CREATE FUNCTION gin_extract_vjson(vjson, internal, internal) RETURNS internal
+  AS 'MODULE_PATHNAME' LANGUAGE C IMMUTABLE STRICT PARALLEL SAFE;
+COMMENT ON FUNCTION gin_extract_vjson(vjson, internal, internal) IS 'GIN support';
+
+CREATE FUNCTION gin_extract_vjson_query(vjson, internal, smallint, internal, internal, internal, internal)
+  RETURNS internal AS 'MODULE_PATHNAME' LANGUAGE C IMMUTABLE STRICT PARALLEL SAFE;
+COMMENT ON FUNCTION gin_extract_vjson_query(vjson, internal, smallint, internal, internal, internal, internal)
+  IS 'GIN support';
+
+CREATE FUNCTION gin_consistent_vjson(internal, smallint, vjson, integer, internal, internal, internal, internal)
+  RETURNS boolean AS 'MODULE_PATHNAME' LANGUAGE C IMMUTABLE STRICT PARALLEL SAFE;
+COMMENT ON FUNCTION gin_consistent_vjson(internal, smallint, vjson, integer, internal, internal, internal, internal)
+  IS 'GIN support';
+
+CREATE FUNCTION gin_triconsistent_vjson(internal, smallint, vjson, integer, internal, internal, internal)
+  RETURNS "char" AS 'MODULE_PATHNAME' LANGUAGE C IMMUTABLE STRICT PARALLEL SAFE;
+COMMENT ON FUNCTION gin_triconsistent_vjson(internal, smallint, vjson, integer, internal, internal, internal)
+  IS 'GIN support';
+
+CREATE OPERATOR FAMILY vjson_ops USING gin;
+COMMENT ON OPERATOR FAMILY vjson_ops USING gin IS 'documents by their scalars and their names';
+
+CREATE OPERATOR CLASS vjson_ops FOR TYPE vjson USING gin FAMILY vjson_ops AS
+  OPERATOR 7 @> (vjson, vjson),
+  OPERATOR 9 ? (vjson, text),
+  OPERATOR 10 ?| (vjson, text[]),
+  OPERATOR 11 ?& (vjson, text[]),
+  OPERATOR 18 = (vjson, vjson),
+  FUNCTION 1 btint4cmp(integer, integer),
+  FUNCTION 2 gin_extract_vjson(vjson, internal, internal),
+  FUNCTION 3 gin_extract_vjson_query(vjson, internal, smallint, internal, internal, internal, internal),
+  FUNCTION 4 gin_consistent_vjson(internal, smallint, vjson, integer, internal, internal, internal, internal),
+  FUNCTION 6 gin_triconsistent_vjson(internal, smallint, vjson, integer, internal, internal, internal),
+  STORAGE integer;
+COMMENT ON OPERATOR CLASS vjson_ops USING gin IS 'documents by their scalars and their names';
+
+-- jsonpath, by jsonb's functions
+
+CREATE FUNCTION vjson_path_exists_opr(vjson, jsonpath) RETURNS boolean
+  AS 'MODULE_PATHNAME' LANGUAGE C IMMUTABLE STRICT PARALLEL SAFE COST 10;
+COMMENT ON FUNCTION vjson_path_exists_opr(vjson, jsonpath) IS 'implementation of @? operator';
+
+CREATE OPERATOR @? (
+  LEFTARG = vjson,
+  RIGHTARG = jsonpath,
+  FUNCTION = vjson_path_exists_opr,
+  RESTRICT = matchingsel,
+  JOIN = matchingjoinsel
+);
+COMMENT ON OPERATOR @? (vjson, jsonpath) IS 'whether a jsonpath finds a part';
+
+CREATE FUNCTION vjson_path_match_opr(vjson, jsonpath) RETURNS boolean
+  AS 'MODULE_PATHNAME' LANGUAGE C IMMUTABLE STRICT PARALLEL SAFE COST 10;
+COMMENT ON FUNCTION vjson_path_match_opr(vjson, jsonpath) IS 'implementation of @@ operator';
+
+CREATE OPERATOR @@ (
+  LEFTARG = vjson,
+  RIGHTARG = jsonpath,
+  FUNCTION = vjson_path_match_opr,
+  RESTRICT = matchingsel,
+  JOIN = matchingjoinsel
+);
+COMMENT ON OPERATOR @@ (vjson, jsonpath) IS 'what the predicate of a jsonpath answers';
+
+CREATE FUNCTION vjson_path_exists(target vjson, path jsonpath, vars vjson DEFAULT '{}',
+    silent boolean DEFAULT false) RETURNS boolean
+  AS 'MODULE_PATHNAME' LANGUAGE C IMMUTABLE STRICT PARALLEL SAFE COST 10;
+COMMENT ON FUNCTION vjson_path_exists(vjson, jsonpath, vjson, boolean) IS 'whether a jsonpath finds a part';
+
+CREATE FUNCTION vjson_path_match(target vjson, path jsonpath, vars vjson DEFAULT '{}',
+    silent boolean DEFAULT false) RETURNS boolean
+  AS 'MODULE_PATHNAME' LANGUAGE C IMMUTABLE STRICT PARALLEL SAFE COST 10;
+COMMENT ON FUNCTION vjson_path_match(vjson, jsonpath, vjson, boolean) IS 'what the predicate of a jsonpath answers';
+
+CREATE FUNCTION vjson_path_query(target vjson, path jsonpath, vars vjson DEFAULT '{}',
+    silent boolean DEFAULT false) RETURNS SETOF vjson
+  AS 'MODULE_PATHNAME' LANGUAGE C IMMUTABLE STRICT PARALLEL SAFE COST 10;
+COMMENT ON FUNCTION vjson_path_query(vjson, jsonpath, vjson, boolean) IS 'the parts that a jsonpath finds';
+
+CREATE FUNCTION vjson_path_query_array(target vjson, path jsonpath, vars vjson DEFAULT '{}',
+    silent boolean DEFAULT false) RETURNS vjson
+  AS 'MODULE_PATHNAME' LANGUAGE C IMMUTABLE STRICT PARALLEL SAFE COST 10;
+COMMENT ON FUNCTION vjson_path_query_array(vjson, jsonpath, vjson, boolean)
+  IS 'an array of the parts that a jsonpath finds';
+
+CREATE FUNCTION vjson_path_query_first(target vjson, path jsonpath, vars vjson DEFAULT '{}',
+    silent boolean DEFAULT false) RETURNS vjson
+  AS 'MODULE_PATHNAME' LANGUAGE C IMMUTABLE STRICT PARALLEL SAFE COST 10;
+COMMENT ON FUNCTION vjson_path_query_first(vjson, jsonpath, vjson, boolean)
+  IS 'the first part that a jsonpath finds, or NULL';
+
+CREATE FUNCTION vjson_path_exists_tz(target vjson, path jsonpath, vars vjson DEFAULT '{}',
+    silent boolean DEFAULT false) RETURNS boolean
+  AS 'MODULE_PATHNAME' LANGUAGE C STABLE STRICT PARALLEL SAFE COST 10;
+COMMENT ON FUNCTION vjson_path_exists_tz(vjson, jsonpath, vjson, boolean)
+  IS 'whether a jsonpath finds a part, with the time zone';
+
+CREATE FUNCTION vjson_path_match_tz(target vjson, path jsonpath, vars vjson DEFAULT '{}',
+    silent boolean DEFAULT false) RETURNS boolean
+  AS 'MODULE_PATHNAME' LANGUAGE C STABLE STRICT PARALLEL SAFE COST 10;
+COMMENT ON FUNCTION vjson_path_match_tz(vjson, jsonpath, vjson, boolean)
+  IS 'what the predicate of a jsonpath answers, with the time zone';
+
+CREATE FUNCTION vjson_path_query_tz(target vjson, path jsonpath, vars vjson DEFAULT '{}',
+    silent boolean DEFAULT false) RETURNS SETOF vjson
+  AS 'MODULE_PATHNAME' LANGUAGE C STABLE STRICT PARALLEL SAFE COST 10;
+COMMENT ON FUNCTION vjson_path_query_tz(vjson, jsonpath, vjson, boolean)
+  IS 'the parts that a jsonpath finds, with the time zone';
+
+CREATE FUNCTION vjson_path_query_array_tz(target vjson, path jsonpath, vars vjson DEFAULT '{}',
+    silent boolean DEFAULT false) RETURNS vjson
+  AS 'MODULE_PATHNAME' LANGUAGE C STABLE STRICT PARALLEL SAFE COST 10;
+COMMENT ON FUNCTION vjson_path_query_array_tz(vjson, jsonpath, vjson, boolean)
+  IS 'an array of the parts that a jsonpath finds, with the time zone';
+
+CREATE FUNCTION vjson_path_query_first_tz(target vjson, path jsonpath, vars vjson DEFAULT '{}',
+    silent boolean DEFAULT false) RETURNS vjson
+  AS 'MODULE_PATHNAME' LANGUAGE C STABLE STRICT PARALLEL SAFE COST 10;
+COMMENT ON FUNCTION vjson_path_query_first_tz(vjson, jsonpath, vjson, boolean)
+  IS 'the first part that a jsonpath finds, or NULL, with the time zone';
+
+-- Text search, by jsonb's functions
+
+CREATE FUNCTION to_tsvector(vjson) RETURNS tsvector
+  AS 'MODULE_PATHNAME', 'vjson_string_to_tsvector' LANGUAGE C STABLE STRICT PARALLEL SAFE COST 100;
+COMMENT ON FUNCTION to_tsvector(vjson) IS 'the words of the strings';
+
+CREATE FUNCTION to_tsvector(regconfig, vjson) RETURNS tsvector
+  AS 'MODULE_PATHNAME', 'vjson_string_to_tsvector_byid' LANGUAGE C IMMUTABLE STRICT PARALLEL SAFE COST 100;
+COMMENT ON FUNCTION to_tsvector(regconfig, vjson) IS 'the words of the strings';
+
+CREATE FUNCTION vjson_to_tsvector(vjson, vjson) RETURNS tsvector
+  AS 'MODULE_PATHNAME' LANGUAGE C STABLE STRICT PARALLEL SAFE COST 100;
+COMMENT ON FUNCTION vjson_to_tsvector(vjson, vjson) IS 'the words of parts of some kinds';
+
+CREATE FUNCTION vjson_to_tsvector(regconfig, vjson, vjson) RETURNS tsvector
+  AS 'MODULE_PATHNAME', 'vjson_to_tsvector_byid' LANGUAGE C IMMUTABLE STRICT PARALLEL SAFE COST 100;
+COMMENT ON FUNCTION vjson_to_tsvector(regconfig, vjson, vjson) IS 'the words of parts of some kinds';
+
+CREATE FUNCTION ts_headline(vjson, tsquery) RETURNS vjson
+  AS 'MODULE_PATHNAME', 'ts_headline_vjson' LANGUAGE C STABLE STRICT PARALLEL SAFE COST 100;
+COMMENT ON FUNCTION ts_headline(vjson, tsquery) IS 'the document with the words that are found marked';
+
+CREATE FUNCTION ts_headline(vjson, tsquery, text) RETURNS vjson
+  AS 'MODULE_PATHNAME', 'ts_headline_vjson_opt' LANGUAGE C STABLE STRICT PARALLEL SAFE COST 100;
+COMMENT ON FUNCTION ts_headline(vjson, tsquery, text) IS 'the document with the words that are found marked';
+
+CREATE FUNCTION ts_headline(regconfig, vjson, tsquery) RETURNS vjson
+  AS 'MODULE_PATHNAME', 'ts_headline_vjson_byid' LANGUAGE C IMMUTABLE STRICT PARALLEL SAFE COST 100;
+COMMENT ON FUNCTION ts_headline(regconfig, vjson, tsquery) IS 'the document with the words that are found marked';
+
+CREATE FUNCTION ts_headline(regconfig, vjson, tsquery, text) RETURNS vjson
+  AS 'MODULE_PATHNAME', 'ts_headline_vjson_byid_opt' LANGUAGE C IMMUTABLE STRICT PARALLEL SAFE COST 100;
+COMMENT ON FUNCTION ts_headline(regconfig, vjson, tsquery, text) IS 'the document with the words that are found marked';
+
 -- Statistics: which entries are in many documents, and what the planner expects by that
 
 CREATE FUNCTION vjson_typanalyze(internal) RETURNS boolean

@@ -110,7 +110,6 @@ PG_FUNCTION_INFO_V1(vjson_get_text);
 PG_FUNCTION_INFO_V1(vjson_from_json);
 PG_FUNCTION_INFO_V1(vjson_from_jsonb);
 PG_FUNCTION_INFO_V1(vjson_to_json);
-PG_FUNCTION_INFO_V1(vjson_to_jsonb);
 PG_FUNCTION_INFO_V1(vjson_eq);
 PG_FUNCTION_INFO_V1(vjson_ne);
 PG_FUNCTION_INFO_V1(vjson_lt);
@@ -1007,14 +1006,20 @@ vjson_from_json(PG_FUNCTION_ARGS)
 }
 
 Datum
-vjson_from_jsonb(PG_FUNCTION_ARGS)
+vjson_of_jsonb(Datum datum)
 {
-	Jsonb	   *jsonb = PG_GETARG_JSONB_P(0);
+	Jsonb	   *jsonb = DatumGetJsonbP(datum);
 	char	   *text = JsonbToCString(NULL, &jsonb->root, VARSIZE(jsonb));
 	struct varlena *value = read_value(text, strlen(text), READ_JSON, NULL);
 
 	pfree(text);
-	PG_RETURN_POINTER(vjson_checked_for_output(value));
+	return PointerGetDatum(vjson_checked_for_output(value));
+}
+
+Datum
+vjson_from_jsonb(PG_FUNCTION_ARGS)
+{
+	PG_RETURN_DATUM(vjson_of_jsonb(PG_GETARG_DATUM(0)));
 }
 
 static char *
@@ -1035,12 +1040,6 @@ Datum
 vjson_to_json(PG_FUNCTION_ARGS)
 {
 	return DirectFunctionCall1(json_in, CStringGetDatum(text_of_argument(PG_GETARG_DATUM(0))));
-}
-
-Datum
-vjson_to_jsonb(PG_FUNCTION_ARGS)
-{
-	return DirectFunctionCall1(jsonb_in, CStringGetDatum(text_of_argument(PG_GETARG_DATUM(0))));
 }
 
 

@@ -103,6 +103,10 @@ extern bool vjson_take_step(Range key, const VjsonStep *step, Range *part);
 /* The entries of a document in a GIN index: hashes of its scalars and of the names that lead to them. */
 extern Datum *vjson_entries(Datum document, int32 *count);
 
+/* The entries of the names that ? finds, and that of a name as it stands in a key. */
+extern Datum *vjson_name_entries(Datum document, int32 *count);
+extern int32 vjson_name_entry(Range name);
+
 /* The part at a path, in which an index may count from the end. False if there is none. */
 extern bool vjson_find_by_steps(Range key, Range path, Range *part);
 
@@ -121,6 +125,32 @@ extern struct varlena *vjson_of_input(const char *text, size_t size);
 
 /* That, but NULL if the text is rejected, and then *why says why. */
 extern struct varlena *vjson_try_input(const char *text, size_t size, VjsonRejection *why);
+
+/* Names in a jsonpath up to which the members of others are left out, and steps. */
+#define MOST_NAMES		16
+#define NO_STEPS		(-2)
+
+/*
+ * Which members of a document are wanted: those of the names, and all that are
+ * within the parts to which the steps lead.  A step leads from an object to its
+ * member of that name, and from an array by its items.  Names are in UTF-8.
+ */
+typedef struct
+{
+	int			count;
+	Range		names[MOST_NAMES];	/* in the order of their bytes; those of the steps are among them */
+	int			steps;			/* NO_STEPS where no part is wanted as a whole */
+	Range		step[MOST_NAMES];
+} VjsonWanted;
+
+/*
+ * A document as a jsonb.  Where it is told which members are wanted others may
+ * be left out, and then it isn't told what is wrong in them.
+ */
+extern Datum vjson_jsonb(Datum document, const VjsonWanted *wanted);
+
+/* A jsonb as a document. */
+extern Datum vjson_of_jsonb(Datum jsonb);
 
 /* The value, which is one that can be written in the encoding of the database; else an error is raised. */
 extern struct varlena *vjson_checked_for_output(struct varlena *value);

@@ -1,0 +1,590 @@
+/*-------------------------------------------------------------------------
+ *
+ * key_jsonb.c
+ *	  The jsonb of a value, from its sort key and its zeros.
+ *
+ * The key is read once, from its first byte to its last, as docs/SORT_KEYS.md
+ * describes it.  Names and strings stay where they are in it until the server
+ * writes the jsonb.  What isn't made so goes by the text that the server reads:
+ * strings with a zero byte or of another encoding, of which it tells what is
+ * wrong, and what is too large for a jsonb.
+ *
+ *-------------------------------------------------------------------------
+ */
+#include "postgres.h"
+
+#include "fmgr.h"
+#include "mb/pg_wchar.h"
+#include "miscadmin.h"
+#include "utils/builtins.h"
+#include "utils/jsonb.h"
+#include "utils/memutils.h"
+#include "utils/numeric.h"
+
+#include "key_walk.h"
+#include "vjson.h"
+
+/* The first bytes of keys, and what ends texts, arrays and objects. */
+#define FALSE_KEY		0x15
+#define TRUE_KEY		0x16
+#define FIRST_NEGATIVE	0x38
+#define LAST_NEGATIVE	0x7E
+#define ZERO			0x80
+#define LAST_POSITIVE	0xC7
+#define OBJECT_KEY		0xD1
+#define ARRAY_KEY		0xD2
+#define NULL_KEY		0xD3
+#define END				0x00
+#define END_OF_TEXT		0x01
+#define ZERO_BYTE		0xFF
+
+/* The exponent of a number: its first byte without digits before the point, and the one that a second byte follows. */
+#define NO_EXPONENT		0xA0
+#define MORE_EXPONENT	0x81
+
+/* Pairs of digits that a number has at most, and digits of which each number is an int64. */
+#define MOST_PAIRS		20
+#define INT64_DIGITS	18
+
+/* The most arrays and objects that are open at once. */
+#define MOST_LEVELS		512
+
+/* Steps that aren't those of a jsonpath. */
+#define OTHER_STEPS		(-1)
+
+/* Parts for which there is room at first, and at most. */
+#define FIRST_ROOM		64
+#define MOST_PARTS		(MaxAllocSize / sizeof(JsonbPair))
+
+/* Members up to which they are sorted by insertion. */
+#define FEW_MEMBERS		24
+
+PG_FUNCTION_INFO_V1(vjson_to_jsonb);
+
+/*
+ * A key that is read.  The parts are those of arrays and objects whose end
+ * isn't reached: where one ends, its parts leave their places for an array of
+ * their own.
+ */
+typedef struct
+{
+	const unsigned char *at;
+	const unsigned char *end;
+	KeyZerosReader zeros;
+	JsonbPair  *parts;			/* items have no key */
+	size_t		count;
+	size_t		room;
+	bool		ascii_alone;	/* whether other strings go by the text */
+	const VjsonWanted *wanted;	/* members; NULL where all are */
+	bool		is_cut;			/* whether it ended before the key did */
+} Reader;
+
+/* An array or an object whose end isn't reached. */
+typedef struct
+{
+	size_t		first;			/* of its parts; it is itself the part before */
+	bool		is_object;
+	int			steps;			/* that led here; OTHER_STEPS where others did */
+} Level;
+
+static const int64 powers_of_ten[INT64_DIGITS + 1] = {
+	INT64CONST(1), INT64CONST(10), INT64CONST(100), INT64CONST(1000), INT64CONST(10000), INT64CONST(100000),
+	INT64CONST(1000000), INT64CONST(10000000), INT64CONST(100000000), INT64CONST(1000000000),
+	INT64CONST(10000000000), INT64CONST(100000000000), INT64CONST(1000000000000), INT64CONST(10000000000000),
+	INT64CONST(100000000000000), INT64CONST(1000000000000000), INT64CONST(10000000000000000),
+	INT64CONST(100000000000000000), INT64CONST(1000000000000000000)
+};
+
+
+/* Whether the key of a number begins so. */
+static inline bool
+is_number(unsigned char first)
+{
+	return first >= FIRST_NEGATIVE && first <= LAST_POSITIVE && first != LAST_NEGATIVE + 1;
+}
+
+
+/*
+ * Scalars
+ */
+
+static inline unsigned char
+next_byte(Reader *reader)
+{
+	if (unlikely(reader->at == reader->end))
+		vjson_raise_corrupted();
+	return *reader->at++;
+}
+
+static bool
+is_ascii(const char *text, int size)
+{
+	for (int i = 0; i < size; i++)
+	{
+		if (IS_HIGHBIT_SET(text[i]))
+			return false;
+	}
+	return true;
+}
+
+/* Take the text of a string or of a name.  False if it is one that goes by the text of the whole. */
+static inline bool
+read_text(Reader *reader, JsonbValue *value)
+{
+	const unsigned char *start = reader->at;
+	const unsigned char *zero = memchr(start, 0, reader->end - start);
+
+	if (unlikely(zero == NULL || zero + 1 == reader->end))
+		vjson_raise_corrupted();
+	if (unlikely(zero[1] != END_OF_TEXT))
+	{
+		if (zero[1] != ZERO_BYTE)
+			vjson_raise_corrupted();
+		return false;
+	}
+	if (unlikely(zero - start > JENTRY_OFFLENMASK))
+		return false;
+	value->type = jbvString;
+	value->val.string.len = (int) (zero - start);
+	value->val.string.val = unconstify(char *, (const char *) start);
+	reader->at = zero + 2;
+	return !reader->ascii_alone || is_ascii(value->val.string.val, value->val.string.len);
+}
+
+/* The number whose key goes from the start to where the reader is, of its text. */
+static Numeric
+numeric_of_text(const Reader *reader, const unsigned char *start, unsigned char zeros)
+{
+	const unsigned char own_zeros[] = {0, zeros};
+	size_t		size;
+	char	   *text = key_text_write(start, reader->at - start, own_zeros, zeros > 0 ? sizeof own_zeros : 0, &size);
+
+	if (text == NULL)
+		vjson_raise_corrupted();
+	return DatumGetNumeric(DirectFunctionCall3(numeric_in, CStringGetDatum(text), ObjectIdGetDatum(InvalidOid),
+											   Int32GetDatum(-1)));
+}
+
+/*
+ * Take a number whose first byte was taken.  One of few digits is made of an
+ * int64 and the digits behind the point.
+ */
+static Numeric
+read_number(Reader *reader)
+{
+	const unsigned char *start = reader->at - 1;
+	unsigned char flipped = *start < ZERO ? 0xFF : 0;
+	unsigned char byte = *start ^ flipped;
+	int			exponent = byte - NO_EXPONENT;
+	int64		digits = 0;
+	int			count = 0;		/* of digits */
+	int			scale;
+	unsigned char zeros;
+
+	if (!key_zeros_next(&reader->zeros, &zeros))
+		vjson_raise_corrupted();
+	if (byte == ZERO)
+		return int64_div_fast_to_numeric(0, zeros);
+	if (byte == MORE_EXPONENT)
+		exponent = (next_byte(reader) ^ flipped) - 0xFF;
+	do
+	{
+		byte = next_byte(reader) ^ flipped;
+		count += 2;
+		if (unlikely(byte >= 200 || count > 2 * MOST_PAIRS))
+			vjson_raise_corrupted();
+		if (count <= INT64_DIGITS)
+			digits = digits * 100 + (byte >> 1);
+	} while (byte & 1);
+	if (count > INT64_DIGITS)
+		return numeric_of_text(reader, start, zeros);
+	if (digits % 10 == 0)
+	{
+		digits /= 10;
+		count--;
+	}
+	/* The zeros that an integer ends in, and those that end a decimal, are digits too. */
+	scale = count - exponent;
+	if (scale < 0)
+	{
+		if (exponent > INT64_DIGITS)
+			return numeric_of_text(reader, start, zeros);
+		digits *= powers_of_ten[-scale];
+		count = exponent;
+		scale = 0;
+	}
+	if (count + zeros > INT64_DIGITS)
+		return numeric_of_text(reader, start, zeros);
+	digits *= powers_of_ten[zeros];
+	scale += zeros;
+	if (flipped)
+		digits = -digits;
+	return scale == 0 ? int64_to_numeric(digits) : int64_div_fast_to_numeric(digits, scale);
+}
+
+
+/*
+ * Arrays and objects
+ */
+
+/* Make room for one part more.  False if there are too many. */
+static bool
+make_room(Reader *reader)
+{
+	JsonbPair  *more;
+
+	if (likely(reader->count < reader->room))
+		return true;
+	if (reader->room == MOST_PARTS)
+		return false;
+	reader->room = Min(2 * reader->room, MOST_PARTS);
+	more = palloc(reader->room * sizeof(JsonbPair));
+	memcpy(more, reader->parts, reader->count * sizeof(JsonbPair));
+	if (reader->count > FIRST_ROOM)
+		pfree(reader->parts);
+	reader->parts = more;
+	return true;
+}
+
+/* The names of an object have the order of their bytes in a key. */
+static void
+check_order(const JsonbValue *before, const JsonbValue *name)
+{
+	int			order = memcmp(before->val.string.val, name->val.string.val,
+							   Min(before->val.string.len, name->val.string.len));
+
+	if (unlikely(order > 0 || (order == 0 && before->val.string.len >= name->val.string.len)))
+		vjson_raise_corrupted();
+}
+
+static int
+compare_places(const void *left, const void *right)
+{
+	uint64		one = *(const uint64 *) left;
+	uint64		other = *(const uint64 *) right;
+
+	return (one > other) - (one < other);
+}
+
+/*
+ * The places of the members in the order of a jsonb: by the length of their
+ * names, and of one length as they are.  Each place has the length before it,
+ * in its higher half.
+ */
+static void
+sort_members(const JsonbPair *members, uint32 count, uint64 *places)
+{
+	bool		is_few = count <= FEW_MEMBERS;
+
+	for (uint32 i = 0; i < count; i++)
+	{
+		uint64		place = ((uint64) members[i].key.val.string.len << 32) | i;
+		uint32		to = i;
+
+		for (; is_few && to > 0 && places[to - 1] > place; to--)
+			places[to] = places[to - 1];
+		places[to] = place;
+	}
+	if (!is_few)
+		qsort(places, count, sizeof(uint64), compare_places);
+}
+
+static void
+make_object(const JsonbPair *members, uint32 count, JsonbValue *value)
+{
+	uint64		few[FEW_MEMBERS];
+	uint64	   *places = count <= FEW_MEMBERS ? few : palloc(count * sizeof(uint64));
+	JsonbPair  *pairs = palloc(Max(count, 1) * sizeof(JsonbPair));
+
+	sort_members(members, count, places);
+	for (uint32 i = 0; i < count; i++)
+		pairs[i] = members[(uint32) places[i]];
+	if (places != few)
+		pfree(places);
+	value->type = jbvObject;
+	value->val.object.nPairs = (int) count;
+	value->val.object.pairs = pairs;
+}
+
+static void
+make_array(const JsonbPair *items, uint32 count, JsonbValue *value)
+{
+	JsonbValue *elements = palloc(Max(count, 1) * sizeof(JsonbValue));
+
+	for (uint32 i = 0; i < count; i++)
+		elements[i] = items[i].value;
+	value->type = jbvArray;
+	value->val.array.nElems = (int) count;
+	value->val.array.elems = elements;
+	value->val.array.rawScalar = false;
+}
+
+/* Whether the array or the object ends here. If so, the bytes of its end are passed. */
+static inline bool
+takes_end(Reader *reader, bool is_object)
+{
+	if (likely(reader->at == reader->end || reader->at[0] != END))
+		return false;
+	if (is_object)
+	{
+		if (reader->end - reader->at < 2 || reader->at[1] != END)
+			return false;		/* a name without bytes */
+		reader->at++;
+	}
+	reader->at++;
+	return true;
+}
+
+/*
+ * What isn't taken
+ */
+
+static void
+pass_text(Reader *reader)
+{
+	const unsigned char *zero;
+
+	do
+	{
+		zero = memchr(reader->at, 0, reader->end - reader->at);
+		if (unlikely(zero == NULL || zero + 1 == reader->end))
+			vjson_raise_corrupted();
+		reader->at = zero + 2;
+	} while (zero[1] == ZERO_BYTE);
+}
+
+/* Pass a number whose first byte was taken. */
+static void
+pass_number(Reader *reader)
+{
+	unsigned char flipped = reader->at[-1] < ZERO ? 0xFF : 0;
+	unsigned char byte = reader->at[-1] ^ flipped;
+
+	if (byte == ZERO)
+		return;
+	if (byte == MORE_EXPONENT)
+		next_byte(reader);
+	while ((next_byte(reader) ^ flipped) & 1)
+		;
+}
+
+/* Pass the value that begins here, with all that is in it. */
+static void
+pass_value(Reader *reader)
+{
+	bool		is_object[MOST_LEVELS];
+	int			levels = 0;
+	size_t		numbers = 0;
+
+	do
+	{
+		unsigned char first;
+
+		CHECK_FOR_INTERRUPTS();
+		if (levels > 0 && takes_end(reader, is_object[levels - 1]))
+		{
+			levels--;
+			continue;
+		}
+		if (levels > 0 && is_object[levels - 1])
+			pass_text(reader);
+		first = next_byte(reader);
+		if (first == STRING_KEY)
+			pass_text(reader);
+		else if (first == OBJECT_KEY || first == ARRAY_KEY)
+		{
+			if (levels == MOST_LEVELS)
+				vjson_raise_corrupted();
+			is_object[levels++] = first == OBJECT_KEY;
+		}
+		else if (is_number(first))
+		{
+			numbers++;
+			pass_number(reader);
+		}
+		else if (first != FALSE_KEY && first != TRUE_KEY && first != NULL_KEY)
+			vjson_raise_corrupted();
+	} while (levels > 0);
+	if (numbers > 0 && !key_zeros_take(&reader->zeros, numbers, NULL))
+		vjson_raise_corrupted();
+}
+
+/* Whether the name that begins here comes after all that are wanted. */
+static bool
+is_past_names(const Reader *reader)
+{
+	size_t		size = reader->end - reader->at;
+	const Range *last = reader->wanted->names + reader->wanted->count - 1;
+	int			order;
+
+	if (reader->wanted->count == 0)
+		return true;
+	order = memcmp(reader->at, last->at, Min(last->size, size));
+	return order > 0 || (order == 0 && last->size < size && reader->at[last->size] != END);
+}
+
+static bool
+is_wanted(const VjsonWanted *wanted, Range name)
+{
+	for (int i = 0; i < wanted->count; i++)
+	{
+		if (same_bytes(wanted->names[i], name))
+			return true;
+	}
+	return false;
+}
+
+/*
+ * Pass the member that begins here, unless it is wanted.  *steps tells how many
+ * steps led to the object, and then how many lead to the member.
+ */
+static bool
+passes_member(Reader *reader, int *steps)
+{
+	Range		name = {reader->at, 0};
+
+	pass_text(reader);
+	name.size = reader->at - 2 - name.at;
+	if (!is_wanted(reader->wanted, name))
+	{
+		pass_value(reader);
+		return true;
+	}
+	reader->at = name.at;
+	*steps = *steps >= 0 && same_bytes(reader->wanted->step[*steps], name) ? *steps + 1 : OTHER_STEPS;
+	return false;
+}
+
+
+/*
+ * Values
+ */
+
+/* Take the value that begins here, if it is a scalar. *opened tells whether it isn't. False if it goes by the text. */
+static inline bool
+read_scalar(Reader *reader, JsonbValue *value, bool *opened)
+{
+	unsigned char first = next_byte(reader);
+
+	switch (first)
+	{
+		case STRING_KEY:
+			return read_text(reader, value);
+		case OBJECT_KEY:
+		case ARRAY_KEY:
+			*opened = true;
+			return true;
+		case FALSE_KEY:
+		case TRUE_KEY:
+			value->type = jbvBool;
+			value->val.boolean = first == TRUE_KEY;
+			return true;
+		case NULL_KEY:
+			value->type = jbvNull;
+			return true;
+		default:
+			if (unlikely(!is_number(first)))
+				vjson_raise_corrupted();
+			value->type = jbvNumeric;
+			value->val.numeric = read_number(reader);
+			return true;
+	}
+}
+
+/* Put the array or the object together that ends here. */
+static void
+close_level(Reader *reader, const Level *level)
+{
+	const JsonbPair *first = reader->parts + level->first;
+	JsonbValue *value = &reader->parts[level->first - 1].value;
+	uint32		count = (uint32) (reader->count - level->first);
+
+	reader->count = level->first;
+	if (level->is_object)
+		make_object(first, count, value);
+	else
+		make_array(first, count, value);
+}
+
+/* Take the item or the member that begins here, as read_scalar takes a value. */
+static bool
+read_part(Reader *reader, const Level *level, bool *opened)
+{
+	JsonbPair  *part;
+
+	if (!make_room(reader))
+		return false;
+	part = reader->parts + reader->count;
+	if (level != NULL && level->is_object)
+	{
+		if (!read_text(reader, &part->key))
+			return false;
+		if (reader->count > level->first)
+			check_order(&part[-1].key, &part->key);
+	}
+	reader->count++;
+	return read_scalar(reader, &part->value, opened);
+}
+
+/* Read the value that begins here, with all that is in it. It is the first part then. False if it goes by the text. */
+static bool
+read_value(Reader *reader)
+{
+	const VjsonWanted *wanted = reader->wanted;
+	Level		levels[MOST_LEVELS + 1];
+	Level	   *level = NULL;	/* the innermost that is open */
+
+	do
+	{
+		bool		opened = false;
+		int			steps = level != NULL ? level->steps : wanted != NULL && wanted->steps != NO_STEPS ? 0 : OTHER_STEPS;
+		bool		chooses = wanted != NULL && level != NULL && level->is_object && steps != wanted->steps;
+
+		CHECK_FOR_INTERRUPTS();
+		reader->is_cut = chooses && level == levels && is_past_names(reader);
+		if (level != NULL && (reader->is_cut || takes_end(reader, level->is_object)))
+		{
+			close_level(reader, level);
+			level = level == levels ? NULL : level - 1;
+			continue;
+		}
+		if (chooses && passes_member(reader, &steps))
+			continue;
+		if (!read_part(reader, level, &opened))
+			return false;
+		if (opened)
+		{
+			level = level == NULL ? levels : level + 1;
+			if (level == levels + MOST_LEVELS)
+				vjson_raise_corrupted();
+			level->first = reader->count;
+			level->is_object = reader->at[-1] == OBJECT_KEY;
+			level->steps = steps;
+		}
+	} while (level != NULL);
+	return true;
+}
+
+Datum
+vjson_jsonb(Datum document, const VjsonWanted *wanted)
+{
+	VjsonParts	parts;
+	Range		key = get_whole((struct varlena *) PG_DETOAST_DATUM_PACKED(document), &parts);
+	JsonbPair	first_parts[FIRST_ROOM];
+	Reader		reader = {.at = key.at, .end = key.at + key.size, .parts = first_parts, .room = FIRST_ROOM,
+	.wanted = wanted};
+
+	reader.ascii_alone = GetDatabaseEncoding() != PG_UTF8;
+	key_zeros_begin(&reader.zeros, parts.rest, parts.form == KEY_AND_ZEROS ? parts.rest_size : 0);
+	if (!read_value(&reader))
+		return DirectFunctionCall1(jsonb_in, CStringGetDatum(vjson_server_text(&parts)));
+	if (!reader.is_cut && (reader.at != reader.end || !key_zeros_ended(&reader.zeros)))
+		vjson_raise_corrupted();
+	return JsonbPGetDatum(JsonbValueToJsonb(&reader.parts[0].value));
+}
+
+Datum
+vjson_to_jsonb(PG_FUNCTION_ARGS)
+{
+	PG_RETURN_DATUM(vjson_jsonb(PG_GETARG_DATUM(0), NULL));
+}
