@@ -96,17 +96,16 @@ static const int64 powers_of_ten[INT64_DIGITS + 1] = {
 };
 
 
+/*
+ * Scalars
+ */
+
 /* Whether the key of a number begins so. */
 static inline bool
 is_number(unsigned char first)
 {
 	return first >= FIRST_NEGATIVE && first <= LAST_POSITIVE && first != LAST_NEGATIVE + 1;
 }
-
-
-/*
- * Scalars
- */
 
 static inline unsigned char
 next_byte(Reader *reader)
@@ -158,11 +157,13 @@ numeric_of_text(const Reader *reader, const unsigned char *start, unsigned char 
 	const unsigned char own_zeros[] = {0, zeros};
 	size_t		size;
 	char	   *text = key_text_write(start, reader->at - start, own_zeros, zeros > 0 ? sizeof own_zeros : 0, &size);
+	Datum		number;
 
 	if (text == NULL)
 		vjson_raise_corrupted();
-	return DatumGetNumeric(DirectFunctionCall3(numeric_in, CStringGetDatum(text), ObjectIdGetDatum(InvalidOid),
-											   Int32GetDatum(-1)));
+	number = DirectFunctionCall3(numeric_in, CStringGetDatum(text), ObjectIdGetDatum(InvalidOid), Int32GetDatum(-1));
+	pfree(text);
+	return DatumGetNumeric(number);
 }
 
 /*
@@ -571,16 +572,21 @@ vjson_jsonb(Datum document, const VjsonWanted *wanted)
 	VjsonParts	parts;
 	Range		key = get_whole((struct varlena *) PG_DETOAST_DATUM_PACKED(document), &parts);
 	JsonbPair	first_parts[FIRST_ROOM];
-	Reader		reader = {.at = key.at, .end = key.at + key.size, .parts = first_parts, .room = FIRST_ROOM,
-	.wanted = wanted};
+	Reader		reader = {.at = key.at, .end = key.at + key.size, .wanted = wanted};
+	JsonbValue	value;
 
+	reader.parts = first_parts;
+	reader.room = FIRST_ROOM;
 	reader.ascii_alone = GetDatabaseEncoding() != PG_UTF8;
 	key_zeros_begin(&reader.zeros, parts.rest, parts.form == KEY_AND_ZEROS ? parts.rest_size : 0);
 	if (!read_value(&reader))
 		return DirectFunctionCall1(jsonb_in, CStringGetDatum(vjson_server_text(&parts)));
 	if (!reader.is_cut && (reader.at != reader.end || !key_zeros_ended(&reader.zeros)))
 		vjson_raise_corrupted();
-	return JsonbPGetDatum(JsonbValueToJsonb(&reader.parts[0].value));
+	value = reader.parts[0].value;
+	if (reader.parts != first_parts)
+		pfree(reader.parts);
+	return JsonbPGetDatum(JsonbValueToJsonb(&value));
 }
 
 Datum

@@ -87,7 +87,27 @@ TIMED = {
     "vjson_contained(vjson,vjson)": ["o <@ o", "'[\"a\",7.25]' <@ a"],
     "gin_extract_vjson_path(vjson,internal,internal)": [
         "CREATE INDEX grown ON {table} USING gin (o, a); DROP INDEX grown"],
+    "gin_extract_vjson(vjson,internal,internal)": [
+        "CREATE INDEX grown ON {table} USING gin (o vjson_ops, a vjson_ops); DROP INDEX grown"],
     "vjson_typanalyze(internal)": ["ANALYZE {table} (o, a)"],
+    "vjson_path_exists_opr(vjson,jsonpath)": ["o @? '$.{last}[*] ? (@ > 1)'", "o @? '$.none'", "a @? '$[*].price ? (@ < 0)'"],
+    "vjson_path_match_opr(vjson,jsonpath)": ["o @@ '$.*[*] < 0'", "r @@ '$[last].price > 1'"],
+    "vjson_path_exists(vjson,jsonpath,vjson,boolean)": ["vjson_path_exists(r, '$[*] ? (@.price < $x)', '{{\"x\":0}}')"],
+    "vjson_path_exists_tz(vjson,jsonpath,vjson,boolean)": ["vjson_path_exists_tz(r, '$.** ? (@ < 0)')"],
+    "vjson_path_match(vjson,jsonpath,vjson,boolean)": ["vjson_path_match(r, '$[*].price < 0')"],
+    "vjson_path_match_tz(vjson,jsonpath,vjson,boolean)": ["vjson_path_match_tz(r, '$[*].price < 0')"],
+    "vjson_path_query(vjson,jsonpath,vjson,boolean)": [rows("vjson_path_query", "r, '$[*].price'"), rows("vjson_path_query", "o, '$.*'")],
+    "vjson_path_query_tz(vjson,jsonpath,vjson,boolean)": [rows("vjson_path_query_tz", "a, '$[*]'")],
+    "vjson_path_query_array(vjson,jsonpath,vjson,boolean)": ["vjson_path_query_array(r, '$[*].price')", "vjson_path_query_array(o, '$')"],
+    "vjson_path_query_array_tz(vjson,jsonpath,vjson,boolean)": ["vjson_path_query_array_tz(r, '$.price')"],
+    "vjson_path_query_first(vjson,jsonpath,vjson,boolean)": ["vjson_path_query_first(r, '$[last].price')"],
+    "vjson_path_query_first_tz(vjson,jsonpath,vjson,boolean)": ["vjson_path_query_first_tz(o, '$.{last}')"],
+    "to_tsvector(vjson)": ["to_tsvector(o)"], "to_tsvector(regconfig,vjson)": ["to_tsvector('english', a)"],
+    "vjson_to_tsvector(vjson,vjson)": ["vjson_to_tsvector(o, '\"key\"')"],
+    "vjson_to_tsvector(regconfig,vjson,vjson)": ["vjson_to_tsvector('english', r, '\"numeric\"')"],
+    "ts_headline(vjson,tsquery)": ["ts_headline(o, 'x')"], "ts_headline(vjson,tsquery,text)": ["ts_headline(a, 'a', 'MaxFragments=2')"],
+    "ts_headline(regconfig,vjson,tsquery)": ["ts_headline('english', a, 'none')"],
+    "ts_headline(regconfig,vjson,tsquery,text)": ["ts_headline('english', o, 'x', 'MaxWords=3, MinWords=1')"],
     "to_vjson(anyelement)": ["to_vjson(names)", "to_vjson(b)", "to_vjson(j)"],
     "vjson_build_array(\"any\")": ["vjson_build_array(VARIADIC names)", "vjson_build_array(o, a)"],
     "vjson_build_object(\"any\")": ["vjson_build_object(VARIADIC pairs)", "vjson_build_object('o', o, 'a', a)"],
@@ -124,6 +144,9 @@ LEFT_OUT = """vjson_path_in(cstring) vjson_path_out(vjson_path) vjson_path_recv(
     gin_extract_vjson_query_path(vjson,internal,smallint,internal,internal,internal,internal)
     gin_consistent_vjson_path(internal,smallint,vjson,integer,internal,internal,internal,internal)
     gin_triconsistent_vjson_path(internal,smallint,vjson,integer,internal,internal,internal)
+    gin_extract_vjson_query(vjson,internal,smallint,internal,internal,internal,internal)
+    gin_consistent_vjson(internal,smallint,vjson,integer,internal,internal,internal,internal)
+    gin_triconsistent_vjson(internal,smallint,vjson,integer,internal,internal,internal)
     vjson_build_array() vjson_build_object() vjson_agg_finalfn(internal) vjson_object_agg_finalfn(internal)
     vjson_to_bool(vjson) vjson_to_numeric(vjson) vjson_to_int2(vjson) vjson_to_int4(vjson) vjson_to_int8(vjson)
     vjson_to_float4(vjson) vjson_to_float8(vjson)""".split()
