@@ -91,6 +91,6 @@ SELECT doc FROM u ORDER BY doc;
 
 -- The operator classes are whole.
 SELECT amname, opcname, opcdefault, amvalidate(o.oid) FROM pg_opclass o JOIN pg_am a ON a.oid = opcmethod
-  WHERE opcintype = 'vjson'::regtype ORDER BY amname;
+  WHERE opcintype = 'vjson'::regtype ORDER BY amname, opcname;
 RESET max_parallel_workers_per_gather;
 RESET enable_material;

@@ -23,8 +23,8 @@ BEGIN
 EXCEPTION WHEN OTHERS THEN RETURN SQLSTATE || ' ' || SQLERRM;
 END $$;
 SELECT v, path, answers(v, path), answers(j, path) FROM documents, jsonpaths
-  WHERE id % 3 = 0 AND answers(v, path) IS DISTINCT FROM answers(j, path);
-SELECT count(DISTINCT answers(v, path)) > 50 AS some FROM documents, jsonpaths WHERE id % 3 = 0;
+  WHERE id % 11 = 0 AND answers(v, path) IS DISTINCT FROM answers(j, path);
+SELECT count(DISTINCT answers(v, path)) > 50 AS some FROM documents, jsonpaths WHERE id % 11 = 0;
 SELECT vjson_path_query('[1,2.50,"x",{"a":3.0}]', '$[*]');
 SELECT vjson_path_query(target => '[1,2.50,3]', path => '$[*] ? (@ > $x)', vars => '{"x":2}');
 SELECT vjson_path_match('{}', 'strict $.a == 1', silent => true), vjson_path_query_first('[]', '$[0]') IS NULL AS none;
@@ -33,7 +33,7 @@ SELECT vjson_path_match('1', '$');
 SELECT vjson_path_exists('{"a":1}', '$.a', '[]');
 
 -- The members that a jsonpath doesn't name aren't looked at.
-SELECT '{"a":{"b":[1.50]},"b":"\u0000"}'::vjson @? '$.a', vjson_path_query('{"a":{"b":[1.50]},"b":"\u0000"}', '$.a.b');
+SELECT doc @? '$.a', vjson_path_query(doc, '$.a.b') FROM (VALUES ('{"a":{"b":[1.50]},"c":"\u0000"}'::vjson)) x(doc);
 SELECT '{"a":"\u0000"}'::vjson @? '$.a';
 
 -- Text search
