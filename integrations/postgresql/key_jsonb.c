@@ -52,9 +52,13 @@
 /* Steps that aren't those of a jsonpath. */
 #define OTHER_STEPS		(-1)
 
-/* Parts for which there is room at first, and at most. */
+/* Names and values for which there is room at first, and at most: those of as many members as may be allocated. */
 #define FIRST_ROOM		64
-#define MOST_PARTS		(MaxAllocSize / sizeof(JsonbPair))
+#define MOST_PARTS		(2 * (MaxAllocSize / sizeof(JsonbPair)))
+
+/* Memory for parts that are put together is taken by blocks, of which the first is on the stack. */
+#define FIRST_BLOCK		4096
+#define BLOCK			32768
 
 /* Members up to which they are sorted by insertion. */
 #define FEW_MEMBERS		24
@@ -63,17 +67,19 @@ PG_FUNCTION_INFO_V1(vjson_to_jsonb);
 
 /*
  * A key that is read.  The parts are those of arrays and objects whose end
- * isn't reached: where one ends, its parts leave their places for an array of
- * their own.
+ * isn't reached, of a member its name and its value: where one ends, its parts
+ * leave their places for an array of their own.
  */
 typedef struct
 {
 	const unsigned char *at;
 	const unsigned char *end;
 	KeyZerosReader zeros;
-	JsonbPair  *parts;			/* items have no key */
+	JsonbValue *parts;
 	size_t		count;
 	size_t		room;
+	char	   *block;			/* what is left of the last one */
+	size_t		block_size;
 	bool		ascii_alone;	/* whether other strings go by the text */
 	const VjsonWanted *wanted;	/* members; NULL where all are */
 	bool		is_cut;			/* whether it ended before the key did */
@@ -228,23 +234,42 @@ read_number(Reader *reader)
  * Arrays and objects
  */
 
-/* Make room for one part more.  False if there are too many. */
-static bool
+/* Make room for a name and a value more.  False if there are too many. */
+static inline bool
 make_room(Reader *reader)
 {
-	JsonbPair  *more;
+	JsonbValue *more;
 
-	if (likely(reader->count < reader->room))
+	if (likely(reader->count + 2 <= reader->room))
 		return true;
 	if (reader->room == MOST_PARTS)
 		return false;
-	reader->room = Min(2 * reader->room, MOST_PARTS);
-	more = palloc(reader->room * sizeof(JsonbPair));
-	memcpy(more, reader->parts, reader->count * sizeof(JsonbPair));
-	if (reader->count > FIRST_ROOM)
+	more = palloc(Min(2 * reader->room, MOST_PARTS) * sizeof(JsonbValue));
+	memcpy(more, reader->parts, reader->count * sizeof(JsonbValue));
+	if (reader->room > FIRST_ROOM)
 		pfree(reader->parts);
+	reader->room = Min(2 * reader->room, MOST_PARTS);
 	reader->parts = more;
 	return true;
+}
+
+/* Memory for an array or an object, which is kept to the end. */
+static void *
+take_memory(Reader *reader, size_t size)
+{
+	char	   *result;
+
+	if (size > reader->block_size)
+	{
+		if (size > BLOCK / 4)
+			return palloc(size);
+		reader->block = palloc(BLOCK);
+		reader->block_size = BLOCK;
+	}
+	result = reader->block;
+	reader->block += size;
+	reader->block_size -= size;
+	return result;
 }
 
 /* The names of an object have the order of their bytes in a key. */
@@ -273,13 +298,13 @@ compare_places(const void *left, const void *right)
  * in its higher half.
  */
 static void
-sort_members(const JsonbPair *members, uint32 count, uint64 *places)
+sort_members(const JsonbValue *parts, uint32 count, uint64 *places)
 {
 	bool		is_few = count <= FEW_MEMBERS;
 
 	for (uint32 i = 0; i < count; i++)
 	{
-		uint64		place = ((uint64) members[i].key.val.string.len << 32) | i;
+		uint64		place = ((uint64) parts[2 * i].val.string.len << 32) | i;
 		uint32		to = i;
 
 		for (; is_few && to > 0 && places[to - 1] > place; to--)
@@ -290,16 +315,23 @@ sort_members(const JsonbPair *members, uint32 count, uint64 *places)
 		qsort(places, count, sizeof(uint64), compare_places);
 }
 
+/* Put the object together of its names and values. */
 static void
-make_object(const JsonbPair *members, uint32 count, JsonbValue *value)
+make_object(Reader *reader, const JsonbValue *parts, uint32 count, JsonbValue *value)
 {
 	uint64		few[FEW_MEMBERS];
 	uint64	   *places = count <= FEW_MEMBERS ? few : palloc(count * sizeof(uint64));
-	JsonbPair  *pairs = palloc(Max(count, 1) * sizeof(JsonbPair));
+	JsonbPair  *pairs = take_memory(reader, count * sizeof(JsonbPair));
 
-	sort_members(members, count, places);
+	sort_members(parts, count, places);
 	for (uint32 i = 0; i < count; i++)
-		pairs[i] = members[(uint32) places[i]];
+	{
+		const JsonbValue *member = parts + 2 * (uint32) places[i];
+
+		pairs[i].key = member[0];
+		pairs[i].value = member[1];
+		pairs[i].order = i;
+	}
 	if (places != few)
 		pfree(places);
 	value->type = jbvObject;
@@ -308,15 +340,14 @@ make_object(const JsonbPair *members, uint32 count, JsonbValue *value)
 }
 
 static void
-make_array(const JsonbPair *items, uint32 count, JsonbValue *value)
+make_array(Reader *reader, const JsonbValue *parts, uint32 count, JsonbValue *value)
 {
-	JsonbValue *elements = palloc(Max(count, 1) * sizeof(JsonbValue));
+	JsonbValue *items = take_memory(reader, count * sizeof(JsonbValue));
 
-	for (uint32 i = 0; i < count; i++)
-		elements[i] = items[i].value;
+	memcpy(items, parts, count * sizeof(JsonbValue));
 	value->type = jbvArray;
 	value->val.array.nElems = (int) count;
-	value->val.array.elems = elements;
+	value->val.array.elems = items;
 	value->val.array.rawScalar = false;
 }
 
@@ -496,35 +527,35 @@ read_scalar(Reader *reader, JsonbValue *value, bool *opened)
 static void
 close_level(Reader *reader, const Level *level)
 {
-	const JsonbPair *first = reader->parts + level->first;
-	JsonbValue *value = &reader->parts[level->first - 1].value;
+	const JsonbValue *parts = reader->parts + level->first;
+	JsonbValue *value = reader->parts + level->first - 1;
 	uint32		count = (uint32) (reader->count - level->first);
 
 	reader->count = level->first;
 	if (level->is_object)
-		make_object(first, count, value);
+		make_object(reader, parts, count / 2, value);
 	else
-		make_array(first, count, value);
+		make_array(reader, parts, count, value);
 }
 
 /* Take the item or the member that begins here, as read_scalar takes a value. */
-static bool
+static inline bool
 read_part(Reader *reader, const Level *level, bool *opened)
 {
-	JsonbPair  *part;
-
 	if (!make_room(reader))
 		return false;
-	part = reader->parts + reader->count;
 	if (level != NULL && level->is_object)
 	{
-		if (!read_text(reader, &part->key))
+		JsonbValue *name = reader->parts + reader->count;
+
+		if (!read_text(reader, name))
 			return false;
 		if (reader->count > level->first)
-			check_order(&part[-1].key, &part->key);
+			check_order(name - 2, name);
+		reader->count++;
 	}
 	reader->count++;
-	return read_scalar(reader, &part->value, opened);
+	return read_scalar(reader, reader->parts + reader->count - 1, opened);
 }
 
 /* Read the value that begins here, with all that is in it. It is the first part then. False if it goes by the text. */
@@ -571,19 +602,22 @@ vjson_jsonb(Datum document, const VjsonWanted *wanted)
 {
 	VjsonParts	parts;
 	Range		key = get_whole((struct varlena *) PG_DETOAST_DATUM_PACKED(document), &parts);
-	JsonbPair	first_parts[FIRST_ROOM];
+	JsonbValue	first_parts[FIRST_ROOM];
+	int64		first_block[FIRST_BLOCK / sizeof(int64)];
 	Reader		reader = {.at = key.at, .end = key.at + key.size, .wanted = wanted};
 	JsonbValue	value;
 
 	reader.parts = first_parts;
 	reader.room = FIRST_ROOM;
+	reader.block = (char *) first_block;
+	reader.block_size = sizeof first_block;
 	reader.ascii_alone = GetDatabaseEncoding() != PG_UTF8;
 	key_zeros_begin(&reader.zeros, parts.rest, parts.form == KEY_AND_ZEROS ? parts.rest_size : 0);
 	if (!read_value(&reader))
 		return DirectFunctionCall1(jsonb_in, CStringGetDatum(vjson_server_text(&parts)));
 	if (!reader.is_cut && (reader.at != reader.end || !key_zeros_ended(&reader.zeros)))
 		vjson_raise_corrupted();
-	value = reader.parts[0].value;
+	value = reader.parts[0];
 	if (reader.parts != first_parts)
 		pfree(reader.parts);
 	return JsonbPGetDatum(JsonbValueToJsonb(&value));

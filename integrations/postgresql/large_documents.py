@@ -104,7 +104,7 @@ TIMED = {
     "vjson_path_query_first_tz(vjson,jsonpath,vjson,boolean)": ["vjson_path_query_first_tz(o, '$.{last}')"],
     "to_tsvector(vjson)": ["to_tsvector(o)"], "to_tsvector(regconfig,vjson)": ["to_tsvector('english', a)"],
     "vjson_to_tsvector(vjson,vjson)": ["vjson_to_tsvector(o, '\"key\"')"],
-    "vjson_to_tsvector(regconfig,vjson,vjson)": ["vjson_to_tsvector('english', r, '\"numeric\"')"],
+    "vjson_to_tsvector(regconfig,vjson,vjson)": ["vjson_to_tsvector('english', o, '\"numeric\"')"],
     "ts_headline(vjson,tsquery)": ["ts_headline(o, 'x')"], "ts_headline(vjson,tsquery,text)": ["ts_headline(a, 'a', 'MaxFragments=2')"],
     "ts_headline(regconfig,vjson,tsquery)": ["ts_headline('english', a, 'none')"],
     "ts_headline(regconfig,vjson,tsquery,text)": ["ts_headline('english', o, 'x', 'MaxWords=3, MinWords=1')"],
