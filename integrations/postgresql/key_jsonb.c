@@ -16,6 +16,7 @@
 #include "fmgr.h"
 #include "mb/pg_wchar.h"
 #include "miscadmin.h"
+#include "port/pg_bitutils.h"
 #include "utils/builtins.h"
 #include "utils/jsonb.h"
 #include "utils/memutils.h"
@@ -75,6 +76,7 @@ typedef struct
 	const unsigned char *at;
 	const unsigned char *end;
 	KeyZerosReader zeros;
+	size_t		passed;			/* numbers whose zeros aren't passed yet */
 	JsonbValue *parts;
 	size_t		count;
 	size_t		room;
@@ -121,6 +123,36 @@ next_byte(Reader *reader)
 	return *reader->at++;
 }
 
+/*
+ * The first zero byte, or NULL.  Most names and strings are short, and of their
+ * first bytes eight are looked at together: a byte below 1 borrows from its
+ * highest bit.
+ */
+static inline const unsigned char *
+find_zero(const unsigned char *at, const unsigned char *end)
+{
+#ifndef WORDS_BIGENDIAN
+	for (int i = 0; i < 4 && end - at >= (ptrdiff_t) sizeof(uint64); i++)
+	{
+		uint64		bytes;
+
+		memcpy(&bytes, at, sizeof bytes);
+		bytes = (bytes - UINT64CONST(0x0101010101010101)) & ~bytes & UINT64CONST(0x8080808080808080);
+		if (bytes != 0)
+			return at + pg_rightmost_one_pos64(bytes) / BITS_PER_BYTE;
+		at += sizeof bytes;
+	}
+#endif
+	return memchr(at, 0, end - at);
+}
+
+/* The order of the first bytes of two names, or 0 where it isn't told by one byte. */
+static inline int
+compare_first(const unsigned char *one, size_t size, const unsigned char *other, size_t other_size)
+{
+	return size > 0 && other_size > 0 ? (int) *one - (int) *other : 0;
+}
+
 static bool
 is_ascii(const char *text, int size)
 {
@@ -137,7 +169,7 @@ static inline bool
 read_text(Reader *reader, JsonbValue *value)
 {
 	const unsigned char *start = reader->at;
-	const unsigned char *zero = memchr(start, 0, reader->end - start);
+	const unsigned char *zero = find_zero(start, reader->end);
 
 	if (unlikely(zero == NULL || zero + 1 == reader->end))
 		vjson_raise_corrupted();
@@ -154,6 +186,15 @@ read_text(Reader *reader, JsonbValue *value)
 	value->val.string.val = unconstify(char *, (const char *) start);
 	reader->at = zero + 2;
 	return !reader->ascii_alone || is_ascii(value->val.string.val, value->val.string.len);
+}
+
+/* Pass the zeros of the numbers that were passed. */
+static inline void
+pass_zeros(Reader *reader)
+{
+	if (reader->passed > 0 && !key_zeros_take(&reader->zeros, reader->passed, NULL))
+		vjson_raise_corrupted();
+	reader->passed = 0;
 }
 
 /* The number whose key goes from the start to where the reader is, of its text. */
@@ -188,6 +229,7 @@ read_number(Reader *reader)
 	int			scale;
 	unsigned char zeros;
 
+	pass_zeros(reader);
 	if (!key_zeros_next(&reader->zeros, &zeros))
 		vjson_raise_corrupted();
 	if (byte == ZERO)
@@ -273,13 +315,13 @@ take_memory(Reader *reader, size_t size)
 }
 
 /* The names of an object have the order of their bytes in a key. */
-static void
+static inline void
 check_order(const JsonbValue *before, const JsonbValue *name)
 {
-	int			order = memcmp(before->val.string.val, name->val.string.val,
-							   Min(before->val.string.len, name->val.string.len));
+	Range		one = {(const unsigned char *) before->val.string.val, before->val.string.len};
+	Range		other = {(const unsigned char *) name->val.string.val, name->val.string.len};
 
-	if (unlikely(order > 0 || (order == 0 && before->val.string.len >= name->val.string.len)))
+	if (unlikely(compare_first(one.at, one.size, other.at, other.size) >= 0 && compare_ranges(&one, &other) >= 0))
 		vjson_raise_corrupted();
 }
 
@@ -371,14 +413,14 @@ takes_end(Reader *reader, bool is_object)
  * What isn't taken
  */
 
-static void
+static inline void
 pass_text(Reader *reader)
 {
 	const unsigned char *zero;
 
 	do
 	{
-		zero = memchr(reader->at, 0, reader->end - reader->at);
+		zero = find_zero(reader->at, reader->end);
 		if (unlikely(zero == NULL || zero + 1 == reader->end))
 			vjson_raise_corrupted();
 		reader->at = zero + 2;
@@ -386,12 +428,13 @@ pass_text(Reader *reader)
 }
 
 /* Pass a number whose first byte was taken. */
-static void
+static inline void
 pass_number(Reader *reader)
 {
 	unsigned char flipped = reader->at[-1] < ZERO ? 0xFF : 0;
 	unsigned char byte = reader->at[-1] ^ flipped;
 
+	reader->passed++;
 	if (byte == ZERO)
 		return;
 	if (byte == MORE_EXPONENT)
@@ -400,49 +443,60 @@ pass_number(Reader *reader)
 		;
 }
 
-/* Pass the value that begins here, with all that is in it. */
+/* Pass the scalar whose first byte was taken. False if an array or an object begins so. */
+static inline bool
+pass_scalar(Reader *reader, unsigned char first)
+{
+	if (first == STRING_KEY)
+		pass_text(reader);
+	else if (is_number(first))
+		pass_number(reader);
+	else if (first == OBJECT_KEY || first == ARRAY_KEY)
+		return false;
+	else if (first != FALSE_KEY && first != TRUE_KEY && first != NULL_KEY)
+		vjson_raise_corrupted();
+	return true;
+}
+
+/* Pass the rest of an array or an object, behind its first byte. */
 static void
-pass_value(Reader *reader)
+pass_container(Reader *reader, unsigned char first)
 {
 	bool		is_object[MOST_LEVELS];
-	int			levels = 0;
-	size_t		numbers = 0;
+	int			levels = 1;
 
-	do
+	is_object[0] = first == OBJECT_KEY;
+	while (levels > 0)
 	{
-		unsigned char first;
-
 		CHECK_FOR_INTERRUPTS();
-		if (levels > 0 && takes_end(reader, is_object[levels - 1]))
+		if (takes_end(reader, is_object[levels - 1]))
 		{
 			levels--;
 			continue;
 		}
-		if (levels > 0 && is_object[levels - 1])
+		if (is_object[levels - 1])
 			pass_text(reader);
 		first = next_byte(reader);
-		if (first == STRING_KEY)
-			pass_text(reader);
-		else if (first == OBJECT_KEY || first == ARRAY_KEY)
-		{
-			if (levels == MOST_LEVELS)
-				vjson_raise_corrupted();
-			is_object[levels++] = first == OBJECT_KEY;
-		}
-		else if (is_number(first))
-		{
-			numbers++;
-			pass_number(reader);
-		}
-		else if (first != FALSE_KEY && first != TRUE_KEY && first != NULL_KEY)
+		if (pass_scalar(reader, first))
+			continue;
+		if (levels == MOST_LEVELS)
 			vjson_raise_corrupted();
-	} while (levels > 0);
-	if (numbers > 0 && !key_zeros_take(&reader->zeros, numbers, NULL))
-		vjson_raise_corrupted();
+		is_object[levels++] = first == OBJECT_KEY;
+	}
+}
+
+/* Pass the value that begins here, with all that is in it. */
+static inline void
+pass_value(Reader *reader)
+{
+	unsigned char first = next_byte(reader);
+
+	if (!pass_scalar(reader, first))
+		pass_container(reader, first);
 }
 
 /* Whether the name that begins here comes after all that are wanted. */
-static bool
+static inline bool
 is_past_names(const Reader *reader)
 {
 	size_t		size = reader->end - reader->at;
@@ -451,16 +505,19 @@ is_past_names(const Reader *reader)
 
 	if (reader->wanted->count == 0)
 		return true;
-	order = memcmp(reader->at, last->at, Min(last->size, size));
+	order = compare_first(reader->at, size, last->at, last->size);
+	if (order == 0)
+		order = memcmp(reader->at, last->at, Min(last->size, size));
 	return order > 0 || (order == 0 && last->size < size && reader->at[last->size] != END);
 }
 
-static bool
+static inline bool
 is_wanted(const VjsonWanted *wanted, Range name)
 {
 	for (int i = 0; i < wanted->count; i++)
 	{
-		if (same_bytes(wanted->names[i], name))
+		if (compare_first(wanted->names[i].at, wanted->names[i].size, name.at, name.size) == 0 &&
+			same_bytes(wanted->names[i], name))
 			return true;
 	}
 	return false;
@@ -615,8 +672,12 @@ vjson_jsonb(Datum document, const VjsonWanted *wanted)
 	key_zeros_begin(&reader.zeros, parts.rest, parts.form == KEY_AND_ZEROS ? parts.rest_size : 0);
 	if (!read_value(&reader))
 		return DirectFunctionCall1(jsonb_in, CStringGetDatum(vjson_server_text(&parts)));
-	if (!reader.is_cut && (reader.at != reader.end || !key_zeros_ended(&reader.zeros)))
-		vjson_raise_corrupted();
+	if (!reader.is_cut)
+	{
+		pass_zeros(&reader);
+		if (reader.at != reader.end || !key_zeros_ended(&reader.zeros))
+			vjson_raise_corrupted();
+	}
 	value = reader.parts[0];
 	if (reader.parts != first_parts)
 		pfree(reader.parts);
