@@ -88,6 +88,7 @@ static const char *const statements[] = {
     "SELECT vjson('1', 'x')",
     "SELECT group_concat(x) FROM (SELECT body AS x FROM docs ORDER BY vjson_key(body))",
     "SELECT group_concat(x) FROM (SELECT body AS x FROM docs ORDER BY body COLLATE VJSON)",
+    "SELECT '[1e1]' = '[10, 0]' COLLATE VJSON, '[1e1]' = '[1.0e1]' COLLATE VJSON, '[1e39]' < '[1e1]' COLLATE VJSON",
     "SELECT count(*) FROM docs WHERE vjson_key(body) > vjson_key('[1]')",
     "INSERT INTO docs(body) VALUES ('[7]'), ('{\"z\":[1]}') RETURNING vjson(body)",
     "INSERT INTO docs(body) VALUES ('[7]'), ('[1.0]')",

@@ -296,6 +296,19 @@ static int compare_bytes(const void *left, size_t left_size, const void *right, 
   return order ? order : (left_size > right_size) - (left_size < right_size);
 }
 
+/* Compares two texts again, as long as one was rejected whose numbers were written out now. Where one stays rejected,
+ * the refusal says which. */
+static uint32_t compare_again(uint32_t status, struct read_text *left, struct read_text *right, int32_t *order,
+                              struct vizhoniku_refusal *refusal) {
+  uint32_t which = refusal->which;
+  while (read_again(VIZHONIKU_EXTENDED, &status, refusal, which == 2 ? right : left)) {
+    status = vizhoniku_compare(VIZHONIKU_EXTENDED, left->at, left->size, right->at, right->size, order, refusal);
+    which = refusal->which;
+  }
+  refusal->which = which;
+  return status;
+}
+
 /* Documents come first, by their values, in extended mode. Behind them come texts that are no documents, by their
  * bytes. A collation can't fail: where memory runs out, the statement is interrupted. */
 static int collate(void *database, int left_length, const void *left, int right_length, const void *right) {
@@ -304,11 +317,18 @@ static int collate(void *database, int left_length, const void *left, int right_
   struct vizhoniku_refusal refusal;
   uint32_t status = vizhoniku_compare(VIZHONIKU_EXTENDED, left, left_size, right, right_size, &order, &refusal);
   if (status == VIZHONIKU_ACCEPTED) return order;
-  if (status == VIZHONIKU_REFUSED) {
-    if (refusal.which == 2) return -1;
-    status = vizhoniku_check(VIZHONIKU_EXTENDED, right, right_size, &refusal);
-    if (status == VIZHONIKU_ACCEPTED) return 1;
+  struct read_text one = {left, left_size, NULL, 0}, two = {right, right_size, NULL, 0};
+  status = compare_again(status, &one, &two, &order, &refusal);
+  if (status == VIZHONIKU_REFUSED && refusal.which == 2) {
+    status = VIZHONIKU_ACCEPTED;
+    order = -1;
+  } else if (status == VIZHONIKU_REFUSED) {
+    status = check(VIZHONIKU_EXTENDED, &two, &refusal);
+    order = 1;
   }
+  sqlite3_free(one.made);
+  sqlite3_free(two.made);
+  if (status == VIZHONIKU_ACCEPTED) return order;
   if (status == VIZHONIKU_OUT_OF_MEMORY) sqlite3_interrupt(database);
   return compare_bytes(left, left_size, right, right_size);
 }
