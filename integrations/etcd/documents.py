@@ -9,7 +9,8 @@
     documents.py ... where PATH LOW [HIGH]  prints those whose part at the path equals LOW, or is from LOW up to HIGH
     documents.py ... parts PATH             prints the part at the path of each document that has one
 
-A document is stored under a prefix and its sort key; what is stored is the text of its value. It speaks to etcd's JSON
+A document is stored under a prefix and its sort key; what is stored is the text of its value. Numbers with an exponent
+are taken as vizhoniku takes them, and stored as decimals without one. It speaks to etcd's JSON
 gateway (etcd 3.4 and later) by plain HTTP, without user names. The status is 0, or 1 where nothing is found, or 2 where
 a text is rejected or no member answers.
 """

@@ -228,6 +228,26 @@ class InTheCluster(unittest.TestCase):
         self.assertRaises(vizhoniku.RejectedText, Documents(cluster.endpoints, mode=vizhoniku.STANDARD).put, "1.5")
         self.assertEqual(list(self.documents), [])
 
+    def test_exponents(self) -> None:
+        """JSON with exponents is taken by each call, and is the value of its numbers written out."""
+        self.assertTrue(self.documents.put(json.dumps({"share": 1e-07, "mass": 6.02e23})))
+        self.assertFalse(self.documents.put("{mass: 602000000000000000000000, share: 0.00000010}"))
+        self.assertTrue(self.documents.put("[1E2]"))
+        stored = '{"mass":602000000000000000000000,"share":0.0000001}'
+        self.assertEqual(list(self.documents), [stored, "[100]"])
+        self.assertEqual(self.documents.get('{"share": 10.0e-8, "mass": 6020e+20}'), stored)
+        self.assertEqual(list(self.documents.between("[9.9e1]", "[1.01e2]")), ["[100]"])
+        self.assertEqual([key.text() for key in self.documents.keys("1e-7", "[1e2]")], [stored])
+        self.assertEqual(list(self.documents.where("/share", "1e-07")), [stored])
+        self.assertEqual(list(self.documents.where("/0", "1e1", "1e3")), ["[100]"])
+        self.assertEqual(self.documents.part(vizhoniku.Key("[1e2]"), "/0"), vizhoniku.Key("1e2"))
+        for call in (self.documents.put, self.documents.get, self.documents.delete):
+            with self.assertRaises(vizhoniku.RejectedText) as raised:
+                call("[1e300]")
+            self.assertEqual(str(raised.exception), "line 1, column 6: number not carried")
+        self.assertRaises(vizhoniku.RejectedText, Documents(cluster.endpoints, mode=vizhoniku.STANDARD).put, "[1e2]")
+        self.assertTrue(self.documents.delete("[1.00e2]"))
+
     def test_too_large(self) -> None:
         self.assertTrue(self.documents.put('"%s"' % ("x" * 500_000)))
         for size, words in ((600_000, "etcdserver: request is too large"), (800_000, "message larger than max")):
@@ -281,6 +301,9 @@ class InTheCluster(unittest.TestCase):
         self.assertEqual(told("parts", "/b"), (0, "1\n", ""))
         self.assertEqual(told("parts", ""), (0, '-1\n9.5\n{"a":2,"b":1}\n[10]\n', ""))
         self.assertEqual(told("parts", "b")[:2], (2, ""))
+        self.assertEqual(told("put", '{"share": 1e-07}', '{"share": 0.0000001}')[:2], (0, "new\nthere already\n"))
+        self.assertEqual(told("where", "/share", "1e-7"), (0, '{"share":0.0000001}\n', ""))
+        self.assertEqual(told("put", "1e300"), (2, "", "documents.py: line 1, column 5: number not carried\n"))
         self.assertEqual(told("delete", "9.50"), (0, "", ""))
         self.assertEqual(told("delete", "9.50"), (1, "", ""))
 
