@@ -6,6 +6,8 @@ another key still has the order of the values; documents whose cut keys are equa
 they are read.
 
 A sort key is a document too (vizhoniku.Key), so that parts are found in the keys, with no text read or parsed.
+
+Numbers with an exponent are taken as vizhoniku takes them, and stored as decimals without one.
 """
 
 import hashlib

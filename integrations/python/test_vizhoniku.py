@@ -6,7 +6,10 @@ python3-lmdb is missing, and those over a library that stands in for it where cc
 """
 
 import ast
+import collections
+import copy
 import doctest
+import enum
 import functools
 import gc
 import importlib.util
@@ -16,6 +19,7 @@ import operator
 import os
 import pickle
 import random
+import re
 import shutil
 import subprocess
 import sys
@@ -25,7 +29,9 @@ import time
 import tracemalloc
 import unittest
 import unittest.mock
-from typing import Any, Callable, Dict, List, Tuple
+from decimal import Decimal
+from fractions import Fraction
+from typing import Any, Callable, Dict, List, NamedTuple, Optional, Tuple
 
 HERE = os.path.dirname(os.path.abspath(__file__))
 PACKAGES = os.environ.get("VIZHONIKU_PACKAGES", HERE)
@@ -42,7 +48,8 @@ except ImportError:
     lmdb = None
 
 VERSION = 6  # of the interface that is needed
-VECTORS = os.path.join(HERE, "..", "..", "tests", "vectors.jsonl")
+TOP = os.path.join(HERE, "..", "..")
+VECTORS = os.path.join(TOP, "tests", "vectors.jsonl")
 
 # Documents in the order of their values; those of one line are equal.
 IN_ORDER = [
@@ -479,6 +486,351 @@ class Keys(unittest.TestCase):
         self.assertGreater(taken, 20)
 
 
+class Values(unittest.TestCase):
+    """Values of Python as documents."""
+
+    def test_values(self) -> None:
+        whole = v.Key('{"b": [1, 2.50, -0.0, 1e2, 1e-3], "a": {"": null, "é": [true, "\\u0000"]}, "c": []}').value()
+        self.assertEqual(whole, {"a": {"": None, "é": [True, "\0"]},
+                                 "b": [1, Decimal("2.5"), 0, 100, Decimal("0.001")], "c": []})
+        self.assertEqual([type(number) for number in whole["b"]], [int, Decimal, int, int, Decimal])
+        self.assertEqual([str(number) for number in whole["b"]], ["1", "2.5", "0", "100", "0.001"])
+        self.assertEqual(list(whole), ["a", "b", "c"])
+        rows: List[Tuple[str, Any]] = [
+            ("null", None), ("true", True), ("false", False), ('"x"', "x"), ("{}", {}), ("[]", []),
+            ("9" * 38, 10**38 - 1), ("-" + "9" * 38, 1 - 10**38)]
+        for text, value in rows:
+            self.assertEqual((v.Key(text).value(), type(v.Key(text).value())), (value, type(value)))
+
+    def test_of(self) -> None:
+        class Name(str):
+            pass
+
+        class Number(enum.IntEnum):
+            ONE = 1
+
+        class Pair(NamedTuple):
+            left: int
+            right: int
+
+        class Float(float):
+            def __repr__(self) -> str:
+                return "Float()"
+
+        rows: List[Tuple[Any, str]] = [
+            (None, "null"), (True, "true"), (False, "false"), (5, "5"), (-2**63, "-9223372036854775808"), ("", '""'),
+            ('a"\\\n\0é𝄞\x7f', r'"a\"\\\n\u0000é𝄞' + '\x7f"'), (0.1, "0.1"), (1e-7, "0.0000001"), (-0.0, "0"),
+            (1e22, "1" + "0" * 22), (2.0, "2"), (Decimal("1.50"), "1.5"), (Decimal("1E+5"), "100000"),
+            (Decimal("-1E-38"), "-0." + "0" * 37 + "1"),
+            (Decimal("0E-400"), "0"), (Decimal("0E+400"), "0"), (Decimal("1." + "0" * 60), "1"), (Decimal("-0"), "0"),
+            (10**38 - 1, "9" * 38), (Decimal("1" + "0" * 36 + ".1"), "1" + "0" * 36 + ".1"),
+            ([], "[]"), ((), "[]"), ({}, "{}"), ([1, [2, (3, {})]], "[1,[2,[3,{}]]]"),
+            ({"b": 1, "a": {"c": None}}, '{"a":{"c":null},"b":1}'), ({Name("n"): Name("x")}, '{"n":"x"}'),
+            (Number.ONE, "1"), (Pair(1, 2), "[1,2]"), (Float(1.5), "1.5"), (collections.OrderedDict(a=1), '{"a":1}'),
+            ([v.Key("[1.5]"), {"k": v.Key("{a: 1}")}], '[[1.5],{"k":{"a":1}}]')]
+        for value, text in rows:
+            self.assertEqual(v.Key.of(value), v.Key(text), text)
+        key = v.Key("[1]")
+        self.assertIs(v.Key.of(key), key)
+        same = [1]
+        self.assertEqual(v.Key.of([same, same, {"a": same}]), v.Key('[[1],[1],{"a":[1]}]'))
+
+    def test_what_is_no_value(self) -> None:
+        array: List[Any] = [1]
+        array.append({"a/b": [array]})
+        whole: Dict[str, Any] = {}
+        whole["~"] = whole
+        deep: Any = 0
+        for _ in range(513):
+            deep = [deep]
+        a_value = "a value is a dict, list, tuple, str, int, float, Decimal, bool, None or Key, and not "
+
+        class Same(str):
+            __hash__ = object.__hash__
+
+            def __eq__(self, other: object) -> bool:
+                return self is other
+
+        rows: List[Tuple[Any, Any, str]] = [
+            ({"values": [0.5] * 17 + [1e300]}, ValueError, "number not carried at /values/17"),
+            (5e-324, ValueError, "number not carried"), (10**38, ValueError, "number not carried"),
+            ([1 << 100_000], ValueError, "number not carried at /0"),
+            (Decimal("1E+999999"), ValueError, "number not carried"),
+            (Decimal("1E-39"), ValueError, "number not carried"),
+            (Decimal("1" + "0" * 37 + ".01"), ValueError, "number not carried"),
+            ([float("nan")], ValueError, "NaN is no number of JSON at /0"),
+            ({"": float("-inf")}, ValueError, "-Infinity is no number of JSON at /"),
+            (Decimal("sNaN"), ValueError, "sNaN is no number of JSON"),
+            ({"a": {1: 2}}, TypeError, "a name is a str, and not int at /a"),
+            ({None: 2}, TypeError, "a name is a str, and not NoneType"),
+            ({"a": [{"x": 1}, b""]}, TypeError, a_value + "bytes at /a/1"),
+            ({1}, TypeError, a_value + "set"), (1j, TypeError, a_value + "complex"),
+            ([range(3)], TypeError, a_value + "range at /0"),
+            ({"a": "x\ud800"}, ValueError, "a string has half of a surrogate pair at /a"),
+            ({"a": [{"\udfff": 1}]}, ValueError, "a name has half of a surrogate pair at /a/0"),
+            ({"a": {Same("x"): 1, Same("x"): 2}}, ValueError, "a name is there twice at /a"),
+            (array, ValueError, "circular reference at /1/a~1b/0"), (whole, ValueError, "circular reference at /~0"),
+            (deep, ValueError, "more than 512 nested arrays and objects at " + "/0" * 512),
+            ([v.Key("[" * 512 + "]" * 512)], ValueError, "more than 512 nested arrays and objects")]
+        for value, error, words in rows:
+            with self.assertRaises(error) as raised:
+                v.Key.of(value)
+            self.assertIs(type(raised.exception), error)
+            self.assertEqual(str(raised.exception), words)
+            empty = v.Key("[]")
+            for call in (empty.push, empty.merge, empty.contains, lambda one: v.Key("[]").set("/0", one),
+                         lambda one: v.Key("{}").put("a", one)):
+                self.assertRaises(error, call, value)
+
+    def test_numbers_are_exact(self) -> None:
+        """Of floats and decimals the exact value of what repr shows, where 38 digits are enough for it."""
+
+        def digits(number: Fraction) -> int:
+            """How many digits the number has, as a decimal with the fewest; many where more than 38 are behind the
+            point."""
+            scale = next((scale for scale in range(39) if (number * 10**scale).denominator == 1), None)
+            return 1000 if scale is None else len(str(abs(number * 10**scale)))
+
+        draw, taken = random.Random(7), 0
+        for _ in range(5000):
+            whole = Decimal(draw.randrange(10**draw.randrange(1, 28)))
+            number: Any = draw.choice((draw.random(), draw.gauss(0, 1e-5), 10 ** draw.uniform(-45, 45),
+                                       float(draw.randrange(2**60)), whole.scaleb(draw.randrange(-45, 20))))
+            exact = Fraction(repr(number) if isinstance(number, float) else str(number))
+            if digits(exact) > 38:
+                self.assertRaisesRegex(ValueError, "^number not carried at /0$", v.Key.of, [number])
+                continue
+            value, taken = v.Key.of([-number]).value()[0], taken + 1
+            self.assertEqual((Fraction(str(value)), type(value)), (-exact, int if exact.denominator == 1 else Decimal))
+        self.assertGreater(taken, 2000)
+
+    def test_of_what_value_returns(self) -> None:
+        """Over all texts of the tests and random values Key.of returns the key again, and the value is json's."""
+        with open(VECTORS, encoding="utf-8") as lines:
+            texts: List[v.Text] = [bytes.fromhex(json.loads(line)["input"]) for line in lines]
+        with open(os.path.join(TOP, "tests", "json_test_suite.jsonl"), encoding="utf-8") as lines:
+            texts += [bytes.fromhex(json.loads(line)["input"]) for line in lines]
+        texts += [text for line in IN_ORDER for text in line]
+        draw = random.Random(8)
+        texts += [json.dumps(self.drawn(draw, 4)) for _ in range(500)]
+        checked = of_json = 0
+        for text in filter(v.is_valid, texts):
+            key = v.Key(text)
+            value = key.value()
+            self.assertEqual(v.Key.of(value), key)
+            checked += 1
+            data = text.encode() if isinstance(text, str) else bytes(text)
+            if re.search(rb"\\u[dD][89a-fA-F]", data) is None:  # json has half of a pair in a str
+                try:
+                    wanted = json.loads(data, parse_float=Decimal)
+                except ValueError:  # it isn't JSON
+                    continue
+                self.assertEqual(value, wanted)
+                of_json += 1
+        self.assertGreater(checked, 1200)
+        self.assertGreater(of_json, 600)
+
+    def drawn(self, draw: random.Random, depth: int) -> Any:
+        kind = draw.randrange(8 if depth else 6)
+        if kind == 7:
+            return [self.drawn(draw, depth - 1) for _ in range(draw.randrange(4))]
+        if kind == 6:
+            return {"".join(draw.choices('ab/~é"𝄞', k=2)): self.drawn(draw, depth - 1)
+                    for _ in range(draw.randrange(4))}
+        return (None, draw.random() < .5, draw.randrange(-2**63, 2**64), draw.gauss(0, 10 ** draw.randrange(-9, 9)),
+                draw.choice((0, 1, 1.5, -0.0)), "".join(draw.choices('ab"\\/\n\té𝄞', k=3)))[kind]
+
+    def in_a_thread(self, call: Callable[[], Any]) -> Any:
+        """What the call returns in a thread with as much stack as the page says that one needs."""
+        answers: List[Any] = []
+        before = threading.stack_size(256 * 1024)
+        try:
+            thread = threading.Thread(target=lambda: answers.append(call()))
+            thread.start()
+            thread.join()
+        finally:
+            threading.stack_size(before)
+        return answers[0]
+
+    def test_deep_values(self) -> None:
+        """A value of 512 levels takes no more of the stack than a flat one, where little of it is left too."""
+        for front, back in (("[", "]"), ('{"a":', "}"), ('[1,{"b":2,"a":', "}]")):
+            levels = 256 if len(front) > 5 else 512
+            text = front * levels + "null" + back * levels
+            key = v.Key(text)
+
+            def at(depth: int) -> None:
+                if depth:
+                    at(depth - 1)
+                else:
+                    self.assertEqual(v.Key.of(key.value()), key)
+
+            for depth in (0, sys.getrecursionlimit() * 2 // 3):
+                at(depth)
+            self.assertEqual(self.in_a_thread(lambda: v.Key.of(key.value())), key)
+        value: Any = None
+        for _ in range(512):
+            value = [value]
+        self.assertEqual(v.Key.of(value).text(), "[" * 512 + "null" + "]" * 512)
+
+
+class Changed(unittest.TestCase):
+    """Keys of changed documents, and containment, against what is done to values of Python."""
+
+    STEP = re.compile("-?(?:0|[1-9][0-9]*)")
+
+    def steps(self, path: str) -> List[str]:
+        return [step.replace("~1", "/").replace("~0", "~") for step in path.split("/")[1:]]
+
+    def index(self, step: str, length: int) -> Optional[int]:
+        """The index that a step is, from the front; it may lie outside of the array."""
+        if not self.STEP.fullmatch(step):
+            return None
+        return int(step) + length if step.startswith("-") else int(step)
+
+    def find(self, value: Any, steps: List[str]) -> Any:
+        """The part that the steps lead to, or the class None."""
+        for step in steps:
+            if isinstance(value, dict) and step in value:
+                value = value[step]
+                continue
+            at = self.index(step, len(value)) if isinstance(value, list) else None
+            if at is None or not 0 <= at < len(value):
+                return type(None)
+            value = value[at]
+        return value
+
+    def set(self, value: Any, path: str, part: Any, create: bool) -> Any:
+        """As the header says it of vizhoniku_key_set."""
+        steps, value = self.steps(path), copy.deepcopy(value)
+        around = self.find(value, steps[:-1]) if steps else None
+        if isinstance(around, dict) and (create or steps[-1] in around):
+            around[steps[-1]] = part
+        if isinstance(around, list):
+            at = self.index(steps[-1], len(around))
+            if at is not None and 0 <= at < len(around):
+                around[at] = part
+            elif at is not None and create:
+                around.insert(len(around) if at >= 0 else 0, part)
+        return value
+
+    def remove(self, value: Any, path: str) -> Any:
+        steps, value = self.steps(path), copy.deepcopy(value)
+        around = self.find(value, steps[:-1]) if steps else None
+        if isinstance(around, dict):
+            around.pop(steps[-1], None)
+        if isinstance(around, list):
+            at = self.index(steps[-1], len(around))
+            if at is not None and 0 <= at < len(around):
+                del around[at]
+        return value
+
+    def merge(self, left: Any, right: Any) -> Any:
+        if isinstance(left, dict) and isinstance(right, dict):
+            return {**left, **right}
+        return [*(left if isinstance(left, list) else [left]), *(right if isinstance(right, list) else [right])]
+
+    def holds(self, value: Any, other: Any) -> bool:
+        if isinstance(value, dict) and isinstance(other, dict):
+            return all(name in value and self.holds(value[name], part) for name, part in other.items())
+        if isinstance(value, list) and isinstance(other, list):
+            return all(any(self.holds(one, part) for one in value) for part in other)
+        return type(value) is type(other) and bool(value == other)
+
+    def contains(self, value: Any, other: Any) -> bool:
+        if isinstance(value, list) and not isinstance(other, (dict, list)):
+            return any(self.holds(item, other) for item in value)
+        return self.holds(value, other)
+
+    def same(self, key: v.Key, value: Any) -> None:
+        self.assertEqual(key.text(), json.dumps(value, separators=(",", ":"), sort_keys=True, ensure_ascii=False))
+        self.assertEqual(v.Key.from_bytes(bytes(key)), key)
+
+    def drawn(self, draw: random.Random, depth: int) -> Any:
+        kind = draw.randrange(2, 6) if depth else draw.randrange(2)
+        if kind > 3:
+            return {draw.choice(("a", "b", "", "/~", "é", "1")): self.drawn(draw, depth - 1)
+                    for _ in range(draw.randrange(4))}
+        if kind > 1:
+            return [self.drawn(draw, draw.randrange(depth)) for _ in range(draw.randrange(4))]
+        return draw.choice((None, True, 1, "a", "x" * 3))
+
+    def test_against_values(self) -> None:
+        draw, unchanged, contained = random.Random(9), 0, 0
+        for _ in range(3000):
+            value, other = self.drawn(draw, 3), self.drawn(draw, 2)
+            key = v.Key.of(value)
+            path = "".join("/" + draw.choice(("a", "b", "", "~1~0", "é", "0", "1", "-1", "-3", "7", "x", "01"))
+                           for _ in range(draw.randrange(4)))
+            create = draw.random() < .5
+            given = draw.choice((other, v.Key.of(other)))
+            changed = key.set(path, given, create)
+            self.same(changed, self.set(value, path, other, create))
+            self.same(key.set(path, given), self.set(value, path, other, True))
+            removed = key.remove(path)
+            self.same(removed, self.remove(value, path))
+            self.assertEqual(removed is key, self.remove(value, path) == value)
+            unchanged += changed is key
+            self.same(key.merge(given), self.merge(value, other))
+            small = draw.choice((other, value, self.drawn(draw, 1), removed.value()))
+            self.assertEqual(key.contains(small), self.contains(value, small), (value, small))
+            contained += key.contains(v.Key.of(small))
+            if isinstance(value, dict):
+                name = draw.choice(("a", "/~", "é", "new\0"))
+                self.same(key.put(name, given), {**value, name: other})
+            if isinstance(value, list):
+                self.same(key.push(given), [*value, other])
+            self.same(key, value)
+        self.assertGreater(unchanged, 300)
+        self.assertGreater(contained, 1000)
+
+    def test_examples(self) -> None:
+        key = v.Key('{"user": {"name": "ann"}, "tags": ["x"]}')
+        self.assertEqual(key.set("/user/age", 30).value(), {"tags": ["x"], "user": {"age": 30, "name": "ann"}})
+        self.assertEqual(key.set(path=b"/user/name", value="bob", create=False)["user"]["name"], v.Key('"bob"'))
+        self.assertEqual(key.set("/tags/-2", 1.5)["tags"], v.Key('[1.5,"x"]'))
+        self.assertEqual(key.remove("/tags/-1"), v.Key('{"user":{"name":"ann"},"tags":[]}'))
+        self.assertEqual(key["tags"].push({"a": Decimal("2.50")}), v.Key('["x",{"a":2.5}]'))
+        self.assertEqual(key["user"].put("name", None).merge({"age": 1}), v.Key('{"name":null,"age":1}'))
+        self.assertEqual(v.Key("1").merge(v.Key("[2]")), v.Key("[1,2]"))
+        self.assertTrue(key.contains({"tags": ["x"]}))
+        self.assertTrue(key["tags"].contains("x"))
+        self.assertFalse(key.contains({"tags": ["y"]}))
+        for same in (key.set("", 1), key.set("/none/a", 1), key.set("/user/age", 30, create=False),
+                     key.set("/tags/x", 1), key.remove(""), key.remove("/none"), key.set("/user/name/x", 1)):
+            self.assertIs(same, key)
+
+    def test_errors(self) -> None:
+        number, array, whole = v.Key("1"), v.Key("[1]"), v.Key('{"a":1}')
+        wrong: Any = 1
+        deep, deepest = v.Key("[" * 511 + "]" * 511), v.Key("[" * 512 + "]" * 512)
+        a_text = "a text is a str, bytes, a bytearray or a memoryview, and not int"
+        too_deep = "more than 512 nested arrays and objects"
+        calls: List[Tuple[Callable[[], Any], Any, str]] = [
+            (lambda: array.put("a", 1), TypeError, "array is no object"),
+            (lambda: number.put("a", 1), TypeError, "number is no object"),
+            (lambda: whole.push(1), TypeError, "object is no array"),
+            (lambda: v.Key("null").push(1), TypeError, "null is no array"),
+            (lambda: whole.put(wrong, 1), TypeError, "a name is a str, and not int"),
+            (lambda: whole.put("\ud800", 1), ValueError, "the name isn't UTF-8"),
+            (lambda: whole.set("a", 1), v.PathError, v._common.BAD_PATH),
+            (lambda: whole.remove("/~"), v.PathError, v._common.BAD_PATH),
+            (lambda: whole.set(wrong, 1), TypeError, a_text), (lambda: whole.remove(wrong), TypeError, a_text),
+            (lambda: array.push(deep).push(deepest), ValueError, too_deep),
+            (lambda: whole.set("/a", deep).set("/a/0", deep), ValueError, too_deep),
+            (lambda: whole.put("a", deepest), ValueError, too_deep),
+            (lambda: v.Key('""').merge(v.Key("{a:" * 512 + "1" + "}" * 512)), ValueError, too_deep)]
+        for call, error, words in calls:
+            with self.assertRaises(error) as raised:
+                call()
+            self.assertEqual((type(raised.exception), str(raised.exception)), (error, words))
+        untyped: Any = whole
+        for missing in (lambda: untyped.set("/a"), lambda: untyped.put("a"), lambda: untyped.push(),
+                        lambda: untyped.of(), lambda: untyped.remove(), lambda: untyped.merge(1, 2),
+                        lambda: untyped.contains(), lambda: untyped.set("/a", 1, make=True)):
+            self.assertRaises(TypeError, missing)
+
+
 class Both(unittest.TestCase):
     """The module in C and that by ctypes."""
 
@@ -499,22 +851,52 @@ class Both(unittest.TestCase):
         for mode in ("standard", 2, None, -1, 2**64):
             self.assertRaises(ValueError, v.text, "1", mode)
 
+    def parsed(self, name: str) -> ast.Module:
+        with open(os.path.join(PACKAGES, "vizhoniku", name), encoding="utf-8") as file:
+            return ast.parse(file.read())
+
+    def parameters_of(self, entry: ast.FunctionDef) -> List[Tuple[str, Any]]:
+        """The names of a call's parameters, but cls, with their defaults."""
+        defaults = [getattr(v, one.id) if isinstance(one, ast.Name) else ast.literal_eval(one)
+                    for one in entry.args.defaults]
+        names = [argument.arg for argument in entry.args.args]
+        values = [inspect.Parameter.empty] * (len(names) - len(defaults)) + defaults
+        return [pair for pair in zip(names, values) if pair[0] != "cls"]
+
     def test_the_stub_is_of_both(self) -> None:
-        with open(os.path.join(PACKAGES, "vizhoniku", "_native.pyi"), encoding="utf-8") as file:
-            stub = ast.parse(file.read())
+        """Each call of the stub is there, with its parameters and their defaults, as help() tells them."""
+        compared = 0
+        for entry in self.parsed("_native.pyi").body:
+            calls: Any = getattr(v, entry.name) if isinstance(entry, ast.ClassDef) else v
+            for call in entry.body if isinstance(entry, ast.ClassDef) else [entry]:
+                if not isinstance(call, ast.FunctionDef):
+                    continue
+                found = calls if call.name == "__new__" else getattr(calls, call.name)
+                if call.decorator_list and isinstance(call.decorator_list[0], ast.Name) and \
+                        call.decorator_list[0].id == "property":
+                    self.assertFalse(callable(found))
+                elif call.name.startswith("__") and call.name != "__new__":
+                    self.assertTrue(callable(found))
+                else:
+                    told = [(name, one.default) for name, one in inspect.signature(found).parameters.items()]
+                    self.assertEqual(told, self.parameters_of(call), call.name)
+                    compared += 1
+        self.assertEqual(compared, 20)
 
-        def compare(body: List[ast.stmt], calls: Any) -> None:
-            for entry in body:
-                if isinstance(entry, ast.ClassDef):
-                    compare(entry.body, getattr(v, entry.name))
-                elif isinstance(entry, ast.FunctionDef):
-                    found = getattr(calls, entry.name)
-                    self.assertTrue(isinstance(found, property) or callable(found) or entry.name == "kind", entry.name)
-                    if not v.NATIVE and inspect.isfunction(found):
-                        self.assertEqual([argument.arg for argument in entry.args.args],
-                                         list(inspect.signature(found).parameters), entry.name)
+    def test_words_of_help(self) -> None:
+        """What help() tells is the same by ctypes and by the module in C."""
+        for entry in self.parsed("_by_ctypes.py").body:
+            calls: Any = getattr(v, entry.name, None) if isinstance(entry, ast.ClassDef) else v
+            for call in entry.body if isinstance(entry, ast.ClassDef) else [entry]:
+                if isinstance(call, ast.FunctionDef) and calls and not call.name.startswith("_"):
+                    words = ast.get_docstring(call) or ""
+                    told = getattr(calls, call.name).__doc__
+                    self.assertEqual(" ".join(told.split()), " ".join(words.split()), call.name)
 
-        compare(stub.body, v)
+    def test_version(self) -> None:
+        with open(os.path.join(TOP, "include", "vizhoniku.h"), encoding="utf-8") as file:
+            found = re.search('#define VIZHONIKU_VERSION_STRING "(.*)"', file.read())
+        self.assertEqual(v.__version__, found and found[1])
 
     def test_types(self) -> None:
         """Where mypy is installed it finds nothing wrong."""
@@ -554,21 +936,33 @@ class Both(unittest.TestCase):
         number: Any = 5
         wrongs: List[Callable[[], Any]] = [
             lambda: v.text("[x"), lambda: v.text(number), lambda: v.text("1", 7), lambda: key["zz"], lambda: key[0],
-            lambda: key.get("a"), lambda: v.Key.from_bytes(b"1"), lambda: len(v.Key("1"))]
-        held = [sys.getrefcount(one) for one in (text, path, key, v.Key, v.EXTENDED, v.STANDARD, None)]
-        for _ in range(3000):
+            lambda: key.get("a"), lambda: v.Key.from_bytes(b"1"), lambda: len(v.Key("1")), lambda: v.Key.of(wrongs),
+            lambda: key.set("a", 1), lambda: key.set(number, 1), lambda: key.set("/a", wrongs), lambda: key.push(1),
+            lambda: key.put("\ud800", key), lambda: key.put("a", wrongs), lambda: key.remove("a"),
+            lambda: key.merge(wrongs), lambda: key.contains(wrongs), lambda: key.set("/a", 1, 1, 1)]  # type: ignore
+
+        def calls() -> None:
             v.text(text), v.sort_key(text, v.STANDARD), v.get(text, path), v.compare(text, text), v.text_and_key(text)
-            v.get(text, "/400"), key.text(), key.get("/a"), key.get("/c"), key["a"][0], list(key.items()), list(key["a"]), len(key)
-            list(reversed(key)), reversed(key["a"])
+            v.get(text, "/400"), key.text(), key.get("/a"), key.get("/c"), key["a"][0], list(key.items())
+            list(key["a"]), len(key), list(reversed(key)), reversed(key["a"])
             "a" in key, hash(key), key == key, repr(key), v.Key.from_bytes(bytes(key)), key.kind, v.Key(text)
             iter(key), key.items()
+            v.Key.of(key), v.Key.of({"a": [text, 1.5, key]}), key.value(), key.contains(key), key.contains({"b": "x"})
+            key.set("/a/0", key), key.set("/c/d", path), key.remove("/a"), key.remove("/c"), key.put("n", key)
+            key["a"].push(key), key.merge(key), key.merge({"b": path})
             for wrong in wrongs:
                 try:
                     wrong()
                 except (ValueError, TypeError, KeyError):
                     pass
+
+        for _ in range(50):
+            calls()
+        held = [sys.getrefcount(one) for one in (text, path, key, v.Key, v.EXTENDED, v.STANDARD, None)]
+        for _ in range(3000):
+            calls()
         now = [sys.getrefcount(one) for one in (text, path, key, v.Key, v.EXTENDED, v.STANDARD, None)]
-        self.assertLess(max(abs(one - two) for one, two in zip(held, now)), 100)
+        self.assertLess(max(abs(one - two) for one, two in zip(held, now)), 1000)  # Python's caches hold some None
 
     def test_memory_is_given_back(self) -> None:
         """Calls with longer texts than those that are written to the stack keep none of the memory that they take."""
@@ -580,6 +974,9 @@ class Both(unittest.TestCase):
             v.check(copied), v.text(copied), v.sort_key(copied), v.text_and_key(zeros), v.get(copied, "")
             v.compare(copied, text), key.text(), v.Key.from_bytes(bytearray(bytes(key))), repr(key)
             list(v.Key('{"%s":1}' % ("x" * 4000)).items())
+            v.Key.of(key.value()), key.set("/1", key), key.remove("/1"), key.push(key), key.merge(key)
+            key.contains(key)
+            v.Key("{}").put("x" * 4000, key).contains({})
             self.assertRaises(v.RejectedText, v.check, '{"%s":1,"%s":1}' % ("x" * 4000, "x" * 4000))
 
         tracemalloc.start()
@@ -635,11 +1032,20 @@ class Growth(unittest.TestCase):
             add("Key.__lt__", what, operator.lt, key, same)
             add("Key.__hash__", what, lambda one: hash(v.Key.from_bytes(one)), data)
             add("Key.__reduce__", what, pickle.dumps, key)
+            value, part = key.value(), v.Key("[1.50]")
+            add("Key.of", what, v.Key.of, value)
+            add("Key.value", what, key.value)
+            add("Key.contains", what, key.contains, part if key.kind == "array" else same)
+            add("Key.set", what, key.set, last if key.kind == "array" else f"/{name}", part)
+            add("Key.remove", what, key.remove, last if key.kind == "array" else f"/{name}")
+            add("Key.merge", what, key.merge, same)
             if key.kind == "object":
+                add("Key.put", what, key.put, "new", part)
                 add("Key.items", what, lambda one: list(one.items()), key)
                 add("Key.__getitem__", what, operator.getitem, key, name)
                 add("Key.__contains__", what, operator.contains, key, "none")
             else:
+                add("Key.push", what, key.push, part)
                 add("Key.__getitem__", what, operator.getitem, key, -1)
                 add("Key.__getitem__", what + ", from the front", operator.getitem, key, size - 1)
                 add("Key.__contains__", what, operator.contains, key, none)
@@ -792,6 +1198,7 @@ uint32_t vizhoniku_message(uint32_t mode, const char *text, size_t text_size, ch
 /* Calls on keys, whose arguments don't matter. */
 #define KEY(name) uint32_t vizhoniku_key_##name(void) { return status; }
 KEY(check) KEY(kind) KEY(count) KEY(member) KEY(item) KEY(part) KEY(begin) KEY(next) KEY(name) KEY(text)
+KEY(contains) KEY(set) KEY(remove) KEY(put) KEY(push) KEY(merge)
 
 void vizhoniku_place(const char *text, size_t text_size, const struct refusal *refusal, struct place *place) {
   (void)text, (void)text_size, (void)refusal;
@@ -1032,6 +1439,27 @@ class InLmdb(unittest.TestCase):
         with self.environment.begin(write=True) as transaction:
             transaction.put(b"no key", b"1")
         self.assertRaises(ValueError, list, self.documents.keys())
+
+    def test_exponents(self) -> None:
+        """JSON with exponents is taken by each call, and is the value of its numbers written out."""
+        self.assertTrue(self.documents.put(json.dumps({"share": 1e-07, "mass": 6.02e23})))
+        self.assertFalse(self.documents.put("{mass: 602000000000000000000000, share: 0.00000010}"))
+        self.assertTrue(self.documents.put("[1E2]"))
+        self.assertTrue(self.documents.put('["%s", 1e2]' % ("x" * 600)))
+        stored, long = '{"mass":602000000000000000000000,"share":0.0000001}', '["%s",100]' % ("x" * 600)
+        self.assertEqual(list(self.documents), [stored, "[100]", long])
+        self.assertEqual(self.documents.get('{"share": 10.0e-8, "mass": 6020e+20}'), stored)
+        self.assertEqual(self.documents.get('["%s", 1.0E2]' % ("x" * 600)), long)
+        self.assertEqual(list(self.documents.between("[9.9e1]", "[1.01e2]")), ["[100]"])
+        self.assertEqual([key.text() for key in self.documents.keys("1e-7", "[1e2]")], [stored])
+        self.assertEqual(list(self.documents.where("/share", "1e-07")), [stored])
+        self.assertEqual(list(self.documents.where("/1", "1e1", "1e3")), [long])
+        self.assertEqual(self.documents.part(v.Key("[1e2]"), "/0"), v.Key("1e2"))
+        for call in (self.documents.put, self.documents.get):
+            with self.assertRaises(v.RejectedText) as raised:
+                call("[1e300]")
+            self.assertEqual(str(raised.exception), "line 1, column 6: number not carried")
+        self.assertRaises(v.RejectedText, Documents(self.environment, v.STANDARD).put, "[1e2]")
 
     def test_hashes_that_are_equal(self) -> None:
         one, two = (f'{{"a":"{"x" * 600}{end}"}}' for end in "12")

@@ -20,6 +20,8 @@ __all__ = [
     "is_valid", "sort_key", "text", "text_and_key",
 ]
 
+__version__ = "0.2.0"
+
 NATIVE = not os.environ.get("VIZHONIKU") and importlib.util.find_spec(__name__ + "._native") is not None
 
 if TYPE_CHECKING or NATIVE:

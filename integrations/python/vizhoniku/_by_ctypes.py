@@ -8,14 +8,17 @@ import ctypes
 import functools
 import os
 import subprocess
-from typing import Any, Iterator, List, Optional, Tuple, Union
+from typing import Any, Callable, Iterator, List, Optional, Tuple, Union
 
-from ._common import BAD_PATH, EXTENDED, NO_KEY, STANDARD, Mode, PathError, RejectedText, Text, rejection
+from ._common import (BAD_PATH, EXTENDED, NO_KEY, NO_NAME, STANDARD, TOO_DEEP, Mode, PathError, RejectedText, Text,
+                      rejection)
+from ._values import text_of, value_of
 
 _SONAME = "libvizhoniku.so.0"
 _VERSION = 6  # the version of the interface, VIZHONIKU_VERSION of the header; a later one only adds to it
 
-_ACCEPTED, _REFUSED, _OUT_OF_MEMORY, _UNKNOWN_MODE, _TOO_SHORT, _NO_PART, _NO_PATH, _NO_KEY = range(8)
+(_ACCEPTED, _REFUSED, _OUT_OF_MEMORY, _UNKNOWN_MODE, _TOO_SHORT, _NO_PART, _NO_PATH, _NO_KEY,
+ _TOO_DEEP) = range(9)
 _KINDS = ("", "null", "boolean", "number", "string", "array", "object")
 
 
@@ -86,9 +89,16 @@ def _load() -> ctypes.CDLL:
         library.vizhoniku_key_next.argtypes = [*text_in, ctypes.POINTER(_Cursor), ctypes.POINTER(_Entry)]
         library.vizhoniku_key_name.argtypes = [*text_in, *text_out]
         library.vizhoniku_key_text.argtypes = [*text_in, *text_out]
+        library.vizhoniku_key_contains.argtypes = [*text_in, *text_in]
+        library.vizhoniku_key_set.argtypes = [*text_in, *text_in, *text_in, ctypes.c_uint32, *text_out]
+        library.vizhoniku_key_remove.argtypes = [*text_in, *text_in, *text_out]
+        library.vizhoniku_key_put.argtypes = [*text_in, *text_in, *text_in, *text_out]
+        library.vizhoniku_key_push.argtypes = [*text_in, *text_in, *text_out]
+        library.vizhoniku_key_merge.argtypes = [*text_in, *text_in, *text_out]
         for name in ("check", "text", "part", "sort_key", "text_and_key", "compare", "message", "key_check", "key_kind",
                      "key_count", "key_member", "key_item", "key_part", "key_begin", "key_next", "key_name",
-                     "key_text", "plain_numbers"):
+                     "key_text", "key_contains", "key_set", "key_remove", "key_put", "key_push", "key_merge",
+                     "plain_numbers"):
             getattr(library, "vizhoniku_" + name).restype = status
         library.vizhoniku_place.restype = None
     except AttributeError as error:
@@ -323,6 +333,26 @@ class Key:
     def __reduce__(self) -> Tuple[Any, Tuple[bytes]]:
         return Key.from_bytes, (self._data,)
 
+    @classmethod
+    def of(cls, value: Any) -> "Key":
+        """The key of a value: a dict, list, tuple, str, int, float, Decimal, bool, None or a key.
+
+        The names of a dict are str. A float is the decimal that repr shows, and a Decimal is exact. TypeError is raised
+        for another type, and ValueError for a number of more than 38 digits, NaN, infinity, half of a surrogate pair
+        and more than 512 nested arrays and objects.
+        """
+        if isinstance(value, Key):
+            return value
+        text = text_of(value, Key)
+        try:
+            return Key(text)
+        except RejectedText:  # of a key in the value, whose arrays and objects are within those of the value
+            raise ValueError(TOO_DEEP) from None
+
+    def value(self) -> Any:
+        """The value: a dict, list, str, int, Decimal, bool or None. A number without a fraction is an int."""
+        return value_of(self)
+
     @property
     def kind(self) -> str:
         """null, boolean, number, string, array or object."""
@@ -348,6 +378,76 @@ class Key:
         offset, size, path_data = ctypes.c_size_t(), ctypes.c_size_t(), _bytes(path)
         status = _library.vizhoniku_key_part(self._data, len(self._data), path_data, len(path_data), offset, size)
         return self._found(status, offset, size)
+
+    def contains(self, other: Any) -> bool:
+        """Whether the value contains another one, as @> of PostgreSQL's jsonb tells: a key or what Key.of takes."""
+        data = Key.of(other)._data
+        status = _library.vizhoniku_key_contains(self._data, len(self._data), data, len(data))
+        if status == _NO_PART:
+            return False
+        _raise_of_key(status)
+        return True
+
+    def set(self, path: Text, value: Any, create: bool = True) -> "Key":
+        """The key with the part at the path set to the value, which is a key or what Key.of takes.
+
+        Where only the last step leads nowhere, a member or an item is added, unless create is false. In an array -1 is
+        the last item, and an index past either end adds one there. The key itself where nothing changes.
+        """
+        path_data, data = _bytes(path), Key.of(value)._data
+        return self._changed(functools.partial(
+            _library.vizhoniku_key_set, self._data, len(self._data), path_data, len(path_data), data, len(data),
+            bool(create)), len(path_data) + len(data))
+
+    def remove(self, path: Text) -> "Key":
+        """The key without the part at the path, or the key itself where there is none."""
+        data = _bytes(path)
+        return self._changed(functools.partial(
+            _library.vizhoniku_key_remove, self._data, len(self._data), data, len(data)), 0)
+
+    def put(self, name: str, value: Any) -> "Key":
+        """The key of an object with a member of this name and value, which is a key or what Key.of takes."""
+        if not isinstance(name, str):
+            raise TypeError(f"a name is a str, and not {type(name).__name__}")
+        self._needs("object")
+        name_data, data = _bytes(name), Key.of(value)._data
+        try:
+            return self._changed(functools.partial(
+                _library.vizhoniku_key_put, self._data, len(self._data), name_data, len(name_data), data, len(data)),
+                2 * len(name_data) + len(data))
+        except PathError:
+            raise ValueError(NO_NAME) from None
+
+    def push(self, item: Any) -> "Key":
+        """The key of an array with an item more at its end, which is a key or what Key.of takes."""
+        self._needs("array")
+        data = Key.of(item)._data
+        return self._changed(functools.partial(
+            _library.vizhoniku_key_push, self._data, len(self._data), data, len(data)), len(data))
+
+    def merge(self, other: Any) -> "Key":
+        """The key merged with another value, as || of PostgreSQL's jsonb does: a key or what Key.of takes.
+
+        Two objects become one with the members of both, where those of the other win. Else two arrays become one, for
+        which a value that is no array is an array of itself.
+        """
+        data = Key.of(other)._data
+        return self._changed(functools.partial(
+            _library.vizhoniku_key_merge, self._data, len(self._data), data, len(data)), len(data))
+
+    def _changed(self, call: Callable[..., int], more: int) -> "Key":
+        """What the call writes, of as many bytes more than the key has, or a few more."""
+        room, size = len(self._data) + more + 64, ctypes.c_size_t()
+        while True:
+            buffer = ctypes.create_string_buffer(room)
+            status = call(buffer, room, size)
+            if status != _TOO_SHORT:
+                break
+            room = size.value
+        if status == _NO_PART:
+            return self
+        _raise_of_key(status)
+        return Key._of(ctypes.string_at(buffer, size.value))
 
     def _found(self, status: int, offset: ctypes.c_size_t, size: ctypes.c_size_t) -> "Optional[Key]":
         if status == _NO_PART:
@@ -461,6 +561,8 @@ def _raise_of_key(status: int) -> None:
         raise PathError(BAD_PATH)
     if status == _NO_KEY:
         raise ValueError(NO_KEY)
+    if status == _TOO_DEEP:
+        raise ValueError(TOO_DEEP)
     if status != _ACCEPTED:
         raise RuntimeError(f"unknown status {status}")
 

@@ -7,6 +7,8 @@ Text = Union[str, bytes, bytearray, memoryview]
 
 BAD_PATH = ("the path isn't spelled as RFC 6901 has it: it is empty or begins with /, and ~ stands only in ~0 and ~1")
 NO_KEY = "the bytes aren't a sort key"
+TOO_DEEP = "more than 512 nested arrays and objects"
+NO_NAME = "the name isn't UTF-8"
 
 
 class Mode(enum.IntEnum):

@@ -26,8 +26,14 @@ struct state {
   PyObject *extended;
   PyObject *path_error;
   PyObject *rejection; /* makes a RejectedText */
+  PyObject *rejected;  /* the class RejectedText */
+  PyObject *text_of;   /* the text of what Key.of takes */
+  PyObject *value_of;  /* the value of a key */
+  PyObject *decimal;   /* the class Decimal */
   PyObject *bad_path;  /* words */
   PyObject *no_key;
+  PyObject *no_name;
+  PyObject *too_deep;
   PyObject *key_type;
   PyObject *parts_type;
   PyObject *kinds[VIZHONIKU_OBJECT + 1]; /* names of kinds */
@@ -168,6 +174,8 @@ static void raise_status(const struct state *state, uint32_t status) {
     PyErr_SetObject(state->path_error, state->bad_path);
   else if (status == VIZHONIKU_NO_KEY)
     PyErr_SetObject(PyExc_ValueError, state->no_key);
+  else if (status == VIZHONIKU_TOO_DEEP)
+    PyErr_SetObject(PyExc_ValueError, state->too_deep);
   else
     PyErr_Format(PyExc_RuntimeError, "unknown status %u", (unsigned)status);
 }
@@ -517,10 +525,20 @@ static void key_free(PyObject *self) { free_with_data(self, ((struct key *)self)
 
 static void parts_free(PyObject *self) { free_with_data(self, ((struct parts *)self)->data); }
 
-static PyObject *key_from_bytes(PyObject *type, PyObject *object) {
+/* Reads the arguments of a call of one object. Returns it, or NULL where an exception is raised. */
+static PyObject *read_one(const char *function, const char *name, PyObject *const *given, Py_ssize_t count,
+                          PyObject *keywords) {
+  const char *const names[] = {name, NULL};
+  PyObject *arguments[MOST];
+  return sort_arguments(function, names, 1, given, count, keywords, arguments) ? arguments[0] : NULL;
+}
+
+static PyObject *key_from_bytes(PyObject *type, PyObject *const *given, Py_ssize_t count, PyObject *keywords) {
   const struct state *state = PyType_GetModuleState((PyTypeObject *)type);
   struct text text = {NULL, 0, NULL};
   uint32_t status = VIZHONIKU_NO_KEY;
+  PyObject *object = read_one("from_bytes", "data", given, count, keywords);
+  if (!object) return NULL;
   if (PyUnicode_Check(object)) {
     raise_type(A_KEY, object);
     return NULL;
@@ -598,10 +616,11 @@ static PyObject *found(const struct state *state, struct text key, uint32_t stat
   return NULL;
 }
 
-static PyObject *key_get(PyObject *self, PyObject *object) {
+static PyObject *key_get(PyObject *self, PyObject *const *given, Py_ssize_t count, PyObject *keywords) {
   struct text key = key_text(((struct key *)self)->data), path;
   size_t offset = 0, size = 0;
-  if (!read_text(object, A_TEXT, &path)) return NULL;
+  PyObject *object = read_one("get", "path", given, count, keywords);
+  if (!object || !read_text(object, A_TEXT, &path)) return NULL;
   uint32_t status = vizhoniku_key_part(key.at, key.size, path.at, path.size, &offset, &size);
   free_text(&path);
   return found(state_of(self), key, status, offset, size);
@@ -804,16 +823,373 @@ static PyObject *parts_next(PyObject *self) {
   return NULL;
 }
 
+/* Appends bytes. Returns 0 where there is no memory for them. */
+static int put(struct written *out, const void *bytes, size_t size) {
+  if (size > out->room - out->size) {
+    size_t room = 2 * out->room + size;
+    unsigned char *at = out->at == out->small ? PyMem_Malloc(room) : PyMem_Realloc(out->at, room);
+    if (!at) return 0;
+    if (out->at == out->small) memcpy(at, out->small, out->size);
+    out->at = at;
+    out->room = room;
+  }
+  memcpy(out->at + out->size, bytes, size);
+  out->size += size;
+  return 1;
+}
+
+/* Appends a string in quotes. Returns 0 where it isn't of the type str, or isn't UTF-8. */
+static int put_string(struct written *out, PyObject *string) {
+  static const char digits[] = "0123456789abcdef";
+  Py_ssize_t size, from = 0;
+  const char *text = PyUnicode_CheckExact(string) ? PyUnicode_AsUTF8AndSize(string, &size) : NULL;
+  if (!text || !put(out, "\"", 1)) return 0;
+  for (Py_ssize_t i = 0; i < size; i++) {
+    unsigned char byte = (unsigned char)text[i];
+    if (byte >= ' ' && byte != '"' && byte != '\\') continue;
+    char escape[] = {'\\', 'u', '0', '0', digits[byte >> 4], digits[byte & 15]};
+    if (!put(out, text + from, (size_t)(i - from)) || !put(out, escape, sizeof escape)) return 0;
+    from = i + 1;
+  }
+  return put(out, text + from, (size_t)(size - from)) && put(out, "\"", 1);
+}
+
+/* Appends the words of a number, which str or repr returned. Returns 0 where they are those of none. */
+static int put_words(struct written *out, PyObject *words) {
+  Py_ssize_t size = 0;
+  const char *text = words ? PyUnicode_AsUTF8AndSize(words, &size) : NULL;
+  int is_put = size && text[text[0] == '-'] <= '9' && put(out, text, (size_t)size);
+  Py_XDECREF(words);
+  return is_put;
+}
+
+/* Appends a scalar. Returns 0 where it isn't of the usual types, or there is no text of it. */
+static int put_scalar(const struct state *state, struct written *out, PyObject *value) {
+  if (value == Py_None) return put(out, "null", 4);
+  if (value == Py_True) return put(out, "true", 4);
+  if (value == Py_False) return put(out, "false", 5);
+  if (PyUnicode_CheckExact(value)) return put_string(out, value);
+  if (PyLong_CheckExact(value) || PyFloat_CheckExact(value)) return put_words(out, PyObject_Repr(value));
+  return Py_TYPE(value) == (PyTypeObject *)state->decimal && put_words(out, PyObject_Str(value));
+}
+
+/* A dict, list or tuple that is written, and which part of it comes next. */
+struct level {
+  PyObject *container;
+  Py_ssize_t next;
+};
+
+/* Finds the next part, and its name in a dict, else NULL. Returns 0 where there is none any more. */
+static int next_part(struct level *level, PyObject **name, PyObject **part) {
+  PyObject *container = level->container;
+  *name = NULL;
+  if (PyDict_CheckExact(container)) return PyDict_Next(container, &level->next, name, part);
+  int is_list = PyList_CheckExact(container);
+  if (level->next >= (is_list ? PyList_Size(container) : PyTuple_Size(container))) return 0;
+  *part = is_list ? PyList_GetItem(container, level->next) : PyTuple_GetItem(container, level->next);
+  level->next++;
+  return 1;
+}
+
+/* Levels of a value at most. */
+#define DEPTH 512
+
+/* Appends a scalar, or begins with what has parts. Returns 0 where the value isn't a usual one. */
+static int put_value(const struct state *state, struct written *out, PyObject *value, struct level *levels,
+                     size_t *depth) {
+  int is_dict = PyDict_CheckExact(value), is_put = 1;
+  Py_INCREF(value);
+  if (is_dict || PyList_CheckExact(value) || PyTuple_CheckExact(value)) {
+    if (*depth < DEPTH && put(out, is_dict ? "{" : "[", 1)) {
+      levels[(*depth)++] = (struct level){value, 0};
+      return 1;
+    }
+    is_put = 0;
+  }
+  is_put = is_put && put_scalar(state, out, value);
+  Py_DECREF(value);
+  return is_put;
+}
+
+/* Appends the JSON text of a value of the usual types. Returns 0 where it has others, or no text: the package's text_of
+ * tells what is wrong, if anything is. It doesn't call itself. */
+static int put_usual(const struct state *state, struct written *out, PyObject *value) {
+  struct level levels[DEPTH];
+  size_t depth = 0;
+  int is_put = put_value(state, out, value, levels, &depth);
+  while (is_put && depth) {
+    struct level *level = &levels[depth - 1];
+    PyObject *name, *part;
+    if (next_part(level, &name, &part)) {
+      int is_first = out->at[out->size - 1] == '[' || out->at[out->size - 1] == '{';
+      is_put = (is_first || put(out, ",", 1)) && (!name || (put_string(out, name) && put(out, ":", 1))) &&
+               put_value(state, out, part, levels, &depth);
+    } else {
+      is_put = put(out, PyDict_CheckExact(level->container) ? "}" : "]", 1);
+      Py_DECREF(level->container);
+      depth--;
+    }
+  }
+  while (depth) Py_DECREF(levels[--depth].container);
+  return is_put;
+}
+
+/* The bytes of the key of a value of the usual types, or NULL, also where an exception is raised. */
+static PyObject *data_of_usual(const struct state *state, PyObject *value) {
+  struct written text, key;
+  PyObject *data = NULL;
+  begin_written(&text);
+  begin_written(&key);
+  if (put_usual(state, &text, value)) {
+    struct text read = {text.at, text.size, NULL};
+    if (call_library(state, SORT_KEY, VIZHONIKU_EXTENDED, NULL, NULL, &read, NULL, &key, 1, 0) == VIZHONIKU_ACCEPTED)
+      data = bytes_of(&key);
+  }
+  free_written(&text);
+  free_written(&key);
+  return data;
+}
+
+/* The bytes of a key, or of the key that Key.of makes of another value. */
+static PyObject *data_of(const struct state *state, PyObject *value) {
+  if (Py_TYPE(value) == (PyTypeObject *)state->key_type) {
+    Py_INCREF(((struct key *)value)->data);
+    return ((struct key *)value)->data;
+  }
+  PyObject *data = data_of_usual(state, value);
+  if (data) return data;
+  PyErr_Clear();
+  PyObject *text = PyObject_CallFunctionObjArgs(state->text_of, value, state->key_type, NULL);
+  if (!text) return NULL;
+  data = key_of_text(state, text, VIZHONIKU_EXTENDED);
+  Py_DECREF(text);
+  if (data || !PyErr_ExceptionMatches(state->rejected)) return data;
+  /* Of a key in the value, whose arrays and objects are within those of the value. */
+  PyErr_Clear();
+  PyErr_SetObject(PyExc_ValueError, state->too_deep);
+  return NULL;
+}
+
+/* Reads a key, or a value that Key.of takes. Returns 0 where an exception is raised. */
+static int read_value(const struct state *state, PyObject *value, struct text *text) {
+  PyObject *data = data_of(state, value);
+  if (!data) return 0;
+  *text = key_text(data);
+  text->holder = data;
+  return 1;
+}
+
+static PyObject *key_of(PyObject *type, PyObject *const *given, Py_ssize_t count, PyObject *keywords) {
+  const struct state *state = PyType_GetModuleState((PyTypeObject *)type);
+  PyObject *value = read_one("of", "value", given, count, keywords);
+  if (!value) return NULL;
+  if (Py_TYPE(value) != (PyTypeObject *)state->key_type) return make_key(state, data_of(state, value));
+  Py_INCREF(value);
+  return value;
+}
+
+static PyObject *key_value(PyObject *self, PyObject *none) {
+  (void)none;
+  return PyObject_CallFunctionObjArgs(state_of(self)->value_of, self, NULL);
+}
+
+static PyObject *key_py_contains(PyObject *self, PyObject *const *given, Py_ssize_t count, PyObject *keywords) {
+  struct text key = key_text(((struct key *)self)->data), other;
+  uint32_t status;
+  PyObject *value = read_one("contains", "other", given, count, keywords);
+  if (!value || !read_value(state_of(self), value, &other)) return NULL;
+  if (key.size >= RELEASED) {
+    Py_BEGIN_ALLOW_THREADS
+    status = vizhoniku_key_contains(key.at, key.size, other.at, other.size);
+    Py_END_ALLOW_THREADS
+  } else {
+    status = vizhoniku_key_contains(key.at, key.size, other.at, other.size);
+  }
+  free_text(&other);
+  if (status == VIZHONIKU_ACCEPTED || status == VIZHONIKU_NO_PART)
+    return PyBool_FromLong(status == VIZHONIKU_ACCEPTED);
+  raise_status(state_of(self), status);
+  return NULL;
+}
+
+/* A change of a key: what is done, where, and with the key of what. */
+struct change {
+  enum { SET, REMOVE, PUT, PUSH, MERGE } what;
+  struct text step; /* a path or a name */
+  struct text part;
+  uint32_t create;
+};
+
+static void free_change(struct change *change) {
+  free_text(&change->step);
+  free_text(&change->part);
+}
+
+/* Calls the library once. */
+static uint32_t change_once(const struct change *change, const struct text *key, struct written *written) {
+  const struct text *step = &change->step, *part = &change->part;
+  switch (change->what) {
+  case SET:
+    return vizhoniku_key_set(key->at, key->size, step->at, step->size, part->at, part->size, change->create,
+                             written->at, written->room, &written->size);
+  case REMOVE:
+    return vizhoniku_key_remove(key->at, key->size, step->at, step->size, written->at, written->room, &written->size);
+  case PUT:
+    return vizhoniku_key_put(key->at, key->size, step->at, step->size, part->at, part->size, written->at,
+                             written->room, &written->size);
+  case PUSH:
+    return vizhoniku_key_push(key->at, key->size, part->at, part->size, written->at, written->room, &written->size);
+  default:
+    return vizhoniku_key_merge(key->at, key->size, part->at, part->size, written->at, written->room, &written->size);
+  }
+}
+
+/* The changed key, or the key itself where nothing changes. */
+static PyObject *changed(PyObject *self, const struct change *change) {
+  const struct state *state = state_of(self);
+  struct text key = key_text(((struct key *)self)->data);
+  struct written written;
+  PyObject *result = NULL;
+  uint32_t status;
+  begin_written(&written);
+  if (!make_room(&written, key.size + 2 * change->step.size + change->part.size + 64)) return NULL;
+  for (;;) {
+    if (key.size >= RELEASED) {
+      Py_BEGIN_ALLOW_THREADS
+      status = change_once(change, &key, &written);
+      Py_END_ALLOW_THREADS
+    } else {
+      status = change_once(change, &key, &written);
+    }
+    if (status != VIZHONIKU_TOO_SHORT) break;
+    if (!make_room(&written, written.size)) return NULL;
+  }
+  if (status == VIZHONIKU_ACCEPTED) {
+    result = make_key(state, bytes_of(&written));
+  } else if (status == VIZHONIKU_NO_PART) {
+    Py_INCREF(self);
+    result = self;
+  } else if (status == VIZHONIKU_NO_PATH && change->what == PUT) {
+    PyErr_SetObject(PyExc_ValueError, state->no_name);
+  } else {
+    raise_status(state, status);
+  }
+  free_written(&written);
+  return result;
+}
+
+static PyObject *key_set(PyObject *self, PyObject *const *given, Py_ssize_t count, PyObject *keywords) {
+  static const char *const names[] = {"path", "value", "create", NULL};
+  struct change change = {SET, {NULL, 0, NULL}, {NULL, 0, NULL}, 1};
+  PyObject *arguments[MOST], *result = NULL;
+  if (!sort_arguments("set", names, 2, given, count, keywords, arguments)) return NULL;
+  int create = arguments[2] ? PyObject_IsTrue(arguments[2]) : 1;
+  change.create = create != 0;
+  if (create >= 0 && read_text(arguments[0], A_TEXT, &change.step) &&
+      read_value(state_of(self), arguments[1], &change.part))
+    result = changed(self, &change);
+  free_change(&change);
+  return result;
+}
+
+static PyObject *key_remove(PyObject *self, PyObject *const *given, Py_ssize_t count, PyObject *keywords) {
+  struct change change = {REMOVE, {NULL, 0, NULL}, {NULL, 0, NULL}, 0};
+  PyObject *path = read_one("remove", "path", given, count, keywords);
+  if (!path || !read_text(path, A_TEXT, &change.step)) return NULL;
+  PyObject *result = changed(self, &change);
+  free_change(&change);
+  return result;
+}
+
+static PyObject *key_put(PyObject *self, PyObject *const *given, Py_ssize_t count, PyObject *keywords) {
+  static const char *const names[] = {"name", "value", NULL};
+  struct change change = {PUT, {NULL, 0, NULL}, {NULL, 0, NULL}, 0};
+  PyObject *arguments[MOST], *result = NULL;
+  if (!sort_arguments("put", names, 2, given, count, keywords, arguments)) return NULL;
+  if (!PyUnicode_Check(arguments[0])) {
+    raise_type("a name is a str, and not %U", arguments[0]);
+    return NULL;
+  }
+  if (need_kind(self, VIZHONIKU_OBJECT, VIZHONIKU_OBJECT) && read_text(arguments[0], A_TEXT, &change.step) &&
+      read_value(state_of(self), arguments[1], &change.part))
+    result = changed(self, &change);
+  free_change(&change);
+  return result;
+}
+
+static PyObject *key_push(PyObject *self, PyObject *const *given, Py_ssize_t count, PyObject *keywords) {
+  struct change change = {PUSH, {NULL, 0, NULL}, {NULL, 0, NULL}, 0};
+  PyObject *item = read_one("push", "item", given, count, keywords);
+  if (!item || !need_kind(self, VIZHONIKU_ARRAY, VIZHONIKU_ARRAY) || !read_value(state_of(self), item, &change.part))
+    return NULL;
+  PyObject *result = changed(self, &change);
+  free_change(&change);
+  return result;
+}
+
+static PyObject *key_merge(PyObject *self, PyObject *const *given, Py_ssize_t count, PyObject *keywords) {
+  struct change change = {MERGE, {NULL, 0, NULL}, {NULL, 0, NULL}, 0};
+  PyObject *other = read_one("merge", "other", given, count, keywords);
+  if (!other || !read_value(state_of(self), other, &change.part)) return NULL;
+  PyObject *result = changed(self, &change);
+  free_change(&change);
+  return result;
+}
+
+/* ISO C has no pointer to void for a function; Python's slots ask for it, as POSIX does. */
+#define SLOT(call) ((void *)(uintptr_t)(call))
+
+#define CALL(call) ((PyCFunction)(void (*)(void))(call)), METH_FASTCALL | METH_KEYWORDS
+
+/* What help() tells of a call: its parameters, as inspect.signature reads them, and words. */
+#define HELP(signature, words) signature "\n--\n\n" words
+
 static PyMethodDef key_methods[] = {
-    {"from_bytes", key_from_bytes, METH_O | METH_CLASS,
-     "The key that bytes(key) was. Raises ValueError where the bytes aren't a sort key."},
-    {"__bytes__", key_bytes, METH_NOARGS, NULL},
-    {"__reduce__", key_reduce, METH_NOARGS, NULL},
-    {"text", key_py_text, METH_NOARGS, "The text of the value, with the fewest digits in each number."},
-    {"get", key_get, METH_O,
-     "The part at the path, as RFC 6901 spells it, or None. Raises PathError where the path isn't spelled so."},
-    {"__reversed__", key_reversed, METH_NOARGS, NULL},
-    {"items", key_items, METH_NOARGS, "The members of an object, in the order of their names' bytes."},
+    {"from_bytes", CALL(key_from_bytes) | METH_CLASS,
+     HELP("from_bytes($type, data)",
+          "The key that bytes(key) was. Raises ValueError where the bytes aren't a sort key.")},
+    {"of", CALL(key_of) | METH_CLASS,
+     HELP("of($type, value)",
+          "The key of a value: a dict, list, tuple, str, int, float, Decimal, bool, None or a key.\n\n"
+          "The names of a dict are str. A float is the decimal that repr shows, and a Decimal is exact. TypeError is\n"
+          "raised for another type, and ValueError for a number of more than 38 digits, NaN, infinity, half of a\n"
+          "surrogate pair and more than 512 nested arrays and objects.")},
+    {"value", key_value, METH_NOARGS,
+     HELP("value($self)",
+          "The value: a dict, list, str, int, Decimal, bool or None. A number without a fraction is an int.")},
+    {"__bytes__", key_bytes, METH_NOARGS, HELP("__bytes__($self)", "The bytes that from_bytes takes.")},
+    {"__reduce__", key_reduce, METH_NOARGS, HELP("__reduce__($self)", "For pickle.")},
+    {"text", key_py_text, METH_NOARGS,
+     HELP("text($self)", "The text of the value, with the fewest digits in each number.")},
+    {"get", CALL(key_get),
+     HELP("get($self, path)",
+          "The part at the path, as RFC 6901 spells it, or None. Raises PathError where the path isn't spelled so.")},
+    {"contains", CALL(key_py_contains),
+     HELP("contains($self, other)",
+          "Whether the value contains another one, as @> of PostgreSQL's jsonb tells: a key or what Key.of takes.")},
+    {"set", CALL(key_set),
+     HELP("set($self, path, value, create=True)",
+          "The key with the part at the path set to the value, which is a key or what Key.of takes.\n\n"
+          "Where only the last step leads nowhere, a member or an item is added, unless create is false. In an array\n"
+          "-1 is the last item, and an index past either end adds one there. The key itself where nothing changes.")},
+    {"remove", CALL(key_remove),
+     HELP("remove($self, path)",
+          "The key without the part at the path, or the key itself where there is none.")},
+    {"put", CALL(key_put),
+     HELP("put($self, name, value)",
+          "The key of an object with a member of this name and value, which is a key or what Key.of takes.")},
+    {"push", CALL(key_push),
+     HELP("push($self, item)",
+          "The key of an array with an item more at its end, which is a key or what Key.of takes.")},
+    {"merge", CALL(key_merge),
+     HELP("merge($self, other)",
+          "The key merged with another value, as || of PostgreSQL's jsonb does: a key or what Key.of takes.\n\n"
+          "Two objects become one with the members of both, where those of the other win. Else two arrays become one,\n"
+          "for which a value that is no array is an array of itself.")},
+    {"__reversed__", key_reversed, METH_NOARGS,
+     HELP("__reversed__($self)", "The same as iter, from the last one on.")},
+    {"items", key_items, METH_NOARGS,
+     HELP("items($self)", "The members of an object, in the order of their names' bytes.")},
     {NULL, NULL, 0, NULL},
 };
 
@@ -822,11 +1198,9 @@ static PyGetSetDef key_properties[] = {
     {NULL, NULL, NULL, NULL, NULL},
 };
 
-/* ISO C has no pointer to void for a function; Python's slots ask for it, as POSIX does. */
-#define SLOT(call) ((void *)(uintptr_t)(call))
-
 static PyType_Slot key_slots[] = {
-    {Py_tp_doc, "A document as its sort key: bytes that compare as the values do. Its parts are found in them.\n\n"
+    {Py_tp_doc, "Key(text, mode=EXTENDED)\n--\n\n"
+                "A document as its sort key: bytes that compare as the values do. Its parts are found in them.\n\n"
                 "Keys are compared and hashed by their bytes, so by value. An array is iterated over its items, which\n"
                 "are keys, and an object over the names of its members, which are str; len counts either. A key is\n"
                 "always true."},
@@ -859,21 +1233,28 @@ static PyType_Spec parts_spec = {"vizhoniku._native.Parts", sizeof(struct parts)
                                  Py_TPFLAGS_DEFAULT | Py_TPFLAGS_DISALLOW_INSTANTIATION | Py_TPFLAGS_IMMUTABLETYPE,
                                  parts_slots};
 
-#define CALL(call) ((PyCFunction)(void (*)(void))(call))
-
 static PyMethodDef functions[] = {
-    {"check", CALL(py_check), METH_FASTCALL | METH_KEYWORDS, "Raises RejectedText where the text is no document."},
-    {"is_valid", CALL(py_is_valid), METH_FASTCALL | METH_KEYWORDS, "Whether the text is a document."},
-    {"text", CALL(py_text), METH_FASTCALL | METH_KEYWORDS,
-     "The text of the document's value: no whitespace, and members in the order of their keys' bytes."},
-    {"sort_key", CALL(py_sort_key), METH_FASTCALL | METH_KEYWORDS,
-     "Bytes that compare as the values of documents do: equal for equal values, and none the beginning of others."},
-    {"text_and_key", CALL(py_text_and_key), METH_FASTCALL | METH_KEYWORDS,
-     "What text and sort_key return, of one reading."},
-    {"get", CALL(py_get), METH_FASTCALL | METH_KEYWORDS,
-     "The text of the part at the path, as RFC 6901 spells it, or None where nothing stands there."},
-    {"compare", CALL(py_compare), METH_FASTCALL | METH_KEYWORDS,
-     "-1, 0 or 1: the first document's value is below the second's, equal to it, or above it."},
+    {"check", CALL(py_check),
+     HELP("check($module, text, mode=EXTENDED)", "Raises RejectedText where the text is no document.")},
+    {"is_valid", CALL(py_is_valid),
+     HELP("is_valid($module, text, mode=EXTENDED)", "Whether the text is a document.")},
+    {"text", CALL(py_text),
+     HELP("text($module, text, mode=EXTENDED)",
+          "The text of the document's value: no whitespace, and members in the order of their keys' bytes.")},
+    {"sort_key", CALL(py_sort_key),
+     HELP("sort_key($module, text, mode=EXTENDED)",
+          "Bytes that compare as the values of documents do: equal for equal values, and none the beginning of\n"
+          "others.")},
+    {"text_and_key", CALL(py_text_and_key),
+     HELP("text_and_key($module, text, mode=EXTENDED)", "What text and sort_key return, of one reading.")},
+    {"get", CALL(py_get),
+     HELP("get($module, text, path, mode=EXTENDED)",
+          "The text of the part at the path, as RFC 6901 spells it, or None where nothing stands there.\n\n"
+          "The path \"\" is the whole document, and \"/a/0\" the first item of the member \"a\". PathError is raised\n"
+          "where the path isn't spelled so.")},
+    {"compare", CALL(py_compare),
+     HELP("compare($module, left, right, mode=EXTENDED)",
+          "-1, 0 or 1: the first document's value is below the second's, equal to it, or above it.")},
     {NULL, NULL, 0, NULL},
 };
 
@@ -887,9 +1268,18 @@ static int fill_state(PyObject *module, struct state *state) {
   state->extended = PyObject_GetAttrString(common, "EXTENDED");
   state->path_error = PyObject_GetAttrString(common, "PathError");
   state->rejection = PyObject_GetAttrString(common, "rejection");
+  state->rejected = PyObject_GetAttrString(common, "RejectedText");
   state->bad_path = PyObject_GetAttrString(common, "BAD_PATH");
   state->no_key = PyObject_GetAttrString(common, "NO_KEY");
+  state->no_name = PyObject_GetAttrString(common, "NO_NAME");
+  state->too_deep = PyObject_GetAttrString(common, "TOO_DEEP");
   Py_DECREF(common);
+  PyObject *values = PyImport_ImportModule("vizhoniku._values");
+  if (!values) return -1;
+  state->text_of = PyObject_GetAttrString(values, "text_of");
+  state->value_of = PyObject_GetAttrString(values, "value_of");
+  state->decimal = PyObject_GetAttrString(values, "Decimal");
+  Py_DECREF(values);
   for (size_t i = 0; i < sizeof kinds / sizeof *kinds; i++) {
     if (!(state->kinds[i] = PyUnicode_InternFromString(kinds[i]))) return -1;
   }
@@ -897,6 +1287,8 @@ static int fill_state(PyObject *module, struct state *state) {
   state->key_type = PyType_FromModuleAndSpec(module, &key_spec, NULL);
   state->parts_type = PyType_FromModuleAndSpec(module, &parts_spec, NULL);
   if (!state->key_type || !state->parts_type) return -1;
+  /* The default of a parameter is looked up by its name. */
+  if (PyModule_AddObjectRef(module, "EXTENDED", state->extended) < 0) return -1;
   return PyModule_AddObjectRef(module, "Key", state->key_type);
 }
 
@@ -916,6 +1308,10 @@ static int traverse(PyObject *module, visitproc visit, void *arg) {
   Py_VISIT(state->extended);
   Py_VISIT(state->path_error);
   Py_VISIT(state->rejection);
+  Py_VISIT(state->rejected);
+  Py_VISIT(state->text_of);
+  Py_VISIT(state->value_of);
+  Py_VISIT(state->decimal);
   Py_VISIT(state->key_type);
   Py_VISIT(state->parts_type);
   return 0;
@@ -928,8 +1324,14 @@ static int clear(PyObject *module) {
   Py_CLEAR(state->extended);
   Py_CLEAR(state->path_error);
   Py_CLEAR(state->rejection);
+  Py_CLEAR(state->rejected);
+  Py_CLEAR(state->text_of);
+  Py_CLEAR(state->value_of);
+  Py_CLEAR(state->decimal);
   Py_CLEAR(state->bad_path);
   Py_CLEAR(state->no_key);
+  Py_CLEAR(state->no_name);
+  Py_CLEAR(state->too_deep);
   Py_CLEAR(state->key_type);
   Py_CLEAR(state->parts_type);
   for (size_t i = 0; i < sizeof state->kinds / sizeof *state->kinds; i++) Py_CLEAR(state->kinds[i]);

@@ -1,0 +1,167 @@
+"""Values of Python and documents: what Key.value returns, and the text of what Key.of takes.
+
+Neither calls itself, so that a document of 512 levels takes no more of the stack than a flat one.
+"""
+
+import json
+from decimal import Decimal
+from typing import Any, Iterable, Iterator, List, NoReturn, Optional, Set, Tuple, Type, Union
+
+from ._common import TOO_DEEP
+
+_LEVELS = 512  # arrays and objects in one another
+_DIGITS = 38  # of a number, before and behind the point together
+
+_decode = json.JSONDecoder(parse_float=Decimal).decode
+_quote = json.JSONEncoder(ensure_ascii=False).encode  # of a str
+
+
+def value_of(key: Any) -> Any:
+    """The value of a key: a number without a fraction is an int, any other a Decimal."""
+    text: str = key.text()
+    try:
+        return _decode(text)
+    except RecursionError:  # which json raises where the caller's calls are deep already
+        return _value_by_parts(key)
+
+
+def _value_by_parts(key: Any) -> Any:
+    whole: List[Any] = []
+    open_ones: List[Tuple[Iterator[Tuple[Any, Any]], Any]] = [(iter([(None, key)]), whole)]
+    while open_ones:
+        parts, into = open_ones[-1]
+        for name, part in parts:
+            kind = part.kind
+            made: Any = {} if kind == "object" else [] if kind == "array" else _decode(part.text())
+            if isinstance(into, list):
+                into.append(made)
+            else:
+                into[name] = made
+            if kind in ("object", "array"):
+                open_ones.append((part.items() if kind == "object" else ((None, item) for item in part), made))
+                break
+        else:
+            open_ones.pop()
+    return whole[0]
+
+
+def text_of(value: object, key_type: type) -> str:
+    """The JSON text of a value, where a key in it stands for its document. TypeError or ValueError where it has none,
+    with the path of what has none."""
+    return _Writer(key_type).write(value)
+
+
+def _decimal(value: Decimal) -> Optional[str]:
+    """The text of a finite number, exactly, without zeros at its end; None where it has too many digits."""
+    sign, digits, exponent = value.as_tuple()
+    text = "".join(map(str, digits))
+    kept = text.rstrip("0")
+    power = int(exponent) + len(text) - len(kept)  # the value is the kept digits times 10 to this
+    if not kept:
+        return "0"
+    if len(kept) + max(power, 0) > _DIGITS or -power > _DIGITS:
+        return None
+    if power >= 0:
+        return "-" * sign + kept + "0" * power
+    kept = kept.zfill(1 - power)
+    return "-" * sign + kept[:power] + "." + kept[power:]
+
+
+class _Level:
+    """A dict, a list or a tuple that is written: what is left of it, and the name or the index of what is written."""
+
+    __slots__ = ("container", "parts", "step", "end")
+
+    def __init__(self, container: object, parts: Iterable[Tuple[Any, Any]], end: str) -> None:
+        self.container = container
+        self.parts = iter(parts)
+        self.step: Union[str, int, None] = None
+        self.end = end
+
+
+class _Writer:
+    def __init__(self, key_type: type) -> None:
+        self._key_type = key_type
+        self._out: List[str] = []
+        self._levels: List[_Level] = []
+        self._open: Set[int] = set()  # the identities of the containers
+
+    def write(self, value: object) -> str:
+        self._value(value)
+        while self._levels:
+            level = self._levels[-1]
+            is_first = level.step is None
+            for level.step, part in level.parts:
+                if not is_first:
+                    self._out.append(",")
+                if isinstance(level.step, str):
+                    self._out.append(_quote(level.step) + ":")
+                self._value(part)
+                break
+            else:
+                self._out.append(level.end)
+                self._open.remove(id(level.container))
+                self._levels.pop()
+        return "".join(self._out)
+
+    def _fail(self, error: Type[Exception], words: str) -> NoReturn:
+        path = "".join("/" + str(level.step).replace("~", "~0").replace("/", "~1") for level in self._levels)
+        raise error(f"{words} at {path}" if path else words)
+
+    def _value(self, value: object) -> None:
+        """Writes a scalar, or begins with a container."""
+        if value is None:
+            self._out.append("null")
+        elif isinstance(value, str):
+            self._utf8(value, "a string")
+            self._out.append(_quote(value))
+        elif isinstance(value, bool):
+            self._out.append("true" if value else "false")
+        elif isinstance(value, (int, float, Decimal)):
+            self._out.append(self._number(value))
+        elif isinstance(value, dict):
+            self._begin(value, self._members(value), "{", "}")
+        elif isinstance(value, (list, tuple)):
+            self._begin(value, enumerate(value), "[", "]")
+        elif isinstance(value, self._key_type):
+            self._out.append(value.text())  # type: ignore[attr-defined]
+        else:
+            self._fail(TypeError, "a value is a dict, list, tuple, str, int, float, Decimal, bool, None or Key, and not"
+                       f" {type(value).__name__}")
+
+    def _number(self, value: Union[int, float, Decimal]) -> str:
+        if isinstance(value, int):
+            text = int.__repr__(value) if -10**_DIGITS < value < 10**_DIGITS else None
+        else:
+            exact = Decimal(float.__repr__(value)) if isinstance(value, float) else value
+            if not exact.is_finite():
+                self._fail(ValueError, f"{exact} is no number of JSON")
+            text = _decimal(exact)
+        if text is None:
+            self._fail(ValueError, "number not carried")
+        return text
+
+    def _utf8(self, text: str, what: str) -> None:
+        try:
+            str.encode(text)
+        except UnicodeEncodeError:
+            self._fail(ValueError, f"{what} has half of a surrogate pair")
+
+    def _begin(self, container: object, parts: Iterable[Tuple[Any, Any]], begin: str, end: str) -> None:
+        if id(container) in self._open:
+            self._fail(ValueError, "circular reference")
+        if len(self._levels) == _LEVELS:
+            self._fail(ValueError, TOO_DEEP)
+        self._out.append(begin)
+        self._open.add(id(container))
+        self._levels.append(_Level(container, parts, end))
+
+    def _members(self, members: "dict[Any, Any]") -> List[Tuple[str, Any]]:
+        """The members of an object, whose names are read before any of them is written."""
+        for name in members:
+            if not isinstance(name, str):
+                self._fail(TypeError, f"a name is a str, and not {type(name).__name__}")
+            self._utf8(name, "a name")
+        if len({str.__str__(name) for name in members}) < len(members):
+            self._fail(ValueError, "a name is there twice")
+        return list(members.items())
