@@ -47,7 +47,7 @@ try:
 except ImportError:
     lmdb = None
 
-VERSION = 6  # of the interface that is needed
+VERSION = 7  # of the interface that is needed
 TOP = os.path.join(HERE, "..", "..")
 VECTORS = os.path.join(TOP, "tests", "vectors.jsonl")
 
@@ -134,6 +134,50 @@ class Calls(unittest.TestCase):
         self.assertEqual((raised.exception.which, raised.exception.column), (2, 6))
         self.assertEqual(self.rejected("1e5", v.STANDARD).message, "number not carried")
         self.assertEqual(self.rejected('{"a":1e1,"a":2}').code, 17)
+
+    def test_places_behind_exponents(self) -> None:
+        """What is wrong behind a number with an exponent has its place in the text that was passed."""
+        long = "1" * 39
+        rows: List[Tuple[str, str, Optional[str], int]] = [
+            ("[%s, x]", "x", "/1", 5), ('{"é𝄞": %s, "b": [%s,\n%s, "é", x]}', "x", "/b/3", 5),
+            ("[%s\n x]", "x", None, 7), ('{"a": %s, "b": {"~/": "\\x"}}', "x", "/b/~0~1", 12),
+            (f"[[%s, {long}], 1]", long, "/0/1", 20), ("%s x", "x", None, 9)]
+        calls: List[Callable[[Any], Any]] = [
+            v.check, v.text, v.sort_key, v.text_and_key, v.Key, lambda one: v.get(one, ""),
+            lambda one: v.compare(one, "1"), lambda one: v.compare("1e1", one)]
+        for number in ("1e5", "1.50e-7", "-6.02E+23", "0e0"):
+            for front, at, path, code in rows:
+                text = front.replace("%s", number)
+                index = text.index(at) + len(at) - 1
+                in_bytes = len(text[:index].encode())
+                passed: List[Tuple[Any, int, Any]] = [(text, index, "\n"), (text.encode(), in_bytes, b"\n")]
+                for one, place, feed in passed:
+                    wanted = (place, 1 + one.count(feed, 0, place), place - one[:place].rfind(feed), code)
+                    for call in calls:
+                        with self.assertRaises(v.RejectedText) as raised:
+                            call(one)
+                        fault = raised.exception
+                        self.assertEqual((fault.index, fault.line, fault.column, fault.code), wanted, one)
+                        self.assertIn(path, (fault.path, None))
+        with self.assertRaises(v.RejectedText) as raised:
+            v.compare("1e1", "[2e1,\n3e1 x]")
+        self.assertEqual(str(raised.exception), "second text, line 2, column 5: expected `,` or `]`")
+
+    def test_paths(self) -> None:
+        """The innermost item or member at which a text was rejected."""
+        deep = "".join('{"a~/é": [0, ' for _ in range(200)) + "x" + "]}" * 200
+        for text, path in (('{"values": [1, 2.5, %s]}' % ("1" * 39), "/values/2"), ("x", ""), ("1e400", ""),
+                           ('{"values": [1e5, 1e300]}', "/values/1"), ('{"a": {"b": [1, x]}}', "/a/b/1"),
+                           (deep, "/a~0~1é/1" * 200), ('["\\x"]', "/0")):
+            for one in (text, text.encode()):
+                self.assertEqual(self.rejected(one).path, path, text)
+        self.assertEqual(self.rejected('{"a": [1, 2.5]}', v.STANDARD).path, "/a/1")
+        for left, right, path in (("[x]", "1", "/0"), ("1", '{"a": [1e300]}', "/a/0"),
+                                  ("1e1", '{"b": 1e1, "a": x}', "/a")):
+            with self.assertRaises(v.RejectedText) as raised:
+                v.compare(left, right)
+            self.assertEqual(raised.exception.path, path)
+        self.assertIsNone(v.RejectedText("words", 5, 1, 0, 1, 1).path)
 
     def rejected(self, text: v.Text, mode: int = v.EXTENDED) -> v.RejectedText:
         with self.assertRaises(v.RejectedText) as raised:
@@ -939,6 +983,7 @@ class Both(unittest.TestCase):
             lambda: key.get("a"), lambda: v.Key.from_bytes(b"1"), lambda: len(v.Key("1")), lambda: v.Key.of(wrongs),
             lambda: key.set("a", 1), lambda: key.set(number, 1), lambda: key.set("/a", wrongs), lambda: key.push(1),
             lambda: key.put("\ud800", key), lambda: key.put("a", wrongs), lambda: key.remove("a"),
+            lambda: v.check("[1e5, x]"), lambda: v.compare("1e1", "[1e5, x]"), lambda: v.check("[1e300]"),
             lambda: key.merge(wrongs), lambda: key.contains(wrongs), lambda: key.set("/a", 1, 1, 1)]  # type: ignore
 
         def calls() -> None:
@@ -978,13 +1023,16 @@ class Both(unittest.TestCase):
             key.contains(key)
             v.Key("{}").put("x" * 4000, key).contains({})
             self.assertRaises(v.RejectedText, v.check, '{"%s":1,"%s":1}' % ("x" * 4000, "x" * 4000))
+            self.assertRaises(v.RejectedText, v.compare, "1e1", '{"%s":1e5, "%s":[x]}' % ("x" * 4000, "y" * 4000))
 
         tracemalloc.start()
         try:
             calls()
+            gc.collect()
             before = tracemalloc.get_traced_memory()[0]
             for _ in range(20):
                 calls()
+            gc.collect()
             self.assertLess(tracemalloc.get_traced_memory()[0] - before, 8000)
         finally:
             tracemalloc.stop()
@@ -1015,7 +1063,7 @@ class Growth(unittest.TestCase):
             add("get", what, v.get, text, "")
             add("get", what + ", a path", v.get, text, last)
             add("compare", what, v.compare, text, text + " ")
-            for rejected in (text + "x", text.encode() + b"x"):
+            for rejected in (text + "x", text.encode() + b"x", text[:-1] + ",x"):
                 add("check", what + ", rejected", self.assertRaises, v.RejectedText, v.check, rejected)
             key = v.Key(text)
             data, same = bytes(key), v.Key.from_bytes(bytes(key))
@@ -1133,7 +1181,7 @@ struct refusal { uint32_t code, which; size_t position; };
 struct place { size_t index, line, column; };
 
 volatile int waits, is_waiting, goes_on;
-volatile uint32_t status, message_status = 1;
+volatile uint32_t status, message_status = 1, path_status;
 
 static uint32_t answer(struct refusal *refusal) {
   const struct timespec moment = {0, 1000000};
@@ -1161,6 +1209,19 @@ uint32_t vizhoniku_text(uint32_t mode, const char *text, size_t text_size, char 
 uint32_t vizhoniku_plain_numbers(const char *text, size_t text_size, char *buffer, size_t room, size_t *size,
                                  struct refusal *refusal) {
   return vizhoniku_text(1, text, text_size, buffer, room, size, refusal);
+}
+
+uint32_t vizhoniku_masked_numbers(const char *text, size_t text_size, char *buffer, size_t room, size_t *size) {
+  (void)text, (void)text_size, (void)buffer, (void)room;
+  *size = 0;
+  return status;
+}
+
+uint32_t vizhoniku_error_path(uint32_t mode, const char *text, size_t text_size, const struct refusal *refusal,
+                              char *buffer, size_t room, size_t *size) {
+  (void)mode, (void)text, (void)text_size, (void)refusal, (void)buffer, (void)room;
+  *size = 0;
+  return path_status;
 }
 
 uint32_t vizhoniku_sort_key(uint32_t mode, const char *text, size_t text_size, char *buffer, size_t room, size_t *size,
@@ -1215,6 +1276,7 @@ from vizhoniku._by_ctypes import _library
 
 status = ctypes.c_uint32.in_dll(_library, "status")
 message_status = ctypes.c_uint32.in_dll(_library, "message_status")
+path_status = ctypes.c_uint32.in_dll(_library, "path_status")
 waits, is_waiting, goes_on = (ctypes.c_int.in_dll(_library, name) for name in ("waits", "is_waiting", "goes_on"))
 calls = {"check": lambda: v.check("1"), "is_valid": lambda: v.is_valid("1"), "text": lambda: v.text("1"),
          "sort_key": lambda: v.sort_key("1"), "text_and_key": lambda: v.text_and_key("1"),
@@ -1292,10 +1354,19 @@ for status.value in (2, 3, 4_000_000_000):
 status.value = 1
 for message_status.value in (1, 2):
     print(*(told(call) for call in calls.values()))
+message_status.value = 1
+for path_status.value in (0, 2, 3):
+    try:
+        v.check("1")
+    except v.RejectedText as fault:
+        print(repr(fault.path))
+    except MemoryError:
+        print("MemoryError")
 """, VIZHONIKU=self.library_of(VERSION))
         self.assertEqual(told.splitlines(), [
             "2 MemoryError", "3 RuntimeError", "4000000000 RuntimeError",
             "RejectedText False" + " RejectedText" * 5, "MemoryError False" + " MemoryError" * 5,
+            "''", "MemoryError", "None",
         ])
 
     def goes_on(self, **environment: str) -> None:

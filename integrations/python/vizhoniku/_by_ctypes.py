@@ -15,7 +15,7 @@ from ._common import (BAD_PATH, EXTENDED, NO_KEY, NO_NAME, STANDARD, TOO_DEEP, M
 from ._values import text_of, value_of
 
 _SONAME = "libvizhoniku.so.0"
-_VERSION = 6  # the version of the interface, VIZHONIKU_VERSION of the header; a later one only adds to it
+_VERSION = 7  # the version of the interface, VIZHONIKU_VERSION of the header; a later one only adds to it
 
 (_ACCEPTED, _REFUSED, _OUT_OF_MEMORY, _UNKNOWN_MODE, _TOO_SHORT, _NO_PART, _NO_PATH, _NO_KEY,
  _TOO_DEEP) = range(9)
@@ -78,6 +78,8 @@ def _load() -> ctypes.CDLL:
         library.vizhoniku_message.argtypes = [mode, *text_in, *text_out]
         library.vizhoniku_place.argtypes = [*text_in, refusal, place]
         library.vizhoniku_plain_numbers.argtypes = [*text_in, *text_out, refusal]
+        library.vizhoniku_masked_numbers.argtypes = [*text_in, *text_out]
+        library.vizhoniku_error_path.argtypes = [mode, *text_in, refusal, *text_out]
         found = [ctypes.POINTER(size), ctypes.POINTER(size)]
         library.vizhoniku_key_check.argtypes = text_in
         library.vizhoniku_key_kind.argtypes = text_in
@@ -98,7 +100,7 @@ def _load() -> ctypes.CDLL:
         for name in ("check", "text", "part", "sort_key", "text_and_key", "compare", "message", "key_check", "key_kind",
                      "key_count", "key_member", "key_item", "key_part", "key_begin", "key_next", "key_name",
                      "key_text", "key_contains", "key_set", "key_remove", "key_put", "key_push", "key_merge",
-                     "plain_numbers"):
+                     "plain_numbers", "masked_numbers", "error_path"):
             getattr(library, "vizhoniku_" + name).restype = status
         library.vizhoniku_place.restype = None
     except AttributeError as error:
@@ -135,11 +137,41 @@ def _words(mode: int, data: bytes) -> bytes:
     return ctypes.string_at(buffer, size.value)
 
 
-def _rejected(mode: int, refusal: _Refusal, text: Text, data: bytes) -> RejectedText:
+def _path(mode: int, data: bytes, refusal: _Refusal) -> Optional[str]:
+    """The path of the innermost item or member at which the text was rejected."""
+    room = 256
+    while True:
+        buffer, size = ctypes.create_string_buffer(room), ctypes.c_size_t()
+        status = _library.vizhoniku_error_path(mode, data, len(data), refusal, buffer, room, size)
+        if status != _TOO_SHORT:
+            break
+        room = size.value
+    if status == _OUT_OF_MEMORY:
+        raise MemoryError
+    return ctypes.string_at(buffer, size.value).decode("utf-8", "replace") if status == _ACCEPTED else None
+
+
+def _rejected(mode: int, refusal: _Refusal, text: Text, data: bytes, words: Optional[bytes] = None) -> RejectedText:
+    """The error of a text, of which the data are the bytes, or are those with numbers masked."""
     place = _Place()
     _library.vizhoniku_place(data, len(data), refusal, place)
-    return rejection(text, data, _words(mode, data), refusal.code, refusal.which, refusal.position, place.index,
-                     place.line, place.column)
+    return rejection(text, data, _words(mode, data) if words is None else words, refusal.code, refusal.which,
+                     refusal.position, place.index, place.line, place.column, _path(mode, _bytes(text), refusal))
+
+
+def _of_the_user(text: Text, data: bytes, fault: RejectedText) -> RejectedText:
+    """The error of a text that was rejected with its numbers written out, with its place in the text itself.
+
+    That place is where the text is rejected with these numbers masked, since then each byte stays where it is.
+    """
+    buffer, size, refusal = ctypes.create_string_buffer(len(data)), ctypes.c_size_t(), _Refusal()
+    if _library.vizhoniku_masked_numbers(data, len(data), buffer, len(data), size) != _ACCEPTED:
+        return fault
+    masked = ctypes.string_at(buffer, size.value)
+    if _library.vizhoniku_check(EXTENDED, masked, len(masked), refusal) != _REFUSED:
+        return fault
+    refusal.which = fault.which
+    return _rejected(EXTENDED, refusal, text, masked)
 
 
 def _raise(status: int, mode: int, refusal: _Refusal, texts: List[Tuple[Text, bytes]]) -> None:
@@ -166,10 +198,8 @@ def _plain(text: Text, data: bytes, which: int) -> bytes:
             break
         room = size.value
     if status == _REFUSED:
-        place = _Place()
-        _library.vizhoniku_place(data, len(data), refusal, place)
-        raise rejection(text, data, b"number not carried", refusal.code, which, refusal.position, place.index,
-                        place.line, place.column)
+        refusal.which = which
+        raise _rejected(EXTENDED, refusal, text, data, b"number not carried")
     _raise(status, 0, refusal, [(text, data)])
     return ctypes.string_at(buffer, size.value)
 
@@ -186,7 +216,10 @@ def _reads_exponents(call: Any) -> Any:
                 raise
         data = _bytes(text)
         plain = _plain(text, data, 1)
-        return call(plain.decode("utf-8", "surrogatepass") if isinstance(text, str) else plain, *others, **named)
+        try:
+            return call(plain, *others, **named)
+        except RejectedText as fault:
+            raise _of_the_user(text, data, fault) from None
 
     return again
 
@@ -293,6 +326,8 @@ def compare(left: Text, right: Text, mode: int = EXTENDED) -> int:
         if status != _REFUSED or refusal.code != _NOT_CARRIED or mode == STANDARD or plain[at]:
             break
         read[at], plain[at] = _plain(texts[at], read[at], at + 1), True
+    if status == _REFUSED and plain[at]:
+        raise _of_the_user(texts[at], _bytes(texts[at]), _rejected(mode, refusal, read[at], read[at]))
     _raise(status, mode, refusal, [(left, read[0]), (right, read[1])])
     return order.value
 

@@ -1,7 +1,7 @@
 """What both ways to call the library share: modes, texts and errors."""
 
 import enum
-from typing import Union
+from typing import Optional, Union
 
 Text = Union[str, bytes, bytearray, memoryview]
 
@@ -26,18 +26,21 @@ class RejectedText(ValueError):
     """A text that is no document of its mode.
 
     index, line and column tell the place of the fault: the index is counted from 0, line and column from 1. They count
-    characters where the text is a str, and bytes otherwise. message says what is wrong, code is its number, and which
-    is 1, or 2 where the second text of a comparison is rejected.
+    characters where the text is a str, and bytes otherwise. path is that of the innermost item or member at which the
+    text was rejected, as RFC 6901 spells it ("" is the whole), or None where it can't be told. message says what is
+    wrong, code is its number, and which is 1, or 2 where the second text of a comparison is rejected.
     """
 
-    def __init__(self, message: str, code: int, which: int, index: int, line: int, column: int) -> None:
-        super().__init__(message, code, which, index, line, column)
+    def __init__(self, message: str, code: int, which: int, index: int, line: int, column: int,
+                 path: Optional[str] = None) -> None:
+        super().__init__(message, code, which, index, line, column, path)
         self.message = message
         self.code = code
         self.which = which
         self.index = index
         self.line = line
         self.column = column
+        self.path = path
 
     def __str__(self) -> str:
         second = "second text, " if self.which == 2 else ""
@@ -54,8 +57,9 @@ def _characters(data: bytes) -> int:
 
 
 def rejection(text: Text, data: bytes, words: bytes, code: int, which: int, position: int, index: int, line: int,
-              column: int) -> RejectedText:
-    """The error for a text, whose bytes are the data: with the words and the place in bytes that the library tells."""
+              column: int, path: Optional[str]) -> RejectedText:
+    """The error for a text, whose bytes are the data: with the words, the place in bytes and the path that the library
+    tells."""
     if isinstance(text, str):
         begins = index - (column - 1)  # of the line
         until = index + 1 if index < len(data) else index
@@ -65,4 +69,4 @@ def rejection(text: Text, data: bytes, words: bytes, code: int, which: int, posi
     # The words end with the position, which is told as line and column instead.
     message, end = words.decode("utf-8", "replace"), f", pos {position}"
     message = message[:-len(end)] if message.endswith(end) else message
-    return RejectedText(message, code, which, index, line, column)
+    return RejectedText(message, code, which, index, line, column, path)

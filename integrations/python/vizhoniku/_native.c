@@ -149,21 +149,72 @@ static PyObject *words_of(uint32_t mode, const struct text *text) {
   return result;
 }
 
-/* Raises RejectedText, in these words, or in those of the library where there are none. */
+/* The path of the innermost item or member at which the text was rejected, or None where it can't be told. */
+static PyObject *path_of(uint32_t mode, const struct vizhoniku_refusal *refusal, const struct text *text) {
+  unsigned char small[256], *path = small;
+  size_t room = sizeof small, size;
+  uint32_t status;
+  for (;;) {
+    status = vizhoniku_error_path(mode, text->at, text->size, refusal, path, room, &size);
+    if (status != VIZHONIKU_TOO_SHORT) break;
+    if (path != small) PyMem_Free(path);
+    room = size;
+    if (!(path = PyMem_Malloc(room))) return PyErr_NoMemory();
+  }
+  PyObject *result = Py_None;
+  if (status == VIZHONIKU_ACCEPTED)
+    result = PyUnicode_DecodeUTF8((char *)path, (Py_ssize_t)size, "replace");
+  else if (status == VIZHONIKU_OUT_OF_MEMORY)
+    result = PyErr_NoMemory();
+  else
+    Py_INCREF(result);
+  if (path != small) PyMem_Free(path);
+  return result;
+}
+
+/* Raises RejectedText, in these words, or in those of the library where there are none. The text is the one that was
+ * passed, or is that with numbers masked. */
 static void raise_rejected(const struct state *state, uint32_t mode, const struct vizhoniku_refusal *refusal,
-                           PyObject *object, const struct text *text, const char *own_words) {
+                           PyObject *object, const struct text *text, const struct text *passed,
+                           const char *own_words) {
   struct vizhoniku_location place;
   vizhoniku_place(text->at, text->size, refusal, &place);
   PyObject *words = own_words ? PyBytes_FromString(own_words) : words_of(mode, text);
-  if (!words) return;
-  PyObject *error = PyObject_CallFunction(
-      state->rejection, "Oy#OIInnnn", object, (const char *)text->at, (Py_ssize_t)text->size, words, refusal->code,
+  PyObject *path = words ? path_of(mode, refusal, passed) : NULL;
+  PyObject *error = !path ? NULL : PyObject_CallFunction(
+      state->rejection, "Oy#OIInnnnO", object, (const char *)text->at, (Py_ssize_t)text->size, words, refusal->code,
       refusal->which, (Py_ssize_t)refusal->position, (Py_ssize_t)place.index, (Py_ssize_t)place.line,
-      (Py_ssize_t)place.column);
-  Py_DECREF(words);
+      (Py_ssize_t)place.column, path);
+  Py_XDECREF(words);
+  Py_XDECREF(path);
   if (!error) return;
   PyErr_SetObject((PyObject *)Py_TYPE(error), error);
   Py_DECREF(error);
+}
+
+/* Masks the numbers of a text that have an exponent, and finds what is wrong with it then: at the same place as in the
+ * text, since each byte stays where it is. Returns 0 where it isn't rejected, or an exception is raised. */
+static int check_masked(const struct text *text, struct text *masked, struct vizhoniku_refusal *refusal) {
+  masked->holder = PyBytes_FromStringAndSize(NULL, (Py_ssize_t)text->size);
+  if (!masked->holder) return 0;
+  unsigned char *at = (unsigned char *)PyBytes_AsString(masked->holder);
+  masked->at = at;
+  return vizhoniku_masked_numbers(text->at, text->size, at, text->size, &masked->size) == VIZHONIKU_ACCEPTED &&
+         vizhoniku_check(VIZHONIKU_EXTENDED, masked->at, masked->size, refusal) == VIZHONIKU_REFUSED;
+}
+
+/* Raises RejectedText for a text that was rejected with its numbers written out, as `plain`. */
+static void raise_of_plain(const struct state *state, const struct vizhoniku_refusal *refusal, PyObject *object,
+                           const struct text *text, const struct text *plain) {
+  struct vizhoniku_refusal of_masked;
+  struct text masked;
+  if (check_masked(text, &masked, &of_masked)) {
+    of_masked.which = refusal->which;
+    raise_rejected(state, VIZHONIKU_EXTENDED, &of_masked, object, &masked, text, NULL);
+  } else if (!PyErr_Occurred()) {
+    raise_rejected(state, VIZHONIKU_EXTENDED, refusal, plain->holder, plain, plain, NULL);
+  }
+  free_text(&masked);
 }
 
 /* Raises what a status says that is neither success nor about a text. */
@@ -273,11 +324,11 @@ static uint32_t call_once(enum what what, uint32_t mode, const struct text *path
 
 /* Calls the library until the buffers are long enough, and raises what the status says unless it is success, or
  * VIZHONIKU_NO_PART, or VIZHONIKU_REFUSED of a call that only checks. Where extended mode rejects a number, the text is
- * read once more with its numbers written out, unless it is such a one. Returns the status, or -1 where an exception is
- * raised. */
+ * read once more with its numbers written out, and `user` is the text that was passed then, else NULL. Returns the
+ * status, or -1 where an exception is raised. */
 static int64_t call_library(const struct state *state, enum what what, uint32_t mode, const struct text *path,
                             PyObject *object, const struct text *text, struct written *written, struct written *key,
-                            int tells_refusal, int is_plain) {
+                            int tells_refusal, const struct text *user) {
   struct vizhoniku_refusal refusal;
   uint32_t status;
   if (what != PART && written && !make_room(written, text->size + 16)) return -1;
@@ -297,15 +348,18 @@ static int64_t call_library(const struct state *state, enum what what, uint32_t 
   if (status == VIZHONIKU_ACCEPTED || status == VIZHONIKU_NO_PART) return status;
   int rejected = status == VIZHONIKU_REFUSED;
   struct text plain;
-  if (!is_plain && write_plain(mode, &status, &refusal, text, &plain)) {
-    int64_t again = call_library(state, what, mode, path, object, &plain, written, key, tells_refusal, 1);
+  if (!user && write_plain(mode, &status, &refusal, text, &plain)) {
+    int64_t again = call_library(state, what, mode, path, object, &plain, written, key, tells_refusal, text);
     free_text(&plain);
     return again;
   }
   if (status == VIZHONIKU_REFUSED) {
     if (tells_refusal) return status;
-    int too_long = rejected && !is_plain && mode == VIZHONIKU_EXTENDED && refusal.code == VIZHONIKU_NUMBER_NOT_CARRIED;
-    raise_rejected(state, mode, &refusal, object, text, too_long ? TOO_LONG : NULL);
+    int too_long = rejected && mode == VIZHONIKU_EXTENDED && refusal.code == VIZHONIKU_NUMBER_NOT_CARRIED;
+    if (user)
+      raise_of_plain(state, &refusal, object, user, text);
+    else
+      raise_rejected(state, mode, &refusal, object, text, text, too_long ? TOO_LONG : NULL);
   } else {
     raise_status(state, status);
   }
@@ -329,7 +383,7 @@ static PyObject *py_check(PyObject *module, PyObject *const *given, Py_ssize_t c
   struct text text;
   uint32_t mode;
   if (!read_call(state, "check", given, count, keywords, &object, &text, &mode)) return NULL;
-  int64_t status = call_library(state, CHECK, mode, NULL, object, &text, NULL, NULL, 0, 0);
+  int64_t status = call_library(state, CHECK, mode, NULL, object, &text, NULL, NULL, 0, NULL);
   free_text(&text);
   if (status < 0) return NULL;
   Py_RETURN_NONE;
@@ -341,7 +395,7 @@ static PyObject *py_is_valid(PyObject *module, PyObject *const *given, Py_ssize_
   struct text text;
   uint32_t mode;
   if (!read_call(state, "is_valid", given, count, keywords, &object, &text, &mode)) return NULL;
-  int64_t status = call_library(state, CHECK, mode, NULL, object, &text, NULL, NULL, 1, 0);
+  int64_t status = call_library(state, CHECK, mode, NULL, object, &text, NULL, NULL, 1, NULL);
   free_text(&text);
   return status < 0 ? NULL : PyBool_FromLong(status == VIZHONIKU_ACCEPTED);
 }
@@ -354,7 +408,7 @@ static PyObject *py_text(PyObject *module, PyObject *const *given, Py_ssize_t co
   uint32_t mode;
   if (!read_call(state, "text", given, count, keywords, &object, &text, &mode)) return NULL;
   begin_written(&written);
-  if (call_library(state, TEXT, mode, NULL, object, &text, &written, NULL, 0, 0) >= 0) result = str_of(&written);
+  if (call_library(state, TEXT, mode, NULL, object, &text, &written, NULL, 0, NULL) >= 0) result = str_of(&written);
   free_written(&written);
   free_text(&text);
   return result;
@@ -367,7 +421,7 @@ static PyObject *key_of_text(const struct state *state, PyObject *object, uint32
   struct written key;
   if (!read_text(object, A_TEXT, &text)) return NULL;
   begin_written(&key);
-  if (call_library(state, SORT_KEY, mode, NULL, object, &text, NULL, &key, 0, 0) >= 0) result = bytes_of(&key);
+  if (call_library(state, SORT_KEY, mode, NULL, object, &text, NULL, &key, 0, NULL) >= 0) result = bytes_of(&key);
   free_written(&key);
   free_text(&text);
   return result;
@@ -390,7 +444,7 @@ static PyObject *py_text_and_key(PyObject *module, PyObject *const *given, Py_ss
   if (!read_call(state, "text_and_key", given, count, keywords, &object, &text, &mode)) return NULL;
   begin_written(&written);
   begin_written(&key);
-  if (call_library(state, TEXT_AND_KEY, mode, NULL, object, &text, &written, &key, 0, 0) >= 0)
+  if (call_library(state, TEXT_AND_KEY, mode, NULL, object, &text, &written, &key, 0, NULL) >= 0)
     result = Py_BuildValue("(NN)", str_of(&written), bytes_of(&key));
   free_written(&written);
   free_written(&key);
@@ -409,7 +463,7 @@ static PyObject *py_get(PyObject *module, PyObject *const *given, Py_ssize_t cou
   if (!read_mode(state, arguments[2], &mode) || !read_text(arguments[0], A_TEXT, &text)) return NULL;
   if (read_text(arguments[1], A_TEXT, &path)) {
     begin_written(&written);
-    int64_t status = call_library(state, PART, mode, &path, arguments[0], &text, &written, NULL, 0, 0);
+    int64_t status = call_library(state, PART, mode, &path, arguments[0], &text, &written, NULL, 0, NULL);
     if (status == VIZHONIKU_NO_PART) {
       result = Py_None;
       Py_INCREF(result);
@@ -423,43 +477,59 @@ static PyObject *py_get(PyObject *module, PyObject *const *given, Py_ssize_t cou
   return result;
 }
 
+/* Compares two texts, each as it is or with its numbers written out. */
+static uint32_t compare_once(uint32_t mode, const struct text *left, const struct text *right, int32_t *order,
+                             struct vizhoniku_refusal *refusal) {
+  uint32_t status;
+  if (left->size + right->size >= RELEASED) {
+    Py_BEGIN_ALLOW_THREADS
+    status = vizhoniku_compare(mode, left->at, left->size, right->at, right->size, order, refusal);
+    Py_END_ALLOW_THREADS
+  } else {
+    status = vizhoniku_compare(mode, left->at, left->size, right->at, right->size, order, refusal);
+  }
+  return status;
+}
+
+static PyObject *compare_texts(const struct state *state, uint32_t mode, PyObject **objects, const struct text *left,
+                               const struct text *right) {
+  const struct text *user[2] = {left, right}, *read[2] = {left, right};
+  struct text plain[2] = {{NULL, 0, NULL}, {NULL, 0, NULL}};
+  struct vizhoniku_refusal refusal;
+  PyObject *result = NULL;
+  int32_t order;
+  uint32_t status;
+  int at, again;
+  do {
+    status = compare_once(mode, read[0], read[1], &order, &refusal);
+    at = status == VIZHONIKU_REFUSED ? (int)refusal.which - 1 : 0;
+    again = !plain[at].holder && write_plain(mode, &status, &refusal, user[at], &plain[at]);
+    if (again) read[at] = &plain[at];
+  } while (again);
+  int too_long = mode == VIZHONIKU_EXTENDED && refusal.code == VIZHONIKU_NUMBER_NOT_CARRIED;
+  if (status == VIZHONIKU_ACCEPTED)
+    result = PyLong_FromLong(order);
+  else if (status != VIZHONIKU_REFUSED)
+    raise_status(state, status);
+  else if (plain[at].holder)
+    raise_of_plain(state, &refusal, objects[at], user[at], &plain[at]);
+  else
+    raise_rejected(state, mode, &refusal, objects[at], user[at], user[at], too_long ? TOO_LONG : NULL);
+  free_text(&plain[0]);
+  free_text(&plain[1]);
+  return result;
+}
+
 static PyObject *py_compare(PyObject *module, PyObject *const *given, Py_ssize_t count, PyObject *keywords) {
   static const char *const names[] = {"left", "right", "mode", NULL};
   const struct state *state = PyModule_GetState(module);
   PyObject *arguments[MOST], *result = NULL;
   struct text left, right;
-  struct vizhoniku_refusal refusal;
-  int32_t order;
-  uint32_t mode, status;
+  uint32_t mode;
   if (!sort_arguments("compare", names, 2, given, count, keywords, arguments)) return NULL;
   if (!read_mode(state, arguments[2], &mode) || !read_text(arguments[0], A_TEXT, &left)) return NULL;
   if (read_text(arguments[1], A_TEXT, &right)) {
-    int is_plain[2] = {0, 0}, again = 0, at;
-    struct text plain, *text;
-    do {
-      if (left.size + right.size >= RELEASED) {
-        Py_BEGIN_ALLOW_THREADS
-        status = vizhoniku_compare(mode, left.at, left.size, right.at, right.size, &order, &refusal);
-        Py_END_ALLOW_THREADS
-      } else {
-        status = vizhoniku_compare(mode, left.at, left.size, right.at, right.size, &order, &refusal);
-      }
-      at = status == VIZHONIKU_REFUSED ? (int)refusal.which - 1 : 0;
-      text = at ? &right : &left;
-      again = status == VIZHONIKU_REFUSED && !is_plain[at] && write_plain(mode, &status, &refusal, text, &plain);
-      if (again) {
-        free_text(text);
-        *text = plain;
-        is_plain[at] = 1;
-      }
-    } while (again);
-    int too_long = mode == VIZHONIKU_EXTENDED && refusal.code == VIZHONIKU_NUMBER_NOT_CARRIED && !is_plain[at];
-    if (status == VIZHONIKU_ACCEPTED)
-      result = PyLong_FromLong(order);
-    else if (status == VIZHONIKU_REFUSED)
-      raise_rejected(state, mode, &refusal, arguments[at], text, too_long ? TOO_LONG : NULL);
-    else
-      raise_status(state, status);
+    result = compare_texts(state, mode, arguments, &left, &right);
     free_text(&right);
   }
   free_text(&left);
@@ -942,7 +1012,7 @@ static PyObject *data_of_usual(const struct state *state, PyObject *value) {
   begin_written(&key);
   if (put_usual(state, &text, value)) {
     struct text read = {text.at, text.size, NULL};
-    if (call_library(state, SORT_KEY, VIZHONIKU_EXTENDED, NULL, NULL, &read, NULL, &key, 1, 0) == VIZHONIKU_ACCEPTED)
+    if (call_library(state, SORT_KEY, VIZHONIKU_EXTENDED, NULL, NULL, &read, NULL, &key, 1, NULL) == VIZHONIKU_ACCEPTED)
       data = bytes_of(&key);
   }
   free_written(&text);
