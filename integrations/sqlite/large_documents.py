@@ -40,6 +40,7 @@ TIMED = {
     "vjson_valid": ["vjson_valid(o)", "vjson_valid(e)", "vjson_valid(f)"],
     "vjson_error_position": ["vjson_error_position(f)", "vjson_error_position(e || 'x')"],
     "vjson_error": ["vjson_error(o) IS NULL", "vjson_error(f)", "vjson_error(e || 'x')"],
+    "vjson_error_path": ["vjson_error_path(o) IS NULL", "vjson_error_path(f)", "vjson_error_path(e || 'x')"],
     "vjson_get": ["vjson_get(o, '/k9998/0')", "vjson_get(a, '/LAST')", "vjson_get(e, '/LAST')", "vjson_get(o, '')"],
     "vjson_key": ["vjson_key(o)", "vjson_key(a)", "vjson_key(e)"],
     "VJSON": ["o = o || ' ' COLLATE VJSON", "a < a || ' ' COLLATE VJSON", "f < f || ' ' COLLATE VJSON",

@@ -78,6 +78,8 @@ static const char *const statements[] = {
     "SELECT vjson('{b: [1, \"\\u0041\"], a: {c: 2.50}}')",
     "SELECT hex(vjson_key('{b: [1, \"\\u0041\"], a: {c: 2.50}}', 'extended'))",
     "SELECT vjson_valid('[[]]', 'standard'), vjson_error_position('[[1'), vjson_error('{a:[1],a:2}')",
+    "SELECT vjson_error_position('[1e5, x]'), vjson_error('[1e5, x]'), vjson_error_path('[1e5, [x]]')",
+    "SELECT vjson('[1e5, x]')",
     "SELECT vjson(x'5b315d'), vjson_valid(x'5d'), vjson_key(NULL)",
     "SELECT vjson_error('{\"' || hex(zeroblob(300)) || '\":[],\"' || hex(zeroblob(300)) || '\":1}')",
     "SELECT vjson_get('{\"a\":[\"' || hex(zeroblob(300)) || '\"]}', '/a/0')",

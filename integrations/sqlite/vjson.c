@@ -4,6 +4,7 @@
  *   vjson_valid(X [, MODE])           1 where X is a document, 0 where it is none
  *   vjson_error_position(X [, MODE])  0 where X is a document, else the character of the fault, counted from 1
  *   vjson_error(X [, MODE])           what is wrong with X, with line and column; NULL where X is a document
+ *   vjson_error_path(X [, MODE])      the path of the innermost part at which X is wrong; NULL where X is a document
  *   vjson_get(X, PATH [, MODE])       the text of X's part at the path (RFC 6901); NULL where nothing stands there
  *   vjson_key(X [, MODE])             the sort key of X's value, a BLOB: for indexes on expressions
  *   COLLATE VJSON                     texts in the order of their values
@@ -64,13 +65,19 @@ static size_t character_at(const unsigned char *text, size_t size, size_t first,
   return characters(text + first, index + 1 - first);
 }
 
-/* A text as it is read: the one that was passed, or one with its numbers written out, which has to be freed. */
+/* A text as it is read: the one that was passed, or one that was made of it, which has to be freed. */
 struct read_text {
   const unsigned char *at;
   size_t size;
   unsigned char *made;
   int too_long; /* a number with an exponent has too many digits where it is written out */
+  const unsigned char *passed;
+  size_t passed_size;
 };
+
+static struct read_text as_passed(const unsigned char *text, size_t size) {
+  return (struct read_text){text, size, NULL, 0, text, size};
+}
 
 /* Whether the text has to be read once more: extended mode rejected a number, and those with an exponent were written
  * out now. The status and the refusal are those of that where it failed. */
@@ -108,61 +115,92 @@ static uint32_t check(uint32_t mode, struct read_text *text, struct vizhoniku_re
   return status;
 }
 
-/* Gives what is wrong with the text, in words: as the error of the statement, or as the result. */
-static void tell(sqlite3_context *context, uint32_t mode, uint32_t status, const struct vizhoniku_refusal *refusal,
-                 const struct read_text *read, int is_error) {
-  const unsigned char *text = read->at;
-  size_t size = read->size;
+/* Finds the fault of a text that was rejected with its numbers written out in the text that was passed, with these
+ * numbers masked: each byte stays where it is then. Returns VIZHONIKU_REFUSED, or VIZHONIKU_OUT_OF_MEMORY. */
+static uint32_t find_in_passed(struct read_text *text, struct vizhoniku_refusal *refusal) {
+  struct vizhoniku_refusal found;
+  size_t size;
+  if (!text->made) return VIZHONIKU_REFUSED;
+  unsigned char *masked = sqlite3_malloc64(text->passed_size);
+  if (!masked) return VIZHONIKU_OUT_OF_MEMORY;
+  uint32_t status = vizhoniku_masked_numbers(text->passed, text->passed_size, masked, text->passed_size, &size);
+  if (status == VIZHONIKU_ACCEPTED) status = vizhoniku_check(VIZHONIKU_EXTENDED, masked, size, &found);
   if (status != VIZHONIKU_REFUSED) {
-    sqlite3_result_error_nomem(context);
-    return;
+    sqlite3_free(masked);
+    return status == VIZHONIKU_OUT_OF_MEMORY ? status : VIZHONIKU_REFUSED;
   }
+  sqlite3_free(text->made);
+  text->at = text->made = masked;
+  text->size = size;
+  *refusal = found;
+  return status;
+}
+
+/* Checks a text to tell its fault, in the text that was passed. */
+static uint32_t find_fault(uint32_t mode, struct read_text *text, struct vizhoniku_refusal *refusal) {
+  uint32_t status = check(mode, text, refusal);
+  return status == VIZHONIKU_REFUSED ? find_in_passed(text, refusal) : status;
+}
+
+/* Writes the place of a fault in words, and returns their size. */
+static size_t write_place(char *words, size_t room, const struct read_text *text,
+                          const struct vizhoniku_refusal *refusal, int is_error) {
   struct vizhoniku_location place;
-  vizhoniku_place(text, size, refusal, &place);
-  size_t column = size ? character_at(text, size, place.index - (place.column - 1), place.index) : 1;
-  char front[128], end[32];
-  size_t front_size = (size_t)snprintf(front, sizeof front, "%sline %zu, column %zu: ",
-                                       is_error ? "malformed JSON: " : "", place.line, column);
-  size_t end_size = (size_t)snprintf(end, sizeof end, ", pos %zu", refusal->position);
-  size_t room = 256, words_size = 0;
-  char *words = NULL;
-  if (read->too_long) {
-    words = sqlite3_mprintf("%snumber not carried", front);
-    if (!words) {
-      sqlite3_result_error_nomem(context);
-    } else if (is_error) {
-      sqlite3_result_error(context, words, -1);
-      sqlite3_free(words);
-    } else {
-      sqlite3_result_text(context, words, -1, sqlite3_free);
-    }
-    return;
-  }
+  vizhoniku_place(text->at, text->size, refusal, &place);
+  size_t first = place.index - (place.column - 1);
+  size_t column = text->size ? character_at(text->at, text->size, first, place.index) : 1;
+  return (size_t)snprintf(words, room, "%sline %zu, column %zu: ", is_error ? "malformed JSON: " : "", place.line,
+                          column);
+}
+
+#define TOO_LONG "number not carried" /* as the library tells it of a number without an exponent */
+
+/* The library's words for a fault, behind so many bytes of room, without the position that ends them, which is told as
+ * line and column instead. They have to be freed. Returns NULL where there is no memory. */
+static char *words_of(uint32_t mode, const struct read_text *text, const struct vizhoniku_refusal *refusal,
+                      size_t front, size_t *size) {
+  char end[32], *words = NULL;
+  size_t end_size = (size_t)snprintf(end, sizeof end, ", pos %zu", refusal->position), room = 256;
+  uint32_t status;
   do {
     sqlite3_free(words);
-    words = sqlite3_malloc64(front_size + room);
-    if (!words) {
-      sqlite3_result_error_nomem(context);
-      return;
+    if (!(words = sqlite3_malloc64(front + room))) return NULL;
+    if (text->too_long) {
+      *size = sizeof TOO_LONG - 1;
+      memcpy(words + front, TOO_LONG, *size);
+      return words;
     }
-    status = vizhoniku_message(mode, text, size, (unsigned char *)words + front_size, room, &words_size);
-    room = words_size;
+    status = vizhoniku_message(mode, text->at, text->size, (unsigned char *)words + front, room, size);
+    room = *size;
   } while (status == VIZHONIKU_TOO_SHORT);
   if (status != VIZHONIKU_REFUSED) {
     sqlite3_free(words);
+    return NULL;
+  }
+  if (*size >= end_size && !memcmp(words + front + *size - end_size, end, end_size)) *size -= end_size;
+  return words;
+}
+
+/* Gives what is wrong with the text, in words: as the error of the statement, or as the result. */
+static void tell(sqlite3_context *context, uint32_t mode, uint32_t status, const struct vizhoniku_refusal *refusal,
+                 const struct read_text *text, int is_error) {
+  char front[128], *words = NULL;
+  size_t front_size = 0, size;
+  if (status == VIZHONIKU_REFUSED) {
+    front_size = write_place(front, sizeof front, text, refusal, is_error);
+    words = words_of(mode, text, refusal, front_size, &size);
+  }
+  if (!words) {
     sqlite3_result_error_nomem(context);
     return;
   }
   memcpy(words, front, front_size);
-  /* The words end with the position, which is told as line and column instead. */
-  if (words_size >= end_size && !memcmp(words + front_size + words_size - end_size, end, end_size))
-    words_size -= end_size;
-  words_size += front_size;
+  size += front_size;
   if (is_error) {
-    sqlite3_result_error(context, words, words_size < 1000000 ? (int)words_size : 1000000);
+    sqlite3_result_error(context, words, size < 1000000 ? (int)size : 1000000);
     sqlite3_free(words);
   } else {
-    sqlite3_result_text64(context, words, words_size, sqlite3_free, SQLITE_UTF8);
+    sqlite3_result_text64(context, words, size, sqlite3_free, SQLITE_UTF8);
   }
 }
 
@@ -172,7 +210,7 @@ static void call_valid(sqlite3_context *context, int count, sqlite3_value **valu
   const unsigned char *text;
   struct vizhoniku_refusal refusal;
   if (!read_arguments(context, count, values, &text, &size, &mode)) return;
-  struct read_text read = {text, size, NULL, 0};
+  struct read_text read = as_passed(text, size);
   uint32_t status = check(mode, &read, &refusal);
   sqlite3_free(read.made);
   if (status == VIZHONIKU_OUT_OF_MEMORY)
@@ -188,8 +226,8 @@ static void call_error_position(sqlite3_context *context, int count, sqlite3_val
   struct vizhoniku_refusal refusal;
   struct vizhoniku_location place;
   if (!read_arguments(context, count, values, &text, &size, &mode)) return;
-  struct read_text read = {text, size, NULL, 0};
-  uint32_t status = check(mode, &read, &refusal);
+  struct read_text read = as_passed(text, size);
+  uint32_t status = find_fault(mode, &read, &refusal);
   if (status == VIZHONIKU_OUT_OF_MEMORY) {
     sqlite3_result_error_nomem(context);
   } else if (status == VIZHONIKU_ACCEPTED) {
@@ -207,10 +245,36 @@ static void call_error(sqlite3_context *context, int count, sqlite3_value **valu
   const unsigned char *text;
   struct vizhoniku_refusal refusal;
   if (!read_arguments(context, count, values, &text, &size, &mode)) return;
-  struct read_text read = {text, size, NULL, 0};
-  uint32_t status = check(mode, &read, &refusal);
+  struct read_text read = as_passed(text, size);
+  uint32_t status = find_fault(mode, &read, &refusal);
   if (status != VIZHONIKU_ACCEPTED) tell(context, mode, status, &refusal, &read, 0);
   sqlite3_free(read.made);
+}
+
+static void call_error_path(sqlite3_context *context, int count, sqlite3_value **values) {
+  uint32_t mode;
+  size_t size, room = 256;
+  const unsigned char *text;
+  unsigned char *path = NULL;
+  struct vizhoniku_refusal refusal;
+  if (!read_arguments(context, count, values, &text, &size, &mode)) return;
+  struct read_text read = as_passed(text, size);
+  uint32_t status = find_fault(mode, &read, &refusal);
+  sqlite3_free(read.made);
+  if (status == VIZHONIKU_ACCEPTED) return;
+  if (status == VIZHONIKU_REFUSED) status = VIZHONIKU_TOO_SHORT;
+  while (status == VIZHONIKU_TOO_SHORT) {
+    sqlite3_free(path);
+    path = sqlite3_malloc64(room);
+    status = !path ? VIZHONIKU_OUT_OF_MEMORY
+                   : vizhoniku_error_path(mode, text, size, &refusal, path, room, &room);
+  }
+  if (status == VIZHONIKU_ACCEPTED) {
+    sqlite3_result_text64(context, (char *)path, room, sqlite3_free, SQLITE_UTF8);
+    return;
+  }
+  sqlite3_free(path);
+  sqlite3_result_error_nomem(context);
 }
 
 enum what { TEXT, KEY, PART };
@@ -222,7 +286,7 @@ static void give_written(sqlite3_context *context, enum what what, uint32_t mode
   uint32_t status;
   size_t written;
   struct vizhoniku_refusal refusal;
-  struct read_text read = {text, size, NULL, 0};
+  struct read_text read = as_passed(text, size);
   unsigned char small[1024], *buffer = small;
   size_t room = what == PART || size <= sizeof small - 64 ? sizeof small : size + 64;
   for (;;) {
@@ -260,7 +324,7 @@ static void give_written(sqlite3_context *context, enum what what, uint32_t mode
   if (status == VIZHONIKU_NO_PATH)
     sqlite3_result_error(context, MALFORMED_PATH, -1);
   else if (status != VIZHONIKU_NO_PART)
-    tell(context, mode, status, &refusal, &read, 1);
+    tell(context, mode, status == VIZHONIKU_REFUSED ? find_in_passed(&read, &refusal) : status, &refusal, &read, 1);
   sqlite3_free(read.made);
 }
 
@@ -317,7 +381,7 @@ static int collate(void *database, int left_length, const void *left, int right_
   struct vizhoniku_refusal refusal;
   uint32_t status = vizhoniku_compare(VIZHONIKU_EXTENDED, left, left_size, right, right_size, &order, &refusal);
   if (status == VIZHONIKU_ACCEPTED) return order;
-  struct read_text one = {left, left_size, NULL, 0}, two = {right, right_size, NULL, 0};
+  struct read_text one = as_passed(left, left_size), two = as_passed(right, right_size);
   status = compare_again(status, &one, &two, &order, &refusal);
   if (status == VIZHONIKU_REFUSED && refusal.which == 2) {
     status = VIZHONIKU_ACCEPTED;
@@ -349,6 +413,7 @@ int sqlite3_vjson_init(sqlite3 *database, char **message, const sqlite3_api_rout
       {"vjson_valid", 1, 0, call_valid},
       {"vjson_error_position", 1, 0, call_error_position},
       {"vjson_error", 1, 0, call_error},
+      {"vjson_error_path", 1, 0, call_error_path},
       {"vjson_get", 2, SQLITE_RESULT_SUBTYPE, call_get},
       {"vjson_key", 1, 0, call_key},
   };
