@@ -39,6 +39,8 @@
 PG_FUNCTION_INFO_V1(to_vjson);
 PG_FUNCTION_INFO_V1(vjson_build_array);
 PG_FUNCTION_INFO_V1(vjson_build_object);
+PG_FUNCTION_INFO_V1(vjson_object);
+PG_FUNCTION_INFO_V1(vjson_object_two_arg);
 PG_FUNCTION_INFO_V1(vjson_agg_transfn);
 PG_FUNCTION_INFO_V1(vjson_agg_finalfn);
 PG_FUNCTION_INFO_V1(vjson_object_agg_transfn);
@@ -548,6 +550,86 @@ vjson_build_object(PG_FUNCTION_ARGS)
 	initStringInfo(&text);
 	append_object(&text, &members);
 	PG_RETURN_POINTER(vjson_of_text(text.data, text.len));
+}
+
+/* The names or texts of an array. */
+typedef struct
+{
+	Datum	   *words;
+	bool	   *nulls;
+	int			count;
+} Texts;
+
+static Texts
+texts_of(ArrayType *array)
+{
+	Texts		texts;
+
+	deconstruct_array(array, TEXTOID, -1, false, TYPALIGN_INT, &texts.words, &texts.nulls, &texts.count);
+	return texts;
+}
+
+/* An object of strings: every so many of the words is a name, or its value, which is null where it is NULL. */
+static Datum
+object_of_texts(Texts names, Texts values, int step)
+{
+	Members		members;
+	StringInfoData object;
+
+	begin_members(&members);
+	for (int i = 0; i < names.count; i += step)
+	{
+		int			start = members.values.len;
+
+		if (names.nulls[i])
+			ereport(ERROR,
+					(errcode(ERRCODE_NULL_VALUE_NOT_ALLOWED), errmsg("null value not allowed for object key")));
+		if (values.nulls[i])
+			appendStringInfoString(&members.values, "null");
+		else
+			append_string(&members.values, TextDatumGetCString(values.words[i]));
+		add_member(&members, TextDatumGetCString(names.words[i]), start);
+	}
+	initStringInfo(&object);
+	append_object(&object, &members);
+	PG_RETURN_POINTER(vjson_of_text(object.data, object.len));
+}
+
+vjson_noreturn static void
+raise_wrong_array(const char *words)
+{
+	ereport(ERROR, (errcode(ERRCODE_ARRAY_SUBSCRIPT_ERROR), errmsg("%s", words)));
+}
+
+/* Names and values in turn, or rows of both. */
+Datum
+vjson_object(PG_FUNCTION_ARGS)
+{
+	ArrayType  *array = PG_GETARG_ARRAYTYPE_P(0);
+	Texts		names = texts_of(array);
+	Texts		values = {names.words + 1, names.nulls + 1, names.count};
+
+	if (ARR_NDIM(array) == 1 && ARR_DIMS(array)[0] % 2 != 0)
+		raise_wrong_array("array must have even number of elements");
+	if (ARR_NDIM(array) == 2 && ARR_DIMS(array)[1] != 2)
+		raise_wrong_array("array must have two columns");
+	if (ARR_NDIM(array) > 2)
+		raise_wrong_array("wrong number of array subscripts");
+	return object_of_texts(names, values, 2);
+}
+
+/* Names, and as many values. */
+Datum
+vjson_object_two_arg(PG_FUNCTION_ARGS)
+{
+	ArrayType  *names = PG_GETARG_ARRAYTYPE_P(0);
+	ArrayType  *values = PG_GETARG_ARRAYTYPE_P(1);
+
+	if (ARR_NDIM(names) > 1 || ARR_NDIM(names) != ARR_NDIM(values))
+		raise_wrong_array("wrong number of array subscripts");
+	if (ARR_NDIM(names) == 1 && ARR_DIMS(names)[0] != ARR_DIMS(values)[0])
+		raise_wrong_array("mismatched array dimensions");
+	return object_of_texts(texts_of(names), texts_of(values), 1);
 }
 
 

@@ -30,6 +30,7 @@ PG_FUNCTION_INFO_V1(vjson_delete_idx);
 PG_FUNCTION_INFO_V1(vjson_delete_array);
 PG_FUNCTION_INFO_V1(vjson_delete_path);
 PG_FUNCTION_INFO_V1(vjson_set);
+PG_FUNCTION_INFO_V1(vjson_set_lax);
 PG_FUNCTION_INFO_V1(vjson_insert);
 
 /* The keys of two values that begin with different bytes, and are one byte each. */
@@ -480,6 +481,43 @@ vjson_set(PG_FUNCTION_ARGS)
 	if (!change_document(&document, &change, &part))
 		PG_RETURN_DATUM(PG_GETARG_DATUM(0));
 	return make_datum(&document);
+}
+
+/* The last argument says what a part that is NULL does. */
+Datum
+vjson_set_lax(PG_FUNCTION_ARGS)
+{
+	const char *treatment = "";
+
+	if (PG_ARGISNULL(0) || PG_ARGISNULL(1) || PG_ARGISNULL(3))
+		PG_RETURN_NULL();
+	if (!PG_ARGISNULL(4))
+	{
+		if (!PG_ARGISNULL(2))
+			return vjson_set(fcinfo);
+		treatment = text_to_cstring(PG_GETARG_TEXT_PP(4));
+	}
+	if (strcmp(treatment, "use_json_null") == 0)
+	{
+		fcinfo->args[2].value = PointerGetDatum(vjson_of_text("null", 4));
+		fcinfo->args[2].isnull = false;
+		return vjson_set(fcinfo);
+	}
+	if (strcmp(treatment, "delete_key") == 0)
+		return vjson_delete_path(fcinfo);
+	if (strcmp(treatment, "return_target") == 0)
+		PG_RETURN_DATUM(PG_GETARG_DATUM(0));
+	if (strcmp(treatment, "raise_exception") == 0)
+		ereport(ERROR,
+				(errcode(ERRCODE_NULL_VALUE_NOT_ALLOWED),
+				 errmsg("JSON value must not be null"),
+				 errdetail("Exception was raised because null_value_treatment is \"raise_exception\"."),
+				 errhint("To avoid, either change the null_value_treatment argument or ensure that an SQL NULL is not "
+						 "passed.")));
+	ereport(ERROR,
+			(errcode(ERRCODE_INVALID_PARAMETER_VALUE),
+			 errmsg("null_value_treatment must be \"delete_key\", \"return_target\", \"use_json_null\", or "
+					"\"raise_exception\"")));
 }
 
 

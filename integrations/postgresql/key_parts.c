@@ -40,6 +40,8 @@ PG_FUNCTION_INFO_V1(vjson_object_field);
 PG_FUNCTION_INFO_V1(vjson_object_field_text);
 PG_FUNCTION_INFO_V1(vjson_array_element);
 PG_FUNCTION_INFO_V1(vjson_array_element_text);
+PG_FUNCTION_INFO_V1(vjson_extract_path);
+PG_FUNCTION_INFO_V1(vjson_extract_path_text);
 PG_FUNCTION_INFO_V1(vjson_exists);
 PG_FUNCTION_INFO_V1(vjson_exists_any);
 PG_FUNCTION_INFO_V1(vjson_exists_all);
@@ -226,6 +228,57 @@ vjson_array_element_text(PG_FUNCTION_ARGS)
 	text	   *result = NULL;
 
 	if (find_element(key, PG_GETARG_INT32(1), &part))
+		result = vjson_part_text(&parts, part);
+	if (result == NULL)
+		PG_RETURN_NULL();
+	PG_RETURN_TEXT_P(result);
+}
+
+/* The part to which the names of an array lead, as subscripts do. False if there is none, or a name is NULL. */
+static bool
+find_by_names(Range key, ArrayType *array, Range *part)
+{
+	Datum	   *names;
+	bool	   *nulls;
+	int			count;
+
+	if (array_contains_nulls(array))
+		return false;
+	deconstruct_array(array, TEXTOID, -1, false, TYPALIGN_INT, &names, &nulls, &count);
+	for (int i = 0; i < count; i++)
+	{
+		text	   *words = DatumGetTextPP(names[i]);
+		VjsonStep	step = {text_to_cstring(words), utf8_of(words), false};
+
+		if (!vjson_take_step(key, &step, part))
+			return false;
+		key = *part;
+	}
+	*part = key;
+	return true;
+}
+
+Datum
+vjson_extract_path(PG_FUNCTION_ARGS)
+{
+	VjsonParts	parts;
+	Range		key = get_whole(PG_GETARG_VARLENA_PP(0), &parts);
+	Range		part;
+
+	if (!find_by_names(key, PG_GETARG_ARRAYTYPE_P(1), &part))
+		PG_RETURN_NULL();
+	PG_RETURN_POINTER(vjson_part(&parts, part));
+}
+
+Datum
+vjson_extract_path_text(PG_FUNCTION_ARGS)
+{
+	VjsonParts	parts;
+	Range		key = get_whole(PG_GETARG_VARLENA_PP(0), &parts);
+	Range		part;
+	text	   *result = NULL;
+
+	if (find_by_names(key, PG_GETARG_ARRAYTYPE_P(1), &part))
 		result = vjson_part_text(&parts, part);
 	if (result == NULL)
 		PG_RETURN_NULL();

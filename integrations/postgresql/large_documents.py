@@ -124,6 +124,15 @@ TIMED = {
     "vjson_insert(vjson,vjson_path,vjson,boolean)": [
         "vjson_insert(o, '/z', '2.50')", "vjson_insert(a, '/0', '2.50')", "vjson_insert(a, '/-1', '2.50', true)",
         "vjson_insert(a, '/1', o)"],
+    "vjson_set_lax(vjson,vjson_path,vjson,boolean,text)": [
+        "vjson_set_lax(o, '/{last}', NULL)", "vjson_set_lax(a, '/-1', NULL, true, 'delete_key')"],
+    "vjson_extract_path(vjson,text[])": ["vjson_extract_path(o, '{last}', '0')", "vjson_extract_path(a, '-1')",
+                                         "vjson_extract_path(o, VARIADIC names) IS NULL"],
+    "vjson_extract_path_text(vjson,text[])": ["vjson_extract_path_text(o, '{last}')"],
+    "vjson_object(text[])": ["vjson_object(pairs)"],
+    "vjson_object(text[],text[])": ["vjson_object(names, names)"],
+    "vjson_to_record(vjson)": ["(SELECT {last} FROM vjson_to_record(o) AS x({last} vjson, k1 text))"],
+    "vjson_to_recordset(vjson)": ["(SELECT max(price) FROM vjson_to_recordset(r) AS x(id int, price numeric))"],
     "vjson_pretty(vjson)": ["vjson_pretty(o)", "vjson_pretty(a)"],
     "vjson_strip_nulls(vjson,boolean)": ["vjson_strip_nulls(o)", "vjson_strip_nulls(a, true)"],
     "vjson_populate_record(anyelement,vjson)": ["vjson_populate_record(NULL::grown_row, o)"],

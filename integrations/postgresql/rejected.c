@@ -398,6 +398,19 @@ server_words(char *words)
 	return words;
 }
 
+char *
+vjson_path_of_rejection(const VjsonRejection *why)
+{
+	struct vizhoniku_location location;
+	char	   *path;
+
+	if (why->is_extended)
+		return NULL;
+	vizhoniku_place((const unsigned char *) why->text, why->size, &why->refusal, &location);
+	path = path_of_place(why->text, why->size, location.index);
+	return path == NULL ? NULL : server_words(path);
+}
+
 /*
  * What is wrong, in words that are the same for each text with the fault: with
  * neither the position in them nor what stands there.
@@ -446,9 +459,7 @@ tell_rejection(FunctionCallInfo fcinfo, Range input)
 		char	   *path;
 
 		vjson_locate(&why, &place);
-		path = path_of_place(why.text, why.size, place.index);
-		if (path != NULL)
-			path = server_words(path);
+		path = vjson_path_of_rejection(&why);
 		values[0] = CStringGetTextDatum(words_of_fault(&why));
 		values[2] = Int32GetDatum((int32) place.line);
 		values[3] = Int32GetDatum((int32) place.column);

@@ -6,7 +6,7 @@
 
 -- Members and items
 
-CREATE FUNCTION vjson_object_field(vjson, field_name text) RETURNS vjson
+CREATE FUNCTION vjson_object_field(from_json vjson, field_name text) RETURNS vjson
   AS 'MODULE_PATHNAME' LANGUAGE C IMMUTABLE STRICT PARALLEL SAFE COST 2;
 COMMENT ON FUNCTION vjson_object_field(vjson, text) IS 'implementation of -> operator';
 
@@ -17,7 +17,7 @@ CREATE OPERATOR -> (
 );
 COMMENT ON OPERATOR -> (vjson, text) IS 'the member of a name, or NULL';
 
-CREATE FUNCTION vjson_object_field_text(vjson, field_name text) RETURNS text
+CREATE FUNCTION vjson_object_field_text(from_json vjson, field_name text) RETURNS text
   AS 'MODULE_PATHNAME' LANGUAGE C IMMUTABLE STRICT PARALLEL SAFE COST 2;
 COMMENT ON FUNCTION vjson_object_field_text(vjson, text) IS 'implementation of ->> operator';
 
@@ -28,7 +28,7 @@ CREATE OPERATOR ->> (
 );
 COMMENT ON OPERATOR ->> (vjson, text) IS 'the member of a name as text, or NULL';
 
-CREATE FUNCTION vjson_array_element(vjson, element_index integer) RETURNS vjson
+CREATE FUNCTION vjson_array_element(from_json vjson, element_index integer) RETURNS vjson
   AS 'MODULE_PATHNAME' LANGUAGE C IMMUTABLE STRICT PARALLEL SAFE COST 2;
 COMMENT ON FUNCTION vjson_array_element(vjson, integer) IS 'implementation of -> operator';
 
@@ -39,7 +39,7 @@ CREATE OPERATOR -> (
 );
 COMMENT ON OPERATOR -> (vjson, integer) IS 'the item of an index, or NULL';
 
-CREATE FUNCTION vjson_array_element_text(vjson, element_index integer) RETURNS text
+CREATE FUNCTION vjson_array_element_text(from_json vjson, element_index integer) RETURNS text
   AS 'MODULE_PATHNAME' LANGUAGE C IMMUTABLE STRICT PARALLEL SAFE COST 2;
 COMMENT ON FUNCTION vjson_array_element_text(vjson, integer) IS 'implementation of ->> operator';
 
@@ -103,11 +103,11 @@ COMMENT ON FUNCTION vjson_array_length(vjson) IS 'how many items an array has';
 
 -- All members and all items
 
-CREATE FUNCTION vjson_each(vjson, OUT key text, OUT value vjson) RETURNS SETOF record
+CREATE FUNCTION vjson_each(from_json vjson, OUT key text, OUT value vjson) RETURNS SETOF record
   AS 'MODULE_PATHNAME' LANGUAGE C IMMUTABLE STRICT PARALLEL SAFE ROWS 100;
 COMMENT ON FUNCTION vjson_each(vjson) IS 'the members of an object';
 
-CREATE FUNCTION vjson_each_text(vjson, OUT key text, OUT value text) RETURNS SETOF record
+CREATE FUNCTION vjson_each_text(from_json vjson, OUT key text, OUT value text) RETURNS SETOF record
   AS 'MODULE_PATHNAME' LANGUAGE C IMMUTABLE STRICT PARALLEL SAFE ROWS 100;
 COMMENT ON FUNCTION vjson_each_text(vjson) IS 'the members of an object as text';
 
@@ -115,11 +115,11 @@ CREATE FUNCTION vjson_object_keys(vjson) RETURNS SETOF text
   AS 'MODULE_PATHNAME' LANGUAGE C IMMUTABLE STRICT PARALLEL SAFE ROWS 100;
 COMMENT ON FUNCTION vjson_object_keys(vjson) IS 'the names of the members of an object';
 
-CREATE FUNCTION vjson_array_elements(vjson, OUT value vjson) RETURNS SETOF vjson
+CREATE FUNCTION vjson_array_elements(from_json vjson, OUT value vjson) RETURNS SETOF vjson
   AS 'MODULE_PATHNAME' LANGUAGE C IMMUTABLE STRICT PARALLEL SAFE ROWS 100;
 COMMENT ON FUNCTION vjson_array_elements(vjson) IS 'the items of an array';
 
-CREATE FUNCTION vjson_array_elements_text(vjson, OUT value text) RETURNS SETOF text
+CREATE FUNCTION vjson_array_elements_text(from_json vjson, OUT value text) RETURNS SETOF text
   AS 'MODULE_PATHNAME' LANGUAGE C IMMUTABLE STRICT PARALLEL SAFE ROWS 100;
 COMMENT ON FUNCTION vjson_array_elements_text(vjson) IS 'the items of an array as text';
 
@@ -498,7 +498,7 @@ CREATE FUNCTION vjson_strip_nulls(target vjson, strip_in_arrays boolean DEFAULT 
   AS 'MODULE_PATHNAME' LANGUAGE C IMMUTABLE STRICT PARALLEL SAFE COST 10;
 COMMENT ON FUNCTION vjson_strip_nulls(vjson, boolean) IS 'without the members that are null';
 
--- Rows of documents, by jsonb's functions. Those that answer with rows of any columns are jsonb's alone.
+-- Rows of documents, by jsonb's functions
 
 CREATE FUNCTION vjson_populate_record(base anyelement, from_json vjson) RETURNS anyelement
   LANGUAGE sql STABLE PARALLEL SAFE
@@ -509,6 +509,38 @@ CREATE FUNCTION vjson_populate_recordset(base anyelement, from_json vjson) RETUR
   LANGUAGE sql STABLE PARALLEL SAFE ROWS 100
   AS 'SELECT pg_catalog.jsonb_populate_recordset(base, from_json::pg_catalog.jsonb)';
 COMMENT ON FUNCTION vjson_populate_recordset(anyelement, vjson) IS 'rows of a type, of an array of objects';
+
+CREATE FUNCTION vjson_to_record(vjson) RETURNS record
+  AS 'MODULE_PATHNAME' LANGUAGE C STABLE STRICT PARALLEL SAFE;
+COMMENT ON FUNCTION vjson_to_record(vjson) IS 'a row of the columns that the query names, which an object has';
+
+CREATE FUNCTION vjson_to_recordset(vjson) RETURNS SETOF record
+  AS 'MODULE_PATHNAME' LANGUAGE C STABLE PARALLEL SAFE ROWS 100;
+COMMENT ON FUNCTION vjson_to_recordset(vjson) IS 'rows of the columns that the query names, of an array of objects';
+
+-- More of jsonb's functions
+
+CREATE FUNCTION vjson_extract_path(from_json vjson, VARIADIC path_elems text[]) RETURNS vjson
+  AS 'MODULE_PATHNAME' LANGUAGE C IMMUTABLE STRICT PARALLEL SAFE COST 2;
+COMMENT ON FUNCTION vjson_extract_path(vjson, text[]) IS 'the part to which names lead, or NULL';
+
+CREATE FUNCTION vjson_extract_path_text(from_json vjson, VARIADIC path_elems text[]) RETURNS text
+  AS 'MODULE_PATHNAME' LANGUAGE C IMMUTABLE STRICT PARALLEL SAFE COST 2;
+COMMENT ON FUNCTION vjson_extract_path_text(vjson, text[]) IS 'the part to which names lead as text, or NULL';
+
+CREATE FUNCTION vjson_object(text[]) RETURNS vjson
+  AS 'MODULE_PATHNAME' LANGUAGE C IMMUTABLE STRICT PARALLEL SAFE;
+COMMENT ON FUNCTION vjson_object(text[]) IS 'an object of strings: names and values in turn';
+
+CREATE FUNCTION vjson_object(text[], text[]) RETURNS vjson
+  AS 'MODULE_PATHNAME', 'vjson_object_two_arg' LANGUAGE C IMMUTABLE STRICT PARALLEL SAFE;
+COMMENT ON FUNCTION vjson_object(text[], text[]) IS 'an object of strings: names, and their values';
+
+CREATE FUNCTION vjson_set_lax(vjson_in vjson, path vjson_path, replacement vjson,
+    create_if_missing boolean DEFAULT true, null_value_treatment text DEFAULT 'use_json_null') RETURNS vjson
+  AS 'MODULE_PATHNAME' LANGUAGE C IMMUTABLE PARALLEL SAFE;
+COMMENT ON FUNCTION vjson_set_lax(vjson, vjson_path, vjson, boolean, text)
+  IS 'with another part at a path, also one that is NULL';
 
 -- Texts that are no documents
 

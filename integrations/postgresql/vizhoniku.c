@@ -60,6 +60,9 @@ PG_MODULE_MAGIC;
 /* How many bytes before a fault are shown. */
 #define SHOWN_BEFORE	50
 
+/* The longest path that is shown. */
+#define LONGEST_PATH	500
+
 /*
  * The machine stack that one call of the library may take, in bytes: at most
  * about 8 kB, and 0.21 kB for each array or object that is open.  At most 512
@@ -233,6 +236,35 @@ vjson_locate(const VjsonRejection *why, VjsonPlace *place)
 	place->shown = shown_line(why->text, why->size, &location);
 }
 
+/* Where a number or a name is rejected: the path, as the end of a sentence. Empty for the whole text, and a long path. */
+static const char *
+words_of_path(const VjsonRejection *why)
+{
+	const char *path;
+
+	if (why->refusal.code != VIZHONIKU_NUMBER_NOT_CARRIED && why->refusal.code != VIZHONIKU_OBJECT_DUPLICATE_KEY)
+		return "";
+	path = vjson_path_of_rejection(why);
+	return path == NULL || *path == '\0' || strlen(path) > LONGEST_PATH ? "" : psprintf(", at %s", path);
+}
+
+/* What to do about a number or a name that is rejected. */
+static int
+hint_of_rejection(const VjsonRejection *why)
+{
+	switch (why->refusal.code)
+	{
+		case VIZHONIKU_NUMBER_NOT_CARRIED:
+			return errhint("Numbers are integers and decimals of at most 38 digits, where an exponent is written out. "
+						   "vjson_rounded rounds those below 10^38, and vjson_error tells what a whole table has that "
+						   "is rejected.");
+		case VIZHONIKU_OBJECT_DUPLICATE_KEY:
+			return errhint("vjson_error tells what a whole table has that is rejected.");
+		default:
+			return 0;
+	}
+}
+
 /*
  * Report why a text was rejected.  This raises an error, unless the caller of
  * the function asked by its context for errors that it goes on after.
@@ -241,14 +273,14 @@ static void
 report_rejection(Node *context, const VjsonRejection *why)
 {
 	VjsonPlace	place;
+	const char *at = words_of_path(why);
 
 	vjson_locate(why, &place);
 	vjson_report(context,
 				 (errcode(ERRCODE_INVALID_TEXT_REPRESENTATION),
 				  errmsg("invalid input syntax for type %s", "vjson"),
-				  errdetail_internal("%s (line %zu, column %zu)", why->words, place.line, place.column),
-				  why->refusal.code == VIZHONIKU_NUMBER_NOT_CARRIED ?
-				  errhint("Numbers are integers and decimals of at most 38 digits, where an exponent is written out.") : 0,
+				  errdetail_internal("%s (line %zu, column %zu)%s", why->words, place.line, place.column, at),
+				  hint_of_rejection(why),
 				  errcontext("vjson text, line %zu: %s", place.line, place.shown)));
 }
 
@@ -535,6 +567,7 @@ try_utf8(const char *text, size_t size, ReadAs as, VjsonRejection *why)
 
 	why->text = text;
 	why->size = size;
+	why->is_extended = as == READ_EXTENDED;
 	if (status == VIZHONIKU_REFUSED && as == READ_INPUT && why->refusal.code == VIZHONIKU_NUMBER_NOT_CARRIED)
 	{
 		if (!is_json(text, size, why))

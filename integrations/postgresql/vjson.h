@@ -70,6 +70,7 @@ typedef struct
 	struct vizhoniku_refusal refusal;
 	const char *text;
 	size_t		size;
+	bool		is_extended;	/* whether comments and names without quotes were allowed in it */
 } VjsonRejection;
 
 /* The place of that: the offset of a byte, and what of its line is shown. */
@@ -82,6 +83,9 @@ typedef struct
 } VjsonPlace;
 
 extern void vjson_locate(const VjsonRejection *why, VjsonPlace *place);
+
+/* The path of the innermost part in which the fault is, in the encoding of the database. NULL if it can't be shown. */
+extern char *vjson_path_of_rejection(const VjsonRejection *why);
 
 /*
  * A copy of the text with zeros and spaces in the place of its numbers, or of

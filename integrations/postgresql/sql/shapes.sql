@@ -38,6 +38,24 @@ CREATE TYPE pg_temp.row_of AS (a int, b text, c vjson);
 SELECT vjson_populate_record(NULL::pg_temp.row_of, '{"a":1,"b":"x","c":[1.50]}') AS whole,
   vjson_populate_record((7, 'y', NULL)::pg_temp.row_of, '{"a":1}') AS based;
 SELECT * FROM vjson_populate_recordset(NULL::pg_temp.row_of, '[{"a":1,"c":null},{"b":"z"}]');
+SELECT a, b, c FROM vjson_to_record('{"a":1,"b":"x","c":[1.50],"d":0}') AS x(a int, b text, c vjson);
+SELECT * FROM vjson_to_recordset('[{"a":1,"c":null},{"b":"z"}]') AS x(a int, b text, c vjson);
+SELECT * FROM vjson_to_recordset('[1]') AS x(a int);
+SELECT vjson_to_record('{}');
+
+-- Parts to which names lead, parts that are NULL, and objects of texts.
+SELECT v, path FROM documents, (VALUES ('{}'::text[]), ('{a}'), ('{a,0}'), ('{-1,b}'), ('{a,NULL}')) p(path)
+  WHERE vjson_extract_path(v, VARIADIC path)::jsonb::text IS DISTINCT FROM jsonb_extract_path(j, VARIADIC path)::text;
+SELECT vjson_extract_path_text('{"a":["x",2.50]}', 'a', '-1') AS number,
+  vjson_extract_path_text(from_json => '{"a":["x",2.50]}', VARIADIC path_elems => '{a,0}') AS string;
+SELECT vjson_set_lax('{"a":1.50}', '/a', NULL) AS null, vjson_set_lax('{"a":1.50}', '/a', '2') AS set,
+  vjson_set_lax('{"a":1.50}', '/a', NULL, null_value_treatment => 'delete_key') AS deleted,
+  vjson_set_lax('{"a":1.50}', '/a', NULL, null_value_treatment => 'return_target') AS target;
+SELECT vjson_set_lax('{"a":1.50}', '/a', NULL, true, 'raise_exception');
+SELECT vjson_set_lax('{"a":1.50}', '/a', NULL, true, 'none');
+SELECT vjson_object('{b,1,a,NULL}') AS turns, vjson_object('{{a,1},{b,x}}') AS rows, vjson_object('{a,b}', '{1,x}') AS apart;
+SELECT vjson_object('{a}');
+SELECT vjson_object('{a}', '{1,2}');
 
 -- Why a text is rejected, and where; and a text whose numbers are rounded.
 SELECT e.* FROM (VALUES (1, '{"a":[1,{"b/c":1e-60}]}'), (2, E'{"a":1,\n "b":2, "a":3}'), (3, '[1,[2,3 4]]'), (4, ''),
