@@ -469,18 +469,24 @@ vjson_delete_path(PG_FUNCTION_ARGS)
 	return make_datum(&document);
 }
 
-Datum
-vjson_set(PG_FUNCTION_ARGS)
+static Datum
+set_part(Datum datum, text *path, Datum part_datum, bool create)
 {
-	Document	document = get_document(PG_GETARG_DATUM(0));
-	Document	part = get_document(PG_GETARG_DATUM(2));
-	Change		change = {SET, utf8_of(PG_GETARG_TEXT_PP(1)), part.key, PG_GETARG_BOOL(3)};
+	Document	document = get_document(datum);
+	Document	part = get_document(part_datum);
+	Change		change = {SET, utf8_of(path), part.key, create};
 
 	if (is_scalar(kind_of(document.key)))
 		raise_wrong_kind("cannot set path in scalar");
 	if (!change_document(&document, &change, &part))
-		PG_RETURN_DATUM(PG_GETARG_DATUM(0));
+		return datum;
 	return make_datum(&document);
+}
+
+Datum
+vjson_set(PG_FUNCTION_ARGS)
+{
+	return set_part(PG_GETARG_DATUM(0), PG_GETARG_TEXT_PP(1), PG_GETARG_DATUM(2), PG_GETARG_BOOL(3));
 }
 
 /* The last argument says what a part that is NULL does. */
@@ -498,11 +504,7 @@ vjson_set_lax(PG_FUNCTION_ARGS)
 		treatment = text_to_cstring(PG_GETARG_TEXT_PP(4));
 	}
 	if (strcmp(treatment, "use_json_null") == 0)
-	{
-		fcinfo->args[2].value = PointerGetDatum(vjson_of_text("null", 4));
-		fcinfo->args[2].isnull = false;
-		return vjson_set(fcinfo);
-	}
+		return set_part(PG_GETARG_DATUM(0), PG_GETARG_TEXT_PP(1), PointerGetDatum(vjson_of_text("null", 4)), PG_GETARG_BOOL(3));
 	if (strcmp(treatment, "delete_key") == 0)
 		return vjson_delete_path(fcinfo);
 	if (strcmp(treatment, "return_target") == 0)

@@ -8,25 +8,34 @@
  */
 #include "postgres.h"
 
+#include "access/htup_details.h"
+#include "catalog/pg_type.h"
+#include "executor/executor.h"
 #include "fmgr.h"
 #include "funcapi.h"
+#include "miscadmin.h"
 #include "utils/fmgrprotos.h"
+#include "utils/lsyscache.h"
+#include "utils/memutils.h"
+#include "utils/syscache.h"
+#include "utils/tuplestore.h"
 
 #include "key_walk.h"
 #include "vjson.h"
 
 extern Datum vjson_to_jsonb(PG_FUNCTION_ARGS);
+extern Datum vjson_from_jsonb(PG_FUNCTION_ARGS);
 
 PG_FUNCTION_INFO_V1(vjson_to_record);
 PG_FUNCTION_INFO_V1(vjson_to_recordset);
 
-/* Raise an error unless the query names columns. What jsonb's functions keep for the next call shows that it did. */
+/* Raise an error unless the query names columns. */
 static void
 check_columns(FunctionCallInfo fcinfo, const char *function)
 {
-	TupleDesc	columns;
+	ReturnSetInfo *set = (ReturnSetInfo *) fcinfo->resultinfo;
 
-	if (fcinfo->flinfo->fn_extra == NULL && get_call_result_type(fcinfo, NULL, &columns) != TYPEFUNC_COMPOSITE)
+	if (set == NULL || !IsA(set, ReturnSetInfo) || set->expectedDesc == NULL || set->expectedDesc->natts == 0)
 		ereport(ERROR,
 				(errcode(ERRCODE_FEATURE_NOT_SUPPORTED),
 				 errmsg("could not determine row type for result of %s", function),
@@ -56,12 +65,110 @@ check_objects(Datum document)
 	}
 }
 
+/* The columns, with jsonb in the place of vjson, so that a string becomes a document. NULL if none is of vjson. */
+static TupleDesc
+columns_of_jsonb(FunctionCallInfo fcinfo, TupleDesc columns)
+{
+	Oid			vjson = GetSysCacheOid2(TYPENAMENSP, Anum_pg_type_oid, CStringGetDatum("vjson"),
+										ObjectIdGetDatum(get_func_namespace(fcinfo->flinfo->fn_oid)));
+	TupleDesc	changed = NULL;
+
+	for (int i = 0; i < columns->natts; i++)
+	{
+		if (TupleDescAttr(columns, i)->atttypid != vjson)
+			continue;
+		if (changed == NULL)
+			changed = CreateTupleDescCopy(columns);
+		TupleDescAttr(changed, i)->atttypid = JSONBOID;
+	}
+	return changed;
+}
+
+/* The row with its columns of jsonb as those of vjson that they are to be. */
+static HeapTuple
+row_of_vjson(HeapTuple row, TupleDesc given, TupleDesc wanted)
+{
+	Datum	   *values = palloc(wanted->natts * sizeof(Datum));
+	bool	   *nulls = palloc(wanted->natts * sizeof(bool));
+
+	heap_deform_tuple(row, given, values, nulls);
+	for (int i = 0; i < wanted->natts; i++)
+	{
+		if (!nulls[i] && TupleDescAttr(given, i)->atttypid != TupleDescAttr(wanted, i)->atttypid)
+			values[i] = DirectFunctionCall1(vjson_from_jsonb, values[i]);
+	}
+	return heap_form_tuple(wanted, values, nulls);
+}
+
+/* Put the rows of jsonb into the set that is answered. */
+static void
+put_rows(ReturnSetInfo *set, Tuplestorestate *rows, TupleDesc given, TupleDesc wanted)
+{
+	MemoryContext of_row = AllocSetContextCreate(CurrentMemoryContext, "a row of a vjson", ALLOCSET_DEFAULT_SIZES);
+	MemoryContext caller = MemoryContextSwitchTo(set->econtext->ecxt_per_query_memory);
+	TupleTableSlot *slot;
+
+	set->setDesc = CreateTupleDescCopy(wanted);
+	set->setResult = tuplestore_begin_heap((set->allowedModes & SFRM_Materialize_Random) != 0, false, work_mem);
+	MemoryContextSwitchTo(caller);
+	slot = MakeSingleTupleTableSlot(given, &TTSOpsMinimalTuple);
+	while (tuplestore_gettupleslot(rows, true, false, slot))
+	{
+		CHECK_FOR_INTERRUPTS();
+		MemoryContextSwitchTo(of_row);
+		tuplestore_puttuple(set->setResult, row_of_vjson(ExecFetchSlotHeapTuple(slot, false, NULL), given, wanted));
+		MemoryContextSwitchTo(caller);
+		MemoryContextReset(of_row);
+	}
+	ExecDropSingleTupleTableSlot(slot);
+	MemoryContextDelete(of_row);
+	tuplestore_end(rows);
+}
+
+/*
+ * The same call of jsonb's function, for the columns that the query names.  The
+ * arguments of this call stay, since those that are constants come again.
+ */
+static Datum
+call_for_rows(FunctionCallInfo fcinfo, PGFunction function)
+{
+	LOCAL_FCINFO(call, 1);
+	ReturnSetInfo *set = (ReturnSetInfo *) fcinfo->resultinfo;
+	ReturnSetInfo rows = *set;
+	TupleDesc	given = columns_of_jsonb(fcinfo, set->expectedDesc);
+	Datum		result;
+
+	memcpy(call, fcinfo, SizeForFunctionCallInfo(1));
+	if (!PG_ARGISNULL(0))
+		call->args[0].value = DirectFunctionCall1(vjson_to_jsonb, PG_GETARG_DATUM(0));
+	if (given != NULL)
+	{
+		rows.expectedDesc = given;
+		call->resultinfo = (fmNodePtr) &rows;
+	}
+	result = function(call);
+	fcinfo->isnull = call->isnull;
+	if (given == NULL)
+		return result;
+	set->returnMode = rows.returnMode;
+	set->isDone = rows.isDone;
+	if (rows.setResult != NULL)
+		put_rows(set, rows.setResult, given, set->expectedDesc);
+	else if (!call->isnull)
+	{
+		HeapTupleHeader header = DatumGetHeapTupleHeader(result);
+		HeapTupleData row = {.t_len = HeapTupleHeaderGetDatumLength(header), .t_data = header};
+
+		result = HeapTupleGetDatum(row_of_vjson(&row, given, set->expectedDesc));
+	}
+	return result;
+}
+
 Datum
 vjson_to_record(PG_FUNCTION_ARGS)
 {
 	check_columns(fcinfo, "vjson_to_record");
-	fcinfo->args[0].value = DirectFunctionCall1(vjson_to_jsonb, PG_GETARG_DATUM(0));
-	return jsonb_to_record(fcinfo);
+	return call_for_rows(fcinfo, jsonb_to_record);
 }
 
 Datum
@@ -69,9 +176,6 @@ vjson_to_recordset(PG_FUNCTION_ARGS)
 {
 	check_columns(fcinfo, "vjson_to_recordset");
 	if (!PG_ARGISNULL(0))
-	{
 		check_objects(PG_GETARG_DATUM(0));
-		fcinfo->args[0].value = DirectFunctionCall1(vjson_to_jsonb, PG_GETARG_DATUM(0));
-	}
-	return jsonb_to_recordset(fcinfo);
+	return call_for_rows(fcinfo, jsonb_to_recordset);
 }

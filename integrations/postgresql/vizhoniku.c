@@ -63,6 +63,9 @@ PG_MODULE_MAGIC;
 /* The longest path that is shown. */
 #define LONGEST_PATH	500
 
+/* The longest text with decimals of which the key alone is made. Of a longer one key and text might exceed 1 GB. */
+#define LONGEST_FOR_KEY	(MaxAllocSize / 8)
+
 /*
  * The machine stack that one call of the library may take, in bytes: at most
  * about 8 kB, and 0.21 kB for each array or object that is open.  At most 512
@@ -255,6 +258,8 @@ hint_of_rejection(const VjsonRejection *why)
 	switch (why->refusal.code)
 	{
 		case VIZHONIKU_NUMBER_NOT_CARRIED:
+			if (why->is_extended)
+				return errhint("Numbers are integers, decimals of at most 38 digits and hexadecimals, with no exponent.");
 			return errhint("Numbers are integers and decimals of at most 38 digits, where an exponent is written out. "
 						   "vjson_rounded rounds those below 10^38, and vjson_error tells what a whole table has that "
 						   "is rejected.");
@@ -389,12 +394,9 @@ size_of_key_alone(size_t key_size)
 	return size;
 }
 
-/*
- * Make the value of a text of standard mode.  Its numbers are integers, so that
- * its key alone has all of it.
- */
+/* Make the value of a text in which no decimal ends in a zero, so that its key alone has all of it. */
 static uint32
-make_standard_value(const char *text, size_t size, struct varlena **value, struct vizhoniku_refusal *refusal)
+make_key_value(uint32 mode, const char *text, size_t size, struct varlena **value, struct vizhoniku_refusal *refusal)
 {
 	size_t		key_room = size + SPARE_ROOM;
 
@@ -403,7 +405,7 @@ make_standard_value(const char *text, size_t size, struct varlena **value, struc
 		char	   *result = palloc_extended(VARHDRSZ + FORM_SIZE + key_room, MCXT_ALLOC_HUGE);
 		char	   *form = result + VARHDRSZ;
 		size_t		key_size;
-		uint32		status = vizhoniku_sort_key(VIZHONIKU_STANDARD, (const unsigned char *) text, size,
+		uint32		status = vizhoniku_sort_key(mode, (const unsigned char *) text, size,
 												(unsigned char *) form + FORM_SIZE, key_room, &key_size, refusal);
 
 		if (status == VIZHONIKU_ACCEPTED)
@@ -420,9 +422,9 @@ make_standard_value(const char *text, size_t size, struct varlena **value, struc
 	}
 }
 
-/* Make the value of a text of extended mode. */
+/* Make the value of a text of extended mode, with the zeros that end its decimals. */
 static uint32
-make_extended_value(const char *text, size_t size, struct varlena **value, struct vizhoniku_refusal *refusal)
+make_zeros_value(const char *text, size_t size, struct varlena **value, struct vizhoniku_refusal *refusal)
 {
 	size_t		key_room = size + SPARE_ROOM;
 	size_t		text_room = size + SPARE_ROOM;
@@ -464,13 +466,14 @@ make_extended_value(const char *text, size_t size, struct varlena **value, struc
  * library; *value is set where it is VIZHONIKU_ACCEPTED.
  */
 static uint32
-make_value(uint32 mode, const char *text, size_t size, struct varlena **value, struct vizhoniku_refusal *refusal)
+make_value(uint32 mode, bool has_zeros, const char *text, size_t size, struct varlena **value,
+		   struct vizhoniku_refusal *refusal)
 {
 	CHECK_FOR_INTERRUPTS();
 	check_stack_room(text, size);
-	if (mode == VIZHONIKU_STANDARD)
-		return make_standard_value(text, size, value, refusal);
-	return make_extended_value(text, size, value, refusal);
+	if (has_zeros)
+		return make_zeros_value(text, size, value, refusal);
+	return make_key_value(mode, text, size, value, refusal);
 }
 
 /*
@@ -499,7 +502,7 @@ tell_no_json(const char *text, size_t size, JsonParseErrorType error, size_t pos
 	pfree(rest);
 }
 
-/* Whether the text is JSON as the server's own type json takes it. If it isn't, *why says why. */
+/* Whether the text is JSON as the server's own type json takes it. If it isn't, *why says why, where it isn't NULL. */
 static bool
 is_json(const char *text, size_t size, VjsonRejection *why)
 {
@@ -512,7 +515,8 @@ is_json(const char *text, size_t size, VjsonRejection *why)
 
 	if (error != JSON_SUCCESS)
 	{
-		tell_no_json(text, size, error, lex->token_start ? (size_t) (lex->token_start - lex->input) : size, why);
+		if (why != NULL)
+			tell_no_json(text, size, error, lex->token_start ? (size_t) (lex->token_start - lex->input) : size, why);
 		return false;
 	}
 	pfree(lex);
@@ -527,7 +531,7 @@ static uint32
 write_plain_numbers(const char *text, size_t size, char **plain, size_t *plain_size,
 					struct vizhoniku_refusal *refusal)
 {
-	size_t		room = size + SPARE_ROOM;
+	size_t		room = size + size / 4 + SPARE_ROOM;
 
 	for (;;)
 	{
@@ -547,6 +551,122 @@ write_plain_numbers(const char *text, size_t size, char **plain, size_t *plain_s
 	}
 }
 
+/* What the numbers of a text are, as far as it is JSON. */
+typedef struct
+{
+	bool		some_fraction;	/* a decimal, or an exponent */
+	bool		some_exponent;
+	bool		some_zeros;		/* a decimal without an exponent that ends in a zero */
+	bool		is_deep;		/* more arrays and objects are open at once than any mode takes */
+} Numbers;
+
+/* Behind the string that begins here, or the end of the text. */
+static inline const char *
+behind_string(const char *at, const char *end)
+{
+	for (at++; at < end && *at != '"'; at++)
+	{
+		if (*at == '\\')
+			at++;
+	}
+	return at < end ? at + 1 : end;
+}
+
+static inline const char *
+behind_digits(const char *at, const char *end)
+{
+	while (at < end && (unsigned char) (*at - '0') <= 9)
+		at++;
+	return at;
+}
+
+static Numbers
+look_at_numbers(const char *text, size_t size)
+{
+	const char *end = text + size;
+	Numbers		numbers = {false, false, false, false};
+	int			levels = 0;
+
+	for (const char *at = text; at < end;)
+	{
+		at = behind_digits(at, end);
+		if (at == end)
+			break;
+		switch (*at)
+		{
+			case '"':
+				at = behind_string(at, end);
+				continue;
+			case '[':
+			case '{':
+				numbers.is_deep |= ++levels > MAX_LEVELS;
+				break;
+			case ']':
+			case '}':
+				levels--;
+				break;
+			case '.':
+				numbers.some_fraction = true;
+				at = behind_digits(at + 1, end);
+				numbers.some_zeros |= at[-1] == '0' && (at == end || (*at != 'e' && *at != 'E'));
+				continue;
+			case 'e':
+			case 'E':
+				/* Those of true and false stand behind a letter. */
+				numbers.some_exponent |= at > text && (unsigned char) (at[-1] - '0') <= 9;
+				break;
+		}
+		at++;
+	}
+	numbers.some_fraction |= numbers.some_exponent;
+	return numbers;
+}
+
+/*
+ * The value of a text that is JSON, by no more calls than its numbers need: NULL
+ * where anything is rejected.
+ */
+static struct varlena *
+value_of_json(const char *text, size_t size, Numbers numbers)
+{
+	struct varlena *value = NULL;
+	struct vizhoniku_refusal refusal;
+	char	   *plain = NULL;
+	uint32		status = VIZHONIKU_ACCEPTED;
+
+	if (numbers.some_exponent)
+	{
+		status = write_plain_numbers(text, size, &plain, &size, &refusal);
+		if (status == VIZHONIKU_ACCEPTED && !numbers.some_zeros)
+			numbers = look_at_numbers(plain, size);
+		text = plain;
+	}
+	if (status == VIZHONIKU_ACCEPTED)
+		status = make_value(VIZHONIKU_EXTENDED, numbers.some_zeros || size > LONGEST_FOR_KEY, text, size, &value,
+							&refusal);
+	if (plain != NULL)
+		pfree(plain);
+	return status == VIZHONIKU_ACCEPTED ? value : NULL;
+}
+
+/*
+ * Read a text that may be JSON with decimals: as what it mostly is, with no
+ * mode tried that rejects it.  NULL where it isn't, or anything is rejected.
+ */
+static struct varlena *
+try_json(const char *text, size_t size, bool is_known)
+{
+	Numbers		numbers;
+
+	check_stack_room(text, size);
+	numbers = look_at_numbers(text, size);
+	if (numbers.is_deep)
+		return NULL;
+	if (!is_known && (!numbers.some_fraction || !is_json(text, size, NULL)))
+		return NULL;
+	return value_of_json(text, size, numbers);
+}
+
 /*
  * Read a text in UTF-8.  NULL if it is rejected, and then *why says why.
  *
@@ -556,6 +676,9 @@ write_plain_numbers(const char *text, size_t size, char **plain, size_t *plain_s
  * extended mode carries all of its numbers.  No mode has numbers with an
  * exponent: those of JSON are written out first, as jsonb does.  What else is
  * wrong then is told of the text without these, in which it has its place.
+ *
+ * What is accepted is mostly found at once by try_json.  What is rejected is
+ * then read step by step, so that the first fault is told.
  */
 static struct varlena *
 try_utf8(const char *text, size_t size, ReadAs as, VjsonRejection *why)
@@ -563,8 +686,16 @@ try_utf8(const char *text, size_t size, ReadAs as, VjsonRejection *why)
 	uint32		mode = as == READ_INPUT ? VIZHONIKU_STANDARD : VIZHONIKU_EXTENDED;
 	const char *read = text;
 	struct varlena *value = NULL;
-	uint32		status = make_value(mode, text, size, &value, &why->refusal);
+	bool		may_be_json = as == READ_JSON || (as == READ_INPUT && memchr(text, '.', size) != NULL);
+	uint32		status;
 
+	if (may_be_json)
+	{
+		value = try_json(text, size, as == READ_JSON);
+		if (value != NULL)
+			return value;
+	}
+	status = make_value(mode, mode == VIZHONIKU_EXTENDED, text, size, &value, &why->refusal);
 	why->text = text;
 	why->size = size;
 	why->is_extended = as == READ_EXTENDED;
@@ -576,8 +707,14 @@ try_utf8(const char *text, size_t size, ReadAs as, VjsonRejection *why)
 				why->words = NO_WORDS;
 			return NULL;
 		}
+		if (!may_be_json)
+		{
+			value = try_json(text, size, true);
+			if (value != NULL)
+				return value;
+		}
 		mode = VIZHONIKU_EXTENDED;
-		status = make_value(mode, text, size, &value, &why->refusal);
+		status = make_value(mode, true, text, size, &value, &why->refusal);
 	}
 	if (status == VIZHONIKU_REFUSED && as != READ_EXTENDED && mode == VIZHONIKU_EXTENDED &&
 		why->refusal.code == VIZHONIKU_NUMBER_NOT_CARRIED)
@@ -593,7 +730,7 @@ try_utf8(const char *text, size_t size, ReadAs as, VjsonRejection *why)
 		}
 		if (status == VIZHONIKU_ACCEPTED)
 		{
-			status = make_value(mode, plain, plain_size, &value, &why->refusal);
+			status = make_value(mode, true, plain, plain_size, &value, &why->refusal);
 			pfree(plain);
 			if (status == VIZHONIKU_REFUSED)
 			{
