@@ -410,7 +410,7 @@ CREATE FUNCTION vjson_object_agg_finalfn(internal) RETURNS vjson
   AS 'MODULE_PATHNAME' LANGUAGE C STABLE PARALLEL SAFE;
 COMMENT ON FUNCTION vjson_object_agg_finalfn(internal) IS 'vjson_object_agg final function';
 
-CREATE AGGREGATE vjson_object_agg("any", "any") (
+CREATE AGGREGATE vjson_object_agg(key "any", value "any") (
   SFUNC = vjson_object_agg_transfn,
   STYPE = internal,
   FINALFUNC = vjson_object_agg_finalfn,

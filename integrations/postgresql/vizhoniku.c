@@ -261,10 +261,10 @@ hint_of_rejection(const VjsonRejection *why)
 			if (why->is_extended)
 				return errhint("Numbers are integers, decimals of at most 38 digits and hexadecimals, with no exponent.");
 			return errhint("Numbers are integers and decimals of at most 38 digits, where an exponent is written out. "
-						   "vjson_rounded rounds those below 10^38, and vjson_error tells what a whole table has that "
-						   "is rejected.");
+						   "vjson_rounded rounds those below 10^38, and vjson_error tells which documents of a table "
+						   "are rejected, and why.");
 		case VIZHONIKU_OBJECT_DUPLICATE_KEY:
-			return errhint("vjson_error tells what a whole table has that is rejected.");
+			return errhint("vjson_error tells which documents of a table are rejected, and why.");
 		default:
 			return 0;
 	}
