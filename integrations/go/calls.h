@@ -73,6 +73,19 @@ static inline struct told call_plain_numbers(bytes text, size_t text_size, buffe
   return told;
 }
 
+static inline struct told call_masked_numbers(bytes text, size_t text_size, buffer to, size_t room) {
+  struct told told = {0};
+  told.status = vizhoniku_masked_numbers(text, text_size, to, room, &told.size);
+  return told;
+}
+
+static inline struct told call_error_path(uint32_t mode, bytes text, size_t text_size, struct vizhoniku_refusal refusal,
+                                          buffer to, size_t room) {
+  struct told told = {0};
+  told.status = vizhoniku_error_path(mode, text, text_size, &refusal, to, room, &told.size);
+  return told;
+}
+
 static inline struct vizhoniku_location call_place(bytes text, size_t text_size, struct vizhoniku_refusal refusal) {
   struct vizhoniku_location place;
   vizhoniku_place(text, text_size, &refusal, &place);

@@ -6,6 +6,7 @@ import "C"
 import (
 	"errors"
 	"fmt"
+	"strings"
 )
 
 // An Error says why and where a text was rejected.
@@ -16,6 +17,7 @@ type Error struct {
 	Offset   int    // the byte to show, from 0 on; the size of the text where that ends too early
 	Line     int    // of that byte, from 1 on
 	Column   int    // of that byte, from 1 on, in bytes
+	Path     string // of the innermost item or member with the fault, a JSON Pointer (RFC 6901); "" is the whole
 	Message  string // what is wrong; a name that is repeated is in it verbatim, with any control characters
 }
 
@@ -65,23 +67,48 @@ const (
 	DepthLimitExceeded                     Code = C.VIZHONIKU_DEPTH_LIMIT_EXCEEDED
 )
 
-// Where the byte to show of a refusal stands.
-func place(text []byte, refusal C.struct_vizhoniku_refusal) C.struct_vizhoniku_location {
-	return C.call_place(begin(text), size(len(text)), refusal)
+// The error of a text that is rejected, also with its numbers written out. What is told is what is wrong with the text
+// whose numbers are masked, in which all has its place.
+func rejection(text []byte, mode Mode, second bool) error {
+	masked := text
+	if mode == Extended {
+		var told C.struct_told
+		masked, told = maskedNumbers(text)
+		if told.status != C.VIZHONIKU_ACCEPTED {
+			return ErrOutOfMemory
+		}
+	}
+	of := C.uint32_t(mode)
+	checked := C.call_check(of, begin(masked), size(len(masked)))
+	message, told := appended(nil, 128, func(buffer *C.uchar, room C.size_t) C.struct_told {
+		return C.call_message(of, begin(masked), size(len(masked)), buffer, room)
+	})
+	path, found := appended(nil, 128, func(buffer *C.uchar, room C.size_t) C.struct_told {
+		return C.call_error_path(of, begin(masked), size(len(masked)), checked.refusal, buffer, room)
+	})
+	if checked.status != C.VIZHONIKU_REFUSED || told.status != C.VIZHONIKU_REFUSED || found.status != C.VIZHONIKU_ACCEPTED {
+		return ErrOutOfMemory
+	}
+	place := C.call_place(begin(text), size(len(text)), checked.refusal)
+	// The message ends with the position, which is told as line and column instead.
+	end := fmt.Sprintf(", pos %d", checked.refusal.position)
+	return &Error{
+		Code:     Code(checked.refusal.code),
+		Second:   second,
+		Position: int(checked.refusal.position),
+		Offset:   int(place.index),
+		Line:     int(place.line),
+		Column:   int(place.column),
+		Path:     string(path),
+		Message:  strings.TrimSuffix(string(message), end),
+	}
 }
 
-// The error of a refusal of the text.
-func errorAt(text []byte, refusal C.struct_vizhoniku_refusal, message string) *Error {
-	found := place(text, refusal)
-	return &Error{
-		Code:     Code(refusal.code),
-		Second:   refusal.which == 2,
-		Position: int(refusal.position),
-		Offset:   int(found.index),
-		Line:     int(found.line),
-		Column:   int(found.column),
-		Message:  message,
-	}
+// The text with each number masked that has an exponent and isn't too long.
+func maskedNumbers(text []byte) ([]byte, C.struct_told) {
+	return appended(nil, len(text), func(buffer *C.uchar, room C.size_t) C.struct_told {
+		return C.call_masked_numbers(begin(text), size(len(text)), buffer, room)
+	})
 }
 
 func errorOfStatus(status C.uint32_t) error {

@@ -132,32 +132,27 @@ func TestErrorsAndExponents(t *testing.T) {
 	equal(t, []any{errors.As(err, &fault), fault.Second, fault.Offset}, []any{true, false, 5})
 }
 
-func TestGivenOffset(t *testing.T) {
-	for _, text := range []string{
-		"", "7", "1e0", "[1e5]", `[-1.5E+2, 1e-7,"1e5",2 ,3e0]`, `{"a":10e0,"b":1e1}x`, "1e5,1e5",
+// The path of what is wrong is that of the innermost item or member with the fault.
+func TestErrorPaths(t *testing.T) {
+	for text, wanted := range map[string]string{
+		"1e300":                          "",
+		"[1e5, 1e-40, 2]":                "/1",
+		`{"a": {"b/c~d": [1e2, 1e300]}}`: "/a/b~1c~0d/1",
+		`{"a":1e5,"\u00e9\n":[0,{"a":2}],'b':1e99}`: "/b",
+		`{"a":1e1,"b":{"x":1,"x":1e300}}`:           "/b/x",
+		"[[1],[2,[3,nul]]]":                         "/1/1/1",
+		"[1e5 2]":                                   "/0",
+		`{"a":1e5 "b":2}`:                           "/a",
+		`{"a":{"b":1},}`:                            "",
+		`{"a":{"b" 1}}`:                             "/a/b",
+		"[0,[1,":                                    "/1/1",
+		"[0,[1e5":                                   "/1/0",
+		`[0,{"k":"x`:                                "/1/k",
+		"[1e5]]":                                    "",
 	} {
-		plain, _ := plainNumbers([]byte(text))
-		last := 0
-		for at := range plain {
-			offset := givenOffset([]byte(text), plain, at)
-			if offset < last || numberLen(plain[at:]) == 0 && text[offset] != plain[at] {
-				t.Errorf("%q: byte %d of %q is at %d", text, at, plain, offset)
-			}
-			last = offset
-		}
-		equal(t, givenOffset([]byte(text), plain, len(plain)), len(text))
+		equal(t, []any{text, faultOf(t, text, Extended).Path}, []any{text, wanted})
 	}
-	for _, c := range []struct {
-		text, plain string
-		wanted      []int
-	}{
-		{"[1e3,-0e1 x", "[1000,0 x", []int{0, 1, 2, 2, 2, 4, 5, 9, 10, 11}},
-		{"1.5e1,1e0", "15,1", []int{0, 1, 5, 6, 9}},
-	} {
-		for at, wanted := range c.wanted {
-			equal(t, givenOffset([]byte(c.text), []byte(c.plain), at), wanted)
-		}
-	}
+	equal(t, faultOf(t, `{"a":[true,1e5]}`, Standard).Path, "/a/1")
 }
 
 // Numbers with random digits and exponents against their values as fractions, and errors behind them.

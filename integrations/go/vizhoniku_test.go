@@ -211,7 +211,7 @@ func TestErrors(t *testing.T) {
 	if !errors.As(err, &rejected) {
 		t.Fatal(err)
 	}
-	equal(t, *rejected, Error{Code: ExpectedSomeValue, Second: true, Position: 6, Offset: 5, Line: 2, Column: 2,
+	equal(t, *rejected, Error{Code: ExpectedSomeValue, Second: true, Position: 6, Offset: 5, Line: 2, Column: 2, Path: "/1",
 		Message: "expected value"})
 	equal(t, err.Error(), "second text, line 2, column 2: expected value")
 	long := strings.Repeat("k", 100000)

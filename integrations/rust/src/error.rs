@@ -1,7 +1,8 @@
 //! Why a call has no answer.
 
-use crate::parse::given_offset;
+use crate::parse::masked_numbers;
 use crate::{ffi, write, Mode};
+use std::borrow::Cow;
 use std::fmt;
 
 /// What is wrong with a text.
@@ -102,34 +103,30 @@ pub struct Rejection {
     offset: usize,
     line: usize,
     column: usize,
+    path: String,
     message: String,
 }
 
 impl Rejection {
-    /// Of a text that was parsed as it is, or with its numbers written out.
-    pub(crate) fn of(text: &[u8], parsed: &[u8], mode: Mode, refusal: &ffi::Refusal) -> Result<Rejection, Error> {
-        let message = message(parsed, mode, refusal)?;
-        let offset = place(parsed, refusal).index;
-        let position = refusal.position + given_offset(text, parsed, offset) - offset;
-        Ok(Rejection::at(text, &ffi::Refusal { position, ..*refusal }, message))
-    }
-
-    /// Of a number that has too many digits where its exponent is written out.
-    pub(crate) fn of_long_number(text: &[u8], refusal: &ffi::Refusal) -> Rejection {
-        Rejection::at(text, refusal, "number not carried".to_string())
-    }
-
-    fn at(text: &[u8], refusal: &ffi::Refusal, message: String) -> Rejection {
-        let place = place(text, refusal);
-        Rejection {
+    /// Of a text that is rejected, also with its numbers written out, and is the first or the second of a call's. What
+    /// is told is what is wrong with the text whose numbers are masked, in which all has its place.
+    pub(crate) fn of(text: &[u8], mode: Mode, which: u32) -> Result<Rejection, Error> {
+        let masked = match mode {
+            Mode::Standard => Cow::Borrowed(text),
+            Mode::Extended => Cow::Owned(masked_numbers(text)?),
+        };
+        let refusal = refusal(&masked, mode)?;
+        let place = place(text, &refusal);
+        Ok(Rejection {
             code: Code::of(refusal.code),
-            is_second: refusal.which == 2,
+            is_second: which == 2,
             position: refusal.position,
             offset: place.index,
             line: place.line,
             column: place.column,
-            message,
-        }
+            path: path(&masked, mode, &refusal)?,
+            message: message(&masked, mode, &refusal)?,
+        })
     }
 
     /// What is wrong.
@@ -162,10 +159,38 @@ impl Rejection {
         self.column
     }
 
+    /// The path of the part of the value that is wrong, a JSON Pointer (RFC 6901): of the innermost item or member with
+    /// the fault, and `""` where that is the whole.
+    pub fn path(&self) -> &str {
+        &self.path
+    }
+
     /// What is wrong, in words. A name that is repeated is in it verbatim, with any control characters.
     pub fn message(&self) -> &str {
         &self.message
     }
+}
+
+/// What is wrong with a text that is rejected.
+fn refusal(text: &[u8], mode: Mode) -> Result<ffi::Refusal, Error> {
+    let mut refusal = ffi::Refusal::default();
+    // SAFETY: the text has its size, and the refusal is whole.
+    match unsafe { ffi::vizhoniku_check(mode as u32, text.as_ptr(), text.len(), &mut refusal) } {
+        ffi::REFUSED => Ok(refusal),
+        _ => Err(Error::OutOfMemory),
+    }
+}
+
+/// The path of what is wrong with a text.
+fn path(text: &[u8], mode: Mode, refusal: &ffi::Refusal) -> Result<String, Error> {
+    let (path, status) = write(128, |buffer, room, size| {
+        // SAFETY: the text has its size and the buffer its room, and the refusal is whole.
+        unsafe { ffi::vizhoniku_error_path(mode as u32, text.as_ptr(), text.len(), refusal, buffer, room, size) }
+    })?;
+    if status != ffi::ACCEPTED {
+        return Err(Error::OutOfMemory);
+    }
+    Ok(String::from_utf8_lossy(&path).into_owned())
 }
 
 /// Where the byte to show of a refusal stands.

@@ -69,4 +69,6 @@ extern "C" {
     pub fn vizhoniku_key_push(key: *const u8, key_size: usize, item: *const u8, item_size: usize, buffer: *mut u8, buffer_size: usize, size: *mut usize) -> u32;
     pub fn vizhoniku_key_merge(left: *const u8, left_size: usize, right: *const u8, right_size: usize, buffer: *mut u8, buffer_size: usize, size: *mut usize) -> u32;
     pub fn vizhoniku_plain_numbers(text: *const u8, text_size: usize, buffer: *mut u8, buffer_size: usize, size: *mut usize, refusal: *mut Refusal) -> u32;
+    pub fn vizhoniku_masked_numbers(text: *const u8, text_size: usize, buffer: *mut u8, buffer_size: usize, size: *mut usize) -> u32;
+    pub fn vizhoniku_error_path(mode: u32, text: *const u8, text_size: usize, refusal: *const Refusal, buffer: *mut u8, buffer_size: usize, size: *mut usize) -> u32;
 }

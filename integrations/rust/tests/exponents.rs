@@ -130,6 +130,30 @@ fn errors_have_their_place_in_the_text_that_was_passed() {
     assert_eq!((found.is_second(), found.offset()), (true, 5));
 }
 
+/// The path of what is wrong is that of the innermost item or member with the fault.
+#[test]
+fn error_paths() {
+    for (given, wanted) in [
+        ("1e300", ""),
+        ("[1e5, 1e-40, 2]", "/1"),
+        ("{\"a\": {\"b/c~d\": [1e2, 1e300]}}", "/a/b~1c~0d/1"),
+        ("{\"a\":1e5,\"\\u00e9\\n\":[0,{\"a\":2}],'b':1e99}", "/b"),
+        ("{\"a\":1e1,\"b\":{\"x\":1,\"x\":1e300}}", "/b/x"),
+        ("[[1],[2,[3,nul]]]", "/1/1/1"),
+        ("[1e5 2]", "/0"),
+        ("{\"a\":1e5 \"b\":2}", "/a"),
+        ("{\"a\":{\"b\":1},}", ""),
+        ("{\"a\":{\"b\" 1}}", "/a/b"),
+        ("[0,[1,", "/1/1"),
+        ("[0,[1e5", "/1/0"),
+        ("[0,{\"k\":\"x", "/1/k"),
+        ("[1e5]]", ""),
+    ] {
+        assert_eq!(rejection(check(given, Mode::Extended)).path(), wanted, "{given}");
+    }
+    assert_eq!(rejection(check("{\"a\":[true,1e5]}", Mode::Standard)).path(), "/a/1");
+}
+
 /// Numbers with random digits and exponents against the same written out here, and errors behind them.
 #[test]
 fn random_numbers() {
