@@ -159,6 +159,12 @@ class Calls(unittest.TestCase):
                         fault = raised.exception
                         self.assertEqual((fault.index, fault.line, fault.column, fault.code), wanted, one)
                         self.assertIn(path, (fault.path, None))
+        for text, place, code in (("[1e5, x, 1e300]", 7, 5), ("[1e300, x]", 6, 20), ("[1e5, 1e300, x]", 11, 20)):
+            for call in calls:  # the first fault
+                with self.assertRaises(v.RejectedText) as raised:
+                    call(text)
+                self.assertEqual((raised.exception.column, raised.exception.code), (place, code), text)
+                self.assertIn(raised.exception.message, ("expected value", "number not carried"))
         with self.assertRaises(v.RejectedText) as raised:
             v.compare("1e1", "[2e1,\n3e1 x]")
         self.assertEqual(str(raised.exception), "second text, line 2, column 5: expected `,` or `]`")

@@ -137,6 +137,10 @@ def _words(mode: int, data: bytes) -> bytes:
     return ctypes.string_at(buffer, size.value)
 
 
+_NOT_CARRIED = 20  # the code of a number that isn't representable
+_TOO_LONG = b"number not carried"  # as the library tells it of a number without an exponent
+
+
 def _path(mode: int, data: bytes, refusal: _Refusal) -> Optional[str]:
     """The path of the innermost item or member at which the text was rejected."""
     room = 256
@@ -160,18 +164,22 @@ def _rejected(mode: int, refusal: _Refusal, text: Text, data: bytes, words: Opti
 
 
 def _of_the_user(text: Text, data: bytes, fault: RejectedText) -> RejectedText:
-    """The error of a text that was rejected with its numbers written out, with its place in the text itself.
+    """The first error of a text whose numbers can't be written out, or that is rejected then, with its place in the
+    text itself.
 
     That place is where the text is rejected with these numbers masked, since then each byte stays where it is.
     """
     buffer, size, refusal = ctypes.create_string_buffer(len(data)), ctypes.c_size_t(), _Refusal()
-    if _library.vizhoniku_masked_numbers(data, len(data), buffer, len(data), size) != _ACCEPTED:
-        return fault
+    status = _library.vizhoniku_masked_numbers(data, len(data), buffer, len(data), size)
     masked = ctypes.string_at(buffer, size.value)
-    if _library.vizhoniku_check(EXTENDED, masked, len(masked), refusal) != _REFUSED:
+    if status == _ACCEPTED:
+        status = _library.vizhoniku_check(EXTENDED, masked, len(masked), refusal)
+    if status == _OUT_OF_MEMORY:
+        raise MemoryError
+    if status != _REFUSED:
         return fault
     refusal.which = fault.which
-    return _rejected(EXTENDED, refusal, text, masked)
+    return _rejected(EXTENDED, refusal, text, masked, _TOO_LONG if refusal.code == _NOT_CARRIED else None)
 
 
 def _raise(status: int, mode: int, refusal: _Refusal, texts: List[Tuple[Text, bytes]]) -> None:
@@ -185,9 +193,6 @@ def _raise(status: int, mode: int, refusal: _Refusal, texts: List[Tuple[Text, by
     raise RuntimeError(f"unknown status {status}")
 
 
-_NOT_CARRIED = 20  # the code of a number that isn't representable
-
-
 def _plain(text: Text, data: bytes, which: int) -> bytes:
     """The bytes with each number that has an exponent written out."""
     refusal, size, room = _Refusal(), ctypes.c_size_t(), len(data) + 64
@@ -199,7 +204,7 @@ def _plain(text: Text, data: bytes, which: int) -> bytes:
         room = size.value
     if status == _REFUSED:
         refusal.which = which
-        raise _rejected(EXTENDED, refusal, text, data, b"number not carried")
+        raise _of_the_user(text, data, _rejected(EXTENDED, refusal, text, data, _TOO_LONG))
     _raise(status, 0, refusal, [(text, data)])
     return ctypes.string_at(buffer, size.value)
 

@@ -199,20 +199,31 @@ static int check_masked(const struct text *text, struct text *masked, struct viz
   if (!masked->holder) return 0;
   unsigned char *at = (unsigned char *)PyBytes_AsString(masked->holder);
   masked->at = at;
-  return vizhoniku_masked_numbers(text->at, text->size, at, text->size, &masked->size) == VIZHONIKU_ACCEPTED &&
-         vizhoniku_check(VIZHONIKU_EXTENDED, masked->at, masked->size, refusal) == VIZHONIKU_REFUSED;
+  uint32_t status = vizhoniku_masked_numbers(text->at, text->size, at, text->size, &masked->size);
+  if (status == VIZHONIKU_ACCEPTED)
+    status = vizhoniku_check(VIZHONIKU_EXTENDED, masked->at, masked->size, refusal);
+  if (status == VIZHONIKU_OUT_OF_MEMORY) PyErr_NoMemory();
+  return status == VIZHONIKU_REFUSED;
 }
 
-/* Raises RejectedText for a text that was rejected with its numbers written out, as `plain`. */
+#define TOO_LONG "number not carried" /* as the library tells it of a number without an exponent */
+
+static const char *words_for(const struct vizhoniku_refusal *refusal) {
+  return refusal->code == VIZHONIKU_NUMBER_NOT_CARRIED ? TOO_LONG : NULL;
+}
+
+/* Raises RejectedText for the first fault of a text that was rejected with its numbers written out, as `plain`, or
+ * whose numbers can't be written out: then `plain` is the text itself. */
 static void raise_of_plain(const struct state *state, const struct vizhoniku_refusal *refusal, PyObject *object,
                            const struct text *text, const struct text *plain) {
   struct vizhoniku_refusal of_masked;
   struct text masked;
   if (check_masked(text, &masked, &of_masked)) {
     of_masked.which = refusal->which;
-    raise_rejected(state, VIZHONIKU_EXTENDED, &of_masked, object, &masked, text, NULL);
+    raise_rejected(state, VIZHONIKU_EXTENDED, &of_masked, object, &masked, text, words_for(&of_masked));
   } else if (!PyErr_Occurred()) {
-    raise_rejected(state, VIZHONIKU_EXTENDED, refusal, plain->holder, plain, plain, NULL);
+    if (plain != text) object = plain->holder;
+    raise_rejected(state, VIZHONIKU_EXTENDED, refusal, object, plain, plain, words_for(refusal));
   }
   free_text(&masked);
 }
@@ -298,8 +309,6 @@ static int write_plain(uint32_t mode, uint32_t *status, struct vizhoniku_refusal
   return 0;
 }
 
-#define TOO_LONG "number not carried" /* as the library tells it of a number without an exponent */
-
 /* What a call of the library does with a text. */
 enum what { CHECK, TEXT, SORT_KEY, TEXT_AND_KEY, PART };
 
@@ -356,10 +365,10 @@ static int64_t call_library(const struct state *state, enum what what, uint32_t 
   if (status == VIZHONIKU_REFUSED) {
     if (tells_refusal) return status;
     int too_long = rejected && mode == VIZHONIKU_EXTENDED && refusal.code == VIZHONIKU_NUMBER_NOT_CARRIED;
-    if (user)
-      raise_of_plain(state, &refusal, object, user, text);
+    if (user || too_long)
+      raise_of_plain(state, &refusal, object, user ? user : text, text);
     else
-      raise_rejected(state, mode, &refusal, object, text, text, too_long ? TOO_LONG : NULL);
+      raise_rejected(state, mode, &refusal, object, text, text, NULL);
   } else {
     raise_status(state, status);
   }
@@ -511,10 +520,10 @@ static PyObject *compare_texts(const struct state *state, uint32_t mode, PyObjec
     result = PyLong_FromLong(order);
   else if (status != VIZHONIKU_REFUSED)
     raise_status(state, status);
-  else if (plain[at].holder)
-    raise_of_plain(state, &refusal, objects[at], user[at], &plain[at]);
+  else if (plain[at].holder || too_long)
+    raise_of_plain(state, &refusal, objects[at], user[at], read[at]);
   else
-    raise_rejected(state, mode, &refusal, objects[at], user[at], user[at], too_long ? TOO_LONG : NULL);
+    raise_rejected(state, mode, &refusal, objects[at], user[at], user[at], NULL);
   free_text(&plain[0]);
   free_text(&plain[1]);
   return result;
