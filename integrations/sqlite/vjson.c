@@ -115,12 +115,13 @@ static uint32_t check(uint32_t mode, struct read_text *text, struct vizhoniku_re
   return status;
 }
 
-/* Finds the fault of a text that was rejected with its numbers written out in the text that was passed, with these
- * numbers masked: each byte stays where it is then. Returns VIZHONIKU_REFUSED, or VIZHONIKU_OUT_OF_MEMORY. */
+/* Finds the first fault of a text that was rejected with its numbers written out, or whose numbers can't be, in the
+ * text that was passed, with these numbers masked: each byte stays where it is then. Returns VIZHONIKU_REFUSED, or
+ * VIZHONIKU_OUT_OF_MEMORY. */
 static uint32_t find_in_passed(struct read_text *text, struct vizhoniku_refusal *refusal) {
   struct vizhoniku_refusal found;
   size_t size;
-  if (!text->made) return VIZHONIKU_REFUSED;
+  if (!text->made && !text->too_long) return VIZHONIKU_REFUSED;
   unsigned char *masked = sqlite3_malloc64(text->passed_size);
   if (!masked) return VIZHONIKU_OUT_OF_MEMORY;
   uint32_t status = vizhoniku_masked_numbers(text->passed, text->passed_size, masked, text->passed_size, &size);
@@ -132,6 +133,7 @@ static uint32_t find_in_passed(struct read_text *text, struct vizhoniku_refusal 
   sqlite3_free(text->made);
   text->at = text->made = masked;
   text->size = size;
+  text->too_long = found.code == VIZHONIKU_NUMBER_NOT_CARRIED;
   *refusal = found;
   return status;
 }
