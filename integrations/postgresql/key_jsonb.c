@@ -409,90 +409,117 @@ takes_end(Reader *reader, bool is_object)
 	return true;
 }
 
+
 /*
  * What isn't taken
  */
 
-static inline void
-pass_text(Reader *reader)
+/* Behind the text that begins here. */
+static inline const unsigned char *
+behind_text(const unsigned char *at, const unsigned char *end)
 {
 	const unsigned char *zero;
 
 	do
 	{
-		zero = find_zero(reader->at, reader->end);
-		if (unlikely(zero == NULL || zero + 1 == reader->end))
+		zero = find_zero(at, end);
+		if (unlikely(zero == NULL || zero + 1 == end))
 			vjson_raise_corrupted();
-		reader->at = zero + 2;
-	} while (zero[1] == ZERO_BYTE);
+		at = zero + 2;
+	} while (unlikely(zero[1] == ZERO_BYTE));
+	return at;
 }
 
-/* Pass a number whose first byte was taken. */
-static inline void
-pass_number(Reader *reader)
+/* Behind the number that begins here. */
+static inline const unsigned char *
+behind_number(const unsigned char *at, const unsigned char *end)
 {
-	unsigned char flipped = reader->at[-1] < ZERO ? 0xFF : 0;
-	unsigned char byte = reader->at[-1] ^ flipped;
+	unsigned char flipped = *at < ZERO ? 0xFF : 0;
 
-	reader->passed++;
-	if (byte == ZERO)
-		return;
-	if (byte == MORE_EXPONENT)
-		next_byte(reader);
-	while ((next_byte(reader) ^ flipped) & 1)
-		;
+	if (*at == ZERO)
+		return at + 1;
+	if ((*at ^ flipped) == MORE_EXPONENT)
+		at++;
+	do
+	{
+		if (unlikely(++at >= end))
+			vjson_raise_corrupted();
+	} while ((*at ^ flipped) & 1);
+	return at + 1;
 }
 
-/* Pass the scalar whose first byte was taken. False if an array or an object begins so. */
-static inline bool
-pass_scalar(Reader *reader, unsigned char first)
+/*
+ * Behind the scalar that begins here, whose numbers are counted.  NULL if an
+ * array or an object begins here.
+ */
+static inline const unsigned char *
+behind_scalar(const unsigned char *at, const unsigned char *end, size_t *numbers)
 {
-	if (first == STRING_KEY)
-		pass_text(reader);
-	else if (is_number(first))
-		pass_number(reader);
-	else if (first == OBJECT_KEY || first == ARRAY_KEY)
-		return false;
-	else if (first != FALSE_KEY && first != TRUE_KEY && first != NULL_KEY)
+	unsigned char first;
+
+	if (unlikely(at == end))
 		vjson_raise_corrupted();
-	return true;
+	first = *at;
+	if (first == STRING_KEY)
+		return behind_text(at + 1, end);
+	if (is_number(first))
+	{
+		++*numbers;
+		return behind_number(at, end);
+	}
+	if (first == OBJECT_KEY || first == ARRAY_KEY)
+		return NULL;
+	if (first != FALSE_KEY && first != TRUE_KEY && first != NULL_KEY)
+		vjson_raise_corrupted();
+	return at + 1;
 }
 
-/* Pass the rest of an array or an object, behind its first byte. */
-static void
-pass_container(Reader *reader, unsigned char first)
+/* Behind the array or the object that begins here, whose numbers are counted. */
+static const unsigned char *
+behind_container(const unsigned char *at, const unsigned char *end, size_t *numbers)
 {
 	bool		is_object[MOST_LEVELS];
-	int			levels = 1;
+	bool		in_object = *at++ == OBJECT_KEY;
+	int			levels = 0;		/* round the innermost one */
+	size_t		count = 0;
 
-	is_object[0] = first == OBJECT_KEY;
-	while (levels > 0)
+	for (;;)
 	{
+		const unsigned char *next;
+
 		CHECK_FOR_INTERRUPTS();
-		if (takes_end(reader, is_object[levels - 1]))
+		if (at < end && *at == END && (!in_object || (end - at > 1 && at[1] == END)))
 		{
-			levels--;
+			at += in_object ? 2 : 1;
+			if (levels == 0)
+				break;
+			in_object = is_object[--levels];
 			continue;
 		}
-		if (is_object[levels - 1])
-			pass_text(reader);
-		first = next_byte(reader);
-		if (pass_scalar(reader, first))
-			continue;
-		if (levels == MOST_LEVELS)
-			vjson_raise_corrupted();
-		is_object[levels++] = first == OBJECT_KEY;
+		if (in_object)
+			at = behind_text(at, end);
+		next = behind_scalar(at, end, &count);
+		if (next == NULL)
+		{
+			if (levels == MOST_LEVELS - 1)
+				vjson_raise_corrupted();
+			is_object[levels++] = in_object;
+			in_object = *at == OBJECT_KEY;
+			next = at + 1;
+		}
+		at = next;
 	}
+	*numbers += count;
+	return at;
 }
 
 /* Pass the value that begins here, with all that is in it. */
 static inline void
 pass_value(Reader *reader)
 {
-	unsigned char first = next_byte(reader);
+	const unsigned char *next = behind_scalar(reader->at, reader->end, &reader->passed);
 
-	if (!pass_scalar(reader, first))
-		pass_container(reader, first);
+	reader->at = next != NULL ? next : behind_container(reader->at, reader->end, &reader->passed);
 }
 
 /* Whether the name that begins here comes after all that are wanted. */
@@ -532,7 +559,7 @@ passes_member(Reader *reader, int *steps)
 {
 	Range		name = {reader->at, 0};
 
-	pass_text(reader);
+	reader->at = behind_text(reader->at, reader->end);
 	name.size = reader->at - 2 - name.at;
 	if (!is_wanted(reader->wanted, name))
 	{

@@ -1175,12 +1175,15 @@ vjson_from_json(PG_FUNCTION_ARGS)
 	PG_RETURN_POINTER(vjson_checked_for_output(read_value(VARDATA_ANY(json), VARSIZE_ANY_EXHDR(json), READ_JSON, NULL)));
 }
 
+/* A jsonb has no exponents, and without a point it has none but integers, which standard mode reads once. */
 Datum
 vjson_of_jsonb(Datum datum)
 {
 	Jsonb	   *jsonb = DatumGetJsonbP(datum);
 	char	   *text = JsonbToCString(NULL, &jsonb->root, VARSIZE(jsonb));
-	struct varlena *value = read_value(text, strlen(text), READ_JSON, NULL);
+	size_t		size = strlen(text);
+	ReadAs		as = memchr(text, '.', size) != NULL ? READ_JSON : READ_INPUT;
+	struct varlena *value = read_value(text, size, as, NULL);
 
 	pfree(text);
 	return PointerGetDatum(vjson_checked_for_output(value));
