@@ -543,8 +543,8 @@ is_wanted(const VjsonWanted *wanted, Range name)
 {
 	for (int i = 0; i < wanted->count; i++)
 	{
-		if (compare_first(wanted->names[i].at, wanted->names[i].size, name.at, name.size) == 0 &&
-			same_bytes(wanted->names[i], name))
+		if (wanted->names[i].size == name.size &&
+			(name.size == 0 || wanted->names[i].at[0] == name.at[0]) && same_bytes(wanted->names[i], name))
 			return true;
 	}
 	return false;
