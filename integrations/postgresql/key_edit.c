@@ -504,7 +504,8 @@ vjson_set_lax(PG_FUNCTION_ARGS)
 		treatment = text_to_cstring(PG_GETARG_TEXT_PP(4));
 	}
 	if (strcmp(treatment, "use_json_null") == 0)
-		return set_part(PG_GETARG_DATUM(0), PG_GETARG_TEXT_PP(1), PointerGetDatum(vjson_of_text("null", 4)), PG_GETARG_BOOL(3));
+		return set_part(PG_GETARG_DATUM(0), PG_GETARG_TEXT_PP(1), PointerGetDatum(vjson_of_text("null", 4)),
+						PG_GETARG_BOOL(3));
 	if (strcmp(treatment, "delete_key") == 0)
 		return vjson_delete_path(fcinfo);
 	if (strcmp(treatment, "return_target") == 0)

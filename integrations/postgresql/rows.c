@@ -35,7 +35,7 @@ check_columns(FunctionCallInfo fcinfo, const char *function)
 {
 	ReturnSetInfo *set = (ReturnSetInfo *) fcinfo->resultinfo;
 
-	if (set == NULL || !IsA(set, ReturnSetInfo) || set->expectedDesc == NULL || set->expectedDesc->natts == 0)
+	if (set == NULL || !IsA(set, ReturnSetInfo) || set->expectedDesc == NULL)
 		ereport(ERROR,
 				(errcode(ERRCODE_FEATURE_NOT_SUPPORTED),
 				 errmsg("could not determine row type for result of %s", function),

@@ -239,7 +239,7 @@ vjson_locate(const VjsonRejection *why, VjsonPlace *place)
 	place->shown = shown_line(why->text, why->size, &location);
 }
 
-/* Where a number or a name is rejected: the path, as the end of a sentence. Empty for the whole text, and a long path. */
+/* Where a number or a name is rejected: the path, as the end of a sentence. Empty for the whole text or a long path. */
 static const char *
 words_of_path(const VjsonRejection *why)
 {
@@ -259,7 +259,8 @@ hint_of_rejection(const VjsonRejection *why)
 	{
 		case VIZHONIKU_NUMBER_NOT_CARRIED:
 			if (why->is_extended)
-				return errhint("Numbers are integers, decimals of at most 38 digits and hexadecimals, with no exponent.");
+				return errhint("Numbers are integers, decimals of at most 38 digits and hexadecimals, with no "
+							   "exponent.");
 			return errhint("Numbers are integers and decimals of at most 38 digits, where an exponent is written out. "
 						   "vjson_rounded rounds those below 10^38, and vjson_error tells which documents of a table "
 						   "are rejected, and why.");
