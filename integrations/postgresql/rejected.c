@@ -26,14 +26,8 @@
 /* The most digits that a number has. */
 #define MOST_DIGITS		38
 
-/* The most arrays and objects that are open at once. */
-#define MAX_LEVELS		512
-
 /* The columns of what is told. */
 #define COLUMNS			5
-
-/* Room for the key and for the text of a string of so many bytes, with its quotes and escapes. */
-#define STRING_ROOM(size)	(2 * (size) + 16)
 
 PG_FUNCTION_INFO_V1(vjson_error);
 PG_FUNCTION_INFO_V1(vjson_error_of_jsonb);
@@ -41,16 +35,8 @@ PG_FUNCTION_INFO_V1(vjson_rounded);
 
 
 /*
- * Where in a document a place is
+ * Numbers of a text
  */
-
-/* An array or an object that is open at the place. */
-typedef struct
-{
-	bool		is_object;
-	int64		index;			/* of the item that begins next, or that has begun */
-	Range		name;			/* of the member, with its quotes; of size 0 before one */
-} Level;
 
 /* Behind the string that begins here, or the end of the text. */
 static size_t
@@ -63,108 +49,6 @@ behind_string(const char *text, size_t size, size_t at)
 	}
 	return Min(at + 1, size);
 }
-
-/* Append the name as a step of a path. False if it can't be shown in a text. */
-static bool
-append_step(StringInfo path, Range quoted)
-{
-	size_t		room = STRING_ROOM(quoted.size);
-	unsigned char *key = palloc_extended(room, MCXT_ALLOC_HUGE);
-	unsigned char *name = palloc_extended(room, MCXT_ALLOC_HUGE);
-	size_t		size;
-	struct vizhoniku_refusal refusal;
-
-	if (vizhoniku_sort_key(VIZHONIKU_STANDARD, quoted.at, quoted.size, key, room, &size,
-						   &refusal) != VIZHONIKU_ACCEPTED ||
-		vizhoniku_key_string(key, size, name, room, &size) != VIZHONIKU_ACCEPTED ||
-		memchr(name, 0, size) != NULL)
-		return false;
-	appendStringInfoChar(path, '/');
-	for (size_t i = 0; i < size; i++)
-	{
-		if (name[i] == '~')
-			appendStringInfoString(path, "~0");
-		else if (name[i] == '/')
-			appendStringInfoString(path, "~1");
-		else
-			appendStringInfoChar(path, (char) name[i]);
-	}
-	pfree(key);
-	pfree(name);
-	return true;
-}
-
-/*
- * The path of the innermost item or member that begins at the byte or before
- * it.  NULL if it can't be shown.  Up to the byte the text is a document's.
- */
-static char *
-path_of_place(const char *text, size_t size, size_t place)
-{
-	Level	   *levels = palloc((MAX_LEVELS + 1) * sizeof(Level));
-	int			open = 0;
-	StringInfoData path;
-
-	for (size_t at = 0; at < size && at <= place;)
-	{
-		Level	   *level = open > 0 ? &levels[open - 1] : NULL;
-		size_t		next = at + 1;
-
-		switch (text[at])
-		{
-			case '"':
-				next = behind_string(text, size, at);
-				if (level != NULL && level->is_object && level->name.size == 0 && next <= place + 1)
-				{
-					level->name.at = (const unsigned char *) text + at;
-					level->name.size = next - at;
-				}
-				break;
-			case '{':
-			case '[':
-				if (at == place)
-					break;
-				if (open > MAX_LEVELS)
-					return NULL;
-				levels[open].is_object = text[at] == '{';
-				levels[open].index = 0;
-				levels[open].name.size = 0;
-				open++;
-				break;
-			case '}':
-			case ']':
-				if (open > 0)
-					open--;
-				break;
-			case ',':
-				if (level != NULL)
-				{
-					level->index++;
-					level->name.size = 0;
-				}
-				break;
-		}
-		at = next;
-	}
-
-	initStringInfo(&path);
-	for (int i = 0; i < open; i++)
-	{
-		if (!levels[i].is_object)
-			appendStringInfo(&path, "/" INT64_FORMAT, levels[i].index);
-		else if (levels[i].name.size == 0)
-			break;
-		else if (!append_step(&path, levels[i].name))
-			return NULL;
-	}
-	pfree(levels);
-	return path.data;
-}
-
-
-/*
- * Numbers of a text
- */
 
 /* Whether a byte may be one of a number. */
 static bool
@@ -198,14 +82,13 @@ behind_digits(const char *text, size_t size, size_t at)
 
 /* Behind the number of JSON that begins here; or here, where none does. */
 static size_t
-behind_number(const char *text, size_t size, size_t at, bool *has_exponent)
+behind_number(const char *text, size_t size, size_t at)
 {
 	size_t		start = at + (text[at] == '-');
 	size_t		end = start < size && text[start] == '0' ? start + 1 : behind_digits(text, size, start);
 	size_t		digits;
 	size_t		next;
 
-	*has_exponent = false;
 	if (end == start || (end < size && text[end] >= '0' && text[end] <= '9'))
 		return at;
 	if (end < size && text[end] == '.')
@@ -221,14 +104,13 @@ behind_number(const char *text, size_t size, size_t at, bool *has_exponent)
 		if (digits < size && (text[digits] == '+' || text[digits] == '-'))
 			digits++;
 		next = behind_digits(text, size, digits);
-		*has_exponent = next > digits;
 		end = next > digits ? next : end;
 	}
 	return end;
 }
 
 char *
-vjson_without_numbers(const char *text, size_t size, bool exponents_alone)
+vjson_without_numbers(const char *text, size_t size)
 {
 	char	   *changed = palloc_extended(size + 1, MCXT_ALLOC_HUGE);
 	size_t		next;
@@ -237,7 +119,6 @@ vjson_without_numbers(const char *text, size_t size, bool exponents_alone)
 	changed[size] = '\0';
 	for (size_t at = 0; at < size; at = next)
 	{
-		bool		has_exponent;
 		size_t		end;
 
 		if (text[at] == '"')
@@ -245,8 +126,8 @@ vjson_without_numbers(const char *text, size_t size, bool exponents_alone)
 		else if (begins_number(text[at]))
 		{
 			next = behind_number_bytes(text, size, at);
-			end = behind_number(text, size, at, &has_exponent);
-			if (end > at && (has_exponent || !exponents_alone))
+			end = behind_number(text, size, at);
+			if (end > at)
 			{
 				changed[at] = '0';
 				memset(changed + at + 1, ' ', end - at - 1);
@@ -398,17 +279,34 @@ server_words(char *words)
 	return words;
 }
 
+/*
+ * A text that the server alone rejects is a document for the library up to
+ * where it is rejected, and ends too early there.
+ */
 char *
 vjson_path_of_rejection(const VjsonRejection *why)
 {
-	struct vizhoniku_location location;
-	char	   *path;
+	bool		is_of_server = why->refusal.code == VIZHONIKU_NO_CODE;
+	size_t		size = is_of_server ? Min(why->refusal.position, why->size) : why->size;
+	size_t		room = 256;
 
-	if (why->is_extended)
-		return NULL;
-	vizhoniku_place((const unsigned char *) why->text, why->size, &why->refusal, &location);
-	path = path_of_place(why->text, why->size, location.index);
-	return path == NULL ? NULL : server_words(path);
+	for (;;)
+	{
+		char	   *path = palloc_extended(room + 1, MCXT_ALLOC_HUGE);
+		size_t		length;
+		uint32		status = vizhoniku_error_path(why->mode, (const unsigned char *) why->parsed, size, &why->refusal,
+												  (unsigned char *) path, room, &length);
+
+		if (status == VIZHONIKU_ACCEPTED)
+		{
+			path[length] = '\0';
+			return memchr(path, 0, length) != NULL ? NULL : server_words(path);
+		}
+		pfree(path);
+		if (status != VIZHONIKU_TOO_SHORT)
+			return NULL;
+		room = length;
+	}
 }
 
 /*

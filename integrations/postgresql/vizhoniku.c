@@ -486,7 +486,7 @@ make_value(uint32 mode, bool has_zeros, const char *text, size_t size, struct va
 static void
 tell_no_json(const char *text, size_t size, JsonParseErrorType error, size_t position, VjsonRejection *why)
 {
-	char	   *rest = vjson_without_numbers(text, size, false);
+	char	   *rest = vjson_without_numbers(text, size);
 	uint32		status = vizhoniku_check(VIZHONIKU_STANDARD, (const unsigned char *) rest, size, &why->refusal);
 
 	if (status == VIZHONIKU_OUT_OF_MEMORY)
@@ -500,7 +500,8 @@ tell_no_json(const char *text, size_t size, JsonParseErrorType error, size_t pos
 		why->refusal.position = position;
 		why->words = error == JSON_ESCAPING_REQUIRED ? "control character in a string" : "not JSON";
 	}
-	pfree(rest);
+	why->mode = VIZHONIKU_STANDARD;
+	why->parsed = rest;
 }
 
 /* Whether the text is JSON as the server's own type json takes it. If it isn't, *why says why, where it isn't NULL. */
@@ -550,6 +551,19 @@ write_plain_numbers(const char *text, size_t size, char **plain, size_t *plain_s
 			return status;
 		room = *plain_size;
 	}
+}
+
+/* The text with its numbers masked that have an exponent and aren't too long, so that all else has its place. */
+static char *
+masked_numbers(const char *text, size_t size)
+{
+	char	   *masked = palloc_extended(size + 1, MCXT_ALLOC_HUGE);
+	size_t		masked_size;
+
+	if (vizhoniku_masked_numbers((const unsigned char *) text, size, (unsigned char *) masked, size,
+								 &masked_size) != VIZHONIKU_ACCEPTED)
+		vjson_raise_out_of_memory(size);
+	return masked;
 }
 
 /* What the numbers of a text are, as far as it is JSON. */
@@ -685,7 +699,6 @@ static struct varlena *
 try_utf8(const char *text, size_t size, ReadAs as, VjsonRejection *why)
 {
 	uint32		mode = as == READ_INPUT ? VIZHONIKU_STANDARD : VIZHONIKU_EXTENDED;
-	const char *read = text;
 	struct varlena *value = NULL;
 	bool		may_be_json = as == READ_JSON || (as == READ_INPUT && memchr(text, '.', size) != NULL);
 	uint32		status;
@@ -699,6 +712,7 @@ try_utf8(const char *text, size_t size, ReadAs as, VjsonRejection *why)
 	status = make_value(mode, mode == VIZHONIKU_EXTENDED, text, size, &value, &why->refusal);
 	why->text = text;
 	why->size = size;
+	why->parsed = text;
 	why->is_extended = as == READ_EXTENDED;
 	if (status == VIZHONIKU_REFUSED && as == READ_INPUT && why->refusal.code == VIZHONIKU_NUMBER_NOT_CARRIED)
 	{
@@ -724,25 +738,21 @@ try_utf8(const char *text, size_t size, ReadAs as, VjsonRejection *why)
 		size_t		plain_size;
 
 		status = write_plain_numbers(text, size, &plain, &plain_size, &why->refusal);
-		if (status == VIZHONIKU_REFUSED)
-		{
-			why->words = psprintf("number not carried, pos %zu", why->refusal.position);
-			return NULL;
-		}
 		if (status == VIZHONIKU_ACCEPTED)
 		{
 			status = make_value(mode, true, plain, plain_size, &value, &why->refusal);
 			pfree(plain);
-			if (status == VIZHONIKU_REFUSED)
-			{
-				read = vjson_without_numbers(text, size, true);
-				status = vizhoniku_check(mode, (const unsigned char *) read, size, &why->refusal);
-			}
+		}
+		if (status == VIZHONIKU_REFUSED)
+		{
+			why->parsed = masked_numbers(text, size);
+			status = vizhoniku_check(mode, (const unsigned char *) why->parsed, size, &why->refusal);
 		}
 	}
+	why->mode = mode;
 	if (status == VIZHONIKU_REFUSED)
 	{
-		why->words = words_of_refusal(mode, read, size);
+		why->words = words_of_refusal(mode, why->parsed, size);
 		if (why->words == NULL)
 			why->words = NO_WORDS;
 		return NULL;

@@ -70,6 +70,8 @@ typedef struct
 	struct vizhoniku_refusal refusal;
 	const char *text;
 	size_t		size;
+	uint32		mode;			/* of the library, in which this was parsed: */
+	const char *parsed;			/* the text, or as many bytes with zeros and spaces for some of its numbers */
 	bool		is_extended;	/* whether comments and names without quotes were allowed in it */
 } VjsonRejection;
 
@@ -88,10 +90,10 @@ extern void vjson_locate(const VjsonRejection *why, VjsonPlace *place);
 extern char *vjson_path_of_rejection(const VjsonRejection *why);
 
 /*
- * A copy of the text with zeros and spaces in the place of its numbers, or of
- * those with an exponent alone.  So what else is wrong has the same place in it.
+ * A copy of the text with zeros and spaces in the place of its numbers.  So what
+ * else is wrong has the same place in it.
  */
-extern char *vjson_without_numbers(const char *text, size_t size, bool exponents_alone);
+extern char *vjson_without_numbers(const char *text, size_t size);
 
 /* A step of a subscript: a name, or an index in digits. */
 typedef struct
