@@ -389,8 +389,8 @@ uint32_t vizhoniku_masked_numbers(const unsigned char *text, size_t text_size, u
 /* Writes the path of the part of the text's value at which the text is rejected to the start of the buffer: a JSON
  * Pointer (RFC 6901), such as /values/17. It is that of the innermost item or member with the fault, and "" where that
  * is the whole. Where a key is wrong, or missing, it is that of the object, and of a repeated key that of the member.
- * The refusal is the one of this text and mode. In extended mode numbers with an exponent are passed, so that the text
- * may be the one that was masked, or the one before it. The text is parsed once more.
+ * The refusal is the one of this text and mode, or of the text with its numbers masked: in extended mode numbers with an
+ * exponent are passed that stand before the fault. The text is parsed once more.
  *
  *  - VIZHONIKU_ACCEPTED: *size bytes were written, with no zero byte after them, which are UTF-8. The rest of the buffer
  *    is as before. Zero bytes may be among them, where a key has some.

@@ -51,10 +51,21 @@ fn append_byte(byte: u8, path: &mut Vec<u8>) -> Result<(), AllocError>
     Ok(())
 }
 
+/// Where a text is rejected.
+#[derive(Clone, Copy)]
+pub enum Fault {
+    /// After a number that isn't representable, which ends before this offset.
+    Number(usize),
+    /// After a key that is repeated, which ends before this offset.
+    Key(usize),
+    /// Where the parser stops.
+    Other,
+}
+
 /// The path (RFC 6901) of the part of the text's value at which the text is rejected: the innermost element or member
-/// that has the fault, or the container where that stands between two. In extended mode numbers with an exponent are
-/// passed. The path of a repeated key, which ends before `repeated`, is that of the member. A text that isn't rejected
-/// has the path of the whole.
+/// that has the fault, or the container where that stands between two; of a repeated key the member. In extended mode
+/// numbers with an exponent are passed, but for the one that has the fault. A text that isn't rejected has the path of
+/// the whole.
 ///
 /// The text is parsed once more. The time is linear in the text.
 ///
@@ -65,11 +76,11 @@ pub fn error_path(
     alloc: Global,
     text: &[u8],
     mode: Mode,
-    repeated: Option<usize>,
+    fault: Fault,
 ) -> Result<Vec<u8>, AllocError>
     ensures path { IfOk result (λ path. (keys : List (List ℕ)) × IsPath path.items keys) }
 {
-    let passed = passed_text(alloc, text, mode, repeated)?;
+    let passed = passed_text(alloc, text, mode, fault)?;
     let mut steps = Steps::new(alloc);
     let lacks_comma = match parse_text::<PassedPart>(&mut steps, alloc, &passed, mode) {
         Ok(_) => false,
@@ -85,10 +96,12 @@ pub fn error_path(
 fn lacks_comma(told: &Option<Error>) -> Result<bool, AllocError> {
     match told {
         Some(Error::OutOfMemory) => Err(AllocError),
-        Some(Error::Syntax(
-            ParseErrorCode::ExpectedArrayCommaOrEnd | ParseErrorCode::ExpectedObjectCommaOrEnd,
-            _,
-        )) => Ok(true),
+        Some(
+            Error::Syntax(
+                ParseErrorCode::ExpectedArrayCommaOrEnd | ParseErrorCode::ExpectedObjectCommaOrEnd,
+                _,
+            ),
+        ) => Ok(true),
         _ => Ok(false),
     }
 }
@@ -99,16 +112,20 @@ fn passed_text(
     alloc: Global,
     text: &[u8],
     mode: Mode,
-    repeated: Option<usize>,
+    fault: Fault,
 ) -> Result<Vec<u8>, AllocError> {
     let mut passed = Vec::new(alloc);
     match mode {
         Mode::Standard => passed.extend_from_slice(text)?,
         Mode::Extended => write_masked_numbers(text, &mut passed)?,
     }
-    if let Some(after) = repeated {
-        passed.truncate(after);
-        passed.push(b':')?;
+    match fault {
+        Fault::Number(after) => passed.truncate(after),
+        Fault::Key(after) => {
+            passed.truncate(after);
+            passed.push(b':')?;
+        }
+        Fault::Other => {}
     }
     passed.extend_from_slice(b" \x01")?;
     Ok(passed)

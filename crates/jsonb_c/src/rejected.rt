@@ -4,11 +4,13 @@ ghost use Rattle.jsonb_c.specs.Interface.{FillsBuffer};
 ghost use Rattle.jsonb_c.specs.Rejected.{IsSomePath};
 
 use crate::{ACCEPTED, OUT_OF_MEMORY, Refusal, TOO_SHORT, UNKNOWN_MODE, choose_mode, put};
-use error_path::error_path;
+use error_path::{Fault, error_path};
 use std::alloc::Global;
 
-// The code of a repeated key.
+// The codes of a repeated key, and of a number that isn't representable.
 const OBJECT_DUPLICATE_KEY: u32 = 17;
+
+const NUMBER_NOT_CARRIED: u32 = 20;
 
 /// Writes the path (RFC 6901) of the part of the text's value at which the text is rejected to the start of `out`, and
 /// its size to `size`. Where `out` is too short, it stays as it is, and `size` is what is needed.
@@ -29,7 +31,7 @@ pub extern "C" fn vizhoniku_error_path(
         *size = 0;
         return UNKNOWN_MODE;
     };
-    match error_path(alloc, text, mode, repeated(refusal)) {
+    match error_path(alloc, text, mode, fault_of(refusal)) {
         Ok(path) => {
             *size = path.len();
             put(&path, out)
@@ -41,11 +43,11 @@ pub extern "C" fn vizhoniku_error_path(
     }
 }
 
-// The offset after the repeated key, where the error is one.
-fn repeated(refusal: &Refusal) -> Option<usize> {
-    if refusal.code == OBJECT_DUPLICATE_KEY {
-        Some(refusal.position)
-    } else {
-        None
+// Where the text is rejected.
+fn fault_of(refusal: &Refusal) -> Fault {
+    match refusal.code {
+        OBJECT_DUPLICATE_KEY => Fault::Key(refusal.position),
+        NUMBER_NOT_CARRIED => Fault::Number(refusal.position),
+        _ => Fault::Other,
     }
 }

@@ -5,8 +5,11 @@ use Rattle.error_path.proofs.path.error_path.Goals as goal
 
 pub returns : goal.returns
 returns c = record {
-  path = (map string_bytes c.in_ok-keys.keys.items, record {
-    texts = texts_of c.in_ok-keys.keys.items;
-    spelled = c.in_ok-append_path.ensures ∙ ap (λ bs. bs ++ spelled_keys (map string_bytes c.deref-2.result.now)) c.new-path.ensures.items ∙ ap (λ ks. spelled_keys (map string_bytes ks)) c.deref-2.ensures.value;
-  });
+  path = (
+    map string_bytes c.in_ok-keys.keys.items,
+    record {
+      texts = texts_of c.in_ok-keys.keys.items;
+      spelled = c.in_ok-append_path.ensures ∙ ap (λ bs. bs ++ spelled_keys (map string_bytes c.deref-2.result.now)) c.new-path.ensures.items ∙ ap (λ ks. spelled_keys (map string_bytes ks)) c.deref-2.ensures.value;
+    },
+  );
 }
