@@ -1,7 +1,8 @@
 """The reference implementation: JSON texts in both modes, to compare the parsers with.
 
 It is written from the rules in docs/GRAMMAR.md, docs/VALUES.md and docs/SORT_KEYS.md, and not from the code of the
-crates. It is to be plain, not fast. Run alone, it takes lines from standard input and prints results as the program
+crates; what is written of numbers with exponents, and the path of an error, by the comments of include/vizhoniku.h. It
+is to be plain, not fast. Run alone, it takes lines from standard input and prints results as the program
 `test_driver` does.
 
 A tree is a tuple whose first part is its kind:
@@ -179,6 +180,9 @@ class Reader:
         self.extended = mode == EXTENDED
         self.at = 0
         self.depth = 0
+        # Of each array and object that is open, the index of its item or the key of its member that is read or due; None
+        # where no key has been read.
+        self.steps = []
 
     # The byte at which the reader stands as bytes of length 1, and none at the end.
     def here(self):
@@ -475,19 +479,21 @@ class Reader:
 
     # Arrays and objects.
 
-    def go_in(self):
+    def go_in(self, first_step):
         if self.depth == MAX_DEPTH:
             raise Rejection("DepthLimitExceeded", self.at + 1)
+        self.steps.append(first_step)
         self.depth += 1
         self.at += 1
         self.whitespace()
 
     def go_out(self):
+        self.steps.pop()
         self.depth -= 1
         self.at += 1
 
     def array(self):
-        self.go_in()
+        self.go_in(0)
         items = []
         if self.here() == b"]":
             self.go_out()
@@ -507,9 +513,10 @@ class Reader:
             if self.here() != b",":
                 raise Rejection("ExpectedArrayCommaOrEnd", self.at)
             self.at += 1
+            self.steps[-1] += 1
 
     def object(self):
-        self.go_in()
+        self.go_in(None)
         members = []
         if self.here() == b"}":
             self.go_out()
@@ -521,14 +528,17 @@ class Reader:
             if self.at == self.end:
                 self.reject_end()
             if self.here() == b"}":
+                members = self.in_order(members)
                 self.go_out()
-                return ("object", in_order(members))
+                return ("object", members)
             if self.here() != b",":
                 raise Rejection("ExpectedObjectCommaOrEnd", self.at)
             self.at += 1
+            self.steps[-1] = None
 
     def member(self):
         mark, key = self.key()
+        self.steps[-1] = key
         index = self.at
         self.whitespace()
         if self.at == self.end:
@@ -538,6 +548,20 @@ class Reader:
         self.at += 1
         self.whitespace()
         return (mark, key, index, self.value())
+
+    def in_order(self, members):
+        """The members in the order of their keys; the least repeated key is rejected, at its second occurrence."""
+        seen = set()
+        second = {}
+        for _, key, index, _ in members:
+            if key in seen:
+                second.setdefault(key, index)
+            seen.add(key)
+        if second:
+            least = min(second)
+            self.steps[-1] = least
+            raise Rejection("ObjectDuplicateKey", second[least], least)
+        return sorted(members, key=lambda member: member[1])
 
 
 def representable(number, scale, precision):
@@ -549,23 +573,125 @@ def representable(number, scale, precision):
     return ("Decimal64" if precision <= 18 else "Decimal128", scale, number)
 
 
-def in_order(members):
-    """The members in the order of their keys; the least repeated key is rejected, at its second occurrence."""
-    seen = set()
-    second = {}
-    for _, key, index, _ in members:
-        if key in seen:
-            second.setdefault(key, index)
-        seen.add(key)
-    if second:
-        least = min(second)
-        raise Rejection("ObjectDuplicateKey", second[least], least)
-    return sorted(members, key=lambda member: member[1])
-
-
 def read(data, mode):
     """The tree of a text. Raises `Rejection`."""
     return Reader(bytes(data), mode).document()
+
+
+# Numbers with an exponent.
+
+# A text by its tokens, as far as numbers are looked for in it: a string in double quotes, which may lack its end; a word;
+# or all that stands behind the first single quote, slash or backslash. What separates them is none of these.
+TOKEN = re.compile(rb"""(?P<string>"(?:[^"\\]|\\.)*(?:"|\\?\Z))|(?P<word>[^\x00-\x20,:\[\]{}"'/\\]+)|(?P<rest>['/\\].*)""",
+                   re.DOTALL)
+NUMBER_WITH_EXPONENT = re.compile(rb"(-?)(0|[1-9][0-9]*)(?:\.([0-9]+))?[eE]([+-]?)([0-9]+)")
+
+
+def exact_number(word):
+    """The scale and the whole number of a number of RFC 8259 with an exponent, None where these take more than 38 digits,
+    and False where the word is no such number. The scale is that of the digits behind the point, less the exponent."""
+    match = NUMBER_WITH_EXPONENT.fullmatch(word)
+    if match is None:
+        return False
+    minus, before, behind, sign, exponent = match.groups(default=b"")
+    digits = (before + behind).lstrip(b"0")
+    exponent = exponent.lstrip(b"0")
+    # Python reads no number of thousands of digits, and this one is past all bounds.
+    moved = int(exponent or b"0") if len(exponent) < 40 else 10 ** 40
+    moved = -moved if sign == b"-" else moved
+    scale, zeros = max(0, len(behind) - moved), max(0, moved - len(behind)) if digits else 0
+    if scale > MAX_PRECISION or len(digits) + zeros > MAX_PRECISION:
+        return None
+    whole = int(digits + b"0" * zeros or b"0")
+    return scale, -whole if minus else whole
+
+
+def numbers_with_exponents(data):
+    """The start and the end of each number with an exponent that a text of RFC 8259 may have, and its exact number."""
+    found = []
+    for match in TOKEN.finditer(data):
+        if match.lastgroup == "word":
+            number = exact_number(match["word"])
+            if number is not False:
+                found.append((*match.span(), number))
+    return found
+
+
+def with_numbers(data, numbers, spelled):
+    """The text with each number that has few digits spelled by a function of its place and its value."""
+    out, at = [], 0
+    for start, end, number in numbers:
+        if number is not None:
+            out += [data[at:start], spelled(start, end, number)]
+            at = end
+    return b"".join([*out, data[at:]])
+
+
+def plain_numbers(data):
+    """The text with its numbers written out. Raises `Rejection`, whose position is that behind the first with too many
+    digits."""
+    numbers = numbers_with_exponents(data)
+    for _, end, number in numbers:
+        if number is None:
+            raise Rejection("NumberNotCarried", end)
+    return with_numbers(data, numbers, lambda start, end, number: number_text(*number))
+
+
+def masked_numbers(data):
+    """The text with its numbers masked."""
+    return with_numbers(data, numbers_with_exponents(data), lambda start, end, number: b"0".ljust(end - start))
+
+
+class ReaderWithExponents(Reader):
+    """Reads a text in extended mode, and numbers with exponents too."""
+
+    def __init__(self, data):
+        super().__init__(data, EXTENDED)
+        self.numbers = {start: (end, number) for start, end, number in numbers_with_exponents(data)}
+
+    def value(self):
+        if self.at not in self.numbers:
+            return super().value()
+        self.at, number = self.numbers[self.at]
+        if number is None:
+            raise Rejection("NumberNotCarried", self.at)
+        return ("number", "Decimal128", *number)
+
+
+def read_with_exponents(data):
+    """The tree of a text in extended mode, whose numbers may have exponents. Raises `Rejection`."""
+    return ReaderWithExponents(bytes(data)).document()
+
+
+# Where a text is rejected.
+
+def path_of(steps):
+    """The JSON Pointer (RFC 6901) of these indices and keys."""
+    return b"".join(b"/" + (b"%d" % step if isinstance(step, int) else step.replace(b"~", b"~0").replace(b"/", b"~1"))
+                    for step in steps if step is not None)
+
+
+def rejection_and_path(data, mode, with_exponents=False):
+    """Why a text is rejected, and the path of the innermost item or member with the fault; None where it isn't."""
+    reader = ReaderWithExponents(bytes(data)) if with_exponents else Reader(bytes(data), mode)
+    try:
+        reader.document()
+    except Rejection as rejection:
+        return rejection, path_of(reader.steps)
+    return None
+
+
+# The byte to show of a rejection, by the table of docs/GRAMMAR.md.
+AT_THE_BYTE = ("InvalidEOF", "ExpectedColon", "ExpectedArrayCommaOrEnd", "ExpectedObjectCommaOrEnd",
+               "ObjectKeyInvalidCharacter")
+OF_ESCAPES = ("InvalidEscaped", "InvalidHex", "UnexpectedEndOfHexEscape")
+
+
+def place_of(data, rejection):
+    """The offset of the byte to show, and its line and column from 1 on."""
+    back = 0 if rejection.code in AT_THE_BYTE else 2 if rejection.code in OF_ESCAPES else 1
+    index = min(max(0, rejection.position - back), len(data))
+    return index, data.count(b"\n", 0, index) + 1, index - (data.rfind(b"\n", 0, index) + 1) + 1
 
 
 # What is written.
