@@ -1,6 +1,7 @@
 /* Counts the heap that each function of the library asks for and holds, over documents of several kinds and sizes, and
- * compares both with bounds that are worked out from the document alone. Of the functions over sort keys and zeros it
- * also lets each request for memory fail in turn: then they report it, and have written nothing.
+ * compares both with bounds that are worked out from the document alone. Of the functions over sort keys and zeros, of
+ * those over numbers with exponents and of the path of an error it also lets each request for memory fail in turn: then
+ * they report it, and have written nothing.
  *
  * The linker puts the three functions below in the place of the C library's (--wrap). What counts is what was asked
  * for, not what the C library spends on it. A block that grows counts with its new size among what was asked for, and
@@ -27,8 +28,13 @@
 
 #define LEVELS 512
 
+/* A step of the path of an error: of a vector of levels, and of one of the keys, which are of 24 bytes and some more. */
+#define STEP 160
+
 /* Where nothing comes so near to a bound, in thousandths, it is no bound. */
 #define NEAR 250
+
+#define FILLED 0xAA
 
 void *__real_malloc(size_t size);
 void *__real_realloc(void *block, size_t size);
@@ -118,13 +124,29 @@ enum kind {
   WIDE,
   DEEP_ARRAYS,
   DEEP_OBJECTS,
-  KINDS
+  KINDS,
+  EXPONENTS = KINDS, /* in no mode */
+  MORE_DIGITS,
+  TOO_MANY_DIGITS,
+  ALL_KINDS
 };
 
 static const char *const kinds[] = {
     "numbers", "arrays of 70 numbers", "arrays of 2", "strings", "strings with escapes", "a long string",
     "a long string with escapes", "objects of 5 members", "a wide object", "nested arrays", "nested objects",
+    "numbers with exponents", "numbers of many digits where they are written out", "a number of too many digits",
 };
+
+/* How the numbers of each kind are spelled; those of the last kind have no end. */
+static const char *spelled(enum kind kind) {
+  switch (kind) {
+    case STRINGS: return "\"text%d\"";
+    case ESCAPES: return "\"\\n%d\"";
+    case EXPONENTS: return "-%d.50e1";
+    case MORE_DIGITS: return "%de-28";
+    default: return "%d";
+  }
+}
 
 /* A document of about `count` values, in standard mode and without whitespace. */
 static struct text make(enum kind kind, int count) {
@@ -153,13 +175,14 @@ static struct text make(enum kind kind, int count) {
       if (kind == OBJECTS) add(&text, "{");
       for (int i = 0; i < count; i++) {
         int place = kind == ARRAYS ? i % 70 : kind == PAIRS ? i % 2 : kind == OBJECTS ? i % 5 : -1;
-        if (i && place) add(&text, ",");
+        if (kind == TOO_MANY_DIGITS) place = 0;
+        else if (i && place) add(&text, ",");
         else if (i) add(&text, kind == OBJECTS ? "},{" : "],[");
         if (kind == OBJECTS || kind == WIDE) {
           snprintf(part, sizeof part, "\"key%d\":", kind == OBJECTS ? place : i * 7919 % count);
           add(&text, part);
         }
-        snprintf(part, sizeof part, kind == STRINGS ? "\"text%d\"" : kind == ESCAPES ? "\"\\n%d\"" : "%d", 100000 + i);
+        snprintf(part, sizeof part, spelled(kind), 100000 + i);
         add(&text, part);
       }
       if (kind == ARRAYS || kind == PAIRS) add(&text, "]");
@@ -311,6 +334,9 @@ enum key_function {
   ZEROS_OF_TEXT,
   TEXT_WITH_ZEROS,
   ZEROS_OF_NUMBERS,
+  PLAIN_NUMBERS,
+  MASKED_NUMBERS,
+  ERROR_PATH,
   KEY_FUNCTIONS
 };
 
@@ -319,13 +345,18 @@ enum key_function {
 static const char *const key_functions[] = {
     "vizhoniku_key_check", "vizhoniku_key_count", "vizhoniku_key_next", "vizhoniku_key_member", "vizhoniku_key_item",
     "vizhoniku_key_part", "vizhoniku_key_string", "vizhoniku_key_contains", "vizhoniku_key_numbers",
-    "vizhoniku_key_part with an escape", "vizhoniku_key_text", "vizhoniku_key_set", "vizhoniku_key_remove", "vizhoniku_key_put", "vizhoniku_key_push",
-    "vizhoniku_key_merge", "vizhoniku_zeros_of_text", "vizhoniku_text_with_zeros", "vizhoniku_zeros_of_numbers",
+    "vizhoniku_key_part with an escape", "vizhoniku_key_text", "vizhoniku_key_set", "vizhoniku_key_remove",
+    "vizhoniku_key_put", "vizhoniku_key_push", "vizhoniku_key_merge", "vizhoniku_zeros_of_text",
+    "vizhoniku_text_with_zeros", "vizhoniku_zeros_of_numbers", "vizhoniku_plain_numbers", "vizhoniku_masked_numbers",
+    "vizhoniku_error_path",
 };
 
-/* The zeros of the text that the last three functions take, which is passed in the place of a key, and that text with
- * the fewest digits. */
+/* The zeros of the text that the functions over zeros take, which is passed in the place of a key as that of the functions
+ * behind them is, and that text with the fewest digits. */
 static struct text zeros, shortest;
+
+/* Why the text is rejected of which vizhoniku_error_path writes the path. */
+static struct vizhoniku_refusal why;
 
 /* The last item of an array or the last member of an object, of those that documents have. */
 #define PATH (const unsigned char *)"/0"
@@ -337,6 +368,7 @@ static uint32_t call_over_key(enum key_function function, const struct text *key
   static const unsigned char null_key[] = {0xD3};
   struct vizhoniku_key_cursor cursor;
   struct vizhoniku_key_entry entry;
+  struct vizhoniku_refusal refusal;
   size_t offset, part_size;
   uint32_t status;
   *size = 0;
@@ -372,6 +404,10 @@ static uint32_t call_over_key(enum key_function function, const struct text *key
     case ZEROS_OF_NUMBERS:
       part_size = 0;
       return vizhoniku_zeros_of_numbers(zeros.bytes, zeros.size, 0, zeros.size / 2, &part_size, buffer, room, size);
+    case PLAIN_NUMBERS: return vizhoniku_plain_numbers(key->bytes, key->size, buffer, room, size, &refusal);
+    case MASKED_NUMBERS: return vizhoniku_masked_numbers(key->bytes, key->size, buffer, room, size);
+    case ERROR_PATH:
+      return vizhoniku_error_path(VIZHONIKU_EXTENDED, key->bytes, key->size, &why, buffer, room, size);
     default: return vizhoniku_key_merge(key->bytes, key->size, key->bytes, key->size, buffer, room, size);
   }
 }
@@ -384,18 +420,42 @@ static void fault_over_key(enum key_function function, enum kind kind, int count
   printf("%s %s: %s, %d\n", key_functions[function], what, kinds[kind], count);
 }
 
+/* How many arrays and objects are open where a text ends too early. */
+static size_t levels_of(const struct text *text) {
+  size_t levels = 0;
+  for (size_t i = 0; i < text->size; i++) {
+    unsigned char byte = text->bytes[i];
+    if (byte == '"') {
+      while (++i < text->size && text->bytes[i] != '"') i += text->bytes[i] == '\\';
+    } else if (byte == '[' || byte == '{') levels++;
+    else if (byte == ']' || byte == '}') levels--;
+  }
+  return levels;
+}
+
 /* What the key of each function may hold at most: nothing, or what is written of it. A text is at most six times as
- * long as its key, and the others twice. A path takes some bytes more. Zeros take what is written of them alone. */
+ * long as its key, and the others twice. A path takes some bytes more. Zeros take what is written of them alone, and so
+ * do numbers with exponents, beside the text. For the path of an error the text is copied into a vector. */
 static size_t bound_over_key(enum key_function function, const struct text *key, size_t written) {
   if (function < TAKES_MEMORY) return 0;
   if (function == KEY_ESCAPED_PART) return 256;
+  if (function == PLAIN_NUMBERS) return 512 + key->size + ROOM(written);
+  if (function == MASKED_NUMBERS) return 512 + key->size;
+  if (function == ERROR_PATH) return FIXED + ROOM(key->size) + ROOM(written) + levels_of(key) * (LEVEL + STEP);
   if (function >= ZEROS_OF_TEXT) return 512 + ROOM(written);
   return 512 + 3 * key->size / 2 + ROOM(written);
 }
 
+/* Whether nothing was written to a buffer that was filled. */
+static int is_filled(const unsigned char *buffer, size_t size) {
+  for (size_t i = 0; i < size; i++)
+    if (buffer[i] != FILLED) return 0;
+  return 1;
+}
+
 /* Each function over one key, with room enough, and then with each request for memory failing in turn. */
 static void measure_over_key(enum kind kind, int count, const struct text *key, enum key_function first,
-                             enum key_function end) {
+                             enum key_function end, int with_failures) {
   size_t room = 6 * key->size + 64, written, size;
   unsigned char *buffer = __real_malloc(room);
   if (!buffer) exit(2);
@@ -406,15 +466,15 @@ static void measure_over_key(enum kind kind, int count, const struct text *key, 
     size_t bound = bound_over_key(function, key, written);
     calls++;
     if (status != VIZHONIKU_ACCEPTED && status != VIZHONIKU_NO_PART && status != VIZHONIKU_NO_KEY &&
-        status != VIZHONIKU_TOO_DEEP)
+        status != VIZHONIKU_TOO_DEEP && !(kind == TOO_MANY_DIGITS && status == VIZHONIKU_REFUSED))
       fault_over_key(function, kind, count, "has another status");
     if (held) fault_over_key(function, kind, count, "kept memory");
     if (bound && most * 1000 / bound > nearest[function]) nearest[function] = most * 1000 / bound;
     if (most > bound) fault_over_key(function, kind, count, "held more than its bound");
     if (asked > 3 * bound) fault_over_key(function, kind, count, "asked for more than its bound");
     int told = 0, met = 0;
-    for (long run = 0;; run++) { /* each request fails alone, and with all behind it */
-      memset(buffer, 0xAA, room < 64 ? room : 64);
+    for (long run = 0; with_failures; run++) { /* each request fails alone, and with all behind it */
+      memset(buffer, FILLED, room);
       granted = run / 2;
       lasting = run % 2;
       failed = 0;
@@ -427,12 +487,13 @@ static void measure_over_key(enum kind kind, int count, const struct text *key, 
       met = 1;
       if (other == VIZHONIKU_OUT_OF_MEMORY) {
         told = 1;
-        if (size || buffer[0] != 0xAA || buffer[1] != 0xAA)
+        if (size || !is_filled(buffer, room))
           fault_over_key(function, kind, count, "wrote where memory was missing");
       } else if (other != status || size != written)
         fault_over_key(function, kind, count, "has another result where memory was missing");
     }
     if (met && function < TAKES_MEMORY) fault_over_key(function, kind, count, "asked for memory");
+    if (!with_failures) continue;
     if (met && !told) fault_over_key(function, kind, count, "never tells that memory was missing");
     if (!met && written && function >= TAKES_MEMORY) fault_over_key(function, kind, count, "asked for no memory");
   }
@@ -454,7 +515,19 @@ static void measure_zeros(int count) {
   if (!zeros.bytes || vizhoniku_zeros_of_text(text.bytes, text.size, zeros.bytes, zeros.room, &zeros.size) !=
                           VIZHONIKU_ACCEPTED)
     exit(2);
-  measure_over_key(NUMBERS, count, &text, ZEROS_OF_TEXT, KEY_FUNCTIONS);
+  measure_over_key(NUMBERS, count, &text, ZEROS_OF_TEXT, PLAIN_NUMBERS, 1);
+  __real_free(text.bytes);
+}
+
+/* Numbers with exponents, and the path of the error where the text ends too early. */
+static void measure_numbers(enum kind kind, int count) {
+  struct text text = make(kind, count);
+  if (kind == TOO_MANY_DIGITS) text.size--, add(&text, "e0]");
+  measure_over_key(kind, count, &text, PLAIN_NUMBERS, ERROR_PATH, 1);
+  text.size = kind < DEEP_ARRAYS ? text.size - 1 : text.size / 2;
+  vizhoniku_check(VIZHONIKU_EXTENDED, text.bytes, text.size, &why);
+  /* A path takes a request for each key of the text. */
+  measure_over_key(kind, count, &text, ERROR_PATH, KEY_FUNCTIONS, count <= 70);
   __real_free(text.bytes);
 }
 
@@ -476,7 +549,7 @@ int main(void) {
       struct text text = make((enum kind)kind, counts[i]);
       measure((enum kind)kind, counts[i], &text, VIZHONIKU_ACCEPTED);
       struct text key = key_of(&text);
-      measure_over_key((enum kind)kind, counts[i], &key, KEY_CHECK, ZEROS_OF_TEXT);
+      measure_over_key((enum kind)kind, counts[i], &key, KEY_CHECK, ZEROS_OF_TEXT, 1);
       __real_free(key.bytes);
       add(&text, "?"); /* a byte too much */
       measure((enum kind)kind, counts[i], &text, VIZHONIKU_REFUSED);
@@ -484,6 +557,9 @@ int main(void) {
     }
   }
   for (size_t i = 0; i < sizeof counts / sizeof *counts; i++) measure_zeros(counts[i]);
+  for (int kind = NUMBERS; kind < ALL_KINDS; kind++)
+    for (size_t i = 0; i < sizeof counts / sizeof *counts && counts[i] <= 7001; i++)
+      if (counts[i] > 0) measure_numbers((enum kind)kind, counts[i]);
   for (int i = 0; i < FUNCTIONS; i++) {
     printf("%s", functions[i]);
     for (int is_asked = 0; is_asked < 2; is_asked++)

@@ -14,6 +14,7 @@ The mark of a string is "plain" where it has no backslash in the text, else "esc
 offset after its key.
 """
 
+import functools
 import math
 import re
 import sys
@@ -183,6 +184,8 @@ class Reader:
         # Of each array and object that is open, the index of its item or the key of its member that is read or due; None
         # where no key has been read.
         self.steps = []
+        # Whether the reader stands behind an item or a member, before the comma, and whether it met a comment with no end.
+        self.is_behind = self.is_cut = False
 
     # The byte at which the reader stands as bytes of length 1, and none at the end.
     def here(self):
@@ -207,7 +210,7 @@ class Reader:
     # Whitespace and comments.
 
     def whitespace(self):
-        while self.whitespace_piece():
+        while self.is_here(b" \t\n\x0C\r\\/") and self.whitespace_piece():
             pass
 
     def whitespace_piece(self):
@@ -225,6 +228,7 @@ class Reader:
             return False
         close = self.data.find(b"*/", self.at + 2)
         if close < 0:
+            self.is_cut = True
             self.reject_end()
         self.at = close + 2
         return True
@@ -236,6 +240,7 @@ class Reader:
         self.at += 2
         while self.at < self.end and self.data[self.at] not in b"\n\r":
             self.at += 1
+        self.is_cut = self.at == self.end
         if self.at < self.end:
             self.at += 1
         return True
@@ -460,6 +465,8 @@ class Reader:
             raise Rejection("ObjectKeyInvalidNumber", self.at + 1)
         while True:
             if self.at >= self.end:
+                if is_utf8(self.data[start:]):
+                    self.steps[-1] = self.data[start:]
                 raise Rejection("InvalidEOF", self.at)
             byte = self.data[self.at]
             if byte < 0x80:
@@ -499,11 +506,13 @@ class Reader:
             self.go_out()
             return ("array", items)
         while True:
+            self.is_behind = False
             self.whitespace()
             if self.extended and self.is_here(b",]"):
                 items.append(("null",))
             else:
                 items.append(self.value())
+                self.is_behind = True
                 self.whitespace()
             if self.at == self.end:
                 self.reject_end()
@@ -522,8 +531,10 @@ class Reader:
             self.go_out()
             return ("object", members)
         while True:
+            self.is_behind = False
             self.whitespace()
             members.append(self.member())
+            self.is_behind = True
             self.whitespace()
             if self.at == self.end:
                 self.reject_end()
@@ -606,6 +617,7 @@ def exact_number(word):
     return scale, -whole if minus else whole
 
 
+@functools.lru_cache(maxsize=8)
 def numbers_with_exponents(data):
     """The start and the end of each number with an exponent that a text of RFC 8259 may have, and its exact number."""
     found = []
@@ -671,14 +683,18 @@ def path_of(steps):
                     for step in steps if step is not None)
 
 
-def rejection_and_path(data, mode, with_exponents=False):
-    """Why a text is rejected, and the path of the innermost item or member with the fault; None where it isn't."""
-    reader = ReaderWithExponents(bytes(data)) if with_exponents else Reader(bytes(data), mode)
+def tree_or_paths(reader):
+    """The tree of a text; or why it is rejected, and the path of the innermost item or member with the fault. That is the
+    one that was read last, up to the comma behind it. There is a second path, that of the next one, where the text ends
+    in a comment between the two."""
     try:
-        reader.document()
+        return reader.document(), None, []
     except Rejection as rejection:
-        return rejection, path_of(reader.steps)
-    return None
+        paths = [path_of(reader.steps)]
+        if rejection.code == "InvalidEOF" and reader.is_cut and reader.is_behind and reader.steps:
+            step = reader.steps[-1]
+            paths.append(path_of([*reader.steps[:-1], step + 1 if isinstance(step, int) else None]))
+        return None, rejection, paths
 
 
 # The byte to show of a rejection, by the table of docs/GRAMMAR.md.
