@@ -28,7 +28,7 @@
 
 #define LEVELS 512
 
-/* A step of the path of an error: of a vector of levels, and of one of the keys, which are of 24 bytes and some more. */
+/* What is open while the path of an error is looked for, for each level, with the step that is made of it. */
 #define STEP 160
 
 /* Where nothing comes so near to a bound, in thousandths, it is no bound. */
@@ -420,17 +420,21 @@ static void fault_over_key(enum key_function function, enum kind kind, int count
   printf("%s %s: %s, %d\n", key_functions[function], what, kinds[kind], count);
 }
 
-/* How many arrays and objects are open where a text ends too early. */
+/* How many arrays and objects are open at most. A string may lack its end. */
 static size_t levels_of(const struct text *text) {
-  size_t levels = 0;
+  size_t levels = 0, deepest = 0;
   for (size_t i = 0; i < text->size; i++) {
     unsigned char byte = text->bytes[i];
     if (byte == '"') {
       while (++i < text->size && text->bytes[i] != '"') i += text->bytes[i] == '\\';
-    } else if (byte == '[' || byte == '{') levels++;
-    else if (byte == ']' || byte == '}') levels--;
+    } else if (byte == '[' || byte == '{') {
+      levels++;
+      if (levels > deepest) deepest = levels;
+    } else if (byte == ']' || byte == '}') {
+      levels--;
+    }
   }
-  return levels;
+  return deepest;
 }
 
 /* What the key of each function may hold at most: nothing, or what is written of it. A text is at most six times as
@@ -441,7 +445,7 @@ static size_t bound_over_key(enum key_function function, const struct text *key,
   if (function == KEY_ESCAPED_PART) return 256;
   if (function == PLAIN_NUMBERS) return 512 + key->size + ROOM(written);
   if (function == MASKED_NUMBERS) return 512 + key->size;
-  if (function == ERROR_PATH) return FIXED + ROOM(key->size) + ROOM(written) + levels_of(key) * (LEVEL + STEP);
+  if (function == ERROR_PATH) return 512 + ROOM(key->size) + ROOM(written) + levels_of(key) * STEP;
   if (function >= ZEROS_OF_TEXT) return 512 + ROOM(written);
   return 512 + 3 * key->size / 2 + ROOM(written);
 }
@@ -524,7 +528,9 @@ static void measure_numbers(enum kind kind, int count) {
   struct text text = make(kind, count);
   if (kind == TOO_MANY_DIGITS) text.size--, add(&text, "e0]");
   measure_over_key(kind, count, &text, PLAIN_NUMBERS, ERROR_PATH, 1);
-  text.size = kind < DEEP_ARRAYS ? text.size - 1 : text.size / 2;
+  /* It lacks its last byte, or what begins with its last number. */
+  do text.size--;
+  while ((kind == DEEP_ARRAYS || kind == DEEP_OBJECTS) && text.bytes[text.size] != '1');
   vizhoniku_check(VIZHONIKU_EXTENDED, text.bytes, text.size, &why);
   /* A path takes a request for each key of the text. */
   measure_over_key(kind, count, &text, ERROR_PATH, KEY_FUNCTIONS, count <= 70);
