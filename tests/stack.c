@@ -82,6 +82,7 @@ enum end {
   TRAILING,    /* a byte too much behind it */
   UNCLOSED,    /* the outermost lacks its end */
   INNERMOST,   /* the innermost holds what is no value */
+  EXPONENT,    /* the innermost is a number with an exponent */
   TOO_DEEP,    /* one more than may be open */
   KEY_AGAIN,   /* the key of the outermost's deep member comes again */
   KEY_BEFORE,  /* and came before */
@@ -90,7 +91,7 @@ enum end {
 
 static const char *const ends[] = {
     "", ", behind a comment that isn't UTF-8", ", a byte too much behind", ", unclosed", ", a fault in the innermost",
-    ", one too deep", ", a key again behind", ", a key again before",
+    ", an exponent in the innermost", ", one too deep", ", a key again behind", ", a key again before",
 };
 
 struct shape {
@@ -175,8 +176,7 @@ static struct text make(const struct shape *shape) {
     }
     add(&text, key);
   }
-  if (shape->end == INNERMOST) add(&text, "?");
-  else add(&text, "0");
+  add(&text, shape->end == INNERMOST ? "?" : shape->end == EXPONENT ? "12.345678901234567890e-7" : "0");
   for (int level = levels; level-- > 0;) {
     if (shape->is_first) add_shallow(&text, shape, level);
     if (shape->end == KEY_AGAIN && level == 0) {
@@ -190,10 +190,12 @@ static struct text make(const struct shape *shape) {
   return text;
 }
 
-/* Each function of the library that reads a text, and then those that read a sort key, by a number. */
+/* Each function of the library that reads a text, then those that read a sort key, and then those that reject no text, by
+ * a number. */
 enum function {
   CHECK, TEXT, SORT_KEY, TEXT_AND_KEY, PART, COMPARE, MESSAGE, KEY_CHECK, KEY_TEXT, KEY_PART, KEY_COUNT,
-  KEY_CONTAINS, KEY_SET, KEY_REMOVE, KEY_MERGE, KEY_NUMBERS, ZEROS, TEXT_WITH_ZEROS, FUNCTIONS
+  KEY_CONTAINS, KEY_SET, KEY_REMOVE, KEY_MERGE, KEY_NUMBERS, ZEROS, TEXT_WITH_ZEROS,
+  PLAIN_NUMBERS, MASKED_NUMBERS, ERROR_PATH, FUNCTIONS
 };
 
 static const char *const functions[] = {
@@ -201,6 +203,7 @@ static const char *const functions[] = {
     "vizhoniku_compare", "vizhoniku_message", "vizhoniku_key_check", "vizhoniku_key_text", "vizhoniku_key_part",
     "vizhoniku_key_count", "vizhoniku_key_contains", "vizhoniku_key_set", "vizhoniku_key_remove", "vizhoniku_key_merge",
     "vizhoniku_key_numbers", "vizhoniku_zeros_of_text", "vizhoniku_text_with_zeros",
+    "vizhoniku_plain_numbers", "vizhoniku_masked_numbers", "vizhoniku_error_path",
 };
 
 /* What docs/C.md says that each takes, in KB: where no value is made, and where one is. */
@@ -209,7 +212,8 @@ static const size_t told[FUNCTIONS][2] = {
     [PART] = {22, 110},       [COMPARE] = {22, 110},   [MESSAGE] = {22, 0},        [KEY_CHECK] = {5, 0},
     [KEY_TEXT] = {2, 0},      [KEY_PART] = {2, 0},     [KEY_COUNT] = {2, 0},       [KEY_CONTAINS] = {25, 0},
     [KEY_SET] = {2, 0},       [KEY_REMOVE] = {2, 0},   [KEY_MERGE] = {2, 0},       [KEY_NUMBERS] = {2, 0},
-    [ZEROS] = {2, 0},         [TEXT_WITH_ZEROS] = {2, 0},
+    [ZEROS] = {2, 0},         [TEXT_WITH_ZEROS] = {2, 0}, [PLAIN_NUMBERS] = {2, 0},   [MASKED_NUMBERS] = {2, 0},
+    [ERROR_PATH] = {2, 0},
 };
 
 struct call {
@@ -218,6 +222,7 @@ struct call {
   const struct text *text, *path;
   unsigned char *buffer, *key_buffer, *key;
   size_t room, key_size; /* the key has no bytes where the text is refused */
+  const struct vizhoniku_refusal *why; /* in the call's mode */
   uint32_t status;
   const unsigned char *top; /* the machine stack where the call began */
 };
@@ -278,6 +283,15 @@ static void *run(void *given) {
     case TEXT_WITH_ZEROS:
       call->status = vizhoniku_text_with_zeros(bytes, text_size, NULL, 0, call->buffer, call->room, &size);
       break;
+    case PLAIN_NUMBERS:
+      call->status = vizhoniku_plain_numbers(bytes, text_size, call->buffer, call->room, &size, &refusal);
+      break;
+    case MASKED_NUMBERS:
+      call->status = vizhoniku_masked_numbers(bytes, text_size, call->buffer, call->room, &size);
+      break;
+    case ERROR_PATH:
+      call->status = vizhoniku_error_path(call->mode, bytes, text_size, call->why, call->buffer, call->room, &size);
+      break;
     default: call->status = vizhoniku_message(call->mode, bytes, text_size, call->buffer, call->room, &size); break;
   }
   return NULL;
@@ -325,13 +339,17 @@ static void measure(const struct shape *shape, const struct stack *stack) {
   call.buffer = checked(__real_malloc(call.room));
   call.key_buffer = checked(__real_malloc(call.room));
   call.key = checked(__real_malloc(call.room));
-  struct vizhoniku_refusal refusal;
+  struct vizhoniku_refusal refusal, why[2];
   vizhoniku_sort_key(VIZHONIKU_EXTENDED, text.bytes, text.size, call.key, call.room, &call.key_size, &refusal);
+  for (uint32_t mode = 0; mode < 2; mode++) vizhoniku_check(mode, text.bytes, text.size, &why[mode]);
   for (int i = 0; i < 2 * FUNCTIONS; i++) {
     uint32_t whole = VIZHONIKU_ACCEPTED;
     call.function = (enum function)(i / 2);
     call.mode = (uint32_t)(i % 2);
-    if (call.function >= KEY_CHECK && (call.mode != VIZHONIKU_EXTENDED || !call.key_size)) continue;
+    call.why = &why[call.mode];
+    int is_of_text = call.function < KEY_CHECK || call.function == ERROR_PATH;
+    if (!is_of_text && call.mode != VIZHONIKU_EXTENDED) continue;
+    if (call.function >= KEY_CHECK && call.function < PLAIN_NUMBERS && !call.key_size) continue;
     /* The longest texts have 25 megabytes, so not each call reads them. */
     if (shape->members > 30 && (call.mode != (shape->end == COMMENT) || (shape->end != WHOLE && i > 1))) continue;
     long last = 0;
@@ -350,7 +368,8 @@ static void measure(const struct shape *shape, const struct stack *stack) {
       }
     }
     /* A comment is refused in standard mode, and a fault in both. */
-    int is_read = shape->end == WHOLE || (shape->end == COMMENT && call.mode == VIZHONIKU_EXTENDED);
+    int is_read = shape->end == WHOLE || (shape->end == COMMENT && call.mode == VIZHONIKU_EXTENDED) ||
+                  call.function >= PLAIN_NUMBERS;
     int is_deep = call.function == KEY_SET && whole == VIZHONIKU_TOO_DEEP;
     if (!is_deep && whole != (is_read ? VIZHONIKU_ACCEPTED : VIZHONIKU_REFUSED)) wrong++;
   }
