@@ -15,13 +15,15 @@
  *   harness --peak-of OP FILE..  prints the same lines of that operation, with its name in the place of the word peak
  *
  * The documents of a file whose name ends in .json5 are of extended mode, and are only read. Those of a .rejected file are
- * no documents, and are only rejected.
+ * no documents, and are only rejected. Those of a .exponents file are standard JSON but for the exponents of their numbers,
+ * which are only written out.
  *
  * With NO_COUNTER set it opens no counter. PREFIX is what the names of the measured library's functions begin with.
  * WITH_EXTENDED is defined where the library reads extended mode, WITH_AST where it reads into trees, WITH_SORT_KEY where
  * it writes sort keys, WITH_DOCUMENT where it writes texts and sort keys of a tree with no value between, WITH_STRAIGHT
- * where it writes them while it parses, WITH_REJECT where it tells how often it rejects a text, and WITH_MEMORY where
- * memory.c is linked, as --peak needs it and as the times must not have it.
+ * where it writes them while it parses, WITH_REJECT where it tells how often it rejects a text, WITH_EXPONENTS where
+ * it writes numbers with exponents out, and WITH_MEMORY where memory.c is linked, as --peak needs it and as the times must
+ * not have it.
  * WITHOUT_VALUES is defined where it compares and clones no values, and WITH_READ_WRITE where it writes only what it has
  * just read. */
 #define _GNU_SOURCE
@@ -65,6 +67,9 @@ operation_t JOIN(PREFIX, read_ast);
 #ifdef WITH_SORT_KEY
 operation_t JOIN(PREFIX, sort_key);
 #endif
+#ifdef WITH_EXPONENTS
+operation_t JOIN(PREFIX, plain_numbers);
+#endif
 #ifdef WITH_DOCUMENT
 operation_t JOIN(PREFIX, document_text), JOIN(PREFIX, document_key);
 #endif
@@ -101,6 +106,9 @@ static const struct operation { const char *name; operation_t *run; int only_rea
 #endif
 #ifdef WITH_SORT_KEY
   { "sort_key", JOIN(PREFIX, sort_key), 0, ".json" },
+#endif
+#ifdef WITH_EXPONENTS
+  { "plain_numbers", JOIN(PREFIX, plain_numbers), 1, ".exponents" },
 #endif
 #ifndef WITHOUT_VALUES
   { "compare", JOIN(PREFIX, compare), 0, ".json" },
@@ -243,10 +251,12 @@ static double count(int counter, const struct file *file, operation_t *run, size
   return instructions;
 }
 
-/* Whether the operation is of the file's kind. Standard documents are extended ones too. */
+/* Whether the operation is of the file's kind. Standard documents are extended ones too, and may be looked through for
+ * exponents. */
 static int is_done(const struct operation *operation, const struct file *file) {
   const char *point = strrchr(file->name, '.');
-  return point && (!strcmp(point, operation->suffix) || (!strcmp(point, ".json") && !strcmp(operation->suffix, ".json5")));
+  return point && (!strcmp(point, operation->suffix) ||
+                   (!strcmp(point, ".json") && strcmp(operation->suffix, ".rejected")));
 }
 
 static void measure(const struct file *file, const struct operation *operation, int counter, double budget) {

@@ -5,8 +5,8 @@ With a size in bytes it writes documents of these kinds that are about so long e
 
 Each line of a file is one document. Those of a .json file are standard JSON without a fraction or an exponent, and only
 the catalog and the indented objects have blanks between their tokens. Those of a .json5 file are extended JSON with keys without
-quotes, single quotes, comments, decimals and hexadecimals. Those of a .rejected file have a fault at nine tenths. The
-numbers come from a fixed seed, so that every run has the same documents.
+quotes, single quotes, comments, decimals and hexadecimals. Those of a .rejected file have a fault at nine tenths. Those of
+a .exponents file are JSON in which each number has an exponent. The numbers come from a fixed seed, so that every run has the same documents.
 """
 import json
 import os
@@ -76,6 +76,22 @@ def setting(i):
 def extended_documents():
     """The same of extended JSON."""
     yield "extended", ["[ " + ", ".join(setting(i) for i in range(20)) + " ] // the end" for _ in range(400)]
+
+
+def number_with_exponent():
+    """A double of 1 to 17 digits, of a magnitude at which Python's json.dumps writes an exponent."""
+    digits = random.choice([1, 3, 6, 16, 17])
+    exponent = random.choice([random.randrange(-20, -4), random.randrange(16, 21)])
+    number = json.dumps(float("%de%d" % (random.randrange(10**(digits - 1), 10**digits), exponent - digits + 1)))
+    return number if "e" in number else number + "e+00"
+
+
+def documents_with_exponents():
+    """Arrays of numbers with exponents, and objects in which each number has one."""
+    yield "exponents", ["[%s]" % ",".join(number_with_exponent() for _ in range(75000))]
+    yield "objects_with_exponents", ["[%s]" % ",".join(
+        '{"id":"%s","value":%s,"error":%s,"unit":"%s"}' % (name(), number_with_exponent(), number_with_exponent(),
+                                                           random.choice(WORDS)) for _ in range(12500))]
 
 
 def identity():
@@ -282,6 +298,8 @@ def main():
         write(os.path.join(folder, name + ".json5"), texts)
     for name, texts in shaped_documents():
         write(os.path.join(folder, name + ".json"), texts)
+    for name, texts in documents_with_exponents():
+        write(os.path.join(folder, name + ".exponents"), texts)
 
 
 main()

@@ -6,7 +6,7 @@ import sys
 OPERATIONS = {
     "read": "read", "reject": "reject", "extended": "extended", "read_ast": "read_ast", "write": "write",
     "read_write": "read_write", "straight_text": "text", "straight_key": "key", "straight_extended": "ext. text",
-    "sort_key": "sort_key", "compare": "compare", "clone": "clone"}
+    "sort_key": "sort_key", "plain_numbers": "plain", "compare": "compare", "clone": "clone"}
 
 
 def per_byte(figure, size):
@@ -38,7 +38,7 @@ def main():
     print("The peak is the bytes of heap, for a byte of text, that live at most while a document is read.")
     print("%-13s %8s  %-10s" % ("document", "bytes", "library")
           + "".join("%11s %7s" % (it, "ins") for it in OPERATIONS.values()) + "   peak")
-    for document in libraries[0][1]:
+    for document in dict.fromkeys(document for _, documents in libraries for document in documents):
         for name, documents in libraries:
             if document not in documents:
                 continue

@@ -23,6 +23,16 @@ size_t calls_bench_read(const unsigned char *text, size_t len, size_t rounds) {
   return rounds;
 }
 
+/* The buffer holds numbers with exponents up to 4 times as long as they are. */
+size_t calls_bench_plain_numbers(const unsigned char *text, size_t len, size_t rounds) {
+  struct vizhoniku_refusal refusal;
+  size_t size;
+  make_room(len);
+  for (size_t round = 0; round < rounds; round++)
+    if (vizhoniku_plain_numbers(text, len, buffer, buffer_size, &size, &refusal) != VIZHONIKU_ACCEPTED) return round;
+  return rounds;
+}
+
 /* What vizhoniku_text and vizhoniku_sort_key are. */
 typedef uint32_t writer_t(uint32_t mode, const unsigned char *text, size_t text_size, unsigned char *buffer,
                           size_t buffer_size, size_t *size, struct vizhoniku_refusal *refusal);
