@@ -15,15 +15,15 @@
  *   harness --peak-of OP FILE..  prints the same lines of that operation, with its name in the place of the word peak
  *
  * The documents of a file whose name ends in .json5 are of extended mode, and are only read. Those of a .rejected file are
- * no documents, and are only rejected. Those of a .exponents file are standard JSON but for the exponents of their numbers,
- * which are only written out.
+ * no documents, and are only rejected. Those of a .exponents file are standard JSON but for the exponents of their
+ * numbers, which are only written out.
  *
  * With NO_COUNTER set it opens no counter. PREFIX is what the names of the measured library's functions begin with.
  * WITH_EXTENDED is defined where the library reads extended mode, WITH_AST where it reads into trees, WITH_SORT_KEY where
  * it writes sort keys, WITH_DOCUMENT where it writes texts and sort keys of a tree with no value between, WITH_STRAIGHT
  * where it writes them while it parses, WITH_REJECT where it tells how often it rejects a text, WITH_EXPONENTS where
- * it writes numbers with exponents out, and WITH_MEMORY where memory.c is linked, as --peak needs it and as the times must
- * not have it.
+ * it writes numbers with exponents out, and WITH_MEMORY where memory.c is linked, as --peak needs it and as the times
+ * must not have it.
  * WITHOUT_VALUES is defined where it compares and clones no values, and WITH_READ_WRITE where it writes only what it has
  * just read. */
 #define _GNU_SOURCE

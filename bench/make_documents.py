@@ -5,8 +5,9 @@ With a size in bytes it writes documents of these kinds that are about so long e
 
 Each line of a file is one document. Those of a .json file are standard JSON without a fraction or an exponent, and only
 the catalog and the indented objects have blanks between their tokens. Those of a .json5 file are extended JSON with keys without
-quotes, single quotes, comments, decimals and hexadecimals. Those of a .rejected file have a fault at nine tenths. Those of
-a .exponents file are JSON in which each number has an exponent. The numbers come from a fixed seed, so that every run has the same documents.
+quotes, single quotes, comments, decimals and hexadecimals. Those of a .rejected file have a fault at nine tenths. Those
+of a .exponents file are JSON in which each number has an exponent. The numbers come from a fixed seed, so that every run
+has the same documents.
 """
 import json
 import os

@@ -351,8 +351,8 @@ static const char *const key_functions[] = {
     "vizhoniku_error_path",
 };
 
-/* The zeros of the text that the functions over zeros take, which is passed in the place of a key as that of the functions
- * behind them is, and that text with the fewest digits. */
+/* The zeros of the text that the functions over zeros take, which is passed in the place of a key as that of the
+ * functions behind them is, and that text with the fewest digits. */
 static struct text zeros, shortest;
 
 /* Why the text is rejected of which vizhoniku_error_path writes the path. */

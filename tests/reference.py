@@ -181,10 +181,11 @@ class Reader:
         self.extended = mode == EXTENDED
         self.at = 0
         self.depth = 0
-        # Of each array and object that is open, the index of its item or the key of its member that is read or due; None
-        # where no key has been read.
+        # Of each array and object that is open, the index of its item or the key of its member that is read or due;
+        # None where no key has been read.
         self.steps = []
-        # Whether the reader stands behind an item or a member, before the comma, and whether it met a comment with no end.
+        # Whether the reader stands behind an item or a member, before the comma, and whether it met a comment that has
+        # no end.
         self.is_behind = self.is_cut = False
 
     # The byte at which the reader stands as bytes of length 1, and none at the end.
@@ -591,16 +592,18 @@ def read(data, mode):
 
 # Numbers with an exponent.
 
-# A text by its tokens, as far as numbers are looked for in it: a string in double quotes, which may lack its end; a word;
-# or all that stands behind the first single quote, slash or backslash. What separates them is none of these.
-TOKEN = re.compile(rb"""(?P<string>"(?:[^"\\]|\\.)*(?:"|\\?\Z))|(?P<word>[^\x00-\x20,:\[\]{}"'/\\]+)|(?P<rest>['/\\].*)""",
-                   re.DOTALL)
+# A text by its tokens, as far as numbers are looked for in it: a string in double quotes, which may lack its end; a
+# word; or all that stands behind the first single quote, slash or backslash. What separates them is none of these.
+TOKEN = re.compile(rb"""(?P<string>"(?:[^"\\]|\\.)*(?:"|\\?\Z))
+    |(?P<word>[^\x00-\x20,:\[\]{}"'/\\]+)
+    |(?P<rest>['/\\].*)""", re.DOTALL | re.VERBOSE)
 NUMBER_WITH_EXPONENT = re.compile(rb"(-?)(0|[1-9][0-9]*)(?:\.([0-9]+))?[eE]([+-]?)([0-9]+)")
 
 
 def exact_number(word):
-    """The scale and the whole number of a number of RFC 8259 with an exponent, None where these take more than 38 digits,
-    and False where the word is no such number. The scale is that of the digits behind the point, less the exponent."""
+    """The scale and the whole number of a number of RFC 8259 with an exponent, None where these take more than 38
+    digits, and False where the word is no such number. The scale is how many digits stand behind the point, less the
+    exponent."""
     match = NUMBER_WITH_EXPONENT.fullmatch(word)
     if match is None:
         return False
@@ -684,9 +687,9 @@ def path_of(steps):
 
 
 def tree_or_paths(reader):
-    """The tree of a text; or why it is rejected, and the path of the innermost item or member with the fault. That is the
-    one that was read last, up to the comma behind it. There is a second path, that of the next one, where the text ends
-    in a comment between the two."""
+    """The tree of a text; or why it is rejected, and the path of the innermost item or member with the fault. That is
+    the one that was read last, up to the comma behind it. There is a second path, that of the next one, where the text
+    ends in a comment between the two."""
     try:
         return reader.document(), None, []
     except Rejection as rejection:

@@ -190,8 +190,8 @@ static struct text make(const struct shape *shape) {
   return text;
 }
 
-/* Each function of the library that reads a text, then those that read a sort key, and then those that reject no text, by
- * a number. */
+/* Each function of the library that reads a text, then those that read a sort key, and then those that reject no text,
+ * by a number. */
 enum function {
   CHECK, TEXT, SORT_KEY, TEXT_AND_KEY, PART, COMPARE, MESSAGE, KEY_CHECK, KEY_TEXT, KEY_PART, KEY_COUNT,
   KEY_CONTAINS, KEY_SET, KEY_REMOVE, KEY_MERGE, KEY_NUMBERS, ZEROS, TEXT_WITH_ZEROS,
