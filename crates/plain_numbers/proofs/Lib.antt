@@ -9,5 +9,6 @@ pub mod Runs
 pub mod Stops
 pub mod Joined
 pub mod Exact
+pub mod OwnDigits
 pub mod Found
 pub mod Documents

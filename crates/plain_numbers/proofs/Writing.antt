@@ -14,7 +14,7 @@ use Rattle.plain_numbers.specs.Expansion.{plain_of, plain, before, plain_before,
 use Rattle.plain_numbers.specs.Passing.{LacksExponent, Passes, word_length}
 use Rattle.plain_numbers.specs.Pieces.{Piece, other, word, piece_bytes, pieces}
 use Rattle.plain_numbers.specs.View.{parts_view, FindsNumber}
-use Rattle.plain_numbers.specs.Writing.{Keeps, WritesPlain, WritesWord}
+use Rattle.plain_numbers.specs.Writing.{Keeps, WritesPlain, WritesWord, WritesDirectly}
 use Rattle.plain_numbers.specs.declared.scan.Found.{Found}
 use Rattle.plain_numbers.proofs.Words.{word_stands}
 
@@ -61,6 +61,23 @@ number_full p offset r old new text fit is h full same c = as_plain _ (Some text
 
 pub number_written : (p : Parts) (offset : ℕ) (old new : Vec ℕ Global) (text : List ℕ) → fits (exact_value p) ≡ true → text ≡ number_text (exact_value p) → new.items ≡ old.items ++ text → vec_capacity old ≤ vec_capacity new → WritesWord (plain_of (Some p) []) offset (Ok tt) old new
 number_written p offset old new text fit is items c = as_plain _ (Some text) offset (Ok tt) old new (cond-true (fits (exact_value p)) _ _ fit ∙ ap Some (sym is)) items (kept_more old new text items c)
+
+pub directly_written : (b : Bool) (p : Parts) (offset : ℕ) (old new : Vec ℕ Global) → b ≡ true → WritesDirectly b p old new → WritesWord (plain_of (Some p) []) offset (Ok tt) old new
+directly_written true p offset old new e h = number_written p offset old new (number_text (exact_value p)) h.0 refl h.1.0 h.1.1
+directly_written false p offset old new e h = absurd (cc)
+
+moved_on : (q : Option (List ℕ)) (offset : ℕ) (r : Result (Unit {0}) PlainError) (old now new : Vec ℕ Global) → now.items ≡ old.items → vec_capacity old ≡ vec_capacity now → WritesPlain q offset r now new → WritesPlain q offset r old new
+moved_on None offset r old now new same c h = h
+moved_on (Some bytes) offset (Ok x) old now new same c h = h ∙ ap (λ items. items ++ bytes) same
+moved_on (Some bytes) offset (Err e) old now new same c h = (h.0, omega (arith, h.1, c, ap length same, old.ok.0, now.ok.0))
+
+-- where nothing was written before
+pub not_directly : (b : Bool) (p : Parts) (q : Option (List ℕ)) (offset : ℕ) (r : Result (Unit {0}) PlainError) (old now new : Vec ℕ Global) → b ≡ false → WritesDirectly b p old now → WritesWord q offset r now new → WritesWord q offset r old new
+not_directly true p q offset r old now new e h w = absurd (cc)
+not_directly false p q offset r old now new e h w = record {
+  writes = moved_on q offset r old now new h.0 h.1 w.writes;
+  keeps = keeps_on old now new (kept_same old now h.0 (omega (arith, h.1))) w.keeps;
+}
 
 -- ---- a text
 

@@ -1,7 +1,10 @@
 -- What is appended while a text is written out.
-use Rattle.std.specs.Prelude.{◌≡◌, ℕ, ◌+◌, ◌<◌, ◌≤◌, List, ◌++◌, length, Option, Some, None, Result, MatchResult, Vec, vec_len, vec_capacity}
+use Rattle.std.specs.Prelude.{◌≡◌, Bool, true, false, slice_index, ℕ, ◌+◌, ◌<◌, ◌≤◌, List, ◌++◌, length, Option, Some, None, Result, MatchResult, Vec, vec_len, vec_capacity}
 use Rattle.std.specs.declared.alloc.Global.{Global}
+use Rattle.std.specs.Str.Parse.{digits_value}
 use Rattle.jsonb_spec.specs.Text.Appending.{Extends}
+use Rattle.jsonb_spec.specs.Text.NumberText.{number_text}
+use Rattle.plain_numbers.specs.Exponent.{Parts, exact_value, fits}
 use Rattle.plain_numbers.specs.declared.error.PlainError.{PlainError}
 use Rattle.plain_numbers.specs.declared.error.PlainError.TheVariants.{DoesNotFit, OutOfMemory}
 
@@ -21,3 +24,16 @@ pub record WritesWord (plain : Option (List ℕ)) (offset : ℕ) (result : Resul
     (old new : Vec ℕ Global) : Type 0 where
   pub writes : WritesPlain plain offset result old new
   pub keeps : Keeps old new
+
+-- A number with these parts, written out, is appended, and it is in range; or nothing is.
+abbrev pub WritesDirectly : Bool → Parts → Vec ℕ Global → Vec ℕ Global → Type 0
+WritesDirectly true p old new = (fits (exact_value p) ≡ true)
+    × ((new.items ≡ old.items ++ number_text (exact_value p)) × (vec_capacity old ≤ vec_capacity new))
+WritesDirectly false p old new = (new.items ≡ old.items) × (vec_capacity old ≡ vec_capacity new)
+
+-- at most 19 digits, the first no zero, and this exponent of at most two digits
+pub record HasFewDigits (p : Parts) (exponent : ℕ) : Type 0 where
+  pub first : 48 < slice_index p.whole 0
+  pub digits : length p.whole + length p.behind ≤ 19
+  pub value : exponent ≡ digits_value 10 p.exponent
+  pub few : exponent < 100

@@ -2,6 +2,7 @@
 //! stays byte for byte as it is, so that extended mode, whose numbers are exact decimals, takes texts of RFC 8259.
 #![tactic(auto)]
 
+mod direct;
 pub mod error;
 pub mod laws;
 mod number;

@@ -16,11 +16,11 @@ use jsonb_value::number::{Decimal128, Number};
 /// The parts of a number with an exponent.
 #[derive(Clone, Copy)]
 pub(crate) struct Parts<'t> {
-    negative: bool,
-    whole: &'t [u8],
-    behind: &'t [u8],
-    down: bool,
-    exponent: &'t [u8],
+    pub(crate) negative: bool,
+    pub(crate) whole: &'t [u8],
+    pub(crate) behind: &'t [u8],
+    pub(crate) down: bool,
+    pub(crate) exponent: &'t [u8],
 }
 
 // 128 bits hold each number of so many digits.
@@ -170,9 +170,9 @@ fn digits_onto(number: u128, digits: &[u8]) -> Option<u128>
 // 64 bits hold each number of so many digits.
 const SHORT_DIGITS: usize = 19;
 
-// The number that digits write behind those of `number`, which has so many of them.
+/// The number that digits write behind those of `number`, which has so many of them.
 #[inline(always)]
-fn short_onto(number: u64, len: usize, digits: &[u8]) -> u64
+pub(crate) fn short_onto(number: u64, len: usize, digits: &[u8]) -> u64
     requires digits { AllDigits 10 digits.now }
     requires few { len + length digits.now ≤ 19 }
     requires below { number < 10 ^ len }

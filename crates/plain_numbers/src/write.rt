@@ -12,6 +12,7 @@ ghost use Rattle.plain_numbers.specs.Pieces.{pieces};
 ghost use Rattle.plain_numbers.specs.View.{parts_view, AreNumerals};
 ghost use Rattle.plain_numbers.specs.Writing.{Keeps, WritesWord};
 
+use crate::direct::append_directly;
 use crate::error::PlainError;
 use crate::number::{Parts, exact_number};
 use crate::scan::find_number;
@@ -85,6 +86,18 @@ fn append_plain(text: &[u8], buf: &mut Vec<u8>) -> Result<(), PlainError>
 
 // Appends a number with an exponent, written out, which ends before the offset.
 fn append_exact(parts: &Parts<'_>, end: usize, buf: &mut Vec<u8>) -> Result<(), PlainError>
+    requires { AreNumerals parts.now }
+    ensures { WritesWord (plain_of (Some (parts_view parts.now)) []) end result buf.old buf.new }
+{
+    if append_directly(parts, buf) {
+        return Ok(());
+    }
+    append_value(parts, end, buf)
+}
+
+// Appends a number with an exponent, written out of its value, which ends before the offset.
+#[inline(never)]
+fn append_value(parts: &Parts<'_>, end: usize, buf: &mut Vec<u8>) -> Result<(), PlainError>
     requires { AreNumerals parts.now }
     ensures { WritesWord (plain_of (Some (parts_view parts.now)) []) end result buf.old buf.new }
 {
