@@ -1,6 +1,6 @@
 /* Calls a function of the library over the sort key of the text on standard input: growth FUNCTION [PATH]; or over the
- * text: growth plain_numbers, growth masked_numbers, and growth error_path for a text that extended mode rejects. The
- * status is the one that the call returns. tests/growth counts the instructions of the call. */
+ * text: growth plain_numbers, growth masked_numbers, and growth error_path for a text that extended mode rejects with
+ * its numbers masked. The status is the one that the call returns. tests/growth counts the instructions of the call. */
 #include <stdio.h>
 #include <stdlib.h>
 #include <string.h>
@@ -21,7 +21,9 @@ int main(int count, char **words) {
     return (int)vizhoniku_plain_numbers(text, text_size, buffer, ROOM, &size, &refusal);
   if (!strcmp(words[1], "masked_numbers")) return (int)vizhoniku_masked_numbers(text, text_size, buffer, ROOM, &size);
   if (!strcmp(words[1], "error_path")) {
-    if (vizhoniku_check(VIZHONIKU_EXTENDED, text, text_size, &refusal) != VIZHONIKU_REFUSED) return 2;
+    if (vizhoniku_masked_numbers(text, text_size, key, ROOM, &key_size) ||
+        vizhoniku_check(VIZHONIKU_EXTENDED, key, key_size, &refusal) != VIZHONIKU_REFUSED)
+      return 2;
     return (int)vizhoniku_error_path(VIZHONIKU_EXTENDED, text, text_size, &refusal, buffer, ROOM, &size);
   }
   if (vizhoniku_sort_key(VIZHONIKU_STANDARD, text, text_size, key, ROOM, &key_size, &refusal)) return 2;

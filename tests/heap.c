@@ -531,7 +531,10 @@ static void measure_numbers(enum kind kind, int count) {
   /* It lacks its last byte, or what begins with its last number. */
   do text.size--;
   while ((kind == DEEP_ARRAYS || kind == DEEP_OBJECTS) && text.bytes[text.size] != '1');
-  vizhoniku_check(VIZHONIKU_EXTENDED, text.bytes, text.size, &why);
+  struct text masked = {__real_malloc(text.size), 0, text.size};
+  if (!masked.bytes || vizhoniku_masked_numbers(text.bytes, text.size, masked.bytes, masked.room, &masked.size)) exit(2);
+  vizhoniku_check(VIZHONIKU_EXTENDED, masked.bytes, masked.size, &why);
+  __real_free(masked.bytes);
   /* A path takes a request for each key of the text. */
   measure_over_key(kind, count, &text, ERROR_PATH, KEY_FUNCTIONS, count <= 70);
   __real_free(text.bytes);
