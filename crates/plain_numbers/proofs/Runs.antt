@@ -283,11 +283,11 @@ no_stop_next rest n b others front is q m f =
     no_stop_on rest n 1 front (subst (λ bs. HasNoStop (take 1 bs)) (sym is) (none, tt))
 
 -- a letter of an exponent belongs to a word
-pub mark_in_word : (b : ℕ) (others rest : List ℕ) → rest ≡ b ∷ others → is_mark b ≡ true → 0 < word_length rest
+pub mark_in_word : (b : ℕ) (others rest : List ℕ) → rest ≡ b ∷ others → is_mark b ≡ true → word_length rest ≡ 1 + word_length others
 unfolding word_length
 mark_in_word b others rest is m =
     let w : is_word_byte b ≡ true = by (b == 101) (b == 69) refl refl m in
-    omega (arith, ap (prefix_len is_word_byte) is, cond-true (is_word_byte b) (1 + prefix_len is_word_byte others) 0 w)
+    ap (prefix_len is_word_byte) is ∙ cond-true (is_word_byte b) (1 + prefix_len is_word_byte others) 0 w
   where
     same : (n : ℕ) → b ≡ n → is_word_byte n ≡ true → is_word_byte b ≡ true
     same n e x = subst (λ (m : ℕ). is_word_byte m ≡ true) (sym e) x

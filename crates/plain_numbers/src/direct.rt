@@ -33,6 +33,20 @@ fn append_sign(negative: bool, buf: &mut Vec<u8>) -> Result<(), AllocError>
     Ok(())
 }
 
+// Appends bytes, where there is room.
+#[inline(always)]
+fn append_piece(bytes: &[u8], buf: &mut Vec<u8>) -> Result<(), AllocError>
+    requires { vec_len buf.old + length bytes.now ≤ vec_capacity buf.old }
+    ensures succeeds { IsOk result }
+    ensures items { buf.new.items ≡ buf.old.items ++ bytes.now }
+    ensures capacity { vec_capacity buf.old ≤ vec_capacity buf.new }
+{
+    if bytes.is_empty() {
+        return Ok(());
+    }
+    buf.extend_from_slice(bytes)
+}
+
 // Appends a sign and four pieces, where there is room.
 #[inline(always)]
 fn append_pieces(
@@ -51,10 +65,10 @@ fn append_pieces(
     ensures capacity { vec_capacity buf.old ≤ vec_capacity buf.new }
 {
     append_sign(negative, buf)?;
-    buf.extend_from_slice(first)?;
-    buf.extend_from_slice(second)?;
-    buf.extend_from_slice(third)?;
-    buf.extend_from_slice(fourth)
+    append_piece(first, buf)?;
+    append_piece(second, buf)?;
+    append_piece(third, buf)?;
+    append_piece(fourth, buf)
 }
 
 // Appends a number below 1, where no more than 38 digits stand behind its point.

@@ -16,11 +16,11 @@ use jsonb_value::number::{Decimal128, Number};
 /// The parts of a number with an exponent.
 #[derive(Clone, Copy)]
 pub(crate) struct Parts<'t> {
-    pub(crate) negative: bool,
     pub(crate) whole: &'t [u8],
     pub(crate) behind: &'t [u8],
-    pub(crate) down: bool,
     pub(crate) exponent: &'t [u8],
+    pub(crate) negative: bool,
+    pub(crate) down: bool,
 }
 
 // 128 bits hold each number of so many digits.
@@ -29,6 +29,7 @@ const MOST_DIGITS: u128 = 38;
 const BOUND: u128 = 100_000_000_000_000_000_000_000_000_000_000_000_000;
 
 // How many digits the bytes begin with.
+#[inline(never)]
 fn digits_len(bytes: &[u8]) -> usize
     ensures len { result ≡ digits_length bytes.now }
     ensures within { result ≤ length bytes.now }
@@ -136,11 +137,11 @@ fn with_exponent<'t>(
         return None;
     }
     Some(Parts {
-        negative,
         whole,
         behind,
-        down,
         exponent,
+        negative,
+        down,
     })
 }
 

@@ -205,7 +205,7 @@ pub(crate) fn find_number(text: &[u8]) -> Option<Found<'_>>
         }
         let start = word_start(rest, at);
         let (_, from) = rest.split_at(start);
-        let len = at - start + word_len(behind);
+        let len = at - start + 1 + word_len(others);
         let (word, after) = from.split_at(len);
         if let Some(parts) = parts_of(word) {
             return Some(Found { from, len, parts });

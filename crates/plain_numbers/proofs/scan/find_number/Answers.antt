@@ -1,4 +1,4 @@
-use Rattle.std.proofs.Common.{◌+◌, arith, sym, subst, ap, ◌∙◌}
+use Rattle.std.proofs.Common.{◌+◌, ◌-◌, arith, sym, subst, ap, ◌∙◌}
 use Rattle.plain_numbers.proofs.Runs.{is_nil, mark_in_word, no_stop_next, no_stop_to, passes_all, passes_foreign, passes_string, passes_to_word, passes_word, word_whole}
 use Rattle.plain_numbers.specs.Exponent.{parts_of}
 use Rattle.plain_numbers.specs.Passing.{Passes}
@@ -39,29 +39,31 @@ returns-in-Some-parts_of-clause-found c =
     let at = c.stops.passed + c.stop_len.result in
     let calm = no_stop_to c.stops.rest.now _ c.stops.passed c.stop_len.result c.split_at.ensures.back c.stops.invariant.calm c.stop_len.ensures.passed in
     let from = c.split_at-in-stops-2.ensures.back in
-    let word = word_whole c.stops.rest.now _ _ at c.word_start-start.result c.word_len.result from c.split_at-in-stops.ensures.back c.word_start-start.ensures.covers c.word_len.ensures.word in
+    let marked = mark_in_word c.in-Some.byte.now c.in-Some.others.now _ c.in-Some.ensures.cases.0 (sym c.if-not-is_mark.ensures) in
+    let word = word_whole c.stops.rest.now _ _ at c.word_start-start.result (1 + c.word_len.result) from c.split_at-in-stops.ensures.back c.word_start-start.ensures.covers (omega (arith, c.word_len.ensures.word, marked)) in
     record {
       passes = subst (Passes c.args.text.now) (sym from) (passes_to_word c.args.text.now c.stops.rest.now at c.word_start-start.result c.stops.invariant.passes calm c.word_start-start.ensures.within (omega (arith, c.in-Some.ensures.cases.1, c.split_at-in-stops.ensures.back_len)) c.word_start-start.ensures.leaves);
-      word = word;
-      some = omega (arith, c.word_len.ensures.word, mark_in_word c.in-Some.byte.now c.in-Some.others.now _ c.in-Some.ensures.cases.0 (sym c.if-not-is_mark.ensures));
+      word = omega (arith, word);
+      some = omega arith;
       within = omega (arith, c.word_len.ensures.within, c.word_start-start.ensures.within, c.split_at-in-stops-2.ensures.back_len, c.split_at-in-stops.ensures.back_len, c.in-Some.ensures.cases.1);
       parts = c.in-Some-parts_of.ensures.exact ∙ ap parts_of c.split_at-in-stops-3.ensures.front;
       numerals = c.in-Some-parts_of.ensures.numerals;
     }
 
 pub stops-smaller : goal.stops-smaller
-stops-smaller c = omega (arith, c.split_at-in-stops-3.ensures.back_len, c.split_at-in-stops-2.ensures.back_len, c.word_start-start.ensures.within, c.word_len.ensures.word, mark_in_word c.in-Some.byte.now c.in-Some.others.now _ c.in-Some.ensures.cases.0 (sym c.if-not-is_mark.ensures))
+stops-smaller c = omega (arith, c.split_at-in-stops-3.ensures.back_len, c.split_at-in-stops-2.ensures.back_len, c.word_start-start.ensures.within)
 
 pub stops-preserved : goal.stops-preserved
 stops-preserved c =
     let at = c.stops.passed + c.stop_len.result in
     let calm = no_stop_to c.stops.rest.now _ c.stops.passed c.stop_len.result c.split_at.ensures.back c.stops.invariant.calm c.stop_len.ensures.passed in
     let from = c.split_at-in-stops-2.ensures.back in
-    let word = word_whole c.stops.rest.now _ _ at c.word_start-start.result c.word_len.result from c.split_at-in-stops.ensures.back c.word_start-start.ensures.covers c.word_len.ensures.word in
+    let marked = mark_in_word c.in-Some.byte.now c.in-Some.others.now _ c.in-Some.ensures.cases.0 (sym c.if-not-is_mark.ensures) in
+    let word = word_whole c.stops.rest.now _ _ at c.word_start-start.result (1 + c.word_len.result) from c.split_at-in-stops.ensures.back c.word_start-start.ensures.covers (omega (arith, c.word_len.ensures.word, marked)) in
     let to_word = subst (Passes c.args.text.now) (sym from) (passes_to_word c.args.text.now c.stops.rest.now at c.word_start-start.result c.stops.invariant.passes calm c.word_start-start.ensures.within (omega (arith, c.in-Some.ensures.cases.1, c.split_at-in-stops.ensures.back_len)) c.word_start-start.ensures.leaves) in
     record {
-      passes = passes_word c.args.text.now _ c.split_at-in-stops-3.result.1.now _ c.split_at-in-stops-3.result.0.now to_word word
-          (omega (arith, c.word_len.ensures.word, mark_in_word c.in-Some.byte.now c.in-Some.others.now _ c.in-Some.ensures.cases.0 (sym c.if-not-is_mark.ensures)))
+      passes = passes_word c.args.text.now _ c.split_at-in-stops-3.result.1.now (at - c.word_start-start.result + 1 + c.word_len.result) c.split_at-in-stops-3.result.0.now to_word (omega (arith, word))
+          (omega arith)
           c.split_at-in-stops-3.ensures.front c.split_at-in-stops-3.ensures.back (sym c.in_default-parts_of.ensures.exact);
       within = omega arith;
       calm = tt;
