@@ -29,7 +29,7 @@ const MOST_DIGITS: u128 = 38;
 const BOUND: u128 = 100_000_000_000_000_000_000_000_000_000_000_000_000;
 
 // How many digits the bytes begin with.
-#[inline(never)]
+#[inline(always)]
 fn digits_len(bytes: &[u8]) -> usize
     ensures len { result ≡ digits_length bytes.now }
     ensures within { result ≤ length bytes.now }
@@ -39,6 +39,15 @@ fn digits_len(bytes: &[u8]) -> usize
         len += 1;
     }
     len
+}
+
+// How many digits stand behind a point. Apart, so that its loop keeps no other count.
+#[inline(never)]
+fn fraction_len(bytes: &[u8]) -> usize
+    ensures len { result ≡ digits_length bytes.now }
+    ensures within { result ≤ length bytes.now }
+{
+    digits_len(bytes)
 }
 
 // No digits, or a zero and more of them, where so many stand first.
@@ -74,7 +83,7 @@ fn with_fraction<'t>(negative: bool, whole: &'t [u8], bytes: &'t [u8]) -> Option
     if *point != b'.' {
         return with_mark(negative, whole, &[], bytes);
     }
-    let len = digits_len(digits);
+    let len = fraction_len(digits);
     if len == 0 {
         return None;
     }
