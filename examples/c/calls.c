@@ -97,6 +97,28 @@ static void write_plain(const char *text, size_t buffer_size) {
   printf("\n");
 }
 
+/* A text whose numbers with an exponent are masked. */
+static void write_masked(const char *text, size_t buffer_size) {
+  unsigned char buffer[40];
+  size_t size = 99;
+  uint32_t status = vizhoniku_masked_numbers(BYTES(text), buffer, buffer_size, &size);
+  printf("masked %s: status %u size %zu", text, (unsigned)status, size);
+  if (status == VIZHONIKU_ACCEPTED) printf(" %.*s", (int)size, (const char *)buffer);
+  printf("\n");
+}
+
+/* The path at which a text is rejected. */
+static void write_path(uint32_t mode, const char *text, size_t buffer_size) {
+  unsigned char buffer[40];
+  size_t size = 99;
+  struct vizhoniku_refusal refusal;
+  vizhoniku_check(mode, BYTES(text), &refusal);
+  uint32_t status = vizhoniku_error_path(mode, BYTES(text), &refusal, buffer, buffer_size, &size);
+  printf("path of %s: status %u size %zu", text, (unsigned)status, size);
+  if (status == VIZHONIKU_ACCEPTED) printf(" %.*s", (int)size, (const char *)buffer);
+  printf("\n");
+}
+
 /* The zeros of a text, the text with them, and the zeros of its second and third number. */
 static void write_zeros(const char *text, const char *shortest, size_t buffer_size) {
   unsigned char zeros[40], buffer[40];
@@ -429,6 +451,12 @@ int main(void) {
   write_plain("[1e-7, \"1e5\", 1.50E+1]", 40);
   write_plain("[1e-7]", 5);
   write_plain("[1, 1e400]", 40);
+  write_masked("[1e-7, \"1e5\", 1.5E+1, 1e400]", 40);
+  write_masked("[1e-7]", 5);
+  write_path(VIZHONIKU_EXTENDED, "{'values': [1e2, 1e400]}", 40);
+  write_path(VIZHONIKU_STANDARD, "{\"a/b\":{\"c\":1,\"c\":2}}", 40);
+  write_path(VIZHONIKU_STANDARD, "[1, x]", 1);
+  write_path(9, "1", 40);
   make_key("{a: [1.50, {b: 2}], c: 3}");
   count_numbers(0, key_size);
   count_numbers(4, key_size - 11);
