@@ -2,6 +2,7 @@
 use Rattle.std.specs.Prelude.{◌≡◌, Bool, true, false, slice_index, ℕ, ◌+◌, ◌<◌, ◌≤◌, List, ◌++◌, length, Option, Some, None, Result, MatchResult, Vec, vec_len, vec_capacity}
 use Rattle.std.specs.declared.alloc.Global.{Global}
 use Rattle.std.specs.Str.Parse.{digits_value}
+use Rattle.jsonb_spec.specs.Ascii as ascii
 use Rattle.jsonb_spec.specs.Text.Appending.{Extends}
 use Rattle.jsonb_spec.specs.Text.NumberText.{number_text}
 use Rattle.plain_numbers.specs.Exponent.{Parts, exact_value, fits}
@@ -33,7 +34,7 @@ WritesDirectly false p old new = (new.items ≡ old.items) × (vec_capacity old 
 
 -- at most 19 digits, the first no zero, and this exponent of at most two digits
 pub record HasFewDigits (p : Parts) (exponent : ℕ) : Type 0 where
-  pub first : 48 < slice_index p.whole 0
+  pub first : ascii.digit_zero < slice_index p.whole 0
   pub digits : length p.whole + length p.behind ≤ 19
   pub value : exponent ≡ digits_value 10 p.exponent
   pub few : exponent < 100

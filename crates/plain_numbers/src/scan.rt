@@ -1,13 +1,12 @@
 //! Where words and numbers stand in the bytes of a text.
-ghost use Rattle.std.specs.Prelude.{◌≡◌, [], ◌≤◌, ◌<◌, ◌+◌, ◌-◌, length, take, drop, IfNone, IfSome, if◌then◌else◌, ◌==◌};
-ghost use Rattle.std.specs.Int.{w64, trailing_zeros};
+ghost use Rattle.std.specs.Prelude.{◌≡◌, [], ◌≤◌, ◌<◌, ◌+◌, ◌-◌, length, take, drop, IfNone, IfSome};
 ghost use Rattle.plain_numbers.specs.Passing.{HasNoStop, LeavesWord, Passes, PassesString, is_stop, is_word_byte, word_length};
 ghost use Rattle.plain_numbers.specs.Pieces.{is_foreign};
 ghost use Rattle.plain_numbers.specs.View.{FindsNumber};
 
 use crate::number::{Parts, is_mark, parts_of};
 use std::simd::prelude::*;
-use text_common::plain::plain_len;
+use text_common::plain::{first_set, plain_len};
 
 // A byte that stands in no text of RFC 8259 but in strings.
 #[inline(always)]
@@ -40,18 +39,6 @@ fn is_stop(byte: u8) -> bool
     byte == b'"' || (is_mark(byte) || is_foreign(byte))
 }
 
-// The index of the lowest bit that is set, or 16 where none is.
-#[inline(always)]
-fn first_set(mask: u64) -> usize
-    ensures { result ≡ (if mask == 0 then 16 else trailing_zeros w64 mask) }
-{
-    if mask == 0 {
-        16
-    } else {
-        mask.trailing_zeros() as usize
-    }
-}
-
 // How many of the first 16 bytes stand before the first at which the search stops.
 #[inline(always)]
 fn near_stop(bytes: &[u8]) -> usize
@@ -63,7 +50,7 @@ fn near_stop(bytes: &[u8]) -> usize
     let marks = lanes.simd_eq(u8x16::splat(b'e')) | lanes.simd_eq(u8x16::splat(b'E'));
     let quotes = lanes.simd_eq(u8x16::splat(b'"')) | lanes.simd_eq(u8x16::splat(b'\''));
     let slashes = lanes.simd_eq(u8x16::splat(b'/')) | lanes.simd_eq(u8x16::splat(b'\\'));
-    first_set((quotes | marks | slashes).to_bitmask())
+    first_set((quotes | marks | slashes).to_bitmask(), 16)
 }
 
 // How many bytes stand before the first at which the search stops, byte by byte.
