@@ -5,7 +5,9 @@
  *	  search.
  *
  * The document is made a jsonb, the server's function is called with it, and
- * where that answers with a jsonb it becomes a document.
+ * where that answers with a jsonb it becomes a document.  A jsonpath of nothing
+ * but names, such as $.user.age, is followed in the key where it leads from
+ * object to object.
  *
  *-------------------------------------------------------------------------
  */
@@ -39,7 +41,18 @@ typedef struct
 	struct varlena *path;
 	VjsonWanted wanted;
 	bool		wants_all;		/* whether it looks at members of any name */
+	int			steps;			/* that lead to its parts; NO_STEPS where none does */
+	bool		is_names;		/* whether it has nothing else */
+	bool		is_lax;
 } KnownPath;
+
+/* What is known of the part to which the names of a jsonpath lead. */
+typedef enum
+{
+	FOUND,
+	NOT_THERE,
+	UNKNOWN						/* the server's function tells */
+} Finding;
 
 
 /*
@@ -202,28 +215,48 @@ add_names(VjsonWanted *wanted, JsonPathItem item)
 }
 
 /*
- * The steps that lead from the document to the parts that the jsonpath answers,
- * as far as names tell them.  What doesn't begin at the document answers with
- * none of its parts.  False if there are too many.
+ * Keep the steps that lead from the document to the parts that the jsonpath
+ * answers, as far as names tell them.  What doesn't begin at the document
+ * answers with none of its parts.  False if there are too many.
  */
 static bool
-add_steps(VjsonWanted *wanted, JsonPathItem item)
+know_steps(KnownPath *known, JsonPathItem item)
 {
 	JsonPathItem next;
 
-	wanted->steps = item.type == jpiRoot ? 0 : NO_STEPS;
-	while (wanted->steps >= 0 && jspGetNext(&item, &next))
+	known->steps = item.type == jpiRoot ? 0 : NO_STEPS;
+	known->is_names = known->steps == 0;
+	while (known->steps >= 0 && jspGetNext(&item, &next))
 	{
 		item = next;
+		known->is_names &= item.type == jpiKey;
 		if (item.type == jpiAnyArray || item.type == jpiIndexArray || item.type == jpiFilter)
 			continue;
 		if (item.type != jpiKey)
 			break;
-		if (wanted->steps == MOST_NAMES)
+		if (known->steps == MOST_NAMES)
+		{
+			known->is_names = false;
 			return false;
-		wanted->step[wanted->steps++] = name_of_item(&item);
+		}
+		known->wanted.step[known->steps++] = name_of_item(&item);
 	}
-	return wanted->steps != 0;
+	return true;
+}
+
+/* Note how the names begin. */
+static void
+note_first_bytes(VjsonWanted *wanted)
+{
+	memset(wanted->first_bytes, 0, sizeof wanted->first_bytes);
+	wanted->last_first = -1;
+	for (int i = 0; i < wanted->count; i++)
+	{
+		unsigned char first = wanted->names[i].size > 0 ? wanted->names[i].at[0] : 0;
+
+		wanted->first_bytes[first / 64] |= UINT64CONST(1) << first % 64;
+		wanted->last_first = first;
+	}
 }
 
 /* Keep the jsonpath, and which members it looks at. */
@@ -231,23 +264,28 @@ static void
 know_path(KnownPath *known, const struct varlena *path, bool answers_parts)
 {
 	MemoryContext caller = MemoryContextSwitchTo(known->context);
+	JsonPath   *copy;
 	JsonPathItem item;
 
 	known->path = NULL;
 	MemoryContextReset(known->context);
-	known->path = palloc(VARSIZE(path));
-	memcpy(known->path, path, VARSIZE(path));
-	jspInit(&item, (JsonPath *) known->path);
+	copy = palloc(VARSIZE(path));
+	memcpy(copy, path, VARSIZE(path));
+	jspInit(&item, copy);
 	known->wanted.count = 0;
-	known->wanted.steps = NO_STEPS;
-	known->wants_all = true;
-	known->wants_all = !add_names(&known->wanted, item) || (answers_parts && !add_steps(&known->wanted, item));
+	known->wants_all = !add_names(&known->wanted, item);
+	note_first_bytes(&known->wanted);
+	if (!know_steps(known, item) || known->steps == 0)
+		known->wants_all |= answers_parts;
+	known->wanted.steps = answers_parts ? known->steps : NO_STEPS;
+	known->is_lax = (copy->header & JSONPATH_LAX) != 0;
+	known->path = (struct varlena *) copy;
 	MemoryContextSwitchTo(caller);
 }
 
-/* Which members the jsonpath looks at that is the second argument. NULL for all. It is kept for the next calls. */
-static const VjsonWanted *
-wanted_by_path(FunctionCallInfo fcinfo, bool answers_parts)
+/* The jsonpath that is the second argument. It is kept for the next calls. */
+static const KnownPath *
+known_path(FunctionCallInfo fcinfo, bool answers_parts)
 {
 	struct varlena *path = PG_GETARG_VARLENA_P(1);
 	KnownPath  *known = fcinfo->flinfo->fn_extra;
@@ -261,7 +299,39 @@ wanted_by_path(FunctionCallInfo fcinfo, bool answers_parts)
 	if (known->path == NULL || VARSIZE(known->path) != VARSIZE(path) ||
 		memcmp(known->path, path, VARSIZE(path)) != 0)
 		know_path(known, path, answers_parts);
+	return known;
+}
+
+/* Which members it looks at. NULL for all. */
+static const VjsonWanted *
+wanted_by_path(FunctionCallInfo fcinfo, bool answers_parts)
+{
+	const KnownPath *known = known_path(fcinfo, answers_parts);
+
 	return known->wants_all ? NULL : &known->wanted;
+}
+
+/*
+ * Follow the names of a jsonpath that has nothing else.  Where it leads to what
+ * isn't an object, or to no member and that is an error, the server's function
+ * goes on; and also where the third argument has to be rejected.
+ */
+static Finding
+find_by_names(FunctionCallInfo fcinfo, const KnownPath *known, VjsonParts *parts, Range *part)
+{
+	if (!known->is_names)
+		return UNKNOWN;
+	if (PG_NARGS() > 2 && kind_of(get_whole(PG_GETARG_VARLENA_PP(2), parts)) != VIZHONIKU_OBJECT)
+		return UNKNOWN;
+	*part = get_whole(PG_GETARG_VARLENA_PP(0), parts);
+	for (int i = 0; i < known->steps; i++)
+	{
+		if (kind_of(*part) != VIZHONIKU_OBJECT)
+			return UNKNOWN;
+		if (!find_member(*part, known->wanted.step[i], part))
+			return known->is_lax ? NOT_THERE : UNKNOWN;
+	}
+	return FOUND;
 }
 
 
@@ -276,6 +346,19 @@ answer_by_path(FunctionCallInfo fcinfo, PGFunction function)
 	return call_by_jsonb(fcinfo, function, FIRST | THIRD, wanted_by_path(fcinfo, false));
 }
 
+/* Whether the jsonpath finds a part. */
+static Datum
+existence_by_path(FunctionCallInfo fcinfo, PGFunction function)
+{
+	VjsonParts	parts;
+	Range		part;
+	Finding		finding = find_by_names(fcinfo, known_path(fcinfo, false), &parts, &part);
+
+	if (finding != UNKNOWN)
+		PG_RETURN_BOOL(finding == FOUND);
+	return answer_by_path(fcinfo, function);
+}
+
 static Datum
 document_by_path(FunctionCallInfo fcinfo, PGFunction function)
 {
@@ -284,29 +367,42 @@ document_by_path(FunctionCallInfo fcinfo, PGFunction function)
 	return fcinfo->isnull ? answer : vjson_of_jsonb(answer);
 }
 
+static Datum
+first_by_path(FunctionCallInfo fcinfo, PGFunction function)
+{
+	VjsonParts	parts;
+	Range		part;
+
+	switch (find_by_names(fcinfo, known_path(fcinfo, true), &parts, &part))
+	{
+		case FOUND:
+			PG_RETURN_POINTER(vjson_part(&parts, part));
+		case NOT_THERE:
+			PG_RETURN_NULL();
+		default:
+			return document_by_path(fcinfo, function);
+	}
+}
+
 /* Put each item of the array that the server's function answers into the set that is answered. */
 static Datum
 rows_by_path(FunctionCallInfo fcinfo, PGFunction function)
 {
 	ReturnSetInfo *set = (ReturnSetInfo *) fcinfo->resultinfo;
 	Datum		array = call_by_jsonb(fcinfo, function, FIRST | THIRD, wanted_by_path(fcinfo, true));
+	JsonbContainer *items = &DatumGetJsonbP(array)->root;
 	MemoryContext caller = CurrentMemoryContext;
 	MemoryContext row = AllocSetContextCreate(caller, "an item of a jsonpath", ALLOCSET_DEFAULT_SIZES);
-	JsonbIterator *items = JsonbIteratorInit(&DatumGetJsonbP(array)->root);
-	JsonbIteratorToken token;
-	JsonbValue	item;
 
 	InitMaterializedSRF(fcinfo, MAT_SRF_USE_EXPECTED_DESC | MAT_SRF_BLESS);
-	while ((token = JsonbIteratorNext(&items, &item, true)) != WJB_DONE)
+	for (uint32 i = 0; i < JsonContainerSize(items); i++)
 	{
 		Datum		document;
 		bool		is_null = false;
 
 		CHECK_FOR_INTERRUPTS();
-		if (token != WJB_ELEM)
-			continue;
 		MemoryContextSwitchTo(row);
-		document = vjson_of_jsonb(JsonbPGetDatum(JsonbValueToJsonb(&item)));
+		document = vjson_of_item(items, i);
 		tuplestore_putvalues(set->setResult, set->setDesc, &document, &is_null);
 		MemoryContextSwitchTo(caller);
 		MemoryContextReset(row);
@@ -323,18 +419,18 @@ name(PG_FUNCTION_ARGS) \
 	return how(fcinfo, function); \
 }
 
-BY_PATH(vjson_path_exists_opr, answer_by_path, jsonb_path_exists_opr)
+BY_PATH(vjson_path_exists_opr, existence_by_path, jsonb_path_exists_opr)
 BY_PATH(vjson_path_match_opr, answer_by_path, jsonb_path_match_opr)
-BY_PATH(vjson_path_exists, answer_by_path, jsonb_path_exists)
-BY_PATH(vjson_path_exists_tz, answer_by_path, jsonb_path_exists_tz)
+BY_PATH(vjson_path_exists, existence_by_path, jsonb_path_exists)
+BY_PATH(vjson_path_exists_tz, existence_by_path, jsonb_path_exists_tz)
 BY_PATH(vjson_path_match, answer_by_path, jsonb_path_match)
 BY_PATH(vjson_path_match_tz, answer_by_path, jsonb_path_match_tz)
 BY_PATH(vjson_path_query, rows_by_path, jsonb_path_query_array)
 BY_PATH(vjson_path_query_tz, rows_by_path, jsonb_path_query_array_tz)
 BY_PATH(vjson_path_query_array, document_by_path, jsonb_path_query_array)
 BY_PATH(vjson_path_query_array_tz, document_by_path, jsonb_path_query_array_tz)
-BY_PATH(vjson_path_query_first, document_by_path, jsonb_path_query_first)
-BY_PATH(vjson_path_query_first_tz, document_by_path, jsonb_path_query_first_tz)
+BY_PATH(vjson_path_query_first, first_by_path, jsonb_path_query_first)
+BY_PATH(vjson_path_query_first_tz, first_by_path, jsonb_path_query_first_tz)
 
 
 /*

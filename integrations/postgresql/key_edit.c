@@ -34,8 +34,8 @@ PG_FUNCTION_INFO_V1(vjson_set_lax);
 PG_FUNCTION_INFO_V1(vjson_insert);
 
 /* The keys of two values that begin with different bytes, and are one byte each. */
-static const unsigned char NULL_KEY[] = {0xD3};
-static const unsigned char TRUE_KEY[] = {0x16};
+static const unsigned char null_key[] = {NULL_KEY};
+static const unsigned char true_key[] = {TRUE_KEY};
 
 /* A document, of which nothing is written to: its key and the zeros of its numbers. */
 typedef struct
@@ -78,28 +78,7 @@ get_document(Datum datum)
 static Datum
 make_datum(const Document *document)
 {
-	uint32		stored_size = (uint32) document->key.size;
-	size_t		size = VARHDRSZ + FORM_SIZE + KEY_SIZE_SIZE + document->key.size + document->zeros.size;
-	struct varlena *result;
-	char	   *into;
-
-	if (size > MaxAllocSize)
-		ereport(ERROR, (errcode(ERRCODE_PROGRAM_LIMIT_EXCEEDED), errmsg("vjson value is too large")));
-	result = palloc(size);
-	into = VARDATA(result);
-	if (document->zeros.size == 0)
-	{
-		*into++ = KEY_ALONE;
-		memcpy(into, document->key.at, document->key.size);
-		SET_VARSIZE(result, VARHDRSZ + FORM_SIZE + document->key.size);
-		return PointerGetDatum(result);
-	}
-	*into++ = KEY_AND_ZEROS;
-	memcpy(into, &stored_size, KEY_SIZE_SIZE);
-	memcpy(into + KEY_SIZE_SIZE, document->key.at, document->key.size);
-	memcpy(into + KEY_SIZE_SIZE + document->key.size, document->zeros.at, document->zeros.size);
-	SET_VARSIZE(result, size);
-	return PointerGetDatum(result);
+	return PointerGetDatum(vjson_of_key(document->key, document->zeros));
 }
 
 
@@ -187,7 +166,7 @@ append_zeros(KeyZeros *zeros, const Document *document, size_t first, size_t num
 static void
 count_kept(Range key, const Change *change, size_t *before, size_t *after)
 {
-	Change		mark = {SET, change->path, {NULL_KEY, 1}, change->what == SET && change->create};
+	Change		mark = {SET, change->path, {null_key, 1}, change->what == SET && change->create};
 	Range		one;
 	Range		other;
 	size_t		none;
@@ -195,7 +174,7 @@ count_kept(Range key, const Change *change, size_t *before, size_t *after)
 
 	if (!change_key(key, &mark, &one))
 		vjson_raise_corrupted();
-	mark.part.at = TRUE_KEY;
+	mark.part.at = true_key;
 	if (!change_key(key, &mark, &other) || one.size != other.size)
 		vjson_raise_corrupted();
 	while (place < one.size && one.at[place] == other.at[place])

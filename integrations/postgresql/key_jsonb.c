@@ -13,6 +13,10 @@
  */
 #include "postgres.h"
 
+#ifdef __SSE2__
+#include <emmintrin.h>
+#endif
+
 #include "fmgr.h"
 #include "mb/pg_wchar.h"
 #include "miscadmin.h"
@@ -25,30 +29,12 @@
 #include "key_walk.h"
 #include "vjson.h"
 
-/* The first bytes of keys, and what ends texts, arrays and objects. */
-#define FALSE_KEY		0x15
-#define TRUE_KEY		0x16
-#define FIRST_NEGATIVE	0x38
-#define LAST_NEGATIVE	0x7E
-#define ZERO			0x80
-#define LAST_POSITIVE	0xC7
-#define OBJECT_KEY		0xD1
-#define ARRAY_KEY		0xD2
-#define NULL_KEY		0xD3
-#define END				0x00
-#define END_OF_TEXT		0x01
-#define ZERO_BYTE		0xFF
-
-/* The exponent of a number: its first byte without digits before the point, and the one that a second byte follows. */
-#define NO_EXPONENT		0xA0
-#define MORE_EXPONENT	0x81
-
 /* Pairs of digits that a number has at most, and digits of which each number is an int64. */
 #define MOST_PAIRS		20
 #define INT64_DIGITS	18
 
-/* The most arrays and objects that are open at once. */
-#define MOST_LEVELS		512
+/* What a jsonb takes at most of a part, beside the bytes of a text or a number: its entry, a header, and zeros before. */
+#define MOST_OF_PART	(sizeof(JEntry) + sizeof(uint32) + ALIGNOF_INT)
 
 /* Steps that aren't those of a jsonpath. */
 #define OTHER_STEPS		(-1)
@@ -80,11 +66,12 @@ typedef struct
 	JsonbValue *parts;
 	size_t		count;
 	size_t		room;
+	size_t		size;			/* what the jsonb takes at most of the parts that were read */
 	char	   *block;			/* what is left of the last one */
 	size_t		block_size;
 	bool		ascii_alone;	/* whether other strings go by the text */
 	const VjsonWanted *wanted;	/* members; NULL where all are */
-	bool		is_cut;			/* whether it ended before the key did */
+	bool		is_cut;			/* whether it ends before the key does */
 } Reader;
 
 /* An array or an object whose end isn't reached. */
@@ -92,6 +79,7 @@ typedef struct
 {
 	size_t		first;			/* of its parts; it is itself the part before */
 	bool		is_object;
+	bool		chooses;		/* whether members that aren't wanted are passed */
 	int			steps;			/* that led here; OTHER_STEPS where others did */
 } Level;
 
@@ -123,24 +111,19 @@ next_byte(Reader *reader)
 	return *reader->at++;
 }
 
-/*
- * The first zero byte, or NULL.  Most names and strings are short, and of their
- * first bytes eight are looked at together: a byte below 1 borrows from its
- * highest bit.
- */
+/* The first zero byte, or NULL.  Most names and strings are short, and of their first bytes 16 are looked at together. */
 static inline const unsigned char *
 find_zero(const unsigned char *at, const unsigned char *end)
 {
-#ifndef WORDS_BIGENDIAN
-	for (int i = 0; i < 4 && end - at >= (ptrdiff_t) sizeof(uint64); i++)
+#ifdef __SSE2__
+	for (int i = 0; i < 4 && end - at >= (ptrdiff_t) sizeof(__m128i); i++)
 	{
-		uint64		bytes;
+		__m128i		bytes = _mm_loadu_si128((const __m128i *) at);
+		int			zeros = _mm_movemask_epi8(_mm_cmpeq_epi8(bytes, _mm_setzero_si128()));
 
-		memcpy(&bytes, at, sizeof bytes);
-		bytes = (bytes - UINT64CONST(0x0101010101010101)) & ~bytes & UINT64CONST(0x8080808080808080);
-		if (bytes != 0)
-			return at + pg_rightmost_one_pos64(bytes) / BITS_PER_BYTE;
-		at += sizeof bytes;
+		if (zeros != 0)
+			return at + pg_rightmost_one_pos32((uint32) zeros);
+		at += sizeof(__m128i);
 	}
 #endif
 	return memchr(at, 0, end - at);
@@ -151,17 +134,6 @@ static inline int
 compare_first(const unsigned char *one, size_t size, const unsigned char *other, size_t other_size)
 {
 	return size > 0 && other_size > 0 ? (int) *one - (int) *other : 0;
-}
-
-static bool
-is_ascii(const char *text, int size)
-{
-	for (int i = 0; i < size; i++)
-	{
-		if (IS_HIGHBIT_SET(text[i]))
-			return false;
-	}
-	return true;
 }
 
 /* Take the text of a string or of a name.  False if it is one that goes by the text of the whole. */
@@ -184,8 +156,9 @@ read_text(Reader *reader, JsonbValue *value)
 	value->type = jbvString;
 	value->val.string.len = (int) (zero - start);
 	value->val.string.val = unconstify(char *, (const char *) start);
+	reader->size += MOST_OF_PART + (zero - start);
 	reader->at = zero + 2;
-	return !reader->ascii_alone || is_ascii(value->val.string.val, value->val.string.len);
+	return !reader->ascii_alone || is_ascii(start, zero - start);
 }
 
 /* Pass the zeros of the numbers that were passed. */
@@ -221,7 +194,7 @@ static Numeric
 read_number(Reader *reader)
 {
 	const unsigned char *start = reader->at - 1;
-	unsigned char flipped = *start < ZERO ? 0xFF : 0;
+	unsigned char flipped = *start < ZERO_KEY ? 0xFF : 0;
 	unsigned char byte = *start ^ flipped;
 	int			exponent = byte - NO_EXPONENT;
 	int64		digits = 0;
@@ -232,7 +205,7 @@ read_number(Reader *reader)
 	pass_zeros(reader);
 	if (!key_zeros_next(&reader->zeros, &zeros))
 		vjson_raise_corrupted();
-	if (byte == ZERO)
+	if (byte == ZERO_KEY)
 		return int64_div_fast_to_numeric(0, zeros);
 	if (byte == MORE_EXPONENT)
 		exponent = (next_byte(reader) ^ flipped) - 0xFF;
@@ -414,7 +387,7 @@ takes_end(Reader *reader, bool is_object)
  * What isn't taken
  */
 
-/* Behind the text that begins here. */
+/* Behind the next zero byte that isn't one of a text, and the byte that follows it. */
 static inline const unsigned char *
 behind_text(const unsigned char *at, const unsigned char *end)
 {
@@ -430,51 +403,42 @@ behind_text(const unsigned char *at, const unsigned char *end)
 	return at;
 }
 
-/* Behind the number that begins here. */
+/*
+ * Behind the number that begins here.  Its last byte is even, or odd where it is
+ * negative, and of its bytes eight are looked at together.
+ */
 static inline const unsigned char *
 behind_number(const unsigned char *at, const unsigned char *end)
 {
-	unsigned char flipped = *at < ZERO ? 0xFF : 0;
+	bool		is_negative = *at < ZERO_KEY;
+	unsigned char flipped = is_negative ? 0xFF : 0;
+	uint64		bytes;
 
-	if (*at == ZERO)
+	if (*at == ZERO_KEY)
 		return at + 1;
-	if ((*at ^ flipped) == MORE_EXPONENT)
-		at++;
-	do
+	at += (*at ^ flipped) == MORE_EXPONENT ? 2 : 1;
+#ifndef WORDS_BIGENDIAN
+	if (likely(end - at >= (ptrdiff_t) sizeof bytes))
 	{
-		if (unlikely(++at >= end))
-			vjson_raise_corrupted();
-	} while ((*at ^ flipped) & 1);
-	return at + 1;
+		memcpy(&bytes, at, sizeof bytes);
+		bytes = (is_negative ? bytes : ~bytes) & UINT64CONST(0x0101010101010101);
+		if (likely(bytes != 0))
+			return at + pg_rightmost_one_pos64(bytes) / BITS_PER_BYTE + 1;
+	}
+#endif
+	for (; at < end; at++)
+	{
+		if (((*at ^ flipped) & 1) == 0)
+			return at + 1;
+	}
+	vjson_raise_corrupted();
 }
 
 /*
- * Behind the scalar that begins here, whose numbers are counted.  NULL if an
- * array or an object begins here.
+ * Behind the array or the object that begins here, whose numbers are counted.
+ * No number has a zero byte, so that in an object the next one ends the name
+ * behind a number, or the object.
  */
-static inline const unsigned char *
-behind_scalar(const unsigned char *at, const unsigned char *end, size_t *numbers)
-{
-	unsigned char first;
-
-	if (unlikely(at == end))
-		vjson_raise_corrupted();
-	first = *at;
-	if (first == STRING_KEY)
-		return behind_text(at + 1, end);
-	if (is_number(first))
-	{
-		++*numbers;
-		return behind_number(at, end);
-	}
-	if (first == OBJECT_KEY || first == ARRAY_KEY)
-		return NULL;
-	if (first != FALSE_KEY && first != TRUE_KEY && first != NULL_KEY)
-		vjson_raise_corrupted();
-	return at + 1;
-}
-
-/* Behind the array or the object that begins here, whose numbers are counted. */
 static const unsigned char *
 behind_container(const unsigned char *at, const unsigned char *end, size_t *numbers)
 {
@@ -485,29 +449,47 @@ behind_container(const unsigned char *at, const unsigned char *end, size_t *numb
 
 	for (;;)
 	{
-		const unsigned char *next;
+		bool		is_closed;
+		unsigned char first;
 
 		CHECK_FOR_INTERRUPTS();
-		if (at < end && *at == END && (!in_object || (end - at > 1 && at[1] == END)))
+		if (in_object)
 		{
-			at += in_object ? 2 : 1;
+			at = behind_text(at, end);
+			is_closed = at[-1] == END;
+		}
+		else
+		{
+			is_closed = at < end && *at == END;
+			at += is_closed;
+		}
+		if (is_closed)
+		{
 			if (levels == 0)
 				break;
 			in_object = is_object[--levels];
 			continue;
 		}
-		if (in_object)
-			at = behind_text(at, end);
-		next = behind_scalar(at, end, &count);
-		if (next == NULL)
+		if (unlikely(at >= end))
+			vjson_raise_corrupted();
+		first = *at;
+		if (first == STRING_KEY)
+			at = behind_text(at + 1, end);
+		else if (first == OBJECT_KEY || first == ARRAY_KEY)
 		{
 			if (levels == MOST_LEVELS - 1)
 				vjson_raise_corrupted();
 			is_object[levels++] = in_object;
-			in_object = *at == OBJECT_KEY;
-			next = at + 1;
+			in_object = first == OBJECT_KEY;
+			at++;
 		}
-		at = next;
+		else
+		{
+			bool		is_a_number = is_number(first);
+
+			count += is_a_number;
+			at = is_a_number && !in_object ? behind_number(at, end) : at + 1;
+		}
 	}
 	*numbers += count;
 	return at;
@@ -517,58 +499,85 @@ behind_container(const unsigned char *at, const unsigned char *end, size_t *numb
 static inline void
 pass_value(Reader *reader)
 {
-	const unsigned char *next = behind_scalar(reader->at, reader->end, &reader->passed);
+	const unsigned char *at = reader->at;
+	unsigned char first;
 
-	reader->at = next != NULL ? next : behind_container(reader->at, reader->end, &reader->passed);
+	if (unlikely(at == reader->end))
+		vjson_raise_corrupted();
+	first = *at;
+	if (first == STRING_KEY)
+		reader->at = behind_text(at + 1, reader->end);
+	else if (first == OBJECT_KEY || first == ARRAY_KEY)
+		reader->at = behind_container(at, reader->end, &reader->passed);
+	else if (is_number(first))
+	{
+		reader->passed++;
+		reader->at = behind_number(at, reader->end);
+	}
+	else
+		reader->at++;
 }
 
 /* Whether the name that begins here comes after all that are wanted. */
 static inline bool
 is_past_names(const Reader *reader)
 {
+	const VjsonWanted *wanted = reader->wanted;
 	size_t		size = reader->end - reader->at;
-	const Range *last = reader->wanted->names + reader->wanted->count - 1;
+	const Range *last = wanted->names + wanted->count - 1;
 	int			order;
 
-	if (reader->wanted->count == 0)
-		return true;
-	order = compare_first(reader->at, size, last->at, last->size);
-	if (order == 0)
-		order = memcmp(reader->at, last->at, Min(last->size, size));
+	if (likely(*reader->at != wanted->last_first))
+		return *reader->at > wanted->last_first;
+	order = memcmp(reader->at, last->at, Min(last->size, size));
 	return order > 0 || (order == 0 && last->size < size && reader->at[last->size] != END);
 }
 
 static inline bool
 is_wanted(const VjsonWanted *wanted, Range name)
 {
+	if (likely((wanted->first_bytes[*name.at / 64] >> *name.at % 64 & 1) == 0))
+		return false;
 	for (int i = 0; i < wanted->count; i++)
 	{
-		if (wanted->names[i].size == name.size &&
-			(name.size == 0 || wanted->names[i].at[0] == name.at[0]) && same_bytes(wanted->names[i], name))
+		if (same_bytes(wanted->names[i], name))
 			return true;
 	}
 	return false;
 }
 
 /*
- * Pass the member that begins here, unless it is wanted.  *steps tells how many
- * steps led to the object, and then how many lead to the member.
+ * Pass the members that begin here and aren't wanted.  Then a member begins that
+ * is wanted, and the answer is how many steps lead to it; or the object ends.
+ * The one round all others is left where no name that is wanted can follow.
  */
-static bool
-passes_member(Reader *reader, int *steps)
+static int
+pass_members(Reader *reader, const Level *level, bool is_outermost)
 {
-	Range		name = {reader->at, 0};
-
-	reader->at = behind_text(reader->at, reader->end);
-	name.size = reader->at - 2 - name.at;
-	if (!is_wanted(reader->wanted, name))
+	for (;;)
 	{
+		Range		name = {reader->at, 0};
+
+		CHECK_FOR_INTERRUPTS();
+		if (unlikely(reader->end - name.at < 2))
+			vjson_raise_corrupted();
+		if (name.at[0] == END && name.at[1] == END)
+			return OTHER_STEPS;
+		if (is_outermost && is_past_names(reader))
+		{
+			reader->is_cut = true;
+			return OTHER_STEPS;
+		}
+		reader->at = behind_text(name.at, reader->end);
+		name.size = reader->at - 2 - name.at;
+		if (is_wanted(reader->wanted, name))
+		{
+			reader->at = name.at;
+			return level->steps >= 0 && same_bytes(reader->wanted->step[level->steps], name) ? level->steps + 1 :
+				OTHER_STEPS;
+		}
 		pass_value(reader);
-		return true;
 	}
-	reader->at = name.at;
-	*steps = *steps >= 0 && same_bytes(reader->wanted->step[*steps], name) ? *steps + 1 : OTHER_STEPS;
-	return false;
 }
 
 
@@ -603,6 +612,7 @@ read_scalar(Reader *reader, JsonbValue *value, bool *opened)
 				vjson_raise_corrupted();
 			value->type = jbvNumeric;
 			value->val.numeric = read_number(reader);
+			reader->size += VARSIZE_ANY(value->val.numeric);
 			return true;
 	}
 }
@@ -628,6 +638,7 @@ read_part(Reader *reader, const Level *level, bool *opened)
 {
 	if (!make_room(reader))
 		return false;
+	reader->size += MOST_OF_PART;
 	if (level != NULL && level->is_object)
 	{
 		JsonbValue *name = reader->parts + reader->count;
@@ -654,18 +665,16 @@ read_value(Reader *reader)
 	{
 		bool		opened = false;
 		int			steps = level != NULL ? level->steps : wanted != NULL && wanted->steps != NO_STEPS ? 0 : OTHER_STEPS;
-		bool		chooses = wanted != NULL && level != NULL && level->is_object && steps != wanted->steps;
 
 		CHECK_FOR_INTERRUPTS();
-		reader->is_cut = chooses && level == levels && is_past_names(reader);
+		if (level != NULL && level->chooses)
+			steps = pass_members(reader, level, level == levels);
 		if (level != NULL && (reader->is_cut || takes_end(reader, level->is_object)))
 		{
 			close_level(reader, level);
 			level = level == levels ? NULL : level - 1;
 			continue;
 		}
-		if (chooses && passes_member(reader, &steps))
-			continue;
 		if (!read_part(reader, level, &opened))
 			return false;
 		if (opened)
@@ -676,6 +685,7 @@ read_value(Reader *reader)
 			level->first = reader->count;
 			level->is_object = reader->at[-1] == OBJECT_KEY;
 			level->steps = steps;
+			level->chooses = wanted != NULL && level->is_object && steps != wanted->steps;
 		}
 	} while (level != NULL);
 	return true;
@@ -708,7 +718,9 @@ vjson_jsonb(Datum document, const VjsonWanted *wanted)
 	value = reader.parts[0];
 	if (reader.parts != first_parts)
 		pfree(reader.parts);
-	return JsonbPGetDatum(JsonbValueToJsonb(&value));
+	if (reader.size > JENTRY_OFFLENMASK)
+		return JsonbPGetDatum(JsonbValueToJsonb(&value));
+	return JsonbPGetDatum(vjson_write_jsonb(&value, reader.size));
 }
 
 Datum

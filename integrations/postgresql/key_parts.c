@@ -33,9 +33,6 @@
 /* From how many names on they are looked for together. */
 #define MANY_NAMES		8
 
-/* The key of true. */
-#define TRUE_KEY		0x16
-
 PG_FUNCTION_INFO_V1(vjson_object_field);
 PG_FUNCTION_INFO_V1(vjson_object_field_text);
 PG_FUNCTION_INFO_V1(vjson_array_element);
@@ -89,30 +86,33 @@ text_of_string(Range key, bool is_name)
 	return cstring_to_text(pg_any_to_server(pnstrdup((char *) bytes, size), (int) size, PG_UTF8));
 }
 
-/* The value of a key and of the zeros of its numbers. */
-static struct varlena *
-make_value(Range key, Range zeros)
+struct varlena *
+vjson_of_key(Range key, Range zeros)
 {
-	struct varlena *result = (struct varlena *) palloc(VARHDRSZ + FORM_SIZE + KEY_SIZE_SIZE + key.size + zeros.size);
-	char	   *into = VARDATA(result) + FORM_SIZE;
+	size_t		size = VARHDRSZ + FORM_SIZE + key.size + (zeros.size > 0 ? KEY_SIZE_SIZE + zeros.size : 0);
 	uint32		stored_size = (uint32) key.size;
+	struct varlena *result;
+	char	   *into;
 
+	if (size > MaxAllocSize)
+		ereport(ERROR, (errcode(ERRCODE_PROGRAM_LIMIT_EXCEEDED), errmsg("vjson value is too large")));
+	result = palloc(size);
+	SET_VARSIZE(result, size);
+	into = VARDATA(result) + FORM_SIZE;
 	if (zeros.size == 0)
 	{
 		*VARDATA(result) = KEY_ALONE;
 		memcpy(into, key.at, key.size);
-		SET_VARSIZE(result, VARHDRSZ + FORM_SIZE + key.size);
 		return result;
 	}
 	*VARDATA(result) = KEY_AND_ZEROS;
 	memcpy(into, &stored_size, KEY_SIZE_SIZE);
 	memcpy(into + KEY_SIZE_SIZE, key.at, key.size);
 	memcpy(into + KEY_SIZE_SIZE + key.size, zeros.at, zeros.size);
-	SET_VARSIZE(result, VARHDRSZ + FORM_SIZE + KEY_SIZE_SIZE + key.size + zeros.size);
 	return result;
 }
 
-/* The text of a key, as make_value has it as a value: a string without its quotes, and NULL where it is null. */
+/* The text of a key, as vjson_of_key has it as a value: a string without its quotes, and NULL where it is null. */
 static text *
 make_text(Range key, Range zeros)
 {
@@ -134,11 +134,12 @@ static Range
 zeros_of_part(const VjsonParts *whole, Range part)
 {
 	Range		result = {NULL, 0};
+	uint32		kind = kind_of(part);
 	unsigned char *zeros;
 	size_t		before;
 	size_t		numbers;
 
-	if (whole->form != KEY_AND_ZEROS)
+	if (whole->form != KEY_AND_ZEROS || (is_scalar(kind) && kind != VIZHONIKU_NUMBER))
 		return result;
 	if (!key_numbers(whole->key, whole->key_size, part.at - whole->key, part.size, &before, &numbers))
 		vjson_raise_corrupted();
@@ -153,7 +154,7 @@ zeros_of_part(const VjsonParts *whole, Range part)
 struct varlena *
 vjson_part(const VjsonParts *whole, Range part)
 {
-	return make_value(part, zeros_of_part(whole, part));
+	return vjson_of_key(part, zeros_of_part(whole, part));
 }
 
 text *
@@ -496,7 +497,7 @@ put_parts(FunctionCallInfo fcinfo, const VjsonParts *whole, Range key, int colum
 			own.size = zeros.size;
 			MemoryContextSwitchTo(rows);
 			if (columns & VALUES)
-				values[column] = PointerGetDatum(make_value(walk.value, own));
+				values[column] = PointerGetDatum(vjson_of_key(walk.value, own));
 			else
 			{
 				text	   *words = make_text(walk.value, own);

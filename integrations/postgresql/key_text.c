@@ -179,10 +179,14 @@ read_next_zeros(KeyZerosReader *reader)
 	return false;
 }
 
-/* Append that a number has zeros. */
-static void
-write_zeros(KeyZeros *into, unsigned char zeros)
+void
+key_zeros_add(KeyZeros *into, unsigned char zeros)
 {
+	if (zeros == 0)
+	{
+		into->plain++;
+		return;
+	}
 	if (into->room - into->size < 16)
 	{
 		into->room = Max(64, 2 * into->room);
@@ -219,7 +223,7 @@ key_zeros_take(KeyZerosReader *reader, size_t numbers, KeyZeros *into)
 		{
 			numbers--;
 			if (into != NULL)
-				write_zeros(into, reader->zeros);
+				key_zeros_add(into, reader->zeros);
 			reader->zeros = 0;
 		}
 	}

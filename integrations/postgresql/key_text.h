@@ -60,6 +60,9 @@ typedef struct
 extern bool key_zeros_append(KeyZeros *into, const unsigned char *zeros, size_t zeros_size, size_t first,
 							 size_t numbers);
 
+/* Append those of one number: how many it has. */
+extern void key_zeros_add(KeyZeros *into, unsigned char zeros);
+
 /* Zeros of a key that are taken one part after the other, so that those of all parts are passed over once. */
 typedef struct
 {

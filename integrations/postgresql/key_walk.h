@@ -13,12 +13,9 @@
 
 #include <vizhoniku.h>
 
+#include "key_bytes.h"
 #include "key_text.h"
 #include "vjson.h"
-
-/* The bytes of a string's key that aren't those of its text: the first, and the two at its end. */
-#define STRING_KEY		0xD0
-#define STRING_EXTRA	3
 
 /* The parts of a value, and its key. */
 static inline Range
@@ -37,6 +34,17 @@ static inline bool
 same_bytes(Range left, Range right)
 {
 	return left.size == right.size && memcmp(left.at, right.at, left.size) == 0;
+}
+
+static inline bool
+is_ascii(const unsigned char *text, size_t size)
+{
+	for (size_t i = 0; i < size; i++)
+	{
+		if (IS_HIGHBIT_SET(text[i]))
+			return false;
+	}
+	return true;
 }
 
 /* Words of the server in UTF-8. */
@@ -61,8 +69,8 @@ key_of_string(Range words)
 
 	key[0] = STRING_KEY;
 	memcpy(key + 1, words.at, words.size);
-	key[size - 2] = 0;
-	key[size - 1] = 1;
+	key[size - 2] = END;
+	key[size - 1] = END_OF_TEXT;
 	return result;
 }
 

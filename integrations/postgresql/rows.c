@@ -23,9 +23,6 @@
 #include "key_walk.h"
 #include "vjson.h"
 
-extern Datum vjson_to_jsonb(PG_FUNCTION_ARGS);
-extern Datum vjson_from_jsonb(PG_FUNCTION_ARGS);
-
 PG_FUNCTION_INFO_V1(vjson_to_record);
 PG_FUNCTION_INFO_V1(vjson_to_recordset);
 
@@ -95,7 +92,7 @@ row_of_vjson(HeapTuple row, TupleDesc given, TupleDesc wanted)
 	for (int i = 0; i < wanted->natts; i++)
 	{
 		if (!nulls[i] && TupleDescAttr(given, i)->atttypid != TupleDescAttr(wanted, i)->atttypid)
-			values[i] = DirectFunctionCall1(vjson_from_jsonb, values[i]);
+			values[i] = vjson_of_jsonb(values[i]);
 	}
 	return heap_form_tuple(wanted, values, nulls);
 }
@@ -140,7 +137,7 @@ call_for_rows(FunctionCallInfo fcinfo, PGFunction function)
 
 	memcpy(call, fcinfo, SizeForFunctionCallInfo(1));
 	if (!PG_ARGISNULL(0))
-		call->args[0].value = DirectFunctionCall1(vjson_to_jsonb, PG_GETARG_DATUM(0));
+		call->args[0].value = vjson_jsonb(PG_GETARG_DATUM(0), NULL);
 	if (given != NULL)
 	{
 		rows.expectedDesc = given;

@@ -25,9 +25,6 @@
 /* Spaces before a line, for each array or object that it is in. */
 #define INDENT			4
 
-/* The most arrays and objects that are open at once. */
-#define MAX_LEVELS		512
-
 PG_FUNCTION_INFO_V1(vjson_pretty);
 PG_FUNCTION_INFO_V1(vjson_strip_nulls);
 
@@ -125,8 +122,8 @@ vjson_strip_nulls(PG_FUNCTION_ARGS)
 	bool		in_arrays = PG_GETARG_BOOL(1);
 	size_t		size;
 	const char *text = get_text(PG_GETARG_DATUM(0), &size);
-	bool		is_object[MAX_LEVELS + 1];
-	bool		is_first[MAX_LEVELS + 1];
+	bool		is_object[MOST_LEVELS + 1];
+	bool		is_first[MOST_LEVELS + 1];
 	int			levels = 0;
 	StringInfoData out;
 	size_t		next;
@@ -175,7 +172,7 @@ vjson_strip_nulls(PG_FUNCTION_ARGS)
 		appendBinaryStringInfo(&out, text + at, (int) (next - at));
 		if (text[at] == '{' || text[at] == '[')
 		{
-			if (++levels > MAX_LEVELS)
+			if (++levels > MOST_LEVELS)
 				vjson_raise_corrupted();
 			is_object[levels] = text[at] == '{';
 			is_first[levels] = true;

@@ -46,6 +46,7 @@
 
 #include <vizhoniku.h>
 
+#include "key_bytes.h"
 #include "key_text.h"
 #include "vjson.h"
 
@@ -68,13 +69,11 @@ PG_MODULE_MAGIC;
 
 /*
  * The machine stack that one call of the library may take, in bytes: at most
- * about 8 kB, and 0.21 kB for each array or object that is open.  At most 512
- * are open at once.
+ * about 8 kB, and 0.21 kB for each array or object that is open.
  */
 #define CALL_STACK		(16 * 1024)
 #define LEVEL_STACK		256
-#define MAX_LEVELS		512
-#define WORST_STACK		(CALL_STACK + MAX_LEVELS * LEVEL_STACK)
+#define WORST_STACK		(CALL_STACK + MOST_LEVELS * LEVEL_STACK)
 
 /* How an abbreviated key is divided; see vjson_abbreviate. */
 #define FRONT_LIMIT		0x7FFF
@@ -114,7 +113,6 @@ PG_FUNCTION_INFO_V1(vjson_path_from_names);
 PG_FUNCTION_INFO_V1(vjson_get);
 PG_FUNCTION_INFO_V1(vjson_get_text);
 PG_FUNCTION_INFO_V1(vjson_from_json);
-PG_FUNCTION_INFO_V1(vjson_from_jsonb);
 PG_FUNCTION_INFO_V1(vjson_to_json);
 PG_FUNCTION_INFO_V1(vjson_eq);
 PG_FUNCTION_INFO_V1(vjson_ne);
@@ -333,7 +331,7 @@ check_stack_room(const char *text, size_t size)
 	if (used + WORST_STACK <= limit)
 		return;
 
-	for (size_t i = 0; i < size && levels < MAX_LEVELS; i++)
+	for (size_t i = 0; i < size && levels < MOST_LEVELS; i++)
 	{
 		if (text[i] == '[' || text[i] == '{')
 			levels++;
@@ -614,7 +612,7 @@ look_at_numbers(const char *text, size_t size)
 				continue;
 			case '[':
 			case '{':
-				numbers.is_deep |= ++levels > MAX_LEVELS;
+				numbers.is_deep |= ++levels > MOST_LEVELS;
 				break;
 			case ']':
 			case '}':
@@ -1052,7 +1050,7 @@ path_of_array(char *words, Node *context)
 static text *
 make_path(const char *path, size_t size, Node *context)
 {
-	static const unsigned char any_key[] = {0xD3};
+	static const unsigned char any_key[] = {NULL_KEY};
 	char	   *utf8;
 	Range		part;
 
@@ -1184,26 +1182,6 @@ vjson_from_json(PG_FUNCTION_ARGS)
 	text	   *json = PG_GETARG_TEXT_PP(0);
 
 	PG_RETURN_POINTER(vjson_checked_for_output(read_value(VARDATA_ANY(json), VARSIZE_ANY_EXHDR(json), READ_JSON, NULL)));
-}
-
-/* A jsonb has no exponents, and without a point it has none but integers, which standard mode reads once. */
-Datum
-vjson_of_jsonb(Datum datum)
-{
-	Jsonb	   *jsonb = DatumGetJsonbP(datum);
-	char	   *text = JsonbToCString(NULL, &jsonb->root, VARSIZE(jsonb));
-	size_t		size = strlen(text);
-	ReadAs		as = memchr(text, '.', size) != NULL ? READ_JSON : READ_INPUT;
-	struct varlena *value = read_value(text, size, as, NULL);
-
-	pfree(text);
-	return PointerGetDatum(vjson_checked_for_output(value));
-}
-
-Datum
-vjson_from_jsonb(PG_FUNCTION_ARGS)
-{
-	PG_RETURN_DATUM(vjson_of_jsonb(PG_GETARG_DATUM(0)));
 }
 
 static char *

@@ -10,6 +10,8 @@
 
 #include <vizhoniku.h>
 
+#include "utils/jsonb.h"
+
 #if PG_VERSION_NUM < 150000
 #error "this extension is for PostgreSQL 15 and later"
 #endif
@@ -145,6 +147,8 @@ typedef struct
 {
 	int			count;
 	Range		names[MOST_NAMES];	/* in the order of their bytes; those of the steps are among them */
+	uint64		first_bytes[4];	/* of the names, a bit for each; of one without bytes a zero byte */
+	int			last_first;		/* of the last name; -1 where there is no name */
 	int			steps;			/* NO_STEPS where no part is wanted as a whole */
 	Range		step[MOST_NAMES];
 } VjsonWanted;
@@ -155,8 +159,14 @@ typedef struct
  */
 extern Datum vjson_jsonb(Datum document, const VjsonWanted *wanted);
 
+/* The bytes that JsonbValueToJsonb gives of a value whose members are in order, for which there is room. */
+extern Jsonb *vjson_write_jsonb(const JsonbValue *value, size_t room);
+
 /* A jsonb as a document. */
 extern Datum vjson_of_jsonb(Datum jsonb);
+
+/* The item of this index of an array of a jsonb, as a document. */
+extern Datum vjson_of_item(JsonbContainer *array, uint32 index);
 
 /* The value, which is one that can be written in the encoding of the database; else an error is raised. */
 extern struct varlena *vjson_checked_for_output(struct varlena *value);
@@ -166,6 +176,9 @@ extern char *vjson_text(const VjsonParts *parts, size_t *size);
 
 /* The written text in the encoding of the database, with a zero byte at its end. */
 extern char *vjson_server_text(const VjsonParts *parts);
+
+/* The value of a key and of the zeros of its numbers. An error is raised if it takes more than 1 GB. */
+extern struct varlena *vjson_of_key(Range key, Range zeros);
 
 /* The value of a part of the key, with the zeros of its numbers. */
 extern struct varlena *vjson_part(const VjsonParts *whole, Range part);

@@ -34,7 +34,8 @@ SELECT vjson_path_exists('{"a":1}', '$.a', '[]');
 
 -- The members that a jsonpath doesn't name aren't looked at.
 SELECT doc @? '$.a', vjson_path_query(doc, '$.a.b') FROM (VALUES ('{"a":{"b":[1.50]},"c":"\u0000"}'::vjson)) x(doc);
-SELECT '{"a":"\u0000"}'::vjson @? '$.a';
+SELECT '{"a":"\u0000"}'::vjson @? '$.a', '{"a":"\u0000"}'::vjson @? '$.b', vjson_path_query_first('{"a":"\u0000"}', '$.a');
+SELECT '{"a":"\u0000"}'::vjson @? '$.a ? (@ == "x")';
 
 -- Text search
 SELECT v FROM documents WHERE to_tsvector('english', v) <> to_tsvector('english', j) OR to_tsvector(v) <> to_tsvector(j)
