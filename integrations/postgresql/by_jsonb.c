@@ -252,7 +252,7 @@ note_first_bytes(VjsonWanted *wanted)
 	wanted->last_first = -1;
 	for (int i = 0; i < wanted->count; i++)
 	{
-		unsigned char first = wanted->names[i].size > 0 ? wanted->names[i].at[0] : 0;
+		unsigned char first = wanted->names[i].size > 0 ? wanted->names[i].at[0] : END;
 
 		wanted->first_bytes[first / 64] |= UINT64CONST(1) << first % 64;
 		wanted->last_first = first;

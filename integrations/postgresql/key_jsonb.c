@@ -129,13 +129,6 @@ find_zero(const unsigned char *at, const unsigned char *end)
 	return memchr(at, 0, end - at);
 }
 
-/* The order of the first bytes of two names, or 0 where it isn't told by one byte. */
-static inline int
-compare_first(const unsigned char *one, size_t size, const unsigned char *other, size_t other_size)
-{
-	return size > 0 && other_size > 0 ? (int) *one - (int) *other : 0;
-}
-
 /* Take the text of a string or of a name.  False if it is one that goes by the text of the whole. */
 static inline bool
 read_text(Reader *reader, JsonbValue *value)
@@ -294,7 +287,9 @@ check_order(const JsonbValue *before, const JsonbValue *name)
 	Range		one = {(const unsigned char *) before->val.string.val, before->val.string.len};
 	Range		other = {(const unsigned char *) name->val.string.val, name->val.string.len};
 
-	if (unlikely(compare_first(one.at, one.size, other.at, other.size) >= 0 && compare_ranges(&one, &other) >= 0))
+	if (likely(one.size > 0 && other.size > 0 && one.at[0] < other.at[0]))
+		return;
+	if (unlikely(compare_ranges(&one, &other) >= 0))
 		vjson_raise_corrupted();
 }
 

@@ -90,7 +90,7 @@ TIMED = {
     "gin_extract_vjson(vjson,internal,internal)": [
         "CREATE INDEX grown ON {table} USING gin (o vjson_ops, a vjson_ops); DROP INDEX grown"],
     "vjson_typanalyze(internal)": ["ANALYZE {table} (o, a)"],
-    "vjson_path_exists_opr(vjson,jsonpath)": ["o @? '$.{last}[*] ? (@ > 1)'", "o @? '$.none'", "a @? '$[*].price ? (@ < 0)'"],
+    "vjson_path_exists_opr(vjson,jsonpath)": ["o @? '$.{last}[*] ? (@ > 1)'", "o @? '$.none'", "o @? '$.none ? (@ > 1)'", "a @? '$[*].price ? (@ < 0)'"],
     "vjson_path_match_opr(vjson,jsonpath)": ["o @@ '$.*[*] < 0'", "r @@ '$[last].price > 1'"],
     "vjson_path_exists(vjson,jsonpath,vjson,boolean)": ["vjson_path_exists(r, '$[*] ? (@.price < $x)', '{{\"x\":0}}')"],
     "vjson_path_exists_tz(vjson,jsonpath,vjson,boolean)": ["vjson_path_exists_tz(r, '$.** ? (@ < 0)')"],

@@ -147,7 +147,7 @@ typedef struct
 {
 	int			count;
 	Range		names[MOST_NAMES];	/* in the order of their bytes; those of the steps are among them */
-	uint64		first_bytes[4];	/* of the names, a bit for each; of one without bytes a zero byte */
+	uint64		first_bytes[4];	/* of the names, a bit for each; END of one without bytes */
 	int			last_first;		/* of the last name; -1 where there is no name */
 	int			steps;			/* NO_STEPS where no part is wanted as a whole */
 	Range		step[MOST_NAMES];
