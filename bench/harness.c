@@ -14,17 +14,21 @@
  *                                live at most while a document is read, its value among them, added up over the file, and -
  *   harness --peak-of OP FILE..  prints the same lines of that operation, with its name in the place of the word peak
  *
+ * Beside a file KIND.json there may be KIND.paths, with a path (RFC 6901) for each document in turn. Where there is, parts
+ * are taken there.
+ *
  * The documents of a file whose name ends in .json5 are of extended mode, and are only read. Those of a .rejected file are
  * no documents, and are only rejected. Those of a .exponents file are standard JSON but for the exponents of their
  * numbers, which are only written out.
  *
  * With NO_COUNTER set it opens no counter. PREFIX is what the names of the measured library's functions begin with.
  * WITH_EXTENDED is defined where the library reads extended mode, WITH_AST where it reads into trees, WITH_SORT_KEY where
- * it writes sort keys, WITH_DOCUMENT where it writes texts and sort keys of a tree with no value between, WITH_STRAIGHT
- * where it writes them while it parses, WITH_REJECT where it tells how often it rejects a text, WITH_EXPONENTS where
- * it writes numbers with exponents out, and WITH_MEMORY where memory.c is linked, as --peak needs it and as the times
+ * it writes sort keys, WITH_STRAIGHT where it writes texts and sort keys while it parses, WITH_CHECK where it checks a text
+ * and makes nothing, WITH_PART where it writes a part, WITH_SORTED where it writes a text whose members are sorted by their
+ * keys and whose repeated keys are rejected, WITH_REJECT where it tells how often it rejects a text, WITH_EXPONENTS where it
+ * writes numbers with exponents out, and WITH_MEMORY where memory.c is linked, as --peak needs it and as the times
  * must not have it.
- * WITHOUT_VALUES is defined where it compares and clones no values, and WITH_READ_WRITE where it writes only what it has
+ * WITHOUT_READ is defined where it reads no values, WITHOUT_VALUES where it compares and clones none, and WITH_READ_WRITE where it writes only what it has
  * just read. */
 #define _GNU_SOURCE
 #include <linux/perf_event.h>
@@ -46,7 +50,9 @@
 #define JOIN(a, b) JOIN_(a, b)
 
 typedef size_t operation_t(const unsigned char *text, size_t len, size_t rounds);
+#ifndef WITHOUT_READ
 operation_t JOIN(PREFIX, read);
+#endif
 #ifdef WITH_READ_WRITE
 operation_t JOIN(PREFIX, read_write);
 #else
@@ -70,8 +76,22 @@ operation_t JOIN(PREFIX, sort_key);
 #ifdef WITH_EXPONENTS
 operation_t JOIN(PREFIX, plain_numbers);
 #endif
-#ifdef WITH_DOCUMENT
-operation_t JOIN(PREFIX, document_text), JOIN(PREFIX, document_key);
+#ifdef WITH_CHECK
+operation_t JOIN(PREFIX, check);
+#endif
+#ifdef WITH_SORTED
+operation_t JOIN(PREFIX, sorted);
+#endif
+#ifdef WITH_PART
+size_t JOIN(PREFIX, part)(const unsigned char *path, size_t path_len, const unsigned char *text, size_t len,
+                          size_t rounds);
+
+/* The path of the document that comes next. */
+static struct path { const unsigned char *text; size_t len; } part_path;
+
+static size_t run_part(const unsigned char *text, size_t len, size_t rounds) {
+  return JOIN(PREFIX, part)(part_path.text, part_path.len, text, len, rounds);
+}
 #endif
 #ifdef WITH_STRAIGHT
 operation_t JOIN(PREFIX, straight_text), JOIN(PREFIX, straight_key), JOIN(PREFIX, straight_extended);
@@ -80,7 +100,9 @@ operation_t JOIN(PREFIX, straight_text), JOIN(PREFIX, straight_key), JOIN(PREFIX
 /* An operation that does not only read still reads the text where there is no round at all. So its cost is what more
  * rounds cost than none. */
 static const struct operation { const char *name; operation_t *run; int only_reads; const char *suffix; } operations[] = {
+#ifndef WITHOUT_READ
   { "read", JOIN(PREFIX, read), 1, ".json" },
+#endif
 #ifdef WITH_EXTENDED
   { "extended", JOIN(PREFIX, read_extended), 1, ".json5" },
 #endif
@@ -90,14 +112,19 @@ static const struct operation { const char *name; operation_t *run; int only_rea
 #ifdef WITH_AST
   { "read_ast", JOIN(PREFIX, read_ast), 1, ".json" },
 #endif
-#ifdef WITH_DOCUMENT
-  { "document_text", JOIN(PREFIX, document_text), 1, ".json" },
-  { "document_key", JOIN(PREFIX, document_key), 1, ".json" },
-#endif
 #ifdef WITH_STRAIGHT
   { "straight_text", JOIN(PREFIX, straight_text), 1, ".json" },
   { "straight_key", JOIN(PREFIX, straight_key), 1, ".json" },
   { "straight_extended", JOIN(PREFIX, straight_extended), 1, ".json5" },
+#endif
+#ifdef WITH_CHECK
+  { "check", JOIN(PREFIX, check), 1, ".json" },
+#endif
+#ifdef WITH_SORTED
+  { "sorted", JOIN(PREFIX, sorted), 1, ".json" },
+#endif
+#ifdef WITH_PART
+  { "part", run_part, 1, ".paths" },
 #endif
 #ifdef WITH_READ_WRITE
   { "read_write", JOIN(PREFIX, read_write), 1, ".json" },
@@ -118,9 +145,10 @@ static const struct operation { const char *name; operation_t *run; int only_rea
 #define OPERATIONS (sizeof operations / sizeof *operations)
 
 struct document { const unsigned char *text; size_t len; };
-struct file { const char *name; size_t bytes, count; struct document *documents; };
+struct file { const char *name; size_t bytes, count; struct document *documents, *paths; };
 
-static struct file load(const char *path) {
+/* The lines of a file. */
+static struct file load_lines(const char *path) {
   FILE *in = fopen(path, "rb");
   if (!in) { perror(path); exit(2); }
   fseek(in, 0, SEEK_END);
@@ -130,7 +158,7 @@ static struct file load(const char *path) {
   if (!text || fread(text, 1, len, in) != len) { perror(path); exit(2); }
   fclose(in);
 
-  struct file file = { path, 0, 0, NULL };
+  struct file file = { path, 0, 0, NULL, NULL };
   for (size_t i = 0; i < len; i++) file.count += text[i] == '\n';
   file.documents = malloc(file.count * sizeof *file.documents);
   unsigned char *at = text;
@@ -143,13 +171,33 @@ static struct file load(const char *path) {
   return file;
 }
 
+/* The documents of a file, with the paths of their parts, where there are some. */
+static struct file load(const char *path) {
+  struct file file = load_lines(path);
+  char name[4096];
+  const char *point = strrchr(path, '.');
+  int len = point ? (int)(point - path) : 0;
+  if (len == 0 || snprintf(name, sizeof name, "%.*s.paths", len, path) >= (int)sizeof name || access(name, R_OK)) return file;
+  struct file paths = load_lines(name);
+  if (paths.count != file.count) {
+    fprintf(stderr, "%s: not a path for each document\n", name);
+    exit(2);
+  }
+  file.paths = paths.documents;
+  return file;
+}
+
 /* Does the operation on each document in turn. A refusal would make the figures worthless, so it ends the run. */
 static void pass(const struct file *file, operation_t *run, size_t rounds) {
-  for (size_t i = 0; i < file->count; i++)
+  for (size_t i = 0; i < file->count; i++) {
+#ifdef WITH_PART
+    if (file->paths) part_path = (struct path){ file->paths[i].text, file->paths[i].len };
+#endif
     if (run(file->documents[i].text, file->documents[i].len, rounds) != rounds) {
       fprintf(stderr, "%s: document %zu went wrong\n", file->name, i);
       exit(1);
     }
+  }
 }
 
 static double now(void) {
@@ -210,7 +258,7 @@ static long page_faults(void) {
 
 /* The operations that are timed beside another library's. */
 static int is_timed(const struct operation *operation) {
-  static const char *const names[] = { "read", "document_text", "write", "compare", "clone" };
+  static const char *const names[] = { "read", "straight_text", "write", "compare", "clone" };
   for (size_t i = 0; i < sizeof names / sizeof *names; i++)
     if (!strcmp(operation->name, names[i])) return 1;
   return 0;
@@ -255,6 +303,7 @@ static double count(int counter, const struct file *file, operation_t *run, size
  * exponents. */
 static int is_done(const struct operation *operation, const struct file *file) {
   const char *point = strrchr(file->name, '.');
+  if (!strcmp(operation->suffix, ".paths")) return file->paths != NULL;
   return point && (!strcmp(point, operation->suffix) ||
                    (!strcmp(point, ".json") && strcmp(operation->suffix, ".rejected")));
 }
@@ -288,7 +337,7 @@ static operation_t *reader_of(const struct file *file) {
 static void measure_peak(const struct file *file, operation_t *run, const char *name) {
   size_t sum = 0;
   for (size_t i = 0; i < file->count; i++) {
-    struct file one = { file->name, file->documents[i].len, 1, &file->documents[i] };
+    struct file one = { file->name, file->documents[i].len, 1, &file->documents[i], file->paths ? &file->paths[i] : NULL };
     size_t before = memory_peak = memory_live;
     pass(&one, run, 1);
     sum += memory_peak - before;

@@ -6,7 +6,8 @@ With a size in bytes it writes documents of these kinds that are about so long e
 Each line of a file is one document. Those of a .json file are standard JSON without a fraction or an exponent, and only
 the catalog and the indented objects have blanks between their tokens. Those of a .json5 file are extended JSON with keys without
 quotes, single quotes, comments, decimals and hexadecimals. Those of a .rejected file have a fault at nine tenths. Those
-of a .exponents file are JSON in which each number has an exponent. The numbers come from a fixed seed, so that every run
+of a .exponents file are JSON in which each number has an exponent. A .paths file has a path for each document of the
+.json file of its name, to a part of it. The numbers come from a fixed seed, so that every run
 has the same documents.
 """
 import json
@@ -273,10 +274,32 @@ def rejected(text):
     return text[:fault] + ";" + text[fault + 1:]
 
 
+def path_to_part(text, levels):
+    """The path (RFC 6901) of a part so many levels down: each time the middle member, or the fourth item."""
+    path, value = "", json.loads(text)
+    for _ in range(levels):
+        if isinstance(value, dict) and value:
+            key = list(value)[(len(value) - 1) // 2]
+        elif isinstance(value, list) and value:
+            key = min(3, len(value) - 1)
+        else:
+            break
+        path, value = path + "/" + str(key).replace("~", "~0").replace("/", "~1"), value[key]
+    return path
+
+
+# How many levels down the part is that is taken out of a document; of the other kinds one.
+LEVELS = {"tweets": 4, "catalog": 4}
+
+
+def write_standard(folder, name, texts):
+    write(os.path.join(folder, name + ".json"), texts)
+    write(os.path.join(folder, name + ".paths"), [path_to_part(text, LEVELS.get(name, 1)) for text in texts])
+
+
 def write_sized(folder, size, kinds):
     for name in kinds:
-        texts = until(1000000, lambda _: KINDS[name](size))
-        write(os.path.join(folder, name + ".json"), texts)
+        write_standard(folder, name, until(1000000, lambda _: KINDS[name](size)))
 
 
 def write(path, texts):
@@ -287,18 +310,19 @@ def write(path, texts):
 def main():
     folder = sys.argv[1]
     os.makedirs(folder, exist_ok=True)
+    sys.setrecursionlimit(5000)
     random.seed(7)
     if len(sys.argv) > 2:
         write_sized(folder, int(sys.argv[2]), sys.argv[3:])
         return
     for name, texts in documents():
-        write(os.path.join(folder, name + ".json"), texts)
+        write_standard(folder, name, texts)
         if name == "objects":
             write(os.path.join(folder, "faulty_objects.rejected"), [rejected(text) for text in texts])
     for name, texts in extended_documents():
         write(os.path.join(folder, name + ".json5"), texts)
     for name, texts in shaped_documents():
-        write(os.path.join(folder, name + ".json"), texts)
+        write_standard(folder, name, texts)
     for name, texts in documents_with_exponents():
         write(os.path.join(folder, name + ".exponents"), texts)
 

@@ -16,7 +16,7 @@ static void make_room(size_t len) {
   buffer_size = needed;
 }
 
-size_t calls_bench_read(const unsigned char *text, size_t len, size_t rounds) {
+size_t calls_bench_check(const unsigned char *text, size_t len, size_t rounds) {
   struct vizhoniku_refusal refusal;
   for (size_t round = 0; round < rounds; round++)
     if (vizhoniku_check(VIZHONIKU_STANDARD, text, len, &refusal) != VIZHONIKU_ACCEPTED) return round;
@@ -48,6 +48,17 @@ static size_t repeat(writer_t *write, const unsigned char *text, size_t len, siz
 
 size_t calls_bench_read_write(const unsigned char *text, size_t len, size_t rounds) {
   return repeat(vizhoniku_text, text, len, rounds);
+}
+
+size_t calls_bench_part(const unsigned char *path, size_t path_len, const unsigned char *text, size_t len, size_t rounds) {
+  struct vizhoniku_refusal refusal;
+  size_t size;
+  make_room(len);
+  for (size_t round = 0; round < rounds; round++)
+    if (vizhoniku_part(VIZHONIKU_STANDARD, path, path_len, text, len, buffer, buffer_size, &size, &refusal) !=
+        VIZHONIKU_ACCEPTED)
+      return round;
+  return rounds;
 }
 
 size_t calls_bench_sort_key(const unsigned char *text, size_t len, size_t rounds) {

@@ -11,8 +11,11 @@ ghost use Rattle.jsonb_spec.specs.Grammar.{IsDocument};
 ghost use Rattle.jsonb_spec.specs.Mode.{standard, extended};
 ghost use Rattle.jsonb_spec.specs.Tree.{Tree};
 
-use jsonb::{JsonAst, Mode, append_sort_key, append_text, parse_value, parse_value_standard_mode};
-use jsonb_document::Document;
+use jsonb::{
+    JsonAst, Mode, append_part, append_sort_key, append_text, check, parse_value,
+    parse_value_standard_mode,
+};
+use jsonb_path::read_keys;
 use jsonb_value::error::Error;
 use std::alloc::Global;
 
@@ -77,44 +80,6 @@ pub extern "C" fn jsonb_bench_read_ast(alloc: Global, text: &[u8], rounds: usize
     rounds
 }
 
-/// Parses the text as standard JSON and writes its serialized form `rounds` times into one buffer, with no value built.
-/// The answer is how many rounds went well before the first that did not.
-#[unsafe(no_mangle)]
-pub extern "C" fn jsonb_bench_document_text(alloc: Global, text: &[u8], rounds: usize) -> usize
-    ensures counts { CountsRounds standard text.now rounds result }
-{
-    let mut written = Vec::new(alloc);
-    for round in 0..rounds {
-        written.clear();
-        let Ok(document) = Document::parse(alloc, text, Mode::Standard) else {
-            return round;
-        };
-        if document.write_text(&mut written).is_err() {
-            return round;
-        }
-    }
-    rounds
-}
-
-/// Parses the text as standard JSON and writes its sort key `rounds` times into one buffer, with no value built. The
-/// answer is how many rounds went well before the first that did not.
-#[unsafe(no_mangle)]
-pub extern "C" fn jsonb_bench_document_key(alloc: Global, text: &[u8], rounds: usize) -> usize
-    ensures counts { CountsRounds standard text.now rounds result }
-{
-    let mut key = Vec::new(alloc);
-    for round in 0..rounds {
-        key.clear();
-        let Ok(document) = Document::parse(alloc, text, Mode::Standard) else {
-            return round;
-        };
-        if document.write_sort_key(&mut key).is_err() {
-            return round;
-        }
-    }
-    rounds
-}
-
 /// Parses the text as standard JSON and appends its serialized form `rounds` times to one buffer that is emptied
 /// before, with no value and no tree. The answer is how many rounds went well before the first that did not.
 #[unsafe(no_mangle)]
@@ -141,6 +106,40 @@ pub extern "C" fn jsonb_bench_straight_key(alloc: Global, text: &[u8], rounds: u
     for round in 0..rounds {
         key.clear();
         if append_sort_key(alloc, text, Mode::Standard, &mut key).is_err() {
+            return round;
+        }
+    }
+    rounds
+}
+
+/// Checks the text as standard JSON `rounds` times, and makes nothing of it. The answer is how many rounds went well
+/// before the first that did not.
+#[unsafe(no_mangle)]
+pub extern "C" fn jsonb_bench_check(alloc: Global, text: &[u8], rounds: usize) -> usize
+    ensures counts { CountsRounds standard text.now rounds result }
+{
+    for round in 0..rounds {
+        if check(alloc, text, Mode::Standard).is_err() {
+            return round;
+        }
+    }
+    rounds
+}
+
+/// Parses the text as standard JSON and appends the text of its part at the path (RFC 6901) `rounds` times to one buffer
+/// that is emptied before, with no value and no tree. The answer is how many rounds found it before the first that did
+/// not.
+#[unsafe(no_mangle)]
+pub extern "C" fn jsonb_bench_part(alloc: Global, path: &[u8], text: &[u8], rounds: usize) -> usize
+    ensures counts { CountsRounds standard text.now rounds result }
+{
+    let mut written = Vec::new(alloc);
+    for round in 0..rounds {
+        written.clear();
+        let Ok(Some(keys)) = read_keys(alloc, path) else {
+            return round;
+        };
+        if !matches!(append_part(alloc, text, Mode::Standard, &keys, &mut written), Ok(true)) {
             return round;
         }
     }

@@ -2,7 +2,8 @@
 //! JSON Pointer (RFC 6901): `/a/0` is the first item of the member `a`.
 #![tactic(auto)]
 
-use std::alloc::Global;
+use jsonb::{Error, Mode};
+use std::alloc::{AllocError, Global};
 use std::io::{Read, Write};
 use std::process::ExitCode;
 use std::rt::Env;
@@ -24,6 +25,29 @@ fn read_all<R: Read>(alloc: Global, input: &mut R) -> io::Result<Vec<u8>> {
     Ok(bytes)
 }
 
+// What stands at a path of a document.
+#[derive(Drop)]
+enum Part {
+    Text(Vec<u8>),
+    Nothing,
+    NoPath,
+    Rejected(Error),
+}
+
+// The text of the part at the path of a document of extended mode.
+fn part_at(alloc: Global, path: &[u8], document: &[u8]) -> Result<Part, AllocError> {
+    let Some(keys) = jsonb_path::read_keys(alloc, path)? else {
+        return Ok(Part::NoPath);
+    };
+    let mut text = Vec::new(alloc);
+    match jsonb::append_part(alloc, document, Mode::Extended, &keys, &mut text) {
+        Ok(true) => Ok(Part::Text(text)),
+        Ok(false) => Ok(Part::Nothing),
+        Err(Error::OutOfMemory) => Err(AllocError),
+        Err(error) => Ok(Part::Rejected(error)),
+    }
+}
+
 // Writes the text and a line feed, past any buffer of the writer.
 fn put<W: Write>(out: &mut W, text: &[u8]) -> io::Result<()> {
     out.write_all(text)?;
@@ -40,18 +64,18 @@ fn main(rt: HostRuntime) -> ExitCode {
         let _ = writeln!(rt.stderr(), "the input can't be read");
         return ExitCode::FAILURE;
     };
-    match jsonb_pointer::part_text(rt.alloc(), path.as_bytes(), &document) {
-        Ok(Some(text)) => match put(&mut rt.stdout(), &text) {
-            Ok(()) => ExitCode::SUCCESS,
-            Err(_) => ExitCode::FAILURE,
-        },
-        Ok(None) => {
-            let _ = writeln!(rt.stderr(), "the document has nothing at this path");
-            ExitCode::FAILURE
+    let said = match part_at(rt.alloc(), path.as_bytes(), &document) {
+        Ok(Part::Text(text)) => {
+            return match put(&mut rt.stdout(), &text) {
+                Ok(()) => ExitCode::SUCCESS,
+                Err(_) => ExitCode::FAILURE,
+            };
         }
-        Err(error) => {
-            let _ = writeln!(rt.stderr(), "{error}");
-            ExitCode::FAILURE
-        }
-    }
+        Ok(Part::Nothing) => writeln!(rt.stderr(), "the document has nothing at this path"),
+        Ok(Part::NoPath) => writeln!(rt.stderr(), "not a JSON Pointer (RFC 6901)"),
+        Ok(Part::Rejected(error)) => writeln!(rt.stderr(), "{error}"),
+        Err(_) => writeln!(rt.stderr(), "out of memory"),
+    };
+    drop(said);
+    ExitCode::FAILURE
 }

@@ -8,7 +8,6 @@ ghost use Rattle.jsonb_spec.specs.Tree.{Tree};
 ghost use Rattle.jsonb_spec.specs.Indented.{indented_text};
 
 use jsonb::{Error, Mode, Result, Value};
-use jsonb_document::Document;
 use jsonb_pretty::write_text_indented;
 use std::alloc::Global;
 
@@ -16,9 +15,8 @@ use std::alloc::Global;
 pub fn tidy(alloc: Global, text: &[u8]) -> Result<Vec<u8>>
     ensures { IfOk result (λ out. (t : Tree) × IsDocument extended text.now t × (text_of t ≡ Some out.items)) }
 {
-    let document = Document::parse(alloc, text, Mode::Extended)?;
     let mut out = Vec::new(alloc);
-    document.write_text(&mut out)?;
+    jsonb::append_text(alloc, text, Mode::Extended, &mut out)?;
     Ok(out)
 }
 

@@ -2,6 +2,7 @@ pub mod Appends
 pub mod AstView
 pub mod FrameContents
 pub mod Held
+pub mod Follows
 pub mod Parses
 pub mod Explained
 pub mod Source

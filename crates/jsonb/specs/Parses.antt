@@ -6,28 +6,21 @@ use Rattle.jsonb_spec.specs.Mode.{Mode}
 use Rattle.jsonb_spec.specs.Tree.{Tree}
 use Rattle.jsonb_value.specs.declared.error.Error.{Error}
 use Rattle.jsonb_value.specs.declared.error.Error.TheVariants.{OutOfMemory}
-use Rattle.jsonb_scan.specs.Answer.{Fails, Gives, IsTextError, MayAllocate}
-use Rattle.jsonb_scan.specs.Parsing.Document.{document_of}
-use Rattle.jsonb.specs.Explained.{IsExplained}
+use Rattle.jsonb_scan.specs.Answer.{IsTextError, MayAllocate}
 
 -- What is returned, seen by view, is the one tree of the document. What is rejected is no document, unless memory ran
--- out, which takes a text that may allocate. The error is a fault of the text or want of memory; its code and offset
--- are those of the executable specification, and the text has there what the code says.
+-- out, which takes a text that may allocate. The error is a fault of the text or want of memory.
 pub record Parses {V : Type 0} (mode : Mode) (view : V → Tree) (text : List ℕ) (result : Result V Error) : Type 0 where
   pub document : IfOk result (λ v. IsDocument mode text (view v))
   pub only : IfOk result (λ v. (t : Tree) → IsDocument mode text t → t ≡ view v)
   pub rejected : IfErr result (λ e. e ≢ OutOfMemory → IsNoDocument mode text)
   pub memory : result ≡ Err OutOfMemory → MayAllocate text
   pub errors : IfErr result IsTextError
-  pub exact : Gives view result (document_of mode text)
-  pub explained : IfErr result (IsExplained mode text)
 
--- An error is that of the parsers.
+-- What is rejected is no document, unless memory ran out, and the error is one of the parsers.
 pub record Rejects {X : Type 0} (mode : Mode) (text : List ℕ) (result : Result X Error) : Type 0 where
   pub rejected : IfErr result (λ e. e ≢ OutOfMemory → IsNoDocument mode text)
   pub errors : IfErr result IsTextError
-  pub exact : IfErr result (λ e. Fails e (document_of mode text))
-  pub explained : IfErr result (IsExplained mode text)
 
 -- What is made of the text is appended. Else the buffer has its old bytes; memory runs out only where the text may
 -- allocate, or where the room for all that is appended is missing. A buffer that has room keeps it, where the text

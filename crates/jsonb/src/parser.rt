@@ -10,6 +10,7 @@ ghost use Rattle.jsonb_spec.specs.Tree.{Tree};
 ghost use Rattle.jsonb_value.specs.View.{view};
 ghost use Rattle.jsonb_scan.specs.Answer.{mode_of, MayAllocate};
 ghost use Rattle.jsonb_scan.specs.Parsing.Document.{source_of};
+ghost use Rattle.jsonb.specs.Follows.{FollowsSpecification};
 ghost use Rattle.jsonb.specs.Parses.{Parses};
 ghost use Rattle.jsonb_parse.specs.Handler.{Misses};
 
@@ -47,6 +48,7 @@ pub use straight::{append_sort_key, append_text, check, may_allocate};
 pub fn parse_value_standard_mode(alloc: Global, buf: &[u8]) -> Result<Value<'_>>
     // What is returned is the one tree of the document; what is rejected is none, unless memory ran out.
     ensures parses { Parses standard view buf.now result }
+    ensures follows { FollowsSpecification standard view buf.now result }
 
     // What is parsed is in the range of integers, so that what is written of it reads back.
     ensures in_range { IfOk result (λ v. IsIntegerRange (view v)) }
@@ -76,6 +78,7 @@ pub fn parse_value_standard_mode(alloc: Global, buf: &[u8]) -> Result<Value<'_>>
 pub fn parse_value(alloc: Global, buf: &[u8]) -> Result<Value<'_>>
     // What is returned is the one tree of the document; what is rejected is none, unless memory ran out.
     ensures parses { Parses extended view buf.now result }
+    ensures follows { FollowsSpecification extended view buf.now result }
 
     // What is parsed is in range, so that what is written of it reads back.
     ensures in_range { IfOk result (λ v. IsInRange (view v)) }
@@ -95,6 +98,7 @@ fn value_of_tree(alloc: Global, buf: &[u8], mode: Mode, told: Option<Error>) -> 
     requires misses { Misses true told (source_of (mode_of mode) buf.now) }
     requires memory { told ≡ Some Error.OutOfMemory → MayAllocate buf.now }
     ensures parses { Parses (mode_of mode) view buf.now result }
+    ensures follows { FollowsSpecification (mode_of mode) view buf.now result }
 {
     match told {
         Some(error) => Err(error),

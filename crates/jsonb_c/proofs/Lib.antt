@@ -1,6 +1,9 @@
+pub mod ArraySizes
 pub mod Contained
+pub mod DocumentParts
 pub mod KeyParts
 pub mod Keys
 pub mod Parts
+pub mod PartsAt
 pub mod Reasons
 pub mod Texts

@@ -14,6 +14,7 @@ ghost use Rattle.jsonb_spec.specs.Order.{bytes_cmp};
 ghost use Rattle.jsonb_value.specs.View.{view};
 ghost use Rattle.jsonb_spec.specs.Line.{column_at, fault_index, line_at};
 ghost use Rattle.jsonb_scan.specs.Answer.{mode_of, MayAllocate, IsTextError};
+ghost use Rattle.jsonb.specs.Follows.{FollowsSpecification};
 ghost use Rattle.jsonb.specs.Parses.{Parses};
 ghost use Rattle.jsonb_path.specs.Path.{IsPath};
 ghost use Rattle.jsonb_c.specs.Interface.{NumberChooses, code_number, nothing, sign, status_of, refusal_of, AcceptsDocuments, EitherMayAllocate, FailsFor, FillsBuffer, FormMayAllocate, HasNoPartAt, HasPartAt, IsAccepted, IsNoDocumentOf, IsNoPath, IsOneRejected, IsOrdered, IsDocumentOf, IsKeyOf, IsMessageOf, IsPartAnswer, IsPartOf, IsRejected, IsStatus, IsStatusOfForm, IsTextOf, NeedsRoomForBoth, OrdersTexts, PartMayAllocate, SaysError, Tells, Writes};
@@ -734,6 +735,7 @@ fn choose_mode(number: u32) -> Option<Mode>
 // The value of a text, by the reader of the mode.
 fn read<'a>(alloc: Global, mode: Mode, text: &'a [u8]) -> jsonb::Result<Value<'a>>
     ensures parses { Parses (mode_of mode) view text.now result }
+    ensures follows { FollowsSpecification (mode_of mode) view text.now result }
 {
     match mode {
         Mode::Standard => parse_value_standard_mode(alloc, text),

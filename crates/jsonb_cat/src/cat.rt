@@ -5,6 +5,7 @@ ghost use Rattle.std.specs.Io.KnownBytes.{Appends, IsAtEnd};
 ghost use Rattle.jsonb_spec.specs.Ascii as ascii;
 ghost use Rattle.jsonb_spec.specs.Mode.{Mode as GrammarMode};
 ghost use Rattle.jsonb_scan.specs.Answer.{mode_of, MayAllocate};
+ghost use Rattle.jsonb.specs.Follows.{FailsAsSpecified};
 ghost use Rattle.jsonb.specs.Parses.{Rejects};
 ghost use Rattle.jsonb_spec.specs.Program.{WordsChoose, IsLineOf, LacksRoom, IsAccepted, IsAnswered};
 
@@ -41,8 +42,9 @@ pub fn choose_mode(words: &[String]) -> Option<Mode>
 pub fn convert(alloc: Global, mode: Mode, input: &[u8], out: &mut Vec<u8>) -> Result<()>
     ensures ok { OnOk result ((line : List ℕ) × IsLineOf (mode_of mode) input.now line
         × (out.new.items ≡ out.old.items ++ line)) }
-    // Which fault it is, and where, and what stands at the place that is named.
+    // What is rejected is no document. Which fault it is, and where, and what stands at the offset that is named.
     ensures rejects { Rejects (mode_of mode) input.now result }
+    ensures follows { FailsAsSpecified (mode_of mode) input.now result }
     ensures memory { result ≡ Err Error.OutOfMemory → MayAllocate input.now
         ⊎ LacksRoom (mode_of mode) input.now (vec_capacity out.old) (vec_len out.old) }
     ensures err { OnErr result (out.new.items ≡ out.old.items) }

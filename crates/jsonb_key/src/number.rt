@@ -15,7 +15,7 @@ use jsonb_value::number::{Decimal64, Decimal128, Number};
 use jsonb_value::sort_key::kind;
 
 /// The number whose key the bytes begin with, and the bytes after it.
-pub fn read_number(bytes: &[u8]) -> Option<(Number, &[u8])>
+pub(crate) fn read_number(bytes: &[u8]) -> Option<(Number, &[u8])>
     ensures found { (n : Num) → IsProperNumber n → (more : List ℕ) → bytes.now ≡ number_key n ++ more
         → MatchOption result ⊥ (λ r. (number_key (number_view r.0) ≡ number_key n) × (r.1.now ≡ more)) }
     ensures read { IfSome result (λ r. NumberStands bytes.now (number_view r.0) r.1.now) }

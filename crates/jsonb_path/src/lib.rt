@@ -1,10 +1,8 @@
 //! Paths of RFC 6901 (JSON Pointer): `/a/0` is the first item of the member `a`.
 #![tactic(auto)]
 
-pub mod error;
 pub mod index;
 pub mod keys;
 
-pub use error::PathError;
 pub use index::index_of;
 pub use keys::{plain_key, read_keys};

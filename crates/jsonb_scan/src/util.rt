@@ -2,4 +2,5 @@
 
 mod decoder;
 
-pub use decoder::{check_contents, decode_behind, decode_escape, parse_string, unescape};
+pub(crate) use decoder::unescape;
+pub use decoder::{check_contents, decode_behind, decode_escape, parse_string};

@@ -5,6 +5,7 @@ ghost use Rattle.std.specs.Int.{trailing_zeros, w64};
 ghost use Rattle.memchr.specs.Find.{IsFirstByte, is_byte};
 ghost use Rattle.jsonb_stored.specs.Frames.{ArePlain, PlainRun, TextFirst, Utf8UpTo};
 
+use jsonb_value::plain::first_set;
 use memchr::memchr;
 use std::simd::prelude::*;
 
@@ -154,16 +155,4 @@ fn run_of_sixteen(bytes: &[u8]) -> usize
     let lanes = u8x16::from_slice(bytes);
     let marks = lanes.simd_eq(u8x16::splat(0)) | lanes.simd_ge(u8x16::splat(128));
     first_set(marks.to_bitmask(), 16)
-}
-
-// The index of the lowest bit that is set, or the number of lanes where none is.
-#[inline(always)]
-fn first_set(mask: u64, lanes: usize) -> usize
-    ensures { result ≡ (if mask == 0 then lanes else trailing_zeros w64 mask) }
-{
-    if mask == 0 {
-        lanes
-    } else {
-        mask.trailing_zeros() as usize
-    }
 }

@@ -71,7 +71,7 @@ pub fn count_parts(key: &[u8]) -> Result<Option<usize>, NoKey>
 /// # Errors
 ///
 /// `NoKey` where a part's key or the end is missing.
-pub fn count_left(object: bool, bytes: &[u8]) -> Result<usize, NoKey>
+pub(crate) fn count_left(object: bool, bytes: &[u8]) -> Result<usize, NoKey>
     ensures counted { AtParts object bytes.now (λ o more. result ≡ Ok (open_len o)) }
     ensures within { IfOk result (λ count. count ≤ length bytes.now) }
 {

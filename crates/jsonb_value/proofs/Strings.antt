@@ -2,6 +2,7 @@
 pub mod Exclusion
 pub mod Meaning
 pub mod PlainRuns
+pub mod PlainTexts
 pub mod Spelling
 pub mod Units
 pub mod Writing

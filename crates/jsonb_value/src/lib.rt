@@ -5,5 +5,6 @@ pub mod error;
 pub mod extension;
 pub mod number;
 pub mod parts;
+pub mod plain;
 pub mod sort_key;
 pub mod value;

@@ -6,14 +6,13 @@ use Rattle.std.proofs.Math.Seq.{take-add, drop-append_seam}
 use Rattle.std.specs.List.{flat_map}
 use Rattle.jsonb_spec.specs.Mode.{Mode, standard, extended}
 use Rattle.jsonb_spec.specs.Grammar.StringBody.{escaped_byte}
-use Rattle.jsonb_spec.specs.Text.StringText.{byte_text}
+use Rattle.jsonb_spec.specs.Text.StringText.{ArePlain, byte_text}
 use Rattle.jsonb_scan.specs.Decoding.{DecodesUpTo, IsDecodedUpTo, SeesNoBackslash}
 use Rattle.jsonb_scan.specs.QuotedString.{decoded_text}
 use Rattle.jsonb_scan.proofs.Strings.Checks.{decoded_text-is}
 use Rattle.jsonb_scan.proofs.Strings.Decoding.{decoded_escape, decoded_run, decoded_then}
 use Rattle.jsonb_write.specs.Escaped.{IsKeptLetter, WritesItems}
-use Rattle.text_common.specs.PlainText.{ArePlain}
-use Rattle.text_common.proofs.PlainTexts.{byte_some, no_shorter}
+use Rattle.jsonb_value.proofs.Strings.PlainTexts.{byte_some, no_shorter}
 
 pub writes_start : (mode : Mode) (bytes old : List ℕ) → WritesItems mode bytes bytes old old
 writes_start mode bytes old = record {

@@ -4,8 +4,7 @@ use Rattle.std.proofs.Math.Seq.{take-append_seam}
 use Rattle.std.proofs.lemmas.List.{take-append-drop}
 use Rattle.std.specs.List.{flat_map}
 use Rattle.jsonb_spec.specs.Text.{in_quotes}
-use Rattle.jsonb_spec.specs.Text.StringText.{byte_text, quoted_text}
-use Rattle.text_common.specs.PlainText.{ArePlain}
+use Rattle.jsonb_spec.specs.Text.StringText.{ArePlain, byte_text, quoted_text}
 use Rattle.jsonb_write.specs.TextRoom.{Writes}
 use Rattle.jsonb_write.specs.declared.text.TextRoom.{TextRoom}
 

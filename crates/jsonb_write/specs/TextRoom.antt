@@ -9,7 +9,7 @@ use Rattle.jsonb_spec.specs.Grammar.StandardNumber.{IsStandardNumber}
 use Rattle.jsonb_spec.specs.Ascii as ascii
 use Rattle.jsonb_spec.specs.Text.{in_quotes, with_commas}
 use Rattle.jsonb_spec.specs.Text.NumberText.{number_text}
-use Rattle.jsonb_spec.specs.Text.StringText.{quoted_text}
+use Rattle.jsonb_spec.specs.Text.StringText.{ArePlain, quoted_text}
 use Rattle.jsonb_spec.specs.Tree.Mark.{escaped}
 use Rattle.jsonb_spec.specs.Tree.{plain}
 use Rattle.jsonb_value.specs.View.{mark_view, number_view}
@@ -20,7 +20,6 @@ use Rattle.jsonb_write.specs.MemberStarts.{AreKept, MemberStart, IsKept}
 use Rattle.jsonb_write.specs.Members.{AreKeyed, SpotsAscend, spot_at, spot_in}
 use Rattle.jsonb_write.specs.OpenText.{is_empty, member_text, open_text}
 use Rattle.text_common.specs.SourceText.{source_text}
-use Rattle.text_common.specs.PlainText.{ArePlain}
 use Rattle.jsonb_write.specs.Written.{bytes_of}
 use Rattle.jsonb_write.specs.declared.members.Member.{Member}
 use Rattle.jsonb_write.specs.declared.text.Part.{Part}

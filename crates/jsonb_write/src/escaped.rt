@@ -6,13 +6,12 @@ ghost use Rattle.std.specs.List.{flat_map};
 ghost use Rattle.jsonb_spec.specs.Ascii as ascii;
 ghost use Rattle.jsonb_spec.specs.Mode.{Mode as GrammarMode};
 ghost use Rattle.jsonb_spec.specs.Text.Appending.{Extends};
-ghost use Rattle.jsonb_spec.specs.Text.StringText.{byte_text, control_text};
+ghost use Rattle.jsonb_spec.specs.Text.StringText.{ArePlain, byte_text, control_text};
 ghost use Rattle.jsonb_scan.specs.Answer.{mode_of};
 ghost use Rattle.jsonb_scan.specs.Decoding.{AreContents};
 ghost use Rattle.jsonb_scan.specs.QuotedString.{decoded_text};
 ghost use Rattle.jsonb_write.specs.Contents.{text_of_contents};
 ghost use Rattle.jsonb_write.specs.Escaped.{IsKeptLetter, WritesItems};
-ghost use Rattle.text_common.specs.PlainText.{ArePlain};
 
 use crate::contents::Contents;
 use crate::short::append_first;
@@ -20,7 +19,7 @@ use jsonb_scan::parser::Mode;
 use jsonb_scan::util::decode_escape;
 use std::alloc::AllocError;
 use std::simd::prelude::*;
-use text_common::plain::{first_set, run_by_bytes, run_of_sixteen};
+use jsonb_value::plain::{first_set, run_by_bytes, run_of_sixteen};
 
 // Whether an escape of this letter is written as it stands.
 #[inline(always)]

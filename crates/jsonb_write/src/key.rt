@@ -44,7 +44,7 @@ impl<'a> KeyRoom<'a> {
     ghost use Rattle.jsonb_write.specs.KeyRoom.{Begins, Closes, EndsObject, HasMember, Held, IsSettled, KeepsMembers, KeyFilled, KeyStands, KeysAscendFrom, TellsRepeatOf, Writes, base_of, part_key, spot_among};
     ghost use Rattle.jsonb_write.specs.KeyRoom.Held.{items, members};
     ghost use Rattle.jsonb_write.specs.Members.{source_key};
-    ghost use Rattle.text_common.specs.PlainText.{ArePlain};
+    ghost use Rattle.jsonb_spec.specs.Text.StringText.{ArePlain};
     ghost use Rattle.jsonb_write.specs.TextRoom.{IsSpelled, SeesPart};
 
     /// A buffer to whose end a value's sort key is written.

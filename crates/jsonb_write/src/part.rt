@@ -55,7 +55,7 @@ impl<'a> PartRoom<'a> {
     ghost use Rattle.jsonb_value.specs.View.{mark_view};
     ghost use Rattle.jsonb_write.specs.PartRoom.{EndsObject, IsAhead, Leads, PartEnds, PartFilled, PartHeld, PartStands, first_index, first_key, follow_key, keys_of, path_behind, other_keys, part_of, rest_at};
     ghost use Rattle.jsonb_write.specs.PartRoom.PartHeld.{array_held, object_held};
-    ghost use Rattle.text_common.specs.PlainText.{ArePlain};
+    ghost use Rattle.jsonb_spec.specs.Text.StringText.{ArePlain};
     ghost use Rattle.jsonb_write.specs.TextRoom.{IsSpelled, SeesPart, TellsRepeatOf, base_of, spot_among};
     ghost use Rattle.jsonb_write.specs.Written.{bytes_of};
 

@@ -11,7 +11,7 @@ use crate::written::Written;
 use jsonb_value::number::Number;
 use std::alloc::{AllocError, Global};
 use std::borrow::CowStr;
-use text_common::plain::is_plain;
+use jsonb_value::plain::is_plain;
 
 /// A value that holds no others and is to be written, or one that is written.
 #[derive(Drop)]
@@ -75,7 +75,7 @@ impl<'a> TextRoom<'a> {
     ghost use Rattle.jsonb_value.specs.View.{mark_view, number_view};
     ghost use Rattle.jsonb_write.specs.OpenText.{comma_unless};
     ghost use Rattle.text_common.specs.SourceText.{source_text};
-    ghost use Rattle.text_common.specs.PlainText.{ArePlain};
+    ghost use Rattle.jsonb_spec.specs.Text.StringText.{ArePlain};
     ghost use Rattle.jsonb_write.specs.TextRoom.{Begins, Closes, EndsObject, HasMember, Held, IsSettled, KeepsMembers, KeysAscendFrom, TellsRepeatOf, spot_among, IsSpelled, SeesPart, TextFilled, TextStands, Writes, base_of, part_text};
     ghost use Rattle.jsonb_write.specs.TextRoom.Held.{items, members};
     ghost use Rattle.jsonb_write.specs.Written.{bytes_of};

@@ -4,9 +4,8 @@ use Rattle.std.proofs.lemmas.Bool.{cond-true, cond-false, ne_eqb}
 use Rattle.std.proofs.lemmas.List.{map-append, take-append-drop}
 use Rattle.std.proofs.Math.Seq.{drop-append_seam}
 use Rattle.std.specs.List.{flat_map}
-use Rattle.jsonb_spec.specs.Text.StringText.{byte_text}
-use Rattle.text_common.specs.PlainText.{ArePlain}
-use Rattle.text_common.proofs.PlainTexts.{byte_some, no_shorter}
+use Rattle.jsonb_spec.specs.Text.StringText.{ArePlain, byte_text}
+use Rattle.jsonb_value.proofs.Strings.PlainTexts.{byte_some, no_shorter}
 use Rattle.plain_numbers.specs.Passing.{PassesString}
 use Rattle.plain_numbers.specs.Pieces.{Piece, other, pieces, in_string}
 

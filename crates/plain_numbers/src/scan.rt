@@ -5,8 +5,8 @@ ghost use Rattle.plain_numbers.specs.Pieces.{is_foreign};
 ghost use Rattle.plain_numbers.specs.View.{FindsNumber};
 
 use crate::number::{Parts, is_mark, parts_of};
+use jsonb_value::plain::{first_set, plain_len};
 use std::simd::prelude::*;
-use text_common::plain::{first_set, plain_len};
 
 // A byte that stands in no text of RFC 8259 but in strings.
 #[inline(always)]

@@ -7,12 +7,11 @@ use Rattle.std.specs.List.{flat_map}
 use Rattle.jsonb_key.specs.Reading.{byte_of, read_as}
 use Rattle.jsonb_key.proofs.Texts.{text_begun, byte_read, text_ended}
 use Rattle.jsonb_spec.specs.SortKey.{text_key}
-use Rattle.jsonb_spec.specs.Text.StringText.{byte_text}
+use Rattle.jsonb_spec.specs.Text.StringText.{ArePlain, byte_text}
 use Rattle.jsonb_value.proofs.Appending.Appended.{IsUnderway, begun, goes_on, fits}
 use Rattle.jsonb_value.proofs.SortKeys.Texts.{text_key-other}
 use Rattle.jsonb_value.proofs.Trees.Runs.{heads, tails}
-use Rattle.text_common.specs.PlainText.{ArePlain}
-use Rattle.text_common.proofs.PlainTexts.{byte_some, no_shorter}
+use Rattle.jsonb_value.proofs.Strings.PlainTexts.{byte_some, no_shorter}
 use Rattle.stored_text.specs.Writes.{closing_quote}
 
 -- ---- runs without escapes

@@ -1,17 +1,15 @@
 //! The bytes of a string from its key, with their escapes.
 ghost use Rattle.std.specs.Prelude.{◌≡◌, ◌<◌, ◌≤◌, length, take};
-ghost use Rattle.std.specs.Char.{digit_char};
 ghost use Rattle.jsonb_spec.specs.Text.Appending.{Appends};
-ghost use Rattle.jsonb_spec.specs.Text.StringText.{byte_text, control_text};
-ghost use Rattle.text_common.specs.PlainText.{ArePlain};
+ghost use Rattle.jsonb_spec.specs.Text.StringText.{ArePlain};
 ghost use Rattle.stored_text.specs.Writes.{closing_quote, WritesString};
 
 use crate::append::{append_chunk, append_first};
 use jsonb_key::KeyError;
 use jsonb_key::text::{read_byte, skip_pair};
+use jsonb_value::plain::{append_byte, plain_len};
 use jsonb_value::sort_key::kind;
 use std::alloc::AllocError;
-use text_common::plain::plain_len;
 
 // Appends the bytes of the text whose key the bytes begin with, a double quote, and a colon behind a name.
 #[inline(always)]
@@ -84,45 +82,4 @@ fn append_closing_quote(colon: bool, buf: &mut Vec<u8>) -> Result<(), AllocError
         return buf.extend_from_slice(b"\":");
     }
     buf.extend_from_slice(b"\"")
-}
-
-// Appends a byte of a string, with an escape where it needs one.
-fn append_byte(byte: u8, buf: &mut Vec<u8>) -> Result<(), AllocError>
-    ensures { Appends result buf.old buf.new (byte_text byte) }
-{
-    match byte {
-        b'"' => buf.extend_from_slice(b"\\\""),
-        b'\\' => buf.extend_from_slice(b"\\\\"),
-        b'\n' => buf.extend_from_slice(b"\\n"),
-        b'\r' => buf.extend_from_slice(b"\\r"),
-        b'\t' => buf.extend_from_slice(b"\\t"),
-        0..b' ' => buf.extend_from_slice(&control_text(byte)),
-        _ => buf.extend_from_slice(&[byte]),
-    }
-}
-
-// The escape of a control byte, by its number.
-fn control_text(byte: u8) -> [u8; 6]
-    ensures { result ≡ control_text byte }
-{
-    [
-        b'\\',
-        b'u',
-        b'0',
-        b'0',
-        hexadecimal_digit(byte / 16),
-        hexadecimal_digit(byte % 16),
-    ]
-}
-
-// The digit of a number below 16.
-fn hexadecimal_digit(value: u8) -> u8
-    requires { value < 16 }
-    ensures { result ≡ digit_char value }
-{
-    if value < 10 {
-        b'0' + value
-    } else {
-        b'a' + (value - 10)
-    }
 }

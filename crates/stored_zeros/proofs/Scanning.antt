@@ -5,9 +5,8 @@ use Rattle.std.proofs.lemmas.Bool.{cond-true, cond-false, cases_lt, ne_eqb, lt-l
 use Rattle.std.specs.Bool.{nat_lt}
 use Rattle.std.specs.Char.{digit_char}
 use Rattle.std.specs.List.{flat_map}
-use Rattle.jsonb_spec.specs.Text.StringText.{byte_text, control_text, quoted_text}
-use Rattle.text_common.specs.PlainText.{ArePlain}
-use Rattle.text_common.proofs.PlainTexts.{byte_some, no_shorter}
+use Rattle.jsonb_spec.specs.Text.StringText.{ArePlain, byte_text, control_text, quoted_text}
+use Rattle.jsonb_value.proofs.Strings.PlainTexts.{byte_some, no_shorter}
 use Rattle.stored_zeros.specs.Scan.{from_number, from_number_behind}
 
 -- ---- inside of a string

@@ -6,8 +6,8 @@
 //! |---|---|
 //! | one text, which is accepted | `ok`, its tree, its serialized form in hexadecimal, and `same` or `differs` |
 //! | one text, which is rejected | `no` and the printed error, in hexadecimal; and `differs` where the value of the text, or a text that is checked or appended straight, is rejected otherwise, or the buffer changes |
-//! | two texts, which are accepted | `less`, `equal` or `greater`; `differs` where documents compare otherwise |
-//! | a text for its key | `ok`, the sort key in hexadecimal, and `differs` where the key's value isn't equal, or where a document's key or the key that is appended straight is another; or `no` as above |
+//! | two texts, which are accepted | `less`, `equal` or `greater`; `differs` where their sort keys compare otherwise |
+//! | a text for its key | `ok`, the sort key in hexadecimal, and `differs` where the key's value isn't equal, or where the key that is appended straight is another; or `no` as above |
 //! | contents | `ok` and their text in hexadecimal, or `no` as above; and the offset that `parse_string` leaves |
 //! | one number | its text, `as_i128`, `as_i64`, `as_u64`, `to_i128`, `to_i64`, `to_u64`, `neg`, and its sort key |
 //! | two numbers | their order, their sum, difference, product and remainder |
@@ -16,14 +16,13 @@
 //! A cast that returns no number is `none`. An error of arithmetic is `no:` and the printed error, in hexadecimal.
 //!
 //! It is `same` where the parsed value is that of the tree, with the same variants of numbers and the same strings
-//! borrowed, where its serialized form is parsed as an equal value with that serialized form, where a document, of
-//! which no value is built, has that serialized form too and becomes an equal value, and where the serialized form and
-//! the sort key that are appended straight from the text are those of the value. The text is checked alone, too.
+//! borrowed, where its serialized form is parsed as an equal value with that serialized form, and where the serialized
+//! form and the sort key that are appended straight from the text are those of the value. The text is checked alone,
+//! too.
 
 use crate::same::are_same;
 use crate::{numbers, straight, tree};
 use jsonb::{Error, JsonAst, Mode, Value};
-use jsonb_document::Document;
 use std::alloc::{AllocError, Global};
 use std::cmp::Ordering;
 
@@ -67,17 +66,13 @@ fn of_key(alloc: Global, text: &str) -> Result<String, AllocError> {
     }
 }
 
-// The sort key of a text's value, and whether the key is decoded as an equal value and is that of the document.
+// The sort key of a text's value, and whether the key is decoded as an equal value and is appended straight too.
 fn sort_key(alloc: Global, text: &[u8]) -> jsonb::Result<(Vec<u8>, bool)> {
     let value = jsonb::parse_value(alloc, text)?;
     let mut key = Vec::new(alloc);
     value.write_sort_key(&mut key)?;
-    let mut same = Vec::new(alloc);
-    Document::parse(alloc, text, Mode::Extended)?.write_sort_key(&mut same)?;
     let decodes = is_key_of(alloc, &key, &value.to_owned_value(alloc)?);
-    let agrees = decodes
-        && key[..] == same[..]
-        && straight::gives_key(alloc, Mode::Extended, text, &key)?;
+    let agrees = decodes && straight::gives_key(alloc, Mode::Extended, text, &key)?;
     Ok((key, agrees))
 }
 
@@ -155,17 +150,19 @@ fn read(alloc: Global, mode: Mode, text: &[u8]) -> jsonb::Result<Value<'_>> {
     }
 }
 
-// The order of two texts' values, or `None` where that of their documents is another.
-fn order<'a>(
+// The order of two texts' values, or `None` where that of their sort keys is another.
+fn order(
     alloc: Global,
     mode: Mode,
-    left: &'a [u8],
-    right: &'a [u8],
+    left: &[u8],
+    right: &[u8],
 ) -> jsonb::Result<Option<Ordering>> {
     let order = read(alloc, mode, left)?.cmp(&read(alloc, mode, right)?);
-    let first = Document::parse(alloc, left, mode)?;
-    let second = Document::parse(alloc, right, mode)?;
-    Ok(if first.cmp(&second) == order {
+    let mut first = Vec::new(alloc);
+    jsonb::append_sort_key(alloc, left, mode, &mut first)?;
+    let mut second = Vec::new(alloc);
+    jsonb::append_sort_key(alloc, right, mode, &mut second)?;
+    Ok(if first[..].cmp(&second[..]) == order {
         Some(order)
     } else {
         None
@@ -191,8 +188,7 @@ fn text_of(alloc: Global, mode: Mode, text: &[u8]) -> jsonb::Result<Vec<u8>> {
     Ok(written)
 }
 
-// Whether the value is that of the tree and of the document, what its text reads back as is equal to it, and the text
-// is written again.
+// Whether the value is that of the tree, what its text reads back as is equal to it, and the text is written again.
 fn agree<'a>(alloc: Global, mode: Mode, text: &'a [u8], written: &'a [u8]) -> jsonb::Result<bool> {
     let value = read(alloc, mode, text)?;
     let again = read(alloc, mode, written)?;
@@ -203,24 +199,9 @@ fn agree<'a>(alloc: Global, mode: Mode, text: &'a [u8], written: &'a [u8]) -> js
         are_same(&converted, &value)
             && again == value
             && &written_again[..] == written
-            && document_agrees(alloc, mode, text, &value, written)?
             && straight::gives_text(alloc, mode, text, written)?
             && straight_key_agrees(alloc, mode, text, &value)?,
     )
-}
-
-// Whether a document of the text has this serialized form, and becomes this value.
-fn document_agrees<'a>(
-    alloc: Global,
-    mode: Mode,
-    text: &'a [u8],
-    value: &Value<'a>,
-    written: &[u8],
-) -> jsonb::Result<bool> {
-    let document = Document::parse(alloc, text, mode)?;
-    let mut form = Vec::new(alloc);
-    document.write_text(&mut form)?;
-    Ok(&form[..] == written && are_same(&document.into_value(alloc)?, value))
 }
 
 // Whether the key that is appended straight is the value's.

@@ -2,10 +2,9 @@
 //! text in hexadecimal. Each call has a line of its own: its name, a space, and the text of its answer or what is
 //! printed of the error.
 
-use jsonb::{Error, JsonAst, Mode, Result, Value};
-use jsonb_document::Document;
+use jsonb::{Error, JsonAst, Mode, Result, Value, append_part};
 use jsonb_key::{KeyError, value_of_sort_key};
-use jsonb_pointer::PathError;
+use jsonb_path::read_keys;
 use jsonb_pretty::write_text_indented;
 use std::alloc::Global;
 use std::borrow::CowStr;
@@ -43,11 +42,8 @@ pub fn report<W: Write>(alloc: Global, line: &str, out: &mut W) -> io::Result<()
     say(out, "clone", &clone(alloc, mode, &text))?;
     say(out, "owned", &text_of_owned(alloc, mode, &text))?;
     say(out, "tree_clone", &tree_clone(alloc, mode, &text))?;
-    say(out, "document", &document(alloc, mode, &text))?;
-    say(out, "document_key", &document_key(alloc, mode, &text))?;
     say(out, "straight", &straight(alloc, mode, &text))?;
     say(out, "straight_key", &straight_key(alloc, mode, &text))?;
-    say(out, "document_value", &document_value(alloc, mode, &text))?;
     say(out, "decoded", &text_of_key(alloc, mode, &text))?;
     say(out, "cut_key", &cut_key(alloc, mode, &text))?;
     say(out, "indented", &indented_text(alloc, mode, &text))?;
@@ -109,24 +105,6 @@ fn tree_clone(alloc: Global, mode: Mode, text: &[u8]) -> Result<Vec<u8>> {
     text_of(alloc, &tree.into_value(alloc)?)
 }
 
-// A document's text, behind what the buffer held. Where it found no room, the buffer holds that and nothing else.
-fn document(alloc: Global, mode: Mode, text: &[u8]) -> Result<Vec<u8>> {
-    let document = Document::parse(alloc, text, mode)?;
-    let mut buffer = Vec::from_slice(alloc, b"x")?;
-    let done = document.write_text(&mut buffer);
-    bytes_or_error(alloc, done, buffer)
-}
-
-// A document's sort key, in hexadecimal, behind what the buffer held, which is there after an error too.
-fn document_key(alloc: Global, mode: Mode, text: &[u8]) -> Result<Vec<u8>> {
-    let document = Document::parse(alloc, text, mode)?;
-    let mut buffer = Vec::from_slice(alloc, b"x")?;
-    let done = document.write_sort_key(&mut buffer);
-    let key = bytes_or_error(alloc, done, buffer)?;
-    let key = hex::encode(alloc, &key[..])?;
-    Ok(Vec::from_slice(alloc, key.as_bytes())?)
-}
-
 // A text's serialized form, appended straight behind what the buffer held.
 fn straight(alloc: Global, mode: Mode, text: &[u8]) -> Result<Vec<u8>> {
     let mut buffer = Vec::from_slice(alloc, b"x")?;
@@ -152,13 +130,6 @@ fn bytes_or_error(alloc: Global, done: Result<()>, buffer: Vec<u8>) -> Result<Ve
         Err(e) => Err(e),
         Ok(()) => Ok(buffer),
     }
-}
-
-fn document_value(alloc: Global, mode: Mode, text: &[u8]) -> Result<Vec<u8>> {
-    text_of(
-        alloc,
-        &Document::parse(alloc, text, mode)?.into_value(alloc)?,
-    )
 }
 
 // The text of what the sort key is decoded as.
@@ -194,14 +165,18 @@ fn indented_text(alloc: Global, mode: Mode, text: &[u8]) -> Result<Vec<u8>> {
     Ok(Vec::from_slice(alloc, lines.as_bytes())?)
 }
 
-// The text of the part at a path, or what there is in place of it.
+// The text of the part at a path, behind what the buffer held, or what there is in place of it.
 fn part(alloc: Global, mode: Mode, text: &[u8], path: &[u8]) -> Result<Vec<u8>> {
-    let value = read(alloc, mode, text)?;
-    match jsonb_pointer::get(alloc, &value, path) {
-        Ok(Some(part)) => text_of(alloc, part),
-        Ok(None) => Ok(Vec::from_slice(alloc, b"no part")?),
-        Err(PathError::NoMemory) => Err(Error::OutOfMemory),
-        Err(_) => Ok(Vec::from_slice(alloc, b"no path")?),
+    let Some(keys) = read_keys(alloc, path)? else {
+        return Ok(Vec::from_slice(alloc, b"no path")?);
+    };
+    let mut buffer = Vec::from_slice(alloc, b"x")?;
+    let done = append_part(alloc, text, mode, &keys, &mut buffer);
+    match done {
+        Ok(true) => bytes_or_error(alloc, Ok(()), buffer),
+        Ok(false) if &buffer[..] == b"x".as_slice() => Ok(Vec::from_slice(alloc, b"no part")?),
+        Ok(false) => Ok(Vec::from_slice(alloc, b"the buffer has changed")?),
+        Err(error) => bytes_or_error(alloc, Err(error), buffer),
     }
 }
 

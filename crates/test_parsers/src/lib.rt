@@ -14,4 +14,6 @@ mod line;
 #[cfg(test)]
 mod part;
 #[cfg(test)]
+mod path;
+#[cfg(test)]
 mod straight;

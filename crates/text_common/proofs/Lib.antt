@@ -1,4 +1,3 @@
-pub mod PlainTexts
 pub mod Repeats
 pub mod Shuffles
 pub mod SpelledNumbers

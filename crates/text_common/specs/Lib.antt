@@ -1,3 +1,2 @@
-pub mod PlainText
 pub mod SourceText
 pub mod SpelledNumber

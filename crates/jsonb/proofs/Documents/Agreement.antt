@@ -9,6 +9,7 @@ use Rattle.jsonb_spec.specs.Mode.{Mode}
 use Rattle.jsonb_spec.specs.Tree.{Tree}
 use Rattle.jsonb.specs.AstView.{ast_view}
 use Rattle.jsonb_scan.specs.Answer.{Fails, Gives, IsTextError, MayAllocate}
+use Rattle.jsonb.specs.Follows.{FailsAsSpecified, FollowsSpecification}
 use Rattle.jsonb.specs.Parses.{Parses, Rejects}
 use Rattle.jsonb_spec.specs.Source.{Source, tree_of_source}
 use Rattle.jsonb_scan.specs.Parsing.{Fault, ◌>>=◌}
@@ -84,9 +85,10 @@ module _ {V : Type 0} (mode : Mode) (view : V → Tree) (bytes : List ℕ) where
     rejected = gives_rejected r g;
     memory = memory;
     errors = gives_errors view r (document_of mode bytes) g;
-    exact = g;
-    explained = gives_explained r g;
   }
+
+  pub gives_as_specified : (r : Result V Error) → Gives view r (document_of mode bytes) → FollowsSpecification mode view bytes r
+  gives_as_specified r g = record { exact = g; explained = gives_explained r g }
 
 -- what an error says of the text that is the fault that is parsed
 pub fault_rejects : {X : Type 0} (mode : Mode) (bytes : List ℕ) (e : Error) → Fails e (source_of mode bytes) → Rejects {X = X} mode bytes (Err e)
@@ -95,6 +97,9 @@ fault_rejects mode bytes e fails =
     record {
       rejected = gives_rejected mode ast_view bytes (Err e) exact;
       errors = gives_errors ast_view (Err e) (document_of mode bytes) exact;
-      exact = exact;
-      explained = gives_explained mode ast_view bytes (Err e) exact;
     }
+
+pub fault_fails : {X : Type 0} (mode : Mode) (bytes : List ℕ) (e : Error) → Fails e (source_of mode bytes) → FailsAsSpecified {X = X} mode bytes (Err e)
+fault_fails mode bytes e fails =
+    let exact = gives_tree mode bytes (Err e) fails in
+    record { exact = exact; explained = gives_explained mode ast_view bytes (Err e) exact }

@@ -3,6 +3,7 @@ ghost use Rattle.std.specs.Prelude.{◌≡◌, ◌<◌, IfOk, Err};
 ghost use Rattle.jsonb.specs.AstView.{ast_view};
 ghost use Rattle.jsonb_scan.specs.Answer.{mode_of};
 ghost use Rattle.jsonb_spec.specs.Placed.{IsPlaced};
+ghost use Rattle.jsonb.specs.Follows.{FollowsSpecification};
 ghost use Rattle.jsonb.specs.Parses.{Parses};
 ghost use Rattle.jsonb.specs.Source.{source_view};
 
@@ -48,6 +49,7 @@ impl<'a> JsonAst<'a> {
     pub fn parse(alloc: Global, buf: &'a [u8], mode: Mode) -> Result<JsonAst<'a>>
         // What is returned is the one tree of the document; what is rejected is none, unless memory ran out.
         ensures parses { Parses (mode_of mode) ast_view buf.now result }
+        ensures follows { FollowsSpecification (mode_of mode) ast_view buf.now result }
 
         // Each value stands in the text where it was parsed. Each object's keys ascend, and each member's own key ends
         // at its index.

@@ -3,6 +3,7 @@ ghost use Rattle.std.specs.Prelude.{◌≡◌, ◌⊎◌, map, string_bytes, vec
 ghost use Rattle.std.specs.Vec.{vec_capacity};
 ghost use Rattle.jsonb_scan.specs.Answer.{mode_of, MayAllocate};
 ghost use Rattle.jsonb.specs.Appends.{AppendsPartOf, LacksRoomForPart};
+ghost use Rattle.jsonb.specs.Follows.{FailsAsSpecified};
 ghost use Rattle.jsonb.specs.Parses.{Rejects};
 
 use super::Mode;
@@ -51,6 +52,7 @@ pub fn append_part(
 
     // An error is that of the parsers.
     ensures rejects { Rejects (mode_of mode) text.now result }
+    ensures follows { FailsAsSpecified (mode_of mode) text.now result }
 {
     if !may_allocate(text) {
         return append_part_of_value(alloc, text, mode, path, buf);
@@ -92,6 +94,7 @@ fn append_part_of_value(
         ⊎ LacksRoomForPart (mode_of mode) text.now (map string_bytes path.now) (vec_capacity buf.old)
         (vec_len buf.old) }
     ensures rejects { Rejects (mode_of mode) text.now result }
+    ensures follows { FailsAsSpecified (mode_of mode) text.now result }
 {
     let value = value_of(alloc, text, mode)?;
     let Some(part) = part_at(&value, path) else {

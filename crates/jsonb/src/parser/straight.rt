@@ -4,6 +4,7 @@ ghost use Rattle.jsonb_spec.specs.Tree.{Tree};
 ghost use Rattle.jsonb_value.specs.View.{view};
 ghost use Rattle.jsonb_scan.specs.Answer.{mode_of, MayAllocate};
 ghost use Rattle.jsonb.specs.Appends.{AppendsKeyOf, AppendsTextOf, IsParsed, LacksRoomForKey, LacksRoomForText};
+ghost use Rattle.jsonb.specs.Follows.{FailsAsSpecified, FollowsSpecification};
 ghost use Rattle.jsonb.specs.Parses.{AppendsParsed, Parses, Rejects};
 
 use super::handler::{CheckedPart, KeyPart, TextPart};
@@ -54,6 +55,7 @@ pub fn check(alloc: Global, text: &[u8], mode: Mode) -> Result<()>
 
     // An error is that of the parsers.
     ensures rejects { Rejects (mode_of mode) text.now result }
+    ensures follows { FailsAsSpecified (mode_of mode) text.now result }
 {
     let mut room = CheckRoom::new(alloc, text);
     let read = parse_text::<CheckedPart>(&mut room, alloc, text, mode);
@@ -92,6 +94,7 @@ pub fn append_text(alloc: Global, text: &[u8], mode: Mode, buf: &mut Vec<u8>) ->
 
     // An error is that of the parsers.
     ensures rejects { Rejects (mode_of mode) text.now result }
+    ensures follows { FailsAsSpecified (mode_of mode) text.now result }
 {
     if !may_allocate(text) {
         return append_text_of_value(alloc, text, mode, buf);
@@ -144,6 +147,7 @@ pub fn append_sort_key(alloc: Global, text: &[u8], mode: Mode, buf: &mut Vec<u8>
 
     // An error is that of the parsers.
     ensures rejects { Rejects (mode_of mode) text.now result }
+    ensures follows { FailsAsSpecified (mode_of mode) text.now result }
 {
     if !may_allocate(text) {
         return append_sort_key_of_value(alloc, text, mode, buf);
@@ -173,6 +177,7 @@ pub fn append_sort_key(alloc: Global, text: &[u8], mode: Mode, buf: &mut Vec<u8>
 // The value of a text, by the parser of the mode.
 pub(super) fn value_of(alloc: Global, text: &[u8], mode: Mode) -> Result<Value<'_>>
     ensures parses { Parses (mode_of mode) view text.now result }
+    ensures follows { FollowsSpecification (mode_of mode) view text.now result }
 {
     match mode {
         Mode::Standard => parse_value_standard_mode(alloc, text),
@@ -189,6 +194,7 @@ fn append_text_of_value(alloc: Global, text: &[u8], mode: Mode, buf: &mut Vec<u8
     ensures appends { AppendsParsed (AppendsTextOf (mode_of mode) text.now)
         (LacksRoomForText (mode_of mode) text.now) text.now result buf.old buf.new }
     ensures rejects { Rejects (mode_of mode) text.now result }
+    ensures follows { FailsAsSpecified (mode_of mode) text.now result }
 {
     let value = value_of(alloc, text, mode)?;
     let written = value.write_text(buf);
@@ -208,6 +214,7 @@ fn append_sort_key_of_value(alloc: Global, text: &[u8], mode: Mode, buf: &mut Ve
     ensures appends { AppendsParsed (AppendsKeyOf (mode_of mode) text.now)
         (LacksRoomForKey (mode_of mode) text.now) text.now result buf.old buf.new }
     ensures rejects { Rejects (mode_of mode) text.now result }
+    ensures follows { FailsAsSpecified (mode_of mode) text.now result }
 {
     let value = value_of(alloc, text, mode)?;
     let written = value.write_sort_key(buf);

@@ -3,7 +3,7 @@ use Rattle.jsonb_spec.specs.Grammar.{IsDocument}
 use Rattle.jsonb_spec.specs.Tree.{Tree}
 use Rattle.jsonb.specs.Appends.{AppendsPartOf}
 use Rattle.jsonb_scan.specs.Answer.{MayAllocate, mode_of}
-use Rattle.jsonb_pointer.proofs.DocumentParts.{IsNothingThere, IsTextThere, document_needs, nothing_there, text_there}
+use Rattle.jsonb_c.proofs.DocumentParts.{IsNothingThere, IsTextThere, document_needs, nothing_there, text_there}
 use Rattle.jsonb_c.specs.Interface.{IsAccepted}
 use Rattle.jsonb_c.proofs.Reasons.{memory_said, reason_says}
 use Rattle.jsonb_c.proofs.Texts.{document_accepted}
@@ -51,7 +51,7 @@ returns-in-Ok-false-clause-part c = λ path is_path.
 
 pub returns-in-Err-clause-fails : goal.returns-in-Err-clause-fails
 returns-in-Err-clause-fails c = record {
-  reason = reason_says c.args.mode (mode_of c.in-Some.mode) c.args.text.now 1 c.in-Err.error c.reason_of.result c.in-Some.ensures c.in-Err.ensures.rejects.rejected c.in-Err.ensures.rejects.exact c.in-Err.ensures.rejects.explained
+  reason = reason_says c.args.mode (mode_of c.in-Some.mode) c.args.text.now 1 c.in-Err.error c.reason_of.result c.in-Some.ensures c.in-Err.ensures.rejects.rejected c.in-Err.ensures.follows.exact c.in-Err.ensures.follows.explained
       c.reason_of.ensures;
   memory = λ is.
       by_memory (document_needs (c.in-Err.ensures.memory (memory_said 1 c.in-Err.error c.reason_of.result c.reason_of.ensures is)));

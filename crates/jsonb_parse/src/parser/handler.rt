@@ -16,7 +16,7 @@ ghost use Rattle.jsonb_scan.specs.Parsing.String.{body_of};
 ghost use Rattle.jsonb_spec.specs.Source.{Source, Found, null_source, boolean_source, string_source, number_source};
 ghost use Rattle.jsonb_scan.specs.Spelled.{IsSpelledAt, KeyStandsAt};
 ghost use Rattle.text_common.specs.SourceText.{source_text};
-ghost use Rattle.text_common.specs.PlainText.{ArePlain};
+ghost use Rattle.jsonb_spec.specs.Text.StringText.{ArePlain};
 
 use super::Mode;
 use super::frame::OpenObject;

@@ -6,14 +6,14 @@ ghost use Rattle.jsonb_value.specs.View.{mark_view};
 ghost use Rattle.jsonb_spec.specs.Tree.Mark.{plain};
 ghost use Rattle.jsonb_parse.specs.Parser.{Advances, CutsString, IsAfterQuote, IsBehind, IsTextOf, PassesContents, ParsesString};
 ghost use Rattle.jsonb_scan.specs.Parsing.String.{string_at};
-ghost use Rattle.text_common.specs.PlainText.{ArePlain};
+ghost use Rattle.jsonb_spec.specs.Text.StringText.{ArePlain};
 
 use super::Parser;
 use jsonb_scan::parser::string::{StringEnd, decode_contents, find_end, next_mark};
 use jsonb_value::error::{Error, ParseErrorCode, Result};
 use std::borrow::CowStr;
 use std::simd::prelude::*;
-use text_common::plain::plain_len;
+use jsonb_value::plain::plain_len;
 
 // A string without escapes that was cut out of the text, and whether it is known that none of its bytes is written as
 // an escape.

@@ -7,19 +7,8 @@ ghost use Rattle.jsonb_scan.specs.ShortInteger.{IsKeptInteger};
 ghost use Rattle.jsonb_spec.specs.Ascii as ascii;
 
 use super::number::{after_minus, byte_at, continues_number, digits_within, short_digits};
+use jsonb_value::plain::first_set;
 use std::simd::prelude::*;
-
-// The index of the lowest bit that is set, or the number of lanes where none is.
-#[inline(always)]
-fn first_set(mask: u64, lanes: usize) -> usize
-    ensures { result ≡ (if mask == 0 then lanes else trailing_zeros w64 mask) }
-{
-    if mask == 0 {
-        lanes
-    } else {
-        mask.trailing_zeros() as usize
-    }
-}
 
 // How many of the first 16 bytes, up to the first that is none, are digits.
 #[inline(always)]

@@ -155,7 +155,7 @@ pub fn decode_behind(bytes: &[u8], mode: Mode, text: &mut [u8], len: usize) -> O
 }
 
 /// Decodes the contents of a string of this mode, and moves the offset past what was decoded.
-pub fn unescape(alloc: Global, bytes: &[u8], mode: Mode, idx: &mut usize) -> Result<String>
+pub(crate) fn unescape(alloc: Global, bytes: &[u8], mode: Mode, idx: &mut usize) -> Result<String>
     requires { idx.old + length bytes.now < 2 ^ 64 }
     ensures ok { IfOk result (λ text. Decodes (mode_of mode) bytes.now (string_bytes text)) }
     ensures end { OnOk result (idx.new ≡ idx.old + length bytes.now) }

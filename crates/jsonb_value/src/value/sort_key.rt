@@ -14,9 +14,9 @@ ghost use Rattle.jsonb_spec.specs.Text.Appending.{Appends, AppendsAllOrNothing};
 ghost use Rattle.jsonb_spec.specs.Tree.{Mark, Num, Tree, Trees, Members, number, string, array, object};
 ghost use Rattle.jsonb_value.specs.View.{view, trees_view, members_view};
 
-use super::text::run_len;
 use super::{Object, Value};
 use crate::error::{Error, Result};
+use crate::plain::run_len;
 use crate::sort_key::kind;
 use memchr::memchr;
 use std::alloc::AllocError;

@@ -1,7 +1,6 @@
 //! The serialized form of a value: JSON without whitespace.
 ghost use Rattle.std.specs.Prelude.{ℕ, List, ◌≡◌, ◌≢◌, ◌↔◌, ◌⊎◌, ◌+◌, ◌<◌, ◌≤◌, ◌++◌, ◌∷◌, [], ◌==◌, if◌then◌else◌, length, take, Some, None, IfErr, IfSome, IsErrOf, OnOk, OnErr, vec_len, string_bytes, FitsSigned};
-ghost use Rattle.std.specs.Char.{digit_char};
-ghost use Rattle.std.specs.Int.{w64, trailing_zeros, w32};
+ghost use Rattle.std.specs.Int.{w64, w32};
 ghost use Rattle.std.specs.List.{flat_map};
 ghost use Rattle.std.specs.Str.{IsUtf8};
 ghost use Rattle.std.specs.Vec.{vec_capacity};
@@ -15,7 +14,7 @@ ghost use Rattle.jsonb_spec.specs.Order.{Same};
 ghost use Rattle.jsonb_spec.specs.Proper.{IsProper, AreProper, HaveProperParts};
 ghost use Rattle.jsonb_spec.specs.Text.Range.{IsIntegerRange, IsInRangeOf};
 ghost use Rattle.jsonb_spec.specs.Text.ReadsBack.{StringReadsBack, ReadsBackAs};
-ghost use Rattle.jsonb_spec.specs.Text.StringText.{byte_text, control_text, quoted_text};
+ghost use Rattle.jsonb_spec.specs.Text.StringText.{byte_text, quoted_text};
 ghost use Rattle.jsonb_spec.specs.Text.{has_text, items_have_texts, members_have_texts, in_quotes, tree_text, with_commas, item_texts, member_texts, text_of, AppendsText};
 ghost use Rattle.jsonb_spec.specs.Tree.{Tree};
 ghost use Rattle.jsonb_value.specs.View.{view, trees_view, members_view};
@@ -24,8 +23,8 @@ use super::{Object, Value};
 use crate::error::{Error, Result};
 use crate::extension::Interval;
 use crate::extension::text::append_binary;
+use crate::plain::{append_byte, run_len};
 use std::alloc::AllocError;
-use std::simd::prelude::*;
 
 /// A law: a written string is parsed as the same string, in each mode.
 pub fn string_texts_read_back()
@@ -276,135 +275,5 @@ fn append_runs(bytes: &[u8], buf: &mut Vec<u8>) -> Appended
         };
         append_byte(*byte, buf)?;
         rest = more;
-    }
-}
-
-// How many of the first bytes are written as they are.
-#[inline(always)]
-pub(super) fn run_len(bytes: &[u8]) -> usize
-    ensures within { result ≤ length bytes.now }
-    ensures plain { flat_map byte_text (take result bytes.now) ≡ take result bytes.now }
-{
-    let mut len = 0;
-    'vectors: while bytes.len() - len >= 16 {
-        let run = run_of_sixteen(&bytes[len..]);
-        len += run;
-        if run < 16 {
-            return len;
-        }
-    }
-    len + run_of_few(&bytes[len..])
-}
-
-// How many of the first bytes are written as they are, where there are mostly fewer than 16.
-#[inline(always)]
-fn run_of_few(bytes: &[u8]) -> usize
-    ensures within { result ≤ length bytes.now }
-    ensures plain { flat_map byte_text (take result bytes.now) ≡ take result bytes.now }
-{
-    if bytes.len() < 8 {
-        return run_by_bytes(bytes);
-    }
-    let run = run_of_eight(bytes);
-    if run < 8 {
-        return run;
-    }
-    8 + run_by_bytes(&bytes[8..])
-}
-
-// How many of the first bytes are written as they are, byte by byte.
-#[inline(always)]
-fn run_by_bytes(bytes: &[u8]) -> usize
-    ensures within { result ≤ length bytes.now }
-    ensures plain { flat_map byte_text (take result bytes.now) ≡ take result bytes.now }
-{
-    'bytes: for (i, byte) in bytes.iter().enumerate() {
-        // Most letters are past all that have an escape.
-        if *byte > b'\\' {
-            continue;
-        }
-        if *byte < b' ' || *byte == b'"' || *byte == b'\\' {
-            return i;
-        }
-    }
-    bytes.len()
-}
-
-// How many of the first 16 bytes, up to the first that is not, are written as they are.
-#[inline(always)]
-fn run_of_sixteen(bytes: &[u8]) -> usize
-    requires { 16 ≤ length bytes.now }
-    ensures within { result ≤ 16 }
-    ensures plain { flat_map byte_text (take result bytes.now) ≡ take result bytes.now }
-{
-    let lanes = u8x16::from_slice(bytes);
-    let below = lanes.simd_lt(u8x16::splat(b' '));
-    let marks = below | lanes.simd_eq(u8x16::splat(b'"')) | lanes.simd_eq(u8x16::splat(b'\\'));
-    first_set(marks.to_bitmask(), 16)
-}
-
-// How many of the first 8 bytes, up to the first that is not, are written as they are.
-#[inline(always)]
-fn run_of_eight(bytes: &[u8]) -> usize
-    requires { 8 ≤ length bytes.now }
-    ensures within { result ≤ 8 }
-    ensures plain { flat_map byte_text (take result bytes.now) ≡ take result bytes.now }
-{
-    let lanes = u8x8::from_slice(bytes);
-    let below = lanes.simd_lt(u8x8::splat(b' '));
-    let marks = below | lanes.simd_eq(u8x8::splat(b'"')) | lanes.simd_eq(u8x8::splat(b'\\'));
-    first_set(marks.to_bitmask(), 8)
-}
-
-// The index of the lowest bit that is set, or the number of lanes where none is.
-#[inline(always)]
-fn first_set(mask: u64, lanes: usize) -> usize
-    ensures { result ≡ (if mask == 0 then lanes else trailing_zeros w64 mask) }
-{
-    if mask == 0 {
-        lanes
-    } else {
-        mask.trailing_zeros() as usize
-    }
-}
-
-// Appends a byte of a string, with an escape where it needs one.
-fn append_byte(byte: u8, buf: &mut Vec<u8>) -> Appended
-    ensures appends { AppendsAllOrNothing result buf.old buf.new (byte_text byte) }
-{
-    match byte {
-        b'"' => buf.extend_from_slice(b"\\\""),
-        b'\\' => buf.extend_from_slice(b"\\\\"),
-        b'\n' => buf.extend_from_slice(b"\\n"),
-        b'\r' => buf.extend_from_slice(b"\\r"),
-        b'\t' => buf.extend_from_slice(b"\\t"),
-        0..b' ' => buf.extend_from_slice(&control_text(byte)),
-        _ => buf.extend_from_slice(&[byte]),
-    }
-}
-
-// The escape of a control byte, by its number.
-fn control_text(byte: u8) -> [u8; 6]
-    ensures { result ≡ control_text byte }
-{
-    [
-        b'\\',
-        b'u',
-        b'0',
-        b'0',
-        hexadecimal_digit(byte / 16),
-        hexadecimal_digit(byte % 16),
-    ]
-}
-
-// The digit of a number below 16.
-fn hexadecimal_digit(value: u8) -> u8
-    requires { value < 16 }
-    ensures { result ≡ digit_char value }
-{
-    if value < 10 {
-        b'0' + value
-    } else {
-        b'a' + (value - 10)
     }
 }

@@ -9,7 +9,7 @@ use Rattle.jsonb_spec.specs.Source.{Source}
 use Rattle.jsonb_write.specs.KeyRoom.{Held, HeldFits, IsRoomWith, KeyStands, Writes, all_starts, base_of, items, part_key}
 use Rattle.jsonb_write.specs.MemberStarts.{AreKept}
 use Rattle.jsonb_write.specs.Members.{source_key}
-use Rattle.text_common.specs.PlainText.{ArePlain}
+use Rattle.jsonb_spec.specs.Text.StringText.{ArePlain}
 use Rattle.jsonb_write.specs.TextRoom.{IsSpelled, SeesPart}
 use Rattle.jsonb_write.specs.declared.key.KeyRoom.{KeyRoom}
 use Rattle.jsonb_write.specs.declared.text.Part.{Part}

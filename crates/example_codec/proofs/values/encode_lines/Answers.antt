@@ -22,7 +22,7 @@ returns-in-Err-clause-rejected c =
     let line = c.line-item.result in
     let no_document = rw c.deref.ensures.value at c.in-Err.ensures.parses.rejected in
     let memory : c.in-Err.error ≡ OutOfMemory → MayAllocate line.items = λ none. subst MayAllocate c.deref.ensures.value (c.parse_value.ensures.parses.memory (c.in-Err.is ∙ ap Err none)) in
-    let fault = rw c.deref.ensures.value at c.in-Err.ensures.parses.exact in
+    let fault = rw c.deref.ensures.value at c.in-Err.ensures.follows.exact in
     first_rejected c.args.lines.now c.lines.line-index line c.lines.frames.items (Json c.in-Err.error) (omega arith) c.line-item.is c.lines.invariant (no_document, (λ none. inl (memory none)), fault)
 
 pub returns-in_err-encode-clause-rejected : goal.returns-in_err-encode-clause-rejected

@@ -16,7 +16,7 @@ returns-in-Err-clause-rejected c =
     let line = c.index-lines-index.result in
     let rejected = rw c.deref.ensures.value at c.in-Err.ensures.parses.rejected in
     let memory : c.in-Err.error ≡ OutOfMemory → MayAllocate line.items = λ none. subst MayAllocate c.deref.ensures.value (c.parse_value.ensures.parses.memory (c.in-Err.is ∙ ap Err none)) in
-    let fault = rw c.deref.ensures.value at c.in-Err.ensures.parses.exact in
+    let fault = rw c.deref.ensures.value at c.in-Err.ensures.follows.exact in
     first_fault c.args.lines.now c.lines.index line c.lines.values.items c.in-Err.error (omega arith) c.index-lines-index.is c.lines.invariant rejected memory fault
 
 pub returns-in_default-clause-rejected : goal.returns-in_default-clause-rejected

@@ -5,7 +5,7 @@ use Rattle.jsonb_spec.specs.Proper.{IsProper}
 use Rattle.jsonb_spec.specs.Text.Range.{IsInRange}
 use Rattle.jsonb_value.specs.View.{view}
 use Rattle.jsonb_value.proofs.Trees.DocumentsInRange.{extended_in_range}
-use Rattle.jsonb.proofs.Documents.Agreement.{document_built, gives_all}
+use Rattle.jsonb.proofs.Documents.Agreement.{document_built, gives_all, gives_as_specified}
 use Rattle.jsonb_parse.proofs.Steps.Outcomes.{value_has}
 use Rattle.jsonb.proofs.parser.parse_value.Goals as goal
 
@@ -19,6 +19,11 @@ pub returns-in-Ok-clause-parses : goal.returns-in-Ok-clause-parses
 returns-in-Ok-clause-parses c =
     let parses = c.in-Ok.ensures.parses tt in
     gives_all extended view c.args.buf.now (Ok c.in-Ok.made.value) (document_built extended c.args.buf.now (view c.in-Ok.made.value) parses.0 parses.1.0 parses.2) (search rules)
+
+pub returns-in-Ok-clause-follows : goal.returns-in-Ok-clause-follows
+returns-in-Ok-clause-follows c =
+    let parses = c.in-Ok.ensures.parses tt in
+    gives_as_specified extended view c.args.buf.now (Ok c.in-Ok.made.value) (document_built extended c.args.buf.now (view c.in-Ok.made.value) parses.0 parses.1.0 parses.2)
 
 pub returns-in-Ok-clause-in_range : goal.returns-in-Ok-clause-in_range
 returns-in-Ok-clause-in_range c = (extended_in_range c.args.buf.now (view c.in-Ok.made.value) (returns-in-Ok-clause-parses c).document).0

@@ -8,7 +8,7 @@ use Rattle.jsonb_spec.specs.Tree.{Tree}
 use Rattle.jsonb_value.specs.View.{view}
 use Rattle.jsonb_value.proofs.Trees.DocumentsInRange.{standard_in_range}
 use Rattle.jsonb_value.proofs.Trees.StandardInExtended.{standard_is_extended}
-use Rattle.jsonb.proofs.Documents.Agreement.{document_built, gives_all}
+use Rattle.jsonb.proofs.Documents.Agreement.{document_built, gives_all, gives_as_specified}
 use Rattle.jsonb_parse.proofs.Steps.Outcomes.{value_has}
 use Rattle.jsonb.proofs.parser.parse_value_standard_mode.Goals as goal
 
@@ -25,6 +25,11 @@ pub returns-in-Ok-clause-parses : goal.returns-in-Ok-clause-parses
 returns-in-Ok-clause-parses c =
     let parses = c.in-Ok.ensures.parses tt in
     gives_all standard view c.args.buf.now (Ok c.in-Ok.made.value) (document_built standard c.args.buf.now (view c.in-Ok.made.value) parses.0 parses.1.0 parses.2) (search rules)
+
+pub returns-in-Ok-clause-follows : goal.returns-in-Ok-clause-follows
+returns-in-Ok-clause-follows c =
+    let parses = c.in-Ok.ensures.parses tt in
+    gives_as_specified standard view c.args.buf.now (Ok c.in-Ok.made.value) (document_built standard c.args.buf.now (view c.in-Ok.made.value) parses.0 parses.1.0 parses.2)
 
 pub returns-in-Ok-clause-in_range : goal.returns-in-Ok-clause-in_range
 returns-in-Ok-clause-in_range c = (standard_in_range c.args.buf.now (view c.in-Ok.made.value) (returns-in-Ok-clause-parses c).document).0

@@ -59,9 +59,9 @@ returns-in_err-append_byte c = record {
         let written = run_written c.args.colon c.args.bytes.now c.runs.rest.now c.args.buf.now.items c.runs.buf.items c.runs.invariant.writes c.runs.run c.runs.invariant.inside c.runs.invariant.plain c.append_first.new.buf.items c.in_ok-append_first.ensures.ok in
         let room = byte_fits c.args.colon c.args.bytes.now _ c.args.buf.now.items c.append_first.new.buf.items written c.in-Some-read_byte.byte c.in-Some-read_byte.more.now (c.in-Some-read_byte.ensures.byte ∙ ap byte_of (take_rest c.runs.rest.now c.runs.run)) text more e in
         out_of_memory (λ rest. rest.now) c.from_residual-in_err-append_byte.result c.args.buf.now c.append_byte.new.buf more _ c.from_residual-in_err-append_byte.ensures.1
-        (omega (arith, room, c.runs.invariant.keeps.capacity, c.in_ok-append_first.ensures.capacity, c.in_err-append_byte.ensures.full));
+        (omega (arith, room, c.runs.invariant.keeps.capacity, c.in_ok-append_first.ensures.capacity, c.in_err-append_byte.ensures.appends.full));
     shorter = search rules;
-    keeps = keeps_on c.args.buf.now c.runs.buf c.append_byte.new.buf c.runs.invariant.keeps (keeps_on c.runs.buf c.append_first.new.buf c.append_byte.new.buf (kept_by c.runs.buf c.append_first.new.buf c.in_ok-append_first.ensures) (kept_by c.append_first.new.buf c.append_byte.new.buf c.in_err-append_byte.ensures));
+    keeps = keeps_on c.args.buf.now c.runs.buf c.append_byte.new.buf c.runs.invariant.keeps (keeps_on c.runs.buf c.append_first.new.buf c.append_byte.new.buf (kept_by c.runs.buf c.append_first.new.buf c.in_ok-append_first.ensures) (kept_by c.append_first.new.buf c.append_byte.new.buf c.in_err-append_byte.ensures.appends));
   };
 }
 
@@ -69,8 +69,8 @@ pub runs-preserved : goal.runs-preserved
 runs-preserved c =
     let written = run_written c.args.colon c.args.bytes.now c.runs.rest.now c.args.buf.now.items c.runs.buf.items c.runs.invariant.writes c.runs.run c.runs.invariant.inside c.runs.invariant.plain c.append_first.new.buf.items c.in_ok-append_first.ensures.ok in
     record {
-      writes = byte_written c.args.colon c.args.bytes.now _ c.args.buf.now.items c.append_first.new.buf.items written c.in-Some-read_byte.byte c.in-Some-read_byte.more.now (c.in-Some-read_byte.ensures.byte ∙ ap byte_of (take_rest c.runs.rest.now c.runs.run)) c.append_byte.new.buf.items c.in_ok-append_byte.ensures.ok;
-      keeps = keeps_on c.args.buf.now c.runs.buf c.append_byte.new.buf c.runs.invariant.keeps (keeps_on c.runs.buf c.append_first.new.buf c.append_byte.new.buf (kept_by c.runs.buf c.append_first.new.buf c.in_ok-append_first.ensures) (kept_by c.append_first.new.buf c.append_byte.new.buf c.in_ok-append_byte.ensures));
+      writes = byte_written c.args.colon c.args.bytes.now _ c.args.buf.now.items c.append_first.new.buf.items written c.in-Some-read_byte.byte c.in-Some-read_byte.more.now (c.in-Some-read_byte.ensures.byte ∙ ap byte_of (take_rest c.runs.rest.now c.runs.run)) c.append_byte.new.buf.items c.in_ok-append_byte.ensures.appends.ok;
+      keeps = keeps_on c.args.buf.now c.runs.buf c.append_byte.new.buf c.runs.invariant.keeps (keeps_on c.runs.buf c.append_first.new.buf c.append_byte.new.buf (kept_by c.runs.buf c.append_first.new.buf c.in_ok-append_first.ensures) (kept_by c.append_first.new.buf c.append_byte.new.buf c.in_ok-append_byte.ensures.appends));
       within = omega (arith, c.in-Some-read_byte.ensures.shorter, c.runs.invariant.within);
       inside = c.plain_len-run.ensures.within;
       plain = c.plain_len-run.ensures.plain;

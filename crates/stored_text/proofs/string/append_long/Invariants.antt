@@ -1,5 +1,5 @@
 use Rattle.std.proofs.Common.{◌≤◌, length, take}
-use Rattle.text_common.specs.PlainText.{ArePlain}
+use Rattle.jsonb_spec.specs.Text.StringText.{ArePlain}
 use Rattle.stored_text.specs.Writes.{Keeps}
 use Rattle.stored_text.proofs.Strings.{WritesInside}
 use Rattle.stored_text.proofs.string.append_long.Given as goal

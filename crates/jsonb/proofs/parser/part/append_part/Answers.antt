@@ -7,7 +7,7 @@ use Rattle.jsonb_spec.specs.Source.{tree_of_source}
 use Rattle.jsonb_spec.specs.PartAt.{part_at}
 use Rattle.jsonb_write.specs.PartRoom.{part_of}
 use Rattle.jsonb_parse.specs.Handler.{Misses}
-use Rattle.jsonb.proofs.Documents.Agreement.{fault_rejects}
+use Rattle.jsonb.proofs.Documents.Agreement.{fault_fails, fault_rejects}
 use Rattle.jsonb.proofs.Documents.Parts.{part_appended, part_missing}
 use Rattle.jsonb.proofs.Documents.Straight.{source_parsed, text_there}
 use Rattle.jsonb.proofs.parser.part.append_part.Goals as goal
@@ -42,3 +42,6 @@ returns-then-is_err-clause-memory c = let may : MayAllocate c.args.text.now = se
 
 pub returns-in-Some-told-clause-rejects : goal.returns-in-Some-told-clause-rejects
 returns-in-Some-told-clause-rejects c = fault_rejects (mode_of c.args.mode) c.args.text.now c.in-Some-told.error (subst (λ told. Misses true told (source_of (mode_of c.args.mode) c.args.text.now)) c.in-Some-told.is (c.in-Err.ensures.parses c.new-room.ensures.stands))
+
+pub returns-in-Some-told-clause-follows : goal.returns-in-Some-told-clause-follows
+returns-in-Some-told-clause-follows c = fault_fails (mode_of c.args.mode) c.args.text.now c.in-Some-told.error (subst (λ told. Misses true told (source_of (mode_of c.args.mode) c.args.text.now)) c.in-Some-told.is (c.in-Err.ensures.parses c.new-room.ensures.stands))

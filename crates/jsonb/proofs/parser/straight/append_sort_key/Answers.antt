@@ -4,7 +4,7 @@ use Rattle.jsonb_scan.specs.Parsing.Document.{source_of}
 use Rattle.jsonb_spec.specs.Source.{tree_of_source}
 use Rattle.jsonb_write.specs.Members.{source_key}
 use Rattle.jsonb_parse.specs.Handler.{Misses}
-use Rattle.jsonb.proofs.Documents.Agreement.{fault_rejects}
+use Rattle.jsonb.proofs.Documents.Agreement.{fault_fails, fault_rejects}
 use Rattle.jsonb.proofs.Documents.Straight.{returned, source_parsed, same_only}
 use Rattle.jsonb.proofs.parser.straight.append_sort_key.Goals as goal
 
@@ -43,3 +43,6 @@ returns-clause-appends c = let may : MayAllocate c.args.text.now = search rules 
 -- what goes another way is as it is there
 pub returns-then-not-may_allocate : goal.returns-then-not-may_allocate
 returns-then-not-may_allocate c = c.append_sort_key_of_value.ensures
+
+pub returns-in-Some-clause-follows : goal.returns-in-Some-clause-follows
+returns-in-Some-clause-follows c = fault_fails (mode_of c.args.mode) c.args.text.now c.in-Some.error (fault_told c)

@@ -3,7 +3,7 @@ use Rattle.jsonb_scan.specs.Answer.{Fails, mode_of}
 use Rattle.jsonb_scan.specs.Parsing.Document.{source_of}
 use Rattle.jsonb_spec.specs.Source.{tree_of_source}
 use Rattle.jsonb_parse.specs.Handler.{Misses}
-use Rattle.jsonb.proofs.Documents.Agreement.{fault_rejects}
+use Rattle.jsonb.proofs.Documents.Agreement.{fault_fails, fault_rejects}
 use Rattle.jsonb.proofs.Documents.Straight.{source_parsed}
 use Rattle.jsonb.proofs.parser.straight.check.Goals as goal
 
@@ -17,3 +17,6 @@ fault_told c = subst (λ told. Misses false told (source_of (mode_of c.args.mode
 
 pub returns-in-Some-clause-rejects : goal.returns-in-Some-clause-rejects
 returns-in-Some-clause-rejects c = fault_rejects (mode_of c.args.mode) c.args.text.now c.in-Some.error (fault_told c)
+
+pub returns-in-Some-clause-follows : goal.returns-in-Some-clause-follows
+returns-in-Some-clause-follows c = fault_fails (mode_of c.args.mode) c.args.text.now c.in-Some.error (fault_told c)

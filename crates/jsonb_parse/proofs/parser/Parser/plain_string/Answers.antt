@@ -9,8 +9,8 @@ use Rattle.jsonb_parse.specs.Parser.{size_of}
 use Rattle.jsonb_scan.specs.Parsing.String.{quote_end, string_at}
 use Rattle.jsonb_scan.proofs.Strings.Bodies.{body-raw, found_end, search_start, search_to, string-closed, tells_taken}
 use Rattle.jsonb_scan.specs.QuotedString.{IsClear}
-use Rattle.text_common.specs.PlainText.{ArePlain}
-use Rattle.text_common.proofs.PlainTexts.{no_marks}
+use Rattle.jsonb_spec.specs.Text.StringText.{ArePlain}
+use Rattle.jsonb_value.proofs.Strings.PlainTexts.{no_marks}
 use Rattle.jsonb_parse.proofs.parser.Parser.plain_string.Goals as goal
 
 pub range-body-requires-clause-start_boundary : goal.range-body-requires-clause-start_boundary

@@ -3,7 +3,7 @@ use Rattle.jsonb_spec.specs.SortKey.{text_key}
 use Rattle.jsonb_spec.specs.Text.{in_quotes}
 use Rattle.jsonb_spec.specs.Tree.{plain}
 use Rattle.jsonb_write.specs.KeyRoom.{Begins, Writes}
-use Rattle.text_common.specs.PlainText.{ArePlain}
+use Rattle.jsonb_spec.specs.Text.StringText.{ArePlain}
 use Rattle.jsonb_write.proofs.Keys.KeyMembers.{begins_wrote, key_stands}
 use Rattle.jsonb_write.proofs.RoomMembers.{key_there}
 use Rattle.jsonb_write.proofs.Rooms.{on_ok}

@@ -1,6 +1,6 @@
 use Rattle.std.proofs.Common.{◌+◌, length, subst, take}
 use Rattle.std.proofs.lemmas.List.{take_rest}
-use Rattle.text_common.specs.PlainText.{ArePlain}
+use Rattle.jsonb_spec.specs.Text.StringText.{ArePlain}
 use Rattle.jsonb_write.proofs.Rooms.{on_ok}
 use Rattle.jsonb_write.proofs.Spelled.{string_kept}
 use Rattle.jsonb_write.proofs.text.TextRoom.string.Goals as goal

@@ -4,7 +4,7 @@ use Rattle.jsonb.specs.AstView.{ast_view}
 use Rattle.jsonb.specs.Source.{source_view}
 use Rattle.jsonb_scan.specs.Answer.{Fails, mode_of}
 use Rattle.jsonb_scan.specs.Parsing.Document.{source_of}
-use Rattle.jsonb.proofs.Documents.Agreement.{gives_all, gives_source, gives_tree}
+use Rattle.jsonb.proofs.Documents.Agreement.{gives_all, gives_as_specified, gives_source, gives_tree}
 use Rattle.jsonb.proofs.parser.ast.JsonAst.parse.Goals as goal
 
 source_given : (c : goal.In-Ok) → source_of (mode_of c.args.mode) c.args.buf.now ≡ Ok (source_view c.in-Ok.tree)
@@ -19,5 +19,11 @@ returns-in-Ok-clause-source c = gives_source (mode_of c.args.mode) c.args.buf.no
 pub returns-in-Ok-clause-parses : goal.returns-in-Ok-clause-parses
 returns-in-Ok-clause-parses c = gives_all (mode_of c.args.mode) ast_view c.args.buf.now (Ok c.in-Ok.tree) (gives_tree (mode_of c.args.mode) c.args.buf.now (Ok c.in-Ok.tree) (source_given c)) (search rules)
 
+pub returns-in-Ok-clause-follows : goal.returns-in-Ok-clause-follows
+returns-in-Ok-clause-follows c = gives_as_specified (mode_of c.args.mode) ast_view c.args.buf.now (Ok c.in-Ok.tree) (gives_tree (mode_of c.args.mode) c.args.buf.now (Ok c.in-Ok.tree) (source_given c))
+
 pub returns-in-Some-clause-parses : goal.returns-in-Some-clause-parses
 returns-in-Some-clause-parses c = gives_all (mode_of c.args.mode) ast_view c.args.buf.now (Err c.in-Some.error) (gives_tree (mode_of c.args.mode) c.args.buf.now (Err c.in-Some.error) (fault_told c)) (search rules)
+
+pub returns-in-Some-clause-follows : goal.returns-in-Some-clause-follows
+returns-in-Some-clause-follows c = gives_as_specified (mode_of c.args.mode) ast_view c.args.buf.now (Err c.in-Some.error) (gives_tree (mode_of c.args.mode) c.args.buf.now (Err c.in-Some.error) (fault_told c))

@@ -1,4 +1,0 @@
-pub mod InOrder
-pub mod JsonKinds
-pub mod Listing
-pub mod Same

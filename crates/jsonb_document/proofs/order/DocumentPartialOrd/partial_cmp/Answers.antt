@@ -1,6 +1,0 @@
-use Rattle.std.proofs.Common.{Some, ap, ◌∙◌}
-use Rattle.jsonb_document.proofs.Same.{same_order}
-use Rattle.jsonb_document.proofs.order.DocumentPartialOrd.partial_cmp.Goals as goal
-
-pub returns : goal.returns
-returns c = ap Some (c.compare.ensures ∙ same_order _ _ _ _ c.tree.ensures c.tree-2.ensures)

@@ -1,3 +1,0 @@
-pub mod ArraySizes
-pub mod DocumentParts
-pub mod PartsAt

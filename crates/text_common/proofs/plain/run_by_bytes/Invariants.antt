@@ -1,7 +1,0 @@
-use Rattle.std.proofs.Common.{take}
-use Rattle.text_common.specs.PlainText.{ArePlain}
-use Rattle.text_common.proofs.plain.run_by_bytes.Given as goal
-
--- the bytes so far are written as they are
-abbrev pub invariant-bytes : goal.invariant-bytes
-invariant-bytes l = ArePlain (take l.i l.bytes)
