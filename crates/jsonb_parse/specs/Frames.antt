@@ -1,27 +1,24 @@
 -- The open containers of the parser.
-use Rattle.std.specs.Prelude.{◌≡◌, ◌⊎◌, ℕ, suc, ◌-◌, Bool, true, false, List, [], ◌∷◌, ◌++◌, length, Option, Result, Ok, reverse, not, if◌then◌else◌}
+use Rattle.std.specs.Prelude.{◌≡◌, ◌⊎◌, ℕ, suc, ◌-◌, Bool, true, false, List, [], ◌∷◌, length, Option, Result, Ok, reverse, not, if◌then◌else◌}
 use Rattle.jsonb_spec.specs.Ascii as ascii
 use Rattle.jsonb_value.specs.declared.error.Error.{Error}
 use Rattle.jsonb_spec.specs.Grammar.{max_depth}
 use Rattle.jsonb_spec.specs.Mode.{Mode}
-use Rattle.jsonb_spec.specs.Tree.{Mark, Tree}
-use Rattle.jsonb_spec.specs.Tree.Mark.{plain}
+use Rattle.jsonb_spec.specs.Tree.{Tree}
 use Rattle.jsonb_spec.specs.Tree.Tree.{null}
 use Rattle.jsonb_parse.specs.Handler.{ElseFails}
 use Rattle.jsonb_parse.specs.declared.parser.Parser.{Parser}
 use Rattle.jsonb_parse.specs.declared.parser.frame.Frame.{Frame}
-use Rattle.jsonb_parse.specs.declared.parser.frame.Frame.TheVariants as variants
-use Rattle.jsonb_parse.specs.declared.parser.frame.OpenObject.{OpenObject}
 use Rattle.jsonb_scan.specs.Answer.{mode_of}
 use Rattle.jsonb_parse.specs.Parser.{rest_of, size_of}
 use Rattle.jsonb_scan.specs.Parsing.{Parse, begins, ◌>>=◌}
 use Rattle.jsonb_scan.specs.Parsing.Container.{is_left_out}
 use Rattle.jsonb_scan.specs.Parsing.Scalar.{scalar_at}
 use Rattle.jsonb_scan.specs.Parsing.Document.{value_at}
-use Rattle.jsonb_spec.specs.Source.{Source, Found, found_member, null_source, source_alone}
+use Rattle.jsonb_spec.specs.Source.{Source, null_source, source_alone}
 use Rattle.jsonb_parse.specs.Stack.{array_end, finish_open, next_part_at, object_end, resume}
-use Rattle.jsonb_scan.specs.Open.{Open}
-use Rattle.jsonb_scan.specs.Open.{elements_so_far, members_so_far}
+use Rattle.jsonb_scan.specs.Open.{Open, add_part, elements_so_far, members_so_far}
+use Rattle.jsonb_parse.specs.Slots.{Fits, is_due}
 
 -- an array or an object begins here
 abbrev pub OpensContainer : List ℕ → Type 0
@@ -56,44 +53,17 @@ resume_stack size mode depth closed (c ∷ cs) rest =
 
 -- ---- what a step leaves
 
--- A scalar was put into an array, and is what is parsed.
-abbrev pub IsPushed : {R I M K X F : Type 0} → Bool → Option Error
-    → (List ℕ → R → Bool → List (Frame I M K) → List Open → Type 0) → List ℕ → Result X F → R → I → Parse Tree → R → I
-    → List ℕ → Type 0
-IsPushed {R} {I} {M} {K} silent told Stands text result old before read new after rest =
-    ElseFails silent told result read (λ _. (t : Tree) × (read ≡ Ok (t, rest)) × ((ss : List Source)
-    → (fs : List (Frame I M K)) → (cs : List Open)
-    → Stands text old false (variants.Array before ∷ fs) (elements_so_far ss ∷ cs)
-    → Stands text new false (variants.Array after ∷ fs) (elements_so_far (ss ++ source_alone t ∷ []) ∷ cs)))
-
--- A scalar was put into an object under a key, and is what is parsed.
-abbrev pub IsPutIn : {R I M K X F : Type 0} → Bool → Option Error
-    → (List ℕ → R → Bool → List (Frame I M K) → List Open → Type 0) → List ℕ → Result X F → R → OpenObject M K → K
-    → Parse Tree → R → OpenObject M K → List ℕ → Type 0
-IsPutIn {R} {I} {M} {K} silent told Stands text result old before key read new after rest =
-    ElseFails silent told result read (λ _. (t : Tree) × (read ≡ Ok (t, rest)) × ((front : List Found)
-    → (k : Mark × List ℕ) → (place : ℕ) → (fs : List (Frame I M K)) → (cs : List Open)
-    → Stands text old true (variants.Object (record { members = before.members; key = key }) ∷ fs)
-    (members_so_far front k place ∷ cs)
-    → Stands text new false (variants.Object after ∷ fs)
-    (members_so_far (front ++ found_member k (source_alone t) place ∷ []) (plain, []) 0 ∷ cs)))
+-- A scalar was put into the innermost container, and is what is parsed.
+abbrev pub IsPut : {R I M K X F : Type 0} → Bool → Option Error
+    → (List ℕ → R → Bool → List (Frame I M K) → List Open → Type 0) → List ℕ → Result X F → R → Frame I M K
+    → Parse Tree → R → Frame I M K → List ℕ → Type 0
+IsPut {R} {I} {M} {K} silent told Stands text result old before read new after rest =
+    ElseFails silent told result read (λ _. (t : Tree) × (read ≡ Ok (t, rest)) × ((c : Open)
+    → (fs : List (Frame I M K)) → (cs : List Open) → Fits before c
+    → Stands text old (is_due before) (before ∷ fs) (c ∷ cs)
+    → Stands text new false (after ∷ fs) (add_part c (source_alone t) ∷ cs)))
 
 -- ---- the containers that are open
-
--- the container is an array
-abbrev pub IsArray : Open → Type 0
-IsArray (elements_so_far ss) = Unit {0}
-IsArray (members_so_far fs key place) = ⊥
-
--- the container is an object
-abbrev pub IsObject : Open → Type 0
-IsObject (elements_so_far ss) = ⊥
-IsObject (members_so_far fs key place) = Unit {0}
-
--- The frame is an array's or an object's, as the container is.
-abbrev pub Fits : {I M K : Type 0} → Frame I M K → Open → Type 0
-Fits (variants.Array items) c = IsArray c
-Fits (variants.Object o) c = IsObject c
 
 -- Each frame fits its container.
 abbrev pub AllFit : {I M K : Type 0} → List (Frame I M K) → List Open → Type 0

@@ -11,9 +11,10 @@ use Rattle.jsonb_scan.specs.Answer.{mode_of}
 use Rattle.jsonb_scan.specs.Open.{Open}
 use Rattle.jsonb_scan.specs.Parsing.{Parse}
 use Rattle.jsonb_scan.specs.Parsing.Whitespace.{skip_whitespace}
-use Rattle.jsonb_parse.specs.Frames.{AtPart, Fits, IsPushed, IsPutIn, OpensContainer, ParsesParts}
-use Rattle.jsonb_parse.specs.Handler.{AsKey, AsScalar, Begins, Builds, ElseFails, IsUntold, TakesElement, TakesMember}
+use Rattle.jsonb_parse.specs.Frames.{AtPart, IsPut, OpensContainer, ParsesParts}
+use Rattle.jsonb_parse.specs.Handler.{AsKey, AsScalar, Begins, Builds, ElseFails, IsUntold}
 use Rattle.jsonb_parse.specs.Parser.{Advances, AdvancesOver, parse_at, rest_of, size_of}
+use Rattle.jsonb_parse.specs.Slots.{Fits, Takes}
 use Rattle.jsonb_parse.specs.Stack.{next_part_at, part_end}
 use Rattle.jsonb_parse.specs.declared.parser.Parser.{Parser}
 use Rattle.jsonb_parse.specs.declared.parser.frame.Frame.{Frame}
@@ -43,24 +44,12 @@ module _ {V R I M K : Type 0} (h : Ghosts V R I M K) where
     -- the parser has gone on in its input
     pub advances : Advances old new
 
-  -- An element was put in that is of a source of which this holds, and the parser stays; or memory ran out.
-  pub record PutsElement {X F : Type 0} (Is : List ℕ → Source → Type 0) (result : Result X F) (old new : Parser)
-      (room filled : R) (items more : I) : Type 0 where
-    -- The source is the last element of the array that is open.
-    pub put : OnOk result (TakesElement h.stands Is room items filled more)
-    -- the parser stays
-    pub same : OnOk result (new ≡ old)
-    -- a failure is want of memory
-    pub memory : IfErr result (λ _. new.told ≡ Some OutOfMemory)
-    -- the input is the same, and so is what was in the room before the text
-    pub advances : AdvancesOver h.base old new room filled
-
-  -- A member was put in under this key, whose value is of a source of which this holds, and the parser stays; or memory
-  -- ran out, or nothing was told.
-  pub record PutsMember {X F : Type 0} (Is : List ℕ → Source → Type 0) (result : Result X F) (old new : Parser)
-      (room filled : R) (key : K) (object more : OpenObject M K) : Type 0 where
-    -- The source is the last member's of the object that is open.
-    pub put : OnOk result (TakesMember h.stands Is room object key filled more)
+  -- A value of a source of which this holds was put into a container, and the parser stays; or memory ran out, or
+  -- nothing was told.
+  pub record PutsIn {X F : Type 0} (Is : List ℕ → Source → Type 0) (result : Result X F) (old new : Parser)
+      (room filled : R) (before after : Frame I M K) : Type 0 where
+    -- The source is the last part of the container that is open.
+    pub put : OnOk result (Takes h.stands Is room before filled after)
     -- the parser stays
     pub same : OnOk result (new ≡ old)
     -- a failure is want of memory, or nothing was told of it
@@ -68,20 +57,11 @@ module _ {V R I M K : Type 0} (h : Ghosts V R I M K) where
     -- the input is the same, and so is what was in the room before the text
     pub advances : AdvancesOver h.base old new room filled
 
-  -- A scalar that this function parses was put into an array.
-  pub record Pushes {X F : Type 0} (read : ℕ → Mode → List ℕ → Parse Tree) (result : Result X F)
-      (old new : Parser) (room filled : R) (items more : I) : Type 0 where
-    -- the scalar is the last element of the innermost array, or what was told is its fault
-    pub parses : IsPushed h.silent new.told h.stands old.buf.now result room items (parse_at read old) filled more
-        (rest_of new)
-    -- the parser has gone on, and what was in the room before the text stays
-    pub advances : AdvancesOver h.base old new room filled
-
-  -- A scalar that this function parses was put into an object under this key.
-  pub record Inserts {X F : Type 0} (read : ℕ → Mode → List ℕ → Parse Tree) (result : Result X F)
-      (old new : Parser) (room filled : R) (key : K) (object more : OpenObject M K) : Type 0 where
-    -- the scalar is the last member of the innermost object, or what was told is its fault
-    pub parses : IsPutIn h.silent new.told h.stands old.buf.now result room object key (parse_at read old) filled more
+  -- A scalar that this function parses was put into a container.
+  pub record Puts {X F : Type 0} (read : ℕ → Mode → List ℕ → Parse Tree) (result : Result X F)
+      (old new : Parser) (room filled : R) (before after : Frame I M K) : Type 0 where
+    -- the scalar is the last part of the innermost container, or what was told is its fault
+    pub parses : IsPut h.silent new.told h.stands old.buf.now result room before (parse_at read old) filled after
         (rest_of new)
     -- the parser has gone on, and what was in the room before the text stays
     pub advances : AdvancesOver h.base old new room filled

@@ -15,6 +15,7 @@ pub mod handler;
 mod key;
 mod number;
 mod scalar;
+mod slot;
 mod start;
 mod string;
 mod value;

@@ -15,7 +15,8 @@ use Rattle.jsonb_parse.specs.declared.parser.frame.Frame.{Frame}
 use Rattle.jsonb_parse.specs.declared.parser.frame.OpenObject.{OpenObject}
 use Rattle.jsonb_parse.specs.declared.parser.frame.Frame.TheVariants as variants
 use Rattle.jsonb_parse.specs.Handler.{AsScalar, Builds, ElseFails, Misses}
-use Rattle.jsonb_parse.specs.Frames.{AllFit, AtPart, BeforeValue, Fits, IsArray, IsObject, IsParsedToEnd, OpensContainer, ParsesParts, depth_within, finish_container, resume_part, resume_stack, resume_value, scalar_or_null}
+use Rattle.jsonb_parse.specs.Frames.{AllFit, AtPart, BeforeValue, IsParsedToEnd, OpensContainer, ParsesParts, depth_within, finish_container, resume_part, resume_stack, resume_value, scalar_or_null}
+use Rattle.jsonb_parse.specs.Slots.{Fits, IsArray, IsObject}
 use Rattle.jsonb_scan.specs.Answer.{MayAllocate, mode_of}
 use Rattle.jsonb_parse.specs.Parser.{Advances, parse_at, rest_of, size_of}
 use Rattle.jsonb_scan.specs.Parsing.{Fault, Parse, begins, on_byte, reject, ◌>>=◌}

@@ -15,23 +15,20 @@ use Rattle.jsonb_scan.specs.Parsing.ExtendedNumber.{extended_number_at}
 use Rattle.jsonb_scan.specs.Parsing.Number.{is_number_start, standard_number_at}
 use Rattle.jsonb_scan.specs.Parsing.Scalar.{begins_number, letters_at, null_at, number_at, number_value_at, or_else, other_scalar_at, quoted_at, scalar_at}
 use Rattle.jsonb_scan.specs.Parsing.String.{string_at}
-use Rattle.jsonb_scan.specs.Open.{Open, elements_so_far, members_so_far}
-use Rattle.jsonb_spec.specs.Source.{Found, Source, found_member, number_source, source_alone}
+use Rattle.jsonb_scan.specs.Open.{Open}
+use Rattle.jsonb_spec.specs.Source.{Source, number_source, source_alone}
 use Rattle.jsonb_spec.specs.Grammar.StandardNumber.{IsStandardNumber}
 use Rattle.jsonb_scan.specs.Spelled.{IsSpelled, IsSpelledAt}
 use Rattle.jsonb_parse.specs.Literals.{literal_text, literal_tree}
 use Rattle.jsonb_parse.specs.declared.parser.scalar.Literal.{Literal}
 use Rattle.jsonb_parse.specs.declared.parser.scalar.Literal.TheVariants as literals
-use Rattle.jsonb_spec.specs.Tree.Mark.{plain}
 use Rattle.jsonb_parse.specs.declared.parser.frame.Frame.{Frame}
-use Rattle.jsonb_parse.specs.declared.parser.frame.Frame.TheVariants as variants
-use Rattle.jsonb_parse.specs.declared.parser.frame.OpenObject.{OpenObject}
 use Rattle.jsonb_parse.specs.Handler.{AsKey, AsNumber, AsScalar, Builds, IsUntold}
-use Rattle.jsonb_parse.specs.Frames.{IsPushed, IsPutIn}
+use Rattle.jsonb_parse.specs.Frames.{IsPut}
+use Rattle.jsonb_parse.specs.Slots.{Takes}
 use Rattle.jsonb_parse.specs.Parser.{Advances, IsBehind, rest_of, size_of}
 use Rattle.jsonb_spec.specs.Text.{in_quotes}
 use Rattle.std.proofs.lemmas.List.{drop_more}
-use Rattle.text_common.specs.SourceText.{source_text}
 use Rattle.jsonb_parse.proofs.Scalars.FirstBytes.{extended_number, standard_number}
 use Rattle.jsonb_scan.proofs.Containers.JoinedParts.{on_byte-none}
 use Rattle.jsonb_parse.proofs.Steps.Failures.{memory_misses, misses_through, untold_misses}
@@ -67,36 +64,12 @@ pub number_built : {V F : Type 0} (silent : Bool) (told : Option Error) (Sees : 
 number_built silent told Sees (Ok v) size mode bytes rest h = (number h.0, h.1, ap (λ (r : Parse Num). r >>= λ x. Ok (number x.0, x.1)) h.2)
 number_built silent told Sees (Err f) size mode bytes rest h = misses_through silent told (number_at size mode bytes) (λ x. Ok (number x.0, x.1)) h
 
--- ---- what is parsed is kept
+-- ---- what is parsed is put in
 
-module _ {R I M K F : Type 0} (silent : Bool) (Stands : List ℕ → R → Bool → List (Frame I M K) → List Open → Type 0) (Seen : Source → Type 0) (text : List ℕ) (from : ℕ) (q r : Parser) (old new : R) where
-  -- a scalar that was parsed is pushed
-  pub read_pushed : (result : Result Unit F) (before : I) (t : Tree) (read : Parse Tree) (after : I)
-      → OnOk result ((bytes : List ℕ) → (s : Source) → (ss : List Source) → (fs : List (Frame I M K)) → (cs : List Open) → Stands bytes old false (variants.Array before ∷ fs) (elements_so_far ss ∷ cs) → Seen s × IsSpelledAt bytes from q.offset s → Stands bytes new false (variants.Array after ∷ fs) (elements_so_far (ss ++ s ∷ []) ∷ cs))
-      → OnOk result (r ≡ q) → IfErr result (λ _. r.told ≡ Some OutOfMemory) → Seen (source_alone t) → IsSpelledAt text from q.offset (source_alone t) → read ≡ Ok (t, rest_of q) → IsPushed silent r.told Stands text result old before read new after (rest_of r)
-  read_pushed (Ok x) before t read after pushed same memory sees spelled is = (t, is ∙ ap (λ o. Ok (t, rest_of o)) (sym same), λ ss fs cs stands. pushed text (source_alone t) ss fs cs stands (sees, spelled))
-  read_pushed (Err f) before t read after pushed same memory sees spelled is = memory_misses silent r.told read memory
-
-  -- and put in under a key
-  pub read_put : (result : Result Unit F) (before : OpenObject M K) (key : K) (t : Tree) (read : Parse Tree) (after : OpenObject M K)
-      → OnOk result ((bytes : List ℕ) → (s : Source) → (front : List Found) → (k : Mark × List ℕ) → (place : ℕ) → (fs : List (Frame I M K)) → (cs : List Open) → Stands bytes old true (variants.Object (record { members = before.members; key = key }) ∷ fs) (members_so_far front k place ∷ cs) → Seen s × IsSpelledAt bytes from q.offset s → Stands bytes new false (variants.Object after ∷ fs) (members_so_far (front ++ found_member k s place ∷ []) (plain, []) 0 ∷ cs))
-      → OnOk result (r ≡ q) → IfErr result (λ _. IsUntold silent r.told) → Seen (source_alone t) → IsSpelledAt text from q.offset (source_alone t) → read ≡ Ok (t, rest_of q) → IsPutIn silent r.told Stands text result old before key read new after (rest_of r)
-  read_put (Ok x) before key t read after put same memory sees spelled is = (t, is ∙ ap (λ o. Ok (t, rest_of o)) (sym same), λ front k place fs cs stands. put text (source_alone t) front k place fs cs stands (sees, spelled))
-  read_put (Err f) before key t read after put same memory sees spelled is = untold_misses silent r.told read memory
-
-  -- a value that stands there as it is written is pushed
-  pub kept_pushed : (result : Result Unit F) (before : I) (t : Tree) (read : Parse Tree) (after : I)
-      → OnOk result ((bytes : List ℕ) → (s : Source) → (ss : List Source) → (fs : List (Frame I M K)) → (cs : List Open) → Stands bytes old false (variants.Array before ∷ fs) (elements_so_far ss ∷ cs) → slice_range bytes from q.offset ≡ source_text s → Stands bytes new false (variants.Array after ∷ fs) (elements_so_far (ss ++ s ∷ []) ∷ cs))
-      → OnOk result (r ≡ q) → IfErr result (λ _. r.told ≡ Some OutOfMemory) → slice_range text from q.offset ≡ source_text (source_alone t) → read ≡ Ok (t, rest_of q) → IsPushed silent r.told Stands text result old before read new after (rest_of r)
-  kept_pushed (Ok x) before t read after pushed same memory there is = (t, is ∙ ap (λ o. Ok (t, rest_of o)) (sym same), λ ss fs cs stands. pushed text (source_alone t) ss fs cs stands there)
-  kept_pushed (Err f) before t read after pushed same memory there is = memory_misses silent r.told read memory
-
-  -- and put in under a key
-  pub kept_put : (result : Result Unit F) (before : OpenObject M K) (key : K) (t : Tree) (read : Parse Tree) (after : OpenObject M K)
-      → OnOk result ((bytes : List ℕ) → (s : Source) → (front : List Found) → (k : Mark × List ℕ) → (place : ℕ) → (fs : List (Frame I M K)) → (cs : List Open) → Stands bytes old true (variants.Object (record { members = before.members; key = key }) ∷ fs) (members_so_far front k place ∷ cs) → slice_range bytes from q.offset ≡ source_text s → Stands bytes new false (variants.Object after ∷ fs) (members_so_far (front ++ found_member k s place ∷ []) (plain, []) 0 ∷ cs))
-      → OnOk result (r ≡ q) → IfErr result (λ _. IsUntold silent r.told) → slice_range text from q.offset ≡ source_text (source_alone t) → read ≡ Ok (t, rest_of q) → IsPutIn silent r.told Stands text result old before key read new after (rest_of r)
-  kept_put (Ok x) before key t read after put same memory there is = (t, is ∙ ap (λ o. Ok (t, rest_of o)) (sym same), λ front k place fs cs stands. put text (source_alone t) front k place fs cs stands there)
-  kept_put (Err f) before key t read after put same memory there is = untold_misses silent r.told read memory
+pub put_so : {R I M K F : Type 0} (silent : Bool) (Stands : List ℕ → R → Bool → List (Frame I M K) → List Open → Type 0) (Is : List ℕ → Source → Type 0) (text : List ℕ) (q r : Parser) (old new : R) (result : Result Unit F) (before : Frame I M K) (t : Tree) (read : Parse Tree) (after : Frame I M K)
+    → OnOk result (Takes Stands Is old before new after) → OnOk result (r ≡ q) → IfErr result (λ _. IsUntold silent r.told) → Is text (source_alone t) → read ≡ Ok (t, rest_of q) → IsPut silent r.told Stands text result old before read new after (rest_of r)
+put_so silent Stands Is text q r old new (Ok x) before t read after put same told there is = (t, is ∙ ap (λ o. Ok (t, rest_of o)) (sym same), λ c fs cs fits stands. put text (source_alone t) c fs cs fits stands there)
+put_so silent Stands Is text q r old new (Err f) before t read after put same told there is = untold_misses silent r.told read told
 
 -- ---- where a scalar stands
 

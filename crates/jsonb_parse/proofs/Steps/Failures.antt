@@ -8,9 +8,8 @@ use Rattle.jsonb_scan.specs.Open.{Open}
 use Rattle.jsonb_scan.specs.Parsing.{Fault, Parse, ◌>>=◌}
 use Rattle.jsonb_spec.specs.Source.{Source}
 use Rattle.jsonb_parse.specs.Handler.{Builds, ElseFails, IsUntold, IsWritten, Misses}
-use Rattle.jsonb_parse.specs.Frames.{IsPushed, IsPutIn}
+use Rattle.jsonb_parse.specs.Frames.{IsPut}
 use Rattle.jsonb_parse.specs.declared.parser.frame.Frame.{Frame}
-use Rattle.jsonb_parse.specs.declared.parser.frame.OpenObject.{OpenObject}
 use Rattle.jsonb_parse.proofs.Steps.Outcomes.{fails_through}
 
 -- what is told of an error that is the fault of parsing
@@ -67,12 +66,7 @@ pub builds_always : {X F Y : Type 0} (silent : Bool) (told : Option Error) (Sees
 builds_always silent told Sees (Ok x) read rest h = h
 builds_always silent told Sees (Err f) read rest h = tells_always silent told read h
 
--- of what is pushed and of what is put in
-module _ {R I M K X F : Type 0} (silent : Bool) (told : Option Error) (Stands : List ℕ → R → Bool → List (Frame I M K) → List Open → Type 0) (result : Result X F) (text other_text : List ℕ) (same_text : other_text ≡ text) (old : R) where
-  pub pushes_same : (before : I) (read other : Parse Tree) (new : R) (after : I) (rest : List ℕ) → other ≡ read
-      → IsPushed silent told Stands text result old before read new after rest → IsPushed silent told Stands other_text result old before other new after rest
-  pushes_same before read other new after rest same h = subst (λ u. IsPushed silent told Stands u result old before other new after rest) (sym same_text) (subst (λ q. IsPushed silent told Stands text result old before q new after rest) (sym same) h)
-
-  pub puts_in_same : (before : OpenObject M K) (key : K) (read other : Parse Tree) (new : R) (after : OpenObject M K) (rest : List ℕ) → other ≡ read
-      → IsPutIn silent told Stands text result old before key read new after rest → IsPutIn silent told Stands other_text result old before key other new after rest
-  puts_in_same before key read other new after rest same h = subst (λ u. IsPutIn silent told Stands u result old before key other new after rest) (sym same_text) (subst (λ q. IsPutIn silent told Stands text result old before key q new after rest) (sym same) h)
+-- and of what is put in
+pub puts_same : {R I M K X F : Type 0} (silent : Bool) (told : Option Error) (Stands : List ℕ → R → Bool → List (Frame I M K) → List Open → Type 0) (result : Result X F) (text other_text : List ℕ) → other_text ≡ text → (old : R) (before : Frame I M K) (read other : Parse Tree) (new : R) (after : Frame I M K) (rest : List ℕ) → other ≡ read
+    → IsPut silent told Stands text result old before read new after rest → IsPut silent told Stands other_text result old before other new after rest
+puts_same silent told Stands result text other_text same_text old before read other new after rest same h = subst (λ u. IsPut silent told Stands u result old before other new after rest) (sym same_text) (subst (λ q. IsPut silent told Stands text result old before q new after rest) (sym same) h)

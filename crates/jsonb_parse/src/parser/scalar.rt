@@ -14,10 +14,10 @@ ghost use Rattle.jsonb_spec.specs.Text.StringText.{ArePlain};
 ghost use Rattle.jsonb_parse.specs.Parser.{Advances, Finds, IsAfterQuote, IsBehind, IsTextOf, ParsesInPlace, TakesByte, rest_of, size_of};
 ghost use Rattle.jsonb_scan.specs.Parsing.{begins};
 ghost use Rattle.jsonb_scan.specs.Parsing.Scalar.{number_value_at, begins_letter, begins_single_quote, fold_letter, letters_at, null_at, number_at, quoted_at, scalar_at, word_at};
-ghost use Rattle.jsonb_parse.specs.Steps.{Inserts, MakesScalar, Pushes, PutsElement, PutsMember};
+ghost use Rattle.jsonb_parse.specs.Steps.{MakesScalar, Puts, PutsIn};
 
-use super::frame::OpenObject;
 use super::handler::{Failed, Handler};
+use super::slot::Slot;
 use super::start::Start;
 use super::string::Cut;
 use super::{Mode, Parser};
@@ -61,423 +61,235 @@ fn negative_number(magnitude: u64) -> Number
 }
 
 impl<'a> Parser<'a> {
-    // Puts in an element that is a scalar and stands in the text from an index up to here.
+    // Puts in a scalar that stands in the text from an index up to here.
     #[inline(always)]
-    pub(super) fn push<V: Handler<'a>>(
+    pub(super) fn put<V: Handler<'a>, S: Slot<'a, V>>(
         &mut self,
         room: &mut V::Room,
-        items: &mut V::Items,
+        container: &mut S::Container,
+        slot: S,
         value: V,
         from: usize,
     ) -> Result<(), Failed>
-        ensures { PutsElement V.Handler (λ text s. V.sees value s × IsSpelledAt text from self.old.offset s) result
-            self.old self.new room.old room.new items.old items.new }
+        ensures { PutsIn V.Handler (λ text s. V.sees value s × IsSpelledAt text from self.old.offset s) result
+            self.old self.new room.old room.new (S.before container.old slot) (S.after container.new) }
     {
-        if V::push(room, items, value, from, self.offset).is_err() {
-            return Err(self.out_of_memory());
-        }
-        Ok(())
+        let put = slot.put(room, container, value, from, self.offset);
+        self.put_result(put)
     }
 
-    // Puts in a member whose value is a scalar and stands in the text from an index up to here.
+    // Puts in a string that was cut out of the text.
     #[inline(always)]
-    fn insert<V: Handler<'a>>(
+    fn put_cut<V: Handler<'a>, S: Slot<'a, V>>(
         &mut self,
         room: &mut V::Room,
-        object: &mut OpenObject<V::Members, V::Key>,
-        key: V::Key,
-        value: V,
-        from: usize,
-    ) -> Result<(), Failed>
-        ensures { PutsMember V.Handler (λ text s. V.sees value s × IsSpelledAt text from self.old.offset s) result
-            self.old self.new room.old room.new key object.old object.new }
-    {
-        let inserted = V::insert(room, object, key, value, from, self.offset);
-        self.insert_result(inserted)
-    }
-
-    // Puts in an element that is a string that was cut out of the text.
-    #[inline(always)]
-    fn push_cut<V: Handler<'a>>(
-        &mut self,
-        room: &mut V::Room,
-        items: &mut V::Items,
+        container: &mut S::Container,
+        slot: S,
         cut: Cut<'a>,
         from: usize,
     ) -> Result<(), Failed>
         requires plain { cut.is_plain ≡ true → ArePlain cut.body.now }
-        ensures { PutsElement V.Handler
+        ensures { PutsIn V.Handler
             (λ text s. (s ≡ string_source plain cut.entry.body.now) × IsSpelledAt text from self.old.offset s)
-            result self.old self.new room.old room.new items.old items.new }
+            result self.old self.new room.old room.new (S.before container.old slot) (S.after container.new) }
     {
         if cut.is_plain {
-            return self.push::<V>(room, items, V::plain_string(cut.body), from);
+            return self.put::<V, S>(room, container, slot, V::plain_string(cut.body), from);
         }
-        self.push::<V>(room, items, V::string(CowStr::Borrowed(cut.body)), from)
-    }
-
-    // Puts in a member whose value is a string that was cut out of the text.
-    #[inline(always)]
-    fn insert_cut<V: Handler<'a>>(
-        &mut self,
-        room: &mut V::Room,
-        object: &mut OpenObject<V::Members, V::Key>,
-        key: V::Key,
-        cut: Cut<'a>,
-        from: usize,
-    ) -> Result<(), Failed>
-        requires plain { cut.is_plain ≡ true → ArePlain cut.body.now }
-        ensures { PutsMember V.Handler
-            (λ text s. (s ≡ string_source plain cut.entry.body.now) × IsSpelledAt text from self.old.offset s)
-            result self.old self.new room.old room.new key object.old object.new }
-    {
-        if cut.is_plain {
-            return self.insert::<V>(room, object, key, V::plain_string(cut.body), from);
-        }
-        self.insert::<V>(
+        self.put::<V, S>(
             room,
-            object,
-            key,
+            container,
+            slot,
             V::string(CowStr::Borrowed(cut.body)),
             from,
         )
     }
 
-    // Puts in an element that is a scalar. Strings and numbers are put in where they are made, since a value that comes
-    // from several arms is copied more than once.
+    // Puts in a scalar. Strings and numbers are put in where they are made, since a value that comes from several arms
+    // is copied more than once.
     #[inline(always)]
-    pub(super) fn push_scalar<V: Handler<'a>>(
+    pub(super) fn put_scalar<V: Handler<'a>, S: Slot<'a, V>>(
         &mut self,
         room: &mut V::Room,
-        items: &mut V::Items,
+        container: &mut S::Container,
+        slot: S,
         text: &'a str,
     ) -> Result<(), Failed>
         requires same { IsTextOf text.now self.old }
-        ensures { Pushes V.Handler scalar_at result self.old self.new room.old room.new items.old items.new }
+        ensures { Puts V.Handler scalar_at result self.old self.new room.old room.new (S.before container.old slot)
+            (S.after container.new) }
     {
         let from = self.offset;
         if self.take_byte(b'"') {
             if let Some(cut) = self.cut_string(V::tells_plain(), text) {
-                return self.push_cut::<V>(room, items, cut, from);
+                return self.put_cut::<V, S>(room, container, slot, cut, from);
             }
-            return self.push_escaped::<V>(room, items, text);
+            return self.put_escaped::<V, S>(room, container, slot, text);
         }
         match self.mode {
-            Mode::Standard => self.push_standard_value::<V>(room, items, text),
+            Mode::Standard => self.put_standard_value::<V, S>(room, container, slot, text),
             Mode::Extended if V::keeps_integers() => {
-                self.push_extended_value::<V>(room, items, text)
+                self.put_extended_value::<V, S>(room, container, slot, text)
             }
-            Mode::Extended => self.push_other_scalar::<V>(room, items, text),
+            Mode::Extended => self.put_other_scalar::<V, S>(room, container, slot, text),
         }
     }
 
-    // Puts in an element that stands in the text from an index up to here as it is written.
+    // Puts in a value that stands in the text from an index up to here as it is written.
     #[inline(always)]
-    fn push_kept<V: Handler<'a>>(
+    fn put_kept<V: Handler<'a>, S: Slot<'a, V>>(
         &mut self,
         room: &mut V::Room,
-        items: &mut V::Items,
+        container: &mut S::Container,
+        slot: S,
         from: usize,
     ) -> Result<(), Failed>
         requires kept { V.keeps ≡ true }
-        ensures { PutsElement V.Handler (λ text s. slice_range text from self.old.offset ≡ source_text s) result
-            self.old self.new room.old room.new items.old items.new }
+        ensures { PutsIn V.Handler (λ text s. slice_range text from self.old.offset ≡ source_text s) result
+            self.old self.new room.old room.new (S.before container.old slot) (S.after container.new) }
     {
-        if V::push_kept(room, items, from, self.offset).is_err() {
-            return Err(self.out_of_memory());
-        }
-        Ok(())
+        let put = slot.put_kept(room, container, from, self.offset);
+        self.put_result(put)
     }
 
-    // Puts in a member whose value stands in the text from an index up to here as it is written.
+    // Puts in a scalar of a standard text that is no string. Many are integers that are written by the same bytes
+    // again.
     #[inline(always)]
-    fn insert_kept<V: Handler<'a>>(
+    fn put_standard_value<V: Handler<'a>, S: Slot<'a, V>>(
         &mut self,
         room: &mut V::Room,
-        object: &mut OpenObject<V::Members, V::Key>,
-        key: V::Key,
-        from: usize,
-    ) -> Result<(), Failed>
-        requires kept { V.keeps ≡ true }
-        ensures { PutsMember V.Handler (λ text s. slice_range text from self.old.offset ≡ source_text s) result
-            self.old self.new room.old room.new key object.old object.new }
-    {
-        let inserted = V::insert_kept(room, object, key, from, self.offset);
-        self.insert_result(inserted)
-    }
-
-    // Puts in an element of a standard text that is a scalar and no string. Many are integers that are written by the
-    // same bytes again.
-    #[inline(always)]
-    fn push_standard_value<V: Handler<'a>>(
-        &mut self,
-        room: &mut V::Room,
-        items: &mut V::Items,
+        container: &mut S::Container,
+        slot: S,
         text: &'a str,
     ) -> Result<(), Failed>
         requires mode { mode_of self.old.mode ≡ standard }
         requires same { IsTextOf text.now self.old }
-        ensures { Pushes V.Handler scalar_at result self.old self.new room.old room.new items.old items.new }
+        ensures { Puts V.Handler scalar_at result self.old self.new room.old room.new (S.before container.old slot)
+            (S.after container.new) }
     {
         let from = self.offset;
         if self.kept_integer(V::keeps_integers()) {
-            return self.push_kept::<V>(room, items, from);
+            return self.put_kept::<V, S>(room, container, slot, from);
         }
-        self.push_standard_scalar::<V>(room, items, text)
+        self.put_standard_scalar::<V, S>(room, container, slot, text)
     }
 
-    // Puts in an element of an extended text that is a scalar and no string in double quotes.
+    // Puts in a scalar of an extended text that is no string in double quotes.
     #[inline(never)]
-    fn push_extended_value<V: Handler<'a>>(
+    fn put_extended_value<V: Handler<'a>, S: Slot<'a, V>>(
         &mut self,
         room: &mut V::Room,
-        items: &mut V::Items,
+        container: &mut S::Container,
+        slot: S,
         text: &'a str,
     ) -> Result<(), Failed>
         requires mode { mode_of self.old.mode ≡ extended }
         requires same { IsTextOf text.now self.old }
-        ensures { Pushes V.Handler scalar_at result self.old self.new room.old room.new items.old items.new }
+        ensures { Puts V.Handler scalar_at result self.old self.new room.old room.new (S.before container.old slot)
+            (S.after container.new) }
     {
         let from = self.offset;
         if self.kept_extended_integer(V::keeps_integers()) {
-            return self.push_kept::<V>(room, items, from);
+            return self.put_kept::<V, S>(room, container, slot, from);
         }
         if self.may_begin_word() {
-            return self.push_word::<V>(room, items, text);
+            return self.put_word::<V, S>(room, container, slot, text);
         }
-        self.push_other_scalar::<V>(room, items, text)
+        self.put_other_scalar::<V, S>(room, container, slot, text)
     }
 
-    // Puts in a member of a standard text whose value is a scalar and no string.
+    // Puts in a scalar of a standard text that is no string. Most numbers are integers of few digits.
     #[inline(always)]
-    fn insert_standard_value<V: Handler<'a>>(
+    fn put_standard_scalar<V: Handler<'a>, S: Slot<'a, V>>(
         &mut self,
         room: &mut V::Room,
-        object: &mut OpenObject<V::Members, V::Key>,
-        key: V::Key,
+        container: &mut S::Container,
+        slot: S,
         text: &'a str,
     ) -> Result<(), Failed>
         requires mode { mode_of self.old.mode ≡ standard }
         requires same { IsTextOf text.now self.old }
-        ensures { Inserts V.Handler scalar_at result self.old self.new room.old room.new key object.old object.new }
-    {
-        let from = self.offset;
-        if self.kept_integer(V::keeps_integers()) {
-            return self.insert_kept::<V>(room, object, key, from);
-        }
-        self.insert_standard_scalar::<V>(room, object, key, text)
-    }
-
-    // Puts in a member of an extended text whose value is a scalar and no string in double quotes.
-    #[inline(never)]
-    fn insert_extended_value<V: Handler<'a>>(
-        &mut self,
-        room: &mut V::Room,
-        object: &mut OpenObject<V::Members, V::Key>,
-        key: V::Key,
-        text: &'a str,
-    ) -> Result<(), Failed>
-        requires mode { mode_of self.old.mode ≡ extended }
-        requires same { IsTextOf text.now self.old }
-        ensures { Inserts V.Handler scalar_at result self.old self.new room.old room.new key object.old object.new }
-    {
-        let from = self.offset;
-        if self.kept_extended_integer(V::keeps_integers()) {
-            return self.insert_kept::<V>(room, object, key, from);
-        }
-        if self.may_begin_word() {
-            return self.insert_word::<V>(room, object, key, text);
-        }
-        self.insert_other_scalar::<V>(room, object, key, text)
-    }
-
-    // Puts in an element of a standard text that is a scalar and no string. Most numbers are integers of few digits.
-    #[inline(always)]
-    fn push_standard_scalar<V: Handler<'a>>(
-        &mut self,
-        room: &mut V::Room,
-        items: &mut V::Items,
-        text: &'a str,
-    ) -> Result<(), Failed>
-        requires mode { mode_of self.old.mode ≡ standard }
-        requires same { IsTextOf text.now self.old }
-        ensures { Pushes V.Handler scalar_at result self.old self.new room.old room.new items.old items.new }
+        ensures { Puts V.Handler scalar_at result self.old self.new room.old room.new (S.before container.old slot)
+            (S.after container.new) }
     {
         let from = self.offset;
         if let Some(read) = self.short_integer() {
             if read.negative {
                 let number = negative_number(read.magnitude);
-                return self.push::<V>(room, items, V::number(number), from);
+                return self.put::<V, S>(room, container, slot, V::number(number), from);
             }
-            return self.push::<V>(room, items, V::number(Number::UInt64(read.magnitude)), from);
-        }
-        self.push_word::<V>(room, items, text)
-    }
-
-    // Puts in an element that is a scalar and no string in double quotes. Most words are in small letters.
-    #[inline(always)]
-    fn push_word<V: Handler<'a>>(
-        &mut self,
-        room: &mut V::Room,
-        items: &mut V::Items,
-        text: &'a str,
-    ) -> Result<(), Failed>
-        requires same { IsTextOf text.now self.old }
-        ensures { Pushes V.Handler scalar_at result self.old self.new room.old room.new items.old items.new }
-    {
-        let from = self.offset;
-        match self.short_literal() {
-            Some(Literal::Null) => self.push::<V>(room, items, V::null(), from),
-            Some(Literal::Bool(value)) => self.push::<V>(room, items, V::boolean(value), from),
-            None => self.push_other_scalar::<V>(room, items, text),
-        }
-    }
-
-    // Pushes a string in double quotes that has escapes, or is rejected, from the byte after its opening quote on. It
-    // stands apart, since its caller would clear the place of an owned string before each value.
-    #[inline(never)]
-    fn push_escaped<V: Handler<'a>>(
-        &mut self,
-        room: &mut V::Room,
-        items: &mut V::Items,
-        text: &'a str,
-    ) -> Result<(), Failed>
-        requires opened { IsBehind ascii.quote self.old }
-        requires same { IsTextOf text.now self.old }
-        ensures { Pushes V.Handler (λ size mode. quoted_at size mode ascii.quote) result
-            self.old self.new room.old room.new items.old items.new }
-    {
-        let value = self.parse_escaped_string::<V>(b'"', text)?;
-        self.push::<V>(room, items, value, self.offset)
-    }
-
-    // Pushes any other value that holds no others, or tells its fault.
-    #[inline(never)]
-    fn push_other_scalar<V: Handler<'a>>(
-        &mut self,
-        room: &mut V::Room,
-        items: &mut V::Items,
-        text: &'a str,
-    ) -> Result<(), Failed>
-        requires same { IsTextOf text.now self.old }
-        ensures { Pushes V.Handler scalar_at result self.old self.new room.old room.new items.old items.new }
-    {
-        let value = self.parse_scalar::<V>(text)?;
-        self.push::<V>(room, items, value, self.offset)
-    }
-
-    // Puts in a member whose value holds no others. Here too a value is put in where it is made.
-    #[inline(always)]
-    pub(super) fn insert_scalar<V: Handler<'a>>(
-        &mut self,
-        room: &mut V::Room,
-        object: &mut OpenObject<V::Members, V::Key>,
-        key: V::Key,
-        text: &'a str,
-    ) -> Result<(), Failed>
-        requires same { IsTextOf text.now self.old }
-        ensures { Inserts V.Handler scalar_at result self.old self.new room.old room.new key object.old object.new }
-    {
-        let from = self.offset;
-        if self.take_byte(b'"') {
-            if let Some(cut) = self.cut_string(V::tells_plain(), text) {
-                return self.insert_cut::<V>(room, object, key, cut, from);
-            }
-            return self.insert_escaped::<V>(room, object, key, text);
-        }
-        match self.mode {
-            Mode::Standard => self.insert_standard_value::<V>(room, object, key, text),
-            Mode::Extended if V::keeps_integers() => {
-                self.insert_extended_value::<V>(room, object, key, text)
-            }
-            Mode::Extended => self.insert_other_scalar::<V>(room, object, key, text),
-        }
-    }
-
-    // Puts in a member of a standard text whose value is a scalar and no string.
-    #[inline(always)]
-    fn insert_standard_scalar<V: Handler<'a>>(
-        &mut self,
-        room: &mut V::Room,
-        object: &mut OpenObject<V::Members, V::Key>,
-        key: V::Key,
-        text: &'a str,
-    ) -> Result<(), Failed>
-        requires mode { mode_of self.old.mode ≡ standard }
-        requires same { IsTextOf text.now self.old }
-        ensures { Inserts V.Handler scalar_at result self.old self.new room.old room.new key object.old object.new }
-    {
-        let from = self.offset;
-        if let Some(read) = self.short_integer() {
-            if read.negative {
-                let number = negative_number(read.magnitude);
-                return self.insert::<V>(room, object, key, V::number(number), from);
-            }
-            let number = Number::UInt64(read.magnitude);
-            return self.insert::<V>(room, object, key, V::number(number), from);
-        }
-        self.insert_word::<V>(room, object, key, text)
-    }
-
-    // Puts in a member whose value is a scalar and no string in double quotes. Most words are in small letters.
-    #[inline(always)]
-    fn insert_word<V: Handler<'a>>(
-        &mut self,
-        room: &mut V::Room,
-        object: &mut OpenObject<V::Members, V::Key>,
-        key: V::Key,
-        text: &'a str,
-    ) -> Result<(), Failed>
-        requires same { IsTextOf text.now self.old }
-        ensures { Inserts V.Handler scalar_at result self.old self.new room.old room.new key object.old object.new }
-    {
-        let from = self.offset;
-        match self.short_literal() {
-            Some(Literal::Null) => self.insert::<V>(room, object, key, V::null(), from),
-            Some(Literal::Bool(value)) => self.insert::<V>(
+            return self.put::<V, S>(
                 room,
-                object,
-                key,
+                container,
+                slot,
+                V::number(Number::UInt64(read.magnitude)),
+                from,
+            );
+        }
+        self.put_word::<V, S>(room, container, slot, text)
+    }
+
+    // Puts in a scalar that is no string in double quotes. Most words are in small letters.
+    #[inline(always)]
+    fn put_word<V: Handler<'a>, S: Slot<'a, V>>(
+        &mut self,
+        room: &mut V::Room,
+        container: &mut S::Container,
+        slot: S,
+        text: &'a str,
+    ) -> Result<(), Failed>
+        requires same { IsTextOf text.now self.old }
+        ensures { Puts V.Handler scalar_at result self.old self.new room.old room.new (S.before container.old slot)
+            (S.after container.new) }
+    {
+        let from = self.offset;
+        match self.short_literal() {
+            Some(Literal::Null) => self.put::<V, S>(room, container, slot, V::null(), from),
+            Some(Literal::Bool(value)) => self.put::<V, S>(
+                room,
+                container,
+                slot,
                 V::boolean(value),
                 from,
             ),
-            None => self.insert_other_scalar::<V>(room, object, key, text),
+            None => self.put_other_scalar::<V, S>(room, container, slot, text),
         }
     }
 
-    // Puts in a member with a string in double quotes that has escapes, or is rejected, from the byte after its opening
-    // quote on.
+    // Puts in a string in double quotes that has escapes, or is rejected, from the byte after its opening quote on. It
+    // stands apart, since its caller would clear the place of an owned string before each value.
     #[inline(never)]
-    fn insert_escaped<V: Handler<'a>>(
+    fn put_escaped<V: Handler<'a>, S: Slot<'a, V>>(
         &mut self,
         room: &mut V::Room,
-        object: &mut OpenObject<V::Members, V::Key>,
-        key: V::Key,
+        container: &mut S::Container,
+        slot: S,
         text: &'a str,
     ) -> Result<(), Failed>
         requires opened { IsBehind ascii.quote self.old }
         requires same { IsTextOf text.now self.old }
-        ensures { Inserts V.Handler (λ size mode. quoted_at size mode ascii.quote) result
-            self.old self.new room.old room.new key object.old object.new }
+        ensures { Puts V.Handler (λ size mode. quoted_at size mode ascii.quote) result
+            self.old self.new room.old room.new (S.before container.old slot) (S.after container.new) }
     {
         let value = self.parse_escaped_string::<V>(b'"', text)?;
-        self.insert::<V>(room, object, key, value, self.offset)
+        self.put::<V, S>(room, container, slot, value, self.offset)
     }
 
-    // Puts in a member with any other value that holds no others, or tells its fault.
+    // Puts in any other value that holds no others, or tells its fault.
     #[inline(never)]
-    fn insert_other_scalar<V: Handler<'a>>(
+    fn put_other_scalar<V: Handler<'a>, S: Slot<'a, V>>(
         &mut self,
         room: &mut V::Room,
-        object: &mut OpenObject<V::Members, V::Key>,
-        key: V::Key,
+        container: &mut S::Container,
+        slot: S,
         text: &'a str,
     ) -> Result<(), Failed>
         requires same { IsTextOf text.now self.old }
-        ensures { Inserts V.Handler scalar_at result self.old self.new room.old room.new key object.old object.new }
+        ensures { Puts V.Handler scalar_at result self.old self.new room.old room.new (S.before container.old slot)
+            (S.after container.new) }
     {
         let value = self.parse_scalar::<V>(text)?;
-        self.insert::<V>(room, object, key, value, self.offset)
+        self.put::<V, S>(room, container, slot, value, self.offset)
     }
 
     // A value that holds no others, or the fault of what is none.

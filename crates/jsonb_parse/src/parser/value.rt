@@ -8,7 +8,7 @@ ghost use Rattle.jsonb_value.specs.declared.error.ParseErrorCode.TheVariants.{De
 ghost use Rattle.jsonb_parse.specs.declared.parser.frame.Frame.{Frame};
 ghost use Rattle.jsonb_parse.specs.declared.parser.frame.Frame.TheVariants.{Array, Object};
 ghost use Rattle.jsonb_parse.specs.Handler.{ElseFails, Builds};
-ghost use Rattle.jsonb_parse.specs.Frames.{AtEnd, AtNextPart, BeforeValue, Fits, IsParsedToEnd, OpensContainer, finish_container, scalar_or_null};
+ghost use Rattle.jsonb_parse.specs.Frames.{AtEnd, AtNextPart, BeforeValue, IsParsedToEnd, OpensContainer, finish_container, scalar_or_null};
 ghost use Rattle.jsonb_scan.specs.Answer.{mode_of};
 ghost use Rattle.jsonb_parse.specs.Parser.{Advances, AdvancesOver, IsBehind, IsTextOf, parse_at, rest_of, size_of};
 ghost use Rattle.jsonb_scan.specs.Parsing.{begins};
@@ -17,10 +17,12 @@ ghost use Rattle.jsonb_scan.specs.Parsing.Container.{is_left_out};
 ghost use Rattle.jsonb_scan.specs.Parsing.Document.{value_at};
 ghost use Rattle.jsonb_spec.specs.Source.{Source};
 ghost use Rattle.jsonb_scan.specs.Open.{Open};
-ghost use Rattle.jsonb_parse.specs.Steps.{EndsPart, FillsFrame, Pushes, Turns};
+ghost use Rattle.jsonb_parse.specs.Slots.{Fits};
+ghost use Rattle.jsonb_parse.specs.Steps.{EndsPart, FillsFrame, Puts, Turns};
 
 use super::frame::{Frame, OpenObject};
 use super::handler::{Failed, Handler};
+use super::slot::{Element, Member};
 use super::{Mode, Parser};
 use jsonb_value::error::{Error, ParseErrorCode};
 use std::alloc::{AllocError, Global};
@@ -205,7 +207,7 @@ impl<'a> Parser<'a> {
                 };
                 return Ok(false);
             }
-            self.push_element::<V>(room, items, text)?;
+            self.put_element::<V>(room, items, text)?;
             if self.end_element()? {
                 return Ok(true);
             }
@@ -214,19 +216,20 @@ impl<'a> Parser<'a> {
 
     // Puts in an element that is no container: a scalar, or null where it is left out.
     #[inline(always)]
-    fn push_element<V: Handler<'a>>(
+    fn put_element<V: Handler<'a>>(
         &mut self,
         room: &mut V::Room,
         items: &mut V::Items,
         text: &'a str,
     ) -> Result<(), Failed>
         requires same { IsTextOf text.now self.old }
-        ensures { Pushes V.Handler scalar_or_null result self.old self.new room.old room.new items.old items.new }
+        ensures { Puts V.Handler scalar_or_null result self.old self.new room.old room.new (Array items.old)
+            (Array items.new) }
     {
         if !self.is_left_out() {
-            return self.push_scalar::<V>(room, items, text);
+            return self.put_scalar::<V, Element>(room, items, Element, text);
         }
-        self.push::<V>(room, items, V::null(), self.offset)
+        self.put::<V, Element>(room, items, Element, V::null(), self.offset)
     }
 
     // Whether an element is left out here.
@@ -257,7 +260,7 @@ impl<'a> Parser<'a> {
                 object.key = key;
                 return Ok(false);
             }
-            self.insert_scalar::<V>(room, object, key, text)?;
+            self.put_scalar::<V, Member<V::Key>>(room, object, Member { key }, text)?;
             if self.end_member()? {
                 return Ok(true);
             }
@@ -341,21 +344,21 @@ impl<'a> Parser<'a> {
             }
             Frame::Object(object) => {
                 let inserted = V::insert_inner(room, object, self.alloc, value);
-                self.insert_result(inserted)?;
+                self.put_result(inserted)?;
                 self.end_member()
             }
         }
     }
 
-    // What an attempt to put in a member returns: where its key is there already and nobody told it, nothing is told.
+    // What an attempt to put in a value returns: where its key is there already and nobody told it, nothing is told.
     #[inline(always)]
-    pub(super) fn insert_result(&mut self, inserted: Result<bool, AllocError>) -> Result<(), Failed>
-        ensures ok { OnOk result ((inserted ≡ Ok true) × (self.new ≡ self.old)) }
-        ensures told { IfErr result (λ _. MatchResult inserted (λ is_new. (is_new ≡ false) × (self.new.told ≡ None))
+    pub(super) fn put_result(&mut self, put: Result<bool, AllocError>) -> Result<(), Failed>
+        ensures ok { OnOk result ((put ≡ Ok true) × (self.new ≡ self.old)) }
+        ensures told { IfErr result (λ _. MatchResult put (λ is_new. (is_new ≡ false) × (self.new.told ≡ None))
             (λ _. self.new.told ≡ Some Error.OutOfMemory)) }
         ensures advances { Advances self.old self.new }
     {
-        match inserted {
+        match put {
             Ok(true) => Ok(()),
             Ok(false) => Err(self.fail_silently()),
             Err(_) => Err(self.out_of_memory()),

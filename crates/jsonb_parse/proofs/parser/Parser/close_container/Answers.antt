@@ -68,8 +68,8 @@ returns-in-Ok g c =
       advances = search rules;
     }
 
-pub returns-in_ok-insert_result-in-Object : goal.returns-in_ok-insert_result-in-Object
-returns-in_ok-insert_result-in-Object g c =
+pub returns-in_ok-put_result-in-Object : goal.returns-in_ok-put_result-in-Object
+returns-in_ok-put_result-in-Object g c =
     record {
       parses = λ whole ahead.
           let p = c.args.self.now in
@@ -93,8 +93,8 @@ returns-in_ok-insert_result-in-Object g c =
           let below = reverse (take n gs) in
           let e = last-is gs n c.in-Some-last_mut.outer.now last c.in-Some-last_mut.ensures.value ∙ ap (λ f. take n gs ++ f ∷ []) c.in-Object.is in
           let turned = ap reverse e ∙ innermost_first (take n gs) (variants.Object v) in
-          let ok = c.in_ok-insert_result-in-Object.ensures.ok in
-          let a = goes_on _ _ q c.insert_result.ensures.advances c.end_member.ensures.advances in
+          let ok = c.in_ok-put_result-in-Object.ensures.ok in
+          let a = goes_on _ _ q c.put_result.ensures.advances c.end_member.ensures.advances in
           let on : Advances p q = record { buf = a.buf; mode = a.mode; onward = a.onward } in
           let put = put_new (h.silent ≡ true) c.insert_inner-inserted.result ok.0 c.insert_inner-inserted.ensures.put in
           joined before after p q gs _ (take n gs) (variants.Object v) (variants.Object w) inner whole s expected_object_comma_or_end 125 on e (last-set gs n (variants.Object w) last)

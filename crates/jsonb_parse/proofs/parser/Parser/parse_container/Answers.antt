@@ -2,7 +2,8 @@ use Rattle.std.proofs.Common.{◌≡◌, ◌∷◌, [], false, sym, subst, ◌�
 use Rattle.std.proofs.lemmas.Result.{err_from_is_err_and}
 use Rattle.jsonb_spec.specs.Grammar.{max_depth}
 use Rattle.jsonb_scan.specs.Parsing.Document.{value_at}
-use Rattle.jsonb_parse.specs.Frames.{Fits, finish_container}
+use Rattle.jsonb_parse.specs.Frames.{finish_container}
+use Rattle.jsonb_parse.specs.Slots.{Fits}
 use Rattle.jsonb_parse.specs.Parser.{parse_at, rest_of}
 use Rattle.jsonb_parse.proofs.Containers.Frames.{last_of_one}
 use Rattle.jsonb_parse.proofs.Steps.Failures.{misses_same}

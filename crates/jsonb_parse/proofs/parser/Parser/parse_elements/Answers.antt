@@ -1,6 +1,7 @@
 use Rattle.std.proofs.Common.{◌≡◌, ℕ, List, [], ◌∷◌, ◌++◌, false, refl, sym, ap, subst, ◌∙◌, rules}
 use Rattle.std.proofs.lemmas.Result.{err_from_is_err_and}
-use Rattle.jsonb_parse.specs.Frames.{IsArray, resume_part, scalar_or_null}
+use Rattle.jsonb_parse.specs.Frames.{resume_part, scalar_or_null}
+use Rattle.jsonb_parse.specs.Slots.{IsArray}
 use Rattle.jsonb_parse.specs.declared.parser.frame.Frame.TheVariants as variants
 use Rattle.jsonb_spec.specs.Code.Code.{expected_array_comma_or_end}
 use Rattle.jsonb_scan.specs.Answer.{mode_of}
@@ -33,8 +34,8 @@ returns-then-begins_container g c =
       advances = search rules;
     }
 
-pub returns-in_err-push_element : goal.returns-in_err-push_element
-returns-in_err-push_element g c =
+pub returns-in_err-put_element : goal.returns-in_err-put_element
+returns-in_err-put_element g c =
     record {
       parses = λ depth o fs cs fits held.
           let p = c.args.self.now in
@@ -42,11 +43,11 @@ returns-in_err-push_element g c =
           let i = c.elements.invariant in
           let so_far = i.parses depth o fs cs fits held in
           let silent = g.V.Handler.silent in
-          let t = c.push_element.new.self.told in
+          let t = c.put_element.new.self.told in
           let residual = err_from_is_err_and c.from_residual.result c.from_residual.ensures.1 in
           rw (residual.1) (misses_same silent t (parse_at scalar_or_null s >>= after_element p depth so_far.0) (next_part_at (size_of p) (mode_of p.mode) depth o (rest_of p))
           (so_far.2 ∙ element_turn p c.elements.self s depth so_far.0 i.advances c.skip_whitespace.ensures.advances c.skip_whitespace.ensures.rest c.if-begins_container.ensures.other.0 c.if-begins_container.ensures.other.1)
-          (misses_through silent t (parse_at scalar_or_null s) (after_element p depth so_far.0) c.in_err-push_element.ensures.parses));
+          (misses_through silent t (parse_at scalar_or_null s) (after_element p depth so_far.0) c.in_err-put_element.ensures.parses));
       onward = search rules;
       opens = search rules;
       advances = search rules;
@@ -59,13 +60,13 @@ returns-in_err-end_element g c =
           let p = c.args.self.now in
           let l = c.elements.self in
           let s = c.skip_whitespace.new.self in
-          let q = c.push_element.new.self in
+          let q = c.put_element.new.self in
           let i = c.elements.invariant in
           let so_far = i.parses depth o fs cs fits held in
-          let pushed = c.in_ok-push_element.ensures.parses in
+          let pushed = c.in_ok-put_element.ensures.parses in
           let silent = g.V.Handler.silent in
           let t = c.end_element.new.self.told in
-          let on = goes_on p s q (goes_on p l s i.advances c.skip_whitespace.ensures.advances) c.push_element.ensures.advances.parser in
+          let on = goes_on p s q (goes_on p l s i.advances c.skip_whitespace.ensures.advances) c.put_element.ensures.advances.parser in
           let ends = part_end (size_of q) expected_array_comma_or_end 93 (skip_whitespace (mode_of q.mode) (rest_of q)) in
           let residual = err_from_is_err_and c.from_residual-in_err-end_element.result c.from_residual-in_err-end_element.ensures.1 in
           rw (residual.1) (misses_same silent t (ends >>= λ y. resume_part (size_of p) (mode_of p.mode) depth y.0 (elements_so_far (so_far.0 ++ source_alone pushed.0 ∷ [])) y.1) (next_part_at (size_of p) (mode_of p.mode) depth o (rest_of p))
@@ -85,20 +86,20 @@ returns-then-branch g c =
           let p = c.args.self.now in
           let l = c.elements.self in
           let s = c.skip_whitespace.new.self in
-          let q = c.push_element.new.self in
+          let q = c.put_element.new.self in
           let r = c.end_element.new.self in
           let i = c.elements.invariant in
           let so_far = i.parses depth o fs cs fits held in
-          let pushed = c.in_ok-push_element.ensures.parses in
+          let pushed = c.in_ok-put_element.ensures.parses in
           let ended = c.in_ok-end_element.ensures.parses in
           let more = elements_so_far (so_far.0 ++ source_alone pushed.0 ∷ []) in
           let h = g.V.Handler in
           let before = goes_on p l s i.advances c.skip_whitespace.ensures.advances in
-          let on = goes_on p s q before c.push_element.ensures.advances.parser in
+          let on = goes_on p s q before c.put_element.ensures.advances.parser in
           record {
             so_far = more;
             fits = tt;
-            held = subst (λ b. h.stands b.now c.elements.room false (variants.Array c.elements.items ∷ fs) (elements_so_far so_far.0 ∷ cs) → h.stands b.now c.push_element.new.room false (variants.Array c.push_element.new.items ∷ fs) (more ∷ cs)) before.buf (pushed.2 so_far.0 fs cs) so_far.1;
+            held = subst (λ b. h.stands b.now c.elements.room false (variants.Array c.elements.items ∷ fs) (elements_so_far so_far.0 ∷ cs) → h.stands b.now c.put_element.new.room false (variants.Array c.put_element.new.items ∷ fs) (more ∷ cs)) before.buf (pushed.2 (elements_so_far so_far.0) fs cs tt) so_far.1;
             parses =
                 so_far.2 ∙ element_turn p l s depth so_far.0 i.advances c.skip_whitespace.ensures.advances c.skip_whitespace.ensures.rest c.if-begins_container.ensures.other.0 c.if-begins_container.ensures.other.1
                 ∙ ap (λ x. x >>= after_element p depth so_far.0) pushed.1
@@ -124,23 +125,23 @@ elements-preserved g c =
     let p = c.args.self.now in
     let l = c.elements.self in
     let s = c.skip_whitespace.new.self in
-    let q = c.push_element.new.self in
+    let q = c.put_element.new.self in
     let r = c.end_element.new.self in
     let i = c.elements.invariant in
-    let pushed = c.in_ok-push_element.ensures.parses in
+    let pushed = c.in_ok-put_element.ensures.parses in
     let ended = c.in_ok-end_element.ensures.parses in
     let h = g.V.Handler in
     let before = goes_on p l s i.advances c.skip_whitespace.ensures.advances in
-    let on = goes_on p s q before c.push_element.ensures.advances.parser in
+    let on = goes_on p s q before c.put_element.ensures.advances.parser in
     let onto = goes_on p q r on c.end_element.ensures.advances in
     record {
       advances = onto;
-      base = c.push_element.ensures.advances.base ∙ i.base;
+      base = c.put_element.ensures.advances.base ∙ i.base;
       parses = λ depth o fs cs fits held.
           let so_far = i.parses depth o fs cs fits held in
           let more = elements_so_far (so_far.0 ++ source_alone pushed.0 ∷ []) in (
             so_far.0 ++ source_alone pushed.0 ∷ [],
-            subst (λ b. h.stands b.now c.elements.room false (variants.Array c.elements.items ∷ fs) (elements_so_far so_far.0 ∷ cs) → h.stands b.now c.push_element.new.room false (variants.Array c.push_element.new.items ∷ fs) (more ∷ cs)) before.buf (pushed.2 so_far.0 fs cs) so_far.1,
+            subst (λ b. h.stands b.now c.elements.room false (variants.Array c.elements.items ∷ fs) (elements_so_far so_far.0 ∷ cs) → h.stands b.now c.put_element.new.room false (variants.Array c.put_element.new.items ∷ fs) (more ∷ cs)) before.buf (pushed.2 (elements_so_far so_far.0) fs cs tt) so_far.1,
             so_far.2 ∙ element_turn p l s depth so_far.0 i.advances c.skip_whitespace.ensures.advances c.skip_whitespace.ensures.rest c.if-begins_container.ensures.other.0 c.if-begins_container.ensures.other.1
                 ∙ ap (λ x. x >>= after_element p depth so_far.0) pushed.1
                 ∙ ap (λ x. x >>= λ y. resume_part (size_of p) (mode_of p.mode) depth y.0 more y.1) (sym (same_end p q expected_array_comma_or_end 93 on) ∙ ended.2)

@@ -6,7 +6,7 @@ use Rattle.jsonb_parse.specs.Parser.{Advances, rest_of, size_of}
 use Rattle.jsonb_scan.specs.Open.{Open, elements_so_far}
 use Rattle.jsonb_spec.specs.Source.{Source}
 use Rattle.jsonb_parse.specs.Stack.{elements_from, next_part_at}
-use Rattle.jsonb_parse.specs.Frames.{IsArray}
+use Rattle.jsonb_parse.specs.Slots.{IsArray}
 use Rattle.jsonb_parse.proofs.parser.Parser.parse_elements.Given as goal
 
 -- what is parsed of the elements is what is left to parse after those so far

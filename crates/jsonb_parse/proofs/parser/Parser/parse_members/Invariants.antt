@@ -1,5 +1,5 @@
 use Rattle.std.proofs.Common.{◌≡◌, ℕ, ◌-◌, false, List, ◌∷◌}
-use Rattle.jsonb_parse.specs.Frames.{IsObject}
+use Rattle.jsonb_parse.specs.Slots.{IsObject}
 use Rattle.jsonb_parse.specs.declared.parser.frame.Frame.{Frame}
 use Rattle.jsonb_parse.specs.declared.parser.frame.Frame.TheVariants as variants
 use Rattle.jsonb_spec.specs.Tree.{Mark}

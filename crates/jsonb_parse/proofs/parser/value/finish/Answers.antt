@@ -1,6 +1,6 @@
 use Rattle.std.proofs.Common.{◌∷◌, false, subst}
 use Rattle.jsonb_parse.specs.declared.parser.frame.Frame.TheVariants as variants
-use Rattle.jsonb_parse.specs.Frames.{Fits}
+use Rattle.jsonb_parse.specs.Slots.{Fits}
 use Rattle.jsonb_parse.proofs.Containers.Frames.{object_ended}
 use Rattle.jsonb_parse.proofs.parser.value.finish.Goals as goal
 

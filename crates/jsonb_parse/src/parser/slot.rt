@@ -1,0 +1,129 @@
+//! Where a value goes: an element of an array, or a member of an object.
+ghost use Rattle.std.specs.Prelude.{◌≡◌, MatchBool, true, IfOk, slice_range};
+ghost use Rattle.jsonb_scan.specs.Spelled.{IsSpelledAt};
+ghost use Rattle.text_common.specs.SourceText.{source_text};
+ghost use Rattle.jsonb_parse.specs.Slots.{Takes};
+ghost use Rattle.jsonb_parse.specs.declared.parser.frame.Frame.{Frame};
+ghost use Rattle.jsonb_parse.specs.declared.parser.frame.Frame.TheVariants.{Array, Object};
+
+use super::frame::{Frame, OpenObject};
+use super::handler::Handler;
+use std::alloc::AllocError;
+
+// A place in an open container for a value that holds no others.
+pub(super) trait Slot<'a, V: Handler<'a>>: Drop + Sized {
+    // What is kept of the container.
+    type Container;
+
+    // The container that is open, before the value is put in.
+    ghost before: { Self.Container → Self → Frame V.Items V.Members V.Key };
+
+    // The container with the value in it.
+    ghost after: { Self.Container → Frame V.Items V.Members V.Key };
+
+    // Puts in a value that stands in the text between two indices. False where its key is there already, and the
+    // handler is silent about it.
+    fn put(
+        self,
+        room: &mut V::Room,
+        container: &mut Self::Container,
+        value: V,
+        from: usize,
+        to: usize,
+    ) -> Result<bool, AllocError>
+        ensures put { IfOk result (λ is_new. MatchBool is_new (Takes V.stands
+            (λ text s. V.sees value s × IsSpelledAt text from to s) room.old (before container.old self) room.new
+            (after container.new)) (V.silent ≡ true)) }
+        ensures base { V.base room.new ≡ V.base room.old };
+
+    // Puts in a value whose serialized form is this range of the text.
+    fn put_kept(
+        self,
+        room: &mut V::Room,
+        container: &mut Self::Container,
+        from: usize,
+        to: usize,
+    ) -> Result<bool, AllocError>
+        ensures put { IfOk result (λ is_new. MatchBool is_new (V.keeps ≡ true → Takes V.stands
+            (λ text s. slice_range text from to ≡ source_text s) room.old (before container.old self) room.new
+            (after container.new)) (V.silent ≡ true)) }
+        ensures base { V.base room.new ≡ V.base room.old };
+}
+
+// The next element of an array.
+#[derive(Drop)]
+pub(super) struct Element;
+
+// The member of an object that has this key.
+#[derive(Drop)]
+pub(super) struct Member<K> {
+    pub(super) key: K,
+}
+
+impl<'a, V: Handler<'a>> Slot<'a, V> for Element {
+    type Container = V::Items;
+
+    ghost before = { λ items slot. Array items };
+
+    ghost after = { λ items. Array items };
+
+    #[inline(always)]
+    fn put(
+        self,
+        room: &mut V::Room,
+        items: &mut V::Items,
+        value: V,
+        from: usize,
+        to: usize,
+    ) -> Result<bool, AllocError> {
+        match V::push(room, items, value, from, to) {
+            Ok(()) => Ok(true),
+            Err(failed) => Err(failed),
+        }
+    }
+
+    #[inline(always)]
+    fn put_kept(
+        self,
+        room: &mut V::Room,
+        items: &mut V::Items,
+        from: usize,
+        to: usize,
+    ) -> Result<bool, AllocError> {
+        match V::push_kept(room, items, from, to) {
+            Ok(()) => Ok(true),
+            Err(failed) => Err(failed),
+        }
+    }
+}
+
+impl<'a, V: Handler<'a>> Slot<'a, V> for Member<V::Key> {
+    type Container = OpenObject<V::Members, V::Key>;
+
+    ghost before = { λ object slot. Object (record { members = object.members; key = slot.key }) };
+
+    ghost after = { λ object. Object object };
+
+    #[inline(always)]
+    fn put(
+        self,
+        room: &mut V::Room,
+        object: &mut OpenObject<V::Members, V::Key>,
+        value: V,
+        from: usize,
+        to: usize,
+    ) -> Result<bool, AllocError> {
+        V::insert(room, object, self.key, value, from, to)
+    }
+
+    #[inline(always)]
+    fn put_kept(
+        self,
+        room: &mut V::Room,
+        object: &mut OpenObject<V::Members, V::Key>,
+        from: usize,
+        to: usize,
+    ) -> Result<bool, AllocError> {
+        V::insert_kept(room, object, self.key, from, to)
+    }
+}
