@@ -1,3 +1,4 @@
+pub mod Ascii
 pub mod Containers
 pub mod Document
 pub mod KeptTexts

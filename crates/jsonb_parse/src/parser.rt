@@ -9,6 +9,7 @@ ghost use Rattle.jsonb_scan.specs.Parsing.Document.{at_end, comment_at, source_o
 ghost use Rattle.jsonb_spec.specs.Source.{Source};
 ghost use Rattle.jsonb_parse.specs.Handler.{BuildsAll, ElseFails, IsWritten, Misses};
 
+mod ascii;
 mod extended_number;
 mod frame;
 pub mod handler;
@@ -21,6 +22,7 @@ mod string;
 mod value;
 mod whitespace;
 
+use ascii::is_short_ascii;
 pub use frame::{Frame, OpenObject};
 use handler::{Failed, Handler};
 pub use jsonb_scan::parser::Mode;
@@ -62,15 +64,19 @@ pub fn parse_text<'a, V: Handler<'a>>(
     }
 }
 
-// The bytes as text, where they are UTF-8. The call for long texts looks at 64 bytes at once.
+// The bytes as text, where they are UTF-8. The call for long texts looks at 64 bytes at once, and short ones are mostly
+// ASCII.
 #[inline(always)]
 fn whole_text(bytes: &[u8]) -> Option<&str>
     ensures { IfSome result (λ text. text.now ≡ bytes.now) }
 {
-    if bytes.len() < 64 {
-        return std::str::from_utf8(bytes).ok();
+    if bytes.len() >= 64 {
+        return simdutf8::basic::from_utf8(bytes).ok();
     }
-    simdutf8::basic::from_utf8(bytes).ok()
+    if bytes.len() >= 16 && is_short_ascii(bytes) {
+        return Some(unsafe { std::str::from_utf8_unchecked(bytes) });
+    }
+    std::str::from_utf8(bytes).ok()
 }
 
 // A parser that stands at the index `offset` of its text.

@@ -11,9 +11,9 @@ ghost use Rattle.jsonb_spec.specs.Text.StringText.{ArePlain};
 use super::Parser;
 use jsonb_scan::parser::string::{StringEnd, decode_contents, find_end, next_mark};
 use jsonb_value::error::{Error, ParseErrorCode, Result};
+use jsonb_value::plain::plain_len;
 use std::borrow::CowStr;
 use std::simd::prelude::*;
-use jsonb_value::plain::plain_len;
 
 // A string without escapes that was cut out of the text, and whether it is known that none of its bytes is written as
 // an escape.
