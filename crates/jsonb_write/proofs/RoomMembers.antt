@@ -1,20 +1,21 @@
 -- The room while an object is open: its members, their keys and their values.
-use Rattle.std.proofs.Common.{◌≡◌, ℕ, ◌+◌, ◌-◌, ◌<◌, ◌≤◌, true, false, List, [], ◌∷◌, ◌++◌, map, length, take, drop, drop-drop, length-drop, slice_range, refl, sym, ap, ap₂, subst, ◌∙◌, arith, append_assoc, append-nil, length-append}
-use Rattle.std.proofs.Math.Seq.{take-append_seam}
-use Rattle.std.proofs.lemmas.List.{length-take-le, take-append-drop}
+use Rattle.std.proofs.Common.{◌≡◌, ℕ, ◌+◌, ◌-◌, ◌<◌, ◌≤◌, true, false, List, [], ◌∷◌, ◌++◌, map, length, take, slice_range, refl, sym, ap, ap₂, subst, ◌∙◌, arith, append_assoc, append-nil, length-append}
+use Rattle.std.proofs.lemmas.List.{length-take-le}
 use Rattle.std.specs.List.{flat_map}
 use Rattle.std.specs.Str.{IsUtf8}
 use Rattle.jsonb_spec.specs.Text.{in_quotes, with_commas}
+use Rattle.jsonb_spec.specs.Text.StringText.{ArePlain, quoted_text}
 use Rattle.jsonb_spec.specs.Tree.{Mark}
 use Rattle.jsonb_scan.specs.Open.{Open, members_so_far}
-use Rattle.jsonb_spec.specs.Source.{Found, Source, found_member, spot_of}
-use Rattle.jsonb_write.specs.MemberStarts.{AreKept, MemberStart, IsKept}
+use Rattle.jsonb_spec.specs.Source.{Found, Source, found_member}
+use Rattle.jsonb_write.specs.OpenMembers.{AreOf, all_starts, next_start, starts_in}
+use Rattle.jsonb_write.specs.OpenMembers.{Begins as Begun}
 use Rattle.jsonb_write.specs.OpenText.{comma_after, comma_unless, key_text, member_text, open_text}
 use Rattle.text_common.specs.SourceText.{source_text}
-use Rattle.jsonb_write.specs.TextRoom.{Begins, Held, HeldFits, IsRoomWith, TextStands, Writes, base_of, next_start, starts_from, members, all_starts}
+use Rattle.jsonb_write.specs.TextRoom.{Begins, Held, HeldFits, IsRoomWith, TextStands, Writes, base_of, members, text_layout}
 use Rattle.jsonb_write.specs.Written.{bytes_of}
 use Rattle.jsonb_write.specs.declared.text.TextRoom.{TextRoom}
-use Rattle.jsonb_write.proofs.MemberStarts.{kept_all, kept_count, one_more}
+use Rattle.jsonb_write.proofs.OpenMembers as opened
 use Rattle.jsonb_write.proofs.OpenTexts.{led, part_joined}
 use Rattle.jsonb_write.proofs.Rooms.{goes_on}
 
@@ -27,73 +28,67 @@ commas_length (f ∷ fs) =
     omega (arith, length-append (member_text f) rest, length-append (44 ∷ member_text f) rest)
 
 -- behind the members before and the comma after them
-pub next_start-is : (start : ℕ) (fs : List Found) → next_start start fs ≡ start + length (with_commas (map member_text fs)) + length (comma_after fs)
+pub next_start-is : (start : ℕ) (fs : List Found) → next_start true member_text start fs ≡ start + length (with_commas (map member_text fs)) + length (comma_after fs)
 next_start-is start [] = omega arith
 next_start-is start (f ∷ fs) =
     let rest = flat_map (λ other. 44 ∷ other) (map member_text fs) in
     omega (arith, next_start-is (start + length (member_text f) + 1) fs, commas_length fs, length-append (member_text f) rest)
 
-pub starts_more : (start : ℕ) (fs : List Found) (f : Found) → starts_from start fs ++ record { spot = spot_of f; start = next_start start fs } ∷ [] ≡ starts_from start (fs ++ f ∷ [])
-starts_more start [] f = refl
-starts_more start (g ∷ fs) f = ap (λ bs. record { spot = spot_of g; start = start } ∷ bs) (starts_more (start + length (member_text g) + 1) fs f)
-
-length-starts : (start : ℕ) (fs : List Found) → length (starts_from start fs) ≡ length fs
-length-starts start [] = refl
-length-starts start (f ∷ fs) = omega (arith, length-starts (start + length (member_text f) + 1) fs)
-
 -- ---- bytes and members
 
 pub wrote_begins : {a b key : List ℕ} {place start : ℕ} {r s t : TextRoom} → Writes a r s → Begins b key place start s t → Begins (a ++ b) key place start r t
-wrote_begins {a = a} {b = b} {key = key} {place = place} {start = start} {r = r} {s = s} {t = t} w m =
+wrote_begins {a = a} {b = b} {r = r} w m =
     record {
-      member = m.member;
-      keys = m.keys;
       text = m.text ∙ w.text;
       base = m.base ∙ w.base;
       before = m.before ∙ w.before;
       written = m.written ∙ ap (λ xs. xs ++ b) w.written ∙ append_assoc (bytes_of r.written) a b;
-      members = m.members ∙ ap (λ ms. ms ++ m.member ∷ []) w.members;
-      decoded = m.decoded ∙ ap (λ ks. ks ++ m.keys) w.decoded;
-      kept = subst (λ text. IsKept text t.decoded.items m.member (record { spot = record { key = key; place = place }; start = start })) w.text m.kept;
+      members = opened.same_begins w.members m.members;
+    }
+
+pub begins : {key : List ℕ} {place start : ℕ} {s t : TextRoom} → t.written ≡ s.written → t.base ≡ s.base → Begun key place start s.members t.members → Begins [] key place start s t
+begins {s = s} written base m =
+    record {
+      text = ap (λ w. w.text.now) written;
+      base = base;
+      before = ap₂ (λ n w. take n w.out.items) base written;
+      written = ap bytes_of written ∙ sym (append-nil (bytes_of s.written));
+      members = m;
     }
 
 pub begins_wrote : {a b key : List ℕ} {place start : ℕ} {r s t : TextRoom} → Begins a key place start r s → Writes b s t → Begins (a ++ b) key place start r t
-begins_wrote {a = a} {b = b} {key = key} {place = place} {start = start} {r = r} {s = s} {t = t} m w =
+begins_wrote {a = a} {b = b} {r = r} m w =
     record {
-      member = m.member;
-      keys = m.keys;
       text = w.text ∙ m.text;
       base = w.base ∙ m.base;
       before = w.before ∙ m.before;
       written = w.written ∙ ap (λ xs. xs ++ b) m.written ∙ append_assoc (bytes_of r.written) a b;
-      members = w.members ∙ m.members;
-      decoded = w.decoded ∙ m.decoded;
-      kept = subst (λ ks. IsKept r.written.text.now ks m.member (record { spot = record { key = key; place = place }; start = start })) (sym w.decoded) m.kept;
+      members = opened.begins_same m.members w.members;
     }
 
 -- ---- steps
 
 -- an object with no members
-pub object_begun : {text : List ℕ} {r s : TextRoom} {held : List Held} {cs : List Open} (key : Mark × List ℕ) (place : ℕ) → TextStands text r true held cs → Writes (123 ∷ []) r s → TextStands text s false (members (length s.members.items) ∷ held) (members_so_far [] key place ∷ cs)
-object_begun {text = text} {r = r} {s = s} {cs = cs} key place room w =
-    goes_on room w refl (sym (append-nil (all_starts r.base true cs)))
-    (ap length w.members ∙ kept_count text r.decoded.items r.members.items (all_starts r.base true cs) room.starts, room.fits)
+pub object_begun : {text : List ℕ} {r s : TextRoom} {held : List Held} {cs : List Open} (key : Mark × List ℕ) (place : ℕ) → TextStands text r true held cs → Writes (123 ∷ []) r s → TextStands text s false (members (length s.members.entries.items) ∷ held) (members_so_far [] key place ∷ cs)
+object_begun {r = r} {cs = cs} key place room w =
+    goes_on room w refl (opened.none_in (text_layout r.base) key place cs)
+    (ap length w.members.entries ∙ opened.counted room.members, room.fits)
 
 -- as many members as are kept behind the first one's index
 pub counted : {text : List ℕ} {r : TextRoom} {first : ℕ} {held : List Held} {fs : List Found} {key : Mark × List ℕ} {place : ℕ} {cs : List Open} → TextStands text r false (members first ∷ held) (members_so_far fs key place ∷ cs)
-    → length r.members.items ≡ first + length fs
-counted {text = text} {r = r} {first = first} {fs = fs} {cs = cs} room =
-    let start = r.base + length (open_text true cs) + 1 in
+    → length r.members.entries.items ≡ first + length fs
+counted {r = r} {fs = fs} {cs = cs} room =
+    let layout = text_layout r.base in
     omega (
       arith,
-      kept_count text r.decoded.items r.members.items (all_starts r.base true cs ++ starts_from start fs) room.starts,
-      length-append (all_starts r.base true cs) (starts_from start fs),
-      length-starts start fs,
+      opened.counted room.members,
+      length-append (all_starts layout true cs) (starts_in layout cs fs),
+      opened.length-starts true member_text (layout.begins cs) fs,
       room.fits.0,
     )
 
 -- the comma before a member
-pub comma_led : {r s : TextRoom} {first : ℕ} (fs : List Found) → length r.members.items ≡ first + length fs → (first < length r.members.items → Writes (comma_unless false) r s) → (length r.members.items ≤ first → Writes (comma_unless true) r s) → Writes (comma_after fs) r s
+pub comma_led : {r s : TextRoom} {first : ℕ} (fs : List Found) → length r.members.entries.items ≡ first + length fs → (first < length r.members.entries.items → Writes (comma_unless false) r s) → (length r.members.entries.items ≤ first → Writes (comma_unless true) r s) → Writes (comma_after fs) r s
 comma_led [] count more none = none (omega arith)
 comma_led (f ∷ fs) count more none = more (omega arith)
 
@@ -102,12 +97,10 @@ pub key_stands : {text : List ℕ} {r s : TextRoom} {first : ℕ} {held : List H
     → TextStands text r false (members first ∷ held) (members_so_far fs before place ∷ cs) → start ≡ length (bytes_of r.written) + length (comma_after fs) → Begins (comma_after fs ++ key_text key) key after start r s → IsUtf8 key
     → TextStands text s true (members first ∷ held) (members_so_far fs (mark, key) after ∷ cs)
 key_stands {text = text} {r = r} {s = s} {first = first} {held = held} {fs = fs} {cs = cs} mark key after start room at m utf8 =
-    let outer = all_starts r.base true cs in
     let from = r.base + length (open_text true cs) + 1 in
-    let here : MemberStart = record { spot = record { key = key; place = after }; start = next_start from fs } in
     let based : length (base_of r) ≡ r.base = length-take-le r.base r.written.out.items r.based in
     let texts = with_commas (map member_text fs) in
-    let starts : start ≡ next_start from fs =
+    let starts : start ≡ next_start true member_text from fs =
     omega (
       arith,
       at,
@@ -117,21 +110,13 @@ key_stands {text = text} {r = r} {s = s} {first = first} {held = held} {fs = fs}
       length-append (base_of r) (open_text true cs ++ 123 ∷ texts),
       length-append (open_text true cs) (123 ∷ texts),
     ) in
-    let more : AreKept text s.decoded.items r.members.items (outer ++ starts_from from fs) = subst (λ ks. AreKept text ks r.members.items (outer ++ starts_from from fs)) (sym m.decoded) (kept_all text r.decoded.items m.keys r.members.items (outer ++ starts_from from fs) room.starts) in
-    let last : IsKept text s.decoded.items m.member here =
-    subst (λ t. IsKept t s.decoded.items m.member here) room.text_is (subst (λ n. IsKept r.written.text.now s.decoded.items m.member (record { spot = record { key = key; place = after }; start = n })) starts m.kept) in
-    let all : AreKept text s.decoded.items (r.members.items ++ m.member ∷ []) ((outer ++ starts_from from fs) ++ here ∷ []) = one_more text s.decoded.items r.members.items (outer ++ starts_from from fs) m.member here more last utf8 in
+    let begun = opened.key_begun mark key after start room.members starts m.members utf8 in
     record {
       text_is = m.text ∙ room.text_is;
       bytes =
           m.written ∙ ap (λ xs. xs ++ (comma_after fs ++ key_text key)) room.bytes ∙ append_assoc (base_of r) (open_text true cs ++ 123 ∷ texts) (comma_after fs ++ key_text key)
           ∙ ap₂ (λ b n. b ++ n) (sym m.before) (led (members_so_far fs (mark, key) after) cs);
-      starts =
-          subst (λ b. AreKept text s.decoded.items s.members.items (all_starts b true (members_so_far fs (mark, key) after ∷ cs))) (sym m.base) (
-          subst (λ ms. AreKept text s.decoded.items ms (outer ++ (starts_from from fs ++ here ∷ []))) (sym m.members) (
-          subst (λ bs. AreKept text s.decoded.items (r.members.items ++ m.member ∷ []) bs) (append_assoc outer (starts_from from fs) (here ∷ [])) all
-          )
-          );
+      members = subst (λ b. AreOf (text_layout b) text s.members true (members_so_far fs (mark, key) after ∷ cs)) (sym m.base) begun;
       fits = subst (λ b. HeldFits b true (members first ∷ held) (members_so_far fs (mark, key) after ∷ cs)) (sym m.base) room.fits;
     }
 
@@ -150,22 +135,11 @@ pub value_stands : {text bytes written : List ℕ} {r t : TextRoom} {first : ℕ
     → TextStands text t false (members first ∷ held) (members_so_far (fs ++ found_member key s place ∷ []) next other ∷ cs)
 value_stands {r = r} {fs = fs} {key = key} {place = place} {cs = cs} s next other room w is =
     goes_on room w (is ∙ member_joined fs key.1 s (found_member key s place) (open_text true cs) refl)
-    (ap (λ bs. all_starts r.base true cs ++ bs) (starts_more (r.base + length (open_text true cs) + 1) fs (found_member key s place)))
+    (opened.filled_in (text_layout r.base) fs key next s place other cs)
     room.fits
 
 -- ---- keys in the text
 
--- a key between double quotes
-pub key_there : (text key : List ℕ) (from to : ℕ) → 0 < from → from < to → to ≤ length text → slice_range text (from - 1) to ≡ in_quotes key → slice_range text from (to - 1) ≡ key
-key_there text key from to some before inside spelled =
-    let here = drop (from - 1) text in
-    let n = to - (from - 1) in
-    let room : n ≤ length here = omega (arith, length-drop (from - 1) text) in
-    let long : n ≡ length key + 2 = omega (arith, length-take-le n here room, ap length spelled, length-append key (34 ∷ [])) in
-    let rest = drop n here in
-    let split : here ≡ in_quotes key ++ rest = sym (take-append-drop n here) ∙ ap (λ xs. xs ++ rest) spelled in
-    let next : from - 1 + 1 ≡ from = omega arith in
-    let behind : drop from text ≡ key ++ (34 ∷ rest) =
-    ap (λ m. drop m text) (sym next) ∙ sym (drop-drop 1 (from - 1) text) ∙ ap (drop 1) split ∙ append_assoc key (34 ∷ []) rest in
-    let count : to - 1 - from ≡ length key = omega arith in
-    ap₂ take count behind ∙ take-append_seam key (34 ∷ rest)
+-- a key between double quotes, without escapes, is written as it stands
+pub quoted_kept : {text : List ℕ} {s t : TextRoom} (key : List ℕ) (from after : ℕ) → s.written.text.now ≡ text → slice_range text (from - 1) after ≡ in_quotes key → ArePlain key → Writes (slice_range s.written.text.now (from - 1) after) s t → Writes (quoted_text key) s t
+quoted_kept {s = s} {t = t} key from after is there plain w = subst (λ bytes. Writes bytes s t) (ap (λ u. slice_range u (from - 1) after) is ∙ there ∙ ap in_quotes (sym plain)) w

@@ -2,36 +2,32 @@
 use Rattle.std.proofs.Common.{◌≡◌, ℕ, Bool, true, false, List, [], ◌∷◌, ◌++◌, Result, Ok, Err, OnOk, refl, sym, ap, ap₂, subst, ◌∙◌, append_assoc, append-nil, slice_range}
 use Rattle.jsonb_scan.specs.Open.{Open, elements_so_far}
 use Rattle.jsonb_spec.specs.Source.{Source}
-use Rattle.jsonb_write.specs.MemberStarts.{AreKept}
+use Rattle.jsonb_write.specs.OpenMembers.{AreOf, all_starts}
 use Rattle.jsonb_write.specs.OpenText.{comma_unless, open_text}
 use Rattle.text_common.specs.SourceText.{source_text}
 use Rattle.jsonb_write.specs.Written.{bytes_of}
+use Rattle.jsonb_write.proofs.OpenMembers.{same, stay}
 use Rattle.jsonb_write.proofs.OpenTexts.{comma_is, led, not_empty, part_joined}
 use Rattle.jsonb_write.specs.declared.text.Part.{Part}
 use Rattle.jsonb_write.specs.declared.text.Part.TheVariants as part
-use Rattle.jsonb_write.specs.TextRoom.{Held, IsSpelled, items, part_text, SeesPart, TextStands, TextFilled, HeldFits, IsRoomWith, Writes, base_of, all_starts}
+use Rattle.jsonb_write.specs.TextRoom.{Held, IsSpelled, items, part_text, SeesPart, TextStands, TextFilled, HeldFits, IsRoomWith, Writes, base_of, text_layout}
 use Rattle.jsonb_write.specs.declared.text.TextRoom.{TextRoom}
 
 -- More bytes are written, and what is open holds the members that it held.
 pub goes_on : {text front bytes now : List ℕ} {r s : TextRoom} {due then : Bool} {held kept : List Held} {cs ds : List Open} → IsRoomWith text r front due held cs → Writes bytes r s → front ++ bytes ≡ now
-    → all_starts r.base due cs ≡ all_starts r.base then ds → HeldFits r.base then kept ds → IsRoomWith text s now then kept ds
-goes_on {text = text} {front = front} {bytes = bytes} {r = r} {s = s} {then = then} {kept = kept} {ds = ds} room w joined same fits = record {
+    → all_starts (text_layout r.base) due cs ≡ all_starts (text_layout r.base) then ds → HeldFits r.base then kept ds → IsRoomWith text s now then kept ds
+goes_on {text = text} {front = front} {bytes = bytes} {r = r} {s = s} {then = then} {kept = kept} {ds = ds} room w joined starts fits = record {
   text_is = w.text ∙ room.text_is;
   bytes =
       w.written ∙ ap (λ b. b ++ bytes) room.bytes ∙ append_assoc (base_of r) front bytes
       ∙ ap₂ (λ b n. b ++ n) (sym w.before) joined;
-  starts =
-      subst (λ d. AreKept text d s.members.items (all_starts s.base then ds)) (sym w.decoded) (
-      subst (λ ms. AreKept text r.decoded.items ms (all_starts s.base then ds)) (sym w.members) (
-      subst (λ bs. AreKept text r.decoded.items r.members.items bs) (same ∙ ap (λ b. all_starts b then ds) (sym w.base)) room.starts
-      )
-      );
+  members = subst (λ b. AreOf (text_layout b) text s.members then ds) (sym w.base) (stay room.members w.members starts);
   fits = subst (λ b. HeldFits b then kept ds) (sym w.base) fits;
 }
 
 -- nothing more
 pub unchanged : (r : TextRoom) → Writes [] r r
-unchanged r = record { text = refl; base = refl; before = refl; written = sym (append-nil (bytes_of r.written)); members = refl; decoded = refl }
+unchanged r = record { text = refl; base = refl; before = refl; written = sym (append-nil (bytes_of r.written)); members = same r.members }
 
 -- what stands before an item
 pub comma_written : {text : List ℕ} {r s : TextRoom} {held : List Held} {ss : List Source} {cs : List Open} (b : Bool) → TextStands text r false (items b ∷ held) (elements_so_far ss ∷ cs) → Writes (comma_unless b) r s
@@ -58,8 +54,8 @@ part_written {r = r} {s = s} p v from to room sees spelled wrote =
 -- what is written of a range of the text that is a value's text
 pub range_written : {text written : List ℕ} {r s : TextRoom} {due : Bool} {held : List Held} {cs : List Open} (v : Source) (from to : ℕ) → IsRoomWith text r written due held cs → slice_range text from to ≡ source_text v
     → Writes (slice_range r.written.text.now from to) r s → Writes (source_text v) r s
-range_written {r = r} {s = s} v from to room same writes =
-    subst (λ bytes. Writes bytes r s) (ap (λ t. slice_range t from to) room.text_is ∙ same) writes
+range_written {r = r} {s = s} v from to room spelled writes =
+    subst (λ bytes. Writes bytes r s) (ap (λ t. slice_range t from to) room.text_is ∙ spelled) writes
 
 -- an item behind the comma before it
 pub item_written : {text : List ℕ} {r s : TextRoom} {held : List Held} {ss : List Source} {cs : List Open} (b : Bool) (v : Source) → TextStands text r true (items b ∷ held) (elements_so_far ss ∷ cs) → Writes (source_text v) r s

@@ -5,6 +5,7 @@ pub mod KeyRoom
 pub mod MemberStarts
 pub mod Members
 pub mod OpenKey
+pub mod OpenMembers
 pub mod OpenText
 pub mod PartRoom
 pub mod TextRoom

@@ -1,7 +1,6 @@
 -- What stands in the room that serialized text is written to, while arrays and objects are open.
-use Rattle.std.specs.Prelude.{◌≡◌, ℕ, ◌+◌, ◌<◌, Bool, true, false, List, [], ◌∷◌, ◌++◌, length, map, drop, take, slice_range, codes, Some, None}
+use Rattle.std.specs.Prelude.{◌≡◌, ℕ, ◌+◌, ◌<◌, Bool, true, false, List, [], ◌∷◌, ◌++◌, length, map, take, slice_range, codes, None}
 use Rattle.std.specs.Cow.{cow_str_bytes}
-use Rattle.std.specs.Str.{IsUtf8}
 use Rattle.std.specs.declared.alloc.Global.{Global}
 use Rattle.std.specs.declared.borrow.CowStr.{CowStr}
 use Rattle.std.specs.declared.borrow.CowStr.TheVariants.{Borrowed, Owned}
@@ -14,14 +13,13 @@ use Rattle.jsonb_spec.specs.Tree.Mark.{escaped}
 use Rattle.jsonb_spec.specs.Tree.{plain}
 use Rattle.jsonb_value.specs.View.{mark_view, number_view}
 use Rattle.jsonb_scan.specs.Open.{Open, elements_so_far, members_so_far}
-use Rattle.jsonb_spec.specs.Source.{Found, Source, Spot, null_source, boolean_source, string_source, number_source, first_repeat, object_source_of, sort_by, spot_of}
+use Rattle.jsonb_spec.specs.Source.{Found, Source, null_source, boolean_source, string_source, number_source, first_repeat, object_source_of, sort_by, spot_of}
 use Rattle.jsonb_write.specs.Contents.{text_of_contents}
-use Rattle.jsonb_write.specs.MemberStarts.{AreKept, MemberStart, IsKept}
-use Rattle.jsonb_write.specs.Members.{AreKeyed, SpotsAscend, spot_at, spot_in}
+use Rattle.jsonb_write.specs.OpenMembers as opened
+use Rattle.jsonb_write.specs.OpenMembers.{AreOf, AreSame, Layout, all_starts}
 use Rattle.jsonb_write.specs.OpenText.{is_empty, member_text, open_text}
 use Rattle.text_common.specs.SourceText.{source_text}
 use Rattle.jsonb_write.specs.Written.{bytes_of}
-use Rattle.jsonb_write.specs.declared.members.Member.{Member}
 use Rattle.jsonb_write.specs.declared.text.Part.{Part}
 use Rattle.jsonb_write.specs.declared.text.Part.TheVariants as part
 use Rattle.jsonb_write.specs.declared.text.TextRoom.{TextRoom}
@@ -77,30 +75,9 @@ pub data Held : Type 0 where
   items : Bool → Held
   members : ℕ → Held
 
--- where members begin, of which the first begins at this index
-abbrev pub starts_from : ℕ → List Found → List MemberStart
-starts_from start [] = []
-starts_from start (f ∷ fs) =
-    record { spot = spot_of f; start = start } ∷ starts_from (start + length (member_text f) + 1) fs
-
--- where the member behind them begins
-abbrev pub next_start : ℕ → List Found → ℕ
-next_start start [] = start
-next_start start (f ∷ fs) = next_start (start + length (member_text f) + 1) fs
-
--- the members of one container that begins at this index: where a value is due, its key begins one
-abbrev pub own_starts : Bool → ℕ → Open → List MemberStart
-own_starts due start (elements_so_far ss) = []
-own_starts false start (members_so_far fs key place) = starts_from (start + 1) fs
-own_starts true start (members_so_far fs key place) =
-    let spot : Spot = record { key = key.1; place = place } in
-    starts_from (start + 1) fs ++ record { spot = spot; start = next_start (start + 1) fs } ∷ []
-
--- the members of all that are open, the outermost's first, behind so many bytes
-abbrev pub all_starts : ℕ → Bool → List Open → List MemberStart
-all_starts base due [] = []
-all_starts base due (c ∷ cs) =
-    all_starts base true cs ++ own_starts due (base + length (open_text true cs)) c
+-- members stand with commas between them, behind the brace, and that behind so many bytes
+abbrev pub text_layout : ℕ → Layout
+text_layout base = record { commas = true; bytes = member_text; begins = λ cs. base + length (open_text true cs) + 1 }
 
 -- whether the next item is the first: none is where a value is due, whose comma is written
 abbrev pub none_before : Bool → List Source → Bool
@@ -113,7 +90,7 @@ HeldFits base due [] [] = Unit {0}
 HeldFits base due (items is_first ∷ held) (elements_so_far ss ∷ cs) =
     (is_first ≡ none_before due ss) × HeldFits base true held cs
 HeldFits base due (members first ∷ held) (members_so_far fs key place ∷ cs) =
-    (first ≡ length (all_starts base true cs)) × HeldFits base true held cs
+    (first ≡ length (all_starts (text_layout base) true cs)) × HeldFits base true held cs
 HeldFits base due held cs = ⊥
 
 -- ---- the room
@@ -127,7 +104,7 @@ pub record IsRoomWith (text : List ℕ) (room : TextRoom) (written : List ℕ)
     (due : Bool) (held : List Held) (cs : List Open) : Type 0 where
   pub text_is : room.written.text.now ≡ text
   pub bytes : bytes_of room.written ≡ base_of room ++ written
-  pub starts : AreKept text room.decoded.items room.members.items (all_starts room.base due cs)
+  pub members : AreOf (text_layout room.base) text room.members due cs
   pub fits : HeldFits room.base due held cs
 
 -- What is open is written: up to where a value is due, or up to the end of the innermost's last part.
@@ -144,56 +121,24 @@ pub record Writes (bytes : List ℕ) (old new : TextRoom) : Type 0 where
   pub base : new.base ≡ old.base
   pub before : base_of new ≡ base_of old
   pub written : bytes_of new.written ≡ bytes_of old.written ++ bytes
-  pub members : new.members.items ≡ old.members.items
-  pub decoded : new.decoded.items ≡ old.decoded.items
-
--- The room has this member more, and these bytes of its key.
-pub record HasMember (member : Member) (key : List ℕ) (old new : TextRoom) : Type 0 where
-  pub text : new.written.text.now ≡ old.written.text.now
-  pub base : new.base ≡ old.base
-  pub before : base_of new ≡ base_of old
-  pub written : bytes_of new.written ≡ bytes_of old.written
-  pub members : new.members.items ≡ old.members.items ++ member ∷ []
-  pub decoded : new.decoded.items ≡ old.decoded.items ++ key
+  pub members : AreSame old.members new.members
 
 -- The room has these bytes more, and a member with this key and place that begins at this index.
 pub record Begins (bytes key : List ℕ) (place start : ℕ) (old new : TextRoom) : Type 0 where
-  pub member : Member
-  pub keys : List ℕ
   pub text : new.written.text.now ≡ old.written.text.now
   pub base : new.base ≡ old.base
   pub before : base_of new ≡ base_of old
   pub written : bytes_of new.written ≡ bytes_of old.written ++ bytes
-  pub members : new.members.items ≡ old.members.items ++ member ∷ []
-  pub decoded : new.decoded.items ≡ old.decoded.items ++ keys
-  pub kept : IsKept old.written.text.now new.decoded.items member
-      (record { spot = record { key = key; place = place }; start = start })
+  pub members : opened.Begins key place start old.members new.members
 
 -- ---- the end of an object
-
--- The keys of the members from an index on ascend, where their prefixes are those of the keys.
-abbrev pub KeysAscendFrom : TextRoom → ℕ → Type 0
-KeysAscendFrom room first =
-    AreKeyed room.written.text.now room.decoded.items (drop first room.members.items)
-    → SpotsAscend (map (spot_in room.written.text.now room.decoded.items) (drop first room.members.items))
-
--- the spot of a member, by its index among those from another index on
-abbrev pub spot_among : TextRoom → ℕ → ℕ → Spot
-spot_among room first i =
-    spot_at room.written.text.now room.decoded.items (drop first room.members.items) i
-
--- The least key that comes twice is that of this member, and is UTF-8.
-pub record TellsRepeatOf (room : TextRoom) (first : ℕ) (fs : List Found) (i : ℕ) : Type 0 where
-  pub repeat : first_repeat (map spot_of fs) ≡ Some (spot_among room first i)
-  pub utf8 : IsUtf8 (spot_among room first i).key
 
 -- The room has the members that it had.
 pub record KeepsMembers (old new : TextRoom) : Type 0 where
   pub text : new.written.text.now ≡ old.written.text.now
   pub base : new.base ≡ old.base
   pub before : base_of new ≡ base_of old
-  pub members : new.members.items ≡ old.members.items
-  pub decoded : new.decoded.items ≡ old.decoded.items
+  pub members : AreSame old.members new.members
 
 -- No key of these members comes twice, and their texts stand in the order of their keys.
 pub record IsSettled (old new : TextRoom) (fs : List Found) (cs : List Open) : Type 0 where
@@ -207,8 +152,7 @@ pub record Closes (first : ℕ) (old new : TextRoom) : Type 0 where
   pub base : new.base ≡ old.base
   pub before : base_of new ≡ base_of old
   pub written : bytes_of new.written ≡ bytes_of old.written ++ ascii.close_brace ∷ []
-  pub members : new.members.items ≡ take first old.members.items
-  pub decoded : new.decoded.items ≡ old.decoded.items
+  pub members : opened.Closes first old.members new.members
 
 -- No key comes twice, and the object is written.
 pub record EndsObject (text : List ℕ) (room : TextRoom)

@@ -7,8 +7,8 @@ ghost use Rattle.std.specs.Str.{IsUtf8};
 use crate::contents::Contents;
 use crate::escaped_key::append_escaped_key;
 use crate::key_text::{append_key_text, append_with_kind};
-use crate::members::{Member, Spare, ascend, key_at, prefix_within, put_in_order};
-use crate::text::{Part, members_from};
+use crate::open_members::OpenMembers;
+use crate::text::Part;
 use jsonb_value::number::Number;
 use jsonb_value::parts::{append_number_key, append_text_key};
 use jsonb_value::sort_key::kind;
@@ -21,12 +21,9 @@ const MOST_MOVED: usize = 8;
 /// What is written of a sort key, behind the bytes that a buffer held before.
 #[derive(Drop)]
 pub struct KeyRoom<'a> {
-    pub text: &'a [u8],
     pub out: Vec<u8>,
     pub base: usize,
-    pub members: Vec<Member>,
-    pub decoded: Vec<u8>,
-    pub spare: Spare,
+    pub members: OpenMembers<'a>,
     pub ghost based: { base ≤ length out.items },
 }
 
@@ -41,9 +38,10 @@ impl<'a> KeyRoom<'a> {
     ghost use Rattle.jsonb_spec.specs.Tree.Mark.{plain};
     ghost use Rattle.jsonb_value.specs.View.{mark_view, number_view};
     ghost use Rattle.jsonb_write.specs.Contents.{text_of_contents};
-    ghost use Rattle.jsonb_write.specs.KeyRoom.{Begins, Closes, EndsObject, HasMember, Held, IsSettled, KeepsMembers, KeyFilled, KeyStands, KeysAscendFrom, TellsRepeatOf, Writes, base_of, part_key, spot_among};
+    ghost use Rattle.jsonb_write.specs.KeyRoom.{Closes, EndsObject, Held, IsSettled, KeepsMembers, KeyFilled, KeyStands, Writes, base_of, part_key};
     ghost use Rattle.jsonb_write.specs.KeyRoom.Held.{items, members};
     ghost use Rattle.jsonb_write.specs.Members.{source_key};
+    ghost use Rattle.jsonb_write.specs.OpenMembers.{TellsRepeatOf};
     ghost use Rattle.jsonb_spec.specs.Text.StringText.{ArePlain};
     ghost use Rattle.jsonb_write.specs.TextRoom.{IsSpelled, SeesPart};
 
@@ -54,12 +52,9 @@ impl<'a> KeyRoom<'a> {
     {
         let base = out.len();
         KeyRoom {
-            text,
             out,
             base,
-            members: Vec::new(alloc),
-            decoded: Vec::new(alloc),
-            spare: Spare::new(alloc),
+            members: OpenMembers::new(alloc, text),
         }
     }
 
@@ -110,41 +105,41 @@ impl<'a> KeyRoom<'a> {
             contents.body,
             contents.mode,
             &mut self.out,
-            &mut self.decoded,
+            &mut self.members.decoded,
         )
     }
 
     // Whether this range of the text has bytes.
     #[inline(always)]
     fn is_range(&self, from: usize, to: usize) -> bool
-        ensures { MatchBool result ((from < to) × (to ≤ length self.now.text.now)) (Unit {0}) }
+        ensures { MatchBool result ((from < to) × (to ≤ length self.now.members.text.now)) (Unit {0}) }
     {
-        from < to && to <= self.text.len()
+        from < to && to <= self.members.text.len()
     }
 
     // Writes a member's key from where it stands in the text.
     #[inline(always)]
     fn keep_text(&mut self, from: usize, to: usize) -> Result<(), AllocError>
         requires ordered { from ≤ to }
-        requires inside { to ≤ length self.old.text.now }
-        ensures bytes { OnOk result (ArePlain (slice_range self.old.text.now from to)
-            → Writes (text_key (slice_range self.old.text.now from to)) self.old self.new) }
+        requires inside { to ≤ length self.old.members.text.now }
+        ensures bytes { OnOk result (ArePlain (slice_range self.old.members.text.now from to)
+            → Writes (text_key (slice_range self.old.members.text.now from to)) self.old self.new) }
         ensures base { base_of self.new ≡ base_of self.old }
     {
-        append_key_text(&self.text[from..], to - from, &mut self.out)
+        append_key_text(&self.members.text[from..], to - from, &mut self.out)
     }
 
     // Writes a string that stands there in the text in double quotes, and none of whose bytes has an escape.
     #[inline(always)]
     fn plain(&mut self, string: &str, from: usize, to: usize) -> Result<(), AllocError>
-        ensures bytes { OnOk result ((from < to → (slice_range self.old.text.now from to ≡ in_quotes string.now)
+        ensures bytes { OnOk result ((from < to → (slice_range self.old.members.text.now from to ≡ in_quotes string.now)
             × ArePlain string.now) → Writes (kind.string ∷ text_key string.now) self.old self.new) }
         ensures base { base_of self.new ≡ base_of self.old }
     {
         if self.is_range(from, to) && to - from > 1 {
             return append_with_kind(
                 kind::STRING,
-                &self.text[from..],
+                &self.members.text[from..],
                 to - from - 1,
                 &mut self.out,
             );
@@ -155,7 +150,7 @@ impl<'a> KeyRoom<'a> {
     // Writes a value that holds no others.
     #[inline(always)]
     fn part(&mut self, part: &Part<'a>, from: usize, to: usize) -> Result<(), AllocError>
-        ensures bytes { OnOk result (IsSpelled self.old.text.now from to part.now
+        ensures bytes { OnOk result (IsSpelled self.old.members.text.now from to part.now
             → Writes (part_key part.now) self.old self.new) }
         ensures base { base_of self.new ≡ base_of self.old }
     {
@@ -238,57 +233,6 @@ impl<'a> KeyRoom<'a> {
         Ok(self.members.len())
     }
 
-    // Keeps what is known of a member.
-    #[inline(always)]
-    fn keep_member(&mut self, member: Member) -> Result<(), AllocError>
-        ensures member { OnOk result (HasMember member [] self.old self.new) }
-        ensures base { base_of self.new ≡ base_of self.old }
-    {
-        self.members.try_reserve(1)?;
-        self.members.push_reserved(member);
-        Ok(())
-    }
-
-    // Begins a member whose key stands there in the text.
-    #[inline(always)]
-    fn begin_member(&mut self, from: usize, to: usize, after: usize) -> Result<(), AllocError>
-        requires ordered { from ≤ to }
-        requires inside { to ≤ length self.old.text.now }
-        ensures member { OnOk result (Begins [] (slice_range self.old.text.now from to) after
-            (length self.old.out.items) self.old self.new) }
-        ensures base { base_of self.new ≡ base_of self.old }
-    {
-        let member = Member {
-            prefix: prefix_within(self.text, from, to),
-            from,
-            to,
-            start: self.out.len(),
-            after,
-            decoded: false,
-        };
-        self.keep_member(member)
-    }
-
-    // Begins a member whose key doesn't stand in the text, or isn't known to.
-    #[inline(never)]
-    fn begin_decoded(&mut self, key: &str, after: usize) -> Result<(), AllocError>
-        ensures member { OnOk result (Begins [] key.now after (length self.old.out.items) self.old self.new) }
-        ensures base { base_of self.new ≡ base_of self.old }
-    {
-        let from = self.decoded.len();
-        self.decoded.extend_from_slice(key.as_bytes())?;
-        let to = self.decoded.len();
-        let member = Member {
-            prefix: prefix_within(&self.decoded, from, to),
-            from,
-            to,
-            start: self.out.len(),
-            after,
-            decoded: true,
-        };
-        self.keep_member(member)
-    }
-
     /// A key whose bytes stand in the text from an index above 0 on, in double quotes and without escapes, and the
     /// index after it. With 0 for the first index the key may stand anywhere.
     #[inline(always)]
@@ -307,7 +251,8 @@ impl<'a> KeyRoom<'a> {
         ensures base { base_of self.new ≡ base_of self.old }
     {
         if 0 < from && self.is_range(from, after) {
-            self.begin_member(from, after - 1, after)?;
+            let start = self.out.len();
+            self.members.begin_within(from, after - 1, after, start)?;
             return self.append_text(key);
         }
         self.decoded_key(first, key, after)
@@ -330,7 +275,8 @@ impl<'a> KeyRoom<'a> {
         ensures base { base_of self.new ≡ base_of self.old }
     {
         if 0 < from && self.is_range(from, after) {
-            self.begin_member(from, after - 1, after)?;
+            let start = self.out.len();
+            self.members.begin_within(from, after - 1, after, start)?;
             return self.keep_text(from, after - 1);
         }
         self.decoded_key(first, key, after)
@@ -361,7 +307,8 @@ impl<'a> KeyRoom<'a> {
             → KeyStands text self.new true (members first ∷ held) (members_so_far fs (mark, key.now) after ∷ cs)) }
         ensures base { base_of self.new ≡ base_of self.old }
     {
-        self.begin_decoded(key, after)?;
+        let start = self.out.len();
+        self.members.begin_decoded(key, after, start)?;
         self.append_text(key)
     }
 
@@ -396,36 +343,22 @@ impl<'a> KeyRoom<'a> {
         ensures base { base_of self.new ≡ base_of self.old }
     {}
 
-    // Whether the keys of the members from an index on ascend.
-    #[inline(always)]
-    fn ascends(&self, first: usize) -> bool
-        ensures { MatchBool result (KeysAscendFrom self.now first) (Unit {0}) }
-    {
-        ascend(self.text, &self.decoded, members_from(&self.members, first))
-    }
-
     // Puts the members from an index on in the order of their keys. Where a key comes twice, it returns the index among
     // them of the one where the least such key comes the second time.
-    #[cold]
-    #[inline(never)]
+    #[inline(always)]
     fn settle(&mut self, first: usize) -> Result<Option<usize>, AllocError>
         ensures same { OnOk result (KeepsMembers self.old self.new) }
         ensures repeat { IfOk result (λ repeat. (text : List ℕ) → (held : List Held) → (fs : List Found)
             → (key : Mark × List ℕ) → (place : ℕ) → (cs : List Open)
             → KeyStands text self.old false (members first ∷ held) (members_so_far fs key place ∷ cs)
-            → MatchOption repeat (IsSettled self.old self.new fs cs) (λ i. TellsRepeatOf self.new first fs i)) }
+            → MatchOption repeat (IsSettled self.old self.new fs cs) (TellsRepeatOf self.new.members first fs)) }
         ensures base { base_of self.new ≡ base_of self.old }
     {
-        let members = members_from(&self.members, first);
-        put_in_order(
-            self.text,
-            &self.decoded,
-            members,
-            &mut self.spare,
-            &mut self.out,
-            self.base,
-            false,
-        )
+        if self.members.ascend(first) {
+            return Ok(None);
+        }
+        self.members
+            .put_in_order(first, &mut self.out, self.base, false)
     }
 
     // Writes the end of an object, whose members are kept no longer.
@@ -434,14 +367,14 @@ impl<'a> KeyRoom<'a> {
         ensures end { OnOk result (Closes first self.old self.new) }
         ensures base { base_of self.new ≡ base_of self.old }
     {
-        self.members.truncate(first);
+        self.members.close(first);
         self.append(&[kind::TERMINATOR, kind::TERMINATOR])
     }
 
     /// Whether so many bytes of members were moved that another way takes less time: several times those of the text.
     #[inline(always)]
     pub fn moved_much(&self) -> bool {
-        self.spare.total / MOST_MOVED > self.text.len()
+        self.members.spare.total / MOST_MOVED > self.members.text.len()
     }
 
     /// The end of an object. Where a key comes twice, what is returned is the index, among the members, of the one
@@ -451,36 +384,15 @@ impl<'a> KeyRoom<'a> {
         ensures stands { IfOk result (λ repeat. (text : List ℕ) → (held : List Held) → (fs : List Found)
             → (key : Mark × List ℕ) → (place : ℕ) → (cs : List Open)
             → KeyStands text self.old false (members first ∷ held) (members_so_far fs key place ∷ cs)
-            → MatchOption repeat (EndsObject text self.new fs held cs) (λ i. TellsRepeatOf self.new first fs i)) }
+            → MatchOption repeat (EndsObject text self.new fs held cs) (TellsRepeatOf self.new.members first fs)) }
         ensures base { base_of self.new ≡ base_of self.old }
     {
-        if !self.ascends(first) {
-            let repeat = self.settle(first)?;
-            if repeat.is_some() {
-                return Ok(repeat);
-            }
+        let repeat = self.settle(first)?;
+        if repeat.is_some() {
+            return Ok(repeat);
         }
         self.close(first)?;
         Ok(None)
-    }
-
-    /// The key of a member that `end_object` returned.
-    pub fn repeated_key(&self, first: usize, index: usize) -> Option<&str>
-        ensures key { IfSome result (λ key. key.now ≡ (spot_among self.now first index).key) }
-        ensures some { IsUtf8 (spot_among self.now first index).key → IsTrue (is_some result) }
-    {
-        let members = members_from(&self.members, first);
-        std::str::from_utf8(key_at(self.text, &self.decoded, members, index)).ok()
-    }
-
-    /// The index after that key in the text.
-    pub fn repeated_place(&self, first: usize, index: usize) -> usize
-        ensures { result ≡ (spot_among self.now first index).place }
-    {
-        match members_from(&self.members, first).get(index) {
-            Some(member) => member.after,
-            None => 0,
-        }
     }
 
     /// A whole value that holds no others, wherever it stands in the text.

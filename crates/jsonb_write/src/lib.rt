@@ -8,6 +8,7 @@ mod escaped_key;
 pub mod key;
 mod key_text;
 pub mod members;
+pub mod open_members;
 mod orders;
 pub mod part;
 mod short;

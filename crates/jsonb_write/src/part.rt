@@ -55,8 +55,9 @@ impl<'a> PartRoom<'a> {
     ghost use Rattle.jsonb_value.specs.View.{mark_view};
     ghost use Rattle.jsonb_write.specs.PartRoom.{EndsObject, IsAhead, Leads, PartEnds, PartFilled, PartHeld, PartStands, first_index, first_key, follow_key, keys_of, path_behind, other_keys, part_of, rest_at};
     ghost use Rattle.jsonb_write.specs.PartRoom.PartHeld.{array_held, object_held};
+    ghost use Rattle.jsonb_write.specs.OpenMembers.{TellsRepeatOf};
     ghost use Rattle.jsonb_spec.specs.Text.StringText.{ArePlain};
-    ghost use Rattle.jsonb_write.specs.TextRoom.{IsSpelled, SeesPart, TellsRepeatOf, base_of, spot_among};
+    ghost use Rattle.jsonb_write.specs.TextRoom.{IsSpelled, SeesPart, base_of};
     ghost use Rattle.jsonb_write.specs.Written.{bytes_of};
 
     /// No part yet, of a document of which nothing is written.
@@ -361,7 +362,7 @@ impl<'a> PartRoom<'a> {
             → (key : Mark × List ℕ) → (place : ℕ) → (cs : List Open)
             → PartStands text self.old false (object_held members.now ∷ held) (members_so_far fs key place ∷ cs)
             → MatchOption repeat (EndsObject text self.new fs held cs)
-            (λ i. TellsRepeatOf self.new.whole members.now.first fs i)) }
+            (TellsRepeatOf self.new.whole.members members.now.first fs)) }
         ensures keys { keys_of self.new ≡ keys_of self.old }
     {
         let repeat = self.whole.end_object(members.first, at)?;

@@ -6,7 +6,7 @@ ghost use Rattle.std.specs.Str.{IsUtf8};
 ghost use Rattle.text_common.specs.SpelledNumber.{StaysSpelled};
 
 use crate::contents::Contents;
-use crate::members::{Member, Spare, ascend, key_at, prefix_within};
+use crate::open_members::OpenMembers;
 use crate::written::Written;
 use jsonb_value::number::Number;
 use std::alloc::{AllocError, Global};
@@ -35,9 +35,7 @@ const MOST_MOVED: usize = 8;
 pub struct TextRoom<'a> {
     pub written: Written<'a>,
     pub base: usize,
-    pub members: Vec<Member>,
-    pub decoded: Vec<u8>,
-    pub spare: Spare,
+    pub members: OpenMembers<'a>,
     pub ghost based: { base ≤ length written.out.items },
 }
 
@@ -53,15 +51,6 @@ fn is_kept(number: &Number) -> bool
     }
 }
 
-// The members from an index on.
-#[inline(always)]
-pub(crate) fn members_from(members: &Vec<Member>, first: usize) -> &[Member]
-    ensures { result.now ≡ drop first members.now.items }
-{
-    let count = members.len();
-    &members[first.min(count)..]
-}
-
 impl<'a> TextRoom<'a> {
     ghost use Rattle.jsonb_scan.specs.Open.{Open};
     ghost use Rattle.jsonb_scan.specs.Open.Open.{elements_so_far, members_so_far};
@@ -69,14 +58,14 @@ impl<'a> TextRoom<'a> {
     ghost use Rattle.jsonb_spec.specs.Grammar.StandardNumber.{IsStandardNumber};
     ghost use Rattle.jsonb_spec.specs.Text.{in_quotes};
     ghost use Rattle.jsonb_spec.specs.Text.NumberText.{number_text};
-    ghost use Rattle.jsonb_spec.specs.Text.StringText.{quoted_text};
+    ghost use Rattle.jsonb_spec.specs.Text.StringText.{ArePlain, quoted_text};
     ghost use Rattle.jsonb_spec.specs.Tree.{Mark};
     ghost use Rattle.jsonb_spec.specs.Tree.Mark.{plain};
     ghost use Rattle.jsonb_value.specs.View.{mark_view, number_view};
     ghost use Rattle.jsonb_write.specs.OpenText.{comma_unless};
     ghost use Rattle.text_common.specs.SourceText.{source_text};
-    ghost use Rattle.jsonb_spec.specs.Text.StringText.{ArePlain};
-    ghost use Rattle.jsonb_write.specs.TextRoom.{Begins, Closes, EndsObject, HasMember, Held, IsSettled, KeepsMembers, KeysAscendFrom, TellsRepeatOf, spot_among, IsSpelled, SeesPart, TextFilled, TextStands, Writes, base_of, part_text};
+    ghost use Rattle.jsonb_write.specs.OpenMembers.{TellsRepeatOf};
+    ghost use Rattle.jsonb_write.specs.TextRoom.{Closes, EndsObject, Held, IsSettled, KeepsMembers, IsSpelled, SeesPart, TextFilled, TextStands, Writes, base_of, part_text};
     ghost use Rattle.jsonb_write.specs.TextRoom.Held.{items, members};
     ghost use Rattle.jsonb_write.specs.Written.{bytes_of};
 
@@ -89,9 +78,7 @@ impl<'a> TextRoom<'a> {
         TextRoom {
             written: Written::new(text, out),
             base,
-            members: Vec::new(alloc),
-            decoded: Vec::new(alloc),
-            spare: Spare::new(alloc),
+            members: OpenMembers::new(alloc, text),
         }
     }
 
@@ -318,9 +305,9 @@ impl<'a> TextRoom<'a> {
     // The comma behind the members before, if there are any.
     #[inline(always)]
     fn next_member(&mut self, first: usize) -> Result<(), AllocError>
-        ensures more { OnOk result (first < length self.old.members.items
+        ensures more { OnOk result (first < length self.old.members.entries.items
             → Writes (comma_unless false) self.old self.new) }
-        ensures none { OnOk result (length self.old.members.items ≤ first
+        ensures none { OnOk result (length self.old.members.entries.items ≤ first
             → Writes (comma_unless true) self.old self.new) }
         ensures text { OnOk result (self.new.written.text.now ≡ self.old.written.text.now) }
         ensures base { base_of self.new ≡ base_of self.old }
@@ -329,57 +316,6 @@ impl<'a> TextRoom<'a> {
             return self.put(b',');
         }
         Ok(())
-    }
-
-    // Keeps what is known of a member.
-    #[inline(always)]
-    fn keep_member(&mut self, member: Member) -> Result<(), AllocError>
-        ensures member { OnOk result (HasMember member [] self.old self.new) }
-        ensures base { base_of self.new ≡ base_of self.old }
-    {
-        self.members.try_reserve(1)?;
-        self.members.push_reserved(member);
-        Ok(())
-    }
-
-    // Begins a member whose key stands there in the text.
-    #[inline(always)]
-    fn begin_member(&mut self, from: usize, to: usize, after: usize) -> Result<(), AllocError>
-        requires ordered { from ≤ to }
-        requires inside { to ≤ length self.old.written.text.now }
-        ensures member { OnOk result (Begins [] (slice_range self.old.written.text.now from to) after
-            (length (bytes_of self.old.written)) self.old self.new) }
-        ensures base { base_of self.new ≡ base_of self.old }
-    {
-        let member = Member {
-            prefix: prefix_within(self.written.text, from, to),
-            from,
-            to,
-            start: self.written.len(),
-            after,
-            decoded: false,
-        };
-        self.keep_member(member)
-    }
-
-    // Begins a member whose key doesn't stand in the text, or isn't known to.
-    #[inline(never)]
-    fn begin_decoded(&mut self, key: &str, after: usize) -> Result<(), AllocError>
-        ensures member { OnOk result (Begins [] key.now after (length (bytes_of self.old.written)) self.old self.new) }
-        ensures base { base_of self.new ≡ base_of self.old }
-    {
-        let from = self.decoded.len();
-        self.decoded.extend_from_slice(key.as_bytes())?;
-        let to = self.decoded.len();
-        let member = Member {
-            prefix: prefix_within(&self.decoded, from, to),
-            from,
-            to,
-            start: self.written.len(),
-            after,
-            decoded: true,
-        };
-        self.keep_member(member)
     }
 
     /// A key whose bytes stand in the text from an index above 0 on, in double quotes and without escapes, and the
@@ -401,7 +337,8 @@ impl<'a> TextRoom<'a> {
     {
         if 0 < from && self.is_range(from, after) {
             self.next_member(first)?;
-            self.begin_member(from, after - 1, after)?;
+            let start = self.written.len();
+            self.members.begin_within(from, after - 1, after, start)?;
             self.string(key, from - 1, after)?;
             return self.put(b':');
         }
@@ -426,7 +363,8 @@ impl<'a> TextRoom<'a> {
     {
         if 0 < from && self.is_range(from, after) {
             self.next_member(first)?;
-            self.begin_member(from, after - 1, after)?;
+            let start = self.written.len();
+            self.members.begin_within(from, after - 1, after, start)?;
             self.keep(from - 1, after)?;
             return self.put(b':');
         }
@@ -459,7 +397,8 @@ impl<'a> TextRoom<'a> {
         ensures base { base_of self.new ≡ base_of self.old }
     {
         self.next_member(first)?;
-        self.begin_decoded(key, after)?;
+        let start = self.written.len();
+        self.members.begin_decoded(key, after, start)?;
         self.string(key, 0, 0)?;
         self.put(b':')
     }
@@ -509,33 +448,21 @@ impl<'a> TextRoom<'a> {
         ensures base { base_of self.new ≡ base_of self.old }
     {}
 
-    // Whether the keys of the members from an index on ascend.
-    #[inline(always)]
-    fn ascends(&self, first: usize) -> bool
-        ensures { MatchBool result (KeysAscendFrom self.now first) (Unit {0}) }
-    {
-        ascend(
-            self.written.text,
-            &self.decoded,
-            members_from(&self.members, first),
-        )
-    }
-
     // Puts the members from an index on in the order of their keys. Where a key comes twice, it returns the index among
     // them of the one where the least such key comes the second time.
-    #[cold]
-    #[inline(never)]
+    #[inline(always)]
     fn settle(&mut self, first: usize) -> Result<Option<usize>, AllocError>
         ensures same { OnOk result (KeepsMembers self.old self.new) }
         ensures repeat { IfOk result (λ repeat. (text : List ℕ) → (held : List Held) → (fs : List Found)
             → (key : Mark × List ℕ) → (place : ℕ) → (cs : List Open)
             → TextStands text self.old false (members first ∷ held) (members_so_far fs key place ∷ cs)
-            → MatchOption repeat (IsSettled self.old self.new fs cs) (λ i. TellsRepeatOf self.new first fs i)) }
+            → MatchOption repeat (IsSettled self.old self.new fs cs) (TellsRepeatOf self.new.members first fs)) }
         ensures base { base_of self.new ≡ base_of self.old }
     {
-        let members = members_from(&self.members, first);
-        self.written
-            .settle(&self.decoded, members, &mut self.spare, self.base)
+        if self.members.ascend(first) {
+            return Ok(None);
+        }
+        self.written.settle(&mut self.members, first, self.base)
     }
 
     // Writes the end of an object, whose members are kept no longer.
@@ -544,14 +471,14 @@ impl<'a> TextRoom<'a> {
         ensures end { OnOk result (Closes first self.old self.new) }
         ensures base { base_of self.new ≡ base_of self.old }
     {
-        self.members.truncate(first);
+        self.members.close(first);
         self.put_at(b'}', at)
     }
 
     /// Whether so many bytes of members were moved that another way takes less time: several times those of the text.
     #[inline(always)]
     pub fn moved_much(&self) -> bool {
-        self.spare.total / MOST_MOVED > self.written.text.len()
+        self.members.spare.total / MOST_MOVED > self.written.text.len()
     }
 
     /// The end of an object, whose brace stands in the text at an index. Where a key comes twice, what is returned is
@@ -561,36 +488,15 @@ impl<'a> TextRoom<'a> {
         ensures stands { IfOk result (λ repeat. (text : List ℕ) → (held : List Held) → (fs : List Found)
             → (key : Mark × List ℕ) → (place : ℕ) → (cs : List Open)
             → TextStands text self.old false (members first ∷ held) (members_so_far fs key place ∷ cs)
-            → MatchOption repeat (EndsObject text self.new fs held cs) (λ i. TellsRepeatOf self.new first fs i)) }
+            → MatchOption repeat (EndsObject text self.new fs held cs) (TellsRepeatOf self.new.members first fs)) }
         ensures base { base_of self.new ≡ base_of self.old }
     {
-        if !self.ascends(first) {
-            let repeat = self.settle(first)?;
-            if repeat.is_some() {
-                return Ok(repeat);
-            }
+        let repeat = self.settle(first)?;
+        if repeat.is_some() {
+            return Ok(repeat);
         }
         self.close(first, at)?;
         Ok(None)
-    }
-
-    /// The key of a member that `end_object` returned.
-    pub fn repeated_key(&self, first: usize, index: usize) -> Option<&str>
-        ensures key { IfSome result (λ key. key.now ≡ (spot_among self.now first index).key) }
-        ensures some { IsUtf8 (spot_among self.now first index).key → IsTrue (is_some result) }
-    {
-        let members = members_from(&self.members, first);
-        std::str::from_utf8(key_at(self.written.text, &self.decoded, members, index)).ok()
-    }
-
-    /// The index after that key in the text.
-    pub fn repeated_place(&self, first: usize, index: usize) -> usize
-        ensures { result ≡ (spot_among self.now first index).place }
-    {
-        match members_from(&self.members, first).get(index) {
-            Some(member) => member.after,
-            None => 0,
-        }
     }
 
     /// A whole value that holds no others, and that stands there in the text.

@@ -4,7 +4,7 @@ ghost use Rattle.std.specs.Prelude.{◌≡◌, ◌+◌, ◌<◌, ◌≤◌, ◌+
 
 use crate::contents::Contents;
 use crate::escaped::append_contents;
-use crate::members::{Member, Spare, put_in_order};
+use crate::open_members::OpenMembers;
 use crate::short::append_first;
 use jsonb_value::number::Number;
 use jsonb_value::parts::{append_number, append_string};
@@ -27,7 +27,7 @@ impl<'a> Written<'a> {
     ghost use Rattle.jsonb_spec.specs.Text.StringText.{quoted_text};
     ghost use Rattle.jsonb_value.specs.View.{number_view};
     ghost use Rattle.jsonb_write.specs.Contents.{text_of_contents};
-    ghost use Rattle.jsonb_write.specs.Members.{AreInOrder, AreKeyed, AreWritten, Piece, TellsRepeat, bytes_of_pieces, spot_in, spots_of_pieces};
+    ghost use Rattle.jsonb_write.specs.OpenMembers.{AreSame, PutsInOrder};
     ghost use Rattle.jsonb_write.specs.Written.{bytes_of};
 
     /// A buffer, and no part of the text.
@@ -195,36 +195,25 @@ impl<'a> Written<'a> {
         append_first(&self.text[first..], count, &mut self.out)
     }
 
-    /// Puts the members at the end of what is written in the order of their keys, with commas between them, and tells a
-    /// key that comes twice by the index of the member where it comes the second time. The first `floor` bytes stay.
+    /// Puts the members from an index on, which end what is written, in the order of their keys, with commas between
+    /// them, and tells a key that comes twice by the index, among them, of the one where the least such key comes the
+    /// second time. The first `floor` bytes stay.
     #[cold]
     #[inline(never)]
     pub fn settle(
         &mut self,
-        decoded: &[u8],
-        members: &[Member],
-        spare: &mut Spare,
+        members: &mut OpenMembers<'_>,
+        first: usize,
         floor: usize,
     ) -> Result<Option<usize>, AllocError>
-        ensures repeat { AreKeyed self.old.text.now decoded.now members.now →
-            IfOk result (TellsRepeat self.old.text.now decoded.now members.now) }
-        ensures bytes { AreKeyed self.old.text.now decoded.now members.now → (front : List ℕ) → (pieces : List Piece)
-            → floor ≤ length front → spots_of_pieces pieces ≡ map (spot_in self.old.text.now decoded.now) members.now
-            → AreWritten true members.now front (bytes_of_pieces pieces) (bytes_of self.old)
-            → IfOk result (λ repeat. AreInOrder true front pieces repeat (bytes_of self.new)) }
+        ensures same { AreSame members.old members.new }
+        ensures order { IfOk result (PutsInOrder true floor members.old members.new first (bytes_of self.old)
+            (bytes_of self.new)) }
         ensures text { self.new.text ≡ self.old.text }
         ensures kept { Extends (take floor self.old.out.items) self.new.out.items }
     {
         self.flush()?;
-        put_in_order(
-            self.text,
-            decoded,
-            members,
-            spare,
-            &mut self.out,
-            floor,
-            true,
-        )
+        members.put_in_order(first, &mut self.out, floor, true)
     }
 
     /// How many bytes are written.

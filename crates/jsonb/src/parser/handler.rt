@@ -4,6 +4,7 @@
 mod ast;
 mod check;
 mod part;
+mod repeat;
 mod sort_key;
 mod text;
 mod value;

@@ -6,38 +6,32 @@ use Rattle.jsonb_spec.specs.Text.{in_quotes}
 use Rattle.jsonb_value.proofs.SortKeys.Zeros.{plain_key}
 use Rattle.jsonb_scan.specs.Open.{Open, elements_so_far}
 use Rattle.jsonb_spec.specs.Source.{Source}
-use Rattle.jsonb_write.specs.KeyRoom.{Held, HeldFits, IsRoomWith, KeyStands, Writes, all_starts, base_of, items, part_key}
-use Rattle.jsonb_write.specs.MemberStarts.{AreKept}
+use Rattle.jsonb_write.specs.KeyRoom.{Held, HeldFits, IsRoomWith, KeyStands, Writes, base_of, items, key_layout, part_key}
 use Rattle.jsonb_write.specs.Members.{source_key}
+use Rattle.jsonb_write.specs.OpenMembers.{AreOf, AreSame, all_starts}
 use Rattle.jsonb_spec.specs.Text.StringText.{ArePlain}
 use Rattle.jsonb_write.specs.TextRoom.{IsSpelled, SeesPart}
 use Rattle.jsonb_write.specs.declared.key.KeyRoom.{KeyRoom}
 use Rattle.jsonb_write.specs.declared.text.Part.{Part}
 use Rattle.jsonb_write.specs.declared.text.Part.TheVariants as part
+use Rattle.jsonb_write.proofs.OpenMembers.{key_there, same, stay}
 use Rattle.jsonb_write.proofs.FirstBytes.{behind_first}
-use Rattle.jsonb_write.proofs.RoomMembers.{key_there}
 use Rattle.jsonb_write.proofs.Keys.OpenKeys.{item_joined}
 
 -- More bytes are written, and what is open holds the members that it held.
 pub goes_on : {text front bytes now : List ℕ} {r s : KeyRoom} {due then : Bool} {held kept : List Held} {cs ds : List Open} → IsRoomWith text r front due held cs → Writes bytes r s → front ++ bytes ≡ now
-    → all_starts r.base due cs ≡ all_starts r.base then ds → HeldFits r.base kept ds → IsRoomWith text s now then kept ds
-goes_on {text = text} {front = front} {bytes = bytes} {r = r} {s = s} {then = then} {kept = kept} {ds = ds} room w joined same fits = record {
-  text_is = w.text ∙ room.text_is;
+    → all_starts (key_layout r.base) due cs ≡ all_starts (key_layout r.base) then ds → HeldFits (key_layout r.base) kept ds → IsRoomWith text s now then kept ds
+goes_on {text = text} {front = front} {bytes = bytes} {r = r} {s = s} {then = then} {kept = kept} {ds = ds} room w joined starts fits = record {
   bytes =
       w.written ∙ ap (λ b. b ++ bytes) room.bytes ∙ append_assoc (base_of r) front bytes
       ∙ ap₂ (λ b n. b ++ n) (sym w.before) joined;
-  starts =
-      subst (λ d. AreKept text d s.members.items (all_starts s.base then ds)) (sym w.decoded) (
-      subst (λ ms. AreKept text r.decoded.items ms (all_starts s.base then ds)) (sym w.members) (
-      subst (λ bs. AreKept text r.decoded.items r.members.items bs) (same ∙ ap (λ b. all_starts b then ds) (sym w.base)) room.starts
-      )
-      );
-  fits = subst (λ b. HeldFits b kept ds) (sym w.base) fits;
+  members = subst (λ b. AreOf (key_layout b) text s.members then ds) (sym w.base) (stay room.members w.members starts);
+  fits = subst (λ b. HeldFits (key_layout b) kept ds) (sym w.base) fits;
 }
 
 -- nothing more
 pub unchanged : (r : KeyRoom) → Writes [] r r
-unchanged r = record { text = refl; base = refl; before = refl; written = sym (append-nil r.out.items); members = refl; decoded = refl }
+unchanged r = record { base = refl; before = refl; written = sym (append-nil r.out.items); members = same r.members }
 
 sees_key : (p : Part) (s : Source) → SeesPart p s → part_key p ≡ source_key s
 sees_key part.Null s h = ap source_key (sym h)
@@ -50,9 +44,9 @@ sees_key part.Written s h = absurd h
 
 -- what is written of a part that stands there in the text
 pub part_written : {text written : List ℕ} {r s : KeyRoom} {due : Bool} {held : List Held} {cs : List Open} (p : Part) (v : Source) (from to : ℕ) → IsRoomWith text r written due held cs → SeesPart p v → IsSpelled text from to p
-    → (IsSpelled r.text.now from to p → Writes (part_key p) r s) → Writes (source_key v) r s
+    → (IsSpelled r.members.text.now from to p → Writes (part_key p) r s) → Writes (source_key v) r s
 part_written {r = r} {s = s} p v from to room sees spelled wrote =
-    subst (λ bytes. Writes bytes r s) (sees_key p v sees) (wrote (subst (λ t. IsSpelled t from to p) (sym room.text_is) spelled))
+    subst (λ bytes. Writes bytes r s) (sees_key p v sees) (wrote (subst (λ t. IsSpelled t from to p) (sym room.members.text_is) spelled))
 
 -- an item behind those before it
 pub item_written : {text : List ℕ} {r s : KeyRoom} {held : List Held} {ss : List Source} {cs : List Open} (v : Source) → KeyStands text r false (items ∷ held) (elements_so_far ss ∷ cs) → Writes (source_key v) r s
@@ -60,14 +54,12 @@ pub item_written : {text : List ℕ} {r s : KeyRoom} {held : List Held} {ss : Li
 item_written {ss = ss} {cs = cs} v room w = goes_on room w (item_joined ss v cs) refl room.fits
 
 -- the room with another buffer
-pub wrote : {bytes : List ℕ} {r s : KeyRoom} → s.text.now ≡ r.text.now → s.base ≡ r.base → s.members.items ≡ r.members.items → s.decoded.items ≡ r.decoded.items → s.out.items ≡ r.out.items ++ bytes → Writes bytes r s
-wrote {bytes = bytes} {r = r} {s = s} text base members decoded written = record {
-  text = text;
+pub wrote : {bytes : List ℕ} {r s : KeyRoom} → s.base ≡ r.base → AreSame r.members s.members → s.out.items ≡ r.out.items ++ bytes → Writes bytes r s
+wrote {bytes = bytes} {r = r} base members written = record {
   base = base;
   before = ap₂ take base written ∙ take-append-le r.base r.out.items bytes r.based;
   written = written;
   members = members;
-  decoded = decoded;
 }
 
 -- ---- strings in the text

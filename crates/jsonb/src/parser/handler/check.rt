@@ -2,16 +2,15 @@
 //! comes twice is told.
 ghost use Rattle.std.specs.Prelude.{◌≡◌, ℕ, List, [], false, map, true};
 ghost use Rattle.jsonb_value.specs.View.{number_view};
-ghost use Rattle.jsonb_parse.specs.Handler.{Misses};
 ghost use Rattle.jsonb.specs.Held.{IsAnyValue, key_held};
-ghost use Rattle.jsonb_parse.specs.Stack.{object_end};
-ghost use Rattle.jsonb_spec.specs.Source.{Found, boolean_source, null_source, number_source};
-ghost use Rattle.jsonb_write.specs.CheckRoom.{CheckFilled, CheckStands, TellsRepeatOf};
+ghost use Rattle.jsonb_spec.specs.Source.{boolean_source, null_source, number_source};
+ghost use Rattle.jsonb_write.specs.CheckRoom.{CheckFilled, CheckStands};
 
+use super::repeat::tell_repeat;
 use crate::parser::Mode;
 use jsonb_parse::{Failed, Handler, OpenObject};
 use jsonb_scan::util::check_contents;
-use jsonb_value::error::{Error, ParseErrorCode};
+use jsonb_value::error::Error;
 use jsonb_value::number::Number;
 use jsonb_write::check::CheckRoom;
 use std::alloc::{AllocError, Global};
@@ -251,7 +250,7 @@ impl<'a> Handler<'a> for CheckedPart {
         match room.end_object(first) {
             Ok(None) => Ok(()),
             Ok(Some(index)) => {
-                tell_repeat(room, alloc, first, index, told);
+                tell_repeat(&room.members, alloc, first, index, told);
                 Err(Failed)
             }
             Err(_) => {
@@ -271,29 +270,4 @@ impl<'a> Handler<'a> for CheckedPart {
     fn dismantle_items(items: ()) {}
 
     fn dismantle_members(members: usize) {}
-}
-
-// Tells the least key that comes twice, and where it comes the second time.
-#[cold]
-#[inline(never)]
-fn tell_repeat(
-    room: &CheckRoom,
-    alloc: Global,
-    first: usize,
-    index: usize,
-    told: &mut Option<Error>,
-)
-    ensures { (fs : List Found) → (rest : List ℕ) → TellsRepeatOf room.now first fs index
-        → Misses false told.new (object_end fs rest) }
-{
-    let Some(key) = room.repeated_key(first, index) else {
-        return;
-    };
-    *told = match String::from_str(alloc, key) {
-        Ok(key) => {
-            let place = room.repeated_place(first, index);
-            Some(Error::Syntax(ParseErrorCode::ObjectDuplicateKey(key), place))
-        }
-        Err(_) => Some(Error::OutOfMemory),
-    };
 }

@@ -1,13 +1,10 @@
 //! The text of one part of a document is copied while the document is parsed, and no value is made.
 ghost use Rattle.std.specs.Prelude.{◌≡◌, ℕ, List, true, false, map};
-ghost use Rattle.jsonb_parse.specs.Handler.{Misses};
 ghost use Rattle.jsonb.specs.Held.{part_held};
-ghost use Rattle.jsonb_parse.specs.Stack.{object_end};
-ghost use Rattle.jsonb_spec.specs.Source.{Found};
 ghost use Rattle.jsonb_write.specs.PartRoom.{PartFilled, PartStands, keys_of};
-ghost use Rattle.jsonb_write.specs.TextRoom.{SeesPart, TellsRepeatOf};
+ghost use Rattle.jsonb_write.specs.TextRoom.{SeesPart};
 
-use super::text::tell_repeat;
+use super::repeat::tell_repeat;
 use crate::parser::Mode;
 use jsonb_parse::{Failed, Handler, OpenObject};
 use jsonb_value::error::Error;
@@ -274,7 +271,7 @@ impl<'a> Handler<'a> for SoughtPart<'a> {
         match room.end_object(members, at) {
             Ok(None) => Ok(()),
             Ok(Some(index)) => {
-                tell_repeat(&room.whole, alloc, members.first, index, told);
+                tell_repeat(&room.whole.members, alloc, members.first, index, told);
                 Err(Failed)
             }
             Err(_) => {

@@ -1,15 +1,13 @@
 //! A sort key is written while a text is parsed, and no value is made.
 ghost use Rattle.std.specs.Prelude.{◌≡◌, ◌∷◌, [], ℕ, List, true, false, map};
-ghost use Rattle.jsonb_parse.specs.Handler.{Misses};
 ghost use Rattle.jsonb.specs.Held.{key_held};
-ghost use Rattle.jsonb_parse.specs.Stack.{object_end};
-ghost use Rattle.jsonb_spec.specs.Source.{Found};
-ghost use Rattle.jsonb_write.specs.KeyRoom.{KeyFilled, KeyStands, TellsRepeatOf, base_of};
+ghost use Rattle.jsonb_write.specs.KeyRoom.{KeyFilled, KeyStands, base_of};
 ghost use Rattle.jsonb_write.specs.TextRoom.{SeesPart};
 
+use super::repeat::tell_repeat;
 use crate::parser::Mode;
 use jsonb_parse::{Failed, Handler, OpenObject};
-use jsonb_value::error::{Error, ParseErrorCode};
+use jsonb_value::error::Error;
 use jsonb_value::number::Number;
 use jsonb_write::contents::Contents;
 use jsonb_write::key::KeyRoom;
@@ -268,7 +266,7 @@ impl<'a> Handler<'a> for KeyPart<'a> {
         match room.end_object(first) {
             Ok(None) => Ok(()),
             Ok(Some(index)) => {
-                tell_repeat(room, alloc, first, index, told);
+                tell_repeat(&room.members, alloc, first, index, told);
                 Err(Failed)
             }
             Err(_) => {
@@ -290,23 +288,4 @@ impl<'a> Handler<'a> for KeyPart<'a> {
     fn dismantle_items(items: ()) {}
 
     fn dismantle_members(members: usize) {}
-}
-
-// Tells the least key that comes twice, and where it comes the second time.
-#[cold]
-#[inline(never)]
-fn tell_repeat(room: &KeyRoom, alloc: Global, first: usize, index: usize, told: &mut Option<Error>)
-    ensures { (fs : List Found) → (rest : List ℕ) → TellsRepeatOf room.now first fs index
-        → Misses false told.new (object_end fs rest) }
-{
-    let Some(key) = room.repeated_key(first, index) else {
-        return;
-    };
-    *told = match String::from_str(alloc, key) {
-        Ok(key) => {
-            let place = room.repeated_place(first, index);
-            Some(Error::Syntax(ParseErrorCode::ObjectDuplicateKey(key), place))
-        }
-        Err(_) => Some(Error::OutOfMemory),
-    };
 }

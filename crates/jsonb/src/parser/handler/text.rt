@@ -1,14 +1,12 @@
 //! Serialized text is written while a text is parsed, and no value is made.
 ghost use Rattle.std.specs.Prelude.{◌≡◌, ◌∷◌, [], ℕ, List, true, false, map};
-ghost use Rattle.jsonb_parse.specs.Handler.{Misses};
 ghost use Rattle.jsonb.specs.Held.{text_held};
-ghost use Rattle.jsonb_parse.specs.Stack.{object_end};
-ghost use Rattle.jsonb_spec.specs.Source.{Found};
-ghost use Rattle.jsonb_write.specs.TextRoom.{SeesPart, TellsRepeatOf, TextFilled, TextStands, base_of};
+ghost use Rattle.jsonb_write.specs.TextRoom.{SeesPart, TextFilled, TextStands, base_of};
 
+use super::repeat::tell_repeat;
 use crate::parser::Mode;
 use jsonb_parse::{Failed, Handler, OpenObject};
-use jsonb_value::error::{Error, ParseErrorCode};
+use jsonb_value::error::Error;
 use jsonb_value::number::Number;
 use jsonb_write::contents::Contents;
 use jsonb_write::text::{Part, TextRoom};
@@ -269,7 +267,7 @@ impl<'a> Handler<'a> for TextPart<'a> {
         match room.end_object(first, at) {
             Ok(None) => Ok(()),
             Ok(Some(index)) => {
-                tell_repeat(room, alloc, first, index, told);
+                tell_repeat(&room.members, alloc, first, index, told);
                 Err(Failed)
             }
             Err(_) => {
@@ -291,29 +289,4 @@ impl<'a> Handler<'a> for TextPart<'a> {
     fn dismantle_items(items: bool) {}
 
     fn dismantle_members(members: usize) {}
-}
-
-// Tells the least key that comes twice, and where it comes the second time.
-#[cold]
-#[inline(never)]
-pub(super) fn tell_repeat(
-    room: &TextRoom,
-    alloc: Global,
-    first: usize,
-    index: usize,
-    told: &mut Option<Error>,
-)
-    ensures { (fs : List Found) → (rest : List ℕ) → TellsRepeatOf room.now first fs index
-        → Misses false told.new (object_end fs rest) }
-{
-    let Some(key) = room.repeated_key(first, index) else {
-        return;
-    };
-    *told = match String::from_str(alloc, key) {
-        Ok(key) => {
-            let place = room.repeated_place(first, index);
-            Some(Error::Syntax(ParseErrorCode::ObjectDuplicateKey(key), place))
-        }
-        Err(_) => Some(Error::OutOfMemory),
-    };
 }

@@ -1,5 +1,5 @@
 use Rattle.std.proofs.Common.{false, subst}
-use Rattle.jsonb_scan.specs.Answer.{Fails, mode_of}
+use Rattle.jsonb_scan.specs.Answer.{mode_of}
 use Rattle.jsonb_scan.specs.Parsing.Document.{source_of}
 use Rattle.jsonb_spec.specs.Source.{tree_of_source}
 use Rattle.jsonb_parse.specs.Handler.{Misses}
@@ -12,7 +12,7 @@ returns-in-Ok-clause-document c =
     let read = c.in-Ok.ensures.parses c.new-room.ensures.stands in
     (tree_of_source read.0, source_parsed (mode_of c.args.mode) c.args.text.now read.0 read.2)
 
-fault_told : (c : goal.After-drop-room-in-Some-3) → Fails c.in-Some.error (source_of (mode_of c.args.mode) c.args.text.now)
+fault_told : (c : goal.In-Some) → Fails c.in-Some.error (source_of (mode_of c.args.mode) c.args.text.now)
 fault_told c = subst (λ told. Misses false told (source_of (mode_of c.args.mode) c.args.text.now)) c.in-Some.is (c.in-Err.ensures.parses c.new-room.ensures.stands)
 
 pub returns-in-Some-clause-rejects : goal.returns-in-Some-clause-rejects

@@ -9,6 +9,6 @@ pub returns : goal.returns
 returns c = record {
   stands = λ text held cs key place room.
       let r = c.args.self.now in
-      let count : c.len.result ≡ length r.members.items = omega arith in
+      let count : c.len.result ≡ length r.members.entries.items = omega arith in
       subst (λ n. CheckStands text r false (members n ∷ held) (members_so_far [] key place ∷ cs)) (sym count) (object_begun key place room);
 }

@@ -1,15 +1,14 @@
-use Rattle.std.proofs.Common.{refl}
 use Rattle.jsonb_write.proofs.Checks.{object_ended, repeat_told}
 use Rattle.jsonb_write.proofs.check.CheckRoom.end_object.Goals as goal
 
-pub returns-in-Some : goal.returns-in-Some
-returns-in-Some c = record {
+pub returns-then-is_none : goal.returns-then-is_none
+returns-then-is_none c = record {
   stands = λ text held fs key place cs room.
-      repeat_told _ c.deref.result.now c.members_from-members.result.now c.in_ok-repeat.repeat c.in-Some.index room c.deref.ensures.value c.members_from-members.ensures refl refl refl c.in_ok-repeat.ensures c.in-Some.is;
+      object_ended (record { members = c.find_repeat.new.self }) _ c.in_ok-repeat.repeat room c.in_ok-repeat.ensures.repeat c.if-is_none.ensures c.in_ok-repeat.ensures.same c.close.ensures;
 }
 
-pub returns-in-None : goal.returns-in-None
-returns-in-None c = record {
+pub returns-else-is_none : goal.returns-else-is_none
+returns-else-is_none c = record {
   stands = λ text held fs key place cs room.
-      object_ended _ c.deref.result.now c.members_from-members.result.now c.in_ok-repeat.repeat room c.deref.ensures.value c.members_from-members.ensures refl refl c.truncate.ensures.items c.in_ok-repeat.ensures c.in-None.is;
+      repeat_told _ c.in_ok-repeat.repeat room c.in_ok-repeat.ensures.repeat c.if-is_none.ensures;
 }

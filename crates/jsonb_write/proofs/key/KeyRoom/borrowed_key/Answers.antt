@@ -1,25 +1,18 @@
-use Rattle.std.proofs.Common.{◌≡◌, ◌-◌, ap, length, slice_range, subst, [], ◌∙◌}
-use Rattle.jsonb_spec.specs.Text.{in_quotes}
+use Rattle.std.proofs.Common.{◌≤◌, arith, length, refl, subst}
 use Rattle.jsonb_spec.specs.Tree.{plain}
-use Rattle.jsonb_write.specs.KeyRoom.{Begins}
-use Rattle.jsonb_write.proofs.Keys.KeyMembers.{begins_wrote, key_stands}
-use Rattle.jsonb_write.proofs.RoomMembers.{key_there}
+use Rattle.jsonb_write.proofs.Keys.KeyMembers.{begins, begins_wrote, key_stands}
+use Rattle.jsonb_write.proofs.OpenMembers.{begun_there}
 use Rattle.jsonb_write.proofs.Rooms.{on_ok}
 use Rattle.jsonb_write.proofs.key.KeyRoom.borrowed_key.Goals as goal
 
 pub returns-then-is_range-clause-stands : goal.returns-then-is_range-clause-stands
 returns-then-is_range-clause-stands c =
     on_ok c.append_text.result c.append_text.ensures.bytes (λ wrote text held fs k place cs room spelled.
-    let r = c.args.self.now in
     let key = c.args.key.now in
     let some = c.if-from-gt0.true in
-    let range = c.if-is_range.ensures in
-    let there : slice_range r.text.now (c.args.from - 1) c.args.after ≡ in_quotes key =
-    ap (λ t. slice_range t (c.args.from - 1) c.args.after) room.text_is ∙ spelled some in
-    let same = key_there r.text.now key c.args.from c.args.after some range.0 range.1 there in
-    let member : Begins [] key c.args.after (length r.out.items) r c.begin_member.new.self =
-    subst (λ bytes. Begins [] bytes c.args.after (length r.out.items) r c.begin_member.new.self) same c.in_ok-begin_member.ensures.member in
-    key_stands plain key c.args.after room (begins_wrote member wrote) c.utf8.key)
+    let inside : c.args.after ≤ length text = subst (λ t. c.args.after ≤ length t) room.members.text_is c.if-is_range.ensures.1 in
+    let begun = begun_there key c.args.from c.args.after c.len-start.result room.members.text_is some c.if-is_range.ensures.0 inside (spelled some) c.in_ok-begin_within.ensures in
+    key_stands plain key c.args.after c.len-start.result room (omega arith) (begins_wrote (begins refl refl begun) wrote) c.utf8.key)
 
 pub returns-clause-stands : goal.returns-clause-stands
 returns-clause-stands c = on_ok c.decoded_key.result c.decoded_key.ensures.stands (λ stands text held fs k place cs room spelled. stands text held fs k place cs plain room)

@@ -1,7 +1,12 @@
 use Rattle.std.proofs.Common.{refl}
-use Rattle.jsonb_write.proofs.Keys.KeyObjects.{settled}
+use Rattle.jsonb_write.proofs.Keys.KeyObjects.{in_order, same_members, settled}
 use Rattle.jsonb_write.proofs.key.KeyRoom.settle.Goals as goal
 
+pub returns-then-ascend-clause-same : goal.returns-then-ascend-clause-same
+returns-then-ascend-clause-same c = same_members c.args.self.now
+
+pub returns-then-ascend-clause-repeat : goal.returns-then-ascend-clause-repeat
+returns-then-ascend-clause-repeat c = λ text held fs key place cs room. in_order room (c.if-ascend.ensures refl)
+
 pub returns-clause-repeat : goal.returns-clause-repeat
-returns-clause-repeat c =
-    settled c.args.self.now _ c.args.first c.deref.result.now c.members_from-members.result.now c.put_in_order.result c.deref.ensures.value c.members_from-members.ensures refl refl refl c.put_in_order.ensures.repeat c.put_in_order.ensures.bytes
+returns-clause-repeat c = settled c.args.self.now _ c.args.first c.put_in_order.result c.put_in_order.ensures.order

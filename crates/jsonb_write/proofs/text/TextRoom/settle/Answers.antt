@@ -1,7 +1,12 @@
-use Rattle.std.proofs.Common.{ap, refl}
-use Rattle.jsonb_write.proofs.RoomObjects.{settled}
+use Rattle.std.proofs.Common.{refl}
+use Rattle.jsonb_write.proofs.RoomObjects.{in_order, same_members, settled}
 use Rattle.jsonb_write.proofs.text.TextRoom.settle.Goals as goal
 
+pub returns-then-ascend-clause-same : goal.returns-then-ascend-clause-same
+returns-then-ascend-clause-same c = same_members c.args.self.now
+
+pub returns-then-ascend-clause-repeat : goal.returns-then-ascend-clause-repeat
+returns-then-ascend-clause-repeat c = λ text held fs key place cs room. in_order room (c.if-ascend.ensures refl)
+
 pub returns-clause-repeat : goal.returns-clause-repeat
-returns-clause-repeat c =
-    settled c.args.self.now _ c.args.first c.deref.result.now c.members_from-members.result.now c.settle.result c.deref.ensures.value c.members_from-members.ensures (ap (λ text. text.now) c.settle.ensures.text) refl refl c.settle.ensures.repeat c.settle.ensures.bytes
+returns-clause-repeat c = settled c.args.self.now _ c.args.first c.settle.result c.settle.ensures.order

@@ -1,0 +1,32 @@
+//! A key that comes twice in an object, as an error.
+ghost use Rattle.std.specs.Prelude.{ℕ, List, false};
+ghost use Rattle.jsonb_parse.specs.Handler.{Misses};
+ghost use Rattle.jsonb_parse.specs.Stack.{object_end};
+ghost use Rattle.jsonb_spec.specs.Source.{Found};
+ghost use Rattle.jsonb_write.specs.OpenMembers.{TellsRepeatOf};
+
+use jsonb_value::error::{Error, ParseErrorCode};
+use jsonb_write::open_members::OpenMembers;
+use std::alloc::Global;
+
+// Tells the least key that comes twice, and where it comes the second time.
+#[cold]
+#[inline(never)]
+pub(super) fn tell_repeat(
+    members: &OpenMembers,
+    alloc: Global,
+    first: usize,
+    index: usize,
+    told: &mut Option<Error>,
+)
+    ensures { (fs : List Found) → (rest : List ℕ) → TellsRepeatOf members.now first fs index
+        → Misses false told.new (object_end fs rest) }
+{
+    let Some((key, place)) = members.repeated(first, index) else {
+        return;
+    };
+    *told = match String::from_str(alloc, key) {
+        Ok(key) => Some(Error::Syntax(ParseErrorCode::ObjectDuplicateKey(key), place)),
+        Err(_) => Some(Error::OutOfMemory),
+    };
+}

@@ -1,0 +1,178 @@
+//! The members of the objects that are open.
+ghost use Rattle.std.specs.Prelude.{◌≡◌, ◌≤◌, [], ℕ, Bool, List, true, length, drop, take, slice_range, IfOk, IfSome, IsTrue, OnOk};
+ghost use Rattle.std.specs.Option.{is_some};
+ghost use Rattle.std.specs.Str.{IsUtf8};
+
+use crate::members::{Member, Spare, ascend, find_repeat, key_at, prefix_within, put_in_order};
+use std::alloc::{AllocError, Global};
+
+/// The members of the objects that are open, those of the outermost first. A key that doesn't stand in the text is
+/// among the decoded ones.
+#[derive(Drop)]
+pub struct OpenMembers<'a> {
+    pub text: &'a [u8],
+    pub entries: Vec<Member>,
+    pub decoded: Vec<u8>,
+    pub spare: Spare,
+}
+
+// The members from an index on.
+#[inline(always)]
+fn members_from(entries: &Vec<Member>, first: usize) -> &[Member]
+    ensures { result.now ≡ drop first entries.now.items }
+{
+    let count = entries.len();
+    &entries[first.min(count)..]
+}
+
+impl<'a> OpenMembers<'a> {
+    ghost use Rattle.jsonb_spec.specs.Source.{Found};
+    ghost use Rattle.jsonb_spec.specs.Text.Appending.{Extends};
+    ghost use Rattle.jsonb_write.specs.OpenMembers.{AreOf, AreSame, Begins, Closes, EndIn, FindsRepeat, HasMember, KeysAscendFrom, Layout, PutsInOrder, spot_among};
+
+    /// No object is open.
+    pub fn new(alloc: Global, text: &'a [u8]) -> OpenMembers<'a>
+        ensures { (layout : Layout) → AreOf layout text.entry.now result true [] }
+    {
+        OpenMembers {
+            text,
+            entries: Vec::new(alloc),
+            decoded: Vec::new(alloc),
+            spare: Spare::new(alloc),
+        }
+    }
+
+    /// How many there are.
+    #[inline(always)]
+    pub fn len(&self) -> usize
+        ensures { result ≡ length self.now.entries.items }
+    {
+        self.entries.len()
+    }
+
+    // Keeps what is known of a member.
+    #[inline(always)]
+    fn keep(&mut self, member: Member) -> Result<(), AllocError>
+        ensures { OnOk result (HasMember member [] self.old self.new) }
+    {
+        self.entries.try_reserve(1)?;
+        self.entries.push_reserved(member);
+        Ok(())
+    }
+
+    /// Begins a member whose key stands there in the text, given the index after the key, and where the member begins
+    /// in what is written.
+    #[inline(always)]
+    pub fn begin_within(
+        &mut self,
+        from: usize,
+        to: usize,
+        after: usize,
+        start: usize,
+    ) -> Result<(), AllocError>
+        ensures { OnOk result (from ≤ to → to ≤ length self.old.text.now →
+            Begins (slice_range self.old.text.now from to) after start self.old self.new) }
+    {
+        let member = Member {
+            prefix: prefix_within(self.text, from, to),
+            from,
+            to,
+            start,
+            after,
+            decoded: false,
+        };
+        self.keep(member)
+    }
+
+    /// Begins a member whose key doesn't stand in the text, or isn't known to.
+    #[inline(never)]
+    pub fn begin_decoded(&mut self, key: &str, after: usize, start: usize) -> Result<(), AllocError>
+        ensures { OnOk result (Begins key.now after start self.old self.new) }
+    {
+        let from = self.decoded.len();
+        self.decoded.extend_from_slice(key.as_bytes())?;
+        let to = self.decoded.len();
+        let member = Member {
+            prefix: prefix_within(&self.decoded, from, to),
+            from,
+            to,
+            start,
+            after,
+            decoded: true,
+        };
+        self.keep(member)
+    }
+
+    /// Whether the keys of the members from an index on ascend.
+    #[inline(always)]
+    pub fn ascend(&self, first: usize) -> bool
+        ensures { IsTrue result → KeysAscendFrom self.now first }
+    {
+        ascend(self.text, &self.decoded, members_from(&self.entries, first))
+    }
+
+    /// Puts the bytes of the members from an index on, which end what is written, in the order of their keys. Tells a
+    /// key that comes twice by the index, among them, of the one where the least such key comes the second time. The
+    /// first `floor` bytes stay.
+    #[cold]
+    #[inline(never)]
+    pub fn put_in_order(
+        &mut self,
+        first: usize,
+        out: &mut Vec<u8>,
+        floor: usize,
+        commas: bool,
+    ) -> Result<Option<usize>, AllocError>
+        ensures same { AreSame self.old self.new }
+        ensures kept { Extends (take floor out.old.items) out.new.items }
+        ensures order { IfOk result (PutsInOrder commas floor self.old self.new first out.old.items out.new.items) }
+    {
+        let members = members_from(&self.entries, first);
+        put_in_order(
+            self.text,
+            &self.decoded,
+            members,
+            &mut self.spare,
+            out,
+            floor,
+            commas,
+        )
+    }
+
+    /// Finds a key that comes twice among the members from an index on, and tells it by the index, among them, of the
+    /// one where the least such key comes the second time.
+    #[inline(always)]
+    pub fn find_repeat(&mut self, first: usize) -> Result<Option<usize>, AllocError>
+        ensures same { AreSame self.old self.new }
+        ensures repeat { IfOk result (λ found. (commas : Bool) → (bytes : Found → List ℕ) → (start : ℕ)
+            → (fs : List Found) → EndIn commas bytes self.old first start fs → FindsRepeat self.new first fs found) }
+    {
+        let members = members_from(&self.entries, first);
+        find_repeat(self.text, &self.decoded, members, &mut self.spare.ranks)
+    }
+
+    /// The key of a member, by its index among those from another index on, and the index after it in the text.
+    pub fn repeated(&self, first: usize, index: usize) -> Option<(&str, usize)>
+        ensures key { IfSome result (λ told. told.0.now ≡ (spot_among self.now first index).key) }
+        ensures place { IfSome result (λ told. told.1 ≡ (spot_among self.now first index).place) }
+        ensures some { IsUtf8 (spot_among self.now first index).key → IsTrue (is_some result) }
+    {
+        let members = members_from(&self.entries, first);
+        let place = match members.get(index) {
+            Some(member) => member.after,
+            None => 0,
+        };
+        match std::str::from_utf8(key_at(self.text, &self.decoded, members, index)) {
+            Ok(key) => Some((key, place)),
+            Err(_) => None,
+        }
+    }
+
+    /// The members from an index on are kept no longer.
+    #[inline(always)]
+    pub fn close(&mut self, first: usize)
+        ensures { Closes first self.old self.new }
+    {
+        self.entries.truncate(first);
+    }
+}
