@@ -1,6 +1,7 @@
 pub mod CheckRoom
 pub mod Contents
 pub mod Escaped
+pub mod IntegerKey
 pub mod KeyRoom
 pub mod MemberStarts
 pub mod Members

@@ -1,12 +1,11 @@
 //! The contents of a string with escapes as they are written: decoded, and with the escapes that the text needs. Most
 //! of them are written as they stand, and nothing is decoded but an escape at a time.
 ghost use Rattle.std.specs.Prelude.{◌≡◌, List, ℕ, ◌+◌, ◌-◌, ◌≤◌, ◌<◌, ◌++◌, ◌∷◌, [], drop, length, take, IfOk, IfSome, MatchBool, OnOk};
-ghost use Rattle.std.specs.Char.{digit_char};
 ghost use Rattle.std.specs.List.{flat_map};
 ghost use Rattle.jsonb_spec.specs.Ascii as ascii;
 ghost use Rattle.jsonb_spec.specs.Mode.{Mode as GrammarMode};
 ghost use Rattle.jsonb_spec.specs.Text.Appending.{Extends};
-ghost use Rattle.jsonb_spec.specs.Text.StringText.{ArePlain, byte_text, control_text};
+ghost use Rattle.jsonb_spec.specs.Text.StringText.{byte_text};
 ghost use Rattle.jsonb_scan.specs.Answer.{mode_of};
 ghost use Rattle.jsonb_scan.specs.Decoding.{AreContents};
 ghost use Rattle.jsonb_scan.specs.QuotedString.{decoded_text};
@@ -17,9 +16,8 @@ use crate::contents::Contents;
 use crate::short::append_first;
 use jsonb_scan::parser::Mode;
 use jsonb_scan::util::decode_escape;
+use jsonb_value::plain::{append_byte, run_of_few, run_of_sixteen};
 use std::alloc::AllocError;
-use std::simd::prelude::*;
-use jsonb_value::plain::{first_set, run_by_bytes, run_of_sixteen};
 
 // Whether an escape of this letter is written as it stands.
 #[inline(always)]
@@ -43,35 +41,6 @@ fn begins_kept(bytes: &[u8]) -> bool
         return false;
     }
     is_kept_letter(bytes[1])
-}
-
-// How many of the first 8 bytes, up to the first that is not, are written as they are.
-#[inline(always)]
-fn run_of_eight(bytes: &[u8]) -> usize
-    requires { 8 ≤ length bytes.now }
-    ensures within { result ≤ 8 }
-    ensures plain { ArePlain (take result bytes.now) }
-{
-    let lanes = u8x8::from_slice(bytes);
-    let below = lanes.simd_lt(u8x8::splat(b' '));
-    let marks = below | lanes.simd_eq(u8x8::splat(b'"')) | lanes.simd_eq(u8x8::splat(b'\\'));
-    first_set(marks.to_bitmask(), 8)
-}
-
-// How many of the first bytes are written as they are, up to the first other.
-#[inline(always)]
-fn run_of_few(bytes: &[u8]) -> usize
-    ensures within { result ≤ length bytes.now }
-    ensures plain { ArePlain (take result bytes.now) }
-{
-    if bytes.len() < 8 {
-        return run_by_bytes(bytes);
-    }
-    let run = run_of_eight(bytes);
-    if run < 8 {
-        return run;
-    }
-    8 + run_by_bytes(&bytes[8..])
 }
 
 // How many of the first bytes are written as they stand: with their escapes, up to what is written another way. Where
@@ -116,54 +85,12 @@ fn kept_tail(bytes: &[u8]) -> usize
     len
 }
 
-// The digit of a number below 16.
-fn hexadecimal_digit(value: u8) -> u8
-    requires { value < 16 }
-    ensures { result ≡ digit_char value }
-{
-    if value < 10 {
-        b'0' + value
-    } else {
-        b'a' + (value - 10)
-    }
-}
-
-// The escape of a control byte, by its number.
-fn control_text(byte: u8) -> [u8; 6]
-    ensures { result ≡ control_text byte }
-{
-    [
-        b'\\',
-        b'u',
-        b'0',
-        b'0',
-        hexadecimal_digit(byte / 16),
-        hexadecimal_digit(byte % 16),
-    ]
-}
-
-// Appends a byte of the text, with an escape where it needs one.
-fn append_byte(byte: u8, out: &mut Vec<u8>) -> Result<(), AllocError>
-    ensures ok { OnOk result (out.new.items ≡ out.old.items ++ byte_text byte) }
-    ensures kept { Extends out.old.items out.new.items }
-{
-    match byte {
-        b'"' => out.extend_from_slice(b"\\\""),
-        b'\\' => out.extend_from_slice(b"\\\\"),
-        b'\n' => out.extend_from_slice(b"\\n"),
-        b'\r' => out.extend_from_slice(b"\\r"),
-        b'\t' => out.extend_from_slice(b"\\t"),
-        0..b' ' => out.extend_from_slice(&control_text(byte)),
-        _ => out.extend_from_slice(&[byte]),
-    }
-}
-
 // Appends bytes of the text, with the escapes that they need.
 fn append_bytes(bytes: &[u8], out: &mut Vec<u8>) -> Result<(), AllocError>
     ensures ok { OnOk result (out.new.items ≡ out.old.items ++ flat_map byte_text bytes.now) }
     ensures kept { Extends out.old.items out.new.items }
 {
-    if run_by_bytes(bytes) == bytes.len() {
+    if run_of_few(bytes) == bytes.len() {
         return out.extend_from_slice(bytes);
     }
     'bytes: for byte in bytes {

@@ -5,6 +5,7 @@ pub mod check;
 pub mod contents;
 mod escaped;
 mod escaped_key;
+mod integer_key;
 pub mod key;
 mod key_text;
 pub mod members;

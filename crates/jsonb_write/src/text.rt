@@ -9,9 +9,9 @@ use crate::contents::Contents;
 use crate::open_members::OpenMembers;
 use crate::written::Written;
 use jsonb_value::number::Number;
+use jsonb_value::plain::is_plain;
 use std::alloc::{AllocError, Global};
 use std::borrow::CowStr;
-use jsonb_value::plain::is_plain;
 
 /// A value that holds no others and is to be written, or one that is written.
 #[derive(Drop)]

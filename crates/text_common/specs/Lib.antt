@@ -1,2 +1,3 @@
+pub mod KeptNumber
 pub mod SourceText
 pub mod SpelledNumber

@@ -28,7 +28,9 @@ use Rattle.jsonb_parse.specs.Frames.{IsPut}
 use Rattle.jsonb_parse.specs.Slots.{Takes}
 use Rattle.jsonb_parse.specs.Parser.{Advances, IsBehind, rest_of, size_of}
 use Rattle.jsonb_spec.specs.Text.{in_quotes}
+use Rattle.jsonb_spec.specs.Text.NumberText.{number_text}
 use Rattle.std.proofs.lemmas.List.{drop_more}
+use Rattle.text_common.specs.KeptNumber.{IsKeptAt}
 use Rattle.jsonb_parse.proofs.Scalars.FirstBytes.{extended_number, standard_number}
 use Rattle.jsonb_scan.proofs.Containers.JoinedParts.{on_byte-none}
 use Rattle.jsonb_parse.proofs.Steps.Failures.{memory_misses, misses_through, untold_misses}
@@ -79,6 +81,22 @@ between p q bytes a e =
     let same = same_size p q a in
     let count : q.offset - p.offset ≡ length bytes = omega (arith, ap length e, length-append bytes (rest_of q), length-drop p.offset p.buf.now, length-drop q.offset q.buf.now, same, q.inside, p.inside) in
     ap₂ (λ n xs. take n xs) count e ∙ take-append_seam bytes (rest_of q)
+
+-- where an integer stands that is written as it stands
+pub kept_at : (p q : Parser) (core : List ℕ) (value integer : Num) → Advances p q → rest_of p ≡ core ++ rest_of q → IsStandardNumber core integer → value.scale ≡ integer.scale → value.whole ≡ integer.whole
+    → core ≡ number_text value → IsKeptAt p.buf.now p.offset q.offset (number_source value)
+kept_at p q core value integer on joined digits scale whole text =
+    let there = between p q core on joined in
+    record {
+      value = value;
+      integer = integer;
+      is = refl;
+      inside = omega (arith, q.inside, same_size p q on);
+      digits = subst (λ bytes. IsStandardNumber bytes integer) (sym there) digits;
+      scale = scale;
+      whole = whole;
+      same = there ∙ text;
+    }
 
 -- the integer that is parsed, with a minus and without
 abbrev pub negative_of : ShortInteger → Num

@@ -1,6 +1,7 @@
 -- Integers of extended texts that are written as they stand.
 use Rattle.std.proofs.Common.{◌≡◌, ℕ, zero, suc, ◌+◌, ◌≤◌, true, List, [], ◌∷◌, ◌++◌, drop, drop-drop, Ok, refl, sym, ap, ap₂, ◌∙◌, arith}
 use Rattle.std.specs.Prelude.{slice_index}
+use Rattle.jsonb_spec.specs.Grammar.StandardNumber.{IsStandardNumber}
 use Rattle.jsonb_spec.specs.Mode.{Mode, extended}
 use Rattle.jsonb_spec.specs.Text.NumberText.{number_text, text_of_parts}
 use Rattle.jsonb_spec.specs.Tree.{Num, number}
@@ -16,7 +17,7 @@ use Rattle.jsonb_parse.proofs.KeptTexts.{kept_text}
 use Rattle.jsonb_parse.specs.declared.parser.Parser.{Parser}
 use Rattle.jsonb_parse.specs.Parser.{Advances, PassesInteger, rest_of, size_of}
 use Rattle.jsonb_scan.specs.Answer.{mode_of}
-use Rattle.jsonb_parse.proofs.Scalars.Built.{between, extended_at_once}
+use Rattle.jsonb_parse.proofs.Scalars.Built.{extended_at_once, kept_at}
 use Rattle.jsonb_parse.proofs.Scalars.Spellings.{break_ends_extended}
 
 -- The bytes begin with a number as it is written, and a parser of this mode parses it there.
@@ -25,6 +26,10 @@ pub record IsKeptNumber (size : ℕ) (mode : Mode) (bytes rest : List ℕ) : Typ
   pub core : List ℕ
   pub joined : bytes ≡ core ++ rest
   pub parses : scalar_at size mode bytes ≡ Ok (number value, rest)
+  pub integer : Num
+  pub digits : IsStandardNumber core integer
+  pub scale : value.scale ≡ integer.scale
+  pub whole : value.whole ≡ integer.whole
   pub text : core ≡ number_text value
 
 -- a byte after which no extended number goes on
@@ -49,6 +54,10 @@ extended_kept size mode bytes end is first kept ends =
       core = sound.core;
       joined = sound.joined;
       parses = extended_at_once size mode bytes same.read rest is first found;
+      integer = n;
+      digits = sound.number;
+      scale = same.scales;
+      whole = same.wholes;
       text = text ∙ sym (ap₂ text_of_parts same.scales same.wholes);
     }
 
@@ -57,7 +66,7 @@ pub kept_passes : (p : Parser) (end : ℕ) (inside : p.offset + end ≤ size_of 
 kept_passes p end inside kept = record {
   value = kept.value;
   parses = kept.parses ∙ ap (λ r. Ok (number kept.value, r)) (drop-drop end p.offset p.buf.now);
-  text = between p o kept.core on (kept.joined ∙ ap (λ r. kept.core ++ r) (drop-drop end p.offset p.buf.now)) ∙ kept.text;
+  stands = kept_at p o kept.core kept.value kept.integer on (kept.joined ∙ ap (λ r. kept.core ++ r) (drop-drop end p.offset p.buf.now)) kept.digits kept.scale kept.whole kept.text;
 }
   where
     o : Parser

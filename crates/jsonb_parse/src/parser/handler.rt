@@ -1,5 +1,5 @@
 //! What is made of a text while it is parsed: the parser sends the events of the text's value to a handler.
-ghost use Rattle.std.specs.Prelude.{◌≡◌, ◌+◌, ◌^◌, ◌<◌, ℕ, Bool, List, [], ◌∷◌, length, MatchBool, Ok, IfOk, IfErr, OnOk, Option, true, false, slice_range};
+ghost use Rattle.std.specs.Prelude.{◌≡◌, ◌+◌, ◌^◌, ◌<◌, ℕ, Bool, List, [], ◌∷◌, length, MatchBool, Ok, IfOk, IfErr, OnOk, Option, true, false};
 ghost use Rattle.std.specs.Cow.{cow_str_bytes};
 ghost use Rattle.jsonb_value.specs.declared.error.Error.{Error};
 ghost use Rattle.jsonb_spec.specs.Tree.{Mark};
@@ -15,7 +15,7 @@ ghost use Rattle.jsonb_scan.specs.Open.{Open, members_so_far};
 ghost use Rattle.jsonb_scan.specs.Parsing.String.{body_of};
 ghost use Rattle.jsonb_spec.specs.Source.{Source, Found, null_source, boolean_source, string_source, number_source};
 ghost use Rattle.jsonb_scan.specs.Spelled.{IsSpelledAt, KeyStandsAt};
-ghost use Rattle.text_common.specs.SourceText.{source_text};
+ghost use Rattle.text_common.specs.KeptNumber.{IsKeptAt};
 ghost use Rattle.jsonb_spec.specs.Text.StringText.{ArePlain};
 
 use super::Mode;
@@ -158,7 +158,8 @@ pub trait Handler<'a>: Drop + Sized {
             room.old items.old room.new items.new) }
         ensures base { base room.new ≡ base room.old };
 
-    /// Puts in an element whose serialized form is this range of the text. A handler that keeps none isn't asked to.
+    /// Puts in an integer that stands in this range of the text, and is serialized as it stands. A handler that keeps
+    /// none isn't asked to.
     fn push_kept(
         room: &mut Self::Room,
         items: &mut Self::Items,
@@ -166,7 +167,7 @@ pub trait Handler<'a>: Drop + Sized {
         to: usize,
     ) -> std::result::Result<(), AllocError>
         ensures put { OnOk result (keeps ≡ true → TakesElement stands
-            (λ text s. slice_range text from to ≡ source_text s) room.old items.old room.new items.new) }
+            (λ text s. IsKeptAt text from to s) room.old items.old room.new items.new) }
         ensures base { base room.new ≡ base room.old };
 
     /// Puts in an element that is a container. Where it is the last one, no other follows.
@@ -260,8 +261,8 @@ pub trait Handler<'a>: Drop + Sized {
             (silent ≡ true)) }
         ensures base { base room.new ≡ base room.old };
 
-    /// Puts in a member whose value's serialized form is this range of the text. A handler that keeps none isn't asked
-    /// to.
+    /// Puts in a member whose value is an integer that stands in this range of the text, and is serialized as it
+    /// stands. A handler that keeps none isn't asked to.
     fn insert_kept(
         room: &mut Self::Room,
         object: &mut OpenObject<Self::Members, Self::Key>,
@@ -270,7 +271,7 @@ pub trait Handler<'a>: Drop + Sized {
         to: usize,
     ) -> std::result::Result<bool, AllocError>
         ensures put { IfOk result (λ is_new. MatchBool is_new (keeps ≡ true → TakesMember stands
-            (λ text s. slice_range text from to ≡ source_text s) room.old object.old key room.new object.new)
+            (λ text s. IsKeptAt text from to s) room.old object.old key room.new object.new)
             (silent ≡ true)) }
         ensures base { base room.new ≡ base room.old };
 

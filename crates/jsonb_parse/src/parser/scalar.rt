@@ -1,5 +1,5 @@
 //! Values that hold no others.
-ghost use Rattle.std.specs.Prelude.{◌≡◌, ◌≢◌, ◌<◌, ◌++◌, drop, length, MatchBool, Err, IfSome, Some, true, false, ◌^◌, pos, neg_ℤ, slice_range};
+ghost use Rattle.std.specs.Prelude.{◌≡◌, ◌≢◌, ◌<◌, ◌++◌, drop, length, MatchBool, Err, IfSome, Some, true, false, ◌^◌, pos, neg_ℤ};
 ghost use Rattle.jsonb_spec.specs.Ascii as ascii;
 ghost use Rattle.jsonb_spec.specs.Mode.{standard, extended};
 ghost use Rattle.jsonb_value.specs.View.{number_view};
@@ -9,7 +9,7 @@ ghost use Rattle.jsonb_spec.specs.Tree.{boolean, int64};
 ghost use Rattle.jsonb_spec.specs.Tree.Mark.{plain};
 ghost use Rattle.jsonb_spec.specs.Source.{string_source};
 ghost use Rattle.jsonb_scan.specs.Spelled.{IsSpelledAt};
-ghost use Rattle.text_common.specs.SourceText.{source_text};
+ghost use Rattle.text_common.specs.KeptNumber.{IsKeptAt};
 ghost use Rattle.jsonb_spec.specs.Text.StringText.{ArePlain};
 ghost use Rattle.jsonb_parse.specs.Parser.{Advances, Finds, IsAfterQuote, IsBehind, IsTextOf, ParsesInPlace, TakesByte, rest_of, size_of};
 ghost use Rattle.jsonb_scan.specs.Parsing.{begins};
@@ -145,7 +145,7 @@ impl<'a> Parser<'a> {
         from: usize,
     ) -> Result<(), Failed>
         requires kept { V.keeps ≡ true }
-        ensures { PutsIn V.Handler (λ text s. slice_range text from self.old.offset ≡ source_text s) result
+        ensures { PutsIn V.Handler (λ text s. IsKeptAt text from self.old.offset s) result
             self.old self.new room.old room.new (S.before container.old slot) (S.after container.new) }
     {
         let put = slot.put_kept(room, container, from, self.offset);

@@ -1,7 +1,7 @@
 //! Where a value goes: an element of an array, or a member of an object.
-ghost use Rattle.std.specs.Prelude.{◌≡◌, MatchBool, true, IfOk, slice_range};
+ghost use Rattle.std.specs.Prelude.{◌≡◌, MatchBool, true, IfOk};
 ghost use Rattle.jsonb_scan.specs.Spelled.{IsSpelledAt};
-ghost use Rattle.text_common.specs.SourceText.{source_text};
+ghost use Rattle.text_common.specs.KeptNumber.{IsKeptAt};
 ghost use Rattle.jsonb_parse.specs.Slots.{Takes};
 ghost use Rattle.jsonb_parse.specs.declared.parser.frame.Frame.{Frame};
 ghost use Rattle.jsonb_parse.specs.declared.parser.frame.Frame.TheVariants.{Array, Object};
@@ -45,7 +45,7 @@ pub(super) trait Slot<'a, V: Handler<'a>>: Drop + Sized {
         to: usize,
     ) -> Result<bool, AllocError>
         ensures put { IfOk result (λ is_new. MatchBool is_new (V.keeps ≡ true → Takes V.stands
-            (λ text s. slice_range text from to ≡ source_text s) room.old (before container.old self) room.new
+            (λ text s. IsKeptAt text from to s) room.old (before container.old self) room.new
             (after container.new)) (V.silent ≡ true)) }
         ensures base { V.base room.new ≡ V.base room.old };
 }

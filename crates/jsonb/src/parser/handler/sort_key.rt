@@ -46,7 +46,7 @@ impl<'a> Handler<'a> for KeyPart<'a> {
 
     ghost writes = { true };
 
-    ghost keeps = { false };
+    ghost keeps = { true };
 
     #[inline(always)]
     fn null() -> Self {
@@ -101,9 +101,9 @@ impl<'a> Handler<'a> for KeyPart<'a> {
 
     #[inline(always)]
     fn keeps_integers() -> bool
-        ensures { result ≡ false }
+        ensures { result ≡ true }
     {
-        false
+        true
     }
 
     #[inline(always)]
@@ -144,7 +144,7 @@ impl<'a> Handler<'a> for KeyPart<'a> {
         from: usize,
         to: usize,
     ) -> Result<(), AllocError> {
-        Ok(())
+        room.push_integer(from, to)
     }
 
     #[inline(always)]
@@ -236,7 +236,10 @@ impl<'a> Handler<'a> for KeyPart<'a> {
         from: usize,
         to: usize,
     ) -> Result<bool, AllocError> {
-        Ok(true)
+        match room.insert_integer(object.members, from, to) {
+            Ok(()) => Ok(true),
+            Err(failed) => Err(failed),
+        }
     }
 
     #[inline(always)]

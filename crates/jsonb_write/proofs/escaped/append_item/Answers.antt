@@ -7,8 +7,8 @@ use Rattle.jsonb_write.proofs.escaped.append_item.Goals as goal
 
 pub returns-then-byte-ne92-clause-ok : goal.returns-then-byte-ne92-clause-ok
 returns-then-byte-ne92-clause-ok c =
-    subst (λ (u : List ℕ). WritesItems (mode_of c.args.mode) u c.in-Some.rest.now c.args.out.now.items c.append_byte.new.out.items) (sym c.in-Some.ensures.cases.0)
-    (writes_raw (mode_of c.args.mode) c.in-Some.byte.now c.in-Some.rest.now _ _ c.if-byte-ne92.true c.in_ok-append_byte.ensures.ok)
+    subst (λ (u : List ℕ). WritesItems (mode_of c.args.mode) u c.in-Some.rest.now c.args.out.now.items c.append_byte.new.buf.items) (sym c.in-Some.ensures.cases.0)
+    (writes_raw (mode_of c.args.mode) c.in-Some.byte.now c.in-Some.rest.now _ _ c.if-byte-ne92.true c.in_ok-append_byte.ensures.appends.ok)
 
 pub unreachable-requires : goal.unreachable-requires
 unreachable-requires c =

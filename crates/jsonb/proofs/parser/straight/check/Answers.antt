@@ -12,11 +12,12 @@ returns-in-Ok-clause-document c =
     let read = c.in-Ok.ensures.parses c.new-room.ensures.stands in
     (tree_of_source read.0, source_parsed (mode_of c.args.mode) c.args.text.now read.0 read.2)
 
-fault_told : (c : goal.In-Some) → Fails c.in-Some.error (source_of (mode_of c.args.mode) c.args.text.now)
-fault_told c = subst (λ told. Misses false told (source_of (mode_of c.args.mode) c.args.text.now)) c.in-Some.is (c.in-Err.ensures.parses c.new-room.ensures.stands)
-
 pub returns-in-Some-clause-rejects : goal.returns-in-Some-clause-rejects
-returns-in-Some-clause-rejects c = fault_rejects (mode_of c.args.mode) c.args.text.now c.in-Some.error (fault_told c)
+returns-in-Some-clause-rejects c =
+    let told = subst (λ told. Misses false told (source_of (mode_of c.args.mode) c.args.text.now)) c.in-Some.is (c.in-Err.ensures.parses c.new-room.ensures.stands) in
+    fault_rejects (mode_of c.args.mode) c.args.text.now c.in-Some.error told
 
 pub returns-in-Some-clause-follows : goal.returns-in-Some-clause-follows
-returns-in-Some-clause-follows c = fault_fails (mode_of c.args.mode) c.args.text.now c.in-Some.error (fault_told c)
+returns-in-Some-clause-follows c =
+    let told = subst (λ told. Misses false told (source_of (mode_of c.args.mode) c.args.text.now)) c.in-Some.is (c.in-Err.ensures.parses c.new-room.ensures.stands) in
+    fault_fails (mode_of c.args.mode) c.args.text.now c.in-Some.error told

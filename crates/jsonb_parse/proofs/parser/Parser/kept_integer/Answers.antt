@@ -7,7 +7,7 @@ use Rattle.jsonb_scan.specs.Parsing.Number.{is_number_start, standard_number_at}
 use Rattle.jsonb_scan.specs.ShortInteger.{short_view}
 use Rattle.jsonb_scan.proofs.Numbers.Standard.{number_sound}
 use Rattle.jsonb_parse.proofs.KeptTexts.{kept_text}
-use Rattle.jsonb_parse.proofs.Scalars.Built.{between, integer_at_once}
+use Rattle.jsonb_parse.proofs.Scalars.Built.{integer_at_once, kept_at}
 use Rattle.jsonb_parse.proofs.parser.Parser.kept_integer.Goals as goal
 
 pub returns-in-Some : goal.returns-in-Some
@@ -27,7 +27,7 @@ returns-in-Some c =
           record {
             value = n;
             parses = integer_at_once (size_of p) (mode_of p.mode) (rest_of p) n _ c.requires.mode (subst (λ bs. is_number_start (slice_index bs 0) ≡ true) same c.in-Some.ensures.first) found;
-            text = between p q sound.core on sound.joined ∙ kept_text read.negative read.magnitude read.end sound.core kept.some sound.number;
+            stands = kept_at p q sound.core n n on sound.joined sound.number refl refl (kept_text read.negative read.magnitude read.end sound.core kept.some sound.number);
           };
       asked = search rules;
       advances = search rules;
