@@ -139,7 +139,10 @@ pub extern "C" fn jsonb_bench_part(alloc: Global, path: &[u8], text: &[u8], roun
         let Ok(Some(keys)) = read_keys(alloc, path) else {
             return round;
         };
-        if !matches!(append_part(alloc, text, Mode::Standard, &keys, &mut written), Ok(true)) {
+        if !matches!(
+            append_part(alloc, text, Mode::Standard, &keys, &mut written),
+            Ok(true)
+        ) {
             return round;
         }
     }
