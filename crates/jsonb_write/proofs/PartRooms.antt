@@ -1,46 +1,50 @@
 -- The room of a part after an event.
-use Rattle.std.proofs.Common.{◌≡◌, ℕ, zero, suc, ◌+◌, ◌<◌, Bool, true, false, List, [], ◌∷◌, ◌++◌, map, length, drop, Option, Some, None, MatchOption, Vec, refl, sym, ap, subst, ◌∙◌, arith, append_assoc, append-nil, length-append, ◌==◌}
-use Rattle.std.proofs.Math.Seq.{drop-append_seam}
+use Rattle.std.proofs.Common.{◌≡◌, ◌⊎◌, inl, inr, ℕ, zero, suc, ◌+◌, ◌-◌, ◌<◌, ◌≤◌, Bool, true, false, true≢false, List, [], ◌∷◌, ◌++◌, map, length, drop, take, Option, Some, None, MatchOption, refl, sym, ap, subst, ◌∙◌, arith, append-nil, length-append, ◌==◌}
 use Rattle.std.proofs.lemmas.Bool.{cond-false, cond-true}
 use Rattle.std.specs.Option.{is_none, option_and_then, option_map, option_or, option_map_or}
-use Rattle.std.specs.Prelude.{if◌then◌else◌}
-use Rattle.std.specs.declared.alloc.Global.{Global}
+use Rattle.std.specs.Prelude.{if◌then◌else◌, nat_lt, IfOk}
+use Rattle.std.proofs.Common.{Result, Ok, Err}
+use Rattle.std.proofs.lemmas.Bool.Decides.{nat_tests}
 use Rattle.jsonb_spec.specs.Text.{tree_text}
 use Rattle.jsonb_spec.specs.Tree.{Mark, Tree}
 use Rattle.jsonb_spec.specs.Tree.Mark.{plain}
 use Rattle.jsonb_scan.specs.Open.{Open, elements_so_far, members_so_far}
 use Rattle.jsonb_spec.specs.Source.{Found, Source, array_source_of, first_repeat, found_member, object_source_of, spot_of, tree_of_source}
-use Rattle.jsonb_write.specs.OpenText.{open_text}
 use Rattle.text_common.specs.SourceText.{source_text}
 use Rattle.jsonb_spec.specs.PartAt.{index_named, part_at}
-use Rattle.jsonb_write.specs.PartRoom.{HeldFits, IsAhead, Leads, PartEnds, PartFilled, PartHeld, PartStands, first_index, follow, follow_key, array_held, keys_of, path_behind, object_held, other_keys, part_inside, part_of, part_of_ended, less, rest_at, text_held, waits_at, within}
-use Rattle.jsonb_write.specs.TextRoom.{Held, SeesPart, TextFilled, TextStands, Writes, base_of}
-use Rattle.jsonb_write.specs.Written.{bytes_of}
+use Rattle.jsonb_write.specs.CheckRoom as check
+use Rattle.jsonb_write.specs.CheckRoom.{CheckStands, unwritten}
+use Rattle.jsonb_write.specs.KeyRoom as key
+use Rattle.jsonb_write.specs.OpenMembers.{TellsRepeatOf, all_starts}
+use Rattle.jsonb_write.specs.PartRoom.{EndsAt, EndsObject, FilledAt, HeldFits, InnerEnds, IsAhead, IsAround, IsInPart, IsOutside, IsSeeking, IsSought, IsWritten, Leads, PartFilled, PartHeld, PartStands, StandsAt, check_held, first_index, follow, follow_key, array_held, keys_of, path_behind, object_held, other_keys, part_inside, part_of, part_of_ended, part_with_value, less, rest_at, text_held, waits_at, within}
+use Rattle.jsonb_write.specs.TextRoom as text
+use Rattle.jsonb_write.specs.TextRoom.{SeesPart, TextFilled, TextStands, base_of}
+use Rattle.jsonb_write.specs.declared.check.CheckRoom.{CheckRoom}
 use Rattle.jsonb_write.specs.declared.text.Part.{Part}
 use Rattle.jsonb_write.specs.declared.text.Part.TheVariants as part
 use Rattle.jsonb_write.specs.declared.part.PartItems.{PartItems}
 use Rattle.jsonb_write.specs.declared.part.PartMembers.{PartMembers}
 use Rattle.jsonb_write.specs.declared.part.PartRoom.{PartRoom}
-use Rattle.jsonb_write.specs.declared.part.Place.{Place}
 use Rattle.jsonb_write.specs.declared.text.TextRoom.{TextRoom}
+use Rattle.jsonb_write.proofs.Checks.{object_begun, value_ended}
+use Rattle.jsonb_write.proofs.OpenMembers as opened
 use Rattle.jsonb_write.proofs.PartPaths.{array-ended, object-ended, or_none, picked-alone, picked-ended, picked-more}
-use Rattle.jsonb_write.proofs.Rooms.{goes_on}
 
 -- ---- a value that ends
 
--- it is the part, and no other was copied before
-some_part : (before : Option Tree) (rest : Option (List (List ℕ))) (s : Source) → rest ≡ Some [] → None ≡ option_map tree_text (option_or before (option_and_then (part_inside s) rest))
+-- it is the part, and no other ended before
+found_part : (before : Option Tree) (rest : Option (List (List ℕ))) (s : Source) → rest ≡ Some [] → None ≡ option_map tree_text before
     → Some (source_text s) ≡ option_map tree_text (option_or before (option_and_then (λ keys. part_at keys (tree_of_source s)) rest))
-some_part None (Some []) s e h = refl
-some_part None (Some (k ∷ ks)) s e h = absurd (longer k ks e)
+found_part None (Some []) s e h = refl
+found_part None (Some (k ∷ ks)) s e h = absurd (longer k ks e)
   where
     longer : (k : List ℕ) (ks : List (List ℕ)) → Some (k ∷ ks) ≡ Some [] → ⊥
     longer k ks e = cc
-some_part None None s e h = absurd (none e)
+found_part None None s e h = absurd (none e)
   where
     none : {A : Type 0} {x : A} → None ≡ Some x → ⊥
     none e = cc
-some_part (Some t) rest s e h = absurd (none h)
+found_part (Some t) rest s e h = absurd (none h)
   where
     none : {A : Type 0} {x : A} → None ≡ Some x → ⊥
     none e = cc
@@ -63,51 +67,30 @@ no_part before None s h = refl
 no_part before (Some []) s h = absurd (h refl)
 no_part before (Some (k ∷ ks)) s h = refl
 
-behind : (base before text : List ℕ) (start : ℕ) → start ≡ length base + length before → drop start (base ++ (before ++ text)) ≡ text
-behind base before text start at =
-    ap (λ n. drop n (base ++ (before ++ text))) (at ∙ sym (length-append base before)) ∙ ap (drop (length (base ++ before))) (sym (append_assoc base before text)) ∙ drop-append_seam (base ++ before) text
+-- it isn't the part, or the part was found before
+ends_outside : (keys : List (List ℕ)) (found : Bool) (got : List ℕ) (level : Option ℕ) (s : Source) (cs : List Open) → IsOutside keys found level cs
+    → (if found then Some got else None) ≡ option_map tree_text (option_or (part_of_ended keys cs) (option_and_then (part_inside s) (path_behind keys cs))) → (if found then Some got else None) ≡ option_map tree_text (part_with_value keys s cs)
+ends_outside keys true got level s cs outside h = kept_part (part_of_ended keys cs) (path_behind keys cs) s got h
+ends_outside keys false got level s cs outside h = h ∙ ap (option_map tree_text) (no_part (part_of_ended keys cs) (path_behind keys cs) s (λ e. true≢false (sym (outside.other (sym outside.leads ∙ e)))))
 
--- ---- the room
+-- ---- what is kept around the part
 
-pub copied : {text : List ℕ} {r : PartRoom} {w : TextRoom} {copy : Vec ℕ Global} {place : Place} {s : Source} {held : List PartHeld} {cs : List Open} → r.found ≡ false → rest_at (keys_of r) place.level ≡ Some [] → copy.items ≡ drop place.start (bytes_of r.whole.written) → Writes [] r.whole w
-    → PartEnds text r place s held cs → PartFilled text (record { whole = w; path = r.path; due = r.due; part = copy; found = true }) s held cs
-copied {r = r} {w = w} {copy = copy} {place = place} {s = s} {held = held} {cs = cs} none here bytes writes ends =
-    let keys = keys_of r in
-    record {
-      filled = goes_on ends.filled writes (append-nil (open_text true cs ++ source_text s)) refl ends.filled.fits;
-      fits = subst (λ (b : List ℕ). HeldFits keys (length b) held cs) (sym writes.before) ends.fits;
-      part =
-          ap Some (bytes ∙ ap (drop place.start) ends.filled.bytes ∙ behind (base_of r.whole) (open_text true cs) (source_text s) place.start ends.starts)
-          ∙ some_part (part_of_ended keys cs) (path_behind keys cs) s (ends.leads ∙ here) (sym (ap (λ (b : Bool). if b then Some r.part.items else None) none) ∙ ends.part);
-    }
+fits_found : (keys : List (List ℕ)) (held : List PartHeld) (cs : List Open) → HeldFits keys false held cs → HeldFits keys true held cs
+fits_found keys [] [] h = tt
+fits_found keys [] (c ∷ cs) h = absurd h
+fits_found keys (array_held f ∷ held) [] h = absurd h
+fits_found keys (array_held f ∷ held) (elements_so_far ss ∷ cs) h = (record { leads = h.0.leads; other = λ e. refl }, (h.1.0, fits_found keys held cs h.1.1))
+fits_found keys (array_held f ∷ held) (members_so_far fs k place ∷ cs) h = absurd h
+fits_found keys (object_held f ∷ held) [] h = absurd h
+fits_found keys (object_held f ∷ held) (elements_so_far ss ∷ cs) h = absurd h
+fits_found keys (object_held f ∷ held) (members_so_far fs k place ∷ cs) h = (record { leads = h.0.leads; other = λ e. refl }, fits_found keys held cs h.1)
 
-pub not_part : {text : List ℕ} {r : PartRoom} {place : Place} {s : Source} {held : List PartHeld} {cs : List Open} → (rest_at (keys_of r) place.level ≡ Some [] → ⊥) → PartEnds text r place s held cs → PartFilled text r s held cs
-not_part {r = r} {s = s} {cs = cs} elsewhere ends =
-    let keys = keys_of r in
-    record {
-      filled = ends.filled;
-      fits = ends.fits;
-      part = ends.part ∙ ap (option_map tree_text) (no_part (part_of_ended keys cs) (path_behind keys cs) s (λ e. elsewhere (sym ends.leads ∙ e)));
-    }
+-- an array has no members
+check_opened : {document : List ℕ} {k : CheckRoom} {held : List key.Held} {cs : List Open} (due : Bool) (ss : List Source) → CheckStands document k true held cs → CheckStands document k due (key.items ∷ held) (elements_so_far ss ∷ cs)
+check_opened {k = k} {cs = cs} due ss check = record { members = opened.stay check.members (opened.same k.members) (sym (append-nil (all_starts unwritten true cs))); fits = check.fits }
 
-pub copied_before : {text : List ℕ} {r : PartRoom} {place : Place} {s : Source} {held : List PartHeld} {cs : List Open} → r.found ≡ true → PartEnds text r place s held cs → PartFilled text r s held cs
-copied_before {r = r} {s = s} {cs = cs} there ends =
-    let keys = keys_of r in
-    let is : part_of r ≡ Some r.part.items = ap (λ (b : Bool). if b then Some r.part.items else None) there in
-    record {
-      filled = ends.filled;
-      fits = ends.fits;
-      part = is ∙ kept_part (part_of_ended keys cs) (path_behind keys cs) s r.part.items (sym is ∙ ends.part);
-    }
-
--- ---- what is kept
-
--- a row that holds fits in another room with the same path and the same bytes before
-fits_on : (keys : List (List ℕ)) (r s : TextRoom) (held : List PartHeld) (cs : List Open) → base_of s ≡ base_of r → HeldFits keys (length (base_of r)) held cs → HeldFits keys (length (base_of s)) held cs
-fits_on keys r s held cs same fits = subst (λ (b : List ℕ). HeldFits keys (length b) held cs) (sym same) fits
-
-where_due : {text : List ℕ} {r : TextRoom} {held : List Held} {cs : List Open} → TextStands text r true held cs → length (bytes_of r.written) ≡ length (base_of r) + length (open_text true cs)
-where_due {r = r} {cs = cs} room = ap length room.bytes ∙ length-append (base_of r) (open_text true cs)
+check_closed : {document : List ℕ} {k : CheckRoom} {held : List key.Held} {cs : List Open} (due : Bool) (ss : List Source) → CheckStands document k due (key.items ∷ held) (elements_so_far ss ∷ cs) → CheckStands document k true held cs
+check_closed {k = k} {cs = cs} due ss check = record { members = opened.stay check.members (opened.same k.members) (append-nil (all_starts unwritten true cs)); fits = check.fits }
 
 -- no item yet
 none_ended : (before : Option Tree) (rest : Option (List (List ℕ))) → before ≡ option_or before (option_and_then (within (elements_so_far [])) rest)
@@ -127,35 +110,6 @@ no_member before (Some (key ∷ keys)) k place = sym (or_none before)
 all_ahead : (wanted : Option ℕ) → IsAhead wanted wanted 0
 all_ahead None = tt
 all_ahead (Some n) = ap Some (omega arith)
-
-pub array_begun : {text : List ℕ} {r : PartRoom} {w : TextRoom} {held : List PartHeld} {cs : List Open} (f : PartItems) → f.place.level ≡ r.due → f.place.start ≡ length (bytes_of r.whole.written) → f.ahead ≡ option_and_then first_index (rest_at (keys_of r) f.place.level)
-    → base_of w ≡ base_of r.whole → (TextStands text r.whole true (map text_held held) cs → TextStands text w false (map text_held (array_held f ∷ held)) (elements_so_far [] ∷ cs))
-    → PartStands text r true held cs → PartStands text (record { whole = w; path = r.path; due = r.due; part = r.part; found = r.found }) false (array_held f ∷ held) (elements_so_far [] ∷ cs)
-array_begun {r = r} {w = w} {held = held} {cs = cs} f level start ahead base opened room =
-    let keys = keys_of r in
-    let leads : Leads keys f.place.level cs = room.leads refl ∙ ap (rest_at keys) (sym level) in
-    let starts : f.place.start ≡ length (base_of w) + length (open_text true cs) = start ∙ where_due room.stands ∙ ap (λ b. length b + length (open_text true cs)) (sym base) in
-    let wanted : f.ahead ≡ option_and_then first_index (path_behind keys cs) = ahead ∙ ap (option_and_then first_index) (sym leads) in
-    record {
-      stands = opened room.stands;
-      fits = (leads, (starts, (subst (λ a. IsAhead (option_and_then first_index (path_behind keys cs)) a 0) (sym wanted) (all_ahead (option_and_then first_index (path_behind keys cs))), fits_on keys r.whole w held cs base room.fits)));
-      leads = λ e. absurd cc;
-      part = room.part ∙ ap (option_map tree_text) (none_ended (part_of_ended keys cs) (path_behind keys cs));
-    }
-
-pub object_begun : {text : List ℕ} {r : PartRoom} {w : TextRoom} {held : List PartHeld} {cs : List Open} (f : PartMembers) (k : Mark × List ℕ) (place : ℕ) → f.place.level ≡ r.due → f.place.start ≡ length (bytes_of r.whole.written)
-    → base_of w ≡ base_of r.whole → (TextStands text r.whole true (map text_held held) cs → TextStands text w false (map text_held (object_held f ∷ held)) (members_so_far [] k place ∷ cs))
-    → PartStands text r true held cs → PartStands text (record { whole = w; path = r.path; due = r.due; part = r.part; found = r.found }) false (object_held f ∷ held) (members_so_far [] k place ∷ cs)
-object_begun {r = r} {w = w} {held = held} {cs = cs} f k place level start base opened room =
-    let keys = keys_of r in
-    let leads : Leads keys f.place.level cs = room.leads refl ∙ ap (rest_at keys) (sym level) in
-    let starts : f.place.start ≡ length (base_of w) + length (open_text true cs) = start ∙ where_due room.stands ∙ ap (λ b. length b + length (open_text true cs)) (sym base) in
-    record {
-      stands = opened room.stands;
-      fits = (leads, (starts, fits_on keys r.whole w held cs base room.fits));
-      leads = λ e. absurd cc;
-      part = room.part ∙ ap (option_map tree_text) (no_member (part_of_ended keys cs) (path_behind keys cs) k place);
-    }
 
 -- ---- where a value is due
 
@@ -209,19 +163,7 @@ follow_members fs k place None = refl
 follow_members fs k place (Some []) = refl
 follow_members fs k place (Some (key ∷ keys)) = refl
 
-pub key_begun : {text : List ℕ} {r : PartRoom} {w : TextRoom} {held : List PartHeld} {cs : List Open} (f : PartMembers) (fs : List Found) (k l : Mark × List ℕ) (place after : ℕ) (due : Option ℕ) → rest_at (keys_of r) due ≡ option_and_then (follow_key l.1) (rest_at (keys_of r) f.place.level)
-    → base_of w ≡ base_of r.whole → TextStands text w true (map text_held (object_held f ∷ held)) (members_so_far fs l after ∷ cs) → PartStands text r false (object_held f ∷ held) (members_so_far fs k place ∷ cs)
-    → PartStands text (record { whole = w; path = r.path; due = due; part = r.part; found = r.found }) true (object_held f ∷ held) (members_so_far fs l after ∷ cs)
-key_begun {r = r} {w = w} {held = held} {cs = cs} f fs k l place after due is base stands room =
-    let keys = keys_of r in
-    record {
-      stands = stands;
-      fits = fits_on keys r.whole w (object_held f ∷ held) (members_so_far fs l after ∷ cs) base room.fits;
-      leads = λ e. follow_members fs l after (path_behind keys cs) ∙ ap (option_and_then (follow_key l.1)) room.fits.0 ∙ sym is;
-      part = room.part ∙ ap (option_map tree_text) (same_members (part_of_ended keys cs) fs k l place after (path_behind keys cs));
-    }
-
--- ---- a value that ends
+-- ---- a value that holds no others
 
 alone : (p : Part) (s : Source) → SeesPart p s → (rest : List (List ℕ)) → part_inside s rest ≡ None
 alone p s sees [] = refl
@@ -232,42 +174,6 @@ alone (part.String t) s sees (key ∷ keys) = ap (λ v. part_inside v (key ∷ k
 alone (part.Plain t) s sees (key ∷ keys) = ap (λ v. part_inside v (key ∷ keys)) sees.0
 alone (part.Contents c) s sees (key ∷ keys) = ap (λ v. part_inside v (key ∷ keys)) sees
 alone part.Written s sees (key ∷ keys) = absurd sees
-
-pub alone_ends : {text : List ℕ} {r : PartRoom} {w : TextRoom} {place : Place} {held : List PartHeld} {cs : List Open} (p : Part) (s : Source) → place.level ≡ r.due → place.start ≡ length (bytes_of r.whole.written) → base_of w ≡ base_of r.whole → TextFilled text w s (map text_held held) cs → SeesPart p s
-    → PartStands text r true held cs → PartEnds text (record { whole = w; path = r.path; due = r.due; part = r.part; found = r.found }) place s held cs
-alone_ends {r = r} {w = w} {place = place} {held = held} {cs = cs} p s level start base filled sees room =
-    let keys = keys_of r in
-    record {
-      filled = filled;
-      fits = fits_on keys r.whole w held cs base room.fits;
-      leads = room.leads refl ∙ ap (rest_at keys) (sym level);
-      starts = start ∙ where_due room.stands ∙ ap (λ b. length b + length (open_text true cs)) (sym base);
-      part = room.part ∙ ap (option_map tree_text) (picked-alone keys s cs (alone p s sees));
-    }
-
-pub array_ends : {text : List ℕ} {r : PartRoom} {w : TextRoom} {held : List PartHeld} {cs : List Open} (f : PartItems) (ss : List Source) → base_of w ≡ base_of r.whole → TextFilled text w (array_source_of ss) (map text_held held) cs
-    → PartStands text r false (array_held f ∷ held) (elements_so_far ss ∷ cs) → PartEnds text (record { whole = w; path = r.path; due = r.due; part = r.part; found = r.found }) f.place (array_source_of ss) held cs
-array_ends {r = r} {w = w} {held = held} {cs = cs} f ss base filled room =
-    let keys = keys_of r in
-    record {
-      filled = filled;
-      fits = fits_on keys r.whole w held cs base room.fits.1.1.1;
-      leads = room.fits.0;
-      starts = room.fits.1.0 ∙ ap (λ b. length b + length (open_text true cs)) (sym base);
-      part = room.part ∙ ap (option_map tree_text) (picked-ended keys (elements_so_far ss) (array_source_of ss) cs (array-ended ss));
-    }
-
-pub object_ends : {text : List ℕ} {r : PartRoom} {w : TextRoom} {held : List PartHeld} {cs : List Open} (f : PartMembers) (fs : List Found) (k : Mark × List ℕ) (place : ℕ) → base_of w ≡ base_of r.whole → TextFilled text w (object_source_of fs) (map text_held held) cs → first_repeat (map spot_of fs) ≡ None
-    → PartStands text r false (object_held f ∷ held) (members_so_far fs k place ∷ cs) → PartEnds text (record { whole = w; path = r.path; due = r.due; part = r.part; found = r.found }) f.place (object_source_of fs) held cs
-object_ends {r = r} {w = w} {held = held} {cs = cs} f fs k place base filled new room =
-    let keys = keys_of r in
-    record {
-      filled = filled;
-      fits = fits_on keys r.whole w held cs base room.fits.1.1;
-      leads = room.fits.0;
-      starts = room.fits.1.0 ∙ ap (λ b. length b + length (open_text true cs)) (sym base);
-      part = room.part ∙ ap (option_map tree_text) (picked-ended keys (members_so_far fs k place) (object_source_of fs) cs (λ rest. object-ended fs k place rest new));
-    }
 
 -- ---- one part more
 
@@ -286,43 +192,376 @@ one_less wanted (Some (suc n)) fewer ss s h is = subst (λ a. IsAhead wanted a (
     next : length ss + suc n ≡ length (ss ++ s ∷ []) + n
     next = omega (arith, length-append ss (s ∷ []))
 
-pub item_put : {text : List ℕ} {r : PartRoom} {w : TextRoom} {held : List PartHeld} {cs : List Open} (f g : PartItems) (ss : List Source) (s : Source) → g.place ≡ f.place → g.ahead ≡ less f.ahead → base_of w ≡ base_of r.whole
-    → TextStands text w false (map text_held (array_held g ∷ held)) (elements_so_far (ss ++ s ∷ []) ∷ cs) → PartFilled text r s (array_held f ∷ held) (elements_so_far ss ∷ cs)
-    → PartStands text (record { whole = w; path = r.path; due = r.due; part = r.part; found = r.found }) false (array_held g ∷ held) (elements_so_far (ss ++ s ∷ []) ∷ cs)
-item_put {r = r} {w = w} {held = held} {cs = cs} f g ss s place ahead base stands filled =
-    let keys = keys_of r in
-    let fits = fits_on keys r.whole w (array_held f ∷ held) (elements_so_far ss ∷ cs) base filled.fits in
+-- ---- in the part
+
+in_part_on : {document : List ℕ} {r : PartRoom} {held : List PartHeld} {cs : List Open} (n m : ℕ) (w : TextRoom) → IsInPart n document r held cs
+    → IsInPart n document (record { check = r.check; text = w; path = r.path; due = r.due; inside = m; found = r.found }) held cs
+in_part_on n m w h = record { seeks = h.seeks; open_yet = h.open_yet; here = h.here; few = h.few }
+
+-- what is written where a value is due that is written
+pub in_part : {document : List ℕ} {r : PartRoom} {held : List PartHeld} {cs : List Open} → PartStands document r true held cs → IsWritten r
+    → IsInPart r.inside document r held cs × TextStands document r.text true (map text_held (take r.inside held)) (take r.inside cs)
+in_part {document = document} {r = r} {held = held} {cs = cs} room (inl some) = by_count r.inside some room.stands
+  where
+    by_count : (n : ℕ) → 0 < n → StandsAt n document r true held cs → IsInPart n document r held cs × TextStands document r.text true (map text_held (take n held)) (take n cs)
+    by_count zero some h = absurd (omega (arith, some))
+    by_count (suc n) some h = h
+in_part {document = document} {r = r} {held = held} {cs = cs} room (inr first) =
+    let stands : StandsAt 0 document r true held cs = subst (λ n. StandsAt n document r true held cs) first.0 room.stands in
+    let seeks : IsSeeking document r.check (keys_of r) r.due false None true held cs =
+    subst (λ b. IsSeeking document r.check (keys_of r) r.due b (if b then Some r.text.written.out.items else None) true held cs) first.1 stands.0 in
+    subst (λ n. IsInPart n document r held cs × TextStands document r.text true (map text_held (take n held)) (take n cs)) (sym first.0)
+    (record { seeks = seeks; open_yet = first.1; here = first.2; few = omega arith }, stands.1 first.1)
+
+-- one more container is written
+pub begun_in : {document : List ℕ} {r : PartRoom} {w : TextRoom} {held : List PartHeld} {cs : List Open} (g : PartHeld) (d : Open) (m : ℕ) → m ≡ r.inside + 1 → base_of w ≡ base_of r.text
+    → ((hs : List text.Held) → (ds : List Open) → TextStands document r.text true hs ds → TextStands document w false (text_held g ∷ hs) (d ∷ ds)) → PartStands document r true held cs → IsWritten r
+    → PartStands document (record { check = r.check; text = w; path = r.path; due = r.due; inside = m; found = r.found }) false (g ∷ held) (d ∷ cs)
+begun_in {document = document} {r = r} {w = w} {held = held} {cs = cs} g d m more same opens room written =
+    let n = r.inside in
+    let h = in_part room written in
+    let next : PartRoom = record { check = r.check; text = w; path = r.path; due = r.due; inside = m; found = r.found } in
+    let inner : IsInPart (suc n) document next (g ∷ held) (d ∷ cs) = record { seeks = h.0.seeks; open_yet = h.0.open_yet; here = h.0.here; few = omega (arith, h.0.few) } in
+    let is : suc n ≡ m = omega (arith, more) in
     record {
-      stands = stands;
-      fits = (
-        subst (λ (p : Place). Leads keys p.level cs) (sym place) fits.0,
-        (ap (λ (p : Place). p.start) place ∙ fits.1.0, (one_less (option_and_then first_index (path_behind keys cs)) f.ahead g.ahead ss s fits.1.1.0 ahead, fits.1.1.1)),
+      base = same ∙ room.base;
+      stands = subst (λ k. StandsAt k document next false (g ∷ held) (d ∷ cs)) is (inner, opens (map text_held (take n held)) (take n cs) h.1);
+    }
+
+-- the innermost of them goes on
+pub goes_on_in : {document : List ℕ} {r : PartRoom} {w : TextRoom} {held : List PartHeld} {cs : List Open} (h g : PartHeld) (c d : Open) (due next_due : Bool) → 0 < r.inside → base_of w ≡ base_of r.text
+    → ((hs : List text.Held) → (ds : List Open) → TextStands document r.text due (text_held h ∷ hs) (c ∷ ds) → TextStands document w next_due (text_held g ∷ hs) (d ∷ ds)) → PartStands document r due (h ∷ held) (c ∷ cs)
+    → PartStands document (record { check = r.check; text = w; path = r.path; due = r.due; inside = r.inside; found = r.found }) next_due (g ∷ held) (d ∷ cs)
+goes_on_in {document = document} {r = r} {w = w} {held = held} {cs = cs} h g c d due next_due some same step room = record { base = same ∙ room.base; stands = by_count r.inside some room.stands }
+  where
+    next : PartRoom
+    next = record { check = r.check; text = w; path = r.path; due = r.due; inside = r.inside; found = r.found }
+
+    by_count : (n : ℕ) → 0 < n → StandsAt n document r due (h ∷ held) (c ∷ cs) → StandsAt n document next next_due (g ∷ held) (d ∷ cs)
+    by_count zero some x = absurd (omega (arith, some))
+    by_count (suc n) some x = (record { seeks = x.0.seeks; open_yet = x.0.open_yet; here = x.0.here; few = x.0.few }, step (map text_held (take n held)) (take n cs) x.1)
+
+-- a value becomes a part of it
+pub put_in : {document : List ℕ} {r : PartRoom} {w : TextRoom} {s : Source} {held : List PartHeld} {cs : List Open} (h g : PartHeld) (c d : Open) → 0 < r.inside → base_of w ≡ base_of r.text
+    → ((hs : List text.Held) → (ds : List Open) → TextFilled document r.text s (text_held h ∷ hs) (c ∷ ds) → TextStands document w false (text_held g ∷ hs) (d ∷ ds)) → PartFilled document r s (h ∷ held) (c ∷ cs)
+    → PartStands document (record { check = r.check; text = w; path = r.path; due = r.due; inside = r.inside; found = r.found }) false (g ∷ held) (d ∷ cs)
+put_in {document = document} {r = r} {w = w} {s = s} {held = held} {cs = cs} h g c d some same step room = record { base = same ∙ room.base; stands = by_count r.inside some room.filled }
+  where
+    next : PartRoom
+    next = record { check = r.check; text = w; path = r.path; due = r.due; inside = r.inside; found = r.found }
+
+    by_count : (n : ℕ) → 0 < n → FilledAt n document r s (h ∷ held) (c ∷ cs) → StandsAt n document next false (g ∷ held) (d ∷ cs)
+    by_count zero some x = absurd (omega (arith, some))
+    by_count (suc n) some x = (record { seeks = x.0.seeks; open_yet = x.0.open_yet; here = x.0.here; few = x.0.few }, step (map text_held (take n held)) (take n cs) x.1)
+
+-- it ends
+pub ends_in : {document : List ℕ} {r : PartRoom} {w : TextRoom} {held : List PartHeld} {cs : List Open} (h : PartHeld) (c : Open) (s : Source) → 0 < r.inside → base_of w ≡ base_of r.text
+    → ((hs : List text.Held) → (ds : List Open) → TextStands document r.text false (text_held h ∷ hs) (c ∷ ds) → TextFilled document w s hs ds) → PartStands document r false (h ∷ held) (c ∷ cs)
+    → InnerEnds document (record { check = r.check; text = w; path = r.path; due = r.due; inside = r.inside; found = r.found }) s held cs
+ends_in {document = document} {r = r} {w = w} {held = held} {cs = cs} h c s some same step room = by_count r.inside refl some room.stands
+  where
+    next : PartRoom
+    next = record { check = r.check; text = w; path = r.path; due = r.due; inside = r.inside; found = r.found }
+
+    by_count : (n : ℕ) → r.inside ≡ n → 0 < n → StandsAt n document r false (h ∷ held) (c ∷ cs) → InnerEnds document next s held cs
+    by_count zero is some x = absurd (omega (arith, some))
+    by_count (suc n) is some x =
+        record {
+          base = same ∙ room.base;
+          outer = n;
+          count = is;
+          ends = (record { seeks = x.0.seeks; open_yet = x.0.open_yet; here = x.0.here; few = omega (arith, x.0.few) }, step (map text_held (take n held)) (take n cs) x.1);
+        }
+
+-- a value that holds no others is counted as open
+pub alone_in : {document : List ℕ} {r : PartRoom} {w : TextRoom} {s : Source} {held : List PartHeld} {cs : List Open} (m : ℕ) → m ≡ r.inside + 1 → base_of w ≡ base_of r.text
+    → ((hs : List text.Held) → (ds : List Open) → TextStands document r.text true hs ds → TextFilled document w s hs ds) → PartStands document r true held cs → IsWritten r
+    → InnerEnds document (record { check = r.check; text = w; path = r.path; due = r.due; inside = m; found = r.found }) s held cs
+alone_in {r = r} {w = w} {held = held} {cs = cs} m more same step room written =
+    let n = r.inside in
+    let h = in_part room written in
+    record { base = same ∙ room.base; outer = n; count = omega (arith, more); ends = (in_part_on n m w h.0, step (map text_held (take n held)) (take n cs) h.1) }
+
+-- the part ends
+pub part_ends : {document : List ℕ} {r : PartRoom} {w : TextRoom} {s : Source} {held : List PartHeld} {cs : List Open} → r.inside ≡ 1 → base_of w ≡ base_of r.text
+    → ((text : List ℕ) → (s : Source) → TextFilled text r.text s [] [] → w.written.out.items ≡ base_of r.text ++ source_text s) → InnerEnds document r s held cs
+    → PartFilled document (record { check = r.check; text = w; path = r.path; due = r.due; inside = 0; found = true }) s held cs
+part_ends {document = document} {r = r} {w = w} {s = s} {held = held} {cs = cs} one same finishes inner =
+    let keys = keys_of r in
+    let none : inner.outer ≡ 0 = omega (arith, one, inner.count) in
+    let ends : EndsAt 0 document r s held cs = subst (λ n. EndsAt n document r s held cs) none inner.ends in
+    let seeks : IsSeeking document r.check keys r.due false None true held cs = ends.0.seeks in
+    let text : w.written.out.items ≡ source_text s = finishes document s ends.1 ∙ ap (λ b. b ++ source_text s) inner.base in
+    record {
+      base = same ∙ inner.base;
+      filled = (
+        record {
+          stands = seeks.stands;
+          fits = fits_found keys held cs seeks.fits;
+          part_is = ap Some text ∙ found_part (part_of_ended keys cs) (path_behind keys cs) s (seeks.leads refl ∙ ends.0.here) seeks.part_is;
+        },
+        λ e. absurd (true≢false e),
       );
-      leads = λ e. absurd cc;
-      part = filled.part ∙ ap (option_map tree_text) (picked-more keys (elements_so_far ss) s cs);
     }
 
-pub member_put : {text : List ℕ} {r : PartRoom} {w : TextRoom} {held : List PartHeld} {cs : List Open} (f : PartMembers) (fs : List Found) (k next : Mark × List ℕ) (place other : ℕ) (s : Source) → base_of w ≡ base_of r.whole
-    → TextStands text w false (map text_held (object_held f ∷ held)) (members_so_far (fs ++ found_member k s place ∷ []) next other ∷ cs) → PartFilled text r s (object_held f ∷ held) (members_so_far fs k place ∷ cs)
-    → PartStands text (record { whole = w; path = r.path; due = r.due; part = r.part; found = r.found }) false (object_held f ∷ held) (members_so_far (fs ++ found_member k s place ∷ []) next other ∷ cs)
-member_put {r = r} {w = w} {held = held} {cs = cs} f fs k next place other s base stands filled =
+-- a container in it ends
+pub inner_ends : {document : List ℕ} {r : PartRoom} {s : Source} {held : List PartHeld} {cs : List Open} (m : ℕ) → (r.inside ≡ 1 → ⊥) → m ≡ r.inside - 1 → InnerEnds document r s held cs
+    → PartFilled document (record { check = r.check; text = r.text; path = r.path; due = r.due; inside = m; found = r.found }) s held cs
+inner_ends {document = document} {r = r} {s = s} {held = held} {cs = cs} m others less inner =
+    record { base = inner.base; filled = by_count inner.outer (omega (arith, less, inner.count)) (λ e. others (inner.count ∙ ap suc e)) inner.ends }
+  where
+    next : PartRoom
+    next = record { check = r.check; text = r.text; path = r.path; due = r.due; inside = m; found = r.found }
+
+    by_count : (n : ℕ) → n ≡ m → (n ≡ 0 → ⊥) → EndsAt n document r s held cs → FilledAt m document next s held cs
+    by_count zero is some x = absurd (some refl)
+    by_count (suc n) is some x = subst (λ k. FilledAt k document next s held cs) is (in_part_on (suc n) m r.text x.0, x.1)
+
+-- ---- around the part
+
+-- what stands where nothing is written
+around : {document : List ℕ} {r : PartRoom} {due : Bool} {held : List PartHeld} {cs : List Open} → r.inside ≡ 0 → PartStands document r due held cs → StandsAt 0 document r due held cs
+around {document = document} {r = r} {due = due} {held = held} {cs = cs} none room = subst (λ n. StandsAt n document r due held cs) none room.stands
+
+around_filled : {document : List ℕ} {r : PartRoom} {s : Source} {held : List PartHeld} {cs : List Open} → r.inside ≡ 0 → PartFilled document r s held cs → FilledAt 0 document r s held cs
+around_filled {document = document} {r = r} {s = s} {held = held} {cs = cs} none room = subst (λ n. FilledAt n document r s held cs) none room.filled
+
+outside : {document : List ℕ} (r : PartRoom) {held : List PartHeld} {cs : List Open} → IsAround r → StandsAt 0 document r true held cs → (level : Option ℕ) → level ≡ r.due → IsOutside (keys_of r) r.found level cs
+outside r away stands level is = record { leads = stands.0.leads refl ∙ ap (rest_at (keys_of r)) (sym is); other = λ e. away.1 (ap (rest_at (keys_of r)) (sym is) ∙ e) }
+
+pub array_begun : {document : List ℕ} {r : PartRoom} {held : List PartHeld} {cs : List Open} (f : PartItems) → IsAround r → f.level ≡ r.due → f.ahead ≡ option_and_then first_index (rest_at (keys_of r) r.due) → PartStands document r true held cs
+    → PartStands document r false (array_held f ∷ held) (elements_so_far [] ∷ cs)
+array_begun {document = document} {r = r} {held = held} {cs = cs} f away level ahead room =
     let keys = keys_of r in
+    let stands = around away.0 room in
+    let wanted : f.ahead ≡ option_and_then first_index (path_behind keys cs) = ahead ∙ ap (option_and_then first_index) (sym (stands.0.leads refl)) in
     record {
-      stands = stands;
-      fits = fits_on keys r.whole w (object_held f ∷ held) (members_so_far fs k place ∷ cs) base filled.fits;
-      leads = λ e. absurd cc;
-      part =
-          filled.part ∙ ap (option_map tree_text) (picked-more keys (members_so_far fs k place) s cs ∙ same_members (part_of_ended keys cs) (fs ++ found_member k s place ∷ []) (plain, []) next 0 other (path_behind keys cs));
+      base = room.base;
+      stands = subst (λ n. StandsAt n document r false (array_held f ∷ held) (elements_so_far [] ∷ cs)) (sym away.0) (
+        record {
+          stands = check_opened false [] stands.0.stands;
+          fits = (outside r away stands f.level level, (subst (λ a. IsAhead (option_and_then first_index (path_behind keys cs)) a 0) (sym wanted) (all_ahead (option_and_then first_index (path_behind keys cs))), stands.0.fits));
+          leads = λ e. absurd cc;
+          part_is = stands.0.part_is ∙ ap (option_map tree_text) (none_ended (part_of_ended keys cs) (path_behind keys cs));
+        },
+        stands.1,
+      );
     }
 
--- ---- what was told
+pub object_begun_around : {document : List ℕ} {r : PartRoom} {o : CheckRoom} {held : List PartHeld} {cs : List Open} (f : PartMembers) (k : Mark × List ℕ) (place : ℕ) → IsAround r → f.level ≡ r.due
+    → (CheckStands document r.check true (map check_held held) cs → CheckStands document o false (key.members f.first ∷ map check_held held) (members_so_far [] k place ∷ cs)) → PartStands document r true held cs
+    → PartStands document (record { check = o; text = r.text; path = r.path; due = r.due; inside = r.inside; found = r.found }) false (object_held f ∷ held) (members_so_far [] k place ∷ cs)
+object_begun_around {document = document} {r = r} {o = o} {held = held} {cs = cs} f k place away level opens room =
+    let keys = keys_of r in
+    let next : PartRoom = record { check = o; text = r.text; path = r.path; due = r.due; inside = r.inside; found = r.found } in
+    let stands = around away.0 room in
+    record {
+      base = room.base;
+      stands = subst (λ n. StandsAt n document next false (object_held f ∷ held) (members_so_far [] k place ∷ cs)) (sym away.0) (
+        record {
+          stands = opens stands.0.stands;
+          fits = (outside r away stands f.level level, stands.0.fits);
+          leads = λ e. absurd cc;
+          part_is = stands.0.part_is ∙ ap (option_map tree_text) (no_member (part_of_ended keys cs) (path_behind keys cs) k place);
+        },
+        stands.1,
+      );
+    }
 
-module _ (A C : Type 0) (B D : ℕ → Type 0) where
-  pub if_none : (told : Option ℕ) → is_none told ≡ true → MatchOption told A B → (A → C) → MatchOption told C D
-  if_none None e h f = f h
-  if_none (Some n) e h f = absurd cc
+-- an item is due
+pub item_due : {document : List ℕ} {r : PartRoom} {held : List PartHeld} {cs : List Open} (f : PartItems) (ss : List Source) (due : Option ℕ) → r.inside ≡ 0
+    → (Leads (keys_of r) f.level cs → IsAhead (option_and_then first_index (path_behind (keys_of r) cs)) f.ahead (length ss) → Leads (keys_of r) due (elements_so_far ss ∷ cs)) → PartStands document r false (array_held f ∷ held) (elements_so_far ss ∷ cs)
+    → PartStands document (record { check = r.check; text = r.text; path = r.path; due = due; inside = r.inside; found = r.found }) true (array_held f ∷ held) (elements_so_far ss ∷ cs)
+item_due {document = document} {r = r} {held = held} {cs = cs} f ss due none leads room =
+    let next : PartRoom = record { check = r.check; text = r.text; path = r.path; due = due; inside = r.inside; found = r.found } in
+    let stands = around none room in
+    record {
+      base = room.base;
+      stands = subst (λ n. StandsAt n document next true (array_held f ∷ held) (elements_so_far ss ∷ cs)) (sym none) (
+        record {
+          stands = check_opened true ss (check_closed false ss stands.0.stands);
+          fits = stands.0.fits;
+          leads = λ e. leads stands.0.fits.0.leads stands.0.fits.1.0;
+          part_is = stands.0.part_is;
+        },
+        stands.1,
+      );
+    }
 
-module _ (A C : Type 0) (B : ℕ → Type 0) where
-  pub if_some : (told : Option ℕ) → is_none told ≡ false → MatchOption told A B → MatchOption told C B
-  if_some None e h = absurd cc
-  if_some (Some n) e h = h
+-- a member's value is due
+pub member_due : {document : List ℕ} {r : PartRoom} {k : CheckRoom} {held : List PartHeld} {cs : List Open} (f : PartMembers) (fs : List Found) (before next : Mark × List ℕ) (place after : ℕ) (due : Option ℕ) → r.inside ≡ 0
+    → rest_at (keys_of r) due ≡ option_and_then (follow_key next.1) (rest_at (keys_of r) f.level)
+    → (CheckStands document r.check false (key.members f.first ∷ map check_held held) (members_so_far fs before place ∷ cs) → CheckStands document k true (key.members f.first ∷ map check_held held) (members_so_far fs next after ∷ cs))
+    → PartStands document r false (object_held f ∷ held) (members_so_far fs before place ∷ cs)
+    → PartStands document (record { check = k; text = r.text; path = r.path; due = due; inside = r.inside; found = r.found }) true (object_held f ∷ held) (members_so_far fs next after ∷ cs)
+member_due {document = document} {r = r} {k = k} {held = held} {cs = cs} f fs before next place after due none is begins room =
+    let keys = keys_of r in
+    let room_then : PartRoom = record { check = k; text = r.text; path = r.path; due = due; inside = r.inside; found = r.found } in
+    let stands = around none room in
+    record {
+      base = room.base;
+      stands = subst (λ n. StandsAt n document room_then true (object_held f ∷ held) (members_so_far fs next after ∷ cs)) (sym none) (
+        record {
+          stands = begins stands.0.stands;
+          fits = stands.0.fits;
+          leads = λ e. follow_members fs next after (path_behind keys cs) ∙ ap (option_and_then (follow_key next.1)) stands.0.fits.0.leads ∙ sym is;
+          part_is = stands.0.part_is ∙ ap (option_map tree_text) (same_members (part_of_ended keys cs) fs before next place after (path_behind keys cs));
+        },
+        stands.1,
+      );
+    }
+
+-- a value that holds no others, and isn't the part
+pub alone_around : {document : List ℕ} {r : PartRoom} {held : List PartHeld} {cs : List Open} (p : Part) (s : Source) → IsAround r → SeesPart p s → PartStands document r true held cs → PartFilled document r s held cs
+alone_around {document = document} {r = r} {held = held} {cs = cs} p s away sees room =
+    let keys = keys_of r in
+    let stands = around away.0 room in
+    record {
+      base = room.base;
+      filled = subst (λ n. FilledAt n document r s held cs) (sym away.0) (
+        record {
+          stands = stands.0.stands;
+          fits = stands.0.fits;
+          part_is = ends_outside keys r.found r.text.written.out.items r.due s cs (outside r away stands r.due refl) (stands.0.part_is ∙ ap (option_map tree_text) (picked-alone keys s cs (alone p s sees)));
+        },
+        stands.1,
+      );
+    }
+
+pub array_ended : {document : List ℕ} {r : PartRoom} {held : List PartHeld} {cs : List Open} (f : PartItems) (ss : List Source) → r.inside ≡ 0 → PartStands document r false (array_held f ∷ held) (elements_so_far ss ∷ cs) → PartFilled document r (array_source_of ss) held cs
+array_ended {document = document} {r = r} {held = held} {cs = cs} f ss none room =
+    let keys = keys_of r in
+    let stands = around none room in
+    record {
+      base = room.base;
+      filled = subst (λ n. FilledAt n document r (array_source_of ss) held cs) (sym none) (
+        record {
+          stands = check_closed false ss stands.0.stands;
+          fits = stands.0.fits.1.1;
+          part_is = ends_outside keys r.found r.text.written.out.items f.level (array_source_of ss) cs stands.0.fits.0 (stands.0.part_is ∙ ap (option_map tree_text) (picked-ended keys (elements_so_far ss) (array_source_of ss) cs (array-ended ss)));
+        },
+        stands.1,
+      );
+    }
+
+pub object_ended : {document : List ℕ} {r : PartRoom} {k : CheckRoom} {held : List PartHeld} {cs : List Open} (f : PartMembers) (fs : List Found) (last : Mark × List ℕ) (place : ℕ) → r.inside ≡ 0 → CheckStands document k true (map check_held held) cs → first_repeat (map spot_of fs) ≡ None
+    → PartStands document r false (object_held f ∷ held) (members_so_far fs last place ∷ cs)
+    → PartFilled document (record { check = k; text = r.text; path = r.path; due = r.due; inside = r.inside; found = r.found }) (object_source_of fs) held cs
+object_ended {document = document} {r = r} {k = k} {held = held} {cs = cs} f fs last place none ended new room =
+    let keys = keys_of r in
+    let next : PartRoom = record { check = k; text = r.text; path = r.path; due = r.due; inside = r.inside; found = r.found } in
+    let stands = around none room in
+    record {
+      base = room.base;
+      filled = subst (λ n. FilledAt n document next (object_source_of fs) held cs) (sym none) (
+        record {
+          stands = ended;
+          fits = stands.0.fits.1;
+          part_is = ends_outside keys r.found r.text.written.out.items f.level (object_source_of fs) cs stands.0.fits.0 (stands.0.part_is ∙ ap (option_map tree_text) (picked-ended keys (members_so_far fs last place) (object_source_of fs) cs (λ rest. object-ended fs last place rest new)));
+        },
+        stands.1,
+      );
+    }
+
+pub item_put : {document : List ℕ} {r : PartRoom} {held : List PartHeld} {cs : List Open} (f g : PartItems) (ss : List Source) (s : Source) → r.inside ≡ 0 → g.level ≡ f.level → g.ahead ≡ less f.ahead → PartFilled document r s (array_held f ∷ held) (elements_so_far ss ∷ cs)
+    → PartStands document r false (array_held g ∷ held) (elements_so_far (ss ++ s ∷ []) ∷ cs)
+item_put {document = document} {r = r} {held = held} {cs = cs} f g ss s none level ahead filled =
+    let keys = keys_of r in
+    let h = around_filled none filled in
+    record {
+      base = filled.base;
+      stands = subst (λ n. StandsAt n document r false (array_held g ∷ held) (elements_so_far (ss ++ s ∷ []) ∷ cs)) (sym none) (
+        record {
+          stands = check_opened false (ss ++ s ∷ []) (check_closed true ss h.0.stands);
+          fits = (subst (λ l. IsOutside keys r.found l cs) (sym level) h.0.fits.0, (one_less (option_and_then first_index (path_behind keys cs)) f.ahead g.ahead ss s h.0.fits.1.0 ahead, h.0.fits.1.1));
+          leads = λ e. absurd cc;
+          part_is = h.0.part_is ∙ ap (option_map tree_text) (picked-more keys (elements_so_far ss) s cs);
+        },
+        h.1,
+      );
+    }
+
+pub member_put : {document : List ℕ} {r : PartRoom} {held : List PartHeld} {cs : List Open} (f : PartMembers) (fs : List Found) (k next : Mark × List ℕ) (place other : ℕ) (s : Source) → r.inside ≡ 0 → PartFilled document r s (object_held f ∷ held) (members_so_far fs k place ∷ cs)
+    → PartStands document r false (object_held f ∷ held) (members_so_far (fs ++ found_member k s place ∷ []) next other ∷ cs)
+member_put {document = document} {r = r} {held = held} {cs = cs} f fs k next place other s none filled =
+    let keys = keys_of r in
+    let h = around_filled none filled in
+    record {
+      base = filled.base;
+      stands = subst (λ n. StandsAt n document r false (object_held f ∷ held) (members_so_far (fs ++ found_member k s place ∷ []) next other ∷ cs)) (sym none) (
+        record {
+          stands = value_ended s next other h.0.stands;
+          fits = h.0.fits;
+          leads = λ e. absurd cc;
+          part_is = h.0.part_is ∙ ap (option_map tree_text) (picked-more keys (members_so_far fs k place) s cs ∙ same_members (part_of_ended keys cs) (fs ++ found_member k s place ∷ []) (plain, []) next 0 other (path_behind keys cs));
+        },
+        h.1,
+      );
+    }
+
+-- ---- what was told of the keys of an object
+
+pub if_ok : {T E : Type 0} {P Q : T → Type 0} (r : Result T E) → IfOk r P → ((x : T) → P x → Q x) → IfOk r Q
+if_ok (Ok x) p f = f x p
+if_ok (Err e) p f = tt
+
+-- around the part
+pub told_around : {document : List ℕ} {r : PartRoom} (k : CheckRoom) {held : List PartHeld} {cs : List Open} (told : Option ℕ) (f : PartMembers) (fs : List Found) (last : Mark × List ℕ) (place : ℕ) → r.inside ≡ 0
+    → (CheckStands document r.check false (key.members f.first ∷ map check_held held) (members_so_far fs last place ∷ cs) → MatchOption told (check.EndsObject document k fs (map check_held held) cs) (TellsRepeatOf k.members f.first fs))
+    → PartStands document r false (object_held f ∷ held) (members_so_far fs last place ∷ cs)
+    → MatchOption told (EndsObject document (record { check = k; text = r.text; path = r.path; due = r.due; inside = r.inside; found = r.found }) fs held cs)
+    (λ i. TellsRepeatOf (if nat_lt 0 r.inside then r.text.members else k.members) f.first fs i)
+told_around {document = document} {r = r} k {held = held} {cs = cs} told f fs last place none tells room = by_told told (tells (around none room).0.stands)
+  where
+    by_told : (o : Option ℕ) → MatchOption o (check.EndsObject document k fs (map check_held held) cs) (TellsRepeatOf k.members f.first fs)
+        → MatchOption o (EndsObject document (record { check = k; text = r.text; path = r.path; due = r.due; inside = r.inside; found = r.found }) fs held cs) (λ i. TellsRepeatOf (if nat_lt 0 r.inside then r.text.members else k.members) f.first fs i)
+    by_told None ends = record { filled = object_ended f fs last place none ends.filled ends.new_keys room; new_keys = ends.new_keys }
+    by_told (Some i) told = subst (λ n. TellsRepeatOf (if nat_lt 0 n then r.text.members else k.members) f.first fs i) (sym none) told
+
+-- in it, where none comes twice
+pub new_in : {document : List ℕ} {r : PartRoom} {w : TextRoom} {held : List PartHeld} {cs : List Open} (told : Option ℕ) (f : PartMembers) (fs : List Found) (last : Mark × List ℕ) (place : ℕ) → 0 < r.inside → is_none told ≡ true
+    → ((hs : List text.Held) → (ds : List Open) → TextStands document r.text false (text.members f.first ∷ hs) (members_so_far fs last place ∷ ds) → MatchOption told (text.EndsObject document w fs hs ds) (TellsRepeatOf w.members f.first fs))
+    → PartStands document r false (object_held f ∷ held) (members_so_far fs last place ∷ cs) → ((hs : List text.Held) → (ds : List Open) → TextStands document r.text false (text.members f.first ∷ hs) (members_so_far fs last place ∷ ds) → TextFilled document w (object_source_of fs) hs ds)
+    × (first_repeat (map spot_of fs) ≡ None)
+new_in {document = document} {r = r} {w = w} {held = held} {cs = cs} told f fs last place some none tells room =
+    (λ hs ds stands_so. (by_told told none (tells hs ds stands_so)).filled, by_count r.inside some room.stands)
+  where
+    by_told : {hs : List text.Held} {ds : List Open} (o : Option ℕ) → is_none o ≡ true → MatchOption o (text.EndsObject document w fs hs ds) (TellsRepeatOf w.members f.first fs) → text.EndsObject document w fs hs ds
+    by_told None e ends = ends
+    by_told (Some i) e ends = absurd cc
+
+    by_count : (n : ℕ) → 0 < n → StandsAt n document r false (object_held f ∷ held) (members_so_far fs last place ∷ cs) → first_repeat (map spot_of fs) ≡ None
+    by_count zero some x = absurd (omega (arith, some))
+    by_count (suc n) some x = (by_told told none (tells (map text_held (take n held)) (take n cs) x.1)).new_keys
+
+pub ended_in : {document : List ℕ} {next : PartRoom} (fs : List Found) {held : List PartHeld} {cs : List Open} (told : Option ℕ) (B : ℕ → Type 0) → is_none told ≡ true → PartFilled document next (object_source_of fs) held cs → first_repeat (map spot_of fs) ≡ None
+    → MatchOption told (EndsObject document next fs held cs) B
+ended_in fs None B e filled new = record { filled = filled; new_keys = new }
+ended_in fs (Some i) B e filled new = absurd cc
+
+-- in it, where one does
+pub told_in : {document : List ℕ} {r : PartRoom} (w : TextRoom) {held : List PartHeld} {cs : List Open} (A : Type 0) (told : Option ℕ) (f : PartMembers) (fs : List Found) (last : Mark × List ℕ) (place : ℕ) → 0 < r.inside → is_none told ≡ false
+    → ((hs : List text.Held) → (ds : List Open) → TextStands document r.text false (text.members f.first ∷ hs) (members_so_far fs last place ∷ ds) → MatchOption told (text.EndsObject document w fs hs ds) (TellsRepeatOf w.members f.first fs))
+    → PartStands document r false (object_held f ∷ held) (members_so_far fs last place ∷ cs) → MatchOption told A (λ i. TellsRepeatOf (if nat_lt 0 r.inside then w.members else r.check.members) f.first fs i)
+told_in {document = document} {r = r} w {held = held} {cs = cs} A told f fs last place some other tells room = by_count r.inside some room.stands
+  where
+    by_told : (B C : Type 0) (D : ℕ → Type 0) (o : Option ℕ) → is_none o ≡ false → MatchOption o B D → MatchOption o C D
+    by_told B C D None e h = absurd cc
+    by_told B C D (Some i) e h = h
+
+    by_count : (n : ℕ) → 0 < n → StandsAt n document r false (object_held f ∷ held) (members_so_far fs last place ∷ cs) → MatchOption told A (λ i. TellsRepeatOf (if nat_lt 0 n then w.members else r.check.members) f.first fs i)
+    by_count zero some x = absurd (omega (arith, some))
+    by_count (suc n) some x = let tested : nat_lt 0 (suc n) ≡ true = grind (arith, nat_tests) in rw tested (by_told _ A _ told other (tells (map text_held (take n held)) (take n cs) x.1))
+
+-- ---- a whole text
+
+-- the text of the part is that of the whole value's part at the path
+pub filled_root : {document : List ℕ} {r : PartRoom} {s : Source} → PartFilled document r s [] [] → part_of r ≡ option_map tree_text (part_at (keys_of r) (tree_of_source s))
+filled_root {document = document} {r = r} {s = s} filled = by_count r.inside filled.filled
+  where
+    by_count : (n : ℕ) → FilledAt n document r s [] [] → part_of r ≡ option_map tree_text (part_at (keys_of r) (tree_of_source s))
+    by_count zero x = x.0.part_is
+    by_count (suc n) x = absurd (none n x.0.few)
+      where
+        none : (n : ℕ) → suc n ≤ 0 → ⊥
+        none n few = omega (arith, few)

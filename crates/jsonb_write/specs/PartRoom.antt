@@ -1,19 +1,21 @@
--- What stands in the room from which the text of a part is copied, while arrays and objects are open.
-use Rattle.std.specs.Prelude.{◌≡◌, ℕ, zero, suc, ◌+◌, ◌<◌, Bool, true, false, ◌==◌, if◌then◌else◌, List, [], ◌∷◌, length, map, drop, string_bytes, Option, Some, None, MatchOption}
+-- What stands in the room that the text of a part is written to, while arrays and objects are open.
+use Rattle.std.specs.Prelude.{◌≡◌, ◌⊎◌, ℕ, zero, suc, ◌+◌, ◌<◌, ◌≤◌, Bool, true, false, ◌==◌, if◌then◌else◌, nat_lt, List, [], ◌∷◌, length, map, drop, take, string_bytes, Option, Some, None, MatchOption}
 use Rattle.std.specs.Option.{option_and_then, option_map, option_map_or, option_or}
 use Rattle.std.specs.Str.{bytes_eq}
 use Rattle.jsonb_spec.specs.Text.{tree_text}
 use Rattle.jsonb_spec.specs.Tree.{Tree}
 use Rattle.jsonb_scan.specs.Open.{Open, elements_so_far, members_so_far}
 use Rattle.jsonb_spec.specs.Source.{Found, Source, first_repeat, object_source_of, spot_of, tree_of_source}
-use Rattle.jsonb_write.specs.OpenText.{open_text}
 use Rattle.jsonb_spec.specs.PartAt.{index_named, part_at}
+use Rattle.jsonb_write.specs.CheckRoom.{CheckStands}
+use Rattle.jsonb_write.specs.KeyRoom as key
 use Rattle.jsonb_write.specs.TextRoom as text
 use Rattle.jsonb_write.specs.TextRoom.{TextFilled, TextStands, base_of}
+use Rattle.jsonb_write.specs.declared.check.CheckRoom.{CheckRoom}
+use Rattle.jsonb_write.specs.declared.open_members.OpenMembers.{OpenMembers}
 use Rattle.jsonb_write.specs.declared.part.PartItems.{PartItems}
 use Rattle.jsonb_write.specs.declared.part.PartMembers.{PartMembers}
 use Rattle.jsonb_write.specs.declared.part.PartRoom.{PartRoom}
-use Rattle.jsonb_write.specs.declared.part.Place.{Place}
 
 -- ---- the path and what is open
 
@@ -117,20 +119,48 @@ pub data PartHeld : Type 0 where
   array_held : PartItems → PartHeld
   object_held : PartMembers → PartHeld
 
--- what is kept of it for the text of the whole
+-- what is kept of it where it is written
 abbrev pub text_held : PartHeld → text.Held
 text_held (array_held f) = text.items f.is_first
 text_held (object_held f) = text.members f.first
 
--- What is kept fits the containers, behind so many bytes.
-abbrev pub HeldFits : List (List ℕ) → ℕ → List PartHeld → List Open → Type 0
-HeldFits keys base [] [] = Unit {0}
-HeldFits keys base (array_held f ∷ held) (elements_so_far ss ∷ cs) =
-    Leads keys f.place.level cs × ((f.place.start ≡ base + length (open_text true cs))
-    × (IsAhead (option_and_then first_index (path_behind keys cs)) f.ahead (length ss) × HeldFits keys base held cs))
-HeldFits keys base (object_held f ∷ held) (members_so_far fs key place ∷ cs) =
-    Leads keys f.place.level cs × ((f.place.start ≡ base + length (open_text true cs)) × HeldFits keys base held cs)
-HeldFits keys base held cs = ⊥
+-- what is kept of it where it is only checked
+abbrev pub check_held : PartHeld → key.Held
+check_held (array_held f) = key.items
+check_held (object_held f) = key.members f.first
+
+-- So many keys of the path lead to the container. It isn't the part, unless the part was found before.
+pub record IsOutside (keys : List (List ℕ)) (found : Bool) (level : Option ℕ) (cs : List Open) : Type 0 where
+  pub leads : Leads keys level cs
+  pub other : rest_at keys level ≡ Some [] → found ≡ true
+
+-- What is kept fits the containers.
+abbrev pub HeldFits : List (List ℕ) → Bool → List PartHeld → List Open → Type 0
+HeldFits keys found [] [] = Unit {0}
+HeldFits keys found (array_held f ∷ held) (elements_so_far ss ∷ cs) =
+    IsOutside keys found f.level cs
+    × (IsAhead (option_and_then first_index (path_behind keys cs)) f.ahead (length ss) × HeldFits keys found held cs)
+HeldFits keys found (object_held f ∷ held) (members_so_far fs key place ∷ cs) =
+    IsOutside keys found f.level cs × HeldFits keys found held cs
+HeldFits keys found held cs = ⊥
+
+-- ---- around the part
+
+-- The keys of what is open are kept, and this is the text of the part, if it ended. So many keys of the path lead to
+-- the value that is due.
+pub record IsSeeking (document : List ℕ) (check : CheckRoom) (keys : List (List ℕ)) (level : Option ℕ) (found : Bool)
+    (part : Option (List ℕ)) (due : Bool) (held : List PartHeld) (cs : List Open) : Type 0 where
+  pub stands : CheckStands document check due (map check_held held) cs
+  pub fits : HeldFits keys found held cs
+  pub leads : due ≡ true → Leads keys level cs
+  pub part_is : part ≡ option_map tree_text (part_of_ended keys cs)
+
+-- A value ended where one was due, and this is the text of the part, if it ended.
+pub record IsSought (document : List ℕ) (check : CheckRoom) (keys : List (List ℕ)) (found : Bool)
+    (part : Option (List ℕ)) (s : Source) (held : List PartHeld) (cs : List Open) : Type 0 where
+  pub stands : CheckStands document check true (map check_held held) cs
+  pub fits : HeldFits keys found held cs
+  pub part_is : part ≡ option_map tree_text (part_with_value keys s cs)
 
 -- ---- the room
 
@@ -140,33 +170,71 @@ keys_of room = map string_bytes room.path.now
 
 -- the text of the part, if it ended
 abbrev pub part_of : PartRoom → Option (List ℕ)
-part_of room = if room.found then Some room.part.items else None
+part_of room = if room.found then Some room.text.written.out.items else None
 
--- What is open is written, and the part, if it ended, was copied.
+-- the members among which those of the innermost object are
+abbrev pub members_of : PartRoom → OpenMembers
+members_of room = if nat_lt 0 room.inside then room.text.members else room.check.members
+
+-- The value that is due is written: it is the part, or stands in it.
+abbrev pub IsWritten : PartRoom → Type 0
+IsWritten room = (0 < room.inside)
+    ⊎ ((room.inside ≡ 0) × (room.found ≡ false) × (rest_at (keys_of room) room.due ≡ Some []))
+
+-- The value that is due isn't written. If it is at the path, the part was found before.
+abbrev pub IsAround : PartRoom → Type 0
+IsAround room = (room.inside ≡ 0) × (rest_at (keys_of room) room.due ≡ Some [] → room.found ≡ true)
+
+-- So many of the innermost containers are written, around which the part is due.
+pub record IsInPart (n : ℕ) (document : List ℕ) (room : PartRoom) (held : List PartHeld) (cs : List Open)
+    : Type 0 where
+  pub seeks : IsSeeking document room.check (keys_of room) room.due false None true (drop n held) (drop n cs)
+  pub open_yet : room.found ≡ false
+  pub here : rest_at (keys_of room) room.due ≡ Some []
+  pub few : n ≤ length held
+
+-- with so many containers written
+abbrev pub StandsAt : ℕ → List ℕ → PartRoom → Bool → List PartHeld → List Open → Type 0
+StandsAt zero document room due held cs =
+    IsSeeking document room.check (keys_of room) room.due room.found (part_of room) due held cs
+    × (room.found ≡ false → TextStands document room.text true [] [])
+StandsAt (suc n) document room due held cs =
+    IsInPart (suc n) document room held cs
+    × TextStands document room.text due (map text_held (take (suc n) held)) (take (suc n) cs)
+
+-- The part is written so far, and of what is open around it the keys are kept.
 pub record PartStands (document : List ℕ) (room : PartRoom) (due : Bool) (held : List PartHeld) (cs : List Open)
     : Type 0 where
-  pub stands : TextStands document room.whole due (map text_held held) cs
-  pub fits : HeldFits (keys_of room) (length (base_of room.whole)) held cs
-  pub leads : due ≡ true → Leads (keys_of room) room.due cs
-  pub part : part_of room ≡ option_map tree_text (part_of_ended (keys_of room) cs)
+  pub base : base_of room.text ≡ []
+  pub stands : StandsAt room.inside document room due held cs
 
--- A value is written where one was due, and the part, if it ended, was copied.
+-- A value ended with so many containers written around it, the part among them or the value itself.
+abbrev pub EndsAt : ℕ → List ℕ → PartRoom → Source → List PartHeld → List Open → Type 0
+EndsAt n document room s held cs =
+    IsInPart n document room held cs × TextFilled document room.text s (map text_held (take n held)) (take n cs)
+
+-- with so many containers written
+abbrev pub FilledAt : ℕ → List ℕ → PartRoom → Source → List PartHeld → List Open → Type 0
+FilledAt zero document room s held cs =
+    IsSought document room.check (keys_of room) room.found (part_of room) s held cs
+    × (room.found ≡ false → TextStands document room.text true [] [])
+FilledAt (suc n) document room s held cs = EndsAt (suc n) document room s held cs
+
+-- A value ended where one was due, and the part is written so far.
 pub record PartFilled (document : List ℕ) (room : PartRoom) (s : Source) (held : List PartHeld) (cs : List Open)
     : Type 0 where
-  pub filled : TextFilled document room.whole s (map text_held held) cs
-  pub fits : HeldFits (keys_of room) (length (base_of room.whole)) held cs
-  pub part : part_of room ≡ option_map tree_text (part_with_value (keys_of room) s cs)
+  pub base : base_of room.text ≡ []
+  pub filled : FilledAt room.inside document room s held cs
 
--- A value is written that began there, where one was due. The part was copied, if it ended before or inside.
-pub record PartEnds (document : List ℕ) (room : PartRoom) (place : Place) (s : Source) (held : List PartHeld)
-    (cs : List Open) : Type 0 where
-  pub filled : TextFilled document room.whole s (map text_held held) cs
-  pub fits : HeldFits (keys_of room) (length (base_of room.whole)) held cs
-  pub leads : Leads (keys_of room) place.level cs
-  pub starts : place.start ≡ length (base_of room.whole) + length (open_text true cs)
-  pub part : part_of room ≡ option_map tree_text (part_with_inside (keys_of room) s cs)
+-- A value that is written ended, and is still counted as open.
+pub record InnerEnds (document : List ℕ) (room : PartRoom) (s : Source) (held : List PartHeld) (cs : List Open)
+    : Type 0 where
+  pub base : base_of room.text ≡ []
+  pub outer : ℕ
+  pub count : room.inside ≡ suc outer
+  pub ends : EndsAt outer document room s held cs
 
--- No key comes twice, and the object is written.
+-- No key comes twice, and the object ended.
 pub record EndsObject (document : List ℕ) (room : PartRoom) (fs : List Found) (held : List PartHeld) (cs : List Open)
     : Type 0 where
   pub filled : PartFilled document room (object_source_of fs) held cs

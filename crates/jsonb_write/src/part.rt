@@ -1,47 +1,45 @@
-//! The text of one part of a document, which is copied out of the document's text while that is written.
-ghost use Rattle.std.specs.Prelude.{◌≡◌, ◌+◌, ◌-◌, ◌<◌, ◌^◌, ◌∷◌, ◌++◌, [], ℕ, List, Some, true, false, length, map, slice_range, string_bytes, IfNone, IfOk, IfSome, IsTrue, MatchBool, MatchOption, OnOk};
+//! The text of one part of a document. The part is written, and all around it is only checked.
+ghost use Rattle.std.specs.Prelude.{◌≡◌, ◌+◌, ◌-◌, ◌<◌, ◌∷◌, ◌++◌, [], ℕ, List, Some, true, false, length, map, slice_range, string_bytes, IfOk, MatchBool, MatchOption, OnOk};
 ghost use Rattle.std.specs.Cow.{cow_str_bytes};
-ghost use Rattle.std.specs.Option.{is_some, option_and_then, option_map};
-ghost use Rattle.std.specs.Str.{IsUtf8};
+ghost use Rattle.std.specs.Option.{option_and_then, option_map};
 ghost use Rattle.jsonb_write.specs.PartRoom.{less};
 
+use crate::check::CheckRoom;
+use crate::open_members::OpenMembers;
 use crate::text::{Part, TextRoom};
 use jsonb_path::index_of;
 use std::alloc::{AllocError, Global};
 use std::borrow::CowStr;
 
-/// What is known of a container where it begins: how many keys of the path lead to it, if it is on the path, and how
-/// many bytes are written before it.
-#[derive(Clone, Copy)]
-pub struct Place {
-    pub level: Option<usize>,
-    pub start: usize,
-}
-
-/// What is kept of an array: whether it has no items yet, and how many of its items come before the one on the path,
-/// if that is still to come.
+/// What is kept of an array: whether it has no items yet, how many of its items come before the one on the path, if
+/// that is still to come, and how many keys of the path lead to the array, if it is on the path. Of an array that is
+/// written only the first counts.
 #[derive(Clone, Copy)]
 pub struct PartItems {
     pub is_first: bool,
     pub ahead: Option<usize>,
-    pub place: Place,
+    pub level: Option<usize>,
 }
 
-/// What is kept of an object: the index of its first member.
+/// What is kept of an object: the index of its first member, among those that are written or among those around the
+/// part, and how many keys of the path lead to the object, if it is on the path.
 #[derive(Clone, Copy)]
 pub struct PartMembers {
     pub first: usize,
-    pub place: Place,
+    pub level: Option<usize>,
 }
 
-/// What is written of a document, and the text of the part at a path, once the part ended.
+/// The keys of the objects that are open around the part at a path, and the text of the part.
 #[derive(Drop)]
 pub struct PartRoom<'a> {
-    pub whole: TextRoom<'a>,
+    pub check: CheckRoom<'a>,
+    pub text: TextRoom<'a>,
     pub path: &'a [String],
-    /// How many keys of the path lead to the value that is due, if it is on the path.
+    /// How many keys of the path lead to the value that is due, if it is on the path. In the part this stays as it is.
     pub due: Option<usize>,
-    pub part: Vec<u8>,
+    /// How many of the containers that are open are written: the part, and what is open in it.
+    pub inside: usize,
+    /// Whether the part ended.
     pub found: bool,
 }
 
@@ -50,39 +48,27 @@ impl<'a> PartRoom<'a> {
     ghost use Rattle.jsonb_scan.specs.Open.Open.{elements_so_far, members_so_far};
     ghost use Rattle.jsonb_spec.specs.Source.{Found, Source, array_source_of, found_member};
     ghost use Rattle.jsonb_spec.specs.Text.{in_quotes};
+    ghost use Rattle.jsonb_spec.specs.Text.StringText.{ArePlain};
     ghost use Rattle.jsonb_spec.specs.Tree.{Mark};
     ghost use Rattle.jsonb_spec.specs.Tree.Mark.{plain};
     ghost use Rattle.jsonb_value.specs.View.{mark_view};
-    ghost use Rattle.jsonb_write.specs.PartRoom.{EndsObject, IsAhead, Leads, PartEnds, PartFilled, PartHeld, PartStands, first_index, first_key, follow_key, keys_of, path_behind, other_keys, part_of, rest_at};
-    ghost use Rattle.jsonb_write.specs.PartRoom.PartHeld.{array_held, object_held};
     ghost use Rattle.jsonb_write.specs.OpenMembers.{TellsRepeatOf};
-    ghost use Rattle.jsonb_spec.specs.Text.StringText.{ArePlain};
-    ghost use Rattle.jsonb_write.specs.TextRoom.{IsSpelled, SeesPart, base_of};
-    ghost use Rattle.jsonb_write.specs.Written.{bytes_of};
+    ghost use Rattle.jsonb_write.specs.PartRoom.{EndsObject, InnerEnds, IsAhead, IsAround, IsWritten, Leads, PartFilled, PartHeld, PartStands, first_index, first_key, follow_key, keys_of, members_of, path_behind, other_keys, part_of, rest_at};
+    ghost use Rattle.jsonb_write.specs.PartRoom.PartHeld.{array_held, object_held};
+    ghost use Rattle.jsonb_write.specs.TextRoom.{IsSpelled, SeesPart};
 
-    /// No part yet, of a document of which nothing is written.
+    /// No part yet, of a document of which nothing was parsed.
     pub fn new(alloc: Global, text: &'a [u8], path: &'a [String]) -> PartRoom<'a>
         ensures stands { PartStands text.entry.now result true [] [] }
         ensures keys { keys_of result ≡ map string_bytes path.entry.now }
     {
         PartRoom {
-            whole: TextRoom::new(alloc, text, Vec::new(alloc)),
+            check: CheckRoom::new(alloc, text),
+            text: TextRoom::new(alloc, text, Vec::new(alloc)),
             path,
             due: Some(0),
-            part: Vec::new(alloc),
+            inside: 0,
             found: false,
-        }
-    }
-
-    // The place of a value that is due.
-    #[inline(always)]
-    fn place(&self) -> Place
-        ensures level { result.level ≡ self.now.due }
-        ensures start { result.start ≡ length (bytes_of self.now.whole.written) }
-    {
-        Place {
-            level: self.due,
-            start: self.whole.written.len(),
         }
     }
 
@@ -139,17 +125,54 @@ impl<'a> PartRoom<'a> {
         }
     }
 
-    // A value ended, which is copied where it is the part.
+    // Whether the value that is due is written: it is the part, or stands in it.
     #[inline(always)]
-    fn end_value(&mut self, place: Place) -> Result<(), AllocError>
+    fn is_written(&self) -> bool
+        ensures { MatchBool result (IsWritten self.now) (IsAround self.now) }
+    {
+        if self.inside > 0 {
+            return true;
+        }
+        if self.found {
+            return false;
+        }
+        self.is_part(self.due)
+    }
+
+    // How many of the containers that are open are written, and one more.
+    #[inline(always)]
+    fn one_more(&self) -> Result<usize, AllocError>
+        ensures { IfOk result (λ inside. inside ≡ self.now.inside + 1) }
+    {
+        match self.inside.checked_add(1) {
+            Some(inside) => Ok(inside),
+            None => Err(AllocError),
+        }
+    }
+
+    // The part is written.
+    fn finish(&mut self) -> Result<(), AllocError>
         ensures stands { OnOk result ((text : List ℕ) → (s : Source) → (held : List PartHeld) → (cs : List Open)
-            → PartEnds text self.old place s held cs → PartFilled text self.new s held cs) }
+            → InnerEnds text self.old s held cs → self.old.inside ≡ 1 → PartFilled text self.new s held cs) }
         ensures keys { keys_of self.new ≡ keys_of self.old }
     {
-        if !self.found && self.is_part(place.level) {
-            self.whole.copy_from(place.start, &mut self.part)?;
-            self.found = true;
+        self.text.finish()?;
+        self.inside = 0;
+        self.found = true;
+        Ok(())
+    }
+
+    // A container that is written ended.
+    fn end_inner(&mut self) -> Result<(), AllocError>
+        requires { 0 < self.old.inside }
+        ensures stands { OnOk result ((text : List ℕ) → (s : Source) → (held : List PartHeld) → (cs : List Open)
+            → InnerEnds text self.old s held cs → PartFilled text self.new s held cs) }
+        ensures keys { keys_of self.new ≡ keys_of self.old }
+    {
+        if self.inside == 1 {
+            return self.finish();
         }
+        self.inside -= 1;
         Ok(())
     }
 
@@ -160,23 +183,30 @@ impl<'a> PartRoom<'a> {
             → PartStands text self.new false (array_held i ∷ held) (elements_so_far [] ∷ cs)) }
         ensures keys { keys_of self.new ≡ keys_of self.old }
     {
-        let place = self.place();
-        let is_first = self.whole.begin_array(at)?;
+        if !self.is_written() {
+            return Ok(PartItems {
+                is_first: true,
+                ahead: self.index_ahead(self.due),
+                level: self.due,
+            });
+        }
+        let is_first = self.text.begin_array(at)?;
+        self.inside = self.one_more()?;
         Ok(PartItems {
             is_first,
-            ahead: self.index_ahead(place.level),
-            place,
+            ahead: None,
+            level: None,
         })
     }
 
     // How many keys of the path lead to the next item.
     fn item_level(&self, items: &PartItems) -> Option<usize>
-        ensures { (ss : List Source) → (cs : List Open) → Leads (keys_of self.now) items.now.place.level cs
+        ensures { (ss : List Source) → (cs : List Open) → Leads (keys_of self.now) items.now.level cs
             → IsAhead (option_and_then first_index (path_behind (keys_of self.now) cs)) items.now.ahead (length ss)
             → Leads (keys_of self.now) result (elements_so_far ss ∷ cs) }
     {
         match items.ahead {
-            Some(0) => self.deeper(items.place.level),
+            Some(0) => self.deeper(items.level),
             _ => None,
         }
     }
@@ -186,11 +216,13 @@ impl<'a> PartRoom<'a> {
         ensures stands { OnOk result ((text : List ℕ) → (held : List PartHeld) → (ss : List Source)
             → (cs : List Open) → PartStands text self.old false (array_held items.old ∷ held) (elements_so_far ss ∷ cs)
             → PartStands text self.new true (array_held items.new ∷ held) (elements_so_far ss ∷ cs)) }
-        ensures ahead { items.new.ahead ≡ items.old.ahead }
         ensures keys { keys_of self.new ≡ keys_of self.old }
     {
+        if self.inside > 0 {
+            return self.text.next_item(&mut items.is_first);
+        }
         self.due = self.item_level(items);
-        self.whole.next_item(&mut items.is_first)
+        Ok(())
     }
 
     // A value that holds no others, where one is due.
@@ -200,20 +232,26 @@ impl<'a> PartRoom<'a> {
             → PartFilled text self.new s held cs) }
         ensures keys { keys_of self.new ≡ keys_of self.old }
     {
-        let place = self.place();
-        self.whole.fill(part, from, to)?;
-        self.end_value(place)
+        if !self.is_written() {
+            return Ok(());
+        }
+        self.text.fill(part, from, to)?;
+        self.inside = self.one_more()?;
+        self.end_inner()
     }
 
-    /// An item that is written.
+    /// An item that ended.
     pub fn push_inner(&mut self, items: &mut PartItems)
         ensures stands { (text : List ℕ) → (s : Source) → (held : List PartHeld) → (ss : List Source)
             → (cs : List Open) → PartFilled text self.old s (array_held items.old ∷ held) (elements_so_far ss ∷ cs)
             → PartStands text self.new false (array_held items.new ∷ held) (elements_so_far (ss ++ s ∷ []) ∷ cs) }
         ensures keys { keys_of self.new ≡ keys_of self.old }
     {
+        if self.inside > 0 {
+            self.text.push_inner(&mut items.is_first);
+            return;
+        }
         items.ahead = one_less(items.ahead);
-        self.whole.push_inner(&mut items.is_first);
     }
 
     /// An item that holds no others, and that stands there in the text.
@@ -243,8 +281,11 @@ impl<'a> PartRoom<'a> {
             → PartFilled text self.new (array_source_of ss) held cs) }
         ensures keys { keys_of self.new ≡ keys_of self.old }
     {
-        self.whole.end_array(at)?;
-        self.end_value(items.place)
+        if self.inside == 0 {
+            return Ok(());
+        }
+        self.text.end_array(at)?;
+        self.end_inner()
     }
 
     /// An object begins where a value is due. Its brace stands in the text at an index.
@@ -254,9 +295,15 @@ impl<'a> PartRoom<'a> {
             → PartStands text self.new false (object_held m ∷ held) (members_so_far [] key place ∷ cs)) }
         ensures keys { keys_of self.new ≡ keys_of self.old }
     {
-        let place = self.place();
-        let first = self.whole.begin_object(at)?;
-        Ok(PartMembers { first, place })
+        if !self.is_written() {
+            return Ok(PartMembers {
+                first: self.check.begin_object(),
+                level: self.due,
+            });
+        }
+        let first = self.text.begin_object(at)?;
+        self.inside = self.one_more()?;
+        Ok(PartMembers { first, level: None })
     }
 
     /// A key whose bytes stand in the text from an index above 0 on, in double quotes and without escapes, and the
@@ -276,8 +323,11 @@ impl<'a> PartRoom<'a> {
             (members_so_far fs (plain, key.now) after ∷ cs)) }
         ensures keys { keys_of self.new ≡ keys_of self.old }
     {
-        self.due = self.follow(members.place.level, key);
-        self.whole.borrowed_key(members.first, key, from, after)
+        if self.inside > 0 {
+            return self.text.borrowed_key(members.first, key, from, after);
+        }
+        self.due = self.follow(members.level, key);
+        self.check.borrowed_key(members.first, key, from, after)
     }
 
     /// A key that stands so, and none of whose bytes has an escape.
@@ -296,8 +346,11 @@ impl<'a> PartRoom<'a> {
             (members_so_far fs (plain, key.now) after ∷ cs)) }
         ensures keys { keys_of self.new ≡ keys_of self.old }
     {
-        self.due = self.follow(members.place.level, key);
-        self.whole.plain_key(members.first, key, from, after)
+        if self.inside > 0 {
+            return self.text.plain_key(members.first, key, from, after);
+        }
+        self.due = self.follow(members.level, key);
+        self.check.borrowed_key(members.first, key, from, after)
     }
 
     /// A key, and the index after it in the text.
@@ -314,11 +367,14 @@ impl<'a> PartRoom<'a> {
             (members_so_far fs (mark_view key.entry, cow_str_bytes key.entry) after ∷ cs)) }
         ensures keys { keys_of self.new ≡ keys_of self.old }
     {
-        self.due = self.follow(members.place.level, key.as_str());
-        self.whole.key(members.first, key, after)
+        if self.inside > 0 {
+            return self.text.key(members.first, key, after);
+        }
+        self.due = self.follow(members.level, key.as_str());
+        self.check.key(members.first, key, after)
     }
 
-    /// A member's value that is written.
+    /// A member's value that ended.
     pub fn insert_inner(&mut self, members: &PartMembers)
         ensures stands { (text : List ℕ) → (s : Source) → (held : List PartHeld) → (fs : List Found)
             → (k : Mark × List ℕ) → (place : ℕ) → (cs : List Open) → (next : Mark × List ℕ) → (other : ℕ)
@@ -327,7 +383,9 @@ impl<'a> PartRoom<'a> {
             (members_so_far (fs ++ found_member k s place ∷ []) next other ∷ cs) }
         ensures keys { keys_of self.new ≡ keys_of self.old }
     {
-        self.whole.insert_inner(members.first);
+        if self.inside > 0 {
+            self.text.insert_inner(members.first);
+        }
     }
 
     /// A member's value that holds no others, and that stands there in the text.
@@ -351,6 +409,23 @@ impl<'a> PartRoom<'a> {
         Ok(())
     }
 
+    /// Whether so many bytes of the part were moved that another way takes less time.
+    #[inline(always)]
+    pub fn moved_much(&self) -> bool {
+        self.text.moved_much()
+    }
+
+    /// The members among which those of the innermost object are.
+    pub fn members(&self) -> &OpenMembers<'a>
+        ensures { result.now ≡ members_of self.now }
+    {
+        if self.inside > 0 {
+            &self.text.members
+        } else {
+            &self.check.members
+        }
+    }
+
     /// The end of an object. Its brace stands in the text at an index. Where a key comes twice, what is returned is the
     /// index, among the members, of the one where the least such key comes the second time.
     pub fn end_object(
@@ -362,12 +437,15 @@ impl<'a> PartRoom<'a> {
             → (key : Mark × List ℕ) → (place : ℕ) → (cs : List Open)
             → PartStands text self.old false (object_held members.now ∷ held) (members_so_far fs key place ∷ cs)
             → MatchOption repeat (EndsObject text self.new fs held cs)
-            (TellsRepeatOf self.new.whole.members members.now.first fs)) }
+            (λ i. TellsRepeatOf (members_of self.new) members.now.first fs i)) }
         ensures keys { keys_of self.new ≡ keys_of self.old }
     {
-        let repeat = self.whole.end_object(members.first, at)?;
+        if self.inside == 0 {
+            return self.check.end_object(members.first);
+        }
+        let repeat = self.text.end_object(members.first, at)?;
         if repeat.is_none() {
-            self.end_value(members.place)?;
+            self.end_inner()?;
         }
         Ok(repeat)
     }
@@ -376,8 +454,12 @@ impl<'a> PartRoom<'a> {
     pub fn into_part(self) -> Option<Vec<u8>>
         ensures { option_map (λ part. part.items) result ≡ part_of self.entry }
     {
-        let PartRoom { part, found, .. } = self;
-        if found { Some(part) } else { None }
+        let PartRoom { text, found, .. } = self;
+        if found {
+            Some(text.into_buffer())
+        } else {
+            None
+        }
     }
 
     /// A whole value that holds no others, and that stands there in the text.

@@ -264,14 +264,14 @@ impl<'a> Handler<'a> for SoughtPart<'a> {
         told: &mut Option<Error>,
         at: usize,
     ) -> Result<(), Failed> {
-        if room.whole.moved_much() {
+        if room.moved_much() {
             *told = None;
             return Err(Failed);
         }
         match room.end_object(members, at) {
             Ok(None) => Ok(()),
             Ok(Some(index)) => {
-                tell_repeat(&room.whole.members, alloc, members.first, index, told);
+                tell_repeat(room.members(), alloc, members.first, index, told);
                 Err(Failed)
             }
             Err(_) => {

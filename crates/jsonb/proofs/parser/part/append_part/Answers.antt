@@ -6,6 +6,7 @@ use Rattle.jsonb_scan.specs.Parsing.Document.{source_of}
 use Rattle.jsonb_spec.specs.Source.{tree_of_source}
 use Rattle.jsonb_spec.specs.PartAt.{part_at}
 use Rattle.jsonb_write.specs.PartRoom.{part_of}
+use Rattle.jsonb_write.proofs.PartRooms.{filled_root}
 use Rattle.jsonb_parse.specs.Handler.{Misses}
 use Rattle.jsonb.proofs.Documents.Agreement.{fault_fails, fault_rejects}
 use Rattle.jsonb.proofs.Documents.Parts.{part_appended, part_missing}
@@ -20,7 +21,7 @@ returns-in-Ok-clause-ok c =
     let same = c.in-Ok.ensures.base ∙ c.new-room.ensures.keys in
     let none : None ≡ part_of c.parse_text.new.room = sym (ap (option_map (λ part. part.items)) c.in-None.is) ∙ c.into_part.ensures in
     part_missing mode c.args.text.now keys (tree_of_source read.0) c.args.buf.now.items (source_parsed mode c.args.text.now read.0 read.2)
-    (none ∙ read.1.part ∙ ap (λ ks. option_map tree_text (part_at ks (tree_of_source read.0))) same)
+    (none ∙ filled_root read.1 ∙ ap (λ ks. option_map tree_text (part_at ks (tree_of_source read.0))) same)
 
 pub returns-in-Some-clause-ok : goal.returns-in-Some-clause-ok
 returns-in-Some-clause-ok c =
@@ -31,7 +32,7 @@ returns-in-Some-clause-ok c =
     let same = c.in-Ok.ensures.base ∙ c.new-room.ensures.keys in
     let some : Some c.in-Some.part.items ≡ part_of c.parse_text.new.room = sym (ap (option_map (λ part. part.items)) c.in-Some.is) ∙ c.into_part.ensures in
     part_appended mode c.args.text.now keys (tree_of_source read.0) c.args.buf.now.items c.extend_from_slice.new.self.items c.in-Some.part.items parsed (text_there mode c.args.text.now (tree_of_source read.0) parsed.document)
-    (some ∙ read.1.part ∙ ap (λ ks. option_map tree_text (part_at ks (tree_of_source read.0))) same) (search rules)
+    (some ∙ filled_root read.1 ∙ ap (λ ks. option_map tree_text (part_at ks (tree_of_source read.0))) same) (search rules)
 
 -- what goes past the test of the text may take memory
 pub returns-in-Some-told-clause-memory : goal.returns-in-Some-told-clause-memory

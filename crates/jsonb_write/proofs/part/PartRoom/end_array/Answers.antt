@@ -1,10 +1,19 @@
-use Rattle.std.proofs.Common.{map}
-use Rattle.jsonb_write.specs.PartRoom.{text_held}
-use Rattle.jsonb_write.proofs.PartRooms.{array_ends}
+use Rattle.std.proofs.Common.{◌≡◌, ◌<◌, rules}
+use Rattle.jsonb_scan.specs.Open.{elements_so_far}
+use Rattle.jsonb_spec.specs.Source.{array_source_of}
+use Rattle.jsonb_write.specs.PartRoom.{array_held}
+use Rattle.jsonb_write.proofs.PartRooms.{array_ended, ends_in}
 use Rattle.jsonb_write.proofs.Rooms.{on_ok}
 use Rattle.jsonb_write.proofs.part.PartRoom.end_array.Goals as goal
 
+pub returns-then-self-eq0-clause-stands : goal.returns-then-self-eq0-clause-stands
+returns-then-self-eq0-clause-stands c =
+    let none : c.args.self.now.inside ≡ 0 = search rules in
+    λ text held ss cs room. array_ended c.args.items.now ss none room
+
 pub returns-clause-stands : goal.returns-clause-stands
 returns-clause-stands c =
-    on_ok c.end_value.result c.end_value.ensures.stands (λ ends text held ss cs room.
-    ends text _ held cs (array_ends c.args.items.now ss c.end_array.ensures.base (c.in_ok-end_array.ensures.stands text c.args.items.now.is_first (map text_held held) ss cs room.stands) room))
+    let some : 0 < c.args.self.now.inside = search rules in
+    on_ok c.end_inner.result c.end_inner.ensures.stands (λ ends text held ss cs room.
+    ends text (array_source_of ss) held cs (ends_in (array_held c.args.items.now) (elements_so_far ss) (array_source_of ss) some c.end_array.ensures.base
+    (λ hs ds. c.in_ok-end_array.ensures.stands text c.args.items.now.is_first hs ss ds) room))

@@ -1,10 +1,11 @@
-use Rattle.std.proofs.Common.{map}
-use Rattle.jsonb_write.specs.PartRoom.{text_held}
-use Rattle.jsonb_write.proofs.PartRooms.{alone_ends}
+use Rattle.jsonb_write.proofs.PartRooms.{alone_around, alone_in}
 use Rattle.jsonb_write.proofs.Rooms.{on_ok}
 use Rattle.jsonb_write.proofs.part.PartRoom.fill.Goals as goal
 
+pub returns-then-not-is_written-clause-stands : goal.returns-then-not-is_written-clause-stands
+returns-then-not-is_written-clause-stands c = λ text s held cs room sees spelled. alone_around c.args.part.now s c.if-not-is_written.ensures sees room
+
 pub returns-clause-stands : goal.returns-clause-stands
 returns-clause-stands c =
-    on_ok c.end_value.result c.end_value.ensures.stands (λ ends text s held cs room sees spelled.
-    ends text s held cs (alone_ends c.args.part.now s c.place-place.ensures.level c.place-place.ensures.start c.fill.ensures.base (c.in_ok-fill.ensures.stands text s (map text_held held) cs room.stands sees spelled) sees room))
+    on_ok c.end_inner.result c.end_inner.ensures.stands (λ ends text s held cs room sees spelled.
+    ends text s held cs (alone_in c.in_ok-self.field-0 c.in_ok-self.ensures c.fill.ensures.base (λ hs ds stands_so. c.in_ok-fill.ensures.stands text s hs ds stands_so sees spelled) room c.if-not-is_written.ensures))
