@@ -1,3 +1,4 @@
+pub mod Bytes
 pub mod CheckRoom
 pub mod Contents
 pub mod Escaped

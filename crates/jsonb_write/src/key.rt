@@ -7,6 +7,7 @@ ghost use Rattle.std.specs.Str.{IsUtf8};
 use crate::contents::Contents;
 use crate::escaped_key::append_escaped_key;
 use crate::key_text::{append_key_text, append_with_kind};
+use crate::object::Site;
 use crate::open_members::OpenMembers;
 use crate::text::Part;
 use jsonb_value::number::Number;
@@ -357,8 +358,13 @@ impl<'a> KeyRoom<'a> {
         if self.members.ascend(first) {
             return Ok(None);
         }
-        self.members
-            .put_in_order(first, &mut self.out, self.base, false)
+        let site = Site {
+            floor: self.base,
+            commas: false,
+            copied: self.out.len(),
+            source: &[],
+        };
+        self.members.put_in_order(first, &mut self.out, &site)
     }
 
     // Writes the end of an object, whose members are kept no longer.

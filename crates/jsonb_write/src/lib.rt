@@ -9,6 +9,7 @@ mod integer_key;
 pub mod key;
 mod key_text;
 pub mod members;
+pub mod object;
 pub mod open_members;
 mod orders;
 pub mod part;

@@ -4,6 +4,7 @@ ghost use Rattle.std.specs.Option.{is_some};
 ghost use Rattle.std.specs.Str.{IsUtf8};
 
 use crate::members::{Member, Spare, ascend, find_repeat, key_at, prefix_within, put_in_order};
+use crate::object::{Keys, Site};
 use std::alloc::{AllocError, Global};
 
 /// The members of the objects that are open, those of the outermost first. A key that doesn't stand in the text is
@@ -28,6 +29,7 @@ fn members_from(entries: &Vec<Member>, first: usize) -> &[Member]
 impl<'a> OpenMembers<'a> {
     ghost use Rattle.jsonb_spec.specs.Source.{Found};
     ghost use Rattle.jsonb_spec.specs.Text.Appending.{Extends};
+    ghost use Rattle.jsonb_write.specs.Members.{WasCopied};
     ghost use Rattle.jsonb_write.specs.OpenMembers.{AreOf, AreSame, Begins, Closes, EndIn, FindsRepeat, HasMember, KeysAscendFrom, Layout, PutsInOrder, spot_among};
 
     /// No object is open.
@@ -103,12 +105,22 @@ impl<'a> OpenMembers<'a> {
         self.keep(member)
     }
 
+    // The members from an index on, with their keys.
+    #[inline(always)]
+    fn keys(&self, first: usize) -> Keys<'_>
+        ensures text { result.text.now ≡ self.now.text.now }
+        ensures decoded { result.decoded.now ≡ self.now.decoded.items }
+        ensures members { result.members.now ≡ drop first self.now.entries.items }
+    {
+        Keys::new(self.text, &self.decoded, members_from(&self.entries, first))
+    }
+
     /// Whether the keys of the members from an index on ascend.
     #[inline(always)]
     pub fn ascend(&self, first: usize) -> bool
         ensures { IsTrue result → KeysAscendFrom self.now first }
     {
-        ascend(self.text, &self.decoded, members_from(&self.entries, first))
+        ascend(&self.keys(first))
     }
 
     /// Puts the bytes of the members from an index on, which end what is written, in the order of their keys. Tells a
@@ -120,23 +132,17 @@ impl<'a> OpenMembers<'a> {
         &mut self,
         first: usize,
         out: &mut Vec<u8>,
-        floor: usize,
-        commas: bool,
+        site: &Site<'_>,
     ) -> Result<Option<usize>, AllocError>
+        requires { WasCopied site.now out.old.items }
         ensures same { AreSame self.old self.new }
-        ensures kept { Extends (take floor out.old.items) out.new.items }
-        ensures order { IfOk result (PutsInOrder commas floor self.old self.new first out.old.items out.new.items) }
+        ensures kept { Extends (take site.now.floor out.old.items) out.new.items }
+        ensures order { IfOk result (PutsInOrder site.now.commas site.now.floor self.old self.new first
+            out.old.items out.new.items) }
     {
         let members = members_from(&self.entries, first);
-        put_in_order(
-            self.text,
-            &self.decoded,
-            members,
-            &mut self.spare,
-            out,
-            floor,
-            commas,
-        )
+        let keys = Keys::new(self.text, &self.decoded, members);
+        put_in_order(out, &keys, &mut self.spare, site)
     }
 
     /// Finds a key that comes twice among the members from an index on, and tells it by the index, among them, of the
@@ -148,7 +154,8 @@ impl<'a> OpenMembers<'a> {
             → (fs : List Found) → EndIn commas bytes self.old first start fs → FindsRepeat self.new first fs found) }
     {
         let members = members_from(&self.entries, first);
-        find_repeat(self.text, &self.decoded, members, &mut self.spare.ranks)
+        let keys = Keys::new(self.text, &self.decoded, members);
+        find_repeat(&keys, &mut self.spare.ranks)
     }
 
     /// The key of a member, by its index among those from another index on, and the index after it in the text.
@@ -157,12 +164,12 @@ impl<'a> OpenMembers<'a> {
         ensures place { IfSome result (λ told. told.1 ≡ (spot_among self.now first index).place) }
         ensures some { IsUtf8 (spot_among self.now first index).key → IsTrue (is_some result) }
     {
-        let members = members_from(&self.entries, first);
-        let place = match members.get(index) {
+        let keys = self.keys(first);
+        let place = match keys.members.get(index) {
             Some(member) => member.after,
             None => 0,
         };
-        match std::str::from_utf8(key_at(self.text, &self.decoded, members, index)) {
+        match std::str::from_utf8(key_at(&keys, index)) {
             Ok(key) => Some((key, place)),
             Err(_) => None,
         }

@@ -4,6 +4,7 @@ ghost use Rattle.std.specs.Prelude.{◌≡◌, ◌+◌, ◌<◌, ◌≤◌, ◌+
 
 use crate::contents::Contents;
 use crate::escaped::append_contents;
+use crate::object::Site;
 use crate::open_members::OpenMembers;
 use crate::short::append_first;
 use jsonb_value::number::Number;
@@ -212,8 +213,15 @@ impl<'a> Written<'a> {
         ensures text { self.new.text ≡ self.old.text }
         ensures kept { Extends (take floor self.old.out.items) self.new.out.items }
     {
+        let (from, copied) = (self.from, self.out.len());
         self.flush()?;
-        members.put_in_order(first, &mut self.out, floor, true)
+        let site = Site {
+            floor,
+            commas: true,
+            copied,
+            source: &self.text[from..],
+        };
+        members.put_in_order(first, &mut self.out, &site)
     }
 
     /// How many bytes are written.
