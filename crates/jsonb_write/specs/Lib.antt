@@ -10,5 +10,6 @@ pub mod OpenKey
 pub mod OpenMembers
 pub mod OpenText
 pub mod PartRoom
+pub mod Places
 pub mod TextRoom
 pub mod Written

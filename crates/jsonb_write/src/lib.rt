@@ -16,4 +16,5 @@ pub mod part;
 mod short;
 mod spread;
 pub mod text;
+pub mod wide;
 pub mod written;
